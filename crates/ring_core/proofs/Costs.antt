@@ -1,0 +1,45 @@
+-- How rises of a meter add up.
+use Rattle.std.proofs.Common.{◌≡◌, ◌≢◌, ℕ, ◌+◌, ◌-◌, ◌^◌, ◌<◌, ◌==◌, true, false, refl, arith, rules, min}
+use Rattle.ring_core.specs.Cost.{Counts, compared_pairs, raised_count, raised}
+
+raised_count-none : (n : ℕ) → n ≡ raised_count n 0
+raised_count-none n = omega arith
+
+raised_count-more : (n a b : ℕ) → raised_count (raised_count n a) b ≡ raised_count n (a + b)
+raised_count-more n a b = omega arith
+
+-- counts that are each raised
+pub raised_from : (c d : Counts) (blocks pairs : ℕ) → d.blocks ≡ raised_count c.blocks blocks → d.byte_pairs ≡ raised_count c.byte_pairs pairs → d ≡ raised c blocks pairs
+unfolding raised
+raised_from c d blocks pairs b p = rw (← b, ← p) refl
+
+-- a rise by nothing
+pub raised-none : (c : Counts) → c ≡ raised c 0 0
+raised-none c = raised_from c c 0 0 (raised_count-none c.blocks) (raised_count-none c.byte_pairs)
+
+raised_blocks : (c : Counts) (a p : ℕ) → (raised c a p).blocks ≡ raised_count c.blocks a
+unfolding raised
+raised_blocks c a p = refl
+
+raised_byte_pairs : (c : Counts) (a p : ℕ) → (raised c a p).byte_pairs ≡ raised_count c.byte_pairs p
+unfolding raised
+raised_byte_pairs c a p = refl
+
+-- one rise after another
+pub raised-raised : (c : Counts) (a p b q : ℕ) → raised (raised c a p) b q ≡ raised c (a + b) (p + q)
+raised-raised c a p b q =
+    raised_from c (raised (raised c a p) b q) (a + b) (p + q)
+    (rw (raised_blocks (raised c a p) b q, raised_blocks c a p, raised_count-more) refl)
+    (rw (raised_byte_pairs (raised c a p) b q, raised_byte_pairs c a p, raised_count-more) refl)
+
+-- a comparison of lists of one length reads each pair
+pub compared_pairs-same : (n : ℕ) → compared_pairs n n ≡ n
+compared_pairs-same n = let e : (n == n) ≡ true = search rules in rw e refl
+
+-- a comparison of lists of two lengths reads none
+pub compared_pairs-none : (m n : ℕ) → m ≢ n → compared_pairs m n ≡ 0
+compared_pairs-none m n differ = let e : (m == n) ≡ false = search (rules, differ) in rw e refl
+
+-- of a count that a meter can show, the rise is the sum cut off at 2 ^ 128 - 1
+pub raised_count-cut_off : (count n : ℕ) → count < 2 ^ 128 → raised_count count n ≡ min (count + n) (2 ^ 128 - 1)
+raised_count-cut_off count n fits = omega arith

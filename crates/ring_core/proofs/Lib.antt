@@ -1,0 +1,13 @@
+pub mod Rotation
+pub mod ShortForms
+pub mod Lanes
+pub mod Mapped
+pub mod Schedule
+pub mod Sha2Steps
+pub mod Sha1Steps
+pub mod Five
+pub mod ChunkLists
+pub mod Bytes
+pub mod Costs
+pub mod Roots
+pub mod Chained

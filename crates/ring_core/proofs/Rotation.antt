@@ -1,0 +1,87 @@
+-- Rotations, at each width: two shifts or'ed are the standard's, and so are two of them under exclusive or, one inside the other.
+use Rattle.std.proofs.Common.{◌≡◌, ℕ, suc, ◌+◌, ◌-◌, ◌*◌, ◌/◌, ◌%◌, ◌^◌, ◌<◌, ◌≤◌, inl, inr, bit_or, refl, sym, ap, ◌∙◌, arith, add_comm, mod-lt, pow_pos, mul-le-mul_right, shr-shr}
+use Rattle.std.proofs.lemmas.Bool.{cases_lt}
+use Rattle.std.proofs.lemmas.Nat.{div-add-mod', mod-mul-add, pow-add, shr_split, xor_lt}
+use Rattle.std.proofs.lemmas.Nat.Bits.{bit_at_cat_high, bit_at_cat_low, bit_at_xor, same_from_bits_below}
+use Rattle.std.proofs.Math.Nat.{add-mod_right, div-lt_iff_lt-mul, mod-add-mod, mod-eq_of_lt}
+use Rattle.std.specs.Int.Bits.{or_shifted_r}
+use Rattle.std.specs.Int.{bit_at}
+use Rattle.ring_core.specs.Word.{◌⊕◌, rotr}
+
+-- a word of w bits shifted right by k, or'ed with itself shifted left by the rest
+abbrev pub or_of_shifts : (w n k : ℕ) → ℕ
+or_of_shifts w n k = bit_or (n / 2 ^ k) (n * 2 ^ (w - k) % 2 ^ w)
+
+split_power : (w k : ℕ) → k ≤ w → 2 ^ w ≡ 2 ^ (w - k) * 2 ^ k
+split_power w k le = let e : w ≡ w - k + k = omega arith in rw (← pow-add 2 (w - k) k, ← e) refl
+
+-- the low k bits of n, moved up by j, leave room for j bits below j + k
+room : (n k j : ℕ) → n % 2 ^ k * 2 ^ j + 2 ^ j ≤ 2 ^ j * 2 ^ k
+room n k j =
+    let most : suc (n % 2 ^ k) * 2 ^ j ≤ 2 ^ k * 2 ^ j = mul-le-mul_right (2 ^ j) (mod-lt n (pow_pos k)) in
+    grind (arith, most)
+
+-- of n moved up by j, only the low k bits of n are below j + k
+moved_up : (n k j : ℕ) → n * 2 ^ j % (2 ^ j * 2 ^ k) ≡ n % 2 ^ k * 2 ^ j
+moved_up n k j =
+    let high = n / 2 ^ k in
+    let low = n % 2 ^ k in
+    let parts : n * 2 ^ j ≡ high * (2 ^ j * 2 ^ k) + low * 2 ^ j = grind (arith, div-add-mod' n (2 ^ k)) in
+    rw parts (mod-mul-add high (2 ^ j * 2 ^ k) (low * 2 ^ j) (omega (arith, room n k j, pow_pos j)))
+
+high_lt : (w n k : ℕ) → k ≤ w → n < 2 ^ w → n / 2 ^ k < 2 ^ (w - k)
+high_lt w n k le fits = (div-lt_iff_lt-mul (pow_pos k)).1 (rw (← split_power w k le) fits)
+
+pub or_of_shifts-rotr : (w n k : ℕ) → k ≤ w → n < 2 ^ w → or_of_shifts w n k ≡ rotr w k n
+or_of_shifts-rotr w n k le fits =
+    rw (split_power w k le, moved_up n k (w - k), or_shifted_r (n % 2 ^ k) (w - k) (n / 2 ^ k) (high_lt w n k le fits)) (omega arith)
+
+pub rotr-lt : (w n k : ℕ) → k ≤ w → n < 2 ^ w → rotr w k n < 2 ^ w
+rotr-lt w n k le fits = rw (split_power w k le) (omega (arith, room n k (w - k), high_lt w n k le fits))
+
+-- the library's rotation in a word of w bits, as it computes there
+pub rotate_right-rotr : (w n k : ℕ) → 1 ≤ k → k < w → n < 2 ^ w
+    → bit_or (n / 2 ^ (k % w)) (n * 2 ^ ((w - k % w) % w) % 2 ^ w) % 2 ^ w ≡ rotr w k (n % 2 ^ w)
+rotate_right-rotr w n k positive below fits =
+    let left : (w - k) % w ≡ w - k = mod-eq_of_lt (omega arith) in
+    let turned : or_of_shifts w n k ≡ rotr w k n = or_of_shifts-rotr w n k (omega arith) fits in
+    rw (mod-eq_of_lt below, left, turned, mod-eq_of_lt fits) (mod-eq_of_lt (rotr-lt w n k (omega arith) fits))
+
+-- bit i of a word of w bits rotated right by k is its bit i + k, counted round
+bit_at-rotr : (w k n i : ℕ) → k ≤ w → n < 2 ^ w → i < w → bit_at (rotr w k n) i ≡ bit_at n ((i + k) % w)
+bit_at-rotr w k n i le fits within =
+    let high = n / 2 ^ k in
+    let low = n % 2 ^ k in
+    ap (λ (m : ℕ). bit_at m i) (add_comm high (low * 2 ^ (w - k)))
+    ∙ (elim (cases_lt i (w - k)) [
+      | inl lt ↦
+          let up : k + i ≡ (i + k) % w = add_comm k i ∙ sym (mod-eq_of_lt (omega arith)) in
+          bit_at_cat_low low (w - k) high i lt ∙ ap (λ (m : ℕ). m % 2) (shr-shr n k i) ∙ ap (bit_at n) up
+      | inr ge ↦
+          let j = i - (w - k) in
+          let round : j ≡ (i + k) % w = sym (ap (λ (m : ℕ). m % w) (omega arith) ∙ add-mod_right j w ∙ mod-eq_of_lt (omega arith)) in
+          bit_at_cat_high low (w - k) high i (high_lt w n k le fits) ge
+          ∙ sym (bit_at_cat_low high k low j (omega arith))
+          ∙ ap (λ (m : ℕ). bit_at m j) (shr_split n k) ∙ ap (bit_at n) round
+    ])
+
+-- two rotations under exclusive or, one inside the other
+pub rotr-two : (w a b x : ℕ) → a ≤ b → b ≤ w → x < 2 ^ w → rotr w a (x ⊕ rotr w (b - a) x) ≡ rotr w a x ⊕ rotr w b x
+rotr-two w a b x ab bw fits =
+    let inner = rotr w (b - a) x in
+    let inner_fits : inner < 2 ^ w = rotr-lt w x (b - a) (omega arith) fits in
+    let sum_fits : x ⊕ inner < 2 ^ w = xor_lt w x inner fits inner_fits in
+    let left : rotr w a (x ⊕ inner) < 2 ^ w = rotr-lt w (x ⊕ inner) a (omega arith) sum_fits in
+    let right : rotr w a x ⊕ rotr w b x < 2 ^ w = xor_lt w (rotr w a x) (rotr w b x) (rotr-lt w x a (omega arith) fits) (rotr-lt w x b bw fits) in
+    same_from_bits_below w _ _ left right (λ i within.
+    let j = (i + a) % w in
+    let round : (j + (b - a)) % w ≡ (i + b) % w = mod-add-mod (i + a) w (b - a) ∙ ap (λ (m : ℕ). m % w) (omega arith) in
+    rw (
+      bit_at-rotr w a (x ⊕ inner) i (omega arith) sum_fits within,
+      bit_at_xor x inner j,
+      bit_at-rotr w (b - a) x j (omega arith) fits (mod-lt (i + a) (omega arith)),
+      round,
+      bit_at_xor (rotr w a x) (rotr w b x) i,
+      bit_at-rotr w a x i (omega arith) fits within,
+      bit_at-rotr w b x i bw fits within,
+    ) refl)

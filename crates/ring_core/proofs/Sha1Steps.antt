@@ -1,0 +1,53 @@
+-- The steps of SHA-1's definitions.
+use Rattle.std.proofs.Common.{◌≡◌, ℕ, ◌+◌, ◌-◌, ◌<◌, ◌≤◌, List, [], ◌∷◌, length, slice_index, refl, ap, ◌∙◌, add-one, arith, nat_lt, true, false}
+use Rattle.ring_core.specs.Schedule.{listed}
+use Rattle.ring_core.specs.Sha1.{W, add_state, block_step, next_word, round, rounds_from, scheduled}
+use Rattle.ring_core.specs.Word.{word_at}
+use Rattle.ring_core.proofs.Schedule.{listed_at-next, slice_index-listed}
+
+W-next_word : (b : List ℕ) (t : ℕ) → W b t ≡ next_word b (listed (next_word b) t) t
+unfolding W
+W-next_word b t = listed_at-next (next_word b) t
+
+before : (b : List ℕ) (t k : ℕ) → k < t → slice_index (listed (next_word b) t) k ≡ W b k
+unfolding W
+before b t k h = slice_index-listed (next_word b) t k h
+
+pub W-first : (b : List ℕ) (t : ℕ) → t < 16 → W b t ≡ word_at 32 b t
+W-first b t h = let e : nat_lt t 16 ≡ true = search arith in W-next_word b t ∙ rw e refl
+
+pub W-next : (b : List ℕ) (t : ℕ) → 16 ≤ t → W b t ≡ scheduled (W b (t - 3)) (W b (t - 8)) (W b (t - 14)) (W b (t - 16))
+W-next b t h =
+    let e : nat_lt t 16 ≡ false = search arith in
+    W-next_word b t
+    ∙ rw (
+      e,
+      before b t (t - 3) (omega arith),
+      before b t (t - 8) (omega arith),
+      before b t (t - 14) (omega arith),
+      before b t (t - 16) (omega arith),
+    ) refl
+
+-- a word and the next, each from the words before it
+pub W-next_two : (b : List ℕ) (t : ℕ) → 16 ≤ t
+    → scheduled (W b (t - 3)) (W b (t - 8)) (W b (t - 14)) (W b (t - 16))
+    ∷ scheduled (W b (t - 3 + 1)) (W b (t - 8 + 1)) (W b (t - 14 + 1)) (W b (t - 16 + 1)) ∷ []
+    ≡ W b t ∷ W b (t + 1) ∷ []
+W-next_two b t h =
+    let three : t - 3 + 1 ≡ t + 1 - 3 = omega arith in
+    let eight : t - 8 + 1 ≡ t + 1 - 8 = omega arith in
+    let fourteen : t - 14 + 1 ≡ t + 1 - 14 = omega arith in
+    let sixteen : t - 16 + 1 ≡ t + 1 - 16 = omega arith in
+    rw (three, eight, fourteen, sixteen, ← W-next b t h, ← W-next b (t + 1) (omega arith)) refl
+
+pub rounds-next : (h b : List ℕ) (t : ℕ) → rounds_from h b (t + 1) ≡ round (rounds_from h b t) t (W b t)
+unfolding rounds_from
+rounds-next h b t = rw add-one refl
+
+pub block_step-rounds : (h b : List ℕ) → block_step h b ≡ add_state h (rounds_from h b 80)
+unfolding block_step
+block_step-rounds h b = refl
+
+-- the block function gives five words
+pub length-block_step : (h b : List ℕ) → length (block_step h b) ≡ 5
+length-block_step h b = ap length (block_step-rounds h b)

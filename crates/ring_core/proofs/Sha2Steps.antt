@@ -1,0 +1,60 @@
+-- The steps of SHA-2's definitions.
+use Rattle.std.proofs.Common.{◌≡◌, ◌⊎◌, ℕ, ◌+◌, ◌-◌, ◌*◌, ◌/◌, ◌<◌, ◌≤◌, List, [], ◌∷◌, length, slice_index, refl, ap, ◌∙◌, add-one, arith, inl, inr, nat_lt, true, false}
+use Rattle.ring_core.specs.Schedule.{listed}
+use Rattle.ring_core.specs.Sha2.{Family, W, add_state, block_step, family_256, family_512, next_word, round, rounds_from, scheduled}
+use Rattle.ring_core.specs.Word.{word_at}
+use Rattle.ring_core.proofs.Schedule.{listed_at-next, slice_index-listed}
+
+W-next_word : (f : Family) (b : List ℕ) (t : ℕ) → W f b t ≡ next_word f b (listed (next_word f b) t) t
+unfolding W
+W-next_word f b t = listed_at-next (next_word f b) t
+
+before : (f : Family) (b : List ℕ) (t k : ℕ) → k < t → slice_index (listed (next_word f b) t) k ≡ W f b k
+unfolding W
+before f b t k h = slice_index-listed (next_word f b) t k h
+
+pub W-first : (f : Family) (b : List ℕ) (t : ℕ) → t < 16 → W f b t ≡ word_at f.bits b t
+W-first f b t h = let e : nat_lt t 16 ≡ true = search arith in W-next_word f b t ∙ rw e refl
+
+pub W-next : (f : Family) (b : List ℕ) (t : ℕ) → 16 ≤ t
+    → W f b t ≡ scheduled f (W f b (t - 2)) (W f b (t - 7)) (W f b (t - 15)) (W f b (t - 16))
+W-next f b t h =
+    let e : nat_lt t 16 ≡ false = search arith in
+    W-next_word f b t
+    ∙ rw (
+      e,
+      before f b t (t - 2) (omega arith),
+      before f b t (t - 7) (omega arith),
+      before f b t (t - 15) (omega arith),
+      before f b t (t - 16) (omega arith),
+    ) refl
+
+-- a word and the next, each from the words before it
+pub W-next_two : (f : Family) (b : List ℕ) (t : ℕ) → 16 ≤ t
+    → scheduled f (W f b (t - 2)) (W f b (t - 7)) (W f b (t - 15)) (W f b (t - 16))
+    ∷ scheduled f (W f b (t - 2 + 1)) (W f b (t - 7 + 1)) (W f b (t - 15 + 1)) (W f b (t - 16 + 1)) ∷ []
+    ≡ W f b t ∷ W f b (t + 1) ∷ []
+W-next_two f b t h =
+    let two : t - 2 + 1 ≡ t + 1 - 2 = omega arith in
+    let seven : t - 7 + 1 ≡ t + 1 - 7 = omega arith in
+    let fifteen : t - 15 + 1 ≡ t + 1 - 15 = omega arith in
+    let sixteen : t - 16 + 1 ≡ t + 1 - 16 = omega arith in
+    rw (two, seven, fifteen, sixteen, ← W-next f b t h, ← W-next f b (t + 1) (omega arith)) refl
+
+pub rounds-next : (f : Family) (h b : List ℕ) (t : ℕ)
+    → rounds_from f h b (t + 1) ≡ round f (rounds_from f h b t) (slice_index f.constants t) (W f b t)
+unfolding rounds_from
+rounds-next f h b t = rw add-one refl
+
+-- the rounds come in whole turns of sixteen
+pub rounds-turns : (f : Family) → (f ≡ family_256) ⊎ (f ≡ family_512) → (1 ≤ f.rounds / 16) × (16 * (f.rounds / 16) ≡ f.rounds)
+rounds-turns f (inl e) = let r : f.rounds ≡ 64 = ap (λ (x : Family). x.rounds) e in (omega arith, omega arith)
+rounds-turns f (inr e) = let r : f.rounds ≡ 80 = ap (λ (x : Family). x.rounds) e in (omega arith, omega arith)
+
+pub block_step-rounds : (f : Family) (h b : List ℕ) → block_step f h b ≡ add_state f.bits h (rounds_from f h b f.rounds)
+unfolding block_step
+block_step-rounds f h b = refl
+
+-- a block function gives eight words
+pub length-block_step : (f : Family) (h b : List ℕ) → length (block_step f h b) ≡ 8
+length-block_step f h b = ap length (block_step-rounds f h b)

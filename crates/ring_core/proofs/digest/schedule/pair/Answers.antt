@@ -1,0 +1,13 @@
+use Rattle.std.proofs.Common.{◌+◌, ◌%◌, refl, arith}
+use Rattle.ring_core.proofs.Schedule.{ring-read}
+use Rattle.ring_core.proofs.digest.schedule.pair.Goals as goal
+
+pub returns : goal.returns
+returns g c = λ w n t ready place below near.
+    let f = g.S.Word.value in
+    let ring = c.args.ring.now in
+    let slot = c.args.slot in
+    rw (
+      ring-read f w ring n slot t c.index-ring-slot.result ready place (omega arith) near,
+      ring-read f w ring n ((slot + 1) % 16) (t + 1) c.index-ring-slot-2.result ready (omega arith) (omega arith) (omega arith),
+    ) refl

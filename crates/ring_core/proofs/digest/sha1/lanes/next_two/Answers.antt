@@ -1,0 +1,11 @@
+use Rattle.ring_core.proofs.Lanes.{two_lanes}
+use Rattle.std.proofs.Common.{refl}
+use Rattle.ring_core.proofs.digest.sha1.lanes.next_two.Goals as goal
+
+pub returns : goal.returns
+returns c =
+    let sixteen = two_lanes c.args.sixteen c.fits-sixteen in
+    let fourteen = two_lanes c.args.fourteen c.fits-fourteen in
+    let eight = two_lanes c.args.eight c.fits-eight in
+    let three = two_lanes c.args.three c.fits-three in
+    rw (c.rotate_lanes.ensures, sixteen.are, fourteen.are, eight.are, three.are) refl

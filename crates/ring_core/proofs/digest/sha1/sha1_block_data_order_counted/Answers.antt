@@ -1,0 +1,20 @@
+use Rattle.std.proofs.Common.{map, take, refl, sym, ◌∙◌}
+use Rattle.ring_core.specs.Chunks.{chained}
+use Rattle.ring_core.specs.Sha1.{block_step}
+use Rattle.ring_core.specs.Word.{word_32}
+use Rattle.ring_core.proofs.Chained.{chained-next}
+use Rattle.ring_core.proofs.Costs.{raised-none, raised-raised}
+use Rattle.ring_core.proofs.digest.sha1.sha1_block_data_order_counted.Goals as goal
+
+pub each-init : goal.each-init
+unfolding chained
+each-init c = record { words = refl; rest = refl; cost = raised-none _ }
+
+pub each-preserved : goal.each-preserved
+each-preserved c =
+    let h = take 5 (map word_32 c.args.state.now) in record {
+      words =
+          rw (c.run_block.ensures.words, c.each.invariant.words, c.index.ensures) (sym (chained-next block_step 64 h c.args.blocks.items.now c.each.i));
+      rest = c.run_block.ensures.rest ∙ c.each.invariant.rest;
+      cost = rw (c.add_block.ensures, c.each.invariant.cost) (raised-raised _ _ _ _ _);
+    }

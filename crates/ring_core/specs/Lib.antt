@@ -1,0 +1,11 @@
+pub mod Error
+pub mod Bits
+pub mod Bytes
+pub mod Word
+pub mod Schedule
+pub mod Chunks
+pub mod Views
+pub mod Cost
+pub mod Roots
+pub mod Sha2
+pub mod Sha1

@@ -1,0 +1,59 @@
+//! Lists of bytes compared and changed whole, with no branch on a byte.
+ghost use Rattle.std.specs.Prelude.{◌≡◌, ◌↔◌, IsOk, length, map};
+ghost use Rattle.ring_core.specs.Bytes.{xor_lists};
+ghost use Rattle.ring_core.specs.Cost.{compared_pairs, raised};
+ghost use Rattle.ring_core.specs.Word.{◌⊕◌};
+
+use crate::cost::Meter;
+use crate::error::Unspecified;
+
+/// Ok exactly where both lists of bytes are equal; `meter` counts each pair of bytes compared: all
+/// pairs where the lengths agree, equal or not, and none where they differ.
+pub fn verify_slices_are_equal_counted(
+    a: &[u8],
+    b: &[u8],
+    meter: &mut Meter,
+) -> Result<(), Unspecified>
+    ensures ok { IsOk result ↔ (a.now ≡ b.now) }
+    ensures cost { meter.new ≡ raised meter.old 0 (compared_pairs (length a.now) (length b.now)) }
+{
+    if a.len() != b.len() {
+        return Err(Unspecified);
+    }
+    // No early end: what the loop does depends on the length alone.
+    let mut difference = 0;
+    'pairs: for i in 0..a.len() {
+        difference |= a[i] ^ b[i];
+        meter.add_byte_pair();
+    }
+    if difference == 0 {
+        Ok(())
+    } else {
+        Err(Unspecified)
+    }
+}
+
+/// Ok exactly where both lists of bytes are equal.
+pub fn verify_slices_are_equal(a: &[u8], b: &[u8]) -> Result<(), Unspecified>
+    ensures ok { IsOk result ↔ (a.now ≡ b.now) }
+{
+    verify_slices_are_equal_counted(a, b, &mut Meter::new())
+}
+
+/// Xors `b` into each byte of `a`.
+pub fn xor_assign(a: &mut [u8], b: u8)
+    ensures { a.new ≡ map (λ x. x ⊕ b) a.old }
+{
+    'bytes: for i in 0..a.len() {
+        a[i] ^= b;
+    }
+}
+
+/// Xors the bytes of `b` into those at the start of `a`, as far as both reach.
+pub fn xor_assign_at_start(a: &mut [u8], b: &[u8])
+    ensures { a.new ≡ xor_lists a.old b.now }
+{
+    'pairs: for i in 0..a.len().min(b.len()) {
+        a[i] ^= b[i];
+    }
+}

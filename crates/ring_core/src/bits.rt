@@ -1,0 +1,112 @@
+//! Lengths in bits, and their making from lengths in bytes.
+ghost use Rattle.std.specs.Prelude.{◌≡◌, Result};
+ghost use Rattle.std.specs.Int.{div_ceil, to_be_bytes, w64};
+ghost use Rattle.ring_core.specs.declared.error.InputTooLongError.{InputTooLongError};
+ghost use Rattle.ring_core.specs.Bits.{GivesBits, GivesNonZero, bit_count};
+
+use crate::error::{InputTooLongError, Unspecified};
+use std::num::NonZeroU64;
+
+const BITS_PER_BYTE: usize = 8;
+
+/// A number of bits.
+#[derive(Clone, Copy, Debug, PartialEq, Eq, PartialOrd)]
+pub struct BitLength<T = usize>(T);
+
+impl<T> BitLength<T> {
+    /// The length of so many bits.
+    pub fn from_bits(bits: T) -> Self
+        ensures { bit_count result ≡ bits }
+    {
+        BitLength(bits)
+    }
+}
+
+impl<T: Copy> BitLength<T> {
+    /// How many bits.
+    pub fn as_bits(self) -> T
+        ensures { result ≡ bit_count self }
+    {
+        self.0
+    }
+}
+
+impl BitLength<usize> {
+    /// How many bytes hold the bits: an eighth of their number, and one more where a remainder is
+    /// left.
+    pub fn as_usize_bytes_rounded_up(&self) -> usize
+        ensures { result ≡ div_ceil (bit_count self.now) 8 }
+    {
+        self.0.div_ceil(BITS_PER_BYTE)
+    }
+}
+
+impl BitLength<u64> {
+    /// The number of bits as eight bytes, the highest first.
+    pub fn to_be_bytes(self) -> [u8; 8]
+        ensures { result ≡ to_be_bytes w64 (bit_count self) }
+    {
+        self.0.to_be_bytes()
+    }
+}
+
+/// What can be made from a number of bytes.
+pub trait FromByteLen<T>: Sized {
+    // holds of a number of bytes and each answer that `from_byte_len` may give for it
+    ghost from_byte_len_gives: { T → Result Self (InputTooLongError T) → Type 0 };
+
+    /// The length of `bytes` bytes, refused where its bits are more than the type holds.
+    fn from_byte_len(bytes: T) -> Result<Self, InputTooLongError<T>>
+        ensures { from_byte_len_gives bytes result };
+}
+
+impl FromByteLen<usize> for BitLength<usize> {
+    ghost from_byte_len_gives = { λ bytes result. GivesBits 64 bytes result };
+
+    fn from_byte_len(bytes: usize) -> Result<Self, InputTooLongError<usize>> {
+        match bytes.checked_mul(BITS_PER_BYTE) {
+            Some(bits) => Ok(BitLength(bits)),
+            None => Err(InputTooLongError::new(bytes)),
+        }
+    }
+}
+
+impl FromByteLen<u64> for BitLength<u64> {
+    ghost from_byte_len_gives = { λ bytes result. GivesBits 64 bytes result };
+
+    fn from_byte_len(bytes: u64) -> Result<Self, InputTooLongError<u64>> {
+        match bytes.checked_mul(BITS_PER_BYTE as u64) {
+            Some(bits) => Ok(BitLength(bits)),
+            None => Err(InputTooLongError::new(bytes)),
+        }
+    }
+}
+
+impl FromByteLen<usize> for BitLength<u64> {
+    ghost from_byte_len_gives = { λ bytes result. GivesBits 64 bytes result };
+
+    fn from_byte_len(bytes: usize) -> Result<Self, InputTooLongError<usize>> {
+        Ok(BitLength::<usize>::from_byte_len(bytes)?.into())
+    }
+}
+
+impl From<BitLength<usize>> for BitLength<u64> {
+    ghost from_gives = { λ length result. bit_count result ≡ bit_count length };
+
+    fn from(length: BitLength<usize>) -> Self {
+        BitLength(length.0 as u64)
+    }
+}
+
+impl TryFrom<BitLength<u64>> for BitLength<NonZeroU64> {
+    type Error = Unspecified;
+
+    ghost try_from_gives = { λ length result. GivesNonZero length result };
+
+    fn try_from(length: BitLength<u64>) -> Result<Self, Unspecified> {
+        match NonZeroU64::new(length.0) {
+            Some(bits) => Ok(BitLength(bits)),
+            None => Err(Unspecified),
+        }
+    }
+}

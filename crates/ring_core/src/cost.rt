@@ -1,0 +1,62 @@
+//! The meter, which counts what the block functions and the comparison did.
+
+ghost use Rattle.std.specs.Prelude.{◌≡◌};
+ghost use Rattle.ring_core.specs.Cost.{raised};
+
+use std::marker::Model;
+
+/// Two counts of work, each cut off at `u128::MAX`: blocks that a block function ran over, and
+/// pairs of bytes compared. A meter can't be copied.
+#[derive(Drop)]
+pub struct Meter {
+    blocks: u128,
+    byte_pairs: u128,
+}
+
+impl Model for Meter {
+    ghost use Rattle.ring_core.specs.Cost.{Counts};
+
+    ghost Value = { Counts };
+
+    ghost view = { λ m. record { blocks = m.blocks; byte_pairs = m.byte_pairs } };
+}
+
+impl Meter {
+    /// A meter with both counts 0.
+    pub fn new() -> Self
+        ensures { result ≡ record { blocks = 0; byte_pairs = 0 } }
+    {
+        Meter {
+            blocks: 0,
+            byte_pairs: 0,
+        }
+    }
+
+    /// How many times a block function ran over a block.
+    pub fn blocks(&self) -> u128
+        ensures { result ≡ self.now.blocks }
+    {
+        self.blocks
+    }
+
+    /// How many pairs of bytes were compared.
+    pub fn byte_pairs(&self) -> u128
+        ensures { result ≡ self.now.byte_pairs }
+    {
+        self.byte_pairs
+    }
+
+    // One block more.
+    pub(crate) fn add_block(&mut self)
+        ensures { self.new ≡ raised self.old 1 0 }
+    {
+        self.blocks = self.blocks.saturating_add(1);
+    }
+
+    // One pair of bytes more.
+    pub(crate) fn add_byte_pair(&mut self)
+        ensures { self.new ≡ raised self.old 0 1 }
+    {
+        self.byte_pairs = self.byte_pairs.saturating_add(1);
+    }
+}

@@ -1,0 +1,240 @@
+//! The block functions of SHA-2 (FIPS 180-4, 6.2.2 and 6.4.2), written once for both sizes of
+//! words, but for the schedule's step in `lanes`.
+ghost use Rattle.std.specs.Prelude.{◌≡◌, ℕ, ◌+◌, ◌*◌, ◌/◌, ◌<◌, ◌≤◌, List, length, map};
+ghost use Rattle.ring_core.specs.Cost.{raised};
+ghost use Rattle.ring_core.specs.Schedule.{IsBefore, IsRing};
+ghost use Rattle.ring_core.specs.Sha2.{Σ0, Σ1, W, add_state, block_len, block_step, chain_from, family_256, family_512, words_32, words_64, round, rounds_from, three_rotations};
+ghost use Rattle.ring_core.specs.Views.{chunk_items, chunk_total};
+
+pub(crate) mod constants;
+mod lanes;
+
+use crate::cost::Meter;
+use crate::digest::schedule::{load, pair};
+use crate::digest::sha2::lanes::Lanes;
+use crate::digest::word::functions::{choose_word, majority_word};
+use crate::digest::word::{Sha2, Word};
+use crate::polyfill::slice::AsChunks;
+use std::num::Wrapping;
+
+// ROTR first ⊕ ROTR second ⊕ ROTR third. The three go side by side: the next round waits for Σ0 and
+// Σ1, and with one rotation inside another it would wait longer than the copies cost.
+#[inline(always)]
+fn rotations<S: Word>(x: S, counts: (u32, u32, u32)) -> S
+    requires first { 1 ≤ counts.0 }
+    requires second { counts.0 < counts.1 }
+    requires third { counts.1 < counts.2 }
+    requires below { counts.2 < S.bits }
+    ensures { S.value result ≡ three_rotations S.bits counts (S.value x) }
+{
+    let (first, second, third) = counts;
+    x.rotr(first).bit_xor(x.rotr(second)).bit_xor(x.rotr(third))
+}
+
+// Σ0
+#[inline(always)]
+fn big_sigma_0<S: Sha2>(x: S) -> S
+    ensures { S.value result ≡ Σ0 S.family (S.value x) }
+{
+    rotations(x, S::BIG_SIGMA_0)
+}
+
+// Σ1
+#[inline(always)]
+fn big_sigma_1<S: Sha2>(x: S) -> S
+    ensures { S.value result ≡ Σ1 S.family (S.value x) }
+{
+    rotations(x, S::BIG_SIGMA_1)
+}
+
+// One round (step 3).
+fn round<S: Sha2>(v: [S; 8], k: S, word: S) -> [S; 8]
+    ensures { map S.value result ≡ round S.family (map S.value v) (S.value k) (S.value word) }
+{
+    let [a, b, c, d, e, f, g, h] = v;
+    let temp1 = h
+        .plus(big_sigma_1(e))
+        .plus(choose_word(e, f, g))
+        .plus(k)
+        .plus(word);
+    let temp2 = big_sigma_0(a).plus(majority_word(a, b, c));
+    [temp1.plus(temp2), a, b, c, d.plus(temp1), e, f, g]
+}
+
+// From here to `run_block` each function is written in line in its caller, whatever the compiler's
+// thresholds: slots are then literals, and no variable is copied from round to round.
+
+// Rounds `16 * turn + place` and the next, by the words at `place`.
+#[inline(always)]
+fn two_rounds<S: Sha2>(ring: &[S; 16], v: [S; 8], turn: usize, place: usize) -> [S; 8]
+    requires place { place + 2 ≤ 16 }
+    requires turn { 16 * turn + 16 ≤ S.family.rounds }
+    ensures { (h b : List ℕ) (n t : ℕ) → IsRing (W S.family b) (map S.value ring.now) n
+        → t ≡ 16 * turn + place → t + 2 ≤ n → n ≤ t + 16
+        → map S.value v ≡ rounds_from S.family h b t
+        → map S.value result ≡ rounds_from S.family h b (t + 2) }
+{
+    let t = 16 * turn + place;
+    let [first, second] = pair(ring, place);
+    round(round(v, S::k(t), first), S::k(t + 1), second)
+}
+
+// The same after the first turn, where the words are made first.
+#[inline(always)]
+fn next_two_rounds<S: Lanes>(ring: &mut [S; 16], v: [S; 8], turn: usize, place: usize) -> [S; 8]
+    requires place { place + 2 ≤ 16 }
+    requires later { 1 ≤ turn }
+    requires turn { 16 * turn + 16 ≤ S.family.rounds }
+    ensures { (h b : List ℕ) (t : ℕ) → t ≡ 16 * turn + place
+        → IsBefore (W S.family b) (rounds_from S.family h b)
+        (map S.value ring.old) (map S.value v) t
+        → IsBefore (W S.family b) (rounds_from S.family h b)
+        (map S.value ring.new) (map S.value result) (t + 2) }
+{
+    S::fill(ring, place);
+    two_rounds(ring, v, turn, place)
+}
+
+// The first sixteen rounds, by the block's own words.
+#[inline(always)]
+fn first_turn<S: Sha2>(ring: &[S; 16], v: [S; 8]) -> [S; 8]
+    ensures { (b : List ℕ) → IsRing (W S.family b) (map S.value ring.now) 16
+        → map S.value result ≡ rounds_from S.family (map S.value v) b 16 }
+{
+    let v = two_rounds(ring, v, 0, 0);
+    let v = two_rounds(ring, v, 0, 2);
+    let v = two_rounds(ring, v, 0, 4);
+    let v = two_rounds(ring, v, 0, 6);
+    let v = two_rounds(ring, v, 0, 8);
+    let v = two_rounds(ring, v, 0, 10);
+    let v = two_rounds(ring, v, 0, 12);
+    two_rounds(ring, v, 0, 14)
+}
+
+// The sixteen rounds of a later turn, each with its slot as a literal.
+#[inline(always)]
+fn later_turn<S: Lanes>(ring: &mut [S; 16], v: [S; 8], turn: usize) -> [S; 8]
+    requires later { 1 ≤ turn }
+    requires turn { 16 * turn + 16 ≤ S.family.rounds }
+    ensures { (h b : List ℕ)
+        → IsBefore (W S.family b) (rounds_from S.family h b)
+        (map S.value ring.old) (map S.value v) (16 * turn)
+        → IsBefore (W S.family b) (rounds_from S.family h b)
+        (map S.value ring.new) (map S.value result) (16 * (turn + 1)) }
+{
+    let v = next_two_rounds(ring, v, turn, 0);
+    let v = next_two_rounds(ring, v, turn, 2);
+    let v = next_two_rounds(ring, v, turn, 4);
+    let v = next_two_rounds(ring, v, turn, 6);
+    let v = next_two_rounds(ring, v, turn, 8);
+    let v = next_two_rounds(ring, v, turn, 10);
+    let v = next_two_rounds(ring, v, turn, 12);
+    next_two_rounds(ring, v, turn, 14)
+}
+
+// Each word of `state` with its variable of `v` added (step 4).
+fn add_state<S: Sha2>(state: &[S; 8], v: &[S; 8]) -> [S; 8]
+    ensures { map S.value result ≡ add_state S.bits (map S.value state.now) (map S.value v.now) }
+{
+    let [a, b, c, d, e, f, g, h] = *state;
+    let [i, j, k, l, m, n, o, p] = *v;
+    [
+        a.plus(i),
+        b.plus(j),
+        c.plus(k),
+        d.plus(l),
+        e.plus(m),
+        f.plus(n),
+        g.plus(o),
+        h.plus(p),
+    ]
+}
+
+// Runs the block function over one block, with room for the words of its schedule.
+#[inline(always)]
+fn run_block<S: Lanes>(ring: &mut [S; 16], state: &mut [S; 8], block: &[u8])
+    requires { length block.now ≡ 16 * (S.bits / 8) }
+    ensures { map S.value state.new ≡ block_step S.family (map S.value state.old) block.now }
+{
+    load(ring, block); // step 1, to W(15)
+    let mut variables = first_turn(ring, *state); // steps 2 and 3
+    let turns = S::ROUNDS / 16;
+    'later: for turn in 1..turns {
+        variables = later_turn(ring, variables, turn); // steps 1 and 3
+    }
+    *state = add_state(state, &variables); // step 4
+}
+
+// Runs the block function over each block in turn, with room for the words of a schedule.
+fn run_blocks<S: Lanes, const N: usize>(
+    ring: &mut [S; 16],
+    state: &mut [S; 8],
+    blocks: AsChunks<'_, u8, N>,
+    meter: &mut Meter,
+)
+    requires { N ≡ block_len S.family }
+    ensures words { map S.value state.new
+        ≡ chain_from S.family (map S.value state.old)
+        (chunk_items blocks.entry) (chunk_total blocks.entry) }
+    ensures cost { meter.new ≡ raised meter.old (chunk_total blocks.entry) 0 }
+{
+    'each: for i in 0..blocks.len() {
+        run_block(ring, state, &blocks[i]);
+        meter.add_block();
+    }
+}
+
+/// The chaining words of SHA-256; the first five of SHA-1's, whose last three stay 0.
+pub type State32 = [Wrapping<u32>; 8];
+
+/// The chaining words of SHA-384, SHA-512 and SHA-512/256.
+pub type State64 = [Wrapping<u64>; 8];
+
+/// Replaces `state` by SHA-256's hash computation over each block of 64 bytes in turn (6.2.2);
+/// `meter` counts the blocks.
+pub fn block_data_order_32_counted(
+    state: &mut State32,
+    blocks: AsChunks<'_, u8, 64>,
+    meter: &mut Meter,
+)
+    ensures words { words_32 state.new
+        ≡ chain_from family_256 (words_32 state.old)
+        (chunk_items blocks.entry) (chunk_total blocks.entry) }
+    ensures cost { meter.new ≡ raised meter.old (chunk_total blocks.entry) 0 }
+{
+    run_blocks(&mut [Wrapping(0u32); 16], state, blocks, meter)
+}
+
+/// Replaces `state` by SHA-256's hash computation over each block of 64 bytes in turn (6.2.2).
+pub fn block_data_order_32(state: &mut State32, blocks: AsChunks<'_, u8, 64>)
+    ensures words { words_32 state.new
+        ≡ chain_from family_256 (words_32 state.old)
+        (chunk_items blocks.entry) (chunk_total blocks.entry) }
+{
+    block_data_order_32_counted(state, blocks, &mut Meter::new())
+}
+
+/// Replaces `state` by SHA-512's hash computation, which SHA-384 and SHA-512/256 share, over each
+/// block of 128 bytes in turn (6.4.2); `meter` counts the blocks.
+pub fn block_data_order_64_counted(
+    state: &mut State64,
+    blocks: AsChunks<'_, u8, 128>,
+    meter: &mut Meter,
+)
+    ensures words { words_64 state.new
+        ≡ chain_from family_512 (words_64 state.old)
+        (chunk_items blocks.entry) (chunk_total blocks.entry) }
+    ensures cost { meter.new ≡ raised meter.old (chunk_total blocks.entry) 0 }
+{
+    run_blocks(&mut [Wrapping(0u64); 16], state, blocks, meter)
+}
+
+/// Replaces `state` by SHA-512's hash computation, which SHA-384 and SHA-512/256 share, over each
+/// block of 128 bytes in turn (6.4.2).
+pub fn block_data_order_64(state: &mut State64, blocks: AsChunks<'_, u8, 128>)
+    ensures words { words_64 state.new
+        ≡ chain_from family_512 (words_64 state.old)
+        (chunk_items blocks.entry) (chunk_total blocks.entry) }
+{
+    block_data_order_64_counted(state, blocks, &mut Meter::new())
+}

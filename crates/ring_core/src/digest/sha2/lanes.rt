@@ -1,0 +1,20 @@
+//! The schedule of SHA-2, two words at a time (FIPS 180-4, 6.2.2 and 6.4.2, step 1).
+ghost use Rattle.std.specs.Prelude.{◌≡◌, ℕ, ◌+◌, ◌%◌, ◌≤◌, List, map};
+ghost use Rattle.ring_core.specs.Schedule.{IsRing};
+ghost use Rattle.ring_core.specs.Sha2.{W};
+
+mod w32;
+mod w64;
+
+use crate::digest::word::Sha2;
+
+// A word whose schedule is made by lanes. The library's vectors are of `u32` or of `u64` and not of
+// any word, so each size has a step of its own.
+pub(crate) trait Lanes: Sha2 {
+    // Fills slot `place` and the next with the words sixteen after those that stand there.
+    fn fill(ring: &mut [Self; 16], place: usize)
+        requires { place + 2 ≤ 16 }
+        ensures { (b : List ℕ) (t : ℕ) → 16 ≤ t → place ≡ t % 16
+            → IsRing (W Self.family b) (map Self.value ring.old) t
+            → IsRing (W Self.family b) (map Self.value ring.new) (t + 2) };
+}

@@ -1,0 +1,182 @@
+//! The word of 32 bits, that of SHA-1 and SHA-256 (FIPS 180-4, 3.2 and 4.1.2).
+ghost use Rattle.std.specs.Prelude.{◌≡◌, ◌-◌, ◌*◌, ◌%◌, ◌^◌, ◌<◌, ◌≤◌, [], ◌∷◌, length, slice_index, map, bit_and, bit_or, bit_xor};
+ghost use Rattle.std.proofs.Common.{refl, mod-lt, pow_pos, inl};
+ghost use Rattle.ring_core.specs.Roots.{IsRootFraction, first_primes};
+ghost use Rattle.ring_core.specs.Sha2.{constants_256, family_256, words_32};
+ghost use Rattle.ring_core.specs.Word.{rotr, shr, word_at};
+
+use crate::digest::sha2::constants::K_256;
+use crate::digest::word::{Sha2, Word};
+use std::num::Wrapping;
+use std::simd::{Simd, u32x2};
+
+// These functions take numbers, since a number inside a struct is not known to fit its type.
+
+// ROTR (3.2, item 4)
+fn rotate(word: u32, count: u32) -> u32
+    requires positive { 1 ≤ count }
+    requires below { count < 32 }
+    ensures { result % 2 ^ 32 ≡ rotr 32 count (word % 2 ^ 32) }
+{
+    word.rotate_right(count)
+}
+
+// K of round `t`: the first bits of the fractional part of the cube root of a prime, that with `t`
+// primes before it (4.2.2)
+fn round_constant(t: usize) -> u32
+    requires { t < 64 }
+    ensures table { result ≡ slice_index constants_256 t }
+    ensures root { IsRootFraction 3 32 (slice_index first_primes t) result }
+{
+    K_256[t]
+}
+
+// SHR (3.2, item 3)
+fn shift(word: u32, count: usize) -> u32
+    requires { count < 32 }
+    ensures { result % 2 ^ 32 ≡ shr count (word % 2 ^ 32) }
+{
+    word >> count
+}
+
+// word `j` of a block (5.2)
+fn read(block: &[u8], j: usize) -> u32
+    requires place { j < 16 }
+    requires whole { length block.now ≡ 16 * 4 }
+    ensures { result ≡ word_at 32 block.now j }
+{
+    let at = 4 * j;
+    u32::from_be_bytes(*block[at..at + 4].as_array::<4>().unwrap())
+}
+
+// Two numbers as lanes.
+#[inline(always)]
+fn two_lanes(first: u32, second: u32) -> u32x2
+    ensures { result ≡ (first % 2 ^ 32) ∷ (second % 2 ^ 32) ∷ [] }
+{
+    Simd::from_array([first, second])
+}
+
+// Two words as lanes.
+#[inline(always)]
+pub(crate) fn to_lanes(words: [Wrapping<u32>; 2]) -> u32x2
+    ensures { result ≡ words_32 words }
+{
+    let [first, second] = words;
+    two_lanes(first.0, second.0)
+}
+
+// Two lanes as words.
+#[inline(always)]
+pub(crate) fn from_lanes(lanes: u32x2) -> [Wrapping<u32>; 2]
+    ensures { words_32 result ≡ lanes }
+{
+    let [first, second] = lanes.to_array();
+    [Wrapping(first), Wrapping(second)]
+}
+
+// ROTR of each lane (3.2, item 4)
+#[inline(always)]
+pub(crate) fn rotate_lanes(lanes: u32x2, count: u32) -> u32x2
+    requires positive { 1 ≤ count }
+    requires below { count < 32 }
+    ensures { result ≡ map (rotr 32 count) lanes }
+{
+    (lanes >> Simd::splat(count)) | (lanes << Simd::splat(32 - count))
+}
+
+impl Word for Wrapping<u32> {
+    const ZERO: Wrapping<u32> = Wrapping(0);
+
+    type InputBytes = [u8; 4];
+
+    ghost bits = { 32 };
+
+    ghost value = { λ x. x.0 % 2 ^ 32 };
+
+    ghost bytes = { λ b. b };
+
+    ghost ZERO = { record { 0 = 0 } };
+
+    fn from_be_bytes(input: [u8; 4]) -> Wrapping<u32> {
+        Wrapping(u32::from_be_bytes(input))
+    }
+
+    fn plus(self, o: Wrapping<u32>) -> Wrapping<u32> {
+        Wrapping(self.0.wrapping_add(o.0))
+    }
+
+    fn bit_and(self, o: Wrapping<u32>) -> Wrapping<u32> {
+        Wrapping(self.0 & o.0)
+    }
+
+    fn bit_or(self, o: Wrapping<u32>) -> Wrapping<u32> {
+        Wrapping(self.0 | o.0)
+    }
+
+    fn bit_xor(self, o: Wrapping<u32>) -> Wrapping<u32> {
+        Wrapping(self.0 ^ o.0)
+    }
+
+    fn bit_not(self) -> Wrapping<u32> {
+        Wrapping(!self.0)
+    }
+
+    fn rotr(self, count: u32) -> Wrapping<u32> {
+        Wrapping(rotate(self.0, count))
+    }
+
+    ghost fits = { λ x. mod-lt _ (pow_pos 32) };
+
+    ghost zero_is = { refl };
+}
+
+impl Sha2 for Wrapping<u32> {
+    const BIG_SIGMA_0: (u32, u32, u32) = (2, 13, 22);
+
+    const BIG_SIGMA_1: (u32, u32, u32) = (6, 11, 25);
+
+    const SMALL_SIGMA_0: (u32, u32, usize) = (7, 18, 3);
+
+    const SMALL_SIGMA_1: (u32, u32, usize) = (17, 19, 10);
+
+    const ROUNDS: usize = 64;
+
+    ghost family = { family_256 };
+
+    ghost BIG_SIGMA_0 = { (2, 13, 22) };
+
+    ghost BIG_SIGMA_1 = { (6, 11, 25) };
+
+    ghost SMALL_SIGMA_0 = { (7, 18, 3) };
+
+    ghost SMALL_SIGMA_1 = { (17, 19, 10) };
+
+    ghost ROUNDS = { 64 };
+
+    fn shift_right(self, count: usize) -> Wrapping<u32> {
+        Wrapping(shift(self.0, count))
+    }
+
+    fn k(t: usize) -> Wrapping<u32> {
+        Wrapping(round_constant(t))
+    }
+
+    fn read_word(block: &[u8], j: usize) -> Wrapping<u32> {
+        Wrapping(read(block, j))
+    }
+
+    ghost which = { inl refl };
+
+    ghost bits_are = { refl };
+
+    ghost big_0_is = { refl };
+
+    ghost big_1_is = { refl };
+
+    ghost small_0_is = { refl };
+
+    ghost small_1_is = { refl };
+
+    ghost rounds_are = { refl };
+}

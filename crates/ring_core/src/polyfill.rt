@@ -1,0 +1,3 @@
+//! What a later standard library brings.
+
+pub mod slice;

@@ -1,0 +1,18 @@
+//! Slices seen as whole chunks of one length.
+ghost use Rattle.std.specs.Prelude.{◌≡◌, ◌*◌, ◌<◌, length, take, drop};
+ghost use Rattle.ring_core.specs.Chunks.{chunk_count};
+ghost use Rattle.ring_core.specs.Views.{chunk_items};
+
+mod view;
+
+pub use crate::polyfill::slice::view::{AsChunks, AsChunksIter};
+
+/// The longest front of `slice` that is whole chunks of `N` items, and the rest, which is shorter
+/// than `N`. `N` is not 0.
+pub fn as_chunks<T, const N: usize>(slice: &[T]) -> (AsChunks<'_, T, N>, &[T])
+    requires { 0 < N }
+    ensures front { chunk_items result.0 ≡ take (chunk_count N (length slice.now) * N) slice.now }
+    ensures rest { result.1.now ≡ drop (chunk_count N (length slice.now) * N) slice.now }
+{
+    AsChunks::split(slice)
+}

@@ -1,0 +1,150 @@
+-- How a chain follows a list of whole blocks as it grows.
+use Rattle.std.proofs.Common.{refl, ◌≤◌, ◌≡◌, ℕ, zero, ◌+◌, ◌-◌, ◌*◌, ◌/◌, ◌%◌, ◌<◌, List, [], ◌++◌, length, take, drop, sym, ap, ◌∙◌, arith, add_comm, length-append, length-drop, replicate}
+use Rattle.std.proofs.lemmas.List.{length-take-le, take-append-drop}
+use Rattle.std.proofs.Math.Nat.{mul-div_cancel, div-mul-le_self, add-mul-div_left}
+use Rattle.std.proofs.lemmas.Nat.{div-add-mod', mod-mul-add, div-mul-add, mod_below}
+use Rattle.ring_core.specs.Chunks.{chained}
+use Rattle.ring_core.specs.Cost.{Counts, raised}
+use Rattle.ring_core.proofs.Chained.{chained-none, chained-then, chained-append}
+use Rattle.ring.specs.Algorithm.{block_function, block_len, initial_words, chaining_words, spare_words, word_count}
+use Rattle.ring.specs.Context.{HasMoved, HasTaken, cut_off}
+use Rattle.ring.specs.Cost.{whole_blocks}
+use Rattle.ring.specs.Digest.{chain}
+use Rattle.ring.specs.Padding.{IsWhole}
+use Rattle.ring.specs.declared.digest.algorithm.Algorithm.{Algorithm}
+use Rattle.ring.specs.declared.digest.block_context.BlockContext.{BlockContext}
+use Rattle.ring.proofs.Rows.{block_len-positive}
+
+-- a multiple divided
+pub mul_whole : (n b : ℕ) → zero < b → (n * b % b ≡ 0) × (n * b / b ≡ n)
+mul_whole n b pos =
+    let e : n * b + 0 ≡ n * b = omega arith in
+    let r : (n * b + 0) % b ≡ 0 = mod-mul-add n b 0 pos in
+    (rw e at r, mul-div_cancel n pos)
+
+-- nothing divided
+zero_whole : (b : ℕ) → zero < b → (0 % b ≡ 0) × (0 / b ≡ 0)
+zero_whole b pos =
+    let e : 0 * b ≡ 0 = omega arith in
+    rw e at (mul_whole 0 b pos)
+
+-- a number with no remainder
+pub whole_mul : (x b : ℕ) → x % b ≡ 0 → x ≡ x / b * b
+whole_mul x b h = let e = div-add-mod' x b in omega (arith, e)
+
+-- two multiples added
+pub whole-add : (x y b : ℕ) → zero < b → x % b ≡ 0 → y % b ≡ 0 → ((x + y) % b ≡ 0) × ((x + y) / b ≡ x / b + y / b)
+whole-add x y b pos hx hy =
+    let ex : x ≡ x / b * b = whole_mul x b hx in
+    let ey : y ≡ y / b * b = whole_mul y b hy in
+    let e : x + y ≡ (x / b + y / b) * b = grind (arith, ex, ey) in
+    let m = mul_whole (x / b + y / b) b pos in
+    (ap (λ (z : ℕ). z % b) e ∙ m.0, ap (λ (z : ℕ). z / b) e ∙ m.1)
+
+pub IsWhole-append : (a : Algorithm) (p x : List ℕ) → IsWhole a p → IsWhole a x → IsWhole a (p ++ x)
+IsWhole-append a p x hp hx = rw length-append (whole-add (length p) (length x) (block_len a) (block_len-positive a) hp hx).0
+
+-- the chain of no block
+pub chain-nil : (a : Algorithm) → chain a [] ≡ initial_words a
+unfolding chain
+chain-nil a =
+    let z : 0 / block_len a ≡ 0 = (zero_whole (block_len a) (block_len-positive a)).1 in
+    rw z (chained-none _ _ _ _)
+
+-- the chain of a longer list
+pub chain-append : (a : Algorithm) (p x : List ℕ) → IsWhole a p → IsWhole a x → chain a (p ++ x) ≡ chained (block_function a) (block_len a) (chain a p) x (length x / block_len a)
+unfolding chain
+chain-append a p x hp hx =
+    let e : length (p ++ x) / block_len a ≡ length p / block_len a + length x / block_len a =
+    rw length-append (whole-add (length p) (length x) (block_len a) (block_len-positive a) hp hx).1 in
+    rw e (chained-then (block_function a) (block_len a) (initial_words a) p x (length p / block_len a) (length x / block_len a) (whole_mul (length p) (block_len a) hp))
+
+-- no block taken
+pub HasTaken-nil : (b : BlockContext) → chaining_words b.algorithm b.state ≡ initial_words b.algorithm
+    → spare_words b.algorithm b.state ≡ replicate (8 - word_count b.algorithm) 0 → b.completed_bytes ≡ 0 → HasTaken b []
+HasTaken-nil b ew es ec =
+    record {
+      whole = (zero_whole (block_len b.algorithm) (block_len-positive b.algorithm)).0;
+      words = ew ∙ sym (chain-nil b.algorithm);
+      spare = es;
+      count = ec;
+    }
+
+-- whole blocks more
+HasTaken-append : (b n : BlockContext) (p x : List ℕ) → HasTaken b p → IsWhole b.algorithm x → n.algorithm ≡ b.algorithm
+    → chaining_words b.algorithm n.state
+    ≡ chained (block_function b.algorithm) (block_len b.algorithm) (chaining_words b.algorithm b.state) x (whole_blocks b.algorithm (length x))
+    → spare_words b.algorithm n.state ≡ spare_words b.algorithm b.state
+    → n.completed_bytes ≡ cut_off (b.completed_bytes + length x) → HasTaken n (p ++ x)
+HasTaken-append b n p x h hx ea ew es ec =
+    record {
+      whole = rw ea (IsWhole-append b.algorithm p x h.whole hx);
+      words = rw ea (ew ∙ rw h.words (sym (chain-append b.algorithm p x h.whole hx)));
+      spare = rw ea (es ∙ h.spare);
+      count = omega (arith, length-append p x, h.count);
+    }
+
+-- the whole blocks at the front of a list
+length_front : (a : Algorithm) (x : List ℕ) → length (take (whole_blocks a (length x) * block_len a) x) ≡ whole_blocks a (length x) * block_len a
+length_front a x = length-take-le _ x (div-mul-le_self (length x) (block_len a))
+
+IsWhole_front : (a : Algorithm) (x : List ℕ) → IsWhole a (take (whole_blocks a (length x) * block_len a) x)
+IsWhole_front a x = rw (length_front a x) (mul_whole (whole_blocks a (length x)) (block_len a) (block_len-positive a)).0
+
+-- the words after the whole blocks at the front of a list, which are all that is counted
+pub chained_front : (a : Algorithm) (h y : List ℕ)
+    → chained (block_function a) (block_len a) h (take (whole_blocks a (length y) * block_len a) y) (whole_blocks a (length y))
+    ≡ chained (block_function a) (block_len a) h y (whole_blocks a (length y))
+chained_front a h y =
+    let k : ℕ = whole_blocks a (length y) in
+    let size : ℕ = k * block_len a in
+    sym (chained-append (block_function a) (block_len a) h (take size y) (drop size y) k (omega (arith, length_front a y)))
+    ∙ ap (λ (z : List ℕ). chained (block_function a) (block_len a) h z k) (take-append-drop size y)
+
+-- the whole blocks at the front of y moved
+pub moved_front : (b n : BlockContext) (y left : List ℕ) (before after : Counts) → n.algorithm ≡ b.algorithm
+    → left ≡ drop (whole_blocks b.algorithm (length y) * block_len b.algorithm) y
+    → chaining_words b.algorithm n.state
+    ≡ chained (block_function b.algorithm) (block_len b.algorithm) (chaining_words b.algorithm b.state) y (whole_blocks b.algorithm (length y))
+    → spare_words b.algorithm n.state ≡ spare_words b.algorithm b.state
+    → n.completed_bytes ≡ cut_off (b.completed_bytes + (length y - length left))
+    → after ≡ raised before (whole_blocks b.algorithm (length y)) 0 → HasMoved (block_len b.algorithm) b n y left before after
+moved_front b n y left before after ea el ew es ec em =
+    let a : Algorithm = b.algorithm in
+    let k : ℕ = whole_blocks a (length y) in
+    let x : List ℕ = take (k * block_len a) y in
+    let fits : k * block_len a ≤ length y = div-mul-le_self (length y) (block_len a) in
+    let long : length x ≡ k * block_len a = length_front a y in
+    let run : whole_blocks a (length x) ≡ k =
+    ap (λ (z : ℕ). z / block_len a) long ∙ (mul_whole k (block_len a) (block_len-positive a)).1 in
+    let done : length y - length left ≡ k * block_len a = omega (arith, ap length el, length-drop (k * block_len a) y, fits) in
+    let front : chaining_words a n.state ≡ chained (block_function a) (block_len a) (chaining_words a b.state) x (whole_blocks a (length x)) =
+    ew ∙ sym (chained_front a (chaining_words a b.state) y) ∙ rw run refl in
+    record {
+      blocks = k;
+      fits = fits;
+      rest = el;
+      algorithm = ea;
+      taken = λ p h. HasTaken-append b n p x h (IsWhole_front a y) ea front es (omega (arith, ec, done, long));
+      counted = omega (arith, ec, done);
+      cost = em;
+    }
+
+-- what is left of y is less than a block
+pub left_short : (a : Algorithm) (y left : List ℕ) → left ≡ drop (whole_blocks a (length y) * block_len a) y → length left < block_len a
+left_short a y left el =
+    let m : length y % block_len a < block_len a = mod_below (length y) (block_len a) (block_len-positive a) in
+    omega (arith, ap length el, length-drop (whole_blocks a (length y) * block_len a) y, div-add-mod' (length y) (block_len a))
+
+-- a multiple and more, divided
+pub whole_div-add : (x y b : ℕ) → zero < b → x % b ≡ 0 → (x + y) / b ≡ x / b + y / b
+whole_div-add x y b pos hx =
+    let ex : x ≡ x / b * b = whole_mul x b hx in
+    let e : x + y ≡ y + b * (x / b) = grind (arith, ex) in
+    ap (λ (z : ℕ). z / b) e ∙ add-mul-div_left y (x / b) pos ∙ add_comm (y / b) (x / b)
+
+-- a number below the divisor
+pub short_div : (y b : ℕ) → y < b → y / b ≡ 0
+short_div y b h =
+    let e : 0 * b + y ≡ y = omega arith in
+    rw e at (div-mul-add 0 b y h)

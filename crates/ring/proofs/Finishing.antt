@@ -1,0 +1,67 @@
+-- How the last blocks make up the padding.
+use Rattle.std.proofs.Common.{◌≡◌, ℕ, ◌+◌, ◌-◌, ◌*◌, ◌^◌, ◌<◌, ◌≤◌, inl, inr, IsTrue, List, ◌++◌, length, replicate, refl, ap, ◌∙◌, arith, rules, length-append, min, sym, append_assoc, take}
+use Rattle.ring.proofs.Lengths.{length-chain}
+use Rattle.std.proofs.lemmas.List.Concat.{flat_map-append}
+use Rattle.std.proofs.lemmas.List.{take-append-le, take-append-drop}
+use Rattle.std.specs.Int.{bytes_high_first, byte_at}
+use Rattle.ring.specs.Algorithm.{is_state_of, length_len, output_len, word_len, chaining_words, spare_words, word_count}
+use Rattle.ring.specs.Context.{HasTaken}
+use Rattle.ring.specs.Digest.{IsDigest, chain, digest_of}
+use Rattle.ring.specs.Padding.{padded}
+use Rattle.ring.specs.State.{state_word_len, word_bytes, words}
+use Rattle.ring.specs.declared.digest.algorithm.Algorithm.{Algorithm}
+use Rattle.ring.specs.declared.digest.block_context.BlockContext.{BlockContext}
+use Rattle.ring.specs.declared.digest.dynstate.DynState.{DynState}
+use Rattle.ring.specs.declared.digest.value.Digest.{Digest}
+use Rattle.ring.proofs.Outputs.{length-word_bytes}
+use Rattle.ring.proofs.Rows.{sizes_of, output_len-most}
+
+-- a length field of 16 bytes below 2 ^ 64
+long_field : (v : ℕ) → v < 2 ^ 64 → bytes_high_first 16 v ≡ replicate 8 0 ++ bytes_high_first 8 v
+long_field v h =
+    let e8 : byte_at 8 v ≡ 0 = omega arith in
+    let e9 : byte_at 9 v ≡ 0 = omega arith in
+    let e10 : byte_at 10 v ≡ 0 = omega arith in
+    let e11 : byte_at 11 v ≡ 0 = omega arith in
+    let e12 : byte_at 12 v ≡ 0 = omega arith in
+    let e13 : byte_at 13 v ≡ 0 = omega arith in
+    let e14 : byte_at 14 v ≡ 0 = omega arith in
+    let e15 : byte_at 15 v ≡ 0 = omega arith in
+    cc
+
+-- the length field of either size
+pub length_field : (a : Algorithm) (v : ℕ) → v < 2 ^ 64 → bytes_high_first (length_len a) v ≡ replicate (length_len a - 8) 0 ++ bytes_high_first 8 v
+length_field a v h = elim (sizes_of a) [ inl s ↦ rw s.1 refl | inr s ↦ rw s.1 (long_field v h) ]
+
+-- the words that chain come first
+word_bytes_front : (a : Algorithm) (n : ℕ) (s : DynState)
+    → word_bytes n (words s) ≡ word_bytes n (chaining_words a s) ++ word_bytes n (spare_words a s)
+word_bytes_front a n s =
+    ap (word_bytes n) (sym (take-append-drop (word_count a) (words s)))
+    ∙ flat_map-append (bytes_high_first n) (chaining_words a s) (spare_words a s)
+
+-- the digest in the output of a state
+pub digest_from : (d : Digest) (s : DynState) (a : Algorithm) (m : List ℕ) → d.algorithm ≡ a
+    → d.value.0 ≡ word_bytes (state_word_len s) (words s) ++ replicate (64 - 8 * state_word_len s) 0
+    → IsTrue (is_state_of a s) → chaining_words a s ≡ chain a (padded a m) → IsDigest d a m
+unfolding digest_of
+digest_from d s a m ea ev sized ew =
+    let w : ℕ = word_len a in
+    let size : state_word_len s ≡ w = search (rules, sized) in
+    let front : List ℕ = word_bytes w (chaining_words a s) in
+    let spare : List ℕ = word_bytes w (spare_words a s) in
+    let zeros : List ℕ = replicate (64 - 8 * w) 0 in
+    let count : length (chaining_words a s) ≡ word_count a = ap length ew ∙ length-chain a (padded a m) in
+    let long : length front ≡ w * word_count a = length-word_bytes w (chaining_words a s) ∙ ap (λ (z : ℕ). w * z) count in
+    let value : d.value.0 ≡ front ++ (spare ++ zeros) =
+    ev ∙ rw size (ap (λ (z : List ℕ). z ++ zeros) (word_bytes_front a w s)) ∙ append_assoc front spare zeros in
+    record {
+      algorithm = ea;
+      bytes =
+          rw (ea, value) (take-append-le (output_len a) front (spare ++ zeros) (omega (arith, long, output_len-most a))
+          ∙ ap (λ (z : List ℕ). take (output_len a) (word_bytes w z)) ew);
+    }
+
+-- the length of what the block context has taken in and the pending bytes
+pub taken_len : (b : BlockContext) (p x : List ℕ) (len : ℕ) → HasTaken b p → len ≡ min (b.completed_bytes + length x) (2 ^ 64 - 1) → len ≤ 2 ^ 61 - 1 → length (p ++ x) ≡ len
+taken_len b p x len h e most = omega (arith, h.count, length-append p x)

@@ -1,0 +1,61 @@
+-- What the rows have in common.
+use Rattle.std.proofs.Common.{◌≡◌, zero, ◌<◌, ◌≤◌, ◌+◌, ◌*◌, ◌⊎◌, refl, inl, inr, lit<, lit≤, ◌/◌}
+use Rattle.ring.specs.Algorithm.{block_len, length_len, output_len, row_of, word_len, word_count}
+use Rattle.ring.specs.declared.digest.algorithm.Algorithm.{Algorithm}
+use Rattle.ring.specs.declared.digest.algorithm.AlgorithmId.{AlgorithmId}
+use Rattle.ring.specs.declared.digest.algorithm.AlgorithmId.TheVariants.{Sha1, Sha256, Sha384, Sha512, Sha512_256}
+
+-- the two sizes of blocks and length fields
+pub sizes_of_id : (i : AlgorithmId) → (((row_of i).block_len ≡ 64) × ((row_of i).length_len ≡ 8)) ⊎ (((row_of i).block_len ≡ 128) × ((row_of i).length_len ≡ 16))
+sizes_of_id Sha1 = inl (refl, refl)
+sizes_of_id Sha256 = inl (refl, refl)
+sizes_of_id Sha384 = inr (refl, refl)
+sizes_of_id Sha512 = inr (refl, refl)
+sizes_of_id Sha512_256 = inr (refl, refl)
+
+pub sizes_of : (a : Algorithm) → ((block_len a ≡ 64) × (length_len a ≡ 8)) ⊎ ((block_len a ≡ 128) × (length_len a ≡ 16))
+sizes_of a = sizes_of_id a.id
+
+pub block_len-positive : (a : Algorithm) → zero < block_len a
+block_len-positive a = elim (sizes_of a) [ inl h ↦ rw h.0 (lit< tt) | inr h ↦ rw h.0 (lit< tt) ]
+
+pub block_len-most : (a : Algorithm) → block_len a ≤ 128
+block_len-most a = elim (sizes_of a) [ inl h ↦ rw h.0 (lit≤ tt) | inr h ↦ rw h.0 (lit≤ tt) ]
+
+output_len-most_of_id : (i : AlgorithmId) → (row_of i).output_len ≤ (row_of i).word_len * ((row_of i).chaining_len / (row_of i).word_len)
+output_len-most_of_id Sha1 = lit≤ tt
+output_len-most_of_id Sha256 = lit≤ tt
+output_len-most_of_id Sha384 = lit≤ tt
+output_len-most_of_id Sha512 = lit≤ tt
+output_len-most_of_id Sha512_256 = lit≤ tt
+
+-- a digest is a front of the chaining words
+pub output_len-most : (a : Algorithm) → output_len a ≤ word_len a * word_count a
+output_len-most a = output_len-most_of_id a.id
+
+pub length_len-least : (a : Algorithm) → 8 ≤ length_len a
+length_len-least a = elim (sizes_of a) [ inl h ↦ rw h.1 (lit≤ tt) | inr h ↦ rw h.1 (lit≤ tt) ]
+
+pub length_len-most : (a : Algorithm) → length_len a + 48 ≤ block_len a
+length_len-most a = elim (sizes_of a) [ inl h ↦ rw (h.0, h.1) (lit≤ tt) | inr h ↦ rw (h.0, h.1) (lit≤ tt) ]
+
+output_len-positive_of_id : (i : AlgorithmId) → zero < (row_of i).output_len
+output_len-positive_of_id Sha1 = lit< tt
+output_len-positive_of_id Sha256 = lit< tt
+output_len-positive_of_id Sha384 = lit< tt
+output_len-positive_of_id Sha512 = lit< tt
+output_len-positive_of_id Sha512_256 = lit< tt
+
+pub output_len-positive : (a : Algorithm) → zero < output_len a
+output_len-positive a = output_len-positive_of_id a.id
+
+output_len-fits_of_id : (i : AlgorithmId) → (row_of i).output_len ≤ 64
+output_len-fits_of_id Sha1 = lit≤ tt
+output_len-fits_of_id Sha256 = lit≤ tt
+output_len-fits_of_id Sha384 = lit≤ tt
+output_len-fits_of_id Sha512 = lit≤ tt
+output_len-fits_of_id Sha512_256 = lit≤ tt
+
+-- no digest has more than 64 bytes
+pub output_len-fits : (a : Algorithm) → output_len a ≤ 64
+output_len-fits a = output_len-fits_of_id a.id

@@ -1,0 +1,86 @@
+-- What follows the whole blocks of a padded message.
+use Rattle.std.proofs.Common.{◌≡◌, ℕ, suc, ◌+◌, ◌-◌, ◌*◌, ◌/◌, ◌%◌, ◌^◌, ◌<◌, ◌≤◌, ◌⊎◌, inl, inr, List, ◌∷◌, ◌++◌, length, take, drop, replicate, slice_set, sym, ap, ◌∙◌, arith, length-append, append_assoc, refl}
+use Rattle.std.proofs.lemmas.List.{drop-replicate, take-replicate, length-replicate, replicate-append-replicate}
+use Rattle.std.proofs.Math.Seq.{set-append_seam, take-append-add}
+use Rattle.std.proofs.lemmas.Slice.{take-put_mid}
+use Rattle.std.specs.Int.{bytes_high_first}
+use borrow.Rule.Slice.PartMut.{put_mid}
+use Rattle.ring.specs.Algorithm.{block_function, block_len, length_len, chaining_words}
+use Rattle.ring.specs.Context.{HasTaken}
+use Rattle.ring.specs.Cost.{padded_blocks, whole_blocks}
+use Rattle.ring.specs.Digest.{chain}
+use Rattle.ring.specs.Padding.{IsWhole, padded, padded_with, tail_of, zeros_of}
+use Rattle.ring.specs.declared.digest.algorithm.Algorithm.{Algorithm}
+use Rattle.ring.proofs.Finishing.{length_field}
+use Rattle.ring_core.specs.Chunks.{chained}
+use Rattle.ring.specs.declared.digest.block_context.BlockContext.{BlockContext}
+use Rattle.ring.specs.declared.digest.dynstate.DynState.{DynState}
+use Rattle.ring.proofs.Chains.{chain-append, mul_whole}
+use Rattle.ring.proofs.Rows.{block_len-positive, length_len-least, sizes_of}
+
+-- the tail has room for all that is written, and no more than two blocks
+pub tail_sizes : (a : Algorithm) (r : ℕ) → r < block_len a
+    → (padded_blocks a r * block_len a ≤ 256) × (r + 1 + length_len a ≤ padded_blocks a r * block_len a)
+tail_sizes a r below = sizes (block_len a) (length_len a) r (sizes_of a) below
+  where
+    sizes : (b l r : ℕ) → ((b ≡ 64) × (l ≡ 8)) ⊎ ((b ≡ 128) × (l ≡ 16)) → r < b
+        → (((r + l) / b + 1) * b ≤ 256) × (r + 1 + l ≤ ((r + l) / b + 1) * b)
+    sizes b l r (inl e) h = let h' : r < 64 = rw e.0 at h in rw (e.0, e.1) (omega arith, omega arith)
+    sizes b l r (inr e) h = let h' : r < 128 = rw e.0 at h in rw (e.0, e.1) (omega arith, omega arith)
+
+-- the zeros depend only on what is left of the message
+pub zeros_past : (a : Algorithm) (n r : ℕ) → n % block_len a ≡ 0 → zeros_of a (n + r) ≡ zeros_of a r
+zeros_past a n r h = past (block_len a) (length_len a) (sizes_of a) h
+  where
+    past : (b l : ℕ) → ((b ≡ 64) × (l ≡ 8)) ⊎ ((b ≡ 128) × (l ≡ 16)) → n % b ≡ 0
+        → ((n + r + l) / b + 1) * b - (n + r + 1 + l) ≡ ((r + l) / b + 1) * b - (r + 1 + l)
+    past b l (inl e) w = let w' : n % 64 ≡ 0 = rw e.0 at w in rw (e.0, e.1) (omega arith)
+    past b l (inr e) w = let w' : n % 128 ≡ 0 = rw e.0 at w in rw (e.0, e.1) (omega arith)
+
+-- the padded message is its whole blocks and the tail
+pub padded-append : (a : Algorithm) (p x : List ℕ) → IsWhole a p → padded a (p ++ x) ≡ p ++ tail_of a x (length (p ++ x))
+unfolding padded
+padded-append a p x whole =
+    let zeros : zeros_of a (length (p ++ x)) ≡ zeros_of a (length x) = ap (zeros_of a) (length-append p x) ∙ zeros_past a (length p) (length x) whole in
+    ap (padded_with a (p ++ x)) zeros ∙ simp append_assoc
+
+-- the tail, as it is written over zeros
+pub tail_written : (a : Algorithm) (x be : List ℕ) (n t k : ℕ) → length x < block_len a → 8 * n < 2 ^ 64
+    → t ≡ padded_blocks a (length x) * block_len a → be ≡ bytes_high_first 8 (8 * n) → length be ≡ 8
+    → take t (put_mid (t - 8) k (slice_set (put_mid 0 (length x) (replicate 256 0) x) (length x) 128) be) ≡ tail_of a x n
+tail_written a x be n t k below fits et eb lb =
+    let sizes = tail_sizes a (length x) below in
+    let least : 8 ≤ length_len a = length_len-least a in
+    let room : length x + 9 ≤ t = omega (arith, sizes.1) in
+    let most : t ≤ 256 = omega (arith, sizes.0) in
+    let s : ℕ = length x in
+    let more : 256 - s ≡ suc (255 - s) = omega arith in
+    let over : drop {A = ℕ} s (replicate 256 0) ≡ 0 ∷ replicate (255 - s) 0 = drop-replicate s 256 0 ∙ ap (λ (m : ℕ). replicate m 0) more in
+    let set_is : slice_set (x ++ drop s (replicate 256 0)) s 128 ≡ x ++ 128 ∷ replicate (255 - s) 0 =
+    rw over (set-append_seam x 0 (replicate (255 - s) 0) 128) in
+    let long : length (x ++ 128 ∷ replicate (255 - s) 0) ≡ 256 =
+    omega (arith, length-append x (128 ∷ replicate (255 - s) 0), length-replicate {A = ℕ} (255 - s) 0) in
+    let front : t - 8 ≡ length x + suc (t - 9 - s) = omega arith in
+    let zeros : take (t - 9 - s) (replicate (255 - s) 0) ≡ replicate (t - 9 - s) 0 = take-replicate (t - 9 - s) (255 - s) 0 (omega arith) in
+    let kept : take (t - 8) (x ++ 128 ∷ replicate (255 - s) 0) ≡ x ++ 128 ∷ replicate (t - 9 - s) 0 =
+    rw front (take-append-add x (128 ∷ replicate (255 - s) 0) (suc (t - 9 - s))) ∙ ap (λ (z : List ℕ). x ++ 128 ∷ z) zeros in
+    let sum : zeros_of a s + (length_len a - 8) ≡ t - 9 - s = omega (arith, sizes.1) in
+    take-put_mid (t - 8) k (slice_set (x ++ drop s (replicate 256 0)) s 128) be t (omega arith) (rw (set_is, long) (omega arith))
+    ∙ ap (λ (z : List ℕ). take (t - 8) z ++ be) set_is ∙ ap (λ (z : List ℕ). z ++ be) kept
+    ∙ sym (rw (length_field a (8 * n) fits, eb) (joined_runs x (bytes_high_first 8 (8 * n)) (zeros_of a s) (length_len a - 8) (t - 9 - s) sum))
+  where
+    joined_runs : (x be : List ℕ) (z y k : ℕ) → z + y ≡ k → x ++ 128 ∷ replicate z 0 ++ (replicate y 0 ++ be) ≡ (x ++ 128 ∷ replicate k 0) ++ be
+    joined_runs x be z y k e = rw (← e, ← replicate-append-replicate {A = ℕ} z y 0) (simp append_assoc)
+
+-- the words after the tail are those after the padded message
+pub chain_tail : (b : BlockContext) (p x tail : List ℕ) (n : ℕ) (s : DynState) → HasTaken b p → length (p ++ x) ≡ n
+    → tail ≡ tail_of b.algorithm x n → length tail ≡ padded_blocks b.algorithm (length x) * block_len b.algorithm
+    → chaining_words b.algorithm s
+    ≡ chained (block_function b.algorithm) (block_len b.algorithm) (chaining_words b.algorithm b.state) tail (whole_blocks b.algorithm (length tail))
+    → chaining_words b.algorithm s ≡ chain b.algorithm (padded b.algorithm (p ++ x))
+chain_tail b p x tail n s h en et size ew =
+    let a : Algorithm = b.algorithm in
+    let after : chaining_words a s ≡ chained (block_function a) (block_len a) (chain a p) tail (whole_blocks a (length tail)) = ew ∙ rw h.words refl in
+    let whole : IsWhole a tail = rw size (mul_whole (padded_blocks a (length x)) (block_len a) (block_len-positive a)).0 in
+    let bytes : tail ≡ tail_of a x (length (p ++ x)) = rw en et in
+    after ∙ sym (chain-append a p tail h.whole whole) ∙ rw bytes (ap (chain a) (sym (padded-append a p x h.whole)))

@@ -1,0 +1,5 @@
+use Rattle.ring.proofs.Padding.{padded_is_padded}
+use Rattle.ring.proofs.digest.padding.padding_is_shortest.Goals as goal
+
+pub returns : goal.returns
+returns c = padded_is_padded

@@ -1,0 +1,22 @@
+use Rattle.std.proofs.Common.{◌≡◌, ◌+◌, ◌≤◌, ℕ, length, ap, ◌∙◌, arith}
+use Rattle.ring_core.specs.Cost.{Counts, raised}
+use Rattle.ring_core.proofs.Costs.{raised-raised}
+use Rattle.ring.specs.Algorithm.{block_len, output_len}
+use Rattle.ring.specs.Cost.{key_blocks, padded_blocks}
+use Rattle.ring.specs.declared.digest.algorithm.Algorithm.{Algorithm}
+use Rattle.ring.proofs.Keys.{key_digest_blocks-short, output_below}
+use Rattle.ring.proofs.hkdf.salt.Salt.extract_counted.Goals as goal
+
+-- a tag, and the key that is made of it: no longer than a block
+cost_extract : (a b : Algorithm) (m0 m1 m2 : Counts) (s n : ℕ) → b ≡ a → n ≡ output_len a → m1 ≡ raised m0 (padded_blocks a s + 1) 0
+    → m2 ≡ raised m1 (key_blocks b n) 0 → m2 ≡ raised m0 (padded_blocks a s + 3) 0
+cost_extract a b m0 m1 m2 s n eb en e1 e2 =
+    let short : output_len a ≤ block_len a = omega (arith, output_below a) in
+    let two : padded_blocks a s + 1 + key_blocks a (output_len a) ≡ padded_blocks a s + 3 =
+    omega (arith, ap (λ (z : ℕ). z + 2) (key_digest_blocks-short a (output_len a) short)) in
+    (rw (eb, en) at e2) ∙ rw e1 (raised-raised m0 _ 0 _ 0) ∙ ap (λ (z : ℕ). raised m0 z 0) two
+
+pub returns-clause-cost : goal.returns-clause-cost
+returns-clause-cost c =
+    cost_extract _ _ _ _ _ (length c.args.secret.now) _ c.algorithm.ensures
+    (c.as_ref.ensures.len ∙ ap output_len c.in_ok-tag.ensures.algorithm) c.in_ok-tag.ensures.cost c.in-Ok.ensures.cost

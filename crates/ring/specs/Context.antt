@@ -1,0 +1,61 @@
+-- What contexts stand for, and what they count.
+use Rattle.std.specs.Prelude.{◌≡◌, ℕ, ◌+◌, ◌-◌, ◌*◌, ◌≤◌, ◌^◌, min, List, ◌++◌, length, take, drop, replicate}
+use Rattle.ring_core.specs.Cost.{Counts, raised}
+use Rattle.ring.specs.Algorithm.{chaining_words, spare_words, word_count}
+use Rattle.ring.specs.Digest.{chain}
+use Rattle.ring.specs.Padding.{IsWhole}
+use Rattle.ring.specs.declared.digest.algorithm.Algorithm.{Algorithm}
+use Rattle.ring.specs.declared.digest.block_context.BlockContext.{BlockContext}
+use Rattle.ring.specs.declared.digest.context.Context.{Context}
+
+-- a number of bytes, cut off at the greatest that a context counts
+abbrev pub cut_off : ℕ → ℕ
+cut_off n = min n (2 ^ 64 - 1)
+
+-- the algorithm of a block context
+abbrev pub block_algorithm : BlockContext → Algorithm
+block_algorithm b = b.algorithm
+
+-- the bytes that a block context has counted
+abbrev pub counted_bytes : BlockContext → ℕ
+counted_bytes b = cut_off b.completed_bytes
+
+-- the block context has taken in the whole blocks p
+pub record HasTaken (b : BlockContext) (p : List ℕ) : Type 0 where
+  pub whole : IsWhole b.algorithm p
+  pub words : chaining_words b.algorithm b.state ≡ chain b.algorithm p
+  pub spare : spare_words b.algorithm b.state ≡ replicate (8 - word_count b.algorithm) 0
+  pub count : b.completed_bytes ≡ cut_off (length p)
+
+-- the algorithm of a context
+abbrev pub context_algorithm : Context → Algorithm
+context_algorithm c = c.block.algorithm
+
+-- the bytes that wait for their block to be full
+abbrev pub pending_bytes : Context → List ℕ
+pending_bytes c = take c.num_pending c.pending
+
+-- their number
+abbrev pub pending_len : Context → ℕ
+pending_len c = c.num_pending
+
+-- the bytes of the message that a context has counted
+abbrev pub message_len : Context → ℕ
+message_len c = cut_off (counted_bytes c.block + c.num_pending)
+
+-- the context stands for the message m: whole blocks that it has taken in, and then the pending bytes
+pub record StandsFor (c : Context) (m : List ℕ) : Type 0 where
+  pub whole : List ℕ
+  pub taken : HasTaken c.block whole
+  pub message : m ≡ whole ++ pending_bytes c
+
+-- the block context `old` became `new` by the blocks, each of n bytes, at the front of `bytes`, and
+-- `left` is what comes after them
+pub record HasMoved (n : ℕ) (old new : BlockContext) (bytes left : List ℕ) (before after : Counts) : Type 0 where
+  pub blocks : ℕ
+  pub fits : blocks * n ≤ length bytes
+  pub rest : left ≡ drop (blocks * n) bytes
+  pub algorithm : new.algorithm ≡ old.algorithm
+  pub taken : (p : List ℕ) → HasTaken old p → HasTaken new (p ++ take (blocks * n) bytes)
+  pub counted : counted_bytes new ≡ cut_off (counted_bytes old + blocks * n)
+  pub cost : after ≡ raised before blocks 0

@@ -1,0 +1,29 @@
+-- Digests (FIPS 180-4, sections 6.1 to 6.7).
+use Rattle.std.specs.Prelude.{◌≡◌, ℕ, ◌/◌, List, length, take}
+use Rattle.ring_core.specs.Chunks.{chained}
+use Rattle.ring.specs.Algorithm.{block_function, block_len, initial_words, output_len, word_len}
+use Rattle.ring.specs.Padding.{padded}
+use Rattle.ring.specs.State.{word_bytes}
+use Rattle.ring.specs.declared.digest.algorithm.Algorithm.{Algorithm}
+use Rattle.ring.specs.declared.digest.value.Digest.{Digest}
+
+-- the chaining words after the whole blocks p: H(0) after none, and one block function a block
+unfoldable pub chain : Algorithm → List ℕ → List ℕ
+chain a p = chained (block_function a) (block_len a) (initial_words a) p (length p / block_len a)
+
+-- the digest of the message m: the first bytes of the last chaining words
+unfoldable pub digest_of : Algorithm → List ℕ → List ℕ
+digest_of a m = take (output_len a) (word_bytes (word_len a) (chain a (padded a m)))
+
+-- the algorithm that made a digest
+abbrev pub digest_algorithm : Digest → Algorithm
+digest_algorithm d = d.algorithm
+
+-- the bytes that a digest gives
+abbrev pub bytes_of : Digest → List ℕ
+bytes_of d = take (output_len d.algorithm) d.value.0
+
+-- the digest is that of the message m under the algorithm a
+pub record IsDigest (d : Digest) (a : Algorithm) (m : List ℕ) : Type 0 where
+  pub algorithm : digest_algorithm d ≡ a
+  pub bytes : bytes_of d ≡ digest_of a m

@@ -1,0 +1,37 @@
+-- HKDF (RFC 5869).
+use Rattle.std.specs.Prelude.{ℕ, zero, suc, List, [], ◌∷◌, ◌++◌, take}
+use Rattle.ring.specs.Hmac.{KeyStandsFor, based_on, hmac_of, key_algorithm}
+use Rattle.ring.specs.Pieces.{joined_blocks}
+use Rattle.ring.specs.declared.digest.algorithm.Algorithm as digest
+use Rattle.ring.specs.declared.hkdf.algorithm.Algorithm.{Algorithm}
+use Rattle.ring.specs.declared.hkdf.prk.Prk.{Prk}
+use Rattle.ring.specs.declared.hkdf.salt.Salt.{Salt}
+
+-- T(i): T(0) is empty, T(i) is the tag of T(i - 1), the info and the byte i under the PRK k (section 2.3)
+unfoldable pub t_of : digest.Algorithm → (k info : List ℕ) → ℕ → List ℕ
+t_of a k info zero = []
+t_of a k info (suc i) = hmac_of a k (t_of a k info i ++ info ++ suc i ∷ [])
+
+-- OKM: the first n bytes of T(1) || T(2) || .. || T(255), which is all that may be asked for (section 2.3)
+unfoldable pub okm : digest.Algorithm → (k info : List ℕ) → ℕ → List ℕ
+okm a k info n = take n (joined_blocks (t_of a k info) 255)
+
+-- the digest algorithm that an HKDF algorithm is built on (section 2.1)
+abbrev pub hash_of : Algorithm → digest.Algorithm
+hash_of a = based_on a.0
+
+-- the digest algorithm of a salt
+abbrev pub salt_algorithm : Salt → digest.Algorithm
+salt_algorithm salt = key_algorithm salt.0
+
+-- the salt stands for the bytes s
+abbrev pub SaltStandsFor : Salt → List ℕ → Type 0
+SaltStandsFor salt s = KeyStandsFor salt.0 s
+
+-- the digest algorithm of a PRK
+abbrev pub prk_algorithm : Prk → digest.Algorithm
+prk_algorithm prk = key_algorithm prk.0
+
+-- the PRK stands for the bytes k
+abbrev pub PrkStandsFor : Prk → List ℕ → Type 0
+PrkStandsFor prk k = KeyStandsFor prk.0 k

@@ -1,0 +1,15 @@
+pub mod Algorithm
+pub mod Initial
+pub mod State
+pub mod Cost
+pub mod Limits
+pub mod Padding
+pub mod Digest
+pub mod Context
+pub mod Pieces
+pub mod Source
+pub mod KeyBlocks
+pub mod Hmac
+pub mod Hkdf
+pub mod Okm
+pub mod Pbkdf2

@@ -1,0 +1,73 @@
+//! Digests of messages (FIPS 180-4).
+//!
+//! [`digest`] gives the digest of a message that is there as a whole, and a [`Context`] that of a
+//! message that comes in pieces:
+//!
+//! ```
+//! let whole = digest::digest(&digest::SHA256, b"hello, world")?;
+//! let mut context = digest::Context::new(&digest::SHA256);
+//! context.update(b"hello");
+//! context.update(b", world");
+//! let pieces = context.finish()?;
+//! assert_eq!(whole.as_ref(), pieces.as_ref());
+//! ```
+
+ghost use Rattle.std.specs.Prelude.{◌≡◌, ◌↔◌, length, ◌<◌, IfOk, IsErr, OnOk, OnErr};
+ghost use Rattle.ring_core.specs.Cost.{raised};
+ghost use Rattle.ring.specs.Algorithm.{max_input_len};
+ghost use Rattle.ring.specs.Cost.{padded_blocks};
+ghost use Rattle.ring.specs.Digest.{IsDigest};
+
+use crate::limits::is_message_within;
+use ring_core::cost::Meter;
+use ring_core::error::Unspecified;
+
+pub(crate) mod algorithm;
+pub(crate) mod block_context;
+pub(crate) mod context;
+pub mod dynstate;
+mod initial;
+pub(crate) mod padding;
+pub(crate) mod value;
+
+pub use crate::digest::algorithm::{
+    Algorithm, MAX_BLOCK_LEN, MAX_CHAINING_LEN, MAX_OUTPUT_LEN, SHA1_FOR_LEGACY_USE_ONLY,
+    SHA1_OUTPUT_LEN, SHA256, SHA256_OUTPUT_LEN, SHA384, SHA384_OUTPUT_LEN, SHA512, SHA512_256,
+    SHA512_256_OUTPUT_LEN, SHA512_OUTPUT_LEN,
+};
+pub use crate::digest::context::Context;
+pub use crate::digest::dynstate::Output;
+pub use crate::digest::padding::padding_is_shortest;
+pub use crate::digest::value::Digest;
+pub use ring_core::digest::{sha1, sha2, word};
+
+/// The digest of `message`, as [`digest`] gives it, its blocks counted by `meter`.
+pub fn digest_counted(
+    algorithm: &Algorithm,
+    message: &[u8],
+    meter: &mut Meter,
+) -> Result<Digest, Unspecified>
+    ensures ok { IfOk result (λ digest. IsDigest digest algorithm.now message.now) }
+    ensures refused { IsErr result ↔ (max_input_len algorithm.now < length message.now) }
+    ensures unchanged { OnErr result (meter.new ≡ meter.old) }
+    ensures cost { OnOk result (meter.new
+        ≡ raised meter.old (padded_blocks algorithm.now (length message.now)) 0) }
+{
+    if !is_message_within(algorithm, message.len() as u128) {
+        return Err(Unspecified);
+    }
+    let mut context = Context::new(algorithm);
+    context.update_counted(message, meter);
+    context.finish_counted(meter)
+}
+
+/// The digest of `message` (FIPS 180-4, section 6).
+///
+/// Refused where the message is longer than the algorithm's `max_input_len` bytes, before any block
+/// is run.
+pub fn digest(algorithm: &Algorithm, message: &[u8]) -> Result<Digest, Unspecified>
+    ensures ok { IfOk result (λ digest. IsDigest digest algorithm.now message.now) }
+    ensures refused { IsErr result ↔ (max_input_len algorithm.now < length message.now) }
+{
+    digest_counted(algorithm, message, &mut Meter::new())
+}

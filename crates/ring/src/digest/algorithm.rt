@@ -1,0 +1,222 @@
+//! The five algorithms and their lengths.
+
+ghost use Rattle.std.specs.Prelude.{◌≡◌, ◌↔◌, ◌≤◌, ◌-◌, ℕ, IsTrue, Some, replicate};
+ghost use Rattle.ring_core.specs.Sha1 as sha1;
+ghost use Rattle.ring_core.specs.Sha2.{block_step, family_256, family_512};
+ghost use Rattle.ring.specs.Algorithm.{block_function, block_len, chaining_len, chaining_words, initial_words, is_state_of, length_len, max_input_len, name_of, output_len, row, spare_words, word_count};
+ghost use Rattle.ring.specs.Initial.{AreSquareRoots};
+
+use crate::digest::dynstate::DynState;
+use crate::digest::initial;
+use ring_core::digest::sha1::CHAINING_LEN;
+use std::fmt;
+
+/// A digest algorithm: one of the five constants below.
+#[derive(Clone, Copy, PartialEq, Eq)]
+pub struct Algorithm {
+    id: AlgorithmId,
+}
+
+#[derive(Clone, Copy, PartialEq, Eq)]
+enum AlgorithmId {
+    Sha1,
+    Sha256,
+    Sha384,
+    Sha512,
+    Sha512_256,
+}
+
+/// SHA-1 (FIPS 180-4, section 6.1), which is broken: for what must still read old data.
+pub const SHA1_FOR_LEGACY_USE_ONLY: Algorithm = Algorithm {
+    id: AlgorithmId::Sha1,
+};
+
+/// SHA-256 (FIPS 180-4, section 6.2).
+pub const SHA256: Algorithm = Algorithm {
+    id: AlgorithmId::Sha256,
+};
+
+/// SHA-384 (FIPS 180-4, section 6.5).
+pub const SHA384: Algorithm = Algorithm {
+    id: AlgorithmId::Sha384,
+};
+
+/// SHA-512 (FIPS 180-4, section 6.4).
+pub const SHA512: Algorithm = Algorithm {
+    id: AlgorithmId::Sha512,
+};
+
+/// SHA-512/256 (FIPS 180-4, section 6.7), which has initial words of its own.
+pub const SHA512_256: Algorithm = Algorithm {
+    id: AlgorithmId::Sha512_256,
+};
+
+/// The bytes of the longest block.
+pub const MAX_BLOCK_LEN: usize = 128;
+
+/// The bytes of the longest digest.
+pub const MAX_OUTPUT_LEN: usize = 64;
+
+/// The bytes of the longest chaining words.
+pub const MAX_CHAINING_LEN: usize = 64;
+
+/// The bytes of a SHA-1 digest.
+pub const SHA1_OUTPUT_LEN: usize = 20;
+
+/// The bytes of a SHA-256 digest.
+pub const SHA256_OUTPUT_LEN: usize = 32;
+
+/// The bytes of a SHA-384 digest.
+pub const SHA384_OUTPUT_LEN: usize = 48;
+
+/// The bytes of a SHA-512 digest.
+pub const SHA512_OUTPUT_LEN: usize = 64;
+
+/// The bytes of a SHA-512/256 digest.
+pub const SHA512_256_OUTPUT_LEN: usize = 32;
+
+impl Algorithm {
+    /// The length of a block in bytes.
+    pub fn block_len(&self) -> usize
+        ensures { result ≡ block_len self.now }
+    {
+        match self.id {
+            AlgorithmId::Sha1 | AlgorithmId::Sha256 => 64,
+            AlgorithmId::Sha384 | AlgorithmId::Sha512 | AlgorithmId::Sha512_256 => 128,
+        }
+    }
+
+    /// The length in bytes of the words that chain from block to block.
+    pub fn chaining_len(&self) -> usize
+        ensures { result ≡ chaining_len self.now }
+    {
+        match self.id {
+            AlgorithmId::Sha1 => CHAINING_LEN,
+            AlgorithmId::Sha256 => 32,
+            AlgorithmId::Sha384 | AlgorithmId::Sha512 | AlgorithmId::Sha512_256 => 64,
+        }
+    }
+
+    /// The length of a digest in bytes.
+    pub fn output_len(&self) -> usize
+        ensures { result ≡ output_len self.now }
+    {
+        match self.id {
+            AlgorithmId::Sha1 => SHA1_OUTPUT_LEN,
+            AlgorithmId::Sha256 => SHA256_OUTPUT_LEN,
+            AlgorithmId::Sha384 => SHA384_OUTPUT_LEN,
+            AlgorithmId::Sha512 => SHA512_OUTPUT_LEN,
+            AlgorithmId::Sha512_256 => SHA512_256_OUTPUT_LEN,
+        }
+    }
+
+    /// The length of the longest message in bytes: `2^61 - 1`, whose length in bits is the greatest
+    /// that is a whole number of bytes and fits 64 bits.
+    pub fn max_input_len(&self) -> u128
+        ensures { result ≡ max_input_len self.now }
+    {
+        (1 << 61) - 1
+    }
+
+    // The length of the padding's length field in bytes.
+    pub(crate) fn length_len(&self) -> usize
+        ensures { result ≡ length_len self.now }
+    {
+        match self.id {
+            AlgorithmId::Sha1 | AlgorithmId::Sha256 => 8,
+            AlgorithmId::Sha384 | AlgorithmId::Sha512 | AlgorithmId::Sha512_256 => 16,
+        }
+    }
+
+    // Whether the block function is that of SHA-1.
+    pub(crate) fn is_sha1(&self) -> bool
+        ensures { IsTrue result ↔ (self.now ≡ SHA1_FOR_LEGACY_USE_ONLY) }
+    {
+        *self == SHA1_FOR_LEGACY_USE_ONLY
+    }
+
+    // The state before the first block.
+    pub(crate) fn initial_state(&self) -> DynState
+        ensures words { chaining_words self.now result ≡ initial_words self.now }
+        ensures spare { spare_words self.now result ≡ replicate (8 - word_count self.now) 0 }
+        ensures sized { IsTrue (is_state_of self.now result) }
+    {
+        match self.id {
+            AlgorithmId::Sha1 => DynState::As32(initial::SHA1),
+            AlgorithmId::Sha256 => DynState::As32(initial::SHA256),
+            AlgorithmId::Sha384 => DynState::As64(initial::SHA384),
+            AlgorithmId::Sha512 => DynState::As64(initial::SHA512),
+            AlgorithmId::Sha512_256 => DynState::As64(initial::SHA512_256),
+        }
+    }
+}
+
+// Each constant is its name's row of the standard's table (FIPS 180-4, section 1, figure 1), with
+// that row's block function and initial words, and each length constant is a row's length.
+pub(crate) fn constants_are_their_rows()
+    ensures sha1 { row SHA1_FOR_LEGACY_USE_ONLY ≡ record {
+      word_len = 4;
+      block_len = 64;
+      length_len = 8;
+      output_len = SHA1_OUTPUT_LEN;
+      chaining_len = 20;
+    } }
+    ensures sha256 { row SHA256 ≡ record {
+      word_len = 4;
+      block_len = 64;
+      length_len = 8;
+      output_len = SHA256_OUTPUT_LEN;
+      chaining_len = 32;
+    } }
+    ensures sha384 { row SHA384 ≡ record {
+      word_len = 8;
+      block_len = 128;
+      length_len = 16;
+      output_len = SHA384_OUTPUT_LEN;
+      chaining_len = 64;
+    } }
+    ensures sha512 { row SHA512 ≡ record {
+      word_len = 8;
+      block_len = 128;
+      length_len = 16;
+      output_len = SHA512_OUTPUT_LEN;
+      chaining_len = 64;
+    } }
+    ensures sha512_256 { row SHA512_256 ≡ record {
+      word_len = 8;
+      block_len = 128;
+      length_len = 16;
+      output_len = SHA512_256_OUTPUT_LEN;
+      chaining_len = 64;
+    } }
+    ensures output_lens { (SHA1_OUTPUT_LEN ≡ 20) × (SHA256_OUTPUT_LEN ≡ 32)
+        × (SHA384_OUTPUT_LEN ≡ 48) × (SHA512_OUTPUT_LEN ≡ 64) × (SHA512_256_OUTPUT_LEN ≡ 32) }
+    ensures sha1_chaining_len { CHAINING_LEN ≡ 20 }
+    ensures greatest_lens { (a : Algorithm) → (block_len a ≤ MAX_BLOCK_LEN)
+        × (output_len a ≤ MAX_OUTPUT_LEN) × (chaining_len a ≤ MAX_CHAINING_LEN) }
+    ensures greatest_are_sha512s { (block_len SHA512 ≡ MAX_BLOCK_LEN)
+        × (output_len SHA512 ≡ MAX_OUTPUT_LEN) × (chaining_len SHA512 ≡ MAX_CHAINING_LEN) }
+    ensures sha1_blocks { block_function SHA1_FOR_LEGACY_USE_ONLY ≡ sha1.block_step }
+    ensures short_blocks { block_function SHA256 ≡ block_step family_256 }
+    ensures long_blocks { (block_function SHA384 ≡ block_step family_512)
+        × (block_function SHA512 ≡ block_step family_512)
+        × (block_function SHA512_256 ≡ block_step family_512) }
+    ensures sha256_words { AreSquareRoots 32 0 (initial_words SHA256) }
+    ensures sha384_words { AreSquareRoots 64 8 (initial_words SHA384) }
+    ensures sha512_words { AreSquareRoots 64 0 (initial_words SHA512) }
+{}
+
+impl fmt::Debug for Algorithm {
+    ghost debug_output = { λ a. Some (name_of a) };
+
+    fn fmt<W: fmt::Write>(&self, f: &mut fmt::Formatter<W>) -> fmt::Result {
+        let name = match self.id {
+            AlgorithmId::Sha1 => "SHA1",
+            AlgorithmId::Sha256 => "SHA256",
+            AlgorithmId::Sha384 => "SHA384",
+            AlgorithmId::Sha512 => "SHA512",
+            AlgorithmId::Sha512_256 => "SHA512_256",
+        };
+        f.write_str(name)
+    }
+}

@@ -1,0 +1,132 @@
+//! A context of whole blocks.
+
+ghost use Rattle.std.specs.Prelude.{◌≡◌, ◌↔◌, ℕ, ◌+◌, ◌*◌, ◌<◌, List, [], ◌++◌, length, take, drop, IsTrue, IfOk, IsErr, OnOk, OnErr};
+ghost use Rattle.ring_core.specs.Chunks.{chained};
+ghost use Rattle.ring_core.specs.Cost.{raised};
+ghost use Rattle.ring.specs.Algorithm.{block_function, block_len, chaining_words, is_state_of, max_input_len, spare_words};
+ghost use Rattle.ring.specs.Cost.{padded_blocks, whole_blocks};
+ghost use Rattle.ring.specs.Digest.{IsDigest, digest_algorithm};
+
+use crate::digest::algorithm::{Algorithm, MAX_BLOCK_LEN};
+use crate::digest::dynstate::DynState;
+use crate::digest::padding;
+use crate::digest::value::Digest;
+use crate::limits::is_message_within;
+use ring_core::cost::Meter;
+use ring_core::digest::sha1::sha1_block_data_order_counted;
+use ring_core::digest::sha2::{block_data_order_32_counted, block_data_order_64_counted};
+use ring_core::error::Unspecified;
+use ring_core::polyfill::slice::as_chunks;
+
+#[cfg(test)]
+mod tests;
+
+// The state after each whole block of `input`, and what comes after the last one.
+fn run_blocks<'i>(
+    algorithm: Algorithm,
+    state: DynState,
+    input: &'i [u8],
+    meter: &mut Meter,
+) -> (DynState, &'i [u8])
+    requires { IsTrue (is_state_of algorithm state) }
+    ensures words { chaining_words algorithm result.0 ≡ chained (block_function algorithm)
+        (block_len algorithm) (chaining_words algorithm state) input.now
+        (whole_blocks algorithm (length input.now)) }
+    ensures spare { spare_words algorithm result.0 ≡ spare_words algorithm state }
+    ensures sized { IsTrue (is_state_of algorithm result.0) }
+    ensures rest { result.1.now
+        ≡ drop (whole_blocks algorithm (length input.now) * block_len algorithm) input.now }
+    ensures cost { meter.new
+        ≡ raised meter.old (whole_blocks algorithm (length input.now)) 0 }
+{
+    match state {
+        DynState::As64(mut words) => {
+            let (blocks, rest) = as_chunks::<u8, 128>(input);
+            block_data_order_64_counted(&mut words, blocks, meter);
+            (DynState::As64(words), rest)
+        }
+        DynState::As32(mut words) => {
+            let (blocks, rest) = as_chunks::<u8, 64>(input);
+            if algorithm.is_sha1() {
+                sha1_block_data_order_counted(&mut words, blocks, meter);
+            } else {
+                block_data_order_32_counted(&mut words, blocks, meter);
+            }
+            (DynState::As32(words), rest)
+        }
+    }
+}
+
+// The state after the whole blocks so far, and their number of bytes, cut off at `u64::MAX`.
+#[derive(Drop)]
+pub(crate) struct BlockContext {
+    state: DynState,
+    completed_bytes: u64,
+    pub(crate) algorithm: Algorithm,
+    ghost sized: { IsTrue (is_state_of algorithm state) },
+}
+
+impl BlockContext {
+    ghost use Rattle.ring.specs.Context.{HasMoved, HasTaken, block_algorithm, counted_bytes, cut_off};
+
+    pub(crate) fn new(algorithm: &Algorithm) -> Self
+        ensures stands { HasTaken result [] }
+        ensures algorithm { block_algorithm result ≡ algorithm.now }
+        ensures counted { counted_bytes result ≡ 0 }
+    {
+        BlockContext {
+            state: algorithm.initial_state(),
+            completed_bytes: 0,
+            algorithm: *algorithm,
+        }
+    }
+
+    pub(crate) fn clone(&self) -> Self
+        ensures { result ≡ self.now }
+    {
+        BlockContext {
+            state: self.state,
+            completed_bytes: self.completed_bytes,
+            algorithm: self.algorithm,
+        }
+    }
+
+    // Takes in the whole blocks of `input`, and gives the rest.
+    pub(crate) fn update<'i>(&mut self, input: &'i [u8], meter: &mut Meter) -> &'i [u8]
+        ensures moved { HasMoved (block_len (block_algorithm self.old)) self.old self.new
+            input.now result.now meter.old meter.new }
+        ensures short { length result.now < block_len (block_algorithm self.old) }
+    {
+        let (state, rest) = run_blocks(self.algorithm, self.state, input, meter);
+        let completed = (input.len() - rest.len()) as u64;
+        self.state = state;
+        self.completed_bytes = self.completed_bytes.saturating_add(completed);
+        rest
+    }
+
+    // The digest of the blocks and the pending bytes, which are the front of `block`.
+    pub(crate) fn try_finish(
+        self,
+        block: [u8; MAX_BLOCK_LEN],
+        num_pending: usize,
+        meter: &mut Meter,
+    ) -> Result<Digest, Unspecified>
+        requires { num_pending < block_len (block_algorithm self) }
+        ensures ok { IfOk result (λ digest. (p : List ℕ) → HasTaken self p
+            → IsDigest digest (block_algorithm self) (p ++ take num_pending block)) }
+        ensures refused { IsErr result
+            ↔ (max_input_len (block_algorithm self) < cut_off (counted_bytes self + num_pending)) }
+        ensures unchanged { OnErr result (meter.new ≡ meter.old) }
+        ensures cost { OnOk result (meter.new
+            ≡ raised meter.old (padded_blocks (block_algorithm self) num_pending) 0) }
+        ensures algorithm { IfOk result (λ digest. digest_algorithm digest ≡ block_algorithm self) }
+    {
+        let message_len = self.completed_bytes.saturating_add(num_pending as u64);
+        if !is_message_within(&self.algorithm, message_len as u128) {
+            return Err(Unspecified);
+        }
+        let (tail, len) = padding::tail(self.algorithm, &block[..num_pending], message_len);
+        let (last, _) = run_blocks(self.algorithm, self.state, &tail[..len], meter);
+        Ok(Digest::new(last.format_output(), self.algorithm))
+    }
+}

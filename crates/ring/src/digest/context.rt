@@ -1,0 +1,180 @@
+//! A context for a message in pieces.
+
+ghost use Rattle.std.specs.Prelude.{◌≡◌, ◌↔◌, ℕ, ◌+◌, ◌-◌, ◌%◌, ◌<◌, ◌≤◌, List, [], ◌++◌, length, IfOk, IsErr, OnOk, OnErr};
+ghost use Rattle.ring_core.specs.Cost.{raised};
+ghost use Rattle.ring.specs.Algorithm.{block_len, max_input_len};
+ghost use Rattle.ring.specs.Cost.{last_blocks, padded_blocks, whole_blocks};
+ghost use Rattle.ring.specs.Digest.{IsDigest, digest_algorithm};
+
+use crate::digest::algorithm::{Algorithm, MAX_BLOCK_LEN};
+use crate::digest::block_context::BlockContext;
+use crate::digest::value::Digest;
+use ring_core::cost::Meter;
+use ring_core::error::Unspecified;
+
+/// The digest of a message that comes in pieces: it stands for an algorithm and the joined pieces.
+#[derive(Drop)]
+pub struct Context {
+    block: BlockContext,
+    pending: [u8; MAX_BLOCK_LEN],
+    num_pending: usize,
+    ghost partial: { num_pending < block_len block.algorithm },
+}
+
+impl Context {
+    ghost use Rattle.ring.specs.Context.{HasMoved, HasTaken, StandsFor, block_algorithm, context_algorithm, counted_bytes, cut_off, message_len, pending_bytes, pending_len};
+
+    /// A context of the empty message. No block is run.
+    pub fn new(algorithm: &Algorithm) -> Self
+        ensures stands { StandsFor result [] }
+        ensures algorithm { context_algorithm result ≡ algorithm.now }
+        ensures counted { message_len result ≡ 0 }
+        ensures pending { pending_len result ≡ 0 }
+    {
+        Context::resume(BlockContext::new(algorithm))
+    }
+
+    // A context of the whole blocks that `block` has taken in.
+    pub(crate) fn resume(block: BlockContext) -> Self
+        ensures stands { (p : List ℕ) → HasTaken block p → StandsFor result p }
+        ensures algorithm { context_algorithm result ≡ block_algorithm block }
+        ensures counted { message_len result ≡ counted_bytes block }
+        ensures pending { pending_len result ≡ 0 }
+    {
+        Context {
+            block,
+            pending: [0; MAX_BLOCK_LEN],
+            num_pending: 0,
+        }
+    }
+
+    /// The same context: a copy that goes on by itself.
+    pub fn clone(&self) -> Self
+        ensures { result ≡ self.now }
+    {
+        Context {
+            block: self.block.clone(),
+            pending: self.pending,
+            num_pending: self.num_pending,
+        }
+    }
+
+    /// The algorithm of the digest.
+    pub fn algorithm(&self) -> Algorithm
+        ensures { result ≡ context_algorithm self.now }
+    {
+        self.block.algorithm
+    }
+
+    /// Adds `input` to the message, as [`Context::update`] does, its blocks counted by `meter`.
+    pub fn update_counted(&mut self, input: &[u8], meter: &mut Meter)
+        ensures stands { (m : List ℕ) → StandsFor self.old m → StandsFor self.new (m ++ input.now) }
+        ensures cost { meter.new ≡ raised meter.old (whole_blocks
+            (context_algorithm self.old) (pending_len self.old + length input.now)) 0 }
+        ensures cost_of { (m : List ℕ) → StandsFor self.old m → meter.new ≡ raised meter.old
+            (whole_blocks (context_algorithm self.old) (length m + length input.now)
+            - whole_blocks (context_algorithm self.old) (length m)) 0 }
+        ensures algorithm { context_algorithm self.new ≡ context_algorithm self.old }
+        ensures counted { message_len self.new ≡ cut_off (message_len self.old + length input.now) }
+        ensures pending { pending_len self.new ≡
+            (pending_len self.old + length input.now) % block_len (context_algorithm self.old) }
+    {
+        if input.len() < self.room() {
+            self.keep(input);
+            return;
+        }
+        let rest = self.complete_pending(input, meter);
+        let leftover = self.block.update(rest, meter);
+        self.keep(leftover);
+    }
+
+    // How many bytes the pending block has room for.
+    fn room(&self) -> usize
+        ensures { result ≡ block_len (context_algorithm self.now) - pending_len self.now }
+    {
+        self.algorithm().block_len() - self.num_pending
+    }
+
+    // Adds bytes that leave the pending block short.
+    fn keep(&mut self, bytes: &[u8])
+        requires { pending_len self.old + length bytes.now
+            < block_len (context_algorithm self.old) }
+        ensures block { self.new.block ≡ self.old.block }
+        ensures count { pending_len self.new ≡ pending_len self.old + length bytes.now }
+        ensures pending { pending_bytes self.new ≡ pending_bytes self.old ++ bytes.now }
+    {
+        let end = self.num_pending + bytes.len();
+        let mut pending = self.pending;
+        pending[self.num_pending..end].copy_from_slice(bytes);
+        self.pending = pending;
+        self.num_pending = end;
+    }
+
+    // Completes and runs the pending block, where one was begun, and gives the rest of `input`.
+    fn complete_pending<'i>(&mut self, input: &'i [u8], meter: &mut Meter) -> &'i [u8]
+        requires { block_len (context_algorithm self.old)
+            ≤ pending_len self.old + length input.now }
+        ensures empty { pending_len self.new ≡ 0 }
+        ensures moved { HasMoved (block_len (context_algorithm self.old))
+            self.old.block self.new.block (pending_bytes self.old ++ input.now) result.now
+            meter.old meter.new }
+    {
+        if self.num_pending == 0 {
+            return input;
+        }
+        let block_len = self.block.algorithm.block_len();
+        let (head, rest) = input.split_at(self.room());
+        let mut block = self.pending;
+        block[self.num_pending..block_len].copy_from_slice(head);
+        let _ = self.block.update(&block[..block_len], meter);
+        self.num_pending = 0;
+        rest
+    }
+
+    /// Adds `input` to the message, and runs each block as soon as it is complete. It never fails:
+    /// `finish` tells where the message is too long.
+    pub fn update(&mut self, input: &[u8])
+        ensures stands { (m : List ℕ) → StandsFor self.old m → StandsFor self.new (m ++ input.now) }
+        ensures algorithm { context_algorithm self.new ≡ context_algorithm self.old }
+        ensures counted { message_len self.new ≡ cut_off (message_len self.old + length input.now) }
+        ensures pending { pending_len self.new ≡
+            (pending_len self.old + length input.now) % block_len (context_algorithm self.old) }
+    {
+        self.update_counted(input, &mut Meter::new());
+    }
+
+    /// The digest of the message, as [`Context::finish`] gives it, its blocks counted by `meter`.
+    pub fn finish_counted(self, meter: &mut Meter) -> Result<Digest, Unspecified>
+        ensures ok { (m : List ℕ) → StandsFor self m
+            → IfOk result (λ digest. IsDigest digest (context_algorithm self) m) }
+        ensures refused { IsErr result
+            ↔ (max_input_len (context_algorithm self) < message_len self) }
+        ensures refused_of { (m : List ℕ) → StandsFor self m
+            → IsErr result ↔ (max_input_len (context_algorithm self) < length m) }
+        ensures unchanged { OnErr result (meter.new ≡ meter.old) }
+        ensures cost { OnOk result (meter.new
+            ≡ raised meter.old (padded_blocks (context_algorithm self) (pending_len self)) 0) }
+        ensures cost_of { (m : List ℕ) → StandsFor self m → OnOk result (meter.new
+            ≡ raised meter.old (last_blocks (context_algorithm self) (length m)) 0) }
+        ensures algorithm { IfOk result (λ digest.
+            digest_algorithm digest ≡ context_algorithm self) }
+    {
+        self.block.try_finish(self.pending, self.num_pending, meter)
+    }
+
+    /// The digest of the message (FIPS 180-4, section 6).
+    ///
+    /// Refused where the message is longer than the algorithm's `max_input_len` bytes.
+    pub fn finish(self) -> Result<Digest, Unspecified>
+        ensures ok { (m : List ℕ) → StandsFor self m
+            → IfOk result (λ digest. IsDigest digest (context_algorithm self) m) }
+        ensures refused { IsErr result
+            ↔ (max_input_len (context_algorithm self) < message_len self) }
+        ensures refused_of { (m : List ℕ) → StandsFor self m
+            → IsErr result ↔ (max_input_len (context_algorithm self) < length m) }
+        ensures algorithm { IfOk result (λ digest.
+            digest_algorithm digest ≡ context_algorithm self) }
+    {
+        self.finish_counted(&mut Meter::new())
+    }
+}

@@ -1,0 +1,58 @@
+//! The last block or blocks of a message (FIPS 180-4, section 5.1).
+
+ghost use Rattle.std.specs.Prelude.{◌≡◌, ℕ, ◌-◌, ◌*◌, ◌^◌, ◌<◌, ◌≤◌, List, length, take};
+ghost use Rattle.std.specs.Int.{bytes_high_first};
+ghost use Rattle.ring.specs.Algorithm.{block_len};
+ghost use Rattle.ring.specs.Cost.{padded_blocks};
+ghost use Rattle.ring.specs.Padding.{IsPadded, padded, tail_of};
+ghost use Rattle.ring.specs.declared.digest.algorithm.Algorithm.{Algorithm};
+
+use crate::digest::algorithm::{Algorithm, MAX_BLOCK_LEN};
+use ring_core::bits::{BitLength, FromByteLen};
+
+// The bit 1 that ends every message, and the first seven of the zeros behind it.
+const END_OF_MESSAGE: u8 = 0x80;
+
+// The padding takes no more than one block past the pending one.
+pub(crate) const MAX_TAIL_LEN: usize = 2 * MAX_BLOCK_LEN;
+
+// What follows the whole blocks of a message of `message_len` bytes, and how many bytes that is:
+// the pending bytes, the byte 0x80, zeros, and the length in bits.
+pub(crate) fn tail(
+    algorithm: Algorithm,
+    pending: &[u8],
+    message_len: u64,
+) -> ([u8; MAX_TAIL_LEN], usize)
+    requires partial { length pending.now < block_len algorithm }
+    requires fits { message_len < 2 ^ 61 }
+    ensures len { result.1 ≡ padded_blocks algorithm (length pending.now) * block_len algorithm }
+    ensures bytes { take result.1 result.0 ≡ tail_of algorithm pending.now message_len }
+{
+    let block_len = algorithm.block_len();
+    let blocks = (pending.len() + algorithm.length_len()) / block_len + 1;
+    let len = blocks * block_len;
+    let mut bytes = [0u8; MAX_TAIL_LEN];
+    bytes[..pending.len()].copy_from_slice(pending);
+    bytes[pending.len()] = END_OF_MESSAGE;
+    let bit_len = bit_len_field(message_len);
+    bytes[len - bit_len.len()..len].copy_from_slice(&bit_len);
+    (bytes, len)
+}
+
+// The length of the message in bits, high byte first.
+fn bit_len_field(message_len: u64) -> [u8; 8]
+    requires { message_len < 2 ^ 61 }
+    ensures { result ≡ bytes_high_first 8 (8 * message_len) }
+{
+    match BitLength::<u64>::from_byte_len(message_len) {
+        Ok(bit_len) => bit_len.to_be_bytes(),
+        // Eight times a number below 2^61 fits 64 bits.
+        Err(_) => unreachable!(),
+    }
+}
+
+/// The law of the padding: for each algorithm and message it is the shortest list of the standard's
+/// form that is whole blocks (FIPS 180-4, sections 5.1.1 and 5.1.2).
+pub fn padding_is_shortest()
+    ensures { (a : Algorithm) (m : List ℕ) → IsPadded a m (padded a m) }
+{}

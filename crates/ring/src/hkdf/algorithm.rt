@@ -1,0 +1,50 @@
+//! The four algorithms.
+
+ghost use Rattle.std.specs.Prelude.{◌≡◌};
+ghost use Rattle.ring.specs.Hkdf.{hash_of};
+ghost use Rattle.ring.specs.Hmac.{based_on};
+
+use crate::digest::algorithm::{SHA1_FOR_LEGACY_USE_ONLY, SHA256, SHA384, SHA512};
+use crate::hmac::algorithm::{
+    self as hmac, HMAC_SHA1_FOR_LEGACY_USE_ONLY, HMAC_SHA256, HMAC_SHA384, HMAC_SHA512,
+};
+
+/// An HKDF algorithm: one of the four constants below, each HKDF over an HMAC algorithm.
+#[derive(Clone, Copy, PartialEq, Eq, Debug)]
+pub struct Algorithm(hmac::Algorithm);
+
+/// HKDF over HMAC-SHA-1: for what must still read old data.
+pub const HKDF_SHA1_FOR_LEGACY_USE_ONLY: Algorithm = Algorithm(HMAC_SHA1_FOR_LEGACY_USE_ONLY);
+
+/// HKDF over HMAC-SHA-256.
+pub const HKDF_SHA256: Algorithm = Algorithm(HMAC_SHA256);
+
+/// HKDF over HMAC-SHA-384.
+pub const HKDF_SHA384: Algorithm = Algorithm(HMAC_SHA384);
+
+/// HKDF over HMAC-SHA-512.
+pub const HKDF_SHA512: Algorithm = Algorithm(HMAC_SHA512);
+
+impl Algorithm {
+    // HKDF over `hmac_algorithm`.
+    pub(crate) fn over(hmac_algorithm: hmac::Algorithm) -> Self
+        ensures { hash_of result ≡ based_on hmac_algorithm }
+    {
+        Algorithm(hmac_algorithm)
+    }
+
+    /// The HMAC algorithm that it runs, whose lengths are its own.
+    pub fn hmac_algorithm(&self) -> hmac::Algorithm
+        ensures { based_on result ≡ hash_of self.now }
+    {
+        self.0
+    }
+}
+
+// Each constant is HKDF over the digest algorithm of its name.
+pub(crate) fn constants_are_built_on_their_digests()
+    ensures sha1 { hash_of HKDF_SHA1_FOR_LEGACY_USE_ONLY ≡ SHA1_FOR_LEGACY_USE_ONLY }
+    ensures sha256 { hash_of HKDF_SHA256 ≡ SHA256 }
+    ensures sha384 { hash_of HKDF_SHA384 ≡ SHA384 }
+    ensures sha512 { hash_of HKDF_SHA512 ≡ SHA512 }
+{}

@@ -1,0 +1,57 @@
+//! Keys, salts and PRKs made of outputs.
+
+ghost use Rattle.ring.specs.Hkdf.{PrkStandsFor, SaltStandsFor, hash_of, prk_algorithm, salt_algorithm};
+ghost use Rattle.ring.specs.Hmac.{KeyStandsFor, based_on, key_algorithm};
+ghost use Rattle.ring.specs.Okm.{IsMadeOf, carried};
+
+use crate::hkdf::algorithm::Algorithm;
+use crate::hkdf::okm::Okm;
+use crate::hkdf::prk::Prk;
+use crate::hkdf::salt::Salt;
+use crate::hmac::{self, Key};
+use ring_core::error::Unspecified;
+
+/// The key of the HMAC algorithm that the output carries, whose value is the whole output.
+///
+/// Refused where [`Okm::fill`] would refuse the info.
+impl TryFrom<Okm<'_, hmac::Algorithm>> for Key {
+    type Error = Unspecified;
+
+    ghost try_from_gives = { λ output result.
+        IsMadeOf output (based_on (carried output)) key_algorithm KeyStandsFor result };
+
+    fn try_from(output: Okm<'_, hmac::Algorithm>) -> Result<Key, Unspecified> {
+        let algorithm = *output.len();
+        output.into_key(algorithm)
+    }
+}
+
+/// The salt of the HKDF algorithm that the output carries, whose value is the whole output.
+///
+/// Refused where [`Okm::fill`] would refuse the info.
+impl TryFrom<Okm<'_, Algorithm>> for Salt {
+    type Error = Unspecified;
+
+    ghost try_from_gives = { λ output result.
+        IsMadeOf output (hash_of (carried output)) salt_algorithm SaltStandsFor result };
+
+    fn try_from(output: Okm<'_, Algorithm>) -> Result<Salt, Unspecified> {
+        let algorithm = output.len().hmac_algorithm();
+        Ok(Salt(output.into_key(algorithm)?))
+    }
+}
+
+/// The PRK of the HKDF algorithm that the output carries, whose value is the whole output.
+///
+/// Refused where [`Okm::fill`] would refuse the info.
+impl TryFrom<Okm<'_, Algorithm>> for Prk {
+    type Error = Unspecified;
+
+    ghost try_from_gives = { λ output result.
+        IsMadeOf output (hash_of (carried output)) prk_algorithm PrkStandsFor result };
+
+    fn try_from(output: Okm<'_, Algorithm>) -> Result<Prk, Unspecified> {
+        let algorithm = output.len().hmac_algorithm();
+        Ok(Prk(output.into_key(algorithm)?))
+    }
+}

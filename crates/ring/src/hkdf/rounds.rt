@@ -1,0 +1,67 @@
+//! The rounds of an output (RFC 5869, section 2.3).
+
+ghost use Rattle.std.specs.Prelude.{◌≡◌, ◌+◌, ◌≤◌, ℕ, List, [], ◌∷◌, ◌++◌, length, take, drop};
+ghost use Rattle.ring_core.specs.Cost.{raised};
+ghost use Rattle.ring.specs.Cost.{fill_blocks, padded_blocks};
+ghost use Rattle.ring.specs.Hkdf.{okm};
+ghost use Rattle.ring.specs.Hmac.{IsTag, KeyStandsFor, key_algorithm, tag_algorithm};
+ghost use Rattle.ring.specs.Limits.{IsInfoWithin, IsOutputWithin, IsTagWithin};
+ghost use Rattle.ring.specs.Pieces.{joined};
+
+use crate::hmac::{Context, Key, Tag};
+use ring_core::cost::Meter;
+
+// T(number): the tag of the round before, the info and the number.
+fn round(key: &Key, previous: &[u8], info: &[&[u8]], number: u8, meter: &mut Meter) -> Tag
+    requires { IsTagWithin
+        (key_algorithm key.now) (length previous.now + length (joined info.now) + 1) }
+    ensures ok { (k : List ℕ) → KeyStandsFor key.now k → IsTag
+        result (key_algorithm key.now) k (previous.now ++ joined info.now ++ number ∷ []) }
+    ensures cost { meter.new ≡ raised meter.old (padded_blocks
+        (key_algorithm key.now) (length previous.now + length (joined info.now) + 1) + 1) 0 }
+    ensures algorithm { tag_algorithm result ≡ key_algorithm key.now }
+{
+    let mut context = Context::with_key(key);
+    context.update_counted(previous, meter);
+    for piece in info {
+        context.update_counted(piece, meter);
+    }
+    context.update_counted(&[number], meter);
+    match context.sign_counted(meter) {
+        Ok(tag) => tag,
+        // The caller has tested the lengths.
+        Err(_) => unreachable!(),
+    }
+}
+
+// Writes the bytes from the place `at` on.
+fn write_at(out: &mut [u8], at: usize, bytes: &[u8])
+    requires { at + length bytes.now ≤ length out.old }
+    ensures { out.new ≡ take at out.old ++ bytes.now ++ drop (at + length bytes.now) out.old }
+{
+    out[at..at + bytes.len()].copy_from_slice(bytes);
+}
+
+// Writes the whole output, one tag after another and a front of the last.
+pub(crate) fn write_output(key: &Key, info: &[&[u8]], out: &mut [u8], meter: &mut Meter)
+    requires output { IsOutputWithin (key_algorithm key.now) (length out.old) }
+    requires info { IsInfoWithin
+        (key_algorithm key.now) (length (joined info.now)) (length out.old) }
+    ensures ok { (k : List ℕ) → KeyStandsFor key.now k
+        → out.new ≡ okm (key_algorithm key.now) k (joined info.now) (length out.old) }
+    ensures cost { meter.new ≡ raised meter.old
+        (fill_blocks (key_algorithm key.now) (length (joined info.now)) (length out.old)) 0 }
+{
+    let output_len = key.algorithm().digest_algorithm().output_len();
+    let mut rounds = 0u8;
+    let mut tag = round(key, &[], info, rounds + 1, meter);
+    let mut written = 0;
+    while out.len() - written > output_len {
+        write_at(out, written, tag.as_ref());
+        written += output_len;
+        rounds += 1;
+        tag = round(key, tag.as_ref(), info, rounds + 1, meter);
+    }
+    let rest = out.len() - written;
+    write_at(out, written, &tag.as_ref()[..rest]);
+}

@@ -1,0 +1,117 @@
+//! Tags of messages under keys: HMAC (RFC 2104).
+//!
+//! A [`Key`] is made once and then signs and verifies any number of messages. [`sign`] gives the
+//! tag of a message that is there as a whole, a [`Context`] that of a message that comes in pieces,
+//! and [`verify`] tests a tag:
+//!
+//! ```
+//! let key = hmac::Key::new(hmac::HMAC_SHA256, b"Jefe")?;
+//! let tag = hmac::sign(&key, b"hello, world")?;
+//! hmac::verify(&key, b"hello, world", tag.as_ref())?;
+//!
+//! let mut context = hmac::Context::with_key(&key);
+//! context.update(b"hello");
+//! context.update(b", world");
+//! assert_eq!(tag.as_ref(), context.sign()?.as_ref());
+//! ```
+
+ghost use Rattle.std.specs.Prelude.{◌≡◌, ◌↔◌, ℕ, ◌+◌, ◌<◌, List, length, IfOk, IsOk, IsErr, OnOk, OnErr};
+ghost use Rattle.ring_core.specs.Cost.{compared_pairs, raised};
+ghost use Rattle.ring.specs.Algorithm.{block_len, max_input_len, output_len};
+ghost use Rattle.ring.specs.Cost.{padded_blocks};
+ghost use Rattle.ring.specs.Hmac.{IsTag, KeyStandsFor, hmac_of, key_algorithm, tag_algorithm};
+ghost use Rattle.ring.specs.Limits.{IsTagWithin};
+
+use crate::limits::is_tag_within;
+use ring_core::bb::verify_slices_are_equal_counted;
+use ring_core::cost::Meter;
+use ring_core::error::Unspecified;
+
+pub(crate) mod algorithm;
+pub(crate) mod context;
+pub(crate) mod key;
+pub(crate) mod tag;
+
+pub use crate::hmac::algorithm::{
+    Algorithm, HMAC_SHA1_FOR_LEGACY_USE_ONLY, HMAC_SHA256, HMAC_SHA384, HMAC_SHA512,
+};
+pub use crate::hmac::context::Context;
+pub use crate::hmac::key::Key;
+pub use crate::hmac::tag::Tag;
+
+/// The tag of `message`, as [`sign`] gives it, its blocks counted by `meter`.
+pub fn sign_counted(key: &Key, message: &[u8], meter: &mut Meter) -> Result<Tag, Unspecified>
+    ensures ok { (k : List ℕ) → KeyStandsFor key.now k
+        → IfOk result (λ tag. IsTag tag (key_algorithm key.now) k message.now) }
+    ensures refused { IsErr result
+        ↔ (max_input_len (key_algorithm key.now)
+        < block_len (key_algorithm key.now) + length message.now) }
+    ensures unchanged { OnErr result (meter.new ≡ meter.old) }
+    ensures cost { OnOk result (meter.new
+        ≡ raised meter.old (padded_blocks (key_algorithm key.now) (length message.now) + 1) 0) }
+    ensures algorithm { IfOk result (λ tag. tag_algorithm tag ≡ key_algorithm key.now) }
+{
+    if !is_tag_within(&key.algorithm().digest_algorithm(), message.len() as u128) {
+        return Err(Unspecified);
+    }
+    let mut context = Context::with_key(key);
+    context.update_counted(message, meter);
+    context.sign_counted(meter)
+}
+
+/// The tag of `message` under `key` (RFC 2104, section 2), as many bytes as the algorithm's digests
+/// have.
+///
+/// Refused where one block and the message together are longer than the digest algorithm's
+/// `max_input_len` bytes, before any block is run.
+pub fn sign(key: &Key, message: &[u8]) -> Result<Tag, Unspecified>
+    ensures ok { (k : List ℕ) → KeyStandsFor key.now k
+        → IfOk result (λ tag. IsTag tag (key_algorithm key.now) k message.now) }
+    ensures refused { IsErr result
+        ↔ (max_input_len (key_algorithm key.now)
+        < block_len (key_algorithm key.now) + length message.now) }
+    ensures algorithm { IfOk result (λ tag. tag_algorithm tag ≡ key_algorithm key.now) }
+{
+    sign_counted(key, message, &mut Meter::new())
+}
+
+/// Tests a tag, as [`verify`] does, its blocks and its pairs of bytes counted by `meter`: as many
+/// at a mismatch as at a match, but no pair where the tag's length is wrong.
+pub fn verify_counted(
+    key: &Key,
+    message: &[u8],
+    tag: &[u8],
+    meter: &mut Meter,
+) -> Result<(), Unspecified>
+    ensures ok { (k : List ℕ) → KeyStandsFor key.now k → IsOk result
+        ↔ (IsTagWithin (key_algorithm key.now) (length message.now)
+        × (tag.now ≡ hmac_of (key_algorithm key.now) k message.now)) }
+    ensures refused { max_input_len (key_algorithm key.now)
+        < block_len (key_algorithm key.now) + length message.now
+        → IsErr result }
+    ensures unchanged { max_input_len (key_algorithm key.now)
+        < block_len (key_algorithm key.now) + length message.now
+        → meter.new ≡ meter.old }
+    ensures cost { IsTagWithin (key_algorithm key.now) (length message.now)
+        → meter.new ≡ raised meter.old
+        (padded_blocks (key_algorithm key.now) (length message.now) + 1)
+        (compared_pairs (output_len (key_algorithm key.now)) (length tag.now)) }
+{
+    let made = sign_counted(key, message, meter)?;
+    verify_slices_are_equal_counted(made.as_ref(), tag, meter)
+}
+
+/// Ok exactly where `tag` is the whole tag of `message` under `key`: a front of it isn't enough.
+///
+/// Refused where [`sign`] would refuse the message, before any block is run, and where `tag` is
+/// another list of bytes, once its tag was made and compared.
+pub fn verify(key: &Key, message: &[u8], tag: &[u8]) -> Result<(), Unspecified>
+    ensures ok { (k : List ℕ) → KeyStandsFor key.now k → IsOk result
+        ↔ (IsTagWithin (key_algorithm key.now) (length message.now)
+        × (tag.now ≡ hmac_of (key_algorithm key.now) k message.now)) }
+    ensures refused { max_input_len (key_algorithm key.now)
+        < block_len (key_algorithm key.now) + length message.now
+        → IsErr result }
+{
+    verify_counted(key, message, tag, &mut Meter::new())
+}

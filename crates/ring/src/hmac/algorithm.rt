@@ -1,0 +1,58 @@
+//! The four algorithms.
+
+ghost use Rattle.std.specs.Prelude.{◌≡◌, ◌++◌, Some, codes};
+ghost use Rattle.ring.specs.Algorithm.{name_of};
+ghost use Rattle.ring.specs.Hmac.{based_on};
+
+use crate::digest::algorithm::{self as digest, SHA1_FOR_LEGACY_USE_ONLY, SHA256, SHA384, SHA512};
+use std::fmt;
+
+/// An HMAC algorithm: one of the four constants below, each HMAC over a digest algorithm.
+#[derive(Clone, Copy, PartialEq, Eq)]
+pub struct Algorithm(digest::Algorithm);
+
+/// HMAC over SHA-1: for what must still read old data.
+pub const HMAC_SHA1_FOR_LEGACY_USE_ONLY: Algorithm = Algorithm(SHA1_FOR_LEGACY_USE_ONLY);
+
+/// HMAC over SHA-256.
+pub const HMAC_SHA256: Algorithm = Algorithm(SHA256);
+
+/// HMAC over SHA-384.
+pub const HMAC_SHA384: Algorithm = Algorithm(SHA384);
+
+/// HMAC over SHA-512.
+pub const HMAC_SHA512: Algorithm = Algorithm(SHA512);
+
+impl Algorithm {
+    // HMAC over `digest_algorithm`.
+    pub(crate) fn over(digest_algorithm: digest::Algorithm) -> Self
+        ensures { based_on result ≡ digest_algorithm }
+    {
+        Algorithm(digest_algorithm)
+    }
+
+    /// The digest algorithm that it runs twice, whose lengths are its own.
+    pub fn digest_algorithm(&self) -> digest::Algorithm
+        ensures { result ≡ based_on self.now }
+    {
+        self.0
+    }
+}
+
+// Each constant is HMAC over the digest algorithm of its name.
+pub(crate) fn constants_are_based_on_their_digests()
+    ensures sha1 { based_on HMAC_SHA1_FOR_LEGACY_USE_ONLY ≡ SHA1_FOR_LEGACY_USE_ONLY }
+    ensures sha256 { based_on HMAC_SHA256 ≡ SHA256 }
+    ensures sha384 { based_on HMAC_SHA384 ≡ SHA384 }
+    ensures sha512 { based_on HMAC_SHA512 ≡ SHA512 }
+{}
+
+/// The name of the digest algorithm, as in `Algorithm(SHA256)`.
+impl fmt::Debug for Algorithm {
+    ghost debug_output = { λ a. Some (codes "Algorithm(" ++ name_of (based_on a) ++ codes ")") };
+
+    fn fmt<W: fmt::Write>(&self, f: &mut fmt::Formatter<W>) -> fmt::Result {
+        let algorithm = self.0;
+        write!(f, "Algorithm({algorithm:?})")
+    }
+}

@@ -1,0 +1,137 @@
+//! A context for a message in pieces.
+
+ghost use Rattle.std.specs.Prelude.{◌≡◌, ◌↔◌, ℕ, ◌+◌, ◌-◌, ◌%◌, ◌<◌, ◌≤◌, List, [], ◌++◌, Some, codes, length, IfOk, IsErr, OnOk, OnErr};
+ghost use Rattle.ring_core.specs.Cost.{raised};
+ghost use Rattle.ring.specs.Algorithm.{block_len, max_input_len, name_of};
+ghost use Rattle.ring.specs.Context.{block_algorithm, context_algorithm, counted_bytes, cut_off, message_len};
+ghost use Rattle.ring.specs.Cost.{last_blocks, padded_blocks, whole_blocks};
+
+use crate::digest;
+use crate::digest::block_context::BlockContext;
+use crate::hmac::key::Key;
+use crate::hmac::tag::Tag;
+use ring_core::cost::Meter;
+use ring_core::error::Unspecified;
+use std::fmt;
+
+/// The tag of a message that comes in pieces: it stands for a key and the joined pieces.
+#[derive(Drop)]
+pub struct Context {
+    inner: digest::Context,
+    outer: BlockContext,
+    ghost same: { block_algorithm outer ≡ context_algorithm inner },
+    ghost inner_block: { block_len (context_algorithm inner) ≤ message_len inner },
+    ghost outer_block: { counted_bytes outer ≡ block_len (block_algorithm outer) },
+}
+
+impl Context {
+    ghost use Rattle.ring.specs.Hmac.{IsTag, KeyStandsFor, TagStandsFor, key_algorithm, signing_algorithm, signing_len, signing_pending, tag_algorithm};
+
+    /// A context of the empty message under `signing_key`. No block is run: it starts from copies
+    /// of the key's states.
+    pub fn with_key(signing_key: &Key) -> Self
+        ensures stands { (k : List ℕ) → KeyStandsFor signing_key.now k → TagStandsFor result k [] }
+        ensures algorithm { signing_algorithm result ≡ key_algorithm signing_key.now }
+        ensures counted { signing_len result ≡ block_len (key_algorithm signing_key.now) }
+        ensures pending { signing_pending result ≡ 0 }
+    {
+        Context {
+            inner: digest::Context::resume(signing_key.inner.clone()),
+            outer: signing_key.outer.clone(),
+        }
+    }
+
+    /// The same context: a copy that goes on by itself.
+    pub fn clone(&self) -> Self
+        ensures { result ≡ self.now }
+    {
+        Context {
+            inner: self.inner.clone(),
+            outer: self.outer.clone(),
+        }
+    }
+
+    /// Adds `input` to the message, as [`Context::update`] does, its blocks counted by `meter`.
+    pub fn update_counted(&mut self, input: &[u8], meter: &mut Meter)
+        ensures cost { meter.new ≡ raised meter.old (whole_blocks
+            (signing_algorithm self.old) (signing_pending self.old + length input.now)) 0 }
+        ensures cost_of { (k m : List ℕ) → TagStandsFor self.old k m → meter.new ≡ raised meter.old
+            (whole_blocks (signing_algorithm self.old) (length m + length input.now)
+            - whole_blocks (signing_algorithm self.old) (length m)) 0 }
+        ensures stands { (k m : List ℕ) → TagStandsFor self.old k m
+            → TagStandsFor self.new k (m ++ input.now) }
+        ensures algorithm { signing_algorithm self.new ≡ signing_algorithm self.old }
+        ensures counted { signing_len self.new ≡ cut_off (signing_len self.old + length input.now) }
+        ensures pending { signing_pending self.new ≡
+            (signing_pending self.old + length input.now) % block_len (signing_algorithm self.old) }
+    {
+        self.inner.update_counted(input, meter);
+    }
+
+    /// Adds `input` to the message, and runs each block as soon as it is complete. It never fails:
+    /// `sign` tells where the message is too long.
+    pub fn update(&mut self, input: &[u8])
+        ensures stands { (k m : List ℕ) → TagStandsFor self.old k m
+            → TagStandsFor self.new k (m ++ input.now) }
+        ensures algorithm { signing_algorithm self.new ≡ signing_algorithm self.old }
+        ensures counted { signing_len self.new ≡ cut_off (signing_len self.old + length input.now) }
+        ensures pending { signing_pending self.new ≡
+            (signing_pending self.old + length input.now) % block_len (signing_algorithm self.old) }
+    {
+        self.update_counted(input, &mut Meter::new());
+    }
+
+    /// The tag of the message, as [`Context::sign`] gives it, its blocks counted by `meter`.
+    pub fn sign_counted(self, meter: &mut Meter) -> Result<Tag, Unspecified>
+        ensures ok { (k m : List ℕ) → TagStandsFor self k m
+            → IfOk result (λ tag. IsTag tag (signing_algorithm self) k m) }
+        ensures refused { IsErr result
+            ↔ (max_input_len (signing_algorithm self) < signing_len self) }
+        ensures refused_of { (k m : List ℕ) → TagStandsFor self k m → IsErr result
+            ↔ (max_input_len (signing_algorithm self)
+            < block_len (signing_algorithm self) + length m) }
+        ensures unchanged { OnErr result (meter.new ≡ meter.old) }
+        ensures cost { OnOk result (meter.new ≡ raised meter.old
+            (padded_blocks (signing_algorithm self) (signing_pending self) + 1) 0) }
+        ensures cost_of { (k m : List ℕ) → TagStandsFor self k m → OnOk result (meter.new
+            ≡ raised meter.old (last_blocks (signing_algorithm self) (length m) + 1) 0) }
+        ensures algorithm { IfOk result (λ tag. tag_algorithm tag ≡ signing_algorithm self) }
+    {
+        let Context { inner, outer } = self;
+        let digest = inner.finish_counted(meter)?;
+        let mut last = digest::Context::resume(outer);
+        last.update_counted(digest.as_ref(), meter);
+        let value = last.finish_counted(meter)?;
+        Ok(Tag::new(value))
+    }
+
+    /// The tag of the message (RFC 2104, section 2).
+    ///
+    /// Refused where one block and the message together are longer than the digest algorithm's
+    /// `max_input_len` bytes, before any further block is run.
+    pub fn sign(self) -> Result<Tag, Unspecified>
+        ensures ok { (k m : List ℕ) → TagStandsFor self k m
+            → IfOk result (λ tag. IsTag tag (signing_algorithm self) k m) }
+        ensures refused { IsErr result
+            ↔ (max_input_len (signing_algorithm self) < signing_len self) }
+        ensures refused_of { (k m : List ℕ) → TagStandsFor self k m → IsErr result
+            ↔ (max_input_len (signing_algorithm self)
+            < block_len (signing_algorithm self) + length m) }
+        ensures algorithm { IfOk result (λ tag. tag_algorithm tag ≡ signing_algorithm self) }
+    {
+        self.sign_counted(&mut Meter::new())
+    }
+}
+
+/// The name of the digest algorithm alone, as in `Context { algorithm: SHA256 }`.
+impl fmt::Debug for Context {
+    ghost use Rattle.ring.specs.Hmac.{signing_algorithm};
+
+    ghost debug_output = { λ c.
+        Some (codes "Context { algorithm: " ++ name_of (signing_algorithm c) ++ codes " }") };
+
+    fn fmt<W: fmt::Write>(&self, f: &mut fmt::Formatter<W>) -> fmt::Result {
+        let algorithm = self.inner.algorithm();
+        write!(f, "Context {{ algorithm: {algorithm:?} }}")
+    }
+}

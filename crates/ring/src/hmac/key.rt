@@ -1,0 +1,177 @@
+//! Keys: two states, each after one block.
+
+ghost use Rattle.std.specs.Prelude.{◌≡◌, ◌↔◌, ◌-◌, ◌<◌, ◌≤◌, ◌++◌, Some, codes, drop, false, length, replicate, take, IfOk, IsErr, OnOk, OnErr};
+ghost use Rattle.ring_core.specs.Cost.{raised};
+ghost use Rattle.ring.specs.Algorithm.{block_len, max_input_len, name_of, output_len};
+ghost use Rattle.ring.specs.Context.{HasTaken, block_algorithm, counted_bytes};
+ghost use Rattle.ring.specs.Cost.{key_blocks, key_digest_blocks};
+ghost use Rattle.ring.specs.KeyBlocks.{key_block, masked};
+
+use crate::digest::algorithm::{MAX_BLOCK_LEN, MAX_OUTPUT_LEN};
+use crate::digest::block_context::BlockContext;
+use crate::digest::{self, digest_counted};
+use crate::hmac::algorithm::Algorithm;
+use crate::rand::SecureRandom;
+use ring_core::bb::xor_assign;
+use ring_core::cost::Meter;
+use ring_core::error::Unspecified;
+use std::fmt;
+
+// What turns the key's block into the one before the message (RFC 2104, section 2).
+const IPAD: u8 = 0x36;
+
+// What turns the key's block into the one before the inner digest.
+const OPAD: u8 = 0x5c;
+
+/// A key: the states after its two masked blocks, so that no signing runs these again.
+#[derive(Drop)]
+pub struct Key {
+    pub(crate) inner: BlockContext,
+    pub(crate) outer: BlockContext,
+    ghost same: { block_algorithm outer ≡ block_algorithm inner },
+    ghost inner_block: { counted_bytes inner ≡ block_len (block_algorithm inner) },
+    ghost outer_block: { counted_bytes outer ≡ block_len (block_algorithm outer) },
+}
+
+// The bytes, filled up with zeros.
+fn filled_up(bytes: &[u8]) -> [u8; MAX_BLOCK_LEN]
+    requires { length bytes.now ≤ MAX_BLOCK_LEN }
+    ensures { result ≡ bytes.now ++ replicate (MAX_BLOCK_LEN - length bytes.now) 0 }
+{
+    let mut block = [0; MAX_BLOCK_LEN];
+    block[..bytes.len()].copy_from_slice(bytes);
+    block
+}
+
+// The key's block: the key, or its digest where it is longer than a block, filled up with zeros.
+fn block_of_key(
+    algorithm: &digest::Algorithm,
+    key_value: &[u8],
+    meter: &mut Meter,
+) -> Result<[u8; MAX_BLOCK_LEN], Unspecified>
+    ensures ok { IfOk result (λ block.
+        take (block_len algorithm.now) block ≡ key_block algorithm.now key_value.now) }
+    ensures refused { IsErr result ↔ (max_input_len algorithm.now < length key_value.now) }
+    ensures unchanged { OnErr result (meter.new ≡ meter.old) }
+    ensures cost { OnOk result (meter.new
+        ≡ raised meter.old (key_digest_blocks algorithm.now (length key_value.now)) 0) }
+{
+    if key_value.len() <= algorithm.block_len() {
+        return Ok(filled_up(key_value));
+    }
+    let digest = digest_counted(algorithm, key_value, meter)?;
+    Ok(filled_up(digest.as_ref()))
+}
+
+// The state after the key's block under a mask.
+fn masked_state(
+    algorithm: &digest::Algorithm,
+    key_block: &[u8; MAX_BLOCK_LEN],
+    mask: u8,
+    meter: &mut Meter,
+) -> BlockContext
+    ensures cost { meter.new ≡ raised meter.old 1 0 }
+    ensures stands { HasTaken result (masked mask (take (block_len algorithm.now) key_block.now)) }
+    ensures algorithm { block_algorithm result ≡ algorithm.now }
+    ensures counted { counted_bytes result ≡ block_len algorithm.now }
+{
+    let block_len = algorithm.block_len();
+    let mut block = *key_block;
+    xor_assign(&mut block, mask);
+    let mut context = BlockContext::new(algorithm);
+    let _ = context.update(&block[..block_len], meter);
+    context
+}
+
+impl Key {
+    ghost use Rattle.ring.specs.Hmac.{KeyStandsFor, based_on, key_algorithm};
+
+    /// The key of the bytes `key_value`, as [`Key::new`] gives it, its blocks counted by `meter`.
+    pub fn new_counted(
+        algorithm: Algorithm,
+        key_value: &[u8],
+        meter: &mut Meter,
+    ) -> Result<Self, Unspecified>
+        ensures ok { IfOk result (λ key. KeyStandsFor key key_value.now) }
+        ensures refused { IsErr result
+            ↔ (max_input_len (based_on algorithm) < length key_value.now) }
+        ensures unchanged { OnErr result (meter.new ≡ meter.old) }
+        ensures cost { OnOk result (meter.new
+            ≡ raised meter.old (key_blocks (based_on algorithm) (length key_value.now)) 0) }
+        ensures algorithm { IfOk result (λ key. key_algorithm key ≡ based_on algorithm) }
+    {
+        let algorithm = algorithm.digest_algorithm();
+        let block = block_of_key(&algorithm, key_value, meter)?;
+        let inner = masked_state(&algorithm, &block, IPAD, meter);
+        let outer = masked_state(&algorithm, &block, OPAD, meter);
+        Ok(Key { inner, outer })
+    }
+
+    /// The key of the bytes `key_value` (RFC 2104, section 2). A value that is longer than a block
+    /// stands for its digest, and one of a block's length for itself.
+    ///
+    /// Refused where the value is longer than the digest algorithm's `max_input_len` bytes, before
+    /// any block is run.
+    pub fn new(algorithm: Algorithm, key_value: &[u8]) -> Result<Self, Unspecified>
+        ensures ok { IfOk result (λ key. KeyStandsFor key key_value.now) }
+        ensures refused { IsErr result
+            ↔ (max_input_len (based_on algorithm) < length key_value.now) }
+        ensures algorithm { IfOk result (λ key. key_algorithm key ≡ based_on algorithm) }
+    {
+        Key::new_counted(algorithm, key_value, &mut Meter::new())
+    }
+
+    /// A key of the source's next bytes, as many as the algorithm's digests have. The source is
+    /// asked once.
+    ///
+    /// Refused where the source isn't ready for so many, and keeps all of its bytes then.
+    pub fn generate(algorithm: Algorithm, rng: &mut dyn SecureRandom) -> Result<Self, Unspecified>
+        ensures ok { IfOk result (λ key.
+            KeyStandsFor key (take (output_len (based_on algorithm)) (left rng.old))) }
+        ensures refused { IsErr result
+            ↔ (ready rng.old (output_len (based_on algorithm)) ≡ false) }
+        ensures unchanged { OnErr result (left rng.new ≡ left rng.old) }
+        ensures enough { OnOk result
+            (output_len (based_on algorithm) ≤ length (left rng.old)) }
+        ensures taken { OnOk result
+            (left rng.new ≡ drop (output_len (based_on algorithm)) (left rng.old)) }
+        ensures unready { OnErr result
+            (ready rng.new (output_len (based_on algorithm)) ≡ false) }
+        ensures algorithm { IfOk result (λ key. key_algorithm key ≡ based_on algorithm) }
+    {
+        let mut bytes = [0; MAX_OUTPUT_LEN];
+        let value = &mut bytes[..algorithm.digest_algorithm().output_len()];
+        rng.fill(value)?;
+        Key::new(algorithm, value)
+    }
+
+    /// The algorithm of its tags.
+    pub fn algorithm(&self) -> Algorithm
+        ensures { based_on result ≡ key_algorithm self.now }
+    {
+        Algorithm::over(self.inner.algorithm)
+    }
+
+    /// The same key.
+    pub fn clone(&self) -> Self
+        ensures { result ≡ self.now }
+    {
+        Key {
+            inner: self.inner.clone(),
+            outer: self.outer.clone(),
+        }
+    }
+}
+
+/// The name of the digest algorithm alone, as in `Key { algorithm: SHA256 }`.
+impl fmt::Debug for Key {
+    ghost use Rattle.ring.specs.Hmac.{key_algorithm};
+
+    ghost debug_output = { λ key.
+        Some (codes "Key { algorithm: " ++ name_of (key_algorithm key) ++ codes " }") };
+
+    fn fmt<W: fmt::Write>(&self, f: &mut fmt::Formatter<W>) -> fmt::Result {
+        let algorithm = self.inner.algorithm;
+        write!(f, "Key {{ algorithm: {algorithm:?} }}")
+    }
+}

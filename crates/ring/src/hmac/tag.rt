@@ -1,0 +1,29 @@
+//! Tags as values.
+
+ghost use Rattle.std.specs.Prelude.{◌≡◌, length};
+ghost use Rattle.ring.specs.Algorithm.{output_len};
+
+use crate::digest::Digest;
+
+/// A tag, and the algorithm that made it.
+#[derive(Clone, Copy, Debug)]
+pub struct Tag(Digest);
+
+impl Tag {
+    ghost use Rattle.ring.specs.Hmac.{tag_algorithm, tag_bytes};
+
+    // The tag that is the digest `value`.
+    pub(crate) fn new(value: Digest) -> Self
+        ensures { result.0 ≡ value }
+    {
+        Tag(value)
+    }
+
+    /// The tag: as many bytes as the algorithm's digests have.
+    pub fn as_ref(&self) -> &[u8]
+        ensures bytes { result.now ≡ tag_bytes self.now }
+        ensures len { length result.now ≡ output_len (tag_algorithm self.now) }
+    {
+        self.0.as_ref()
+    }
+}

@@ -1,0 +1,124 @@
+//! Laws that a caller can rely on.
+//!
+//! A law without parameters holds of the definitions alone: its clause is the law, and the call
+//! does nothing.
+
+ghost use Rattle.std.specs.Prelude.{◌≡◌, ◌↔◌, ℕ, ◌+◌, ◌<◌, ◌≤◌, List, [], ◌++◌, length, replicate, take, IfOk, IsErr, OnErr, OnOk};
+ghost use Rattle.ring_core.specs.Cost.{compared_pairs, raised};
+ghost use Rattle.std.specs.Borrow.{Bor};
+ghost use Rattle.ring.specs.Algorithm.{block_len, max_input_len, output_len};
+ghost use Rattle.ring.specs.Cost.{derive_blocks, padded_blocks};
+ghost use Rattle.ring.specs.Digest.{IsDigest, digest_of};
+ghost use Rattle.ring.specs.Hkdf.{okm};
+ghost use Rattle.ring.specs.Hmac.{IsTag, KeyStandsFor, hmac_of, key_algorithm, tag_algorithm};
+ghost use Rattle.ring.specs.Pbkdf2.{dk};
+ghost use Rattle.ring.specs.Pieces.{joined};
+ghost use Rattle.ring.specs.declared.digest.algorithm.Algorithm.{Algorithm};
+
+use crate::digest::{Algorithm, Context, Digest};
+use crate::hmac::{self, Key, Tag};
+use crate::limits::{is_message_within, is_tag_within, joined_len};
+use ring_core::cost::Meter;
+use ring_core::error::Unspecified;
+
+/// The digest of the pieces is that of the message that they join to, at the same cost.
+///
+/// Refused where they are together longer than the algorithm's `max_input_len` bytes, before any
+/// block is run.
+pub fn digest_pieces(
+    algorithm: &Algorithm,
+    pieces: &[&[u8]],
+    meter: &mut Meter,
+) -> Result<Digest, Unspecified>
+    ensures ok { IfOk result (λ digest. IsDigest digest algorithm.now (joined pieces.now)) }
+    ensures refused { IsErr result ↔ (max_input_len algorithm.now < length (joined pieces.now)) }
+    ensures unchanged { OnErr result (meter.new ≡ meter.old) }
+    ensures cost { OnOk result (meter.new
+        ≡ raised meter.old (padded_blocks algorithm.now (length (joined pieces.now))) 0) }
+{
+    if !is_message_within(algorithm, joined_len(pieces)) {
+        return Err(Unspecified);
+    }
+    let mut context = Context::new(algorithm);
+    'pieces: for piece in pieces {
+        context.update_counted(piece, meter);
+    }
+    context.finish_counted(meter)
+}
+
+/// The tag of the pieces under a key is that of the message that they join to, at the same cost.
+///
+/// Refused where one block and the pieces together are longer than the digest algorithm's
+/// `max_input_len` bytes, before any block is run.
+pub fn sign_pieces(key: &Key, pieces: &[&[u8]], meter: &mut Meter) -> Result<Tag, Unspecified>
+    ensures ok { (k : List ℕ) → KeyStandsFor key.now k
+        → IfOk result (λ tag. IsTag tag (key_algorithm key.now) k (joined pieces.now)) }
+    ensures refused { IsErr result
+        ↔ (max_input_len (key_algorithm key.now)
+        < block_len (key_algorithm key.now) + length (joined pieces.now)) }
+    ensures unchanged { OnErr result (meter.new ≡ meter.old) }
+    ensures cost { OnOk result (meter.new ≡ raised meter.old
+        (padded_blocks (key_algorithm key.now) (length (joined pieces.now)) + 1) 0) }
+    ensures algorithm { IfOk result (λ tag. tag_algorithm tag ≡ key_algorithm key.now) }
+{
+    if !is_tag_within(&key.algorithm().digest_algorithm(), joined_len(pieces)) {
+        return Err(Unspecified);
+    }
+    let mut context = hmac::Context::with_key(key);
+    'parts: for piece in pieces {
+        context.update_counted(piece, meter);
+    }
+    context.sign_counted(meter)
+}
+
+/// Zeros appended to a key, up to the length of a block, change no tag (RFC 2104, section 2).
+pub fn law_3()
+    ensures { (a : Algorithm) (k m : List ℕ) (z : ℕ) → length k + z ≤ block_len a
+        → hmac_of a (k ++ replicate z 0) m ≡ hmac_of a k m }
+{}
+
+/// A key that is longer than a block signs as its digest (RFC 2104, section 2).
+pub fn law_4()
+    ensures { (a : Algorithm) (k m : List ℕ) → block_len a < length k
+        → hmac_of a k m ≡ hmac_of a (digest_of a k) m }
+{}
+
+/// A shorter output of HKDF is a front of a longer one (RFC 5869, section 2.3).
+pub fn law_5()
+    ensures { (a : Algorithm) (k info : List ℕ) (m n : ℕ) → m ≤ n
+        → okm a k info m ≡ take m (okm a k info n) }
+{}
+
+/// Info lists that join to the same bytes give the same output of HKDF.
+pub fn law_6()
+    ensures { (a : Algorithm) (k : List ℕ) (pieces others : List (Bor (List ℕ))) (n : ℕ)
+        → joined pieces ≡ joined others → okm a k (joined pieces) n ≡ okm a k (joined others) n }
+{}
+
+/// An empty salt extracts as one of as many zeros as a digest has bytes (RFC 5869, section 2.2).
+pub fn law_7()
+    ensures { (a : Algorithm) (secret : List ℕ)
+        → hmac_of a [] secret ≡ hmac_of a (replicate (output_len a) 0) secret }
+{}
+
+/// A shorter output of PBKDF2 is a front of a longer one (RFC 2898, section 5.2).
+pub fn law_8()
+    ensures { (a : Algorithm) (p s : List ℕ) (c m n : ℕ) → m ≤ n
+        → dk a p s c m ≡ take m (dk a p s c n) }
+{}
+
+/// The comparison of two lists of bytes is symmetric, in its answer and in the pairs that it reads.
+pub fn law_10()
+    ensures answer { (a b : List ℕ) → (a ≡ b) ↔ (b ≡ a) }
+    ensures cost { (a b : List ℕ)
+        → compared_pairs (length a) (length b) ≡ compared_pairs (length b) (length a) }
+{}
+
+/// The cost of PBKDF2 is a function of the algorithm, of lengths and of the iteration count: it
+/// tells nothing of the bytes.
+pub fn law_11()
+    ensures { (a : Algorithm) (p q s t out value : List ℕ) (c : ℕ) → length p ≡ length q
+        → length s ≡ length t → length out ≡ length value
+        → derive_blocks a (length p) (length s) c (length out)
+        ≡ derive_blocks a (length q) (length t) c (length value) }
+{}

@@ -1,0 +1,21 @@
+//! Digests (FIPS 180-4), tags (HMAC, RFC 2104) and derived keys (HKDF, RFC 5869, and PBKDF2,
+//! RFC 2898), after `ring` 0.17.14: each call is proved to give the standard's bytes, to be refused
+//! exactly at its limits, and to cost exactly the blocks that it says.
+//!
+//! - [`digest`]: SHA-1, SHA-256, SHA-384, SHA-512 and SHA-512/256.
+//! - [`hmac`]: keys, tags and their verification.
+//! - [`rand`]: byte sources of the caller's own, and values made of their bytes.
+//! - [`hkdf`]: keys from secrets.
+//! - [`pbkdf2`]: keys from passwords.
+//! - [`laws`]: what a caller can rely on beside single calls.
+#![tactic(auto)]
+
+pub mod digest;
+pub mod hkdf;
+pub mod hmac;
+pub mod laws;
+mod limits;
+pub mod pbkdf2;
+pub mod rand;
+
+pub use ring_core::{bb, bits, cost, error, polyfill};

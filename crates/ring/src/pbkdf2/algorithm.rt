@@ -1,0 +1,43 @@
+//! The four algorithms.
+
+ghost use Rattle.std.specs.Prelude.{◌≡◌};
+ghost use Rattle.ring.specs.Hmac.{based_on};
+ghost use Rattle.ring.specs.Pbkdf2.{prf_algorithm};
+
+use crate::digest::algorithm::{SHA1_FOR_LEGACY_USE_ONLY, SHA256, SHA384, SHA512};
+use crate::hmac::algorithm::{
+    self as hmac, HMAC_SHA1_FOR_LEGACY_USE_ONLY, HMAC_SHA256, HMAC_SHA384, HMAC_SHA512,
+};
+
+/// A PBKDF2 algorithm: one of the four constants below, each PBKDF2 over an HMAC algorithm.
+#[derive(Clone, Copy, PartialEq, Eq)]
+pub struct Algorithm(hmac::Algorithm);
+
+/// PBKDF2 over HMAC with SHA-1.
+pub const PBKDF2_HMAC_SHA1: Algorithm = Algorithm(HMAC_SHA1_FOR_LEGACY_USE_ONLY);
+
+/// PBKDF2 over HMAC with SHA-256.
+pub const PBKDF2_HMAC_SHA256: Algorithm = Algorithm(HMAC_SHA256);
+
+/// PBKDF2 over HMAC with SHA-384.
+pub const PBKDF2_HMAC_SHA384: Algorithm = Algorithm(HMAC_SHA384);
+
+/// PBKDF2 over HMAC with SHA-512.
+pub const PBKDF2_HMAC_SHA512: Algorithm = Algorithm(HMAC_SHA512);
+
+impl Algorithm {
+    // The HMAC algorithm that is its pseudorandom function.
+    pub(crate) fn hmac_algorithm(&self) -> hmac::Algorithm
+        ensures { based_on result ≡ prf_algorithm self.now }
+    {
+        self.0
+    }
+}
+
+// Each constant is PBKDF2 over HMAC with the digest algorithm of its name.
+pub(crate) fn constants_are_based_on_their_digests()
+    ensures sha1 { prf_algorithm PBKDF2_HMAC_SHA1 ≡ SHA1_FOR_LEGACY_USE_ONLY }
+    ensures sha256 { prf_algorithm PBKDF2_HMAC_SHA256 ≡ SHA256 }
+    ensures sha384 { prf_algorithm PBKDF2_HMAC_SHA384 ≡ SHA384 }
+    ensures sha512 { prf_algorithm PBKDF2_HMAC_SHA512 ≡ SHA512 }
+{}

@@ -1,0 +1,158 @@
+//! The rounds: each is the exclusive or of its iterates.
+
+ghost use Rattle.std.specs.Prelude.{◌≡◌, ◌↔◌, ℕ, ◌+◌, ◌-◌, ◌*◌, ◌^◌, ◌<◌, ◌≤◌, List, length, take, IsTrue};
+ghost use Rattle.std.specs.Int.NonZero.{non_zero_u32_get};
+ghost use Rattle.ring_core.specs.Cost.{raised};
+ghost use Rattle.ring.specs.Algorithm.{output_len};
+ghost use Rattle.ring.specs.Cost.{iterate_blocks, padded_blocks, derive_rounds};
+ghost use Rattle.ring.specs.Hmac.{KeyStandsFor, hmac_of, key_algorithm, tag_algorithm, tag_bytes};
+ghost use Rattle.ring.specs.Limits.{IsTagWithin};
+ghost use Rattle.ring.specs.Pbkdf2.{dk, iterate, xored};
+
+use crate::digest::algorithm::MAX_OUTPUT_LEN;
+use crate::hmac::{self, Context, Key, Tag};
+use ring_core::bb::{verify_slices_are_equal_counted, xor_assign_at_start};
+use ring_core::cost::Meter;
+use std::num::NonZeroU32;
+
+// U_1 of a round: the tag of the salt and the round's number.
+fn first_iterate(key: &Key, salt: &[u8], number: u32, meter: &mut Meter) -> Tag
+    requires within { IsTagWithin (key_algorithm key.now) (length salt.now + 4) }
+    ensures ok { (p : List ℕ) → KeyStandsFor key.now p
+        → tag_bytes result ≡ iterate (key_algorithm key.now) p salt.now number 1 }
+    ensures cost { meter.new
+        ≡ raised meter.old (padded_blocks (key_algorithm key.now) (length salt.now + 4) + 1) 0 }
+    ensures algorithm { tag_algorithm result ≡ key_algorithm key.now }
+{
+    let mut context = Context::with_key(key);
+    context.update_counted(salt, meter);
+    context.update_counted(&number.to_be_bytes(), meter);
+    let Ok(tag) = context.sign_counted(meter) else {
+        unreachable!()
+    };
+    tag
+}
+
+// The iterate after `previous`: its tag.
+fn next_iterate(key: &Key, previous: &Tag, meter: &mut Meter) -> Tag
+    requires { tag_algorithm previous.now ≡ key_algorithm key.now }
+    ensures ok { (p : List ℕ) → KeyStandsFor key.now p
+        → tag_bytes result ≡ hmac_of (key_algorithm key.now) p (tag_bytes previous.now) }
+    ensures cost { meter.new ≡ raised meter.old 2 0 }
+    ensures algorithm { tag_algorithm result ≡ key_algorithm key.now }
+{
+    let Ok(tag) = hmac::sign_counted(key, previous.as_ref(), meter) else {
+        unreachable!()
+    };
+    tag
+}
+
+// Makes `out` the first bytes of the round of this number.
+fn write_round(
+    key: &Key,
+    iterations: NonZeroU32,
+    salt: &[u8],
+    number: u32,
+    out: &mut [u8],
+    meter: &mut Meter,
+)
+    requires within { IsTagWithin (key_algorithm key.now) (length salt.now + 4) }
+    requires fits { length out.old ≤ output_len (key_algorithm key.now) }
+    ensures ok { (p : List ℕ) → KeyStandsFor key.now p → out.new ≡ take (length out.old)
+        (xored (key_algorithm key.now) p salt.now number (non_zero_u32_get iterations)) }
+    ensures cost { meter.new ≡ raised meter.old
+        (iterate_blocks (key_algorithm key.now) (length salt.now) (non_zero_u32_get iterations)) 0 }
+{
+    let mut iterate = first_iterate(key, salt, number, meter);
+    out.copy_from_slice(&iterate.as_ref()[..out.len()]);
+    'iterates: for _made in 1..iterations.get() {
+        iterate = next_iterate(key, &iterate, meter);
+        xor_assign_at_start(out, iterate.as_ref());
+    }
+}
+
+// Whether `part` is the first bytes of the round of this number.
+fn is_round(
+    key: &Key,
+    iterations: NonZeroU32,
+    salt: &[u8],
+    number: u32,
+    part: &[u8],
+    meter: &mut Meter,
+) -> bool
+    requires within { IsTagWithin (key_algorithm key.now) (length salt.now + 4) }
+    requires fits { length part.now ≤ output_len (key_algorithm key.now) }
+    ensures ok { (p : List ℕ) → KeyStandsFor key.now p → IsTrue result
+        ↔ (part.now ≡ take (length part.now)
+        (xored (key_algorithm key.now) p salt.now number (non_zero_u32_get iterations))) }
+    ensures cost { meter.new ≡ raised meter.old
+        (iterate_blocks (key_algorithm key.now) (length salt.now) (non_zero_u32_get iterations))
+        (length part.now) }
+{
+    let mut buffer = [0; MAX_OUTPUT_LEN];
+    let made = &mut buffer[..part.len()];
+    write_round(key, iterations, salt, number, made, meter);
+    verify_slices_are_equal_counted(made, part, meter).is_ok()
+}
+
+// Makes the whole of `out` the first bytes of all rounds, one after another.
+pub(crate) fn write_rounds(
+    key: &Key,
+    iterations: NonZeroU32,
+    salt: &[u8],
+    out: &mut [u8],
+    meter: &mut Meter,
+)
+    requires salt { 0 < length out.old
+        → IsTagWithin (key_algorithm key.now) (length salt.now + 4) }
+    requires rounds { length out.old ≤ (2 ^ 32 - 1) * output_len (key_algorithm key.now) }
+    ensures ok { (p : List ℕ) → KeyStandsFor key.now p → out.new ≡ dk (key_algorithm key.now)
+        p salt.now (non_zero_u32_get iterations) (length out.old) }
+    ensures cost { meter.new ≡ raised meter.old
+        (derive_rounds (key_algorithm key.now) (length out.old)
+        * iterate_blocks (key_algorithm key.now) (length salt.now) (non_zero_u32_get iterations))
+        0 }
+{
+    let output_len = key.algorithm().digest_algorithm().output_len();
+    let mut number = 0;
+    let mut written = 0;
+    'rounds: while written < out.len() {
+        let end = written + output_len.min(out.len() - written);
+        number += 1;
+        write_round(key, iterations, salt, number, &mut out[written..end], meter);
+        written = end;
+    }
+}
+
+// Whether `value` is the first bytes of all rounds, one after another.
+pub(crate) fn are_rounds(
+    key: &Key,
+    iterations: NonZeroU32,
+    salt: &[u8],
+    value: &[u8],
+    meter: &mut Meter,
+) -> bool
+    requires salt { 0 < length value.now
+        → IsTagWithin (key_algorithm key.now) (length salt.now + 4) }
+    requires rounds { length value.now ≤ (2 ^ 32 - 1) * output_len (key_algorithm key.now) }
+    ensures ok { (p : List ℕ) → KeyStandsFor key.now p → IsTrue result
+        ↔ (value.now ≡ dk (key_algorithm key.now)
+        p salt.now (non_zero_u32_get iterations) (length value.now)) }
+    ensures cost { meter.new ≡ raised meter.old
+        (derive_rounds (key_algorithm key.now) (length value.now)
+        * iterate_blocks (key_algorithm key.now) (length salt.now) (non_zero_u32_get iterations))
+        (length value.now) }
+{
+    let output_len = key.algorithm().digest_algorithm().output_len();
+    let mut matches = true;
+    let mut number = 0;
+    let mut checked = 0;
+    'rounds: while checked < value.len() {
+        let end = checked + output_len.min(value.len() - checked);
+        number += 1;
+        // No early end: a round that differs is followed by the others.
+        matches &= is_round(key, iterations, salt, number, &value[checked..end], meter);
+        checked = end;
+    }
+    matches
+}

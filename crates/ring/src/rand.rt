@@ -1,0 +1,116 @@
+//! Byte sources, and values made of their bytes.
+//!
+//! The library has no source of its own: the caller hands one in, and answers for its quality. A
+//! source is seen as the list of the bytes that it has left.
+//!
+//! ```
+//! let nonce: [u8; 16] = rand::generate::<[u8; 16]>(&mut source)?.expose();
+//! ```
+
+ghost use Rattle.std.specs.Prelude.{◌≡◌, ◌↔◌, ◌≤◌, ◌++◌, ℕ, Bool, false, List, IsTrue, IfOk, IsErr, OnOk, OnErr, length, refl};
+ghost use Rattle.std.specs.Borrow.{sem, Lends, Array, u8};
+ghost use Rattle.ring.specs.Source.{random_value};
+
+use ring_core::error::Unspecified;
+
+/// A source of bytes: anyone may write one.
+pub trait SecureRandom {
+    // The bytes that it has left.
+    ghost left: { Self → List ℕ };
+
+    // Whether it can give so many bytes at once.
+    ghost ready: { Self → ℕ → Bool };
+
+    /// Whether `fill` would give `len` bytes.
+    fn is_ready(&self, len: usize) -> bool
+        ensures { result ≡ ready self.now len };
+
+    /// Writes the next bytes over the whole of `dest`, and takes them off.
+    ///
+    /// Refused where the source isn't ready for so many bytes: it keeps all of its bytes then and
+    /// stays unready for so many, and `dest` is as before.
+    fn fill(&mut self, dest: &mut [u8]) -> Result<(), Unspecified>
+        ensures ok { OnOk result (left self.old ≡ dest.new ++ left self.new) }
+        ensures refused { IsErr result ↔ (ready self.old (length dest.old) ≡ false) }
+        ensures unchanged { OnErr result ((left self.new ≡ left self.old) × (dest.new ≡ dest.old)) }
+        ensures unready { OnErr result (ready self.new (length dest.old) ≡ false) };
+
+    // It is ready for no more bytes than it has left.
+    ghost enough: { (s : Self) (n : ℕ) → IsTrue (ready s n) → n ≤ length (left s) };
+}
+
+/// A type whose values are made of a fixed number of bytes.
+pub trait RandomlyConstructable: Sized + Drop {
+    // How many bytes each value has.
+    ghost byte_len: { ℕ };
+
+    // The bytes of a value.
+    ghost bytes: { Self → List ℕ };
+
+    // The value with these bytes in place of its own.
+    ghost with_bytes: { Self → List ℕ → Self };
+
+    /// A value to be written over.
+    fn zero() -> Self
+        ensures { length (bytes result) ≡ byte_len };
+
+    /// Lends all bytes of the value for writing.
+    fn as_mut_bytes(&mut self) -> &mut [u8]
+        ensures* writes { sem 𝓛
+            (Lends Self.row (Array u8 0) self.entry result (with_bytes self.old)) }
+        ensures value { result.now ≡ bytes self.old };
+
+    // What is written are the value's bytes then.
+    ghost written: { (x : Self) (ws : List ℕ)
+        → length ws ≡ length (bytes x) → bytes (with_bytes x ws) ≡ ws };
+}
+
+impl<const N: usize> RandomlyConstructable for [u8; N] {
+    ghost byte_len = { N };
+
+    ghost bytes = { λ x. x };
+
+    ghost with_bytes = { λ _ ws. ws };
+
+    ghost written = { λ _ _ _. refl };
+
+    fn zero() -> Self {
+        [0; N]
+    }
+
+    fn as_mut_bytes(&mut self) -> &mut [u8] {
+        &mut self[..]
+    }
+}
+
+/// A value made of a source's bytes. It can't be copied, so that it is exposed once.
+#[derive(Drop)]
+pub struct Random<T: RandomlyConstructable>(T);
+
+impl<T: RandomlyConstructable> Random<T> {
+    /// The value.
+    pub fn expose(self) -> T
+        ensures { result ≡ random_value self }
+    {
+        let Random(value) = self;
+        value
+    }
+}
+
+/// A value of the source's next bytes, as many as the type has. The source is asked once.
+///
+/// Refused where the source isn't ready for so many, and keeps all of its bytes then.
+pub fn generate<T: RandomlyConstructable>(
+    rng: &mut dyn SecureRandom,
+) -> Result<Random<T>, Unspecified>
+    ensures ok { IfOk result (λ random.
+        left rng.old ≡ T.bytes (random_value random) ++ left rng.new) }
+    ensures refused { IsErr result ↔ (ready rng.old T.byte_len ≡ false) }
+    ensures unchanged { OnErr result (left rng.new ≡ left rng.old) }
+    ensures len { IfOk result (λ random. length (T.bytes (random_value random)) ≡ T.byte_len) }
+    ensures unready { OnErr result (ready rng.new T.byte_len ≡ false) }
+{
+    let mut value = T::zero();
+    rng.fill(value.as_mut_bytes())?;
+    Ok(Random(value))
+}

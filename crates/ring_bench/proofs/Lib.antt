@@ -1,0 +1,5 @@
+pub mod TextLemmas
+pub mod FedLemmas
+pub mod RequestLemmas
+pub mod NumberLemmas
+pub mod CountLemmas

@@ -1,0 +1,39 @@
+-- Lemmas on numbers in decimal.
+use Rattle.std.proofs.Common.{◌≡◌, ℕ, ◌+◌, ◌-◌, ◌*◌, ◌<◌, ◌⊎◌, inl, inr, nat_eq, true, false, cond, None, List, [], ◌∷◌, length, get_or, drop, refl, sym, ap, ◌∙◌, arith}
+use Rattle.std.proofs.lemmas.List.{drop_more}
+use Rattle.std.proofs.lemmas.Bool.Decides.{nat_tests}
+use Rattle.std.specs.Char.{is_ascii_digit}
+use Rattle.ring_bench.specs.Field.{digits_value, decimal_of, up_to}
+
+-- further digits make it no smaller
+too_large : (most n : ℕ) (bs : List ℕ) → most < n → up_to most (digits_value n bs) ≡ None
+too_large most n [] h = beyond most n h
+  where
+    beyond : (most n : ℕ) → most < n → up_to most (digits_value n []) ≡ None
+    beyond most n h = grind (arith, nat_tests)
+too_large most n (b ∷ bs) h =
+    elim (is_ascii_digit b) as (λ v. up_to most (cond v (digits_value (n * 10 + (b - 48)) bs) None) ≡ None) [
+      | true ↦ too_large most (n * 10 + (b - 48)) bs (omega arith)
+      | false ↦ refl
+    ]
+
+number_cases : (field : List ℕ) → (decimal_of field ≡ None) ⊎ (decimal_of field ≡ digits_value 0 field)
+number_cases [] = inl refl
+number_cases (b ∷ []) = inr refl
+number_cases (b ∷ c ∷ bs) =
+    elim (nat_eq b 48) as (λ v. (cond v None (digits_value 0 (b ∷ c ∷ bs)) ≡ None) ⊎ (cond v None (digits_value 0 (b ∷ c ∷ bs)) ≡ digits_value 0 (b ∷ c ∷ bs))) [
+      | true ↦ inl refl
+      | false ↦ inr refl
+    ]
+
+-- the digit at i makes the number too large
+pub too_large_at : (most value : ℕ) (field : List ℕ) (i : ℕ) → i < length field → is_ascii_digit (get_or field i 0) ≡ true
+    → most < value * 10 + (get_or field i 0 - 48) → digits_value value (drop i field) ≡ digits_value 0 field → None ≡ up_to most (decimal_of field)
+too_large_at most value field i h digit large same =
+    elim (number_cases field) [
+      | inl none ↦ sym (ap (up_to most) none)
+      | inr whole ↦
+          (let next = ap (digits_value value) (drop_more field i 0 h)
+          ∙ ap (λ v. cond v (digits_value (value * 10 + (get_or field i 0 - 48)) (drop (i + 1) field)) None) digit in
+          sym (ap (up_to most) (whole ∙ sym same ∙ next) ∙ too_large most (value * 10 + (get_or field i 0 - 48)) (drop (i + 1) field) large))
+    ]

@@ -1,0 +1,21 @@
+use Rattle.std.proofs.Common.{arith, ◌∙◌, length-append}
+use Rattle.ring_bench.proofs.CountLemmas.{joined-more, whole_more, whole_none}
+use Rattle.ring_bench.proofs.request.signing.Goals as goal
+
+pub loop-piece-init : goal.loop-piece-init
+loop-piece-init g c = record {
+  algorithm = c.with_key-context.ensures.algorithm;
+  stands = c.with_key-context.ensures.stands;
+  cost = λ k h. whole_none _ _;
+}
+
+pub loop-piece-preserved : goal.loop-piece-preserved
+loop-piece-preserved g c =
+    let so_far = c.loop-piece.invariant in
+    let more = c.update_counted.ensures in
+    rw (joined-more (λ piece. piece.items) c.args.pieces.now c.loop-piece.piece-index c.piece-item.result c.deref.result.now (omega arith) c.piece-item.is c.deref.ensures.value)
+    (record {
+      algorithm = more.algorithm ∙ so_far.algorithm;
+      stands = λ k h. more.stands k _ (so_far.stands k h);
+      cost = λ k h. rw length-append (whole_more _ _ _ _ _ _ _ so_far.algorithm (so_far.cost k h) (more.cost_of k _ (so_far.stands k h)));
+    })

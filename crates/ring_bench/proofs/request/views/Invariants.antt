@@ -1,0 +1,8 @@
+use Rattle.std.proofs.Common.{◌≡◌, take, map}
+use Rattle.ring.specs.Pieces.{joined as joined_parts}
+use Rattle.ring_bench.specs.Request.{joined}
+use Rattle.ring_bench.proofs.request.views.Given as goal
+
+-- the pieces so far
+abbrev pub invariant-loop-piece : goal.invariant-loop-piece
+invariant-loop-piece g l = joined_parts l.views.items ≡ joined (map (λ piece. piece.items) (take l.piece-index l.pieces))

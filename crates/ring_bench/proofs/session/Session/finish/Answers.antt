@@ -1,0 +1,28 @@
+use Rattle.std.proofs.Common.{◌≡◌, ◌<◌, length, rules}
+use Rattle.ring_bench.proofs.FedLemmas.{open-answered, open-status, none-answered, none-status}
+use Rattle.ring_bench.proofs.session.Session.finish.Goals as goal
+use Rattle.ring_bench.proofs.session.Session.finish.Goals.{then-not-is_empty+in_ok-end_line, else-not-is_empty}
+
+pub returns-clause-written : goal.returns-clause-written
+returns-clause-written g c =
+    let size = c.args.self.line.ok.0 in
+    elim c.if-not-is_empty.branch [
+      | then-not-is_empty+in_ok-end_line w ↦
+          (let some : 0 < length c.args.self.line.items = search rules in
+          open-answered _ _ _ _ c.requires some w.in_ok-end_line.ensures.written (rw w.writer-is at c.flush.ensures.bytes))
+      | else-not-is_empty w ↦
+          (let none : length c.args.self.line.items ≡ 0 = search rules in
+          none-answered _ _ _ none (rw w.writer-is at c.flush.ensures.bytes))
+    ]
+
+pub returns-clause-status : goal.returns-clause-status
+returns-clause-status g c =
+    let size = c.args.self.line.ok.0 in
+    elim c.if-not-is_empty.branch [
+      | then-not-is_empty+in_ok-end_line w ↦
+          (let some : 0 < length c.args.self.line.items = search rules in
+          rw w.self-is (open-status _ _ _ c.requires some w.in_ok-end_line.ensures.status))
+      | else-not-is_empty w ↦
+          (let none : length c.args.self.line.items ≡ 0 = search rules in
+          rw w.self-is (none-status _ _ none))
+    ]

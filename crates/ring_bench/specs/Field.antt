@@ -1,0 +1,114 @@
+-- What one field of a line says.
+use Rattle.std.specs.Prelude.{◌==◌, ◌+◌, ◌-◌, ◌*◌, ℕ, Bool, List, [], ◌∷◌, Option, None, Some, Result, Ok, Err, if◌then◌else◌, length, nat_le, codes}
+use Rattle.std.specs.Option.{option_map, option_and_then}
+use Rattle.std.specs.List.{slice_split}
+use Rattle.std.specs.Str.{bytes_eq}
+use Rattle.std.specs.Char.{is_ascii_digit}
+use Rattle.hex.specs.Hex.{decode_of}
+use Rattle.hex.specs.declared.error.FromHexError.{FromHexError}
+use Rattle.ring.specs.declared.digest.algorithm.Algorithm as digest
+use Rattle.ring.specs.declared.digest.algorithm.TheConstants.{SHA1_FOR_LEGACY_USE_ONLY, SHA256, SHA384, SHA512, SHA512_256}
+use Rattle.ring.specs.declared.hmac.algorithm.Algorithm as hmac
+use Rattle.ring.specs.declared.hmac.algorithm.TheConstants.{HMAC_SHA1_FOR_LEGACY_USE_ONLY, HMAC_SHA256, HMAC_SHA384, HMAC_SHA512}
+use Rattle.ring.specs.declared.hkdf.algorithm.Algorithm as hkdf
+use Rattle.ring.specs.declared.hkdf.algorithm.TheConstants.{HKDF_SHA1_FOR_LEGACY_USE_ONLY, HKDF_SHA256, HKDF_SHA384, HKDF_SHA512}
+use Rattle.ring.specs.declared.pbkdf2.algorithm.Algorithm as pbkdf2
+use Rattle.ring.specs.declared.pbkdf2.algorithm.TheConstants.{PBKDF2_HMAC_SHA1, PBKDF2_HMAC_SHA256, PBKDF2_HMAC_SHA384, PBKDF2_HMAC_SHA512}
+
+-- whether a field is this word
+unfoldable pub is_word : List ℕ → List ℕ → Bool
+is_word field word = bytes_eq field word
+
+-- ALG of a digest
+unfoldable pub digest_algorithm_of : List ℕ → Option digest.Algorithm
+digest_algorithm_of field =
+    if is_word field (codes "SHA1") then Some SHA1_FOR_LEGACY_USE_ONLY
+    else if is_word field (codes "SHA256") then Some SHA256
+    else if is_word field (codes "SHA384") then Some SHA384
+    else if is_word field (codes "SHA512") then Some SHA512
+    else if is_word field (codes "SHA512_256") then Some SHA512_256
+    else None
+
+-- ALG of a tag
+unfoldable pub hmac_algorithm_of : List ℕ → Option hmac.Algorithm
+hmac_algorithm_of field =
+    if is_word field (codes "SHA1") then Some HMAC_SHA1_FOR_LEGACY_USE_ONLY
+    else if is_word field (codes "SHA256") then Some HMAC_SHA256
+    else if is_word field (codes "SHA384") then Some HMAC_SHA384
+    else if is_word field (codes "SHA512") then Some HMAC_SHA512
+    else None
+
+-- ALG of an output of HKDF
+unfoldable pub hkdf_algorithm_of : List ℕ → Option hkdf.Algorithm
+hkdf_algorithm_of field =
+    if is_word field (codes "SHA1") then Some HKDF_SHA1_FOR_LEGACY_USE_ONLY
+    else if is_word field (codes "SHA256") then Some HKDF_SHA256
+    else if is_word field (codes "SHA384") then Some HKDF_SHA384
+    else if is_word field (codes "SHA512") then Some HKDF_SHA512
+    else None
+
+-- ALG of a derivation by PBKDF2
+unfoldable pub pbkdf2_algorithm_of : List ℕ → Option pbkdf2.Algorithm
+pbkdf2_algorithm_of field =
+    if is_word field (codes "SHA1") then Some PBKDF2_HMAC_SHA1
+    else if is_word field (codes "SHA256") then Some PBKDF2_HMAC_SHA256
+    else if is_word field (codes "SHA384") then Some PBKDF2_HMAC_SHA384
+    else if is_word field (codes "SHA512") then Some PBKDF2_HMAC_SHA512
+    else None
+
+-- the value, where there is one
+abbrev pub value_of : Result (List ℕ) FromHexError → Option (List ℕ)
+value_of (Ok bytes) = Some bytes
+value_of (Err e) = None
+
+-- a field of bytes: `-` is no byte, and else it has some hex digits, an even number of them
+unfoldable pub bytes_of : List ℕ → Option (List ℕ)
+bytes_of field =
+    if is_word field (codes "-") then Some []
+    else if length field == 0 then None
+    else value_of (decode_of field)
+
+abbrev pub is_comma : ℕ → Bool
+is_comma b = b == 44
+
+-- the bytes of each part, where each is an even number of hex digits
+abbrev pub parts_bytes : List (List ℕ) → Option (List (List ℕ))
+parts_bytes [] = Some []
+parts_bytes (part ∷ parts) =
+    option_and_then (λ bytes. option_map (λ others. bytes ∷ others) (parts_bytes parts)) (value_of (decode_of part))
+
+-- PIECES: `-` is no piece, and else parts of hex digits stand with commas between them
+unfoldable pub pieces_of : List ℕ → Option (List (List ℕ))
+pieces_of field =
+    if is_word field (codes "-") then Some []
+    else if length field == 0 then None
+    else parts_bytes (slice_split is_comma field)
+
+-- the value of decimal digits, behind digits of the value n
+abbrev pub digits_value : ℕ → List ℕ → Option ℕ
+digits_value n [] = Some n
+digits_value n (b ∷ bs) = if is_ascii_digit b then digits_value (n * 10 + (b - 48)) bs else None
+
+-- a number in decimal, without a sign and without a leading zero
+abbrev pub decimal_of : List ℕ → Option ℕ
+decimal_of [] = None
+decimal_of (b ∷ []) = digits_value 0 (b ∷ [])
+decimal_of (b ∷ c ∷ bs) = if b == 48 then None else digits_value 0 (b ∷ c ∷ bs)
+
+-- the number, where it is at most this
+abbrev pub up_to : ℕ → Option ℕ → Option ℕ
+up_to most None = None
+up_to most (Some n) = if nat_le n most then Some n else None
+
+-- the number, where it is at least this
+abbrev pub from : ℕ → Option ℕ → Option ℕ
+from least None = None
+from least (Some n) = if nat_le least n then Some n else None
+
+-- LEN: 0 to 65536
+unfoldable pub len_of : List ℕ → Option ℕ
+len_of field = up_to 65536 (decimal_of field)
+
+-- ITERATIONS: 1 to 2^32 - 1
+unfoldable pub iterations_of : List ℕ → Option ℕ
+iterations_of field = from 1 (up_to 4294967295 (decimal_of field))

@@ -1,0 +1,7 @@
+pub mod Field
+pub mod Line
+pub mod Request
+pub mod Reply
+pub mod Text
+pub mod Outcome
+pub mod Session

@@ -1,0 +1,158 @@
+//! Lines of test vectors for `ring`, and the answers to them.
+//!
+//! A text is lines that end with a line feed. What stands behind the last line feed is a line where
+//! it isn't empty, and one carriage return at a line's end is no part of it. An empty line and a
+//! line that begins with `#` are given no answer. Any other line is fields, with exactly one space
+//! between two of them. Words are matched exactly:
+//!
+//! | Line                                            | Answer                                    |
+//! |-------------------------------------------------|-------------------------------------------|
+//! | `digest ALG PIECES`                             | the digest of all the pieces              |
+//! | `hmac ALG KEY PIECES`                           | the tag of all the pieces under the key   |
+//! | `hmac-verify ALG KEY PIECES TAG`                | whether TAG is that tag                   |
+//! | `hkdf ALG SALT SECRET PIECES LEN`               | LEN bytes of output, the pieces the info  |
+//! | `pbkdf2 ALG ITERATIONS SECRET SALT LEN`         | LEN bytes derived from the secret         |
+//! | `pbkdf2-verify ALG ITERATIONS SECRET SALT VALUE`| whether VALUE is derived from the secret  |
+//!
+//! - ALG is `SHA1`, `SHA256`, `SHA384`, `SHA512` or, of a digest alone, `SHA512_256`.
+//! - KEY, TAG, SALT, SECRET and VALUE are `-` for no byte, or an even number, not 0, of hex digits
+//!   of either case.
+//! - PIECES is `-` for no piece, or parts with commas between them, each an even number of hex
+//!   digits, 0 included. They are given to `ring` one by one, but by `hmac-verify` joined.
+//! - LEN is 0 to 65,536 and ITERATIONS 1 to 4,294,967,295, in decimal without a sign and without a
+//!   leading zero.
+//!
+//! An answer is one line: bytes in lower case hex, `-` for none, or `match` or `mismatch`, and
+//! behind them a space and the number of blocks that the whole line cost, keys included, in
+//! decimal. A line of which `ring` refuses a call is answered `refused`, and a line of any other
+//! form `bad line`. Here the second line answers the first:
+//!
+//! ```text
+//! digest SHA256 68656c6c6f,2c20,776f726c64
+//! 09ca7e4eaa6e8ae9c7d261167129184883644d07dfba7cbfbc4c8a2e08360d5b 1
+//! ```
+#![tactic(auto)]
+
+ghost use Rattle.std.specs.Prelude.{◌≡◌, ◌++◌, ◌<◌, ◌≤◌, ℕ, OnOk, IfOk, IfErr, OnErr, IfSome, IsErrOf, length, take};
+ghost use Rattle.std.specs.Io.KnownBytes.{Appends, IsAtEnd};
+ghost use Rattle.ring_bench.specs.Reply.{reply, kind};
+ghost use Rattle.ring_bench.specs.Outcome.{exit_status, error_text};
+ghost use Rattle.ring_bench.specs.Text.{lines, ended_lines, replies, answers, status_of};
+
+use std::alloc::{Allocator, Global};
+use std::io::{ErrorKind, Read, Write};
+
+mod field;
+mod line;
+mod reply;
+mod request;
+mod session;
+mod status;
+#[cfg(test)]
+mod tests;
+mod text;
+
+pub use crate::reply::{LineKind, answer_in};
+use crate::session::Session;
+pub use crate::status::{BenchError, Status};
+
+/// How many bytes a run asks its reader for at once.
+const BUFFER_LEN: usize = 4096;
+
+/// Adds the reply to `line` at the end of `out`, and tells what the line was.
+///
+/// The line is without its line feed and its carriage return. Its reply is its answer with a line
+/// feed, or nothing where it is given none. The only error is `Memory`, which leaves `out` as it
+/// was.
+pub fn answer(alloc: Global, line: &[u8], out: &mut Vec<u8>) -> Result<LineKind, BenchError>
+    ensures reply { OnOk result (out.new.items ≡ out.old.items ++ reply line.now) }
+    ensures kind { IfOk result (λ found. found ≡ kind line.now) }
+    ensures memory { IfErr result (λ error. error ≡ BenchError.Memory) }
+    ensures unchanged { OnErr result (out.new.items ≡ out.old.items) }
+{
+    answer_in(alloc, line, out)
+}
+
+/// Reads to the reader's end, and writes the reply to each line before it looks at the next line.
+///
+/// - Ok comes behind one flush, and says whether a bad line stood in the text.
+/// - `Memory`: a growth was refused at a line, and the replies to the lines before it are written.
+/// - `Read`: a read failed, or the reader had not ended after `u64::MAX` reads. The replies to some
+///   first lines are written, each of which a line feed had ended.
+/// - `Write`: a write or the flush failed, or the writer took none of the bytes offered. Nothing is
+///   said of what was written.
+///
+/// A read that was interrupted is tried again. The empty text takes no memory.
+pub fn run<R: Read, W: Write>(
+    alloc: Global,
+    reader: &mut R,
+    writer: &mut W,
+) -> Result<Status, BenchError>
+    // The whole text was read, and its answers were written, and nothing else.
+    ensures end { OnOk result (IsAtEnd (R.remaining reader.new)) }
+    ensures written { OnOk result (IfSome (R.remaining reader.old) (λ text.
+        Appends (W.contents writer.old) (W.contents writer.new) (answers text))) }
+    ensures status { IfOk result (λ status. IfSome (R.remaining reader.old) (λ text.
+        status ≡ status_of (lines text))) }
+    // The answers to the first lines were written, and a line is left: never over the empty text.
+    ensures memory { IsErrOf result BenchError.Memory → IfSome (R.remaining reader.old) (λ text.
+        (k : ℕ) × (k < length (lines text)) × Appends (W.contents writer.old)
+        (W.contents writer.new) (replies (take k (lines text)))) }
+    // The answers to the first lines were written, each of which was ended by a line feed.
+    ensures read { IsErrOf result BenchError.Read → IfSome (R.remaining reader.old) (λ text.
+        (k : ℕ) × (k ≤ ended_lines text) × Appends (W.contents writer.old)
+        (W.contents writer.new) (replies (take k (lines text)))) }
+{
+    run_in(alloc, reader, writer)
+}
+
+/// As `run`, over any allocator.
+pub fn run_in<A: Allocator + Copy, R: Read, W: Write>(
+    alloc: A,
+    reader: &mut R,
+    writer: &mut W,
+) -> Result<Status, BenchError>
+    ensures end { OnOk result (IsAtEnd (R.remaining reader.new)) }
+    ensures written { OnOk result (IfSome (R.remaining reader.old) (λ text.
+        Appends (W.contents writer.old) (W.contents writer.new) (answers text))) }
+    ensures status { IfOk result (λ status. IfSome (R.remaining reader.old) (λ text.
+        status ≡ status_of (lines text))) }
+    ensures memory { IsErrOf result BenchError.Memory → IfSome (R.remaining reader.old) (λ text.
+        (k : ℕ) × (k < length (lines text)) × Appends (W.contents writer.old)
+        (W.contents writer.new) (replies (take k (lines text)))) }
+    ensures read { IsErrOf result BenchError.Read → IfSome (R.remaining reader.old) (λ text.
+        (k : ℕ) × (k ≤ ended_lines text) × Appends (W.contents writer.old)
+        (W.contents writer.new) (replies (take k (lines text)))) }
+{
+    let mut session = Session::new(alloc);
+    let mut buffer = [0u8; BUFFER_LEN];
+    for _ in 0..u64::MAX {
+        match reader.read(&mut buffer) {
+            Ok(0) => return session.finish(writer),
+            Ok(count) => session.feed(writer, &buffer[..count])?,
+            Err(error) => {
+                if error.kind() != ErrorKind::Interrupted {
+                    return Err(BenchError::Read);
+                }
+            }
+        }
+    }
+    Err(BenchError::Read)
+}
+
+/// The exit status of a program for its run, and its line for standard error without a line feed.
+///
+/// The status is 0 for a run without a bad line, 1 for a run with one, and 2 for a run that
+/// stopped. Only a run that stopped has a line, else the text is empty.
+pub fn outcome(result_of_run: &Result<Status, BenchError>) -> (u8, &'static str)
+    ensures status { result.0 ≡ exit_status result_of_run.now }
+    ensures text { result.1.now ≡ error_text result_of_run.now }
+{
+    match result_of_run {
+        Ok(Status::Clean) => (0, ""),
+        Ok(Status::SomeBad) => (1, ""),
+        Err(BenchError::Memory) => (2, "ring_bench: out of memory"),
+        Err(BenchError::Read) => (2, "ring_bench: read failed"),
+        Err(BenchError::Write) => (2, "ring_bench: write failed"),
+    }
+}

@@ -6,13 +6,12 @@ use Rattle.std.proofs.lemmas.List.{take-append-le, take-append-drop}
 use Rattle.std.specs.Int.{bytes_high_first, byte_at}
 use Rattle.ring.specs.Algorithm.{is_state_of, length_len, output_len, word_len, chaining_words, spare_words, word_count}
 use Rattle.ring.specs.Context.{HasTaken}
-use Rattle.ring.specs.Digest.{IsDigest, chain, digest_of}
+use Rattle.ring.specs.Digest.{chain, digest_of}
 use Rattle.ring.specs.Padding.{padded}
 use Rattle.ring.specs.State.{state_word_len, word_bytes, words}
 use Rattle.ring.specs.declared.digest.algorithm.Algorithm.{Algorithm}
 use Rattle.ring.specs.declared.digest.block_context.BlockContext.{BlockContext}
 use Rattle.ring.specs.declared.digest.dynstate.DynState.{DynState}
-use Rattle.ring.specs.declared.digest.value.Digest.{Digest}
 use Rattle.ring.proofs.Outputs.{length-word_bytes}
 use Rattle.ring.proofs.Rows.{sizes_of, output_len-most}
 
@@ -40,12 +39,12 @@ word_bytes_front a n s =
     ap (word_bytes n) (sym (take-append-drop (word_count a) (words s)))
     ∙ flat_map-append (bytes_high_first n) (chaining_words a s) (spare_words a s)
 
--- the digest in the output of a state
-pub digest_from : (d : Digest) (s : DynState) (a : Algorithm) (m : List ℕ) → d.algorithm ≡ a
-    → d.value.0 ≡ word_bytes (state_word_len s) (words s) ++ replicate (64 - 8 * state_word_len s) 0
-    → IsTrue (is_state_of a s) → chaining_words a s ≡ chain a (padded a m) → IsDigest d a m
+-- the digest at the front of a state's bytes
+pub digest_from : (out : List ℕ) (s : DynState) (a : Algorithm) (m : List ℕ)
+    → out ≡ word_bytes (state_word_len s) (words s) ++ replicate (64 - 8 * state_word_len s) 0
+    → IsTrue (is_state_of a s) → chaining_words a s ≡ chain a (padded a m) → take (output_len a) out ≡ digest_of a m
 unfolding digest_of
-digest_from d s a m ea ev sized ew =
+digest_from out s a m ev sized ew =
     let w : ℕ = word_len a in
     let size : state_word_len s ≡ w = search (rules, sized) in
     let front : List ℕ = word_bytes w (chaining_words a s) in
@@ -53,14 +52,10 @@ digest_from d s a m ea ev sized ew =
     let zeros : List ℕ = replicate (64 - 8 * w) 0 in
     let count : length (chaining_words a s) ≡ word_count a = ap length ew ∙ length-chain a (padded a m) in
     let long : length front ≡ w * word_count a = length-word_bytes w (chaining_words a s) ∙ ap (λ (z : ℕ). w * z) count in
-    let value : d.value.0 ≡ front ++ (spare ++ zeros) =
+    let value : out ≡ front ++ (spare ++ zeros) =
     ev ∙ rw size (ap (λ (z : List ℕ). z ++ zeros) (word_bytes_front a w s)) ∙ append_assoc front spare zeros in
-    record {
-      algorithm = ea;
-      bytes =
-          rw (ea, value) (take-append-le (output_len a) front (spare ++ zeros) (omega (arith, long, output_len-most a))
-          ∙ ap (λ (z : List ℕ). take (output_len a) (word_bytes w z)) ew);
-    }
+    rw value (take-append-le (output_len a) front (spare ++ zeros) (omega (arith, long, output_len-most a))
+    ∙ ap (λ (z : List ℕ). take (output_len a) (word_bytes w z)) ew)
 
 -- the length of what the block context has taken in and the pending bytes
 pub taken_len : (b : BlockContext) (p x : List ℕ) (len : ℕ) → HasTaken b p → len ≡ min (b.completed_bytes + length x) (2 ^ 64 - 1) → len ≤ 2 ^ 61 - 1 → length (p ++ x) ≡ len

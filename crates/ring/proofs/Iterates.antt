@@ -8,7 +8,7 @@ use Rattle.ring_core.specs.Word.{◌⊕◌}
 use Rattle.ring_core.proofs.Costs.{raised-raised}
 use Rattle.ring.specs.Algorithm.{block_len, output_len}
 use Rattle.ring.specs.Cost.{iterate_blocks, padded_blocks, whole_blocks}
-use Rattle.ring.specs.Hmac.{KeyStandsFor, hmac_of, key_algorithm, tag_algorithm, tag_bytes}
+use Rattle.ring.specs.Hmac.{IsTag, KeyStandsFor, hmac_of, key_algorithm, tag_algorithm, tag_bytes}
 use Rattle.ring.specs.Pbkdf2.{iterate, xored}
 use Rattle.ring.specs.declared.digest.algorithm.Algorithm.{Algorithm}
 use Rattle.ring.specs.declared.hmac.key.Key.{Key}
@@ -90,13 +90,13 @@ iterated-first key s i n tag out bytes m0 m1 ea h eb eo em =
       cost = em ∙ ap (λ (z : ℕ). raised m0 z 0) one;
     }
 
-pub iterated-next : (key : Key) (s : List ℕ) (i n : ℕ) (tag tag' : Tag) (out out' bytes : List ℕ) (j : ℕ) (m0 m1 m2 : Counts) → 1 ≤ j → HasIterated key s i n tag out j m0 m1
-    → tag_algorithm tag' ≡ key_algorithm key → ((p : List ℕ) → KeyStandsFor key p → tag_bytes tag' ≡ hmac_of (key_algorithm key) p (tag_bytes tag))
+pub iterated-next : (key : Key) (s : List ℕ) (i n : ℕ) (tag tag' : Tag) (out out' last bytes : List ℕ) (j : ℕ) (m0 m1 m2 : Counts) → 1 ≤ j → HasIterated key s i n tag out j m0 m1
+    → tag_algorithm tag' ≡ key_algorithm key → last ≡ tag_bytes tag → ((p : List ℕ) → KeyStandsFor key p → IsTag tag' (key_algorithm key) p last)
     → bytes ≡ tag_bytes tag' → out' ≡ xor_lists out bytes → m2 ≡ raised m1 2 0 → HasIterated key s i n tag' out' (j + 1) m0 m2
-iterated-next key s i n tag tag' out out' bytes j m0 m1 m2 some t ea h eb eo em =
+iterated-next key s i n tag tag' out out' last bytes j m0 m1 m2 some t ea el h eb eo em =
     let a : Algorithm = key_algorithm key in
     let next : (p : List ℕ) → KeyStandsFor key p → tag_bytes tag' ≡ iterate a p s i (suc j) =
-    λ (p : List ℕ) (stands : KeyStandsFor key p). h p stands ∙ ap (λ m. hmac_of a p m) (t.last p stands) ∙ sym (iterate-next a p s i j) in
+    λ (p : List ℕ) (stands : KeyStandsFor key p). (h p stands).bytes ∙ ap (λ m. hmac_of a p m) (el ∙ t.last p stands) ∙ sym (iterate-next a p s i j) in
     let two : iterate_blocks a (length s) j + 2 ≡ iterate_blocks a (length s) (suc j) = omega arith in
     rw add-one record {
       algorithm = ea;

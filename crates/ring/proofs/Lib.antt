@@ -10,6 +10,7 @@ pub mod Outcomes
 pub mod Lengths
 pub mod Pieces
 pub mod Keys
+pub mod Prepared
 pub mod SameKeys
 pub mod Feeding
 pub mod Signing

@@ -15,8 +15,9 @@ use Rattle.ring.proofs.Finishing.{length_field}
 use Rattle.ring_core.specs.Chunks.{chained}
 use Rattle.ring.specs.declared.digest.block_context.BlockContext.{BlockContext}
 use Rattle.ring.specs.declared.digest.dynstate.DynState.{DynState}
-use Rattle.ring.proofs.Chains.{chain-append, mul_whole}
-use Rattle.ring.proofs.Rows.{block_len-positive, length_len-least, sizes_of}
+use Rattle.ring.proofs.Chains.{chain-append}
+use Rattle.ring.proofs.Padding.{padded_is_padded}
+use Rattle.ring.proofs.Rows.{length_len-least, sizes_of}
 
 -- the tail has room for all that is written, and no more than two blocks
 pub tail_sizes : (a : Algorithm) (r : ℕ) → r < block_len a
@@ -72,15 +73,21 @@ tail_written a x be n t k below fits et eb lb =
     joined_runs : (x be : List ℕ) (z y k : ℕ) → z + y ≡ k → x ++ 128 ∷ replicate z 0 ++ (replicate y 0 ++ be) ≡ (x ++ 128 ∷ replicate k 0) ++ be
     joined_runs x be z y k e = rw (← e, ← replicate-append-replicate {A = ℕ} z y 0) (simp append_assoc)
 
--- the words after the tail are those after the padded message
-pub chain_tail : (b : BlockContext) (p x tail : List ℕ) (n : ℕ) (s : DynState) → HasTaken b p → length (p ++ x) ≡ n
-    → tail ≡ tail_of b.algorithm x n → length tail ≡ padded_blocks b.algorithm (length x) * block_len b.algorithm
+-- what follows whole blocks in whole blocks is whole blocks
+whole-rest : (a : Algorithm) (p x : List ℕ) → IsWhole a p → IsWhole a (p ++ x) → IsWhole a x
+whole-rest a p x hp h = rest (block_len a) (sizes_of a) hp (rw length-append at h)
+  where
+    rest : (b : ℕ) {l : ℕ} → ((b ≡ 64) × (l ≡ 8)) ⊎ ((b ≡ 128) × (l ≡ 16)) → length p % b ≡ 0 → (length p + length x) % b ≡ 0 → length x % b ≡ 0
+    rest b (inl e) u v = let u' : length p % 64 ≡ 0 = rw e.0 at u in let v' : (length p + length x) % 64 ≡ 0 = rw e.0 at v in rw e.0 (omega arith)
+    rest b (inr e) u v = let u' : length p % 128 ≡ 0 = rw e.0 at u in let v' : (length p + length x) % 128 ≡ 0 = rw e.0 at v in rw e.0 (omega arith)
+
+-- the words after the blocks that end a padded message
+pub chain_end : (b : BlockContext) (p m tail : List ℕ) (s : DynState) → HasTaken b p → p ++ tail ≡ padded b.algorithm m
     → chaining_words b.algorithm s
     ≡ chained (block_function b.algorithm) (block_len b.algorithm) (chaining_words b.algorithm b.state) tail (whole_blocks b.algorithm (length tail))
-    → chaining_words b.algorithm s ≡ chain b.algorithm (padded b.algorithm (p ++ x))
-chain_tail b p x tail n s h en et size ew =
+    → chaining_words b.algorithm s ≡ chain b.algorithm (padded b.algorithm m)
+chain_end b p m tail s h e ew =
     let a : Algorithm = b.algorithm in
     let after : chaining_words a s ≡ chained (block_function a) (block_len a) (chain a p) tail (whole_blocks a (length tail)) = ew ∙ rw h.words refl in
-    let whole : IsWhole a tail = rw size (mul_whole (padded_blocks a (length x)) (block_len a) (block_len-positive a)).0 in
-    let bytes : tail ≡ tail_of a x (length (p ++ x)) = rw en et in
-    after ∙ sym (chain-append a p tail h.whole whole) ∙ rw bytes (ap (chain a) (sym (padded-append a p x h.whole)))
+    let whole : IsWhole a (p ++ tail) = rw e (padded_is_padded a m).whole in
+    after ∙ sym (chain-append a p tail h.whole (whole-rest a p tail h.whole whole)) ∙ ap (chain a) e

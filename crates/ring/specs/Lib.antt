@@ -9,6 +9,7 @@ pub mod Context
 pub mod Pieces
 pub mod Source
 pub mod KeyBlocks
+pub mod Prepared
 pub mod Hmac
 pub mod Hkdf
 pub mod Okm

@@ -3,12 +3,13 @@
 ghost use Rattle.std.specs.Prelude.{◌≡◌, ◌↔◌, ℕ, ◌+◌, ◌*◌, ◌<◌, List, [], ◌++◌, length, take, drop, IsTrue, IfOk, IsErr, OnOk, OnErr};
 ghost use Rattle.ring_core.specs.Chunks.{chained};
 ghost use Rattle.ring_core.specs.Cost.{raised};
-ghost use Rattle.ring.specs.Algorithm.{block_function, block_len, chaining_words, is_state_of, max_input_len, spare_words};
+ghost use Rattle.ring.specs.Algorithm.{block_function, block_len, chaining_words, is_state_of, max_input_len, output_len, spare_words};
 ghost use Rattle.ring.specs.Cost.{padded_blocks, whole_blocks};
-ghost use Rattle.ring.specs.Digest.{IsDigest, digest_algorithm};
+ghost use Rattle.ring.specs.Digest.{IsDigest, digest_algorithm, digest_of};
+ghost use Rattle.ring.specs.Padding.{padded};
 
 use crate::digest::algorithm::{Algorithm, MAX_BLOCK_LEN};
-use crate::digest::dynstate::DynState;
+use crate::digest::dynstate::{DynState, Output};
 use crate::digest::padding;
 use crate::digest::value::Digest;
 use crate::limits::is_message_within;
@@ -104,6 +105,19 @@ impl BlockContext {
         rest
     }
 
+    // The output after the blocks so far and those of `tail`, which ends a padded message.
+    pub(crate) fn output_after(&self, tail: &[u8], meter: &mut Meter) -> Output
+        ensures ok { (p m : List ℕ) → HasTaken self.now p
+            → p ++ tail.now ≡ padded (block_algorithm self.now) m
+            → take (output_len (block_algorithm self.now)) result.0
+            ≡ digest_of (block_algorithm self.now) m }
+        ensures cost { meter.new ≡ raised meter.old
+            (whole_blocks (block_algorithm self.now) (length tail.now)) 0 }
+    {
+        let (last, _) = run_blocks(self.algorithm, self.state, tail, meter);
+        last.format_output()
+    }
+
     // The digest of the blocks and the pending bytes, which are the front of `block`.
     pub(crate) fn try_finish(
         self,
@@ -126,7 +140,7 @@ impl BlockContext {
             return Err(Unspecified);
         }
         let (tail, len) = padding::tail(self.algorithm, &block[..num_pending], message_len);
-        let (last, _) = run_blocks(self.algorithm, self.state, &tail[..len], meter);
-        Ok(Digest::new(last.format_output(), self.algorithm))
+        let output = self.output_after(&tail[..len], meter);
+        Ok(Digest::new(output, self.algorithm))
     }
 }

@@ -5,12 +5,13 @@ ghost use Rattle.std.specs.Int.NonZero.{non_zero_u32_get};
 ghost use Rattle.ring_core.specs.Cost.{raised};
 ghost use Rattle.ring.specs.Algorithm.{output_len};
 ghost use Rattle.ring.specs.Cost.{iterate_blocks, padded_blocks, derive_rounds};
-ghost use Rattle.ring.specs.Hmac.{KeyStandsFor, hmac_of, key_algorithm, tag_algorithm, tag_bytes};
+ghost use Rattle.ring.specs.Hmac.{KeyStandsFor, key_algorithm, prepared_algorithm, tag_algorithm, tag_bytes};
 ghost use Rattle.ring.specs.Limits.{IsTagWithin};
 ghost use Rattle.ring.specs.Pbkdf2.{dk, iterate, xored};
 
 use crate::digest::algorithm::MAX_OUTPUT_LEN;
-use crate::hmac::{self, Context, Key, Tag};
+use crate::hmac::prepared::PreparedBlock;
+use crate::hmac::{Context, Key, Tag};
 use ring_core::bb::{verify_slices_are_equal_counted, xor_assign_at_start};
 use ring_core::cost::Meter;
 use std::num::NonZeroU32;
@@ -33,29 +34,18 @@ fn first_iterate(key: &Key, salt: &[u8], number: u32, meter: &mut Meter) -> Tag
     tag
 }
 
-// The iterate after `previous`: its tag.
-fn next_iterate(key: &Key, previous: &Tag, meter: &mut Meter) -> Tag
-    requires { tag_algorithm previous.now ≡ key_algorithm key.now }
-    ensures ok { (p : List ℕ) → KeyStandsFor key.now p
-        → tag_bytes result ≡ hmac_of (key_algorithm key.now) p (tag_bytes previous.now) }
-    ensures cost { meter.new ≡ raised meter.old 2 0 }
-    ensures algorithm { tag_algorithm result ≡ key_algorithm key.now }
-{
-    let Ok(tag) = hmac::sign_counted(key, previous.as_ref(), meter) else {
-        unreachable!()
-    };
-    tag
-}
-
-// Makes `out` the first bytes of the round of this number.
+// Makes `out` the first bytes of the round of this number. All iterates but the first are tags of
+// tags, which fit the prepared block.
 fn write_round(
     key: &Key,
+    block: &PreparedBlock,
     iterations: NonZeroU32,
     salt: &[u8],
     number: u32,
     out: &mut [u8],
     meter: &mut Meter,
 )
+    requires prepared { prepared_algorithm block.now ≡ key_algorithm key.now }
     requires within { IsTagWithin (key_algorithm key.now) (length salt.now + 4) }
     requires fits { length out.old ≤ output_len (key_algorithm key.now) }
     ensures ok { (p : List ℕ) → KeyStandsFor key.now p → out.new ≡ take (length out.old)
@@ -66,7 +56,7 @@ fn write_round(
     let mut iterate = first_iterate(key, salt, number, meter);
     out.copy_from_slice(&iterate.as_ref()[..out.len()]);
     'iterates: for _made in 1..iterations.get() {
-        iterate = next_iterate(key, &iterate, meter);
+        iterate = block.sign(key, iterate.as_ref(), meter);
         xor_assign_at_start(out, iterate.as_ref());
     }
 }
@@ -74,12 +64,14 @@ fn write_round(
 // Whether `part` is the first bytes of the round of this number.
 fn is_round(
     key: &Key,
+    block: &PreparedBlock,
     iterations: NonZeroU32,
     salt: &[u8],
     number: u32,
     part: &[u8],
     meter: &mut Meter,
 ) -> bool
+    requires prepared { prepared_algorithm block.now ≡ key_algorithm key.now }
     requires within { IsTagWithin (key_algorithm key.now) (length salt.now + 4) }
     requires fits { length part.now ≤ output_len (key_algorithm key.now) }
     ensures ok { (p : List ℕ) → KeyStandsFor key.now p → IsTrue result
@@ -91,7 +83,7 @@ fn is_round(
 {
     let mut buffer = [0; MAX_OUTPUT_LEN];
     let made = &mut buffer[..part.len()];
-    write_round(key, iterations, salt, number, made, meter);
+    write_round(key, block, iterations, salt, number, made, meter);
     verify_slices_are_equal_counted(made, part, meter).is_ok()
 }
 
@@ -113,13 +105,23 @@ pub(crate) fn write_rounds(
         * iterate_blocks (key_algorithm key.now) (length salt.now) (non_zero_u32_get iterations))
         0 }
 {
-    let output_len = key.algorithm().digest_algorithm().output_len();
+    let algorithm = key.algorithm().digest_algorithm();
+    let block = PreparedBlock::new(algorithm);
+    let output_len = algorithm.output_len();
     let mut number = 0;
     let mut written = 0;
     'rounds: while written < out.len() {
         let end = written + output_len.min(out.len() - written);
         number += 1;
-        write_round(key, iterations, salt, number, &mut out[written..end], meter);
+        write_round(
+            key,
+            &block,
+            iterations,
+            salt,
+            number,
+            &mut out[written..end],
+            meter,
+        );
         written = end;
     }
 }
@@ -143,7 +145,9 @@ pub(crate) fn are_rounds(
         * iterate_blocks (key_algorithm key.now) (length salt.now) (non_zero_u32_get iterations))
         (length value.now) }
 {
-    let output_len = key.algorithm().digest_algorithm().output_len();
+    let algorithm = key.algorithm().digest_algorithm();
+    let block = PreparedBlock::new(algorithm);
+    let output_len = algorithm.output_len();
     let mut matches = true;
     let mut number = 0;
     let mut checked = 0;
@@ -151,7 +155,15 @@ pub(crate) fn are_rounds(
         let end = checked + output_len.min(value.len() - checked);
         number += 1;
         // No early end: a round that differs is followed by the others.
-        matches &= is_round(key, iterations, salt, number, &value[checked..end], meter);
+        matches &= is_round(
+            key,
+            &block,
+            iterations,
+            salt,
+            number,
+            &value[checked..end],
+            meter,
+        );
         checked = end;
     }
     matches

@@ -10,7 +10,7 @@ rounds-init c = compared-none c.args.key.now c.args.salt.now (non_zero_u32_get c
 
 pub rounds-preserved : goal.rounds-preserved
 rounds-preserved c =
-    let len : c.output_len-output_len.result ≡ output_len (key_algorithm c.args.key.now) = c.output_len-output_len.ensures ∙ ap output_len (c.digest_algorithm.ensures ∙ c.algorithm.ensures) in
+    let len : c.output_len-output_len.result ≡ output_len (key_algorithm c.args.key.now) = c.output_len-output_len.ensures ∙ ap output_len (c.digest_algorithm-algorithm.ensures ∙ c.algorithm.ensures) in
     let part : c.rounds.checked + c.min.result - c.rounds.checked ≡ min (output_len (key_algorithm c.args.key.now)) (length c.args.value.now - c.rounds.checked) =
     omega (arith, c.min.ensures, len) in
     compared-next c.args.key.now c.args.salt.now (non_zero_u32_get c.args.iterations) c.rounds.number c.rounds.checked _ _ c.rounds.matches c.is_round-matches.result c.args.value.now _ _ _

@@ -9,6 +9,6 @@ iterates-init c =
 
 pub iterates-preserved : goal.iterates-preserved
 iterates-preserved c =
-    iterated-next c.args.key.now c.args.salt.now c.args.number (length c.args.out.now) c.iterates.iterate c.next_iterate-iterate.result
-    c.iterates.out _ _ c.iterates._made _ _ _ c.iterates.auto._made c.iterates.invariant
-    c.next_iterate-iterate.ensures.algorithm c.next_iterate-iterate.ensures.ok c.as_ref-in-iterates.ensures.bytes c.xor_assign_at_start.ensures c.next_iterate-iterate.ensures.cost
+    iterated-next c.args.key.now c.args.salt.now c.args.number (length c.args.out.now) c.iterates.iterate c.sign-iterate.result
+    c.iterates.out _ _ _ c.iterates._made _ _ _ c.iterates.auto._made c.iterates.invariant
+    c.sign-iterate.ensures.algorithm c.as_ref-in-iterates.ensures.bytes c.sign-iterate.ensures.ok c.as_ref-in-iterates-2.ensures.bytes c.xor_assign_at_start.ensures c.sign-iterate.ensures.cost

@@ -10,7 +10,7 @@ rounds-init c = written-none c.args.key.now c.args.salt.now (non_zero_u32_get c.
 
 pub rounds-preserved : goal.rounds-preserved
 rounds-preserved c =
-    let len : c.output_len-output_len.result ≡ output_len (key_algorithm c.args.key.now) = c.output_len-output_len.ensures ∙ ap output_len (c.digest_algorithm.ensures ∙ c.algorithm.ensures) in
+    let len : c.output_len-output_len.result ≡ output_len (key_algorithm c.args.key.now) = c.output_len-output_len.ensures ∙ ap output_len (c.digest_algorithm-algorithm.ensures ∙ c.algorithm.ensures) in
     let part : c.rounds.written + c.min.result - c.rounds.written ≡ min (output_len (key_algorithm c.args.key.now)) (length c.rounds.out - c.rounds.written) =
     omega (arith, c.min.ensures, len) in
     written-next c.args.key.now c.args.salt.now (non_zero_u32_get c.args.iterations) c.rounds.number c.rounds.written _ _ c.rounds.out c.write_round.new.out _ _ _

@@ -1,0 +1,54 @@
+-- A message of a digest's length, signed by one block after each masked block of the key.
+use Rattle.std.proofs.Common.{◌≡◌, ℕ, ◌+◌, ◌-◌, ◌*◌, ◌/◌, List, ◌∷◌, ◌++◌, length, take, drop, replicate, refl, sym, ap, ◌∙◌, arith, length-append, length-take-le, append_assoc}
+use Rattle.std.proofs.lemmas.List.{drop-take, drop_at, take_at}
+use Rattle.std.proofs.Math.Nat.{div_self, mod_self}
+use Rattle.std.proofs.Math.Seq.{take-append-add}
+use Rattle.std.specs.Int.{bytes_high_first}
+use Rattle.ring_core.specs.Cost.{Counts, raised}
+use Rattle.ring.specs.Algorithm.{block_len, length_len, output_len}
+use Rattle.ring.specs.Cost.{padded_blocks, whole_blocks}
+use Rattle.ring.specs.Padding.{IsWhole, padded, tail_of, zeros_of}
+use Rattle.ring.specs.Prepared.{past_message, prepared_padding}
+use Rattle.ring.specs.declared.digest.algorithm.Algorithm.{Algorithm}
+use Rattle.ring.proofs.Chains.{short_div}
+use Rattle.ring.proofs.Keys.{output_below}
+use Rattle.ring.proofs.Rows.{block_len-most, block_len-positive}
+use Rattle.ring.proofs.Tails.{padded-append}
+
+-- the message and its padding are one block
+one_block : (a : Algorithm) → padded_blocks a (output_len a) ≡ 1
+one_block a = ap (λ (z : ℕ). z + 1) (short_div (output_len a + length_len a) (block_len a) (output_below a))
+
+-- the tail of such a message is one block
+pub one_tail : (a : Algorithm) (n len : ℕ) → n ≡ output_len a → len ≡ padded_blocks a n * block_len a → len ≡ block_len a
+one_tail a n len en el = el ∙ rw (en, one_block a) (omega arith)
+
+-- the padding, as a tail has it
+pub padding-made : (a : Algorithm) (x y rest : List ℕ) (n : ℕ) → length x ≡ output_len a → length y ≡ block_len a → n ≡ block_len a + output_len a
+    → y ≡ tail_of a x n → past_message a (y ++ rest) ≡ prepared_padding a
+padding-made a x y rest n lx ly en ey =
+    let parts : y ≡ x ++ (128 ∷ replicate (zeros_of a (length x)) 0 ++ bytes_high_first (length_len a) (8 * n)) = ey ∙ append_assoc x _ _ in
+    ap (drop (output_len a)) (take_at y rest (block_len a) ly ∙ parts) ∙ drop_at x _ (output_len a) lx ∙ rw (lx, en) refl
+
+-- a message put before the padding ends the padded message
+pub message-padded : (a : Algorithm) (p m bytes : List ℕ) → length p ≡ block_len a → length m ≡ output_len a → past_message a bytes ≡ prepared_padding a
+    → p ++ take (block_len a) (m ++ drop (output_len a) bytes) ≡ padded a (p ++ m)
+message-padded a p m bytes lp lm h =
+    let room : ℕ = block_len a - output_len a in
+    let sum : block_len a ≡ output_len a + room = omega (arith, output_below a) in
+    let rest : take room (drop (output_len a) bytes) ≡ prepared_padding a =
+    sym (drop-take (output_len a) room bytes) ∙ ap (λ (z : ℕ). drop (output_len a) (take z bytes)) (sym sum) ∙ h in
+    let whole : IsWhole a p = rw lp (mod_self (block_len a)) in
+    let block : take (block_len a) (m ++ drop (output_len a) bytes) ≡ m ++ prepared_padding a =
+    ap (λ (z : ℕ). take z (m ++ drop (output_len a) bytes)) (sum ∙ ap (λ (z : ℕ). z + room) (sym lm))
+    ∙ take-append-add m (drop (output_len a) bytes) room ∙ ap (λ z. m ++ z) rest in
+    let len : length (p ++ m) ≡ block_len a + output_len a = length-append p m ∙ rw (lp, lm) refl in
+    let tail : m ++ prepared_padding a ≡ tail_of a m (length (p ++ m)) = rw (len, lm) (sym (append_assoc m _ _)) in
+    ap (λ z. p ++ z) (block ∙ tail) ∙ sym (padded-append a p m whole)
+
+-- the cost of one block
+pub cost_one : (a : Algorithm) (m0 m1 : Counts) (x : List ℕ) (n : ℕ) → n ≡ block_len a → length x ≡ 128 → m1 ≡ raised m0 (whole_blocks a (length (take n x))) 0 → m1 ≡ raised m0 1 0
+cost_one a m0 m1 x n en lx em =
+    let unit : block_len a / block_len a ≡ 1 = div_self (block_len-positive a) in
+    let size : length (take n x) ≡ block_len a = length-take-le n x (omega (arith, block_len-most a)) ∙ en in
+    rw (size, unit) at em

@@ -113,15 +113,8 @@ pub(crate) fn write_rounds(
     'rounds: while written < out.len() {
         let end = written + output_len.min(out.len() - written);
         number += 1;
-        write_round(
-            key,
-            &block,
-            iterations,
-            salt,
-            number,
-            &mut out[written..end],
-            meter,
-        );
+        let part = &mut out[written..end];
+        write_round(key, &block, iterations, salt, number, part, meter);
         written = end;
     }
 }
@@ -154,16 +147,9 @@ pub(crate) fn are_rounds(
     'rounds: while checked < value.len() {
         let end = checked + output_len.min(value.len() - checked);
         number += 1;
+        let part = &value[checked..end];
         // No early end: a round that differs is followed by the others.
-        matches &= is_round(
-            key,
-            &block,
-            iterations,
-            salt,
-            number,
-            &value[checked..end],
-            meter,
-        );
+        matches &= is_round(key, &block, iterations, salt, number, part, meter);
         checked = end;
     }
     matches

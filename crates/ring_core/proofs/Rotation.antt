@@ -1,11 +1,12 @@
--- Rotations, at each width: two shifts or'ed are the standard's, and so are two of them under exclusive or, one inside the other.
+-- Rotations, at each width: two shifts or'ed are the standard's, and so are two or three of them under exclusive or, one inside the other.
 use Rattle.std.proofs.Common.{◌≡◌, ℕ, suc, ◌+◌, ◌-◌, ◌*◌, ◌/◌, ◌%◌, ◌^◌, ◌<◌, ◌≤◌, inl, inr, bit_or, refl, sym, ap, ◌∙◌, arith, add_comm, mod-lt, pow_pos, mul-le-mul_right, shr-shr}
 use Rattle.std.proofs.lemmas.Bool.{cases_lt}
 use Rattle.std.proofs.lemmas.Nat.{div-add-mod', mod-mul-add, pow-add, shr_split, xor_lt}
 use Rattle.std.proofs.lemmas.Nat.Bits.{bit_at_cat_high, bit_at_cat_low, bit_at_xor, same_from_bits_below}
 use Rattle.std.proofs.Math.Nat.{add-mod_right, div-lt_iff_lt-mul, mod-add-mod, mod-eq_of_lt}
-use Rattle.std.specs.Int.Bits.{or_shifted_r}
+use Rattle.std.specs.Int.Bits.{or_shifted_r, xor_assoc}
 use Rattle.std.specs.Int.{bit_at}
+use Rattle.ring_core.specs.Sha2.{three_rotations}
 use Rattle.ring_core.specs.Word.{◌⊕◌, rotr}
 
 -- a word of w bits shifted right by k, or'ed with itself shifted left by the rest
@@ -65,23 +66,38 @@ bit_at-rotr w k n i le fits within =
           ∙ ap (λ (m : ℕ). bit_at m j) (shr_split n k) ∙ ap (bit_at n) round
     ])
 
--- two rotations under exclusive or, one inside the other
-pub rotr-two : (w a b x : ℕ) → a ≤ b → b ≤ w → x < 2 ^ w → rotr w a (x ⊕ rotr w (b - a) x) ≡ rotr w a x ⊕ rotr w b x
-rotr-two w a b x ab bw fits =
-    let inner = rotr w (b - a) x in
-    let inner_fits : inner < 2 ^ w = rotr-lt w x (b - a) (omega arith) fits in
-    let sum_fits : x ⊕ inner < 2 ^ w = xor_lt w x inner fits inner_fits in
+-- the rotations of two words under exclusive or, one inside the other
+rotr-inside : (w a b x y : ℕ) → a ≤ b → b ≤ w → x < 2 ^ w → y < 2 ^ w
+    → rotr w a (x ⊕ rotr w (b - a) y) ≡ rotr w a x ⊕ rotr w b y
+rotr-inside w a b x y ab bw x_fits y_fits =
+    let inner = rotr w (b - a) y in
+    let inner_fits : inner < 2 ^ w = rotr-lt w y (b - a) (omega arith) y_fits in
+    let sum_fits : x ⊕ inner < 2 ^ w = xor_lt w x inner x_fits inner_fits in
     let left : rotr w a (x ⊕ inner) < 2 ^ w = rotr-lt w (x ⊕ inner) a (omega arith) sum_fits in
-    let right : rotr w a x ⊕ rotr w b x < 2 ^ w = xor_lt w (rotr w a x) (rotr w b x) (rotr-lt w x a (omega arith) fits) (rotr-lt w x b bw fits) in
+    let right : rotr w a x ⊕ rotr w b y < 2 ^ w = xor_lt w (rotr w a x) (rotr w b y) (rotr-lt w x a (omega arith) x_fits) (rotr-lt w y b bw y_fits) in
     same_from_bits_below w _ _ left right (λ i within.
     let j = (i + a) % w in
     let round : (j + (b - a)) % w ≡ (i + b) % w = mod-add-mod (i + a) w (b - a) ∙ ap (λ (m : ℕ). m % w) (omega arith) in
     rw (
       bit_at-rotr w a (x ⊕ inner) i (omega arith) sum_fits within,
       bit_at_xor x inner j,
-      bit_at-rotr w (b - a) x j (omega arith) fits (mod-lt (i + a) (omega arith)),
+      bit_at-rotr w (b - a) y j (omega arith) y_fits (mod-lt (i + a) (omega arith)),
       round,
-      bit_at_xor (rotr w a x) (rotr w b x) i,
-      bit_at-rotr w a x i (omega arith) fits within,
-      bit_at-rotr w b x i bw fits within,
+      bit_at_xor (rotr w a x) (rotr w b y) i,
+      bit_at-rotr w a x i (omega arith) x_fits within,
+      bit_at-rotr w b y i bw y_fits within,
     ) refl)
+
+-- two rotations of a word, one inside the other
+pub rotr-two : (w a b x : ℕ) → a ≤ b → b ≤ w → x < 2 ^ w → rotr w a (x ⊕ rotr w (b - a) x) ≡ rotr w a x ⊕ rotr w b x
+rotr-two w a b x ab bw fits = rotr-inside w a b x x ab bw fits fits
+
+-- three rotations of a word, one inside the other
+pub rotr-three : (w a b c x : ℕ) → a ≤ b → b ≤ c → c ≤ w → x < 2 ^ w
+    → rotr w a (x ⊕ rotr w (b - a) (x ⊕ rotr w (c - b) x)) ≡ three_rotations w (a, b, c) x
+rotr-three w a b c x ab bc cw fits =
+    let inner = x ⊕ rotr w (c - b) x in
+    let inner_fits : inner < 2 ^ w = xor_lt w x _ fits (rotr-lt w x (c - b) (omega arith) fits) in
+    rotr-inside w a b x inner ab (omega arith) fits inner_fits
+    ∙ ap (λ (m : ℕ). rotr w a x ⊕ m) (rotr-two w b c x bc cw fits)
+    ∙ sym (xor_assoc (rotr w a x) (rotr w b x) (rotr w c x))

@@ -17,8 +17,8 @@ use crate::digest::word::{Sha2, Word};
 use crate::polyfill::slice::AsChunks;
 use std::num::Wrapping;
 
-// ROTR first ⊕ ROTR second ⊕ ROTR third. The three go side by side: the next round waits for Σ0 and
-// Σ1, and with one rotation inside another it would wait longer than the copies cost.
+// ROTR first ⊕ ROTR second ⊕ ROTR third, one inside the other: side by side they need two copies of
+// the word more, and a block function waits for its count of instructions.
 #[inline(always)]
 fn rotations<S: Word>(x: S, counts: (u32, u32, u32)) -> S
     requires first { 1 ≤ counts.0 }
@@ -28,7 +28,9 @@ fn rotations<S: Word>(x: S, counts: (u32, u32, u32)) -> S
     ensures { S.value result ≡ three_rotations S.bits counts (S.value x) }
 {
     let (first, second, third) = counts;
-    x.rotr(first).bit_xor(x.rotr(second)).bit_xor(x.rotr(third))
+    let inner = x.bit_xor(x.rotr(third - second));
+    let outer = x.bit_xor(inner.rotr(second - first));
+    outer.rotr(first)
 }
 
 // Σ0

@@ -22,3 +22,7 @@ two_lanes _ (two, fits) = absurd (omega arith)
 -- four numbers added from the last or from the first
 pub sum_from_last : (n a b c d : ℕ) → (a + (b + (c + d) % n) % n) % n ≡ (((a + b) % n + c) % n + d) % n
 sum_from_last n a b c d = simp (add-mod-mod, mod-add-mod) (ap (λ (x : ℕ). x % n) (omega arith))
+
+-- two numbers added to a third at once or in turn
+pub sum_of_pair : (n x k w : ℕ) → (x + (k + w) % n) % n ≡ ((x + k) % n + w) % n
+sum_of_pair n x k w = simp (add-mod-mod, mod-add-mod) (ap (λ (m : ℕ). m % n) (omega arith))

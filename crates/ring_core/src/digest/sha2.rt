@@ -5,6 +5,7 @@ ghost use Rattle.ring_core.specs.Cost.{raised};
 ghost use Rattle.ring_core.specs.Schedule.{IsBefore, IsRing};
 ghost use Rattle.ring_core.specs.Sha2.{Σ0, Σ1, W, add_state, block_len, block_step, chain_from, family_256, family_512, words_32, words_64, round, rounds_from, three_rotations};
 ghost use Rattle.ring_core.specs.Views.{chunk_items, chunk_total};
+ghost use Rattle.ring_core.specs.Word.{add_words};
 
 pub(crate) mod constants;
 mod lanes;
@@ -18,7 +19,7 @@ use crate::polyfill::slice::AsChunks;
 use std::num::Wrapping;
 
 // ROTR first ⊕ ROTR second ⊕ ROTR third, one inside the other: side by side they need two copies of
-// the word more, and a block function waits for its count of instructions.
+// the word more, and these take longer than each waits for the next.
 #[inline(always)]
 fn rotations<S: Word>(x: S, counts: (u32, u32, u32)) -> S
     requires first { 1 ≤ counts.0 }
@@ -49,16 +50,13 @@ fn big_sigma_1<S: Sha2>(x: S) -> S
     rotations(x, S::BIG_SIGMA_1)
 }
 
-// One round (step 3).
-fn round<S: Sha2>(v: [S; 8], k: S, word: S) -> [S; 8]
-    ensures { map S.value result ≡ round S.family (map S.value v) (S.value k) (S.value word) }
+// One round (step 3), by the sum of its constant and its word.
+fn round<S: Sha2>(v: [S; 8], sum: S) -> [S; 8]
+    ensures { (k w : ℕ) → S.value sum ≡ add_words S.bits k w
+        → map S.value result ≡ round S.family (map S.value v) k w }
 {
     let [a, b, c, d, e, f, g, h] = v;
-    let temp1 = h
-        .plus(big_sigma_1(e))
-        .plus(choose_word(e, f, g))
-        .plus(k)
-        .plus(word);
+    let temp1 = h.plus(big_sigma_1(e)).plus(choose_word(e, f, g)).plus(sum);
     let temp2 = big_sigma_0(a).plus(majority_word(a, b, c));
     [temp1.plus(temp2), a, b, c, d.plus(temp1), e, f, g]
 }
@@ -68,7 +66,7 @@ fn round<S: Sha2>(v: [S; 8], k: S, word: S) -> [S; 8]
 
 // Rounds `16 * turn + place` and the next, by the words at `place`.
 #[inline(always)]
-fn two_rounds<S: Sha2>(ring: &[S; 16], v: [S; 8], turn: usize, place: usize) -> [S; 8]
+fn two_rounds<S: Lanes>(ring: &[S; 16], v: [S; 8], turn: usize, place: usize) -> [S; 8]
     requires place { place + 2 ≤ 16 }
     requires turn { 16 * turn + 16 ≤ S.family.rounds }
     ensures { (h b : List ℕ) (n t : ℕ) → IsRing (W S.family b) (map S.value ring.now) n
@@ -77,8 +75,8 @@ fn two_rounds<S: Sha2>(ring: &[S; 16], v: [S; 8], turn: usize, place: usize) -> 
         → map S.value result ≡ rounds_from S.family h b (t + 2) }
 {
     let t = 16 * turn + place;
-    let [first, second] = pair(ring, place);
-    round(round(v, S::k(t), first), S::k(t + 1), second)
+    let [first, second] = S::add_pairs([S::k(t), S::k(t + 1)], pair(ring, place));
+    round(round(v, first), second)
 }
 
 // The same after the first turn, where the words are made first.
@@ -99,7 +97,7 @@ fn next_two_rounds<S: Lanes>(ring: &mut [S; 16], v: [S; 8], turn: usize, place: 
 
 // The first sixteen rounds, by the block's own words.
 #[inline(always)]
-fn first_turn<S: Sha2>(ring: &[S; 16], v: [S; 8]) -> [S; 8]
+fn first_turn<S: Lanes>(ring: &[S; 16], v: [S; 8]) -> [S; 8]
     ensures { (b : List ℕ) → IsRing (W S.family b) (map S.value ring.now) 16
         → map S.value result ≡ rounds_from S.family (map S.value v) b 16 }
 {

@@ -1,7 +1,8 @@
 //! The schedule of SHA-2, two words at a time (FIPS 180-4, 6.2.2 and 6.4.2, step 1).
-ghost use Rattle.std.specs.Prelude.{◌≡◌, ℕ, ◌+◌, ◌%◌, ◌≤◌, List, map};
+ghost use Rattle.std.specs.Prelude.{◌≡◌, ℕ, ◌+◌, ◌%◌, ◌≤◌, List, [], ◌∷◌, map};
 ghost use Rattle.ring_core.specs.Schedule.{IsRing};
 ghost use Rattle.ring_core.specs.Sha2.{W};
+ghost use Rattle.ring_core.specs.Word.{add_words};
 
 mod w32;
 mod w64;
@@ -17,4 +18,10 @@ pub(crate) trait Lanes: Sha2 {
         ensures { (b : List ℕ) (t : ℕ) → 16 ≤ t → place ≡ t % 16
             → IsRing (W Self.family b) (map Self.value ring.old) t
             → IsRing (W Self.family b) (map Self.value ring.new) (t + 2) };
+
+    // The sum of the first words, and that of the second, for the constants of two rounds and
+    // their words.
+    fn add_pairs(x: [Self; 2], y: [Self; 2]) -> [Self; 2]
+        ensures { (a b c d : ℕ) → map Self.value x ≡ a ∷ b ∷ [] → map Self.value y ≡ c ∷ d ∷ []
+            → map Self.value result ≡ add_words Self.bits a c ∷ add_words Self.bits b d ∷ [] };
 }

@@ -1,8 +1,8 @@
 //! Two words of 32 bits at a time: the schedule of SHA-256
 //! (FIPS 180-4, 6.2.2, step 1).
-ghost use Rattle.std.specs.Prelude.{◌≡◌, ◌<◌, ◌≤◌, [], ◌∷◌, slice_index, map};
-ghost use Rattle.ring_core.specs.Sha2.{family_256, scheduled, σ0, σ1};
-ghost use Rattle.ring_core.specs.Word.{◌⊕◌, rotr};
+ghost use Rattle.std.specs.Prelude.{◌≡◌, ℕ, ◌<◌, ◌≤◌, [], ◌∷◌, slice_index, map};
+ghost use Rattle.ring_core.specs.Sha2.{family_256, scheduled, words_32, σ0, σ1};
+ghost use Rattle.ring_core.specs.Word.{◌⊕◌, add_words, rotr};
 
 use crate::digest::schedule::{pair, set_pair};
 use crate::digest::sha2::lanes::Lanes;
@@ -59,5 +59,13 @@ impl Lanes for Wrapping<u32> {
         let two = to_lanes(pair(ring, (place + 14) % 16));
         let next = next_two(sixteen, fifteen, seven, two);
         set_pair(ring, place, from_lanes(next));
+    }
+
+    #[inline(always)]
+    fn add_pairs(x: [Wrapping<u32>; 2], y: [Wrapping<u32>; 2]) -> [Wrapping<u32>; 2]
+        ensures { (a b c d : ℕ) → words_32 x ≡ a ∷ b ∷ [] → words_32 y ≡ c ∷ d ∷ []
+            → words_32 result ≡ add_words 32 a c ∷ add_words 32 b d ∷ [] }
+    {
+        from_lanes(to_lanes(x) + to_lanes(y))
     }
 }

@@ -46,6 +46,17 @@ message-padded a p m bytes lp lm h =
     let tail : m ++ prepared_padding a ≡ tail_of a m (length (p ++ m)) = rw (len, lm) (sym (append_assoc m _ _)) in
     ap (λ z. p ++ z) (block ∙ tail) ∙ sym (padded-append a p m whole)
 
+-- the same of a block that was made so, where the algorithm and the block's length are told apart
+pub block-padded : (a b : Algorithm) (p m bytes block : List ℕ) (n : ℕ) → b ≡ a → n ≡ block_len a → length p ≡ block_len a → length m ≡ output_len a
+    → past_message a bytes ≡ prepared_padding a → block ≡ m ++ drop (length m) bytes → p ++ take n block ≡ padded b (p ++ m)
+block-padded a b p m bytes block n eb en lp lm h e =
+    ap (λ z. p ++ take n z) (e ∙ ap (λ z. m ++ drop z bytes) lm) ∙ ap (λ z. p ++ take z (m ++ drop (output_len a) bytes)) en
+    ∙ message-padded a p m bytes lp lm h ∙ ap (λ z. padded z (p ++ m)) (sym eb)
+
+-- a message of the same length in its place
+pub message-replaced : (m x bytes block : List ℕ) → block ≡ m ++ drop (length m) bytes → length x ≡ length m → x ++ drop (length x) block ≡ x ++ drop (length x) bytes
+message-replaced m x bytes block e lx = rw (e, lx) (ap (λ z. x ++ z) (drop_at m (drop (length m) bytes) (length m) refl))
+
 -- the cost of one block
 pub cost_one : (a : Algorithm) (m0 m1 : Counts) (x : List ℕ) (n : ℕ) → n ≡ block_len a → length x ≡ 128 → m1 ≡ raised m0 (whole_blocks a (length (take n x))) 0 → m1 ≡ raised m0 1 0
 cost_one a m0 m1 x n en lx em =

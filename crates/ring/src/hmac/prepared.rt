@@ -1,15 +1,14 @@
 //! Tags of messages that are as long as a digest.
 
-ghost use Rattle.std.specs.Prelude.{◌≡◌, ℕ, List, ◌++◌, length, take};
+ghost use Rattle.std.specs.Prelude.{◌≡◌, ℕ, ◌≤◌, List, ◌++◌, drop, length};
 ghost use Rattle.ring_core.specs.Cost.{raised};
-ghost use Rattle.ring.specs.Algorithm.{block_len, output_len};
-ghost use Rattle.ring.specs.Context.{HasTaken, block_algorithm};
-ghost use Rattle.ring.specs.Digest.{digest_of};
+ghost use Rattle.ring.specs.Algorithm.{output_len};
 ghost use Rattle.ring.specs.Prepared.{past_message, prepared_padding};
 
-use crate::digest::algorithm::{MAX_BLOCK_LEN, MAX_OUTPUT_LEN};
-use crate::digest::block_context::BlockContext;
-use crate::digest::dynstate::Output;
+use crate::digest::algorithm::{
+    MAX_BLOCK_LEN, MAX_OUTPUT_LEN, SHA1_OUTPUT_LEN, SHA256_OUTPUT_LEN, SHA384_OUTPUT_LEN,
+    SHA512_OUTPUT_LEN,
+};
 use crate::digest::value::Digest;
 use crate::digest::{Algorithm, padding};
 use crate::hmac::key::Key;
@@ -23,6 +22,22 @@ pub(crate) struct PreparedBlock {
     bytes: [u8; MAX_BLOCK_LEN],
     algorithm: Algorithm,
     ghost padded: { past_message algorithm bytes ≡ prepared_padding algorithm },
+}
+
+// Puts a message at the front of a block. Each length of a digest stands for itself, since a copy
+// of a known length is a few instructions.
+#[inline(always)]
+fn put_message(block: &mut [u8; MAX_BLOCK_LEN], message: &[u8])
+    requires { length message.now ≤ MAX_BLOCK_LEN }
+    ensures { block.new ≡ message.now ++ drop (length message.now) block.old }
+{
+    match message.len() {
+        SHA1_OUTPUT_LEN => block[..SHA1_OUTPUT_LEN].copy_from_slice(message),
+        SHA256_OUTPUT_LEN => block[..SHA256_OUTPUT_LEN].copy_from_slice(message),
+        SHA384_OUTPUT_LEN => block[..SHA384_OUTPUT_LEN].copy_from_slice(message),
+        SHA512_OUTPUT_LEN => block[..SHA512_OUTPUT_LEN].copy_from_slice(message),
+        len => block[..len].copy_from_slice(message),
+    }
 }
 
 impl PreparedBlock {
@@ -49,23 +64,12 @@ impl PreparedBlock {
         ensures cost { meter.new ≡ raised meter.old 2 0 }
         ensures algorithm { tag_algorithm result ≡ key_algorithm key.now }
     {
-        let inner = self.output_after(&key.inner, message, meter);
-        let outer = self.output_after(&key.outer, &inner.0[..message.len()], meter);
-        Tag::new(Digest::new(outer, self.algorithm))
-    }
-
-    // The output after a key's masked block and the message.
-    fn output_after(&self, masked: &BlockContext, message: &[u8], meter: &mut Meter) -> Output
-        requires same { prepared_algorithm self.now ≡ block_algorithm masked.now }
-        requires len { length message.now ≡ output_len (block_algorithm masked.now) }
-        ensures ok { (p : List ℕ) → HasTaken masked.now p
-            → length p ≡ block_len (block_algorithm masked.now)
-            → take (output_len (block_algorithm masked.now)) result.0
-            ≡ digest_of (block_algorithm masked.now) (p ++ message.now) }
-        ensures cost { meter.new ≡ raised meter.old 1 0 }
-    {
+        let block_len = self.algorithm.block_len();
         let mut block = self.bytes;
-        block[..message.len()].copy_from_slice(message);
-        masked.output_after(&block[..self.algorithm.block_len()], meter)
+        put_message(&mut block, message);
+        let inner = key.inner.output_after(&block[..block_len], meter);
+        put_message(&mut block, &inner.0[..message.len()]);
+        let outer = key.outer.output_after(&block[..block_len], meter);
+        Tag::new(Digest::new(outer, self.algorithm))
     }
 }

@@ -1,0 +1,106 @@
+//! The block functions alone: two runs a step, over a block that holds the step's number.
+
+ghost use Rattle.std.specs.Prelude.{◌≡◌, ◌%◌, ◌^◌, ◌≤◌, map, replicate, slice_index, take};
+ghost use Rattle.ring_core.specs.Sha1 as sha1;
+ghost use Rattle.ring_core.specs.Sha2.{block_step, family_256, family_512, words_32, words_64};
+ghost use Rattle.ring_core.specs.Word.{word_32};
+ghost use Rattle.ring_speed.specs.Chains as chains;
+ghost use Rattle.ring_speed.specs.Chains.{words_after};
+
+use ring::polyfill::slice::AsChunks;
+use ring_core::digest::sha1::sha1_block_data_order;
+use ring_core::digest::sha2::{State32, State64, block_data_order_32, block_data_order_64};
+use std::num::Wrapping;
+
+// The bytes of a block of SHA-1 and SHA-256.
+const BLOCK_LEN_32: usize = 64;
+
+// The bytes of a block of SHA-512.
+const BLOCK_LEN_64: usize = 128;
+
+// The block of this number. A block that stayed the same would let the compiler make its schedule
+// once for all steps.
+fn numbered<const N: usize>(number: u32) -> [u8; N]
+    requires { 4 ≤ N }
+    ensures { result ≡ chains.numbered N number }
+{
+    let mut block = [0; N];
+    block[..4].copy_from_slice(&number.to_be_bytes());
+    block
+}
+
+// A parameter that is a number is known to fit its type, and one inside a struct isn't.
+fn number_of(word: u64) -> u64
+    ensures { result ≡ word % 2 ^ 64 }
+{
+    word
+}
+
+// So many steps of SHA-1.
+fn run_sha1(state: &mut State32, steps: u32)
+    ensures { take 5 (map word_32 state.new)
+        ≡ words_after sha1.block_step BLOCK_LEN_32 (take 5 (map word_32 state.old)) steps }
+{
+    'steps: for step in 0..steps {
+        let block = numbered::<BLOCK_LEN_32>(step);
+        sha1_block_data_order(state, AsChunks::from_ref(&block));
+        sha1_block_data_order(state, AsChunks::from_ref(&block));
+    }
+}
+
+// So many steps of SHA-256.
+fn run_sha256(state: &mut State32, steps: u32)
+    ensures { words_32 state.new
+        ≡ words_after (block_step family_256) BLOCK_LEN_32 (words_32 state.old) steps }
+{
+    'steps: for step in 0..steps {
+        let block = numbered::<BLOCK_LEN_32>(step);
+        block_data_order_32(state, AsChunks::from_ref(&block));
+        block_data_order_32(state, AsChunks::from_ref(&block));
+    }
+}
+
+// So many steps of SHA-512.
+fn run_sha512(state: &mut State64, steps: u32)
+    ensures { words_64 state.new
+        ≡ words_after (block_step family_512) BLOCK_LEN_64 (words_64 state.old) steps }
+{
+    'steps: for step in 0..steps {
+        let block = numbered::<BLOCK_LEN_64>(step);
+        block_data_order_64(state, AsChunks::from_ref(&block));
+        block_data_order_64(state, AsChunks::from_ref(&block));
+    }
+}
+
+/// The block function of SHA-1, from words of 0.
+#[unsafe(no_mangle)]
+pub extern "C" fn ring_speed_blocks_sha1(steps: u32) -> u64
+    ensures { result ≡ slice_index
+        (words_after sha1.block_step BLOCK_LEN_32 (replicate 5 0) steps) 0 }
+{
+    let mut state = [Wrapping(0); 8];
+    run_sha1(&mut state, steps);
+    state[0].0 as u64
+}
+
+/// The block function of SHA-256, from words of 0.
+#[unsafe(no_mangle)]
+pub extern "C" fn ring_speed_blocks_sha256(steps: u32) -> u64
+    ensures { result ≡ slice_index
+        (words_after (block_step family_256) BLOCK_LEN_32 (replicate 8 0) steps) 0 }
+{
+    let mut state = [Wrapping(0); 8];
+    run_sha256(&mut state, steps);
+    state[0].0 as u64
+}
+
+/// The block function of SHA-512, from words of 0.
+#[unsafe(no_mangle)]
+pub extern "C" fn ring_speed_blocks_sha512(steps: u32) -> u64
+    ensures { result ≡ slice_index
+        (words_after (block_step family_512) BLOCK_LEN_64 (replicate 8 0) steps) 0 }
+{
+    let mut state = [Wrapping(0); 8];
+    run_sha512(&mut state, steps);
+    number_of(state[0].0)
+}

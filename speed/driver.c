@@ -1,0 +1,178 @@
+// Times the work of `crates/ring_speed` beside the same work by OpenSSL, once all agree on what it
+// gives, and prints a table of ratios. All take turns, again and again, and the least times count.
+#include "work.h"
+
+#include <alloca.h>
+#include <openssl/crypto.h>
+#include <stdio.h>
+#include <stdlib.h>
+#include <time.h>
+
+enum { REPETITIONS = 100, PLACES = 16, PLACE_LEN = 272 };
+
+enum hash { SHA1, SHA256, SHA512, HASHES };
+
+static const char *const hash_names[HASHES] = {"SHA1", "SHA256", "SHA512"};
+
+enum contender { OURS, KIT, OPENSSL, CONTENDERS };
+
+struct row {
+    const char *name;
+    uint32_t steps;
+    int bytes; // of a step, where MB/s say more than its time
+    int blocks[HASHES]; // of a step
+    work *ours[HASHES], *kit[HASHES];
+    openssl_work *openssl;
+    double least[HASHES][CONTENDERS]; // seconds of a step
+};
+
+static struct row rows[] = {
+    {
+        .name = "two blocks",
+        .steps = 10000,
+        .blocks = {2, 2, 2},
+        .ours = {ring_speed_blocks_sha1, ring_speed_blocks_sha256, ring_speed_blocks_sha512},
+        .openssl = openssl_blocks,
+    },
+    {
+        .name = "iterate of PBKDF2",
+        .steps = 10000,
+        .blocks = {2, 2, 2},
+        .ours = {ring_speed_iterates_sha1, ring_speed_iterates_sha256, ring_speed_iterates_sha512},
+        .openssl = openssl_iterates,
+    },
+    {
+        .name = "tag of 64 bytes",
+        .steps = 10000,
+        .blocks = {3, 3, 2},
+        .ours = {ring_speed_tags_sha1, ring_speed_tags_sha256, ring_speed_tags_sha512},
+        .openssl = openssl_tags,
+    },
+    {
+        .name = "digest of 64 bytes",
+        .steps = 10000,
+        .blocks = {2, 2, 1},
+        .ours = {ring_speed_short_sha1, ring_speed_short_sha256, ring_speed_short_sha512},
+        .kit = {ring_speed_kit_short_sha1, ring_speed_kit_short_sha256, ring_speed_kit_short_sha512},
+        .openssl = openssl_short,
+    },
+    {
+        .name = "digest of 64 KiB",
+        .steps = 20,
+        .bytes = 65536,
+        .blocks = {1025, 1025, 513},
+        .ours = {ring_speed_long_sha1, ring_speed_long_sha256, ring_speed_long_sha512},
+        .kit = {ring_speed_kit_long_sha1, ring_speed_kit_long_sha256, ring_speed_kit_long_sha512},
+        .openssl = openssl_long,
+    },
+};
+
+enum { ROWS = sizeof rows / sizeof rows[0] };
+
+static int takes_part(const struct row *row, enum hash hash, enum contender contender)
+{
+    return contender != KIT || row->kit[hash] != NULL;
+}
+
+static uint64_t run(const struct row *row, enum hash hash, enum contender contender, uint32_t steps)
+{
+    if (contender == OPENSSL)
+        return row->openssl(hash_names[hash], steps);
+    return (contender == KIT ? row->kit : row->ours)[hash](steps);
+}
+
+static void check(const struct row *row, enum hash hash, uint32_t steps)
+{
+    uint64_t ours = run(row, hash, OURS, steps);
+    for (enum contender it = KIT; it < CONTENDERS; it++)
+        if (takes_part(row, hash, it) && run(row, hash, it, steps) != ours) {
+            fprintf(stderr, "speed: no agreement on %s, %s, after %u steps\n", row->name,
+                    hash_names[hash], (unsigned)steps);
+            exit(1);
+        }
+}
+
+static void check_all(void)
+{
+    for (int i = 0; i < ROWS; i++)
+        for (enum hash hash = 0; hash < HASHES; hash++)
+            for (uint32_t steps = 1; steps <= 256; steps *= 2)
+                check(&rows[i], hash, steps);
+}
+
+static double seconds(void)
+{
+    struct timespec now;
+    clock_gettime(CLOCK_PROCESS_CPUTIME_ID, &now);
+    return (double)now.tv_sec + 1e-9 * (double)now.tv_nsec;
+}
+
+// Where a process has its stack is up to chance and worth 6 %, so it is timed all over a page.
+static double timed(const struct row *row, enum hash hash, enum contender contender, int place)
+{
+    volatile char *skipped = alloca(PLACE_LEN * (place + 1));
+    *skipped = 0;
+    double start = seconds();
+    run(row, hash, contender, row->steps);
+    return (seconds() - start) / row->steps;
+}
+
+static void time_row(struct row *row, enum hash hash, int place)
+{
+    for (enum contender it = OURS; it < CONTENDERS; it++) {
+        if (!takes_part(row, hash, it))
+            continue;
+        double taken = timed(row, hash, it, place);
+        double *least = &row->least[hash][it];
+        if (*least == 0 || taken < *least)
+            *least = taken;
+    }
+}
+
+static void time_all(void)
+{
+    for (int repetition = 0; repetition < REPETITIONS; repetition++)
+        for (int i = 0; i < ROWS; i++)
+            for (enum hash hash = 0; hash < HASHES; hash++)
+                time_row(&rows[i], hash, repetition % PLACES);
+}
+
+static void print_ratio(double ours, double other)
+{
+    if (other > 0)
+        printf(" %.2f |", ours / other);
+    else
+        printf(" |");
+}
+
+static void print_row(const struct row *row, enum hash hash)
+{
+    double ours = row->least[hash][OURS];
+    double block = rows[0].least[hash][OURS] / 2;
+    printf("| %s | %s |", row->name, hash_names[hash]);
+    if (row->bytes > 0)
+        printf(" %.0f MB/s |", 1e-6 * row->bytes / ours);
+    else
+        printf(" %.0f ns |", 1e9 * ours);
+    print_ratio(ours, row->blocks[hash] * block);
+    print_ratio(ours, row->least[hash][KIT]);
+    print_ratio(ours, row->least[hash][OPENSSL]);
+    printf("\n");
+}
+
+static void print_all(void)
+{
+    printf("Least of %d, beside %s:\n\n", REPETITIONS, OpenSSL_version(OPENSSL_VERSION));
+    printf("| Work | Hash | Yezdopin | / its blocks | / kit | / OpenSSL |\n|---|---|---|---|---|---|\n");
+    for (int i = 0; i < ROWS; i++)
+        for (enum hash hash = 0; hash < HASHES; hash++)
+            print_row(&rows[i], hash);
+}
+
+int main(void)
+{
+    check_all();
+    time_all();
+    print_all();
+    return 0;
+}

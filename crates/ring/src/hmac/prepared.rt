@@ -24,8 +24,8 @@ pub(crate) struct PreparedBlock {
     ghost padded: { past_message algorithm bytes ≡ prepared_padding algorithm },
 }
 
-// Puts a message at the front of a block. Each length of a digest stands for itself, since a copy
-// of a known length is a few instructions.
+// Puts a message at the front of a block. In line, and with each length of a digest by itself, the
+// copy is a few instructions: its length is known then, and that the two lie apart.
 #[inline(always)]
 fn put_message(block: &mut [u8; MAX_BLOCK_LEN], message: &[u8])
     requires { length message.now ≤ MAX_BLOCK_LEN }

@@ -42,7 +42,7 @@ impl Algorithm {
 }
 
 // Each constant is HKDF over the digest algorithm of its name.
-pub(crate) fn constants_are_built_on_their_digests()
+pub(crate) fn constants_are_based_on_their_digests()
     ensures sha1 { hash_of HKDF_SHA1_FOR_LEGACY_USE_ONLY ≡ SHA1_FOR_LEGACY_USE_ONLY }
     ensures sha256 { hash_of HKDF_SHA256 ≡ SHA256 }
     ensures sha384 { hash_of HKDF_SHA384 ≡ SHA384 }

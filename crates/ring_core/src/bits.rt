@@ -1,6 +1,6 @@
 //! Lengths in bits, and their making from lengths in bytes.
 ghost use Rattle.std.specs.Prelude.{◌≡◌, Result};
-ghost use Rattle.std.specs.Int.{div_ceil, to_be_bytes, w64};
+ghost use Rattle.std.specs.Int.{div_ceil, to_be_bytes, w128, w64};
 ghost use Rattle.ring_core.specs.declared.error.InputTooLongError.{InputTooLongError};
 ghost use Rattle.ring_core.specs.Bits.{GivesBits, GivesNonZero, bit_count};
 
@@ -50,6 +50,16 @@ impl BitLength<u64> {
     }
 }
 
+impl BitLength<u128> {
+    /// The number of bits as sixteen bytes, the highest first.
+    pub fn to_be_bytes(self) -> [u8; 16]
+        ensures { result ≡ to_be_bytes w128 (bit_count self) }
+    {
+        let bits = self.0;
+        bits.to_be_bytes()
+    }
+}
+
 /// What can be made from a number of bytes.
 pub trait FromByteLen<T>: Sized {
     // holds of a number of bytes and each answer that `from_byte_len` may give for it
@@ -76,6 +86,17 @@ impl FromByteLen<u64> for BitLength<u64> {
 
     fn from_byte_len(bytes: u64) -> Result<Self, InputTooLongError<u64>> {
         match bytes.checked_mul(BITS_PER_BYTE as u64) {
+            Some(bits) => Ok(BitLength(bits)),
+            None => Err(InputTooLongError::new(bytes)),
+        }
+    }
+}
+
+impl FromByteLen<u128> for BitLength<u128> {
+    ghost from_byte_len_gives = { λ bytes result. GivesBits 128 bytes result };
+
+    fn from_byte_len(bytes: u128) -> Result<Self, InputTooLongError<u128>> {
+        match bytes.checked_mul(BITS_PER_BYTE as u128) {
             Some(bits) => Ok(BitLength(bits)),
             None => Err(InputTooLongError::new(bytes)),
         }

@@ -1,10 +1,10 @@
 -- How the last blocks make up the padding.
-use Rattle.std.proofs.Common.{◌≡◌, ℕ, ◌+◌, ◌-◌, ◌*◌, ◌^◌, ◌<◌, ◌≤◌, inl, inr, IsTrue, List, ◌++◌, length, replicate, refl, ap, ◌∙◌, arith, rules, length-append, min, sym, append_assoc, take}
+use Rattle.std.proofs.Common.{◌≡◌, ℕ, ◌+◌, ◌-◌, ◌*◌, ◌^◌, ◌≤◌, inl, inr, IsTrue, List, ◌++◌, length, replicate, refl, ap, ◌∙◌, arith, rules, length-append, min, sym, append_assoc, drop, take}
 use Rattle.ring.proofs.Lengths.{length-chain}
 use Rattle.std.proofs.lemmas.List.Concat.{flat_map-append}
 use Rattle.std.proofs.lemmas.List.{take-append-le, take-append-drop}
-use Rattle.std.specs.Int.{bytes_high_first, byte_at}
-use Rattle.ring.specs.Algorithm.{is_state_of, length_len, output_len, word_len, chaining_words, spare_words, word_count}
+use Rattle.std.specs.Int.{bytes_high_first}
+use Rattle.ring.specs.Algorithm.{is_state_of, length_len, max_input_len, output_len, word_len, chaining_words, spare_words, word_count}
 use Rattle.ring.specs.Context.{HasTaken}
 use Rattle.ring.specs.Digest.{chain, digest_of}
 use Rattle.ring.specs.Padding.{padded}
@@ -13,24 +13,12 @@ use Rattle.ring.specs.declared.digest.algorithm.Algorithm.{Algorithm}
 use Rattle.ring.specs.declared.digest.block_context.BlockContext.{BlockContext}
 use Rattle.ring.specs.declared.digest.dynstate.DynState.{DynState}
 use Rattle.ring.proofs.Outputs.{length-word_bytes}
-use Rattle.ring.proofs.Rows.{sizes_of, output_len-most}
+use Rattle.ring.proofs.Rows.{max_input_len-most, output_len-most, sizes_of}
 
--- a length field of 16 bytes below 2 ^ 64
-long_field : (v : ℕ) → v < 2 ^ 64 → bytes_high_first 16 v ≡ replicate 8 0 ++ bytes_high_first 8 v
-long_field v h =
-    let e8 : byte_at 8 v ≡ 0 = omega arith in
-    let e9 : byte_at 9 v ≡ 0 = omega arith in
-    let e10 : byte_at 10 v ≡ 0 = omega arith in
-    let e11 : byte_at 11 v ≡ 0 = omega arith in
-    let e12 : byte_at 12 v ≡ 0 = omega arith in
-    let e13 : byte_at 13 v ≡ 0 = omega arith in
-    let e14 : byte_at 14 v ≡ 0 = omega arith in
-    let e15 : byte_at 15 v ≡ 0 = omega arith in
-    cc
-
--- the length field of either size
-pub length_field : (a : Algorithm) (v : ℕ) → v < 2 ^ 64 → bytes_high_first (length_len a) v ≡ replicate (length_len a - 8) 0 ++ bytes_high_first 8 v
-length_field a v h = elim (sizes_of a) [ inl s ↦ rw s.1 refl | inr s ↦ rw s.1 (long_field v h) ]
+-- a length field of eight bytes is the end of one of sixteen
+pub length_field : (a : Algorithm) (v : ℕ)
+    → take (16 - (16 - length_len a)) (drop (16 - length_len a) (bytes_high_first 16 v)) ≡ bytes_high_first (length_len a) v
+length_field a v = elim (sizes_of a) [ inl s ↦ rw s.1 refl | inr s ↦ rw s.1 refl ]
 
 -- the words that chain come first
 word_bytes_front : (a : Algorithm) (n : ℕ) (s : DynState)
@@ -58,5 +46,6 @@ digest_from out s a m ev sized ew =
     ∙ ap (λ (z : List ℕ). take (output_len a) (word_bytes w z)) ew)
 
 -- the length of what the block context has taken in and the pending bytes
-pub taken_len : (b : BlockContext) (p x : List ℕ) (len : ℕ) → HasTaken b p → len ≡ min (b.completed_bytes + length x) (2 ^ 64 - 1) → len ≤ 2 ^ 61 - 1 → length (p ++ x) ≡ len
-taken_len b p x len h e most = omega (arith, h.count, length-append p x)
+pub taken_len : (b : BlockContext) (p x : List ℕ) (len : ℕ) → HasTaken b p → len ≡ min (b.completed_bytes + length x) (2 ^ 128 - 1)
+    → len ≤ max_input_len b.algorithm → length (p ++ x) ≡ len
+taken_len b p x len h e most = omega (arith, h.count, length-append p x, max_input_len-most b.algorithm)

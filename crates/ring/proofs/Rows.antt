@@ -1,6 +1,6 @@
 -- What the rows have in common.
-use Rattle.std.proofs.Common.{◌≡◌, zero, ◌<◌, ◌≤◌, ◌+◌, ◌*◌, ◌⊎◌, refl, inl, inr, lit<, lit≤, ◌/◌}
-use Rattle.ring.specs.Algorithm.{block_len, length_len, output_len, row_of, word_len, word_count}
+use Rattle.std.proofs.Common.{◌≡◌, zero, ◌<◌, ◌≤◌, ◌+◌, ◌-◌, ◌*◌, ◌^◌, ◌⊎◌, refl, inl, inr, lit<, lit≤, ◌/◌}
+use Rattle.ring.specs.Algorithm.{block_len, length_len, max_input_len, output_len, row_of, word_len, word_count}
 use Rattle.ring.specs.declared.digest.algorithm.Algorithm.{Algorithm}
 use Rattle.ring.specs.declared.digest.algorithm.AlgorithmId.{AlgorithmId}
 use Rattle.ring.specs.declared.digest.algorithm.AlgorithmId.TheVariants.{Sha1, Sha256, Sha384, Sha512, Sha512_256}
@@ -33,9 +33,6 @@ output_len-most_of_id Sha512_256 = lit≤ tt
 pub output_len-most : (a : Algorithm) → output_len a ≤ word_len a * word_count a
 output_len-most a = output_len-most_of_id a.id
 
-pub length_len-least : (a : Algorithm) → 8 ≤ length_len a
-length_len-least a = elim (sizes_of a) [ inl h ↦ rw h.1 (lit≤ tt) | inr h ↦ rw h.1 (lit≤ tt) ]
-
 pub length_len-most : (a : Algorithm) → length_len a + 48 ≤ block_len a
 length_len-most a = elim (sizes_of a) [ inl h ↦ rw (h.0, h.1) (lit≤ tt) | inr h ↦ rw (h.0, h.1) (lit≤ tt) ]
 
@@ -59,3 +56,14 @@ output_len-fits_of_id Sha512_256 = lit≤ tt
 -- no digest has more than 64 bytes
 pub output_len-fits : (a : Algorithm) → output_len a ≤ 64
 output_len-fits a = output_len-fits_of_id a.id
+
+max_input_len-most_of_id : (i : AlgorithmId) → (row_of i).max_input_len ≤ 2 ^ 125 - 1
+max_input_len-most_of_id Sha1 = lit≤ tt
+max_input_len-most_of_id Sha256 = lit≤ tt
+max_input_len-most_of_id Sha384 = lit≤ tt
+max_input_len-most_of_id Sha512 = lit≤ tt
+max_input_len-most_of_id Sha512_256 = lit≤ tt
+
+-- no limit is past that of 128 bits
+pub max_input_len-most : (a : Algorithm) → max_input_len a ≤ 2 ^ 125 - 1
+max_input_len-most a = max_input_len-most_of_id a.id

@@ -1,6 +1,6 @@
 -- What follows the whole blocks of a padded message.
-use Rattle.std.proofs.Common.{◌≡◌, ℕ, suc, ◌+◌, ◌-◌, ◌*◌, ◌/◌, ◌%◌, ◌^◌, ◌<◌, ◌≤◌, ◌⊎◌, inl, inr, List, ◌∷◌, ◌++◌, length, take, drop, replicate, slice_set, sym, ap, ◌∙◌, arith, length-append, append_assoc, refl}
-use Rattle.std.proofs.lemmas.List.{drop-replicate, take-replicate, length-replicate, replicate-append-replicate}
+use Rattle.std.proofs.Common.{◌≡◌, ℕ, suc, ◌+◌, ◌-◌, ◌*◌, ◌/◌, ◌%◌, ◌<◌, ◌≤◌, ◌⊎◌, inl, inr, List, ◌∷◌, ◌++◌, length, take, drop, replicate, slice_set, sym, ap, ◌∙◌, arith, length-append, append_assoc, refl}
+use Rattle.std.proofs.lemmas.List.{drop-replicate, take-replicate, length-replicate}
 use Rattle.std.proofs.Math.Seq.{set-append_seam, take-append-add}
 use Rattle.std.proofs.lemmas.Slice.{take-put_mid}
 use Rattle.std.specs.Int.{bytes_high_first}
@@ -16,8 +16,9 @@ use Rattle.ring_core.specs.Chunks.{chained}
 use Rattle.ring.specs.declared.digest.block_context.BlockContext.{BlockContext}
 use Rattle.ring.specs.declared.digest.dynstate.DynState.{DynState}
 use Rattle.ring.proofs.Chains.{chain-append}
+use Rattle.ring.proofs.Outputs.{length-bytes_high_first}
 use Rattle.ring.proofs.Padding.{padded_is_padded}
-use Rattle.ring.proofs.Rows.{length_len-least, sizes_of}
+use Rattle.ring.proofs.Rows.{sizes_of}
 
 -- the tail has room for all that is written, and no more than two blocks
 pub tail_sizes : (a : Algorithm) (r : ℕ) → r < block_len a
@@ -46,13 +47,15 @@ padded-append a p x whole =
     ap (padded_with a (p ++ x)) zeros ∙ simp append_assoc
 
 -- the tail, as it is written over zeros
-pub tail_written : (a : Algorithm) (x be : List ℕ) (n t k : ℕ) → length x < block_len a → 8 * n < 2 ^ 64
-    → t ≡ padded_blocks a (length x) * block_len a → be ≡ bytes_high_first 8 (8 * n) → length be ≡ 8
-    → take t (put_mid (t - 8) k (slice_set (put_mid 0 (length x) (replicate 256 0) x) (length x) 128) be) ≡ tail_of a x n
-tail_written a x be n t k below fits et eb lb =
+pub tail_written : (a : Algorithm) (x field be : List ℕ) (n t l k : ℕ) → length x < block_len a → l ≡ length_len a
+    → t ≡ padded_blocks a (length x) * block_len a → field ≡ bytes_high_first 16 (8 * n)
+    → be ≡ take (16 - (16 - l)) (drop (16 - l) field)
+    → take t (put_mid (t - l) k (slice_set (put_mid 0 (length x) (replicate 256 0) x) (length x) 128) be) ≡ tail_of a x n
+tail_written a x field be n t l k below el et ef eb =
     let sizes = tail_sizes a (length x) below in
-    let least : 8 ≤ length_len a = length_len-least a in
-    let room : length x + 9 ≤ t = omega (arith, sizes.1) in
+    let is : be ≡ bytes_high_first (length_len a) (8 * n) = eb ∙ rw (el, ef) (length_field a (8 * n)) in
+    let long_be : length be ≡ l = ap length is ∙ length-bytes_high_first (length_len a) (8 * n) ∙ sym el in
+    let room : length x + 1 + l ≤ t = omega (arith, sizes.1) in
     let most : t ≤ 256 = omega (arith, sizes.0) in
     let s : ℕ = length x in
     let more : 256 - s ≡ suc (255 - s) = omega arith in
@@ -61,17 +64,13 @@ tail_written a x be n t k below fits et eb lb =
     rw over (set-append_seam x 0 (replicate (255 - s) 0) 128) in
     let long : length (x ++ 128 ∷ replicate (255 - s) 0) ≡ 256 =
     omega (arith, length-append x (128 ∷ replicate (255 - s) 0), length-replicate {A = ℕ} (255 - s) 0) in
-    let front : t - 8 ≡ length x + suc (t - 9 - s) = omega arith in
-    let zeros : take (t - 9 - s) (replicate (255 - s) 0) ≡ replicate (t - 9 - s) 0 = take-replicate (t - 9 - s) (255 - s) 0 (omega arith) in
-    let kept : take (t - 8) (x ++ 128 ∷ replicate (255 - s) 0) ≡ x ++ 128 ∷ replicate (t - 9 - s) 0 =
-    rw front (take-append-add x (128 ∷ replicate (255 - s) 0) (suc (t - 9 - s))) ∙ ap (λ (z : List ℕ). x ++ 128 ∷ z) zeros in
-    let sum : zeros_of a s + (length_len a - 8) ≡ t - 9 - s = omega (arith, sizes.1) in
-    take-put_mid (t - 8) k (slice_set (x ++ drop s (replicate 256 0)) s 128) be t (omega arith) (rw (set_is, long) (omega arith))
-    ∙ ap (λ (z : List ℕ). take (t - 8) z ++ be) set_is ∙ ap (λ (z : List ℕ). z ++ be) kept
-    ∙ sym (rw (length_field a (8 * n) fits, eb) (joined_runs x (bytes_high_first 8 (8 * n)) (zeros_of a s) (length_len a - 8) (t - 9 - s) sum))
-  where
-    joined_runs : (x be : List ℕ) (z y k : ℕ) → z + y ≡ k → x ++ 128 ∷ replicate z 0 ++ (replicate y 0 ++ be) ≡ (x ++ 128 ∷ replicate k 0) ++ be
-    joined_runs x be z y k e = rw (← e, ← replicate-append-replicate {A = ℕ} z y 0) (simp append_assoc)
+    let front : t - l ≡ length x + suc (zeros_of a s) = omega (arith, sizes.1) in
+    let zeros : take (zeros_of a s) (replicate (255 - s) 0) ≡ replicate (zeros_of a s) 0 = take-replicate (zeros_of a s) (255 - s) 0 (omega arith) in
+    let kept : take (t - l) (x ++ 128 ∷ replicate (255 - s) 0) ≡ x ++ 128 ∷ replicate (zeros_of a s) 0 =
+    rw front (take-append-add x (128 ∷ replicate (255 - s) 0) (suc (zeros_of a s))) ∙ ap (λ (z : List ℕ). x ++ 128 ∷ z) zeros in
+    take-put_mid (t - l) k (slice_set (x ++ drop s (replicate 256 0)) s 128) be t (omega arith) (rw (set_is, long) (omega arith))
+    ∙ ap (λ (z : List ℕ). take (t - l) z ++ be) set_is ∙ ap (λ (z : List ℕ). z ++ be) kept
+    ∙ rw is (simp append_assoc)
 
 -- what follows whole blocks in whole blocks is whole blocks
 whole-rest : (a : Algorithm) (p x : List ℕ) → IsWhole a p → IsWhole a (p ++ x) → IsWhole a x

@@ -15,14 +15,15 @@ pub record Row : Type 0 where
   pub length_len : ℕ
   pub output_len : ℕ
   pub chaining_len : ℕ
+  pub max_input_len : ℕ
 
 -- the five rows
 abbrev pub row_of : AlgorithmId → Row
-row_of Sha1 = record { word_len = 4; block_len = 64; length_len = 8; output_len = 20; chaining_len = 20 }
-row_of Sha256 = record { word_len = 4; block_len = 64; length_len = 8; output_len = 32; chaining_len = 32 }
-row_of Sha384 = record { word_len = 8; block_len = 128; length_len = 16; output_len = 48; chaining_len = 64 }
-row_of Sha512 = record { word_len = 8; block_len = 128; length_len = 16; output_len = 64; chaining_len = 64 }
-row_of Sha512_256 = record { word_len = 8; block_len = 128; length_len = 16; output_len = 32; chaining_len = 64 }
+row_of Sha1 = record { word_len = 4; block_len = 64; length_len = 8; output_len = 20; chaining_len = 20; max_input_len = 2 ^ 61 - 1 }
+row_of Sha256 = record { word_len = 4; block_len = 64; length_len = 8; output_len = 32; chaining_len = 32; max_input_len = 2 ^ 61 - 1 }
+row_of Sha384 = record { word_len = 8; block_len = 128; length_len = 16; output_len = 48; chaining_len = 64; max_input_len = 2 ^ 125 - 1 }
+row_of Sha512 = record { word_len = 8; block_len = 128; length_len = 16; output_len = 64; chaining_len = 64; max_input_len = 2 ^ 125 - 1 }
+row_of Sha512_256 = record { word_len = 8; block_len = 128; length_len = 16; output_len = 32; chaining_len = 64; max_input_len = 2 ^ 125 - 1 }
 
 -- an algorithm's row
 abbrev pub row : Algorithm → Row
@@ -52,9 +53,9 @@ chaining_len a = (row_of a.id).chaining_len
 abbrev pub word_count : Algorithm → ℕ
 word_count a = chaining_len a / word_len a
 
--- the most bytes that a message may have
+-- the most bytes that a message may have: its bits are below 2^64, or below 2^128 for blocks of 128 bytes
 abbrev pub max_input_len : Algorithm → ℕ
-max_input_len a = 2 ^ 61 - 1
+max_input_len a = (row_of a.id).max_input_len
 
 abbrev pub name_of_id : AlgorithmId → List ℕ
 name_of_id Sha1 = codes "SHA1"

@@ -10,7 +10,7 @@ use Rattle.ring.specs.declared.digest.context.Context.{Context}
 
 -- a number of bytes, cut off at the greatest that a context counts
 abbrev pub cut_off : ℕ → ℕ
-cut_off n = min n (2 ^ 64 - 1)
+cut_off n = min n (2 ^ 128 - 1)
 
 -- the algorithm of a block context
 abbrev pub block_algorithm : BlockContext → Algorithm

@@ -1,6 +1,6 @@
 //! The five algorithms and their lengths.
 
-ghost use Rattle.std.specs.Prelude.{◌≡◌, ◌↔◌, ◌≤◌, ◌-◌, ℕ, IsTrue, Some, replicate};
+ghost use Rattle.std.specs.Prelude.{◌≡◌, ◌↔◌, ◌≤◌, ◌-◌, ◌^◌, ℕ, IsTrue, Some, replicate};
 ghost use Rattle.ring_core.specs.Sha1 as sha1;
 ghost use Rattle.ring_core.specs.Sha2.{block_step, family_256, family_512};
 ghost use Rattle.ring.specs.Algorithm.{block_function, block_len, chaining_len, chaining_words, initial_words, is_state_of, length_len, max_input_len, name_of, output_len, row, spare_words, word_count};
@@ -110,12 +110,16 @@ impl Algorithm {
         }
     }
 
-    /// The length of the longest message in bytes: `2^61 - 1`, whose length in bits is the greatest
-    /// that is a whole number of bytes and fits 64 bits.
+    /// The length of the longest message in bytes: its length in bits is the greatest that is a
+    /// whole number of bytes and fits the padding's length field, of 64 bits for SHA-1 and SHA-256
+    /// and of 128 bits for the others (FIPS 180-4, sections 1 and 5.1).
     pub fn max_input_len(&self) -> u128
         ensures { result ≡ max_input_len self.now }
     {
-        (1 << 61) - 1
+        match self.id {
+            AlgorithmId::Sha1 | AlgorithmId::Sha256 => (1 << 61) - 1,
+            AlgorithmId::Sha384 | AlgorithmId::Sha512 | AlgorithmId::Sha512_256 => (1 << 125) - 1,
+        }
     }
 
     // The length of the padding's length field in bytes.
@@ -160,6 +164,7 @@ pub(crate) fn constants_are_their_rows()
       length_len = 8;
       output_len = SHA1_OUTPUT_LEN;
       chaining_len = 20;
+      max_input_len = 2 ^ 61 - 1;
     } }
     ensures sha256 { row SHA256 ≡ record {
       word_len = 4;
@@ -167,6 +172,7 @@ pub(crate) fn constants_are_their_rows()
       length_len = 8;
       output_len = SHA256_OUTPUT_LEN;
       chaining_len = 32;
+      max_input_len = 2 ^ 61 - 1;
     } }
     ensures sha384 { row SHA384 ≡ record {
       word_len = 8;
@@ -174,6 +180,7 @@ pub(crate) fn constants_are_their_rows()
       length_len = 16;
       output_len = SHA384_OUTPUT_LEN;
       chaining_len = 64;
+      max_input_len = 2 ^ 125 - 1;
     } }
     ensures sha512 { row SHA512 ≡ record {
       word_len = 8;
@@ -181,6 +188,7 @@ pub(crate) fn constants_are_their_rows()
       length_len = 16;
       output_len = SHA512_OUTPUT_LEN;
       chaining_len = 64;
+      max_input_len = 2 ^ 125 - 1;
     } }
     ensures sha512_256 { row SHA512_256 ≡ record {
       word_len = 8;
@@ -188,6 +196,7 @@ pub(crate) fn constants_are_their_rows()
       length_len = 16;
       output_len = SHA512_256_OUTPUT_LEN;
       chaining_len = 64;
+      max_input_len = 2 ^ 125 - 1;
     } }
     ensures output_lens { (SHA1_OUTPUT_LEN ≡ 20) × (SHA256_OUTPUT_LEN ≡ 32)
         × (SHA384_OUTPUT_LEN ≡ 48) × (SHA512_OUTPUT_LEN ≡ 64) × (SHA512_256_OUTPUT_LEN ≡ 32) }

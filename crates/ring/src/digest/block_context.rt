@@ -58,11 +58,11 @@ fn run_blocks<'i>(
     }
 }
 
-// The state after the whole blocks so far, and their number of bytes, cut off at `u64::MAX`.
+// The state after the whole blocks so far, and their number of bytes, cut off at `u128::MAX`.
 #[derive(Drop)]
 pub(crate) struct BlockContext {
     state: DynState,
-    completed_bytes: u64,
+    completed_bytes: u128,
     pub(crate) algorithm: Algorithm,
     ghost sized: { IsTrue (is_state_of algorithm state) },
 }
@@ -99,7 +99,7 @@ impl BlockContext {
         ensures short { length result.now < block_len (block_algorithm self.old) }
     {
         let (state, rest) = run_blocks(self.algorithm, self.state, input, meter);
-        let completed = (input.len() - rest.len()) as u64;
+        let completed = (input.len() - rest.len()) as u128;
         self.state = state;
         self.completed_bytes = self.completed_bytes.saturating_add(completed);
         rest
@@ -135,8 +135,8 @@ impl BlockContext {
             ≡ raised meter.old (padded_blocks (block_algorithm self) num_pending) 0) }
         ensures algorithm { IfOk result (λ digest. digest_algorithm digest ≡ block_algorithm self) }
     {
-        let message_len = self.completed_bytes.saturating_add(num_pending as u64);
-        if !is_message_within(&self.algorithm, message_len as u128) {
+        let message_len = self.completed_bytes.saturating_add(num_pending as u128);
+        if !is_message_within(&self.algorithm, message_len) {
             return Err(Unspecified);
         }
         let (tail, len) = padding::tail(self.algorithm, &block[..num_pending], message_len);

@@ -2,7 +2,7 @@
 
 ghost use Rattle.std.specs.Prelude.{◌≡◌, ℕ, ◌-◌, ◌*◌, ◌^◌, ◌<◌, ◌≤◌, List, length, take};
 ghost use Rattle.std.specs.Int.{bytes_high_first};
-ghost use Rattle.ring.specs.Algorithm.{block_len};
+ghost use Rattle.ring.specs.Algorithm.{block_len, max_input_len};
 ghost use Rattle.ring.specs.Cost.{padded_blocks};
 ghost use Rattle.ring.specs.Padding.{IsPadded, padded, tail_of};
 ghost use Rattle.ring.specs.declared.digest.algorithm.Algorithm.{Algorithm};
@@ -21,32 +21,33 @@ pub(crate) const MAX_TAIL_LEN: usize = 2 * MAX_BLOCK_LEN;
 pub(crate) fn tail(
     algorithm: Algorithm,
     pending: &[u8],
-    message_len: u64,
+    message_len: u128,
 ) -> ([u8; MAX_TAIL_LEN], usize)
     requires partial { length pending.now < block_len algorithm }
-    requires fits { message_len < 2 ^ 61 }
+    requires fits { message_len ≤ max_input_len algorithm }
     ensures len { result.1 ≡ padded_blocks algorithm (length pending.now) * block_len algorithm }
     ensures bytes { take result.1 result.0 ≡ tail_of algorithm pending.now message_len }
 {
     let block_len = algorithm.block_len();
-    let blocks = (pending.len() + algorithm.length_len()) / block_len + 1;
+    let length_len = algorithm.length_len();
+    let blocks = (pending.len() + length_len) / block_len + 1;
     let len = blocks * block_len;
     let mut bytes = [0u8; MAX_TAIL_LEN];
     bytes[..pending.len()].copy_from_slice(pending);
     bytes[pending.len()] = END_OF_MESSAGE;
     let bit_len = bit_len_field(message_len);
-    bytes[len - bit_len.len()..len].copy_from_slice(&bit_len);
+    bytes[len - length_len..len].copy_from_slice(&bit_len[bit_len.len() - length_len..]);
     (bytes, len)
 }
 
-// The length of the message in bits, high byte first.
-fn bit_len_field(message_len: u64) -> [u8; 8]
-    requires { message_len < 2 ^ 61 }
-    ensures { result ≡ bytes_high_first 8 (8 * message_len) }
+// The length of the message in bits, high byte first: a field of eight bytes is its end.
+fn bit_len_field(message_len: u128) -> [u8; 16]
+    requires { message_len < 2 ^ 125 }
+    ensures { result ≡ bytes_high_first 16 (8 * message_len) }
 {
-    match BitLength::<u64>::from_byte_len(message_len) {
+    match BitLength::<u128>::from_byte_len(message_len) {
         Ok(bit_len) => bit_len.to_be_bytes(),
-        // Eight times a number below 2^61 fits 64 bits.
+        // Eight times a number below 2^125 fits 128 bits.
         Err(_) => unreachable!(),
     }
 }

@@ -47,7 +47,7 @@ impl PreparedBlock {
         ensures { prepared_algorithm result ≡ algorithm }
     {
         let output_len = algorithm.output_len();
-        let message_len = (algorithm.block_len() + output_len) as u64;
+        let message_len = (algorithm.block_len() + output_len) as u128;
         let room = [0; MAX_OUTPUT_LEN];
         let (tail, len) = padding::tail(algorithm, &room[..output_len], message_len);
         let mut bytes = [0; MAX_BLOCK_LEN];

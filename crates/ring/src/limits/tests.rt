@@ -5,13 +5,24 @@ use crate::limits::{
     can_derive, can_verify, is_info_within, is_message_within, is_output_within, is_tag_within,
 };
 
+// 2^61 - 1: the longest message where blocks have 64 bytes.
 const MOST: u128 = 2_305_843_009_213_693_951;
+
+// 2^125 - 1: the longest message where blocks have 128 bytes.
+const MOST_OF_LONG: u128 = 42_535_295_865_117_307_932_921_825_928_971_026_431;
 
 #[test]
 fn messages(rt: HostRuntime) {
-    for algorithm in [SHA1_FOR_LEGACY_USE_ONLY, SHA256, SHA384, SHA512, SHA512_256] {
-        assert!(rt; is_message_within(&algorithm, MOST));
-        assert!(rt; !is_message_within(&algorithm, MOST + 1));
+    for (algorithm, most) in [
+        (SHA1_FOR_LEGACY_USE_ONLY, MOST),
+        (SHA256, MOST),
+        (SHA384, MOST_OF_LONG),
+        (SHA512, MOST_OF_LONG),
+        (SHA512_256, MOST_OF_LONG),
+    ] {
+        assert_eq!(rt; algorithm.max_input_len(), most);
+        assert!(rt; is_message_within(&algorithm, most));
+        assert!(rt; !is_message_within(&algorithm, most + 1));
         assert!(rt; !is_message_within(&algorithm, u128::MAX));
     }
 }
@@ -22,8 +33,8 @@ fn tags(rt: HostRuntime) {
     for (algorithm, most) in [
         (SHA1_FOR_LEGACY_USE_ONLY, MOST - 64),
         (SHA256, MOST - 64),
-        (SHA384, MOST - 128),
-        (SHA512, MOST - 128),
+        (SHA384, MOST_OF_LONG - 128),
+        (SHA512, MOST_OF_LONG - 128),
     ] {
         assert!(rt; is_tag_within(&algorithm, most));
         assert!(rt; !is_tag_within(&algorithm, most + 1));
@@ -53,40 +64,47 @@ fn infos(rt: HostRuntime) {
         assert!(rt; !is_info_within(&SHA256, most + 1, len));
         assert!(rt; !is_info_within(&SHA256, u128::MAX, len));
     }
-    assert!(rt; is_info_within(&SHA512, MOST - 193, 65));
-    assert!(rt; !is_info_within(&SHA512, MOST - 192, 65));
+    assert!(rt; is_info_within(&SHA512, MOST_OF_LONG - 193, 65));
+    assert!(rt; !is_info_within(&SHA512, MOST_OF_LONG - 192, 65));
 }
 
 // One block and the four bytes of a number beside the salt, and 2^32 - 1 rounds of output.
 #[test]
 fn derivations(rt: HostRuntime) {
     let sha1 = SHA1_FOR_LEGACY_USE_ONLY;
-    for (algorithm, most_salt, most_output) in [
-        (sha1, MOST - 68, 85_899_345_900),
-        (SHA256, MOST - 68, 137_438_953_440),
-        (SHA384, MOST - 132, 206_158_430_160),
-        (SHA512, MOST - 132, 274_877_906_880),
+    for (algorithm, most, most_salt, most_output) in [
+        (sha1, MOST, MOST - 68, 85_899_345_900),
+        (SHA256, MOST, MOST - 68, 137_438_953_440),
+        (SHA384, MOST_OF_LONG, MOST_OF_LONG - 132, 206_158_430_160),
+        (SHA512, MOST_OF_LONG, MOST_OF_LONG - 132, 274_877_906_880),
     ] {
-        assert!(rt; can_derive(&algorithm, MOST, most_salt, most_output));
-        assert!(rt; can_verify(&algorithm, MOST, most_salt, most_output));
-        assert!(rt; !can_derive(&algorithm, MOST + 1, most_salt, most_output));
-        assert!(rt; !can_derive(&algorithm, MOST, most_salt + 1, most_output));
-        assert!(rt; !can_derive(&algorithm, MOST, most_salt, most_output + 1));
-        assert!(rt; !can_verify(&algorithm, MOST, most_salt, most_output + 1));
-        assert!(rt; !can_derive(&algorithm, MOST, u128::MAX, 1));
-        assert!(rt; !can_derive(&algorithm, MOST, 0, u128::MAX));
+        assert!(rt; can_derive(&algorithm, most, most_salt, most_output));
+        assert!(rt; can_verify(&algorithm, most, most_salt, most_output));
+        assert!(rt; !can_derive(&algorithm, most + 1, most_salt, most_output));
+        assert!(rt; !can_derive(&algorithm, most, most_salt + 1, most_output));
+        assert!(rt; !can_derive(&algorithm, most, most_salt, most_output + 1));
+        assert!(rt; !can_verify(&algorithm, most, most_salt, most_output + 1));
+        assert!(rt; !can_derive(&algorithm, most, u128::MAX, 1));
+        assert!(rt; !can_derive(&algorithm, most, 0, u128::MAX));
     }
     assert!(rt; can_derive(&sha1, 8, MOST - 68, 20));
     assert!(rt; !can_derive(&sha1, 8, MOST - 67, 20));
+    assert!(rt; can_derive(&SHA512, 8, (1 << 125) - 133, 64));
+    assert!(rt; !can_derive(&SHA512, 8, (1 << 125) - 132, 64));
 }
 
 // An output of nothing takes any salt, but no secret past the limit; a value of nothing takes none.
 #[test]
 fn derivations_of_nothing(rt: HostRuntime) {
-    for algorithm in [SHA1_FOR_LEGACY_USE_ONLY, SHA256, SHA384, SHA512] {
-        assert!(rt; can_derive(&algorithm, MOST, MOST, 0));
-        assert!(rt; can_derive(&algorithm, MOST, u128::MAX, 0));
-        assert!(rt; !can_derive(&algorithm, MOST + 1, 0, 0));
-        assert!(rt; !can_verify(&algorithm, MOST, 0, 0));
+    for (algorithm, most) in [
+        (SHA1_FOR_LEGACY_USE_ONLY, MOST),
+        (SHA256, MOST),
+        (SHA384, MOST_OF_LONG),
+        (SHA512, MOST_OF_LONG),
+    ] {
+        assert!(rt; can_derive(&algorithm, most, most, 0));
+        assert!(rt; can_derive(&algorithm, most, u128::MAX, 0));
+        assert!(rt; !can_derive(&algorithm, most + 1, 0, 0));
+        assert!(rt; !can_verify(&algorithm, most, 0, 0));
     }
 }

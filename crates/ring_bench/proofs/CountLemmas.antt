@@ -12,7 +12,7 @@ use Rattle.ring_bench.specs.Request.{joined}
 use Rattle.ring.specs.declared.digest.algorithm.Algorithm.{Algorithm}
 use Rattle.ring.proofs.Keys.{output_below}
 use Rattle.ring.proofs.Lengths.{whole_last}
-use Rattle.ring.proofs.Rows.{block_len-most, output_len-positive, sizes_of}
+use Rattle.ring.proofs.Rows.{block_len-most, max_input_len-most, output_len-positive, sizes_of}
 
 -- a call that raised a meter by so many blocks, and the meter shows as many more
 pub counted : (m0 m1 : Counts) (blocks pairs : ℕ) → m1 ≡ raised m0 blocks pairs → m0.blocks + blocks < 2 ^ 128 → m1.blocks ≡ m0.blocks + blocks
@@ -77,7 +77,7 @@ digest_count a b m0 m1 m2 n eb none within e1 e2 =
     let bare : last_blocks b n + 0 ≡ last_blocks b n = omega arith in
     let most = padded_blocks-most a n in
     let all : m2 ≡ raised m0 (padded_blocks a n + 0) 0 = pieces_end a b m0 m1 m2 n 0 eb e1 (rw bare e2) in
-    let same = counted_new m0 m2 (padded_blocks a n + 0) 0 none all (omega (arith, most, within)) in
+    let same = counted_new m0 m2 (padded_blocks a n + 0) 0 none all (omega (arith, most, within, max_input_len-most b)) in
     omega arith
 
 -- the blocks of a tag of pieces, after those of its key
@@ -85,7 +85,7 @@ pub tag_count : (a b : Algorithm) (m0 m1 m2 : Counts) (n : ℕ) → b ≡ a → 
     → m1 ≡ raised m0 (whole_blocks a n) 0 → m2 ≡ raised m1 (last_blocks b n + 1) 0 → m2.blocks ≡ m0.blocks + (padded_blocks a n + 1)
 tag_count a b m0 m1 m2 n eb room within e1 e2 =
     let most = padded_blocks-most a n in
-    counted m0 m2 _ 0 (pieces_end a b m0 m1 m2 n 1 eb e1 e2) (omega (arith, most, within))
+    counted m0 m2 _ 0 (pieces_end a b m0 m1 m2 n 1 eb e1 e2) (omega (arith, most, within, max_input_len-most b))
 
 -- the blocks of a verification, after those of its key
 pub verify_count : (a : Algorithm) (m0 m1 : Counts) (n pairs : ℕ) → m0.blocks < 2 ^ 64 → (max_input_len a < block_len a + n → m1 ≡ m0)
@@ -94,7 +94,7 @@ pub verify_count : (a : Algorithm) (m0 m1 : Counts) (n pairs : ℕ) → m0.block
 verify_count a m0 m1 n pairs room kept cost added =
     let within : IsTagWithin a n = omega (arith, λ (over : max_input_len a < block_len a + n). added (ap (λ (x : Counts). x.blocks) (kept over))) in
     let most = padded_blocks-most a n in
-    (within, counted m0 m1 _ pairs (cost within) (omega (arith, most, within)))
+    (within, counted m0 m1 _ pairs (cost within) (omega (arith, most, within, max_input_len-most a)))
 
 -- the blocks of a key, and that they leave room
 pub key_count : (a : Algorithm) (m0 m1 : Counts) (n : ℕ) → IsNew m0 → n < 2 ^ 64 → m1 ≡ raised m0 (key_blocks a n) 0
@@ -133,7 +133,7 @@ fill_blocks-most a i n few within =
     let most_next = padded_blocks-most a (output_len a + i + 1) in
     let all : (fill_rounds a n - 1) * (padded_blocks a (output_len a + i + 1) + 1) ≤ 254 * (padded_blocks a (output_len a + i + 1) + 1) =
     mul-le-mul_right (padded_blocks a (output_len a + i + 1) + 1) rounds in
-    omega (arith, first, short, block, most_first, most_next, all)
+    omega (arith, first, within.next_rounds, max_input_len-most a, short, block, most_first, most_next, all)
 
 -- the blocks of an output, after those of its PRK
 pub fill_count : (a : Algorithm) (m0 m1 : Counts) (i n : ℕ) → m0.blocks < 2 ^ 64 → IsOutputWithin a n → IsInfoWithin a i n

@@ -38,6 +38,7 @@ pub(crate) mod salt;
 
 pub use crate::hkdf::algorithm::{
     Algorithm, HKDF_SHA1_FOR_LEGACY_USE_ONLY, HKDF_SHA256, HKDF_SHA384, HKDF_SHA512,
+    constants_are_based_on_their_digests,
 };
 pub use crate::hkdf::key_type::KeyType;
 pub use crate::hkdf::okm::Okm;

@@ -35,6 +35,7 @@ pub(crate) mod tag;
 
 pub use crate::hmac::algorithm::{
     Algorithm, HMAC_SHA1_FOR_LEGACY_USE_ONLY, HMAC_SHA256, HMAC_SHA384, HMAC_SHA512,
+    constants_are_based_on_their_digests,
 };
 pub use crate::hmac::context::Context;
 pub use crate::hmac::key::Key;

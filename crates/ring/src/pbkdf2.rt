@@ -36,6 +36,7 @@ pub(crate) mod rounds;
 
 pub use crate::pbkdf2::algorithm::{
     Algorithm, PBKDF2_HMAC_SHA1, PBKDF2_HMAC_SHA256, PBKDF2_HMAC_SHA384, PBKDF2_HMAC_SHA512,
+    constants_are_based_on_their_digests,
 };
 
 /// Derives, as [`derive`] does, the blocks counted by `meter`: the key's, and for each round of

@@ -155,9 +155,10 @@ impl Algorithm {
     }
 }
 
-// Each constant is its name's row of the standard's table (FIPS 180-4, section 1, figure 1), with
-// that row's block function and initial words, and each length constant is a row's length.
-pub(crate) fn constants_are_their_rows()
+/// Each constant is its name's row of the standard's table (FIPS 180-4, section 1, figure 1), with
+/// that row's block function and initial words, and each length constant is a row's length: a law,
+/// whose call does nothing.
+pub fn constants_are_their_rows()
     ensures sha1 { row SHA1_FOR_LEGACY_USE_ONLY ≡ record {
       word_len = 4;
       block_len = 64;

@@ -39,8 +39,8 @@ impl Algorithm {
     }
 }
 
-// Each constant is HMAC over the digest algorithm of its name.
-pub(crate) fn constants_are_based_on_their_digests()
+/// Each constant is HMAC over the digest algorithm of its name: a law, whose call does nothing.
+pub fn constants_are_based_on_their_digests()
     ensures sha1 { based_on HMAC_SHA1_FOR_LEGACY_USE_ONLY ≡ SHA1_FOR_LEGACY_USE_ONLY }
     ensures sha256 { based_on HMAC_SHA256 ≡ SHA256 }
     ensures sha384 { based_on HMAC_SHA384 ≡ SHA384 }

@@ -34,8 +34,9 @@ impl Algorithm {
     }
 }
 
-// Each constant is PBKDF2 over HMAC with the digest algorithm of its name.
-pub(crate) fn constants_are_based_on_their_digests()
+/// Each constant is PBKDF2 over HMAC with the digest algorithm of its name: a law, whose call does
+/// nothing.
+pub fn constants_are_based_on_their_digests()
     ensures sha1 { prf_algorithm PBKDF2_HMAC_SHA1 ≡ SHA1_FOR_LEGACY_USE_ONLY }
     ensures sha256 { prf_algorithm PBKDF2_HMAC_SHA256 ≡ SHA256 }
     ensures sha384 { prf_algorithm PBKDF2_HMAC_SHA384 ≡ SHA384 }

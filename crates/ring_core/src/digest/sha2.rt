@@ -12,6 +12,7 @@ mod lanes;
 
 use crate::cost::Meter;
 use crate::digest::schedule::{load, pair};
+pub use crate::digest::sha2::constants::constants_are_cube_roots;
 use crate::digest::sha2::lanes::Lanes;
 use crate::digest::word::functions::{choose_word, majority_word};
 use crate::digest::word::{Sha2, Word};

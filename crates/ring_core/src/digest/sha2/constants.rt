@@ -1,5 +1,9 @@
 //! The round constants of SHA-2 (FIPS 180-4, 4.2.2 and 4.2.3).
 
+ghost use Rattle.std.specs.Prelude.{ℕ, ◌<◌, slice_index};
+ghost use Rattle.ring_core.specs.Roots.{IsRootFraction, first_primes};
+ghost use Rattle.ring_core.specs.Sha2.{constants_256, constants_512};
+
 // K of SHA-256 (4.2.2)
 pub(crate) const K_256: [u32; 64] = [
     0x428a2f98, 0x71374491, 0xb5c0fbcf, 0xe9b5dba5, 0x3956c25b, 0x59f111f1, 0x923f82a4, 0xab1c5ed5,
@@ -36,3 +40,13 @@ pub(crate) const K_512: [u64; 80] = [
     0x28db77f523047d84, 0x32caab7b40c72493, 0x3c9ebe0a15c9bebc, 0x431d67c49c100d4c,
     0x4cc5d4becb3e42b6, 0x597f299cfc657e2a, 0x5fcb6fab3ad6faec, 0x6c44198c4a475817,
 ];
+
+/// Each round constant is the first bits of the fractional part of the cube root of a prime, of as
+/// many as a word has: K of round `t`, that of the prime with `t` primes before it (FIPS 180-4,
+/// sections 4.2.2 and 4.2.3). It is a law, whose call does nothing.
+pub fn constants_are_cube_roots()
+    ensures words_of_32_bits { (t : ℕ) → t < 64
+        → IsRootFraction 3 32 (slice_index first_primes t) (slice_index constants_256 t) }
+    ensures words_of_64_bits { (t : ℕ) → t < 80
+        → IsRootFraction 3 64 (slice_index first_primes t) (slice_index constants_512 t) }
+{}

@@ -1,7 +1,6 @@
 //! The word of 32 bits, that of SHA-1 and SHA-256 (FIPS 180-4, 3.2 and 4.1.2).
 ghost use Rattle.std.specs.Prelude.{◌≡◌, ◌-◌, ◌*◌, ◌%◌, ◌^◌, ◌<◌, ◌≤◌, [], ◌∷◌, length, slice_index, map, bit_and, bit_or, bit_xor};
 ghost use Rattle.std.proofs.Common.{refl, mod-lt, pow_pos, inl};
-ghost use Rattle.ring_core.specs.Roots.{IsRootFraction, first_primes};
 ghost use Rattle.ring_core.specs.Sha2.{constants_256, family_256, words_32};
 ghost use Rattle.ring_core.specs.Word.{rotr, shr, word_at};
 
@@ -21,12 +20,10 @@ fn rotate(word: u32, count: u32) -> u32
     word.rotate_right(count)
 }
 
-// K of round `t`: the first bits of the fractional part of the cube root of a prime, that with `t`
-// primes before it (4.2.2)
+// K of round `t` (4.2.2)
 fn round_constant(t: usize) -> u32
     requires { t < 64 }
-    ensures table { result ≡ slice_index constants_256 t }
-    ensures root { IsRootFraction 3 32 (slice_index first_primes t) result }
+    ensures { result ≡ slice_index constants_256 t }
 {
     K_256[t]
 }

@@ -1,7 +1,6 @@
 //! The word of 64 bits, that of SHA-384, SHA-512 and SHA-512/256 (FIPS 180-4, 3.2 and 4.1.3).
 ghost use Rattle.std.specs.Prelude.{◌≡◌, ◌-◌, ◌*◌, ◌%◌, ◌^◌, ◌<◌, ◌≤◌, [], ◌∷◌, length, slice_index, map, bit_and, bit_or, bit_xor};
 ghost use Rattle.std.proofs.Common.{refl, mod-lt, pow_pos, inr};
-ghost use Rattle.ring_core.specs.Roots.{IsRootFraction, first_primes};
 ghost use Rattle.ring_core.specs.Sha2.{constants_512, family_512, words_64};
 ghost use Rattle.ring_core.specs.Word.{rotr, shr, word_at};
 
@@ -21,12 +20,10 @@ fn rotate(word: u64, count: u32) -> u64
     word.rotate_right(count)
 }
 
-// K of round `t`: the first bits of the fractional part of the cube root of a prime, that with `t`
-// primes before it (4.2.3)
+// K of round `t` (4.2.3)
 fn round_constant(t: usize) -> u64
     requires { t < 80 }
-    ensures table { result ≡ slice_index constants_512 t }
-    ensures root { IsRootFraction 3 64 (slice_index first_primes t) result }
+    ensures { result ≡ slice_index constants_512 t }
 {
     K_512[t]
 }

@@ -1,0 +1,34 @@
+//! A first use, proved from the contracts alone.
+
+ghost use Rattle.std.specs.Prelude.{IsOkUnless};
+ghost use Rattle.ring_store.specs.declared.error.StoreError.TheVariants.{Memory};
+
+use crate::error::StoreError;
+use crate::store::PasswordStore;
+use crate::token::TokenMaker;
+use std::alloc::Global;
+use std::num::NonZeroU32;
+
+/// A name whose password was set logs in, also once the store asks for more iterations, and then
+/// gets a token that passes for an hour. Only memory for the name can be wanting.
+pub fn first_use(
+    alloc: Global,
+    db_salt: [u8; 16],
+    master: &[u8; 32],
+    now: u64,
+) -> Result<(), StoreError>
+    ensures { IsOkUnless result Memory }
+{
+    let mut store = PasswordStore::new(alloc, db_salt, NonZeroU32::new(600_000).unwrap());
+    store.set_password(b"alice", b"correct horse")?;
+    store.verify_password(b"alice", b"correct horse")?;
+
+    store.set_iterations(NonZeroU32::new(700_000).unwrap());
+    store.verify_password(b"alice", b"correct horse")?;
+
+    let maker = TokenMaker::new(master, b"tokens of this service").unwrap();
+    let expiry = now.saturating_add(3_600);
+    let token = maker.issue(b"alice", expiry).unwrap();
+    maker.check(b"alice", expiry, now, &token).unwrap();
+    Ok(())
+}

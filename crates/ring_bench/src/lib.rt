@@ -48,8 +48,6 @@ mod reply;
 mod request;
 mod session;
 mod status;
-#[cfg(test)]
-mod tests;
 mod text;
 
 pub use crate::reply::{LineKind, answer_in};

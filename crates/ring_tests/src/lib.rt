@@ -13,6 +13,8 @@ mod derivations;
 #[cfg(test)]
 mod happy_paths;
 #[cfg(test)]
+mod long_lengths;
+#[cfg(test)]
 mod outputs;
 #[cfg(test)]
 mod second_sources;

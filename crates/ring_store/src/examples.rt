@@ -11,19 +11,23 @@ use std::num::NonZeroU32;
 
 /// A name whose password was set logs in, also once the store asks for more iterations, and then
 /// gets a token that passes for an hour. Only memory for the name can be wanting.
+///
+/// `now` is a time in seconds. `db_salt` and `master` are random, and kept.
 pub fn first_use(
     alloc: Global,
     db_salt: [u8; 16],
+    iterations: NonZeroU32,
+    more: NonZeroU32,
     master: &[u8; 32],
     now: u64,
 ) -> Result<(), StoreError>
     ensures { IsOkUnless result Memory }
 {
-    let mut store = PasswordStore::new(alloc, db_salt, NonZeroU32::new(600_000).unwrap());
+    let mut store = PasswordStore::new(alloc, db_salt, iterations);
     store.set_password(b"alice", b"correct horse")?;
     store.verify_password(b"alice", b"correct horse")?;
 
-    store.set_iterations(NonZeroU32::new(700_000).unwrap());
+    store.set_iterations(more);
     store.verify_password(b"alice", b"correct horse")?;
 
     let maker = TokenMaker::new(master, b"tokens of this service").unwrap();

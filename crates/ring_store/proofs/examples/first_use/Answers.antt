@@ -43,10 +43,10 @@ passes_by k user token expiry now r within early made is =
     let passes : checked k user expiry now (token_of k user expiry) ≡ Ok tt = search rules in
     is ∙ ap (checked k user expiry now) made ∙ passes
 
-pub unwrap-requires-3 : goal.unwrap-requires-3
-unwrap-requires-3 c =
+pub unwrap-requires : goal.unwrap-requires
+unwrap-requires c =
     let k = token_key c.args.master.now (codes "tokens of this service") in
-    let stands : MakerStandsFor c.unwrap-maker.result k = subst (λ r. IfOk r (λ maker. MakerStandsFor maker k)) c.unwrap-maker.ensures c.new-3.ensures.ok in
+    let stands : MakerStandsFor c.unwrap-maker.result k = subst (λ r. IfOk r (λ maker. MakerStandsFor maker k)) c.unwrap-maker.ensures c.new.ensures.ok in
     let made : c.unwrap-token.result ≡ token_of k (codes "alice") c.saturating_add-expiry.result =
     subst (λ r. IfOk r (λ token. token ≡ token_of k (codes "alice") c.saturating_add-expiry.result)) c.unwrap-token.ensures (c.issue.ensures.ok k stands) in
     ap is_ok (passes_by k (codes "alice") c.unwrap-token.result c.saturating_add-expiry.result c.args.now c.check.result (omega arith) (omega arith) made (c.check.ensures.refused k stands))

@@ -9,5 +9,5 @@ raised_twice : (before between after : Counts) (a b more : ℕ) → between ≡ 
 raised_twice before between after a b more first second same =
     second ∙ ap (λ m. raised m b 0) first ∙ raised-raised before a 32 b 0 ∙ ap (λ n. raised before (a + n) 32) same
 
-pub returns-then-lt-clause-cost : goal.returns-then-lt-clause-cost
-returns-then-lt-clause-cost g c = raised_twice _ _ _ _ _ _ c.verified.ensures.cost c.record_of-made.ensures.cost (search rules)
+pub returns-then-is_low-clause-cost : goal.returns-then-is_low-clause-cost
+returns-then-is_low-clause-cost g c = raised_twice _ _ _ _ _ _ c.verified.ensures.cost c.record_of-made.ensures.cost (search rules)

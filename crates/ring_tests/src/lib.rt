@@ -1,24 +1,24 @@
-//! Tests of what no contract says, over the public calls alone: vectors of the standards, messages
-//! cut in many ways, other implementations of the same functions, and each call once.
+//! Tests of what no contract says, over the public calls alone: messages cut in many ways, other
+//! implementations of the same functions, texts that Debug prints, and each call once.
 #![tactic(auto)]
 
 #[cfg(test)]
-mod byte_sources;
-#[cfg(test)]
 mod core_calls;
 #[cfg(test)]
-mod cuts;
+mod digest;
 #[cfg(test)]
-mod derivations;
+mod equality;
 #[cfg(test)]
-mod happy_paths;
+mod hkdf;
+#[cfg(test)]
+mod hmac;
+#[cfg(test)]
+mod laws;
 #[cfg(test)]
 mod long_lengths;
 #[cfg(test)]
-mod outputs;
+mod messages;
 #[cfg(test)]
-mod second_sources;
+mod pbkdf2;
 #[cfg(test)]
-mod tags;
-#[cfg(test)]
-mod vectors;
+mod rand;

@@ -1,0 +1,230 @@
+//! Outputs of HKDF: lengths, costs, refusals that leave buffers and meters, and what is made of an
+//! output.
+
+use ring::cost::Meter;
+use ring::digest::{MAX_OUTPUT_LEN, SHA256, digest_counted};
+use ring::error::Unspecified;
+use ring::hkdf::{
+    Algorithm, HKDF_SHA1_FOR_LEGACY_USE_ONLY, HKDF_SHA256, HKDF_SHA384, HKDF_SHA512, KeyType, Prk,
+    Salt,
+};
+use ring::hmac;
+use std::alloc::Global;
+use std::test::Fail;
+
+// A length of the caller's own.
+#[derive(Debug, Drop)]
+struct Length(usize);
+
+impl KeyType for Length {
+    ghost key_len = { λ length. length.0 };
+
+    fn len(&self) -> usize {
+        self.0
+    }
+}
+
+// Each algorithm with the bytes of its digests and the most bytes of an output.
+const LENGTHS: [(Algorithm, usize, usize); 4] = [
+    (HKDF_SHA1_FOR_LEGACY_USE_ONLY, 20, 5100),
+    (HKDF_SHA256, 32, 8160),
+    (HKDF_SHA384, 48, 12240),
+    (HKDF_SHA512, 64, 16320),
+];
+
+// The blocks after a salt, an extraction and an output.
+fn blocks_of_calls(secret: &[u8], out: &mut [u8]) -> Result<[u128; 3], Unspecified> {
+    let mut meter = Meter::new();
+    let salt = Salt::new_counted(HKDF_SHA256, &[], &mut meter)?;
+    let of_salt = meter.blocks();
+    let prk = salt.extract_counted(secret, &mut meter)?;
+    let of_prk = meter.blocks();
+    let output = prk.expand(&[], Length(out.len()))?;
+    output.fill_counted(out, &mut meter)?;
+    Ok([of_salt, of_prk, meter.blocks()])
+}
+
+// RFC 5869, appendix A.3, with what each call costs.
+#[test]
+fn blocks_of_each_call(rt: HostRuntime) -> Result<(), Fail> {
+    assert!(rt; blocks_of_calls(&[0x0b; 22], &mut [0; 42])? == [2, 6, 10]);
+    Ok(())
+}
+
+// The blocks of an output of `len` bytes under a PRK, and the PRK's before them.
+fn blocks_of_fill(info: &[u8], out: &mut [u8]) -> Result<(u128, u128), Unspecified> {
+    let mut meter = Meter::new();
+    let prk = Prk::new_less_safe_counted(HKDF_SHA256, &[1], &mut meter)?;
+    let before = meter.blocks();
+    prk.expand(&[info], Length(out.len()))?
+        .fill_counted(out, &mut meter)?;
+    Ok((before, meter.blocks()))
+}
+
+// The padded blocks of each round's message, and one more a round: an output of nothing has a round.
+#[test]
+fn blocks_of_outputs(rt: HostRuntime) -> Result<(), Fail> {
+    let info = [7; 55];
+    let mut out = [0; 33];
+    for (info_len, len, blocks) in [(0, 0, 2), (23, 32, 2), (23, 33, 5), (54, 0, 2), (55, 0, 3)] {
+        let made = blocks_of_fill(&info[..info_len], &mut out[..len])?;
+        assert!(rt; made == (2, blocks + 2));
+    }
+    Ok(())
+}
+
+// Whether as many bytes may be asked for.
+fn is_expanded(algorithm: Algorithm, len: usize) -> Result<bool, Unspecified> {
+    let prk = Prk::new_less_safe(algorithm, &[1])?;
+    Ok(
+        prk.expand(&[], Length(len))
+            .is_ok_and(|output| output.len().0 == len),
+    )
+}
+
+#[test]
+fn lengths_asked_for(rt: HostRuntime) -> Result<(), Fail> {
+    for (algorithm, _, most) in LENGTHS {
+        assert!(rt;
+            is_expanded(algorithm, most)?
+                && !is_expanded(algorithm, most + 1)?
+                && !is_expanded(algorithm, usize::MAX)?
+        );
+    }
+    Ok(())
+}
+
+// A meter that has counted the padded blocks of the message.
+fn meter_after(message: &[u8]) -> Result<Meter, Unspecified> {
+    let mut meter = Meter::new();
+    let _ = digest_counted(&SHA256, message, &mut meter)?;
+    Ok(meter)
+}
+
+// Where two bytes were asked for and the meter is at seven blocks: whether a buffer of another length
+// is refused, and the blocks afterwards.
+fn refused(out: &mut [u8]) -> Result<(bool, u128), Unspecified> {
+    let mut meter = meter_after(&[0; 384])?;
+    let prk = Prk::new_less_safe(HKDF_SHA256, &[1])?;
+    let plain = prk.expand(&[], Length(2))?.fill(out);
+    let counted = prk.expand(&[], Length(2))?.fill_counted(out, &mut meter);
+    Ok((plain.is_err() && counted.is_err(), meter.blocks()))
+}
+
+#[test]
+fn buffers_of_another_length_stay(rt: HostRuntime) -> Result<(), Fail> {
+    let (mut one, mut three) = ([0xee; 1], [0xee; 3]);
+    assert!(rt;
+        refused(&mut [])? == (true, 7)
+            && refused(&mut one)? == (true, 7)
+            && refused(&mut three)? == (true, 7)
+    );
+    assert!(rt; one == [0xee; 1] && three == [0xee; 3]);
+    assert!(rt; refused(&mut [0xee; 2])?.0 == false);
+    Ok(())
+}
+
+// Whether the digits are those of the bytes.
+fn is_hex_of(alloc: Global, digits: &str, bytes: &[u8]) -> Result<bool, Fail> {
+    Ok(hex::encode(alloc, bytes)?.as_str() == digits)
+}
+
+// 64 bytes of output, and a tag under the key that is made of them.
+fn value_and_tag(prk: &Prk) -> Result<([u8; 64], hmac::Tag), Unspecified> {
+    let mut value = [0; 64];
+    prk.expand(&[b"info"], Length(64))?.fill(&mut value)?;
+    let key = hmac::Key::try_from(prk.expand(&[b"info"], hmac::HMAC_SHA512)?)?;
+    Ok((value, hmac::sign(&key, b"hello, world")?))
+}
+
+// Four rounds of HMAC-SHA-1 give the 64 bytes; they and the tag are those of Python's `hmac`.
+#[test]
+fn a_key_of_another_algorithm(rt: HostRuntime) -> Result<(), Fail> {
+    let prk = Salt::new(HKDF_SHA1_FOR_LEGACY_USE_ONLY, &[])?.extract(&[0])?;
+    let (value, tag) = value_and_tag(&prk)?;
+    let value_digits =
+        "4df2d8c5472bce8c8fdedfc270d2165b8ad10f5c06f227edf4f578c6d7530fa5308ed48ef7508f215a4b853f869bdd27511ef05ebc80eae55037aff347fa38e3";
+    let tag_digits =
+        "e310f4dd2499ed7a6940f8174b491e4dd28a85c2609034187465bfabb245c89e3c22ca4d189dc66f31847070b1dd82fa2b39a34cdb8180015bc2a2786bc2406e";
+    assert!(rt;
+        is_hex_of(rt.alloc(), value_digits, &value)?
+            && is_hex_of(rt.alloc(), tag_digits, tag.as_ref())?
+    );
+    Ok(())
+}
+
+// The first bytes that a PRK expands to.
+fn front_of(prk: &Prk) -> Result<[u8; 8], Unspecified> {
+    let mut out = [0; 8];
+    prk.expand(&[b"front"], Length(8))?.fill(&mut out)?;
+    Ok(out)
+}
+
+// What a salt extracts, by the first bytes that it expands to.
+fn front_of_extracted(salt: &Salt) -> Result<[u8; 8], Unspecified> {
+    front_of(&salt.extract(b"secret")?)
+}
+
+// Whether the output as a key signs as its bytes do.
+fn is_key_of(prk: &Prk, algorithm: hmac::Algorithm, value: &[u8]) -> Result<bool, Unspecified> {
+    let made = hmac::Key::try_from(prk.expand(&[b"info"], algorithm)?)?;
+    let tag = hmac::sign(&hmac::Key::new(algorithm, value)?, b"hello, world")?;
+    let answer = hmac::verify(&made, b"hello, world", tag.as_ref());
+    Ok(made.algorithm() == algorithm && answer.is_ok())
+}
+
+// Whether the output as a salt extracts what its bytes do.
+fn is_salt_of(prk: &Prk, algorithm: Algorithm, value: &[u8]) -> Result<bool, Unspecified> {
+    let made = Salt::try_from(prk.expand(&[b"info"], algorithm)?)?;
+    let expected = front_of_extracted(&Salt::new(algorithm, value)?);
+    Ok(made.algorithm() == algorithm && front_of_extracted(&made)? == expected?)
+}
+
+// Whether the output as a PRK, and a copy of that, expand to what its bytes do.
+fn is_prk_of(prk: &Prk, algorithm: Algorithm, value: &[u8]) -> Result<bool, Unspecified> {
+    let made = Prk::try_from(prk.expand(&[b"info"], algorithm)?)?;
+    let expected = front_of(&Prk::new_less_safe(algorithm, value)?)?;
+    Ok(front_of(&made)? == expected && front_of(&made.clone())? == expected)
+}
+
+// Whether a key, a salt and a PRK that are made of an output are those that its bytes make.
+fn makes_what_its_bytes_make(
+    prk: &Prk,
+    algorithm: Algorithm,
+    value: &mut [u8],
+) -> Result<bool, Unspecified> {
+    prk.expand(&[b"info"], Length(value.len()))?.fill(value)?;
+    Ok(
+        is_key_of(prk, algorithm.hmac_algorithm(), value)?
+            && is_salt_of(prk, algorithm, value)?
+            && is_prk_of(prk, algorithm, value)?,
+    )
+}
+
+#[test]
+fn keys_salts_and_prks_of_all_algorithms(rt: HostRuntime) -> Result<(), Fail> {
+    let mut value = [0; MAX_OUTPUT_LEN];
+    for (own, _, _) in LENGTHS {
+        let prk = Prk::new_less_safe(own, b"a pseudorandom key")?;
+        for (algorithm, len, _) in LENGTHS {
+            assert!(rt; makes_what_its_bytes_make(&prk, algorithm, &mut value[..len])?);
+        }
+    }
+    Ok(())
+}
+
+// The text of a PRK, a salt and an output.
+fn printed(alloc: Global, value: &[u8]) -> Result<String, Fail> {
+    let salt = Salt::new(HKDF_SHA256, value)?;
+    let prk = Prk::new_less_safe(HKDF_SHA256, value)?;
+    let output = prk.expand(&[], Length(7))?;
+    Ok(format!(in alloc; "{salt:?} {prk:?} {output:?} {HKDF_SHA256:?}")?)
+}
+
+// The texts are nobody's to rely on, but they tell none of the bytes.
+#[test]
+fn values_print_alike(rt: HostRuntime) -> Result<(), Fail> {
+    let text = printed(rt.alloc(), &[1])?;
+    assert!(rt; text.len() > 40 && text.as_str() == printed(rt.alloc(), &[2])?.as_str());
+    Ok(())
+}

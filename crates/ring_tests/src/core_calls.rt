@@ -1,5 +1,5 @@
-//! The public calls of `ring_core`, by the paths under which `ring` gives them again: each once on its
-//! happy path, and the limits of bit lengths.
+//! The public calls of `ring_core`, by the paths under which `ring` gives them again: each once on
+//! its happy path, and the limits of bit lengths.
 
 use crate::messages::counting_bytes;
 use ring::bb::{

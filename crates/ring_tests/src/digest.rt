@@ -88,7 +88,12 @@ fn agrees(algorithm: Algorithm, message: &[u8], piece_len: usize) -> Result<bool
     Ok(
         takes_all(&mut context, message, piece_len, &mut meter)
             && finishes(context, message, &mut meter)?
-            && is_of_others(algorithm, message, digest(&algorithm, message)?.as_ref()),
+            && is_of_others(algorithm, message, digest(&algorithm, message)?.as_ref())
+            && is_of_others(
+                algorithm,
+                message,
+                in_one_piece(algorithm, message)?.as_ref(),
+            ),
     )
 }
 
@@ -174,15 +179,20 @@ fn debug_texts(rt: HostRuntime) -> Result<(), Fail> {
         ),
         (
             SHA384,
-            "SHA384 SHA384:1fcdb6059ce05172a26bbe2a3ccc88ed5a8cd5fc53edfd9053304d429296a6da23b1cd9e5c9ed3bb34f00418a70cdb7e",
+            "SHA384 SHA384:\
+                1fcdb6059ce05172a26bbe2a3ccc88ed5a8cd5fc53edfd9053304d429296a6da\
+                23b1cd9e5c9ed3bb34f00418a70cdb7e",
         ),
         (
             SHA512,
-            "SHA512 SHA512:8710339dcb6814d0d9d2290ef422285c9322b7163951f9a0ca8f883d3305286f44139aa374848e4174f5aada663027e4548637b6d19894aec4fb6c46a139fbf9",
+            "SHA512 SHA512:\
+                8710339dcb6814d0d9d2290ef422285c9322b7163951f9a0ca8f883d3305286f\
+                44139aa374848e4174f5aada663027e4548637b6d19894aec4fb6c46a139fbf9",
         ),
         (
             SHA512_256,
-            "SHA512_256 SHA512_256:11f2c88c04f0a9c3d0970894ad2472505e0bc6e8c7ec46b5211cd1fa3e253e62",
+            "SHA512_256 SHA512_256:\
+                11f2c88c04f0a9c3d0970894ad2472505e0bc6e8c7ec46b5211cd1fa3e253e62",
         ),
     ] {
         assert!(rt; prints(rt.alloc(), algorithm, text)?);

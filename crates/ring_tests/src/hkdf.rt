@@ -51,7 +51,7 @@ fn blocks_of_each_call(rt: HostRuntime) -> Result<(), Fail> {
     Ok(())
 }
 
-// The blocks of an output of `len` bytes under a PRK, and the PRK's before them.
+// The blocks of a PRK, and those after an output as long as the buffer.
 fn blocks_of_fill(info: &[u8], out: &mut [u8]) -> Result<(u128, u128), Unspecified> {
     let mut meter = Meter::new();
     let prk = Prk::new_less_safe_counted(HKDF_SHA256, &[1], &mut meter)?;
@@ -61,15 +61,19 @@ fn blocks_of_fill(info: &[u8], out: &mut [u8]) -> Result<(u128, u128), Unspecifi
     Ok((before, meter.blocks()))
 }
 
-// The padded blocks of each round's message, and one more a round: an output of nothing has a round.
+// The padded blocks of each round's message, and one more a round: an output of nothing has a
+// round.
 #[test]
 fn blocks_of_outputs(rt: HostRuntime) -> Result<(), Fail> {
     let info = [7; 55];
-    let mut out = [0; 33];
-    for (info_len, len, blocks) in [(0, 0, 2), (23, 32, 2), (23, 33, 5), (54, 0, 2), (55, 0, 3)] {
-        let made = blocks_of_fill(&info[..info_len], &mut out[..len])?;
-        assert!(rt; made == (2, blocks + 2));
+    for len in 0..55 {
+        assert!(rt; blocks_of_fill(&info[..len], &mut [])? == (2, 4));
     }
+    assert!(rt; blocks_of_fill(&info, &mut [])? == (2, 5));
+    assert!(rt;
+        blocks_of_fill(&info[..23], &mut [0; 32])? == (2, 4)
+            && blocks_of_fill(&info[..23], &mut [0; 33])? == (2, 7)
+    );
     Ok(())
 }
 
@@ -101,8 +105,8 @@ fn meter_after(message: &[u8]) -> Result<Meter, Unspecified> {
     Ok(meter)
 }
 
-// Where two bytes were asked for and the meter is at seven blocks: whether a buffer of another length
-// is refused, and the blocks afterwards.
+// Where two bytes were asked for and the meter is at seven blocks: whether a buffer of another
+// length is refused, and the blocks afterwards.
 fn refused(out: &mut [u8]) -> Result<(bool, u128), Unspecified> {
     let mut meter = meter_after(&[0; 384])?;
     let prk = Prk::new_less_safe(HKDF_SHA256, &[1])?;
@@ -142,10 +146,10 @@ fn value_and_tag(prk: &Prk) -> Result<([u8; 64], hmac::Tag), Unspecified> {
 fn a_key_of_another_algorithm(rt: HostRuntime) -> Result<(), Fail> {
     let prk = Salt::new(HKDF_SHA1_FOR_LEGACY_USE_ONLY, &[])?.extract(&[0])?;
     let (value, tag) = value_and_tag(&prk)?;
-    let value_digits =
-        "4df2d8c5472bce8c8fdedfc270d2165b8ad10f5c06f227edf4f578c6d7530fa5308ed48ef7508f215a4b853f869bdd27511ef05ebc80eae55037aff347fa38e3";
-    let tag_digits =
-        "e310f4dd2499ed7a6940f8174b491e4dd28a85c2609034187465bfabb245c89e3c22ca4d189dc66f31847070b1dd82fa2b39a34cdb8180015bc2a2786bc2406e";
+    let value_digits = "4df2d8c5472bce8c8fdedfc270d2165b8ad10f5c06f227edf4f578c6d7530fa5\
+        308ed48ef7508f215a4b853f869bdd27511ef05ebc80eae55037aff347fa38e3";
+    let tag_digits = "e310f4dd2499ed7a6940f8174b491e4dd28a85c2609034187465bfabb245c89e\
+        3c22ca4d189dc66f31847070b1dd82fa2b39a34cdb8180015bc2a2786bc2406e";
     assert!(rt;
         is_hex_of(rt.alloc(), value_digits, &value)?
             && is_hex_of(rt.alloc(), tag_digits, tag.as_ref())?

@@ -65,8 +65,8 @@ fn in_one_piece(key: &Key, message: &[u8]) -> Result<Tag, Unspecified> {
     context.sign()
 }
 
-// Whether the message in pieces has the tag of the whole, for the blocks of its padded bytes and the
-// one of the outer digest.
+// Whether the message in pieces has the tag of the whole, for the blocks of its padded bytes and
+// the one of the outer digest.
 fn agrees(key: &Key, message: &[u8], piece_len: usize) -> Result<bool, Unspecified> {
     let algorithm = key.algorithm().digest_algorithm();
     let expected = sign(key, message)?;
@@ -75,7 +75,8 @@ fn agrees(key: &Key, message: &[u8], piece_len: usize) -> Result<bool, Unspecifi
     let mut context = Context::with_key(key);
     Ok(
         takes_all(&mut context, algorithm, message, piece_len, &mut meter)
-            && signs(context, expected.as_ref(), &mut meter, blocks)?,
+            && signs(context, expected.as_ref(), &mut meter, blocks)?
+            && in_one_piece(key, message)?.as_ref() == expected.as_ref(),
     )
 }
 
@@ -125,12 +126,13 @@ fn blocks_of_key(value: &[u8]) -> Result<[u128; 4], Unspecified> {
     ])
 }
 
-// A key's blocks are run once, and not again by a signing. One that is longer than a block is hashed
-// (RFC 2104, section 2).
+// A key's blocks are run once, and not again by a signing. One that is longer than a block is
+// hashed (RFC 2104, section 2).
 #[test]
 fn three_signings(rt: HostRuntime) -> Result<(), Fail> {
-    let bytes = [0xaa; 131];
+    let bytes = [0x0b; 131];
     for (len, blocks) in [
+        (0, [2, 4, 6, 8]),
         (20, [2, 4, 6, 8]),
         (63, [2, 4, 6, 8]),
         (64, [2, 4, 6, 8]),

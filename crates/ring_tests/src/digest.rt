@@ -137,15 +137,21 @@ fn words_as_bytes(rt: HostRuntime) {
 #[test]
 fn lengths_of_algorithms(rt: HostRuntime) {
     let most = 2_305_843_009_213_693_951;
+    let most_of_long = 42_535_295_865_117_307_932_921_825_928_971_026_431;
     for (algorithm, lengths) in [
         (SHA1_FOR_LEGACY_USE_ONLY, (64, 20, SHA1_OUTPUT_LEN, most)),
         (SHA256, (64, 32, SHA256_OUTPUT_LEN, most)),
         (
             SHA384,
-            (MAX_BLOCK_LEN, MAX_CHAINING_LEN, SHA384_OUTPUT_LEN, most),
+            (
+                MAX_BLOCK_LEN,
+                MAX_CHAINING_LEN,
+                SHA384_OUTPUT_LEN,
+                most_of_long,
+            ),
         ),
-        (SHA512, (128, 64, SHA512_OUTPUT_LEN, most)),
-        (SHA512_256, (128, 64, SHA512_256_OUTPUT_LEN, most)),
+        (SHA512, (128, 64, SHA512_OUTPUT_LEN, most_of_long)),
+        (SHA512_256, (128, 64, SHA512_256_OUTPUT_LEN, most_of_long)),
     ] {
         assert!(rt; lengths_of(algorithm) == lengths);
     }

@@ -1,10 +1,10 @@
 -- How the last blocks make up the padding.
-use Rattle.std.proofs.Common.{◌≡◌, ℕ, ◌+◌, ◌-◌, ◌*◌, ◌^◌, ◌≤◌, inl, inr, IsTrue, List, ◌++◌, length, replicate, refl, ap, ◌∙◌, arith, rules, length-append, min, sym, append_assoc, drop, take}
+use Rattle.std.proofs.Common.{◌≡◌, ℕ, ◌+◌, ◌-◌, ◌*◌, ◌^◌, ◌≤◌, IsTrue, List, ◌++◌, length, replicate, ap, ◌∙◌, arith, rules, length-append, min, sym, append_assoc, take}
 use Rattle.ring.proofs.Lengths.{length-chain}
 use Rattle.std.proofs.lemmas.List.Concat.{flat_map-append}
 use Rattle.std.proofs.lemmas.List.{take-append-le, take-append-drop}
 use Rattle.std.specs.Int.{bytes_high_first}
-use Rattle.ring.specs.Algorithm.{is_state_of, length_len, max_input_len, output_len, word_len, chaining_words, spare_words, word_count}
+use Rattle.ring.specs.Algorithm.{is_state_of, max_input_len, output_len, word_len, chaining_words, spare_words, word_count}
 use Rattle.ring.specs.Context.{HasTaken}
 use Rattle.ring.specs.Digest.{chain, digest_of}
 use Rattle.ring.specs.Padding.{padded}
@@ -13,12 +13,7 @@ use Rattle.ring.specs.declared.digest.algorithm.Algorithm.{Algorithm}
 use Rattle.ring.specs.declared.digest.block_context.BlockContext.{BlockContext}
 use Rattle.ring.specs.declared.digest.dynstate.DynState.{DynState}
 use Rattle.ring.proofs.Outputs.{length-word_bytes}
-use Rattle.ring.proofs.Rows.{max_input_len-most, output_len-most, sizes_of}
-
--- a length field of eight bytes is the end of one of sixteen
-pub length_field : (a : Algorithm) (v : ℕ)
-    → take (16 - (16 - length_len a)) (drop (16 - length_len a) (bytes_high_first 16 v)) ≡ bytes_high_first (length_len a) v
-length_field a v = elim (sizes_of a) [ inl s ↦ rw s.1 refl | inr s ↦ rw s.1 refl ]
+use Rattle.ring.proofs.Rows.{max_input_len-most, output_len-most}
 
 -- the words that chain come first
 word_bytes_front : (a : Algorithm) (n : ℕ) (s : DynState)

@@ -16,6 +16,10 @@ sizes_of_id Sha512_256 = inr (refl, refl)
 pub sizes_of : (a : Algorithm) → ((block_len a ≡ 64) × (length_len a ≡ 8)) ⊎ ((block_len a ≡ 128) × (length_len a ≡ 16))
 sizes_of a = sizes_of_id a.id
 
+-- a length field that does not have sixteen bytes has eight
+pub short_field : (a : Algorithm) → (length_len a ≡ 16 → ⊥) → 8 ≡ length_len a
+short_field a other = elim (sizes_of a) [ inl h ↦ rw h.1 refl | inr h ↦ absurd (other h.1) ]
+
 pub block_len-positive : (a : Algorithm) → zero < block_len a
 block_len-positive a = elim (sizes_of a) [ inl h ↦ rw h.0 (lit< tt) | inr h ↦ rw h.0 (lit< tt) ]
 

@@ -1,8 +1,7 @@
 -- What follows the whole blocks of a padded message.
-use Rattle.std.proofs.Common.{◌≡◌, ℕ, suc, ◌+◌, ◌-◌, ◌*◌, ◌/◌, ◌%◌, ◌<◌, ◌≤◌, ◌⊎◌, inl, inr, List, ◌∷◌, ◌++◌, length, take, drop, replicate, slice_set, sym, ap, ◌∙◌, arith, length-append, append_assoc, refl}
+use Rattle.std.proofs.Common.{◌≡◌, ℕ, suc, ◌+◌, ◌-◌, ◌*◌, ◌/◌, ◌%◌, ◌<◌, ◌≤◌, ◌⊎◌, inl, inr, List, ◌∷◌, ◌++◌, length, take, drop, replicate, slice_set, sym, ap, ◌∙◌, arith, length-append, append_assoc, drop-drop, refl}
 use Rattle.std.proofs.lemmas.List.{drop-replicate, take-replicate, length-replicate}
-use Rattle.std.proofs.Math.Seq.{set-append_seam, take-append-add}
-use Rattle.std.proofs.lemmas.Slice.{take-put_mid}
+use Rattle.std.proofs.Math.Seq.{set-append_seam, take-append-add, take-append_seam}
 use Rattle.std.specs.Int.{bytes_high_first}
 use borrow.Rule.Slice.PartMut.{put_mid}
 use Rattle.ring.specs.Algorithm.{block_function, block_len, length_len, chaining_words}
@@ -11,7 +10,6 @@ use Rattle.ring.specs.Cost.{padded_blocks, whole_blocks}
 use Rattle.ring.specs.Digest.{chain}
 use Rattle.ring.specs.Padding.{IsWhole, padded, padded_with, tail_of, zeros_of}
 use Rattle.ring.specs.declared.digest.algorithm.Algorithm.{Algorithm}
-use Rattle.ring.proofs.Finishing.{length_field}
 use Rattle.ring_core.specs.Chunks.{chained}
 use Rattle.ring.specs.declared.digest.block_context.BlockContext.{BlockContext}
 use Rattle.ring.specs.declared.digest.dynstate.DynState.{DynState}
@@ -46,15 +44,24 @@ padded-append a p x whole =
     let zeros : zeros_of a (length (p ++ x)) ≡ zeros_of a (length x) = ap (zeros_of a) (length-append p x) ∙ zeros_past a (length p) (length x) whole in
     ap (padded_with a (p ++ x)) zeros ∙ simp append_assoc
 
+-- a length field written before a place
+pub length_put : (a : Algorithm) (xs be : List ℕ) (n end l : ℕ) → l ≡ length_len a → l ≤ end → be ≡ bytes_high_first l (8 * n)
+    → put_mid (end - l) (end - (end - l)) xs be ≡ take (end - length_len a) xs ++ bytes_high_first (length_len a) (8 * n) ++ drop end xs
+length_put a xs be n end l el room eb =
+    let past : drop (end - (end - l)) (drop (end - l) xs) ≡ drop end xs =
+    drop-drop (end - (end - l)) (end - l) xs ∙ ap (λ (z : ℕ). drop z xs) (omega arith) in
+    rw (eb, past, el) (simp append_assoc)
+
 -- the tail, as it is written over zeros
-pub tail_written : (a : Algorithm) (x field be : List ℕ) (n t l k : ℕ) → length x < block_len a → l ≡ length_len a
-    → t ≡ padded_blocks a (length x) * block_len a → field ≡ bytes_high_first 16 (8 * n)
-    → be ≡ take (16 - (16 - l)) (drop (16 - l) field)
-    → take t (put_mid (t - l) k (slice_set (put_mid 0 (length x) (replicate 256 0) x) (length x) 128) be) ≡ tail_of a x n
-tail_written a x field be n t l k below el et ef eb =
+pub tail_written : (a : Algorithm) (x : List ℕ) (n t : ℕ) → length x < block_len a → t ≡ padded_blocks a (length x) * block_len a
+    → take t (take (t - length_len a) (slice_set (put_mid 0 (length x) (replicate 256 0) x) (length x) 128)
+    ++ bytes_high_first (length_len a) (8 * n) ++ drop t (slice_set (put_mid 0 (length x) (replicate 256 0) x) (length x) 128))
+    ≡ tail_of a x n
+tail_written a x n t below et =
+    let l : ℕ = length_len a in
+    let be : List ℕ = bytes_high_first l (8 * n) in
     let sizes = tail_sizes a (length x) below in
-    let is : be ≡ bytes_high_first (length_len a) (8 * n) = eb ∙ rw (el, ef) (length_field a (8 * n)) in
-    let long_be : length be ≡ l = ap length is ∙ length-bytes_high_first (length_len a) (8 * n) ∙ sym el in
+    let long_be : length be ≡ l = length-bytes_high_first l (8 * n) in
     let room : length x + 1 + l ≤ t = omega (arith, sizes.1) in
     let most : t ≤ 256 = omega (arith, sizes.0) in
     let s : ℕ = length x in
@@ -62,15 +69,15 @@ tail_written a x field be n t l k below el et ef eb =
     let over : drop {A = ℕ} s (replicate 256 0) ≡ 0 ∷ replicate (255 - s) 0 = drop-replicate s 256 0 ∙ ap (λ (m : ℕ). replicate m 0) more in
     let set_is : slice_set (x ++ drop s (replicate 256 0)) s 128 ≡ x ++ 128 ∷ replicate (255 - s) 0 =
     rw over (set-append_seam x 0 (replicate (255 - s) 0) 128) in
-    let long : length (x ++ 128 ∷ replicate (255 - s) 0) ≡ 256 =
-    omega (arith, length-append x (128 ∷ replicate (255 - s) 0), length-replicate {A = ℕ} (255 - s) 0) in
     let front : t - l ≡ length x + suc (zeros_of a s) = omega (arith, sizes.1) in
     let zeros : take (zeros_of a s) (replicate (255 - s) 0) ≡ replicate (zeros_of a s) 0 = take-replicate (zeros_of a s) (255 - s) 0 (omega arith) in
     let kept : take (t - l) (x ++ 128 ∷ replicate (255 - s) 0) ≡ x ++ 128 ∷ replicate (zeros_of a s) 0 =
     rw front (take-append-add x (128 ∷ replicate (255 - s) 0) (suc (zeros_of a s))) ∙ ap (λ (z : List ℕ). x ++ 128 ∷ z) zeros in
-    take-put_mid (t - l) k (slice_set (x ++ drop s (replicate 256 0)) s 128) be t (omega arith) (rw (set_is, long) (omega arith))
-    ∙ ap (λ (z : List ℕ). take (t - l) z ++ be) set_is ∙ ap (λ (z : List ℕ). z ++ be) kept
-    ∙ rw is (simp append_assoc)
+    let is : take (t - l) (slice_set (x ++ drop s (replicate 256 0)) s 128) ++ be ≡ tail_of a x n =
+    ap (λ (z : List ℕ). take (t - l) z ++ be) set_is ∙ ap (λ (z : List ℕ). z ++ be) kept in
+    let long : length (tail_of a x n) ≡ t =
+    omega (arith, length-append (x ++ 128 ∷ replicate (zeros_of a s) 0) be, length-append x (128 ∷ replicate (zeros_of a s) 0), length-replicate {A = ℕ} (zeros_of a s) 0, long_be, front, room) in
+    rw is (ap (λ (k : ℕ). take k (tail_of a x n ++ drop t (slice_set (x ++ drop s (replicate 256 0)) s 128))) (sym long) ∙ take-append_seam (tail_of a x n) _)
 
 -- what follows whole blocks in whole blocks is whole blocks
 whole-rest : (a : Algorithm) (p x : List ℕ) → IsWhole a p → IsWhole a (p ++ x) → IsWhole a x

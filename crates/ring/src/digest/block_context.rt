@@ -58,11 +58,12 @@ fn run_blocks<'i>(
     }
 }
 
-// The state after the whole blocks so far, and their number of bytes, cut off at `u128::MAX`.
+// The number of bytes of the whole blocks so far, cut off at `u128::MAX`, and the state after them.
+// The count comes first, so that its alignment leaves no gap.
 #[derive(Drop)]
 pub(crate) struct BlockContext {
-    state: DynState,
     completed_bytes: u128,
+    state: DynState,
     pub(crate) algorithm: Algorithm,
     ghost sized: { IsTrue (is_state_of algorithm state) },
 }

@@ -1,8 +1,8 @@
 //! The last block or blocks of a message (FIPS 180-4, section 5.1).
 
-ghost use Rattle.std.specs.Prelude.{◌≡◌, ℕ, ◌-◌, ◌*◌, ◌^◌, ◌<◌, ◌≤◌, List, length, take};
+ghost use Rattle.std.specs.Prelude.{◌≡◌, ℕ, ◌-◌, ◌*◌, ◌^◌, ◌<◌, ◌≤◌, List, ◌++◌, drop, length, take};
 ghost use Rattle.std.specs.Int.{bytes_high_first};
-ghost use Rattle.ring.specs.Algorithm.{block_len, max_input_len};
+ghost use Rattle.ring.specs.Algorithm.{block_len, length_len, max_input_len};
 ghost use Rattle.ring.specs.Cost.{padded_blocks};
 ghost use Rattle.ring.specs.Padding.{IsPadded, padded, tail_of};
 ghost use Rattle.ring.specs.declared.digest.algorithm.Algorithm.{Algorithm};
@@ -15,6 +15,12 @@ const END_OF_MESSAGE: u8 = 0x80;
 
 // The padding takes no more than one block past the pending one.
 pub(crate) const MAX_TAIL_LEN: usize = 2 * MAX_BLOCK_LEN;
+
+// The bytes of the length field where blocks have 128 bytes.
+const LONG_LENGTH_LEN: usize = 16;
+
+// The bytes of the length field where blocks have 64 bytes.
+const SHORT_LENGTH_LEN: usize = 8;
 
 // What follows the whole blocks of a message of `message_len` bytes, and how many bytes that is:
 // the pending bytes, the byte 0x80, zeros, and the length in bits.
@@ -29,19 +35,36 @@ pub(crate) fn tail(
     ensures bytes { take result.1 result.0 ≡ tail_of algorithm pending.now message_len }
 {
     let block_len = algorithm.block_len();
-    let length_len = algorithm.length_len();
-    let blocks = (pending.len() + length_len) / block_len + 1;
+    let blocks = (pending.len() + algorithm.length_len()) / block_len + 1;
     let len = blocks * block_len;
     let mut bytes = [0u8; MAX_TAIL_LEN];
     bytes[..pending.len()].copy_from_slice(pending);
     bytes[pending.len()] = END_OF_MESSAGE;
-    let bit_len = bit_len_field(message_len);
-    bytes[len - length_len..len].copy_from_slice(&bit_len[bit_len.len() - length_len..]);
+    put_length(algorithm, &mut bytes, len, message_len);
     (bytes, len)
 }
 
+// Writes the length field before the place `end`. With each size of the field by itself the copy is
+// a few instructions, since its length is known then.
+fn put_length(algorithm: Algorithm, bytes: &mut [u8; MAX_TAIL_LEN], end: usize, message_len: u128)
+    requires room { length_len algorithm ≤ end }
+    requires within { end ≤ MAX_TAIL_LEN }
+    requires fits { message_len ≤ max_input_len algorithm }
+    ensures { bytes.new ≡ take (end - length_len algorithm) bytes.old
+        ++ bytes_high_first (length_len algorithm) (8 * message_len) ++ drop end bytes.old }
+{
+    let bit_len = bit_len_field(message_len);
+    if algorithm.length_len() == LONG_LENGTH_LEN {
+        bytes[end - LONG_LENGTH_LEN..end].copy_from_slice(&bit_len);
+    } else {
+        bytes[end - SHORT_LENGTH_LEN..end].copy_from_slice(
+            &bit_len[LONG_LENGTH_LEN - SHORT_LENGTH_LEN..],
+        );
+    }
+}
+
 // The length of the message in bits, high byte first: a field of eight bytes is its end.
-fn bit_len_field(message_len: u128) -> [u8; 16]
+fn bit_len_field(message_len: u128) -> [u8; LONG_LENGTH_LEN]
     requires { message_len < 2 ^ 125 }
     ensures { result ≡ bytes_high_first 16 (8 * message_len) }
 {

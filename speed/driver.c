@@ -8,7 +8,7 @@
 #include <stdlib.h>
 #include <time.h>
 
-enum { REPETITIONS = 100, PLACES = 16, PLACE_LEN = 272 };
+enum { REPETITIONS = 100, PLACES = 16, PLACE_LEN = 272, ITERATIONS = 2000 };
 
 enum hash { SHA1, SHA256, SHA512, HASHES };
 
@@ -137,6 +137,33 @@ static void time_all(void)
                 time_row(&rows[i], hash, repetition % PLACES);
 }
 
+static double least_of(work *it, uint64_t wanted)
+{
+    double least = 0;
+    for (int repetition = 0; repetition < REPETITIONS; repetition++) {
+        double start = seconds();
+        if (it(ITERATIONS) != wanted) {
+            fprintf(stderr, "speed: a password wasn't set, or a name is wrongly known\n");
+            exit(1);
+        }
+        double taken = seconds() - start;
+        if (least == 0 || taken < least)
+            least = taken;
+    }
+    return least;
+}
+
+// Whether the time of a verification tells that a name has no record.
+static void print_verifications(void)
+{
+    double set = least_of(ring_speed_set, 1);
+    double known = least_of(ring_speed_verify_known, 1) - set;
+    double unknown = least_of(ring_speed_verify_unknown, 0) - set;
+    printf("\n| Verification, %d iterations | Time | / known |\n|---|---|---|\n", ITERATIONS);
+    printf("| of a name with a record | %.0f us | 1.00 |\n", 1e6 * known);
+    printf("| of a name without one | %.0f us | %.2f |\n", 1e6 * unknown, unknown / known);
+}
+
 static void print_ratio(double ours, double other)
 {
     if (other > 0)
@@ -174,5 +201,6 @@ int main(void)
     check_all();
     time_all();
     print_all();
+    print_verifications();
     return 0;
 }

@@ -1,5 +1,5 @@
 -- Lemmas on a text, its lines, and what ends them.
-use Rattle.std.proofs.Common.{◌≡◌, ◌==◌, ℕ, ◌+◌, ◌<◌, ◌≤◌, Bool, true, false, cond, List, [], ◌∷◌, ◌++◌, length, map, All, refl, sym, ap, ◌∙◌, subst, append_assoc, length-append, arith}
+use Rattle.std.proofs.Common.{◌≡◌, ◌==◌, ℕ, zero, suc, ◌+◌, ◌-◌, ◌<◌, ◌≤◌, Bool, true, false, cond, List, [], ◌∷◌, ◌++◌, length, map, take, All, refl, sym, ap, ◌∙◌, subst, append_assoc, length-append, arith}
 use Rattle.std.specs.List.{slice_split, onto_first, flat_map}
 use Rattle.std.proofs.lemmas.List.Splits.{slice_split_at, slice_split_none, length-slice_split}
 use Rattle.std.proofs.lemmas.List.Elements.{All-head, All-tail, All-append}
@@ -107,14 +107,21 @@ IsFirstCut-split byte text before behind cut =
     ap (slice_split (λ b. b == byte)) cut.whole
     ∙ slice_split_at (λ b. b == byte) before byte behind cut.first (eq-eqb byte byte refl)
 
--- a part moves from the text to the parts
-pub parts-next : (byte : ℕ) (parts : List (List ℕ)) (text before behind : List ℕ) → IsFirstCut byte text before behind
-    → (parts ++ before ∷ []) ++ slice_split (λ b. b == byte) behind ≡ parts ++ slice_split (λ b. b == byte) text
-parts-next byte parts text before behind cut =
-    append_assoc parts (before ∷ []) (slice_split (λ b. b == byte) behind)
-    ∙ ap (λ l. parts ++ l) (sym (IsFirstCut-split byte text before behind cut))
+-- a part moves from the text to the parts, of which so many are asked for
+pub parts-next : (byte most n : ℕ) (parts : List (List ℕ)) (text before behind : List ℕ) → n < most → IsFirstCut byte text before behind
+    → (parts ++ before ∷ []) ++ take (most - (n + 1)) (slice_split (λ b. b == byte) behind) ≡ parts ++ take (most - n) (slice_split (λ b. b == byte) text)
+parts-next byte most n parts text before behind below cut =
+    let more : most - n ≡ suc (most - (n + 1)) = omega arith in
+    append_assoc parts (before ∷ []) (take (most - (n + 1)) (slice_split (λ b. b == byte) behind))
+    ∙ ap (λ l. parts ++ l) (sym (rw (more, IsFirstCut-split byte text before behind cut) refl))
+
+take_one : (k : ℕ) (part : List ℕ) → 0 < k → take k (part ∷ []) ≡ part ∷ []
+take_one zero part some = absurd (omega arith)
+take_one (suc zero) part some = refl
+take_one (suc (suc k)) part some = refl
 
 -- the last part is the text that is left
-pub parts-last : (byte : ℕ) (parts : List (List ℕ)) (text : List ℕ) → IsWithout byte text
-    → parts ++ text ∷ [] ≡ parts ++ slice_split (λ b. b == byte) text
-parts-last byte parts text none = ap (λ l. parts ++ l) (sym (slice_split_none (λ b. b == byte) text none))
+pub parts-last : (byte most n : ℕ) (parts : List (List ℕ)) (text : List ℕ) → n < most → IsWithout byte text
+    → parts ++ text ∷ [] ≡ parts ++ take (most - n) (slice_split (λ b. b == byte) text)
+parts-last byte most n parts text below none =
+    ap (λ l. parts ++ l) (sym (rw (slice_split_none (λ b. b == byte) text none) (take_one (most - n) text (omega arith))))

@@ -1,4 +1,5 @@
 pub mod Field
+pub mod Pieces
 pub mod Line
 pub mod Request
 pub mod Reply

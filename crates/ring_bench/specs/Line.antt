@@ -1,5 +1,5 @@
 -- What one line says.
-use Rattle.std.specs.Prelude.{◌==◌, ℕ, Bool, List, [], ◌∷◌, map, Option, None, Some, if◌then◌else◌, length, slice_index, codes}
+use Rattle.std.specs.Prelude.{◌==◌, ℕ, Bool, List, [], ◌∷◌, Option, None, Some, if◌then◌else◌, length, slice_index, codes}
 use Rattle.std.specs.Option.{option_and_then}
 use Rattle.std.specs.List.{slice_split}
 use Rattle.ring.specs.declared.digest.algorithm.Algorithm.{Algorithm as DigestAlgorithm}
@@ -13,6 +13,7 @@ use Rattle.ring_bench.specs.declared.line.Request.{Request}
 use Rattle.ring_bench.specs.declared.line.Request.TheVariants.{Digest, Hmac, HmacVerify, Hkdf, Pbkdf2, Pbkdf2Verify}
 use Rattle.ring_bench.specs.declared.line.Line.{Line}
 use Rattle.ring_bench.specs.declared.line.Line.TheVariants.{Nothing, Bad, Asks}
+use Rattle.ring_bench.specs.Pieces.{pieces_listed}
 use Rattle.ring_bench.specs.Field.{is_word, digest_algorithm_of, hmac_algorithm_of, hkdf_algorithm_of, pbkdf2_algorithm_of, bytes_of, pieces_of, len_of, iterations_of}
 
 -- What a line asks for. Fields stand in the order of the line.
@@ -137,12 +138,12 @@ line_of text =
 
 -- what a parsed request asks for
 abbrev pub asked : {Z : Type 0} → Request Z → Asked
-asked (Digest a pieces) = digest a (map (λ piece. piece.items) pieces.items)
-asked (Hmac a key pieces) = hmac a key.items (map (λ piece. piece.items) pieces.items)
+asked (Digest a pieces) = digest a (pieces_listed pieces)
+asked (Hmac a key pieces) = hmac a key.items (pieces_listed pieces)
 asked (HmacVerify a key pieces tag) =
-    hmac_verify a key.items (map (λ piece. piece.items) pieces.items) tag.items
+    hmac_verify a key.items (pieces_listed pieces) tag.items
 asked (Hkdf a salt secret info len) =
-    hkdf a salt.items secret.items (map (λ piece. piece.items) info.items) len
+    hkdf a salt.items secret.items (pieces_listed info) len
 asked (Pbkdf2 a iterations secret salt len) =
     pbkdf2 a (non_zero_u32_get iterations) secret.items salt.items len
 asked (Pbkdf2Verify a iterations secret salt value) =

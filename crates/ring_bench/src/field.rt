@@ -1,11 +1,13 @@
 //! What one field of a line says.
-ghost use Rattle.std.specs.Prelude.{◌≡◌, IfOk, map};
+ghost use Rattle.std.specs.Prelude.{◌≡◌, ◌++◌, [], ◌∷◌, List, ℕ, Some, None, IfOk, IsTrue, IsFalse, length};
 ghost use Rattle.std.specs.Option.{option_map};
 ghost use Rattle.std.specs.Int.NonZero.{non_zero_u32_get};
 ghost use Rattle.hex.specs.Hex.{decode_of};
+ghost use Rattle.ring_bench.specs.Pieces.{pieces_listed};
 ghost use Rattle.ring_bench.specs.Field.{is_word, digest_algorithm_of, hmac_algorithm_of, hkdf_algorithm_of, pbkdf2_algorithm_of, bytes_of, pieces_of, value_of, decimal_of, up_to, len_of, iterations_of};
 
-use crate::text::parts_between;
+use crate::pieces::Pieces;
+use crate::text::cut_at;
 use hex::FromHexError;
 use ring::digest::{self, SHA1_FOR_LEGACY_USE_ONLY, SHA256, SHA384, SHA512, SHA512_256};
 use ring::hkdf::{self, HKDF_SHA1_FOR_LEGACY_USE_ONLY, HKDF_SHA256, HKDF_SHA384, HKDF_SHA512};
@@ -18,9 +20,6 @@ use std::num::NonZeroU32;
 
 /// The greatest LEN.
 const MAX_LEN: u32 = 65_536;
-
-/// The bytes of a field PIECES, piece by piece.
-pub type Pieces<A> = Vec<Vec<u8, A>, A>;
 
 /// Whether a field is this word.
 #[tactic(auto, unfolding(crate::specs::Field::is_word))]
@@ -134,24 +133,52 @@ pub fn pieces_in<A: Allocator + Copy>(
     alloc: A,
     field: &[u8],
 ) -> Result<Option<Pieces<A>>, AllocError>
-    ensures { IfOk result (λ found. option_map
-        (λ pieces. map (λ piece. piece.items) pieces.items) found ≡ pieces_of field.now) }
+    ensures { IfOk result (λ found. option_map pieces_listed found ≡ pieces_of field.now) }
 {
+    let mut bytes = Vec::new(alloc);
+    let mut lens = Vec::new(alloc);
     if is_word(field, b"-") {
-        return Ok(Some(Vec::new(alloc)));
+        return Ok(Some(Pieces { bytes, lens }));
     }
     if field.is_empty() {
         return Ok(None);
     }
-    let parts = parts_between(alloc, field, b',')?;
-    let mut pieces = Vec::new(alloc);
-    for part in &parts {
-        match decoded(alloc, *part)? {
-            Some(bytes) => pieces.push(bytes)?,
-            None => return Ok(None),
+    let mut rest = field;
+    'parts: while let Some((part, behind)) = cut_at(rest, b',') {
+        if !append_piece(alloc, &mut bytes, &mut lens, part)? {
+            return Ok(None);
         }
+        rest = behind;
     }
-    Ok(Some(pieces))
+    if !append_piece(alloc, &mut bytes, &mut lens, rest)? {
+        return Ok(None);
+    }
+    Ok(Some(Pieces { bytes, lens }))
+}
+
+/// Adds the bytes that hex digits stand for as a piece, and tells whether they stand for some.
+fn append_piece<A: Allocator>(
+    alloc: A,
+    bytes: &mut Vec<u8, A>,
+    lens: &mut Vec<usize, A>,
+    digits: &[u8],
+) -> Result<bool, AllocError>
+    ensures added { IfOk result (λ is_hex. IsTrue is_hex → (piece : List ℕ)
+        × (value_of (decode_of digits.now) ≡ Some piece)
+        × (bytes.new.items ≡ bytes.old.items ++ piece)
+        × (lens.new.items ≡ lens.old.items ++ length piece ∷ [])) }
+    ensures bad { IfOk result (λ is_hex. IsFalse is_hex → value_of (decode_of digits.now) ≡ None) }
+{
+    let Some(piece) = decoded(alloc, digits)? else {
+        return Ok(false);
+    };
+    lens.push(piece.len())?;
+    if bytes.is_empty() {
+        *bytes = piece;
+    } else {
+        bytes.extend_from_slice(&piece)?;
+    }
+    Ok(true)
 }
 
 /// The bytes that hex digits stand for, or `None` where they stand for none.

@@ -18,7 +18,8 @@
 //! - KEY, TAG, SALT, SECRET and VALUE are `-` for no byte, or an even number, not 0, of hex digits
 //!   of either case.
 //! - PIECES is `-` for no piece, or parts with commas between them, each an even number of hex
-//!   digits, 0 included. They are given to `ring` one by one, but by `hmac-verify` joined.
+//!   digits, 0 included. They are given to `ring` one by one, but by `hmac-verify` joined, and by
+//!   `hkdf` without the empty ones, which add nothing to the info.
 //! - LEN is 0 to 65,536 and ITERATIONS 1 to 4,294,967,295, in decimal without a sign and without a
 //!   leading zero.
 //!
@@ -44,6 +45,7 @@ use std::io::{ErrorKind, Read, Write};
 
 mod field;
 mod line;
+mod pieces;
 mod reply;
 mod request;
 mod session;

@@ -7,13 +7,17 @@ ghost use Rattle.std.specs.Option.{option_map};
 ghost use Rattle.ring_bench.specs.Line.{line_of, asked_of, asked_by, call_of, digest_line, hmac_line, hmac_verify_line, hkdf_line, pbkdf2_line, pbkdf2_verify_line, asked, meaning};
 
 use crate::field::{
-    Pieces, bytes_in, digest_algorithm_in, hkdf_algorithm_in, hmac_algorithm_in, is_word,
-    iterations_in, len_in, pbkdf2_algorithm_in, pieces_in,
+    bytes_in, digest_algorithm_in, hkdf_algorithm_in, hmac_algorithm_in, is_word, iterations_in,
+    len_in, pbkdf2_algorithm_in, pieces_in,
 };
+use crate::pieces::Pieces;
 use crate::text::parts_between;
 use ring::{digest, hkdf, hmac, pbkdf2};
 use std::alloc::{AllocError, Allocator};
 use std::num::NonZeroU32;
+
+/// How many fields the longest lines have.
+const MOST_FIELDS: usize = 6;
 
 /// What a line says.
 #[derive(Drop)]
@@ -53,14 +57,15 @@ enum Call {
 }
 
 /// What the line says.
-#[tactic(auto, unfolding(crate::specs::Line::line_of))]
+#[tactic(auto, using(crate::proofs::LineLemmas::asked_of_first), unfolding(crate::specs::Line::line_of))]
 pub fn parse<A: Allocator + Copy>(alloc: A, text: &[u8]) -> Result<Line<A>, AllocError>
     ensures { IfOk result (λ line. meaning line ≡ line_of text.now) }
 {
     if text.is_empty() || text[0] == b'#' {
         return Ok(Line::Nothing);
     }
-    let fields = parts_between(alloc, text, b' ')?;
+    // A line with a field more is bad, however many stand behind it.
+    let fields = parts_between(alloc, text, b' ', MOST_FIELDS + 1)?;
     match request_in(alloc, &fields)? {
         Some(request) => Ok(Line::Asks(request)),
         None => Ok(Line::Bad),

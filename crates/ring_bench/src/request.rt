@@ -1,5 +1,5 @@
 //! What a request is answered: the only module that calls `ring`.
-ghost use Rattle.std.specs.Prelude.{◌≡◌, ◌<◌, ◌^◌, ℕ, IfOk, List, length, map};
+ghost use Rattle.std.specs.Prelude.{◌≡◌, ◌<◌, ◌^◌, ℕ, IfOk, List, length};
 ghost use Rattle.std.specs.Int.NonZero.{non_zero_u32_get};
 ghost use Rattle.ring_core.specs.Cost.{raised};
 ghost use Rattle.ring.specs.Context.{StandsFor, context_algorithm};
@@ -7,11 +7,12 @@ ghost use Rattle.ring.specs.Cost.{whole_blocks};
 ghost use Rattle.ring.specs.Hkdf.{PrkStandsFor, prk_algorithm};
 ghost use Rattle.ring.specs.Hmac.{KeyStandsFor, TagStandsFor, key_algorithm, signing_algorithm};
 ghost use Rattle.ring.specs.Pieces.{joined as joined_parts};
+ghost use Rattle.ring_bench.specs.Pieces.{pieces_listed};
 ghost use Rattle.ring_bench.specs.Line.{asked};
 ghost use Rattle.ring_bench.specs.Request.{answer_of, digest_answer, hmac_answer, hmac_verify_answer, verdict_answer, tag_answer, hkdf_answer, output_answer, pbkdf2_answer, pbkdf2_verify_answer, joined, response};
 
-use crate::field::Pieces;
 use crate::line::Request;
+use crate::pieces::Pieces;
 use ring::cost::Meter;
 use ring::{digest, hkdf, hmac, pbkdf2};
 use std::alloc::{AllocError, Allocator};
@@ -37,7 +38,7 @@ pub fn respond<A: Allocator + Copy>(alloc: A, request: &Request<A>) -> Result<An
         Request::Digest(algorithm, pieces) => respond_digest(alloc, algorithm, pieces),
         Request::Hmac(algorithm, key, pieces) => respond_hmac(alloc, *algorithm, key, pieces),
         Request::HmacVerify(algorithm, key, pieces, tag) => {
-            respond_hmac_verify(alloc, *algorithm, key, pieces, tag)
+            Ok(respond_hmac_verify(*algorithm, key, pieces, tag))
         }
         Request::Hkdf(algorithm, salt, secret, info, len) => {
             respond_hkdf(alloc, *algorithm, salt, secret, info, *len)
@@ -56,10 +57,10 @@ pub fn respond<A: Allocator + Copy>(alloc: A, request: &Request<A>) -> Result<An
 fn respond_digest<A: Allocator + Copy>(
     alloc: A,
     algorithm: &digest::Algorithm,
-    pieces: &[Vec<u8, A>],
+    pieces: &Pieces<A>,
 ) -> Result<Answer<A>, AllocError>
     ensures { IfOk result (λ answer. response answer
-        ≡ digest_answer algorithm.now (map (λ piece. piece.items) pieces.now)) }
+        ≡ digest_answer algorithm.now (pieces_listed pieces.now)) }
 {
     let mut meter = Meter::new();
     let context = digesting(algorithm, pieces, &mut meter);
@@ -72,17 +73,20 @@ fn respond_digest<A: Allocator + Copy>(
 /// A context to which the pieces were given in order, its blocks counted by `meter`.
 fn digesting<A: Allocator>(
     algorithm: &digest::Algorithm,
-    pieces: &[Vec<u8, A>],
+    pieces: &Pieces<A>,
     meter: &mut Meter,
 ) -> digest::Context
     ensures algorithm { context_algorithm result ≡ algorithm.now }
-    ensures stands { StandsFor result (joined (map (λ piece. piece.items) pieces.now)) }
+    ensures stands { StandsFor result (joined (pieces_listed pieces.now)) }
     ensures cost { meter.new ≡ raised meter.old (whole_blocks
-        algorithm.now (length (joined (map (λ piece. piece.items) pieces.now)))) 0 }
+        algorithm.now (length (joined (pieces_listed pieces.now)))) 0 }
 {
     let mut context = digest::Context::new(algorithm);
-    for piece in pieces {
-        context.update_counted(piece, meter);
+    let mut start = 0;
+    for len in &pieces.lens {
+        let end = start + *len;
+        context.update_counted(&pieces.bytes[start..end], meter);
+        start = end;
     }
     context
 }
@@ -93,10 +97,10 @@ fn respond_hmac<A: Allocator + Copy>(
     alloc: A,
     algorithm: hmac::Algorithm,
     key: &[u8],
-    pieces: &[Vec<u8, A>],
+    pieces: &Pieces<A>,
 ) -> Result<Answer<A>, AllocError>
     ensures { IfOk result (λ answer. response answer
-        ≡ hmac_answer algorithm key.now (map (λ piece. piece.items) pieces.now)) }
+        ≡ hmac_answer algorithm key.now (pieces_listed pieces.now)) }
 {
     let mut meter = Meter::new();
     let Ok(key) = hmac::Key::new_counted(algorithm, key, &mut meter) else {
@@ -110,13 +114,13 @@ fn respond_hmac<A: Allocator + Copy>(
 fn signed<A: Allocator + Copy>(
     alloc: A,
     key: &hmac::Key,
-    pieces: &[Vec<u8, A>],
+    pieces: &Pieces<A>,
     meter: &mut Meter,
 ) -> Result<Answer<A>, AllocError>
     requires { meter.old.blocks < 2 ^ 64 }
     ensures { (k : List ℕ) → KeyStandsFor key.now k → IfOk result (λ answer. response answer
         ≡ tag_answer (key_algorithm key.now) k
-        (joined (map (λ piece. piece.items) pieces.now)) meter.old.blocks) }
+        (joined (pieces_listed pieces.now)) meter.old.blocks) }
 {
     let context = signing(key, pieces, meter);
     match context.sign_counted(meter) {
@@ -126,39 +130,40 @@ fn signed<A: Allocator + Copy>(
 }
 
 /// A context under the key to which the pieces were given in order, its blocks counted by `meter`.
-fn signing<A: Allocator>(key: &hmac::Key, pieces: &[Vec<u8, A>], meter: &mut Meter) -> hmac::Context
+fn signing<A: Allocator>(key: &hmac::Key, pieces: &Pieces<A>, meter: &mut Meter) -> hmac::Context
     ensures algorithm { signing_algorithm result ≡ key_algorithm key.now }
     ensures stands { (k : List ℕ) → KeyStandsFor key.now k
-        → TagStandsFor result k (joined (map (λ piece. piece.items) pieces.now)) }
+        → TagStandsFor result k (joined (pieces_listed pieces.now)) }
     ensures cost { (k : List ℕ) → KeyStandsFor key.now k
         → meter.new ≡ raised meter.old (whole_blocks (key_algorithm key.now)
-        (length (joined (map (λ piece. piece.items) pieces.now)))) 0 }
+        (length (joined (pieces_listed pieces.now)))) 0 }
 {
     let mut context = hmac::Context::with_key(key);
-    for piece in pieces {
-        context.update_counted(piece, meter);
+    let mut start = 0;
+    for len in &pieces.lens {
+        let end = start + *len;
+        context.update_counted(&pieces.bytes[start..end], meter);
+        start = end;
     }
     context
 }
 
 /// Whether `tag` is the tag of the joined pieces.
 #[tactic(auto, unfolding(crate::specs::Request::hmac_verify_answer))]
-fn respond_hmac_verify<A: Allocator + Copy>(
-    alloc: A,
+fn respond_hmac_verify<A: Allocator>(
     algorithm: hmac::Algorithm,
     key: &[u8],
-    pieces: &[Vec<u8, A>],
+    pieces: &Pieces<A>,
     tag: &[u8],
-) -> Result<Answer<A>, AllocError>
-    ensures { IfOk result (λ answer. response answer ≡ hmac_verify_answer algorithm
-        key.now (map (λ piece. piece.items) pieces.now) tag.now) }
+) -> Answer<A>
+    ensures { response result ≡ hmac_verify_answer algorithm
+        key.now (pieces_listed pieces.now) tag.now }
 {
     let mut meter = Meter::new();
     let Ok(key) = hmac::Key::new_counted(algorithm, key, &mut meter) else {
-        return Ok(Answer::Refused);
+        return Answer::Refused;
     };
-    let message = joined_bytes(alloc, pieces)?;
-    Ok(verified(&key, &message, tag, &mut meter))
+    verified(&key, &pieces.bytes, tag, &mut meter)
 }
 
 /// Whether `tag` is the tag of `message`. A call that adds no block to the meter was refused.
@@ -181,18 +186,6 @@ fn verified<A: Allocator>(
     Answer::Verified(is_tag, meter.blocks())
 }
 
-/// The bytes of all pieces.
-fn joined_bytes<A: Allocator>(alloc: A, pieces: &[Vec<u8, A>]) -> Result<Vec<u8, A>, AllocError>
-    ensures { IfOk result (λ bytes.
-        bytes.items ≡ joined (map (λ piece. piece.items) pieces.now)) }
-{
-    let mut bytes = Vec::new(alloc);
-    for piece in pieces {
-        bytes.extend_from_slice(piece)?;
-    }
-    Ok(bytes)
-}
-
 /// An output of so many bytes.
 #[derive(Drop)]
 struct OutputLen(usize);
@@ -212,11 +205,11 @@ fn respond_hkdf<A: Allocator + Copy>(
     algorithm: hkdf::Algorithm,
     salt: &[u8],
     secret: &[u8],
-    info: &[Vec<u8, A>],
+    info: &Pieces<A>,
     len: usize,
 ) -> Result<Answer<A>, AllocError>
     ensures { IfOk result (λ answer. response answer ≡ hkdf_answer
-        algorithm salt.now secret.now (map (λ piece. piece.items) info.now) len) }
+        algorithm salt.now secret.now (pieces_listed info.now) len) }
 {
     let mut meter = Meter::new();
     let Ok(salt) = hkdf::Salt::new_counted(algorithm, salt, &mut meter) else {
@@ -252,14 +245,19 @@ fn output_of<A: Allocator>(
     }
 }
 
-/// The pieces as slices.
-fn views<A: Allocator>(alloc: A, pieces: &[Vec<u8, A>]) -> Result<Vec<&[u8], A>, AllocError>
+/// The pieces that have bytes, as slices: an empty one adds nothing to the info.
+fn views<A: Allocator>(alloc: A, pieces: &Pieces<A>) -> Result<Vec<&[u8], A>, AllocError>
     ensures { IfOk result (λ views.
-        joined_parts views.items ≡ joined (map (λ piece. piece.items) pieces.now)) }
+        joined_parts views.items ≡ joined (pieces_listed pieces.now)) }
 {
     let mut views = Vec::new(alloc);
-    for piece in pieces {
-        views.push(piece.as_slice())?;
+    let mut start = 0;
+    for len in &pieces.lens {
+        let end = start + *len;
+        if start < end {
+            views.push(&pieces.bytes[start..end])?;
+        }
+        start = end;
     }
     Ok(views)
 }

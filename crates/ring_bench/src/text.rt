@@ -1,5 +1,5 @@
 //! A text, and the bytes at which it is cut.
-ghost use Rattle.std.specs.Prelude.{◌≡◌, ◌==◌, IfOk, IfSome, IsNone, map};
+ghost use Rattle.std.specs.Prelude.{◌≡◌, ◌==◌, IfOk, IfSome, IsNone, map, take};
 ghost use Rattle.std.specs.List.{slice_split};
 ghost use Rattle.ring_bench.specs.Text.{IsFirstCut, IsWithout, without_return};
 
@@ -18,22 +18,26 @@ pub fn cut_at(text: &[u8], byte: u8) -> Option<(&[u8], &[u8])>
     }
 }
 
-/// The parts of a text between such bytes, one more than there are of them.
+/// The first parts of a text between such bytes: `most` of them, or all where there are fewer.
 pub fn parts_between<A: Allocator>(
     alloc: A,
     text: &[u8],
     byte: u8,
+    most: usize,
 ) -> Result<Vec<&[u8], A>, AllocError>
-    ensures { IfOk result (λ parts.
-        map (λ part. part.now) parts.items ≡ slice_split (λ b. b == byte) text.now) }
+    ensures { IfOk result (λ parts. map (λ part. part.now) parts.items
+        ≡ take most (slice_split (λ b. b == byte) text.now)) }
 {
     let mut parts = Vec::new(alloc);
     let mut rest = text;
-    'cuts: while let Some((part, behind)) = cut_at(rest, byte) {
+    'cuts: while parts.len() < most {
+        let Some((part, behind)) = cut_at(rest, byte) else {
+            parts.push(rest)?;
+            return Ok(parts);
+        };
         parts.push(part)?;
         rest = behind;
     }
-    parts.push(rest)?;
     Ok(parts)
 }
 

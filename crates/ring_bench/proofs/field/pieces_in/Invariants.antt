@@ -1,10 +1,17 @@
-use Rattle.std.proofs.Common.{◌≡◌, ◌++◌, map, drop}
+use Rattle.std.proofs.Common.{◌≡◌, ◌++◌, length}
+use Rattle.std.specs.List.{slice_split, sum}
 use Rattle.std.specs.Option.{option_map}
-use Rattle.ring_bench.specs.Field.{parts_bytes}
+use Rattle.ring_bench.specs.Field.{is_comma, parts_bytes}
+use Rattle.ring_bench.specs.Pieces.{cut_into}
 use Rattle.ring_bench.proofs.field.pieces_in.Given as goal
 
 -- the pieces so far, and those of the parts that are left, are those of all parts
-abbrev pub invariant-loop-part : goal.invariant-loop-part
-invariant-loop-part g l =
-    option_map (λ others. map (λ piece. piece.items) l.pieces.items ++ others) (parts_bytes (map (λ part. part.now) (drop l.part-index l.part-items)))
-    ≡ parts_bytes (map (λ part. part.now) l.part-items)
+abbrev pub invariant-parts : goal.invariant-parts
+invariant-parts g l = record {
+  whole : sum l.lens.items ≡ length l.bytes.items;
+  same : option_map (λ others. cut_into l.lens.items l.bytes.items ++ others) (parts_bytes (slice_split is_comma l.rest))
+      ≡ parts_bytes (slice_split is_comma l.field);
+}
+
+abbrev pub decreases-parts : goal.decreases-parts
+decreases-parts g l = length l.rest

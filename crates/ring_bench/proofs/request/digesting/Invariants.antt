@@ -1,14 +1,15 @@
-use Rattle.std.proofs.Common.{◌≡◌, length, take, map}
+use Rattle.std.proofs.Common.{◌≡◌, ◌+◌, length, take, drop}
+use Rattle.std.specs.List.{sum}
 use Rattle.ring_core.specs.Cost.{raised}
 use Rattle.ring.specs.Context.{StandsFor, context_algorithm}
 use Rattle.ring.specs.Cost.{whole_blocks}
-use Rattle.ring_bench.specs.Request.{joined}
 use Rattle.ring_bench.proofs.request.digesting.Given as goal
 
--- the context stands for the pieces so far, at the cost of their whole blocks
-abbrev pub invariant-loop-piece : goal.invariant-loop-piece
-invariant-loop-piece g l = record {
+-- the context stands for the run so far, at the cost of its whole blocks, and the lengths that are left are the rest's
+abbrev pub invariant-loop-len : goal.invariant-loop-len
+invariant-loop-len g l = record {
   algorithm : context_algorithm l.context ≡ l.algorithm;
-  stands : StandsFor l.context (joined (map (λ piece. piece.items) (take l.piece-index l.pieces)));
-  cost : l.meter ≡ raised l.fn.meter (whole_blocks l.algorithm (length (joined (map (λ piece. piece.items) (take l.piece-index l.pieces))))) 0;
+  left : l.start + sum (drop l.len-index l.pieces.lens.items) ≡ length l.pieces.bytes.items;
+  stands : StandsFor l.context (take l.start l.pieces.bytes.items);
+  cost : l.meter ≡ raised l.fn.meter (whole_blocks l.algorithm (length (take l.start l.pieces.bytes.items))) 0;
 }

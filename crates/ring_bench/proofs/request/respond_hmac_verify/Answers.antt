@@ -2,6 +2,7 @@ use Rattle.std.proofs.Common.{arith, rules}
 use Rattle.std.proofs.lemmas.Grind.{common_steps}
 use Rattle.ring_bench.specs.Request.{hmac_verify_answer}
 use Rattle.ring_bench.proofs.CountLemmas.{key_count}
+use Rattle.ring_bench.proofs.PieceLemmas.{joined-listed}
 use Rattle.ring_bench.proofs.request.respond_hmac_verify.Goals as goal
 
 pub verified-requires : goal.verified-requires
@@ -12,4 +13,5 @@ unfolding hmac_verify_answer
 returns g c =
     let count = (key_count _ _ _ _ c.new-meter.ensures (search rules) c.in-Ok.ensures.cost).0 in
     let verdict = c.verified.ensures _ c.in-Ok.ensures.ok in
-    grind (arith, common_steps, count, verdict)
+    let message = joined-listed c.args.pieces.now in
+    grind (arith, common_steps, count, verdict, message)

@@ -1,21 +1,34 @@
 use Rattle.std.proofs.Common.{arith, ◌∙◌, length-append}
-use Rattle.ring_bench.proofs.CountLemmas.{joined-more, whole_more, whole_none}
+use Rattle.ring_bench.proofs.CountLemmas.{whole_more, whole_none}
+use Rattle.ring_bench.proofs.PieceLemmas.{joined-listed, walk-end, walk-more}
 use Rattle.ring_bench.proofs.request.signing.Goals as goal
 
-pub loop-piece-init : goal.loop-piece-init
-loop-piece-init g c = record {
+pub loop-len-init : goal.loop-len-init
+loop-len-init g c = record {
   algorithm = c.with_key-context.ensures.algorithm;
+  left = omega (arith, c.args.pieces.now.whole);
   stands = c.with_key-context.ensures.stands;
   cost = λ k h. whole_none _ _;
 }
 
-pub loop-piece-preserved : goal.loop-piece-preserved
-loop-piece-preserved g c =
-    let so_far = c.loop-piece.invariant in
+pub loop-len-preserved : goal.loop-len-preserved
+loop-len-preserved g c =
+    let so_far = c.loop-len.invariant in
     let more = c.update_counted.ensures in
-    rw (joined-more (λ piece. piece.items) c.args.pieces.now c.loop-piece.piece-index c.piece-item.result c.deref.result.now (omega arith) c.piece-item.is c.deref.ensures.value)
-    (record {
+    let walk = walk-more c.args.pieces.now.lens.items _ c.args.pieces.now.bytes.items _ c.loop-len.len-index _ c.deref-len-items.ensures.value c.deref.ensures.value (omega arith) so_far.left in
+    record {
       algorithm = more.algorithm ∙ so_far.algorithm;
-      stands = λ k h. more.stands k _ (so_far.stands k h);
-      cost = λ k h. rw length-append (whole_more _ _ _ _ _ _ _ so_far.algorithm (so_far.cost k h) (more.cost_of k _ (so_far.stands k h)));
-    })
+      left = walk.0;
+      stands = λ k h. rw walk.1 (more.stands k _ (so_far.stands k h));
+      cost = λ k h. rw (walk.1, length-append) (whole_more _ _ _ _ _ _ _ so_far.algorithm (so_far.cost k h) (more.cost_of k _ (so_far.stands k h)));
+    }
+
+pub returns-clause-stands : goal.returns-clause-stands
+returns-clause-stands g c = λ k h.
+    let whole = walk-end c.args.pieces.now.lens.items c.args.pieces.now.bytes.items c.loop-len.len-index c.loop-len.start (omega arith) c.loop-len.invariant.left in
+    rw (joined-listed c.args.pieces.now) (rw whole at c.loop-len.invariant.stands k h)
+
+pub returns-clause-cost : goal.returns-clause-cost
+returns-clause-cost g c = λ k h.
+    let whole = walk-end c.args.pieces.now.lens.items c.args.pieces.now.bytes.items c.loop-len.len-index c.loop-len.start (omega arith) c.loop-len.invariant.left in
+    rw (joined-listed c.args.pieces.now) (rw whole at c.loop-len.invariant.cost k h)

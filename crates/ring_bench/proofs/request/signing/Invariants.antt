@@ -1,15 +1,16 @@
-use Rattle.std.proofs.Common.{◌≡◌, ℕ, List, length, take, map}
+use Rattle.std.proofs.Common.{◌≡◌, ℕ, ◌+◌, List, length, take, drop}
+use Rattle.std.specs.List.{sum}
 use Rattle.ring_core.specs.Cost.{raised}
 use Rattle.ring.specs.Cost.{whole_blocks}
 use Rattle.ring.specs.Hmac.{KeyStandsFor, TagStandsFor, key_algorithm, signing_algorithm}
-use Rattle.ring_bench.specs.Request.{joined}
 use Rattle.ring_bench.proofs.request.signing.Given as goal
 
--- the context stands for the pieces so far, at the cost of their whole blocks
-abbrev pub invariant-loop-piece : goal.invariant-loop-piece
-invariant-loop-piece g l = record {
+-- the context stands for the run so far, at the cost of its whole blocks, and the lengths that are left are the rest's
+abbrev pub invariant-loop-len : goal.invariant-loop-len
+invariant-loop-len g l = record {
   algorithm : signing_algorithm l.context ≡ key_algorithm l.key;
-  stands : (k : List ℕ) → KeyStandsFor l.key k → TagStandsFor l.context k (joined (map (λ piece. piece.items) (take l.piece-index l.pieces)));
+  left : l.start + sum (drop l.len-index l.pieces.lens.items) ≡ length l.pieces.bytes.items;
+  stands : (k : List ℕ) → KeyStandsFor l.key k → TagStandsFor l.context k (take l.start l.pieces.bytes.items);
   cost : (k : List ℕ) → KeyStandsFor l.key k
-      → l.meter ≡ raised l.fn.meter (whole_blocks (key_algorithm l.key) (length (joined (map (λ piece. piece.items) (take l.piece-index l.pieces))))) 0;
+      → l.meter ≡ raised l.fn.meter (whole_blocks (key_algorithm l.key) (length (take l.start l.pieces.bytes.items))) 0;
 }

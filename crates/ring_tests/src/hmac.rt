@@ -1,6 +1,7 @@
 //! Tags: messages in whatever pieces, what keys cost, and the texts of Debug.
 
 use crate::messages::{counting_bytes, padded_blocks, whole_blocks};
+use crate::texts::prints;
 use ring::cost::Meter;
 use ring::digest;
 use ring::error::Unspecified;
@@ -8,8 +9,6 @@ use ring::hmac::{
     Algorithm, Context, HMAC_SHA1_FOR_LEGACY_USE_ONLY, HMAC_SHA256, HMAC_SHA384, HMAC_SHA512, Key,
     Tag, sign, sign_counted, verify_counted,
 };
-use std::alloc::Global;
-use std::fmt::Debug;
 use std::test::Fail;
 
 // Each algorithm, with pieces of one byte, and of a block, a byte less and a byte more.
@@ -161,10 +160,6 @@ fn pairs_of_a_verification(rt: HostRuntime) -> Result<(), Fail> {
         verifies(&key, &[0; 32]) == (false, 2, 32) && verifies(&key, &[0; 31]) == (false, 2, 0)
     );
     Ok(())
-}
-
-fn prints(alloc: Global, value: &impl Debug, text: &str) -> Result<bool, Fail> {
-    Ok(format!(in alloc; "{value:?}")?.as_str() == text)
 }
 
 // The texts are those of the original.

@@ -22,3 +22,5 @@ mod messages;
 mod pbkdf2;
 #[cfg(test)]
 mod rand;
+#[cfg(test)]
+mod texts;

@@ -52,12 +52,16 @@ fn ready_for_all(bytes: &[u8]) -> Listed<'_> {
 }
 
 #[test]
-fn values(rt: HostRuntime) -> Result<(), Fail> {
+fn the_next_bytes(rt: HostRuntime) -> Result<(), Fail> {
     let mut five = ready_for_all(&[1, 2, 3, 4, 5]);
     let made = generate::<[u8; 4]>(&mut five)?.expose();
-    let none = generate::<[u8; 0]>(&mut ready_for_all(&[]))?.expose();
-    assert!(rt; made == [1, 2, 3, 4] && five.bytes == [5].as_slice() && none == []);
+    assert!(rt; made == [1, 2, 3, 4] && five.bytes == [5].as_slice());
     Ok(())
+}
+
+#[test]
+fn no_byte(rt: HostRuntime) {
+    assert!(rt; generate::<[u8; 0]>(&mut ready_for_all(&[])).is_ok());
 }
 
 // Whether a source that is ready for three bytes gives none of four, and keeps its bytes.
@@ -87,20 +91,12 @@ fn is_key_of(
 }
 
 // Whether two keys are made of the first bytes and then of the second, and no third one.
-fn makes_two_keys(
-    algorithm: Algorithm,
-    both: &[u8],
-    first: &[u8],
-    second: &[u8],
-) -> Result<bool, Unspecified> {
+fn makes_two_keys(algorithm: Algorithm, both: &[u8], first: &[u8], second: &[u8]) -> bool {
     let mut source = ready_for_all(both);
-    Ok(
-        is_key_of(algorithm, &mut source, first)?
-            && is_key_of(algorithm, &mut source, second)?
-            && source.bytes.is_empty()
-            && Key::generate(algorithm, &mut source).is_err()
-            && source.bytes.is_empty(),
-    )
+    is_key_of(algorithm, &mut source, first) == Ok(true)
+        && is_key_of(algorithm, &mut source, second) == Ok(true)
+        && source.bytes.is_empty()
+        && Key::generate(algorithm, &mut source).is_err()
 }
 
 // Whether a source that is ready for `most` bytes makes no key, and keeps its bytes.
@@ -111,7 +107,7 @@ fn makes_no_key(algorithm: Algorithm, bytes: &[u8], most: usize) -> bool {
 
 // Three keys in turn from the bytes of two, and one from a source that is ready for a byte less.
 #[test]
-fn keys_in_turn(rt: HostRuntime) -> Result<(), Fail> {
+fn keys_in_turn(rt: HostRuntime) {
     let bytes = counting_bytes::<128>();
     for (algorithm, len) in [
         (HMAC_SHA1_FOR_LEGACY_USE_ONLY, 20),
@@ -121,10 +117,9 @@ fn keys_in_turn(rt: HostRuntime) -> Result<(), Fail> {
     ] {
         let both = &bytes[..2 * len];
         let (first, second) = both.split_at(len);
-        assert!(rt; makes_two_keys(algorithm, both, first, second)?);
+        assert!(rt; makes_two_keys(algorithm, both, first, second));
         assert!(rt; makes_no_key(algorithm, both, len - 1));
     }
-    Ok(())
 }
 
 #[test]

@@ -167,7 +167,8 @@ fn append_piece<A: Allocator>(
         × (value_of (decode_of digits.now) ≡ Some piece)
         × (bytes.new.items ≡ bytes.old.items ++ piece)
         × (lens.new.items ≡ lens.old.items ++ length piece ∷ [])) }
-    ensures bad { IfOk result (λ is_hex. IsFalse is_hex → value_of (decode_of digits.now) ≡ None) }
+    ensures bad { IfOk result (λ is_hex.
+        IsFalse is_hex → value_of (decode_of digits.now) ≡ None) }
 {
     let Some(piece) = decoded(alloc, digits)? else {
         return Ok(false);

@@ -4,45 +4,66 @@ use crate::lines::{ANSWERS, HELLO, OF_HELLO, TEXT};
 use crate::parts::{Choppy, Counting, Sink, Watchful};
 use ring_bench::{LineKind, Status, answer, run};
 use sha2::{Digest, Sha256};
+use std::alloc::{AllocError, Global};
 use std::cell::Cell;
 use std::io;
 use std::test::Fail;
 
+// Whether a line is of this kind, and its answer comes behind what was there.
+fn answers(alloc: Global, line: &[u8], kind: LineKind, want: &[u8]) -> Result<bool, AllocError> {
+    let mut out = Vec::new(alloc);
+    out.extend_from_slice(b"before")?;
+    let told = answer(alloc, line, &mut out) == Ok(kind);
+    Ok(told && out.strip_prefix(b"before") == Some(want))
+}
+
 #[test]
 fn answers_with_ample_memory(rt: HostRuntime) -> Result<(), Fail> {
-    let mut out = Vec::new(rt.alloc());
-    out.extend_from_slice(b"before")?;
-    assert_eq!(rt; answer(rt.alloc(), HELLO, &mut out), Ok(LineKind::Answered));
-    assert!(rt; out.starts_with(b"before") && out.ends_with(OF_HELLO));
-    assert_eq!(rt; out.len(), 6 + OF_HELLO.len());
-    for line in [b"".as_slice(), b"#", b"# digest SHA256 -"] {
-        let mut none = Vec::new(rt.alloc());
-        assert_eq!(rt; answer(rt.alloc(), line, &mut none), Ok(LineKind::Nothing));
-        assert!(rt; none.is_empty());
-    }
-    let mut bad = Vec::new(rt.alloc());
-    assert_eq!(rt; answer(rt.alloc(), b"digest", &mut bad), Ok(LineKind::Bad));
-    assert_eq!(rt; bad.as_slice(), b"bad line\n".as_slice());
+    assert!(rt; answers(rt.alloc(), HELLO, LineKind::Answered, OF_HELLO)?);
+    assert!(rt; answers(rt.alloc(), b"", LineKind::Nothing, b"")?);
+    assert!(rt; answers(rt.alloc(), b"# digest SHA256 -", LineKind::Nothing, b"")?);
+    assert!(rt; answers(rt.alloc(), b"digest", LineKind::Bad, b"bad line\n")?);
     Ok(())
+}
+
+// Whether a run over the text ends well, and writes this alone.
+fn runs_clean(alloc: Global, mut text: &[u8], want: &[u8]) -> bool {
+    let mut out = Vec::new(alloc);
+    run(alloc, &mut text, &mut out) == Ok(Status::Clean) && out.as_slice() == want
+}
+
+// A line of a digest over `count` times the two digits.
+fn digest_line(
+    alloc: Global,
+    word: &[u8],
+    digits: &[u8],
+    count: u32,
+) -> Result<Vec<u8>, AllocError> {
+    let mut text = Vec::new(alloc);
+    text.extend_from_slice(word)?;
+    for _ in 0..count {
+        text.extend_from_slice(digits)?;
+    }
+    Ok(text)
 }
 
 // The digest of 65,536 zero bytes, as another implementation gives it.
 #[test]
 fn a_line_of_131072_digits(rt: HostRuntime) -> Result<(), Fail> {
     let zeros = vec![in rt.alloc(); 0; 65_536]?;
-    let mut text = Vec::new(rt.alloc());
-    text.extend_from_slice(b"digest SHA256 ")?;
-    for _ in 0..65_536 {
-        text.extend_from_slice(b"00")?;
-    }
-    let mut out = Vec::new(rt.alloc());
-    assert_eq!(rt;
-        run(rt.alloc(), &mut text.as_slice(), &mut out),
-        Ok(Status::Clean)
-    );
     let digest = hex::encode(rt.alloc(), Sha256::digest(zeros.as_slice()).as_slice())?;
     let want = format!(in rt.alloc(); "{digest} 1025\n")?;
-    assert_eq!(rt; out.as_slice(), want.as_bytes());
+    let text = digest_line(rt.alloc(), b"digest SHA256 ", b"00", 65_536)?;
+    assert!(rt; runs_clean(rt.alloc(), &text, want.as_bytes()));
+    Ok(())
+}
+
+// A million times the letter a: NIST's examples beside FIPS 180-4.
+#[test]
+fn a_line_of_two_million_digits(rt: HostRuntime) -> Result<(), Fail> {
+    let want = b"34aa973cd4c4daa4f61eeb2bdbad27316534016f 15626\n";
+    let text = digest_line(rt.alloc(), b"digest SHA1 ", b"61", 1_000_000)?;
+    assert!(rt; runs_clean(rt.alloc(), &text, want));
     Ok(())
 }
 
@@ -52,43 +73,25 @@ fn seventy_thousand_reads_of_a_byte(rt: HostRuntime) -> Result<(), Fail> {
     let text = vec![in rt.alloc(); b'\n'; 70_000]?;
     let mut reader = Choppy::new(&text, 1, 0);
     let mut out = Vec::new(rt.alloc());
-    assert_eq!(rt; run(rt.alloc(), &mut reader, &mut out), Ok(Status::Clean));
-    assert_eq!(rt; reader.calls, 70_001);
-    assert!(rt; out.is_empty());
+    let ended = run(rt.alloc(), &mut reader, &mut out);
+    assert!(rt; ended == Ok(Status::Clean) && reader.calls == 70_001 && out.is_empty());
     Ok(())
 }
 
-// A million times the letter a: NIST's examples beside FIPS 180-4.
-#[test]
-fn a_line_of_two_million_digits(rt: HostRuntime) -> Result<(), Fail> {
-    let mut text = Vec::new(rt.alloc());
-    text.extend_from_slice(b"digest SHA1 ")?;
-    for _ in 0..1_000_000 {
-        text.extend_from_slice(b"61")?;
-    }
-    let mut out = Vec::new(rt.alloc());
-    assert_eq!(rt;
-        run(rt.alloc(), &mut text.as_slice(), &mut out),
-        Ok(Status::Clean)
-    );
-    assert_eq!(rt;
-        out.as_slice(),
-        b"34aa973cd4c4daa4f61eeb2bdbad27316534016f 15626\n".as_slice()
-    );
-    Ok(())
+// Whether a run answers the same where its reader gives `step` bytes and its writer takes as many,
+// and flushes once, behind the last answer.
+fn is_same_in_steps_of(alloc: Global, step: usize) -> bool {
+    let mut writer = Sink::new(alloc, step, 0);
+    let ended = run(alloc, &mut Choppy::new(TEXT, step, 0), &mut writer);
+    let flushed_once = writer.flushes == 1 && writer.flushed == writer.got.len();
+    ended == Ok(Status::Clean) && writer.got.as_slice() == ANSWERS && flushed_once
 }
 
 #[test]
-fn any_pieces_give_the_same_answers(rt: HostRuntime) -> Result<(), Fail> {
-    for step in [1usize, 3, 16, 4096] {
-        let mut writer = Sink::new(rt.alloc(), step, 0);
-        let status = run(rt.alloc(), &mut Choppy::new(TEXT, step, 0), &mut writer);
-        assert_eq!(rt; status, Ok(Status::Clean));
-        assert_eq!(rt; writer.got.as_slice(), ANSWERS);
-        assert_eq!(rt; writer.flushes, 1);
-        assert_eq!(rt; writer.flushed, writer.got.len());
+fn any_pieces_give_the_same_answers(rt: HostRuntime) {
+    for step in [1, 3, 16, 4096] {
+        assert!(rt; is_same_in_steps_of(rt.alloc(), step));
     }
-    Ok(())
 }
 
 #[test]
@@ -106,9 +109,6 @@ fn answers_before_reading_on(rt: HostRuntime) {
         written: &written,
     };
     let mut writer = Counting { written: &written };
-    assert_eq!(rt;
-        run(rt.alloc(), &mut reader, &mut writer),
-        Ok(Status::SomeBad)
-    );
-    assert_eq!(rt; written.get(), 219);
+    let ended = run(rt.alloc(), &mut reader, &mut writer);
+    assert!(rt; ended == Ok(Status::SomeBad) && written.get() == 219);
 }

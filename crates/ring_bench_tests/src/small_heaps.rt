@@ -4,82 +4,139 @@ use crate::lines::{ANSWERS, HELLO, OF_HELLO, OF_NOTHING, TAG, TEXT};
 use crate::parts::Choppy;
 use linked_list_allocator::LocalHeap;
 use ring_bench::{BenchError, Status, answer_in, run_in};
+use std::alloc::{AllocError, Global};
 use std::test::Fail;
 
-const SIGN: &[u8] = b"hmac SHA256 0b0b0b0b0b0b0b0b0b0b0b0b0b0b0b0b0b0b0b0b 4869,20,5468657265";
+// Lines of all kinds of answers, with those: RFC 4231, 4.2, RFC 5869, A.1, and RFC 6070, section 2.
+const ROWS: [(&[u8], &[u8]); 5] = [
+    (HELLO, OF_HELLO),
+    (
+        b"hmac SHA256 0b0b0b0b0b0b0b0b0b0b0b0b0b0b0b0b0b0b0b0b 4869,20,5468657265",
+        TAG,
+    ),
+    (
+        b"hmac-verify SHA256 0b0b0b0b0b0b0b0b0b0b0b0b0b0b0b0b0b0b0b0b 4869,20,5468657265 b0344c61d8db38535ca8afceaf0bf12b881dc200c9833da726e9376c2e32cff7",
+        b"match 4\n",
+    ),
+    (
+        b"hkdf SHA256 000102030405060708090a0b0c 0b0b0b0b0b0b0b0b0b0b0b0b0b0b0b0b0b0b0b0b0b0b f0f1f2f3f4f5f6f7f8f9 42",
+        b"3cb25f25faacd57a90434f64d0362f2a2d2d0a90cf1a5a4c5db02d56ecc4c5bf34007208d5b887185865 10\n",
+    ),
+    (
+        b"pbkdf2 SHA1 1 70617373776f7264 73616c74 20",
+        b"0c60c80f961f0e71f3a9b524af6012062fe037a6 4\n",
+    ),
+];
 
-const VERIFY: &[u8] =
-    b"hmac-verify SHA256 0b0b0b0b0b0b0b0b0b0b0b0b0b0b0b0b0b0b0b0b 4869,20,5468657265 b0344c61d8db38535ca8afceaf0bf12b881dc200c9833da726e9376c2e32cff7";
-
-const EXPAND: &[u8] =
-    b"hkdf SHA256 000102030405060708090a0b0c 0b0b0b0b0b0b0b0b0b0b0b0b0b0b0b0b0b0b0b0b0b0b f0f1f2f3f4f5f6f7f8f9 42";
-
-const DERIVE: &[u8] = b"pbkdf2 SHA1 1 70617373776f7264 73616c74 20";
-
-const MATCH: &[u8] = b"match 4\n";
-
-// Whether these are whole answers, the first of `ANSWERS`.
-fn are_first_answers(bytes: &[u8]) -> bool {
-    ANSWERS.starts_with(bytes) && (bytes.is_empty() || bytes.ends_with(b"\n"))
+// How a call ended on a small heap.
+#[derive(Clone, Copy, PartialEq, Eq)]
+enum End {
+    Well,
+    Refused,
+    Wrong,
 }
 
-// A heap of each size, from none on, refuses memory at another request.
+// How an answer ends on a heap of `size` bytes: whole, or told as want of memory with nothing added.
+fn answer_on(alloc: Global, size: usize, line: &[u8], want: &[u8]) -> Result<End, AllocError> {
+    let heap = LocalHeap::new(alloc, size)?;
+    let mut out = Vec::new(alloc);
+    out.extend_from_slice(b"before")?;
+    let ended = answer_in(&heap, line, &mut out);
+    Ok(match (ended, out.strip_prefix(b"before")) {
+        (Ok(_), Some(added)) if added == want => End::Well,
+        (Err(BenchError::Memory), Some([])) => End::Refused,
+        _ => End::Wrong,
+    })
+}
+
+// How a run ends on a heap of `size` bytes: with all answers, or told as want of memory with whole
+// answers, the first ones.
+fn run_on(alloc: Global, size: usize) -> Result<End, AllocError> {
+    let heap = LocalHeap::new(alloc, size)?;
+    let mut out = Vec::with_capacity(alloc, ANSWERS.len())?;
+    let ended = run_in(&heap, &mut Choppy::new(TEXT, 4096, 0), &mut out);
+    let is_whole = out.is_empty() || out.ends_with(b"\n");
+    Ok(match ended {
+        Ok(Status::Clean) if out.as_slice() == ANSWERS => End::Well,
+        Err(BenchError::Memory) if is_whole && is_front(&out) => End::Refused,
+        _ => End::Wrong,
+    })
+}
+
+fn is_front(bytes: &[u8]) -> bool {
+    ANSWERS.starts_with(bytes) && bytes.len() < ANSWERS.len()
+}
+
+// Counts how calls on heaps of each size ended, from none on: each size refuses another request.
+#[derive(Drop)]
+struct Ends {
+    well: u32,
+    refused: u32,
+    wrong: u32,
+}
+
+impl Ends {
+    fn none() -> Ends {
+        Ends {
+            well: 0,
+            refused: 0,
+            wrong: 0,
+        }
+    }
+
+    fn count(&mut self, end: End) {
+        match end {
+            End::Well => self.well = self.well.saturating_add(1),
+            End::Refused => self.refused = self.refused.saturating_add(1),
+            End::Wrong => self.wrong = self.wrong.saturating_add(1),
+        }
+    }
+
+    // None is wrong, and there are several of both others.
+    fn are_right(&self) -> bool {
+        self.wrong == 0 && self.refused > 5 && self.well > 10
+    }
+}
+
 #[test]
 fn small_heaps_in_answer(rt: HostRuntime) -> Result<(), Fail> {
-    let expanded =
-        b"3cb25f25faacd57a90434f64d0362f2a2d2d0a90cf1a5a4c5db02d56ecc4c5bf34007208d5b887185865 10\n";
-    let derived = b"0c60c80f961f0e71f3a9b524af6012062fe037a6 4\n";
-    let rows: [(&[u8], &[u8]); 5] = [
-        (HELLO, OF_HELLO),
-        (SIGN, TAG),
-        (VERIFY, MATCH),
-        (EXPAND, expanded),
-        (DERIVE, derived),
-    ];
-    for (line, want) in rows {
-        let mut refused = 0u32;
+    for (line, want) in ROWS {
+        let mut ends = Ends::none();
         for size in 0usize..200 {
-            let heap = LocalHeap::new(rt.alloc(), size * 16)?;
-            let mut out = Vec::new(rt.alloc());
-            out.extend_from_slice(b"before")?;
-            match answer_in(&heap, line, &mut out) {
-                Ok(_) => assert!(rt; out.starts_with(b"before") && out.ends_with(want)),
-                Err(error) => {
-                    refused = refused.saturating_add(1);
-                    assert_eq!(rt; error, BenchError::Memory);
-                    assert_eq!(rt; out.as_slice(), b"before".as_slice());
-                }
-            }
+            ends.count(answer_on(rt.alloc(), size * 16, line, want)?);
         }
-        assert!(rt; refused > 5 && refused < 190, "{refused}");
+        assert!(rt; ends.are_right());
     }
     Ok(())
 }
 
 #[test]
 fn small_heaps_in_run(rt: HostRuntime) -> Result<(), Fail> {
+    let mut ends = Ends::none();
+    for size in 0usize..200 {
+        ends.count(run_on(rt.alloc(), size * 16)?);
+    }
+    assert!(rt; ends.are_right());
+    Ok(())
+}
+
+// Over the empty text a run needs no memory, and writes nothing.
+#[test]
+fn no_heap_for_the_empty_text(rt: HostRuntime) -> Result<(), Fail> {
     let heap = LocalHeap::new(rt.alloc(), 0)?;
     let mut out = Vec::new(rt.alloc());
-    assert_eq!(rt;
-        run_in(&heap, &mut Choppy::new(b"", 1, 0), &mut out),
-        Ok(Status::Clean)
-    );
-    assert!(rt; out.is_empty());
-    let mut refused = 0u32;
-    for size in 0usize..200 {
-        let heap = LocalHeap::new(rt.alloc(), size * 16)?;
-        let mut out = Vec::with_capacity(rt.alloc(), ANSWERS.len())?;
-        match run_in(&heap, &mut Choppy::new(TEXT, 4096, 0), &mut out) {
-            Ok(_) => assert_eq!(rt; out.as_slice(), ANSWERS),
-            Err(error) => {
-                refused = refused.saturating_add(1);
-                assert_eq!(rt; error, BenchError::Memory);
-                assert!(rt; are_first_answers(&out) && out.len() < ANSWERS.len());
-            }
-        }
-    }
-    assert!(rt; refused > 5 && refused < 190, "{refused}");
+    let ended = run_in(&heap, &mut Choppy::new(b"", 1, 0), &mut out);
+    assert!(rt; ended == Ok(Status::Clean) && out.is_empty());
     Ok(())
+}
+
+// `count` times a piece of a text.
+fn repeated(alloc: Global, piece: &[u8], count: u32) -> Result<Vec<u8>, AllocError> {
+    let mut text = Vec::new(alloc);
+    for _ in 0..count {
+        text.extend_from_slice(piece)?;
+    }
+    Ok(text)
 }
 
 // What is kept of a text is its open line, and want of memory is told at the line that is too long:
@@ -87,27 +144,15 @@ fn small_heaps_in_run(rt: HostRuntime) -> Result<(), Fail> {
 #[test]
 fn only_the_open_line_is_kept(rt: HostRuntime) -> Result<(), Fail> {
     let heap = LocalHeap::new(rt.alloc(), 4096)?;
-    let mut text = Vec::new(rt.alloc());
-    let mut answers = Vec::new(rt.alloc());
-    for _ in 0..1000 {
-        text.extend_from_slice(b"digest SHA256 -\n")?;
-        answers.extend_from_slice(OF_NOTHING)?;
-    }
+    let mut text = repeated(rt.alloc(), b"digest SHA256 -\n", 1000)?;
+    let answers = repeated(rt.alloc(), OF_NOTHING, 1000)?;
     let mut out = Vec::new(rt.alloc());
-    assert_eq!(rt;
-        run_in(&heap, &mut text.as_slice(), &mut out),
-        Ok(Status::Clean)
-    );
-    assert_eq!(rt; out.as_slice(), answers.as_slice());
+    let ended = run_in(&heap, &mut text.as_slice(), &mut out);
+    assert!(rt; ended == Ok(Status::Clean) && out.as_slice() == answers.as_slice());
     text.extend_from_slice(b"digest SHA256 ")?;
-    for _ in 0..4096 {
-        text.extend_from_slice(b"00")?;
-    }
+    text.extend_from_slice(&repeated(rt.alloc(), b"00", 4096)?)?;
     let mut out = Vec::new(rt.alloc());
-    assert_eq!(rt;
-        run_in(&heap, &mut text.as_slice(), &mut out),
-        Err(BenchError::Memory)
-    );
-    assert_eq!(rt; out.as_slice(), answers.as_slice());
+    let ended = run_in(&heap, &mut text.as_slice(), &mut out);
+    assert!(rt; ended == Err(BenchError::Memory) && out.as_slice() == answers.as_slice());
     Ok(())
 }

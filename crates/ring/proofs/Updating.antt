@@ -7,7 +7,7 @@ use borrow.Rule.Slice.PartMut.{put_mid}
 use Rattle.ring_core.specs.Cost.{Counts, raised}
 use Rattle.ring_core.proofs.Costs.{raised-none, raised-raised}
 use Rattle.ring.specs.Algorithm.{block_len}
-use Rattle.ring.specs.Context.{HasMoved, HasTaken, StandsFor, cut_off, message_len, pending_bytes, pending_len}
+use Rattle.ring.specs.Context.{HasMoved, HasTaken, IsJoined, StandsFor, cut_off, message_len, pending_bytes, pending_len}
 use Rattle.ring.specs.Cost.{whole_blocks}
 use Rattle.ring.specs.declared.digest.algorithm.Algorithm.{Algorithm}
 use Rattle.ring.specs.declared.digest.block_context.BlockContext.{BlockContext}
@@ -110,6 +110,7 @@ ahead_len s d fits = omega (arith, length-append (pending_bytes s) d, length-tak
 -- what the context stands for after an update
 pub stands_moved : (k : ℕ) (s n : Context) (d left : List ℕ) (before after : Counts) → HasMoved k s.block n.block (pending_bytes s ++ d) left before after
     → pending_bytes n ≡ left → (m : List ℕ) → StandsFor s m → StandsFor n (m ++ d)
+unfolding StandsFor
 stands_moved k s n d left before after j front m h =
     record {
       whole = h.whole ++ take (j.blocks * k) (pending_bytes s ++ d);
@@ -138,11 +139,12 @@ cost_moved k s n d left before after j fits short =
     j.cost ∙ ap (λ (z : ℕ). raised before z 0) ((moved_count k _ _ _ left before after j short).0 ∙ ap (λ (z : ℕ). z / k) (ahead_len s d fits))
 
 -- the length of a message that a context stands for
-pub stands_len : (s : Context) (m : List ℕ) → (h : StandsFor s m) → s.num_pending ≤ length s.pending → length m ≡ length h.whole + s.num_pending
+pub stands_len : (s : Context) (m : List ℕ) → (h : IsJoined s m) → s.num_pending ≤ length s.pending → length m ≡ length h.whole + s.num_pending
 stands_len s m h fits = omega (arith, ap length h.message, length-append h.whole (pending_bytes s), length-take-le s.num_pending s.pending fits)
 
 -- the pending bytes are what its whole blocks leave of the message
 pub stands_pending : (s : Context) (m : List ℕ) → StandsFor s m → s.num_pending ≤ length s.pending → length m % block_len s.block.algorithm ≡ s.num_pending
+unfolding StandsFor
 stands_pending s m h fits =
     let e : length m ≡ length h.whole / block_len s.block.algorithm * block_len s.block.algorithm + s.num_pending =
     omega (arith, stands_len s m h fits, whole_mul (length h.whole) (block_len s.block.algorithm) h.taken.whole) in
@@ -151,6 +153,7 @@ stands_pending s m h fits =
 -- the blocks that d bytes more complete
 pub stands_blocks : (s : Context) (m : List ℕ) (d : ℕ) → StandsFor s m → s.num_pending ≤ length s.pending
     → whole_blocks s.block.algorithm (s.num_pending + d) ≡ whole_blocks s.block.algorithm (length m + d) - whole_blocks s.block.algorithm (length m)
+unfolding StandsFor
 stands_blocks s m d h fits =
     let len = stands_len s m h fits in
     let pos = block_len-positive s.block.algorithm in
@@ -162,4 +165,5 @@ stands_blocks s m d h fits =
 
 -- the count of a message that a context stands for
 pub stands_counted : (s : Context) (m : List ℕ) → StandsFor s m → s.num_pending ≤ length s.pending → message_len s ≡ cut_off (length m)
+unfolding StandsFor
 stands_counted s m h fits = omega (arith, stands_len s m h fits, h.taken.count)

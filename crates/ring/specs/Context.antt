@@ -43,11 +43,15 @@ pending_len c = c.num_pending
 abbrev pub message_len : Context → ℕ
 message_len c = cut_off (counted_bytes c.block + c.num_pending)
 
--- the context stands for the message m: whole blocks that it has taken in, and then the pending bytes
-pub record StandsFor (c : Context) (m : List ℕ) : Type 0 where
+-- the message m is whole blocks that the context has taken in, and then the pending bytes
+pub record IsJoined (c : Context) (m : List ℕ) : Type 0 where
   pub whole : List ℕ
   pub taken : HasTaken c.block whole
   pub message : m ≡ whole ++ pending_bytes c
+
+-- the context stands for the message m
+unfoldable pub StandsFor : Context → List ℕ → Type 0
+StandsFor c m = IsJoined c m
 
 -- the block context `old` became `new` by the blocks, each of n bytes, at the front of `bytes`, and
 -- `left` is what comes after them

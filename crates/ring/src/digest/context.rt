@@ -35,6 +35,7 @@ impl Context {
     }
 
     // A context of the whole blocks that `block` has taken in.
+    #[tactic(auto, unfolding(crate::specs::Context::StandsFor))]
     pub(crate) fn resume(block: BlockContext) -> Self
         ensures stands { (p : List ℕ) → HasTaken block p → StandsFor result p }
         ensures algorithm { context_algorithm result ≡ block_algorithm block }
@@ -67,6 +68,7 @@ impl Context {
     }
 
     /// Adds `input` to the message, as [`Context::update`] does, its blocks counted by `meter`.
+    #[tactic(auto, unfolding(crate::specs::Context::StandsFor))]
     pub fn update_counted(&mut self, input: &[u8], meter: &mut Meter)
         ensures stands { (m : List ℕ) → StandsFor self.old m → StandsFor self.new (m ++ input.now) }
         ensures cost { meter.new ≡ raised meter.old (whole_blocks
@@ -144,6 +146,7 @@ impl Context {
     }
 
     /// The digest of the message, as [`Context::finish`] gives it, its blocks counted by `meter`.
+    #[tactic(auto, unfolding(crate::specs::Context::StandsFor))]
     pub fn finish_counted(self, meter: &mut Meter) -> Result<Digest, Unspecified>
         ensures ok { (m : List ℕ) → StandsFor self m
             → IfOk result (λ digest. IsDigest digest (context_algorithm self) m) }

@@ -1,0 +1,55 @@
+//! Keys from secrets.
+
+ghost use Rattle.std.specs.Prelude.{◌≡◌, length, IfOk, OnErr, OnOk};
+ghost use Rattle.ring.specs.Hkdf.{okm};
+ghost use Rattle.ring.specs.Hmac.{IsTag, hmac_of};
+ghost use Rattle.ring.specs.Pieces.{joined};
+
+use ring::digest::SHA256;
+use ring::error::Unspecified;
+use ring::hkdf::{HKDF_SHA256, KeyType, Salt};
+use ring::hmac::{HMAC_SHA256, Key, Tag, sign};
+
+/// A number of bytes.
+#[derive(Drop)]
+pub struct Length(pub usize);
+
+impl KeyType for Length {
+    ghost key_len = { λ length. length.0 };
+
+    fn len(&self) -> usize {
+        self.0
+    }
+}
+
+/// Fills the whole of `out` with output for what `info` tells.
+///
+/// Where it is refused `out` is as it was.
+pub fn expand_secret(
+    salt: &[u8],
+    secret: &[u8],
+    info: &[&[u8]],
+    out: &mut [u8],
+) -> Result<(), Unspecified>
+    ensures ok { OnOk result (out.new ≡ okm SHA256
+        (hmac_of SHA256 salt.now secret.now) (joined info.now) (length out.old)) }
+    ensures unchanged { OnErr result (out.new ≡ out.old) }
+{
+    let prk = Salt::new(HKDF_SHA256, salt)?.extract(secret)?;
+    prk.expand(info, Length(out.len()))?.fill(out)
+}
+
+/// The tag of a message under a key that is made of output: 32 bytes for what `info` tells.
+pub fn tag_under_output(
+    salt: &[u8],
+    secret: &[u8],
+    info: &[&[u8]],
+    message: &[u8],
+) -> Result<Tag, Unspecified>
+    ensures ok { IfOk result (λ tag. IsTag tag SHA256 (okm SHA256
+        (hmac_of SHA256 salt.now secret.now) (joined info.now) 32) message.now) }
+{
+    let prk = Salt::new(HKDF_SHA256, salt)?.extract(secret)?;
+    let key = Key::try_from(prk.expand(info, HMAC_SHA256)?)?;
+    sign(&key, message)
+}

@@ -1,0 +1,56 @@
+//! Tags and their verification.
+
+ghost use Rattle.std.specs.Prelude.{◌≡◌, ◌↔◌, ◌⊎◌, ◌+◌, ◌<◌, ◌≤◌, ◌++◌, ℕ, List, length, IfOk, IsErr, IsOk, OnErr, OnOk};
+ghost use Rattle.ring_core.specs.Cost.{raised};
+ghost use Rattle.ring.specs.Algorithm.{block_len, max_input_len};
+ghost use Rattle.ring.specs.Cost.{padded_blocks};
+ghost use Rattle.ring.specs.Hmac.{IsTag, KeyStandsFor, hmac_of, key_algorithm};
+ghost use Rattle.ring.specs.Limits.{IsTagWithin};
+
+use ring::cost::Meter;
+use ring::digest::SHA256;
+use ring::error::Unspecified;
+use ring::hmac::{Context, HMAC_SHA256, Key, Tag, verify};
+use ring::laws::sign_pieces;
+
+/// The tag of two pieces taken as one message.
+pub fn tag_of_two(key: &[u8], first: &[u8], second: &[u8]) -> Result<Tag, Unspecified>
+    ensures ok { IfOk result (λ tag. IsTag tag SHA256 key.now (first.now ++ second.now)) }
+    ensures refused { IsErr result ↔ ((max_input_len SHA256 < length key.now)
+        ⊎ (max_input_len SHA256 < 64 + length (first.now ++ second.now))) }
+{
+    let key = Key::new(HMAC_SHA256, key)?;
+    let mut context = Context::with_key(&key);
+    context.update(first);
+    context.update(second);
+    context.sign()
+}
+
+/// Ok exactly where the key and the message are within the limits, and `tag` is the whole tag.
+pub fn verify_tag(key: &[u8], message: &[u8], tag: &[u8]) -> Result<(), Unspecified>
+    ensures ok { IsOk result ↔ ((length key.now ≤ max_input_len SHA256)
+        × IsTagWithin SHA256 (length message.now)
+        × (tag.now ≡ hmac_of SHA256 key.now message.now)) }
+{
+    let key = Key::new(HMAC_SHA256, key)?;
+    verify(&key, message, tag)
+}
+
+/// The tag of two pieces under a key that is there, its blocks counted by `meter`: those of the
+/// padded message, and one for the outer digest.
+pub fn tag_counted(
+    key: &Key,
+    first: &[u8],
+    second: &[u8],
+    meter: &mut Meter,
+) -> Result<Tag, Unspecified>
+    ensures ok { (k : List ℕ) → KeyStandsFor key.now k
+        → IfOk result (λ tag. IsTag tag (key_algorithm key.now) k (first.now ++ second.now)) }
+    ensures refused { IsErr result ↔ (max_input_len (key_algorithm key.now)
+        < block_len (key_algorithm key.now) + length (first.now ++ second.now)) }
+    ensures unchanged { OnErr result (meter.new ≡ meter.old) }
+    ensures cost { OnOk result (meter.new ≡ raised meter.old (padded_blocks
+        (key_algorithm key.now) (length (first.now ++ second.now)) + 1) 0) }
+{
+    sign_pieces(key, &[first, second], meter)
+}

@@ -1,0 +1,11 @@
+//! Callers of `ring` and `ring_store`, one small function a call, each proved from the contracts
+//! alone. README's first use and the examples of `ring`'s modules are taken from here.
+#![tactic(auto)]
+
+pub mod digest;
+pub mod hkdf;
+pub mod hmac;
+pub mod pbkdf2;
+pub mod pieces;
+pub mod rand;
+pub mod store;

@@ -1,0 +1,51 @@
+//! Keys from passwords.
+
+ghost use Rattle.std.specs.Prelude.{◌≡◌, ◌↔◌, ◌≤◌, length, IfOk, IsOk};
+ghost use Rattle.std.specs.Int.NonZero.{non_zero_u32_get};
+ghost use Rattle.ring.specs.Limits.{CanDerive};
+ghost use Rattle.ring.specs.Pbkdf2.{IsDerived, dk};
+
+use ring::digest::{SHA256, SHA256_OUTPUT_LEN};
+use ring::error::Unspecified;
+use ring::pbkdf2::{PBKDF2_HMAC_SHA256, derive, verify};
+use std::num::NonZeroU32;
+
+/// What a login stores in place of a password.
+pub fn stored_of(
+    iterations: NonZeroU32,
+    salt: &[u8],
+    password: &[u8],
+) -> Result<[u8; SHA256_OUTPUT_LEN], Unspecified>
+    ensures ok { IfOk result (λ stored.
+        stored ≡ dk SHA256 password.now salt.now (non_zero_u32_get iterations) 32) }
+    ensures refused { IsOk result ↔ CanDerive SHA256 (length password.now) (length salt.now) 32 }
+{
+    let mut stored = [0; SHA256_OUTPUT_LEN];
+    derive(PBKDF2_HMAC_SHA256, iterations, salt, password, &mut stored)?;
+    Ok(stored)
+}
+
+/// Tests a password against what was stored: Ok exactly where it was derived from this password.
+pub fn verify_stored(
+    iterations: NonZeroU32,
+    salt: &[u8],
+    password: &[u8],
+    stored: &[u8],
+) -> Result<(), Unspecified>
+    ensures ok { IsOk result
+        ↔ IsDerived SHA256 password.now salt.now (non_zero_u32_get iterations) stored.now }
+{
+    verify(PBKDF2_HMAC_SHA256, iterations, salt, password, stored)
+}
+
+/// Derives and then verifies: that succeeds wherever the lengths are within the limits.
+pub fn derive_and_verify(
+    iterations: NonZeroU32,
+    salt: &[u8],
+    password: &[u8],
+) -> Result<(), Unspecified>
+    ensures refused { IsOk result ↔ CanDerive SHA256 (length password.now) (length salt.now) 32 }
+{
+    let stored = stored_of(iterations, salt, password)?;
+    verify_stored(iterations, salt, password, &stored)
+}

@@ -1,0 +1,50 @@
+//! Digests of messages that are whole, or come in more than two pieces.
+
+ghost use Rattle.std.specs.Prelude.{◌↔◌, ◌<◌, ◌++◌, length, IfOk, IsErr};
+ghost use Rattle.ring.specs.Algorithm.{max_input_len};
+ghost use Rattle.ring.specs.Digest.{IsDigest};
+ghost use Rattle.ring.specs.Pieces.{joined};
+
+use ring::digest::{Algorithm, Context, Digest, SHA512, digest};
+use ring::error::Unspecified;
+
+/// The digest of a message that is there as a whole.
+pub fn digest_of_whole(message: &[u8]) -> Result<Digest, Unspecified>
+    ensures ok { IfOk result (λ digest. IsDigest digest SHA512 message.now) }
+    ensures refused { IsErr result ↔ (max_input_len SHA512 < length message.now) }
+{
+    digest(&SHA512, message)
+}
+
+/// The digest, by any algorithm, of a list of pieces taken as one message.
+pub fn digest_of_list(algorithm: &Algorithm, pieces: &[&[u8]]) -> Result<Digest, Unspecified>
+    ensures ok { IfOk result (λ digest. IsDigest digest algorithm.now (joined pieces.now)) }
+    ensures refused { IsErr result ↔ (max_input_len algorithm.now < length (joined pieces.now)) }
+{
+    let mut context = Context::new(algorithm);
+    'pieces: for piece in pieces {
+        context.update(piece);
+    }
+    context.finish()
+}
+
+/// The digest of a front of a message, and that of the whole: a copy of the context is finished
+/// midway, and the context itself goes on.
+pub fn digests_of_front_and_whole(
+    algorithm: &Algorithm,
+    front: &[u8],
+    rest: &[u8],
+) -> Result<(Digest, Digest), Unspecified>
+    ensures front { IfOk result (λ digests. IsDigest digests.0 algorithm.now front.now) }
+    ensures whole { IfOk result (λ digests.
+        IsDigest digests.1 algorithm.now (front.now ++ rest.now)) }
+    ensures refused { IsErr result
+        ↔ (max_input_len algorithm.now < length (front.now ++ rest.now)) }
+{
+    let mut context = Context::new(algorithm);
+    context.update(front);
+    let of_front = context.clone().finish()?;
+    context.update(rest);
+    let of_whole = context.finish()?;
+    Ok((of_front, of_whole))
+}

@@ -1,0 +1,28 @@
+//! Keys and values of a source's bytes.
+
+ghost use Rattle.std.specs.Prelude.{◌≡◌, ◌↔◌, ◌++◌, false, take, IfOk, IsErr, OnErr};
+ghost use Rattle.ring.specs.Hmac.{IsTag};
+
+use ring::digest::SHA256;
+use ring::error::Unspecified;
+use ring::hmac::{HMAC_SHA256, Key, Tag, sign};
+use ring::rand::{SecureRandom, generate};
+
+/// The source's next 16 bytes.
+///
+/// Refused where it isn't ready for so many, and keeps all of its bytes then.
+pub fn nonce(rng: &mut dyn SecureRandom) -> Result<[u8; 16], Unspecified>
+    ensures ok { IfOk result (λ nonce. left rng.old ≡ nonce ++ left rng.new) }
+    ensures refused { IsErr result ↔ (ready rng.old 16 ≡ false) }
+    ensures unchanged { OnErr result (left rng.new ≡ left rng.old) }
+{
+    Ok(generate::<[u8; 16]>(rng)?.expose())
+}
+
+/// The tag of a message under a key of the source's next 32 bytes.
+pub fn tag_under_generated(rng: &mut dyn SecureRandom, message: &[u8]) -> Result<Tag, Unspecified>
+    ensures ok { IfOk result (λ tag. IsTag tag SHA256 (take 32 (left rng.old)) message.now) }
+{
+    let key = Key::generate(HMAC_SHA256, rng)?;
+    sign(&key, message)
+}

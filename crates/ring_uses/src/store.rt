@@ -1,0 +1,31 @@
+//! A login.
+
+ghost use Rattle.std.specs.Prelude.{◌≡◌, ◌↔◌, ℕ, List, Ok, IfOk, IsOk, OnErr};
+ghost use Rattle.ring_store.specs.Store.{verdict};
+ghost use Rattle.ring_store.specs.Token.{MakerStandsFor, token_of};
+
+use ring_store::{PasswordStore, StoreError, TokenMaker};
+
+/// Gives a token of the name, up to an expiry, to whoever knows its password.
+///
+/// Refused exactly where the verification of the password is, and as that is. The store is then as
+/// it was.
+pub fn log_in(
+    store: &mut PasswordStore,
+    maker: &TokenMaker,
+    name: &[u8],
+    password: &[u8],
+    expiry: u64,
+) -> Result<[u8; 32], StoreError>
+    ensures ok { (k : List ℕ) → MakerStandsFor maker.now k
+        → IfOk result (λ token. token ≡ token_of k name.now expiry) }
+    ensures refused { IsOk result ↔ (verdict store.old name.now password.now ≡ Ok tt) }
+    ensures unchanged { OnErr result (store.new ≡ store.old) }
+{
+    store.verify_password(name, password)?;
+    match maker.issue(name, expiry) {
+        Ok(token) => Ok(token),
+        // A name whose password verified has at most 64 bytes.
+        Err(_) => unreachable!(),
+    }
+}

@@ -1,8 +1,10 @@
 //! Keys from secrets.
 
-ghost use Rattle.std.specs.Prelude.{◌≡◌, length, IfOk, OnErr, OnOk};
+ghost use Rattle.std.specs.Prelude.{◌≡◌, ◌↔◌, ◌≤◌, length, IfOk, IsOk, OnErr, OnOk};
+ghost use Rattle.ring.specs.Algorithm.{max_input_len};
 ghost use Rattle.ring.specs.Hkdf.{okm};
 ghost use Rattle.ring.specs.Hmac.{IsTag, hmac_of};
+ghost use Rattle.ring.specs.Limits.{IsInfoWithin, IsOutputWithin, IsTagWithin};
 ghost use Rattle.ring.specs.Pieces.{joined};
 
 use ring::digest::SHA256;
@@ -22,9 +24,8 @@ impl KeyType for Length {
     }
 }
 
-/// Fills the whole of `out` with output for what `info` tells.
-///
-/// Where it is refused `out` is as it was.
+/// Fills the whole of `out` with output for what `info` tells. Where that is refused, `out` is as it
+/// was.
 pub fn expand_secret(
     salt: &[u8],
     secret: &[u8],
@@ -33,6 +34,10 @@ pub fn expand_secret(
 ) -> Result<(), Unspecified>
     ensures ok { OnOk result (out.new ≡ okm SHA256
         (hmac_of SHA256 salt.now secret.now) (joined info.now) (length out.old)) }
+    ensures refused { IsOk result ↔ ((length salt.now ≤ max_input_len SHA256)
+        × IsTagWithin SHA256 (length secret.now)
+        × IsOutputWithin SHA256 (length out.old)
+        × IsInfoWithin SHA256 (length (joined info.now)) (length out.old)) }
     ensures unchanged { OnErr result (out.new ≡ out.old) }
 {
     let prk = Salt::new(HKDF_SHA256, salt)?.extract(secret)?;
@@ -48,6 +53,10 @@ pub fn tag_under_output(
 ) -> Result<Tag, Unspecified>
     ensures ok { IfOk result (λ tag. IsTag tag SHA256 (okm SHA256
         (hmac_of SHA256 salt.now secret.now) (joined info.now) 32) message.now) }
+    ensures refused { IsOk result ↔ ((length salt.now ≤ max_input_len SHA256)
+        × IsTagWithin SHA256 (length secret.now)
+        × IsInfoWithin SHA256 (length (joined info.now)) 32
+        × IsTagWithin SHA256 (length message.now)) }
 {
     let prk = Salt::new(HKDF_SHA256, salt)?.extract(secret)?;
     let key = Key::try_from(prk.expand(info, HMAC_SHA256)?)?;

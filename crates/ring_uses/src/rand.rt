@@ -1,6 +1,7 @@
 //! Keys and values of a source's bytes.
 
-ghost use Rattle.std.specs.Prelude.{◌≡◌, ◌↔◌, ◌++◌, false, take, IfOk, IsErr, OnErr};
+ghost use Rattle.std.specs.Prelude.{◌≡◌, ◌↔◌, ◌⊎◌, ◌+◌, ◌<◌, ◌++◌, drop, false, length, take, IfOk, IsErr, OnErr, OnOk};
+ghost use Rattle.ring.specs.Algorithm.{max_input_len};
 ghost use Rattle.ring.specs.Hmac.{IsTag};
 
 use ring::digest::SHA256;
@@ -22,6 +23,9 @@ pub fn nonce(rng: &mut dyn SecureRandom) -> Result<[u8; 16], Unspecified>
 /// The tag of a message under a key of the source's next 32 bytes.
 pub fn tag_under_generated(rng: &mut dyn SecureRandom, message: &[u8]) -> Result<Tag, Unspecified>
     ensures ok { IfOk result (λ tag. IsTag tag SHA256 (take 32 (left rng.old)) message.now) }
+    ensures refused { IsErr result ↔ ((ready rng.old 32 ≡ false)
+        ⊎ (max_input_len SHA256 < 64 + length message.now)) }
+    ensures taken { OnOk result (left rng.new ≡ drop 32 (left rng.old)) }
 {
     let key = Key::generate(HMAC_SHA256, rng)?;
     sign(&key, message)

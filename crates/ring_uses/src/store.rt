@@ -1,7 +1,7 @@
 //! A login.
 
-ghost use Rattle.std.specs.Prelude.{◌≡◌, ◌↔◌, ℕ, List, Ok, IfOk, IsOk, OnErr};
-ghost use Rattle.ring_store.specs.Store.{verdict};
+ghost use Rattle.std.specs.Prelude.{◌≡◌, ◌↔◌, ℕ, List, Err, IfOk, IsErrOf, OnErr, OnOk};
+ghost use Rattle.ring_store.specs.Store.{verdict, with_raise};
 ghost use Rattle.ring_store.specs.Token.{MakerStandsFor, token_of};
 
 use ring_store::{PasswordStore, StoreError, TokenMaker};
@@ -19,7 +19,9 @@ pub fn log_in(
 ) -> Result<[u8; 32], StoreError>
     ensures ok { (k : List ℕ) → MakerStandsFor maker.now k
         → IfOk result (λ token. token ≡ token_of k name.now expiry) }
-    ensures refused { IsOk result ↔ (verdict store.old name.now password.now ≡ Ok tt) }
+    ensures refused { (e : StoreError) → IsErrOf result e
+        ↔ (verdict store.old name.now password.now ≡ Err e) }
+    ensures kept { OnOk result (store.new ≡ with_raise store.old name.now password.now) }
     ensures unchanged { OnErr result (store.new ≡ store.old) }
 {
     store.verify_password(name, password)?;

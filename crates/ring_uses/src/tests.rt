@@ -1,0 +1,155 @@
+//! Each caller once, against a value from outside.
+
+ghost use Rattle.std.specs.Prelude.{nat_le, length};
+ghost use Rattle.std.proofs.Common.{leb-true};
+
+use crate::digest::digest_of_two;
+use crate::hkdf::{expand_secret, tag_under_output};
+use crate::hmac::{tag_counted, tag_of_two, verify_tag};
+use crate::pbkdf2::{derive_and_verify, stored_of, verify_stored};
+use crate::pieces::{digest_of_list, digest_of_whole, digests_of_front_and_whole};
+use crate::rand::{nonce, tag_under_generated};
+use crate::store::log_in;
+use hex::encode;
+use ring::cost::Meter;
+use ring::digest::SHA256;
+use ring::error::Unspecified;
+use ring::hmac::{HMAC_SHA256, Key};
+use ring::rand::SecureRandom;
+use ring_store::{PasswordStore, TokenMaker};
+use std::alloc::Global;
+use std::num::NonZeroU32;
+use std::test::Fail;
+
+// Two messages of the examples for FIPS 180-4, and their digests by SHA-256.
+const SHORT: &[u8] = b"abc";
+
+const LONG_REST: &[u8] = b"dbcdecdefdefgefghfghighijhijkijkljklmklmnlmnomnopnopq";
+
+const OF_SHORT: &str = "ba7816bf8f01cfea414140de5dae2223b00361a396177a9cb410ff61f20015ad";
+
+const OF_LONG: &str = "248d6a61d20638b8e5c026930c3e6039a33ce45964ff2167f6ecedd419db06c1";
+
+// The digest of the short message by SHA-512, from the same examples.
+const OF_SHORT_BY_SHA512: &str = "ddaf35a193617abacc417349ae20413112e6fa4e89a97ea20a9eeee64b55d39a\
+    2192992a274fc1a836ba3c23a3feebbd454d4423643ce80e2a9ac94fa54ca49f";
+
+// RFC 4231, section 4.3.
+const TAG: &str = "5bdcc146bf60754e6a042426089575c75a003f089d2739839dec58b964ec3843";
+
+// RFC 5869, appendix A.1.
+const SALT: [u8; 13] = [0, 1, 2, 3, 4, 5, 6, 7, 8, 9, 10, 11, 12];
+
+const INFO: [u8; 10] = [0xf0, 0xf1, 0xf2, 0xf3, 0xf4, 0xf5, 0xf6, 0xf7, 0xf8, 0xf9];
+
+const OUTPUT: &str = "3cb25f25faacd57a90434f64d0362f2a2d2d0a90cf1a5a4c5db02d56ecc4c5bf\
+    34007208d5b887185865";
+
+// What Python's `hmac` gives for `hello, world` under the first 32 bytes of that output.
+const TAG_UNDER_OUTPUT: &str = "4534f79f5410c70bd63c9ca503f6ec903cb61876bb1ea1c4d2311f1c9f3e68c0";
+
+// RFC 7914, section 11: the first 32 bytes of its first vector.
+const STORED: &str = "55ac046e56e3089fec1691c22544b605f94185216dde0465e68b9d57c20dacbc";
+
+// A source over a list, ready for all that it has.
+#[derive(Drop)]
+struct Listed<'a>(&'a [u8]);
+
+impl SecureRandom for Listed<'_> {
+    ghost left = { λ s. s.0.now };
+
+    ghost ready = { λ s n. nat_le n (length s.0.now) };
+
+    fn is_ready(&self, len: usize) -> bool {
+        len <= self.0.len()
+    }
+
+    fn fill(&mut self, dest: &mut [u8]) -> Result<(), Unspecified> {
+        if !self.is_ready(dest.len()) {
+            return Err(Unspecified);
+        }
+        let (taken, left) = self.0.split_at(dest.len());
+        dest.copy_from_slice(taken);
+        self.0 = left;
+        Ok(())
+    }
+
+    ghost enough = { λ s n ready. leb-true n (length s.0.now) ready };
+}
+
+// Whether the bytes are those of the digits.
+fn is_hex(alloc: Global, bytes: &[u8], digits: &str) -> Result<bool, Fail> {
+    Ok(encode(alloc, bytes)?.as_str() == digits)
+}
+
+#[test]
+fn digests(rt: HostRuntime) -> Result<(), Fail> {
+    let whole = digest_of_whole(SHORT)?;
+    assert!(rt; is_hex(rt.alloc(), whole.as_ref(), OF_SHORT_BY_SHA512)?);
+    let two = digest_of_two(SHORT, LONG_REST)?;
+    assert!(rt; is_hex(rt.alloc(), two.as_ref(), OF_LONG)?);
+    let list = digest_of_list(&SHA256, &[SHORT, &[], LONG_REST])?;
+    assert!(rt; is_hex(rt.alloc(), list.as_ref(), OF_LONG)?);
+    let (front, all) = digests_of_front_and_whole(&SHA256, SHORT, LONG_REST)?;
+    assert!(rt; is_hex(rt.alloc(), front.as_ref(), OF_SHORT)?);
+    assert!(rt; is_hex(rt.alloc(), all.as_ref(), OF_LONG)?);
+    Ok(())
+}
+
+#[test]
+fn tags(rt: HostRuntime) -> Result<(), Fail> {
+    let tag = tag_of_two(b"Jefe", b"what do ya want ", b"for nothing?")?;
+    assert!(rt; is_hex(rt.alloc(), tag.as_ref(), TAG)?);
+    verify_tag(b"Jefe", b"what do ya want for nothing?", tag.as_ref())?;
+    assert!(rt; verify_tag(b"Jefe", b"what do ya want for nothing!", tag.as_ref()).is_err());
+
+    let mut meter = Meter::new();
+    let key = Key::new(HMAC_SHA256, b"Jefe")?;
+    let tag = tag_counted(&key, b"what do ya want ", b"for nothing?", &mut meter)?;
+    assert!(rt; is_hex(rt.alloc(), tag.as_ref(), TAG)? && meter.blocks() == 2);
+    Ok(())
+}
+
+#[test]
+fn outputs(rt: HostRuntime) -> Result<(), Fail> {
+    let mut output = [0; 42];
+    expand_secret(&SALT, &[0x0b; 22], &[&INFO], &mut output)?;
+    assert!(rt; is_hex(rt.alloc(), &output, OUTPUT)?);
+    let tag = tag_under_output(&SALT, &[0x0b; 22], &[&INFO], b"hello, world")?;
+    assert!(rt; is_hex(rt.alloc(), tag.as_ref(), TAG_UNDER_OUTPUT)?);
+    Ok(())
+}
+
+#[test]
+fn passwords(rt: HostRuntime) -> Result<(), Fail> {
+    let stored = stored_of(NonZeroU32::MIN, b"salt", b"passwd")?;
+    assert!(rt; is_hex(rt.alloc(), &stored, STORED)?);
+    verify_stored(NonZeroU32::MIN, b"salt", b"passwd", &stored)?;
+    assert!(rt; verify_stored(NonZeroU32::MIN, b"salt", b"Passwd", &stored).is_err());
+    derive_and_verify(NonZeroU32::MIN, b"salt", b"passwd")?;
+    Ok(())
+}
+
+#[test]
+fn generated(rt: HostRuntime) -> Result<(), Fail> {
+    // RFC 4231, section 4.2, whose key has 20 bytes: 12 zeros more change no tag.
+    let mut bytes = [0; 48];
+    bytes[..20].copy_from_slice(&[0x0b; 20]);
+    let mut source = Listed(&bytes);
+    let tag = tag_under_generated(&mut source, b"Hi There")?;
+    let expected = "b0344c61d8db38535ca8afceaf0bf12b881dc200c9833da726e9376c2e32cff7";
+    assert!(rt; is_hex(rt.alloc(), tag.as_ref(), expected)?);
+    assert!(rt; nonce(&mut source)? == [0; 16] && nonce(&mut source).is_err());
+    Ok(())
+}
+
+#[test]
+fn logins(rt: HostRuntime) -> Result<(), Fail> {
+    let mut store = PasswordStore::new(rt.alloc(), [7; 16], NonZeroU32::MIN);
+    store.set_password(b"alice", b"correct horse")?;
+    let maker = TokenMaker::new(&[9; 32], b"salt")?;
+    let token = log_in(&mut store, &maker, b"alice", b"correct horse", 100)?;
+    maker.check(b"alice", 100, 100, &token)?;
+    assert!(rt; log_in(&mut store, &maker, b"alice", b"battery staple", 100).is_err());
+    Ok(())
+}

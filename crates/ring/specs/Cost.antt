@@ -3,6 +3,9 @@ use Rattle.std.specs.Prelude.{ℕ, ◌+◌, ◌-◌, ◌*◌, ◌/◌, ◌%◌, 
 use Rattle.std.specs.Int.{div_ceil}
 use Rattle.ring.specs.Algorithm.{block_len, length_len, output_len}
 use Rattle.ring.specs.declared.digest.algorithm.Algorithm.{Algorithm}
+-- what a meter counts, from the crate below
+pub use Rattle.ring_core.specs.Cost.{Counts, compared_pairs}
+unfoldable pub use Rattle.ring_core.specs.Cost.{raised}
 
 -- the whole blocks in n bytes
 abbrev pub whole_blocks : Algorithm → ℕ → ℕ

@@ -4,12 +4,38 @@
 //! message that comes in pieces:
 //!
 //! ```
-//! let whole = digest::digest(&digest::SHA256, b"hello, world")?;
-//! let mut context = digest::Context::new(&digest::SHA256);
-//! context.update(b"hello");
-//! context.update(b", world");
-//! let pieces = context.finish()?;
-//! assert_eq!(whole.as_ref(), pieces.as_ref());
+//! pub fn digest_of_two(first: &[u8], second: &[u8]) -> Result<Digest, Unspecified>
+//!     ensures ok { IfOk result (λ digest. IsDigest digest SHA256 (first.now ++ second.now)) }
+//!     ensures refused { IsErr result ↔ (max_input_len SHA256 < length (first.now ++ second.now)) }
+//! {
+//!     let mut context = Context::new(&SHA256);
+//!     context.update(first);
+//!     context.update(second);
+//!     context.finish()
+//! }
+//! ```
+//!
+//! A context can be copied midway, and goes on:
+//!
+//! ```
+//! pub fn digests_of_front_and_whole(
+//!     algorithm: &Algorithm,
+//!     front: &[u8],
+//!     rest: &[u8],
+//! ) -> Result<(Digest, Digest), Unspecified>
+//!     ensures front { IfOk result (λ digests. IsDigest digests.0 algorithm.now front.now) }
+//!     ensures whole { IfOk result (λ digests.
+//!         IsDigest digests.1 algorithm.now (front.now ++ rest.now)) }
+//!     ensures refused { IsErr result
+//!         ↔ (max_input_len algorithm.now < length (front.now ++ rest.now)) }
+//! {
+//!     let mut context = Context::new(algorithm);
+//!     context.update(front);
+//!     let of_front = context.clone().finish()?;
+//!     context.update(rest);
+//!     let of_whole = context.finish()?;
+//!     Ok((of_front, of_whole))
+//! }
 //! ```
 
 ghost use Rattle.std.specs.Prelude.{◌≡◌, ◌↔◌, length, ◌<◌, IfOk, IsErr, OnOk, OnErr};

@@ -4,19 +4,13 @@
 //! info, which tells what the output is for, to an [`Okm`] of as many bytes as a [`KeyType`] says.
 //! It is given once: into a buffer, or as a key, a salt or a PRK.
 //!
+//! A type of the caller's own says how many bytes go into a buffer:
+//!
 //! ```
-//! let salt = hkdf::Salt::new(hkdf::HKDF_SHA256, salt_value)?;
-//! let prk = salt.extract(secret)?;
-//!
-//! // A key of HMAC-SHA-256, 32 bytes.
-//! let output = prk.expand(&[b"example", b"cookies"], hmac::HMAC_SHA256)?;
-//! let key = hmac::Key::try_from(output)?;
-//!
-//! // As many bytes as a type of the caller's own says.
 //! #[derive(Drop)]
-//! struct Length(usize);
+//! pub struct Length(pub usize);
 //!
-//! impl hkdf::KeyType for Length {
+//! impl KeyType for Length {
 //!     ghost key_len = { λ length. length.0 };
 //!
 //!     fn len(&self) -> usize {
@@ -24,8 +18,47 @@
 //!     }
 //! }
 //!
-//! let mut bytes = [0; 42];
-//! prk.expand(&[b"example", b"tickets"], Length(42))?.fill(&mut bytes)?;
+//! /// Fills the whole of `out` with output for what `info` tells. Where that is refused, `out` is
+//! /// as it was.
+//! pub fn expand_secret(
+//!     salt: &[u8],
+//!     secret: &[u8],
+//!     info: &[&[u8]],
+//!     out: &mut [u8],
+//! ) -> Result<(), Unspecified>
+//!     ensures ok { OnOk result (out.new ≡ okm SHA256
+//!         (hmac_of SHA256 salt.now secret.now) (joined info.now) (length out.old)) }
+//!     ensures refused { IsOk result ↔ ((length salt.now ≤ max_input_len SHA256)
+//!         × IsTagWithin SHA256 (length secret.now)
+//!         × IsOutputWithin SHA256 (length out.old)
+//!         × IsInfoWithin SHA256 (length (joined info.now)) (length out.old)) }
+//!     ensures unchanged { OnErr result (out.new ≡ out.old) }
+//! {
+//!     let prk = Salt::new(HKDF_SHA256, salt)?.extract(secret)?;
+//!     prk.expand(info, Length(out.len()))?.fill(out)
+//! }
+//! ```
+//!
+//! What is expanded for an algorithm becomes a key of it:
+//!
+//! ```
+//! pub fn tag_under_output(
+//!     salt: &[u8],
+//!     secret: &[u8],
+//!     info: &[&[u8]],
+//!     message: &[u8],
+//! ) -> Result<Tag, Unspecified>
+//!     ensures ok { IfOk result (λ tag. IsTag tag SHA256 (okm SHA256
+//!         (hmac_of SHA256 salt.now secret.now) (joined info.now) 32) message.now) }
+//!     ensures refused { IsOk result ↔ ((length salt.now ≤ max_input_len SHA256)
+//!         × IsTagWithin SHA256 (length secret.now)
+//!         × IsInfoWithin SHA256 (length (joined info.now)) 32
+//!         × IsTagWithin SHA256 (length message.now)) }
+//! {
+//!     let prk = Salt::new(HKDF_SHA256, salt)?.extract(secret)?;
+//!     let key = Key::try_from(prk.expand(info, HMAC_SHA256)?)?;
+//!     sign(&key, message)
+//! }
 //! ```
 
 pub(crate) mod algorithm;

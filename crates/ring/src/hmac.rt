@@ -5,14 +5,27 @@
 //! and [`verify`] tests a tag:
 //!
 //! ```
-//! let key = hmac::Key::new(hmac::HMAC_SHA256, b"Jefe")?;
-//! let tag = hmac::sign(&key, b"hello, world")?;
-//! hmac::verify(&key, b"hello, world", tag.as_ref())?;
+//! pub fn tag_of_two(key: &[u8], first: &[u8], second: &[u8]) -> Result<Tag, Unspecified>
+//!     ensures ok { IfOk result (λ tag. IsTag tag SHA256 key.now (first.now ++ second.now)) }
+//!     ensures refused { IsErr result ↔ ((max_input_len SHA256 < length key.now)
+//!         ⊎ (max_input_len SHA256 < 64 + length (first.now ++ second.now))) }
+//! {
+//!     let key = Key::new(HMAC_SHA256, key)?;
+//!     let mut context = Context::with_key(&key);
+//!     context.update(first);
+//!     context.update(second);
+//!     context.sign()
+//! }
 //!
-//! let mut context = hmac::Context::with_key(&key);
-//! context.update(b"hello");
-//! context.update(b", world");
-//! assert_eq!(tag.as_ref(), context.sign()?.as_ref());
+//! /// Ok exactly where the key and the message are within the limits, and `tag` is the whole tag.
+//! pub fn verify_tag(key: &[u8], message: &[u8], tag: &[u8]) -> Result<(), Unspecified>
+//!     ensures ok { IsOk result ↔ ((length key.now ≤ max_input_len SHA256)
+//!         × IsTagWithin SHA256 (length message.now)
+//!         × (tag.now ≡ hmac_of SHA256 key.now message.now)) }
+//! {
+//!     let key = Key::new(HMAC_SHA256, key)?;
+//!     verify(&key, message, tag)
+//! }
 //! ```
 
 ghost use Rattle.std.specs.Prelude.{◌≡◌, ◌↔◌, ℕ, ◌+◌, ◌<◌, List, length, IfOk, IsOk, IsErr, OnOk, OnErr};

@@ -8,6 +8,8 @@
 //! - [`hkdf`]: keys from secrets.
 //! - [`pbkdf2`]: keys from passwords.
 //! - [`laws`]: what a caller can rely on beside single calls.
+//!
+//! The examples of these modules stand proved in the crate `ring_uses`, with their imports.
 #![tactic(auto)]
 
 pub mod digest;

@@ -4,14 +4,33 @@
 //! a number of iterations, and [`verify`] tests a secret against what [`derive`] once gave:
 //!
 //! ```
-//! let algorithm = pbkdf2::PBKDF2_HMAC_SHA256;
-//! let iterations = NonZeroU32::new(100_000).unwrap();
+//! pub fn stored_of(
+//!     iterations: NonZeroU32,
+//!     salt: &[u8],
+//!     password: &[u8],
+//! ) -> Result<[u8; SHA256_OUTPUT_LEN], Unspecified>
+//!     ensures ok { IfOk result (λ stored.
+//!         stored ≡ dk SHA256 password.now salt.now (non_zero_u32_get iterations) 32) }
+//!     ensures refused { IsOk result
+//!         ↔ CanDerive SHA256 (length password.now) (length salt.now) 32 }
+//! {
+//!     let mut stored = [0; SHA256_OUTPUT_LEN];
+//!     derive(PBKDF2_HMAC_SHA256, iterations, salt, password, &mut stored)?;
+//!     Ok(stored)
+//! }
 //!
-//! let mut stored = [0; digest::SHA256_OUTPUT_LEN];
-//! pbkdf2::derive(algorithm, iterations, salt, b"correct horse", &mut stored)?;
-//!
-//! pbkdf2::verify(algorithm, iterations, salt, b"correct horse", &stored)?;
-//! assert!(pbkdf2::verify(algorithm, iterations, salt, b"battery staple", &stored).is_err());
+//! /// Ok exactly where `stored` isn't empty, and is what is derived from this password.
+//! pub fn verify_stored(
+//!     iterations: NonZeroU32,
+//!     salt: &[u8],
+//!     password: &[u8],
+//!     stored: &[u8],
+//! ) -> Result<(), Unspecified>
+//!     ensures ok { IsOk result
+//!         ↔ IsDerived SHA256 password.now salt.now (non_zero_u32_get iterations) stored.now }
+//! {
+//!     verify(PBKDF2_HMAC_SHA256, iterations, salt, password, stored)
+//! }
 //! ```
 //!
 //! Each iteration costs whoever derives, and whoever guesses, two blocks for each round of output.

@@ -4,7 +4,13 @@
 //! source is seen as the list of the bytes that it has left.
 //!
 //! ```
-//! let nonce: [u8; 16] = rand::generate::<[u8; 16]>(&mut source)?.expose();
+//! pub fn nonce(rng: &mut dyn SecureRandom) -> Result<[u8; 16], Unspecified>
+//!     ensures ok { IfOk result (λ nonce. left rng.old ≡ nonce ++ left rng.new) }
+//!     ensures refused { IsErr result ↔ (ready rng.old 16 ≡ false) }
+//!     ensures unchanged { OnErr result (left rng.new ≡ left rng.old) }
+//! {
+//!     Ok(generate::<[u8; 16]>(rng)?.expose())
+//! }
 //! ```
 
 ghost use Rattle.std.specs.Prelude.{◌≡◌, ◌↔◌, ◌≤◌, ◌++◌, ℕ, Bool, false, List, IsTrue, IfOk, IsErr, OnOk, OnErr, length, refl};

@@ -24,8 +24,8 @@ impl KeyType for Length {
     }
 }
 
-/// Fills the whole of `out` with output for what `info` tells. Where that is refused, `out` is as it
-/// was.
+/// Fills the whole of `out` with output for what `info` tells. Where that is refused, `out` is
+/// as it was.
 pub fn expand_secret(
     salt: &[u8],
     secret: &[u8],

@@ -18,14 +18,15 @@ pub fn stored_of(
 ) -> Result<[u8; SHA256_OUTPUT_LEN], Unspecified>
     ensures ok { IfOk result (λ stored.
         stored ≡ dk SHA256 password.now salt.now (non_zero_u32_get iterations) 32) }
-    ensures refused { IsOk result ↔ CanDerive SHA256 (length password.now) (length salt.now) 32 }
+    ensures refused { IsOk result
+        ↔ CanDerive SHA256 (length password.now) (length salt.now) 32 }
 {
     let mut stored = [0; SHA256_OUTPUT_LEN];
     derive(PBKDF2_HMAC_SHA256, iterations, salt, password, &mut stored)?;
     Ok(stored)
 }
 
-/// Tests a password against what was stored: Ok exactly where it was derived from this password.
+/// Ok exactly where `stored` isn't empty, and is what is derived from this password.
 pub fn verify_stored(
     iterations: NonZeroU32,
     salt: &[u8],
@@ -44,7 +45,8 @@ pub fn derive_and_verify(
     salt: &[u8],
     password: &[u8],
 ) -> Result<(), Unspecified>
-    ensures refused { IsOk result ↔ CanDerive SHA256 (length password.now) (length salt.now) 32 }
+    ensures refused { IsOk result
+        ↔ CanDerive SHA256 (length password.now) (length salt.now) 32 }
 {
     let stored = stored_of(iterations, salt, password)?;
     verify_stored(iterations, salt, password, &stored)

@@ -19,9 +19,9 @@ pub fn log_in(
 ) -> Result<[u8; 32], StoreError>
     ensures ok { (k : List ℕ) → MakerStandsFor maker.now k
         → IfOk result (λ token. token ≡ token_of k name.now expiry) }
+    ensures raise { OnOk result (store.new ≡ with_raise store.old name.now password.now) }
     ensures refused { (e : StoreError) → IsErrOf result e
         ↔ (verdict store.old name.now password.now ≡ Err e) }
-    ensures kept { OnOk result (store.new ≡ with_raise store.old name.now password.now) }
     ensures unchanged { OnErr result (store.new ≡ store.old) }
 {
     store.verify_password(name, password)?;

@@ -17,7 +17,7 @@ use Rattle.ring.specs.declared.digest.value.Digest.{Digest}
 use Rattle.ring.specs.declared.hmac.context.Context.{Context}
 use Rattle.ring.specs.declared.hmac.tag.Tag.{Tag}
 use Rattle.ring.proofs.Chains.{mul_whole, short_div}
-use Rattle.ring.proofs.Lengths.{cost_whole, length-digest_of, past_mod}
+use Rattle.ring.proofs.Lengths.{cost_whole, last_past, length-digest_of}
 use Rattle.ring.proofs.Rows.{block_len-most, block_len-positive}
 use Rattle.ring.proofs.Updating.{moved_count}
 
@@ -100,9 +100,9 @@ length-inner_block a k = length-map (key_block a k) _ ∙ length-key_block a k (
 pub length-outer_block : (a : Algorithm) (k : List ℕ) → length (outer_block a k) ≡ block_len a
 length-outer_block a k = length-map (key_block a k) _ ∙ length-key_block a k (length-short_key a k)
 
--- the cost of a tag past its updates: the inner digest, and one block more
+-- the cost of a tag past its updates: n blocks of the inner digest, and one block more
 pub cost_sign : (a b e : Algorithm) (m0 m1 m2 m3 : Counts) (n d p q : ℕ) → b ≡ a → e ≡ a → d ≡ output_len a → p ≡ 0 → q ≡ (p + d) % block_len b
-    → m1 ≡ raised m0 (padded_blocks a n) 0 → m2 ≡ raised m1 (whole_blocks b (p + d)) 0 → m3 ≡ raised m2 (padded_blocks e q) 0 → m3 ≡ raised m0 (padded_blocks a n + 1) 0
+    → m1 ≡ raised m0 n 0 → m2 ≡ raised m1 (whole_blocks b (p + d)) 0 → m3 ≡ raised m2 (padded_blocks e q) 0 → m3 ≡ raised m0 (n + 1) 0
 cost_sign a b e m0 m1 m2 m3 n d p q eb ee ed ep eq e1 e2 e3 =
     let eq' : q ≡ (p + output_len a) % block_len a = rw (eb, ed) at eq in
     let e2' : m2 ≡ raised m1 (whole_blocks a (p + output_len a)) 0 = rw (eb, ed) at e2 in
@@ -116,7 +116,7 @@ inner_len a k m = length-append (inner_block a k) m ∙ ap (λ (z : ℕ). z + le
 
 -- the end of the message inside is that of the message
 pub inner_last : (a : Algorithm) (k m : List ℕ) → last_blocks a (length (inner_block a k ++ m)) ≡ last_blocks a (length m)
-inner_last a k m = ap (last_blocks a) (inner_len a k m) ∙ ap (padded_blocks a) (past_mod a (length m))
+inner_last a k m = ap (last_blocks a) (inner_len a k m) ∙ last_past a (length m)
 
 -- the digest outside of the digest inside is the tag
 pub tag_is : (t : Tag) (v d : Digest) (a : Algorithm) (k m x : List ℕ) → t.0 ≡ v → IsDigest v a (outer_block a k ++ x) → x ≡ bytes_of d → IsDigest d a (inner_block a k ++ m) → IsTag t a k m

@@ -44,6 +44,10 @@ length-digest_of a m =
     length-word_bytes (word_len a) (chain a (padded a m)) ∙ ap (λ (z : ℕ). word_len a * z) (length-chain a (padded a m)) in
     length-take-le (output_len a) _ (omega (arith, output_len-most a))
 
+-- the end of a message has the blocks of its pending bytes with their padding
+pub end_last : (a : Algorithm) (n : ℕ) → padded_blocks a (n % block_len a) ≡ last_blocks a n
+end_last a n = elim (sizes_of a) [ inl e ↦ rw (e.0, e.1) (omega arith) | inr e ↦ rw (e.0, e.1) (omega arith) ]
+
 -- the blocks of a message and those of its end
 pub whole_last : (a : Algorithm) (n : ℕ) → whole_blocks a n + last_blocks a n ≡ padded_blocks a n
 whole_last a n = elim (sizes_of a) [ inl e ↦ rw (e.0, e.1) (omega arith) | inr e ↦ rw (e.0, e.1) (omega arith) ]
@@ -53,14 +57,14 @@ pub cost_whole : (a : Algorithm) (before mid last : Counts) (p q n : ℕ) → p 
     → mid ≡ raised before (whole_blocks a (p + n)) 0 → last ≡ raised mid (padded_blocks a q) 0 → last ≡ raised before (padded_blocks a n) 0
 cost_whole a before mid last p q n ep eq em el =
     let bare : p + n ≡ n = omega arith in
-    let end : padded_blocks a q ≡ last_blocks a n = ap (padded_blocks a) (eq ∙ ap (λ (z : ℕ). z % block_len a) bare) in
+    let end : padded_blocks a q ≡ last_blocks a n = ap (padded_blocks a) (eq ∙ ap (λ (z : ℕ). z % block_len a) bare) ∙ end_last a n in
     let front : whole_blocks a (p + n) ≡ whole_blocks a n = ap (whole_blocks a) bare in
     let sum : whole_blocks a (p + n) + padded_blocks a q ≡ padded_blocks a n = omega (arith, front, end, whole_last a n) in
     el ∙ rw em (raised-raised _ _ _ _ _) ∙ ap (λ (z : ℕ). raised before z 0) sum
 
 -- a block before the message leaves its end as it is
-pub past_mod : (a : Algorithm) (n : ℕ) → (block_len a + n) % block_len a ≡ n % block_len a
-past_mod a n = elim (sizes_of a) [ inl e ↦ rw e.0 (omega arith) | inr e ↦ rw e.0 (omega arith) ]
+pub last_past : (a : Algorithm) (n : ℕ) → last_blocks a (block_len a + n) ≡ last_blocks a n
+last_past a n = elim (sizes_of a) [ inl e ↦ rw (e.0, e.1) (omega arith) | inr e ↦ rw (e.0, e.1) (omega arith) ]
 
 pub whole_past : (a : Algorithm) (n k : ℕ) → whole_blocks a (block_len a + n + k) - whole_blocks a (block_len a + n) ≡ whole_blocks a (n + k) - whole_blocks a n
 whole_past a n k = elim (sizes_of a) [ inl e ↦ rw e.0 (omega arith) | inr e ↦ rw e.0 (omega arith) ]
@@ -85,7 +89,7 @@ cost_more a b m0 m1 m2 p n d eb ep e1 e2 =
 pub cost_end : (a b : Algorithm) (m0 m1 m2 : Counts) (q n x : ℕ) → b ≡ a → q ≡ n % block_len a → m1 ≡ raised m0 (whole_blocks a n) 0
     → m2 ≡ raised m1 (padded_blocks b q + x) 0 → m2 ≡ raised m0 (padded_blocks a n + x) 0
 cost_end a b m0 m1 m2 q n x eb eq e1 e2 =
-    let e3 : m2 ≡ raised m1 (last_blocks a n + x) 0 = rw (eb, eq) at e2 in
+    let e3 : m2 ≡ raised m1 (last_blocks a n + x) 0 = rw (eb, eq, end_last a n) at e2 in
     let sum : whole_blocks a n + (last_blocks a n + x) ≡ padded_blocks a n + x = omega (arith, whole_last a n) in
     e3 ∙ rw e1 (raised-raised m0 _ 0 _ 0) ∙ ap (λ (z : ℕ). raised m0 z 0) sum
 

@@ -1,5 +1,5 @@
 -- Numbers of blocks, from lengths in bytes.
-use Rattle.std.specs.Prelude.{ℕ, ◌+◌, ◌-◌, ◌*◌, ◌/◌, ◌%◌, max, nat_le, if◌then◌else◌}
+use Rattle.std.specs.Prelude.{ℕ, ◌+◌, ◌-◌, ◌*◌, ◌/◌, max, nat_le, if◌then◌else◌}
 use Rattle.std.specs.Int.{div_ceil}
 use Rattle.ring.specs.Algorithm.{block_len, length_len, output_len}
 use Rattle.ring.specs.declared.digest.algorithm.Algorithm.{Algorithm}
@@ -15,9 +15,9 @@ whole_blocks a n = n / block_len a
 abbrev pub padded_blocks : Algorithm → ℕ → ℕ
 padded_blocks a n = (n + length_len a) / block_len a + 1
 
--- the blocks that are left at the end of a message of n bytes, past its whole blocks
+-- the blocks of a padded message of n bytes that are left at its end, past its whole blocks
 abbrev pub last_blocks : Algorithm → ℕ → ℕ
-last_blocks a n = padded_blocks a (n % block_len a)
+last_blocks a n = padded_blocks a n - whole_blocks a n
 
 -- the blocks of the digest that stands for a key of n bytes, where it is longer than a block
 abbrev pub key_digest_blocks : Algorithm → ℕ → ℕ

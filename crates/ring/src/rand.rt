@@ -13,7 +13,7 @@
 //! }
 //! ```
 
-ghost use Rattle.std.specs.Prelude.{◌≡◌, ◌↔◌, ◌≤◌, ◌++◌, ℕ, Bool, false, List, IsTrue, IfOk, IsErr, OnOk, OnErr, length, refl};
+ghost use Rattle.std.specs.Prelude.{◌≡◌, ◌↔◌, ◌≤◌, ◌++◌, ℕ, Bool, false, List, IsTrue, IfOk, IsErr, OnOk, OnErr, length, refl, replicate};
 ghost use Rattle.std.specs.Borrow.{sem, Lends, Array, u8};
 ghost use Rattle.ring.specs.Source.{random_value};
 
@@ -56,9 +56,9 @@ pub trait RandomlyConstructable: Sized + Drop {
     // The value with these bytes in place of its own.
     ghost with_bytes: { Self → List ℕ → Self };
 
-    /// A value to be written over.
+    /// The value whose bytes are zeros, to be written over.
     fn zero() -> Self
-        ensures { length (bytes result) ≡ byte_len };
+        ensures { bytes result ≡ replicate byte_len 0 };
 
     /// Lends all bytes of the value for writing.
     fn as_mut_bytes(&mut self) -> &mut [u8]

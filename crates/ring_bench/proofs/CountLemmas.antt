@@ -3,21 +3,15 @@ use Rattle.std.proofs.Common.{◌≡◌, ℕ, ◌+◌, ◌-◌, ◌*◌, ◌^◌
 use Rattle.std.proofs.lemmas.Grind.{div_ceil_times, flat_map-append}
 use Rattle.std.proofs.lemmas.List.{map-append, take_more}
 use Rattle.std.specs.Int.{div_ceil}
-use Rattle.ring_core.specs.Cost.{Counts, raised}
-use Rattle.ring_core.proofs.Costs.{raised-none, raised-raised}
+use Rattle.ring.proofs.Costs.{IsNew, counted, counted_new, raised-none, raised-raised}
 use Rattle.ring.specs.Algorithm.{block_len, max_input_len, output_len}
-use Rattle.ring.specs.Cost.{derive_blocks, derive_rounds, fill_blocks, fill_rounds, iterate_blocks, key_blocks, last_blocks, padded_blocks, whole_blocks}
+use Rattle.ring.specs.Cost.{Counts, derive_blocks, derive_rounds, fill_blocks, fill_rounds, iterate_blocks, key_blocks, last_blocks, padded_blocks, raised, whole_blocks}
 use Rattle.ring.specs.Limits.{CanDerive, IsInfoWithin, IsOutputWithin, IsTagWithin}
 use Rattle.ring_bench.specs.Request.{joined}
 use Rattle.ring.specs.declared.digest.algorithm.Algorithm.{Algorithm}
 use Rattle.ring.proofs.Keys.{output_below}
 use Rattle.ring.proofs.Lengths.{whole_last}
 use Rattle.ring.proofs.Rows.{block_len-most, max_input_len-most, output_len-positive, sizes_of}
-
--- a call that raised a meter by so many blocks, and the meter shows as many more
-pub counted : (m0 m1 : Counts) (blocks pairs : ℕ) → m1 ≡ raised m0 blocks pairs → m0.blocks + blocks < 2 ^ 128 → m1.blocks ≡ m0.blocks + blocks
-unfolding raised
-counted m0 m1 blocks pairs e fits = let same = ap (λ (x : Counts). x.blocks) e in omega arith
 
 -- one piece more
 pub joined-more : {V : Type 0} (f : V → List ℕ) (pieces : List V) (i : ℕ) (piece : V) (bytes : List ℕ) → i < length pieces
@@ -50,17 +44,6 @@ key_blocks-most a n =
       | true ↦ omega arith
       | false ↦ omega (arith, most)
     ]
-
--- what a new meter shows
-abbrev pub IsNew : Counts → Type 0
-IsNew m = m ≡ record { blocks = 0; byte_pairs = 0 }
-
--- the blocks of a call on a new meter
-pub counted_new : (m0 m1 : Counts) (blocks pairs : ℕ) → IsNew m0 → m1 ≡ raised m0 blocks pairs → blocks < 2 ^ 128 → m1.blocks ≡ blocks
-counted_new m0 m1 blocks pairs none e fits =
-    let first = ap (λ (x : Counts). x.blocks) none in
-    let last = counted m0 m1 blocks pairs e (omega arith) in
-    omega arith
 
 -- a message by its pieces and its end, and x blocks more
 pieces_end : (a b : Algorithm) (m0 m1 m2 : Counts) (n x : ℕ) → b ≡ a → m1 ≡ raised m0 (whole_blocks a n) 0

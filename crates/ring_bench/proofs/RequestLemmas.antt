@@ -3,9 +3,8 @@ use Rattle.std.proofs.Common.{◌≡◌, ℕ, ◌+◌, ◌-◌, ◌^◌, ◌<◌
 use Rattle.std.proofs.lemmas.Bool.Decides.{nat_tests, same_from_decides}
 use Rattle.std.specs.Str.{bytes_eq}
 use Rattle.std.proofs.lemmas.Slice.Eq.{bytes_eq-Decides}
-use Rattle.ring_core.specs.Cost.{Counts, raised}
 use Rattle.ring.specs.Algorithm.{block_len, max_input_len, output_len}
-use Rattle.ring.specs.Cost.{derive_blocks, fill_blocks}
+use Rattle.ring.specs.Cost.{Counts, derive_blocks, fill_blocks, raised}
 use Rattle.ring.specs.Hkdf.{okm}
 use Rattle.ring.specs.Okm.{CanFill}
 use Rattle.ring.specs.Pbkdf2.{dk}

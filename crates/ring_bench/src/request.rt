@@ -1,9 +1,8 @@
 //! What a request is answered: the only module that calls `ring`.
 ghost use Rattle.std.specs.Prelude.{◌≡◌, ◌<◌, ◌^◌, ℕ, IfOk, List, length};
 ghost use Rattle.std.specs.Int.NonZero.{non_zero_u32_get};
-ghost use Rattle.ring_core.specs.Cost.{raised};
 ghost use Rattle.ring.specs.Context.{StandsFor, context_algorithm};
-ghost use Rattle.ring.specs.Cost.{whole_blocks};
+ghost use Rattle.ring.specs.Cost.{raised, whole_blocks};
 ghost use Rattle.ring.specs.Hkdf.{PrkStandsFor, prk_algorithm};
 ghost use Rattle.ring.specs.Hmac.{KeyStandsFor, TagStandsFor, key_algorithm, signing_algorithm};
 ghost use Rattle.ring.specs.Pieces.{joined as joined_parts};

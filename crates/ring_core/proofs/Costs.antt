@@ -1,5 +1,5 @@
 -- How rises of a meter add up.
-use Rattle.std.proofs.Common.{◌≡◌, ◌≢◌, ℕ, ◌+◌, ◌-◌, ◌^◌, ◌<◌, ◌==◌, true, false, refl, arith, rules, min}
+use Rattle.std.proofs.Common.{◌≡◌, ◌≢◌, ℕ, ◌+◌, ◌-◌, ◌^◌, ◌<◌, ◌==◌, true, false, refl, ap, arith, rules, min}
 use Rattle.ring_core.specs.Cost.{Counts, compared_pairs, raised_count, raised}
 
 raised_count-none : (n : ℕ) → n ≡ raised_count n 0
@@ -31,6 +31,24 @@ raised-raised c a p b q =
     raised_from c (raised (raised c a p) b q) (a + b) (p + q)
     (rw (raised_blocks (raised c a p) b q, raised_blocks c a p, raised_count-more) refl)
     (rw (raised_byte_pairs (raised c a p) b q, raised_byte_pairs c a p, raised_count-more) refl)
+
+-- a meter that was raised by so many blocks shows as many more, where it has room for them
+pub counted : (m0 m1 : Counts) (blocks pairs : ℕ) → m1 ≡ raised m0 blocks pairs → m0.blocks + blocks < 2 ^ 128
+    → m1.blocks ≡ m0.blocks + blocks
+unfolding raised
+counted m0 m1 blocks pairs e fits = let same = ap (λ (c : Counts). c.blocks) e in omega arith
+
+-- what a new meter shows
+abbrev pub IsNew : Counts → Type 0
+IsNew c = c ≡ record { blocks = 0; byte_pairs = 0 }
+
+-- the blocks that a new meter was raised by
+pub counted_new : (m0 m1 : Counts) (blocks pairs : ℕ) → IsNew m0 → m1 ≡ raised m0 blocks pairs → blocks < 2 ^ 128
+    → m1.blocks ≡ blocks
+counted_new m0 m1 blocks pairs none e fits =
+    let first = ap (λ (c : Counts). c.blocks) none in
+    let last = counted m0 m1 blocks pairs e (omega arith) in
+    omega arith
 
 -- a comparison of lists of one length reads each pair
 pub compared_pairs-same : (n : ℕ) → compared_pairs n n ≡ n

@@ -1,4 +1,13 @@
 //! Lists of bytes compared and changed whole, with no branch on a byte.
+//!
+//! ```
+//! pub fn is_same_token(given: &[u8], stored: &[u8]) -> bool
+//!     ensures { IsTrue result ↔ (given.now ≡ stored.now) }
+//! {
+//!     verify_slices_are_equal(given, stored).is_ok()
+//! }
+//! ```
+
 ghost use Rattle.std.specs.Prelude.{◌≡◌, ◌↔◌, IsOk, length, map};
 ghost use Rattle.ring_core.specs.Bytes.{xor_lists};
 ghost use Rattle.ring_core.specs.Cost.{compared_pairs, raised};

@@ -1,4 +1,15 @@
 //! Lengths in bits, and their making from lengths in bytes.
+//!
+//! ```
+//! pub fn bit_length_field(message: &[u8]) -> Result<[u8; 8], InputTooLongError>
+//!     ensures ok { IfOk result (λ field. field ≡ to_be_bytes w64 (8 * length message.now)) }
+//!     ensures refused { IsErr result ↔ (2 ^ 64 ≤ 8 * length message.now) }
+//! {
+//!     let length: BitLength<u64> = BitLength::from_byte_len(message.len())?;
+//!     Ok(length.to_be_bytes())
+//! }
+//! ```
+
 ghost use Rattle.std.specs.Prelude.{◌≡◌, Result};
 ghost use Rattle.std.specs.Int.{div_ceil, to_be_bytes, w128, w64};
 ghost use Rattle.ring_core.specs.declared.error.InputTooLongError.{InputTooLongError};

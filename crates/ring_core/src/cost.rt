@@ -1,4 +1,15 @@
 //! The meter, which counts what the block functions and the comparison did.
+//!
+//! ```
+//! pub fn blocks_of_digest(message: &[u8]) -> Result<u128, Unspecified>
+//!     ensures ok { IfOk result (λ blocks. blocks ≡ padded_blocks SHA256 (length message.now)) }
+//!     ensures refused { IsErr result ↔ (max_input_len SHA256 < length message.now) }
+//! {
+//!     let mut meter = Meter::new();
+//!     let _ = digest_counted(&SHA256, message, &mut meter)?;
+//!     Ok(meter.blocks())
+//! }
+//! ```
 
 ghost use Rattle.std.specs.Prelude.{◌≡◌};
 ghost use Rattle.ring_core.specs.Cost.{raised};

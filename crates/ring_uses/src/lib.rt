@@ -2,6 +2,7 @@
 //! alone. README's first use and the examples of `ring`'s modules are taken from here.
 #![tactic(auto)]
 
+pub mod basics;
 pub mod digest;
 pub mod hkdf;
 pub mod hmac;

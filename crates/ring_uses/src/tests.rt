@@ -3,6 +3,7 @@
 ghost use Rattle.std.specs.Prelude.{nat_le, length};
 ghost use Rattle.std.proofs.Common.{leb-true};
 
+use crate::basics::{bit_length_field, blocks_of_digest, is_same_token, whole_and_left};
 use crate::digest::digest_of_two;
 use crate::hkdf::{expand_secret, tag_under_output};
 use crate::hmac::{tag_counted, tag_of_two, verify_tag};
@@ -80,6 +81,18 @@ impl SecureRandom for Listed<'_> {
 // Whether the bytes are those of the digits.
 fn is_hex(alloc: Global, bytes: &[u8], digits: &str) -> Result<bool, Fail> {
     Ok(encode(alloc, bytes)?.as_str() == digits)
+}
+
+#[test]
+fn basics(rt: HostRuntime) -> Result<(), Fail> {
+    assert!(rt; is_same_token(b"token", b"token") && !is_same_token(b"token", b"Token"));
+    assert!(rt; !is_same_token(b"token", b"toke"));
+    // FIPS 180-4, 5.1.1: this message has 24 bits.
+    assert!(rt; bit_length_field(SHORT) == Ok([0, 0, 0, 0, 0, 0, 0, 24]));
+    // A padded message of 55 bytes is one block of 64, and of 56 bytes two.
+    assert!(rt; blocks_of_digest(&[0; 55])? == 1 && blocks_of_digest(&[0; 56])? == 2);
+    assert!(rt; whole_and_left(&[0; 64]) == (1, 0) && whole_and_left(&[0; 200]) == (3, 8));
+    Ok(())
 }
 
 #[test]

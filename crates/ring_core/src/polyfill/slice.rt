@@ -1,4 +1,14 @@
 //! Slices seen as whole chunks of one length.
+//!
+//! ```
+//! pub fn whole_and_left(message: &[u8]) -> (usize, usize)
+//!     ensures { result ≡ (length message.now / 64, length message.now % 64) }
+//! {
+//!     let (blocks, rest) = as_chunks::<u8, 64>(message);
+//!     (blocks.len(), rest.len())
+//! }
+//! ```
+
 ghost use Rattle.std.specs.Prelude.{◌≡◌, ◌*◌, ◌<◌, length, take, drop};
 ghost use Rattle.ring_core.specs.Chunks.{chunk_count};
 ghost use Rattle.ring_core.specs.Views.{chunk_items};

@@ -1,8 +1,7 @@
 use Rattle.std.proofs.Common.{◌≡◌, ◌+◌, length, take, drop}
 use Rattle.std.specs.List.{sum}
-use Rattle.ring_core.specs.Cost.{raised}
 use Rattle.ring.specs.Context.{StandsFor, context_algorithm}
-use Rattle.ring.specs.Cost.{whole_blocks}
+use Rattle.ring.specs.Cost.{raised, whole_blocks}
 use Rattle.ring_bench.proofs.request.digesting.Given as goal
 
 -- the context stands for the run so far, at the cost of its whole blocks, and the lengths that are left are the rest's

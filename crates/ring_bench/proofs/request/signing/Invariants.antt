@@ -1,7 +1,6 @@
 use Rattle.std.proofs.Common.{◌≡◌, ℕ, ◌+◌, List, length, take, drop}
 use Rattle.std.specs.List.{sum}
-use Rattle.ring_core.specs.Cost.{raised}
-use Rattle.ring.specs.Cost.{whole_blocks}
+use Rattle.ring.specs.Cost.{raised, whole_blocks}
 use Rattle.ring.specs.Hmac.{KeyStandsFor, TagStandsFor, key_algorithm, signing_algorithm}
 use Rattle.ring_bench.proofs.request.signing.Given as goal
 

@@ -1,6 +1,6 @@
 use Rattle.std.proofs.Common.{rules, ◌≡◌, ℕ, ◌+◌, ap, ◌∙◌}
-use Rattle.ring_core.specs.Cost.{Counts, raised}
-use Rattle.ring_core.proofs.Costs.{raised-raised}
+use Rattle.ring.specs.Cost.{Counts, raised}
+use Rattle.ring.proofs.Costs.{raised-raised}
 use Rattle.ring_store.proofs.store.PasswordStore.verify_password_counted.Goals as goal
 
 -- a rise by blocks and the pairs of a credential, and then one by blocks alone

@@ -6,55 +6,10 @@ use Rattle.std.specs.Str.{bytes_eq}
 use Rattle.std.specs.Char.{is_ascii_digit}
 use Rattle.hex.specs.Hex.{decode_of}
 use Rattle.hex.specs.declared.error.FromHexError.{FromHexError}
-use Rattle.ring.specs.declared.digest.algorithm.Algorithm as digest
-use Rattle.ring.specs.declared.digest.algorithm.TheConstants.{SHA1_FOR_LEGACY_USE_ONLY, SHA256, SHA384, SHA512, SHA512_256}
-use Rattle.ring.specs.declared.hmac.algorithm.Algorithm as hmac
-use Rattle.ring.specs.declared.hmac.algorithm.TheConstants.{HMAC_SHA1_FOR_LEGACY_USE_ONLY, HMAC_SHA256, HMAC_SHA384, HMAC_SHA512}
-use Rattle.ring.specs.declared.hkdf.algorithm.Algorithm as hkdf
-use Rattle.ring.specs.declared.hkdf.algorithm.TheConstants.{HKDF_SHA1_FOR_LEGACY_USE_ONLY, HKDF_SHA256, HKDF_SHA384, HKDF_SHA512}
-use Rattle.ring.specs.declared.pbkdf2.algorithm.Algorithm as pbkdf2
-use Rattle.ring.specs.declared.pbkdf2.algorithm.TheConstants.{PBKDF2_HMAC_SHA1, PBKDF2_HMAC_SHA256, PBKDF2_HMAC_SHA384, PBKDF2_HMAC_SHA512}
 
 -- whether a field is this word
 unfoldable pub is_word : List ℕ → List ℕ → Bool
 is_word field word = bytes_eq field word
-
--- ALG of a digest
-unfoldable pub digest_algorithm_of : List ℕ → Option digest.Algorithm
-digest_algorithm_of field =
-    if is_word field (codes "SHA1") then Some SHA1_FOR_LEGACY_USE_ONLY
-    else if is_word field (codes "SHA256") then Some SHA256
-    else if is_word field (codes "SHA384") then Some SHA384
-    else if is_word field (codes "SHA512") then Some SHA512
-    else if is_word field (codes "SHA512_256") then Some SHA512_256
-    else None
-
--- ALG of a tag
-unfoldable pub hmac_algorithm_of : List ℕ → Option hmac.Algorithm
-hmac_algorithm_of field =
-    if is_word field (codes "SHA1") then Some HMAC_SHA1_FOR_LEGACY_USE_ONLY
-    else if is_word field (codes "SHA256") then Some HMAC_SHA256
-    else if is_word field (codes "SHA384") then Some HMAC_SHA384
-    else if is_word field (codes "SHA512") then Some HMAC_SHA512
-    else None
-
--- ALG of an output of HKDF
-unfoldable pub hkdf_algorithm_of : List ℕ → Option hkdf.Algorithm
-hkdf_algorithm_of field =
-    if is_word field (codes "SHA1") then Some HKDF_SHA1_FOR_LEGACY_USE_ONLY
-    else if is_word field (codes "SHA256") then Some HKDF_SHA256
-    else if is_word field (codes "SHA384") then Some HKDF_SHA384
-    else if is_word field (codes "SHA512") then Some HKDF_SHA512
-    else None
-
--- ALG of a derivation by PBKDF2
-unfoldable pub pbkdf2_algorithm_of : List ℕ → Option pbkdf2.Algorithm
-pbkdf2_algorithm_of field =
-    if is_word field (codes "SHA1") then Some PBKDF2_HMAC_SHA1
-    else if is_word field (codes "SHA256") then Some PBKDF2_HMAC_SHA256
-    else if is_word field (codes "SHA384") then Some PBKDF2_HMAC_SHA384
-    else if is_word field (codes "SHA512") then Some PBKDF2_HMAC_SHA512
-    else None
 
 -- the value, where there is one
 abbrev pub value_of : Result (List ℕ) FromHexError → Option (List ℕ)

@@ -1,4 +1,6 @@
+pub mod Fault
 pub mod Field
+pub mod Algorithm
 pub mod Pieces
 pub mod Line
 pub mod Request

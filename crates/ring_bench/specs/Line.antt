@@ -14,7 +14,8 @@ use Rattle.ring_bench.specs.declared.line.Request.TheVariants.{Digest, Hmac, Hma
 use Rattle.ring_bench.specs.declared.line.Line.{Line}
 use Rattle.ring_bench.specs.declared.line.Line.TheVariants.{Nothing, Bad, Asks}
 use Rattle.ring_bench.specs.Pieces.{pieces_listed}
-use Rattle.ring_bench.specs.Field.{is_word, digest_algorithm_of, hmac_algorithm_of, hkdf_algorithm_of, pbkdf2_algorithm_of, bytes_of, pieces_of, len_of, iterations_of}
+use Rattle.ring_bench.specs.Algorithm.{digest_algorithm_of, hmac_algorithm_of, hkdf_algorithm_of, pbkdf2_algorithm_of}
+use Rattle.ring_bench.specs.Field.{is_word, bytes_of, pieces_of, len_of, iterations_of}
 
 -- What a line asks for. Fields stand in the order of the line.
 pub data Asked : Type 0 where

@@ -2,8 +2,8 @@
 use Rattle.std.specs.Prelude.{◌++◌, ℕ, Bool, true, false, List, [], ◌∷◌, codes}
 use Rattle.std.specs.Fmt.{decimal}
 use Rattle.hex.specs.Hex.{encode_lower}
-use Rattle.ring_bench.specs.declared.reply.LineKind.{LineKind}
-use Rattle.ring_bench.specs.declared.reply.LineKind.TheVariants.{Nothing, Answered, Bad}
+use Rattle.ring_bench.specs.declared.answers.LineKind.{LineKind}
+use Rattle.ring_bench.specs.declared.answers.LineKind.TheVariants.{Nothing, Answered, Bad}
 use Rattle.ring_bench.specs.Line.{Meaning, nothing, bad, asks, line_of}
 use Rattle.ring_bench.specs.Request.{Response, given, verified, refused, answer_of}
 

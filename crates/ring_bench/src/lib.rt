@@ -43,6 +43,9 @@ ghost use Rattle.ring_bench.specs.Text.{lines, ended_lines, replies, answers, st
 use std::alloc::{Allocator, Global};
 use std::io::{ErrorKind, Read, Write};
 
+mod algorithm;
+mod answers;
+mod fault;
 mod field;
 mod line;
 mod pieces;
@@ -52,7 +55,7 @@ mod session;
 mod status;
 mod text;
 
-pub use crate::reply::{LineKind, answer_in};
+pub use crate::answers::{LineKind, answer_in};
 use crate::session::Session;
 pub use crate::status::{BenchError, Status};
 

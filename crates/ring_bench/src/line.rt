@@ -3,13 +3,14 @@
 //! A further call of `ring` is a variant of `Call` with its word in `call_in`, a variant of
 //! `Request`, and a function over its operands.
 ghost use Rattle.std.specs.Prelude.{◌≡◌, IfOk, map};
-ghost use Rattle.std.specs.Option.{option_map};
+ghost use Rattle.ring_bench.specs.Fault.{Reads};
 ghost use Rattle.ring_bench.specs.Line.{line_of, asked_of, asked_by, call_of, digest_line, hmac_line, hmac_verify_line, hkdf_line, pbkdf2_line, pbkdf2_verify_line, asked, meaning};
 
-use crate::field::{
-    bytes_in, digest_algorithm_in, hkdf_algorithm_in, hmac_algorithm_in, is_word, iterations_in,
-    len_in, pbkdf2_algorithm_in, pieces_in,
+use crate::algorithm::{
+    digest_algorithm_in, hkdf_algorithm_in, hmac_algorithm_in, pbkdf2_algorithm_in,
 };
+use crate::fault::Fault;
+use crate::field::{bytes_in, is_word, iterations_in, len_in, pieces_in};
 use crate::pieces::Pieces;
 use crate::text::parts_between;
 use ring::{digest, hkdf, hmac, pbkdf2};
@@ -66,28 +67,22 @@ pub fn parse<A: Allocator + Copy>(alloc: A, text: &[u8]) -> Result<Line<A>, Allo
     }
     // A line with a field more is bad, however many stand behind it.
     let fields = parts_between(alloc, text, b' ', MOST_FIELDS + 1)?;
-    match request_in(alloc, &fields)? {
-        Some(request) => Ok(Line::Asks(request)),
-        None => Ok(Line::Bad),
+    match request_in(alloc, &fields) {
+        Ok(request) => Ok(Line::Asks(request)),
+        Err(Fault::Bad) => Ok(Line::Bad),
+        Err(Fault::Memory) => Err(AllocError),
     }
 }
 
-/// What the fields of a line ask for, or `None` where the line is bad.
+/// What the fields of a line ask for.
 #[tactic(auto, unfolding(crate::specs::Line::asked_of))]
-fn request_in<A: Allocator + Copy>(
-    alloc: A,
-    fields: &[&[u8]],
-) -> Result<Option<Request<A>>, AllocError>
-    ensures { IfOk result (λ found.
-        option_map asked found ≡ asked_of (map (λ field. field.now) fields.now)) }
+fn request_in<A: Allocator + Copy>(alloc: A, fields: &[&[u8]]) -> Result<Request<A>, Fault>
+    ensures { Reads asked (asked_of (map (λ field. field.now) fields.now)) result }
 {
     let [word, operands @ ..] = fields else {
-        return Ok(None);
+        return Err(Fault::Bad);
     };
-    let Some(call) = call_in(*word) else {
-        return Ok(None);
-    };
-    request_by(alloc, call, operands)
+    request_by(alloc, call_in(*word)?, operands)
 }
 
 /// What the call asks for with these operands.
@@ -96,9 +91,8 @@ fn request_by<A: Allocator + Copy>(
     alloc: A,
     call: Call,
     operands: &[&[u8]],
-) -> Result<Option<Request<A>>, AllocError>
-    ensures { IfOk result (λ found.
-        option_map asked found ≡ asked_by call (map (λ field. field.now) operands.now)) }
+) -> Result<Request<A>, Fault>
+    ensures { Reads asked (asked_by call (map (λ field. field.now) operands.now)) result }
 {
     match call {
         Call::Digest => digest_in(alloc, operands),
@@ -112,188 +106,116 @@ fn request_by<A: Allocator + Copy>(
 
 /// The call that the first field of a line names.
 #[tactic(auto, unfolding(crate::specs::Line::call_of))]
-fn call_in(field: &[u8]) -> Option<Call>
-    ensures { result ≡ call_of field.now }
+fn call_in(field: &[u8]) -> Result<Call, Fault>
+    ensures { Reads (λ call. call) (call_of field.now) result }
 {
     if is_word(field, b"digest") {
-        return Some(Call::Digest);
+        return Ok(Call::Digest);
     }
     if is_word(field, b"hmac") {
-        return Some(Call::Hmac);
+        return Ok(Call::Hmac);
     }
     if is_word(field, b"hmac-verify") {
-        return Some(Call::HmacVerify);
+        return Ok(Call::HmacVerify);
     }
     if is_word(field, b"hkdf") {
-        return Some(Call::Hkdf);
+        return Ok(Call::Hkdf);
     }
     if is_word(field, b"pbkdf2") {
-        return Some(Call::Pbkdf2);
+        return Ok(Call::Pbkdf2);
     }
     if is_word(field, b"pbkdf2-verify") {
-        return Some(Call::Pbkdf2Verify);
+        return Ok(Call::Pbkdf2Verify);
     }
-    None
+    Err(Fault::Bad)
 }
 
 /// `ALG PIECES`
 #[tactic(auto, unfolding(crate::specs::Line::digest_line))]
-fn digest_in<A: Allocator + Copy>(
-    alloc: A,
-    operands: &[&[u8]],
-) -> Result<Option<Request<A>>, AllocError>
-    ensures { IfOk result (λ found.
-        option_map asked found ≡ digest_line (map (λ field. field.now) operands.now)) }
+fn digest_in<A: Allocator + Copy>(alloc: A, operands: &[&[u8]]) -> Result<Request<A>, Fault>
+    ensures { Reads asked (digest_line (map (λ field. field.now) operands.now)) result }
 {
     let [algorithm, pieces] = operands else {
-        return Ok(None);
+        return Err(Fault::Bad);
     };
-    let Some(algorithm) = digest_algorithm_in(*algorithm) else {
-        return Ok(None);
-    };
-    let Some(pieces) = pieces_in(alloc, *pieces)? else {
-        return Ok(None);
-    };
-    Ok(Some(Request::Digest(algorithm, pieces)))
+    let algorithm = digest_algorithm_in(*algorithm)?;
+    let pieces = pieces_in(alloc, *pieces)?;
+    Ok(Request::Digest(algorithm, pieces))
 }
 
 /// `ALG KEY PIECES`
 #[tactic(auto, unfolding(crate::specs::Line::hmac_line))]
-fn hmac_in<A: Allocator + Copy>(
-    alloc: A,
-    operands: &[&[u8]],
-) -> Result<Option<Request<A>>, AllocError>
-    ensures { IfOk result (λ found.
-        option_map asked found ≡ hmac_line (map (λ field. field.now) operands.now)) }
+fn hmac_in<A: Allocator + Copy>(alloc: A, operands: &[&[u8]]) -> Result<Request<A>, Fault>
+    ensures { Reads asked (hmac_line (map (λ field. field.now) operands.now)) result }
 {
     let [algorithm, key, pieces] = operands else {
-        return Ok(None);
+        return Err(Fault::Bad);
     };
-    let Some(algorithm) = hmac_algorithm_in(*algorithm) else {
-        return Ok(None);
-    };
-    let Some(key) = bytes_in(alloc, *key)? else {
-        return Ok(None);
-    };
-    let Some(pieces) = pieces_in(alloc, *pieces)? else {
-        return Ok(None);
-    };
-    Ok(Some(Request::Hmac(algorithm, key, pieces)))
+    let algorithm = hmac_algorithm_in(*algorithm)?;
+    let key = bytes_in(alloc, *key)?;
+    let pieces = pieces_in(alloc, *pieces)?;
+    Ok(Request::Hmac(algorithm, key, pieces))
 }
 
 /// `ALG KEY PIECES TAG`
 #[tactic(auto, unfolding(crate::specs::Line::hmac_verify_line))]
-fn hmac_verify_in<A: Allocator + Copy>(
-    alloc: A,
-    operands: &[&[u8]],
-) -> Result<Option<Request<A>>, AllocError>
-    ensures { IfOk result (λ found.
-        option_map asked found ≡ hmac_verify_line (map (λ field. field.now) operands.now)) }
+fn hmac_verify_in<A: Allocator + Copy>(alloc: A, operands: &[&[u8]]) -> Result<Request<A>, Fault>
+    ensures { Reads asked (hmac_verify_line (map (λ field. field.now) operands.now)) result }
 {
     let [algorithm, key, pieces, tag] = operands else {
-        return Ok(None);
+        return Err(Fault::Bad);
     };
-    let Some(algorithm) = hmac_algorithm_in(*algorithm) else {
-        return Ok(None);
-    };
-    let Some(key) = bytes_in(alloc, *key)? else {
-        return Ok(None);
-    };
-    let Some(pieces) = pieces_in(alloc, *pieces)? else {
-        return Ok(None);
-    };
-    let Some(tag) = bytes_in(alloc, *tag)? else {
-        return Ok(None);
-    };
-    Ok(Some(Request::HmacVerify(algorithm, key, pieces, tag)))
+    let algorithm = hmac_algorithm_in(*algorithm)?;
+    let key = bytes_in(alloc, *key)?;
+    let pieces = pieces_in(alloc, *pieces)?;
+    let tag = bytes_in(alloc, *tag)?;
+    Ok(Request::HmacVerify(algorithm, key, pieces, tag))
 }
 
 /// `ALG SALT SECRET PIECES LEN`
 #[tactic(auto, unfolding(crate::specs::Line::hkdf_line))]
-fn hkdf_in<A: Allocator + Copy>(
-    alloc: A,
-    operands: &[&[u8]],
-) -> Result<Option<Request<A>>, AllocError>
-    ensures { IfOk result (λ found.
-        option_map asked found ≡ hkdf_line (map (λ field. field.now) operands.now)) }
+fn hkdf_in<A: Allocator + Copy>(alloc: A, operands: &[&[u8]]) -> Result<Request<A>, Fault>
+    ensures { Reads asked (hkdf_line (map (λ field. field.now) operands.now)) result }
 {
     let [algorithm, salt, secret, info, len] = operands else {
-        return Ok(None);
+        return Err(Fault::Bad);
     };
-    let Some(algorithm) = hkdf_algorithm_in(*algorithm) else {
-        return Ok(None);
-    };
-    let Some(salt) = bytes_in(alloc, *salt)? else {
-        return Ok(None);
-    };
-    let Some(secret) = bytes_in(alloc, *secret)? else {
-        return Ok(None);
-    };
-    let Some(info) = pieces_in(alloc, *info)? else {
-        return Ok(None);
-    };
-    let Some(len) = len_in(*len) else {
-        return Ok(None);
-    };
-    Ok(Some(Request::Hkdf(algorithm, salt, secret, info, len)))
+    let algorithm = hkdf_algorithm_in(*algorithm)?;
+    let salt = bytes_in(alloc, *salt)?;
+    let secret = bytes_in(alloc, *secret)?;
+    let info = pieces_in(alloc, *info)?;
+    let len = len_in(*len)?;
+    Ok(Request::Hkdf(algorithm, salt, secret, info, len))
 }
 
 /// `ALG ITERATIONS SECRET SALT LEN`
 #[tactic(auto, unfolding(crate::specs::Line::pbkdf2_line))]
-fn pbkdf2_in<A: Allocator + Copy>(
-    alloc: A,
-    operands: &[&[u8]],
-) -> Result<Option<Request<A>>, AllocError>
-    ensures { IfOk result (λ found.
-        option_map asked found ≡ pbkdf2_line (map (λ field. field.now) operands.now)) }
+fn pbkdf2_in<A: Allocator + Copy>(alloc: A, operands: &[&[u8]]) -> Result<Request<A>, Fault>
+    ensures { Reads asked (pbkdf2_line (map (λ field. field.now) operands.now)) result }
 {
     let [algorithm, iterations, secret, salt, len] = operands else {
-        return Ok(None);
+        return Err(Fault::Bad);
     };
-    let Some(algorithm) = pbkdf2_algorithm_in(*algorithm) else {
-        return Ok(None);
-    };
-    let Some(iterations) = iterations_in(*iterations) else {
-        return Ok(None);
-    };
-    let Some(secret) = bytes_in(alloc, *secret)? else {
-        return Ok(None);
-    };
-    let Some(salt) = bytes_in(alloc, *salt)? else {
-        return Ok(None);
-    };
-    let Some(len) = len_in(*len) else {
-        return Ok(None);
-    };
-    Ok(Some(Request::Pbkdf2(algorithm, iterations, secret, salt, len)))
+    let algorithm = pbkdf2_algorithm_in(*algorithm)?;
+    let iterations = iterations_in(*iterations)?;
+    let secret = bytes_in(alloc, *secret)?;
+    let salt = bytes_in(alloc, *salt)?;
+    let len = len_in(*len)?;
+    Ok(Request::Pbkdf2(algorithm, iterations, secret, salt, len))
 }
 
 /// `ALG ITERATIONS SECRET SALT VALUE`
 #[tactic(auto, unfolding(crate::specs::Line::pbkdf2_verify_line))]
-fn pbkdf2_verify_in<A: Allocator + Copy>(
-    alloc: A,
-    operands: &[&[u8]],
-) -> Result<Option<Request<A>>, AllocError>
-    ensures { IfOk result (λ found.
-        option_map asked found ≡ pbkdf2_verify_line (map (λ field. field.now) operands.now)) }
+fn pbkdf2_verify_in<A: Allocator + Copy>(alloc: A, operands: &[&[u8]]) -> Result<Request<A>, Fault>
+    ensures { Reads asked (pbkdf2_verify_line (map (λ field. field.now) operands.now)) result }
 {
     let [algorithm, iterations, secret, salt, value] = operands else {
-        return Ok(None);
+        return Err(Fault::Bad);
     };
-    let Some(algorithm) = pbkdf2_algorithm_in(*algorithm) else {
-        return Ok(None);
-    };
-    let Some(iterations) = iterations_in(*iterations) else {
-        return Ok(None);
-    };
-    let Some(secret) = bytes_in(alloc, *secret)? else {
-        return Ok(None);
-    };
-    let Some(salt) = bytes_in(alloc, *salt)? else {
-        return Ok(None);
-    };
-    let Some(value) = bytes_in(alloc, *value)? else {
-        return Ok(None);
-    };
-    Ok(Some(Request::Pbkdf2Verify(algorithm, iterations, secret, salt, value)))
+    let algorithm = pbkdf2_algorithm_in(*algorithm)?;
+    let iterations = iterations_in(*iterations)?;
+    let secret = bytes_in(alloc, *secret)?;
+    let salt = bytes_in(alloc, *salt)?;
+    let value = bytes_in(alloc, *value)?;
+    Ok(Request::Pbkdf2Verify(algorithm, iterations, secret, salt, value))
 }

@@ -5,7 +5,7 @@ ghost use Rattle.ring_bench.specs.Text.{lines, replies, without_return};
 ghost use Rattle.ring_bench.specs.Reply.{reply};
 ghost use Rattle.ring_bench.specs.Session.{HasNoLineFeed, Fed, Stopped, status_after};
 
-use crate::reply::{LineKind, answer_in};
+use crate::answers::{LineKind, answer_in};
 use crate::status::{BenchError, Status};
 use crate::text::{cut_at, strip_return};
 use std::alloc::Allocator;

@@ -1,0 +1,102 @@
+//! The algorithm that a field ALG names.
+
+ghost use Rattle.ring_bench.specs.Algorithm.{algorithm_of, digest_algorithm_of, hkdf_algorithm_of, hmac_algorithm_of, pbkdf2_algorithm_of};
+ghost use Rattle.ring_bench.specs.Fault.{Reads};
+
+use crate::fault::Fault;
+use crate::field::is_word;
+use ring::digest::{self, SHA1_FOR_LEGACY_USE_ONLY, SHA256, SHA384, SHA512, SHA512_256};
+use ring::hkdf::{self, HKDF_SHA1_FOR_LEGACY_USE_ONLY, HKDF_SHA256, HKDF_SHA384, HKDF_SHA512};
+use ring::hmac::{self, HMAC_SHA1_FOR_LEGACY_USE_ONLY, HMAC_SHA256, HMAC_SHA384, HMAC_SHA512};
+use ring::pbkdf2::{
+    self, PBKDF2_HMAC_SHA1, PBKDF2_HMAC_SHA256, PBKDF2_HMAC_SHA384, PBKDF2_HMAC_SHA512,
+};
+
+/// What ALG may be.
+#[derive(Clone, Copy, Debug, PartialEq, Eq)]
+pub enum Named {
+    Sha1,
+    Sha256,
+    Sha384,
+    Sha512,
+    Sha512_256,
+}
+
+/// The name that stands in a field ALG.
+#[tactic(auto, unfolding(crate::specs::Algorithm::algorithm_of))]
+fn named_in(field: &[u8]) -> Result<Named, Fault>
+    ensures { Reads (λ named. named) (algorithm_of field.now) result }
+{
+    if is_word(field, b"SHA1") {
+        return Ok(Named::Sha1);
+    }
+    if is_word(field, b"SHA256") {
+        return Ok(Named::Sha256);
+    }
+    if is_word(field, b"SHA384") {
+        return Ok(Named::Sha384);
+    }
+    if is_word(field, b"SHA512") {
+        return Ok(Named::Sha512);
+    }
+    if is_word(field, b"SHA512_256") {
+        return Ok(Named::Sha512_256);
+    }
+    Err(Fault::Bad)
+}
+
+/// The ALG of a digest.
+#[tactic(auto, unfolding(crate::specs::Algorithm::digest_algorithm_of))]
+pub fn digest_algorithm_in(field: &[u8]) -> Result<digest::Algorithm, Fault>
+    ensures { Reads (λ algorithm. algorithm) (digest_algorithm_of field.now) result }
+{
+    match named_in(field)? {
+        Named::Sha1 => Ok(SHA1_FOR_LEGACY_USE_ONLY),
+        Named::Sha256 => Ok(SHA256),
+        Named::Sha384 => Ok(SHA384),
+        Named::Sha512 => Ok(SHA512),
+        Named::Sha512_256 => Ok(SHA512_256),
+    }
+}
+
+/// The ALG of a tag.
+#[tactic(auto, unfolding(crate::specs::Algorithm::hmac_algorithm_of))]
+pub fn hmac_algorithm_in(field: &[u8]) -> Result<hmac::Algorithm, Fault>
+    ensures { Reads (λ algorithm. algorithm) (hmac_algorithm_of field.now) result }
+{
+    match named_in(field)? {
+        Named::Sha1 => Ok(HMAC_SHA1_FOR_LEGACY_USE_ONLY),
+        Named::Sha256 => Ok(HMAC_SHA256),
+        Named::Sha384 => Ok(HMAC_SHA384),
+        Named::Sha512 => Ok(HMAC_SHA512),
+        Named::Sha512_256 => Err(Fault::Bad),
+    }
+}
+
+/// The ALG of an output of HKDF.
+#[tactic(auto, unfolding(crate::specs::Algorithm::hkdf_algorithm_of))]
+pub fn hkdf_algorithm_in(field: &[u8]) -> Result<hkdf::Algorithm, Fault>
+    ensures { Reads (λ algorithm. algorithm) (hkdf_algorithm_of field.now) result }
+{
+    match named_in(field)? {
+        Named::Sha1 => Ok(HKDF_SHA1_FOR_LEGACY_USE_ONLY),
+        Named::Sha256 => Ok(HKDF_SHA256),
+        Named::Sha384 => Ok(HKDF_SHA384),
+        Named::Sha512 => Ok(HKDF_SHA512),
+        Named::Sha512_256 => Err(Fault::Bad),
+    }
+}
+
+/// The ALG of a derivation by PBKDF2.
+#[tactic(auto, unfolding(crate::specs::Algorithm::pbkdf2_algorithm_of))]
+pub fn pbkdf2_algorithm_in(field: &[u8]) -> Result<pbkdf2::Algorithm, Fault>
+    ensures { Reads (λ algorithm. algorithm) (pbkdf2_algorithm_of field.now) result }
+{
+    match named_in(field)? {
+        Named::Sha1 => Ok(PBKDF2_HMAC_SHA1),
+        Named::Sha256 => Ok(PBKDF2_HMAC_SHA256),
+        Named::Sha384 => Ok(PBKDF2_HMAC_SHA384),
+        Named::Sha512 => Ok(PBKDF2_HMAC_SHA512),
+        Named::Sha512_256 => Err(Fault::Bad),
+    }
+}

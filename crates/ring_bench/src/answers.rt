@@ -1,0 +1,58 @@
+//! The answer to a line: what it says, what it is told, and the line feed behind it.
+ghost use Rattle.std.specs.Prelude.{◌≡◌, ◌++◌, OnOk, IfOk, IfErr, OnErr};
+ghost use Rattle.ring_bench.specs.declared.status.BenchError.TheVariants.{Memory};
+ghost use Rattle.ring_bench.specs.Reply.{ended, kind, reply};
+
+use crate::line::{self, Line};
+use crate::reply::written;
+use crate::request;
+use crate::status::BenchError;
+use std::alloc::Allocator;
+
+/// What a line was.
+#[derive(Clone, Copy, Debug, PartialEq, Eq)]
+pub enum LineKind {
+    /// It is empty or a comment, and is given no answer.
+    Nothing,
+    /// It is of the format, and is answered, also where a call refused it.
+    Answered,
+    /// It is of another form.
+    Bad,
+}
+
+/// As `answer`, over any allocators.
+pub fn answer_in<A: Allocator + Copy, B: Allocator>(
+    alloc: A,
+    line: &[u8],
+    out: &mut Vec<u8, B>,
+) -> Result<LineKind, BenchError>
+    ensures reply { OnOk result (out.new.items ≡ out.old.items ++ reply line.now) }
+    ensures kind { IfOk result (λ found. found ≡ kind line.now) }
+    ensures memory { IfErr result (λ error. error ≡ Memory) }
+    ensures unchanged { OnErr result (out.new.items ≡ out.old.items) }
+{
+    match line::parse(alloc, line)? {
+        Line::Nothing => Ok(LineKind::Nothing),
+        Line::Bad => {
+            append_ended(out, b"bad line")?;
+            Ok(LineKind::Bad)
+        }
+        Line::Asks(request) => {
+            let text = written(alloc, &request::respond(alloc, &request)?)?;
+            append_ended(out, text.as_bytes())?;
+            Ok(LineKind::Answered)
+        }
+    }
+}
+
+/// Adds a text and a line feed at the end, or nothing.
+fn append_ended<B: Allocator>(out: &mut Vec<u8, B>, text: &[u8]) -> Result<(), BenchError>
+    ensures ok { OnOk result (out.new.items ≡ out.old.items ++ ended text.now) }
+    ensures memory { IfErr result (λ error. error ≡ Memory) }
+    ensures unchanged { OnErr result (out.new.items ≡ out.old.items) }
+{
+    out.reserve(text.len() + 1)?;
+    out.extend_from_slice(text)?;
+    out.push_reserved(b'\n');
+    Ok(())
+}

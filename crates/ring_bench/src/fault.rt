@@ -1,0 +1,23 @@
+//! Why a field or a line has no request.
+
+ghost use Rattle.std.specs.Prelude.{◌≡◌};
+ghost use Rattle.ring_bench.specs.declared.fault.Fault.TheVariants.{Memory};
+
+use std::alloc::AllocError;
+
+/// Why nothing was read.
+#[derive(Clone, Copy, Debug, PartialEq, Eq)]
+pub enum Fault {
+    /// What stands there is of another form.
+    Bad,
+    /// A growth was refused.
+    Memory,
+}
+
+impl From<AllocError> for Fault {
+    ghost from_gives = { λ _ fault. fault ≡ Memory };
+
+    fn from(_error: AllocError) -> Fault {
+        Fault::Memory
+    }
+}

@@ -1,0 +1,118 @@
+//! Bytes that wait to be written, so that many answers are one write.
+ghost use Rattle.std.specs.Prelude.{◌≡◌, ◌↔◌, [], IsTrue, IsFalse, IsErr, OnOk, IfErr};
+ghost use Rattle.std.specs.Io.{ReadsAtMost};
+ghost use Rattle.std.specs.Io.KnownBytes.{Appends, ReadConsumes};
+ghost use Rattle.ring_bench_main.specs.Gatherer.{waiting, all_of, IsWrittenOut};
+
+use crate::room::{ROOM, Room};
+use ring_bench::{BenchError, Status};
+use std::io;
+use std::io::{ErrorKind, Read, Write};
+
+/// A writer, and the bytes that wait for it.
+#[derive(Drop)]
+pub struct Gatherer<W> {
+    writer: W,
+    room: Room,
+    /// Whether a write failed. Nothing is written from then on.
+    has_failed: bool,
+}
+
+impl<W: Write> Gatherer<W> {
+    /// A gatherer for which nothing waits.
+    pub fn new(writer: W) -> Gatherer<W>
+        ensures writer { result.writer ≡ writer }
+        ensures nothing_waits { waiting result ≡ [] }
+        ensures not_failed { IsFalse result.has_failed }
+    {
+        Gatherer {
+            writer,
+            room: Room::new(),
+            has_failed: false,
+        }
+    }
+
+    /// Takes bytes behind those that wait. Where there is no room for them, what waits is written.
+    pub fn gather(&mut self, bytes: &[u8]) -> Result<(), BenchError>
+        ensures ok { OnOk result
+            (Appends (all_of W.contents self.old) (all_of W.contents self.new) bytes.now) }
+        ensures failed { IsErr result → IsTrue self.new.has_failed }
+        ensures write { IfErr result (λ error. error ≡ BenchError.Write) }
+    {
+        if bytes.len() > self.room.left() {
+            self.write_out()?;
+        }
+        if bytes.len() > ROOM {
+            return write_all(&mut self.writer, &mut self.has_failed, bytes);
+        }
+        self.room.append(bytes);
+        Ok(())
+    }
+
+    /// Writes what waits, and then reads.
+    pub fn read_behind<R: Read>(&mut self, reader: &mut R, buf: &mut [u8]) -> io::Result<usize>
+        ensures written { IsFalse self.new.has_failed
+            → IsWrittenOut W.contents self.old self.new }
+        ensures not_failed { OnOk result (IsFalse self.new.has_failed) }
+        ensures bound { ReadsAtMost result buf.new }
+        ensures bytes { ReadConsumes (R.remaining reader.old) (R.remaining reader.new)
+            result buf.new }
+    {
+        if self.write_out().is_err() {
+            return Err(io::Error::from(ErrorKind::Other));
+        }
+        self.read_on(reader, buf)
+    }
+
+    /// Writes what waits, and tells how the run ended: where a write failed, that.
+    pub fn end(&mut self, result_of_run: Result<Status, BenchError>) -> Result<Status, BenchError>
+        ensures told { IsFalse self.new.has_failed → result ≡ result_of_run }
+        ensures written { IsFalse self.new.has_failed
+            → IsWrittenOut W.contents self.old self.new }
+        ensures failed { IsTrue self.new.has_failed → result ≡ Err BenchError.Write }
+    {
+        self.write_out().and(result_of_run)
+    }
+
+    /// Writes what waits.
+    pub fn write_out(&mut self) -> Result<(), BenchError>
+        ensures ok { OnOk result (IsWrittenOut W.contents self.old self.new) }
+        ensures empty { OnOk result (self.new.room.len ≡ 0) }
+        ensures failed { IsErr result ↔ IsTrue self.new.has_failed }
+        ensures write { IfErr result (λ error. error ≡ BenchError.Write) }
+        ensures unchanged { IsTrue self.old.has_failed → self.new.writer ≡ self.old.writer }
+    {
+        write_all(&mut self.writer, &mut self.has_failed, self.room.as_slice())?;
+        self.room.clear();
+        Ok(())
+    }
+
+    /// Reads where nothing waits: who gave the text may wait for the answers before more of it.
+    fn read_on<R: Read>(&self, reader: &mut R, buf: &mut [u8]) -> io::Result<usize>
+        requires nothing_waits { self.now.room.len ≡ 0 }
+        ensures bound { ReadsAtMost result buf.new }
+        ensures bytes { ReadConsumes (R.remaining reader.old) (R.remaining reader.new)
+            result buf.new }
+    {
+        reader.read(buf)
+    }
+}
+
+/// Writes all the bytes, but none where a write failed before.
+fn write_all<W: Write>(
+    writer: &mut W,
+    has_failed: &mut bool,
+    bytes: &[u8],
+) -> Result<(), BenchError>
+    ensures ok { OnOk result
+        (Appends (W.contents writer.old) (W.contents writer.new) bytes.now) }
+    ensures failed { IsErr result ↔ IsTrue has_failed.new }
+    ensures write { IfErr result (λ error. error ≡ BenchError.Write) }
+    ensures unchanged { IsTrue has_failed.old → writer.new ≡ writer.old }
+{
+    if *has_failed || writer.write_all(bytes).is_err() {
+        *has_failed = true;
+        return Err(BenchError::Write);
+    }
+    Ok(())
+}

@@ -1,5 +1,6 @@
 // Times the work of `crates/ring_speed` beside the same work by OpenSSL, once all agree on what it
 // gives, and prints a table of ratios. All take turns, again and again, and the least times count.
+#include "lines.h"
 #include "work.h"
 
 #include <alloca.h>
@@ -8,7 +9,7 @@
 #include <stdlib.h>
 #include <time.h>
 
-enum { REPETITIONS = 100, PLACES = 16, PLACE_LEN = 272, ITERATIONS = 2000 };
+enum { REPETITIONS = 100, PLACES = 16, PLACE_LEN = 272, ITERATIONS = 2000, LINE_REPETITIONS = 10 };
 
 enum hash { SHA1, SHA256, SHA512, HASHES };
 
@@ -187,6 +188,110 @@ static void print_row(const struct row *row, enum hash hash)
     printf("\n");
 }
 
+// Lines, and the steps of a row that are the work of one.
+struct line_row {
+    const char *name;
+    struct lines lines;
+    int lens[HASHES]; // of derived keys
+    const struct row *work;
+    int steps;
+    double least[HASHES][CONTENDERS]; // seconds of a line
+};
+
+static struct line_row line_rows[] = {
+    {
+        .name = "digest of 64 bytes",
+        .lines = {.form = DIGEST_LINE, .count = 50000, .len = 64},
+        .work = &rows[3],
+        .steps = 1,
+    },
+    {
+        .name = "digest of 64 KiB",
+        .lines = {.form = DIGEST_LINE, .count = 100, .len = 65536},
+        .work = &rows[4],
+        .steps = 1,
+    },
+    {
+        .name = "the same as a comment",
+        .lines = {.form = COMMENT_LINE, .count = 100, .len = 65536},
+    },
+    {
+        .name = "1000 iterations of PBKDF2",
+        .lines = {.form = PBKDF2_LINE, .count = 100, .iterations = 1000},
+        .lens = {20, 32, 64},
+        .work = &rows[1],
+        .steps = 1000,
+    },
+};
+
+enum { LINE_ROWS = sizeof line_rows / sizeof line_rows[0], MAX_PATH = 4096 };
+
+static char *path_in(const char *folder, const char *name)
+{
+    static char paths[4][MAX_PATH];
+    static int next;
+    char *path = paths[next++ % 4];
+    snprintf(path, MAX_PATH, "%s/%s", folder, name);
+    return path;
+}
+
+static void time_lines(struct line_row *row, enum hash hash, const char *program,
+                       const char *folder)
+{
+    const char *programs[CONTENDERS] = {[OURS] = program, [OPENSSL] = path_in(folder, "reader")};
+    const char *answers[CONTENDERS] = {
+        [OURS] = path_in(folder, "answers"), [OPENSSL] = path_in(folder, "reader_answers")};
+    const char *text = path_in(folder, "text");
+    struct lines lines = row->lines;
+    if (lines.form == PBKDF2_LINE)
+        lines.len = row->lens[hash];
+    write_lines(text, &lines, hash_names[hash]);
+    for (int repetition = 0; repetition < LINE_REPETITIONS; repetition++)
+        for (enum contender it = OURS; it < CONTENDERS; it++) {
+            if (!programs[it])
+                continue;
+            double taken = time_program(programs[it], text, answers[it]) / lines.count;
+            double *least = &row->least[hash][it];
+            if (*least == 0 || taken < *least)
+                *least = taken;
+        }
+    compare_answers(answers[OURS], answers[OPENSSL]);
+}
+
+static double work_of(const struct line_row *row, enum hash hash)
+{
+    return row->work ? row->steps * row->work->least[hash][OURS] : 0;
+}
+
+// Where the time of a long line goes: a comment is read alike, and nothing is made of its digits.
+static void print_shares(const struct line_row *digests, const struct line_row *comments)
+{
+    printf("\n| Of a line with 64 KiB | Reading | Digits | Digest |\n|---|---|---|---|\n");
+    for (enum hash hash = 0; hash < HASHES; hash++) {
+        double line = digests->least[hash][OURS];
+        double reading = comments->least[hash][OURS] / line;
+        double digest = work_of(digests, hash) / line;
+        printf("| %s | %.2f | %.2f | %.2f |\n", hash_names[hash], reading,
+               1 - reading - digest, digest);
+    }
+}
+
+static void print_lines(const char *program, const char *folder)
+{
+    printf("\n| Line | Hash | Yezdopin | / its work | / OpenSSL |\n|---|---|---|---|---|\n");
+    for (int i = 0; i < LINE_ROWS; i++)
+        for (enum hash hash = 0; hash < HASHES; hash++) {
+            struct line_row *row = &line_rows[i];
+            time_lines(row, hash, program, folder);
+            double ours = row->least[hash][OURS];
+            printf("| %s | %s | %.2f us |", row->name, hash_names[hash], 1e6 * ours);
+            print_ratio(ours, work_of(row, hash));
+            print_ratio(ours, row->least[hash][OPENSSL]);
+            printf("\n");
+        }
+    print_shares(&line_rows[1], &line_rows[2]);
+}
+
 static void print_all(void)
 {
     printf("Least of %d, beside %s:\n\n", REPETITIONS, OpenSSL_version(OPENSSL_VERSION));
@@ -196,11 +301,17 @@ static void print_all(void)
             print_row(&rows[i], hash);
 }
 
-int main(void)
+// Given the bench program, and the folder that has the plain reader and takes texts and answers.
+int main(int count, char **arguments)
 {
+    if (count != 3) {
+        fprintf(stderr, "speed: the program and a folder are wanted\n");
+        return 1;
+    }
     check_all();
     time_all();
     print_all();
     print_verifications();
+    print_lines(arguments[1], arguments[2]);
     return 0;
 }

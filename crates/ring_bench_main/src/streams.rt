@@ -15,6 +15,7 @@ pub struct Input<'a> {
 }
 
 impl<'a> Input<'a> {
+    /// Standard input, and the answers that go out before each read of it.
     pub fn new(stdin: Stdin, answers: &'a RefCell<Gatherer<Stdout>>) -> Input<'a> {
         Input { stdin, answers }
     }
@@ -36,6 +37,7 @@ pub struct Output<'a> {
 }
 
 impl<'a> Output<'a> {
+    /// A writer to these answers.
     pub fn new(answers: &'a RefCell<Gatherer<Stdout>>) -> Output<'a> {
         Output { answers }
     }

@@ -235,27 +235,38 @@ static char *path_in(const char *folder, const char *name)
     return path;
 }
 
-static void time_lines(struct line_row *row, enum hash hash, const char *program,
-                       const char *folder)
+// Times both programs over some lines, and compares their answers.
+static void time_programs(const struct lines *lines, const char *hash, const char *program,
+                          const char *folder, double least[CONTENDERS])
 {
     const char *programs[CONTENDERS] = {[OURS] = program, [OPENSSL] = path_in(folder, "reader")};
     const char *answers[CONTENDERS] = {
         [OURS] = path_in(folder, "answers"), [OPENSSL] = path_in(folder, "reader_answers")};
     const char *text = path_in(folder, "text");
-    struct lines lines = row->lines;
-    if (lines.form == PBKDF2_LINE)
-        lines.len = row->lens[hash];
-    write_lines(text, &lines, hash_names[hash]);
+    write_lines(text, lines, hash);
     for (int repetition = 0; repetition < LINE_REPETITIONS; repetition++)
         for (enum contender it = OURS; it < CONTENDERS; it++) {
             if (!programs[it])
                 continue;
-            double taken = time_program(programs[it], text, answers[it]) / lines.count;
-            double *least = &row->least[hash][it];
-            if (*least == 0 || taken < *least)
-                *least = taken;
+            double taken = time_program(programs[it], text, answers[it]);
+            if (least[it] == 0 || taken < least[it])
+                least[it] = taken;
         }
     compare_answers(answers[OURS], answers[OPENSSL]);
+}
+
+// What a line takes is the time of a text, less what the programs take over an empty one.
+static void time_lines(struct line_row *row, enum hash hash, const char *program,
+                       const char *folder)
+{
+    struct lines lines = row->lines, none = {.form = lines.form};
+    double empty[CONTENDERS] = {0}, *least = row->least[hash];
+    if (lines.form == PBKDF2_LINE)
+        lines.len = row->lens[hash];
+    time_programs(&none, hash_names[hash], program, folder, empty);
+    time_programs(&lines, hash_names[hash], program, folder, least);
+    for (enum contender it = OURS; it < CONTENDERS; it++)
+        least[it] = (least[it] - empty[it]) / lines.count;
 }
 
 static double work_of(const struct line_row *row, enum hash hash)

@@ -130,7 +130,7 @@ fn buffers_of_another_length_stay(rt: HostRuntime) -> Result<(), Fail> {
 }
 
 // Whether the digits are those of the bytes.
-fn is_hex_of(alloc: Global, digits: &str, bytes: &[u8]) -> Result<bool, Fail> {
+pub fn is_hex_of(alloc: Global, digits: &str, bytes: &[u8]) -> Result<bool, Fail> {
     Ok(hex::encode(alloc, bytes)?.as_str() == digits)
 }
 

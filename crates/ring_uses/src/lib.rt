@@ -10,5 +10,3 @@ pub mod pbkdf2;
 pub mod pieces;
 pub mod rand;
 pub mod store;
-#[cfg(test)]
-mod tests;

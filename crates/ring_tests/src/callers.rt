@@ -1,24 +1,19 @@
-//! Each caller once, against a value from outside.
+//! Each caller of `ring_uses` once, against a value from outside.
 
-ghost use Rattle.std.specs.Prelude.{nat_le, length};
-ghost use Rattle.std.proofs.Common.{leb-true};
-
-use crate::basics::{bit_length_field, blocks_of_digest, is_same_token, whole_and_left};
-use crate::digest::digest_of_two;
-use crate::hkdf::{expand_secret, tag_under_output};
-use crate::hmac::{tag_counted, tag_of_two, verify_tag};
-use crate::pbkdf2::{derive_and_verify, stored_of, verify_stored};
-use crate::pieces::{digest_of_list, digest_of_whole, digests_of_front_and_whole};
-use crate::rand::{nonce, tag_under_generated};
-use crate::store::log_in;
-use hex::encode;
+use crate::hkdf::is_hex_of;
+use crate::rand::ready_for_all;
 use ring::cost::Meter;
 use ring::digest::SHA256;
-use ring::error::Unspecified;
 use ring::hmac::{HMAC_SHA256, Key};
-use ring::rand::SecureRandom;
 use ring_store::{PasswordStore, TokenMaker};
-use std::alloc::Global;
+use ring_uses::basics::{bit_length_field, blocks_of_digest, is_same_token, whole_and_left};
+use ring_uses::digest::digest_of_two;
+use ring_uses::hkdf::{expand_secret, tag_under_output};
+use ring_uses::hmac::{tag_counted, tag_of_two, verify_tag};
+use ring_uses::pbkdf2::{derive_and_verify, stored_of, verify_stored};
+use ring_uses::pieces::{digest_of_list, digest_of_whole, digests_of_front_and_whole};
+use ring_uses::rand::{nonce, tag_under_generated};
+use ring_uses::store::log_in;
 use std::num::NonZeroU32;
 use std::test::Fail;
 
@@ -52,37 +47,6 @@ const TAG_UNDER_OUTPUT: &str = "4534f79f5410c70bd63c9ca503f6ec903cb61876bb1ea1c4
 // RFC 7914, section 11: the first 32 bytes of its first vector.
 const STORED: &str = "55ac046e56e3089fec1691c22544b605f94185216dde0465e68b9d57c20dacbc";
 
-// A source over a list, ready for all that it has.
-#[derive(Drop)]
-struct Listed<'a>(&'a [u8]);
-
-impl SecureRandom for Listed<'_> {
-    ghost left = { λ s. s.0.now };
-
-    ghost ready = { λ s n. nat_le n (length s.0.now) };
-
-    fn is_ready(&self, len: usize) -> bool {
-        len <= self.0.len()
-    }
-
-    fn fill(&mut self, dest: &mut [u8]) -> Result<(), Unspecified> {
-        if !self.is_ready(dest.len()) {
-            return Err(Unspecified);
-        }
-        let (taken, left) = self.0.split_at(dest.len());
-        dest.copy_from_slice(taken);
-        self.0 = left;
-        Ok(())
-    }
-
-    ghost enough = { λ s n ready. leb-true n (length s.0.now) ready };
-}
-
-// Whether the bytes are those of the digits.
-fn is_hex(alloc: Global, bytes: &[u8], digits: &str) -> Result<bool, Fail> {
-    Ok(encode(alloc, bytes)?.as_str() == digits)
-}
-
 #[test]
 fn basics(rt: HostRuntime) -> Result<(), Fail> {
     assert!(rt; is_same_token(b"token", b"token") && !is_same_token(b"token", b"Token"));
@@ -98,28 +62,28 @@ fn basics(rt: HostRuntime) -> Result<(), Fail> {
 #[test]
 fn digests(rt: HostRuntime) -> Result<(), Fail> {
     let whole = digest_of_whole(SHORT)?;
-    assert!(rt; is_hex(rt.alloc(), whole.as_ref(), OF_SHORT_BY_SHA512)?);
+    assert!(rt; is_hex_of(rt.alloc(), OF_SHORT_BY_SHA512, whole.as_ref())?);
     let two = digest_of_two(SHORT, LONG_REST)?;
-    assert!(rt; is_hex(rt.alloc(), two.as_ref(), OF_LONG)?);
+    assert!(rt; is_hex_of(rt.alloc(), OF_LONG, two.as_ref())?);
     let list = digest_of_list(&SHA256, &[SHORT, &[], LONG_REST])?;
-    assert!(rt; is_hex(rt.alloc(), list.as_ref(), OF_LONG)?);
+    assert!(rt; is_hex_of(rt.alloc(), OF_LONG, list.as_ref())?);
     let (front, all) = digests_of_front_and_whole(&SHA256, SHORT, LONG_REST)?;
-    assert!(rt; is_hex(rt.alloc(), front.as_ref(), OF_SHORT)?);
-    assert!(rt; is_hex(rt.alloc(), all.as_ref(), OF_LONG)?);
+    assert!(rt; is_hex_of(rt.alloc(), OF_SHORT, front.as_ref())?);
+    assert!(rt; is_hex_of(rt.alloc(), OF_LONG, all.as_ref())?);
     Ok(())
 }
 
 #[test]
 fn tags(rt: HostRuntime) -> Result<(), Fail> {
     let tag = tag_of_two(b"Jefe", b"what do ya want ", b"for nothing?")?;
-    assert!(rt; is_hex(rt.alloc(), tag.as_ref(), TAG)?);
+    assert!(rt; is_hex_of(rt.alloc(), TAG, tag.as_ref())?);
     verify_tag(b"Jefe", b"what do ya want for nothing?", tag.as_ref())?;
     assert!(rt; verify_tag(b"Jefe", b"what do ya want for nothing!", tag.as_ref()).is_err());
 
     let mut meter = Meter::new();
     let key = Key::new(HMAC_SHA256, b"Jefe")?;
     let tag = tag_counted(&key, b"what do ya want ", b"for nothing?", &mut meter)?;
-    assert!(rt; is_hex(rt.alloc(), tag.as_ref(), TAG)? && meter.blocks() == 2);
+    assert!(rt; is_hex_of(rt.alloc(), TAG, tag.as_ref())? && meter.blocks() == 2);
     Ok(())
 }
 
@@ -127,16 +91,16 @@ fn tags(rt: HostRuntime) -> Result<(), Fail> {
 fn outputs(rt: HostRuntime) -> Result<(), Fail> {
     let mut output = [0; 42];
     expand_secret(&SALT, &[0x0b; 22], &[&INFO], &mut output)?;
-    assert!(rt; is_hex(rt.alloc(), &output, OUTPUT)?);
+    assert!(rt; is_hex_of(rt.alloc(), OUTPUT, &output)?);
     let tag = tag_under_output(&SALT, &[0x0b; 22], &[&INFO], b"hello, world")?;
-    assert!(rt; is_hex(rt.alloc(), tag.as_ref(), TAG_UNDER_OUTPUT)?);
+    assert!(rt; is_hex_of(rt.alloc(), TAG_UNDER_OUTPUT, tag.as_ref())?);
     Ok(())
 }
 
 #[test]
 fn passwords(rt: HostRuntime) -> Result<(), Fail> {
     let stored = stored_of(NonZeroU32::MIN, b"salt", b"passwd")?;
-    assert!(rt; is_hex(rt.alloc(), &stored, STORED)?);
+    assert!(rt; is_hex_of(rt.alloc(), STORED, &stored)?);
     verify_stored(NonZeroU32::MIN, b"salt", b"passwd", &stored)?;
     assert!(rt; verify_stored(NonZeroU32::MIN, b"salt", b"Passwd", &stored).is_err());
     derive_and_verify(NonZeroU32::MIN, b"salt", b"passwd")?;
@@ -148,10 +112,10 @@ fn generated(rt: HostRuntime) -> Result<(), Fail> {
     // RFC 4231, section 4.2, whose key has 20 bytes: 12 zeros more change no tag.
     let mut bytes = [0; 48];
     bytes[..20].copy_from_slice(&[0x0b; 20]);
-    let mut source = Listed(&bytes);
+    let mut source = ready_for_all(&bytes);
     let tag = tag_under_generated(&mut source, b"Hi There")?;
     let expected = "b0344c61d8db38535ca8afceaf0bf12b881dc200c9833da726e9376c2e32cff7";
-    assert!(rt; is_hex(rt.alloc(), tag.as_ref(), expected)?);
+    assert!(rt; is_hex_of(rt.alloc(), expected, tag.as_ref())?);
     assert!(rt; nonce(&mut source)? == [0; 16] && nonce(&mut source).is_err());
     Ok(())
 }

@@ -3,7 +3,7 @@
 //! A law without parameters holds of the definitions alone: its clause is the law, and the call
 //! does nothing.
 
-ghost use Rattle.std.specs.Prelude.{◌≡◌, ◌↔◌, ℕ, ◌+◌, ◌<◌, ◌≤◌, List, [], ◌++◌, length, replicate, take, IfOk, IsErr, OnErr, OnOk};
+ghost use Rattle.std.specs.Prelude.{◌≡◌, ◌↔◌, ℕ, ◌+◌, ◌-◌, ◌^◌, ◌<◌, ◌≤◌, List, [], ◌++◌, length, replicate, take, IfOk, IsErr, OnErr, OnOk};
 ghost use Rattle.ring_core.specs.Cost.{compared_pairs, raised};
 ghost use Rattle.std.specs.Borrow.{Bor};
 ghost use Rattle.ring.specs.Algorithm.{block_len, max_input_len, output_len};
@@ -11,9 +11,11 @@ ghost use Rattle.ring.specs.Cost.{derive_blocks, padded_blocks};
 ghost use Rattle.ring.specs.Digest.{IsDigest, digest_of};
 ghost use Rattle.ring.specs.Hkdf.{okm};
 ghost use Rattle.ring.specs.Hmac.{IsTag, KeyStandsFor, hmac_of, key_algorithm, tag_algorithm};
+ghost use Rattle.ring.specs.Limits.{CanDerive, IsInfoWithin, IsMessageWithin, IsOutputWithin, IsTagWithin};
 ghost use Rattle.ring.specs.Pbkdf2.{dk};
 ghost use Rattle.ring.specs.Pieces.{joined};
 ghost use Rattle.ring.specs.declared.digest.algorithm.Algorithm.{Algorithm};
+ghost use Rattle.ring.specs.declared.digest.algorithm.TheConstants.{SHA1_FOR_LEGACY_USE_ONLY, SHA256, SHA384, SHA512};
 
 use crate::digest::{Algorithm, Context, Digest};
 use crate::hmac::{self, Key, Tag};
@@ -121,4 +123,48 @@ pub fn law_11()
         → length s ≡ length t → length out ≡ length value
         → derive_blocks a (length p) (length s) c (length out)
         ≡ derive_blocks a (length q) (length t) c (length value) }
+{}
+
+/// The limits under SHA-1, in bytes.
+pub fn limits_of_sha1()
+    ensures message { (n : ℕ) → IsMessageWithin SHA1_FOR_LEGACY_USE_ONLY n ↔ (n ≤ 2 ^ 61 - 1) }
+    ensures tag { (n : ℕ) → IsTagWithin SHA1_FOR_LEGACY_USE_ONLY n ↔ (n ≤ 2 ^ 61 - 65) }
+    ensures output { (n : ℕ) → IsOutputWithin SHA1_FOR_LEGACY_USE_ONLY n ↔ (n ≤ 5100) }
+    ensures info { (i n : ℕ) → IsInfoWithin SHA1_FOR_LEGACY_USE_ONLY i n
+        ↔ ((i ≤ 2 ^ 61 - 66) × (20 < n → i ≤ 2 ^ 61 - 86)) }
+    ensures derivation { (p s n : ℕ) → CanDerive SHA1_FOR_LEGACY_USE_ONLY p s n
+        ↔ ((p ≤ 2 ^ 61 - 1) × (0 < n → s ≤ 2 ^ 61 - 69) × (n ≤ 85899345900)) }
+{}
+
+/// The limits under SHA-256, in bytes.
+pub fn limits_of_sha256()
+    ensures message { (n : ℕ) → IsMessageWithin SHA256 n ↔ (n ≤ 2 ^ 61 - 1) }
+    ensures tag { (n : ℕ) → IsTagWithin SHA256 n ↔ (n ≤ 2 ^ 61 - 65) }
+    ensures output { (n : ℕ) → IsOutputWithin SHA256 n ↔ (n ≤ 8160) }
+    ensures info { (i n : ℕ) → IsInfoWithin SHA256 i n
+        ↔ ((i ≤ 2 ^ 61 - 66) × (32 < n → i ≤ 2 ^ 61 - 98)) }
+    ensures derivation { (p s n : ℕ) → CanDerive SHA256 p s n
+        ↔ ((p ≤ 2 ^ 61 - 1) × (0 < n → s ≤ 2 ^ 61 - 69) × (n ≤ 137438953440)) }
+{}
+
+/// The limits under SHA-384, in bytes.
+pub fn limits_of_sha384()
+    ensures message { (n : ℕ) → IsMessageWithin SHA384 n ↔ (n ≤ 2 ^ 125 - 1) }
+    ensures tag { (n : ℕ) → IsTagWithin SHA384 n ↔ (n ≤ 2 ^ 125 - 129) }
+    ensures output { (n : ℕ) → IsOutputWithin SHA384 n ↔ (n ≤ 12240) }
+    ensures info { (i n : ℕ) → IsInfoWithin SHA384 i n
+        ↔ ((i ≤ 2 ^ 125 - 130) × (48 < n → i ≤ 2 ^ 125 - 178)) }
+    ensures derivation { (p s n : ℕ) → CanDerive SHA384 p s n
+        ↔ ((p ≤ 2 ^ 125 - 1) × (0 < n → s ≤ 2 ^ 125 - 133) × (n ≤ 206158430160)) }
+{}
+
+/// The limits under SHA-512, in bytes.
+pub fn limits_of_sha512()
+    ensures message { (n : ℕ) → IsMessageWithin SHA512 n ↔ (n ≤ 2 ^ 125 - 1) }
+    ensures tag { (n : ℕ) → IsTagWithin SHA512 n ↔ (n ≤ 2 ^ 125 - 129) }
+    ensures output { (n : ℕ) → IsOutputWithin SHA512 n ↔ (n ≤ 16320) }
+    ensures info { (i n : ℕ) → IsInfoWithin SHA512 i n
+        ↔ ((i ≤ 2 ^ 125 - 130) × (64 < n → i ≤ 2 ^ 125 - 194)) }
+    ensures derivation { (p s n : ℕ) → CanDerive SHA512 p s n
+        ↔ ((p ≤ 2 ^ 125 - 1) × (0 < n → s ≤ 2 ^ 125 - 133) × (n ≤ 274877906880)) }
 {}

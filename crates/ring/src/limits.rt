@@ -6,9 +6,6 @@ ghost use Rattle.ring.specs.Pieces.{joined};
 
 use crate::digest::algorithm::Algorithm;
 
-#[cfg(test)]
-mod tests;
-
 // The most rounds of an output: a round's number is one byte (RFC 5869, section 2.3).
 const MAX_ROUNDS: u128 = 255;
 

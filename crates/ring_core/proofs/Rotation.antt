@@ -1,9 +1,9 @@
 -- Rotations, at each width: two shifts or'ed are the standard's, and so are two or three of them under exclusive or, one inside the other.
-use Rattle.std.proofs.Common.{◌≡◌, ℕ, suc, ◌+◌, ◌-◌, ◌*◌, ◌/◌, ◌%◌, ◌^◌, ◌<◌, ◌≤◌, inl, inr, bit_or, refl, sym, ap, ◌∙◌, arith, add_comm, mod-lt, pow_pos, mul-le-mul_right, shr-shr}
+use Rattle.std.proofs.Common.{◌≡◌, ℕ, suc, ◌+◌, ◌-◌, ◌*◌, ◌/◌, ◌%◌, ◌^◌, ◌<◌, ◌≤◌, inl, inr, bit_or, refl, sym, ap, ◌∙◌, arith, add_comm, mod-lt, pow_pos, mul-le-mul_right}
 use Rattle.std.proofs.lemmas.Bool.{cases_lt}
-use Rattle.std.proofs.lemmas.Nat.{div-add-mod', mod-mul-add, pow-add, shr_split, xor_lt}
+use Rattle.std.proofs.lemmas.Nat.{div-add-mod', mod-mul-add, pow-add, shr-shr, shr_split, xor_lt, xor_mod, xor_shr}
 use Rattle.std.proofs.lemmas.Nat.Bits.{bit_at_cat_high, bit_at_cat_low, bit_at_xor, same_from_bits_below}
-use Rattle.std.proofs.Math.Nat.{add-mod_right, div-lt_iff_lt-mul, mod-add-mod, mod-eq_of_lt}
+use Rattle.std.proofs.Math.Nat.{add-mod_right, div-lt_iff_lt-mul, mod-add-mod, mod-eq_of_lt, mul-add-div_right, div-le_self}
 use Rattle.std.specs.Int.Bits.{or_shifted_r, xor_assoc}
 use Rattle.std.specs.Int.{bit_at}
 use Rattle.ring_core.specs.Sha2.{three_rotations}
@@ -101,3 +101,49 @@ rotr-three w a b c x ab bc cw fits =
     rotr-inside w a b x inner ab (omega arith) fits inner_fits
     ∙ ap (λ (m : ℕ). rotr w a x ⊕ m) (rotr-two w b c x bc cw fits)
     ∙ sym (xor_assoc (rotr w a x) (rotr w b x) (rotr w c x))
+
+-- a word, twice in a number of twice its bits, shifted right: the low half is the word rotated
+pub doubled-rotr : (w k x : ℕ) → k ≤ w → x < 2 ^ w
+    → (x * 2 ^ w + x) / 2 ^ k % 2 ^ w ≡ rotr w k x
+doubled-rotr w k x le fits =
+    let up = x * 2 ^ (w - k) in
+    let moved : x * 2 ^ w + x ≡ up * 2 ^ k + x = rw (split_power w k le) (omega arith) in
+    let down : (up * 2 ^ k + x) / 2 ^ k ≡ up + x / 2 ^ k = mul-add-div_right (pow_pos k) up x in
+    let low : up % 2 ^ w ≡ x % 2 ^ k * 2 ^ (w - k) =
+    rw (split_power w k le) (moved_up x k (w - k)) in
+    ap (λ (m : ℕ). m / 2 ^ k % 2 ^ w) moved
+    ∙ ap (λ (m : ℕ). m % 2 ^ w) down
+    ∙ sym (mod-add-mod up (2 ^ w) (x / 2 ^ k))
+    ∙ ap (λ (m : ℕ). (m + x / 2 ^ k) % 2 ^ w) low
+    ∙ ap (λ (m : ℕ). m % 2 ^ w) (add_comm (x % 2 ^ k * 2 ^ (w - k)) (x / 2 ^ k))
+    ∙ mod-eq_of_lt (rotr-lt w x k le fits)
+
+-- two rotations of a word, one inside the other, by such numbers
+pub doubled-two : (w a b x : ℕ) → a ≤ b → b ≤ w → x < 2 ^ w
+    → ((x * 2 ^ w + x) ⊕ (x * 2 ^ w + x) / 2 ^ (b - a)) / 2 ^ a % 2 ^ w
+    ≡ rotr w a x ⊕ rotr w b x
+doubled-two w a b x ab bw fits =
+    let d = x * 2 ^ w + x in
+    let e : b - a + a ≡ b = omega arith in
+    let far : d / 2 ^ (b - a) / 2 ^ a ≡ d / 2 ^ b =
+    shr-shr d (b - a) a ∙ ap (λ (m : ℕ). d / 2 ^ m) e in
+    ap (λ (m : ℕ). m % 2 ^ w) (xor_shr d (d / 2 ^ (b - a)) a)
+    ∙ xor_mod (d / 2 ^ a) (d / 2 ^ (b - a) / 2 ^ a) w
+    ∙ ap (λ (m : ℕ). d / 2 ^ a % 2 ^ w ⊕ m % 2 ^ w) far
+    ∙ ap (λ (m : ℕ). m ⊕ d / 2 ^ b % 2 ^ w) (doubled-rotr w a x (omega arith) fits)
+    ∙ ap (λ (m : ℕ). rotr w a x ⊕ m) (doubled-rotr w b x bw fits)
+
+-- the same, and a shift of the word, in both halves of a number
+pub doubled-three : (w a b s x : ℕ) → a ≤ b → b ≤ w → x < 2 ^ w
+    → (((x * 2 ^ w + x) ⊕ (x * 2 ^ w + x) / 2 ^ (b - a)) / 2 ^ a
+    ⊕ (x / 2 ^ s * 2 ^ w + x / 2 ^ s)) % 2 ^ w
+    ≡ rotr w a x ⊕ rotr w b x ⊕ x / 2 ^ s
+doubled-three w a b s x ab bw fits =
+    let d = x * 2 ^ w + x in
+    let turned = (d ⊕ d / 2 ^ (b - a)) / 2 ^ a in
+    let down = x / 2 ^ s in
+    let low : (down * 2 ^ w + down) % 2 ^ w ≡ down =
+    mod-mul-add down (2 ^ w) down (omega (arith, div-le_self x (2 ^ s))) in
+    xor_mod turned (down * 2 ^ w + down) w
+    ∙ ap (λ (m : ℕ). m ⊕ (down * 2 ^ w + down) % 2 ^ w) (doubled-two w a b x ab bw fits)
+    ∙ ap (λ (m : ℕ). rotr w a x ⊕ rotr w b x ⊕ m) low

@@ -61,3 +61,7 @@ word_at w block j = big_endian (take (w / 8) (drop (j * (w / 8)) block))
 -- the number of a word of 32 bits
 abbrev pub word_32 : Wrapping ℕ → ℕ
 word_32 x = x.0 % 2 ^ 32
+
+-- the number of a word of 32 bits in the low half of a slot
+abbrev pub low_32 : ℕ → ℕ
+low_32 x = x % 2 ^ 32

@@ -106,9 +106,7 @@ impl Context {
         ensures pending { pending_bytes self.new ≡ pending_bytes self.old ++ bytes.now }
     {
         let end = self.num_pending + bytes.len();
-        let mut pending = self.pending;
-        pending[self.num_pending..end].copy_from_slice(bytes);
-        self.pending = pending;
+        self.pending[self.num_pending..end].copy_from_slice(bytes);
         self.num_pending = end;
     }
 

@@ -3,39 +3,39 @@ ghost use Rattle.std.specs.Prelude.{◌≡◌, ℕ, ◌+◌, ◌*◌, ◌/◌, �
 ghost use Rattle.ring_core.specs.Schedule.{IsRing};
 ghost use Rattle.ring_core.specs.Word.{word_at};
 
-use crate::digest::word::{Sha2, Word};
+use crate::digest::word::Slots;
 
 // Each function here is a few instructions of a block function, and written in line there, whatever
 // the compiler's thresholds: a slot is then a literal, and words stay in lanes from step to step.
 
 // Fills the ring with the block's own words.
 #[inline(always)]
-pub(crate) fn load<S: Sha2>(ring: &mut [S; 16], block: &[u8])
+pub(crate) fn load<S: Slots>(ring: &mut [S::Slot; 16], block: &[u8])
     requires { length block.now ≡ 16 * (S.bits / 8) }
-    ensures { IsRing (word_at S.bits block.now) (map S.value ring.new) 16 }
+    ensures { IsRing (word_at S.bits block.now) (map S.slot_value ring.new) 16 }
 {
     'words: for t in 0..16 {
-        ring[t] = S::read_word(block, t);
+        ring[t] = S::read_word(block, t).to_slot();
     }
 }
 
 // The words in `slot` and in the slot after it.
 #[inline(always)]
-pub(crate) fn pair<S: Word>(ring: &[S; 16], slot: usize) -> [S; 2]
+pub(crate) fn pair<T: Copy>(ring: &[T; 16], slot: usize) -> [T; 2]
     requires { slot < 16 }
-    ensures { (w : ℕ → ℕ) (n t : ℕ) → IsRing w (map S.value ring.now) n
-        → slot ≡ t % 16 → t + 2 ≤ n → n ≤ t + 16 → map S.value result ≡ w t ∷ w (t + 1) ∷ [] }
+    ensures { (value : T → ℕ) (w : ℕ → ℕ) (n t : ℕ) → IsRing w (map value ring.now) n
+        → slot ≡ t % 16 → t + 2 ≤ n → n ≤ t + 16 → map value result ≡ w t ∷ w (t + 1) ∷ [] }
 {
     [ring[slot], ring[(slot + 1) % 16]]
 }
 
 // Puts the next two words into `slot` and the slot after it, where the oldest two stand.
 #[inline(always)]
-pub(crate) fn set_pair<S: Word>(ring: &mut [S; 16], slot: usize, words: [S; 2])
+pub(crate) fn set_pair<T: Copy>(ring: &mut [T; 16], slot: usize, words: [T; 2])
     requires { slot < 16 }
-    ensures { (w : ℕ → ℕ) (t : ℕ) → IsRing w (map S.value ring.old) t
-        → slot ≡ t % 16 → map S.value words ≡ w t ∷ w (t + 1) ∷ []
-        → IsRing w (map S.value ring.new) (t + 2) }
+    ensures { (value : T → ℕ) (w : ℕ → ℕ) (t : ℕ) → IsRing w (map value ring.old) t
+        → slot ≡ t % 16 → map value words ≡ w t ∷ w (t + 1) ∷ []
+        → IsRing w (map value ring.new) (t + 2) }
 {
     let [first, second] = words;
     ring[slot] = first;

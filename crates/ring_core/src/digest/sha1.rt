@@ -4,7 +4,7 @@ ghost use Rattle.ring_core.specs.Cost.{raised};
 ghost use Rattle.ring_core.specs.Schedule.{IsBefore, IsRing};
 ghost use Rattle.ring_core.specs.Sha1.{W, add_state, block_step, chain_from, round, round_constant, round_function, rounds_from};
 ghost use Rattle.ring_core.specs.Views.{chunk_items, chunk_total};
-ghost use Rattle.ring_core.specs.Word.{rotl, word_32};
+ghost use Rattle.ring_core.specs.Word.{add_words, low_32, rotl, word_32};
 
 mod lanes;
 
@@ -13,13 +13,11 @@ use crate::digest::schedule::{load, pair};
 use crate::digest::sha1::lanes::fill;
 use crate::digest::word::Word;
 use crate::digest::word::functions::{choose_word, majority_word};
+use crate::digest::word::w32::add_pairs;
 use crate::polyfill::slice::AsChunks;
 use std::num::Wrapping;
 
 pub(crate) type Word32 = Wrapping<u32>;
-
-// How many rounds a block takes.
-const ROUNDS: usize = 80;
 
 /// The bytes of SHA-1's five chaining words.
 pub const CHAINING_LEN: usize = 20;
@@ -64,17 +62,17 @@ fn round_constant(t: usize) -> Word32
     }
 }
 
-// Round `t` (step 3).
+// Round `t` (step 3), by the sum of its constant and its word.
 #[inline(always)]
-fn round(v: [Word32; 5], t: usize, word: Word32) -> [Word32; 5]
-    ensures { map word_32 result ≡ round (map word_32 v) t (word_32 word) }
+fn round(v: [Word32; 5], t: usize, sum: Word32) -> [Word32; 5]
+    ensures { (w : ℕ) → word_32 sum ≡ add_words 32 (round_constant t) w
+        → map word_32 result ≡ round (map word_32 v) t w }
 {
     let [a, b, c, d, e] = v;
     let temp = rotate_left(a, 5)
         .plus(round_function(t, b, c, d))
         .plus(e)
-        .plus(round_constant(t))
-        .plus(word);
+        .plus(sum);
     [temp, a, rotate_left(b, 30), c, d]
 }
 
@@ -83,24 +81,25 @@ fn round(v: [Word32; 5], t: usize, word: Word32) -> [Word32; 5]
 
 // Rounds `t` and `t + 1`.
 #[inline(always)]
-fn two_rounds(ring: &[Word32; 16], v: [Word32; 5], t: usize) -> [Word32; 5]
+fn two_rounds(ring: &[u64; 16], v: [Word32; 5], t: usize) -> [Word32; 5]
     requires { t + 2 ≤ 80 }
-    ensures { (h b : List ℕ) (n : ℕ) → IsRing (W b) (map word_32 ring.now) n
+    ensures { (h b : List ℕ) (n : ℕ) → IsRing (W b) (map low_32 ring.now) n
         → t + 2 ≤ n → n ≤ t + 16 → map word_32 v ≡ rounds_from h b t
         → map word_32 result ≡ rounds_from h b (t + 2) }
 {
-    let [first, second] = pair(ring, t % 16);
+    let constants = [round_constant(t), round_constant(t + 1)];
+    let [first, second] = add_pairs(constants, pair(ring, t % 16));
     round(round(v, t, first), t + 1, second)
 }
 
 // The same from round 16 on, where the words are made first.
 #[inline(always)]
-fn next_two_rounds(ring: &mut [Word32; 16], v: [Word32; 5], t: usize) -> [Word32; 5]
+fn next_two_rounds(ring: &mut [u64; 16], v: [Word32; 5], t: usize) -> [Word32; 5]
     requires from { 16 ≤ t }
     requires below { t + 2 ≤ 80 }
     ensures { (h b : List ℕ)
-        → IsBefore (W b) (rounds_from h b) (map word_32 ring.old) (map word_32 v) t
-        → IsBefore (W b) (rounds_from h b) (map word_32 ring.new) (map word_32 result) (t + 2) }
+        → IsBefore (W b) (rounds_from h b) (map low_32 ring.old) (map word_32 v) t
+        → IsBefore (W b) (rounds_from h b) (map low_32 ring.new) (map word_32 result) (t + 2) }
 {
     fill(ring, t);
     two_rounds(ring, v, t)
@@ -109,12 +108,12 @@ fn next_two_rounds(ring: &mut [Word32; 16], v: [Word32; 5], t: usize) -> [Word32
 // Four rounds in one body. Sixteen make one so large that the compiler no longer writes the calls
 // in it in line, for all that they ask for it, and the block function takes twice the time.
 #[inline(always)]
-fn next_four_rounds(ring: &mut [Word32; 16], v: [Word32; 5], t: usize) -> [Word32; 5]
+fn next_four_rounds(ring: &mut [u64; 16], v: [Word32; 5], t: usize) -> [Word32; 5]
     requires from { 16 ≤ t }
     requires below { t + 4 ≤ 80 }
     ensures { (h b : List ℕ)
-        → IsBefore (W b) (rounds_from h b) (map word_32 ring.old) (map word_32 v) t
-        → IsBefore (W b) (rounds_from h b) (map word_32 ring.new) (map word_32 result) (t + 4) }
+        → IsBefore (W b) (rounds_from h b) (map low_32 ring.old) (map word_32 v) t
+        → IsBefore (W b) (rounds_from h b) (map low_32 ring.new) (map word_32 result) (t + 4) }
 {
     let v = next_two_rounds(ring, v, t);
     next_two_rounds(ring, v, t + 2)
@@ -122,8 +121,8 @@ fn next_four_rounds(ring: &mut [Word32; 16], v: [Word32; 5], t: usize) -> [Word3
 
 // The first sixteen rounds, by the block's own words.
 #[inline(always)]
-fn first_turn(ring: &[Word32; 16], v: [Word32; 5]) -> [Word32; 5]
-    ensures { (b : List ℕ) → IsRing (W b) (map word_32 ring.now) 16
+fn first_turn(ring: &[u64; 16], v: [Word32; 5]) -> [Word32; 5]
+    ensures { (b : List ℕ) → IsRing (W b) (map low_32 ring.now) 16
         → map word_32 result ≡ rounds_from (map word_32 v) b 16 }
 {
     let v = two_rounds(ring, v, 0);
@@ -136,37 +135,22 @@ fn first_turn(ring: &[Word32; 16], v: [Word32; 5]) -> [Word32; 5]
     two_rounds(ring, v, 14)
 }
 
-// The sixteen rounds of a later turn.
+// The sixteen rounds of a later turn. The turn is a constant and no argument: of one body for all
+// turns the compiler would write few calls in line, and slots and rounds would be no literals.
 #[inline(always)]
-fn later_turn(ring: &mut [Word32; 16], v: [Word32; 5], turn: usize) -> [Word32; 5]
-    requires later { 1 ≤ turn }
-    requires turn { turn < 5 }
+fn later_turn<const TURN: usize>(ring: &mut [u64; 16], v: [Word32; 5]) -> [Word32; 5]
+    requires later { 1 ≤ TURN }
+    requires turn { TURN < 5 }
     ensures { (h b : List ℕ)
-        → IsBefore (W b) (rounds_from h b) (map word_32 ring.old) (map word_32 v) (16 * turn)
-        → IsBefore (W b) (rounds_from h b) (map word_32 ring.new) (map word_32 result)
-        (16 * (turn + 1)) }
+        → IsBefore (W b) (rounds_from h b) (map low_32 ring.old) (map word_32 v) (16 * TURN)
+        → IsBefore (W b) (rounds_from h b) (map low_32 ring.new) (map word_32 result)
+        (16 * TURN + 16) }
 {
-    if turn == 1 {
-        let v = next_four_rounds(ring, v, 16);
-        let v = next_four_rounds(ring, v, 20);
-        let v = next_four_rounds(ring, v, 24);
-        next_four_rounds(ring, v, 28)
-    } else if turn == 2 {
-        let v = next_four_rounds(ring, v, 32);
-        let v = next_four_rounds(ring, v, 36);
-        let v = next_four_rounds(ring, v, 40);
-        next_four_rounds(ring, v, 44)
-    } else if turn == 3 {
-        let v = next_four_rounds(ring, v, 48);
-        let v = next_four_rounds(ring, v, 52);
-        let v = next_four_rounds(ring, v, 56);
-        next_four_rounds(ring, v, 60)
-    } else {
-        let v = next_four_rounds(ring, v, 64);
-        let v = next_four_rounds(ring, v, 68);
-        let v = next_four_rounds(ring, v, 72);
-        next_four_rounds(ring, v, 76)
-    }
+    let t = 16 * TURN;
+    let v = next_four_rounds(ring, v, t);
+    let v = next_four_rounds(ring, v, t + 4);
+    let v = next_four_rounds(ring, v, t + 8);
+    next_four_rounds(ring, v, t + 12)
 }
 
 // The first five words, each with its variable of `v` added (step 4), and the other three.
@@ -195,14 +179,15 @@ fn run_block(state: &mut [Word32; 8], block: &[u8])
         ≡ block_step (take 5 (map word_32 state.old)) block.now }
     ensures rest { drop 5 state.new ≡ drop 5 state.old }
 {
-    let mut ring = [Wrapping(0u32); 16];
-    load(&mut ring, block); // step 1, to W(15)
+    let mut ring = [0u64; 16];
+    load::<Word32>(&mut ring, block); // step 1, to W(15)
     let chaining = [state[0], state[1], state[2], state[3], state[4]]; // step 2
-    let mut variables = first_turn(&ring, chaining); // step 3
-    'turns: for turn in 1..ROUNDS / 16 {
-        variables = later_turn(&mut ring, variables, turn); // steps 1 and 3
-    }
-    *state = add_state(state, &variables); // step 4
+    let v = first_turn(&ring, chaining); // step 3
+    let v = later_turn::<1>(&mut ring, v); // steps 1 and 3
+    let v = later_turn::<2>(&mut ring, v);
+    let v = later_turn::<3>(&mut ring, v);
+    let last = later_turn::<4>(&mut ring, v);
+    *state = add_state(state, &last); // step 4
 }
 
 /// Replaces the first five words of `state` by SHA-1's hash computation over each block of 64 bytes

@@ -52,6 +52,7 @@ fn big_sigma_1<S: Sha2>(x: S) -> S
 }
 
 // One round (step 3), by the sum of its constant and its word.
+#[inline(always)]
 fn round<S: Sha2>(v: [S; 8], sum: S) -> [S; 8]
     ensures { (k w : ℕ) → S.value sum ≡ add_words S.bits k w
         → map S.value result ≡ round S.family (map S.value v) k w }
@@ -67,10 +68,10 @@ fn round<S: Sha2>(v: [S; 8], sum: S) -> [S; 8]
 
 // Rounds `16 * turn + place` and the next, by the words at `place`.
 #[inline(always)]
-fn two_rounds<S: Lanes>(ring: &[S; 16], v: [S; 8], turn: usize, place: usize) -> [S; 8]
+fn two_rounds<S: Lanes>(ring: &[S::Slot; 16], v: [S; 8], turn: usize, place: usize) -> [S; 8]
     requires place { place + 2 ≤ 16 }
     requires turn { 16 * turn + 16 ≤ S.family.rounds }
-    ensures { (h b : List ℕ) (n t : ℕ) → IsRing (W S.family b) (map S.value ring.now) n
+    ensures { (h b : List ℕ) (n t : ℕ) → IsRing (W S.family b) (map S.slot_value ring.now) n
         → t ≡ 16 * turn + place → t + 2 ≤ n → n ≤ t + 16
         → map S.value v ≡ rounds_from S.family h b t
         → map S.value result ≡ rounds_from S.family h b (t + 2) }
@@ -82,15 +83,20 @@ fn two_rounds<S: Lanes>(ring: &[S; 16], v: [S; 8], turn: usize, place: usize) ->
 
 // The same after the first turn, where the words are made first.
 #[inline(always)]
-fn next_two_rounds<S: Lanes>(ring: &mut [S; 16], v: [S; 8], turn: usize, place: usize) -> [S; 8]
+fn next_two_rounds<S: Lanes>(
+    ring: &mut [S::Slot; 16],
+    v: [S; 8],
+    turn: usize,
+    place: usize,
+) -> [S; 8]
     requires place { place + 2 ≤ 16 }
     requires later { 1 ≤ turn }
     requires turn { 16 * turn + 16 ≤ S.family.rounds }
     ensures { (h b : List ℕ) (t : ℕ) → t ≡ 16 * turn + place
         → IsBefore (W S.family b) (rounds_from S.family h b)
-        (map S.value ring.old) (map S.value v) t
+        (map S.slot_value ring.old) (map S.value v) t
         → IsBefore (W S.family b) (rounds_from S.family h b)
-        (map S.value ring.new) (map S.value result) (t + 2) }
+        (map S.slot_value ring.new) (map S.value result) (t + 2) }
 {
     S::fill(ring, place);
     two_rounds(ring, v, turn, place)
@@ -98,8 +104,8 @@ fn next_two_rounds<S: Lanes>(ring: &mut [S; 16], v: [S; 8], turn: usize, place: 
 
 // The first sixteen rounds, by the block's own words.
 #[inline(always)]
-fn first_turn<S: Lanes>(ring: &[S; 16], v: [S; 8]) -> [S; 8]
-    ensures { (b : List ℕ) → IsRing (W S.family b) (map S.value ring.now) 16
+fn first_turn<S: Lanes>(ring: &[S::Slot; 16], v: [S; 8]) -> [S; 8]
+    ensures { (b : List ℕ) → IsRing (W S.family b) (map S.slot_value ring.now) 16
         → map S.value result ≡ rounds_from S.family (map S.value v) b 16 }
 {
     let v = two_rounds(ring, v, 0, 0);
@@ -114,14 +120,14 @@ fn first_turn<S: Lanes>(ring: &[S; 16], v: [S; 8]) -> [S; 8]
 
 // The sixteen rounds of a later turn, each with its slot as a literal.
 #[inline(always)]
-fn later_turn<S: Lanes>(ring: &mut [S; 16], v: [S; 8], turn: usize) -> [S; 8]
+fn later_turn<S: Lanes>(ring: &mut [S::Slot; 16], v: [S; 8], turn: usize) -> [S; 8]
     requires later { 1 ≤ turn }
     requires turn { 16 * turn + 16 ≤ S.family.rounds }
     ensures { (h b : List ℕ)
         → IsBefore (W S.family b) (rounds_from S.family h b)
-        (map S.value ring.old) (map S.value v) (16 * turn)
+        (map S.slot_value ring.old) (map S.value v) (16 * turn)
         → IsBefore (W S.family b) (rounds_from S.family h b)
-        (map S.value ring.new) (map S.value result) (16 * (turn + 1)) }
+        (map S.slot_value ring.new) (map S.value result) (16 * (turn + 1)) }
 {
     let v = next_two_rounds(ring, v, turn, 0);
     let v = next_two_rounds(ring, v, turn, 2);
@@ -153,11 +159,11 @@ fn add_state<S: Sha2>(state: &[S; 8], v: &[S; 8]) -> [S; 8]
 
 // Runs the block function over one block, with room for the words of its schedule.
 #[inline(always)]
-fn run_block<S: Lanes>(ring: &mut [S; 16], state: &mut [S; 8], block: &[u8])
+fn run_block<S: Lanes>(ring: &mut [S::Slot; 16], state: &mut [S; 8], block: &[u8])
     requires { length block.now ≡ 16 * (S.bits / 8) }
     ensures { map S.value state.new ≡ block_step S.family (map S.value state.old) block.now }
 {
-    load(ring, block); // step 1, to W(15)
+    load::<S>(ring, block); // step 1, to W(15)
     let mut variables = first_turn(ring, *state); // steps 2 and 3
     let turns = S::ROUNDS / 16;
     'later: for turn in 1..turns {
@@ -168,7 +174,7 @@ fn run_block<S: Lanes>(ring: &mut [S; 16], state: &mut [S; 8], block: &[u8])
 
 // Runs the block function over each block in turn, with room for the words of a schedule.
 fn run_blocks<S: Lanes, const N: usize>(
-    ring: &mut [S; 16],
+    ring: &mut [S::Slot; 16],
     state: &mut [S; 8],
     blocks: AsChunks<'_, u8, N>,
     meter: &mut Meter,
@@ -203,7 +209,7 @@ pub fn block_data_order_32_counted(
         (chunk_items blocks.entry) (chunk_total blocks.entry) }
     ensures cost { meter.new ≡ raised meter.old (chunk_total blocks.entry) 0 }
 {
-    run_blocks(&mut [Wrapping(0u32); 16], state, blocks, meter)
+    run_blocks(&mut [0u64; 16], state, blocks, meter)
 }
 
 /// Replaces `state` by SHA-256's hash computation over each block of 64 bytes in turn (6.2.2).

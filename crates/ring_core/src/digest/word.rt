@@ -125,3 +125,15 @@ pub trait Sha2: Word {
 
     ghost rounds_are: { ROUNDS ≡ family.rounds };
 }
+
+// A word of SHA-2 with what a schedule keeps it in.
+pub(crate) trait Slots: Sha2 {
+    type Slot: Copy;
+
+    // the number of the word that a slot holds
+    ghost slot_value: { Self.Slot → ℕ };
+
+    // the slot of a word
+    fn to_slot(self) -> Self::Slot
+        ensures { slot_value result ≡ Self.value self };
+}

@@ -7,21 +7,21 @@ ghost use Rattle.ring_core.specs.Word.{add_words};
 mod w32;
 mod w64;
 
-use crate::digest::word::Sha2;
+use crate::digest::word::Slots;
 
 // A word whose schedule is made by lanes. The library's vectors are of `u32` or of `u64` and not of
 // any word, so each size has a step of its own.
-pub(crate) trait Lanes: Sha2 {
+pub(crate) trait Lanes: Slots {
     // Fills slot `place` and the next with the words sixteen after those that stand there.
-    fn fill(ring: &mut [Self; 16], place: usize)
+    fn fill(ring: &mut [Self::Slot; 16], place: usize)
         requires { place + 2 ≤ 16 }
         ensures { (b : List ℕ) (t : ℕ) → 16 ≤ t → place ≡ t % 16
-            → IsRing (W Self.family b) (map Self.value ring.old) t
-            → IsRing (W Self.family b) (map Self.value ring.new) (t + 2) };
+            → IsRing (W Self.family b) (map Self.slot_value ring.old) t
+            → IsRing (W Self.family b) (map Self.slot_value ring.new) (t + 2) };
 
-    // The sum of the first words, and that of the second, for the constants of two rounds and
-    // their words.
-    fn add_pairs(x: [Self; 2], y: [Self; 2]) -> [Self; 2]
-        ensures { (a b c d : ℕ) → map Self.value x ≡ a ∷ b ∷ [] → map Self.value y ≡ c ∷ d ∷ []
+    // Two words and the words of two slots added, each to its own, for the constants of two rounds
+    // and their words.
+    fn add_pairs(x: [Self; 2], y: [Self::Slot; 2]) -> [Self; 2]
+        ensures { (a b c d : ℕ) → map Self.value x ≡ a ∷ b ∷ [] → map Self.slot_value y ≡ c ∷ d ∷ []
             → map Self.value result ≡ add_words Self.bits a c ∷ add_words Self.bits b d ∷ [] };
 }

@@ -1,13 +1,13 @@
 //! The word of 32 bits, that of SHA-1 and SHA-256 (FIPS 180-4, 3.2 and 4.1.2).
-ghost use Rattle.std.specs.Prelude.{◌≡◌, ◌-◌, ◌*◌, ◌%◌, ◌^◌, ◌<◌, ◌≤◌, [], ◌∷◌, length, slice_index, map, bit_and, bit_or, bit_xor};
+ghost use Rattle.std.specs.Prelude.{◌≡◌, ℕ, ◌-◌, ◌+◌, ◌*◌, ◌%◌, ◌^◌, ◌<◌, ◌≤◌, [], ◌∷◌, length, slice_index, map, bit_and, bit_or, bit_xor};
 ghost use Rattle.std.proofs.Common.{refl, mod-lt, pow_pos, inl};
 ghost use Rattle.ring_core.specs.Sha2.{constants_256, family_256, words_32};
-ghost use Rattle.ring_core.specs.Word.{rotr, shr, word_at};
+ghost use Rattle.ring_core.specs.Word.{add_words, low_32, rotr, shr, word_at};
 
 use crate::digest::sha2::constants::K_256;
-use crate::digest::word::{Sha2, Word};
+use crate::digest::word::{Sha2, Slots, Word};
 use std::num::Wrapping;
-use std::simd::{Simd, u32x2};
+use std::simd::{Simd, u32x4, u64x2};
 
 // These functions take numbers, since a number inside a struct is not known to fit its type.
 
@@ -46,40 +46,69 @@ fn read(block: &[u8], j: usize) -> u32
     u32::from_be_bytes(*block[at..at + 4].as_array::<4>().unwrap())
 }
 
-// Two numbers as lanes.
-#[inline(always)]
-fn two_lanes(first: u32, second: u32) -> u32x2
-    ensures { result ≡ (first % 2 ^ 32) ∷ (second % 2 ^ 32) ∷ [] }
+// A word in the low half of a slot.
+fn widened(word: u32) -> u64
+    ensures { low_32 result ≡ word % 2 ^ 32 }
 {
-    Simd::from_array([first, second])
+    word as u64
 }
 
-// Two words as lanes.
+// The word in the low half of a slot, whatever stands above it.
 #[inline(always)]
-pub(crate) fn to_lanes(words: [Wrapping<u32>; 2]) -> u32x2
-    ensures { result ≡ words_32 words }
+fn low_half(slot: u64) -> u32
+    ensures { result % 2 ^ 32 ≡ low_32 slot }
 {
-    let [first, second] = words;
-    two_lanes(first.0, second.0)
+    (slot & 0xffff_ffff) as u32
 }
 
-// Two lanes as words.
+// The words of two slots, each twice.
 #[inline(always)]
-pub(crate) fn from_lanes(lanes: u32x2) -> [Wrapping<u32>; 2]
-    ensures { words_32 result ≡ lanes }
+pub(crate) fn doubled(lanes: u64x2) -> u32x4
+    ensures { (a b : ℕ) → map low_32 lanes ≡ a ∷ b ∷ [] → result ≡ a ∷ a ∷ b ∷ b ∷ [] }
 {
-    let [first, second] = lanes.to_array();
-    [Wrapping(first), Wrapping(second)]
+    u32x4::from_le_bytes(lanes.to_le_bytes()).swizzle([0, 0, 2, 2])
 }
 
-// ROTR of each lane (3.2, item 4)
+// Two lanes as one, the first as its low half.
 #[inline(always)]
-pub(crate) fn rotate_lanes(lanes: u32x2, count: u32) -> u32x2
+pub(crate) fn joined(lanes: u32x4) -> u64x2
+    ensures { (a b c d : ℕ) → lanes ≡ a ∷ b ∷ c ∷ d ∷ []
+        → result ≡ (b * 2 ^ 32 + a) ∷ (d * 2 ^ 32 + c) ∷ [] }
+{
+    u64x2::from_le_bytes(lanes.to_le_bytes())
+}
+
+// ROTR of the word in each slot (3.2, item 4): it stands in the low half of both its copies shifted
+// right.
+#[inline(always)]
+pub(crate) fn rotate_lanes(lanes: u64x2, count: u32) -> u64x2
     requires positive { 1 ≤ count }
     requires below { count < 32 }
-    ensures { result ≡ map (rotr 32 count) lanes }
+    ensures { map low_32 result ≡ map (λ x. rotr 32 count (low_32 x)) lanes }
 {
-    (lanes >> Simd::splat(count)) | (lanes << Simd::splat(32 - count))
+    joined(doubled(lanes)) >> Simd::splat(count as u64)
+}
+
+// Two numbers added to the words of two slots.
+#[inline(always)]
+fn add_slots(first: u32, second: u32, slots: [u64; 2]) -> [Wrapping<u32>; 2]
+    ensures { (c d : ℕ) → map low_32 slots ≡ c ∷ d ∷ []
+        → words_32 result
+        ≡ add_words 32 (first % 2 ^ 32) c ∷ add_words 32 (second % 2 ^ 32) d ∷ [] }
+{
+    let sums = Simd::from_array([first as u64, second as u64]) + Simd::from_array(slots);
+    let [third, fourth] = sums.to_array();
+    [Wrapping(low_half(third)), Wrapping(low_half(fourth))]
+}
+
+// The first word added to the word of the first slot, and the second to that of the second.
+#[inline(always)]
+pub(crate) fn add_pairs(x: [Wrapping<u32>; 2], y: [u64; 2]) -> [Wrapping<u32>; 2]
+    ensures { (a b c d : ℕ) → words_32 x ≡ a ∷ b ∷ [] → map low_32 y ≡ c ∷ d ∷ []
+        → words_32 result ≡ add_words 32 a c ∷ add_words 32 b d ∷ [] }
+{
+    let [first, second] = x;
+    add_slots(first.0, second.0, y)
 }
 
 impl Word for Wrapping<u32> {
@@ -176,4 +205,16 @@ impl Sha2 for Wrapping<u32> {
     ghost small_1_is = { refl };
 
     ghost rounds_are = { refl };
+}
+
+// The word stands in the low half of a slot: the lanes of a schedule's step are then slots as they
+// are, and what is carried above it is left there.
+impl Slots for Wrapping<u32> {
+    type Slot = u64;
+
+    ghost slot_value = { λ x. x % 2 ^ 32 };
+
+    fn to_slot(self) -> u64 {
+        widened(self.0)
+    }
 }

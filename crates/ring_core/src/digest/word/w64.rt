@@ -5,7 +5,7 @@ ghost use Rattle.ring_core.specs.Sha2.{constants_512, family_512, words_64};
 ghost use Rattle.ring_core.specs.Word.{rotr, shr, word_at};
 
 use crate::digest::sha2::constants::K_512;
-use crate::digest::word::{Sha2, Word};
+use crate::digest::word::{Sha2, Slots, Word};
 use std::num::Wrapping;
 use std::simd::{Simd, u64x2};
 
@@ -176,4 +176,14 @@ impl Sha2 for Wrapping<u64> {
     ghost small_1_is = { refl };
 
     ghost rounds_are = { refl };
+}
+
+impl Slots for Wrapping<u64> {
+    type Slot = Wrapping<u64>;
+
+    ghost slot_value = { λ x. x.0 % 2 ^ 64 };
+
+    fn to_slot(self) -> Wrapping<u64> {
+        self
+    }
 }

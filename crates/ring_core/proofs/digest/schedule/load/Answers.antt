@@ -9,9 +9,12 @@ pub words-preserved : goal.words-preserved
 words-preserved g c =
     let ring = c.words.ring in
     let t = c.words.t in
-    let word = c.read_word.result in (
+    let word = c.to_slot.result in
+    let is : g.S.Slots.slot_value word ≡ word_at g.S.Word.bits c.args.block.now t =
+    rw c.read_word.ensures at c.to_slot.ensures in (
       length-set ring t word ∙ c.words.invariant.0,
-      filled_more g.S.Word.value (word_at g.S.Word.bits c.args.block.now) ring t word (omega arith) c.words.invariant.1 c.read_word.ensures,
+      filled_more g.S.Slots.slot_value (word_at g.S.Word.bits c.args.block.now) ring t word
+          (omega arith) c.words.invariant.1 is,
     )
 
 pub returns : goal.returns

@@ -3,8 +3,7 @@ use Rattle.ring_core.proofs.Schedule.{ring-read}
 use Rattle.ring_core.proofs.digest.schedule.pair.Goals as goal
 
 pub returns : goal.returns
-returns g c = λ w n t ready place below near.
-    let f = g.S.Word.value in
+returns g c = λ f w n t ready place below near.
     let ring = c.args.ring.now in
     let slot = c.args.slot in
     rw (

@@ -5,8 +5,7 @@ use Rattle.ring_core.proofs.Schedule.{ring-set}
 use Rattle.ring_core.proofs.digest.schedule.set_pair.Goals as goal
 
 pub returns : goal.returns
-returns g c = λ w t ready place are.
-    let f = g.S.Word.value in
+returns g c = λ f w t ready place are.
     let ring = c.args.ring.now in
     let slot = c.args.slot in
     let words = c.args.words in

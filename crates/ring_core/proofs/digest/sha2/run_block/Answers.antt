@@ -10,7 +10,7 @@ pub later-init : goal.later-init
 later-init g c =
     let f = g.S.Sha2.family in
     let block = c.args.block.now in
-    let ring = map g.S.Word.value c.load.new.ring in
+    let ring = map g.S.Slots.slot_value c.load.new.ring in
     let loaded : IsRing (word_at f.bits block) ring 16 = rw g.met.S.Sha2.bits_are at c.load.ensures in
     let ready = ring-same (word_at f.bits block) (W f block) ring 16 loaded (λ k below. sym (W-first f block k below)) in
     record { words = ready; variables = c.first_turn-variables.ensures block ready }

@@ -7,4 +7,6 @@ abbrev pub invariant-later : goal.invariant-later
 invariant-later g l =
     let f = g.S.Sha2.family in
     let value = g.S.Word.value in
-    IsBefore (W f l.block) (rounds_from f (map value l.state) l.block) (map value l.ring) (map value l.variables) (16 * l.turn)
+    let ring = map g.S.Slots.slot_value l.ring in
+    IsBefore (W f l.block) (rounds_from f (map value l.state) l.block) ring
+    (map value l.variables) (16 * l.turn)

@@ -1,71 +1,78 @@
 //! Two words of 32 bits at a time: the schedule of SHA-256
 //! (FIPS 180-4, 6.2.2, step 1).
 ghost use Rattle.std.specs.Prelude.{◌≡◌, ℕ, ◌<◌, ◌≤◌, [], ◌∷◌, slice_index, map};
-ghost use Rattle.ring_core.specs.Sha2.{family_256, scheduled, words_32, σ0, σ1};
-ghost use Rattle.ring_core.specs.Word.{◌⊕◌, add_words, rotr};
+ghost use Rattle.ring_core.specs.Sha2.{family_256, scheduled, two_rotations_and_shift, words_32, σ0, σ1};
+ghost use Rattle.ring_core.specs.Word.{add_words, low_32};
 
 use crate::digest::schedule::{pair, set_pair};
 use crate::digest::sha2::lanes::Lanes;
 use crate::digest::word::Sha2;
-use crate::digest::word::w32::{from_lanes, rotate_lanes, to_lanes};
+use crate::digest::word::w32::{add_pairs, doubled, joined};
 use std::num::Wrapping;
-use std::simd::{Simd, u32x2};
+use std::simd::{Simd, u64x2};
 
-// ROTR first ⊕ ROTR second, one inside the other: side by side they need a copy of the lanes more.
+// ROTR first ⊕ ROTR second ⊕ SHR shift of the word in each slot, one rotation inside the other. A
+// shift of both copies of a word is one operation, and a rotation of the word by itself three.
 #[inline(always)]
-fn rotations(lanes: u32x2, first: u32, second: u32) -> u32x2
+fn rotations_and_shift(lanes: u64x2, first: u32, second: u32, shift: u32) -> u64x2
     requires near { 1 ≤ first }
     requires far { first < second }
     requires below { second < 32 }
-    ensures { result ≡ map (λ x. rotr 32 first x ⊕ rotr 32 second x) lanes }
+    requires shift { shift < 32 }
+    ensures { map low_32 result
+        ≡ map (λ x. two_rotations_and_shift 32 (first, second, shift) (low_32 x)) lanes }
 {
-    rotate_lanes(lanes ^ rotate_lanes(lanes, second - first), first)
+    let copies = doubled(lanes);
+    let twice = joined(copies);
+    let inner = twice ^ (twice >> Simd::splat((second - first) as u64));
+    (inner >> Simd::splat(first as u64)) ^ joined(copies >> Simd::splat(shift))
 }
 
-// σ0 of each lane (4.1.2)
+// σ0 of the word in each slot (4.1.2)
 #[inline(always)]
-fn small_sigma_0(lanes: u32x2) -> u32x2
-    ensures { result ≡ map (σ0 family_256) lanes }
+fn small_sigma_0(lanes: u64x2) -> u64x2
+    ensures { map low_32 result ≡ map (λ x. σ0 family_256 (low_32 x)) lanes }
 {
     let (first, second, shift) = Wrapping::<u32>::SMALL_SIGMA_0;
-    rotations(lanes, first, second) ^ (lanes >> Simd::splat(shift as u32))
+    rotations_and_shift(lanes, first, second, shift as u32)
 }
 
-// σ1 of each lane (4.1.2)
+// σ1 of the word in each slot (4.1.2)
 #[inline(always)]
-fn small_sigma_1(lanes: u32x2) -> u32x2
-    ensures { result ≡ map (σ1 family_256) lanes }
+fn small_sigma_1(lanes: u64x2) -> u64x2
+    ensures { map low_32 result ≡ map (λ x. σ1 family_256 (low_32 x)) lanes }
 {
     let (first, second, shift) = Wrapping::<u32>::SMALL_SIGMA_1;
-    rotations(lanes, first, second) ^ (lanes >> Simd::splat(shift as u32))
+    rotations_and_shift(lanes, first, second, shift as u32)
 }
 
 // The next two words, by the pairs that begin 16, 15, 7 and 2 words before them. The newest pair
 // is added last: the other sums don't wait for it.
 #[inline(always)]
-fn next_two(sixteen: u32x2, fifteen: u32x2, seven: u32x2, two: u32x2) -> u32x2
-    ensures { result ≡ map (λ i. scheduled family_256 (slice_index two i) (slice_index seven i)
-        (slice_index fifteen i) (slice_index sixteen i)) (0 ∷ 1 ∷ []) }
+fn next_two(sixteen: u64x2, fifteen: u64x2, seven: u64x2, two: u64x2) -> u64x2
+    ensures { map low_32 result ≡ map (λ i. scheduled family_256
+        (low_32 (slice_index two i)) (low_32 (slice_index seven i))
+        (low_32 (slice_index fifteen i)) (low_32 (slice_index sixteen i))) (0 ∷ 1 ∷ []) }
 {
     small_sigma_1(two) + (seven + (small_sigma_0(fifteen) + sixteen))
 }
 
 impl Lanes for Wrapping<u32> {
     #[inline(always)]
-    fn fill(ring: &mut [Wrapping<u32>; 16], place: usize) {
-        let sixteen = to_lanes(pair(ring, place));
-        let fifteen = to_lanes(pair(ring, place + 1));
-        let seven = to_lanes(pair(ring, (place + 9) % 16));
-        let two = to_lanes(pair(ring, (place + 14) % 16));
+    fn fill(ring: &mut [u64; 16], place: usize) {
+        let sixteen = Simd::from_array(pair(ring, place));
+        let fifteen = Simd::from_array(pair(ring, place + 1));
+        let seven = Simd::from_array(pair(ring, (place + 9) % 16));
+        let two = Simd::from_array(pair(ring, (place + 14) % 16));
         let next = next_two(sixteen, fifteen, seven, two);
-        set_pair(ring, place, from_lanes(next));
+        set_pair(ring, place, next.to_array());
     }
 
     #[inline(always)]
-    fn add_pairs(x: [Wrapping<u32>; 2], y: [Wrapping<u32>; 2]) -> [Wrapping<u32>; 2]
-        ensures { (a b c d : ℕ) → words_32 x ≡ a ∷ b ∷ [] → words_32 y ≡ c ∷ d ∷ []
+    fn add_pairs(x: [Wrapping<u32>; 2], y: [u64; 2]) -> [Wrapping<u32>; 2]
+        ensures { (a b c d : ℕ) → words_32 x ≡ a ∷ b ∷ [] → map low_32 y ≡ c ∷ d ∷ []
             → words_32 result ≡ add_words 32 a c ∷ add_words 32 b d ∷ [] }
     {
-        from_lanes(to_lanes(x) + to_lanes(y))
+        add_pairs(x, y)
     }
 }

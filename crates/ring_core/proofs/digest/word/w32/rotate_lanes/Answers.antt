@@ -1,14 +1,17 @@
-use Rattle.std.proofs.Common.{arith, refl}
+use Rattle.std.proofs.Common.{[], ◌∷◌, map, arith, sym, ap, ◌∙◌, mod-lt, pow_pos}
+use Rattle.ring_core.specs.Word.{low_32, rotr}
 use Rattle.ring_core.proofs.Lanes.{two_lanes}
-use Rattle.ring_core.proofs.Rotation.{or_of_shifts-rotr}
+use Rattle.ring_core.proofs.Rotation.{doubled-rotr}
 use Rattle.ring_core.proofs.digest.word.w32.rotate_lanes.Goals as goal
 
 pub returns : goal.returns
 returns c =
     let lanes = two_lanes c.args.lanes c.fits-lanes in
     let n = c.args.count in
-    rw (
-      lanes.are,
-      ← or_of_shifts-rotr 32 lanes.first n (omega arith) lanes.first_fits,
-      ← or_of_shifts-rotr 32 lanes.second n (omega arith) lanes.second_fits,
-    ) refl
+    let a = low_32 lanes.first in
+    let b = low_32 lanes.second in
+    let copies = c.doubled.ensures a b (ap (map low_32) lanes.are) in
+    let twice = c.joined.ensures a a b b copies in
+    let first = doubled-rotr 32 n a (omega arith) (mod-lt lanes.first (pow_pos 32)) in
+    let second = doubled-rotr 32 n b (omega arith) (mod-lt lanes.second (pow_pos 32)) in
+    rw twice (λ i. first i ∷ second i ∷ []) ∙ sym (ap (map (λ x. rotr 32 n (low_32 x))) lanes.are)

@@ -1,6 +1,4 @@
-use Rattle.std.proofs.Common.{refl}
-use Rattle.ring_core.proofs.Lanes.{two_lanes}
 use Rattle.ring_core.proofs.digest.sha2.lanes.w32.small_sigma_0.Goals as goal
 
 pub returns : goal.returns
-returns c = let lanes = two_lanes c.args.lanes c.fits-lanes in rw (c.rotations.ensures, lanes.are) refl
+returns c = c.rotations_and_shift.ensures

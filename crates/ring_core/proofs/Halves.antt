@@ -1,0 +1,103 @@
+-- Numbers of 64 bits as halves of 32, by their bytes.
+use Rattle.std.proofs.Common.{◌≡◌, ℕ, zero, suc, ◌+◌, ◌*◌, ◌/◌, ◌%◌, ◌^◌, ◌<◌, List, [], ◌∷◌, length, slice_index, map, refl, sym, ap, ◌∙◌, arith}
+use Rattle.std.proofs.Math.Nat.{mod-eq_of_lt, mod-one, pow-suc, one-le-pow}
+use Rattle.std.proofs.lemmas.Nat.{xor_mod}
+use Rattle.std.proofs.Math.ListN.{get_or-map as get_or_default-map}
+use Rattle.std.specs.Simd.Lanes.{number_l, digits_l, zip2}
+use Rattle.ring_core.specs.Word.{◌⊕◌, low_32}
+use lib.Arith.{mod-mul}
+
+-- the last n bytes of a number, put together
+pub number-bytes : (n x : ℕ) → number_l 256 (digits_l 256 n x) ≡ x % 256 ^ n
+number-bytes zero x = sym (mod-one x)
+number-bytes (suc n) x =
+    let rest : number_l 256 (digits_l 256 n (x / 256)) ≡ x / 256 % 256 ^ n =
+    number-bytes n (x / 256) in
+    let positive : 0 < 256 ^ n = omega (arith, one-le-pow n 256 (omega arith)) in
+    let parts : x % (256 ^ n * 256) ≡ x / 256 % 256 ^ n * 256 + x % 256 =
+    mod-mul x {m = 256 ^ n} {c = 256} positive (omega arith) in
+    ap (λ (m : ℕ). x % 256 + 256 * m) rest
+    ∙ omega (arith, parts)
+    ∙ ap (λ (m : ℕ). x % m) (sym (pow-suc 256 n))
+
+-- two numbers of 64 bits, from the lanes to the bytes and back to one number
+pub both-bytes : (a b : ℕ) → a < 2 ^ 64 → b < 2 ^ 64
+    → number_l 256 (digits_l 256 16 (number_l (2 ^ 64) (a ∷ b ∷ []))) ≡ a + 2 ^ 64 * b
+both-bytes a b af bf =
+    let whole : number_l (2 ^ 64) (a ∷ b ∷ []) ≡ a + 2 ^ 64 * b = omega arith in
+    ap (λ (n : ℕ). number_l 256 (digits_l 256 16 n)) whole
+    ∙ number-bytes 16 (a + 2 ^ 64 * b)
+    ∙ mod-eq_of_lt (omega arith)
+
+-- the first four bytes of that number are the low half of the first
+pub low-first : (a b : ℕ) → (a + 2 ^ 64 * b) % 2 ^ 32 ≡ a % 2 ^ 32
+low-first a b = omega arith
+
+-- and the third four that of the second
+pub low-second : (a b : ℕ) → a < 2 ^ 64
+    → (a + 2 ^ 64 * b) / 2 ^ 32 / 2 ^ 32 % 2 ^ 32 ≡ b % 2 ^ 32
+low-second a b fits = omega arith
+
+-- two slots whose words are known
+pub record TwoSlots (x : List ℕ) (a b : ℕ) : Type 0 where
+  pub first : ℕ
+  pub second : ℕ
+  pub are : x ≡ first ∷ second ∷ []
+  pub first_is : low_32 first ≡ a
+  pub second_is : low_32 second ≡ b
+
+-- what is known of two slots by their words
+pub two_slots : (x : List ℕ) {a b : ℕ} → map low_32 x ≡ a ∷ b ∷ [] → TwoSlots x a b
+two_slots (x ∷ y ∷ []) e =
+    record {
+      first = x;
+      second = y;
+      are = refl;
+      first_is = ap (λ (l : List ℕ). slice_index l 0) e;
+      second_is = ap (λ (l : List ℕ). slice_index l 1) e;
+    }
+two_slots [] e = absurd (omega (arith, ap length e))
+two_slots (x ∷ []) e = absurd (omega (arith, ap length e))
+two_slots (x ∷ y ∷ z ∷ r) e = absurd (omega (arith, ap length e))
+
+-- the word of one slot of a list
+pub low_read : (xs : List ℕ) (i : ℕ) → low_32 (slice_index xs i) ≡ slice_index (map low_32 xs) i
+low_read xs i = sym (get_or_default-map low_32 xs i 0)
+
+-- two slots added
+abbrev plus : ℕ → ℕ → ℕ
+plus x y = (x + y) % 2 ^ 64
+
+-- four words added from the first
+abbrev sum : ℕ → ℕ → ℕ → ℕ → ℕ
+sum a b c d = (((a + b) % 2 ^ 32 + c) % 2 ^ 32 + d) % 2 ^ 32
+
+-- the word of four slots that are added from the last
+sum_low : (a b c d : ℕ)
+    → low_32 (plus a (plus b (plus c d))) ≡ sum (low_32 a) (low_32 b) (low_32 c) (low_32 d)
+sum_low a b c d = omega arith
+
+-- the same of four times two slots
+pub sums_low : (p q r s : List ℕ) {a a' b b' c c' d d' : ℕ}
+    → map low_32 p ≡ a ∷ a' ∷ [] → map low_32 q ≡ b ∷ b' ∷ []
+    → map low_32 r ≡ c ∷ c' ∷ [] → map low_32 s ≡ d ∷ d' ∷ []
+    → map low_32 (zip2 plus p (zip2 plus q (zip2 plus r s)))
+    ≡ sum a b c d ∷ sum a' b' c' d' ∷ []
+sums_low p q r s ps qs rs ss =
+    let P = two_slots p ps in
+    let Q = two_slots q qs in
+    let R = two_slots r rs in
+    let S = two_slots s ss in
+    let first = sum_low P.first Q.first R.first S.first in
+    let second = sum_low P.second Q.second R.second S.second in
+    (λ i. map low_32 (zip2 plus (P.are i) (zip2 plus (Q.are i) (zip2 plus (R.are i) (S.are i)))))
+    ∙ (λ i. first i ∷ second i ∷ [])
+    ∙ (λ i. sum (P.first_is i) (Q.first_is i) (R.first_is i) (S.first_is i)
+    ∷ sum (P.second_is i) (Q.second_is i) (R.second_is i) (S.second_is i) ∷ [])
+
+-- the word of an exclusive or of four slots
+pub xors_low : (a b c d : ℕ)
+    → low_32 (a ⊕ b ⊕ c ⊕ d) ≡ low_32 a ⊕ low_32 b ⊕ low_32 c ⊕ low_32 d
+xors_low a b c d =
+    let three = xor_mod (a ⊕ b) c 32 ∙ ap (λ (m : ℕ). m ⊕ low_32 c) (xor_mod a b 32) in
+    xor_mod (a ⊕ b ⊕ c) d 32 ∙ ap (λ (m : ℕ). m ⊕ low_32 d) three

@@ -40,7 +40,7 @@ pub sha1_row : (i : AlgorithmId) → i ≡ Sha1 → IsRow i sha1.block_step 64 5
 sha1_row i e = rw e (record { step_is = refl; block_is = refl; count_is = refl })
 
 -- the chunks of a view of a list are the whole chunks at its front
-chained_chunks : (step : List ℕ → List ℕ → List ℕ) (n : ℕ) (h y items : List ℕ) → 0 < n → items ≡ take (length y / n * n) y
+pub chained_chunks : (step : List ℕ → List ℕ → List ℕ) (n : ℕ) (h y items : List ℕ) → 0 < n → items ≡ take (length y / n * n) y
     → chained step n h items (length items / n) ≡ chained step n h y (length y / n)
 chained_chunks step n h y items pos e =
     let k : ℕ = length y / n in
@@ -49,13 +49,13 @@ chained_chunks step n h y items pos e =
     let count : length items / n ≡ k = ap (λ (x : List ℕ). length x / n) e ∙ ap (λ (x : ℕ). x / n) long ∙ mul-div_cancel k pos in
     rw (count, e) (sym (chained-append step n h front (drop (k * n) y) k (omega (arith, long))) ∙ ap (λ (x : List ℕ). chained step n h x k) (take-append-drop (k * n) y))
 
--- the chaining words after the blocks that a view shows
-pub words_run : (a : Algorithm) (s t : DynState) (step : List ℕ → List ℕ → List ℕ) (n count : ℕ) (old new y items : List ℕ)
-    → IsRow a.id step n count → 0 < n → chaining_words a s ≡ old → chaining_words a t ≡ new → items ≡ take (length y / n * n) y
-    → new ≡ chained step n old items (length items / n)
+-- the chaining words after the whole blocks of a list
+pub words_run : (a : Algorithm) (s t : DynState) (step : List ℕ → List ℕ → List ℕ) (n count : ℕ) (old new y : List ℕ)
+    → IsRow a.id step n count → chaining_words a s ≡ old → chaining_words a t ≡ new
+    → new ≡ chained step n old y (length y / n)
     → chaining_words a t ≡ chained (block_function a) (block_len a) (chaining_words a s) y (whole_blocks a (length y))
-words_run a s t step n count old new y items row pos es et ei en =
-    et ∙ en ∙ chained_chunks step n old y items pos ei ∙ sym (rw (row.step_is, row.block_is, es) refl)
+words_run a s t step n count old new y row es et en =
+    et ∙ en ∙ sym (rw (row.step_is, row.block_is, es) refl)
 
 -- all words chain where there are eight
 all_chain : (a : Algorithm) (step : List ℕ → List ℕ → List ℕ) (n : ℕ) (ws : List ℕ) → IsRow a.id step n 8 → length ws ≡ 8
@@ -63,10 +63,10 @@ all_chain : (a : Algorithm) (step : List ℕ → List ℕ → List ℕ) (n : ℕ
 all_chain a step n ws row len = rw row.count_is (take_all 8 ws (omega (arith, len)))
 
 -- the run of a state of eight words that chain
-pub words_run_all : (a : Algorithm) (s t : DynState) (step : List ℕ → List ℕ → List ℕ) (n : ℕ) (old new y items : List ℕ)
-    → IsRow a.id step n 8 → 0 < n → words s ≡ old → words t ≡ new → length old ≡ 8 → length new ≡ 8 → items ≡ take (length y / n * n) y
-    → new ≡ chained step n old items (length items / n)
+pub words_run_all : (a : Algorithm) (s t : DynState) (step : List ℕ → List ℕ → List ℕ) (n : ℕ) (old new y : List ℕ)
+    → IsRow a.id step n 8 → words s ≡ old → words t ≡ new → length old ≡ 8 → length new ≡ 8
+    → new ≡ chained step n old y (length y / n)
     → chaining_words a t ≡ chained (block_function a) (block_len a) (chaining_words a s) y (whole_blocks a (length y))
-words_run_all a s t step n old new y items row pos es et ls lt ei en =
-    words_run a s t step n 8 old new y items row pos (ap (take (word_count a)) es ∙ all_chain a step n old row ls)
-    (ap (take (word_count a)) et ∙ all_chain a step n new row lt) ei en
+words_run_all a s t step n old new y row es et ls lt en =
+    words_run a s t step n 8 old new y row (ap (take (word_count a)) es ∙ all_chain a step n old row ls)
+    (ap (take (word_count a)) et ∙ all_chain a step n new row lt) en

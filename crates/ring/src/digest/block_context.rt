@@ -1,12 +1,13 @@
 //! A context of whole blocks.
 
-ghost use Rattle.std.specs.Prelude.{◌≡◌, ◌↔◌, ℕ, ◌+◌, ◌*◌, ◌<◌, List, [], ◌++◌, length, take, drop, IsTrue, IfOk, IsErr, OnOk, OnErr};
+ghost use Rattle.std.specs.Prelude.{◌≡◌, ◌↔◌, ℕ, ◌+◌, ◌*◌, ◌/◌, ◌<◌, List, [], ◌++◌, length, take, drop, IsTrue, IfOk, IsErr, OnOk, OnErr};
 ghost use Rattle.ring_core.specs.Chunks.{chained};
 ghost use Rattle.ring_core.specs.Cost.{raised};
 ghost use Rattle.ring.specs.Algorithm.{block_function, block_len, chaining_words, is_state_of, max_input_len, output_len, spare_words};
 ghost use Rattle.ring.specs.Cost.{padded_blocks, whole_blocks};
 ghost use Rattle.ring.specs.Digest.{IsDigest, digest_algorithm, digest_of};
 ghost use Rattle.ring.specs.Padding.{padded};
+ghost use Rattle.ring.specs.declared.digest.algorithm.Algorithm.{Algorithm};
 
 use crate::digest::algorithm::{Algorithm, MAX_BLOCK_LEN};
 use crate::digest::dynstate::{DynState, Output};
@@ -15,46 +16,81 @@ use crate::digest::value::Digest;
 use crate::limits::is_message_within;
 use ring_core::cost::Meter;
 use ring_core::digest::sha1::sha1_block_data_order_counted;
-use ring_core::digest::sha2::{block_data_order_32_counted, block_data_order_64_counted};
+use ring_core::digest::sha2::{
+    State32, State64, block_data_order_32_counted, block_data_order_64_counted,
+};
 use ring_core::error::Unspecified;
 use ring_core::polyfill::slice::as_chunks;
 
 #[cfg(test)]
 mod tests;
 
-// The state after each whole block of `input`, and what comes after the last one.
-fn run_blocks<'i>(
+// Makes `words`, of any algorithm of 64-bit words, those after each whole block of `input`, and
+// gives what comes after the last one.
+fn run_blocks_64<'i>(words: &mut State64, input: &'i [u8], meter: &mut Meter) -> &'i [u8]
+    ensures words { (a : Algorithm) → IsTrue (is_state_of a (DynState.As64 words.old))
+        → chaining_words a (DynState.As64 words.new) ≡ chained (block_function a) (block_len a)
+        (chaining_words a (DynState.As64 words.old)) input.now
+        (whole_blocks a (length input.now)) }
+    ensures spare { (a : Algorithm) → IsTrue (is_state_of a (DynState.As64 words.old))
+        → spare_words a (DynState.As64 words.new) ≡ spare_words a (DynState.As64 words.old) }
+    ensures rest { result.now ≡ drop (length input.now / 128 * 128) input.now }
+    ensures cost { meter.new ≡ raised meter.old (length input.now / 128) 0 }
+{
+    let (blocks, rest) = as_chunks::<u8, 128>(input);
+    block_data_order_64_counted(words, blocks, meter);
+    rest
+}
+
+// The same for the words of an algorithm of 32-bit words.
+fn run_blocks_32<'i>(
     algorithm: Algorithm,
-    state: DynState,
+    words: &mut State32,
     input: &'i [u8],
     meter: &mut Meter,
-) -> (DynState, &'i [u8])
-    requires { IsTrue (is_state_of algorithm state) }
-    ensures words { chaining_words algorithm result.0 ≡ chained (block_function algorithm)
-        (block_len algorithm) (chaining_words algorithm state) input.now
+) -> &'i [u8]
+    requires { IsTrue (is_state_of algorithm (DynState.As32 words.old)) }
+    ensures words { chaining_words algorithm (DynState.As32 words.new)
+        ≡ chained (block_function algorithm) (block_len algorithm)
+        (chaining_words algorithm (DynState.As32 words.old)) input.now
         (whole_blocks algorithm (length input.now)) }
-    ensures spare { spare_words algorithm result.0 ≡ spare_words algorithm state }
-    ensures sized { IsTrue (is_state_of algorithm result.0) }
-    ensures rest { result.1.now
+    ensures spare { spare_words algorithm (DynState.As32 words.new)
+        ≡ spare_words algorithm (DynState.As32 words.old) }
+    ensures rest { result.now
+        ≡ drop (whole_blocks algorithm (length input.now) * block_len algorithm) input.now }
+    ensures cost { meter.new
+        ≡ raised meter.old (whole_blocks algorithm (length input.now)) 0 }
+{
+    let (blocks, rest) = as_chunks::<u8, 64>(input);
+    if algorithm.is_sha1() {
+        sha1_block_data_order_counted(words, blocks, meter);
+    } else {
+        block_data_order_32_counted(words, blocks, meter);
+    }
+    rest
+}
+
+// Makes `state` that after each whole block of `input`, and gives what comes after the last one.
+fn run_blocks<'i>(
+    algorithm: Algorithm,
+    state: &mut DynState,
+    input: &'i [u8],
+    meter: &mut Meter,
+) -> &'i [u8]
+    requires { IsTrue (is_state_of algorithm state.old) }
+    ensures words { chaining_words algorithm state.new ≡ chained (block_function algorithm)
+        (block_len algorithm) (chaining_words algorithm state.old) input.now
+        (whole_blocks algorithm (length input.now)) }
+    ensures spare { spare_words algorithm state.new ≡ spare_words algorithm state.old }
+    ensures sized { IsTrue (is_state_of algorithm state.new) }
+    ensures rest { result.now
         ≡ drop (whole_blocks algorithm (length input.now) * block_len algorithm) input.now }
     ensures cost { meter.new
         ≡ raised meter.old (whole_blocks algorithm (length input.now)) 0 }
 {
     match state {
-        DynState::As64(mut words) => {
-            let (blocks, rest) = as_chunks::<u8, 128>(input);
-            block_data_order_64_counted(&mut words, blocks, meter);
-            (DynState::As64(words), rest)
-        }
-        DynState::As32(mut words) => {
-            let (blocks, rest) = as_chunks::<u8, 64>(input);
-            if algorithm.is_sha1() {
-                sha1_block_data_order_counted(&mut words, blocks, meter);
-            } else {
-                block_data_order_32_counted(&mut words, blocks, meter);
-            }
-            (DynState::As32(words), rest)
-        }
+        DynState::As64(words) => run_blocks_64(words, input, meter),
+        DynState::As32(words) => run_blocks_32(algorithm, words, input, meter),
     }
 }
 
@@ -99,7 +135,8 @@ impl BlockContext {
             input.now result.now meter.old meter.new }
         ensures short { length result.now < block_len (block_algorithm self.old) }
     {
-        let (state, rest) = run_blocks(self.algorithm, self.state, input, meter);
+        let mut state = self.state;
+        let rest = run_blocks(self.algorithm, &mut state, input, meter);
         let completed = (input.len() - rest.len()) as u128;
         self.state = state;
         self.completed_bytes = self.completed_bytes.saturating_add(completed);
@@ -115,7 +152,8 @@ impl BlockContext {
         ensures cost { meter.new ≡ raised meter.old
             (whole_blocks (block_algorithm self.now) (length tail.now)) 0 }
     {
-        let (last, _) = run_blocks(self.algorithm, self.state, tail, meter);
+        let mut last = self.state;
+        let _ = run_blocks(self.algorithm, &mut last, tail, meter);
         last.format_output()
     }
 

@@ -1,8 +1,11 @@
 -- How the bytes of words are written one word after another.
-use Rattle.std.proofs.Common.{◌≡◌, ℕ, zero, suc, ◌+◌, ◌-◌, ◌*◌, ◌<◌, ◌≤◌, List, [], ◌∷◌, ◌++◌, length, take, drop, replicate, slice_index, refl, sym, ap, ◌∙◌, arith, length-append}
-use Rattle.std.proofs.lemmas.List.{take_at, drop_at, take_more, drop-replicate, append_assoc, append-nil, length-take-le}
+use Rattle.std.proofs.Common.{◌≡◌, ℕ, zero, suc, ◌+◌, ◌-◌, ◌*◌, ◌/◌, ◌%◌, ◌^◌, ◌<◌, ◌≤◌, List, [], ◌∷◌, ◌++◌, length, take, drop, replicate, slice_index, get_or, refl, sym, ap, ◌∙◌, arith, length-append, map, take-add}
+use Rattle.std.proofs.lemmas.List.{take_at, drop_at, drop_more, get_or-map, length-map, drop-replicate, append_assoc, length-take-le}
 use Rattle.std.proofs.lemmas.List.Concat.{flat_map-append}
-use Rattle.std.specs.Int.{bytes_high_first}
+use Rattle.std.proofs.lemmas.Simd.{get_or_narrower}
+use Rattle.std.specs.Int.{byte_at, bytes_high_first}
+use Rattle.std.specs.Simd.Lanes.{Each1, digits_l, number_l}
+use Rattle.std.specs.declared.num.Wrapping.{Wrapping}
 use Rattle.ring.specs.State.{word_bytes}
 use borrow.Rule.Slice.PartMut.{put_mid}
 
@@ -16,21 +19,87 @@ length-word_bytes n (w ∷ ws) =
     let e : n * (length ws + 1) ≡ n * length ws + n = grind arith in
     omega (arith, length-append (bytes_high_first n w) (word_bytes n ws), length-bytes_high_first n w, length-word_bytes n ws)
 
--- the bytes of one word more
-pub word_bytes-more : (n : ℕ) (ws : List ℕ) (i : ℕ) → i < length ws → word_bytes n (take (i + 1) ws) ≡ word_bytes n (take i ws) ++ bytes_high_first n (slice_index ws i)
-word_bytes-more n ws i h =
-    rw (take_more ws i 0 h, flat_map-append) (rw append-nil refl)
+-- the bytes of some words more
+word_bytes-more : (n : ℕ) (ws : List ℕ) (i m : ℕ)
+    → word_bytes n (take (i + m) ws) ≡ word_bytes n (take i ws) ++ word_bytes n (take m (drop i ws))
+word_bytes-more n ws i m = rw (take-add i m ws, flat_map-append) refl
 
--- one word more written over the zeros
-pub output_more : (n : ℕ) (out ws ys : List ℕ) (i at k : ℕ) → out ≡ word_bytes n (take i ws) ++ replicate (64 - n * i) 0 → i < length ws
-    → at ≡ n * i → k ≡ n → n * i + n ≤ 64 → ys ≡ bytes_high_first n (slice_index ws i)
-    → put_mid at k out ys ≡ word_bytes n (take (i + 1) ws) ++ replicate (64 - n * (i + 1)) 0
-output_more n out ws ys i at k e h ea ek fits ey =
+-- some words more written over the zeros
+pub output_more : (n : ℕ) (out ws ys : List ℕ) (i m j at k : ℕ)
+    → out ≡ word_bytes n (take i ws) ++ replicate (64 - n * i) 0
+    → i ≤ length ws → j ≡ i + m → at ≡ n * i → k ≡ n * m → n * i + n * m ≤ 64
+    → ys ≡ word_bytes n (take m (drop i ws))
+    → put_mid at k out ys ≡ word_bytes n (take j ws) ++ replicate (64 - n * j) 0
+output_more n out ws ys i m j at k e h ej ea ek fits ey =
     let front : List ℕ = word_bytes n (take i ws) in
     let zeros : List ℕ = replicate (64 - n * i) 0 in
-    let len : length front ≡ n * i = length-word_bytes n (take i ws) ∙ ap (λ (z : ℕ). n * z) (length-take-le i ws (omega arith)) in
-    let turn : n * (i + 1) ≡ n * i + n = grind arith in
-    let left : 64 - n * (i + 1) ≡ 64 - n * i - n = omega arith in
+    let len : length front ≡ n * i =
+    length-word_bytes n (take i ws) ∙ ap (λ (z : ℕ). n * z) (length-take-le i ws h) in
+    let turn : n * (i + m) ≡ n * i + n * m = grind arith in
+    let left : 64 - n * (i + m) ≡ 64 - n * i - n * m = omega (arith, turn) in
     let head : take (n * i) out ≡ front = rw e (take_at front zeros (n * i) len) in
     let tail : drop (n * i) out ≡ zeros = rw e (drop_at front zeros (n * i) len) in
-    rw (ea, ek, head, tail, drop-replicate {X = ℕ} n (64 - n * i) 0, left, word_bytes-more n ws i h, ey) (sym (append_assoc (word_bytes n (take i ws)) (bytes_high_first n (slice_index ws i)) (replicate (64 - n * i - n) 0)))
+    rw (
+      ej,
+      ea,
+      ek,
+      head,
+      tail,
+      drop-replicate {X = ℕ} (n * m) (64 - n * i) 0,
+      left,
+      word_bytes-more n ws i m,
+      ey,
+    ) (sym (append_assoc front (word_bytes n (take m (drop i ws))) (replicate (64 - n * i - n * m) 0)))
+
+-- the number of a word of w bits in a list
+word_at : (w : ℕ) (ws : List (Wrapping ℕ)) (i : ℕ) (d : Wrapping ℕ) → i < length ws
+    → (get_or ws i d).0 % 2 ^ w ≡ slice_index (map (λ (x : Wrapping ℕ). x.0 % 2 ^ w) ws) i
+word_at w ws i d below = sym (get_or-map (λ (x : Wrapping ℕ). x.0 % 2 ^ w) ws i d 0 below)
+
+-- the numbers of two words in a list
+pub two_words : (w : ℕ) (ws : List (Wrapping ℕ)) (i : ℕ) (d : Wrapping ℕ) → i + 2 ≤ length ws
+    → (get_or ws i d).0 % 2 ^ w ∷ (get_or ws (i + 1) d).0 % 2 ^ w ∷ []
+    ≡ take 2 (drop i (map (λ (x : Wrapping ℕ). x.0 % 2 ^ w) ws))
+two_words w ws i d h =
+    let xs = map (λ (x : Wrapping ℕ). x.0 % 2 ^ w) ws in
+    let long : length xs ≡ length ws = length-map ws (λ (x : Wrapping ℕ). x.0 % 2 ^ w) in
+    rw (
+      word_at w ws i d (omega arith),
+      word_at w ws (i + 1) d (omega arith),
+      drop_more xs i 0 (omega arith),
+      drop_more xs (i + 1) 0 (omega arith),
+    ) refl
+
+-- the numbers of four words in a list
+pub four_words : (w : ℕ) (ws : List (Wrapping ℕ)) (i : ℕ) (d : Wrapping ℕ) → i + 4 ≤ length ws
+    → (get_or ws i d).0 % 2 ^ w ∷ (get_or ws (i + 1) d).0 % 2 ^ w
+    ∷ (get_or ws (i + 2) d).0 % 2 ^ w ∷ (get_or ws (i + 3) d).0 % 2 ^ w ∷ []
+    ≡ take 4 (drop i (map (λ (x : Wrapping ℕ). x.0 % 2 ^ w) ws))
+four_words w ws i d h =
+    let xs = map (λ (x : Wrapping ℕ). x.0 % 2 ^ w) ws in
+    let long : length xs ≡ length ws = length-map ws (λ (x : Wrapping ℕ). x.0 % 2 ^ w) in
+    let e2 : i + 1 + 1 ≡ i + 2 = omega arith in
+    let e3 : i + 2 + 1 ≡ i + 3 = omega arith in
+    rw (
+      word_at w ws i d (omega arith),
+      word_at w ws (i + 1) d (omega arith),
+      word_at w ws (i + 2) d (omega arith),
+      word_at w ws (i + 3) d (omega arith),
+      drop_more xs i 0 (omega arith),
+      drop_more xs (i + 1) 0 (omega arith),
+      e2,
+      drop_more xs (i + 2) 0 (omega arith),
+      e3,
+      drop_more xs (i + 3) 0 (omega arith),
+    ) refl
+
+-- byte i of a number
+byte_is : (i x : ℕ) → x / 256 ^ i % 256 ≡ byte_at i x
+byte_is zero x = omega arith
+byte_is (suc i) x = refl
+
+-- byte i of lane j, where a lane has k bytes
+pub lane_byte : (k n : ℕ) (xs : List ℕ) (j i : ℕ) → Each1 (λ x. x < 256 ^ k) xs → i < k → k * j + i < n
+    → get_or (digits_l 256 n (number_l (256 ^ k) xs)) (k * j + i) 0 ≡ byte_at i (get_or xs j 0)
+lane_byte k n xs j i fits below within =
+    get_or_narrower (256 ^ k) k 256 n xs j i refl fits below within ∙ byte_is i (get_or xs j 0)

@@ -10,7 +10,7 @@ ghost use Rattle.ring.specs.Padding.{padded};
 ghost use Rattle.ring.specs.declared.digest.algorithm.Algorithm.{Algorithm};
 
 use crate::digest::algorithm::{Algorithm, MAX_BLOCK_LEN};
-use crate::digest::dynstate::{DynState, Output};
+use crate::digest::dynstate::{DynState, Output, long_output, short_output};
 use crate::digest::padding;
 use crate::digest::value::Digest;
 use crate::limits::is_message_within;
@@ -143,7 +143,9 @@ impl BlockContext {
         rest
     }
 
-    // The output after the blocks so far and those of `tail`, which ends a padded message.
+    // The output after the blocks so far and those of `tail`, which ends a padded message. Each size
+    // of words goes its own way to the end, so that what the block function wrote is read where and
+    // as it was written.
     pub(crate) fn output_after(&self, tail: &[u8], meter: &mut Meter) -> Output
         ensures ok { (p m : List ℕ) → HasTaken self.now p
             → p ++ tail.now ≡ padded (block_algorithm self.now) m
@@ -152,9 +154,16 @@ impl BlockContext {
         ensures cost { meter.new ≡ raised meter.old
             (whole_blocks (block_algorithm self.now) (length tail.now)) 0 }
     {
-        let mut last = self.state;
-        let _ = run_blocks(self.algorithm, &mut last, tail, meter);
-        last.format_output()
+        match self.state {
+            DynState::As64(mut words) => {
+                let _ = run_blocks_64(&mut words, tail, meter);
+                long_output(&words)
+            }
+            DynState::As32(mut words) => {
+                let _ = run_blocks_32(self.algorithm, &mut words, tail, meter);
+                short_output(&words)
+            }
+        }
     }
 
     // The digest of the blocks and the pending bytes, which are the front of `block`.

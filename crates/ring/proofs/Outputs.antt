@@ -49,7 +49,8 @@ output_more n out ws ys i m j at k e h ej ea ek fits ey =
       left,
       word_bytes-more n ws i m,
       ey,
-    ) (sym (append_assoc front (word_bytes n (take m (drop i ws))) (replicate (64 - n * i - n * m) 0)))
+    ) (sym (append_assoc front (word_bytes n (take m (drop i ws)))
+    (replicate (64 - n * i - n * m) 0)))
 
 -- the number of a word of w bits in a list
 word_at : (w : ℕ) (ws : List (Wrapping ℕ)) (i : ℕ) (d : Wrapping ℕ) → i < length ws
@@ -99,7 +100,24 @@ byte_is zero x = omega arith
 byte_is (suc i) x = refl
 
 -- byte i of lane j, where a lane has k bytes
-pub lane_byte : (k n : ℕ) (xs : List ℕ) (j i : ℕ) → Each1 (λ x. x < 256 ^ k) xs → i < k → k * j + i < n
+lane_byte : (k n : ℕ) (xs : List ℕ) (j i : ℕ)
+    → Each1 (λ x. x < 256 ^ k) xs → i < k → k * j + i < n
     → get_or (digits_l 256 n (number_l (256 ^ k) xs)) (k * j + i) 0 ≡ byte_at i (get_or xs j 0)
 lane_byte k n xs j i fits below within =
     get_or_narrower (256 ^ k) k 256 n xs j i refl fits below within ∙ byte_is i (get_or xs j 0)
+
+-- the numbers below n, the greatest first
+abbrev pub down : ℕ → List ℕ
+down zero = []
+down (suc i) = i ∷ down i
+
+-- the lowest i bytes of lane j, the highest first
+pub lane_bytes : (k n : ℕ) (xs : List ℕ) (j i : ℕ)
+    → Each1 (λ x. x < 256 ^ k) xs → i ≤ k → k * j + k ≤ n
+    → map (λ m. get_or (digits_l 256 n (number_l (256 ^ k) xs)) (k * j + m) 0) (down i)
+    ≡ bytes_high_first i (get_or xs j 0)
+lane_bytes k n xs j zero fits below within = refl
+lane_bytes k n xs j (suc i) fits below within =
+    let one = lane_byte k n xs j i fits (omega arith) (omega arith) in
+    let rest = lane_bytes k n xs j i fits (omega arith) within in
+    (λ t. one t ∷ rest t)

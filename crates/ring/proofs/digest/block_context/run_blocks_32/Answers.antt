@@ -18,7 +18,8 @@ returns-then-is_sha1-clause-words c =
     let old = c.args.words.now in
     let new = c.sha1_block_data_order_counted.new.state in
     let five = take 5 (words_32 old) in
-    let is : a ≡ SHA1_FOR_LEGACY_USE_ONLY = search (rules, c.if-is_sha1.ensures, c.if-is_sha1.true) in
+    let is : a ≡ SHA1_FOR_LEGACY_USE_ONLY =
+    search (rules, c.if-is_sha1.ensures, c.if-is_sha1.true) in
     let row = sha1_row a.id (ap (λ (z : Algorithm). z.id) is) in
     words_run a (As32 old) (As32 new) sha1.block_step 64 5 five (take 5 (words_32 new)) input row
     (rw row.count_is refl) (rw row.count_is refl)

@@ -4,4 +4,6 @@ use Rattle.ring.specs.State.{word_bytes}
 use Rattle.ring.proofs.digest.dynstate.long_output.Given as goal
 
 abbrev pub invariant-pairs : goal.invariant-pairs
-invariant-pairs l = l.out ≡ word_bytes 8 (take (2 * l.i) (words_64 l.words)) ++ replicate (64 - 8 * (2 * l.i)) 0
+invariant-pairs l =
+    l.out
+    ≡ word_bytes 8 (take (2 * l.i) (words_64 l.words)) ++ replicate (64 - 8 * (2 * l.i)) 0

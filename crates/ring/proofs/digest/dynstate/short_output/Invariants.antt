@@ -4,4 +4,6 @@ use Rattle.ring.specs.State.{word_bytes}
 use Rattle.ring.proofs.digest.dynstate.short_output.Given as goal
 
 abbrev pub invariant-fours : goal.invariant-fours
-invariant-fours l = l.out ≡ word_bytes 4 (take (4 * l.i) (words_32 l.words)) ++ replicate (64 - 4 * (4 * l.i)) 0
+invariant-fours l =
+    l.out
+    ≡ word_bytes 4 (take (4 * l.i) (words_32 l.words)) ++ replicate (64 - 4 * (4 * l.i)) 0

@@ -19,3 +19,4 @@ pub mod Expanding
 pub mod Iterates
 pub mod Rounds
 pub mod Comparing
+pub mod Numbers

@@ -14,3 +14,4 @@ pub mod Hmac
 pub mod Hkdf
 pub mod Okm
 pub mod Pbkdf2
+pub mod Raw

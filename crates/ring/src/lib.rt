@@ -7,6 +7,7 @@
 //! - [`rand`]: byte sources of the caller's own, and values made of their bytes.
 //! - [`hkdf`]: keys from secrets.
 //! - [`pbkdf2`]: keys from passwords.
+//! - [`raw`]: contexts and keys as plain numbers.
 //! - [`laws`]: what a caller can rely on beside single calls.
 //!
 //! The examples of these modules stand proved in the crate `ring_uses`, with their imports.
@@ -19,5 +20,6 @@ pub mod laws;
 mod limits;
 pub mod pbkdf2;
 pub mod rand;
+pub mod raw;
 
 pub use ring_core::{bb, bits, cost, error, polyfill};

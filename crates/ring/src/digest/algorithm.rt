@@ -14,11 +14,11 @@ use std::fmt;
 /// A digest algorithm: one of the five constants below.
 #[derive(Clone, Copy, PartialEq, Eq)]
 pub struct Algorithm {
-    id: AlgorithmId,
+    pub(crate) id: AlgorithmId,
 }
 
 #[derive(Clone, Copy, PartialEq, Eq)]
-enum AlgorithmId {
+pub(crate) enum AlgorithmId {
     Sha1,
     Sha256,
     Sha384,

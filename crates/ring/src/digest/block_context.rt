@@ -98,8 +98,8 @@ fn run_blocks<'i>(
 // The count comes first, so that its alignment leaves no gap.
 #[derive(Drop)]
 pub(crate) struct BlockContext {
-    completed_bytes: u128,
-    state: DynState,
+    pub(crate) completed_bytes: u128,
+    pub(crate) state: DynState,
     pub(crate) algorithm: Algorithm,
     ghost sized: { IsTrue (is_state_of algorithm state) },
 }

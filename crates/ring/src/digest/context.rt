@@ -15,9 +15,9 @@ use ring_core::error::Unspecified;
 /// The digest of a message that comes in pieces: it stands for an algorithm and the joined pieces.
 #[derive(Drop)]
 pub struct Context {
-    block: BlockContext,
-    pending: [u8; MAX_BLOCK_LEN],
-    num_pending: usize,
+    pub(crate) block: BlockContext,
+    pub(crate) pending: [u8; MAX_BLOCK_LEN],
+    pub(crate) num_pending: usize,
     ghost partial: { num_pending < block_len block.algorithm },
 }
 

@@ -17,8 +17,8 @@ use std::fmt;
 /// The tag of a message that comes in pieces: it stands for a key and the joined pieces.
 #[derive(Drop)]
 pub struct Context {
-    inner: digest::Context,
-    outer: BlockContext,
+    pub(crate) inner: digest::Context,
+    pub(crate) outer: BlockContext,
     ghost same: { block_algorithm outer ≡ context_algorithm inner },
     ghost inner_block: { block_len (context_algorithm inner) ≤ message_len inner },
     ghost outer_block: { counted_bytes outer ≡ block_len (block_algorithm outer) },

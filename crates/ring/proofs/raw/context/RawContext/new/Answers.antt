@@ -1,0 +1,16 @@
+use Rattle.std.proofs.Common.{◌∙◌}
+use Rattle.ring.specs.Context.{StandsFor}
+use Rattle.ring.specs.Raw.{RawStandsFor}
+use Rattle.ring.proofs.raw.context.RawContext.new.Goals as goal
+
+pub returns : goal.returns
+unfolding StandsFor RawStandsFor
+returns c = λ m h.
+    record {
+      algorithm = c.number_of_digest.ensures;
+      blocks = h.whole;
+      state = c.numbers_of_block.ensures h.whole h.taken;
+      count = c.halves-completed_low.ensures ∙ h.taken.count;
+      partial = c.args.context.now.partial;
+      message = h.message;
+    }

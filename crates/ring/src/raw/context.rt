@@ -1,0 +1,95 @@
+//! The numbers of a digest's context.
+
+ghost use Rattle.std.specs.Prelude.{◌≡◌, ℕ, List, ◌++◌, IfSome, IsSomeAnd, IsTrue, IsFalse, Some};
+ghost use Rattle.ring.specs.Context.{StandsFor, context_algorithm};
+ghost use Rattle.ring.specs.declared.digest.algorithm.Algorithm.{Algorithm};
+
+use crate::digest::algorithm::MAX_BLOCK_LEN;
+use crate::digest::context::Context;
+use crate::raw::number::{digest_of_number, number_of_digest};
+use crate::raw::words::{block_of, halves, joined, numbers_of_block};
+
+/// A digest's context.
+#[repr(C)]
+#[derive(Clone, Copy)]
+pub struct RawContext {
+    /// The algorithm's number.
+    pub algorithm: u32,
+    /// How many of the pending bytes count.
+    pub num_pending: u32,
+    /// The bytes of the blocks that were run: the lower 64 bits of their count.
+    pub completed_low: u64,
+    /// The upper 64 bits of that count, which is cut off at `u128::MAX`.
+    pub completed_high: u64,
+    /// The chaining words.
+    pub words: [u64; 8],
+    /// The bytes that wait for their block to be full, and any bytes behind them.
+    pub pending: [u8; MAX_BLOCK_LEN],
+}
+
+impl RawContext {
+    ghost use Rattle.ring.specs.Raw.{RawStandsFor, digest_named};
+
+    /// The numbers of a context.
+    #[tactic(auto, unfolding(crate::specs::Raw::RawStandsFor))]
+    pub fn new(context: &Context) -> Self
+        ensures { (m : List ℕ) → StandsFor context.now m
+            → RawStandsFor result (context_algorithm context.now) m }
+    {
+        let (completed_low, completed_high) = halves(context.block.completed_bytes);
+        RawContext {
+            algorithm: number_of_digest(&context.block.algorithm),
+            num_pending: context.num_pending as u32,
+            completed_low,
+            completed_high,
+            words: numbers_of_block(&context.block),
+            pending: context.pending,
+        }
+    }
+
+    /// Adds `input` to the message where that leaves the pending block short, which takes less than
+    /// a context that is made and read again: true where it did, and else nothing was changed.
+    #[tactic(auto, unfolding(crate::specs::Raw::RawStandsFor))]
+    pub fn keep(&mut self, input: &[u8]) -> bool
+        ensures stands { IsTrue result → (a : Algorithm) (m : List ℕ)
+            → RawStandsFor self.old a m → RawStandsFor self.new a (m ++ input.now) }
+        ensures unchanged { IsFalse result → self.new ≡ self.old }
+    {
+        let Some(algorithm) = digest_of_number(self.algorithm) else {
+            return false;
+        };
+        let block_len = algorithm.block_len();
+        let num_pending = self.num_pending as usize;
+        if num_pending >= block_len || input.len() >= block_len - num_pending {
+            return false;
+        }
+        let end = num_pending + input.len();
+        self.pending[num_pending..end].copy_from_slice(input);
+        self.num_pending = end as u32;
+        true
+    }
+
+    /// The context of these numbers: `None` where they name no algorithm, or more pending bytes
+    /// than a block leaves.
+    #[tactic(auto, unfolding(crate::specs::Raw::RawStandsFor))]
+    pub fn context(&self) -> Option<Context>
+        ensures stands { (a : Algorithm) (m : List ℕ) → RawStandsFor self.now a m
+            → IsSomeAnd result (λ c. StandsFor c m × (context_algorithm c ≡ a)) }
+        ensures algorithm { IfSome result (λ c.
+            digest_named self.now.algorithm ≡ Some (context_algorithm c)) }
+    {
+        let Some(algorithm) = digest_of_number(self.algorithm) else {
+            return None;
+        };
+        let num_pending = self.num_pending as usize;
+        if num_pending >= algorithm.block_len() {
+            return None;
+        }
+        let completed_bytes = joined(self.completed_low, self.completed_high);
+        Some(Context {
+            block: block_of(&algorithm, &self.words, completed_bytes),
+            pending: self.pending,
+            num_pending,
+        })
+    }
+}

@@ -1,0 +1,57 @@
+//! The numbers of a key.
+
+ghost use Rattle.std.specs.Prelude.{◌≡◌, ℕ, List, IsSomeAnd};
+ghost use Rattle.ring.specs.Hmac.{KeyStandsFor, key_algorithm};
+ghost use Rattle.ring.specs.declared.digest.algorithm.Algorithm.{Algorithm};
+
+use crate::hmac::key::Key;
+use crate::raw::number::{digest_of_number, number_of_digest};
+use crate::raw::words::{block_of, numbers_of_block};
+
+/// A key: the chaining words after each of its two masked blocks.
+#[repr(C)]
+#[derive(Clone, Copy)]
+pub struct RawKey {
+    /// The number of the digest algorithm.
+    pub algorithm: u32,
+    /// Nothing yet: what fills the gap before the words.
+    pub reserved: u32,
+    /// The words before the message.
+    pub inner: [u64; 8],
+    /// The words before the inner digest.
+    pub outer: [u64; 8],
+}
+
+impl RawKey {
+    ghost use Rattle.ring.specs.Raw.{RawKeyStandsFor};
+
+    /// The numbers of a key.
+    #[tactic(auto, unfolding(crate::specs::Raw::RawKeyStandsFor))]
+    pub fn new(key: &Key) -> Self
+        ensures { (k : List ℕ) → KeyStandsFor key.now k
+            → RawKeyStandsFor result (key_algorithm key.now) k }
+    {
+        RawKey {
+            algorithm: number_of_digest(&key.inner.algorithm),
+            reserved: 0,
+            inner: numbers_of_block(&key.inner),
+            outer: numbers_of_block(&key.outer),
+        }
+    }
+
+    /// The key of these numbers: `None` where they name no algorithm.
+    #[tactic(auto, unfolding(crate::specs::Raw::RawKeyStandsFor))]
+    pub fn key(&self) -> Option<Key>
+        ensures { (a : Algorithm) (k : List ℕ) → RawKeyStandsFor self.now a k
+            → IsSomeAnd result (λ key. KeyStandsFor key k × (key_algorithm key ≡ a)) }
+    {
+        let Some(algorithm) = digest_of_number(self.algorithm) else {
+            return None;
+        };
+        let block_len = algorithm.block_len() as u128;
+        Some(Key {
+            inner: block_of(&algorithm, &self.inner, block_len),
+            outer: block_of(&algorithm, &self.outer, block_len),
+        })
+    }
+}

@@ -1,0 +1,138 @@
+//! States and counts as plain numbers.
+
+ghost use Rattle.std.specs.Prelude.{◌≡◌, ◌+◌, ◌*◌, ◌%◌, ◌^◌, ℕ, List, IsTrue, length, map};
+ghost use Rattle.ring_core.specs.Sha2.{words_32, words_64};
+ghost use Rattle.ring.specs.Algorithm.{is_state_of};
+ghost use Rattle.ring.specs.Context.{HasTaken, block_algorithm, counted_bytes, cut_off};
+ghost use Rattle.ring.specs.Raw.{IsRawState, joined_halves, raw_words};
+ghost use Rattle.ring.specs.State.{words};
+
+use crate::digest::algorithm::Algorithm;
+use crate::digest::block_context::BlockContext;
+use crate::digest::dynstate::DynState;
+use ring_core::digest::sha2::{State32, State64};
+use std::num::Wrapping;
+
+// A parameter that is a number is known to fit its type, and one inside a struct isn't.
+fn wide(word: u32) -> u64
+    ensures { result ≡ word % 2 ^ 32 }
+{
+    word as u64
+}
+
+fn whole(word: u64) -> u64
+    ensures { result ≡ word % 2 ^ 64 }
+{
+    word
+}
+
+fn low(word: u64) -> u32
+    ensures { result ≡ word % 2 ^ 32 }
+{
+    (word % (1 << 32)) as u32
+}
+
+// The numbers of words of 32 bits.
+fn numbers_32(words: &State32) -> [u64; 8]
+    ensures { result ≡ words_32 words.now }
+{
+    let mut numbers = [0; 8];
+    'words: for i in 0..8 {
+        numbers[i] = wide(words[i].0);
+    }
+    numbers
+}
+
+// The numbers of words of 64 bits.
+fn numbers_64(words: &State64) -> [u64; 8]
+    ensures { result ≡ words_64 words.now }
+{
+    let mut numbers = [0; 8];
+    'words: for i in 0..8 {
+        numbers[i] = whole(words[i].0);
+    }
+    numbers
+}
+
+// The words of 32 bits of these numbers.
+fn words_of_32(numbers: &[u64; 8]) -> State32
+    ensures { words_32 result ≡ map (λ n. n % 2 ^ 32) numbers.now }
+{
+    let mut words = [Wrapping(0); 8];
+    'words: for i in 0..8 {
+        words[i] = Wrapping(low(numbers[i]));
+    }
+    words
+}
+
+// The words of 64 bits of these numbers.
+fn words_of_64(numbers: &[u64; 8]) -> State64
+    ensures { words_64 result ≡ map (λ n. n % 2 ^ 64) numbers.now }
+{
+    let mut words = [Wrapping(0); 8];
+    'words: for i in 0..8 {
+        words[i] = Wrapping(whole(numbers[i]));
+    }
+    words
+}
+
+// The numbers of a state.
+fn numbers_of(state: &DynState) -> [u64; 8]
+    ensures { result ≡ words state.now }
+{
+    match state {
+        DynState::As64(words) => numbers_64(words),
+        DynState::As32(words) => numbers_32(words),
+    }
+}
+
+// The state of these numbers.
+fn state_of(algorithm: &Algorithm, numbers: &[u64; 8]) -> DynState
+    ensures words { words result ≡ raw_words algorithm.now numbers.now }
+    ensures sized { IsTrue (is_state_of algorithm.now result) }
+{
+    match algorithm.initial_state() {
+        DynState::As64(_) => DynState::As64(words_of_64(numbers)),
+        DynState::As32(_) => DynState::As32(words_of_32(numbers)),
+    }
+}
+
+// The numbers of the state after whole blocks.
+pub(crate) fn numbers_of_block(block: &BlockContext) -> [u64; 8]
+    ensures { (p : List ℕ) → HasTaken block.now p
+        → IsRawState (block_algorithm block.now) result p }
+{
+    numbers_of(&block.state)
+}
+
+// The block context of these numbers.
+pub(crate) fn block_of(
+    algorithm: &Algorithm,
+    numbers: &[u64; 8],
+    completed_bytes: u128,
+) -> BlockContext
+    ensures stands { (p : List ℕ) → IsRawState algorithm.now numbers.now p
+        → completed_bytes ≡ cut_off (length p) → HasTaken result p }
+    ensures algorithm { block_algorithm result ≡ algorithm.now }
+    ensures counted { counted_bytes result ≡ completed_bytes }
+{
+    BlockContext {
+        state: state_of(algorithm, numbers),
+        completed_bytes,
+        algorithm: *algorithm,
+    }
+}
+
+// The lower and the upper 64 bits of a count.
+pub(crate) fn halves(count: u128) -> (u64, u64)
+    ensures { joined_halves result.0 result.1 ≡ count }
+{
+    ((count % (1 << 64)) as u64, (count >> 64) as u64)
+}
+
+// The count of these halves.
+pub(crate) fn joined(low: u64, high: u64) -> u128
+    ensures { result ≡ joined_halves low high }
+{
+    ((high as u128) << 64) + low as u128
+}

@@ -1,0 +1,75 @@
+//! Keys from passwords.
+
+ghost use Rattle.std.specs.Prelude.{◌≡◌, ◌≢◌, ◌↔◌, ◌<◌, Some, None, length};
+ghost use Rattle.ring.specs.Limits.{CanDerive};
+ghost use Rattle.ring.specs.Pbkdf2.{IsDerived, dk, prf_algorithm};
+ghost use Rattle.ring.specs.declared.pbkdf2.algorithm.Algorithm.{Algorithm};
+ghost use Rattle.yz_c.specs.Number.{pbkdf2_named};
+
+use crate::number::pbkdf2_of_number;
+use crate::status::{NO_ITERATIONS, OK, UNKNOWN_ALGORITHM, UNSPECIFIED};
+use ring::pbkdf2;
+use std::num::NonZeroU32;
+
+/// Fills `out` with the key that is derived from `secret`.
+#[unsafe(no_mangle)]
+pub extern "C" fn yz_pbkdf2_derive(
+    algorithm: u32,
+    iterations: u32,
+    salt: &[u8],
+    secret: &[u8],
+    out: &mut [u8],
+) -> i32
+    ensures ok { (a : Algorithm) → pbkdf2_named algorithm ≡ Some a → result ≡ OK
+        → out.new ≡ dk (prf_algorithm a) secret.now salt.now iterations (length out.old) }
+    ensures unknown { result ≡ UNKNOWN_ALGORITHM ↔ pbkdf2_named algorithm ≡ None }
+    ensures no_iterations { (a : Algorithm) → pbkdf2_named algorithm ≡ Some a
+        → (result ≡ NO_ITERATIONS ↔ iterations ≡ 0) }
+    ensures refused { (a : Algorithm) → pbkdf2_named algorithm ≡ Some a → 0 < iterations
+        → (result ≡ OK ↔ CanDerive (prf_algorithm a)
+        (length secret.now) (length salt.now) (length out.old)) }
+    ensures told { (a : Algorithm) → pbkdf2_named algorithm ≡ Some a → 0 < iterations
+        → result ≢ OK → result ≡ UNSPECIFIED }
+    ensures unchanged { result ≢ OK → out.new ≡ out.old }
+{
+    let Some(algorithm) = pbkdf2_of_number(algorithm) else {
+        return UNKNOWN_ALGORITHM;
+    };
+    let Some(iterations) = NonZeroU32::new(iterations) else {
+        return NO_ITERATIONS;
+    };
+    match pbkdf2::derive(algorithm, iterations, salt, secret, out) {
+        Ok(()) => OK,
+        Err(_) => UNSPECIFIED,
+    }
+}
+
+/// 0 exactly where `derived` isn't empty and is what `yz_pbkdf2_derive` gives for its length.
+#[unsafe(no_mangle)]
+pub extern "C" fn yz_pbkdf2_verify(
+    algorithm: u32,
+    iterations: u32,
+    salt: &[u8],
+    secret: &[u8],
+    derived: &[u8],
+) -> i32
+    ensures ok { (a : Algorithm) → pbkdf2_named algorithm ≡ Some a → 0 < iterations
+        → (result ≡ OK ↔ IsDerived (prf_algorithm a)
+        secret.now salt.now iterations derived.now) }
+    ensures unknown { result ≡ UNKNOWN_ALGORITHM ↔ pbkdf2_named algorithm ≡ None }
+    ensures no_iterations { (a : Algorithm) → pbkdf2_named algorithm ≡ Some a
+        → (result ≡ NO_ITERATIONS ↔ iterations ≡ 0) }
+    ensures told { (a : Algorithm) → pbkdf2_named algorithm ≡ Some a → 0 < iterations
+        → result ≢ OK → result ≡ UNSPECIFIED }
+{
+    let Some(algorithm) = pbkdf2_of_number(algorithm) else {
+        return UNKNOWN_ALGORITHM;
+    };
+    let Some(iterations) = NonZeroU32::new(iterations) else {
+        return NO_ITERATIONS;
+    };
+    match pbkdf2::verify(algorithm, iterations, salt, secret, derived) {
+        Ok(()) => OK,
+        Err(_) => UNSPECIFIED,
+    }
+}

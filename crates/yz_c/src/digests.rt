@@ -1,0 +1,101 @@
+//! Digests.
+
+ghost use Rattle.std.specs.Prelude.{◌≡◌, ◌≢◌, ◌↔◌, ◌++◌, [], ℕ, List, Some, None, length};
+ghost use Rattle.ring.specs.Algorithm.{output_len};
+ghost use Rattle.ring.specs.Digest.{digest_of};
+ghost use Rattle.ring.specs.Limits.{IsMessageWithin};
+ghost use Rattle.ring.specs.Raw.{RawStandsFor, digest_named};
+ghost use Rattle.ring.specs.declared.digest.algorithm.Algorithm.{Algorithm};
+
+use crate::status::{OK, UNKNOWN_ALGORITHM, UNKNOWN_CONTEXT, UNSPECIFIED, WRONG_LENGTH};
+use ring::digest::{self, Context};
+use ring::raw::{RawContext, digest_of_number};
+
+/// Writes the digest of `message` over `out`, which has its length.
+#[unsafe(no_mangle)]
+pub extern "C" fn yz_digest(algorithm: u32, message: &[u8], out: &mut [u8]) -> i32
+    ensures ok { (a : Algorithm) → digest_named algorithm ≡ Some a → result ≡ OK
+        → out.new ≡ digest_of a message.now }
+    ensures unknown { result ≡ UNKNOWN_ALGORITHM ↔ digest_named algorithm ≡ None }
+    ensures wrong_length { (a : Algorithm) → digest_named algorithm ≡ Some a
+        → (result ≡ WRONG_LENGTH ↔ length out.old ≢ output_len a) }
+    ensures refused { (a : Algorithm) → digest_named algorithm ≡ Some a
+        → length out.old ≡ output_len a
+        → (result ≡ OK ↔ IsMessageWithin a (length message.now)) }
+    ensures told { (a : Algorithm) → digest_named algorithm ≡ Some a
+        → length out.old ≡ output_len a → result ≢ OK → result ≡ UNSPECIFIED }
+    ensures unchanged { result ≢ OK → out.new ≡ out.old }
+{
+    let Some(algorithm) = digest_of_number(algorithm) else {
+        return UNKNOWN_ALGORITHM;
+    };
+    if out.len() != algorithm.output_len() {
+        return WRONG_LENGTH;
+    }
+    let Ok(made) = digest::digest(&algorithm, message) else {
+        return UNSPECIFIED;
+    };
+    out.copy_from_slice(made.as_ref());
+    OK
+}
+
+/// Begins the digest of a message that comes in pieces.
+#[unsafe(no_mangle)]
+pub extern "C" fn yz_digest_init(algorithm: u32, context: &mut RawContext) -> i32
+    ensures ok { (a : Algorithm) → digest_named algorithm ≡ Some a
+        → result ≡ OK × RawStandsFor context.new a [] }
+    ensures unknown { result ≡ UNKNOWN_ALGORITHM ↔ digest_named algorithm ≡ None }
+    ensures unchanged { result ≢ OK → context.new ≡ context.old }
+{
+    let Some(algorithm) = digest_of_number(algorithm) else {
+        return UNKNOWN_ALGORITHM;
+    };
+    *context = RawContext::new(&Context::new(&algorithm));
+    OK
+}
+
+/// Adds `input` to the message.
+#[unsafe(no_mangle)]
+pub extern "C" fn yz_digest_update(context: &mut RawContext, input: &[u8]) -> i32
+    ensures ok { (a : Algorithm) (m : List ℕ) → RawStandsFor context.old a m
+        → result ≡ OK × RawStandsFor context.new a (m ++ input.now) }
+    ensures told { result ≢ OK → result ≡ UNKNOWN_CONTEXT }
+    ensures unchanged { result ≢ OK → context.new ≡ context.old }
+{
+    if context.keep(input) {
+        return OK;
+    }
+    let Some(mut running) = context.context() else {
+        return UNKNOWN_CONTEXT;
+    };
+    running.update(input);
+    *context = RawContext::new(&running);
+    OK
+}
+
+/// Writes the digest of the message so far over `out`, which has its length. The context stays, and
+/// may go on.
+#[unsafe(no_mangle)]
+pub extern "C" fn yz_digest_final(context: &RawContext, out: &mut [u8]) -> i32
+    ensures ok { (a : Algorithm) (m : List ℕ) → RawStandsFor context.now a m → result ≡ OK
+        → out.new ≡ digest_of a m }
+    ensures wrong_length { (a : Algorithm) (m : List ℕ) → RawStandsFor context.now a m
+        → (result ≡ WRONG_LENGTH ↔ length out.old ≢ output_len a) }
+    ensures refused { (a : Algorithm) (m : List ℕ) → RawStandsFor context.now a m
+        → length out.old ≡ output_len a → (result ≡ OK ↔ IsMessageWithin a (length m)) }
+    ensures told { (a : Algorithm) (m : List ℕ) → RawStandsFor context.now a m
+        → length out.old ≡ output_len a → result ≢ OK → result ≡ UNSPECIFIED }
+    ensures unchanged { result ≢ OK → out.new ≡ out.old }
+{
+    let Some(running) = context.context() else {
+        return UNKNOWN_CONTEXT;
+    };
+    if out.len() != running.algorithm().output_len() {
+        return WRONG_LENGTH;
+    }
+    let Ok(made) = running.finish() else {
+        return UNSPECIFIED;
+    };
+    out.copy_from_slice(made.as_ref());
+    OK
+}

@@ -1,0 +1,153 @@
+//! Keys from secrets.
+
+ghost use Rattle.std.specs.Prelude.{◌≡◌, ◌≢◌, ◌↔◌, ℕ, ◌*◌, ◌≤◌, ◌<◌, List, Some, None, length, IsTrue};
+ghost use Rattle.ring.specs.Algorithm.{output_len};
+ghost use Rattle.ring.specs.Hkdf.{PrkStandsFor, hash_of, okm, prk_algorithm};
+ghost use Rattle.ring.specs.Hmac.{hmac_of};
+ghost use Rattle.ring.specs.Limits.{IsInfoWithin, IsOutputWithin};
+ghost use Rattle.ring.specs.declared.hkdf.algorithm.Algorithm.{Algorithm};
+ghost use Rattle.yz_c.specs.Limits.{CanExpand, CanMake, CanSign};
+ghost use Rattle.yz_c.specs.Number.{hkdf_named};
+
+use crate::number::hkdf_of_number;
+use crate::status::{OK, UNKNOWN_ALGORITHM, UNSPECIFIED, WRONG_LENGTH};
+use crate::tags::write_tag;
+use ring::hkdf::{self, KeyType, Prk, Salt};
+use ring::hmac::Key;
+
+// The most rounds of an output (RFC 5869, section 2.3).
+const MAX_ROUNDS: usize = 255;
+
+// A number of bytes.
+#[derive(Drop)]
+struct Length(usize);
+
+impl KeyType for Length {
+    ghost key_len = { λ length. length.0 };
+
+    fn len(&self) -> usize {
+        self.0
+    }
+}
+
+// Whether so many bytes may be asked for.
+fn is_output_within(algorithm: &hkdf::Algorithm, len: usize) -> bool
+    ensures { IsTrue result ↔ IsOutputWithin (hash_of algorithm.now) len }
+{
+    len <= MAX_ROUNDS * algorithm.hmac_algorithm().digest_algorithm().output_len()
+}
+
+/// Writes the PRK of `secret` over `out`, which has the length of a digest: HKDF's extract.
+#[unsafe(no_mangle)]
+pub extern "C" fn yz_hkdf_extract(algorithm: u32, salt: &[u8], secret: &[u8], out: &mut [u8]) -> i32
+    ensures ok { (a : Algorithm) → hkdf_named algorithm ≡ Some a → result ≡ OK
+        → out.new ≡ hmac_of (hash_of a) salt.now secret.now }
+    ensures unknown { result ≡ UNKNOWN_ALGORITHM ↔ hkdf_named algorithm ≡ None }
+    ensures wrong_length { (a : Algorithm) → hkdf_named algorithm ≡ Some a
+        → (result ≡ WRONG_LENGTH ↔ length out.old ≢ output_len (hash_of a)) }
+    ensures refused { (a : Algorithm) → hkdf_named algorithm ≡ Some a
+        → length out.old ≡ output_len (hash_of a)
+        → (result ≡ OK ↔ CanSign (hash_of a) (length salt.now) (length secret.now)) }
+    ensures told { (a : Algorithm) → hkdf_named algorithm ≡ Some a
+        → length out.old ≡ output_len (hash_of a) → result ≢ OK → result ≡ UNSPECIFIED }
+    ensures unchanged { result ≢ OK → out.new ≡ out.old }
+{
+    let Some(algorithm) = hkdf_of_number(algorithm) else {
+        return UNKNOWN_ALGORITHM;
+    };
+    let algorithm = algorithm.hmac_algorithm();
+    if out.len() != algorithm.digest_algorithm().output_len() {
+        return WRONG_LENGTH;
+    }
+    let Ok(salt) = Key::new(algorithm, salt) else {
+        return UNSPECIFIED;
+    };
+    write_tag(&salt, secret, out)
+}
+
+/// Fills `out` with the output of the PRK `prk` for `info`: HKDF's expand.
+#[unsafe(no_mangle)]
+pub extern "C" fn yz_hkdf_expand(algorithm: u32, prk: &[u8], info: &[u8], out: &mut [u8]) -> i32
+    ensures ok { (a : Algorithm) → hkdf_named algorithm ≡ Some a → result ≡ OK
+        → out.new ≡ okm (hash_of a) prk.now info.now (length out.old) }
+    ensures unknown { result ≡ UNKNOWN_ALGORITHM ↔ hkdf_named algorithm ≡ None }
+    ensures wrong_length { (a : Algorithm) → hkdf_named algorithm ≡ Some a
+        → (result ≡ WRONG_LENGTH ↔ (255 * output_len (hash_of a) < length out.old)) }
+    ensures refused { (a : Algorithm) → hkdf_named algorithm ≡ Some a
+        → IsOutputWithin (hash_of a) (length out.old)
+        → (result ≡ OK
+        ↔ CanExpand (hash_of a) (length prk.now) (length info.now) (length out.old)) }
+    ensures told { (a : Algorithm) → hkdf_named algorithm ≡ Some a
+        → IsOutputWithin (hash_of a) (length out.old) → result ≢ OK → result ≡ UNSPECIFIED }
+    ensures unchanged { result ≢ OK → out.new ≡ out.old }
+{
+    let Some(algorithm) = hkdf_of_number(algorithm) else {
+        return UNKNOWN_ALGORITHM;
+    };
+    if !is_output_within(&algorithm, out.len()) {
+        return WRONG_LENGTH;
+    }
+    let Ok(prk) = Prk::new_less_safe(algorithm, prk) else {
+        return UNSPECIFIED;
+    };
+    fill(&prk, info, out)
+}
+
+/// Fills `out` with the output of the PRK of `secret` for `info`: HKDF's extract, and then expand.
+#[unsafe(no_mangle)]
+pub extern "C" fn yz_hkdf(
+    algorithm: u32,
+    salt: &[u8],
+    secret: &[u8],
+    info: &[u8],
+    out: &mut [u8],
+) -> i32
+    ensures ok { (a : Algorithm) → hkdf_named algorithm ≡ Some a → result ≡ OK
+        → out.new ≡ okm (hash_of a)
+        (hmac_of (hash_of a) salt.now secret.now) info.now (length out.old) }
+    ensures unknown { result ≡ UNKNOWN_ALGORITHM ↔ hkdf_named algorithm ≡ None }
+    ensures wrong_length { (a : Algorithm) → hkdf_named algorithm ≡ Some a
+        → (result ≡ WRONG_LENGTH ↔ (255 * output_len (hash_of a) < length out.old)) }
+    ensures refused { (a : Algorithm) → hkdf_named algorithm ≡ Some a
+        → IsOutputWithin (hash_of a) (length out.old)
+        → (result ≡ OK ↔ CanMake (hash_of a)
+        (length salt.now) (length secret.now) (length info.now) (length out.old)) }
+    ensures told { (a : Algorithm) → hkdf_named algorithm ≡ Some a
+        → IsOutputWithin (hash_of a) (length out.old) → result ≢ OK → result ≡ UNSPECIFIED }
+    ensures unchanged { result ≢ OK → out.new ≡ out.old }
+{
+    let Some(algorithm) = hkdf_of_number(algorithm) else {
+        return UNKNOWN_ALGORITHM;
+    };
+    if !is_output_within(&algorithm, out.len()) {
+        return WRONG_LENGTH;
+    }
+    let Ok(salt) = Salt::new(algorithm, salt) else {
+        return UNSPECIFIED;
+    };
+    let Ok(prk) = salt.extract(secret) else {
+        return UNSPECIFIED;
+    };
+    fill(&prk, info, out)
+}
+
+// Fills `out` with the PRK's output for `info`.
+fn fill(prk: &Prk, info: &[u8], out: &mut [u8]) -> i32
+    requires { IsOutputWithin (prk_algorithm prk.now) (length out.old) }
+    ensures ok { (k : List ℕ) → PrkStandsFor prk.now k → result ≡ OK
+        → out.new ≡ okm (prk_algorithm prk.now) k info.now (length out.old) }
+    ensures refused { result ≡ OK
+        ↔ IsInfoWithin (prk_algorithm prk.now) (length info.now) (length out.old) }
+    ensures told { result ≢ OK → result ≡ UNSPECIFIED }
+    ensures unchanged { result ≢ OK → out.new ≡ out.old }
+{
+    let pieces = [info];
+    let Ok(output) = prk.expand(&pieces, Length(out.len())) else {
+        // The length was tested.
+        unreachable!()
+    };
+    match output.fill(out) {
+        Ok(()) => OK,
+        Err(_) => UNSPECIFIED,
+    }
+}

@@ -1,0 +1,210 @@
+//! Tags.
+
+ghost use Rattle.std.specs.Prelude.{◌≡◌, ◌≢◌, ◌↔◌, ◌++◌, [], ℕ, List, Some, None, length};
+ghost use Rattle.ring.specs.Algorithm.{output_len};
+ghost use Rattle.ring.specs.Hmac.{KeyStandsFor, based_on, hmac_of, key_algorithm};
+ghost use Rattle.ring.specs.Limits.{IsMessageWithin, IsTagWithin};
+ghost use Rattle.ring.specs.Raw.{RawKeyStandsFor, RawTagStandsFor};
+ghost use Rattle.ring.specs.declared.digest.algorithm.Algorithm as digest;
+ghost use Rattle.ring.specs.declared.hmac.algorithm.Algorithm.{Algorithm};
+ghost use Rattle.yz_c.specs.Limits.{CanSign};
+ghost use Rattle.yz_c.specs.Number.{hmac_named};
+
+use crate::lengths::yz_output_len;
+use crate::number::hmac_of_number;
+use crate::status::{OK, UNKNOWN_ALGORITHM, UNKNOWN_CONTEXT, UNSPECIFIED, WRONG_LENGTH};
+use ring::hmac::{self, Context, Key};
+use ring::raw::{RawKey, RawTagContext};
+
+// Writes the tag of a message over `out`.
+pub(crate) fn write_tag(key: &Key, message: &[u8], out: &mut [u8]) -> i32
+    requires { length out.old ≡ output_len (key_algorithm key.now) }
+    ensures ok { (k : List ℕ) → KeyStandsFor key.now k → result ≡ OK
+        → out.new ≡ hmac_of (key_algorithm key.now) k message.now }
+    ensures refused { result ≡ OK ↔ IsTagWithin (key_algorithm key.now) (length message.now) }
+    ensures told { result ≢ OK → result ≡ UNSPECIFIED }
+    ensures unchanged { result ≢ OK → out.new ≡ out.old }
+{
+    let Ok(tag) = hmac::sign(key, message) else {
+        return UNSPECIFIED;
+    };
+    out.copy_from_slice(tag.as_ref());
+    OK
+}
+
+// Tests the tag of a message.
+fn test_tag(key: &Key, message: &[u8], tag: &[u8]) -> i32
+    ensures ok { (k : List ℕ) → KeyStandsFor key.now k
+        → (result ≡ OK ↔ (IsTagWithin (key_algorithm key.now) (length message.now)
+        × (tag.now ≡ hmac_of (key_algorithm key.now) k message.now))) }
+    ensures told { result ≢ OK → result ≡ UNSPECIFIED }
+{
+    match hmac::verify(key, message, tag) {
+        Ok(()) => OK,
+        Err(_) => UNSPECIFIED,
+    }
+}
+
+/// Writes the tag of `message` under `key` over `out`, which has its length.
+#[unsafe(no_mangle)]
+pub extern "C" fn yz_hmac_sign(algorithm: u32, key: &[u8], message: &[u8], out: &mut [u8]) -> i32
+    ensures ok { (a : Algorithm) → hmac_named algorithm ≡ Some a → result ≡ OK
+        → out.new ≡ hmac_of (based_on a) key.now message.now }
+    ensures unknown { result ≡ UNKNOWN_ALGORITHM ↔ hmac_named algorithm ≡ None }
+    ensures wrong_length { (a : Algorithm) → hmac_named algorithm ≡ Some a
+        → (result ≡ WRONG_LENGTH ↔ length out.old ≢ output_len (based_on a)) }
+    ensures refused { (a : Algorithm) → hmac_named algorithm ≡ Some a
+        → length out.old ≡ output_len (based_on a)
+        → (result ≡ OK ↔ CanSign (based_on a) (length key.now) (length message.now)) }
+    ensures told { (a : Algorithm) → hmac_named algorithm ≡ Some a
+        → length out.old ≡ output_len (based_on a) → result ≢ OK → result ≡ UNSPECIFIED }
+    ensures unchanged { result ≢ OK → out.new ≡ out.old }
+{
+    let Some(algorithm) = hmac_of_number(algorithm) else {
+        return UNKNOWN_ALGORITHM;
+    };
+    if out.len() != algorithm.digest_algorithm().output_len() {
+        return WRONG_LENGTH;
+    }
+    let Ok(signing_key) = Key::new(algorithm, key) else {
+        return UNSPECIFIED;
+    };
+    write_tag(&signing_key, message, out)
+}
+
+/// 0 exactly where `tag` is the whole tag of `message` under `key`.
+#[unsafe(no_mangle)]
+pub extern "C" fn yz_hmac_verify(algorithm: u32, key: &[u8], message: &[u8], tag: &[u8]) -> i32
+    ensures ok { (a : Algorithm) → hmac_named algorithm ≡ Some a
+        → (result ≡ OK ↔ (CanSign (based_on a) (length key.now) (length message.now)
+        × (tag.now ≡ hmac_of (based_on a) key.now message.now))) }
+    ensures unknown { result ≡ UNKNOWN_ALGORITHM ↔ hmac_named algorithm ≡ None }
+    ensures told { result ≢ UNKNOWN_ALGORITHM → result ≢ OK → result ≡ UNSPECIFIED }
+{
+    let Some(algorithm) = hmac_of_number(algorithm) else {
+        return UNKNOWN_ALGORITHM;
+    };
+    let Ok(verifying_key) = Key::new(algorithm, key) else {
+        return UNSPECIFIED;
+    };
+    test_tag(&verifying_key, message, tag)
+}
+
+/// Makes a key of the bytes `value`, so that no signing under it makes one again.
+#[unsafe(no_mangle)]
+pub extern "C" fn yz_hmac_key_init(algorithm: u32, value: &[u8], key: &mut RawKey) -> i32
+    ensures ok { (a : Algorithm) → hmac_named algorithm ≡ Some a → result ≡ OK
+        → RawKeyStandsFor key.new (based_on a) value.now }
+    ensures unknown { result ≡ UNKNOWN_ALGORITHM ↔ hmac_named algorithm ≡ None }
+    ensures refused { (a : Algorithm) → hmac_named algorithm ≡ Some a
+        → (result ≡ OK ↔ IsMessageWithin (based_on a) (length value.now)) }
+    ensures told { result ≢ UNKNOWN_ALGORITHM → result ≢ OK → result ≡ UNSPECIFIED }
+    ensures unchanged { result ≢ OK → key.new ≡ key.old }
+{
+    let Some(algorithm) = hmac_of_number(algorithm) else {
+        return UNKNOWN_ALGORITHM;
+    };
+    let Ok(made) = Key::new(algorithm, value) else {
+        return UNSPECIFIED;
+    };
+    *key = RawKey::new(&made);
+    OK
+}
+
+/// Writes the tag of `message` under a key over `out`, which has its length.
+#[unsafe(no_mangle)]
+pub extern "C" fn yz_hmac_key_sign(key: &RawKey, message: &[u8], out: &mut [u8]) -> i32
+    ensures ok { (a : digest.Algorithm) (k : List ℕ) → RawKeyStandsFor key.now a k → result ≡ OK
+        → out.new ≡ hmac_of a k message.now }
+    ensures wrong_length { (a : digest.Algorithm) (k : List ℕ) → RawKeyStandsFor key.now a k
+        → (result ≡ WRONG_LENGTH ↔ length out.old ≢ output_len a) }
+    ensures refused { (a : digest.Algorithm) (k : List ℕ) → RawKeyStandsFor key.now a k
+        → length out.old ≡ output_len a → (result ≡ OK ↔ IsTagWithin a (length message.now)) }
+    ensures told { (a : digest.Algorithm) (k : List ℕ) → RawKeyStandsFor key.now a k
+        → length out.old ≡ output_len a → result ≢ OK → result ≡ UNSPECIFIED }
+    ensures unchanged { result ≢ OK → out.new ≡ out.old }
+{
+    let Some(key) = key.key() else {
+        return UNKNOWN_CONTEXT;
+    };
+    if out.len() != key.algorithm().digest_algorithm().output_len() {
+        return WRONG_LENGTH;
+    }
+    write_tag(&key, message, out)
+}
+
+/// 0 exactly where `tag` is the whole tag of `message` under a key.
+#[unsafe(no_mangle)]
+pub extern "C" fn yz_hmac_key_verify(key: &RawKey, message: &[u8], tag: &[u8]) -> i32
+    ensures ok { (a : digest.Algorithm) (k : List ℕ) → RawKeyStandsFor key.now a k
+        → (result ≡ OK ↔ (IsTagWithin a (length message.now)
+        × (tag.now ≡ hmac_of a k message.now))) }
+    ensures told { (a : digest.Algorithm) (k : List ℕ) → RawKeyStandsFor key.now a k
+        → result ≢ OK → result ≡ UNSPECIFIED }
+{
+    let Some(key) = key.key() else {
+        return UNKNOWN_CONTEXT;
+    };
+    test_tag(&key, message, tag)
+}
+
+/// Begins the tag, under a key, of a message that comes in pieces.
+#[unsafe(no_mangle)]
+pub extern "C" fn yz_hmac_init(key: &RawKey, context: &mut RawTagContext) -> i32
+    ensures ok { (a : digest.Algorithm) (k : List ℕ) → RawKeyStandsFor key.now a k
+        → result ≡ OK × RawTagStandsFor context.new a k [] }
+    ensures told { result ≢ OK → result ≡ UNKNOWN_CONTEXT }
+    ensures unchanged { result ≢ OK → context.new ≡ context.old }
+{
+    let Some(key) = key.key() else {
+        return UNKNOWN_CONTEXT;
+    };
+    *context = RawTagContext::new(&Context::with_key(&key));
+    OK
+}
+
+/// Adds `input` to the message.
+#[unsafe(no_mangle)]
+pub extern "C" fn yz_hmac_update(context: &mut RawTagContext, input: &[u8]) -> i32
+    ensures ok { (a : digest.Algorithm) (k m : List ℕ) → RawTagStandsFor context.old a k m
+        → result ≡ OK × RawTagStandsFor context.new a k (m ++ input.now) }
+    ensures told { result ≢ OK → result ≡ UNKNOWN_CONTEXT }
+    ensures unchanged { result ≢ OK → context.new ≡ context.old }
+{
+    if context.keep(input) {
+        return OK;
+    }
+    let Some(mut running) = context.context() else {
+        return UNKNOWN_CONTEXT;
+    };
+    running.update(input);
+    *context = RawTagContext::new(&running);
+    OK
+}
+
+/// Writes the tag of the message so far over `out`, which has its length. The context stays, and
+/// may go on.
+#[unsafe(no_mangle)]
+pub extern "C" fn yz_hmac_final(context: &RawTagContext, out: &mut [u8]) -> i32
+    ensures ok { (a : digest.Algorithm) (k m : List ℕ) → RawTagStandsFor context.now a k m
+        → result ≡ OK → out.new ≡ hmac_of a k m }
+    ensures wrong_length { (a : digest.Algorithm) (k m : List ℕ) → RawTagStandsFor context.now a k m
+        → (result ≡ WRONG_LENGTH ↔ length out.old ≢ output_len a) }
+    ensures refused { (a : digest.Algorithm) (k m : List ℕ) → RawTagStandsFor context.now a k m
+        → length out.old ≡ output_len a → (result ≡ OK ↔ IsTagWithin a (length m)) }
+    ensures told { (a : digest.Algorithm) (k m : List ℕ) → RawTagStandsFor context.now a k m
+        → length out.old ≡ output_len a → result ≢ OK → result ≡ UNSPECIFIED }
+    ensures unchanged { result ≢ OK → out.new ≡ out.old }
+{
+    let Some(running) = context.context() else {
+        return UNKNOWN_CONTEXT;
+    };
+    if out.len() != yz_output_len(context.inner.algorithm) {
+        return WRONG_LENGTH;
+    }
+    let Ok(tag) = running.sign() else {
+        return UNSPECIFIED;
+    };
+    out.copy_from_slice(tag.as_ref());
+    OK
+}

@@ -1,0 +1,179 @@
+/* Digests (FIPS 180-4), tags (HMAC, RFC 2104) and derived keys (HKDF, RFC 5869, and PBKDF2,
+ * RFC 2898), each call proved to give the standard's bytes. README.md beside this folder says what
+ * is proved and what is not.
+ *
+ * Each call returns whatever it is given. It takes no memory from the system, keeps no state and
+ * sets no errno, so that calls may run in any threads at once, as long as no two share memory that
+ * one of them writes: one thread a context, while one key serves all threads.
+ *
+ * The caller sees to it, and nothing tests, that
+ * - a pointer with a length behind it is that of so many bytes, which may be read, or written where
+ *   it is no pointer to const; where the length is 0 it may be NULL;
+ * - what a call writes overlaps nothing else that it is given;
+ * - a pointer to a context or a key is aligned as its type, and not NULL;
+ * - the thread has 8 KiB of stack left.
+ *
+ * A call that can be refused answers YZ_OK or the first cause in the order of yz_status. Past YZ_OK
+ * it has written nothing. */
+#ifndef YEZDOPIN_H
+#define YEZDOPIN_H
+
+#include <stdbool.h>
+#include <stddef.h>
+#include <stdint.h>
+
+/* The version of this header. The major number is that of the shared library's name, and rises
+ * where a caller must be compiled again: with a call or the layout of a context or a key. */
+#define YZ_VERSION_MAJOR 0
+#define YZ_VERSION_MINOR 1
+#define YZ_VERSION_PATCH 0
+#define YZ_VERSION ((uint32_t)YZ_VERSION_MAJOR << 16 | YZ_VERSION_MINOR << 8 | YZ_VERSION_PATCH)
+
+#if defined(__GNUC__) || defined(__clang__)
+#define YZ_MUST_CHECK __attribute__((warn_unused_result))
+#else
+#define YZ_MUST_CHECK
+#endif
+
+#ifdef __cplusplus
+extern "C" {
+#endif
+
+/* The algorithms, for `uint32_t algorithm`. */
+enum {
+    YZ_SHA1 = 1, /* broken: for what must still read old data */
+    YZ_SHA256 = 2,
+    YZ_SHA384 = 3,
+    YZ_SHA512 = 4,
+    YZ_SHA512_256 = 5, /* digests alone */
+};
+
+/* What a call answers. */
+typedef int32_t yz_status;
+enum {
+    YZ_OK = 0,
+    YZ_UNKNOWN_ALGORITHM = 1, /* the number names no algorithm of this call */
+    YZ_UNKNOWN_CONTEXT = 2,   /* the memory holds no context or key that a call began */
+    YZ_WRONG_LENGTH = 3,      /* of what is to be written */
+    YZ_NO_ITERATIONS = 4,     /* the number of iterations is 0 */
+    YZ_UNSPECIFIED = 5,       /* an input past its limit, or what was verified is something else */
+};
+
+/* Bytes of a digest or a tag, and of a block. */
+#define YZ_SHA1_OUTPUT_LEN 20
+#define YZ_SHA256_OUTPUT_LEN 32
+#define YZ_SHA384_OUTPUT_LEN 48
+#define YZ_SHA512_OUTPUT_LEN 64
+#define YZ_SHA512_256_OUTPUT_LEN 32
+#define YZ_MAX_OUTPUT_LEN 64
+#define YZ_SHA1_BLOCK_LEN 64
+#define YZ_SHA256_BLOCK_LEN 64
+#define YZ_SHA384_BLOCK_LEN 128
+#define YZ_SHA512_BLOCK_LEN 128
+#define YZ_SHA512_256_BLOCK_LEN 128
+#define YZ_MAX_BLOCK_LEN 128
+
+/* Contexts and keys. Their members are for these calls alone. They may be copied by assignment, and
+ * a copy goes on by itself. Keys, and contexts of what is secret, are secret: yz_clear them. */
+typedef struct {
+    uint32_t algorithm;
+    uint32_t num_pending;
+    uint64_t completed_low;
+    uint64_t completed_high;
+    uint64_t words[8];
+    uint8_t pending[YZ_MAX_BLOCK_LEN];
+} yz_digest_context; /* 216 bytes */
+
+typedef struct {
+    uint32_t algorithm;
+    uint32_t reserved;
+    uint64_t inner[8];
+    uint64_t outer[8];
+} yz_hmac_key; /* 136 bytes */
+
+typedef struct {
+    yz_digest_context inner;
+    uint64_t outer[8];
+} yz_hmac_context; /* 280 bytes */
+
+/* The version that the library was built as: a caller compares its upper 16 bits with those of
+ * YZ_VERSION where it loads the library by itself. */
+uint32_t yz_version(void);
+
+/* The bytes of a digest or a tag, and of a block; 0 for a number that names no algorithm. */
+size_t yz_output_len(uint32_t algorithm);
+size_t yz_block_len(uint32_t algorithm);
+
+/* Digests. `out_len` is yz_output_len of the algorithm, or the call is refused. A message has at
+ * most 2^61 - 1 bytes under YZ_SHA1 and YZ_SHA256, and 2^125 - 1 under the others. */
+yz_status yz_digest(uint32_t algorithm, const uint8_t *message, size_t message_len,
+                    uint8_t *out, size_t out_len) YZ_MUST_CHECK;
+
+/* The digest of a message in pieces. yz_digest_final leaves the context as it is, and more may
+ * follow. */
+yz_status yz_digest_init(uint32_t algorithm, yz_digest_context *context) YZ_MUST_CHECK;
+yz_status yz_digest_update(yz_digest_context *context,
+                           const uint8_t *input, size_t input_len) YZ_MUST_CHECK;
+yz_status yz_digest_final(const yz_digest_context *context,
+                          uint8_t *out, size_t out_len) YZ_MUST_CHECK;
+
+/* Tags. `out_len` is yz_output_len of the algorithm. A verification answers YZ_OK exactly where
+ * `tag` is the whole tag, and reads all of it before it answers. */
+yz_status yz_hmac_sign(uint32_t algorithm, const uint8_t *key, size_t key_len,
+                       const uint8_t *message, size_t message_len,
+                       uint8_t *out, size_t out_len) YZ_MUST_CHECK;
+yz_status yz_hmac_verify(uint32_t algorithm, const uint8_t *key, size_t key_len,
+                         const uint8_t *message, size_t message_len,
+                         const uint8_t *tag, size_t tag_len) YZ_MUST_CHECK;
+
+/* The same under a key that is made once. */
+yz_status yz_hmac_key_init(uint32_t algorithm, const uint8_t *value, size_t value_len,
+                           yz_hmac_key *key) YZ_MUST_CHECK;
+yz_status yz_hmac_key_sign(const yz_hmac_key *key, const uint8_t *message, size_t message_len,
+                           uint8_t *out, size_t out_len) YZ_MUST_CHECK;
+yz_status yz_hmac_key_verify(const yz_hmac_key *key, const uint8_t *message, size_t message_len,
+                             const uint8_t *tag, size_t tag_len) YZ_MUST_CHECK;
+
+/* The tag of a message in pieces. yz_hmac_final leaves the context as it is, and more may
+ * follow. */
+yz_status yz_hmac_init(const yz_hmac_key *key, yz_hmac_context *context) YZ_MUST_CHECK;
+yz_status yz_hmac_update(yz_hmac_context *context,
+                         const uint8_t *input, size_t input_len) YZ_MUST_CHECK;
+yz_status yz_hmac_final(const yz_hmac_context *context,
+                        uint8_t *out, size_t out_len) YZ_MUST_CHECK;
+
+/* HKDF: extract, of which `out_len` is yz_output_len of the algorithm; expand, of which it is at
+ * most 255 times that; and one after the other. */
+yz_status yz_hkdf_extract(uint32_t algorithm, const uint8_t *salt, size_t salt_len,
+                          const uint8_t *secret, size_t secret_len,
+                          uint8_t *out, size_t out_len) YZ_MUST_CHECK;
+yz_status yz_hkdf_expand(uint32_t algorithm, const uint8_t *prk, size_t prk_len,
+                         const uint8_t *info, size_t info_len,
+                         uint8_t *out, size_t out_len) YZ_MUST_CHECK;
+yz_status yz_hkdf(uint32_t algorithm, const uint8_t *salt, size_t salt_len,
+                  const uint8_t *secret, size_t secret_len,
+                  const uint8_t *info, size_t info_len,
+                  uint8_t *out, size_t out_len) YZ_MUST_CHECK;
+
+/* PBKDF2. A verification answers YZ_OK exactly where `derived` isn't empty and is what
+ * yz_pbkdf2_derive gives for its length, and reads all of it before it answers. */
+yz_status yz_pbkdf2_derive(uint32_t algorithm, uint32_t iterations,
+                           const uint8_t *salt, size_t salt_len,
+                           const uint8_t *secret, size_t secret_len,
+                           uint8_t *out, size_t out_len) YZ_MUST_CHECK;
+yz_status yz_pbkdf2_verify(uint32_t algorithm, uint32_t iterations,
+                           const uint8_t *salt, size_t salt_len,
+                           const uint8_t *secret, size_t secret_len,
+                           const uint8_t *derived, size_t derived_len) YZ_MUST_CHECK;
+
+/* Whether both are equal. Where the lengths agree it reads all of both. */
+bool yz_equal(const uint8_t *a, size_t a_len, const uint8_t *b, size_t b_len) YZ_MUST_CHECK;
+
+/* Writes zeros over the bytes. As a call into a library it isn't left out by a compiler. */
+void yz_clear(uint8_t *bytes, size_t bytes_len);
+
+#ifdef __cplusplus
+}
+#endif
+
+#endif

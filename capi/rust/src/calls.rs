@@ -1,0 +1,159 @@
+//! The calls as `yezdopin.h` declares them.
+
+#[repr(C)]
+#[derive(Clone, Copy)]
+pub struct DigestContext {
+    algorithm: u32,
+    num_pending: u32,
+    completed_low: u64,
+    completed_high: u64,
+    words: [u64; 8],
+    pending: [u8; 128],
+}
+
+#[repr(C)]
+#[derive(Clone, Copy)]
+pub struct HmacKey {
+    algorithm: u32,
+    reserved: u32,
+    inner: [u64; 8],
+    outer: [u64; 8],
+}
+
+#[repr(C)]
+#[derive(Clone, Copy)]
+pub struct HmacContext {
+    inner: DigestContext,
+    outer: [u64; 8],
+}
+
+impl DigestContext {
+    pub const NONE: Self = DigestContext {
+        algorithm: 0,
+        num_pending: 0,
+        completed_low: 0,
+        completed_high: 0,
+        words: [0; 8],
+        pending: [0; 128],
+    };
+}
+
+impl HmacKey {
+    pub const NONE: Self = HmacKey {
+        algorithm: 0,
+        reserved: 0,
+        inner: [0; 8],
+        outer: [0; 8],
+    };
+}
+
+impl HmacContext {
+    pub const NONE: Self = HmacContext {
+        inner: DigestContext::NONE,
+        outer: [0; 8],
+    };
+}
+
+/// What is held by plain bytes, any of which are a value of it.
+///
+/// # Safety
+///
+/// The type has no padding, and any bytes are a value of it.
+pub unsafe trait Plain {}
+
+// SAFETY: they are numbers without gaps between them: 216, 136 and 280 bytes.
+unsafe impl Plain for DigestContext {}
+unsafe impl Plain for HmacKey {}
+unsafe impl Plain for HmacContext {}
+unsafe impl Plain for [u8; 64] {}
+
+/// Writes zeros over a value, by a call that no compiler leaves out.
+pub fn clear<T: Plain>(value: &mut T) {
+    let bytes: *mut T = value;
+    // SAFETY: the value is lent for writing, and zeros are a value of it.
+    unsafe { yz_clear(bytes.cast(), std::mem::size_of::<T>()) }
+}
+
+/// The same of bytes.
+pub fn clear_bytes(bytes: &mut [u8]) {
+    // SAFETY: they are lent for writing.
+    unsafe { yz_clear(bytes.as_mut_ptr(), bytes.len()) }
+}
+
+extern "C" {
+    pub fn yz_version() -> u32;
+    pub fn yz_digest(
+        algorithm: u32,
+        message: *const u8,
+        message_len: usize,
+        out: *mut u8,
+        out_len: usize,
+    ) -> i32;
+    pub fn yz_digest_init(algorithm: u32, context: *mut DigestContext) -> i32;
+    pub fn yz_digest_update(context: *mut DigestContext, input: *const u8, input_len: usize)
+        -> i32;
+    pub fn yz_digest_final(context: *const DigestContext, out: *mut u8, out_len: usize) -> i32;
+    pub fn yz_hmac_key_init(
+        algorithm: u32,
+        value: *const u8,
+        value_len: usize,
+        key: *mut HmacKey,
+    ) -> i32;
+    pub fn yz_hmac_key_sign(
+        key: *const HmacKey,
+        message: *const u8,
+        message_len: usize,
+        out: *mut u8,
+        out_len: usize,
+    ) -> i32;
+    pub fn yz_hmac_key_verify(
+        key: *const HmacKey,
+        message: *const u8,
+        message_len: usize,
+        tag: *const u8,
+        tag_len: usize,
+    ) -> i32;
+    pub fn yz_hmac_init(key: *const HmacKey, context: *mut HmacContext) -> i32;
+    pub fn yz_hmac_update(context: *mut HmacContext, input: *const u8, input_len: usize) -> i32;
+    pub fn yz_hmac_final(context: *const HmacContext, out: *mut u8, out_len: usize) -> i32;
+    pub fn yz_hkdf_extract(
+        algorithm: u32,
+        salt: *const u8,
+        salt_len: usize,
+        secret: *const u8,
+        secret_len: usize,
+        out: *mut u8,
+        out_len: usize,
+    ) -> i32;
+    pub fn yz_hkdf_expand(
+        algorithm: u32,
+        prk: *const u8,
+        prk_len: usize,
+        info: *const u8,
+        info_len: usize,
+        out: *mut u8,
+        out_len: usize,
+    ) -> i32;
+    pub fn yz_pbkdf2_derive(
+        algorithm: u32,
+        iterations: u32,
+        salt: *const u8,
+        salt_len: usize,
+        secret: *const u8,
+        secret_len: usize,
+        out: *mut u8,
+        out_len: usize,
+    ) -> i32;
+    pub fn yz_pbkdf2_verify(
+        algorithm: u32,
+        iterations: u32,
+        salt: *const u8,
+        salt_len: usize,
+        secret: *const u8,
+        secret_len: usize,
+        derived: *const u8,
+        derived_len: usize,
+    ) -> i32;
+    pub fn yz_equal(a: *const u8, a_len: usize, b: *const u8, b_len: usize) -> bool;
+    fn yz_clear(bytes: *mut u8, bytes_len: usize);
+}

@@ -1,0 +1,153 @@
+//! Digests (FIPS 180-4).
+
+use crate::calls::{self, DigestContext};
+use crate::done;
+use std::fmt;
+
+/// The bytes of the longest digest.
+pub const MAX_OUTPUT_LEN: usize = 64;
+
+/// An algorithm: one of the five constants.
+#[derive(Clone, Copy, PartialEq, Eq)]
+pub struct Algorithm {
+    pub(crate) number: u32,
+    output_len: usize,
+    block_len: usize,
+    name: &'static str,
+}
+
+impl Algorithm {
+    /// The bytes of a digest.
+    pub fn output_len(&self) -> usize {
+        self.output_len
+    }
+
+    /// The bytes of a block.
+    pub fn block_len(&self) -> usize {
+        self.block_len
+    }
+}
+
+impl fmt::Debug for Algorithm {
+    fn fmt(&self, f: &mut fmt::Formatter<'_>) -> fmt::Result {
+        f.write_str(self.name)
+    }
+}
+
+macro_rules! algorithms {
+    ($($(#[$doc:meta])* $name:ident: $number:expr, $output_len:expr, $block_len:expr;)*) => {
+        $($(#[$doc])* pub static $name: Algorithm = Algorithm {
+            number: $number,
+            output_len: $output_len,
+            block_len: $block_len,
+            name: stringify!($name),
+        };)*
+    };
+}
+
+algorithms! {
+    /// SHA-1, which is broken: for what must still read old data.
+    SHA1_FOR_LEGACY_USE_ONLY: 1, 20, 64;
+    /// SHA-256.
+    SHA256: 2, 32, 64;
+    /// SHA-384.
+    SHA384: 3, 48, 128;
+    /// SHA-512.
+    SHA512: 4, 64, 128;
+    /// SHA-512/256.
+    SHA512_256: 5, 32, 128;
+}
+
+/// A digest.
+#[derive(Clone, Copy)]
+pub struct Digest {
+    bytes: [u8; MAX_OUTPUT_LEN],
+    algorithm: &'static Algorithm,
+}
+
+impl Digest {
+    /// Its algorithm.
+    pub fn algorithm(&self) -> &'static Algorithm {
+        self.algorithm
+    }
+
+    // What a call writes into room for a digest, and whether it did.
+    pub(crate) fn written(
+        algorithm: &'static Algorithm,
+        write: impl FnOnce(*mut u8, usize) -> i32,
+    ) -> Result<Self, crate::error::Unspecified> {
+        let mut bytes = [0; MAX_OUTPUT_LEN];
+        done(write(bytes.as_mut_ptr(), algorithm.output_len))?;
+        Ok(Digest { bytes, algorithm })
+    }
+}
+
+impl AsRef<[u8]> for Digest {
+    fn as_ref(&self) -> &[u8] {
+        &self.bytes[..self.algorithm.output_len]
+    }
+}
+
+impl fmt::Debug for Digest {
+    fn fmt(&self, f: &mut fmt::Formatter<'_>) -> fmt::Result {
+        write!(f, "{:?}:", self.algorithm)?;
+        self.as_ref()
+            .iter()
+            .try_for_each(|byte| write!(f, "{byte:02x}"))
+    }
+}
+
+/// The digest of `data`.
+pub fn digest(algorithm: &'static Algorithm, data: &[u8]) -> Digest {
+    let number = algorithm.number;
+    // SAFETY: the data is lent for the call, and `out` has room for `len` bytes.
+    Digest::written(algorithm, |out, len| unsafe {
+        calls::yz_digest(number, data.as_ptr(), data.len(), out, len)
+    })
+    .expect("the message is within the limit")
+}
+
+/// The digest of a message in pieces.
+#[derive(Clone)]
+pub struct Context {
+    raw: DigestContext,
+    algorithm: &'static Algorithm,
+}
+
+impl Context {
+    /// A context of the empty message.
+    pub fn new(algorithm: &'static Algorithm) -> Self {
+        let mut raw = DigestContext::NONE;
+        // SAFETY: `raw` is ours.
+        let status = unsafe { calls::yz_digest_init(algorithm.number, &mut raw) };
+        done(status).expect("each constant names an algorithm");
+        Context { raw, algorithm }
+    }
+
+    /// Adds `data` to the message.
+    pub fn update(&mut self, data: &[u8]) {
+        // SAFETY: `raw` is ours, and the data is lent for the call.
+        let status = unsafe { calls::yz_digest_update(&mut self.raw, data.as_ptr(), data.len()) };
+        done(status).expect("the context was begun");
+    }
+
+    /// The digest of the message.
+    pub fn finish(self) -> Digest {
+        // SAFETY: `raw` is ours, and `out` has room for `len` bytes.
+        Digest::written(self.algorithm, |out, len| unsafe {
+            calls::yz_digest_final(&self.raw, out, len)
+        })
+        .expect("the message is within the limit")
+    }
+
+    /// The algorithm of the digest.
+    pub fn algorithm(&self) -> &'static Algorithm {
+        self.algorithm
+    }
+}
+
+impl Drop for Context {
+    fn drop(&mut self) {
+        calls::clear(&mut self.raw);
+    }
+}

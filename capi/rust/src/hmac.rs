@@ -1,0 +1,145 @@
+//! Tags of messages under keys: HMAC (RFC 2104).
+
+use crate::calls::{self, HmacContext, HmacKey};
+use crate::digest::{self, Digest};
+use crate::done;
+use crate::error::Unspecified;
+use std::fmt;
+
+/// An algorithm: one of the four constants.
+#[derive(Clone, Copy, Debug, PartialEq, Eq)]
+pub struct Algorithm(&'static digest::Algorithm);
+
+impl Algorithm {
+    /// The digest algorithm that it runs twice.
+    pub fn digest_algorithm(&self) -> &'static digest::Algorithm {
+        self.0
+    }
+}
+
+/// HMAC over SHA-1: for what must still read old data.
+pub static HMAC_SHA1_FOR_LEGACY_USE_ONLY: Algorithm = Algorithm(&digest::SHA1_FOR_LEGACY_USE_ONLY);
+
+/// HMAC over SHA-256.
+pub static HMAC_SHA256: Algorithm = Algorithm(&digest::SHA256);
+
+/// HMAC over SHA-384.
+pub static HMAC_SHA384: Algorithm = Algorithm(&digest::SHA384);
+
+/// HMAC over SHA-512.
+pub static HMAC_SHA512: Algorithm = Algorithm(&digest::SHA512);
+
+/// A tag.
+#[derive(Clone, Copy, Debug)]
+pub struct Tag(Digest);
+
+impl AsRef<[u8]> for Tag {
+    fn as_ref(&self) -> &[u8] {
+        self.0.as_ref()
+    }
+}
+
+/// A key, whose two blocks are run once for all tags under it.
+#[derive(Clone)]
+pub struct Key {
+    raw: HmacKey,
+    algorithm: Algorithm,
+}
+
+impl Key {
+    /// The key of these bytes.
+    pub fn new(algorithm: Algorithm, key_value: &[u8]) -> Self {
+        let mut key = Key {
+            raw: HmacKey::NONE,
+            algorithm,
+        };
+        let (value, len) = (key_value.as_ptr(), key_value.len());
+        // SAFETY: the value is lent for the call, and `raw` is ours.
+        let status =
+            unsafe { calls::yz_hmac_key_init(algorithm.0.number, value, len, &mut key.raw) };
+        done(status).expect("the key is within the limit");
+        key
+    }
+
+    /// The algorithm of its tags.
+    pub fn algorithm(&self) -> Algorithm {
+        self.algorithm
+    }
+}
+
+impl fmt::Debug for Key {
+    fn fmt(&self, f: &mut fmt::Formatter<'_>) -> fmt::Result {
+        write!(f, "Key {{ algorithm: {:?} }}", self.algorithm.0)
+    }
+}
+
+impl Drop for Key {
+    fn drop(&mut self) {
+        calls::clear(&mut self.raw);
+    }
+}
+
+/// The tag of `data` under `key`.
+pub fn sign(key: &Key, data: &[u8]) -> Tag {
+    // SAFETY: key and data are lent for the call, and `out` has room for `len` bytes.
+    let made = Digest::written(key.algorithm.0, |out, len| unsafe {
+        calls::yz_hmac_key_sign(&key.raw, data.as_ptr(), data.len(), out, len)
+    });
+    Tag(made.expect("the message is within the limit"))
+}
+
+/// Ok exactly where `tag` is the whole tag of `data` under `key`.
+pub fn verify(key: &Key, data: &[u8], tag: &[u8]) -> Result<(), Unspecified> {
+    let (tag, tag_len) = (tag.as_ptr(), tag.len());
+    // SAFETY: all are lent for the call.
+    done(unsafe { calls::yz_hmac_key_verify(&key.raw, data.as_ptr(), data.len(), tag, tag_len) })
+}
+
+/// The tag of a message in pieces.
+#[derive(Clone)]
+pub struct Context {
+    raw: HmacContext,
+    algorithm: Algorithm,
+}
+
+impl Context {
+    /// A context of the empty message under `signing_key`.
+    pub fn with_key(signing_key: &Key) -> Self {
+        let mut raw = HmacContext::NONE;
+        // SAFETY: the key is lent for the call, and `raw` is ours.
+        let status = unsafe { calls::yz_hmac_init(&signing_key.raw, &mut raw) };
+        done(status).expect("the key was made");
+        Context {
+            raw,
+            algorithm: signing_key.algorithm,
+        }
+    }
+
+    /// Adds `data` to the message.
+    pub fn update(&mut self, data: &[u8]) {
+        // SAFETY: `raw` is ours, and the data is lent for the call.
+        let status = unsafe { calls::yz_hmac_update(&mut self.raw, data.as_ptr(), data.len()) };
+        done(status).expect("the context was begun");
+    }
+
+    /// The tag of the message.
+    pub fn sign(self) -> Tag {
+        // SAFETY: `raw` is ours, and `out` has room for `len` bytes.
+        let made = Digest::written(self.algorithm.0, |out, len| unsafe {
+            calls::yz_hmac_final(&self.raw, out, len)
+        });
+        Tag(made.expect("the message is within the limit"))
+    }
+}
+
+impl fmt::Debug for Context {
+    fn fmt(&self, f: &mut fmt::Formatter<'_>) -> fmt::Result {
+        write!(f, "Context {{ algorithm: {:?} }}", self.algorithm.0)
+    }
+}
+
+impl Drop for Context {
+    fn drop(&mut self) {
+        calls::clear(&mut self.raw);
+    }
+}

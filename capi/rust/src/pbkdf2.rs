@@ -1,0 +1,68 @@
+//! Keys from passwords: PBKDF2 (RFC 2898).
+
+use crate::error::Unspecified;
+use crate::{calls, digest, done};
+use std::num::NonZeroU32;
+
+/// An algorithm: one of the four constants.
+#[derive(Clone, Copy, Debug, PartialEq, Eq)]
+pub struct Algorithm(&'static digest::Algorithm);
+
+/// PBKDF2 over HMAC with SHA-1.
+pub static PBKDF2_HMAC_SHA1: Algorithm = Algorithm(&digest::SHA1_FOR_LEGACY_USE_ONLY);
+
+/// PBKDF2 over HMAC with SHA-256.
+pub static PBKDF2_HMAC_SHA256: Algorithm = Algorithm(&digest::SHA256);
+
+/// PBKDF2 over HMAC with SHA-384.
+pub static PBKDF2_HMAC_SHA384: Algorithm = Algorithm(&digest::SHA384);
+
+/// PBKDF2 over HMAC with SHA-512.
+pub static PBKDF2_HMAC_SHA512: Algorithm = Algorithm(&digest::SHA512);
+
+/// Fills `out` with the key that is derived from `secret`.
+pub fn derive(
+    algorithm: Algorithm,
+    iterations: NonZeroU32,
+    salt: &[u8],
+    secret: &[u8],
+    out: &mut [u8],
+) {
+    // SAFETY: all are lent for the call, `out` for writing.
+    let status = unsafe {
+        calls::yz_pbkdf2_derive(
+            algorithm.0.number,
+            iterations.get(),
+            salt.as_ptr(),
+            salt.len(),
+            secret.as_ptr(),
+            secret.len(),
+            out.as_mut_ptr(),
+            out.len(),
+        )
+    };
+    done(status).expect("secret, salt and output are within the limits");
+}
+
+/// Ok exactly where `previously_derived` isn't empty and is what [`derive`] gives for its length.
+pub fn verify(
+    algorithm: Algorithm,
+    iterations: NonZeroU32,
+    salt: &[u8],
+    secret: &[u8],
+    previously_derived: &[u8],
+) -> Result<(), Unspecified> {
+    // SAFETY: all are lent for the call.
+    done(unsafe {
+        calls::yz_pbkdf2_verify(
+            algorithm.0.number,
+            iterations.get(),
+            salt.as_ptr(),
+            salt.len(),
+            secret.as_ptr(),
+            secret.len(),
+            previously_derived.as_ptr(),
+            previously_derived.len(),
+        )
+    })
+}

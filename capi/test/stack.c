@@ -1,0 +1,62 @@
+/* How much stack the calls take: each is run on a stack of its own that was painted before. */
+#define _GNU_SOURCE
+#include "yezdopin.h"
+#include <stdio.h>
+#include <string.h>
+#include <ucontext.h>
+
+#define ROOM (64 * 1024)
+#define PROMISED (8 * 1024)
+#define PAINT 0xa5
+
+static uint8_t stack[ROOM] __attribute__((aligned(64)));
+static uint8_t bytes[400], out[400];
+static yz_digest_context context;
+static yz_hmac_key key;
+static yz_hmac_context tag;
+static uint32_t n;
+static int call;
+
+/* Runs one call on long inputs: a key past a block, several blocks, several rounds. */
+static void run(void) {
+    size_t len = yz_output_len(n);
+    yz_status status = YZ_OK;
+    switch (call) {
+    case 0: status = yz_digest(n, bytes, 400, out, len); break;
+    case 1: status = yz_digest_init(n, &context); break;
+    case 2: status = yz_digest_update(&context, bytes, 333); break;
+    case 3: status = yz_digest_final(&context, out, len); break;
+    case 4: status = yz_hmac_sign(n, bytes, 300, bytes, 400, out, len); break;
+    case 5: status = yz_hmac_verify(n, bytes, 300, bytes, 400, out, len); break;
+    case 6: status = yz_hmac_key_init(n, bytes, 300, &key); break;
+    case 7: status = yz_hmac_key_sign(&key, bytes, 400, out, len); break;
+    case 8: status = yz_hmac_key_verify(&key, bytes, 400, out, len); break;
+    case 9: status = yz_hmac_init(&key, &tag); break;
+    case 10: status = yz_hmac_update(&tag, bytes, 333); break;
+    case 11: status = yz_hmac_final(&tag, out, len); break;
+    case 12: status = yz_hkdf_extract(n, bytes, 300, bytes, 400, out, len); break;
+    case 13: status = yz_hkdf_expand(n, bytes, 300, bytes, 200, out, 400); break;
+    case 14: status = yz_hkdf(n, bytes, 300, bytes, 400, bytes, 200, out, 400); break;
+    case 15: status = yz_pbkdf2_derive(n, 3, bytes, 300, bytes, 400, out, 400); break;
+    case 16: status = yz_pbkdf2_verify(n, 3, bytes, 300, bytes, 400, out, 400); break;
+    }
+    if (status != YZ_OK) printf("call %d of algorithm %u answers %d\n", call, n, status);
+}
+
+int main(void) {
+    static size_t most;
+    for (n = YZ_SHA1; n <= YZ_SHA512; n++)
+        for (call = 0; call <= 16; call++) {
+            static ucontext_t back, there;
+            memset(stack, PAINT, ROOM);
+            if (getcontext(&there)) return 2;
+            there.uc_stack.ss_sp = stack, there.uc_stack.ss_size = ROOM, there.uc_link = &back;
+            makecontext(&there, run, 0);
+            if (swapcontext(&back, &there)) return 2;
+            size_t untouched = 0;
+            while (untouched < ROOM && stack[untouched] == PAINT) untouched++;
+            if (ROOM - untouched > most) most = ROOM - untouched;
+        }
+    printf("%zu bytes of stack at most, of %d\n", most, PROMISED);
+    return most > PROMISED;
+}

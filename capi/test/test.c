@@ -1,0 +1,286 @@
+/* Each status of each call, NULL at length 0, messages in pieces, copies in mid-stream, and garbage
+ * in the place of contexts and keys. Values come from the standards, named where they stand. */
+#include "yezdopin.h"
+#include <stdio.h>
+#include <stdlib.h>
+#include <string.h>
+
+_Static_assert(sizeof(yz_digest_context) == 216, "layout");
+_Static_assert(offsetof(yz_digest_context, num_pending) == 4, "layout");
+_Static_assert(offsetof(yz_digest_context, completed_low) == 8, "layout");
+_Static_assert(offsetof(yz_digest_context, completed_high) == 16, "layout");
+_Static_assert(offsetof(yz_digest_context, words) == 24, "layout");
+_Static_assert(offsetof(yz_digest_context, pending) == 88, "layout");
+_Static_assert(sizeof(yz_hmac_key) == 136, "layout");
+_Static_assert(offsetof(yz_hmac_key, inner) == 8, "layout");
+_Static_assert(offsetof(yz_hmac_key, outer) == 72, "layout");
+_Static_assert(sizeof(yz_hmac_context) == 280, "layout");
+_Static_assert(offsetof(yz_hmac_context, outer) == 216, "layout");
+
+#define PIECES_TURNS 4000
+#define GARBAGE_TURNS 50000
+#define MOST_MESSAGE 5000
+#define MOST_PIECE 300
+
+static int failures;
+
+#define IS(got, want)                                                                     \
+    do {                                                                                  \
+        long is_ = (long)(got), wanted_ = (long)(want);                                   \
+        if (is_ != wanted_) {                                                             \
+            printf("%s:%d: %s is %ld and not %ld\n", __FILE__, __LINE__, #got, is_, wanted_);\
+            failures++;                                                                   \
+        }                                                                                 \
+    } while (0)
+
+static const size_t OUTPUT[] = {0, YZ_SHA1_OUTPUT_LEN, YZ_SHA256_OUTPUT_LEN, YZ_SHA384_OUTPUT_LEN,
+                                YZ_SHA512_OUTPUT_LEN, YZ_SHA512_256_OUTPUT_LEN, 0};
+static const size_t BLOCK[] = {0, YZ_SHA1_BLOCK_LEN, YZ_SHA256_BLOCK_LEN, YZ_SHA384_BLOCK_LEN,
+                               YZ_SHA512_BLOCK_LEN, YZ_SHA512_256_BLOCK_LEN, 0};
+static uint8_t message[MOST_MESSAGE], a[70], b[70];
+
+static const uint8_t *text(const char *words) { return (const uint8_t *)words; }
+
+static size_t below(size_t limit) { return (size_t)rand() % limit; }
+
+static void fill_at_random(void *memory, size_t len) {
+    for (size_t i = 0; i < len; i++) ((uint8_t *)memory)[i] = (uint8_t)rand();
+}
+
+/* Each call once, with a value from outside. */
+static void known_values(void) {
+    static const uint8_t ABC[] = {0xba, 0x78, 0x16, 0xbf}, TAG[] = {0x5b, 0xdc, 0xc1, 0x46},
+                         PRK[] = {0x07, 0x77, 0x09, 0x36}, OKM[] = {0x3c, 0xb2, 0x5f, 0x25},
+                         DK[] = {0xea, 0x6c, 0x01, 0x4d};
+    uint8_t secret[22], salt[13], info[10], prk[32], out[42];
+    /* FIPS 180-4's example. */
+    IS(yz_digest(YZ_SHA256, text("abc"), 3, a, 32), YZ_OK);
+    IS(memcmp(a, ABC, 4), 0);
+    /* RFC 4231, test case 2. */
+    IS(yz_hmac_sign(YZ_SHA256, text("Jefe"), 4, text("what do ya want for nothing?"), 28, a, 32),
+       YZ_OK);
+    IS(memcmp(a, TAG, 4), 0);
+    /* RFC 5869, A.1. */
+    memset(secret, 0x0b, 22);
+    for (uint8_t i = 0; i < 13; i++) salt[i] = i;
+    for (uint8_t i = 0; i < 10; i++) info[i] = (uint8_t)(0xf0 + i);
+    IS(yz_hkdf_extract(YZ_SHA256, salt, 13, secret, 22, prk, 32), YZ_OK);
+    IS(memcmp(prk, PRK, 4), 0);
+    IS(yz_hkdf_expand(YZ_SHA256, prk, 32, info, 10, out, 42), YZ_OK);
+    IS(memcmp(out, OKM, 4), 0);
+    IS(yz_hkdf(YZ_SHA256, salt, 13, secret, 22, info, 10, out, 42), YZ_OK);
+    IS(memcmp(out, OKM, 4), 0);
+    /* RFC 6070, 2. */
+    IS(yz_pbkdf2_derive(YZ_SHA1, 2, text("salt"), 4, text("password"), 8, out, 20), YZ_OK);
+    IS(memcmp(out, DK, 4), 0);
+    IS(yz_pbkdf2_verify(YZ_SHA1, 2, text("salt"), 4, text("password"), 8, out, 20), YZ_OK);
+    out[19] ^= 1;
+    IS(yz_pbkdf2_verify(YZ_SHA1, 2, text("salt"), 4, text("password"), 8, out, 20),
+       YZ_UNSPECIFIED);
+}
+
+/* What each call answers to each number, to a wrong length, to no iterations, with NULLs. */
+static void statuses(void) {
+    yz_digest_context context;
+    yz_hmac_key key;
+    const uint32_t numbers[] = {0, 1, 2, 3, 4, 5, 6, 256, 0x80000002u, 0xffffffffu};
+    memset(a, 7, sizeof a);
+    for (size_t i = 0; i < sizeof numbers / sizeof *numbers; i++) {
+        uint32_t n = numbers[i];
+        bool digests = n >= 1 && n <= 5, tags = n >= 1 && n <= 4;
+        yz_status digested = digests ? YZ_OK : YZ_UNKNOWN_ALGORITHM;
+        yz_status tagged = tags ? YZ_OK : YZ_UNKNOWN_ALGORITHM;
+        yz_status misfit = tags ? YZ_WRONG_LENGTH : YZ_UNKNOWN_ALGORITHM;
+        yz_status other = tags ? YZ_UNSPECIFIED : YZ_UNKNOWN_ALGORITHM;
+        yz_status none = tags ? YZ_NO_ITERATIONS : YZ_UNKNOWN_ALGORITHM;
+        size_t len = digests ? OUTPUT[n] : 0;
+        IS(yz_output_len(n), len);
+        IS(yz_block_len(n), digests ? BLOCK[n] : 0);
+        for (size_t wrong = 0; wrong < sizeof a; wrong++)
+            if (wrong != len || !digests)
+                IS(yz_digest(n, NULL, 0, a, wrong),
+                   digests ? YZ_WRONG_LENGTH : YZ_UNKNOWN_ALGORITHM);
+        IS(yz_digest(n, NULL, 0, b, len), digested);
+        IS(yz_digest_init(n, &context), digested);
+        IS(yz_hmac_sign(n, NULL, 0, NULL, 0, a, len + 1), misfit);
+        IS(yz_hmac_sign(n, NULL, 0, NULL, 0, b, len), tagged);
+        IS(yz_hmac_verify(n, NULL, 0, NULL, 0, b, len), tagged);
+        IS(yz_hmac_verify(n, NULL, 0, NULL, 0, NULL, 0), other);
+        IS(yz_hmac_key_init(n, NULL, 0, &key), tagged);
+        IS(yz_hkdf_extract(n, NULL, 0, NULL, 0, a, len + 1), misfit);
+        IS(yz_hkdf_extract(n, NULL, 0, NULL, 0, b, len), tagged);
+        IS(yz_hkdf_expand(n, NULL, 0, NULL, 0, NULL, 0), tagged);
+        IS(yz_hkdf(n, NULL, 0, NULL, 0, NULL, 0, NULL, 0), tagged);
+        IS(yz_pbkdf2_derive(n, 0, NULL, 0, NULL, 0, a, 70), none);
+        IS(yz_pbkdf2_derive(n, 1, NULL, 0, NULL, 0, NULL, 0), tagged);
+        IS(yz_pbkdf2_verify(n, 0, NULL, 0, NULL, 0, NULL, 0), none);
+        IS(yz_pbkdf2_verify(n, 1, NULL, 0, NULL, 0, NULL, 0), other);
+    }
+    for (size_t i = 0; i < sizeof a; i++) IS(a[i], 7);
+}
+
+/* An output of HKDF may have 255 digests, and no byte more. */
+static void longest_outputs(void) {
+    static uint8_t out[255 * YZ_MAX_OUTPUT_LEN + 1];
+    for (uint32_t n = YZ_SHA1; n <= YZ_SHA512; n++) {
+        size_t most = 255 * OUTPUT[n];
+        IS(yz_hkdf(n, NULL, 0, NULL, 0, NULL, 0, out, most), YZ_OK);
+        IS(yz_hkdf_expand(n, NULL, 0, NULL, 0, out, most), YZ_OK);
+        memset(out, 7, sizeof out);
+        IS(yz_hkdf(n, NULL, 0, NULL, 0, NULL, 0, out, most + 1), YZ_WRONG_LENGTH);
+        IS(yz_hkdf_expand(n, NULL, 0, NULL, 0, out, most + 1), YZ_WRONG_LENGTH);
+        for (size_t i = 0; i < sizeof out; i++) IS(out[i], 7);
+    }
+}
+
+/* Zeros are no context and no key; contexts and keys at their lengths. */
+static void contexts(void) {
+    yz_digest_context context;
+    yz_hmac_key key;
+    yz_hmac_context tag;
+    memset(&context, 0, sizeof context), memset(&key, 0, sizeof key), memset(&tag, 0, sizeof tag);
+    IS(yz_digest_update(&context, message, 1), YZ_UNKNOWN_CONTEXT);
+    IS(yz_digest_final(&context, a, 32), YZ_UNKNOWN_CONTEXT);
+    IS(yz_hmac_key_sign(&key, message, 1, a, 32), YZ_UNKNOWN_CONTEXT);
+    IS(yz_hmac_key_verify(&key, message, 1, a, 32), YZ_UNKNOWN_CONTEXT);
+    IS(yz_hmac_init(&key, &tag), YZ_UNKNOWN_CONTEXT);
+    IS(yz_hmac_update(&tag, message, 1), YZ_UNKNOWN_CONTEXT);
+    IS(yz_hmac_final(&tag, a, 32), YZ_UNKNOWN_CONTEXT);
+    for (uint32_t n = YZ_SHA1; n <= YZ_SHA512; n++) {
+        IS(yz_digest_init(n, &context), YZ_OK);
+        IS(yz_digest_update(&context, NULL, 0), YZ_OK);
+        IS(yz_digest_final(&context, a, OUTPUT[n] - 1), YZ_WRONG_LENGTH);
+        IS(yz_digest_final(&context, a, OUTPUT[n] + 1), YZ_WRONG_LENGTH);
+        IS(yz_digest_final(&context, a, OUTPUT[n]), YZ_OK);
+        IS(yz_hmac_key_init(n, NULL, 0, &key), YZ_OK);
+        IS(yz_hmac_key_sign(&key, NULL, 0, a, OUTPUT[n] - 1), YZ_WRONG_LENGTH);
+        IS(yz_hmac_key_sign(&key, NULL, 0, a, OUTPUT[n]), YZ_OK);
+        IS(yz_hmac_key_verify(&key, NULL, 0, NULL, 0), YZ_UNSPECIFIED);
+        IS(yz_hmac_init(&key, &tag), YZ_OK);
+        IS(yz_hmac_update(&tag, NULL, 0), YZ_OK);
+        IS(yz_hmac_final(&tag, b, OUTPUT[n] + 1), YZ_WRONG_LENGTH);
+        IS(yz_hmac_final(&tag, b, OUTPUT[n]), YZ_OK);
+        IS(memcmp(a, b, OUTPUT[n]), 0);
+    }
+}
+
+/* A context whose count is past the limit: the digest is refused, and so is the tag. No message is
+ * as long, but the numbers may be written. */
+static void past_the_limit(void) {
+    yz_digest_context context;
+    yz_hmac_key key;
+    yz_hmac_context tag;
+    memset(a, 7, sizeof a);
+    IS(yz_digest_init(YZ_SHA256, &context), YZ_OK);
+    context.completed_low = UINT64_C(1) << 61;
+    IS(yz_digest_final(&context, a, 32), YZ_UNSPECIFIED);
+    IS(yz_digest_init(YZ_SHA512, &context), YZ_OK);
+    context.completed_low = UINT64_C(1) << 61;
+    IS(yz_digest_final(&context, b, 64), YZ_OK);
+    context.completed_high = UINT64_C(1) << 61;
+    IS(yz_digest_final(&context, a, 64), YZ_UNSPECIFIED);
+    IS(yz_hmac_key_init(YZ_SHA256, NULL, 0, &key), YZ_OK);
+    IS(yz_hmac_init(&key, &tag), YZ_OK);
+    tag.inner.completed_high = 1;
+    IS(yz_hmac_final(&tag, a, 32), YZ_UNSPECIFIED);
+    for (size_t i = 0; i < sizeof a; i++) IS(a[i], 7);
+}
+
+/* A message in pieces gives what it gives as a whole; a copy and a look in mid-stream change
+ * nothing. */
+static void digest_in_pieces(uint32_t n, size_t len) {
+    yz_digest_context context;
+    IS(yz_digest(n, message, len, a, OUTPUT[n]), YZ_OK);
+    IS(yz_digest_init(n, &context), YZ_OK);
+    for (size_t i = 0, piece; i < len; i += piece) {
+        piece = below(MOST_PIECE);
+        if (piece > len - i) piece = len - i;
+        IS(yz_digest_update(&context, message + i, piece), YZ_OK);
+        yz_digest_context copy = context;
+        IS(yz_digest_update(&copy, message, 5), YZ_OK);
+        IS(yz_digest_final(&context, b, OUTPUT[n]), YZ_OK);
+    }
+    IS(yz_digest_final(&context, b, OUTPUT[n]), YZ_OK);
+    IS(memcmp(a, b, OUTPUT[n]), 0);
+}
+
+static void tag_in_pieces(uint32_t n, size_t key_len, size_t len) {
+    yz_hmac_key key;
+    yz_hmac_context context;
+    IS(yz_hmac_sign(n, message, key_len, message, len, a, OUTPUT[n]), YZ_OK);
+    IS(yz_hmac_key_init(n, message, key_len, &key), YZ_OK);
+    IS(yz_hmac_key_sign(&key, message, len, b, OUTPUT[n]), YZ_OK);
+    IS(memcmp(a, b, OUTPUT[n]), 0);
+    IS(yz_hmac_init(&key, &context), YZ_OK);
+    for (size_t i = 0, piece; i < len; i += piece) {
+        piece = below(MOST_PIECE);
+        if (piece > len - i) piece = len - i;
+        IS(yz_hmac_update(&context, message + i, piece), YZ_OK);
+        yz_hmac_context copy = context;
+        IS(yz_hmac_update(&copy, message, 5), YZ_OK);
+        IS(yz_hmac_final(&context, b, OUTPUT[n]), YZ_OK);
+    }
+    IS(yz_hmac_final(&context, b, OUTPUT[n]), YZ_OK);
+    IS(memcmp(a, b, OUTPUT[n]), 0);
+    IS(yz_hmac_key_verify(&key, message, len, b, OUTPUT[n]), YZ_OK);
+    IS(yz_hmac_verify(n, message, key_len, message, len, b, OUTPUT[n]), YZ_OK);
+    IS(yz_hmac_key_verify(&key, message, len, b, OUTPUT[n] - 1), YZ_UNSPECIFIED);
+    b[below(OUTPUT[n])] ^= (uint8_t)(1 << below(8));
+    IS(yz_hmac_key_verify(&key, message, len, b, OUTPUT[n]), YZ_UNSPECIFIED);
+    IS(yz_hmac_verify(n, message, key_len, message, len, b, OUTPUT[n]), YZ_UNSPECIFIED);
+}
+
+static void pieces(void) {
+    for (int turn = 0; turn < PIECES_TURNS; turn++) {
+        uint32_t n = 1 + (uint32_t)below(5);
+        size_t len = below(below(MOST_MESSAGE) + 1);
+        fill_at_random(message, len);
+        digest_in_pieces(n, len);
+        if (n != YZ_SHA512_256) tag_in_pieces(n, below(MOST_PIECE), len);
+    }
+}
+
+/* Any bytes in the place of contexts and keys: the sanitizers see that nothing else is touched. */
+static void garbage(void) {
+    yz_digest_context context;
+    yz_hmac_key key;
+    yz_hmac_context tag;
+    int seen[6] = {0};
+    for (int turn = 0; turn < GARBAGE_TURNS; turn++) {
+        fill_at_random(&context, sizeof context);
+        fill_at_random(&key, sizeof key);
+        fill_at_random(&tag, sizeof tag);
+        context.algorithm = (uint32_t)below(7), context.num_pending = (uint32_t)below(200);
+        key.algorithm = (uint32_t)below(7);
+        tag.inner.algorithm = (uint32_t)below(7), tag.inner.num_pending = (uint32_t)below(200);
+        seen[yz_digest_update(&context, message, below(4000))]++;
+        seen[yz_digest_final(&context, a, 32)]++;
+        seen[yz_hmac_key_sign(&key, message, below(400), a, 32)]++;
+        seen[yz_hmac_update(&tag, message, below(400))]++;
+        seen[yz_hmac_final(&tag, a, 32)]++;
+    }
+    printf("%d calls on garbage: %d done, %d no context, %d wrong length, %d past a limit\n",
+           5 * GARBAGE_TURNS, seen[0], seen[2], seen[3], seen[5]);
+    IS(seen[0] > 0 && seen[2] > 0 && seen[3] > 0 && seen[5] > 0, 1);
+    IS(seen[1] + seen[4], 0);
+}
+
+static void equality_and_clearing(void) {
+    IS(yz_equal(NULL, 0, NULL, 0), 1);
+    IS(yz_equal(message, 8, message, 8), 1);
+    IS(yz_equal(message, 8, message, 7), 0);
+    memset(a, 9, sizeof a), memset(b, 9, sizeof b);
+    b[40] = 8;
+    IS(yz_equal(a, sizeof a, b, sizeof b), 0);
+    yz_clear(a, 69), yz_clear(NULL, 0);
+    for (size_t i = 0; i < 69; i++) IS(a[i], 0);
+    IS(a[69], 9);
+}
+
+int main(void) {
+    IS(yz_version(), YZ_VERSION);
+    known_values(), statuses(), longest_outputs(), contexts(), past_the_limit();
+    pieces(), garbage(), equality_and_clearing();
+    if (failures) printf("%d failures\n", failures);
+    return failures != 0;
+}

@@ -1,0 +1,190 @@
+/* Answers each line of the files that it is given (docs/LINES.md has their format) by these calls,
+ * and compares with what stands behind `#= ` below the line, but for the number of blocks. */
+#include "yezdopin.h"
+#include <stdio.h>
+#include <stdlib.h>
+#include <string.h>
+
+#define MOST_FIELDS 7
+
+typedef struct {
+    uint8_t *bytes;
+    size_t len;
+} piece;
+
+static void *held(void *memory) {
+    if (!memory) abort();
+    return memory;
+}
+
+static uint32_t number_of(const char *name) {
+    static const char *const NAMES[] = {"SHA1", "SHA256", "SHA384", "SHA512", "SHA512_256"};
+    for (uint32_t i = 0; i < 5; i++)
+        if (!strcmp(name, NAMES[i])) return i + 1;
+    return 0;
+}
+
+/* The bytes of hex digits, up to their end or a comma; none for `-`. */
+static piece bytes_of(const char *hex) {
+    size_t digits = *hex == '-' ? 0 : strcspn(hex, ",");
+    piece made = {held(malloc(digits / 2 + 1)), digits / 2};
+    for (size_t i = 0; i < made.len; i++)
+        if (sscanf(hex + 2 * i, "%2hhx", &made.bytes[i]) != 1) abort();
+    return made;
+}
+
+/* The bytes of all pieces. */
+static piece joined(const char *pieces) {
+    piece all = {held(malloc(strlen(pieces) + 1)), 0};
+    for (const char *at = pieces; at; at = strchr(at, ',') ? strchr(at, ',') + 1 : NULL) {
+        piece next = bytes_of(at);
+        memcpy(all.bytes + all.len, next.bytes, next.len);
+        all.len += next.len;
+        free(next.bytes);
+    }
+    return all;
+}
+
+/* A digest, whole and by its pieces, which must agree. */
+static yz_status digest(uint32_t n, const char *pieces, uint8_t *out, size_t out_len) {
+    yz_digest_context context;
+    uint8_t whole[YZ_MAX_OUTPUT_LEN];
+    piece all = joined(pieces);
+    yz_status status = yz_digest(n, all.bytes, all.len, whole, out_len);
+    free(all.bytes);
+    if (status || yz_digest_init(n, &context)) return status;
+    for (const char *at = pieces; at; at = strchr(at, ',') ? strchr(at, ',') + 1 : NULL) {
+        piece next = bytes_of(at);
+        if (yz_digest_update(&context, next.bytes, next.len)) abort();
+        free(next.bytes);
+    }
+    status = yz_digest_final(&context, out, out_len);
+    if (!yz_equal(whole, out_len, out, out_len)) abort();
+    return status;
+}
+
+/* A tag, whole, under a key and by its pieces, which must agree. */
+static yz_status sign(uint32_t n, piece value, const char *pieces, uint8_t *out, size_t out_len) {
+    yz_hmac_key key;
+    yz_hmac_context context;
+    uint8_t whole[YZ_MAX_OUTPUT_LEN], once[YZ_MAX_OUTPUT_LEN];
+    piece all = joined(pieces);
+    yz_status status = yz_hmac_sign(n, value.bytes, value.len, all.bytes, all.len, whole, out_len);
+    if (!status) status = yz_hmac_key_init(n, value.bytes, value.len, &key);
+    if (!status) status = yz_hmac_key_sign(&key, all.bytes, all.len, once, out_len);
+    free(all.bytes);
+    if (status || yz_hmac_init(&key, &context)) return status;
+    for (const char *at = pieces; at; at = strchr(at, ',') ? strchr(at, ',') + 1 : NULL) {
+        piece next = bytes_of(at);
+        if (yz_hmac_update(&context, next.bytes, next.len)) abort();
+        free(next.bytes);
+    }
+    status = yz_hmac_final(&context, out, out_len);
+    if (!yz_equal(whole, out_len, out, out_len) || !yz_equal(once, out_len, out, out_len)) abort();
+    return status;
+}
+
+/* A verification, whole and under a key, which must agree. */
+static yz_status verify(uint32_t n, piece value, piece message, piece tag) {
+    yz_hmac_key key;
+    yz_status status =
+        yz_hmac_verify(n, value.bytes, value.len, message.bytes, message.len, tag.bytes, tag.len);
+    if (yz_hmac_key_init(n, value.bytes, value.len, &key)) abort();
+    if (yz_hmac_key_verify(&key, message.bytes, message.len, tag.bytes, tag.len) != status) abort();
+    return status;
+}
+
+/* An output of HKDF, in two calls and in one, which must agree. */
+static yz_status expand(uint32_t n, piece salt, piece secret, piece info, uint8_t *out,
+                        size_t len) {
+    uint8_t prk[YZ_MAX_OUTPUT_LEN];
+    uint8_t *once = held(malloc(len + 1));
+    size_t prk_len = yz_output_len(n);
+    yz_status status =
+        yz_hkdf_extract(n, salt.bytes, salt.len, secret.bytes, secret.len, prk, prk_len);
+    if (!status) status = yz_hkdf_expand(n, prk, prk_len, info.bytes, info.len, out, len);
+    if (yz_hkdf(n, salt.bytes, salt.len, secret.bytes, secret.len, info.bytes, info.len, once, len)
+        != status) abort();
+    if (!status && !yz_equal(once, len, out, len)) abort();
+    free(once);
+    return status;
+}
+
+/* Writes the answer to a line's fields as the files have it. */
+static void answer(char **field, int count, char *text) {
+    static uint8_t out[65536];
+    uint32_t n = number_of(field[1]);
+    size_t len = yz_output_len(n);
+    piece a = {NULL, 0}, b = a, c = a;
+    yz_status status = YZ_UNKNOWN_ALGORITHM;
+    int verdict = 0;
+    if (!strcmp(field[0], "digest") && count == 3) {
+        status = digest(n, field[2], out, len);
+    } else if (!strcmp(field[0], "hmac") && count == 4) {
+        a = bytes_of(field[2]);
+        status = sign(n, a, field[3], out, len);
+    } else if (!strcmp(field[0], "hmac-verify") && count == 5) {
+        a = bytes_of(field[2]), b = joined(field[3]), c = bytes_of(field[4]);
+        status = verify(n, a, b, c), verdict = 1;
+    } else if (!strcmp(field[0], "hkdf") && count == 6) {
+        a = bytes_of(field[2]), b = bytes_of(field[3]), c = joined(field[4]), len = atol(field[5]);
+        status = expand(n, a, b, c, out, len);
+    } else if (!strcmp(field[0], "pbkdf2") && count == 6) {
+        a = bytes_of(field[3]), b = bytes_of(field[4]), len = atol(field[5]);
+        status = yz_pbkdf2_derive(n, strtoul(field[2], NULL, 10), b.bytes, b.len, a.bytes, a.len,
+                                  out, len);
+    } else if (!strcmp(field[0], "pbkdf2-verify") && count == 6) {
+        a = bytes_of(field[3]), b = bytes_of(field[4]), c = bytes_of(field[5]), verdict = 1;
+        status = yz_pbkdf2_verify(n, strtoul(field[2], NULL, 10), b.bytes, b.len, a.bytes, a.len,
+                                  c.bytes, c.len);
+    }
+    free(a.bytes), free(b.bytes), free(c.bytes);
+    if (verdict) {
+        strcpy(text, status == YZ_OK ? "match" : status == YZ_UNSPECIFIED ? "mismatch" : "?");
+        return;
+    }
+    if (status != YZ_OK) {
+        strcpy(text, status == YZ_WRONG_LENGTH || status == YZ_UNSPECIFIED ? "refused" : "?");
+        return;
+    }
+    strcpy(text, len ? "" : "-");
+    for (size_t i = 0; i < len; i++) sprintf(text + 2 * i, "%02x", out[i]);
+}
+
+/* Whether the answer to a line is the wanted one. */
+static bool agrees(const char *line, char *wanted) {
+    static char got[1 << 18];
+    char *fields[MOST_FIELDS], *copy = held(strdup(line));
+    int count = 0;
+    for (char *at = strtok(copy, " "); at && count < MOST_FIELDS; at = strtok(NULL, " "))
+        fields[count++] = at;
+    answer(fields, count, got);
+    free(copy);
+    wanted[strcspn(wanted, " ")] = 0;
+    /* A verification doesn't tell its cause. */
+    if (!strcmp(got, wanted) || (!strcmp(got, "mismatch") && !strcmp(wanted, "refused")))
+        return true;
+    printf("%s\n  is %s\n and not %s\n", line, got, wanted);
+    return false;
+}
+
+int main(int count, char **names) {
+    static char line[1 << 18], last[1 << 18];
+    int agree = 0, differ = 0;
+    for (int i = 1; i < count; i++) {
+        FILE *file = fopen(names[i], "r");
+        if (!file) return perror(names[i]), 2;
+        while (fgets(line, sizeof line, file)) {
+            line[strcspn(line, "\n")] = 0;
+            if (!strncmp(line, "#= ", 3)) {
+                if (agrees(last, line + 3)) agree++;
+                else differ++;
+            } else if (*line && *line != '#') {
+                strcpy(last, line);
+            }
+        }
+        fclose(file);
+    }
+    printf("%d lines agree, %d differ\n", agree, differ);
+    return differ || !agree;
+}

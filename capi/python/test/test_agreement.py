@@ -66,7 +66,10 @@ class Digests(unittest.TestCase):
             self.assertEqual(ours.digest_size, theirs.digest_size)
             self.assertEqual(ours.block_size, theirs.block_size)
             self.assertEqual(ours.name, name)
-        self.assertEqual(yezdopin.new("SHA-256", b"abc").digest(), hashlib.sha256(b"abc").digest())
+        for name in ("SHA-256", "sha256", "SHA256"):
+            self.assertEqual(yezdopin.new(name).name, "sha256")
+        for name in ("SHA-512/256", "SHA512_256"):
+            self.assertEqual(yezdopin.new(name).name, "sha512_256")
 
     def test_threads(self):
         """Calls let other threads run, and share nothing."""

@@ -49,7 +49,7 @@ class Digest:
 
     def __init__(self, name: str, data: Any = b"") -> None:
         number = _library.number_of(name)
-        self.name = name.lower()
+        self.name = _library.name_of(number)
         self.digest_size: int = _library.output_len(number)
         self.block_size: int = _library.block_len(number)
         self._context = _library.DigestContext()

@@ -109,6 +109,11 @@ def number_of(name: str) -> int:
     return number
 
 
+def name_of(number: int) -> str:
+    """The name of an algorithm, as `hashlib` has it."""
+    return next(name for name, it in _NUMBERS.items() if it == number)
+
+
 def clear(value: ctypes.Structure) -> None:
     """Writes zeros over a context or a key."""
     _clear(ctypes.byref(value), ctypes.sizeof(value))

@@ -22,7 +22,7 @@ class Key:
 
     def __init__(self, key: Any, digestmod: str) -> None:
         number = _library.number_of(digestmod)
-        self.name = digestmod.lower()
+        self.name = _library.name_of(number)
         self.digest_size: int = _library.output_len(number)
         self.block_size: int = _library.block_len(number)
         self._key = _library.Key()

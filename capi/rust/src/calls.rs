@@ -65,7 +65,6 @@ pub unsafe trait Plain {}
 unsafe impl Plain for DigestContext {}
 unsafe impl Plain for HmacKey {}
 unsafe impl Plain for HmacContext {}
-unsafe impl Plain for [u8; 64] {}
 
 /// Writes zeros over a value, by a call that no compiler leaves out.
 pub fn clear<T: Plain>(value: &mut T) {

@@ -4,6 +4,7 @@ use crate::calls;
 use crate::digest::Digest;
 use crate::error::Unspecified;
 use crate::{done, hmac};
+use std::fmt;
 
 // The most digests of an output.
 const MAX_ROUNDS: usize = 255;
@@ -37,6 +38,8 @@ pub static HKDF_SHA384: Algorithm = Algorithm(hmac::HMAC_SHA384);
 pub static HKDF_SHA512: Algorithm = Algorithm(hmac::HMAC_SHA512);
 
 /// The length of an output.
+// As in `ring`, it has no `is_empty`.
+#[allow(clippy::len_without_is_empty)]
 pub trait KeyType {
     /// The number of bytes.
     fn len(&self) -> usize;
@@ -55,6 +58,7 @@ impl KeyType for Algorithm {
 }
 
 // Bytes of a secret, which are cleared when they are let go.
+#[derive(Clone)]
 struct Secret(Vec<u8>);
 
 impl Drop for Secret {
@@ -102,7 +106,18 @@ impl Salt {
     }
 }
 
+impl fmt::Debug for Salt {
+    fn fmt(&self, f: &mut fmt::Formatter<'_>) -> fmt::Result {
+        write!(
+            f,
+            "Salt {{ algorithm: {:?} }}",
+            self.algorithm.0.digest_algorithm()
+        )
+    }
+}
+
 /// A pseudorandom key, from which outputs are expanded.
+#[derive(Clone)]
 pub struct Prk {
     value: Secret,
     algorithm: Algorithm,
@@ -137,7 +152,18 @@ impl Prk {
     }
 }
 
+impl fmt::Debug for Prk {
+    fn fmt(&self, f: &mut fmt::Formatter<'_>) -> fmt::Result {
+        write!(
+            f,
+            "Prk {{ algorithm: {:?} }}",
+            self.algorithm.0.digest_algorithm()
+        )
+    }
+}
+
 /// An output that was asked for, and not yet given.
+#[derive(Debug)]
 pub struct Okm<'a, L: KeyType> {
     prk: &'a Prk,
     info: &'a [&'a [u8]],

@@ -1,6 +1,6 @@
 //! Digests.
 
-ghost use Rattle.std.specs.Prelude.{◌≡◌, ◌≢◌, ◌↔◌, ◌++◌, [], ℕ, List, Some, None, length};
+ghost use Rattle.std.specs.Prelude.{◌≡◌, ◌≢◌, ◌↔◌, ◌⊎◌, ◌++◌, [], ℕ, List, Some, None, length};
 ghost use Rattle.ring.specs.Algorithm.{output_len};
 ghost use Rattle.ring.specs.Digest.{digest_of};
 ghost use Rattle.ring.specs.Limits.{IsMessageWithin};
@@ -85,6 +85,8 @@ pub extern "C" fn yz_digest_final(context: &RawContext, out: &mut [u8]) -> i32
         → length out.old ≡ output_len a → (result ≡ OK ↔ IsMessageWithin a (length m)) }
     ensures told { (a : Algorithm) (m : List ℕ) → RawStandsFor context.now a m
         → length out.old ≡ output_len a → result ≢ OK → result ≡ UNSPECIFIED }
+    ensures any { (result ≡ OK) ⊎ (result ≡ UNKNOWN_CONTEXT) ⊎ (result ≡ WRONG_LENGTH)
+        ⊎ (result ≡ UNSPECIFIED) }
     ensures unchanged { result ≢ OK → out.new ≡ out.old }
 {
     let Some(running) = context.context() else {

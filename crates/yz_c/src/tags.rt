@@ -1,6 +1,6 @@
 //! Tags.
 
-ghost use Rattle.std.specs.Prelude.{◌≡◌, ◌≢◌, ◌↔◌, ◌++◌, [], ℕ, List, Some, None, length};
+ghost use Rattle.std.specs.Prelude.{◌≡◌, ◌≢◌, ◌↔◌, ◌⊎◌, ◌++◌, [], ℕ, List, Some, None, length};
 ghost use Rattle.ring.specs.Algorithm.{output_len};
 ghost use Rattle.ring.specs.Hmac.{KeyStandsFor, based_on, hmac_of, key_algorithm};
 ghost use Rattle.ring.specs.Limits.{IsMessageWithin, IsTagWithin};
@@ -32,8 +32,8 @@ pub(crate) fn write_tag(key: &Key, message: &[u8], out: &mut [u8]) -> i32
     OK
 }
 
-// Tests the tag of a message.
-fn test_tag(key: &Key, message: &[u8], tag: &[u8]) -> i32
+// Verifies the tag of a message.
+fn verify_tag(key: &Key, message: &[u8], tag: &[u8]) -> i32
     ensures ok { (k : List ℕ) → KeyStandsFor key.now k
         → (result ≡ OK ↔ (IsTagWithin (key_algorithm key.now) (length message.now)
         × (tag.now ≡ hmac_of (key_algorithm key.now) k message.now))) }
@@ -87,7 +87,7 @@ pub extern "C" fn yz_hmac_verify(algorithm: u32, key: &[u8], message: &[u8], tag
     let Ok(verifying_key) = Key::new(algorithm, key) else {
         return UNSPECIFIED;
     };
-    test_tag(&verifying_key, message, tag)
+    verify_tag(&verifying_key, message, tag)
 }
 
 /// Makes a key of the bytes `value`, so that no signing under it makes one again.
@@ -122,6 +122,8 @@ pub extern "C" fn yz_hmac_key_sign(key: &RawKey, message: &[u8], out: &mut [u8])
         → length out.old ≡ output_len a → (result ≡ OK ↔ IsTagWithin a (length message.now)) }
     ensures told { (a : digest.Algorithm) (k : List ℕ) → RawKeyStandsFor key.now a k
         → length out.old ≡ output_len a → result ≢ OK → result ≡ UNSPECIFIED }
+    ensures any { (result ≡ OK) ⊎ (result ≡ UNKNOWN_CONTEXT) ⊎ (result ≡ WRONG_LENGTH)
+        ⊎ (result ≡ UNSPECIFIED) }
     ensures unchanged { result ≢ OK → out.new ≡ out.old }
 {
     let Some(key) = key.key() else {
@@ -141,11 +143,12 @@ pub extern "C" fn yz_hmac_key_verify(key: &RawKey, message: &[u8], tag: &[u8]) -
         × (tag.now ≡ hmac_of a k message.now))) }
     ensures told { (a : digest.Algorithm) (k : List ℕ) → RawKeyStandsFor key.now a k
         → result ≢ OK → result ≡ UNSPECIFIED }
+    ensures any { (result ≡ OK) ⊎ (result ≡ UNKNOWN_CONTEXT) ⊎ (result ≡ UNSPECIFIED) }
 {
     let Some(key) = key.key() else {
         return UNKNOWN_CONTEXT;
     };
-    test_tag(&key, message, tag)
+    verify_tag(&key, message, tag)
 }
 
 /// Begins the tag, under a key, of a message that comes in pieces.
@@ -194,6 +197,8 @@ pub extern "C" fn yz_hmac_final(context: &RawTagContext, out: &mut [u8]) -> i32
         → length out.old ≡ output_len a → (result ≡ OK ↔ IsTagWithin a (length m)) }
     ensures told { (a : digest.Algorithm) (k m : List ℕ) → RawTagStandsFor context.now a k m
         → length out.old ≡ output_len a → result ≢ OK → result ≡ UNSPECIFIED }
+    ensures any { (result ≡ OK) ⊎ (result ≡ UNKNOWN_CONTEXT) ⊎ (result ≡ WRONG_LENGTH)
+        ⊎ (result ≡ UNSPECIFIED) }
     ensures unchanged { result ≢ OK → out.new ≡ out.old }
 {
     let Some(running) = context.context() else {

@@ -22,9 +22,6 @@ use ring_core::digest::sha2::{
 use ring_core::error::Unspecified;
 use ring_core::polyfill::slice::as_chunks;
 
-#[cfg(test)]
-mod tests;
-
 // Makes `words`, of any algorithm of 64-bit words, those after each whole block of `input`, and
 // gives what comes after the last one.
 fn run_blocks_64<'i>(words: &mut State64, input: &'i [u8], meter: &mut Meter) -> &'i [u8]

@@ -1,6 +1,7 @@
 //! The numbers of a digest's context.
 
-ghost use Rattle.std.specs.Prelude.{◌≡◌, ℕ, List, ◌++◌, IfSome, IsSomeAnd, IsTrue, IsFalse, Some};
+ghost use Rattle.std.specs.Prelude.{◌≡◌, ◌↔◌, ℕ, ◌+◌, ◌<◌, List, ◌++◌, length, IfSome, IsSomeAnd, IsTrue, IsFalse, Some};
+ghost use Rattle.ring.specs.Algorithm.{block_len};
 ghost use Rattle.ring.specs.Context.{StandsFor, context_algorithm};
 ghost use Rattle.ring.specs.declared.digest.algorithm.Algorithm.{Algorithm};
 
@@ -53,6 +54,8 @@ impl RawContext {
     pub fn keep(&mut self, input: &[u8]) -> bool
         ensures stands { IsTrue result → (a : Algorithm) (m : List ℕ)
             → RawStandsFor self.old a m → RawStandsFor self.new a (m ++ input.now) }
+        ensures short { (a : Algorithm) (m : List ℕ) → RawStandsFor self.old a m
+            → (IsTrue result ↔ (self.old.num_pending + length input.now < block_len a)) }
         ensures unchanged { IsFalse result → self.new ≡ self.old }
     {
         let Some(algorithm) = digest_of_number(self.algorithm) else {

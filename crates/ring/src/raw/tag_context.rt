@@ -1,6 +1,7 @@
 //! The numbers of a tag's context.
 
-ghost use Rattle.std.specs.Prelude.{◌≡◌, ℕ, List, ◌++◌, IfSome, IsSomeAnd, IsTrue, IsFalse, Some};
+ghost use Rattle.std.specs.Prelude.{◌≡◌, ◌↔◌, ℕ, ◌+◌, ◌<◌, List, ◌++◌, length, IfSome, IsSomeAnd, IsTrue, IsFalse, Some};
+ghost use Rattle.ring.specs.Algorithm.{block_len};
 ghost use Rattle.ring.specs.Hmac.{TagStandsFor, signing_algorithm};
 ghost use Rattle.ring.specs.declared.digest.algorithm.Algorithm.{Algorithm};
 
@@ -39,6 +40,9 @@ impl RawTagContext {
     pub fn keep(&mut self, input: &[u8]) -> bool
         ensures stands { IsTrue result → (a : Algorithm) (k m : List ℕ)
             → RawTagStandsFor self.old a k m → RawTagStandsFor self.new a k (m ++ input.now) }
+        ensures short { (a : Algorithm) (k m : List ℕ) → RawTagStandsFor self.old a k m
+            → (IsTrue result
+            ↔ (self.old.inner.num_pending + length input.now < block_len a)) }
         ensures unchanged { IsFalse result → self.new ≡ self.old }
     {
         self.inner.keep(input)

@@ -1,12 +1,17 @@
 -- How a chain follows a list of whole blocks as it grows.
-use Rattle.std.proofs.Common.{refl, ◌≤◌, ◌≡◌, ℕ, zero, ◌+◌, ◌-◌, ◌*◌, ◌/◌, ◌%◌, ◌<◌, List, [], ◌++◌, length, take, drop, sym, ap, ◌∙◌, arith, add_comm, length-append, length-drop, replicate}
+use Rattle.std.proofs.Common.{
+  refl, ◌≤◌, ◌≡◌, ℕ, zero, ◌+◌, ◌-◌, ◌*◌, ◌/◌, ◌%◌, ◌<◌, List, [], ◌++◌, length, take, drop, sym, ap, ◌∙◌,
+  arith, add_comm, length-append, length-drop, replicate,
+}
 use Rattle.std.proofs.lemmas.List.{length-take-le, take-append-drop}
 use Rattle.std.proofs.Math.Nat.{mul-div_cancel, div-mul-le_self, add-mul-div_left}
 use Rattle.std.proofs.lemmas.Nat.{div-add-mod', mod-mul-add, div-mul-add, mod_below}
 use Rattle.ring_core.specs.Chunks.{chained}
 use Rattle.ring_core.specs.Cost.{Counts, raised}
 use Rattle.ring_core.proofs.Chained.{chained-none, chained-then, chained-append}
-use Rattle.ring.specs.Algorithm.{block_function, block_len, initial_words, chaining_words, spare_words, word_count}
+use Rattle.ring.specs.Algorithm.{
+  block_function, block_len, initial_words, chaining_words, spare_words, word_count,
+}
 use Rattle.ring.specs.Context.{HasMoved, HasTaken, cut_off}
 use Rattle.ring.specs.Cost.{whole_blocks}
 use Rattle.ring.specs.Digest.{chain}
@@ -33,7 +38,8 @@ pub whole_mul : (x b : ℕ) → x % b ≡ 0 → x ≡ x / b * b
 whole_mul x b h = let e = div-add-mod' x b in omega (arith, e)
 
 -- two multiples added
-pub whole-add : (x y b : ℕ) → zero < b → x % b ≡ 0 → y % b ≡ 0 → ((x + y) % b ≡ 0) × ((x + y) / b ≡ x / b + y / b)
+pub whole-add : (x y b : ℕ) → zero < b → x % b ≡ 0 → y % b ≡ 0
+    → ((x + y) % b ≡ 0) × ((x + y) / b ≡ x / b + y / b)
 whole-add x y b pos hx hy =
     let ex : x ≡ x / b * b = whole_mul x b hx in
     let ey : y ≡ y / b * b = whole_mul y b hy in
@@ -41,8 +47,10 @@ whole-add x y b pos hx hy =
     let m = mul_whole (x / b + y / b) b pos in
     (ap (λ (z : ℕ). z % b) e ∙ m.0, ap (λ (z : ℕ). z / b) e ∙ m.1)
 
-pub IsWhole-append : (a : Algorithm) (p x : List ℕ) → IsWhole a p → IsWhole a x → IsWhole a (p ++ x)
-IsWhole-append a p x hp hx = rw length-append (whole-add (length p) (length x) (block_len a) (block_len-positive a) hp hx).0
+pub IsWhole-append : (a : Algorithm) (p x : List ℕ) → IsWhole a p → IsWhole a x
+    → IsWhole a (p ++ x)
+IsWhole-append a p x hp hx =
+    rw length-append (whole-add (length p) (length x) (block_len a) (block_len-positive a) hp hx).0
 
 -- the chain of no block
 pub chain-nil : (a : Algorithm) → chain a [] ≡ initial_words a
@@ -51,17 +59,25 @@ chain-nil a =
     let z : 0 / block_len a ≡ 0 = (zero_whole (block_len a) (block_len-positive a)).1 in
     rw z (chained-none _ _ _ _)
 
+-- the words h after the whole blocks of x
+abbrev pub chained_from : Algorithm → (h x : List ℕ) → List ℕ
+chained_from a h x = chained (block_function a) (block_len a) h x (whole_blocks a (length x))
+
 -- the chain of a longer list
-pub chain-append : (a : Algorithm) (p x : List ℕ) → IsWhole a p → IsWhole a x → chain a (p ++ x) ≡ chained (block_function a) (block_len a) (chain a p) x (length x / block_len a)
+pub chain-append : (a : Algorithm) (p x : List ℕ) → IsWhole a p → IsWhole a x
+    → chain a (p ++ x) ≡ chained_from a (chain a p) x
 unfolding chain
 chain-append a p x hp hx =
-    let e : length (p ++ x) / block_len a ≡ length p / block_len a + length x / block_len a =
-    rw length-append (whole-add (length p) (length x) (block_len a) (block_len-positive a) hp hx).1 in
-    rw e (chained-then (block_function a) (block_len a) (initial_words a) p x (length p / block_len a) (length x / block_len a) (whole_mul (length p) (block_len a) hp))
+    let b : ℕ = block_len a in
+    let sum = whole-add (length p) (length x) b (block_len-positive a) hp hx in
+    let e : length (p ++ x) / b ≡ length p / b + length x / b = rw length-append sum.1 in
+    let whole : length p ≡ length p / b * b = whole_mul (length p) b hp in
+    rw e (chained-then (block_function a) b (initial_words a) p x _ (length x / b) whole)
 
 -- no block taken
 pub HasTaken-nil : (b : BlockContext) → chaining_words b.algorithm b.state ≡ initial_words b.algorithm
-    → spare_words b.algorithm b.state ≡ replicate (8 - word_count b.algorithm) 0 → b.completed_bytes ≡ 0 → HasTaken b []
+    → spare_words b.algorithm b.state ≡ replicate (8 - word_count b.algorithm) 0
+    → b.completed_bytes ≡ 0 → HasTaken b []
 HasTaken-nil b ew es ec =
     record {
       whole = (zero_whole (block_len b.algorithm) (block_len-positive b.algorithm)).0;
@@ -70,71 +86,88 @@ HasTaken-nil b ew es ec =
       count = ec;
     }
 
--- whole blocks more
-HasTaken-append : (b n : BlockContext) (p x : List ℕ) → HasTaken b p → IsWhole b.algorithm x → n.algorithm ≡ b.algorithm
-    → chaining_words b.algorithm n.state
-    ≡ chained (block_function b.algorithm) (block_len b.algorithm) (chaining_words b.algorithm b.state) x (whole_blocks b.algorithm (length x))
-    → spare_words b.algorithm n.state ≡ spare_words b.algorithm b.state
-    → n.completed_bytes ≡ cut_off (b.completed_bytes + length x) → HasTaken n (p ++ x)
-HasTaken-append b n p x h hx ea ew es ec =
-    record {
-      whole = rw ea (IsWhole-append b.algorithm p x h.whole hx);
-      words = rw ea (ew ∙ rw h.words (sym (chain-append b.algorithm p x h.whole hx)));
-      spare = rw ea (es ∙ h.spare);
-      count = omega (arith, length-append p x, h.count);
-    }
-
 -- the whole blocks at the front of a list
-length_front : (a : Algorithm) (x : List ℕ) → length (take (whole_blocks a (length x) * block_len a) x) ≡ whole_blocks a (length x) * block_len a
-length_front a x = length-take-le _ x (div-mul-le_self (length x) (block_len a))
+abbrev whole_front : Algorithm → List ℕ → List ℕ
+whole_front a x = take (whole_blocks a (length x) * block_len a) x
 
-IsWhole_front : (a : Algorithm) (x : List ℕ) → IsWhole a (take (whole_blocks a (length x) * block_len a) x)
-IsWhole_front a x = rw (length_front a x) (mul_whole (whole_blocks a (length x)) (block_len a) (block_len-positive a)).0
+length-whole_front : (a : Algorithm) (x : List ℕ)
+    → length (whole_front a x) ≡ whole_blocks a (length x) * block_len a
+length-whole_front a x = length-take-le _ x (div-mul-le_self (length x) (block_len a))
 
--- the words after the whole blocks at the front of a list, which are all that is counted
-pub chained_front : (a : Algorithm) (h y : List ℕ)
-    → chained (block_function a) (block_len a) h (take (whole_blocks a (length y) * block_len a) y) (whole_blocks a (length y))
-    ≡ chained (block_function a) (block_len a) h y (whole_blocks a (length y))
-chained_front a h y =
-    let k : ℕ = whole_blocks a (length y) in
+blocks-whole_front : (a : Algorithm) (x : List ℕ)
+    → IsWhole a (whole_front a x) × (whole_blocks a (length (whole_front a x)) ≡ whole_blocks a (length x))
+blocks-whole_front a x =
+    let whole = mul_whole (whole_blocks a (length x)) (block_len a) (block_len-positive a) in
+    rw (length-whole_front a x) whole
+
+-- the words after them, which are all that is counted
+chained_front : (a : Algorithm) (h x : List ℕ)
+    → chained_from a h (whole_front a x) ≡ chained_from a h x
+chained_front a h x =
+    let k : ℕ = whole_blocks a (length x) in
     let size : ℕ = k * block_len a in
-    sym (chained-append (block_function a) (block_len a) h (take size y) (drop size y) k (omega (arith, length_front a y)))
-    ∙ ap (λ (z : List ℕ). chained (block_function a) (block_len a) h z k) (take-append-drop size y)
+    let long : k * block_len a ≤ length (take size x) = omega (arith, length-whole_front a x) in
+    let step = block_function a in
+    rw (blocks-whole_front a x).1
+    (sym (chained-append step (block_len a) h (take size x) (drop size x) k long)
+    ∙ ap (λ (z : List ℕ). chained step (block_len a) h z k) (take-append-drop size x))
 
--- the whole blocks at the front of y moved
-pub moved_front : (b n : BlockContext) (y left : List ℕ) (before after : Counts) → n.algorithm ≡ b.algorithm
-    → left ≡ drop (whole_blocks b.algorithm (length y) * block_len b.algorithm) y
-    → chaining_words b.algorithm n.state
-    ≡ chained (block_function b.algorithm) (block_len b.algorithm) (chaining_words b.algorithm b.state) y (whole_blocks b.algorithm (length y))
-    → spare_words b.algorithm n.state ≡ spare_words b.algorithm b.state
-    → n.completed_bytes ≡ cut_off (b.completed_bytes + (length y - length left))
-    → after ≡ raised before (whole_blocks b.algorithm (length y)) 0 → HasMoved (block_len b.algorithm) b n y left before after
-moved_front b n y left before after ea el ew es ec em =
-    let a : Algorithm = b.algorithm in
-    let k : ℕ = whole_blocks a (length y) in
-    let x : List ℕ = take (k * block_len a) y in
-    let fits : k * block_len a ≤ length y = div-mul-le_self (length y) (block_len a) in
-    let long : length x ≡ k * block_len a = length_front a y in
-    let run : whole_blocks a (length x) ≡ k =
-    ap (λ (z : ℕ). z / block_len a) long ∙ (mul_whole k (block_len a) (block_len-positive a)).1 in
-    let done : length y - length left ≡ k * block_len a = omega (arith, ap length el, length-drop (k * block_len a) y, fits) in
-    let front : chaining_words a n.state ≡ chained (block_function a) (block_len a) (chaining_words a b.state) x (whole_blocks a (length x)) =
-    ew ∙ sym (chained_front a (chaining_words a b.state) y) ∙ rw run refl in
-    record {
-      blocks = k;
-      fits = fits;
-      rest = el;
-      algorithm = ea;
-      taken = λ p h. HasTaken-append b n p x h (IsWhole_front a y) ea front es (omega (arith, ec, done, long));
-      counted = omega (arith, ec, done);
-      cost = em;
-    }
+-- from the block context b to n
+module _ {b n : BlockContext} where
+  -- whole blocks more
+  HasTaken-append : {p : List ℕ} (x : List ℕ) → HasTaken b p → IsWhole b.algorithm x
+      → n.algorithm ≡ b.algorithm
+      → chaining_words b.algorithm n.state
+      ≡ chained_from b.algorithm (chaining_words b.algorithm b.state) x
+      → spare_words b.algorithm n.state ≡ spare_words b.algorithm b.state
+      → n.completed_bytes ≡ cut_off (b.completed_bytes + length x) → HasTaken n (p ++ x)
+  HasTaken-append {p = p} x h hx ea ew es ec =
+      let a : Algorithm = b.algorithm in
+      record {
+        whole = rw ea (IsWhole-append a p x h.whole hx);
+        words = rw ea (ew ∙ rw h.words (sym (chain-append a p x h.whole hx)));
+        spare = rw ea (es ∙ h.spare);
+        count = omega (arith, length-append p x, h.count);
+      }
+
+  -- the whole blocks at the front of y moved
+  pub moved_front : {y left : List ℕ} {before after : Counts} → n.algorithm ≡ b.algorithm
+      → left ≡ drop (whole_blocks b.algorithm (length y) * block_len b.algorithm) y
+      → chaining_words b.algorithm n.state
+      ≡ chained_from b.algorithm (chaining_words b.algorithm b.state) y
+      → spare_words b.algorithm n.state ≡ spare_words b.algorithm b.state
+      → n.completed_bytes ≡ cut_off (b.completed_bytes + (length y - length left))
+      → after ≡ raised before (whole_blocks b.algorithm (length y)) 0
+      → HasMoved (block_len b.algorithm) b n y left before after
+  moved_front {y = y} {left = left} ea el ew es ec em =
+      let a : Algorithm = b.algorithm in
+      let k : ℕ = whole_blocks a (length y) in
+      let fits : k * block_len a ≤ length y = div-mul-le_self (length y) (block_len a) in
+      let long : length (whole_front a y) ≡ k * block_len a = length-whole_front a y in
+      let rest : length left ≡ length y - k * block_len a =
+      ap length el ∙ length-drop (k * block_len a) y in
+      let done : length y - length left ≡ k * block_len a = omega (arith, rest, fits) in
+      let front = ew ∙ sym (chained_front a (chaining_words a b.state) y) in
+      let whole = (blocks-whole_front a y).0 in
+      record {
+        blocks = k;
+        fits = fits;
+        rest = el;
+        algorithm = ea;
+        taken = λ p h. HasTaken-append _ h whole ea front es (omega (arith, ec, done, long));
+        counted = omega (arith, ec, done);
+        cost = em;
+      }
 
 -- what is left of y is less than a block
-pub left_short : (a : Algorithm) (y left : List ℕ) → left ≡ drop (whole_blocks a (length y) * block_len a) y → length left < block_len a
+pub left_short : (a : Algorithm) (y left : List ℕ)
+    → left ≡ drop (whole_blocks a (length y) * block_len a) y → length left < block_len a
 left_short a y left el =
-    let m : length y % block_len a < block_len a = mod_below (length y) (block_len a) (block_len-positive a) in
-    omega (arith, ap length el, length-drop (whole_blocks a (length y) * block_len a) y, div-add-mod' (length y) (block_len a))
+    let b : ℕ = block_len a in
+    let below : length y % b < b = mod_below (length y) b (block_len-positive a) in
+    let rest : length left ≡ length y - length y / b * b =
+    ap length el ∙ length-drop (whole_blocks a (length y) * b) y in
+    omega (arith, rest, below, div-add-mod' (length y) b)
 
 -- a multiple and more, divided
 pub whole_div-add : (x y b : ℕ) → zero < b → x % b ≡ 0 → (x + y) / b ≡ x / b + y / b

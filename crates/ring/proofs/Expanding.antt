@@ -1,5 +1,8 @@
 -- An output, round by round, and what its rounds cost.
-use Rattle.std.proofs.Common.{◌≡◌, ℕ, zero, suc, ◌+◌, ◌-◌, ◌*◌, ◌<◌, ◌≤◌, List, [], ◌∷◌, ◌++◌, length, take, drop, refl, sym, ap, ◌∙◌, arith, add-one, append-nil, append_assoc, length-take-le, suc-mul}
+use Rattle.std.proofs.Common.{
+  ◌≡◌, ℕ, zero, suc, ◌+◌, ◌-◌, ◌*◌, ◌<◌, ◌≤◌, List, [], ◌∷◌, ◌++◌, length, take, drop, refl, sym, ap, ◌∙◌,
+  arith, add-one, append-nil, length-take-le, suc-mul,
+}
 use Rattle.std.proofs.Math.Nat.{lt_of_mul-lt-mul_right}
 use Rattle.std.proofs.lemmas.List.{at_drop_all}
 use Rattle.std.proofs.lemmas.Grind.{div_ceil_times}
@@ -16,55 +19,44 @@ use Rattle.ring.specs.declared.hmac.key.Key.{Key}
 use Rattle.ring.specs.declared.hmac.tag.Tag.{Tag}
 use Rattle.ring.proofs.Keys.{length-hmac_of}
 use Rattle.ring.proofs.Rows.{output_len-positive}
-use Rattle.ring.proofs.Pieces.{joined_blocks-part, written-more}
+use Rattle.ring.proofs.Pieces.{IsEven, joined_blocks-part, written-more}
 
 -- T(0) is empty
 pub t_of-none : (a : Algorithm) (k info : List ℕ) → t_of a k info 0 ≡ []
 unfolding t_of
 t_of-none a k info = refl
 
-pub t_of-next : (a : Algorithm) (k info : List ℕ) (i : ℕ) → t_of a k info (suc i) ≡ hmac_of a k (t_of a k info i ++ info ++ suc i ∷ [])
+pub t_of-next : (a : Algorithm) (k info : List ℕ) (i : ℕ)
+    → t_of a k info (suc i) ≡ hmac_of a k (t_of a k info i ++ info ++ suc i ∷ [])
 unfolding t_of
 t_of-next a k info i = refl
 
 -- each T(i) from T(1) on is a tag
-pub length-t_of : (a : Algorithm) (k info : List ℕ) (i : ℕ) → length (t_of a k info (suc i)) ≡ output_len a
+pub length-t_of : (a : Algorithm) (k info : List ℕ) (i : ℕ)
+    → length (t_of a k info (suc i)) ≡ output_len a
 length-t_of a k info i = rw t_of-next (length-hmac_of a k _)
 
 -- the first round's tag
-pub first_round : (a : Algorithm) (k info bytes : List ℕ) → bytes ≡ hmac_of a k ([] ++ info ++ 1 ∷ []) → bytes ≡ t_of a k info 1
-first_round a k info bytes e = e ∙ sym (rw (t_of-next a k info 0, t_of-none a k info) refl)
+pub first_round : (a : Algorithm) (k info : List ℕ) {bytes : List ℕ}
+    → bytes ≡ hmac_of a k ([] ++ info ++ 1 ∷ []) → bytes ≡ t_of a k info 1
+first_round a k info e = e ∙ sym (rw (t_of-next a k info 0, t_of-none a k info) refl)
 
 -- the tag of the round after r rounds and one
-pub next_round : (a : Algorithm) (k info previous bytes : List ℕ) (r : ℕ) → previous ≡ t_of a k info (suc r)
-    → bytes ≡ hmac_of a k (previous ++ info ++ (r + 1 + 1) ∷ []) → bytes ≡ t_of a k info (suc (r + 1))
-next_round a k info previous bytes r ep e = e ∙ rw (ep, t_of-next a k info (r + 1), add-one r, add-one (suc r)) refl
+pub next_round : (a : Algorithm) (k info : List ℕ) {previous bytes : List ℕ} (r : ℕ)
+    → previous ≡ t_of a k info (suc r)
+    → bytes ≡ hmac_of a k (previous ++ info ++ (r + 1 + 1) ∷ [])
+    → bytes ≡ t_of a k info (suc (r + 1))
+next_round a k info r ep e =
+    e ∙ rw (ep, t_of-next a k info (r + 1), add-one r, add-one (suc r)) refl
 
 -- fewer rounds than 255 before another byte
 pub round-lt : (L r w n : ℕ) → w ≡ r * L → w < n → n ≤ 255 * L → r < 255
-round-lt L r w n e p q = let lt : r * L < 255 * L = omega (arith, e) in lt_of_mul-lt-mul_right L lt
+round-lt L r w n e p q =
+    let lt : r * L < 255 * L = omega (arith, e) in
+    lt_of_mul-lt-mul_right L lt
 
--- one tag more is written, of L bytes
-pub written-next : (a : Algorithm) (k info out out' bytes rest : List ℕ) (r w L : ℕ) → L ≡ output_len a → w ≤ length out
-    → take w out ≡ joined_blocks (t_of a k info) r → bytes ≡ t_of a k info (suc r) → out' ≡ take w out ++ bytes ++ rest
-    → take (w + L) out' ≡ joined_blocks (t_of a k info) (r + 1)
-written-next a k info out out' bytes rest r w L el below front e eo =
-    rw el (written-more (t_of a k info) (output_len a) out out' bytes rest r w below (ap length e ∙ length-t_of a k info r) front e
-    (eo ∙ append_assoc (take w out) bytes rest))
-
--- the last tag, or a front of it, is written
-pub written-last : (a : Algorithm) (k info out out' bytes : List ℕ) (r w n : ℕ) → w ≤ length out → w ≡ r * output_len a
-    → length out ≤ 255 * output_len a → length out ≡ w + n → n ≤ output_len a → take w out ≡ joined_blocks (t_of a k info) r
-    → bytes ≡ t_of a k info (suc r) → out' ≡ take w out ++ take n bytes ++ drop (w + length (take n bytes)) out
-    → out' ≡ okm a k info (length out)
-unfolding okm
-written-last a k info out out' bytes r w n below place room whole fits front e eo =
-    let len : length (take n bytes) ≡ n = length-take-le n bytes (rw (e, length-t_of a k info r) fits) in
-    let none : drop (w + length (take n bytes)) out ≡ [] = rw (len, ← whole) (at_drop_all (λ zs. zs) out (length out) (omega arith)) in
-    let part = joined_blocks-part (t_of a k info) (output_len a) (length-t_of a k info) r w n 255 place fits (omega arith) in
-    rw (eo, none, append-nil, front, e, whole) (sym part)
-
--- a quotient, rounded up, is at most r + 1 where r + 1 times the divisor are enough, and above r where r times are not
+-- a quotient, rounded up, is at most r + 1 where r + 1 times the divisor are enough, and above r
+-- where r times are not
 div_ceil-most : (L r n : ℕ) → zero < L → n ≤ suc r * L → div_ceil n L < suc (suc r)
 div_ceil-most L r n pos enough =
     let h = (div_ceil_times n L pos).1 in
@@ -77,9 +69,10 @@ div_ceil-least L r n pos few =
     let lt : r * L < div_ceil n L * L = omega (arith, h) in
     lt_of_mul-lt-mul_right L lt
 
--- the rounds but the last of n bytes: r, where r tags are written, and one more, or a front of it, is left
-pub rounds_at : (a : Algorithm) (r w n : ℕ) → w ≡ r * output_len a → w ≤ n → n - w ≤ output_len a → (0 < r → w < n)
-    → fill_rounds a n - 1 ≡ r
+-- the rounds but the last of n bytes: r, where r tags are written, and one more, or a front of it,
+-- is left
+pub rounds_at : (a : Algorithm) (r w n : ℕ) → w ≡ r * output_len a → w ≤ n → n - w ≤ output_len a
+    → (0 < r → w < n) → fill_rounds a n - 1 ≡ r
 rounds_at a zero w n e below left needed =
     let most = div_ceil-most (output_len a) 0 n (output_len-positive a) (omega arith) in
     omega (arith, most)
@@ -93,32 +86,73 @@ rounds_at a (suc r) w n e below left needed =
     omega (arith, most, least)
 
 -- r tags are written, the next one is made, and the meter rose by them all
-pub record IsWritten (key : Key) (info : List ℕ) (r written : ℕ) (tag : Tag) (out : List ℕ) (before now : Counts) : Type 0 where
+pub record IsWritten (key : Key) (info : List ℕ) (r written : ℕ) (tag : Tag) (out : List ℕ)
+    (before now : Counts) : Type 0 where
   pub place : written ≡ r * output_len (key_algorithm key)
   pub few : r < 255
   pub in_out : written ≤ length out
   pub needed : 0 < r → written < length out
   pub algorithm : tag_algorithm tag ≡ key_algorithm key
-  pub next : (k : List ℕ) → KeyStandsFor key k → tag_bytes tag ≡ t_of (key_algorithm key) k info (suc r)
-  pub done : (k : List ℕ) → KeyStandsFor key k → take written out ≡ joined_blocks (t_of (key_algorithm key) k info) r
+  pub next : (k : List ℕ) → KeyStandsFor key k
+      → tag_bytes tag ≡ t_of (key_algorithm key) k info (suc r)
+  pub done : (k : List ℕ) → KeyStandsFor key k
+      → take written out ≡ joined_blocks (t_of (key_algorithm key) k info) r
   pub cost : now ≡ raised before (padded_blocks (key_algorithm key) (length info + 1) + 1
-      + r * (padded_blocks (key_algorithm key) (output_len (key_algorithm key) + length info + 1) + 1)) 0
+      + r * (padded_blocks (key_algorithm key) (output_len (key_algorithm key) + length info + 1)
+          + 1)) 0
+
+module _ {key : Key} {info : List ℕ} {r w : ℕ} {tag : Tag} {out : List ℕ} {m0 m1 : Counts} where
+  -- the tag, of L bytes, is written too
+  pub written-next : {k bytes out' : List ℕ} {L : ℕ} (rest : List ℕ)
+      → IsWritten key info r w tag out m0 m1 → KeyStandsFor key k
+      → L ≡ output_len (key_algorithm key) → bytes ≡ tag_bytes tag
+      → out' ≡ take w out ++ bytes ++ rest
+      → take (w + L) out' ≡ joined_blocks (t_of (key_algorithm key) k info) (r + 1)
+  written-next {k = k} {bytes = bytes} {L = L} rest t stands el eb eo =
+      let tags : ℕ → List ℕ = t_of (key_algorithm key) k info in
+      let e : bytes ≡ tags (suc r) = eb ∙ t.next k stands in
+      let len : length bytes ≡ L = ap length e ∙ length-t_of (key_algorithm key) k info r ∙ sym el in
+      rw (length-take-le w out t.in_out, len)
+      at (written-more tags r rest (t.done k stands) e eo)
+
+  -- the tag, or a front of it, is all that was left to be written
+  pub written-last : {k bytes out' : List ℕ} (n : ℕ) → IsWritten key info r w tag out m0 m1
+      → KeyStandsFor key k → length out ≤ 255 * output_len (key_algorithm key)
+      → length out ≡ w + n → n ≤ output_len (key_algorithm key) → bytes ≡ tag_bytes tag
+      → out' ≡ take w out ++ take n bytes ++ drop (w + length (take n bytes)) out
+      → out' ≡ okm (key_algorithm key) k info (length out)
+  unfolding okm
+  written-last {k = k} {bytes = bytes} n t stands room whole fits eb eo =
+      let a : Algorithm = key_algorithm key in
+      let even : IsEven (t_of a k info) (output_len a) = record { each = length-t_of a k info } in
+      let e : bytes ≡ t_of a k info (suc r) = eb ∙ t.next k stands in
+      let len : length (take n bytes) ≡ n =
+      length-take-le n bytes (rw (e, length-t_of a k info r) fits) in
+      let none : drop (w + length (take n bytes)) out ≡ [] =
+      rw (len, ← whole) (at_drop_all (λ zs. zs) out (length out) (omega arith)) in
+      let part = joined_blocks-part even r w n 255 t.place fits (omega arith) in
+      rw (eo, none, append-nil, t.done k stands, e, whole) (sym part)
+
+  -- the cost of one round more, after a tag of n bytes
+  pub cost_next : {n : ℕ} {m2 : Counts} → IsWritten key info r w tag out m0 m1
+      → n ≡ output_len (key_algorithm key)
+      → m2 ≡ raised m1 (padded_blocks (key_algorithm key) (n + length info + 1) + 1) 0
+      → m2 ≡ raised m0 (padded_blocks (key_algorithm key) (length info + 1) + 1
+          + (r + 1) * (padded_blocks (key_algorithm key)
+              (output_len (key_algorithm key) + length info + 1) + 1)) 0
+  cost_next t en em = turn _ _ r t.cost (rw en at em)
+    where
+      turn : (x y r : ℕ) {m1 m2 : Counts} → m1 ≡ raised m0 (x + r * y) 0 → m2 ≡ raised m1 y 0
+          → m2 ≡ raised m0 (x + (r + 1) * y) 0
+      turn x y r e1 e2 =
+          let sum : x + r * y + y ≡ x + (r + 1) * y = omega arith in
+          e2 ∙ rw e1 (raised-raised m0 _ 0 y 0) ∙ ap (λ (z : ℕ). raised m0 z 0) sum
 
 -- the cost of the first round, before which there is no tag
-pub cost_first : (a : Algorithm) (y i : ℕ) (m0 m1 : Counts) → m1 ≡ raised m0 (padded_blocks a (0 + i + 1) + 1) 0
+pub cost_first : (a : Algorithm) (y i : ℕ) (m0 : Counts) {m1 : Counts}
+    → m1 ≡ raised m0 (padded_blocks a (0 + i + 1) + 1) 0
     → m1 ≡ raised m0 (padded_blocks a (i + 1) + 1 + 0 * y) 0
-cost_first a y i m0 m1 e =
+cost_first a y i m0 e =
     let none : 0 + i ≡ i = omega arith in
     let alone : padded_blocks a (i + 1) + 1 ≡ padded_blocks a (i + 1) + 1 + 0 * y = omega arith in
     (rw none at e) ∙ ap (λ (z : ℕ). raised m0 z 0) alone
-
--- the cost of one round more, whose tag before has n bytes
-pub cost_next : (a : Algorithm) (x r n i : ℕ) (m0 m1 m2 : Counts) → n ≡ output_len a
-    → m1 ≡ raised m0 (x + r * (padded_blocks a (output_len a + i + 1) + 1)) 0 → m2 ≡ raised m1 (padded_blocks a (n + i + 1) + 1) 0
-    → m2 ≡ raised m0 (x + (r + 1) * (padded_blocks a (output_len a + i + 1) + 1)) 0
-cost_next a x r n i m0 m1 m2 en e1 e2 = cost_turn _ x r m0 m1 m2 e1 (rw en at e2)
-  where
-    cost_turn : (y x r : ℕ) (m0 m1 m2 : Counts) → m1 ≡ raised m0 (x + r * y) 0 → m2 ≡ raised m1 y 0 → m2 ≡ raised m0 (x + (r + 1) * y) 0
-    cost_turn y x r m0 m1 m2 e1 e2 =
-        let sum : x + r * y + y ≡ x + (r + 1) * y = omega arith in
-        e2 ∙ rw e1 (raised-raised m0 _ 0 y 0) ∙ ap (λ (z : ℕ). raised m0 z 0) sum

@@ -1,5 +1,8 @@
 -- Numbered blocks of one length, one after another, and their fronts.
-use Rattle.std.proofs.Common.{◌≡◌, ℕ, List, [], ◌∷◌, ◌++◌, ◌+◌, ◌*◌, ◌≤◌, ◌<◌, ◌↔◌, length, take, drop, suc, zero, refl, sym, ◌∙◌, arith, length-append, length-take-le, mul-le-mul_right, suc-mul, append_assoc, append-nil, add-one, slice_index_or}
+use Rattle.std.proofs.Common.{
+  ◌≡◌, ℕ, List, [], ◌∷◌, ◌++◌, ◌+◌, ◌*◌, ◌≤◌, ◌<◌, ◌↔◌, length, take, drop, suc, zero, refl, sym, ◌∙◌, arith,
+  length-append, length-take-le, mul-le-mul_right, suc-mul, append-nil, add-one, slice_index_or,
+}
 use Rattle.std.specs.Borrow.{Bor}
 use Rattle.std.proofs.lemmas.List.{take_more, take-append-le}
 use Rattle.std.proofs.lemmas.Grind.{flat_map-append}
@@ -16,69 +19,79 @@ joined-more pieces i d below =
       append-nil,
     ) refl
 
--- each block has L bytes
-abbrev pub IsEven : (ℕ → List ℕ) → ℕ → Type 0
-IsEven f L = (i : ℕ) → length (f (suc i)) ≡ L
-
 pub joined_blocks-none : (f : ℕ → List ℕ) → joined_blocks f 0 ≡ []
 unfolding joined_blocks
 joined_blocks-none f = refl
 
-pub joined_blocks-next : (f : ℕ → List ℕ) (r : ℕ) → joined_blocks f (suc r) ≡ joined_blocks f r ++ f (suc r)
+pub joined_blocks-next : (f : ℕ → List ℕ) (r : ℕ)
+    → joined_blocks f (suc r) ≡ joined_blocks f r ++ f (suc r)
 unfolding joined_blocks
 joined_blocks-next f r = refl
 
-pub length-joined_blocks : (f : ℕ → List ℕ) (L : ℕ) → IsEven f L → (r : ℕ) → length (joined_blocks f r) ≡ r * L
-length-joined_blocks f L even zero = rw (joined_blocks-none f) (grind arith)
-length-joined_blocks f L even (suc r) =
-    rw (joined_blocks-next f r) (grind (arith, length-append (joined_blocks f r) (f (suc r)), length-joined_blocks f L even r, even r))
+-- each block has L bytes
+pub record IsEven (f : ℕ → List ℕ) (L : ℕ) : Type 0 where
+  pub each : (i : ℕ) → length (f (suc i)) ≡ L
 
--- a front of the first r blocks is one of d blocks more
-joined_blocks-front : (f : ℕ → List ℕ) (L : ℕ) → IsEven f L → (r d R n : ℕ) → R ≡ d + r → n ≤ r * L
-    → take n (joined_blocks f R) ≡ take n (joined_blocks f r)
-joined_blocks-front f L even r zero R n e fits = let same : R ≡ r = omega arith in rw same refl
-joined_blocks-front f L even r (suc d) R n e fits =
-    let more : R ≡ suc (d + r) = omega arith in
-    let le : r ≤ d + r = omega arith in
-    let wide : r * L ≤ (d + r) * L = mul-le-mul_right L le in
-    let room : n ≤ length (joined_blocks f (d + r)) = rw (length-joined_blocks f L even (d + r)) (omega arith) in
-    rw (more, joined_blocks-next f (d + r), take-append-le n (joined_blocks f (d + r)) (f (suc (d + r))) room)
-    (joined_blocks-front f L even r d (d + r) n refl fits)
+module _ {f : ℕ → List ℕ} {L : ℕ} where
+  pub length-joined_blocks : IsEven f L → (r : ℕ) → length (joined_blocks f r) ≡ r * L
+  length-joined_blocks even zero = rw (joined_blocks-none f) (grind arith)
+  length-joined_blocks even (suc r) =
+      let sum = length-append (joined_blocks f r) (f (suc r)) in
+      rw (joined_blocks-next f r) (grind (arith, sum, length-joined_blocks even r, even.each r))
 
--- fronts of enough blocks agree
-pub joined_blocks-agree : (f : ℕ → List ℕ) (L : ℕ) → IsEven f L → (r s n : ℕ) → n ≤ r * L → n ≤ s * L
-    → take n (joined_blocks f r) ≡ take n (joined_blocks f s)
-joined_blocks-agree f L even r s n p q =
-    sym (joined_blocks-front f L even r s (s + r) n refl p) ∙ joined_blocks-front f L even s r (s + r) n (omega arith) q
+  -- a front of the first r blocks is one of d blocks more
+  joined_blocks-front : IsEven f L → (r d R n : ℕ) → R ≡ d + r → n ≤ r * L
+      → take n (joined_blocks f R) ≡ take n (joined_blocks f r)
+  joined_blocks-front even r zero R n e fits = let same : R ≡ r = omega arith in rw same refl
+  joined_blocks-front even r (suc d) R n e fits =
+      let more : R ≡ suc (d + r) = omega arith in
+      let le : r ≤ d + r = omega arith in
+      let wide : r * L ≤ (d + r) * L = mul-le-mul_right L le in
+      let before : List ℕ = joined_blocks f (d + r) in
+      let room : n ≤ length before = rw (length-joined_blocks even (d + r)) (omega arith) in
+      rw (more, joined_blocks-next f (d + r), take-append-le n before (f (suc (d + r))) room)
+      (joined_blocks-front even r d (d + r) n refl fits)
 
--- a front of r blocks and n bytes of the next
-pub joined_blocks-part : (f : ℕ → List ℕ) (L : ℕ) → IsEven f L → (r w n R : ℕ) → w ≡ r * L → n ≤ L → w + n ≤ R * L
-    → take (w + n) (joined_blocks f R) ≡ joined_blocks f r ++ take n (f (suc r))
-joined_blocks-part f L even r w n R e fits room =
-    let wide : w + n ≤ suc r * L = rw (suc-mul r L) (omega (arith, e)) in
-    let len : length (joined_blocks f r) ≡ w = length-joined_blocks f L even r ∙ sym e in
-    joined_blocks-agree f L even R (suc r) (w + n) room wide
-    ∙ rw (joined_blocks-next f r, ← len) (take-append-add (joined_blocks f r) (f (suc r)) n)
+  -- fronts of enough blocks agree
+  pub joined_blocks-agree : IsEven f L → (r s n : ℕ) → n ≤ r * L → n ≤ s * L
+      → take n (joined_blocks f r) ≡ take n (joined_blocks f s)
+  joined_blocks-agree even r s n p q =
+      sym (joined_blocks-front even r s (s + r) n refl p)
+      ∙ joined_blocks-front even s r (s + r) n (omega arith) q
 
--- one block more is written
-pub written-more : (f : ℕ → List ℕ) (L : ℕ) (out out' block rest : List ℕ) (r w : ℕ) → w ≤ length out → length block ≡ L
-    → take w out ≡ joined_blocks f r → block ≡ f (suc r) → out' ≡ take w out ++ (block ++ rest)
-    → take (w + L) out' ≡ joined_blocks f (r + 1)
-written-more f L out out' block rest r w below len front e eo =
-    let long : length (take w out ++ block) ≡ w + L =
-    length-append (take w out) block ∙ rw len (grind (arith, length-take-le w out below)) in
-    rw (add-one r, joined_blocks-next f r, ← front, ← e, eo, ← append_assoc, ← long) (take-append_seam (take w out ++ block) rest)
+  -- a front of r blocks and n bytes of the next
+  pub joined_blocks-part : IsEven f L → (r w n R : ℕ) → w ≡ r * L → n ≤ L → w + n ≤ R * L
+      → take (w + n) (joined_blocks f R) ≡ joined_blocks f r ++ take n (f (suc r))
+  joined_blocks-part even r w n R e fits room =
+      let wide : w + n ≤ suc r * L = rw (suc-mul r L) (omega (arith, e)) in
+      let len : length (joined_blocks f r) ≡ w = length-joined_blocks even r ∙ sym e in
+      joined_blocks-agree even R (suc r) (w + n) room wide
+      ∙ rw (joined_blocks-next f r, ← len) (take-append-add (joined_blocks f r) (f (suc r)) n)
 
--- lists that agree up to w and on the n items from there on agree up to w + n, and the other way round
-pub same_part : (xs ys front part : List ℕ) (w n : ℕ) → w ≤ length xs → length front ≡ w → take (w + n) ys ≡ front ++ part
+-- one block more is written, after the first r ones
+pub written-more : (f : ℕ → List ℕ) (r : ℕ) {xs block out : List ℕ} (rest : List ℕ)
+    → xs ≡ joined_blocks f r → block ≡ f (suc r) → out ≡ xs ++ block ++ rest
+    → take (length xs + length block) out ≡ joined_blocks f (r + 1)
+written-more f r {xs = xs} {block = block} rest front e eo =
+    rw (add-one r, joined_blocks-next f r, ← front, ← e, eo, ← length-append xs block)
+    (take-append_seam (xs ++ block) rest)
+
+-- lists that agree up to w and on the n items from there on agree up to w + n, and the other way
+-- round
+pub same_part : (xs ys : List ℕ) {front part : List ℕ} (w n : ℕ) → w ≤ length xs
+    → length front ≡ w → take (w + n) ys ≡ front ++ part
     → (take (w + n) xs ≡ take (w + n) ys) ↔ ((take w xs ≡ front) × (take n (drop w xs) ≡ part))
-same_part xs ys front part w n below len e = (
-  λ h. let joint : take w xs ++ take n (drop w xs) ≡ front ++ part = sym (take-add w n xs) ∙ h ∙ e in
+same_part xs ys {front = front} {part = part} w n below len e = (
+  λ h.
+      let joint : take w xs ++ take n (drop w xs) ≡ front ++ part =
+      sym (take-add w n xs) ∙ h ∙ e in
       let short : length (take w xs) ≡ w = length-take-le w xs below in
       let first : take w xs ≡ front =
-      sym (take-append_seam (take w xs) (take n (drop w xs))) ∙ rw (short, joint, ← len) (take-append_seam front part) in
+      sym (take-append_seam (take w xs) (take n (drop w xs)))
+      ∙ rw (short, joint, ← len) (take-append_seam front part) in
       let second : take n (drop w xs) ≡ part =
-      sym (drop-append_seam (take w xs) (take n (drop w xs))) ∙ rw (short, joint, ← len) (drop-append_seam front part) in
+      sym (drop-append_seam (take w xs) (take n (drop w xs)))
+      ∙ rw (short, joint, ← len) (drop-append_seam front part) in
       (first, second),
   λ h. take-add w n xs ∙ rw (h.0, h.1) (sym e),
 )

@@ -1,5 +1,8 @@
 -- A message of a digest's length, signed by one block after each masked block of the key.
-use Rattle.std.proofs.Common.{◌≡◌, ℕ, ◌+◌, ◌-◌, ◌*◌, ◌/◌, List, ◌∷◌, ◌++◌, length, take, drop, replicate, refl, sym, ap, ◌∙◌, arith, length-append, length-take-le, append_assoc}
+use Rattle.std.proofs.Common.{
+  ◌≡◌, ℕ, ◌+◌, ◌-◌, ◌*◌, ◌/◌, List, ◌∷◌, ◌++◌, length, take, drop, replicate, refl, sym, ap, ◌∙◌, arith,
+  length-append, length-take-le, append_assoc,
+}
 use Rattle.std.proofs.lemmas.List.{drop-take, drop_at, take_at}
 use Rattle.std.proofs.Math.Nat.{div_self, mod_self}
 use Rattle.std.proofs.Math.Seq.{take-append-add}
@@ -10,56 +13,74 @@ use Rattle.ring.specs.Cost.{padded_blocks, whole_blocks}
 use Rattle.ring.specs.Padding.{IsWhole, padded, tail_of, zeros_of}
 use Rattle.ring.specs.Prepared.{past_message, prepared_padding}
 use Rattle.ring.specs.declared.digest.algorithm.Algorithm.{Algorithm}
-use Rattle.ring.proofs.Chains.{short_div}
-use Rattle.ring.proofs.Keys.{output_below}
+use Rattle.ring.proofs.Keys.{one_block, output_below}
 use Rattle.ring.proofs.Rows.{block_len-most, block_len-positive}
 use Rattle.ring.proofs.Tails.{padded-append}
 
--- the message and its padding are one block
-one_block : (a : Algorithm) → padded_blocks a (output_len a) ≡ 1
-one_block a = ap (λ (z : ℕ). z + 1) (short_div (output_len a + length_len a) (block_len a) (output_below a))
-
 -- the tail of such a message is one block
-pub one_tail : (a : Algorithm) (n len : ℕ) → n ≡ output_len a → len ≡ padded_blocks a n * block_len a → len ≡ block_len a
+pub one_tail : (a : Algorithm) (n len : ℕ) → n ≡ output_len a → len ≡ padded_blocks a n * block_len a
+    → len ≡ block_len a
 one_tail a n len en el = el ∙ rw (en, one_block a) (omega arith)
 
 -- the padding, as a tail has it
-pub padding-made : (a : Algorithm) (x y rest : List ℕ) (n : ℕ) → length x ≡ output_len a → length y ≡ block_len a → n ≡ block_len a + output_len a
+pub padding-made : (a : Algorithm) (x : List ℕ) {y : List ℕ} (rest : List ℕ) {n : ℕ}
+    → length x ≡ output_len a → length y ≡ block_len a → n ≡ block_len a + output_len a
     → y ≡ tail_of a x n → past_message a (y ++ rest) ≡ prepared_padding a
-padding-made a x y rest n lx ly en ey =
-    let parts : y ≡ x ++ (128 ∷ replicate (zeros_of a (length x)) 0 ++ bytes_high_first (length_len a) (8 * n)) = ey ∙ append_assoc x _ _ in
-    ap (drop (output_len a)) (take_at y rest (block_len a) ly ∙ parts) ∙ drop_at x _ (output_len a) lx ∙ rw (lx, en) refl
+padding-made a x {y = y} rest {n = n} lx ly en ey =
+    let field : List ℕ = bytes_high_first (length_len a) (8 * n) in
+    let padding : List ℕ = 128 ∷ replicate (zeros_of a (length x)) 0 ++ field in
+    let parts : y ≡ x ++ padding = ey ∙ append_assoc x _ _ in
+    ap (drop (output_len a)) (take_at y rest (block_len a) ly ∙ parts)
+    ∙ drop_at x _ (output_len a) lx ∙ rw (lx, en) refl
+
+-- p is one block, and m has a digest's length
+pub record ArePrepared (a : Algorithm) (p m : List ℕ) : Type 0 where
+  pub block : length p ≡ block_len a
+  pub message : length m ≡ output_len a
 
 -- a message put before the padding ends the padded message
-pub message-padded : (a : Algorithm) (p m bytes : List ℕ) → length p ≡ block_len a → length m ≡ output_len a → past_message a bytes ≡ prepared_padding a
+pub message-padded : {a : Algorithm} {p m : List ℕ} (bytes : List ℕ) → ArePrepared a p m
+    → past_message a bytes ≡ prepared_padding a
     → p ++ take (block_len a) (m ++ drop (output_len a) bytes) ≡ padded a (p ++ m)
-message-padded a p m bytes lp lm h =
+message-padded {a} {p} {m} bytes are h =
     let room : ℕ = block_len a - output_len a in
+    let after : List ℕ = drop (output_len a) bytes in
     let sum : block_len a ≡ output_len a + room = omega (arith, output_below a) in
-    let rest : take room (drop (output_len a) bytes) ≡ prepared_padding a =
-    sym (drop-take (output_len a) room bytes) ∙ ap (λ (z : ℕ). drop (output_len a) (take z bytes)) (sym sum) ∙ h in
-    let whole : IsWhole a p = rw lp (mod_self (block_len a)) in
-    let block : take (block_len a) (m ++ drop (output_len a) bytes) ≡ m ++ prepared_padding a =
-    ap (λ (z : ℕ). take z (m ++ drop (output_len a) bytes)) (sum ∙ ap (λ (z : ℕ). z + room) (sym lm))
-    ∙ take-append-add m (drop (output_len a) bytes) room ∙ ap (λ z. m ++ z) rest in
-    let len : length (p ++ m) ≡ block_len a + output_len a = length-append p m ∙ rw (lp, lm) refl in
-    let tail : m ++ prepared_padding a ≡ tail_of a m (length (p ++ m)) = rw (len, lm) (sym (append_assoc m _ _)) in
+    let split : past_message a bytes ≡ take room after =
+    ap (λ (z : ℕ). drop (output_len a) (take z bytes)) sum ∙ drop-take (output_len a) room bytes in
+    let rest : take room after ≡ prepared_padding a = sym split ∙ h in
+    let whole : IsWhole a p = rw are.block (mod_self (block_len a)) in
+    let size : block_len a ≡ length m + room =
+    sum ∙ ap (λ (z : ℕ). z + room) (sym are.message) in
+    let block : take (block_len a) (m ++ after) ≡ m ++ prepared_padding a =
+    ap (λ (z : ℕ). take z (m ++ after)) size ∙ take-append-add m after room
+    ∙ ap (λ z. m ++ z) rest in
+    let len : length (p ++ m) ≡ block_len a + output_len a =
+    length-append p m ∙ rw (are.block, are.message) refl in
+    let tail : m ++ prepared_padding a ≡ tail_of a m (length (p ++ m)) =
+    rw (len, are.message) (sym (append_assoc m _ _)) in
     ap (λ z. p ++ z) (block ∙ tail) ∙ sym (padded-append a p m whole)
 
 -- the same of a block that was made so, where the algorithm and the block's length are told apart
-pub block-padded : (a b : Algorithm) (p m bytes block : List ℕ) (n : ℕ) → b ≡ a → n ≡ block_len a → length p ≡ block_len a → length m ≡ output_len a
-    → past_message a bytes ≡ prepared_padding a → block ≡ m ++ drop (length m) bytes → p ++ take n block ≡ padded b (p ++ m)
-block-padded a b p m bytes block n eb en lp lm h e =
-    ap (λ z. p ++ take n z) (e ∙ ap (λ z. m ++ drop z bytes) lm) ∙ ap (λ z. p ++ take z (m ++ drop (output_len a) bytes)) en
-    ∙ message-padded a p m bytes lp lm h ∙ ap (λ z. padded z (p ++ m)) (sym eb)
+pub block-padded : {a b : Algorithm} {p m : List ℕ} (bytes : List ℕ) {block : List ℕ} {n : ℕ}
+    → b ≡ a → n ≡ block_len a → ArePrepared a p m → past_message a bytes ≡ prepared_padding a
+    → block ≡ m ++ drop (length m) bytes → p ++ take n block ≡ padded b (p ++ m)
+block-padded {a} {b} {p} {m} bytes {n = n} eb en are h e =
+    let made = e ∙ ap (λ z. m ++ drop z bytes) are.message in
+    ap (λ z. p ++ take n z) made ∙ ap (λ z. p ++ take z (m ++ drop (output_len a) bytes)) en
+    ∙ message-padded bytes are h ∙ ap (λ z. padded z (p ++ m)) (sym eb)
 
 -- a message of the same length in its place
-pub message-replaced : (m x bytes block : List ℕ) → block ≡ m ++ drop (length m) bytes → length x ≡ length m → x ++ drop (length x) block ≡ x ++ drop (length x) bytes
-message-replaced m x bytes block e lx = rw (e, lx) (ap (λ z. x ++ z) (drop_at m (drop (length m) bytes) (length m) refl))
+pub message-replaced : (m x bytes block : List ℕ) → block ≡ m ++ drop (length m) bytes
+    → length x ≡ length m → x ++ drop (length x) block ≡ x ++ drop (length x) bytes
+message-replaced m x bytes block e lx =
+    rw (e, lx) (ap (λ z. x ++ z) (drop_at m (drop (length m) bytes) (length m) refl))
 
 -- the cost of one block
-pub cost_one : (a : Algorithm) (m0 m1 : Counts) (x : List ℕ) (n : ℕ) → n ≡ block_len a → length x ≡ 128 → m1 ≡ raised m0 (whole_blocks a (length (take n x))) 0 → m1 ≡ raised m0 1 0
-cost_one a m0 m1 x n en lx em =
+pub cost_one : (a : Algorithm) (m0 : Counts) {m1 : Counts} (x : List ℕ) {n : ℕ} → n ≡ block_len a
+    → length x ≡ 128 → m1 ≡ raised m0 (whole_blocks a (length (take n x))) 0 → m1 ≡ raised m0 1 0
+cost_one a m0 x {n = n} en lx em =
     let unit : block_len a / block_len a ≡ 1 = div_self (block_len-positive a) in
-    let size : length (take n x) ≡ block_len a = length-take-le n x (omega (arith, block_len-most a)) ∙ en in
+    let size : length (take n x) ≡ block_len a =
+    length-take-le n x (omega (arith, block_len-most a)) ∙ en in
     rw (size, unit) at em

@@ -1,19 +1,22 @@
 -- What the rows have in common.
-use Rattle.std.proofs.Common.{◌≡◌, zero, ◌<◌, ◌≤◌, ◌+◌, ◌-◌, ◌*◌, ◌^◌, ◌⊎◌, refl, inl, inr, lit<, lit≤, ◌/◌}
+use Rattle.std.proofs.Common.{◌≡◌, ℕ, zero, ◌<◌, ◌≤◌, ◌+◌, ◌-◌, ◌*◌, ◌^◌, ◌⊎◌, refl, inl, inr, lit<, lit≤, ◌/◌}
 use Rattle.ring.specs.Algorithm.{block_len, length_len, max_input_len, output_len, row_of, word_len, word_count}
 use Rattle.ring.specs.declared.digest.algorithm.Algorithm.{Algorithm}
 use Rattle.ring.specs.declared.digest.algorithm.AlgorithmId.{AlgorithmId}
 use Rattle.ring.specs.declared.digest.algorithm.AlgorithmId.TheVariants.{Sha1, Sha256, Sha384, Sha512, Sha512_256}
 
--- the two sizes of blocks and length fields
-pub sizes_of_id : (i : AlgorithmId) → (((row_of i).block_len ≡ 64) × ((row_of i).length_len ≡ 8)) ⊎ (((row_of i).block_len ≡ 128) × ((row_of i).length_len ≡ 16))
+-- the two sizes of blocks, b bytes, and length fields, l bytes
+abbrev pub AreSizes : (b l : ℕ) → Type 0
+AreSizes b l = ((b ≡ 64) × (l ≡ 8)) ⊎ ((b ≡ 128) × (l ≡ 16))
+
+pub sizes_of_id : (i : AlgorithmId) → AreSizes (row_of i).block_len (row_of i).length_len
 sizes_of_id Sha1 = inl (refl, refl)
 sizes_of_id Sha256 = inl (refl, refl)
 sizes_of_id Sha384 = inr (refl, refl)
 sizes_of_id Sha512 = inr (refl, refl)
 sizes_of_id Sha512_256 = inr (refl, refl)
 
-pub sizes_of : (a : Algorithm) → ((block_len a ≡ 64) × (length_len a ≡ 8)) ⊎ ((block_len a ≡ 128) × (length_len a ≡ 16))
+pub sizes_of : (a : Algorithm) → AreSizes (block_len a) (length_len a)
 sizes_of a = sizes_of_id a.id
 
 -- a length field that does not have sixteen bytes has eight
@@ -26,7 +29,8 @@ block_len-positive a = elim (sizes_of a) [ inl h ↦ rw h.0 (lit< tt) | inr h �
 pub block_len-most : (a : Algorithm) → block_len a ≤ 128
 block_len-most a = elim (sizes_of a) [ inl h ↦ rw h.0 (lit≤ tt) | inr h ↦ rw h.0 (lit≤ tt) ]
 
-output_len-most_of_id : (i : AlgorithmId) → (row_of i).output_len ≤ (row_of i).word_len * ((row_of i).chaining_len / (row_of i).word_len)
+output_len-most_of_id : (i : AlgorithmId)
+    → (row_of i).output_len ≤ (row_of i).word_len * ((row_of i).chaining_len / (row_of i).word_len)
 output_len-most_of_id Sha1 = lit≤ tt
 output_len-most_of_id Sha256 = lit≤ tt
 output_len-most_of_id Sha384 = lit≤ tt

@@ -1,5 +1,5 @@
 use Rattle.std.proofs.Common.{length, ◌∙◌}
-use Rattle.ring.proofs.Lengths.{cost_whole}
+use Rattle.ring.proofs.Lengths.{counted_end, counted_first}
 use Rattle.ring.proofs.Outcomes.{on_ok_map}
 use Rattle.ring.proofs.digest.digest_counted.Goals as goal
 
@@ -10,7 +10,9 @@ returns-clause-ok c =
 
 pub returns-clause-cost : goal.returns-clause-cost
 returns-clause-cost c =
-    on_ok_map c.finish_counted.result
-    (cost_whole c.args.algorithm.now _ _ _ _ _ (length c.args.message.now) c.new-context.ensures.pending
-    (rw c.new-context.ensures.algorithm at c.update_counted.ensures.pending) (rw c.new-context.ensures.algorithm at c.update_counted.ensures.cost))
-    (rw (c.update_counted.ensures.algorithm ∙ c.new-context.ensures.algorithm) at c.finish_counted.ensures.cost)
+    let new = c.new-context.ensures in
+    let update = c.update_counted.ensures in
+    let n = length c.args.message.now in
+    let taken = counted_first n new.algorithm new.pending update.pending update.cost in
+    on_ok_map c.finish_counted.result (counted_end (update.algorithm ∙ new.algorithm) taken)
+    c.finish_counted.ensures.cost

@@ -5,4 +5,6 @@ use Rattle.ring.proofs.hmac.verify_counted.Goals as goal
 
 pub returns-clause-cost : goal.returns-clause-cost
 returns-clause-cost c = λ fits.
-    cost_compared _ _ _ _ _ _ (length c.args.tag.now) (c.as_ref.ensures.len ∙ ap output_len c.in_ok-made.ensures.algorithm) c.in_ok-made.ensures.cost c.verify_slices_are_equal_counted.ensures.cost
+    let len = c.as_ref.ensures.len ∙ ap output_len c.in_ok-made.ensures.algorithm in
+    cost_compared _ _ (length c.args.tag.now) len c.in_ok-made.ensures.cost
+    c.verify_slices_are_equal_counted.ensures.cost

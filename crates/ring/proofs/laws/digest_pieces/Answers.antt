@@ -1,17 +1,20 @@
 use Rattle.std.proofs.Common.{◌≤◌, arith, rules}
 use Rattle.std.proofs.lemmas.List.{take_all}
 use Rattle.ring.specs.Algorithm.{max_input_len}
-use Rattle.ring.proofs.Feeding.{fed_end, fed_none, fed_piece}
+use Rattle.ring.proofs.Feeding.{fed_end, fed_more, fed_none, fed_piece}
 use Rattle.ring.proofs.Outcomes.{on_err_never, on_ok_map}
 use Rattle.ring.proofs.laws.digest_pieces.Goals as goal
 
 pub pieces-init : goal.pieces-init
-pieces-init c = let new = c.new-context.ensures in fed_none _ _ _ new.algorithm new.counted new.pending new.stands
+pieces-init c =
+    let new = c.new-context.ensures in
+    fed_none new.algorithm new.counted new.pending new.stands
 
 pub pieces-preserved : goal.pieces-preserved
 pieces-preserved c =
     let more = c.update_counted.ensures in
-    fed_piece _ _ _ c.args.pieces.now c.pieces.piece-index _ _ _ _ (omega arith) c.pieces.invariant more.algorithm more.counted more.pending more.stands more.cost
+    fed_piece c.args.pieces.now c.pieces.piece-index _ (omega arith)
+    (fed_more _ c.pieces.invariant more.algorithm more.counted more.pending more.stands more.cost)
 
 pub returns-clause-ok : goal.returns-clause-ok
 returns-clause-ok c =
@@ -23,12 +26,14 @@ pub returns-clause-unchanged : goal.returns-clause-unchanged
 returns-clause-unchanged c =
     let all = take_all c.pieces.piece-index c.args.pieces.now (omega arith) in
     let fed = rw all at c.pieces.invariant in
-    let within : c.joined_len.result ≤ max_input_len c.args.algorithm.now = search (rules, c.if-not-is_message_within.ensures) in
-    on_err_never c.finish_counted.result _
-    (λ refused. (let over = rw fed.algorithm at (c.finish_counted.ensures.refused.0 refused) in omega (arith, over, within, fed.counted, c.joined_len.ensures)))
+    let within : c.joined_len.result ≤ max_input_len c.args.algorithm.now =
+    search (rules, c.if-not-is_message_within.ensures) in
+    on_err_never c.finish_counted.result _ (λ refused.
+      let over = rw fed.algorithm at (c.finish_counted.ensures.refused.0 refused) in
+      omega (arith, over, within, fed.counted, c.joined_len.ensures))
 
 pub returns-clause-cost : goal.returns-clause-cost
 returns-clause-cost c =
     let all = take_all c.pieces.piece-index c.args.pieces.now (omega arith) in
     let fed = rw all at c.pieces.invariant in
-    on_ok_map c.finish_counted.result (fed_end _ _ _ _ _ c.finish_counted.new.meter fed) c.finish_counted.ensures.cost
+    on_ok_map c.finish_counted.result (fed_end fed) c.finish_counted.ensures.cost

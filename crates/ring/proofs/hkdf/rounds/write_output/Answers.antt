@@ -14,15 +14,16 @@ pub loop-out-init : goal.loop-out-init
 loop-out-init c =
     let a = key_algorithm c.args.key.now in
     let info = joined c.args.info.now in
+    let round = c.round-tag.ensures in
     record {
       place = omega arith;
       few = omega arith;
       in_out = omega arith;
       needed = λ h. omega arith;
-      algorithm = c.round-tag.ensures.algorithm;
-      next = λ k h. first_round a k info _ (c.round-tag.ensures.ok k h).bytes;
+      algorithm = round.algorithm;
+      next = λ k h. first_round a k info (round.ok k h).bytes;
       done = λ k h. sym (joined_blocks-none (t_of a k info));
-      cost = cost_first a _ (length info) _ _ c.round-tag.ensures.cost;
+      cost = cost_first a _ (length info) _ round.cost;
     }
 
 pub loop-out-preserved : goal.loop-out-preserved
@@ -30,33 +31,37 @@ loop-out-preserved c =
     let a = key_algorithm c.args.key.now in
     let info = joined c.args.info.now in
     let before = c.loop-out.invariant in
+    let round = c.round-tag-in-loop-out.ensures in
+    let tag = c.as_ref-in-loop-out.ensures in
+    let end = c.loop-out.written + c.output_len-output_len.result in
     let len : c.output_len-output_len.result ≡ output_len a =
     c.output_len-output_len.ensures ∙ ap output_len (c.digest_algorithm.ensures ∙ c.algorithm.ensures) in
-    let place : c.loop-out.written + c.output_len-output_len.result ≡ (c.loop-out.rounds + 1) * output_len a = omega (arith, len, before.place) in
+    let place : end ≡ (c.loop-out.rounds + 1) * output_len a = omega (arith, len, before.place) in
+    let few = round-lt (output_len a) _ end (length c.loop-out.out) place in
     record {
       place = place;
-      few = round-lt (output_len a) _ (c.loop-out.written + c.output_len-output_len.result) (length c.loop-out.out) place (omega arith) (omega arith);
+      few = few (omega arith) (omega arith);
       in_out = grind (arith, common_steps, c.loop-out-test.true);
       needed = λ h. grind (arith, common_steps, c.loop-out-test.true);
-      algorithm = c.round-tag-in-loop-out.ensures.algorithm;
-      next = λ k h. next_round a k info _ _ c.loop-out.rounds (c.as_ref-in-loop-out.ensures.bytes ∙ before.next k h) (c.round-tag-in-loop-out.ensures.ok k h).bytes;
-      done = λ k h. written-next a k info c.loop-out.out _ _ _ c.loop-out.rounds c.loop-out.written _ len before.in_out (before.done k h)
-          (c.as_ref.ensures.bytes ∙ before.next k h) c.write_at.ensures;
-      cost = cost_next a _ c.loop-out.rounds _ (length info) _ _ _ (c.as_ref-in-loop-out.ensures.len ∙ ap output_len before.algorithm)
-          before.cost c.round-tag-in-loop-out.ensures.cost;
+      algorithm = round.algorithm;
+      next = λ k h.
+          let previous = tag.bytes ∙ before.next k h in
+          next_round a k info c.loop-out.rounds previous (round.ok k h).bytes;
+      done = λ k h. written-next _ before h len c.as_ref.ensures.bytes c.write_at.ensures;
+      cost = cost_next before (tag.len ∙ ap output_len before.algorithm) round.cost;
     }
 
 pub returns-clause-ok : goal.returns-clause-ok
 returns-clause-ok c k h =
     let a = key_algorithm c.args.key.now in
-    let info = joined c.args.info.now in
     let before = c.loop-out.invariant in
     let len : c.output_len-output_len.result ≡ output_len a =
     c.output_len-output_len.ensures ∙ ap output_len (c.digest_algorithm.ensures ∙ c.algorithm.ensures) in
-    let short : length c.loop-out.out - c.loop-out.written ≤ output_len a = omega arith in
-    let whole : length c.loop-out.out ≡ c.loop-out.written + (length c.loop-out.out - c.loop-out.written) = omega (arith, before.in_out) in
-    rw (← c.loop-out.auto.out) (written-last a k info c.loop-out.out _ _ c.loop-out.rounds c.loop-out.written _ before.in_out before.place
-    (omega arith) whole short (before.done k h) (c.as_ref-2.ensures.bytes ∙ before.next k h) c.write_at-2.ensures)
+    let left = length c.loop-out.out - c.loop-out.written in
+    let short : left ≤ output_len a = omega arith in
+    let whole : length c.loop-out.out ≡ c.loop-out.written + left = omega (arith, before.in_out) in
+    let last = written-last left before h (omega arith) whole short in
+    rw (← c.loop-out.auto.out) (last c.as_ref-2.ensures.bytes c.write_at-2.ensures)
 
 pub returns-clause-cost : goal.returns-clause-cost
 returns-clause-cost c =
@@ -65,6 +70,9 @@ returns-clause-cost c =
     let before = c.loop-out.invariant in
     let len : c.output_len-output_len.result ≡ output_len a =
     c.output_len-output_len.ensures ∙ ap output_len (c.digest_algorithm.ensures ∙ c.algorithm.ensures) in
-    let rounds = rounds_at a c.loop-out.rounds c.loop-out.written (length c.args.out.now) before.place (omega arith) (omega arith) (λ h. (let p = before.needed h in omega arith)) in
+    let number = c.loop-out.rounds in
+    let at_end = rounds_at a number c.loop-out.written (length c.args.out.now) before.place in
+    let rounds = at_end (omega arith) (omega arith) (λ h. (let p = before.needed h in omega arith)) in
+    let next = padded_blocks a (output_len a + i + 1) + 1 in
     before.cost
-    ∙ ap (λ (z : ℕ). raised c.args.meter.now (padded_blocks a (i + 1) + 1 + z * (padded_blocks a (output_len a + i + 1) + 1)) 0) (sym rounds)
+    ∙ ap (λ (z : ℕ). raised c.args.meter.now (padded_blocks a (i + 1) + 1 + z * next) 0) (sym rounds)

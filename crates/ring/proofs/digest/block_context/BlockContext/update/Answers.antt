@@ -5,7 +5,7 @@ use Rattle.ring.proofs.digest.block_context.BlockContext.update.Goals as goal
 pub returns-clause-moved : goal.returns-clause-moved
 returns-clause-moved c =
     let run = c.run_blocks-rest.ensures in
-    moved_front c.args.self.now _ c.args.input.now _ _ _ refl run.rest run.words run.spare c.saturating_add-self.ensures run.cost
+    moved_front refl run.rest run.words run.spare c.saturating_add-self.ensures run.cost
 
 pub returns-clause-short : goal.returns-clause-short
 returns-clause-short c = left_short c.args.self.now.algorithm c.args.input.now _ c.run_blocks-rest.ensures.rest

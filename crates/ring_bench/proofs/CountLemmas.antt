@@ -1,11 +1,15 @@
 -- The numbers of blocks of lines.
-use Rattle.std.proofs.Common.{◌≡◌, ℕ, ◌+◌, ◌-◌, ◌*◌, ◌^◌, ◌<◌, ◌≤◌, nat_le, if◌then◌else◌, true, false, inl, inr, List, ◌++◌, length, map, take, slice_index_or, append-nil, refl, ap, ◌∙◌, arith, mul-le-mul_right}
+use Rattle.std.proofs.Common.{◌≡◌, ℕ, ◌+◌, ◌-◌, ◌*◌, ◌^◌, ◌<◌, ◌≤◌, nat_le, if◌then◌else◌, true}
+use Rattle.std.proofs.Common.{false, inl, inr, List, ◌++◌, length, map, take, slice_index_or}
+use Rattle.std.proofs.Common.{append-nil, refl, ap, ◌∙◌, arith, mul-le-mul_right}
 use Rattle.std.proofs.lemmas.Grind.{div_ceil_times, flat_map-append}
 use Rattle.std.proofs.lemmas.List.{map-append, take_more}
 use Rattle.std.specs.Int.{div_ceil}
 use Rattle.ring.proofs.Costs.{IsNew, counted, counted_new, raised-none, raised-raised}
 use Rattle.ring.specs.Algorithm.{block_len, max_input_len, output_len}
-use Rattle.ring.specs.Cost.{Counts, derive_blocks, derive_rounds, fill_blocks, fill_rounds, iterate_blocks, key_blocks, last_blocks, padded_blocks, raised, whole_blocks}
+use Rattle.ring.specs.Cost.{Counts, derive_blocks, derive_rounds, fill_blocks, fill_rounds}
+use Rattle.ring.specs.Cost.{iterate_blocks, key_blocks, last_blocks, padded_blocks, raised}
+use Rattle.ring.specs.Cost.{whole_blocks}
 use Rattle.ring.specs.Limits.{CanDerive, IsInfoWithin, IsOutputWithin, IsTagWithin}
 use Rattle.ring_bench.specs.Request.{joined}
 use Rattle.ring.specs.declared.digest.algorithm.Algorithm.{Algorithm}

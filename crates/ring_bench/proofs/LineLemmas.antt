@@ -3,7 +3,8 @@ use Rattle.std.proofs.Common.{◌≡◌, ℕ, List, [], ◌∷◌, Option, None,
 use Rattle.std.specs.Option.{option_and_then}
 use Rattle.ring_bench.specs.declared.line.Call.{Call}
 use Rattle.ring_bench.specs.declared.line.Call.TheVariants as call
-use Rattle.ring_bench.specs.Line.{asked_by, asked_of, call_of, digest_line, hkdf_line, hmac_line, hmac_verify_line, pbkdf2_line, pbkdf2_verify_line}
+use Rattle.ring_bench.specs.Line.{asked_by, asked_of, call_of, digest_line, hkdf_line, hmac_line}
+use Rattle.ring_bench.specs.Line.{hmac_verify_line, pbkdf2_line, pbkdf2_verify_line}
 
 -- no call has more than five operands
 asked_by_first : (named : Call) (operands : List (List ℕ)) → asked_by named (take 6 operands) ≡ asked_by named operands

@@ -1,5 +1,6 @@
 -- Lemmas on what requests are answered.
-use Rattle.std.proofs.Common.{◌≡◌, ℕ, ◌+◌, ◌-◌, ◌^◌, ◌<◌, ◌≤◌, ◌*◌, nat_le, ◌&&◌, true≢false, Bool, true, false, List, length, refl, sym, ap, ◌∙◌, arith, rules}
+use Rattle.std.proofs.Common.{◌≡◌, ℕ, ◌+◌, ◌-◌, ◌^◌, ◌<◌, ◌≤◌, ◌*◌, nat_le, ◌&&◌, true≢false, Bool}
+use Rattle.std.proofs.Common.{true, false, List, length, refl, sym, ap, ◌∙◌, arith, rules}
 use Rattle.std.proofs.lemmas.Bool.Decides.{nat_tests, same_from_decides}
 use Rattle.std.specs.Str.{bytes_eq}
 use Rattle.std.proofs.lemmas.Slice.Eq.{bytes_eq-Decides}
@@ -11,7 +12,8 @@ use Rattle.ring.specs.Pbkdf2.{dk}
 use Rattle.ring.specs.Limits.{CanDerive, CanVerify, IsInfoWithin, IsOutputWithin, IsTagWithin}
 use Rattle.ring.specs.declared.digest.algorithm.Algorithm.{Algorithm}
 use Rattle.ring_bench.proofs.CountLemmas.{derive_count, fill_count}
-use Rattle.ring_bench.specs.Request.{given, refused, when, within, output_answer, Response, verdict_answer, can_derive, can_expand}
+use Rattle.ring_bench.specs.Request.{given, refused, when, within, output_answer, Response}
+use Rattle.ring_bench.specs.Request.{verdict_answer, can_derive, can_expand}
 
 -- what is not within the limit is refused
 not_within : (a : Algorithm) (n : ℕ) (answer : Response) → (n ≤ max_input_len a → ⊥) → refused ≡ within a n answer

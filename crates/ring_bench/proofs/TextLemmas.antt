@@ -1,11 +1,14 @@
 -- Lemmas on a text, its lines, and what ends them.
-use Rattle.std.proofs.Common.{◌≡◌, ◌==◌, ℕ, zero, suc, ◌+◌, ◌-◌, ◌<◌, ◌≤◌, Bool, true, false, cond, List, [], ◌∷◌, ◌++◌, length, map, take, All, refl, sym, ap, ◌∙◌, subst, append_assoc, length-append, arith}
+use Rattle.std.proofs.Common.{◌≡◌, ◌==◌, ℕ, zero, suc, ◌+◌, ◌-◌, ◌<◌, ◌≤◌, Bool, true, false, cond}
+use Rattle.std.proofs.Common.{List, [], ◌∷◌, ◌++◌, length, map, take, All, refl, sym, ap, ◌∙◌}
+use Rattle.std.proofs.Common.{subst, append_assoc, length-append, arith}
 use Rattle.std.specs.List.{slice_split, onto_first, flat_map}
 use Rattle.std.proofs.lemmas.List.Splits.{slice_split_at, slice_split_none, length-slice_split}
 use Rattle.std.proofs.lemmas.List.Elements.{All-head, All-tail, All-append}
 use Rattle.std.proofs.lemmas.List.Concat.{flat_map-append}
 use Rattle.std.proofs.lemmas.Bool.{eq-eqb}
-use Rattle.ring_bench.specs.Text.{IsFirstCut, IsWithout, is_line_feed, without_return, lines, lines_of_cuts, ended_lines}
+use Rattle.ring_bench.specs.Text.{IsFirstCut, IsWithout, is_line_feed, without_return, lines}
+use Rattle.ring_bench.specs.Text.{lines_of_cuts, ended_lines}
 use Rattle.ring_bench.specs.Reply.{ended}
 use Rattle.ring_bench.specs.Session.{HasNoLineFeed, Begins}
 
@@ -46,19 +49,24 @@ split-ended (cut ∷ cuts) rest each =
     ∙ slice_split_at is_line_feed cut 10 (flat_map ended cuts ++ rest) (All-head HasNoLineFeed cut cuts each) refl
     ∙ ap (λ l. cut ∷ l) (split-ended cuts rest (All-tail HasNoLineFeed cut cuts each))
 
--- the lines of a text whose first lines are known
-pub Begins-lines : (text : List ℕ) (cuts : List (List ℕ)) (rest : List ℕ) → Begins text cuts rest → lines text ≡ map without_return cuts ++ lines rest
-Begins-lines text cuts rest b =
-    ap lines b.whole ∙ ap lines_of_cuts (split-ended cuts rest b.each) ∙ lines-append cuts (slice_split is_line_feed rest) (some_part is_line_feed rest)
+-- a text whose first lines are known
+module _ {text rest : List ℕ} {cuts : List (List ℕ)} (b : Begins text cuts rest) where
+  Begins-split : slice_split is_line_feed text ≡ cuts ++ slice_split is_line_feed rest
+  Begins-split = ap (slice_split is_line_feed) b.whole ∙ split-ended cuts rest b.each
 
--- each of those lines was ended by a line feed
-pub Begins-ended : (text : List ℕ) (cuts : List (List ℕ)) (rest : List ℕ) → Begins text cuts rest → length cuts ≤ ended_lines text
-Begins-ended text cuts rest b =
-    let whole : slice_split is_line_feed text ≡ cuts ++ slice_split is_line_feed rest = ap (slice_split is_line_feed) b.whole ∙ split-ended cuts rest b.each in
-    let count : length (slice_split is_line_feed text) ≡ length cuts + length (slice_split is_line_feed rest) = ap length whole ∙ length-append cuts (slice_split is_line_feed rest) in
-    let of_text = length-slice_split is_line_feed text in
-    let of_rest = length-slice_split is_line_feed rest in
-    omega arith
+  -- its lines
+  pub Begins-lines : lines text ≡ map without_return cuts ++ lines rest
+  Begins-lines =
+      ap lines_of_cuts Begins-split
+      ∙ lines-append cuts (slice_split is_line_feed rest) (some_part is_line_feed rest)
+
+  -- each of the first lines was ended by a line feed
+  pub Begins-ended : length cuts ≤ ended_lines text
+  Begins-ended =
+      let count = ap length Begins-split ∙ length-append cuts (slice_split is_line_feed rest) in
+      let of_text = length-slice_split is_line_feed text in
+      let of_rest = length-slice_split is_line_feed rest in
+      omega arith
 
 some_last : (b : ℕ) (first : List ℕ) (others : List (List ℕ)) → 0 < length (lines_of_cuts ((b ∷ first) ∷ others))
 some_last b first [] = omega arith
@@ -86,14 +94,19 @@ pub Begins-nothing : (text : List ℕ) → Begins text [] text
 Begins-nothing text = record { whole = refl; each = λ k d below. absurd (omega arith) }
 
 -- more text goes to the rest
-pub Begins-more : (text : List ℕ) (cuts : List (List ℕ)) (rest more : List ℕ) → Begins text cuts rest → Begins (text ++ more) cuts (rest ++ more)
-Begins-more text cuts rest more b = record { whole = ap (λ l. l ++ more) b.whole ∙ append_assoc (flat_map ended cuts) rest more; each = b.each }
+pub Begins-more : {text rest : List ℕ} {cuts : List (List ℕ)} → Begins text cuts rest
+    → (more : List ℕ) → Begins (text ++ more) cuts (rest ++ more)
+Begins-more {rest} {cuts} b more = record {
+  whole = ap (λ l. l ++ more) b.whole ∙ append_assoc (flat_map ended cuts) rest more;
+  each = b.each;
+}
 
 -- the rest with more text begins with further lines
-pub Begins-trans : (text : List ℕ) (cuts : List (List ℕ)) (rest more : List ℕ) (others : List (List ℕ)) (last : List ℕ)
-    → Begins text cuts rest → Begins (rest ++ more) others last → Begins (text ++ more) (cuts ++ others) last
-Begins-trans text cuts rest more others last b c = record {
-  whole = (Begins-more text cuts rest more b).whole
+pub Begins-trans : {text rest last : List ℕ} {cuts others : List (List ℕ)}
+    → Begins text cuts rest → (more : List ℕ) → Begins (rest ++ more) others last
+    → Begins (text ++ more) (cuts ++ others) last
+Begins-trans {last} {cuts} {others} b more c = record {
+  whole = (Begins-more b more).whole
       ∙ ap (λ l. flat_map ended cuts ++ l) c.whole
       ∙ sym (append_assoc (flat_map ended cuts) (flat_map ended others) last)
       ∙ ap (λ l. l ++ last) (sym (flat_map-append ended cuts others));

@@ -2,15 +2,21 @@
 use Rattle.std.specs.Prelude.{ℕ, List, Option, None, Some, if◌then◌else◌, codes}
 use Rattle.std.specs.Option.{option_and_then}
 use Rattle.ring.specs.declared.digest.algorithm.Algorithm as digest
-use Rattle.ring.specs.declared.digest.algorithm.TheConstants.{SHA1_FOR_LEGACY_USE_ONLY, SHA256, SHA384, SHA512, SHA512_256}
+use Rattle.ring.specs.declared.digest.algorithm.TheConstants.{SHA1_FOR_LEGACY_USE_ONLY, SHA256}
+use Rattle.ring.specs.declared.digest.algorithm.TheConstants.{SHA384, SHA512, SHA512_256}
 use Rattle.ring.specs.declared.hmac.algorithm.Algorithm as hmac
-use Rattle.ring.specs.declared.hmac.algorithm.TheConstants.{HMAC_SHA1_FOR_LEGACY_USE_ONLY, HMAC_SHA256, HMAC_SHA384, HMAC_SHA512}
+use Rattle.ring.specs.declared.hmac.algorithm.TheConstants.{HMAC_SHA1_FOR_LEGACY_USE_ONLY}
+use Rattle.ring.specs.declared.hmac.algorithm.TheConstants.{HMAC_SHA256, HMAC_SHA384, HMAC_SHA512}
 use Rattle.ring.specs.declared.hkdf.algorithm.Algorithm as hkdf
-use Rattle.ring.specs.declared.hkdf.algorithm.TheConstants.{HKDF_SHA1_FOR_LEGACY_USE_ONLY, HKDF_SHA256, HKDF_SHA384, HKDF_SHA512}
+use Rattle.ring.specs.declared.hkdf.algorithm.TheConstants.{HKDF_SHA1_FOR_LEGACY_USE_ONLY}
+use Rattle.ring.specs.declared.hkdf.algorithm.TheConstants.{HKDF_SHA256, HKDF_SHA384, HKDF_SHA512}
 use Rattle.ring.specs.declared.pbkdf2.algorithm.Algorithm as pbkdf2
-use Rattle.ring.specs.declared.pbkdf2.algorithm.TheConstants.{PBKDF2_HMAC_SHA1, PBKDF2_HMAC_SHA256, PBKDF2_HMAC_SHA384, PBKDF2_HMAC_SHA512}
+use Rattle.ring.specs.declared.pbkdf2.algorithm.TheConstants.{PBKDF2_HMAC_SHA1, PBKDF2_HMAC_SHA256}
+use Rattle.ring.specs.declared.pbkdf2.algorithm.TheConstants.{PBKDF2_HMAC_SHA384}
+use Rattle.ring.specs.declared.pbkdf2.algorithm.TheConstants.{PBKDF2_HMAC_SHA512}
 use Rattle.ring_bench.specs.declared.algorithm.Named.{Named}
-use Rattle.ring_bench.specs.declared.algorithm.Named.TheVariants.{Sha1, Sha256, Sha384, Sha512, Sha512_256}
+use Rattle.ring_bench.specs.declared.algorithm.Named.TheVariants.{Sha1, Sha256, Sha384, Sha512}
+use Rattle.ring_bench.specs.declared.algorithm.Named.TheVariants.{Sha512_256}
 use Rattle.ring_bench.specs.Field.{is_word}
 
 -- ALG

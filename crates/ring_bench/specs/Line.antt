@@ -1,5 +1,6 @@
 -- What one line says.
-use Rattle.std.specs.Prelude.{◌==◌, ℕ, Bool, List, [], ◌∷◌, Option, None, Some, if◌then◌else◌, length, slice_index, codes}
+use Rattle.std.specs.Prelude.{◌==◌, ℕ, Bool, List, [], ◌∷◌, Option, None, Some, if◌then◌else◌}
+use Rattle.std.specs.Prelude.{length, slice_index, codes}
 use Rattle.std.specs.Option.{option_and_then}
 use Rattle.std.specs.List.{slice_split}
 use Rattle.ring.specs.declared.digest.algorithm.Algorithm.{Algorithm as DigestAlgorithm}
@@ -10,11 +11,13 @@ use Rattle.std.specs.Int.NonZero.{non_zero_u32_get}
 use Rattle.ring_bench.specs.declared.line.Call.{Call}
 use Rattle.ring_bench.specs.declared.line.Call.TheVariants as call
 use Rattle.ring_bench.specs.declared.line.Request.{Request}
-use Rattle.ring_bench.specs.declared.line.Request.TheVariants.{Digest, Hmac, HmacVerify, Hkdf, Pbkdf2, Pbkdf2Verify}
+use Rattle.ring_bench.specs.declared.line.Request.TheVariants.{Digest, Hmac, HmacVerify, Hkdf}
+use Rattle.ring_bench.specs.declared.line.Request.TheVariants.{Pbkdf2, Pbkdf2Verify}
 use Rattle.ring_bench.specs.declared.line.Line.{Line}
 use Rattle.ring_bench.specs.declared.line.Line.TheVariants.{Nothing, Bad, Asks}
 use Rattle.ring_bench.specs.Pieces.{pieces_listed}
-use Rattle.ring_bench.specs.Algorithm.{digest_algorithm_of, hmac_algorithm_of, hkdf_algorithm_of, pbkdf2_algorithm_of}
+use Rattle.ring_bench.specs.Algorithm.{digest_algorithm_of, hmac_algorithm_of, hkdf_algorithm_of}
+use Rattle.ring_bench.specs.Algorithm.{pbkdf2_algorithm_of}
 use Rattle.ring_bench.specs.Field.{is_word, bytes_of, pieces_of, len_of, iterations_of}
 
 -- What a line asks for. Fields stand in the order of the line.

@@ -1,6 +1,7 @@
 //! The algorithm that a field ALG names.
 
-ghost use Rattle.ring_bench.specs.Algorithm.{algorithm_of, digest_algorithm_of, hkdf_algorithm_of, hmac_algorithm_of, pbkdf2_algorithm_of};
+ghost use Rattle.ring_bench.specs.Algorithm.{algorithm_of, digest_algorithm_of, hkdf_algorithm_of};
+ghost use Rattle.ring_bench.specs.Algorithm.{hmac_algorithm_of, pbkdf2_algorithm_of};
 ghost use Rattle.ring_bench.specs.Fault.{Reads};
 
 use crate::fault::Fault;

@@ -3,7 +3,8 @@ ghost use Rattle.std.specs.Prelude.{◌≡◌, ◌++◌, [], ◌∷◌, List, �
 ghost use Rattle.std.specs.Int.NonZero.{non_zero_u32_get};
 ghost use Rattle.hex.specs.Hex.{decode_of};
 ghost use Rattle.ring_bench.specs.Fault.{Reads};
-ghost use Rattle.ring_bench.specs.Field.{is_word, bytes_of, pieces_of, value_of, decimal_of, up_to, len_of, iterations_of};
+ghost use Rattle.ring_bench.specs.Field.{is_word, bytes_of, pieces_of, value_of, decimal_of, up_to};
+ghost use Rattle.ring_bench.specs.Field.{len_of, iterations_of};
 ghost use Rattle.ring_bench.specs.Pieces.{pieces_listed};
 
 use crate::fault::Fault;

@@ -34,7 +34,8 @@
 //! ```
 #![tactic(auto)]
 
-ghost use Rattle.std.specs.Prelude.{◌≡◌, ◌++◌, ◌<◌, ◌≤◌, ℕ, OnOk, IfOk, IfErr, OnErr, IfSome, IsErrOf, length, take};
+ghost use Rattle.std.specs.Prelude.{◌≡◌, ◌++◌, ◌<◌, ◌≤◌, ℕ, OnOk, IfOk, IfErr, OnErr, IfSome};
+ghost use Rattle.std.specs.Prelude.{IsErrOf, length, take};
 ghost use Rattle.std.specs.Io.KnownBytes.{Appends, IsAtEnd};
 ghost use Rattle.ring_bench.specs.Reply.{reply, kind};
 ghost use Rattle.ring_bench.specs.Outcome.{exit_status, error_text};

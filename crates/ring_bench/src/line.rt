@@ -4,7 +4,9 @@
 //! `Request`, and a function over its operands.
 ghost use Rattle.std.specs.Prelude.{◌≡◌, IfOk, map};
 ghost use Rattle.ring_bench.specs.Fault.{Reads};
-ghost use Rattle.ring_bench.specs.Line.{line_of, asked_of, asked_by, call_of, digest_line, hmac_line, hmac_verify_line, hkdf_line, pbkdf2_line, pbkdf2_verify_line, asked, meaning};
+ghost use Rattle.ring_bench.specs.Line.{line_of, asked_of, asked_by, call_of, digest_line};
+ghost use Rattle.ring_bench.specs.Line.{hmac_line, hmac_verify_line, hkdf_line, pbkdf2_line};
+ghost use Rattle.ring_bench.specs.Line.{pbkdf2_verify_line, asked, meaning};
 
 use crate::algorithm::{
     digest_algorithm_in, hkdf_algorithm_in, hmac_algorithm_in, pbkdf2_algorithm_in,

@@ -8,7 +8,10 @@ ghost use Rattle.ring.specs.Hmac.{KeyStandsFor, TagStandsFor, key_algorithm, sig
 ghost use Rattle.ring.specs.Pieces.{joined as joined_parts};
 ghost use Rattle.ring_bench.specs.Pieces.{pieces_listed};
 ghost use Rattle.ring_bench.specs.Line.{asked};
-ghost use Rattle.ring_bench.specs.Request.{answer_of, digest_answer, hmac_answer, hmac_verify_answer, verdict_answer, tag_answer, hkdf_answer, output_answer, pbkdf2_answer, pbkdf2_verify_answer, joined, response};
+ghost use Rattle.ring_bench.specs.Request.{answer_of, digest_answer, hmac_answer};
+ghost use Rattle.ring_bench.specs.Request.{hmac_verify_answer, verdict_answer, tag_answer};
+ghost use Rattle.ring_bench.specs.Request.{hkdf_answer, output_answer, pbkdf2_answer};
+ghost use Rattle.ring_bench.specs.Request.{pbkdf2_verify_answer, joined, response};
 
 use crate::line::Request;
 use crate::pieces::Pieces;

@@ -1,4 +1,5 @@
-use Rattle.std.proofs.Common.{◌≡◌, ◌++◌, length, take, drop, arith, refl, sym, ◌∙◌, rules, true≢false}
+use Rattle.std.proofs.Common.{◌≡◌, ◌++◌, length, take, drop, arith, refl, sym, ◌∙◌, rules}
+use Rattle.std.proofs.Common.{true≢false}
 use Rattle.std.proofs.Math.Seq.{take-append_seam}
 use Rattle.ring.specs.Hkdf.{okm}
 use Rattle.ring.specs.Okm.{okm_algorithm}

@@ -4,7 +4,8 @@ use Rattle.std.specs.Str.{bytes_eq}
 use Rattle.ring.specs.Pbkdf2.{dk, prf_algorithm}
 use Rattle.ring_bench.specs.Request.{pbkdf2_verify_answer}
 use Rattle.ring_bench.proofs.CountLemmas.{derive_count}
-use Rattle.ring_bench.proofs.RequestLemmas.{can_verify-true, derived-refused, derived-within, given-when, same_verdict}
+use Rattle.ring_bench.proofs.RequestLemmas.{can_verify-true, derived-refused, derived-within}
+use Rattle.ring_bench.proofs.RequestLemmas.{given-when, same_verdict}
 use Rattle.ring_bench.proofs.request.respond_pbkdf2_verify.Goals as goal
 
 pub returns-then-blocks-eq0 : goal.returns-then-blocks-eq0

@@ -1,7 +1,8 @@
 use Rattle.std.proofs.Common.{◌≡◌, ◌<◌, length, rules}
 use Rattle.ring_bench.proofs.FedLemmas.{open-answered, open-status, none-answered, none-status}
 use Rattle.ring_bench.proofs.session.Session.finish.Goals as goal
-use Rattle.ring_bench.proofs.session.Session.finish.Goals.{then-not-is_empty+in_ok-end_line, else-not-is_empty}
+use Rattle.ring_bench.proofs.session.Session.finish.Goals.{then-not-is_empty+in_ok-end_line}
+use Rattle.ring_bench.proofs.session.Session.finish.Goals.{else-not-is_empty}
 
 pub returns-clause-written : goal.returns-clause-written
 returns-clause-written g c =
@@ -9,10 +10,11 @@ returns-clause-written g c =
     elim c.if-not-is_empty.branch [
       | then-not-is_empty+in_ok-end_line w ↦
           (let some : 0 < length c.args.self.line.items = search rules in
-          open-answered _ _ _ _ c.requires some w.in_ok-end_line.ensures.written (rw w.writer-is at c.flush.ensures.bytes))
+          let kept = rw w.writer-is at c.flush.ensures.bytes in
+          open-answered _ c.requires some _ _ _ w.in_ok-end_line.ensures.written kept)
       | else-not-is_empty w ↦
           (let none : length c.args.self.line.items ≡ 0 = search rules in
-          none-answered _ _ _ none (rw w.writer-is at c.flush.ensures.bytes))
+          none-answered _ none _ _ (rw w.writer-is at c.flush.ensures.bytes))
     ]
 
 pub returns-clause-status : goal.returns-clause-status
@@ -21,8 +23,8 @@ returns-clause-status g c =
     elim c.if-not-is_empty.branch [
       | then-not-is_empty+in_ok-end_line w ↦
           (let some : 0 < length c.args.self.line.items = search rules in
-          rw w.self-is (open-status _ _ _ c.requires some w.in_ok-end_line.ensures.status))
+          rw w.self-is (open-status _ c.requires some _ w.in_ok-end_line.ensures.status))
       | else-not-is_empty w ↦
           (let none : length c.args.self.line.items ≡ 0 = search rules in
-          rw w.self-is (none-status _ _ none))
+          rw w.self-is (none-status _ none _))
     ]

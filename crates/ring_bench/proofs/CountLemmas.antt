@@ -17,31 +17,31 @@ use Rattle.ring.proofs.Keys.{output_below}
 use Rattle.ring.proofs.Lengths.{whole_last}
 use Rattle.ring.proofs.Rows.{block_len-most, max_input_len-most, output_len-positive, sizes_of}
 
--- one piece more
-pub joined-more : {V : Type 0} (f : V → List ℕ) (pieces : List V) (i : ℕ) (piece : V) (bytes : List ℕ) → i < length pieces
-    → piece ≡ slice_index_or pieces i piece → bytes ≡ f piece → joined (map f (take (i + 1) pieces)) ≡ joined (map f (take i pieces)) ++ bytes
-joined-more f pieces i piece bytes below here same =
-    rw (take_more pieces i piece below, ← here, same) (simp (map-append, flat_map-append, append-nil))
-
 -- no byte has no block
 pub whole_none : (a : Algorithm) (m : Counts) → m ≡ raised m (whole_blocks a 0) 0
-whole_none a m = let none : whole_blocks a 0 ≡ 0 = elim (sizes_of a) [ inl e ↦ rw e.0 refl | inr e ↦ rw e.0 refl ] in rw none (raised-none m)
+whole_none a m =
+    let none : whole_blocks a 0 ≡ 0 =
+    elim (sizes_of a) [ inl e ↦ rw e.0 refl | inr e ↦ rw e.0 refl ] in
+    rw none (raised-none m)
 
 -- the whole blocks of n bytes, and of d bytes more
-pub whole_more : (a b : Algorithm) (m0 m1 m2 : Counts) (n d : ℕ) → b ≡ a → m1 ≡ raised m0 (whole_blocks a n) 0
-    → m2 ≡ raised m1 (whole_blocks b (n + d) - whole_blocks b n) 0 → m2 ≡ raised m0 (whole_blocks a (n + d)) 0
-whole_more a b m0 m1 m2 n d eb e1 e2 =
+pub whole_more : {a b : Algorithm} {m1 m2 : Counts} (m0 : Counts) (n d : ℕ) → b ≡ a
+    → m1 ≡ raised m0 (whole_blocks a n) 0
+    → m2 ≡ raised m1 (whole_blocks b (n + d) - whole_blocks b n) 0
+    → m2 ≡ raised m0 (whole_blocks a (n + d)) 0
+whole_more {a} {m1} {m2} m0 n d eb e1 e2 =
     let e3 : m2 ≡ raised m1 (whole_blocks a (n + d) - whole_blocks a n) 0 = rw eb at e2 in
-    e3 ∙ rw e1 (raised-raised m0 _ 0 _ 0) ∙ ap (λ (z : ℕ). raised m0 z 0) (sum a n d)
+    e3 ∙ rw e1 (raised-raised m0 _ 0 _ 0) ∙ ap (λ (z : ℕ). raised m0 z 0) sum
   where
-    sum : (a : Algorithm) (n d : ℕ) → whole_blocks a n + (whole_blocks a (n + d) - whole_blocks a n) ≡ whole_blocks a (n + d)
-    sum a n d = elim (sizes_of a) [ inl e ↦ rw e.0 (omega arith) | inr e ↦ rw e.0 (omega arith) ]
+    sum : whole_blocks a n + (whole_blocks a (n + d) - whole_blocks a n) ≡ whole_blocks a (n + d)
+    sum = elim (sizes_of a) [ inl e ↦ rw e.0 (omega arith) | inr e ↦ rw e.0 (omega arith) ]
 
 -- a block has at least 64 bytes
-pub padded_blocks-most : (a : Algorithm) (n : ℕ) → 64 * padded_blocks a n ≤ n + 80
-padded_blocks-most a n = elim (sizes_of a) [ inl e ↦ rw (e.0, e.1) (omega arith) | inr e ↦ rw (e.0, e.1) (omega arith) ]
+padded_blocks-most : (a : Algorithm) (n : ℕ) → 64 * padded_blocks a n ≤ n + 80
+padded_blocks-most a n =
+    elim (sizes_of a) [ inl e ↦ rw (e.0, e.1) (omega arith) | inr e ↦ rw (e.0, e.1) (omega arith) ]
 
-pub key_blocks-most : (a : Algorithm) (n : ℕ) → 64 * key_blocks a n ≤ n + 208
+key_blocks-most : (a : Algorithm) (n : ℕ) → 64 * key_blocks a n ≤ n + 208
 key_blocks-most a n =
     let most = padded_blocks-most a n in
     elim (nat_le n (block_len a)) as (λ b. 64 * ((if b then 0 else padded_blocks a n) + 2) ≤ n + 208) [
@@ -49,59 +49,70 @@ key_blocks-most a n =
       | false ↦ omega (arith, most)
     ]
 
--- a message by its pieces and its end, and x blocks more
-pieces_end : (a b : Algorithm) (m0 m1 m2 : Counts) (n x : ℕ) → b ≡ a → m1 ≡ raised m0 (whole_blocks a n) 0
-    → m2 ≡ raised m1 (last_blocks b n + x) 0 → m2 ≡ raised m0 (padded_blocks a n + x) 0
-pieces_end a b m0 m1 m2 n x eb e1 e2 =
-    let e3 : m2 ≡ raised m1 (last_blocks a n + x) 0 = rw eb at e2 in
-    let sum : whole_blocks a n + (last_blocks a n + x) ≡ padded_blocks a n + x = omega (arith, whole_last a n) in
-    e3 ∙ rw e1 (raised-raised m0 _ 0 _ 0) ∙ ap (λ (z : ℕ). raised m0 z 0) sum
+-- a message of n bytes by its pieces, and then its end
+module _ {a b : Algorithm} {m1 m2 : Counts} (same : b ≡ a) (m0 : Counts) (n : ℕ)
+    (whole : m1 ≡ raised m0 (whole_blocks a n) 0) where
+  -- and x blocks more
+  pieces_end : (x : ℕ) → m2 ≡ raised m1 (last_blocks b n + x) 0
+      → m2 ≡ raised m0 (padded_blocks a n + x) 0
+  pieces_end x last =
+      let last_of_a : m2 ≡ raised m1 (last_blocks a n + x) 0 = rw same at last in
+      let sum : whole_blocks a n + (last_blocks a n + x) ≡ padded_blocks a n + x =
+      omega (arith, whole_last a n) in
+      last_of_a ∙ rw whole (raised-raised m0 _ 0 _ 0) ∙ ap (λ (z : ℕ). raised m0 z 0) sum
 
--- the blocks of a digest's line
-pub digest_count : (a b : Algorithm) (m0 m1 m2 : Counts) (n : ℕ) → b ≡ a → IsNew m0 → (max_input_len b < n → ⊥)
-    → m1 ≡ raised m0 (whole_blocks a n) 0 → m2 ≡ raised m1 (last_blocks b n) 0 → m2.blocks ≡ padded_blocks a n
-digest_count a b m0 m1 m2 n eb none within e1 e2 =
-    let bare : last_blocks b n + 0 ≡ last_blocks b n = omega arith in
-    let most = padded_blocks-most a n in
-    let all : m2 ≡ raised m0 (padded_blocks a n + 0) 0 = pieces_end a b m0 m1 m2 n 0 eb e1 (rw bare e2) in
-    let same = counted_new m0 m2 (padded_blocks a n + 0) 0 none all (omega (arith, most, within, max_input_len-most b)) in
-    omega arith
+  -- the blocks of a digest's line
+  pub digest_count : IsNew m0 → (max_input_len b < n → ⊥) → m2 ≡ raised m1 (last_blocks b n) 0
+      → m2.blocks ≡ padded_blocks a n
+  digest_count none within last =
+      let bare : last_blocks b n + 0 ≡ last_blocks b n = omega arith in
+      let most = padded_blocks-most a n in
+      let few : padded_blocks a n + 0 < 2 ^ 128 = omega (arith, most, within, max_input_len-most b) in
+      let shown = counted_new m0 m2 (padded_blocks a n + 0) 0 none (pieces_end 0 (rw bare last)) few in
+      omega arith
 
--- the blocks of a tag of pieces, after those of its key
-pub tag_count : (a b : Algorithm) (m0 m1 m2 : Counts) (n : ℕ) → b ≡ a → m0.blocks < 2 ^ 64 → (max_input_len b < block_len b + n → ⊥)
-    → m1 ≡ raised m0 (whole_blocks a n) 0 → m2 ≡ raised m1 (last_blocks b n + 1) 0 → m2.blocks ≡ m0.blocks + (padded_blocks a n + 1)
-tag_count a b m0 m1 m2 n eb room within e1 e2 =
-    let most = padded_blocks-most a n in
-    counted m0 m2 _ 0 (pieces_end a b m0 m1 m2 n 1 eb e1 e2) (omega (arith, most, within, max_input_len-most b))
+  -- the blocks of a tag, after those of its key
+  pub tag_count : m0.blocks < 2 ^ 64 → (max_input_len b < block_len b + n → ⊥)
+      → m2 ≡ raised m1 (last_blocks b n + 1) 0 → m2.blocks ≡ m0.blocks + (padded_blocks a n + 1)
+  tag_count room within last =
+      let most = padded_blocks-most a n in
+      counted m0 m2 _ 0 (pieces_end 1 last)
+      (omega (arith, most, within, max_input_len-most b))
 
 -- the blocks of a verification, after those of its key
-pub verify_count : (a : Algorithm) (m0 m1 : Counts) (n pairs : ℕ) → m0.blocks < 2 ^ 64 → (max_input_len a < block_len a + n → m1 ≡ m0)
-    → (IsTagWithin a n → m1 ≡ raised m0 (padded_blocks a n + 1) pairs) → (m1.blocks ≡ m0.blocks → ⊥)
+pub verify_count : {m0 m1 : Counts} (a : Algorithm) (n pairs : ℕ) → m0.blocks < 2 ^ 64
+    → (max_input_len a < block_len a + n → m1 ≡ m0)
+    → (IsTagWithin a n → m1 ≡ raised m0 (padded_blocks a n + 1) pairs)
+    → (m1.blocks ≡ m0.blocks → ⊥)
     → IsTagWithin a n × (m1.blocks ≡ m0.blocks + (padded_blocks a n + 1))
-verify_count a m0 m1 n pairs room kept cost added =
-    let within : IsTagWithin a n = omega (arith, λ (over : max_input_len a < block_len a + n). added (ap (λ (x : Counts). x.blocks) (kept over))) in
+verify_count {m0} {m1} a n pairs room kept cost added =
+    let never = λ (over : max_input_len a < block_len a + n).
+    added (ap (λ (x : Counts). x.blocks) (kept over)) in
+    let within : IsTagWithin a n = omega (arith, never) in
     let most = padded_blocks-most a n in
-    (within, counted m0 m1 _ pairs (cost within) (omega (arith, most, within, max_input_len-most a)))
+    let short = max_input_len-most a in
+    (within, counted m0 m1 _ pairs (cost within) (omega (arith, most, within, short)))
 
 -- the blocks of a key, and that they leave room
-pub key_count : (a : Algorithm) (m0 m1 : Counts) (n : ℕ) → IsNew m0 → n < 2 ^ 64 → m1 ≡ raised m0 (key_blocks a n) 0
-    → (m1.blocks ≡ key_blocks a n) × (m1.blocks < 2 ^ 64)
-key_count a m0 m1 n none short e =
+pub key_count : {m0 m1 : Counts} (a : Algorithm) (n : ℕ) → IsNew m0 → n < 2 ^ 64
+    → m1 ≡ raised m0 (key_blocks a n) 0 → (m1.blocks ≡ key_blocks a n) × (m1.blocks < 2 ^ 64)
+key_count {m0} {m1} a n none short e =
     let most = key_blocks-most a n in
-    let same : m1.blocks ≡ key_blocks a n = counted_new m0 m1 (key_blocks a n) 0 none e (omega (arith, most)) in
+    let same = counted_new m0 m1 (key_blocks a n) 0 none e (omega (arith, most)) in
     (same, omega (arith, most, same))
 
 -- the blocks of a salt and of what it extracts, and that they leave room
-pub extract_count : (a b : Algorithm) (m0 m1 m2 : Counts) (s x : ℕ) → b ≡ a → IsNew m0 → s < 2 ^ 64 → x < 2 ^ 64
-    → m1 ≡ raised m0 (key_blocks a s) 0 → m2 ≡ raised m1 (padded_blocks b x + 3) 0
+pub extract_count : {a b : Algorithm} {m0 m1 m2 : Counts} (s x : ℕ) → b ≡ a → IsNew m0
+    → s < 2 ^ 64 → x < 2 ^ 64 → m1 ≡ raised m0 (key_blocks a s) 0
+    → m2 ≡ raised m1 (padded_blocks b x + 3) 0
     → (m2.blocks ≡ key_blocks a s + (padded_blocks a x + 3)) × (m2.blocks < 2 ^ 64)
-extract_count a b m0 m1 m2 s x eb none short_s short_x e1 e2 =
+extract_count {a} {m0} {m1} {m2} s x eb none short_s short_x e1 e2 =
     let e3 : m2 ≡ raised m1 (padded_blocks a x + 3) 0 = rw eb at e2 in
     let most_s = key_blocks-most a s in
     let most_x = padded_blocks-most a x in
-    let first : m1.blocks ≡ key_blocks a s = counted_new m0 m1 (key_blocks a s) 0 none e1 (omega (arith, most_s)) in
-    let same : m2.blocks ≡ m1.blocks + (padded_blocks a x + 3) = counted m1 m2 _ 0 e3 (omega (arith, most_s, most_x, first)) in
-    (omega arith, omega (arith, most_s, most_x, first, same))
+    let first = counted_new m0 m1 (key_blocks a s) 0 none e1 (omega (arith, most_s)) in
+    let second = counted m1 m2 _ 0 e3 (omega (arith, most_s, most_x, first)) in
+    (omega arith, omega (arith, most_s, most_x, first, second))
 
 -- fewer than r + 1 rounds, where r outputs are enough
 few_rounds : (a : Algorithm) (r n : ℕ) → n ≤ r * output_len a → div_ceil n (output_len a) ≤ r
@@ -110,31 +121,34 @@ few_rounds a r n enough =
     grind (arith, mul-le-mul_right)
 
 -- an output's blocks are far fewer than a meter can show
-fill_blocks-most : (a : Algorithm) (i n : ℕ) → IsOutputWithin a n → IsInfoWithin a i n → fill_blocks a i n < 2 ^ 127
-fill_blocks-most a i n few within =
+fill_blocks-most : {a : Algorithm} {i n : ℕ} → IsOutputWithin a n → IsInfoWithin a i n
+    → fill_blocks a i n < 2 ^ 127
+fill_blocks-most {a} {i} {n} few within =
     let first = within.first_round in
     let rounds : fill_rounds a n - 1 ≤ 254 = omega (arith, few_rounds a 255 n few) in
     let short = output_below a in
     let block = block_len-most a in
     let most_first = padded_blocks-most a (i + 1) in
     let most_next = padded_blocks-most a (output_len a + i + 1) in
-    let all : (fill_rounds a n - 1) * (padded_blocks a (output_len a + i + 1) + 1) ≤ 254 * (padded_blocks a (output_len a + i + 1) + 1) =
-    mul-le-mul_right (padded_blocks a (output_len a + i + 1) + 1) rounds in
-    omega (arith, first, within.next_rounds, max_input_len-most a, short, block, most_first, most_next, all)
+    let all = mul-le-mul_right (padded_blocks a (output_len a + i + 1) + 1) rounds in
+    let longest = max_input_len-most a in
+    omega (arith, first, within.next_rounds, longest, short, block, most_first, most_next, all)
 
 -- the blocks of an output, after those of its PRK
-pub fill_count : (a : Algorithm) (m0 m1 : Counts) (i n : ℕ) → m0.blocks < 2 ^ 64 → IsOutputWithin a n → IsInfoWithin a i n
-    → m1 ≡ raised m0 (fill_blocks a i n) 0 → m1.blocks ≡ m0.blocks + fill_blocks a i n
-fill_count a m0 m1 i n room few within e =
-    let most = fill_blocks-most a i n few within in
+pub fill_count : {a : Algorithm} {m1 : Counts} {i n : ℕ} (m0 : Counts) → m0.blocks < 2 ^ 64
+    → IsOutputWithin a n → IsInfoWithin a i n → m1 ≡ raised m0 (fill_blocks a i n) 0
+    → m1.blocks ≡ m0.blocks + fill_blocks a i n
+fill_count {m1} m0 room few within e =
+    let most = fill_blocks-most few within in
     counted m0 m1 _ 0 e (omega (arith, most))
 
 -- the blocks of a derivation
-pub derive_count : (a : Algorithm) (m0 m1 : Counts) (p s c n pairs : ℕ) → IsNew m0 → p < 2 ^ 64 → s < 2 ^ 64 → c < 2 ^ 32 → CanDerive a p s n
+pub derive_count : {a : Algorithm} {m0 m1 : Counts} {p s n : ℕ} (c pairs : ℕ) → IsNew m0
+    → p < 2 ^ 64 → s < 2 ^ 64 → c < 2 ^ 32 → CanDerive a p s n
     → m1 ≡ raised m0 (derive_blocks a p s c n) pairs → m1.blocks ≡ derive_blocks a p s c n
-derive_count a m0 m1 p s c n pairs none short_p short_s short_c can e =
+derive_count {a} {m0} {m1} {p} {s} {n} c pairs none short_p short_s short_c can e =
     let rounds : derive_rounds a n ≤ 2 ^ 32 - 1 = few_rounds a (2 ^ 32 - 1) n can.rounds in
     let most_p = key_blocks-most a p in
     let most_s = padded_blocks-most a (s + 4) in
-    let all : derive_rounds a n * iterate_blocks a s c ≤ (2 ^ 32 - 1) * iterate_blocks a s c = mul-le-mul_right (iterate_blocks a s c) rounds in
+    let all = mul-le-mul_right (iterate_blocks a s c) rounds in
     counted_new m0 m1 (derive_blocks a p s c n) pairs none e (omega (arith, most_p, most_s, all))

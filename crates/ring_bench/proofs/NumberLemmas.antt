@@ -18,23 +18,29 @@ too_large most n (b ∷ bs) h =
       | false ↦ refl
     ]
 
-number_cases : (field : List ℕ) → (decimal_of field ≡ None) ⊎ (decimal_of field ≡ digits_value 0 field)
+number_cases : (field : List ℕ)
+    → (decimal_of field ≡ None) ⊎ (decimal_of field ≡ digits_value 0 field)
 number_cases [] = inl refl
 number_cases (b ∷ []) = inr refl
 number_cases (b ∷ c ∷ bs) =
-    elim (nat_eq b 48) as (λ v. (cond v None (digits_value 0 (b ∷ c ∷ bs)) ≡ None) ⊎ (cond v None (digits_value 0 (b ∷ c ∷ bs)) ≡ digits_value 0 (b ∷ c ∷ bs))) [
+    let whole = digits_value 0 (b ∷ c ∷ bs) in
+    elim (nat_eq b 48) as (λ v. (cond v None whole ≡ None) ⊎ (cond v None whole ≡ whole)) [
       | true ↦ inl refl
       | false ↦ inr refl
     ]
 
 -- the digit at i makes the number too large
-pub too_large_at : (most value : ℕ) (field : List ℕ) (i : ℕ) → i < length field → is_ascii_digit (get_or field i 0) ≡ true
-    → most < value * 10 + (get_or field i 0 - 48) → digits_value value (drop i field) ≡ digits_value 0 field → None ≡ up_to most (decimal_of field)
-too_large_at most value field i h digit large same =
+pub too_large_at : (most value i : ℕ) (field : List ℕ) → i < length field
+    → is_ascii_digit (get_or field i 0) ≡ true → most < value * 10 + (get_or field i 0 - 48)
+    → digits_value value (drop i field) ≡ digits_value 0 field → up_to most (decimal_of field) ≡ None
+too_large_at most value i field below digit large same =
     elim (number_cases field) [
-      | inl none ↦ sym (ap (up_to most) none)
+      | inl none ↦ ap (up_to most) none
       | inr whole ↦
-          (let next = ap (digits_value value) (drop_more field i 0 h)
-          ∙ ap (λ v. cond v (digits_value (value * 10 + (get_or field i 0 - 48)) (drop (i + 1) field)) None) digit in
-          sym (ap (up_to most) (whole ∙ sym same ∙ next) ∙ too_large most (value * 10 + (get_or field i 0 - 48)) (drop (i + 1) field) large))
+          ap (up_to most) (whole ∙ sym same ∙ next)
+          ∙ too_large most (value * 10 + (get_or field i 0 - 48)) (drop (i + 1) field) large
     ]
+  where
+    next : digits_value value (drop i field)
+        ≡ digits_value (value * 10 + (get_or field i 0 - 48)) (drop (i + 1) field)
+    next = rw (drop_more field i 0 below, digit) refl

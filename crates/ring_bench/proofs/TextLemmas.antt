@@ -29,24 +29,32 @@ some_part p (x ∷ xs) =
     ]
 
 -- before other parts, a part is a line
-lines-cons : (cut : List ℕ) (parts : List (List ℕ)) → Parts parts → lines_of_cuts (cut ∷ parts) ≡ without_return cut ∷ lines_of_cuts parts
-lines-cons cut parts h = subst (λ l. lines_of_cuts (cut ∷ l) ≡ without_return cut ∷ lines_of_cuts l) (sym h.same) refl
+lines-cons : (cut : List ℕ) {parts : List (List ℕ)} → Parts parts
+    → lines_of_cuts (cut ∷ parts) ≡ without_return cut ∷ lines_of_cuts parts
+lines-cons cut h =
+    subst (λ l. lines_of_cuts (cut ∷ l) ≡ without_return cut ∷ lines_of_cuts l) (sym h.same) refl
 
-parts-append : (cuts parts : List (List ℕ)) → Parts parts → Parts (cuts ++ parts)
-parts-append [] parts h = h
-parts-append (cut ∷ cuts) parts h = record { first = cut; others = cuts ++ parts; same = refl }
+parts-append : (cuts : List (List ℕ)) {parts : List (List ℕ)} → Parts parts → Parts (cuts ++ parts)
+parts-append [] h = h
+parts-append (cut ∷ cuts) {parts} h = record { first = cut; others = cuts ++ parts; same = refl }
 
-lines-append : (cuts parts : List (List ℕ)) → Parts parts → lines_of_cuts (cuts ++ parts) ≡ map without_return cuts ++ lines_of_cuts parts
-lines-append [] parts h = refl
-lines-append (cut ∷ cuts) parts h = lines-cons cut (cuts ++ parts) (parts-append cuts parts h) ∙ ap (λ l. without_return cut ∷ l) (lines-append cuts parts h)
+lines-append : (cuts : List (List ℕ)) {parts : List (List ℕ)} → Parts parts
+    → lines_of_cuts (cuts ++ parts) ≡ map without_return cuts ++ lines_of_cuts parts
+lines-append [] h = refl
+lines-append (cut ∷ cuts) h =
+    lines-cons cut (parts-append cuts h) ∙ ap (λ l. without_return cut ∷ l) (lines-append cuts h)
 
 -- lines that are ended are what a text is cut into first
-split-ended : (cuts : List (List ℕ)) (rest : List ℕ) → All HasNoLineFeed cuts → slice_split is_line_feed (flat_map ended cuts ++ rest) ≡ cuts ++ slice_split is_line_feed rest
+split-ended : (cuts : List (List ℕ)) (rest : List ℕ) → All HasNoLineFeed cuts
+    → slice_split is_line_feed (flat_map ended cuts ++ rest) ≡ cuts ++ slice_split is_line_feed rest
 split-ended [] rest each = refl
 split-ended (cut ∷ cuts) rest each =
-    let regrouped : (ended cut ++ flat_map ended cuts) ++ rest ≡ cut ++ 10 ∷ (flat_map ended cuts ++ rest) = simp append_assoc in
+    let others = flat_map ended cuts ++ rest in
+    let regrouped : (ended cut ++ flat_map ended cuts) ++ rest ≡ cut ++ 10 ∷ others =
+    simp append_assoc in
+    let none = All-head HasNoLineFeed cut cuts each in
     ap (slice_split is_line_feed) regrouped
-    ∙ slice_split_at is_line_feed cut 10 (flat_map ended cuts ++ rest) (All-head HasNoLineFeed cut cuts each) refl
+    ∙ slice_split_at is_line_feed cut 10 others none refl
     ∙ ap (λ l. cut ∷ l) (split-ended cuts rest (All-tail HasNoLineFeed cut cuts each))
 
 -- a text whose first lines are known
@@ -58,7 +66,7 @@ module _ {text rest : List ℕ} {cuts : List (List ℕ)} (b : Begins text cuts r
   pub Begins-lines : lines text ≡ map without_return cuts ++ lines rest
   Begins-lines =
       ap lines_of_cuts Begins-split
-      ∙ lines-append cuts (slice_split is_line_feed rest) (some_part is_line_feed rest)
+      ∙ lines-append cuts (some_part is_line_feed rest)
 
   -- each of the first lines was ended by a line feed
   pub Begins-ended : length cuts ≤ ended_lines text
@@ -68,7 +76,8 @@ module _ {text rest : List ℕ} {cuts : List (List ℕ)} (b : Begins text cuts r
       let of_rest = length-slice_split is_line_feed rest in
       omega arith
 
-some_last : (b : ℕ) (first : List ℕ) (others : List (List ℕ)) → 0 < length (lines_of_cuts ((b ∷ first) ∷ others))
+some_last : (b : ℕ) (first : List ℕ) (others : List (List ℕ))
+    → 0 < length (lines_of_cuts ((b ∷ first) ∷ others))
 some_last b first [] = omega arith
 some_last b first (second ∷ others) = omega arith
 
@@ -76,10 +85,12 @@ some_last b first (second ∷ others) = omega arith
 pub some_line : (text : List ℕ) → 0 < length text → 0 < length (lines text)
 some_line [] h = absurd (omega arith)
 some_line (b ∷ bs) h =
+    let cuts = slice_split is_line_feed bs in
     let parts = some_part is_line_feed bs in
-    elim (is_line_feed b) as (λ v. 0 < length (lines_of_cuts (cond v ([] ∷ slice_split is_line_feed bs) (onto_first b (slice_split is_line_feed bs))))) [
-      | true ↦ (let e = ap length (lines-cons [] (slice_split is_line_feed bs) parts) in omega arith)
-      | false ↦ subst (λ l. 0 < length (lines_of_cuts l)) (sym (ap (onto_first b) parts.same)) (some_last b parts.first parts.others)
+    let behind = some_last b parts.first parts.others in
+    elim (is_line_feed b) as (λ v. 0 < length (lines_of_cuts (cond v ([] ∷ cuts) (onto_first b cuts)))) [
+      | true ↦ (let e = ap length (lines-cons [] parts) in omega arith)
+      | false ↦ subst (λ l. 0 < length (lines_of_cuts (onto_first b l))) (sym parts.same) behind
     ]
 
 last_alone : (text : List ℕ) → 0 < length text → lines_of_cuts (text ∷ []) ≡ without_return text ∷ []
@@ -87,8 +98,10 @@ last_alone [] h = absurd (omega arith)
 last_alone (b ∷ bs) h = refl
 
 -- a text without a line feed is one line
-pub one_line : (text : List ℕ) → HasNoLineFeed text → 0 < length text → lines text ≡ without_return text ∷ []
-one_line text h some = ap lines_of_cuts (slice_split_none is_line_feed text h) ∙ last_alone text some
+pub one_line : (text : List ℕ) → HasNoLineFeed text → 0 < length text
+    → lines text ≡ without_return text ∷ []
+one_line text h some =
+    ap lines_of_cuts (slice_split_none is_line_feed text h) ∙ last_alone text some
 
 pub Begins-nothing : (text : List ℕ) → Begins text [] text
 Begins-nothing text = record { whole = refl; each = λ k d below. absurd (omega arith) }
@@ -121,11 +134,14 @@ IsFirstCut-split byte text before behind cut =
     ∙ slice_split_at (λ b. b == byte) before byte behind cut.first (eq-eqb byte byte refl)
 
 -- a part moves from the text to the parts, of which so many are asked for
-pub parts-next : (byte most n : ℕ) (parts : List (List ℕ)) (text before behind : List ℕ) → n < most → IsFirstCut byte text before behind
-    → (parts ++ before ∷ []) ++ take (most - (n + 1)) (slice_split (λ b. b == byte) behind) ≡ parts ++ take (most - n) (slice_split (λ b. b == byte) text)
-parts-next byte most n parts text before behind below cut =
+pub parts-next : {byte : ℕ} {text before behind : List ℕ} (most n : ℕ) (parts : List (List ℕ))
+    → n < most → IsFirstCut byte text before behind
+    → (parts ++ before ∷ []) ++ take (most - (n + 1)) (slice_split (λ b. b == byte) behind)
+    ≡ parts ++ take (most - n) (slice_split (λ b. b == byte) text)
+parts-next {byte} {text} {before} {behind} most n parts below cut =
     let more : most - n ≡ suc (most - (n + 1)) = omega arith in
-    append_assoc parts (before ∷ []) (take (most - (n + 1)) (slice_split (λ b. b == byte) behind))
+    let others = take (most - (n + 1)) (slice_split (λ b. b == byte) behind) in
+    append_assoc parts (before ∷ []) others
     ∙ ap (λ l. parts ++ l) (sym (rw (more, IsFirstCut-split byte text before behind cut) refl))
 
 take_one : (k : ℕ) (part : List ℕ) → 0 < k → take k (part ∷ []) ≡ part ∷ []
@@ -134,7 +150,9 @@ take_one (suc zero) part some = refl
 take_one (suc (suc k)) part some = refl
 
 -- the last part is the text that is left
-pub parts-last : (byte most n : ℕ) (parts : List (List ℕ)) (text : List ℕ) → n < most → IsWithout byte text
+pub parts-last : (byte most n : ℕ) (parts : List (List ℕ)) (text : List ℕ) → n < most
+    → IsWithout byte text
     → parts ++ text ∷ [] ≡ parts ++ take (most - n) (slice_split (λ b. b == byte) text)
 parts-last byte most n parts text below none =
-    ap (λ l. parts ++ l) (sym (rw (slice_split_none (λ b. b == byte) text none) (take_one (most - n) text (omega arith))))
+    let alone = take_one (most - n) text (omega arith) in
+    ap (λ l. parts ++ l) (sym (rw (slice_split_none (λ b. b == byte) text none) alone))

@@ -1,4 +1,4 @@
-use Rattle.std.proofs.Common.{◌≡◌, None, sym, arith, rules, ◌∙◌}
+use Rattle.std.proofs.Common.{◌≡◌, None, arith, rules, ◌∙◌}
 use Rattle.hex.specs.Hex.{decode_of}
 use Rattle.std.proofs.lemmas.Grind.{common_steps}
 use Rattle.ring_bench.specs.Field.{pieces_of, value_of}
@@ -8,30 +8,40 @@ use Rattle.ring_bench.proofs.field.pieces_in.Goals as goal
 pub returns-in_err-append_piece : goal.returns-in_err-append_piece
 unfolding pieces_of
 returns-in_err-append_piece g c =
+    let lens = c.parts.lens.items in
+    let bytes = c.parts.bytes.items in
     let none = λ (bad : value_of (decode_of c.in-Some.part.now) ≡ None).
-    sym (none-next c.parts.lens.items c.parts.bytes.items _ _ _ c.in-Some.ensures.cut bad ∙ c.parts.invariant.same) in
+    c.parts.invariant.same ∙ none-next lens bytes c.in-Some.ensures.cut bad in
     grind (arith, common_steps, none)
 
 pub parts-preserved : goal.parts-preserved
 parts-preserved g c =
+    let lens = c.parts.lens.items in
+    let bytes = c.parts.bytes.items in
+    let so_far = c.parts.invariant in
     let more = c.in_ok-append_piece.ensures.added in
     rw (more.2, more.3) (record {
-      whole = sum-push c.parts.lens.items c.parts.bytes.items _ c.parts.invariant.whole;
-      same = pieces-next c.parts.lens.items c.parts.bytes.items _ _ _ _ c.in-Some.ensures.cut c.parts.invariant.whole more.1 ∙ c.parts.invariant.same;
+      whole = sum-push lens bytes _ so_far.whole;
+      same = so_far.same ∙ pieces-next lens bytes c.in-Some.ensures.cut so_far.whole more.1;
     })
 
 pub returns-in_err-append_piece-2 : goal.returns-in_err-append_piece-2
 unfolding pieces_of
 returns-in_err-append_piece-2 g c =
     let without = c.in_default.ensures.whole (search rules) in
+    let lens = c.parts.lens.items in
+    let bytes = c.parts.bytes.items in
     let none = λ (bad : value_of (decode_of c.parts.rest.now) ≡ None).
-    sym (none-last c.parts.lens.items c.parts.bytes.items _ without bad ∙ c.parts.invariant.same) in
+    c.parts.invariant.same ∙ none-last lens bytes c.parts.rest.now without bad in
     grind (arith, common_steps, none)
 
 pub returns : goal.returns
 unfolding pieces_of
 returns g c =
     let without = c.in_default.ensures.whole (search rules) in
+    let lens = c.parts.lens.items in
+    let bytes = c.parts.bytes.items in
+    let so_far = c.parts.invariant in
     let more = c.in_ok-append_piece-2.ensures.added in
-    let made = sym (pieces-last c.parts.lens.items c.parts.bytes.items _ _ without c.parts.invariant.whole more.1 ∙ c.parts.invariant.same) in
+    let made = so_far.same ∙ pieces-last lens bytes c.parts.rest.now without so_far.whole more.1 in
     grind (arith, common_steps, made)

@@ -1,16 +1,15 @@
-use Rattle.std.proofs.Common.{◌≡◌, ◌++◌, length}
+use Rattle.std.proofs.Common.{◌≡◌, length}
 use Rattle.std.specs.List.{slice_split, sum}
-use Rattle.std.specs.Option.{option_map}
 use Rattle.ring_bench.specs.Field.{is_comma, parts_bytes}
-use Rattle.ring_bench.specs.Pieces.{cut_into}
+use Rattle.ring_bench.proofs.PieceLemmas.{continued}
 use Rattle.ring_bench.proofs.field.pieces_in.Given as goal
 
 -- the pieces so far, and those of the parts that are left, are those of all parts
 abbrev pub invariant-parts : goal.invariant-parts
 invariant-parts g l = record {
   whole : sum l.lens.items ≡ length l.bytes.items;
-  same : option_map (λ others. cut_into l.lens.items l.bytes.items ++ others) (parts_bytes (slice_split is_comma l.rest))
-      ≡ parts_bytes (slice_split is_comma l.field);
+  same : parts_bytes (slice_split is_comma l.field)
+      ≡ continued l.lens.items l.bytes.items (parts_bytes (slice_split is_comma l.rest));
 }
 
 abbrev pub decreases-parts : goal.decreases-parts

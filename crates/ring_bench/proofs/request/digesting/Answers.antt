@@ -1,6 +1,6 @@
 use Rattle.std.proofs.Common.{arith, rules, length-append}
 use Rattle.ring_bench.proofs.CountLemmas.{whole_more, whole_none}
-use Rattle.ring_bench.proofs.PieceLemmas.{joined-listed, walk-end, walk-more}
+use Rattle.ring_bench.proofs.PieceLemmas.{walk-end, walk-more}
 use Rattle.ring_bench.proofs.request.digesting.Goals as goal
 
 pub loop-len-init : goal.loop-len-init
@@ -15,20 +15,27 @@ pub loop-len-preserved : goal.loop-len-preserved
 loop-len-preserved g c =
     let so_far = c.loop-len.invariant in
     let more = c.update_counted.ensures in
-    let walk = walk-more c.args.pieces.now.lens.items _ c.args.pieces.now.bytes.items _ c.loop-len.len-index _ c.deref-len-items.ensures.value c.deref.ensures.value (omega arith) so_far.left in
+    let walk =
+    walk-more c.args.pieces.now c.loop-len.len-index c.loop-len.start so_far.left
+    c.deref-len-items.ensures.value c.deref.ensures.value (omega arith) in
     record {
       algorithm = search rules;
       left = walk.0;
       stands = rw walk.1 (more.stands _ so_far.stands);
-      cost = rw (walk.1, length-append) (whole_more _ _ _ _ _ _ _ so_far.algorithm so_far.cost (more.cost_of _ so_far.stands));
+      cost = rw (walk.1, length-append)
+          (whole_more c.args.meter.now _ _ so_far.algorithm so_far.cost (more.cost_of _ so_far.stands));
     }
 
 pub returns-clause-stands : goal.returns-clause-stands
 returns-clause-stands g c =
-    let whole = walk-end c.args.pieces.now.lens.items c.args.pieces.now.bytes.items c.loop-len.len-index c.loop-len.start (omega arith) c.loop-len.invariant.left in
-    rw (joined-listed c.args.pieces.now) (rw whole at c.loop-len.invariant.stands)
+    let so_far = c.loop-len.invariant in
+    let all =
+    walk-end c.args.pieces.now c.loop-len.len-index c.loop-len.start so_far.left (omega arith) in
+    rw all at so_far.stands
 
 pub returns-clause-cost : goal.returns-clause-cost
 returns-clause-cost g c =
-    let whole = walk-end c.args.pieces.now.lens.items c.args.pieces.now.bytes.items c.loop-len.len-index c.loop-len.start (omega arith) c.loop-len.invariant.left in
-    rw (joined-listed c.args.pieces.now) (rw whole at c.loop-len.invariant.cost)
+    let so_far = c.loop-len.invariant in
+    let all =
+    walk-end c.args.pieces.now c.loop-len.len-index c.loop-len.start so_far.left (omega arith) in
+    rw all at so_far.cost

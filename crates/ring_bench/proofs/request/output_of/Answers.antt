@@ -1,28 +1,41 @@
-use Rattle.std.proofs.Common.{◌≡◌, ◌++◌, length, take, drop, arith, refl, sym, ◌∙◌, rules}
+use Rattle.std.proofs.Common.{◌≡◌, ◌++◌, length, take, drop, arith, refl, sym, ◌∙◌, rules, false}
 use Rattle.std.proofs.Common.{true≢false}
 use Rattle.std.proofs.Math.Seq.{take-append_seam}
 use Rattle.ring.specs.Hkdf.{okm}
 use Rattle.ring.specs.Okm.{okm_algorithm}
 use Rattle.ring.specs.Pieces.{joined as joined_parts}
-use Rattle.ring_bench.specs.Request.{output_answer}
-use Rattle.ring_bench.proofs.RequestLemmas.{can_fill, output-given, refused-when}
+use Rattle.ring_bench.specs.Request.{can_expand, output_answer}
+use Rattle.ring.specs.Hkdf.{prk_algorithm}
+use Rattle.std.proofs.lemmas.Bool.{false_from_ne_true}
+use Rattle.ring_bench.proofs.RequestLemmas.{can_fill, filled}
 use Rattle.ring_bench.proofs.request.output_of.Goals as goal
 
 pub returns-in-Ok-fill_counted : goal.returns-in-Ok-fill_counted
+unfolding output_answer
 returns-in-Ok-fill_counted g c = λ k h.
     let asked = c.in-Ok.ensures in
     let end = c.in-Ok-fill_counted.ensures in
-    let size : c.in_ok-bytes.bytes.len ≡ length c.fill_counted.new.out = search rules in
-    let made = end.ok k _ _ (asked.ok k h) in
-    let bytes : take c.in_ok-bytes.bytes.len (c.fill_counted.new.out ++ drop (length c.fill_counted.new.out) c.in_ok-bytes.bytes.items)
+    let out = c.fill_counted.new.out in
+    let room : c.in_ok-bytes.bytes.len ≡ length out = search rules in
+    let kept = take-append_seam out (drop (length out) c.in_ok-bytes.bytes.items) in
+    let made : take c.in_ok-bytes.bytes.len (out ++ drop (length out) c.in_ok-bytes.bytes.items)
     ≡ okm (okm_algorithm c.in-Ok.output) k (joined_parts c.args.info.now) c.args.len =
-    rw size (take-append_seam c.fill_counted.new.out _ ∙ made) in
-    output-given _ _ _ _ _ _ _ _ _ _ _ _ asked.algorithm asked.info_len asked.number (λ over. true≢false (sym (asked.refused.1 over))) (end.refused.0 refl) (omega arith)
-    end.cost bytes c.blocks-in-Ok-fill_counted.ensures
+    rw room (kept ∙ end.ok k _ _ (asked.ok k h)) in
+    let (fits, count) =
+    filled asked.algorithm asked.info_len asked.number c.args.meter.now
+    (λ over. true≢false (sym (asked.refused.1 over))) (end.refused.0 refl) (omega arith) end.cost in
+    let shown = c.blocks-in-Ok-fill_counted.ensures in
+    let a = asked.algorithm in
+    rw fits (cc (made, count, shown, a))
 
 pub returns-in-Err : goal.returns-in-Err
 unfolding output_answer
 returns-in-Err g c = λ k h.
     let asked = c.in-Ok.ensures in
     let size : length c.deref_mut.result.now ≡ c.args.len = search rules in
-    refused-when _ _ (λ e. true≢false (sym (c.in-Err.ensures.refused.1 (can_fill _ _ _ _ _ _ _ asked.algorithm asked.info_len asked.number size e))))
+    let info = joined_parts c.args.info.now in
+    let fails_here : can_expand (prk_algorithm c.args.prk.now) (length info) c.args.len ≡ false =
+    false_from_ne_true (can_expand (prk_algorithm c.args.prk.now) (length info) c.args.len) (λ e.
+    let can = can_fill asked.algorithm asked.info_len asked.number size e in
+    true≢false (sym (c.in-Err.ensures.refused.1 can))) in
+    rw fails_here refl

@@ -6,11 +6,16 @@ use Rattle.ring_bench.proofs.request.respond_hkdf.Goals as goal
 
 pub output_of-requires : goal.output_of-requires
 output_of-requires g c =
-    (extract_count _ _ _ _ _ _ _ c.in-Ok.ensures.algorithm c.new-meter.ensures (search rules) (search rules) c.in-Ok.ensures.cost c.in-Ok-extract_counted.ensures.cost).1
+    let salt = c.in-Ok.ensures in
+    let prk = c.in-Ok-extract_counted.ensures in
+    (extract_count _ _ salt.algorithm c.new-meter.ensures (search rules) (search rules) salt.cost prk.cost).1
 
 pub returns : goal.returns
 unfolding hkdf_answer
 returns g c =
-    let count = (extract_count _ _ _ _ _ _ _ c.in-Ok.ensures.algorithm c.new-meter.ensures (search rules) (search rules) c.in-Ok.ensures.cost c.in-Ok-extract_counted.ensures.cost).0 in
-    let made = c.output_of.ensures _ (c.in-Ok-extract_counted.ensures.ok _ c.in-Ok.ensures.ok) in
+    let salt = c.in-Ok.ensures in
+    let prk = c.in-Ok-extract_counted.ensures in
+    let count =
+    (extract_count _ _ salt.algorithm c.new-meter.ensures (search rules) (search rules) salt.cost prk.cost).0 in
+    let made = c.output_of.ensures _ (prk.ok _ salt.ok) in
     grind (arith, common_steps, count, made)

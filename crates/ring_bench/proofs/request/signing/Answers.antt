@@ -1,6 +1,6 @@
 use Rattle.std.proofs.Common.{arith, ◌∙◌, length-append}
 use Rattle.ring_bench.proofs.CountLemmas.{whole_more, whole_none}
-use Rattle.ring_bench.proofs.PieceLemmas.{joined-listed, walk-end, walk-more}
+use Rattle.ring_bench.proofs.PieceLemmas.{walk-end, walk-more}
 use Rattle.ring_bench.proofs.request.signing.Goals as goal
 
 pub loop-len-init : goal.loop-len-init
@@ -15,20 +15,29 @@ pub loop-len-preserved : goal.loop-len-preserved
 loop-len-preserved g c =
     let so_far = c.loop-len.invariant in
     let more = c.update_counted.ensures in
-    let walk = walk-more c.args.pieces.now.lens.items _ c.args.pieces.now.bytes.items _ c.loop-len.len-index _ c.deref-len-items.ensures.value c.deref.ensures.value (omega arith) so_far.left in
+    let walk =
+    walk-more c.args.pieces.now c.loop-len.len-index c.loop-len.start so_far.left
+    c.deref-len-items.ensures.value c.deref.ensures.value (omega arith) in
     record {
       algorithm = more.algorithm ∙ so_far.algorithm;
       left = walk.0;
       stands = λ k h. rw walk.1 (more.stands k _ (so_far.stands k h));
-      cost = λ k h. rw (walk.1, length-append) (whole_more _ _ _ _ _ _ _ so_far.algorithm (so_far.cost k h) (more.cost_of k _ (so_far.stands k h)));
+      cost = λ k h.
+          let grown = more.cost_of k _ (so_far.stands k h) in
+          rw (walk.1, length-append)
+          (whole_more c.args.meter.now _ _ so_far.algorithm (so_far.cost k h) grown);
     }
 
 pub returns-clause-stands : goal.returns-clause-stands
 returns-clause-stands g c = λ k h.
-    let whole = walk-end c.args.pieces.now.lens.items c.args.pieces.now.bytes.items c.loop-len.len-index c.loop-len.start (omega arith) c.loop-len.invariant.left in
-    rw (joined-listed c.args.pieces.now) (rw whole at c.loop-len.invariant.stands k h)
+    let so_far = c.loop-len.invariant in
+    let all =
+    walk-end c.args.pieces.now c.loop-len.len-index c.loop-len.start so_far.left (omega arith) in
+    rw all at so_far.stands k h
 
 pub returns-clause-cost : goal.returns-clause-cost
 returns-clause-cost g c = λ k h.
-    let whole = walk-end c.args.pieces.now.lens.items c.args.pieces.now.bytes.items c.loop-len.len-index c.loop-len.start (omega arith) c.loop-len.invariant.left in
-    rw (joined-listed c.args.pieces.now) (rw whole at c.loop-len.invariant.cost k h)
+    let so_far = c.loop-len.invariant in
+    let all =
+    walk-end c.args.pieces.now c.loop-len.len-index c.loop-len.start so_far.left (omega arith) in
+    rw all at so_far.cost k h

@@ -1,24 +1,37 @@
-use Rattle.std.proofs.Common.{◌≡◌, arith, sym, ◌∙◌}
+use Rattle.std.proofs.Common.{◌≡◌, arith, sym, ◌∙◌, length, nat_le, true, false, ◌+◌, refl}
 use Rattle.ring.specs.Hmac.{hmac_of, key_algorithm}
 use Rattle.std.specs.Str.{bytes_eq}
 use Rattle.ring_bench.specs.Request.{verdict_answer}
+use Rattle.ring.specs.Algorithm.{block_len, max_input_len}
+use Rattle.ring.specs.Limits.{IsTagWithin}
 use Rattle.ring_bench.proofs.CountLemmas.{verify_count}
-use Rattle.ring_bench.proofs.RequestLemmas.{given-within, same_verdict, verdict-refused}
+use Rattle.ring_bench.proofs.RequestLemmas.{fails, passes, rises, same_verdict}
 use Rattle.ring_bench.proofs.request.verified.Goals as goal
 
 pub returns-then-blocks-blocks_before : goal.returns-then-blocks-blocks_before
+unfolding verdict_answer
 returns-then-blocks-blocks_before g c = λ k h.
+    let a = key_algorithm c.args.key.now in
+    let n = length c.args.message.now in
     let same = sym c.blocks-2.ensures ∙ c.if-blocks-blocks_before.true ∙ c.blocks-blocks_before.ensures in
-    verdict-refused _ k _ _ _ c.args.meter.now c.verify_counted.new.meter _ _ (omega arith) c.verify_counted.ensures.cost same
+    let above = λ (fits : IsTagWithin a n).
+    rises c.args.meter.now _ _ (omega arith) (c.verify_counted.ensures.cost fits) same in
+    let fails_here : nat_le (block_len a + n) (max_input_len a) ≡ false = fails above in
+    rw fails_here refl
 
 pub returns : goal.returns
 unfolding verdict_answer
 returns g c = λ k h.
+    let a = key_algorithm c.args.key.now in
+    let n = length c.args.message.now in
     let tested = c.verify_counted.ensures in
-    let count = verify_count _ c.args.meter.now c.verify_counted.new.meter _ _ (omega arith) tested.unchanged tested.cost (λ same. c.if-blocks-blocks_before.false (c.blocks-2.ensures ∙ same ∙ sym c.blocks-blocks_before.ensures)) in
-    let blocks = count.1 in
+    let before = c.blocks-blocks_before.ensures in
+    let (within, blocks) =
+    verify_count a n _ (omega arith) tested.unchanged tested.cost
+    (λ same. c.if-blocks-blocks_before.false (c.blocks-2.ensures ∙ same ∙ sym before)) in
     let shown = c.blocks-3.ensures in
     let told = c.is_ok-is_tag.ensures.value in
-    let same : c.is_ok-is_tag.result ≡ bytes_eq c.args.tag.now (hmac_of (key_algorithm c.args.key.now) k c.args.message.now) =
-    same_verdict _ _ _ (λ e. ((tested.ok k h).0 (sym told ∙ e)).1) (λ e. told ∙ (tested.ok k h).1 (count.0, e)) in
-    given-within (key_algorithm c.args.key.now) _ _ _ count.0 (cc (same, blocks, shown))
+    let given_tag = λ (e : c.is_ok-is_tag.result ≡ true). ((tested.ok k h).0 (sym told ∙ e)).1 in
+    let same = same_verdict given_tag (λ e. told ∙ (tested.ok k h).1 (within, e)) in
+    let fits : nat_le (block_len a + n) (max_input_len a) ≡ true = passes within in
+    rw fits (cc (same, blocks, shown))

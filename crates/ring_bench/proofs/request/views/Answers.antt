@@ -1,24 +1,29 @@
 use Rattle.std.proofs.Common.{◌≡◌, ◌+◌, slice_index_or, arith, append-nil, ◌∙◌, refl}
 use Rattle.std.proofs.lemmas.List.Concat.{flat_map-append}
-use Rattle.ring_bench.proofs.PieceLemmas.{joined-listed, walk-end, walk-more}
+use Rattle.ring_bench.proofs.PieceLemmas.{walk-end, walk-more}
 use Rattle.ring_bench.proofs.request.views.Goals as goal
 use Rattle.ring_bench.proofs.request.views.Goals.{then-start-end+in_ok-push, else-start-end}
 
 pub loop-len-preserved : goal.loop-len-preserved
 loop-len-preserved g c =
     let so_far = c.loop-len.invariant in
-    let walk = walk-more c.args.pieces.now.lens.items _ c.args.pieces.now.bytes.items _ c.loop-len.len-index _ c.deref-len-items.ensures.value refl (omega arith) so_far.left in
+    let walk =
+    walk-more c.args.pieces.now c.loop-len.len-index c.loop-len.start so_far.left
+    c.deref-len-items.ensures.value refl (omega arith) in
+    let len = slice_index_or c.deref-len-items.result.now c.loop-len.len-index 0 in
     elim c.if-start-end.branch [
-      | then-start-end+in_ok-push w ↦ rw (w.start-is, w.views-is, w.in_ok-push.ensures.items, walk.1, w.deref.ensures.value, flat_map-append, append-nil) (record {
-        left = walk.0;
-        same = rw so_far.same refl;
-      })
+      | then-start-end+in_ok-push w ↦
+          rw (w.start-is, w.views-is, w.in_ok-push.ensures.items, walk.1, w.deref.ensures.value) (record {
+            left = walk.0;
+            same = rw (flat_map-append, append-nil, so_far.same) refl;
+          })
       | else-start-end w ↦
-          let none : c.loop-len.start + slice_index_or c.deref-len-items.result.now c.loop-len.len-index 0 ≡ c.loop-len.start = omega (arith, w.if-start-end) in
-          rw (w.start-is, w.views-is) (record { left = walk.0; same = rw none so_far.same })
+          (let none : c.loop-len.start + len ≡ c.loop-len.start = omega (arith, w.if-start-end) in
+          rw (w.start-is, w.views-is) (record { left = walk.0; same = rw none so_far.same }))
     ]
 
 pub returns : goal.returns
 returns g c =
-    let whole = walk-end c.args.pieces.now.lens.items c.args.pieces.now.bytes.items c.loop-len.len-index c.loop-len.start (omega arith) c.loop-len.invariant.left in
-    rw (joined-listed c.args.pieces.now) (c.loop-len.invariant.same ∙ whole)
+    let so_far = c.loop-len.invariant in
+    so_far.same
+    ∙ walk-end c.args.pieces.now c.loop-len.len-index c.loop-len.start so_far.left (omega arith)

@@ -1,9 +1,8 @@
 -- The numbers of blocks of lines.
 use Rattle.std.proofs.Common.{◌≡◌, ℕ, ◌+◌, ◌-◌, ◌*◌, ◌^◌, ◌<◌, ◌≤◌, nat_le, if◌then◌else◌, true}
-use Rattle.std.proofs.Common.{false, inl, inr, List, ◌++◌, length, map, take, slice_index_or}
-use Rattle.std.proofs.Common.{append-nil, refl, ap, ◌∙◌, arith, mul-le-mul_right}
-use Rattle.std.proofs.lemmas.Grind.{div_ceil_times, flat_map-append}
-use Rattle.std.proofs.lemmas.List.{map-append, take_more}
+use Rattle.std.proofs.Common.{false, inl, inr}
+use Rattle.std.proofs.Common.{refl, ap, ◌∙◌, arith, mul-le-mul_right}
+use Rattle.std.proofs.lemmas.Grind.{div_ceil_times}
 use Rattle.std.specs.Int.{div_ceil}
 use Rattle.ring.proofs.Costs.{IsNew, counted, counted_new, raised-none, raised-raised}
 use Rattle.ring.specs.Algorithm.{block_len, max_input_len, output_len}
@@ -11,7 +10,6 @@ use Rattle.ring.specs.Cost.{Counts, derive_blocks, derive_rounds, fill_blocks, f
 use Rattle.ring.specs.Cost.{iterate_blocks, key_blocks, last_blocks, padded_blocks, raised}
 use Rattle.ring.specs.Cost.{whole_blocks}
 use Rattle.ring.specs.Limits.{CanDerive, IsInfoWithin, IsOutputWithin, IsTagWithin}
-use Rattle.ring_bench.specs.Request.{joined}
 use Rattle.ring.specs.declared.digest.algorithm.Algorithm.{Algorithm}
 use Rattle.ring.proofs.Keys.{output_below}
 use Rattle.ring.proofs.Lengths.{whole_last}
@@ -44,7 +42,8 @@ padded_blocks-most a n =
 key_blocks-most : (a : Algorithm) (n : ℕ) → 64 * key_blocks a n ≤ n + 208
 key_blocks-most a n =
     let most = padded_blocks-most a n in
-    elim (nat_le n (block_len a)) as (λ b. 64 * ((if b then 0 else padded_blocks a n) + 2) ≤ n + 208) [
+    elim (nat_le n (block_len a))
+    as (λ b. 64 * ((if b then 0 else padded_blocks a n) + 2) ≤ n + 208) [
       | true ↦ omega arith
       | false ↦ omega (arith, most)
     ]
@@ -67,8 +66,10 @@ module _ {a b : Algorithm} {m1 m2 : Counts} (same : b ≡ a) (m0 : Counts) (n : 
   digest_count none within last =
       let bare : last_blocks b n + 0 ≡ last_blocks b n = omega arith in
       let most = padded_blocks-most a n in
-      let few : padded_blocks a n + 0 < 2 ^ 128 = omega (arith, most, within, max_input_len-most b) in
-      let shown = counted_new m0 m2 (padded_blocks a n + 0) 0 none (pieces_end 0 (rw bare last)) few in
+      let few : padded_blocks a n + 0 < 2 ^ 128 =
+      omega (arith, most, within, max_input_len-most b) in
+      let all = pieces_end 0 (rw bare last) in
+      let shown = counted_new m0 m2 (padded_blocks a n + 0) 0 none all few in
       omega arith
 
   -- the blocks of a tag, after those of its key

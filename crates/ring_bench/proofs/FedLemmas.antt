@@ -1,5 +1,5 @@
 -- Lemmas on a run, piece by piece.
-use Rattle.std.proofs.Common.{◌≡◌, ℕ, zero, suc, ◌+◌, ◌<◌, ◌≤◌, Bool, true, false, cond, ◌||◌}
+use Rattle.std.proofs.Common.{◌≡◌, ℕ, zero, suc, ◌<◌, ◌≤◌, Bool, true, false, cond, ◌||◌}
 use Rattle.std.proofs.Common.{Option, Some, None, IfSome, Result, Ok, Err, OnOk, List, [], ◌∷◌}
 use Rattle.std.proofs.Common.{◌++◌, length, map, take, All, refl, sym, ap, ◌∙◌, subst, append_assoc}
 use Rattle.std.proofs.Common.{append-nil, length-append, arith}
@@ -77,7 +77,8 @@ Fed-line line {a} {b} none written status = record {
 }
 
 -- after text that came
-module _ {text line : List ℕ} {s t : Status} {a b : Option (List ℕ)} (f : Fed text line s t a b) where
+module _ {text line : List ℕ} {s t : Status} {a b : Option (List ℕ)}
+    (f : Fed text line s t a b) where
   -- bytes without a line feed
   Fed-more : (more : List ℕ) → HasNoLineFeed more → Fed (text ++ more) (line ++ more) s t a b
   Fed-more more none = record {
@@ -159,7 +160,8 @@ Stopped-lines {a} {b} h =
     (length h.cuts, omega arith, first_lines a b h.begins h.written)
 
 -- after text that came
-module _ {text line : List ℕ} {s t : Status} {a b : Option (List ℕ)} (f : Fed text line s t a b) where
+module _ {text line : List ℕ} {s t : Status} {a b : Option (List ℕ)}
+    (f : Fed text line s t a b) where
   -- the lines that were answered were ended by line feeds
   Fed-lines : (more : List ℕ) → (k : ℕ) × (k ≤ ended_lines (text ++ more))
       × Appends a b (replies (take k (lines (text ++ more))))
@@ -235,14 +237,17 @@ module _ {start piece rest line : List ℕ} {s t : Status} {a b : Option (List �
       → Appends b c (reply (without_return whole))
       → v ≡ status_after u (without_return whole ∷ []) → Feeding start piece behind new s v a c
   Feeding-line {front} {behind} {v} {c} cut joined kept closed written status =
-      let more : Fed ((start ++ f.given) ++ front) (line ++ front) s t a b = Fed-more f.fed front cut.first in
+      let more = Fed-more f.fed front cut.first in
       let answered : Appends b c (reply (without_return (line ++ front))) = rw joined at written in
-      let after : v ≡ status_after t (without_return (line ++ front) ∷ []) = rw (kept, joined) at status in
-      let ended = Fed-trans more (10 ∷ []) (Fed-line (line ++ front) more.open_line answered after) in
-      let text : ((start ++ f.given) ++ front) ++ 10 ∷ [] ≡ start ++ (f.given ++ (front ++ 10 ∷ [])) = simp append_assoc in
-      let behind_is : (f.given ++ (front ++ 10 ∷ [])) ++ behind ≡ f.given ++ (front ++ 10 ∷ behind) = simp append_assoc in
+      let after : v ≡ status_after t (without_return (line ++ front) ∷ []) =
+      rw (kept, joined) at status in
+      let last = Fed-line (line ++ front) more.open_line answered after in
+      let ended = Fed-trans more (10 ∷ []) last in
+      let given = f.given ++ (front ++ 10 ∷ []) in
+      let text : ((start ++ f.given) ++ front) ++ 10 ∷ [] ≡ start ++ given = simp append_assoc in
+      let behind_is : given ++ behind ≡ f.given ++ (front ++ 10 ∷ behind) = simp append_assoc in
       rw closed (record {
-        given = f.given ++ (front ++ 10 ∷ []);
+        given = given;
         whole = behind_is ∙ ap (λ l. f.given ++ l) (sym cut.whole) ∙ f.whole;
         fed = subst (λ l. Fed l [] s v a c) text ended;
       })
@@ -263,7 +268,8 @@ module _ {start piece rest line : List ℕ} {s t : Status} {a b : Option (List �
   pub Feeding-rest : {new : List ℕ} {u : Status} → HasNoLineFeed rest → new ≡ line ++ rest → u ≡ t
       → Fed (start ++ piece) new s u a b
   Feeding-rest none joined kept =
-      rw (joined, kept) (subst (λ l. Fed l (line ++ rest) s t a b) Feeding-whole (Fed-more f.fed rest none))
+      let fed = Fed-more f.fed rest none in
+      rw (joined, kept) (subst (λ l. Fed l (line ++ rest) s t a b) Feeding-whole fed)
 
 -- how far a run has come in a text
 pub record ReachedIn
@@ -280,8 +286,8 @@ pub record Reached
   pub so_far : IfSome known (λ text. ReachedIn text left line status before after)
 
 -- the text is what was given and what is left
-text_of : (text : List ℕ) (left : Option (List ℕ)) (given : List ℕ) → Consumes (Some text) left given
-    → (rest : List ℕ) × (text ≡ given ++ rest)
+text_of : (text : List ℕ) (left : Option (List ℕ)) (given : List ℕ)
+    → Consumes (Some text) left given → (rest : List ℕ) × (text ≡ given ++ rest)
 text_of text None given h = absurd h
 text_of text (Some rest) given h = (rest, h)
 

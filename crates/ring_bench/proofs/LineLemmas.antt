@@ -7,7 +7,8 @@ use Rattle.ring_bench.specs.Line.{asked_by, asked_of, call_of, digest_line, hkdf
 use Rattle.ring_bench.specs.Line.{hmac_verify_line, pbkdf2_line, pbkdf2_verify_line}
 
 -- no call has more than five operands
-asked_by_first : (named : Call) (operands : List (List ℕ)) → asked_by named (take 6 operands) ≡ asked_by named operands
+asked_by_first : (named : Call) (operands : List (List ℕ))
+    → asked_by named (take 6 operands) ≡ asked_by named operands
 unfolding asked_by digest_line hmac_line hmac_verify_line hkdf_line pbkdf2_line pbkdf2_verify_line
 asked_by_first named [] = refl
 asked_by_first named (a ∷ []) = refl
@@ -28,6 +29,8 @@ unfolding asked_of
 asked_of_first [] = refl
 asked_of_first (word ∷ operands) = by_call (call_of word)
   where
-    by_call : (named : Option Call) → option_and_then (λ c. asked_by c (take 6 operands)) named ≡ option_and_then (λ c. asked_by c operands) named
+    by_call : (named : Option Call)
+        → option_and_then (λ c. asked_by c (take 6 operands)) named
+        ≡ option_and_then (λ c. asked_by c operands) named
     by_call None = refl
     by_call (Some c) = asked_by_first c operands

@@ -13,7 +13,8 @@ too_large most n [] h = beyond most n h
     beyond : (most n : ℕ) → most < n → up_to most (digits_value n []) ≡ None
     beyond most n h = grind (arith, nat_tests)
 too_large most n (b ∷ bs) h =
-    elim (is_ascii_digit b) as (λ v. up_to most (cond v (digits_value (n * 10 + (b - 48)) bs) None) ≡ None) [
+    let behind = digits_value (n * 10 + (b - 48)) bs in
+    elim (is_ascii_digit b) as (λ v. up_to most (cond v behind None) ≡ None) [
       | true ↦ too_large most (n * 10 + (b - 48)) bs (omega arith)
       | false ↦ refl
     ]
@@ -32,7 +33,8 @@ number_cases (b ∷ c ∷ bs) =
 -- the digit at i makes the number too large
 pub too_large_at : (most value i : ℕ) (field : List ℕ) → i < length field
     → is_ascii_digit (get_or field i 0) ≡ true → most < value * 10 + (get_or field i 0 - 48)
-    → digits_value value (drop i field) ≡ digits_value 0 field → up_to most (decimal_of field) ≡ None
+    → digits_value value (drop i field) ≡ digits_value 0 field
+    → up_to most (decimal_of field) ≡ None
 too_large_at most value i field below digit large same =
     elim (number_cases field) [
       | inl none ↦ ap (up_to most) none

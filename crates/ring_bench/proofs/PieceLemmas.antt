@@ -1,7 +1,12 @@
 -- Lemmas on pieces that are kept in one run.
 use Rattle.std.proofs.Common.{◌≡◌, ℕ, ◌+◌, ◌<◌, ◌≤◌, List, [], ◌∷◌, ◌++◌, Option, None, Some}
-use Rattle.std.proofs.Common.{length, take, drop, slice_index_or, ◌-◌, length-append, refl, sym, ap, ◌∙◌}
+use Rattle.std.proofs.Common.{length, take, drop, slice_index_or, ◌-◌, length-append, refl, sym, ap}
+use Rattle.std.proofs.Common.{◌∙◌}
 use Rattle.std.proofs.Common.{arith, append_assoc}
+use Rattle.std.specs.Borrow.{Bor}
+use Rattle.std.proofs.Common.{append-nil}
+use Rattle.std.proofs.lemmas.List.Concat.{flat_map-append}
+use Rattle.ring.specs.Pieces.{joined as joined_parts}
 use Rattle.std.specs.List.{slice_split, sum}
 use Rattle.std.specs.Option.{option_map}
 use Rattle.std.proofs.lemmas.List.{length-drop, take-append-drop, take-append-le, drop-append-le}
@@ -18,7 +23,8 @@ use Rattle.ring_bench.proofs.TextLemmas.{IsFirstCut-split}
 use Rattle.ring_bench.specs.declared.pieces.Pieces.{Pieces}
 
 -- what is left of the lengths is what is left of the run
-rest_len : (n : ℕ) (ns bs : List ℕ) → sum (n ∷ ns) ≡ length bs → (n ≤ length bs) × (sum ns ≡ length (drop n bs))
+rest_len : (n : ℕ) (ns bs : List ℕ) → sum (n ∷ ns) ≡ length bs
+    → (n ≤ length bs) × (sum ns ≡ length (drop n bs))
 rest_len n ns bs h =
     let s = sum_by-cons (λ x. x) n ns in
     let d = length-drop n bs in
@@ -70,7 +76,8 @@ module _ (ns bs : List ℕ) where
   pub pieces-next : {piece text part behind : List ℕ} → IsFirstCut 44 text part behind
       → sum ns ≡ length bs → value_of (decode_of part) ≡ Some piece
       → continued ns bs (parts_bytes (slice_split is_comma text))
-      ≡ continued (ns ++ length piece ∷ []) (bs ++ piece) (parts_bytes (slice_split is_comma behind))
+      ≡ continued (ns ++ length piece ∷ []) (bs ++ piece)
+      (parts_bytes (slice_split is_comma behind))
   pieces-next {piece} {text} {part} {behind} cut h e =
       rw (IsFirstCut-split 44 text part behind cut, cut-push ns bs piece h, e)
       (prefixed (cut_into ns bs) piece (parts_bytes (slice_split is_comma behind)))
@@ -118,3 +125,10 @@ module _ {Z : Type 0} (p : Pieces Z) (i start : ℕ)
       let left_none : start + sum [] ≡ length p.bytes.items = rw none at left in
       let end : start ≡ length p.bytes.items = omega arith in
       rw end (take-length p.bytes.items ∙ sym (joined-listed p))
+
+-- views of some bytes, and a view more
+pub joined_parts-push : (views : List (Bor (List ℕ))) {bytes : List ℕ} → joined_parts views ≡ bytes
+    → (view : Bor (List ℕ)) → joined_parts (views ++ view ∷ []) ≡ bytes ++ view.now
+joined_parts-push views same view =
+    flat_map-append (λ piece. piece.now) views (view ∷ [])
+    ∙ cc (same, append-nil view.now)

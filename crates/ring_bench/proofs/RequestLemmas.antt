@@ -1,21 +1,18 @@
 -- Lemmas on what requests are answered.
 use Rattle.std.proofs.Common.{◌≡◌, ℕ, ◌+◌, ◌-◌, ◌^◌, ◌<◌, ◌≤◌, ◌*◌, nat_le, ◌&&◌, true≢false, Bool}
-use Rattle.std.proofs.Common.{true, false, List, length, refl, sym, ap, ◌∙◌, arith, rules}
+use Rattle.std.proofs.Common.{true, false, List, refl, sym, ap, ◌∙◌, arith, rules}
 use Rattle.std.proofs.lemmas.Bool.Decides.{nat_tests, same_from_decides}
 use Rattle.std.specs.Str.{bytes_eq}
 use Rattle.std.proofs.lemmas.Slice.Eq.{bytes_eq-Decides}
-use Rattle.ring.specs.Algorithm.{block_len, max_input_len, output_len}
+use Rattle.ring.specs.Algorithm.{output_len}
 use Rattle.ring.specs.Cost.{Counts, derive_blocks, fill_blocks, raised}
-use Rattle.ring.specs.Hkdf.{okm}
 use Rattle.ring.specs.Okm.{CanFill}
-use Rattle.ring.specs.Pbkdf2.{dk}
-use Rattle.ring.specs.Limits.{CanDerive, CanVerify, IsInfoWithin, IsOutputWithin, IsTagWithin}
+use Rattle.ring.specs.Limits.{CanDerive, CanVerify, IsInfoWithin, IsOutputWithin}
 use Rattle.ring.specs.declared.digest.algorithm.Algorithm.{Algorithm}
 use Rattle.ring.proofs.Costs.{IsNew}
 use Rattle.std.proofs.lemmas.Bool.{false_from_ne_true, true_from_ne_false}
 use Rattle.ring_bench.proofs.CountLemmas.{fill_count}
-use Rattle.ring_bench.specs.Request.{given, refused, when, within, output_answer, Response}
-use Rattle.ring_bench.specs.Request.{verdict_answer, can_derive, can_expand}
+use Rattle.ring_bench.specs.Request.{can_derive, can_expand}
 
 -- a test of a limit passes exactly where the limit holds
 pub passes : {n most : ℕ} → n ≤ most → nat_le n most ≡ true
@@ -56,7 +53,10 @@ can_expand-true few h =
 
 can_expand-within : (a : Algorithm) (i n : ℕ) → can_expand a i n ≡ true → IsInfoWithin a i n
 can_expand-within a i n e =
-    record { first_round = grind (arith, nat_tests); next_rounds = λ more. grind (arith, nat_tests) }
+    record {
+      first_round = grind (arith, nat_tests);
+      next_rounds = λ more. grind (arith, nat_tests);
+    }
 
 pub can_derive-true : {a : Algorithm} {p s n : ℕ} → CanDerive a p s n → can_derive a p s n ≡ true
 can_derive-true h =
@@ -118,6 +118,7 @@ module _ {a b : Algorithm} {i j n number : ℕ} (algorithm : b ≡ a) (info_len 
       → (can_expand a i n ≡ true) × (m1.blocks ≡ m0.blocks + fill_blocks a i n)
   filled m0 over can room cost =
       let few : IsOutputWithin a n = omega (arith, over) in
-      let within : IsInfoWithin a i n = rw (algorithm, info_len, can.same_len, asked) at can.within in
+      let within : IsInfoWithin a i n =
+      rw (algorithm, info_len, can.same_len, asked) at can.within in
       let rounds = rw (algorithm, info_len, asked) at cost in
       (can_expand-true few within, fill_count m0 room few within rounds)

@@ -88,12 +88,14 @@ some_line (b ∷ bs) h =
     let cuts = slice_split is_line_feed bs in
     let parts = some_part is_line_feed bs in
     let behind = some_last b parts.first parts.others in
-    elim (is_line_feed b) as (λ v. 0 < length (lines_of_cuts (cond v ([] ∷ cuts) (onto_first b cuts)))) [
+    elim (is_line_feed b)
+    as (λ v. 0 < length (lines_of_cuts (cond v ([] ∷ cuts) (onto_first b cuts)))) [
       | true ↦ (let e = ap length (lines-cons [] parts) in omega arith)
       | false ↦ subst (λ l. 0 < length (lines_of_cuts (onto_first b l))) (sym parts.same) behind
     ]
 
-last_alone : (text : List ℕ) → 0 < length text → lines_of_cuts (text ∷ []) ≡ without_return text ∷ []
+last_alone : (text : List ℕ) → 0 < length text
+    → lines_of_cuts (text ∷ []) ≡ without_return text ∷ []
 last_alone [] h = absurd (omega arith)
 last_alone (b ∷ bs) h = refl
 

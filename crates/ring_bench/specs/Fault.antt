@@ -3,7 +3,8 @@ use Rattle.std.specs.Prelude.{◌≡◌, Option, None, Some, Result, Ok, Err, �
 use Rattle.ring_bench.specs.declared.fault.Fault.{Fault}
 use Rattle.ring_bench.specs.declared.fault.Fault.TheVariants.{Bad, Memory}
 
--- a value was read that shows what is said, or nothing is said and it was bad; or there was no memory to tell
+-- a value was read that shows what is said, or nothing is said and it was bad; or there was no
+-- memory to tell
 abbrev pub Reads : {V X : Type 0} → (V → X) → Option X → Result V Fault → Type 0
 Reads shown said (Ok value) = said ≡ Some (shown value)
 Reads shown said (Err Bad) = said ≡ None

@@ -31,7 +31,8 @@ is_comma b = b == 44
 abbrev pub parts_bytes : List (List ℕ) → Option (List (List ℕ))
 parts_bytes [] = Some []
 parts_bytes (part ∷ parts) =
-    option_and_then (λ bytes. option_map (λ others. bytes ∷ others) (parts_bytes parts)) (value_of (decode_of part))
+    option_and_then (λ bytes. option_map (λ others. bytes ∷ others) (parts_bytes parts))
+    (value_of (decode_of part))
 
 -- PIECES: `-` is no piece, and else parts of hex digits stand with commas between them
 unfoldable pub pieces_of : List ℕ → Option (List (List ℕ))

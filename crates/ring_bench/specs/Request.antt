@@ -17,8 +17,8 @@ use Rattle.ring_bench.specs.declared.request.Answer.{Answer}
 use Rattle.ring_bench.specs.declared.request.Answer.TheVariants.{Given, Verified, Refused}
 use Rattle.ring_bench.specs.Line.{Asked, digest, hmac, hmac_verify, hkdf, pbkdf2, pbkdf2_verify}
 
--- An answer: bytes, or whether the value given is the one asked for, both with the number of blocks of the whole line;
--- or that a call refused the request.
+-- An answer: bytes, or whether the value given is the one asked for, both with the number of blocks
+-- of the whole line; or that a call refused the request.
 pub data Response : Type 0 where
   given : List ℕ → ℕ → Response
   verified : Bool → ℕ → Response
@@ -43,30 +43,36 @@ within a n answer = when (fits a n) answer
 -- the digest of the joined pieces
 unfoldable pub digest_answer : DigestAlgorithm → List (List ℕ) → Response
 digest_answer a pieces =
-    within a (length (joined pieces)) (given (digest_of a (joined pieces)) (padded_blocks a (length (joined pieces))))
+    within a (length (joined pieces))
+    (given (digest_of a (joined pieces)) (padded_blocks a (length (joined pieces))))
 
--- the tag of the message m under the key k, after so many blocks; one block comes before the message
+-- the tag of the message m under the key k, after so many blocks; one block comes before the
+-- message
 unfoldable pub tag_answer : DigestAlgorithm → List ℕ → List ℕ → ℕ → Response
 tag_answer a k m before =
-    within a (block_len a + length m) (given (hmac_of a k m) (before + (padded_blocks a (length m) + 1)))
+    within a (block_len a + length m)
+    (given (hmac_of a k m) (before + (padded_blocks a (length m) + 1)))
 
 -- whether t is the whole tag of the message m under the key k, after so many blocks
 unfoldable pub verdict_answer : DigestAlgorithm → List ℕ → List ℕ → List ℕ → ℕ → Response
 verdict_answer a k m t before =
-    within a (block_len a + length m) (verified (bytes_eq t (hmac_of a k m)) (before + (padded_blocks a (length m) + 1)))
+    within a (block_len a + length m)
+    (verified (bytes_eq t (hmac_of a k m)) (before + (padded_blocks a (length m) + 1)))
 
 -- the tag of the joined pieces under a key of these bytes
 unfoldable pub hmac_answer : HmacAlgorithm → List ℕ → List (List ℕ) → Response
 hmac_answer a k pieces =
-    within (based_on a) (length k) (tag_answer (based_on a) k (joined pieces) (key_blocks (based_on a) (length k)))
+    within (based_on a) (length k)
+    (tag_answer (based_on a) k (joined pieces) (key_blocks (based_on a) (length k)))
 
 -- whether t is the whole tag of the joined pieces under a key of these bytes
 unfoldable pub hmac_verify_answer : HmacAlgorithm → List ℕ → List (List ℕ) → List ℕ → Response
 hmac_verify_answer a k pieces t =
-    within (based_on a) (length k) (verdict_answer (based_on a) k (joined pieces) t (key_blocks (based_on a) (length k)))
+    within (based_on a) (length k)
+    (verdict_answer (based_on a) k (joined pieces) t (key_blocks (based_on a) (length k)))
 
--- n bytes of output may be asked for, and each round is within the limit of tags: one block, the info and a number, and
--- from the second round on a tag before the info
+-- n bytes of output may be asked for, and each round is within the limit of tags: one block, the
+-- info and a number, and from the second round on a tag before the info
 abbrev pub can_expand : DigestAlgorithm → (info_len n : ℕ) → Bool
 can_expand a info_len n =
     nat_le n (255 * output_len a)
@@ -76,9 +82,11 @@ can_expand a info_len n =
 -- n bytes of the output of the PRK k with this info, after so many blocks
 unfoldable pub output_answer : DigestAlgorithm → (k info : List ℕ) → (n before : ℕ) → Response
 output_answer a k info n before =
-    when (can_expand a (length info) n) (given (okm a k info n) (before + fill_blocks a (length info) n))
+    when (can_expand a (length info) n)
+    (given (okm a k info n) (before + fill_blocks a (length info) n))
 
--- n bytes of the output of the PRK that is extracted from the secret with the salt; the info is the joined pieces
+-- n bytes of the output of the PRK that is extracted from the secret with the salt; the info is the
+-- joined pieces
 unfoldable pub hkdf_answer : HkdfAlgorithm → (salt secret : List ℕ) → List (List ℕ) → ℕ → Response
 hkdf_answer a salt secret pieces n =
     within (hash_of a) (length salt)
@@ -86,7 +94,8 @@ hkdf_answer a salt secret pieces n =
     (output_answer (hash_of a) (hmac_of (hash_of a) salt secret) (joined pieces) n
     (key_blocks (hash_of a) (length salt) + (padded_blocks (hash_of a) (length secret) + 3))))
 
--- n bytes can be derived: the secret is within the limit, and so are, for some output, one block, the salt and a number
+-- n bytes can be derived: the secret is within the limit, and so are, for some output, one block,
+-- the salt and a number
 abbrev pub can_derive : DigestAlgorithm → (secret_len salt_len n : ℕ) → Bool
 can_derive a secret_len salt_len n =
     fits a secret_len
@@ -97,12 +106,15 @@ can_derive a secret_len salt_len n =
 unfoldable pub pbkdf2_answer : Pbkdf2Algorithm → ℕ → (p s : List ℕ) → ℕ → Response
 pbkdf2_answer a c p s n =
     when (can_derive (prf_algorithm a) (length p) (length s) n)
-    (given (dk (prf_algorithm a) p s c n) (derive_blocks (prf_algorithm a) (length p) (length s) c n))
+    (given (dk (prf_algorithm a) p s c n)
+    (derive_blocks (prf_algorithm a) (length p) (length s) c n))
 
--- whether the value, which is not empty, is derived from the secret p and the salt s by c iterations
+-- whether the value, which is not empty, is derived from the secret p and the salt s by c
+-- iterations
 unfoldable pub pbkdf2_verify_answer : Pbkdf2Algorithm → ℕ → (p s value : List ℕ) → Response
 pbkdf2_verify_answer a c p s value =
-    when (nat_le 1 (length value) && can_derive (prf_algorithm a) (length p) (length s) (length value))
+    when (nat_le 1 (length value)
+    && can_derive (prf_algorithm a) (length p) (length s) (length value))
     (verified (bytes_eq value (dk (prf_algorithm a) p s c (length value)))
     (derive_blocks (prf_algorithm a) (length p) (length s) c (length value)))
 

@@ -22,8 +22,10 @@ loop-len-preserved g c =
       algorithm = search rules;
       left = walk.0;
       stands = rw walk.1 (more.stands _ so_far.stands);
-      cost = rw (walk.1, length-append)
-          (whole_more c.args.meter.now _ _ so_far.algorithm so_far.cost (more.cost_of _ so_far.stands));
+      cost =
+          (let grown = more.cost_of _ so_far.stands in
+          rw (walk.1, length-append)
+          (whole_more c.args.meter.now _ _ so_far.algorithm so_far.cost grown));
     }
 
 pub returns-clause-stands : goal.returns-clause-stands

@@ -22,8 +22,9 @@ returns-in-Ok-fill_counted g c = λ k h.
     ≡ okm (okm_algorithm c.in-Ok.output) k (joined_parts c.args.info.now) c.args.len =
     rw room (kept ∙ end.ok k _ _ (asked.ok k h)) in
     let (fits, count) =
-    filled asked.algorithm asked.info_len asked.number c.args.meter.now
-    (λ over. true≢false (sym (asked.refused.1 over))) (end.refused.0 refl) (omega arith) end.cost in
+    filled asked.algorithm asked.info_len asked.number {m1 = c.fill_counted.new.meter}
+    c.args.meter.now (λ over. true≢false (sym (asked.refused.1 over))) (end.refused.0 refl)
+    (omega arith) end.cost in
     let shown = c.blocks-in-Ok-fill_counted.ensures in
     let a = asked.algorithm in
     rw fits (cc (made, count, shown, a))

@@ -1,11 +1,10 @@
-use Rattle.std.proofs.Common.{◌≡◌, length, sym, rules, ◌∙◌, true, refl}
+use Rattle.std.proofs.Common.{◌≡◌, sym, rules, ◌∙◌, true, refl}
 use Rattle.std.specs.Int.NonZero.{non_zero_u32_get}
-use Rattle.std.specs.Str.{bytes_eq}
-use Rattle.ring.specs.Pbkdf2.{dk, prf_algorithm}
 use Rattle.ring_bench.specs.Request.{pbkdf2_verify_answer}
 use Rattle.ring_bench.proofs.CountLemmas.{derive_count}
 use Rattle.ring_bench.proofs.RequestLemmas.{can_verify-true, derived-refused, derived-within}
-use Rattle.ring_bench.proofs.RequestLemmas.{can_verify-true, derived-refused, derived-within, same_verdict}
+use Rattle.ring_bench.proofs.RequestLemmas.{can_verify-true, derived-refused, derived-within}
+use Rattle.ring_bench.proofs.RequestLemmas.{same_verdict}
 use Rattle.ring_bench.proofs.request.respond_pbkdf2_verify.Goals as goal
 
 pub returns-then-blocks-eq0 : goal.returns-then-blocks-eq0

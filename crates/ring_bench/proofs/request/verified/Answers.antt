@@ -1,6 +1,5 @@
 use Rattle.std.proofs.Common.{◌≡◌, arith, sym, ◌∙◌, length, nat_le, true, false, ◌+◌, refl}
-use Rattle.ring.specs.Hmac.{hmac_of, key_algorithm}
-use Rattle.std.specs.Str.{bytes_eq}
+use Rattle.ring.specs.Hmac.{key_algorithm}
 use Rattle.ring_bench.specs.Request.{verdict_answer}
 use Rattle.ring.specs.Algorithm.{block_len, max_input_len}
 use Rattle.ring.specs.Limits.{IsTagWithin}
@@ -13,7 +12,8 @@ unfolding verdict_answer
 returns-then-blocks-blocks_before g c = λ k h.
     let a = key_algorithm c.args.key.now in
     let n = length c.args.message.now in
-    let same = sym c.blocks-2.ensures ∙ c.if-blocks-blocks_before.true ∙ c.blocks-blocks_before.ensures in
+    let before = c.blocks-blocks_before.ensures in
+    let same = sym c.blocks-2.ensures ∙ c.if-blocks-blocks_before.true ∙ before in
     let above = λ (fits : IsTagWithin a n).
     rises c.args.meter.now _ _ (omega arith) (c.verify_counted.ensures.cost fits) same in
     let fails_here : nat_le (block_len a + n) (max_input_len a) ≡ false = fails above in

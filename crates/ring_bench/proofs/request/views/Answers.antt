@@ -1,6 +1,5 @@
-use Rattle.std.proofs.Common.{◌≡◌, ◌+◌, slice_index_or, arith, append-nil, ◌∙◌, refl}
-use Rattle.std.proofs.lemmas.List.Concat.{flat_map-append}
-use Rattle.ring_bench.proofs.PieceLemmas.{walk-end, walk-more}
+use Rattle.std.proofs.Common.{◌≡◌, ◌+◌, slice_index_or, arith, ◌∙◌, refl}
+use Rattle.ring_bench.proofs.PieceLemmas.{joined_parts-push, walk-end, walk-more}
 use Rattle.ring_bench.proofs.request.views.Goals as goal
 use Rattle.ring_bench.proofs.request.views.Goals.{then-start-end+in_ok-push, else-start-end}
 
@@ -13,10 +12,9 @@ loop-len-preserved g c =
     let len = slice_index_or c.deref-len-items.result.now c.loop-len.len-index 0 in
     elim c.if-start-end.branch [
       | then-start-end+in_ok-push w ↦
-          rw (w.start-is, w.views-is, w.in_ok-push.ensures.items, walk.1, w.deref.ensures.value) (record {
-            left = walk.0;
-            same = rw (flat_map-append, append-nil, so_far.same) refl;
-          })
+          (let pushed = joined_parts-push c.loop-len.views.items so_far.same in
+          rw (w.start-is, w.views-is, w.in_ok-push.ensures.items, walk.1, w.deref.ensures.value)
+          (record { left = walk.0; same = pushed _ }))
       | else-start-end w ↦
           (let none : c.loop-len.start + len ≡ c.loop-len.start = omega (arith, w.if-start-end) in
           rw (w.start-is, w.views-is) (record { left = walk.0; same = rw none so_far.same }))

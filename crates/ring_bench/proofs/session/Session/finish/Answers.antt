@@ -11,7 +11,8 @@ returns-clause-written g c =
       | then-not-is_empty+in_ok-end_line w ↦
           (let some : 0 < length c.args.self.line.items = search rules in
           let kept = rw w.writer-is at c.flush.ensures.bytes in
-          open-answered _ c.requires some _ _ _ w.in_ok-end_line.ensures.written kept)
+          open-answered c.args.self.line.items c.requires some
+          (g.W.Write.contents c.args.writer.now) _ _ w.in_ok-end_line.ensures.written kept)
       | else-not-is_empty w ↦
           (let none : length c.args.self.line.items ≡ 0 = search rules in
           none-answered _ none _ _ (rw w.writer-is at c.flush.ensures.bytes))

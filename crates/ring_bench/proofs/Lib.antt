@@ -1,7 +1,7 @@
-pub mod TextLemmas
-pub mod FedLemmas
-pub mod RequestLemmas
-pub mod NumberLemmas
-pub mod CountLemmas
-pub mod PieceLemmas
-pub mod LineLemmas
+pub mod Texts
+pub mod Runs
+pub mod Limits
+pub mod Numbers
+pub mod Counts
+pub mod Cuts
+pub mod Asked

@@ -60,7 +60,7 @@ enum Call {
 }
 
 /// What the line says.
-#[tactic(auto, using(crate::proofs::LineLemmas::asked_of_first), unfolding(crate::specs::Line::line_of),)]
+#[tactic(auto, using(crate::proofs::Asked::asked_of_first), unfolding(crate::specs::Line::line_of))]
 pub fn parse<A: Allocator + Copy>(alloc: A, text: &[u8]) -> Result<Line<A>, AllocError>
     ensures { IfOk result (λ line. meaning line ≡ line_of text.now) }
 {

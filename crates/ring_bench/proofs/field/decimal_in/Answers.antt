@@ -1,6 +1,6 @@
 use Rattle.std.proofs.Common.{◌≡◌, true, get_or, arith, rules}
 use Rattle.std.specs.Char.{is_ascii_digit}
-use Rattle.ring_bench.proofs.NumberLemmas.{too_large_at}
+use Rattle.ring_bench.proofs.Numbers.{too_large_at}
 use Rattle.ring_bench.proofs.field.decimal_in.Goals as goal
 
 pub returns-then-value-from : goal.returns-then-value-from

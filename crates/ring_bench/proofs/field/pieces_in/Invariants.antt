@@ -1,7 +1,7 @@
 use Rattle.std.proofs.Common.{◌≡◌, length}
 use Rattle.std.specs.List.{slice_split, sum}
 use Rattle.ring_bench.specs.Field.{is_comma, parts_bytes}
-use Rattle.ring_bench.proofs.PieceLemmas.{continued}
+use Rattle.ring_bench.proofs.Cuts.{continued}
 use Rattle.ring_bench.proofs.field.pieces_in.Given as goal
 
 -- the pieces so far, and those of the parts that are left, are those of all parts

@@ -7,7 +7,7 @@ use Rattle.ring.specs.Pieces.{joined as joined_parts}
 use Rattle.ring_bench.specs.Request.{can_expand, output_answer}
 use Rattle.ring.specs.Hkdf.{prk_algorithm}
 use Rattle.std.proofs.lemmas.Bool.{false_from_ne_true}
-use Rattle.ring_bench.proofs.RequestLemmas.{can_fill, filled}
+use Rattle.ring_bench.proofs.Limits.{can_fill, filled}
 use Rattle.ring_bench.proofs.request.output_of.Goals as goal
 
 pub returns-in-Ok-fill_counted : goal.returns-in-Ok-fill_counted

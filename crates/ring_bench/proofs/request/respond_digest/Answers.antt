@@ -5,8 +5,8 @@ use Rattle.ring.specs.Context.{context_algorithm}
 use Rattle.ring.specs.Digest.{digest_of}
 use Rattle.ring_bench.specs.Pieces.{pieces_listed}
 use Rattle.ring_bench.specs.Request.{digest_answer, joined}
-use Rattle.ring_bench.proofs.CountLemmas.{digest_count}
-use Rattle.ring_bench.proofs.RequestLemmas.{passes}
+use Rattle.ring_bench.proofs.Counts.{digest_count}
+use Rattle.ring_bench.proofs.Limits.{passes}
 use Rattle.ring_bench.proofs.request.respond_digest.Goals as goal
 
 pub returns-in_ok-to_vec-in-Ok : goal.returns-in_ok-to_vec-in-Ok

@@ -1,7 +1,7 @@
 use Rattle.std.proofs.Common.{arith, rules}
 use Rattle.std.proofs.lemmas.Grind.{common_steps}
 use Rattle.ring_bench.specs.Request.{hkdf_answer}
-use Rattle.ring_bench.proofs.CountLemmas.{extract_count}
+use Rattle.ring_bench.proofs.Counts.{extract_count}
 use Rattle.ring_bench.proofs.request.respond_hkdf.Goals as goal
 
 pub output_of-requires : goal.output_of-requires

@@ -1,7 +1,7 @@
 use Rattle.std.proofs.Common.{arith, rules}
 use Rattle.std.proofs.lemmas.Grind.{common_steps}
 use Rattle.ring_bench.specs.Request.{hmac_answer}
-use Rattle.ring_bench.proofs.CountLemmas.{key_count}
+use Rattle.ring_bench.proofs.Counts.{key_count}
 use Rattle.ring_bench.proofs.request.respond_hmac.Goals as goal
 
 pub signed-requires : goal.signed-requires

@@ -1,8 +1,8 @@
 use Rattle.std.proofs.Common.{arith, rules}
 use Rattle.std.proofs.lemmas.Grind.{common_steps}
 use Rattle.ring_bench.specs.Request.{hmac_verify_answer}
-use Rattle.ring_bench.proofs.CountLemmas.{key_count}
-use Rattle.ring_bench.proofs.PieceLemmas.{joined-listed}
+use Rattle.ring_bench.proofs.Counts.{key_count}
+use Rattle.ring_bench.proofs.Cuts.{joined-listed}
 use Rattle.ring_bench.proofs.request.respond_hmac_verify.Goals as goal
 
 pub verified-requires : goal.verified-requires

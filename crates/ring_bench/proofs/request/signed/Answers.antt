@@ -4,8 +4,8 @@ use Rattle.ring.specs.Algorithm.{block_len, max_input_len}
 use Rattle.ring.specs.Hmac.{hmac_of, key_algorithm, signing_algorithm}
 use Rattle.ring_bench.specs.Pieces.{pieces_listed}
 use Rattle.ring_bench.specs.Request.{joined, tag_answer}
-use Rattle.ring_bench.proofs.CountLemmas.{tag_count}
-use Rattle.ring_bench.proofs.RequestLemmas.{passes}
+use Rattle.ring_bench.proofs.Counts.{tag_count}
+use Rattle.ring_bench.proofs.Limits.{passes}
 use Rattle.ring_bench.proofs.request.signed.Goals as goal
 
 pub returns-in_ok-to_vec-in-Ok : goal.returns-in_ok-to_vec-in-Ok

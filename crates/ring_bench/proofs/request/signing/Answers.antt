@@ -1,6 +1,6 @@
 use Rattle.std.proofs.Common.{arith, ◌∙◌, length-append}
-use Rattle.ring_bench.proofs.CountLemmas.{whole_more, whole_none}
-use Rattle.ring_bench.proofs.PieceLemmas.{walk-end, walk-more}
+use Rattle.ring_bench.proofs.Counts.{whole_more, whole_none}
+use Rattle.ring_bench.proofs.Cuts.{walk-end, walk-more}
 use Rattle.ring_bench.proofs.request.signing.Goals as goal
 
 pub loop-len-init : goal.loop-len-init

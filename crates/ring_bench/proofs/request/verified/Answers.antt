@@ -3,8 +3,8 @@ use Rattle.ring.specs.Hmac.{key_algorithm}
 use Rattle.ring_bench.specs.Request.{verdict_answer}
 use Rattle.ring.specs.Algorithm.{block_len, max_input_len}
 use Rattle.ring.specs.Limits.{IsTagWithin}
-use Rattle.ring_bench.proofs.CountLemmas.{verify_count}
-use Rattle.ring_bench.proofs.RequestLemmas.{fails, passes, rises, same_verdict}
+use Rattle.ring_bench.proofs.Counts.{verify_count}
+use Rattle.ring_bench.proofs.Limits.{fails, passes, rises, same_verdict}
 use Rattle.ring_bench.proofs.request.verified.Goals as goal
 
 pub returns-then-blocks-blocks_before : goal.returns-then-blocks-blocks_before

@@ -1,5 +1,5 @@
 use Rattle.std.proofs.Common.{◌≡◌, ◌+◌, slice_index_or, arith, ◌∙◌, refl}
-use Rattle.ring_bench.proofs.PieceLemmas.{joined_parts-push, walk-end, walk-more}
+use Rattle.ring_bench.proofs.Cuts.{joined_parts-push, walk-end, walk-more}
 use Rattle.ring_bench.proofs.request.views.Goals as goal
 use Rattle.ring_bench.proofs.request.views.Goals.{then-start-end+in_ok-push, else-start-end}
 

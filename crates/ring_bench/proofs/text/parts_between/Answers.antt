@@ -1,6 +1,6 @@
 use Rattle.std.proofs.Common.{arith, rules, length, map, length-append}
 use Rattle.std.proofs.lemmas.List.{map-append}
-use Rattle.ring_bench.proofs.TextLemmas.{parts-next, parts-last}
+use Rattle.ring_bench.proofs.Texts.{parts-next, parts-last}
 use Rattle.ring_bench.proofs.text.parts_between.Goals as goal
 
 pub cuts-preserved : goal.cuts-preserved

@@ -1,4 +1,4 @@
--- Lemmas on what requests are answered.
+-- Lemmas on the tests of limits, and on how a call that was refused is known by its blocks.
 use Rattle.std.proofs.Common.{◌≡◌, ℕ, ◌+◌, ◌-◌, ◌^◌, ◌<◌, ◌≤◌, ◌*◌, nat_le, ◌&&◌, true≢false, Bool}
 use Rattle.std.proofs.Common.{true, false, List, refl, sym, ap, ◌∙◌, arith, rules}
 use Rattle.std.proofs.lemmas.Bool.Decides.{nat_tests, same_from_decides}
@@ -11,7 +11,7 @@ use Rattle.ring.specs.Limits.{CanDerive, CanVerify, IsInfoWithin, IsOutputWithin
 use Rattle.ring.specs.declared.digest.algorithm.Algorithm.{Algorithm}
 use Rattle.ring.proofs.Costs.{IsNew}
 use Rattle.std.proofs.lemmas.Bool.{false_from_ne_true, true_from_ne_false}
-use Rattle.ring_bench.proofs.CountLemmas.{fill_count}
+use Rattle.ring_bench.proofs.Counts.{fill_count}
 use Rattle.ring_bench.specs.Request.{can_derive, can_expand}
 
 -- a test of a limit passes exactly where the limit holds

@@ -19,7 +19,7 @@ use Rattle.ring_bench.specs.Field.{is_comma, parts_bytes, value_of}
 use Rattle.ring_bench.specs.Pieces.{cut_into, pieces_listed}
 use Rattle.ring_bench.specs.Request.{joined}
 use Rattle.ring_bench.specs.Text.{IsFirstCut, IsWithout}
-use Rattle.ring_bench.proofs.TextLemmas.{IsFirstCut-split}
+use Rattle.ring_bench.proofs.Texts.{IsFirstCut-split}
 use Rattle.ring_bench.specs.declared.pieces.Pieces.{Pieces}
 
 -- what is left of the lengths is what is left of the run

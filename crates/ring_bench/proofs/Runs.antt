@@ -20,8 +20,8 @@ use Rattle.ring_bench.specs.Text.{IsFirstCut, is_line_feed, without_return, line
 use Rattle.ring_bench.specs.Text.{replies, answers, is_bad_kind, status_of}
 use Rattle.ring_bench.specs.Reply.{reply, kind}
 use Rattle.ring_bench.specs.Session.{HasNoLineFeed, Begins, Fed, Stopped, status_after}
-use Rattle.ring_bench.proofs.TextLemmas.{Begins-lines, Begins-ended, Begins-nothing, Begins-more}
-use Rattle.ring_bench.proofs.TextLemmas.{Begins-trans, some_line, one_line}
+use Rattle.ring_bench.proofs.Texts.{Begins-lines, Begins-ended, Begins-nothing, Begins-more}
+use Rattle.ring_bench.proofs.Texts.{Begins-trans, some_line, one_line}
 
 -- one status after other lines
 chosen : (a b : Bool) (s : Status) → cond b SomeBad (cond a SomeBad s) ≡ cond (a || b) SomeBad s

@@ -15,6 +15,4 @@ mod lengths;
 mod number;
 mod status;
 mod tags;
-#[cfg(test)]
-mod tests;
 mod version;

@@ -2,7 +2,7 @@
 ghost use Rattle.std.specs.Prelude.{◌≡◌, ◌↔◌, [], IsTrue, IsFalse, IsErr, OnOk, IfErr};
 ghost use Rattle.std.specs.Io.{ReadsAtMost};
 ghost use Rattle.std.specs.Io.KnownBytes.{Appends, ReadConsumes};
-ghost use Rattle.ring_bench_main.specs.Gatherer.{waiting, all_of, IsWrittenOut};
+ghost use Rattle.ring_bench_main.specs.Gatherer.{IsWrittenOut, all_of, has_failed, held_back, waiting, writer_of};
 
 use crate::room::{ROOM, Room};
 use ring_bench::{BenchError, Status};
@@ -21,9 +21,9 @@ pub struct Gatherer<W> {
 impl<W: Write> Gatherer<W> {
     /// A gatherer for which nothing waits.
     pub fn new(writer: W) -> Gatherer<W>
-        ensures writer { result.writer ≡ writer }
+        ensures writer { writer_of result ≡ writer }
         ensures nothing_waits { waiting result ≡ [] }
-        ensures not_failed { IsFalse result.has_failed }
+        ensures not_failed { IsFalse (has_failed result) }
     {
         Gatherer {
             writer,
@@ -36,7 +36,7 @@ impl<W: Write> Gatherer<W> {
     pub fn gather(&mut self, bytes: &[u8]) -> Result<(), BenchError>
         ensures ok { OnOk result
             (Appends (all_of W.contents self.old) (all_of W.contents self.new) bytes.now) }
-        ensures failed { IsErr result → IsTrue self.new.has_failed }
+        ensures failed { IsErr result → IsTrue (has_failed self.new) }
         ensures write { IfErr result (λ error. error ≡ BenchError.Write) }
     {
         if bytes.len() > self.room.left() {
@@ -51,7 +51,7 @@ impl<W: Write> Gatherer<W> {
 
     /// Writes what waits, and then reads.
     pub fn read_behind<R: Read>(&mut self, reader: &mut R, buf: &mut [u8]) -> io::Result<usize>
-        ensures written { IsFalse self.new.has_failed
+        ensures written { IsFalse (has_failed self.new)
             → IsWrittenOut W.contents self.old self.new }
         ensures not_failed { OnOk result (IsFalse self.new.has_failed) }
         ensures bound { ReadsAtMost result buf.new }
@@ -66,10 +66,10 @@ impl<W: Write> Gatherer<W> {
 
     /// Writes what waits, and tells how the run ended: where a write failed, that.
     pub fn end(&mut self, result_of_run: Result<Status, BenchError>) -> Result<Status, BenchError>
-        ensures told { IsFalse self.new.has_failed → result ≡ result_of_run }
-        ensures written { IsFalse self.new.has_failed
+        ensures told { IsFalse (has_failed self.new) → result ≡ result_of_run }
+        ensures written { IsFalse (has_failed self.new)
             → IsWrittenOut W.contents self.old self.new }
-        ensures failed { IsTrue self.new.has_failed → result ≡ Err BenchError.Write }
+        ensures failed { IsTrue (has_failed self.new) → result ≡ Err BenchError.Write }
     {
         self.write_out().and(result_of_run)
     }
@@ -77,10 +77,10 @@ impl<W: Write> Gatherer<W> {
     /// Writes what waits.
     pub fn write_out(&mut self) -> Result<(), BenchError>
         ensures ok { OnOk result (IsWrittenOut W.contents self.old self.new) }
-        ensures empty { OnOk result (self.new.room.len ≡ 0) }
-        ensures failed { IsErr result ↔ IsTrue self.new.has_failed }
+        ensures empty { OnOk result (held_back self.new ≡ 0) }
+        ensures failed { IsErr result ↔ IsTrue (has_failed self.new) }
         ensures write { IfErr result (λ error. error ≡ BenchError.Write) }
-        ensures unchanged { IsTrue self.old.has_failed → self.new.writer ≡ self.old.writer }
+        ensures unchanged { IsTrue (has_failed self.old) → writer_of self.new ≡ writer_of self.old }
     {
         write_all(&mut self.writer, &mut self.has_failed, self.room.as_slice())?;
         self.room.clear();
@@ -89,7 +89,7 @@ impl<W: Write> Gatherer<W> {
 
     /// Reads where nothing waits: who gave the text may wait for the answers before more of it.
     fn read_on<R: Read>(&self, reader: &mut R, buf: &mut [u8]) -> io::Result<usize>
-        requires nothing_waits { self.now.room.len ≡ 0 }
+        requires nothing_waits { held_back self.now ≡ 0 }
         ensures bound { ReadsAtMost result buf.new }
         ensures bytes { ReadConsumes (R.remaining reader.old) (R.remaining reader.new)
             result buf.new }

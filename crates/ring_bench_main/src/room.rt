@@ -1,5 +1,5 @@
 //! Room for bytes that wait to be written.
-ghost use Rattle.std.specs.Prelude.{◌≡◌, ◌≤◌, ◌+◌, ◌-◌, ◌++◌, length, take};
+ghost use Rattle.std.specs.Prelude.{◌≡◌, ◌≤◌, ◌+◌, ◌-◌, ◌++◌, length};
 ghost use Rattle.ring_bench_main.specs.declared.room.TheConstants.{ROOM};
 
 /// How many bytes wait at most: the answers to the short lines of one read mostly fit.
@@ -14,9 +14,11 @@ pub struct Room {
 }
 
 impl Room {
+    ghost use Rattle.ring_bench_main.specs.Room.{held, waits};
+
     /// Room in which nothing waits.
     pub fn new() -> Room
-        ensures { result.len ≡ 0 }
+        ensures { held result ≡ 0 }
     {
         Room {
             bytes: [0; ROOM],
@@ -26,23 +28,22 @@ impl Room {
 
     /// How many bytes more there is room for.
     pub fn left(&self) -> usize
-        ensures { result ≡ ROOM - self.now.len }
+        ensures { result ≡ ROOM - held self.now }
     {
         ROOM - self.len
     }
 
     /// The bytes that wait.
     pub fn as_slice(&self) -> &[u8]
-        ensures { result.now ≡ take self.now.len self.now.bytes }
+        ensures { result.now ≡ waits self.now }
     {
         &self.bytes[..self.len]
     }
 
     /// Lets bytes wait behind the others.
     pub fn append(&mut self, bytes: &[u8])
-        requires room { self.old.len + length bytes.now ≤ ROOM }
-        ensures { take self.new.len self.new.bytes
-            ≡ take self.old.len self.old.bytes ++ bytes.now }
+        requires room { held self.old + length bytes.now ≤ ROOM }
+        ensures { waits self.new ≡ waits self.old ++ bytes.now }
     {
         let end = self.len + bytes.len();
         self.bytes[self.len..end].copy_from_slice(bytes);
@@ -51,7 +52,7 @@ impl Room {
 
     /// Nothing waits any more.
     pub fn clear(&mut self)
-        ensures { self.new.len ≡ 0 }
+        ensures { held self.new ≡ 0 }
     {
         self.len = 0;
     }

@@ -1,7 +1,7 @@
 -- How a chain follows a list of whole blocks as it grows.
 use Rattle.std.proofs.Common.{
-  refl, ◌≤◌, ◌≡◌, ℕ, zero, ◌+◌, ◌-◌, ◌*◌, ◌/◌, ◌%◌, ◌<◌, List, [], ◌++◌, length, take, drop, sym, ap, ◌∙◌,
-  arith, add_comm, length-append, length-drop, replicate,
+  refl, ◌≤◌, ◌≡◌, ℕ, zero, ◌+◌, ◌-◌, ◌*◌, ◌/◌, ◌%◌, ◌<◌, List, [], ◌++◌, length, take, drop, sym,
+  ap, ◌∙◌, arith, add_comm, length-append, length-drop, replicate,
 }
 use Rattle.std.proofs.lemmas.List.{length-take-le, take-append-drop}
 use Rattle.std.proofs.Math.Nat.{mul-div_cancel, div-mul-le_self, add-mul-div_left}
@@ -57,7 +57,7 @@ pub chain-nil : (a : Algorithm) → chain a [] ≡ initial_words a
 unfolding chain
 chain-nil a =
     let z : 0 / block_len a ≡ 0 = (zero_whole (block_len a) (block_len-positive a)).1 in
-    rw z (chained-none _ _ _ _)
+    rw z (chained-none (block_function a) (block_len a) (initial_words a) [])
 
 -- the words h after the whole blocks of x
 abbrev pub chained_from : Algorithm → (h x : List ℕ) → List ℕ
@@ -75,7 +75,8 @@ chain-append a p x hp hx =
     rw e (chained-then (block_function a) b (initial_words a) p x _ (length x / b) whole)
 
 -- no block taken
-pub HasTaken-nil : (b : BlockContext) → chaining_words b.algorithm b.state ≡ initial_words b.algorithm
+pub HasTaken-nil : (b : BlockContext)
+    → chaining_words b.algorithm b.state ≡ initial_words b.algorithm
     → spare_words b.algorithm b.state ≡ replicate (8 - word_count b.algorithm) 0
     → b.completed_bytes ≡ 0 → HasTaken b []
 HasTaken-nil b ew es ec =
@@ -95,7 +96,8 @@ length-whole_front : (a : Algorithm) (x : List ℕ)
 length-whole_front a x = length-take-le _ x (div-mul-le_self (length x) (block_len a))
 
 blocks-whole_front : (a : Algorithm) (x : List ℕ)
-    → IsWhole a (whole_front a x) × (whole_blocks a (length (whole_front a x)) ≡ whole_blocks a (length x))
+    → IsWhole a (whole_front a x)
+    × (whole_blocks a (length (whole_front a x)) ≡ whole_blocks a (length x))
 blocks-whole_front a x =
     let whole = mul_whole (whole_blocks a (length x)) (block_len a) (block_len-positive a) in
     rw (length-whole_front a x) whole

@@ -1,7 +1,7 @@
 -- An output, round by round, and what its rounds cost.
 use Rattle.std.proofs.Common.{
-  ◌≡◌, ℕ, zero, suc, ◌+◌, ◌-◌, ◌*◌, ◌<◌, ◌≤◌, List, [], ◌∷◌, ◌++◌, length, take, drop, refl, sym, ap, ◌∙◌,
-  arith, add-one, append-nil, length-take-le, suc-mul,
+  ◌≡◌, ℕ, zero, suc, ◌+◌, ◌-◌, ◌*◌, ◌<◌, ◌≤◌, List, [], ◌∷◌, ◌++◌, length, take, drop, refl, sym,
+  ap, ◌∙◌, arith, add-one, append-nil, length-take-le, suc-mul,
 }
 use Rattle.std.proofs.Math.Nat.{lt_of_mul-lt-mul_right}
 use Rattle.std.proofs.lemmas.List.{at_drop_all}
@@ -111,7 +111,8 @@ module _ {key : Key} {info : List ℕ} {r w : ℕ} {tag : Tag} {out : List ℕ} 
   written-next {k = k} {bytes = bytes} {L = L} rest t stands el eb eo =
       let tags : ℕ → List ℕ = t_of (key_algorithm key) k info in
       let e : bytes ≡ tags (suc r) = eb ∙ t.next k stands in
-      let len : length bytes ≡ L = ap length e ∙ length-t_of (key_algorithm key) k info r ∙ sym el in
+      let len : length bytes ≡ L =
+      ap length e ∙ length-t_of (key_algorithm key) k info r ∙ sym el in
       rw (length-take-le w out t.in_out, len)
       at (written-more tags r rest (t.done k stands) e eo)
 

@@ -30,7 +30,8 @@ module _ {a : Algorithm} {c : Context} where
 
   -- the bytes d more
   pub fed_more : {n : Context} {m : List ℕ} (d : List ℕ) {m0 m1 m2 : Counts} → HasFed a c m m0 m1
-      → context_algorithm n ≡ context_algorithm c → message_len n ≡ cut_off (message_len c + length d)
+      → context_algorithm n ≡ context_algorithm c
+      → message_len n ≡ cut_off (message_len c + length d)
       → pending_len n ≡ (pending_len c + length d) % block_len (context_algorithm c)
       → ((x : List ℕ) → StandsFor c x → StandsFor n (x ++ d))
       → m2 ≡ raised m1 (whole_blocks (context_algorithm c) (pending_len c + length d)) 0

@@ -1,10 +1,15 @@
 -- How the last blocks make up the padding.
-use Rattle.std.proofs.Common.{◌≡◌, ℕ, ◌+◌, ◌-◌, ◌*◌, ◌^◌, ◌≤◌, IsTrue, List, ◌++◌, length, replicate, ap, ◌∙◌, arith, rules, length-append, min, sym, append_assoc, take}
+use Rattle.std.proofs.Common.{
+  ◌≡◌, ℕ, ◌+◌, ◌-◌, ◌*◌, ◌^◌, ◌≤◌, IsTrue, List, ◌++◌, length, replicate, ap, ◌∙◌, arith, rules,
+  length-append, min, sym, append_assoc, take,
+}
 use Rattle.ring.proofs.Lengths.{length-chain}
 use Rattle.std.proofs.lemmas.List.Concat.{flat_map-append}
 use Rattle.std.proofs.lemmas.List.{take-append-le, take-append-drop}
 use Rattle.std.specs.Int.{bytes_high_first}
-use Rattle.ring.specs.Algorithm.{is_state_of, max_input_len, output_len, word_len, chaining_words, spare_words, word_count}
+use Rattle.ring.specs.Algorithm.{
+  is_state_of, max_input_len, output_len, word_len, chaining_words, spare_words, word_count,
+}
 use Rattle.ring.specs.Context.{HasTaken}
 use Rattle.ring.specs.Digest.{chain, digest_of}
 use Rattle.ring.specs.Padding.{padded}
@@ -25,7 +30,8 @@ word_bytes_front a n s =
 -- the digest at the front of a state's bytes
 pub digest_from : (out : List ℕ) (s : DynState) (a : Algorithm) (m : List ℕ)
     → out ≡ word_bytes (state_word_len s) (words s) ++ replicate (64 - 8 * state_word_len s) 0
-    → IsTrue (is_state_of a s) → chaining_words a s ≡ chain a (padded a m) → take (output_len a) out ≡ digest_of a m
+    → IsTrue (is_state_of a s) → chaining_words a s ≡ chain a (padded a m)
+    → take (output_len a) out ≡ digest_of a m
 unfolding digest_of
 digest_from out s a m ev sized ew =
     let w : ℕ = word_len a in
@@ -33,14 +39,20 @@ digest_from out s a m ev sized ew =
     let front : List ℕ = word_bytes w (chaining_words a s) in
     let spare : List ℕ = word_bytes w (spare_words a s) in
     let zeros : List ℕ = replicate (64 - 8 * w) 0 in
-    let count : length (chaining_words a s) ≡ word_count a = ap length ew ∙ length-chain a (padded a m) in
-    let long : length front ≡ w * word_count a = length-word_bytes w (chaining_words a s) ∙ ap (λ (z : ℕ). w * z) count in
+    let count : length (chaining_words a s) ≡ word_count a =
+    ap length ew ∙ length-chain a (padded a m) in
+    let long : length front ≡ w * word_count a =
+    length-word_bytes w (chaining_words a s) ∙ ap (λ (z : ℕ). w * z) count in
     let value : out ≡ front ++ (spare ++ zeros) =
-    ev ∙ rw size (ap (λ (z : List ℕ). z ++ zeros) (word_bytes_front a w s)) ∙ append_assoc front spare zeros in
-    rw value (take-append-le (output_len a) front (spare ++ zeros) (omega (arith, long, output_len-most a))
+    ev ∙ rw size (ap (λ (z : List ℕ). z ++ zeros) (word_bytes_front a w s))
+    ∙ append_assoc front spare zeros in
+    let room : output_len a ≤ length front = omega (arith, long, output_len-most a) in
+    rw value (take-append-le (output_len a) front (spare ++ zeros) room
     ∙ ap (λ (z : List ℕ). take (output_len a) (word_bytes w z)) ew)
 
 -- the length of what the block context has taken in and the pending bytes
-pub taken_len : (b : BlockContext) (p x : List ℕ) (len : ℕ) → HasTaken b p → len ≡ min (b.completed_bytes + length x) (2 ^ 128 - 1)
+pub taken_len : (b : BlockContext) (p x : List ℕ) (len : ℕ) → HasTaken b p
+    → len ≡ min (b.completed_bytes + length x) (2 ^ 128 - 1)
     → len ≤ max_input_len b.algorithm → length (p ++ x) ≡ len
-taken_len b p x len h e most = omega (arith, h.count, length-append p x, max_input_len-most b.algorithm)
+taken_len b p x len h e most =
+    omega (arith, h.count, length-append p x, max_input_len-most b.algorithm)

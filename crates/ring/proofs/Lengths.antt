@@ -1,6 +1,7 @@
 -- The length of a digest, and costs of whole messages.
 use Rattle.std.proofs.Common.{
-  ◌≡◌, ℕ, ◌+◌, ◌-◌, ◌*◌, ◌/◌, ◌%◌, inl, inr, List, length, refl, sym, ap, ◌∙◌, arith, length-take-le,
+  ◌≡◌, ℕ, ◌+◌, ◌-◌, ◌*◌, ◌/◌, ◌%◌, inl, inr, List, length, refl, sym, ap, ◌∙◌, arith,
+  length-take-le,
 }
 use Rattle.ring_core.specs.Sha1 as sha1
 use Rattle.ring_core.specs.Sha2 as sha2
@@ -58,15 +59,24 @@ length-digest_of a m =
 
 -- the end of a message has the blocks of its pending bytes with their padding
 pub end_last : (a : Algorithm) (n : ℕ) → padded_blocks a (n % block_len a) ≡ last_blocks a n
-end_last a n = elim (sizes_of a) [ inl e ↦ rw (e.0, e.1) (omega arith) | inr e ↦ rw (e.0, e.1) (omega arith) ]
+end_last a n = elim (sizes_of a) [
+  | inl e ↦ rw (e.0, e.1) (omega arith)
+  | inr e ↦ rw (e.0, e.1) (omega arith)
+]
 
 -- the blocks of a message and those of its end
 pub whole_last : (a : Algorithm) (n : ℕ) → whole_blocks a n + last_blocks a n ≡ padded_blocks a n
-whole_last a n = elim (sizes_of a) [ inl e ↦ rw (e.0, e.1) (omega arith) | inr e ↦ rw (e.0, e.1) (omega arith) ]
+whole_last a n = elim (sizes_of a) [
+  | inl e ↦ rw (e.0, e.1) (omega arith)
+  | inr e ↦ rw (e.0, e.1) (omega arith)
+]
 
 -- a block before the message leaves its end as it is
 pub last_past : (a : Algorithm) (n : ℕ) → last_blocks a (block_len a + n) ≡ last_blocks a n
-last_past a n = elim (sizes_of a) [ inl e ↦ rw (e.0, e.1) (omega arith) | inr e ↦ rw (e.0, e.1) (omega arith) ]
+last_past a n = elim (sizes_of a) [
+  | inl e ↦ rw (e.0, e.1) (omega arith)
+  | inr e ↦ rw (e.0, e.1) (omega arith)
+]
 
 pub whole_past : (a : Algorithm) (n k : ℕ)
     → whole_blocks a (block_len a + n + k) - whole_blocks a (block_len a + n)
@@ -80,7 +90,8 @@ pub record HasCounted (a : Algorithm) (q n : ℕ) (before now : Counts) : Type 0
 
 -- no byte makes no block, and leaves none pending
 pub counted_none : (a : Algorithm) {q : ℕ} {m : Counts} → q ≡ 0 → HasCounted a q 0 m m
-counted_none a {m = m} e = record { pending = e ∙ sym (none a).1; cost = rw (none a).0 (raised-none m) }
+counted_none a {m = m} e =
+    record { pending = e ∙ sym (none a).1; cost = rw (none a).0 (raised-none m) }
   where
     none : (a : Algorithm) → (whole_blocks a 0 ≡ 0) × (0 % block_len a ≡ 0)
     none a = elim (sizes_of a) [ inl e ↦ rw e.0 (refl, refl) | inr e ↦ rw e.0 (refl, refl) ]
@@ -91,7 +102,8 @@ module _ {a b : Algorithm} {q n : ℕ} {m0 m1 m2 : Counts} where
   pub counted_more : {p : ℕ} (d : ℕ) → b ≡ a → HasCounted a p n m0 m1 → q ≡ (p + d) % block_len b
       → m2 ≡ raised m1 (whole_blocks b (p + d)) 0 → HasCounted a q (n + d) m0 m2
   counted_more d eb t eq em =
-      let cost : m2 ≡ raised m1 (whole_blocks a (n % block_len a + d)) 0 = rw (eb, t.pending) at em in
+      let cost : m2 ≡ raised m1 (whole_blocks a (n % block_len a + d)) 0 =
+      rw (eb, t.pending) at em in
       record {
         pending = (rw (eb, t.pending) at eq) ∙ left a;
         cost = cost ∙ rw t.cost (raised-raised m0 _ 0 _ 0) ∙ ap (λ (z : ℕ). raised m0 z 0) (sum a);

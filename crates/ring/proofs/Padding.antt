@@ -1,7 +1,7 @@
 -- The padding is the shortest list of its form.
 use Rattle.std.proofs.Common.{
-  ◌≡◌, ℕ, ◌+◌, ◌-◌, ◌*◌, ◌/◌, ◌%◌, ◌≤◌, inl, inr, List, ◌∷◌, ◌++◌, length, replicate, refl, ◌∙◌, arith,
-  length-append,
+  ◌≡◌, ℕ, ◌+◌, ◌-◌, ◌*◌, ◌/◌, ◌%◌, ◌≤◌, inl, inr, List, ◌∷◌, ◌++◌, length, replicate, refl, ◌∙◌,
+  arith, length-append,
 }
 use Rattle.std.proofs.lemmas.List.{length-replicate}
 use Rattle.std.specs.Int.{bytes_high_first}

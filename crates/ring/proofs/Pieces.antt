@@ -1,7 +1,8 @@
 -- Numbered blocks of one length, one after another, and their fronts.
 use Rattle.std.proofs.Common.{
-  ◌≡◌, ℕ, List, [], ◌∷◌, ◌++◌, ◌+◌, ◌*◌, ◌≤◌, ◌<◌, ◌↔◌, length, take, drop, suc, zero, refl, sym, ◌∙◌, arith,
-  length-append, length-take-le, mul-le-mul_right, suc-mul, append-nil, add-one, slice_index_or,
+  ◌≡◌, ℕ, List, [], ◌∷◌, ◌++◌, ◌+◌, ◌*◌, ◌≤◌, ◌<◌, ◌↔◌, length, take, drop, suc, zero, refl, sym,
+  ◌∙◌, arith, length-append, length-take-le, mul-le-mul_right, suc-mul, append-nil, add-one,
+  slice_index_or,
 }
 use Rattle.std.specs.Borrow.{Bor}
 use Rattle.std.proofs.lemmas.List.{take_more, take-append-le}
@@ -13,11 +14,9 @@ use Rattle.ring.specs.Pieces.{joined, joined_blocks}
 pub joined-more : (pieces : List (Bor (List ℕ))) (i : ℕ) (d : Bor (List ℕ)) → i < length pieces
     → joined (take (i + 1) pieces) ≡ joined (take i pieces) ++ (slice_index_or pieces i d).now
 joined-more pieces i d below =
-    rw (
-      take_more pieces i d below,
-      flat_map-append (λ (piece : Bor (List ℕ)). piece.now) (take i pieces) (slice_index_or pieces i d ∷ []),
-      append-nil,
-    ) refl
+    let bytes : Bor (List ℕ) → List ℕ = λ (piece : Bor (List ℕ)). piece.now in
+    let last : List (Bor (List ℕ)) = slice_index_or pieces i d ∷ [] in
+    rw (take_more pieces i d below, flat_map-append bytes (take i pieces) last, append-nil) refl
 
 pub joined_blocks-none : (f : ℕ → List ℕ) → joined_blocks f 0 ≡ []
 unfolding joined_blocks

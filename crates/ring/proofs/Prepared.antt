@@ -1,7 +1,7 @@
 -- A message of a digest's length, signed by one block after each masked block of the key.
 use Rattle.std.proofs.Common.{
-  ◌≡◌, ℕ, ◌+◌, ◌-◌, ◌*◌, ◌/◌, List, ◌∷◌, ◌++◌, length, take, drop, replicate, refl, sym, ap, ◌∙◌, arith,
-  length-append, length-take-le, append_assoc,
+  ◌≡◌, ℕ, ◌+◌, ◌-◌, ◌*◌, ◌/◌, List, ◌∷◌, ◌++◌, length, take, drop, replicate, refl, sym, ap, ◌∙◌,
+  arith, length-append, length-take-le, append_assoc,
 }
 use Rattle.std.proofs.lemmas.List.{drop-take, drop_at, take_at}
 use Rattle.std.proofs.Math.Nat.{div_self, mod_self}
@@ -18,8 +18,8 @@ use Rattle.ring.proofs.Rows.{block_len-most, block_len-positive}
 use Rattle.ring.proofs.Tails.{padded-append}
 
 -- the tail of such a message is one block
-pub one_tail : (a : Algorithm) (n len : ℕ) → n ≡ output_len a → len ≡ padded_blocks a n * block_len a
-    → len ≡ block_len a
+pub one_tail : (a : Algorithm) (n len : ℕ) → n ≡ output_len a
+    → len ≡ padded_blocks a n * block_len a → len ≡ block_len a
 one_tail a n len en el = el ∙ rw (en, one_block a) (omega arith)
 
 -- the padding, as a tail has it

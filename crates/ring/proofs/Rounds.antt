@@ -1,7 +1,8 @@
 -- Rounds written, or compared, one after another.
 use Rattle.std.proofs.Common.{
-  ◌≡◌, ◌↔◌, ℕ, suc, ◌+◌, ◌-◌, ◌*◌, ◌<◌, ◌≤◌, min, Bool, true, false, ◌&&◌, List, ◌++◌, length, take, drop,
-  refl, sym, ap, ◌∙◌, arith, add-one, suc-mul, zero-mul, length-drop, length-take-le, take_all,
+  ◌≡◌, ◌↔◌, ℕ, suc, ◌+◌, ◌-◌, ◌*◌, ◌<◌, ◌≤◌, min, Bool, true, false, ◌&&◌, List, ◌++◌, length, take,
+  drop, refl, sym, ap, ◌∙◌, arith, add-one, suc-mul, zero-mul, length-drop, length-take-le,
+  take_all,
 }
 use Rattle.std.proofs.Math.Nat.{lt_of_mul-lt-mul_right}
 use Rattle.std.proofs.lemmas.Grind.{div_ceil_times}
@@ -21,8 +22,8 @@ use Rattle.ring.proofs.Pieces.{IsEven, joined_blocks-part, length-joined_blocks,
 use borrow.Rule.Slice.PartMut.{put_mid, same_len_mid}
 
 -- a buffer of 64 bytes has room for a part of a round
-pub length-buffer : (a : Algorithm) (buffer : List ℕ) (n : ℕ) → length buffer ≡ 64 → n ≤ output_len a
-    → length (take n buffer) ≡ n
+pub length-buffer : (a : Algorithm) (buffer : List ℕ) (n : ℕ) → length buffer ≡ 64
+    → n ≤ output_len a → length (take n buffer) ≡ n
 length-buffer a buffer n len fits = length-take-le n buffer (omega (arith, output_len-fits a))
 
 -- r rounds reach w of n bytes, and each of them is needed

@@ -1,9 +1,15 @@
 -- What the rows have in common.
-use Rattle.std.proofs.Common.{◌≡◌, ℕ, zero, ◌<◌, ◌≤◌, ◌+◌, ◌-◌, ◌*◌, ◌^◌, ◌⊎◌, refl, inl, inr, lit<, lit≤, ◌/◌}
-use Rattle.ring.specs.Algorithm.{block_len, length_len, max_input_len, output_len, row_of, word_len, word_count}
+use Rattle.std.proofs.Common.{
+  ◌≡◌, ℕ, zero, ◌<◌, ◌≤◌, ◌+◌, ◌-◌, ◌*◌, ◌^◌, ◌⊎◌, refl, inl, inr, lit<, lit≤, ◌/◌,
+}
+use Rattle.ring.specs.Algorithm.{
+  block_len, length_len, max_input_len, output_len, row_of, word_len, word_count,
+}
 use Rattle.ring.specs.declared.digest.algorithm.Algorithm.{Algorithm}
 use Rattle.ring.specs.declared.digest.algorithm.AlgorithmId.{AlgorithmId}
-use Rattle.ring.specs.declared.digest.algorithm.AlgorithmId.TheVariants.{Sha1, Sha256, Sha384, Sha512, Sha512_256}
+use Rattle.ring.specs.declared.digest.algorithm.AlgorithmId.TheVariants.{
+  Sha1, Sha256, Sha384, Sha512, Sha512_256,
+}
 
 -- the two sizes of blocks, b bytes, and length fields, l bytes
 abbrev pub AreSizes : (b l : ℕ) → Type 0
@@ -42,7 +48,10 @@ pub output_len-most : (a : Algorithm) → output_len a ≤ word_len a * word_cou
 output_len-most a = output_len-most_of_id a.id
 
 pub length_len-most : (a : Algorithm) → length_len a + 48 ≤ block_len a
-length_len-most a = elim (sizes_of a) [ inl h ↦ rw (h.0, h.1) (lit≤ tt) | inr h ↦ rw (h.0, h.1) (lit≤ tt) ]
+length_len-most a = elim (sizes_of a) [
+  | inl h ↦ rw (h.0, h.1) (lit≤ tt)
+  | inr h ↦ rw (h.0, h.1) (lit≤ tt)
+]
 
 output_len-positive_of_id : (i : AlgorithmId) → zero < (row_of i).output_len
 output_len-positive_of_id Sha1 = lit< tt

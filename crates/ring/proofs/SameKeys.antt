@@ -1,5 +1,8 @@
 -- Keys that make one block and so sign alike.
-use Rattle.std.proofs.Common.{◌≡◌, ℕ, ◌+◌, ◌-◌, ◌<◌, ◌≤◌, List, ◌++◌, length, replicate, refl, ◌∙◌, ap, arith, length-append, append_assoc}
+use Rattle.std.proofs.Common.{
+  ◌≡◌, ℕ, ◌+◌, ◌-◌, ◌<◌, ◌≤◌, List, ◌++◌, length, replicate, refl, ◌∙◌, ap, arith, length-append,
+  append_assoc,
+}
 use Rattle.std.proofs.lemmas.List.{length-replicate, replicate-append-replicate}
 use Rattle.ring.specs.Algorithm.{block_len}
 use Rattle.ring.specs.Digest.{digest_of}
@@ -10,35 +13,45 @@ use Rattle.ring.proofs.Keys.{output_below, short_key-long, short_key-short}
 use Rattle.ring.proofs.Lengths.{length-digest_of}
 
 -- keys of one block sign alike
-hmac_of-same : (a : Algorithm) (k k' m : List ℕ) → key_block a k ≡ key_block a k' → hmac_of a k m ≡ hmac_of a k' m
+hmac_of-same : (a : Algorithm) (k k' m : List ℕ) → key_block a k ≡ key_block a k'
+    → hmac_of a k m ≡ hmac_of a k' m
 unfolding hmac_of
 hmac_of-same a k k' m e =
-    ap (λ (block : List ℕ). digest_of a (masked 0x5c block ++ digest_of a (masked 0x36 block ++ m))) e
+    let inside : List ℕ → List ℕ = λ (block : List ℕ). digest_of a (masked 0x36 block ++ m) in
+    ap (λ (block : List ℕ). digest_of a (masked 0x5c block ++ inside block)) e
 
-key_block-zeros : (a : Algorithm) (k : List ℕ) (z : ℕ) → length k + z ≤ block_len a → key_block a (k ++ replicate z 0) ≡ key_block a k
+key_block-zeros : (a : Algorithm) (k : List ℕ) (z : ℕ) → length k + z ≤ block_len a
+    → key_block a (k ++ replicate z 0) ≡ key_block a k
 unfolding key_block
 key_block-zeros a k z fits =
-    let long : length (k ++ replicate z 0) ≡ length k + z =
-    omega (arith, length-append k (replicate z 0), length-replicate {A = ℕ} z 0) in
-    let whole : short_key a (k ++ replicate z 0) ≡ k ++ replicate z 0 = short_key-short a (k ++ replicate z 0) (omega (arith, long)) in
+    let zeros : List ℕ = replicate z 0 in
+    let more : ℕ = block_len a - (length k + z) in
+    let long : length (k ++ zeros) ≡ length k + z =
+    length-append k zeros ∙ omega (arith, length-replicate {A = ℕ} z 0) in
+    let whole : short_key a (k ++ zeros) ≡ k ++ zeros =
+    short_key-short a (k ++ zeros) (omega (arith, long)) in
     let bare : short_key a k ≡ k = short_key-short a k (omega arith) in
-    let rest : z + (block_len a - (length k + z)) ≡ block_len a - length k = omega arith in
+    let rest : z + more ≡ block_len a - length k = omega arith in
     rw (whole, bare, long)
-    (append_assoc k (replicate z 0) (replicate (block_len a - (length k + z)) 0)
-    ∙ ap (λ (zeros : List ℕ). k ++ zeros) (replicate-append-replicate {A = ℕ} z (block_len a - (length k + z)) 0)
+    (append_assoc k zeros (replicate more 0)
+    ∙ ap (λ (zs : List ℕ). k ++ zs) (replicate-append-replicate {A = ℕ} z more 0)
     ∙ ap (λ (n : ℕ). k ++ replicate n 0) rest)
 
-key_block-digest : (a : Algorithm) (k : List ℕ) → block_len a < length k → key_block a k ≡ key_block a (digest_of a k)
+key_block-digest : (a : Algorithm) (k : List ℕ) → block_len a < length k
+    → key_block a k ≡ key_block a (digest_of a k)
 unfolding key_block
 key_block-digest a k long =
-    let fits : length (digest_of a k) ≤ block_len a = omega (arith, length-digest_of a k, output_below a) in
+    let fits : length (digest_of a k) ≤ block_len a =
+    omega (arith, length-digest_of a k, output_below a) in
     rw (short_key-long a k long, short_key-short a (digest_of a k) fits) refl
 
 -- zeros more
 pub hmac_of-zeros : (a : Algorithm) (k m : List ℕ) (z : ℕ) → length k + z ≤ block_len a
     → hmac_of a (k ++ replicate z 0) m ≡ hmac_of a k m
-hmac_of-zeros a k m z fits = hmac_of-same a (k ++ replicate z 0) k m (key_block-zeros a k z fits)
+hmac_of-zeros a k m z fits =
+    hmac_of-same a (k ++ replicate z 0) k m (key_block-zeros a k z fits)
 
 -- a long key's digest
-pub hmac_of-digest : (a : Algorithm) (k m : List ℕ) → block_len a < length k → hmac_of a k m ≡ hmac_of a (digest_of a k) m
+pub hmac_of-digest : (a : Algorithm) (k m : List ℕ) → block_len a < length k
+    → hmac_of a k m ≡ hmac_of a (digest_of a k) m
 hmac_of-digest a k m long = hmac_of-same a k (digest_of a k) m (key_block-digest a k long)

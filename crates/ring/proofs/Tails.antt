@@ -1,7 +1,7 @@
 -- What follows the whole blocks of a padded message.
 use Rattle.std.proofs.Common.{
-  ◌≡◌, ℕ, suc, ◌+◌, ◌-◌, ◌*◌, ◌/◌, ◌%◌, ◌<◌, ◌≤◌, ◌⊎◌, inl, inr, List, ◌∷◌, ◌++◌, length, take, drop,
-  replicate, slice_set, sym, ap, ◌∙◌, arith, length-append, append_assoc, drop-drop, refl,
+  ◌≡◌, ℕ, suc, ◌+◌, ◌-◌, ◌*◌, ◌/◌, ◌%◌, ◌<◌, ◌≤◌, ◌⊎◌, inl, inr, List, ◌∷◌, ◌++◌, length, take,
+  drop, replicate, slice_set, sym, ap, ◌∙◌, arith, length-append, append_assoc, drop-drop, refl,
 }
 use Rattle.std.proofs.lemmas.List.{drop-replicate, take-replicate, length-replicate, take_at}
 use Rattle.std.proofs.Math.Seq.{set-append_seam, take-append-add}

@@ -1,7 +1,7 @@
 -- How update keeps what a context stands for, what it counts and what it costs.
 use Rattle.std.proofs.Common.{
-  ◌≡◌, ℕ, zero, ◌+◌, ◌-◌, ◌*◌, ◌/◌, ◌%◌, ◌<◌, ◌≤◌, List, ◌++◌, length, take, drop, refl, sym, ap, subst,
-  ◌∙◌, arith, length-append, length-drop, length-take-le, append_assoc, take-add, drop-drop,
+  ◌≡◌, ℕ, zero, ◌+◌, ◌-◌, ◌*◌, ◌/◌, ◌%◌, ◌<◌, ◌≤◌, List, ◌++◌, length, take, drop, refl, sym, ap,
+  subst, ◌∙◌, arith, length-append, length-drop, length-take-le, append_assoc, take-add, drop-drop,
 }
 use Rattle.std.proofs.lemmas.List.{take_all, take_at, drop_at, take-append-drop, append-nil}
 use Rattle.std.proofs.lemmas.Nat.{div-mul-add, mod-mul-add}
@@ -90,7 +90,8 @@ moved_then {n = n} {new = new} {x = x} {rest = rest} {m0 = m0} i j =
     rw (sum, i.rest) (take-add k l x) in
     let whole : (p : List ℕ)
         → (p ++ take k x) ++ take l rest ≡ p ++ take ((i.blocks + j.blocks) * n) x =
-    λ (p : List ℕ). append_assoc p (take k x) (take l rest) ∙ ap (λ (z : List ℕ). p ++ z) (sym split) in
+    λ (p : List ℕ).
+    append_assoc p (take k x) (take l rest) ∙ ap (λ (z : List ℕ). p ++ z) (sym split) in
     let P : List ℕ → Type 0 = HasTaken new in
     record {
       blocks = i.blocks + j.blocks;

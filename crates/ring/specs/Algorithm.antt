@@ -5,7 +5,9 @@ use Rattle.ring_core.specs.Sha2 as sha2
 use Rattle.ring.specs.State.{state_word_len, words}
 use Rattle.ring.specs.declared.digest.algorithm.Algorithm.{Algorithm}
 use Rattle.ring.specs.declared.digest.algorithm.AlgorithmId.{AlgorithmId}
-use Rattle.ring.specs.declared.digest.algorithm.AlgorithmId.TheVariants.{Sha1, Sha256, Sha384, Sha512, Sha512_256}
+use Rattle.ring.specs.declared.digest.algorithm.AlgorithmId.TheVariants.{
+  Sha1, Sha256, Sha384, Sha512, Sha512_256,
+}
 use Rattle.ring.specs.declared.digest.dynstate.DynState.{DynState}
 
 -- a row of the table: all lengths in bytes
@@ -19,11 +21,26 @@ pub record Row : Type 0 where
 
 -- the five rows
 abbrev pub row_of : AlgorithmId → Row
-row_of Sha1 = record { word_len = 4; block_len = 64; length_len = 8; output_len = 20; chaining_len = 20; max_input_len = 2 ^ 61 - 1 }
-row_of Sha256 = record { word_len = 4; block_len = 64; length_len = 8; output_len = 32; chaining_len = 32; max_input_len = 2 ^ 61 - 1 }
-row_of Sha384 = record { word_len = 8; block_len = 128; length_len = 16; output_len = 48; chaining_len = 64; max_input_len = 2 ^ 125 - 1 }
-row_of Sha512 = record { word_len = 8; block_len = 128; length_len = 16; output_len = 64; chaining_len = 64; max_input_len = 2 ^ 125 - 1 }
-row_of Sha512_256 = record { word_len = 8; block_len = 128; length_len = 16; output_len = 32; chaining_len = 64; max_input_len = 2 ^ 125 - 1 }
+row_of Sha1 = record {
+  word_len = 4; block_len = 64; length_len = 8;
+  output_len = 20; chaining_len = 20; max_input_len = 2 ^ 61 - 1;
+}
+row_of Sha256 = record {
+  word_len = 4; block_len = 64; length_len = 8;
+  output_len = 32; chaining_len = 32; max_input_len = 2 ^ 61 - 1;
+}
+row_of Sha384 = record {
+  word_len = 8; block_len = 128; length_len = 16;
+  output_len = 48; chaining_len = 64; max_input_len = 2 ^ 125 - 1;
+}
+row_of Sha512 = record {
+  word_len = 8; block_len = 128; length_len = 16;
+  output_len = 64; chaining_len = 64; max_input_len = 2 ^ 125 - 1;
+}
+row_of Sha512_256 = record {
+  word_len = 8; block_len = 128; length_len = 16;
+  output_len = 32; chaining_len = 64; max_input_len = 2 ^ 125 - 1;
+}
 
 -- an algorithm's row
 abbrev pub row : Algorithm → Row
@@ -53,7 +70,8 @@ chaining_len a = (row_of a.id).chaining_len
 abbrev pub word_count : Algorithm → ℕ
 word_count a = chaining_len a / word_len a
 
--- the most bytes that a message may have: its bits are below 2^64, or below 2^128 for blocks of 128 bytes
+-- the most bytes that a message may have: its bits are below 2^64, or below 2^128 for blocks of 128
+-- bytes
 abbrev pub max_input_len : Algorithm → ℕ
 max_input_len a = (row_of a.id).max_input_len
 
@@ -72,7 +90,8 @@ name_of a = name_of_id a.id
 abbrev pub initial_words_of_id : AlgorithmId → List ℕ
 initial_words_of_id Sha1 = 0x67452301 ∷ 0xefcdab89 ∷ 0x98badcfe ∷ 0x10325476 ∷ 0xc3d2e1f0 ∷ []
 initial_words_of_id Sha256 =
-    0x6a09e667 ∷ 0xbb67ae85 ∷ 0x3c6ef372 ∷ 0xa54ff53a ∷ 0x510e527f ∷ 0x9b05688c ∷ 0x1f83d9ab ∷ 0x5be0cd19 ∷ []
+    0x6a09e667 ∷ 0xbb67ae85 ∷ 0x3c6ef372 ∷ 0xa54ff53a
+    ∷ 0x510e527f ∷ 0x9b05688c ∷ 0x1f83d9ab ∷ 0x5be0cd19 ∷ []
 initial_words_of_id Sha384 =
     0xcbbb9d5dc1059ed8 ∷ 0x629a292a367cd507 ∷ 0x9159015a3070dd17 ∷ 0x152fecd8f70e5939
     ∷ 0x67332667ffc00b31 ∷ 0x8eb44a8768581511 ∷ 0xdb0c2e0d64f98fa7 ∷ 0x47b5481dbefa4fa4 ∷ []

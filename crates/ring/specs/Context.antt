@@ -1,5 +1,7 @@
 -- What contexts stand for, and what they count.
-use Rattle.std.specs.Prelude.{◌≡◌, ℕ, ◌+◌, ◌-◌, ◌*◌, ◌≤◌, ◌^◌, min, List, ◌++◌, length, take, drop, replicate}
+use Rattle.std.specs.Prelude.{
+  ◌≡◌, ℕ, ◌+◌, ◌-◌, ◌*◌, ◌≤◌, ◌^◌, min, List, ◌++◌, length, take, drop, replicate,
+}
 use Rattle.ring_core.specs.Cost.{Counts, raised}
 use Rattle.ring.specs.Algorithm.{chaining_words, spare_words, word_count}
 use Rattle.ring.specs.Digest.{chain}
@@ -55,7 +57,8 @@ StandsFor c m = IsJoined c m
 
 -- the block context `old` became `new` by the blocks, each of n bytes, at the front of `bytes`, and
 -- `left` is what comes after them
-pub record HasMoved (n : ℕ) (old new : BlockContext) (bytes left : List ℕ) (before after : Counts) : Type 0 where
+pub record HasMoved (n : ℕ) (old new : BlockContext) (bytes left : List ℕ)
+    (before after : Counts) : Type 0 where
   pub blocks : ℕ
   pub fits : blocks * n ≤ length bytes
   pub rest : left ≡ drop (blocks * n) bytes

@@ -27,11 +27,13 @@ key_digest_blocks a n = if nat_le n (block_len a) then 0 else padded_blocks a n
 abbrev pub key_blocks : Algorithm → ℕ → ℕ
 key_blocks a n = key_digest_blocks a n + 2
 
--- the rounds of an output of n bytes: as many as it has tags or parts of one, but one where it has nothing
+-- the rounds of an output of n bytes: as many as it has tags or parts of one, but one where it has
+-- nothing
 abbrev pub fill_rounds : Algorithm → ℕ → ℕ
 fill_rounds a n = max 1 (div_ceil n (output_len a))
 
--- the blocks of an output of n bytes with an info of info_len bytes: from the second round on a tag comes before the info
+-- the blocks of an output of n bytes with an info of info_len bytes: from the second round on a tag
+-- comes before the info
 abbrev pub fill_blocks : (a : Algorithm) (info_len n : ℕ) → ℕ
 fill_blocks a info_len n =
     padded_blocks a (info_len + 1) + 1
@@ -47,4 +49,5 @@ iterate_blocks a salt_len c = padded_blocks a (salt_len + 4) + 1 + 2 * (c - 1)
 
 -- the blocks of a derivation of n bytes after c iterations
 abbrev pub derive_blocks : (a : Algorithm) (secret_len salt_len c n : ℕ) → ℕ
-derive_blocks a secret_len salt_len c n = key_blocks a secret_len + derive_rounds a n * iterate_blocks a salt_len c
+derive_blocks a secret_len salt_len c n =
+    key_blocks a secret_len + derive_rounds a n * iterate_blocks a salt_len c

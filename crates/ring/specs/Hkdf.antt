@@ -7,12 +7,14 @@ use Rattle.ring.specs.declared.hkdf.algorithm.Algorithm.{Algorithm}
 use Rattle.ring.specs.declared.hkdf.prk.Prk.{Prk}
 use Rattle.ring.specs.declared.hkdf.salt.Salt.{Salt}
 
--- T(i): T(0) is empty, T(i) is the tag of T(i - 1), the info and the byte i under the PRK k (section 2.3)
+-- T(i): T(0) is empty, T(i) is the tag of T(i - 1), the info and the byte i under the PRK k
+-- (section 2.3)
 unfoldable pub t_of : digest.Algorithm → (k info : List ℕ) → ℕ → List ℕ
 t_of a k info zero = []
 t_of a k info (suc i) = hmac_of a k (t_of a k info i ++ info ++ suc i ∷ [])
 
--- OKM: the first n bytes of T(1) || T(2) || .. || T(255), which is all that may be asked for (section 2.3)
+-- OKM: the first n bytes of T(1) || T(2) || .. || T(255), which is all that may be asked for
+-- (section 2.3)
 unfoldable pub okm : digest.Algorithm → (k info : List ℕ) → ℕ → List ℕ
 okm a k info n = take n (joined_blocks (t_of a k info) 255)
 

@@ -2,7 +2,8 @@
 use Rattle.std.specs.Prelude.{ℕ, ◌<◌, List, drop, slice_index}
 use Rattle.ring_core.specs.Roots.{IsRootFraction, first_primes}
 
--- eight words of w bits: the first bits of the fractional parts of the square roots of the eight primes
--- past the first `skip`
+-- eight words of w bits: the first bits of the fractional parts of the square roots of the eight
+-- primes past the first `skip`
 abbrev pub AreSquareRoots : (w skip : ℕ) → List ℕ → Type 0
-AreSquareRoots w skip ws = (t : ℕ) → t < 8 → IsRootFraction 2 w (slice_index (drop skip first_primes) t) (slice_index ws t)
+AreSquareRoots w skip ws =
+    (t : ℕ) → t < 8 → IsRootFraction 2 w (slice_index (drop skip first_primes) t) (slice_index ws t)

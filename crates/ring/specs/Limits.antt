@@ -15,14 +15,14 @@ IsTagWithin a n = block_len a + n ≤ max_input_len a
 abbrev pub IsOutputWithin : Algorithm → ℕ → Type 0
 IsOutputWithin a n = n ≤ 255 * output_len a
 
--- the rounds of an output of n bytes are within the limit of tags: the info and a number in the first, and before them
--- the tag of the round before in each further one
+-- the rounds of an output of n bytes are within the limit of tags: the info and a number in the
+-- first, and before them the tag of the round before in each further one
 pub record IsInfoWithin (a : Algorithm) (info_len n : ℕ) : Type 0 where
   pub first_round : IsTagWithin a (info_len + 1)
   pub next_rounds : output_len a < n → IsTagWithin a (output_len a + info_len + 1)
 
--- n bytes can be derived from a secret and a salt of these lengths: 4 bytes follow the salt, and they
--- number the rounds from 1 on
+-- n bytes can be derived from a secret and a salt of these lengths: 4 bytes follow the salt, and
+-- they number the rounds from 1 on
 pub record CanDerive (a : Algorithm) (secret_len salt_len n : ℕ) : Type 0 where
   pub secret : secret_len ≤ max_input_len a
   pub salt : 0 < n → IsTagWithin a (salt_len + 4)

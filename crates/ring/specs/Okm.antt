@@ -26,7 +26,8 @@ abbrev pub carried : {L : Type 0} {g : Ghosts L} → Okm L g → L
 carried o = o.len
 
 -- it stands for n bytes of output of the PRK k with this info
-pub record OkmStandsFor {L : Type 0} {g : Ghosts L} (o : Okm L g) (k info : List ℕ) (n : ℕ) : Type 0 where
+pub record OkmStandsFor {L : Type 0} {g : Ghosts L} (o : Okm L g) (k info : List ℕ)
+    (n : ℕ) : Type 0 where
   pub prk : PrkStandsFor o.prk.now k
   pub pieces : info ≡ joined o.info.now
   pub number : n ≡ o.number
@@ -36,9 +37,10 @@ pub record CanFill (a : Algorithm) (info_len number n : ℕ) : Type 0 where
   pub same_len : n ≡ number
   pub within : IsInfoWithin a info_len n
 
--- r is a key, a salt or a PRK of the digest algorithm a, made of as many bytes of output as the digests of a have: the
--- rounds are those of the PRK's own algorithm
-pub record IsMadeOf {L T : Type 0} {g : Ghosts L} (o : Okm L g) (a : Algorithm) (algorithm_of : T → Algorithm)
+-- r is a key, a salt or a PRK of the digest algorithm a, made of as many bytes of output as the
+-- digests of a have: the rounds are those of the PRK's own algorithm
+pub record IsMadeOf {L T : Type 0} {g : Ghosts L} (o : Okm L g) (a : Algorithm)
+    (algorithm_of : T → Algorithm)
     (StandsFor : T → List ℕ → Type 0) (r : Result T Unspecified) : Type 0 where
   pub ok : (k info : List ℕ) (n : ℕ) → OkmStandsFor o k info n
       → IfOk r (λ t. StandsFor t (okm (okm_algorithm o) k info (output_len a)))

@@ -13,7 +13,8 @@ IsWhole a p = length p % block_len a ≡ 0
 abbrev pub padded_with : Algorithm → List ℕ → ℕ → List ℕ
 padded_with a m z = m ++ 0x80 ∷ replicate z 0 ++ bytes_high_first (length_len a) (8 * length m)
 
--- p is the padded message m: the shortest list of that form that is a list of whole blocks (5.1.1, 5.1.2)
+-- p is the padded message m: the shortest list of that form that is a list of whole blocks (5.1.1,
+-- 5.1.2)
 pub record IsPadded (a : Algorithm) (m p : List ℕ) : Type 0 where
   pub form : (z : ℕ) × (p ≡ padded_with a m z)
   pub whole : IsWhole a p
@@ -27,6 +28,8 @@ zeros_of a n = padded_blocks a n * block_len a - (n + 1 + length_len a)
 unfoldable pub padded : Algorithm → List ℕ → List ℕ
 padded a m = padded_with a m (zeros_of a (length m))
 
--- what follows the whole blocks of a message of n bytes: the bytes x that are left of it, and the padding
+-- what follows the whole blocks of a message of n bytes: the bytes x that are left of it, and the
+-- padding
 abbrev pub tail_of : Algorithm → List ℕ → ℕ → List ℕ
-tail_of a x n = x ++ 0x80 ∷ replicate (zeros_of a (length x)) 0 ++ bytes_high_first (length_len a) (8 * n)
+tail_of a x n =
+    x ++ 0x80 ∷ replicate (zeros_of a (length x)) 0 ++ bytes_high_first (length_len a) (8 * n)

@@ -5,8 +5,10 @@ use Rattle.ring.proofs.digest.digest_counted.Goals as goal
 
 pub returns-clause-ok : goal.returns-clause-ok
 returns-clause-ok c =
-    let h = c.finish_counted.ensures.ok _ (c.update_counted.ensures.stands _ c.new-context.ensures.stands) in
-    rw (c.update_counted.ensures.algorithm ∙ c.new-context.ensures.algorithm) at h
+    let new = c.new-context.ensures in
+    let update = c.update_counted.ensures in
+    let h = c.finish_counted.ensures.ok _ (update.stands _ new.stands) in
+    rw (update.algorithm ∙ new.algorithm) at h
 
 pub returns-clause-cost : goal.returns-clause-cost
 returns-clause-cost c =

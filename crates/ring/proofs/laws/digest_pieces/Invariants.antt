@@ -4,4 +4,5 @@ use Rattle.ring.proofs.Feeding.{HasFed}
 use Rattle.ring.proofs.laws.digest_pieces.Given as goal
 
 abbrev pub invariant-pieces : goal.invariant-pieces
-invariant-pieces l = HasFed l.algorithm l.context (joined (take l.piece-index l.pieces)) l.fn.meter l.meter
+invariant-pieces l =
+    HasFed l.algorithm l.context (joined (take l.piece-index l.pieces)) l.fn.meter l.meter

@@ -5,4 +5,5 @@ use Rattle.ring.proofs.SameKeys.{hmac_of-zeros}
 use Rattle.ring.proofs.laws.law_7.Goals as goal
 
 pub returns : goal.returns
-returns c = λ a secret. sym (hmac_of-zeros a [] secret (output_len a) (omega (arith, output_below a)))
+returns c = λ a secret.
+    sym (hmac_of-zeros a [] secret (output_len a) (omega (arith, output_below a)))

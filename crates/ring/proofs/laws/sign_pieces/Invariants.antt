@@ -4,4 +4,5 @@ use Rattle.ring.proofs.Signing.{HasSigned}
 use Rattle.ring.proofs.laws.sign_pieces.Given as goal
 
 abbrev pub invariant-parts : goal.invariant-parts
-invariant-parts l = HasSigned l.key l.context (joined (take l.piece-index l.pieces)) l.fn.meter l.meter
+invariant-parts l =
+    HasSigned l.key l.context (joined (take l.piece-index l.pieces)) l.fn.meter l.meter

@@ -3,4 +3,8 @@ use Rattle.ring.specs.Pieces.{joined}
 use Rattle.ring.proofs.limits.joined_len.Given as goal
 
 abbrev pub invariant-loop-piece : goal.invariant-loop-piece
-invariant-loop-piece l = record { sum : l.len ≡ length (joined (take l.piece-index l.pieces)); most : l.len ≤ l.piece-index * 18446744073709551615 }
+invariant-loop-piece l =
+    record {
+      sum : l.len ≡ length (joined (take l.piece-index l.pieces));
+      most : l.len ≤ l.piece-index * 18446744073709551615
+    }

@@ -7,12 +7,15 @@ use Rattle.ring.proofs.digest.algorithm.constants_are_their_rows.Goals as goal
 
 pub returns-clause-sha256_words : goal.returns-clause-sha256_words
 unfolding first_primes
-returns-clause-sha256_words c = λ t below. fraction_at 2 32 first_primes (initial_words_of_id Sha256) t refl below
+returns-clause-sha256_words c = λ t below.
+    fraction_at 2 32 first_primes (initial_words_of_id Sha256) t refl below
 
 pub returns-clause-sha384_words : goal.returns-clause-sha384_words
 unfolding first_primes
-returns-clause-sha384_words c = λ t below. fraction_at 2 64 (drop 8 first_primes) (initial_words_of_id Sha384) t refl below
+returns-clause-sha384_words c = λ t below.
+    fraction_at 2 64 (drop 8 first_primes) (initial_words_of_id Sha384) t refl below
 
 pub returns-clause-sha512_words : goal.returns-clause-sha512_words
 unfolding first_primes
-returns-clause-sha512_words c = λ t below. fraction_at 2 64 first_primes (initial_words_of_id Sha512) t refl below
+returns-clause-sha512_words c = λ t below.
+    fraction_at 2 64 first_primes (initial_words_of_id Sha512) t refl below

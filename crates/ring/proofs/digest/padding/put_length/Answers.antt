@@ -1,6 +1,4 @@
-use Rattle.std.proofs.Common.{
-  ◌≡◌, ◌∙◌, ℕ, ◌*◌, ap, List, arith, drop, refl, rules, sym, take,
-}
+use Rattle.std.proofs.Common.{◌≡◌, ◌∙◌, ℕ, ◌*◌, ap, List, arith, drop, refl, rules, sym, take}
 use Rattle.std.specs.Int.{bytes_high_first}
 use Rattle.ring.specs.Algorithm.{length_len}
 use Rattle.ring.proofs.Rows.{short_field}

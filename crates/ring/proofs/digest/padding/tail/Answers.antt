@@ -4,7 +4,9 @@ use Rattle.ring.proofs.digest.padding.tail.Goals as goal
 
 pub returns-clause-bytes : goal.returns-clause-bytes
 returns-clause-bytes c =
+    let pending = c.args.pending.now in
+    let block = c.block_len-block_len in
+    let len = ((length pending + c.length_len.result) / block.result + 1) * block.result in
     rw (c.put_length.ensures, c.copy_from_slice.ensures.after)
-    (tail_written c.args.algorithm c.args.pending.now c.args.message_len
-    (((length c.args.pending.now + c.length_len.result) / c.block_len-block_len.result + 1) * c.block_len-block_len.result)
-    c.requires.partial (rw (c.length_len.ensures, c.block_len-block_len.ensures) refl))
+    (tail_written c.args.algorithm pending c.args.message_len len c.requires.partial
+    (rw (c.length_len.ensures, block.ensures) refl))

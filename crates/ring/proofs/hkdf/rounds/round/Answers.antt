@@ -1,4 +1,6 @@
-use Rattle.std.proofs.Common.{◌≡◌, ◌+◌, ◌++◌, ◌∷◌, [], length, ap, ◌∙◌, arith, append-nil, length-append}
+use Rattle.std.proofs.Common.{
+  ◌≡◌, ◌+◌, ◌++◌, ◌∷◌, [], length, ap, ◌∙◌, arith, append-nil, length-append,
+}
 use Rattle.std.proofs.lemmas.List.{take_all}
 use Rattle.ring_core.specs.Cost.{raised}
 use Rattle.ring.specs.Cost.{padded_blocks}
@@ -11,7 +13,8 @@ pub loop-piece-init : goal.loop-piece-init
 loop-piece-init c =
     let new = c.with_key-context.ensures in
     let more = c.update_counted.ensures in
-    let none = signed_none {m = c.args.meter.now} new.algorithm new.counted new.pending new.stands in
+    let none =
+    signed_none {m = c.args.meter.now} new.algorithm new.counted new.pending new.stands in
     let previous = c.args.previous.now in
     let begun =
     signed_more previous none more.algorithm more.counted more.pending more.stands more.cost in

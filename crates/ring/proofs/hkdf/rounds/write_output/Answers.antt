@@ -6,7 +6,9 @@ use Rattle.ring.specs.Cost.{padded_blocks}
 use Rattle.ring.specs.Hkdf.{t_of}
 use Rattle.ring.specs.Hmac.{key_algorithm}
 use Rattle.ring.specs.Pieces.{joined}
-use Rattle.ring.proofs.Expanding.{cost_first, cost_next, first_round, next_round, round-lt, rounds_at, written-last, written-next}
+use Rattle.ring.proofs.Expanding.{
+  cost_first, cost_next, first_round, next_round, round-lt, rounds_at, written-last, written-next,
+}
 use Rattle.ring.proofs.Pieces.{joined_blocks-none}
 use Rattle.ring.proofs.hkdf.rounds.write_output.Goals as goal
 
@@ -35,7 +37,8 @@ loop-out-preserved c =
     let tag = c.as_ref-in-loop-out.ensures in
     let end = c.loop-out.written + c.output_len-output_len.result in
     let len : c.output_len-output_len.result ≡ output_len a =
-    c.output_len-output_len.ensures ∙ ap output_len (c.digest_algorithm.ensures ∙ c.algorithm.ensures) in
+    c.output_len-output_len.ensures
+    ∙ ap output_len (c.digest_algorithm.ensures ∙ c.algorithm.ensures) in
     let place : end ≡ (c.loop-out.rounds + 1) * output_len a = omega (arith, len, before.place) in
     let few = round-lt (output_len a) _ end (length c.loop-out.out) place in
     record {
@@ -56,7 +59,8 @@ returns-clause-ok c k h =
     let a = key_algorithm c.args.key.now in
     let before = c.loop-out.invariant in
     let len : c.output_len-output_len.result ≡ output_len a =
-    c.output_len-output_len.ensures ∙ ap output_len (c.digest_algorithm.ensures ∙ c.algorithm.ensures) in
+    c.output_len-output_len.ensures
+    ∙ ap output_len (c.digest_algorithm.ensures ∙ c.algorithm.ensures) in
     let left = length c.loop-out.out - c.loop-out.written in
     let short : left ≤ output_len a = omega arith in
     let whole : length c.loop-out.out ≡ c.loop-out.written + left = omega (arith, before.in_out) in
@@ -69,10 +73,12 @@ returns-clause-cost c =
     let i = length (joined c.args.info.now) in
     let before = c.loop-out.invariant in
     let len : c.output_len-output_len.result ≡ output_len a =
-    c.output_len-output_len.ensures ∙ ap output_len (c.digest_algorithm.ensures ∙ c.algorithm.ensures) in
+    c.output_len-output_len.ensures
+    ∙ ap output_len (c.digest_algorithm.ensures ∙ c.algorithm.ensures) in
     let number = c.loop-out.rounds in
     let at_end = rounds_at a number c.loop-out.written (length c.args.out.now) before.place in
-    let rounds = at_end (omega arith) (omega arith) (λ h. (let p = before.needed h in omega arith)) in
+    let rounds =
+    at_end (omega arith) (omega arith) (λ h. (let more = before.needed h in omega arith)) in
+    let first = padded_blocks a (i + 1) + 1 in
     let next = padded_blocks a (output_len a + i + 1) + 1 in
-    before.cost
-    ∙ ap (λ (z : ℕ). raised c.args.meter.now (padded_blocks a (i + 1) + 1 + z * next) 0) (sym rounds)
+    before.cost ∙ ap (λ (z : ℕ). raised c.args.meter.now (first + z * next) 0) (sym rounds)

@@ -4,5 +4,8 @@ use Rattle.ring.proofs.hmac.key.filled_up.Goals as goal
 
 pub returns : goal.returns
 returns c =
-    ap (λ (z : List ℕ). z ++ drop (length c.args.bytes.now) (replicate 128 0)) c.copy_from_slice.ensures.after
-    ∙ ap (λ (z : List ℕ). c.args.bytes.now ++ z) (drop-replicate {X = ℕ} (length c.args.bytes.now) 128 0)
+    let bytes = c.args.bytes.now in
+    let zeros = drop-replicate {X = ℕ} (length bytes) 128 0 in
+    let copied = c.copy_from_slice.ensures.after in
+    ap (λ (z : List ℕ). z ++ drop (length bytes) (replicate 128 0)) copied
+    ∙ ap (λ (z : List ℕ). bytes ++ z) zeros

@@ -4,7 +4,9 @@ use Rattle.ring.proofs.Rounds.{HasWritten}
 use Rattle.ring.proofs.pbkdf2.rounds.write_rounds.Given as goal
 
 abbrev pub invariant-rounds : goal.invariant-rounds
-invariant-rounds l = HasWritten l.key l.salt (non_zero_u32_get l.iterations) l.number l.written l.out l.fn.meter l.meter
+invariant-rounds l =
+    let iterations = non_zero_u32_get l.iterations in
+    HasWritten l.key l.salt iterations l.number l.written l.out l.fn.meter l.meter
 
 abbrev pub decreases-rounds : goal.decreases-rounds
 decreases-rounds l = length l.out - l.written

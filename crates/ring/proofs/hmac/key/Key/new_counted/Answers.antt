@@ -8,4 +8,7 @@ use Rattle.ring.proofs.hmac.key.Key.new_counted.Goals as goal
 pub returns-clause-cost : goal.returns-clause-cost
 returns-clause-cost c =
     let digest = rw c.digest_algorithm-algorithm.ensures at c.in_ok-block.ensures.cost in
-    c.masked_state-outer.ensures.cost ∙ rw (c.masked_state-inner.ensures.cost, digest) (raised-raised (raised c.args.meter.now (key_digest_blocks (based_on c.args.algorithm) (length c.args.key_value.now)) 0) 1 0 1 0 ∙ raised-raised c.args.meter.now _ 0 2 0)
+    let blocks = key_digest_blocks (based_on c.args.algorithm) (length c.args.key_value.now) in
+    let after = raised c.args.meter.now blocks 0 in
+    c.masked_state-outer.ensures.cost ∙ rw (c.masked_state-inner.ensures.cost, digest)
+    (raised-raised after 1 0 1 0 ∙ raised-raised c.args.meter.now blocks 0 2 0)

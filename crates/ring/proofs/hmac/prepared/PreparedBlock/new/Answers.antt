@@ -21,5 +21,6 @@ invariant_of-result c =
     let one : tail.result.1 ≡ block_len a = one_tail a (length room) _ lx tail.ensures.len in
     let copied = c.copy_from_slice.ensures.after in
     let ly : length c.copy_from_slice.new.self ≡ block_len a =
-    ap length copied ∙ length-take-le _ tail.result.0 (omega (arith, one, block_len-most a)) ∙ one in
+    ap length copied ∙ length-take-le _ tail.result.0 (omega (arith, one, block_len-most a))
+    ∙ one in
     record { padded = padding-made a room _ lx ly ln (copied ∙ tail.ensures.bytes) }

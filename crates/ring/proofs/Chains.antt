@@ -1,17 +1,15 @@
 -- How a chain follows a list of whole blocks as it grows.
-use Rattle.std.proofs.Common.{
-  refl, ◌≤◌, ◌≡◌, ℕ, zero, ◌+◌, ◌-◌, ◌*◌, ◌/◌, ◌%◌, ◌<◌, List, [], ◌++◌, length, take, drop, sym,
-  ap, ◌∙◌, arith, add_comm, length-append, length-drop, replicate,
-}
+use Rattle.std.proofs.Common.{◌≤◌, ◌≡◌, ℕ, zero, ◌+◌, ◌-◌, ◌*◌, ◌/◌, ◌%◌, ◌<◌, List, [], ◌++◌}
+use Rattle.std.proofs.Common.{length, take, drop, sym, ap, ◌∙◌, arith, add_comm, length-append}
+use Rattle.std.proofs.Common.{length-drop, replicate}
 use Rattle.std.proofs.lemmas.List.{length-take-le, take-append-drop}
 use Rattle.std.proofs.Math.Nat.{mul-div_cancel, div-mul-le_self, add-mul-div_left}
 use Rattle.std.proofs.lemmas.Nat.{div-add-mod', mod-mul-add, div-mul-add, mod_below}
 use Rattle.ring_core.specs.Chunks.{chained}
 use Rattle.ring_core.specs.Cost.{Counts, raised}
 use Rattle.ring_core.proofs.Chained.{chained-none, chained-then, chained-append}
-use Rattle.ring.specs.Algorithm.{
-  block_function, block_len, initial_words, chaining_words, spare_words, word_count,
-}
+use Rattle.ring.specs.Algorithm.{block_function, block_len, initial_words, chaining_words}
+use Rattle.ring.specs.Algorithm.{spare_words, word_count}
 use Rattle.ring.specs.Context.{HasMoved, HasTaken, cut_off}
 use Rattle.ring.specs.Cost.{whole_blocks}
 use Rattle.ring.specs.Digest.{chain}

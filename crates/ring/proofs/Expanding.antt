@@ -1,8 +1,7 @@
 -- An output, round by round, and what its rounds cost.
-use Rattle.std.proofs.Common.{
-  ◌≡◌, ℕ, zero, suc, ◌+◌, ◌-◌, ◌*◌, ◌<◌, ◌≤◌, List, [], ◌∷◌, ◌++◌, length, take, drop, refl, sym,
-  ap, ◌∙◌, arith, add-one, append-nil, length-take-le, suc-mul,
-}
+use Rattle.std.proofs.Common.{◌≡◌, ℕ, zero, suc, ◌+◌, ◌-◌, ◌*◌, ◌<◌, ◌≤◌, List, [], ◌∷◌, ◌++◌}
+use Rattle.std.proofs.Common.{length, take, drop, refl, sym, ap, ◌∙◌, arith, add-one, append-nil}
+use Rattle.std.proofs.Common.{length-take-le, suc-mul}
 use Rattle.std.proofs.Math.Nat.{lt_of_mul-lt-mul_right}
 use Rattle.std.proofs.lemmas.List.{at_drop_all}
 use Rattle.std.proofs.lemmas.Grind.{div_ceil_times}
@@ -99,7 +98,7 @@ pub record IsWritten (key : Key) (info : List ℕ) (r written : ℕ) (tag : Tag)
       → take written out ≡ joined_blocks (t_of (key_algorithm key) k info) r
   pub cost : now ≡ raised before (padded_blocks (key_algorithm key) (length info + 1) + 1
       + r * (padded_blocks (key_algorithm key) (output_len (key_algorithm key) + length info + 1)
-          + 1)) 0
+      + 1)) 0
 
 module _ {key : Key} {info : List ℕ} {r w : ℕ} {tag : Tag} {out : List ℕ} {m0 m1 : Counts} where
   -- the tag, of L bytes, is written too
@@ -139,8 +138,8 @@ module _ {key : Key} {info : List ℕ} {r w : ℕ} {tag : Tag} {out : List ℕ} 
       → n ≡ output_len (key_algorithm key)
       → m2 ≡ raised m1 (padded_blocks (key_algorithm key) (n + length info + 1) + 1) 0
       → m2 ≡ raised m0 (padded_blocks (key_algorithm key) (length info + 1) + 1
-          + (r + 1) * (padded_blocks (key_algorithm key)
-              (output_len (key_algorithm key) + length info + 1) + 1)) 0
+      + (r + 1) * (padded_blocks (key_algorithm key)
+      (output_len (key_algorithm key) + length info + 1) + 1)) 0
   cost_next t en em = turn _ _ r t.cost (rw en at em)
     where
       turn : (x y r : ℕ) {m1 m2 : Counts} → m1 ≡ raised m0 (x + r * y) 0 → m2 ≡ raised m1 y 0

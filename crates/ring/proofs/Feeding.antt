@@ -1,8 +1,7 @@
 -- A digest context that takes a message piece by piece: what it stands for, what it counts and what
 -- that costs.
-use Rattle.std.proofs.Common.{
-  ◌≡◌, ℕ, ◌+◌, ◌%◌, ◌<◌, List, [], ◌++◌, length, take, ◌∙◌, arith, length-append, slice_index_or,
-}
+use Rattle.std.proofs.Common.{◌≡◌, ℕ, ◌+◌, ◌%◌, ◌<◌, List, [], ◌++◌, length, take, ◌∙◌, arith}
+use Rattle.std.proofs.Common.{length-append, slice_index_or}
 use Rattle.std.specs.Borrow.{Bor}
 use Rattle.ring_core.specs.Cost.{Counts, raised}
 use Rattle.ring.specs.Algorithm.{block_len}

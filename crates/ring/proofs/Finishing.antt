@@ -1,15 +1,13 @@
 -- How the last blocks make up the padding.
-use Rattle.std.proofs.Common.{
-  ◌≡◌, ℕ, ◌+◌, ◌-◌, ◌*◌, ◌^◌, ◌≤◌, IsTrue, List, ◌++◌, length, replicate, ap, ◌∙◌, arith, rules,
-  length-append, min, sym, append_assoc, take,
-}
+use Rattle.std.proofs.Common.{◌≡◌, ℕ, ◌+◌, ◌-◌, ◌*◌, ◌^◌, ◌≤◌, IsTrue, List, ◌++◌, length}
+use Rattle.std.proofs.Common.{replicate, ap, ◌∙◌, arith, rules, length-append, min, sym}
+use Rattle.std.proofs.Common.{append_assoc, take}
 use Rattle.ring.proofs.Lengths.{length-chain}
 use Rattle.std.proofs.lemmas.List.Concat.{flat_map-append}
 use Rattle.std.proofs.lemmas.List.{take-append-le, take-append-drop}
 use Rattle.std.specs.Int.{bytes_high_first}
-use Rattle.ring.specs.Algorithm.{
-  is_state_of, max_input_len, output_len, word_len, chaining_words, spare_words, word_count,
-}
+use Rattle.ring.specs.Algorithm.{is_state_of, max_input_len, output_len, word_len, chaining_words}
+use Rattle.ring.specs.Algorithm.{spare_words, word_count}
 use Rattle.ring.specs.Context.{HasTaken}
 use Rattle.ring.specs.Digest.{chain, digest_of}
 use Rattle.ring.specs.Padding.{padded}

@@ -1,11 +1,9 @@
 -- How a key is made one block, and what keys and tags cost.
-use Rattle.std.proofs.Common.{
-  ◌≡◌, ℕ, ◌+◌, ◌-◌, ◌<◌, ◌≤◌, List, [], ◌++◌, length, take, replicate, nat_le, true, false, Bool,
-  if◌then◌else◌, rules, refl, sym, ap, subst, ◌∙◌, arith, length-append, append_assoc, lit<,
-}
-use Rattle.std.proofs.lemmas.List.{
-  take_at, replicate-append-replicate, length-replicate, length-map,
-}
+use Rattle.std.proofs.Common.{◌≡◌, ℕ, ◌+◌, ◌-◌, ◌<◌, ◌≤◌, List, [], ◌++◌, length, take, replicate}
+use Rattle.std.proofs.Common.{nat_le, true, false, Bool, if◌then◌else◌, rules, refl, sym, ap, subst}
+use Rattle.std.proofs.Common.{◌∙◌, arith, length-append, append_assoc, lit<}
+use Rattle.std.proofs.lemmas.List.{take_at, replicate-append-replicate, length-replicate}
+use Rattle.std.proofs.lemmas.List.{length-map}
 use Rattle.ring_core.specs.Cost.{Counts, raised}
 use Rattle.ring_core.proofs.Costs.{raised-raised}
 use Rattle.ring.specs.Algorithm.{block_len, length_len, output_len, row_of}
@@ -16,9 +14,8 @@ use Rattle.ring.specs.Hmac.{IsTag, TagStandsFor, hmac_of, signing_algorithm}
 use Rattle.ring.specs.KeyBlocks.{inner_block, key_block, outer_block, short_key}
 use Rattle.ring.specs.declared.digest.algorithm.Algorithm.{Algorithm}
 use Rattle.ring.specs.declared.digest.algorithm.AlgorithmId.{AlgorithmId}
-use Rattle.ring.specs.declared.digest.algorithm.AlgorithmId.TheVariants.{
-  Sha1, Sha256, Sha384, Sha512, Sha512_256,
-}
+use Rattle.ring.specs.declared.digest.algorithm.AlgorithmId.TheVariants.{Sha1, Sha256, Sha384}
+use Rattle.ring.specs.declared.digest.algorithm.AlgorithmId.TheVariants.{Sha512, Sha512_256}
 use Rattle.ring.specs.declared.digest.block_context.BlockContext.{BlockContext}
 use Rattle.ring.specs.declared.digest.value.Digest.{Digest}
 use Rattle.ring.specs.declared.hmac.context.Context.{Context}

@@ -1,25 +1,21 @@
 -- The length of a digest, and costs of whole messages.
-use Rattle.std.proofs.Common.{
-  ◌≡◌, ℕ, ◌+◌, ◌-◌, ◌*◌, ◌/◌, ◌%◌, inl, inr, List, length, refl, sym, ap, ◌∙◌, arith,
-  length-take-le,
-}
+use Rattle.std.proofs.Common.{◌≡◌, ℕ, ◌+◌, ◌-◌, ◌*◌, ◌/◌, ◌%◌, inl, inr, List, length, refl, sym}
+use Rattle.std.proofs.Common.{ap, ◌∙◌, arith, length-take-le}
 use Rattle.ring_core.specs.Sha1 as sha1
 use Rattle.ring_core.specs.Sha2 as sha2
 use Rattle.ring_core.specs.Cost.{Counts, raised}
 use Rattle.ring_core.proofs.Costs.{raised-none, raised-raised}
 use Rattle.ring_core.proofs.Chained.{length-chained}
-use Rattle.ring.specs.Algorithm.{
-  block_function_of_id, row_of, word_count, block_len, initial_words_of_id, output_len, word_len,
-}
+use Rattle.ring.specs.Algorithm.{block_function_of_id, row_of, word_count, block_len}
+use Rattle.ring.specs.Algorithm.{initial_words_of_id, output_len, word_len}
 use Rattle.ring.specs.Cost.{last_blocks, padded_blocks, whole_blocks}
 use Rattle.ring.specs.Digest.{chain, digest_of}
 use Rattle.ring.specs.Padding.{padded}
 use Rattle.ring.specs.State.{word_bytes}
 use Rattle.ring.specs.declared.digest.algorithm.Algorithm.{Algorithm}
 use Rattle.ring.specs.declared.digest.algorithm.AlgorithmId.{AlgorithmId}
-use Rattle.ring.specs.declared.digest.algorithm.AlgorithmId.TheVariants.{
-  Sha1, Sha256, Sha384, Sha512, Sha512_256,
-}
+use Rattle.ring.specs.declared.digest.algorithm.AlgorithmId.TheVariants.{Sha1, Sha256, Sha384}
+use Rattle.ring.specs.declared.digest.algorithm.AlgorithmId.TheVariants.{Sha512, Sha512_256}
 use Rattle.ring.proofs.Outputs.{length-word_bytes}
 use Rattle.ring.proofs.Rows.{output_len-most, sizes_of}
 
@@ -111,6 +107,7 @@ module _ {a b : Algorithm} {q n : ℕ} {m0 m1 m2 : Counts} where
     where
       left : (a : Algorithm) → (n % block_len a + d) % block_len a ≡ (n + d) % block_len a
       left a = elim (sizes_of a) [ inl e ↦ rw e.0 (omega arith) | inr e ↦ rw e.0 (omega arith) ]
+
       sum : (a : Algorithm)
           → whole_blocks a n + whole_blocks a (n % block_len a + d) ≡ whole_blocks a (n + d)
       sum a = elim (sizes_of a) [ inl e ↦ rw e.0 (omega arith) | inr e ↦ rw e.0 (omega arith) ]

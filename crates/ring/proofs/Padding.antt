@@ -1,8 +1,6 @@
 -- The padding is the shortest list of its form.
-use Rattle.std.proofs.Common.{
-  ◌≡◌, ℕ, ◌+◌, ◌-◌, ◌*◌, ◌/◌, ◌%◌, ◌≤◌, inl, inr, List, ◌∷◌, ◌++◌, length, replicate, refl, ◌∙◌,
-  arith, length-append,
-}
+use Rattle.std.proofs.Common.{◌≡◌, ℕ, ◌+◌, ◌-◌, ◌*◌, ◌/◌, ◌%◌, ◌≤◌, inl, inr, List, ◌∷◌, ◌++◌}
+use Rattle.std.proofs.Common.{length, replicate, refl, ◌∙◌, arith, length-append}
 use Rattle.std.proofs.lemmas.List.{length-replicate}
 use Rattle.std.specs.Int.{bytes_high_first}
 use Rattle.ring.specs.Algorithm.{block_len, length_len}

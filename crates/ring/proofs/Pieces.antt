@@ -1,9 +1,7 @@
 -- Numbered blocks of one length, one after another, and their fronts.
-use Rattle.std.proofs.Common.{
-  ◌≡◌, ℕ, List, [], ◌∷◌, ◌++◌, ◌+◌, ◌*◌, ◌≤◌, ◌<◌, ◌↔◌, length, take, drop, suc, zero, refl, sym,
-  ◌∙◌, arith, length-append, length-take-le, mul-le-mul_right, suc-mul, append-nil, add-one,
-  slice_index_or,
-}
+use Rattle.std.proofs.Common.{◌≡◌, ℕ, List, [], ◌∷◌, ◌++◌, ◌+◌, ◌*◌, ◌≤◌, ◌<◌, ◌↔◌, length, take}
+use Rattle.std.proofs.Common.{drop, suc, zero, refl, sym, ◌∙◌, arith, length-append, length-take-le}
+use Rattle.std.proofs.Common.{mul-le-mul_right, suc-mul, append-nil, add-one, slice_index_or}
 use Rattle.std.specs.Borrow.{Bor}
 use Rattle.std.proofs.lemmas.List.{take_more, take-append-le}
 use Rattle.std.proofs.lemmas.Grind.{flat_map-append}

@@ -1,8 +1,7 @@
 -- A message of a digest's length, signed by one block after each masked block of the key.
-use Rattle.std.proofs.Common.{
-  ◌≡◌, ℕ, ◌+◌, ◌-◌, ◌*◌, ◌/◌, List, ◌∷◌, ◌++◌, length, take, drop, replicate, refl, sym, ap, ◌∙◌,
-  arith, length-append, length-take-le, append_assoc,
-}
+use Rattle.std.proofs.Common.{◌≡◌, ℕ, ◌+◌, ◌-◌, ◌*◌, ◌/◌, List, ◌∷◌, ◌++◌, length, take, drop}
+use Rattle.std.proofs.Common.{replicate, refl, sym, ap, ◌∙◌, arith, length-append, length-take-le}
+use Rattle.std.proofs.Common.{append_assoc}
 use Rattle.std.proofs.lemmas.List.{drop-take, drop_at, take_at}
 use Rattle.std.proofs.Math.Nat.{div_self, mod_self}
 use Rattle.std.proofs.Math.Seq.{take-append-add}

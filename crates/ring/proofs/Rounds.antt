@@ -1,9 +1,7 @@
 -- Rounds written, or compared, one after another.
-use Rattle.std.proofs.Common.{
-  ◌≡◌, ◌↔◌, ℕ, suc, ◌+◌, ◌-◌, ◌*◌, ◌<◌, ◌≤◌, min, Bool, true, false, ◌&&◌, List, ◌++◌, length, take,
-  drop, refl, sym, ap, ◌∙◌, arith, add-one, suc-mul, zero-mul, length-drop, length-take-le,
-  take_all,
-}
+use Rattle.std.proofs.Common.{◌≡◌, ◌↔◌, ℕ, suc, ◌+◌, ◌-◌, ◌*◌, ◌<◌, ◌≤◌, min, Bool, true, false}
+use Rattle.std.proofs.Common.{◌&&◌, List, ◌++◌, length, take, drop, refl, sym, ap, ◌∙◌, arith}
+use Rattle.std.proofs.Common.{add-one, suc-mul, zero-mul, length-drop, length-take-le, take_all}
 use Rattle.std.proofs.Math.Nat.{lt_of_mul-lt-mul_right}
 use Rattle.std.proofs.lemmas.Grind.{div_ceil_times}
 use Rattle.std.proofs.lemmas.Slice.{take-put_mid}
@@ -140,7 +138,7 @@ module _ {key : Key} {s : List ℕ} {c n r w pairs : ℕ} {m0 m1 : Counts} where
 
   run-all : HasRun key s c n r w pairs m0 m1 → n ≤ w
       → m1 ≡ raised m0 (derive_rounds (key_algorithm key) n
-          * iterate_blocks (key_algorithm key) (length s) c) pairs
+      * iterate_blocks (key_algorithm key) (length s) c) pairs
   run-all t all =
       let b : ℕ = iterate_blocks (key_algorithm key) (length s) c in
       t.cost ∙ ap (λ (z : ℕ). raised m0 (z * b) pairs) (sym (reached-all t.reached all).1)
@@ -163,7 +161,7 @@ module _ {key : Key} {s : List ℕ} {c r w : ℕ} {out : List ℕ} {m0 m1 : Coun
       → w < length out → end ≡ w + k → k ≡ min (output_len (key_algorithm key)) (length out - w)
       → length ys ≡ length (take k (drop w out))
       → ((p : List ℕ) → KeyStandsFor key p
-          → ys ≡ take (length (take k (drop w out))) (xored (key_algorithm key) p s (r + 1) c))
+      → ys ≡ take (length (take k (drop w out))) (xored (key_algorithm key) p s (r + 1) c))
       → m2 ≡ raised m1 (iterate_blocks (key_algorithm key) (length s) c) 0
       → HasWritten key s c (r + 1) end (put_mid w k out ys) m0 m2
   written-next {k = k} {ys = ys} t more ee ek ly h em =
@@ -184,7 +182,7 @@ module _ {key : Key} {s : List ℕ} {c r w : ℕ} {out : List ℕ} {m0 m1 : Coun
   pub written-all : HasWritten key s c r w out m0 m1 → length out ≤ w
       → ((p : List ℕ) → KeyStandsFor key p → out ≡ dk (key_algorithm key) p s c (length out))
       × (m1 ≡ raised m0 (derive_rounds (key_algorithm key) (length out)
-          * iterate_blocks (key_algorithm key) (length s) c) 0)
+      * iterate_blocks (key_algorithm key) (length s) c) 0)
   written-all t all = (
     λ p stands. sym (take_all w out all) ∙ t.front p stands
         ∙ sym (rounds-all p s c t.run.reached all),
@@ -213,10 +211,10 @@ module _ {key : Key} {s : List ℕ} {c r w : ℕ} {m : Bool} {value : List ℕ} 
       → w < length value → end ≡ w + k
       → k ≡ min (output_len (key_algorithm key)) (length value - w)
       → ((p : List ℕ) → KeyStandsFor key p → (b ≡ true)
-          ↔ (take k (drop w value)
-          ≡ take (length (take k (drop w value))) (xored (key_algorithm key) p s (r + 1) c)))
+      ↔ (take k (drop w value)
+      ≡ take (length (take k (drop w value))) (xored (key_algorithm key) p s (r + 1) c)))
       → m2 ≡ raised m1 (iterate_blocks (key_algorithm key) (length s) c)
-          (length (take k (drop w value)))
+      (length (take k (drop w value)))
       → HasCompared key s c (r + 1) end (m && b) value m0 m2
   compared-next {k = k} {b = b} t more ee ek h em =
       let a : Algorithm = key_algorithm key in
@@ -225,8 +223,8 @@ module _ {key : Key} {s : List ℕ} {c r w : ℕ} {m : Bool} {value : List ℕ} 
       let len : length (take k (drop w value)) ≡ k = length-take-le k (drop w value) room in
       let below : w ≤ length value = omega arith in
       let split : (p : List ℕ) → (take (w + k) value ≡ take (w + k) (rounds a p s c (r + 1)))
-          ↔ ((take w value ≡ take w (rounds a p s c r))
-          × (take k (drop w value) ≡ take k (xored a p s (r + 1) c))) =
+      ↔ ((take w value ≡ take w (rounds a p s c r))
+      × (take k (drop w value) ≡ take k (xored a p s (r + 1) c))) =
       λ (p : List ℕ).
       same_part value (rounds a p s c (r + 1)) w k below (length-rounds p s c reached)
       (rounds-part p s c k reached more ek) in
@@ -245,9 +243,9 @@ module _ {key : Key} {s : List ℕ} {c r w : ℕ} {m : Bool} {value : List ℕ} 
 
   pub compared-all : HasCompared key s c r w m value m0 m1 → length value ≤ w
       → ((p : List ℕ) → KeyStandsFor key p
-          → (m ≡ true) ↔ (value ≡ dk (key_algorithm key) p s c (length value)))
+      → (m ≡ true) ↔ (value ≡ dk (key_algorithm key) p s c (length value)))
       × (m1 ≡ raised m0 (derive_rounds (key_algorithm key) (length value)
-          * iterate_blocks (key_algorithm key) (length s) c) (length value))
+      * iterate_blocks (key_algorithm key) (length s) c) (length value))
   compared-all t all =
       let whole : take w value ≡ value = take_all w value all in
       let end = reached-all t.run.reached all in

@@ -1,8 +1,6 @@
 -- Keys that make one block and so sign alike.
-use Rattle.std.proofs.Common.{
-  ◌≡◌, ℕ, ◌+◌, ◌-◌, ◌<◌, ◌≤◌, List, ◌++◌, length, replicate, refl, ◌∙◌, ap, arith, length-append,
-  append_assoc,
-}
+use Rattle.std.proofs.Common.{◌≡◌, ℕ, ◌+◌, ◌-◌, ◌<◌, ◌≤◌, List, ◌++◌, length, replicate, refl, ◌∙◌}
+use Rattle.std.proofs.Common.{ap, arith, length-append, append_assoc}
 use Rattle.std.proofs.lemmas.List.{length-replicate, replicate-append-replicate}
 use Rattle.ring.specs.Algorithm.{block_len}
 use Rattle.ring.specs.Digest.{digest_of}

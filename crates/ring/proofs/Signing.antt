@@ -1,17 +1,14 @@
 -- A context that takes a message piece by piece: what it stands for, what it counts and what that
 -- costs.
-use Rattle.std.proofs.Common.{
-  ◌≡◌, ℕ, ◌+◌, ◌%◌, ◌<◌, List, [], ◌++◌, length, take, ◌∙◌, arith, length-append, append_assoc,
-  slice_index_or,
-}
+use Rattle.std.proofs.Common.{◌≡◌, ℕ, ◌+◌, ◌%◌, ◌<◌, List, [], ◌++◌, length, take, ◌∙◌, arith}
+use Rattle.std.proofs.Common.{length-append, append_assoc, slice_index_or}
 use Rattle.std.specs.Borrow.{Bor}
 use Rattle.ring_core.specs.Cost.{Counts, raised}
 use Rattle.ring.specs.Algorithm.{block_len}
 use Rattle.ring.specs.Context.{cut_off}
 use Rattle.ring.specs.Cost.{padded_blocks, whole_blocks}
-use Rattle.ring.specs.Hmac.{
-  KeyStandsFor, TagStandsFor, key_algorithm, signing_algorithm, signing_len, signing_pending,
-}
+use Rattle.ring.specs.Hmac.{KeyStandsFor, TagStandsFor, key_algorithm, signing_algorithm}
+use Rattle.ring.specs.Hmac.{signing_len, signing_pending}
 use Rattle.ring.specs.Pieces.{joined}
 use Rattle.ring.specs.declared.hmac.context.Context.{Context}
 use Rattle.ring.specs.declared.hmac.key.Key.{Key}

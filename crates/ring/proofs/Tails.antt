@@ -1,8 +1,7 @@
 -- What follows the whole blocks of a padded message.
-use Rattle.std.proofs.Common.{
-  ◌≡◌, ℕ, suc, ◌+◌, ◌-◌, ◌*◌, ◌/◌, ◌%◌, ◌<◌, ◌≤◌, ◌⊎◌, inl, inr, List, ◌∷◌, ◌++◌, length, take,
-  drop, replicate, slice_set, sym, ap, ◌∙◌, arith, length-append, append_assoc, drop-drop, refl,
-}
+use Rattle.std.proofs.Common.{◌≡◌, ℕ, suc, ◌+◌, ◌-◌, ◌*◌, ◌/◌, ◌%◌, ◌<◌, ◌≤◌, inl, inr, List, ◌∷◌}
+use Rattle.std.proofs.Common.{◌++◌, length, take, drop, replicate, slice_set, sym, ap, ◌∙◌, arith}
+use Rattle.std.proofs.Common.{length-append, append_assoc, drop-drop, refl}
 use Rattle.std.proofs.lemmas.List.{drop-replicate, take-replicate, length-replicate, take_at}
 use Rattle.std.proofs.Math.Seq.{set-append_seam, take-append-add}
 use Rattle.std.specs.Int.{bytes_high_first}
@@ -105,7 +104,7 @@ length-tail_of a x n =
 pub tail_written : (a : Algorithm) (x : List ℕ) (n t : ℕ) → length x < block_len a
     → t ≡ padded_blocks a (length x) * block_len a
     → take t (take (t - length_len a) (marked x) ++ bytes_high_first (length_len a) (8 * n)
-        ++ drop t (marked x))
+    ++ drop t (marked x))
     ≡ tail_of a x n
 tail_written a x n t below et =
     let z : ℕ = zeros_of a (length x) in

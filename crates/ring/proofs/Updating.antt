@@ -1,8 +1,7 @@
 -- How update keeps what a context stands for, what it counts and what it costs.
-use Rattle.std.proofs.Common.{
-  ◌≡◌, ℕ, zero, ◌+◌, ◌-◌, ◌*◌, ◌/◌, ◌%◌, ◌<◌, ◌≤◌, List, ◌++◌, length, take, drop, refl, sym, ap,
-  subst, ◌∙◌, arith, length-append, length-drop, length-take-le, append_assoc, take-add, drop-drop,
-}
+use Rattle.std.proofs.Common.{◌≡◌, ℕ, zero, ◌+◌, ◌-◌, ◌*◌, ◌/◌, ◌%◌, ◌<◌, ◌≤◌, List, ◌++◌, length}
+use Rattle.std.proofs.Common.{take, drop, refl, sym, ap, subst, ◌∙◌, arith, length-append}
+use Rattle.std.proofs.Common.{length-drop, length-take-le, append_assoc, take-add, drop-drop}
 use Rattle.std.proofs.lemmas.List.{take_all, take_at, drop_at, take-append-drop, append-nil}
 use Rattle.std.proofs.lemmas.Nat.{div-mul-add, mod-mul-add}
 use Rattle.std.proofs.lemmas.Slice.{take-put_mid}
@@ -10,9 +9,8 @@ use borrow.Rule.Slice.PartMut.{put_mid}
 use Rattle.ring_core.specs.Cost.{Counts, raised}
 use Rattle.ring_core.proofs.Costs.{raised-none, raised-raised}
 use Rattle.ring.specs.Algorithm.{block_len}
-use Rattle.ring.specs.Context.{
-  HasMoved, HasTaken, IsJoined, StandsFor, cut_off, message_len, pending_bytes, pending_len,
-}
+use Rattle.ring.specs.Context.{HasMoved, HasTaken, IsJoined, StandsFor, cut_off, message_len}
+use Rattle.ring.specs.Context.{pending_bytes, pending_len}
 use Rattle.ring.specs.Cost.{whole_blocks}
 use Rattle.ring.specs.declared.digest.algorithm.Algorithm.{Algorithm}
 use Rattle.ring.specs.declared.digest.block_context.BlockContext.{BlockContext}
@@ -89,7 +87,7 @@ moved_then {n = n} {new = new} {x = x} {rest = rest} {m0 = m0} i j =
     let split : take ((i.blocks + j.blocks) * n) x ≡ take k x ++ take l rest =
     rw (sum, i.rest) (take-add k l x) in
     let whole : (p : List ℕ)
-        → (p ++ take k x) ++ take l rest ≡ p ++ take ((i.blocks + j.blocks) * n) x =
+    → (p ++ take k x) ++ take l rest ≡ p ++ take ((i.blocks + j.blocks) * n) x =
     λ (p : List ℕ).
     append_assoc p (take k x) (take l rest) ∙ ap (λ (z : List ℕ). p ++ z) (sym split) in
     let P : List ℕ → Type 0 = HasTaken new in
@@ -124,7 +122,7 @@ pub moved_fill : (s : Context) {new : BlockContext} (d : List ℕ) {ys left rest
     {before after : Counts} (k : ℕ) → HasRoom s d k
     → ys ≡ take (k - s.num_pending) d → left ≡ drop (k - s.num_pending) d
     → HasMoved (block_len s.block.algorithm) s.block new
-        (take k (put_mid s.num_pending (k - s.num_pending) s.pending ys)) rest before after
+    (take k (put_mid s.num_pending (k - s.num_pending) s.pending ys)) rest before after
     → length rest < block_len s.block.algorithm
     → HasMoved (block_len s.block.algorithm) s.block new (pending_bytes s ++ d) left before after
 moved_fill s d {ys = ys} {left = left} k room eys el j short =
@@ -229,9 +227,9 @@ stands_blocks s m d h fits =
     let len = stands_len s m h fits in
     let more : length m + d ≡ length h.whole + (s.num_pending + d) = omega (arith, len) in
     let with_more = ap (λ (z : ℕ). z / b) more
-        ∙ whole_div-add (length h.whole) (s.num_pending + d) b pos h.taken.whole in
+    ∙ whole_div-add (length h.whole) (s.num_pending + d) b pos h.taken.whole in
     let without = ap (λ (z : ℕ). z / b) len
-        ∙ whole_div-add (length h.whole) s.num_pending b pos h.taken.whole in
+    ∙ whole_div-add (length h.whole) s.num_pending b pos h.taken.whole in
     omega (arith, with_more, without, short_div s.num_pending b s.partial)
 
 -- the count of a message that a context stands for

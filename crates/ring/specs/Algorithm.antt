@@ -5,9 +5,8 @@ use Rattle.ring_core.specs.Sha2 as sha2
 use Rattle.ring.specs.State.{state_word_len, words}
 use Rattle.ring.specs.declared.digest.algorithm.Algorithm.{Algorithm}
 use Rattle.ring.specs.declared.digest.algorithm.AlgorithmId.{AlgorithmId}
-use Rattle.ring.specs.declared.digest.algorithm.AlgorithmId.TheVariants.{
-  Sha1, Sha256, Sha384, Sha512, Sha512_256,
-}
+use Rattle.ring.specs.declared.digest.algorithm.AlgorithmId.TheVariants.{Sha1, Sha256, Sha384}
+use Rattle.ring.specs.declared.digest.algorithm.AlgorithmId.TheVariants.{Sha512, Sha512_256}
 use Rattle.ring.specs.declared.digest.dynstate.DynState.{DynState}
 
 -- a row of the table: all lengths in bytes
@@ -22,24 +21,44 @@ pub record Row : Type 0 where
 -- the five rows
 abbrev pub row_of : AlgorithmId → Row
 row_of Sha1 = record {
-  word_len = 4; block_len = 64; length_len = 8;
-  output_len = 20; chaining_len = 20; max_input_len = 2 ^ 61 - 1;
+  word_len = 4;
+  block_len = 64;
+  length_len = 8;
+  output_len = 20;
+  chaining_len = 20;
+  max_input_len = 2 ^ 61 - 1;
 }
 row_of Sha256 = record {
-  word_len = 4; block_len = 64; length_len = 8;
-  output_len = 32; chaining_len = 32; max_input_len = 2 ^ 61 - 1;
+  word_len = 4;
+  block_len = 64;
+  length_len = 8;
+  output_len = 32;
+  chaining_len = 32;
+  max_input_len = 2 ^ 61 - 1;
 }
 row_of Sha384 = record {
-  word_len = 8; block_len = 128; length_len = 16;
-  output_len = 48; chaining_len = 64; max_input_len = 2 ^ 125 - 1;
+  word_len = 8;
+  block_len = 128;
+  length_len = 16;
+  output_len = 48;
+  chaining_len = 64;
+  max_input_len = 2 ^ 125 - 1;
 }
 row_of Sha512 = record {
-  word_len = 8; block_len = 128; length_len = 16;
-  output_len = 64; chaining_len = 64; max_input_len = 2 ^ 125 - 1;
+  word_len = 8;
+  block_len = 128;
+  length_len = 16;
+  output_len = 64;
+  chaining_len = 64;
+  max_input_len = 2 ^ 125 - 1;
 }
 row_of Sha512_256 = record {
-  word_len = 8; block_len = 128; length_len = 16;
-  output_len = 32; chaining_len = 64; max_input_len = 2 ^ 125 - 1;
+  word_len = 8;
+  block_len = 128;
+  length_len = 16;
+  output_len = 32;
+  chaining_len = 64;
+  max_input_len = 2 ^ 125 - 1;
 }
 
 -- an algorithm's row

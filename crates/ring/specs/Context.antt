@@ -1,7 +1,6 @@
 -- What contexts stand for, and what they count.
-use Rattle.std.specs.Prelude.{
-  ◌≡◌, ℕ, ◌+◌, ◌-◌, ◌*◌, ◌≤◌, ◌^◌, min, List, ◌++◌, length, take, drop, replicate,
-}
+use Rattle.std.specs.Prelude.{◌≡◌, ℕ, ◌+◌, ◌-◌, ◌*◌, ◌≤◌, ◌^◌, min, List, ◌++◌, length, take, drop}
+use Rattle.std.specs.Prelude.{replicate}
 use Rattle.ring_core.specs.Cost.{Counts, raised}
 use Rattle.ring.specs.Algorithm.{chaining_words, spare_words, word_count}
 use Rattle.ring.specs.Digest.{chain}

@@ -29,8 +29,8 @@ returns-clause-unchanged c =
     let within : c.joined_len.result ≤ max_input_len c.args.algorithm.now =
     search (rules, c.if-not-is_message_within.ensures) in
     on_err_never c.finish_counted.result _ (λ refused.
-      let over = rw fed.algorithm at (c.finish_counted.ensures.refused.0 refused) in
-      omega (arith, over, within, fed.counted, c.joined_len.ensures))
+    let over = rw fed.algorithm at (c.finish_counted.ensures.refused.0 refused) in
+    omega (arith, over, within, fed.counted, c.joined_len.ensures))
 
 pub returns-clause-cost : goal.returns-clause-cost
 returns-clause-cost c =

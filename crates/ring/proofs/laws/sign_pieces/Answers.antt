@@ -33,8 +33,8 @@ returns-clause-unchanged c =
     let room : IsTagWithin (key_algorithm c.args.key.now) c.joined_len.result =
     rw same at within in
     on_err_never c.sign_counted.result _ (λ refused.
-      let over = rw signed.algorithm at (c.sign_counted.ensures.refused.0 refused) in
-      omega (arith, over, room, signed.counted, c.joined_len.ensures))
+    let over = rw signed.algorithm at (c.sign_counted.ensures.refused.0 refused) in
+    omega (arith, over, room, signed.counted, c.joined_len.ensures))
 
 pub returns-clause-cost : goal.returns-clause-cost
 returns-clause-cost c =

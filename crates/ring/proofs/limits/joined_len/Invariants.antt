@@ -6,5 +6,5 @@ abbrev pub invariant-loop-piece : goal.invariant-loop-piece
 invariant-loop-piece l =
     record {
       sum : l.len ≡ length (joined (take l.piece-index l.pieces));
-      most : l.len ≤ l.piece-index * 18446744073709551615
+      most : l.len ≤ l.piece-index * 18446744073709551615;
     }

@@ -1,6 +1,5 @@
-use Rattle.std.proofs.Common.{
-  ◌≡◌, ◌+◌, ◌++◌, ◌∷◌, [], length, ap, ◌∙◌, arith, append-nil, length-append,
-}
+use Rattle.std.proofs.Common.{◌≡◌, ◌+◌, ◌++◌, ◌∷◌, [], length, ap, ◌∙◌, arith, append-nil}
+use Rattle.std.proofs.Common.{length-append}
 use Rattle.std.proofs.lemmas.List.{take_all}
 use Rattle.ring_core.specs.Cost.{raised}
 use Rattle.ring.specs.Cost.{padded_blocks}
@@ -46,7 +45,7 @@ returns-clause-cost c =
     let whole =
     signed_more number before more.algorithm more.counted more.pending more.stands more.cost in
     let len : length (bytes ++ number)
-        ≡ length c.args.previous.now + length (joined c.args.info.now) + 1 =
+    ≡ length c.args.previous.now + length (joined c.args.info.now) + 1 =
     omega (
       arith,
       length-append bytes number,

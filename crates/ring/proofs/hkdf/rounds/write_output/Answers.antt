@@ -6,9 +6,8 @@ use Rattle.ring.specs.Cost.{padded_blocks}
 use Rattle.ring.specs.Hkdf.{t_of}
 use Rattle.ring.specs.Hmac.{key_algorithm}
 use Rattle.ring.specs.Pieces.{joined}
-use Rattle.ring.proofs.Expanding.{
-  cost_first, cost_next, first_round, next_round, round-lt, rounds_at, written-last, written-next,
-}
+use Rattle.ring.proofs.Expanding.{cost_first, cost_next, first_round, next_round, round-lt}
+use Rattle.ring.proofs.Expanding.{rounds_at, written-last, written-next}
 use Rattle.ring.proofs.Pieces.{joined_blocks-none}
 use Rattle.ring.proofs.hkdf.rounds.write_output.Goals as goal
 

@@ -14,7 +14,7 @@ returns c =
     let new = c.new-context.ensures in
     let update = c.update.ensures in
     let bytes : take c.block_len-block_len.result c.xor_assign.new.a
-        ≡ masked c.args.mask (take (block_len a) key_block) =
+    ≡ masked c.args.mask (take (block_len a) key_block) =
     rw (c.xor_assign.ensures, c.block_len-block_len.ensures)
     (take-map (λ x. x ⊕ c.args.mask) (block_len a) key_block) in
     let size : length (take c.block_len-block_len.result c.xor_assign.new.a) ≡ block_len a =

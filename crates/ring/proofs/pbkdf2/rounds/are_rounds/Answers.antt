@@ -17,7 +17,7 @@ rounds-preserved c =
     c.output_len-output_len.ensures
     ∙ ap output_len (c.digest_algorithm-algorithm.ensures ∙ c.algorithm.ensures) in
     let part : c.rounds.checked + c.min.result - c.rounds.checked
-        ≡ min (output_len a) (length c.args.value.now - c.rounds.checked) =
+    ≡ min (output_len a) (length c.args.value.now - c.rounds.checked) =
     omega (arith, c.min.ensures, len) in
     let round = c.is_round-matches.ensures in
     compared-next c.rounds.invariant c.rounds-test.true (omega arith) part round.ok round.cost

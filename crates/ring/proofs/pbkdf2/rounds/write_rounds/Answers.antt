@@ -17,7 +17,7 @@ rounds-preserved c =
     c.output_len-output_len.ensures
     ∙ ap output_len (c.digest_algorithm-algorithm.ensures ∙ c.algorithm.ensures) in
     let part : c.rounds.written + c.min.result - c.rounds.written
-        ≡ min (output_len a) (length c.rounds.out - c.rounds.written) =
+    ≡ min (output_len a) (length c.rounds.out - c.rounds.written) =
     omega (arith, c.min.ensures, len) in
     let round = c.write_round.ensures in
     written-next c.rounds.invariant c.rounds-test.true (omega arith) part c.write_round.auto.out

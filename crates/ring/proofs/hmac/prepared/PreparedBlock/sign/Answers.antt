@@ -1,6 +1,5 @@
-use Rattle.std.proofs.Common.{
-  ◌≡◌, ◌≤◌, ℕ, List, ◌++◌, ap, refl, sym, ◌∙◌, length, take, arith, rules, length-take-le,
-}
+use Rattle.std.proofs.Common.{◌≡◌, ◌≤◌, ℕ, List, ◌++◌, ap, refl, sym, ◌∙◌, length, take, arith}
+use Rattle.std.proofs.Common.{rules, length-take-le}
 use Rattle.ring_core.proofs.Costs.{raised-raised}
 use Rattle.ring.specs.Algorithm.{block_len, output_len}
 use Rattle.ring.specs.Digest.{bytes_of, digest_algorithm, digest_of}
@@ -33,10 +32,10 @@ returns-clause-ok c = λ k h.
     let outside : ArePrepared a (outer_block a k) first =
     record { block = length-outer_block a k; message = len ∙ c.requires.len } in
     let inner = c.output_after-inner.ensures.ok (inner_block a k) _ h.inner
-        (block-padded bytes refl size inside padding put) in
+    (block-padded bytes refl size inside padding put) in
     let replaced = put_again ∙ message-replaced message first bytes _ put len in
     let outer = c.output_after-outer.ensures.ok (outer_block a k) _ h.outer
-        (block-padded bytes same size outside padding replaced) in
+    (block-padded bytes same size outside padding replaced) in
     let front = ap (λ n. take n output) c.requires.len ∙ inner in
     record {
       algorithm = ap digest_algorithm value ∙ c.requires.same;

@@ -1,7 +1,6 @@
 -- The numbers of blocks of lines.
 use Rattle.std.proofs.Common.{◌≡◌, ℕ, ◌+◌, ◌-◌, ◌*◌, ◌^◌, ◌<◌, ◌≤◌, nat_le, if◌then◌else◌, true}
-use Rattle.std.proofs.Common.{false, inl, inr}
-use Rattle.std.proofs.Common.{refl, ap, ◌∙◌, arith, mul-le-mul_right}
+use Rattle.std.proofs.Common.{false, inl, inr, refl, ap, ◌∙◌, arith, mul-le-mul_right}
 use Rattle.std.proofs.lemmas.Grind.{div_ceil_times}
 use Rattle.std.specs.Int.{div_ceil}
 use Rattle.ring.proofs.Costs.{IsNew, counted, counted_new, raised-none, raised-raised}

@@ -1,12 +1,9 @@
 -- Lemmas on pieces that are kept in one run.
 use Rattle.std.proofs.Common.{◌≡◌, ℕ, ◌+◌, ◌<◌, ◌≤◌, List, [], ◌∷◌, ◌++◌, Option, None, Some}
 use Rattle.std.proofs.Common.{length, take, drop, slice_index_or, ◌-◌, length-append, refl, sym, ap}
-use Rattle.std.proofs.Common.{◌∙◌}
-use Rattle.std.proofs.Common.{arith, append_assoc}
+use Rattle.std.proofs.Common.{◌∙◌, arith, append_assoc, append-nil}
 use Rattle.std.specs.Borrow.{Bor}
-use Rattle.std.proofs.Common.{append-nil}
 use Rattle.std.proofs.lemmas.List.Concat.{flat_map-append}
-use Rattle.ring.specs.Pieces.{joined as joined_parts}
 use Rattle.std.specs.List.{slice_split, sum}
 use Rattle.std.specs.Option.{option_map}
 use Rattle.std.proofs.lemmas.List.{length-drop, take-append-drop, take-append-le, drop-append-le}
@@ -15,6 +12,7 @@ use Rattle.std.proofs.lemmas.List.Splits.{slice_split_none}
 use Rattle.std.proofs.Math.ListN.{drop_of_length-le}
 use Rattle.std.proofs.Math.Seq.{take-add, take-length}
 use Rattle.hex.specs.Hex.{decode_of}
+use Rattle.ring.specs.Pieces.{joined as joined_parts}
 use Rattle.ring_bench.specs.Field.{is_comma, parts_bytes, value_of}
 use Rattle.ring_bench.specs.Pieces.{cut_into, pieces_listed}
 use Rattle.ring_bench.specs.Request.{joined}

@@ -4,13 +4,13 @@ use Rattle.std.proofs.Common.{true, false, List, refl, sym, ap, ◌∙◌, arith
 use Rattle.std.proofs.lemmas.Bool.Decides.{nat_tests, same_from_decides}
 use Rattle.std.specs.Str.{bytes_eq}
 use Rattle.std.proofs.lemmas.Slice.Eq.{bytes_eq-Decides}
+use Rattle.std.proofs.lemmas.Bool.{false_from_ne_true, true_from_ne_false}
 use Rattle.ring.specs.Algorithm.{output_len}
 use Rattle.ring.specs.Cost.{Counts, derive_blocks, fill_blocks, raised}
 use Rattle.ring.specs.Okm.{CanFill}
 use Rattle.ring.specs.Limits.{CanDerive, CanVerify, IsInfoWithin, IsOutputWithin}
 use Rattle.ring.specs.declared.digest.algorithm.Algorithm.{Algorithm}
 use Rattle.ring.proofs.Costs.{IsNew}
-use Rattle.std.proofs.lemmas.Bool.{false_from_ne_true, true_from_ne_false}
 use Rattle.ring_bench.proofs.Counts.{fill_count}
 use Rattle.ring_bench.specs.Request.{can_derive, can_expand}
 
@@ -52,11 +52,10 @@ can_expand-true few h =
     grind (arith, nat_tests)
 
 can_expand-within : (a : Algorithm) (i n : ℕ) → can_expand a i n ≡ true → IsInfoWithin a i n
-can_expand-within a i n e =
-    record {
-      first_round = grind (arith, nat_tests);
-      next_rounds = λ more. grind (arith, nat_tests);
-    }
+can_expand-within a i n e = record {
+  first_round = grind (arith, nat_tests);
+  next_rounds = λ more. grind (arith, nat_tests);
+}
 
 pub can_derive-true : {a : Algorithm} {p s n : ℕ} → CanDerive a p s n → can_derive a p s n ≡ true
 can_derive-true h =

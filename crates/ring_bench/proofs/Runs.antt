@@ -1,7 +1,7 @@
 -- Lemmas on a run, piece by piece.
-use Rattle.std.proofs.Common.{◌≡◌, ℕ, zero, suc, ◌<◌, ◌≤◌, Bool, true, false, cond, ◌||◌}
-use Rattle.std.proofs.Common.{Option, Some, None, IfSome, Result, Ok, Err, OnOk, List, [], ◌∷◌}
-use Rattle.std.proofs.Common.{◌++◌, length, map, take, All, refl, sym, ap, ◌∙◌, subst, append_assoc}
+use Rattle.std.proofs.Common.{◌≡◌, ℕ, zero, suc, ◌<◌, ◌≤◌, Bool, true, false, cond, ◌||◌, Option}
+use Rattle.std.proofs.Common.{Some, None, IfSome, Result, Ok, Err, OnOk, List, [], ◌∷◌, ◌++◌}
+use Rattle.std.proofs.Common.{length, map, take, All, refl, sym, ap, ◌∙◌, subst, append_assoc}
 use Rattle.std.proofs.Common.{append-nil, length-append, arith}
 use Rattle.std.specs.List.{list_any}
 use Rattle.std.specs.Io.KnownBytes.{Appends, Consumes, Keeps, IsAtEnd}
@@ -318,6 +318,7 @@ Reached-nothing {known} {line} {a} none = record { so_far = at_first known }
 -- after a run has come so far
 module _ {known left : Option (List ℕ)} {line : List ℕ} {s : Status} {a b : Option (List ℕ)}
     (r : Reached known left line s a b) where
+  -- a piece was read, and fed
   pub Reached-fed : {later : Option (List ℕ)} {new : List ℕ} (piece : List ℕ) {t : Status}
       {c : Option (List ℕ)} → Consumes left later piece → Fed (line ++ piece) new s t b c
       → Reached known later new t a c
@@ -329,6 +330,7 @@ module _ {known left : Option (List ℕ)} {line : List ℕ} {s : Status} {a b : 
     });
   }
 
+  -- a read failed that may be tried again
   pub Reached-kept : {later : Option (List ℕ)} → Keeps left later
       → Reached known later line s a b
   Reached-kept {later} kept = record {

@@ -1,6 +1,6 @@
 use Rattle.std.proofs.Common.{◌≡◌, None, arith, rules, ◌∙◌}
-use Rattle.hex.specs.Hex.{decode_of}
 use Rattle.std.proofs.lemmas.Grind.{common_steps}
+use Rattle.hex.specs.Hex.{decode_of}
 use Rattle.ring_bench.specs.Field.{pieces_of, value_of}
 use Rattle.ring_bench.proofs.Cuts.{none-last, none-next, pieces-last, pieces-next, sum-push}
 use Rattle.ring_bench.proofs.field.pieces_in.Goals as goal

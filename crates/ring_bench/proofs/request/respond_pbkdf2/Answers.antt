@@ -2,10 +2,10 @@ use Rattle.std.proofs.Common.{◌≡◌, ◌++◌, length, take, drop, refl, ◌
 use Rattle.std.proofs.Math.Seq.{take-append_seam}
 use Rattle.std.specs.Int.NonZero.{non_zero_u32_get}
 use Rattle.ring.specs.Pbkdf2.{dk, prf_algorithm}
+use Rattle.ring.specs.Limits.{CanDerive}
 use Rattle.ring_bench.specs.Request.{pbkdf2_answer}
 use Rattle.ring_bench.proofs.Counts.{derive_count}
 use Rattle.ring_bench.proofs.Limits.{can_derive-true}
-use Rattle.ring.specs.Limits.{CanDerive}
 use Rattle.ring_bench.proofs.request.respond_pbkdf2.Goals as goal
 
 pub returns-in-Ok : goal.returns-in-Ok

@@ -2,9 +2,7 @@ use Rattle.std.proofs.Common.{◌≡◌, sym, rules, ◌∙◌, true, refl}
 use Rattle.std.specs.Int.NonZero.{non_zero_u32_get}
 use Rattle.ring_bench.specs.Request.{pbkdf2_verify_answer}
 use Rattle.ring_bench.proofs.Counts.{derive_count}
-use Rattle.ring_bench.proofs.Limits.{can_verify-true, derived-refused, derived-within}
-use Rattle.ring_bench.proofs.Limits.{can_verify-true, derived-refused, derived-within}
-use Rattle.ring_bench.proofs.Limits.{same_verdict}
+use Rattle.ring_bench.proofs.Limits.{can_verify-true, derived-refused, derived-within, same_verdict}
 use Rattle.ring_bench.proofs.request.respond_pbkdf2_verify.Goals as goal
 
 pub returns-then-blocks-eq0 : goal.returns-then-blocks-eq0

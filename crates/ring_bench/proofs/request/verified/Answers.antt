@@ -1,8 +1,8 @@
 use Rattle.std.proofs.Common.{◌≡◌, arith, sym, ◌∙◌, length, nat_le, true, false, ◌+◌, refl}
 use Rattle.ring.specs.Hmac.{key_algorithm}
-use Rattle.ring_bench.specs.Request.{verdict_answer}
 use Rattle.ring.specs.Algorithm.{block_len, max_input_len}
 use Rattle.ring.specs.Limits.{IsTagWithin}
+use Rattle.ring_bench.specs.Request.{verdict_answer}
 use Rattle.ring_bench.proofs.Counts.{verify_count}
 use Rattle.ring_bench.proofs.Limits.{fails, passes, rises, same_verdict}
 use Rattle.ring_bench.proofs.request.verified.Goals as goal

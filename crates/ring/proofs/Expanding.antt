@@ -84,6 +84,13 @@ rounds_at a (suc r) w n e below left needed =
     let least = div_ceil-least (output_len a) (suc r) n pos (omega arith) in
     omega (arith, most, least)
 
+-- the blocks of the first round, whose info has i bytes, and those of each further one
+abbrev pub first_blocks : Algorithm → ℕ → ℕ
+first_blocks a i = padded_blocks a (i + 1) + 1
+
+abbrev pub next_blocks : Algorithm → ℕ → ℕ
+next_blocks a i = padded_blocks a (output_len a + i + 1) + 1
+
 -- r tags are written, the next one is made, and the meter rose by them all
 pub record IsWritten (key : Key) (info : List ℕ) (r written : ℕ) (tag : Tag) (out : List ℕ)
     (before now : Counts) : Type 0 where
@@ -96,9 +103,8 @@ pub record IsWritten (key : Key) (info : List ℕ) (r written : ℕ) (tag : Tag)
       → tag_bytes tag ≡ t_of (key_algorithm key) k info (suc r)
   pub done : (k : List ℕ) → KeyStandsFor key k
       → take written out ≡ joined_blocks (t_of (key_algorithm key) k info) r
-  pub cost : now ≡ raised before (padded_blocks (key_algorithm key) (length info + 1) + 1
-      + r * (padded_blocks (key_algorithm key) (output_len (key_algorithm key) + length info + 1)
-      + 1)) 0
+  pub cost : now ≡ raised before (first_blocks (key_algorithm key) (length info)
+      + r * next_blocks (key_algorithm key) (length info)) 0
 
 module _ {key : Key} {info : List ℕ} {r w : ℕ} {tag : Tag} {out : List ℕ} {m0 m1 : Counts} where
   -- the tag, of L bytes, is written too
@@ -137,9 +143,8 @@ module _ {key : Key} {info : List ℕ} {r w : ℕ} {tag : Tag} {out : List ℕ} 
   pub cost_next : {n : ℕ} {m2 : Counts} → IsWritten key info r w tag out m0 m1
       → n ≡ output_len (key_algorithm key)
       → m2 ≡ raised m1 (padded_blocks (key_algorithm key) (n + length info + 1) + 1) 0
-      → m2 ≡ raised m0 (padded_blocks (key_algorithm key) (length info + 1) + 1
-      + (r + 1) * (padded_blocks (key_algorithm key)
-      (output_len (key_algorithm key) + length info + 1) + 1)) 0
+      → m2 ≡ raised m0 (first_blocks (key_algorithm key) (length info)
+      + (r + 1) * next_blocks (key_algorithm key) (length info)) 0
   cost_next t en em = turn _ _ r t.cost (rw en at em)
     where
       turn : (x y r : ℕ) {m1 m2 : Counts} → m1 ≡ raised m0 (x + r * y) 0 → m2 ≡ raised m1 y 0
@@ -151,8 +156,8 @@ module _ {key : Key} {info : List ℕ} {r w : ℕ} {tag : Tag} {out : List ℕ} 
 -- the cost of the first round, before which there is no tag
 pub cost_first : (a : Algorithm) (y i : ℕ) (m0 : Counts) {m1 : Counts}
     → m1 ≡ raised m0 (padded_blocks a (0 + i + 1) + 1) 0
-    → m1 ≡ raised m0 (padded_blocks a (i + 1) + 1 + 0 * y) 0
+    → m1 ≡ raised m0 (first_blocks a i + 0 * y) 0
 cost_first a y i m0 e =
     let none : 0 + i ≡ i = omega arith in
-    let alone : padded_blocks a (i + 1) + 1 ≡ padded_blocks a (i + 1) + 1 + 0 * y = omega arith in
+    let alone : first_blocks a i ≡ first_blocks a i + 0 * y = omega arith in
     (rw none at e) ∙ ap (λ (z : ℕ). raised m0 z 0) alone

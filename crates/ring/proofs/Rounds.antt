@@ -106,30 +106,35 @@ cost_derived a m0 p b pairs e1 e2 =
     e2 ∙ rw e1 (raised-raised m0 (key_blocks a p) 0 b pairs)
     ∙ ap (raised m0 (key_blocks a p + b)) none
 
+-- the blocks of one round of c iterates
+abbrev pub round_blocks : (key : Key) (s : List ℕ) (c : ℕ) → ℕ
+round_blocks key s c = iterate_blocks (key_algorithm key) (length s) c
+
+-- the blocks of all rounds of n bytes
+abbrev pub rounds_blocks : (key : Key) (s : List ℕ) (c n : ℕ) → ℕ
+rounds_blocks key s c n = derive_rounds (key_algorithm key) n * round_blocks key s c
+
 -- r rounds of c iterates reach w of n bytes, at the cost of their blocks and of some pairs of bytes
 pub record HasRun (key : Key) (s : List ℕ) (c n r w pairs : ℕ) (before now : Counts) : Type 0 where
   pub reached : HasReached (key_algorithm key) n r w
-  pub cost : now ≡ raised before (r * iterate_blocks (key_algorithm key) (length s) c) pairs
+  pub cost : now ≡ raised before (r * round_blocks key s c) pairs
 
--- the rounds of the key, of the salt s and of c iterates
-module _ (key : Key) (s : List ℕ) (c : ℕ) where
-  run-none : (n : ℕ) (m : Counts) → HasRun key s c n 0 0 0 m m
-  run-none n m =
-      let a : Algorithm = key_algorithm key in
-      record {
-        reached = reached-none a n;
-        cost = raised-none m
-            ∙ ap (λ (z : ℕ). raised m z 0) (sym (zero-mul (iterate_blocks a (length s) c)));
-      }
+run-none : (key : Key) (s : List ℕ) (c n : ℕ) (m : Counts) → HasRun key s c n 0 0 0 m m
+run-none key s c n m =
+    let none = sym (zero-mul (round_blocks key s c)) in
+    record {
+      reached = reached-none (key_algorithm key) n;
+      cost = raised-none m ∙ ap (λ (z : ℕ). raised m z 0) none;
+    }
 
 module _ {key : Key} {s : List ℕ} {c n r w pairs : ℕ} {m0 m1 : Counts} where
   -- one round more, which reaches k bytes more
   run-next : {m2 : Counts} (k more_pairs : ℕ) → HasRun key s c n r w pairs m0 m1 → w < n
       → k ≡ min (output_len (key_algorithm key)) (n - w)
-      → m2 ≡ raised m1 (iterate_blocks (key_algorithm key) (length s) c) more_pairs
+      → m2 ≡ raised m1 (round_blocks key s c) more_pairs
       → HasRun key s c n (r + 1) (w + k) (pairs + more_pairs) m0 m2
   run-next k more_pairs t more ek em =
-      let b : ℕ = iterate_blocks (key_algorithm key) (length s) c in
+      let b : ℕ = round_blocks key s c in
       record {
         reached = reached-next k t.reached more ek;
         cost = em ∙ rw t.cost (raised-raised m0 (r * b) pairs b more_pairs)
@@ -137,11 +142,18 @@ module _ {key : Key} {s : List ℕ} {c n r w pairs : ℕ} {m0 m1 : Counts} where
       }
 
   run-all : HasRun key s c n r w pairs m0 m1 → n ≤ w
-      → m1 ≡ raised m0 (derive_rounds (key_algorithm key) n
-      * iterate_blocks (key_algorithm key) (length s) c) pairs
+      → m1 ≡ raised m0 (rounds_blocks key s c n) pairs
   run-all t all =
-      let b : ℕ = iterate_blocks (key_algorithm key) (length s) c in
+      let b : ℕ = round_blocks key s c in
       t.cost ∙ ap (λ (z : ℕ). raised m0 (z * b) pairs) (sym (reached-all t.reached all).1)
+
+-- the k bytes after the first w ones
+abbrev pub part : (w k : ℕ) → List ℕ → List ℕ
+part w k xs = take k (drop w xs)
+
+-- the first n bytes of the round after r rounds
+abbrev pub next_part : (key : Key) (p s : List ℕ) (c r n : ℕ) → List ℕ
+next_part key p s c r n = take n (xored (key_algorithm key) p s (r + 1) c)
 
 -- r rounds are written to the first w bytes
 pub record HasWritten (key : Key) (s : List ℕ) (c r w : ℕ) (out : List ℕ)
@@ -159,16 +171,15 @@ module _ {key : Key} {s : List ℕ} {c r w : ℕ} {out : List ℕ} {m0 m1 : Coun
   -- the next round, or a front of it, is written as ys over k bytes
   pub written-next : {k end : ℕ} {ys : List ℕ} {m2 : Counts} → HasWritten key s c r w out m0 m1
       → w < length out → end ≡ w + k → k ≡ min (output_len (key_algorithm key)) (length out - w)
-      → length ys ≡ length (take k (drop w out))
-      → ((p : List ℕ) → KeyStandsFor key p
-      → ys ≡ take (length (take k (drop w out))) (xored (key_algorithm key) p s (r + 1) c))
-      → m2 ≡ raised m1 (iterate_blocks (key_algorithm key) (length s) c) 0
+      → length ys ≡ length (part w k out)
+      → ((p : List ℕ) → KeyStandsFor key p → ys ≡ next_part key p s c r (length (part w k out)))
+      → m2 ≡ raised m1 (round_blocks key s c) 0
       → HasWritten key s c (r + 1) end (put_mid w k out ys) m0 m2
   written-next {k = k} {ys = ys} t more ee ek ly h em =
       let a : Algorithm = key_algorithm key in
       let reached = t.run.reached in
       let room : k ≤ length (drop w out) = rw length-drop (omega (arith, ek)) in
-      let len : length (take k (drop w out)) ≡ k = length-take-le k (drop w out) room in
+      let len : length (part w k out) ≡ k = length-take-le k (drop w out) room in
       let seam : w + k ≡ w + length ys = omega (arith, ly, len) in
       let below : w ≤ length out = omega arith in
       rw ee record {
@@ -181,8 +192,7 @@ module _ {key : Key} {s : List ℕ} {c r w : ℕ} {out : List ℕ} {m0 m1 : Coun
 
   pub written-all : HasWritten key s c r w out m0 m1 → length out ≤ w
       → ((p : List ℕ) → KeyStandsFor key p → out ≡ dk (key_algorithm key) p s c (length out))
-      × (m1 ≡ raised m0 (derive_rounds (key_algorithm key) (length out)
-      * iterate_blocks (key_algorithm key) (length s) c) 0)
+      × (m1 ≡ raised m0 (rounds_blocks key s c (length out)) 0)
   written-all t all = (
     λ p stands. sym (take_all w out all) ∙ t.front p stands
         ∙ sym (rounds-all p s c t.run.reached all),
@@ -210,21 +220,19 @@ module _ {key : Key} {s : List ℕ} {c r w : ℕ} {m : Bool} {value : List ℕ} 
   pub compared-next : {k end : ℕ} {b : Bool} {m2 : Counts} → HasCompared key s c r w m value m0 m1
       → w < length value → end ≡ w + k
       → k ≡ min (output_len (key_algorithm key)) (length value - w)
-      → ((p : List ℕ) → KeyStandsFor key p → (b ≡ true)
-      ↔ (take k (drop w value)
-      ≡ take (length (take k (drop w value))) (xored (key_algorithm key) p s (r + 1) c)))
-      → m2 ≡ raised m1 (iterate_blocks (key_algorithm key) (length s) c)
-      (length (take k (drop w value)))
+      → ((p : List ℕ) → KeyStandsFor key p
+      → (b ≡ true) ↔ (part w k value ≡ next_part key p s c r (length (part w k value))))
+      → m2 ≡ raised m1 (round_blocks key s c) (length (part w k value))
       → HasCompared key s c (r + 1) end (m && b) value m0 m2
   compared-next {k = k} {b = b} t more ee ek h em =
       let a : Algorithm = key_algorithm key in
       let reached = t.run.reached in
       let room : k ≤ length (drop w value) = rw length-drop (omega (arith, ek)) in
-      let len : length (take k (drop w value)) ≡ k = length-take-le k (drop w value) room in
+      let len : length (part w k value) ≡ k = length-take-le k (drop w value) room in
       let below : w ≤ length value = omega arith in
       let split : (p : List ℕ) → (take (w + k) value ≡ take (w + k) (rounds a p s c (r + 1)))
       ↔ ((take w value ≡ take w (rounds a p s c r))
-      × (take k (drop w value) ≡ take k (xored a p s (r + 1) c))) =
+      × (part w k value ≡ next_part key p s c r k)) =
       λ (p : List ℕ).
       same_part value (rounds a p s c (r + 1)) w k below (length-rounds p s c reached)
       (rounds-part p s c k reached more ek) in
@@ -244,8 +252,7 @@ module _ {key : Key} {s : List ℕ} {c r w : ℕ} {m : Bool} {value : List ℕ} 
   pub compared-all : HasCompared key s c r w m value m0 m1 → length value ≤ w
       → ((p : List ℕ) → KeyStandsFor key p
       → (m ≡ true) ↔ (value ≡ dk (key_algorithm key) p s c (length value)))
-      × (m1 ≡ raised m0 (derive_rounds (key_algorithm key) (length value)
-      * iterate_blocks (key_algorithm key) (length s) c) (length value))
+      × (m1 ≡ raised m0 (rounds_blocks key s c (length value)) (length value))
   compared-all t all =
       let whole : take w value ≡ value = take_all w value all in
       let end = reached-all t.run.reached all in

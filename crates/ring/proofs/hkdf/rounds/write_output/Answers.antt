@@ -2,12 +2,12 @@ use Rattle.std.proofs.Common.{◌≡◌, ◌+◌, ◌-◌, ◌*◌, ◌≤◌, �
 use Rattle.std.proofs.lemmas.Grind.{common_steps}
 use Rattle.ring_core.specs.Cost.{raised}
 use Rattle.ring.specs.Algorithm.{output_len}
-use Rattle.ring.specs.Cost.{padded_blocks}
 use Rattle.ring.specs.Hkdf.{t_of}
 use Rattle.ring.specs.Hmac.{key_algorithm}
 use Rattle.ring.specs.Pieces.{joined}
 use Rattle.ring.proofs.Expanding.{cost_first, cost_next, first_round, next_round, round-lt}
 use Rattle.ring.proofs.Expanding.{rounds_at, written-last, written-next}
+use Rattle.ring.proofs.Expanding.{first_blocks, next_blocks}
 use Rattle.ring.proofs.Pieces.{joined_blocks-none}
 use Rattle.ring.proofs.hkdf.rounds.write_output.Goals as goal
 
@@ -78,6 +78,5 @@ returns-clause-cost c =
     let at_end = rounds_at a number c.loop-out.written (length c.args.out.now) before.place in
     let rounds =
     at_end (omega arith) (omega arith) (λ h. (let more = before.needed h in omega arith)) in
-    let first = padded_blocks a (i + 1) + 1 in
-    let next = padded_blocks a (output_len a + i + 1) + 1 in
-    before.cost ∙ ap (λ (z : ℕ). raised c.args.meter.now (first + z * next) 0) (sym rounds)
+    let blocks : ℕ → ℕ = λ (z : ℕ). first_blocks a i + z * next_blocks a i in
+    before.cost ∙ ap (λ (z : ℕ). raised c.args.meter.now (blocks z) 0) (sym rounds)

@@ -1,9 +1,9 @@
 use Rattle.std.proofs.Common.{rules, arith, ◌≡◌, ℕ, ◌+◌, ◌≤◌, List, length, codes, IfOk, refl, ap}
 use Rattle.std.proofs.Common.{subst, ◌∙◌}
 use Rattle.std.specs.Prelude.{Result, Ok, Err, is_ok}
+use Rattle.std.specs.declared.num.NonZeroU32.{NonZeroU32}
 use Rattle.ring.specs.Algorithm.{max_input_len}
 use Rattle.ring.specs.declared.digest.algorithm.TheConstants.{SHA256}
-use Rattle.std.specs.declared.num.NonZeroU32.{NonZeroU32}
 use Rattle.ring_store.specs.Store.{admission, verdict, with_iterations, with_password, with_raise}
 use Rattle.ring_store.specs.Token.{MakerStandsFor, checked, token_key, token_of}
 use Rattle.ring_store.specs.declared.error.StoreError.{StoreError}

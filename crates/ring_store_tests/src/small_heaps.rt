@@ -19,7 +19,10 @@ fn memory_is_for_new_names_alone(rt: HostRuntime) -> Result<(), Fail> {
     {
         let _all = fill(&heap)?;
         assert_eq!(rt; store.set_password(b"carol", b"a"), Err(StoreError::Memory));
-        assert_eq!(rt; told(store.verify_password(b"carol", b"a")), Reply::Refused(StoreError::WrongUsernameOrPassword));
+        assert_eq!(rt;
+            told(store.verify_password(b"carol", b"a")),
+            Reply::Refused(StoreError::WrongUsernameOrPassword)
+        );
         assert_eq!(rt; store.iterations_of(b"carol"), None);
     }
     assert_eq!(rt; store.set_password(b"carol", b"a"), Ok(()));

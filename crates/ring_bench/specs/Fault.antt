@@ -9,3 +9,9 @@ abbrev pub Reads : {V X : Type 0} → (V → X) → Option X → Result V Fault 
 Reads shown said (Ok value) = said ≡ Some (shown value)
 Reads shown said (Err Bad) = said ≡ None
 Reads shown said (Err Memory) = ⊤
+
+-- the same of what takes no memory, and never tells that there was none
+abbrev pub ReadsAlone : {V X : Type 0} → (V → X) → Option X → Result V Fault → Type 0
+ReadsAlone shown said (Ok value) = said ≡ Some (shown value)
+ReadsAlone shown said (Err Bad) = said ≡ None
+ReadsAlone shown said (Err Memory) = ⊥

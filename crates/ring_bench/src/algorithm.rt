@@ -2,7 +2,7 @@
 
 ghost use Rattle.ring_bench.specs.Algorithm.{algorithm_of, digest_algorithm_of, hkdf_algorithm_of};
 ghost use Rattle.ring_bench.specs.Algorithm.{hmac_algorithm_of, pbkdf2_algorithm_of};
-ghost use Rattle.ring_bench.specs.Fault.{Reads};
+ghost use Rattle.ring_bench.specs.Fault.{ReadsAlone};
 
 use crate::fault::Fault;
 use crate::field::is_word;
@@ -26,7 +26,7 @@ pub enum Named {
 /// The name that stands in a field ALG.
 #[tactic(auto, unfolding(crate::specs::Algorithm::algorithm_of))]
 fn named_in(field: &[u8]) -> Result<Named, Fault>
-    ensures { Reads (λ named. named) (algorithm_of field.now) result }
+    ensures { ReadsAlone (λ named. named) (algorithm_of field.now) result }
 {
     if is_word(field, b"SHA1") {
         return Ok(Named::Sha1);
@@ -49,7 +49,7 @@ fn named_in(field: &[u8]) -> Result<Named, Fault>
 /// The ALG of a digest.
 #[tactic(auto, unfolding(crate::specs::Algorithm::digest_algorithm_of))]
 pub fn digest_algorithm_in(field: &[u8]) -> Result<digest::Algorithm, Fault>
-    ensures { Reads (λ algorithm. algorithm) (digest_algorithm_of field.now) result }
+    ensures { ReadsAlone (λ algorithm. algorithm) (digest_algorithm_of field.now) result }
 {
     match named_in(field)? {
         Named::Sha1 => Ok(SHA1_FOR_LEGACY_USE_ONLY),
@@ -63,7 +63,7 @@ pub fn digest_algorithm_in(field: &[u8]) -> Result<digest::Algorithm, Fault>
 /// The ALG of a tag.
 #[tactic(auto, unfolding(crate::specs::Algorithm::hmac_algorithm_of))]
 pub fn hmac_algorithm_in(field: &[u8]) -> Result<hmac::Algorithm, Fault>
-    ensures { Reads (λ algorithm. algorithm) (hmac_algorithm_of field.now) result }
+    ensures { ReadsAlone (λ algorithm. algorithm) (hmac_algorithm_of field.now) result }
 {
     match named_in(field)? {
         Named::Sha1 => Ok(HMAC_SHA1_FOR_LEGACY_USE_ONLY),
@@ -77,7 +77,7 @@ pub fn hmac_algorithm_in(field: &[u8]) -> Result<hmac::Algorithm, Fault>
 /// The ALG of an output of HKDF.
 #[tactic(auto, unfolding(crate::specs::Algorithm::hkdf_algorithm_of))]
 pub fn hkdf_algorithm_in(field: &[u8]) -> Result<hkdf::Algorithm, Fault>
-    ensures { Reads (λ algorithm. algorithm) (hkdf_algorithm_of field.now) result }
+    ensures { ReadsAlone (λ algorithm. algorithm) (hkdf_algorithm_of field.now) result }
 {
     match named_in(field)? {
         Named::Sha1 => Ok(HKDF_SHA1_FOR_LEGACY_USE_ONLY),
@@ -91,7 +91,7 @@ pub fn hkdf_algorithm_in(field: &[u8]) -> Result<hkdf::Algorithm, Fault>
 /// The ALG of a derivation by PBKDF2.
 #[tactic(auto, unfolding(crate::specs::Algorithm::pbkdf2_algorithm_of))]
 pub fn pbkdf2_algorithm_in(field: &[u8]) -> Result<pbkdf2::Algorithm, Fault>
-    ensures { Reads (λ algorithm. algorithm) (pbkdf2_algorithm_of field.now) result }
+    ensures { ReadsAlone (λ algorithm. algorithm) (pbkdf2_algorithm_of field.now) result }
 {
     match named_in(field)? {
         Named::Sha1 => Ok(PBKDF2_HMAC_SHA1),

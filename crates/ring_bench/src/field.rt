@@ -2,7 +2,7 @@
 ghost use Rattle.std.specs.Prelude.{◌≡◌, ◌++◌, [], ◌∷◌, List, ℕ, Some, None, IsErrOf, OnOk, length};
 ghost use Rattle.std.specs.Int.NonZero.{non_zero_u32_get};
 ghost use Rattle.hex.specs.Hex.{decode_of};
-ghost use Rattle.ring_bench.specs.Fault.{Reads};
+ghost use Rattle.ring_bench.specs.Fault.{Reads, ReadsAlone};
 ghost use Rattle.ring_bench.specs.Field.{is_word, bytes_of, pieces_of, value_of, decimal_of, up_to};
 ghost use Rattle.ring_bench.specs.Field.{len_of, iterations_of};
 ghost use Rattle.ring_bench.specs.Pieces.{pieces_listed};
@@ -99,7 +99,7 @@ fn decoded<A: Allocator>(alloc: A, digits: &[u8]) -> Result<Vec<u8, A>, Fault>
 /// The number of a field LEN.
 #[tactic(auto, unfolding(crate::specs::Field::len_of))]
 pub fn len_in(field: &[u8]) -> Result<usize, Fault>
-    ensures { Reads (λ len. len) (len_of field.now) result }
+    ensures { ReadsAlone (λ len. len) (len_of field.now) result }
 {
     Ok(decimal_in(field, MAX_LEN)? as usize)
 }
@@ -107,14 +107,14 @@ pub fn len_in(field: &[u8]) -> Result<usize, Fault>
 /// The number of a field ITERATIONS.
 #[tactic(auto, unfolding(crate::specs::Field::iterations_of))]
 pub fn iterations_in(field: &[u8]) -> Result<NonZeroU32, Fault>
-    ensures { Reads non_zero_u32_get (iterations_of field.now) result }
+    ensures { ReadsAlone non_zero_u32_get (iterations_of field.now) result }
 {
     NonZeroU32::new(decimal_in(field, u32::MAX)?).ok_or(Fault::Bad)
 }
 
 /// The number of a field in decimal, where it is at most `most`.
 fn decimal_in(field: &[u8], most: u32) -> Result<u32, Fault>
-    ensures { Reads (λ number. number) (up_to most (decimal_of field.now)) result }
+    ensures { ReadsAlone (λ number. number) (up_to most (decimal_of field.now)) result }
 {
     match field {
         [] => return Err(Fault::Bad),

@@ -3,7 +3,7 @@
 //! A further call of `ring` is a variant of `Call` with its word in `call_in`, a variant of
 //! `Request`, and a function over its operands.
 ghost use Rattle.std.specs.Prelude.{◌≡◌, IfOk, map};
-ghost use Rattle.ring_bench.specs.Fault.{Reads};
+ghost use Rattle.ring_bench.specs.Fault.{Reads, ReadsAlone};
 ghost use Rattle.ring_bench.specs.Line.{line_of, asked_of, asked_by, call_of, digest_line};
 ghost use Rattle.ring_bench.specs.Line.{hmac_line, hmac_verify_line, hkdf_line, pbkdf2_line};
 ghost use Rattle.ring_bench.specs.Line.{pbkdf2_verify_line, asked, meaning};
@@ -109,7 +109,7 @@ fn request_by<A: Allocator + Copy>(
 /// The call that the first field of a line names.
 #[tactic(auto, unfolding(crate::specs::Line::call_of))]
 fn call_in(field: &[u8]) -> Result<Call, Fault>
-    ensures { Reads (λ call. call) (call_of field.now) result }
+    ensures { ReadsAlone (λ call. call) (call_of field.now) result }
 {
     if is_word(field, b"digest") {
         return Ok(Call::Digest);

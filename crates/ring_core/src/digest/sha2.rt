@@ -7,8 +7,10 @@ ghost use Rattle.ring_core.specs.Sha2.{Σ0, Σ1, W, add_state, block_len, block_
 ghost use Rattle.ring_core.specs.Views.{chunk_items, chunk_total};
 ghost use Rattle.ring_core.specs.Word.{add_words};
 
-pub(crate) mod constants;
+mod constants;
 mod lanes;
+mod w32;
+mod w64;
 
 use crate::cost::Meter;
 use crate::digest::schedule::{load, pair};

@@ -1,11 +1,10 @@
-//! The word of 64 bits, that of SHA-384, SHA-512 and SHA-512/256 (FIPS 180-4, 3.2 and 4.1.3).
-ghost use Rattle.std.specs.Prelude.{◌≡◌, ◌-◌, ◌*◌, ◌%◌, ◌^◌, ◌<◌, ◌≤◌, [], ◌∷◌, length, slice_index, map, bit_and, bit_or, bit_xor};
-ghost use Rattle.std.proofs.Common.{refl, mod-lt, pow_pos, inr};
-ghost use Rattle.ring_core.specs.Sha2.{constants_512, family_512, words_64};
-ghost use Rattle.ring_core.specs.Word.{rotr, shr, word_at};
+//! The word of 64 bits, that of SHA-384, SHA-512 and SHA-512/256 (FIPS 180-4, 3.2).
+ghost use Rattle.std.specs.Prelude.{◌≡◌, ◌-◌, ◌*◌, ◌%◌, ◌^◌, ◌<◌, ◌≤◌, [], ◌∷◌, map, bit_and, bit_or, bit_xor};
+ghost use Rattle.std.proofs.Common.{refl, mod-lt, pow_pos};
+ghost use Rattle.ring_core.specs.Sha2.{words_64};
+ghost use Rattle.ring_core.specs.Word.{rotr};
 
-use crate::digest::sha2::constants::K_512;
-use crate::digest::word::{Sha2, Slots, Word};
+use crate::digest::word::{Slots, Word};
 use std::num::Wrapping;
 use std::simd::{Simd, u64x2};
 
@@ -18,32 +17,6 @@ fn rotate(word: u64, count: u32) -> u64
     ensures { result % 2 ^ 64 ≡ rotr 64 count (word % 2 ^ 64) }
 {
     word.rotate_right(count)
-}
-
-// K of round `t` (4.2.3)
-fn round_constant(t: usize) -> u64
-    requires { t < 80 }
-    ensures { result ≡ slice_index constants_512 t }
-{
-    K_512[t]
-}
-
-// SHR (3.2, item 3)
-fn shift(word: u64, count: usize) -> u64
-    requires { count < 64 }
-    ensures { result % 2 ^ 64 ≡ shr count (word % 2 ^ 64) }
-{
-    word >> count
-}
-
-// word `j` of a block (5.2)
-fn read(block: &[u8], j: usize) -> u64
-    requires place { j < 16 }
-    requires whole { length block.now ≡ 16 * 8 }
-    ensures { result ≡ word_at 64 block.now j }
-{
-    let at = 8 * j;
-    u64::from_be_bytes(*block[at..at + 8].as_array::<8>().unwrap())
 }
 
 // Two numbers as lanes.
@@ -126,56 +99,6 @@ impl Word for Wrapping<u64> {
     ghost fits = { λ x. mod-lt _ (pow_pos 64) };
 
     ghost zero_is = { refl };
-}
-
-impl Sha2 for Wrapping<u64> {
-    const BIG_SIGMA_0: (u32, u32, u32) = (28, 34, 39);
-
-    const BIG_SIGMA_1: (u32, u32, u32) = (14, 18, 41);
-
-    const SMALL_SIGMA_0: (u32, u32, usize) = (1, 8, 7);
-
-    const SMALL_SIGMA_1: (u32, u32, usize) = (19, 61, 6);
-
-    const ROUNDS: usize = 80;
-
-    ghost family = { family_512 };
-
-    ghost BIG_SIGMA_0 = { (28, 34, 39) };
-
-    ghost BIG_SIGMA_1 = { (14, 18, 41) };
-
-    ghost SMALL_SIGMA_0 = { (1, 8, 7) };
-
-    ghost SMALL_SIGMA_1 = { (19, 61, 6) };
-
-    ghost ROUNDS = { 80 };
-
-    fn shift_right(self, count: usize) -> Wrapping<u64> {
-        Wrapping(shift(self.0, count))
-    }
-
-    fn k(t: usize) -> Wrapping<u64> {
-        Wrapping(round_constant(t))
-    }
-
-    fn read_word(block: &[u8], j: usize) -> Wrapping<u64> {
-        Wrapping(read(block, j))
-    }
-
-    ghost which = { inr refl };
-
-    ghost bits_are = { refl };
-
-    ghost big_0_is = { refl };
-
-    ghost big_1_is = { refl };
-
-    ghost small_0_is = { refl };
-
-    ghost small_1_is = { refl };
-
-    ghost rounds_are = { refl };
 }
 
 impl Slots for Wrapping<u64> {

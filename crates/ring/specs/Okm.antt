@@ -7,7 +7,7 @@ use Rattle.ring.specs.Limits.{IsInfoWithin}
 use Rattle.ring.specs.Pieces.{joined}
 use Rattle.ring.specs.declared.digest.algorithm.Algorithm.{Algorithm}
 use Rattle.ring.specs.declared.hkdf.key_type.KeyType.{Ghosts}
-use Rattle.ring.specs.declared.hkdf.okm.Okm.{Okm}
+use Rattle.ring.specs.declared.hkdf.prk.Okm.{Okm}
 
 -- the digest algorithm of its PRK
 abbrev pub okm_algorithm : {L : Type 0} {g : Ghosts L} → Okm L g → Algorithm

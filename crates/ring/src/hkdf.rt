@@ -64,7 +64,6 @@
 pub(crate) mod algorithm;
 mod conversions;
 pub(crate) mod key_type;
-pub(crate) mod okm;
 pub(crate) mod prk;
 mod rounds;
 pub(crate) mod salt;
@@ -74,6 +73,5 @@ pub use crate::hkdf::algorithm::{
     constants_are_based_on_their_digests,
 };
 pub use crate::hkdf::key_type::KeyType;
-pub use crate::hkdf::okm::Okm;
-pub use crate::hkdf::prk::Prk;
+pub use crate::hkdf::prk::{Okm, Prk};
 pub use crate::hkdf::salt::Salt;

@@ -5,8 +5,7 @@ ghost use Rattle.ring.specs.Hmac.{KeyStandsFor, based_on, key_algorithm};
 ghost use Rattle.ring.specs.Okm.{IsMadeOf, carried};
 
 use crate::hkdf::algorithm::Algorithm;
-use crate::hkdf::okm::Okm;
-use crate::hkdf::prk::Prk;
+use crate::hkdf::prk::{Okm, Prk};
 use crate::hkdf::salt::Salt;
 use crate::hmac::{self, Key};
 use ring_core::error::Unspecified;

@@ -1,13 +1,20 @@
-//! Pseudorandom keys.
+//! Pseudorandom keys, and the outputs that are expanded from them (RFC 5869, section 2.3).
 
-ghost use Rattle.std.specs.Prelude.{◌≡◌, ◌↔◌, ◌<◌, length, IfOk, IsErr, OnErr, OnOk};
+ghost use Rattle.std.specs.Prelude.{◌≡◌, ◌↔◌, ◌*◌, ◌<◌, ℕ, List, length, IfOk, IsErr, IsOk, OnErr, OnOk};
 ghost use Rattle.ring_core.specs.Cost.{raised};
-ghost use Rattle.ring.specs.Algorithm.{max_input_len};
-ghost use Rattle.ring.specs.Cost.{key_blocks};
-ghost use Rattle.ring.specs.Hkdf.{PrkStandsFor, hash_of, prk_algorithm};
+ghost use Rattle.ring.specs.Algorithm.{max_input_len, output_len};
+ghost use Rattle.ring.specs.Cost.{fill_blocks, key_blocks};
+ghost use Rattle.ring.specs.Hkdf.{PrkStandsFor, hash_of, okm, prk_algorithm};
+ghost use Rattle.ring.specs.Hmac.{KeyStandsFor, based_on, key_algorithm};
+ghost use Rattle.ring.specs.Limits.{IsOutputWithin};
+ghost use Rattle.ring.specs.Pieces.{joined};
 
+use crate::digest::algorithm::MAX_OUTPUT_LEN;
 use crate::hkdf::algorithm::Algorithm;
-use crate::hmac::Key;
+use crate::hkdf::key_type::KeyType;
+use crate::hkdf::rounds::write_output;
+use crate::hmac::{self, Key};
+use crate::limits::{is_info_within, is_output_within, joined_len};
 use ring_core::cost::Meter;
 use ring_core::error::Unspecified;
 
@@ -16,6 +23,8 @@ use ring_core::error::Unspecified;
 pub struct Prk(pub(crate) Key);
 
 impl Prk {
+    ghost use Rattle.ring.specs.Okm.{OkmStandsFor, carried, okm_algorithm, okm_info_len, okm_number};
+
     /// The PRK of the bytes `value`, as [`Prk::new_less_safe`] gives it, its blocks counted by
     /// `meter`.
     pub fn new_less_safe_counted(
@@ -47,10 +56,113 @@ impl Prk {
         Prk::new_less_safe_counted(algorithm, value, &mut Meter::new())
     }
 
+    /// Asks for the output of as many bytes as `len` says, which it asks once (RFC 5869, section
+    /// 2.3). The info is the joined bytes of all pieces: how it is cut makes no difference. No
+    /// block is run.
+    ///
+    /// Refused where more bytes are asked for than 255 digests have.
+    pub fn expand<'a, L: KeyType>(
+        &'a self,
+        info: &'a [&'a [u8]],
+        len: L,
+    ) -> Result<Okm<'a, L>, Unspecified>
+        ensures ok { (k : List ℕ) → PrkStandsFor self.now k
+            → IfOk result (λ output. OkmStandsFor output k (joined info.now) (L.key_len len)) }
+        ensures refused { IsErr result
+            ↔ (255 * output_len (prk_algorithm self.now) < L.key_len len) }
+        ensures algorithm { IfOk result (λ output. okm_algorithm output ≡ prk_algorithm self.now) }
+        ensures info_len { IfOk result (λ output. okm_info_len output ≡ length (joined info.now)) }
+        ensures number { IfOk result (λ output. okm_number output ≡ L.key_len len) }
+        ensures carries { IfOk result (λ output. carried output ≡ len) }
+    {
+        let number = len.len();
+        if !is_output_within(&self.0.algorithm().digest_algorithm(), number as u128) {
+            return Err(Unspecified);
+        }
+        Ok(Okm {
+            prk: self,
+            info,
+            len,
+            number,
+        })
+    }
+
     /// The same PRK.
     pub fn clone(&self) -> Self
         ensures { result ≡ self.now }
     {
         Prk(self.0.clone())
+    }
+}
+
+/// An output that was asked for, and not yet given (RFC 5869, section 2.3): it stands for a PRK,
+/// the joined bytes of the info and a number of bytes.
+#[derive(Debug, Drop)]
+pub struct Okm<'a, L: KeyType> {
+    prk: &'a Prk,
+    info: &'a [&'a [u8]],
+    len: L,
+    number: usize,
+    ghost asked: { number ≡ L.key_len len },
+    ghost within: { IsOutputWithin (prk_algorithm prk.now) number },
+}
+
+impl<L: KeyType> Okm<'_, L> {
+    ghost use Rattle.ring.specs.Okm.{CanFill, IsMadeOf, OkmStandsFor, carried, okm_algorithm, okm_info_len, okm_number};
+
+    /// What was asked for, as it was handed to [`Prk::expand`].
+    pub fn len(&self) -> &L
+        ensures { result.now ≡ carried self.now }
+    {
+        &self.len
+    }
+
+    /// Gives the output, as [`Okm::fill`] does, its blocks counted by `meter`: those of one round
+    /// at least, also where nothing was asked for.
+    pub fn fill_counted(self, out: &mut [u8], meter: &mut Meter) -> Result<(), Unspecified>
+        ensures ok { (k info : List ℕ) (n : ℕ) → OkmStandsFor self.entry k info n
+            → OnOk result (out.new ≡ okm (okm_algorithm self.entry) k info n) }
+        ensures refused { IsOk result ↔ CanFill (okm_algorithm self.entry)
+            (okm_info_len self.entry) (okm_number self.entry) (length out.old) }
+        ensures unchanged { OnErr result ((out.new ≡ out.old) × (meter.new ≡ meter.old)) }
+        ensures cost { OnOk result (meter.new ≡ raised meter.old (fill_blocks
+            (okm_algorithm self.entry) (okm_info_len self.entry) (okm_number self.entry)) 0) }
+    {
+        let algorithm = self.prk.0.algorithm().digest_algorithm();
+        if out.len() != self.number {
+            return Err(Unspecified);
+        }
+        if !is_info_within(&algorithm, joined_len(self.info), out.len() as u128) {
+            return Err(Unspecified);
+        }
+        write_output(&self.prk.0, self.info, out, meter);
+        Ok(())
+    }
+
+    /// Writes the output over the whole of `out` (RFC 5869, section 2.3): the first bytes of the
+    /// tags T(1), T(2) and so on, one after another.
+    ///
+    /// Refused where `out` has another number of bytes than was asked for, and where a round's
+    /// message, with one block before it, is longer than the digest algorithm's `max_input_len`
+    /// bytes. `out` is then as it was, and no block is run.
+    pub fn fill(self, out: &mut [u8]) -> Result<(), Unspecified>
+        ensures ok { (k info : List ℕ) (n : ℕ) → OkmStandsFor self.entry k info n
+            → OnOk result (out.new ≡ okm (okm_algorithm self.entry) k info n) }
+        ensures refused { IsOk result ↔ CanFill (okm_algorithm self.entry)
+            (okm_info_len self.entry) (okm_number self.entry) (length out.old) }
+        ensures unchanged { OnErr result (out.new ≡ out.old) }
+    {
+        self.fill_counted(out, &mut Meter::new())
+    }
+
+    // The key of `algorithm` whose value is the whole output.
+    pub(crate) fn into_key(self, algorithm: hmac::Algorithm) -> Result<Key, Unspecified>
+        requires { okm_number self ≡ output_len (based_on algorithm) }
+        ensures { IsMadeOf self.entry (based_on algorithm) key_algorithm KeyStandsFor result }
+    {
+        let mut value = [0; MAX_OUTPUT_LEN];
+        let value = &mut value[..algorithm.digest_algorithm().output_len()];
+        self.fill(value)?;
+        Key::new(algorithm, value)
     }
 }

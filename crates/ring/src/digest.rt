@@ -44,7 +44,7 @@ ghost use Rattle.ring.specs.Algorithm.{max_input_len};
 ghost use Rattle.ring.specs.Cost.{padded_blocks};
 ghost use Rattle.ring.specs.Digest.{IsDigest};
 
-use crate::limits::is_message_within;
+use crate::digest::algorithm::is_message_within;
 use ring_core::cost::Meter;
 use ring_core::error::Unspecified;
 

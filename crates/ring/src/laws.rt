@@ -17,9 +17,10 @@ ghost use Rattle.ring.specs.Pieces.{joined};
 ghost use Rattle.ring.specs.declared.digest.algorithm.Algorithm.{Algorithm};
 ghost use Rattle.ring.specs.declared.digest.algorithm.TheConstants.{SHA1_FOR_LEGACY_USE_ONLY, SHA256, SHA384, SHA512};
 
+use crate::digest::algorithm::is_message_within;
 use crate::digest::{Algorithm, Context, Digest};
 use crate::hmac::{self, Key, Tag};
-use crate::limits::{is_message_within, is_tag_within, joined_len};
+use crate::limits::{is_tag_within, joined_len};
 use ring_core::cost::Meter;
 use ring_core::error::Unspecified;
 

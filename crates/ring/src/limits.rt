@@ -1,10 +1,12 @@
-//! The tests of lengths: total over `u128`, so that no sum wraps before it is tested.
+//! The tests of lengths above a digest's own, which stands beside its limit
+//! (`digest::algorithm::is_message_within`): total over `u128`, so that no sum wraps before it is
+//! tested.
 
 ghost use Rattle.std.specs.Prelude.{◌≡◌, ◌↔◌, IsTrue, length};
-ghost use Rattle.ring.specs.Limits.{CanDerive, CanVerify, IsInfoWithin, IsMessageWithin, IsOutputWithin, IsTagWithin};
+ghost use Rattle.ring.specs.Limits.{CanDerive, CanVerify, IsInfoWithin, IsOutputWithin, IsTagWithin};
 ghost use Rattle.ring.specs.Pieces.{joined};
 
-use crate::digest::algorithm::Algorithm;
+use crate::digest::algorithm::{Algorithm, is_message_within};
 
 // The most rounds of an output: a round's number is one byte (RFC 5869, section 2.3).
 const MAX_ROUNDS: u128 = 255;
@@ -24,13 +26,6 @@ pub(crate) fn joined_len(pieces: &[&[u8]]) -> u128
         len += piece.len() as u128;
     }
     len
-}
-
-// Whether a message of `len` bytes has a digest.
-pub(crate) fn is_message_within(algorithm: &Algorithm, len: u128) -> bool
-    ensures { IsTrue result ↔ IsMessageWithin algorithm.now len }
-{
-    len <= algorithm.max_input_len()
 }
 
 // Whether a message of `len` bytes has a tag: one block comes before it.

@@ -5,6 +5,7 @@ ghost use Rattle.ring_core.specs.Sha1 as sha1;
 ghost use Rattle.ring_core.specs.Sha2.{block_step, family_256, family_512};
 ghost use Rattle.ring.specs.Algorithm.{block_function, block_len, chaining_len, chaining_words, initial_words, is_state_of, length_len, max_input_len, name_of, output_len, row, spare_words, word_count};
 ghost use Rattle.ring.specs.Initial.{AreSquareRoots};
+ghost use Rattle.ring.specs.Limits.{IsMessageWithin};
 
 use crate::digest::dynstate::DynState;
 use crate::digest::initial;
@@ -153,6 +154,15 @@ impl Algorithm {
             AlgorithmId::Sha512_256 => DynState::As64(initial::SHA512_256),
         }
     }
+}
+
+// Whether a message of `len` bytes has a digest. What knows the whole length at its door tests it
+// there, so that no block is run for what is refused; a context learns its length only at its end,
+// so `BlockContext::try_finish` tests it again for all.
+pub(crate) fn is_message_within(algorithm: &Algorithm, len: u128) -> bool
+    ensures { IsTrue result ↔ IsMessageWithin algorithm.now len }
+{
+    len <= algorithm.max_input_len()
 }
 
 /// Each constant is its name's row of the standard's table (FIPS 180-4, section 1, figure 1), with

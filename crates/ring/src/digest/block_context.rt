@@ -9,11 +9,10 @@ ghost use Rattle.ring.specs.Digest.{IsDigest, digest_algorithm, digest_of};
 ghost use Rattle.ring.specs.Padding.{padded};
 ghost use Rattle.ring.specs.declared.digest.algorithm.Algorithm.{Algorithm};
 
-use crate::digest::algorithm::{Algorithm, MAX_BLOCK_LEN};
+use crate::digest::algorithm::{Algorithm, MAX_BLOCK_LEN, is_message_within};
 use crate::digest::dynstate::{DynState, Output, long_output, short_output};
 use crate::digest::padding;
 use crate::digest::value::Digest;
-use crate::limits::is_message_within;
 use ring_core::cost::Meter;
 use ring_core::digest::sha1::sha1_block_data_order_counted;
 use ring_core::digest::sha2::{

@@ -5,14 +5,13 @@ use Rattle.std.proofs.lemmas.Bool.Decides.{nat_tests, same_from_decides}
 use Rattle.std.specs.Str.{bytes_eq}
 use Rattle.std.proofs.lemmas.Slice.Eq.{bytes_eq-Decides}
 use Rattle.std.proofs.lemmas.Bool.{false_from_ne_true, true_from_ne_false}
-use Rattle.ring.specs.Algorithm.{output_len}
 use Rattle.ring.specs.Cost.{Counts, derive_blocks, fill_blocks, raised}
 use Rattle.ring.specs.Okm.{CanFill}
-use Rattle.ring.specs.Limits.{CanDerive, CanVerify, IsInfoWithin, IsOutputWithin}
+use Rattle.ring.specs.Limits.{CanDerive, CanVerify, IsInfoWithin, IsOutputWithin, can_derive}
+use Rattle.ring.specs.Limits.{can_expand, can_verify, max_okm_len}
 use Rattle.ring.specs.declared.digest.algorithm.Algorithm.{Algorithm}
 use Rattle.ring.proofs.Costs.{IsNew}
 use Rattle.ring_bench.proofs.Counts.{fill_count}
-use Rattle.ring_bench.specs.Request.{can_derive, can_expand}
 
 -- a test of a limit passes exactly where the limit holds
 pub passes : {n most : ℕ} → n ≤ most → nat_le n most ≡ true
@@ -65,13 +64,13 @@ can_derive-true h =
     grind (arith, nat_tests)
 
 pub can_verify-true : {a : Algorithm} {p s n : ℕ} → CanVerify a p s n
-    → (nat_le 1 n && can_derive a p s n) ≡ true
+    → can_verify a p s n ≡ true
 can_verify-true h =
     let some = h.nonempty in
     let rest = can_derive-true h.within in
     grind (arith, nat_tests)
 
-can_verify-within : (a : Algorithm) (p s n : ℕ) → (nat_le 1 n && can_derive a p s n) ≡ true
+can_verify-within : (a : Algorithm) (p s n : ℕ) → can_verify a p s n ≡ true
     → CanVerify a p s n
 can_verify-within a p s n e = record {
   nonempty = grind (arith, nat_tests);
@@ -87,9 +86,9 @@ module _ {a : Algorithm} {p s n : ℕ} {before after : Counts} (none : IsNew bef
   -- where it adds no block, it was refused
   pub derived-refused : (c pairs : ℕ)
       → (CanVerify a p s n → after ≡ raised before (derive_blocks a p s c n) pairs)
-      → after.blocks ≡ 0 → (nat_le 1 n && can_derive a p s n) ≡ false
+      → after.blocks ≡ 0 → can_verify a p s n ≡ false
   derived-refused c pairs cost same =
-      false_from_ne_true (nat_le 1 n && can_derive a p s n) (λ e.
+      false_from_ne_true (can_verify a p s n) (λ e.
       let can = can_verify-within a p s n e in
       adds (derive_blocks a p s c n) pairs none (omega arith) (cost can) same)
 
@@ -99,7 +98,7 @@ module _ {a : Algorithm} {p s n : ℕ} {before after : Counts} (none : IsNew bef
   derived-within kept some =
       let blocks_kept = λ (never : CanVerify a p s n → ⊥).
       ap (λ (x : Counts). x.blocks) (kept never ∙ none) in
-      can_verify-within a p s n (true_from_ne_false (nat_le 1 n && can_derive a p s n) (λ e.
+      can_verify-within a p s n (true_from_ne_false (can_verify a p s n) (λ e.
       some (blocks_kept (λ h. true≢false (sym (can_verify-true h) ∙ e)))))
 
 -- an output that was asked for: its algorithm, the length of its info, and its number of bytes
@@ -112,7 +111,7 @@ module _ {a b : Algorithm} {i j n number : ℕ} (algorithm : b ≡ a) (info_len 
       (record { same_len = refl; within = can_expand-within a i n e })
 
   -- where it was filled, the test passes, and its blocks come after those of its PRK
-  pub filled : {len : ℕ} {m1 : Counts} (m0 : Counts) → (255 * output_len a < n → ⊥)
+  pub filled : {len : ℕ} {m1 : Counts} (m0 : Counts) → (max_okm_len a < n → ⊥)
       → CanFill b j number len → m0.blocks < 2 ^ 64 → m1 ≡ raised m0 (fill_blocks b j number) 0
       → (can_expand a i n ≡ true) × (m1.blocks ≡ m0.blocks + fill_blocks a i n)
   filled m0 over can room cost =

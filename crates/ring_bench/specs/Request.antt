@@ -1,13 +1,13 @@
 -- What a request is answered.
-use Rattle.std.specs.Prelude.{◌==◌, ◌&&◌, ◌||◌, ℕ, ◌+◌, ◌-◌, ◌*◌, ◌^◌, Bool, List, length, nat_le}
+use Rattle.std.specs.Prelude.{ℕ, ◌+◌, Bool, List, length}
 use Rattle.std.specs.Prelude.{if◌then◌else◌}
 use Rattle.std.specs.List.{flat_map}
 use Rattle.std.specs.Str.{bytes_eq}
-use Rattle.ring.specs.Algorithm.{block_len, max_input_len, output_len}
 use Rattle.ring.specs.Cost.{derive_blocks, fill_blocks, key_blocks, padded_blocks}
 use Rattle.ring.specs.Digest.{digest_of}
 use Rattle.ring.specs.Hkdf.{hash_of, okm}
 use Rattle.ring.specs.Hmac.{based_on, hmac_of}
+use Rattle.ring.specs.Limits.{can_derive, can_expand, can_verify, fits, tag_input_len}
 use Rattle.ring.specs.Pbkdf2.{dk, prf_algorithm}
 use Rattle.ring.specs.declared.digest.algorithm.Algorithm.{Algorithm as DigestAlgorithm}
 use Rattle.ring.specs.declared.hmac.algorithm.Algorithm.{Algorithm as HmacAlgorithm}
@@ -32,10 +32,6 @@ joined pieces = flat_map (λ piece. piece) pieces
 abbrev pub when : Bool → Response → Response
 when fits answer = if fits then answer else refused
 
--- n bytes are no more than a message may have
-abbrev pub fits : DigestAlgorithm → ℕ → Bool
-fits a n = nat_le n (max_input_len a)
-
 -- the answer, where n bytes are no more than a message may have
 abbrev pub within : DigestAlgorithm → ℕ → Response → Response
 within a n answer = when (fits a n) answer
@@ -46,17 +42,16 @@ digest_answer a pieces =
     within a (length (joined pieces))
     (given (digest_of a (joined pieces)) (padded_blocks a (length (joined pieces))))
 
--- the tag of the message m under the key k, after so many blocks; one block comes before the
--- message
+-- the tag of the message m under the key k, after so many blocks
 unfoldable pub tag_answer : DigestAlgorithm → List ℕ → List ℕ → ℕ → Response
 tag_answer a k m before =
-    within a (block_len a + length m)
+    within a (tag_input_len a (length m))
     (given (hmac_of a k m) (before + (padded_blocks a (length m) + 1)))
 
 -- whether t is the whole tag of the message m under the key k, after so many blocks
 unfoldable pub verdict_answer : DigestAlgorithm → List ℕ → List ℕ → List ℕ → ℕ → Response
 verdict_answer a k m t before =
-    within a (block_len a + length m)
+    within a (tag_input_len a (length m))
     (verified (bytes_eq t (hmac_of a k m)) (before + (padded_blocks a (length m) + 1)))
 
 -- the tag of the joined pieces under a key of these bytes
@@ -71,14 +66,6 @@ hmac_verify_answer a k pieces t =
     within (based_on a) (length k)
     (verdict_answer (based_on a) k (joined pieces) t (key_blocks (based_on a) (length k)))
 
--- n bytes of output may be asked for, and each round is within the limit of tags: one block, the
--- info and a number, and from the second round on a tag before the info
-abbrev pub can_expand : DigestAlgorithm → (info_len n : ℕ) → Bool
-can_expand a info_len n =
-    nat_le n (255 * output_len a)
-    && fits a (block_len a + (info_len + 1))
-    && (nat_le n (output_len a) || fits a (block_len a + (output_len a + info_len + 1)))
-
 -- n bytes of the output of the PRK k with this info, after so many blocks
 unfoldable pub output_answer : DigestAlgorithm → (k info : List ℕ) → (n before : ℕ) → Response
 output_answer a k info n before =
@@ -90,17 +77,9 @@ output_answer a k info n before =
 unfoldable pub hkdf_answer : HkdfAlgorithm → (salt secret : List ℕ) → List (List ℕ) → ℕ → Response
 hkdf_answer a salt secret pieces n =
     within (hash_of a) (length salt)
-    (within (hash_of a) (block_len (hash_of a) + length secret)
+    (within (hash_of a) (tag_input_len (hash_of a) (length secret))
     (output_answer (hash_of a) (hmac_of (hash_of a) salt secret) (joined pieces) n
     (key_blocks (hash_of a) (length salt) + (padded_blocks (hash_of a) (length secret) + 3))))
-
--- n bytes can be derived: the secret is within the limit, and so are, for some output, one block,
--- the salt and a number
-abbrev pub can_derive : DigestAlgorithm → (secret_len salt_len n : ℕ) → Bool
-can_derive a secret_len salt_len n =
-    fits a secret_len
-    && (n == 0 || fits a (block_len a + (salt_len + 4)))
-    && nat_le n ((2 ^ 32 - 1) * output_len a)
 
 -- n bytes derived from the secret p and the salt s by c iterations
 unfoldable pub pbkdf2_answer : Pbkdf2Algorithm → ℕ → (p s : List ℕ) → ℕ → Response
@@ -113,8 +92,7 @@ pbkdf2_answer a c p s n =
 -- iterations
 unfoldable pub pbkdf2_verify_answer : Pbkdf2Algorithm → ℕ → (p s value : List ℕ) → Response
 pbkdf2_verify_answer a c p s value =
-    when (nat_le 1 (length value)
-    && can_derive (prf_algorithm a) (length p) (length s) (length value))
+    when (can_verify (prf_algorithm a) (length p) (length s) (length value))
     (verified (bytes_eq value (dk (prf_algorithm a) p s c (length value)))
     (derive_blocks (prf_algorithm a) (length p) (length s) c (length value)))
 

@@ -5,7 +5,8 @@ use Rattle.std.proofs.lemmas.Bool.{false_from_ne_true}
 use Rattle.ring.specs.Hkdf.{okm, prk_algorithm}
 use Rattle.ring.specs.Okm.{okm_algorithm}
 use Rattle.ring.specs.Pieces.{joined as joined_parts}
-use Rattle.ring_bench.specs.Request.{can_expand, output_answer}
+use Rattle.ring.specs.Limits.{can_expand}
+use Rattle.ring_bench.specs.Request.{output_answer}
 use Rattle.ring_bench.proofs.Limits.{can_fill, filled}
 use Rattle.ring_bench.proofs.request.output_of.Goals as goal
 

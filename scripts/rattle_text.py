@@ -57,6 +57,8 @@ def blocks(text):
     for it in re.finditer(r"^(?:pub )?(impl|trait)\b([^{]*)\{", text, re.M):
         of_trait = it.group(1) == "trait" or " for " in it.group(2)
         subject = re.sub(r"^<[^{]*?>(?=\s)", "", it.group(2)).split(" for ")[-1]
+        # `hmac::Algorithm` is HmacAlgorithm in the check's lines.
+        subject = re.sub(r"\b([a-z]+)::", lambda path: path.group(1).capitalize(), subject)
         name, *arguments = re.findall(r"(?<!')\b\w+", subject) or [""]
         yield name, tuple(arguments), of_trait, it.start(), end_of(text, it.end() - 1)
 

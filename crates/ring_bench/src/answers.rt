@@ -1,9 +1,11 @@
 //! The answer to a line: what it says, what it is told, and the line feed behind it.
 ghost use Rattle.std.specs.Prelude.{◌≡◌, ◌++◌, OnOk, IfOk, IfErr, OnErr};
 ghost use Rattle.ring_bench.specs.declared.status.BenchError.TheVariants.{Memory};
-ghost use Rattle.ring_bench.specs.Reply.{ended, kind, reply};
+ghost use Rattle.ring_bench.specs.Line.{asked};
+ghost use Rattle.ring_bench.specs.Reply.{ended, kind, reply, text_of};
+ghost use Rattle.ring_bench.specs.Request.{answer_of};
 
-use crate::line::{self, Line};
+use crate::line::{self, Line, Request};
 use crate::reply::written;
 use crate::request;
 use crate::status::BenchError;
@@ -38,11 +40,26 @@ pub fn answer_in<A: Allocator + Copy, B: Allocator>(
             Ok(LineKind::Bad)
         }
         Line::Asks(request) => {
-            let text = written(alloc, &request::respond(alloc, &request)?)?;
-            append_ended(out, text.as_bytes())?;
+            append_response(alloc, &request, out)?;
             Ok(LineKind::Answered)
         }
     }
+}
+
+/// Adds the response to a request and a line feed, or nothing.
+fn append_response<A: Allocator + Copy, B: Allocator>(
+    alloc: A,
+    request: &Request<A>,
+    out: &mut Vec<u8, B>,
+) -> Result<(), BenchError>
+    ensures ok { OnOk result (out.new.items
+        ≡ out.old.items ++ ended (text_of (answer_of (asked request.now)))) }
+    ensures memory { IfErr result (λ error. error ≡ Memory) }
+    ensures unchanged { OnErr result (out.new.items ≡ out.old.items) }
+{
+    let response = request::respond(alloc, request)?;
+    let text = written(alloc, &response)?;
+    append_ended(out, text.as_bytes())
 }
 
 /// Adds a text and a line feed at the end, or nothing.

@@ -12,7 +12,7 @@ int main(int count, char **words) {
     if (yz_hmac_key_init(YZ_SHA256, value, strlen(words[2]), &key) != YZ_OK) return 1;
     yz_status signing = yz_hmac_key_sign(&key, message, strlen(words[1]), tag, sizeof tag);
     yz_status verdict = yz_hmac_key_verify(&key, message, strlen(words[1]), tag, sizeof tag);
-    yz_clear((uint8_t *)&key, sizeof key);
+    yz_clear(&key, sizeof key);
     if (signing != YZ_OK || verdict != YZ_OK) return 1;
     for (size_t i = 0; i < sizeof tag; i++) printf("%02x", tag[i]);
     putchar('\n');

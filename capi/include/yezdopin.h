@@ -1,6 +1,9 @@
-/* Digests (FIPS 180-4), tags (HMAC, RFC 2104) and derived keys (HKDF, RFC 5869, and PBKDF2,
- * RFC 2898), each call proved to give the standard's bytes. README.md beside this folder says what
- * is proved and what is not.
+/* SPDX-License-Identifier: ISC
+ * Copyright 2026 the Yezdopin authors.
+ *
+ * Digests (FIPS 180-4), tags (HMAC, RFC 2104) and derived keys (HKDF, RFC 5869, and PBKDF2,
+ * RFC 2898), each call proved to give the standard's bytes. What is proved and what is not stands
+ * in README.md, which is installed as share/doc/yezdopin/README.md.
  *
  * Each call returns whatever it is given. It takes no memory from the system, keeps no state and
  * sets no errno, so that calls may run in any threads at once, as long as no two share memory that
@@ -169,8 +172,9 @@ yz_status yz_pbkdf2_verify(uint32_t algorithm, uint32_t iterations,
 /* Whether both are equal. Where the lengths agree it reads all of both. */
 bool yz_equal(const uint8_t *a, size_t a_len, const uint8_t *b, size_t b_len) YZ_MUST_CHECK;
 
-/* Writes zeros over the bytes. As a call into a library it isn't left out by a compiler. */
-void yz_clear(uint8_t *bytes, size_t bytes_len);
+/* Writes zeros over the bytes: of a context or a key, yz_clear(&key, sizeof key). As a call into a
+ * library it isn't left out by a compiler. */
+void yz_clear(void *bytes, size_t bytes_len);
 
 #ifdef __cplusplus
 }

@@ -68,7 +68,7 @@ static void digests(uint32_t n) {
         is(yz_digest_update(&context, message, LEN[i]), YZ_OK);
         is(yz_digest_update(&context, key, other(i)), YZ_OK);
         is(yz_digest_final(&context, out, len), YZ_OK);
-        yz_clear((uint8_t *)&context, sizeof context);
+        yz_clear(&context, sizeof context);
     }
     end("digest of a message, whole and in pieces", n, false);
 }

@@ -24,6 +24,8 @@ static uint32_t number_of(const char *name) {
     return 0;
 }
 
+static size_t length_of(const char *digits) { return strtoul(digits, NULL, 10); }
+
 /* The bytes of hex digits, up to their end or a comma; none for `-`. */
 static piece bytes_of(const char *hex) {
     size_t digits = *hex == '-' ? 0 : strcspn(hex, ",");
@@ -114,6 +116,7 @@ static yz_status expand(uint32_t n, piece salt, piece secret, piece info, uint8_
 static void answer(char **field, int count, char *text) {
     static uint8_t out[65536];
     uint32_t n = number_of(field[1]);
+    uint32_t iterations = (uint32_t)length_of(field[2]);
     size_t len = yz_output_len(n);
     piece a = {NULL, 0}, b = a, c = a;
     yz_status status = YZ_UNKNOWN_ALGORITHM;
@@ -127,16 +130,15 @@ static void answer(char **field, int count, char *text) {
         a = bytes_of(field[2]), b = joined(field[3]), c = bytes_of(field[4]);
         status = verify(n, a, b, c), verdict = 1;
     } else if (!strcmp(field[0], "hkdf") && count == 6) {
-        a = bytes_of(field[2]), b = bytes_of(field[3]), c = joined(field[4]), len = atol(field[5]);
+        a = bytes_of(field[2]), b = bytes_of(field[3]), c = joined(field[4]);
+        len = length_of(field[5]);
         status = expand(n, a, b, c, out, len);
     } else if (!strcmp(field[0], "pbkdf2") && count == 6) {
-        a = bytes_of(field[3]), b = bytes_of(field[4]), len = atol(field[5]);
-        status = yz_pbkdf2_derive(n, strtoul(field[2], NULL, 10), b.bytes, b.len, a.bytes, a.len,
-                                  out, len);
+        a = bytes_of(field[3]), b = bytes_of(field[4]), len = length_of(field[5]);
+        status = yz_pbkdf2_derive(n, iterations, b.bytes, b.len, a.bytes, a.len, out, len);
     } else if (!strcmp(field[0], "pbkdf2-verify") && count == 6) {
         a = bytes_of(field[3]), b = bytes_of(field[4]), c = bytes_of(field[5]), verdict = 1;
-        status = yz_pbkdf2_verify(n, strtoul(field[2], NULL, 10), b.bytes, b.len, a.bytes, a.len,
-                                  c.bytes, c.len);
+        status = yz_pbkdf2_verify(n, iterations, b.bytes, b.len, a.bytes, a.len, c.bytes, c.len);
     }
     free(a.bytes), free(b.bytes), free(c.bytes);
     if (verdict) {
@@ -154,8 +156,9 @@ static void answer(char **field, int count, char *text) {
 /* Whether the answer to a line is the wanted one. */
 static bool agrees(const char *line, char *wanted) {
     static char got[1 << 18];
-    char *fields[MOST_FIELDS], *copy = held(strdup(line));
+    char none[] = "", *fields[MOST_FIELDS], *copy = held(strdup(line));
     int count = 0;
+    for (int i = 0; i < MOST_FIELDS; i++) fields[i] = none;
     for (char *at = strtok(copy, " "); at && count < MOST_FIELDS; at = strtok(NULL, " "))
         fields[count++] = at;
     answer(fields, count, got);

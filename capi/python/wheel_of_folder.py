@@ -1,22 +1,25 @@
 """What pip asks for to install this folder (PEP 517), so that it needs no package beside itself."""
 
+from __future__ import annotations
+
 import base64
 import hashlib
 import pathlib
 import re
 import zipfile
+from typing import Any, Iterator, Tuple
 
 FOLDER = pathlib.Path(__file__).resolve().parent
 TAG = "py3-none-any"
 
 
-def _said(name):
+def _said(name: str) -> str:
     """What pyproject.toml says of a name, which is a plain string there."""
     text = (FOLDER / "pyproject.toml").read_text()
-    return re.search(rf'^{name} = "(.*)"$', text, re.M).group(1)
+    return str(re.findall(rf'^{name} = "(.*)"$', text, re.M)[0])
 
 
-def _files(info):
+def _files(info: str) -> Iterator[Tuple[str, bytes]]:
     """Each file of the package, and of what is said about it, as a name and its bytes."""
     for path in sorted((FOLDER / "yezdopin").iterdir()):
         if path.suffix == ".py" or path.name == "py.typed":
@@ -25,6 +28,7 @@ def _files(info):
 Name: {_said("name")}
 Version: {_said("version")}
 Summary: {_said("description")}
+License: {_said("license")}
 Requires-Python: {_said("requires-python")}
 Description-Content-Type: text/markdown
 
@@ -34,7 +38,9 @@ Description-Content-Type: text/markdown
     yield f"{info}/WHEEL", wheel.encode()
 
 
-def build_wheel(wheel_directory, config_settings=None, metadata_directory=None):
+def build_wheel(
+    wheel_directory: str, config_settings: Any = None, metadata_directory: Any = None
+) -> str:
     """Writes the wheel, and gives its name."""
     stem = f"{_said('name')}-{_said('version')}"
     info, name, record = f"{stem}.dist-info", f"{stem}-{TAG}.whl", []

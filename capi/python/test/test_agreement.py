@@ -6,6 +6,8 @@ import hmac
 import os
 import pathlib
 import random
+import subprocess
+import sys
 import threading
 import unittest
 
@@ -166,8 +168,16 @@ class Refusals(unittest.TestCase):
                 yezdopin.pbkdf2_hmac("sha256", b"", b"", iterations, 4)
         with self.assertRaises(ValueError):
             yezdopin.hkdf("sha256", b"", b"", b"", -1)
-        with self.assertRaises(TypeError):
-            yezdopin.sha256("text")
+        for call, argument in ((yezdopin.sha256, "text"), (yezdopin.new, hashlib.sha256)):
+            with self.assertRaises(TypeError):
+                call(argument)
+
+    def test_no_library(self):
+        """Where the library isn't found, the error says what to do."""
+        apart = dict(os.environ, YEZDOPIN_LIBRARY="/nowhere/libyezdopin.so")
+        command = [sys.executable, "-B", "-c", "import yezdopin"]
+        run = subprocess.run(command, env=apart, capture_output=True, text=True, check=False)
+        self.assertRegex(run.stderr, "\nImportError: .*nowhere.*install libyezdopin")
 
 
 def pieces_of(field):

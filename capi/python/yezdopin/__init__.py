@@ -13,11 +13,13 @@
 `bytearray`, `memoryview`. What the library refuses raises `Error`, a `ValueError`.
 """
 
+from __future__ import annotations
+
 import ctypes
-from typing import Any, Optional, TypeVar
+from typing import Optional, TypeVar
 
 from yezdopin import _library
-from yezdopin._library import Error
+from yezdopin._library import Buffer, Error
 
 __all__ = [
     "Digest",
@@ -47,7 +49,9 @@ _Self = TypeVar("_Self", bound="Digest")
 class Digest:
     """A digest of a message in pieces, as `hashlib`'s objects."""
 
-    def __init__(self, name: str, data: Any = b"") -> None:
+    _context: ctypes.Structure
+
+    def __init__(self, name: str, data: Buffer = b"") -> None:
         number = _library.number_of(name)
         self.name = _library.name_of(number)
         self.digest_size: int = _library.output_len(number)
@@ -56,7 +60,7 @@ class Digest:
         _library.done(_library.digest_init(number, ctypes.byref(self._context)))
         self.update(data)
 
-    def update(self, data: Any) -> None:
+    def update(self, data: Buffer) -> None:
         """Adds bytes to the message."""
         context = ctypes.byref(self._context)
         _library.done(_library.answer(_library.digest_update, [context], [data]))
@@ -82,38 +86,42 @@ class Digest:
             _library.clear(self._context)
 
 
-def new(name: str, data: Any = b"") -> Digest:
+def new(name: str, data: Buffer = b"") -> Digest:
     """A digest under the algorithm of a name, as `hashlib.new`."""
     return Digest(name, data)
 
 
-def sha1(data: Any = b"") -> Digest:
+def sha1(data: Buffer = b"") -> Digest:
     """SHA-1 (FIPS 180-4), which is broken: for what must still read old data."""
     return Digest("sha1", data)
 
 
-def sha256(data: Any = b"") -> Digest:
+def sha256(data: Buffer = b"") -> Digest:
     """SHA-256 (FIPS 180-4)."""
     return Digest("sha256", data)
 
 
-def sha384(data: Any = b"") -> Digest:
+def sha384(data: Buffer = b"") -> Digest:
     """SHA-384 (FIPS 180-4)."""
     return Digest("sha384", data)
 
 
-def sha512(data: Any = b"") -> Digest:
+def sha512(data: Buffer = b"") -> Digest:
     """SHA-512 (FIPS 180-4)."""
     return Digest("sha512", data)
 
 
-def sha512_256(data: Any = b"") -> Digest:
+def sha512_256(data: Buffer = b"") -> Digest:
     """SHA-512/256 (FIPS 180-4)."""
     return Digest("sha512_256", data)
 
 
 def pbkdf2_hmac(
-    hash_name: str, password: Any, salt: Any, iterations: int, dklen: Optional[int] = None
+    hash_name: str,
+    password: Buffer,
+    salt: Buffer,
+    iterations: int,
+    dklen: Optional[int] = None,
 ) -> bytes:
     """The key that is derived from a password (RFC 2898), as `hashlib.pbkdf2_hmac`."""
     number = _library.number_of(hash_name)
@@ -123,7 +131,7 @@ def pbkdf2_hmac(
 
 
 def pbkdf2_hmac_verify(
-    hash_name: str, password: Any, salt: Any, iterations: int, derived: Any
+    hash_name: str, password: Buffer, salt: Buffer, iterations: int, derived: Buffer
 ) -> bool:
     """Whether `derived` isn't empty, and is what `pbkdf2_hmac` gives for its length."""
     first = [_library.number_of(hash_name), _iterations(iterations)]
@@ -137,13 +145,13 @@ def _iterations(iterations: int) -> int:
     return iterations
 
 
-def hkdf(hash_name: str, secret: Any, salt: Any, info: Any, length: int) -> bytes:
+def hkdf(hash_name: str, secret: Buffer, salt: Buffer, info: Buffer, length: int) -> bytes:
     """`length` bytes of output for `info` (RFC 5869): extract, and then expand."""
     first = [_library.number_of(hash_name)]
     return _library.output(_library.hkdf, first, [salt, secret, info], length)
 
 
-def hkdf_extract(hash_name: str, secret: Any, salt: Any = b"") -> bytes:
+def hkdf_extract(hash_name: str, secret: Buffer, salt: Buffer = b"") -> bytes:
     """The pseudorandom key of a secret (RFC 5869, 2.2)."""
     number = _library.number_of(hash_name)
     return _library.output(
@@ -151,12 +159,12 @@ def hkdf_extract(hash_name: str, secret: Any, salt: Any = b"") -> bytes:
     )
 
 
-def hkdf_expand(hash_name: str, prk: Any, info: Any, length: int) -> bytes:
+def hkdf_expand(hash_name: str, prk: Buffer, info: Buffer, length: int) -> bytes:
     """`length` bytes of output of a pseudorandom key for `info` (RFC 5869, 2.3)."""
     first = [_library.number_of(hash_name)]
     return _library.output(_library.hkdf_expand, first, [prk, info], length)
 
 
-def compare_digest(a: Any, b: Any) -> bool:
+def compare_digest(a: Buffer, b: Buffer) -> bool:
     """Whether both are equal bytes, of which all are read where the lengths agree."""
     return bool(_library.answer(_library.equal, [], [a, b]))

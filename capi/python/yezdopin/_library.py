@@ -1,9 +1,18 @@
 """The calls of libyezdopin, as its header declares them."""
 
+from __future__ import annotations
+
 import ctypes
 import ctypes.util
 import os
-from typing import Any, Iterable, List, Optional, Tuple
+from typing import TYPE_CHECKING, Any, Iterable, List, Optional, Tuple
+
+if TYPE_CHECKING:
+    from _typeshed import ReadableBuffer
+
+    Buffer = ReadableBuffer
+else:
+    Buffer = Any
 
 # The major version whose layout of contexts and keys stands below.
 _MAJOR = 0
@@ -60,7 +69,11 @@ def _loaded() -> ctypes.CDLL:
     """The library: that of YEZDOPIN_LIBRARY, or the system's."""
     given = os.environ.get("YEZDOPIN_LIBRARY")
     found = given or ctypes.util.find_library("yezdopin") or f"libyezdopin.so.{_MAJOR}"
-    library = ctypes.CDLL(found)
+    try:
+        library = ctypes.CDLL(found)
+    except OSError as error:
+        advice = "install libyezdopin, then run ldconfig, or name its file in YEZDOPIN_LIBRARY"
+        raise ImportError(f"{error} ({advice})") from None
     library.yz_version.argtypes, library.yz_version.restype = [], ctypes.c_uint32
     if library.yz_version() >> 16 != _MAJOR:
         raise ImportError("libyezdopin has another layout of contexts and keys")
@@ -103,6 +116,8 @@ block_len = _declared("yz_block_len", [_NUMBER], ctypes.c_size_t)
 
 def number_of(name: str) -> int:
     """The number of an algorithm's name."""
+    if not isinstance(name, str):
+        raise TypeError("an algorithm is wanted by its name, as 'sha256'")
     number = _NUMBERS.get(name.lower().replace("-", "").replace("/", "_"))
     if number is None:
         raise Error(1)
@@ -119,7 +134,7 @@ def clear(value: ctypes.Structure) -> None:
     _clear(ctypes.byref(value), ctypes.sizeof(value))
 
 
-def _lent(data: Any) -> Tuple[Optional[Any], int, Any]:
+def _lent(data: Buffer) -> Tuple[Optional[Any], int, Any]:
     """A pointer to a buffer's bytes, their number, and what keeps them where they are."""
     if isinstance(data, str):
         raise TypeError("bytes are wanted and not a str")
@@ -133,7 +148,7 @@ def _lent(data: Any) -> Tuple[Optional[Any], int, Any]:
     return ctypes.cast(lent, _POINTER), view.nbytes, lent
 
 
-def answer(call: Any, first: Iterable[Any], inputs: Iterable[Any], *last: Any) -> Any:
+def answer(call: Any, first: Iterable[Any], inputs: Iterable[Buffer], *last: Any) -> Any:
     """What a call answers to some values, the bytes of some buffers, and some values more."""
     arguments, held = list(first), []
     for data in inputs:
@@ -156,7 +171,7 @@ def is_verified(status: int) -> bool:
     return status == _OK
 
 
-def output(call: Any, first: Iterable[Any], inputs: Iterable[Any], length: int) -> bytes:
+def output(call: Any, first: Iterable[Any], inputs: Iterable[Buffer], length: int) -> bytes:
     """The `length` bytes that a call writes."""
     if length < 0:
         raise ValueError("a length below 0")

@@ -9,10 +9,13 @@
     True
 """
 
+from __future__ import annotations
+
 import ctypes
-from typing import Any
+from typing import Optional
 
 from yezdopin import Digest, _library, compare_digest
+from yezdopin._library import Buffer
 
 __all__ = ["HMAC", "Key", "compare_digest", "digest", "new", "verify"]
 
@@ -20,7 +23,7 @@ __all__ = ["HMAC", "Key", "compare_digest", "digest", "new", "verify"]
 class Key:
     """A key, whose two blocks are run once for all tags under it. Threads may share it."""
 
-    def __init__(self, key: Any, digestmod: str) -> None:
+    def __init__(self, key: Buffer, digestmod: str) -> None:
         number = _library.number_of(digestmod)
         self.name = _library.name_of(number)
         self.digest_size: int = _library.output_len(number)
@@ -29,18 +32,18 @@ class Key:
         made = ctypes.byref(self._key)
         _library.done(_library.answer(_library.hmac_key_init, [number], [key], made))
 
-    def sign(self, msg: Any) -> bytes:
+    def sign(self, msg: Buffer) -> bytes:
         """The tag of a message."""
         key = ctypes.byref(self._key)
         return _library.output(_library.hmac_key_sign, [key], [msg], self.digest_size)
 
-    def verify(self, msg: Any, tag: Any) -> bool:
+    def verify(self, msg: Buffer, tag: Buffer) -> bool:
         """Whether `tag` is the whole tag of a message."""
         key = ctypes.byref(self._key)
         status = _library.answer(_library.hmac_key_verify, [key], [msg, tag])
         return _library.is_verified(status)
 
-    def new(self, msg: Any = b"") -> "HMAC":
+    def new(self, msg: Buffer = b"") -> HMAC:
         """The tag of a message in pieces."""
         return HMAC(self, msg)
 
@@ -52,7 +55,7 @@ class Key:
 class HMAC(Digest):
     """The tag of a message in pieces, as `hmac.HMAC`."""
 
-    def __init__(self, key: Key, msg: Any = b"") -> None:
+    def __init__(self, key: Key, msg: Buffer = b"") -> None:
         self.name = f"hmac-{key.name}"
         self.digest_size = key.digest_size
         self.block_size = key.block_size
@@ -61,7 +64,7 @@ class HMAC(Digest):
         _library.done(_library.hmac_init(ctypes.byref(key._key), made))
         self.update(msg)
 
-    def update(self, msg: Any) -> None:
+    def update(self, msg: Buffer) -> None:
         """Adds bytes to the message."""
         context = ctypes.byref(self._context)
         _library.done(_library.answer(_library.hmac_update, [context], [msg]))
@@ -72,21 +75,21 @@ class HMAC(Digest):
         return _library.output(_library.hmac_final, [context], [], self.digest_size)
 
 
-def new(key: Any, msg: Any = None, digestmod: str = "") -> HMAC:
+def new(key: Buffer, msg: Optional[Buffer] = None, digestmod: str = "") -> HMAC:
     """The tag of a message in pieces, as `hmac.new`."""
     if not digestmod:
         raise TypeError("digestmod is wanted")
     return HMAC(Key(key, digestmod), b"" if msg is None else msg)
 
 
-def digest(key: Any, msg: Any, digest: str) -> bytes:
+def digest(key: Buffer, msg: Buffer, digest: str) -> bytes:
     """The tag of a message, as `hmac.digest`."""
     number = _library.number_of(digest)
     length = _library.output_len(number)
     return _library.output(_library.hmac_sign, [number], [key, msg], length)
 
 
-def verify(key: Any, msg: Any, tag: Any, digest: str) -> bool:
+def verify(key: Buffer, msg: Buffer, tag: Buffer, digest: str) -> bool:
     """Whether `tag` is the whole tag of a message."""
     first = [_library.number_of(digest)]
     return _library.is_verified(_library.answer(_library.hmac_verify, first, [key, msg, tag]))

@@ -1,163 +1,187 @@
-/* The calls beside OpenSSL's, and beside libsodium's where its header is there, in one run: each
- * row is the least time of some turns, ours and theirs one after another, and their ratio.
- * Answers are compared too. Run it on a machine that does nothing else. */
-#include "yezdopin.h"
-#include <openssl/core_names.h>
-#include <openssl/crypto.h>
-#include <openssl/evp.h>
-#include <openssl/hmac.h>
-#include <openssl/kdf.h>
+/* The calls beside OpenSSL's and libsodium's, each where its header was there: our times, and their
+ * ratios to theirs. All take turns at all work, on one processor, with the stack in changing places
+ * of its page; of each the least processor time of all turns counts. Before, all must give the same
+ * bytes. */
+#define _GNU_SOURCE
+#include "party.h"
+#include <cpuid.h>
+#include <sched.h>
 #include <stdio.h>
 #include <stdlib.h>
 #include <string.h>
 #include <time.h>
-#if __has_include(<sodium.h>)
-#include <sodium.h>
-#define HAS_SODIUM 1
-#endif
 
-#define TURNS 15
+#define TURNS 200
+#define PLACES 16
+#define PAGE 4096
+#define HASHES 3
+#define WORKS 10
 
-static const char *const NAMES[] = {"", "SHA1", "SHA256", "SHA384", "SHA512"};
-static const size_t SIZES[] = {16, 64, 1024, 65536};
-static uint8_t message[65536], ours[64], theirs[64];
+uint8_t message[MOST_MESSAGE], key[KEY_LEN], salt[SALT_LEN], info[INFO_LEN];
+
+enum { OURS, OPENSSL, SODIUM, PARTIES };
+
+static const party *const PARTY[PARTIES] = {&yezdopin, &openssl, &libsodium};
+static const hash HASH[HASHES] = {{"SHA1", 1, 20}, {"SHA256", 2, 32}, {"SHA512", 4, 64}};
+
+typedef struct {
+    const char *name;
+    size_t offset; /* of the call in a party */
+    size_t len;    /* 0: that of a digest */
+    int times;     /* in a turn */
+} work;
+
+#define CALL(member) offsetof(party, member)
+static const work WORK[WORKS] = {
+    {"digest of 16 bytes", CALL(digest), 16, 500},
+    {"digest of 64 bytes", CALL(digest), 64, 500},
+    {"digest of 1 KiB", CALL(digest), 1024, 50},
+    {"digest of 64 KiB", CALL(digest), 65536, 2},
+    {"context: begun, 64 bytes, ended", CALL(pieces), 64, 500},
+    {"update by 16 bytes", CALL(update), 16, 1000},
+    {"tag of 64 bytes", CALL(tag), 64, 200},
+    {"tag of 64 bytes, key ready", CALL(tag_under_key), 64, 500},
+    {"HKDF, 42 bytes", CALL(hkdf), 42, 100},
+    {"PBKDF2, 1,000 iterations", CALL(pbkdf2), 0, 1},
+};
+
+/* The least times, in nanoseconds; 0 where a library doesn't do the work. */
+static double least[WORKS][HASHES][PARTIES];
+
+static void fill(uint8_t *bytes, size_t len) {
+    for (size_t i = 0; i < len; i++) bytes[i] = (uint8_t)rand();
+}
 
 static double now(void) {
     struct timespec time;
-    clock_gettime(CLOCK_MONOTONIC, &time);
+    clock_gettime(CLOCK_PROCESS_CPUTIME_ID, &time);
     return (double)time.tv_sec * 1e9 + (double)time.tv_nsec;
 }
 
-/* A row: `own` is 0 where it went well, and `other` is not. */
-#define ROW(work, name, times, own, other)                                                  \
-    do {                                                                                    \
-        double least = 1e18, other_least = 1e18;                                            \
-        for (int turn = 0; turn < TURNS; turn++) {                                          \
-            double start = now();                                                           \
-            for (int call_ = 0; call_ < (times); call_++)                                   \
-                if (own) abort();                                                           \
-            double took = (now() - start) / (times);                                        \
-            if (took < least) least = took;                                                 \
-            start = now();                                                                  \
-            for (int call_ = 0; call_ < (times); call_++)                                   \
-                if (!(other)) abort();                                                      \
-            took = (now() - start) / (times);                                               \
-            if (took < other_least) other_least = took;                                     \
-        }                                                                                   \
-        printf("| %s | %s | %.0f | %.0f | %.2f |\n", work, name, least, other_least,        \
-               least / other_least);                                                        \
-    } while (0)
-
-static void same(size_t len) {
-    if (memcmp(ours, theirs, len)) abort();
+static void fail(const char *what, const char *where) {
+    fprintf(stderr, "bench: %s: %s\n", where, what);
+    exit(2);
 }
 
-static void digests(uint32_t n, const EVP_MD *md) {
-    EVP_MD_CTX *other = EVP_MD_CTX_new();
-    yz_digest_context context;
-    unsigned written;
-    size_t len = yz_output_len(n);
-    for (size_t i = 0; i < sizeof SIZES / sizeof *SIZES; i++) {
-        char work[64];
-        snprintf(work, sizeof work, "digest of %zu bytes, one call", SIZES[i]);
-        ROW(work, NAMES[n], SIZES[i] > 4096 ? 50 : 3000,
-            yz_digest(n, message, SIZES[i], ours, len),
-            EVP_Digest(message, SIZES[i], theirs, &written, md, NULL));
-        same(len);
-    }
-    if (yz_digest_init(n, &context) || !EVP_DigestInit_ex(other, md, NULL)) abort();
-    ROW("update by 16 bytes", NAMES[n], 3000, yz_digest_update(&context, message, 16),
-        EVP_DigestUpdate(other, message, 16));
-    ROW("init, update by 64 bytes, final", NAMES[n], 3000,
-        yz_digest_init(n, &context) || yz_digest_update(&context, message, 64)
-            || yz_digest_final(&context, ours, len),
-        EVP_DigestInit_ex(other, md, NULL) && EVP_DigestUpdate(other, message, 64)
-            && EVP_DigestFinal_ex(other, theirs, &written));
-    same(len);
-    EVP_MD_CTX_free(other);
+static call *call_of(const party *at, const work *row) {
+    call *found;
+    memcpy(&found, (const char *)at + row->offset, sizeof found);
+    return found;
 }
 
-static void tags(uint32_t n, const EVP_MD *md) {
-    EVP_MAC *mac = EVP_MAC_fetch(NULL, "HMAC", NULL);
-    EVP_MAC_CTX *other = EVP_MAC_CTX_new(mac);
-    OSSL_PARAM named[] = {OSSL_PARAM_construct_utf8_string("digest", (char *)NAMES[n], 0),
-                          OSSL_PARAM_construct_end()};
-    yz_hmac_key key;
-    unsigned written;
-    size_t len = yz_output_len(n), other_len;
-    if (yz_hmac_key_init(n, message, 32, &key) || !EVP_MAC_init(other, message, 32, named)) abort();
-    ROW("tag of 64 bytes, one call", NAMES[n], 2000,
-        yz_hmac_sign(n, message, 32, message, 64, ours, len),
-        HMAC(md, message, 32, message, 64, theirs, &written));
-    same(len);
-    ROW("tag of 64 bytes, key ready", NAMES[n], 2000,
-        yz_hmac_key_sign(&key, message, 64, ours, len),
-        EVP_MAC_init(other, NULL, 0, NULL) && EVP_MAC_update(other, message, 64)
-            && EVP_MAC_final(other, theirs, &other_len, sizeof theirs));
-    same(len);
-    EVP_MAC_CTX_free(other), EVP_MAC_free(mac);
+/* The time of one call, with the stack in one of some places. */
+static double timed(call *run, const work *row, size_t len, int turn) {
+    uint8_t out[MOST_OUT], room[1 + (turn % PLACES) * (PAGE / PLACES)];
+    __asm__ volatile("" : : "r"(room) : "memory"); /* it stays */
+    double start = now();
+    for (int i = 0; i < row->times; i++)
+        if (!run(len, out)) fail("a call failed", row->name);
+    return (now() - start) / row->times;
 }
 
-static int expanded(EVP_KDF_CTX *other, const OSSL_PARAM *given, size_t len) {
-    EVP_KDF_CTX_reset(other);
-    return EVP_KDF_derive(other, theirs, len, given);
-}
-
-static void derived(uint32_t n, const EVP_MD *md) {
-    EVP_KDF *kdf = EVP_KDF_fetch(NULL, "HKDF", NULL);
-    EVP_KDF_CTX *other = EVP_KDF_CTX_new(kdf);
-    uint8_t *salt = message + 100, *info = message + 200;
-    OSSL_PARAM given[] = {OSSL_PARAM_construct_utf8_string("digest", (char *)NAMES[n], 0),
-                          OSSL_PARAM_construct_octet_string("key", message, 32),
-                          OSSL_PARAM_construct_octet_string("salt", salt, 16),
-                          OSSL_PARAM_construct_octet_string("info", info, 10),
-                          OSSL_PARAM_construct_end()};
-    size_t len = yz_output_len(n);
-    ROW("HKDF, 42 bytes", NAMES[n], 1000, yz_hkdf(n, salt, 16, message, 32, info, 10, ours, 42),
-        expanded(other, given, 42));
-    same(42);
-    ROW("PBKDF2, 1,000 iterations, one round", NAMES[n], 1,
-        yz_pbkdf2_derive(n, 1000, salt, 16, message, 12, ours, len),
-        PKCS5_PBKDF2_HMAC((char *)message, 12, salt, 16, 1000, md, (int)len, theirs));
-    same(len);
-    EVP_KDF_CTX_free(other), EVP_KDF_free(kdf);
-}
-
-#ifdef HAS_SODIUM
-static void beside_sodium(void) {
-    printf("\n| Work | Hash | ns | libsodium %s, ns | ratio |\n|---|---|---|---|---|\n",
-           sodium_version_string());
-    for (size_t i = 0; i < sizeof SIZES / sizeof *SIZES; i++) {
-        char work[64];
-        int times = SIZES[i] > 4096 ? 50 : 3000;
-        snprintf(work, sizeof work, "digest of %zu bytes, one call", SIZES[i]);
-        ROW(work, "SHA256", times, yz_digest(YZ_SHA256, message, SIZES[i], ours, 32),
-            !crypto_hash_sha256(theirs, message, SIZES[i]));
-        same(32);
-        ROW(work, "SHA512", times, yz_digest(YZ_SHA512, message, SIZES[i], ours, 64),
-            !crypto_hash_sha512(theirs, message, SIZES[i]));
-        same(64);
-        snprintf(work, sizeof work, "tag of %zu bytes, one call", SIZES[i]);
-        ROW(work, "SHA256", times,
-            yz_hmac_sign(YZ_SHA256, message, 32, message, SIZES[i], ours, 32),
-            !crypto_auth_hmacsha256(theirs, message, SIZES[i], message));
-        same(32);
+/* A turn of all libraries at some work under a hash function. */
+static void take_turn(size_t place, size_t hash_place, const bool *takes_part, int turn) {
+    const work *row = &WORK[place];
+    size_t len = row->len ? row->len : HASH[hash_place].out_len;
+    for (int i = 0; i < PARTIES; i++) {
+        call *run = takes_part[i] ? call_of(PARTY[i], row) : NULL;
+        double *best = &least[place][hash_place][i];
+        if (!run) continue;
+        double took = timed(run, row, len, turn);
+        if (*best == 0 || took < *best) *best = took;
     }
 }
-#endif
+
+/* That all libraries give the same. */
+static void compare(size_t place, size_t hash_place, const bool *takes_part) {
+    const work *row = &WORK[place];
+    size_t len = row->len ? row->len : HASH[hash_place].out_len;
+    uint8_t outs[PARTIES][MOST_OUT] = {{0}};
+    for (int i = 0; i < PARTIES; i++) {
+        call *run = takes_part[i] ? call_of(PARTY[i], row) : NULL;
+        if (!run) continue;
+        if (!run(len, outs[i])) fail("a call failed", row->name);
+        if (memcmp(outs[i], outs[0], MOST_OUT)) fail("the answers differ", row->name);
+    }
+}
+
+/* Stays on one processor, and says which it is. */
+static void stay(void) {
+    cpu_set_t one;
+    unsigned name[13] = {0}, leaf[4] = {0};
+    CPU_ZERO(&one);
+    CPU_SET((size_t)sched_getcpu(), &one);
+    if (sched_setaffinity(0, sizeof one, &one)) fail("can't be kept to", "one processor");
+    for (unsigned i = 0; i < 3; i++) {
+        unsigned *four = name + 4 * i;
+        __get_cpuid(0x80000002 + i, &four[0], &four[1], &four[2], &four[3]);
+    }
+    __get_cpuid_count(7, 0, &leaf[0], &leaf[1], &leaf[2], &leaf[3]);
+    printf("%s, %s AVX2, %s SHA instructions.\n", (const char *)name,
+           __builtin_cpu_supports("avx2") ? "with" : "without",
+           leaf[1] & bit_SHA ? "with" : "without");
+}
+
+static void rule(bool columns[HASHES][PARTIES]) {
+    printf("|---|");
+    for (int h = 0; h < HASHES; h++)
+        for (int i = 0; i < PARTIES; i++)
+            if (columns[h][i]) printf("---|");
+}
+
+static void table(bool columns[HASHES][PARTIES]) {
+    printf("\n| Work |");
+    for (int h = 0; h < HASHES; h++) {
+        printf(" %s |", HASH[h].name);
+        if (columns[h][OPENSSL]) printf(" / OpenSSL |");
+        if (columns[h][SODIUM]) printf(" / libsodium |");
+    }
+    puts("");
+    rule(columns);
+    for (int w = 0; w < WORKS; w++) {
+        printf("\n| %s |", WORK[w].name);
+        for (int h = 0; h < HASHES; h++) {
+            const double *row = least[w][h];
+            if (row[OURS] < 10000) printf(" %.0f ns |", row[OURS]);
+            else printf(" %.0f us |", row[OURS] / 1000);
+            for (int i = OPENSSL; i < PARTIES; i++) {
+                if (columns[h][i] && row[i] > 0) printf(" %.2f |", row[OURS] / row[i]);
+                else if (columns[h][i]) printf(" |");
+            }
+        }
+    }
+    puts("");
+}
+
+/* Tells what takes part. Where OpenSSL is held back, it is the only other. */
+static void tell(const char *held_back) {
+    stay();
+    if (held_back) {
+        printf("%s, OPENSSL_ia32cap=%s.\n", openssl.name(), held_back);
+        return;
+    }
+    if (openssl.name) printf("%s.\n", openssl.name());
+    else puts("OpenSSL 3 is left out: its headers weren't found.");
+    if (libsodium.name) printf("%s.\n", libsodium.name());
+    else puts("libsodium is left out: its header wasn't found.");
+}
 
 int main(void) {
-    for (size_t i = 0; i < sizeof message; i++) message[i] = (uint8_t)rand();
-    printf("| Work | Hash | ns | %s, ns | ratio |\n|---|---|---|---|---|\n",
-           OpenSSL_version(OPENSSL_VERSION));
-    for (uint32_t n = YZ_SHA1; n <= YZ_SHA512; n++) {
-        EVP_MD *md = EVP_MD_fetch(NULL, NAMES[n], NULL);
-        if (!md) return 1;
-        digests(n, md), tags(n, md), derived(n, md);
-        EVP_MD_free(md);
-    }
-#ifdef HAS_SODIUM
-    beside_sodium();
-#endif
+    const char *held_back = getenv("OPENSSL_ia32cap");
+    bool columns[HASHES][PARTIES];
+    if (held_back && !openssl.name) return 0;
+    fill(message, MOST_MESSAGE), fill(key, KEY_LEN), fill(salt, SALT_LEN), fill(info, INFO_LEN);
+    tell(held_back);
+    for (int turn = -1; turn < TURNS; turn++)
+        for (size_t h = 0; h < HASHES; h++) {
+            for (int i = OURS; i < PARTIES; i++)
+                columns[h][i] = PARTY[i]->name && !(held_back && i == SODIUM)
+                    && PARTY[i]->begin(&HASH[h]);
+            for (size_t w = 0; w < WORKS; w++) {
+                if (turn < 0) compare(w, h, columns[h]);
+                else take_turn(w, h, columns[h], turn);
+            }
+        }
+    table(columns);
     return 0;
 }

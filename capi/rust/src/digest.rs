@@ -4,14 +4,36 @@ use crate::calls::{self, DigestContext};
 use crate::done;
 use std::fmt;
 
+/// The bytes of the longest block.
+pub const MAX_BLOCK_LEN: usize = 128;
+
 /// The bytes of the longest digest.
 pub const MAX_OUTPUT_LEN: usize = 64;
+
+/// The bytes of the longest chaining value.
+pub const MAX_CHAINING_LEN: usize = MAX_OUTPUT_LEN;
+
+/// The bytes of a digest by SHA-1.
+pub const SHA1_OUTPUT_LEN: usize = 20;
+
+/// The bytes of a digest by SHA-256.
+pub const SHA256_OUTPUT_LEN: usize = 32;
+
+/// The bytes of a digest by SHA-384.
+pub const SHA384_OUTPUT_LEN: usize = 48;
+
+/// The bytes of a digest by SHA-512.
+pub const SHA512_OUTPUT_LEN: usize = 64;
+
+/// The bytes of a digest by SHA-512/256.
+pub const SHA512_256_OUTPUT_LEN: usize = 32;
 
 /// An algorithm: one of the five constants.
 #[derive(Clone, Copy, PartialEq, Eq)]
 pub struct Algorithm {
     pub(crate) number: u32,
     output_len: usize,
+    chaining_len: usize,
     block_len: usize,
     name: &'static str,
 }
@@ -20,6 +42,11 @@ impl Algorithm {
     /// The bytes of a digest.
     pub fn output_len(&self) -> usize {
         self.output_len
+    }
+
+    /// The bytes of a chaining value, of which a digest is a front.
+    pub fn chaining_len(&self) -> usize {
+        self.chaining_len
     }
 
     /// The bytes of a block.
@@ -35,11 +62,15 @@ impl fmt::Debug for Algorithm {
 }
 
 macro_rules! algorithms {
-    ($($(#[$doc:meta])* $name:ident: $number:expr, $output_len:expr, $block_len:expr;)*) => {
+    ($(
+        $(#[$doc:meta])*
+        $name:ident: $number:expr, $output:expr, $chaining:expr, $block:expr;
+    )*) => {
         $($(#[$doc])* pub static $name: Algorithm = Algorithm {
             number: $number,
-            output_len: $output_len,
-            block_len: $block_len,
+            output_len: $output,
+            chaining_len: $chaining,
+            block_len: $block,
             name: stringify!($name),
         };)*
     };
@@ -47,15 +78,15 @@ macro_rules! algorithms {
 
 algorithms! {
     /// SHA-1, which is broken: for what must still read old data.
-    SHA1_FOR_LEGACY_USE_ONLY: 1, 20, 64;
+    SHA1_FOR_LEGACY_USE_ONLY: 1, SHA1_OUTPUT_LEN, 20, 64;
     /// SHA-256.
-    SHA256: 2, 32, 64;
+    SHA256: 2, SHA256_OUTPUT_LEN, 32, 64;
     /// SHA-384.
-    SHA384: 3, 48, 128;
+    SHA384: 3, SHA384_OUTPUT_LEN, 64, 128;
     /// SHA-512.
-    SHA512: 4, 64, 128;
+    SHA512: 4, SHA512_OUTPUT_LEN, 64, 128;
     /// SHA-512/256.
-    SHA512_256: 5, 32, 128;
+    SHA512_256: 5, SHA512_256_OUTPUT_LEN, 64, 128;
 }
 
 /// A digest.

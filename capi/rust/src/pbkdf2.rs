@@ -44,7 +44,7 @@ pub fn derive(
     done(status).expect("secret, salt and output are within the limits");
 }
 
-/// Ok exactly where `previously_derived` isn't empty and is what [`derive`] gives for its length.
+/// Ok exactly where `previously_derived` isn't empty and is what [`derive()`] gives for its length.
 pub fn verify(
     algorithm: Algorithm,
     iterations: NonZeroU32,

@@ -236,6 +236,24 @@ fn keys_of_outputs() {
 }
 
 #[test]
+fn lengths() {
+    // FIPS 180-4, figure 1.
+    for (name, output_len, chaining_len, block_len) in [
+        ("SHA1", digest::SHA1_OUTPUT_LEN, 20, 64),
+        ("SHA256", digest::SHA256_OUTPUT_LEN, 32, 64),
+        ("SHA384", digest::SHA384_OUTPUT_LEN, 64, 128),
+        ("SHA512", digest::SHA512_OUTPUT_LEN, 64, 128),
+        ("SHA512_256", digest::SHA512_256_OUTPUT_LEN, 64, 128),
+    ] {
+        let algorithm = digest_named(name);
+        assert_eq!(algorithm.output_len(), output_len);
+        assert_eq!(algorithm.chaining_len(), chaining_len);
+        assert_eq!(algorithm.block_len(), block_len);
+        assert_eq!(digest::digest(algorithm, b"").as_ref().len(), output_len);
+    }
+}
+
+#[test]
 fn comparison_texts_and_version() {
     assert!(verify_slices_are_equal(b"same", b"same").is_ok());
     assert!(verify_slices_are_equal(b"same", b"sane").is_err());

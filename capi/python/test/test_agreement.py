@@ -1,5 +1,6 @@
 """Agreement with `hashlib` and `hmac`, whose answers are OpenSSL's, and with vectors/."""
 
+import ctypes
 import doctest
 import hashlib
 import hmac
@@ -12,6 +13,7 @@ import threading
 import unittest
 
 import yezdopin
+from yezdopin import _library
 from yezdopin import hmac as tags
 
 TIMES = 4000
@@ -144,6 +146,14 @@ class Keys(unittest.TestCase):
             a = some(40)
             b = [a, a + b"x", flipped(a) if a else b"x", os.urandom(len(a))][below(4)]
             self.assertEqual(yezdopin.compare_digest(a, b), a == b)
+
+
+class Layout(unittest.TestCase):
+    def test_sizes(self):
+        """Contexts and keys are as long as yezdopin.h says."""
+        sizes = [(_library.DigestContext, 216), (_library.Key, 136), (_library.TagContext, 280)]
+        for structure, size in sizes:
+            self.assertEqual(ctypes.sizeof(structure), size)
 
 
 class Refusals(unittest.TestCase):

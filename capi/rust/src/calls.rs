@@ -61,7 +61,12 @@ impl HmacContext {
 /// The type has no padding, and any bytes are a value of it.
 pub unsafe trait Plain {}
 
-// SAFETY: they are numbers without gaps between them: 216, 136 and 280 bytes.
+// The sizes of yezdopin.h, which are those of the members.
+const _: () = assert!(std::mem::size_of::<DigestContext>() == 216);
+const _: () = assert!(std::mem::size_of::<HmacKey>() == 136);
+const _: () = assert!(std::mem::size_of::<HmacContext>() == 280);
+
+// SAFETY: they are numbers without gaps between them.
 unsafe impl Plain for DigestContext {}
 unsafe impl Plain for HmacKey {}
 unsafe impl Plain for HmacContext {}

@@ -8,12 +8,12 @@ use Rattle.std.proofs.lemmas.Nat.{div-add-mod', mod-mul-add, div-mul-add, mod_be
 use Rattle.ring_core.specs.Chunks.{chained}
 use Rattle.ring_core.specs.Cost.{Counts, raised}
 use Rattle.ring_core.proofs.Chained.{chained-none, chained-then, chained-append}
-use Rattle.ring.specs.Algorithm.{block_function, block_len, initial_words, chaining_words}
-use Rattle.ring.specs.Algorithm.{spare_words, word_count}
+use Rattle.ring.specs.Algorithm.{block_function, block_len, initial_words, word_count}
 use Rattle.ring.specs.Context.{HasMoved, HasTaken, cut_off}
 use Rattle.ring.specs.Cost.{whole_blocks}
 use Rattle.ring.specs.Digest.{chain}
 use Rattle.ring.specs.Padding.{IsWhole}
+use Rattle.ring.specs.State.{chaining_words, spare_words}
 use Rattle.ring.specs.declared.digest.algorithm.Algorithm.{Algorithm}
 use Rattle.ring.specs.declared.digest.block_context.BlockContext.{BlockContext}
 use Rattle.ring.proofs.Rows.{block_len-positive}

@@ -6,12 +6,12 @@ use Rattle.ring.proofs.Lengths.{length-chain}
 use Rattle.std.proofs.lemmas.List.Concat.{flat_map-append}
 use Rattle.std.proofs.lemmas.List.{take-append-le, take-append-drop}
 use Rattle.std.specs.Int.{bytes_high_first}
-use Rattle.ring.specs.Algorithm.{is_state_of, max_input_len, output_len, word_len, chaining_words}
-use Rattle.ring.specs.Algorithm.{spare_words, word_count}
+use Rattle.ring.specs.Algorithm.{max_input_len, output_len, word_count, word_len}
 use Rattle.ring.specs.Context.{HasTaken}
 use Rattle.ring.specs.Digest.{chain, digest_of}
 use Rattle.ring.specs.Padding.{padded}
-use Rattle.ring.specs.State.{state_word_len, word_bytes, words}
+use Rattle.ring.specs.State.{chaining_words, is_state_of, spare_words, state_word_len}
+use Rattle.ring.specs.State.{word_bytes, words}
 use Rattle.ring.specs.declared.digest.algorithm.Algorithm.{Algorithm}
 use Rattle.ring.specs.declared.digest.block_context.BlockContext.{BlockContext}
 use Rattle.ring.specs.declared.digest.dynstate.DynState.{DynState}

@@ -6,9 +6,9 @@ use Rattle.ring_core.specs.Chunks.{chained}
 use Rattle.ring_core.specs.Sha1 as sha1
 use Rattle.ring_core.specs.Sha2 as sha2
 use Rattle.ring_core.proofs.Chained.{chained-append}
-use Rattle.ring.specs.Algorithm.{block_function, block_function_of_id, block_len, chaining_words, row_of, word_count}
+use Rattle.ring.specs.Algorithm.{block_function, block_function_of_id, block_len, row_of, word_count}
 use Rattle.ring.specs.Cost.{whole_blocks}
-use Rattle.ring.specs.State.{words}
+use Rattle.ring.specs.State.{chaining_words, words}
 use Rattle.ring.specs.declared.digest.algorithm.Algorithm.{Algorithm}
 use Rattle.ring.specs.declared.digest.algorithm.AlgorithmId.{AlgorithmId}
 use Rattle.ring.specs.declared.digest.algorithm.AlgorithmId.TheVariants.{Sha1, Sha256, Sha384, Sha512, Sha512_256}

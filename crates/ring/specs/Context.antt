@@ -2,9 +2,10 @@
 use Rattle.std.specs.Prelude.{◌≡◌, ℕ, ◌+◌, ◌-◌, ◌*◌, ◌≤◌, ◌^◌, min, List, ◌++◌, length, take, drop}
 use Rattle.std.specs.Prelude.{replicate}
 use Rattle.ring_core.specs.Cost.{Counts, raised}
-use Rattle.ring.specs.Algorithm.{chaining_words, spare_words, word_count}
+use Rattle.ring.specs.Algorithm.{word_count}
 use Rattle.ring.specs.Digest.{chain}
 use Rattle.ring.specs.Padding.{IsWhole}
+use Rattle.ring.specs.State.{chaining_words, spare_words}
 use Rattle.ring.specs.declared.digest.algorithm.Algorithm.{Algorithm}
 use Rattle.ring.specs.declared.digest.block_context.BlockContext.{BlockContext}
 use Rattle.ring.specs.declared.digest.context.Context.{Context}

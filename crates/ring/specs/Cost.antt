@@ -1,8 +1,12 @@
 -- Numbers of blocks, from lengths in bytes.
 use Rattle.std.specs.Prelude.{ℕ, ◌+◌, ◌-◌, ◌*◌, ◌/◌, max, nat_le, if◌then◌else◌}
 use Rattle.std.specs.Int.{div_ceil}
-use Rattle.ring.specs.Algorithm.{block_len, length_len, output_len}
+use Rattle.ring.specs.Algorithm.{block_len, output_len}
+use Rattle.ring.specs.Limits.{first_iterate_len, first_round_len, next_round_len}
 use Rattle.ring.specs.declared.digest.algorithm.Algorithm.{Algorithm}
+-- the blocks of a padded message and the rounds of a derivation, as the standards count them
+pub use Rattle.ring.specs.Limits.{derive_rounds}
+pub use Rattle.ring.specs.Padding.{padded_blocks}
 -- what a meter counts, from the crate below
 pub use Rattle.ring_core.specs.Cost.{Counts, compared_pairs}
 unfoldable pub use Rattle.ring_core.specs.Cost.{raised}
@@ -10,10 +14,6 @@ unfoldable pub use Rattle.ring_core.specs.Cost.{raised}
 -- the whole blocks in n bytes
 abbrev pub whole_blocks : Algorithm → ℕ → ℕ
 whole_blocks a n = n / block_len a
-
--- the blocks of a message of n bytes with its padding
-abbrev pub padded_blocks : Algorithm → ℕ → ℕ
-padded_blocks a n = (n + length_len a) / block_len a + 1
 
 -- the blocks of a padded message of n bytes that are left at its end, past its whole blocks
 abbrev pub last_blocks : Algorithm → ℕ → ℕ
@@ -36,16 +36,13 @@ fill_rounds a n = max 1 (div_ceil n (output_len a))
 -- comes before the info
 abbrev pub fill_blocks : (a : Algorithm) (info_len n : ℕ) → ℕ
 fill_blocks a info_len n =
-    padded_blocks a (info_len + 1) + 1
-    + (fill_rounds a n - 1) * (padded_blocks a (output_len a + info_len + 1) + 1)
+    padded_blocks a (first_round_len info_len) + 1
+    + (fill_rounds a n - 1) * (padded_blocks a (next_round_len a info_len) + 1)
 
--- the rounds of a derivation of n bytes: n / N rounded up
-abbrev pub derive_rounds : Algorithm → ℕ → ℕ
-derive_rounds a n = div_ceil n (output_len a)
-
--- the blocks of one of them after c iterations: the first iterate's, and two for each other one
+-- the blocks of a derivation's round after c iterations: the first iterate's, and two for each other
+-- one
 abbrev pub iterate_blocks : (a : Algorithm) (salt_len c : ℕ) → ℕ
-iterate_blocks a salt_len c = padded_blocks a (salt_len + 4) + 1 + 2 * (c - 1)
+iterate_blocks a salt_len c = padded_blocks a (first_iterate_len salt_len) + 1 + 2 * (c - 1)
 
 -- the blocks of a derivation of n bytes after c iterations
 abbrev pub derive_blocks : (a : Algorithm) (secret_len salt_len c n : ℕ) → ℕ

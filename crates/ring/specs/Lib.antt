@@ -1,9 +1,10 @@
+pub mod Table
 pub mod Algorithm
 pub mod Initial
 pub mod State
-pub mod Cost
 pub mod Limits
 pub mod Padding
+pub mod Cost
 pub mod Digest
 pub mod Context
 pub mod Pieces

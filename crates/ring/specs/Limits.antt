@@ -1,6 +1,7 @@
 -- The limits of lengths, in bytes. What is limited and by what number stands here once: as lengths,
 -- as limits of these, and as tests of the limits.
 use Rattle.std.specs.Prelude.{ℕ, ◌+◌, ◌-◌, ◌*◌, ◌^◌, ◌<◌, ◌≤◌, Bool, nat_le, ◌==◌, ◌&&◌, ◌||◌}
+use Rattle.std.specs.Int.{div_ceil}
 use Rattle.ring.specs.Algorithm.{block_len, max_input_len, output_len}
 use Rattle.ring.specs.declared.digest.algorithm.Algorithm.{Algorithm}
 
@@ -25,6 +26,10 @@ max_okm_len a = 255 * output_len a
 -- (RFC 2898, section 5.2)
 abbrev pub first_iterate_len : ℕ → ℕ
 first_iterate_len salt_len = salt_len + 4
+
+-- the rounds of a derivation of n bytes: n / hLen rounded up (RFC 2898, section 5.2)
+abbrev pub derive_rounds : Algorithm → ℕ → ℕ
+derive_rounds a n = div_ceil n (output_len a)
 
 -- the longest derivation, of as many rounds as 4 bytes number from 1 on (RFC 2898, section 5.2)
 abbrev pub max_dk_len : Algorithm → ℕ

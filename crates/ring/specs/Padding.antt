@@ -1,8 +1,8 @@
 -- Padding (FIPS 180-4, section 5.1).
-use Rattle.std.specs.Prelude.{◌≡◌, ℕ, ◌+◌, ◌-◌, ◌*◌, ◌%◌, ◌≤◌, List, ◌∷◌, ◌++◌, length, replicate}
+use Rattle.std.specs.Prelude.{◌≡◌, ℕ, ◌+◌, ◌-◌, ◌*◌, ◌/◌, ◌%◌, ◌≤◌, List, ◌∷◌, ◌++◌, length}
+use Rattle.std.specs.Prelude.{replicate}
 use Rattle.std.specs.Int.{bytes_high_first}
 use Rattle.ring.specs.Algorithm.{block_len, length_len}
-use Rattle.ring.specs.Cost.{padded_blocks}
 use Rattle.ring.specs.declared.digest.algorithm.Algorithm.{Algorithm}
 
 -- a list of whole blocks
@@ -19,6 +19,11 @@ pub record IsPadded (a : Algorithm) (m p : List ℕ) : Type 0 where
   pub form : (z : ℕ) × (p ≡ padded_with a m z)
   pub whole : IsWhole a p
   pub shortest : (z : ℕ) → IsWhole a (padded_with a m z) → length p ≤ length (padded_with a m z)
+
+-- the blocks of a padded message of n bytes: they have room for it, the byte 0x80 and the length,
+-- and one block fewer has not
+abbrev pub padded_blocks : Algorithm → ℕ → ℕ
+padded_blocks a n = (n + length_len a) / block_len a + 1
 
 -- the zeros that fill the last block of a message of n bytes
 abbrev pub zeros_of : Algorithm → ℕ → ℕ

@@ -3,9 +3,8 @@ use Rattle.std.specs.Prelude.{◌≡◌, ℕ, zero, suc, List, ◌++◌, length,
 use Rattle.std.specs.Int.{bytes_high_first}
 use Rattle.ring_core.specs.Bytes.{xor_lists}
 use Rattle.ring.specs.Algorithm.{output_len}
-use Rattle.ring.specs.Cost.{derive_rounds}
 use Rattle.ring.specs.Hmac.{based_on, hmac_of}
-use Rattle.ring.specs.Limits.{CanVerify}
+use Rattle.ring.specs.Limits.{CanVerify, derive_rounds}
 use Rattle.ring.specs.Pieces.{joined_blocks}
 use Rattle.ring.specs.declared.digest.algorithm.Algorithm as digest
 use Rattle.ring.specs.declared.pbkdf2.algorithm.Algorithm.{Algorithm}

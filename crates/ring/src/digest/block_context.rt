@@ -3,10 +3,11 @@
 ghost use Rattle.std.specs.Prelude.{◌≡◌, ◌↔◌, ℕ, ◌+◌, ◌*◌, ◌/◌, ◌<◌, List, [], ◌++◌, length, take, drop, IsTrue, IfOk, IsErr, OnOk, OnErr};
 ghost use Rattle.ring_core.specs.Chunks.{chained};
 ghost use Rattle.ring_core.specs.Cost.{raised};
-ghost use Rattle.ring.specs.Algorithm.{block_function, block_len, chaining_words, is_state_of, max_input_len, output_len, spare_words};
+ghost use Rattle.ring.specs.Algorithm.{block_function, block_len, max_input_len, output_len};
 ghost use Rattle.ring.specs.Cost.{padded_blocks, whole_blocks};
 ghost use Rattle.ring.specs.Digest.{IsDigest, digest_algorithm, digest_of};
 ghost use Rattle.ring.specs.Padding.{padded};
+ghost use Rattle.ring.specs.State.{chaining_words, is_state_of, spare_words};
 ghost use Rattle.ring.specs.declared.digest.algorithm.Algorithm.{Algorithm};
 
 use crate::digest::algorithm::{Algorithm, MAX_BLOCK_LEN, is_message_within};

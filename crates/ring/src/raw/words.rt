@@ -2,10 +2,9 @@
 
 ghost use Rattle.std.specs.Prelude.{◌≡◌, ◌+◌, ◌*◌, ◌%◌, ◌^◌, ℕ, List, IsTrue, length, map};
 ghost use Rattle.ring_core.specs.Sha2.{words_32, words_64};
-ghost use Rattle.ring.specs.Algorithm.{is_state_of};
 ghost use Rattle.ring.specs.Context.{HasTaken, block_algorithm, counted_bytes, cut_off};
 ghost use Rattle.ring.specs.Raw.{IsRawState, joined_halves, raw_words};
-ghost use Rattle.ring.specs.State.{words};
+ghost use Rattle.ring.specs.State.{is_state_of, words};
 
 use crate::digest::algorithm::Algorithm;
 use crate::digest::block_context::BlockContext;

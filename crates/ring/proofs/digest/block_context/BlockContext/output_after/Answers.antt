@@ -1,7 +1,8 @@
 use Rattle.std.proofs.Common.{IsTrue, ◌≡◌, length}
 use Rattle.ring_core.specs.Chunks.{chained}
-use Rattle.ring.specs.Algorithm.{block_function, block_len, chaining_words, is_state_of}
+use Rattle.ring.specs.Algorithm.{block_function, block_len}
 use Rattle.ring.specs.Cost.{whole_blocks}
+use Rattle.ring.specs.State.{chaining_words, is_state_of}
 use Rattle.ring.specs.declared.digest.dynstate.DynState.TheVariants.{As32, As64}
 use Rattle.ring.proofs.Finishing.{digest_from}
 use Rattle.ring.proofs.Tails.{chain_end}

@@ -11,7 +11,7 @@
 #include <string.h>
 #include <time.h>
 
-#define TURNS 200
+#define TURNS 400
 #define PLACES 16
 #define PAGE 4096
 #define HASHES 3

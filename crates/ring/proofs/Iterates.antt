@@ -9,12 +9,13 @@ use Rattle.ring_core.specs.Word.{◌⊕◌}
 use Rattle.ring_core.proofs.Costs.{raised-raised}
 use Rattle.ring.specs.Algorithm.{output_len}
 use Rattle.ring.specs.Cost.{iterate_blocks, padded_blocks}
-use Rattle.ring.specs.Hmac.{IsTag, KeyStandsFor, hmac_of, key_algorithm, tag_algorithm, tag_bytes}
+use Rattle.ring.specs.Hmac.{KeyStandsFor, hmac_of, key_algorithm}
 use Rattle.ring.specs.Pbkdf2.{iterate, xored}
+use Rattle.ring.specs.Prepared.{past_message, prepared_padding}
 use Rattle.ring.specs.declared.digest.algorithm.Algorithm.{Algorithm}
 use Rattle.ring.specs.declared.hmac.key.Key.{Key}
-use Rattle.ring.specs.declared.hmac.tag.Tag.{Tag}
 use Rattle.ring.proofs.Keys.{length-hmac_of}
+use Rattle.ring.proofs.Prepared.{HasMessage}
 
 length-xor_lists : (xs ys : List ℕ) → length (xor_lists xs ys) ≡ length xs
 length-xor_lists [] ys = refl
@@ -64,51 +65,52 @@ module _ (a : Algorithm) (p s : List ℕ) (i : ℕ) where
       ap length (iterate-next 0) ∙ length-hmac_of a p _ in
       rw (xored-next 0, xored-none, ← len) (xor_lists-zeros (iterate a p s i 1))
 
--- the tag is the iterate j of the round i, under whatever the key stands for
-abbrev IsIterate : (key : Key) (s : List ℕ) (i j : ℕ) (tag : Tag) → Type 0
-IsIterate key s i j tag =
-    (p : List ℕ) → KeyStandsFor key p → tag_bytes tag ≡ iterate (key_algorithm key) p s i j
+-- the bytes are the iterate j of the round i, under whatever the key stands for
+abbrev IsIterate : (key : Key) (s : List ℕ) (i j : ℕ) (bytes : List ℕ) → Type 0
+IsIterate key s i j bytes =
+    (p : List ℕ) → KeyStandsFor key p → bytes ≡ iterate (key_algorithm key) p s i j
 
--- j iterates of the round i are made, and `out` is a front of n bytes of their exclusive or
-pub record HasIterated (key : Key) (s : List ℕ) (i n : ℕ) (tag : Tag) (out : List ℕ) (j : ℕ)
+-- j iterates of the round i are made, the last is in its prepared block, and `out` is a front of n
+-- bytes of their exclusive or
+pub record HasIterated (key : Key) (s : List ℕ) (i n : ℕ) (block out : List ℕ) (j : ℕ)
     (before now : Counts) : Type 0 where
-  pub algorithm : tag_algorithm tag ≡ key_algorithm key
-  pub last : IsIterate key s i j tag
+  pub padded : past_message (key_algorithm key) block ≡ prepared_padding (key_algorithm key)
+  pub last : IsIterate key s i j (take (output_len (key_algorithm key)) block)
   pub front : (p : List ℕ) → KeyStandsFor key p → out ≡ take n (xored (key_algorithm key) p s i j)
   pub cost : now ≡ raised before (iterate_blocks (key_algorithm key) (length s) j) 0
 
-module _ {key : Key} {s : List ℕ} {i n : ℕ} {out bytes : List ℕ} {m0 m1 : Counts} where
-  pub iterated-first : {tag : Tag} → tag_algorithm tag ≡ key_algorithm key
-      → IsIterate key s i 1 tag → bytes ≡ tag_bytes tag → out ≡ take n bytes
+module _ {key : Key} {s : List ℕ} {i n : ℕ} {block out bytes : List ℕ} {m0 m1 : Counts} where
+  pub iterated-first : HasMessage (key_algorithm key) bytes block → IsIterate key s i 1 bytes
+      → out ≡ take n bytes
       → m1 ≡ raised m0 (padded_blocks (key_algorithm key) (length s + 4) + 1) 0
-      → HasIterated key s i n tag out 1 m0 m1
-  iterated-first ea h eb eo em =
+      → HasIterated key s i n block out 1 m0 m1
+  iterated-first t h eo em =
       let a : Algorithm = key_algorithm key in
       let one : padded_blocks a (length s + 4) + 1 ≡ iterate_blocks a (length s) 1 = omega arith in
       record {
-        algorithm = ea;
-        last = h;
+        padded = t.padded;
+        last = λ p stands. t.message ∙ h p stands;
         front = λ p stands.
-            eo ∙ ap (λ zs. take n zs) (eb ∙ h p stands ∙ sym (xored-first a p s i));
+            eo ∙ ap (λ zs. take n zs) (h p stands ∙ sym (xored-first a p s i));
         cost = em ∙ ap (λ (z : ℕ). raised m0 z 0) one;
       }
 
-  pub iterated-next : {tag tag' : Tag} {out' last : List ℕ} {j : ℕ} {m2 : Counts} → 1 ≤ j
-      → HasIterated key s i n tag out j m0 m1 → tag_algorithm tag' ≡ key_algorithm key
-      → last ≡ tag_bytes tag
-      → ((p : List ℕ) → KeyStandsFor key p → IsTag tag' (key_algorithm key) p last)
-      → bytes ≡ tag_bytes tag' → out' ≡ xor_lists out bytes → m2 ≡ raised m1 2 0
-      → HasIterated key s i n tag' out' (j + 1) m0 m2
-  iterated-next {tag' = tag'} {j = j} some t ea el h eb eo em =
+  pub iterated-next : {block' out' : List ℕ} {j : ℕ} {m2 : Counts} → 1 ≤ j
+      → HasIterated key s i n block out j m0 m1
+      → past_message (key_algorithm key) block' ≡ prepared_padding (key_algorithm key)
+      → ((p : List ℕ) → KeyStandsFor key p → take (output_len (key_algorithm key)) block'
+      ≡ hmac_of (key_algorithm key) p (take (output_len (key_algorithm key)) block))
+      → bytes ≡ take (output_len (key_algorithm key)) block' → out' ≡ xor_lists out bytes
+      → m2 ≡ raised m1 2 0 → HasIterated key s i n block' out' (j + 1) m0 m2
+  iterated-next {block' = block'} {j = j} some t padding h eb eo em =
       let a : Algorithm = key_algorithm key in
-      let next : IsIterate key s i (suc j) tag' =
+      let next : IsIterate key s i (suc j) (take (output_len a) block') =
       λ (p : List ℕ) (stands : KeyStandsFor key p).
-      (h p stands).bytes ∙ ap (λ m. hmac_of a p m) (el ∙ t.last p stands)
-      ∙ sym (iterate-next a p s i j) in
+      h p stands ∙ ap (λ m. hmac_of a p m) (t.last p stands) ∙ sym (iterate-next a p s i j) in
       let two : iterate_blocks a (length s) j + 2 ≡ iterate_blocks a (length s) (suc j) =
       omega arith in
       rw add-one record {
-        algorithm = ea;
+        padded = padding;
         last = next;
         front = λ p stands.
             rw (eo, eb, next p stands, t.front p stands, xored-next a p s i j)

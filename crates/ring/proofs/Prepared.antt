@@ -2,7 +2,7 @@
 use Rattle.std.proofs.Common.{◌≡◌, ℕ, ◌+◌, ◌-◌, ◌*◌, ◌/◌, List, ◌∷◌, ◌++◌, length, take, drop}
 use Rattle.std.proofs.Common.{replicate, refl, sym, ap, ◌∙◌, arith, length-append, length-take-le}
 use Rattle.std.proofs.Common.{append_assoc}
-use Rattle.std.proofs.lemmas.List.{drop-take, drop_at, take_at}
+use Rattle.std.proofs.lemmas.List.{drop-take, drop_at, take-append-drop, take_at}
 use Rattle.std.proofs.Math.Nat.{div_self, mod_self}
 use Rattle.std.proofs.Math.Seq.{take-append-add}
 use Rattle.std.specs.Int.{bytes_high_first}
@@ -13,7 +13,7 @@ use Rattle.ring.specs.Padding.{IsWhole, padded, tail_of, zeros_of}
 use Rattle.ring.specs.Prepared.{past_message, prepared_padding}
 use Rattle.ring.specs.declared.digest.algorithm.Algorithm.{Algorithm}
 use Rattle.ring.proofs.Keys.{one_block, output_below}
-use Rattle.ring.proofs.Rows.{block_len-most, block_len-positive}
+use Rattle.ring.proofs.Rows.{block_len-most, block_len-positive, output_len-fits}
 use Rattle.ring.proofs.Tails.{padded-append}
 
 -- the tail of such a message is one block
@@ -60,20 +60,41 @@ message-padded {a} {p} {m} bytes are h =
     rw (len, are.message) (sym (append_assoc m _ _)) in
     ap (λ z. p ++ z) (block ∙ tail) ∙ sym (padded-append a p m whole)
 
--- the same of a block that was made so, where the algorithm and the block's length are told apart
-pub block-padded : {a b : Algorithm} {p m : List ℕ} (bytes : List ℕ) {block : List ℕ} {n : ℕ}
-    → b ≡ a → n ≡ block_len a → ArePrepared a p m → past_message a bytes ≡ prepared_padding a
-    → block ≡ m ++ drop (length m) bytes → p ++ take n block ≡ padded b (p ++ m)
-block-padded {a} {b} {p} {m} bytes {n = n} eb en are h e =
-    let made = e ∙ ap (λ z. m ++ drop z bytes) are.message in
-    ap (λ z. p ++ take n z) made ∙ ap (λ z. p ++ take z (m ++ drop (output_len a) bytes)) en
-    ∙ message-padded bytes are h ∙ ap (λ z. padded z (p ++ m)) (sym eb)
+-- the same of a block's own front, where the algorithm and the block's length are told apart
+pub block-padded : {a b : Algorithm} (p block : List ℕ) {n : ℕ} → b ≡ a
+    → n ≡ block_len a → length p ≡ block_len a → length block ≡ 128
+    → past_message a block ≡ prepared_padding a
+    → p ++ take n block ≡ padded b (p ++ take (output_len a) block)
+block-padded {a} {b} p block {n = n} eb en lp lb h =
+    let m : List ℕ = take (output_len a) block in
+    let lm : length m ≡ output_len a =
+    length-take-le (output_len a) block (omega (arith, lb, output_len-fits a)) in
+    ap (λ z. p ++ take z block) en
+    ∙ ap (λ z. p ++ take (block_len a) z) (sym (take-append-drop (output_len a) block))
+    ∙ message-padded block record { block = lp; message = lm } h
+    ∙ ap (λ z. padded z (p ++ m)) (sym eb)
 
--- a message of the same length in its place
-pub message-replaced : (m x bytes block : List ℕ) → block ≡ m ++ drop (length m) bytes
-    → length x ≡ length m → x ++ drop (length x) block ≡ x ++ drop (length x) bytes
-message-replaced m x bytes block e lx =
-    rw (e, lx) (ap (λ z. x ++ z) (drop_at m (drop (length m) bytes) (length m) refl))
+-- the block has the message x, and the padding
+pub record HasMessage (a : Algorithm) (x block : List ℕ) : Type 0 where
+  pub message : take (output_len a) block ≡ x
+  pub padded : past_message a block ≡ prepared_padding a
+
+-- a message put before the padding
+pub message-put : {a : Algorithm} (x bytes : List ℕ) {block : List ℕ} → length x ≡ output_len a
+    → past_message a bytes ≡ prepared_padding a → block ≡ x ++ drop (length x) bytes
+    → HasMessage a x block
+message-put {a} x bytes lx h e =
+    let o : ℕ = output_len a in
+    let room : ℕ = block_len a - o in
+    let sum : block_len a ≡ o + room = omega (arith, output_below a) in
+    let past : (y : List ℕ) → past_message a y ≡ take room (drop o y) =
+    λ y. ap (λ (z : ℕ). drop o (take z y)) sum ∙ drop-take o room y in
+    let made = e ∙ ap (λ z. x ++ drop z bytes) lx in
+    record {
+      message = ap (take o) made ∙ take_at x _ o lx;
+      padded = ap (past_message a) made ∙ past (x ++ drop o bytes)
+          ∙ ap (take room) (drop_at x (drop o bytes) o lx) ∙ sym (past bytes) ∙ h;
+    }
 
 -- the cost of one block
 pub cost_one : (a : Algorithm) (m0 : Counts) {m1 : Counts} (x : List ℕ) {n : ℕ} → n ≡ block_len a

@@ -1,6 +1,6 @@
 //! Tags of messages that are as long as a digest.
 
-ghost use Rattle.std.specs.Prelude.{◌≡◌, ℕ, ◌≤◌, List, ◌++◌, drop, length};
+ghost use Rattle.std.specs.Prelude.{◌≡◌, ℕ, ◌≤◌, List, ◌++◌, drop, length, take};
 ghost use Rattle.ring_core.specs.Cost.{raised};
 ghost use Rattle.ring.specs.Algorithm.{output_len};
 ghost use Rattle.ring.specs.Prepared.{past_message, prepared_padding};
@@ -9,10 +9,8 @@ use crate::digest::algorithm::{
     MAX_BLOCK_LEN, MAX_OUTPUT_LEN, SHA1_OUTPUT_LEN, SHA256_OUTPUT_LEN, SHA384_OUTPUT_LEN,
     SHA512_OUTPUT_LEN,
 };
-use crate::digest::value::Digest;
 use crate::digest::{Algorithm, padding};
 use crate::hmac::key::Key;
-use crate::hmac::tag::Tag;
 use ring_core::cost::Meter;
 
 // A block with room for a message as long as a digest, and with the padding that follows any such
@@ -41,7 +39,7 @@ fn put_message(block: &mut [u8; MAX_BLOCK_LEN], message: &[u8])
 }
 
 impl PreparedBlock {
-    ghost use Rattle.ring.specs.Hmac.{IsTag, KeyStandsFor, key_algorithm, prepared_algorithm, tag_algorithm};
+    ghost use Rattle.ring.specs.Hmac.{KeyStandsFor, hmac_of, key_algorithm, prepared_algorithm};
 
     pub(crate) fn new(algorithm: Algorithm) -> Self
         ensures { prepared_algorithm result ≡ algorithm }
@@ -55,21 +53,36 @@ impl PreparedBlock {
         PreparedBlock { bytes, algorithm }
     }
 
-    // The tag of a message that is as long as a digest.
-    pub(crate) fn sign(&self, key: &Key, message: &[u8], meter: &mut Meter) -> Tag
-        requires same { prepared_algorithm self.now ≡ key_algorithm key.now }
-        requires len { length message.now ≡ output_len (key_algorithm key.now) }
-        ensures ok { (k : List ℕ) → KeyStandsFor key.now k
-            → IsTag result (key_algorithm key.now) k message.now }
-        ensures cost { meter.new ≡ raised meter.old 2 0 }
-        ensures algorithm { tag_algorithm result ≡ key_algorithm key.now }
+    // The block with `message` in its room.
+    pub(crate) fn with_message(&self, message: &[u8]) -> [u8; MAX_BLOCK_LEN]
+        requires { length message.now ≡ output_len (prepared_algorithm self.now) }
+        ensures message { take (output_len (prepared_algorithm self.now)) result ≡ message.now }
+        ensures padded { past_message (prepared_algorithm self.now) result
+            ≡ prepared_padding (prepared_algorithm self.now) }
     {
-        let block_len = self.algorithm.block_len();
         let mut block = self.bytes;
         put_message(&mut block, message);
+        block
+    }
+
+    // Puts the tag of the message in a prepared block into the message's place. The block is the
+    // caller's own, and nothing of it is copied from one tag to the next.
+    #[inline(always)]
+    pub(crate) fn replace_by_tag(key: &Key, block: &mut [u8; MAX_BLOCK_LEN], meter: &mut Meter)
+        requires { past_message (key_algorithm key.now) block.old
+            ≡ prepared_padding (key_algorithm key.now) }
+        ensures ok { (k : List ℕ) → KeyStandsFor key.now k
+            → take (output_len (key_algorithm key.now)) block.new ≡ hmac_of (key_algorithm key.now) k
+            (take (output_len (key_algorithm key.now)) block.old) }
+        ensures cost { meter.new ≡ raised meter.old 2 0 }
+        ensures padded { past_message (key_algorithm key.now) block.new
+            ≡ prepared_padding (key_algorithm key.now) }
+    {
+        let block_len = key.inner.algorithm.block_len();
+        let output_len = key.inner.algorithm.output_len();
         let inner = key.inner.output_after(&block[..block_len], meter);
-        put_message(&mut block, &inner.0[..message.len()]);
+        put_message(block, &inner.0[..output_len]);
         let outer = key.outer.output_after(&block[..block_len], meter);
-        Tag::new(Digest::new(outer, self.algorithm))
+        put_message(block, &outer.0[..output_len]);
     }
 }

@@ -53,11 +53,13 @@ fn write_round(
     ensures cost { meter.new ≡ raised meter.old
         (iterate_blocks (key_algorithm key.now) (length salt.now) (non_zero_u32_get iterations)) 0 }
 {
-    let mut iterate = first_iterate(key, salt, number, meter);
-    out.copy_from_slice(&iterate.as_ref()[..out.len()]);
+    let first = first_iterate(key, salt, number, meter);
+    out.copy_from_slice(&first.as_ref()[..out.len()]);
+    let output_len = first.as_ref().len();
+    let mut iterate = block.with_message(first.as_ref());
     'iterates: for _made in 1..iterations.get() {
-        iterate = block.sign(key, iterate.as_ref(), meter);
-        xor_assign_at_start(out, iterate.as_ref());
+        PreparedBlock::replace_by_tag(key, &mut iterate, meter);
+        xor_assign_at_start(out, &iterate[..output_len]);
     }
 }
 

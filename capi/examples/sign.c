@@ -1,5 +1,6 @@
 /* Signs its first argument under its second, and verifies what it signed:
- * cc sign.c $(pkg-config --cflags --libs yezdopin) && ./a.out "a message" "a key" */
+ * cc sign.c $(pkg-config --cflags --libs yezdopin) && ./a.out "a message" "a key"
+ * Other users can see arguments: a key that matters comes from elsewhere. */
 #include <stdio.h>
 #include <string.h>
 #include <yezdopin.h>

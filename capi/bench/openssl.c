@@ -1,5 +1,5 @@
-/* The work by OpenSSL 3, called as its manual advises: what is fetched is fetched once, and each
- * context is made once for all calls. */
+/* The work by OpenSSL 3, called as its manual advises: what is fetched is fetched once, and where a
+ * call takes a context, that is made once for all calls. */
 #include "party.h"
 
 #if __has_include(<openssl/core_names.h>)

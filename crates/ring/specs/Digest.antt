@@ -7,7 +7,8 @@ use Rattle.ring.specs.State.{word_bytes}
 use Rattle.ring.specs.declared.digest.algorithm.Algorithm.{Algorithm}
 use Rattle.ring.specs.declared.digest.value.Digest.{Digest}
 
--- the chaining words after the whole blocks p: H(0) after none, and one block function a block
+-- the chaining words after the whole blocks p: H(0) after none, and one block function a block;
+-- `chained` is the recursion, and `chain_from` the same from words that are given
 unfoldable pub chain : Algorithm → List ℕ → List ℕ
 chain a p = chained (block_function a) (block_len a) (initial_words a) p (length p / block_len a)
 

@@ -24,6 +24,14 @@ use crate::limits::{is_tag_within, joined_len};
 use ring_core::cost::Meter;
 use ring_core::error::Unspecified;
 
+// Each numbered law by what it says: the same function under both names.
+pub use crate::laws::{
+    law_3 as zeros_after_a_key_change_no_tag, law_4 as long_key_signs_as_its_digest,
+    law_5 as shorter_output_is_a_front, law_6 as info_is_its_joined_bytes,
+    law_7 as empty_salt_extracts_as_zeros, law_8 as shorter_derivation_is_a_front,
+    law_10 as comparison_is_symmetric, law_11 as derivation_cost_is_of_lengths,
+};
+
 /// The digest of the pieces is that of the message that they join to, at the same cost.
 ///
 /// Refused where they are together longer than the algorithm's `max_input_len` bytes, before any

@@ -12,10 +12,10 @@ use Rattle.std.proofs.lemmas.List.Splits.{slice_split_none}
 use Rattle.std.proofs.Math.ListN.{drop_of_length-le}
 use Rattle.std.proofs.Math.Seq.{take-add, take-length}
 use Rattle.hex.specs.Hex.{decode_of}
-use Rattle.ring.specs.Pieces.{joined as joined_parts}
+use Rattle.ring.specs.Pieces.{joined}
 use Rattle.ring_bench.specs.Field.{is_comma, parts_bytes, value_of}
 use Rattle.ring_bench.specs.Pieces.{cut_into, pieces_listed}
-use Rattle.ring_bench.specs.Request.{joined}
+use Rattle.ring_bench.specs.Request.{concatenated}
 use Rattle.ring_bench.specs.Text.{IsFirstCut, IsWithout}
 use Rattle.ring_bench.proofs.Texts.{IsFirstCut-split}
 use Rattle.ring_bench.specs.declared.pieces.Pieces.{Pieces}
@@ -29,15 +29,16 @@ rest_len n ns bs h =
     (omega arith, omega arith)
 
 -- the pieces, joined, are the run
-joined-cut : (ns bs : List ℕ) → sum ns ≡ length bs → joined (cut_into ns bs) ≡ bs
-joined-cut [] [] h = refl
-joined-cut [] (b ∷ bs) h = absurd (omega arith)
-joined-cut (n ∷ ns) bs h =
-    ap (λ l. take n bs ++ l) (joined-cut ns (drop n bs) (rest_len n ns bs h).1)
+concatenated-cut : (ns bs : List ℕ) → sum ns ≡ length bs → concatenated (cut_into ns bs) ≡ bs
+concatenated-cut [] [] h = refl
+concatenated-cut [] (b ∷ bs) h = absurd (omega arith)
+concatenated-cut (n ∷ ns) bs h =
+    ap (λ l. take n bs ++ l) (concatenated-cut ns (drop n bs) (rest_len n ns bs h).1)
     ∙ take-append-drop n bs
 
-pub joined-listed : {Z : Type 0} (p : Pieces Z) → joined (pieces_listed p) ≡ p.bytes.items
-joined-listed p = joined-cut p.lens.items p.bytes.items p.whole
+pub concatenated-listed : {Z : Type 0} (p : Pieces Z)
+    → concatenated (pieces_listed p) ≡ p.bytes.items
+concatenated-listed p = concatenated-cut p.lens.items p.bytes.items p.whole
 
 -- a piece more at the end of the run
 cut-push : (ns bs piece : List ℕ) → sum ns ≡ length bs
@@ -117,16 +118,16 @@ module _ {Z : Type 0} (p : Pieces Z) (i start : ℕ)
       rw (same, same_run) (omega arith, rw size more)
 
   -- at its end it has been over all pieces
-  pub walk-end : length p.lens.items ≤ i → take start p.bytes.items ≡ joined (pieces_listed p)
+  pub walk-end : length p.lens.items ≤ i → take start p.bytes.items ≡ concatenated (pieces_listed p)
   walk-end all =
       let none : drop i p.lens.items ≡ [] = drop_of_length-le p.lens.items all in
       let left_none : start + sum [] ≡ length p.bytes.items = rw none at left in
       let end : start ≡ length p.bytes.items = omega arith in
-      rw end (take-length p.bytes.items ∙ sym (joined-listed p))
+      rw end (take-length p.bytes.items ∙ sym (concatenated-listed p))
 
 -- views of some bytes, and a view more
-pub joined_parts-push : (views : List (Bor (List ℕ))) {bytes : List ℕ} → joined_parts views ≡ bytes
-    → (view : Bor (List ℕ)) → joined_parts (views ++ view ∷ []) ≡ bytes ++ view.now
-joined_parts-push views same view =
+pub joined-push : (views : List (Bor (List ℕ))) {bytes : List ℕ} → joined views ≡ bytes
+    → (view : Bor (List ℕ)) → joined (views ++ view ∷ []) ≡ bytes ++ view.now
+joined-push views same view =
     flat_map-append (λ piece. piece.now) views (view ∷ [])
     ∙ cc (same, append-nil view.now)

@@ -63,15 +63,13 @@ can_derive-true h =
     let rounds = h.rounds in
     grind (arith, nat_tests)
 
-pub can_verify-true : {a : Algorithm} {p s n : ℕ} → CanVerify a p s n
-    → can_verify a p s n ≡ true
+pub can_verify-true : {a : Algorithm} {p s n : ℕ} → CanVerify a p s n → can_verify a p s n ≡ true
 can_verify-true h =
     let some = h.nonempty in
     let rest = can_derive-true h.within in
     grind (arith, nat_tests)
 
-can_verify-within : (a : Algorithm) (p s n : ℕ) → can_verify a p s n ≡ true
-    → CanVerify a p s n
+can_verify-within : (a : Algorithm) (p s n : ℕ) → can_verify a p s n ≡ true → CanVerify a p s n
 can_verify-within a p s n e = record {
   nonempty = grind (arith, nat_tests);
   within = record {

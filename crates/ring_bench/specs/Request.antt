@@ -24,9 +24,9 @@ pub data Response : Type 0 where
   verified : Bool → ℕ → Response
   refused : Response
 
--- the bytes of all pieces
-abbrev pub joined : List (List ℕ) → List ℕ
-joined pieces = flat_map (λ piece. piece) pieces
+-- the bytes of all pieces, in order
+abbrev pub concatenated : List (List ℕ) → List ℕ
+concatenated pieces = flat_map (λ piece. piece) pieces
 
 -- the answer, where the lengths fit
 abbrev pub when : Bool → Response → Response
@@ -39,8 +39,8 @@ within a n answer = when (fits a n) answer
 -- the digest of the joined pieces
 unfoldable pub digest_answer : DigestAlgorithm → List (List ℕ) → Response
 digest_answer a pieces =
-    within a (length (joined pieces))
-    (given (digest_of a (joined pieces)) (padded_blocks a (length (joined pieces))))
+    within a (length (concatenated pieces))
+    (given (digest_of a (concatenated pieces)) (padded_blocks a (length (concatenated pieces))))
 
 -- the tag of the message m under the key k, after so many blocks
 unfoldable pub tag_answer : DigestAlgorithm → List ℕ → List ℕ → ℕ → Response
@@ -58,13 +58,13 @@ verdict_answer a k m t before =
 unfoldable pub hmac_answer : HmacAlgorithm → List ℕ → List (List ℕ) → Response
 hmac_answer a k pieces =
     within (based_on a) (length k)
-    (tag_answer (based_on a) k (joined pieces) (key_blocks (based_on a) (length k)))
+    (tag_answer (based_on a) k (concatenated pieces) (key_blocks (based_on a) (length k)))
 
 -- whether t is the whole tag of the joined pieces under a key of these bytes
 unfoldable pub hmac_verify_answer : HmacAlgorithm → List ℕ → List (List ℕ) → List ℕ → Response
 hmac_verify_answer a k pieces t =
     within (based_on a) (length k)
-    (verdict_answer (based_on a) k (joined pieces) t (key_blocks (based_on a) (length k)))
+    (verdict_answer (based_on a) k (concatenated pieces) t (key_blocks (based_on a) (length k)))
 
 -- n bytes of the output of the PRK k with this info, after so many blocks
 unfoldable pub output_answer : DigestAlgorithm → (k info : List ℕ) → (n before : ℕ) → Response
@@ -78,7 +78,7 @@ unfoldable pub hkdf_answer : HkdfAlgorithm → (salt secret : List ℕ) → List
 hkdf_answer a salt secret pieces n =
     within (hash_of a) (length salt)
     (within (hash_of a) (tag_input_len (hash_of a) (length secret))
-    (output_answer (hash_of a) (hmac_of (hash_of a) salt secret) (joined pieces) n
+    (output_answer (hash_of a) (hmac_of (hash_of a) salt secret) (concatenated pieces) n
     (key_blocks (hash_of a) (length salt) + (padded_blocks (hash_of a) (length secret) + 3))))
 
 -- n bytes derived from the secret p and the salt s by c iterations

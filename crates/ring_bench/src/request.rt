@@ -5,13 +5,13 @@ ghost use Rattle.ring.specs.Context.{StandsFor, context_algorithm};
 ghost use Rattle.ring.specs.Cost.{raised, whole_blocks};
 ghost use Rattle.ring.specs.Hkdf.{PrkStandsFor, prk_algorithm};
 ghost use Rattle.ring.specs.Hmac.{KeyStandsFor, TagStandsFor, key_algorithm, signing_algorithm};
-ghost use Rattle.ring.specs.Pieces.{joined as joined_parts};
+ghost use Rattle.ring.specs.Pieces.{joined};
 ghost use Rattle.ring_bench.specs.Pieces.{pieces_listed};
 ghost use Rattle.ring_bench.specs.Line.{asked};
 ghost use Rattle.ring_bench.specs.Request.{answer_of, digest_answer, hmac_answer};
 ghost use Rattle.ring_bench.specs.Request.{hmac_verify_answer, verdict_answer, tag_answer};
 ghost use Rattle.ring_bench.specs.Request.{hkdf_answer, output_answer, pbkdf2_answer};
-ghost use Rattle.ring_bench.specs.Request.{pbkdf2_verify_answer, joined, response};
+ghost use Rattle.ring_bench.specs.Request.{concatenated, pbkdf2_verify_answer, response};
 
 use crate::line::Request;
 use crate::pieces::Pieces;
@@ -79,9 +79,9 @@ fn digesting<A: Allocator>(
     meter: &mut Meter,
 ) -> digest::Context
     ensures algorithm { context_algorithm result ≡ algorithm.now }
-    ensures stands { StandsFor result (joined (pieces_listed pieces.now)) }
+    ensures stands { StandsFor result (concatenated (pieces_listed pieces.now)) }
     ensures cost { meter.new ≡ raised meter.old (whole_blocks
-        algorithm.now (length (joined (pieces_listed pieces.now)))) 0 }
+        algorithm.now (length (concatenated (pieces_listed pieces.now)))) 0 }
 {
     let mut context = digest::Context::new(algorithm);
     let mut start = 0;
@@ -122,7 +122,7 @@ fn signed<A: Allocator + Copy>(
     requires { meter.old.blocks < 2 ^ 64 }
     ensures { (k : List ℕ) → KeyStandsFor key.now k → IfOk result (λ answer. response answer
         ≡ tag_answer (key_algorithm key.now) k
-        (joined (pieces_listed pieces.now)) meter.old.blocks) }
+        (concatenated (pieces_listed pieces.now)) meter.old.blocks) }
 {
     let context = signing(key, pieces, meter);
     match context.sign_counted(meter) {
@@ -135,10 +135,10 @@ fn signed<A: Allocator + Copy>(
 fn signing<A: Allocator>(key: &hmac::Key, pieces: &Pieces<A>, meter: &mut Meter) -> hmac::Context
     ensures algorithm { signing_algorithm result ≡ key_algorithm key.now }
     ensures stands { (k : List ℕ) → KeyStandsFor key.now k
-        → TagStandsFor result k (joined (pieces_listed pieces.now)) }
+        → TagStandsFor result k (concatenated (pieces_listed pieces.now)) }
     ensures cost { (k : List ℕ) → KeyStandsFor key.now k
         → meter.new ≡ raised meter.old (whole_blocks (key_algorithm key.now)
-        (length (joined (pieces_listed pieces.now)))) 0 }
+        (length (concatenated (pieces_listed pieces.now)))) 0 }
 {
     let mut context = hmac::Context::with_key(key);
     let mut start = 0;
@@ -235,7 +235,7 @@ fn output_of<A: Allocator>(
 ) -> Result<Answer<A>, AllocError>
     requires { meter.old.blocks < 2 ^ 64 }
     ensures { (k : List ℕ) → PrkStandsFor prk.now k → IfOk result (λ answer. response answer
-        ≡ output_answer (prk_algorithm prk.now) k (joined_parts info.now) len meter.old.blocks) }
+        ≡ output_answer (prk_algorithm prk.now) k (joined info.now) len meter.old.blocks) }
 {
     let Ok(output) = prk.expand(info, OutputLen(len)) else {
         return Ok(Answer::Refused);
@@ -250,7 +250,7 @@ fn output_of<A: Allocator>(
 /// The pieces that have bytes, as slices: an empty one adds nothing to the info.
 fn views<A: Allocator>(alloc: A, pieces: &Pieces<A>) -> Result<Vec<&[u8], A>, AllocError>
     ensures { IfOk result (λ views.
-        joined_parts views.items ≡ joined (pieces_listed pieces.now)) }
+        joined views.items ≡ concatenated (pieces_listed pieces.now)) }
 {
     let mut views = Vec::new(alloc);
     let mut start = 0;

@@ -4,7 +4,7 @@ use Rattle.std.proofs.Math.Seq.{take-append_seam}
 use Rattle.std.proofs.lemmas.Bool.{false_from_ne_true}
 use Rattle.ring.specs.Hkdf.{okm, prk_algorithm}
 use Rattle.ring.specs.Okm.{okm_algorithm}
-use Rattle.ring.specs.Pieces.{joined as joined_parts}
+use Rattle.ring.specs.Pieces.{joined}
 use Rattle.ring.specs.Limits.{can_expand}
 use Rattle.ring_bench.specs.Request.{output_answer}
 use Rattle.ring_bench.proofs.Limits.{can_fill, filled}
@@ -19,7 +19,7 @@ returns-in-Ok-fill_counted g c = λ k h.
     let room : c.in_ok-bytes.bytes.len ≡ length out = search rules in
     let kept = take-append_seam out (drop (length out) c.in_ok-bytes.bytes.items) in
     let made : take c.in_ok-bytes.bytes.len (out ++ drop (length out) c.in_ok-bytes.bytes.items)
-    ≡ okm (okm_algorithm c.in-Ok.output) k (joined_parts c.args.info.now) c.args.len =
+    ≡ okm (okm_algorithm c.in-Ok.output) k (joined c.args.info.now) c.args.len =
     rw room (kept ∙ end.ok k _ _ (asked.ok k h)) in
     let (fits, count) =
     filled asked.algorithm asked.info_len asked.number {m1 = c.fill_counted.new.meter}
@@ -34,7 +34,7 @@ unfolding output_answer
 returns-in-Err g c = λ k h.
     let asked = c.in-Ok.ensures in
     let size : length c.deref_mut.result.now ≡ c.args.len = search rules in
-    let info = joined_parts c.args.info.now in
+    let info = joined c.args.info.now in
     let fails_here : can_expand (prk_algorithm c.args.prk.now) (length info) c.args.len ≡ false =
     false_from_ne_true (can_expand (prk_algorithm c.args.prk.now) (length info) c.args.len) (λ e.
     let can = can_fill asked.algorithm asked.info_len asked.number size e in

@@ -4,7 +4,7 @@ use Rattle.ring.specs.Algorithm.{max_input_len}
 use Rattle.ring.specs.Context.{context_algorithm}
 use Rattle.ring.specs.Digest.{digest_of}
 use Rattle.ring_bench.specs.Pieces.{pieces_listed}
-use Rattle.ring_bench.specs.Request.{digest_answer, joined}
+use Rattle.ring_bench.specs.Request.{concatenated, digest_answer}
 use Rattle.ring_bench.proofs.Counts.{digest_count}
 use Rattle.ring_bench.proofs.Limits.{passes}
 use Rattle.ring_bench.proofs.request.respond_digest.Goals as goal
@@ -12,7 +12,7 @@ use Rattle.ring_bench.proofs.request.respond_digest.Goals as goal
 pub returns-in_ok-to_vec-in-Ok : goal.returns-in_ok-to_vec-in-Ok
 unfolding digest_answer
 returns-in_ok-to_vec-in-Ok g c =
-    let message = joined (pieces_listed c.args.pieces.now) in
+    let message = concatenated (pieces_listed c.args.pieces.now) in
     let fed = c.digesting-context.ensures in
     let end = c.in-Ok.ensures in
     let within : max_input_len (context_algorithm c.digesting-context.result) < length message → ⊥ =

@@ -3,7 +3,7 @@ use Rattle.std.proofs.lemmas.Grind.{common_steps}
 use Rattle.ring.specs.Algorithm.{block_len, max_input_len}
 use Rattle.ring.specs.Hmac.{hmac_of, key_algorithm, signing_algorithm}
 use Rattle.ring_bench.specs.Pieces.{pieces_listed}
-use Rattle.ring_bench.specs.Request.{joined, tag_answer}
+use Rattle.ring_bench.specs.Request.{concatenated, tag_answer}
 use Rattle.ring_bench.proofs.Counts.{tag_count}
 use Rattle.ring_bench.proofs.Limits.{passes}
 use Rattle.ring_bench.proofs.request.signed.Goals as goal
@@ -13,7 +13,7 @@ unfolding tag_answer
 returns-in_ok-to_vec-in-Ok g c = λ k h.
     let a = key_algorithm c.args.key.now in
     let b = signing_algorithm c.signing-context.result in
-    let message = joined (pieces_listed c.args.pieces.now) in
+    let message = concatenated (pieces_listed c.args.pieces.now) in
     let fed = c.signing-context.ensures in
     let stands = fed.stands k h in
     let end = c.in-Ok.ensures in

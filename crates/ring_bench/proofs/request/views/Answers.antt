@@ -1,5 +1,5 @@
 use Rattle.std.proofs.Common.{◌≡◌, ◌+◌, slice_index_or, arith, ◌∙◌, refl}
-use Rattle.ring_bench.proofs.Cuts.{joined_parts-push, walk-end, walk-more}
+use Rattle.ring_bench.proofs.Cuts.{joined-push, walk-end, walk-more}
 use Rattle.ring_bench.proofs.request.views.Goals as goal
 use Rattle.ring_bench.proofs.request.views.Goals.{then-start-end+in_ok-push, else-start-end}
 
@@ -12,7 +12,7 @@ loop-len-preserved g c =
     let len = slice_index_or c.deref-len-items.result.now c.loop-len.len-index 0 in
     elim c.if-start-end.branch [
       | then-start-end+in_ok-push w ↦
-          (let pushed = joined_parts-push c.loop-len.views.items so_far.same in
+          (let pushed = joined-push c.loop-len.views.items so_far.same in
           rw (w.start-is, w.views-is, w.in_ok-push.ensures.items, walk.1, w.deref.ensures.value)
           (record { left = walk.0; same = pushed _ }))
       | else-start-end w ↦

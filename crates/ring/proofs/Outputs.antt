@@ -1,6 +1,9 @@
 -- How the bytes of words are written one word after another.
-use Rattle.std.proofs.Common.{◌≡◌, ℕ, zero, suc, ◌+◌, ◌-◌, ◌*◌, ◌/◌, ◌%◌, ◌^◌, ◌<◌, ◌≤◌, List, [], ◌∷◌, ◌++◌, length, take, drop, replicate, slice_index, get_or, refl, sym, ap, ◌∙◌, arith, length-append, map, take-add}
-use Rattle.std.proofs.lemmas.List.{take_at, drop_at, drop_more, get_or-map, length-map, drop-replicate, append_assoc, length-take-le}
+use Rattle.std.proofs.Common.{◌≡◌, ℕ, zero, suc, ◌+◌, ◌-◌, ◌*◌, ◌/◌, ◌%◌, ◌^◌, ◌<◌, ◌≤◌, List, []}
+use Rattle.std.proofs.Common.{◌∷◌, ◌++◌, length, take, drop, replicate, slice_index, get_or, refl}
+use Rattle.std.proofs.Common.{sym, ap, ◌∙◌, arith, length-append, map, take-add}
+use Rattle.std.proofs.lemmas.List.{take_at, drop_at, drop_more, get_or-map, length-map}
+use Rattle.std.proofs.lemmas.List.{drop-replicate, append_assoc, length-take-le}
 use Rattle.std.proofs.lemmas.List.Concat.{flat_map-append}
 use Rattle.std.proofs.lemmas.Simd.{get_or_narrower}
 use Rattle.std.specs.Int.{byte_at, bytes_high_first}
@@ -17,7 +20,12 @@ pub length-word_bytes : (n : ℕ) (ws : List ℕ) → length (word_bytes n ws) �
 length-word_bytes n [] = grind arith
 length-word_bytes n (w ∷ ws) =
     let e : n * (length ws + 1) ≡ n * length ws + n = grind arith in
-    omega (arith, length-append (bytes_high_first n w) (word_bytes n ws), length-bytes_high_first n w, length-word_bytes n ws)
+    omega (
+      arith,
+      length-append (bytes_high_first n w) (word_bytes n ws),
+      length-bytes_high_first n w,
+      length-word_bytes n ws,
+    )
 
 -- the bytes of some words more
 word_bytes-more : (n : ℕ) (ws : List ℕ) (i m : ℕ)

@@ -39,8 +39,8 @@ fill_blocks a info_len n =
     padded_blocks a (first_round_len info_len) + 1
     + (fill_rounds a n - 1) * (padded_blocks a (next_round_len a info_len) + 1)
 
--- the blocks of a derivation's round after c iterations: the first iterate's, and two for each other
--- one
+-- the blocks of a derivation's round after c iterations: the first iterate's, and two for each
+-- other one
 abbrev pub iterate_blocks : (a : Algorithm) (salt_len c : ℕ) → ℕ
 iterate_blocks a salt_len c = padded_blocks a (first_iterate_len salt_len) + 1 + 2 * (c - 1)
 

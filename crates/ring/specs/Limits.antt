@@ -5,7 +5,8 @@ use Rattle.std.specs.Int.{div_ceil}
 use Rattle.ring.specs.Algorithm.{block_len, max_input_len, output_len}
 use Rattle.ring.specs.declared.digest.algorithm.Algorithm.{Algorithm}
 
--- what the inner digest of a tag takes in: one block, and a message of n bytes (RFC 2104, section 2)
+-- what the inner digest of a tag takes in: one block, and a message of n bytes (RFC 2104,
+-- section 2)
 abbrev pub tag_input_len : Algorithm → ℕ → ℕ
 tag_input_len a n = block_len a + n
 

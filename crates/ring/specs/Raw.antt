@@ -1,12 +1,14 @@
 -- Contexts and keys as plain numbers.
-use Rattle.std.specs.Prelude.{◌≡◌, ◌<◌, ◌+◌, ◌-◌, ◌*◌, ◌%◌, ◌^◌, ℕ, List, ◌++◌, length, map, take, drop, replicate, Option, Some, None, if◌then◌else◌, nat_eq}
+use Rattle.std.specs.Prelude.{◌≡◌, ◌<◌, ◌+◌, ◌-◌, ◌*◌, ◌%◌, ◌^◌, ℕ, List, ◌++◌, length, map, take}
+use Rattle.std.specs.Prelude.{drop, replicate, Option, Some, None, if◌then◌else◌, nat_eq}
 use Rattle.ring.specs.Algorithm.{block_len, word_count, word_len}
 use Rattle.ring.specs.Context.{cut_off}
 use Rattle.ring.specs.Digest.{chain}
 use Rattle.ring.specs.KeyBlocks.{inner_block, outer_block}
 use Rattle.ring.specs.Padding.{IsWhole}
 use Rattle.ring.specs.declared.digest.algorithm.Algorithm.{Algorithm}
-use Rattle.ring.specs.declared.digest.algorithm.TheConstants.{SHA1_FOR_LEGACY_USE_ONLY, SHA256, SHA384, SHA512, SHA512_256}
+use Rattle.ring.specs.declared.digest.algorithm.TheConstants.{SHA1_FOR_LEGACY_USE_ONLY, SHA256}
+use Rattle.ring.specs.declared.digest.algorithm.TheConstants.{SHA384, SHA512, SHA512_256}
 use Rattle.ring.specs.declared.raw.context.RawContext.{RawContext}
 use Rattle.ring.specs.declared.raw.key.RawKey.{RawKey}
 use Rattle.ring.specs.declared.raw.tag_context.RawTagContext.{RawTagContext}

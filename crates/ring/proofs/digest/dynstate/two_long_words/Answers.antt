@@ -16,4 +16,5 @@ returns c =
     let second = lane 1 (omega arith) in
     let same = λ (x : ℕ) (below : x < 2 ^ 64). sym (mod-eq_of_lt below) in
     (λ t. first t ++ (second t ++ []))
-    ∙ ap (word_bytes 8) (λ t. same c.args.first (omega arith) t ∷ same c.args.second (omega arith) t ∷ [])
+    ∙ ap (word_bytes 8)
+    (λ t. same c.args.first (omega arith) t ∷ same c.args.second (omega arith) t ∷ [])

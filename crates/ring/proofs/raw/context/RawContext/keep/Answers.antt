@@ -1,4 +1,5 @@
-use Rattle.std.proofs.Common.{◌≡◌, ◌≤◌, ◌<◌, ◌+◌, ◌++◌, ℕ, List, sym, ap, ◌∙◌, arith, length, append_assoc}
+use Rattle.std.proofs.Common.{◌≡◌, ◌≤◌, ◌<◌, ◌+◌, ◌++◌, ℕ, List, sym, ap, ◌∙◌, arith, length}
+use Rattle.std.proofs.Common.{append_assoc}
 use Rattle.std.proofs.lemmas.Option.{same_Some}
 use Rattle.ring.specs.Algorithm.{block_len}
 use Rattle.ring.specs.Raw.{RawStandsFor}
@@ -13,7 +14,8 @@ returns-clause-stands c = λ done a m h.
     let pending = c.args.self.now.pending in
     let input = c.args.input.now in
     let same = same_Some _ a (sym c.in-Some.is ∙ c.digest_of_number.ensures ∙ h.algorithm) in
-    let size : c.block_len-block_len.result ≡ block_len a = c.block_len-block_len.ensures ∙ ap block_len same in
+    let size : c.block_len-block_len.result ≡ block_len a =
+    c.block_len-block_len.ensures ∙ ap block_len same in
     let most = block_len-most a in
     let fits : n ≤ length pending = omega (arith, c.if-num_pending-block_len.false) in
     let below : n + length input < block_len a =
@@ -25,5 +27,6 @@ returns-clause-stands c = λ done a m h.
       count = h.count;
       partial = below;
       message = ap (λ (z : List ℕ). z ++ input) h.message ∙ append_assoc h.blocks _ input
-          ∙ ap (λ (z : List ℕ). h.blocks ++ z) (sym (kept n pending input _ _ fits c.copy_from_slice.ensures.after));
+          ∙ ap (λ (z : List ℕ). h.blocks ++ z)
+          (sym (kept n pending input _ _ fits c.copy_from_slice.ensures.after));
     }

@@ -14,7 +14,8 @@ pub returns : goal.returns
 unfolding RawKeyStandsFor
 returns c = λ a k h.
     let same = same_Some _ a (sym c.in-Some.is ∙ c.digest_of_number.ensures ∙ h.algorithm) in
-    let size : c.block_len-block_len.result ≡ block_len a = c.block_len-block_len.ensures ∙ ap block_len same in
+    let size : c.block_len-block_len.result ≡ block_len a =
+    c.block_len-block_len.ensures ∙ ap block_len same in
     let most = block_len-most a in
     let inner : c.block_len-block_len.result ≡ cut_off (length (inner_block a k)) =
     omega (arith, length-inner_block a k) in

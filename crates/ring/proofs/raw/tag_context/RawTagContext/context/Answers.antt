@@ -26,7 +26,8 @@ unfolding RawTagStandsFor
 returns-clause-stands c = λ a k m h.
     let inner = c.in-Some.ensures.stands a _ h.inner in
     let same : c.algorithm-algorithm.result ≡ a = c.algorithm-algorithm.ensures ∙ inner.1 in
-    let size : c.block_len-block_len.result ≡ block_len a = c.block_len-block_len.ensures ∙ ap block_len same in
+    let size : c.block_len-block_len.result ≡ block_len a =
+    c.block_len-block_len.ensures ∙ ap block_len same in
     let most = block_len-most a in
     let outer : c.block_len-block_len.result ≡ cut_off (length (outer_block a k)) =
     omega (arith, length-outer_block a k) in

@@ -2,6 +2,7 @@ pub mod Error
 pub mod Bits
 pub mod Bytes
 pub mod Word
+pub mod Lane
 pub mod Schedule
 pub mod Chunks
 pub mod Views

@@ -64,6 +64,13 @@ impl Meter {
         self.blocks = self.blocks.saturating_add(1);
     }
 
+    // Four blocks more.
+    pub(crate) fn add_four_blocks(&mut self)
+        ensures { self.new ≡ raised self.old 4 0 }
+    {
+        self.blocks = self.blocks.saturating_add(4);
+    }
+
     // One pair of bytes more.
     pub(crate) fn add_byte_pair(&mut self)
         ensures { self.new ≡ raised self.old 0 1 }

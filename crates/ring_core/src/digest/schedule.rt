@@ -3,19 +3,20 @@ ghost use Rattle.std.specs.Prelude.{◌≡◌, ℕ, ◌+◌, ◌*◌, ◌/◌, �
 ghost use Rattle.ring_core.specs.Schedule.{IsRing};
 ghost use Rattle.ring_core.specs.Word.{word_at};
 
-use crate::digest::word::Slots;
+use crate::digest::word::Sha2;
+use crate::digest::word::lane_word::{LaneWord, Slots};
 
 // Each function here is a few instructions of a block function, and written in line there, whatever
 // the compiler's thresholds: a slot is then a literal, and words stay in lanes from step to step.
 
-// Fills the ring with the block's own words.
+// Fills the ring with the block's own words, in each lane the same.
 #[inline(always)]
 pub(crate) fn load<S: Slots>(ring: &mut [S::Slot; 16], block: &[u8])
-    requires { length block.now ≡ 16 * (S.bits / 8) }
-    ensures { IsRing (word_at S.bits block.now) (map S.slot_value ring.new) 16 }
+    requires { length block.now ≡ 16 * (S.One.bits / 8) }
+    ensures { (i : ℕ) → IsRing (word_at S.One.bits block.now) (map (S.slot_lane i) ring.new) 16 }
 {
     'words: for t in 0..16 {
-        ring[t] = S::read_word(block, t).to_slot();
+        ring[t] = S::splat(S::One::read_word(block, t)).to_slot();
     }
 }
 

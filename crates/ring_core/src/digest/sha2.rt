@@ -1,7 +1,8 @@
 //! The block functions of SHA-2 (FIPS 180-4, 6.2.2 and 6.4.2), written once for both sizes of
 //! words, but for the schedule's step in `lanes`.
-ghost use Rattle.std.specs.Prelude.{◌≡◌, ℕ, ◌+◌, ◌*◌, ◌/◌, ◌<◌, ◌≤◌, List, length, map};
+ghost use Rattle.std.specs.Prelude.{◌≡◌, ℕ, ◌+◌, ◌*◌, ◌/◌, ◌%◌, ◌<◌, ◌≤◌, List, [], get_or, length, map};
 ghost use Rattle.ring_core.specs.Cost.{raised};
+ghost use Rattle.ring_core.specs.Lane.{word_of_lane, words_of_lane};
 ghost use Rattle.ring_core.specs.Schedule.{IsBefore, IsRing};
 ghost use Rattle.ring_core.specs.Sha2.{Σ0, Σ1, W, add_state, block_len, block_step, chain_from, family_256, family_512, words_32, words_64, round, rounds_from, three_rotations};
 ghost use Rattle.ring_core.specs.Views.{chunk_items, chunk_total};
@@ -13,23 +14,28 @@ mod w32;
 mod w64;
 
 use crate::cost::Meter;
+use crate::digest::four::FourStates;
 use crate::digest::schedule::{load, pair};
 pub use crate::digest::sha2::constants::constants_are_cube_roots;
 use crate::digest::sha2::lanes::Lanes;
+use crate::digest::sha2::lanes::four::load_four;
+use crate::digest::word::Sha2;
+use crate::digest::word::four::FourWords;
 use crate::digest::word::functions::{choose_word, majority_word};
-use crate::digest::word::{Sha2, Word};
+use crate::digest::word::lane_word::LaneWord;
 use crate::polyfill::slice::AsChunks;
 use std::num::Wrapping;
+use std::simd::Simd;
 
 // ROTR first ⊕ ROTR second ⊕ ROTR third, one inside the other: side by side they need two copies of
 // the word more, and these take longer than each waits for the next.
 #[inline(always)]
-fn rotations<S: Word>(x: S, counts: (u32, u32, u32)) -> S
+fn rotations<S: LaneWord>(x: S, counts: (u32, u32, u32)) -> S
     requires first { 1 ≤ counts.0 }
     requires second { counts.0 < counts.1 }
     requires third { counts.1 < counts.2 }
-    requires below { counts.2 < S.bits }
-    ensures { S.value result ≡ three_rotations S.bits counts (S.value x) }
+    requires below { counts.2 < S.One.bits }
+    ensures { (i : ℕ) → S.lane i result ≡ three_rotations S.One.bits counts (S.lane i x) }
 {
     let (first, second, third) = counts;
     let inner = x.bit_xor(x.rotr(third - second));
@@ -39,25 +45,25 @@ fn rotations<S: Word>(x: S, counts: (u32, u32, u32)) -> S
 
 // Σ0
 #[inline(always)]
-fn big_sigma_0<S: Sha2>(x: S) -> S
-    ensures { S.value result ≡ Σ0 S.family (S.value x) }
+fn big_sigma_0<S: LaneWord>(x: S) -> S
+    ensures { (i : ℕ) → S.lane i result ≡ Σ0 S.One.family (S.lane i x) }
 {
-    rotations(x, S::BIG_SIGMA_0)
+    rotations(x, S::One::BIG_SIGMA_0)
 }
 
 // Σ1
 #[inline(always)]
-fn big_sigma_1<S: Sha2>(x: S) -> S
-    ensures { S.value result ≡ Σ1 S.family (S.value x) }
+fn big_sigma_1<S: LaneWord>(x: S) -> S
+    ensures { (i : ℕ) → S.lane i result ≡ Σ1 S.One.family (S.lane i x) }
 {
-    rotations(x, S::BIG_SIGMA_1)
+    rotations(x, S::One::BIG_SIGMA_1)
 }
 
 // One round (step 3), by the sum of its constant and its word.
 #[inline(always)]
-fn round<S: Sha2>(v: [S; 8], sum: S) -> [S; 8]
-    ensures { (k w : ℕ) → S.value sum ≡ add_words S.bits k w
-        → map S.value result ≡ round S.family (map S.value v) k w }
+fn round<S: LaneWord>(v: [S; 8], sum: S) -> [S; 8]
+    ensures { (i k w : ℕ) → S.lane i sum ≡ add_words S.One.bits k w
+        → map (S.lane i) result ≡ round S.One.family (map (S.lane i) v) k w }
 {
     let [a, b, c, d, e, f, g, h] = v;
     let temp1 = h.plus(big_sigma_1(e)).plus(choose_word(e, f, g)).plus(sum);
@@ -72,14 +78,16 @@ fn round<S: Sha2>(v: [S; 8], sum: S) -> [S; 8]
 #[inline(always)]
 fn two_rounds<S: Lanes>(ring: &[S::Slot; 16], v: [S; 8], turn: usize, place: usize) -> [S; 8]
     requires place { place + 2 ≤ 16 }
-    requires turn { 16 * turn + 16 ≤ S.family.rounds }
-    ensures { (h b : List ℕ) (n t : ℕ) → IsRing (W S.family b) (map S.slot_value ring.now) n
+    requires turn { 16 * turn + 16 ≤ S.One.family.rounds }
+    ensures { (i : ℕ) (h b : List ℕ) (n t : ℕ)
+        → IsRing (W S.One.family b) (map (S.slot_lane i) ring.now) n
         → t ≡ 16 * turn + place → t + 2 ≤ n → n ≤ t + 16
-        → map S.value v ≡ rounds_from S.family h b t
-        → map S.value result ≡ rounds_from S.family h b (t + 2) }
+        → map (S.lane i) v ≡ rounds_from S.One.family h b t
+        → map (S.lane i) result ≡ rounds_from S.One.family h b (t + 2) }
 {
     let t = 16 * turn + place;
-    let [first, second] = S::add_pairs([S::k(t), S::k(t + 1)], pair(ring, place));
+    let constants = [S::splat(S::One::k(t)), S::splat(S::One::k(t + 1))];
+    let [first, second] = S::add_pairs(constants, pair(ring, place));
     round(round(v, first), second)
 }
 
@@ -93,12 +101,12 @@ fn next_two_rounds<S: Lanes>(
 ) -> [S; 8]
     requires place { place + 2 ≤ 16 }
     requires later { 1 ≤ turn }
-    requires turn { 16 * turn + 16 ≤ S.family.rounds }
-    ensures { (h b : List ℕ) (t : ℕ) → t ≡ 16 * turn + place
-        → IsBefore (W S.family b) (rounds_from S.family h b)
-        (map S.slot_value ring.old) (map S.value v) t
-        → IsBefore (W S.family b) (rounds_from S.family h b)
-        (map S.slot_value ring.new) (map S.value result) (t + 2) }
+    requires turn { 16 * turn + 16 ≤ S.One.family.rounds }
+    ensures { (i : ℕ) (h b : List ℕ) (t : ℕ) → t ≡ 16 * turn + place
+        → IsBefore (W S.One.family b) (rounds_from S.One.family h b)
+        (map (S.slot_lane i) ring.old) (map (S.lane i) v) t
+        → IsBefore (W S.One.family b) (rounds_from S.One.family h b)
+        (map (S.slot_lane i) ring.new) (map (S.lane i) result) (t + 2) }
 {
     S::fill(ring, place);
     two_rounds(ring, v, turn, place)
@@ -107,8 +115,8 @@ fn next_two_rounds<S: Lanes>(
 // The first sixteen rounds, by the block's own words.
 #[inline(always)]
 fn first_turn<S: Lanes>(ring: &[S::Slot; 16], v: [S; 8]) -> [S; 8]
-    ensures { (b : List ℕ) → IsRing (W S.family b) (map S.slot_value ring.now) 16
-        → map S.value result ≡ rounds_from S.family (map S.value v) b 16 }
+    ensures { (i : ℕ) (b : List ℕ) → IsRing (W S.One.family b) (map (S.slot_lane i) ring.now) 16
+        → map (S.lane i) result ≡ rounds_from S.One.family (map (S.lane i) v) b 16 }
 {
     let v = two_rounds(ring, v, 0, 0);
     let v = two_rounds(ring, v, 0, 2);
@@ -124,12 +132,12 @@ fn first_turn<S: Lanes>(ring: &[S::Slot; 16], v: [S; 8]) -> [S; 8]
 #[inline(always)]
 fn later_turn<S: Lanes>(ring: &mut [S::Slot; 16], v: [S; 8], turn: usize) -> [S; 8]
     requires later { 1 ≤ turn }
-    requires turn { 16 * turn + 16 ≤ S.family.rounds }
-    ensures { (h b : List ℕ)
-        → IsBefore (W S.family b) (rounds_from S.family h b)
-        (map S.slot_value ring.old) (map S.value v) (16 * turn)
-        → IsBefore (W S.family b) (rounds_from S.family h b)
-        (map S.slot_value ring.new) (map S.value result) (16 * (turn + 1)) }
+    requires turn { 16 * turn + 16 ≤ S.One.family.rounds }
+    ensures { (i : ℕ) (h b : List ℕ)
+        → IsBefore (W S.One.family b) (rounds_from S.One.family h b)
+        (map (S.slot_lane i) ring.old) (map (S.lane i) v) (16 * turn)
+        → IsBefore (W S.One.family b) (rounds_from S.One.family h b)
+        (map (S.slot_lane i) ring.new) (map (S.lane i) result) (16 * (turn + 1)) }
 {
     let v = next_two_rounds(ring, v, turn, 0);
     let v = next_two_rounds(ring, v, turn, 2);
@@ -142,8 +150,9 @@ fn later_turn<S: Lanes>(ring: &mut [S::Slot; 16], v: [S; 8], turn: usize) -> [S;
 }
 
 // Each word of `state` with its variable of `v` added (step 4).
-fn add_state<S: Sha2>(state: &[S; 8], v: &[S; 8]) -> [S; 8]
-    ensures { map S.value result ≡ add_state S.bits (map S.value state.now) (map S.value v.now) }
+fn add_state<S: LaneWord>(state: &[S; 8], v: &[S; 8]) -> [S; 8]
+    ensures { (i : ℕ) → map (S.lane i) result
+        ≡ add_state S.One.bits (map (S.lane i) state.now) (map (S.lane i) v.now) }
 {
     let [a, b, c, d, e, f, g, h] = *state;
     let [i, j, k, l, m, n, o, p] = *v;
@@ -159,19 +168,29 @@ fn add_state<S: Sha2>(state: &[S; 8], v: &[S; 8]) -> [S; 8]
     ]
 }
 
-// Runs the block function over one block, with room for the words of its schedule.
+// Runs the block function over the blocks whose words the ring holds, in each lane over its own.
 #[inline(always)]
-fn run_block<S: Lanes>(ring: &mut [S::Slot; 16], state: &mut [S; 8], block: &[u8])
-    requires { length block.now ≡ 16 * (S.bits / 8) }
-    ensures { map S.value state.new ≡ block_step S.family (map S.value state.old) block.now }
+fn run_loaded<S: Lanes>(ring: &mut [S::Slot; 16], state: &mut [S; 8])
+    ensures { (i : ℕ) (b : List ℕ) → IsRing (W S.One.family b) (map (S.slot_lane i) ring.old) 16
+        → map (S.lane i) state.new ≡ block_step S.One.family (map (S.lane i) state.old) b }
 {
-    load::<S>(ring, block); // step 1, to W(15)
     let mut variables = first_turn(ring, *state); // steps 2 and 3
-    let turns = S::ROUNDS / 16;
+    let turns = S::One::ROUNDS / 16;
     'later: for turn in 1..turns {
         variables = later_turn(ring, variables, turn); // steps 1 and 3
     }
     *state = add_state(state, &variables); // step 4
+}
+
+// Runs the block function over one block, with room for the words of its schedule.
+#[inline(always)]
+fn run_block<S: Lanes>(ring: &mut [S::Slot; 16], state: &mut [S; 8], block: &[u8])
+    requires { length block.now ≡ 16 * (S.One.bits / 8) }
+    ensures { (i : ℕ) → map (S.lane i) state.new
+        ≡ block_step S.One.family (map (S.lane i) state.old) block.now }
+{
+    load::<S>(ring, block); // step 1, to W(15)
+    run_loaded(ring, state);
 }
 
 // Runs the block function over each block in turn, with room for the words of a schedule.
@@ -181,9 +200,9 @@ fn run_blocks<S: Lanes, const N: usize>(
     blocks: AsChunks<'_, u8, N>,
     meter: &mut Meter,
 )
-    requires { N ≡ block_len S.family }
-    ensures words { map S.value state.new
-        ≡ chain_from S.family (map S.value state.old)
+    requires { N ≡ block_len S.One.family }
+    ensures words { (i : ℕ) → map (S.lane i) state.new
+        ≡ chain_from S.One.family (map (S.lane i) state.old)
         (chunk_items blocks.entry) (chunk_total blocks.entry) }
     ensures cost { meter.new ≡ raised meter.old (chunk_total blocks.entry) 0 }
 {
@@ -246,4 +265,29 @@ pub fn block_data_order_64(state: &mut State64, blocks: AsChunks<'_, u8, 128>)
         (chunk_items blocks.entry) (chunk_total blocks.entry) }
 {
     block_data_order_64_counted(state, blocks, &mut Meter::new())
+}
+
+// Runs the block function over four blocks, each over its own state.
+fn run_four_blocks(state: &mut [FourWords; 8], blocks: &[[u8; 64]; 4])
+    ensures { (i : ℕ) → map (word_of_lane i) state.new
+        ≡ block_step family_256 (map (word_of_lane i) state.old) (get_or blocks.now (i % 4) []) }
+{
+    let mut ring = [FourWords(Simd::splat(0)); 16];
+    load_four(&mut ring, blocks); // step 1, to W(15)
+    run_loaded(&mut ring, state);
+}
+
+/// Replaces the state in each of four lanes by SHA-256's hash computation over the lane's block of
+/// 64 bytes (6.2.2); `meter` counts the four blocks.
+pub fn block_data_order_32_four_counted(
+    states: &mut FourStates,
+    blocks: &[[u8; 64]; 4],
+    meter: &mut Meter,
+)
+    ensures words { (i : ℕ) → i < 4 → words_of_lane i states.new
+        ≡ block_step family_256 (words_of_lane i states.old) (get_or blocks.now i []) }
+    ensures cost { meter.new ≡ raised meter.old 4 0 }
+{
+    run_four_blocks(&mut states.words, blocks);
+    meter.add_four_blocks();
 }

@@ -3,7 +3,9 @@ ghost use Rattle.std.specs.Prelude.{◌≡◌, ℕ, ◌*◌, ◌/◌, ◌^◌, �
 ghost use Rattle.ring_core.specs.Sha2.{Family, family_256, family_512};
 ghost use Rattle.ring_core.specs.Word.{◌⊕◌, add_words, big_endian, complement, rotr, shr, word_at};
 
+pub(crate) mod four;
 pub(crate) mod functions;
+pub(crate) mod lane_word;
 pub(crate) mod w32;
 pub(crate) mod w64;
 
@@ -124,16 +126,4 @@ pub trait Sha2: Word {
     ghost small_1_is: { SMALL_SIGMA_1 ≡ family.small_1 };
 
     ghost rounds_are: { ROUNDS ≡ family.rounds };
-}
-
-// A word of SHA-2 with what a schedule keeps it in.
-pub(crate) trait Slots: Sha2 {
-    type Slot: Copy;
-
-    // the number of the word that a slot holds
-    ghost slot_value: { Self.Slot → ℕ };
-
-    // the slot of a word
-    fn to_slot(self) -> Self::Slot
-        ensures { slot_value result ≡ Self.value self };
 }

@@ -4,10 +4,11 @@ ghost use Rattle.ring_core.specs.Schedule.{IsRing};
 ghost use Rattle.ring_core.specs.Sha2.{W};
 ghost use Rattle.ring_core.specs.Word.{add_words};
 
+pub(crate) mod four;
 mod w32;
 mod w64;
 
-use crate::digest::word::Slots;
+use crate::digest::word::lane_word::{LaneWord, Slots};
 
 // A word whose schedule is made by lanes. The library's vectors are of `u32` or of `u64` and not of
 // any word, so each size has a step of its own.
@@ -15,13 +16,14 @@ pub(crate) trait Lanes: Slots {
     // Fills slot `place` and the next with the words sixteen after those that stand there.
     fn fill(ring: &mut [Self::Slot; 16], place: usize)
         requires { place + 2 ≤ 16 }
-        ensures { (b : List ℕ) (t : ℕ) → 16 ≤ t → place ≡ t % 16
-            → IsRing (W Self.family b) (map Self.slot_value ring.old) t
-            → IsRing (W Self.family b) (map Self.slot_value ring.new) (t + 2) };
+        ensures { (i : ℕ) (b : List ℕ) (t : ℕ) → 16 ≤ t → place ≡ t % 16
+            → IsRing (W Self.One.family b) (map (Self.slot_lane i) ring.old) t
+            → IsRing (W Self.One.family b) (map (Self.slot_lane i) ring.new) (t + 2) };
 
     // Two words and the words of two slots added, each to its own, for the constants of two rounds
     // and their words.
     fn add_pairs(x: [Self; 2], y: [Self::Slot; 2]) -> [Self; 2]
-        ensures { (a b c d : ℕ) → map Self.value x ≡ a ∷ b ∷ [] → map Self.slot_value y ≡ c ∷ d ∷ []
-            → map Self.value result ≡ add_words Self.bits a c ∷ add_words Self.bits b d ∷ [] };
+        ensures { (i a b c d : ℕ) → map (Self.lane i) x ≡ a ∷ b ∷ []
+            → map (Self.slot_lane i) y ≡ c ∷ d ∷ [] → map (Self.lane i) result
+            ≡ add_words Self.One.bits a c ∷ add_words Self.One.bits b d ∷ [] };
 }

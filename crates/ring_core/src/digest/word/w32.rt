@@ -4,7 +4,8 @@ ghost use Rattle.std.proofs.Common.{refl, mod-lt, pow_pos};
 ghost use Rattle.ring_core.specs.Sha2.{words_32};
 ghost use Rattle.ring_core.specs.Word.{add_words, low_32, rotr};
 
-use crate::digest::word::{Slots, Word};
+use crate::digest::word::Word;
+use crate::digest::word::lane_word::{LaneWord, Slots};
 use std::num::Wrapping;
 use std::simd::{Simd, u32x4, u64x2};
 
@@ -130,12 +131,45 @@ impl Word for Wrapping<u32> {
     ghost zero_is = { refl };
 }
 
+impl LaneWord for Wrapping<u32> {
+    type One = Wrapping<u32>;
+
+    ghost lane = { λ _ x. x.0 % 2 ^ 32 };
+
+    #[inline(always)]
+    fn splat(word: Wrapping<u32>) -> Wrapping<u32> {
+        word
+    }
+
+    #[inline(always)]
+    fn plus(self, o: Wrapping<u32>) -> Wrapping<u32> {
+        Word::plus(self, o)
+    }
+
+    #[inline(always)]
+    fn bit_and(self, o: Wrapping<u32>) -> Wrapping<u32> {
+        Word::bit_and(self, o)
+    }
+
+    #[inline(always)]
+    fn bit_xor(self, o: Wrapping<u32>) -> Wrapping<u32> {
+        Word::bit_xor(self, o)
+    }
+
+    #[inline(always)]
+    fn rotr(self, count: u32) -> Wrapping<u32> {
+        Word::rotr(self, count)
+    }
+
+    ghost fits = { λ _ _. mod-lt _ (pow_pos 32) };
+}
+
 // The word stands in the low half of a slot: the lanes of a schedule's step are then slots as they
 // are, and what is carried above it is left there.
 impl Slots for Wrapping<u32> {
     type Slot = u64;
 
-    ghost slot_value = { λ x. x % 2 ^ 32 };
+    ghost slot_lane = { λ _ x. x % 2 ^ 32 };
 
     fn to_slot(self) -> u64 {
         widened(self.0)

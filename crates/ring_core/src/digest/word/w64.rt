@@ -4,7 +4,8 @@ ghost use Rattle.std.proofs.Common.{refl, mod-lt, pow_pos};
 ghost use Rattle.ring_core.specs.Sha2.{words_64};
 ghost use Rattle.ring_core.specs.Word.{rotr};
 
-use crate::digest::word::{Slots, Word};
+use crate::digest::word::Word;
+use crate::digest::word::lane_word::{LaneWord, Slots};
 use std::num::Wrapping;
 use std::simd::{Simd, u64x2};
 
@@ -101,10 +102,43 @@ impl Word for Wrapping<u64> {
     ghost zero_is = { refl };
 }
 
+impl LaneWord for Wrapping<u64> {
+    type One = Wrapping<u64>;
+
+    ghost lane = { λ _ x. x.0 % 2 ^ 64 };
+
+    #[inline(always)]
+    fn splat(word: Wrapping<u64>) -> Wrapping<u64> {
+        word
+    }
+
+    #[inline(always)]
+    fn plus(self, o: Wrapping<u64>) -> Wrapping<u64> {
+        Word::plus(self, o)
+    }
+
+    #[inline(always)]
+    fn bit_and(self, o: Wrapping<u64>) -> Wrapping<u64> {
+        Word::bit_and(self, o)
+    }
+
+    #[inline(always)]
+    fn bit_xor(self, o: Wrapping<u64>) -> Wrapping<u64> {
+        Word::bit_xor(self, o)
+    }
+
+    #[inline(always)]
+    fn rotr(self, count: u32) -> Wrapping<u64> {
+        Word::rotr(self, count)
+    }
+
+    ghost fits = { λ _ _. mod-lt _ (pow_pos 64) };
+}
+
 impl Slots for Wrapping<u64> {
     type Slot = Wrapping<u64>;
 
-    ghost slot_value = { λ x. x.0 % 2 ^ 64 };
+    ghost slot_lane = { λ _ x. x.0 % 2 ^ 64 };
 
     fn to_slot(self) -> Wrapping<u64> {
         self

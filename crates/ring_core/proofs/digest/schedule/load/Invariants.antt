@@ -4,5 +4,5 @@ use Rattle.ring_core.proofs.digest.schedule.load.Given as goal
 
 abbrev pub invariant-words : goal.invariant-words
 invariant-words g l = (length l.ring ≡ 16)
-    × ((k : ℕ) → k < l.t
-    → slice_index (map g.S.Slots.slot_value l.ring) k ≡ word_at g.S.Word.bits l.block k)
+    × ((i k : ℕ) → k < l.t
+    → slice_index (map (g.S.Slots.slot_lane i) l.ring) k ≡ word_at g.S.One.Word.bits l.block k)

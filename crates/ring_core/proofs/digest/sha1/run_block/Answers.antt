@@ -17,7 +17,7 @@ returns-clause-words c =
     let long : length state ≡ 8 = search rules in
     let enough : 5 ≤ length (map word_32 state) = simp length-map (omega arith) in
     let ring = map low_32 c.load.new.ring in
-    let ready = ring-same (word_at 32 block) (W block) ring 16 c.load.ensures
+    let ready = ring-same (word_at 32 block) (W block) ring 16 (c.load.ensures 0)
     (λ k below. sym (W-first block k below)) in
     let r16 : IsBefore (W block) (rounds_from h block) ring (map word_32 c.first_turn-v.result) 16 =
     record {

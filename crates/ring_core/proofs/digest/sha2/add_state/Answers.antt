@@ -3,9 +3,17 @@ use Rattle.ring_core.proofs.Mapped.{value_read}
 use Rattle.ring_core.proofs.digest.sha2.add_state.Goals as goal
 
 pub returns : goal.returns
-returns g c =
-    let f = g.S.Word.value in
+returns g c = λ i.
+    let f = g.S.LaneWord.lane i in
     let chaining : length c.args.state.now ≡ 8 = search rules in
     let variables : length c.args.v.now ≡ 8 = search rules in
-    rw (c.plus.ensures, c.plus-2.ensures, c.plus-3.ensures, c.plus-4.ensures, c.plus-5.ensures, c.plus-6.ensures, c.plus-7.ensures, c.plus-8.ensures)
-    (simp (value_read f c.args.state.now 8 chaining, value_read f c.args.v.now 8 variables))
+    rw (
+      c.plus.ensures i,
+      c.plus-2.ensures i,
+      c.plus-3.ensures i,
+      c.plus-4.ensures i,
+      c.plus-5.ensures i,
+      c.plus-6.ensures i,
+      c.plus-7.ensures i,
+      c.plus-8.ensures i,
+    ) (simp (value_read f c.args.state.now 8 chaining, value_read f c.args.v.now 8 variables))

@@ -6,20 +6,20 @@ use Rattle.ring_core.proofs.digest.sha2.round.Goals as goal
 
 pub returns : goal.returns
 unfolding round
-returns g c = λ k w are.
+returns g c = λ i k w are.
     let eight : length c.args.v ≡ 8 = search rules in
     rw (
-      c.plus-3.ensures,
-      c.plus-4.ensures,
-      c.plus-temp1.ensures,
-      c.plus-2.ensures,
-      c.plus.ensures,
-      c.plus-temp2.ensures,
-      c.big_sigma_1.ensures,
-      c.choose_word.ensures,
-      c.big_sigma_0.ensures,
-      c.majority_word.ensures,
+      c.plus-3.ensures i,
+      c.plus-4.ensures i,
+      c.plus-temp1.ensures i,
+      c.plus-2.ensures i,
+      c.plus.ensures i,
+      c.plus-temp2.ensures i,
+      c.big_sigma_1.ensures i,
+      c.choose_word.ensures i,
+      c.big_sigma_0.ensures i,
+      c.majority_word.ensures i,
       are,
-      g.met.S.Sha2.bits_are,
-      sum_of_pair (2 ^ g.S.Sha2.family.bits) _ k w,
-    ) (simp (value_read g.S.Word.value c.args.v 8 eight))
+      g.met.S.One.Sha2.bits_are,
+      sum_of_pair (2 ^ g.S.One.Sha2.family.bits) _ k w,
+    ) (simp (value_read (g.S.LaneWord.lane i) c.args.v 8 eight))

@@ -7,13 +7,15 @@ use Rattle.ring_core.proofs.digest.sha2.run_blocks.Goals as goal
 
 pub each-init : goal.each-init
 unfolding chained
-each-init g c = record { words = refl; cost = raised-none _ }
+each-init g c = record { words = λ i. refl; cost = raised-none _ }
 
 pub each-preserved : goal.each-preserved
 each-preserved g c =
-    let family = g.S.Sha2.family in
-    let h = map g.S.Word.value c.args.state.now in record {
+    let family = g.S.One.Sha2.family in
+    let blocks = c.args.blocks.items.now in record {
       words =
-          rw (c.run_block.ensures, c.each.invariant.words, c.index.ensures, c.requires) (sym (chained-next (block_step family) (block_len family) h c.args.blocks.items.now c.each.i));
+          λ i. let h = map (g.S.LaneWord.lane i) c.args.state.now in
+          rw (c.run_block.ensures i, c.each.invariant.words i, c.index.ensures, c.requires)
+          (sym (chained-next (block_step family) (block_len family) h blocks c.each.i));
       cost = rw (c.add_block.ensures, c.each.invariant.cost) (raised-raised _ _ _ _ _);
     }

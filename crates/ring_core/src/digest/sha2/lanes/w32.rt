@@ -70,7 +70,7 @@ impl Lanes for Wrapping<u32> {
 
     #[inline(always)]
     fn add_pairs(x: [Wrapping<u32>; 2], y: [u64; 2]) -> [Wrapping<u32>; 2]
-        ensures { (a b c d : ℕ) → words_32 x ≡ a ∷ b ∷ [] → map low_32 y ≡ c ∷ d ∷ []
+        ensures { (i a b c d : ℕ) → words_32 x ≡ a ∷ b ∷ [] → map low_32 y ≡ c ∷ d ∷ []
             → words_32 result ≡ add_words 32 a c ∷ add_words 32 b d ∷ [] }
     {
         add_pairs(x, y)

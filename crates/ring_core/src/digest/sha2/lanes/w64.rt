@@ -64,7 +64,7 @@ impl Lanes for Wrapping<u64> {
     // By words: two lanes of 64 bits take longer to take apart than one sum more.
     #[inline(always)]
     fn add_pairs(x: [Wrapping<u64>; 2], y: [Wrapping<u64>; 2]) -> [Wrapping<u64>; 2]
-        ensures { (a b c d : ℕ) → words_64 x ≡ a ∷ b ∷ [] → words_64 y ≡ c ∷ d ∷ []
+        ensures { (i a b c d : ℕ) → words_64 x ≡ a ∷ b ∷ [] → words_64 y ≡ c ∷ d ∷ []
             → words_64 result ≡ add_words 64 a c ∷ add_words 64 b d ∷ [] }
     {
         let [first, second] = x;

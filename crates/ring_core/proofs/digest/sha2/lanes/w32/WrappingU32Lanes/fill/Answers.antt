@@ -6,7 +6,7 @@ use Rattle.ring_core.proofs.Sha2Steps.{W-next_two}
 use Rattle.ring_core.proofs.digest.sha2.lanes.w32.WrappingU32Lanes.fill.Goals as goal
 
 pub returns : goal.returns
-returns c = λ b t from place ready.
+returns c = λ i b t from place ready.
     let w = W family_256 b in
     let sixteen =
     c.pair-sixteen.ensures low_32 w t (t - 16) ready (omega arith) (omega arith) (omega arith) in

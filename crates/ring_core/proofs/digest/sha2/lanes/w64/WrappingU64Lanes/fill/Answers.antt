@@ -5,7 +5,7 @@ use Rattle.ring_core.proofs.Sha2Steps.{W-next_two}
 use Rattle.ring_core.proofs.digest.sha2.lanes.w64.WrappingU64Lanes.fill.Goals as goal
 
 pub returns : goal.returns
-returns c = λ b t from place ready.
+returns c = λ i b t from place ready.
     let value = λ (x : Wrapping ℕ). x.0 % 2 ^ 64 in
     let w = W family_512 b in
     let sixteen =

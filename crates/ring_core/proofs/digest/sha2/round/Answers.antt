@@ -7,6 +7,7 @@ use Rattle.ring_core.proofs.digest.sha2.round.Goals as goal
 pub returns : goal.returns
 unfolding round
 returns g c = λ i k w are.
+    let bits = g.S.One.Sha2.family.bits in
     let eight : length c.args.v ≡ 8 = search rules in
     rw (
       c.plus-3.ensures i,
@@ -21,5 +22,4 @@ returns g c = λ i k w are.
       c.majority_word.ensures i,
       are,
       g.met.S.One.Sha2.bits_are,
-      sum_of_pair (2 ^ g.S.One.Sha2.family.bits) _ k w,
-    ) (simp (value_read (g.S.LaneWord.lane i) c.args.v 8 eight))
+    ) (simp (value_read (g.S.LaneWord.lane i) c.args.v 8 eight, sum_of_pair (2 ^ bits)))

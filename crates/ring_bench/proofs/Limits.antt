@@ -1,5 +1,5 @@
 -- Lemmas on the tests of limits, and on how a call that was refused is known by its blocks.
-use Rattle.std.proofs.Common.{◌≡◌, ℕ, ◌+◌, ◌-◌, ◌^◌, ◌<◌, ◌≤◌, ◌*◌, nat_le, ◌&&◌, true≢false, Bool}
+use Rattle.std.proofs.Common.{◌≡◌, ℕ, ◌+◌, ◌-◌, ◌^◌, ◌<◌, ◌≤◌, nat_le, true≢false, Bool}
 use Rattle.std.proofs.Common.{true, false, List, refl, sym, ap, ◌∙◌, arith, rules}
 use Rattle.std.proofs.lemmas.Bool.Decides.{nat_tests, same_from_decides}
 use Rattle.std.specs.Str.{bytes_eq}

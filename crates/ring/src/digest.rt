@@ -45,6 +45,7 @@ ghost use Rattle.ring.specs.Cost.{padded_blocks};
 ghost use Rattle.ring.specs.Digest.{IsDigest};
 
 use crate::digest::algorithm::is_message_within;
+use crate::digest::block_context::BlockContext;
 use ring_core::cost::Meter;
 use ring_core::error::Unspecified;
 
@@ -82,9 +83,10 @@ pub fn digest_counted(
     if !is_message_within(algorithm, message.len() as u128) {
         return Err(Unspecified);
     }
-    let mut context = Context::new(algorithm);
-    context.update_counted(message, meter);
-    context.finish_counted(meter)
+    // No context: what is left past the whole blocks is padded where it lies.
+    let mut blocks = BlockContext::new(algorithm);
+    let rest = blocks.update(message, meter);
+    blocks.try_finish(rest, meter)
 }
 
 /// The digest of `message` (FIPS 180-4, section 6).

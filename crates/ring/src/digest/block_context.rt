@@ -10,9 +10,9 @@ ghost use Rattle.ring.specs.Padding.{padded};
 ghost use Rattle.ring.specs.State.{chaining_words, is_state_of, spare_words};
 ghost use Rattle.ring.specs.declared.digest.algorithm.Algorithm.{Algorithm};
 
-use crate::digest::algorithm::{Algorithm, MAX_BLOCK_LEN, is_message_within};
+use crate::digest::algorithm::{Algorithm, is_message_within};
 use crate::digest::dynstate::{DynState, Output, long_output, short_output};
-use crate::digest::padding;
+use crate::digest::padding::{MAX_TAIL_LEN, write_tail};
 use crate::digest::value::Digest;
 use ring_core::cost::Meter;
 use ring_core::digest::sha1::sha1_block_data_order_counted;
@@ -163,28 +163,29 @@ impl BlockContext {
         }
     }
 
-    // The digest of the blocks and the pending bytes, which are the front of `block`.
+    // The digest of the blocks and the pending bytes.
     pub(crate) fn try_finish(
-        self,
-        block: [u8; MAX_BLOCK_LEN],
-        num_pending: usize,
+        &self,
+        pending: &[u8],
         meter: &mut Meter,
     ) -> Result<Digest, Unspecified>
-        requires { num_pending < block_len (block_algorithm self) }
-        ensures ok { IfOk result (λ digest. (p : List ℕ) → HasTaken self p
-            → IsDigest digest (block_algorithm self) (p ++ take num_pending block)) }
+        requires { length pending.now < block_len (block_algorithm self.now) }
+        ensures ok { IfOk result (λ digest. (p : List ℕ) → HasTaken self.now p
+            → IsDigest digest (block_algorithm self.now) (p ++ pending.now)) }
         ensures refused { IsErr result
-            ↔ (max_input_len (block_algorithm self) < cut_off (counted_bytes self + num_pending)) }
+            ↔ (max_input_len (block_algorithm self.now)
+            < cut_off (counted_bytes self.now + length pending.now)) }
         ensures unchanged { OnErr result (meter.new ≡ meter.old) }
         ensures cost { OnOk result (meter.new
-            ≡ raised meter.old (padded_blocks (block_algorithm self) num_pending) 0) }
-        ensures algorithm { IfOk result (λ digest. digest_algorithm digest ≡ block_algorithm self) }
+            ≡ raised meter.old (padded_blocks (block_algorithm self.now) (length pending.now)) 0) }
+        ensures algorithm { IfOk result (λ digest. digest_algorithm digest ≡ block_algorithm self.now) }
     {
-        let message_len = self.completed_bytes.saturating_add(num_pending as u128);
+        let message_len = self.completed_bytes.saturating_add(pending.len() as u128);
         if !is_message_within(&self.algorithm, message_len) {
             return Err(Unspecified);
         }
-        let (tail, len) = padding::tail(self.algorithm, &block[..num_pending], message_len);
+        let mut tail = [0; MAX_TAIL_LEN];
+        let len = write_tail(self.algorithm, pending, message_len, &mut tail);
         let output = self.output_after(&tail[..len], meter);
         Ok(Digest::new(output, self.algorithm))
     }

@@ -160,7 +160,8 @@ impl Context {
         ensures algorithm { IfOk result (λ digest.
             digest_algorithm digest ≡ context_algorithm self) }
     {
-        self.block.try_finish(self.pending, self.num_pending, meter)
+        self.block
+            .try_finish(&self.pending[..self.num_pending], meter)
     }
 
     /// The digest of the message (FIPS 180-4, section 6).

@@ -1,6 +1,6 @@
 //! The last block or blocks of a message (FIPS 180-4, section 5.1).
 
-ghost use Rattle.std.specs.Prelude.{◌≡◌, ℕ, ◌-◌, ◌*◌, ◌^◌, ◌<◌, ◌≤◌, List, ◌++◌, drop, length, take};
+ghost use Rattle.std.specs.Prelude.{◌≡◌, ℕ, ◌-◌, ◌*◌, ◌^◌, ◌<◌, ◌≤◌, List, ◌++◌, drop, length, replicate, take};
 ghost use Rattle.std.specs.Int.{bytes_high_first};
 ghost use Rattle.ring.specs.Algorithm.{block_len, length_len, max_input_len};
 ghost use Rattle.ring.specs.Cost.{padded_blocks};
@@ -22,26 +22,28 @@ const LONG_LENGTH_LEN: usize = 16;
 // The bytes of the length field where blocks have 64 bytes.
 const SHORT_LENGTH_LEN: usize = 8;
 
-// What follows the whole blocks of a message of `message_len` bytes, and how many bytes that is:
-// the pending bytes, the byte 0x80, zeros, and the length in bits.
-pub(crate) fn tail(
+// Writes what follows the whole blocks of a message of `message_len` bytes over zeros: the pending
+// bytes, the byte 0x80, zeros, and the length in bits. It gives how many bytes that is. The array is
+// the caller's own: one that is given is copied, and read in pieces that aren't those just written.
+pub(crate) fn write_tail(
     algorithm: Algorithm,
     pending: &[u8],
     message_len: u128,
-) -> ([u8; MAX_TAIL_LEN], usize)
+    bytes: &mut [u8; MAX_TAIL_LEN],
+) -> usize
     requires partial { length pending.now < block_len algorithm }
     requires fits { message_len ≤ max_input_len algorithm }
-    ensures len { result.1 ≡ padded_blocks algorithm (length pending.now) * block_len algorithm }
-    ensures bytes { take result.1 result.0 ≡ tail_of algorithm pending.now message_len }
+    requires zeros { bytes.old ≡ replicate MAX_TAIL_LEN 0 }
+    ensures len { result ≡ padded_blocks algorithm (length pending.now) * block_len algorithm }
+    ensures bytes { take result bytes.new ≡ tail_of algorithm pending.now message_len }
 {
     let block_len = algorithm.block_len();
     let blocks = (pending.len() + algorithm.length_len()) / block_len + 1;
     let len = blocks * block_len;
-    let mut bytes = [0u8; MAX_TAIL_LEN];
     bytes[..pending.len()].copy_from_slice(pending);
     bytes[pending.len()] = END_OF_MESSAGE;
-    put_length(algorithm, &mut bytes, len, message_len);
-    (bytes, len)
+    put_length(algorithm, bytes, len, message_len);
+    len
 }
 
 // Writes the length field before the place `end`. With each size of the field by itself the copy is

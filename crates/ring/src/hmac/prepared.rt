@@ -5,11 +5,12 @@ ghost use Rattle.ring_core.specs.Cost.{raised};
 ghost use Rattle.ring.specs.Algorithm.{output_len};
 ghost use Rattle.ring.specs.Prepared.{past_message, prepared_padding};
 
+use crate::digest::Algorithm;
 use crate::digest::algorithm::{
     MAX_BLOCK_LEN, MAX_OUTPUT_LEN, SHA1_OUTPUT_LEN, SHA256_OUTPUT_LEN, SHA384_OUTPUT_LEN,
     SHA512_OUTPUT_LEN,
 };
-use crate::digest::{Algorithm, padding};
+use crate::digest::padding::{MAX_TAIL_LEN, write_tail};
 use crate::hmac::key::Key;
 use ring_core::cost::Meter;
 
@@ -47,7 +48,8 @@ impl PreparedBlock {
         let output_len = algorithm.output_len();
         let message_len = (algorithm.block_len() + output_len) as u128;
         let room = [0; MAX_OUTPUT_LEN];
-        let (tail, len) = padding::tail(algorithm, &room[..output_len], message_len);
+        let mut tail = [0; MAX_TAIL_LEN];
+        let len = write_tail(algorithm, &room[..output_len], message_len, &mut tail);
         let mut bytes = [0; MAX_BLOCK_LEN];
         bytes[..len].copy_from_slice(&tail[..len]);
         PreparedBlock { bytes, algorithm }

@@ -1,4 +1,4 @@
-use Rattle.std.proofs.Common.{◌≡◌, ◌*◌, ◌++◌, ℕ, List, arith, sym, ◌∙◌, ap, length, take}
+use Rattle.std.proofs.Common.{◌≡◌, ◌*◌, ◌++◌, ℕ, arith, sym, ◌∙◌, ap, length, take}
 use Rattle.std.proofs.lemmas.List.{length-take-le}
 use Rattle.ring_core.specs.Cost.{raised}
 use Rattle.ring.specs.Algorithm.{block_len}
@@ -8,18 +8,17 @@ use Rattle.ring.specs.Padding.{tail_of}
 use Rattle.ring.specs.declared.digest.value.Digest.{Digest}
 use Rattle.ring.proofs.Chains.{mul_whole}
 use Rattle.ring.proofs.Finishing.{taken_len}
-use Rattle.ring.proofs.Rows.{block_len-most, block_len-positive}
+use Rattle.ring.proofs.Rows.{block_len-positive}
 use Rattle.ring.proofs.Tails.{padded-append, tail_sizes}
 use Rattle.ring.proofs.digest.block_context.BlockContext.try_finish.Goals as goal
 
 pub returns-clause-ok : goal.returns-clause-ok
 returns-clause-ok c = λ p h.
-    let a = c.args.self.algorithm in
-    let x : List ℕ = take c.args.num_pending c.args.block in
-    let pending : length x ≡ c.args.num_pending = length-take-le c.args.num_pending c.args.block (omega (arith, block_len-most a)) in
+    let a = c.args.self.now.algorithm in
+    let x = c.args.pending.now in
     let len : length (p ++ x) ≡ c.saturating_add-message_len.result =
-    taken_len c.args.self p x c.saturating_add-message_len.result h (rw pending c.saturating_add-message_len.ensures) (omega arith) in
-    let end = ap (λ z. p ++ z) (c.tail-len.ensures.bytes ∙ ap (tail_of a x) (sym len)) ∙ sym (padded-append a p x h.whole) in
+    taken_len c.args.self.now p x c.saturating_add-message_len.result h c.saturating_add-message_len.ensures (omega arith) in
+    let end = ap (λ z. p ++ z) (c.write_tail-len.ensures.bytes ∙ ap (tail_of a x) (sym len)) ∙ sym (padded-append a p x h.whole) in
     record {
       algorithm = ap (λ (d : Digest). d.algorithm) c.new.ensures;
       bytes = ap bytes_of c.new.ensures ∙ c.output_after-output.ensures.ok p (p ++ x) h end;
@@ -27,11 +26,10 @@ returns-clause-ok c = λ p h.
 
 pub returns-clause-cost : goal.returns-clause-cost
 returns-clause-cost c =
-    let a = c.args.self.algorithm in
-    let x : List ℕ = take c.args.num_pending c.args.block in
-    let pending : length x ≡ c.args.num_pending = length-take-le c.args.num_pending c.args.block (omega (arith, block_len-most a)) in
+    let a = c.args.self.now.algorithm in
+    let x = c.args.pending.now in
     let sizes = tail_sizes a (length x) (omega arith) in
-    let size : length (take c.tail-len.result.1 c.tail-len.result.0) ≡ padded_blocks a (length x) * block_len a =
-    length-take-le _ c.tail-len.result.0 (omega (arith, c.tail-len.ensures.len, sizes.0)) ∙ c.tail-len.ensures.len in
+    let size : length (take c.write_tail-len.result c.write_tail-len.new.bytes) ≡ padded_blocks a (length x) * block_len a =
+    length-take-le _ c.write_tail-len.new.bytes (omega (arith, c.write_tail-len.ensures.len, sizes.0)) ∙ c.write_tail-len.ensures.len in
     c.output_after-output.ensures.cost
-    ∙ ap (λ (n : ℕ). raised c.args.meter.now n 0) (rw (size, pending) (mul_whole (padded_blocks a c.args.num_pending) (block_len a) (block_len-positive a)).1)
+    ∙ ap (λ (n : ℕ). raised c.args.meter.now n 0) (rw size (mul_whole (padded_blocks a (length x)) (block_len a) (block_len-positive a)).1)

@@ -9,7 +9,7 @@ pub invariant_of-result : goal.invariant_of-result
 invariant_of-result c =
     let a = c.args.algorithm in
     let output = c.output_len-output_len in
-    let tail = c.tail-len in
+    let tail = c.write_tail-len in
     let zeros : List ℕ = replicate 64 0 in
     let room : List ℕ = take output.result zeros in
     let fits : output.result ≤ length zeros =
@@ -18,9 +18,9 @@ invariant_of-result c =
     length-take-le output.result zeros fits ∙ output.ensures in
     let ln : c.block_len.result + output.result ≡ block_len a + output_len a =
     omega (arith, c.block_len.ensures, output.ensures) in
-    let one : tail.result.1 ≡ block_len a = one_tail a (length room) _ lx tail.ensures.len in
+    let one : tail.result ≡ block_len a = one_tail a (length room) _ lx tail.ensures.len in
     let copied = c.copy_from_slice.ensures.after in
     let ly : length c.copy_from_slice.new.self ≡ block_len a =
-    ap length copied ∙ length-take-le _ tail.result.0 (omega (arith, one, block_len-most a))
+    ap length copied ∙ length-take-le _ tail.new.bytes (omega (arith, one, block_len-most a))
     ∙ one in
     record { padded = padding-made a room _ lx ly ln (copied ∙ tail.ensures.bytes) }

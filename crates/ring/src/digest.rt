@@ -66,7 +66,7 @@ pub use crate::digest::context::Context;
 pub use crate::digest::dynstate::Output;
 pub use crate::digest::padding::padding_is_shortest;
 pub use crate::digest::value::Digest;
-pub use ring_core::digest::{sha1, sha2, word};
+pub use ring_core::digest::{four, sha1, sha2, word};
 
 /// The digest of `message`, as [`digest`] gives it, its blocks counted by `meter`.
 pub fn digest_counted(

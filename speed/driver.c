@@ -22,7 +22,7 @@ struct row {
     uint32_t steps;
     int bytes; // of a step, where MB/s say more than its time
     int blocks[HASHES]; // of a step
-    work *ours[HASHES], *kit[HASHES];
+    enum work ours, kit;
     openssl_work *openssl;
     double least[HASHES][CONTENDERS]; // seconds of a step
 };
@@ -32,29 +32,29 @@ static struct row rows[] = {
         .name = "two blocks",
         .steps = 10000,
         .blocks = {2, 2, 2},
-        .ours = {ring_speed_blocks_sha1, ring_speed_blocks_sha256, ring_speed_blocks_sha512},
+        .ours = BLOCKS,
         .openssl = openssl_blocks,
     },
     {
         .name = "iterate of PBKDF2",
         .steps = 10000,
         .blocks = {2, 2, 2},
-        .ours = {ring_speed_iterates_sha1, ring_speed_iterates_sha256, ring_speed_iterates_sha512},
+        .ours = ITERATES,
         .openssl = openssl_iterates,
     },
     {
         .name = "tag of 64 bytes",
         .steps = 10000,
         .blocks = {3, 3, 2},
-        .ours = {ring_speed_tags_sha1, ring_speed_tags_sha256, ring_speed_tags_sha512},
+        .ours = TAGS,
         .openssl = openssl_tags,
     },
     {
         .name = "digest of 64 bytes",
         .steps = 10000,
         .blocks = {2, 2, 1},
-        .ours = {ring_speed_short_sha1, ring_speed_short_sha256, ring_speed_short_sha512},
-        .kit = {ring_speed_kit_short_sha1, ring_speed_kit_short_sha256, ring_speed_kit_short_sha512},
+        .ours = SHORT_DIGESTS,
+        .kit = KIT_SHORT_DIGESTS,
         .openssl = openssl_short,
     },
     {
@@ -62,31 +62,31 @@ static struct row rows[] = {
         .steps = 20,
         .bytes = 65536,
         .blocks = {1025, 1025, 513},
-        .ours = {ring_speed_long_sha1, ring_speed_long_sha256, ring_speed_long_sha512},
-        .kit = {ring_speed_kit_long_sha1, ring_speed_kit_long_sha256, ring_speed_kit_long_sha512},
+        .ours = LONG_DIGESTS,
+        .kit = KIT_LONG_DIGESTS,
         .openssl = openssl_long,
     },
 };
 
 enum { ROWS = sizeof rows / sizeof rows[0] };
 
-static int takes_part(const struct row *row, enum hash hash, enum contender contender)
+static int takes_part(const struct row *row, enum contender contender)
 {
-    return contender != KIT || row->kit[hash] != NULL;
+    return contender != KIT || row->kit != NO_WORK;
 }
 
 static uint64_t run(const struct row *row, enum hash hash, enum contender contender, uint32_t steps)
 {
     if (contender == OPENSSL)
         return row->openssl(hash_names[hash], steps);
-    return (contender == KIT ? row->kit : row->ours)[hash](steps);
+    return ring_speed_run(contender == KIT ? row->kit : row->ours, hash, steps);
 }
 
 static void check(const struct row *row, enum hash hash, uint32_t steps)
 {
     uint64_t ours = run(row, hash, OURS, steps);
     for (enum contender it = KIT; it < CONTENDERS; it++)
-        if (takes_part(row, hash, it) && run(row, hash, it, steps) != ours) {
+        if (takes_part(row, it) && run(row, hash, it, steps) != ours) {
             fprintf(stderr, "speed: no agreement on %s, %s, after %u steps\n", row->name,
                     hash_names[hash], (unsigned)steps);
             exit(1);
@@ -121,7 +121,7 @@ static double timed(const struct row *row, enum hash hash, enum contender conten
 static void time_row(struct row *row, enum hash hash, int place)
 {
     for (enum contender it = OURS; it < CONTENDERS; it++) {
-        if (!takes_part(row, hash, it))
+        if (!takes_part(row, it))
             continue;
         double taken = timed(row, hash, it, place);
         double *least = &row->least[hash][it];
@@ -138,12 +138,12 @@ static void time_all(void)
                 time_row(&rows[i], hash, repetition % PLACES);
 }
 
-static double least_of(work *it, uint64_t wanted)
+static double least_of(enum name name, uint64_t wanted)
 {
     double least = 0;
     for (int repetition = 0; repetition < REPETITIONS; repetition++) {
         double start = seconds();
-        if (it(ITERATIONS) != wanted) {
+        if (ring_speed_verify(name, ITERATIONS) != wanted) {
             fprintf(stderr, "speed: a password wasn't set, or a name is wrongly known\n");
             exit(1);
         }
@@ -157,9 +157,9 @@ static double least_of(work *it, uint64_t wanted)
 // Whether the time of a verification tells that a name has no record.
 static void print_verifications(void)
 {
-    double set = least_of(ring_speed_set, 1);
-    double known = least_of(ring_speed_verify_known, 1) - set;
-    double unknown = least_of(ring_speed_verify_unknown, 0) - set;
+    double set = least_of(NO_NAME, 1);
+    double known = least_of(KNOWN_NAME, 1) - set;
+    double unknown = least_of(UNKNOWN_NAME, 0) - set;
     printf("\n| Verification, %d iterations | Time | / known |\n|---|---|---|\n", ITERATIONS);
     printf("| of a name with a record | %.0f us | 1.00 |\n", 1e6 * known);
     printf("| of a name without one | %.0f us | %.2f |\n", 1e6 * unknown, unknown / known);

@@ -4,18 +4,25 @@
 
 #include <stdint.h>
 
-typedef uint64_t work(uint32_t steps);
+enum work {
+    NO_WORK,
+    BLOCKS,
+    ITERATES,
+    TAGS,
+    SHORT_DIGESTS,
+    LONG_DIGESTS,
+    KIT_SHORT_DIGESTS,
+    KIT_LONG_DIGESTS,
+};
 
-work ring_speed_blocks_sha1, ring_speed_blocks_sha256, ring_speed_blocks_sha512;
-work ring_speed_iterates_sha1, ring_speed_iterates_sha256, ring_speed_iterates_sha512;
-work ring_speed_tags_sha1, ring_speed_tags_sha256, ring_speed_tags_sha512;
-work ring_speed_short_sha1, ring_speed_short_sha256, ring_speed_short_sha512;
-work ring_speed_long_sha1, ring_speed_long_sha256, ring_speed_long_sha512;
-work ring_speed_kit_short_sha1, ring_speed_kit_short_sha256, ring_speed_kit_short_sha512;
-work ring_speed_kit_long_sha1, ring_speed_kit_long_sha256, ring_speed_kit_long_sha512;
+// The hash functions are SHA-1, SHA-256 and SHA-512, from 0.
+uint64_t ring_speed_run(uint32_t work, uint32_t hash, uint32_t steps);
 
-// A password is set with so many iterations, and then a name verified that has a record, or has none.
-work ring_speed_set, ring_speed_verify_known, ring_speed_verify_unknown;
+// A password is set with so many iterations, and then a name verified that has no record, or has one,
+// or none at all.
+enum name { UNKNOWN_NAME, KNOWN_NAME, NO_NAME };
+
+uint64_t ring_speed_verify(uint32_t name, uint32_t steps);
 
 // The work above by OpenSSL, under the hash function of this name.
 typedef uint64_t openssl_work(const char *hash, uint32_t steps);

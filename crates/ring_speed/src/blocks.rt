@@ -1,22 +1,24 @@
 //! The block functions alone: two runs a step, over a block that holds the step's number.
 
-ghost use Rattle.std.specs.Prelude.{◌≡◌, ◌%◌, ◌^◌, ◌≤◌, map, replicate, slice_index, take};
+ghost use Rattle.std.specs.Prelude.{◌≡◌, ◌%◌, ◌^◌, ◌≤◌, map, slice_index, take};
 ghost use Rattle.ring_core.specs.Sha1 as sha1;
 ghost use Rattle.ring_core.specs.Sha2.{block_step, family_256, family_512, words_32, words_64};
 ghost use Rattle.ring_core.specs.Word.{word_32};
 ghost use Rattle.ring_speed.specs.Chains as chains;
 ghost use Rattle.ring_speed.specs.Chains.{words_after};
+ghost use Rattle.ring_speed.specs.Work.{block_words};
 
+use crate::hash::Hash;
 use ring::polyfill::slice::AsChunks;
 use ring_core::digest::sha1::sha1_block_data_order;
 use ring_core::digest::sha2::{State32, State64, block_data_order_32, block_data_order_64};
 use std::num::Wrapping;
 
 // The bytes of a block of SHA-1 and SHA-256.
-const BLOCK_LEN_32: usize = 64;
+pub(crate) const BLOCK_LEN_32: usize = 64;
 
 // The bytes of a block of SHA-512.
-const BLOCK_LEN_64: usize = 128;
+pub(crate) const BLOCK_LEN_64: usize = 128;
 
 // The block of this number. A block that stayed the same would let the compiler make its schedule
 // once for all steps.
@@ -37,6 +39,7 @@ fn number_of(word: u64) -> u64
 }
 
 // So many steps of SHA-1.
+#[tactic(auto, using(crate::proofs::Steps::words_first))]
 fn run_sha1(state: &mut State32, steps: u32)
     ensures { take 5 (map word_32 state.new)
         ≡ words_after sha1.block_step BLOCK_LEN_32 (take 5 (map word_32 state.old)) steps }
@@ -49,6 +52,7 @@ fn run_sha1(state: &mut State32, steps: u32)
 }
 
 // So many steps of SHA-256.
+#[tactic(auto, using(crate::proofs::Steps::words_first))]
 fn run_sha256(state: &mut State32, steps: u32)
     ensures { words_32 state.new
         ≡ words_after (block_step family_256) BLOCK_LEN_32 (words_32 state.old) steps }
@@ -61,6 +65,7 @@ fn run_sha256(state: &mut State32, steps: u32)
 }
 
 // So many steps of SHA-512.
+#[tactic(auto, using(crate::proofs::Steps::words_first))]
 fn run_sha512(state: &mut State64, steps: u32)
     ensures { words_64 state.new
         ≡ words_after (block_step family_512) BLOCK_LEN_64 (words_64 state.old) steps }
@@ -72,35 +77,24 @@ fn run_sha512(state: &mut State64, steps: u32)
     }
 }
 
-/// The block function of SHA-1, from words of 0.
-#[unsafe(no_mangle)]
-pub extern "C" fn ring_speed_blocks_sha1(steps: u32) -> u64
-    ensures { result ≡ slice_index
-        (words_after sha1.block_step BLOCK_LEN_32 (replicate 5 0) steps) 0 }
+// The first word after so many steps, from words of 0.
+pub(crate) fn first_word(hash: Hash, steps: u32) -> u64
+    ensures { result ≡ slice_index (block_words hash steps) 0 }
 {
-    let mut state = [Wrapping(0); 8];
-    run_sha1(&mut state, steps);
-    state[0].0 as u64
-}
-
-/// The block function of SHA-256, from words of 0.
-#[unsafe(no_mangle)]
-pub extern "C" fn ring_speed_blocks_sha256(steps: u32) -> u64
-    ensures { result ≡ slice_index
-        (words_after (block_step family_256) BLOCK_LEN_32 (replicate 8 0) steps) 0 }
-{
-    let mut state = [Wrapping(0); 8];
-    run_sha256(&mut state, steps);
-    state[0].0 as u64
-}
-
-/// The block function of SHA-512, from words of 0.
-#[unsafe(no_mangle)]
-pub extern "C" fn ring_speed_blocks_sha512(steps: u32) -> u64
-    ensures { result ≡ slice_index
-        (words_after (block_step family_512) BLOCK_LEN_64 (replicate 8 0) steps) 0 }
-{
-    let mut state = [Wrapping(0); 8];
-    run_sha512(&mut state, steps);
-    number_of(state[0].0)
+    let mut narrow = [Wrapping(0); 8];
+    let mut wide = [Wrapping(0); 8];
+    match hash {
+        Hash::Sha1 => {
+            run_sha1(&mut narrow, steps);
+            narrow[0].0 as u64
+        }
+        Hash::Sha256 => {
+            run_sha256(&mut narrow, steps);
+            narrow[0].0 as u64
+        }
+        Hash::Sha512 => {
+            run_sha512(&mut wide, steps);
+            number_of(wide[0].0)
+        }
+    }
 }

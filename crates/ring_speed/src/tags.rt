@@ -3,11 +3,13 @@
 ghost use Rattle.std.specs.Prelude.{◌≡◌, ◌≤◌, ℕ, List, length};
 ghost use Rattle.std.specs.Fn.{iterate};
 ghost use Rattle.ring.specs.Algorithm.{output_len};
-ghost use Rattle.ring.specs.Hmac.{KeyStandsFor, based_on, hmac_of, key_algorithm};
+ghost use Rattle.ring.specs.Hmac.{KeyStandsFor, hmac_of, key_algorithm};
 ghost use Rattle.ring_speed.specs.Chains.{front, message_after, replaced_front};
+ghost use Rattle.ring_speed.specs.Work.{algorithm_of};
 
+use crate::hash::Hash;
 use crate::message::{self, KEY, SHORT_LEN, replace_front};
-use ring::hmac::{Algorithm, HMAC_SHA1_FOR_LEGACY_USE_ONLY, HMAC_SHA256, HMAC_SHA512, Key, sign};
+use ring::hmac::{Key, sign};
 
 // Writes the message's tag over its front, so many times.
 fn replace_front_by_tags(key: &Key, message: &mut [u8], steps: u32)
@@ -25,38 +27,13 @@ fn replace_front_by_tags(key: &Key, message: &mut [u8], steps: u32)
 }
 
 // The front of a message of 64 bytes after so many steps.
-fn front_after(algorithm: Algorithm, steps: u32) -> u64
-    ensures { result ≡ front (message_after (hmac_of (based_on algorithm) KEY) SHORT_LEN steps) }
+pub(crate) fn front_after(hash: Hash, steps: u32) -> u64
+    ensures { result ≡ front (message_after (hmac_of (algorithm_of hash) KEY) SHORT_LEN steps) }
 {
-    let Ok(key) = Key::new(algorithm, &KEY) else {
+    let Ok(key) = Key::new(hash.hmac_algorithm(), &KEY) else {
         unreachable!()
     };
     let mut message = [0; SHORT_LEN];
     replace_front_by_tags(&key, &mut message, steps);
     message::front(&message)
-}
-
-/// HMAC over SHA-1, of 64 bytes.
-#[unsafe(no_mangle)]
-pub extern "C" fn ring_speed_tags_sha1(steps: u32) -> u64
-    ensures { result ≡ front (message_after
-        (hmac_of (based_on HMAC_SHA1_FOR_LEGACY_USE_ONLY) KEY) SHORT_LEN steps) }
-{
-    front_after(HMAC_SHA1_FOR_LEGACY_USE_ONLY, steps)
-}
-
-/// HMAC over SHA-256, of 64 bytes.
-#[unsafe(no_mangle)]
-pub extern "C" fn ring_speed_tags_sha256(steps: u32) -> u64
-    ensures { result ≡ front (message_after (hmac_of (based_on HMAC_SHA256) KEY) SHORT_LEN steps) }
-{
-    front_after(HMAC_SHA256, steps)
-}
-
-/// HMAC over SHA-512, of 64 bytes.
-#[unsafe(no_mangle)]
-pub extern "C" fn ring_speed_tags_sha512(steps: u32) -> u64
-    ensures { result ≡ front (message_after (hmac_of (based_on HMAC_SHA512) KEY) SHORT_LEN steps) }
-{
-    front_after(HMAC_SHA512, steps)
 }

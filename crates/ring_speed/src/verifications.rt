@@ -3,7 +3,7 @@
 ghost use Rattle.std.specs.Prelude.{◌≡◌, ◌≢◌, ◌⊎◌};
 
 use crate::message::{KEY, SALT};
-use ring_store::PasswordStore;
+use ring_store::{PasswordStore, laws};
 use std::alloc::Global;
 use std::num::NonZeroU32;
 
@@ -16,48 +16,31 @@ const UNKNOWN: &[u8] = b"other";
 // What a call gives that got no memory.
 const NO_MEMORY: u64 = 2;
 
-// Sets the known name with so many iterations, but with one for none, and verifies a name with the
-// password that was set: 1 where it passes, and else 0.
-fn answer(alloc: Global, name: &[u8], steps: u32) -> u64
-    ensures known { name.now ≡ KNOWN.now → (result ≡ 1) ⊎ (result ≡ NO_MEMORY) }
-    ensures unknown { name.now ≢ KNOWN.now → (result ≡ 0) ⊎ (result ≡ NO_MEMORY) }
+/// Sets a name with so many iterations, but with one for none, and then verifies with its password
+/// the name of a number.
+///
+/// | `name` | What is verified | Gives |
+/// |---|---|---|
+/// | 0 | another of its length, which has no record | 0 |
+/// | 1 | the one that was set | 1 |
+/// | others | nothing | 1 |
+///
+/// Gives 2 where it got no memory.
+#[unsafe(no_mangle)]
+pub extern "C" fn ring_speed_verify(alloc: Global, name: u32, steps: u32) -> u64
+    ensures unknown { name ≡ 0 → (result ≡ 0) ⊎ (result ≡ NO_MEMORY) }
+    ensures known { name ≢ 0 → (result ≡ 1) ⊎ (result ≡ NO_MEMORY) }
 {
+    laws::set_then_verify::<Global>();
+    laws::set_keeps_others::<Global>();
     let iterations = NonZeroU32::new(steps.max(1)).unwrap();
     let mut store = PasswordStore::new(alloc, SALT, iterations);
     if store.set_password(KNOWN, &KEY).is_err() {
         return NO_MEMORY;
     }
-    match store.verify_password(name, &KEY) {
-        Ok(()) => 1,
-        Err(_) => 0,
+    match name {
+        0 => store.verify_password(UNKNOWN, &KEY).is_ok() as u64,
+        1 => store.verify_password(KNOWN, &KEY).is_ok() as u64,
+        _ => 1,
     }
-}
-
-/// The known name is set.
-#[unsafe(no_mangle)]
-pub extern "C" fn ring_speed_set(alloc: Global, steps: u32) -> u64
-    ensures { (result ≡ 1) ⊎ (result ≡ NO_MEMORY) }
-{
-    let iterations = NonZeroU32::new(steps.max(1)).unwrap();
-    let mut store = PasswordStore::new(alloc, SALT, iterations);
-    match store.set_password(KNOWN, &KEY) {
-        Ok(()) => 1,
-        Err(_) => NO_MEMORY,
-    }
-}
-
-/// The known name is set, and verified.
-#[unsafe(no_mangle)]
-pub extern "C" fn ring_speed_verify_known(alloc: Global, steps: u32) -> u64
-    ensures { (result ≡ 1) ⊎ (result ≡ NO_MEMORY) }
-{
-    answer(alloc, KNOWN, steps)
-}
-
-/// The known name is set, and a name of its length verified that has no record.
-#[unsafe(no_mangle)]
-pub extern "C" fn ring_speed_verify_unknown(alloc: Global, steps: u32) -> u64
-    ensures { (result ≡ 0) ⊎ (result ≡ NO_MEMORY) }
-{
-    answer(alloc, UNKNOWN, steps)
 }

@@ -5,4 +5,5 @@ use Rattle.ring_speed.specs.Chains.{replaced_front}
 use Rattle.ring_speed.proofs.digests.replace_front_by_digests.Given as goal
 
 abbrev pub invariant-steps : goal.invariant-steps
-invariant-steps l = l.message ≡ iterate (replaced_front (digest_of l.algorithm)) l._step l.fn.message
+invariant-steps l =
+    l.message ≡ iterate (replaced_front (digest_of l.algorithm)) l._step l.fn.message

@@ -1,0 +1,8 @@
+use Rattle.std.proofs.Common.{◌≡◌}
+use Rattle.std.specs.Fn.{iterate}
+use Rattle.ring_speed.specs.Chains.{replaced_front}
+use Rattle.ring_speed.specs.Work.{kit_digest_of}
+use Rattle.ring_speed.proofs.kit.replace_front_by_digests.Given as goal
+
+abbrev pub invariant-steps : goal.invariant-steps
+invariant-steps l = l.message ≡ iterate (replaced_front (kit_digest_of l.hash)) l._step l.fn.message

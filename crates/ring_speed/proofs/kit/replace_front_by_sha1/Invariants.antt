@@ -1,8 +1,0 @@
-use Rattle.std.proofs.Common.{◌≡◌}
-use Rattle.std.specs.Fn.{iterate}
-use Rattle.sha1.specs.Sha1.{sha1}
-use Rattle.ring_speed.specs.Chains.{replaced_front}
-use Rattle.ring_speed.proofs.kit.replace_front_by_sha1.Given as goal
-
-abbrev pub invariant-steps : goal.invariant-steps
-invariant-steps l = l.message ≡ iterate (replaced_front sha1) l._step l.fn.message

@@ -1,10 +1,13 @@
 //! The last sixteen words of a schedule, in a ring: word `t` stands in slot `t` modulo 16.
-ghost use Rattle.std.specs.Prelude.{◌≡◌, ℕ, ◌+◌, ◌*◌, ◌/◌, ◌%◌, ◌<◌, ◌≤◌, [], ◌∷◌, length, map};
+ghost use Rattle.std.specs.Prelude.{◌≡◌, ℕ, ◌+◌, ◌*◌, ◌/◌, ◌%◌, ◌<◌, ◌≤◌, [], ◌∷◌, get_or, length, map};
+ghost use Rattle.ring_core.specs.Lane.{word_of_lane};
 ghost use Rattle.ring_core.specs.Schedule.{IsRing};
 ghost use Rattle.ring_core.specs.Word.{word_at};
 
 use crate::digest::word::Sha2;
+use crate::digest::word::four::FourWords;
 use crate::digest::word::lane_word::{LaneWord, Slots};
+use std::num::Wrapping;
 
 // Each function here is a few instructions of a block function, and written in line there, whatever
 // the compiler's thresholds: a slot is then a literal, and words stay in lanes from step to step.
@@ -17,6 +20,31 @@ pub(crate) fn load<S: Slots>(ring: &mut [S::Slot; 16], block: &[u8])
 {
     'words: for t in 0..16 {
         ring[t] = S::splat(S::One::read_word(block, t)).to_slot();
+    }
+}
+
+// Word `j` of each block, in the lane of the block.
+#[inline(always)]
+fn read_four(blocks: &[[u8; 64]; 4], j: usize) -> FourWords
+    requires { j < 16 }
+    ensures { (i : ℕ) → word_of_lane i result ≡ word_at 32 (get_or blocks.now (i % 4) []) j }
+{
+    FourWords::new([
+        Wrapping::<u32>::read_word(&blocks[0], j),
+        Wrapping::<u32>::read_word(&blocks[1], j),
+        Wrapping::<u32>::read_word(&blocks[2], j),
+        Wrapping::<u32>::read_word(&blocks[3], j),
+    ])
+}
+
+// Fills the ring with the blocks' own words, each block's in its lane.
+#[inline(always)]
+pub(crate) fn load_four(ring: &mut [FourWords; 16], blocks: &[[u8; 64]; 4])
+    ensures { (i : ℕ)
+        → IsRing (word_at 32 (get_or blocks.now (i % 4) [])) (map (word_of_lane i) ring.new) 16 }
+{
+    'words: for t in 0..16 {
+        ring[t] = read_four(blocks, t);
     }
 }
 

@@ -1,21 +1,23 @@
 //! The block function of SHA-1 (FIPS 180-4, 6.1.2).
-ghost use Rattle.std.specs.Prelude.{◌≡◌, ℕ, ◌+◌, ◌*◌, ◌<◌, ◌≤◌, List, length, map, take, drop};
+ghost use Rattle.std.specs.Prelude.{◌≡◌, ℕ, ◌+◌, ◌*◌, ◌%◌, ◌<◌, ◌≤◌, List, [], get_or, length, map, take, drop};
 ghost use Rattle.ring_core.specs.Cost.{raised};
+ghost use Rattle.ring_core.specs.Lane.{word_of_lane, words_of_lane};
 ghost use Rattle.ring_core.specs.Schedule.{IsBefore, IsRing};
 ghost use Rattle.ring_core.specs.Sha1.{W, add_state, block_step, chain_from, round, round_constant, round_function, rounds_from};
 ghost use Rattle.ring_core.specs.Views.{chunk_items, chunk_total};
-ghost use Rattle.ring_core.specs.Word.{add_words, low_32, rotl, word_32};
+ghost use Rattle.ring_core.specs.Word.{add_words, rotl, word_32};
 
 mod lanes;
 
 use crate::cost::Meter;
-use crate::digest::schedule::{load, pair};
-use crate::digest::sha1::lanes::fill;
-use crate::digest::word::Word;
+use crate::digest::four::FourStates;
+use crate::digest::schedule::{load, load_four, pair};
+use crate::digest::sha1::lanes::Lanes;
+use crate::digest::word::four::FourWords;
 use crate::digest::word::functions::{choose_word, majority_word};
-use crate::digest::word::w32::add_pairs;
 use crate::polyfill::slice::AsChunks;
 use std::num::Wrapping;
+use std::simd::Simd;
 
 pub(crate) type Word32 = Wrapping<u32>;
 
@@ -24,18 +26,19 @@ pub const CHAINING_LEN: usize = 20;
 
 // ROTL (3.2, item 5)
 #[inline(always)]
-fn rotate_left(x: Word32, count: u32) -> Word32
+fn rotate_left<S: Lanes>(x: S, count: u32) -> S
     requires positive { 1 ≤ count }
     requires below { count < 32 }
-    ensures { word_32 result ≡ rotl 32 count (word_32 x) }
+    ensures { (i : ℕ) → S.lane i result ≡ rotl 32 count (S.lane i x) }
 {
     x.rotr(32 - count)
 }
 
 // f of round `t` (4.1.1)
 #[inline(always)]
-fn round_function(t: usize, x: Word32, y: Word32, z: Word32) -> Word32
-    ensures { word_32 result ≡ round_function t (word_32 x) (word_32 y) (word_32 z) }
+fn round_function<S: Lanes>(t: usize, x: S, y: S, z: S) -> S
+    ensures { (i : ℕ) → S.lane i result
+        ≡ round_function t (S.lane i x) (S.lane i y) (S.lane i z) }
 {
     if t < 20 {
         choose_word(x, y, z)
@@ -64,9 +67,9 @@ fn round_constant(t: usize) -> Word32
 
 // Round `t` (step 3), by the sum of its constant and its word.
 #[inline(always)]
-fn round(v: [Word32; 5], t: usize, sum: Word32) -> [Word32; 5]
-    ensures { (w : ℕ) → word_32 sum ≡ add_words 32 (round_constant t) w
-        → map word_32 result ≡ round (map word_32 v) t w }
+fn round<S: Lanes>(v: [S; 5], t: usize, sum: S) -> [S; 5]
+    ensures { (i w : ℕ) → S.lane i sum ≡ add_words 32 (round_constant t) w
+        → map (S.lane i) result ≡ round (map (S.lane i) v) t w }
 {
     let [a, b, c, d, e] = v;
     let temp = rotate_left(a, 5)
@@ -81,39 +84,44 @@ fn round(v: [Word32; 5], t: usize, sum: Word32) -> [Word32; 5]
 
 // Rounds `t` and `t + 1`.
 #[inline(always)]
-fn two_rounds(ring: &[u64; 16], v: [Word32; 5], t: usize) -> [Word32; 5]
+fn two_rounds<S: Lanes>(ring: &[S::Slot; 16], v: [S; 5], t: usize) -> [S; 5]
     requires { t + 2 ≤ 80 }
-    ensures { (h b : List ℕ) (n : ℕ) → IsRing (W b) (map low_32 ring.now) n
-        → t + 2 ≤ n → n ≤ t + 16 → map word_32 v ≡ rounds_from h b t
-        → map word_32 result ≡ rounds_from h b (t + 2) }
+    ensures { (i : ℕ) (h b : List ℕ) (n : ℕ) → IsRing (W b) (map (S.slot_lane i) ring.now) n
+        → t + 2 ≤ n → n ≤ t + 16 → map (S.lane i) v ≡ rounds_from h b t
+        → map (S.lane i) result ≡ rounds_from h b (t + 2) }
 {
-    let constants = [round_constant(t), round_constant(t + 1)];
-    let [first, second] = add_pairs(constants, pair(ring, t % 16));
+    let constants = [
+        S::repeated(round_constant(t)),
+        S::repeated(round_constant(t + 1)),
+    ];
+    let [first, second] = S::add_pairs(constants, pair(ring, t % 16));
     round(round(v, t, first), t + 1, second)
 }
 
 // The same from round 16 on, where the words are made first.
 #[inline(always)]
-fn next_two_rounds(ring: &mut [u64; 16], v: [Word32; 5], t: usize) -> [Word32; 5]
+fn next_two_rounds<S: Lanes>(ring: &mut [S::Slot; 16], v: [S; 5], t: usize) -> [S; 5]
     requires from { 16 ≤ t }
     requires below { t + 2 ≤ 80 }
-    ensures { (h b : List ℕ)
-        → IsBefore (W b) (rounds_from h b) (map low_32 ring.old) (map word_32 v) t
-        → IsBefore (W b) (rounds_from h b) (map low_32 ring.new) (map word_32 result) (t + 2) }
+    ensures { (i : ℕ) (h b : List ℕ)
+        → IsBefore (W b) (rounds_from h b) (map (S.slot_lane i) ring.old) (map (S.lane i) v) t
+        → IsBefore (W b) (rounds_from h b) (map (S.slot_lane i) ring.new) (map (S.lane i) result)
+        (t + 2) }
 {
-    fill(ring, t);
+    S::fill(ring, t);
     two_rounds(ring, v, t)
 }
 
 // Four rounds in one body. Sixteen make one so large that the compiler no longer writes the calls
 // in it in line, for all that they ask for it, and the block function takes twice the time.
 #[inline(always)]
-fn next_four_rounds(ring: &mut [u64; 16], v: [Word32; 5], t: usize) -> [Word32; 5]
+fn next_four_rounds<S: Lanes>(ring: &mut [S::Slot; 16], v: [S; 5], t: usize) -> [S; 5]
     requires from { 16 ≤ t }
     requires below { t + 4 ≤ 80 }
-    ensures { (h b : List ℕ)
-        → IsBefore (W b) (rounds_from h b) (map low_32 ring.old) (map word_32 v) t
-        → IsBefore (W b) (rounds_from h b) (map low_32 ring.new) (map word_32 result) (t + 4) }
+    ensures { (i : ℕ) (h b : List ℕ)
+        → IsBefore (W b) (rounds_from h b) (map (S.slot_lane i) ring.old) (map (S.lane i) v) t
+        → IsBefore (W b) (rounds_from h b) (map (S.slot_lane i) ring.new) (map (S.lane i) result)
+        (t + 4) }
 {
     let v = next_two_rounds(ring, v, t);
     next_two_rounds(ring, v, t + 2)
@@ -121,9 +129,9 @@ fn next_four_rounds(ring: &mut [u64; 16], v: [Word32; 5], t: usize) -> [Word32; 
 
 // The first sixteen rounds, by the block's own words.
 #[inline(always)]
-fn first_turn(ring: &[u64; 16], v: [Word32; 5]) -> [Word32; 5]
-    ensures { (b : List ℕ) → IsRing (W b) (map low_32 ring.now) 16
-        → map word_32 result ≡ rounds_from (map word_32 v) b 16 }
+fn first_turn<S: Lanes>(ring: &[S::Slot; 16], v: [S; 5]) -> [S; 5]
+    ensures { (i : ℕ) (b : List ℕ) → IsRing (W b) (map (S.slot_lane i) ring.now) 16
+        → map (S.lane i) result ≡ rounds_from (map (S.lane i) v) b 16 }
 {
     let v = two_rounds(ring, v, 0);
     let v = two_rounds(ring, v, 2);
@@ -138,12 +146,13 @@ fn first_turn(ring: &[u64; 16], v: [Word32; 5]) -> [Word32; 5]
 // The sixteen rounds of a later turn. The turn is a constant and no argument: of one body for all
 // turns the compiler would write few calls in line, and slots and rounds would be no literals.
 #[inline(always)]
-fn later_turn<const TURN: usize>(ring: &mut [u64; 16], v: [Word32; 5]) -> [Word32; 5]
+fn later_turn<S: Lanes, const TURN: usize>(ring: &mut [S::Slot; 16], v: [S; 5]) -> [S; 5]
     requires later { 1 ≤ TURN }
     requires turn { TURN < 5 }
-    ensures { (h b : List ℕ)
-        → IsBefore (W b) (rounds_from h b) (map low_32 ring.old) (map word_32 v) (16 * TURN)
-        → IsBefore (W b) (rounds_from h b) (map low_32 ring.new) (map word_32 result)
+    ensures { (i : ℕ) (h b : List ℕ)
+        → IsBefore (W b) (rounds_from h b) (map (S.slot_lane i) ring.old) (map (S.lane i) v)
+        (16 * TURN)
+        → IsBefore (W b) (rounds_from h b) (map (S.slot_lane i) ring.new) (map (S.lane i) result)
         (16 * TURN + 16) }
 {
     let t = 16 * TURN;
@@ -155,9 +164,9 @@ fn later_turn<const TURN: usize>(ring: &mut [u64; 16], v: [Word32; 5]) -> [Word3
 
 // The first five words, each with its variable of `v` added (step 4), and the other three.
 #[inline(always)]
-fn add_state(state: &[Word32; 8], v: &[Word32; 5]) -> [Word32; 8]
-    ensures words { take 5 (map word_32 result)
-        ≡ add_state (map word_32 state.now) (map word_32 v.now) }
+fn add_state<S: Lanes>(state: &[S; 8], v: &[S; 5]) -> [S; 8]
+    ensures words { (i : ℕ) → take 5 (map (S.lane i) result)
+        ≡ add_state (map (S.lane i) state.now) (map (S.lane i) v.now) }
     ensures rest { drop 5 result ≡ drop 5 state.now }
 {
     [
@@ -172,6 +181,22 @@ fn add_state(state: &[Word32; 8], v: &[Word32; 5]) -> [Word32; 8]
     ]
 }
 
+// Runs the block function over the blocks whose words the ring holds, in each lane over its own.
+#[inline(always)]
+fn run_loaded<S: Lanes>(ring: &mut [S::Slot; 16], state: &mut [S; 8])
+    ensures words { (i : ℕ) (b : List ℕ) → IsRing (W b) (map (S.slot_lane i) ring.old) 16
+        → take 5 (map (S.lane i) state.new) ≡ block_step (take 5 (map (S.lane i) state.old)) b }
+    ensures rest { drop 5 state.new ≡ drop 5 state.old }
+{
+    let chaining = [state[0], state[1], state[2], state[3], state[4]]; // step 2
+    let v = first_turn(ring, chaining); // step 3
+    let v = later_turn::<S, 1>(ring, v); // steps 1 and 3
+    let v = later_turn::<S, 2>(ring, v);
+    let v = later_turn::<S, 3>(ring, v);
+    let last = later_turn::<S, 4>(ring, v);
+    *state = add_state(state, &last); // step 4
+}
+
 // Runs the block function over one block.
 fn run_block(state: &mut [Word32; 8], block: &[u8])
     requires { length block.now ≡ 64 }
@@ -181,13 +206,7 @@ fn run_block(state: &mut [Word32; 8], block: &[u8])
 {
     let mut ring = [0u64; 16];
     load::<Word32>(&mut ring, block); // step 1, to W(15)
-    let chaining = [state[0], state[1], state[2], state[3], state[4]]; // step 2
-    let v = first_turn(&ring, chaining); // step 3
-    let v = later_turn::<1>(&mut ring, v); // steps 1 and 3
-    let v = later_turn::<2>(&mut ring, v);
-    let v = later_turn::<3>(&mut ring, v);
-    let last = later_turn::<4>(&mut ring, v);
-    *state = add_state(state, &last); // step 4
+    run_loaded(&mut ring, state);
 }
 
 /// Replaces the first five words of `state` by SHA-1's hash computation over each block of 64 bytes
@@ -218,4 +237,33 @@ pub fn sha1_block_data_order(state: &mut [Wrapping<u32>; 8], blocks: AsChunks<'_
     ensures rest { drop 5 state.new ≡ drop 5 state.old }
 {
     sha1_block_data_order_counted(state, blocks, &mut Meter::new())
+}
+
+// Runs the block function over four blocks, each over its own state.
+fn run_four_blocks(state: &mut [FourWords; 8], blocks: &[[u8; 64]; 4])
+    ensures words { (i : ℕ) → take 5 (map (word_of_lane i) state.new)
+        ≡ block_step (take 5 (map (word_of_lane i) state.old)) (get_or blocks.now (i % 4) []) }
+    ensures rest { drop 5 state.new ≡ drop 5 state.old }
+{
+    let mut ring = [FourWords(Simd::splat(0)); 16];
+    load_four(&mut ring, blocks); // step 1, to W(15)
+    run_loaded(&mut ring, state);
+}
+
+/// Replaces the first five words of the state in each of four lanes by SHA-1's hash computation
+/// over the lane's block of 64 bytes (6.1.2), and leaves the last three; `meter` counts the four
+/// blocks.
+pub fn sha1_block_data_order_four_counted(
+    states: &mut FourStates,
+    blocks: &[[u8; 64]; 4],
+    meter: &mut Meter,
+)
+    ensures words { (i : ℕ) → i < 4 → take 5 (words_of_lane i states.new)
+        ≡ block_step (take 5 (words_of_lane i states.old)) (get_or blocks.now i []) }
+    ensures rest { (i : ℕ) → i < 4
+        → drop 5 (words_of_lane i states.new) ≡ drop 5 (words_of_lane i states.old) }
+    ensures cost { meter.new ≡ raised meter.old 4 0 }
+{
+    run_four_blocks(&mut states.words, blocks);
+    meter.add_four_blocks();
 }

@@ -15,10 +15,9 @@ mod w64;
 
 use crate::cost::Meter;
 use crate::digest::four::FourStates;
-use crate::digest::schedule::{load, pair};
+use crate::digest::schedule::{load, load_four, pair};
 pub use crate::digest::sha2::constants::constants_are_cube_roots;
 use crate::digest::sha2::lanes::Lanes;
-use crate::digest::sha2::lanes::four::load_four;
 use crate::digest::word::Sha2;
 use crate::digest::word::four::FourWords;
 use crate::digest::word::functions::{choose_word, majority_word};

@@ -1,35 +1,28 @@
-//! The schedule of SHA-1, two words at a time (FIPS 180-4, 6.1.2, step 1).
-ghost use Rattle.std.specs.Prelude.{◌≡◌, ◌+◌, ◌≤◌, [], ◌∷◌, List, ℕ, map, slice_index};
+//! The schedule of SHA-1: of one block two words at a time, or of four blocks side by side
+//! (FIPS 180-4, 6.1.2, step 1).
+ghost use Rattle.std.specs.Prelude.{◌≡◌, ℕ, ◌+◌, ◌≤◌, List, map};
 ghost use Rattle.ring_core.specs.Schedule.{IsRing};
-ghost use Rattle.ring_core.specs.Sha1.{W, scheduled};
-ghost use Rattle.ring_core.specs.Word.{low_32};
+ghost use Rattle.ring_core.specs.Sha1.{W};
+ghost use Rattle.ring_core.specs.Word.{word_32};
 
-use crate::digest::schedule::{pair, set_pair};
-use crate::digest::word::w32::rotate_lanes;
-use std::simd::{Simd, u64x2};
+mod four;
+mod w32;
 
-// The next two words, by the pairs that begin 16, 14, 8 and 3 words before them.
-#[inline(always)]
-fn next_two(sixteen: u64x2, fourteen: u64x2, eight: u64x2, three: u64x2) -> u64x2
-    ensures { map low_32 result ≡ map (λ i. scheduled (low_32 (slice_index three i))
-        (low_32 (slice_index eight i)) (low_32 (slice_index fourteen i))
-        (low_32 (slice_index sixteen i))) (0 ∷ 1 ∷ []) }
-{
-    rotate_lanes(three ^ eight ^ fourteen ^ sixteen, 31)
-}
+use crate::digest::word::lane_word::Slots;
+use std::num::Wrapping;
 
-// Fills the slots of words `t` and `t + 1`.
-#[inline(always)]
-pub(crate) fn fill(ring: &mut [u64; 16], t: usize)
-    requires from { 16 ≤ t }
-    requires below { t + 2 ≤ 80 }
-    ensures { (b : List ℕ) → IsRing (W b) (map low_32 ring.old) t
-        → IsRing (W b) (map low_32 ring.new) (t + 2) }
-{
-    let sixteen = Simd::from_array(pair(ring, t % 16));
-    let fourteen = Simd::from_array(pair(ring, (t + 2) % 16));
-    let eight = Simd::from_array(pair(ring, (t + 8) % 16));
-    let three = Simd::from_array(pair(ring, (t + 13) % 16));
-    let next = next_two(sixteen, fourteen, eight, three);
-    set_pair(ring, t % 16, next.to_array());
+// Words of 32 bits in lanes, with their schedule.
+pub(crate) trait Lanes: Slots {
+    // the word in each lane
+    fn repeated(word: Wrapping<u32>) -> Self
+        ensures { (i : ℕ) → Self.lane i result ≡ word_32 word };
+
+    // Fills the slots of words `t` and `t + 1`.
+    fn fill(ring: &mut [Self::Slot; 16], t: usize)
+        requires from { 16 ≤ t }
+        requires below { t + 2 ≤ 80 }
+        ensures { (i : ℕ) (b : List ℕ) → IsRing (W b) (map (Self.slot_lane i) ring.old) t
+            → IsRing (W b) (map (Self.slot_lane i) ring.new) (t + 2) };
+
+    ghost bits_are: { Self.One.bits ≡ 32 };
 }

@@ -1,14 +1,13 @@
 //! The schedule of SHA-2, two words at a time (FIPS 180-4, 6.2.2 and 6.4.2, step 1).
-ghost use Rattle.std.specs.Prelude.{◌≡◌, ℕ, ◌+◌, ◌%◌, ◌≤◌, List, [], ◌∷◌, map};
+ghost use Rattle.std.specs.Prelude.{◌≡◌, ℕ, ◌+◌, ◌%◌, ◌≤◌, List, map};
 ghost use Rattle.ring_core.specs.Schedule.{IsRing};
 ghost use Rattle.ring_core.specs.Sha2.{W};
-ghost use Rattle.ring_core.specs.Word.{add_words};
 
-pub(crate) mod four;
+mod four;
 mod w32;
 mod w64;
 
-use crate::digest::word::lane_word::{LaneWord, Slots};
+use crate::digest::word::lane_word::Slots;
 
 // A word whose schedule is made by lanes. The library's vectors are of `u32` or of `u64` and not of
 // any word, so each size has a step of its own.
@@ -19,11 +18,4 @@ pub(crate) trait Lanes: Slots {
         ensures { (i : ℕ) (b : List ℕ) (t : ℕ) → 16 ≤ t → place ≡ t % 16
             → IsRing (W Self.One.family b) (map (Self.slot_lane i) ring.old) t
             → IsRing (W Self.One.family b) (map (Self.slot_lane i) ring.new) (t + 2) };
-
-    // Two words and the words of two slots added, each to its own, for the constants of two rounds
-    // and their words.
-    fn add_pairs(x: [Self; 2], y: [Self::Slot; 2]) -> [Self; 2]
-        ensures { (i a b c d : ℕ) → map (Self.lane i) x ≡ a ∷ b ∷ []
-            → map (Self.slot_lane i) y ≡ c ∷ d ∷ [] → map (Self.lane i) result
-            ≡ add_words Self.One.bits a c ∷ add_words Self.One.bits b d ∷ [] };
 }

@@ -1,6 +1,6 @@
 //! Four words of 32 bits, one in each lane of a vector: the same operations on each
 //! (FIPS 180-4, 3.2).
-ghost use Rattle.std.specs.Prelude.{◌≡◌, ℕ, ◌-◌, ◌%◌, ◌^◌, ◌<◌, ◌≤◌, bit_and, slice_index};
+ghost use Rattle.std.specs.Prelude.{◌≡◌, ℕ, ◌-◌, ◌%◌, ◌^◌, ◌<◌, ◌≤◌, [], ◌∷◌, bit_and, map, slice_index};
 ghost use Rattle.std.proofs.Common.{mod-lt, pow_pos};
 ghost use Rattle.ring_core.specs.Lane.{lane, word_of_lane};
 ghost use Rattle.ring_core.specs.Sha2.{words_32};
@@ -119,5 +119,16 @@ impl Slots for FourWords {
     #[inline(always)]
     fn to_slot(self) -> FourWords {
         self
+    }
+
+    #[inline(always)]
+    fn add_pairs(x: [FourWords; 2], y: [FourWords; 2]) -> [FourWords; 2]
+        ensures { (i a b c d : ℕ) → map (word_of_lane i) x ≡ a ∷ b ∷ []
+            → map (word_of_lane i) y ≡ c ∷ d ∷ []
+            → map (word_of_lane i) result ≡ add_words 32 a c ∷ add_words 32 b d ∷ [] }
+    {
+        let [first, second] = x;
+        let [third, fourth] = y;
+        [first.plus(third), second.plus(fourth)]
     }
 }

@@ -1,5 +1,5 @@
 //! Words of one size side by side, one in each lane: a word alone, or a vector of them.
-ghost use Rattle.std.specs.Prelude.{◌≡◌, ℕ, ◌^◌, ◌<◌, ◌≤◌, bit_and};
+ghost use Rattle.std.specs.Prelude.{◌≡◌, ℕ, ◌^◌, ◌<◌, ◌≤◌, [], ◌∷◌, bit_and, map};
 ghost use Rattle.ring_core.specs.Word.{◌⊕◌, add_words, rotr};
 
 use crate::digest::word::Sha2;
@@ -49,4 +49,11 @@ pub(crate) trait Slots: LaneWord {
     // the slot of a word
     fn to_slot(self) -> Self::Slot
         ensures { (i : ℕ) → slot_lane i result ≡ Self.lane i self };
+
+    // Two words and the words of two slots added, each to its own, for the constants of two rounds
+    // and their words.
+    fn add_pairs(x: [Self; 2], y: [Self::Slot; 2]) -> [Self; 2]
+        ensures { (i a b c d : ℕ) → map (Self.lane i) x ≡ a ∷ b ∷ []
+            → map (slot_lane i) y ≡ c ∷ d ∷ [] → map (Self.lane i) result
+            ≡ add_words Self.One.bits a c ∷ add_words Self.One.bits b d ∷ [] };
 }

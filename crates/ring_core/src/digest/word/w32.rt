@@ -77,7 +77,7 @@ fn add_slots(first: u32, second: u32, slots: [u64; 2]) -> [Wrapping<u32>; 2]
 
 // The first word added to the word of the first slot, and the second to that of the second.
 #[inline(always)]
-pub(crate) fn add_pairs(x: [Wrapping<u32>; 2], y: [u64; 2]) -> [Wrapping<u32>; 2]
+fn add_pairs(x: [Wrapping<u32>; 2], y: [u64; 2]) -> [Wrapping<u32>; 2]
     ensures { (a b c d : ℕ) → words_32 x ≡ a ∷ b ∷ [] → map low_32 y ≡ c ∷ d ∷ []
         → words_32 result ≡ add_words 32 a c ∷ add_words 32 b d ∷ [] }
 {
@@ -173,5 +173,13 @@ impl Slots for Wrapping<u32> {
 
     fn to_slot(self) -> u64 {
         widened(self.0)
+    }
+
+    #[inline(always)]
+    fn add_pairs(x: [Wrapping<u32>; 2], y: [u64; 2]) -> [Wrapping<u32>; 2]
+        ensures { (i a b c d : ℕ) → words_32 x ≡ a ∷ b ∷ [] → map low_32 y ≡ c ∷ d ∷ []
+            → words_32 result ≡ add_words 32 a c ∷ add_words 32 b d ∷ [] }
+    {
+        add_pairs(x, y)
     }
 }

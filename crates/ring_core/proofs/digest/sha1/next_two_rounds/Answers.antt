@@ -2,8 +2,10 @@ use Rattle.std.proofs.Common.{◌+◌, arith}
 use Rattle.ring_core.proofs.digest.sha1.next_two_rounds.Goals as goal
 
 pub returns : goal.returns
-returns c = λ h b before.
-    let ready = c.fill.ensures b before.words in record {
+returns g c = λ i h b before.
+    let ready = c.fill.ensures i b before.words in record {
       words = ready;
-      variables = c.two_rounds.ensures h b (c.args.t + 2) ready (omega arith) (omega arith) before.variables;
+      variables =
+          c.two_rounds.ensures i h b (c.args.t + 2) ready (omega arith) (omega arith)
+          before.variables;
     }

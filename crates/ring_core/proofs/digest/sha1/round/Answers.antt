@@ -1,19 +1,21 @@
-use Rattle.std.proofs.Common.{◌^◌}
+use Rattle.std.proofs.Common.{◌≡◌, ◌^◌, length, rules}
 use Rattle.ring_core.specs.Sha1.{round, round_constant}
 use Rattle.ring_core.proofs.Lanes.{sum_of_pair}
-use Rattle.ring_core.proofs.Mapped.{word_read}
+use Rattle.ring_core.proofs.Mapped.{value_read}
 use Rattle.ring_core.proofs.digest.sha1.round.Goals as goal
 
 pub returns : goal.returns
 unfolding round
-returns c = λ w are.
+returns g c = λ i w are.
+    let five : length c.args.v ≡ 5 = search rules in
     rw (
-      c.plus-temp.ensures,
-      c.plus-2.ensures,
-      c.plus.ensures,
-      c.rotate_left.ensures,
-      c.rotate_left-2.ensures,
-      c.round_function.ensures,
+      c.plus-temp.ensures i,
+      c.plus-2.ensures i,
+      c.plus.ensures i,
+      c.rotate_left.ensures i,
+      c.rotate_left-2.ensures i,
+      c.round_function.ensures i,
       are,
+      g.met.S.Lanes.bits_are,
       sum_of_pair (2 ^ 32) _ (round_constant c.args.t) w,
-    ) (simp (word_read c.args.v))
+    ) (simp (value_read (g.S.LaneWord.lane i) c.args.v 5 five))

@@ -1,13 +1,13 @@
 //! Two words of 32 bits at a time: the schedule of SHA-256
 //! (FIPS 180-4, 6.2.2, step 1).
 ghost use Rattle.std.specs.Prelude.{◌≡◌, ℕ, ◌<◌, ◌≤◌, [], ◌∷◌, slice_index, map};
-ghost use Rattle.ring_core.specs.Sha2.{family_256, scheduled, two_rotations_and_shift, words_32, σ0, σ1};
-ghost use Rattle.ring_core.specs.Word.{add_words, low_32};
+ghost use Rattle.ring_core.specs.Sha2.{family_256, scheduled, two_rotations_and_shift, σ0, σ1};
+ghost use Rattle.ring_core.specs.Word.{low_32};
 
 use crate::digest::schedule::{pair, set_pair};
 use crate::digest::sha2::lanes::Lanes;
 use crate::digest::word::Sha2;
-use crate::digest::word::w32::{add_pairs, doubled, joined};
+use crate::digest::word::w32::{doubled, joined};
 use std::num::Wrapping;
 use std::simd::{Simd, u64x2};
 
@@ -66,13 +66,5 @@ impl Lanes for Wrapping<u32> {
         let two = Simd::from_array(pair(ring, (place + 14) % 16));
         let next = next_two(sixteen, fifteen, seven, two);
         set_pair(ring, place, next.to_array());
-    }
-
-    #[inline(always)]
-    fn add_pairs(x: [Wrapping<u32>; 2], y: [u64; 2]) -> [Wrapping<u32>; 2]
-        ensures { (i a b c d : ℕ) → words_32 x ≡ a ∷ b ∷ [] → map low_32 y ≡ c ∷ d ∷ []
-            → words_32 result ≡ add_words 32 a c ∷ add_words 32 b d ∷ [] }
-    {
-        add_pairs(x, y)
     }
 }

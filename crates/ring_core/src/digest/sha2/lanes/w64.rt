@@ -1,13 +1,13 @@
 //! Two words of 64 bits at a time: the schedule of SHA-384, SHA-512 and SHA-512/256
 //! (FIPS 180-4, 6.4.2, step 1).
 ghost use Rattle.std.specs.Prelude.{◌≡◌, ℕ, ◌<◌, ◌≤◌, [], ◌∷◌, slice_index, map};
-ghost use Rattle.ring_core.specs.Sha2.{family_512, scheduled, words_64, σ0, σ1};
-ghost use Rattle.ring_core.specs.Word.{◌⊕◌, add_words, rotr};
+ghost use Rattle.ring_core.specs.Sha2.{family_512, scheduled, σ0, σ1};
+ghost use Rattle.ring_core.specs.Word.{◌⊕◌, rotr};
 
 use crate::digest::schedule::{pair, set_pair};
 use crate::digest::sha2::lanes::Lanes;
+use crate::digest::word::Sha2;
 use crate::digest::word::w64::{from_lanes, rotate_lanes, to_lanes};
-use crate::digest::word::{Sha2, Word};
 use std::num::Wrapping;
 use std::simd::{Simd, u64x2};
 
@@ -59,16 +59,5 @@ impl Lanes for Wrapping<u64> {
         let two = to_lanes(pair(ring, (place + 14) % 16));
         let next = next_two(sixteen, fifteen, seven, two);
         set_pair(ring, place, from_lanes(next));
-    }
-
-    // By words: two lanes of 64 bits take longer to take apart than one sum more.
-    #[inline(always)]
-    fn add_pairs(x: [Wrapping<u64>; 2], y: [Wrapping<u64>; 2]) -> [Wrapping<u64>; 2]
-        ensures { (i a b c d : ℕ) → words_64 x ≡ a ∷ b ∷ [] → words_64 y ≡ c ∷ d ∷ []
-            → words_64 result ≡ add_words 64 a c ∷ add_words 64 b d ∷ [] }
-    {
-        let [first, second] = x;
-        let [third, fourth] = y;
-        [first.plus(third), second.plus(fourth)]
     }
 }

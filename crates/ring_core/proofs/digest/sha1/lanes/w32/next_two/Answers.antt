@@ -2,7 +2,7 @@ use Rattle.std.proofs.Common.{[], ◌∷◌}
 use Rattle.ring_core.specs.Word.{rotr}
 use Rattle.ring_core.proofs.Halves.{xors_low}
 use Rattle.ring_core.proofs.Lanes.{two_lanes}
-use Rattle.ring_core.proofs.digest.sha1.lanes.next_two.Goals as goal
+use Rattle.ring_core.proofs.digest.sha1.lanes.w32.next_two.Goals as goal
 
 pub returns : goal.returns
 returns c =

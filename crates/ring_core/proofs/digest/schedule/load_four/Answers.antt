@@ -4,7 +4,7 @@ use Rattle.std.proofs.Math.ListN.{get_or, length-map}
 use Rattle.ring_core.specs.Lane.{word_of_lane}
 use Rattle.ring_core.specs.Word.{word_at}
 use Rattle.ring_core.proofs.Mapped.{filled_more}
-use Rattle.ring_core.proofs.digest.sha2.lanes.four.load_four.Goals as goal
+use Rattle.ring_core.proofs.digest.schedule.load_four.Goals as goal
 
 pub words-preserved : goal.words-preserved
 words-preserved c =

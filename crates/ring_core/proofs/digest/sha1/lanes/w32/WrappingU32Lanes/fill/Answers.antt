@@ -3,10 +3,10 @@ use Rattle.ring_core.specs.Sha1.{W}
 use Rattle.ring_core.specs.Word.{low_32}
 use Rattle.ring_core.proofs.Halves.{low_read}
 use Rattle.ring_core.proofs.Sha1Steps.{W-next_two}
-use Rattle.ring_core.proofs.digest.sha1.lanes.fill.Goals as goal
+use Rattle.ring_core.proofs.digest.sha1.lanes.w32.WrappingU32Lanes.fill.Goals as goal
 
 pub returns : goal.returns
-returns c = λ b ready.
+returns c = λ i b ready.
     let w = W b in
     let t = c.args.t in
     let sixteen =

@@ -1,7 +1,7 @@
 use Rattle.std.proofs.Common.{◌≡◌, [], length, refl, rules}
 use Rattle.ring_core.specs.Lane.{word_of_lane}
 use Rattle.ring_core.proofs.Mapped.{values_of_two}
-use Rattle.ring_core.proofs.digest.sha2.lanes.four.FourWordsLanes.add_pairs.Goals as goal
+use Rattle.ring_core.proofs.digest.word.four.FourWordsSlots.add_pairs.Goals as goal
 
 pub returns : goal.returns
 returns c = λ i m n p q left right.

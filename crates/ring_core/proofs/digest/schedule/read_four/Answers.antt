@@ -3,7 +3,7 @@ use Rattle.std.proofs.Math.ListN.{get_or}
 use Rattle.ring_core.specs.Sha2.{words_32}
 use Rattle.ring_core.specs.Word.{word_at}
 use Rattle.ring_core.proofs.Four.{four_cases}
-use Rattle.ring_core.proofs.digest.sha2.lanes.four.read_four.Goals as goal
+use Rattle.ring_core.proofs.digest.schedule.read_four.Goals as goal
 
 pub returns : goal.returns
 returns c = λ i.

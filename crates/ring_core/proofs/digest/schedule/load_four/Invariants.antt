@@ -2,7 +2,7 @@ use Rattle.std.proofs.Common.{◌≡◌, ℕ, ◌<◌, ◌%◌, [], length, slic
 use Rattle.std.proofs.Math.ListN.{get_or}
 use Rattle.ring_core.specs.Lane.{word_of_lane}
 use Rattle.ring_core.specs.Word.{word_at}
-use Rattle.ring_core.proofs.digest.sha2.lanes.four.load_four.Given as goal
+use Rattle.ring_core.proofs.digest.schedule.load_four.Given as goal
 
 abbrev pub invariant-words : goal.invariant-words
 invariant-words l = (length l.ring ≡ 16)

@@ -1,7 +1,7 @@
 use Rattle.std.proofs.Common.{◌≡◌, ℕ, ◌%◌, ◌^◌, length, refl, rules}
 use Rattle.std.specs.declared.num.Wrapping.{Wrapping}
 use Rattle.ring_core.proofs.Mapped.{values_of_two}
-use Rattle.ring_core.proofs.digest.sha2.lanes.w64.WrappingU64Lanes.add_pairs.Goals as goal
+use Rattle.ring_core.proofs.digest.word.w64.WrappingU64Slots.add_pairs.Goals as goal
 
 pub returns : goal.returns
 returns c = λ i m n p q left right.

@@ -1,5 +1,5 @@
 use Rattle.std.proofs.Common.{◌≡◌, ◌^◌, length, rules}
-use Rattle.ring_core.specs.Sha1.{round, round_constant}
+use Rattle.ring_core.specs.Sha1.{round}
 use Rattle.ring_core.proofs.Lanes.{sum_of_pair}
 use Rattle.ring_core.proofs.Mapped.{value_read}
 use Rattle.ring_core.proofs.digest.sha1.round.Goals as goal
@@ -17,5 +17,4 @@ returns g c = λ i w are.
       c.round_function.ensures i,
       are,
       g.met.S.Lanes.bits_are,
-      sum_of_pair (2 ^ 32) _ (round_constant c.args.t) w,
-    ) (simp (value_read (g.S.LaneWord.lane i) c.args.v 5 five))
+    ) (simp (value_read (g.S.LaneWord.lane i) c.args.v 5 five, sum_of_pair (2 ^ 32)))

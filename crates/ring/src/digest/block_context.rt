@@ -178,7 +178,8 @@ impl BlockContext {
         ensures unchanged { OnErr result (meter.new ≡ meter.old) }
         ensures cost { OnOk result (meter.new
             ≡ raised meter.old (padded_blocks (block_algorithm self.now) (length pending.now)) 0) }
-        ensures algorithm { IfOk result (λ digest. digest_algorithm digest ≡ block_algorithm self.now) }
+        ensures algorithm { IfOk result (λ digest.
+            digest_algorithm digest ≡ block_algorithm self.now) }
     {
         let message_len = self.completed_bytes.saturating_add(pending.len() as u128);
         if !is_message_within(&self.algorithm, message_len) {

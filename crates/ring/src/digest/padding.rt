@@ -23,8 +23,8 @@ const LONG_LENGTH_LEN: usize = 16;
 const SHORT_LENGTH_LEN: usize = 8;
 
 // Writes what follows the whole blocks of a message of `message_len` bytes over zeros: the pending
-// bytes, the byte 0x80, zeros, and the length in bits. It gives how many bytes that is. The array is
-// the caller's own: one that is given is copied, and read in pieces that aren't those just written.
+// bytes, the byte 0x80, zeros, and the length in bits. It gives how many bytes that is. The array
+// is the caller's: one given as a value is copied, in pieces that aren't those just written.
 pub(crate) fn write_tail(
     algorithm: Algorithm,
     pending: &[u8],

@@ -74,7 +74,8 @@ impl PreparedBlock {
         requires { past_message (key_algorithm key.now) block.old
             ≡ prepared_padding (key_algorithm key.now) }
         ensures ok { (k : List ℕ) → KeyStandsFor key.now k
-            → take (output_len (key_algorithm key.now)) block.new ≡ hmac_of (key_algorithm key.now) k
+            → take (output_len (key_algorithm key.now)) block.new
+            ≡ hmac_of (key_algorithm key.now) k
             (take (output_len (key_algorithm key.now)) block.old) }
         ensures cost { meter.new ≡ raised meter.old 2 0 }
         ensures padded { past_message (key_algorithm key.now) block.new

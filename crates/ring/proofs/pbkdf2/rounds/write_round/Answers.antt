@@ -11,7 +11,8 @@ iterates-init c =
     let first = c.first_iterate-first.ensures in
     let put = c.with_message-iterate.ensures in
     let message = rw c.requires.prepared at put.message in
-    let inside : HasMessage a (tag_bytes c.first_iterate-first.result) c.with_message-iterate.result =
+    let tag = tag_bytes c.first_iterate-first.result in
+    let inside : HasMessage a tag c.with_message-iterate.result =
     record {
       message = message ∙ c.as_ref-2.ensures.bytes;
       padded = rw c.requires.prepared at put.padded;
@@ -23,6 +24,7 @@ iterates-init c =
 pub iterates-preserved : goal.iterates-preserved
 iterates-preserved c =
     let next = c.replace_by_tag.ensures in
-    let len = c.as_ref-output_len.ensures.len ∙ ap output_len c.first_iterate-first.ensures.algorithm in
+    let first = c.first_iterate-first.ensures in
+    let len = c.as_ref-output_len.ensures.len ∙ ap output_len first.algorithm in
     iterated-next c.iterates.auto._made c.iterates.invariant next.padded next.ok refl
     (rw len at c.xor_assign_at_start.ensures) next.cost

@@ -16,9 +16,11 @@ pub returns-clause-ok : goal.returns-clause-ok
 returns-clause-ok c = λ p h.
     let a = c.args.self.now.algorithm in
     let x = c.args.pending.now in
-    let len : length (p ++ x) ≡ c.saturating_add-message_len.result =
-    taken_len c.args.self.now p x c.saturating_add-message_len.result h c.saturating_add-message_len.ensures (omega arith) in
-    let end = ap (λ z. p ++ z) (c.write_tail-len.ensures.bytes ∙ ap (tail_of a x) (sym len)) ∙ sym (padded-append a p x h.whole) in
+    let n = c.saturating_add-message_len in
+    let len : length (p ++ x) ≡ n.result =
+    taken_len c.args.self.now p x n.result h n.ensures (omega arith) in
+    let end = ap (λ z. p ++ z) (c.write_tail-len.ensures.bytes ∙ ap (tail_of a x) (sym len))
+    ∙ sym (padded-append a p x h.whole) in
     record {
       algorithm = ap (λ (d : Digest). d.algorithm) c.new.ensures;
       bytes = ap bytes_of c.new.ensures ∙ c.output_after-output.ensures.ok p (p ++ x) h end;
@@ -29,7 +31,11 @@ returns-clause-cost c =
     let a = c.args.self.now.algorithm in
     let x = c.args.pending.now in
     let sizes = tail_sizes a (length x) (omega arith) in
-    let size : length (take c.write_tail-len.result c.write_tail-len.new.bytes) ≡ padded_blocks a (length x) * block_len a =
-    length-take-le _ c.write_tail-len.new.bytes (omega (arith, c.write_tail-len.ensures.len, sizes.0)) ∙ c.write_tail-len.ensures.len in
+    let blocks = padded_blocks a (length x) in
+    let tail = c.write_tail-len in
+    let size : length (take tail.result tail.new.bytes) ≡ blocks * block_len a =
+    length-take-le _ tail.new.bytes (omega (arith, tail.ensures.len, sizes.0))
+    ∙ tail.ensures.len in
     c.output_after-output.ensures.cost
-    ∙ ap (λ (n : ℕ). raised c.args.meter.now n 0) (rw size (mul_whole (padded_blocks a (length x)) (block_len a) (block_len-positive a)).1)
+    ∙ ap (λ (n : ℕ). raised c.args.meter.now n 0)
+    (rw size (mul_whole blocks (block_len a) (block_len-positive a)).1)

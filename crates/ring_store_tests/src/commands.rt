@@ -1,102 +1,139 @@
 //! Commands one by one and as one list.
 
-use crate::names::{DB_SALT, LONG_NAME, PASSWORD, found, iterations, told};
+use crate::names::{LONG_NAME, LONGEST_NAME, PASSWORD, WRONG, found, iterations, new_store, told};
 use ring_store::{Command, PasswordStore, Reply, StoreError};
 use std::alloc::{AllocError, Global};
-use std::process::Abort;
-use std::test::Fail;
 
 const BAD_NAME: Reply = Reply::Refused(StoreError::BadName);
 
-const WRONG: Reply = Reply::Refused(StoreError::WrongUsernameOrPassword);
+const DONE: Reply = Reply::Done;
 
-// Each of the commands alone, and then all of them as one list, on new stores of 1,000 iterations.
-fn try_both(
-    rt: &impl Abort,
+const SET_ALICE: Command<'static> = Command::SetPassword(b"alice", PASSWORD);
+
+const VERIFY_ALICE: Command<'static> = Command::VerifyPassword(b"alice", PASSWORD);
+
+const MISTAKE_ALICE: Command<'static> = Command::VerifyPassword(b"alice", b"wrong password");
+
+const COUNT_OF_ALICE: Command<'static> = Command::IterationsOf(b"alice");
+
+const SET_NO_NAME: Command<'static> = Command::SetPassword(b"", b"a");
+
+const SET_LONG_NAME: Command<'static> = Command::SetPassword(&LONG_NAME, b"a");
+
+const SET_LONGEST_NAME: Command<'static> = Command::SetPassword(&LONGEST_NAME, b"a");
+
+const VERIFY_NOBODY: Command<'static> = Command::VerifyPassword(b"nobody", b"a");
+
+const COUNT_OF_NOBODY: Command<'static> = Command::IterationsOf(b"nobody");
+
+const SET_BOB_A: Command<'static> = Command::SetPassword(b"bob", b"a");
+
+const SET_BOB_B: Command<'static> = Command::SetPassword(b"bob", b"b");
+
+const VERIFY_BOB_A: Command<'static> = Command::VerifyPassword(b"bob", b"a");
+
+const VERIFY_BOB_B: Command<'static> = Command::VerifyPassword(b"bob", b"b");
+
+const COUNT_OF_BOB: Command<'static> = Command::IterationsOf(b"bob");
+
+// The reply to a command by the call that it stands for.
+fn reply_alone(store: &mut PasswordStore, command: Command<'_>) -> Reply {
+    match command {
+        Command::SetPassword(name, password) => told(store.set_password(name, password)),
+        Command::VerifyPassword(name, password) => told(store.verify_password(name, password)),
+        Command::SetIterations(iterations) => {
+            store.set_iterations(iterations);
+            Reply::Done
+        }
+        Command::IterationsOf(name) => Reply::Iterations(store.iterations_of(name)),
+    }
+}
+
+// Whether each of the commands alone, on a new store, gets its reply.
+fn replies_alone(alloc: Global, commands: &[Command<'_>], wanted: &[Reply]) -> bool {
+    let mut store = new_store(alloc, 1000);
+    for (command, reply) in commands.iter().zip(wanted) {
+        if reply_alone(&mut store, *command) != *reply {
+            return false;
+        }
+    }
+    true
+}
+
+// Whether the commands as one list, on a new store, get their replies.
+fn replies_to_list(
     alloc: Global,
     commands: &[Command<'_>],
     wanted: &[Reply],
-) -> Result<(), AllocError> {
-    let mut store = PasswordStore::new(alloc, DB_SALT, iterations(1000));
-    for (command, reply) in commands.iter().zip(wanted) {
-        let given = match *command {
-            Command::SetPassword(name, password) => told(store.set_password(name, password)),
-            Command::VerifyPassword(name, password) => told(store.verify_password(name, password)),
-            Command::SetIterations(iterations) => {
-                store.set_iterations(iterations);
-                Reply::Done
-            }
-            Command::IterationsOf(name) => Reply::Iterations(store.iterations_of(name)),
-        };
-        assert_eq!(rt; given, *reply);
-    }
-    let mut store = PasswordStore::new(alloc, DB_SALT, iterations(1000));
+) -> Result<bool, AllocError> {
     let mut replies = Vec::from_elem(alloc, Reply::Done, commands.len())?;
-    store.run(commands, &mut replies);
-    assert_eq!(rt; replies.as_slice(), wanted);
-    Ok(())
+    new_store(alloc, 1000).run(commands, &mut replies);
+    Ok(replies.as_slice() == wanted)
+}
+
+// Each of the commands alone, and then all of them as one list, on new stores of 1,000 iterations.
+fn both_reply(alloc: Global, commands: &[Command<'_>], wanted: &[Reply]) -> bool {
+    replies_alone(alloc, commands, wanted) && replies_to_list(alloc, commands, wanted) == Ok(true)
 }
 
 #[test]
-fn wrong_password_raises_nothing_and_the_right_one_does(rt: HostRuntime) -> Result<(), Fail> {
+fn wrong_password_raises_nothing_and_the_right_one_does(rt: HostRuntime) {
     let commands = [
-        Command::SetPassword(b"alice", PASSWORD),
-        Command::VerifyPassword(b"alice", b"wrong password"),
-        Command::VerifyPassword(b"alice", PASSWORD),
+        SET_ALICE,
+        MISTAKE_ALICE,
+        VERIFY_ALICE,
         Command::SetIterations(iterations(2000)),
-        Command::VerifyPassword(b"alice", b"wrong password"),
-        Command::IterationsOf(b"alice"),
-        Command::VerifyPassword(b"alice", PASSWORD),
-        Command::IterationsOf(b"alice"),
-        Command::VerifyPassword(b"alice", PASSWORD),
+        MISTAKE_ALICE,
+        COUNT_OF_ALICE,
+        VERIFY_ALICE,
+        COUNT_OF_ALICE,
+        VERIFY_ALICE,
     ];
-    let done = Reply::Done;
     let wanted = [
-        done,
+        DONE,
         WRONG,
-        done,
-        done,
+        DONE,
+        DONE,
         WRONG,
         found(1000),
-        done,
+        DONE,
         found(2000),
-        done,
+        DONE,
     ];
-    Ok(try_both(&rt, rt.alloc(), &commands, &wanted)?)
+    assert!(rt; both_reply(rt.alloc(), &commands, &wanted));
 }
 
 #[test]
-fn names_counts_and_passwords_in_order(rt: HostRuntime) -> Result<(), Fail> {
+fn names_counts_and_passwords_in_order(rt: HostRuntime) {
     let commands = [
-        Command::SetPassword(b"", b"a"),
-        Command::SetPassword(&LONG_NAME, b"a"),
-        Command::SetPassword(&LONG_NAME[..64], b"a"),
-        Command::VerifyPassword(b"nobody", b"a"),
-        Command::IterationsOf(b"nobody"),
-        Command::SetPassword(b"bob", b"a"),
+        SET_NO_NAME,
+        SET_LONG_NAME,
+        SET_LONGEST_NAME,
+        VERIFY_NOBODY,
+        COUNT_OF_NOBODY,
+        SET_BOB_A,
         Command::SetIterations(iterations(500)),
-        Command::VerifyPassword(b"bob", b"a"),
-        Command::IterationsOf(b"bob"),
-        Command::SetPassword(b"bob", b"b"),
-        Command::VerifyPassword(b"bob", b"a"),
-        Command::VerifyPassword(b"bob", b"b"),
-        Command::IterationsOf(b"bob"),
+        VERIFY_BOB_A,
+        COUNT_OF_BOB,
+        SET_BOB_B,
+        VERIFY_BOB_A,
+        VERIFY_BOB_B,
+        COUNT_OF_BOB,
     ];
-    let done = Reply::Done;
     let wanted = [
         BAD_NAME,
         BAD_NAME,
-        done,
+        DONE,
         WRONG,
         found(0),
-        done,
-        done,
-        done,
+        DONE,
+        DONE,
+        DONE,
         found(1000),
-        done,
+        DONE,
         WRONG,
-        done,
+        DONE,
         found(500),
     ];
-    Ok(try_both(&rt, rt.alloc(), &commands, &wanted)?)
+    assert!(rt; both_reply(rt.alloc(), &commands, &wanted));
 }

@@ -2,6 +2,7 @@
 
 use ring::cost::Meter;
 use ring_store::{PasswordStore, Reply, StoreError, examples};
+use std::alloc::Global;
 use std::num::NonZeroU32;
 
 // The salt and the password of `ring`'s example of a password database.
@@ -13,6 +14,10 @@ pub const PASSWORD: &[u8] = b"@74d7]404j|W}6u";
 
 // One byte more than a name may have.
 pub const LONG_NAME: [u8; 65] = [b'n'; 65];
+
+pub const LONGEST_NAME: [u8; 64] = [b'n'; 64];
+
+pub const WRONG: Reply = Reply::Refused(StoreError::WrongUsernameOrPassword);
 
 pub fn iterations(n: u32) -> NonZeroU32 {
     NonZeroU32::new(n).unwrap_or(NonZeroU32::MIN)
@@ -29,55 +34,101 @@ pub fn told(given: Result<(), StoreError>) -> Reply {
     }
 }
 
+pub fn new_store(alloc: Global, count: u32) -> PasswordStore {
+    PasswordStore::new(alloc, DB_SALT, iterations(count))
+}
+
+// Whether a name's password is set, and set again.
+fn sets_twice(mut store: PasswordStore) -> bool {
+    store.set_password(b"alice", PASSWORD).is_ok()
+        && store.set_password(b"alice", b"another").is_ok()
+}
+
 #[test]
 fn set_password_succeeds(rt: HostRuntime) {
-    let mut store = PasswordStore::new(rt.alloc(), DB_SALT, iterations(1));
-    assert_eq!(rt; store.set_password(b"alice", PASSWORD), Ok(()));
-    assert_eq!(rt; store.set_password(b"alice", b"another"), Ok(()));
+    assert!(rt; sets_twice(new_store(rt.alloc(), 1)));
+}
+
+// How a wrong password is refused, and the blocks and the byte pairs that it cost.
+fn refused_at(store: &mut PasswordStore, name: &[u8]) -> (Reply, u128, u128) {
+    let mut meter = Meter::new();
+    let answer = store.verify_password_counted(name, b"wrong password", &mut meter);
+    (told(answer), meter.blocks(), meter.byte_pairs())
+}
+
+// Whether a known name and another one cost 2,002 blocks and 32 byte pairs each.
+fn costs_the_same(mut store: PasswordStore) -> bool {
+    store.set_password(b"alice", PASSWORD).is_ok()
+        && refused_at(&mut store, b"alice") == (WRONG, 2002, 32)
+        && refused_at(&mut store, b"nobod") == (WRONG, 2002, 32)
 }
 
 // The blocks of 1,000 iterations: two of the key, two of the first and two of each other one.
 #[test]
 fn unknown_name_costs_what_a_known_one_does(rt: HostRuntime) {
-    let mut store = PasswordStore::new(rt.alloc(), DB_SALT, iterations(1000));
-    assert_eq!(rt; store.set_password(b"alice", PASSWORD), Ok(()));
-    for name in [b"alice", b"nobod"] {
-        let mut meter = Meter::new();
-        let answer = store.verify_password_counted(name, b"wrong password", &mut meter);
-        assert_eq!(rt; answer, Err(StoreError::WrongUsernameOrPassword));
-        assert_eq!(rt; meter.blocks(), 2002);
-        assert_eq!(rt; meter.byte_pairs(), 32);
-    }
+    assert!(rt; costs_the_same(new_store(rt.alloc(), 1000)));
 }
 
-// Each name is four bytes, and its password one. The list has each name's password.
-#[test]
-fn a_thousand_names_and_a_list_of_them(rt: HostRuntime) {
-    let mut store = PasswordStore::new(rt.alloc(), DB_SALT, iterations(1));
-    let mut list = [None; 1000];
+// Sets the password of a name, of four bytes, to one byte.
+fn sets(store: &mut PasswordStore, name: u32, password: u8) -> bool {
+    store.set_password(&name.to_be_bytes(), &[password]).is_ok()
+}
+
+// Whether the guess passes in the store.
+fn passes(store: &mut PasswordStore, name: u32, guess: u8) -> bool {
+    store.verify_password(&name.to_be_bytes(), &[guess]).is_ok()
+}
+
+// Sets passwords of names in the store and in the list, and asks after each for another one.
+fn sets_a_thousand(store: &mut PasswordStore, list: &mut [Option<u8>; 1000]) -> bool {
     for step in 0u32..1000 {
         let set = (step * 709 + 17) % 1000;
         let password = (step % 7) as u8;
-        assert_eq!(rt; store.set_password(&set.to_be_bytes(), &[password]), Ok(()));
+        if !sets(store, set, password) {
+            return false;
+        }
         list[set as usize] = Some(password);
         let asked = (step * 387 + 5) % 1000;
         let guess = (step % 3) as u8;
-        let passes = store
-            .verify_password(&asked.to_be_bytes(), &[guess])
-            .is_ok();
-        assert_eq!(rt; passes, list[asked as usize] == Some(guess), "{asked}");
-    }
-    for name in 0u32..1000 {
-        for guess in 0u8..7 {
-            let passes = store.verify_password(&name.to_be_bytes(), &[guess]).is_ok();
-            assert_eq!(rt; passes, list[name as usize] == Some(guess), "{name}");
+        if passes(store, asked, guess) != (list[asked as usize] == Some(guess)) {
+            return false;
         }
     }
+    true
+}
+
+// Whether each guess at the name's password passes where it is that of the list.
+fn answers_as(store: &mut PasswordStore, name: u32, password: Option<u8>) -> bool {
+    for guess in 0u8..7 {
+        if passes(store, name, guess) != (password == Some(guess)) {
+            return false;
+        }
+    }
+    true
+}
+
+// Whether the store and a list that has each name's password agree.
+fn agrees_with_list(mut store: PasswordStore) -> bool {
+    let mut list = [None; 1000];
+    if !sets_a_thousand(&mut store, &mut list) {
+        return false;
+    }
+    for name in 0u32..1000 {
+        if !answers_as(&mut store, name, list[name as usize]) {
+            return false;
+        }
+    }
+    true
+}
+
+#[test]
+fn a_thousand_names_and_a_list_of_them(rt: HostRuntime) {
+    assert!(rt; agrees_with_list(new_store(rt.alloc(), 1)));
 }
 
 #[test]
 fn first_use_ends_well(rt: HostRuntime) {
     let (few, more) = (iterations(1000), iterations(2000));
     let answer = examples::first_use(rt.alloc(), DB_SALT, few, more, &[7; 32], 1_700_000_000);
-    assert_eq!(rt; answer, Ok(()));
+    assert!(rt; answer.is_ok());
 }

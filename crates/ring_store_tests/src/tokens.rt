@@ -1,13 +1,8 @@
 //! Tokens of another implementation, and the order in which a check refuses.
 
 use ring_store::{TokenError, TokenMaker};
-use std::process::Abort;
-use std::test::Fail;
 
-// What Python's `hmac` gives for a maker of `master` and `salt`: of the user `u` and the expiry 100,
-// and of no user and the last expiry. Then for a maker of no secret and no salt: of `u` and the
-// expiry 0. Then for one of 100 letters `m` and 70 letters `s`: of `user@example` and the expiry
-// 2^40.
+// What Python's `hmac` gives.
 const TOKEN: [u8; 32] = [
     0x29, 0xb6, 0x4f, 0x33, 0xc8, 0x2d, 0x3c, 0xd1, 0x54, 0xa1, 0x95, 0xa8, 0x83, 0x1d, 0xe0, 0xb5,
     0xa4, 0x12, 0x13, 0xfe, 0xe7, 0xf4, 0xbb, 0x9d, 0xc4, 0xf2, 0x48, 0x45, 0xa6, 0x40, 0x95, 0x82,
@@ -28,42 +23,57 @@ const TOKEN_OF_LONG_SECRETS: [u8; 32] = [
     0xea, 0x82, 0xf1, 0x0e, 0xa7, 0xd9, 0xdc, 0x63, 0x2a, 0x0d, 0x00, 0x2c, 0x82, 0x44, 0x76, 0x68,
 ];
 
+// The secret and the salt of a maker, a user and an expiry, and their token.
+const ROWS: [(&[u8], &[u8], &[u8], u64, [u8; 32]); 4] = [
+    (b"master", b"salt", b"u", 100, TOKEN),
+    (b"master", b"salt", b"", u64::MAX, LAST_TOKEN),
+    (b"", b"", b"u", 0, TOKEN_OF_NO_SECRET),
+    (
+        &[b'm'; 100],
+        &[b's'; 70],
+        b"user@example",
+        1 << 40,
+        TOKEN_OF_LONG_SECRETS,
+    ),
+];
+
+// The token that a maker of these secrets issues.
+fn token_of(master: &[u8], salt: &[u8], user: &[u8], expiry: u64) -> Result<[u8; 32], TokenError> {
+    TokenMaker::new(master, salt)?.issue(user, expiry)
+}
+
+// Whether a token passes at this time, for a maker of `master` and `salt`.
+fn check_of(user: &[u8], expiry: u64, now: u64, token: &[u8]) -> Result<(), TokenError> {
+    TokenMaker::new(b"master", b"salt")?.check(user, expiry, now, token)
+}
+
 #[test]
 fn tokens_of_another_implementation(rt: HostRuntime) {
-    let maker = TokenMaker::new(b"master", b"salt").unwrap();
-    assert_eq!(rt; maker.issue(b"u", 100), Ok(TOKEN));
-    assert_eq!(rt; maker.issue(b"", u64::MAX), Ok(LAST_TOKEN));
-    assert_eq!(rt; maker.check(b"", u64::MAX, u64::MAX, &LAST_TOKEN), Ok(()));
-    let maker = TokenMaker::new(b"", b"").unwrap();
-    assert_eq!(rt; maker.issue(b"u", 0), Ok(TOKEN_OF_NO_SECRET));
-    let maker = TokenMaker::new(&[b'm'; 100], &[b's'; 70]).unwrap();
-    assert_eq!(rt;
-        maker.issue(b"user@example", 1 << 40),
-        Ok(TOKEN_OF_LONG_SECRETS)
-    );
+    for (master, salt, user, expiry, token) in ROWS {
+        assert!(rt; token_of(master, salt, user, expiry) == Ok(token));
+    }
+    assert!(rt; check_of(b"", u64::MAX, u64::MAX, &LAST_TOKEN).is_ok());
 }
 
-// A token that is cut, or longer, or of another user or expiry is bad at any time.
-fn try_bad(rt: &impl Abort, maker: &TokenMaker, token: &[u8], longer: &[u8], now: u64) {
-    let cut = &token[..token.len().saturating_sub(1)];
+// Whether a token is bad at any time: in time and past it.
+fn is_bad(user: &[u8], expiry: u64, token: &[u8]) -> bool {
     let bad = Err(TokenError::BadToken);
-    assert_eq!(rt; maker.check(b"u", 100, now, cut), bad);
-    assert_eq!(rt; maker.check(b"u", 100, now, longer), bad);
-    assert_eq!(rt; maker.check(b"v", 100, now, token), bad);
-    assert_eq!(rt; maker.check(b"u", 101, now, token), bad);
+    check_of(user, expiry, 100, token) == bad && check_of(user, expiry, 101, token) == bad
+}
+
+// A token of another user or expiry is bad at any time, and one that is cut or longer.
+fn are_bad(cut: &[u8], longer: &[u8]) -> bool {
+    is_bad(b"v", 100, &TOKEN)
+        && is_bad(b"u", 101, &TOKEN)
+        && is_bad(b"u", 100, cut)
+        && is_bad(b"u", 100, longer)
 }
 
 #[test]
-fn bad_tokens_are_told_before_expired_ones(rt: HostRuntime) -> Result<(), Fail> {
-    let maker = TokenMaker::new(b"master", b"salt").unwrap();
-    assert_eq!(rt; maker.check(b"u", 100, 100, &TOKEN), Ok(()));
-    assert_eq!(rt;
-        maker.check(b"u", 100, 101, &TOKEN),
-        Err(TokenError::Expired)
-    );
-    let mut longer = Vec::from_slice(rt.alloc(), &TOKEN)?;
-    longer.push(0)?;
-    try_bad(&rt, &maker, &TOKEN, &longer, 100);
-    try_bad(&rt, &maker, &TOKEN, &longer, 101);
-    Ok(())
+fn bad_tokens_are_told_before_expired_ones(rt: HostRuntime) {
+    let mut longer = [0; 33];
+    longer[..32].copy_from_slice(&TOKEN);
+    assert!(rt; are_bad(&TOKEN[..31], &longer));
+    assert!(rt; check_of(b"u", 100, 100, &TOKEN).is_ok());
+    assert!(rt; check_of(b"u", 100, 101, &TOKEN) == Err(TokenError::Expired));
 }

@@ -1,12 +1,16 @@
 -- Exclusive ors of bytes, one by one and in lists.
-use Rattle.std.proofs.Common.{◌≡◌, ◌↔◌, ℕ, zero, suc, ◌<◌, ◌≤◌, List, [], ◌∷◌, ◌++◌, length, slice_index_or, slice_set, map, take, drop, bit_or, refl, sym, ap, ◌∙◌, arith, min}
+use Rattle.std.proofs.Common.{◌≡◌, ◌↔◌, ℕ, zero, suc, ◌<◌, ◌≤◌, List, [], ◌∷◌, ◌++◌, length}
+use Rattle.std.proofs.Common.{slice_index_or, slice_set, map, take, drop, bit_or, refl, sym, ap}
+use Rattle.std.proofs.Common.{◌∙◌, arith, min}
 use Rattle.std.specs.Int.Bits.{xor_assoc, xor_self, xor_zero_l, xor_zero_r}
 use Rattle.std.proofs.lemmas.Nat.{le_or_l, le_or_r}
 use Rattle.ring_core.specs.Bytes.{xor_lists}
 use Rattle.ring_core.specs.Word.{◌⊕◌}
 
 ⊕-zero : (x y : ℕ) → x ⊕ y ≡ 0 → x ≡ y
-⊕-zero x y none = sym (xor_zero_r x) ∙ ap (λ (z : ℕ). x ⊕ z) (sym (xor_self y)) ∙ sym (xor_assoc x y y) ∙ ap (λ (z : ℕ). z ⊕ y) none ∙ xor_zero_l y
+⊕-zero x y none =
+    sym (xor_zero_r x) ∙ ap (λ (z : ℕ). x ⊕ z) (sym (xor_self y)) ∙ sym (xor_assoc x y y)
+    ∙ ap (λ (z : ℕ). z ⊕ y) none ∙ xor_zero_l y
 
 -- nothing differs where nothing differed before and this pair is equal
 pub none_differs : (d x y : ℕ) → (bit_or d (x ⊕ y) ≡ 0) ↔ ((d ≡ 0) × (x ≡ y))
@@ -16,29 +20,36 @@ none_differs d x y = (
 )
 
 -- one item more is as its own
-pub map-step : (f : ℕ → ℕ) (xs : List ℕ) (i : ℕ) → i < length xs → (ys : List ℕ) → ys ≡ map f (take i xs) ++ drop i xs
+pub map-step : (f : ℕ → ℕ) (xs : List ℕ) (i : ℕ) → i < length xs → (ys : List ℕ)
+    → ys ≡ map f (take i xs) ++ drop i xs
     → slice_set ys i (f (slice_index_or ys i 0)) ≡ map f (take (suc i) xs) ++ drop (suc i) xs
 map-step f [] i in_xs ys e = absurd (omega arith)
 map-step f (x ∷ xs) zero in_xs ys e = rw e refl
-map-step f (x ∷ xs) (suc i) in_xs ys e = rw e (ap (λ zs. f x ∷ zs) (map-step f xs i (omega arith) _ refl))
+map-step f (x ∷ xs) (suc i) in_xs ys e =
+    rw e (ap (λ zs. f x ∷ zs) (map-step f xs i (omega arith) _ refl))
 
 pub xor_lists-none : (xs : List ℕ) → xor_lists xs [] ≡ xs
 xor_lists-none [] = refl
 xor_lists-none (x ∷ xs) = refl
 
 -- one item more of the second list
-pub xor_lists-step : (xs ys : List ℕ) (i : ℕ) → i < length xs → i < length ys → (zs : List ℕ) → zs ≡ xor_lists xs (take i ys)
-    → slice_set zs i (slice_index_or zs i 0 ⊕ slice_index_or ys i 0) ≡ xor_lists xs (take (suc i) ys)
+pub xor_lists-step : (xs ys : List ℕ) (i : ℕ) → i < length xs → i < length ys → (zs : List ℕ)
+    → zs ≡ xor_lists xs (take i ys)
+    → slice_set zs i (slice_index_or zs i 0 ⊕ slice_index_or ys i 0)
+    ≡ xor_lists xs (take (suc i) ys)
 xor_lists-step [] ys i in_xs in_ys zs e = absurd (omega arith)
 xor_lists-step (x ∷ xs) [] i in_xs in_ys zs e = absurd (omega arith)
-xor_lists-step (x ∷ xs) (y ∷ ys) zero in_xs in_ys zs e = rw e (ap (λ ws. (x ⊕ y) ∷ ws) (sym (xor_lists-none xs)))
+xor_lists-step (x ∷ xs) (y ∷ ys) zero in_xs in_ys zs e =
+    rw e (ap (λ ws. (x ⊕ y) ∷ ws) (sym (xor_lists-none xs)))
 xor_lists-step (x ∷ xs) (y ∷ ys) (suc i) in_xs in_ys zs e =
     rw e (ap (λ ws. (x ⊕ y) ∷ ws) (xor_lists-step xs ys i (omega arith) (omega arith) _ refl))
 
 -- what stands past the shorter of the lists changes nothing
-pub xor_lists-take : (xs ys : List ℕ) (n : ℕ) → min (length xs) (length ys) ≤ n → xor_lists xs (take n ys) ≡ xor_lists xs ys
+pub xor_lists-take : (xs ys : List ℕ) (n : ℕ) → min (length xs) (length ys) ≤ n
+    → xor_lists xs (take n ys) ≡ xor_lists xs ys
 xor_lists-take [] ys n enough = refl
 xor_lists-take (x ∷ xs) [] zero enough = refl
 xor_lists-take (x ∷ xs) [] (suc n) enough = refl
 xor_lists-take (x ∷ xs) (y ∷ ys) zero enough = absurd (omega arith)
-xor_lists-take (x ∷ xs) (y ∷ ys) (suc n) enough = ap (λ zs. (x ⊕ y) ∷ zs) (xor_lists-take xs ys n (omega arith))
+xor_lists-take (x ∷ xs) (y ∷ ys) (suc n) enough =
+    ap (λ zs. (x ⊕ y) ∷ zs) (xor_lists-take xs ys n (omega arith))

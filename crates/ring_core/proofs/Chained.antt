@@ -1,10 +1,12 @@
 -- How the words after chunks follow a list as it grows.
-use Rattle.std.proofs.Common.{◌≡◌, ℕ, zero, suc, ◌+◌, ◌*◌, ◌≤◌, List, ◌++◌, length, take, drop, refl, arith, length-drop, add-zero, add-one}
+use Rattle.std.proofs.Common.{◌≡◌, ℕ, zero, suc, ◌+◌, ◌*◌, ◌≤◌, List, ◌++◌, length, take, drop}
+use Rattle.std.proofs.Common.{refl, arith, length-drop, add-zero, add-one}
 use Rattle.std.proofs.lemmas.List.{take-append-le, drop-append-le, drop_at, drop-drop}
 use Rattle.ring_core.specs.Chunks.{chained, chunk_at}
 
 -- no chunk
-pub chained-none : (step : List ℕ → List ℕ → List ℕ) (n : ℕ) (h p : List ℕ) → chained step n h p 0 ≡ h
+pub chained-none : (step : List ℕ → List ℕ → List ℕ) (n : ℕ) (h p : List ℕ)
+    → chained step n h p 0 ≡ h
 unfolding chained
 chained-none step n h p = refl
 
@@ -15,7 +17,8 @@ unfolding chained
 chained-next step n h p k = rw add-one refl
 
 -- only the chunks that are counted matter
-pub chained-append : (step : List ℕ → List ℕ → List ℕ) (n : ℕ) (h p x : List ℕ) (k : ℕ) → k * n ≤ length p
+pub chained-append : (step : List ℕ → List ℕ → List ℕ) (n : ℕ) (h p x : List ℕ) (k : ℕ)
+    → k * n ≤ length p
     → chained step n h (p ++ x) k ≡ chained step n h p k
 unfolding chained
 chained-append step n h p x zero fits = refl
@@ -27,7 +30,8 @@ chained-append step n h p x (suc k) fits =
     rw (chunk, chained-append step n h p x k (omega arith)) refl
 
 -- the chunks of one list and then those of another are the chunks of both
-pub chained-then : (step : List ℕ → List ℕ → List ℕ) (n : ℕ) (h p x : List ℕ) (j k : ℕ) → length p ≡ j * n
+pub chained-then : (step : List ℕ → List ℕ → List ℕ) (n : ℕ) (h p x : List ℕ) (j k : ℕ)
+    → length p ≡ j * n
     → chained step n h (p ++ x) (j + k) ≡ chained step n (chained step n h p j) x k
 unfolding chained
 chained-then step n h p x j zero len = rw add-zero (chained-append step n h p x j (omega arith))
@@ -40,7 +44,8 @@ chained-then step n h p x j (suc k) len =
 
 -- the number of words stays
 pub length-chained : (step : List ℕ → List ℕ → List ℕ) (n w k : ℕ) (h p : List ℕ)
-    → ((x y : List ℕ) → length x ≡ w → length (step x y) ≡ w) → length h ≡ w → length (chained step n h p k) ≡ w
+    → ((x y : List ℕ) → length x ≡ w → length (step x y) ≡ w) → length h ≡ w
+    → length (chained step n h p k) ≡ w
 unfolding chained
 length-chained step n w zero h p keeps len = len
 length-chained step n w (suc k) h p keeps len = keeps _ _ (length-chained step n w k h p keeps len)

@@ -1,5 +1,6 @@
 -- How rises of a meter add up.
-use Rattle.std.proofs.Common.{◌≡◌, ◌≢◌, ℕ, ◌+◌, ◌-◌, ◌^◌, ◌<◌, ◌==◌, true, false, refl, ap, arith, rules, min}
+use Rattle.std.proofs.Common.{◌≡◌, ◌≢◌, ℕ, ◌+◌, ◌-◌, ◌^◌, ◌<◌, ◌==◌, true, false, refl, ap, arith}
+use Rattle.std.proofs.Common.{rules, min}
 use Rattle.ring_core.specs.Cost.{Counts, compared_pairs, raised_count, raised}
 
 raised_count-none : (n : ℕ) → n ≡ raised_count n 0
@@ -9,7 +10,9 @@ raised_count-more : (n a b : ℕ) → raised_count (raised_count n a) b ≡ rais
 raised_count-more n a b = omega arith
 
 -- counts that are each raised
-pub raised_from : (c d : Counts) (blocks pairs : ℕ) → d.blocks ≡ raised_count c.blocks blocks → d.byte_pairs ≡ raised_count c.byte_pairs pairs → d ≡ raised c blocks pairs
+pub raised_from : (c d : Counts) (blocks pairs : ℕ)
+    → d.blocks ≡ raised_count c.blocks blocks → d.byte_pairs ≡ raised_count c.byte_pairs pairs
+    → d ≡ raised c blocks pairs
 unfolding raised
 raised_from c d blocks pairs b p = rw (← b, ← p) refl
 
@@ -26,14 +29,16 @@ unfolding raised
 raised_byte_pairs c a p = refl
 
 -- one rise after another
-pub raised-raised : (c : Counts) (a p b q : ℕ) → raised (raised c a p) b q ≡ raised c (a + b) (p + q)
+pub raised-raised : (c : Counts) (a p b q : ℕ)
+    → raised (raised c a p) b q ≡ raised c (a + b) (p + q)
 raised-raised c a p b q =
     raised_from c (raised (raised c a p) b q) (a + b) (p + q)
     (rw (raised_blocks (raised c a p) b q, raised_blocks c a p, raised_count-more) refl)
     (rw (raised_byte_pairs (raised c a p) b q, raised_byte_pairs c a p, raised_count-more) refl)
 
 -- a meter that was raised by so many blocks shows as many more, where it has room for them
-pub counted : (m0 m1 : Counts) (blocks pairs : ℕ) → m1 ≡ raised m0 blocks pairs → m0.blocks + blocks < 2 ^ 128
+pub counted : (m0 m1 : Counts) (blocks pairs : ℕ) → m1 ≡ raised m0 blocks pairs
+    → m0.blocks + blocks < 2 ^ 128
     → m1.blocks ≡ m0.blocks + blocks
 unfolding raised
 counted m0 m1 blocks pairs e fits = let same = ap (λ (c : Counts). c.blocks) e in omega arith
@@ -43,7 +48,8 @@ abbrev pub IsNew : Counts → Type 0
 IsNew c = c ≡ record { blocks = 0; byte_pairs = 0 }
 
 -- the blocks that a new meter was raised by
-pub counted_new : (m0 m1 : Counts) (blocks pairs : ℕ) → IsNew m0 → m1 ≡ raised m0 blocks pairs → blocks < 2 ^ 128
+pub counted_new : (m0 m1 : Counts) (blocks pairs : ℕ) → IsNew m0 → m1 ≡ raised m0 blocks pairs
+    → blocks < 2 ^ 128
     → m1.blocks ≡ blocks
 counted_new m0 m1 blocks pairs none e fits =
     let first = ap (λ (c : Counts). c.blocks) none in
@@ -59,5 +65,6 @@ pub compared_pairs-none : (m n : ℕ) → m ≢ n → compared_pairs m n ≡ 0
 compared_pairs-none m n differ = let e : (m == n) ≡ false = search (rules, differ) in rw e refl
 
 -- of a count that a meter can show, the rise is the sum cut off at 2 ^ 128 - 1
-pub raised_count-cut_off : (count n : ℕ) → count < 2 ^ 128 → raised_count count n ≡ min (count + n) (2 ^ 128 - 1)
+pub raised_count-cut_off : (count n : ℕ) → count < 2 ^ 128
+    → raised_count count n ≡ min (count + n) (2 ^ 128 - 1)
 raised_count-cut_off count n fits = omega arith

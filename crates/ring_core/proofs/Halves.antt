@@ -1,5 +1,6 @@
 -- Numbers of 64 bits as halves of 32, by their bytes.
-use Rattle.std.proofs.Common.{◌≡◌, ℕ, zero, suc, ◌+◌, ◌*◌, ◌/◌, ◌%◌, ◌^◌, ◌<◌, List, [], ◌∷◌, length, slice_index, map, refl, sym, ap, ◌∙◌, arith}
+use Rattle.std.proofs.Common.{◌≡◌, ℕ, zero, suc, ◌+◌, ◌*◌, ◌/◌, ◌%◌, ◌^◌, ◌<◌, List, [], ◌∷◌}
+use Rattle.std.proofs.Common.{length, slice_index, map, refl, sym, ap, ◌∙◌, arith}
 use Rattle.std.proofs.Math.Nat.{mod-eq_of_lt, mod-one, pow-suc, one-le-pow}
 use Rattle.std.proofs.lemmas.Nat.{xor_mod}
 use Rattle.std.proofs.Math.ListN.{get_or-map as get_or_default-map}

@@ -1,5 +1,6 @@
 -- Vectors of two lanes, and the order of sums in them.
-use Rattle.std.proofs.Common.{◌≡◌, ℕ, ◌+◌, ◌%◌, ◌^◌, ◌<◌, List, [], ◌∷◌, length, slice_index, map, refl, ap, arith}
+use Rattle.std.proofs.Common.{◌≡◌, ℕ, ◌+◌, ◌%◌, ◌^◌, ◌<◌, List, [], ◌∷◌, length, slice_index, map}
+use Rattle.std.proofs.Common.{refl, ap, arith}
 use Rattle.std.proofs.Math.Facts.{Fits-lt-pow}
 use Rattle.std.proofs.Math.Nat.{add-mod-mod, mod-add-mod}
 use Rattle.std.specs.Simd.Lanes.{Each1}
@@ -16,7 +17,14 @@ pub record TwoLanes (w : Width) (x : List ℕ) : Type 0 where
 
 -- what is known of each vector of two lanes
 pub two_lanes : {w : Width} (x : List ℕ) → (length x ≡ 2) × Each1 (Fits w) x → TwoLanes w x
-two_lanes (a ∷ b ∷ []) (two, fits) = record { first = a; second = b; are = refl; first_fits = Fits-lt-pow fits.0; second_fits = Fits-lt-pow fits.1.0 }
+two_lanes (a ∷ b ∷ []) (two, fits) =
+    record {
+      first = a;
+      second = b;
+      are = refl;
+      first_fits = Fits-lt-pow fits.0;
+      second_fits = Fits-lt-pow fits.1.0;
+    }
 two_lanes _ (two, fits) = absurd (omega arith)
 
 -- a function of each of two lanes
@@ -26,7 +34,8 @@ lanes_read f (a ∷ b ∷ []) two = refl
 lanes_read f _ two = absurd (omega arith)
 
 -- four numbers added from the last or from the first
-pub sum_from_last : (n a b c d : ℕ) → (a + (b + (c + d) % n) % n) % n ≡ (((a + b) % n + c) % n + d) % n
+pub sum_from_last : (n a b c d : ℕ)
+    → (a + (b + (c + d) % n) % n) % n ≡ (((a + b) % n + c) % n + d) % n
 sum_from_last n a b c d = simp (add-mod-mod, mod-add-mod) (ap (λ (x : ℕ). x % n) (omega arith))
 
 -- two numbers added to a third at once or in turn

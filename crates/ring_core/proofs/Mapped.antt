@@ -1,5 +1,6 @@
 -- The numbers of a list of words, read and written.
-use Rattle.std.proofs.Common.{◌≡◌, ℕ, ◌+◌, ◌<◌, List, [], ◌∷◌, length, slice_index, map, refl, sym, ap, ◌∙◌, arith, inl, inr, nat_lt, true}
+use Rattle.std.proofs.Common.{◌≡◌, ℕ, ◌+◌, ◌<◌, List, [], ◌∷◌, length, slice_index, map, refl, sym}
+use Rattle.std.proofs.Common.{ap, ◌∙◌, arith, inl, inr, nat_lt, true}
 use Rattle.std.proofs.lemmas.List.{get_or-map, get_or-set_same, get_or-set_other, map-set}
 use Rattle.std.proofs.lemmas.Bool.{cases_lt, ltb-true}
 use Rattle.std.proofs.Math.ListN.{get_or, set, length-map}
@@ -8,11 +9,13 @@ use Rattle.std.specs.declared.num.Wrapping.{Wrapping}
 use Rattle.ring_core.specs.Word.{word_32}
 
 -- the number of a word that was read from n of them
-pub value_read : {X : Type 0} (f : X → ℕ) (xs : List X) (n : ℕ) → length xs ≡ n → (i : ℕ) (x : X) → nat_lt i n ≡ true → f (get_or xs i x) ≡ slice_index (map f xs) i
+pub value_read : {X : Type 0} (f : X → ℕ) (xs : List X) (n : ℕ) → length xs ≡ n → (i : ℕ) (x : X)
+    → nat_lt i n ≡ true → f (get_or xs i x) ≡ slice_index (map f xs) i
 value_read f xs n len i x below = sym (get_or-map f xs i x 0 (rw len (ltb-true i n below)))
 
 -- the two words of a list, of which the numbers are known
-pub values_of_two : {X : Type 0} (f : X → ℕ) (xs : List X) (m n : ℕ) (x y : X) → length xs ≡ 2 → map f xs ≡ m ∷ n ∷ []
+pub values_of_two : {X : Type 0} (f : X → ℕ) (xs : List X) (m n : ℕ) (x y : X) → length xs ≡ 2
+    → map f xs ≡ m ∷ n ∷ []
     → (f (get_or xs 0 x) ≡ m) × (f (get_or xs 1 y) ≡ n)
 values_of_two f xs m n x y two are = (
   value_read f xs 2 two 0 x refl ∙ ap (λ (l : List ℕ). slice_index l 0) are,
@@ -20,7 +23,8 @@ values_of_two f xs m n x y two are = (
 )
 
 -- the same of 32-bit words
-pub word_read : (xs : List (Wrapping ℕ)) (i : ℕ) → word_32 (get_or xs i (record { 0 = 0 })) ≡ slice_index (map word_32 xs) i
+pub word_read : (xs : List (Wrapping ℕ)) (i : ℕ)
+    → word_32 (get_or xs i (record { 0 = 0 })) ≡ slice_index (map word_32 xs) i
 word_read xs i = sym (get_or_default-map word_32 xs i (record { 0 = 0 }))
 
 -- a list filled up to i, with one more word

@@ -1,9 +1,15 @@
--- Rotations, at each width: two shifts or'ed are the standard's, and so are two or three of them under exclusive or, one inside the other.
-use Rattle.std.proofs.Common.{◌≡◌, ℕ, suc, ◌+◌, ◌-◌, ◌*◌, ◌/◌, ◌%◌, ◌^◌, ◌<◌, ◌≤◌, inl, inr, bit_or, refl, sym, ap, ◌∙◌, arith, add_comm, mod-lt, pow_pos, mul-le-mul_right}
+-- Rotations, at each width: two shifts or'ed are the standard's, and so are two or three of them
+-- under exclusive or, one inside the other.
+use Rattle.std.proofs.Common.{◌≡◌, ℕ, suc, ◌+◌, ◌-◌, ◌*◌, ◌/◌, ◌%◌, ◌^◌, ◌<◌, ◌≤◌, inl, inr, bit_or}
+use Rattle.std.proofs.Common.{refl, sym, ap, ◌∙◌, arith, add_comm, mod-lt, pow_pos}
+use Rattle.std.proofs.Common.{mul-le-mul_right}
 use Rattle.std.proofs.lemmas.Bool.{cases_lt}
-use Rattle.std.proofs.lemmas.Nat.{div-add-mod', mod-mul-add, pow-add, shr-shr, shr_split, xor_lt, xor_mod, xor_shr}
-use Rattle.std.proofs.lemmas.Nat.Bits.{bit_at_cat_high, bit_at_cat_low, bit_at_xor, same_from_bits_below}
-use Rattle.std.proofs.Math.Nat.{add-mod_right, div-lt_iff_lt-mul, mod-add-mod, mod-eq_of_lt, mul-add-div_right, div-le_self}
+use Rattle.std.proofs.lemmas.Nat.{div-add-mod', mod-mul-add, pow-add, shr-shr, shr_split, xor_lt}
+use Rattle.std.proofs.lemmas.Nat.{xor_mod, xor_shr}
+use Rattle.std.proofs.lemmas.Nat.Bits.{bit_at_cat_high, bit_at_cat_low, bit_at_xor}
+use Rattle.std.proofs.lemmas.Nat.Bits.{same_from_bits_below}
+use Rattle.std.proofs.Math.Nat.{add-mod_right, div-lt_iff_lt-mul, mod-add-mod, mod-eq_of_lt}
+use Rattle.std.proofs.Math.Nat.{mul-add-div_right, div-le_self}
 use Rattle.std.specs.Int.Bits.{or_shifted_r, xor_assoc}
 use Rattle.std.specs.Int.{bit_at}
 use Rattle.ring_core.specs.Sha2.{three_rotations}
@@ -19,7 +25,8 @@ split_power w k le = let e : w ≡ w - k + k = omega arith in rw (← pow-add 2 
 -- the low k bits of n, moved up by j, leave room for j bits below j + k
 room : (n k j : ℕ) → n % 2 ^ k * 2 ^ j + 2 ^ j ≤ 2 ^ j * 2 ^ k
 room n k j =
-    let most : suc (n % 2 ^ k) * 2 ^ j ≤ 2 ^ k * 2 ^ j = mul-le-mul_right (2 ^ j) (mod-lt n (pow_pos k)) in
+    let most : suc (n % 2 ^ k) * 2 ^ j ≤ 2 ^ k * 2 ^ j =
+    mul-le-mul_right (2 ^ j) (mod-lt n (pow_pos k)) in
     grind (arith, most)
 
 -- of n moved up by j, only the low k bits of n are below j + k
@@ -27,7 +34,8 @@ moved_up : (n k j : ℕ) → n * 2 ^ j % (2 ^ j * 2 ^ k) ≡ n % 2 ^ k * 2 ^ j
 moved_up n k j =
     let high = n / 2 ^ k in
     let low = n % 2 ^ k in
-    let parts : n * 2 ^ j ≡ high * (2 ^ j * 2 ^ k) + low * 2 ^ j = grind (arith, div-add-mod' n (2 ^ k)) in
+    let parts : n * 2 ^ j ≡ high * (2 ^ j * 2 ^ k) + low * 2 ^ j =
+    grind (arith, div-add-mod' n (2 ^ k)) in
     rw parts (mod-mul-add high (2 ^ j * 2 ^ k) (low * 2 ^ j) (omega (arith, room n k j, pow_pos j)))
 
 high_lt : (w n k : ℕ) → k ≤ w → n < 2 ^ w → n / 2 ^ k < 2 ^ (w - k)
@@ -35,10 +43,15 @@ high_lt w n k le fits = (div-lt_iff_lt-mul (pow_pos k)).1 (rw (← split_power w
 
 pub or_of_shifts-rotr : (w n k : ℕ) → k ≤ w → n < 2 ^ w → or_of_shifts w n k ≡ rotr w k n
 or_of_shifts-rotr w n k le fits =
-    rw (split_power w k le, moved_up n k (w - k), or_shifted_r (n % 2 ^ k) (w - k) (n / 2 ^ k) (high_lt w n k le fits)) (omega arith)
+    rw (
+      split_power w k le,
+      moved_up n k (w - k),
+      or_shifted_r (n % 2 ^ k) (w - k) (n / 2 ^ k) (high_lt w n k le fits),
+    ) (omega arith)
 
 pub rotr-lt : (w n k : ℕ) → k ≤ w → n < 2 ^ w → rotr w k n < 2 ^ w
-rotr-lt w n k le fits = rw (split_power w k le) (omega (arith, room n k (w - k), high_lt w n k le fits))
+rotr-lt w n k le fits =
+    rw (split_power w k le) (omega (arith, room n k (w - k), high_lt w n k le fits))
 
 -- the library's rotation in a word of w bits, as it computes there
 pub rotate_right-rotr : (w n k : ℕ) → 1 ≤ k → k < w → n < 2 ^ w
@@ -46,10 +59,12 @@ pub rotate_right-rotr : (w n k : ℕ) → 1 ≤ k → k < w → n < 2 ^ w
 rotate_right-rotr w n k positive below fits =
     let left : (w - k) % w ≡ w - k = mod-eq_of_lt (omega arith) in
     let turned : or_of_shifts w n k ≡ rotr w k n = or_of_shifts-rotr w n k (omega arith) fits in
-    rw (mod-eq_of_lt below, left, turned, mod-eq_of_lt fits) (mod-eq_of_lt (rotr-lt w n k (omega arith) fits))
+    rw (mod-eq_of_lt below, left, turned, mod-eq_of_lt fits)
+    (mod-eq_of_lt (rotr-lt w n k (omega arith) fits))
 
 -- bit i of a word of w bits rotated right by k is its bit i + k, counted round
-bit_at-rotr : (w k n i : ℕ) → k ≤ w → n < 2 ^ w → i < w → bit_at (rotr w k n) i ≡ bit_at n ((i + k) % w)
+bit_at-rotr : (w k n i : ℕ) → k ≤ w → n < 2 ^ w → i < w
+    → bit_at (rotr w k n) i ≡ bit_at n ((i + k) % w)
 bit_at-rotr w k n i le fits within =
     let high = n / 2 ^ k in
     let low = n % 2 ^ k in
@@ -57,10 +72,13 @@ bit_at-rotr w k n i le fits within =
     ∙ (elim (cases_lt i (w - k)) [
       | inl lt ↦
           let up : k + i ≡ (i + k) % w = add_comm k i ∙ sym (mod-eq_of_lt (omega arith)) in
-          bit_at_cat_low low (w - k) high i lt ∙ ap (λ (m : ℕ). m % 2) (shr-shr n k i) ∙ ap (bit_at n) up
+          bit_at_cat_low low (w - k) high i lt ∙ ap (λ (m : ℕ). m % 2) (shr-shr n k i)
+          ∙ ap (bit_at n) up
       | inr ge ↦
           let j = i - (w - k) in
-          let round : j ≡ (i + k) % w = sym (ap (λ (m : ℕ). m % w) (omega arith) ∙ add-mod_right j w ∙ mod-eq_of_lt (omega arith)) in
+          let round : j ≡ (i + k) % w =
+          sym (ap (λ (m : ℕ). m % w) (omega arith) ∙ add-mod_right j w
+          ∙ mod-eq_of_lt (omega arith)) in
           bit_at_cat_high low (w - k) high i (high_lt w n k le fits) ge
           ∙ sym (bit_at_cat_low high k low j (omega arith))
           ∙ ap (λ (m : ℕ). bit_at m j) (shr_split n k) ∙ ap (bit_at n) round
@@ -74,10 +92,14 @@ rotr-inside w a b x y ab bw x_fits y_fits =
     let inner_fits : inner < 2 ^ w = rotr-lt w y (b - a) (omega arith) y_fits in
     let sum_fits : x ⊕ inner < 2 ^ w = xor_lt w x inner x_fits inner_fits in
     let left : rotr w a (x ⊕ inner) < 2 ^ w = rotr-lt w (x ⊕ inner) a (omega arith) sum_fits in
-    let right : rotr w a x ⊕ rotr w b y < 2 ^ w = xor_lt w (rotr w a x) (rotr w b y) (rotr-lt w x a (omega arith) x_fits) (rotr-lt w y b bw y_fits) in
+    let x_turned : rotr w a x < 2 ^ w = rotr-lt w x a (omega arith) x_fits in
+    let y_turned : rotr w b y < 2 ^ w = rotr-lt w y b bw y_fits in
+    let right : rotr w a x ⊕ rotr w b y < 2 ^ w =
+    xor_lt w (rotr w a x) (rotr w b y) x_turned y_turned in
     same_from_bits_below w _ _ left right (λ i within.
     let j = (i + a) % w in
-    let round : (j + (b - a)) % w ≡ (i + b) % w = mod-add-mod (i + a) w (b - a) ∙ ap (λ (m : ℕ). m % w) (omega arith) in
+    let round : (j + (b - a)) % w ≡ (i + b) % w =
+    mod-add-mod (i + a) w (b - a) ∙ ap (λ (m : ℕ). m % w) (omega arith) in
     rw (
       bit_at-rotr w a (x ⊕ inner) i (omega arith) sum_fits within,
       bit_at_xor x inner j,
@@ -89,7 +111,8 @@ rotr-inside w a b x y ab bw x_fits y_fits =
     ) refl)
 
 -- two rotations of a word, one inside the other
-pub rotr-two : (w a b x : ℕ) → a ≤ b → b ≤ w → x < 2 ^ w → rotr w a (x ⊕ rotr w (b - a) x) ≡ rotr w a x ⊕ rotr w b x
+pub rotr-two : (w a b x : ℕ) → a ≤ b → b ≤ w → x < 2 ^ w
+    → rotr w a (x ⊕ rotr w (b - a) x) ≡ rotr w a x ⊕ rotr w b x
 rotr-two w a b x ab bw fits = rotr-inside w a b x x ab bw fits fits
 
 -- three rotations of a word, one inside the other

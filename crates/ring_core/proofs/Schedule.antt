@@ -1,6 +1,9 @@
 -- Words that each follow from those before them.
-use Rattle.std.proofs.Common.{◌≡◌, ◌≢◌, ℕ, zero, suc, ◌+◌, ◌%◌, ◌<◌, ◌≤◌, List, [], ◌∷◌, length, slice_index, map, refl, sym, ap, ◌∙◌, arith, inl, inr}
-use Rattle.std.proofs.lemmas.List.{get_or-map, get_or-set_other, get_or-set_same, get_or_append_left, get_or_push, length-set, length_push, map-set}
+use Rattle.std.proofs.Common.{◌≡◌, ◌≢◌, ℕ, zero, suc, ◌+◌, ◌%◌, ◌<◌, ◌≤◌, List, [], ◌∷◌, length}
+use Rattle.std.proofs.Common.{slice_index, map, refl, sym, ap, ◌∙◌, arith, inl, inr}
+use Rattle.std.proofs.lemmas.List.{get_or-map, get_or-set_other, get_or-set_same}
+use Rattle.std.proofs.lemmas.List.{get_or_append_left, get_or_push, length-set, length_push}
+use Rattle.std.proofs.lemmas.List.{map-set}
 use Rattle.std.proofs.lemmas.Bool.{cases_lt}
 use Rattle.std.proofs.Math.ListN.{get_or, length-map, set}
 use Rattle.ring_core.specs.Schedule.{IsRing, listed, listed_at}
@@ -8,16 +11,19 @@ use Rattle.ring_core.specs.Schedule.{IsRing, listed, listed_at}
 length-listed : (next : List ℕ → ℕ → ℕ) (n : ℕ) → length (listed next n) ≡ n
 unfolding listed
 length-listed next zero = refl
-length-listed next (suc n) = omega (arith, length_push (listed next n) (next (listed next n) n), length-listed next n)
+length-listed next (suc n) =
+    omega (arith, length_push (listed next n) (next (listed next n) n), length-listed next n)
 
 -- a longer list begins as a shorter one
-pub slice_index-listed : (next : List ℕ → ℕ → ℕ) (n t : ℕ) → t < n → slice_index (listed next n) t ≡ listed_at next t
+pub slice_index-listed : (next : List ℕ → ℕ → ℕ) (n t : ℕ) → t < n
+    → slice_index (listed next n) t ≡ listed_at next t
 unfolding listed listed_at
 slice_index-listed next zero t h = absurd (omega arith)
 slice_index-listed next (suc n) t h = elim (cases_lt t n) [
   | inl lt ↦
       let l : t < length (listed next n) = omega (arith, length-listed next n) in
-      get_or_append_left (listed next n) (next (listed next n) n ∷ []) 0 t l ∙ slice_index-listed next n t lt
+      get_or_append_left (listed next n) (next (listed next n) n ∷ []) 0 t l
+      ∙ slice_index-listed next n t lt
   | inr ge ↦
       let e : t ≡ n = omega arith in
       rw e refl
@@ -26,33 +32,39 @@ slice_index-listed next (suc n) t h = elim (cases_lt t n) [
 -- a word, from those before it
 pub listed_at-next : (next : List ℕ → ℕ → ℕ) (t : ℕ) → listed_at next t ≡ next (listed next t) t
 unfolding listed listed_at
-listed_at-next next t = get_or_push (listed next t) (next (listed next t) t) 0 t (length-listed next t)
+listed_at-next next t =
+    get_or_push (listed next t) (next (listed next t) t) 0 t (length-listed next t)
 
 -- a ring holds what equals its words
-pub ring-same : (w x : ℕ → ℕ) (ring : List ℕ) (t : ℕ) → IsRing w ring t → ((k : ℕ) → k < t → w k ≡ x k) → IsRing x ring t
+pub ring-same : (w x : ℕ → ℕ) (ring : List ℕ) (t : ℕ) → IsRing w ring t
+    → ((k : ℕ) → k < t → w k ≡ x k) → IsRing x ring t
 ring-same w x ring t ready same = record {
   sixteen = ready.sixteen;
   held = λ k below near. ready.held k below near ∙ same k below;
 }
 
 -- the word in a slot
-pub ring-read : {X : Type 0} (f : X → ℕ) (w : ℕ → ℕ) (ring : List X) (n slot t : ℕ) (x : X) → IsRing w (map f ring) n
-    → slot ≡ t % 16 → t < n → n ≤ t + 16 → f (get_or ring slot x) ≡ w t
+pub ring-read : {X : Type 0} (f : X → ℕ) (w : ℕ → ℕ) (ring : List X) (n slot t : ℕ) (x : X)
+    → IsRing w (map f ring) n → slot ≡ t % 16 → t < n → n ≤ t + 16
+    → f (get_or ring slot x) ≡ w t
 ring-read f w ring n slot t x ready place below near =
     let room : slot < length ring = omega (arith, ready.sixteen, length-map ring f) in
-    sym (get_or-map f ring slot x 0 room) ∙ ap (slice_index (map f ring)) place ∙ ready.held t below near
+    sym (get_or-map f ring slot x 0 room) ∙ ap (slice_index (map f ring)) place
+    ∙ ready.held t below near
 
 -- one word more, in the slot of the oldest
-pub ring-set : {X : Type 0} (f : X → ℕ) (w : ℕ → ℕ) (ring : List X) (t slot : ℕ) (x : X) → IsRing w (map f ring) t
-    → slot ≡ t % 16 → f x ≡ w t → IsRing w (map f (set ring slot x)) (t + 1)
-ring-set f w ring t slot x ready place word =
+pub ring-set : {X : Type 0} {t : ℕ} (f : X → ℕ) (w : ℕ → ℕ) (ring : List X) (slot : ℕ) (x : X)
+    → IsRing w (map f ring) t → slot ≡ t % 16 → f x ≡ w t
+    → IsRing w (map f (set ring slot x)) (t + 1)
+ring-set {t} f w ring slot x ready place word =
     rw (map-set f ring slot x) (record {
       sixteen = length-set (map f ring) slot (f x) ∙ ready.sixteen;
       held =
           λ k below near. elim (cases_lt k t) [
             | inl lt ↦
                 let other : k % 16 ≢ slot = omega arith in
-                get_or-set_other (map f ring) slot (k % 16) (f x) 0 other ∙ ready.held k lt (omega arith)
+                get_or-set_other (map f ring) slot (k % 16) (f x) 0 other
+                ∙ ready.held k lt (omega arith)
             | inr ge ↦
                 let last : k ≡ t = omega arith in
                 let room : slot < length (map f ring) = omega (arith, ready.sixteen) in

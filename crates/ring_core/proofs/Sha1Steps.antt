@@ -1,5 +1,6 @@
 -- The steps of SHA-1's definitions.
-use Rattle.std.proofs.Common.{◌≡◌, ℕ, ◌+◌, ◌-◌, ◌<◌, ◌≤◌, List, [], ◌∷◌, length, slice_index, refl, ap, ◌∙◌, add-one, arith, nat_lt, true, false}
+use Rattle.std.proofs.Common.{◌≡◌, ℕ, ◌+◌, ◌-◌, ◌<◌, ◌≤◌, List, [], ◌∷◌, length, slice_index, refl}
+use Rattle.std.proofs.Common.{ap, ◌∙◌, add-one, arith, nat_lt, true, false}
 use Rattle.ring_core.specs.Schedule.{listed}
 use Rattle.ring_core.specs.Sha1.{W, add_state, block_step, next_word, round, rounds_from, scheduled}
 use Rattle.ring_core.specs.Word.{word_at}
@@ -16,7 +17,8 @@ before b t k h = slice_index-listed (next_word b) t k h
 pub W-first : (b : List ℕ) (t : ℕ) → t < 16 → W b t ≡ word_at 32 b t
 W-first b t h = let e : nat_lt t 16 ≡ true = search arith in W-next_word b t ∙ rw e refl
 
-pub W-next : (b : List ℕ) (t : ℕ) → 16 ≤ t → W b t ≡ scheduled (W b (t - 3)) (W b (t - 8)) (W b (t - 14)) (W b (t - 16))
+pub W-next : (b : List ℕ) (t : ℕ) → 16 ≤ t
+    → W b t ≡ scheduled (W b (t - 3)) (W b (t - 8)) (W b (t - 14)) (W b (t - 16))
 W-next b t h =
     let e : nat_lt t 16 ≡ false = search arith in
     W-next_word b t
@@ -40,7 +42,8 @@ W-next_two b t h =
     let sixteen : t - 16 + 1 ≡ t + 1 - 16 = omega arith in
     rw (three, eight, fourteen, sixteen, ← W-next b t h, ← W-next b (t + 1) (omega arith)) refl
 
-pub rounds-next : (h b : List ℕ) (t : ℕ) → rounds_from h b (t + 1) ≡ round (rounds_from h b t) t (W b t)
+pub rounds-next : (h b : List ℕ) (t : ℕ)
+    → rounds_from h b (t + 1) ≡ round (rounds_from h b t) t (W b t)
 unfolding rounds_from
 rounds-next h b t = rw add-one refl
 

@@ -1,15 +1,20 @@
 -- The steps of SHA-2's definitions.
-use Rattle.std.proofs.Common.{◌≡◌, ◌⊎◌, ℕ, ◌+◌, ◌-◌, ◌*◌, ◌/◌, ◌<◌, ◌≤◌, List, [], ◌∷◌, length, slice_index, refl, ap, ◌∙◌, add-one, arith, inl, inr, nat_lt, true, false}
+use Rattle.std.proofs.Common.{◌≡◌, ◌⊎◌, ℕ, ◌+◌, ◌-◌, ◌*◌, ◌/◌, ◌<◌, ◌≤◌, List, [], ◌∷◌, length}
+use Rattle.std.proofs.Common.{slice_index, refl, ap, ◌∙◌, add-one, arith, inl, inr, nat_lt, true}
+use Rattle.std.proofs.Common.{false}
 use Rattle.ring_core.specs.Schedule.{listed}
-use Rattle.ring_core.specs.Sha2.{Family, W, add_state, block_step, family_256, family_512, next_word, round, rounds_from, scheduled}
+use Rattle.ring_core.specs.Sha2.{Family, W, add_state, block_step, family_256, family_512}
+use Rattle.ring_core.specs.Sha2.{next_word, round, rounds_from, scheduled}
 use Rattle.ring_core.specs.Word.{word_at}
 use Rattle.ring_core.proofs.Schedule.{listed_at-next, slice_index-listed}
 
-W-next_word : (f : Family) (b : List ℕ) (t : ℕ) → W f b t ≡ next_word f b (listed (next_word f b) t) t
+W-next_word : (f : Family) (b : List ℕ) (t : ℕ)
+    → W f b t ≡ next_word f b (listed (next_word f b) t) t
 unfolding W
 W-next_word f b t = listed_at-next (next_word f b) t
 
-before : (f : Family) (b : List ℕ) (t k : ℕ) → k < t → slice_index (listed (next_word f b) t) k ≡ W f b k
+before : (f : Family) (b : List ℕ) (t k : ℕ) → k < t
+    → slice_index (listed (next_word f b) t) k ≡ W f b k
 unfolding W
 before f b t k h = slice_index-listed (next_word f b) t k h
 
@@ -32,7 +37,8 @@ W-next f b t h =
 -- a word and the next, each from the words before it
 pub W-next_two : (f : Family) (b : List ℕ) (t : ℕ) → 16 ≤ t
     → scheduled f (W f b (t - 2)) (W f b (t - 7)) (W f b (t - 15)) (W f b (t - 16))
-    ∷ scheduled f (W f b (t - 2 + 1)) (W f b (t - 7 + 1)) (W f b (t - 15 + 1)) (W f b (t - 16 + 1)) ∷ []
+    ∷ scheduled f (W f b (t - 2 + 1)) (W f b (t - 7 + 1)) (W f b (t - 15 + 1)) (W f b (t - 16 + 1))
+    ∷ []
     ≡ W f b t ∷ W f b (t + 1) ∷ []
 W-next_two f b t h =
     let two : t - 2 + 1 ≡ t + 1 - 2 = omega arith in
@@ -42,16 +48,21 @@ W-next_two f b t h =
     rw (two, seven, fifteen, sixteen, ← W-next f b t h, ← W-next f b (t + 1) (omega arith)) refl
 
 pub rounds-next : (f : Family) (h b : List ℕ) (t : ℕ)
-    → rounds_from f h b (t + 1) ≡ round f (rounds_from f h b t) (slice_index f.constants t) (W f b t)
+    → rounds_from f h b (t + 1)
+    ≡ round f (rounds_from f h b t) (slice_index f.constants t) (W f b t)
 unfolding rounds_from
 rounds-next f h b t = rw add-one refl
 
 -- the rounds come in whole turns of sixteen
-pub rounds-turns : (f : Family) → (f ≡ family_256) ⊎ (f ≡ family_512) → (1 ≤ f.rounds / 16) × (16 * (f.rounds / 16) ≡ f.rounds)
-rounds-turns f (inl e) = let r : f.rounds ≡ 64 = ap (λ (x : Family). x.rounds) e in (omega arith, omega arith)
-rounds-turns f (inr e) = let r : f.rounds ≡ 80 = ap (λ (x : Family). x.rounds) e in (omega arith, omega arith)
+pub rounds-turns : (f : Family) → (f ≡ family_256) ⊎ (f ≡ family_512)
+    → (1 ≤ f.rounds / 16) × (16 * (f.rounds / 16) ≡ f.rounds)
+rounds-turns f (inl e) =
+    let r : f.rounds ≡ 64 = ap (λ (x : Family). x.rounds) e in (omega arith, omega arith)
+rounds-turns f (inr e) =
+    let r : f.rounds ≡ 80 = ap (λ (x : Family). x.rounds) e in (omega arith, omega arith)
 
-pub block_step-rounds : (f : Family) (h b : List ℕ) → block_step f h b ≡ add_state f.bits h (rounds_from f h b f.rounds)
+pub block_step-rounds : (f : Family) (h b : List ℕ)
+    → block_step f h b ≡ add_state f.bits h (rounds_from f h b f.rounds)
 unfolding block_step
 block_step-rounds f h b = refl
 

@@ -1,5 +1,6 @@
 -- A schedule: words that each follow from those before it.
-use Rattle.std.specs.Prelude.{◌≡◌, ℕ, zero, suc, ◌+◌, ◌%◌, ◌<◌, ◌≤◌, List, [], ◌∷◌, ◌++◌, length, slice_index}
+use Rattle.std.specs.Prelude.{◌≡◌, ℕ, zero, suc, ◌+◌, ◌%◌, ◌<◌, ◌≤◌, List, [], ◌∷◌, ◌++◌, length}
+use Rattle.std.specs.Prelude.{slice_index}
 
 -- the list made by appending `next ws t` to the words ws before it, for t = 0, .., n - 1
 unfoldable pub listed : (List ℕ → ℕ → ℕ) → ℕ → List ℕ

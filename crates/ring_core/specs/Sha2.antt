@@ -1,5 +1,6 @@
 -- The block function of SHA-2 over the numbers of a family (FIPS 180-4, 6.2.2 and 6.4.2).
-use Rattle.std.specs.Prelude.{ℕ, zero, suc, ◌-◌, ◌*◌, ◌/◌, ◌%◌, ◌^◌, List, [], ◌∷◌, slice_index, nat_lt, if◌then◌else◌, map}
+use Rattle.std.specs.Prelude.{ℕ, zero, suc, ◌-◌, ◌*◌, ◌/◌, ◌%◌, ◌^◌, List, [], ◌∷◌, slice_index}
+use Rattle.std.specs.Prelude.{nat_lt, if◌then◌else◌, map}
 use Rattle.std.specs.declared.num.Wrapping.{Wrapping}
 use Rattle.ring_core.specs.Schedule.{listed_at}
 use Rattle.ring_core.specs.Chunks.{chained}

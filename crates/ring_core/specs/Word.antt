@@ -1,5 +1,6 @@
 -- Words of w bits as numbers below 2 ^ w, and their operations (FIPS 180-4, 3.2 and 4.1).
-use Rattle.std.specs.Prelude.{ℕ, ◌+◌, ◌-◌, ◌*◌, ◌/◌, ◌%◌, ◌^◌, List, [], ◌∷◌, bit_and, bit_xor, take, drop}
+use Rattle.std.specs.Prelude.{ℕ, ◌+◌, ◌-◌, ◌*◌, ◌/◌, ◌%◌, ◌^◌, List, [], ◌∷◌, bit_and, bit_xor}
+use Rattle.std.specs.Prelude.{take, drop}
 use Rattle.std.specs.declared.num.Wrapping.{Wrapping}
 use Rattle.std.specs.Int.Digits.{number_from_digits}
 

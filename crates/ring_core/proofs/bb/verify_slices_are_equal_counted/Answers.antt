@@ -1,19 +1,23 @@
-use Rattle.std.proofs.Common.{◌≡◌, ℕ, ◌+◌, List, length, take, slice_index_or, refl, sym, ap, ◌∙◌, arith}
+use Rattle.std.proofs.Common.{◌≡◌, ℕ, ◌+◌, List, length, take, slice_index_or, refl, sym, ap, ◌∙◌}
+use Rattle.std.proofs.Common.{arith}
 use Rattle.std.proofs.lemmas.List.{take-take, get_or-take, take_more_same}
 use Rattle.ring_core.proofs.Bytes.{none_differs}
 use Rattle.ring_core.proofs.Costs.{compared_pairs-none, raised-none, raised-raised}
 use Rattle.ring_core.proofs.bb.verify_slices_are_equal_counted.Goals as goal
 
 -- longer fronts are equal only where the shorter ones and the next items are
-fronts_before : (a b : List ℕ) (i : ℕ) → take (i + 1) a ≡ take (i + 1) b → (take i a ≡ take i b) × (slice_index_or a i 0 ≡ slice_index_or b i 0)
+fronts_before : (a b : List ℕ) (i : ℕ) → take (i + 1) a ≡ take (i + 1) b
+    → (take i a ≡ take i b) × (slice_index_or a i 0 ≡ slice_index_or b i 0)
 fronts_before a b i e = (
   sym (take-take i (i + 1) a (omega arith)) ∙ ap (take i) e ∙ take-take i (i + 1) b (omega arith),
-  sym (get_or-take (i + 1) a i 0 (omega arith)) ∙ ap (λ (z : List ℕ). slice_index_or z i 0) e ∙ get_or-take (i + 1) b i 0 (omega arith),
+  sym (get_or-take (i + 1) a i 0 (omega arith)) ∙ ap (λ (z : List ℕ). slice_index_or z i 0) e
+      ∙ get_or-take (i + 1) b i 0 (omega arith),
 )
 
 pub returns-then-a-b-clause-cost : goal.returns-then-a-b-clause-cost
 returns-then-a-b-clause-cost c =
-    rw (compared_pairs-none (length c.args.a.now) (length c.args.b.now) c.if-a-b.true) (raised-none _)
+    rw (compared_pairs-none (length c.args.a.now) (length c.args.b.now) c.if-a-b.true)
+    (raised-none _)
 
 pub pairs-init : goal.pairs-init
 pairs-init c = record { equal = (λ _. refl, λ _. refl); cost = raised-none _ }
@@ -26,7 +30,9 @@ pairs-preserved c =
     let step = none_differs c.pairs.difference (slice_index_or a i 0) (slice_index_or b i 0) in
     let before = c.pairs.invariant.equal in record {
       equal = (
-        λ none. take_more_same a b i 0 (omega arith) (omega arith) (before.0 (step.0 none).0) (step.0 none).1,
+        λ none.
+            let both = step.0 none in
+            take_more_same a b i 0 (omega arith) (omega arith) (before.0 both.0) both.1,
         λ same. step.1 (before.1 (fronts_before a b i same).0, (fronts_before a b i same).1),
       );
       cost = rw (c.add_byte_pair.ensures, c.pairs.invariant.cost) (raised-raised _ _ _ _ _);

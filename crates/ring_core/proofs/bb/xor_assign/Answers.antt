@@ -4,4 +4,7 @@ use Rattle.ring_core.specs.Word.{◌⊕◌}
 use Rattle.ring_core.proofs.bb.xor_assign.Goals as goal
 
 pub bytes-preserved : goal.bytes-preserved
-bytes-preserved c = rw add-one (map-step (λ x. x ⊕ c.args.b) c.args.a.now c.bytes.i c.bytes-test.true c.bytes.a c.bytes.invariant)
+bytes-preserved c =
+    rw add-one
+    (map-step (λ x. x ⊕ c.args.b) c.args.a.now c.bytes.i c.bytes-test.true c.bytes.a
+    c.bytes.invariant)

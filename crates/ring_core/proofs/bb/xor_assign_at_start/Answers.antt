@@ -8,7 +8,8 @@ pairs-init c = sym (xor_lists-none c.args.a.now)
 pub pairs-preserved : goal.pairs-preserved
 pairs-preserved c =
     rw add-one
-    (xor_lists-step c.args.a.now c.args.b.now c.pairs.i (omega arith) (omega arith) c.pairs.a c.pairs.invariant)
+    (xor_lists-step c.args.a.now c.args.b.now c.pairs.i (omega arith) (omega arith) c.pairs.a
+    c.pairs.invariant)
 
 pub returns : goal.returns
 returns c = c.pairs.invariant ∙ xor_lists-take c.args.a.now c.args.b.now c.pairs.i (omega arith)

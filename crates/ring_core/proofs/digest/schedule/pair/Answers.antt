@@ -1,4 +1,4 @@
-use Rattle.std.proofs.Common.{◌+◌, ◌%◌, refl, arith}
+use Rattle.std.proofs.Common.{◌+◌, ◌%◌, ◌<◌, refl, arith}
 use Rattle.ring_core.proofs.Schedule.{ring-read}
 use Rattle.ring_core.proofs.digest.schedule.pair.Goals as goal
 
@@ -6,7 +6,10 @@ pub returns : goal.returns
 returns g c = λ f w n t ready place below near.
     let ring = c.args.ring.now in
     let slot = c.args.slot in
+    let next = (slot + 1) % 16 in
+    let after : t + 1 < n = omega arith in
     rw (
       ring-read f w ring n slot t c.index-ring-slot.result ready place (omega arith) near,
-      ring-read f w ring n ((slot + 1) % 16) (t + 1) c.index-ring-slot-2.result ready (omega arith) (omega arith) (omega arith),
+      ring-read f w ring n next (t + 1) c.index-ring-slot-2.result ready (omega arith) after
+          (omega arith),
     ) refl

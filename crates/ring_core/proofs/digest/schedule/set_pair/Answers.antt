@@ -12,7 +12,9 @@ returns g c = λ f w t ready place are.
     let first = get_or words 0 c.index-words-0.result in
     let second = get_or words 1 c.index-words-1.result in
     let two : length words ≡ 2 = search rules in
-    let values = values_of_two f words (w t) (w (t + 1)) c.index-words-0.result c.index-words-1.result two are in
-    let more = ring-set f w ring t slot first ready place values.0 in
+    let values =
+    values_of_two f words (w t) (w (t + 1)) c.index-words-0.result c.index-words-1.result two are in
+    let more = ring-set f w ring slot first ready place values.0 in
     let e : t + 1 + 1 ≡ t + 2 = omega arith in
-    rw e at (ring-set f w (set ring slot first) (t + 1) ((slot + 1) % 16) second more (omega arith) values.1)
+    let next = (slot + 1) % 16 in
+    rw e at (ring-set f w (set ring slot first) next second more (omega arith) values.1)

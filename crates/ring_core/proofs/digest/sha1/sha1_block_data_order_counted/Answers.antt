@@ -12,9 +12,10 @@ each-init c = record { words = refl; rest = refl; cost = raised-none _ }
 
 pub each-preserved : goal.each-preserved
 each-preserved c =
-    let h = take 5 (map word_32 c.args.state.now) in record {
+    let h = take 5 (map word_32 c.args.state.now) in
+    let more = chained-next block_step 64 h c.args.blocks.items.now c.each.i in record {
       words =
-          rw (c.run_block.ensures.words, c.each.invariant.words, c.index.ensures) (sym (chained-next block_step 64 h c.args.blocks.items.now c.each.i));
+          rw (c.run_block.ensures.words, c.each.invariant.words, c.index.ensures) (sym more);
       rest = c.run_block.ensures.rest ∙ c.each.invariant.rest;
       cost = rw (c.add_block.ensures, c.each.invariant.cost) (raised-raised _ _ _ _ _);
     }

@@ -1,4 +1,5 @@
-use Rattle.std.proofs.Common.{◌≡◌, ◌+◌, [], ◌∷◌, length, slice_index, map, refl, sym, ◌∙◌, arith, rules}
+use Rattle.std.proofs.Common.{◌≡◌, ◌+◌, [], ◌∷◌, length, slice_index, map, refl, sym, ◌∙◌, arith}
+use Rattle.std.proofs.Common.{rules}
 use Rattle.ring_core.specs.Sha2.{W, rounds_from}
 use Rattle.ring_core.specs.Word.{add_words}
 use Rattle.ring_core.proofs.Mapped.{values_of_two}

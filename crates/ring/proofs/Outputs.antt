@@ -33,12 +33,12 @@ word_bytes-more : (n : ℕ) (ws : List ℕ) (i m : ℕ)
 word_bytes-more n ws i m = rw (take-add i m ws, flat_map-append) refl
 
 -- some words more written over the zeros
-pub output_more : (n : ℕ) (out ws ys : List ℕ) (i m j at k : ℕ)
+pub output_more : {out ys : List ℕ} {j at k : ℕ} (n : ℕ) (ws : List ℕ) (i m : ℕ)
     → out ≡ word_bytes n (take i ws) ++ replicate (64 - n * i) 0
     → i ≤ length ws → j ≡ i + m → at ≡ n * i → k ≡ n * m → n * i + n * m ≤ 64
     → ys ≡ word_bytes n (take m (drop i ws))
     → put_mid at k out ys ≡ word_bytes n (take j ws) ++ replicate (64 - n * j) 0
-output_more n out ws ys i m j at k e h ej ea ek fits ey =
+output_more {out} n ws i m e h ej ea ek fits ey =
     let front : List ℕ = word_bytes n (take i ws) in
     let zeros : List ℕ = replicate (64 - n * i) 0 in
     let len : length front ≡ n * i =

@@ -19,9 +19,9 @@ use Rattle.ring.proofs.Chains.{mul_whole, whole_div-add, short_div, whole_mul}
 use Rattle.ring.proofs.Rows.{block_len-positive}
 
 -- no block moved
-pub moved_none : (n : ℕ) (b : BlockContext) (x left : List ℕ) (m : Counts) → left ≡ x
+pub moved_none : {n : ℕ} {b : BlockContext} {x left : List ℕ} {m : Counts} → left ≡ x
     → HasMoved n b b x left m m
-moved_none n b x left m e =
+moved_none {n} {m = m} e =
     let none : 0 * n ≡ 0 = omega arith in
     record {
       blocks = 0;

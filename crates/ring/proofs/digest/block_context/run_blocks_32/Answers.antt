@@ -21,7 +21,7 @@ returns-then-is_sha1-clause-words c =
     let is : a ≡ SHA1_FOR_LEGACY_USE_ONLY =
     search (rules, c.if-is_sha1.ensures, c.if-is_sha1.true) in
     let row = sha1_row a.id (ap (λ (z : Algorithm). z.id) is) in
-    words_run a (As32 old) (As32 new) sha1.block_step 64 5 five (take 5 (words_32 new)) input row
+    words_run {old = five} {new = take 5 (words_32 new)} a (As32 old) (As32 new) input row
     (rw row.count_is refl) (rw row.count_is refl)
     (c.sha1_block_data_order_counted.ensures.words
     ∙ chained_chunks sha1.block_step 64 five input _ (lit< tt) c.as_chunks.ensures.front)
@@ -40,8 +40,7 @@ returns-else-is_sha1-clause-words c =
     let is : a ≡ SHA1_FOR_LEGACY_USE_ONLY = ap (λ (i : AlgorithmId). record { id = i }) e in
     search (rules, c.if-is_sha1.ensures.1 is)
     ) in
-    words_run_all a (As32 old) (As32 new) (block_step family_256) 64 (words_32 old) (words_32 new)
-    input (short_row a.id size other) refl refl old_len new_len
+    words_run_all a (As32 old) (As32 new) input (short_row a.id size other) old_len new_len
     (c.block_data_order_32_counted.ensures.words
     ∙ chained_chunks (block_step family_256) 64 (words_32 old) input _ (lit< tt)
     c.as_chunks.ensures.front)

@@ -15,8 +15,7 @@ returns-clause-words c = λ a sized.
     let old_len : length (words_64 old) ≡ 8 = rw length-map (search rules) in
     let new_len : length (words_64 new) ≡ 8 =
     rw length-map c.block_data_order_64_counted.array_long in
-    words_run_all a (As64 old) (As64 new) (block_step family_512) 128 (words_64 old) (words_64 new)
-    input (long_row a.id size) refl refl old_len new_len
+    words_run_all a (As64 old) (As64 new) input (long_row a.id size) old_len new_len
     (c.block_data_order_64_counted.ensures.words
     ∙ chained_chunks (block_step family_512) 128 (words_64 old) input _ (lit< tt)
     c.as_chunks.ensures.front)

@@ -12,5 +12,5 @@ pairs-preserved c =
     let eight : length (words_64 ws) ≡ 8 = rw length-map (search rules) in
     let bytes = c.copy_from_slice.ensures.after ∙ c.two_long_words-pair.ensures
     ∙ ap (word_bytes 8) (two_words 64 ws (2 * i) _ (omega arith)) in
-    output_more 8 c.pairs.out (words_64 ws) _ (2 * i) 2 (2 * (i + 1)) (16 * i) _ c.pairs.invariant
+    output_more {j = 2 * (i + 1)} 8 (words_64 ws) (2 * i) 2 c.pairs.invariant
     (omega arith) (omega arith) (omega arith) (omega arith) (omega arith) bytes

@@ -12,5 +12,5 @@ fours-preserved c =
     let eight : length (words_32 ws) ≡ 8 = rw length-map (search rules) in
     let bytes = c.copy_from_slice.ensures.after ∙ c.four_short_words-four.ensures
     ∙ ap (word_bytes 4) (four_words 32 ws (4 * i) _ (omega arith)) in
-    output_more 4 c.fours.out (words_32 ws) _ (4 * i) 4 (4 * (i + 1)) (16 * i) _ c.fours.invariant
+    output_more {j = 4 * (i + 1)} 4 (words_32 ws) (4 * i) 4 c.fours.invariant
     (omega arith) (omega arith) (omega arith) (omega arith) (omega arith) bytes

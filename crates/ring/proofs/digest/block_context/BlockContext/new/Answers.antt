@@ -3,4 +3,5 @@ use Rattle.ring.proofs.Chains.{HasTaken-nil}
 use Rattle.ring.proofs.digest.block_context.BlockContext.new.Goals as goal
 
 pub returns-clause-stands : goal.returns-clause-stands
-returns-clause-stands c = HasTaken-nil _ c.initial_state.ensures.words c.initial_state.ensures.spare refl
+returns-clause-stands c =
+    HasTaken-nil _ c.initial_state.ensures.words c.initial_state.ensures.spare refl

@@ -8,4 +8,5 @@ returns-clause-moved c =
     moved_front refl run.rest run.words run.spare c.saturating_add-self.ensures run.cost
 
 pub returns-clause-short : goal.returns-clause-short
-returns-clause-short c = left_short c.args.self.now.algorithm c.args.input.now _ c.run_blocks-rest.ensures.rest
+returns-clause-short c =
+    left_short c.args.self.now.algorithm c.args.input.now _ c.run_blocks-rest.ensures.rest

@@ -4,7 +4,7 @@ use Rattle.ring.proofs.Updating.{HasRoom, moved_fill, moved_none}
 use Rattle.ring.proofs.digest.context.Context.complete_pending.Goals as goal
 
 pub returns-then-self-eq0-clause-moved : goal.returns-then-self-eq0-clause-moved
-returns-then-self-eq0-clause-moved c = moved_none _ _ _ _ _ (rw c.if-self-eq0.true refl)
+returns-then-self-eq0-clause-moved c = moved_none (rw c.if-self-eq0.true refl)
 
 pub returns-clause-moved : goal.returns-clause-moved
 returns-clause-moved c =

@@ -1,51 +1,65 @@
 use Rattle.std.proofs.Common.{ℕ, ◌≤◌, length, refl, arith, ◌∙◌, ap}
 use Rattle.ring_core.specs.Cost.{raised}
 use Rattle.ring.proofs.Rows.{block_len-most}
-use Rattle.ring.proofs.Updating.{moved_none, moved_both, stands_moved, counted_moved, pending_moved, cost_moved, ahead_len, stands_blocks}
+use Rattle.ring.proofs.Updating.{moved_none, moved_both, stands_moved, counted_moved, pending_moved}
+use Rattle.ring.proofs.Updating.{cost_moved, ahead_len, stands_blocks}
 use Rattle.ring.proofs.digest.context.Context.update_counted.Goals as goal
 
 pub returns-then-input-room-clause-cost : goal.returns-then-input-room-clause-cost
 returns-then-input-room-clause-cost c =
-    let fits : c.args.self.now.num_pending ≤ length c.args.self.now.pending = omega (arith, block_len-most c.args.self.now.block.algorithm) in
-    cost_moved c.args.self.now c.args.input.now (moved_none _ _ _ _ c.args.meter.now refl)
+    let fits : c.args.self.now.num_pending ≤ length c.args.self.now.pending =
+    omega (arith, block_len-most c.args.self.now.block.algorithm) in
+    cost_moved c.args.self.now c.args.input.now (moved_none {m = c.args.meter.now} refl)
     fits (omega (arith, ahead_len c.args.self.now c.args.input.now fits))
 
 pub returns-then-input-room-clause-cost_of : goal.returns-then-input-room-clause-cost_of
 returns-then-input-room-clause-cost_of c = λ m h.
-    let fits : c.args.self.now.num_pending ≤ length c.args.self.now.pending = omega (arith, block_len-most c.args.self.now.block.algorithm) in
-    cost_moved c.args.self.now c.args.input.now (moved_none _ _ _ _ c.args.meter.now refl)
+    let fits : c.args.self.now.num_pending ≤ length c.args.self.now.pending =
+    omega (arith, block_len-most c.args.self.now.block.algorithm) in
+    cost_moved c.args.self.now c.args.input.now (moved_none {m = c.args.meter.now} refl)
     fits (omega (arith, ahead_len c.args.self.now c.args.input.now fits))
-    ∙ ap (λ (z : ℕ). raised c.args.meter.now z 0) (stands_blocks c.args.self.now m (length c.args.input.now) h fits)
+    ∙ ap (λ (z : ℕ). raised c.args.meter.now z 0)
+    (stands_blocks c.args.self.now m (length c.args.input.now) h fits)
 
 pub returns-clause-cost : goal.returns-clause-cost
 returns-clause-cost c =
-    let j = moved_both c.complete_pending-rest.ensures.moved c.update-leftover.ensures.moved c.keep-2.ensures.block in
-    cost_moved c.args.self.now c.args.input.now j
+    let completed = c.complete_pending-rest.ensures.moved in
+    let moved = moved_both completed c.update-leftover.ensures.moved c.keep-2.ensures.block in
+    cost_moved c.args.self.now c.args.input.now moved
     (omega (arith, block_len-most c.args.self.now.block.algorithm))
-    (rw c.complete_pending-rest.ensures.moved.algorithm at c.update-leftover.ensures.short)
+    (rw completed.algorithm at c.update-leftover.ensures.short)
 
 pub returns-clause-stands : goal.returns-clause-stands
 returns-clause-stands c =
-    let j = moved_both c.complete_pending-rest.ensures.moved c.update-leftover.ensures.moved c.keep-2.ensures.block in
-    stands_moved c.args.self.now _ c.args.input.now j (c.keep-2.ensures.pending ∙ rw c.complete_pending-rest.ensures.empty refl)
+    let completed = c.complete_pending-rest.ensures.moved in
+    let moved = moved_both completed c.update-leftover.ensures.moved c.keep-2.ensures.block in
+    stands_moved c.args.self.now _ c.args.input.now moved
+    (c.keep-2.ensures.pending ∙ rw c.complete_pending-rest.ensures.empty refl)
 
 pub returns-clause-counted : goal.returns-clause-counted
 returns-clause-counted c =
-    let j = moved_both c.complete_pending-rest.ensures.moved c.update-leftover.ensures.moved c.keep-2.ensures.block in
-    counted_moved c.args.self.now c.keep-2.new.self c.args.input.now j
-    (omega (arith, block_len-most c.args.self.now.block.algorithm)) (omega (arith, c.complete_pending-rest.ensures.empty, c.keep-2.ensures.count))
+    let completed = c.complete_pending-rest.ensures.moved in
+    let moved = moved_both completed c.update-leftover.ensures.moved c.keep-2.ensures.block in
+    counted_moved c.args.self.now c.keep-2.new.self c.args.input.now moved
+    (omega (arith, block_len-most c.args.self.now.block.algorithm))
+    (omega (arith, c.complete_pending-rest.ensures.empty, c.keep-2.ensures.count))
 
 pub returns-clause-pending : goal.returns-clause-pending
 returns-clause-pending c =
-    let j = moved_both c.complete_pending-rest.ensures.moved c.update-leftover.ensures.moved c.keep-2.ensures.block in
-    pending_moved c.args.self.now c.keep-2.new.self c.args.input.now j
-    (omega (arith, block_len-most c.args.self.now.block.algorithm)) (omega (arith, c.complete_pending-rest.ensures.empty, c.keep-2.ensures.count))
-    (rw c.complete_pending-rest.ensures.moved.algorithm at c.update-leftover.ensures.short)
+    let completed = c.complete_pending-rest.ensures.moved in
+    let moved = moved_both completed c.update-leftover.ensures.moved c.keep-2.ensures.block in
+    pending_moved c.args.self.now c.keep-2.new.self c.args.input.now moved
+    (omega (arith, block_len-most c.args.self.now.block.algorithm))
+    (omega (arith, c.complete_pending-rest.ensures.empty, c.keep-2.ensures.count))
+    (rw completed.algorithm at c.update-leftover.ensures.short)
 
 pub returns-clause-cost_of : goal.returns-clause-cost_of
 returns-clause-cost_of c = λ m h.
-    let fits : c.args.self.now.num_pending ≤ length c.args.self.now.pending = omega (arith, block_len-most c.args.self.now.block.algorithm) in
-    let j = moved_both c.complete_pending-rest.ensures.moved c.update-leftover.ensures.moved c.keep-2.ensures.block in
-    cost_moved c.args.self.now c.args.input.now j fits
-    (rw c.complete_pending-rest.ensures.moved.algorithm at c.update-leftover.ensures.short)
-    ∙ ap (λ (z : ℕ). raised c.args.meter.now z 0) (stands_blocks c.args.self.now m (length c.args.input.now) h fits)
+    let fits : c.args.self.now.num_pending ≤ length c.args.self.now.pending =
+    omega (arith, block_len-most c.args.self.now.block.algorithm) in
+    let completed = c.complete_pending-rest.ensures.moved in
+    let moved = moved_both completed c.update-leftover.ensures.moved c.keep-2.ensures.block in
+    cost_moved c.args.self.now c.args.input.now moved fits
+    (rw completed.algorithm at c.update-leftover.ensures.short)
+    ∙ ap (λ (z : ℕ). raised c.args.meter.now z 0)
+    (stands_blocks c.args.self.now m (length c.args.input.now) h fits)

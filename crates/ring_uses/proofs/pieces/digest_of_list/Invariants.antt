@@ -4,4 +4,6 @@ use Rattle.ring.specs.Pieces.{joined}
 use Rattle.ring_uses.proofs.pieces.digest_of_list.Given as goal
 
 abbrev pub invariant-pieces : goal.invariant-pieces
-invariant-pieces l = StandsFor l.context (joined (take l.piece-index l.pieces)) × (context_algorithm l.context ≡ l.algorithm)
+invariant-pieces l =
+    StandsFor l.context (joined (take l.piece-index l.pieces))
+    × (context_algorithm l.context ≡ l.algorithm)

@@ -1,11 +1,15 @@
 -- The numbers by which C names algorithms, beside those of digests.
 use Rattle.std.specs.Prelude.{ℕ, Option, Some, None, if◌then◌else◌, nat_eq}
 use Rattle.ring.specs.declared.hkdf.algorithm.Algorithm as hkdf
-use Rattle.ring.specs.declared.hkdf.algorithm.TheConstants.{HKDF_SHA1_FOR_LEGACY_USE_ONLY, HKDF_SHA256, HKDF_SHA384, HKDF_SHA512}
+use Rattle.ring.specs.declared.hkdf.algorithm.TheConstants.{HKDF_SHA1_FOR_LEGACY_USE_ONLY}
+use Rattle.ring.specs.declared.hkdf.algorithm.TheConstants.{HKDF_SHA256, HKDF_SHA384, HKDF_SHA512}
 use Rattle.ring.specs.declared.hmac.algorithm.Algorithm as hmac
-use Rattle.ring.specs.declared.hmac.algorithm.TheConstants.{HMAC_SHA1_FOR_LEGACY_USE_ONLY, HMAC_SHA256, HMAC_SHA384, HMAC_SHA512}
+use Rattle.ring.specs.declared.hmac.algorithm.TheConstants.{HMAC_SHA1_FOR_LEGACY_USE_ONLY}
+use Rattle.ring.specs.declared.hmac.algorithm.TheConstants.{HMAC_SHA256, HMAC_SHA384, HMAC_SHA512}
 use Rattle.ring.specs.declared.pbkdf2.algorithm.Algorithm as pbkdf2
-use Rattle.ring.specs.declared.pbkdf2.algorithm.TheConstants.{PBKDF2_HMAC_SHA1, PBKDF2_HMAC_SHA256, PBKDF2_HMAC_SHA384, PBKDF2_HMAC_SHA512}
+use Rattle.ring.specs.declared.pbkdf2.algorithm.TheConstants.{PBKDF2_HMAC_SHA1, PBKDF2_HMAC_SHA256}
+use Rattle.ring.specs.declared.pbkdf2.algorithm.TheConstants.{PBKDF2_HMAC_SHA384}
+use Rattle.ring.specs.declared.pbkdf2.algorithm.TheConstants.{PBKDF2_HMAC_SHA512}
 
 -- what the first four numbers name, of four values
 abbrev pub named : {A : Type 0} → (sha1 sha256 sha384 sha512 : A) → ℕ → Option A

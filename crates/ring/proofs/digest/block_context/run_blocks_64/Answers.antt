@@ -1,4 +1,4 @@
-use Rattle.std.proofs.Common.{◌≡◌, ◌∙◌, length, refl, rules, lit<}
+use Rattle.std.proofs.Common.{◌≡◌, ◌∙◌, length, rules, lit<}
 use Rattle.std.proofs.lemmas.List.{length-map}
 use Rattle.ring_core.specs.Sha2.{block_step, family_512, words_64}
 use Rattle.ring.specs.Algorithm.{word_len}

@@ -44,10 +44,10 @@ ring-same w x ring t ready same = record {
 }
 
 -- the word in a slot
-pub ring-read : {X : Type 0} (f : X → ℕ) (w : ℕ → ℕ) (ring : List X) (n slot t : ℕ) (x : X)
+pub ring-read : {X : Type 0} {w : ℕ → ℕ} {n slot : ℕ} (f : X → ℕ) (ring : List X) (t : ℕ) (x : X)
     → IsRing w (map f ring) n → slot ≡ t % 16 → t < n → n ≤ t + 16
     → f (get_or ring slot x) ≡ w t
-ring-read f w ring n slot t x ready place below near =
+ring-read {slot} f ring t x ready place below near =
     let room : slot < length ring = omega (arith, ready.sixteen, length-map ring f) in
     sym (get_or-map f ring slot x 0 room) ∙ ap (slice_index (map f ring)) place
     ∙ ready.held t below near

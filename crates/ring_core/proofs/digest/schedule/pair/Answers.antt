@@ -9,7 +9,7 @@ returns g c = λ f w n t ready place below near.
     let next = (slot + 1) % 16 in
     let after : t + 1 < n = omega arith in
     rw (
-      ring-read f w ring n slot t c.index-ring-slot.result ready place (omega arith) near,
-      ring-read f w ring n next (t + 1) c.index-ring-slot-2.result ready (omega arith) after
+      ring-read f ring t c.index-ring-slot.result ready place (omega arith) near,
+      ring-read {slot = next} f ring (t + 1) c.index-ring-slot-2.result ready (omega arith) after
           (omega arith),
     ) refl

@@ -12,6 +12,7 @@ pub mod Lengths
 pub mod Pieces
 pub mod Keys
 pub mod Prepared
+pub mod Lanes
 pub mod SameKeys
 pub mod Feeding
 pub mod Signing

@@ -1,7 +1,8 @@
 -- Numbered blocks of one length, one after another, and their fronts.
 use Rattle.std.proofs.Common.{◌≡◌, ℕ, List, [], ◌∷◌, ◌++◌, ◌+◌, ◌*◌, ◌≤◌, ◌<◌, ◌↔◌, length, take}
 use Rattle.std.proofs.Common.{drop, suc, zero, refl, sym, ◌∙◌, arith, length-append, length-take-le}
-use Rattle.std.proofs.Common.{mul-le-mul_right, suc-mul, append-nil, add-one, slice_index_or}
+use Rattle.std.proofs.Common.{mul-le-mul_right, suc-mul, append-nil, append_assoc, add-one}
+use Rattle.std.proofs.Common.{slice_index_or}
 use Rattle.std.specs.Borrow.{Bor}
 use Rattle.std.proofs.lemmas.List.{take_more, take-append-le}
 use Rattle.std.proofs.lemmas.Grind.{flat_map-append}
@@ -24,6 +25,18 @@ pub joined_blocks-next : (f : ℕ → List ℕ) (r : ℕ)
     → joined_blocks f (suc r) ≡ joined_blocks f r ++ f (suc r)
 unfolding joined_blocks
 joined_blocks-next f r = refl
+
+-- k blocks more
+pub joined_blocks-append : (f : ℕ → List ℕ) (r k : ℕ)
+    → joined_blocks f (r + k) ≡ joined_blocks f r ++ joined_blocks (λ i. f (r + i)) k
+unfolding joined_blocks
+joined_blocks-append f r zero =
+    let e : r + 0 ≡ r = omega arith in
+    rw (e, append-nil) refl
+joined_blocks-append f r (suc k) =
+    let e : r + suc k ≡ suc (r + k) = omega arith in
+    rw (e, joined_blocks-append f r k)
+    (append_assoc (joined_blocks f r) (joined_blocks (λ i. f (r + i)) k) (f (suc (r + k))))
 
 -- each block has L bytes
 pub record IsEven (f : ℕ → List ℕ) (L : ℕ) : Type 0 where

@@ -13,16 +13,23 @@ use Rattle.ring.specs.Hmac.{KeyStandsFor, key_algorithm}
 use Rattle.ring.specs.Pbkdf2.{dk, xored}
 use Rattle.ring.specs.Pieces.{joined_blocks}
 use Rattle.ring.specs.declared.digest.algorithm.Algorithm.{Algorithm}
+use Rattle.ring.specs.declared.digest.algorithm.TheConstants.{SHA256}
 use Rattle.ring.specs.declared.hmac.key.Key.{Key}
 use Rattle.ring.proofs.Iterates.{length-xored}
 use Rattle.ring.proofs.Rows.{output_len-fits, output_len-positive}
-use Rattle.ring.proofs.Pieces.{IsEven, joined_blocks-part, length-joined_blocks, same_part}
+use Rattle.ring.proofs.Pieces.{IsEven, joined_blocks-append, joined_blocks-none}
+use Rattle.ring.proofs.Pieces.{joined_blocks-part, length-joined_blocks, same_part}
 use borrow.Rule.Slice.PartMut.{put_mid, same_len_mid}
 
 -- a buffer of 64 bytes has room for a part of a round
 pub length-buffer : (a : Algorithm) (buffer : List ℕ) (n : ℕ) → length buffer ≡ 64
     → n ≤ output_len a → length (take n buffer) ≡ n
 length-buffer a buffer n len fits = length-take-le n buffer (omega (arith, output_len-fits a))
+
+-- a part within a list has its length
+pub length-part : (w k : ℕ) (xs : List ℕ) → w + k ≤ length xs → length (take k (drop w xs)) ≡ k
+length-part w k xs room =
+    length-take-le k (drop w xs) (omega (arith, length-drop w xs))
 
 -- r rounds reach w of n bytes, and each of them is needed
 pub record HasReached (a : Algorithm) (n r w : ℕ) : Type 0 where
@@ -198,6 +205,74 @@ module _ {key : Key} {s : List ℕ} {c r w : ℕ} {out : List ℕ} {m0 m1 : Coun
         ∙ sym (rounds-all p s c t.run.reached all),
     run-all t.run all,
   )
+
+-- the first r rounds are written, each whole
+pub record HasFront (key : Key) (s : List ℕ) (c r : ℕ) (out : List ℕ)
+    (before now : Counts) : Type 0 where
+  pub front : (p : List ℕ) → KeyStandsFor key p
+      → take (r * output_len (key_algorithm key)) out ≡ rounds (key_algorithm key) p s c r
+  pub cost : now ≡ raised before (r * round_blocks key s c) 0
+
+pub front-none : (key : Key) (s : List ℕ) (c : ℕ) (out : List ℕ) (m : Counts)
+    → HasFront key s c 0 out m m
+front-none key s c out m =
+    let a : Algorithm = key_algorithm key in
+    record {
+      front = λ p h. rw (zero-mul (output_len a)) (sym (joined_blocks-none (λ i. xored a p s i c)));
+      cost = (run-none key s c (length out) m).cost;
+    }
+
+module _ {key : Key} {s : List ℕ} {c : ℕ} {out : List ℕ} {m0 m1 : Counts} where
+  -- four rounds more are written as ys over k bytes
+  pub front-four : {ys : List ℕ} {m2 : Counts} (made k : ℕ) → key_algorithm key ≡ SHA256
+      → HasFront key s c (4 * made) out m0 m1 → 128 * made ≤ length out → length ys ≡ 128
+      → ((p : List ℕ) → KeyStandsFor key p
+      → ys ≡ joined_blocks (λ i. xored SHA256 p s (4 * made + i) c) 4)
+      → m2 ≡ raised m1 (4 * iterate_blocks SHA256 (length s) c) 0
+      → HasFront key s c (4 * (made + 1)) (put_mid (128 * made) k out ys) m0 m2
+  front-four {ys = ys} made k same t room ly h em =
+      let a : Algorithm = key_algorithm key in
+      let b : ℕ = round_blocks key s c in
+      let bytes : (r : ℕ) → r * output_len a ≡ r * 32 =
+      λ (r : ℕ). ap (λ (z : Algorithm). r * output_len z) same in
+      let before : 4 * made * output_len a ≡ 128 * made = bytes (4 * made) ∙ omega arith in
+      let after : 4 * (made + 1) * output_len a ≡ 128 * made + length ys =
+      bytes (4 * (made + 1)) ∙ omega (arith, ly) in
+      let more : 4 * made + 4 ≡ 4 * (made + 1) = omega arith in
+      let sum : 4 * made * b + 4 * b ≡ 4 * (made + 1) * b = grind arith in
+      record {
+        front = λ p stands.
+            let all : ℕ → List ℕ = rounds a p s c in
+            take-put_mid (128 * made) k out ys _ after room
+            ∙ ap (λ z. take z out ++ ys) (sym before) ∙ ap (λ zs. zs ++ ys) (t.front p stands)
+            ∙ ap (λ zs. all (4 * made) ++ zs) (h p stands)
+            ∙ ap (λ (z : Algorithm). all (4 * made)
+            ++ joined_blocks (λ i. xored z p s (4 * made + i) c) 4) (sym same)
+            ∙ sym (joined_blocks-append (λ i. xored a p s i c) (4 * made) 4) ∙ ap all more;
+        cost = em
+            ∙ ap (λ (z : Algorithm). raised m1 (4 * iterate_blocks z (length s) c) 0) (sym same)
+            ∙ rw t.cost (raised-raised m0 (4 * made * b) 0 (4 * b) 0)
+            ∙ ap (λ (z : ℕ). raised m0 z 0) sum;
+      }
+
+  -- r whole rounds are written
+  pub written-front : {r : ℕ} (w : ℕ) → w ≡ r * output_len (key_algorithm key)
+      → HasFront key s c r out m0 m1 → r * output_len (key_algorithm key) ≤ length out
+      → HasWritten key s c r w out m0 m1
+  written-front {r = r} w ew t fits =
+      let a : Algorithm = key_algorithm key in
+      let long = λ (p : List ℕ). length-joined_blocks (even_rounds a p s c) r in
+      rw ew record {
+        run = record {
+          reached = record {
+            place = omega arith;
+            needed = omega (arith, output_len-positive a);
+          };
+          cost = t.cost;
+        };
+        front = λ p stands.
+            t.front p stands ∙ sym (take_all _ (rounds a p s c r) (omega (arith, long p)));
+      }
 
 both_true : (m k : Bool) → ((m && k) ≡ true) ↔ ((m ≡ true) × (k ≡ true))
 both_true true k = (λ h. (refl, h), λ h. h.1)

@@ -11,6 +11,7 @@ pub mod Pieces
 pub mod Source
 pub mod KeyBlocks
 pub mod Prepared
+pub mod Four
 pub mod Hmac
 pub mod Hkdf
 pub mod Okm

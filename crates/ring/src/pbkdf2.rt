@@ -51,6 +51,8 @@ use ring_core::error::Unspecified;
 use std::num::NonZeroU32;
 
 pub(crate) mod algorithm;
+pub(crate) mod four;
+pub(crate) mod iterates;
 pub(crate) mod rounds;
 
 pub use crate::pbkdf2::algorithm::{

@@ -4,35 +4,19 @@ ghost use Rattle.std.specs.Prelude.{◌≡◌, ◌↔◌, ℕ, ◌+◌, ◌-◌,
 ghost use Rattle.std.specs.Int.NonZero.{non_zero_u32_get};
 ghost use Rattle.ring_core.specs.Cost.{raised};
 ghost use Rattle.ring.specs.Algorithm.{output_len};
-ghost use Rattle.ring.specs.Cost.{iterate_blocks, padded_blocks, derive_rounds};
-ghost use Rattle.ring.specs.Hmac.{KeyStandsFor, key_algorithm, prepared_algorithm, tag_algorithm, tag_bytes};
+ghost use Rattle.ring.specs.Cost.{iterate_blocks, derive_rounds};
+ghost use Rattle.ring.specs.Hmac.{KeyStandsFor, key_algorithm, prepared_algorithm};
 ghost use Rattle.ring.specs.Limits.{IsTagWithin};
-ghost use Rattle.ring.specs.Pbkdf2.{dk, iterate, xored};
+ghost use Rattle.ring.specs.Pbkdf2.{dk, xored};
 
 use crate::digest::algorithm::MAX_OUTPUT_LEN;
+use crate::hmac::Key;
 use crate::hmac::prepared::PreparedBlock;
-use crate::hmac::{Context, Key, Tag};
+use crate::pbkdf2::four::write_fours;
+use crate::pbkdf2::iterates::first_iterate;
 use ring_core::bb::{verify_slices_are_equal_counted, xor_assign_at_start};
 use ring_core::cost::Meter;
 use std::num::NonZeroU32;
-
-// U_1 of a round: the tag of the salt and the round's number.
-fn first_iterate(key: &Key, salt: &[u8], number: u32, meter: &mut Meter) -> Tag
-    requires within { IsTagWithin (key_algorithm key.now) (length salt.now + 4) }
-    ensures ok { (p : List ℕ) → KeyStandsFor key.now p
-        → tag_bytes result ≡ iterate (key_algorithm key.now) p salt.now number 1 }
-    ensures cost { meter.new
-        ≡ raised meter.old (padded_blocks (key_algorithm key.now) (length salt.now + 4) + 1) 0 }
-    ensures algorithm { tag_algorithm result ≡ key_algorithm key.now }
-{
-    let mut context = Context::with_key(key);
-    context.update_counted(salt, meter);
-    context.update_counted(&number.to_be_bytes(), meter);
-    let Ok(tag) = context.sign_counted(meter) else {
-        unreachable!()
-    };
-    tag
-}
 
 // Makes `out` the first bytes of the round of this number. All iterates but the first are tags of
 // tags, which fit the prepared block.
@@ -89,7 +73,8 @@ fn is_round(
     verify_slices_are_equal_counted(made, part, meter).is_ok()
 }
 
-// Makes the whole of `out` the first bytes of all rounds, one after another.
+// Makes the whole of `out` the first bytes of all rounds: four at a time as far as that goes, and
+// then one after another.
 pub(crate) fn write_rounds(
     key: &Key,
     iterations: NonZeroU32,
@@ -110,8 +95,8 @@ pub(crate) fn write_rounds(
     let algorithm = key.algorithm().digest_algorithm();
     let block = PreparedBlock::new(algorithm);
     let output_len = algorithm.output_len();
-    let mut number = 0;
-    let mut written = 0;
+    let mut number = write_fours(key, iterations, salt, out, meter);
+    let mut written = number as usize * output_len;
     'rounds: while written < out.len() {
         let end = written + output_len.min(out.len() - written);
         number += 1;

@@ -2,7 +2,7 @@ use Rattle.std.proofs.Common.{length, ap, sym, ◌∙◌, ◌++◌}
 use Rattle.ring.specs.Hmac.{hmac_of, key_algorithm}
 use Rattle.ring.proofs.Iterates.{iterate-first}
 use Rattle.ring.proofs.Lengths.{counted_first, counted_more, counted_tag}
-use Rattle.ring.proofs.pbkdf2.rounds.first_iterate.Goals as goal
+use Rattle.ring.proofs.pbkdf2.iterates.first_iterate.Goals as goal
 
 pub returns-clause-ok : goal.returns-clause-ok
 returns-clause-ok c = λ p h.

@@ -135,6 +135,8 @@ pub(crate) fn write_fours(
         → IsTagWithin (key_algorithm key.now) (length salt.now + 4) }
     requires rounds { length out.old ≤ (2 ^ 32 - 1) * output_len (key_algorithm key.now) }
     ensures within { result * output_len (key_algorithm key.now) ≤ length out.old }
+    ensures sized { result * SHA256_OUTPUT_LEN
+        ≡ result * output_len (key_algorithm key.now) }
     ensures ok { (p : List ℕ) → KeyStandsFor key.now p
         → take (result * output_len (key_algorithm key.now)) out.new
         ≡ joined_blocks (λ i. xored (key_algorithm key.now) p salt.now i

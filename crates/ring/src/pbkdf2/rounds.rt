@@ -9,7 +9,7 @@ ghost use Rattle.ring.specs.Hmac.{KeyStandsFor, key_algorithm, prepared_algorith
 ghost use Rattle.ring.specs.Limits.{IsTagWithin};
 ghost use Rattle.ring.specs.Pbkdf2.{dk, xored};
 
-use crate::digest::algorithm::MAX_OUTPUT_LEN;
+use crate::digest::algorithm::{MAX_OUTPUT_LEN, SHA256_OUTPUT_LEN};
 use crate::hmac::Key;
 use crate::hmac::prepared::PreparedBlock;
 use crate::pbkdf2::four::write_fours;
@@ -96,7 +96,8 @@ pub(crate) fn write_rounds(
     let block = PreparedBlock::new(algorithm);
     let output_len = algorithm.output_len();
     let mut number = write_fours(key, iterations, salt, out, meter);
-    let mut written = number as usize * output_len;
+    // None are made but of digests of that length.
+    let mut written = number as usize * SHA256_OUTPUT_LEN;
     'rounds: while written < out.len() {
         let end = written + output_len.min(out.len() - written);
         number += 1;

@@ -1,4 +1,4 @@
-use Rattle.std.proofs.Common.{◌≡◌, ◌∙◌, ℕ, ◌+◌, ◌-◌, ◌*◌, length, min, ap, arith}
+use Rattle.std.proofs.Common.{◌≡◌, ◌∙◌, ◌+◌, ◌-◌, length, min, ap, arith}
 use Rattle.std.specs.Int.NonZero.{non_zero_u32_get}
 use Rattle.ring.specs.Algorithm.{output_len}
 use Rattle.ring.specs.Hmac.{key_algorithm}
@@ -7,16 +7,12 @@ use Rattle.ring.proofs.pbkdf2.rounds.write_rounds.Goals as goal
 
 pub rounds-init : goal.rounds-init
 rounds-init c =
-    let a = key_algorithm c.args.key.now in
     let number = c.write_fours-number.result in
     let fours = c.write_fours-number.ensures in
-    let len : c.output_len-output_len.result ≡ output_len a =
-    c.output_len-output_len.ensures
-    ∙ ap output_len (c.digest_algorithm-algorithm.ensures ∙ c.algorithm.ensures) in
     let front : HasFront c.args.key.now c.args.salt.now (non_zero_u32_get c.args.iterations) number
     c.write_fours-number.new.out c.args.meter.now c.write_fours-number.new.meter =
     record { front = fours.ok; cost = fours.cost } in
-    written-front _ (ap (λ (z : ℕ). number * z) len) front
+    written-front _ fours.sized front
     (rw c.write_fours-number.auto.out fours.within)
 
 pub rounds-preserved : goal.rounds-preserved

@@ -28,7 +28,8 @@
 //! }
 //! ```
 
-ghost use Rattle.std.specs.Prelude.{◌≡◌, ◌↔◌, ℕ, ◌+◌, ◌<◌, List, length, IfOk, IsOk, IsErr, OnOk, OnErr};
+ghost use Rattle.std.specs.Prelude.{◌≡◌, ◌↔◌, ℕ, ◌+◌, ◌<◌};
+ghost use Rattle.std.specs.Prelude.{List, length, IfOk, IsOk, IsErr, OnOk, OnErr};
 ghost use Rattle.ring_core.specs.Cost.{compared_pairs, raised};
 ghost use Rattle.ring.specs.Algorithm.{block_len, max_input_len, output_len};
 ghost use Rattle.ring.specs.Cost.{padded_blocks};

@@ -3,7 +3,8 @@
 //! A law without parameters holds of the definitions alone: its clause is the law, and the call
 //! does nothing.
 
-ghost use Rattle.std.specs.Prelude.{◌≡◌, ◌↔◌, ℕ, ◌+◌, ◌-◌, ◌^◌, ◌<◌, ◌≤◌, List, [], ◌++◌, length, replicate, take, IfOk, IsErr, OnErr, OnOk};
+ghost use Rattle.std.specs.Prelude.{◌≡◌, ◌↔◌, ℕ, ◌+◌, ◌-◌, ◌^◌, ◌<◌, ◌≤◌, List, [], ◌++◌};
+ghost use Rattle.std.specs.Prelude.{length, replicate, take, IfOk, IsErr, OnErr, OnOk};
 ghost use Rattle.ring_core.specs.Cost.{compared_pairs, raised};
 ghost use Rattle.std.specs.Borrow.{Bor};
 ghost use Rattle.ring.specs.Algorithm.{block_len, max_input_len, output_len};
@@ -11,11 +12,13 @@ ghost use Rattle.ring.specs.Cost.{derive_blocks, padded_blocks};
 ghost use Rattle.ring.specs.Digest.{IsDigest, digest_of};
 ghost use Rattle.ring.specs.Hkdf.{okm};
 ghost use Rattle.ring.specs.Hmac.{IsTag, KeyStandsFor, hmac_of, key_algorithm, tag_algorithm};
-ghost use Rattle.ring.specs.Limits.{CanDerive, IsInfoWithin, IsMessageWithin, IsOutputWithin, IsTagWithin};
+ghost use Rattle.ring.specs.Limits.{CanDerive, IsInfoWithin, IsMessageWithin};
+ghost use Rattle.ring.specs.Limits.{IsOutputWithin, IsTagWithin};
 ghost use Rattle.ring.specs.Pbkdf2.{dk};
 ghost use Rattle.ring.specs.Pieces.{joined};
 ghost use Rattle.ring.specs.declared.digest.algorithm.Algorithm.{Algorithm};
-ghost use Rattle.ring.specs.declared.digest.algorithm.TheConstants.{SHA1_FOR_LEGACY_USE_ONLY, SHA256, SHA384, SHA512};
+ghost use Rattle.ring.specs.declared.digest.algorithm.TheConstants.{SHA1_FOR_LEGACY_USE_ONLY};
+ghost use Rattle.ring.specs.declared.digest.algorithm.TheConstants.{SHA256, SHA384, SHA512};
 
 use crate::digest::algorithm::is_message_within;
 use crate::digest::{Algorithm, Context, Digest};

@@ -3,7 +3,8 @@
 //! tested.
 
 ghost use Rattle.std.specs.Prelude.{◌≡◌, ◌↔◌, IsTrue, length};
-ghost use Rattle.ring.specs.Limits.{CanDerive, CanVerify, IsInfoWithin, IsOutputWithin, IsTagWithin};
+ghost use Rattle.ring.specs.Limits.{CanDerive, CanVerify, IsInfoWithin};
+ghost use Rattle.ring.specs.Limits.{IsOutputWithin, IsTagWithin};
 ghost use Rattle.ring.specs.Pieces.{joined};
 
 use crate::digest::algorithm::{Algorithm, is_message_within};

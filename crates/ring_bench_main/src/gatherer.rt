@@ -2,7 +2,8 @@
 ghost use Rattle.std.specs.Prelude.{◌≡◌, ◌↔◌, [], IsTrue, IsFalse, IsErr, OnOk, IfErr};
 ghost use Rattle.std.specs.Io.{ReadsAtMost};
 ghost use Rattle.std.specs.Io.KnownBytes.{Appends, ReadConsumes};
-ghost use Rattle.ring_bench_main.specs.Gatherer.{IsWrittenOut, all_of, has_failed, held_back, waiting, writer_of};
+ghost use Rattle.ring_bench_main.specs.Gatherer.{IsWrittenOut, all_of, has_failed};
+ghost use Rattle.ring_bench_main.specs.Gatherer.{held_back, waiting, writer_of};
 
 use crate::room::{ROOM, Room};
 use ring_bench::{BenchError, Status};

@@ -1,6 +1,7 @@
 //! What stands below digests: comparison, lengths in bits, the meter, slices in chunks.
 
-ghost use Rattle.std.specs.Prelude.{◌≡◌, ◌↔◌, ◌*◌, ◌/◌, ◌%◌, ◌^◌, ◌<◌, ◌≤◌, length, IfOk, IsErr, IsTrue};
+ghost use Rattle.std.specs.Prelude.{◌≡◌, ◌↔◌, ◌*◌, ◌/◌, ◌%◌, ◌^◌, ◌<◌, ◌≤◌};
+ghost use Rattle.std.specs.Prelude.{length, IfOk, IsErr, IsTrue};
 ghost use Rattle.std.specs.Int.{to_be_bytes, w64};
 ghost use Rattle.ring.specs.Algorithm.{max_input_len};
 ghost use Rattle.ring.specs.Cost.{padded_blocks};

@@ -1,6 +1,7 @@
 //! Keys and values of a source's bytes.
 
-ghost use Rattle.std.specs.Prelude.{◌≡◌, ◌↔◌, ◌⊎◌, ◌+◌, ◌<◌, ◌++◌, drop, false, length, take, IfOk, IsErr, OnErr, OnOk};
+ghost use Rattle.std.specs.Prelude.{◌≡◌, ◌↔◌, ◌⊎◌, ◌+◌, ◌<◌, ◌++◌};
+ghost use Rattle.std.specs.Prelude.{drop, false, length, take, IfOk, IsErr, OnErr, OnOk};
 ghost use Rattle.ring.specs.Algorithm.{max_input_len};
 ghost use Rattle.ring.specs.Hmac.{IsTag};
 

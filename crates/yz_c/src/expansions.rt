@@ -1,6 +1,7 @@
 //! Keys from secrets.
 
-ghost use Rattle.std.specs.Prelude.{◌≡◌, ◌≢◌, ◌↔◌, ℕ, ◌*◌, ◌≤◌, ◌<◌, List, Some, None, length, IsTrue};
+ghost use Rattle.std.specs.Prelude.{◌≡◌, ◌≢◌, ◌↔◌, ℕ, ◌*◌, ◌≤◌, ◌<◌};
+ghost use Rattle.std.specs.Prelude.{List, Some, None, length, IsTrue};
 ghost use Rattle.ring.specs.Algorithm.{output_len};
 ghost use Rattle.ring.specs.Hkdf.{PrkStandsFor, hash_of, okm, prk_algorithm};
 ghost use Rattle.ring.specs.Hmac.{hmac_of};

@@ -3,7 +3,9 @@
 ghost use Rattle.std.specs.Prelude.{◌≡◌, ◌↔◌, ◌≤◌, ◌-◌, ◌^◌, ℕ, IsTrue, Some, replicate};
 ghost use Rattle.ring_core.specs.Sha1 as sha1;
 ghost use Rattle.ring_core.specs.Sha2.{block_step, family_256, family_512};
-ghost use Rattle.ring.specs.Algorithm.{block_function, block_len, chaining_len, initial_words, length_len, max_input_len, name_of, output_len, row, word_count};
+ghost use Rattle.ring.specs.Algorithm.{block_function, block_len, chaining_len};
+ghost use Rattle.ring.specs.Algorithm.{initial_words, length_len, max_input_len};
+ghost use Rattle.ring.specs.Algorithm.{name_of, output_len, row, word_count};
 ghost use Rattle.ring.specs.Initial.{AreSquareRoots};
 ghost use Rattle.ring.specs.Limits.{IsMessageWithin};
 ghost use Rattle.ring.specs.State.{chaining_words, is_state_of, spare_words};

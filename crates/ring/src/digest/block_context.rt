@@ -1,6 +1,7 @@
 //! A context of whole blocks.
 
-ghost use Rattle.std.specs.Prelude.{◌≡◌, ◌↔◌, ℕ, ◌+◌, ◌*◌, ◌/◌, ◌<◌, List, [], ◌++◌, length, take, drop, IsTrue, IfOk, IsErr, OnOk, OnErr};
+ghost use Rattle.std.specs.Prelude.{◌≡◌, ◌↔◌, ℕ, ◌+◌, ◌*◌, ◌/◌, ◌<◌, List, [], ◌++◌};
+ghost use Rattle.std.specs.Prelude.{length, take, drop, IsTrue, IfOk, IsErr, OnOk, OnErr};
 ghost use Rattle.ring_core.specs.Chunks.{chained};
 ghost use Rattle.ring_core.specs.Cost.{raised};
 ghost use Rattle.ring.specs.Algorithm.{block_function, block_len, max_input_len, output_len};
@@ -102,7 +103,8 @@ pub(crate) struct BlockContext {
 }
 
 impl BlockContext {
-    ghost use Rattle.ring.specs.Context.{HasMoved, HasTaken, block_algorithm, counted_bytes, cut_off};
+    ghost use Rattle.ring.specs.Context.{HasMoved, HasTaken, block_algorithm};
+    ghost use Rattle.ring.specs.Context.{counted_bytes, cut_off};
 
     pub(crate) fn new(algorithm: &Algorithm) -> Self
         ensures stands { HasTaken result [] }

@@ -1,6 +1,7 @@
 //! A context for a message in pieces.
 
-ghost use Rattle.std.specs.Prelude.{◌≡◌, ◌↔◌, ℕ, ◌+◌, ◌-◌, ◌%◌, ◌<◌, ◌≤◌, List, [], ◌++◌, length, IfOk, IsErr, OnOk, OnErr};
+ghost use Rattle.std.specs.Prelude.{◌≡◌, ◌↔◌, ℕ, ◌+◌, ◌-◌, ◌%◌, ◌<◌, ◌≤◌, List};
+ghost use Rattle.std.specs.Prelude.{[], ◌++◌, length, IfOk, IsErr, OnOk, OnErr};
 ghost use Rattle.ring_core.specs.Cost.{raised};
 ghost use Rattle.ring.specs.Algorithm.{block_len, max_input_len};
 ghost use Rattle.ring.specs.Cost.{last_blocks, padded_blocks, whole_blocks};
@@ -22,7 +23,9 @@ pub struct Context {
 }
 
 impl Context {
-    ghost use Rattle.ring.specs.Context.{HasMoved, HasTaken, StandsFor, block_algorithm, context_algorithm, counted_bytes, cut_off, message_len, pending_bytes, pending_len};
+    ghost use Rattle.ring.specs.Context.{HasMoved, HasTaken, StandsFor, block_algorithm};
+    ghost use Rattle.ring.specs.Context.{context_algorithm, counted_bytes, cut_off};
+    ghost use Rattle.ring.specs.Context.{message_len, pending_bytes, pending_len};
 
     /// A context of the empty message. No block is run.
     pub fn new(algorithm: &Algorithm) -> Self

@@ -1,6 +1,7 @@
 //! The last block or blocks of a message (FIPS 180-4, section 5.1).
 
-ghost use Rattle.std.specs.Prelude.{◌≡◌, ℕ, ◌-◌, ◌*◌, ◌^◌, ◌<◌, ◌≤◌, List, ◌++◌, drop, length, replicate, take};
+ghost use Rattle.std.specs.Prelude.{◌≡◌, ℕ, ◌-◌, ◌*◌, ◌^◌, ◌<◌, ◌≤◌, List};
+ghost use Rattle.std.specs.Prelude.{◌++◌, drop, length, replicate, take};
 ghost use Rattle.std.specs.Int.{bytes_high_first};
 ghost use Rattle.ring.specs.Algorithm.{block_len, length_len, max_input_len};
 ghost use Rattle.ring.specs.Cost.{padded_blocks};

@@ -1,6 +1,7 @@
 //! Keys, salts and PRKs made of outputs.
 
-ghost use Rattle.ring.specs.Hkdf.{PrkStandsFor, SaltStandsFor, hash_of, prk_algorithm, salt_algorithm};
+ghost use Rattle.ring.specs.Hkdf.{PrkStandsFor, SaltStandsFor, hash_of};
+ghost use Rattle.ring.specs.Hkdf.{prk_algorithm, salt_algorithm};
 ghost use Rattle.ring.specs.Hmac.{KeyStandsFor, based_on, key_algorithm};
 ghost use Rattle.ring.specs.Okm.{IsMadeOf, carried};
 

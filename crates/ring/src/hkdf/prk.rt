@@ -1,6 +1,7 @@
 //! Pseudorandom keys, and the outputs that are expanded from them (RFC 5869, section 2.3).
 
-ghost use Rattle.std.specs.Prelude.{◌≡◌, ◌↔◌, ◌*◌, ◌<◌, ℕ, List, length, IfOk, IsErr, IsOk, OnErr, OnOk};
+ghost use Rattle.std.specs.Prelude.{◌≡◌, ◌↔◌, ◌*◌, ◌<◌};
+ghost use Rattle.std.specs.Prelude.{ℕ, List, length, IfOk, IsErr, IsOk, OnErr, OnOk};
 ghost use Rattle.ring_core.specs.Cost.{raised};
 ghost use Rattle.ring.specs.Algorithm.{max_input_len, output_len};
 ghost use Rattle.ring.specs.Cost.{fill_blocks, key_blocks};
@@ -23,7 +24,8 @@ use ring_core::error::Unspecified;
 pub struct Prk(pub(crate) Key);
 
 impl Prk {
-    ghost use Rattle.ring.specs.Okm.{OkmStandsFor, carried, okm_algorithm, okm_info_len, okm_number};
+    ghost use Rattle.ring.specs.Okm.{OkmStandsFor, carried, okm_algorithm};
+    ghost use Rattle.ring.specs.Okm.{okm_info_len, okm_number};
 
     /// The PRK of the bytes `value`, as [`Prk::new_less_safe`] gives it, its blocks counted by
     /// `meter`.
@@ -108,7 +110,8 @@ pub struct Okm<'a, L: KeyType> {
 }
 
 impl<L: KeyType> Okm<'_, L> {
-    ghost use Rattle.ring.specs.Okm.{CanFill, IsMadeOf, OkmStandsFor, carried, okm_algorithm, okm_info_len, okm_number};
+    ghost use Rattle.ring.specs.Okm.{CanFill, IsMadeOf, OkmStandsFor, carried};
+    ghost use Rattle.ring.specs.Okm.{okm_algorithm, okm_info_len, okm_number};
 
     /// What was asked for, as it was handed to [`Prk::expand`].
     pub fn len(&self) -> &L

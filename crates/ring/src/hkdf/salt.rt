@@ -4,7 +4,8 @@ ghost use Rattle.std.specs.Prelude.{◌≡◌, ◌↔◌, ◌+◌, ◌<◌, ℕ,
 ghost use Rattle.ring_core.specs.Cost.{raised};
 ghost use Rattle.ring.specs.Algorithm.{block_len, max_input_len};
 ghost use Rattle.ring.specs.Cost.{key_blocks, padded_blocks};
-ghost use Rattle.ring.specs.Hkdf.{PrkStandsFor, SaltStandsFor, hash_of, prk_algorithm, salt_algorithm};
+ghost use Rattle.ring.specs.Hkdf.{PrkStandsFor, SaltStandsFor, hash_of};
+ghost use Rattle.ring.specs.Hkdf.{prk_algorithm, salt_algorithm};
 ghost use Rattle.ring.specs.Hmac.{hmac_of};
 
 use crate::hkdf::algorithm::Algorithm;

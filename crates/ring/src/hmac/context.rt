@@ -1,9 +1,11 @@
 //! A context for a message in pieces.
 
-ghost use Rattle.std.specs.Prelude.{◌≡◌, ◌↔◌, ℕ, ◌+◌, ◌-◌, ◌%◌, ◌<◌, ◌≤◌, List, [], ◌++◌, Some, codes, length, IfOk, IsErr, OnOk, OnErr};
+ghost use Rattle.std.specs.Prelude.{◌≡◌, ◌↔◌, ℕ, ◌+◌, ◌-◌, ◌%◌, ◌<◌, ◌≤◌, List, [], ◌++◌};
+ghost use Rattle.std.specs.Prelude.{Some, codes, length, IfOk, IsErr, OnOk, OnErr};
 ghost use Rattle.ring_core.specs.Cost.{raised};
 ghost use Rattle.ring.specs.Algorithm.{block_len, max_input_len, name_of};
-ghost use Rattle.ring.specs.Context.{block_algorithm, context_algorithm, counted_bytes, cut_off, message_len};
+ghost use Rattle.ring.specs.Context.{block_algorithm, context_algorithm};
+ghost use Rattle.ring.specs.Context.{counted_bytes, cut_off, message_len};
 ghost use Rattle.ring.specs.Cost.{last_blocks, padded_blocks, whole_blocks};
 
 use crate::digest;
@@ -25,7 +27,9 @@ pub struct Context {
 }
 
 impl Context {
-    ghost use Rattle.ring.specs.Hmac.{IsTag, KeyStandsFor, TagStandsFor, key_algorithm, signing_algorithm, signing_len, signing_pending, tag_algorithm};
+    ghost use Rattle.ring.specs.Hmac.{IsTag, KeyStandsFor, TagStandsFor};
+    ghost use Rattle.ring.specs.Hmac.{key_algorithm, signing_algorithm};
+    ghost use Rattle.ring.specs.Hmac.{signing_len, signing_pending, tag_algorithm};
 
     /// A context of the empty message under `signing_key`. No block is run: it starts from copies
     /// of the key's states.

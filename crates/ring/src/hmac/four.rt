@@ -1,6 +1,7 @@
 //! Tags of four messages at a time, each as long as a digest, under a key over SHA-256.
 
-ghost use Rattle.std.specs.Prelude.{◌≡◌, ℕ, ◌<◌, List, [], ◌++◌, IfSome, drop, get_or, length, take};
+ghost use Rattle.std.specs.Prelude.{◌≡◌, ℕ, ◌<◌, List, [], ◌++◌};
+ghost use Rattle.std.specs.Prelude.{IfSome, drop, get_or, length, take};
 ghost use Rattle.ring_core.specs.Cost.{raised};
 ghost use Rattle.ring_core.specs.Lane.{words_of_lane};
 ghost use Rattle.ring_core.specs.Sha2.{words_32};

@@ -1,6 +1,7 @@
 //! Keys: two states, each after one block.
 
-ghost use Rattle.std.specs.Prelude.{◌≡◌, ◌↔◌, ◌-◌, ◌<◌, ◌≤◌, ◌++◌, Some, codes, drop, false, length, replicate, take, IfOk, IsErr, OnOk, OnErr};
+ghost use Rattle.std.specs.Prelude.{◌≡◌, ◌↔◌, ◌-◌, ◌<◌, ◌≤◌, ◌++◌, Some, codes, drop, false};
+ghost use Rattle.std.specs.Prelude.{length, replicate, take, IfOk, IsErr, OnOk, OnErr};
 ghost use Rattle.ring_core.specs.Cost.{raised};
 ghost use Rattle.ring.specs.Algorithm.{block_len, max_input_len, name_of, output_len};
 ghost use Rattle.ring.specs.Context.{HasTaken, block_algorithm, counted_bytes};

@@ -1,6 +1,7 @@
 //! The numbers of a tag's context.
 
-ghost use Rattle.std.specs.Prelude.{◌≡◌, ◌↔◌, ℕ, ◌+◌, ◌<◌, List, ◌++◌, length, IfSome, IsSomeAnd, IsTrue, IsFalse, Some};
+ghost use Rattle.std.specs.Prelude.{◌≡◌, ◌↔◌, ℕ, ◌+◌, ◌<◌, List, ◌++◌};
+ghost use Rattle.std.specs.Prelude.{length, IfSome, IsSomeAnd, IsTrue, IsFalse, Some};
 ghost use Rattle.ring.specs.Algorithm.{block_len};
 ghost use Rattle.ring.specs.Hmac.{TagStandsFor, signing_algorithm};
 ghost use Rattle.ring.specs.declared.digest.algorithm.Algorithm.{Algorithm};

@@ -1,5 +1,6 @@
 //! The last sixteen words of a schedule, in a ring: word `t` stands in slot `t` modulo 16.
-ghost use Rattle.std.specs.Prelude.{◌≡◌, ℕ, ◌+◌, ◌*◌, ◌/◌, ◌%◌, ◌<◌, ◌≤◌, [], ◌∷◌, get_or, length, map};
+ghost use Rattle.std.specs.Prelude.{◌≡◌, ℕ, ◌+◌, ◌*◌, ◌/◌, ◌%◌, ◌<◌, ◌≤◌, [], ◌∷◌};
+ghost use Rattle.std.specs.Prelude.{get_or, length, map};
 ghost use Rattle.ring_core.specs.Lane.{word_of_lane};
 ghost use Rattle.ring_core.specs.Schedule.{IsRing};
 ghost use Rattle.ring_core.specs.Word.{word_at};

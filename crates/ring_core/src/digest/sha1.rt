@@ -1,9 +1,11 @@
 //! The block function of SHA-1 (FIPS 180-4, 6.1.2).
-ghost use Rattle.std.specs.Prelude.{◌≡◌, ℕ, ◌+◌, ◌*◌, ◌%◌, ◌<◌, ◌≤◌, List, [], get_or, length, map, take, drop};
+ghost use Rattle.std.specs.Prelude.{◌≡◌, ℕ, ◌+◌, ◌*◌, ◌%◌, ◌<◌, ◌≤◌, List};
+ghost use Rattle.std.specs.Prelude.{[], get_or, length, map, take, drop};
 ghost use Rattle.ring_core.specs.Cost.{raised};
 ghost use Rattle.ring_core.specs.Lane.{word_of_lane, words_of_lane};
 ghost use Rattle.ring_core.specs.Schedule.{IsBefore, IsRing};
-ghost use Rattle.ring_core.specs.Sha1.{W, add_state, block_step, chain_from, round, round_constant, round_function, rounds_from};
+ghost use Rattle.ring_core.specs.Sha1.{W, add_state, block_step, chain_from, round};
+ghost use Rattle.ring_core.specs.Sha1.{round_constant, round_function, rounds_from};
 ghost use Rattle.ring_core.specs.Views.{chunk_items, chunk_total};
 ghost use Rattle.ring_core.specs.Word.{add_words, rotl, word_32};
 

@@ -1,10 +1,13 @@
 //! The block functions of SHA-2 (FIPS 180-4, 6.2.2 and 6.4.2), written once for both sizes of
 //! words, but for the schedule's step in `lanes`.
-ghost use Rattle.std.specs.Prelude.{◌≡◌, ℕ, ◌+◌, ◌*◌, ◌/◌, ◌%◌, ◌<◌, ◌≤◌, List, [], get_or, length, map};
+ghost use Rattle.std.specs.Prelude.{◌≡◌, ℕ, ◌+◌, ◌*◌, ◌/◌, ◌%◌, ◌<◌, ◌≤◌};
+ghost use Rattle.std.specs.Prelude.{List, [], get_or, length, map};
 ghost use Rattle.ring_core.specs.Cost.{raised};
 ghost use Rattle.ring_core.specs.Lane.{word_of_lane, words_of_lane};
 ghost use Rattle.ring_core.specs.Schedule.{IsBefore, IsRing};
-ghost use Rattle.ring_core.specs.Sha2.{Σ0, Σ1, W, add_state, block_len, block_step, chain_from, family_256, family_512, words_32, words_64, round, rounds_from, three_rotations};
+ghost use Rattle.ring_core.specs.Sha2.{Σ0, Σ1, W, add_state, block_len, block_step};
+ghost use Rattle.ring_core.specs.Sha2.{chain_from, family_256, family_512, words_32};
+ghost use Rattle.ring_core.specs.Sha2.{words_64, round, rounds_from, three_rotations};
 ghost use Rattle.ring_core.specs.Views.{chunk_items, chunk_total};
 ghost use Rattle.ring_core.specs.Word.{add_words};
 

@@ -1,5 +1,6 @@
 //! The words of the block functions and their operations (FIPS 180-4, 3.2 and 4.1), for both sizes.
-ghost use Rattle.std.specs.Prelude.{◌≡◌, ℕ, ◌*◌, ◌/◌, ◌^◌, ◌<◌, ◌≤◌, ◌⊎◌, List, length, slice_index, bit_and, bit_or, bit_xor};
+ghost use Rattle.std.specs.Prelude.{◌≡◌, ℕ, ◌*◌, ◌/◌, ◌^◌, ◌<◌, ◌≤◌, ◌⊎◌};
+ghost use Rattle.std.specs.Prelude.{List, length, slice_index, bit_and, bit_or, bit_xor};
 ghost use Rattle.ring_core.specs.Sha2.{Family, family_256, family_512};
 ghost use Rattle.ring_core.specs.Word.{◌⊕◌, add_words, big_endian, complement, rotr, shr, word_at};
 

@@ -1,6 +1,7 @@
 //! Four words of 32 bits, one in each lane of a vector: the same operations on each
 //! (FIPS 180-4, 3.2).
-ghost use Rattle.std.specs.Prelude.{◌≡◌, ℕ, ◌-◌, ◌%◌, ◌^◌, ◌<◌, ◌≤◌, [], ◌∷◌, bit_and, map, slice_index};
+ghost use Rattle.std.specs.Prelude.{◌≡◌, ℕ, ◌-◌, ◌%◌, ◌^◌, ◌<◌, ◌≤◌, [], ◌∷◌};
+ghost use Rattle.std.specs.Prelude.{bit_and, map, slice_index};
 ghost use Rattle.std.proofs.Common.{mod-lt, pow_pos};
 ghost use Rattle.ring_core.specs.Lane.{lane, word_of_lane};
 ghost use Rattle.ring_core.specs.Sha2.{words_32};

@@ -1,6 +1,6 @@
 -- HKDF (RFC 5869).
 use Rattle.std.specs.Prelude.{ℕ, zero, suc, List, [], ◌∷◌, ◌++◌, take}
-use Rattle.ring.specs.Hmac.{KeyStandsFor, based_on, hmac_of, key_algorithm}
+use Rattle.ring.specs.Hmac.{KeyStandsFor, hmac_digest, hmac_of, key_algorithm}
 use Rattle.ring.specs.Pieces.{joined_blocks}
 use Rattle.ring.specs.declared.digest.algorithm.Algorithm as digest
 use Rattle.ring.specs.declared.hkdf.algorithm.Algorithm.{Algorithm}
@@ -19,8 +19,8 @@ unfoldable pub okm : digest.Algorithm → (k info : List ℕ) → ℕ → List �
 okm a k info n = take n (joined_blocks (t_of a k info) 255)
 
 -- the digest algorithm that an HKDF algorithm is built on (section 2.1)
-abbrev pub hash_of : Algorithm → digest.Algorithm
-hash_of a = based_on a.0
+abbrev pub hkdf_digest : Algorithm → digest.Algorithm
+hkdf_digest a = hmac_digest a.0
 
 -- the digest algorithm of a salt
 abbrev pub salt_algorithm : Salt → digest.Algorithm

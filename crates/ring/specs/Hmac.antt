@@ -15,8 +15,8 @@ unfoldable pub hmac_of : digest.Algorithm → List ℕ → List ℕ → List ℕ
 hmac_of a k m = digest_of a (outer_block a k ++ digest_of a (inner_block a k ++ m))
 
 -- the digest algorithm that an HMAC algorithm is built on
-abbrev pub based_on : Algorithm → digest.Algorithm
-based_on a = a.0
+abbrev pub hmac_digest : Algorithm → digest.Algorithm
+hmac_digest a = a.0
 
 -- the digest algorithm of a key
 abbrev pub key_algorithm : Key → digest.Algorithm

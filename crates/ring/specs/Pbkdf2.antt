@@ -3,15 +3,15 @@ use Rattle.std.specs.Prelude.{◌≡◌, ℕ, zero, suc, List, ◌++◌, length,
 use Rattle.std.specs.Int.{bytes_high_first}
 use Rattle.ring_core.specs.Bytes.{xor_lists}
 use Rattle.ring.specs.Algorithm.{output_len}
-use Rattle.ring.specs.Hmac.{based_on, hmac_of}
+use Rattle.ring.specs.Hmac.{hmac_digest, hmac_of}
 use Rattle.ring.specs.Limits.{CanVerify, derive_rounds}
 use Rattle.ring.specs.Pieces.{joined_blocks}
 use Rattle.ring.specs.declared.digest.algorithm.Algorithm as digest
 use Rattle.ring.specs.declared.pbkdf2.algorithm.Algorithm.{Algorithm}
 
 -- the digest algorithm of the pseudorandom function
-abbrev pub prf_algorithm : Algorithm → digest.Algorithm
-prf_algorithm a = based_on a.0
+abbrev pub pbkdf2_digest : Algorithm → digest.Algorithm
+pbkdf2_digest a = hmac_digest a.0
 
 -- U_1 = PRF (P, S || INT (i)), U_2 = PRF (P, U_1), ..: each is the tag of the one before it, and
 -- S || INT (i) stands before U_1

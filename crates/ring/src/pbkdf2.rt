@@ -41,7 +41,7 @@ ghost use Rattle.std.specs.Int.NonZero.{non_zero_u32_get};
 ghost use Rattle.ring_core.specs.Cost.{raised};
 ghost use Rattle.ring.specs.Cost.{derive_blocks};
 ghost use Rattle.ring.specs.Limits.{CanDerive, CanVerify};
-ghost use Rattle.ring.specs.Pbkdf2.{IsDerived, dk, prf_algorithm};
+ghost use Rattle.ring.specs.Pbkdf2.{IsDerived, dk, pbkdf2_digest};
 
 use crate::hmac::Key;
 use crate::limits::{can_derive, can_verify};
@@ -70,13 +70,13 @@ pub fn derive_counted(
     out: &mut [u8],
     meter: &mut Meter,
 ) -> Result<(), Unspecified>
-    ensures ok { OnOk result (out.new ≡ dk (prf_algorithm algorithm)
+    ensures ok { OnOk result (out.new ≡ dk (pbkdf2_digest algorithm)
         secret.now salt.now (non_zero_u32_get iterations) (length out.old)) }
-    ensures refused { IsOk result ↔ CanDerive (prf_algorithm algorithm)
+    ensures refused { IsOk result ↔ CanDerive (pbkdf2_digest algorithm)
         (length secret.now) (length salt.now) (length out.old) }
     ensures unchanged { OnErr result ((out.new ≡ out.old) × (meter.new ≡ meter.old)) }
     ensures cost { OnOk result (meter.new ≡ raised meter.old
-        (derive_blocks (prf_algorithm algorithm) (length secret.now) (length salt.now)
+        (derive_blocks (pbkdf2_digest algorithm) (length secret.now) (length salt.now)
         (non_zero_u32_get iterations) (length out.old)) 0) }
 {
     let hmac_algorithm = algorithm.hmac_algorithm();
@@ -115,9 +115,9 @@ pub fn derive(
     secret: &[u8],
     out: &mut [u8],
 ) -> Result<(), Unspecified>
-    ensures ok { OnOk result (out.new ≡ dk (prf_algorithm algorithm)
+    ensures ok { OnOk result (out.new ≡ dk (pbkdf2_digest algorithm)
         secret.now salt.now (non_zero_u32_get iterations) (length out.old)) }
-    ensures refused { IsOk result ↔ CanDerive (prf_algorithm algorithm)
+    ensures refused { IsOk result ↔ CanDerive (pbkdf2_digest algorithm)
         (length secret.now) (length salt.now) (length out.old) }
     ensures unchanged { OnErr result (out.new ≡ out.old) }
 {
@@ -134,15 +134,15 @@ pub fn verify_counted(
     previously_derived: &[u8],
     meter: &mut Meter,
 ) -> Result<(), Unspecified>
-    ensures ok { IsOk result ↔ IsDerived (prf_algorithm algorithm)
+    ensures ok { IsOk result ↔ IsDerived (pbkdf2_digest algorithm)
         secret.now salt.now (non_zero_u32_get iterations) previously_derived.now }
-    ensures unchanged { ¬ (CanVerify (prf_algorithm algorithm)
+    ensures unchanged { ¬ (CanVerify (pbkdf2_digest algorithm)
         (length secret.now) (length salt.now) (length previously_derived.now))
         → meter.new ≡ meter.old }
-    ensures cost { CanVerify (prf_algorithm algorithm)
+    ensures cost { CanVerify (pbkdf2_digest algorithm)
         (length secret.now) (length salt.now) (length previously_derived.now)
         → meter.new ≡ raised meter.old
-        (derive_blocks (prf_algorithm algorithm) (length secret.now) (length salt.now)
+        (derive_blocks (pbkdf2_digest algorithm) (length secret.now) (length salt.now)
         (non_zero_u32_get iterations) (length previously_derived.now))
         (length previously_derived.now) }
 {
@@ -174,7 +174,7 @@ pub fn verify(
     secret: &[u8],
     previously_derived: &[u8],
 ) -> Result<(), Unspecified>
-    ensures ok { IsOk result ↔ IsDerived (prf_algorithm algorithm)
+    ensures ok { IsOk result ↔ IsDerived (pbkdf2_digest algorithm)
         secret.now salt.now (non_zero_u32_get iterations) previously_derived.now }
 {
     verify_counted(

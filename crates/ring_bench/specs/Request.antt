@@ -5,10 +5,10 @@ use Rattle.std.specs.List.{flat_map}
 use Rattle.std.specs.Str.{bytes_eq}
 use Rattle.ring.specs.Cost.{derive_blocks, fill_blocks, key_blocks, padded_blocks}
 use Rattle.ring.specs.Digest.{digest_of}
-use Rattle.ring.specs.Hkdf.{hash_of, okm}
-use Rattle.ring.specs.Hmac.{based_on, hmac_of}
+use Rattle.ring.specs.Hkdf.{hkdf_digest, okm}
+use Rattle.ring.specs.Hmac.{hmac_digest, hmac_of}
 use Rattle.ring.specs.Limits.{can_derive, can_expand, can_verify, fits, tag_input_len}
-use Rattle.ring.specs.Pbkdf2.{dk, prf_algorithm}
+use Rattle.ring.specs.Pbkdf2.{dk, pbkdf2_digest}
 use Rattle.ring.specs.declared.digest.algorithm.Algorithm.{Algorithm as DigestAlgorithm}
 use Rattle.ring.specs.declared.hmac.algorithm.Algorithm.{Algorithm as HmacAlgorithm}
 use Rattle.ring.specs.declared.hkdf.algorithm.Algorithm.{Algorithm as HkdfAlgorithm}
@@ -57,14 +57,15 @@ verdict_answer a k m t before =
 -- the tag of the joined pieces under a key of these bytes
 unfoldable pub hmac_answer : HmacAlgorithm → List ℕ → List (List ℕ) → Response
 hmac_answer a k pieces =
-    within (based_on a) (length k)
-    (tag_answer (based_on a) k (concatenated pieces) (key_blocks (based_on a) (length k)))
+    within (hmac_digest a) (length k)
+    (tag_answer (hmac_digest a) k (concatenated pieces) (key_blocks (hmac_digest a) (length k)))
 
 -- whether t is the whole tag of the joined pieces under a key of these bytes
 unfoldable pub hmac_verify_answer : HmacAlgorithm → List ℕ → List (List ℕ) → List ℕ → Response
 hmac_verify_answer a k pieces t =
-    within (based_on a) (length k)
-    (verdict_answer (based_on a) k (concatenated pieces) t (key_blocks (based_on a) (length k)))
+    within (hmac_digest a) (length k)
+    (verdict_answer (hmac_digest a) k (concatenated pieces) t
+    (key_blocks (hmac_digest a) (length k)))
 
 -- n bytes of the output of the PRK k with this info, after so many blocks
 unfoldable pub output_answer : DigestAlgorithm → (k info : List ℕ) → (n before : ℕ) → Response
@@ -76,25 +77,26 @@ output_answer a k info n before =
 -- joined pieces
 unfoldable pub hkdf_answer : HkdfAlgorithm → (salt secret : List ℕ) → List (List ℕ) → ℕ → Response
 hkdf_answer a salt secret pieces n =
-    within (hash_of a) (length salt)
-    (within (hash_of a) (tag_input_len (hash_of a) (length secret))
-    (output_answer (hash_of a) (hmac_of (hash_of a) salt secret) (concatenated pieces) n
-    (key_blocks (hash_of a) (length salt) + (padded_blocks (hash_of a) (length secret) + 3))))
+    within (hkdf_digest a) (length salt)
+    (within (hkdf_digest a) (tag_input_len (hkdf_digest a) (length secret))
+    (output_answer (hkdf_digest a) (hmac_of (hkdf_digest a) salt secret) (concatenated pieces) n
+    (key_blocks (hkdf_digest a) (length salt)
+    + (padded_blocks (hkdf_digest a) (length secret) + 3))))
 
 -- n bytes derived from the secret p and the salt s by c iterations
 unfoldable pub pbkdf2_answer : Pbkdf2Algorithm → ℕ → (p s : List ℕ) → ℕ → Response
 pbkdf2_answer a c p s n =
-    when (can_derive (prf_algorithm a) (length p) (length s) n)
-    (given (dk (prf_algorithm a) p s c n)
-    (derive_blocks (prf_algorithm a) (length p) (length s) c n))
+    when (can_derive (pbkdf2_digest a) (length p) (length s) n)
+    (given (dk (pbkdf2_digest a) p s c n)
+    (derive_blocks (pbkdf2_digest a) (length p) (length s) c n))
 
 -- whether the value, which is not empty, is derived from the secret p and the salt s by c
 -- iterations
 unfoldable pub pbkdf2_verify_answer : Pbkdf2Algorithm → ℕ → (p s value : List ℕ) → Response
 pbkdf2_verify_answer a c p s value =
-    when (can_verify (prf_algorithm a) (length p) (length s) (length value))
-    (verified (bytes_eq value (dk (prf_algorithm a) p s c (length value)))
-    (derive_blocks (prf_algorithm a) (length p) (length s) c (length value)))
+    when (can_verify (pbkdf2_digest a) (length p) (length s) (length value))
+    (verified (bytes_eq value (dk (pbkdf2_digest a) p s c (length value)))
+    (derive_blocks (pbkdf2_digest a) (length p) (length s) c (length value)))
 
 -- what a request is answered
 unfoldable pub answer_of : Asked → Response

@@ -1,8 +1,8 @@
 //! The hash functions whose work is timed, and the algorithms over each.
 
 ghost use Rattle.std.specs.Prelude.{◌≡◌};
-ghost use Rattle.ring.specs.Hmac.{based_on};
-ghost use Rattle.ring.specs.Pbkdf2.{prf_algorithm};
+ghost use Rattle.ring.specs.Hmac.{hmac_digest};
+ghost use Rattle.ring.specs.Pbkdf2.{pbkdf2_digest};
 ghost use Rattle.ring_speed.specs.Work as specs;
 
 use ring::digest::{self, SHA1_FOR_LEGACY_USE_ONLY, SHA256, SHA512};
@@ -43,7 +43,7 @@ impl Hash {
 
     // HMAC over it.
     pub(crate) fn hmac_algorithm(self) -> hmac::Algorithm
-        ensures { based_on result ≡ specs.algorithm_of self }
+        ensures { hmac_digest result ≡ specs.algorithm_of self }
     {
         match self {
             Hash::Sha1 => HMAC_SHA1_FOR_LEGACY_USE_ONLY,
@@ -54,7 +54,7 @@ impl Hash {
 
     // PBKDF2 over HMAC over it.
     pub(crate) fn pbkdf2_algorithm(self) -> pbkdf2::Algorithm
-        ensures { prf_algorithm result ≡ specs.algorithm_of self }
+        ensures { pbkdf2_digest result ≡ specs.algorithm_of self }
     {
         match self {
             Hash::Sha1 => PBKDF2_HMAC_SHA1,

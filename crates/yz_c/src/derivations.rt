@@ -2,7 +2,7 @@
 
 ghost use Rattle.std.specs.Prelude.{◌≡◌, ◌≢◌, ◌↔◌, ◌<◌, Some, None, length};
 ghost use Rattle.ring.specs.Limits.{CanDerive};
-ghost use Rattle.ring.specs.Pbkdf2.{IsDerived, dk, prf_algorithm};
+ghost use Rattle.ring.specs.Pbkdf2.{IsDerived, dk, pbkdf2_digest};
 ghost use Rattle.ring.specs.declared.pbkdf2.algorithm.Algorithm.{Algorithm};
 ghost use Rattle.yz_c.specs.Number.{pbkdf2_named};
 
@@ -21,12 +21,12 @@ pub extern "C" fn yz_pbkdf2_derive(
     out: &mut [u8],
 ) -> i32
     ensures ok { (a : Algorithm) → pbkdf2_named algorithm ≡ Some a → result ≡ OK
-        → out.new ≡ dk (prf_algorithm a) secret.now salt.now iterations (length out.old) }
+        → out.new ≡ dk (pbkdf2_digest a) secret.now salt.now iterations (length out.old) }
     ensures unknown { result ≡ UNKNOWN_ALGORITHM ↔ pbkdf2_named algorithm ≡ None }
     ensures no_iterations { (a : Algorithm) → pbkdf2_named algorithm ≡ Some a
         → (result ≡ NO_ITERATIONS ↔ iterations ≡ 0) }
     ensures refused { (a : Algorithm) → pbkdf2_named algorithm ≡ Some a → 0 < iterations
-        → (result ≡ OK ↔ CanDerive (prf_algorithm a)
+        → (result ≡ OK ↔ CanDerive (pbkdf2_digest a)
         (length secret.now) (length salt.now) (length out.old)) }
     ensures told { (a : Algorithm) → pbkdf2_named algorithm ≡ Some a → 0 < iterations
         → result ≢ OK → result ≡ UNSPECIFIED }
@@ -54,7 +54,7 @@ pub extern "C" fn yz_pbkdf2_verify(
     derived: &[u8],
 ) -> i32
     ensures ok { (a : Algorithm) → pbkdf2_named algorithm ≡ Some a → 0 < iterations
-        → (result ≡ OK ↔ IsDerived (prf_algorithm a)
+        → (result ≡ OK ↔ IsDerived (pbkdf2_digest a)
         secret.now salt.now iterations derived.now) }
     ensures unknown { result ≡ UNKNOWN_ALGORITHM ↔ pbkdf2_named algorithm ≡ None }
     ensures no_iterations { (a : Algorithm) → pbkdf2_named algorithm ≡ Some a

@@ -3,7 +3,7 @@
 ghost use Rattle.std.specs.Prelude.{◌≡◌, ◌≢◌, ◌↔◌, ℕ, ◌*◌, ◌≤◌, ◌<◌};
 ghost use Rattle.std.specs.Prelude.{List, Some, None, length, IsTrue};
 ghost use Rattle.ring.specs.Algorithm.{output_len};
-ghost use Rattle.ring.specs.Hkdf.{PrkStandsFor, hash_of, okm, prk_algorithm};
+ghost use Rattle.ring.specs.Hkdf.{PrkStandsFor, hkdf_digest, okm, prk_algorithm};
 ghost use Rattle.ring.specs.Hmac.{hmac_of};
 ghost use Rattle.ring.specs.Limits.{IsInfoWithin, IsOutputWithin};
 ghost use Rattle.ring.specs.declared.hkdf.algorithm.Algorithm.{Algorithm};
@@ -33,7 +33,7 @@ impl KeyType for Length {
 
 // Whether so many bytes may be asked for.
 fn is_output_within(algorithm: &hkdf::Algorithm, len: usize) -> bool
-    ensures { IsTrue result ↔ IsOutputWithin (hash_of algorithm.now) len }
+    ensures { IsTrue result ↔ IsOutputWithin (hkdf_digest algorithm.now) len }
 {
     len <= MAX_ROUNDS * algorithm.hmac_algorithm().digest_algorithm().output_len()
 }
@@ -42,15 +42,15 @@ fn is_output_within(algorithm: &hkdf::Algorithm, len: usize) -> bool
 #[unsafe(no_mangle)]
 pub extern "C" fn yz_hkdf_extract(algorithm: u32, salt: &[u8], secret: &[u8], out: &mut [u8]) -> i32
     ensures ok { (a : Algorithm) → hkdf_named algorithm ≡ Some a → result ≡ OK
-        → out.new ≡ hmac_of (hash_of a) salt.now secret.now }
+        → out.new ≡ hmac_of (hkdf_digest a) salt.now secret.now }
     ensures unknown { result ≡ UNKNOWN_ALGORITHM ↔ hkdf_named algorithm ≡ None }
     ensures wrong_length { (a : Algorithm) → hkdf_named algorithm ≡ Some a
-        → (result ≡ WRONG_LENGTH ↔ length out.old ≢ output_len (hash_of a)) }
+        → (result ≡ WRONG_LENGTH ↔ length out.old ≢ output_len (hkdf_digest a)) }
     ensures refused { (a : Algorithm) → hkdf_named algorithm ≡ Some a
-        → length out.old ≡ output_len (hash_of a)
-        → (result ≡ OK ↔ CanSign (hash_of a) (length salt.now) (length secret.now)) }
+        → length out.old ≡ output_len (hkdf_digest a)
+        → (result ≡ OK ↔ CanSign (hkdf_digest a) (length salt.now) (length secret.now)) }
     ensures told { (a : Algorithm) → hkdf_named algorithm ≡ Some a
-        → length out.old ≡ output_len (hash_of a) → result ≢ OK → result ≡ UNSPECIFIED }
+        → length out.old ≡ output_len (hkdf_digest a) → result ≢ OK → result ≡ UNSPECIFIED }
     ensures unchanged { result ≢ OK → out.new ≡ out.old }
 {
     let Some(algorithm) = hkdf_of_number(algorithm) else {
@@ -70,16 +70,16 @@ pub extern "C" fn yz_hkdf_extract(algorithm: u32, salt: &[u8], secret: &[u8], ou
 #[unsafe(no_mangle)]
 pub extern "C" fn yz_hkdf_expand(algorithm: u32, prk: &[u8], info: &[u8], out: &mut [u8]) -> i32
     ensures ok { (a : Algorithm) → hkdf_named algorithm ≡ Some a → result ≡ OK
-        → out.new ≡ okm (hash_of a) prk.now info.now (length out.old) }
+        → out.new ≡ okm (hkdf_digest a) prk.now info.now (length out.old) }
     ensures unknown { result ≡ UNKNOWN_ALGORITHM ↔ hkdf_named algorithm ≡ None }
     ensures wrong_length { (a : Algorithm) → hkdf_named algorithm ≡ Some a
-        → (result ≡ WRONG_LENGTH ↔ (255 * output_len (hash_of a) < length out.old)) }
+        → (result ≡ WRONG_LENGTH ↔ (255 * output_len (hkdf_digest a) < length out.old)) }
     ensures refused { (a : Algorithm) → hkdf_named algorithm ≡ Some a
-        → IsOutputWithin (hash_of a) (length out.old)
+        → IsOutputWithin (hkdf_digest a) (length out.old)
         → (result ≡ OK
-        ↔ CanExpand (hash_of a) (length prk.now) (length info.now) (length out.old)) }
+        ↔ CanExpand (hkdf_digest a) (length prk.now) (length info.now) (length out.old)) }
     ensures told { (a : Algorithm) → hkdf_named algorithm ≡ Some a
-        → IsOutputWithin (hash_of a) (length out.old) → result ≢ OK → result ≡ UNSPECIFIED }
+        → IsOutputWithin (hkdf_digest a) (length out.old) → result ≢ OK → result ≡ UNSPECIFIED }
     ensures unchanged { result ≢ OK → out.new ≡ out.old }
 {
     let Some(algorithm) = hkdf_of_number(algorithm) else {
@@ -104,17 +104,17 @@ pub extern "C" fn yz_hkdf(
     out: &mut [u8],
 ) -> i32
     ensures ok { (a : Algorithm) → hkdf_named algorithm ≡ Some a → result ≡ OK
-        → out.new ≡ okm (hash_of a)
-        (hmac_of (hash_of a) salt.now secret.now) info.now (length out.old) }
+        → out.new ≡ okm (hkdf_digest a)
+        (hmac_of (hkdf_digest a) salt.now secret.now) info.now (length out.old) }
     ensures unknown { result ≡ UNKNOWN_ALGORITHM ↔ hkdf_named algorithm ≡ None }
     ensures wrong_length { (a : Algorithm) → hkdf_named algorithm ≡ Some a
-        → (result ≡ WRONG_LENGTH ↔ (255 * output_len (hash_of a) < length out.old)) }
+        → (result ≡ WRONG_LENGTH ↔ (255 * output_len (hkdf_digest a) < length out.old)) }
     ensures refused { (a : Algorithm) → hkdf_named algorithm ≡ Some a
-        → IsOutputWithin (hash_of a) (length out.old)
-        → (result ≡ OK ↔ CanMake (hash_of a)
+        → IsOutputWithin (hkdf_digest a) (length out.old)
+        → (result ≡ OK ↔ CanMake (hkdf_digest a)
         (length salt.now) (length secret.now) (length info.now) (length out.old)) }
     ensures told { (a : Algorithm) → hkdf_named algorithm ≡ Some a
-        → IsOutputWithin (hash_of a) (length out.old) → result ≢ OK → result ≡ UNSPECIFIED }
+        → IsOutputWithin (hkdf_digest a) (length out.old) → result ≢ OK → result ≡ UNSPECIFIED }
     ensures unchanged { result ≢ OK → out.new ≡ out.old }
 {
     let Some(algorithm) = hkdf_of_number(algorithm) else {

@@ -2,7 +2,7 @@
 
 ghost use Rattle.std.specs.Prelude.{◌≡◌, ◌≢◌, ◌↔◌, ◌⊎◌, ◌++◌, [], ℕ, List, Some, None, length};
 ghost use Rattle.ring.specs.Algorithm.{output_len};
-ghost use Rattle.ring.specs.Hmac.{KeyStandsFor, based_on, hmac_of, key_algorithm};
+ghost use Rattle.ring.specs.Hmac.{KeyStandsFor, hmac_digest, hmac_of, key_algorithm};
 ghost use Rattle.ring.specs.Limits.{IsMessageWithin, IsTagWithin};
 ghost use Rattle.ring.specs.Raw.{RawKeyStandsFor, RawTagStandsFor};
 ghost use Rattle.ring.specs.declared.digest.algorithm.Algorithm as digest;
@@ -49,15 +49,15 @@ fn verify_tag(key: &Key, message: &[u8], tag: &[u8]) -> i32
 #[unsafe(no_mangle)]
 pub extern "C" fn yz_hmac_sign(algorithm: u32, key: &[u8], message: &[u8], out: &mut [u8]) -> i32
     ensures ok { (a : Algorithm) → hmac_named algorithm ≡ Some a → result ≡ OK
-        → out.new ≡ hmac_of (based_on a) key.now message.now }
+        → out.new ≡ hmac_of (hmac_digest a) key.now message.now }
     ensures unknown { result ≡ UNKNOWN_ALGORITHM ↔ hmac_named algorithm ≡ None }
     ensures wrong_length { (a : Algorithm) → hmac_named algorithm ≡ Some a
-        → (result ≡ WRONG_LENGTH ↔ length out.old ≢ output_len (based_on a)) }
+        → (result ≡ WRONG_LENGTH ↔ length out.old ≢ output_len (hmac_digest a)) }
     ensures refused { (a : Algorithm) → hmac_named algorithm ≡ Some a
-        → length out.old ≡ output_len (based_on a)
-        → (result ≡ OK ↔ CanSign (based_on a) (length key.now) (length message.now)) }
+        → length out.old ≡ output_len (hmac_digest a)
+        → (result ≡ OK ↔ CanSign (hmac_digest a) (length key.now) (length message.now)) }
     ensures told { (a : Algorithm) → hmac_named algorithm ≡ Some a
-        → length out.old ≡ output_len (based_on a) → result ≢ OK → result ≡ UNSPECIFIED }
+        → length out.old ≡ output_len (hmac_digest a) → result ≢ OK → result ≡ UNSPECIFIED }
     ensures unchanged { result ≢ OK → out.new ≡ out.old }
 {
     let Some(algorithm) = hmac_of_number(algorithm) else {
@@ -76,8 +76,8 @@ pub extern "C" fn yz_hmac_sign(algorithm: u32, key: &[u8], message: &[u8], out: 
 #[unsafe(no_mangle)]
 pub extern "C" fn yz_hmac_verify(algorithm: u32, key: &[u8], message: &[u8], tag: &[u8]) -> i32
     ensures ok { (a : Algorithm) → hmac_named algorithm ≡ Some a
-        → (result ≡ OK ↔ (CanSign (based_on a) (length key.now) (length message.now)
-        × (tag.now ≡ hmac_of (based_on a) key.now message.now))) }
+        → (result ≡ OK ↔ (CanSign (hmac_digest a) (length key.now) (length message.now)
+        × (tag.now ≡ hmac_of (hmac_digest a) key.now message.now))) }
     ensures unknown { result ≡ UNKNOWN_ALGORITHM ↔ hmac_named algorithm ≡ None }
     ensures told { result ≢ UNKNOWN_ALGORITHM → result ≢ OK → result ≡ UNSPECIFIED }
 {
@@ -94,10 +94,10 @@ pub extern "C" fn yz_hmac_verify(algorithm: u32, key: &[u8], message: &[u8], tag
 #[unsafe(no_mangle)]
 pub extern "C" fn yz_hmac_key_init(algorithm: u32, value: &[u8], key: &mut RawKey) -> i32
     ensures ok { (a : Algorithm) → hmac_named algorithm ≡ Some a → result ≡ OK
-        → RawKeyStandsFor key.new (based_on a) value.now }
+        → RawKeyStandsFor key.new (hmac_digest a) value.now }
     ensures unknown { result ≡ UNKNOWN_ALGORITHM ↔ hmac_named algorithm ≡ None }
     ensures refused { (a : Algorithm) → hmac_named algorithm ≡ Some a
-        → (result ≡ OK ↔ IsMessageWithin (based_on a) (length value.now)) }
+        → (result ≡ OK ↔ IsMessageWithin (hmac_digest a) (length value.now)) }
     ensures told { result ≢ UNKNOWN_ALGORITHM → result ≢ OK → result ≡ UNSPECIFIED }
     ensures unchanged { result ≢ OK → key.new ≡ key.old }
 {

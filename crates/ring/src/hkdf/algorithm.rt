@@ -1,8 +1,8 @@
 //! The four algorithms.
 
 ghost use Rattle.std.specs.Prelude.{◌≡◌};
-ghost use Rattle.ring.specs.Hkdf.{hash_of};
-ghost use Rattle.ring.specs.Hmac.{based_on};
+ghost use Rattle.ring.specs.Hkdf.{hkdf_digest};
+ghost use Rattle.ring.specs.Hmac.{hmac_digest};
 
 use crate::digest::algorithm::{SHA1_FOR_LEGACY_USE_ONLY, SHA256, SHA384, SHA512};
 use crate::hmac::algorithm::{
@@ -28,14 +28,14 @@ pub const HKDF_SHA512: Algorithm = Algorithm(HMAC_SHA512);
 impl Algorithm {
     // HKDF over `hmac_algorithm`.
     pub(crate) fn over(hmac_algorithm: hmac::Algorithm) -> Self
-        ensures { hash_of result ≡ based_on hmac_algorithm }
+        ensures { hkdf_digest result ≡ hmac_digest hmac_algorithm }
     {
         Algorithm(hmac_algorithm)
     }
 
     /// The HMAC algorithm that it runs, whose lengths are its own.
     pub fn hmac_algorithm(&self) -> hmac::Algorithm
-        ensures { based_on result ≡ hash_of self.now }
+        ensures { hmac_digest result ≡ hkdf_digest self.now }
     {
         self.0
     }
@@ -43,8 +43,8 @@ impl Algorithm {
 
 /// Each constant is HKDF over the digest algorithm of its name: a law, whose call does nothing.
 pub fn constants_are_based_on_their_digests()
-    ensures sha1 { hash_of HKDF_SHA1_FOR_LEGACY_USE_ONLY ≡ SHA1_FOR_LEGACY_USE_ONLY }
-    ensures sha256 { hash_of HKDF_SHA256 ≡ SHA256 }
-    ensures sha384 { hash_of HKDF_SHA384 ≡ SHA384 }
-    ensures sha512 { hash_of HKDF_SHA512 ≡ SHA512 }
+    ensures sha1 { hkdf_digest HKDF_SHA1_FOR_LEGACY_USE_ONLY ≡ SHA1_FOR_LEGACY_USE_ONLY }
+    ensures sha256 { hkdf_digest HKDF_SHA256 ≡ SHA256 }
+    ensures sha384 { hkdf_digest HKDF_SHA384 ≡ SHA384 }
+    ensures sha512 { hkdf_digest HKDF_SHA512 ≡ SHA512 }
 {}

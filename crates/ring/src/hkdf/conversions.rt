@@ -1,8 +1,8 @@
 //! Keys, salts and PRKs made of outputs.
 
-ghost use Rattle.ring.specs.Hkdf.{PrkStandsFor, SaltStandsFor, hash_of};
+ghost use Rattle.ring.specs.Hkdf.{PrkStandsFor, SaltStandsFor, hkdf_digest};
 ghost use Rattle.ring.specs.Hkdf.{prk_algorithm, salt_algorithm};
-ghost use Rattle.ring.specs.Hmac.{KeyStandsFor, based_on, key_algorithm};
+ghost use Rattle.ring.specs.Hmac.{KeyStandsFor, hmac_digest, key_algorithm};
 ghost use Rattle.ring.specs.Okm.{IsMadeOf, carried};
 
 use crate::hkdf::algorithm::Algorithm;
@@ -18,7 +18,7 @@ impl TryFrom<Okm<'_, hmac::Algorithm>> for Key {
     type Error = Unspecified;
 
     ghost try_from_gives = { λ output result.
-        IsMadeOf output (based_on (carried output)) key_algorithm KeyStandsFor result };
+        IsMadeOf output (hmac_digest (carried output)) key_algorithm KeyStandsFor result };
 
     fn try_from(output: Okm<'_, hmac::Algorithm>) -> Result<Key, Unspecified> {
         let algorithm = *output.len();
@@ -33,7 +33,7 @@ impl TryFrom<Okm<'_, Algorithm>> for Salt {
     type Error = Unspecified;
 
     ghost try_from_gives = { λ output result.
-        IsMadeOf output (hash_of (carried output)) salt_algorithm SaltStandsFor result };
+        IsMadeOf output (hkdf_digest (carried output)) salt_algorithm SaltStandsFor result };
 
     fn try_from(output: Okm<'_, Algorithm>) -> Result<Salt, Unspecified> {
         let algorithm = output.len().hmac_algorithm();
@@ -48,7 +48,7 @@ impl TryFrom<Okm<'_, Algorithm>> for Prk {
     type Error = Unspecified;
 
     ghost try_from_gives = { λ output result.
-        IsMadeOf output (hash_of (carried output)) prk_algorithm PrkStandsFor result };
+        IsMadeOf output (hkdf_digest (carried output)) prk_algorithm PrkStandsFor result };
 
     fn try_from(output: Okm<'_, Algorithm>) -> Result<Prk, Unspecified> {
         let algorithm = output.len().hmac_algorithm();

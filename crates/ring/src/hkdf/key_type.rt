@@ -2,8 +2,8 @@
 
 ghost use Rattle.std.specs.Prelude.{◌≡◌, ℕ};
 ghost use Rattle.ring.specs.Algorithm.{output_len};
-ghost use Rattle.ring.specs.Hkdf.{hash_of};
-ghost use Rattle.ring.specs.Hmac.{based_on};
+ghost use Rattle.ring.specs.Hkdf.{hkdf_digest};
+ghost use Rattle.ring.specs.Hmac.{hmac_digest};
 
 use crate::hkdf::algorithm::Algorithm;
 use crate::hmac::algorithm as hmac;
@@ -23,7 +23,7 @@ pub trait KeyType: Drop {
 
 /// A key of the algorithm's output length (RFC 2104, section 3).
 impl KeyType for hmac::Algorithm {
-    ghost key_len = { λ a. output_len (based_on a) };
+    ghost key_len = { λ a. output_len (hmac_digest a) };
 
     fn len(&self) -> usize {
         self.digest_algorithm().output_len()
@@ -32,7 +32,7 @@ impl KeyType for hmac::Algorithm {
 
 /// A salt or a PRK of the algorithm's output length.
 impl KeyType for Algorithm {
-    ghost key_len = { λ a. output_len (hash_of a) };
+    ghost key_len = { λ a. output_len (hkdf_digest a) };
 
     fn len(&self) -> usize {
         self.hmac_algorithm().len()

@@ -5,8 +5,8 @@ ghost use Rattle.std.specs.Prelude.{ℕ, List, length, IfOk, IsErr, IsOk, OnErr,
 ghost use Rattle.ring_core.specs.Cost.{raised};
 ghost use Rattle.ring.specs.Algorithm.{max_input_len, output_len};
 ghost use Rattle.ring.specs.Cost.{fill_blocks, key_blocks};
-ghost use Rattle.ring.specs.Hkdf.{PrkStandsFor, hash_of, okm, prk_algorithm};
-ghost use Rattle.ring.specs.Hmac.{KeyStandsFor, based_on, key_algorithm};
+ghost use Rattle.ring.specs.Hkdf.{PrkStandsFor, hkdf_digest, okm, prk_algorithm};
+ghost use Rattle.ring.specs.Hmac.{KeyStandsFor, hmac_digest, key_algorithm};
 ghost use Rattle.ring.specs.Limits.{IsOutputWithin};
 ghost use Rattle.ring.specs.Pieces.{joined};
 
@@ -35,11 +35,12 @@ impl Prk {
         meter: &mut Meter,
     ) -> Result<Self, Unspecified>
         ensures ok { IfOk result (λ prk. PrkStandsFor prk value.now) }
-        ensures refused { IsErr result ↔ (max_input_len (hash_of algorithm) < length value.now) }
+        ensures refused { IsErr result
+            ↔ (max_input_len (hkdf_digest algorithm) < length value.now) }
         ensures unchanged { OnErr result (meter.new ≡ meter.old) }
         ensures cost { OnOk result (meter.new
-            ≡ raised meter.old (key_blocks (hash_of algorithm) (length value.now)) 0) }
-        ensures algorithm { IfOk result (λ prk. prk_algorithm prk ≡ hash_of algorithm) }
+            ≡ raised meter.old (key_blocks (hkdf_digest algorithm) (length value.now)) 0) }
+        ensures algorithm { IfOk result (λ prk. prk_algorithm prk ≡ hkdf_digest algorithm) }
     {
         Ok(Prk(Key::new_counted(algorithm.hmac_algorithm(), value, meter)?))
     }
@@ -52,8 +53,9 @@ impl Prk {
     /// any block is run.
     pub fn new_less_safe(algorithm: Algorithm, value: &[u8]) -> Result<Self, Unspecified>
         ensures ok { IfOk result (λ prk. PrkStandsFor prk value.now) }
-        ensures refused { IsErr result ↔ (max_input_len (hash_of algorithm) < length value.now) }
-        ensures algorithm { IfOk result (λ prk. prk_algorithm prk ≡ hash_of algorithm) }
+        ensures refused { IsErr result
+            ↔ (max_input_len (hkdf_digest algorithm) < length value.now) }
+        ensures algorithm { IfOk result (λ prk. prk_algorithm prk ≡ hkdf_digest algorithm) }
     {
         Prk::new_less_safe_counted(algorithm, value, &mut Meter::new())
     }
@@ -160,8 +162,8 @@ impl<L: KeyType> Okm<'_, L> {
 
     // The key of `algorithm` whose value is the whole output.
     pub(crate) fn into_key(self, algorithm: hmac::Algorithm) -> Result<Key, Unspecified>
-        requires { okm_number self ≡ output_len (based_on algorithm) }
-        ensures { IsMadeOf self.entry (based_on algorithm) key_algorithm KeyStandsFor result }
+        requires { okm_number self ≡ output_len (hmac_digest algorithm) }
+        ensures { IsMadeOf self.entry (hmac_digest algorithm) key_algorithm KeyStandsFor result }
     {
         let mut value = [0; MAX_OUTPUT_LEN];
         let value = &mut value[..algorithm.digest_algorithm().output_len()];

@@ -4,7 +4,7 @@ ghost use Rattle.std.specs.Prelude.{◌≡◌, ◌↔◌, ◌+◌, ◌<◌, ℕ,
 ghost use Rattle.ring_core.specs.Cost.{raised};
 ghost use Rattle.ring.specs.Algorithm.{block_len, max_input_len};
 ghost use Rattle.ring.specs.Cost.{key_blocks, padded_blocks};
-ghost use Rattle.ring.specs.Hkdf.{PrkStandsFor, SaltStandsFor, hash_of};
+ghost use Rattle.ring.specs.Hkdf.{PrkStandsFor, SaltStandsFor, hkdf_digest};
 ghost use Rattle.ring.specs.Hkdf.{prk_algorithm, salt_algorithm};
 ghost use Rattle.ring.specs.Hmac.{hmac_of};
 
@@ -26,11 +26,12 @@ impl Salt {
         meter: &mut Meter,
     ) -> Result<Self, Unspecified>
         ensures ok { IfOk result (λ salt. SaltStandsFor salt value.now) }
-        ensures refused { IsErr result ↔ (max_input_len (hash_of algorithm) < length value.now) }
+        ensures refused { IsErr result
+            ↔ (max_input_len (hkdf_digest algorithm) < length value.now) }
         ensures unchanged { OnErr result (meter.new ≡ meter.old) }
         ensures cost { OnOk result (meter.new
-            ≡ raised meter.old (key_blocks (hash_of algorithm) (length value.now)) 0) }
-        ensures algorithm { IfOk result (λ salt. salt_algorithm salt ≡ hash_of algorithm) }
+            ≡ raised meter.old (key_blocks (hkdf_digest algorithm) (length value.now)) 0) }
+        ensures algorithm { IfOk result (λ salt. salt_algorithm salt ≡ hkdf_digest algorithm) }
     {
         Ok(Salt(Key::new_counted(algorithm.hmac_algorithm(), value, meter)?))
     }
@@ -42,8 +43,9 @@ impl Salt {
     /// any block is run.
     pub fn new(algorithm: Algorithm, value: &[u8]) -> Result<Self, Unspecified>
         ensures ok { IfOk result (λ salt. SaltStandsFor salt value.now) }
-        ensures refused { IsErr result ↔ (max_input_len (hash_of algorithm) < length value.now) }
-        ensures algorithm { IfOk result (λ salt. salt_algorithm salt ≡ hash_of algorithm) }
+        ensures refused { IsErr result
+            ↔ (max_input_len (hkdf_digest algorithm) < length value.now) }
+        ensures algorithm { IfOk result (λ salt. salt_algorithm salt ≡ hkdf_digest algorithm) }
     {
         Salt::new_counted(algorithm, value, &mut Meter::new())
     }
@@ -84,7 +86,7 @@ impl Salt {
 
     /// The algorithm that it extracts by.
     pub fn algorithm(&self) -> Algorithm
-        ensures { hash_of result ≡ salt_algorithm self.now }
+        ensures { hkdf_digest result ≡ salt_algorithm self.now }
     {
         Algorithm::over(self.0.algorithm())
     }

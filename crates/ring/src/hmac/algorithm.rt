@@ -2,7 +2,7 @@
 
 ghost use Rattle.std.specs.Prelude.{◌≡◌, ◌++◌, Some, codes};
 ghost use Rattle.ring.specs.Algorithm.{name_of};
-ghost use Rattle.ring.specs.Hmac.{based_on};
+ghost use Rattle.ring.specs.Hmac.{hmac_digest};
 
 use crate::digest::algorithm::{self as digest, SHA1_FOR_LEGACY_USE_ONLY, SHA256, SHA384, SHA512};
 use std::fmt;
@@ -26,14 +26,14 @@ pub const HMAC_SHA512: Algorithm = Algorithm(SHA512);
 impl Algorithm {
     // HMAC over `digest_algorithm`.
     pub(crate) fn over(digest_algorithm: digest::Algorithm) -> Self
-        ensures { based_on result ≡ digest_algorithm }
+        ensures { hmac_digest result ≡ digest_algorithm }
     {
         Algorithm(digest_algorithm)
     }
 
     /// The digest algorithm that it runs twice, whose lengths are its own.
     pub fn digest_algorithm(&self) -> digest::Algorithm
-        ensures { result ≡ based_on self.now }
+        ensures { result ≡ hmac_digest self.now }
     {
         self.0
     }
@@ -41,15 +41,15 @@ impl Algorithm {
 
 /// Each constant is HMAC over the digest algorithm of its name: a law, whose call does nothing.
 pub fn constants_are_based_on_their_digests()
-    ensures sha1 { based_on HMAC_SHA1_FOR_LEGACY_USE_ONLY ≡ SHA1_FOR_LEGACY_USE_ONLY }
-    ensures sha256 { based_on HMAC_SHA256 ≡ SHA256 }
-    ensures sha384 { based_on HMAC_SHA384 ≡ SHA384 }
-    ensures sha512 { based_on HMAC_SHA512 ≡ SHA512 }
+    ensures sha1 { hmac_digest HMAC_SHA1_FOR_LEGACY_USE_ONLY ≡ SHA1_FOR_LEGACY_USE_ONLY }
+    ensures sha256 { hmac_digest HMAC_SHA256 ≡ SHA256 }
+    ensures sha384 { hmac_digest HMAC_SHA384 ≡ SHA384 }
+    ensures sha512 { hmac_digest HMAC_SHA512 ≡ SHA512 }
 {}
 
 /// The name of the digest algorithm, as in `Algorithm(SHA256)`.
 impl fmt::Debug for Algorithm {
-    ghost debug_output = { λ a. Some (codes "Algorithm(" ++ name_of (based_on a) ++ codes ")") };
+    ghost debug_output = { λ a. Some (codes "Algorithm(" ++ name_of (hmac_digest a) ++ codes ")") };
 
     fn fmt<W: fmt::Write>(&self, f: &mut fmt::Formatter<W>) -> fmt::Result {
         let algorithm = self.0;

@@ -85,7 +85,7 @@ fn masked_state(
 }
 
 impl Key {
-    ghost use Rattle.ring.specs.Hmac.{KeyStandsFor, based_on, key_algorithm};
+    ghost use Rattle.ring.specs.Hmac.{KeyStandsFor, hmac_digest, key_algorithm};
 
     /// The key of the bytes `key_value`, as [`Key::new`] gives it, its blocks counted by `meter`.
     pub fn new_counted(
@@ -95,11 +95,11 @@ impl Key {
     ) -> Result<Self, Unspecified>
         ensures ok { IfOk result (λ key. KeyStandsFor key key_value.now) }
         ensures refused { IsErr result
-            ↔ (max_input_len (based_on algorithm) < length key_value.now) }
+            ↔ (max_input_len (hmac_digest algorithm) < length key_value.now) }
         ensures unchanged { OnErr result (meter.new ≡ meter.old) }
         ensures cost { OnOk result (meter.new
-            ≡ raised meter.old (key_blocks (based_on algorithm) (length key_value.now)) 0) }
-        ensures algorithm { IfOk result (λ key. key_algorithm key ≡ based_on algorithm) }
+            ≡ raised meter.old (key_blocks (hmac_digest algorithm) (length key_value.now)) 0) }
+        ensures algorithm { IfOk result (λ key. key_algorithm key ≡ hmac_digest algorithm) }
     {
         let algorithm = algorithm.digest_algorithm();
         let block = block_of_key(&algorithm, key_value, meter)?;
@@ -116,8 +116,8 @@ impl Key {
     pub fn new(algorithm: Algorithm, key_value: &[u8]) -> Result<Self, Unspecified>
         ensures ok { IfOk result (λ key. KeyStandsFor key key_value.now) }
         ensures refused { IsErr result
-            ↔ (max_input_len (based_on algorithm) < length key_value.now) }
-        ensures algorithm { IfOk result (λ key. key_algorithm key ≡ based_on algorithm) }
+            ↔ (max_input_len (hmac_digest algorithm) < length key_value.now) }
+        ensures algorithm { IfOk result (λ key. key_algorithm key ≡ hmac_digest algorithm) }
     {
         Key::new_counted(algorithm, key_value, &mut Meter::new())
     }
@@ -128,17 +128,17 @@ impl Key {
     /// Refused where the source isn't ready for so many, and keeps all of its bytes then.
     pub fn generate(algorithm: Algorithm, rng: &mut dyn SecureRandom) -> Result<Self, Unspecified>
         ensures ok { IfOk result (λ key.
-            KeyStandsFor key (take (output_len (based_on algorithm)) (left rng.old))) }
+            KeyStandsFor key (take (output_len (hmac_digest algorithm)) (left rng.old))) }
         ensures refused { IsErr result
-            ↔ (ready rng.old (output_len (based_on algorithm)) ≡ false) }
+            ↔ (ready rng.old (output_len (hmac_digest algorithm)) ≡ false) }
         ensures unchanged { OnErr result (left rng.new ≡ left rng.old) }
         ensures enough { OnOk result
-            (output_len (based_on algorithm) ≤ length (left rng.old)) }
+            (output_len (hmac_digest algorithm) ≤ length (left rng.old)) }
         ensures taken { OnOk result
-            (left rng.new ≡ drop (output_len (based_on algorithm)) (left rng.old)) }
+            (left rng.new ≡ drop (output_len (hmac_digest algorithm)) (left rng.old)) }
         ensures unready { OnErr result
-            (ready rng.new (output_len (based_on algorithm)) ≡ false) }
-        ensures algorithm { IfOk result (λ key. key_algorithm key ≡ based_on algorithm) }
+            (ready rng.new (output_len (hmac_digest algorithm)) ≡ false) }
+        ensures algorithm { IfOk result (λ key. key_algorithm key ≡ hmac_digest algorithm) }
     {
         let mut bytes = [0; MAX_OUTPUT_LEN];
         let value = &mut bytes[..algorithm.digest_algorithm().output_len()];
@@ -148,7 +148,7 @@ impl Key {
 
     /// The algorithm of its tags.
     pub fn algorithm(&self) -> Algorithm
-        ensures { based_on result ≡ key_algorithm self.now }
+        ensures { hmac_digest result ≡ key_algorithm self.now }
     {
         Algorithm::over(self.inner.algorithm)
     }

@@ -1,8 +1,8 @@
 //! The four algorithms.
 
 ghost use Rattle.std.specs.Prelude.{◌≡◌};
-ghost use Rattle.ring.specs.Hmac.{based_on};
-ghost use Rattle.ring.specs.Pbkdf2.{prf_algorithm};
+ghost use Rattle.ring.specs.Hmac.{hmac_digest};
+ghost use Rattle.ring.specs.Pbkdf2.{pbkdf2_digest};
 
 use crate::digest::algorithm::{SHA1_FOR_LEGACY_USE_ONLY, SHA256, SHA384, SHA512};
 use crate::hmac::algorithm::{
@@ -28,7 +28,7 @@ pub const PBKDF2_HMAC_SHA512: Algorithm = Algorithm(HMAC_SHA512);
 impl Algorithm {
     // The HMAC algorithm that is its pseudorandom function.
     pub(crate) fn hmac_algorithm(&self) -> hmac::Algorithm
-        ensures { based_on result ≡ prf_algorithm self.now }
+        ensures { hmac_digest result ≡ pbkdf2_digest self.now }
     {
         self.0
     }
@@ -37,8 +37,8 @@ impl Algorithm {
 /// Each constant is PBKDF2 over HMAC with the digest algorithm of its name: a law, whose call does
 /// nothing.
 pub fn constants_are_based_on_their_digests()
-    ensures sha1 { prf_algorithm PBKDF2_HMAC_SHA1 ≡ SHA1_FOR_LEGACY_USE_ONLY }
-    ensures sha256 { prf_algorithm PBKDF2_HMAC_SHA256 ≡ SHA256 }
-    ensures sha384 { prf_algorithm PBKDF2_HMAC_SHA384 ≡ SHA384 }
-    ensures sha512 { prf_algorithm PBKDF2_HMAC_SHA512 ≡ SHA512 }
+    ensures sha1 { pbkdf2_digest PBKDF2_HMAC_SHA1 ≡ SHA1_FOR_LEGACY_USE_ONLY }
+    ensures sha256 { pbkdf2_digest PBKDF2_HMAC_SHA256 ≡ SHA256 }
+    ensures sha384 { pbkdf2_digest PBKDF2_HMAC_SHA384 ≡ SHA384 }
+    ensures sha512 { pbkdf2_digest PBKDF2_HMAC_SHA512 ≡ SHA512 }
 {}

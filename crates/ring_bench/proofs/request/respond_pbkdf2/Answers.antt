@@ -1,7 +1,7 @@
 use Rattle.std.proofs.Common.{◌≡◌, ◌++◌, length, take, drop, refl, ◌∙◌, rules}
 use Rattle.std.proofs.Math.Seq.{take-append_seam}
 use Rattle.std.specs.Int.NonZero.{non_zero_u32_get}
-use Rattle.ring.specs.Pbkdf2.{dk, prf_algorithm}
+use Rattle.ring.specs.Pbkdf2.{dk, pbkdf2_digest}
 use Rattle.ring.specs.Limits.{CanDerive}
 use Rattle.ring_bench.specs.Request.{pbkdf2_answer}
 use Rattle.ring_bench.proofs.Counts.{derive_count}
@@ -17,11 +17,11 @@ returns-in-Ok g c =
     let kept = take-append_seam out (drop (length out) c.in_ok-bytes.bytes.items) in
     let size : length c.deref_mut.result.now ≡ c.args.len = search rules in
     let made : take c.in_ok-bytes.bytes.len (out ++ drop (length out) c.in_ok-bytes.bytes.items)
-    ≡ dk (prf_algorithm c.args.algorithm) c.args.secret.now c.args.salt.now
+    ≡ dk (pbkdf2_digest c.args.algorithm) c.args.secret.now c.args.salt.now
     (non_zero_u32_get c.args.iterations) (length c.deref_mut.result.now) =
     rw room (kept ∙ end.ok) in
     let limits = end.refused.0 refl in
-    let can : CanDerive (prf_algorithm c.args.algorithm)
+    let can : CanDerive (pbkdf2_digest c.args.algorithm)
     (length c.args.secret.now) (length c.args.salt.now) c.args.len =
     rw size at limits in
     let count =

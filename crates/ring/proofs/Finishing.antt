@@ -2,13 +2,13 @@
 use Rattle.std.proofs.Common.{◌≡◌, ℕ, ◌+◌, ◌-◌, ◌*◌, ◌^◌, ◌≤◌, IsTrue, List, ◌++◌, length}
 use Rattle.std.proofs.Common.{replicate, ap, ◌∙◌, arith, rules, length-append, min, sym}
 use Rattle.std.proofs.Common.{append_assoc, take}
-use Rattle.ring.proofs.Lengths.{length-chain}
+use Rattle.ring.proofs.Lengths.{length-words_after}
 use Rattle.std.proofs.lemmas.List.Concat.{flat_map-append}
 use Rattle.std.proofs.lemmas.List.{take-append-le, take-append-drop}
 use Rattle.std.specs.Int.{bytes_high_first}
 use Rattle.ring.specs.Algorithm.{max_input_len, output_len, word_count, word_len}
 use Rattle.ring.specs.Context.{HasTaken}
-use Rattle.ring.specs.Digest.{chain, digest_of}
+use Rattle.ring.specs.Digest.{digest_of, words_after}
 use Rattle.ring.specs.Padding.{padded}
 use Rattle.ring.specs.State.{chaining_words, is_state_of, spare_words, state_word_len}
 use Rattle.ring.specs.State.{word_bytes, words}
@@ -28,7 +28,7 @@ word_bytes_front a n s =
 -- the digest at the front of a state's bytes
 pub digest_from : (out : List ℕ) (s : DynState) (a : Algorithm) (m : List ℕ)
     → out ≡ word_bytes (state_word_len s) (words s) ++ replicate (64 - 8 * state_word_len s) 0
-    → IsTrue (is_state_of a s) → chaining_words a s ≡ chain a (padded a m)
+    → IsTrue (is_state_of a s) → chaining_words a s ≡ words_after a (padded a m)
     → take (output_len a) out ≡ digest_of a m
 unfolding digest_of
 digest_from out s a m ev sized ew =
@@ -38,7 +38,7 @@ digest_from out s a m ev sized ew =
     let spare : List ℕ = word_bytes w (spare_words a s) in
     let zeros : List ℕ = replicate (64 - 8 * w) 0 in
     let count : length (chaining_words a s) ≡ word_count a =
-    ap length ew ∙ length-chain a (padded a m) in
+    ap length ew ∙ length-words_after a (padded a m) in
     let long : length front ≡ w * word_count a =
     length-word_bytes w (chaining_words a s) ∙ ap (λ (z : ℕ). w * z) count in
     let value : out ≡ front ++ (spare ++ zeros) =

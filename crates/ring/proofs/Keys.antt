@@ -20,7 +20,7 @@ use Rattle.ring.specs.declared.digest.block_context.BlockContext.{BlockContext}
 use Rattle.ring.specs.declared.digest.value.Digest.{Digest}
 use Rattle.ring.specs.declared.hmac.context.Context.{Context}
 use Rattle.ring.specs.declared.hmac.tag.Tag.{Tag}
-use Rattle.ring.proofs.Chains.{short_div}
+use Rattle.ring.proofs.Blocks.{short_div}
 use Rattle.ring.proofs.Lengths.{HasCounted, counted_end, last_past, length-digest_of}
 use Rattle.ring.proofs.Rows.{block_len-most}
 use Rattle.ring.proofs.Updating.{moved_block}

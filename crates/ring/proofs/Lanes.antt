@@ -4,15 +4,15 @@ use Rattle.std.proofs.Common.{drop, get_or, refl, sym, ap, ◌∙◌, arith, len
 use Rattle.std.proofs.Common.{length-take-le, replicate}
 use Rattle.std.proofs.lemmas.List.{length-map, take-append-drop, take-take, take_all, take_at}
 use Rattle.std.specs.declared.num.Wrapping.{Wrapping}
-use Rattle.ring_core.specs.Chunks.{chained}
+use Rattle.ring_core.specs.Chunks.{fold_chunks}
 use Rattle.ring_core.specs.Cost.{Counts, raised}
 use Rattle.ring_core.specs.Sha2.{block_step, family_256, words_32}
-use Rattle.ring_core.proofs.Chained.{chained-next, chained-none}
+use Rattle.ring_core.proofs.ChunkFolds.{fold_chunks-next, fold_chunks-none}
 use Rattle.ring_core.proofs.Costs.{raised-raised}
 use Rattle.ring_core.proofs.Four.{four_cases}
 use Rattle.ring_core.proofs.Sha2Steps.{length-block_step}
 use Rattle.ring.specs.Algorithm.{block_len, output_len}
-use Rattle.ring.specs.Digest.{chain, digest_of}
+use Rattle.ring.specs.Digest.{blocks_from, digest_of, words_after}
 use Rattle.ring.specs.Hmac.{hmac_of}
 use Rattle.ring.specs.KeyBlocks.{inner_block, outer_block}
 use Rattle.ring.specs.Padding.{padded}
@@ -20,7 +20,7 @@ use Rattle.ring.specs.Prepared.{past_message, prepared_padding}
 use Rattle.ring.specs.State.{word_bytes}
 use Rattle.ring.specs.declared.digest.algorithm.Algorithm.{Algorithm}
 use Rattle.ring.specs.declared.digest.algorithm.TheConstants.{SHA256}
-use Rattle.ring.proofs.Chains.{chain-append, chained_from}
+use Rattle.ring.proofs.Blocks.{words_after-append}
 use Rattle.ring.proofs.Keys.{length-inner_block, length-outer_block, output_below}
 use Rattle.ring.proofs.Outputs.{length-word_bytes}
 use Rattle.ring.proofs.Prepared.{HasMessage, message-padded, message-put}
@@ -71,11 +71,11 @@ length-lane {ws = ws} h block ew =
     length-word_bytes 4 ws ∙ rw (ew, length-block_step) refl
 
 -- the words after the one block that ends a padded message
-chain-lane : (p block : List ℕ) → length p ≡ 64 → length block ≡ 64
+words_after-lane : (p block : List ℕ) → length p ≡ 64 → length block ≡ 64
     → past_message SHA256 block ≡ prepared_padding SHA256
-    → block_step family_256 (chain SHA256 p) block
-    ≡ chain SHA256 (padded SHA256 (p ++ take 32 block))
-chain-lane p block lp lb h =
+    → block_step family_256 (words_after SHA256 p) block
+    ≡ words_after SHA256 (padded SHA256 (p ++ take 32 block))
+words_after-lane p block lp lb h =
     let m : List ℕ = take 32 block in
     let lm : length m ≡ 32 = length-take-le 32 block (omega (arith, lb)) in
     let ends : p ++ take 64 (m ++ drop 32 block) ≡ padded SHA256 (p ++ m) =
@@ -84,26 +84,26 @@ chain-lane p block lp lb h =
     let parts : take 64 (m ++ drop 32 block) ≡ block =
     ap (take 64) (take-append-drop 32 block) ∙ whole in
     let one : length block / 64 ≡ 1 = rw lb refl in
-    let start : List ℕ = chain SHA256 p in
-    let step : chained_from SHA256 start block ≡ block_step family_256 start block =
-    ap (chained (block_step family_256) 64 start block) one
-    ∙ chained-next (block_step family_256) 64 start block 0
+    let start : List ℕ = words_after SHA256 p in
+    let step : blocks_from SHA256 start block ≡ block_step family_256 start block =
+    ap (fold_chunks (block_step family_256) 64 start block) one
+    ∙ fold_chunks-next (block_step family_256) 64 start block 0
     ∙ ap (λ z. block_step family_256 z (take 64 block))
-    (chained-none (block_step family_256) 64 start block)
+    (fold_chunks-none (block_step family_256) 64 start block)
     ∙ ap (block_step family_256 start) whole in
-    sym step ∙ sym (chain-append SHA256 p block (rw lp refl) (rw lb refl))
-    ∙ ap (λ z. chain SHA256 (p ++ z)) (sym parts) ∙ ap (chain SHA256) ends
+    sym step ∙ sym (words_after-append SHA256 p block (rw lp refl) (rw lb refl))
+    ∙ ap (λ z. words_after SHA256 (p ++ z)) (sym parts) ∙ ap (words_after SHA256) ends
 
 -- their bytes are the digest
 digest-lane : (p block : List ℕ) {ws : List ℕ} → length p ≡ 64 → length block ≡ 64
     → past_message SHA256 block ≡ prepared_padding SHA256
-    → ws ≡ block_step family_256 (chain SHA256 p) block
+    → ws ≡ block_step family_256 (words_after SHA256 p) block
     → word_bytes 4 ws ≡ digest_of SHA256 (p ++ take 32 block)
 unfolding digest_of
 digest-lane p block {ws = ws} lp lb h ew =
-    let long = length-lane (chain SHA256 p) block ew in
+    let long = length-lane (words_after SHA256 p) block ew in
     sym (take_all 32 (word_bytes 4 ws) (omega (arith, long)))
-    ∙ ap (λ z. take 32 (word_bytes 4 z)) (ew ∙ chain-lane p block lp lb h)
+    ∙ ap (λ z. take 32 (word_bytes 4 z)) (ew ∙ words_after-lane p block lp lb h)
 
 -- a lane's block before its tag is made, between the two digests, and after it
 pub record IsSigned (inner outer old middle new : List ℕ) : Type 0 where
@@ -143,7 +143,8 @@ module _ {inner outer old middle new : List ℕ} where
   -- the message is the tag of the one before
   pub signed-tag : (k : List ℕ) → IsSigned inner outer old middle new → length old ≡ 64
       → past_message SHA256 old ≡ prepared_padding SHA256
-      → inner ≡ chain SHA256 (inner_block SHA256 k) → outer ≡ chain SHA256 (outer_block SHA256 k)
+      → inner ≡ words_after SHA256 (inner_block SHA256 k)
+      → outer ≡ words_after SHA256 (outer_block SHA256 k)
       → take 32 new ≡ hmac_of SHA256 k (take 32 old)
   unfolding hmac_of
   signed-tag k t lo h ei eo =

@@ -5,11 +5,11 @@ use Rattle.ring_core.specs.Sha1 as sha1
 use Rattle.ring_core.specs.Sha2 as sha2
 use Rattle.ring_core.specs.Cost.{Counts, raised}
 use Rattle.ring_core.proofs.Costs.{raised-none, raised-raised}
-use Rattle.ring_core.proofs.Chained.{length-chained}
+use Rattle.ring_core.proofs.ChunkFolds.{length-fold_chunks}
 use Rattle.ring.specs.Algorithm.{block_function_of_id, row_of, word_count, block_len}
 use Rattle.ring.specs.Algorithm.{initial_words_of_id, output_len, word_len}
 use Rattle.ring.specs.Cost.{last_blocks, padded_blocks, whole_blocks}
-use Rattle.ring.specs.Digest.{chain, digest_of}
+use Rattle.ring.specs.Digest.{digest_of, words_after}
 use Rattle.ring.specs.Padding.{padded}
 use Rattle.ring.specs.State.{word_bytes}
 use Rattle.ring.specs.declared.digest.algorithm.Algorithm.{Algorithm}
@@ -36,21 +36,21 @@ initial_count Sha384 = refl
 initial_count Sha512 = refl
 initial_count Sha512_256 = refl
 
--- a chain has as many words as the algorithm
-pub length-chain : (a : Algorithm) (p : List ℕ) → length (chain a p) ≡ word_count a
-unfolding chain
-length-chain a p =
+-- the words after blocks are as many as the algorithm has
+pub length-words_after : (a : Algorithm) (p : List ℕ) → length (words_after a p) ≡ word_count a
+unfolding words_after
+length-words_after a p =
     let keeps = λ (x y : List ℕ) (h : length x ≡ word_count a). keeps_count a.id x y in
-    length-chained _ _ (word_count a) _ _ p keeps (initial_count a.id)
+    length-fold_chunks _ _ (word_count a) _ _ p keeps (initial_count a.id)
 
 -- a digest has the output's length
 pub length-digest_of : (a : Algorithm) (m : List ℕ) → length (digest_of a m) ≡ output_len a
 unfolding digest_of
 length-digest_of a m =
-    let words : List ℕ = chain a (padded a m) in
+    let words : List ℕ = words_after a (padded a m) in
     let long : length (word_bytes (word_len a) words) ≡ word_len a * word_count a =
     length-word_bytes (word_len a) words
-    ∙ ap (λ (z : ℕ). word_len a * z) (length-chain a (padded a m)) in
+    ∙ ap (λ (z : ℕ). word_len a * z) (length-words_after a (padded a m)) in
     length-take-le (output_len a) _ (omega (arith, output_len-most a))
 
 -- the end of a message has the blocks of its pending bytes with their padding

@@ -2,7 +2,7 @@ pub mod Costs
 pub mod Rows
 pub mod Outputs
 pub mod Padding
-pub mod Chains
+pub mod Blocks
 pub mod Updating
 pub mod Finishing
 pub mod Tails

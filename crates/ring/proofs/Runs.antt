@@ -3,13 +3,13 @@ use Rattle.std.proofs.Common.{◌≡◌, ℕ, ◌*◌, ◌/◌, ◌<◌, List, l
 use Rattle.std.proofs.Common.{arith}
 use Rattle.std.proofs.lemmas.List.{length-take-le, take-append-drop, take_all}
 use Rattle.std.proofs.Math.Nat.{mul-div_cancel, div-mul-le_self}
-use Rattle.ring_core.specs.Chunks.{chained}
+use Rattle.ring_core.specs.Chunks.{fold_chunks}
 use Rattle.ring_core.specs.Sha1 as sha1
 use Rattle.ring_core.specs.Sha2 as sha2
-use Rattle.ring_core.proofs.Chained.{chained-append}
-use Rattle.ring.specs.Algorithm.{block_function, block_function_of_id, block_len, row_of}
+use Rattle.ring_core.proofs.ChunkFolds.{fold_chunks-append}
+use Rattle.ring.specs.Algorithm.{block_function_of_id, block_len, row_of}
 use Rattle.ring.specs.Algorithm.{word_count}
-use Rattle.ring.specs.Cost.{whole_blocks}
+use Rattle.ring.specs.Digest.{blocks_from}
 use Rattle.ring.specs.State.{chaining_words, words}
 use Rattle.ring.specs.declared.digest.algorithm.Algorithm.{Algorithm}
 use Rattle.ring.specs.declared.digest.algorithm.AlgorithmId.{AlgorithmId}
@@ -46,42 +46,42 @@ pub sha1_row : (i : AlgorithmId) → i ≡ Sha1 → IsRow i sha1.block_step 64 5
 sha1_row i e = rw e (record { step_is = refl; block_is = refl; count_is = refl })
 
 -- the chunks of a view of a list are the whole chunks at its front
-pub chained_chunks : (step : List ℕ → List ℕ → List ℕ) (n : ℕ) (h y items : List ℕ) → 0 < n
+pub fold_chunks-front : (step : List ℕ → List ℕ → List ℕ) (n : ℕ) (h y items : List ℕ) → 0 < n
     → items ≡ take (length y / n * n) y
-    → chained step n h items (length items / n) ≡ chained step n h y (length y / n)
-chained_chunks step n h y items pos e =
+    → fold_chunks step n h items (length items / n) ≡ fold_chunks step n h y (length y / n)
+fold_chunks-front step n h y items pos e =
     let k : ℕ = length y / n in
     let front : List ℕ = take (k * n) y in
     let long : length front ≡ k * n = length-take-le (k * n) y (div-mul-le_self (length y) n) in
     let count : length items / n ≡ k =
     ap (λ (x : List ℕ). length x / n) e ∙ ap (λ (x : ℕ). x / n) long ∙ mul-div_cancel k pos in
     let left : List ℕ = drop (k * n) y in
-    rw (count, e) (sym (chained-append step n h front left k (omega (arith, long)))
-    ∙ ap (λ (x : List ℕ). chained step n h x k) (take-append-drop (k * n) y))
+    rw (count, e) (sym (fold_chunks-append step n h front left k (omega (arith, long)))
+    ∙ ap (λ (x : List ℕ). fold_chunks step n h x k) (take-append-drop (k * n) y))
 
 -- the chaining words after the whole blocks of a list
 pub words_run : {step : List ℕ → List ℕ → List ℕ} {n count : ℕ} {old new : List ℕ}
     (a : Algorithm) (s t : DynState) (y : List ℕ)
     → IsRow a.id step n count → chaining_words a s ≡ old → chaining_words a t ≡ new
-    → new ≡ chained step n old y (length y / n)
+    → new ≡ fold_chunks step n old y (length y / n)
     → chaining_words a t
-    ≡ chained (block_function a) (block_len a) (chaining_words a s) y (whole_blocks a (length y))
+    ≡ blocks_from a (chaining_words a s) y
 words_run a s t y row es et en =
     et ∙ en ∙ sym (rw (row.step_is, row.block_is, es) refl)
 
 -- all words chain where there are eight
-all_chain : (a : Algorithm) (step : List ℕ → List ℕ → List ℕ) (n : ℕ) (ws : List ℕ)
+all_chaining : (a : Algorithm) (step : List ℕ → List ℕ → List ℕ) (n : ℕ) (ws : List ℕ)
     → IsRow a.id step n 8 → length ws ≡ 8
     → take (word_count a) ws ≡ ws
-all_chain a step n ws row len = rw row.count_is (take_all 8 ws (omega (arith, len)))
+all_chaining a step n ws row len = rw row.count_is (take_all 8 ws (omega (arith, len)))
 
 -- the run of a state of eight words that chain
 pub words_run_all : {step : List ℕ → List ℕ → List ℕ} {n : ℕ}
     (a : Algorithm) (s t : DynState) (y : List ℕ)
     → IsRow a.id step n 8 → length (words s) ≡ 8 → length (words t) ≡ 8
-    → words t ≡ chained step n (words s) y (length y / n)
+    → words t ≡ fold_chunks step n (words s) y (length y / n)
     → chaining_words a t
-    ≡ chained (block_function a) (block_len a) (chaining_words a s) y (whole_blocks a (length y))
+    ≡ blocks_from a (chaining_words a s) y
 words_run_all {step} {n} a s t y row ls lt en =
-    words_run a s t y row (all_chain a step n (words s) row ls)
-    (all_chain a step n (words t) row lt) en
+    words_run a s t y row (all_chaining a step n (words s) row ls)
+    (all_chaining a step n (words t) row lt) en

@@ -9,13 +9,13 @@ use borrow.Rule.Slice.PartMut.{put_mid}
 use Rattle.ring.specs.Algorithm.{block_len, length_len}
 use Rattle.ring.specs.Context.{HasTaken}
 use Rattle.ring.specs.Cost.{padded_blocks}
-use Rattle.ring.specs.Digest.{chain}
+use Rattle.ring.specs.Digest.{blocks_from, words_after}
 use Rattle.ring.specs.Padding.{IsWhole, padded, padded_with, tail_of, zeros_of}
 use Rattle.ring.specs.State.{chaining_words}
 use Rattle.ring.specs.declared.digest.algorithm.Algorithm.{Algorithm}
 use Rattle.ring.specs.declared.digest.block_context.BlockContext.{BlockContext}
 use Rattle.ring.specs.declared.digest.dynstate.DynState.{DynState}
-use Rattle.ring.proofs.Chains.{chain-append, chained_from}
+use Rattle.ring.proofs.Blocks.{words_after-append}
 use Rattle.ring.proofs.Outputs.{length-bytes_high_first}
 use Rattle.ring.proofs.Padding.{padded_is_padded}
 use Rattle.ring.proofs.Rows.{AreSizes, sizes_of}
@@ -134,13 +134,14 @@ whole-rest a p x hp h = rest (block_len a) (sizes_of a) hp (rw length-append at 
         rw e.0 (omega arith)
 
 -- the words after the blocks that end a padded message
-pub chain_end : (b : BlockContext) (p m tail : List ℕ) (s : DynState) → HasTaken b p
+pub words_after-padded : (b : BlockContext) (p m tail : List ℕ) (s : DynState) → HasTaken b p
     → p ++ tail ≡ padded b.algorithm m
     → chaining_words b.algorithm s
-    ≡ chained_from b.algorithm (chaining_words b.algorithm b.state) tail
-    → chaining_words b.algorithm s ≡ chain b.algorithm (padded b.algorithm m)
-chain_end b p m tail s h e ew =
+    ≡ blocks_from b.algorithm (chaining_words b.algorithm b.state) tail
+    → chaining_words b.algorithm s ≡ words_after b.algorithm (padded b.algorithm m)
+words_after-padded b p m tail s h e ew =
     let a : Algorithm = b.algorithm in
-    let after : chaining_words a s ≡ chained_from a (chain a p) tail = ew ∙ rw h.words refl in
+    let after : chaining_words a s ≡ blocks_from a (words_after a p) tail = ew ∙ rw h.words refl in
     let whole : IsWhole a (p ++ tail) = rw e (padded_is_padded a m).whole in
-    after ∙ sym (chain-append a p tail h.whole (whole-rest a p tail h.whole whole)) ∙ ap (chain a) e
+    after ∙ sym (words_after-append a p tail h.whole (whole-rest a p tail h.whole whole))
+    ∙ ap (words_after a) e

@@ -15,7 +15,7 @@ use Rattle.ring.specs.Cost.{whole_blocks}
 use Rattle.ring.specs.declared.digest.algorithm.Algorithm.{Algorithm}
 use Rattle.ring.specs.declared.digest.block_context.BlockContext.{BlockContext}
 use Rattle.ring.specs.declared.digest.context.Context.{Context}
-use Rattle.ring.proofs.Chains.{mul_whole, whole_div-add, short_div, whole_mul}
+use Rattle.ring.proofs.Blocks.{mul_whole, whole_div-add, short_div, whole_mul}
 use Rattle.ring.proofs.Rows.{block_len-positive}
 
 -- no block moved

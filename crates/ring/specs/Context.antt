@@ -3,7 +3,7 @@ use Rattle.std.specs.Prelude.{◌≡◌, ℕ, ◌+◌, ◌-◌, ◌*◌, ◌≤�
 use Rattle.std.specs.Prelude.{replicate}
 use Rattle.ring_core.specs.Cost.{Counts, raised}
 use Rattle.ring.specs.Algorithm.{word_count}
-use Rattle.ring.specs.Digest.{chain}
+use Rattle.ring.specs.Digest.{words_after}
 use Rattle.ring.specs.Padding.{IsWhole}
 use Rattle.ring.specs.State.{chaining_words, spare_words}
 use Rattle.ring.specs.declared.digest.algorithm.Algorithm.{Algorithm}
@@ -25,7 +25,7 @@ counted_bytes b = cut_off b.completed_bytes
 -- the block context has taken in the whole blocks p
 pub record HasTaken (b : BlockContext) (p : List ℕ) : Type 0 where
   pub whole : IsWhole b.algorithm p
-  pub words : chaining_words b.algorithm b.state ≡ chain b.algorithm p
+  pub words : chaining_words b.algorithm b.state ≡ words_after b.algorithm p
   pub spare : spare_words b.algorithm b.state ≡ replicate (8 - word_count b.algorithm) 0
   pub count : b.completed_bytes ≡ cut_off (length p)
 

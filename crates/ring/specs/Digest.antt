@@ -1,20 +1,23 @@
 -- Digests (FIPS 180-4, sections 6.1 to 6.7).
 use Rattle.std.specs.Prelude.{◌≡◌, ℕ, ◌/◌, List, length, take}
-use Rattle.ring_core.specs.Chunks.{chained}
+use Rattle.ring_core.specs.Chunks.{fold_chunks}
 use Rattle.ring.specs.Algorithm.{block_function, block_len, initial_words, output_len, word_len}
 use Rattle.ring.specs.Padding.{padded}
 use Rattle.ring.specs.State.{word_bytes}
 use Rattle.ring.specs.declared.digest.algorithm.Algorithm.{Algorithm}
 use Rattle.ring.specs.declared.digest.value.Digest.{Digest}
 
--- the chaining words after the whole blocks p: H(0) after none, and one block function a block;
--- `chained` is the recursion, and `chain_from` the same from words that are given
-unfoldable pub chain : Algorithm → List ℕ → List ℕ
-chain a p = chained (block_function a) (block_len a) (initial_words a) p (length p / block_len a)
+-- the words after the whole blocks of p, from the words h: one block function a block
+abbrev pub blocks_from : Algorithm → (h p : List ℕ) → List ℕ
+blocks_from a h p = fold_chunks (block_function a) (block_len a) h p (length p / block_len a)
+
+-- the chaining words after the whole blocks p: H(0) after none
+unfoldable pub words_after : Algorithm → List ℕ → List ℕ
+words_after a p = blocks_from a (initial_words a) p
 
 -- the digest of the message m: the first bytes of the last chaining words
 unfoldable pub digest_of : Algorithm → List ℕ → List ℕ
-digest_of a m = take (output_len a) (word_bytes (word_len a) (chain a (padded a m)))
+digest_of a m = take (output_len a) (word_bytes (word_len a) (words_after a (padded a m)))
 
 -- the algorithm that made a digest
 abbrev pub digest_algorithm : Digest → Algorithm

@@ -3,7 +3,7 @@ use Rattle.std.specs.Prelude.{◌≡◌, ◌<◌, ◌+◌, ◌-◌, ◌*◌, ◌
 use Rattle.std.specs.Prelude.{drop, replicate, Option, Some, None, if◌then◌else◌, nat_eq}
 use Rattle.ring.specs.Algorithm.{block_len, word_count, word_len}
 use Rattle.ring.specs.Context.{cut_off}
-use Rattle.ring.specs.Digest.{chain}
+use Rattle.ring.specs.Digest.{words_after}
 use Rattle.ring.specs.KeyBlocks.{inner_block, outer_block}
 use Rattle.ring.specs.Padding.{IsWhole}
 use Rattle.ring.specs.declared.digest.algorithm.Algorithm.{Algorithm}
@@ -34,7 +34,7 @@ raw_words a numbers = map (λ n. n % 2 ^ (8 * word_len a)) numbers
 -- the numbers are the state after the whole blocks p
 pub record IsRawState (a : Algorithm) (numbers p : List ℕ) : Type 0 where
   pub whole : IsWhole a p
-  pub words : take (word_count a) (raw_words a numbers) ≡ chain a p
+  pub words : take (word_count a) (raw_words a numbers) ≡ words_after a p
   pub spare : drop (word_count a) (raw_words a numbers) ≡ replicate (8 - word_count a) 0
 
 -- the numbers are those of a context of the message m under the algorithm a

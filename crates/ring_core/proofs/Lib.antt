@@ -12,4 +12,4 @@ pub mod ChunkLists
 pub mod Bytes
 pub mod Costs
 pub mod Roots
-pub mod Chained
+pub mod ChunkFolds

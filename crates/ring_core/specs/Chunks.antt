@@ -15,6 +15,6 @@ abbrev pub chunks : {A : Type 0} → ℕ → List A → List (List A)
 chunks n xs = first_chunks n (chunk_count n (length xs)) xs
 
 -- what `step` makes of h and the first k chunks of n bytes, in turn
-unfoldable pub chained : (List ℕ → List ℕ → List ℕ) → ℕ → List ℕ → List ℕ → ℕ → List ℕ
-chained step n h p zero = h
-chained step n h p (suc k) = step (chained step n h p k) (chunk_at n p k)
+unfoldable pub fold_chunks : (List ℕ → List ℕ → List ℕ) → ℕ → List ℕ → List ℕ → ℕ → List ℕ
+fold_chunks step n h p zero = h
+fold_chunks step n h p (suc k) = step (fold_chunks step n h p k) (chunk_at n p k)

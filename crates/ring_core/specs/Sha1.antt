@@ -1,7 +1,7 @@
 -- The block function of SHA-1 (FIPS 180-4, 6.1.2).
 use Rattle.std.specs.Prelude.{ℕ, zero, suc, ◌-◌, List, [], ◌∷◌, slice_index, nat_lt, if◌then◌else◌}
 use Rattle.ring_core.specs.Schedule.{listed_at}
-use Rattle.ring_core.specs.Chunks.{chained}
+use Rattle.ring_core.specs.Chunks.{fold_chunks}
 use Rattle.ring_core.specs.Word.{◌⊕◌, add_words, choose, majority, parity, rotl, sum_words, word_at}
 
 -- f t x y z: Ch, Parity, Maj and Parity again, for twenty rounds each (4.1.1)
@@ -66,5 +66,5 @@ unfoldable pub block_step : List ℕ → List ℕ → List ℕ
 block_step h block = add_state h (rounds_from h block 80)
 
 -- the words after the first n blocks of p, from the words h (6.1.2)
-abbrev pub chain_from : List ℕ → List ℕ → ℕ → List ℕ
-chain_from h p n = chained block_step 64 h p n
+abbrev pub blocks_from : List ℕ → List ℕ → ℕ → List ℕ
+blocks_from h p n = fold_chunks block_step 64 h p n

@@ -3,7 +3,7 @@ use Rattle.std.specs.Prelude.{ℕ, zero, suc, ◌-◌, ◌*◌, ◌/◌, ◌%◌
 use Rattle.std.specs.Prelude.{nat_lt, if◌then◌else◌, map}
 use Rattle.std.specs.declared.num.Wrapping.{Wrapping}
 use Rattle.ring_core.specs.Schedule.{listed_at}
-use Rattle.ring_core.specs.Chunks.{chained}
+use Rattle.ring_core.specs.Chunks.{fold_chunks}
 use Rattle.ring_core.specs.Word.{◌⊕◌, sum_words, add_words, choose, majority, rotr, shr, word_at}
 
 -- what SHA-256 and the three algorithms of 64-bit words differ in
@@ -173,8 +173,8 @@ abbrev pub block_len : Family → ℕ
 block_len f = 16 * (f.bits / 8)
 
 -- the words after the first n blocks of p, from the words h (6.2.2, 6.4.2)
-abbrev pub chain_from : Family → List ℕ → List ℕ → ℕ → List ℕ
-chain_from f h p n = chained (block_step f) (block_len f) h p n
+abbrev pub blocks_from : Family → List ℕ → List ℕ → ℕ → List ℕ
+blocks_from f h p n = fold_chunks (block_step f) (block_len f) h p n
 
 -- the numbers of a state of 32-bit words
 abbrev pub words_32 : List (Wrapping ℕ) → List ℕ

@@ -10,7 +10,7 @@ use Rattle.ring.specs.declared.digest.algorithm.TheConstants.{SHA1_FOR_LEGACY_US
 use Rattle.ring.specs.declared.digest.algorithm.TheConstants.{SHA512}
 use Rattle.ring_core.specs.Sha1 as sha1
 use Rattle.ring_core.specs.Sha2.{block_step, family_256, family_512}
-use Rattle.ring_speed.specs.Chains.{front, message_after, words_after}
+use Rattle.ring_speed.specs.Repeats.{front, message_after, words_after_steps}
 use Rattle.ring_speed.specs.declared.blocks.TheConstants.{BLOCK_LEN_32, BLOCK_LEN_64}
 use Rattle.ring_speed.specs.declared.hash.Hash.{Hash}
 use Rattle.ring_speed.specs.declared.hash.Hash.TheVariants.{Sha1, Sha256, Sha512}
@@ -37,9 +37,9 @@ kit_digest_of Sha512 = sha512
 
 -- the words after so many steps of two blocks each, from words of 0
 abbrev pub block_words : Hash → (steps : ℕ) → List ℕ
-block_words Sha1 n = words_after sha1.block_step BLOCK_LEN_32 (replicate 5 0) n
-block_words Sha256 n = words_after (block_step family_256) BLOCK_LEN_32 (replicate 8 0) n
-block_words Sha512 n = words_after (block_step family_512) BLOCK_LEN_64 (replicate 8 0) n
+block_words Sha1 n = words_after_steps sha1.block_step BLOCK_LEN_32 (replicate 5 0) n
+block_words Sha256 n = words_after_steps (block_step family_256) BLOCK_LEN_32 (replicate 8 0) n
+block_words Sha512 n = words_after_steps (block_step family_512) BLOCK_LEN_64 (replicate 8 0) n
 
 -- what so many steps of a piece of work give: the first of the words, the front of the message, or
 -- that of one round of output, which takes one iteration at least

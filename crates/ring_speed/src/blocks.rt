@@ -4,8 +4,8 @@ ghost use Rattle.std.specs.Prelude.{◌≡◌, ◌%◌, ◌^◌, ◌≤◌, map,
 ghost use Rattle.ring_core.specs.Sha1 as sha1;
 ghost use Rattle.ring_core.specs.Sha2.{block_step, family_256, family_512, words_32, words_64};
 ghost use Rattle.ring_core.specs.Word.{word_32};
-ghost use Rattle.ring_speed.specs.Chains as chains;
-ghost use Rattle.ring_speed.specs.Chains.{words_after};
+ghost use Rattle.ring_speed.specs.Repeats as repeats;
+ghost use Rattle.ring_speed.specs.Repeats.{words_after_steps};
 ghost use Rattle.ring_speed.specs.Work.{block_words};
 
 use crate::hash::Hash;
@@ -24,7 +24,7 @@ pub(crate) const BLOCK_LEN_64: usize = 128;
 // once for all steps.
 fn numbered<const N: usize>(number: u32) -> [u8; N]
     requires { 4 ≤ N }
-    ensures { result ≡ chains.numbered N number }
+    ensures { result ≡ repeats.numbered N number }
 {
     let mut block = [0; N];
     block[..4].copy_from_slice(&number.to_be_bytes());
@@ -42,7 +42,7 @@ fn number_of(word: u64) -> u64
 #[tactic(auto, using(crate::proofs::Steps::words_first))]
 fn run_sha1(state: &mut State32, steps: u32)
     ensures { take 5 (map word_32 state.new)
-        ≡ words_after sha1.block_step BLOCK_LEN_32 (take 5 (map word_32 state.old)) steps }
+        ≡ words_after_steps sha1.block_step BLOCK_LEN_32 (take 5 (map word_32 state.old)) steps }
 {
     'steps: for step in 0..steps {
         let block = numbered::<BLOCK_LEN_32>(step);
@@ -55,7 +55,7 @@ fn run_sha1(state: &mut State32, steps: u32)
 #[tactic(auto, using(crate::proofs::Steps::words_first))]
 fn run_sha256(state: &mut State32, steps: u32)
     ensures { words_32 state.new
-        ≡ words_after (block_step family_256) BLOCK_LEN_32 (words_32 state.old) steps }
+        ≡ words_after_steps (block_step family_256) BLOCK_LEN_32 (words_32 state.old) steps }
 {
     'steps: for step in 0..steps {
         let block = numbered::<BLOCK_LEN_32>(step);
@@ -68,7 +68,7 @@ fn run_sha256(state: &mut State32, steps: u32)
 #[tactic(auto, using(crate::proofs::Steps::words_first))]
 fn run_sha512(state: &mut State64, steps: u32)
     ensures { words_64 state.new
-        ≡ words_after (block_step family_512) BLOCK_LEN_64 (words_64 state.old) steps }
+        ≡ words_after_steps (block_step family_512) BLOCK_LEN_64 (words_64 state.old) steps }
 {
     'steps: for step in 0..steps {
         let block = numbered::<BLOCK_LEN_64>(step);

@@ -3,7 +3,7 @@
 ghost use Rattle.std.specs.Prelude.{◌≡◌, ◌≤◌, max};
 ghost use Rattle.ring.specs.Algorithm.{output_len};
 ghost use Rattle.ring.specs.Pbkdf2.{dk};
-ghost use Rattle.ring_speed.specs.Chains.{front};
+ghost use Rattle.ring_speed.specs.Repeats.{front};
 ghost use Rattle.ring_speed.specs.Work.{algorithm_of};
 
 use crate::hash::Hash;

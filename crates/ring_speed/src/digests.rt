@@ -4,7 +4,7 @@ ghost use Rattle.std.specs.Prelude.{◌≡◌, ◌≤◌, length};
 ghost use Rattle.std.specs.Fn.{iterate};
 ghost use Rattle.ring.specs.Algorithm.{max_input_len, output_len};
 ghost use Rattle.ring.specs.Digest.{digest_of};
-ghost use Rattle.ring_speed.specs.Chains.{front, message_after, replaced_front};
+ghost use Rattle.ring_speed.specs.Repeats.{front, message_after, replaced_front};
 ghost use Rattle.ring_speed.specs.Work.{algorithm_of};
 
 use crate::hash::Hash;

@@ -2,7 +2,7 @@
 
 ghost use Rattle.std.specs.Prelude.{◌≡◌, ◌≤◌, length};
 ghost use Rattle.std.specs.Fn.{iterate};
-ghost use Rattle.ring_speed.specs.Chains.{front, message_after, replaced_front};
+ghost use Rattle.ring_speed.specs.Repeats.{front, message_after, replaced_front};
 ghost use Rattle.ring_speed.specs.Work.{kit_digest_of};
 
 use crate::hash::Hash;

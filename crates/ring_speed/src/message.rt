@@ -1,7 +1,7 @@
 //! Messages whose first bytes change.
 
 ghost use Rattle.std.specs.Prelude.{◌≡◌, ◌≤◌, ◌++◌, drop, length};
-ghost use Rattle.ring_speed.specs.Chains as chains;
+ghost use Rattle.ring_speed.specs.Repeats as repeats;
 
 // The bytes of a long message.
 pub(crate) const LONG_LEN: usize = 65_536;
@@ -26,7 +26,7 @@ pub(crate) fn replace_front(message: &mut [u8], bytes: &[u8])
 // The number that the first eight bytes write, the highest first.
 pub(crate) fn front(message: &[u8]) -> u64
     requires { 8 ≤ length message.now }
-    ensures { result ≡ chains.front message.now }
+    ensures { result ≡ repeats.front message.now }
 {
     u64::from_be_bytes(*message[..8].as_array::<8>().unwrap())
 }

@@ -4,7 +4,7 @@ ghost use Rattle.std.specs.Prelude.{◌≡◌, ◌≤◌, ℕ, List, length};
 ghost use Rattle.std.specs.Fn.{iterate};
 ghost use Rattle.ring.specs.Algorithm.{output_len};
 ghost use Rattle.ring.specs.Hmac.{KeyStandsFor, hmac_of, key_algorithm};
-ghost use Rattle.ring_speed.specs.Chains.{front, message_after, replaced_front};
+ghost use Rattle.ring_speed.specs.Repeats.{front, message_after, replaced_front};
 ghost use Rattle.ring_speed.specs.Work.{algorithm_of};
 
 use crate::hash::Hash;

@@ -2,11 +2,10 @@
 
 ghost use Rattle.std.specs.Prelude.{◌≡◌, ◌↔◌, ℕ, ◌+◌, ◌*◌, ◌/◌, ◌<◌, List, [], ◌++◌};
 ghost use Rattle.std.specs.Prelude.{length, take, drop, IsTrue, IfOk, IsErr, OnOk, OnErr};
-ghost use Rattle.ring_core.specs.Chunks.{chained};
 ghost use Rattle.ring_core.specs.Cost.{raised};
-ghost use Rattle.ring.specs.Algorithm.{block_function, block_len, max_input_len, output_len};
+ghost use Rattle.ring.specs.Algorithm.{block_len, max_input_len, output_len};
 ghost use Rattle.ring.specs.Cost.{padded_blocks, whole_blocks};
-ghost use Rattle.ring.specs.Digest.{IsDigest, digest_algorithm, digest_of};
+ghost use Rattle.ring.specs.Digest.{IsDigest, blocks_from, digest_algorithm, digest_of};
 ghost use Rattle.ring.specs.Padding.{padded};
 ghost use Rattle.ring.specs.State.{chaining_words, is_state_of, spare_words};
 ghost use Rattle.ring.specs.declared.digest.algorithm.Algorithm.{Algorithm};
@@ -27,9 +26,8 @@ use ring_core::polyfill::slice::as_chunks;
 // gives what comes after the last one.
 fn run_blocks_64<'i>(words: &mut State64, input: &'i [u8], meter: &mut Meter) -> &'i [u8]
     ensures words { (a : Algorithm) → IsTrue (is_state_of a (DynState.As64 words.old))
-        → chaining_words a (DynState.As64 words.new) ≡ chained (block_function a) (block_len a)
-        (chaining_words a (DynState.As64 words.old)) input.now
-        (whole_blocks a (length input.now)) }
+        → chaining_words a (DynState.As64 words.new)
+        ≡ blocks_from a (chaining_words a (DynState.As64 words.old)) input.now }
     ensures spare { (a : Algorithm) → IsTrue (is_state_of a (DynState.As64 words.old))
         → spare_words a (DynState.As64 words.new) ≡ spare_words a (DynState.As64 words.old) }
     ensures rest { result.now ≡ drop (length input.now / 128 * 128) input.now }
@@ -49,9 +47,7 @@ fn run_blocks_32<'i>(
 ) -> &'i [u8]
     requires { IsTrue (is_state_of algorithm (DynState.As32 words.old)) }
     ensures words { chaining_words algorithm (DynState.As32 words.new)
-        ≡ chained (block_function algorithm) (block_len algorithm)
-        (chaining_words algorithm (DynState.As32 words.old)) input.now
-        (whole_blocks algorithm (length input.now)) }
+        ≡ blocks_from algorithm (chaining_words algorithm (DynState.As32 words.old)) input.now }
     ensures spare { spare_words algorithm (DynState.As32 words.new)
         ≡ spare_words algorithm (DynState.As32 words.old) }
     ensures rest { result.now
@@ -76,9 +72,8 @@ fn run_blocks<'i>(
     meter: &mut Meter,
 ) -> &'i [u8]
     requires { IsTrue (is_state_of algorithm state.old) }
-    ensures words { chaining_words algorithm state.new ≡ chained (block_function algorithm)
-        (block_len algorithm) (chaining_words algorithm state.old) input.now
-        (whole_blocks algorithm (length input.now)) }
+    ensures words { chaining_words algorithm state.new
+        ≡ blocks_from algorithm (chaining_words algorithm state.old) input.now }
     ensures spare { spare_words algorithm state.new ≡ spare_words algorithm state.old }
     ensures sized { IsTrue (is_state_of algorithm state.new) }
     ensures rest { result.now

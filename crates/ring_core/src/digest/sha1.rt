@@ -4,7 +4,7 @@ ghost use Rattle.std.specs.Prelude.{[], get_or, length, map, take, drop};
 ghost use Rattle.ring_core.specs.Cost.{raised};
 ghost use Rattle.ring_core.specs.Lane.{word_of_lane, words_of_lane};
 ghost use Rattle.ring_core.specs.Schedule.{IsBefore, IsRing};
-ghost use Rattle.ring_core.specs.Sha1.{W, add_state, block_step, chain_from, round};
+ghost use Rattle.ring_core.specs.Sha1.{W, add_state, block_step, blocks_from, round};
 ghost use Rattle.ring_core.specs.Sha1.{round_constant, round_function, rounds_from};
 ghost use Rattle.ring_core.specs.Views.{chunk_items, chunk_total};
 ghost use Rattle.ring_core.specs.Word.{add_words, rotl, word_32};
@@ -219,7 +219,7 @@ pub fn sha1_block_data_order_counted(
     meter: &mut Meter,
 )
     ensures words { take 5 (map word_32 state.new)
-        ≡ chain_from (take 5 (map word_32 state.old))
+        ≡ blocks_from (take 5 (map word_32 state.old))
         (chunk_items blocks.entry) (chunk_total blocks.entry) }
     ensures rest { drop 5 state.new ≡ drop 5 state.old }
     ensures cost { meter.new ≡ raised meter.old (chunk_total blocks.entry) 0 }
@@ -234,7 +234,7 @@ pub fn sha1_block_data_order_counted(
 /// in turn (6.1.2), and leaves the last three.
 pub fn sha1_block_data_order(state: &mut [Wrapping<u32>; 8], blocks: AsChunks<'_, u8, 64>)
     ensures words { take 5 (map word_32 state.new)
-        ≡ chain_from (take 5 (map word_32 state.old))
+        ≡ blocks_from (take 5 (map word_32 state.old))
         (chunk_items blocks.entry) (chunk_total blocks.entry) }
     ensures rest { drop 5 state.new ≡ drop 5 state.old }
 {

@@ -6,7 +6,7 @@ ghost use Rattle.ring_core.specs.Cost.{raised};
 ghost use Rattle.ring_core.specs.Lane.{word_of_lane, words_of_lane};
 ghost use Rattle.ring_core.specs.Schedule.{IsBefore, IsRing};
 ghost use Rattle.ring_core.specs.Sha2.{Σ0, Σ1, W, add_state, block_len, block_step};
-ghost use Rattle.ring_core.specs.Sha2.{chain_from, family_256, family_512, words_32};
+ghost use Rattle.ring_core.specs.Sha2.{blocks_from, family_256, family_512, words_32};
 ghost use Rattle.ring_core.specs.Sha2.{words_64, round, rounds_from, three_rotations};
 ghost use Rattle.ring_core.specs.Views.{chunk_items, chunk_total};
 ghost use Rattle.ring_core.specs.Word.{add_words};
@@ -204,7 +204,7 @@ fn run_blocks<S: Lanes, const N: usize>(
 )
     requires { N ≡ block_len S.One.family }
     ensures words { (i : ℕ) → map (S.lane i) state.new
-        ≡ chain_from S.One.family (map (S.lane i) state.old)
+        ≡ blocks_from S.One.family (map (S.lane i) state.old)
         (chunk_items blocks.entry) (chunk_total blocks.entry) }
     ensures cost { meter.new ≡ raised meter.old (chunk_total blocks.entry) 0 }
 {
@@ -228,7 +228,7 @@ pub fn block_data_order_32_counted(
     meter: &mut Meter,
 )
     ensures words { words_32 state.new
-        ≡ chain_from family_256 (words_32 state.old)
+        ≡ blocks_from family_256 (words_32 state.old)
         (chunk_items blocks.entry) (chunk_total blocks.entry) }
     ensures cost { meter.new ≡ raised meter.old (chunk_total blocks.entry) 0 }
 {
@@ -238,7 +238,7 @@ pub fn block_data_order_32_counted(
 /// Replaces `state` by SHA-256's hash computation over each block of 64 bytes in turn (6.2.2).
 pub fn block_data_order_32(state: &mut State32, blocks: AsChunks<'_, u8, 64>)
     ensures words { words_32 state.new
-        ≡ chain_from family_256 (words_32 state.old)
+        ≡ blocks_from family_256 (words_32 state.old)
         (chunk_items blocks.entry) (chunk_total blocks.entry) }
 {
     block_data_order_32_counted(state, blocks, &mut Meter::new())
@@ -252,7 +252,7 @@ pub fn block_data_order_64_counted(
     meter: &mut Meter,
 )
     ensures words { words_64 state.new
-        ≡ chain_from family_512 (words_64 state.old)
+        ≡ blocks_from family_512 (words_64 state.old)
         (chunk_items blocks.entry) (chunk_total blocks.entry) }
     ensures cost { meter.new ≡ raised meter.old (chunk_total blocks.entry) 0 }
 {
@@ -263,7 +263,7 @@ pub fn block_data_order_64_counted(
 /// block of 128 bytes in turn (6.4.2).
 pub fn block_data_order_64(state: &mut State64, blocks: AsChunks<'_, u8, 128>)
     ensures words { words_64 state.new
-        ≡ chain_from family_512 (words_64 state.old)
+        ≡ blocks_from family_512 (words_64 state.old)
         (chunk_items blocks.entry) (chunk_total blocks.entry) }
 {
     block_data_order_64_counted(state, blocks, &mut Meter::new())

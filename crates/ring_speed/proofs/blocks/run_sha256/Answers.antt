@@ -1,5 +1,5 @@
 use Rattle.std.proofs.Common.{◌≡◌, ◌<◌, length, refl, arith, rules}
-use Rattle.ring_speed.proofs.Steps.{chained_one, words_next}
+use Rattle.ring_speed.proofs.Steps.{fold_chunks-one, words_next}
 use Rattle.ring_speed.proofs.blocks.run_sha256.Goals as goal
 
 pub steps-preserved : goal.steps-preserved
@@ -7,5 +7,5 @@ steps-preserved c =
     let some : 0 < 64 = omega arith in
     let is_len : length c.numbered-block.result ≡ 64 = search rules in
     rw (words_next, ← c.steps.invariant, ← c.numbered-block.ensures)
-    (rw (c.block_data_order_32-in-steps.ensures.words, c.from_ref-in-steps.ensures, chained_one)
-    (rw (c.block_data_order_32.ensures.words, c.from_ref.ensures, chained_one) refl))
+    (rw (c.block_data_order_32-in-steps.ensures.words, c.from_ref-in-steps.ensures, fold_chunks-one)
+    (rw (c.block_data_order_32.ensures.words, c.from_ref.ensures, fold_chunks-one) refl))

@@ -1,6 +1,6 @@
 use Rattle.std.proofs.Common.{◌≡◌}
 use Rattle.std.specs.Fn.{iterate}
-use Rattle.ring_speed.specs.Chains.{replaced_front}
+use Rattle.ring_speed.specs.Repeats.{replaced_front}
 use Rattle.ring_speed.specs.Work.{kit_digest_of}
 use Rattle.ring_speed.proofs.kit.replace_front_by_digests.Given as goal
 

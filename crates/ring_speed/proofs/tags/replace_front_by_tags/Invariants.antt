@@ -1,7 +1,7 @@
 use Rattle.std.proofs.Common.{◌≡◌, ℕ, List}
 use Rattle.std.specs.Fn.{iterate}
 use Rattle.ring.specs.Hmac.{KeyStandsFor, hmac_of, key_algorithm}
-use Rattle.ring_speed.specs.Chains.{replaced_front}
+use Rattle.ring_speed.specs.Repeats.{replaced_front}
 use Rattle.ring_speed.proofs.tags.replace_front_by_tags.Given as goal
 
 abbrev pub invariant-steps : goal.invariant-steps

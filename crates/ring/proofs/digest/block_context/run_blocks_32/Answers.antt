@@ -8,7 +8,7 @@ use Rattle.ring.specs.declared.digest.algorithm.AlgorithmId.{AlgorithmId}
 use Rattle.ring.specs.declared.digest.algorithm.AlgorithmId.TheVariants.{Sha1}
 use Rattle.ring.specs.declared.digest.algorithm.TheConstants.{SHA1_FOR_LEGACY_USE_ONLY}
 use Rattle.ring.specs.declared.digest.dynstate.DynState.TheVariants.{As32}
-use Rattle.ring.proofs.Runs.{chained_chunks, sha1_row, short_row, words_run, words_run_all}
+use Rattle.ring.proofs.Runs.{fold_chunks-front, sha1_row, short_row, words_run, words_run_all}
 use Rattle.ring.proofs.digest.block_context.run_blocks_32.Goals as goal
 
 pub returns-then-is_sha1-clause-words : goal.returns-then-is_sha1-clause-words
@@ -24,7 +24,7 @@ returns-then-is_sha1-clause-words c =
     words_run {old = five} {new = take 5 (words_32 new)} a (As32 old) (As32 new) input row
     (rw row.count_is refl) (rw row.count_is refl)
     (c.sha1_block_data_order_counted.ensures.words
-    ∙ chained_chunks sha1.block_step 64 five input _ (lit< tt) c.as_chunks.ensures.front)
+    ∙ fold_chunks-front sha1.block_step 64 five input _ (lit< tt) c.as_chunks.ensures.front)
 
 pub returns-else-is_sha1-clause-words : goal.returns-else-is_sha1-clause-words
 returns-else-is_sha1-clause-words c =
@@ -42,5 +42,5 @@ returns-else-is_sha1-clause-words c =
     ) in
     words_run_all a (As32 old) (As32 new) input (short_row a.id size other) old_len new_len
     (c.block_data_order_32_counted.ensures.words
-    ∙ chained_chunks (block_step family_256) 64 (words_32 old) input _ (lit< tt)
+    ∙ fold_chunks-front (block_step family_256) 64 (words_32 old) input _ (lit< tt)
     c.as_chunks.ensures.front)

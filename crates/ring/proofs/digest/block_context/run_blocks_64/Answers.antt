@@ -3,7 +3,7 @@ use Rattle.std.proofs.lemmas.List.{length-map}
 use Rattle.ring_core.specs.Sha2.{block_step, family_512, words_64}
 use Rattle.ring.specs.Algorithm.{word_len}
 use Rattle.ring.specs.declared.digest.dynstate.DynState.TheVariants.{As64}
-use Rattle.ring.proofs.Runs.{chained_chunks, long_row, words_run_all}
+use Rattle.ring.proofs.Runs.{fold_chunks-front, long_row, words_run_all}
 use Rattle.ring.proofs.digest.block_context.run_blocks_64.Goals as goal
 
 pub returns-clause-words : goal.returns-clause-words
@@ -17,5 +17,5 @@ returns-clause-words c = λ a sized.
     rw length-map c.block_data_order_64_counted.array_long in
     words_run_all a (As64 old) (As64 new) input (long_row a.id size) old_len new_len
     (c.block_data_order_64_counted.ensures.words
-    ∙ chained_chunks (block_step family_512) 128 (words_64 old) input _ (lit< tt)
+    ∙ fold_chunks-front (block_step family_512) 128 (words_64 old) input _ (lit< tt)
     c.as_chunks.ensures.front)

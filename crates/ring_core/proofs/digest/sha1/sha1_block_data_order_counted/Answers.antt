@@ -1,19 +1,19 @@
 use Rattle.std.proofs.Common.{map, take, refl, sym, ◌∙◌}
-use Rattle.ring_core.specs.Chunks.{chained}
+use Rattle.ring_core.specs.Chunks.{fold_chunks}
 use Rattle.ring_core.specs.Sha1.{block_step}
 use Rattle.ring_core.specs.Word.{word_32}
-use Rattle.ring_core.proofs.Chained.{chained-next}
+use Rattle.ring_core.proofs.ChunkFolds.{fold_chunks-next}
 use Rattle.ring_core.proofs.Costs.{raised-none, raised-raised}
 use Rattle.ring_core.proofs.digest.sha1.sha1_block_data_order_counted.Goals as goal
 
 pub each-init : goal.each-init
-unfolding chained
+unfolding fold_chunks
 each-init c = record { words = refl; rest = refl; cost = raised-none _ }
 
 pub each-preserved : goal.each-preserved
 each-preserved c =
     let h = take 5 (map word_32 c.args.state.now) in
-    let more = chained-next block_step 64 h c.args.blocks.items.now c.each.i in record {
+    let more = fold_chunks-next block_step 64 h c.args.blocks.items.now c.each.i in record {
       words =
           rw (c.run_block.ensures.words, c.each.invariant.words, c.index.ensures) (sym more);
       rest = c.run_block.ensures.rest ∙ c.each.invariant.rest;

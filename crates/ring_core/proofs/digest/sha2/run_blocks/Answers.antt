@@ -1,12 +1,12 @@
 use Rattle.std.proofs.Common.{map, refl, sym}
-use Rattle.ring_core.specs.Chunks.{chained}
+use Rattle.ring_core.specs.Chunks.{fold_chunks}
 use Rattle.ring_core.specs.Sha2.{block_len, block_step}
-use Rattle.ring_core.proofs.Chained.{chained-next}
+use Rattle.ring_core.proofs.ChunkFolds.{fold_chunks-next}
 use Rattle.ring_core.proofs.Costs.{raised-none, raised-raised}
 use Rattle.ring_core.proofs.digest.sha2.run_blocks.Goals as goal
 
 pub each-init : goal.each-init
-unfolding chained
+unfolding fold_chunks
 each-init g c = record { words = λ i. refl; cost = raised-none _ }
 
 pub each-preserved : goal.each-preserved
@@ -16,6 +16,6 @@ each-preserved g c =
       words =
           λ i. let h = map (g.S.LaneWord.lane i) c.args.state.now in
           rw (c.run_block.ensures i, c.each.invariant.words i, c.index.ensures, c.requires)
-          (sym (chained-next (block_step family) (block_len family) h blocks c.each.i));
+          (sym (fold_chunks-next (block_step family) (block_len family) h blocks c.each.i));
       cost = rw (c.add_block.ensures, c.each.invariant.cost) (raised-raised _ _ _ _ _);
     }

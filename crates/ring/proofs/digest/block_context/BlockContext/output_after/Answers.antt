@@ -1,11 +1,10 @@
 use Rattle.std.proofs.Common.{IsTrue, ◌≡◌, length}
-use Rattle.ring_core.specs.Chunks.{chained}
-use Rattle.ring.specs.Algorithm.{block_function, block_len}
-use Rattle.ring.specs.Cost.{whole_blocks}
+use Rattle.ring.specs.Algorithm.{block_len}
+use Rattle.ring.specs.Digest.{blocks_from}
 use Rattle.ring.specs.State.{chaining_words, is_state_of}
 use Rattle.ring.specs.declared.digest.dynstate.DynState.TheVariants.{As32, As64}
 use Rattle.ring.proofs.Finishing.{digest_from}
-use Rattle.ring.proofs.Tails.{chain_end}
+use Rattle.ring.proofs.Tails.{words_after-padded}
 use Rattle.ring.proofs.digest.block_context.BlockContext.output_after.Goals as goal
 
 pub returns-in-As64-clause-ok : goal.returns-in-As64-clause-ok
@@ -14,10 +13,9 @@ returns-in-As64-clause-ok c = λ p m h e.
     let a = b.algorithm in
     let sized : IsTrue (is_state_of a (As64 c.in-As64.words)) = rw c.in-As64.is at b.sized in
     let last = As64 c.run_blocks_64.new.words in
-    let words : chaining_words a last ≡ chained (block_function a) (block_len a)
-    (chaining_words a b.state) c.args.tail.now (whole_blocks a (length c.args.tail.now)) =
+    let words : chaining_words a last ≡ blocks_from a (chaining_words a b.state) c.args.tail.now =
     rw c.in-As64.is (c.run_blocks_64.ensures.words a sized) in
-    digest_from _ last a m c.long_output.ensures sized (chain_end b p m _ last h e words)
+    digest_from _ last a m c.long_output.ensures sized (words_after-padded b p m _ last h e words)
 
 pub returns-in-As32-clause-ok : goal.returns-in-As32-clause-ok
 returns-in-As32-clause-ok c = λ p m h e.
@@ -25,7 +23,6 @@ returns-in-As32-clause-ok c = λ p m h e.
     let a = b.algorithm in
     let sized : IsTrue (is_state_of a (As32 c.in-As32.words)) = rw c.in-As32.is at b.sized in
     let last = As32 c.run_blocks_32.new.words in
-    let words : chaining_words a last ≡ chained (block_function a) (block_len a)
-    (chaining_words a b.state) c.args.tail.now (whole_blocks a (length c.args.tail.now)) =
+    let words : chaining_words a last ≡ blocks_from a (chaining_words a b.state) c.args.tail.now =
     rw c.in-As32.is c.run_blocks_32.ensures.words in
-    digest_from _ last a m c.short_output.ensures sized (chain_end b p m _ last h e words)
+    digest_from _ last a m c.short_output.ensures sized (words_after-padded b p m _ last h e words)

@@ -6,7 +6,7 @@ use Rattle.ring.specs.Cost.{padded_blocks}
 use Rattle.ring.specs.Digest.{bytes_of}
 use Rattle.ring.specs.Padding.{tail_of}
 use Rattle.ring.specs.declared.digest.value.Digest.{Digest}
-use Rattle.ring.proofs.Chains.{mul_whole}
+use Rattle.ring.proofs.Blocks.{mul_whole}
 use Rattle.ring.proofs.Finishing.{taken_len}
 use Rattle.ring.proofs.Rows.{block_len-positive}
 use Rattle.ring.proofs.Tails.{padded-append, tail_sizes}

@@ -1,5 +1,5 @@
 use Rattle.std.proofs.Common.{refl}
-use Rattle.ring.proofs.Chains.{moved_front, left_short}
+use Rattle.ring.proofs.Blocks.{moved_front, left_short}
 use Rattle.ring.proofs.digest.block_context.BlockContext.update.Goals as goal
 
 pub returns-clause-moved : goal.returns-clause-moved

@@ -22,6 +22,8 @@ numbered len number = bytes_high_first 4 number ++ replicate (len - 4) 0
 
 -- the words after so many steps, from the words h: in each the block function f runs twice over the
 -- block of the step's number
-unfoldable pub words_after : (List ℕ → List ℕ → List ℕ) → (len : ℕ) → List ℕ → (steps : ℕ) → List ℕ
-words_after f len h zero = h
-words_after f len h (suc k) = f (f (words_after f len h k) (numbered len k)) (numbered len k)
+unfoldable pub words_after_steps : (List ℕ → List ℕ → List ℕ) → (len : ℕ) → List ℕ
+    → (steps : ℕ) → List ℕ
+words_after_steps f len h zero = h
+words_after_steps f len h (suc k) =
+    f (f (words_after_steps f len h k) (numbered len k)) (numbered len k)

@@ -1,17 +1,17 @@
--- How a chain follows a list of whole blocks as it grows.
+-- How the words after blocks follow a list of whole blocks as it grows.
 use Rattle.std.proofs.Common.{◌≤◌, ◌≡◌, ℕ, zero, ◌+◌, ◌-◌, ◌*◌, ◌/◌, ◌%◌, ◌<◌, List, [], ◌++◌}
 use Rattle.std.proofs.Common.{length, take, drop, sym, ap, ◌∙◌, arith, add_comm, length-append}
 use Rattle.std.proofs.Common.{length-drop, replicate}
 use Rattle.std.proofs.lemmas.List.{length-take-le, take-append-drop}
 use Rattle.std.proofs.Math.Nat.{mul-div_cancel, div-mul-le_self, add-mul-div_left}
 use Rattle.std.proofs.lemmas.Nat.{div-add-mod', mod-mul-add, div-mul-add, mod_below}
-use Rattle.ring_core.specs.Chunks.{chained}
+use Rattle.ring_core.specs.Chunks.{fold_chunks}
 use Rattle.ring_core.specs.Cost.{Counts, raised}
-use Rattle.ring_core.proofs.Chained.{chained-none, chained-then, chained-append}
+use Rattle.ring_core.proofs.ChunkFolds.{fold_chunks-none, fold_chunks-then, fold_chunks-append}
 use Rattle.ring.specs.Algorithm.{block_function, block_len, initial_words, word_count}
 use Rattle.ring.specs.Context.{HasMoved, HasTaken, cut_off}
 use Rattle.ring.specs.Cost.{whole_blocks}
-use Rattle.ring.specs.Digest.{chain}
+use Rattle.ring.specs.Digest.{blocks_from, words_after}
 use Rattle.ring.specs.Padding.{IsWhole}
 use Rattle.ring.specs.State.{chaining_words, spare_words}
 use Rattle.ring.specs.declared.digest.algorithm.Algorithm.{Algorithm}
@@ -50,27 +50,23 @@ pub IsWhole-append : (a : Algorithm) (p x : List ℕ) → IsWhole a p → IsWhol
 IsWhole-append a p x hp hx =
     rw length-append (whole-add (length p) (length x) (block_len a) (block_len-positive a) hp hx).0
 
--- the chain of no block
-pub chain-nil : (a : Algorithm) → chain a [] ≡ initial_words a
-unfolding chain
-chain-nil a =
+-- after no block
+pub words_after-nil : (a : Algorithm) → words_after a [] ≡ initial_words a
+unfolding words_after
+words_after-nil a =
     let z : 0 / block_len a ≡ 0 = (zero_whole (block_len a) (block_len-positive a)).1 in
-    rw z (chained-none (block_function a) (block_len a) (initial_words a) [])
+    rw z (fold_chunks-none (block_function a) (block_len a) (initial_words a) [])
 
--- the words h after the whole blocks of x
-abbrev pub chained_from : Algorithm → (h x : List ℕ) → List ℕ
-chained_from a h x = chained (block_function a) (block_len a) h x (whole_blocks a (length x))
-
--- the chain of a longer list
-pub chain-append : (a : Algorithm) (p x : List ℕ) → IsWhole a p → IsWhole a x
-    → chain a (p ++ x) ≡ chained_from a (chain a p) x
-unfolding chain
-chain-append a p x hp hx =
+-- after a longer list
+pub words_after-append : (a : Algorithm) (p x : List ℕ) → IsWhole a p → IsWhole a x
+    → words_after a (p ++ x) ≡ blocks_from a (words_after a p) x
+unfolding words_after
+words_after-append a p x hp hx =
     let b : ℕ = block_len a in
     let sum = whole-add (length p) (length x) b (block_len-positive a) hp hx in
     let e : length (p ++ x) / b ≡ length p / b + length x / b = rw length-append sum.1 in
     let whole : length p ≡ length p / b * b = whole_mul (length p) b hp in
-    rw e (chained-then (block_function a) b (initial_words a) p x _ (length x / b) whole)
+    rw e (fold_chunks-then (block_function a) b (initial_words a) p x _ (length x / b) whole)
 
 -- no block taken
 pub HasTaken-nil : (b : BlockContext)
@@ -80,7 +76,7 @@ pub HasTaken-nil : (b : BlockContext)
 HasTaken-nil b ew es ec =
     record {
       whole = (zero_whole (block_len b.algorithm) (block_len-positive b.algorithm)).0;
-      words = ew ∙ sym (chain-nil b.algorithm);
+      words = ew ∙ sym (words_after-nil b.algorithm);
       spare = es;
       count = ec;
     }
@@ -101,16 +97,16 @@ blocks-whole_front a x =
     rw (length-whole_front a x) whole
 
 -- the words after them, which are all that is counted
-chained_front : (a : Algorithm) (h x : List ℕ)
-    → chained_from a h (whole_front a x) ≡ chained_from a h x
-chained_front a h x =
+blocks_from-front : (a : Algorithm) (h x : List ℕ)
+    → blocks_from a h (whole_front a x) ≡ blocks_from a h x
+blocks_from-front a h x =
     let k : ℕ = whole_blocks a (length x) in
     let size : ℕ = k * block_len a in
     let long : k * block_len a ≤ length (take size x) = omega (arith, length-whole_front a x) in
     let step = block_function a in
     rw (blocks-whole_front a x).1
-    (sym (chained-append step (block_len a) h (take size x) (drop size x) k long)
-    ∙ ap (λ (z : List ℕ). chained step (block_len a) h z k) (take-append-drop size x))
+    (sym (fold_chunks-append step (block_len a) h (take size x) (drop size x) k long)
+    ∙ ap (λ (z : List ℕ). fold_chunks step (block_len a) h z k) (take-append-drop size x))
 
 -- from the block context b to n
 module _ {b n : BlockContext} where
@@ -118,14 +114,14 @@ module _ {b n : BlockContext} where
   HasTaken-append : {p : List ℕ} (x : List ℕ) → HasTaken b p → IsWhole b.algorithm x
       → n.algorithm ≡ b.algorithm
       → chaining_words b.algorithm n.state
-      ≡ chained_from b.algorithm (chaining_words b.algorithm b.state) x
+      ≡ blocks_from b.algorithm (chaining_words b.algorithm b.state) x
       → spare_words b.algorithm n.state ≡ spare_words b.algorithm b.state
       → n.completed_bytes ≡ cut_off (b.completed_bytes + length x) → HasTaken n (p ++ x)
   HasTaken-append {p = p} x h hx ea ew es ec =
       let a : Algorithm = b.algorithm in
       record {
         whole = rw ea (IsWhole-append a p x h.whole hx);
-        words = rw ea (ew ∙ rw h.words (sym (chain-append a p x h.whole hx)));
+        words = rw ea (ew ∙ rw h.words (sym (words_after-append a p x h.whole hx)));
         spare = rw ea (es ∙ h.spare);
         count = omega (arith, length-append p x, h.count);
       }
@@ -134,7 +130,7 @@ module _ {b n : BlockContext} where
   pub moved_front : {y left : List ℕ} {before after : Counts} → n.algorithm ≡ b.algorithm
       → left ≡ drop (whole_blocks b.algorithm (length y) * block_len b.algorithm) y
       → chaining_words b.algorithm n.state
-      ≡ chained_from b.algorithm (chaining_words b.algorithm b.state) y
+      ≡ blocks_from b.algorithm (chaining_words b.algorithm b.state) y
       → spare_words b.algorithm n.state ≡ spare_words b.algorithm b.state
       → n.completed_bytes ≡ cut_off (b.completed_bytes + (length y - length left))
       → after ≡ raised before (whole_blocks b.algorithm (length y)) 0
@@ -147,7 +143,7 @@ module _ {b n : BlockContext} where
       let rest : length left ≡ length y - k * block_len a =
       ap length el ∙ length-drop (k * block_len a) y in
       let done : length y - length left ≡ k * block_len a = omega (arith, rest, fits) in
-      let front = ew ∙ sym (chained_front a (chaining_words a b.state) y) in
+      let front = ew ∙ sym (blocks_from-front a (chaining_words a b.state) y) in
       let whole = (blocks-whole_front a y).0 in
       record {
         blocks = k;

@@ -14,8 +14,10 @@ pub const HELLO: &[u8] = b"digest SHA256 68656c6c6f,2c20,776f726c64";
 // a line feed.
 pub const TEXT: &[u8] = b"digest SHA256 -\n\
     hmac SHA256 0b0b0b0b0b0b0b0b0b0b0b0b0b0b0b0b0b0b0b0b 4869205468657265\n\
-    hmac-verify SHA256 0b0b0b0b0b0b0b0b0b0b0b0b0b0b0b0b0b0b0b0b 4869205468657265 b0344c61d8db38535ca8afceaf0bf12b881dc200c9833da726e9376c2e32cff7\n\
-    hkdf SHA256 000102030405060708090a0b0c 0b0b0b0b0b0b0b0b0b0b0b0b0b0b0b0b0b0b0b0b0b0b f0f1f2f3f4f5f6f7f8f9 42\n\
+    hmac-verify SHA256 0b0b0b0b0b0b0b0b0b0b0b0b0b0b0b0b0b0b0b0b 4869205468657265 \
+    b0344c61d8db38535ca8afceaf0bf12b881dc200c9833da726e9376c2e32cff7\n\
+    hkdf SHA256 000102030405060708090a0b0c 0b0b0b0b0b0b0b0b0b0b0b0b0b0b0b0b0b0b0b0b0b0b \
+    f0f1f2f3f4f5f6f7f8f9 42\n\
     pbkdf2 SHA1 1 70617373776f7264 73616c74 20";
 
 pub const ANSWERS: &[u8] = b"e3b0c44298fc1c149afbf4c8996fb92427ae41e4649b934ca495991b7852b855 1\n\

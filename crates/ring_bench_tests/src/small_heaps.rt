@@ -15,12 +15,15 @@ const ROWS: [(&[u8], &[u8]); 5] = [
         TAG,
     ),
     (
-        b"hmac-verify SHA256 0b0b0b0b0b0b0b0b0b0b0b0b0b0b0b0b0b0b0b0b 4869,20,5468657265 b0344c61d8db38535ca8afceaf0bf12b881dc200c9833da726e9376c2e32cff7",
+        b"hmac-verify SHA256 0b0b0b0b0b0b0b0b0b0b0b0b0b0b0b0b0b0b0b0b 4869,20,5468657265 \
+        b0344c61d8db38535ca8afceaf0bf12b881dc200c9833da726e9376c2e32cff7",
         b"match 4\n",
     ),
     (
-        b"hkdf SHA256 000102030405060708090a0b0c 0b0b0b0b0b0b0b0b0b0b0b0b0b0b0b0b0b0b0b0b0b0b f0f1f2f3f4f5f6f7f8f9 42",
-        b"3cb25f25faacd57a90434f64d0362f2a2d2d0a90cf1a5a4c5db02d56ecc4c5bf34007208d5b887185865 10\n",
+        b"hkdf SHA256 000102030405060708090a0b0c 0b0b0b0b0b0b0b0b0b0b0b0b0b0b0b0b0b0b0b0b0b0b \
+        f0f1f2f3f4f5f6f7f8f9 42",
+        b"3cb25f25faacd57a90434f64d0362f2a2d2d0a90cf1a5a4c5db02d56ecc4c5bf\
+        34007208d5b887185865 10\n",
     ),
     (
         b"pbkdf2 SHA1 1 70617373776f7264 73616c74 20",
@@ -36,7 +39,8 @@ enum End {
     Wrong,
 }
 
-// How an answer ends on a heap of `size` bytes: whole, or told as want of memory with nothing added.
+// How an answer ends on a heap of `size` bytes: whole, or told as want of memory with nothing
+// added.
 fn answer_on(alloc: Global, size: usize, line: &[u8], want: &[u8]) -> Result<End, AllocError> {
     let heap = LocalHeap::new(alloc, size)?;
     let mut out = Vec::new(alloc);

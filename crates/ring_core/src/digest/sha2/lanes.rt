@@ -1,21 +1,8 @@
 //! The schedule of SHA-2, two words at a time (FIPS 180-4, 6.2.2 and 6.4.2, step 1).
-ghost use Rattle.std.specs.Prelude.{◌≡◌, ℕ, ◌+◌, ◌%◌, ◌≤◌, List, map};
-ghost use Rattle.ring_core.specs.Schedule.{IsRing};
-ghost use Rattle.ring_core.specs.Sha2.{W};
 
 mod four;
+mod schedule;
 mod w32;
 mod w64;
 
-use crate::digest::word::lane_word::Slots;
-
-// A word whose schedule is made by lanes. The library's vectors are of `u32` or of `u64` and not of
-// any word, so each size has a step of its own.
-pub(crate) trait Lanes: Slots {
-    // Fills slot `place` and the next with the words sixteen after those that stand there.
-    fn fill(ring: &mut [Self::Slot; 16], place: usize)
-        requires { place + 2 ≤ 16 }
-        ensures { (i : ℕ) (b : List ℕ) (t : ℕ) → 16 ≤ t → place ≡ t % 16
-            → IsRing (W Self.One.family b) (map (Self.slot_lane i) ring.old) t
-            → IsRing (W Self.One.family b) (map (Self.slot_lane i) ring.new) (t + 2) };
-}
+pub(crate) use crate::digest::sha2::lanes::schedule::Lanes;

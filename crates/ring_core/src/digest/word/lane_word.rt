@@ -2,7 +2,7 @@
 ghost use Rattle.std.specs.Prelude.{◌≡◌, ℕ, ◌^◌, ◌<◌, ◌≤◌, [], ◌∷◌, bit_and, map};
 ghost use Rattle.ring_core.specs.Word.{◌⊕◌, add_words, rotr};
 
-use crate::digest::word::Sha2;
+use crate::digest::word::traits::Sha2;
 
 // Words in lanes, with the operations of FIPS 180-4, 3.2, on the word of each lane. A clause speaks
 // of every lane by its number; a word alone stands in each lane, whatever the number.

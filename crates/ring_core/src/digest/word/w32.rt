@@ -5,8 +5,8 @@ ghost use Rattle.std.proofs.Common.{refl, mod-lt, pow_pos};
 ghost use Rattle.ring_core.specs.Sha2.{words_32};
 ghost use Rattle.ring_core.specs.Word.{add_words, low_32, rotr};
 
-use crate::digest::word::Word;
 use crate::digest::word::lane_word::{LaneWord, Slots};
+use crate::digest::word::traits::Word;
 use std::num::Wrapping;
 use std::simd::{Simd, u32x4, u64x2};
 

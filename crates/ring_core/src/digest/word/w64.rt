@@ -5,8 +5,8 @@ ghost use Rattle.std.proofs.Common.{refl, mod-lt, pow_pos};
 ghost use Rattle.ring_core.specs.Sha2.{words_64};
 ghost use Rattle.ring_core.specs.Word.{add_words, rotr};
 
-use crate::digest::word::Word;
 use crate::digest::word::lane_word::{LaneWord, Slots};
+use crate::digest::word::traits::Word;
 use std::num::Wrapping;
 use std::simd::{Simd, u64x2};
 

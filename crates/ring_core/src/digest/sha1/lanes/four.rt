@@ -6,7 +6,7 @@ ghost use Rattle.ring_core.specs.Lane.{word_of_lane};
 ghost use Rattle.ring_core.specs.Sha1.{scheduled};
 
 use crate::digest::schedule::{pair, set_pair};
-use crate::digest::sha1::lanes::Lanes;
+use crate::digest::sha1::lanes::schedule::Lanes;
 use crate::digest::word::four::FourWords;
 use crate::digest::word::lane_word::LaneWord;
 use std::num::Wrapping;

@@ -5,7 +5,7 @@ ghost use Rattle.ring_core.specs.Sha1.{scheduled};
 ghost use Rattle.ring_core.specs.Word.{low_32};
 
 use crate::digest::schedule::{pair, set_pair};
-use crate::digest::sha1::lanes::Lanes;
+use crate::digest::sha1::lanes::schedule::Lanes;
 use crate::digest::word::w32::rotate_lanes;
 use std::num::Wrapping;
 use std::simd::{Simd, u64x2};

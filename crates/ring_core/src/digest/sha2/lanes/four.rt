@@ -5,7 +5,7 @@ ghost use Rattle.ring_core.specs.Lane.{word_of_lane};
 ghost use Rattle.ring_core.specs.Sha2.{family_256, scheduled, σ0, σ1};
 
 use crate::digest::schedule::{pair, set_pair};
-use crate::digest::sha2::lanes::Lanes;
+use crate::digest::sha2::lanes::schedule::Lanes;
 use crate::digest::word::Sha2;
 use crate::digest::word::four::FourWords;
 use crate::digest::word::lane_word::LaneWord;

@@ -5,7 +5,7 @@ ghost use Rattle.ring_core.specs.Sha2.{family_256, scheduled, two_rotations_and_
 ghost use Rattle.ring_core.specs.Word.{low_32};
 
 use crate::digest::schedule::{pair, set_pair};
-use crate::digest::sha2::lanes::Lanes;
+use crate::digest::sha2::lanes::schedule::Lanes;
 use crate::digest::word::Sha2;
 use crate::digest::word::w32::{doubled, joined};
 use std::num::Wrapping;

@@ -5,7 +5,7 @@ ghost use Rattle.ring_core.specs.Sha2.{family_512, scheduled, σ0, σ1};
 ghost use Rattle.ring_core.specs.Word.{◌⊕◌, rotr};
 
 use crate::digest::schedule::{pair, set_pair};
-use crate::digest::sha2::lanes::Lanes;
+use crate::digest::sha2::lanes::schedule::Lanes;
 use crate::digest::word::Sha2;
 use crate::digest::word::w64::{from_lanes, rotate_lanes, to_lanes};
 use std::num::Wrapping;

@@ -1,0 +1,124 @@
+//! What is asked of a word of either size (FIPS 180-4, 3.2 and 4.1).
+ghost use Rattle.std.specs.Prelude.{◌≡◌, ℕ, ◌*◌, ◌/◌, ◌^◌, ◌<◌, ◌≤◌, ◌⊎◌};
+ghost use Rattle.std.specs.Prelude.{List, length, slice_index, bit_and, bit_or, bit_xor};
+ghost use Rattle.ring_core.specs.Sha2.{Family, family_256, family_512};
+ghost use Rattle.ring_core.specs.Word.{◌⊕◌, add_words, big_endian, complement, rotr, shr, word_at};
+
+/// A word of 32 or 64 bits with the operations of FIPS 180-4, 2.2.2 and 3.2.
+pub trait Word: Copy {
+    /// The word of zero bits.
+    const ZERO: Self;
+
+    /// The bytes that make a word: four or eight.
+    type InputBytes: Copy;
+
+    // the number of bits
+    ghost bits: { ℕ };
+
+    // the number that a word stands for
+    ghost value: { Self → ℕ };
+
+    // the bytes of an input
+    ghost bytes: { Self.InputBytes → List ℕ };
+
+    ghost ZERO: { Self };
+
+    /// The word that the bytes write, the highest first.
+    fn from_be_bytes(input: Self::InputBytes) -> Self
+        ensures { value result ≡ big_endian (bytes input) };
+
+    /// The sum modulo 2 to the power of the bits (3.2, item 2).
+    fn plus(self, o: Self) -> Self
+        ensures { value result ≡ add_words bits (value self) (value o) };
+
+    /// The bits that both words have.
+    fn bit_and(self, o: Self) -> Self
+        ensures { value result ≡ bit_and (value self) (value o) };
+
+    /// The bits that a word or the other has.
+    fn bit_or(self, o: Self) -> Self
+        ensures { value result ≡ bit_or (value self) (value o) };
+
+    /// The bits that one word has and the other doesn't.
+    fn bit_xor(self, o: Self) -> Self
+        ensures { value result ≡ value self ⊕ value o };
+
+    /// The bits that the word doesn't have.
+    fn bit_not(self) -> Self
+        ensures { value result ≡ complement bits (value self) };
+
+    /// The word rotated right by `count` bits, at least 1 and fewer than a word has (3.2, item 4).
+    fn rotr(self, count: u32) -> Self
+        requires positive { 1 ≤ count }
+        requires below { count < bits }
+        ensures { value result ≡ rotr bits count (value self) };
+
+    // each word is below 2 ^ bits
+    ghost fits: { (x : Self) → value x < 2 ^ bits };
+
+    ghost zero_is: { value ZERO ≡ 0 };
+}
+
+/// A word of SHA-2, with the numbers of its algorithms (FIPS 180-4, 4.1.2, 4.1.3, 4.2.2, 4.2.3).
+pub trait Sha2: Word {
+    /// The counts of the rotations whose exclusive or is Σ0.
+    const BIG_SIGMA_0: (u32, u32, u32);
+
+    /// The counts of the rotations whose exclusive or is Σ1.
+    const BIG_SIGMA_1: (u32, u32, u32);
+
+    /// The counts of the two rotations and the shift whose exclusive or is σ0.
+    const SMALL_SIGMA_0: (u32, u32, usize);
+
+    /// The counts of the two rotations and the shift whose exclusive or is σ1.
+    const SMALL_SIGMA_1: (u32, u32, usize);
+
+    /// How many rounds a block takes.
+    const ROUNDS: usize;
+
+    // the standard's numbers
+    ghost family: { Family };
+
+    ghost BIG_SIGMA_0: { ℕ × ℕ × ℕ };
+
+    ghost BIG_SIGMA_1: { ℕ × ℕ × ℕ };
+
+    ghost SMALL_SIGMA_0: { ℕ × ℕ × ℕ };
+
+    ghost SMALL_SIGMA_1: { ℕ × ℕ × ℕ };
+
+    ghost ROUNDS: { ℕ };
+
+    /// The word shifted right by `count` bits, at least 1 and fewer than a word has (3.2, item 3).
+    fn shift_right(self, count: usize) -> Self
+        requires positive { 1 ≤ count }
+        requires below { count < Self.bits }
+        ensures { Self.value result ≡ shr count (Self.value self) };
+
+    /// K of round `t`, below `ROUNDS`.
+    fn k(t: usize) -> Self
+        requires { t < ROUNDS }
+        ensures { Self.value result ≡ slice_index family.constants t };
+
+    /// Word `j`, below 16, of a block of 16 words, its bytes the highest first (5.2).
+    fn read_word(block: &[u8], j: usize) -> Self
+        requires place { j < 16 }
+        requires whole { length block.now ≡ 16 * (Self.bits / 8) }
+        ensures { Self.value result ≡ word_at Self.bits block.now j };
+
+    // it is one of the two families
+    ghost which: { (family ≡ family_256) ⊎ (family ≡ family_512) };
+
+    // each number is that of the family
+    ghost bits_are: { Self.bits ≡ family.bits };
+
+    ghost big_0_is: { BIG_SIGMA_0 ≡ family.big_0 };
+
+    ghost big_1_is: { BIG_SIGMA_1 ≡ family.big_1 };
+
+    ghost small_0_is: { SMALL_SIGMA_0 ≡ family.small_0 };
+
+    ghost small_1_is: { SMALL_SIGMA_1 ≡ family.small_1 };
+
+    ghost rounds_are: { ROUNDS ≡ family.rounds };
+}

@@ -32,25 +32,32 @@ word_bytes-more : (n : ℕ) (ws : List ℕ) (i m : ℕ)
     → word_bytes n (take (i + m) ws) ≡ word_bytes n (take i ws) ++ word_bytes n (take m (drop i ws))
 word_bytes-more n ws i m = rw (take-add i m ws, flat_map-append) refl
 
+-- m words from word i on, of n bytes each: k bytes at the place `at`, within the 64 of an output
+pub record IsPart (n i m j at k : ℕ) : Type 0 where
+  pub words : j ≡ i + m
+  pub place : at ≡ n * i
+  pub bytes : k ≡ n * m
+  pub fits : n * i + n * m ≤ 64
+
 -- some words more written over the zeros
 pub output_more : {out ys : List ℕ} {j at k : ℕ} (n : ℕ) (ws : List ℕ) (i m : ℕ)
     → out ≡ word_bytes n (take i ws) ++ replicate (64 - n * i) 0
-    → i ≤ length ws → j ≡ i + m → at ≡ n * i → k ≡ n * m → n * i + n * m ≤ 64
-    → ys ≡ word_bytes n (take m (drop i ws))
+    → i ≤ length ws → IsPart n i m j at k → ys ≡ word_bytes n (take m (drop i ws))
     → put_mid at k out ys ≡ word_bytes n (take j ws) ++ replicate (64 - n * j) 0
-output_more {out} n ws i m e h ej ea ek fits ey =
+output_more {out} n ws i m e h part ey =
     let front : List ℕ = word_bytes n (take i ws) in
     let zeros : List ℕ = replicate (64 - n * i) 0 in
     let len : length front ≡ n * i =
     length-word_bytes n (take i ws) ∙ ap (λ (z : ℕ). n * z) (length-take-le i ws h) in
     let turn : n * (i + m) ≡ n * i + n * m = grind arith in
+    let fits = part.fits in
     let left : 64 - n * (i + m) ≡ 64 - n * i - n * m = omega (arith, turn) in
     let head : take (n * i) out ≡ front = rw e (take_at front zeros (n * i) len) in
     let tail : drop (n * i) out ≡ zeros = rw e (drop_at front zeros (n * i) len) in
     rw (
-      ej,
-      ea,
-      ek,
+      part.words,
+      part.place,
+      part.bytes,
       head,
       tail,
       drop-replicate {X = ℕ} (n * m) (64 - n * i) 0,

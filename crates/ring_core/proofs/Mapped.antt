@@ -28,10 +28,10 @@ pub word_read : (xs : List (Wrapping ℕ)) (i : ℕ)
 word_read xs i = sym (get_or_default-map word_32 xs i (record { 0 = 0 }))
 
 -- a list filled up to i, with one more word
-pub filled_more : {X : Type 0} (f : X → ℕ) (w : ℕ → ℕ) (xs : List X) (i : ℕ) (x : X) → i < length xs
-    → ((k : ℕ) → k < i → slice_index (map f xs) k ≡ w k) → f x ≡ w i
+pub filled_more : {X : Type 0} {w : ℕ → ℕ} {i : ℕ} (f : X → ℕ) (xs : List X) (x : X)
+    → i < length xs → ((k : ℕ) → k < i → slice_index (map f xs) k ≡ w k) → f x ≡ w i
     → (k : ℕ) → k < i + 1 → slice_index (map f (set xs i x)) k ≡ w k
-filled_more f w xs i x h before here k below =
+filled_more {w = w} {i = i} f xs x h before here k below =
     let len : i < length (map f xs) = simp length-map h in
     ap (λ (l : List ℕ). slice_index l k) (map-set f xs i x)
     ∙ (elim (cases_lt k i) [

@@ -85,9 +85,9 @@ bit_at-rotr w k n i le fits within =
     ])
 
 -- the rotations of two words under exclusive or, one inside the other
-rotr-inside : (w a b x y : ℕ) → a ≤ b → b ≤ w → x < 2 ^ w → y < 2 ^ w
+rotr-inside : {x y : ℕ} (w a b : ℕ) → a ≤ b → b ≤ w → x < 2 ^ w → y < 2 ^ w
     → rotr w a (x ⊕ rotr w (b - a) y) ≡ rotr w a x ⊕ rotr w b y
-rotr-inside w a b x y ab bw x_fits y_fits =
+rotr-inside {x} {y} w a b ab bw x_fits y_fits =
     let inner = rotr w (b - a) y in
     let inner_fits : inner < 2 ^ w = rotr-lt w y (b - a) (omega arith) y_fits in
     let sum_fits : x ⊕ inner < 2 ^ w = xor_lt w x inner x_fits inner_fits in
@@ -113,15 +113,15 @@ rotr-inside w a b x y ab bw x_fits y_fits =
 -- two rotations of a word, one inside the other
 pub rotr-two : (w a b x : ℕ) → a ≤ b → b ≤ w → x < 2 ^ w
     → rotr w a (x ⊕ rotr w (b - a) x) ≡ rotr w a x ⊕ rotr w b x
-rotr-two w a b x ab bw fits = rotr-inside w a b x x ab bw fits fits
+rotr-two w a b x ab bw fits = rotr-inside w a b ab bw fits fits
 
 -- three rotations of a word, one inside the other
-pub rotr-three : (w a b c x : ℕ) → a ≤ b → b ≤ c → c ≤ w → x < 2 ^ w
+pub rotr-three : {x : ℕ} (w a b c : ℕ) → a ≤ b → b ≤ c → c ≤ w → x < 2 ^ w
     → rotr w a (x ⊕ rotr w (b - a) (x ⊕ rotr w (c - b) x)) ≡ three_rotations w (a, b, c) x
-rotr-three w a b c x ab bc cw fits =
+rotr-three {x} w a b c ab bc cw fits =
     let inner = x ⊕ rotr w (c - b) x in
     let inner_fits : inner < 2 ^ w = xor_lt w x _ fits (rotr-lt w x (c - b) (omega arith) fits) in
-    rotr-inside w a b x inner ab (omega arith) fits inner_fits
+    rotr-inside w a b ab (omega arith) fits inner_fits
     ∙ ap (λ (m : ℕ). rotr w a x ⊕ m) (rotr-two w b c x bc cw fits)
     ∙ sym (xor_assoc (rotr w a x) (rotr w b x) (rotr w c x))
 

@@ -35,5 +35,5 @@ pairs-preserved c =
             take_more_same a b i 0 (omega arith) (omega arith) (before.0 both.0) both.1,
         λ same. step.1 (before.1 (fronts_before a b i same).0, (fronts_before a b i same).1),
       );
-      cost = rw (c.add_byte_pair.ensures, c.pairs.invariant.cost) (raised-raised _ _ _ _ _);
+      cost = rw (c.add_byte_pair.ensures, c.pairs.invariant.cost, raised-raised) refl;
     }

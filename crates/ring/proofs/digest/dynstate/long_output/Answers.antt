@@ -13,4 +13,6 @@ pairs-preserved c =
     let bytes = c.copy_from_slice.ensures.after ∙ c.two_long_words-pair.ensures
     ∙ ap (word_bytes 8) (two_words 64 ws (2 * i) _ (omega arith)) in
     output_more {j = 2 * (i + 1)} 8 (words_64 ws) (2 * i) 2 c.pairs.invariant
-    (omega arith) (omega arith) (omega arith) (omega arith) (omega arith) bytes
+    (omega arith)
+    record { words = omega arith; place = omega arith; bytes = omega arith; fits = omega arith }
+    bytes

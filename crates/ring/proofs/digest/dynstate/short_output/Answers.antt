@@ -13,4 +13,6 @@ fours-preserved c =
     let bytes = c.copy_from_slice.ensures.after ∙ c.four_short_words-four.ensures
     ∙ ap (word_bytes 4) (four_words 32 ws (4 * i) _ (omega arith)) in
     output_more {j = 4 * (i + 1)} 4 (words_32 ws) (4 * i) 4 c.fours.invariant
-    (omega arith) (omega arith) (omega arith) (omega arith) (omega arith) bytes
+    (omega arith)
+    record { words = omega arith; place = omega arith; bytes = omega arith; fits = omega arith }
+    bytes

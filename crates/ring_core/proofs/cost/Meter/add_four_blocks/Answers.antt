@@ -3,4 +3,4 @@ use Rattle.ring_core.proofs.Costs.{raised_from}
 use Rattle.ring_core.proofs.cost.Meter.add_four_blocks.Goals as goal
 
 pub returns : goal.returns
-returns c = rw (← c.self.view_is) (raised_from _ _ _ _ (omega arith) (omega arith))
+returns c = rw (← c.self.view_is) (raised_from _ _ 4 0 (omega arith) (omega arith))

@@ -14,7 +14,7 @@ words-preserved g c =
     let is : (i : ℕ) → g.S.Slots.slot_lane i word ≡ read t =
     λ i. rw (c.to_slot.ensures i, c.splat.ensures i) c.read_word.ensures in (
       length-set ring t word ∙ c.words.invariant.0,
-      λ i. filled_more (g.S.Slots.slot_lane i) read ring t word (omega arith)
+      λ i. filled_more {w = read} (g.S.Slots.slot_lane i) ring word (omega arith)
           (c.words.invariant.1 i) (is i),
     )
 

@@ -13,7 +13,7 @@ words-preserved c =
     let word = c.read_four.result in
     let read = λ (i : ℕ). word_at 32 (get_or c.args.blocks.now (i % 4) []) in (
       length-set ring t word ∙ c.words.invariant.0,
-      λ i. filled_more (word_of_lane i) (read i) ring t word (omega arith)
+      λ i. filled_more {w = read i} (word_of_lane i) ring word (omega arith)
           (c.words.invariant.1 i) (c.read_four.ensures i),
     )
 

@@ -17,5 +17,5 @@ each-preserved c =
       words =
           rw (c.run_block.ensures.words, c.each.invariant.words, c.index.ensures) (sym more);
       rest = c.run_block.ensures.rest ∙ c.each.invariant.rest;
-      cost = rw (c.add_block.ensures, c.each.invariant.cost) (raised-raised _ _ _ _ _);
+      cost = rw (c.add_block.ensures, c.each.invariant.cost, raised-raised) refl;
     }

@@ -12,5 +12,5 @@ returns g c = λ i.
       c.bit_xor-inner.ensures i,
       c.rotr.ensures i,
     )
-    (rotr-three g.S.One.Word.bits n.0 n.1 n.2 (g.S.LaneWord.lane i c.args.x)
-    (omega arith) (omega arith) (omega arith) (g.met.S.LaneWord.fits i c.args.x))
+    (rotr-three g.S.One.Word.bits n.0 n.1 n.2 (omega arith) (omega arith) (omega arith)
+    (g.met.S.LaneWord.fits i c.args.x))

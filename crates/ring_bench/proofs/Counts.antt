@@ -3,16 +3,15 @@ use Rattle.std.proofs.Common.{◌≡◌, ℕ, ◌+◌, ◌-◌, ◌*◌, ◌^◌
 use Rattle.std.proofs.Common.{false, inl, inr, refl, ap, ◌∙◌, arith, mul-le-mul_right}
 use Rattle.std.proofs.lemmas.Grind.{div_ceil_times}
 use Rattle.std.specs.Int.{div_ceil}
-use Rattle.ring.proofs.Costs.{IsNew, counted, counted_new, raised-none, raised-raised}
+use Rattle.ring.proofs.Costs.{IsNew, block_len-most, counted, counted_new, max_input_len-most}
+use Rattle.ring.proofs.Costs.{output_len-fits, output_len-positive, raised-none, raised-raised}
+use Rattle.ring.proofs.Costs.{sizes_of, whole_last}
 use Rattle.ring.specs.Algorithm.{block_len, max_input_len, output_len}
 use Rattle.ring.specs.Cost.{Counts, derive_blocks, derive_rounds, fill_blocks, fill_rounds}
 use Rattle.ring.specs.Cost.{iterate_blocks, key_blocks, last_blocks, padded_blocks, raised}
 use Rattle.ring.specs.Cost.{whole_blocks}
 use Rattle.ring.specs.Limits.{CanDerive, IsInfoWithin, IsOutputWithin, IsTagWithin}
 use Rattle.ring.specs.declared.digest.algorithm.Algorithm.{Algorithm}
-use Rattle.ring.proofs.Keys.{output_below}
-use Rattle.ring.proofs.Lengths.{whole_last}
-use Rattle.ring.proofs.Rows.{block_len-most, max_input_len-most, output_len-positive, sizes_of}
 
 -- no byte has no block
 pub whole_none : (a : Algorithm) (m : Counts) → m ≡ raised m (whole_blocks a 0) 0
@@ -126,7 +125,7 @@ fill_blocks-most : {a : Algorithm} {i n : ℕ} → IsOutputWithin a n → IsInfo
 fill_blocks-most {a} {i} {n} few within =
     let first = within.first_round in
     let rounds : fill_rounds a n - 1 ≤ 254 = omega (arith, few_rounds a 255 n few) in
-    let short = output_below a in
+    let short = output_len-fits a in
     let block = block_len-most a in
     let most_first = padded_blocks-most a (i + 1) in
     let most_next = padded_blocks-most a (output_len a + i + 1) in

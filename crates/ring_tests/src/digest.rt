@@ -1,6 +1,6 @@
 //! Digests: agreement with other implementations, in whatever pieces, and the texts of Debug.
 
-use crate::messages::{counting_bytes, padded_blocks, whole_blocks};
+use crate::messages::{counting_bytes, padded_blocks, takes_all};
 use crate::texts::prints;
 use ring::cost::Meter;
 use ring::digest::dynstate::DynState;
@@ -41,27 +41,6 @@ fn is_of_others(algorithm: Algorithm, message: &[u8], made: &[u8]) -> bool {
     made == Sha512_256::digest(message).as_slice()
 }
 
-// Adds a piece and then an empty one, and tells whether after each `blocks` blocks have run.
-fn takes(context: &mut Context, piece: &[u8], meter: &mut Meter, blocks: u128) -> bool {
-    context.update_counted(piece, meter);
-    let after_piece = meter.blocks();
-    context.update_counted(&[], meter);
-    after_piece == blocks && meter.blocks() == blocks
-}
-
-// Adds the message in pieces, and tells whether each block was run as soon as it was complete.
-fn takes_all(context: &mut Context, message: &[u8], piece_len: usize, meter: &mut Meter) -> bool {
-    let algorithm = context.algorithm();
-    let mut taken = 0usize;
-    for piece in message.chunks(piece_len.max(1)) {
-        taken = taken.saturating_add(piece.len());
-        if !takes(context, piece, meter, whole_blocks(&algorithm, taken)) {
-            return false;
-        }
-    }
-    true
-}
-
 // Whether the context and a copy of it give the message's digest, for the blocks that are left.
 fn finishes(context: Context, message: &[u8], meter: &mut Meter) -> Result<bool, Unspecified> {
     let algorithm = context.algorithm();
@@ -86,7 +65,7 @@ fn agrees(algorithm: Algorithm, message: &[u8], piece_len: usize) -> Result<bool
     let mut meter = Meter::new();
     let mut context = Context::new(&algorithm);
     Ok(
-        takes_all(&mut context, message, piece_len, &mut meter)
+        takes_all(&mut context, &algorithm, message, piece_len, &mut meter)
             && finishes(context, message, &mut meter)?
             && is_of_others(algorithm, message, digest(&algorithm, message)?.as_ref())
             && is_of_others(

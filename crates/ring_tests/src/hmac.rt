@@ -1,9 +1,8 @@
 //! Tags: messages in whatever pieces, what keys cost, and the texts of Debug.
 
-use crate::messages::{counting_bytes, padded_blocks, whole_blocks};
+use crate::messages::{counting_bytes, padded_blocks, takes_all};
 use crate::texts::prints;
 use ring::cost::Meter;
-use ring::digest;
 use ring::error::Unspecified;
 use ring::hmac::{
     Algorithm, Context, HMAC_SHA1_FOR_LEGACY_USE_ONLY, HMAC_SHA256, HMAC_SHA384, HMAC_SHA512, Key,
@@ -18,32 +17,6 @@ const PIECE_LENS: [(Algorithm, [usize; 4]); 4] = [
     (HMAC_SHA384, [1, 127, 128, 129]),
     (HMAC_SHA512, [1, 127, 128, 129]),
 ];
-
-// Adds a piece and then an empty one, and tells whether after each `blocks` blocks have run.
-fn takes(context: &mut Context, piece: &[u8], meter: &mut Meter, blocks: u128) -> bool {
-    context.update_counted(piece, meter);
-    let after_piece = meter.blocks();
-    context.update_counted(&[], meter);
-    after_piece == blocks && meter.blocks() == blocks
-}
-
-// Adds the message in pieces, and tells whether each block was run as soon as it was complete.
-fn takes_all(
-    context: &mut Context,
-    algorithm: digest::Algorithm,
-    message: &[u8],
-    piece_len: usize,
-    meter: &mut Meter,
-) -> bool {
-    let mut taken = 0usize;
-    for piece in message.chunks(piece_len.max(1)) {
-        taken = taken.saturating_add(piece.len());
-        if !takes(context, piece, meter, whole_blocks(&algorithm, taken)) {
-            return false;
-        }
-    }
-    true
-}
 
 // Whether the context and a copy of it give the tag, when `blocks` have run.
 fn signs(
@@ -73,7 +46,7 @@ fn agrees(key: &Key, message: &[u8], piece_len: usize) -> Result<bool, Unspecifi
     let mut meter = Meter::new();
     let mut context = Context::with_key(key);
     Ok(
-        takes_all(&mut context, algorithm, message, piece_len, &mut meter)
+        takes_all(&mut context, &algorithm, message, piece_len, &mut meter)
             && signs(context, expected.as_ref(), &mut meter, blocks)?
             && in_one_piece(key, message)?.as_ref() == expected.as_ref(),
     )

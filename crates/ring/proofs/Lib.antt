@@ -6,6 +6,8 @@ pub mod Blocks
 pub mod Updating
 pub mod Finishing
 pub mod Tails
+pub mod LaneBlocks
+pub mod Each
 pub mod Runs
 pub mod Outcomes
 pub mod Lengths

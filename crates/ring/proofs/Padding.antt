@@ -4,7 +4,7 @@ use Rattle.std.proofs.Common.{length, replicate, refl, ◌∙◌, arith, length-
 use Rattle.std.proofs.lemmas.List.{length-replicate}
 use Rattle.std.specs.Int.{bytes_high_first}
 use Rattle.ring.specs.Algorithm.{block_len, length_len}
-use Rattle.ring.specs.Padding.{IsPadded, padded, padded_with, zeros_of}
+use Rattle.ring.specs.Padding.{IsPadded, padded, padded_blocks, padded_with, zeros_of}
 use Rattle.ring.specs.declared.digest.algorithm.Algorithm.{Algorithm}
 use Rattle.ring.proofs.Outputs.{length-bytes_high_first}
 use Rattle.ring.proofs.Rows.{AreSizes, sizes_of}
@@ -44,3 +44,14 @@ padded_is_padded a m =
           let enough = l.1 z (rw (length-padded_with a m z) at h) in
           omega (arith, length-padded_with a m z, length-padded_with a m zeros);
     }
+
+-- the padded message has as many bytes as its blocks
+pub length-padded : (a : Algorithm) (m : List ℕ)
+    → length (padded a m) ≡ padded_blocks a (length m) * block_len a
+unfolding padded
+length-padded a m = length-padded_with a m (zeros_of a (length m)) ∙ sizes (sizes_of a)
+  where
+    sizes : {b l : ℕ} → AreSizes b l
+        → length m + 1 + zeros_for (length m) b l + l ≡ ((length m + l) / b + 1) * b
+    sizes (inl e) = rw (e.0, e.1) (omega arith)
+    sizes (inr e) = rw (e.0, e.1) (omega arith)

@@ -37,6 +37,23 @@
 //!     Ok((of_front, of_whole))
 //! }
 //! ```
+//!
+//! [`digest_each`] gives the digests of several messages, of any lengths, and is faster than one
+//! after another where there are four or more under SHA-1 or SHA-256:
+//!
+//! ```
+//! pub fn digests_of_four(
+//!     algorithm: &Algorithm,
+//!     messages: &[&[u8]; 4],
+//! ) -> Result<[Digest; 4], Unspecified>
+//!     ensures ok { IfOk result (λ digests. AreDigests digests algorithm.now messages.now) }
+//!     ensures refused { IsOk result ↔ CanDigestEach algorithm.now messages.now 4 }
+//! {
+//!     let mut digests = [digest(algorithm, &[])?; 4];
+//!     digest_each(algorithm, messages, &mut digests)?;
+//!     Ok(digests)
+//! }
+//! ```
 
 ghost use Rattle.std.specs.Prelude.{◌≡◌, ◌↔◌, length, ◌<◌, IfOk, IsErr, OnOk, OnErr};
 ghost use Rattle.ring_core.specs.Cost.{raised};
@@ -53,7 +70,9 @@ pub(crate) mod algorithm;
 pub(crate) mod block_context;
 pub(crate) mod context;
 pub mod dynstate;
+mod each;
 mod initial;
+mod lanes;
 pub(crate) mod padding;
 pub(crate) mod value;
 
@@ -64,6 +83,7 @@ pub use crate::digest::algorithm::{
 };
 pub use crate::digest::context::Context;
 pub use crate::digest::dynstate::Output;
+pub use crate::digest::each::{digest_each, digest_each_counted};
 pub use crate::digest::padding::padding_is_shortest;
 pub use crate::digest::value::Digest;
 pub use ring_core::digest::{four, sha1, sha2, word};

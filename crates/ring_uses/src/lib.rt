@@ -9,4 +9,5 @@ pub mod hmac;
 pub mod pbkdf2;
 pub mod pieces;
 pub mod rand;
+pub mod several;
 pub mod store;

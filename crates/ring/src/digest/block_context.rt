@@ -39,7 +39,7 @@ fn run_blocks_64<'i>(words: &mut State64, input: &'i [u8], meter: &mut Meter) ->
 }
 
 // The same for the words of an algorithm of 32-bit words.
-fn run_blocks_32<'i>(
+pub(crate) fn run_blocks_32<'i>(
     algorithm: Algorithm,
     words: &mut State32,
     input: &'i [u8],

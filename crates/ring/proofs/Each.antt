@@ -1,0 +1,162 @@
+-- Lists of messages and of their digests.
+use Rattle.std.proofs.Common.{◌≡◌, ℕ, ◌+◌, ◌-◌, ◌<◌, ◌≤◌, List, [], ◌∷◌, ◌++◌, length, take, drop}
+use Rattle.std.proofs.Common.{get_or, inl, inr, length-append, length-drop, map, refl, slice_set}
+use Rattle.std.proofs.Common.{sym, ap, ◌∙◌, arith}
+use Rattle.std.proofs.Math.ListN.{get_or-map}
+use Rattle.std.proofs.Math.Seq.{take-add}
+use Rattle.std.proofs.lemmas.Bool.{cases_order}
+use Rattle.std.proofs.lemmas.List.{drop_more, get_or-append_right, get_or-drop, get_or-take}
+use Rattle.std.proofs.lemmas.List.{get_or_append_left, length-map, length-take-le, map-append}
+use Rattle.std.proofs.lemmas.List.Sums.{sum_by-append}
+use Rattle.std.specs.Borrow.{Bor}
+use Rattle.ring_core.specs.Cost.{Counts, raised}
+use Rattle.ring_core.proofs.Costs.{raised-none, raised-raised}
+use Rattle.ring_core.proofs.Four.{four_cases}
+use Rattle.ring.specs.Cost.{padded_blocks}
+use Rattle.ring.specs.Digest.{IsDigest}
+use Rattle.ring.specs.Each.{AreDigests, CanDigestEach, each_blocks, message_at}
+use Rattle.ring.specs.declared.digest.algorithm.Algorithm.{Algorithm}
+use Rattle.ring.specs.declared.digest.value.Digest.{Digest}
+
+-- the message at a place, as an index reads it
+pub message-read : (messages : List (Bor (List ℕ))) (k : ℕ)
+    → message_at messages k ≡ (get_or messages k record { ref_ptr = (0, 0); now = [] }).now
+message-read messages k =
+    get_or-map (λ message. message.now) messages k record { ref_ptr = (0, 0); now = [] }
+
+-- what a rise and then another make
+pub raised-then : (m0 : Counts) {m1 m2 : Counts} (a b : ℕ) → m1 ≡ raised m0 a 0 → m2 ≡ raised m1 b 0
+    → m2 ≡ raised m0 (a + b) 0
+raised-then m0 a b e1 e2 = e2 ∙ rw e1 (raised-raised m0 a 0 b 0)
+
+-- the blocks of four messages
+pub each_blocks-four : (a : Algorithm) (messages : List (Bor (List ℕ))) → length messages ≡ 4
+    → each_blocks a messages ≡ padded_blocks a (length (message_at messages 0))
+    + padded_blocks a (length (message_at messages 1))
+    + padded_blocks a (length (message_at messages 2))
+    + padded_blocks a (length (message_at messages 3))
+each_blocks-four a (m ∷ n ∷ o ∷ p ∷ []) four = omega arith
+each_blocks-four a _ four = absurd (omega arith)
+
+-- four digests written at their places
+pub digests-four : {d e f g : Digest} (a : Algorithm) (messages : List (Bor (List ℕ)))
+    (out : List Digest) → (length messages ≡ 4) × (length out ≡ 4)
+    → IsDigest d a (message_at messages 0) → IsDigest e a (message_at messages 1)
+    → IsDigest f a (message_at messages 2) → IsDigest g a (message_at messages 3)
+    → AreDigests (slice_set (slice_set (slice_set (slice_set out 0 d) 1 e) 2 f) 3 g) a messages
+digests-four {d} {e} {f} {g} a messages (_ ∷ _ ∷ _ ∷ _ ∷ []) sizes h0 h1 h2 h3 =
+    record {
+      count = sym sizes.0;
+      each = λ k z below. four_cases
+          (λ (i : ℕ). IsDigest (get_or (d ∷ e ∷ f ∷ g ∷ []) i z) a (message_at messages i))
+          h0 h1 h2 h3 k (omega (arith, sizes.0, below));
+    }
+digests-four a messages _ sizes h0 h1 h2 h3 = absurd (omega (arith, sizes.1))
+
+message_at-append : (ms ns : List (Bor (List ℕ))) (k : ℕ)
+    → message_at (ms ++ ns) k ≡ get_or (map (λ m. m.now) ms ++ map (λ n. n.now) ns) k []
+message_at-append ms ns k = ap (λ (xs : List (List ℕ)). get_or xs k []) (map-append _ ms ns)
+
+-- the digests of two lists, one after the other
+pub digests-append : {ds es : List Digest} {a : Algorithm} (ms ns : List (Bor (List ℕ)))
+    → AreDigests ds a ms → AreDigests es a ns → AreDigests (ds ++ es) a (ms ++ ns)
+digests-append {ds} {es} {a} ms ns first second =
+    let left = map (λ (m : Bor (List ℕ)). m.now) ms in
+    let right = map (λ (n : Bor (List ℕ)). n.now) ns in
+    let long : length left ≡ length ms = length-map ms _ in
+    let low : (k : ℕ) (d : Digest) → k < length ms
+    → IsDigest (get_or (ds ++ es) k d) a (message_at (ms ++ ns) k) =
+    λ k d h. rw (
+      message_at-append ms ns k,
+      get_or_append_left left right [] k (omega (arith, long, h)),
+      get_or_append_left ds es d k (omega (arith, first.count, h)),
+    ) (first.each k d h) in
+    let high : (k : ℕ) (d : Digest) → length ms ≤ k → k < length (ms ++ ns)
+    → IsDigest (get_or (ds ++ es) k d) a (message_at (ms ++ ns) k) =
+    λ k d h below. rw (
+      message_at-append ms ns k,
+      get_or-append_right left right (length ms) k [] long h,
+      get_or-append_right ds es (length ms) k d first.count h,
+    ) (second.each (k - length ms) d (omega (arith, length-append ms ns, h, below))) in
+    record {
+      count = length-append ds es ∙ omega (arith, first.count, second.count, length-append ms ns);
+      each = λ k d below. elim (cases_order k (length ms)) [
+        | inl e ↦ high k d (omega (arith, e)) below
+        | inr o ↦ elim o [ inl h ↦ low k d h | inr h ↦ high k d (omega (arith, h)) below ]
+      ];
+    }
+
+-- the first n of the messages have their digests in out
+pub record HaveDigests (a : Algorithm) (messages : List (Bor (List ℕ))) (n : ℕ)
+    (out : List Digest) (before now : Counts) : Type 0 where
+  pub digests : AreDigests (take n out) a (take n messages)
+  pub cost : now ≡ raised before (each_blocks a (take n messages)) 0
+
+pub digests-none : (a : Algorithm) (messages : List (Bor (List ℕ))) (out : List Digest)
+    (m : Counts) → HaveDigests a messages 0 out m m
+digests-none a messages out m =
+    record {
+      digests = record { count = refl; each = λ k d below. absurd (omega (arith, below)) };
+      cost = raised-none m;
+    }
+
+module _ {a : Algorithm} {messages : List (Bor (List ℕ))} {before now : Counts} where
+  -- and the next k
+  pub digests-next : {out ys next : List Digest} {after : Counts} (n k : ℕ)
+      → HaveDigests a messages n out before now → take (n + k) next ≡ take n out ++ ys
+      → AreDigests ys a (take k (drop n messages))
+      → after ≡ raised now (each_blocks a (take k (drop n messages))) 0
+      → HaveDigests a messages (n + k) next before after
+  digests-next n k have put are cost =
+      let front = take n messages in
+      let more = take k (drop n messages) in
+      let both : take (n + k) messages ≡ front ++ more = take-add n k messages in
+      let sum : each_blocks a front + each_blocks a more ≡ each_blocks a (take (n + k) messages) =
+      sym (sum_by-append (λ m. padded_blocks a (length m.now)) front more)
+      ∙ ap (each_blocks a) (sym both) in
+      record {
+        digests = rw (put, both) (digests-append front more have.digests are);
+        cost = raised-then before (each_blocks a front) (each_blocks a more) have.cost cost
+            ∙ ap (λ (z : ℕ). raised before z 0) sum;
+      }
+
+-- some of the messages can be digested where all can
+pub can-part : {n : ℕ} (a : Algorithm) (messages : List (Bor (List ℕ))) (i k : ℕ)
+    → CanDigestEach a messages n → i + k ≤ n → CanDigestEach a (take k (drop i messages)) k
+can-part a messages i k can fits =
+    let part = take k (drop i messages) in
+    let none : Bor (List ℕ) = record { ref_ptr = (0, 0); now = [] } in
+    let long : length part ≡ k =
+    length-take-le k (drop i messages) (omega (arith, length-drop i messages, can.count)) in
+    let same : (j : ℕ) → j < k → message_at part j ≡ message_at messages (i + j) =
+    λ j h. message-read part j
+    ∙ ap (λ (m : Bor (List ℕ)). m.now) (get_or-take k (drop i messages) j none h
+    ∙ get_or-drop i messages j none)
+    ∙ sym (message-read messages (i + j)) in
+    record {
+      count = long;
+      each = λ j below.
+          let h : j < k = omega (arith, long, below) in
+          rw (same j h) (can.each (i + j) (omega (arith, h, can.count)));
+    }
+
+-- a single message of a list
+module _ (a : Algorithm) (messages : List (Bor (List ℕ))) (i : ℕ) where
+  one-message : i < length messages → take 1 (drop i messages)
+      ≡ get_or messages i record { ref_ptr = (0, 0); now = [] } ∷ []
+  one-message below = ap (take 1) (drop_more messages i _ below)
+
+  pub digests-one : {d : Digest} → i < length messages
+      → IsDigest d a (get_or messages i record { ref_ptr = (0, 0); now = [] }).now
+      → AreDigests (d ∷ []) a (take 1 (drop i messages))
+  digests-one {d} below is =
+      let m = get_or messages i record { ref_ptr = (0, 0); now = [] } in
+      rw (one-message below) (record {
+        count = refl;
+        each = λ k z h. let e : k ≡ 0 = omega (arith, h) in rw e is;
+      })
+
+  pub blocks-one : i < length messages → each_blocks a (take 1 (drop i messages))
+      ≡ padded_blocks a
+      (length (get_or messages i record { ref_ptr = (0, 0); now = [] }).now)
+  blocks-one below = ap (each_blocks a) (one-message below) ∙ omega arith

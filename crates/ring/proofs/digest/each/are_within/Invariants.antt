@@ -1,0 +1,8 @@
+use Rattle.std.proofs.Common.{ℕ, ◌<◌, length}
+use Rattle.ring.specs.Each.{message_at}
+use Rattle.ring.specs.Limits.{IsMessageWithin}
+use Rattle.ring.proofs.digest.each.are_within.Given as goal
+
+abbrev pub invariant-messages : goal.invariant-messages
+invariant-messages l =
+    (k : ℕ) → k < l.i → IsMessageWithin l.algorithm (length (message_at l.messages k))

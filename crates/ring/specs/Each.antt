@@ -1,0 +1,39 @@
+-- Digests of several messages at once.
+use Rattle.std.specs.Prelude.{◌≡◌, ℕ, ◌<◌, List, [], get_or, length, map, sum_by, take}
+use Rattle.std.specs.Borrow.{Bor}
+use Rattle.ring_core.specs.Chunks.{fold_chunks}
+use Rattle.ring.specs.Algorithm.{block_function, block_len, initial_words, word_count}
+use Rattle.ring.specs.Digest.{IsDigest}
+use Rattle.ring.specs.Limits.{IsMessageWithin}
+use Rattle.ring.specs.Padding.{padded, padded_blocks}
+use Rattle.ring.specs.declared.digest.algorithm.Algorithm.{Algorithm}
+use Rattle.ring.specs.declared.digest.value.Digest.{Digest}
+
+-- the message at a place of a list
+abbrev pub message_at : List (Bor (List ℕ)) → ℕ → List ℕ
+message_at messages k = get_or (map (λ message. message.now) messages) k []
+
+-- there are as many digests as messages, and each is that of the message at its place
+pub record AreDigests (digests : List Digest) (a : Algorithm) (messages : List (Bor (List ℕ)))
+    : Type 0 where
+  pub count : length digests ≡ length messages
+  pub each : (k : ℕ) (d : Digest) → k < length messages
+      → IsDigest (get_or digests k d) a (message_at messages k)
+
+-- n digests can be made of the messages: one of each, and each is within the limit
+pub record CanDigestEach (a : Algorithm) (messages : List (Bor (List ℕ))) (n : ℕ) : Type 0 where
+  pub count : length messages ≡ n
+  pub each : (k : ℕ) → k < length messages → IsMessageWithin a (length (message_at messages k))
+
+-- the blocks of all padded messages
+abbrev pub each_blocks : Algorithm → List (Bor (List ℕ)) → ℕ
+each_blocks a messages = sum_by (λ message. padded_blocks a (length message.now)) messages
+
+-- the chaining words after the first k blocks of the padded message m
+unfoldable pub words_at : Algorithm → List ℕ → ℕ → List ℕ
+words_at a m k = fold_chunks (block_function a) (block_len a) (initial_words a) (padded a m) k
+
+-- eight words, of which those that chain are h
+pub record HasWords (a : Algorithm) (h ws : List ℕ) : Type 0 where
+  pub chaining : take (word_count a) ws ≡ h
+  pub count : length ws ≡ 8

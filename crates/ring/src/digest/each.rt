@@ -1,0 +1,150 @@
+//! Digests of several messages at once.
+
+ghost use Rattle.std.specs.Prelude.{◌≡◌, ◌↔◌, ℕ, ◌*◌, ◌<◌, ◌≤◌, IsOk, IsTrue, OnErr, OnOk};
+ghost use Rattle.std.specs.Prelude.{length, take};
+ghost use Rattle.ring_core.specs.Cost.{raised};
+ghost use Rattle.ring.specs.Algorithm.{block_len, initial_words};
+ghost use Rattle.ring.specs.Cost.{padded_blocks};
+ghost use Rattle.ring.specs.Digest.{IsDigest};
+ghost use Rattle.ring.specs.Each.{AreDigests, CanDigestEach, each_blocks, message_at};
+ghost use Rattle.ring.specs.Limits.{IsMessageWithin};
+ghost use Rattle.ring.specs.State.{chaining_words};
+
+use crate::digest::algorithm::{Algorithm, is_message_within};
+use crate::digest::block_context::BlockContext;
+use crate::digest::dynstate::DynState;
+use crate::digest::lanes::{first_state, write_four};
+use crate::digest::value::Digest;
+use ring_core::cost::Meter;
+use ring_core::digest::sha2::State32;
+use ring_core::error::Unspecified;
+
+// How many messages run side by side.
+const LANES: usize = 4;
+
+// Whether each message has a digest.
+fn are_within(algorithm: &Algorithm, messages: &[&[u8]]) -> bool
+    ensures { IsTrue result ↔ ((k : ℕ) → k < length messages.now
+        → IsMessageWithin algorithm.now (length (message_at messages.now k))) }
+{
+    'messages: for i in 0..messages.len() {
+        if !is_message_within(algorithm, messages[i].len() as u128) {
+            return false;
+        }
+    }
+    true
+}
+
+// The digest of a message that has one.
+fn digest_within(algorithm: &Algorithm, message: &[u8], meter: &mut Meter) -> Digest
+    requires { IsMessageWithin algorithm.now (length message.now) }
+    ensures ok { IsDigest result algorithm.now message.now }
+    ensures cost { meter.new
+        ≡ raised meter.old (padded_blocks algorithm.now (length message.now)) 0 }
+{
+    let mut blocks = BlockContext::new(algorithm);
+    let rest = blocks.update(message, meter);
+    match blocks.try_finish(rest, meter) {
+        Ok(digest) => digest,
+        // The whole length is within the limit.
+        Err(_) => unreachable!(),
+    }
+}
+
+// Makes `out` the digests of the messages, one after another.
+fn write_singly(algorithm: &Algorithm, messages: &[&[u8]], out: &mut [Digest], meter: &mut Meter)
+    requires { CanDigestEach algorithm.now messages.now (length out.old) }
+    ensures ok { AreDigests out.new algorithm.now messages.now }
+    ensures cost { meter.new ≡ raised meter.old (each_blocks algorithm.now messages.now) 0 }
+{
+    'messages: for i in 0..messages.len() {
+        out[i] = digest_within(algorithm, messages[i], meter);
+    }
+}
+
+// Makes the front of `out` the digests of the first messages, four side by side as long as there
+// are four, and gives how many these are.
+fn write_fours(
+    algorithm: &Algorithm,
+    first: &State32,
+    messages: &[&[u8]],
+    out: &mut [Digest],
+    meter: &mut Meter,
+) -> usize
+    requires lanes { block_len algorithm.now ≡ 64 }
+    requires first { chaining_words algorithm.now (DynState.As32 first.now)
+        ≡ initial_words algorithm.now }
+    requires within { CanDigestEach algorithm.now messages.now (length out.old) }
+    ensures within { result ≤ length messages.now }
+    ensures ok { AreDigests (take result out.new) algorithm.now (take result messages.now) }
+    ensures cost { meter.new
+        ≡ raised meter.old (each_blocks algorithm.now (take result messages.now)) 0 }
+{
+    let fours = messages.len() / LANES;
+    'fours: for made in 0..fours {
+        let start = LANES * made;
+        let four = &messages[start..start + LANES];
+        write_four(
+            *algorithm,
+            first,
+            four,
+            &mut out[start..start + LANES],
+            meter,
+        );
+    }
+    LANES * fours
+}
+
+// Makes `out` the digests of the messages, as many of them side by side as can be.
+fn write_each(algorithm: &Algorithm, messages: &[&[u8]], out: &mut [Digest], meter: &mut Meter)
+    requires { CanDigestEach algorithm.now messages.now (length out.old) }
+    ensures ok { AreDigests out.new algorithm.now messages.now }
+    ensures cost { meter.new ≡ raised meter.old (each_blocks algorithm.now messages.now) 0 }
+{
+    let Some(first) = first_state(algorithm) else {
+        return write_singly(algorithm, messages, out, meter);
+    };
+    let made = write_fours(algorithm, &first, messages, out, meter);
+    write_singly(algorithm, &messages[made..], &mut out[made..], meter);
+}
+
+/// Makes `out` the digests of the messages, as [`digest_each`] does, their blocks counted by
+/// `meter`.
+pub fn digest_each_counted(
+    algorithm: &Algorithm,
+    messages: &[&[u8]],
+    out: &mut [Digest],
+    meter: &mut Meter,
+) -> Result<(), Unspecified>
+    ensures ok { OnOk result (AreDigests out.new algorithm.now messages.now) }
+    ensures refused { IsOk result ↔ CanDigestEach algorithm.now messages.now (length out.old) }
+    ensures unchanged { OnErr result ((out.new ≡ out.old) × (meter.new ≡ meter.old)) }
+    ensures cost { OnOk result (meter.new
+        ≡ raised meter.old (each_blocks algorithm.now messages.now) 0) }
+{
+    if messages.len() != out.len() || !are_within(algorithm, messages) {
+        return Err(Unspecified);
+    }
+    write_each(algorithm, messages, out, meter);
+    Ok(())
+}
+
+/// Makes `out` the digests of the messages, each at its message's place (FIPS 180-4, section 6).
+///
+/// It gives what [`digest`](crate::digest::digest) gives for each of them, and where there are four
+/// messages or more under SHA-1 or SHA-256, it is faster, the more so the more alike their lengths
+/// are: four at a time run side by side.
+///
+/// Refused where `out` has not as many places as there are messages, or a message is longer than
+/// the algorithm's `max_input_len` bytes, before anything is written.
+pub fn digest_each(
+    algorithm: &Algorithm,
+    messages: &[&[u8]],
+    out: &mut [Digest],
+) -> Result<(), Unspecified>
+    ensures ok { OnOk result (AreDigests out.new algorithm.now messages.now) }
+    ensures refused { IsOk result ↔ CanDigestEach algorithm.now messages.now (length out.old) }
+    ensures unchanged { OnErr result (out.new ≡ out.old) }
+{
+    digest_each_counted(algorithm, messages, out, &mut Meter::new())
+}

@@ -13,6 +13,7 @@ use ring_uses::hmac::{tag_counted, tag_of_two, verify_tag};
 use ring_uses::pbkdf2::{derive_and_verify, stored_of, verify_stored};
 use ring_uses::pieces::{digest_of_list, digest_of_whole, digests_of_front_and_whole};
 use ring_uses::rand::{nonce, tag_under_generated};
+use ring_uses::several::{digests_of_both, digests_of_four};
 use ring_uses::store::log_in;
 use std::num::NonZeroU32;
 use std::test::Fail;
@@ -25,6 +26,9 @@ const LONG_REST: &[u8] = b"dbcdecdefdefgefghfghighijhijkijkljklmklmnlmnomnopnopq
 const OF_SHORT: &str = "ba7816bf8f01cfea414140de5dae2223b00361a396177a9cb410ff61f20015ad";
 
 const OF_LONG: &str = "248d6a61d20638b8e5c026930c3e6039a33ce45964ff2167f6ecedd419db06c1";
+
+// The digest of no byte by SHA-256, from Python's `hashlib`.
+const OF_NOTHING: &str = "e3b0c44298fc1c149afbf4c8996fb92427ae41e4649b934ca495991b7852b855";
 
 // The digest of the short message by SHA-512, from the same examples.
 const OF_SHORT_BY_SHA512: &str = "ddaf35a193617abacc417349ae20413112e6fa4e89a97ea20a9eeee64b55d39a\
@@ -70,6 +74,16 @@ fn digests(rt: HostRuntime) -> Result<(), Fail> {
     let (front, all) = digests_of_front_and_whole(&SHA256, SHORT, LONG_REST)?;
     assert!(rt; is_hex_of(rt.alloc(), OF_SHORT, front.as_ref())?);
     assert!(rt; is_hex_of(rt.alloc(), OF_LONG, all.as_ref())?);
+    Ok(())
+}
+
+#[test]
+fn digests_at_once(rt: HostRuntime) -> Result<(), Fail> {
+    let (empty, short) = digests_of_both(&[], SHORT)?;
+    assert!(rt; is_hex_of(rt.alloc(), OF_NOTHING, empty.as_ref())?);
+    assert!(rt; is_hex_of(rt.alloc(), OF_SHORT, short.as_ref())?);
+    let four = digests_of_four(&SHA256, &[&[], &[], SHORT, &[]])?;
+    assert!(rt; is_hex_of(rt.alloc(), OF_SHORT, four[2].as_ref())?);
     Ok(())
 }
 

@@ -24,8 +24,8 @@ const PIECE_LENS: [(Algorithm, [usize; 4]); 5] = [
     (SHA512_256, [1, 127, 128, 129]),
 ];
 
-// Whether the crates `sha1` and `sha2` give the digest `made`.
-fn is_of_others(algorithm: Algorithm, message: &[u8], made: &[u8]) -> bool {
+/// Whether the crates `sha1` and `sha2` give the digest `made`.
+pub fn is_of_others(algorithm: Algorithm, message: &[u8], made: &[u8]) -> bool {
     if algorithm == SHA1_FOR_LEGACY_USE_ONLY {
         return made == Sha1::digest(message).as_slice();
     }

@@ -25,4 +25,6 @@ mod pbkdf2;
 #[cfg(test)]
 mod rand;
 #[cfg(test)]
+mod several;
+#[cfg(test)]
 mod texts;

@@ -9,7 +9,8 @@ use Rattle.std.proofs.Math.ListN.{replicate}
 use Rattle.std.proofs.Math.Nat.{mod-eq_of_lt}
 use Rattle.std.specs.Simd.Lanes.{Each1, zip2}
 use Rattle.ring_core.specs.Lane.{lane}
-use Rattle.ring_core.specs.Word.{rotr, shr}
+use Rattle.ring_core.specs.Bytes.{xor_lists}
+use Rattle.ring_core.specs.Word.{◌⊕◌, rotr, shr}
 use Rattle.ring_core.proofs.Rotation.{rotr-lt}
 use mir.Syntax.{w32}
 use mir.Val.{Fits}
@@ -97,3 +98,13 @@ pub eight_read : (l : List ℕ) → length l ≡ 8
     ∷ slice_index l 4 ∷ slice_index l 5 ∷ slice_index l 6 ∷ slice_index l 7 ∷ [] ≡ l
 eight_read (a ∷ b ∷ c ∷ d ∷ e ∷ f ∷ g ∷ h ∷ []) eight = refl
 eight_read _ eight = absurd (omega arith)
+
+-- the exclusive or of two lists of eight, item by item
+pub xor_eight : (x y : List ℕ) → length x ≡ 8 → length y ≡ 8
+    → (slice_index x 0 ⊕ slice_index y 0) ∷ (slice_index x 1 ⊕ slice_index y 1)
+    ∷ (slice_index x 2 ⊕ slice_index y 2) ∷ (slice_index x 3 ⊕ slice_index y 3)
+    ∷ (slice_index x 4 ⊕ slice_index y 4) ∷ (slice_index x 5 ⊕ slice_index y 5)
+    ∷ (slice_index x 6 ⊕ slice_index y 6) ∷ (slice_index x 7 ⊕ slice_index y 7) ∷ []
+    ≡ xor_lists x y
+xor_eight (a ∷ b ∷ c ∷ d ∷ e ∷ f ∷ g ∷ h ∷ []) (i ∷ j ∷ k ∷ l ∷ m ∷ n ∷ o ∷ p ∷ []) ex ey = refl
+xor_eight _ _ ex ey = absurd (omega arith)

@@ -1,6 +1,8 @@
 -- The numbers of a list of words, read and written.
-use Rattle.std.proofs.Common.{◌≡◌, ℕ, ◌+◌, ◌<◌, List, [], ◌∷◌, length, slice_index, map, refl, sym}
+use Rattle.std.proofs.Common.{◌≡◌, ℕ, ◌+◌, ◌-◌, ◌<◌, ◌≤◌, List, [], ◌∷◌, ◌++◌, drop, length, take}
+use Rattle.std.proofs.Common.{slice_index, map, refl, sym}
 use Rattle.std.proofs.Common.{ap, ◌∙◌, arith, inl, inr, nat_lt, true}
+use Rattle.std.proofs.lemmas.List.{get_or-append_right, get_or-drop, length-take-le}
 use Rattle.std.proofs.lemmas.List.{get_or-map, get_or-set_same, get_or-set_other, map-set}
 use Rattle.std.proofs.lemmas.Bool.{cases_lt, ltb-true}
 use Rattle.std.proofs.Math.ListN.{get_or, set, length-map}
@@ -40,3 +42,11 @@ filled_more {w = w} {i = i} f xs x h before here k below =
           let e : i ≡ k = omega arith in
           rw (← e) (get_or-set_same (map f xs) i (f x) 0 len ∙ here)
     ])
+
+-- an item past the front of a list that is put before the rest of another
+pub past_front : (n t : ℕ) (xs ys : List ℕ) → n ≤ length xs → n ≤ t
+    → slice_index (take n xs ++ drop n ys) t ≡ slice_index ys t
+past_front n t xs ys room past =
+    let same : n + (t - n) ≡ t = omega (arith, past) in
+    get_or-append_right (take n xs) (drop n ys) n t 0 (length-take-le n xs room) past
+    ∙ get_or-drop n ys (t - n) 0 ∙ ap (slice_index ys) same

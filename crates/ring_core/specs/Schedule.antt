@@ -1,6 +1,7 @@
 -- A schedule: words that each follow from those before it.
 use Rattle.std.specs.Prelude.{◌≡◌, ℕ, zero, suc, ◌+◌, ◌%◌, ◌<◌, ◌≤◌, List, [], ◌∷◌, ◌++◌, length}
-use Rattle.std.specs.Prelude.{slice_index}
+use Rattle.std.specs.Prelude.{drop, slice_index, take}
+use Rattle.ring_core.specs.Word.{word_at}
 
 -- the list made by appending `next ws t` to the words ws before it, for t = 0, .., n - 1
 unfoldable pub listed : (List ℕ → ℕ → ℕ) → ℕ → List ℕ
@@ -20,3 +21,9 @@ pub record IsRing (w : ℕ → ℕ) (ring : List ℕ) (t : ℕ) : Type 0 where
 pub record IsBefore (w : ℕ → ℕ) (rounds : ℕ → List ℕ) (ring v : List ℕ) (t : ℕ) : Type 0 where
   pub words : IsRing w ring t
   pub variables : v ≡ rounds t
+
+-- the words of the block, each of w bits, are the first n of front and those of padding past them
+-- (5.2)
+pub record IsBlockOf (w n : ℕ) (front padding block : List ℕ) : Type 0 where
+  pub word : (t : ℕ) → t < 16
+      → slice_index (take n front ++ drop n padding) t ≡ word_at w block t

@@ -1,5 +1,6 @@
 //! Four chaining states of 32-bit words side by side, for four messages at a time.
 ghost use Rattle.std.specs.Prelude.{◌≡◌, ℕ, ◌<◌};
+ghost use Rattle.ring_core.specs.Bytes.{xor_lists};
 ghost use Rattle.ring_core.specs.Lane.{word_of_lane, words_of_lane};
 ghost use Rattle.ring_core.specs.Sha2.{words_32};
 ghost use Rattle.ring_core.specs.Word.{word_32};
@@ -83,5 +84,24 @@ impl FourStates {
             word_in(words[6], i),
             word_in(words[7], i),
         ]
+    }
+    /// Xors the words of `other` into these, each lane's into the same lane.
+    #[inline(always)]
+    pub fn xor_assign(&mut self, other: &FourStates)
+        ensures { (i : ℕ) → words_of_lane i self.new
+            ≡ xor_lists (words_of_lane i self.old) (words_of_lane i other.now) }
+    {
+        let [a, b, c, d, e, f, g, h] = self.words;
+        let [i, j, k, l, m, n, o, p] = other.words;
+        self.words = [
+            a.bit_xor(i),
+            b.bit_xor(j),
+            c.bit_xor(k),
+            d.bit_xor(l),
+            e.bit_xor(m),
+            f.bit_xor(n),
+            g.bit_xor(o),
+            h.bit_xor(p),
+        ];
     }
 }

@@ -1,8 +1,8 @@
 //! The last sixteen words of a schedule, in a ring: word `t` stands in slot `t` modulo 16.
-ghost use Rattle.std.specs.Prelude.{◌≡◌, ℕ, ◌+◌, ◌*◌, ◌/◌, ◌%◌, ◌<◌, ◌≤◌, [], ◌∷◌};
-ghost use Rattle.std.specs.Prelude.{get_or, length, map};
+ghost use Rattle.std.specs.Prelude.{◌≡◌, ℕ, ◌+◌, ◌*◌, ◌/◌, ◌%◌, ◌<◌, ◌≤◌, ◌++◌, List};
+ghost use Rattle.std.specs.Prelude.{[], ◌∷◌, drop, get_or, length, map, slice_index, take};
 ghost use Rattle.ring_core.specs.Lane.{word_of_lane};
-ghost use Rattle.ring_core.specs.Schedule.{IsRing};
+ghost use Rattle.ring_core.specs.Schedule.{IsBlockOf, IsRing};
 ghost use Rattle.ring_core.specs.Word.{word_at};
 
 use crate::digest::word::Sha2;
@@ -46,6 +46,39 @@ pub(crate) fn load_four(ring: &mut [FourWords; 16], blocks: &[[u8; 64]; 4])
 {
     'words: for t in 0..16 {
         ring[t] = read_four(blocks, t);
+    }
+}
+
+// Word `t` of a block of the first `N` words of `front` and, in each lane, those of `padding` past
+// them.
+#[inline(always)]
+fn word_of<S: Slots, const N: usize>(front: &[S; 8], padding: &[S::One; 16], t: usize) -> S
+    requires front { N ≤ 8 }
+    requires place { t < 16 }
+    ensures { (i : ℕ) → S.lane i result ≡ slice_index
+        (take N (map (S.lane i) front.now) ++ drop N (map S.One.value padding.now)) t }
+{
+    if t < N {
+        front[t]
+    } else {
+        S::splat(padding[t])
+    }
+}
+
+// Fills the ring with the words of such a block.
+#[inline(always)]
+pub(crate) fn load_words<S: Slots, const N: usize>(
+    ring: &mut [S::Slot; 16],
+    front: &[S; 8],
+    padding: &[S::One; 16],
+)
+    requires { N ≤ 8 }
+    ensures { (i : ℕ) (b : List ℕ)
+        → IsBlockOf S.One.bits N (map (S.lane i) front.now) (map S.One.value padding.now) b
+        → IsRing (word_at S.One.bits b) (map (S.slot_lane i) ring.new) 16 }
+{
+    'words: for t in 0..16 {
+        ring[t] = word_of::<S, N>(front, padding, t).to_slot();
     }
 }
 

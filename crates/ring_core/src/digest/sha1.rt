@@ -3,7 +3,7 @@ ghost use Rattle.std.specs.Prelude.{◌≡◌, ℕ, ◌+◌, ◌*◌, ◌%◌, �
 ghost use Rattle.std.specs.Prelude.{[], get_or, length, map, take, drop};
 ghost use Rattle.ring_core.specs.Cost.{raised};
 ghost use Rattle.ring_core.specs.Lane.{word_of_lane, words_of_lane};
-ghost use Rattle.ring_core.specs.Schedule.{IsBefore, IsRing};
+ghost use Rattle.ring_core.specs.Schedule.{IsBefore, IsBlockOf, IsRing};
 ghost use Rattle.ring_core.specs.Sha1.{W, add_state, block_step, blocks_from, round};
 ghost use Rattle.ring_core.specs.Sha1.{round_constant, round_function, rounds_from};
 ghost use Rattle.ring_core.specs.Views.{chunk_items, chunk_total};
@@ -13,7 +13,7 @@ mod lanes;
 
 use crate::cost::Meter;
 use crate::digest::four::FourStates;
-use crate::digest::schedule::{load, load_four, pair};
+use crate::digest::schedule::{load, load_four, load_words, pair};
 use crate::digest::sha1::lanes::Lanes;
 use crate::digest::word::four::FourWords;
 use crate::digest::word::functions::{choose_word, majority_word};
@@ -25,6 +25,9 @@ pub(crate) type Word32 = Wrapping<u32>;
 
 /// The bytes of SHA-1's five chaining words.
 pub const CHAINING_LEN: usize = 20;
+
+// Their number.
+const CHAINING_WORDS: usize = 5;
 
 // ROTL (3.2, item 5)
 #[inline(always)]
@@ -183,8 +186,10 @@ fn add_state<S: Lanes>(state: &[S; 8], v: &[S; 5]) -> [S; 8]
     ]
 }
 
-// Runs the block function over the blocks whose words the ring holds, in each lane over its own.
-#[inline(always)]
+// Runs the block function over the blocks whose words the ring holds, in each lane over its own. The
+// rounds are written in line here alone: where they had two callers, of bytes and of words, the
+// compiler would call them, and the block function take a fifth longer.
+#[inline(never)]
 fn run_loaded<S: Lanes>(ring: &mut [S::Slot; 16], state: &mut [S; 8])
     ensures words { (i : ℕ) (b : List ℕ) → IsRing (W b) (map (S.slot_lane i) ring.old) 16
         → take 5 (map (S.lane i) state.new) ≡ block_step (take 5 (map (S.lane i) state.old)) b }
@@ -267,5 +272,72 @@ pub fn sha1_block_data_order_four_counted(
     ensures cost { meter.new ≡ raised meter.old 4 0 }
 {
     run_four_blocks(&mut states.words, blocks);
+    meter.add_four_blocks();
+}
+
+// Runs the block function over the block of five words of `front` and of those of `padding` past
+// them.
+fn run_words(state: &mut [Word32; 8], front: &[Word32; 8], padding: &[Word32; 16])
+    ensures words { (b : List ℕ)
+        → IsBlockOf 32 5 (map word_32 front.now) (map word_32 padding.now) b
+        → take 5 (map word_32 state.new) ≡ block_step (take 5 (map word_32 state.old)) b }
+    ensures rest { drop 5 state.new ≡ drop 5 state.old }
+{
+    let mut ring = [0u64; 16];
+    load_words::<Word32, CHAINING_WORDS>(&mut ring, front, padding); // step 1, to W(15)
+    run_loaded(&mut ring, state);
+}
+
+/// Replaces the first five words of `state` by SHA-1's hash computation over one block (6.1.2), and
+/// leaves the last three; `meter` counts the block. Its words are the first five of `front`, as a
+/// state ends with them, and those of `padding` from the sixth on.
+pub fn sha1_block_of_words_counted(
+    state: &mut [Wrapping<u32>; 8],
+    front: &[Wrapping<u32>; 8],
+    padding: &[Wrapping<u32>; 16],
+    meter: &mut Meter,
+)
+    ensures words { (b : List ℕ)
+        → IsBlockOf 32 5 (map word_32 front.now) (map word_32 padding.now) b
+        → take 5 (map word_32 state.new) ≡ block_step (take 5 (map word_32 state.old)) b }
+    ensures rest { drop 5 state.new ≡ drop 5 state.old }
+    ensures cost { meter.new ≡ raised meter.old 1 0 }
+{
+    run_words(state, front, padding);
+    meter.add_block();
+}
+
+// The same in each of four lanes, where `padding` is that of all four.
+fn run_four_words(state: &mut [FourWords; 8], front: &[FourWords; 8], padding: &[Word32; 16])
+    ensures words { (i : ℕ) (b : List ℕ)
+        → IsBlockOf 32 5 (map (word_of_lane i) front.now) (map word_32 padding.now) b
+        → take 5 (map (word_of_lane i) state.new)
+        ≡ block_step (take 5 (map (word_of_lane i) state.old)) b }
+    ensures rest { drop 5 state.new ≡ drop 5 state.old }
+{
+    let mut ring = [FourWords(Simd::splat(0)); 16];
+    load_words::<FourWords, CHAINING_WORDS>(&mut ring, front, padding); // step 1, to W(15)
+    run_loaded(&mut ring, state);
+}
+
+/// Replaces the first five words of the state in each of four lanes by SHA-1's hash computation
+/// over one block (6.1.2), and leaves the last three; `meter` counts the four blocks. A block's
+/// words are the first five of its lane of `fronts`, and those of `padding` from the sixth on.
+pub fn sha1_block_of_words_four_counted(
+    states: &mut FourStates,
+    fronts: &FourStates,
+    padding: &[Wrapping<u32>; 16],
+    meter: &mut Meter,
+)
+    ensures words { (i : ℕ) (b : List ℕ)
+        → IsBlockOf 32 5 (words_of_lane i fronts.now) (map word_32 padding.now) b
+        → take 5 (words_of_lane i states.new)
+        ≡ block_step (take 5 (words_of_lane i states.old)) b }
+    ensures rest { (i : ℕ) → drop 5 (words_of_lane i states.new)
+        ≡ drop 5 (words_of_lane i states.old) }
+    ensures cost { meter.new ≡ raised meter.old 4 0 }
+    ensures eight { (i : ℕ) → length (words_of_lane i fronts.now) ≡ 8 }
+{
+    run_four_words(&mut states.words, &fronts.words, padding);
     meter.add_four_blocks();
 }

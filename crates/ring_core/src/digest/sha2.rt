@@ -4,7 +4,7 @@ ghost use Rattle.std.specs.Prelude.{◌≡◌, ℕ, ◌+◌, ◌*◌, ◌/◌, �
 ghost use Rattle.std.specs.Prelude.{List, [], get_or, length, map};
 ghost use Rattle.ring_core.specs.Cost.{raised};
 ghost use Rattle.ring_core.specs.Lane.{word_of_lane, words_of_lane};
-ghost use Rattle.ring_core.specs.Schedule.{IsBefore, IsRing};
+ghost use Rattle.ring_core.specs.Schedule.{IsBefore, IsBlockOf, IsRing};
 ghost use Rattle.ring_core.specs.Sha2.{Σ0, Σ1, W, add_state, block_len, block_step};
 ghost use Rattle.ring_core.specs.Sha2.{blocks_from, family_256, family_512, words_32};
 ghost use Rattle.ring_core.specs.Sha2.{words_64, round, rounds_from, three_rotations};
@@ -18,7 +18,7 @@ mod w64;
 
 use crate::cost::Meter;
 use crate::digest::four::FourStates;
-use crate::digest::schedule::{load, load_four, pair};
+use crate::digest::schedule::{load, load_four, load_words, pair};
 pub use crate::digest::sha2::constants::constants_are_cube_roots;
 use crate::digest::sha2::lanes::Lanes;
 use crate::digest::word::Sha2;
@@ -170,8 +170,10 @@ fn add_state<S: LaneWord>(state: &[S; 8], v: &[S; 8]) -> [S; 8]
     ]
 }
 
-// Runs the block function over the blocks whose words the ring holds, in each lane over its own.
-#[inline(always)]
+// Runs the block function over the blocks whose words the ring holds, in each lane over its own. The
+// rounds are written in line here alone: where they had two callers, of bytes and of words, the
+// compiler would call them, and the block function take a fifth longer.
+#[inline(never)]
 fn run_loaded<S: Lanes>(ring: &mut [S::Slot; 16], state: &mut [S; 8])
     ensures { (i : ℕ) (b : List ℕ) → IsRing (W S.One.family b) (map (S.slot_lane i) ring.old) 16
         → map (S.lane i) state.new ≡ block_step S.One.family (map (S.lane i) state.old) b }
@@ -291,5 +293,105 @@ pub fn block_data_order_32_four_counted(
     ensures cost { meter.new ≡ raised meter.old 4 0 }
 {
     run_four_blocks(&mut states.words, blocks);
+    meter.add_four_blocks();
+}
+
+// Runs the block function over the block of the first `N` words of `front` and of those of
+// `padding` past them.
+#[inline(always)]
+fn run_words<S: Lanes, const N: usize>(
+    ring: &mut [S::Slot; 16],
+    state: &mut [S; 8],
+    front: &[S; 8],
+    padding: &[S::One; 16],
+)
+    requires { N ≤ 8 }
+    ensures { (i : ℕ) (b : List ℕ)
+        → IsBlockOf S.One.bits N (map (S.lane i) front.now) (map S.One.value padding.now) b
+        → map (S.lane i) state.new ≡ block_step S.One.family (map (S.lane i) state.old) b }
+{
+    load_words::<S, N>(ring, front, padding); // step 1, to W(15)
+    run_loaded(ring, state);
+}
+
+// The same, and the block counted.
+fn run_counted_words<S: Lanes, const N: usize>(
+    ring: &mut [S::Slot; 16],
+    state: &mut [S; 8],
+    front: &[S; 8],
+    padding: &[S::One; 16],
+    meter: &mut Meter,
+)
+    requires { N ≤ 8 }
+    ensures words { (i : ℕ) (b : List ℕ)
+        → IsBlockOf S.One.bits N (map (S.lane i) front.now) (map S.One.value padding.now) b
+        → map (S.lane i) state.new ≡ block_step S.One.family (map (S.lane i) state.old) b }
+    ensures cost { meter.new ≡ raised meter.old 1 0 }
+{
+    run_words::<S, N>(ring, state, front, padding);
+    meter.add_block();
+}
+
+/// Replaces `state` by SHA-256's hash computation over one block (6.2.2); `meter` counts it. Its
+/// words are those of `front`, as a state ends with them, and the last eight of `padding`.
+pub fn block_of_words_32_counted(
+    state: &mut State32,
+    front: &State32,
+    padding: &[Wrapping<u32>; 16],
+    meter: &mut Meter,
+)
+    ensures words { (b : List ℕ) → IsBlockOf 32 8 (words_32 front.now) (words_32 padding.now) b
+        → words_32 state.new ≡ block_step family_256 (words_32 state.old) b }
+    ensures cost { meter.new ≡ raised meter.old 1 0 }
+{
+    run_counted_words::<Wrapping<u32>, 8>(&mut [0u64; 16], state, front, padding, meter)
+}
+
+/// Replaces `state` by SHA-512's hash computation, which SHA-384 and SHA-512/256 share, over one
+/// block (6.4.2); `meter` counts it. Its words are the first `N` of `front`, at most eight, and
+/// those of `padding` past them.
+pub fn block_of_words_64_counted<const N: usize>(
+    state: &mut State64,
+    front: &State64,
+    padding: &[Wrapping<u64>; 16],
+    meter: &mut Meter,
+)
+    requires { N ≤ 8 }
+    ensures words { (b : List ℕ) → IsBlockOf 64 N (words_64 front.now) (words_64 padding.now) b
+        → words_64 state.new ≡ block_step family_512 (words_64 state.old) b }
+    ensures cost { meter.new ≡ raised meter.old 1 0 }
+{
+    run_counted_words::<Wrapping<u64>, N>(&mut [Wrapping(0u64); 16], state, front, padding, meter)
+}
+
+// Runs the block function over a block in each of four lanes, where `padding` is that of all four.
+fn run_four_words(state: &mut [FourWords; 8], front: &[FourWords; 8], padding: &[Wrapping<u32>; 16])
+    ensures { (i : ℕ) (b : List ℕ)
+        → IsBlockOf 32 8 (map (word_of_lane i) front.now) (words_32 padding.now) b
+        → map (word_of_lane i) state.new
+        ≡ block_step family_256 (map (word_of_lane i) state.old) b }
+{
+    let mut ring = [FourWords(Simd::splat(0)); 16];
+    load_words::<FourWords, 8>(&mut ring, front, padding); // step 1, to W(15)
+    run_loaded(&mut ring, state);
+}
+
+/// Replaces the state in each of four lanes by SHA-256's hash computation over one block (6.2.2);
+/// `meter` counts the four blocks. A block's words are those of its lane of `fronts`, and the last
+/// eight of `padding`.
+pub fn block_of_words_32_four_counted(
+    states: &mut FourStates,
+    fronts: &FourStates,
+    padding: &[Wrapping<u32>; 16],
+    meter: &mut Meter,
+)
+    ensures words { (i : ℕ) (b : List ℕ)
+        → IsBlockOf 32 8 (words_of_lane i fronts.now) (words_32 padding.now) b
+        → words_of_lane i states.new ≡ block_step family_256 (words_of_lane i states.old) b }
+    ensures cost { meter.new ≡ raised meter.old 4 0 }
+    ensures eight { (i : ℕ) → (length (words_of_lane i states.old) ≡ 8)
+        × (length (words_of_lane i fronts.now) ≡ 8) }
+{
+    run_four_words(&mut states.words, &fronts.words, padding);
     meter.add_four_blocks();
 }

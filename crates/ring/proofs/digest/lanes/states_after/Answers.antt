@@ -1,14 +1,14 @@
-use Rattle.std.proofs.Common.{◌≡◌, ℕ, ◌+◌, ◌*◌, List, ◌∙◌, ap, arith, length, lit<}
+use Rattle.std.proofs.Common.{◌≡◌, ℕ, ◌+◌, ◌*◌, ◌∙◌, ap, arith, length, lit<, [], ◌∷◌, get_or, List}
+use Rattle.std.proofs.lemmas.List.{length-map}
 use Rattle.ring_core.specs.Chunks.{chunk_at}
 use Rattle.ring_core.specs.Cost.{raised}
 use Rattle.ring_core.specs.Sha2.{words_32}
-use Rattle.std.proofs.lemmas.List.{length-map}
+use Rattle.ring_core.proofs.Four.{four_cases}
 use Rattle.ring.specs.Each.{message_at}
 use Rattle.ring.specs.Padding.{padded}
 use Rattle.ring.proofs.LaneBlocks.{words-first, words-next}
 use Rattle.ring.proofs.Costs.{raised-none, raised-raised}
 use Rattle.ring.proofs.Each.{message-read}
-use Rattle.ring.proofs.Lanes.{four_lists}
 use Rattle.ring.proofs.digest.lanes.states_after.Goals as goal
 
 pub blocks-2-init : goal.blocks-2-init
@@ -44,9 +44,10 @@ blocks-2-preserved c =
     let a = c.args.algorithm in
     let messages = c.args.messages.now in
     let k = c.blocks-2.number in
-    let is =
-    four_lists (λ (i : ℕ) (block : List ℕ).
-    block ≡ chunk_at 64 (padded a (message_at messages i)) k)
+    let blocks = c.padded_block.result ∷ c.padded_block-in-blocks-2.result
+    ∷ c.padded_block-in-blocks-2-2.result ∷ c.padded_block-in-blocks-2-3.result ∷ [] in
+    let is = four_cases
+    (λ (i : ℕ). get_or blocks i [] ≡ chunk_at 64 (padded a (message_at messages i)) k)
     (rw (← message-read messages 0) at c.padded_block.ensures)
     (rw (← message-read messages 1) at c.padded_block-in-blocks-2.ensures)
     (rw (← message-read messages 2) at c.padded_block-in-blocks-2-2.ensures)

@@ -29,6 +29,13 @@ pub const CHAINING_LEN: usize = 20;
 // Their number.
 const CHAINING_WORDS: usize = 5;
 
+// What a block function reads its block from. The rounds take it as an argument, so that each form
+// has rounds of its own: the compiler writes them in line where they have one caller, and where
+// they had two it called them, which took a fifth longer.
+const BYTES: usize = 0;
+
+const WORDS: usize = 1;
+
 // ROTL (3.2, item 5)
 #[inline(always)]
 fn rotate_left<S: Lanes>(x: S, count: u32) -> S
@@ -134,7 +141,7 @@ fn next_four_rounds<S: Lanes>(ring: &mut [S::Slot; 16], v: [S; 5], t: usize) -> 
 
 // The first sixteen rounds, by the block's own words.
 #[inline(always)]
-fn first_turn<S: Lanes>(ring: &[S::Slot; 16], v: [S; 5]) -> [S; 5]
+fn first_turn<S: Lanes, const FORM: usize>(ring: &[S::Slot; 16], v: [S; 5]) -> [S; 5]
     ensures { (i : ℕ) (b : List ℕ) → IsRing (W b) (map (S.slot_lane i) ring.now) 16
         → map (S.lane i) result ≡ rounds_from (map (S.lane i) v) b 16 }
 {
@@ -151,7 +158,10 @@ fn first_turn<S: Lanes>(ring: &[S::Slot; 16], v: [S; 5]) -> [S; 5]
 // The sixteen rounds of a later turn. The turn is a constant and no argument: of one body for all
 // turns the compiler would write few calls in line, and slots and rounds would be no literals.
 #[inline(always)]
-fn later_turn<S: Lanes, const TURN: usize>(ring: &mut [S::Slot; 16], v: [S; 5]) -> [S; 5]
+fn later_turn<S: Lanes, const FORM: usize, const TURN: usize>(
+    ring: &mut [S::Slot; 16],
+    v: [S; 5],
+) -> [S; 5]
     requires later { 1 ≤ TURN }
     requires turn { TURN < 5 }
     ensures { (i : ℕ) (h b : List ℕ)
@@ -186,21 +196,19 @@ fn add_state<S: Lanes>(state: &[S; 8], v: &[S; 5]) -> [S; 8]
     ]
 }
 
-// Runs the block function over the blocks whose words the ring holds, in each lane over its own. The
-// rounds are written in line here alone: where they had two callers, of bytes and of words, the
-// compiler would call them, and the block function take a fifth longer.
-#[inline(never)]
-fn run_loaded<S: Lanes>(ring: &mut [S::Slot; 16], state: &mut [S; 8])
+// Runs the block function over the blocks whose words the ring holds, in each lane over its own.
+#[inline(always)]
+fn run_loaded<S: Lanes, const FORM: usize>(ring: &mut [S::Slot; 16], state: &mut [S; 8])
     ensures words { (i : ℕ) (b : List ℕ) → IsRing (W b) (map (S.slot_lane i) ring.old) 16
         → take 5 (map (S.lane i) state.new) ≡ block_step (take 5 (map (S.lane i) state.old)) b }
     ensures rest { drop 5 state.new ≡ drop 5 state.old }
 {
     let chaining = [state[0], state[1], state[2], state[3], state[4]]; // step 2
-    let v = first_turn(ring, chaining); // step 3
-    let v = later_turn::<S, 1>(ring, v); // steps 1 and 3
-    let v = later_turn::<S, 2>(ring, v);
-    let v = later_turn::<S, 3>(ring, v);
-    let last = later_turn::<S, 4>(ring, v);
+    let v = first_turn::<S, FORM>(ring, chaining); // step 3
+    let v = later_turn::<S, FORM, 1>(ring, v); // steps 1 and 3
+    let v = later_turn::<S, FORM, 2>(ring, v);
+    let v = later_turn::<S, FORM, 3>(ring, v);
+    let last = later_turn::<S, FORM, 4>(ring, v);
     *state = add_state(state, &last); // step 4
 }
 
@@ -213,7 +221,7 @@ fn run_block(state: &mut [Word32; 8], block: &[u8])
 {
     let mut ring = [0u64; 16];
     load::<Word32>(&mut ring, block); // step 1, to W(15)
-    run_loaded(&mut ring, state);
+    run_loaded::<Word32, BYTES>(&mut ring, state);
 }
 
 /// Replaces the first five words of `state` by SHA-1's hash computation over each block of 64 bytes
@@ -254,7 +262,7 @@ fn run_four_blocks(state: &mut [FourWords; 8], blocks: &[[u8; 64]; 4])
 {
     let mut ring = [FourWords(Simd::splat(0)); 16];
     load_four(&mut ring, blocks); // step 1, to W(15)
-    run_loaded(&mut ring, state);
+    run_loaded::<FourWords, BYTES>(&mut ring, state);
 }
 
 /// Replaces the first five words of the state in each of four lanes by SHA-1's hash computation
@@ -285,7 +293,7 @@ fn run_words(state: &mut [Word32; 8], front: &[Word32; 8], padding: &[Word32; 16
 {
     let mut ring = [0u64; 16];
     load_words::<Word32, CHAINING_WORDS>(&mut ring, front, padding); // step 1, to W(15)
-    run_loaded(&mut ring, state);
+    run_loaded::<Word32, WORDS>(&mut ring, state);
 }
 
 /// Replaces the first five words of `state` by SHA-1's hash computation over one block (6.1.2), and
@@ -317,7 +325,7 @@ fn run_four_words(state: &mut [FourWords; 8], front: &[FourWords; 8], padding: &
 {
     let mut ring = [FourWords(Simd::splat(0)); 16];
     load_words::<FourWords, CHAINING_WORDS>(&mut ring, front, padding); // step 1, to W(15)
-    run_loaded(&mut ring, state);
+    run_loaded::<FourWords, WORDS>(&mut ring, state);
 }
 
 /// Replaces the first five words of the state in each of four lanes by SHA-1's hash computation

@@ -29,6 +29,11 @@ use crate::polyfill::slice::AsChunks;
 use std::num::Wrapping;
 use std::simd::Simd;
 
+// The rounds take as an argument how many words of a block come from a state, and this where they
+// are read from bytes, so that each form has rounds of its own: the compiler writes them in line
+// where they have one caller, and where they had two it called them, which took a fifth longer.
+const BYTES: usize = 0;
+
 // ROTR first ⊕ ROTR second ⊕ ROTR third, one inside the other: side by side they need two copies of
 // the word more, and these take longer than each waits for the next.
 #[inline(always)]
@@ -116,7 +121,7 @@ fn next_two_rounds<S: Lanes>(
 
 // The first sixteen rounds, by the block's own words.
 #[inline(always)]
-fn first_turn<S: Lanes>(ring: &[S::Slot; 16], v: [S; 8]) -> [S; 8]
+fn first_turn<S: Lanes, const FORM: usize>(ring: &[S::Slot; 16], v: [S; 8]) -> [S; 8]
     ensures { (i : ℕ) (b : List ℕ) → IsRing (W S.One.family b) (map (S.slot_lane i) ring.now) 16
         → map (S.lane i) result ≡ rounds_from S.One.family (map (S.lane i) v) b 16 }
 {
@@ -132,7 +137,11 @@ fn first_turn<S: Lanes>(ring: &[S::Slot; 16], v: [S; 8]) -> [S; 8]
 
 // The sixteen rounds of a later turn, each with its slot as a literal.
 #[inline(always)]
-fn later_turn<S: Lanes>(ring: &mut [S::Slot; 16], v: [S; 8], turn: usize) -> [S; 8]
+fn later_turn<S: Lanes, const FORM: usize>(
+    ring: &mut [S::Slot; 16],
+    v: [S; 8],
+    turn: usize,
+) -> [S; 8]
     requires later { 1 ≤ turn }
     requires turn { 16 * turn + 16 ≤ S.One.family.rounds }
     ensures { (i : ℕ) (h b : List ℕ)
@@ -170,18 +179,16 @@ fn add_state<S: LaneWord>(state: &[S; 8], v: &[S; 8]) -> [S; 8]
     ]
 }
 
-// Runs the block function over the blocks whose words the ring holds, in each lane over its own. The
-// rounds are written in line here alone: where they had two callers, of bytes and of words, the
-// compiler would call them, and the block function take a fifth longer.
-#[inline(never)]
-fn run_loaded<S: Lanes>(ring: &mut [S::Slot; 16], state: &mut [S; 8])
+// Runs the block function over the blocks whose words the ring holds, in each lane over its own.
+#[inline(always)]
+fn run_loaded<S: Lanes, const FORM: usize>(ring: &mut [S::Slot; 16], state: &mut [S; 8])
     ensures { (i : ℕ) (b : List ℕ) → IsRing (W S.One.family b) (map (S.slot_lane i) ring.old) 16
         → map (S.lane i) state.new ≡ block_step S.One.family (map (S.lane i) state.old) b }
 {
-    let mut variables = first_turn(ring, *state); // steps 2 and 3
+    let mut variables = first_turn::<S, FORM>(ring, *state); // steps 2 and 3
     let turns = S::One::ROUNDS / 16;
     'later: for turn in 1..turns {
-        variables = later_turn(ring, variables, turn); // steps 1 and 3
+        variables = later_turn::<S, FORM>(ring, variables, turn); // steps 1 and 3
     }
     *state = add_state(state, &variables); // step 4
 }
@@ -194,7 +201,7 @@ fn run_block<S: Lanes>(ring: &mut [S::Slot; 16], state: &mut [S; 8], block: &[u8
         ≡ block_step S.One.family (map (S.lane i) state.old) block.now }
 {
     load::<S>(ring, block); // step 1, to W(15)
-    run_loaded(ring, state);
+    run_loaded::<S, BYTES>(ring, state);
 }
 
 // Runs the block function over each block in turn, with room for the words of a schedule.
@@ -278,7 +285,7 @@ fn run_four_blocks(state: &mut [FourWords; 8], blocks: &[[u8; 64]; 4])
 {
     let mut ring = [FourWords(Simd::splat(0)); 16];
     load_four(&mut ring, blocks); // step 1, to W(15)
-    run_loaded(&mut ring, state);
+    run_loaded::<FourWords, BYTES>(&mut ring, state);
 }
 
 /// Replaces the state in each of four lanes by SHA-256's hash computation over the lane's block of
@@ -311,7 +318,7 @@ fn run_words<S: Lanes, const N: usize>(
         → map (S.lane i) state.new ≡ block_step S.One.family (map (S.lane i) state.old) b }
 {
     load_words::<S, N>(ring, front, padding); // step 1, to W(15)
-    run_loaded(ring, state);
+    run_loaded::<S, N>(ring, state);
 }
 
 // The same, and the block counted.
@@ -373,7 +380,7 @@ fn run_four_words(state: &mut [FourWords; 8], front: &[FourWords; 8], padding: &
 {
     let mut ring = [FourWords(Simd::splat(0)); 16];
     load_words::<FourWords, 8>(&mut ring, front, padding); // step 1, to W(15)
-    run_loaded(&mut ring, state);
+    run_loaded::<FourWords, 8>(&mut ring, state);
 }
 
 /// Replaces the state in each of four lanes by SHA-256's hash computation over one block (6.2.2);

@@ -1,35 +1,36 @@
--- Four messages of a digest's length, each in a lane, signed under a key over SHA-256.
-use Rattle.std.proofs.Common.{◌≡◌, ℕ, ◌+◌, ◌*◌, ◌/◌, ◌<◌, ◌≤◌, List, [], ◌∷◌, ◌++◌, length, take}
-use Rattle.std.proofs.Common.{drop, get_or, refl, sym, ap, ◌∙◌, arith, length-append, length-drop}
-use Rattle.std.proofs.Common.{length-take-le, replicate}
-use Rattle.std.proofs.lemmas.List.{length-map, take-append-drop, take-take, take_all, take_at}
-use Rattle.std.specs.declared.num.Wrapping.{Wrapping}
+-- Messages of a digest's length in lanes, signed by one block after each masked block of the key.
+use Rattle.std.proofs.Common.{◌≡◌, ℕ, ◌+◌, ◌-◌, ◌*◌, ◌/◌, ◌≤◌, List, ◌∷◌, ◌++◌, length, take}
+use Rattle.std.proofs.Common.{drop, replicate, refl, sym, ap, ◌∙◌, arith, length-append}
+use Rattle.std.proofs.Common.{append_assoc, length-take-le, take_all, zero-mul}
+use Rattle.std.proofs.lemmas.List.{length-replicate, take-append-drop, take-append-le}
+use Rattle.std.proofs.lemmas.List.{take-take}
+use Rattle.std.proofs.lemmas.List.Concat.{flat_map-append}
+use Rattle.std.proofs.Math.Nat.{div_self, mod_self}
+use Rattle.std.specs.Int.{bytes_high_first}
 use Rattle.ring_core.specs.Chunks.{fold_chunks}
 use Rattle.ring_core.specs.Cost.{Counts, raised}
-use Rattle.ring_core.specs.Sha2.{block_step, family_256, words_32}
+use Rattle.ring_core.specs.Sha2.{block_step, family_256}
+use Rattle.ring_core.proofs.Sha2Steps.{length-block_step}
 use Rattle.ring_core.proofs.ChunkFolds.{fold_chunks-next, fold_chunks-none}
 use Rattle.ring_core.proofs.Costs.{raised-raised}
-use Rattle.ring_core.proofs.Four.{four_cases}
-use Rattle.ring_core.proofs.Sha2Steps.{length-block_step}
-use Rattle.ring.specs.Algorithm.{block_len, output_len}
+use Rattle.ring.specs.Algorithm.{block_function, block_len, length_len, output_len, word_count}
+use Rattle.ring.specs.Algorithm.{word_len}
 use Rattle.ring.specs.Digest.{blocks_from, digest_of, words_after}
-use Rattle.ring.specs.Hmac.{hmac_of}
+use Rattle.ring.specs.Hmac.{KeyStandsFor, hmac_of, key_algorithm}
 use Rattle.ring.specs.KeyBlocks.{inner_block, outer_block}
-use Rattle.ring.specs.Padding.{padded}
-use Rattle.ring.specs.Prepared.{past_message, prepared_padding}
-use Rattle.ring.specs.State.{word_bytes}
+use Rattle.ring.specs.Lanes.{IsKeyInLane, digest_bytes}
+use Rattle.ring.specs.Padding.{IsWhole, padded, tail_of, zeros_of}
+use Rattle.ring.specs.Prepared.{prepared_padding}
+use Rattle.ring.specs.State.{chaining_words, word_bytes, words}
+use Rattle.ring.specs.declared.digest.dynstate.DynState.{DynState}
+use Rattle.ring.specs.declared.hmac.key.Key.{Key}
 use Rattle.ring.specs.declared.digest.algorithm.Algorithm.{Algorithm}
-use Rattle.ring.specs.declared.digest.algorithm.TheConstants.{SHA256}
 use Rattle.ring.proofs.Blocks.{words_after-append}
-use Rattle.ring.proofs.Keys.{length-inner_block, length-outer_block, output_below}
-use Rattle.ring.proofs.Outputs.{length-word_bytes}
-use Rattle.ring.proofs.Prepared.{HasMessage, message-padded, message-put}
-
--- what holds of each of four lists in its lane
-pub four_lists : {a b c d : List ℕ} (R : ℕ → List ℕ → Type 0) → R 0 a → R 1 b → R 2 c → R 3 d
-    → (i : ℕ) → i < 4 → R i (get_or (a ∷ b ∷ c ∷ d ∷ []) i [])
-four_lists {a} {b} {c} {d} R first second third fourth =
-    four_cases (λ i. R i (get_or (a ∷ b ∷ c ∷ d ∷ []) i [])) first second third fourth
+use Rattle.ring.proofs.Keys.{length-inner_block, length-outer_block, one_block, output_below}
+use Rattle.ring.proofs.Lengths.{length-words_after}
+use Rattle.ring.proofs.Outputs.{length-bytes_high_first, length-word_bytes}
+use Rattle.ring.proofs.Rows.{block_len-positive, eight_words, output_len-most}
+use Rattle.ring.proofs.Tails.{padded-append}
 
 -- four rises by b blocks each
 pub cost_four : (m0 : Counts) {m1 m2 m3 m4 : Counts} (b : ℕ) → m1 ≡ raised m0 b 0
@@ -41,117 +42,166 @@ cost_four m0 {m2 = m2} {m3 = m3} b e1 e2 e3 e4 =
     let sum : b + b + b + b ≡ 4 * b = omega arith in
     e4 ∙ rw three (raised-raised m0 (b + b + b) 0 b 0) ∙ ap (λ (z : ℕ). raised m0 z 0) sum
 
--- a block is the front of a longer list that has the message
-pub message-front : {a b : Algorithm} (x bytes : List ℕ) {block : List ℕ} → b ≡ a
-    → HasMessage b x bytes → block ≡ take (block_len a) bytes → HasMessage a x block
-message-front {a} {b} x bytes same has e =
-    let below : output_len a ≤ block_len a = omega (arith, output_below a) in
+-- two rises by b blocks each
+pub cost_two : (m0 : Counts) {m1 m2 : Counts} (b : ℕ) → m1 ≡ raised m0 b 0 → m2 ≡ raised m1 b 0
+    → m2 ≡ raised m0 (2 * b) 0
+cost_two m0 b e1 e2 =
+    let sum : b + b ≡ 2 * b = omega arith in
+    e2 ∙ rw e1 (raised-raised m0 b 0 b 0) ∙ ap (λ (z : ℕ). raised m0 z 0) sum
+
+-- the run over a block x of a state whose eight words all chain
+pub all_run : (step : List ℕ → List ℕ → List ℕ) (old new x : List ℕ) → length old ≡ 8
+    → length new ≡ 8 → new ≡ step old x → take 8 new ≡ step (take 8 old) x
+all_run step old new x lo ln e =
+    take_all 8 new (omega (arith, ln)) ∙ e
+    ∙ ap (λ h. step h x) (sym (take_all 8 old (omega (arith, lo))))
+
+-- the same of SHA-256, which ends with eight words
+pub all_ran : (old new x : List ℕ) → length old ≡ 8
+    → new ≡ block_step family_256 old x
+    → take 8 new ≡ block_step family_256 (take 8 old) x
+all_ran old new x lo e =
+    all_run (block_step family_256) old new x lo
+    (ap length e ∙ length-block_step family_256 old x) e
+
+-- a digest and its padding are one block long
+length-padded : (a : Algorithm) (m : List ℕ) → length m ≡ output_len a
+    → length (m ++ prepared_padding a) ≡ block_len a
+length-padded a m lm =
+    let n : ℕ = output_len a in
+    let z : ℕ = zeros_of a n in
+    let field : List ℕ = bytes_high_first (length_len a) (8 * (block_len a + n)) in
+    let zeros : z ≡ block_len a - (n + 1 + length_len a) =
+    rw (one_block a) (omega arith) in
+    length-append m (prepared_padding a)
+    ∙ omega (
+      arith,
+      lm,
+      length-append (128 ∷ replicate z 0) field,
+      length-replicate {A = ℕ} z 0,
+      length-bytes_high_first (length_len a) (8 * (block_len a + n)),
+      zeros,
+      output_below a,
+    )
+
+-- after a block p, they end the padded message
+padded-message : (a : Algorithm) (p m : List ℕ) → length p ≡ block_len a → length m ≡ output_len a
+    → p ++ (m ++ prepared_padding a) ≡ padded a (p ++ m)
+padded-message a p m lp lm =
+    let whole : IsWhole a p = rw lp (mod_self (block_len a)) in
+    let len : length (p ++ m) ≡ block_len a + output_len a =
+    length-append p m ∙ rw (lp, lm) refl in
+    let tail : m ++ prepared_padding a ≡ tail_of a m (length (p ++ m)) =
+    rw (len, lm) (sym (append_assoc m _ _)) in
+    ap (λ z. p ++ z) tail ∙ sym (padded-append a p m whole)
+
+-- one block is chained by one run
+one_chained : (a : Algorithm) (h x : List ℕ) → length x ≡ block_len a
+    → blocks_from a h x ≡ block_function a h x
+one_chained a h x lx =
+    let b : ℕ = block_len a in
+    let step : List ℕ → List ℕ → List ℕ = block_function a in
+    let one : length x / b ≡ 1 = rw lx (div_self (block_len-positive a)) in
+    let front : take b (drop (0 * b) x) ≡ x = rw (zero-mul b) (take_all b x (omega (arith, lx))) in
+    ap (fold_chunks step b h x) one ∙ fold_chunks-next step b h x 0
+    ∙ ap (λ z. step z (take b (drop (0 * b) x))) (fold_chunks-none step b h x) ∙ ap (step h) front
+
+-- the words after that block write the digest
+block-digest : (a : Algorithm) (p m ws : List ℕ) → length p ≡ block_len a
+    → length m ≡ output_len a
+    → take (word_count a) ws ≡ block_function a (words_after a p) (m ++ prepared_padding a)
+    → digest_bytes a ws ≡ digest_of a (p ++ m)
+unfolding digest_of
+block-digest a p m ws lp lm ew =
+    let n : ℕ = word_len a in
+    let wc : ℕ = word_count a in
+    let x : List ℕ = m ++ prepared_padding a in
+    let lx : length x ≡ block_len a = length-padded a m lm in
+    let hp : IsWhole a p = rw lp (mod_self (block_len a)) in
+    let hx : IsWhole a x = rw lx (mod_self (block_len a)) in
+    let ends : take wc ws ≡ words_after a (padded a (p ++ m)) =
+    ew ∙ sym (one_chained a (words_after a p) x lx) ∙ sym (words_after-append a p x hp hx)
+    ∙ ap (words_after a) (padded-message a p m lp lm) in
+    let front : List ℕ = word_bytes n (take wc ws) in
+    let spare : List ℕ = word_bytes n (drop wc ws) in
+    let count : length (take wc ws) ≡ wc = ap length ends ∙ length-words_after a (padded a (p ++ m)) in
+    let long : length front ≡ n * wc =
+    length-word_bytes n (take wc ws) ∙ ap (λ (z : ℕ). n * z) count in
+    let room : output_len a ≤ length front = omega (arith, long, output_len-most a) in
+    let parts : word_bytes n ws ≡ front ++ spare =
+    ap (word_bytes n) (sym (take-append-drop wc ws))
+    ∙ flat_map-append (bytes_high_first n) (take wc ws) (drop wc ws) in
+    ap (take (output_len a)) parts ∙ take-append-le (output_len a) front spare room
+    ∙ ap (λ z. take (output_len a) (word_bytes n z)) ends
+
+-- a digest has its length
+length-digest_bytes : (a : Algorithm) (ws : List ℕ) → output_len a ≤ word_len a * length ws
+    → length (digest_bytes a ws) ≡ output_len a
+length-digest_bytes a ws room =
+    length-take-le (output_len a) (word_bytes (word_len a) ws)
+    (omega (arith, length-word_bytes (word_len a) ws))
+
+-- the words in a lane: of the key, of the message, between the two digests and after them
+pub record AreSigned (a : Algorithm) (inner outer old middle new : List ℕ) : Type 0 where
+  pub inside : take (word_count a) middle
+      ≡ block_function a (take (word_count a) inner) (digest_bytes a old ++ prepared_padding a)
+  pub outside : take (word_count a) new
+      ≡ block_function a (take (word_count a) outer) (digest_bytes a middle ++ prepared_padding a)
+  pub eight : length old ≡ 8
+  pub eight_middle : length middle ≡ 8
+
+-- the last words write the tag
+pub signed-tag : {a : Algorithm} {inner outer old middle new : List ℕ} (k : List ℕ)
+    → AreSigned a inner outer old middle new → IsKeyInLane a inner outer k
+    → digest_bytes a new ≡ hmac_of a k (digest_bytes a old)
+unfolding hmac_of
+signed-tag {a} {inner} {outer} {old} {middle} {new} k t stands =
+    let fits : output_len a ≤ word_len a * 8 = eight_words a in
+    let len : length (digest_bytes a old) ≡ output_len a =
+    length-digest_bytes a old (rw t.eight fits) in
+    let len_middle : length (digest_bytes a middle) ≡ output_len a =
+    length-digest_bytes a middle (rw t.eight_middle fits) in
+    let inside = block-digest a (inner_block a k) (digest_bytes a old) middle
+    (length-inner_block a k) len
+    (t.inside
+    ∙ ap (λ h. block_function a h (digest_bytes a old ++ prepared_padding a)) stands.inside) in
+    let outside = block-digest a (outer_block a k) (digest_bytes a middle) new
+    (length-outer_block a k) len_middle
+    (t.outside
+    ∙ ap (λ h. block_function a h (digest_bytes a middle ++ prepared_padding a)) stands.outside) in
+    outside ∙ ap (λ z. digest_of a (outer_block a k ++ z)) inside
+
+-- what a key stands for is so in the words of its states
+pub key_in_lane : (key : Key) {s t : DynState} (p : List ℕ) → key.inner.state ≡ s
+    → key.outer.state ≡ t → KeyStandsFor key p
+    → IsKeyInLane (key_algorithm key) (words s) (words t) p
+key_in_lane key p es et stands =
+    let a : Algorithm = key_algorithm key in
     record {
-      message = ap (take (output_len a)) e ∙ take-take (output_len a) (block_len a) bytes below
-          ∙ ap (λ z. take (output_len z) bytes) (sym same) ∙ has.message;
-      padded = ap (past_message a) e
-          ∙ ap (drop (output_len a)) (take-take (block_len a) (block_len a) bytes (omega arith))
-          ∙ ap (λ z. past_message z bytes) (sym same) ∙ has.padded ∙ ap prepared_padding same;
+      inside = ap (chaining_words a) (sym es) ∙ stands.inner.words;
+      outside = ap (chaining_words a) (sym et)
+          ∙ ap (λ (z : Algorithm). chaining_words z key.outer.state) (sym key.same)
+          ∙ stands.outer.words ∙ ap (λ (z : Algorithm). words_after z (outer_block a p)) key.same;
     }
 
--- the bytes of eight words, and zeros after them
-pub short-front : {out : List ℕ} (words : List (Wrapping ℕ)) → length words ≡ 8
-    → out ≡ word_bytes 4 (words_32 words) ++ replicate 32 0
-    → take 32 out ≡ word_bytes 4 (words_32 words)
-short-front words eight e =
-    let count : length (words_32 words) ≡ 8 = length-map words _ ∙ eight in
-    let long : length (word_bytes 4 (words_32 words)) ≡ 32 =
-    length-word_bytes 4 (words_32 words) ∙ rw count refl in
-    ap (take 32) e ∙ take_at (word_bytes 4 (words_32 words)) _ 32 long
+-- the words that were read of a digest's bytes write it
+pub digest_read : (a : Algorithm) {b : Algorithm} {n : ℕ} (ws bytes : List ℕ) {digest : List ℕ}
+    → n ≡ word_len a → word_bytes n ws ≡ take (8 * n) bytes → b ≡ a
+    → take (output_len b) bytes ≡ digest → digest_bytes a ws ≡ digest
+digest_read a {n = n} ws bytes size ew same ed =
+    let m : ℕ = output_len a in
+    let room : m ≤ 8 * n = omega (arith, size, eight_words a) in
+    ap (λ (z : ℕ). take m (word_bytes z ws)) (sym size) ∙ ap (take m) ew
+    ∙ take-take m (8 * n) bytes room ∙ ap (λ (z : Algorithm). take (output_len z) bytes) (sym same)
+    ∙ ed
 
--- the bytes of the words after a block have a digest's length
-length-lane : {ws : List ℕ} (h block : List ℕ) → ws ≡ block_step family_256 h block
-    → length (word_bytes 4 ws) ≡ 32
-length-lane {ws = ws} h block ew =
-    length-word_bytes 4 ws ∙ rw (ew, length-block_step) refl
-
--- the words after the one block that ends a padded message
-words_after-lane : (p block : List ℕ) → length p ≡ 64 → length block ≡ 64
-    → past_message SHA256 block ≡ prepared_padding SHA256
-    → block_step family_256 (words_after SHA256 p) block
-    ≡ words_after SHA256 (padded SHA256 (p ++ take 32 block))
-words_after-lane p block lp lb h =
-    let m : List ℕ = take 32 block in
-    let lm : length m ≡ 32 = length-take-le 32 block (omega (arith, lb)) in
-    let ends : p ++ take 64 (m ++ drop 32 block) ≡ padded SHA256 (p ++ m) =
-    message-padded block record { block = lp; message = lm } h in
-    let whole : take 64 block ≡ block = take_all 64 block (omega (arith, lb)) in
-    let parts : take 64 (m ++ drop 32 block) ≡ block =
-    ap (take 64) (take-append-drop 32 block) ∙ whole in
-    let one : length block / 64 ≡ 1 = rw lb refl in
-    let start : List ℕ = words_after SHA256 p in
-    let step : blocks_from SHA256 start block ≡ block_step family_256 start block =
-    ap (fold_chunks (block_step family_256) 64 start block) one
-    ∙ fold_chunks-next (block_step family_256) 64 start block 0
-    ∙ ap (λ z. block_step family_256 z (take 64 block))
-    (fold_chunks-none (block_step family_256) 64 start block)
-    ∙ ap (block_step family_256 start) whole in
-    sym step ∙ sym (words_after-append SHA256 p block (rw lp refl) (rw lb refl))
-    ∙ ap (λ z. words_after SHA256 (p ++ z)) (sym parts) ∙ ap (words_after SHA256) ends
-
--- their bytes are the digest
-digest-lane : (p block : List ℕ) {ws : List ℕ} → length p ≡ 64 → length block ≡ 64
-    → past_message SHA256 block ≡ prepared_padding SHA256
-    → ws ≡ block_step family_256 (words_after SHA256 p) block
-    → word_bytes 4 ws ≡ digest_of SHA256 (p ++ take 32 block)
-unfolding digest_of
-digest-lane p block {ws = ws} lp lb h ew =
-    let long = length-lane (words_after SHA256 p) block ew in
-    sym (take_all 32 (word_bytes 4 ws) (omega (arith, long)))
-    ∙ ap (λ z. take 32 (word_bytes 4 z)) (ew ∙ words_after-lane p block lp lb h)
-
--- a lane's block before its tag is made, between the two digests, and after it
-pub record IsSigned (inner outer old middle new : List ℕ) : Type 0 where
-  pub inside : middle ≡ word_bytes 4 (block_step family_256 inner old) ++ drop 32 old
-  pub outside : new ≡ word_bytes 4 (block_step family_256 outer middle) ++ drop 32 middle
-
-module _ {inner outer old middle new : List ℕ} where
-  signed-inside : IsSigned inner outer old middle new → length old ≡ 64
-      → past_message SHA256 old ≡ prepared_padding SHA256
-      → HasMessage SHA256 (word_bytes 4 (block_step family_256 inner old)) middle
-  signed-inside t lo h =
-      let digest : List ℕ = word_bytes 4 (block_step family_256 inner old) in
-      let long : length digest ≡ 32 = length-lane inner old refl in
-      message-put digest old long h (t.inside ∙ ap (λ z. digest ++ drop z old) (sym long))
-
-  length-middle : IsSigned inner outer old middle new → length old ≡ 64 → length middle ≡ 64
-  length-middle t lo =
-      let digest : List ℕ = word_bytes 4 (block_step family_256 inner old) in
-      ap length t.inside ∙ length-append digest (drop 32 old)
-      ∙ omega (arith, length-lane inner old refl, length-drop 32 old, lo)
-
-  signed-outside : IsSigned inner outer old middle new → length old ≡ 64
-      → past_message SHA256 old ≡ prepared_padding SHA256
-      → HasMessage SHA256 (word_bytes 4 (block_step family_256 outer middle)) new
-  signed-outside t lo h =
-      let digest : List ℕ = word_bytes 4 (block_step family_256 outer middle) in
-      let long : length digest ≡ 32 = length-lane outer middle refl in
-      message-put digest middle long (signed-inside t lo h).padded
-      (t.outside ∙ ap (λ z. digest ++ drop z middle) (sym long))
-
-  -- the padding stays
-  pub signed-padded : IsSigned inner outer old middle new → length old ≡ 64
-      → past_message SHA256 old ≡ prepared_padding SHA256
-      → past_message SHA256 new ≡ prepared_padding SHA256
-  signed-padded t lo h = (signed-outside t lo h).padded
-
-  -- the message is the tag of the one before
-  pub signed-tag : (k : List ℕ) → IsSigned inner outer old middle new → length old ≡ 64
-      → past_message SHA256 old ≡ prepared_padding SHA256
-      → inner ≡ words_after SHA256 (inner_block SHA256 k)
-      → outer ≡ words_after SHA256 (outer_block SHA256 k)
-      → take 32 new ≡ hmac_of SHA256 k (take 32 old)
-  unfolding hmac_of
-  signed-tag k t lo h ei eo =
-      let half = signed-inside t lo h in
-      let inside = digest-lane (inner_block SHA256 k) old (length-inner_block SHA256 k) lo h
-      (ap (λ z. block_step family_256 z old) ei) in
-      let outside = digest-lane (outer_block SHA256 k) middle (length-outer_block SHA256 k)
-      (length-middle t lo) half.padded (ap (λ z. block_step family_256 z middle) eo) in
-      (signed-outside t lo h).message ∙ outside
-      ∙ ap (λ z. digest_of SHA256 (outer_block SHA256 k ++ z)) (half.message ∙ inside)
+-- a state's bytes begin with the digest
+pub digest_written : (a : Algorithm) {n : ℕ} (ws zeros : List ℕ) {out : List ℕ} → n ≡ word_len a
+    → length ws ≡ 8 → out ≡ word_bytes n ws ++ zeros → take (output_len a) out ≡ digest_bytes a ws
+digest_written a {n = n} ws zeros size eight e =
+    let m : ℕ = output_len a in
+    let long : length (word_bytes n ws) ≡ n * 8 =
+    length-word_bytes n ws ∙ ap (λ (z : ℕ). n * z) eight in
+    let room : m ≤ length (word_bytes n ws) = omega (arith, size, eight_words a, long) in
+    ap (take m) e ∙ take-append-le m (word_bytes n ws) zeros room
+    ∙ ap (λ (z : ℕ). take m (word_bytes z ws)) size

@@ -13,7 +13,8 @@ pub mod Outcomes
 pub mod Lengths
 pub mod Pieces
 pub mod Keys
-pub mod Prepared
+pub mod Words
+pub mod Paddings
 pub mod Lanes
 pub mod SameKeys
 pub mod Feeding

@@ -110,7 +110,7 @@ four_words w ws i d h =
     ) refl
 
 -- byte i of a number
-byte_is : (i x : ℕ) → x / 256 ^ i % 256 ≡ byte_at i x
+pub byte_is : (i x : ℕ) → x / 256 ^ i % 256 ≡ byte_at i x
 byte_is zero x = omega arith
 byte_is (suc i) x = refl
 

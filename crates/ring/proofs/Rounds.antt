@@ -1,8 +1,10 @@
 -- Rounds written, or compared, one after another.
-use Rattle.std.proofs.Common.{◌≡◌, ◌↔◌, ℕ, suc, ◌+◌, ◌-◌, ◌*◌, ◌<◌, ◌≤◌, min, Bool, true, false}
+use Rattle.std.proofs.Common.{◌≡◌, ◌↔◌, ℕ, suc, ◌+◌, ◌-◌, ◌*◌, ◌^◌, ◌<◌, ◌≤◌, min, Bool, true}
+use Rattle.std.proofs.Common.{false}
 use Rattle.std.proofs.Common.{◌&&◌, List, ◌++◌, length, take, drop, refl, sym, ap, ◌∙◌, arith}
 use Rattle.std.proofs.Common.{add-one, suc-mul, zero-mul, length-drop, length-take-le, take_all}
-use Rattle.std.proofs.Math.Nat.{lt_of_mul-lt-mul_right}
+use Rattle.std.proofs.Math.Nat.{le_of_mul-le-mul_right, lt_of_mul-lt-mul_right}
+use Rattle.ring_core.proofs.Four.{four_cases}
 use Rattle.std.proofs.lemmas.Grind.{div_ceil_times}
 use Rattle.std.proofs.lemmas.Slice.{take-put_mid}
 use Rattle.ring_core.specs.Cost.{Counts, raised}
@@ -13,7 +15,6 @@ use Rattle.ring.specs.Hmac.{KeyStandsFor, key_algorithm}
 use Rattle.ring.specs.Pbkdf2.{dk, xored}
 use Rattle.ring.specs.Pieces.{joined_blocks}
 use Rattle.ring.specs.declared.digest.algorithm.Algorithm.{Algorithm}
-use Rattle.ring.specs.declared.digest.algorithm.TheConstants.{SHA256}
 use Rattle.ring.specs.declared.hmac.key.Key.{Key}
 use Rattle.ring.proofs.Iterates.{length-xored}
 use Rattle.ring.proofs.Rows.{output_len-fits, output_len-positive}
@@ -224,34 +225,27 @@ front-none key s c out m =
 
 module _ {key : Key} {s : List ℕ} {c : ℕ} {out : List ℕ} {m0 m1 : Counts} where
   -- four rounds more are written as ys over k bytes
-  pub front-four : {ys : List ℕ} {m2 : Counts} (made k : ℕ) → key_algorithm key ≡ SHA256
-      → HasFront key s c (4 * made) out m0 m1 → 128 * made ≤ length out → length ys ≡ 128
+  pub front-four : {ys : List ℕ} {m2 : Counts} (r w k : ℕ)
+      → w ≡ r * output_len (key_algorithm key) → HasFront key s c r out m0 m1 → w ≤ length out
+      → length ys ≡ 4 * output_len (key_algorithm key)
       → ((p : List ℕ) → KeyStandsFor key p
-      → ys ≡ joined_blocks (λ i. xored SHA256 p s (4 * made + i) c) 4)
-      → m2 ≡ raised m1 (4 * iterate_blocks SHA256 (length s) c) 0
-      → HasFront key s c (4 * (made + 1)) (put_mid (128 * made) k out ys) m0 m2
-  front-four {ys = ys} made k same t room ly h em =
+      → ys ≡ joined_blocks (λ i. xored (key_algorithm key) p s (r + i) c) 4)
+      → m2 ≡ raised m1 (4 * iterate_blocks (key_algorithm key) (length s) c) 0
+      → HasFront key s c (r + 4) (put_mid w k out ys) m0 m2
+  front-four {ys = ys} r w k ew t room ly h em =
       let a : Algorithm = key_algorithm key in
       let b : ℕ = round_blocks key s c in
-      let bytes : (r : ℕ) → r * output_len a ≡ r * 32 =
-      λ (r : ℕ). ap (λ (z : Algorithm). r * output_len z) same in
-      let before : 4 * made * output_len a ≡ 128 * made = bytes (4 * made) ∙ omega arith in
-      let after : 4 * (made + 1) * output_len a ≡ 128 * made + length ys =
-      bytes (4 * (made + 1)) ∙ omega (arith, ly) in
-      let more : 4 * made + 4 ≡ 4 * (made + 1) = omega arith in
-      let sum : 4 * made * b + 4 * b ≡ 4 * (made + 1) * b = grind arith in
+      let turn : (r + 4) * output_len a ≡ r * output_len a + 4 * output_len a = grind arith in
+      let after : (r + 4) * output_len a ≡ w + length ys = omega (arith, turn, ew, ly) in
+      let sum : r * b + 4 * b ≡ (r + 4) * b = grind arith in
       record {
         front = λ p stands.
             let all : ℕ → List ℕ = rounds a p s c in
-            take-put_mid (128 * made) k out ys _ after room
-            ∙ ap (λ z. take z out ++ ys) (sym before) ∙ ap (λ zs. zs ++ ys) (t.front p stands)
-            ∙ ap (λ zs. all (4 * made) ++ zs) (h p stands)
-            ∙ ap (λ (z : Algorithm). all (4 * made)
-            ++ joined_blocks (λ i. xored z p s (4 * made + i) c) 4) (sym same)
-            ∙ sym (joined_blocks-append (λ i. xored a p s i c) (4 * made) 4) ∙ ap all more;
-        cost = em
-            ∙ ap (λ (z : Algorithm). raised m1 (4 * iterate_blocks z (length s) c) 0) (sym same)
-            ∙ rw t.cost (raised-raised m0 (4 * made * b) 0 (4 * b) 0)
+            take-put_mid w k out ys _ after room
+            ∙ ap (λ z. take z out ++ ys) ew ∙ ap (λ zs. zs ++ ys) (t.front p stands)
+            ∙ ap (λ zs. all r ++ zs) (h p stands)
+            ∙ sym (joined_blocks-append (λ i. xored a p s i c) r 4);
+        cost = em ∙ rw t.cost (raised-raised m0 (r * b) 0 (4 * b) 0)
             ∙ ap (λ (z : ℕ). raised m0 z 0) sum;
       }
 
@@ -338,3 +332,16 @@ module _ {key : Key} {s : List ℕ} {c r w : ℕ} {m : Bool} {value : List ℕ} 
         ),
         rw end.0 at (run-all t.run all),
       )
+
+-- where there is room for four rounds more, their numbers fit
+pub rounds_fit : (r w l n : ℕ) → 0 < l → w ≡ r * l → w + 4 * l ≤ n → n ≤ (2 ^ 32 - 1) * l
+    → r + 4 < 2 ^ 32
+rounds_fit r w l n some ew room most =
+    let turn : (r + 4) * l ≡ r * l + 4 * l = grind arith in
+    let below : (r + 4) * l ≤ (2 ^ 32 - 1) * l = omega (arith, turn, ew) in
+    omega (arith, le_of_mul-le-mul_right below some)
+
+-- a lane's bytes lie within those of four
+pub lane_room : (l i : ℕ) → i < 4 → i * l + l ≤ 4 * l
+lane_room l =
+    four_cases (λ i. i * l + l ≤ 4 * l) (omega arith) (omega arith) (omega arith) (omega arith)

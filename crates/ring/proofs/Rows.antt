@@ -1,9 +1,10 @@
 -- What the rows have in common.
 use Rattle.std.proofs.Common.{◌≡◌, ℕ, zero, ◌<◌, ◌≤◌, ◌+◌, ◌-◌, ◌*◌, ◌^◌, ◌⊎◌, refl, inl, inr, lit<}
-use Rattle.std.proofs.Common.{lit≤, ◌/◌}
+use Rattle.std.proofs.Common.{lit≤, ◌/◌, ap, arith}
 use Rattle.ring.specs.Algorithm.{block_len, length_len, max_input_len, output_len, row_of, word_len}
 use Rattle.ring.specs.Algorithm.{word_count}
 use Rattle.ring.specs.declared.digest.algorithm.Algorithm.{Algorithm}
+use Rattle.ring.specs.declared.digest.algorithm.TheConstants.{SHA1_FOR_LEGACY_USE_ONLY, SHA256}
 use Rattle.ring.specs.declared.digest.algorithm.AlgorithmId.{AlgorithmId}
 use Rattle.ring.specs.declared.digest.algorithm.AlgorithmId.TheVariants.{Sha1, Sha256, Sha384}
 use Rattle.ring.specs.declared.digest.algorithm.AlgorithmId.TheVariants.{Sha512, Sha512_256}
@@ -81,3 +82,29 @@ max_input_len-most_of_id Sha512_256 = lit≤ tt
 -- no limit is past that of 128 bits
 pub max_input_len-most : (a : Algorithm) → max_input_len a ≤ 2 ^ 125 - 1
 max_input_len-most a = max_input_len-most_of_id a.id
+
+eight_words_of_id : (i : AlgorithmId) → (row_of i).output_len ≤ (row_of i).word_len * 8
+eight_words_of_id Sha1 = lit≤ tt
+eight_words_of_id Sha256 = lit≤ tt
+eight_words_of_id Sha384 = lit≤ tt
+eight_words_of_id Sha512 = lit≤ tt
+eight_words_of_id Sha512_256 = lit≤ tt
+
+-- eight words have the bytes of a digest
+pub eight_words : (a : Algorithm) → output_len a ≤ word_len a * 8
+eight_words a = eight_words_of_id a.id
+
+short_other_of_id : (i : AlgorithmId) → (row_of i).word_len ≡ 4 → (i ≡ Sha1 → ⊥) → i ≡ Sha256
+short_other_of_id Sha1 h other = absurd (other refl)
+short_other_of_id Sha256 h other = refl
+short_other_of_id Sha384 h other = absurd (omega arith)
+short_other_of_id Sha512 h other = absurd (omega arith)
+short_other_of_id Sha512_256 h other = absurd (omega arith)
+
+-- of the algorithms of 32-bit words, one isn't SHA-1
+pub short_other : (a : Algorithm) → word_len a ≡ 4 → (a ≡ SHA1_FOR_LEGACY_USE_ONLY → ⊥)
+    → a ≡ SHA256
+short_other a h other =
+    let id : a.id ≡ Sha256 =
+    short_other_of_id a.id h (λ e. other (ap (λ (i : AlgorithmId). record { id = i }) e)) in
+    ap (λ (i : AlgorithmId). record { id = i }) id

@@ -7,7 +7,6 @@ use Rattle.ring.specs.declared.digest.algorithm.Algorithm as digest
 use Rattle.ring.specs.declared.hmac.algorithm.Algorithm.{Algorithm}
 use Rattle.ring.specs.declared.hmac.context.Context.{Context}
 use Rattle.ring.specs.declared.hmac.key.Key.{Key}
-use Rattle.ring.specs.declared.hmac.prepared.PreparedBlock.{PreparedBlock}
 use Rattle.ring.specs.declared.hmac.tag.Tag.{Tag}
 
 -- the tag of the message m under the key k: H(K xor opad, H(K xor ipad, m)) (section 2)
@@ -56,7 +55,3 @@ tag_bytes t = bytes_of t.0
 pub record IsTag (t : Tag) (a : digest.Algorithm) (k m : List ℕ) : Type 0 where
   pub algorithm : tag_algorithm t ≡ a
   pub bytes : tag_bytes t ≡ hmac_of a k m
-
--- the algorithm of a prepared block
-abbrev pub prepared_algorithm : PreparedBlock → digest.Algorithm
-prepared_algorithm b = b.algorithm

@@ -12,7 +12,7 @@ pub mod Each
 pub mod Source
 pub mod KeyBlocks
 pub mod Prepared
-pub mod Four
+pub mod Lanes
 pub mod Hmac
 pub mod Hkdf
 pub mod Okm

@@ -43,9 +43,8 @@ use ring_core::error::Unspecified;
 
 pub(crate) mod algorithm;
 pub(crate) mod context;
-pub(crate) mod four;
 pub(crate) mod key;
-pub(crate) mod prepared;
+pub(crate) mod lanes;
 pub(crate) mod tag;
 
 pub use crate::hmac::algorithm::{

@@ -54,6 +54,7 @@ pub(crate) mod algorithm;
 pub(crate) mod four;
 pub(crate) mod iterates;
 pub(crate) mod rounds;
+pub(crate) mod sums;
 
 pub use crate::pbkdf2::algorithm::{
     Algorithm, PBKDF2_HMAC_SHA1, PBKDF2_HMAC_SHA256, PBKDF2_HMAC_SHA384, PBKDF2_HMAC_SHA512,

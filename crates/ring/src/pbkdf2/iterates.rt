@@ -1,14 +1,20 @@
-//! The iterates that are tags of the salt and a round's number.
+//! The iterates of a round: the first, of the salt and the round's number, and the tags of tags.
 
-ghost use Rattle.std.specs.Prelude.{◌≡◌, ℕ, ◌+◌, List, length};
+ghost use Rattle.std.specs.Prelude.{◌≡◌, ℕ, ◌+◌, ◌-◌, ◌*◌, List, length, take};
+ghost use Rattle.std.specs.Int.NonZero.{non_zero_u32_get};
 ghost use Rattle.ring_core.specs.Cost.{raised};
+ghost use Rattle.ring.specs.Algorithm.{output_len};
 ghost use Rattle.ring.specs.Cost.{padded_blocks};
 ghost use Rattle.ring.specs.Hmac.{KeyStandsFor, key_algorithm, tag_algorithm, tag_bytes};
+ghost use Rattle.ring.specs.Lanes.{IsKeyInLane, digest_bytes};
 ghost use Rattle.ring.specs.Limits.{IsTagWithin};
-ghost use Rattle.ring.specs.Pbkdf2.{iterate};
+ghost use Rattle.ring.specs.Pbkdf2.{iterate, xored};
 
+use crate::digest::dynstate::OUTPUT_ROOM;
+use crate::hmac::lanes::{DigestLanes, replace_by_tag};
 use crate::hmac::{Context, Key, Tag};
 use ring_core::cost::Meter;
+use std::num::NonZeroU32;
 
 // U_1 of a round: the tag of the salt and the round's number.
 pub(crate) fn first_iterate(key: &Key, salt: &[u8], number: u32, meter: &mut Meter) -> Tag
@@ -26,4 +32,39 @@ pub(crate) fn first_iterate(key: &Key, salt: &[u8], number: u32, meter: &mut Met
         unreachable!()
     };
     tag
+}
+
+// The bytes of a tag, in room for the longest.
+pub(crate) fn bytes_of(tag: &Tag) -> [u8; OUTPUT_ROOM]
+    ensures { take (output_len (tag_algorithm tag.now)) result ≡ tag_bytes tag.now }
+{
+    let mut bytes = [0; OUTPUT_ROOM];
+    let value = tag.as_ref();
+    bytes[..value.len()].copy_from_slice(value);
+    bytes
+}
+
+// The exclusive or of the first iterate and of those after it, in each lane under its key.
+pub(crate) fn xor_iterates<H: DigestLanes>(
+    inner: &H::State,
+    outer: &H::State,
+    first: &H::State,
+    iterations: NonZeroU32,
+    meter: &mut Meter,
+) -> H::State
+    ensures ok { (l : ℕ) (p s : List ℕ) (i : ℕ)
+        → IsKeyInLane H.algorithm (H.words l inner.now) (H.words l outer.now) p
+        → digest_bytes H.algorithm (H.words l first.now) ≡ iterate H.algorithm p s i 1
+        → digest_bytes H.algorithm (H.words l result)
+        ≡ xored H.algorithm p s i (non_zero_u32_get iterations) }
+    ensures cost { meter.new
+        ≡ raised meter.old (H.lanes * (2 * (non_zero_u32_get iterations - 1))) 0 }
+{
+    let mut sum = *first;
+    let mut iterate = *first;
+    'iterates: for _made in 1..iterations.get() {
+        replace_by_tag::<H>(inner, outer, &mut iterate, meter);
+        H::xor(&mut sum, &iterate);
+    }
+    sum
 }

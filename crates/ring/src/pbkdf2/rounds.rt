@@ -6,31 +6,60 @@ ghost use Rattle.std.specs.Int.NonZero.{non_zero_u32_get};
 ghost use Rattle.ring_core.specs.Cost.{raised};
 ghost use Rattle.ring.specs.Algorithm.{output_len};
 ghost use Rattle.ring.specs.Cost.{iterate_blocks, derive_rounds};
-ghost use Rattle.ring.specs.Hmac.{KeyStandsFor, key_algorithm, prepared_algorithm};
+ghost use Rattle.ring.specs.Hmac.{KeyStandsFor, key_algorithm, tag_algorithm, tag_bytes};
 ghost use Rattle.ring.specs.Limits.{IsTagWithin};
-ghost use Rattle.ring.specs.Pbkdf2.{dk, xored};
+ghost use Rattle.ring.specs.Pbkdf2.{dk, iterate, xored};
 
-use crate::digest::algorithm::{MAX_OUTPUT_LEN, SHA256_OUTPUT_LEN};
-use crate::hmac::Key;
-use crate::hmac::prepared::PreparedBlock;
+use crate::digest::algorithm::MAX_OUTPUT_LEN;
+use crate::digest::dynstate::{
+    DynState, Output, long_output, long_state, short_output, short_state,
+};
+use crate::hmac::{Key, Tag};
 use crate::pbkdf2::four::write_fours;
-use crate::pbkdf2::iterates::first_iterate;
-use ring_core::bb::{verify_slices_are_equal_counted, xor_assign_at_start};
+use crate::pbkdf2::iterates::{bytes_of, first_iterate};
+use crate::pbkdf2::sums::{long_sum, short_sum};
+use ring_core::bb::verify_slices_are_equal_counted;
 use ring_core::cost::Meter;
 use std::num::NonZeroU32;
 
-// Makes `out` the first bytes of the round of this number. All iterates but the first are tags of
-// tags, which fit the prepared block.
+// The round of which this is the first iterate: in a state's room, as all its bytes.
+fn round_from(key: &Key, first: &Tag, iterations: NonZeroU32, meter: &mut Meter) -> Output
+    requires { tag_algorithm first.now ≡ key_algorithm key.now }
+    ensures ok { (p s : List ℕ) (i : ℕ) → KeyStandsFor key.now p
+        → tag_bytes first.now ≡ iterate (key_algorithm key.now) p s i 1
+        → take (output_len (key_algorithm key.now)) result.0
+        ≡ xored (key_algorithm key.now) p s i (non_zero_u32_get iterations) }
+    ensures cost { meter.new ≡ raised meter.old (2 * (non_zero_u32_get iterations - 1)) 0 }
+{
+    let algorithm = key.algorithm().digest_algorithm();
+    let bytes = bytes_of(first);
+    match key.inner.state {
+        DynState::As64(inner) => {
+            let DynState::As64(outer) = key.outer.state else {
+                unreachable!()
+            };
+            let first = long_state(&bytes);
+            long_output(&long_sum(algorithm, &inner, &outer, &first, iterations, meter))
+        }
+        DynState::As32(inner) => {
+            let DynState::As32(outer) = key.outer.state else {
+                unreachable!()
+            };
+            let first = short_state(&bytes);
+            short_output(&short_sum(algorithm, &inner, &outer, &first, iterations, meter))
+        }
+    }
+}
+
+// Makes `out` the first bytes of the round of this number.
 fn write_round(
     key: &Key,
-    block: &PreparedBlock,
     iterations: NonZeroU32,
     salt: &[u8],
     number: u32,
     out: &mut [u8],
     meter: &mut Meter,
 )
-    requires prepared { prepared_algorithm block.now ≡ key_algorithm key.now }
     requires within { IsTagWithin (key_algorithm key.now) (length salt.now + 4) }
     requires fits { length out.old ≤ output_len (key_algorithm key.now) }
     ensures ok { (p : List ℕ) → KeyStandsFor key.now p → out.new ≡ take (length out.old)
@@ -39,26 +68,19 @@ fn write_round(
         (iterate_blocks (key_algorithm key.now) (length salt.now) (non_zero_u32_get iterations)) 0 }
 {
     let first = first_iterate(key, salt, number, meter);
-    out.copy_from_slice(&first.as_ref()[..out.len()]);
-    let output_len = first.as_ref().len();
-    let mut iterate = block.with_message(first.as_ref());
-    'iterates: for _made in 1..iterations.get() {
-        PreparedBlock::replace_by_tag(key, &mut iterate, meter);
-        xor_assign_at_start(out, &iterate[..output_len]);
-    }
+    let round = round_from(key, &first, iterations, meter);
+    out.copy_from_slice(&round.0[..out.len()]);
 }
 
 // Whether `part` is the first bytes of the round of this number.
 fn is_round(
     key: &Key,
-    block: &PreparedBlock,
     iterations: NonZeroU32,
     salt: &[u8],
     number: u32,
     part: &[u8],
     meter: &mut Meter,
 ) -> bool
-    requires prepared { prepared_algorithm block.now ≡ key_algorithm key.now }
     requires within { IsTagWithin (key_algorithm key.now) (length salt.now + 4) }
     requires fits { length part.now ≤ output_len (key_algorithm key.now) }
     ensures ok { (p : List ℕ) → KeyStandsFor key.now p → IsTrue result
@@ -70,7 +92,7 @@ fn is_round(
 {
     let mut buffer = [0; MAX_OUTPUT_LEN];
     let made = &mut buffer[..part.len()];
-    write_round(key, block, iterations, salt, number, made, meter);
+    write_round(key, iterations, salt, number, made, meter);
     verify_slices_are_equal_counted(made, part, meter).is_ok()
 }
 
@@ -94,16 +116,13 @@ pub(crate) fn write_rounds(
         0 }
 {
     let algorithm = key.algorithm().digest_algorithm();
-    let block = PreparedBlock::new(algorithm);
     let output_len = algorithm.output_len();
-    let mut number = write_fours(key, iterations, salt, out, meter);
-    // None are made but of digests of that length.
-    let mut written = number as usize * SHA256_OUTPUT_LEN;
+    let (mut number, mut written) = write_fours(key, iterations, salt, out, meter);
     'rounds: while written < out.len() {
         let end = written + output_len.min(out.len() - written);
         number += 1;
         let part = &mut out[written..end];
-        write_round(key, &block, iterations, salt, number, part, meter);
+        write_round(key, iterations, salt, number, part, meter);
         written = end;
     }
 }
@@ -128,7 +147,6 @@ pub(crate) fn are_rounds(
         (length value.now) }
 {
     let algorithm = key.algorithm().digest_algorithm();
-    let block = PreparedBlock::new(algorithm);
     let output_len = algorithm.output_len();
     let mut matches = true;
     let mut number = 0;
@@ -138,7 +156,7 @@ pub(crate) fn are_rounds(
         number += 1;
         let part = &value[checked..end];
         // No early end: a round that differs is followed by the others.
-        matches &= is_round(key, &block, iterations, salt, number, part, meter);
+        matches &= is_round(key, iterations, salt, number, part, meter);
         checked = end;
     }
     matches

@@ -1,23 +1,51 @@
-use Rattle.std.proofs.Common.{◌+◌, ◌*◌, ◌-◌, ◌++◌, add-one, ap, arith, sym, ◌∙◌}
+use Rattle.std.proofs.Common.{◌≡◌, ℕ, ◌+◌, ◌-◌, ◌*◌, ◌%◌, ◌^◌, ◌≤◌, ◌++◌, add-one}
+use Rattle.std.proofs.Common.{ap, arith, length, rules, suc-mul, sym}
+use Rattle.std.proofs.Common.{take, zero-mul, ◌∙◌}
+use Rattle.std.proofs.lemmas.List.{length-map, take-append-le}
 use Rattle.std.proofs.lemmas.Slice.{take-put_mid}
+use Rattle.std.specs.declared.num.Wrapping.{Wrapping}
+use Rattle.ring_core.specs.Lane.{words_of_lane}
+use Rattle.ring_core.specs.Sha2.{words_32}
 use Rattle.ring.specs.Pieces.{joined_blocks}
+use Rattle.ring.specs.State.{word_bytes}
+use Rattle.ring.proofs.Outputs.{length-word_bytes}
 use Rattle.ring.proofs.Pieces.{joined_blocks-next, joined_blocks-none}
-use Rattle.ring.proofs.Rounds.{length-part}
+use Rattle.ring.proofs.Rounds.{lane_room, length-part}
 use Rattle.ring.proofs.pbkdf2.four.put_rounds.Goals as goal
 
 pub lanes-init : goal.lanes-init
-lanes-init c = λ f h. sym (joined_blocks-none f)
+lanes-init c = (sym (zero-mul c.args.output_len), λ f h. sym (joined_blocks-none f))
 
 pub lanes-preserved : goal.lanes-preserved
 lanes-preserved c =
     let i = c.lanes.i in
+    let n = c.args.output_len in
+    let start = c.lanes.end in
     let out = c.lanes.out in
     let round = c.copy_from_slice.new.self in
-    let k = 32 * i + 32 - 32 * i in
-    let long = c.copy_from_slice.auto.self ∙ length-part (32 * i) k out (omega arith) in
-    let front = take-put_mid (32 * i) k out round (32 * (i + 1)) (omega (arith, long)) (omega arith)
-    in
-    λ f h.
-    front ∙ ap (λ z. z ++ round) (c.lanes.invariant f h)
-    ∙ ap (λ z. joined_blocks f i ++ z) (c.copy_from_slice.ensures.after ∙ h i c.lanes-test.true)
-    ∙ rw add-one (sym (joined_blocks-next f i))
+    let k = start + n - start in
+    let more : (i + 1) * n ≡ i * n + n = rw add-one (suc-mul i n) in
+    let within : i * n + n ≤ 4 * n = lane_room n i c.lanes-test.true in
+    let place : start ≡ i * n = c.lanes.invariant.0 in
+    let room : start + k ≤ length out =
+    omega (arith, within, place, c.lanes.auto.out, c.requires.room) in
+    let long = c.copy_from_slice.auto.self ∙ length-part start k out room in
+    let front =
+    take-put_mid start k out round (start + n) (omega (arith, long)) (omega (arith, room)) in
+    let words = words_32 c.state.result in
+    let eight : length c.state.result ≡ 8 = search rules in
+    let count : length words ≡ 8 =
+    length-map c.state.result (λ (x : Wrapping ℕ). x.0 % 2 ^ 32) ∙ eight in
+    let bytes : length (word_bytes 4 words) ≡ 32 =
+    length-word_bytes 4 words ∙ omega (arith, count) in
+    let fits : n ≤ length (word_bytes 4 words) = omega (arith, bytes, c.requires.within) in
+    let digest : round ≡ take n (word_bytes 4 (words_of_lane i c.args.sums.now)) =
+    c.copy_from_slice.ensures.after ∙ ap (take n) c.short_output-round.ensures
+    ∙ take-append-le n (word_bytes 4 words) _ fits
+    ∙ ap (λ z. take n (word_bytes 4 z)) c.state.ensures in (
+      omega (arith, more, place),
+      λ f h.
+          front ∙ ap (λ z. z ++ round) (c.lanes.invariant.1 f h)
+          ∙ ap (λ z. joined_blocks f i ++ z) (digest ∙ h i c.lanes-test.true)
+          ∙ rw add-one (sym (joined_blocks-next f i)),
+    )

@@ -1,8 +1,13 @@
-use Rattle.std.proofs.Common.{◌≡◌, ℕ, ◌+◌, ◌*◌, ◌<◌, List, [], get_or, take}
+use Rattle.std.proofs.Common.{◌≡◌, ℕ, ◌+◌, ◌*◌, ◌<◌, List, take}
+use Rattle.ring_core.specs.Lane.{words_of_lane}
 use Rattle.ring.specs.Pieces.{joined_blocks}
+use Rattle.ring.specs.State.{word_bytes}
 use Rattle.ring.proofs.pbkdf2.four.put_rounds.Given as goal
 
 abbrev pub invariant-lanes : goal.invariant-lanes
 invariant-lanes l =
-    (f : ℕ → List ℕ) → ((i : ℕ) → i < 4 → get_or l.rounds i [] ≡ f (i + 1))
-    → take (32 * l.i) l.out ≡ joined_blocks f l.i
+    (l.end ≡ l.i * l.output_len)
+    × ((f : ℕ → List ℕ)
+    → ((i : ℕ) → i < 4
+    → take l.output_len (word_bytes 4 (words_of_lane i l.sums)) ≡ f (i + 1))
+    → take l.end l.out ≡ joined_blocks f l.i)

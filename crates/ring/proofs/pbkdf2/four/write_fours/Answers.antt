@@ -1,17 +1,22 @@
-use Rattle.std.proofs.Common.{◌≡◌, ℕ, ◌+◌, ◌-◌, ◌*◌, ◌≤◌, length, arith, ◌∙◌}
+use Rattle.std.proofs.Common.{◌≡◌, ℕ, ◌+◌, ◌-◌, ◌*◌, ◌≤◌, ap, arith, drop, length, sym, take}
+use Rattle.std.proofs.Common.{zero-mul, ◌∙◌}
 use Rattle.std.specs.Int.NonZero.{non_zero_u32_get}
+use Rattle.ring_core.specs.Lane.{words_of_lane}
+use Rattle.ring.specs.Algorithm.{output_len, word_len}
+use Rattle.ring.specs.Hmac.{key_algorithm}
 use Rattle.ring.specs.Pbkdf2.{xored}
-use Rattle.ring.specs.declared.digest.algorithm.TheConstants.{SHA256}
+use Rattle.ring.specs.State.{word_bytes}
 use Rattle.ring.proofs.Rounds.{front-four, front-none, length-part}
 use Rattle.ring.proofs.pbkdf2.four.write_fours.Goals as goal
+use borrow.Rule.Slice.PartMut.{same_len_mid}
 
-pub returns-then-out-lt-FOUR_LEN-clause-ok : goal.returns-then-out-lt-FOUR_LEN-clause-ok
-returns-then-out-lt-FOUR_LEN-clause-ok c =
+pub returns-then-out-four_len-clause-ok : goal.returns-then-out-four_len-clause-ok
+returns-then-out-four_len-clause-ok c =
     let iterations = non_zero_u32_get c.args.iterations in
     (front-none c.args.key.now c.args.salt.now iterations c.args.out.now c.args.meter.now).front
 
-pub returns-then-out-lt-FOUR_LEN-clause-cost : goal.returns-then-out-lt-FOUR_LEN-clause-cost
-returns-then-out-lt-FOUR_LEN-clause-cost c =
+pub returns-then-out-four_len-clause-cost : goal.returns-then-out-four_len-clause-cost
+returns-then-out-four_len-clause-cost c =
     let iterations = non_zero_u32_get c.args.iterations in
     (front-none c.args.key.now c.args.salt.now iterations c.args.out.now c.args.meter.now).cost
 
@@ -27,21 +32,47 @@ returns-in_default-clause-cost c =
 
 pub fours-init : goal.fours-init
 fours-init c =
-    let iterations = non_zero_u32_get c.args.iterations in
-    front-none c.args.key.now c.args.salt.now iterations c.args.out.now c.args.meter.now
+    let iterations = non_zero_u32_get c.args.iterations in (
+      sym (zero-mul (output_len (key_algorithm c.args.key.now))),
+      (
+        omega arith,
+        front-none c.args.key.now c.args.salt.now iterations c.args.out.now c.args.meter.now,
+      ),
+    )
 
 pub fours-preserved : goal.fours-preserved
 fours-preserved c =
-    let made = c.fours.made in
-    let out = c.fours.out in
+    let a = key_algorithm c.args.key.now in
     let iterations = non_zero_u32_get c.args.iterations in
-    let size : 128 * made + 128 - 128 * made ≡ 128 = omega arith in
-    let room : 128 * made + (128 * made + 128 - 128 * made) ≤ length out = omega arith in
-    let long : length c.put_rounds.new.out ≡ 128 =
-    c.put_rounds.auto.out ∙ length-part (128 * made) (128 * made + 128 - 128 * made) out room
-    ∙ size in
-    let next = c.four_rounds-rounds.ensures in
-    front-four made _ c.in-Some.ensures.algorithm c.fours.invariant (omega arith) long
-    (λ p stands. c.put_rounds.ensures
-    (λ (i : ℕ). xored SHA256 p c.args.salt.now (4 * made + i) iterations)
-    (λ i below. next.ok p i stands below)) next.cost
+    let number = c.fours.number in
+    let w = c.fours.written in
+    let out = c.fours.out in
+    let ys = c.put_rounds.new.out in
+    let n = c.output_len-output_len.result in
+    let k = w + 4 * n - w in
+    let len : n ≡ output_len a =
+    c.output_len-output_len.ensures
+    ∙ ap output_len (c.digest_algorithm.ensures ∙ c.algorithm.ensures) in
+    let size : word_len a ≡ 4 = c.in-Some.ensures.size in
+    let place : w ≡ number * output_len a = c.fours.invariant.0 in
+    let below : w ≤ length out = c.fours.invariant.1.0 in
+    let room : w + k ≤ length out = omega (arith, c.fours-test.true, below) in
+    let same : length ys ≡ length (take k (drop w out)) = c.put_rounds.auto.out in
+    let long : length ys ≡ 4 * output_len a =
+    same ∙ length-part w k out room ∙ omega (arith, len) in
+    let turn : (number + 4) * output_len a ≡ number * output_len a + 4 * output_len a =
+    grind arith in
+    let next = c.four_rounds-rounds.ensures in (
+      omega (arith, turn, place, len),
+      (
+        rw (same_len_mid w k out ys same) (omega (arith, room)),
+        front-four number w k place c.fours.invariant.1.1 below long
+            (λ p stands. c.put_rounds.ensures
+            (λ (i : ℕ). xored a p c.args.salt.now (number + i) iterations)
+            (λ i lane.
+            let words = words_of_lane i c.four_rounds-rounds.result in
+            ap (λ (z : ℕ). take z (word_bytes 4 words)) len
+            ∙ ap (λ (z : ℕ). take (output_len a) (word_bytes z words)) (sym size)
+            ∙ next.ok p i stands lane)) next.cost,
+      ),
+    )

@@ -7,13 +7,13 @@ use Rattle.ring.proofs.pbkdf2.rounds.write_rounds.Goals as goal
 
 pub rounds-init : goal.rounds-init
 rounds-init c =
-    let number = c.write_fours-number.result in
+    let made = c.write_fours-number.result in
     let fours = c.write_fours-number.ensures in
-    let front : HasFront c.args.key.now c.args.salt.now (non_zero_u32_get c.args.iterations) number
+    let front : HasFront c.args.key.now c.args.salt.now (non_zero_u32_get c.args.iterations) made.0
     c.write_fours-number.new.out c.args.meter.now c.write_fours-number.new.meter =
     record { front = fours.ok; cost = fours.cost } in
-    written-front _ fours.sized front
-    (rw c.write_fours-number.auto.out fours.within)
+    written-front made.1 fours.sized front
+    (rw c.write_fours-number.auto.out (rw fours.sized at fours.within))
 
 pub rounds-preserved : goal.rounds-preserved
 rounds-preserved c =

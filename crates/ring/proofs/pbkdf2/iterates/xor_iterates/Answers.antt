@@ -1,0 +1,24 @@
+use Rattle.std.proofs.Common.{◌≡◌, arith}
+use Rattle.std.specs.Int.NonZero.{non_zero_u32_get}
+use Rattle.ring.proofs.Iterates.{cost_first, cost_next, made-first, made-next}
+use Rattle.ring.proofs.pbkdf2.iterates.xor_iterates.Goals as goal
+
+pub iterates-init : goal.iterates-init
+iterates-init g c =
+    (λ lane p s i stands h. made-first h, cost_first c.args.meter.now g.H.DigestLanes.lanes)
+
+pub iterates-preserved : goal.iterates-preserved
+iterates-preserved g c =
+    let made = c.iterates.invariant in (
+      λ lane p s i stands h.
+          made-next (made.0 lane p s i stands h) (c.replace_by_tag.ensures.ok lane p stands)
+          (c.xor.ensures lane),
+      cost_next c.args.meter.now g.H.DigestLanes.lanes c.iterates._made c.iterates.auto._made made.1
+          c.replace_by_tag.ensures.cost,
+    )
+
+pub returns : goal.returns
+returns g c =
+    let last : c.iterates._made ≡ non_zero_u32_get c.args.iterations = omega arith in
+    let made = rw last at c.iterates.invariant in
+    record { ok = λ lane p s i stands h. (made.0 lane p s i stands h).sum; cost = made.1 }

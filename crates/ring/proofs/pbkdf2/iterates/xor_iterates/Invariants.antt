@@ -1,0 +1,15 @@
+use Rattle.std.proofs.Common.{◌≡◌, ℕ, ◌-◌, ◌*◌, List}
+use Rattle.ring_core.specs.Cost.{raised}
+use Rattle.ring.specs.Lanes.{IsKeyInLane, digest_bytes}
+use Rattle.ring.specs.Pbkdf2.{iterate}
+use Rattle.ring.proofs.Iterates.{IsMade}
+use Rattle.ring.proofs.pbkdf2.iterates.xor_iterates.Given as goal
+
+abbrev pub invariant-iterates : goal.invariant-iterates
+invariant-iterates g l =
+    let a = g.H.DigestLanes.algorithm in
+    let words = g.H.DigestLanes.words in
+    ((lane : ℕ) (p s : List ℕ) (i : ℕ) → IsKeyInLane a (words lane l.inner) (words lane l.outer) p
+    → digest_bytes a (words lane l.first) ≡ iterate a p s i 1
+    → IsMade a p s i l._made (words lane l.iterate) (words lane l.sum))
+    × (l.meter ≡ raised l.fn.meter (g.H.DigestLanes.lanes * (2 * (l._made - 1))) 0)

@@ -1,0 +1,16 @@
+-- Digests and keys as the words of states.
+use Rattle.std.specs.Prelude.{◌≡◌, ℕ, List, take}
+use Rattle.ring.specs.Algorithm.{output_len, word_count, word_len}
+use Rattle.ring.specs.Digest.{words_after}
+use Rattle.ring.specs.KeyBlocks.{inner_block, outer_block}
+use Rattle.ring.specs.State.{word_bytes}
+use Rattle.ring.specs.declared.digest.algorithm.Algorithm.{Algorithm}
+
+-- the digest that a state's words write
+abbrev pub digest_bytes : Algorithm → List ℕ → List ℕ
+digest_bytes a ws = take (output_len a) (word_bytes (word_len a) ws)
+
+-- the words of two states are those after the masked blocks of the key k (RFC 2104, section 2)
+pub record IsKeyInLane (a : Algorithm) (inner outer k : List ℕ) : Type 0 where
+  pub inside : take (word_count a) inner ≡ words_after a (inner_block a k)
+  pub outside : take (word_count a) outer ≡ words_after a (outer_block a k)

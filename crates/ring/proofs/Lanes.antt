@@ -124,7 +124,8 @@ block-digest a p m ws lp lm ew =
     ∙ ap (words_after a) (padded-message a p m lp lm) in
     let front : List ℕ = word_bytes n (take wc ws) in
     let spare : List ℕ = word_bytes n (drop wc ws) in
-    let count : length (take wc ws) ≡ wc = ap length ends ∙ length-words_after a (padded a (p ++ m)) in
+    let count : length (take wc ws) ≡ wc =
+    ap length ends ∙ length-words_after a (padded a (p ++ m)) in
     let long : length front ≡ n * wc =
     length-word_bytes n (take wc ws) ∙ ap (λ (z : ℕ). n * z) count in
     let room : output_len a ≤ length front = omega (arith, long, output_len-most a) in

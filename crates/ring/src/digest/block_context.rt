@@ -140,6 +140,7 @@ impl BlockContext {
     // The output after the blocks so far and those of `tail`, which ends a padded message. Each
     // size of words goes its own way to the end: in one for both, the compiler merges their reads,
     // and what a block function wrote is not read as it was written.
+    #[inline(never)]
     pub(crate) fn output_after(&self, tail: &[u8], meter: &mut Meter) -> Output
         ensures ok { (p m : List ℕ) → HasTaken self.now p
             → p ++ tail.now ≡ padded (block_algorithm self.now) m

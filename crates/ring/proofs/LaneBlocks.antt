@@ -119,10 +119,10 @@ words_at-whole a m rest k e fits er =
     )
 
 -- a block past those
-pub chunk-tail : (a : Algorithm) (m x : List ℕ) (k w : ℕ) → block_len a ≡ 64
+pub chunk-tail : {x : List ℕ} {w : ℕ} (a : Algorithm) (m : List ℕ) (k : ℕ) → block_len a ≡ 64
     → w ≡ length m / 64 → w ≤ k → x ≡ drop (64 * w) m
     → chunk_at 64 (padded a m) k ≡ take 64 (drop (64 * (k - w)) (tail_of a x (length m)))
-chunk-tail a m x k w e ew past ex =
+chunk-tail {x = x} {w = w} a m k e ew past ex =
     let p : List ℕ = take (64 * w) m in
     let t : List ℕ = tail_of a x (length m) in
     let lp : length p ≡ 64 * w = length-take-le (64 * w) m (omega arith) in

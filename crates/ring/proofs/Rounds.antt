@@ -225,14 +225,14 @@ front-none key s c out m =
 
 module _ {key : Key} {s : List ℕ} {c : ℕ} {out : List ℕ} {m0 m1 : Counts} where
   -- four rounds more are written as ys over k bytes
-  pub front-four : {ys : List ℕ} {m2 : Counts} (r w k : ℕ)
+  pub front-four : {ys : List ℕ} {m2 : Counts} {r : ℕ} (w k : ℕ)
       → w ≡ r * output_len (key_algorithm key) → HasFront key s c r out m0 m1 → w ≤ length out
       → length ys ≡ 4 * output_len (key_algorithm key)
       → ((p : List ℕ) → KeyStandsFor key p
       → ys ≡ joined_blocks (λ i. xored (key_algorithm key) p s (r + i) c) 4)
       → m2 ≡ raised m1 (4 * iterate_blocks (key_algorithm key) (length s) c) 0
       → HasFront key s c (r + 4) (put_mid w k out ys) m0 m2
-  front-four {ys = ys} r w k ew t room ly h em =
+  front-four {ys = ys} {r = r} w k ew t room ly h em =
       let a : Algorithm = key_algorithm key in
       let b : ℕ = round_blocks key s c in
       let turn : (r + 4) * output_len a ≡ r * output_len a + 4 * output_len a = grind arith in

@@ -14,5 +14,5 @@ returns c =
     c.copy_from_slice.ensures.after
     ∙ ap (λ (n : ℕ). take n (drop at (take tail.result tail.new.bytes))) size
     ∙ ap (λ z. take 64 (drop at z)) tail.ensures.bytes
-    ∙ sym (chunk-tail c.args.algorithm m _ c.args.number w c.requires.lanes refl c.requires.past
+    ∙ sym (chunk-tail c.args.algorithm m c.args.number c.requires.lanes refl c.requires.past
     (take_rest m (64 * w)))

@@ -66,7 +66,7 @@ fours-preserved c =
       omega (arith, turn, place, len),
       (
         rw (same_len_mid w k out ys same) (omega (arith, room)),
-        front-four number w k place c.fours.invariant.1.1 below long
+        front-four w k place c.fours.invariant.1.1 below long
             (λ p stands. c.put_rounds.ensures
             (λ (i : ℕ). xored a p c.args.salt.now (number + i) iterations)
             (λ i lane.

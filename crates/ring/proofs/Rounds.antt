@@ -1,9 +1,10 @@
 -- Rounds written, or compared, one after another.
-use Rattle.std.proofs.Common.{◌≡◌, ◌↔◌, ℕ, suc, ◌+◌, ◌-◌, ◌*◌, ◌^◌, ◌<◌, ◌≤◌, min, Bool, true}
+use Rattle.std.proofs.Common.{◌≡◌, ◌↔◌, ℕ, suc, ◌+◌, ◌-◌, ◌*◌, ◌<◌, ◌≤◌, min, Bool, true}
 use Rattle.std.proofs.Common.{false}
 use Rattle.std.proofs.Common.{◌&&◌, List, ◌++◌, length, take, drop, refl, sym, ap, ◌∙◌, arith}
 use Rattle.std.proofs.Common.{add-one, suc-mul, zero-mul, length-drop, length-take-le, take_all}
-use Rattle.std.proofs.Math.Nat.{le_of_mul-le-mul_right, lt_of_mul-lt-mul_right}
+use Rattle.std.proofs.Math.Seq.{take-append-add}
+use Rattle.std.proofs.Math.Nat.{lt_of_mul-lt-mul_right}
 use Rattle.ring_core.proofs.Four.{four_cases}
 use Rattle.std.proofs.lemmas.Grind.{div_ceil_times}
 use Rattle.std.proofs.lemmas.Slice.{take-put_mid}
@@ -18,8 +19,8 @@ use Rattle.ring.specs.declared.digest.algorithm.Algorithm.{Algorithm}
 use Rattle.ring.specs.declared.hmac.key.Key.{Key}
 use Rattle.ring.proofs.Iterates.{length-xored}
 use Rattle.ring.proofs.Rows.{output_len-fits, output_len-positive}
-use Rattle.ring.proofs.Pieces.{IsEven, joined_blocks-append, joined_blocks-none}
-use Rattle.ring.proofs.Pieces.{joined_blocks-part, length-joined_blocks, same_part}
+use Rattle.ring.proofs.Pieces.{IsEven, joined_blocks-append, joined_blocks-next, joined_blocks-none}
+use Rattle.ring.proofs.Pieces.{length-joined_blocks, same_part}
 use borrow.Rule.Slice.PartMut.{put_mid, same_len_mid}
 
 -- a buffer of 64 bytes has room for a part of a round
@@ -50,19 +51,56 @@ rounds a p s c r = joined_blocks (λ i. xored a p s i c) r
 even_rounds : (a : Algorithm) (p s : List ℕ) (c : ℕ) → IsEven (λ i. xored a p s i c) (output_len a)
 even_rounds a p s c = record { each = λ i. length-xored a p s (suc i) c }
 
+-- the t rounds after the first r ones
+abbrev pub rounds_after : (a : Algorithm) (p s : List ℕ) (c r t : ℕ) → List ℕ
+rounds_after a p s c r t = joined_blocks (λ i. xored a p s (r + i) c) t
+
+-- the one after them
+one_after : (a : Algorithm) (p s : List ℕ) (c r : ℕ)
+    → rounds_after a p s c r 1 ≡ xored a p s (r + 1) c
+one_after a p s c r =
+    let f : ℕ → List ℕ = λ i. xored a p s (r + i) c in
+    rw (joined_blocks-next f 0, joined_blocks-none f) refl
+
 -- one product more
 mul-more : (r b : ℕ) → r * b + b ≡ (r + 1) * b
 mul-more r b = rw add-one (sym (suc-mul r b))
 
+-- t rounds after r whole ones, which reach w of n bytes, reach k bytes more
+pub record AreNext (a : Algorithm) (n r w t k : ℕ) : Type 0 where
+  pub whole : w ≡ r * output_len a
+  pub after : HasReached a n (r + t) (w + k)
+
 module _ {a : Algorithm} {n r w : ℕ} where
-  reached-next : (k : ℕ) → HasReached a n r w → w < n → k ≡ min (output_len a) (n - w)
-      → HasReached a n (r + 1) (w + k)
-  reached-next k t more ek =
+  -- one round, or a front of it
+  pub next-one : (k : ℕ) → HasReached a n r w → w < n → k ≡ min (output_len a) (n - w)
+      → AreNext a n r w 1 k
+  next-one k t more ek =
       let L : ℕ = output_len a in
       record {
-        place = omega (arith, mul-more r L, t.place, ek);
-        needed = omega (arith, mul-more r L, t.place);
+        whole = omega (arith, t.place);
+        after = record {
+          place = omega (arith, mul-more r L, t.place, ek);
+          needed = omega (arith, mul-more r L, t.place);
+        };
       }
+
+  -- four whole ones, and where they end
+  pub next-four : (k : ℕ) → w ≡ r * output_len a → k ≡ 4 * output_len a → w + k ≤ n
+      → AreNext a n r w 4 k × (w + k ≡ (r + 4) * output_len a)
+  next-four k whole ek room =
+      let L : ℕ = output_len a in
+      let sum : (r + 4) * L ≡ r * L + 4 * L = grind arith in
+      let end : w + k ≡ (r + 4) * L = omega (arith, sum, whole, ek) in (
+        record {
+          whole = whole;
+          after = record {
+            place = omega (arith, end);
+            needed = omega (arith, end, output_len-positive a);
+          };
+        },
+        end,
+      )
 
   -- where all bytes are reached, no round is left
   reached-all : HasReached a n r w → n ≤ w → (w ≡ n) × (derive_rounds a n ≡ r)
@@ -83,21 +121,17 @@ module _ {a : Algorithm} {n r w : ℕ} where
       let whole = length-joined_blocks (even_rounds a p s c) r in
       length-take-le w _ (rw whole (omega (arith, t.place)))
 
-  -- a front of the rounds goes on with a part of the next
-  rounds-part : (p s : List ℕ) (c k : ℕ) → HasReached a n r w → w < n
-      → k ≡ min (output_len a) (n - w)
-      → take (w + k) (rounds a p s c (r + 1))
-      ≡ take w (rounds a p s c r) ++ take k (xored a p s (r + 1) c)
-  rounds-part p s c k t more ek =
-      let L : ℕ = output_len a in
-      let even = even_rounds a p s c in
-      let whole : w ≡ r * L = omega (arith, t.place) in
-      let next : suc r * L ≡ r * L + L = suc-mul r L in
-      let size : length (rounds a p s c r) ≡ r * L = length-joined_blocks even r in
-      let all : take w (rounds a p s c r) ≡ rounds a p s c r =
-      take_all w (rounds a p s c r) (omega (arith, size)) in
-      let part = joined_blocks-part even r w k (suc r) whole in
-      rw (add-one, all) (part (omega (arith, ek)) (omega (arith, ek, next)))
+  -- a front of the rounds goes on with a part of the next ones
+  rounds-next : {t k : ℕ} (p s : List ℕ) (c : ℕ) → AreNext a n r w t k
+      → take (w + k) (rounds a p s c (r + t))
+      ≡ take w (rounds a p s c r) ++ take k (rounds_after a p s c r t)
+  rounds-next {t = t} {k = k} p s c next =
+      let front : List ℕ = rounds a p s c r in
+      let size : length front ≡ w =
+      length-joined_blocks (even_rounds a p s c) r ∙ sym next.whole in
+      let all : take w front ≡ front = take_all w front (omega (arith, size)) in
+      rw (joined_blocks-append (λ i. xored a p s i c) r t, all, ← size)
+      (take-append-add front (rounds_after a p s c r t) k)
 
   -- all rounds that are needed give the derivation
   rounds-all : (p s : List ℕ) (c : ℕ) → HasReached a n r w → n ≤ w
@@ -136,17 +170,30 @@ run-none key s c n m =
     }
 
 module _ {key : Key} {s : List ℕ} {c n r w pairs : ℕ} {m0 m1 : Counts} where
-  -- one round more, which reaches k bytes more
-  run-next : {m2 : Counts} (k more_pairs : ℕ) → HasRun key s c n r w pairs m0 m1 → w < n
-      → k ≡ min (output_len (key_algorithm key)) (n - w)
-      → m2 ≡ raised m1 (round_blocks key s c) more_pairs
-      → HasRun key s c n (r + 1) (w + k) (pairs + more_pairs) m0 m2
-  run-next k more_pairs t more ek em =
-      let b : ℕ = round_blocks key s c in
+  -- r whole rounds
+  pub run-front : w ≡ r * output_len (key_algorithm key) → w ≤ n
+      → m1 ≡ raised m0 (r * round_blocks key s c) pairs → HasRun key s c n r w pairs m0 m1
+  run-front whole within em =
       record {
-        reached = reached-next k t.reached more ek;
-        cost = em ∙ rw t.cost (raised-raised m0 (r * b) pairs b more_pairs)
-            ∙ ap (λ (z : ℕ). raised m0 z (pairs + more_pairs)) (mul-more r b);
+        reached = record {
+          place = omega (arith, whole);
+          needed = omega (arith, whole, output_len-positive (key_algorithm key));
+        };
+        cost = em;
+      }
+
+  -- t rounds more, which reach k bytes more
+  run-next : {m2 : Counts} {t k : ℕ} (more_pairs : ℕ) → HasRun key s c n r w pairs m0 m1
+      → AreNext (key_algorithm key) n r w t k
+      → m2 ≡ raised m1 (t * round_blocks key s c) more_pairs
+      → HasRun key s c n (r + t) (w + k) (pairs + more_pairs) m0 m2
+  run-next {t = t} more_pairs h next em =
+      let b : ℕ = round_blocks key s c in
+      let sum : r * b + t * b ≡ (r + t) * b = grind arith in
+      record {
+        reached = next.after;
+        cost = em ∙ rw h.cost (raised-raised m0 (r * b) pairs (t * b) more_pairs)
+            ∙ ap (λ (z : ℕ). raised m0 z (pairs + more_pairs)) sum;
       }
 
   run-all : HasRun key s c n r w pairs m0 m1 → n ≤ w
@@ -159,9 +206,28 @@ module _ {key : Key} {s : List ℕ} {c n r w pairs : ℕ} {m0 m1 : Counts} where
 abbrev pub part : (w k : ℕ) → List ℕ → List ℕ
 part w k xs = take k (drop w xs)
 
--- the first n bytes of the round after r rounds
-abbrev pub next_part : (key : Key) (p s : List ℕ) (c r n : ℕ) → List ℕ
-next_part key p s c r n = take n (xored (key_algorithm key) p s (r + 1) c)
+-- the first k bytes of the t rounds after r rounds
+abbrev pub next_part : (key : Key) (p s : List ℕ) (c r t k : ℕ) → List ℕ
+next_part key p s c r t k = take k (rounds_after (key_algorithm key) p s c r t)
+
+-- n bytes of one round, where a part has k
+pub part_of_one : (key : Key) (p s : List ℕ) (c r : ℕ) {n k : ℕ} → n ≡ k
+    → take n (xored (key_algorithm key) p s (r + 1) c) ≡ next_part key p s c r 1 k
+part_of_one key p s c r same = rw (same, one_after (key_algorithm key) p s c r) refl
+
+-- four whole rounds are all that is wanted of them
+pub part_of_four : (key : Key) (p s : List ℕ) (c r : ℕ) {k : ℕ}
+    → k ≡ 4 * output_len (key_algorithm key)
+    → rounds_after (key_algorithm key) p s c r 4 ≡ next_part key p s c r 4 k
+part_of_four key p s c r {k = k} ek =
+    let a : Algorithm = key_algorithm key in
+    let even : IsEven (λ i. xored a p s (r + i) c) (output_len a) =
+    record { each = λ i. length-xored a p s (r + suc i) c } in
+    sym (take_all k _ (omega (arith, length-joined_blocks even 4)))
+
+-- the cost of one round as that of so many
+pub cost_one : (m : Counts) (b pairs : ℕ) → raised m b pairs ≡ raised m (1 * b) pairs
+cost_one m b pairs = ap (λ (z : ℕ). raised m z pairs) (omega arith)
 
 -- r rounds are written to the first w bytes
 pub record HasWritten (key : Key) (s : List ℕ) (c r w : ℕ) (out : List ℕ)
@@ -176,26 +242,24 @@ written-none key s c out m =
     record { run = run-none key s c (length out) m; front = λ p h. refl }
 
 module _ {key : Key} {s : List ℕ} {c r w : ℕ} {out : List ℕ} {m0 m1 : Counts} where
-  -- the next round, or a front of it, is written as ys over k bytes
-  pub written-next : {k end : ℕ} {ys : List ℕ} {m2 : Counts} → HasWritten key s c r w out m0 m1
-      → w < length out → end ≡ w + k → k ≡ min (output_len (key_algorithm key)) (length out - w)
+  -- the next rounds are written as ys over k bytes
+  pub written-next : {t k end : ℕ} {ys : List ℕ} {m2 : Counts} → HasWritten key s c r w out m0 m1
+      → AreNext (key_algorithm key) (length out) r w t k → end ≡ w + k
       → length ys ≡ length (part w k out)
-      → ((p : List ℕ) → KeyStandsFor key p → ys ≡ next_part key p s c r (length (part w k out)))
-      → m2 ≡ raised m1 (round_blocks key s c) 0
-      → HasWritten key s c (r + 1) end (put_mid w k out ys) m0 m2
-  written-next {k = k} {ys = ys} t more ee ek ly h em =
+      → ((p : List ℕ) → KeyStandsFor key p → ys ≡ next_part key p s c r t k)
+      → m2 ≡ raised m1 (t * round_blocks key s c) 0
+      → HasWritten key s c (r + t) end (put_mid w k out ys) m0 m2
+  written-next {k = k} {ys = ys} t next ee ly h em =
       let a : Algorithm = key_algorithm key in
-      let reached = t.run.reached in
-      let room : k ≤ length (drop w out) = rw length-drop (omega (arith, ek)) in
-      let len : length (part w k out) ≡ k = length-take-le k (drop w out) room in
-      let seam : w + k ≡ w + length ys = omega (arith, ly, len) in
-      let below : w ≤ length out = omega arith in
+      let room : w + k ≤ length out = omega (arith, next.after.place) in
+      let seam : w + k ≡ w + length ys = omega (arith, ly, length-part w k out room) in
+      let below : w ≤ length out = omega (arith, room) in
       rw ee record {
-        run = rw (same_len_mid w k out ys ly) (run-next k 0 t.run more ek em);
+        run = rw (same_len_mid w k out ys ly) (run-next 0 t.run next em);
         front = λ p stands. take-put_mid w k out ys (w + k) seam below
             ∙ ap (λ zs. zs ++ ys) (t.front p stands)
-            ∙ ap (λ zs. take w (rounds a p s c r) ++ zs) (rw len at (h p stands))
-            ∙ sym (rounds-part p s c k reached more ek);
+            ∙ ap (λ zs. take w (rounds a p s c r) ++ zs) (h p stands)
+            ∙ sym (rounds-next p s c next);
       }
 
   pub written-all : HasWritten key s c r w out m0 m1 → length out ≤ w
@@ -206,67 +270,6 @@ module _ {key : Key} {s : List ℕ} {c r w : ℕ} {out : List ℕ} {m0 m1 : Coun
         ∙ sym (rounds-all p s c t.run.reached all),
     run-all t.run all,
   )
-
--- the first r rounds are written, each whole
-pub record HasFront (key : Key) (s : List ℕ) (c r : ℕ) (out : List ℕ)
-    (before now : Counts) : Type 0 where
-  pub front : (p : List ℕ) → KeyStandsFor key p
-      → take (r * output_len (key_algorithm key)) out ≡ rounds (key_algorithm key) p s c r
-  pub cost : now ≡ raised before (r * round_blocks key s c) 0
-
-pub front-none : (key : Key) (s : List ℕ) (c : ℕ) (out : List ℕ) (m : Counts)
-    → HasFront key s c 0 out m m
-front-none key s c out m =
-    let a : Algorithm = key_algorithm key in
-    record {
-      front = λ p h. rw (zero-mul (output_len a)) (sym (joined_blocks-none (λ i. xored a p s i c)));
-      cost = (run-none key s c (length out) m).cost;
-    }
-
-module _ {key : Key} {s : List ℕ} {c : ℕ} {out : List ℕ} {m0 m1 : Counts} where
-  -- four rounds more are written as ys over k bytes
-  pub front-four : {ys : List ℕ} {m2 : Counts} {r : ℕ} (w k : ℕ)
-      → w ≡ r * output_len (key_algorithm key) → HasFront key s c r out m0 m1 → w ≤ length out
-      → length ys ≡ 4 * output_len (key_algorithm key)
-      → ((p : List ℕ) → KeyStandsFor key p
-      → ys ≡ joined_blocks (λ i. xored (key_algorithm key) p s (r + i) c) 4)
-      → m2 ≡ raised m1 (4 * iterate_blocks (key_algorithm key) (length s) c) 0
-      → HasFront key s c (r + 4) (put_mid w k out ys) m0 m2
-  front-four {ys = ys} {r = r} w k ew t room ly h em =
-      let a : Algorithm = key_algorithm key in
-      let b : ℕ = round_blocks key s c in
-      let turn : (r + 4) * output_len a ≡ r * output_len a + 4 * output_len a = grind arith in
-      let after : (r + 4) * output_len a ≡ w + length ys = omega (arith, turn, ew, ly) in
-      let sum : r * b + 4 * b ≡ (r + 4) * b = grind arith in
-      record {
-        front = λ p stands.
-            let all : ℕ → List ℕ = rounds a p s c in
-            take-put_mid w k out ys _ after room
-            ∙ ap (λ z. take z out ++ ys) ew ∙ ap (λ zs. zs ++ ys) (t.front p stands)
-            ∙ ap (λ zs. all r ++ zs) (h p stands)
-            ∙ sym (joined_blocks-append (λ i. xored a p s i c) r 4);
-        cost = em ∙ rw t.cost (raised-raised m0 (r * b) 0 (4 * b) 0)
-            ∙ ap (λ (z : ℕ). raised m0 z 0) sum;
-      }
-
-  -- r whole rounds are written
-  pub written-front : {r : ℕ} (w : ℕ) → w ≡ r * output_len (key_algorithm key)
-      → HasFront key s c r out m0 m1 → r * output_len (key_algorithm key) ≤ length out
-      → HasWritten key s c r w out m0 m1
-  written-front {r = r} w ew t fits =
-      let a : Algorithm = key_algorithm key in
-      let long = λ (p : List ℕ). length-joined_blocks (even_rounds a p s c) r in
-      rw ew record {
-        run = record {
-          reached = record {
-            place = omega arith;
-            needed = omega (arith, output_len-positive a);
-          };
-          cost = t.cost;
-        };
-        front = λ p stands.
-            t.front p stands ∙ sym (take_all _ (rounds a p s c r) (omega (arith, long p)));
-      }
 
 both_true : (m k : Bool) → ((m && k) ≡ true) ↔ ((m ≡ true) × (k ≡ true))
 both_true true k = (λ h. (refl, h), λ h. h.1)
@@ -285,36 +288,32 @@ compared-none key s c value m =
     record { run = run-none key s c (length value) m; front = λ p h. (λ e. refl, λ e. refl) }
 
 module _ {key : Key} {s : List ℕ} {c r w : ℕ} {m : Bool} {value : List ℕ} {m0 m1 : Counts} where
-  -- the next round, or a front of it, is compared with k bytes: b says whether they are the same
-  pub compared-next : {k end : ℕ} {b : Bool} {m2 : Counts} → HasCompared key s c r w m value m0 m1
-      → w < length value → end ≡ w + k
-      → k ≡ min (output_len (key_algorithm key)) (length value - w)
+  -- the next rounds are compared with k bytes: b says whether they are the same
+  pub compared-next : {t k end : ℕ} {b : Bool} {m2 : Counts} → HasCompared key s c r w m value m0 m1
+      → AreNext (key_algorithm key) (length value) r w t k → end ≡ w + k
       → ((p : List ℕ) → KeyStandsFor key p
-      → (b ≡ true) ↔ (part w k value ≡ next_part key p s c r (length (part w k value))))
-      → m2 ≡ raised m1 (round_blocks key s c) (length (part w k value))
-      → HasCompared key s c (r + 1) end (m && b) value m0 m2
-  compared-next {k = k} {b = b} t more ee ek h em =
+      → (b ≡ true) ↔ (part w k value ≡ next_part key p s c r t k))
+      → m2 ≡ raised m1 (t * round_blocks key s c) (length (part w k value))
+      → HasCompared key s c (r + t) end (m && b) value m0 m2
+  compared-next {t = t} {k = k} {b = b} h next ee same em =
       let a : Algorithm = key_algorithm key in
-      let reached = t.run.reached in
-      let room : k ≤ length (drop w value) = rw length-drop (omega (arith, ek)) in
-      let len : length (part w k value) ≡ k = length-take-le k (drop w value) room in
-      let below : w ≤ length value = omega arith in
-      let split : (p : List ℕ) → (take (w + k) value ≡ take (w + k) (rounds a p s c (r + 1)))
+      let room : w + k ≤ length value = omega (arith, next.after.place) in
+      let below : w ≤ length value = omega (arith, room) in
+      let split : (p : List ℕ) → (take (w + k) value ≡ take (w + k) (rounds a p s c (r + t)))
       ↔ ((take w value ≡ take w (rounds a p s c r))
-      × (part w k value ≡ next_part key p s c r k)) =
+      × (part w k value ≡ next_part key p s c r t k)) =
       λ (p : List ℕ).
-      same_part value (rounds a p s c (r + 1)) w k below (length-rounds p s c reached)
-      (rounds-part p s c k reached more ek) in
-      let next = rw len at h in
+      same_part value (rounds a p s c (r + t)) w k below (length-rounds p s c h.run.reached)
+      (rounds-next p s c next) in
       rw ee record {
-        run = run-next k k t.run more ek (rw len at em);
+        run = run-next k h.run next (rw (length-part w k value room) at em);
         front = λ p stands. (
           λ e.
               let both = (both_true m b).0 e in
-              (split p).1 ((t.front p stands).0 both.0, (next p stands).0 both.1),
+              (split p).1 ((h.front p stands).0 both.0, (same p stands).0 both.1),
           λ e.
               let both = (split p).0 e in
-              (both_true m b).1 ((t.front p stands).1 both.0, (next p stands).1 both.1),
+              (both_true m b).1 ((h.front p stands).1 both.0, (same p stands).1 both.1),
         );
       }
 
@@ -332,14 +331,6 @@ module _ {key : Key} {s : List ℕ} {c r w : ℕ} {m : Bool} {value : List ℕ} 
         ),
         rw end.0 at (run-all t.run all),
       )
-
--- where there is room for four rounds more, their numbers fit
-pub rounds_fit : (r w l n : ℕ) → 0 < l → w ≡ r * l → w + 4 * l ≤ n → n ≤ (2 ^ 32 - 1) * l
-    → r + 4 < 2 ^ 32
-rounds_fit r w l n some ew room most =
-    let turn : (r + 4) * l ≡ r * l + 4 * l = grind arith in
-    let below : (r + 4) * l ≤ (2 ^ 32 - 1) * l = omega (arith, turn, ew) in
-    omega (arith, le_of_mul-le-mul_right below some)
 
 -- a lane's bytes lie within those of four
 pub lane_room : (l i : ℕ) → i < 4 → i * l + l ≤ 4 * l

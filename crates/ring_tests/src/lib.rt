@@ -28,3 +28,5 @@ mod rand;
 mod several;
 #[cfg(test)]
 mod texts;
+#[cfg(test)]
+mod verified_rounds;

@@ -1,7 +1,7 @@
 //! Four rounds at a time, of words of 32 bits.
 
 ghost use Rattle.std.specs.Prelude.{◌≡◌, ℕ, ◌+◌, ◌-◌, ◌*◌, ◌^◌, ◌<◌, ◌≤◌};
-ghost use Rattle.std.specs.Prelude.{List, IfSome, length, take};
+ghost use Rattle.std.specs.Prelude.{◌↔◌, List, IfNone, IfSome, IsTrue, length, take};
 ghost use Rattle.std.specs.Int.NonZero.{non_zero_u32_get};
 ghost use Rattle.ring_core.specs.Cost.{raised};
 ghost use Rattle.ring_core.specs.Lane.{words_of_lane};
@@ -9,16 +9,18 @@ ghost use Rattle.ring_core.specs.Sha2.{words_32};
 ghost use Rattle.ring.specs.Algorithm.{output_len, word_len};
 ghost use Rattle.ring.specs.Cost.{iterate_blocks, padded_blocks};
 ghost use Rattle.ring.specs.Hmac.{KeyStandsFor, key_algorithm};
-ghost use Rattle.ring.specs.Lanes.{IsKeyInLane, digest_bytes};
+ghost use Rattle.ring.specs.Lanes.{IsKeyInLanes, digest_bytes};
 ghost use Rattle.ring.specs.Limits.{IsTagWithin};
 ghost use Rattle.ring.specs.Pbkdf2.{iterate, xored};
 ghost use Rattle.ring.specs.Pieces.{joined_blocks};
 ghost use Rattle.ring.specs.State.{word_bytes};
 
+use crate::digest::algorithm::SHA256_OUTPUT_LEN;
 use crate::digest::dynstate::{DynState, short_output, short_state};
 use crate::hmac::Key;
 use crate::pbkdf2::iterates::{bytes_of, first_iterate};
 use crate::pbkdf2::sums::four_sums;
+use ring_core::bb::verify_slices_are_equal_counted;
 use ring_core::cost::Meter;
 use ring_core::digest::four::FourStates;
 use ring_core::digest::sha2::State32;
@@ -31,18 +33,21 @@ struct FourKey {
     outer: FourStates,
 }
 
-// The key in four lanes, where its words have 32 bits.
-fn four_key(key: &Key) -> Option<FourKey>
-    ensures stands { IfSome result (λ four. (l : ℕ) (p : List ℕ) → KeyStandsFor key.now p
-        → IsKeyInLane (key_algorithm key.now)
-        (words_of_lane l four.inner) (words_of_lane l four.outer) p) }
+// The key in four lanes, where its words have 32 bits and `len` bytes have room for four rounds.
+fn four_key(key: &Key, len: usize) -> Option<FourKey>
+    ensures stands { IfSome result (λ four. IsKeyInLanes key.now four.inner four.outer) }
     ensures size { IfSome result (λ four. word_len (key_algorithm key.now) ≡ 4) }
+    ensures none { IfNone result (word_len (key_algorithm key.now) ≡ 4
+        → len < 4 * output_len (key_algorithm key.now)) }
 {
+    if len < 4 * key.algorithm().digest_algorithm().output_len() {
+        return None;
+    }
     let DynState::As32(inner) = key.inner.state else {
         return None;
     };
     let DynState::As32(outer) = key.outer.state else {
-        return None;
+        unreachable!()
     };
     Some(FourKey {
         inner: FourStates::splat(&inner),
@@ -92,9 +97,7 @@ fn four_rounds(
     meter: &mut Meter,
 ) -> FourStates
     requires size { word_len (key_algorithm key.now) ≡ 4 }
-    requires four { (l : ℕ) (p : List ℕ) → KeyStandsFor key.now p
-        → IsKeyInLane (key_algorithm key.now)
-        (words_of_lane l four.now.inner) (words_of_lane l four.now.outer) p }
+    requires four { IsKeyInLanes key.now four.now.inner four.now.outer }
     requires within { IsTagWithin (key_algorithm key.now) (length salt.now + 4) }
     requires numbers { before + 4 < 2 ^ 32 }
     ensures ok { (p : List ℕ) (i : ℕ) → KeyStandsFor key.now p → i < 4
@@ -134,6 +137,61 @@ fn put_rounds(out: &mut [u8], sums: &FourStates, output_len: usize)
     }
 }
 
+// Makes `out` the four rounds that come after `before` others.
+fn write_four_rounds(
+    key: &Key,
+    four: &FourKey,
+    iterations: NonZeroU32,
+    salt: &[u8],
+    before: u32,
+    out: &mut [u8],
+    meter: &mut Meter,
+)
+    requires size { word_len (key_algorithm key.now) ≡ 4 }
+    requires four { IsKeyInLanes key.now four.now.inner four.now.outer }
+    requires within { IsTagWithin (key_algorithm key.now) (length salt.now + 4) }
+    requires numbers { before + 4 < 2 ^ 32 }
+    requires room { length out.old ≡ 4 * output_len (key_algorithm key.now) }
+    ensures ok { (p : List ℕ) → KeyStandsFor key.now p → out.new
+        ≡ joined_blocks (λ i. xored (key_algorithm key.now) p salt.now (before + i)
+        (non_zero_u32_get iterations)) 4 }
+    ensures cost { meter.new ≡ raised meter.old (4
+        * iterate_blocks (key_algorithm key.now) (length salt.now) (non_zero_u32_get iterations))
+        0 }
+{
+    let output_len = key.algorithm().digest_algorithm().output_len();
+    let rounds = four_rounds(key, four, iterations, salt, before, meter);
+    put_rounds(out, &rounds, output_len);
+}
+
+// Whether `part` is the four rounds that come after `before` others.
+fn are_four_rounds(
+    key: &Key,
+    four: &FourKey,
+    iterations: NonZeroU32,
+    salt: &[u8],
+    before: u32,
+    part: &[u8],
+    meter: &mut Meter,
+) -> bool
+    requires size { word_len (key_algorithm key.now) ≡ 4 }
+    requires four { IsKeyInLanes key.now four.now.inner four.now.outer }
+    requires within { IsTagWithin (key_algorithm key.now) (length salt.now + 4) }
+    requires numbers { before + 4 < 2 ^ 32 }
+    requires room { length part.now ≡ 4 * output_len (key_algorithm key.now) }
+    ensures ok { (p : List ℕ) → KeyStandsFor key.now p → IsTrue result ↔ (part.now
+        ≡ joined_blocks (λ i. xored (key_algorithm key.now) p salt.now (before + i)
+        (non_zero_u32_get iterations)) 4) }
+    ensures cost { meter.new ≡ raised meter.old (4
+        * iterate_blocks (key_algorithm key.now) (length salt.now) (non_zero_u32_get iterations))
+        (length part.now) }
+{
+    let mut buffer = [0; 4 * SHA256_OUTPUT_LEN];
+    let made = &mut buffer[..part.len()];
+    write_four_rounds(key, four, iterations, salt, before, made, meter);
+    verify_slices_are_equal_counted(made, part, meter).is_ok()
+}
+
 // Makes the front of `out` the first rounds, four at a time as long as there is room for four whole
 // ones, and gives how many these are, and their bytes: none where words have 64 bits.
 pub(crate) fn write_fours(
@@ -148,30 +206,68 @@ pub(crate) fn write_fours(
     requires rounds { length out.old ≤ (2 ^ 32 - 1) * output_len (key_algorithm key.now) }
     ensures within { result.1 ≤ length out.old }
     ensures sized { result.1 ≡ result.0 * output_len (key_algorithm key.now) }
-    ensures ok { (p : List ℕ) → KeyStandsFor key.now p
-        → take (result.0 * output_len (key_algorithm key.now)) out.new
-        ≡ joined_blocks (λ i. xored (key_algorithm key.now) p salt.now i
-        (non_zero_u32_get iterations)) result.0 }
+    ensures most { word_len (key_algorithm key.now) ≡ 4
+        → length out.old < result.1 + 4 * output_len (key_algorithm key.now) }
+    ensures ok { (p : List ℕ) → KeyStandsFor key.now p → take result.1 out.new
+        ≡ take result.1 (joined_blocks (λ i. xored (key_algorithm key.now) p salt.now i
+        (non_zero_u32_get iterations)) result.0) }
     ensures cost { meter.new ≡ raised meter.old (result.0
         * iterate_blocks (key_algorithm key.now) (length salt.now) (non_zero_u32_get iterations))
         0 }
 {
-    let output_len = key.algorithm().digest_algorithm().output_len();
-    let four_len = 4 * output_len;
-    if out.len() < four_len {
-        return (0, 0);
-    }
-    let Some(four) = four_key(key) else {
+    let Some(four) = four_key(key, out.len()) else {
         return (0, 0);
     };
+    let four_len = 4 * key.algorithm().digest_algorithm().output_len();
     let mut number = 0;
     let mut written = 0;
     'fours: while four_len <= out.len() - written {
-        let rounds = four_rounds(key, &four, iterations, salt, number, meter);
         let end = written + four_len;
-        put_rounds(&mut out[written..end], &rounds, output_len);
+        let part = &mut out[written..end];
+        write_four_rounds(key, &four, iterations, salt, number, part, meter);
         number += 4;
         written = end;
     }
     (number, written)
+}
+
+// Compares the front of `value` with the first rounds, of which it makes as many as `write_fours`,
+// and gives how many these are, their bytes, and whether all of them are the same.
+pub(crate) fn are_fours(
+    key: &Key,
+    iterations: NonZeroU32,
+    salt: &[u8],
+    value: &[u8],
+    meter: &mut Meter,
+) -> (u32, usize, bool)
+    requires salt { 0 < length value.now
+        → IsTagWithin (key_algorithm key.now) (length salt.now + 4) }
+    requires rounds { length value.now ≤ (2 ^ 32 - 1) * output_len (key_algorithm key.now) }
+    ensures within { result.1 ≤ length value.now }
+    ensures sized { result.1 ≡ result.0 * output_len (key_algorithm key.now) }
+    ensures most { word_len (key_algorithm key.now) ≡ 4
+        → length value.now < result.1 + 4 * output_len (key_algorithm key.now) }
+    ensures ok { (p : List ℕ) → KeyStandsFor key.now p → IsTrue result.2 ↔ (take result.1 value.now
+        ≡ take result.1 (joined_blocks (λ i. xored (key_algorithm key.now) p salt.now i
+        (non_zero_u32_get iterations)) result.0)) }
+    ensures cost { meter.new ≡ raised meter.old (result.0
+        * iterate_blocks (key_algorithm key.now) (length salt.now) (non_zero_u32_get iterations))
+        result.1 }
+{
+    let Some(four) = four_key(key, value.len()) else {
+        return (0, 0, true);
+    };
+    let four_len = 4 * key.algorithm().digest_algorithm().output_len();
+    let mut number = 0;
+    let mut checked = 0;
+    let mut matches = true;
+    'fours: while four_len <= value.len() - checked {
+        let end = checked + four_len;
+        let part = &value[checked..end];
+        // No early end: four that differ are followed by the others.
+        matches &= are_four_rounds(key, &four, iterations, salt, number, part, meter);
+        number += 4;
+        checked = end;
+    }
+    (number, checked, matches)
 }

@@ -15,7 +15,7 @@ use crate::digest::dynstate::{
     DynState, Output, long_output, long_state, short_output, short_state,
 };
 use crate::hmac::{Key, Tag};
-use crate::pbkdf2::four::write_fours;
+use crate::pbkdf2::four::{are_fours, write_fours};
 use crate::pbkdf2::iterates::{bytes_of, first_iterate};
 use crate::pbkdf2::sums::{long_sum, short_sum};
 use ring_core::bb::verify_slices_are_equal_counted;
@@ -127,7 +127,7 @@ pub(crate) fn write_rounds(
     }
 }
 
-// Whether `value` is the first bytes of all rounds, one after another.
+// Whether `value` is the first bytes of all rounds, which are made as `write_rounds` makes them.
 pub(crate) fn are_rounds(
     key: &Key,
     iterations: NonZeroU32,
@@ -148,9 +148,7 @@ pub(crate) fn are_rounds(
 {
     let algorithm = key.algorithm().digest_algorithm();
     let output_len = algorithm.output_len();
-    let mut matches = true;
-    let mut number = 0;
-    let mut checked = 0;
+    let (mut number, mut checked, mut matches) = are_fours(key, iterations, salt, value, meter);
     'rounds: while checked < value.len() {
         let end = checked + output_len.min(value.len() - checked);
         number += 1;

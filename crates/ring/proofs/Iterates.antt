@@ -5,12 +5,11 @@ use Rattle.std.proofs.lemmas.List.{length-replicate}
 use Rattle.std.specs.Int.{bytes_high_first}
 use Rattle.ring_core.specs.Bytes.{xor_lists}
 use Rattle.ring_core.specs.Cost.{Counts, raised}
-use Rattle.ring_core.specs.Word.{◌⊕◌}
 use Rattle.ring_core.proofs.Costs.{raised-none, raised-raised}
 use Rattle.ring.specs.Algorithm.{output_len}
 use Rattle.ring.specs.Cost.{iterate_blocks, padded_blocks}
 use Rattle.ring.specs.Hmac.{hmac_of}
-use Rattle.ring.specs.Lanes.{IsKeyInLane, digest_bytes}
+use Rattle.ring.specs.Lanes.{digest_bytes}
 use Rattle.ring.specs.Pbkdf2.{iterate, xored}
 use Rattle.ring.specs.declared.digest.algorithm.Algorithm.{Algorithm}
 use Rattle.ring.proofs.Keys.{length-hmac_of}
@@ -78,16 +77,6 @@ module _ {a : Algorithm} {p s : List ℕ} {i : ℕ} where
         sum = ap (digest_bytes a) e ∙ digest_bytes-xor a sum last'
             ∙ rw (t.sum, next) (sym (xored-next a p s i j));
       }
-
--- under the key of a lane, the words `all` are the exclusive or of c iterates from `first` on
-abbrev pub AreSummed : (a : Algorithm) (inner outer first all : List ℕ) (c : ℕ) → Type 0
-AreSummed a inner outer first all c =
-    (p s : List ℕ) (i : ℕ) → IsKeyInLane a inner outer p → digest_bytes a first ≡ iterate a p s i 1
-    → digest_bytes a all ≡ xored a p s i c
-
-pub summed_same : {a b : Algorithm} {inner outer : List ℕ} (first all : List ℕ) (c : ℕ) → a ≡ b
-    → AreSummed b inner outer first all c → AreSummed a inner outer first all c
-summed_same first all c same t = rw same t
 
 -- the cost of no iterate but the first, in n lanes
 pub cost_first : (m : Counts) (n : ℕ) → m ≡ raised m (n * (2 * (1 - 1))) 0

@@ -32,7 +32,8 @@ use Rattle.ring.proofs.Tails.{padded-append}
 -- no block
 pub words_at-none : (a : Algorithm) (m : List ℕ) → words_at a m 0 ≡ initial_words a
 unfolding words_at
-words_at-none a m = fold_chunks-none _ _ _ _
+words_at-none a m =
+    fold_chunks-none (block_function a) (block_len a) (initial_words a) (padded a m)
 
 -- one block more
 pub words_at-next : (a : Algorithm) (m block : List ℕ) (k : ℕ) → block_len a ≡ 64

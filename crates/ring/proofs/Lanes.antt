@@ -1,14 +1,17 @@
 -- Messages of a digest's length in lanes, signed by one block after each masked block of the key.
 use Rattle.std.proofs.Common.{◌≡◌, ℕ, ◌+◌, ◌-◌, ◌*◌, ◌/◌, ◌≤◌, List, ◌∷◌, ◌++◌, length, take}
 use Rattle.std.proofs.Common.{drop, replicate, refl, sym, ap, ◌∙◌, arith, length-append}
-use Rattle.std.proofs.Common.{append_assoc, length-take-le, take_all, zero-mul}
-use Rattle.std.proofs.lemmas.List.{length-replicate, take-append-drop, take-append-le}
+use Rattle.std.proofs.Common.{append_assoc, length-take-le, mod-lt, pow_pos, take_all, zero-mul}
+use Rattle.std.proofs.Common.{◌%◌, ◌^◌}
+use Rattle.std.proofs.lemmas.List.{length-map, length-replicate, take-append-drop, take-append-le}
 use Rattle.std.proofs.lemmas.List.{take-take}
 use Rattle.std.proofs.lemmas.List.Concat.{flat_map-append}
 use Rattle.std.proofs.Math.Nat.{div_self, mod_self}
 use Rattle.std.specs.Int.{bytes_high_first}
+use Rattle.std.specs.declared.num.Wrapping.{Wrapping}
 use Rattle.ring_core.specs.Chunks.{fold_chunks}
 use Rattle.ring_core.specs.Cost.{Counts, raised}
+use Rattle.ring_core.specs.Schedule.{IsBlockOf}
 use Rattle.ring_core.specs.Sha2.{block_step, family_256}
 use Rattle.ring_core.proofs.Sha2Steps.{length-block_step}
 use Rattle.ring_core.proofs.ChunkFolds.{fold_chunks-next, fold_chunks-none}
@@ -31,6 +34,7 @@ use Rattle.ring.proofs.Lengths.{length-words_after}
 use Rattle.ring.proofs.Outputs.{length-bytes_high_first, length-word_bytes}
 use Rattle.ring.proofs.Rows.{block_len-positive, eight_words, output_len-most}
 use Rattle.ring.proofs.Tails.{padded-append}
+use Rattle.ring.proofs.Words.{ArePadding, padded-words, values}
 
 -- four rises by b blocks each
 pub cost_four : (m0 : Counts) {m1 m2 m3 m4 : Counts} (b : ℕ) → m1 ≡ raised m0 b 0
@@ -63,6 +67,21 @@ pub all_ran : (old new x : List ℕ) → length old ≡ 8
 all_ran old new x lo e =
     all_run (block_step family_256) old new x lo
     (ap length e ∙ length-block_step family_256 old x) e
+
+-- the run over a digest's words and their padding, where all eight words chain
+pub padded_run : {a : Algorithm} {w k : ℕ} {padding : List (Wrapping ℕ)}
+    (step : List ℕ → List ℕ → List ℕ) (old new digest : List (Wrapping ℕ))
+    → ArePadding a w k padding → (length old ≡ 8) × ((length new ≡ 8) × (length digest ≡ 8))
+    → ((block : List ℕ) → IsBlockOf w k (values w digest) (values w padding) block
+    → values w new ≡ step (values w old) block)
+    → take 8 (values w new)
+    ≡ step (take 8 (values w old)) (digest_bytes a (values w digest) ++ prepared_padding a)
+padded_run {w = w} step old new digest t eights run =
+    let value = λ (x : Wrapping ℕ). x.0 % 2 ^ w in
+    all_run step (values w old) (values w new) _ (length-map old value ∙ eights.0)
+    (length-map new value ∙ eights.1.0)
+    (run _ (padded-words value digest t (length-map digest value ∙ eights.1.1)
+    (λ x. mod-lt _ (pow_pos w))))
 
 -- a digest and its padding are one block long
 length-padded : (a : Algorithm) (m : List ℕ) → length m ≡ output_len a

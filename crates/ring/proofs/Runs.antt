@@ -7,7 +7,7 @@ use Rattle.ring_core.specs.Chunks.{fold_chunks}
 use Rattle.ring_core.specs.Sha1 as sha1
 use Rattle.ring_core.specs.Sha2 as sha2
 use Rattle.ring_core.proofs.ChunkFolds.{fold_chunks-append}
-use Rattle.ring.specs.Algorithm.{block_function_of_id, block_len, row_of}
+use Rattle.ring.specs.Algorithm.{block_function_of_id, row_of}
 use Rattle.ring.specs.Algorithm.{word_count}
 use Rattle.ring.specs.Digest.{blocks_from}
 use Rattle.ring.specs.State.{chaining_words, words}

@@ -1,5 +1,5 @@
 -- Bytes of words: which words they write, and what an exclusive or of words does to them.
-use Rattle.std.proofs.Common.{◌≡◌, ℕ, zero, suc, ◌+◌, ◌-◌, ◌*◌, ◌/◌, ◌%◌, ◌^◌, ◌<◌, ◌≤◌, min, List}
+use Rattle.std.proofs.Common.{◌≡◌, ℕ, zero, suc, ◌+◌, ◌*◌, ◌/◌, ◌%◌, ◌^◌, ◌<◌, ◌≤◌, min, List}
 use Rattle.std.proofs.Common.{[], ◌∷◌, ◌++◌, length, map, take, drop, slice_index, refl, sym, ap}
 use Rattle.std.proofs.Common.{◌∙◌, arith, inl, inr, length-append, length-drop, length-take-le}
 use Rattle.std.proofs.Common.{mod-lt, pow_pos, suc-mul, take-add, zero-mul}
@@ -172,25 +172,28 @@ take-word_bytes n k ws room =
     ∙ ap (take (k * n)) (flat_map-append (bytes_high_first n) (take k ws) (drop k ws))
     ∙ take_at front (word_bytes n (drop k ws)) (k * n) long
 
+-- the numbers that words of w bits stand for
+abbrev pub values : (w : ℕ) → List (Wrapping ℕ) → List ℕ
+values w words = map (λ x. x.0 % 2 ^ w) words
+
 -- what is known of the words of w bits that pad a digest of k words
 pub record ArePadding (a : Algorithm) (w k : ℕ) (padding : List (Wrapping ℕ)) : Type 0 where
-  pub size : w / 8 ≡ word_len a
   pub bits : w ≡ 8 * word_len a
   pub digest : output_len a ≡ k * word_len a
   pub room : k ≤ 8
   pub sixteen : length padding ≡ 16
-  pub bytes : word_bytes (word_len a) (drop k (map (λ x. x.0 % 2 ^ w) padding)) ≡ prepared_padding a
+  pub bytes : word_bytes (word_len a) (drop k (values w padding)) ≡ prepared_padding a
 
 -- with them, the words of a lane make a block
 pub padded-words : {X : Type 0} {a : Algorithm} {w k : ℕ} {padding : List (Wrapping ℕ)}
     (f : X → ℕ) (xs : List X) → ArePadding a w k padding → length (map f xs) ≡ 8
     → ((x : X) → f x < 2 ^ w)
-    → IsBlockOf w k (map f xs) (map (λ x. x.0 % 2 ^ w) padding)
+    → IsBlockOf w k (map f xs) (values w padding)
     (digest_bytes a (map f xs) ++ prepared_padding a)
 padded-words {a = a} {w = w} {k = k} {padding = padding} f xs t eight each =
     let n : ℕ = word_len a in
     let ws : List ℕ = map f xs in
-    let vs : List ℕ = map (λ (x : Wrapping ℕ). x.0 % 2 ^ w) padding in
+    let vs : List ℕ = values w padding in
     let all : List ℕ = take k ws ++ drop k vs in
     let sixteen : length vs ≡ 16 = length-map padding _ ∙ t.sixteen in
     let room : k ≤ length ws = omega (arith, t.room, eight) in
@@ -208,8 +211,9 @@ padded-words {a = a} {w = w} {k = k} {padding = padding} f xs t eight each =
     flat_map-append (bytes_high_first n) (take k ws) (drop k vs)
     ∙ ap (λ z. z ++ word_bytes n (drop k vs)) front
     ∙ ap (λ z. digest_bytes a ws ++ z) t.bytes in
+    let size : w / 8 ≡ n = omega (arith, t.bits) in
     record {
-      word = λ j below. block-words w n all j t.size (omega (arith, long)) fits
+      word = λ j below. block-words w n all j size (omega (arith, long)) fits
           ∙ ap (λ z. word_at w z j) block;
     }
 

@@ -13,102 +13,39 @@ use ring_core::digest::sha2::{
 use ring_core::digest::word::Word;
 use std::num::Wrapping;
 
+// Words as plain numbers.
+macro_rules! words {
+    ($($word:expr),*) => {
+        [$(Wrapping($word)),*]
+    };
+}
+
+// The bit behind a message, as the highest of a word.
+const END_32: u32 = 1 << 31;
+
+const END_64: u64 = 1 << 63;
+
 // The paddings stand behind room for the words of a digest, and end with the bits of the key's
 // block and of the digest.
 
-pub(crate) const SHA1_PADDING: [Wrapping<u32>; 16] = [
-    Wrapping(0),
-    Wrapping(0),
-    Wrapping(0),
-    Wrapping(0),
-    Wrapping(0),
-    Wrapping(0x80000000),
-    Wrapping(0),
-    Wrapping(0),
-    Wrapping(0),
-    Wrapping(0),
-    Wrapping(0),
-    Wrapping(0),
-    Wrapping(0),
-    Wrapping(0),
-    Wrapping(0),
-    Wrapping(672),
+pub(crate) const SHA1_PADDING: [Wrapping<u32>; 16] = words![
+    0, 0, 0, 0, 0, END_32, 0, 0, 0, 0, 0, 0, 0, 0, 0, 672
 ];
 
-pub(crate) const SHA256_PADDING: [Wrapping<u32>; 16] = [
-    Wrapping(0),
-    Wrapping(0),
-    Wrapping(0),
-    Wrapping(0),
-    Wrapping(0),
-    Wrapping(0),
-    Wrapping(0),
-    Wrapping(0),
-    Wrapping(0x80000000),
-    Wrapping(0),
-    Wrapping(0),
-    Wrapping(0),
-    Wrapping(0),
-    Wrapping(0),
-    Wrapping(0),
-    Wrapping(768),
+pub(crate) const SHA256_PADDING: [Wrapping<u32>; 16] = words![
+    0, 0, 0, 0, 0, 0, 0, 0, END_32, 0, 0, 0, 0, 0, 0, 768
 ];
 
-const SHA384_PADDING: [Wrapping<u64>; 16] = [
-    Wrapping(0),
-    Wrapping(0),
-    Wrapping(0),
-    Wrapping(0),
-    Wrapping(0),
-    Wrapping(0),
-    Wrapping(0x8000000000000000),
-    Wrapping(0),
-    Wrapping(0),
-    Wrapping(0),
-    Wrapping(0),
-    Wrapping(0),
-    Wrapping(0),
-    Wrapping(0),
-    Wrapping(0),
-    Wrapping(1408),
+const SHA384_PADDING: [Wrapping<u64>; 16] = words![
+    0, 0, 0, 0, 0, 0, END_64, 0, 0, 0, 0, 0, 0, 0, 0, 1408
 ];
 
-const SHA512_PADDING: [Wrapping<u64>; 16] = [
-    Wrapping(0),
-    Wrapping(0),
-    Wrapping(0),
-    Wrapping(0),
-    Wrapping(0),
-    Wrapping(0),
-    Wrapping(0),
-    Wrapping(0),
-    Wrapping(0x8000000000000000),
-    Wrapping(0),
-    Wrapping(0),
-    Wrapping(0),
-    Wrapping(0),
-    Wrapping(0),
-    Wrapping(0),
-    Wrapping(1536),
+const SHA512_PADDING: [Wrapping<u64>; 16] = words![
+    0, 0, 0, 0, 0, 0, 0, 0, END_64, 0, 0, 0, 0, 0, 0, 1536
 ];
 
-const SHA512_256_PADDING: [Wrapping<u64>; 16] = [
-    Wrapping(0),
-    Wrapping(0),
-    Wrapping(0),
-    Wrapping(0),
-    Wrapping(0x8000000000000000),
-    Wrapping(0),
-    Wrapping(0),
-    Wrapping(0),
-    Wrapping(0),
-    Wrapping(0),
-    Wrapping(0),
-    Wrapping(0),
-    Wrapping(0),
-    Wrapping(0),
-    Wrapping(0),
-    Wrapping(1280),
+const SHA512_256_PADDING: [Wrapping<u64>; 16] = words![
+    0, 0, 0, 0, END_64, 0, 0, 0, 0, 0, 0, 0, 0, 0, 0, 1280
 ];
 
 // The exclusive or of the words of two states.

@@ -1,4 +1,4 @@
-use Rattle.std.proofs.Common.{◌≡◌, ◌∙◌, ◌+◌, ◌-◌, ◌*◌, ◌≤◌, ap, arith, length, sym, zero-mul}
+use Rattle.std.proofs.Common.{◌≡◌, ◌∙◌, ◌+◌, ◌-◌, ◌*◌, ◌≤◌, arith, length, sym, zero-mul}
 use Rattle.std.specs.Int.NonZero.{non_zero_u32_get}
 use Rattle.ring.specs.Algorithm.{output_len}
 use Rattle.ring.specs.Hmac.{key_algorithm}
@@ -23,18 +23,17 @@ fours-preserved c =
     let key = c.args.key.now in
     let s = c.args.salt.now in
     let iterations = non_zero_u32_get c.args.iterations in
-    let number = c.fours.number in
     let w = c.fours.checked in
+    let r = c.fours.number in
     let k = w + 4 * c.output_len-four_len.result - w in
-    let len : c.output_len-four_len.result ≡ output_len (key_algorithm key) =
-    c.output_len-four_len.ensures
-    ∙ ap output_len (c.digest_algorithm.ensures ∙ c.algorithm.ensures) in
-    let four : k ≡ 4 * output_len (key_algorithm key) = omega (arith, len) in
+    let algorithm = c.digest_algorithm.ensures ∙ c.algorithm.ensures in
+    let four : k ≡ 4 * output_len (key_algorithm key) =
+    rw (c.output_len-four_len.ensures, algorithm) (omega arith) in
     let room : w + k ≤ length c.args.value.now = omega (arith, c.fours-test.true) in
     let step = next-four k c.fours.invariant.0 four room in
     let made = c.are_four_rounds-matches.ensures in (
       omega (arith, step.1),
       compared-next c.fours.invariant.1 step.0 (omega arith)
-          (λ p stands. rw (part_of_four key p s iterations number four) at (made.ok p stands))
+          (λ p stands. rw (part_of_four key p s iterations r four) at (made.ok p stands))
           made.cost,
     )

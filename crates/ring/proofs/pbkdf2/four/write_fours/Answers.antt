@@ -1,4 +1,4 @@
-use Rattle.std.proofs.Common.{◌≡◌, ◌∙◌, ◌+◌, ◌-◌, ◌*◌, ◌≤◌, ap, arith, length, sym, zero-mul}
+use Rattle.std.proofs.Common.{◌≡◌, ◌∙◌, ◌+◌, ◌-◌, ◌*◌, ◌≤◌, arith, length, sym, zero-mul}
 use Rattle.std.specs.Int.NonZero.{non_zero_u32_get}
 use Rattle.ring.specs.Algorithm.{output_len}
 use Rattle.ring.specs.Hmac.{key_algorithm}
@@ -23,17 +23,16 @@ fours-preserved c =
     let key = c.args.key.now in
     let s = c.args.salt.now in
     let iterations = non_zero_u32_get c.args.iterations in
-    let number = c.fours.number in
     let w = c.fours.written in
+    let r = c.fours.number in
     let k = w + 4 * c.output_len-four_len.result - w in
-    let len : c.output_len-four_len.result ≡ output_len (key_algorithm key) =
-    c.output_len-four_len.ensures
-    ∙ ap output_len (c.digest_algorithm.ensures ∙ c.algorithm.ensures) in
-    let four : k ≡ 4 * output_len (key_algorithm key) = omega (arith, len) in
+    let algorithm = c.digest_algorithm.ensures ∙ c.algorithm.ensures in
+    let four : k ≡ 4 * output_len (key_algorithm key) =
+    rw (c.output_len-four_len.ensures, algorithm) (omega arith) in
     let room : w + k ≤ length c.fours.out = omega (arith, c.fours-test.true) in
     let step = next-four k c.fours.invariant.0 four room in
     let made = c.write_four_rounds.ensures in (
       omega (arith, step.1),
       written-next c.fours.invariant.1 step.0 (omega arith) c.write_four_rounds.auto.out
-          (λ p stands. made.ok p stands ∙ part_of_four key p s iterations number four) made.cost,
+          (λ p stands. made.ok p stands ∙ part_of_four key p s iterations r four) made.cost,
     )

@@ -1,4 +1,4 @@
-use Rattle.std.proofs.Common.{◌≡◌, ◌∙◌, IsTrue, length, rules, sym}
+use Rattle.std.proofs.Common.{◌≡◌, ◌∙◌, IsTrue, length, rules}
 use Rattle.std.proofs.lemmas.List.{length-map}
 use Rattle.ring_core.specs.Sha2.{words_32, words_64}
 use Rattle.ring.specs.Algorithm.{word_len}
@@ -7,7 +7,6 @@ use Rattle.ring.specs.Lanes.{digest_bytes}
 use Rattle.ring.specs.Pbkdf2.{iterate}
 use Rattle.ring.specs.State.{is_state_of}
 use Rattle.ring.specs.declared.digest.dynstate.DynState.TheVariants.{As32, As64}
-use Rattle.ring.proofs.Iterates.{summed_same}
 use Rattle.ring.proofs.Lanes.{digest_read, digest_written, key_in_lane}
 use Rattle.ring.proofs.pbkdf2.rounds.round_from.Goals as goal
 
@@ -27,9 +26,9 @@ returns-in-As64-state-clause-ok c = λ p s i stands h.
     let eight : length c.long_sum.result ≡ 8 = search rules in
     let count : length (words_64 c.long_sum.result) ≡ 8 =
     length-map c.long_sum.result _ ∙ eight in
+    let summed = rw same at c.long_sum.ensures.ok in
     digest_written a (words_64 c.long_sum.result) _ size count c.long_output.ensures
-    ∙ summed_same _ _ _ (sym same) c.long_sum.ensures.ok p s i
-    (key_in_lane key p c.in-As64.is c.in-As64-state.is stands) first
+    ∙ summed p s i (key_in_lane key p c.in-As64.is c.in-As64-state.is stands) first
 
 pub returns-in-As32-state-clause-ok : goal.returns-in-As32-state-clause-ok
 returns-in-As32-state-clause-ok c = λ p s i stands h.
@@ -47,6 +46,6 @@ returns-in-As32-state-clause-ok c = λ p s i stands h.
     let eight : length c.short_sum.result ≡ 8 = search rules in
     let count : length (words_32 c.short_sum.result) ≡ 8 =
     length-map c.short_sum.result _ ∙ eight in
+    let summed = rw same at c.short_sum.ensures.ok in
     digest_written a (words_32 c.short_sum.result) _ size count c.short_output.ensures
-    ∙ summed_same _ _ _ (sym same) c.short_sum.ensures.ok p s i
-    (key_in_lane key p c.in-As32.is c.in-As32-state.is stands) first
+    ∙ summed p s i (key_in_lane key p c.in-As32.is c.in-As32-state.is stands) first

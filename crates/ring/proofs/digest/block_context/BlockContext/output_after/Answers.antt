@@ -1,5 +1,4 @@
-use Rattle.std.proofs.Common.{IsTrue, ◌≡◌, length}
-use Rattle.ring.specs.Algorithm.{block_len}
+use Rattle.std.proofs.Common.{IsTrue, ◌≡◌}
 use Rattle.ring.specs.Digest.{blocks_from}
 use Rattle.ring.specs.State.{chaining_words, is_state_of}
 use Rattle.ring.specs.declared.digest.dynstate.DynState.TheVariants.{As32, As64}

@@ -120,24 +120,28 @@ module _ {a : Algorithm} {messages : List (Bor (List ℕ))} {before now : Counts
             ∙ ap (λ (z : ℕ). raised before z 0) sum;
       }
 
+-- the message at a place of some of the messages
+pub message_at-part : (messages : List (Bor (List ℕ))) (i k j : ℕ) → j < k
+    → message_at (take k (drop i messages)) j ≡ message_at messages (i + j)
+message_at-part messages i k j below =
+    let none : Bor (List ℕ) = record { ref_ptr = (0, 0); now = [] } in
+    message-read (take k (drop i messages)) j
+    ∙ ap (λ (m : Bor (List ℕ)). m.now) (get_or-take k (drop i messages) j none below
+    ∙ get_or-drop i messages j none)
+    ∙ sym (message-read messages (i + j))
+
 -- some of the messages can be digested where all can
 pub can-part : {n : ℕ} (a : Algorithm) (messages : List (Bor (List ℕ))) (i k : ℕ)
     → CanDigestEach a messages n → i + k ≤ n → CanDigestEach a (take k (drop i messages)) k
 can-part a messages i k can fits =
     let part = take k (drop i messages) in
-    let none : Bor (List ℕ) = record { ref_ptr = (0, 0); now = [] } in
     let long : length part ≡ k =
     length-take-le k (drop i messages) (omega (arith, length-drop i messages, can.count)) in
-    let same : (j : ℕ) → j < k → message_at part j ≡ message_at messages (i + j) =
-    λ j h. message-read part j
-    ∙ ap (λ (m : Bor (List ℕ)). m.now) (get_or-take k (drop i messages) j none h
-    ∙ get_or-drop i messages j none)
-    ∙ sym (message-read messages (i + j)) in
     record {
       count = long;
       each = λ j below.
           let h : j < k = omega (arith, long, below) in
-          rw (same j h) (can.each (i + j) (omega (arith, h, can.count)));
+          rw (message_at-part messages i k j h) (can.each (i + j) (omega (arith, h, can.count)));
     }
 
 -- a single message of a list

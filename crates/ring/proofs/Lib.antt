@@ -22,5 +22,6 @@ pub mod Signing
 pub mod Expanding
 pub mod Iterates
 pub mod Rounds
+pub mod DeriveEach
 pub mod Comparing
 pub mod Numbers

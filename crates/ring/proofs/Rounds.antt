@@ -38,7 +38,7 @@ pub record HasReached (a : Algorithm) (n r w : ℕ) : Type 0 where
   pub place : w ≡ min (r * output_len a) n
   pub needed : r * output_len a < n + output_len a
 
-reached-none : (a : Algorithm) (n : ℕ) → HasReached a n 0 0
+pub reached-none : (a : Algorithm) (n : ℕ) → HasReached a n 0 0
 reached-none a n = record {
   place = omega (arith, zero-mul (output_len a));
   needed = omega (arith, zero-mul (output_len a), output_len-positive a);
@@ -103,7 +103,7 @@ module _ {a : Algorithm} {n r w : ℕ} where
       )
 
   -- where all bytes are reached, no round is left
-  reached-all : HasReached a n r w → n ≤ w → (w ≡ n) × (derive_rounds a n ≡ r)
+  pub reached-all : HasReached a n r w → n ≤ w → (w ≡ n) × (derive_rounds a n ≡ r)
   reached-all t all =
       let L : ℕ = output_len a in
       let d : ℕ = derive_rounds a n in
@@ -133,8 +133,16 @@ module _ {a : Algorithm} {n r w : ℕ} where
       rw (joined_blocks-append (λ i. xored a p s i c) r t, all, ← size)
       (take-append-add front (rounds_after a p s c r t) k)
 
+  -- and with the next one, or a front of it
+  pub round-next : (p s : List ℕ) (c k : ℕ) → HasReached a n r w → w < n
+      → k ≡ min (output_len a) (n - w)
+      → take (w + k) (rounds a p s c (r + 1))
+      ≡ take w (rounds a p s c r) ++ take k (xored a p s (r + 1) c)
+  round-next p s c k t more ek =
+      rw (← one_after a p s c r) (rounds-next p s c (next-one k t more ek))
+
   -- all rounds that are needed give the derivation
-  rounds-all : (p s : List ℕ) (c : ℕ) → HasReached a n r w → n ≤ w
+  pub rounds-all : (p s : List ℕ) (c : ℕ) → HasReached a n r w → n ≤ w
       → dk a p s c n ≡ take w (rounds a p s c r)
   unfolding dk
   rounds-all p s c t all = let end = reached-all t all in rw (end.0, end.1) refl

@@ -17,4 +17,5 @@ pub mod Hmac
 pub mod Hkdf
 pub mod Okm
 pub mod Pbkdf2
+pub mod DeriveEach
 pub mod Raw

@@ -51,8 +51,10 @@ use ring_core::error::Unspecified;
 use std::num::NonZeroU32;
 
 pub(crate) mod algorithm;
+pub(crate) mod each;
 pub(crate) mod four;
 pub(crate) mod iterates;
+pub(crate) mod lanes;
 pub(crate) mod rounds;
 pub(crate) mod sums;
 
@@ -60,6 +62,7 @@ pub use crate::pbkdf2::algorithm::{
     Algorithm, PBKDF2_HMAC_SHA1, PBKDF2_HMAC_SHA256, PBKDF2_HMAC_SHA384, PBKDF2_HMAC_SHA512,
     constants_are_based_on_their_digests,
 };
+pub use crate::pbkdf2::each::{derive_each, derive_each_counted};
 
 /// Derives, as [`derive`] does, the blocks counted by `meter`: the key's, and for each round of
 /// output those of the first iterate and two for each other one.

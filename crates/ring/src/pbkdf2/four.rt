@@ -56,7 +56,7 @@ fn four_key(key: &Key, len: usize) -> Option<FourKey>
 }
 
 // The words of U_1 of a round.
-fn first_state(key: &Key, salt: &[u8], number: u32, meter: &mut Meter) -> State32
+pub(crate) fn first_state(key: &Key, salt: &[u8], number: u32, meter: &mut Meter) -> State32
     requires size { word_len (key_algorithm key.now) ≡ 4 }
     requires within { IsTagWithin (key_algorithm key.now) (length salt.now + 4) }
     ensures ok { (p : List ℕ) → KeyStandsFor key.now p

@@ -1,0 +1,64 @@
+-- Keys derived from several secrets at once.
+use Rattle.std.specs.Prelude.{◌≡◌, ℕ, zero, suc, ◌+◌, ◌<◌, List, [], get_or, length}
+use Rattle.std.specs.Borrow.{Bor}
+use Rattle.ring_core.specs.Lane.{words_of_lane}
+use Rattle.ring.specs.Cost.{derive_blocks}
+use Rattle.ring.specs.Each.{message_at}
+use Rattle.ring.specs.Hmac.{KeyStandsFor, key_algorithm}
+use Rattle.ring.specs.Lanes.{IsKeyInLane}
+use Rattle.ring.specs.Limits.{CanDerive}
+use Rattle.ring.specs.Pbkdf2.{dk}
+use Rattle.ring.specs.declared.digest.algorithm.Algorithm.{Algorithm}
+use Rattle.ring.specs.declared.hmac.key.Key.{Key}
+use Rattle.ring.specs.declared.pbkdf2.lanes.FourKeys.{FourKeys}
+
+-- the secret, or the salt, at a place of a list
+abbrev pub bytes_at : List (Bor (List ℕ)) → ℕ → List ℕ
+bytes_at = message_at
+
+-- there are as many keys of n bytes as secrets, and each is derived from the secret and the salt at
+-- its place, after c iterations
+pub record AreDerived (keys : List (List ℕ)) (a : Algorithm) (salts secrets : List (Bor (List ℕ)))
+    (c n : ℕ) : Type 0 where
+  pub count : length keys ≡ length secrets
+  pub each : (k : ℕ) → k < length secrets
+      → get_or keys k [] ≡ dk a (bytes_at secrets k) (bytes_at salts k) c n
+
+-- m keys of n bytes can be derived: from as many salts and secrets, and each from the two at its
+-- place
+pub record CanDeriveEach (a : Algorithm) (salts secrets : List (Bor (List ℕ))) (m n : ℕ)
+    : Type 0 where
+  pub salt_count : length salts ≡ m
+  pub secret_count : length secrets ≡ m
+  pub each : (k : ℕ) → k < m
+      → CanDerive a (length (bytes_at secrets k)) (length (bytes_at salts k)) n
+
+-- f 0 + f 1 + .. + f (m - 1)
+unfoldable pub sum_below : (ℕ → ℕ) → ℕ → ℕ
+sum_below f zero = 0
+sum_below f (suc m) = sum_below f m + f m
+
+-- the blocks of the derivation at a place
+abbrev pub derive_blocks_at : (a : Algorithm) (salts secrets : List (Bor (List ℕ))) (c n k : ℕ) → ℕ
+derive_blocks_at a salts secrets c n k =
+    derive_blocks a (length (bytes_at secrets k)) (length (bytes_at salts k)) c n
+
+-- the blocks of all derivations
+abbrev pub derive_each_blocks : (a : Algorithm) (salts secrets : List (Bor (List ℕ))) (c n : ℕ) → ℕ
+derive_each_blocks a salts secrets c n =
+    sum_below (derive_blocks_at a salts secrets c n) (length secrets)
+
+-- the key is that of the bytes p under the algorithm a
+pub record IsKeyOf (a : Algorithm) (key : Key) (p : List ℕ) : Type 0 where
+  pub algorithm : key_algorithm key ≡ a
+  pub stands : KeyStandsFor key p
+
+-- the first four keys are those of the bytes p 0 to p 3
+pub record AreKeysOf (a : Algorithm) (keys : List Key) (p : ℕ → List ℕ) : Type 0 where
+  pub each : (i : ℕ) (key : Key) → i < 4 → IsKeyOf a (get_or keys i key) (p i)
+
+-- four keys, and each one's words in its lane, are those of the bytes p 0 to p 3
+pub record FourStandFor (four : FourKeys) (a : Algorithm) (p : ℕ → List ℕ) : Type 0 where
+  pub keys : AreKeysOf a four.keys p
+  pub lanes : (i : ℕ) → i < 4
+      → IsKeyInLane a (words_of_lane i four.inner) (words_of_lane i four.outer) (p i)

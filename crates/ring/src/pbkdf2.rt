@@ -35,6 +35,31 @@
 //!
 //! Each iteration costs whoever derives, and whoever guesses, two blocks for each round of output.
 //! The salt should be another one for each secret.
+//!
+//! [`derive_each`] derives keys of one length from several secrets, each with its salt, and is
+//! faster than one after another where there are four or more under SHA-1 or SHA-256:
+//!
+//! ```
+//! pub fn stored_of_four(
+//!     iterations: NonZeroU32,
+//!     salts: &[&[u8]; 4],
+//!     passwords: &[&[u8]; 4],
+//! ) -> Result<[[u8; SHA256_OUTPUT_LEN]; 4], Unspecified>
+//!     ensures ok { IfOk result (λ stored. AreDerived stored SHA256
+//!         salts.now passwords.now (non_zero_u32_get iterations) 32) }
+//!     ensures refused { IsOk result ↔ CanDeriveEach SHA256 salts.now passwords.now 4 32 }
+//! {
+//!     let mut stored = [[0; SHA256_OUTPUT_LEN]; 4];
+//!     derive_each(
+//!         PBKDF2_HMAC_SHA256,
+//!         iterations,
+//!         salts,
+//!         passwords,
+//!         &mut stored,
+//!     )?;
+//!     Ok(stored)
+//! }
+//! ```
 
 ghost use Rattle.std.specs.Prelude.{◌≡◌, ◌↔◌, length, IsOk, OnOk, OnErr};
 ghost use Rattle.std.specs.Int.NonZero.{non_zero_u32_get};

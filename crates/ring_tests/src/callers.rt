@@ -13,7 +13,7 @@ use ring_uses::hmac::{tag_counted, tag_of_two, verify_tag};
 use ring_uses::pbkdf2::{derive_and_verify, stored_of, verify_stored};
 use ring_uses::pieces::{digest_of_list, digest_of_whole, digests_of_front_and_whole};
 use ring_uses::rand::{nonce, tag_under_generated};
-use ring_uses::several::{digests_of_both, digests_of_four};
+use ring_uses::several::{digests_of_both, digests_of_four, stored_of_both, stored_of_four};
 use ring_uses::store::log_in;
 use std::num::NonZeroU32;
 use std::test::Fail;
@@ -50,6 +50,9 @@ const TAG_UNDER_OUTPUT: &str = "4534f79f5410c70bd63c9ca503f6ec903cb61876bb1ea1c4
 
 // RFC 7914, section 11: the first 32 bytes of its first vector.
 const STORED: &str = "55ac046e56e3089fec1691c22544b605f94185216dde0465e68b9d57c20dacbc";
+
+// What Python's `hashlib.pbkdf2_hmac` gives for no password, the same salt and one iteration.
+const OF_NO_PASSWORD: &str = "f135c27993baf98773c5cdb40a5706ce6a345cde61b000a67858650cd6a324d7";
 
 #[test]
 fn basics(rt: HostRuntime) -> Result<(), Fail> {
@@ -118,6 +121,19 @@ fn passwords(rt: HostRuntime) -> Result<(), Fail> {
     verify_stored(NonZeroU32::MIN, b"salt", b"passwd", &stored)?;
     assert!(rt; verify_stored(NonZeroU32::MIN, b"salt", b"Passwd", &stored).is_err());
     derive_and_verify(NonZeroU32::MIN, b"salt", b"passwd")?;
+    Ok(())
+}
+
+#[test]
+fn passwords_at_once(rt: HostRuntime) -> Result<(), Fail> {
+    let one = NonZeroU32::MIN;
+    let passwords: [&[u8]; 4] = [b"passwd", b"Passwd", b"", b"passwd"];
+    let four = stored_of_four(one, &[b"SALT", b"salt", b"salt", b"salt"], &passwords)?;
+    assert!(rt; is_hex_of(rt.alloc(), STORED, &four[3])?);
+    assert!(rt; is_hex_of(rt.alloc(), OF_NO_PASSWORD, &four[2])?);
+    let (first, second) = stored_of_both(one, b"salt", b"passwd", b"salt", b"")?;
+    assert!(rt; is_hex_of(rt.alloc(), STORED, &first)?);
+    assert!(rt; is_hex_of(rt.alloc(), OF_NO_PASSWORD, &second)?);
     Ok(())
 }
 

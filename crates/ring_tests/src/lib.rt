@@ -23,6 +23,8 @@ mod messages;
 #[cfg(test)]
 mod pbkdf2;
 #[cfg(test)]
+mod pbkdf2_each;
+#[cfg(test)]
 mod rand;
 #[cfg(test)]
 mod several;

@@ -1,11 +1,16 @@
-//! Digests of several messages at once.
+//! Digests of several messages, and keys from several passwords, at once.
 
-ghost use Rattle.std.specs.Prelude.{◌↔◌, IfOk, IsOk};
+ghost use Rattle.std.specs.Prelude.{◌≡◌, ◌↔◌, IfOk, IsOk};
+ghost use Rattle.std.specs.Int.NonZero.{non_zero_u32_get};
+ghost use Rattle.ring.specs.DeriveEach.{AreDerived, CanDeriveEach};
 ghost use Rattle.ring.specs.Digest.{IsDigest};
 ghost use Rattle.ring.specs.Each.{AreDigests, CanDigestEach};
+ghost use Rattle.ring.specs.Pbkdf2.{dk};
 
-use ring::digest::{Algorithm, Digest, SHA256, digest, digest_each};
+use ring::digest::{Algorithm, Digest, SHA256, SHA256_OUTPUT_LEN, digest, digest_each};
 use ring::error::Unspecified;
+use ring::pbkdf2::{PBKDF2_HMAC_SHA256, derive_each};
+use std::num::NonZeroU32;
 
 /// The digests of four messages, made side by side.
 pub fn digests_of_four(
@@ -28,4 +33,51 @@ pub fn digests_of_both(first: &[u8], second: &[u8]) -> Result<(Digest, Digest), 
     let mut digests = [digest(&SHA256, &[])?; 2];
     digest_each(&SHA256, &[first, second], &mut digests)?;
     Ok((digests[0], digests[1]))
+}
+
+/// What a login stores of four passwords, derived side by side.
+pub fn stored_of_four(
+    iterations: NonZeroU32,
+    salts: &[&[u8]; 4],
+    passwords: &[&[u8]; 4],
+) -> Result<[[u8; SHA256_OUTPUT_LEN]; 4], Unspecified>
+    ensures ok { IfOk result (λ stored. AreDerived stored SHA256
+        salts.now passwords.now (non_zero_u32_get iterations) 32) }
+    ensures refused { IsOk result ↔ CanDeriveEach SHA256 salts.now passwords.now 4 32 }
+{
+    let mut stored = [[0; SHA256_OUTPUT_LEN]; 4];
+    derive_each(
+        PBKDF2_HMAC_SHA256,
+        iterations,
+        salts,
+        passwords,
+        &mut stored,
+    )?;
+    Ok(stored)
+}
+
+/// What a login stores of two passwords, each by itself.
+pub fn stored_of_both(
+    iterations: NonZeroU32,
+    salt: &[u8],
+    password: &[u8],
+    other_salt: &[u8],
+    other_password: &[u8],
+) -> Result<([u8; SHA256_OUTPUT_LEN], [u8; SHA256_OUTPUT_LEN]), Unspecified>
+    ensures first { IfOk result (λ stored. stored.0
+        ≡ dk SHA256 password.now salt.now (non_zero_u32_get iterations) 32) }
+    ensures second { IfOk result (λ stored. stored.1
+        ≡ dk SHA256 other_password.now other_salt.now (non_zero_u32_get iterations) 32) }
+{
+    let mut stored = [[0; SHA256_OUTPUT_LEN]; 2];
+    let salts = [salt, other_salt];
+    let passwords = [password, other_password];
+    derive_each(
+        PBKDF2_HMAC_SHA256,
+        iterations,
+        &salts,
+        &passwords,
+        &mut stored,
+    )?;
+    Ok((stored[0], stored[1]))
 }

@@ -1,0 +1,279 @@
+//! Keys derived from several secrets at once: the values of other implementations, in every place.
+
+use crate::hkdf::is_hex_of;
+use crate::messages::counting_bytes;
+use ring::cost::Meter;
+use ring::digest::{Context, Digest, SHA256};
+use ring::error::Unspecified;
+use ring::pbkdf2::{
+    Algorithm, PBKDF2_HMAC_SHA1, PBKDF2_HMAC_SHA256, PBKDF2_HMAC_SHA384, PBKDF2_HMAC_SHA512,
+    derive_counted, derive_each, derive_each_counted,
+};
+use std::alloc::Global;
+use std::num::NonZeroU32;
+use std::test::Fail;
+
+const ALGORITHMS: [Algorithm; 4] = [
+    PBKDF2_HMAC_SHA1,
+    PBKDF2_HMAC_SHA256,
+    PBKDF2_HMAC_SHA384,
+    PBKDF2_HMAC_SHA512,
+];
+
+// The most keys at once.
+const MOST: usize = 9;
+
+// What follows is from Python: for each algorithm the digest by SHA-256 of nine keys one after
+// another, each by `hashlib.pbkdf2_hmac` of three iterations from the secret and the salt below.
+const OF_20_BYTES: [&str; 4] = [
+    "9d27f136ccf23cd85417fdd1e138bf0474b468622bc7175af709c8e4f2f27e1e",
+    "7f40102b82abed729faf83b8bcbb380d364809f6018c1b883979661aea8832a3",
+    "0d7a6b841ede3aaae6997d325debcf4214e288537df68686aeddd88c7c11b359",
+    "9b33f77e172550922bb3704acba3c15856c5a28d2dde45f7c16ff732aa73cfae",
+];
+
+const OF_32_BYTES: [&str; 4] = [
+    "68906e99d337b74661cc46009bb5703db258a0f4b0c4e0ec1ea09cfbf9a6dd35",
+    "ee823604a2530a0cce3de186dea2d899c6b8e5f1a8c9a9005b7b61066a2fe4e4",
+    "a0c1915eb45340a7863ecdce8094215c14bcb965fdfdfd937e0c46d08e4f59e9",
+    "1eb6fa2d67371ccb246061e1c50bf4fb371ce23977d37d0efdb8f788f35556b5",
+];
+
+const OF_64_BYTES: [&str; 4] = [
+    "1792c0b05cf736cb1c8af0cfd8e024edb02268c0ea8ff2f2fdbdb68bf27cbd9e",
+    "3af271f24f93635f1f840e0f59850688c34e9ec81ff38dd9753ecdbe6d9f5d5c",
+    "df16ecfed32c4995b9ce4b491c744e0fb2ec8c3de0c11ca0dae6d9f1f77b63c5",
+    "387291b099188292ee667704473c9b5fa435cd33d73ee70e56fd738ddd488d8d",
+];
+
+const OF_100_BYTES: [&str; 4] = [
+    "8c233398d317a43e4ad68b0debbba3787d38f194e7f5fa568e0f27c49e260ff6",
+    "e3fce5e7751ad5835831fe4dd89f36260293e3e41944fdbe1ecb715b33b81c6b",
+    "04556a803f57aa5e9ff8845c374a97375548c10ce3768a2628a10e96d8ffa2fd",
+    "7b3eb459c3302bfa0df1c66511c56fc2c7804ecfe90dc0a8161f900c15d7ecd9",
+];
+
+// Secrets of no byte, of a block and of more, each a front of the bytes.
+fn secrets_of(bytes: &[u8; 257]) -> [&[u8]; MOST] {
+    [
+        &bytes[..0],
+        &bytes[..200],
+        &bytes[..64],
+        &bytes[..3],
+        &bytes[..65],
+        &bytes[..128],
+        &bytes[..129],
+        &bytes[..17],
+        &bytes[..257],
+    ]
+}
+
+// Salts whose first iterates differ in their blocks.
+fn salts_of(bytes: &[u8; 257]) -> [&[u8]; MOST] {
+    [
+        &bytes[..8],
+        &bytes[..0],
+        &bytes[..51],
+        &bytes[..52],
+        &bytes[..60],
+        &bytes[..111],
+        &bytes[..8],
+        &bytes[..130],
+        &bytes[..257],
+    ]
+}
+
+// The keys of the first secrets and salts, and zeros after them.
+fn keys_of<const N: usize>(
+    algorithm: Algorithm,
+    count: usize,
+) -> Result<[[u8; N]; MOST], Unspecified> {
+    let bytes = counting_bytes::<257>();
+    let secrets = secrets_of(&bytes);
+    let salts = salts_of(&bytes);
+    let three = NonZeroU32::new(3).ok_or(Unspecified)?;
+    let count = count.min(MOST);
+    let mut keys = [[0; N]; MOST];
+    derive_each(
+        algorithm,
+        three,
+        &salts[..count],
+        &secrets[..count],
+        &mut keys[..count],
+    )?;
+    Ok(keys)
+}
+
+// The digest of the keys one after another.
+fn digest_of<const N: usize>(keys: &[[u8; N]; MOST]) -> Result<Digest, Unspecified> {
+    let mut context = Context::new(&SHA256);
+    for key in keys {
+        context.update(key);
+    }
+    context.finish()
+}
+
+// Whether the first keys are the same where no others are derived beside them, and the places after
+// them stay.
+fn agrees_on_first<const N: usize>(
+    algorithm: Algorithm,
+    all: &[[u8; N]; MOST],
+    count: usize,
+) -> Result<bool, Unspecified> {
+    let keys = keys_of::<N>(algorithm, count)?;
+    for (i, key) in keys.iter().enumerate() {
+        let expected = if i < count { all[i] } else { [0; N] };
+        if *key != expected {
+            return Ok(false);
+        }
+    }
+    Ok(true)
+}
+
+// Whether the keys are those of others, in any number.
+fn are_of_others<const N: usize>(alloc: Global, digests: [&str; 4]) -> Result<bool, Fail> {
+    for (algorithm, expected) in ALGORITHMS.iter().zip(&digests) {
+        let all = keys_of::<N>(*algorithm, MOST)?;
+        if !is_hex_of(alloc, expected, digest_of(&all)?.as_ref())? {
+            return Ok(false);
+        }
+        for count in [0, 1, 3, 4, 5, 8] {
+            if !agrees_on_first(*algorithm, &all, count)? {
+                return Ok(false);
+            }
+        }
+    }
+    Ok(true)
+}
+
+#[test]
+fn keys_of_any_number(rt: HostRuntime) -> Result<(), Fail> {
+    assert!(rt; are_of_others::<20>(rt.alloc(), OF_20_BYTES)?);
+    assert!(rt; are_of_others::<32>(rt.alloc(), OF_32_BYTES)?);
+    assert!(rt; are_of_others::<64>(rt.alloc(), OF_64_BYTES)?);
+    assert!(rt; are_of_others::<100>(rt.alloc(), OF_100_BYTES)?);
+    Ok(())
+}
+
+#[test]
+fn keys_of_no_byte(rt: HostRuntime) -> Result<(), Fail> {
+    for algorithm in ALGORITHMS {
+        for count in [0, 1, 4, 5, 9] {
+            assert!(rt; keys_of::<0>(algorithm, count)? == [[]; MOST]);
+        }
+    }
+    Ok(())
+}
+
+// RFC 6070, its third, fifth and sixth vectors, of 20, 25 and 16 bytes, and the third again.
+#[test]
+fn rfc_6070_side_by_side(rt: HostRuntime) -> Result<(), Fail> {
+    let iterations = NonZeroU32::new(4096).ok_or("4096")?;
+    let long_secret = b"passwordPASSWORDpassword";
+    let long_salt = b"saltSALTsaltSALTsaltSALTsaltSALTsalt";
+    let secrets: [&[u8]; 4] = [b"password", long_secret, b"pass\0word", b"password"];
+    let salts: [&[u8]; 4] = [b"salt", long_salt, b"sa\0lt", b"salt"];
+    let mut keys = [[0; 25]; 4];
+    derive_each(PBKDF2_HMAC_SHA1, iterations, &salts, &secrets, &mut keys)?;
+    let third = "4b007901b765489abead49d926f721d065a429c1";
+    let fifth = "3d2eec4fe41c849b80c8d83662c0e44a8b291a964cf2f07038";
+    let sixth = "56fa6aa75548099dcc37d7f03425e0c3";
+    assert!(rt; is_hex_of(rt.alloc(), third, &keys[0][..20])?);
+    assert!(rt; is_hex_of(rt.alloc(), fifth, &keys[1])?);
+    assert!(rt; is_hex_of(rt.alloc(), sixth, &keys[2][..16])?);
+    assert!(rt; is_hex_of(rt.alloc(), third, &keys[3][..20])?);
+    Ok(())
+}
+
+// RFC 7914, section 11, the first vector, alone and in the last of four lanes.
+#[test]
+fn rfc_7914_in_a_lane(rt: HostRuntime) -> Result<(), Fail> {
+    let expected = "55ac046e56e3089fec1691c22544b605f94185216dde0465e68b9d57c20dacbc\
+        49ca9cccf179b645991664b39d77ef317c71b845b1e30bd509112041d3a19783";
+    let secrets: [&[u8]; 4] = [b"Passwd", b"passwd", b"", b"passwd"];
+    let salts: [&[u8]; 4] = [b"salt", b"SALT", b"salt", b"salt"];
+    let one = NonZeroU32::MIN;
+    let mut four = [[0; 64]; 4];
+    derive_each(PBKDF2_HMAC_SHA256, one, &salts, &secrets, &mut four)?;
+    assert!(rt; is_hex_of(rt.alloc(), expected, &four[3])?);
+    let mut single = [[0; 64]; 1];
+    derive_each(
+        PBKDF2_HMAC_SHA256,
+        one,
+        &salts[3..],
+        &secrets[3..],
+        &mut single,
+    )?;
+    assert!(rt; is_hex_of(rt.alloc(), expected, &single[0])?);
+    Ok(())
+}
+
+// The blocks of five keys of 100 bytes, and those of each by itself.
+fn blocks_of_five(algorithm: Algorithm) -> Result<(u128, u128), Unspecified> {
+    let bytes = counting_bytes::<257>();
+    let secrets = secrets_of(&bytes);
+    let salts = salts_of(&bytes);
+    let one = NonZeroU32::MIN;
+    let mut keys = [[0; 100]; 5];
+    let mut each = Meter::new();
+    derive_each_counted(
+        algorithm,
+        one,
+        &salts[..5],
+        &secrets[..5],
+        &mut keys,
+        &mut each,
+    )?;
+    let mut singly = Meter::new();
+    for (salt, secret) in salts[..5].iter().zip(&secrets[..5]) {
+        let mut key = [0; 100];
+        derive_counted(algorithm, one, salt, secret, &mut key, &mut singly)?;
+    }
+    Ok((each.blocks(), singly.blocks()))
+}
+
+// By SHA-256 the five keys take 2, 6, 2, 2 and 4 blocks, and each of their four rounds 2, 2, 2, 3
+// and 3, as docs/COSTS.md counts them.
+#[test]
+fn five_cost_what_each_costs(rt: HostRuntime) -> Result<(), Fail> {
+    for algorithm in ALGORITHMS {
+        let (each, singly) = blocks_of_five(algorithm)?;
+        assert!(rt; each == singly);
+    }
+    assert!(rt; blocks_of_five(PBKDF2_HMAC_SHA256)?.0 == 16 + 4 * 12);
+    Ok(())
+}
+
+// Whether so many salts, secrets and places are refused, and nothing is written or run.
+fn is_refused(
+    algorithm: Algorithm,
+    salts: usize,
+    secrets: usize,
+    places: usize,
+) -> Result<bool, Unspecified> {
+    let bytes = counting_bytes::<257>();
+    let mut keys = [[7; 32]; MOST];
+    let mut meter = Meter::new();
+    let refusal = derive_each_counted(
+        algorithm,
+        NonZeroU32::MIN,
+        &salts_of(&bytes)[..salts.min(MOST)],
+        &secrets_of(&bytes)[..secrets.min(MOST)],
+        &mut keys[..places.min(MOST)],
+        &mut meter,
+    );
+    Ok(refusal.is_err() && keys == [[7; 32]; MOST] && meter.blocks() == 0)
+}
+
+#[test]
+fn other_numbers_of_salts_or_places(rt: HostRuntime) -> Result<(), Fail> {
+    for algorithm in ALGORITHMS {
+        for (salts, secrets, places) in [(0, 0, 1), (1, 0, 0), (0, 1, 0), (4, 4, 5), (5, 4, 5)] {
+            assert!(rt; is_refused(algorithm, salts, secrets, places)?);
+        }
+        for (salts, secrets, places) in [(5, 5, 4), (4, 5, 4), (4, 5, 5), (9, 8, 9), (9, 9, 8)] {
+            assert!(rt; is_refused(algorithm, salts, secrets, places)?);
+        }
+    }
+    Ok(())
+}

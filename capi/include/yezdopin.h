@@ -11,7 +11,7 @@
  *
  * The caller sees to it, and nothing tests, that
  * - a pointer with a length behind it is that of so many bytes, which may be read, or written where
- *   it is no pointer to const; where the length is 0 it may be NULL;
+ *   it is no pointer to const; where the length is 0 it may be NULL, but for that in a yz_message;
  * - what a call writes overlaps nothing else that it is given;
  * - a pointer to a context or a key is aligned as its type, and not NULL;
  * - the thread has 8 KiB of stack left.
@@ -111,6 +111,19 @@ size_t yz_block_len(uint32_t algorithm);
  * most 2^61 - 1 bytes under YZ_SHA1 and YZ_SHA256, and 2^125 - 1 under the others. */
 yz_status yz_digest(uint32_t algorithm, const uint8_t *message, size_t message_len,
                     uint8_t *out, size_t out_len) YZ_MUST_CHECK;
+
+/* A message of several: `len` bytes from `bytes` on. */
+typedef struct {
+    const uint8_t *bytes; /* not NULL, even where `len` is 0 */
+    size_t len;
+} yz_message;
+
+/* The digests of `count` messages, one after another in `out`, that of messages[i] from
+ * i * yz_output_len(algorithm) on: `out_len` is `count` times that length, or the call is refused.
+ * They are those of yz_digest. Of four messages or more under YZ_SHA1 and YZ_SHA256, four at a time
+ * are made side by side, which is faster, the more so the more alike their lengths are. */
+yz_status yz_digest_each(uint32_t algorithm, const yz_message *messages, size_t count,
+                         uint8_t *out, size_t out_len) YZ_MUST_CHECK;
 
 /* The digest of a message in pieces. yz_digest_final leaves the context as it is, and more may
  * follow. */

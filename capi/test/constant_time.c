@@ -73,6 +73,18 @@ static void digests(uint32_t n) {
     end("digest of a message, whole and in pieces", n, false);
 }
 
+static void digests_of_several(uint32_t n) {
+    size_t len = yz_output_len(n);
+    begin();
+    for (size_t i = 0; i < LENGTHS; i++) {
+        const yz_message five[] = {{message, LEN[i]}, {key, other(i)}, {message, other(i)},
+                                   {message, LEN[i]}, {key, LEN[i]}};
+        hide_all();
+        is(yz_digest_each(n, five, 5, out, 5 * len), YZ_OK);
+    }
+    end("digests of several messages", n, false);
+}
+
 static void tags(uint32_t n) {
     size_t len = yz_output_len(n);
     begin();
@@ -175,7 +187,8 @@ int main(void) {
     if (!RUNNING_ON_VALGRIND) return puts("FAILED: not under valgrind"), 2;
     for (size_t i = 0; i < MOST; i++) key[i] = (uint8_t)(3 * i), message[i] = (uint8_t)(7 * i + 1);
     equality();
-    for (uint32_t n = YZ_SHA1; n <= YZ_SHA512_256; n++) digests(n), outputs_are_secret(n);
+    for (uint32_t n = YZ_SHA1; n <= YZ_SHA512_256; n++)
+        digests(n), digests_of_several(n), outputs_are_secret(n);
     for (uint32_t n = YZ_SHA1; n <= YZ_SHA512; n++)
         tags(n), verified_tags(n), expansions(n), derivations(n);
     planted();

@@ -11,6 +11,8 @@
 
 static uint8_t stack[ROOM] __attribute__((aligned(64)));
 static uint8_t bytes[400], out[400];
+static const yz_message messages[] = {{bytes, 400}, {bytes, 300}, {bytes, 400},
+                                      {bytes, 400}, {bytes, 333}, {bytes, 1}};
 static yz_digest_context context;
 static yz_hmac_key key;
 static yz_hmac_context tag;
@@ -39,6 +41,7 @@ static void run(void) {
     case 14: status = yz_hkdf(n, bytes, 300, bytes, 400, bytes, 200, out, 400); break;
     case 15: status = yz_pbkdf2_derive(n, 3, bytes, 300, bytes, 400, out, 400); break;
     case 16: status = yz_pbkdf2_verify(n, 3, bytes, 300, bytes, 400, out, 400); break;
+    case 17: status = yz_digest_each(n, messages, 6, out, 6 * len); break;
     }
     if (status != YZ_OK) printf("call %d of algorithm %u answers %d\n", call, n, status);
 }
@@ -46,7 +49,7 @@ static void run(void) {
 int main(void) {
     static size_t most;
     for (n = YZ_SHA1; n <= YZ_SHA512; n++)
-        for (call = 0; call <= 16; call++) {
+        for (call = 0; call <= 17; call++) {
             static ucontext_t back, there;
             memset(stack, PAINT, ROOM);
             if (getcontext(&there)) return 2;

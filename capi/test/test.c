@@ -1,5 +1,6 @@
-/* Each status of each call, NULL at length 0, messages in pieces, copies in mid-stream, and garbage
- * in the place of contexts and keys. Values come from the standards, named where they stand. */
+/* Each status of each call, NULL at length 0, several messages, messages in pieces, copies in
+ * mid-stream, and garbage in the place of contexts and keys. Values come from the standards, named
+ * where they stand. */
 #include "yezdopin.h"
 #include <stdio.h>
 #include <stdlib.h>
@@ -16,11 +17,14 @@ _Static_assert(offsetof(yz_hmac_key, inner) == 8, "layout");
 _Static_assert(offsetof(yz_hmac_key, outer) == 72, "layout");
 _Static_assert(sizeof(yz_hmac_context) == 280, "layout");
 _Static_assert(offsetof(yz_hmac_context, outer) == 216, "layout");
+_Static_assert(sizeof(yz_message) == 16, "layout");
+_Static_assert(offsetof(yz_message, len) == 8, "layout");
 
 #define PIECES_TURNS 4000
 #define GARBAGE_TURNS 50000
 #define MOST_MESSAGE 5000
 #define MOST_PIECE 300
+#define MOST_COUNT 65
 
 static int failures;
 
@@ -56,6 +60,11 @@ static void known_values(void) {
     /* FIPS 180-4's example. */
     IS(yz_digest(YZ_SHA256, text("abc"), 3, a, 32), YZ_OK);
     IS(memcmp(a, ABC, 4), 0);
+    const yz_message four[] = {{text(""), 0}, {text("abc"), 3}, {text("a"), 1}, {text("abc"), 3}};
+    uint8_t digests[4 * YZ_SHA256_OUTPUT_LEN];
+    IS(yz_digest_each(YZ_SHA256, four, 4, digests, sizeof digests), YZ_OK);
+    IS(memcmp(digests + 32, ABC, 4), 0);
+    IS(memcmp(digests + 96, ABC, 4), 0);
     /* RFC 4231, test case 2. */
     IS(yz_hmac_sign(YZ_SHA256, text("Jefe"), 4, text("what do ya want for nothing?"), 28, a, 32),
        YZ_OK);
@@ -101,6 +110,8 @@ static void statuses(void) {
                 IS(yz_digest(n, NULL, 0, a, wrong),
                    digests ? YZ_WRONG_LENGTH : YZ_UNKNOWN_ALGORITHM);
         IS(yz_digest(n, NULL, 0, b, len), digested);
+        IS(yz_digest_each(n, NULL, 0, NULL, 0), digested);
+        IS(yz_digest_each(n, NULL, 0, a, 1), digests ? YZ_WRONG_LENGTH : YZ_UNKNOWN_ALGORITHM);
         IS(yz_digest_init(n, &context), digested);
         IS(yz_hmac_sign(n, NULL, 0, NULL, 0, a, len + 1), misfit);
         IS(yz_hmac_sign(n, NULL, 0, NULL, 0, b, len), tagged);
@@ -117,6 +128,57 @@ static void statuses(void) {
         IS(yz_pbkdf2_verify(n, 1, NULL, 0, NULL, 0, NULL, 0), other);
     }
     for (size_t i = 0; i < sizeof a; i++) IS(a[i], 7);
+}
+
+static yz_message several[MOST_COUNT];
+static uint8_t each[MOST_COUNT * YZ_MAX_OUTPUT_LEN + 1];
+
+/* Several messages of mixed lengths give what each gives by itself, and not a byte more is
+ * written. */
+static void digests_of_several(uint32_t n, size_t count) {
+    static const size_t LENGTHS[] = {0, 1, 55, 56, 63, 64, 65, 111, 112, 127, 128, 129, 1000};
+    size_t len = OUTPUT[n];
+    for (size_t i = 0; i < count; i++) {
+        size_t some = LENGTHS[below(sizeof LENGTHS / sizeof *LENGTHS)];
+        several[i] = (yz_message){message + below(MOST_MESSAGE - some), some};
+    }
+    memset(each, 7, sizeof each);
+    IS(yz_digest_each(n, several, count, each, count * len), YZ_OK);
+    for (size_t i = 0; i < count; i++) {
+        IS(yz_digest(n, several[i].bytes, several[i].len, a, len), YZ_OK);
+        IS(memcmp(each + i * len, a, len), 0);
+    }
+    for (size_t i = count * len; i < sizeof each; i++) IS(each[i], 7);
+}
+
+/* What is refused of several messages writes nothing, also where only the last is past the limit:
+ * no message is as long, but the number may be written. */
+static void refused_several(uint32_t n, size_t count) {
+    size_t len = count * OUTPUT[n];
+    memset(each, 7, sizeof each);
+    IS(yz_digest_each(n, several, count, each, len - 1), YZ_WRONG_LENGTH);
+    IS(yz_digest_each(n, several, count, each, len + 1), YZ_WRONG_LENGTH);
+    IS(yz_digest_each(n, several, count - 1, each, len), YZ_WRONG_LENGTH);
+    IS(yz_digest_each(n, several, count, NULL, 0), YZ_WRONG_LENGTH);
+    IS(yz_digest_each(n + 5, several, count, each, len), YZ_UNKNOWN_ALGORITHM);
+    if (n <= YZ_SHA256) {
+        several[count - 1].len = (size_t)1 << 61;
+        IS(yz_digest_each(n, several, count, each, len), YZ_UNSPECIFIED);
+        IS(yz_digest_each(n, several, count, each, len - 1), YZ_WRONG_LENGTH);
+        IS(yz_digest_each(n + 5, several, count, each, len), YZ_UNKNOWN_ALGORITHM);
+    }
+    for (size_t i = 0; i < sizeof each; i++) IS(each[i], 7);
+}
+
+static void several_messages(void) {
+    static const size_t COUNTS[] = {0, 1, 3, 4, 5, 9, 15, 16, 17, 20, 33, 64, MOST_COUNT};
+    fill_at_random(message, sizeof message);
+    for (uint32_t n = YZ_SHA1; n <= YZ_SHA512_256; n++)
+        for (size_t i = 0; i < sizeof COUNTS / sizeof *COUNTS; i++)
+            for (int turn = 0; turn < 10; turn++) {
+                digests_of_several(n, COUNTS[i]);
+                if (COUNTS[i]) refused_several(n, COUNTS[i]);
+            }
 }
 
 /* An output of HKDF may have 255 digests, and no byte more. */
@@ -279,7 +341,8 @@ static void equality_and_clearing(void) {
 
 int main(void) {
     IS(yz_version(), YZ_VERSION);
-    known_values(), statuses(), longest_outputs(), contexts(), past_the_limit();
+    known_values(), statuses(), several_messages(), longest_outputs();
+    contexts(), past_the_limit();
     pieces(), garbage(), equality_and_clearing();
     if (failures) printf("%d failures\n", failures);
     return failures != 0;

@@ -1,16 +1,25 @@
 /* Answers each line of the files that it is given (docs/LINES.md has their format) by these calls,
- * and compares with what stands behind `#= ` below the line, but for the number of blocks. */
+ * and compares with what stands behind `#= ` below the line, but for the number of blocks. The
+ * digests are answered once more, all of an algorithm by one call. */
 #include "yezdopin.h"
 #include <stdio.h>
 #include <stdlib.h>
 #include <string.h>
 
 #define MOST_FIELDS 7
+#define MOST_LINES 400
 
 typedef struct {
     uint8_t *bytes;
     size_t len;
 } piece;
+
+/* The digests' lines of each algorithm, which are answered once more by one call. */
+static struct {
+    yz_message messages[MOST_LINES];
+    const char *digests[MOST_LINES];
+    size_t count;
+} lines[YZ_SHA512_256 + 1];
 
 static void *held(void *memory) {
     if (!memory) abort();
@@ -171,9 +180,37 @@ static bool agrees(const char *line, char *wanted) {
     return false;
 }
 
+/* Keeps a digest's line and its digest for the end. */
+static void keep(const char *line, const char *digest) {
+    char name[16];
+    int end = 0;
+    if (sscanf(line, "digest %15s %n", name, &end) != 1 || !end) return;
+    uint32_t n = number_of(name);
+    size_t place = lines[n].count++;
+    if (!n || place == MOST_LINES) abort();
+    piece all = joined(line + end);
+    lines[n].messages[place] = (yz_message){all.bytes, all.len};
+    lines[n].digests[place] = held(strdup(digest));
+}
+
+/* How many of an algorithm's digests one call doesn't give as the lines have them. */
+static int differ_together(uint32_t n) {
+    size_t len = yz_output_len(n), count = lines[n].count;
+    uint8_t *out = held(malloc(count * len + 1));
+    int differ = 0;
+    if (yz_digest_each(n, lines[n].messages, count, out, count * len) != YZ_OK) abort();
+    for (size_t i = 0; i < count; i++) {
+        piece wanted = bytes_of(lines[n].digests[i]);
+        differ += !yz_equal(out + i * len, len, wanted.bytes, wanted.len);
+        free(wanted.bytes);
+    }
+    free(out);
+    return differ;
+}
+
 int main(int count, char **names) {
     static char line[1 << 18], last[1 << 18];
-    int agree = 0, differ = 0;
+    int agree = 0, differ = 0, together = 0;
     for (int i = 1; i < count; i++) {
         FILE *file = fopen(names[i], "r");
         if (!file) return perror(names[i]), 2;
@@ -182,12 +219,18 @@ int main(int count, char **names) {
             if (!strncmp(line, "#= ", 3)) {
                 if (agrees(last, line + 3)) agree++;
                 else differ++;
+                keep(last, line + 3);
             } else if (*line && *line != '#') {
                 strcpy(last, line);
             }
         }
         fclose(file);
     }
-    printf("%d lines agree, %d differ\n", agree, differ);
-    return differ || !agree;
+    for (uint32_t n = YZ_SHA1; n <= YZ_SHA512_256; n++) {
+        int others = differ_together(n);
+        if (others || !lines[n].count) printf("%d digests of algorithm %u differ\n", others, n);
+        differ += others, together += (int)lines[n].count;
+    }
+    printf("%d lines agree, %d of them once more together; %d differ\n", agree, together, differ);
+    return differ || !together;
 }

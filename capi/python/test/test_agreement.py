@@ -64,6 +64,15 @@ class Digests(unittest.TestCase):
                 copy.update(b"another")
             self.assertEqual((running.digest(), running.hexdigest()), (want, want.hex()))
 
+    def test_several(self):
+        for turn in range(TIMES // 20):
+            name, count = one_of(NAMES), turn if turn < 20 else below(70)
+            messages = [some(400) for _ in range(count)]
+            want = [hashlib.new(name, message).digest() for message in messages]
+            self.assertEqual(yezdopin.digest_each(name, messages), want)
+            others = (bytearray(message) for message in messages)
+            self.assertEqual(yezdopin.digest_each(name, others), want)
+
     def test_sizes_and_names(self):
         for name in NAMES:
             ours, theirs = yezdopin.new(name), hashlib.new(name)
@@ -150,8 +159,9 @@ class Keys(unittest.TestCase):
 
 class Layout(unittest.TestCase):
     def test_sizes(self):
-        """Contexts and keys are as long as yezdopin.h says."""
+        """Contexts, keys and places of messages are as long as yezdopin.h says."""
         sizes = [(_library.DigestContext, 216), (_library.Key, 136), (_library.TagContext, 280)]
+        sizes.append((_library.Message, 16))
         for structure, size in sizes:
             self.assertEqual(ctypes.sizeof(structure), size)
 
@@ -164,6 +174,7 @@ class Refusals(unittest.TestCase):
 
     def test_statuses(self):
         self.is_refused(1, yezdopin.new, "md5")
+        self.is_refused(1, yezdopin.digest_each, "md5", [])
         self.is_refused(1, tags.Key, b"", "sha512_256")
         self.is_refused(1, yezdopin.hkdf, "sha512_256", b"", b"", b"", 4)
         self.is_refused(4, yezdopin.pbkdf2_hmac, "sha256", b"", b"", 0, 4)
@@ -181,6 +192,9 @@ class Refusals(unittest.TestCase):
         for call, argument in ((yezdopin.sha256, "text"), (yezdopin.new, hashlib.sha256)):
             with self.assertRaises(TypeError):
                 call(argument)
+        for messages in (["text"], "text", b"bytes", [7]):
+            with self.assertRaises(TypeError):
+                yezdopin.digest_each("sha256", messages)
 
     def test_no_library(self):
         """Where the library isn't found, the error says what to do."""
@@ -247,6 +261,23 @@ class Vectors(unittest.TestCase):
                     last = line
         self.assertGreater(seen, 0)
         print(f"{seen} lines agree")
+
+
+    def test_digests_together(self):
+        """All digests of an algorithm, by one call."""
+        messages, wanted, last = {}, {}, ""
+        for path in sorted(VECTORS.glob("digest*.txt")):
+            for line in path.read_text().splitlines():
+                if line.startswith("#= "):
+                    _, name, field = last.split(" ")
+                    messages.setdefault(name, []).append(whole(field))
+                    wanted.setdefault(name, []).append(line[3:].split(" ")[0])
+                elif line and not line.startswith("#"):
+                    last = line
+        self.assertEqual(len(wanted), len(NAMES))
+        for name, digests in wanted.items():
+            made = yezdopin.digest_each(name, messages[name])
+            self.assertEqual([digest.hex() for digest in made], digests)
 
 
 class Documentation(unittest.TestCase):

@@ -16,7 +16,7 @@
 from __future__ import annotations
 
 import ctypes
-from typing import Optional, TypeVar
+from typing import Iterable, List, Optional, TypeVar
 
 from yezdopin import _library
 from yezdopin._library import Buffer, Error
@@ -27,6 +27,7 @@ __all__ = [
     "algorithms_available",
     "algorithms_guaranteed",
     "compare_digest",
+    "digest_each",
     "hkdf",
     "hkdf_expand",
     "hkdf_extract",
@@ -89,6 +90,19 @@ class Digest:
 def new(name: str, data: Buffer = b"") -> Digest:
     """A digest under the algorithm of a name, as `hashlib.new`."""
     return Digest(name, data)
+
+
+def digest_each(name: str, messages: Iterable[Buffer]) -> List[bytes]:
+    """The digests of several messages, each at its message's place, by one call.
+
+    Of four or more under SHA-1 and SHA-256, four at a time are made side by side.
+
+        >>> digests = digest_each("sha256", [b"abc", b"", b"abc"])
+        >>> digests[2].hex()[:8], digests[0] == digests[2]
+        ('ba7816bf', True)
+    """
+    number = _library.number_of(name)
+    return _library.outputs(_library.digest_each, number, messages, _library.output_len(number))
 
 
 def sha1(data: Buffer = b"") -> Digest:

@@ -65,6 +65,12 @@ class TagContext(ctypes.Structure):
     _fields_ = [("inner", DigestContext), ("outer", ctypes.c_uint64 * 8)]
 
 
+class Message(ctypes.Structure):
+    """A message of several, whose pointer is never NULL."""
+
+    _fields_ = [("bytes", ctypes.c_void_p), ("len", ctypes.c_size_t)]
+
+
 def _loaded() -> ctypes.CDLL:
     """The library: that of YEZDOPIN_LIBRARY, or the system's."""
     given = os.environ.get("YEZDOPIN_LIBRARY")
@@ -92,6 +98,7 @@ def _declared(name: str, arguments: List[Any], result: Any = ctypes.c_int32) -> 
 
 
 digest = _declared("yz_digest", [_NUMBER, *_BYTES, *_BYTES])
+digest_each = _declared("yz_digest_each", [_NUMBER, *_BYTES, *_BYTES])
 digest_init = _declared("yz_digest_init", [_NUMBER, _POINTER])
 digest_update = _declared("yz_digest_update", [_POINTER, *_BYTES])
 digest_final = _declared("yz_digest_final", [_POINTER, *_BYTES])
@@ -178,3 +185,17 @@ def output(call: Any, first: Iterable[Any], inputs: Iterable[Buffer], length: in
     out = ctypes.create_string_buffer(length) if length else None
     done(answer(call, first, inputs, out, length))
     return out.raw if out else b""
+
+
+_NO_BYTE = ctypes.create_string_buffer(1)
+
+
+def outputs(call: Any, number: int, messages: Iterable[Buffer], length: int) -> List[bytes]:
+    """What a call writes for several messages, of `length` bytes each."""
+    lent = [_lent(data) for data in messages]
+    nothing = ctypes.cast(_NO_BYTE, _POINTER)
+    places = (Message * len(lent))(*((pointer or nothing, size) for pointer, size, _ in lent))
+    out = ctypes.create_string_buffer(len(lent) * length) if lent else None
+    done(call(number, places, len(lent), out, len(lent) * length))
+    made = out.raw if out else b""
+    return [made[at : at + length] for at in range(0, len(made), length)]

@@ -27,6 +27,13 @@ pub struct HmacContext {
     outer: [u64; 8],
 }
 
+/// A message of several, whose pointer is never NULL.
+#[repr(C)]
+pub struct Message {
+    pub bytes: *const u8,
+    pub len: usize,
+}
+
 impl DigestContext {
     pub const NONE: Self = DigestContext {
         algorithm: 0,
@@ -65,6 +72,7 @@ pub unsafe trait Plain {}
 const _: () = assert!(std::mem::size_of::<DigestContext>() == 216);
 const _: () = assert!(std::mem::size_of::<HmacKey>() == 136);
 const _: () = assert!(std::mem::size_of::<HmacContext>() == 280);
+const _: () = assert!(std::mem::size_of::<Message>() == 16);
 
 // SAFETY: they are numbers without gaps between them.
 unsafe impl Plain for DigestContext {}
@@ -90,6 +98,13 @@ extern "C" {
         algorithm: u32,
         message: *const u8,
         message_len: usize,
+        out: *mut u8,
+        out_len: usize,
+    ) -> i32;
+    pub fn yz_digest_each(
+        algorithm: u32,
+        messages: *const Message,
+        count: usize,
         out: *mut u8,
         out_len: usize,
     ) -> i32;

@@ -1,7 +1,8 @@
 //! Digests (FIPS 180-4).
 
-use crate::calls::{self, DigestContext};
+use crate::calls::{self, DigestContext, Message};
 use crate::done;
+use crate::error::Unspecified;
 use std::fmt;
 
 /// The bytes of the longest block.
@@ -106,7 +107,7 @@ impl Digest {
     pub(crate) fn written(
         algorithm: &'static Algorithm,
         write: impl FnOnce(*mut u8, usize) -> i32,
-    ) -> Result<Self, crate::error::Unspecified> {
+    ) -> Result<Self, Unspecified> {
         let mut bytes = [0; MAX_OUTPUT_LEN];
         done(write(bytes.as_mut_ptr(), algorithm.output_len))?;
         Ok(Digest { bytes, algorithm })
@@ -136,6 +137,49 @@ pub fn digest(algorithm: &'static Algorithm, data: &[u8]) -> Digest {
         calls::yz_digest(number, data.as_ptr(), data.len(), out, len)
     })
     .expect("the message is within the limit")
+}
+
+/// Makes `out` the digests of the messages, each at its message's place, by one call.
+///
+/// Of four messages or more under SHA-1 and SHA-256, four at a time are made side by side. It is an
+/// error, with `out` as it was, where `out` has not as many places as there are messages, or a
+/// message is past the algorithm's limit.
+///
+/// ```
+/// use yezdopin::digest::{digest, digest_each, SHA256};
+///
+/// let mut digests = [digest(&SHA256, b""); 4];
+/// digest_each(&SHA256, &[b"a", b"bc", b"", b"abc"], &mut digests)?;
+/// assert_eq!(digests[3].as_ref()[..2], [0xba, 0x78]);
+/// # Ok::<(), yezdopin::error::Unspecified>(())
+/// ```
+pub fn digest_each(
+    algorithm: &'static Algorithm,
+    messages: &[&[u8]],
+    out: &mut [Digest],
+) -> Result<(), Unspecified> {
+    if out.len() != messages.len() {
+        return Err(Unspecified);
+    }
+    let place = |message: &&[u8]| Message {
+        bytes: message.as_ptr(),
+        len: message.len(),
+    };
+    let places: Vec<Message> = messages.iter().map(place).collect();
+    let (number, len) = (algorithm.number, algorithm.output_len);
+    let mut made = vec![0; places.len() * len];
+    // SAFETY: the messages are lent for the call, `places` has them all, and `made` has room for
+    // `len` bytes of each.
+    done(unsafe {
+        let (bytes, bytes_len) = (made.as_mut_ptr(), made.len());
+        calls::yz_digest_each(number, places.as_ptr(), places.len(), bytes, bytes_len)
+    })?;
+    for (digest, written) in out.iter_mut().zip(made.chunks_exact(len)) {
+        let mut bytes = [0; MAX_OUTPUT_LEN];
+        bytes[..len].copy_from_slice(written);
+        *digest = Digest { bytes, algorithm };
+    }
+    Ok(())
 }
 
 /// The digest of a message in pieces.

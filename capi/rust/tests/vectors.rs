@@ -176,6 +176,45 @@ fn vectors() {
 }
 
 #[test]
+fn digests_of_several_messages() {
+    let (mut lines, mut last) = (Vec::new(), String::new());
+    for name in ["digest.txt", "digest_lengths.txt"] {
+        for line in std::fs::read_to_string(format!("{FOLDER}/{name}"))
+            .unwrap()
+            .lines()
+        {
+            if let Some(wanted) = line.strip_prefix("#= ") {
+                let fields: Vec<String> = last.split(' ').map(str::to_string).collect();
+                let wanted = wanted.split(' ').next().unwrap().to_string();
+                lines.push((fields[1].clone(), pieces(&fields[2]).concat(), wanted));
+            } else if !line.is_empty() && !line.starts_with('#') {
+                last = line.to_string();
+            }
+        }
+    }
+    for name in ["SHA1", "SHA256", "SHA384", "SHA512", "SHA512_256"] {
+        let lines: Vec<_> = lines.iter().filter(|line| line.0 == name).collect();
+        assert!(lines.len() > 4);
+        for count in [0, 1, 3, 4, 5, lines.len()] {
+            let messages: Vec<&[u8]> = lines[..count].iter().map(|line| &line.1[..]).collect();
+            let mut digests = vec![digest::digest(&digest::SHA512, b"another"); count];
+            digest::digest_each(digest_named(name), &messages, &mut digests).unwrap();
+            for (made, line) in digests.iter().zip(&lines) {
+                assert_eq!(hex(made.as_ref()), line.2);
+                assert!(made.algorithm() == digest_named(name));
+            }
+        }
+    }
+    let sha1 = &digest::SHA1_FOR_LEGACY_USE_ONLY;
+    let three: [&[u8]; 3] = [b"a", b"b", b"c"];
+    let mut two = [digest::digest(&digest::SHA256, b"abc"); 2];
+    for count in [0, 1, 3] {
+        assert!(digest::digest_each(sha1, &three[..count], &mut two).is_err());
+        assert!(two.iter().all(|made| made.as_ref()[0] == 0xba));
+    }
+}
+
+#[test]
 fn copies_go_on_by_themselves() {
     let message: Vec<u8> = (0..1000u32).map(|number| number as u8).collect();
     for name in ["SHA1", "SHA256", "SHA384", "SHA512"] {

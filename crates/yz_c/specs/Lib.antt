@@ -1,2 +1,3 @@
 pub mod Number
 pub mod Limits
+pub mod Each

@@ -10,6 +10,7 @@ mod clearing;
 mod comparison;
 mod derivations;
 mod digests;
+mod each;
 mod expansions;
 mod lengths;
 mod number;

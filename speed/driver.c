@@ -24,6 +24,7 @@ struct row {
     int blocks[HASHES]; // of a step
     enum work ours, kit;
     openssl_work *openssl;
+    const struct row *one; // of four messages at once, the row of one of them
     double least[HASHES][CONTENDERS]; // seconds of a step
 };
 
@@ -66,9 +67,27 @@ static struct row rows[] = {
         .kit = KIT_LONG_DIGESTS,
         .openssl = openssl_long,
     },
+    {
+        .name = "four of 64 bytes",
+        .steps = 2500,
+        .blocks = {8, 8, 4},
+        .ours = FOUR_SHORT_DIGESTS,
+        .openssl = openssl_four_short,
+        .one = &rows[3],
+    },
+    {
+        .name = "four of 64 KiB",
+        .steps = 5,
+        .bytes = 4 * 65536,
+        .blocks = {4100, 4100, 2052},
+        .ours = FOUR_LONG_DIGESTS,
+        .openssl = openssl_four_long,
+        .one = &rows[4],
+    },
 };
 
-enum { ROWS = sizeof rows / sizeof rows[0] };
+// The rows of four messages come last, and have a table of their own.
+enum { ROWS = sizeof rows / sizeof rows[0], FOURS = 5 };
 
 static int takes_part(const struct row *row, enum contender contender)
 {
@@ -183,9 +202,18 @@ static void print_row(const struct row *row, enum hash hash)
     else
         printf(" %.0f ns |", 1e9 * ours);
     print_ratio(ours, row->blocks[hash] * block);
-    print_ratio(ours, row->least[hash][KIT]);
+    print_ratio(ours, row->one ? 4 * row->one->least[hash][OURS] : row->least[hash][KIT]);
     print_ratio(ours, row->least[hash][OPENSSL]);
     printf("\n");
+}
+
+static void print_rows(const char *column, int first, int end)
+{
+    printf("| Work | Hash | Yezdopin | / its blocks | %s | / OpenSSL |\n", column);
+    printf("|---|---|---|---|---|---|\n");
+    for (int i = first; i < end; i++)
+        for (enum hash hash = 0; hash < HASHES; hash++)
+            print_row(&rows[i], hash);
 }
 
 // Lines, and the steps of a row that are the work of one.
@@ -306,10 +334,9 @@ static void print_lines(const char *program, const char *folder)
 static void print_all(void)
 {
     printf("Least of %d, beside %s:\n\n", REPETITIONS, OpenSSL_version(OPENSSL_VERSION));
-    printf("| Work | Hash | Yezdopin | / its blocks | / kit | / OpenSSL |\n|---|---|---|---|---|---|\n");
-    for (int i = 0; i < ROWS; i++)
-        for (enum hash hash = 0; hash < HASHES; hash++)
-            print_row(&rows[i], hash);
+    print_rows("/ kit", 0, FOURS);
+    printf("\n");
+    print_rows("/ one by one", FOURS, ROWS);
 }
 
 // Given the bench program, and the folder that has the plain reader and takes texts and answers.

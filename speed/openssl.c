@@ -38,31 +38,45 @@ static EVP_MD *fetched(const char *hash)
     return digest;
 }
 
-static uint64_t digests(const char *hash, size_t len, uint32_t steps)
+// Digests of so many messages, one after another, each written over the front of its message: they
+// are alike, and the front of the last is given.
+static uint64_t digests(const char *hash, size_t len, int count, uint32_t steps)
 {
-    static unsigned char message[LONG_LEN];
+    static unsigned char messages[4][LONG_LEN];
     EVP_MD *digest = fetched(hash);
     EVP_MD_CTX *context = EVP_MD_CTX_new();
     must(context != NULL);
-    memset(message, 0, len);
-    for (uint32_t step = 0; step < steps; step++) {
-        must(EVP_DigestInit_ex2(context, digest, NULL));
-        must(EVP_DigestUpdate(context, message, len));
-        must(EVP_DigestFinal_ex(context, message, NULL));
-    }
+    for (int i = 0; i < count; i++)
+        memset(messages[i], 0, len);
+    for (uint32_t step = 0; step < steps; step++)
+        for (int i = 0; i < count; i++) {
+            must(EVP_DigestInit_ex2(context, digest, NULL));
+            must(EVP_DigestUpdate(context, messages[i], len));
+            must(EVP_DigestFinal_ex(context, messages[i], NULL));
+        }
     EVP_MD_CTX_free(context);
     EVP_MD_free(digest);
-    return front(message);
+    return front(messages[count - 1]);
 }
 
 uint64_t openssl_long(const char *hash, uint32_t steps)
 {
-    return digests(hash, LONG_LEN, steps);
+    return digests(hash, LONG_LEN, 1, steps);
 }
 
 uint64_t openssl_short(const char *hash, uint32_t steps)
 {
-    return digests(hash, SHORT_LEN, steps);
+    return digests(hash, SHORT_LEN, 1, steps);
+}
+
+uint64_t openssl_four_long(const char *hash, uint32_t steps)
+{
+    return digests(hash, LONG_LEN, 4, steps);
+}
+
+uint64_t openssl_four_short(const char *hash, uint32_t steps)
+{
+    return digests(hash, SHORT_LEN, 4, steps);
 }
 
 static EVP_MAC_CTX *signing(const char *hash)

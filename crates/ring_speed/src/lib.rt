@@ -8,6 +8,7 @@
 mod blocks;
 mod derivations;
 mod digests;
+mod fours;
 mod hash;
 mod kit;
 mod message;

@@ -5,7 +5,7 @@ ghost use Rattle.ring_speed.specs.Work.{answer, given, hash_named, work_named};
 
 use crate::hash::Hash;
 use crate::message::{LONG_LEN, SHORT_LEN};
-use crate::{blocks, derivations, digests, kit, tags};
+use crate::{blocks, derivations, digests, fours, kit, tags};
 
 // A piece of work.
 #[derive(Clone, Copy)]
@@ -17,6 +17,8 @@ pub(crate) enum Work {
     LongDigests,
     KitShortDigests,
     KitLongDigests,
+    FourShortDigests,
+    FourLongDigests,
 }
 
 // The piece of work of a number.
@@ -31,6 +33,8 @@ fn work_of_number(number: u32) -> Option<Work>
         5 => Some(Work::LongDigests),
         6 => Some(Work::KitShortDigests),
         7 => Some(Work::KitLongDigests),
+        8 => Some(Work::FourShortDigests),
+        9 => Some(Work::FourLongDigests),
         _ => None,
     }
 }
@@ -47,6 +51,8 @@ fn done(work: Work, hash: Hash, steps: u32) -> u64
         Work::LongDigests => digests::front_after::<LONG_LEN>(hash, steps),
         Work::KitShortDigests => kit::front_after::<SHORT_LEN>(hash, steps),
         Work::KitLongDigests => kit::front_after::<LONG_LEN>(hash, steps),
+        Work::FourShortDigests => fours::front_after::<SHORT_LEN>(hash, steps),
+        Work::FourLongDigests => fours::front_after::<LONG_LEN>(hash, steps),
     }
 }
 
@@ -59,6 +65,7 @@ fn done(work: Work, hash: Hash, steps: u32) -> u64
 /// | 3 | a tag of 64 bytes under a key that is ready |
 /// | 4, 5 | a digest of 64 bytes, and of 64 KiB |
 /// | 6, 7 | the same by the crates `sha1` and `sha2` |
+/// | 8, 9 | digests of four messages at once, of 64 bytes, and of 64 KiB |
 ///
 /// | `hash` | |
 /// |---|---|

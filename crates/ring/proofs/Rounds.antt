@@ -115,7 +115,7 @@ module _ {a : Algorithm} {n r w : ℕ} where
       let least : r < d + 1 = lt_of_mul-lt-mul_right L not_less in
       (omega (arith, t.place), omega (arith, most, least))
 
-  length-rounds : (p s : List ℕ) (c : ℕ) → HasReached a n r w
+  pub length-rounds : (p s : List ℕ) (c : ℕ) → HasReached a n r w
       → length (take w (rounds a p s c r)) ≡ w
   length-rounds p s c t =
       let whole = length-joined_blocks (even_rounds a p s c) r in
@@ -279,7 +279,7 @@ module _ {key : Key} {s : List ℕ} {c r w : ℕ} {out : List ℕ} {m0 m1 : Coun
     run-all t.run all,
   )
 
-both_true : (m k : Bool) → ((m && k) ≡ true) ↔ ((m ≡ true) × (k ≡ true))
+pub both_true : (m k : Bool) → ((m && k) ≡ true) ↔ ((m ≡ true) × (k ≡ true))
 both_true true k = (λ h. (refl, h), λ h. h.1)
 both_true false k = (λ h. absurd (cc), λ h. absurd (let e : false ≡ true = h.0 in cc))
 

@@ -1,13 +1,14 @@
 -- Keys derived from several secrets at once.
-use Rattle.std.specs.Prelude.{◌≡◌, ℕ, zero, suc, ◌+◌, ◌<◌, List, [], get_or, length}
+use Rattle.std.specs.Prelude.{◌≡◌, ◌↔◌, ℕ, zero, suc, ◌+◌, ◌<◌, Bool, false, IsTrue, List, []}
+use Rattle.std.specs.Prelude.{get_or, length}
 use Rattle.std.specs.Borrow.{Bor}
 use Rattle.ring_core.specs.Lane.{words_of_lane}
 use Rattle.ring.specs.Cost.{derive_blocks}
 use Rattle.ring.specs.Each.{message_at}
 use Rattle.ring.specs.Hmac.{KeyStandsFor, key_algorithm}
 use Rattle.ring.specs.Lanes.{IsKeyInLane}
-use Rattle.ring.specs.Limits.{CanDerive}
-use Rattle.ring.specs.Pbkdf2.{dk}
+use Rattle.ring.specs.Limits.{CanDerive, CanVerify}
+use Rattle.ring.specs.Pbkdf2.{IsDerived, dk}
 use Rattle.ring.specs.declared.digest.algorithm.Algorithm.{Algorithm}
 use Rattle.ring.specs.declared.hmac.key.Key.{Key}
 use Rattle.ring.specs.declared.pbkdf2.lanes.FourKeys.{FourKeys}
@@ -62,3 +63,21 @@ pub record FourStandFor (four : FourKeys) (a : Algorithm) (p : ℕ → List ℕ)
   pub keys : AreKeysOf a four.keys p
   pub lanes : (i : ℕ) → i < 4
       → IsKeyInLane a (words_of_lane i four.inner) (words_of_lane i four.outer) (p i)
+
+-- there are as many answers as values, and each says whether the value at its place is derived from
+-- the secret and the salt there, after c iterations
+pub record AreVerified (matches : List Bool) (a : Algorithm) (salts secrets : List (Bor (List ℕ)))
+    (c : ℕ) (values : List (List ℕ)) : Type 0 where
+  pub count : length matches ≡ length values
+  pub each : (k : ℕ) → k < length values → IsTrue (get_or matches k false)
+      ↔ IsDerived a (bytes_at secrets k) (bytes_at salts k) c (get_or values k [])
+
+-- m values of n bytes can be verified: of as many salts and secrets, and each with the two at its
+-- place
+pub record CanVerifyEach (a : Algorithm) (salts secrets : List (Bor (List ℕ)))
+    (values : List (List ℕ)) (m n : ℕ) : Type 0 where
+  pub salt_count : length salts ≡ m
+  pub secret_count : length secrets ≡ m
+  pub value_count : length values ≡ m
+  pub each : (k : ℕ) → k < m
+      → CanVerify a (length (bytes_at secrets k)) (length (bytes_at salts k)) n

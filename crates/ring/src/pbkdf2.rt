@@ -76,6 +76,7 @@ use ring_core::error::Unspecified;
 use std::num::NonZeroU32;
 
 pub(crate) mod algorithm;
+pub(crate) mod compared;
 pub(crate) mod each;
 pub(crate) mod four;
 pub(crate) mod iterates;
@@ -87,6 +88,7 @@ pub use crate::pbkdf2::algorithm::{
     Algorithm, PBKDF2_HMAC_SHA1, PBKDF2_HMAC_SHA256, PBKDF2_HMAC_SHA384, PBKDF2_HMAC_SHA512,
     constants_are_based_on_their_digests,
 };
+pub use crate::pbkdf2::compared::{verify_each, verify_each_counted};
 pub use crate::pbkdf2::each::{derive_each, derive_each_counted};
 
 /// Derives, as [`derive`] does, the blocks counted by `meter`: the key's, and for each round of

@@ -22,7 +22,7 @@ use ring_core::error::Unspecified;
 use std::num::NonZeroU32;
 
 // How many keys are derived side by side.
-const LANES: usize = 4;
+pub(crate) const LANES: usize = 4;
 
 // Whether a key of `len` bytes can be derived from each secret and the salt at its place.
 fn are_within(algorithm: &digest::Algorithm, salts: &[&[u8]], secrets: &[&[u8]], len: usize) -> bool
@@ -40,7 +40,7 @@ fn are_within(algorithm: &digest::Algorithm, salts: &[&[u8]], secrets: &[&[u8]],
 }
 
 // Whether words have 32 bits, so that four derivations run side by side.
-fn has_lanes(algorithm: &digest::Algorithm) -> bool
+pub(crate) fn has_lanes(algorithm: &digest::Algorithm) -> bool
     ensures { IsTrue result ↔ (word_len algorithm.now ≡ 4) }
 {
     match algorithm.initial_state() {

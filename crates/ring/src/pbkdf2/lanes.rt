@@ -83,7 +83,7 @@ fn words_of(key: &Key) -> (State32, State32)
 }
 
 // The keys of four secrets, each in a lane too.
-fn four_keys(algorithm: Algorithm, secrets: &[&[u8]], meter: &mut Meter) -> FourKeys
+pub(crate) fn four_keys(algorithm: Algorithm, secrets: &[&[u8]], meter: &mut Meter) -> FourKeys
     requires size { word_len (hmac_digest algorithm) ≡ 4 }
     requires four { length secrets.now ≡ 4 }
     requires within { (i : ℕ) → i < 4
@@ -132,7 +132,7 @@ fn first_states(
 }
 
 // The words of the round of this number, of each salt under the key at its place.
-fn round_in_lanes(
+pub(crate) fn round_in_lanes(
     algorithm: digest::Algorithm,
     four: &FourKeys,
     iterations: NonZeroU32,

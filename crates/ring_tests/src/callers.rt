@@ -13,7 +13,9 @@ use ring_uses::hmac::{tag_counted, tag_of_two, verify_tag};
 use ring_uses::pbkdf2::{derive_and_verify, stored_of, verify_stored};
 use ring_uses::pieces::{digest_of_list, digest_of_whole, digests_of_front_and_whole};
 use ring_uses::rand::{nonce, tag_under_generated};
-use ring_uses::several::{digests_of_both, digests_of_four, stored_of_both, stored_of_four};
+use ring_uses::several::{
+    digests_of_both, digests_of_four, stored_of_both, stored_of_four, verify_four,
+};
 use ring_uses::store::log_in;
 use std::num::NonZeroU32;
 use std::test::Fail;
@@ -131,6 +133,13 @@ fn passwords_at_once(rt: HostRuntime) -> Result<(), Fail> {
     let four = stored_of_four(one, &[b"SALT", b"salt", b"salt", b"salt"], &passwords)?;
     assert!(rt; is_hex_of(rt.alloc(), STORED, &four[3])?);
     assert!(rt; is_hex_of(rt.alloc(), OF_NO_PASSWORD, &four[2])?);
+    let verified = verify_four(
+        one,
+        &[b"SALT", b"salt", b"salt", b"SALT"],
+        &passwords,
+        &four,
+    )?;
+    assert!(rt; verified == [true, true, true, false]);
     let (first, second) = stored_of_both(one, b"salt", b"passwd", b"salt", b"")?;
     assert!(rt; is_hex_of(rt.alloc(), STORED, &first)?);
     assert!(rt; is_hex_of(rt.alloc(), OF_NO_PASSWORD, &second)?);

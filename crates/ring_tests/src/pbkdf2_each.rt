@@ -7,7 +7,7 @@ use ring::digest::{Context, Digest, SHA256};
 use ring::error::Unspecified;
 use ring::pbkdf2::{
     Algorithm, PBKDF2_HMAC_SHA1, PBKDF2_HMAC_SHA256, PBKDF2_HMAC_SHA384, PBKDF2_HMAC_SHA512,
-    derive_counted, derive_each, derive_each_counted,
+    derive_counted, derive_each, derive_each_counted, verify_each_counted,
 };
 use std::alloc::Global;
 use std::num::NonZeroU32;
@@ -275,5 +275,118 @@ fn other_numbers_of_salts_or_places(rt: HostRuntime) -> Result<(), Fail> {
             assert!(rt; is_refused(algorithm, salts, secrets, places)?);
         }
     }
+    Ok(())
+}
+
+// The answers for the first of these values, and false after them, and what they cost.
+fn answers_for<const N: usize>(
+    algorithm: Algorithm,
+    values: &[[u8; N]; MOST],
+    count: usize,
+) -> Result<([bool; MOST], u128, u128), Unspecified> {
+    let bytes = counting_bytes::<257>();
+    let three = NonZeroU32::new(3).ok_or(Unspecified)?;
+    let count = count.min(MOST);
+    let mut matches = [false; MOST];
+    let mut meter = Meter::new();
+    verify_each_counted(
+        algorithm,
+        three,
+        &salts_of(&bytes)[..count],
+        &secrets_of(&bytes)[..count],
+        &values[..count],
+        &mut matches[..count],
+        &mut meter,
+    )?;
+    Ok((matches, meter.blocks(), meter.byte_pairs()))
+}
+
+// Whether exactly the answers at the other places before `count` are true where one value differs
+// in its first or in its last byte, at the cost of no difference.
+fn tells_one_apart<const N: usize>(
+    algorithm: Algorithm,
+    values: &[[u8; N]; MOST],
+    wrong: usize,
+    count: usize,
+) -> Result<bool, Unspecified> {
+    let (_, blocks, pairs) = answers_for(algorithm, values, count)?;
+    for place in [0, N.saturating_sub(1)] {
+        let mut others = *values;
+        if let Some(value) = others.get_mut(wrong) {
+            if let Some(byte) = value.get_mut(place) {
+                *byte ^= 0x80;
+            }
+        }
+        let (matches, others_blocks, others_pairs) = answers_for(algorithm, &others, count)?;
+        if others_blocks != blocks || others_pairs != pairs {
+            return Ok(false);
+        }
+        for (i, matched) in matches.iter().enumerate() {
+            if *matched != (i < count && i != wrong) {
+                return Ok(false);
+            }
+        }
+    }
+    Ok(true)
+}
+
+// The values are those that `keys_of_any_number` compares with others'.
+fn tells_each_apart<const N: usize>() -> Result<bool, Unspecified> {
+    for algorithm in ALGORITHMS {
+        let values = keys_of::<N>(algorithm, MOST)?;
+        for wrong in 0..MOST {
+            if !tells_one_apart(algorithm, &values, wrong, MOST)? {
+                return Ok(false);
+            }
+        }
+        for count in [0, 1, 3, 4, 5, 8] {
+            if !tells_one_apart(algorithm, &values, 2, count)? {
+                return Ok(false);
+            }
+        }
+    }
+    Ok(true)
+}
+
+#[test]
+fn values_that_differ(rt: HostRuntime) -> Result<(), Fail> {
+    assert!(rt; tells_each_apart::<20>()?);
+    assert!(rt; tells_each_apart::<32>()?);
+    assert!(rt; tells_each_apart::<100>()?);
+    Ok(())
+}
+
+// Whether so many salts, secrets, values and answers are refused, and nothing is answered or run.
+fn is_verification_refused<const N: usize>(counts: [usize; 4]) -> bool {
+    let bytes = counting_bytes::<257>();
+    let [salts, secrets, values, answers] = counts;
+    let mut matches = [true; MOST];
+    let mut meter = Meter::new();
+    let refusal = verify_each_counted(
+        PBKDF2_HMAC_SHA256,
+        NonZeroU32::MIN,
+        &salts_of(&bytes)[..salts.min(MOST)],
+        &secrets_of(&bytes)[..secrets.min(MOST)],
+        &[[0; N]; MOST][..values.min(MOST)],
+        &mut matches[..answers.min(MOST)],
+        &mut meter,
+    );
+    refusal.is_err() && matches == [true; MOST] && meter.blocks() == 0
+}
+
+#[test]
+fn other_numbers_of_values_or_answers(rt: HostRuntime) -> Result<(), Fail> {
+    for counts in [
+        [4, 5, 5, 5],
+        [5, 4, 5, 5],
+        [5, 5, 4, 5],
+        [5, 5, 5, 4],
+        [0, 0, 0, 1],
+    ] {
+        assert!(rt; is_verification_refused::<32>(counts));
+    }
+    // No value of no byte is ever verified, and of no values there is nothing to refuse.
+    assert!(rt; is_verification_refused::<0>([1, 1, 1, 1]));
+    assert!(rt; answers_for::<0>(PBKDF2_HMAC_SHA256, &[[]; MOST], 0)? == ([false; MOST], 0, 0));
     Ok(())
 }

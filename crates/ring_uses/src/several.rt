@@ -2,14 +2,14 @@
 
 ghost use Rattle.std.specs.Prelude.{◌≡◌, ◌↔◌, IfOk, IsOk};
 ghost use Rattle.std.specs.Int.NonZero.{non_zero_u32_get};
-ghost use Rattle.ring.specs.DeriveEach.{AreDerived, CanDeriveEach};
+ghost use Rattle.ring.specs.DeriveEach.{AreDerived, AreVerified, CanDeriveEach, CanVerifyEach};
 ghost use Rattle.ring.specs.Digest.{IsDigest};
 ghost use Rattle.ring.specs.Each.{AreDigests, CanDigestEach};
 ghost use Rattle.ring.specs.Pbkdf2.{dk};
 
 use ring::digest::{Algorithm, Digest, SHA256, SHA256_OUTPUT_LEN, digest, digest_each};
 use ring::error::Unspecified;
-use ring::pbkdf2::{PBKDF2_HMAC_SHA256, derive_each};
+use ring::pbkdf2::{PBKDF2_HMAC_SHA256, derive_each, verify_each};
 use std::num::NonZeroU32;
 
 /// The digests of four messages, made side by side.
@@ -80,4 +80,28 @@ pub fn stored_of_both(
         &mut stored,
     )?;
     Ok((stored[0], stored[1]))
+}
+
+/// Whether each of four passwords is the one that was stored.
+pub fn verify_four(
+    iterations: NonZeroU32,
+    salts: &[&[u8]; 4],
+    passwords: &[&[u8]; 4],
+    stored: &[[u8; SHA256_OUTPUT_LEN]; 4],
+) -> Result<[bool; 4], Unspecified>
+    ensures ok { IfOk result (λ matches. AreVerified matches SHA256
+        salts.now passwords.now (non_zero_u32_get iterations) stored.now) }
+    ensures refused { IsOk result
+        ↔ CanVerifyEach SHA256 salts.now passwords.now stored.now 4 32 }
+{
+    let mut matches = [false; 4];
+    verify_each(
+        PBKDF2_HMAC_SHA256,
+        iterations,
+        salts,
+        passwords,
+        stored,
+        &mut matches,
+    )?;
+    Ok(matches)
 }

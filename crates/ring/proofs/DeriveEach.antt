@@ -124,36 +124,44 @@ four-none four a salts c n out m len =
       cost = raised-none m ∙ ap (λ (z : ℕ). raised m z 0) none;
     }
 
+-- the words ws are those of the round after r rounds, of which k bytes are wanted, up to `end`
+pub record IsNextRound (four : FourKeys) (a : Algorithm) (salts : List (Bor (List ℕ)))
+    (c n r w k end : ℕ) (ws : ℕ → List ℕ) : Type 0 where
+  pub more : w < n
+  pub ends : end ≡ w + k
+  pub wanted : k ≡ min (output_len a) (n - w)
+  pub size : word_len a ≡ 4
+  pub round : (p : ℕ → List ℕ) (i : ℕ) → FourStandFor four a p → i < 4
+      → digest_bytes a (ws i) ≡ xored a (p i) (bytes_at salts i) (r + 1) c
+
 module _ {four : FourKeys} {a : Algorithm} {salts : List (Bor (List ℕ))} {c n r w : ℕ}
     {out : List (List ℕ)} {m0 m1 : Counts} where
   -- the next round, or a front of it, is written at each place
   pub four-next : {k end : ℕ} {next : List (List ℕ)} {m2 : Counts} (ws : ℕ → List ℕ)
-      → FourHaveWritten four a salts c n r w out m0 m1 → w < n → end ≡ w + k
-      → k ≡ min (output_len a) (n - w) → word_len a ≡ 4
-      → ((p : ℕ → List ℕ) (i : ℕ) → FourStandFor four a p → i < 4
-      → digest_bytes a (ws i) ≡ xored a (p i) (bytes_at salts i) (r + 1) c)
+      → FourHaveWritten four a salts c n r w out m0 m1
+      → IsNextRound four a salts c n r w k end ws
       → ((i : ℕ) → i < 4 → length (get_or next i []) ≡ n)
       → ((i : ℕ) → i < 4 → take end (get_or next i [])
       ≡ take w (get_or out i []) ++ take (end - w) (word_bytes 4 (ws i)))
       → m2 ≡ raised m1 (four_round_blocks a salts c) 0
       → FourHaveWritten four a salts c n (r + 1) end next m0 m2
-  four-next {k = k} {end = end} {next = next} ws t more ee ek size round len put em =
+  four-next {k = k} {end = end} {next = next} ws t is len put em =
       let b : ℕ = four_round_blocks a salts c in
-      let part : end - w ≡ k = omega (arith, ee) in
-      let fits : k ≤ output_len a = omega (arith, ek) in
-      rw ee record {
-        reached = (next-one k t.reached more ek).after;
+      let part : end - w ≡ k = omega (arith, is.ends) in
+      let fits : k ≤ output_len a = omega (arith, is.wanted) in
+      rw is.ends record {
+        reached = (next-one k t.reached is.more is.wanted).after;
         len = len;
         front = λ p i stands below.
             let s : List ℕ = bytes_at salts i in
             let front : take k (word_bytes 4 (ws i)) ≡ take k (xored a (p i) s (r + 1) c) =
             sym (take-take k (output_len a) (word_bytes 4 (ws i)) fits)
-            ∙ ap (λ (z : ℕ). take k (take (output_len a) (word_bytes z (ws i)))) (sym size)
-            ∙ ap (take k) (round p i stands below) in
-            rw (part, ee) at put i below
+            ∙ ap (λ (z : ℕ). take k (take (output_len a) (word_bytes z (ws i)))) (sym is.size)
+            ∙ ap (take k) (is.round p i stands below) in
+            rw (part, is.ends) at put i below
             ∙ ap (λ zs. zs ++ take k (word_bytes 4 (ws i))) (t.front p i stands below)
             ∙ ap (λ zs. take w (rounds a (p i) (bytes_at salts i) c r) ++ zs) front
-            ∙ sym (round-next (p i) (bytes_at salts i) c k t.reached more ek);
+            ∙ sym (round-next (p i) (bytes_at salts i) c k t.reached is.more is.wanted);
         cost = raised-then m0 (r * b) b t.cost em
             ∙ ap (λ (z : ℕ). raised m0 z 0) (rw add-one (sym (suc-mul r b)));
       }
@@ -461,33 +469,31 @@ module _ {four : FourKeys} {a : Algorithm} {salts : List (Bor (List ℕ))} {c n 
     {values : List (List ℕ)} {matches : List Bool} {m0 m1 : Counts} where
   -- the next round, or a front of it, is compared at each place
   pub four_compared-next : {k end : ℕ} {next : List Bool} {m2 m3 : Counts} (ws : ℕ → List ℕ)
-      → FourHaveCompared four a salts c n r w values matches m0 m1 → w < n → end ≡ w + k
-      → k ≡ min (output_len a) (n - w) → word_len a ≡ 4
-      → ((p : ℕ → List ℕ) (i : ℕ) → FourStandFor four a p → i < 4
-      → digest_bytes a (ws i) ≡ xored a (p i) (bytes_at salts i) (r + 1) c)
+      → FourHaveCompared four a salts c n r w values matches m0 m1
+      → IsNextRound four a salts c n r w k end ws
       → ((i : ℕ) → i < 4 → length (get_or values i []) ≡ n)
       → ((i : ℕ) → i < 4 → (get_or next i false ≡ true) ↔ ((get_or matches i false ≡ true)
       × (take (end - w) (drop w (get_or values i [])) ≡ take (end - w) (word_bytes 4 (ws i)))))
       → (m2 ≡ raised m1 (four_round_blocks a salts c) 0) × (m3 ≡ raised m2 0 (4 * (end - w)))
       → FourHaveCompared four a salts c n (r + 1) end values next m0 m3
-  four_compared-next {k = k} {end = end} {next = next} ws t more ee ek size round len same em =
+  four_compared-next {k = k} {end = end} {next = next} ws t is len same em =
       let b : ℕ = four_round_blocks a salts c in
-      let part : end - w ≡ k = omega (arith, ee) in
+      let part : end - w ≡ k = omega (arith, is.ends) in
       let blocks : r * b + (b + 0) ≡ (r + 1) * b = grind arith in
       let pairs : 4 * w + (0 + 4 * (end - w)) ≡ 4 * (w + k) = omega (arith, part) in
-      let fits : k ≤ output_len a = omega (arith, ek) in
-      rw ee record {
-        reached = (next-one k t.reached more ek).after;
+      let fits : k ≤ output_len a = omega (arith, is.wanted) in
+      rw is.ends record {
+        reached = (next-one k t.reached is.more is.wanted).after;
         front = λ p i stands below.
             let s : List ℕ = bytes_at salts i in
             let value : List ℕ = get_or values i [] in
             let last : take k (word_bytes 4 (ws i)) ≡ take k (xored a (p i) s (r + 1) c) =
             sym (take-take k (output_len a) (word_bytes 4 (ws i)) fits)
-            ∙ ap (λ (z : ℕ). take k (take (output_len a) (word_bytes z (ws i)))) (sym size)
-            ∙ ap (take k) (round p i stands below) in
+            ∙ ap (λ (z : ℕ). take k (take (output_len a) (word_bytes z (ws i)))) (sym is.size)
+            ∙ ap (take k) (is.round p i stands below) in
             let split = same_part value (rounds a (p i) s c (r + 1)) w k
-            (omega (arith, len i below, more)) (length-rounds (p i) s c t.reached)
-            (round-next (p i) s c k t.reached more ek) in
+            (omega (arith, len i below, is.more)) (length-rounds (p i) s c t.reached)
+            (round-next (p i) s c k t.reached is.more is.wanted) in
             let both = rw (part, last) at (same i below) in
             let before = t.front p i stands below in (
               λ e. let h = both.0 e in split.1 (before.0 h.0, h.1),

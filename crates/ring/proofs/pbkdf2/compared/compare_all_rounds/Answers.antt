@@ -17,9 +17,14 @@ rounds-preserved g c =
     ≡ min (output_len a) (g.row.N - c.rounds.checked) =
     omega (arith, c.min.ensures, c.output_len-output_len.ensures) in
     let round = c.round_in_lanes-round in
-    four_compared-next (λ i. words_of_lane i round.result) c.rounds.invariant c.rounds-test.true
-    (omega arith) part c.requires.size round.ensures.ok c.requires.len c.compare_round.ensures.ok
-    (round.ensures.cost, c.compare_round.ensures.cost)
+    four_compared-next (λ i. words_of_lane i round.result) c.rounds.invariant
+    (record {
+      more = c.rounds-test.true;
+      ends = omega arith;
+      wanted = part;
+      size = c.requires.size;
+      round = round.ensures.ok;
+    }) c.requires.len c.compare_round.ensures.ok (round.ensures.cost, c.compare_round.ensures.cost)
 
 pub returns : goal.returns
 returns g c =

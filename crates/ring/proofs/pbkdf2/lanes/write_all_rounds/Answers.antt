@@ -19,9 +19,14 @@ rounds-preserved g c =
     ≡ min (output_len a) (g.row.N - c.rounds.written) =
     omega (arith, c.min.ensures, c.output_len-output_len.ensures) in
     let round = c.round_in_lanes-round in
-    four-next (λ i. words_of_lane i round.result) c.rounds.invariant c.rounds-test.true
-    (omega arith) part c.requires.size round.ensures.ok c.put_round.ensures.len
-    c.put_round.ensures.bytes round.ensures.cost
+    four-next (λ i. words_of_lane i round.result) c.rounds.invariant
+    (record {
+      more = c.rounds-test.true;
+      ends = omega arith;
+      wanted = part;
+      size = c.requires.size;
+      round = round.ensures.ok;
+    }) c.put_round.ensures.len c.put_round.ensures.bytes round.ensures.cost
 
 pub returns-clause-ok : goal.returns-clause-ok
 returns-clause-ok g c = (four-all c.rounds.invariant c.rounds-test.false).0

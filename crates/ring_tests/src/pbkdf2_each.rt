@@ -1,5 +1,7 @@
 //! Keys derived from several secrets at once: the values of other implementations, in every place.
 
+ghost use Rattle.std.specs.Prelude.{◌<◌};
+
 use crate::hkdf::is_hex_of;
 use crate::messages::counting_bytes;
 use ring::cost::Meter;
@@ -131,7 +133,9 @@ fn agrees_on_first<const N: usize>(
 }
 
 // Whether the keys are those of others, in any number.
-fn are_of_others<const N: usize>(alloc: Global, digests: [&str; 4]) -> Result<bool, Fail> {
+fn are_of_others<const N: usize>(alloc: Global, digests: [&str; 4]) -> Result<bool, Fail>
+    requires { N < 1000 }
+{
     for (algorithm, expected) in ALGORITHMS.iter().zip(&digests) {
         let all = keys_of::<N>(*algorithm, MOST)?;
         if !is_hex_of(alloc, expected, digest_of(&all)?.as_ref())? {
@@ -331,7 +335,9 @@ fn tells_one_apart<const N: usize>(
 }
 
 // The values are those that `keys_of_any_number` compares with others'.
-fn tells_each_apart<const N: usize>() -> Result<bool, Unspecified> {
+fn tells_each_apart<const N: usize>() -> Result<bool, Unspecified>
+    requires { N < 1000 }
+{
     for algorithm in ALGORITHMS {
         let values = keys_of::<N>(algorithm, MOST)?;
         for wrong in 0..MOST {
@@ -357,9 +363,12 @@ fn values_that_differ(rt: HostRuntime) -> Result<(), Fail> {
 }
 
 // Whether so many salts, secrets, values and answers are refused, and nothing is answered or run.
-fn is_verification_refused<const N: usize>(counts: [usize; 4]) -> bool {
+fn is_verification_refused<const N: usize>(counts: [usize; 4]) -> bool
+    requires { N < 1000 }
+{
     let bytes = counting_bytes::<257>();
     let [salts, secrets, values, answers] = counts;
+    let zeros = [[0; N]; MOST];
     let mut matches = [true; MOST];
     let mut meter = Meter::new();
     let refusal = verify_each_counted(
@@ -367,7 +376,7 @@ fn is_verification_refused<const N: usize>(counts: [usize; 4]) -> bool {
         NonZeroU32::MIN,
         &salts_of(&bytes)[..salts.min(MOST)],
         &secrets_of(&bytes)[..secrets.min(MOST)],
-        &[[0; N]; MOST][..values.min(MOST)],
+        &zeros[..values.min(MOST)],
         &mut matches[..answers.min(MOST)],
         &mut meter,
     );

@@ -1,10 +1,11 @@
 //! Digests of several messages, and keys from several passwords, at once.
 
-ghost use Rattle.std.specs.Prelude.{◌≡◌, ◌↔◌, IfOk, IsOk};
+ghost use Rattle.std.specs.Prelude.{◌≡◌, ◌↔◌, IfOk, IsOk, length};
 ghost use Rattle.std.specs.Int.NonZero.{non_zero_u32_get};
 ghost use Rattle.ring.specs.DeriveEach.{AreDerived, AreVerified, CanDeriveEach, CanVerifyEach};
 ghost use Rattle.ring.specs.Digest.{IsDigest};
 ghost use Rattle.ring.specs.Each.{AreDigests, CanDigestEach};
+ghost use Rattle.ring.specs.Limits.{CanDerive};
 ghost use Rattle.ring.specs.Pbkdf2.{dk};
 
 use ring::digest::{Algorithm, Digest, SHA256, SHA256_OUTPUT_LEN, digest, digest_each};
@@ -68,6 +69,8 @@ pub fn stored_of_both(
         ≡ dk SHA256 password.now salt.now (non_zero_u32_get iterations) 32) }
     ensures second { IfOk result (λ stored. stored.1
         ≡ dk SHA256 other_password.now other_salt.now (non_zero_u32_get iterations) 32) }
+    ensures refused { IsOk result ↔ (CanDerive SHA256 (length password.now) (length salt.now) 32
+        × CanDerive SHA256 (length other_password.now) (length other_salt.now) 32) }
 {
     let mut stored = [[0; SHA256_OUTPUT_LEN]; 2];
     let salts = [salt, other_salt];

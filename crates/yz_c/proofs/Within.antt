@@ -1,41 +1,13 @@
 -- Messages whose lengths are within the limit.
 use Rattle.std.proofs.Common.{◌≡◌, ◌↔◌, ℕ, ◌+◌, ◌<◌, ◌≤◌, List, Bool, false, IsTrue, length}
-use Rattle.std.proofs.Common.{[], ap, arith, drop, get_or, inl, inr, length-drop, sym, take}
-use Rattle.std.proofs.Common.{true≢false, ◌∙◌}
-use Rattle.std.proofs.Math.ListN.{get_or-map}
+use Rattle.std.proofs.Common.{[], arith, get_or, inl, inr, sym, true≢false, ◌∙◌}
 use Rattle.std.proofs.lemmas.Bool.{cases_order}
-use Rattle.std.proofs.lemmas.List.{get_or-drop, get_or-take, length-take-le}
 use Rattle.std.specs.Borrow.{Bor}
 use Rattle.ring.specs.Algorithm.{max_input_len}
-use Rattle.ring.specs.Each.{CanDigestEach, message_at}
+use Rattle.ring.specs.Each.{message_at}
 use Rattle.ring.specs.Limits.{IsMessageWithin}
 use Rattle.ring.specs.declared.digest.algorithm.Algorithm.{Algorithm}
-
--- the message at a place, as an index reads it
-message-read : (messages : List (Bor (List ℕ))) (k : ℕ)
-    → message_at messages k ≡ (get_or messages k record { ref_ptr = (0, 0); now = [] }).now
-message-read messages k =
-    get_or-map (λ message. message.now) messages k record { ref_ptr = (0, 0); now = [] }
-
--- k of the messages can be digested where all can
-pub can-part : {n : ℕ} (a : Algorithm) (messages : List (Bor (List ℕ))) (i k : ℕ)
-    → CanDigestEach a messages n → i + k ≤ n → CanDigestEach a (take k (drop i messages)) k
-can-part a messages i k can fits =
-    let part = take k (drop i messages) in
-    let none : Bor (List ℕ) = record { ref_ptr = (0, 0); now = [] } in
-    let long : length part ≡ k =
-    length-take-le k (drop i messages) (omega (arith, length-drop i messages, can.count)) in
-    let same : (j : ℕ) → j < k → message_at part j ≡ message_at messages (i + j) =
-    λ j h. message-read part j
-    ∙ ap (λ (m : Bor (List ℕ)). m.now) (get_or-take k (drop i messages) j none h
-    ∙ get_or-drop i messages j none)
-    ∙ sym (message-read messages (i + j)) in
-    record {
-      count = long;
-      each = λ j below.
-          let h : j < k = omega (arith, long, below) in
-          rw (same j h) (can.each (i + j) (omega (arith, h, can.count)));
-    }
+use Rattle.ring.proofs.Each.{message-read}
 
 -- the first i messages are within the limit
 abbrev pub AreWithin : Algorithm → List (Bor (List ℕ)) → ℕ → Type 0

@@ -189,6 +189,29 @@ fn finished(
     Digest::new(short_output(&words), algorithm)
 }
 
+// The digest of the message at place `i`, from the states after the first `count` blocks of all four.
+fn finished_at(
+    algorithm: Algorithm,
+    states: &FourStates,
+    messages: &[&[u8]],
+    i: usize,
+    count: usize,
+    meter: &mut Meter,
+) -> Digest
+    requires lanes { block_len algorithm ≡ 64 }
+    requires within { CanDigestEach algorithm messages.now 4 }
+    requires below { (k : ℕ) → k < 4
+        → count ≤ padded_blocks algorithm (length (message_at messages.now k)) }
+    requires words { (k : ℕ) → k < 4 → HasWords algorithm
+        (words_at algorithm (message_at messages.now k) count) (words_of_lane k states.now) }
+    requires place { i < 4 }
+    ensures ok { IsDigest result algorithm (message_at messages.now i) }
+    ensures cost { meter.new ≡ raised meter.old
+        (padded_blocks algorithm (length (message_at messages.now i)) - count) 0 }
+{
+    finished(algorithm, states.state(i), messages[i], count, meter)
+}
+
 // The least number of blocks of four padded messages.
 fn fewest_blocks(algorithm: Algorithm, messages: &[&[u8]]) -> usize
     requires lanes { block_len algorithm ≡ 64 }
@@ -220,8 +243,8 @@ pub(crate) fn write_four(
 {
     let count = fewest_blocks(algorithm, messages);
     let states = states_after(algorithm, first, messages, count, meter);
-    out[0] = finished(algorithm, states.state(0), messages[0], count, meter);
-    out[1] = finished(algorithm, states.state(1), messages[1], count, meter);
-    out[2] = finished(algorithm, states.state(2), messages[2], count, meter);
-    out[3] = finished(algorithm, states.state(3), messages[3], count, meter);
+    out[0] = finished_at(algorithm, &states, messages, 0, count, meter);
+    out[1] = finished_at(algorithm, &states, messages, 1, count, meter);
+    out[2] = finished_at(algorithm, &states, messages, 2, count, meter);
+    out[3] = finished_at(algorithm, &states, messages, 3, count, meter);
 }

@@ -104,6 +104,31 @@ pub(crate) fn four_keys(algorithm: Algorithm, secrets: &[&[u8]], meter: &mut Met
     }
 }
 
+// The words of U_1 of the round of this number, of the salt and under the key at place `i`.
+fn first_state_at(
+    algorithm: digest::Algorithm,
+    keys: &[Key; 4],
+    salts: &[&[u8]],
+    i: usize,
+    number: u32,
+    meter: &mut Meter,
+) -> State32
+    requires size { word_len algorithm ≡ 4 }
+    requires keys { (k : ℕ) (key : Key) → k < 4
+        → key_algorithm (get_or keys.now k key) ≡ algorithm }
+    requires four { length salts.now ≡ 4 }
+    requires within { (k : ℕ) → k < 4
+        → IsTagWithin algorithm (length (bytes_at salts.now k) + 4) }
+    requires place { i < 4 }
+    ensures ok { (p : ℕ → List ℕ) → AreKeysOf algorithm keys.now p
+        → digest_bytes algorithm (words_32 result)
+        ≡ iterate algorithm (p i) (bytes_at salts.now i) number 1 }
+    ensures cost { meter.new ≡ raised meter.old
+        (padded_blocks algorithm (length (bytes_at salts.now i) + 4) + 1) 0 }
+{
+    first_state(&keys[i], salts[i], number, meter)
+}
+
 // The words of U_1 of the round of this number, of each salt under the key at its place.
 fn first_states(
     algorithm: digest::Algorithm,
@@ -124,10 +149,10 @@ fn first_states(
     ensures cost { meter.new ≡ raised meter.old (sum_below
         (λ i. padded_blocks algorithm (length (bytes_at salts.now i) + 4) + 1) 4) 0 }
 {
-    let first = first_state(&keys[0], salts[0], number, meter);
-    let second = first_state(&keys[1], salts[1], number, meter);
-    let third = first_state(&keys[2], salts[2], number, meter);
-    let fourth = first_state(&keys[3], salts[3], number, meter);
+    let first = first_state_at(algorithm, keys, salts, 0, number, meter);
+    let second = first_state_at(algorithm, keys, salts, 1, number, meter);
+    let third = first_state_at(algorithm, keys, salts, 2, number, meter);
+    let fourth = first_state_at(algorithm, keys, salts, 3, number, meter);
     FourStates::new(&first, &second, &third, &fourth)
 }
 

@@ -1,5 +1,5 @@
 //! Four chaining states of 32-bit words side by side, for four messages at a time.
-ghost use Rattle.std.specs.Prelude.{◌≡◌, ℕ, ◌<◌};
+ghost use Rattle.std.specs.Prelude.{◌≡◌, ℕ, ◌<◌, slice_index};
 ghost use Rattle.ring_core.specs.Bytes.{xor_lists};
 ghost use Rattle.ring_core.specs.Lane.{word_of_lane, words_of_lane};
 ghost use Rattle.ring_core.specs.Sha2.{words_32};
@@ -23,6 +23,24 @@ fn word_in(words: FourWords, i: usize) -> Wrapping<u32>
     Wrapping(words.0.to_array()[i])
 }
 
+// The words at place `at` of four states, the first state's in lane 0.
+#[inline(always)]
+fn words_at(
+    first: &[Wrapping<u32>; 8],
+    second: &[Wrapping<u32>; 8],
+    third: &[Wrapping<u32>; 8],
+    fourth: &[Wrapping<u32>; 8],
+    at: usize,
+) -> FourWords
+    requires { at < 8 }
+    ensures first { word_of_lane 0 result ≡ slice_index (words_32 first.now) at }
+    ensures second { word_of_lane 1 result ≡ slice_index (words_32 second.now) at }
+    ensures third { word_of_lane 2 result ≡ slice_index (words_32 third.now) at }
+    ensures fourth { word_of_lane 3 result ≡ slice_index (words_32 fourth.now) at }
+{
+    FourWords::new([first[at], second[at], third[at], fourth[at]])
+}
+
 impl FourStates {
     /// Four states, the first in lane 0.
     pub fn new(
@@ -38,14 +56,14 @@ impl FourStates {
     {
         FourStates {
             words: [
-                FourWords::new([first[0], second[0], third[0], fourth[0]]),
-                FourWords::new([first[1], second[1], third[1], fourth[1]]),
-                FourWords::new([first[2], second[2], third[2], fourth[2]]),
-                FourWords::new([first[3], second[3], third[3], fourth[3]]),
-                FourWords::new([first[4], second[4], third[4], fourth[4]]),
-                FourWords::new([first[5], second[5], third[5], fourth[5]]),
-                FourWords::new([first[6], second[6], third[6], fourth[6]]),
-                FourWords::new([first[7], second[7], third[7], fourth[7]]),
+                words_at(first, second, third, fourth, 0),
+                words_at(first, second, third, fourth, 1),
+                words_at(first, second, third, fourth, 2),
+                words_at(first, second, third, fourth, 3),
+                words_at(first, second, third, fourth, 4),
+                words_at(first, second, third, fourth, 5),
+                words_at(first, second, third, fourth, 6),
+                words_at(first, second, third, fourth, 7),
             ],
         }
     }
@@ -85,6 +103,7 @@ impl FourStates {
             word_in(words[7], i),
         ]
     }
+
     /// Xors the words of `other` into these, each lane's into the same lane.
     #[inline(always)]
     pub fn xor_assign(&mut self, other: &FourStates)

@@ -1,7 +1,7 @@
 use Rattle.std.proofs.Common.{◌≡◌, ◌≤◌, ◌+◌, ◌-◌, arith, length, refl, take}
 use Rattle.std.proofs.lemmas.Bool.{false≢true}
 use Rattle.std.proofs.lemmas.List.{length-take-le}
-use Rattle.yz_c.proofs.Within.{can-part}
+use Rattle.ring.proofs.Each.{can-part}
 use Rattle.yz_c.proofs.Written.{room-next, written-all, written-next}
 use Rattle.yz_c.proofs.each.write_each.Goals as goal
 

@@ -1,14 +1,11 @@
-use Rattle.std.proofs.Common.{◌≡◌, ℕ, ◌+◌, ◌-◌, ◌*◌, ◌%◌, ◌^◌, ◌≤◌, ◌++◌, add-one}
+use Rattle.std.proofs.Common.{◌≡◌, ◌+◌, ◌-◌, ◌*◌, ◌≤◌, ◌++◌, add-one}
 use Rattle.std.proofs.Common.{ap, arith, length, rules, suc-mul, sym}
 use Rattle.std.proofs.Common.{take, zero-mul, ◌∙◌}
-use Rattle.std.proofs.lemmas.List.{length-map, take-append-le}
 use Rattle.std.proofs.lemmas.Slice.{take-put_mid}
-use Rattle.std.specs.declared.num.Wrapping.{Wrapping}
 use Rattle.ring_core.specs.Lane.{words_of_lane}
-use Rattle.ring_core.specs.Sha2.{words_32}
 use Rattle.ring.specs.Pieces.{joined_blocks}
 use Rattle.ring.specs.State.{word_bytes}
-use Rattle.ring.proofs.Outputs.{length-word_bytes}
+use Rattle.ring.proofs.Outputs.{first_bytes}
 use Rattle.ring.proofs.Pieces.{joined_blocks-next, joined_blocks-none}
 use Rattle.ring.proofs.Rounds.{lane_room, length-part}
 use Rattle.ring.proofs.pbkdf2.four.put_rounds.Goals as goal
@@ -32,17 +29,10 @@ lanes-preserved c =
     let long = c.copy_from_slice.auto.self ∙ length-part start k out room in
     let front =
     take-put_mid start k out round (start + n) (omega (arith, long)) (omega (arith, room)) in
-    let words = words_32 c.state.result in
     let eight : length c.state.result ≡ 8 = search rules in
-    let count : length words ≡ 8 =
-    length-map c.state.result (λ (x : Wrapping ℕ). x.0 % 2 ^ 32) ∙ eight in
-    let bytes : length (word_bytes 4 words) ≡ 32 =
-    length-word_bytes 4 words ∙ omega (arith, count) in
-    let fits : n ≤ length (word_bytes 4 words) = omega (arith, bytes, c.requires.within) in
     let digest : round ≡ take n (word_bytes 4 (words_of_lane i c.args.sums.now)) =
-    c.copy_from_slice.ensures.after ∙ ap (take n) c.short_output-round.ensures
-    ∙ take-append-le n (word_bytes 4 words) _ fits
-    ∙ ap (λ z. take n (word_bytes 4 z)) c.state.ensures in (
+    c.copy_from_slice.ensures.after ∙ first_bytes n c.state.result _ (eight, c.requires.within)
+    c.short_output-round.ensures c.state.ensures in (
       omega (arith, more, place),
       λ f h.
           front ∙ ap (λ z. z ++ round) (c.lanes.invariant.1 f h)

@@ -3,8 +3,9 @@
 use crate::hkdf::is_hex_of;
 use crate::rand::ready_for_all;
 use ring::cost::Meter;
-use ring::digest::SHA256;
-use ring::hmac::{HMAC_SHA256, Key};
+use ring::digest::{Digest, SHA256};
+use ring::error::Unspecified;
+use ring::hmac::{HMAC_SHA256, Key, Tag};
 use ring_store::{PasswordStore, TokenMaker};
 use ring_uses::basics::{bit_length_field, blocks_of_digest, is_same_token, whole_and_left};
 use ring_uses::digest::digest_of_two;
@@ -17,6 +18,7 @@ use ring_uses::several::{
     digests_of_both, digests_of_four, stored_of_both, stored_of_four, verify_four,
 };
 use ring_uses::store::log_in;
+use std::alloc::Global;
 use std::num::NonZeroU32;
 use std::test::Fail;
 
@@ -56,53 +58,79 @@ const STORED: &str = "55ac046e56e3089fec1691c22544b605f94185216dde0465e68b9d57c2
 // What Python's `hashlib.pbkdf2_hmac` gives for no password, the same salt and one iteration.
 const OF_NO_PASSWORD: &str = "f135c27993baf98773c5cdb40a5706ce6a345cde61b000a67858650cd6a324d7";
 
+// Whether a digest is made, and has these digits.
+fn is_digest(
+    alloc: Global,
+    digits: &str,
+    digest: Result<Digest, Unspecified>,
+) -> Result<bool, Fail> {
+    is_hex_of(alloc, digits, digest?.as_ref())
+}
+
+// Whether a tag is made, and has these digits.
+fn is_tag(alloc: Global, digits: &str, tag: Result<Tag, Unspecified>) -> Result<bool, Fail> {
+    is_hex_of(alloc, digits, tag?.as_ref())
+}
+
 #[test]
 fn basics(rt: HostRuntime) -> Result<(), Fail> {
     assert!(rt; is_same_token(b"token", b"token") && !is_same_token(b"token", b"Token"));
     assert!(rt; !is_same_token(b"token", b"toke"));
-    // FIPS 180-4, 5.1.1: this message has 24 bits.
-    assert!(rt; bit_length_field(SHORT) == Ok([0, 0, 0, 0, 0, 0, 0, 24]));
-    // A padded message of 55 bytes is one block of 64, and of 56 bytes two.
-    assert!(rt; blocks_of_digest(&[0; 55])? == 1 && blocks_of_digest(&[0; 56])? == 2);
     assert!(rt; whole_and_left(&[0; 64]) == (1, 0) && whole_and_left(&[0; 200]) == (3, 8));
     Ok(())
 }
 
 #[test]
+fn lengths(rt: HostRuntime) -> Result<(), Fail> {
+    // FIPS 180-4, 5.1.1: this message has 24 bits.
+    assert!(rt; bit_length_field(SHORT) == Ok([0, 0, 0, 0, 0, 0, 0, 24]));
+    // A padded message of 55 bytes is one block of 64, and of 56 bytes two.
+    assert!(rt; blocks_of_digest(&[0; 55])? == 1 && blocks_of_digest(&[0; 56])? == 2);
+    Ok(())
+}
+
+#[test]
 fn digests(rt: HostRuntime) -> Result<(), Fail> {
-    let whole = digest_of_whole(SHORT)?;
-    assert!(rt; is_hex_of(rt.alloc(), OF_SHORT_BY_SHA512, whole.as_ref())?);
-    let two = digest_of_two(SHORT, LONG_REST)?;
-    assert!(rt; is_hex_of(rt.alloc(), OF_LONG, two.as_ref())?);
-    let list = digest_of_list(&SHA256, &[SHORT, &[], LONG_REST])?;
-    assert!(rt; is_hex_of(rt.alloc(), OF_LONG, list.as_ref())?);
+    assert!(rt; is_digest(rt.alloc(), OF_SHORT_BY_SHA512, digest_of_whole(SHORT))?);
+    assert!(rt; is_digest(rt.alloc(), OF_LONG, digest_of_two(SHORT, LONG_REST))?);
+    let list = digest_of_list(&SHA256, &[SHORT, &[], LONG_REST]);
+    assert!(rt; is_digest(rt.alloc(), OF_LONG, list)?);
+    Ok(())
+}
+
+#[test]
+fn front_and_whole(rt: HostRuntime) -> Result<(), Fail> {
     let (front, all) = digests_of_front_and_whole(&SHA256, SHORT, LONG_REST)?;
-    assert!(rt; is_hex_of(rt.alloc(), OF_SHORT, front.as_ref())?);
-    assert!(rt; is_hex_of(rt.alloc(), OF_LONG, all.as_ref())?);
+    assert!(rt; is_digest(rt.alloc(), OF_SHORT, Ok(front))?);
+    assert!(rt; is_digest(rt.alloc(), OF_LONG, Ok(all))?);
     Ok(())
 }
 
 #[test]
 fn digests_at_once(rt: HostRuntime) -> Result<(), Fail> {
     let (empty, short) = digests_of_both(&[], SHORT)?;
-    assert!(rt; is_hex_of(rt.alloc(), OF_NOTHING, empty.as_ref())?);
-    assert!(rt; is_hex_of(rt.alloc(), OF_SHORT, short.as_ref())?);
-    let four = digests_of_four(&SHA256, &[&[], &[], SHORT, &[]])?;
-    assert!(rt; is_hex_of(rt.alloc(), OF_SHORT, four[2].as_ref())?);
+    assert!(rt; is_digest(rt.alloc(), OF_NOTHING, Ok(empty))?);
+    assert!(rt; is_digest(rt.alloc(), OF_SHORT, Ok(short))?);
+    let [_, _, third, _] = digests_of_four(&SHA256, &[&[], &[], SHORT, &[]])?;
+    assert!(rt; is_digest(rt.alloc(), OF_SHORT, Ok(third))?);
     Ok(())
 }
 
 #[test]
 fn tags(rt: HostRuntime) -> Result<(), Fail> {
     let tag = tag_of_two(b"Jefe", b"what do ya want ", b"for nothing?")?;
-    assert!(rt; is_hex_of(rt.alloc(), TAG, tag.as_ref())?);
     verify_tag(b"Jefe", b"what do ya want for nothing?", tag.as_ref())?;
     assert!(rt; verify_tag(b"Jefe", b"what do ya want for nothing!", tag.as_ref()).is_err());
+    assert!(rt; is_tag(rt.alloc(), TAG, Ok(tag))?);
+    Ok(())
+}
 
+#[test]
+fn blocks_of_a_tag(rt: HostRuntime) -> Result<(), Fail> {
     let mut meter = Meter::new();
     let key = Key::new(HMAC_SHA256, b"Jefe")?;
-    let tag = tag_counted(&key, b"what do ya want ", b"for nothing?", &mut meter)?;
-    assert!(rt; is_hex_of(rt.alloc(), TAG, tag.as_ref())? && meter.blocks() == 2);
+    let tag = tag_counted(&key, b"what do ya want ", b"for nothing?", &mut meter);
+    assert!(rt; is_tag(rt.alloc(), TAG, tag)? && meter.blocks() == 2);
     Ok(())
 }
 
@@ -111,8 +139,8 @@ fn outputs(rt: HostRuntime) -> Result<(), Fail> {
     let mut output = [0; 42];
     expand_secret(&SALT, &[0x0b; 22], &[&INFO], &mut output)?;
     assert!(rt; is_hex_of(rt.alloc(), OUTPUT, &output)?);
-    let tag = tag_under_output(&SALT, &[0x0b; 22], &[&INFO], b"hello, world")?;
-    assert!(rt; is_hex_of(rt.alloc(), TAG_UNDER_OUTPUT, tag.as_ref())?);
+    let tag = tag_under_output(&SALT, &[0x0b; 22], &[&INFO], b"hello, world");
+    assert!(rt; is_tag(rt.alloc(), TAG_UNDER_OUTPUT, tag)?);
     Ok(())
 }
 
@@ -152,9 +180,9 @@ fn generated(rt: HostRuntime) -> Result<(), Fail> {
     let mut bytes = [0; 48];
     bytes[..20].copy_from_slice(&[0x0b; 20]);
     let mut source = ready_for_all(&bytes);
-    let tag = tag_under_generated(&mut source, b"Hi There")?;
+    let tag = tag_under_generated(&mut source, b"Hi There");
     let expected = "b0344c61d8db38535ca8afceaf0bf12b881dc200c9833da726e9376c2e32cff7";
-    assert!(rt; is_hex_of(rt.alloc(), expected, tag.as_ref())?);
+    assert!(rt; is_tag(rt.alloc(), expected, tag)?);
     assert!(rt; nonce(&mut source)? == [0; 16] && nonce(&mut source).is_err());
     Ok(())
 }

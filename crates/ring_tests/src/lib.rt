@@ -30,5 +30,3 @@ mod rand;
 mod several;
 #[cfg(test)]
 mod texts;
-#[cfg(test)]
-mod verified_rounds;

@@ -2,10 +2,7 @@
 
 use ring::cost::Meter;
 use ring::error::Unspecified;
-use ring::pbkdf2::{
-    Algorithm, PBKDF2_HMAC_SHA1, PBKDF2_HMAC_SHA256, PBKDF2_HMAC_SHA384, PBKDF2_HMAC_SHA512,
-    derive, derive_counted, verify, verify_counted,
-};
+use ring::pbkdf2::{PBKDF2_HMAC_SHA1, derive_counted, verify_counted};
 use std::num::NonZeroU32;
 use std::test::Fail;
 
@@ -56,29 +53,5 @@ fn mismatches_cost_what_matches_do(rt: HostRuntime) -> Result<(), Fail> {
             && verifies(&[0; 5], one) == (false, 4, 5)
             && verifies(&[], one) == (false, 0, 0)
     );
-    Ok(())
-}
-
-// Whether what an algorithm derives verifies under it, and with another salt not.
-fn derives(algorithm: Algorithm, iterations: NonZeroU32) -> Result<bool, Unspecified> {
-    let mut value = [0; 20];
-    derive(algorithm, iterations, SALT, SECRET, &mut value)?;
-    Ok(
-        verify(algorithm, iterations, SALT, SECRET, &value).is_ok()
-            && verify(algorithm, iterations, SECRET, SECRET, &value).is_err(),
-    )
-}
-
-#[test]
-fn derived_values_verify(rt: HostRuntime) -> Result<(), Fail> {
-    let two = NonZeroU32::new(2).ok_or("two")?;
-    for algorithm in [
-        PBKDF2_HMAC_SHA1,
-        PBKDF2_HMAC_SHA256,
-        PBKDF2_HMAC_SHA384,
-        PBKDF2_HMAC_SHA512,
-    ] {
-        assert!(rt; derives(algorithm, two)?);
-    }
     Ok(())
 }

@@ -9,7 +9,7 @@ use ring::digest::{Context, Digest, SHA256};
 use ring::error::Unspecified;
 use ring::pbkdf2::{
     Algorithm, PBKDF2_HMAC_SHA1, PBKDF2_HMAC_SHA256, PBKDF2_HMAC_SHA384, PBKDF2_HMAC_SHA512,
-    derive_counted, derive_each, derive_each_counted, verify_each_counted,
+    derive_each, verify_each_counted,
 };
 use std::alloc::Global;
 use std::num::NonZeroU32;
@@ -159,16 +159,6 @@ fn keys_of_any_number(rt: HostRuntime) -> Result<(), Fail> {
     Ok(())
 }
 
-#[test]
-fn keys_of_no_byte(rt: HostRuntime) -> Result<(), Fail> {
-    for algorithm in ALGORITHMS {
-        for count in [0, 1, 4, 5, 9] {
-            assert!(rt; keys_of::<0>(algorithm, count)? == [[]; MOST]);
-        }
-    }
-    Ok(())
-}
-
 // RFC 6070, its third, fifth and sixth vectors, of 20, 25 and 16 bytes, and the third again.
 #[test]
 fn rfc_6070_side_by_side(rt: HostRuntime) -> Result<(), Fail> {
@@ -186,99 +176,6 @@ fn rfc_6070_side_by_side(rt: HostRuntime) -> Result<(), Fail> {
     assert!(rt; is_hex_of(rt.alloc(), fifth, &keys[1])?);
     assert!(rt; is_hex_of(rt.alloc(), sixth, &keys[2][..16])?);
     assert!(rt; is_hex_of(rt.alloc(), third, &keys[3][..20])?);
-    Ok(())
-}
-
-// RFC 7914, section 11, the first vector, alone and in the last of four lanes.
-#[test]
-fn rfc_7914_in_a_lane(rt: HostRuntime) -> Result<(), Fail> {
-    let expected = "55ac046e56e3089fec1691c22544b605f94185216dde0465e68b9d57c20dacbc\
-        49ca9cccf179b645991664b39d77ef317c71b845b1e30bd509112041d3a19783";
-    let secrets: [&[u8]; 4] = [b"Passwd", b"passwd", b"", b"passwd"];
-    let salts: [&[u8]; 4] = [b"salt", b"SALT", b"salt", b"salt"];
-    let one = NonZeroU32::MIN;
-    let mut four = [[0; 64]; 4];
-    derive_each(PBKDF2_HMAC_SHA256, one, &salts, &secrets, &mut four)?;
-    assert!(rt; is_hex_of(rt.alloc(), expected, &four[3])?);
-    let mut single = [[0; 64]; 1];
-    derive_each(
-        PBKDF2_HMAC_SHA256,
-        one,
-        &salts[3..],
-        &secrets[3..],
-        &mut single,
-    )?;
-    assert!(rt; is_hex_of(rt.alloc(), expected, &single[0])?);
-    Ok(())
-}
-
-// The blocks of five keys of 100 bytes, and those of each by itself.
-fn blocks_of_five(algorithm: Algorithm) -> Result<(u128, u128), Unspecified> {
-    let bytes = counting_bytes::<257>();
-    let secrets = secrets_of(&bytes);
-    let salts = salts_of(&bytes);
-    let one = NonZeroU32::MIN;
-    let mut keys = [[0; 100]; 5];
-    let mut each = Meter::new();
-    derive_each_counted(
-        algorithm,
-        one,
-        &salts[..5],
-        &secrets[..5],
-        &mut keys,
-        &mut each,
-    )?;
-    let mut singly = Meter::new();
-    for (salt, secret) in salts[..5].iter().zip(&secrets[..5]) {
-        let mut key = [0; 100];
-        derive_counted(algorithm, one, salt, secret, &mut key, &mut singly)?;
-    }
-    Ok((each.blocks(), singly.blocks()))
-}
-
-// By SHA-256 the five keys take 2, 6, 2, 2 and 4 blocks, and each of their four rounds 2, 2, 2, 3
-// and 3, as docs/COSTS.md counts them.
-#[test]
-fn five_cost_what_each_costs(rt: HostRuntime) -> Result<(), Fail> {
-    for algorithm in ALGORITHMS {
-        let (each, singly) = blocks_of_five(algorithm)?;
-        assert!(rt; each == singly);
-    }
-    assert!(rt; blocks_of_five(PBKDF2_HMAC_SHA256)?.0 == 16 + 4 * 12);
-    Ok(())
-}
-
-// Whether so many salts, secrets and places are refused, and nothing is written or run.
-fn is_refused(
-    algorithm: Algorithm,
-    salts: usize,
-    secrets: usize,
-    places: usize,
-) -> Result<bool, Unspecified> {
-    let bytes = counting_bytes::<257>();
-    let mut keys = [[7; 32]; MOST];
-    let mut meter = Meter::new();
-    let refusal = derive_each_counted(
-        algorithm,
-        NonZeroU32::MIN,
-        &salts_of(&bytes)[..salts.min(MOST)],
-        &secrets_of(&bytes)[..secrets.min(MOST)],
-        &mut keys[..places.min(MOST)],
-        &mut meter,
-    );
-    Ok(refusal.is_err() && keys == [[7; 32]; MOST] && meter.blocks() == 0)
-}
-
-#[test]
-fn other_numbers_of_salts_or_places(rt: HostRuntime) -> Result<(), Fail> {
-    for algorithm in ALGORITHMS {
-        for (salts, secrets, places) in [(0, 0, 1), (1, 0, 0), (0, 1, 0), (4, 4, 5), (5, 4, 5)] {
-            assert!(rt; is_refused(algorithm, salts, secrets, places)?);
-        }
-        for (salts, secrets, places) in [(5, 5, 4), (4, 5, 4), (4, 5, 5), (9, 8, 9), (9, 9, 8)] {
-            assert!(rt; is_refused(algorithm, salts, secrets, places)?);
-        }
-    }
     Ok(())
 }
 
@@ -359,43 +256,5 @@ fn values_that_differ(rt: HostRuntime) -> Result<(), Fail> {
     assert!(rt; tells_each_apart::<20>()?);
     assert!(rt; tells_each_apart::<32>()?);
     assert!(rt; tells_each_apart::<100>()?);
-    Ok(())
-}
-
-// Whether so many salts, secrets, values and answers are refused, and nothing is answered or run.
-fn is_verification_refused<const N: usize>(counts: [usize; 4]) -> bool
-    requires { N < 1000 }
-{
-    let bytes = counting_bytes::<257>();
-    let [salts, secrets, values, answers] = counts;
-    let zeros = [[0; N]; MOST];
-    let mut matches = [true; MOST];
-    let mut meter = Meter::new();
-    let refusal = verify_each_counted(
-        PBKDF2_HMAC_SHA256,
-        NonZeroU32::MIN,
-        &salts_of(&bytes)[..salts.min(MOST)],
-        &secrets_of(&bytes)[..secrets.min(MOST)],
-        &zeros[..values.min(MOST)],
-        &mut matches[..answers.min(MOST)],
-        &mut meter,
-    );
-    refusal.is_err() && matches == [true; MOST] && meter.blocks() == 0
-}
-
-#[test]
-fn other_numbers_of_values_or_answers(rt: HostRuntime) -> Result<(), Fail> {
-    for counts in [
-        [4, 5, 5, 5],
-        [5, 4, 5, 5],
-        [5, 5, 4, 5],
-        [5, 5, 5, 4],
-        [0, 0, 0, 1],
-    ] {
-        assert!(rt; is_verification_refused::<32>(counts));
-    }
-    // No value of no byte is ever verified, and of no values there is nothing to refuse.
-    assert!(rt; is_verification_refused::<0>([1, 1, 1, 1]));
-    assert!(rt; answers_for::<0>(PBKDF2_HMAC_SHA256, &[[]; MOST], 0)? == ([false; MOST], 0, 0));
     Ok(())
 }

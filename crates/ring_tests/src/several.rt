@@ -119,34 +119,3 @@ fn numbers_of_messages(rt: HostRuntime) -> Result<(), Fail> {
     }
     Ok(())
 }
-
-// Whether so many messages with so many places are refused, and nothing is written or run.
-fn is_refused(algorithm: Algorithm, count: usize, places: usize) -> Result<bool, Unspecified> {
-    let bytes = counting_bytes::<257>();
-    let messages = mixed(&bytes);
-    let kept = digest(&algorithm, b"kept")?;
-    let mut digests = [kept; MOST];
-    let mut meter = Meter::new();
-    let refusal = digest_each_counted(
-        &algorithm,
-        &messages[..count.min(MOST)],
-        &mut digests[..places.min(MOST)],
-        &mut meter,
-    );
-    for digest in &digests {
-        if digest.as_ref() != kept.as_ref() {
-            return Ok(false);
-        }
-    }
-    Ok(refusal.is_err() && meter.blocks() == 0)
-}
-
-#[test]
-fn other_numbers_of_places(rt: HostRuntime) -> Result<(), Fail> {
-    for algorithm in ALGORITHMS {
-        for (count, places) in [(0, 1), (1, 0), (4, 5), (5, 4), (9, 8)] {
-            assert!(rt; is_refused(algorithm, count, places)?);
-        }
-    }
-    Ok(())
-}

@@ -189,7 +189,8 @@ fn finished(
     Digest::new(short_output(&words), algorithm)
 }
 
-// The digest of the message at place `i`, from the states after the first `count` blocks of all four.
+// The digest of the message at place `i`, from the states after the first `count` blocks of all
+// messages.
 fn finished_at(
     algorithm: Algorithm,
     states: &FourStates,

@@ -1,5 +1,4 @@
-//! Outputs of HKDF: lengths, costs, refusals that leave buffers and meters, and what is made of an
-//! output.
+//! Outputs of HKDF: lengths, refusals that leave buffers and meters, and what is made of an output.
 
 use crate::texts::prints;
 use ring::cost::Meter;
@@ -32,51 +31,6 @@ const LENGTHS: [(Algorithm, usize, usize); 4] = [
     (HKDF_SHA384, 48, 12240),
     (HKDF_SHA512, 64, 16320),
 ];
-
-// The blocks after a salt, an extraction and an output.
-fn blocks_of_calls(secret: &[u8], out: &mut [u8]) -> Result<[u128; 3], Unspecified> {
-    let mut meter = Meter::new();
-    let salt = Salt::new_counted(HKDF_SHA256, &[], &mut meter)?;
-    let of_salt = meter.blocks();
-    let prk = salt.extract_counted(secret, &mut meter)?;
-    let of_prk = meter.blocks();
-    let output = prk.expand(&[], Length(out.len()))?;
-    output.fill_counted(out, &mut meter)?;
-    Ok([of_salt, of_prk, meter.blocks()])
-}
-
-// RFC 5869, appendix A.3, with what each call costs.
-#[test]
-fn blocks_of_each_call(rt: HostRuntime) -> Result<(), Fail> {
-    assert!(rt; blocks_of_calls(&[0x0b; 22], &mut [0; 42])? == [2, 6, 10]);
-    Ok(())
-}
-
-// The blocks of a PRK, and those after an output as long as the buffer.
-fn blocks_of_fill(info: &[u8], out: &mut [u8]) -> Result<(u128, u128), Unspecified> {
-    let mut meter = Meter::new();
-    let prk = Prk::new_less_safe_counted(HKDF_SHA256, &[1], &mut meter)?;
-    let before = meter.blocks();
-    prk.expand(&[info], Length(out.len()))?
-        .fill_counted(out, &mut meter)?;
-    Ok((before, meter.blocks()))
-}
-
-// The padded blocks of each round's message, and one more a round: an output of nothing has a
-// round.
-#[test]
-fn blocks_of_outputs(rt: HostRuntime) -> Result<(), Fail> {
-    let info = [7; 55];
-    for len in 0..55 {
-        assert!(rt; blocks_of_fill(&info[..len], &mut [])? == (2, 4));
-    }
-    assert!(rt; blocks_of_fill(&info, &mut [])? == (2, 5));
-    assert!(rt;
-        blocks_of_fill(&info[..23], &mut [0; 32])? == (2, 4)
-            && blocks_of_fill(&info[..23], &mut [0; 33])? == (2, 7)
-    );
-    Ok(())
-}
 
 // Whether as many bytes may be asked for.
 fn is_expanded(algorithm: Algorithm, len: usize) -> Result<bool, Unspecified> {

@@ -1,11 +1,11 @@
 //! Each caller of `ring_uses` once, against a value from outside.
 
-use crate::hkdf::is_hex_of;
 use crate::rand::ready_for_all;
+use crate::texts::is_hex_of;
 use ring::cost::Meter;
-use ring::digest::{Digest, SHA256};
+use ring::digest::SHA256;
 use ring::error::Unspecified;
-use ring::hmac::{HMAC_SHA256, Key, Tag};
+use ring::hmac::{HMAC_SHA256, Key};
 use ring_store::{PasswordStore, TokenMaker};
 use ring_uses::basics::{bit_length_field, blocks_of_digest, is_same_token, whole_and_left};
 use ring_uses::digest::digest_of_two;
@@ -18,7 +18,6 @@ use ring_uses::several::{
     digests_of_both, digests_of_four, stored_of_both, stored_of_four, verify_four,
 };
 use ring_uses::store::log_in;
-use std::alloc::Global;
 use std::num::NonZeroU32;
 use std::test::Fail;
 
@@ -58,131 +57,108 @@ const STORED: &str = "55ac046e56e3089fec1691c22544b605f94185216dde0465e68b9d57c2
 // What Python's `hashlib.pbkdf2_hmac` gives for no password, the same salt and one iteration.
 const OF_NO_PASSWORD: &str = "f135c27993baf98773c5cdb40a5706ce6a345cde61b000a67858650cd6a324d7";
 
-// Whether a digest is made, and has these digits.
-fn is_digest(
-    alloc: Global,
-    digits: &str,
-    digest: Result<Digest, Unspecified>,
-) -> Result<bool, Fail> {
-    is_hex_of(alloc, digits, digest?.as_ref())
-}
+const SALTS: [&[u8]; 4] = [b"SALT", b"salt", b"salt", b"salt"];
 
-// Whether a tag is made, and has these digits.
-fn is_tag(alloc: Global, digits: &str, tag: Result<Tag, Unspecified>) -> Result<bool, Fail> {
-    is_hex_of(alloc, digits, tag?.as_ref())
-}
+const PASSWORDS: [&[u8]; 4] = [b"passwd", b"Passwd", b"", b"passwd"];
+
+// The last is not the password.
+const OTHER_PASSWORDS: [&[u8]; 4] = [b"passwd", b"Passwd", b"", b"Passwd"];
+
+// RFC 4231, section 4.2.
+const TAG_UNDER_GENERATED: &str =
+    "b0344c61d8db38535ca8afceaf0bf12b881dc200c9833da726e9376c2e32cff7";
 
 #[test]
-fn basics(rt: HostRuntime) -> Result<(), Fail> {
+fn basics(rt: HostRuntime) {
     assert!(rt; is_same_token(b"token", b"token") && !is_same_token(b"token", b"Token"));
-    assert!(rt; !is_same_token(b"token", b"toke"));
     assert!(rt; whole_and_left(&[0; 64]) == (1, 0) && whole_and_left(&[0; 200]) == (3, 8));
-    Ok(())
-}
-
-#[test]
-fn lengths(rt: HostRuntime) -> Result<(), Fail> {
     // FIPS 180-4, 5.1.1: this message has 24 bits.
     assert!(rt; bit_length_field(SHORT) == Ok([0, 0, 0, 0, 0, 0, 0, 24]));
     // A padded message of 55 bytes is one block of 64, and of 56 bytes two.
-    assert!(rt; blocks_of_digest(&[0; 55])? == 1 && blocks_of_digest(&[0; 56])? == 2);
-    Ok(())
+    assert!(rt; blocks_of_digest(&[0; 55]) == Ok(1) && blocks_of_digest(&[0; 56]) == Ok(2));
 }
 
 #[test]
-fn digests(rt: HostRuntime) -> Result<(), Fail> {
-    assert!(rt; is_digest(rt.alloc(), OF_SHORT_BY_SHA512, digest_of_whole(SHORT))?);
-    assert!(rt; is_digest(rt.alloc(), OF_LONG, digest_of_two(SHORT, LONG_REST))?);
-    let list = digest_of_list(&SHA256, &[SHORT, &[], LONG_REST]);
-    assert!(rt; is_digest(rt.alloc(), OF_LONG, list)?);
-    Ok(())
-}
-
-#[test]
-fn front_and_whole(rt: HostRuntime) -> Result<(), Fail> {
+fn digests(rt: HostRuntime) -> Result<(), Unspecified> {
+    assert!(rt; is_hex_of(OF_SHORT_BY_SHA512, digest_of_whole(SHORT)?.as_ref()));
+    assert!(rt; is_hex_of(OF_LONG, digest_of_two(SHORT, LONG_REST)?.as_ref()));
+    let list = digest_of_list(&SHA256, &[SHORT, &[], LONG_REST])?;
+    assert!(rt; is_hex_of(OF_LONG, list.as_ref()));
     let (front, all) = digests_of_front_and_whole(&SHA256, SHORT, LONG_REST)?;
-    assert!(rt; is_digest(rt.alloc(), OF_SHORT, Ok(front))?);
-    assert!(rt; is_digest(rt.alloc(), OF_LONG, Ok(all))?);
+    assert!(rt; is_hex_of(OF_SHORT, front.as_ref()) && is_hex_of(OF_LONG, all.as_ref()));
     Ok(())
 }
 
 #[test]
-fn digests_at_once(rt: HostRuntime) -> Result<(), Fail> {
+fn digests_at_once(rt: HostRuntime) -> Result<(), Unspecified> {
     let (empty, short) = digests_of_both(&[], SHORT)?;
-    assert!(rt; is_digest(rt.alloc(), OF_NOTHING, Ok(empty))?);
-    assert!(rt; is_digest(rt.alloc(), OF_SHORT, Ok(short))?);
-    let [_, _, third, _] = digests_of_four(&SHA256, &[&[], &[], SHORT, &[]])?;
-    assert!(rt; is_digest(rt.alloc(), OF_SHORT, Ok(third))?);
+    assert!(rt; is_hex_of(OF_NOTHING, empty.as_ref()) && is_hex_of(OF_SHORT, short.as_ref()));
+    let four = digests_of_four(&SHA256, &[&[], &[], SHORT, &[]])?;
+    assert!(rt; is_hex_of(OF_SHORT, four[2].as_ref()));
     Ok(())
 }
 
 #[test]
-fn tags(rt: HostRuntime) -> Result<(), Fail> {
+fn tags(rt: HostRuntime) -> Result<(), Unspecified> {
     let tag = tag_of_two(b"Jefe", b"what do ya want ", b"for nothing?")?;
+    assert!(rt; is_hex_of(TAG, tag.as_ref()));
     verify_tag(b"Jefe", b"what do ya want for nothing?", tag.as_ref())?;
     assert!(rt; verify_tag(b"Jefe", b"what do ya want for nothing!", tag.as_ref()).is_err());
-    assert!(rt; is_tag(rt.alloc(), TAG, Ok(tag))?);
     Ok(())
 }
 
 #[test]
-fn blocks_of_a_tag(rt: HostRuntime) -> Result<(), Fail> {
+fn blocks_of_a_tag(rt: HostRuntime) -> Result<(), Unspecified> {
     let mut meter = Meter::new();
     let key = Key::new(HMAC_SHA256, b"Jefe")?;
-    let tag = tag_counted(&key, b"what do ya want ", b"for nothing?", &mut meter);
-    assert!(rt; is_tag(rt.alloc(), TAG, tag)? && meter.blocks() == 2);
+    let tag = tag_counted(&key, b"what do ya want ", b"for nothing?", &mut meter)?;
+    assert!(rt; is_hex_of(TAG, tag.as_ref()) && meter.blocks() == 2);
     Ok(())
 }
 
 #[test]
-fn outputs(rt: HostRuntime) -> Result<(), Fail> {
+fn outputs(rt: HostRuntime) -> Result<(), Unspecified> {
     let mut output = [0; 42];
     expand_secret(&SALT, &[0x0b; 22], &[&INFO], &mut output)?;
-    assert!(rt; is_hex_of(rt.alloc(), OUTPUT, &output)?);
-    let tag = tag_under_output(&SALT, &[0x0b; 22], &[&INFO], b"hello, world");
-    assert!(rt; is_tag(rt.alloc(), TAG_UNDER_OUTPUT, tag)?);
+    assert!(rt; is_hex_of(OUTPUT, &output));
+    let tag = tag_under_output(&SALT, &[0x0b; 22], &[&INFO], b"hello, world")?;
+    assert!(rt; is_hex_of(TAG_UNDER_OUTPUT, tag.as_ref()));
     Ok(())
 }
 
 #[test]
-fn passwords(rt: HostRuntime) -> Result<(), Fail> {
+fn passwords(rt: HostRuntime) -> Result<(), Unspecified> {
     let stored = stored_of(NonZeroU32::MIN, b"salt", b"passwd")?;
-    assert!(rt; is_hex_of(rt.alloc(), STORED, &stored)?);
+    assert!(rt; is_hex_of(STORED, &stored));
     verify_stored(NonZeroU32::MIN, b"salt", b"passwd", &stored)?;
     assert!(rt; verify_stored(NonZeroU32::MIN, b"salt", b"Passwd", &stored).is_err());
-    derive_and_verify(NonZeroU32::MIN, b"salt", b"passwd")?;
+    derive_and_verify(NonZeroU32::MIN, b"salt", b"passwd")
+}
+
+#[test]
+fn two_passwords(rt: HostRuntime) -> Result<(), Unspecified> {
+    let (first, second) = stored_of_both(NonZeroU32::MIN, b"salt", b"passwd", b"salt", b"")?;
+    assert!(rt; is_hex_of(STORED, &first) && is_hex_of(OF_NO_PASSWORD, &second));
     Ok(())
 }
 
 #[test]
-fn passwords_at_once(rt: HostRuntime) -> Result<(), Fail> {
-    let one = NonZeroU32::MIN;
-    let passwords: [&[u8]; 4] = [b"passwd", b"Passwd", b"", b"passwd"];
-    let four = stored_of_four(one, &[b"SALT", b"salt", b"salt", b"salt"], &passwords)?;
-    assert!(rt; is_hex_of(rt.alloc(), STORED, &four[3])?);
-    assert!(rt; is_hex_of(rt.alloc(), OF_NO_PASSWORD, &four[2])?);
-    let verified = verify_four(
-        one,
-        &[b"SALT", b"salt", b"salt", b"SALT"],
-        &passwords,
-        &four,
-    )?;
+fn four_passwords(rt: HostRuntime) -> Result<(), Unspecified> {
+    let four = stored_of_four(NonZeroU32::MIN, &SALTS, &PASSWORDS)?;
+    assert!(rt; is_hex_of(OF_NO_PASSWORD, &four[2]) && is_hex_of(STORED, &four[3]));
+    let verified = verify_four(NonZeroU32::MIN, &SALTS, &OTHER_PASSWORDS, &four)?;
     assert!(rt; verified == [true, true, true, false]);
-    let (first, second) = stored_of_both(one, b"salt", b"passwd", b"salt", b"")?;
-    assert!(rt; is_hex_of(rt.alloc(), STORED, &first)?);
-    assert!(rt; is_hex_of(rt.alloc(), OF_NO_PASSWORD, &second)?);
     Ok(())
 }
 
 #[test]
-fn generated(rt: HostRuntime) -> Result<(), Fail> {
+fn generated(rt: HostRuntime) -> Result<(), Unspecified> {
     // RFC 4231, section 4.2, whose key has 20 bytes: 12 zeros more change no tag.
     let mut bytes = [0; 48];
     bytes[..20].copy_from_slice(&[0x0b; 20]);
     let mut source = ready_for_all(&bytes);
-    let tag = tag_under_generated(&mut source, b"Hi There");
-    let expected = "b0344c61d8db38535ca8afceaf0bf12b881dc200c9833da726e9376c2e32cff7";
-    assert!(rt; is_tag(rt.alloc(), expected, tag)?);
+    let tag = tag_under_generated(&mut source, b"Hi There")?;
+    assert!(rt; is_hex_of(TAG_UNDER_GENERATED, tag.as_ref()));
     assert!(rt; nonce(&mut source)? == [0; 16] && nonce(&mut source).is_err());
     Ok(())
 }

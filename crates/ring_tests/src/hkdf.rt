@@ -1,6 +1,6 @@
 //! Outputs of HKDF: lengths, refusals that leave buffers and meters, and what is made of an output.
 
-use crate::texts::prints;
+use crate::texts::{is_hex_of, prints};
 use ring::cost::Meter;
 use ring::digest::{MAX_OUTPUT_LEN, SHA256, digest_counted};
 use ring::error::Unspecified;
@@ -9,7 +9,6 @@ use ring::hkdf::{
     Salt,
 };
 use ring::hmac;
-use std::alloc::Global;
 use std::test::Fail;
 
 // A length of the caller's own.
@@ -42,15 +41,14 @@ fn is_expanded(algorithm: Algorithm, len: usize) -> Result<bool, Unspecified> {
 }
 
 #[test]
-fn lengths_asked_for(rt: HostRuntime) -> Result<(), Fail> {
+fn lengths_asked_for(rt: HostRuntime) {
     for (algorithm, _, most) in LENGTHS {
         assert!(rt;
-            is_expanded(algorithm, most)?
-                && !is_expanded(algorithm, most + 1)?
-                && !is_expanded(algorithm, usize::MAX)?
+            is_expanded(algorithm, most) == Ok(true)
+                && is_expanded(algorithm, most + 1) == Ok(false)
+                && is_expanded(algorithm, usize::MAX) == Ok(false)
         );
     }
-    Ok(())
 }
 
 // A meter that has counted the padded blocks of the message.
@@ -71,7 +69,7 @@ fn refused(out: &mut [u8]) -> Result<(bool, u128), Unspecified> {
 }
 
 #[test]
-fn buffers_of_another_length_stay(rt: HostRuntime) -> Result<(), Fail> {
+fn buffers_of_another_length_stay(rt: HostRuntime) -> Result<(), Unspecified> {
     let (mut one, mut three) = ([0xee; 1], [0xee; 3]);
     assert!(rt;
         refused(&mut [])? == (true, 7)
@@ -80,12 +78,7 @@ fn buffers_of_another_length_stay(rt: HostRuntime) -> Result<(), Fail> {
     );
     assert!(rt; one == [0xee; 1] && three == [0xee; 3]);
     let prk = Prk::new_less_safe(HKDF_SHA256, &[1])?;
-    Ok(prk.expand(&[], Length(2))?.fill(&mut [0xee; 2])?)
-}
-
-// Whether the digits are those of the bytes.
-pub fn is_hex_of(alloc: Global, digits: &str, bytes: &[u8]) -> Result<bool, Fail> {
-    Ok(hex::encode(alloc, bytes)?.as_str() == digits)
+    prk.expand(&[], Length(2))?.fill(&mut [0xee; 2])
 }
 
 // 64 bytes of output, and a tag under the key that is made of them.
@@ -96,19 +89,19 @@ fn value_and_tag(prk: &Prk) -> Result<([u8; 64], hmac::Tag), Unspecified> {
     Ok((value, hmac::sign(&key, b"hello, world")?))
 }
 
-// Four rounds of HMAC-SHA-1 give the 64 bytes; they and the tag are those of Python's `hmac`.
+// Four rounds of HMAC-SHA-1 give these bytes.
+const VALUE: &str = "4df2d8c5472bce8c8fdedfc270d2165b8ad10f5c06f227edf4f578c6d7530fa5\
+    308ed48ef7508f215a4b853f869bdd27511ef05ebc80eae55037aff347fa38e3";
+
+const TAG_UNDER_VALUE: &str = "e310f4dd2499ed7a6940f8174b491e4dd28a85c2609034187465bfabb245c89e\
+    3c22ca4d189dc66f31847070b1dd82fa2b39a34cdb8180015bc2a2786bc2406e";
+
+// The bytes and the tag are those of Python's `hmac`.
 #[test]
-fn a_key_of_another_algorithm(rt: HostRuntime) -> Result<(), Fail> {
+fn a_key_of_another_algorithm(rt: HostRuntime) -> Result<(), Unspecified> {
     let prk = Salt::new(HKDF_SHA1_FOR_LEGACY_USE_ONLY, &[])?.extract(&[0])?;
     let (value, tag) = value_and_tag(&prk)?;
-    let value_digits = "4df2d8c5472bce8c8fdedfc270d2165b8ad10f5c06f227edf4f578c6d7530fa5\
-        308ed48ef7508f215a4b853f869bdd27511ef05ebc80eae55037aff347fa38e3";
-    let tag_digits = "e310f4dd2499ed7a6940f8174b491e4dd28a85c2609034187465bfabb245c89e\
-        3c22ca4d189dc66f31847070b1dd82fa2b39a34cdb8180015bc2a2786bc2406e";
-    assert!(rt;
-        is_hex_of(rt.alloc(), value_digits, &value)?
-            && is_hex_of(rt.alloc(), tag_digits, tag.as_ref())?
-    );
+    assert!(rt; is_hex_of(VALUE, &value) && is_hex_of(TAG_UNDER_VALUE, tag.as_ref()));
     Ok(())
 }
 
@@ -161,12 +154,12 @@ fn makes_what_its_bytes_make(
 }
 
 #[test]
-fn keys_salts_and_prks_of_all_algorithms(rt: HostRuntime) -> Result<(), Fail> {
+fn keys_salts_and_prks_of_all_algorithms(rt: HostRuntime) -> Result<(), Unspecified> {
     let mut value = [0; MAX_OUTPUT_LEN];
     for (own, _, _) in LENGTHS {
         let prk = Prk::new_less_safe(own, b"a pseudorandom key")?;
         for (algorithm, len, _) in LENGTHS {
-            assert!(rt; makes_what_its_bytes_make(&prk, algorithm, &mut value[..len])?);
+            assert!(rt; makes_what_its_bytes_make(&prk, algorithm, &mut value[..len]) == Ok(true));
         }
     }
     Ok(())

@@ -64,13 +64,12 @@ fn agrees_at_every_length(algorithm: Algorithm, piece_len: usize) -> Result<bool
 }
 
 #[test]
-fn agreement_in_pieces(rt: HostRuntime) -> Result<(), Fail> {
+fn agreement_in_pieces(rt: HostRuntime) {
     for (algorithm, piece_lens) in PIECE_LENS {
         for piece_len in piece_lens {
-            assert!(rt; agrees_at_every_length(algorithm, piece_len)?);
+            assert!(rt; agrees_at_every_length(algorithm, piece_len) == Ok(true));
         }
     }
-    Ok(())
 }
 
 // The blocks that the meter has after a signing, where that gives the tag that is expected.
@@ -101,7 +100,7 @@ fn blocks_of_key(value: &[u8]) -> Result<[u128; 4], Unspecified> {
 // A key's blocks are run once, and not again by a signing. One that is longer than a block is
 // hashed (RFC 2104, section 2).
 #[test]
-fn three_signings(rt: HostRuntime) -> Result<(), Fail> {
+fn three_signings(rt: HostRuntime) {
     let bytes = [0x0b; 131];
     for (len, blocks) in [
         (0, [2, 4, 6, 8]),
@@ -111,9 +110,8 @@ fn three_signings(rt: HostRuntime) -> Result<(), Fail> {
         (65, [4, 6, 8, 10]),
         (131, [5, 7, 9, 11]),
     ] {
-        assert!(rt; blocks_of_key(&bytes[..len])? == blocks);
+        assert!(rt; blocks_of_key(&bytes[..len]) == Ok(blocks));
     }
-    Ok(())
 }
 
 // Whether the tag is the message's, and the byte pairs that were compared for two blocks.
@@ -125,12 +123,13 @@ fn verifies(key: &Key, tag: &[u8]) -> (bool, u128, u128) {
 
 // A tag of another length is not compared.
 #[test]
-fn pairs_of_a_verification(rt: HostRuntime) -> Result<(), Fail> {
+fn pairs_of_a_verification(rt: HostRuntime) -> Result<(), Unspecified> {
     let key = Key::new(HMAC_SHA256, &[0x0b; 20])?;
     let tag = sign(&key, b"Hi There")?;
-    assert!(rt; verifies(&key, tag.as_ref()) == (true, 2, 32));
     assert!(rt;
-        verifies(&key, &[0; 32]) == (false, 2, 32) && verifies(&key, &[0; 31]) == (false, 2, 0)
+        verifies(&key, tag.as_ref()) == (true, 2, 32)
+            && verifies(&key, &[0; 32]) == (false, 2, 32)
+            && verifies(&key, &[0; 31]) == (false, 2, 0)
     );
     Ok(())
 }

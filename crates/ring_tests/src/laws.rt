@@ -5,7 +5,6 @@ use ring::digest::{SHA512, digest};
 use ring::error::Unspecified;
 use ring::hmac::{HMAC_SHA256, Key, sign};
 use ring::laws::{digest_pieces, sign_pieces};
-use std::test::Fail;
 
 // Whether three pieces have their message's digest, and its blocks.
 fn digest_of_three() -> Result<(bool, u128), Unspecified> {
@@ -24,7 +23,7 @@ fn tag_of_three(key: &Key) -> Result<(bool, u128), Unspecified> {
 }
 
 #[test]
-fn pieces_are_their_message(rt: HostRuntime) -> Result<(), Fail> {
+fn pieces_are_their_message(rt: HostRuntime) -> Result<(), Unspecified> {
     let key = Key::new(HMAC_SHA256, b"Jefe")?;
     assert!(rt; digest_of_three() == Ok((true, 1)) && tag_of_three(&key) == Ok((true, 2)));
     Ok(())

@@ -2,8 +2,8 @@
 
 ghost use Rattle.std.specs.Prelude.{◌<◌};
 
-use crate::hkdf::is_hex_of;
 use crate::messages::counting_bytes;
+use crate::texts::is_hex_of;
 use ring::cost::Meter;
 use ring::digest::{Context, Digest, SHA256};
 use ring::error::Unspecified;
@@ -11,9 +11,7 @@ use ring::pbkdf2::{
     Algorithm, PBKDF2_HMAC_SHA1, PBKDF2_HMAC_SHA256, PBKDF2_HMAC_SHA384, PBKDF2_HMAC_SHA512,
     derive_each, verify_each_counted,
 };
-use std::alloc::Global;
 use std::num::NonZeroU32;
-use std::test::Fail;
 
 const ALGORITHMS: [Algorithm; 4] = [
     PBKDF2_HMAC_SHA1,
@@ -133,12 +131,12 @@ fn agrees_on_first<const N: usize>(
 }
 
 // Whether the keys are those of others, in any number.
-fn are_of_others<const N: usize>(alloc: Global, digests: [&str; 4]) -> Result<bool, Fail>
+fn are_of_others<const N: usize>(digests: [&str; 4]) -> Result<bool, Unspecified>
     requires { N < 1000 }
 {
     for (algorithm, expected) in ALGORITHMS.iter().zip(&digests) {
         let all = keys_of::<N>(*algorithm, MOST)?;
-        if !is_hex_of(alloc, expected, digest_of(&all)?.as_ref())? {
+        if !is_hex_of(expected, digest_of(&all)?.as_ref()) {
             return Ok(false);
         }
         for count in [0, 1, 3, 4, 5, 8] {
@@ -151,31 +149,54 @@ fn are_of_others<const N: usize>(alloc: Global, digests: [&str; 4]) -> Result<bo
 }
 
 #[test]
-fn keys_of_any_number(rt: HostRuntime) -> Result<(), Fail> {
-    assert!(rt; are_of_others::<20>(rt.alloc(), OF_20_BYTES)?);
-    assert!(rt; are_of_others::<32>(rt.alloc(), OF_32_BYTES)?);
-    assert!(rt; are_of_others::<64>(rt.alloc(), OF_64_BYTES)?);
-    assert!(rt; are_of_others::<100>(rt.alloc(), OF_100_BYTES)?);
-    Ok(())
+fn keys_of_any_number(rt: HostRuntime) {
+    assert!(rt;
+        are_of_others::<20>(OF_20_BYTES) == Ok(true)
+            && are_of_others::<32>(OF_32_BYTES) == Ok(true)
+            && are_of_others::<64>(OF_64_BYTES) == Ok(true)
+            && are_of_others::<100>(OF_100_BYTES) == Ok(true)
+    );
 }
 
 // RFC 6070, its third, fifth and sixth vectors, of 20, 25 and 16 bytes, and the third again.
+const RFC_6070_SECRETS: [&[u8]; 4] = [
+    b"password",
+    b"passwordPASSWORDpassword",
+    b"pass\0word",
+    b"password",
+];
+
+const RFC_6070_SALTS: [&[u8]; 4] = [
+    b"salt",
+    b"saltSALTsaltSALTsaltSALTsaltSALTsalt",
+    b"sa\0lt",
+    b"salt",
+];
+
+const RFC_6070_KEYS: [&str; 4] = [
+    "4b007901b765489abead49d926f721d065a429c1",
+    "3d2eec4fe41c849b80c8d83662c0e44a8b291a964cf2f07038",
+    "56fa6aa75548099dcc37d7f03425e0c3",
+    "4b007901b765489abead49d926f721d065a429c1",
+];
+
 #[test]
-fn rfc_6070_side_by_side(rt: HostRuntime) -> Result<(), Fail> {
-    let iterations = NonZeroU32::new(4096).ok_or("4096")?;
-    let long_secret = b"passwordPASSWORDpassword";
-    let long_salt = b"saltSALTsaltSALTsaltSALTsaltSALTsalt";
-    let secrets: [&[u8]; 4] = [b"password", long_secret, b"pass\0word", b"password"];
-    let salts: [&[u8]; 4] = [b"salt", long_salt, b"sa\0lt", b"salt"];
+fn rfc_6070_side_by_side(rt: HostRuntime) -> Result<(), Unspecified> {
+    let iterations = NonZeroU32::new(4096).ok_or(Unspecified)?;
     let mut keys = [[0; 25]; 4];
-    derive_each(PBKDF2_HMAC_SHA1, iterations, &salts, &secrets, &mut keys)?;
-    let third = "4b007901b765489abead49d926f721d065a429c1";
-    let fifth = "3d2eec4fe41c849b80c8d83662c0e44a8b291a964cf2f07038";
-    let sixth = "56fa6aa75548099dcc37d7f03425e0c3";
-    assert!(rt; is_hex_of(rt.alloc(), third, &keys[0][..20])?);
-    assert!(rt; is_hex_of(rt.alloc(), fifth, &keys[1])?);
-    assert!(rt; is_hex_of(rt.alloc(), sixth, &keys[2][..16])?);
-    assert!(rt; is_hex_of(rt.alloc(), third, &keys[3][..20])?);
+    derive_each(
+        PBKDF2_HMAC_SHA1,
+        iterations,
+        &RFC_6070_SALTS,
+        &RFC_6070_SECRETS,
+        &mut keys,
+    )?;
+    for ((key, expected), len) in keys.iter().zip(&RFC_6070_KEYS).zip(&[20, 25, 16, 20]) {
+        assert!(rt;
+            key.get(..*len)
+                .is_some_and(|front| is_hex_of(expected, front))
+        );
+    }
     Ok(())
 }
 
@@ -252,9 +273,10 @@ fn tells_each_apart<const N: usize>() -> Result<bool, Unspecified>
 }
 
 #[test]
-fn values_that_differ(rt: HostRuntime) -> Result<(), Fail> {
-    assert!(rt; tells_each_apart::<20>()?);
-    assert!(rt; tells_each_apart::<32>()?);
-    assert!(rt; tells_each_apart::<100>()?);
-    Ok(())
+fn values_that_differ(rt: HostRuntime) {
+    assert!(rt;
+        tells_each_apart::<20>() == Ok(true)
+            && tells_each_apart::<32>() == Ok(true)
+            && tells_each_apart::<100>() == Ok(true)
+    );
 }

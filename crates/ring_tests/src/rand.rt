@@ -11,7 +11,6 @@ use ring::hmac::{
     verify,
 };
 use ring::rand::{SecureRandom, generate};
-use std::test::Fail;
 
 // A source over a list, which is ready for at most `most` bytes at once.
 #[derive(Drop)]
@@ -52,7 +51,7 @@ pub fn ready_for_all(bytes: &[u8]) -> Listed<'_> {
 }
 
 #[test]
-fn the_next_bytes(rt: HostRuntime) -> Result<(), Fail> {
+fn the_next_bytes(rt: HostRuntime) -> Result<(), Unspecified> {
     let mut five = ready_for_all(&[1, 2, 3, 4, 5]);
     let made = generate::<[u8; 4]>(&mut five)?.expose();
     assert!(rt; made == [1, 2, 3, 4] && five.bytes == [5].as_slice());
@@ -123,10 +122,9 @@ fn keys_in_turn(rt: HostRuntime) {
 }
 
 #[test]
-fn bytes_past_the_key_are_left(rt: HostRuntime) -> Result<(), Fail> {
+fn bytes_past_the_key_are_left(rt: HostRuntime) {
     let bytes = counting_bytes::<128>();
     let mut fifty = ready_for_all(&bytes[..50]);
-    assert!(rt; is_key_of(HMAC_SHA384, &mut fifty, &bytes[..48])?);
+    assert!(rt; is_key_of(HMAC_SHA384, &mut fifty, &bytes[..48]) == Ok(true));
     assert!(rt; fifty.bytes == [48, 49].as_slice());
-    Ok(())
 }

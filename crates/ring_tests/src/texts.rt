@@ -1,4 +1,4 @@
-//! What Debug prints.
+//! What Debug prints, and digits of bytes.
 
 use std::alloc::Global;
 use std::fmt::Debug;
@@ -7,4 +7,13 @@ use std::test::Fail;
 /// Whether the value is printed so.
 pub fn prints(alloc: Global, value: &impl Debug, text: &str) -> Result<bool, Fail> {
     Ok(format!(in alloc; "{value:?}")?.as_str() == text)
+}
+
+/// Whether the digits are those of the bytes, of which there are at most 64.
+pub fn is_hex_of(digits: &str, bytes: &[u8]) -> bool {
+    let mut room = [0; 64];
+    match room.get_mut(..bytes.len()) {
+        Some(own) => hex::decode_to_slice(digits, own).is_ok() && *own == *bytes,
+        None => false,
+    }
 }

@@ -61,8 +61,8 @@ const SALTS: [&[u8]; 4] = [b"SALT", b"salt", b"salt", b"salt"];
 
 const PASSWORDS: [&[u8]; 4] = [b"passwd", b"Passwd", b"", b"passwd"];
 
-// The last is not the password.
-const OTHER_PASSWORDS: [&[u8]; 4] = [b"passwd", b"Passwd", b"", b"Passwd"];
+// The last is another salt.
+const OTHER_SALTS: [&[u8]; 4] = [b"SALT", b"salt", b"salt", b"SALT"];
 
 // RFC 4231, section 4.2.
 const TAG_UNDER_GENERATED: &str =
@@ -70,7 +70,11 @@ const TAG_UNDER_GENERATED: &str =
 
 #[test]
 fn basics(rt: HostRuntime) {
-    assert!(rt; is_same_token(b"token", b"token") && !is_same_token(b"token", b"Token"));
+    assert!(rt;
+        is_same_token(b"token", b"token")
+            && !is_same_token(b"token", b"Token")
+            && !is_same_token(b"token", b"toke")
+    );
     assert!(rt; whole_and_left(&[0; 64]) == (1, 0) && whole_and_left(&[0; 200]) == (3, 8));
     // FIPS 180-4, 5.1.1: this message has 24 bits.
     assert!(rt; bit_length_field(SHORT) == Ok([0, 0, 0, 0, 0, 0, 0, 24]));
@@ -146,7 +150,7 @@ fn two_passwords(rt: HostRuntime) -> Result<(), Unspecified> {
 fn four_passwords(rt: HostRuntime) -> Result<(), Unspecified> {
     let four = stored_of_four(NonZeroU32::MIN, &SALTS, &PASSWORDS)?;
     assert!(rt; is_hex_of(OF_NO_PASSWORD, &four[2]) && is_hex_of(STORED, &four[3]));
-    let verified = verify_four(NonZeroU32::MIN, &SALTS, &OTHER_PASSWORDS, &four)?;
+    let verified = verify_four(NonZeroU32::MIN, &OTHER_SALTS, &PASSWORDS, &four)?;
     assert!(rt; verified == [true, true, true, false]);
     Ok(())
 }

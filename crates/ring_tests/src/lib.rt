@@ -1,7 +1,10 @@
 //! Tests of what no contract says, over the public calls alone: messages cut in many ways, other
-//! implementations of the same functions, texts that Debug prints, and each call once.
+//! implementations of the same functions, texts that Debug prints, readers, writers and heaps that
+//! fail, and each call once.
 #![tactic(auto)]
 
+#[cfg(test)]
+mod bench;
 #[cfg(test)]
 mod callers;
 #[cfg(test)]
@@ -28,5 +31,7 @@ mod pbkdf2_each;
 mod rand;
 #[cfg(test)]
 mod several;
+#[cfg(test)]
+mod store;
 #[cfg(test)]
 mod texts;

@@ -16,18 +16,15 @@ const TOO_LONG: u128 = 42_535_295_865_117_307_932_921_825_928_971_026_432;
 #[test]
 fn bits_of_bytes_up_to_128_bits(rt: HostRuntime) {
     let longest = BitLength::<u128>::from_byte_len(TOO_LONG - 1);
-    assert_eq!(rt; longest, Ok(BitLength::from_bits(u128::MAX - 7)));
+    assert!(rt; longest == Ok(BitLength::from_bits(u128::MAX - 7)));
     let refused = BitLength::<u128>::from_byte_len(TOO_LONG);
-    assert_eq!(rt; refused, Err(InputTooLongError::new(TOO_LONG)));
+    assert!(rt; refused == Err(InputTooLongError::new(TOO_LONG)));
 }
 
 #[test]
 fn sixteen_bytes_highest_first(rt: HostRuntime) {
     let length: BitLength<u128> = BitLength::from_bits(0x0102_0304_0506_0708_090a_0b0c_0d0e_0f10);
-    assert_eq!(rt;
-        length.to_be_bytes(),
-        [1, 2, 3, 4, 5, 6, 7, 8, 9, 10, 11, 12, 13, 14, 15, 16]
-    );
+    assert!(rt; length.to_be_bytes() == [1, 2, 3, 4, 5, 6, 7, 8, 9, 10, 11, 12, 13, 14, 15, 16]);
 }
 
 // A context that has counted `completed` bytes and run none of their blocks, with so many bytes of
@@ -44,6 +41,14 @@ fn counted(
     raw.pending = pending;
     raw.num_pending = num_pending;
     raw.context()
+}
+
+// Whether a context of zeros that has counted so much finishes, and the blocks that this runs.
+fn finished(algorithm: &Algorithm, completed: u128, num_pending: u32) -> Option<(bool, u128)> {
+    let context = counted(algorithm, completed, [0; 128], num_pending)?;
+    let mut meter = Meter::new();
+    let is_ok = context.finish_counted(&mut meter).is_ok();
+    Some((is_ok, meter.blocks()))
 }
 
 // The greatest message has 2^61 - 1 bytes where blocks have 64, and 2^125 - 1 where they have 128.
@@ -64,13 +69,20 @@ fn refused_by_count_and_pending(rt: HostRuntime) {
         (SHA512, u128::MAX, 1, false, 0),
     ];
     for (algorithm, completed, num_pending, is_ok, blocks) in rows {
-        let Some(context) = counted(&algorithm, completed, [0; 128], num_pending) else {
-            panic!(rt; "no context");
-        };
-        let mut meter = Meter::new();
-        assert_eq!(rt; context.finish_counted(&mut meter).is_ok(), is_ok);
-        assert_eq!(rt; meter.blocks(), blocks);
+        assert!(rt; finished(&algorithm, completed, num_pending) == Some((is_ok, blocks)));
     }
+}
+
+// Whether SHA-512 gives for such a context what it gives for these blocks alone.
+fn is_that_of_blocks(
+    completed: u128,
+    pending: [u8; 128],
+    num_pending: u32,
+    blocks: &[u8],
+) -> Option<bool> {
+    let context = counted(&SHA512, completed, pending, num_pending)?;
+    let digest = context.finish().ok()?;
+    Some(digest.as_ref() == sha512_of_blocks(blocks).as_slice())
 }
 
 // 2^61 bytes are 2^64 bits: the lowest bit of the upper eight length bytes.
@@ -79,13 +91,7 @@ fn length_of_two_to_the_64_bits(rt: HostRuntime) {
     let mut tail = [0; 128];
     tail[0] = 0x80;
     tail[119] = 1;
-    let Some(context) = counted(&SHA512, 1 << 61, [0; 128], 0) else {
-        panic!(rt; "no context");
-    };
-    let Ok(digest) = context.finish() else {
-        panic!(rt; "refused");
-    };
-    assert_eq!(rt; digest.as_ref(), sha512_of_blocks(&tail).as_slice());
+    assert!(rt; is_that_of_blocks(1 << 61, [0; 128], 0, &tail) == Some(true));
 }
 
 // 2^125 - 1 bytes are 2^128 - 8 bits: fifteen bytes 0xff and the byte 0xf8.
@@ -96,13 +102,7 @@ fn length_of_the_longest_message(rt: HostRuntime) {
     tail[128..240].fill(0);
     tail[240..255].fill(0xff);
     tail[255] = 0xf8;
-    let Some(context) = counted(&SHA512, TOO_LONG - 128, [0x61; 128], 127) else {
-        panic!(rt; "no context");
-    };
-    let Ok(digest) = context.finish() else {
-        panic!(rt; "refused");
-    };
-    assert_eq!(rt; digest.as_ref(), sha512_of_blocks(&tail).as_slice());
+    assert!(rt; is_that_of_blocks(TOO_LONG - 128, [0x61; 128], 127, &tail) == Some(true));
 }
 
 // The words after whole blocks, from SHA-512's initial words, high byte first.

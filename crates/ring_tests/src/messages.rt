@@ -17,7 +17,8 @@ pub fn counting_bytes<const N: usize>() -> [u8; N] {
 
 /// The whole blocks of `len` bytes.
 pub fn whole_blocks(algorithm: &Algorithm, len: usize) -> u128 {
-    len.checked_div(algorithm.block_len()).unwrap_or(0) as u128
+    let block_len = if algorithm.block_len() == 64 { 64 } else { 128 };
+    (len / block_len) as u128
 }
 
 /// The blocks of `len` bytes and their padding, which ends with 8 or 16 bytes that tell the length

@@ -1,13 +1,8 @@
 //! Tests of `ring_store` over its public calls: rows of commands with their replies, tokens of
 //! another implementation, many names beside a plain list, and heaps that refuse each request.
 //! Credentials of another implementation stand in `vectors/pbkdf2.txt`.
-#![tactic(auto)]
 
-#[cfg(test)]
 mod commands;
-#[cfg(test)]
 mod names;
-#[cfg(test)]
 mod small_heaps;
-#[cfg(test)]
 mod tokens;

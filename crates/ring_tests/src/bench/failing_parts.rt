@@ -1,7 +1,7 @@
 //! Runs over readers and writers that fail.
 
-use crate::lines::{ANSWERS, TEXT};
-use crate::parts::{Choppy, Sink};
+use crate::bench::lines::{ANSWERS, TEXT};
+use crate::bench::parts::{Choppy, Sink};
 use ring_bench::{BenchError, Status, run};
 use std::alloc::Global;
 use std::io;

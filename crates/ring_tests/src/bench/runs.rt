@@ -1,7 +1,7 @@
 //! Runs over readers that give much or little, and answers with ample memory.
 
-use crate::lines::{ANSWERS, HELLO, OF_HELLO, TEXT};
-use crate::parts::{Choppy, Counting, Sink, Watchful};
+use crate::bench::lines::{ANSWERS, HELLO, OF_HELLO, TEXT, repeated};
+use crate::bench::parts::{Choppy, Counting, Sink, Watchful};
 use ring_bench::{LineKind, Status, answer, run};
 use sha2::{Digest, Sha256};
 use std::alloc::{AllocError, Global};
@@ -32,28 +32,13 @@ fn runs_clean(alloc: Global, mut text: &[u8], want: &[u8]) -> bool {
     run(alloc, &mut text, &mut out) == Ok(Status::Clean) && out.as_slice() == want
 }
 
-// A line of a digest over `count` times the two digits.
-fn digest_line(
-    alloc: Global,
-    word: &[u8],
-    digits: &[u8],
-    count: u32,
-) -> Result<Vec<u8>, AllocError> {
-    let mut text = Vec::new(alloc);
-    text.extend_from_slice(word)?;
-    for _ in 0..count {
-        text.extend_from_slice(digits)?;
-    }
-    Ok(text)
-}
-
 // The digest of 65,536 zero bytes, as another implementation gives it.
 #[test]
 fn a_line_of_131072_digits(rt: HostRuntime) -> Result<(), Fail> {
     let zeros = vec![in rt.alloc(); 0; 65_536]?;
     let digest = hex::encode(rt.alloc(), Sha256::digest(zeros.as_slice()).as_slice())?;
     let want = format!(in rt.alloc(); "{digest} 1025\n")?;
-    let text = digest_line(rt.alloc(), b"digest SHA256 ", b"00", 65_536)?;
+    let text = repeated(rt.alloc(), b"digest SHA256 ", b"00", 65_536)?;
     assert!(rt; runs_clean(rt.alloc(), &text, want.as_bytes()));
     Ok(())
 }
@@ -62,7 +47,7 @@ fn a_line_of_131072_digits(rt: HostRuntime) -> Result<(), Fail> {
 #[test]
 fn a_line_of_two_million_digits(rt: HostRuntime) -> Result<(), Fail> {
     let want = b"34aa973cd4c4daa4f61eeb2bdbad27316534016f 15626\n";
-    let text = digest_line(rt.alloc(), b"digest SHA1 ", b"61", 1_000_000)?;
+    let text = repeated(rt.alloc(), b"digest SHA1 ", b"61", 1_000_000)?;
     assert!(rt; runs_clean(rt.alloc(), &text, want));
     Ok(())
 }

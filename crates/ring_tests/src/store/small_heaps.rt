@@ -1,6 +1,6 @@
 //! Heaps that refuse each request for memory in turn.
 
-use crate::names::{DB_SALT, WRONG, found, iterations, told};
+use crate::store::names::{DB_SALT, WRONG, found, iterations, told};
 use linked_list_allocator::LocalHeap;
 use ring_store::{Command, PasswordStore, Reply, StoreError};
 use std::alloc::{AllocError, Global};

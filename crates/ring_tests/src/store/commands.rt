@@ -1,6 +1,8 @@
 //! Commands one by one and as one list.
 
-use crate::names::{LONG_NAME, LONGEST_NAME, PASSWORD, WRONG, found, iterations, new_store, told};
+use crate::store::names::{
+    LONG_NAME, LONGEST_NAME, PASSWORD, WRONG, found, iterations, new_store, told,
+};
 use ring_store::{Command, PasswordStore, Reply, StoreError};
 use std::alloc::{AllocError, Global};
 

@@ -1,5 +1,7 @@
 //! Lines and their answers, for several tests.
 
+use std::alloc::{AllocError, Global};
+
 // The bytes are those that OpenSSL gives, and the counts follow from the lengths.
 pub const OF_NOTHING: &[u8] =
     b"e3b0c44298fc1c149afbf4c8996fb92427ae41e4649b934ca495991b7852b855 1\n";
@@ -25,3 +27,18 @@ pub const ANSWERS: &[u8] = b"e3b0c44298fc1c149afbf4c8996fb92427ae41e4649b934ca49
     match 4\n\
     3cb25f25faacd57a90434f64d0362f2a2d2d0a90cf1a5a4c5db02d56ecc4c5bf34007208d5b887185865 10\n\
     0c60c80f961f0e71f3a9b524af6012062fe037a6 4\n";
+
+/// A front, and behind it `count` times a piece.
+pub fn repeated(
+    alloc: Global,
+    front: &[u8],
+    piece: &[u8],
+    count: u32,
+) -> Result<Vec<u8>, AllocError> {
+    let mut text = Vec::new(alloc);
+    text.extend_from_slice(front)?;
+    for _ in 0..count {
+        text.extend_from_slice(piece)?;
+    }
+    Ok(text)
+}

@@ -1,7 +1,7 @@
 //! Runs and answers over heaps of fixed sizes.
 
-use crate::lines::{ANSWERS, HELLO, OF_HELLO, OF_NOTHING, TAG, TEXT};
-use crate::parts::Choppy;
+use crate::bench::lines::{ANSWERS, HELLO, OF_HELLO, OF_NOTHING, TAG, TEXT, repeated};
+use crate::bench::parts::Choppy;
 use linked_list_allocator::LocalHeap;
 use ring_bench::{BenchError, Status, answer_in, run_in};
 use std::alloc::{AllocError, Global};
@@ -134,27 +134,17 @@ fn no_heap_for_the_empty_text(rt: HostRuntime) -> Result<(), Fail> {
     Ok(())
 }
 
-// `count` times a piece of a text.
-fn repeated(alloc: Global, piece: &[u8], count: u32) -> Result<Vec<u8>, AllocError> {
-    let mut text = Vec::new(alloc);
-    for _ in 0..count {
-        text.extend_from_slice(piece)?;
-    }
-    Ok(text)
-}
-
 // What is kept of a text is its open line, and want of memory is told at the line that is too long:
 // the answers to all lines before it are written.
 #[test]
 fn only_the_open_line_is_kept(rt: HostRuntime) -> Result<(), Fail> {
     let heap = LocalHeap::new(rt.alloc(), 4096)?;
-    let mut text = repeated(rt.alloc(), b"digest SHA256 -\n", 1000)?;
-    let answers = repeated(rt.alloc(), OF_NOTHING, 1000)?;
+    let mut text = repeated(rt.alloc(), b"", b"digest SHA256 -\n", 1000)?;
+    let answers = repeated(rt.alloc(), b"", OF_NOTHING, 1000)?;
     let mut out = Vec::new(rt.alloc());
     let ended = run_in(&heap, &mut text.as_slice(), &mut out);
     assert!(rt; ended == Ok(Status::Clean) && out.as_slice() == answers.as_slice());
-    text.extend_from_slice(b"digest SHA256 ")?;
-    text.extend_from_slice(&repeated(rt.alloc(), b"00", 4096)?)?;
+    text.extend_from_slice(&repeated(rt.alloc(), b"digest SHA256 ", b"00", 4096)?)?;
     let mut out = Vec::new(rt.alloc());
     let ended = run_in(&heap, &mut text.as_slice(), &mut out);
     assert!(rt; ended == Err(BenchError::Memory) && out.as_slice() == answers.as_slice());

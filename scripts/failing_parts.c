@@ -6,20 +6,17 @@
 #include <errno.h>
 #include <stdio.h>
 #include <stdlib.h>
-#include <string.h>
 #include <unistd.h>
 
 /* Which call fails, where one does; 0 is none. */
 static long refused_request, failed_read, failed_write, empty_write, interrupted_every;
 /* At most so many bytes a read or a write; 0 is no limit. */
 static long step;
-/* Whether each request between the marks `begin` and `end` on standard output is refused. */
-static long refuse_between_marks;
 /* Where the counts go at the end. */
 static long report_to = -1;
 
-static long requests, refusals, reads, writes, begins, ends;
-static int is_between_marks, is_ready;
+static long requests, refusals, reads, writes;
+static int is_ready;
 
 static void get(const char *name, long *value) {
     const char *text = getenv(name);
@@ -35,7 +32,6 @@ static void prepare(void) {
     get("EMPTY_WRITE", &empty_write);
     get("INTERRUPTED_EVERY", &interrupted_every);
     get("STEP", &step);
-    get("REFUSE_BETWEEN_MARKS", &refuse_between_marks);
     get("REPORT_TO", &report_to);
 }
 
@@ -47,7 +43,7 @@ extern void *__libc_memalign(size_t, size_t);
 static int is_refused(void) {
     prepare();
     ++requests;
-    if (requests != refused_request && !(refuse_between_marks && is_between_marks)) return 0;
+    if (requests != refused_request) return 0;
     ++refusals;
     errno = ENOMEM;
     return 1;
@@ -80,17 +76,11 @@ ssize_t read(int file, void *bytes, size_t len) {
     return real(file, bytes, len);
 }
 
-static void note_marks(const void *bytes, size_t len) {
-    if (len == 6 && memcmp(bytes, "begin\n", len) == 0) ++begins, is_between_marks = 1;
-    if (len == 4 && memcmp(bytes, "end\n", len) == 0) ++ends, is_between_marks = 0;
-}
-
 ssize_t write(int file, const void *bytes, size_t len) {
     static ssize_t (*real)(int, const void *, size_t);
     prepare();
     if (!real) real = dlsym(RTLD_NEXT, "write");
     if (file == STDOUT_FILENO) {
-        note_marks(bytes, len);
         ++writes;
         if (writes == failed_write) return errno = EIO, -1;
         if (writes == empty_write) return 0;
@@ -103,7 +93,6 @@ ssize_t write(int file, const void *bytes, size_t len) {
 ssize_t __write(int file, const void *bytes, size_t len) { return write(file, bytes, len); }
 
 __attribute__((destructor)) static void report(void) {
-    is_between_marks = 0;
     if (report_to >= 0)
-        dprintf((int)report_to, "%ld %ld %ld %ld %ld %ld\n", requests, refusals, reads, writes, begins, ends);
+        dprintf((int)report_to, "%ld %ld %ld %ld\n", requests, refusals, reads, writes);
 }

@@ -1,4 +1,4 @@
-"""What the scripts know of the text of a source file: where its brackets close, and its functions."""
+"""What a search knows of the text of a source file: where its brackets close, and its functions."""
 
 import dataclasses
 import re
@@ -10,17 +10,12 @@ HEAD = re.compile(r'^ *(?:(?:pub(?:\([a-z]+\))?|const|extern "C") )*fn (\w+)', r
 PAIRS = {"{": "}", "(": ")", "[": "]"}
 
 
-@dataclasses.dataclass
+@dataclasses.dataclass(frozen=True)
 class Function:
-    """A function: its type (empty for a free one) and that type's arguments, whether a trait asks for
-    it, its name, where its text begins and ends in the file, its signature and its body."""
+    """A function: its type (empty for a free one), its name, its signature and its body."""
 
     owner: str
-    arguments: tuple
-    of_trait: bool
     name: str
-    start: int
-    end: int
     signature: str
     body: str
 
@@ -52,15 +47,11 @@ def body_of(text, at):
 
 
 def blocks(text):
-    """The type and its arguments, whether it is a trait's, the start and the end of each `impl` and
-    `trait` block."""
-    for it in re.finditer(r"^(?:pub )?(impl|trait)\b([^{]*)\{", text, re.M):
-        of_trait = it.group(1) == "trait" or " for " in it.group(2)
-        subject = re.sub(r"^<[^{]*?>(?=\s)", "", it.group(2)).split(" for ")[-1]
-        # `hmac::Algorithm` is HmacAlgorithm in the check's lines.
-        subject = re.sub(r"\b([a-z]+)::", lambda path: path.group(1).capitalize(), subject)
-        name, *arguments = re.findall(r"(?<!')\b\w+", subject) or [""]
-        yield name, tuple(arguments), of_trait, it.start(), end_of(text, it.end() - 1)
+    """The type, the start and the end of each `impl` and `trait` block."""
+    for it in re.finditer(r"^(?:pub )?(?:impl|trait)\b([^{]*)\{", text, re.M):
+        subject = re.sub(r"^<[^{]*?>(?=\s)", "", it.group(1)).split(" for ")[-1]
+        name = re.search(r"(?<!')\b[A-Za-z]\w*(?!\w*::)", subject)
+        yield name.group() if name else "", it.start(), end_of(text, it.end() - 1)
 
 
 def functions(text):
@@ -71,23 +62,5 @@ def functions(text):
         body = body_of(text, end_of(text, opening))
         if body is None:
             continue
-        around = [block[:3] for block in owners if block[3] < it.start() < block[4]]
-        end = end_of(text, body)
-        yield Function(
-            *(around or [("", (), False)])[0],
-            it.group(1),
-            head_of(text, it.start()),
-            end,
-            text[opening:body],
-            text[body:end],
-        )
-
-
-def head_of(text, start):
-    """Where the comments and attributes begin that stand right above `start`."""
-    while start > 0:
-        above = text.rfind("\n", 0, start - 1) + 1
-        if not re.match(r"\s*(?:///|//|#\[)", text[above:start]):
-            break
-        start = above
-    return start
+        owner = next((name for name, start, end in owners if start < it.start() < end), "")
+        yield Function(owner, it.group(1), text[opening:body], text[body : end_of(text, body)])

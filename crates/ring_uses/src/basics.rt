@@ -6,8 +6,8 @@ ghost use Rattle.std.specs.Int.{to_be_bytes, w64};
 ghost use Rattle.ring.specs.Algorithm.{max_input_len};
 ghost use Rattle.ring.specs.Cost.{padded_blocks};
 
-use ring::bb::verify_slices_are_equal;
 use ring::bits::{BitLength, FromByteLen};
+use ring::constant_time::verify_slices_are_equal;
 use ring::cost::Meter;
 use ring::digest::{SHA256, digest_counted};
 use ring::error::{InputTooLongError, Unspecified};

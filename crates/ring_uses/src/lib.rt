@@ -9,5 +9,6 @@ pub mod hmac;
 pub mod pbkdf2;
 pub mod pieces;
 pub mod rand;
+pub mod raw;
 pub mod several;
 pub mod store;

@@ -1,12 +1,15 @@
 //! Digests of messages that are whole, or come in more than two pieces.
 
-ghost use Rattle.std.specs.Prelude.{◌↔◌, ◌<◌, ◌++◌, length, IfOk, IsErr};
+ghost use Rattle.std.specs.Prelude.{◌≡◌, ◌↔◌, ◌<◌, ◌++◌, length, IfOk, IsErr};
 ghost use Rattle.ring.specs.Algorithm.{max_input_len};
+ghost use Rattle.ring.specs.Cost.{padded_blocks};
 ghost use Rattle.ring.specs.Digest.{IsDigest};
 ghost use Rattle.ring.specs.Pieces.{joined};
 
+use ring::cost::Meter;
 use ring::digest::{Algorithm, Context, Digest, SHA512, digest};
 use ring::error::Unspecified;
+use ring::laws::digest_pieces;
 
 /// The digest of a message that is there as a whole.
 pub fn digest_of_whole(message: &[u8]) -> Result<Digest, Unspecified>
@@ -47,4 +50,19 @@ pub fn digests_of_front_and_whole(
     context.update(rest);
     let of_whole = context.finish()?;
     Ok((of_front, of_whole))
+}
+
+/// The digest of a list of pieces taken as one message, and the blocks that it took.
+pub fn digest_and_blocks(
+    algorithm: &Algorithm,
+    pieces: &[&[u8]],
+) -> Result<(Digest, u128), Unspecified>
+    ensures ok { IfOk result (λ given. IsDigest given.0 algorithm.now (joined pieces.now)) }
+    ensures refused { IsErr result ↔ (max_input_len algorithm.now < length (joined pieces.now)) }
+    ensures cost { IfOk result (λ given.
+        given.1 ≡ padded_blocks algorithm.now (length (joined pieces.now))) }
+{
+    let mut meter = Meter::new();
+    let digest = digest_pieces(algorithm, pieces, &mut meter)?;
+    Ok((digest, meter.blocks()))
 }

@@ -26,11 +26,12 @@
 #include <stdint.h>
 
 /* The version of this header. The major number is that of the shared library's name, and rises
- * where a caller must be compiled again: with a call or the layout of a context or a key. */
+ * where a caller must be compiled again: with a call or the layout of a context or a key. YZ_VERSION
+ * has all three in one number, 16 bits, 8 and 8, which `#if` can compare. */
 #define YZ_VERSION_MAJOR 0
 #define YZ_VERSION_MINOR 1
 #define YZ_VERSION_PATCH 0
-#define YZ_VERSION ((uint32_t)YZ_VERSION_MAJOR << 16 | YZ_VERSION_MINOR << 8 | YZ_VERSION_PATCH)
+#define YZ_VERSION (YZ_VERSION_MAJOR * 0x10000u + YZ_VERSION_MINOR * 0x100u + YZ_VERSION_PATCH)
 
 #if defined(__GNUC__) || defined(__clang__)
 #define YZ_MUST_CHECK __attribute__((warn_unused_result))
@@ -56,10 +57,11 @@ typedef int32_t yz_status;
 enum {
     YZ_OK = 0,
     YZ_UNKNOWN_ALGORITHM = 1, /* the number names no algorithm of this call */
-    YZ_UNKNOWN_CONTEXT = 2,   /* the memory holds no context or key that a call began */
-    YZ_WRONG_LENGTH = 3,      /* of what is to be written */
+    YZ_UNKNOWN_CONTEXT = 2,   /* the bytes can be no context's or key's: see their types */
+    YZ_WRONG_LENGTH = 3,      /* of what is to be written, but for the limit of PBKDF2 */
     YZ_NO_ITERATIONS = 4,     /* the number of iterations is 0 */
-    YZ_UNSPECIFIED = 5,       /* an input past its limit, or what was verified is something else */
+    YZ_UNSPECIFIED = 5,       /* an input past its limit, an output of PBKDF2 past its own, or what
+                               * was verified is something else */
 };
 
 /* Bytes of a digest or a tag, and of a block. */
@@ -76,8 +78,19 @@ enum {
 #define YZ_SHA512_256_BLOCK_LEN 128
 #define YZ_MAX_BLOCK_LEN 128
 
+/* The most bytes of an output of HKDF (RFC 5869, 2.3) and of PBKDF2 (RFC 2898, 5.2), over a digest
+ * of `output_len` bytes. */
+#define YZ_HKDF_MAX_OUT_LEN(output_len) (255u * (output_len))
+#define YZ_PBKDF2_MAX_OUT_LEN(output_len) (UINT64_C(0xffffffff) * (output_len))
+
 /* Contexts and keys. Their members are for these calls alone. They may be copied by assignment, and
- * a copy goes on by itself. Keys, and contexts of what is secret, are secret: yz_clear them. */
+ * a copy goes on by itself. Keys, and contexts of what is secret, are secret: yz_clear them.
+ *
+ * YZ_UNKNOWN_CONTEXT is no proof against wrong memory. It is answered where the bytes name no
+ * algorithm, as always after yz_clear, where a context has a whole block of pending bytes or more,
+ * and where a tag's context hasn't run the block of its key (but for a yz_hmac_update whose input
+ * only waits). Any other bytes are taken for a context's or a key's, and the call answers as for
+ * one: what it writes then is the digest or tag of nothing that is known. */
 typedef struct {
     uint32_t algorithm;
     uint32_t num_pending;
@@ -120,8 +133,10 @@ typedef struct {
 
 /* The digests of `count` messages, one after another in `out`, that of messages[i] from
  * i * yz_output_len(algorithm) on: `out_len` is `count` times that length, or the call is refused.
- * They are those of yz_digest. Of four messages or more under YZ_SHA1 and YZ_SHA256, four at a time
- * are made side by side, which is faster, the more so the more alike their lengths are. */
+ * They are those of yz_digest. From four messages on it is faster under YZ_SHA1 and YZ_SHA256, which
+ * make four at a time side by side, the more so the more messages there are and the more alike their
+ * lengths. Fewer, and few short ones under the others, are faster by yz_digest, since each call runs
+ * a block of its own first. */
 yz_status yz_digest_each(uint32_t algorithm, const yz_message *messages, size_t count,
                          uint8_t *out, size_t out_len) YZ_MUST_CHECK;
 
@@ -159,7 +174,8 @@ yz_status yz_hmac_final(const yz_hmac_context *context,
                         uint8_t *out, size_t out_len) YZ_MUST_CHECK;
 
 /* HKDF: extract, of which `out_len` is yz_output_len of the algorithm; expand, of which it is at
- * most 255 times that; and one after the other. */
+ * most YZ_HKDF_MAX_OUT_LEN of that, or the call answers YZ_WRONG_LENGTH; and one after the other,
+ * with the limit of expand. */
 yz_status yz_hkdf_extract(uint32_t algorithm, const uint8_t *salt, size_t salt_len,
                           const uint8_t *secret, size_t secret_len,
                           uint8_t *out, size_t out_len) YZ_MUST_CHECK;
@@ -171,8 +187,10 @@ yz_status yz_hkdf(uint32_t algorithm, const uint8_t *salt, size_t salt_len,
                   const uint8_t *info, size_t info_len,
                   uint8_t *out, size_t out_len) YZ_MUST_CHECK;
 
-/* PBKDF2. A verification answers YZ_OK exactly where `derived` isn't empty and is what
- * yz_pbkdf2_derive gives for its length, and reads all of it before it answers. */
+/* PBKDF2. `out_len` is at most YZ_PBKDF2_MAX_OUT_LEN of the algorithm's yz_output_len, or the call
+ * answers YZ_UNSPECIFIED, as for an input past its limit. A verification answers YZ_OK exactly where
+ * `derived` isn't empty and is what yz_pbkdf2_derive gives for its length, and reads all of it
+ * before it answers. */
 yz_status yz_pbkdf2_derive(uint32_t algorithm, uint32_t iterations,
                            const uint8_t *salt, size_t salt_len,
                            const uint8_t *secret, size_t secret_len,

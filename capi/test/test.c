@@ -20,6 +20,10 @@ _Static_assert(offsetof(yz_hmac_context, outer) == 216, "layout");
 _Static_assert(sizeof(yz_message) == 16, "layout");
 _Static_assert(offsetof(yz_message, len) == 8, "layout");
 
+#if YZ_VERSION >> 16 != YZ_VERSION_MAJOR || (YZ_VERSION & 0xff) != YZ_VERSION_PATCH
+#error "the version can't be compared where a caller is compiled"
+#endif
+
 #define PIECES_TURNS 4000
 #define GARBAGE_TURNS 50000
 #define MOST_MESSAGE 5000
@@ -183,15 +187,48 @@ static void several_messages(void) {
 
 /* An output of HKDF may have 255 digests, and no byte more. */
 static void longest_outputs(void) {
-    static uint8_t out[255 * YZ_MAX_OUTPUT_LEN + 1];
+    static uint8_t out[YZ_HKDF_MAX_OUT_LEN(YZ_MAX_OUTPUT_LEN) + 1];
     for (uint32_t n = YZ_SHA1; n <= YZ_SHA512; n++) {
-        size_t most = 255 * OUTPUT[n];
+        size_t most = YZ_HKDF_MAX_OUT_LEN(OUTPUT[n]);
         IS(yz_hkdf(n, NULL, 0, NULL, 0, NULL, 0, out, most), YZ_OK);
         IS(yz_hkdf_expand(n, NULL, 0, NULL, 0, out, most), YZ_OK);
         memset(out, 7, sizeof out);
         IS(yz_hkdf(n, NULL, 0, NULL, 0, NULL, 0, out, most + 1), YZ_WRONG_LENGTH);
         IS(yz_hkdf_expand(n, NULL, 0, NULL, 0, out, most + 1), YZ_WRONG_LENGTH);
         for (size_t i = 0; i < sizeof out; i++) IS(out[i], 7);
+    }
+}
+
+/* Of PBKDF2 a byte past the limit is refused. No memory is as long, but the number may be
+ * written. */
+static void past_the_longest_derived(void) {
+    memset(a, 7, sizeof a);
+    for (uint32_t n = YZ_SHA1; n <= YZ_SHA512; n++) {
+        size_t more = YZ_PBKDF2_MAX_OUT_LEN(OUTPUT[n]) + 1;
+        IS(yz_pbkdf2_derive(n, 1, NULL, 0, NULL, 0, a, more), YZ_UNSPECIFIED);
+        IS(yz_pbkdf2_verify(n, 1, NULL, 0, NULL, 0, a, more), YZ_UNSPECIFIED);
+    }
+    for (size_t i = 0; i < sizeof a; i++) IS(a[i], 7);
+}
+
+/* Which bytes are no context's, beside those that name no algorithm: others are answered. */
+static void bytes_of_no_context(void) {
+    yz_digest_context context;
+    yz_hmac_key key;
+    yz_hmac_context tag;
+    for (uint32_t n = YZ_SHA1; n <= YZ_SHA512; n++) {
+        IS(yz_digest_init(n, &context), YZ_OK);
+        context.num_pending = (uint32_t)BLOCK[n] - 1;
+        IS(yz_digest_final(&context, a, OUTPUT[n]), YZ_OK);
+        context.num_pending++;
+        IS(yz_digest_final(&context, a, OUTPUT[n]), YZ_UNKNOWN_CONTEXT);
+        IS(yz_digest_update(&context, message, 0), YZ_UNKNOWN_CONTEXT);
+        IS(yz_hmac_key_init(n, NULL, 0, &key), YZ_OK);
+        IS(yz_hmac_init(&key, &tag), YZ_OK);
+        tag.inner.completed_low--;
+        IS(yz_hmac_final(&tag, a, OUTPUT[n]), YZ_UNKNOWN_CONTEXT);
+        IS(yz_hmac_update(&tag, message, BLOCK[n]), YZ_UNKNOWN_CONTEXT);
+        IS(yz_hmac_update(&tag, message, BLOCK[n] - 1), YZ_OK);
     }
 }
 
@@ -341,8 +378,9 @@ static void equality_and_clearing(void) {
 
 int main(void) {
     IS(yz_version(), YZ_VERSION);
-    known_values(), statuses(), several_messages(), longest_outputs();
-    contexts(), past_the_limit();
+    known_values(), statuses(), several_messages();
+    longest_outputs(), past_the_longest_derived();
+    contexts(), bytes_of_no_context(), past_the_limit();
     pieces(), garbage(), equality_and_clearing();
     if (failures) printf("%d failures\n", failures);
     return failures != 0;

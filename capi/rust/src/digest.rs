@@ -5,31 +5,31 @@ use crate::done;
 use crate::error::Unspecified;
 use std::fmt;
 
-/// The bytes of the longest block.
+/// The bytes of the longest block (FIPS 180-4, figure 1).
 pub const MAX_BLOCK_LEN: usize = 128;
 
-/// The bytes of the longest digest.
+/// The bytes of the longest digest (FIPS 180-4, figure 1).
 pub const MAX_OUTPUT_LEN: usize = 64;
 
-/// The bytes of the longest chaining value.
+/// The bytes of the longest chaining value, which FIPS 180-4 calls a hash value (section 6).
 pub const MAX_CHAINING_LEN: usize = MAX_OUTPUT_LEN;
 
-/// The bytes of a digest by SHA-1.
+/// The bytes of a digest by SHA-1 (FIPS 180-4, section 6.1).
 pub const SHA1_OUTPUT_LEN: usize = 20;
 
-/// The bytes of a digest by SHA-256.
+/// The bytes of a digest by SHA-256 (FIPS 180-4, section 6.2).
 pub const SHA256_OUTPUT_LEN: usize = 32;
 
-/// The bytes of a digest by SHA-384.
+/// The bytes of a digest by SHA-384 (FIPS 180-4, section 6.5).
 pub const SHA384_OUTPUT_LEN: usize = 48;
 
-/// The bytes of a digest by SHA-512.
+/// The bytes of a digest by SHA-512 (FIPS 180-4, section 6.4).
 pub const SHA512_OUTPUT_LEN: usize = 64;
 
-/// The bytes of a digest by SHA-512/256.
+/// The bytes of a digest by SHA-512/256 (FIPS 180-4, section 6.7).
 pub const SHA512_256_OUTPUT_LEN: usize = 32;
 
-/// An algorithm: one of the five constants.
+/// An algorithm: one of the five statics of this module. Debug gives its name, as `SHA256`.
 #[derive(Clone, Copy, PartialEq, Eq)]
 pub struct Algorithm {
     pub(crate) number: u32,
@@ -45,7 +45,7 @@ impl Algorithm {
         self.output_len
     }
 
-    /// The bytes of a chaining value, of which a digest is a front.
+    /// The bytes of a chaining value, of which a digest is the front.
     pub fn chaining_len(&self) -> usize {
         self.chaining_len
     }
@@ -65,32 +65,33 @@ impl fmt::Debug for Algorithm {
 macro_rules! algorithms {
     ($(
         $(#[$doc:meta])*
-        $name:ident: $number:expr, $output:expr, $chaining:expr, $block:expr;
+        $name:ident $text:literal: $number:expr, $output:expr, $chaining:expr, $block:expr;
     )*) => {
         $($(#[$doc])* pub static $name: Algorithm = Algorithm {
             number: $number,
             output_len: $output,
             chaining_len: $chaining,
             block_len: $block,
-            name: stringify!($name),
+            name: $text,
         };)*
     };
 }
 
 algorithms! {
-    /// SHA-1, which is broken: for what must still read old data.
-    SHA1_FOR_LEGACY_USE_ONLY: 1, SHA1_OUTPUT_LEN, 20, 64;
-    /// SHA-256.
-    SHA256: 2, SHA256_OUTPUT_LEN, 32, 64;
-    /// SHA-384.
-    SHA384: 3, SHA384_OUTPUT_LEN, 64, 128;
-    /// SHA-512.
-    SHA512: 4, SHA512_OUTPUT_LEN, 64, 128;
-    /// SHA-512/256.
-    SHA512_256: 5, SHA512_256_OUTPUT_LEN, 64, 128;
+    /// SHA-1 (FIPS 180-4, section 6.1), which is broken: for what must still read old data.
+    SHA1_FOR_LEGACY_USE_ONLY "SHA1": 1, SHA1_OUTPUT_LEN, 20, 64;
+    /// SHA-256 (FIPS 180-4, section 6.2).
+    SHA256 "SHA256": 2, SHA256_OUTPUT_LEN, 32, 64;
+    /// SHA-384 (FIPS 180-4, section 6.5).
+    SHA384 "SHA384": 3, SHA384_OUTPUT_LEN, 64, 128;
+    /// SHA-512 (FIPS 180-4, section 6.4).
+    SHA512 "SHA512": 4, SHA512_OUTPUT_LEN, 64, 128;
+    /// SHA-512/256 (FIPS 180-4, section 6.7).
+    SHA512_256 "SHA512_256": 5, SHA512_256_OUTPUT_LEN, 64, 128;
 }
 
-/// A digest.
+/// A digest: as a slice, the bytes that its algorithm gives. Debug has its algorithm and its bytes
+/// in hex digits, as `SHA1:a9993e..`.
 #[derive(Clone, Copy)]
 pub struct Digest {
     bytes: [u8; MAX_OUTPUT_LEN],
@@ -130,6 +131,11 @@ impl fmt::Debug for Digest {
 }
 
 /// The digest of `data`.
+///
+/// # Panics
+///
+/// Where `data` is past the limit (FIPS 180-4, section 1): `2^61 - 1` bytes under SHA-1 and
+/// SHA-256, and `2^125 - 1` bytes under the others.
 pub fn digest(algorithm: &'static Algorithm, data: &[u8]) -> Digest {
     let number = algorithm.number;
     // SAFETY: the data is lent for the call, and `out` has room for `len` bytes.
@@ -182,7 +188,7 @@ pub fn digest_each(
     Ok(())
 }
 
-/// The digest of a message in pieces.
+/// The digest of a message in pieces. A clone goes on by itself.
 #[derive(Clone)]
 pub struct Context {
     raw: DigestContext,
@@ -207,6 +213,10 @@ impl Context {
     }
 
     /// The digest of the message.
+    ///
+    /// # Panics
+    ///
+    /// Where the message is past the limit of [`digest`].
     pub fn finish(self) -> Digest {
         // SAFETY: `raw` is ours, and `out` has room for `len` bytes.
         Digest::written(self.algorithm, |out, len| unsafe {

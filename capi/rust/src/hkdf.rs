@@ -1,4 +1,26 @@
 //! Keys from secrets: HKDF (RFC 5869).
+//!
+//! A secret is extracted once with a salt, and keys of any lengths are then expanded from what that
+//! gives:
+//!
+//! ```
+//! use yezdopin::{hkdf, hmac};
+//!
+//! /// A number of bytes.
+//! struct Length(usize);
+//!
+//! impl hkdf::KeyType for Length {
+//!     fn len(&self) -> usize {
+//!         self.0
+//!     }
+//! }
+//!
+//! let prk = hkdf::Salt::new(hkdf::HKDF_SHA256, b"a salt").extract(b"a secret");
+//! let mut key = [0; 16];
+//! prk.expand(&[b"a purpose"], Length(16))?.fill(&mut key)?;
+//! let signing_key: hmac::Key = prk.expand(&[b"tags"], hmac::HMAC_SHA256)?.into();
+//! # Ok::<(), yezdopin::error::Unspecified>(())
+//! ```
 
 use crate::calls;
 use crate::digest::Digest;
@@ -6,10 +28,10 @@ use crate::error::Unspecified;
 use crate::{done, hmac};
 use std::fmt;
 
-// The most digests of an output.
+// The most digests of an output (RFC 5869, section 2.3).
 const MAX_ROUNDS: usize = 255;
 
-/// An algorithm: one of the four constants.
+/// An algorithm: one of the four statics of this module, HKDF over an HMAC algorithm.
 #[derive(Clone, Copy, Debug, PartialEq, Eq)]
 pub struct Algorithm(hmac::Algorithm);
 
@@ -37,7 +59,7 @@ pub static HKDF_SHA384: Algorithm = Algorithm(hmac::HMAC_SHA384);
 /// HKDF over HMAC-SHA-512.
 pub static HKDF_SHA512: Algorithm = Algorithm(hmac::HMAC_SHA512);
 
-/// The length of an output.
+/// What says how long an output is: algorithms, and types of the caller.
 // As in `ring`, it has no `is_empty`.
 #[allow(clippy::len_without_is_empty)]
 pub trait KeyType {
@@ -45,21 +67,22 @@ pub trait KeyType {
     fn len(&self) -> usize;
 }
 
-impl KeyType for hmac::Algorithm {
-    fn len(&self) -> usize {
-        self.digest_algorithm().output_len()
-    }
-}
-
 impl KeyType for Algorithm {
+    /// The bytes of a salt or a PRK of its own: as many as a digest has.
     fn len(&self) -> usize {
         self.0.len()
     }
 }
 
-// Bytes of a secret, which are cleared when they are let go.
+// Bytes of a secret, which are cleared when they are dropped.
 #[derive(Clone)]
-struct Secret(Vec<u8>);
+pub(crate) struct Secret(Vec<u8>);
+
+impl Secret {
+    pub(crate) fn bytes(&self) -> &[u8] {
+        &self.0
+    }
+}
 
 impl Drop for Secret {
     fn drop(&mut self) {
@@ -67,20 +90,26 @@ impl Drop for Secret {
     }
 }
 
-/// A salt.
+/// A salt (RFC 5869, section 2.2), which is wiped when it is dropped.
 pub struct Salt {
     value: Secret,
     algorithm: Algorithm,
 }
 
 impl Salt {
-    /// The salt of these bytes.
+    /// The salt of the bytes `value`. An empty one is as one of a digest's length of zeros (RFC
+    /// 5869, section 2.2).
     pub fn new(algorithm: Algorithm, value: &[u8]) -> Self {
         let value = Secret(value.to_vec());
         Salt { value, algorithm }
     }
 
-    /// The PRK of a secret: HKDF's extract.
+    /// The PRK of a secret: HKDF's extract (RFC 5869, section 2.2).
+    ///
+    /// # Panics
+    ///
+    /// Where the salt is past the limit of [`digest`](crate::digest::digest), or the secret past
+    /// that of [`hmac::sign`].
     pub fn extract(&self, secret: &[u8]) -> Prk {
         let (salt, number) = (&self.value.0, self.algorithm.number());
         // SAFETY: salt and secret are lent for the call, and `out` has room for `len` bytes.
@@ -108,15 +137,25 @@ impl Salt {
 
 impl fmt::Debug for Salt {
     fn fmt(&self, f: &mut fmt::Formatter<'_>) -> fmt::Result {
-        write!(
-            f,
-            "Salt {{ algorithm: {:?} }}",
-            self.algorithm.0.digest_algorithm()
-        )
+        f.debug_tuple("Salt")
+            .field(&KeyText(self.algorithm))
+            .finish()
     }
 }
 
-/// A pseudorandom key, from which outputs are expanded.
+// What Debug gives of a salt's or a PRK's bytes: that they are a key, and its algorithm.
+struct KeyText(Algorithm);
+
+impl fmt::Debug for KeyText {
+    fn fmt(&self, f: &mut fmt::Formatter<'_>) -> fmt::Result {
+        f.debug_struct("Key")
+            .field("algorithm", self.0 .0.digest_algorithm())
+            .finish()
+    }
+}
+
+/// A pseudorandom key (PRK; RFC 5869, section 2.2), from which outputs are expanded. It is wiped
+/// when it is dropped.
 #[derive(Clone)]
 pub struct Prk {
     value: Secret,
@@ -124,15 +163,17 @@ pub struct Prk {
 }
 
 impl Prk {
-    /// The PRK of these bytes, which it is for the caller to know to be random enough.
+    /// The PRK of the bytes `value`, which it is for the caller to know to be random enough (RFC
+    /// 5869, section 3.3).
     pub fn new_less_safe(algorithm: Algorithm, value: &[u8]) -> Self {
         let value = Secret(value.to_vec());
         Prk { value, algorithm }
     }
 
-    /// Asks for as many bytes as `len` says. The info is the joined bytes of all pieces.
+    /// Asks for as many bytes as `len` says (RFC 5869, section 2.3). The info is the joined bytes
+    /// of all pieces.
     ///
-    /// An error where more bytes are asked for than 255 digests have.
+    /// Refused where more bytes are asked for than 255 digests have.
     pub fn expand<'a, L: KeyType>(
         &'a self,
         info: &'a [&'a [u8]],
@@ -154,15 +195,13 @@ impl Prk {
 
 impl fmt::Debug for Prk {
     fn fmt(&self, f: &mut fmt::Formatter<'_>) -> fmt::Result {
-        write!(
-            f,
-            "Prk {{ algorithm: {:?} }}",
-            self.algorithm.0.digest_algorithm()
-        )
+        f.debug_tuple("Prk")
+            .field(&KeyText(self.algorithm))
+            .finish()
     }
 }
 
-/// An output that was asked for, and not yet given.
+/// An output that was asked for, and not yet given (OKM; RFC 5869, section 2.3).
 #[derive(Debug)]
 pub struct Okm<'a, L: KeyType> {
     prk: &'a Prk,
@@ -177,8 +216,8 @@ impl<L: KeyType> Okm<'_, L> {
         &self.len
     }
 
-    /// Writes the output over the whole of `out`: an error where it has another length than was
-    /// asked for.
+    /// Writes the output over the whole of `out`: refused where it has another length than was
+    /// asked for, or PRK or info is past its limit, of about `2^61` bytes or more.
     pub fn fill(self, out: &mut [u8]) -> Result<(), Unspecified> {
         if out.len() != self.number {
             return Err(Unspecified);
@@ -197,30 +236,24 @@ impl<L: KeyType> Okm<'_, L> {
             )
         })
     }
-}
 
-// The value of a type's own length.
-fn whole<L: KeyType>(okm: Okm<'_, L>) -> Secret {
-    let mut value = Secret(vec![0; okm.number]);
-    okm.fill(&mut value.0)
-        .expect("the info is within the limit");
-    value
-}
-
-impl From<Okm<'_, hmac::Algorithm>> for hmac::Key {
-    fn from(okm: Okm<'_, hmac::Algorithm>) -> Self {
-        hmac::Key::new(*okm.len(), &whole(okm).0)
+    // All bytes that were asked for.
+    pub(crate) fn whole(self) -> Secret {
+        let mut value = Secret(vec![0; self.number]);
+        self.fill(&mut value.0)
+            .expect("the info is within the limit");
+        value
     }
 }
 
 impl From<Okm<'_, Algorithm>> for Salt {
     fn from(okm: Okm<'_, Algorithm>) -> Self {
-        Salt::new(*okm.len(), &whole(okm).0)
+        Salt::new(*okm.len(), okm.whole().bytes())
     }
 }
 
 impl From<Okm<'_, Algorithm>> for Prk {
     fn from(okm: Okm<'_, Algorithm>) -> Self {
-        Prk::new_less_safe(*okm.len(), &whole(okm).0)
+        Prk::new_less_safe(*okm.len(), okm.whole().bytes())
     }
 }

@@ -1,12 +1,45 @@
-//! Tags of messages under keys: HMAC (RFC 2104).
+//! Tags of messages under keys: HMAC (RFC 2104, FIPS 198-1).
+//!
+//! A tag under a random key, and its verification:
+//!
+//! ```
+//! use yezdopin::{hmac, rand};
+//!
+//! let rng = rand::SystemRandom::new();
+//! let key = hmac::Key::generate(hmac::HMAC_SHA256, &rng)?;
+//! let tag = hmac::sign(&key, b"hello, world");
+//! hmac::verify(&key, b"hello, world", tag.as_ref())?;
+//! # Ok::<(), yezdopin::error::Unspecified>(())
+//! ```
+//!
+//! Two parties that share the bytes of a key, the message of one in pieces:
+//!
+//! ```
+//! use yezdopin::rand::SecureRandom;
+//! use yezdopin::{digest, hmac, rand};
+//!
+//! let mut key_value = [0; digest::SHA384_OUTPUT_LEN];
+//! rand::SystemRandom::new().fill(&mut key_value)?;
+//!
+//! let signing_key = hmac::Key::new(hmac::HMAC_SHA384, &key_value);
+//! let mut context = hmac::Context::with_key(&signing_key);
+//! for piece in ["hello", ", ", "world"] {
+//!     context.update(piece.as_bytes());
+//! }
+//! let tag = context.sign();
+//!
+//! let verification_key = hmac::Key::new(hmac::HMAC_SHA384, &key_value);
+//! hmac::verify(&verification_key, b"hello, world", tag.as_ref())?;
+//! # Ok::<(), yezdopin::error::Unspecified>(())
+//! ```
 
 use crate::calls::{self, HmacContext, HmacKey};
 use crate::digest::{self, Digest};
-use crate::done;
 use crate::error::Unspecified;
+use crate::{done, hkdf, rand};
 use std::fmt;
 
-/// An algorithm: one of the four constants.
+/// An algorithm: one of the four statics of this module, HMAC over a digest algorithm.
 #[derive(Clone, Copy, Debug, PartialEq, Eq)]
 pub struct Algorithm(&'static digest::Algorithm);
 
@@ -29,7 +62,7 @@ pub static HMAC_SHA384: Algorithm = Algorithm(&digest::SHA384);
 /// HMAC over SHA-512.
 pub static HMAC_SHA512: Algorithm = Algorithm(&digest::SHA512);
 
-/// A tag.
+/// A tag: as a slice, as many bytes as a digest of its algorithm has.
 #[derive(Clone, Copy, Debug)]
 pub struct Tag(Digest);
 
@@ -39,7 +72,8 @@ impl AsRef<[u8]> for Tag {
     }
 }
 
-/// A key, whose two blocks are run once for all tags under it.
+/// A key, whose two blocks (RFC 2104, section 4) are run once for all tags under it. It serves for
+/// signing and for verification, and is wiped when it is dropped.
 #[derive(Clone)]
 pub struct Key {
     raw: HmacKey,
@@ -47,7 +81,26 @@ pub struct Key {
 }
 
 impl Key {
-    /// The key of these bytes.
+    /// A random key of as many bytes as a digest has (RFC 2104, section 3), which no one is told.
+    ///
+    /// Refused where `rng` is.
+    pub fn generate(
+        algorithm: Algorithm,
+        rng: &dyn rand::SecureRandom,
+    ) -> Result<Self, Unspecified> {
+        let mut room = [0; digest::MAX_OUTPUT_LEN];
+        let value = &mut room[..algorithm.0.output_len()];
+        let key = rng.fill(value).map(|()| Key::new(algorithm, value));
+        calls::clear_bytes(&mut room);
+        key
+    }
+
+    /// The key of the bytes `key_value`. Of one past a block's length its digest is taken (RFC
+    /// 2104, section 2).
+    ///
+    /// # Panics
+    ///
+    /// Where `key_value` is past the limit of [`digest::digest`].
     pub fn new(algorithm: Algorithm, key_value: &[u8]) -> Self {
         let mut key = Key {
             raw: HmacKey::NONE,
@@ -69,7 +122,22 @@ impl Key {
 
 impl fmt::Debug for Key {
     fn fmt(&self, f: &mut fmt::Formatter<'_>) -> fmt::Result {
-        write!(f, "Key {{ algorithm: {:?} }}", self.algorithm.0)
+        f.debug_struct("Key")
+            .field("algorithm", self.algorithm.0)
+            .finish()
+    }
+}
+
+impl hkdf::KeyType for Algorithm {
+    /// The bytes of a key of its own: as many as a digest has.
+    fn len(&self) -> usize {
+        self.0.output_len()
+    }
+}
+
+impl From<hkdf::Okm<'_, Algorithm>> for Key {
+    fn from(okm: hkdf::Okm<'_, Algorithm>) -> Self {
+        Key::new(*okm.len(), okm.whole().bytes())
     }
 }
 
@@ -79,7 +147,11 @@ impl Drop for Key {
     }
 }
 
-/// The tag of `data` under `key`.
+/// The tag of `data` under `key` (RFC 2104, section 2).
+///
+/// # Panics
+///
+/// Where `data` and a block of the key before it are past the limit of [`digest::digest`].
 pub fn sign(key: &Key, data: &[u8]) -> Tag {
     // SAFETY: key and data are lent for the call, and `out` has room for `len` bytes.
     let made = Digest::written(key.algorithm.0, |out, len| unsafe {
@@ -95,7 +167,7 @@ pub fn verify(key: &Key, data: &[u8], tag: &[u8]) -> Result<(), Unspecified> {
     done(unsafe { calls::yz_hmac_key_verify(&key.raw, data.as_ptr(), data.len(), tag, tag_len) })
 }
 
-/// The tag of a message in pieces.
+/// The tag of a message in pieces. A clone goes on by itself.
 #[derive(Clone)]
 pub struct Context {
     raw: HmacContext,
@@ -123,6 +195,10 @@ impl Context {
     }
 
     /// The tag of the message.
+    ///
+    /// # Panics
+    ///
+    /// Where the message is past the limit of [`sign`].
     pub fn sign(self) -> Tag {
         // SAFETY: `raw` is ours, and `out` has room for `len` bytes.
         let made = Digest::written(self.algorithm.0, |out, len| unsafe {
@@ -134,7 +210,9 @@ impl Context {
 
 impl fmt::Debug for Context {
     fn fmt(&self, f: &mut fmt::Formatter<'_>) -> fmt::Result {
-        write!(f, "Context {{ algorithm: {:?} }}", self.algorithm.0)
+        f.debug_struct("Context")
+            .field("algorithm", self.algorithm.0)
+            .finish()
     }
 }
 

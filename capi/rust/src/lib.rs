@@ -15,49 +15,21 @@
 //! # Ok::<(), yezdopin::error::Unspecified>(())
 //! ```
 //!
-//! As in `ring`, a call without a `Result` panics on an input past the standard's limit, of
-//! `2^61 - 1` bytes or more.
+//! As in `ring`, a call without a `Result` panics on an input past the standard's limit, of about
+//! `2^61` bytes or more.
 #![deny(missing_docs, unsafe_op_in_unsafe_fn)]
 
 mod calls;
+pub mod constant_time;
 pub mod digest;
+pub mod error;
 pub mod hkdf;
 pub mod hmac;
 pub mod pbkdf2;
+pub mod rand;
 
-/// Errors.
-pub mod error {
-    use std::fmt;
-
-    /// An error that tells no cause.
-    #[derive(Clone, Copy, Debug, PartialEq, Eq)]
-    pub struct Unspecified;
-
-    impl fmt::Display for Unspecified {
-        fn fmt(&self, f: &mut fmt::Formatter<'_>) -> fmt::Result {
-            f.write_str("yezdopin::error::Unspecified")
-        }
-    }
-
-    impl std::error::Error for Unspecified {}
-}
-
-/// Comparison that reads every pair of bytes.
-pub mod constant_time {
-    use crate::calls;
-    use crate::error::Unspecified;
-
-    /// Ok exactly where both are equal.
-    pub fn verify_slices_are_equal(a: &[u8], b: &[u8]) -> Result<(), Unspecified> {
-        // SAFETY: both are lent for the call.
-        match unsafe { calls::yz_equal(a.as_ptr(), a.len(), b.as_ptr(), b.len()) } {
-            true => Ok(()),
-            false => Err(Unspecified),
-        }
-    }
-}
-
-/// The version of the library that is linked.
+/// The version of the library that is linked: the major number from bit 16 on, the minor from bit
+/// 8 on, and the patch's.
 pub fn library_version() -> u32 {
     // SAFETY: it takes nothing.
     unsafe { calls::yz_version() }

@@ -1,26 +1,43 @@
-//! Keys from passwords: PBKDF2 (RFC 2898).
+//! Keys from passwords: PBKDF2 (RFC 2898, section 5.2).
+//!
+//! ```
+//! use std::num::NonZeroU32;
+//! use yezdopin::pbkdf2::{derive, verify, PBKDF2_HMAC_SHA256};
+//!
+//! let iterations = NonZeroU32::new(100_000).unwrap();
+//! let mut stored = [0; 32];
+//! derive(PBKDF2_HMAC_SHA256, iterations, b"a salt", b"a password", &mut stored);
+//! verify(PBKDF2_HMAC_SHA256, iterations, b"a salt", b"a password", &stored)?;
+//! # Ok::<(), yezdopin::error::Unspecified>(())
+//! ```
 
 use crate::error::Unspecified;
 use crate::{calls, digest, done};
 use std::num::NonZeroU32;
 
-/// An algorithm: one of the four constants.
+/// An algorithm: one of the four statics of this module, PBKDF2 over an HMAC algorithm.
 #[derive(Clone, Copy, Debug, PartialEq, Eq)]
 pub struct Algorithm(&'static digest::Algorithm);
 
-/// PBKDF2 over HMAC with SHA-1.
+/// PBKDF2 over HMAC-SHA-1.
 pub static PBKDF2_HMAC_SHA1: Algorithm = Algorithm(&digest::SHA1_FOR_LEGACY_USE_ONLY);
 
-/// PBKDF2 over HMAC with SHA-256.
+/// PBKDF2 over HMAC-SHA-256.
 pub static PBKDF2_HMAC_SHA256: Algorithm = Algorithm(&digest::SHA256);
 
-/// PBKDF2 over HMAC with SHA-384.
+/// PBKDF2 over HMAC-SHA-384.
 pub static PBKDF2_HMAC_SHA384: Algorithm = Algorithm(&digest::SHA384);
 
-/// PBKDF2 over HMAC with SHA-512.
+/// PBKDF2 over HMAC-SHA-512.
 pub static PBKDF2_HMAC_SHA512: Algorithm = Algorithm(&digest::SHA512);
 
-/// Fills `out` with the key that is derived from `secret`.
+/// Fills `out` with the key that is derived from `secret`, for each digest of it as many HMACs as
+/// `iterations` says.
+///
+/// # Panics
+///
+/// Where `secret` is past the limit of [`digest`](crate::digest::digest()), `salt` past that of
+/// [`hmac::sign`](crate::hmac::sign), or `out` has more bytes than `2^32 - 1` digests.
 pub fn derive(
     algorithm: Algorithm,
     iterations: NonZeroU32,

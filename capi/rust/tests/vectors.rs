@@ -1,5 +1,5 @@
 //! The lines of vectors/, whose answers come from standards and from other implementations, and
-//! what they don't show: copies, keys that are made of outputs, debug texts.
+//! what they don't show: copies, keys that are made of outputs, comparison.
 
 use std::num::NonZeroU32;
 use yezdopin::constant_time::verify_slices_are_equal;
@@ -293,15 +293,16 @@ fn lengths() {
 }
 
 #[test]
-fn comparison_texts_and_version() {
+fn comparison_and_version() {
     assert!(verify_slices_are_equal(b"same", b"same").is_ok());
     assert!(verify_slices_are_equal(b"same", b"sane").is_err());
     assert!(verify_slices_are_equal(b"same", b"sam").is_err());
     let abc = digest::digest(&digest::SHA1_FOR_LEGACY_USE_ONLY, b"abc");
     // FIPS 180-4's example.
-    assert!(format!("{abc:?}").ends_with(":a9993e364706816aba3e25717850c26c9cd0d89d"));
-    let key = hmac::Key::new(hmac::HMAC_SHA256, b"a secret");
-    assert_eq!(format!("{key:?}"), "Key { algorithm: SHA256 }");
+    assert_eq!(
+        format!("{abc:?}"),
+        "SHA1:a9993e364706816aba3e25717850c26c9cd0d89d"
+    );
     let parts: Vec<u32> = env!("CARGO_PKG_VERSION")
         .split('.')
         .map(|it| it.parse().unwrap())

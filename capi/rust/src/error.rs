@@ -1,0 +1,23 @@
+//! Errors.
+
+use std::array::TryFromSliceError;
+use std::{error, fmt};
+
+/// An error that tells no cause. A caller's own error takes it by `From<Unspecified>`, so that `?`
+/// turns one into the other.
+#[derive(Clone, Copy, Debug, PartialEq, Eq)]
+pub struct Unspecified;
+
+impl fmt::Display for Unspecified {
+    fn fmt(&self, f: &mut fmt::Formatter<'_>) -> fmt::Result {
+        f.write_str("yezdopin::error::Unspecified")
+    }
+}
+
+impl error::Error for Unspecified {}
+
+impl From<TryFromSliceError> for Unspecified {
+    fn from(_: TryFromSliceError) -> Self {
+        Unspecified
+    }
+}

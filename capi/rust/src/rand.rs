@@ -1,0 +1,127 @@
+//! Random bytes from the operating system.
+//!
+//! ```
+//! use yezdopin::rand::{self, SecureRandom};
+//!
+//! let rng = rand::SystemRandom::new();
+//! let mut salt = [0; 16];
+//! rng.fill(&mut salt)?;
+//! let nonce: [u8; 12] = rand::generate(&rng)?.expose();
+//! # Ok::<(), yezdopin::error::Unspecified>(())
+//! ```
+
+use crate::error::Unspecified;
+use std::ffi::c_void;
+use std::io;
+use std::os::raw::c_uint;
+
+/// A secure source of random bytes. It is sealed: [`SystemRandom`] is the only one.
+pub trait SecureRandom: sealed::SecureRandom {
+    /// Fills `dest` with random bytes. Where that is refused, bytes of `dest` may be written.
+    fn fill(&self, dest: &mut [u8]) -> Result<(), Unspecified>;
+}
+
+impl<T: sealed::SecureRandom> SecureRandom for T {
+    fn fill(&self, dest: &mut [u8]) -> Result<(), Unspecified> {
+        self.fill_impl(dest)
+    }
+}
+
+/// A random value that nothing has seen, until it is exposed. It has no trait on purpose: it can't
+/// be copied, compared or printed.
+pub struct Random<T: RandomlyConstructable>(T);
+
+impl<T: RandomlyConstructable> Random<T> {
+    /// The value.
+    pub fn expose(self) -> T {
+        self.0
+    }
+}
+
+/// A random value from `rng`: arrays of bytes.
+pub fn generate<T: RandomlyConstructable>(
+    rng: &dyn SecureRandom,
+) -> Result<Random<T>, Unspecified> {
+    let mut value = T::zero();
+    rng.fill(value.as_mut_bytes())?;
+    Ok(Random(value))
+}
+
+/// What [`generate`] gives: an array of bytes. It is sealed.
+pub trait RandomlyConstructable: sealed::RandomlyConstructable {}
+
+impl<T: sealed::RandomlyConstructable> RandomlyConstructable for T {}
+
+/// The source of the operating system, `getrandom(2)`: the first call waits until the system has
+/// gathered enough, and none falls back to another source. One serves all threads.
+#[derive(Clone, Debug)]
+pub struct SystemRandom(());
+
+impl SystemRandom {
+    /// The source, of which nothing is asked yet.
+    // As in `ring`, it has no `Default`.
+    #[allow(clippy::new_without_default)]
+    pub fn new() -> Self {
+        SystemRandom(())
+    }
+}
+
+impl sealed::SecureRandom for SystemRandom {
+    fn fill_impl(&self, dest: &mut [u8]) -> Result<(), Unspecified> {
+        let mut filled = 0;
+        while filled < dest.len() {
+            filled += some_random(&mut dest[filled..])?;
+        }
+        Ok(())
+    }
+}
+
+// Writes random bytes over the front of `dest`, which isn't empty, and tells how many: one or more.
+// The system may write fewer than asked for, or none where a signal comes between.
+fn some_random(dest: &mut [u8]) -> Result<usize, Unspecified> {
+    loop {
+        // SAFETY: `dest` is lent for writing.
+        let written = unsafe { getrandom(dest.as_mut_ptr().cast(), dest.len(), 0) };
+        match usize::try_from(written) {
+            Ok(0) => return Err(Unspecified),
+            Ok(count) => return Ok(count),
+            Err(_) if was_interrupted() => {}
+            Err(_) => return Err(Unspecified),
+        }
+    }
+}
+
+// Whether the last call of the system ended since a signal came.
+fn was_interrupted() -> bool {
+    io::Error::last_os_error().kind() == io::ErrorKind::Interrupted
+}
+
+extern "C" {
+    // As <sys/random.h> declares it, which the standard library is linked with.
+    fn getrandom(buf: *mut c_void, buflen: usize, flags: c_uint) -> isize;
+}
+
+// What no other crate can name, so that none has a source or a value of its own.
+mod sealed {
+    use crate::error::Unspecified;
+    use std::fmt;
+
+    pub trait SecureRandom: fmt::Debug {
+        fn fill_impl(&self, dest: &mut [u8]) -> Result<(), Unspecified>;
+    }
+
+    pub trait RandomlyConstructable: Sized {
+        fn zero() -> Self;
+        fn as_mut_bytes(&mut self) -> &mut [u8];
+    }
+
+    impl<const LEN: usize> RandomlyConstructable for [u8; LEN] {
+        fn zero() -> Self {
+            [0; LEN]
+        }
+
+        fn as_mut_bytes(&mut self) -> &mut [u8] {
+            self
+        }
+    }
+}

@@ -52,7 +52,7 @@ static void fill(uint8_t *bytes, size_t len) {
     for (size_t i = 0; i < len; i++) bytes[i] = (uint8_t)rand();
 }
 
-static double now(void) {
+double now(void) {
     struct timespec time;
     clock_gettime(CLOCK_PROCESS_CPUTIME_ID, &time);
     return (double)time.tv_sec * 1e9 + (double)time.tv_nsec;
@@ -183,5 +183,6 @@ int main(void) {
             }
         }
     table(columns);
+    if (!held_back) compare_each();
     return 0;
 }

@@ -42,4 +42,10 @@ typedef struct {
 
 extern const party yezdopin, openssl, libsodium;
 
+/* The processor time of this program, in nanoseconds. */
+double now(void);
+
+/* Prints how several messages in one call compare with as many calls. */
+void compare_each(void);
+
 #endif

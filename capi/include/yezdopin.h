@@ -26,8 +26,8 @@
 #include <stdint.h>
 
 /* The version of this header. The major number is that of the shared library's name, and rises
- * where a caller must be compiled again: with a call or the layout of a context or a key. YZ_VERSION
- * has all three in one number, 16 bits, 8 and 8, which `#if` can compare. */
+ * where a caller must be compiled again: with a call or the layout of a context or a key.
+ * YZ_VERSION has all three in one number, 16 bits, 8 and 8, which `#if` can compare. */
 #define YZ_VERSION_MAJOR 0
 #define YZ_VERSION_MINOR 1
 #define YZ_VERSION_PATCH 0
@@ -133,10 +133,10 @@ typedef struct {
 
 /* The digests of `count` messages, one after another in `out`, that of messages[i] from
  * i * yz_output_len(algorithm) on: `out_len` is `count` times that length, or the call is refused.
- * They are those of yz_digest. From four messages on it is faster under YZ_SHA1 and YZ_SHA256, which
- * make four at a time side by side, the more so the more messages there are and the more alike their
- * lengths. Fewer, and few short ones under the others, are faster by yz_digest, since each call runs
- * a block of its own first. */
+ * They are those of yz_digest. From four messages on it is faster under YZ_SHA1 and YZ_SHA256,
+ * which make four at a time side by side, the more so the more messages there are and the more
+ * alike their lengths. Fewer, and few short ones under the others, are faster by yz_digest, since
+ * each call runs a block of its own first. */
 yz_status yz_digest_each(uint32_t algorithm, const yz_message *messages, size_t count,
                          uint8_t *out, size_t out_len) YZ_MUST_CHECK;
 
@@ -188,9 +188,9 @@ yz_status yz_hkdf(uint32_t algorithm, const uint8_t *salt, size_t salt_len,
                   uint8_t *out, size_t out_len) YZ_MUST_CHECK;
 
 /* PBKDF2. `out_len` is at most YZ_PBKDF2_MAX_OUT_LEN of the algorithm's yz_output_len, or the call
- * answers YZ_UNSPECIFIED, as for an input past its limit. A verification answers YZ_OK exactly where
- * `derived` isn't empty and is what yz_pbkdf2_derive gives for its length, and reads all of it
- * before it answers. */
+ * answers YZ_UNSPECIFIED, as for an input past its limit. A verification answers YZ_OK exactly
+ * where `derived` isn't empty and is what yz_pbkdf2_derive gives for its length, and reads all of
+ * it before it answers. */
 yz_status yz_pbkdf2_derive(uint32_t algorithm, uint32_t iterations,
                            const uint8_t *salt, size_t salt_len,
                            const uint8_t *secret, size_t secret_len,

@@ -1,5 +1,5 @@
-//! What callers of `ring` write beside the calls that vectors/ tries: random keys and values, errors
-//! of their own, sources and contexts in other threads, texts.
+//! What callers of `ring` write beside the calls that vectors/ tries: random keys and values,
+//! errors of their own, sources and contexts in other threads, texts.
 
 use std::convert::TryFrom;
 use std::fmt::Debug;

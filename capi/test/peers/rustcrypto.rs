@@ -103,8 +103,9 @@ macro_rules! pbkdf2_agrees {
     ($mac:ty, $theirs:ty, $algorithm:ident) => {{
         let (mut ours, mut theirs, mut by_call) = ([0; 100], [0; 100], [0; 100]);
         let iterations = NonZeroU32::new(10).unwrap();
-        pbkdf2::pbkdf2::<$mac>(b"a password", b"a salt", 10, &mut ours);
-        pbkdf2::pbkdf2::<$theirs>(b"a password", b"a salt", 10, &mut theirs);
+        // Version 0.12 answers a result, which only a key's length makes an error.
+        let _ = pbkdf2::pbkdf2::<$mac>(b"a password", b"a salt", 10, &mut ours);
+        let _ = pbkdf2::pbkdf2::<$theirs>(b"a password", b"a salt", 10, &mut theirs);
         let algorithm = yezdopin::pbkdf2::$algorithm;
         yezdopin::pbkdf2::derive(
             algorithm,

@@ -2,25 +2,28 @@
 use Rattle.std.proofs.Common.{◌≡◌, ℕ, ◌+◌, ◌*◌, ◌%◌, ◌^◌, ◌≤◌, List, [], ◌∷◌, ◌++◌, map, length}
 use Rattle.std.proofs.Common.{take, nat_eq, IsTrue, rules, refl, sym, ap, subst, ◌∙◌, inl, inr}
 use Rattle.std.proofs.Common.{arith, length-append, length-take, length-take-le, append_assoc}
+use Rattle.std.proofs.Common.{Option, Some, option_map, unwrap_or}
 use Rattle.std.proofs.Math.Nat.{mod-mod, mod-eq_of_lt}
 use Rattle.std.proofs.lemmas.Bool.{cases_lt}
 use Rattle.std.proofs.lemmas.List.{take_at}
 use Rattle.std.specs.declared.num.Wrapping.{Wrapping}
 use Rattle.ring.specs.Algorithm.{block_len, row_of}
-use Rattle.ring.specs.Context.{HasTaken, StandsFor, context_algorithm}
+use Rattle.ring.specs.Context.{HasTaken}
 use Rattle.ring.specs.Hmac.{KeyStandsFor}
 use Rattle.ring.specs.KeyBlocks.{inner_block, outer_block}
-use Rattle.ring.specs.Raw.{IsRawState, raw_words}
+use Rattle.ring.specs.Raw.{IsRawState, RawStandsFor, RawTagStandsFor, completed_len, digest_named}
+use Rattle.ring.specs.Raw.{named_block_len, raw_words}
 use Rattle.ring.specs.State.{state_word_len, words}
 use Rattle.ring.specs.declared.digest.algorithm.Algorithm.{Algorithm}
 use Rattle.ring.specs.declared.digest.algorithm.AlgorithmId.{AlgorithmId}
 use Rattle.ring.specs.declared.digest.algorithm.AlgorithmId.TheVariants.{Sha1, Sha256, Sha384}
 use Rattle.ring.specs.declared.digest.algorithm.AlgorithmId.TheVariants.{Sha512, Sha512_256}
 use Rattle.ring.specs.declared.digest.block_context.BlockContext.{BlockContext}
-use Rattle.ring.specs.declared.digest.context.Context.{Context}
 use Rattle.ring.specs.declared.digest.dynstate.DynState.{DynState}
 use Rattle.ring.specs.declared.digest.dynstate.DynState.TheVariants.{As64, As32}
 use Rattle.ring.specs.declared.hmac.key.Key.{Key}
+use Rattle.ring.specs.declared.raw.tag_context.RawTagContext.{RawTagContext}
+use Rattle.ring.proofs.Keys.{inner_len}
 use Rattle.ring.proofs.Rows.{block_len-most}
 
 -- numbers cut off twice are cut off once
@@ -53,6 +56,11 @@ raw_taken b numbers p e h =
     rw e (cut_of_id b.algorithm.id b.state b.sized) in
     record { whole = h.whole; words = rw cut h.words; spare = rw cut h.spare }
 
+-- the bytes of a block of the algorithm that a number names
+pub named_len : (n : ℕ) (a : Algorithm) → digest_named n ≡ Some a → named_block_len n ≡ block_len a
+unfolding named_block_len
+named_len n a e = ap (λ (o : Option Algorithm). unwrap_or (option_map block_len o) 0) e
+
 -- a key by the algorithm of its first state
 pub key_stands : (key : Key) (a : Algorithm) (k : List ℕ) → key.inner.algorithm ≡ a
     → HasTaken key.inner (inner_block a k) → HasTaken key.outer (outer_block a k)
@@ -62,23 +70,26 @@ key_stands key a k e i o =
     let Q : Algorithm → Type 0 = λ z. HasTaken key.outer (outer_block z k) in
     record { inner = subst P (sym e) i; outer = subst Q (sym e) o }
 
--- a context whose message has a block's length has run a block
-pub block_run : (c : Context) (m : List ℕ) → StandsFor c m
-    → block_len (context_algorithm c) ≤ length m
-    → block_len (context_algorithm c) ≤ c.block.completed_bytes
-unfolding StandsFor
-block_run c m h long =
-    let len : length m ≡ length h.whole + length (take c.num_pending c.pending) =
-    ap length h.message ∙ length-append h.whole _ in
-    let few : length (take c.num_pending c.pending) ≤ c.num_pending =
-    omega (arith, length-take c.num_pending c.pending) in
-    let below = c.partial in
-    let most = block_len-most (context_algorithm c) in
-    elim (cases_lt (length h.whole) (block_len (context_algorithm c))) [
+-- the numbers of a tag's context count the key's block
+pub key_block_counted : (raw : RawTagContext) (a : Algorithm) (k m : List ℕ)
+    → RawTagStandsFor raw a k m → named_block_len raw.inner.algorithm ≤ completed_len raw.inner
+unfolding RawTagStandsFor RawStandsFor
+key_block_counted raw a k m h =
+    let blocks = h.inner.blocks in
+    let rest = take raw.inner.num_pending raw.inner.pending in
+    let len : length (inner_block a k ++ m) ≡ length blocks + length rest =
+    ap length h.inner.message ∙ length-append blocks rest in
+    let few : length rest ≤ raw.inner.num_pending =
+    omega (arith, length-take raw.inner.num_pending raw.inner.pending) in
+    let long = inner_len a k m in
+    let below = h.inner.partial in
+    let most = block_len-most a in
+    let size = named_len raw.inner.algorithm a h.inner.algorithm in
+    elim (cases_lt (length blocks) (block_len a)) [
       | inl lt ↦
-          let none : length h.whole ≡ 0 = sym (mod-eq_of_lt lt) ∙ h.taken.whole in
+          let none : length blocks ≡ 0 = sym (mod-eq_of_lt lt) ∙ h.inner.state.whole in
           absurd (omega arith)
-      | inr ge ↦ omega (arith, h.taken.count)
+      | inr ge ↦ omega (arith, h.inner.count)
     ]
 
 -- bytes written past the first n of a list, with those

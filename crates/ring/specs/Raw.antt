@@ -1,6 +1,7 @@
 -- Contexts and keys as plain numbers.
-use Rattle.std.specs.Prelude.{◌≡◌, ◌<◌, ◌+◌, ◌-◌, ◌*◌, ◌%◌, ◌^◌, ℕ, List, ◌++◌, length, map, take}
-use Rattle.std.specs.Prelude.{drop, replicate, Option, Some, None, if◌then◌else◌, nat_eq}
+use Rattle.std.specs.Prelude.{◌≡◌, ◌<◌, ◌≤◌, ◌⊎◌, ◌+◌, ◌-◌, ◌*◌, ◌%◌, ◌^◌, ℕ, List, ◌++◌, length}
+use Rattle.std.specs.Prelude.{map, take, drop, replicate, Option, Some, None, option_map, unwrap_or}
+use Rattle.std.specs.Prelude.{if◌then◌else◌, nat_eq}
 use Rattle.ring.specs.Algorithm.{block_len, word_count, word_len}
 use Rattle.ring.specs.Context.{cut_off}
 use Rattle.ring.specs.Digest.{words_after}
@@ -23,9 +24,35 @@ digest_named number =
     else if nat_eq number 5 then Some SHA512_256
     else None
 
+-- the bytes of a block of the algorithm of a number, 0 where it names none
+unfoldable pub named_block_len : ℕ → ℕ
+named_block_len number = unwrap_or (option_map block_len (digest_named number)) 0
+
 -- a number from its lower and its upper 64 bits
 abbrev pub joined_halves : (low high : ℕ) → ℕ
 joined_halves low high = high * 2 ^ 64 + low
+
+-- the bytes of the blocks that a context's numbers count
+abbrev pub completed_len : RawContext → ℕ
+completed_len raw = joined_halves raw.completed_low raw.completed_high
+
+-- the bytes of the message that they count, cut off at the greatest that a context counts
+abbrev pub raw_message_len : RawContext → ℕ
+raw_message_len raw = cut_off (completed_len raw + raw.num_pending)
+
+-- the numbers are no context's: they name no algorithm, or as many pending bytes as a block has
+abbrev pub IsNoContext : RawContext → Type 0
+IsNoContext raw = named_block_len raw.algorithm ≤ raw.num_pending
+
+-- the numbers are no key's: they name no algorithm
+abbrev pub IsNoKey : RawKey → Type 0
+IsNoKey raw = digest_named raw.algorithm ≡ None
+
+-- the numbers are no tag context's: the inner ones are no context's, or count less than the key's
+-- block
+abbrev pub IsNoTagContext : RawTagContext → Type 0
+IsNoTagContext raw =
+    IsNoContext raw.inner ⊎ (completed_len raw.inner < named_block_len raw.inner.algorithm)
 
 -- numbers as words of the algorithm's size
 abbrev pub raw_words : Algorithm → List ℕ → List ℕ

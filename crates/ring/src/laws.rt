@@ -4,7 +4,7 @@
 //! does nothing.
 
 ghost use Rattle.std.specs.Prelude.{◌≡◌, ◌↔◌, ℕ, ◌+◌, ◌-◌, ◌^◌, ◌<◌, ◌≤◌, List, [], ◌++◌};
-ghost use Rattle.std.specs.Prelude.{length, replicate, take, IfOk, IsErr, OnErr, OnOk};
+ghost use Rattle.std.specs.Prelude.{length, replicate, take, IfOk, IsErr, None, OnErr, OnOk, Some};
 ghost use Rattle.ring_core.specs.Cost.{compared_pairs, raised};
 ghost use Rattle.std.specs.Borrow.{Bor};
 ghost use Rattle.ring.specs.Algorithm.{block_len, max_input_len, output_len};
@@ -16,9 +16,14 @@ ghost use Rattle.ring.specs.Limits.{CanDerive, IsInfoWithin, IsMessageWithin};
 ghost use Rattle.ring.specs.Limits.{IsOutputWithin, IsTagWithin};
 ghost use Rattle.ring.specs.Pbkdf2.{dk};
 ghost use Rattle.ring.specs.Pieces.{joined};
+ghost use Rattle.ring.specs.Raw.{IsNoContext, IsNoKey, IsNoTagContext, RawKeyStandsFor};
+ghost use Rattle.ring.specs.Raw.{RawStandsFor, RawTagStandsFor, digest_named, named_block_len};
 ghost use Rattle.ring.specs.declared.digest.algorithm.Algorithm.{Algorithm};
 ghost use Rattle.ring.specs.declared.digest.algorithm.TheConstants.{SHA1_FOR_LEGACY_USE_ONLY};
 ghost use Rattle.ring.specs.declared.digest.algorithm.TheConstants.{SHA256, SHA384, SHA512};
+ghost use Rattle.ring.specs.declared.raw.context.RawContext.{RawContext};
+ghost use Rattle.ring.specs.declared.raw.key.RawKey.{RawKey};
+ghost use Rattle.ring.specs.declared.raw.tag_context.RawTagContext.{RawTagContext};
 
 use crate::digest::algorithm::is_message_within;
 use crate::digest::{Algorithm, Context, Digest};
@@ -179,4 +184,33 @@ pub fn limits_of_sha512()
         ↔ ((i ≤ 2 ^ 125 - 130) × (64 < n → i ≤ 2 ^ 125 - 194)) }
     ensures derivation { (p s n : ℕ) → CanDerive SHA512 p s n
         ↔ ((p ≤ 2 ^ 125 - 1) × (0 < n → s ≤ 2 ^ 125 - 133) × (n ≤ 274877906880)) }
+{}
+
+/// Numbers whose algorithm is 0, as where the caller wrote zeros over them, are no context's and no
+/// key's.
+#[tactic(auto, unfolding(crate::specs::Raw::named_block_len))]
+pub fn cleared_numbers_are_none()
+    ensures context { (raw : RawContext) → raw.algorithm ≡ 0 → IsNoContext raw }
+    ensures key { (raw : RawKey) → raw.algorithm ≡ 0 → IsNoKey raw }
+    ensures tag_context { (raw : RawTagContext) → raw.inner.algorithm ≡ 0 → IsNoTagContext raw }
+{}
+
+/// Numbers that stand for something name its algorithm, and are a context's or a key's.
+pub fn standing_numbers_are_some()
+    ensures context { (raw : RawContext) (a : Algorithm) (m : List ℕ) → RawStandsFor raw a m
+        → (digest_named raw.algorithm ≡ Some a) × (IsNoContext raw → ⊥) }
+    ensures key { (raw : RawKey) (a : Algorithm) (k : List ℕ) → RawKeyStandsFor raw a k
+        → (digest_named raw.algorithm ≡ Some a) × (IsNoKey raw → ⊥) }
+    ensures tag_context { (raw : RawTagContext) (a : Algorithm) (k m : List ℕ)
+        → RawTagStandsFor raw a k m
+        → (digest_named raw.inner.algorithm ≡ Some a) × (IsNoTagContext raw → ⊥) }
+{}
+
+/// A block of the algorithm of a number has the bytes that the algorithm says, and none where the
+/// number names no algorithm.
+#[tactic(auto, unfolding(crate::specs::Raw::named_block_len))]
+pub fn blocks_of_numbers()
+    ensures named { (n : ℕ) (a : Algorithm) → digest_named n ≡ Some a
+        → named_block_len n ≡ block_len a }
+    ensures unnamed { (n : ℕ) → digest_named n ≡ None → named_block_len n ≡ 0 }
 {}

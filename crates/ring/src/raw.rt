@@ -4,8 +4,9 @@
 //! A [`RawContext`], a [`RawKey`] and a [`RawTagContext`] are made from a value of
 //! [`digest`](crate::digest) or [`hmac`](crate::hmac), and one is made from them again: what a
 //! value stands for, its numbers stand for too, and back. Nothing keeps other numbers from standing
-//! in their place. Each call answers on any: `None` where no value has such numbers, and else some
-//! value, which stands for no message or key that is known.
+//! in their place. Each call answers on any: `None` exactly where their algorithm and counts are no
+//! value's (`IsNoContext`, `IsNoKey` and `IsNoTagContext`), and else some value, which stands for no
+//! message or key that is known.
 
 pub(crate) mod context;
 pub(crate) mod key;

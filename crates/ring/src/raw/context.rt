@@ -1,9 +1,8 @@
 //! The numbers of a digest's context.
 
 ghost use Rattle.std.specs.Prelude.{◌≡◌, ◌↔◌, ℕ, ◌+◌, ◌<◌, List, ◌++◌};
-ghost use Rattle.std.specs.Prelude.{length, IfSome, IsSomeAnd, IsTrue, IsFalse, Some};
-ghost use Rattle.ring.specs.Algorithm.{block_len};
-ghost use Rattle.ring.specs.Context.{StandsFor, context_algorithm};
+ghost use Rattle.std.specs.Prelude.{length, IfSome, IsNone, IsSomeAnd, IsTrue, IsFalse, Some};
+ghost use Rattle.ring.specs.Context.{StandsFor, context_algorithm, message_len, pending_len};
 ghost use Rattle.ring.specs.declared.digest.algorithm.Algorithm.{Algorithm};
 
 use crate::digest::algorithm::MAX_BLOCK_LEN;
@@ -30,7 +29,8 @@ pub struct RawContext {
 }
 
 impl RawContext {
-    ghost use Rattle.ring.specs.Raw.{RawStandsFor, digest_named};
+    ghost use Rattle.ring.specs.Raw.{IsNoContext, RawStandsFor, digest_named};
+    ghost use Rattle.ring.specs.Raw.{named_block_len, raw_message_len};
 
     /// The numbers of a context.
     #[tactic(auto, unfolding(crate::specs::Raw::RawStandsFor))]
@@ -51,12 +51,12 @@ impl RawContext {
 
     /// Adds `input` to the message where that leaves the pending block short, which takes less than
     /// a context that is made and read again: true where it did, and else nothing was changed.
-    #[tactic(auto, unfolding(crate::specs::Raw::RawStandsFor))]
+    #[tactic(auto, unfolding(crate::specs::Raw::named_block_len))]
     pub fn keep(&mut self, input: &[u8]) -> bool
         ensures stands { IsTrue result → (a : Algorithm) (m : List ℕ)
             → RawStandsFor self.old a m → RawStandsFor self.new a (m ++ input.now) }
-        ensures short { (a : Algorithm) (m : List ℕ) → RawStandsFor self.old a m
-            → (IsTrue result ↔ (self.old.num_pending + length input.now < block_len a)) }
+        ensures short { IsTrue result
+            ↔ (self.old.num_pending + length input.now < named_block_len self.old.algorithm) }
         ensures unchanged { IsFalse result → self.new ≡ self.old }
     {
         let Some(algorithm) = digest_of_number(self.algorithm) else {
@@ -73,14 +73,17 @@ impl RawContext {
         true
     }
 
-    /// The context of these numbers: `None` where they name no algorithm, or more pending bytes
-    /// than a block leaves.
-    #[tactic(auto, unfolding(crate::specs::Raw::RawStandsFor))]
+    /// The context of these numbers: `None` where they name no algorithm, or as many pending bytes
+    /// as a block has.
+    #[tactic(auto, unfolding(crate::specs::Raw::RawStandsFor, crate::specs::Raw::named_block_len))]
     pub fn context(&self) -> Option<Context>
+        ensures none { IsNone result ↔ IsNoContext self.now }
         ensures stands { (a : Algorithm) (m : List ℕ) → RawStandsFor self.now a m
             → IsSomeAnd result (λ c. StandsFor c m × (context_algorithm c ≡ a)) }
         ensures algorithm { IfSome result (λ c.
             digest_named self.now.algorithm ≡ Some (context_algorithm c)) }
+        ensures counted { IfSome result (λ c. message_len c ≡ raw_message_len self.now) }
+        ensures pending { IfSome result (λ c. pending_len c ≡ self.now.num_pending) }
     {
         let Some(algorithm) = digest_of_number(self.algorithm) else {
             return None;

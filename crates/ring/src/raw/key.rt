@@ -1,6 +1,6 @@
 //! The numbers of a key.
 
-ghost use Rattle.std.specs.Prelude.{◌≡◌, ℕ, List, IsSomeAnd};
+ghost use Rattle.std.specs.Prelude.{◌≡◌, ◌↔◌, ℕ, List, IfSome, IsNone, IsSomeAnd, Some};
 ghost use Rattle.ring.specs.Hmac.{KeyStandsFor, key_algorithm};
 ghost use Rattle.ring.specs.declared.digest.algorithm.Algorithm.{Algorithm};
 
@@ -23,7 +23,7 @@ pub struct RawKey {
 }
 
 impl RawKey {
-    ghost use Rattle.ring.specs.Raw.{RawKeyStandsFor};
+    ghost use Rattle.ring.specs.Raw.{IsNoKey, RawKeyStandsFor, digest_named};
 
     /// The numbers of a key.
     #[tactic(auto, unfolding(crate::specs::Raw::RawKeyStandsFor))]
@@ -42,8 +42,11 @@ impl RawKey {
     /// The key of these numbers: `None` where they name no algorithm.
     #[tactic(auto, unfolding(crate::specs::Raw::RawKeyStandsFor))]
     pub fn key(&self) -> Option<Key>
-        ensures { (a : Algorithm) (k : List ℕ) → RawKeyStandsFor self.now a k
+        ensures none { IsNone result ↔ IsNoKey self.now }
+        ensures stands { (a : Algorithm) (k : List ℕ) → RawKeyStandsFor self.now a k
             → IsSomeAnd result (λ key. KeyStandsFor key k × (key_algorithm key ≡ a)) }
+        ensures algorithm { IfSome result (λ key.
+            digest_named self.now.algorithm ≡ Some (key_algorithm key)) }
     {
         let Some(algorithm) = digest_of_number(self.algorithm) else {
             return None;

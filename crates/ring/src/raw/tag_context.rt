@@ -1,14 +1,14 @@
 //! The numbers of a tag's context.
 
-ghost use Rattle.std.specs.Prelude.{◌≡◌, ◌↔◌, ℕ, ◌+◌, ◌<◌, List, ◌++◌};
-ghost use Rattle.std.specs.Prelude.{length, IfSome, IsSomeAnd, IsTrue, IsFalse, Some};
-ghost use Rattle.ring.specs.Algorithm.{block_len};
-ghost use Rattle.ring.specs.Hmac.{TagStandsFor, signing_algorithm};
+ghost use Rattle.std.specs.Prelude.{◌≡◌, ◌↔◌, ℕ, ◌+◌, ◌<◌, ◌≤◌, List, ◌++◌};
+ghost use Rattle.std.specs.Prelude.{length, IfSome, IsNone, IsSomeAnd, IsTrue, IsFalse, Some};
+ghost use Rattle.ring.specs.Hmac.{TagStandsFor, signing_algorithm, signing_len, signing_pending};
 ghost use Rattle.ring.specs.declared.digest.algorithm.Algorithm.{Algorithm};
 
 use crate::hmac::context::Context;
 use crate::raw::context::RawContext;
-use crate::raw::words::{block_of, numbers_of_block};
+use crate::raw::number::digest_of_number;
+use crate::raw::words::{block_of, joined, numbers_of_block};
 
 /// A tag's context.
 #[repr(C)]
@@ -21,7 +21,8 @@ pub struct RawTagContext {
 }
 
 impl RawTagContext {
-    ghost use Rattle.ring.specs.Raw.{RawTagStandsFor, digest_named};
+    ghost use Rattle.ring.specs.Raw.{IsNoTagContext, RawTagStandsFor, completed_len, digest_named};
+    ghost use Rattle.ring.specs.Raw.{named_block_len, raw_message_len};
 
     /// The numbers of a context.
     #[tactic(auto, unfolding(crate::specs::Raw::RawTagStandsFor))]
@@ -35,37 +36,54 @@ impl RawTagContext {
         }
     }
 
+    // Whether the inner numbers count the key's block, which comes before the message.
+    #[tactic(auto, unfolding(crate::specs::Raw::named_block_len))]
+    fn counts_key_block(&self) -> bool
+        ensures { IsTrue result
+            ↔ (named_block_len self.now.inner.algorithm ≤ completed_len self.now.inner) }
+    {
+        let Some(algorithm) = digest_of_number(self.inner.algorithm) else {
+            return true;
+        };
+        let completed_bytes = joined(self.inner.completed_low, self.inner.completed_high);
+        completed_bytes >= algorithm.block_len() as u128
+    }
+
     /// Adds `input` to the message where that leaves the pending block short, as
-    /// [`RawContext::keep`] does.
+    /// [`RawContext::keep`] does. Numbers that count less than the key's block stay as they are.
     #[tactic(auto, unfolding(crate::specs::Raw::RawTagStandsFor))]
     pub fn keep(&mut self, input: &[u8]) -> bool
         ensures stands { IsTrue result → (a : Algorithm) (k m : List ℕ)
             → RawTagStandsFor self.old a k m → RawTagStandsFor self.new a k (m ++ input.now) }
-        ensures short { (a : Algorithm) (k m : List ℕ) → RawTagStandsFor self.old a k m
-            → (IsTrue result
-            ↔ (self.old.inner.num_pending + length input.now < block_len a)) }
+        ensures short { IsTrue result
+            ↔ ((named_block_len self.old.inner.algorithm ≤ completed_len self.old.inner)
+            × (self.old.inner.num_pending + length input.now
+            < named_block_len self.old.inner.algorithm)) }
         ensures unchanged { IsFalse result → self.new ≡ self.old }
     {
-        self.inner.keep(input)
+        self.counts_key_block() && self.inner.keep(input)
     }
 
-    /// The context of these numbers: `None` where the inner ones are no context's, or no block was
-    /// run, since the key's block comes first.
+    /// The context of these numbers: `None` where the inner ones are no context's, or count less
+    /// than the key's block.
     #[tactic(auto, unfolding(crate::specs::Raw::RawTagStandsFor))]
     pub fn context(&self) -> Option<Context>
+        ensures none { IsNone result ↔ IsNoTagContext self.now }
         ensures stands { (a : Algorithm) (k m : List ℕ) → RawTagStandsFor self.now a k m
             → IsSomeAnd result (λ c. TagStandsFor c k m × (signing_algorithm c ≡ a)) }
         ensures algorithm { IfSome result (λ c.
             digest_named self.now.inner.algorithm ≡ Some (signing_algorithm c)) }
+        ensures counted { IfSome result (λ c. signing_len c ≡ raw_message_len self.now.inner) }
+        ensures pending { IfSome result (λ c. signing_pending c ≡ self.now.inner.num_pending) }
     {
+        if !self.counts_key_block() {
+            return None;
+        }
         let Some(inner) = self.inner.context() else {
             return None;
         };
         let algorithm = inner.algorithm();
         let block_len = algorithm.block_len() as u128;
-        if inner.block.completed_bytes < block_len {
-            return None;
-        }
         Some(Context {
             inner,
             outer: block_of(&algorithm, &self.outer, block_len),

@@ -10,9 +10,9 @@ use Rattle.ring.proofs.Numbers.{key_stands}
 use Rattle.ring.proofs.Rows.{block_len-most}
 use Rattle.ring.proofs.raw.key.RawKey.key.Goals as goal
 
-pub returns : goal.returns
+pub returns-clause-stands : goal.returns-clause-stands
 unfolding RawKeyStandsFor
-returns c = λ a k h.
+returns-clause-stands c = λ a k h.
     let same = same_Some _ a (sym c.in-Some.is ∙ c.digest_of_number.ensures ∙ h.algorithm) in
     let size : c.block_len-block_len.result ≡ block_len a =
     c.block_len-block_len.ensures ∙ ap block_len same in

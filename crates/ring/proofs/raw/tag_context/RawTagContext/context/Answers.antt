@@ -1,25 +1,29 @@
-use Rattle.std.proofs.Common.{◌≡◌, ◌≤◌, ◌++◌, sym, ap, subst, ◌∙◌, arith, length}
+use Rattle.std.proofs.Common.{◌≡◌, ◌≤◌, rules, sym, ap, subst, ◌∙◌, arith, length}
 use Rattle.ring.specs.Algorithm.{block_len}
-use Rattle.ring.specs.Context.{context_algorithm, cut_off}
-use Rattle.ring.specs.KeyBlocks.{inner_block, outer_block}
+use Rattle.ring.specs.Context.{context_algorithm, cut_off, message_len}
+use Rattle.ring.specs.KeyBlocks.{outer_block}
 use Rattle.ring.specs.Raw.{IsRawState, RawTagStandsFor}
 use Rattle.ring.specs.declared.digest.algorithm.Algorithm.{Algorithm}
-use Rattle.ring.proofs.Keys.{inner_len, length-outer_block, tag_stands}
-use Rattle.ring.proofs.Numbers.{block_run}
+use Rattle.ring.proofs.Keys.{length-outer_block, tag_stands}
+use Rattle.ring.proofs.Numbers.{key_block_counted, named_len}
 use Rattle.ring.proofs.Rows.{block_len-most}
 use Rattle.ring.proofs.raw.tag_context.RawTagContext.context.Goals as goal
 
-pub returns-then-inner-block_len-clause-stands : goal.returns-then-inner-block_len-clause-stands
-unfolding RawTagStandsFor
-returns-then-inner-block_len-clause-stands c = λ a k m h.
-    let inner = c.in-Some.ensures.stands a _ h.inner in
+pub returns-then-not-counts_key_block-clause-stands :
+    goal.returns-then-not-counts_key_block-clause-stands
+returns-then-not-counts_key_block-clause-stands c = λ a k m h.
+    let counted = key_block_counted c.args.self.now a k m h in
+    absurd (search (rules, c.counts_key_block.ensures.1 counted, c.if-not-counts_key_block.true))
+
+pub invariant_of-result-clause-inner_block : goal.invariant_of-result-clause-inner_block
+invariant_of-result-clause-inner_block c =
     let own = context_algorithm c.in-Some.inner in
-    let size : c.block_len-block_len.result ≡ block_len own =
-    c.block_len-block_len.ensures ∙ ap block_len c.algorithm-algorithm.ensures in
-    let same : block_len own ≡ block_len a = ap block_len inner.1 in
-    let long : block_len own ≤ length (inner_block a k ++ m) = omega (arith, inner_len a k m) in
-    let run = block_run c.in-Some.inner _ inner.0 long in
-    omega (arith, c.if-inner-block_len.true)
+    let counted = c.counts_key_block.ensures.0 (search (rules, c.if-not-counts_key_block.false)) in
+    let size = named_len c.args.self.now.inner.algorithm own c.in-Some.ensures.algorithm in
+    let most = block_len-most own in
+    let goal : block_len own ≤ message_len c.in-Some.inner =
+    omega (arith, c.in-Some.ensures.counted) in
+    goal
 
 pub returns-clause-stands : goal.returns-clause-stands
 unfolding RawTagStandsFor

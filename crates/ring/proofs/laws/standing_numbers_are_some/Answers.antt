@@ -1,0 +1,27 @@
+use Rattle.std.proofs.Common.{arith, inl, inr, rules}
+use Rattle.ring.specs.Raw.{RawKeyStandsFor, RawStandsFor, RawTagStandsFor}
+use Rattle.ring.proofs.Numbers.{key_block_counted, named_len}
+use Rattle.ring.proofs.laws.standing_numbers_are_some.Goals as goal
+
+pub returns-clause-context : goal.returns-clause-context
+unfolding RawStandsFor
+returns-clause-context c = λ raw a m h.
+    let size = named_len raw.algorithm a h.algorithm in
+    let below = h.partial in (h.algorithm, λ none. omega (arith, none))
+
+pub returns-clause-key : goal.returns-clause-key
+unfolding RawKeyStandsFor
+returns-clause-key c = λ raw a k h. (h.algorithm, λ none. search (rules, none, h.algorithm))
+
+pub returns-clause-tag_context : goal.returns-clause-tag_context
+unfolding RawTagStandsFor RawStandsFor
+returns-clause-tag_context c = λ raw a k m h.
+    let size = named_len raw.inner.algorithm a h.inner.algorithm in
+    let below = h.inner.partial in
+    let counted = key_block_counted raw a k m h in (
+      h.inner.algorithm,
+      λ none. elim none [
+        | inl full ↦ omega (arith, full)
+        | inr few ↦ omega (arith, few)
+      ],
+    )

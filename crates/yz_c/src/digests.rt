@@ -1,10 +1,10 @@
 //! Digests.
 
-ghost use Rattle.std.specs.Prelude.{◌≡◌, ◌≢◌, ◌↔◌, ◌⊎◌, ◌++◌, [], ℕ, List, Some, None, length};
+ghost use Rattle.std.specs.Prelude.{◌≡◌, ◌≢◌, ◌↔◌, ◌++◌, [], ℕ, List, Some, None, length};
 ghost use Rattle.ring.specs.Algorithm.{output_len};
 ghost use Rattle.ring.specs.Digest.{digest_of};
 ghost use Rattle.ring.specs.Limits.{IsMessageWithin};
-ghost use Rattle.ring.specs.Raw.{RawStandsFor, digest_named};
+ghost use Rattle.ring.specs.Raw.{IsNoContext, RawStandsFor, digest_named, raw_message_len};
 ghost use Rattle.ring.specs.declared.digest.algorithm.Algorithm.{Algorithm};
 
 use crate::status::{OK, UNKNOWN_ALGORITHM, UNKNOWN_CONTEXT, UNSPECIFIED, WRONG_LENGTH};
@@ -59,6 +59,7 @@ pub extern "C" fn yz_digest_init(algorithm: u32, context: &mut RawContext) -> i3
 pub extern "C" fn yz_digest_update(context: &mut RawContext, input: &[u8]) -> i32
     ensures ok { (a : Algorithm) (m : List ℕ) → RawStandsFor context.old a m
         → result ≡ OK × RawStandsFor context.new a (m ++ input.now) }
+    ensures unknown { result ≡ UNKNOWN_CONTEXT ↔ IsNoContext context.old }
     ensures told { result ≢ OK → result ≡ UNKNOWN_CONTEXT }
     ensures unchanged { result ≢ OK → context.new ≡ context.old }
 {
@@ -79,14 +80,17 @@ pub extern "C" fn yz_digest_update(context: &mut RawContext, input: &[u8]) -> i3
 pub extern "C" fn yz_digest_final(context: &RawContext, out: &mut [u8]) -> i32
     ensures ok { (a : Algorithm) (m : List ℕ) → RawStandsFor context.now a m → result ≡ OK
         → out.new ≡ digest_of a m }
-    ensures wrong_length { (a : Algorithm) (m : List ℕ) → RawStandsFor context.now a m
+    ensures unknown { result ≡ UNKNOWN_CONTEXT ↔ IsNoContext context.now }
+    ensures wrong_length { (a : Algorithm) → digest_named context.now.algorithm ≡ Some a
+        → result ≢ UNKNOWN_CONTEXT
         → (result ≡ WRONG_LENGTH ↔ length out.old ≢ output_len a) }
-    ensures refused { (a : Algorithm) (m : List ℕ) → RawStandsFor context.now a m
+    ensures refused { (a : Algorithm) → digest_named context.now.algorithm ≡ Some a
+        → result ≢ UNKNOWN_CONTEXT → length out.old ≡ output_len a
+        → (result ≡ OK ↔ IsMessageWithin a (raw_message_len context.now)) }
+    ensures refused_of { (a : Algorithm) (m : List ℕ) → RawStandsFor context.now a m
         → length out.old ≡ output_len a → (result ≡ OK ↔ IsMessageWithin a (length m)) }
-    ensures told { (a : Algorithm) (m : List ℕ) → RawStandsFor context.now a m
-        → length out.old ≡ output_len a → result ≢ OK → result ≡ UNSPECIFIED }
-    ensures any { (result ≡ OK) ⊎ (result ≡ UNKNOWN_CONTEXT) ⊎ (result ≡ WRONG_LENGTH)
-        ⊎ (result ≡ UNSPECIFIED) }
+    ensures told { result ≢ OK → result ≢ UNKNOWN_CONTEXT → result ≢ WRONG_LENGTH
+        → result ≡ UNSPECIFIED }
     ensures unchanged { result ≢ OK → out.new ≡ out.old }
 {
     let Some(running) = context.context() else {

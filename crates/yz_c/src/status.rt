@@ -6,7 +6,7 @@ pub(crate) const OK: i32 = 0;
 /// The number names no algorithm of this call.
 pub(crate) const UNKNOWN_ALGORITHM: i32 = 1;
 
-/// The memory holds no context or key that a call of this library began.
+/// The memory holds numbers that no context or key has.
 pub(crate) const UNKNOWN_CONTEXT: i32 = 2;
 
 /// The output has a length that the call doesn't give.

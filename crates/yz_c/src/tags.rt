@@ -1,10 +1,11 @@
 //! Tags.
 
-ghost use Rattle.std.specs.Prelude.{◌≡◌, ◌≢◌, ◌↔◌, ◌⊎◌, ◌++◌, [], ℕ, List, Some, None, length};
+ghost use Rattle.std.specs.Prelude.{◌≡◌, ◌≢◌, ◌↔◌, ◌++◌, [], ℕ, List, Some, None, length};
 ghost use Rattle.ring.specs.Algorithm.{output_len};
 ghost use Rattle.ring.specs.Hmac.{KeyStandsFor, hmac_digest, hmac_of, key_algorithm};
 ghost use Rattle.ring.specs.Limits.{IsMessageWithin, IsTagWithin};
-ghost use Rattle.ring.specs.Raw.{RawKeyStandsFor, RawTagStandsFor};
+ghost use Rattle.ring.specs.Raw.{IsNoKey, IsNoTagContext, RawKeyStandsFor, RawTagStandsFor};
+ghost use Rattle.ring.specs.Raw.{digest_named, raw_message_len};
 ghost use Rattle.ring.specs.declared.digest.algorithm.Algorithm as digest;
 ghost use Rattle.ring.specs.declared.hmac.algorithm.Algorithm.{Algorithm};
 ghost use Rattle.yz_c.specs.Limits.{CanSign};
@@ -37,6 +38,7 @@ fn verify_tag(key: &Key, message: &[u8], tag: &[u8]) -> i32
     ensures ok { (k : List ℕ) → KeyStandsFor key.now k
         → (result ≡ OK ↔ (IsTagWithin (key_algorithm key.now) (length message.now)
         × (tag.now ≡ hmac_of (key_algorithm key.now) k message.now))) }
+    ensures refused { result ≡ OK → IsTagWithin (key_algorithm key.now) (length message.now) }
     ensures told { result ≢ OK → result ≡ UNSPECIFIED }
 {
     match hmac::verify(key, message, tag) {
@@ -116,14 +118,13 @@ pub extern "C" fn yz_hmac_key_init(algorithm: u32, value: &[u8], key: &mut RawKe
 pub extern "C" fn yz_hmac_key_sign(key: &RawKey, message: &[u8], out: &mut [u8]) -> i32
     ensures ok { (a : digest.Algorithm) (k : List ℕ) → RawKeyStandsFor key.now a k → result ≡ OK
         → out.new ≡ hmac_of a k message.now }
-    ensures wrong_length { (a : digest.Algorithm) (k : List ℕ) → RawKeyStandsFor key.now a k
+    ensures unknown { result ≡ UNKNOWN_CONTEXT ↔ IsNoKey key.now }
+    ensures wrong_length { (a : digest.Algorithm) → digest_named key.now.algorithm ≡ Some a
         → (result ≡ WRONG_LENGTH ↔ length out.old ≢ output_len a) }
-    ensures refused { (a : digest.Algorithm) (k : List ℕ) → RawKeyStandsFor key.now a k
+    ensures refused { (a : digest.Algorithm) → digest_named key.now.algorithm ≡ Some a
         → length out.old ≡ output_len a → (result ≡ OK ↔ IsTagWithin a (length message.now)) }
-    ensures told { (a : digest.Algorithm) (k : List ℕ) → RawKeyStandsFor key.now a k
-        → length out.old ≡ output_len a → result ≢ OK → result ≡ UNSPECIFIED }
-    ensures any { (result ≡ OK) ⊎ (result ≡ UNKNOWN_CONTEXT) ⊎ (result ≡ WRONG_LENGTH)
-        ⊎ (result ≡ UNSPECIFIED) }
+    ensures told { result ≢ OK → result ≢ UNKNOWN_CONTEXT → result ≢ WRONG_LENGTH
+        → result ≡ UNSPECIFIED }
     ensures unchanged { result ≢ OK → out.new ≡ out.old }
 {
     let Some(key) = key.key() else {
@@ -141,14 +142,15 @@ pub extern "C" fn yz_hmac_key_verify(key: &RawKey, message: &[u8], tag: &[u8]) -
     ensures ok { (a : digest.Algorithm) (k : List ℕ) → RawKeyStandsFor key.now a k
         → (result ≡ OK ↔ (IsTagWithin a (length message.now)
         × (tag.now ≡ hmac_of a k message.now))) }
-    ensures told { (a : digest.Algorithm) (k : List ℕ) → RawKeyStandsFor key.now a k
-        → result ≢ OK → result ≡ UNSPECIFIED }
-    ensures any { (result ≡ OK) ⊎ (result ≡ UNKNOWN_CONTEXT) ⊎ (result ≡ UNSPECIFIED) }
+    ensures unknown { result ≡ UNKNOWN_CONTEXT ↔ IsNoKey key.now }
+    ensures refused { (a : digest.Algorithm) → digest_named key.now.algorithm ≡ Some a
+        → result ≡ OK → IsTagWithin a (length message.now) }
+    ensures told { result ≢ OK → result ≢ UNKNOWN_CONTEXT → result ≡ UNSPECIFIED }
 {
-    let Some(key) = key.key() else {
-        return UNKNOWN_CONTEXT;
-    };
-    verify_tag(&key, message, tag)
+    match key.key() {
+        Some(key) => verify_tag(&key, message, tag),
+        None => UNKNOWN_CONTEXT,
+    }
 }
 
 /// Begins the tag, under a key, of a message that comes in pieces.
@@ -156,13 +158,14 @@ pub extern "C" fn yz_hmac_key_verify(key: &RawKey, message: &[u8], tag: &[u8]) -
 pub extern "C" fn yz_hmac_init(key: &RawKey, context: &mut RawTagContext) -> i32
     ensures ok { (a : digest.Algorithm) (k : List ℕ) → RawKeyStandsFor key.now a k
         → result ≡ OK × RawTagStandsFor context.new a k [] }
+    ensures unknown { result ≡ UNKNOWN_CONTEXT ↔ IsNoKey key.now }
     ensures told { result ≢ OK → result ≡ UNKNOWN_CONTEXT }
     ensures unchanged { result ≢ OK → context.new ≡ context.old }
 {
-    let Some(key) = key.key() else {
+    let Some(signing_key) = key.key() else {
         return UNKNOWN_CONTEXT;
     };
-    *context = RawTagContext::new(&Context::with_key(&key));
+    *context = RawTagContext::new(&Context::with_key(&signing_key));
     OK
 }
 
@@ -171,6 +174,7 @@ pub extern "C" fn yz_hmac_init(key: &RawKey, context: &mut RawTagContext) -> i32
 pub extern "C" fn yz_hmac_update(context: &mut RawTagContext, input: &[u8]) -> i32
     ensures ok { (a : digest.Algorithm) (k m : List ℕ) → RawTagStandsFor context.old a k m
         → result ≡ OK × RawTagStandsFor context.new a k (m ++ input.now) }
+    ensures unknown { result ≡ UNKNOWN_CONTEXT ↔ IsNoTagContext context.old }
     ensures told { result ≢ OK → result ≡ UNKNOWN_CONTEXT }
     ensures unchanged { result ≢ OK → context.new ≡ context.old }
 {
@@ -191,14 +195,18 @@ pub extern "C" fn yz_hmac_update(context: &mut RawTagContext, input: &[u8]) -> i
 pub extern "C" fn yz_hmac_final(context: &RawTagContext, out: &mut [u8]) -> i32
     ensures ok { (a : digest.Algorithm) (k m : List ℕ) → RawTagStandsFor context.now a k m
         → result ≡ OK → out.new ≡ hmac_of a k m }
-    ensures wrong_length { (a : digest.Algorithm) (k m : List ℕ) → RawTagStandsFor context.now a k m
+    ensures unknown { result ≡ UNKNOWN_CONTEXT ↔ IsNoTagContext context.now }
+    ensures wrong_length { (a : digest.Algorithm)
+        → digest_named context.now.inner.algorithm ≡ Some a → result ≢ UNKNOWN_CONTEXT
         → (result ≡ WRONG_LENGTH ↔ length out.old ≢ output_len a) }
-    ensures refused { (a : digest.Algorithm) (k m : List ℕ) → RawTagStandsFor context.now a k m
-        → length out.old ≡ output_len a → (result ≡ OK ↔ IsTagWithin a (length m)) }
-    ensures told { (a : digest.Algorithm) (k m : List ℕ) → RawTagStandsFor context.now a k m
-        → length out.old ≡ output_len a → result ≢ OK → result ≡ UNSPECIFIED }
-    ensures any { (result ≡ OK) ⊎ (result ≡ UNKNOWN_CONTEXT) ⊎ (result ≡ WRONG_LENGTH)
-        ⊎ (result ≡ UNSPECIFIED) }
+    ensures refused { (a : digest.Algorithm) → digest_named context.now.inner.algorithm ≡ Some a
+        → result ≢ UNKNOWN_CONTEXT → length out.old ≡ output_len a
+        → (result ≡ OK ↔ IsMessageWithin a (raw_message_len context.now.inner)) }
+    ensures refused_of { (a : digest.Algorithm) (k m : List ℕ)
+        → RawTagStandsFor context.now a k m → length out.old ≡ output_len a
+        → (result ≡ OK ↔ IsTagWithin a (length m)) }
+    ensures told { result ≢ OK → result ≢ UNKNOWN_CONTEXT → result ≢ WRONG_LENGTH
+        → result ≡ UNSPECIFIED }
     ensures unchanged { result ≢ OK → out.new ≡ out.old }
 {
     let Some(running) = context.context() else {

@@ -77,8 +77,8 @@ pub fn expand_stored(
         × IsInfoWithin SHA256 (length (joined info.now)) (length out.old)) }
     ensures unchanged { OnErr result (out.new ≡ out.old) }
 {
-    let prk = Prk::new_less_safe(HKDF_SHA256, pseudorandom_key)?;
-    prk.expand(info, Length(out.len()))?.fill(out)
+    let stored = Prk::new_less_safe(HKDF_SHA256, pseudorandom_key)?;
+    stored.expand(info, Length(out.len()))?.fill(out)
 }
 
 /// The next pseudorandom key of a chain: it is made of 32 bytes of output of the current one.

@@ -16,6 +16,19 @@ use std::io;
 use std::os::raw::c_uint;
 
 /// A secure source of random bytes. It is sealed: [`SystemRandom`] is the only one.
+///
+/// ```compile_fail,E0277
+/// use yezdopin::error::Unspecified;
+///
+/// #[derive(Debug)]
+/// struct Mine;
+///
+/// impl yezdopin::rand::SecureRandom for Mine {
+///     fn fill(&self, _: &mut [u8]) -> Result<(), Unspecified> {
+///         Ok(())
+///     }
+/// }
+/// ```
 pub trait SecureRandom: sealed::SecureRandom {
     /// Fills `dest` with random bytes. Where that is refused, bytes of `dest` may be written.
     fn fill(&self, dest: &mut [u8]) -> Result<(), Unspecified>;

@@ -7,7 +7,7 @@ use yezdopin::error::Unspecified;
 use yezdopin::rand::{self, SecureRandom, SystemRandom};
 use yezdopin::{digest, hkdf, hmac, pbkdf2};
 
-// The most bytes that getrandom(2) writes by one call.
+// The most bytes that one getrandom(2) writes, by its page; newer kernels write more.
 const MOST_AT_ONCE: usize = (1 << 25) - 1;
 
 #[derive(Debug, PartialEq)]

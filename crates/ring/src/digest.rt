@@ -1,7 +1,7 @@
 //! Digests of messages (FIPS 180-4).
 //!
-//! [`digest`] gives the digest of a message that is there as a whole, and a [`Context`] that of a
-//! message that comes in pieces:
+//! [`digest`] computes the digest of one message. A [`Context`] computes that of a message that
+//! arrives in pieces:
 //!
 //! ```
 //! pub fn digest_of_two(first: &[u8], second: &[u8]) -> Result<Digest, Unspecified>
@@ -15,7 +15,7 @@
 //! }
 //! ```
 //!
-//! A context can be copied midway, and goes on:
+//! A context can be cloned midway. The clone and the original then go on separately:
 //!
 //! ```
 //! pub fn digests_of_front_and_whole(
@@ -38,8 +38,8 @@
 //! }
 //! ```
 //!
-//! [`digest_each`] gives the digests of several messages, of any lengths, and is faster than one
-//! after another where there are four or more under SHA-1 or SHA-256:
+//! [`digest_each`] computes the digests of several messages, of any lengths. It is faster than one
+//! call for each where there are four or more under SHA-1 or SHA-256:
 //!
 //! ```
 //! pub fn digests_of_four(
@@ -88,7 +88,8 @@ pub use crate::digest::padding::padding_is_shortest;
 pub use crate::digest::value::Digest;
 pub use ring_core::digest::{four, sha1, sha2, word};
 
-/// The digest of `message`, as [`digest`] gives it, its blocks counted by `meter`.
+/// Computes the digest of `message` as [`digest`] does, and counts its blocks on `meter`. A refusal
+/// leaves `meter` as it was.
 pub fn digest_counted(
     algorithm: &Algorithm,
     message: &[u8],
@@ -103,16 +104,15 @@ pub fn digest_counted(
     if !is_message_within(algorithm, message.len() as u128) {
         return Err(Unspecified);
     }
-    // No context: what is left past the whole blocks is padded where it lies.
+    // This needs no `Context`: the bytes past the whole blocks are padded straight from `message`.
     let mut blocks = BlockContext::new(algorithm);
     let rest = blocks.update(message, meter);
     blocks.try_finish(rest, meter)
 }
 
-/// The digest of `message` (FIPS 180-4, section 6).
+/// Returns the digest of `message` under `algorithm` (FIPS 180-4, section 6).
 ///
-/// Refused where the message is longer than the algorithm's `max_input_len` bytes, before any block
-/// is run.
+/// Refused where the message is longer than the algorithm's `max_input_len` bytes.
 pub fn digest(algorithm: &Algorithm, message: &[u8]) -> Result<Digest, Unspecified>
     ensures ok { IfOk result (λ digest. IsDigest digest algorithm.now message.now) }
     ensures refused { IsErr result ↔ (max_input_len algorithm.now < length message.now) }

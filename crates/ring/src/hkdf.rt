@@ -1,10 +1,17 @@
-//! Keys from secrets: HKDF (RFC 5869).
+//! Keys derived from secrets: HKDF (RFC 5869).
 //!
-//! A [`Salt`] extracts a pseudorandom key, a [`Prk`], from a secret. The PRK is expanded with an
-//! info, which tells what the output is for, to an [`Okm`] of as many bytes as a [`KeyType`] says.
-//! It is given once: into a buffer, or as a key, a salt or a PRK.
+//! A [`Salt`] extracts a pseudorandom key, a [`Prk`], from a secret. The PRK is expanded to output,
+//! an [`Okm`], of as many bytes as a [`KeyType`] says. The info says what the output is for. The
+//! output is taken once: into a buffer, or as a key, a salt or a PRK.
 //!
-//! A type of the caller's own says how many bytes go into a buffer:
+//! | In the RFC | Here |
+//! |---|---|
+//! | salt, IKM, PRK | the value of a [`Salt`], `secret`, [`Prk`] |
+//! | info | `info`, in pieces that are joined |
+//! | L | [`KeyType::len`], the number of bytes of the output |
+//! | OKM | the bytes that [`Okm::fill`] writes |
+//!
+//! A type of the caller's own tells the length of a buffer:
 //!
 //! ```
 //! #[derive(Drop)]
@@ -39,7 +46,7 @@
 //! }
 //! ```
 //!
-//! What is expanded for an algorithm becomes a key of it:
+//! Output that is expanded for an algorithm becomes a key for it:
 //!
 //! ```
 //! pub fn tag_under_output(

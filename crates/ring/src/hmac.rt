@@ -1,8 +1,8 @@
-//! Tags of messages under keys: HMAC (RFC 2104).
+//! Message authentication: HMAC (RFC 2104).
 //!
-//! A [`Key`] is made once and then signs and verifies any number of messages. [`sign`] gives the
-//! tag of a message that is there as a whole, a [`Context`] that of a message that comes in pieces,
-//! and [`verify`] tests a tag:
+//! A [`Key`] is made once, and then signs and verifies any number of messages. [`sign`] computes
+//! the tag of one message, a [`Context`] that of a message that arrives in pieces, and [`verify`]
+//! compares a tag with a message's:
 //!
 //! ```
 //! pub fn tag_of_two(key: &[u8], first: &[u8], second: &[u8]) -> Result<Tag, Unspecified>
@@ -55,7 +55,8 @@ pub use crate::hmac::context::Context;
 pub use crate::hmac::key::Key;
 pub use crate::hmac::tag::Tag;
 
-/// The tag of `message`, as [`sign`] gives it, its blocks counted by `meter`.
+/// Computes the tag of `message` under `key` as [`sign`] does, and counts its blocks on `meter`. A
+/// refusal leaves `meter` as it was.
 pub fn sign_counted(key: &Key, message: &[u8], meter: &mut Meter) -> Result<Tag, Unspecified>
     ensures ok { (k : List ℕ) → KeyStandsFor key.now k
         → IfOk result (λ tag. IsTag tag (key_algorithm key.now) k message.now) }
@@ -75,11 +76,11 @@ pub fn sign_counted(key: &Key, message: &[u8], meter: &mut Meter) -> Result<Tag,
     context.sign_counted(meter)
 }
 
-/// The tag of `message` under `key` (RFC 2104, section 2), as many bytes as the algorithm's digests
-/// have.
+/// Returns the tag of `message` under `key` (RFC 2104, section 2). It has as many bytes as a digest
+/// of the key's algorithm.
 ///
 /// Refused where one block and the message together are longer than the digest algorithm's
-/// `max_input_len` bytes, before any block is run.
+/// `max_input_len` bytes.
 pub fn sign(key: &Key, message: &[u8]) -> Result<Tag, Unspecified>
     ensures ok { (k : List ℕ) → KeyStandsFor key.now k
         → IfOk result (λ tag. IsTag tag (key_algorithm key.now) k message.now) }
@@ -91,8 +92,9 @@ pub fn sign(key: &Key, message: &[u8]) -> Result<Tag, Unspecified>
     sign_counted(key, message, &mut Meter::new())
 }
 
-/// Tests a tag, as [`verify`] does, its blocks and its pairs of bytes counted by `meter`: as many
-/// at a mismatch as at a match, but no pair where the tag's length is wrong.
+/// Compares `tag` as [`verify`] does, and counts the blocks and the compared pairs of bytes on
+/// `meter`. A tag that differs costs as much as one that matches, but where its length is wrong no
+/// pair is compared. Where the message is too long, `meter` is as it was.
 pub fn verify_counted(
     key: &Key,
     message: &[u8],
@@ -117,10 +119,11 @@ pub fn verify_counted(
     verify_slices_are_equal_counted(made.as_ref(), tag, meter)
 }
 
-/// Ok exactly where `tag` is the whole tag of `message` under `key`: a front of it isn't enough.
+/// Returns Ok exactly if `tag` is the whole tag of `message` under `key` (RFC 2104, section 2). A
+/// truncated tag does not verify.
 ///
-/// Refused where [`sign`] would refuse the message, before any block is run, and where `tag` is
-/// another list of bytes, once its tag was made and compared.
+/// Refused where `tag` differs, and where one block and the message together are longer than the
+/// digest algorithm's `max_input_len` bytes.
 pub fn verify(key: &Key, message: &[u8], tag: &[u8]) -> Result<(), Unspecified>
     ensures ok { (k : List ℕ) → KeyStandsFor key.now k → IsOk result
         ↔ (IsTagWithin (key_algorithm key.now) (length message.now)

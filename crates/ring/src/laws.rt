@@ -1,7 +1,7 @@
-//! Laws that a caller can rely on.
+//! Laws: facts that relate several calls.
 //!
-//! A law without parameters holds of the definitions alone: its clause is the law, and the call
-//! does nothing.
+//! A law without parameters is a fact about the definitions. Its clause is the law, and the call
+//! does nothing: a caller's proof cites it.
 
 ghost use Rattle.std.specs.Prelude.{◌≡◌, ◌↔◌, ℕ, ◌+◌, ◌-◌, ◌^◌, ◌<◌, ◌≤◌, List, [], ◌++◌};
 ghost use Rattle.std.specs.Prelude.{length, replicate, take, IfOk, IsErr, None, OnErr, OnOk, Some};
@@ -32,7 +32,7 @@ use crate::limits::{is_tag_within, joined_len};
 use ring_core::cost::Meter;
 use ring_core::error::Unspecified;
 
-// Each numbered law by what it says: the same function under both names.
+// Each numbered law under a name that says what it is: the same function.
 pub use crate::laws::{
     law_3 as zeros_after_a_key_change_no_tag, law_4 as long_key_signs_as_its_digest,
     law_5 as shorter_output_is_a_front, law_6 as info_is_its_joined_bytes,
@@ -40,10 +40,12 @@ pub use crate::laws::{
     law_10 as comparison_is_symmetric, law_11 as derivation_cost_is_of_lengths,
 };
 
-/// The digest of the pieces is that of the message that they join to, at the same cost.
+/// Returns the digest under `algorithm` of the message that `pieces` join to (FIPS 180-4, section
+/// 6), from a [`Context`] that is updated piece by piece. Its blocks are counted on `meter`: as
+/// many as the joined message has.
 ///
-/// Refused where they are together longer than the algorithm's `max_input_len` bytes, before any
-/// block is run.
+/// Refused where the pieces together are longer than the algorithm's `max_input_len` bytes. `meter`
+/// is then as it was.
 pub fn digest_pieces(
     algorithm: &Algorithm,
     pieces: &[&[u8]],
@@ -65,10 +67,12 @@ pub fn digest_pieces(
     context.finish_counted(meter)
 }
 
-/// The tag of the pieces under a key is that of the message that they join to, at the same cost.
+/// Returns the tag under `key` of the message that `pieces` join to (RFC 2104, section 2), from a
+/// context that is updated piece by piece. Its blocks are counted on `meter`: as many as the joined
+/// message has.
 ///
 /// Refused where one block and the pieces together are longer than the digest algorithm's
-/// `max_input_len` bytes, before any block is run.
+/// `max_input_len` bytes. `meter` is then as it was.
 pub fn sign_pieces(key: &Key, pieces: &[&[u8]], meter: &mut Meter) -> Result<Tag, Unspecified>
     ensures ok { (k : List ℕ) → KeyStandsFor key.now k
         → IfOk result (λ tag. IsTag tag (key_algorithm key.now) k (joined pieces.now)) }
@@ -96,19 +100,19 @@ pub fn law_3()
         → hmac_of a (k ++ replicate z 0) m ≡ hmac_of a k m }
 {}
 
-/// A key that is longer than a block signs as its digest (RFC 2104, section 2).
+/// A key that is longer than a block signs as its digest does (RFC 2104, section 2).
 pub fn law_4()
     ensures { (a : Algorithm) (k m : List ℕ) → block_len a < length k
         → hmac_of a k m ≡ hmac_of a (digest_of a k) m }
 {}
 
-/// A shorter output of HKDF is a front of a longer one (RFC 5869, section 2.3).
+/// A shorter output of HKDF is the front of a longer one (RFC 5869, section 2.3).
 pub fn law_5()
     ensures { (a : Algorithm) (k info : List ℕ) (m n : ℕ) → m ≤ n
         → okm a k info m ≡ take m (okm a k info n) }
 {}
 
-/// Info lists that join to the same bytes give the same output of HKDF.
+/// Info pieces that join to the same bytes give the same output of HKDF (RFC 5869, section 2.3).
 pub fn law_6()
     ensures { (a : Algorithm) (k : List ℕ) (pieces others : List (Bor (List ℕ))) (n : ℕ)
         → joined pieces ≡ joined others → okm a k (joined pieces) n ≡ okm a k (joined others) n }
@@ -120,21 +124,22 @@ pub fn law_7()
         → hmac_of a [] secret ≡ hmac_of a (replicate (output_len a) 0) secret }
 {}
 
-/// A shorter output of PBKDF2 is a front of a longer one (RFC 2898, section 5.2).
+/// A shorter output of PBKDF2 is the front of a longer one (RFC 2898, section 5.2).
 pub fn law_8()
     ensures { (a : Algorithm) (p s : List ℕ) (c m n : ℕ) → m ≤ n
         → dk a p s c m ≡ take m (dk a p s c n) }
 {}
 
-/// The comparison of two lists of bytes is symmetric, in its answer and in the pairs that it reads.
+/// The comparison of two byte slices is symmetric, in its answer and in the number of pairs that it
+/// compares.
 pub fn law_10()
     ensures answer { (a b : List ℕ) → (a ≡ b) ↔ (b ≡ a) }
     ensures cost { (a b : List ℕ)
         → compared_pairs (length a) (length b) ≡ compared_pairs (length b) (length a) }
 {}
 
-/// The cost of PBKDF2 is a function of the algorithm, of lengths and of the iteration count: it
-/// tells nothing of the bytes.
+/// The number of blocks of PBKDF2 follows from the algorithm, the lengths and the iteration count
+/// alone (RFC 2898, section 5.2): it tells nothing about the bytes.
 pub fn law_11()
     ensures { (a : Algorithm) (p q s t out value : List ℕ) (c : ℕ) → length p ≡ length q
         → length s ≡ length t → length out ≡ length value
@@ -142,7 +147,7 @@ pub fn law_11()
         ≡ derive_blocks a (length q) (length t) c (length value) }
 {}
 
-/// The limits under SHA-1, in bytes.
+/// The limits of digests, tags, outputs, infos and derivations under SHA-1, in bytes.
 pub fn limits_of_sha1()
     ensures message { (n : ℕ) → IsMessageWithin SHA1_FOR_LEGACY_USE_ONLY n ↔ (n ≤ 2 ^ 61 - 1) }
     ensures tag { (n : ℕ) → IsTagWithin SHA1_FOR_LEGACY_USE_ONLY n ↔ (n ≤ 2 ^ 61 - 65) }
@@ -153,7 +158,7 @@ pub fn limits_of_sha1()
         ↔ ((p ≤ 2 ^ 61 - 1) × (0 < n → s ≤ 2 ^ 61 - 69) × (n ≤ 85899345900)) }
 {}
 
-/// The limits under SHA-256, in bytes.
+/// The limits of digests, tags, outputs, infos and derivations under SHA-256, in bytes.
 pub fn limits_of_sha256()
     ensures message { (n : ℕ) → IsMessageWithin SHA256 n ↔ (n ≤ 2 ^ 61 - 1) }
     ensures tag { (n : ℕ) → IsTagWithin SHA256 n ↔ (n ≤ 2 ^ 61 - 65) }
@@ -164,7 +169,7 @@ pub fn limits_of_sha256()
         ↔ ((p ≤ 2 ^ 61 - 1) × (0 < n → s ≤ 2 ^ 61 - 69) × (n ≤ 137438953440)) }
 {}
 
-/// The limits under SHA-384, in bytes.
+/// The limits of digests, tags, outputs, infos and derivations under SHA-384, in bytes.
 pub fn limits_of_sha384()
     ensures message { (n : ℕ) → IsMessageWithin SHA384 n ↔ (n ≤ 2 ^ 125 - 1) }
     ensures tag { (n : ℕ) → IsTagWithin SHA384 n ↔ (n ≤ 2 ^ 125 - 129) }
@@ -175,7 +180,7 @@ pub fn limits_of_sha384()
         ↔ ((p ≤ 2 ^ 125 - 1) × (0 < n → s ≤ 2 ^ 125 - 133) × (n ≤ 206158430160)) }
 {}
 
-/// The limits under SHA-512, in bytes.
+/// The limits of digests, tags, outputs, infos and derivations under SHA-512, in bytes.
 pub fn limits_of_sha512()
     ensures message { (n : ℕ) → IsMessageWithin SHA512 n ↔ (n ≤ 2 ^ 125 - 1) }
     ensures tag { (n : ℕ) → IsTagWithin SHA512 n ↔ (n ≤ 2 ^ 125 - 129) }

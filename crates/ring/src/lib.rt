@@ -1,14 +1,20 @@
-//! Digests (FIPS 180-4), tags (HMAC, RFC 2104) and derived keys (HKDF, RFC 5869, and PBKDF2,
-//! RFC 2898), after `ring` 0.17.14: each call is proved to give the standard's bytes and to be
-//! refused exactly at its limits, and each counted form to cost exactly the blocks that it says.
+//! Digests, HMAC, HKDF and PBKDF2, with the names and the behaviour of the Rust crate `ring`
+//! 0.17.14.
 //!
-//! - [`digest`]: SHA-1, SHA-256, SHA-384, SHA-512 and SHA-512/256.
-//! - [`hmac`]: keys, tags and their verification.
-//! - [`rand`]: byte sources of the caller's own, and values made of their bytes.
-//! - [`hkdf`]: keys from secrets.
-//! - [`pbkdf2`]: keys from passwords.
+//! Each call is proved to give the standard's bytes and to be refused exactly at its limits, and
+//! each counted form to run exactly the blocks that its clause `cost` says.
+//!
+//! - [`digest`]: SHA-1, SHA-256, SHA-384, SHA-512 and SHA-512/256 (FIPS 180-4).
+//! - [`hmac`]: keys, tags and their verification (RFC 2104).
+//! - [`hkdf`]: keys derived from secrets (RFC 5869).
+//! - [`pbkdf2`]: keys derived from passwords (RFC 2898).
+//! - [`rand`]: byte sources that the caller implements, and values made of their bytes.
 //! - [`raw`]: contexts and keys as plain numbers.
-//! - [`laws`]: what a caller can rely on beside single calls.
+//! - [`laws`]: facts that relate several calls.
+//!
+//! A call whose name ends in `_counted` does what the call without that ending does, and counts its
+//! work on a [`cost::Meter`]. A refused call answers `Err(Unspecified)` and leaves its outputs as
+//! they were.
 //!
 //! The examples of these modules stand proved in the crate `ring_uses`, with their imports.
 #![tactic(auto)]

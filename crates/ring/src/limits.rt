@@ -1,6 +1,6 @@
-//! The tests of lengths above a digest's own, which stands beside its limit
-//! (`digest::algorithm::is_message_within`): total over `u128`, so that no sum wraps before it is
-//! tested.
+//! The tests of lengths, but for a digest's own, which stands beside its limit
+//! (`digest::algorithm::is_message_within`). They take `u128`, so that no sum wraps before its
+//! test.
 
 ghost use Rattle.std.specs.Prelude.{◌≡◌, ◌↔◌, IsTrue, length};
 ghost use Rattle.ring.specs.Limits.{CanDerive, CanVerify, IsInfoWithin};

@@ -1,7 +1,7 @@
 //! Keys derived from passwords: PBKDF2 (RFC 2898, section 5.2).
 //!
-//! [`derive`] makes a key, or what a login stores in place of a password, from a secret, a salt and
-//! a number of iterations, and [`verify`] tests a secret against what [`derive`] once gave:
+//! [`derive`] computes a key, or the value that a login stores in place of a password, from a
+//! secret, a salt and a number of iterations. [`verify`] tests a secret against such a value:
 //!
 //! ```
 //! pub fn stored_of(
@@ -33,11 +33,11 @@
 //! }
 //! ```
 //!
-//! Each iteration costs whoever derives, and whoever guesses, two blocks for each round of output.
-//! The salt should be another one for each secret.
+//! Each iteration past the first costs the caller, and anyone who guesses secrets, two blocks for
+//! each round of output. Each secret should have a salt of its own.
 //!
-//! [`derive_each`] derives keys of one length from several secrets, each with its salt, and is
-//! faster than one after another where there are four or more under SHA-1 or SHA-256:
+//! [`derive_each`] derives keys of one length from several secrets, each with its salt. It is
+//! faster than one call for each where there are four or more under SHA-1 or SHA-256:
 //!
 //! ```
 //! pub fn stored_of_four(
@@ -91,8 +91,9 @@ pub use crate::pbkdf2::algorithm::{
 pub use crate::pbkdf2::compared::{verify_each, verify_each_counted};
 pub use crate::pbkdf2::each::{derive_each, derive_each_counted};
 
-/// Derives, as [`derive`] does, the blocks counted by `meter`: the key's, and for each round of
-/// output those of the first iterate and two for each other one.
+/// Derives a key as [`derive`] does, and counts its blocks on `meter`: those of the HMAC key, and
+/// for each round of output those of the first iterate and two for each further one. A refusal
+/// leaves `meter` as it was.
 pub fn derive_counted(
     algorithm: Algorithm,
     iterations: NonZeroU32,
@@ -124,7 +125,8 @@ pub fn derive_counted(
     Ok(())
 }
 
-/// Fills the whole of `out` with the key that is derived from `secret` (RFC 2898, section 5.2).
+/// Derives a key from `secret` and `salt`, and writes it to the whole of `out` (RFC 2898, section
+/// 5.2).
 ///
 /// | Parameter | In the RFC |
 /// |---|---|
@@ -135,10 +137,9 @@ pub fn derive_counted(
 /// | `out` | DK, the derived key |
 /// | `out.len()` | dkLen, its intended length in bytes |
 ///
-/// Refused, before any block is run and any byte is written, where the secret is longer than the
-/// digest algorithm's `max_input_len` bytes, where one of its blocks, the salt and 4 bytes together
-/// are, and where `out` has more than `2^32 - 1` times the bytes of a digest. An empty `out` takes
-/// any salt.
+/// Refused where `secret` is longer than the digest algorithm's `max_input_len` bytes, where one
+/// block, `salt` and 4 bytes together are, and where `out` has more than `2^32 - 1` times the bytes
+/// of a digest. An empty `out` takes any salt. Where it is refused, `out` is unchanged.
 pub fn derive(
     algorithm: Algorithm,
     iterations: NonZeroU32,
@@ -155,8 +156,9 @@ pub fn derive(
     derive_counted(algorithm, iterations, salt, secret, out, &mut Meter::new())
 }
 
-/// Tests a value, as [`verify`] does, its blocks and its pairs of bytes counted by `meter`: as many
-/// at a mismatch as at a match, wherever the values differ.
+/// Tests a value as [`verify`] does, and counts the blocks and the compared pairs of bytes on
+/// `meter`. A value that differs costs as much as one that matches, wherever it differs. Where a
+/// length is refused, `meter` is as it was.
 pub fn verify_counted(
     algorithm: Algorithm,
     iterations: NonZeroU32,
@@ -194,10 +196,11 @@ pub fn verify_counted(
     }
 }
 
-/// Ok exactly where `previously_derived` isn't empty and is what [`derive`] gives for its length.
+/// Returns Ok exactly if `previously_derived` is not empty and is what [`derive`] writes for its
+/// length, with the same `algorithm`, `iterations`, `salt` and `secret` (RFC 2898, section 5.2).
 ///
-/// Refused, before any block is run, where `previously_derived` is empty and where [`derive`] would
-/// refuse these lengths; refused too where the bytes differ, once all of them were compared.
+/// Refused where `previously_derived` is empty or differs, and where [`derive`] refuses these
+/// lengths.
 pub fn verify(
     algorithm: Algorithm,
     iterations: NonZeroU32,

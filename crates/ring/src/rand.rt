@@ -1,7 +1,7 @@
 //! Byte sources, and values made of their bytes.
 //!
-//! The library has no source of its own: the caller hands one in, and answers for its quality. A
-//! source is seen as the list of the bytes that it has left.
+//! The library has no source of its own: the caller implements [`SecureRandom`] and answers for the
+//! quality of the bytes. A contract sees a source as the list of the bytes that it has left.
 //!
 //! ```
 //! pub fn nonce(rng: &mut dyn SecureRandom) -> Result<[u8; 16], Unspecified>
@@ -20,29 +20,29 @@ ghost use Rattle.ring.specs.Source.{random_value};
 
 use ring_core::error::Unspecified;
 
-/// A source of bytes: anyone may write one.
+/// A source of bytes, which a caller implements.
 pub trait SecureRandom {
-    // The bytes that it has left.
+    // The bytes that the source has left.
     ghost left: { Self → List ℕ };
 
-    // Whether it can give so many bytes at once.
+    // Whether the source can give so many bytes at once.
     ghost ready: { Self → ℕ → Bool };
 
-    /// Whether `fill` would give `len` bytes.
+    /// Whether `fill` would write `len` bytes.
     fn is_ready(&self, len: usize) -> bool
         ensures { result ≡ ready self.now len };
 
-    /// Writes the next bytes over the whole of `dest`, and takes them off.
+    /// Writes the next bytes of the source to the whole of `dest`.
     ///
-    /// Refused where the source isn't ready for so many bytes: it keeps all of its bytes then and
-    /// stays unready for so many, and `dest` is as before.
+    /// Refused where the source is not ready for so many bytes. It then keeps all of its bytes and
+    /// stays unready for so many, and `dest` is unchanged.
     fn fill(&mut self, dest: &mut [u8]) -> Result<(), Unspecified>
         ensures ok { OnOk result (left self.old ≡ dest.new ++ left self.new) }
         ensures refused { IsErr result ↔ (ready self.old (length dest.old) ≡ false) }
         ensures unchanged { OnErr result ((left self.new ≡ left self.old) × (dest.new ≡ dest.old)) }
         ensures unready { OnErr result (ready self.new (length dest.old) ≡ false) };
 
-    // It is ready for no more bytes than it has left.
+    // A source is ready for no more bytes than it has left.
     ghost enough: { (s : Self) (n : ℕ) → IsTrue (ready s n) → n ≤ length (left s) };
 }
 
@@ -57,7 +57,7 @@ pub trait RandomlyConstructable: Sized + Drop {
     // The value with these bytes in place of its own.
     ghost with_bytes: { Self → List ℕ → Self };
 
-    /// The value whose bytes are zeros, to be written over.
+    /// The value whose bytes are 0, to be overwritten.
     fn zero() -> Self
         ensures { bytes result ≡ replicate byte_len 0 };
 
@@ -67,11 +67,12 @@ pub trait RandomlyConstructable: Sized + Drop {
             (Lends Self.row (Array u8 0) self.entry result (with_bytes self.old)) }
         ensures value { result.now ≡ bytes self.old };
 
-    // What is written are the value's bytes then.
+    // The bytes that are written are then those of the value.
     ghost written: { (x : Self) (ws : List ℕ)
         → length ws ≡ length (bytes x) → bytes (with_bytes x ws) ≡ ws };
 }
 
+/// An array is made of its own bytes.
 impl<const N: usize> RandomlyConstructable for [u8; N] {
     ghost byte_len = { N };
 
@@ -90,12 +91,12 @@ impl<const N: usize> RandomlyConstructable for [u8; N] {
     }
 }
 
-/// A value made of a source's bytes. It can't be copied, so that it is exposed once.
+/// A value made of a source's bytes. It cannot be copied, so that it is exposed once.
 #[derive(Drop)]
 pub struct Random<T: RandomlyConstructable>(T);
 
 impl<T: RandomlyConstructable> Random<T> {
-    /// The value.
+    /// Returns the value.
     pub fn expose(self) -> T
         ensures { result ≡ random_value self }
     {
@@ -104,9 +105,9 @@ impl<T: RandomlyConstructable> Random<T> {
     }
 }
 
-/// A value of the source's next bytes, as many as the type has. The source is asked once.
+/// Makes a value of the next bytes of the source `rng`, as many as the type has.
 ///
-/// Refused where the source isn't ready for so many, and keeps all of its bytes then.
+/// Refused where the source is not ready for so many bytes. It then keeps all of its bytes.
 pub fn generate<T: RandomlyConstructable>(
     rng: &mut dyn SecureRandom,
 ) -> Result<Random<T>, Unspecified>

@@ -1,4 +1,4 @@
-//! Lists of bytes compared and changed whole, with no branch on a byte.
+//! Comparison and exclusive or of byte slices. No loop branches on a byte.
 //!
 //! ```
 //! pub fn is_same_token(given: &[u8], stored: &[u8]) -> bool
@@ -16,8 +16,9 @@ ghost use Rattle.ring_core.specs.Word.{◌⊕◌};
 use crate::cost::Meter;
 use crate::error::Unspecified;
 
-/// Ok exactly where both lists of bytes are equal; `meter` counts each pair of bytes compared: all
-/// pairs where the lengths agree, equal or not, and none where they differ.
+/// Compares `a` and `b` as [`verify_slices_are_equal`] does, and counts the compared pairs of bytes
+/// on `meter`: as many as `a` has bytes where the lengths agree, equal or not, and none where the
+/// lengths differ.
 pub fn verify_slices_are_equal_counted(
     a: &[u8],
     b: &[u8],
@@ -42,14 +43,16 @@ pub fn verify_slices_are_equal_counted(
     }
 }
 
-/// Ok exactly where both lists of bytes are equal.
+/// Returns Ok exactly if `a` and `b` are equal, length and bytes.
+///
+/// Refused where they differ.
 pub fn verify_slices_are_equal(a: &[u8], b: &[u8]) -> Result<(), Unspecified>
     ensures ok { IsOk result ↔ (a.now ≡ b.now) }
 {
     verify_slices_are_equal_counted(a, b, &mut Meter::new())
 }
 
-/// Xors `b` into each byte of `a`.
+/// Replaces each byte of `a` by its exclusive or with `b`.
 pub fn xor_assign(a: &mut [u8], b: u8)
     ensures { a.new ≡ map (λ x. x ⊕ b) a.old }
 {
@@ -58,7 +61,8 @@ pub fn xor_assign(a: &mut [u8], b: u8)
     }
 }
 
-/// Xors the bytes of `b` into those at the start of `a`, as far as both reach.
+/// Replaces the bytes at the start of `a` by their exclusive or with those of `b`, up to the end of
+/// the shorter slice.
 pub fn xor_assign_at_start(a: &mut [u8], b: &[u8])
     ensures { a.new ≡ xor_lists a.old b.now }
 {

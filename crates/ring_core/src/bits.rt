@@ -1,4 +1,4 @@
-//! Lengths in bits, and their making from lengths in bytes.
+//! Lengths in bits, made from lengths in bytes.
 //!
 //! ```
 //! pub fn bit_length_field(message: &[u8]) -> Result<[u8; 8], InputTooLongError>
@@ -20,12 +20,12 @@ use std::num::NonZeroU64;
 
 const BITS_PER_BYTE: usize = 8;
 
-/// A number of bits.
+/// A length in bits.
 #[derive(Clone, Copy, Debug, PartialEq, Eq, PartialOrd)]
 pub struct BitLength<T = usize>(T);
 
 impl<T> BitLength<T> {
-    /// The length of so many bits.
+    /// The length of `bits` bits.
     pub fn from_bits(bits: T) -> Self
         ensures { bit_count result ≡ bits }
     {
@@ -34,7 +34,7 @@ impl<T> BitLength<T> {
 }
 
 impl<T: Copy> BitLength<T> {
-    /// How many bits.
+    /// The number of bits.
     pub fn as_bits(self) -> T
         ensures { result ≡ bit_count self }
     {
@@ -43,8 +43,7 @@ impl<T: Copy> BitLength<T> {
 }
 
 impl BitLength<usize> {
-    /// How many bytes hold the bits: an eighth of their number, and one more where a remainder is
-    /// left.
+    /// The number of bytes that hold the bits: an eighth of their number, rounded up.
     pub fn as_usize_bytes_rounded_up(&self) -> usize
         ensures { result ≡ div_ceil (bit_count self.now) 8 }
     {
@@ -53,7 +52,7 @@ impl BitLength<usize> {
 }
 
 impl BitLength<u64> {
-    /// The number of bits as eight bytes, the highest first.
+    /// The number of bits as eight bytes, high byte first.
     pub fn to_be_bytes(self) -> [u8; 8]
         ensures { result ≡ to_be_bytes w64 (bit_count self) }
     {
@@ -62,7 +61,7 @@ impl BitLength<u64> {
 }
 
 impl BitLength<u128> {
-    /// The number of bits as sixteen bytes, the highest first.
+    /// The number of bits as sixteen bytes, high byte first.
     pub fn to_be_bytes(self) -> [u8; 16]
         ensures { result ≡ to_be_bytes w128 (bit_count self) }
     {
@@ -71,16 +70,20 @@ impl BitLength<u128> {
     }
 }
 
-/// What can be made from a number of bytes.
+/// A length that is made from a number of bytes.
 pub trait FromByteLen<T>: Sized {
     // holds of a number of bytes and each answer that `from_byte_len` may give for it
     ghost from_byte_len_gives: { T → Result Self (InputTooLongError T) → Type 0 };
 
-    /// The length of `bytes` bytes, refused where its bits are more than the type holds.
+    /// Returns the length of `bytes` bytes.
+    ///
+    /// Refused where the type does not hold eight times `bytes`, in the implementations here. The
+    /// error then holds `bytes`.
     fn from_byte_len(bytes: T) -> Result<Self, InputTooLongError<T>>
         ensures { from_byte_len_gives bytes result };
 }
 
+/// Refused where `8 * bytes` is 2^64 or more.
 impl FromByteLen<usize> for BitLength<usize> {
     ghost from_byte_len_gives = { λ bytes result. GivesBits 64 bytes result };
 
@@ -92,6 +95,7 @@ impl FromByteLen<usize> for BitLength<usize> {
     }
 }
 
+/// Refused where `8 * bytes` is 2^64 or more.
 impl FromByteLen<u64> for BitLength<u64> {
     ghost from_byte_len_gives = { λ bytes result. GivesBits 64 bytes result };
 
@@ -103,6 +107,7 @@ impl FromByteLen<u64> for BitLength<u64> {
     }
 }
 
+/// Refused where `8 * bytes` is 2^128 or more.
 impl FromByteLen<u128> for BitLength<u128> {
     ghost from_byte_len_gives = { λ bytes result. GivesBits 128 bytes result };
 
@@ -114,6 +119,7 @@ impl FromByteLen<u128> for BitLength<u128> {
     }
 }
 
+/// Refused where `8 * bytes` is 2^64 or more.
 impl FromByteLen<usize> for BitLength<u64> {
     ghost from_byte_len_gives = { λ bytes result. GivesBits 64 bytes result };
 
@@ -122,6 +128,7 @@ impl FromByteLen<usize> for BitLength<u64> {
     }
 }
 
+/// The same number of bits.
 impl From<BitLength<usize>> for BitLength<u64> {
     ghost from_gives = { λ length result. bit_count result ≡ bit_count length };
 
@@ -130,6 +137,7 @@ impl From<BitLength<usize>> for BitLength<u64> {
     }
 }
 
+/// The same number of bits. Refused where it is 0.
 impl TryFrom<BitLength<u64>> for BitLength<NonZeroU64> {
     type Error = Unspecified;
 

@@ -1,4 +1,8 @@
-//! The meter, which counts what the block functions and the comparison did.
+//! The meter, which counts the work of the block functions and of the comparison.
+//!
+//! A call whose name ends in `_counted` takes a `&mut Meter`, and its clause `cost` says by how
+//! much both counts rise. The plain form, of the same name without `_counted`, makes that one call
+//! with a new meter.
 //!
 //! ```
 //! pub fn blocks_of_digest(message: &[u8]) -> Result<u128, Unspecified>
@@ -16,8 +20,8 @@ ghost use Rattle.ring_core.specs.Cost.{raised};
 
 use std::marker::Model;
 
-/// Two counts of work, each cut off at `u128::MAX`: blocks that a block function ran over, and
-/// pairs of bytes compared. A meter can't be copied.
+/// Two counts of work: blocks that a block function ran over, and pairs of bytes that were
+/// compared. Each stops at `u128::MAX`. A meter cannot be copied.
 #[derive(Drop)]
 pub struct Meter {
     blocks: u128,
@@ -43,14 +47,14 @@ impl Meter {
         }
     }
 
-    /// How many times a block function ran over a block.
+    /// The number of blocks that were run.
     pub fn blocks(&self) -> u128
         ensures { result ≡ self.now.blocks }
     {
         self.blocks
     }
 
-    /// How many pairs of bytes were compared.
+    /// The number of pairs of bytes that were compared.
     pub fn byte_pairs(&self) -> u128
         ensures { result ≡ self.now.byte_pairs }
     {

@@ -1,6 +1,13 @@
-//! What digests, tags and derived keys rest on: the block functions of SHA-1 and SHA-2
-//! (FIPS 180-4), with a meter that counts the work that was done, and lists of bytes compared,
-//! xored and seen as chunks.
+//! What the crate `ring` is built on.
+//!
+//! - [`digest`]: the block functions of SHA-1 and SHA-2 (FIPS 180-4).
+//! - [`cost`]: the meter, which counts blocks and compared pairs of bytes.
+//! - [`bb`]: comparison and exclusive or of byte slices.
+//! - [`bits`]: lengths in bits.
+//! - [`polyfill`]: slices as chunks of one length.
+//! - [`error`]: the errors.
+//!
+//! The examples of these modules stand proved in the crate `ring_uses`, with their imports.
 #![tactic(auto)]
 
 pub mod bb;

@@ -1,3 +1,3 @@
-//! What a later standard library brings.
+//! Parts of Rust's standard library that Rattle's does not have yet.
 
 pub mod slice;

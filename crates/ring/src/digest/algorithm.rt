@@ -15,7 +15,7 @@ use crate::digest::initial;
 use ring_core::digest::sha1::CHAINING_LEN;
 use std::fmt;
 
-/// A digest algorithm: one of the five constants below.
+/// A digest algorithm: one of the five constants of this module.
 #[derive(Clone, Copy, PartialEq, Eq)]
 pub struct Algorithm {
     pub(crate) id: AlgorithmId,
@@ -30,7 +30,7 @@ pub(crate) enum AlgorithmId {
     Sha512_256,
 }
 
-/// SHA-1 (FIPS 180-4, section 6.1), which is broken: for what must still read old data.
+/// SHA-1 (FIPS 180-4, section 6.1). Collisions are known: use it only for old data.
 pub const SHA1_FOR_LEGACY_USE_ONLY: Algorithm = Algorithm {
     id: AlgorithmId::Sha1,
 };
@@ -50,37 +50,37 @@ pub const SHA512: Algorithm = Algorithm {
     id: AlgorithmId::Sha512,
 };
 
-/// SHA-512/256 (FIPS 180-4, section 6.7), which has initial words of its own.
+/// SHA-512/256 (FIPS 180-4, section 6.7). It has initial words of its own (section 5.3.6.2).
 pub const SHA512_256: Algorithm = Algorithm {
     id: AlgorithmId::Sha512_256,
 };
 
-/// The bytes of the longest block.
+/// The length in bytes of the longest block, that of SHA-384, SHA-512 and SHA-512/256.
 pub const MAX_BLOCK_LEN: usize = 128;
 
-/// The bytes of the longest digest.
+/// The length in bytes of the longest digest, that of SHA-512.
 pub const MAX_OUTPUT_LEN: usize = 64;
 
-/// The bytes of the longest chaining words.
+/// The length in bytes of the longest chaining words, those of SHA-384, SHA-512 and SHA-512/256.
 pub const MAX_CHAINING_LEN: usize = 64;
 
-/// The bytes of a SHA-1 digest.
+/// The length in bytes of a SHA-1 digest.
 pub const SHA1_OUTPUT_LEN: usize = 20;
 
-/// The bytes of a SHA-256 digest.
+/// The length in bytes of a SHA-256 digest.
 pub const SHA256_OUTPUT_LEN: usize = 32;
 
-/// The bytes of a SHA-384 digest.
+/// The length in bytes of a SHA-384 digest.
 pub const SHA384_OUTPUT_LEN: usize = 48;
 
-/// The bytes of a SHA-512 digest.
+/// The length in bytes of a SHA-512 digest.
 pub const SHA512_OUTPUT_LEN: usize = 64;
 
-/// The bytes of a SHA-512/256 digest.
+/// The length in bytes of a SHA-512/256 digest.
 pub const SHA512_256_OUTPUT_LEN: usize = 32;
 
 impl Algorithm {
-    /// The length of a block in bytes.
+    /// The length of a block in bytes: 64 for SHA-1 and SHA-256, 128 for the others.
     pub fn block_len(&self) -> usize
         ensures { result ≡ block_len self.now }
     {
@@ -90,7 +90,7 @@ impl Algorithm {
         }
     }
 
-    /// The length in bytes of the words that chain from block to block.
+    /// The length in bytes of the chaining words: 20 for SHA-1, 32 for SHA-256, 64 for the others.
     pub fn chaining_len(&self) -> usize
         ensures { result ≡ chaining_len self.now }
     {
@@ -114,9 +114,9 @@ impl Algorithm {
         }
     }
 
-    /// The length of the longest message in bytes: its length in bits is the greatest that is a
-    /// whole number of bytes and fits the padding's length field, of 64 bits for SHA-1 and SHA-256
-    /// and of 128 bits for the others (FIPS 180-4, sections 1 and 5.1).
+    /// The length of the longest message in bytes: `2^61 - 1` for SHA-1 and SHA-256, `2^125 - 1`
+    /// for the others. A message of more bits does not fit the length field of the padding, of 64
+    /// or of 128 bits (FIPS 180-4, sections 1 and 5.1).
     pub fn max_input_len(&self) -> u128
         ensures { result ≡ max_input_len self.now }
     {
@@ -159,18 +159,18 @@ impl Algorithm {
     }
 }
 
-// Whether a message of `len` bytes has a digest. What knows the whole length at its door tests it
-// there, so that no block is run for what is refused; a context learns its length only at its end,
-// so `BlockContext::try_finish` tests it again for all.
+// Whether a message of `len` bytes has a digest. A call that knows the whole length tests it first,
+// so that it runs no block for a message that it refuses. A context knows the length only at its
+// end, so `BlockContext::try_finish` tests it again, for all.
 pub(crate) fn is_message_within(algorithm: &Algorithm, len: u128) -> bool
     ensures { IsTrue result ↔ IsMessageWithin algorithm.now len }
 {
     len <= algorithm.max_input_len()
 }
 
-/// Each constant is its name's row of the standard's table (FIPS 180-4, section 1, figure 1), with
-/// that row's block function and initial words, and each length constant is a row's length: a law,
-/// whose call does nothing.
+/// States that each constant is its row of the standard's table (FIPS 180-4, section 1, figure 1),
+/// with that row's block function and initial words, and that each length constant is the length in
+/// a row. The call does nothing.
 pub fn constants_are_their_rows()
     ensures sha1 { row SHA1_FOR_LEGACY_USE_ONLY ≡ record {
       word_len = 4;
@@ -229,6 +229,7 @@ pub fn constants_are_their_rows()
     ensures sha512_words { AreSquareRoots 64 0 (initial_words SHA512) }
 {}
 
+/// Writes the name: `SHA1`, `SHA256`, `SHA384`, `SHA512` or `SHA512_256`.
 impl fmt::Debug for Algorithm {
     ghost debug_output = { λ a. Some (name_of a) };
 

@@ -1,4 +1,4 @@
-//! A context for a message in pieces.
+//! The digest of a message that arrives in pieces.
 
 ghost use Rattle.std.specs.Prelude.{◌≡◌, ◌↔◌, ℕ, ◌+◌, ◌-◌, ◌%◌, ◌<◌, ◌≤◌, List};
 ghost use Rattle.std.specs.Prelude.{[], ◌++◌, length, IfOk, IsErr, OnOk, OnErr};
@@ -13,7 +13,8 @@ use crate::digest::value::Digest;
 use ring_core::cost::Meter;
 use ring_core::error::Unspecified;
 
-/// The digest of a message that comes in pieces: it stands for an algorithm and the joined pieces.
+/// The digest of a message that arrives in pieces. A context stands for an algorithm and for the
+/// pieces so far, joined.
 #[derive(Drop)]
 pub struct Context {
     pub(crate) block: BlockContext,
@@ -27,7 +28,8 @@ impl Context {
     ghost use Rattle.ring.specs.Context.{context_algorithm, counted_bytes, cut_off};
     ghost use Rattle.ring.specs.Context.{message_len, pending_bytes, pending_len};
 
-    /// A context of the empty message. No block is run.
+    /// Starts the digest of a message under `algorithm`, with the initial words of FIPS 180-4,
+    /// section 5.3. The message is empty so far.
     pub fn new(algorithm: &Algorithm) -> Self
         ensures stands { StandsFor result [] }
         ensures algorithm { context_algorithm result ≡ algorithm.now }
@@ -52,7 +54,7 @@ impl Context {
         }
     }
 
-    /// The same context: a copy that goes on by itself.
+    /// A copy, which goes on separately.
     pub fn clone(&self) -> Self
         ensures { result ≡ self.now }
     {
@@ -70,7 +72,8 @@ impl Context {
         self.block.algorithm
     }
 
-    /// Adds `input` to the message, as [`Context::update`] does, its blocks counted by `meter`.
+    /// Adds `input` to the message as [`Context::update`] does, and counts on `meter` the blocks
+    /// that it completes.
     #[tactic(auto, unfolding(crate::specs::Context::StandsFor))]
     pub fn update_counted(&mut self, input: &[u8], meter: &mut Meter)
         ensures stands { (m : List ℕ) → StandsFor self.old m → StandsFor self.new (m ++ input.now) }
@@ -134,8 +137,9 @@ impl Context {
         rest
     }
 
-    /// Adds `input` to the message, and runs each block as soon as it is complete. It never fails:
-    /// `finish` tells where the message is too long.
+    /// Adds `input` to the message, and runs each block that is complete (FIPS 180-4, section 6).
+    ///
+    /// This is never refused: where the message is too long, [`Context::finish`] is.
     pub fn update(&mut self, input: &[u8])
         ensures stands { (m : List ℕ) → StandsFor self.old m → StandsFor self.new (m ++ input.now) }
         ensures algorithm { context_algorithm self.new ≡ context_algorithm self.old }
@@ -146,7 +150,8 @@ impl Context {
         self.update_counted(input, &mut Meter::new());
     }
 
-    /// The digest of the message, as [`Context::finish`] gives it, its blocks counted by `meter`.
+    /// Returns the digest as [`Context::finish`] does, and counts the last blocks on `meter`: those
+    /// of the pending bytes and the padding. A refusal leaves `meter` as it was.
     #[tactic(auto, unfolding(crate::specs::Context::StandsFor))]
     pub fn finish_counted(self, meter: &mut Meter) -> Result<Digest, Unspecified>
         ensures ok { (m : List ℕ) → StandsFor self m
@@ -167,7 +172,7 @@ impl Context {
             .try_finish(&self.pending[..self.num_pending], meter)
     }
 
-    /// The digest of the message (FIPS 180-4, section 6).
+    /// Returns the digest of the message (FIPS 180-4, section 6).
     ///
     /// Refused where the message is longer than the algorithm's `max_input_len` bytes.
     pub fn finish(self) -> Result<Digest, Unspecified>

@@ -108,8 +108,9 @@ fn write_each(algorithm: &Algorithm, messages: &[&[u8]], out: &mut [Digest], met
     write_singly(algorithm, &messages[made..], &mut out[made..], meter);
 }
 
-/// Makes `out` the digests of the messages, as [`digest_each`] does, their blocks counted by
-/// `meter`.
+/// Writes the digests of several messages as [`digest_each`] does, and counts their blocks on
+/// `meter`: the sum of what [`digest_counted`](crate::digest::digest_counted) counts for each. A
+/// refusal leaves `meter` as it was.
 pub fn digest_each_counted(
     algorithm: &Algorithm,
     messages: &[&[u8]],
@@ -129,14 +130,15 @@ pub fn digest_each_counted(
     Ok(())
 }
 
-/// Makes `out` the digests of the messages, each at its message's place (FIPS 180-4, section 6).
+/// Writes the digests of `messages` under `algorithm` to `out`, each at its message's place (FIPS
+/// 180-4, section 6).
 ///
-/// It gives what [`digest`](crate::digest::digest) gives for each of them, and where there are four
-/// messages or more under SHA-1 or SHA-256, it is faster, the more so the more alike their lengths
-/// are: four at a time run side by side.
+/// The digests are those that [`digest`](crate::digest::digest) returns. Under SHA-1 and SHA-256
+/// four messages at a time run side by side, which is faster than one after another, most of all
+/// where their lengths are alike.
 ///
-/// Refused where `out` has not as many places as there are messages, or a message is longer than
-/// the algorithm's `max_input_len` bytes, before anything is written.
+/// Refused where `out` has more or fewer places than there are messages, or where a message is
+/// longer than the algorithm's `max_input_len` bytes. `out` is then unchanged.
 pub fn digest_each(
     algorithm: &Algorithm,
     messages: &[&[u8]],

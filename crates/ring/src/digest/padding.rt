@@ -11,7 +11,7 @@ ghost use Rattle.ring.specs.declared.digest.algorithm.Algorithm.{Algorithm};
 use crate::digest::algorithm::{Algorithm, MAX_BLOCK_LEN};
 use ring_core::bits::{BitLength, FromByteLen};
 
-// The bit 1 that ends every message, and the first seven of the zeros behind it.
+// The bit 1 that follows every message, and the first seven of the zeros after it.
 const END_OF_MESSAGE: u8 = 0x80;
 
 // The padding takes no more than one block past the pending one.
@@ -24,9 +24,9 @@ const LONG_LENGTH_LEN: usize = 16;
 const SHORT_LENGTH_LEN: usize = 8;
 
 // Writes what follows the whole blocks of a message of `message_len` bytes over zeros: the pending
-// bytes, the byte 0x80, zeros, and the length in bits. It gives how many bytes that is. The array
-// is the caller's: one given as a value is copied, in pieces that aren't those just written. In
-// line with what runs the blocks, a digest of 64 bytes by SHA-512 takes a fortieth longer.
+// bytes, the byte 0x80, zeros, and the length in bits. It returns how many bytes that is. The array
+// is the caller's: returning it by value costs a copy that defeats store forwarding. Where the
+// compiler inlines this function, SHA-512 of 64 bytes takes a fortieth longer.
 #[inline(never)]
 pub(crate) fn write_tail(
     algorithm: Algorithm,
@@ -49,8 +49,8 @@ pub(crate) fn write_tail(
     len
 }
 
-// Writes the length field before the place `end`. With each size of the field by itself the copy is
-// a few instructions, since its length is known then.
+// Writes the length field before the place `end`. Each size of the field has a branch of its own,
+// in which the length of the copy is a constant: the copy is then a few instructions.
 fn put_length(algorithm: Algorithm, bytes: &mut [u8; MAX_TAIL_LEN], end: usize, message_len: u128)
     requires room { length_len algorithm ≤ end }
     requires within { end ≤ MAX_TAIL_LEN }
@@ -80,8 +80,8 @@ fn bit_len_field(message_len: u128) -> [u8; LONG_LENGTH_LEN]
     }
 }
 
-/// The law of the padding: for each algorithm and message it is the shortest list of the standard's
-/// form that is whole blocks (FIPS 180-4, sections 5.1.1 and 5.1.2).
+/// States that the padded message is the shortest list of the standard's form that is whole blocks,
+/// for each algorithm and message (FIPS 180-4, sections 5.1.1 and 5.1.2). The call does nothing.
 pub fn padding_is_shortest()
     ensures { (a : Algorithm) (m : List ℕ) → IsPadded a m (padded a m) }
 {}

@@ -1,4 +1,4 @@
-//! Digests as values.
+//! The digest that a call returns.
 
 ghost use Rattle.std.specs.Prelude.{◌≡◌, length};
 ghost use Rattle.ring.specs.Algorithm.{output_len};
@@ -8,7 +8,7 @@ use crate::digest::algorithm::Algorithm;
 use crate::digest::dynstate::Output;
 use std::fmt;
 
-/// A digest, and the algorithm that made it.
+/// A digest, and the algorithm that computed it.
 #[derive(Clone, Copy)]
 pub struct Digest {
     value: Output,
@@ -23,14 +23,15 @@ impl Digest {
         Digest { value, algorithm }
     }
 
-    /// The algorithm that made it.
+    /// The algorithm that computed it.
     pub fn algorithm(&self) -> Algorithm
         ensures { result ≡ digest_algorithm self.now }
     {
         self.algorithm
     }
 
-    /// The digest: the first `output_len` bytes of the last chaining words, high byte first.
+    /// The bytes of the digest: the first `output_len` bytes of the last chaining words, high byte
+    /// first.
     pub fn as_ref(&self) -> &[u8]
         ensures bytes { result.now ≡ bytes_of self.now }
         ensures len { length result.now ≡ output_len (digest_algorithm self.now) }
@@ -39,7 +40,7 @@ impl Digest {
     }
 }
 
-/// The algorithm's name, a colon, and the bytes in lower case hex.
+/// Writes the algorithm's name, a colon, and the bytes in lower case hex.
 impl fmt::Debug for Digest {
     fn fmt<W: fmt::Write>(&self, f: &mut fmt::Formatter<W>) -> fmt::Result {
         let algorithm = self.algorithm;

@@ -1,4 +1,4 @@
-//! The four algorithms.
+//! The four HKDF algorithms.
 
 ghost use Rattle.std.specs.Prelude.{◌≡◌};
 ghost use Rattle.ring.specs.Hkdf.{hkdf_digest};
@@ -9,11 +9,11 @@ use crate::hmac::algorithm::{
     self as hmac, HMAC_SHA1_FOR_LEGACY_USE_ONLY, HMAC_SHA256, HMAC_SHA384, HMAC_SHA512,
 };
 
-/// An HKDF algorithm: one of the four constants below, each HKDF over an HMAC algorithm.
+/// An HKDF algorithm: one of the four constants of this module, each HKDF over an HMAC algorithm.
 #[derive(Clone, Copy, PartialEq, Eq, Debug)]
 pub struct Algorithm(hmac::Algorithm);
 
-/// HKDF over HMAC-SHA-1: for what must still read old data.
+/// HKDF over HMAC-SHA-1: use it only for old data.
 pub const HKDF_SHA1_FOR_LEGACY_USE_ONLY: Algorithm = Algorithm(HMAC_SHA1_FOR_LEGACY_USE_ONLY);
 
 /// HKDF over HMAC-SHA-256.
@@ -33,7 +33,7 @@ impl Algorithm {
         Algorithm(hmac_algorithm)
     }
 
-    /// The HMAC algorithm that it runs, whose lengths are its own.
+    /// The HMAC algorithm that HKDF runs.
     pub fn hmac_algorithm(&self) -> hmac::Algorithm
         ensures { hmac_digest result ≡ hkdf_digest self.now }
     {
@@ -41,7 +41,7 @@ impl Algorithm {
     }
 }
 
-/// Each constant is HKDF over the digest algorithm of its name: a law, whose call does nothing.
+/// States that each constant is HKDF over the digest algorithm of its name. The call does nothing.
 pub fn constants_are_based_on_their_digests()
     ensures sha1 { hkdf_digest HKDF_SHA1_FOR_LEGACY_USE_ONLY ≡ SHA1_FOR_LEGACY_USE_ONLY }
     ensures sha256 { hkdf_digest HKDF_SHA256 ≡ SHA256 }

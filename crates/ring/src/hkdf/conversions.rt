@@ -1,4 +1,4 @@
-//! Keys, salts and PRKs made of outputs.
+//! Keys, salts and PRKs made of output (RFC 5869, section 2.3).
 
 ghost use Rattle.ring.specs.Hkdf.{PrkStandsFor, SaltStandsFor, hkdf_digest};
 ghost use Rattle.ring.specs.Hkdf.{prk_algorithm, salt_algorithm};
@@ -11,9 +11,10 @@ use crate::hkdf::salt::Salt;
 use crate::hmac::{self, Key};
 use ring_core::error::Unspecified;
 
-/// The key of the HMAC algorithm that the output carries, whose value is the whole output.
+/// The key whose value is the whole output, for the HMAC algorithm that was passed to
+/// [`Prk::expand`].
 ///
-/// Refused where [`Okm::fill`] would refuse the info.
+/// Refused where one block and the message of a round are too long, as in [`Okm::fill`].
 impl TryFrom<Okm<'_, hmac::Algorithm>> for Key {
     type Error = Unspecified;
 
@@ -26,9 +27,10 @@ impl TryFrom<Okm<'_, hmac::Algorithm>> for Key {
     }
 }
 
-/// The salt of the HKDF algorithm that the output carries, whose value is the whole output.
+/// The salt whose value is the whole output, for the HKDF algorithm that was passed to
+/// [`Prk::expand`].
 ///
-/// Refused where [`Okm::fill`] would refuse the info.
+/// Refused where one block and the message of a round are too long, as in [`Okm::fill`].
 impl TryFrom<Okm<'_, Algorithm>> for Salt {
     type Error = Unspecified;
 
@@ -41,9 +43,10 @@ impl TryFrom<Okm<'_, Algorithm>> for Salt {
     }
 }
 
-/// The PRK of the HKDF algorithm that the output carries, whose value is the whole output.
+/// The PRK whose value is the whole output, for the HKDF algorithm that was passed to
+/// [`Prk::expand`].
 ///
-/// Refused where [`Okm::fill`] would refuse the info.
+/// Refused where one block and the message of a round are too long, as in [`Okm::fill`].
 impl TryFrom<Okm<'_, Algorithm>> for Prk {
     type Error = Unspecified;
 

@@ -1,4 +1,4 @@
-//! What may be asked of an output: values that tell a number of bytes.
+//! The lengths of outputs: values that tell a number of bytes.
 
 ghost use Rattle.std.specs.Prelude.{◌≡◌, ℕ};
 ghost use Rattle.ring.specs.Algorithm.{output_len};
@@ -8,10 +8,10 @@ ghost use Rattle.ring.specs.Hmac.{hmac_digest};
 use crate::hkdf::algorithm::Algorithm;
 use crate::hmac::algorithm as hmac;
 
-/// The length of an output: of a key of some kind, or of whatever else is made from it.
+/// The length of an output.
 ///
-/// A type of the caller's own implements it to ask [`Prk::expand`](crate::hkdf::Prk::expand) for
-/// that many bytes.
+/// The algorithms implement it, for keys, salts and PRKs. A caller implements it for another
+/// length, and passes the value to [`Prk::expand`](crate::hkdf::Prk::expand).
 pub trait KeyType: Drop {
     // The number of bytes: a function of the value.
     ghost key_len: { Self → ℕ };
@@ -21,7 +21,7 @@ pub trait KeyType: Drop {
         ensures { result ≡ key_len self.now };
 }
 
-/// A key of the algorithm's output length (RFC 2104, section 3).
+/// The length of a key: as many bytes as a digest has (RFC 2104, section 3).
 impl KeyType for hmac::Algorithm {
     ghost key_len = { λ a. output_len (hmac_digest a) };
 
@@ -30,7 +30,7 @@ impl KeyType for hmac::Algorithm {
     }
 }
 
-/// A salt or a PRK of the algorithm's output length.
+/// The length of a salt or a PRK: as many bytes as a digest has.
 impl KeyType for Algorithm {
     ghost key_len = { λ a. output_len (hkdf_digest a) };
 

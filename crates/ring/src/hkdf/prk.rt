@@ -1,4 +1,4 @@
-//! Pseudorandom keys, and the outputs that are expanded from them (RFC 5869, section 2.3).
+//! Pseudorandom keys, and the output that they are expanded to (RFC 5869, section 2.3).
 
 ghost use Rattle.std.specs.Prelude.{◌≡◌, ◌↔◌, ◌*◌, ◌<◌};
 ghost use Rattle.std.specs.Prelude.{ℕ, List, length, IfOk, IsErr, IsOk, OnErr, OnOk};
@@ -19,7 +19,7 @@ use crate::limits::{is_info_within, is_output_within, joined_len};
 use ring_core::cost::Meter;
 use ring_core::error::Unspecified;
 
-/// A PRK (RFC 5869, section 2.3): a pseudorandom key, from which outputs are expanded.
+/// A pseudorandom key, PRK (RFC 5869, section 2.3), which is expanded to outputs.
 #[derive(Debug, Drop)]
 pub struct Prk(pub(crate) Key);
 
@@ -27,8 +27,8 @@ impl Prk {
     ghost use Rattle.ring.specs.Okm.{OkmStandsFor, carried, okm_algorithm};
     ghost use Rattle.ring.specs.Okm.{okm_info_len, okm_number};
 
-    /// The PRK of the bytes `value`, as [`Prk::new_less_safe`] gives it, its blocks counted by
-    /// `meter`.
+    /// Makes the PRK of `value` as [`Prk::new_less_safe`] does, and counts its blocks on `meter`. A
+    /// refusal leaves `meter` as it was.
     pub fn new_less_safe_counted(
         algorithm: Algorithm,
         value: &[u8],
@@ -45,12 +45,13 @@ impl Prk {
         Ok(Prk(Key::new_counted(algorithm.hmac_algorithm(), value, meter)?))
     }
 
-    /// The PRK of the bytes `value`, which are used as they are: it's for the caller to know that
-    /// they are random enough (RFC 5869, section 3.3). Else make a [`Salt`](crate::hkdf::Salt) and
-    /// extract.
+    /// Makes the PRK of the bytes `value` for `algorithm`, without an extract (RFC 5869, section
+    /// 3.3).
     ///
-    /// Refused where the value is longer than the digest algorithm's `max_input_len` bytes, before
-    /// any block is run.
+    /// The caller must know that the bytes are random enough. Otherwise make a
+    /// [`Salt`](crate::hkdf::Salt) and extract.
+    ///
+    /// Refused where the value is longer than the digest algorithm's `max_input_len` bytes.
     pub fn new_less_safe(algorithm: Algorithm, value: &[u8]) -> Result<Self, Unspecified>
         ensures ok { IfOk result (λ prk. PrkStandsFor prk value.now) }
         ensures refused { IsErr result
@@ -60,11 +61,12 @@ impl Prk {
         Prk::new_less_safe_counted(algorithm, value, &mut Meter::new())
     }
 
-    /// Asks for the output of as many bytes as `len` says, which it asks once (RFC 5869, section
-    /// 2.3). The info is the joined bytes of all pieces: how it is cut makes no difference. No
-    /// block is run.
+    /// Asks for output of as many bytes as `len` says, for what `info` tells (RFC 5869, section
+    /// 2.3). The output is computed by [`Okm::fill`]: no block is run here.
     ///
-    /// Refused where more bytes are asked for than 255 digests have.
+    /// The pieces of `info` are joined: how it is cut makes no difference.
+    ///
+    /// Refused where `len` says more bytes than 255 digests have.
     pub fn expand<'a, L: KeyType>(
         &'a self,
         info: &'a [&'a [u8]],
@@ -91,7 +93,7 @@ impl Prk {
         })
     }
 
-    /// The same PRK.
+    /// A copy of the PRK.
     pub fn clone(&self) -> Self
         ensures { result ≡ self.now }
     {
@@ -99,8 +101,8 @@ impl Prk {
     }
 }
 
-/// An output that was asked for, and not yet given (RFC 5869, section 2.3): it stands for a PRK,
-/// the joined bytes of the info and a number of bytes.
+/// Output that was asked for and is not yet computed (RFC 5869, section 2.3). It stands for a PRK,
+/// the joined info and a number of bytes.
 #[derive(Debug, Drop)]
 pub struct Okm<'a, L: KeyType> {
     prk: &'a Prk,
@@ -115,15 +117,16 @@ impl<L: KeyType> Okm<'_, L> {
     ghost use Rattle.ring.specs.Okm.{CanFill, IsMadeOf, OkmStandsFor, carried};
     ghost use Rattle.ring.specs.Okm.{okm_algorithm, okm_info_len, okm_number};
 
-    /// What was asked for, as it was handed to [`Prk::expand`].
+    /// The value that was passed to [`Prk::expand`] for the length.
     pub fn len(&self) -> &L
         ensures { result.now ≡ carried self.now }
     {
         &self.len
     }
 
-    /// Gives the output, as [`Okm::fill`] does, its blocks counted by `meter`: those of one round
-    /// at least, also where nothing was asked for.
+    /// Writes the output to `out` as [`Okm::fill`] does, and counts its blocks on `meter`: those of
+    /// one round for each digest's length that is begun, and of one where the output is empty. A
+    /// refusal leaves `meter` as it was.
     pub fn fill_counted(self, out: &mut [u8], meter: &mut Meter) -> Result<(), Unspecified>
         ensures ok { (k info : List ℕ) (n : ℕ) → OkmStandsFor self.entry k info n
             → OnOk result (out.new ≡ okm (okm_algorithm self.entry) k info n) }
@@ -144,12 +147,12 @@ impl<L: KeyType> Okm<'_, L> {
         Ok(())
     }
 
-    /// Writes the output over the whole of `out` (RFC 5869, section 2.3): the first bytes of the
-    /// tags T(1), T(2) and so on, one after another.
+    /// Writes the output to the whole of `out`: the first bytes of T(1), T(2) and so on (RFC 5869,
+    /// section 2.3).
     ///
-    /// Refused where `out` has another number of bytes than was asked for, and where a round's
-    /// message, with one block before it, is longer than the digest algorithm's `max_input_len`
-    /// bytes. `out` is then as it was, and no block is run.
+    /// Refused where `out` has another number of bytes than was asked for, and where one block and
+    /// the message of a round are longer than the digest algorithm's `max_input_len` bytes. That
+    /// message is the tag of the round before, the info and one byte. `out` is then unchanged.
     pub fn fill(self, out: &mut [u8]) -> Result<(), Unspecified>
         ensures ok { (k info : List ℕ) (n : ℕ) → OkmStandsFor self.entry k info n
             → OnOk result (out.new ≡ okm (okm_algorithm self.entry) k info n) }

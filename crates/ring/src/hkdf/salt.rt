@@ -1,4 +1,4 @@
-//! Salts, and what is extracted with them.
+//! Salts, and the extract of a PRK (RFC 5869, section 2.2).
 
 ghost use Rattle.std.specs.Prelude.{◌≡◌, ◌↔◌, ◌+◌, ◌<◌, ℕ, List, length, IfOk, IsErr, OnErr, OnOk};
 ghost use Rattle.ring_core.specs.Cost.{raised};
@@ -14,12 +14,13 @@ use crate::hmac::{self, Key};
 use ring_core::cost::Meter;
 use ring_core::error::Unspecified;
 
-/// A salt (RFC 5869, section 2.2): the HMAC key that PRKs are extracted with.
+/// A salt (RFC 5869, section 2.2): the HMAC key under which PRKs are extracted.
 #[derive(Debug, Drop)]
 pub struct Salt(pub(crate) Key);
 
 impl Salt {
-    /// The salt of the bytes `value`, as [`Salt::new`] gives it, its blocks counted by `meter`.
+    /// Makes the salt of `value` as [`Salt::new`] does, and counts its blocks on `meter`. A refusal
+    /// leaves `meter` as it was.
     pub fn new_counted(
         algorithm: Algorithm,
         value: &[u8],
@@ -36,11 +37,10 @@ impl Salt {
         Ok(Salt(Key::new_counted(algorithm.hmac_algorithm(), value, meter)?))
     }
 
-    /// The salt of the bytes `value` (RFC 5869, section 2.2). An empty value stands for as many
-    /// zero bytes as the digests have.
+    /// Makes the salt of the bytes `value` for `algorithm` (RFC 5869, section 2.2). An empty value
+    /// extracts as one of as many zeros as a digest has bytes.
     ///
-    /// Refused where the value is longer than the digest algorithm's `max_input_len` bytes, before
-    /// any block is run.
+    /// Refused where the value is longer than the digest algorithm's `max_input_len` bytes.
     pub fn new(algorithm: Algorithm, value: &[u8]) -> Result<Self, Unspecified>
         ensures ok { IfOk result (λ salt. SaltStandsFor salt value.now) }
         ensures refused { IsErr result
@@ -50,7 +50,8 @@ impl Salt {
         Salt::new_counted(algorithm, value, &mut Meter::new())
     }
 
-    /// The PRK of `secret`, as [`Salt::extract`] gives it, its blocks counted by `meter`.
+    /// Extracts the PRK of `secret` as [`Salt::extract`] does, and counts its blocks on `meter`:
+    /// those of the tag, and two for the PRK's key. A refusal leaves `meter` as it was.
     pub fn extract_counted(&self, secret: &[u8], meter: &mut Meter) -> Result<Prk, Unspecified>
         ensures ok { (s : List ℕ) → SaltStandsFor self.now s → IfOk result
             (λ prk. PrkStandsFor prk (hmac_of (salt_algorithm self.now) s secret.now)) }
@@ -69,11 +70,10 @@ impl Salt {
         }
     }
 
-    /// The PRK of `secret`: HKDF's extract, the tag of the secret under the salt (RFC 5869, section
-    /// 2.2).
+    /// Extracts the PRK of `secret`: its tag under the salt (RFC 5869, section 2.2).
     ///
     /// Refused where one block and the secret together are longer than the digest algorithm's
-    /// `max_input_len` bytes, before any block is run.
+    /// `max_input_len` bytes.
     pub fn extract(&self, secret: &[u8]) -> Result<Prk, Unspecified>
         ensures ok { (s : List ℕ) → SaltStandsFor self.now s → IfOk result
             (λ prk. PrkStandsFor prk (hmac_of (salt_algorithm self.now) s secret.now)) }
@@ -84,7 +84,7 @@ impl Salt {
         self.extract_counted(secret, &mut Meter::new())
     }
 
-    /// The algorithm that it extracts by.
+    /// The algorithm of the PRKs that the salt extracts.
     pub fn algorithm(&self) -> Algorithm
         ensures { hkdf_digest result ≡ salt_algorithm self.now }
     {

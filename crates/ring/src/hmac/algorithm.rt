@@ -1,4 +1,4 @@
-//! The four algorithms.
+//! The four HMAC algorithms.
 
 ghost use Rattle.std.specs.Prelude.{◌≡◌, ◌++◌, Some, codes};
 ghost use Rattle.ring.specs.Algorithm.{name_of};
@@ -7,11 +7,11 @@ ghost use Rattle.ring.specs.Hmac.{hmac_digest};
 use crate::digest::algorithm::{self as digest, SHA1_FOR_LEGACY_USE_ONLY, SHA256, SHA384, SHA512};
 use std::fmt;
 
-/// An HMAC algorithm: one of the four constants below, each HMAC over a digest algorithm.
+/// An HMAC algorithm: one of the four constants of this module, each HMAC over a digest algorithm.
 #[derive(Clone, Copy, PartialEq, Eq)]
 pub struct Algorithm(digest::Algorithm);
 
-/// HMAC over SHA-1: for what must still read old data.
+/// HMAC over SHA-1: use it only for old data.
 pub const HMAC_SHA1_FOR_LEGACY_USE_ONLY: Algorithm = Algorithm(SHA1_FOR_LEGACY_USE_ONLY);
 
 /// HMAC over SHA-256.
@@ -31,7 +31,8 @@ impl Algorithm {
         Algorithm(digest_algorithm)
     }
 
-    /// The digest algorithm that it runs twice, whose lengths are its own.
+    /// The digest algorithm that HMAC runs. A tag has its `output_len` bytes, a block its
+    /// `block_len` bytes.
     pub fn digest_algorithm(&self) -> digest::Algorithm
         ensures { result ≡ hmac_digest self.now }
     {
@@ -39,7 +40,7 @@ impl Algorithm {
     }
 }
 
-/// Each constant is HMAC over the digest algorithm of its name: a law, whose call does nothing.
+/// States that each constant is HMAC over the digest algorithm of its name. The call does nothing.
 pub fn constants_are_based_on_their_digests()
     ensures sha1 { hmac_digest HMAC_SHA1_FOR_LEGACY_USE_ONLY ≡ SHA1_FOR_LEGACY_USE_ONLY }
     ensures sha256 { hmac_digest HMAC_SHA256 ≡ SHA256 }
@@ -47,7 +48,7 @@ pub fn constants_are_based_on_their_digests()
     ensures sha512 { hmac_digest HMAC_SHA512 ≡ SHA512 }
 {}
 
-/// The name of the digest algorithm, as in `Algorithm(SHA256)`.
+/// Writes the name of the digest algorithm, as in `Algorithm(SHA256)`.
 impl fmt::Debug for Algorithm {
     ghost debug_output = { λ a. Some (codes "Algorithm(" ++ name_of (hmac_digest a) ++ codes ")") };
 

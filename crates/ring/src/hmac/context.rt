@@ -1,4 +1,4 @@
-//! A context for a message in pieces.
+//! The tag of a message that arrives in pieces.
 
 ghost use Rattle.std.specs.Prelude.{◌≡◌, ◌↔◌, ℕ, ◌+◌, ◌-◌, ◌%◌, ◌<◌, ◌≤◌, List, [], ◌++◌};
 ghost use Rattle.std.specs.Prelude.{Some, codes, length, IfOk, IsErr, OnOk, OnErr};
@@ -16,7 +16,8 @@ use ring_core::cost::Meter;
 use ring_core::error::Unspecified;
 use std::fmt;
 
-/// The tag of a message that comes in pieces: it stands for a key and the joined pieces.
+/// The tag of a message that arrives in pieces. A context stands for a key and for the pieces so
+/// far, joined.
 #[derive(Drop)]
 pub struct Context {
     pub(crate) inner: digest::Context,
@@ -31,8 +32,8 @@ impl Context {
     ghost use Rattle.ring.specs.Hmac.{key_algorithm, signing_algorithm};
     ghost use Rattle.ring.specs.Hmac.{signing_len, signing_pending, tag_algorithm};
 
-    /// A context of the empty message under `signing_key`. No block is run: it starts from copies
-    /// of the key's states.
+    /// Starts the tag of a message under `signing_key` (RFC 2104, section 2). The message is empty
+    /// so far. No block is run: the context copies the key's two states.
     pub fn with_key(signing_key: &Key) -> Self
         ensures stands { (k : List ℕ) → KeyStandsFor signing_key.now k → TagStandsFor result k [] }
         ensures algorithm { signing_algorithm result ≡ key_algorithm signing_key.now }
@@ -45,7 +46,7 @@ impl Context {
         }
     }
 
-    /// The same context: a copy that goes on by itself.
+    /// A copy, which goes on separately.
     pub fn clone(&self) -> Self
         ensures { result ≡ self.now }
     {
@@ -55,7 +56,8 @@ impl Context {
         }
     }
 
-    /// Adds `input` to the message, as [`Context::update`] does, its blocks counted by `meter`.
+    /// Adds `input` to the message as [`Context::update`] does, and counts on `meter` the blocks
+    /// that it completes.
     pub fn update_counted(&mut self, input: &[u8], meter: &mut Meter)
         ensures cost { meter.new ≡ raised meter.old (whole_blocks
             (signing_algorithm self.old) (signing_pending self.old + length input.now)) 0 }
@@ -72,8 +74,9 @@ impl Context {
         self.inner.update_counted(input, meter);
     }
 
-    /// Adds `input` to the message, and runs each block as soon as it is complete. It never fails:
-    /// `sign` tells where the message is too long.
+    /// Adds `input` to the message, and runs each block that is complete (RFC 2104, section 2).
+    ///
+    /// This is never refused: where the message is too long, [`Context::sign`] is.
     pub fn update(&mut self, input: &[u8])
         ensures stands { (k m : List ℕ) → TagStandsFor self.old k m
             → TagStandsFor self.new k (m ++ input.now) }
@@ -85,7 +88,8 @@ impl Context {
         self.update_counted(input, &mut Meter::new());
     }
 
-    /// The tag of the message, as [`Context::sign`] gives it, its blocks counted by `meter`.
+    /// Returns the tag as [`Context::sign`] does, and counts the last blocks on `meter`. A refusal
+    /// leaves `meter` as it was.
     pub fn sign_counted(self, meter: &mut Meter) -> Result<Tag, Unspecified>
         ensures ok { (k m : List ℕ) → TagStandsFor self k m
             → IfOk result (λ tag. IsTag tag (signing_algorithm self) k m) }
@@ -109,10 +113,10 @@ impl Context {
         Ok(Tag::new(value))
     }
 
-    /// The tag of the message (RFC 2104, section 2).
+    /// Returns the tag of the message (RFC 2104, section 2).
     ///
     /// Refused where one block and the message together are longer than the digest algorithm's
-    /// `max_input_len` bytes, before any further block is run.
+    /// `max_input_len` bytes.
     pub fn sign(self) -> Result<Tag, Unspecified>
         ensures ok { (k m : List ℕ) → TagStandsFor self k m
             → IfOk result (λ tag. IsTag tag (signing_algorithm self) k m) }
@@ -127,7 +131,7 @@ impl Context {
     }
 }
 
-/// The name of the digest algorithm alone, as in `Context { algorithm: SHA256 }`.
+/// Writes the name of the digest algorithm alone, as in `Context { algorithm: SHA256 }`.
 impl fmt::Debug for Context {
     ghost use Rattle.ring.specs.Hmac.{signing_algorithm};
 

@@ -1,4 +1,4 @@
-//! Keys: two states, each after one block.
+//! Keys: the two states of HMAC after the key's blocks.
 
 ghost use Rattle.std.specs.Prelude.{◌≡◌, ◌↔◌, ◌-◌, ◌<◌, ◌≤◌, ◌++◌, Some, codes, drop, false};
 ghost use Rattle.std.specs.Prelude.{length, replicate, take, IfOk, IsErr, OnOk, OnErr};
@@ -18,13 +18,13 @@ use ring_core::cost::Meter;
 use ring_core::error::Unspecified;
 use std::fmt;
 
-// What turns the key's block into the one before the message (RFC 2104, section 2).
+// The mask of the key's block before the message (RFC 2104, section 2).
 const IPAD: u8 = 0x36;
 
-// What turns the key's block into the one before the inner digest.
+// The mask of the key's block before the inner digest.
 const OPAD: u8 = 0x5c;
 
-/// A key: the states after its two masked blocks, so that no signing runs these again.
+/// A key. It holds the states after its two masked blocks, which no signing runs again.
 #[derive(Drop)]
 pub struct Key {
     pub(crate) inner: BlockContext,
@@ -87,7 +87,9 @@ fn masked_state(
 impl Key {
     ghost use Rattle.ring.specs.Hmac.{KeyStandsFor, hmac_digest, key_algorithm};
 
-    /// The key of the bytes `key_value`, as [`Key::new`] gives it, its blocks counted by `meter`.
+    /// Makes the key of `key_value` as [`Key::new`] does, and counts its blocks on `meter`: two,
+    /// and those of the digest of a value that is longer than a block. A refusal leaves `meter` as
+    /// it was.
     pub fn new_counted(
         algorithm: Algorithm,
         key_value: &[u8],
@@ -108,11 +110,10 @@ impl Key {
         Ok(Key { inner, outer })
     }
 
-    /// The key of the bytes `key_value` (RFC 2104, section 2). A value that is longer than a block
-    /// stands for its digest, and one of a block's length for itself.
+    /// Makes the key of the bytes `key_value` for `algorithm` (RFC 2104, section 2). A value that
+    /// is longer than a block is replaced by its digest.
     ///
-    /// Refused where the value is longer than the digest algorithm's `max_input_len` bytes, before
-    /// any block is run.
+    /// Refused where the value is longer than the digest algorithm's `max_input_len` bytes.
     pub fn new(algorithm: Algorithm, key_value: &[u8]) -> Result<Self, Unspecified>
         ensures ok { IfOk result (λ key. KeyStandsFor key key_value.now) }
         ensures refused { IsErr result
@@ -122,10 +123,10 @@ impl Key {
         Key::new_counted(algorithm, key_value, &mut Meter::new())
     }
 
-    /// A key of the source's next bytes, as many as the algorithm's digests have. The source is
-    /// asked once.
+    /// Makes a key for `algorithm` of the next bytes of the source `rng`, as many as a digest has
+    /// (RFC 2104, section 3).
     ///
-    /// Refused where the source isn't ready for so many, and keeps all of its bytes then.
+    /// Refused where the source is not ready for so many bytes. It then keeps all of its bytes.
     pub fn generate(algorithm: Algorithm, rng: &mut dyn SecureRandom) -> Result<Self, Unspecified>
         ensures ok { IfOk result (λ key.
             KeyStandsFor key (take (output_len (hmac_digest algorithm)) (left rng.old))) }
@@ -146,14 +147,14 @@ impl Key {
         Key::new(algorithm, value)
     }
 
-    /// The algorithm of its tags.
+    /// The algorithm that the key is for.
     pub fn algorithm(&self) -> Algorithm
         ensures { hmac_digest result ≡ key_algorithm self.now }
     {
         Algorithm::over(self.inner.algorithm)
     }
 
-    /// The same key.
+    /// A copy of the key.
     pub fn clone(&self) -> Self
         ensures { result ≡ self.now }
     {
@@ -164,7 +165,7 @@ impl Key {
     }
 }
 
-/// The name of the digest algorithm alone, as in `Key { algorithm: SHA256 }`.
+/// Writes the name of the digest algorithm alone, as in `Key { algorithm: SHA256 }`.
 impl fmt::Debug for Key {
     ghost use Rattle.ring.specs.Hmac.{key_algorithm};
 

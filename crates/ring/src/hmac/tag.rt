@@ -1,11 +1,11 @@
-//! Tags as values.
+//! The tag that a call returns.
 
 ghost use Rattle.std.specs.Prelude.{◌≡◌, length};
 ghost use Rattle.ring.specs.Algorithm.{output_len};
 
 use crate::digest::Digest;
 
-/// A tag, and the algorithm that made it.
+/// A tag, and the algorithm that computed it.
 #[derive(Clone, Copy, Debug)]
 pub struct Tag(Digest);
 
@@ -19,7 +19,7 @@ impl Tag {
         Tag(value)
     }
 
-    /// The tag: as many bytes as the algorithm's digests have.
+    /// The bytes of the tag, as many as a digest of its algorithm has.
     pub fn as_ref(&self) -> &[u8]
         ensures bytes { result.now ≡ tag_bytes self.now }
         ensures len { length result.now ≡ output_len (tag_algorithm self.now) }

@@ -1,4 +1,4 @@
-//! The four algorithms.
+//! The four PBKDF2 algorithms.
 
 ghost use Rattle.std.specs.Prelude.{◌≡◌};
 ghost use Rattle.ring.specs.Hmac.{hmac_digest};
@@ -9,20 +9,21 @@ use crate::hmac::algorithm::{
     self as hmac, HMAC_SHA1_FOR_LEGACY_USE_ONLY, HMAC_SHA256, HMAC_SHA384, HMAC_SHA512,
 };
 
-/// A PBKDF2 algorithm: one of the four constants below, each PBKDF2 over an HMAC algorithm.
+/// A PBKDF2 algorithm: one of the four constants of this module, each PBKDF2 over an HMAC
+/// algorithm.
 #[derive(Clone, Copy, PartialEq, Eq)]
 pub struct Algorithm(hmac::Algorithm);
 
-/// PBKDF2 over HMAC with SHA-1.
+/// PBKDF2 over HMAC-SHA-1.
 pub const PBKDF2_HMAC_SHA1: Algorithm = Algorithm(HMAC_SHA1_FOR_LEGACY_USE_ONLY);
 
-/// PBKDF2 over HMAC with SHA-256.
+/// PBKDF2 over HMAC-SHA-256.
 pub const PBKDF2_HMAC_SHA256: Algorithm = Algorithm(HMAC_SHA256);
 
-/// PBKDF2 over HMAC with SHA-384.
+/// PBKDF2 over HMAC-SHA-384.
 pub const PBKDF2_HMAC_SHA384: Algorithm = Algorithm(HMAC_SHA384);
 
-/// PBKDF2 over HMAC with SHA-512.
+/// PBKDF2 over HMAC-SHA-512.
 pub const PBKDF2_HMAC_SHA512: Algorithm = Algorithm(HMAC_SHA512);
 
 impl Algorithm {
@@ -34,8 +35,8 @@ impl Algorithm {
     }
 }
 
-/// Each constant is PBKDF2 over HMAC with the digest algorithm of its name: a law, whose call does
-/// nothing.
+/// States that each constant is PBKDF2 over HMAC with the digest algorithm of its name. The call
+/// does nothing.
 pub fn constants_are_based_on_their_digests()
     ensures sha1 { pbkdf2_digest PBKDF2_HMAC_SHA1 ≡ SHA1_FOR_LEGACY_USE_ONLY }
     ensures sha256 { pbkdf2_digest PBKDF2_HMAC_SHA256 ≡ SHA256 }

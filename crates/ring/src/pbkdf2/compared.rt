@@ -1,4 +1,4 @@
-//! Keys that were derived from several secrets, tested at once.
+//! The verification of several values at once.
 
 ghost use Rattle.std.specs.Prelude.{◌≡◌, ◌↔◌, ℕ, ◌+◌, ◌-◌, ◌*◌, ◌^◌, ◌<◌, ◌≤◌, List, [], false};
 ghost use Rattle.std.specs.Prelude.{IsOk, IsTrue, OnErr, OnOk, drop, get_or, length, take};
@@ -229,8 +229,9 @@ fn verify_all<const N: usize>(
     }
 }
 
-/// Tests several values, as [`verify_each`] does, their blocks and their pairs of bytes counted by
-/// `meter`: for each value as many as [`verify_counted`](crate::pbkdf2::verify_counted) counts.
+/// Tests several values as [`verify_each`] does, and counts their blocks and the compared pairs of
+/// bytes on `meter`: for each value as many as [`verify_counted`](crate::pbkdf2::verify_counted). A
+/// refusal leaves `meter` as it was.
 pub fn verify_each_counted<const N: usize>(
     algorithm: Algorithm,
     iterations: NonZeroU32,
@@ -270,16 +271,17 @@ pub fn verify_each_counted<const N: usize>(
     Ok(())
 }
 
-/// Makes `matches` true exactly at the places where [`verify`](crate::pbkdf2::verify) would be Ok
-/// with the secret, the salt and the value of `N` bytes there.
+/// Sets each place of `matches` to whether [`verify`](crate::pbkdf2::verify) would be Ok there,
+/// with the same `algorithm` and `iterations` and with the values of `salts`, `secrets` and
+/// `previously_derived` at that place, of `N` bytes each (RFC 2898, section 5.2).
 ///
-/// Where there are four values or more under SHA-1 or SHA-256, it is faster than one after another:
-/// four at a time run side by side. All bytes of all values are compared, wherever they differ.
+/// Under SHA-1 and SHA-256 four values at a time run side by side, which is faster than one after
+/// another.
 ///
-/// Refused where there aren't as many salts, secrets and values as places in `matches`, or where
-/// there are any and `N` is 0 or [`derive`](crate::pbkdf2::derive) would refuse a secret and its
-/// salt for `N` bytes, before any block is run and any answer is written. A value that differs is
-/// no refusal: it is told in `matches` alone.
+/// Refused where there are more or fewer salts, secrets or values than places in `matches`, and
+/// where there is a place and `N` is 0 or [`derive`](crate::pbkdf2::derive) refuses the secret and
+/// the salt there for `N` bytes. `matches` is then unchanged. A value that differs is no refusal:
+/// its place in `matches` is false.
 pub fn verify_each<const N: usize>(
     algorithm: Algorithm,
     iterations: NonZeroU32,

@@ -1,4 +1,4 @@
-//! Keys derived from several secrets at once.
+//! The derivation of several keys at once.
 
 ghost use Rattle.std.specs.Prelude.{◌≡◌, ◌↔◌, ℕ, ◌*◌, ◌<◌, ◌≤◌, [], IsOk, IsTrue, OnErr, OnOk};
 ghost use Rattle.std.specs.Prelude.{get_or, length};
@@ -107,8 +107,9 @@ fn write_each<const N: usize>(
     }
 }
 
-/// Derives several keys, as [`derive_each`] does, their blocks counted by `meter`: for each key as
-/// many as [`derive_counted`](crate::pbkdf2::derive_counted) counts.
+/// Derives several keys as [`derive_each`] does, and counts their blocks on `meter`: for each key
+/// as many as [`derive_counted`](crate::pbkdf2::derive_counted). A refusal leaves `meter` as it
+/// was.
 pub fn derive_each_counted<const N: usize>(
     algorithm: Algorithm,
     iterations: NonZeroU32,
@@ -137,15 +138,15 @@ pub fn derive_each_counted<const N: usize>(
     Ok(())
 }
 
-/// Derives a key of `N` bytes from each secret and the salt at its place, with the same number of
-/// iterations, into the place of `out` of the same number (RFC 2898, section 5.2).
+/// Derives a key of `N` bytes for each place of `out`, with the same `algorithm` and `iterations`,
+/// from the values of `salts` and `secrets` at that place (RFC 2898, section 5.2).
 ///
-/// It gives what [`derive`](crate::pbkdf2::derive) gives for each of them, and where there are four
-/// secrets or more under SHA-1 or SHA-256, it is faster: four at a time run side by side.
+/// The keys are those that [`derive`](crate::pbkdf2::derive) writes. Under SHA-1 and SHA-256 four
+/// keys at a time run side by side, which is faster than one after another.
 ///
-/// Refused where there aren't as many salts and as many secrets as places in `out`, or where
-/// [`derive`](crate::pbkdf2::derive) would refuse a secret and its salt for `N` bytes, before any
-/// block is run and any byte is written.
+/// Refused where there are more or fewer salts or secrets than places in `out`, and where
+/// [`derive`](crate::pbkdf2::derive) refuses a secret and its salt for `N` bytes. `out` is then
+/// unchanged.
 pub fn derive_each<const N: usize>(
     algorithm: Algorithm,
     iterations: NonZeroU32,

@@ -1,4 +1,5 @@
-//! Four chaining states of 32-bit words side by side, for four messages at a time.
+//! Four chaining states of 32-bit words (FIPS 180-4, 6.1 and 6.2), one in each lane of a vector,
+//! for four messages at a time.
 ghost use Rattle.std.specs.Prelude.{◌≡◌, ℕ, ◌<◌, slice_index};
 ghost use Rattle.ring_core.specs.Bytes.{xor_lists};
 ghost use Rattle.ring_core.specs.Lane.{word_of_lane, words_of_lane};
@@ -9,7 +10,7 @@ use crate::digest::word::four::FourWords;
 use crate::digest::word::lane_word::LaneWord;
 use std::num::Wrapping;
 
-/// Four states of eight words of 32 bits, one in each lane.
+/// Four states of eight 32-bit words, one in each lane.
 #[derive(Clone, Copy)]
 pub struct FourStates {
     pub(crate) words: [FourWords; 8],
@@ -42,7 +43,7 @@ fn words_at(
 }
 
 impl FourStates {
-    /// Four states, the first in lane 0.
+    /// The states `first`, `second`, `third` and `fourth`, in lanes 0 to 3.
     pub fn new(
         first: &[Wrapping<u32>; 8],
         second: &[Wrapping<u32>; 8],
@@ -68,7 +69,7 @@ impl FourStates {
         }
     }
 
-    /// The same state in each lane.
+    /// The same `state` in each lane.
     pub fn splat(state: &[Wrapping<u32>; 8]) -> FourStates
         ensures { (i : ℕ) → words_of_lane i result ≡ words_32 state.now }
     {
@@ -86,7 +87,7 @@ impl FourStates {
         }
     }
 
-    /// The state in lane `i`, of four.
+    /// The state in lane `i`, which must be below 4.
     pub fn state(&self, i: usize) -> [Wrapping<u32>; 8]
         requires { i < 4 }
         ensures { words_32 result ≡ words_of_lane i self.now }
@@ -104,7 +105,8 @@ impl FourStates {
         ]
     }
 
-    /// Xors the words of `other` into these, each lane's into the same lane.
+    /// Replaces the words of each lane by their exclusive or with those of `other` in the same
+    /// lane.
     #[inline(always)]
     pub fn xor_assign(&mut self, other: &FourStates)
         ensures { (i : ℕ) → words_of_lane i self.new

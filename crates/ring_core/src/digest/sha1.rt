@@ -23,15 +23,15 @@ use std::simd::Simd;
 
 pub(crate) type Word32 = Wrapping<u32>;
 
-/// The bytes of SHA-1's five chaining words.
+/// The length in bytes of SHA-1's five chaining words.
 pub const CHAINING_LEN: usize = 20;
 
 // Their number.
 const CHAINING_WORDS: usize = 5;
 
-// What a block function reads its block from. The rounds take it as an argument, so that each form
-// has rounds of its own: the compiler writes them in line where they have one caller, and where
-// they had two it called them, which took a fifth longer.
+// Where the block function reads its block from. The rounds take this as a const argument, so that
+// each form has its own copy of them: the compiler inlines rounds that have one caller. With two
+// callers it called them, which took a fifth longer.
 const BYTES: usize = 0;
 
 const WORDS: usize = 1;
@@ -224,8 +224,7 @@ fn run_block(state: &mut [Word32; 8], block: &[u8])
     run_loaded::<Word32, BYTES>(&mut ring, state);
 }
 
-/// Replaces the first five words of `state` by SHA-1's hash computation over each block of 64 bytes
-/// in turn (6.1.2), and leaves the last three; `meter` counts the blocks.
+/// Runs the block function as [`sha1_block_data_order`] does, and counts each block on `meter`.
 pub fn sha1_block_data_order_counted(
     state: &mut [Wrapping<u32>; 8],
     blocks: AsChunks<'_, u8, 64>,
@@ -243,8 +242,9 @@ pub fn sha1_block_data_order_counted(
     }
 }
 
-/// Replaces the first five words of `state` by SHA-1's hash computation over each block of 64 bytes
-/// in turn (6.1.2), and leaves the last three.
+/// Runs SHA-1's block function over each of `blocks`, of 64 bytes, in order (6.1.2).
+///
+/// The first five words of `state` are the chaining words, which are replaced. The last three stay.
 pub fn sha1_block_data_order(state: &mut [Wrapping<u32>; 8], blocks: AsChunks<'_, u8, 64>)
     ensures words { take 5 (map word_32 state.new)
         ≡ blocks_from (take 5 (map word_32 state.old))
@@ -265,9 +265,11 @@ fn run_four_blocks(state: &mut [FourWords; 8], blocks: &[[u8; 64]; 4])
     run_loaded::<FourWords, BYTES>(&mut ring, state);
 }
 
-/// Replaces the first five words of the state in each of four lanes by SHA-1's hash computation
-/// over the lane's block of 64 bytes (6.1.2), and leaves the last three; `meter` counts the four
-/// blocks.
+/// Runs SHA-1's block function in each of four lanes (6.1.2): over the state in lane i of `states`
+/// and block i of `blocks`, of 64 bytes.
+///
+/// In each lane the first five words are replaced, and the last three stay. Four blocks are counted
+/// on `meter`.
 pub fn sha1_block_data_order_four_counted(
     states: &mut FourStates,
     blocks: &[[u8; 64]; 4],
@@ -296,9 +298,12 @@ fn run_words(state: &mut [Word32; 8], front: &[Word32; 8], padding: &[Word32; 16
     run_loaded::<Word32, WORDS>(&mut ring, state);
 }
 
-/// Replaces the first five words of `state` by SHA-1's hash computation over one block (6.1.2), and
-/// leaves the last three; `meter` counts the block. Its words are the first five of `front`, as a
-/// state ends with them, and those of `padding` from the sixth on.
+/// Runs SHA-1's block function over one block that is given as words (6.1.2): the first five words
+/// of `front`, and then those of `padding` from the sixth on. So a digest is hashed again without
+/// its bytes.
+///
+/// The first five words of `state` are replaced, and the last three stay. One block is counted on
+/// `meter`.
 pub fn sha1_block_of_words_counted(
     state: &mut [Wrapping<u32>; 8],
     front: &[Wrapping<u32>; 8],
@@ -328,9 +333,12 @@ fn run_four_words(state: &mut [FourWords; 8], front: &[FourWords; 8], padding: &
     run_loaded::<FourWords, WORDS>(&mut ring, state);
 }
 
-/// Replaces the first five words of the state in each of four lanes by SHA-1's hash computation
-/// over one block (6.1.2), and leaves the last three; `meter` counts the four blocks. A block's
-/// words are the first five of its lane of `fronts`, and those of `padding` from the sixth on.
+/// Runs SHA-1's block function in each of four lanes, over one block that is given as words
+/// (6.1.2): the first five words of the lane in `fronts`, and then those of `padding` from the
+/// sixth on, the same in all lanes.
+///
+/// In each lane of `states` the first five words are replaced, and the last three stay. Four blocks
+/// are counted on `meter`.
 pub fn sha1_block_of_words_four_counted(
     states: &mut FourStates,
     fronts: &FourStates,

@@ -1,5 +1,5 @@
-//! The block functions of SHA-2 (FIPS 180-4, 6.2.2 and 6.4.2), written once for both sizes of
-//! words, but for the schedule's step in `lanes`.
+//! The block functions of SHA-2 (FIPS 180-4, 6.2.2 and 6.4.2), written once for both word sizes.
+//! The schedule's step alone has a form for each, in `lanes`.
 ghost use Rattle.std.specs.Prelude.{◌≡◌, ℕ, ◌+◌, ◌*◌, ◌/◌, ◌%◌, ◌<◌, ◌≤◌};
 ghost use Rattle.std.specs.Prelude.{List, [], get_or, length, map};
 ghost use Rattle.ring_core.specs.Cost.{raised};
@@ -29,13 +29,13 @@ use crate::polyfill::slice::AsChunks;
 use std::num::Wrapping;
 use std::simd::Simd;
 
-// The rounds take as an argument how many words of a block come from a state, and this where they
-// are read from bytes, so that each form has rounds of its own: the compiler writes them in line
-// where they have one caller, and where they had two it called them, which took a fifth longer.
+// The rounds take as a const argument how many words of a block come from a state, and this where
+// the block is read from bytes, so that each form has its own copy of them: the compiler inlines
+// rounds that have one caller. With two callers it called them, which took a fifth longer.
 const BYTES: usize = 0;
 
-// ROTR first ⊕ ROTR second ⊕ ROTR third, one inside the other: side by side they need two copies of
-// the word more, and these take longer than each waits for the next.
+// ROTR first ⊕ ROTR second ⊕ ROTR third, nested: each rotation waits for the one inside it, but
+// three independent rotations need two more copies of the word, which takes longer.
 #[inline(always)]
 fn rotations<S: LaneWord>(x: S, counts: (u32, u32, u32)) -> S
     requires first { 1 ≤ counts.0 }
@@ -78,8 +78,8 @@ fn round<S: LaneWord>(v: [S; 8], sum: S) -> [S; 8]
     [temp1.plus(temp2), a, b, c, d.plus(temp1), e, f, g]
 }
 
-// From here to `run_block` each function is written in line in its caller, whatever the compiler's
-// thresholds: slots are then literals, and no variable is copied from round to round.
+// From here to `run_block` each function is always inlined: slots are then literals, and no
+// variable is copied from round to round.
 
 // Rounds `16 * turn + place` and the next, by the words at `place`.
 #[inline(always)]
@@ -223,14 +223,13 @@ fn run_blocks<S: Lanes, const N: usize>(
     }
 }
 
-/// The chaining words of SHA-256; the first five of SHA-1's, whose last three stay 0.
+/// The chaining words of SHA-256. SHA-1 uses the first five and leaves the last three 0.
 pub type State32 = [Wrapping<u32>; 8];
 
 /// The chaining words of SHA-384, SHA-512 and SHA-512/256.
 pub type State64 = [Wrapping<u64>; 8];
 
-/// Replaces `state` by SHA-256's hash computation over each block of 64 bytes in turn (6.2.2);
-/// `meter` counts the blocks.
+/// Runs the block function as [`block_data_order_32`] does, and counts each block on `meter`.
 pub fn block_data_order_32_counted(
     state: &mut State32,
     blocks: AsChunks<'_, u8, 64>,
@@ -244,7 +243,8 @@ pub fn block_data_order_32_counted(
     run_blocks(&mut [0u64; 16], state, blocks, meter)
 }
 
-/// Replaces `state` by SHA-256's hash computation over each block of 64 bytes in turn (6.2.2).
+/// Runs SHA-256's block function over each of `blocks`, of 64 bytes, in order, and replaces the
+/// chaining words `state` (6.2.2).
 pub fn block_data_order_32(state: &mut State32, blocks: AsChunks<'_, u8, 64>)
     ensures words { words_32 state.new
         ≡ blocks_from family_256 (words_32 state.old)
@@ -253,8 +253,7 @@ pub fn block_data_order_32(state: &mut State32, blocks: AsChunks<'_, u8, 64>)
     block_data_order_32_counted(state, blocks, &mut Meter::new())
 }
 
-/// Replaces `state` by SHA-512's hash computation, which SHA-384 and SHA-512/256 share, over each
-/// block of 128 bytes in turn (6.4.2); `meter` counts the blocks.
+/// Runs the block function as [`block_data_order_64`] does, and counts each block on `meter`.
 pub fn block_data_order_64_counted(
     state: &mut State64,
     blocks: AsChunks<'_, u8, 128>,
@@ -268,8 +267,8 @@ pub fn block_data_order_64_counted(
     run_blocks(&mut [Wrapping(0u64); 16], state, blocks, meter)
 }
 
-/// Replaces `state` by SHA-512's hash computation, which SHA-384 and SHA-512/256 share, over each
-/// block of 128 bytes in turn (6.4.2).
+/// Runs SHA-512's block function, which SHA-384 and SHA-512/256 share, over each of `blocks`, of
+/// 128 bytes, in order, and replaces the chaining words `state` (6.4.2).
 pub fn block_data_order_64(state: &mut State64, blocks: AsChunks<'_, u8, 128>)
     ensures words { words_64 state.new
         ≡ blocks_from family_512 (words_64 state.old)
@@ -288,8 +287,9 @@ fn run_four_blocks(state: &mut [FourWords; 8], blocks: &[[u8; 64]; 4])
     run_loaded::<FourWords, BYTES>(&mut ring, state);
 }
 
-/// Replaces the state in each of four lanes by SHA-256's hash computation over the lane's block of
-/// 64 bytes (6.2.2); `meter` counts the four blocks.
+/// Runs SHA-256's block function in each of four lanes (6.2.2): over the state in lane i of
+/// `states`, which is replaced, and block i of `blocks`, of 64 bytes. Four blocks are counted on
+/// `meter`.
 pub fn block_data_order_32_four_counted(
     states: &mut FourStates,
     blocks: &[[u8; 64]; 4],
@@ -339,8 +339,9 @@ fn run_counted_words<S: Lanes, const N: usize>(
     meter.add_block();
 }
 
-/// Replaces `state` by SHA-256's hash computation over one block (6.2.2); `meter` counts it. Its
-/// words are those of `front`, as a state ends with them, and the last eight of `padding`.
+/// Runs SHA-256's block function over one block that is given as words, and replaces the chaining
+/// words `state` (6.2.2). The block is the eight words of `front` and then the last eight of
+/// `padding`, so that a digest is hashed again without its bytes. One block is counted on `meter`.
 pub fn block_of_words_32_counted(
     state: &mut State32,
     front: &State32,
@@ -354,9 +355,9 @@ pub fn block_of_words_32_counted(
     run_counted_words::<Wrapping<u32>, 8>(&mut [0u64; 16], state, front, padding, meter)
 }
 
-/// Replaces `state` by SHA-512's hash computation, which SHA-384 and SHA-512/256 share, over one
-/// block (6.4.2); `meter` counts it. Its words are the first `N` of `front`, at most eight, and
-/// those of `padding` past them.
+/// Runs SHA-512's block function, which SHA-384 and SHA-512/256 share, over one block that is given
+/// as words, and replaces the chaining words `state` (6.4.2). The block is the first `N` words of
+/// `front`, at most eight, and then those of `padding` past them. One block is counted on `meter`.
 pub fn block_of_words_64_counted<const N: usize>(
     state: &mut State64,
     front: &State64,
@@ -383,9 +384,10 @@ fn run_four_words(state: &mut [FourWords; 8], front: &[FourWords; 8], padding: &
     run_loaded::<FourWords, 8>(&mut ring, state);
 }
 
-/// Replaces the state in each of four lanes by SHA-256's hash computation over one block (6.2.2);
-/// `meter` counts the four blocks. A block's words are those of its lane of `fronts`, and the last
-/// eight of `padding`.
+/// Runs SHA-256's block function in each of four lanes, over one block that is given as words
+/// (6.2.2): the eight words of the lane in `fronts`, and then the last eight of `padding`, the same
+/// in all lanes. The states in the lanes of `states` are replaced. Four blocks are counted on
+/// `meter`.
 pub fn block_of_words_32_four_counted(
     states: &mut FourStates,
     fronts: &FourStates,

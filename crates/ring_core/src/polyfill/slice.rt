@@ -17,8 +17,8 @@ mod view;
 
 pub use crate::polyfill::slice::view::{AsChunks, AsChunksIter};
 
-/// The longest front of `slice` that is whole chunks of `N` items, and the rest, which is shorter
-/// than `N`. `N` is not 0.
+/// Splits `slice` into as many whole chunks of `N` items as it has, and the rest, which has fewer
+/// than `N` items. `N` must not be 0.
 pub fn as_chunks<T, const N: usize>(slice: &[T]) -> (AsChunks<'_, T, N>, &[T])
     requires { 0 < N }
     ensures front { chunk_items result.0 ≡ take (chunk_count N (length slice.now) * N) slice.now }

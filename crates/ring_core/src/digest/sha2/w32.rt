@@ -36,6 +36,7 @@ fn read(block: &[u8], j: usize) -> u32
     u32::from_be_bytes(*block[at..at + 4].as_array::<4>().unwrap())
 }
 
+/// The numbers of SHA-256 (FIPS 180-4, 4.1.2 and 4.2.2): 64 rounds.
 impl Sha2 for Wrapping<u32> {
     const BIG_SIGMA_0: (u32, u32, u32) = (2, 13, 22);
 

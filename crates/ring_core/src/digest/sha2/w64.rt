@@ -37,6 +37,7 @@ fn read(block: &[u8], j: usize) -> u64
     u64::from_be_bytes(*block[at..at + 8].as_array::<8>().unwrap())
 }
 
+/// The numbers of SHA-384, SHA-512 and SHA-512/256 (FIPS 180-4, 4.1.3 and 4.2.3): 80 rounds.
 impl Sha2 for Wrapping<u64> {
     const BIG_SIGMA_0: (u32, u32, u32) = (28, 34, 39);
 

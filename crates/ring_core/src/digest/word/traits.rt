@@ -1,15 +1,15 @@
-//! What is asked of a word of either size (FIPS 180-4, 3.2 and 4.1).
+//! The traits of words of 32 and of 64 bits (FIPS 180-4, 3.2 and 4.1).
 ghost use Rattle.std.specs.Prelude.{◌≡◌, ℕ, ◌*◌, ◌/◌, ◌^◌, ◌<◌, ◌≤◌, ◌⊎◌};
 ghost use Rattle.std.specs.Prelude.{List, length, slice_index, bit_and, bit_or, bit_xor};
 ghost use Rattle.ring_core.specs.Sha2.{Family, family_256, family_512};
 ghost use Rattle.ring_core.specs.Word.{◌⊕◌, add_words, big_endian, complement, rotr, shr, word_at};
 
-/// A word of 32 or 64 bits with the operations of FIPS 180-4, 2.2.2 and 3.2.
+/// A word of 32 or 64 bits, with the operations of FIPS 180-4, 2.2.2 and 3.2.
 pub trait Word: Copy {
-    /// The word of zero bits.
+    /// The word whose bits are 0.
     const ZERO: Self;
 
-    /// The bytes that make a word: four or eight.
+    /// The bytes of a word: an array of four or of eight.
     type InputBytes: Copy;
 
     // the number of bits
@@ -23,31 +23,31 @@ pub trait Word: Copy {
 
     ghost ZERO: { Self };
 
-    /// The word that the bytes write, the highest first.
+    /// The word whose bytes are `input`, high byte first (3.1).
     fn from_be_bytes(input: Self::InputBytes) -> Self
         ensures { value result ≡ big_endian (bytes input) };
 
-    /// The sum modulo 2 to the power of the bits (3.2, item 2).
+    /// The sum of the word and `o`, modulo 2 to the number of bits (3.2, item 2).
     fn plus(self, o: Self) -> Self
         ensures { value result ≡ add_words bits (value self) (value o) };
 
-    /// The bits that both words have.
+    /// The bits that are set in the word and in `o` (2.2.2).
     fn bit_and(self, o: Self) -> Self
         ensures { value result ≡ bit_and (value self) (value o) };
 
-    /// The bits that a word or the other has.
+    /// The bits that are set in the word, in `o` or in both (2.2.2).
     fn bit_or(self, o: Self) -> Self
         ensures { value result ≡ bit_or (value self) (value o) };
 
-    /// The bits that one word has and the other doesn't.
+    /// The bits that are set in one of the word and `o`, not in both (2.2.2).
     fn bit_xor(self, o: Self) -> Self
         ensures { value result ≡ value self ⊕ value o };
 
-    /// The bits that the word doesn't have.
+    /// The bits that are not set (2.2.2).
     fn bit_not(self) -> Self
         ensures { value result ≡ complement bits (value self) };
 
-    /// The word rotated right by `count` bits, at least 1 and fewer than a word has (3.2, item 4).
+    /// The word rotated right by `count` bits, at least 1 and fewer than it has (3.2, item 4).
     fn rotr(self, count: u32) -> Self
         requires positive { 1 ≤ count }
         requires below { count < bits }
@@ -59,21 +59,21 @@ pub trait Word: Copy {
     ghost zero_is: { value ZERO ≡ 0 };
 }
 
-/// A word of SHA-2, with the numbers of its algorithms (FIPS 180-4, 4.1.2, 4.1.3, 4.2.2, 4.2.3).
+/// A word of SHA-2, with the numbers of its algorithms (FIPS 180-4, 4.1.2, 4.1.3, 4.2.2 and 4.2.3).
 pub trait Sha2: Word {
-    /// The counts of the rotations whose exclusive or is Σ0.
+    /// The counts of the rotations in Σ0.
     const BIG_SIGMA_0: (u32, u32, u32);
 
-    /// The counts of the rotations whose exclusive or is Σ1.
+    /// The counts of the rotations in Σ1.
     const BIG_SIGMA_1: (u32, u32, u32);
 
-    /// The counts of the two rotations and the shift whose exclusive or is σ0.
+    /// The counts of the two rotations and of the shift in σ0.
     const SMALL_SIGMA_0: (u32, u32, usize);
 
-    /// The counts of the two rotations and the shift whose exclusive or is σ1.
+    /// The counts of the two rotations and of the shift in σ1.
     const SMALL_SIGMA_1: (u32, u32, usize);
 
-    /// How many rounds a block takes.
+    /// The number of rounds for a block.
     const ROUNDS: usize;
 
     // the standard's numbers
@@ -89,18 +89,18 @@ pub trait Sha2: Word {
 
     ghost ROUNDS: { ℕ };
 
-    /// The word shifted right by `count` bits, at least 1 and fewer than a word has (3.2, item 3).
+    /// The word shifted right by `count` bits, at least 1 and fewer than it has (3.2, item 3).
     fn shift_right(self, count: usize) -> Self
         requires positive { 1 ≤ count }
         requires below { count < Self.bits }
         ensures { Self.value result ≡ shr count (Self.value self) };
 
-    /// K of round `t`, below `ROUNDS`.
+    /// The constant K of round `t`, which must be below `ROUNDS` (4.2.2, 4.2.3).
     fn k(t: usize) -> Self
         requires { t < ROUNDS }
         ensures { Self.value result ≡ slice_index family.constants t };
 
-    /// Word `j`, below 16, of a block of 16 words, its bytes the highest first (5.2).
+    /// Word `j` of a `block` of 16 words, each high byte first (5.2). `j` must be below 16.
     fn read_word(block: &[u8], j: usize) -> Self
         requires place { j < 16 }
         requires whole { length block.now ≡ 16 * (Self.bits / 8) }

@@ -86,6 +86,7 @@ fn add_pairs(x: [Wrapping<u32>; 2], y: [u64; 2]) -> [Wrapping<u32>; 2]
     add_slots(first.0, second.0, y)
 }
 
+/// The words of SHA-1 and SHA-256: 32 bits.
 impl Word for Wrapping<u32> {
     const ZERO: Wrapping<u32> = Wrapping(0);
 

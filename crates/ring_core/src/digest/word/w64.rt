@@ -57,6 +57,7 @@ pub(crate) fn rotate_lanes(lanes: u64x2, count: u64) -> u64x2
     (lanes >> Simd::splat(count)) | (lanes << Simd::splat(64 - count))
 }
 
+/// The words of SHA-384, SHA-512 and SHA-512/256: 64 bits.
 impl Word for Wrapping<u64> {
     const ZERO: Wrapping<u64> = Wrapping(0);
 

@@ -1,4 +1,4 @@
-//! The view of a slice as whole chunks, and its walk.
+//! The view of a slice as whole chunks, and the iterator over them.
 ghost use Rattle.std.specs.Prelude.{◌≡◌, IfSome, ◌*◌, ◌<◌, IsTrue, ⊤, ◌↔◌, length, take, drop};
 ghost use Rattle.std.specs.Iterator.{UpTo, YieldsFirstRef, at_most};
 ghost use Rattle.std.specs.Iterator.SizeHint.{IsWithinCount};
@@ -7,7 +7,7 @@ ghost use Rattle.ring_core.specs.Chunks.{chunk_at, chunk_count, chunks};
 use std::alloc::AllocError;
 use std::ops::Index;
 
-/// A slice seen as whole chunks of `N` items each; where `N` is 0, as no chunk of no item.
+/// A slice seen as whole chunks of `N` items each. Where `N` is 0, it has no chunk.
 pub struct AsChunks<'a, T, const N: usize> {
     items: &'a [T],
     ghost whole: { chunk_count N (length items.now) * N ≡ length items.now },
@@ -39,14 +39,14 @@ impl<'a, T, const N: usize> AsChunks<'a, T, N> {
         (AsChunks { items }, rest)
     }
 
-    /// The one chunk `value`; none where `N` is 0.
+    /// The one chunk `value`. Where `N` is 0, there is no chunk.
     pub fn from_ref(value: &'a [T; N]) -> AsChunks<'a, T, N>
         ensures { chunk_items result ≡ value.now }
     {
         AsChunks { items: value }
     }
 
-    /// The items of all chunks, one chunk after the other.
+    /// The items of all chunks, in order.
     pub fn as_flattened(&self) -> &[T]
         ensures { result.now ≡ chunk_items self.now }
     {
@@ -60,7 +60,7 @@ impl<'a, T, const N: usize> AsChunks<'a, T, N> {
         self.len() == 0
     }
 
-    /// How many chunks there are; 0 where `N` is 0.
+    /// The number of chunks, which is 0 where `N` is 0.
     pub fn len(&self) -> usize
         ensures { result ≡ chunk_total self.now }
     {
@@ -68,6 +68,7 @@ impl<'a, T, const N: usize> AsChunks<'a, T, N> {
     }
 }
 
+/// The chunk at a place, which must be below [`AsChunks::len`].
 impl<'a, T, const N: usize> Index<usize> for AsChunks<'a, T, N> {
     ghost use Rattle.ring_core.specs.Views.{chunk_items, chunk_total};
 
@@ -83,13 +84,14 @@ impl<'a, T, const N: usize> Index<usize> for AsChunks<'a, T, N> {
     }
 }
 
-/// The walk over the chunks of a view: it lends each once, in order, and ends.
+/// The iterator over the chunks of a view, in order.
 #[derive(Drop)]
 pub struct AsChunksIter<'a, T, const N: usize> {
     rest: &'a [T],
     ghost whole: { chunk_count N (length rest.now) * N ≡ length rest.now },
 }
 
+/// Each chunk once. `size_hint` is exact.
 impl<'a, T, const N: usize> Iterator for AsChunksIter<'a, T, N> {
     ghost use Rattle.ring_core.specs.Views.{chunks_left, items_left};
 
@@ -118,6 +120,7 @@ impl<'a, T, const N: usize> Iterator for AsChunksIter<'a, T, N> {
     }
 }
 
+/// The iterator over all chunks.
 impl<'a, T, const N: usize> IntoIterator for AsChunks<'a, T, N> {
     ghost use Rattle.ring_core.specs.Views.{chunk_items, items_left};
 
@@ -133,6 +136,7 @@ impl<'a, T, const N: usize> IntoIterator for AsChunks<'a, T, N> {
     }
 }
 
+/// As [`AsChunks::from_ref`].
 impl<'a, T, const N: usize> From<&'a [T; N]> for AsChunks<'a, T, N> {
     ghost use Rattle.ring_core.specs.Views.{chunk_items};
 
@@ -143,6 +147,7 @@ impl<'a, T, const N: usize> From<&'a [T; N]> for AsChunks<'a, T, N> {
     }
 }
 
+/// The same items as chunks of 4, twice as many.
 impl<'a, T> From<AsChunks<'a, T, 8>> for AsChunks<'a, T, 4> {
     ghost use Rattle.ring_core.specs.Views.{chunk_items};
 

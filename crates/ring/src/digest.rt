@@ -4,6 +4,14 @@
 //! arrives in pieces:
 //!
 //! ```
+//! ghost use Rattle.std.specs.Prelude.{◌↔◌, ◌<◌, ◌++◌, length, IfOk, IsErr};
+//! ghost use Rattle.ring.specs.Algorithm.{max_input_len};
+//! ghost use Rattle.ring.specs.Digest.{IsDigest};
+//!
+//! use ring::digest::{Context, Digest, SHA256};
+//! use ring::error::Unspecified;
+//!
+//! /// The digest of two pieces taken as one message.
 //! pub fn digest_of_two(first: &[u8], second: &[u8]) -> Result<Digest, Unspecified>
 //!     ensures ok { IfOk result (λ digest. IsDigest digest SHA256 (first.now ++ second.now)) }
 //!     ensures refused { IsErr result ↔ (max_input_len SHA256 < length (first.now ++ second.now)) }
@@ -54,6 +62,9 @@
 //!     Ok(digests)
 //! }
 //! ```
+//!
+//! The imports of the last two examples stand in `pieces.rt` and `several.rt` of
+//! `crates/ring_uses/src`.
 
 ghost use Rattle.std.specs.Prelude.{◌≡◌, ◌↔◌, length, ◌<◌, IfOk, IsErr, OnOk, OnErr};
 ghost use Rattle.ring_core.specs.Cost.{raised};

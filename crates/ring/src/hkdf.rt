@@ -67,6 +67,8 @@
 //!     sign(&key, message)
 //! }
 //! ```
+//!
+//! The imports of these examples stand in `crates/ring_uses/src/hkdf.rt`.
 
 pub(crate) mod algorithm;
 mod conversions;

@@ -27,6 +27,8 @@
 //!     verify(&key, message, tag)
 //! }
 //! ```
+//!
+//! The imports of these examples stand in `crates/ring_uses/src/hmac.rt`.
 
 ghost use Rattle.std.specs.Prelude.{◌≡◌, ◌↔◌, ℕ, ◌+◌, ◌<◌};
 ghost use Rattle.std.specs.Prelude.{List, length, IfOk, IsOk, IsErr, OnOk, OnErr};

@@ -16,7 +16,8 @@
 //! work on a [`cost::Meter`]. A refused call answers `Err(Unspecified)` and leaves its outputs as
 //! they were.
 //!
-//! The examples of these modules stand proved in the crate `ring_uses`, with their imports.
+//! The modules' examples are callers that the crate `ring_uses` proves. They stand there with their
+//! imports.
 #![tactic(auto)]
 
 pub mod digest;

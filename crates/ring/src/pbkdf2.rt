@@ -60,6 +60,8 @@
 //!     Ok(stored)
 //! }
 //! ```
+//!
+//! The imports of these examples stand in `pbkdf2.rt` and `several.rt` of `crates/ring_uses/src`.
 
 ghost use Rattle.std.specs.Prelude.{◌≡◌, ◌↔◌, length, IsOk, OnOk, OnErr};
 ghost use Rattle.std.specs.Int.NonZero.{non_zero_u32_get};
@@ -139,7 +141,7 @@ pub fn derive_counted(
 ///
 /// Refused where `secret` is longer than the digest algorithm's `max_input_len` bytes, where one
 /// block, `salt` and 4 bytes together are, and where `out` has more than `2^32 - 1` times the bytes
-/// of a digest. An empty `out` takes any salt. Where it is refused, `out` is unchanged.
+/// of a digest. An empty `out` takes any salt. After a refusal `out` is unchanged.
 pub fn derive(
     algorithm: Algorithm,
     iterations: NonZeroU32,

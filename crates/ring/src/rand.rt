@@ -12,6 +12,8 @@
 //!     Ok(generate::<[u8; 16]>(rng)?.expose())
 //! }
 //! ```
+//!
+//! The imports of this example stand in `crates/ring_uses/src/rand.rt`.
 
 ghost use Rattle.std.specs.Prelude.{◌≡◌, ◌↔◌, ◌≤◌, ◌++◌, ℕ, Bool, false, List, IsTrue};
 ghost use Rattle.std.specs.Prelude.{IfOk, IsErr, OnOk, OnErr, length, refl, replicate};

@@ -7,6 +7,8 @@
 //!     verify_slices_are_equal(given, stored).is_ok()
 //! }
 //! ```
+//!
+//! The imports of this example stand in `crates/ring_uses/src/basics.rt`.
 
 ghost use Rattle.std.specs.Prelude.{◌≡◌, ◌↔◌, IsOk, length, map};
 ghost use Rattle.ring_core.specs.Bytes.{xor_lists};

@@ -9,6 +9,8 @@
 //!     Ok(length.to_be_bytes())
 //! }
 //! ```
+//!
+//! The imports of this example stand in `crates/ring_uses/src/basics.rt`.
 
 ghost use Rattle.std.specs.Prelude.{◌≡◌, Result};
 ghost use Rattle.std.specs.Int.{div_ceil, to_be_bytes, w128, w64};

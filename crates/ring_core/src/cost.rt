@@ -14,6 +14,8 @@
 //!     Ok(meter.blocks())
 //! }
 //! ```
+//!
+//! The imports of this example stand in `crates/ring_uses/src/basics.rt`.
 
 ghost use Rattle.std.specs.Prelude.{◌≡◌};
 ghost use Rattle.ring_core.specs.Cost.{raised};

@@ -230,8 +230,8 @@ fn verify_all<const N: usize>(
 }
 
 /// Tests several values as [`verify_each`] does, and counts their blocks and the compared pairs of
-/// bytes on `meter`: for each value as many as [`verify_counted`](crate::pbkdf2::verify_counted). A
-/// refusal leaves `meter` as it was.
+/// bytes on `meter`: for each value as many as [`verify_counted`](crate::pbkdf2::verify_counted)
+/// counts. A refusal leaves `meter` as it was.
 pub fn verify_each_counted<const N: usize>(
     algorithm: Algorithm,
     iterations: NonZeroU32,

@@ -108,8 +108,8 @@ fn write_each<const N: usize>(
 }
 
 /// Derives several keys as [`derive_each`] does, and counts their blocks on `meter`: for each key
-/// as many as [`derive_counted`](crate::pbkdf2::derive_counted). A refusal leaves `meter` as it
-/// was.
+/// as many as [`derive_counted`](crate::pbkdf2::derive_counted) counts. A refusal leaves `meter` as
+/// it was.
 pub fn derive_each_counted<const N: usize>(
     algorithm: Algorithm,
     iterations: NonZeroU32,

@@ -8,6 +8,8 @@
 //!     (blocks.len(), rest.len())
 //! }
 //! ```
+//!
+//! The imports of this example stand in `crates/ring_uses/src/basics.rt`.
 
 ghost use Rattle.std.specs.Prelude.{◌≡◌, ◌*◌, ◌<◌, length, take, drop};
 ghost use Rattle.ring_core.specs.Chunks.{chunk_count};

@@ -24,9 +24,10 @@ COMMENT = re.compile(r"//[^\n]*\n?")
 
 @dataclasses.dataclass(frozen=True)
 class Clause:
-    """A clause of a contract: its label, empty where it has none, and all of its text."""
+    """A clause of a contract: its label, empty where it has none, the comment above it, and its text."""
 
     label: str
+    comment: str
     text: str
 
 
@@ -130,9 +131,10 @@ def clauses_of(text):
     """The clauses in the head of a function, and where the first begins."""
     found, at, first = [], 0, len(text)
     while it := CLAUSE.search(text, at):
+        notes = re.findall(r"^ *(//[^\n]*\n)", text[at : it.start()], re.M)
         first = min(first, it.start())
         at = rattle_text.end_of(text, it.end() - 1)
-        found.append(Clause(it["label"] or "", text[it.start() : at]))
+        found.append(Clause(it["label"] or "", "".join(notes), text[it.start() : at]))
     return found, first
 
 
@@ -145,7 +147,7 @@ def item_of(module, text, it, bounds, before):
     found = Item(
         module, kind, it["name"] or "", (it["public"] or "") == "pub ",
         comment_lines(comment, "///") or (comment_lines(plain, "//") if kind == "ghost" else ""),
-        text.count("\n", 0, start) + 1, attributes, head[:first].rstrip(" \n,;"), clauses, [],
+        text.count("\n", 0, start) + 1, attributes, COMMENT.sub("", head[:first]).rstrip(" \n,;"), clauses, [],
     )
     if kind in ("trait", "impl", "struct", "enum") and text[end_of_head] == "{":
         inside = kind in ("struct", "enum")

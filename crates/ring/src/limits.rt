@@ -9,7 +9,7 @@ ghost use Rattle.ring.specs.Pieces.{joined};
 
 use crate::digest::algorithm::{Algorithm, is_message_within};
 
-// The most rounds of an output: a round's number is one byte (RFC 5869, section 2.3).
+// The largest number of rounds of an output: a round's number is one byte (RFC 5869, section 2.3).
 const MAX_ROUNDS: u128 = 255;
 
 // The bytes of a round's number.
@@ -75,7 +75,7 @@ pub(crate) fn can_derive(
         && out_len <= most_output
 }
 
-// Whether a derived value of `value_len` bytes can be verified: one of no byte never is.
+// Whether a derived value of `value_len` bytes can be verified. An empty one never can.
 pub(crate) fn can_verify(
     algorithm: &Algorithm,
     secret_len: u128,

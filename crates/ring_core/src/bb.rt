@@ -32,7 +32,7 @@ pub fn verify_slices_are_equal_counted(
     if a.len() != b.len() {
         return Err(Unspecified);
     }
-    // No early end: what the loop does depends on the length alone.
+    // No early exit: what the loop does depends on the length alone.
     let mut difference = 0;
     'pairs: for i in 0..a.len() {
         difference |= a[i] ^ b[i];

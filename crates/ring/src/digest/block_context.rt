@@ -22,8 +22,8 @@ use ring_core::digest::sha2::{
 use ring_core::error::Unspecified;
 use ring_core::polyfill::slice::as_chunks;
 
-// Makes `words`, of any algorithm of 64-bit words, those after each whole block of `input`, and
-// gives what comes after the last one.
+// Advances `words`, of an algorithm of 64-bit words, over the whole blocks of `input`, and returns
+// the bytes past them.
 fn run_blocks_64<'i>(words: &mut State64, input: &'i [u8], meter: &mut Meter) -> &'i [u8]
     ensures words { (a : Algorithm) → IsTrue (is_state_of a (DynState.As64 words.old))
         → chaining_words a (DynState.As64 words.new)
@@ -64,7 +64,7 @@ pub(crate) fn run_blocks_32<'i>(
     rest
 }
 
-// Makes `state` that after each whole block of `input`, and gives what comes after the last one.
+// Advances `state` over the whole blocks of `input`, and returns the bytes past them.
 fn run_blocks<'i>(
     algorithm: Algorithm,
     state: &mut DynState,
@@ -87,8 +87,8 @@ fn run_blocks<'i>(
     }
 }
 
-// The number of bytes of the whole blocks so far, cut off at `u128::MAX`, and the state after them.
-// The count comes first, so that its alignment leaves no gap.
+// The number of bytes in the whole blocks so far, at most `u128::MAX`, and the state after these
+// blocks. The count comes first, so that its alignment leaves no gap.
 #[derive(Drop)]
 pub(crate) struct BlockContext {
     pub(crate) completed_bytes: u128,
@@ -123,7 +123,7 @@ impl BlockContext {
         }
     }
 
-    // Takes in the whole blocks of `input`, and gives the rest.
+    // Runs the whole blocks of `input`, and returns the bytes past them.
     pub(crate) fn update<'i>(&mut self, input: &'i [u8], meter: &mut Meter) -> &'i [u8]
         ensures moved { HasMoved (block_len (block_algorithm self.old)) self.old self.new
             input.now result.now meter.old meter.new }
@@ -138,8 +138,8 @@ impl BlockContext {
     }
 
     // The output after the blocks so far and those of `tail`, which ends a padded message. Each
-    // size of words goes its own way to the end: in one for both, the compiler merges their reads,
-    // and what a block function wrote is not read as it was written.
+    // word size has its own branch to the end: in a common one the compiler merges their reads,
+    // which defeats store forwarding of what the block function wrote.
     #[inline(never)]
     pub(crate) fn output_after(&self, tail: &[u8], meter: &mut Meter) -> Output
         ensures ok { (p m : List ℕ) → HasTaken self.now p
@@ -161,7 +161,7 @@ impl BlockContext {
         }
     }
 
-    // The digest of the blocks and the pending bytes.
+    // The digest of the blocks and of the pending bytes.
     pub(crate) fn try_finish(
         &self,
         pending: &[u8],

@@ -39,7 +39,7 @@ impl Context {
         Context::resume(BlockContext::new(algorithm))
     }
 
-    // A context of the whole blocks that `block` has taken in.
+    // A context after the whole blocks of `block`.
     #[tactic(auto, unfolding(crate::specs::Context::StandsFor))]
     pub(crate) fn resume(block: BlockContext) -> Self
         ensures stands { (p : List ℕ) → HasTaken block p → StandsFor result p }
@@ -103,7 +103,7 @@ impl Context {
         self.algorithm().block_len() - self.num_pending
     }
 
-    // Adds bytes that leave the pending block short.
+    // Adds bytes that do not complete the pending block.
     fn keep(&mut self, bytes: &[u8])
         requires { pending_len self.old + length bytes.now
             < block_len (context_algorithm self.old) }
@@ -116,7 +116,7 @@ impl Context {
         self.num_pending = end;
     }
 
-    // Completes and runs the pending block, where one was begun, and gives the rest of `input`.
+    // Completes the pending block, if one is begun, runs it, and returns the rest of `input`.
     fn complete_pending<'i>(&mut self, input: &'i [u8], meter: &mut Meter) -> &'i [u8]
         requires { block_len (context_algorithm self.old)
             ≤ pending_len self.old + length input.now }

@@ -22,7 +22,7 @@ use ring_core::error::Unspecified;
 // How many messages run side by side.
 const LANES: usize = 4;
 
-// Whether each message has a digest.
+// Whether each message is within the limit.
 fn are_within(algorithm: &Algorithm, messages: &[&[u8]]) -> bool
     ensures { IsTrue result ↔ ((k : ℕ) → k < length messages.now
         → IsMessageWithin algorithm.now (length (message_at messages.now k))) }
@@ -35,7 +35,7 @@ fn are_within(algorithm: &Algorithm, messages: &[&[u8]]) -> bool
     true
 }
 
-// The digest of a message that has one.
+// The digest of a message that is within the limit.
 fn digest_within(algorithm: &Algorithm, message: &[u8], meter: &mut Meter) -> Digest
     requires { IsMessageWithin algorithm.now (length message.now) }
     ensures ok { IsDigest result algorithm.now message.now }
@@ -51,7 +51,7 @@ fn digest_within(algorithm: &Algorithm, message: &[u8], meter: &mut Meter) -> Di
     }
 }
 
-// Makes `out` the digests of the messages, one after another.
+// Writes the digests of the messages to `out`, one after another.
 fn write_singly(algorithm: &Algorithm, messages: &[&[u8]], out: &mut [Digest], meter: &mut Meter)
     requires { CanDigestEach algorithm.now messages.now (length out.old) }
     ensures ok { AreDigests out.new algorithm.now messages.now }
@@ -62,8 +62,8 @@ fn write_singly(algorithm: &Algorithm, messages: &[&[u8]], out: &mut [Digest], m
     }
 }
 
-// Makes the front of `out` the digests of the first messages, four side by side as long as there
-// are four, and gives how many these are.
+// Writes the digests of the first messages to the front of `out`, four at a time, and returns their
+// number.
 fn write_fours(
     algorithm: &Algorithm,
     first: &State32,
@@ -95,7 +95,8 @@ fn write_fours(
     LANES * fours
 }
 
-// Makes `out` the digests of the messages, as many of them side by side as can be.
+// Writes the digests of the messages to `out`: four side by side while there are four, then one
+// after another.
 fn write_each(algorithm: &Algorithm, messages: &[&[u8]], out: &mut [Digest], meter: &mut Meter)
     requires { CanDigestEach algorithm.now messages.now (length out.old) }
     ensures ok { AreDigests out.new algorithm.now messages.now }

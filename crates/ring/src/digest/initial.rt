@@ -3,7 +3,7 @@
 use ring_core::digest::sha2::{State32, State64};
 use std::num::Wrapping;
 
-// SHA-1 has five words, and the other three stay zero.
+// SHA-1 has five words. The other three are 0.
 pub(crate) const SHA1: State32 = [
     Wrapping(0x67452301),
     Wrapping(0xefcdab89),

@@ -51,7 +51,7 @@ fn blocks_of(algorithm: Algorithm, message: &[u8]) -> usize
     (message.len() + algorithm.length_len()) / BLOCK_LEN + 1
 }
 
-// A block of a padded message past those that are whole in the message.
+// A block of the padded message past the whole blocks of the message.
 fn tail_block(algorithm: Algorithm, message: &[u8], number: usize) -> [u8; BLOCK_LEN]
     requires lanes { block_len algorithm ≡ 64 }
     requires within { IsMessageWithin algorithm (length message.now) }
@@ -69,7 +69,7 @@ fn tail_block(algorithm: Algorithm, message: &[u8], number: usize) -> [u8; BLOCK
     block
 }
 
-// A block of a padded message.
+// A block of the padded message.
 fn padded_block(algorithm: Algorithm, message: &[u8], number: usize) -> [u8; BLOCK_LEN]
     requires lanes { block_len algorithm ≡ 64 }
     requires within { IsMessageWithin algorithm (length message.now) }
@@ -85,7 +85,7 @@ fn padded_block(algorithm: Algorithm, message: &[u8], number: usize) -> [u8; BLO
     block
 }
 
-// Runs the block function over four blocks, each over its lane's state.
+// Runs the block function over four blocks, each with the state of its lane.
 fn run_in_lanes(
     algorithm: Algorithm,
     states: &mut FourStates,
@@ -136,8 +136,8 @@ fn states_after(
     states
 }
 
-// Takes a state from behind the first `count` blocks of a padded message to behind those that are
-// whole in the message, at one go, and gives behind how many it is then.
+// Advances the state over the message's remaining whole blocks, from the first `count` blocks of
+// the padded message on, and returns how many blocks it has then taken in.
 fn run_whole(
     algorithm: Algorithm,
     words: &mut State32,
@@ -190,7 +190,7 @@ fn finished(
 }
 
 // The digest of the message at place `i`, from the states after the first `count` blocks of all
-// messages.
+// four.
 fn finished_at(
     algorithm: Algorithm,
     states: &FourStates,
@@ -213,7 +213,7 @@ fn finished_at(
     finished(algorithm, states.state(i), messages[i], count, meter)
 }
 
-// The least number of blocks of four padded messages.
+// The smallest number of blocks of four padded messages.
 fn fewest_blocks(algorithm: Algorithm, messages: &[&[u8]]) -> usize
     requires lanes { block_len algorithm ≡ 64 }
     requires within { CanDigestEach algorithm messages.now 4 }
@@ -226,7 +226,7 @@ fn fewest_blocks(algorithm: Algorithm, messages: &[&[u8]]) -> usize
         .min(blocks_of(algorithm, messages[3]))
 }
 
-// The digests of four messages: in lanes as far as all have blocks, and then each by itself.
+// The digests of four messages: in lanes while all four have blocks, then each by itself.
 pub(crate) fn write_four(
     algorithm: Algorithm,
     first: &State32,

@@ -68,7 +68,7 @@ fn put_length(algorithm: Algorithm, bytes: &mut [u8; MAX_TAIL_LEN], end: usize, 
     }
 }
 
-// The length of the message in bits, high byte first: a field of eight bytes is its end.
+// The length of the message in bits, high byte first. A field of eight bytes is the last half.
 fn bit_len_field(message_len: u128) -> [u8; LONG_LENGTH_LEN]
     requires { message_len < 2 ^ 125 }
     ensures { result ≡ bytes_high_first 16 (8 * message_len) }

@@ -16,7 +16,7 @@ pub struct Digest {
 }
 
 impl Digest {
-    // The front of `value`.
+    // The digest that is the front of `value`.
     pub(crate) fn new(value: Output, algorithm: Algorithm) -> Self
         ensures { result ≡ record { value = value; algorithm = algorithm } }
     {

@@ -34,7 +34,7 @@ fn round(key: &Key, previous: &[u8], info: &[&[u8]], number: u8, meter: &mut Met
     }
 }
 
-// Writes the bytes from the place `at` on.
+// Writes the bytes at place `at` and those after it.
 fn write_at(out: &mut [u8], at: usize, bytes: &[u8])
     requires { at + length bytes.now ≤ length out.old }
     ensures { out.new ≡ take at out.old ++ bytes.now ++ drop (at + length bytes.now) out.old }
@@ -42,7 +42,7 @@ fn write_at(out: &mut [u8], at: usize, bytes: &[u8])
     out[at..at + bytes.len()].copy_from_slice(bytes);
 }
 
-// Writes the whole output, one tag after another and a front of the last.
+// Writes the whole output: the tags one after another, and the front of the last.
 pub(crate) fn write_output(key: &Key, info: &[&[u8]], out: &mut [u8], meter: &mut Meter)
     requires output { IsOutputWithin (key_algorithm key.now) (length out.old) }
     requires info { IsInfoWithin

@@ -34,7 +34,7 @@ pub struct Key {
     ghost outer_block: { counted_bytes outer ≡ block_len (block_algorithm outer) },
 }
 
-// The bytes, filled up with zeros.
+// The bytes, padded with zeros.
 fn filled_up(bytes: &[u8]) -> [u8; MAX_BLOCK_LEN]
     requires { length bytes.now ≤ MAX_BLOCK_LEN }
     ensures { result ≡ bytes.now ++ replicate (MAX_BLOCK_LEN - length bytes.now) 0 }
@@ -44,7 +44,7 @@ fn filled_up(bytes: &[u8]) -> [u8; MAX_BLOCK_LEN]
     block
 }
 
-// The key's block: the key, or its digest where it is longer than a block, filled up with zeros.
+// The key's block: the key, or its digest where it is longer than a block, padded with zeros.
 fn block_of_key(
     algorithm: &digest::Algorithm,
     key_value: &[u8],

@@ -28,8 +28,8 @@ pub(crate) trait DigestLanes {
     // the words in a lane
     ghost words: { ℕ → Self.State → List ℕ };
 
-    // Makes `state` that after the block of each lane, which is the digest that the words of
-    // `digest` write, and the padding that ends such a message after a key's block.
+    // Advances `state` over one block in each lane: the digest that the words of `digest` write,
+    // and the padding that ends such a message after a key's block.
     fn run(state: &mut Self::State, digest: &Self::State, meter: &mut Meter)
         ensures ok { (i : ℕ) → take (word_count algorithm) (words i state.new)
             ≡ block_function algorithm (take (word_count algorithm) (words i state.old))
@@ -37,12 +37,12 @@ pub(crate) trait DigestLanes {
         ensures cost { meter.new ≡ raised meter.old lanes 0 }
         ensures eight { (i : ℕ) → length (words i digest.now) ≡ 8 };
 
-    // Xors the words of `digest` into those of `sum`.
+    // Replaces the words of `sum` by their exclusive or with those of `digest`.
     fn xor(sum: &mut Self::State, digest: &Self::State)
         ensures { (i : ℕ) → words i sum.new ≡ xor_lists (words i sum.old) (words i digest.now) };
 }
 
-// Makes the words of a digest those of its tag, in each lane under the key that stands there.
+// Replaces the words of a digest by those of its tag, in each lane under the key of that lane.
 #[inline(always)]
 pub(crate) fn replace_by_tag<H: DigestLanes>(
     inner: &H::State,

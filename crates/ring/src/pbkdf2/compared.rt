@@ -29,7 +29,7 @@ use ring_core::digest::four::FourStates;
 use ring_core::error::Unspecified;
 use std::num::NonZeroU32;
 
-// Whether `part` is the first bytes of a lane.
+// Whether `part` is the front of a lane's bytes.
 fn is_in_lane(round: &FourStates, lane: usize, part: &[u8], meter: &mut Meter) -> bool
     requires lane { lane < 4 }
     requires fits { length part.now ≤ 32 }
@@ -41,8 +41,8 @@ fn is_in_lane(round: &FourStates, lane: usize, part: &[u8], meter: &mut Meter) -
     verify_slices_are_equal_counted(&bytes.0[..part.len()], part, meter).is_ok()
 }
 
-// Compares a part of each lane's bytes with that of the value at the place of the same number:
-// `matches` stays true where they are the same.
+// Compares a part of each lane's bytes with that of the value at the same place. A place of
+// `matches` stays true where they are equal.
 fn compare_round<const N: usize>(
     round: &FourStates,
     checked: usize,
@@ -63,12 +63,12 @@ fn compare_round<const N: usize>(
 {
     'lanes: for i in 0..4 {
         let part = &values[i][checked..end];
-        // No early end: a lane that differs is followed by the others.
+        // No early exit: after a lane that differs, the others are compared.
         matches[i] &= is_in_lane(round, i, part, meter);
     }
 }
 
-// Whether each of four values is what is derived of the salt under the key at its place.
+// Whether each of four values is what is derived from the salt and the key at its place.
 fn compare_all_rounds<const N: usize>(
     algorithm: digest::Algorithm,
     four: &FourKeys,
@@ -107,7 +107,7 @@ fn compare_all_rounds<const N: usize>(
     matches
 }
 
-// Makes `matches` say at each of four places whether the value there is derived from the secret and
+// Sets each of four places of `matches` to whether the value there is derived from the secret and
 // the salt there.
 fn verify_four<const N: usize>(
     algorithm: HmacAlgorithm,
@@ -158,8 +158,8 @@ fn are_within<const N: usize>(
     true
 }
 
-// Makes the front of `matches` the answers for the first values, four side by side as long as there
-// are four, and gives how many these are: none where words have 64 bits.
+// Sets the front of `matches` to the answers for the first values, four at a time, and returns
+// their number. It is 0 where words have 64 bits.
 fn verify_fours<const N: usize>(
     algorithm: HmacAlgorithm,
     iterations: NonZeroU32,
@@ -201,7 +201,8 @@ fn verify_fours<const N: usize>(
     LANES * fours
 }
 
-// Makes `matches` the answers for all values, as many of them side by side as can be.
+// Sets `matches` to the answers for all values: four side by side while there are four, then one
+// after another.
 fn verify_all<const N: usize>(
     algorithm: HmacAlgorithm,
     iterations: NonZeroU32,

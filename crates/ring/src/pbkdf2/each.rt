@@ -49,8 +49,8 @@ pub(crate) fn has_lanes(algorithm: &digest::Algorithm) -> bool
     }
 }
 
-// Makes the front of `out` the keys of the first secrets, four side by side as long as there are
-// four, and gives how many these are: none where words have 64 bits.
+// Writes the keys of the first secrets to the front of `out`, four at a time, and returns their
+// number. It is 0 where words have 64 bits.
 fn write_fours<const N: usize>(
     algorithm: hmac::Algorithm,
     iterations: NonZeroU32,
@@ -85,7 +85,8 @@ fn write_fours<const N: usize>(
     LANES * fours
 }
 
-// Makes `out` the keys of the secrets, as many of them side by side as can be.
+// Writes the keys of the secrets to `out`: four side by side while there are four, then one after
+// another.
 fn write_each<const N: usize>(
     algorithm: hmac::Algorithm,
     iterations: NonZeroU32,

@@ -69,7 +69,7 @@ pub(crate) fn first_state(key: &Key, salt: &[u8], number: u32, meter: &mut Meter
     short_state(&bytes_of(&tag))
 }
 
-// The words of U_1 of each of four rounds, which come after `before` others.
+// The words of U_1 of each of the four rounds after the first `before`.
 fn first_states(key: &Key, salt: &[u8], before: u32, meter: &mut Meter) -> FourStates
     requires size { word_len (key_algorithm key.now) ≡ 4 }
     requires within { IsTagWithin (key_algorithm key.now) (length salt.now + 4) }
@@ -87,7 +87,7 @@ fn first_states(key: &Key, salt: &[u8], before: u32, meter: &mut Meter) -> FourS
     FourStates::new(&first, &second, &third, &fourth)
 }
 
-// The words of the four rounds that come after `before` others.
+// The words of the four rounds after the first `before`.
 fn four_rounds(
     key: &Key,
     four: &FourKey,
@@ -120,7 +120,7 @@ fn four_rounds(
     )
 }
 
-// Puts the front of each lane's bytes into `out`, one after another.
+// Writes the front of each lane's bytes to `out`, one after another.
 fn put_rounds(out: &mut [u8], sums: &FourStates, output_len: usize)
     requires within { output_len ≤ 32 }
     requires room { length out.old ≡ 4 * output_len }
@@ -137,7 +137,7 @@ fn put_rounds(out: &mut [u8], sums: &FourStates, output_len: usize)
     }
 }
 
-// Makes `out` the four rounds that come after `before` others.
+// Writes the four rounds after the first `before` to `out`.
 fn write_four_rounds(
     key: &Key,
     four: &FourKey,
@@ -164,7 +164,7 @@ fn write_four_rounds(
     put_rounds(out, &rounds, output_len);
 }
 
-// Whether `part` is the four rounds that come after `before` others.
+// Whether `part` is the four rounds after the first `before`.
 fn are_four_rounds(
     key: &Key,
     four: &FourKey,
@@ -192,8 +192,8 @@ fn are_four_rounds(
     verify_slices_are_equal_counted(made, part, meter).is_ok()
 }
 
-// Makes the front of `out` the first rounds, four at a time as long as there is room for four whole
-// ones, and gives how many these are, and their bytes: none where words have 64 bits.
+// Writes the first rounds to the front of `out`, four at a time while there is room for four whole
+// ones, and returns their number and their bytes. Both are 0 where words have 64 bits.
 pub(crate) fn write_fours(
     key: &Key,
     iterations: NonZeroU32,
@@ -231,8 +231,8 @@ pub(crate) fn write_fours(
     (number, written)
 }
 
-// Compares the front of `value` with the first rounds, of which it makes as many as `write_fours`,
-// and gives how many these are, their bytes, and whether all of them are the same.
+// Compares the front of `value` with the first rounds, as many as `write_fours` makes, and returns
+// their number, their bytes, and whether all are equal.
 pub(crate) fn are_fours(
     key: &Key,
     iterations: NonZeroU32,
@@ -264,7 +264,7 @@ pub(crate) fn are_fours(
     'fours: while four_len <= value.len() - checked {
         let end = checked + four_len;
         let part = &value[checked..end];
-        // No early end: four that differ are followed by the others.
+        // No early exit: after four rounds that differ, the others are compared.
         matches &= are_four_rounds(key, &four, iterations, salt, number, part, meter);
         number += 4;
         checked = end;

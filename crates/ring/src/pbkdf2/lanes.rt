@@ -35,7 +35,7 @@ pub(crate) struct FourKeys {
     outer: FourStates,
 }
 
-// The key of a secret that has one.
+// The key of a secret that is within the limit.
 pub(crate) fn key_within(algorithm: Algorithm, secret: &[u8], meter: &mut Meter) -> Key
     requires { length secret.now ≤ max_input_len (hmac_digest algorithm) }
     ensures ok { KeyStandsFor result secret.now }
@@ -188,7 +188,7 @@ pub(crate) fn round_in_lanes(
     )
 }
 
-// Makes each place zeros.
+// Sets each place to zeros.
 fn clear<const N: usize>(out: &mut [[u8; N]])
     ensures { (i : ℕ) → i < length out.old → length (get_or out.new i []) ≡ N }
 {
@@ -197,7 +197,7 @@ fn clear<const N: usize>(out: &mut [[u8; N]])
     }
 }
 
-// Puts a part of each lane's bytes into the place of `out` of the same number.
+// Writes a part of each lane's bytes to the same place of `out`.
 fn put_round<const N: usize>(round: &FourStates, written: usize, end: usize, out: &mut [[u8; N]])
     requires four { length out.old ≡ 4 }
     requires order { written ≤ end }
@@ -214,7 +214,7 @@ fn put_round<const N: usize>(round: &FourStates, written: usize, end: usize, out
     }
 }
 
-// Makes each of four places of `out` what is derived of the salt under the key at its place.
+// Writes to each of four places of `out` what is derived from the salt and the key there.
 fn write_all_rounds<const N: usize>(
     algorithm: digest::Algorithm,
     four: &FourKeys,
@@ -251,7 +251,7 @@ fn write_all_rounds<const N: usize>(
     }
 }
 
-// Makes four places of `out` the keys of the secrets and the salts at the same places.
+// Writes to four places of `out` the keys of the secrets and the salts there.
 pub(crate) fn write_four<const N: usize>(
     algorithm: Algorithm,
     iterations: NonZeroU32,

@@ -51,7 +51,7 @@ fn round_from(key: &Key, first: &Tag, iterations: NonZeroU32, meter: &mut Meter)
     }
 }
 
-// Makes `out` the first bytes of the round of this number.
+// Writes the first bytes of the round of this number to `out`.
 fn write_round(
     key: &Key,
     iterations: NonZeroU32,
@@ -96,8 +96,8 @@ fn is_round(
     verify_slices_are_equal_counted(made, part, meter).is_ok()
 }
 
-// Makes the whole of `out` the first bytes of all rounds: four at a time as far as that goes, and
-// then one after another.
+// Writes the first bytes of all rounds to the whole of `out`: four at a time while it has room for
+// four, then one after another.
 pub(crate) fn write_rounds(
     key: &Key,
     iterations: NonZeroU32,
@@ -127,7 +127,8 @@ pub(crate) fn write_rounds(
     }
 }
 
-// Whether `value` is the first bytes of all rounds, which are made as `write_rounds` makes them.
+// Whether `value` is the first bytes of all rounds. They are computed as `write_rounds` computes
+// them.
 pub(crate) fn are_rounds(
     key: &Key,
     iterations: NonZeroU32,
@@ -153,7 +154,7 @@ pub(crate) fn are_rounds(
         let end = checked + output_len.min(value.len() - checked);
         number += 1;
         let part = &value[checked..end];
-        // No early end: a round that differs is followed by the others.
+        // No early exit: after a round that differs, the others are compared.
         matches &= is_round(key, iterations, salt, number, part, meter);
         checked = end;
     }

@@ -16,7 +16,7 @@ pub struct FourStates {
     pub(crate) words: [FourWords; 8],
 }
 
-// The word in a lane.
+// The word in lane `i`.
 fn word_in(words: FourWords, i: usize) -> Wrapping<u32>
     requires { i < 4 }
     ensures { word_32 result ≡ word_of_lane i words }

@@ -10,10 +10,10 @@ use crate::digest::word::four::FourWords;
 use crate::digest::word::lane_word::{LaneWord, Slots};
 use std::num::Wrapping;
 
-// Each function here is a few instructions of a block function, and written in line there, whatever
-// the compiler's thresholds: a slot is then a literal, and words stay in lanes from step to step.
+// Each function here is a few instructions of a block function and is always inlined: a slot is
+// then a literal, and words stay in lanes from step to step.
 
-// Fills the ring with the block's own words, in each lane the same.
+// Fills the ring with the words of the block, the same in each lane.
 #[inline(always)]
 pub(crate) fn load<S: Slots>(ring: &mut [S::Slot; 16], block: &[u8])
     requires { length block.now ≡ 16 * (S.One.bits / 8) }
@@ -24,7 +24,7 @@ pub(crate) fn load<S: Slots>(ring: &mut [S::Slot; 16], block: &[u8])
     }
 }
 
-// Word `j` of each block, in the lane of the block.
+// Word `j` of each block, each in its block's lane.
 #[inline(always)]
 fn read_four(blocks: &[[u8; 64]; 4], j: usize) -> FourWords
     requires { j < 16 }
@@ -38,7 +38,7 @@ fn read_four(blocks: &[[u8; 64]; 4], j: usize) -> FourWords
     ])
 }
 
-// Fills the ring with the blocks' own words, each block's in its lane.
+// Fills the ring with the words of the blocks, each block's in its own lane.
 #[inline(always)]
 pub(crate) fn load_four(ring: &mut [FourWords; 16], blocks: &[[u8; 64]; 4])
     ensures { (i : ℕ)
@@ -49,8 +49,8 @@ pub(crate) fn load_four(ring: &mut [FourWords; 16], blocks: &[[u8; 64]; 4])
     }
 }
 
-// Word `t` of a block of the first `N` words of `front` and, in each lane, those of `padding` past
-// them.
+// Word `t` of a block whose first `N` words are those of `front`, and whose other words are those
+// of `padding`, the same in each lane.
 #[inline(always)]
 fn word_of<S: Slots, const N: usize>(front: &[S; 8], padding: &[S::One; 16], t: usize) -> S
     requires front { N ≤ 8 }
@@ -92,7 +92,7 @@ pub(crate) fn pair<T: Copy>(ring: &[T; 16], slot: usize) -> [T; 2]
     [ring[slot], ring[(slot + 1) % 16]]
 }
 
-// Puts the next two words into `slot` and the slot after it, where the oldest two stand.
+// Replaces the oldest two words, in `slot` and the slot after it, by the next two.
 #[inline(always)]
 pub(crate) fn set_pair<T: Copy>(ring: &mut [T; 16], slot: usize, words: [T; 2])
     requires { slot < 16 }

@@ -26,7 +26,7 @@ pub(crate) type Word32 = Wrapping<u32>;
 /// The length in bytes of SHA-1's five chaining words.
 pub const CHAINING_LEN: usize = 20;
 
-// Their number.
+// The number of these words.
 const CHAINING_WORDS: usize = 5;
 
 // Where the block function reads its block from. The rounds take this as a const argument, so that
@@ -77,7 +77,7 @@ fn round_constant(t: usize) -> Word32
     }
 }
 
-// Round `t` (step 3), by the sum of its constant and its word.
+// Round `t` (step 3), from the sum of its constant and its word.
 #[inline(always)]
 fn round<S: Lanes>(v: [S; 5], t: usize, sum: S) -> [S; 5]
     ensures { (i w : ℕ) → S.lane i sum ≡ add_words 32 (round_constant t) w
@@ -91,8 +91,8 @@ fn round<S: Lanes>(v: [S; 5], t: usize, sum: S) -> [S; 5]
     [temp, a, rotate_left(b, 30), c, d]
 }
 
-// From here to `later_turn` each function is written in line in its caller, whatever the compiler's
-// thresholds: slots are then literals, and so are the rounds, which choose functions and constants.
+// From here to `later_turn` each function is always inlined: slots are then literals, and so are
+// the round numbers, by which functions and constants are chosen.
 
 // Rounds `t` and `t + 1`.
 #[inline(always)]
@@ -110,7 +110,7 @@ fn two_rounds<S: Lanes>(ring: &[S::Slot; 16], v: [S; 5], t: usize) -> [S; 5]
     round(round(v, t, first), t + 1, second)
 }
 
-// The same from round 16 on, where the words are made first.
+// The same from round 16 on, where the words are computed first.
 #[inline(always)]
 fn next_two_rounds<S: Lanes>(ring: &mut [S::Slot; 16], v: [S; 5], t: usize) -> [S; 5]
     requires from { 16 ≤ t }
@@ -124,8 +124,8 @@ fn next_two_rounds<S: Lanes>(ring: &mut [S::Slot; 16], v: [S; 5], t: usize) -> [
     two_rounds(ring, v, t)
 }
 
-// Four rounds in one body. Sixteen make one so large that the compiler no longer writes the calls
-// in it in line, for all that they ask for it, and the block function takes twice the time.
+// Four rounds in one body. A body of sixteen is so large that the compiler no longer inlines its
+// calls, though they ask for it, and the block function takes twice the time.
 #[inline(always)]
 fn next_four_rounds<S: Lanes>(ring: &mut [S::Slot; 16], v: [S; 5], t: usize) -> [S; 5]
     requires from { 16 ≤ t }
@@ -139,7 +139,7 @@ fn next_four_rounds<S: Lanes>(ring: &mut [S::Slot; 16], v: [S; 5], t: usize) -> 
     next_two_rounds(ring, v, t + 2)
 }
 
-// The first sixteen rounds, by the block's own words.
+// The first sixteen rounds, from the block's own words.
 #[inline(always)]
 fn first_turn<S: Lanes, const FORM: usize>(ring: &[S::Slot; 16], v: [S; 5]) -> [S; 5]
     ensures { (i : ℕ) (b : List ℕ) → IsRing (W b) (map (S.slot_lane i) ring.now) 16
@@ -155,8 +155,8 @@ fn first_turn<S: Lanes, const FORM: usize>(ring: &[S::Slot; 16], v: [S; 5]) -> [
     two_rounds(ring, v, 14)
 }
 
-// The sixteen rounds of a later turn. The turn is a constant and no argument: of one body for all
-// turns the compiler would write few calls in line, and slots and rounds would be no literals.
+// The sixteen rounds of a later turn. The turn is a const argument: with one body for all turns the
+// compiler inlines few calls, and slots and round numbers are no literals.
 #[inline(always)]
 fn later_turn<S: Lanes, const FORM: usize, const TURN: usize>(
     ring: &mut [S::Slot; 16],
@@ -177,7 +177,8 @@ fn later_turn<S: Lanes, const FORM: usize, const TURN: usize>(
     next_four_rounds(ring, v, t + 12)
 }
 
-// The first five words, each with its variable of `v` added (step 4), and the other three.
+// The first five words, each with its variable of `v` added (step 4), and the last three as they
+// were.
 #[inline(always)]
 fn add_state<S: Lanes>(state: &[S; 8], v: &[S; 5]) -> [S; 8]
     ensures words { (i : ℕ) → take 5 (map (S.lane i) result)
@@ -196,7 +197,7 @@ fn add_state<S: Lanes>(state: &[S; 8], v: &[S; 5]) -> [S; 8]
     ]
 }
 
-// Runs the block function over the blocks whose words the ring holds, in each lane over its own.
+// Runs the block function in each lane, over the block whose words the ring holds there.
 #[inline(always)]
 fn run_loaded<S: Lanes, const FORM: usize>(ring: &mut [S::Slot; 16], state: &mut [S; 8])
     ensures words { (i : ℕ) (b : List ℕ) → IsRing (W b) (map (S.slot_lane i) ring.old) 16
@@ -254,7 +255,7 @@ pub fn sha1_block_data_order(state: &mut [Wrapping<u32>; 8], blocks: AsChunks<'_
     sha1_block_data_order_counted(state, blocks, &mut Meter::new())
 }
 
-// Runs the block function over four blocks, each over its own state.
+// Runs the block function over four blocks, each with its own state.
 fn run_four_blocks(state: &mut [FourWords; 8], blocks: &[[u8; 64]; 4])
     ensures words { (i : ℕ) → take 5 (map (word_of_lane i) state.new)
         ≡ block_step (take 5 (map (word_of_lane i) state.old)) (get_or blocks.now (i % 4) []) }
@@ -285,8 +286,8 @@ pub fn sha1_block_data_order_four_counted(
     meter.add_four_blocks();
 }
 
-// Runs the block function over the block of five words of `front` and of those of `padding` past
-// them.
+// Runs the block function over the block whose first five words are those of `front`, and whose
+// other words are those of `padding`.
 fn run_words(state: &mut [Word32; 8], front: &[Word32; 8], padding: &[Word32; 16])
     ensures words { (b : List ℕ)
         → IsBlockOf 32 5 (map word_32 front.now) (map word_32 padding.now) b
@@ -320,7 +321,7 @@ pub fn sha1_block_of_words_counted(
     meter.add_block();
 }
 
-// The same in each of four lanes, where `padding` is that of all four.
+// The same in each of four lanes, with the same `padding`.
 fn run_four_words(state: &mut [FourWords; 8], front: &[FourWords; 8], padding: &[Word32; 16])
     ensures words { (i : ℕ) (b : List ℕ)
         → IsBlockOf 32 5 (map (word_of_lane i) front.now) (map word_32 padding.now) b

@@ -66,7 +66,7 @@ fn big_sigma_1<S: LaneWord>(x: S) -> S
     rotations(x, S::One::BIG_SIGMA_1)
 }
 
-// One round (step 3), by the sum of its constant and its word.
+// One round (step 3), from the sum of its constant and its word.
 #[inline(always)]
 fn round<S: LaneWord>(v: [S; 8], sum: S) -> [S; 8]
     ensures { (i k w : ℕ) → S.lane i sum ≡ add_words S.One.bits k w
@@ -81,7 +81,7 @@ fn round<S: LaneWord>(v: [S; 8], sum: S) -> [S; 8]
 // From here to `run_block` each function is always inlined: slots are then literals, and no
 // variable is copied from round to round.
 
-// Rounds `16 * turn + place` and the next, by the words at `place`.
+// Rounds `16 * turn + place` and the next, from the words at `place`.
 #[inline(always)]
 fn two_rounds<S: Lanes>(ring: &[S::Slot; 16], v: [S; 8], turn: usize, place: usize) -> [S; 8]
     requires place { place + 2 ≤ 16 }
@@ -98,7 +98,7 @@ fn two_rounds<S: Lanes>(ring: &[S::Slot; 16], v: [S; 8], turn: usize, place: usi
     round(round(v, first), second)
 }
 
-// The same after the first turn, where the words are made first.
+// The same after the first turn, where the words are computed first.
 #[inline(always)]
 fn next_two_rounds<S: Lanes>(
     ring: &mut [S::Slot; 16],
@@ -119,7 +119,7 @@ fn next_two_rounds<S: Lanes>(
     two_rounds(ring, v, turn, place)
 }
 
-// The first sixteen rounds, by the block's own words.
+// The first sixteen rounds, from the block's own words.
 #[inline(always)]
 fn first_turn<S: Lanes, const FORM: usize>(ring: &[S::Slot; 16], v: [S; 8]) -> [S; 8]
     ensures { (i : ℕ) (b : List ℕ) → IsRing (W S.One.family b) (map (S.slot_lane i) ring.now) 16
@@ -179,7 +179,7 @@ fn add_state<S: LaneWord>(state: &[S; 8], v: &[S; 8]) -> [S; 8]
     ]
 }
 
-// Runs the block function over the blocks whose words the ring holds, in each lane over its own.
+// Runs the block function in each lane, over the block whose words the ring holds there.
 #[inline(always)]
 fn run_loaded<S: Lanes, const FORM: usize>(ring: &mut [S::Slot; 16], state: &mut [S; 8])
     ensures { (i : ℕ) (b : List ℕ) → IsRing (W S.One.family b) (map (S.slot_lane i) ring.old) 16
@@ -193,7 +193,7 @@ fn run_loaded<S: Lanes, const FORM: usize>(ring: &mut [S::Slot; 16], state: &mut
     *state = add_state(state, &variables); // step 4
 }
 
-// Runs the block function over one block, with room for the words of its schedule.
+// Runs the block function over one block. `ring` is room for the words of the schedule.
 #[inline(always)]
 fn run_block<S: Lanes>(ring: &mut [S::Slot; 16], state: &mut [S; 8], block: &[u8])
     requires { length block.now ≡ 16 * (S.One.bits / 8) }
@@ -204,7 +204,7 @@ fn run_block<S: Lanes>(ring: &mut [S::Slot; 16], state: &mut [S; 8], block: &[u8
     run_loaded::<S, BYTES>(ring, state);
 }
 
-// Runs the block function over each block in turn, with room for the words of a schedule.
+// Runs the block function over each block in order. `ring` is room for the words of a schedule.
 fn run_blocks<S: Lanes, const N: usize>(
     ring: &mut [S::Slot; 16],
     state: &mut [S; 8],
@@ -277,7 +277,7 @@ pub fn block_data_order_64(state: &mut State64, blocks: AsChunks<'_, u8, 128>)
     block_data_order_64_counted(state, blocks, &mut Meter::new())
 }
 
-// Runs the block function over four blocks, each over its own state.
+// Runs the block function over four blocks, each with its own state.
 fn run_four_blocks(state: &mut [FourWords; 8], blocks: &[[u8; 64]; 4])
     ensures { (i : ℕ) → map (word_of_lane i) state.new
         ≡ block_step family_256 (map (word_of_lane i) state.old) (get_or blocks.now (i % 4) []) }
@@ -303,8 +303,8 @@ pub fn block_data_order_32_four_counted(
     meter.add_four_blocks();
 }
 
-// Runs the block function over the block of the first `N` words of `front` and of those of
-// `padding` past them.
+// Runs the block function over the block whose first `N` words are those of `front`, and whose
+// other words are those of `padding`.
 #[inline(always)]
 fn run_words<S: Lanes, const N: usize>(
     ring: &mut [S::Slot; 16],
@@ -321,7 +321,7 @@ fn run_words<S: Lanes, const N: usize>(
     run_loaded::<S, N>(ring, state);
 }
 
-// The same, and the block counted.
+// The same, and counts the block.
 fn run_counted_words<S: Lanes, const N: usize>(
     ring: &mut [S::Slot; 16],
     state: &mut [S; 8],
@@ -372,7 +372,7 @@ pub fn block_of_words_64_counted<const N: usize>(
     run_counted_words::<Wrapping<u64>, N>(&mut [Wrapping(0u64); 16], state, front, padding, meter)
 }
 
-// Runs the block function over a block in each of four lanes, where `padding` is that of all four.
+// Runs the block function over a block in each of four lanes, with the same `padding`.
 fn run_four_words(state: &mut [FourWords; 8], front: &[FourWords; 8], padding: &[Wrapping<u32>; 16])
     ensures { (i : ℕ) (b : List ℕ)
         → IsBlockOf 32 8 (map (word_of_lane i) front.now) (words_32 padding.now) b

@@ -20,13 +20,13 @@ macro_rules! words {
     };
 }
 
-// The bit behind a message, as the highest of a word.
+// The bit 1 that follows a message, as the highest of a word.
 const END_32: u32 = 1 << 31;
 
 const END_64: u64 = 1 << 63;
 
-// The paddings stand behind room for the words of a digest, and end with the bits of the key's
-// block and of the digest.
+// The paddings leave room for the words of a digest, and end with the number of bits in the key's
+// block and the digest.
 
 pub(crate) const SHA1_PADDING: [Wrapping<u32>; 16] = words![
     0, 0, 0, 0, 0, END_32, 0, 0, 0, 0, 0, 0, 0, 0, 0, 672

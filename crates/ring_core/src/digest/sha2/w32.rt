@@ -8,7 +8,8 @@ use crate::digest::sha2::constants::K_256;
 use crate::digest::word::{Sha2, Word};
 use std::num::Wrapping;
 
-// These functions take numbers, since a number inside a struct is not known to fit its type.
+// These functions take plain numbers, since a proof knows of these that they fit their type, and
+// not of numbers inside a struct.
 
 // K of round `t` (4.2.2)
 fn round_constant(t: usize) -> u32

@@ -15,8 +15,8 @@ use std::simd::{Simd, u32x4};
 #[derive(Clone, Copy)]
 pub(crate) struct FourWords(pub(crate) u32x4);
 
-// These functions take vectors, since of a vector inside a struct it is not known that it has four
-// numbers that fit their type.
+// These functions take vectors, since a proof knows of these that they have four numbers that fit
+// their type, and not of a vector inside a struct.
 
 #[inline(always)]
 fn sums(x: u32x4, y: u32x4) -> u32x4
@@ -59,7 +59,7 @@ fn shift(lanes: u32x4, count: usize) -> u32x4
 }
 
 impl FourWords {
-    // The words in lanes, the first in lane 0.
+    // The four words in their lanes, the first in lane 0.
     #[inline(always)]
     pub(crate) fn new(words: [Wrapping<u32>; 4]) -> FourWords
         ensures { (i : ℕ) → word_of_lane i result ≡ slice_index (words_32 words) (i % 4) }
@@ -111,7 +111,7 @@ impl LaneWord for FourWords {
     ghost fits = { λ _ _. mod-lt _ (pow_pos 32) };
 }
 
-// Four words make a slot as they are.
+// A slot is the four words as they are.
 impl Slots for FourWords {
     type Slot = FourWords;
 

@@ -4,7 +4,7 @@ ghost use Rattle.ring_core.specs.Word.{choose, majority};
 
 use crate::digest::word::lane_word::LaneWord;
 
-// Ch(x, y, z), in three operations instead of four
+// Ch(x, y, z), in three operations instead of the standard's four
 #[inline(always)]
 pub(crate) fn choose_word<W: LaneWord>(x: W, y: W, z: W) -> W
     ensures { (i : ℕ) → W.lane i result
@@ -13,7 +13,8 @@ pub(crate) fn choose_word<W: LaneWord>(x: W, y: W, z: W) -> W
     z.bit_xor(x.bit_and(y.bit_xor(z)))
 }
 
-// Maj(x, y, z), in four operations instead of five; a round's `x ⊕ y` is the next one's `y ⊕ z`
+// Maj(x, y, z), in four operations instead of the standard's five: `x ⊕ y` of a round is `y ⊕ z` of
+// the next
 #[inline(always)]
 pub(crate) fn majority_word<W: LaneWord>(x: W, y: W, z: W) -> W
     ensures { (i : ℕ) → W.lane i result

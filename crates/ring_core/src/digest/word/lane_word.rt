@@ -4,8 +4,8 @@ ghost use Rattle.ring_core.specs.Word.{◌⊕◌, add_words, rotr};
 
 use crate::digest::word::traits::Sha2;
 
-// Words in lanes, with the operations of FIPS 180-4, 3.2, on the word of each lane. A clause speaks
-// of every lane by its number; a word alone stands in each lane, whatever the number.
+// Words in lanes, with the operations of FIPS 180-4, 3.2, on the word of each lane. A clause names
+// a lane by its number. A single word is in every lane, whatever the number.
 pub(crate) trait LaneWord: Copy {
     // the word that stands in a lane
     type One: Sha2;
@@ -39,7 +39,7 @@ pub(crate) trait LaneWord: Copy {
     ghost fits: { (i : ℕ) (x : Self) → lane i x < 2 ^ Self.One.bits };
 }
 
-// Words in lanes with what a schedule keeps them in.
+// Words in lanes, and the slots in which a schedule keeps them.
 pub(crate) trait Slots: LaneWord {
     type Slot: Copy;
 
@@ -50,8 +50,8 @@ pub(crate) trait Slots: LaneWord {
     fn to_slot(self) -> Self::Slot
         ensures { (i : ℕ) → slot_lane i result ≡ Self.lane i self };
 
-    // Two words and the words of two slots added, each to its own, for the constants of two rounds
-    // and their words.
+    // Adds two words and the words of two slots, each to its own: the constants of two rounds and
+    // the rounds' words.
     fn add_pairs(x: [Self; 2], y: [Self::Slot; 2]) -> [Self; 2]
         ensures { (i a b c d : ℕ) → map (Self.lane i) x ≡ a ∷ b ∷ []
             → map (slot_lane i) y ≡ c ∷ d ∷ [] → map (Self.lane i) result

@@ -10,7 +10,8 @@ use crate::digest::word::traits::Word;
 use std::num::Wrapping;
 use std::simd::{Simd, u32x4, u64x2};
 
-// These functions take numbers, since a number inside a struct is not known to fit its type.
+// These functions take plain numbers, since a proof knows of these that they fit their type, and
+// not of numbers inside a struct.
 
 // ROTR (3.2, item 4)
 fn rotate(word: u32, count: u32) -> u32
@@ -28,7 +29,7 @@ fn widened(word: u32) -> u64
     word as u64
 }
 
-// The word in the low half of a slot, whatever stands above it.
+// The word in the low half of a slot, whatever its high half holds.
 #[inline(always)]
 fn low_half(slot: u64) -> u32
     ensures { result % 2 ^ 32 ≡ low_32 slot }
@@ -53,8 +54,8 @@ pub(crate) fn joined(lanes: u32x4) -> u64x2
     u64x2::from_le_bytes(lanes.to_le_bytes())
 }
 
-// ROTR of the word in each slot (3.2, item 4): it stands in the low half of both its copies shifted
-// right.
+// ROTR of the word in each slot (3.2, item 4): both copies of the word are shifted right, and the
+// low half is the result.
 #[inline(always)]
 pub(crate) fn rotate_lanes(lanes: u64x2, count: u32) -> u64x2
     requires positive { 1 ≤ count }
@@ -166,8 +167,8 @@ impl LaneWord for Wrapping<u32> {
     ghost fits = { λ _ _. mod-lt _ (pow_pos 32) };
 }
 
-// The word stands in the low half of a slot: the lanes of a schedule's step are then slots as they
-// are, and what is carried above it is left there.
+// A slot holds the word in its low half: the lanes of a schedule's step are then slots as they are.
+// The high half keeps whatever a step carries into it.
 impl Slots for Wrapping<u32> {
     type Slot = u64;
 

@@ -10,7 +10,8 @@ use crate::digest::word::traits::Word;
 use std::num::Wrapping;
 use std::simd::{Simd, u64x2};
 
-// These functions take numbers, since a number inside a struct is not known to fit its type.
+// These functions take plain numbers, since a proof knows of these that they fit their type, and
+// not of numbers inside a struct.
 
 // ROTR (3.2, item 4)
 fn rotate(word: u64, count: u32) -> u64
@@ -146,7 +147,7 @@ impl Slots for Wrapping<u64> {
         self
     }
 
-    // By words: two lanes of 64 bits take longer to take apart than one sum more.
+    // Word by word: taking two lanes of 64 bits apart takes longer than a second addition.
     #[inline(always)]
     fn add_pairs(x: [Wrapping<u64>; 2], y: [Wrapping<u64>; 2]) -> [Wrapping<u64>; 2]
         ensures { (i a b c d : ℕ) → words_64 x ≡ a ∷ b ∷ [] → words_64 y ≡ c ∷ d ∷ []

@@ -11,7 +11,7 @@ use crate::digest::word::four::FourWords;
 use crate::digest::word::lane_word::LaneWord;
 use std::num::Wrapping;
 
-// The next word of each lane, by those 3, 8, 14 and 16 words before it.
+// The next word of each lane, from those 3, 8, 14 and 16 words before it.
 #[inline(always)]
 fn next_word(
     three: FourWords,

@@ -10,7 +10,7 @@ use crate::digest::word::w32::rotate_lanes;
 use std::num::Wrapping;
 use std::simd::{Simd, u64x2};
 
-// The next two words, by the pairs that begin 16, 14, 8 and 3 words before them.
+// The next two words, from the pairs that begin 16, 14, 8 and 3 words before them.
 #[inline(always)]
 fn next_two(sixteen: u64x2, fourteen: u64x2, eight: u64x2, three: u64x2) -> u64x2
     ensures { map low_32 result ≡ map (λ i. scheduled (low_32 (slice_index three i))

@@ -31,7 +31,7 @@ fn small_sigma_1(words: FourWords) -> FourWords
     inner.rotr(first).bit_xor(words.shift_right(count))
 }
 
-// The next word of each lane, by those 2, 7, 15 and 16 words before it.
+// The next word of each lane, from those 2, 7, 15 and 16 words before it.
 #[inline(always)]
 fn next_word(two: FourWords, seven: FourWords, fifteen: FourWords, sixteen: FourWords) -> FourWords
     ensures { (i : ℕ) → word_of_lane i result ≡ scheduled family_256

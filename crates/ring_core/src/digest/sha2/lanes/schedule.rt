@@ -5,10 +5,10 @@ ghost use Rattle.ring_core.specs.Sha2.{W};
 
 use crate::digest::word::lane_word::Slots;
 
-// A word whose schedule is made by lanes. The library's vectors are of `u32` or of `u64` and not of
-// any word, so each size has a step of its own.
+// A word whose schedule is computed in lanes. The library's vectors are of `u32` or of `u64`, not
+// of any word, so each size has its own step.
 pub(crate) trait Lanes: Slots {
-    // Fills slot `place` and the next with the words sixteen after those that stand there.
+    // Replaces the words in slot `place` and the next by those sixteen later.
     fn fill(ring: &mut [Self::Slot; 16], place: usize)
         requires { place + 2 ≤ 16 }
         ensures { (i : ℕ) (b : List ℕ) (t : ℕ) → 16 ≤ t → place ≡ t % 16

@@ -11,8 +11,8 @@ use crate::digest::word::w32::{doubled, joined};
 use std::num::Wrapping;
 use std::simd::{Simd, u64x2};
 
-// ROTR first ⊕ ROTR second ⊕ SHR shift of the word in each slot, one rotation inside the other. A
-// shift of both copies of a word is one operation, and a rotation of the word by itself three.
+// ROTR first ⊕ ROTR second ⊕ SHR shift of the word in each slot, the rotations nested. A shift of
+// both copies of a word is one operation, a rotation of the word alone three.
 #[inline(always)]
 fn rotations_and_shift(lanes: u64x2, first: u32, second: u32, shift: u32) -> u64x2
     requires near { 1 ≤ first }
@@ -46,8 +46,8 @@ fn small_sigma_1(lanes: u64x2) -> u64x2
     rotations_and_shift(lanes, first, second, shift as u32)
 }
 
-// The next two words, by the pairs that begin 16, 15, 7 and 2 words before them. The newest pair
-// is added last: the other sums don't wait for it.
+// The next two words, from the pairs that begin 16, 15, 7 and 2 words before them. The newest pair
+// is added last, so that the other sums need not wait for it.
 #[inline(always)]
 fn next_two(sixteen: u64x2, fifteen: u64x2, seven: u64x2, two: u64x2) -> u64x2
     ensures { map low_32 result ≡ map (λ i. scheduled family_256

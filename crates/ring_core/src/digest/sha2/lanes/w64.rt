@@ -11,7 +11,7 @@ use crate::digest::word::w64::{from_lanes, rotate_lanes, to_lanes};
 use std::num::Wrapping;
 use std::simd::{Simd, u64x2};
 
-// ROTR first ⊕ ROTR second, one inside the other: side by side they need a copy of the lanes more.
+// ROTR first ⊕ ROTR second, nested: two independent rotations need one more copy of the lanes.
 #[inline(always)]
 fn rotations(lanes: u64x2, first: u64, second: u64) -> u64x2
     requires near { 1 ≤ first }
@@ -40,8 +40,8 @@ fn small_sigma_1(lanes: u64x2) -> u64x2
     rotations(lanes, first as u64, second as u64) ^ (lanes >> Simd::splat(shift as u64))
 }
 
-// The next two words, by the pairs that begin 16, 15, 7 and 2 words before them. The newest pair
-// is added last: the other sums don't wait for it.
+// The next two words, from the pairs that begin 16, 15, 7 and 2 words before them. The newest pair
+// is added last, so that the other sums need not wait for it.
 #[inline(always)]
 fn next_two(sixteen: u64x2, fifteen: u64x2, seven: u64x2, two: u64x2) -> u64x2
     ensures { result ≡ map (λ i. scheduled family_512 (slice_index two i) (slice_index seven i)

@@ -2,11 +2,11 @@
 //! in C do.
 //!
 //! A [`RawContext`], a [`RawKey`] and a [`RawTagContext`] are made from a value of
-//! [`digest`](crate::digest) or [`hmac`](crate::hmac), and one is made from them again: what a
-//! value stands for, its numbers stand for too, and back. Nothing keeps other numbers from standing
-//! in their place. Each call answers on any: `None` exactly where their algorithm and counts are no
-//! value's (`IsNoContext`, `IsNoKey` and `IsNoTagContext`), and else some value, which stands for no
-//! message or key that is known.
+//! [`digest`](crate::digest) or [`hmac`](crate::hmac), and that value is made from them again: the
+//! numbers stand for what the value stands for. A caller can write other numbers in their place.
+//! Each call answers for any numbers: `None` exactly where their algorithm and counts are those of
+//! no value (`IsNoContext`, `IsNoKey` and `IsNoTagContext`), and else a value that stands for no
+//! known message or key.
 
 pub(crate) mod context;
 pub(crate) mod key;

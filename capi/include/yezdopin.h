@@ -86,11 +86,11 @@ enum {
 /* Contexts and keys. Their members are for these calls alone. They may be copied by assignment, and
  * a copy goes on by itself. Keys, and contexts of what is secret, are secret: yz_clear them.
  *
- * YZ_UNKNOWN_CONTEXT is no proof against wrong memory. It is answered where the bytes name no
- * algorithm, as always after yz_clear, where a context has a whole block of pending bytes or more,
- * and where a tag's context hasn't run the block of its key (but for a yz_hmac_update whose input
- * only waits). Any other bytes are taken for a context's or a key's, and the call answers as for
- * one: what it writes then is the digest or tag of nothing that is known. */
+ * YZ_UNKNOWN_CONTEXT is no proof against wrong memory. It is answered exactly where the bytes name
+ * no algorithm, as always after yz_clear, where a context has a whole block of pending bytes or
+ * more, and where a tag's context counts less than the block of its key. Any other bytes are taken
+ * for a context's or a key's, and the call answers as for one: what it writes then is the digest or
+ * tag of nothing that is known. */
 typedef struct {
     uint32_t algorithm;
     uint32_t num_pending;

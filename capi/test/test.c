@@ -228,7 +228,10 @@ static void bytes_of_no_context(void) {
         tag.inner.completed_low--;
         IS(yz_hmac_final(&tag, a, OUTPUT[n]), YZ_UNKNOWN_CONTEXT);
         IS(yz_hmac_update(&tag, message, BLOCK[n]), YZ_UNKNOWN_CONTEXT);
+        IS(yz_hmac_update(&tag, message, BLOCK[n] - 1), YZ_UNKNOWN_CONTEXT);
+        tag.inner.completed_low++;
         IS(yz_hmac_update(&tag, message, BLOCK[n] - 1), YZ_OK);
+        IS(yz_hmac_final(&tag, a, OUTPUT[n]), YZ_OK);
     }
 }
 

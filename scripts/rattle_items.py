@@ -24,7 +24,7 @@ COMMENT = re.compile(r"//[^\n]*\n?")
 
 @dataclasses.dataclass(frozen=True)
 class Clause:
-    """A clause of a contract: its label, empty where it has none, the comment above it, and its text."""
+    """A clause of a contract: its label, which may be empty, the comment above it, and its text."""
 
     label: str
     comment: str
@@ -147,7 +147,8 @@ def item_of(module, text, it, bounds, before):
     found = Item(
         module, kind, it["name"] or "", (it["public"] or "") == "pub ",
         comment_lines(comment, "///") or (comment_lines(plain, "//") if kind == "ghost" else ""),
-        text.count("\n", 0, start) + 1, attributes, COMMENT.sub("", head[:first]).rstrip(" \n,;"), clauses, [],
+        text.count("\n", 0, start) + 1, attributes,
+        COMMENT.sub("", head[:first]).rstrip(" \n,;"), clauses, [],
     )
     if kind in ("trait", "impl", "struct", "enum") and text[end_of_head] == "{":
         inside = kind in ("struct", "enum")

@@ -41,9 +41,9 @@ pub(crate) const K_512: [u64; 80] = [
     0x4cc5d4becb3e42b6, 0x597f299cfc657e2a, 0x5fcb6fab3ad6faec, 0x6c44198c4a475817,
 ];
 
-/// Each round constant is the first bits of the fractional part of the cube root of a prime, of as
-/// many as a word has: K of round `t`, that of the prime with `t` primes before it (FIPS 180-4,
-/// sections 4.2.2 and 4.2.3). It is a law, whose call does nothing.
+/// States that K of round t is the first bits of the fractional part of the cube root of a prime,
+/// the one with t primes before it, and as many bits as a word has (FIPS 180-4, sections 4.2.2 and
+/// 4.2.3). The call does nothing.
 pub fn constants_are_cube_roots()
     ensures words_of_32_bits { (t : ℕ) → t < 64
         → IsRootFraction 3 32 (slice_index first_primes t) (slice_index constants_256 t) }

@@ -14,15 +14,16 @@ use std::alloc::Allocator;
 /// What a line was.
 #[derive(Clone, Copy, Debug, PartialEq, Eq)]
 pub enum LineKind {
-    /// It is empty or a comment, and is given no answer.
+    /// An empty line or a comment, which is given no answer.
     Nothing,
-    /// It is of the format, and is answered, also where a call refused it.
+    /// A line of the format, which is answered, also where a call refuses it.
     Answered,
-    /// It is of another form.
+    /// A line of another form.
     Bad,
 }
 
-/// As `answer`, over any allocators.
+/// Appends the reply to `line` to `out` as [`answer`](crate::answer) does, with memory of any
+/// allocator `alloc`. It is refused where a growth fails.
 pub fn answer_in<A: Allocator + Copy, B: Allocator>(
     alloc: A,
     line: &[u8],

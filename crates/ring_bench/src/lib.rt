@@ -63,11 +63,12 @@ pub use crate::status::{BenchError, Status};
 /// How many bytes a run asks its reader for at once.
 const BUFFER_LEN: usize = 4096;
 
-/// Adds the reply to `line` at the end of `out`, and tells what the line was.
+/// Appends the reply to `line` to `out`, and returns what the line was. Memory comes from `alloc`.
 ///
-/// The line is without its line feed and its carriage return. Its reply is its answer with a line
-/// feed, or nothing where it is given none. The only error is `Memory`, which leaves `out` as it
-/// was.
+/// `line` has no line feed and no carriage return at its end. Its reply is its answer and a line
+/// feed, or nothing where a line is given no answer.
+///
+/// Refused where a growth fails, with `Memory` and no other error. `out` is then unchanged.
 pub fn answer(alloc: Global, line: &[u8], out: &mut Vec<u8>) -> Result<LineKind, BenchError>
     ensures reply { OnOk result (out.new.items ≡ out.old.items ++ reply line.now) }
     ensures kind { IfOk result (λ found. found ≡ kind line.now) }
@@ -77,16 +78,17 @@ pub fn answer(alloc: Global, line: &[u8], out: &mut Vec<u8>) -> Result<LineKind,
     answer_in(alloc, line, out)
 }
 
-/// Reads to the reader's end, and writes the reply to each line before it looks at the next line.
+/// Reads all of `reader`, and writes the reply to each line to `writer` before it looks at the next
+/// line. Memory comes from `alloc`.
 ///
-/// - Ok comes behind one flush, and says whether a bad line stood in the text.
-/// - `Memory`: a growth was refused at a line, and the replies to the lines before it are written.
+/// - Ok follows one flush, and says whether the text has a bad line.
+/// - `Memory`: a growth was refused at a line. The replies to the lines before it are written.
 /// - `Read`: a read failed, or the reader had not ended after `u64::MAX` reads. The replies to some
 ///   first lines are written, each of which a line feed had ended.
 /// - `Write`: a write or the flush failed, or the writer took none of the bytes offered. Nothing is
-///   said of what was written.
+///   said about what is written.
 ///
-/// A read that was interrupted is tried again. The empty text takes no memory.
+/// An interrupted read is tried again. The empty text takes no memory.
 pub fn run<R: Read, W: Write>(
     alloc: Global,
     reader: &mut R,
@@ -110,7 +112,8 @@ pub fn run<R: Read, W: Write>(
     run_in(alloc, reader, writer)
 }
 
-/// As `run`, over any allocator.
+/// Answers the text of `reader` as [`run`] does, with memory of any allocator `alloc`. The replies
+/// go to `writer`, and it is refused where [`run`] is.
 pub fn run_in<A: Allocator + Copy, R: Read, W: Write>(
     alloc: A,
     reader: &mut R,
@@ -144,10 +147,11 @@ pub fn run_in<A: Allocator + Copy, R: Read, W: Write>(
     Err(BenchError::Read)
 }
 
-/// The exit status of a program for its run, and its line for standard error without a line feed.
+/// The exit status of a program for `result_of_run`, the result of its [`run`], and its line for
+/// standard error without a line feed.
 ///
 /// The status is 0 for a run without a bad line, 1 for a run with one, and 2 for a run that
-/// stopped. Only a run that stopped has a line, else the text is empty.
+/// stopped. The line is empty where the run did not stop.
 pub fn outcome(result_of_run: &Result<Status, BenchError>) -> (u8, &'static str)
     ensures status { result.0 ≡ exit_status result_of_run.now }
     ensures text { result.1.now ≡ error_text result_of_run.now }

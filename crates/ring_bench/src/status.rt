@@ -4,12 +4,12 @@ ghost use Rattle.ring_bench.specs.declared.status.BenchError.TheVariants.{Memory
 
 use std::alloc::AllocError;
 
-/// How a run that read to the end went.
+/// How a run went that read to the end.
 #[derive(Clone, Copy, Debug, PartialEq, Eq)]
 pub enum Status {
-    /// No bad line stood in the text.
+    /// The text has no bad line.
     Clean,
-    /// A bad line stood in the text.
+    /// The text has a bad line.
     SomeBad,
 }
 
@@ -24,6 +24,7 @@ pub enum BenchError {
     Write,
 }
 
+/// A refused growth is `Memory`.
 impl From<AllocError> for BenchError {
     ghost from_gives = { λ _ error. error ≡ Memory };
 

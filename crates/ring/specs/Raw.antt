@@ -48,8 +48,7 @@ IsNoContext raw = named_block_len raw.algorithm ≤ raw.num_pending
 abbrev pub IsNoKey : RawKey → Type 0
 IsNoKey raw = digest_named raw.algorithm ≡ None
 
--- the numbers are no tag context's: the inner ones are no context's, or count less than the key's
--- block
+-- the numbers are no tag context's: the inner ones are no context's, or count less than one block
 abbrev pub IsNoTagContext : RawTagContext → Type 0
 IsNoTagContext raw =
     IsNoContext raw.inner ⊎ (completed_len raw.inner < named_block_len raw.inner.algorithm)

@@ -58,10 +58,9 @@ enum {
     YZ_OK = 0,
     YZ_UNKNOWN_ALGORITHM = 1, /* the number names no algorithm of this call */
     YZ_UNKNOWN_CONTEXT = 2,   /* the bytes can be no context's or key's: see their types */
-    YZ_WRONG_LENGTH = 3,      /* of what is to be written, but for the limit of PBKDF2 */
+    YZ_WRONG_LENGTH = 3,      /* of what is to be written */
     YZ_NO_ITERATIONS = 4,     /* the number of iterations is 0 */
-    YZ_UNSPECIFIED = 5,       /* an input past its limit, an output of PBKDF2 past its own, or what
-                               * was verified is something else */
+    YZ_UNSPECIFIED = 5,       /* an input past its limit, or what was verified is something else */
 };
 
 /* Bytes of a digest or a tag, and of a block. */
@@ -188,9 +187,8 @@ yz_status yz_hkdf(uint32_t algorithm, const uint8_t *salt, size_t salt_len,
                   uint8_t *out, size_t out_len) YZ_MUST_CHECK;
 
 /* PBKDF2. `out_len` is at most YZ_PBKDF2_MAX_OUT_LEN of the algorithm's yz_output_len, or the call
- * answers YZ_UNSPECIFIED, as for an input past its limit. A verification answers YZ_OK exactly
- * where `derived` isn't empty and is what yz_pbkdf2_derive gives for its length, and reads all of
- * it before it answers. */
+ * answers YZ_WRONG_LENGTH. A verification answers YZ_OK exactly where `derived` isn't empty and is
+ * what yz_pbkdf2_derive gives for its length, and reads all of it before it answers. */
 yz_status yz_pbkdf2_derive(uint32_t algorithm, uint32_t iterations,
                            const uint8_t *salt, size_t salt_len,
                            const uint8_t *secret, size_t secret_len,

@@ -199,13 +199,14 @@ static void longest_outputs(void) {
     }
 }
 
-/* Of PBKDF2 a byte past the limit is refused. No memory is as long, but the number may be
- * written. */
+/* An output of PBKDF2 a byte past its limit is of a wrong length, before the iterations are looked
+ * at. No memory is as long, but the number may be written. */
 static void past_the_longest_derived(void) {
     memset(a, 7, sizeof a);
     for (uint32_t n = YZ_SHA1; n <= YZ_SHA512; n++) {
         size_t more = YZ_PBKDF2_MAX_OUT_LEN(OUTPUT[n]) + 1;
-        IS(yz_pbkdf2_derive(n, 1, NULL, 0, NULL, 0, a, more), YZ_UNSPECIFIED);
+        IS(yz_pbkdf2_derive(n, 1, NULL, 0, NULL, 0, a, more), YZ_WRONG_LENGTH);
+        IS(yz_pbkdf2_derive(n, 0, NULL, 0, NULL, 0, a, more), YZ_WRONG_LENGTH);
         IS(yz_pbkdf2_verify(n, 1, NULL, 0, NULL, 0, a, more), YZ_UNSPECIFIED);
     }
     for (size_t i = 0; i < sizeof a; i++) IS(a[i], 7);

@@ -1,15 +1,32 @@
 //! Keys from passwords.
 
-ghost use Rattle.std.specs.Prelude.{◌≡◌, ◌≢◌, ◌↔◌, ◌<◌, Some, None, length};
-ghost use Rattle.ring.specs.Limits.{CanDerive};
+ghost use Rattle.std.specs.Prelude.{◌≡◌, ◌≢◌, ◌↔◌, ◌<◌, ◌≤◌, Some, None, length};
+ghost use Rattle.ring.specs.Limits.{CanDerive, max_dk_len};
 ghost use Rattle.ring.specs.Pbkdf2.{IsDerived, dk, pbkdf2_digest};
 ghost use Rattle.ring.specs.declared.pbkdf2.algorithm.Algorithm.{Algorithm};
 ghost use Rattle.yz_c.specs.Number.{pbkdf2_named};
 
 use crate::number::pbkdf2_of_number;
-use crate::status::{NO_ITERATIONS, OK, UNKNOWN_ALGORITHM, UNSPECIFIED};
+use crate::status::{NO_ITERATIONS, OK, UNKNOWN_ALGORITHM, UNSPECIFIED, WRONG_LENGTH};
+use ring::digest::{SHA1_OUTPUT_LEN, SHA256_OUTPUT_LEN, SHA384_OUTPUT_LEN, SHA512_OUTPUT_LEN};
 use ring::pbkdf2;
 use std::num::NonZeroU32;
+
+// The bytes of the longest key of an algorithm's number: more blocks have no number (RFC 2898,
+// section 5.2).
+fn max_key_len(algorithm: u32) -> u128
+    ensures { (a : Algorithm) → pbkdf2_named algorithm ≡ Some a
+        → result ≡ max_dk_len (pbkdf2_digest a) }
+{
+    let digest_len = match algorithm {
+        1 => SHA1_OUTPUT_LEN,
+        2 => SHA256_OUTPUT_LEN,
+        3 => SHA384_OUTPUT_LEN,
+        4 => SHA512_OUTPUT_LEN,
+        _ => 0,
+    };
+    u32::MAX as u128 * digest_len as u128
+}
 
 /// Fills `out` with the key that is derived from `secret`.
 #[unsafe(no_mangle)]
@@ -23,18 +40,25 @@ pub extern "C" fn yz_pbkdf2_derive(
     ensures ok { (a : Algorithm) → pbkdf2_named algorithm ≡ Some a → result ≡ OK
         → out.new ≡ dk (pbkdf2_digest a) secret.now salt.now iterations (length out.old) }
     ensures unknown { result ≡ UNKNOWN_ALGORITHM ↔ pbkdf2_named algorithm ≡ None }
+    ensures wrong_length { (a : Algorithm) → pbkdf2_named algorithm ≡ Some a
+        → (result ≡ WRONG_LENGTH ↔ max_dk_len (pbkdf2_digest a) < length out.old) }
     ensures no_iterations { (a : Algorithm) → pbkdf2_named algorithm ≡ Some a
+        → length out.old ≤ max_dk_len (pbkdf2_digest a)
         → (result ≡ NO_ITERATIONS ↔ iterations ≡ 0) }
     ensures refused { (a : Algorithm) → pbkdf2_named algorithm ≡ Some a → 0 < iterations
         → (result ≡ OK ↔ CanDerive (pbkdf2_digest a)
         (length secret.now) (length salt.now) (length out.old)) }
     ensures told { (a : Algorithm) → pbkdf2_named algorithm ≡ Some a → 0 < iterations
-        → result ≢ OK → result ≡ UNSPECIFIED }
+        → length out.old ≤ max_dk_len (pbkdf2_digest a) → result ≢ OK → result ≡ UNSPECIFIED }
     ensures unchanged { result ≢ OK → out.new ≡ out.old }
 {
+    let max_len = max_key_len(algorithm);
     let Some(algorithm) = pbkdf2_of_number(algorithm) else {
         return UNKNOWN_ALGORITHM;
     };
+    if out.len() as u128 > max_len {
+        return WRONG_LENGTH;
+    }
     let Some(iterations) = NonZeroU32::new(iterations) else {
         return NO_ITERATIONS;
     };

@@ -7,89 +7,186 @@
     >>> key = hmac.Key(b"Jefe", "sha256")
     >>> key.verify(b"what do ya want for nothing?", bytes.fromhex(tag))
     True
+
+The hash is a name, or a constructor of `yezdopin` or `hashlib`, and the library makes the tag. Of
+any other constructor, or module with `new`, it is made here, over objects of that hash.
 """
 
 from __future__ import annotations
 
-import ctypes
-from typing import Optional
+import hashlib
+import warnings
+from typing import TYPE_CHECKING, Any, Callable
 
-from yezdopin import Digest, _library, compare_digest
-from yezdopin._library import Buffer
+from yezdopin import _native
+from yezdopin._native import compare_digest
+
+if TYPE_CHECKING:
+    from _typeshed import ReadableBuffer
 
 __all__ = ["HMAC", "Key", "compare_digest", "digest", "new", "verify"]
 
+# What the library knows constructors by: its own by themselves, those of hashlib by their names.
+_KNOWN: list[tuple[Any, Any]] = [
+    *((it, it) for it in (_native.sha1, _native.sha256, _native.sha384, _native.sha512)),
+    (_native.sha512_256, _native.sha512_256),
+    *((getattr(hashlib, name), name) for name in ("sha1", "sha256", "sha384", "sha512")),
+]
+_INNER = bytes(byte ^ 0x36 for byte in range(256))
+_OUTER = bytes(byte ^ 0x5C for byte in range(256))
+_LEAST_BLOCK = 16
 
-class Key:
+
+def _native_hash(digestmod: Any) -> Any:
+    """What the library knows a hash by, or None."""
+    if isinstance(digestmod, str):
+        return digestmod
+    return next((known for constructor, known in _KNOWN if constructor is digestmod), None)
+
+
+def _constructor(digestmod: Any) -> Callable[..., Any]:
+    """What begins a digest of a hash, which is a name, a constructor or a module."""
+    if callable(digestmod):
+        return digestmod  # type: ignore[no-any-return]
+    if isinstance(digestmod, str):
+        return lambda data=b"": _native.new(digestmod, data)
+    return digestmod.new  # type: ignore[no-any-return]
+
+
+class Key(_native.Key):
     """A key, whose two blocks are run once for all tags under it. Threads may share it."""
 
-    def __init__(self, key: Buffer, digestmod: str) -> None:
-        number = _library.number_of(digestmod)
-        self.name = _library.name_of(number)
-        self.digest_size: int = _library.output_len(number)
-        self.block_size: int = _library.block_len(number)
-        self._key = _library.Key()
-        made = ctypes.byref(self._key)
-        _library.done(_library.answer(_library.hmac_key_init, [number], [key], made))
+    __slots__ = ()
 
-    def sign(self, msg: Buffer) -> bytes:
-        """The tag of a message."""
-        key = ctypes.byref(self._key)
-        return _library.output(_library.hmac_key_sign, [key], [msg], self.digest_size)
+    def __new__(cls, key: ReadableBuffer, digestmod: Any) -> Key:
+        known = _native_hash(digestmod)
+        return super().__new__(cls, key, digestmod if known is None else known)
 
-    def verify(self, msg: Buffer, tag: Buffer) -> bool:
-        """Whether `tag` is the whole tag of a message."""
-        key = ctypes.byref(self._key)
-        status = _library.answer(_library.hmac_key_verify, [key], [msg, tag])
-        return _library.is_verified(status)
-
-    def new(self, msg: Buffer = b"") -> HMAC:
+    def new(self, msg: ReadableBuffer | None = None) -> HMAC:
         """The tag of a message in pieces."""
-        return HMAC(self, msg)
-
-    def __del__(self) -> None:
-        if "_key" in self.__dict__:
-            _library.clear(self._key)
+        made = HMAC.__new__(HMAC)
+        made._hold(self._begin(msg))
+        return made
 
 
-class HMAC(Digest):
+class HMAC:
     """The tag of a message in pieces, as `hmac.HMAC`."""
 
-    def __init__(self, key: Key, msg: Buffer = b"") -> None:
-        self.name = f"hmac-{key.name}"
-        self.digest_size = key.digest_size
-        self.block_size = key.block_size
-        self._context = _library.TagContext()
-        made = ctypes.byref(self._context)
-        _library.done(_library.hmac_init(ctypes.byref(key._key), made))
-        self.update(msg)
+    __slots__ = ("_hmac", "_inner", "_outer", "block_size", "digest_size")
 
-    def update(self, msg: Buffer) -> None:
+    blocksize = 64  # where another hash doesn't say its own
+
+    _hmac: _native.Tag | None
+    _inner: Any
+    _outer: Any
+    block_size: int
+    digest_size: int
+
+    def __init__(
+        self, key: ReadableBuffer, msg: ReadableBuffer | None = None, digestmod: Any = ""
+    ) -> None:
+        if not digestmod:
+            raise TypeError("missing required argument 'digestmod'")
+        known = _native_hash(digestmod)
+        if known is None:
+            self._init_old(key, msg, digestmod)
+        else:
+            self._init_hmac(key, msg, known)
+
+    def _init_hmac(self, key: ReadableBuffer, msg: ReadableBuffer | None, digestmod: Any) -> None:
+        self._hold(_native.hmac_new(key, msg, digestmod))
+
+    def _hold(self, tag: _native.Tag) -> None:
+        """Takes a tag of the library."""
+        self._hmac, self._inner, self._outer = tag, None, None
+        self.digest_size = tag.digest_size
+        self.block_size = tag.block_size
+
+    def _init_old(self, key: ReadableBuffer, msg: ReadableBuffer | None, digestmod: Any) -> None:
+        """RFC 2104 over objects of any hash."""
+        begin = _constructor(digestmod)
+        self._hmac, self._inner, self._outer = None, begin(), begin()
+        self.digest_size = self._inner.digest_size
+        self.block_size = self._block_size()
+        block = bytes(memoryview(key))
+        if len(block) > self.block_size:
+            block = begin(block).digest()
+        block = block.ljust(self.block_size, b"\0")
+        self._inner.update(block.translate(_INNER))
+        self._outer.update(block.translate(_OUTER))
+        if msg is not None:
+            self._inner.update(msg)
+
+    def _block_size(self) -> int:
+        """The bytes of the hash's block, or a warning and a usual number."""
+        said: int | None = getattr(self._inner, "block_size", None)
+        if said is not None and said >= _LEAST_BLOCK:
+            return said
+        warning = f"the hash has block_size {said}: taking {self.blocksize}"
+        warnings.warn(warning, RuntimeWarning, stacklevel=4)
+        return self.blocksize
+
+    @property
+    def name(self) -> str:
+        """The hash, as 'hmac-sha256'."""
+        return self._hmac.name if self._hmac is not None else f"hmac-{self._inner.name}"
+
+    def update(self, msg: ReadableBuffer) -> None:
         """Adds bytes to the message."""
-        context = ctypes.byref(self._context)
-        _library.done(_library.answer(_library.hmac_update, [context], [msg]))
+        running = self._inner if self._hmac is None else self._hmac
+        running.update(msg)
+
+    def _finished(self) -> _native.Digest | _native.Tag:
+        """What gives the tag of the message so far."""
+        if self._hmac is not None:
+            return self._hmac
+        outer: _native.Digest = self._outer.copy()
+        outer.update(self._inner.digest())
+        return outer
 
     def digest(self) -> bytes:
         """The tag of the message so far, to which more may be added."""
-        context = ctypes.byref(self._context)
-        return _library.output(_library.hmac_final, [context], [], self.digest_size)
+        return self._finished().digest()
+
+    def hexdigest(self) -> str:
+        """The tag as hex digits."""
+        return self._finished().hexdigest()
+
+    def copy(self) -> HMAC:
+        """A copy that goes on by itself."""
+        other = type(self).__new__(type(self))
+        other.block_size, other.digest_size = self.block_size, self.digest_size
+        if self._hmac is not None:
+            other._hmac, other._inner, other._outer = self._hmac.copy(), None, None
+        else:
+            other._hmac, other._inner, other._outer = None, self._inner.copy(), self._outer.copy()
+        return other
+
+    __copy__ = copy
+
+    def __deepcopy__(self, memo: Any) -> HMAC:
+        return self.copy()
+
+    def __reduce_ex__(self, protocol: Any) -> Any:
+        raise TypeError("cannot pickle 'HMAC' object")
 
 
-def new(key: Buffer, msg: Optional[Buffer] = None, digestmod: str = "") -> HMAC:
+def new(key: ReadableBuffer, msg: ReadableBuffer | None = None, digestmod: Any = "") -> HMAC:
     """The tag of a message in pieces, as `hmac.new`."""
-    if not digestmod:
-        raise TypeError("digestmod is wanted")
-    return HMAC(Key(key, digestmod), b"" if msg is None else msg)
+    return HMAC(key, msg, digestmod)
 
 
-def digest(key: Buffer, msg: Buffer, digest: str) -> bytes:
+def digest(key: ReadableBuffer, msg: ReadableBuffer, digest: Any) -> bytes:
     """The tag of a message, as `hmac.digest`."""
-    number = _library.number_of(digest)
-    length = _library.output_len(number)
-    return _library.output(_library.hmac_sign, [number], [key, msg], length)
+    known = _native_hash(digest)
+    if known is None:
+        return HMAC(key, msg, digest).digest()
+    return _native.hmac_digest(key, msg, known)
 
 
-def verify(key: Buffer, msg: Buffer, tag: Buffer, digest: str) -> bool:
+def verify(key: ReadableBuffer, msg: ReadableBuffer, tag: ReadableBuffer, digest: Any) -> bool:
     """Whether `tag` is the whole tag of a message."""
-    first = [_library.number_of(digest)]
-    return _library.is_verified(_library.answer(_library.hmac_verify, first, [key, msg, tag]))
+    known = _native_hash(digest)
+    if known is None:
+        return compare_digest(HMAC(key, msg, digest).digest(), tag)
+    return _native.hmac_verify(key, msg, tag, known)

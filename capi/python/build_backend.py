@@ -1,0 +1,181 @@
+"""What pip asks for to install this folder (PEP 517 and 660), with a C compiler and no package.
+
+The extension is compiled from native/, over yezdopin.h and libyezdopin.a, which is linked in.
+`python3 build_backend.py FOLDER` puts the package and its extension into a folder.
+"""
+
+from __future__ import annotations
+
+import base64
+import hashlib
+import io
+import os
+import pathlib
+import shlex
+import shutil
+import subprocess
+import sys
+import sysconfig
+import tarfile
+import tempfile
+import tomllib
+import zipfile
+from typing import Any, Iterable, Iterator
+
+FOLDER = pathlib.Path(__file__).resolve().parent
+# What is above an sdist isn't this repository, and may be anyone's.
+IS_SDIST = (FOLDER / "PKG-INFO").is_file()
+PROJECT = tomllib.loads((FOLDER / "pyproject.toml").read_text())["project"]
+STEM = f"{PROJECT['name']}-{PROJECT['version']}"
+TAG = f"cp311-abi3-{sysconfig.get_platform().replace('-', '_').replace('.', '_')}"
+EXTENSION = "_native.abi3.so"
+HEADER, ARCHIVE = "yezdopin.h", "libyezdopin.a"
+USUAL = ["/usr/local/lib", "/usr/lib/x86_64-linux-gnu", "/usr/lib64", "/usr/lib"]
+HINT = "build it (`make -C capi`), install it, or name its folder in YEZDOPIN_LIB_DIR"
+
+
+def _told(variable: str) -> list[pathlib.Path]:
+    """The folder that pkg-config tells, where it tells one."""
+    command = ["pkg-config", f"--variable={variable}", "yezdopin"]
+    try:
+        run = subprocess.run(command, capture_output=True, text=True, check=True)
+    except (OSError, subprocess.CalledProcessError):
+        return []
+    return [pathlib.Path(run.stdout.strip())]
+
+
+def _found(name: str, folders: Iterable[pathlib.Path], hint: str) -> pathlib.Path:
+    """A file in the first of some folders that has it."""
+    tried = list(folders)
+    for folder in tried:
+        if (folder / name).is_file():
+            return folder / name
+    raise SystemExit(f"{name} isn't in any of {', '.join(map(str, tried))}: {hint}")
+
+
+def _library() -> tuple[pathlib.Path, pathlib.Path]:
+    """The header and the archive: those that are named, of this repository, or installed."""
+    given = os.environ.get("YEZDOPIN_LIB_DIR")
+    beside = [] if IS_SDIST else [FOLDER.parent / "out"]
+    usual = [*beside, *_told("libdir"), *map(pathlib.Path, USUAL)]
+    archive = _found(ARCHIVE, [pathlib.Path(given)] if given else usual, HINT)
+    near = [folder / "include" for folder in archive.resolve().parents[1:3]]
+    beside = [] if IS_SDIST else [FOLDER.parent / "include"]
+    return _found(HEADER, [*near, *beside, *_told("includedir")], HINT), archive
+
+
+def _compile(folder: pathlib.Path) -> None:
+    """Compiles the extension into a folder."""
+    header, archive = _library()
+    python = pathlib.Path(sysconfig.get_paths()["include"])
+    _found("Python.h", [python], "install Python's headers (python3-dev on Debian)")
+    command = [
+        *shlex.split(os.environ.get("CC", "cc")),
+        *shlex.split(os.environ.get("CFLAGS", "-O2")),
+        *["-std=c11", "-shared", "-fPIC", "-fvisibility=hidden"],
+        *["-I", str(header.parent), "-isystem", str(python)],
+        *map(str, sorted((FOLDER / "native").glob("*.c"))),
+        str(archive),
+        *["-Wl,--exclude-libs,ALL", "-Wl,-z,relro,-z,now,-z,noexecstack"],
+        *shlex.split(os.environ.get("LDFLAGS", "")),
+        *["-o", str(folder / EXTENSION)],
+    ]
+    try:
+        subprocess.run(command, check=True)
+    except FileNotFoundError:
+        raise SystemExit(f"there is no C compiler {command[0]}: name one in CC") from None
+    except subprocess.CalledProcessError as error:
+        raise SystemExit(f"the C compiler ended with {error.returncode}") from None
+
+
+def _texts() -> Iterator[pathlib.Path]:
+    """The files of the package but for the extension."""
+    for path in sorted((FOLDER / "yezdopin").iterdir()):
+        if path.suffix in {".py", ".pyi", ".typed"}:
+            yield path
+
+
+def _license() -> bytes:
+    """The licence, which stands at the top of the repository or of an sdist."""
+    folder = FOLDER if IS_SDIST else FOLDER.parents[1]
+    return (folder / "LICENSE").read_bytes()
+
+
+def _metadata() -> bytes:
+    """What is said about the package."""
+    return f"""Metadata-Version: 2.1
+Name: {PROJECT["name"]}
+Version: {PROJECT["version"]}
+Summary: {PROJECT["description"]}
+License: {PROJECT["license"]}
+Requires-Python: {PROJECT["requires-python"]}
+Description-Content-Type: text/markdown
+
+{(FOLDER / "README.md").read_text()}""".encode()
+
+
+def _write_wheel(directory: str, files: list[tuple[str, bytes]]) -> str:
+    """Writes a wheel of some files, and gives its name."""
+    info, name = f"{STEM}.dist-info", f"{STEM}-{TAG}.whl"
+    said = f"Wheel-Version: 1.0\nGenerator: {STEM}\nRoot-Is-Purelib: false\nTag: {TAG}\n"
+    files += [(f"{info}/METADATA", _metadata()), (f"{info}/LICENSE", _license())]
+    files += [(f"{info}/WHEEL", said.encode())]
+    record = ""
+    for path, data in files:
+        digest = base64.urlsafe_b64encode(hashlib.sha256(data).digest()).rstrip(b"=").decode()
+        record += f"{path},sha256={digest},{len(data)}\n"
+    files.append((f"{info}/RECORD", f"{record}{info}/RECORD,,\n".encode()))
+    with zipfile.ZipFile(pathlib.Path(directory) / name, "w", zipfile.ZIP_DEFLATED) as wheel:
+        for path, data in files:
+            member = zipfile.ZipInfo(path)
+            member.external_attr = (0o755 if path.endswith(".so") else 0o644) << 16
+            wheel.writestr(member, data, zipfile.ZIP_DEFLATED)
+    return name
+
+
+def build_wheel(
+    wheel_directory: str, config_settings: Any = None, metadata_directory: Any = None
+) -> str:
+    """Writes the wheel, and gives its name."""
+    with tempfile.TemporaryDirectory() as room:
+        fill(pathlib.Path(room))
+        paths = sorted(pathlib.Path(room, "yezdopin").iterdir())
+        files = [(f"yezdopin/{path.name}", path.read_bytes()) for path in paths]
+        return _write_wheel(wheel_directory, files)
+
+
+def build_editable(
+    wheel_directory: str, config_settings: Any = None, metadata_directory: Any = None
+) -> str:
+    """Writes a wheel that names this folder, whose extension is compiled in its place."""
+    _compile(FOLDER / "yezdopin")
+    return _write_wheel(wheel_directory, [("yezdopin.pth", f"{FOLDER}\n".encode())])
+
+
+def build_sdist(sdist_directory: str, config_settings: Any = None) -> str:
+    """Writes what a wheel is built from, but for the library, and gives its name."""
+    members = [("PKG-INFO", _metadata()), ("LICENSE", _license())]
+    names = ["pyproject.toml", "build_backend.py", "README.md"]
+    paths = [*(FOLDER / name for name in names), *sorted((FOLDER / "native").iterdir()), *_texts()]
+    members += [(str(path.relative_to(FOLDER)), path.read_bytes()) for path in paths]
+    name = f"{STEM}.tar.gz"
+    with tarfile.open(pathlib.Path(sdist_directory) / name, "w:gz") as sdist:
+        for inside, data in members:
+            member = tarfile.TarInfo(f"{STEM}/{inside}")
+            member.size, member.mode = len(data), 0o644
+            sdist.addfile(member, io.BytesIO(data))
+    return name
+
+
+def fill(folder: pathlib.Path) -> None:
+    """Puts the package and its extension into a folder."""
+    package = folder / "yezdopin"
+    shutil.rmtree(package, ignore_errors=True)
+    package.mkdir(parents=True)
+    for path in _texts():
+        shutil.copy(path, package)
+    _compile(package)
+
+
+if __name__ == "__main__":
+    fill(pathlib.Path(sys.argv[1]))

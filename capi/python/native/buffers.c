@@ -1,0 +1,62 @@
+/* SPDX-License-Identifier: ISC
+ *
+ * The bytes of Python's objects, which are read where they lie, and those that are made. */
+#include "native.h"
+
+/* Borrows the bytes of an object that has them in one piece. */
+bool borrow(PyObject *object, Py_buffer *view)
+{
+    if (PyUnicode_Check(object)) {
+        PyErr_SetString(PyExc_TypeError, "a str must be encoded before it is hashed");
+        return false;
+    }
+    return PyObject_GetBuffer(object, view, PyBUF_SIMPLE) == 0;
+}
+
+/* Borrows from all of some objects or from none. NULL has no bytes. */
+bool borrow_all(PyObject *const *objects, int count, Py_buffer *views)
+{
+    for (int i = 0; i < count; i++) {
+        views[i] = (Py_buffer){0};
+        if (objects[i] != NULL && !borrow(objects[i], &views[i])) {
+            give_back(views, i);
+            return false;
+        }
+    }
+    return true;
+}
+
+void give_back(Py_buffer *views, int count)
+{
+    for (int i = 0; i < count; i++) PyBuffer_Release(&views[i]);
+}
+
+const uint8_t *bytes_of(const Py_buffer *view)
+{
+    return view->buf;
+}
+
+size_t len_of(const Py_buffer *view)
+{
+    return (size_t)view->len;
+}
+
+/* A new object of `bytes`, and where its bytes are to be written before anyone else sees it. */
+PyObject *new_bytes(size_t len, uint8_t **bytes)
+{
+    PyObject *made = PyBytes_FromStringAndSize(NULL, (Py_ssize_t)len);
+    if (made != NULL) *bytes = (uint8_t *)PyBytes_AsString(made);
+    return made;
+}
+
+/* At most YZ_MAX_OUTPUT_LEN bytes as text. */
+PyObject *hex_digits(const uint8_t *bytes, size_t len)
+{
+    static const char digits[] = "0123456789abcdef";
+    char text[2 * YZ_MAX_OUTPUT_LEN];
+    for (size_t i = 0; i < len; i++) {
+        text[2 * i] = digits[bytes[i] >> 4];
+        text[2 * i + 1] = digits[bytes[i] & 15];
+    }
+    return PyUnicode_FromStringAndSize(text, (Py_ssize_t)(2 * len));
+}

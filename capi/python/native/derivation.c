@@ -1,0 +1,212 @@
+/* SPDX-License-Identifier: ISC
+ *
+ * Keys that are derived: HKDF and PBKDF2. */
+#include "native.h"
+
+/* RFC 5869, 2.3: an output has at most so many times the bytes of a tag. */
+#define HKDF_MOST_TAGS 255
+
+/* Gives the object that a call wrote, where there is one, or raises what it answered. */
+static PyObject *made(PyObject *out, yz_status status)
+{
+    if (out == NULL || status == YZ_OK) return out;
+    Py_DECREF(out);
+    return refuse(status);
+}
+
+/* A length of HKDF's output. One that is too long becomes the least that the library refuses, so
+ * that no memory is taken for it. */
+static bool hkdf_len(PyObject *object, uint32_t algorithm, size_t *len)
+{
+    size_t most = HKDF_MOST_TAGS * yz_output_len(algorithm);
+    Py_ssize_t wanted = PyLong_AsSsize_t(object);
+    if (wanted == -1 && PyErr_Occurred()) return false;
+    if (wanted < 0) {
+        PyErr_SetString(PyExc_ValueError, "a length is at least 0");
+        return false;
+    }
+    *len = (size_t)wanted > most ? most + 1 : (size_t)wanted;
+    return true;
+}
+
+static PyObject *hkdf(PyObject *Py_UNUSED(module), PyObject *const *args, Py_ssize_t args_len,
+                      PyObject *keywords)
+{
+    static const signature takes = {
+        "hkdf", 5, 5, 5, {"hash_name", "secret", "salt", "info", "length"}};
+    PyObject *values[5];
+    Py_buffer views[3];
+    uint32_t algorithm;
+    size_t len;
+    uint8_t *bytes = NULL;
+    if (!gather(&takes, args, args_len, keywords, values)) return NULL;
+    if (!algorithm_of_name(values[0], &algorithm) || !hkdf_len(values[4], algorithm, &len)) {
+        return NULL;
+    }
+    if (!borrow_all(values + 1, 3, views)) return NULL;
+    PyObject *out = new_bytes(len, &bytes);
+    yz_status status = YZ_OK;
+    if (out != NULL) {
+        PyThreadState *saved = let_others_run(len_of(&views[0]) + len_of(&views[1]));
+        status = yz_hkdf(algorithm, bytes_of(&views[1]), len_of(&views[1]), bytes_of(&views[0]),
+                         len_of(&views[0]), bytes_of(&views[2]), len_of(&views[2]), bytes, len);
+        go_on(saved);
+    }
+    give_back(views, 3);
+    return made(out, status);
+}
+
+static PyObject *hkdf_extract(PyObject *Py_UNUSED(module), PyObject *const *args,
+                              Py_ssize_t args_len, PyObject *keywords)
+{
+    static const signature takes = {"hkdf_extract", 2, 3, 3, {"hash_name", "secret", "salt"}};
+    PyObject *values[3];
+    Py_buffer views[2];
+    uint32_t algorithm;
+    uint8_t *bytes = NULL;
+    if (!gather(&takes, args, args_len, keywords, values)) return NULL;
+    if (!algorithm_of_name(values[0], &algorithm)) return NULL;
+    if (!borrow_all(values + 1, 2, views)) return NULL;
+    size_t len = yz_output_len(algorithm);
+    PyObject *out = new_bytes(len, &bytes);
+    yz_status status = YZ_OK;
+    if (out != NULL) {
+        PyThreadState *saved = let_others_run(len_of(&views[0]) + len_of(&views[1]));
+        status = yz_hkdf_extract(algorithm, bytes_of(&views[1]), len_of(&views[1]),
+                                 bytes_of(&views[0]), len_of(&views[0]), bytes, len);
+        go_on(saved);
+    }
+    give_back(views, 2);
+    return made(out, status);
+}
+
+static PyObject *hkdf_expand(PyObject *Py_UNUSED(module), PyObject *const *args,
+                             Py_ssize_t args_len, PyObject *keywords)
+{
+    static const signature takes = {
+        "hkdf_expand", 4, 4, 4, {"hash_name", "prk", "info", "length"}};
+    PyObject *values[4];
+    Py_buffer views[2];
+    uint32_t algorithm;
+    size_t len;
+    uint8_t *bytes = NULL;
+    if (!gather(&takes, args, args_len, keywords, values)) return NULL;
+    if (!algorithm_of_name(values[0], &algorithm) || !hkdf_len(values[3], algorithm, &len)) {
+        return NULL;
+    }
+    if (!borrow_all(values + 1, 2, views)) return NULL;
+    PyObject *out = new_bytes(len, &bytes);
+    yz_status status = YZ_OK;
+    if (out != NULL) {
+        PyThreadState *saved = let_others_run(len_of(&views[1]));
+        status = yz_hkdf_expand(algorithm, bytes_of(&views[0]), len_of(&views[0]),
+                                bytes_of(&views[1]), len_of(&views[1]), bytes, len);
+        go_on(saved);
+    }
+    give_back(views, 2);
+    return made(out, status);
+}
+
+/* A number of iterations. What is below 1 is refused as 0 is. */
+static bool iterations_of(PyObject *object, uint32_t *iterations)
+{
+    int overflow;
+    long long wanted = PyLong_AsLongLongAndOverflow(object, &overflow);
+    if (wanted == -1 && overflow == 0 && PyErr_Occurred()) return false;
+    if (overflow > 0 || wanted > (long long)UINT32_MAX) {
+        PyErr_SetString(PyExc_OverflowError, "iterations are a number of 32 bits");
+        return false;
+    }
+    *iterations = overflow < 0 || wanted < 0 ? 0 : (uint32_t)wanted;
+    if (*iterations == 0) refuse(YZ_NO_ITERATIONS);
+    return *iterations != 0;
+}
+
+/* A derived key's length, which is a digest's where it is NULL or None. */
+static bool derived_len(PyObject *object, uint32_t algorithm, size_t *len)
+{
+    *len = yz_output_len(algorithm);
+    if (object == NULL || object == Py_None) return true;
+    Py_ssize_t wanted = PyLong_AsSsize_t(object);
+    if (wanted == -1 && PyErr_Occurred()) return false;
+    if (wanted < 1) {
+        PyErr_SetString(PyExc_ValueError, "a derived key's length is at least 1");
+        return false;
+    }
+    *len = (size_t)wanted;
+    return true;
+}
+
+static PyObject *derived(uint32_t algorithm, uint32_t iterations, const Py_buffer *views,
+                         size_t len)
+{
+    uint8_t *bytes = NULL;
+    PyObject *out = new_bytes(len, &bytes);
+    if (out == NULL) return NULL;
+    PyThreadState *saved = PyEval_SaveThread();
+    yz_status status = yz_pbkdf2_derive(algorithm, iterations, bytes_of(&views[1]),
+                                        len_of(&views[1]), bytes_of(&views[0]), len_of(&views[0]),
+                                        bytes, len);
+    PyEval_RestoreThread(saved);
+    return made(out, status);
+}
+
+static PyObject *pbkdf2_hmac(PyObject *Py_UNUSED(module), PyObject *const *args,
+                             Py_ssize_t args_len, PyObject *keywords)
+{
+    static const signature takes = {
+        "pbkdf2_hmac", 4, 5, 5, {"hash_name", "password", "salt", "iterations", "dklen"}};
+    PyObject *values[5];
+    Py_buffer views[2];
+    uint32_t algorithm, iterations;
+    size_t len;
+    if (!gather(&takes, args, args_len, keywords, values)) return NULL;
+    if (!algorithm_of_name(values[0], &algorithm) || !borrow_all(values + 1, 2, views)) return NULL;
+    PyObject *out = NULL;
+    if (iterations_of(values[3], &iterations) && derived_len(values[4], algorithm, &len)) {
+        out = derived(algorithm, iterations, views, len);
+    }
+    give_back(views, 2);
+    return out;
+}
+
+static PyObject *pbkdf2_hmac_verify(PyObject *Py_UNUSED(module), PyObject *const *args,
+                                    Py_ssize_t args_len, PyObject *keywords)
+{
+    static const signature takes = {"pbkdf2_hmac_verify", 5, 5, 5,
+                                    {"hash_name", "password", "salt", "iterations", "derived"}};
+    PyObject *values[5];
+    Py_buffer views[3];
+    uint32_t algorithm, iterations;
+    if (!gather(&takes, args, args_len, keywords, values)) return NULL;
+    PyObject *lent[] = {values[1], values[2], values[4]};
+    if (!algorithm_of_name(values[0], &algorithm)) return NULL;
+    if (!iterations_of(values[3], &iterations) || !borrow_all(lent, 3, views)) return NULL;
+    PyThreadState *saved = PyEval_SaveThread();
+    yz_status status = yz_pbkdf2_verify(algorithm, iterations, bytes_of(&views[1]),
+                                        len_of(&views[1]), bytes_of(&views[0]), len_of(&views[0]),
+                                        bytes_of(&views[2]), len_of(&views[2]));
+    PyEval_RestoreThread(saved);
+    give_back(views, 3);
+    return verdict(status);
+}
+
+PyMethodDef derivation_functions[] = {
+    {"hkdf", METHOD(hkdf), FAST,
+     PyDoc_STR("hkdf($module, /, hash_name, secret, salt, info, length)\n--\n\n"
+               "`length` bytes of output for `info` (RFC 5869): extract, and then expand.")},
+    {"hkdf_extract", METHOD(hkdf_extract), FAST,
+     PyDoc_STR("hkdf_extract($module, /, hash_name, secret, salt=b'')\n--\n\n"
+               "The pseudorandom key of a secret (RFC 5869, 2.2).")},
+    {"hkdf_expand", METHOD(hkdf_expand), FAST,
+     PyDoc_STR("hkdf_expand($module, /, hash_name, prk, info, length)\n--\n\n"
+               "`length` bytes of output of a pseudorandom key for `info` (RFC 5869, 2.3).")},
+    {"pbkdf2_hmac", METHOD(pbkdf2_hmac), FAST,
+     PyDoc_STR("pbkdf2_hmac($module, /, hash_name, password, salt, iterations, dklen=None)\n--\n\n"
+               "The key derived from a password (RFC 2898), as `hashlib.pbkdf2_hmac`.")},
+    {"pbkdf2_hmac_verify", METHOD(pbkdf2_hmac_verify), FAST,
+     PyDoc_STR("pbkdf2_hmac_verify($module, /, hash_name, password, salt, iterations, derived)\n"
+               "--\n\nWhether `derived` isn't empty, and is what `pbkdf2_hmac` gives for its "
+               "length.")},
+    {NULL, NULL, 0, NULL},
+};

@@ -1,0 +1,91 @@
+/* SPDX-License-Identifier: ISC
+ *
+ * Arguments, and the exceptions that are raised. */
+#include "native.h"
+
+static bool wrong_call(const signature *takes, const char *what)
+{
+    PyErr_Format(PyExc_TypeError, "%s() %s", takes->function, what);
+    return false;
+}
+
+/* Puts a keyword's value at the place of its name. */
+static bool put(const signature *takes, PyObject *keyword, PyObject *value, PyObject **values)
+{
+    for (int i = 0; i < takes->count; i++) {
+        if (PyUnicode_CompareWithASCIIString(keyword, takes->names[i]) != 0) continue;
+        if (values[i] != NULL) return wrong_call(takes, "got an argument twice");
+        values[i] = value;
+        return true;
+    }
+    PyErr_Format(PyExc_TypeError, "%s() got an unexpected keyword argument '%U'", takes->function,
+                 keyword);
+    return false;
+}
+
+/* The arguments of a call in the order of their names, NULL where one isn't given. They are
+ * borrowed. */
+bool gather(const signature *takes, PyObject *const *args, Py_ssize_t args_len, PyObject *keywords,
+            PyObject **values)
+{
+    if (args_len > takes->positional) return wrong_call(takes, "got too many arguments");
+    for (int i = 0; i < takes->count; i++) values[i] = i < args_len ? args[i] : NULL;
+    Py_ssize_t keywords_len = keywords == NULL ? 0 : PyTuple_Size(keywords);
+    for (Py_ssize_t i = 0; i < keywords_len; i++) {
+        if (!put(takes, PyTuple_GetItem(keywords, i), args[args_len + i], values)) return false;
+    }
+    for (int i = 0; i < takes->required; i++) {
+        if (values[i] != NULL) continue;
+        PyErr_Format(PyExc_TypeError, "%s() missing required argument '%s'", takes->function,
+                     takes->names[i]);
+        return false;
+    }
+    return true;
+}
+
+/* Raises `yezdopin.Error` of a status, and of a reason that is given up, or the status's own where
+ * it is NULL. */
+static PyObject *raise(yz_status status, PyObject *reason)
+{
+    PyObject *errors = PyImport_ImportModule("yezdopin._errors");
+    PyObject *class = errors == NULL ? NULL : PyObject_GetAttrString(errors, "Error");
+    PyObject *error = NULL;
+    if (class != NULL && reason == NULL) error = PyObject_CallFunction(class, "i", (int)status);
+    if (class != NULL && reason != NULL) {
+        error = PyObject_CallFunction(class, "iO", (int)status, reason);
+    }
+    if (error != NULL) PyErr_SetObject(class, error);
+    Py_XDECREF(error);
+    Py_XDECREF(class);
+    Py_XDECREF(errors);
+    Py_XDECREF(reason);
+    return NULL;
+}
+
+PyObject *refuse(yz_status status)
+{
+    return raise(status, NULL);
+}
+
+/* Refuses a hash that the library doesn't have, or not for this call. */
+PyObject *refuse_hash(PyObject *hash)
+{
+    PyObject *reason = PyUnicode_FromFormat("unsupported hash type %S", hash);
+    return reason == NULL ? NULL : raise(YZ_UNKNOWN_ALGORITHM, reason);
+}
+
+/* What a verification answers. */
+PyObject *verdict(yz_status status)
+{
+    if (status != YZ_OK && status != YZ_UNSPECIFIED) return refuse(status);
+    return PyBool_FromLong(status == YZ_OK);
+}
+
+/* Contexts and keys are secret, and belong to this process: pickling writes none. */
+PyObject *cannot_pickle(PyObject *self, PyObject *Py_UNUSED(protocol))
+{
+    PyObject *name = PyType_GetName(Py_TYPE(self));
+    if (name != NULL) PyErr_Format(PyExc_TypeError, "cannot pickle '%U' object", name);
+    Py_XDECREF(name);
+    return NULL;
+}

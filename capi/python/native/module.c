@@ -1,0 +1,83 @@
+/* SPDX-License-Identifier: ISC
+ *
+ * The extension `yezdopin._native`: what `yezdopin` and `yezdopin.hmac` are made of. */
+#include "native.h"
+
+/* Adds a type, and gives it with a reference of the caller's, or NULL. */
+static PyTypeObject *add_type(PyObject *module, PyType_Spec *spec)
+{
+    PyObject *type = PyType_FromModuleAndSpec(module, spec, NULL);
+    if (type != NULL && PyModule_AddType(module, (PyTypeObject *)type) != 0) Py_CLEAR(type);
+    return (PyTypeObject *)type;
+}
+
+static int add_types(PyObject *module)
+{
+    module_state *state = PyModule_GetState(module);
+    state->digest_type = add_type(module, &digest_spec);
+    if (state->digest_type == NULL) return -1;
+    state->tag_type = add_type(module, &tag_spec);
+    if (state->tag_type == NULL) return -1;
+    PyTypeObject *key_type = add_type(module, &key_spec);
+    if (key_type == NULL) return -1;
+    Py_DECREF((PyObject *)key_type);
+    return 0;
+}
+
+/* The header is compiled in, and the archive linked in: they must be of one version. */
+static int add_version(PyObject *module)
+{
+    if (yz_version() != YZ_VERSION) {
+        PyErr_SetString(PyExc_ImportError, "libyezdopin.a isn't of its header's version");
+        return -1;
+    }
+    PyObject *version = PyUnicode_FromFormat("%d.%d.%d", YZ_VERSION_MAJOR, YZ_VERSION_MINOR,
+                                             YZ_VERSION_PATCH);
+    int added = version == NULL ? -1 : PyModule_AddObjectRef(module, "__version__", version);
+    Py_XDECREF(version);
+    return added;
+}
+
+static int fill(PyObject *module)
+{
+    if (add_version(module) != 0 || add_types(module) != 0) return -1;
+    if (PyModule_AddFunctions(module, digest_functions) != 0) return -1;
+    if (PyModule_AddFunctions(module, tag_functions) != 0) return -1;
+    return PyModule_AddFunctions(module, derivation_functions);
+}
+
+static int traverse(PyObject *module, visitproc visit, void *arg)
+{
+    module_state *state = PyModule_GetState(module);
+    Py_VISIT(state->digest_type);
+    Py_VISIT(state->tag_type);
+    return 0;
+}
+
+static int clear(PyObject *module)
+{
+    module_state *state = PyModule_GetState(module);
+    Py_CLEAR(state->digest_type);
+    Py_CLEAR(state->tag_type);
+    return 0;
+}
+
+static PyModuleDef_Slot slots[] = {
+    SLOT(Py_mod_exec, fill),
+    {0, NULL},
+};
+
+static PyModuleDef definition = {
+    PyModuleDef_HEAD_INIT,
+    .m_name = "yezdopin._native",
+    .m_doc = PyDoc_STR("The proved calls of libyezdopin for Python."),
+    .m_size = sizeof(module_state),
+    .m_slots = slots,
+    .m_traverse = traverse,
+    .m_clear = clear,
+};
+
+PyMODINIT_FUNC PyInit__native(void)
+{
+    return PyModuleDef_Init(&definition);
+}

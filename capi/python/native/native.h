@@ -1,0 +1,84 @@
+/* SPDX-License-Identifier: ISC
+ *
+ * What the files of the extension `yezdopin._native` share. It is written for the limited API of
+ * Python 3.11, the first with buffers in it, so that one build serves all later versions. */
+#ifndef YEZDOPIN_NATIVE_H
+#define YEZDOPIN_NATIVE_H
+
+#define PY_SSIZE_T_CLEAN
+#define Py_LIMITED_API 0x030B0000
+#include <Python.h>
+#include <stdbool.h>
+#include <stdint.h>
+#include <yezdopin.h>
+
+/* Inputs from this length on let other threads run meanwhile, as those of hashlib. */
+#define GIL_MIN_LEN 2048
+
+/* Python's tables of types hold functions as `void *`, which is pedantically no C. */
+#define SLOT(id, function) {(id), __extension__(void *)(function)}
+#define METHOD(function) ((PyCFunction)(void (*)(void))(function))
+#define FAST (METH_FASTCALL | METH_KEYWORDS)
+
+/* What the module holds. */
+typedef struct {
+    PyTypeObject *digest_type;
+    PyTypeObject *tag_type;
+} module_state;
+
+/* The arguments that a function takes: `positional` of its `count` names may be given by their
+ * places, and the first `required` must be given. */
+#define MOST_ARGUMENTS 5
+typedef struct {
+    const char *function;
+    int required;
+    int positional;
+    int count;
+    const char *names[MOST_ARGUMENTS];
+} signature;
+
+/* errors.c: what answers a pointer or a bool has raised where that is NULL or false. */
+bool gather(const signature *takes, PyObject *const *args, Py_ssize_t args_len, PyObject *keywords,
+            PyObject **values);
+PyObject *refuse(yz_status status);
+PyObject *refuse_hash(PyObject *hash);
+PyObject *verdict(yz_status status);
+PyObject *cannot_pickle(PyObject *self, PyObject *protocol);
+
+/* names.c */
+const char *name_of(uint32_t algorithm);
+bool algorithm_of_name(PyObject *name, uint32_t *algorithm);
+bool algorithm_of(PyObject *name_or_constructor, uint32_t *algorithm);
+
+/* buffers.c */
+bool borrow(PyObject *object, Py_buffer *view);
+bool borrow_all(PyObject *const *objects, int count, Py_buffer *views);
+void give_back(Py_buffer *views, int count);
+const uint8_t *bytes_of(const Py_buffer *view);
+size_t len_of(const Py_buffer *view);
+PyObject *new_bytes(size_t len, uint8_t **bytes);
+PyObject *hex_digits(const uint8_t *bytes, size_t len);
+
+/* threads.c */
+PyThreadState *let_others_run(size_t input_len);
+void go_on(PyThreadState *saved);
+void enter(PyThread_type_lock lock);
+void leave(PyThread_type_lock lock);
+
+/* running.c: digests and tags of a message in pieces, which begin with the bytes of an object, or
+ * with none where it is NULL. */
+PyObject *begun_digest(PyTypeObject *type, uint32_t algorithm, PyObject *data);
+PyObject *begun_tag(PyTypeObject *type, uint32_t algorithm, const yz_hmac_key *key, PyObject *msg);
+extern PyType_Spec digest_spec;
+extern PyType_Spec tag_spec;
+
+/* digests.c, several.c, tags.c and derivation.c: what the module is made of. */
+uint32_t algorithm_of_constructor(PyObject *object);
+PyObject *digest_each(PyObject *module, PyObject *const *args, Py_ssize_t args_len,
+                      PyObject *keywords);
+extern PyMethodDef digest_functions[];
+extern PyMethodDef tag_functions[];
+extern PyMethodDef derivation_functions[];
+extern PyType_Spec key_spec;
+
+#endif

@@ -1,0 +1,515 @@
+"""What `hashlib` and `hmac` take, answer and raise: names, arguments, copies, threads, buffers."""
+
+import array
+import copy
+import gc
+import hashlib
+import hmac
+import inspect
+import io
+import mmap
+import os
+import pathlib
+import pickle
+import re
+import resource
+import ssl
+import sys
+import tempfile
+import threading
+import tracemalloc
+import types
+import unittest
+import warnings
+
+import yezdopin
+from yezdopin import _native
+from yezdopin import hmac as tags
+
+NAMES = ["sha1", "sha256", "sha384", "sha512", "sha512_256"]
+SIGNING = NAMES[:4]
+PYPROJECT = pathlib.Path(__file__).resolve().parents[1] / "pyproject.toml"
+LONG = bytes(range(256)) * 64  # long enough for an update that lets other threads run
+
+
+def every_object():
+    """Each kind of object that holds a context or a key."""
+    yield yezdopin.sha256(b"message")
+    yield tags.Key(b"key", "sha256")
+    yield tags.Key(b"key", "sha256")._begin(b"message")
+    yield tags.new(b"key", b"message", "sha256")
+    yield tags.new(b"key", b"message", Foreign)
+
+
+class Foreign:
+    """A hash that the library doesn't know: SHA-256 under another name."""
+
+    name, digest_size, block_size = "foreign", 32, 64
+
+    def __init__(self, data=b""):
+        self._running = hashlib.sha256(data)
+
+    def update(self, data):
+        self._running.update(data)
+
+    def digest(self):
+        return self._running.digest()
+
+    def hexdigest(self):
+        return self._running.hexdigest()
+
+    def copy(self):
+        other = Foreign()
+        other._running = self._running.copy()
+        return other
+
+
+class Names(unittest.TestCase):
+    def test_sets(self):
+        self.assertEqual(yezdopin.algorithms_guaranteed, set(NAMES))
+        self.assertLessEqual(yezdopin.algorithms_guaranteed, yezdopin.algorithms_available)
+        said = re.search('^version = "(.*)"$', PYPROJECT.read_text(), re.M).group(1)
+        self.assertEqual(yezdopin.__version__, said)
+
+    def test_sizes(self):
+        for name in NAMES:
+            ours, theirs = yezdopin.new(name), hashlib.new(name)
+            self.assertEqual((ours.name, ours.digest_size), (theirs.name, theirs.digest_size))
+            self.assertEqual(ours.block_size, theirs.block_size)
+            self.assertIs(type(getattr(yezdopin, name)()), yezdopin.Digest)
+            self.assertIn(name, repr(ours))
+
+    @unittest.skipIf(ssl.OPENSSL_VERSION_INFO < (3,), "OpenSSL had other names before 3.0")
+    def test_as_openssl(self):
+        """A name is one of ours where OpenSSL has it for the same hash, and else none."""
+        spelled = ["{}", "sha{}", "sha-{}", "sha2-{}", "SHA{}", "SHA-{}", "SHA2-{}", "Sha-{}"]
+        spelled += ["sha_{}", "sha--{}", "s-h-a-{}", "sha{} ", " sha{}", "sha3-{}", "hmac-sha{}"]
+        spelled += ["RSA-SHA{}", "sha2_{}", "2.16.840.1.101.3.4.2.{}", "sha{}é"]
+        numbers = ["1", "2", "3", "6", "256", "384", "512", "512-256", "512/256", "512_256", ""]
+        others = ["SSL3-SHA1", "1.3.14.3.2.26", "", "-", "md5", "shake256", "sha" * 40]
+        tried = [form.format(number) for form in spelled for number in numbers] + others
+        for name in tried:
+            try:
+                want = hashlib.new(name).name
+            except ValueError:
+                want = None
+            if want not in NAMES:
+                with self.assertRaises(ValueError, msg=name):
+                    yezdopin.new(name)
+            else:
+                self.assertEqual(yezdopin.new(name).name, want)
+        for name in ("sha256\0", "\0sha256", "\ud800"):
+            with self.assertRaises(ValueError):
+                yezdopin.new(name)
+
+    def test_signatures(self):
+        said = str(inspect.signature(yezdopin.sha256))
+        self.assertEqual(said, "(data=b'', *, usedforsecurity=True)")
+        for name in yezdopin.__all__:
+            it = getattr(yezdopin, name)
+            if callable(it) and it not in (yezdopin.Digest, yezdopin.Error):
+                self.assertTrue(it.__doc__, name)
+                inspect.signature(it)
+
+
+class Arguments(unittest.TestCase):
+    def test_keywords(self):
+        for name in NAMES:
+            make, want = getattr(yezdopin, name), hashlib.new(name, b"abc").digest()
+            for made in (
+                make(b"abc", usedforsecurity=False),
+                make(data=b"abc"),
+                make(string=b"abc", usedforsecurity=True),
+                yezdopin.new(name, b"abc", usedforsecurity=False),
+                yezdopin.new(name=name, data=b"abc"),
+                yezdopin.new(name, string=b"abc"),
+            ):
+                self.assertEqual(made.digest(), want)
+
+    def test_wrong_calls(self):
+        made = yezdopin.sha256()
+        for call in (
+            lambda: yezdopin.sha256(b"a", b"b"),
+            lambda: yezdopin.sha256(b"a", data=b"b"),
+            lambda: yezdopin.sha256(data=b"a", string=b"b"),
+            lambda: yezdopin.sha256(other=b"a"),
+            lambda: yezdopin.sha256(None),
+            lambda: yezdopin.sha256("text"),
+            lambda: yezdopin.sha256(7),
+            lambda: yezdopin.new(),
+            lambda: yezdopin.new(1),
+            lambda: yezdopin.new(hashlib.sha256),
+            lambda: yezdopin.Digest(),
+            lambda: made.update(),
+            lambda: made.update(None),
+            lambda: made.digest(16),
+            lambda: yezdopin.pbkdf2_hmac(b"sha1", b"", b"", 1),
+            lambda: yezdopin.pbkdf2_hmac("sha1", "", b"", 1),
+            lambda: yezdopin.pbkdf2_hmac("sha1", b"", b"", 1.5),
+            lambda: yezdopin.hkdf("sha256", b"", b"", b""),
+            lambda: yezdopin.hkdf("sha256", b"", b"", b"", "8"),
+            lambda: tags.Key("text", "sha256"),
+            lambda: tags.Key(b"", 7),
+            lambda: tags.Key(b""),
+            lambda: tags.new("text", digestmod="sha256"),
+            lambda: tags.new(b"key", b"message"),
+            lambda: tags.HMAC(b"key", b"message", ""),
+            lambda: tags.digest(b"key", None, "sha256"),
+            lambda: _native.hmac_new(b"key"),
+            lambda: setattr(yezdopin.Digest, "value", 1),
+        ):
+            self.assertRaises(TypeError, call)
+        with self.assertRaises(AttributeError):
+            made.value = 1
+        for messages in (["text"], "text", b"bytes", [7], [b"", None], 7):
+            with self.assertRaises(TypeError):
+                yezdopin.digest_each("sha256", messages)
+
+    def is_refused(self, status, call, *arguments):
+        with self.assertRaises(yezdopin.Error) as caught:
+            call(*arguments)
+        self.assertEqual(caught.exception.status, status)
+        again = pickle.loads(pickle.dumps(caught.exception))
+        self.assertEqual((again.status, str(again)), (status, str(caught.exception)))
+
+    def test_statuses(self):
+        self.is_refused(1, yezdopin.new, "md5")
+        self.is_refused(1, yezdopin.digest_each, "md5", [])
+        self.is_refused(1, tags.Key, b"", "sha512_256")
+        self.is_refused(1, tags.Key, b"", Foreign)
+        self.is_refused(1, tags.new, b"", b"", yezdopin.sha512_256)
+        self.is_refused(1, tags.digest, b"", b"", "sha512_256")
+        self.is_refused(1, yezdopin.hkdf, "sha512_256", b"", b"", b"", 4)
+        self.is_refused(1, yezdopin.pbkdf2_hmac, "sha512_256", b"", b"", 1)
+        self.is_refused(4, yezdopin.pbkdf2_hmac, "sha256", b"", b"", 0, 4)
+        self.is_refused(4, yezdopin.pbkdf2_hmac_verify, "sha256", b"", b"", 0, b"1234")
+        for name in SIGNING:
+            most = 255 * yezdopin.new(name).digest_size
+            self.assertEqual(len(yezdopin.hkdf(name, b"", b"", b"", most)), most)
+            self.is_refused(3, yezdopin.hkdf, name, b"", b"", b"", most + 1)
+            self.is_refused(3, yezdopin.hkdf_expand, name, b"", b"", 2**62)
+        with self.assertRaisesRegex(ValueError, "unsupported hash type md5"):
+            yezdopin.new("md5")
+
+    def test_numbers(self):
+        """As hashlib: what is below 1 is a ValueError, and what is too great an OverflowError."""
+        for iterations in (0, -1, -(2**80)):
+            with self.assertRaises(ValueError):
+                yezdopin.pbkdf2_hmac("sha256", b"", b"", iterations, 4)
+        for length in (0, -1):
+            with self.assertRaises(ValueError):
+                yezdopin.pbkdf2_hmac("sha256", b"", b"", 1, length)
+        for iterations in (2**32, 2**80):
+            with self.assertRaises(OverflowError):
+                yezdopin.pbkdf2_hmac("sha256", b"", b"", iterations, 4)
+        with self.assertRaises(OverflowError):
+            yezdopin.pbkdf2_hmac("sha256", b"", b"", 1, 2**80)
+        with self.assertRaises(ValueError):
+            yezdopin.hkdf("sha256", b"", b"", b"", -1)
+        self.assertEqual(yezdopin.hkdf("sha256", b"", b"", b"", 0), b"")
+
+
+class Hashes(unittest.TestCase):
+    """What `digestmod` may be."""
+
+    def test_kinds(self):
+        for name in SIGNING:
+            module = types.SimpleNamespace(new=getattr(yezdopin, name))
+            want = hmac.digest(b"key", b"message", name)
+            for kind in (name, getattr(yezdopin, name), getattr(hashlib, name), module):
+                made = tags.new(b"key", b"message", kind)
+                self.assertEqual((made.digest(), made.hexdigest()), (want, want.hex()))
+                self.assertEqual(tags.digest(b"key", b"message", kind), want)
+                self.assertTrue(tags.verify(b"key", b"message", want, kind))
+                self.assertFalse(tags.verify(b"key", b"message", want[:-1], kind))
+                self.assertEqual(made.name, f"hmac-{name}")
+            theirs = getattr(hashlib, name)
+            self.assertIsNotNone(tags.new(b"", None, theirs)._hmac)
+            self.assertEqual(tags.Key(b"key", theirs).sign(b"message"), want)
+
+    def test_foreign(self):
+        for key in (b"", b"key", bytearray(64), b"k" * 65, memoryview(b"k" * 200)):
+            made = tags.new(key, digestmod=Foreign)
+            made.update(b"message")
+            other = made.copy()
+            other.update(b"more")
+            self.assertEqual(made.digest(), hmac.digest(bytes(key), b"message", "sha256"))
+            self.assertEqual(other.digest(), hmac.digest(bytes(key), b"messagemore", "sha256"))
+            self.assertEqual((made.name, made.digest_size), ("hmac-foreign", 32))
+            self.assertEqual(made.block_size, 64)
+
+    def test_small_blocks(self):
+        small = type("Small", (Foreign,), {"block_size": 1})
+        with warnings.catch_warnings(record=True) as caught:
+            warnings.simplefilter("always")
+            self.assertEqual(tags.new(b"key", b"", small).block_size, 64)
+        self.assertEqual([it.category for it in caught], [RuntimeWarning])
+
+    def test_shape(self):
+        ours, theirs = tags.new(b"key", digestmod="sha384"), hmac.new(b"key", digestmod="sha384")
+        for name in ("name", "digest_size", "block_size"):
+            self.assertEqual(getattr(ours, name), getattr(theirs, name))
+        self.assertIsInstance(tags.Key(b"key", "sha384").new(b"message"), tags.HMAC)
+        self.assertEqual(tags.Key(b"key", "sha384").new().digest(), theirs.digest())
+
+
+class Comparison(unittest.TestCase):
+    def test_text(self):
+        self.assertIs(tags.compare_digest, yezdopin.compare_digest)
+        self.assertTrue(yezdopin.compare_digest("text", "text"))
+        self.assertFalse(yezdopin.compare_digest("text", "texx"))
+        self.assertFalse(yezdopin.compare_digest("text", "tex"))
+        self.assertTrue(yezdopin.compare_digest("", ""))
+        for a, b in (("é", "é"), ("a", "é"), ("a", b"a"), (b"a", "a"), (1, b"a"), ("\ud800", "a")):
+            with self.assertRaises((TypeError, UnicodeEncodeError)):
+                yezdopin.compare_digest(a, b)
+
+
+class Copies(unittest.TestCase):
+    def test_copies(self):
+        """A copy goes on by itself, and its end leaves the original as it was."""
+        for make in (copy.copy, copy.deepcopy, lambda it: it.copy()):
+            for it in every_object():
+                if isinstance(it, _native.Key):
+                    continue
+                before = it.digest()
+                other = make(it)
+                self.assertEqual(other.digest(), before)
+                other.update(b"more")
+                self.assertNotEqual(other.digest(), before)
+                other.update(LONG)
+                del other
+                gc.collect()
+                self.assertEqual(it.digest(), before)
+
+    def test_keys(self):
+        key = tags.Key(b"key", "sha256")
+        want = key.sign(b"message")
+        for make in (copy.copy, copy.deepcopy):
+            other = make(key)
+            self.assertEqual(other.sign(b"message"), want)
+            del other
+        self.assertEqual(key.sign(b"message"), want)
+        self.assertEqual(copy.deepcopy({"key": key})["key"].sign(b"message"), want)
+
+    def test_pickles(self):
+        for it in every_object():
+            for protocol in range(pickle.HIGHEST_PROTOCOL + 1):
+                with self.assertRaises(TypeError):
+                    pickle.dumps(it, protocol)
+            with self.assertRaises(TypeError):
+                it.__reduce_ex__(4)
+
+    def test_subclasses(self):
+        """A class of one's own over Key frees what it has."""
+
+        class Named(tags.Key):
+            def __init__(self, key, digestmod):
+                self.note = [self]  # a cycle, which the collector must find
+
+        made = [Named(b"key", "sha256") for _ in range(100)]
+        want = hmac.digest(b"key", b"message", "sha256")
+        self.assertEqual({it.sign(b"message") for it in made}, {want})
+        del made
+        self.assertGreaterEqual(gc.collect(), 100)
+        for final in (yezdopin.Digest, _native.Tag):
+            self.assertRaises(TypeError, type, "Derived", (final,), {})
+
+
+class Threads(unittest.TestCase):
+    def run_all(self, works):
+        threads = [threading.Thread(target=work) for work in works]
+        for thread in threads:
+            thread.start()
+        for thread in threads:
+            thread.join()
+
+    def test_apart(self):
+        """Objects share nothing."""
+        wrong = []
+
+        def work():
+            for _ in range(300):
+                message = os.urandom(20000)
+                if yezdopin.sha256(message).digest() != hashlib.sha256(message).digest():
+                    wrong.append(message)
+
+        self.run_all([work] * 4)
+        self.assertEqual(wrong, [])
+
+    def test_together(self):
+        """Updates of one object by many threads, of short and of long pieces, are each whole."""
+        for make in (lambda: yezdopin.sha1(), lambda: tags.new(b"key", digestmod="sha1")):
+            together, alone = make(), make()
+            data = b"eight ch" * 40000
+
+            def work(size):
+                for at in range(0, len(data), size):
+                    together.update(data[at : at + size])
+                    together.copy().digest()
+
+            sizes = [320000, 32000, 3200, 2048, 2040, 800, 320000]
+            self.run_all([lambda size=size: work(size) for size in sizes])
+            alone.update(data * len(sizes))
+            self.assertEqual(together.hexdigest(), alone.hexdigest())
+
+    def test_others_run(self):
+        """A long call lets other threads run."""
+        data, key = bytes(30_000_000), tags.Key(b"key", "sha256")
+        turns, is_over = [], threading.Event()
+
+        def count():
+            while not is_over.wait(0.001):
+                turns.append(0)
+
+        def turns_during(call):
+            before = len(turns)
+            call()
+            return len(turns) - before
+
+        thread = threading.Thread(target=count)
+        thread.start()
+        try:
+            for call in (
+                lambda: yezdopin.sha1(data),
+                lambda: tags.new(b"key", data, "sha1"),
+                lambda: key.sign(data),
+                lambda: tags.digest(b"key", data, "sha256"),
+                lambda: yezdopin.digest_each("sha256", [data[:5_000_000]] * 4),
+                lambda: yezdopin.hkdf_extract("sha256", data),
+                lambda: yezdopin.pbkdf2_hmac("sha256", b"", b"", 200_000),
+            ):
+                # Another thread has a turn or two about the call too, and none on a busy machine.
+                self.assertTrue(any(turns_during(call) > 2 for _ in range(20)))
+        finally:
+            is_over.set()
+            thread.join()
+
+
+class Buffers(unittest.TestCase):
+    def test_kinds(self):
+        for data in (b"", b"x", LONG):
+            kinds = [data, bytearray(data), memoryview(data), memoryview(bytearray(data))]
+            kinds += [array.array("B", data), io.BytesIO(data).getbuffer(), memoryview(data)[0:]]
+            kinds += [type("Mine", (bytes,), {})(data)]
+            if data:
+                room = mmap.mmap(-1, len(data))
+                room[:] = data
+                kinds.append(room)
+            if len(data) % 8 == 0:
+                kinds += [array.array("d", data), memoryview(data).cast("Q")]
+            if data == LONG:
+                kinds.append(memoryview(data).cast("B", (64, 256)))
+            want, tag = hashlib.sha256(data).digest(), hmac.digest(data, data, "sha256")
+            for kind in kinds:
+                self.assertEqual(yezdopin.sha256(kind).digest(), want)
+                self.assertEqual(tags.digest(kind, kind, "sha256"), tag)
+                self.assertTrue(tags.Key(kind, "sha256").verify(kind, memoryview(tag)))
+            self.assertEqual(yezdopin.digest_each("sha256", kinds), [want] * len(kinds))
+
+    def test_in_pieces(self):
+        """What doesn't lie in one piece is refused, as hashlib does."""
+        view = memoryview(b"0123456789")
+        released = memoryview(b"0123")
+        released.release()
+        for data in (view[::2], view[::-1], released):
+            for call in (hashlib.sha256, yezdopin.sha256, yezdopin.sha256().update):
+                with self.assertRaises((BufferError, ValueError)):
+                    call(data)
+            with self.assertRaises((BufferError, ValueError)):
+                yezdopin.digest_each("sha256", [b"first", data])
+
+    def test_given_back(self):
+        """Each buffer is given back, where a call is refused too."""
+        lent = bytearray(b"data")
+        count = sys.getrefcount(lent)
+        yezdopin.sha256(lent).update(lent)
+        yezdopin.digest_each("sha256", [lent, lent])
+        tags.Key(lent, "sha256").verify(lent, lent)
+        yezdopin.pbkdf2_hmac_verify("sha256", lent, lent, 1, lent)
+        yezdopin.hkdf("sha256", lent, lent, lent, 4)
+        yezdopin.compare_digest(lent, lent)
+        for call in (
+            lambda: yezdopin.digest_each("sha256", [lent, "text"]),
+            lambda: tags.digest(lent, "text", "sha256"),
+            lambda: yezdopin.pbkdf2_hmac("sha256", lent, lent, 0),
+            lambda: yezdopin.pbkdf2_hmac("sha256", lent, lent, 1, 0),
+            lambda: yezdopin.hkdf("sha256", lent, lent, lent, 10**6),
+            lambda: yezdopin.compare_digest(lent, 1),
+        ):
+            self.assertRaises((TypeError, ValueError), call)
+        lent.append(1)  # a BufferError where a view is still held
+        self.assertEqual(sys.getrefcount(lent), count)
+
+    def test_no_copies(self):
+        """No call takes memory for a copy of what it reads."""
+        with tempfile.TemporaryFile() as file:
+            file.truncate(2**28)
+            file.flush()
+            lent = mmap.mmap(file.fileno(), 2**28, access=mmap.ACCESS_READ)
+        usage = pathlib.Path("/proc/self/statm")
+        most, _ = resource.getrlimit(resource.RLIMIT_AS)
+        now = int(usage.read_text().split()[0]) * mmap.PAGESIZE
+        resource.setrlimit(resource.RLIMIT_AS, (now + 2**27, most))
+        try:
+            digest = yezdopin.sha1(memoryview(lent)).hexdigest()
+        finally:
+            resource.setrlimit(resource.RLIMIT_AS, (most, most))
+        self.assertEqual(digest, hashlib.sha1(lent).hexdigest())
+
+    def test_memory(self):
+        """Nothing is kept of calls that are made again and again."""
+        key = tags.Key(b"key", "sha256")
+
+        def calls():
+            for it in every_object():
+                copy.copy(it)
+            yezdopin.digest_each("sha256", [b"one"] * 9)
+            yezdopin.new("sha512", string=LONG).hexdigest()
+            key.verify(b"message", key.new(LONG).digest())
+            yezdopin.hkdf("sha256", b"", b"", b"", 100)
+            derived = yezdopin.pbkdf2_hmac("sha1", b"", b"", 1)
+            yezdopin.pbkdf2_hmac_verify("sha1", b"", b"", 1, derived)
+            yezdopin.compare_digest("a", "a")
+            self.assertRaises(yezdopin.Error, yezdopin.new, "md5")
+            self.assertRaises(yezdopin.Error, yezdopin.hkdf, "sha1", b"", b"", b"", 9999)
+            self.assertRaises(TypeError, yezdopin.digest_each, "sha256", [b"one", "text"])
+
+        def kept_after(times):
+            for _ in range(times):
+                calls()
+            gc.collect()
+            counted = [None, True, LONG, yezdopin.Digest, tags.Key, yezdopin.Error]
+            return tracemalloc.get_traced_memory()[0], *map(sys.getrefcount, counted)
+
+        times = 1000
+        tracemalloc.start()
+        try:
+            before, after = kept_after(times), kept_after(times)
+        finally:
+            tracemalloc.stop()
+        self.assertLess(after[0] - before[0], 16 * times)  # no object is smaller
+        for few, many in zip(before[1:], after[1:]):
+            self.assertLess(many - few, times // 2)
+
+
+class Files(unittest.TestCase):
+    def test_files(self):
+        data = os.urandom(700_000)
+        with tempfile.TemporaryDirectory() as folder:
+            path = pathlib.Path(folder, "file")
+            path.write_bytes(data)
+            for digest in ("sha256", yezdopin.sha256, hashlib.sha256):
+                for opened in (path.open("rb"), path.open("rb", buffering=0), io.BytesIO(data)):
+                    with opened:
+                        got = yezdopin.file_digest(opened, digest).hexdigest()
+                    self.assertEqual(got, hashlib.sha256(data).hexdigest())
+            for mode in ("r", "wb"):
+                with path.open(mode) as opened, self.assertRaises(ValueError):
+                    yezdopin.file_digest(opened, "sha256")
+        with self.assertRaises(ValueError):
+            yezdopin.file_digest(None, "sha256")
+
+
+if __name__ == "__main__":
+    unittest.main()

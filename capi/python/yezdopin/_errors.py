@@ -1,0 +1,24 @@
+"""What the library refuses."""
+
+from __future__ import annotations
+
+__all__ = ["Error"]
+
+_REASONS = {
+    1: "unsupported hash type",
+    2: "no context or key",
+    3: "no such length of the output",
+    4: "there must be at least one iteration",
+    5: "an input is too long",
+}
+
+
+class Error(ValueError):
+    """A call was refused. `status` is the library's number for the reason."""
+
+    def __init__(self, status: int, reason: str = "") -> None:
+        super().__init__(status, reason or _REASONS.get(status, f"status {status}"))
+        self.status = status
+
+    def __str__(self) -> str:
+        return str(self.args[1])

@@ -1,0 +1,31 @@
+"""Digests of files."""
+
+from __future__ import annotations
+
+from typing import Any, Callable
+
+from yezdopin._native import new
+
+__all__ = ["file_digest"]
+
+_PIECE_LEN = 2**18
+
+
+def file_digest(
+    fileobj: Any, digest: str | Callable[[], Any], /, *, _bufsize: int = _PIECE_LEN
+) -> Any:
+    """The digest of what is left of a file that is open for reading bytes, as `hashlib` has it.
+
+    `digest` is the name of an algorithm, or what gives an object to update.
+    """
+    running = new(digest) if isinstance(digest, str) else digest()
+    if hasattr(fileobj, "getbuffer"):
+        running.update(fileobj.getbuffer())
+        return running
+    if not (hasattr(fileobj, "readinto") and fileobj.readable()):
+        raise ValueError(f"{fileobj!r} isn't a file that is open for reading bytes")
+    piece = bytearray(_bufsize)
+    view = memoryview(piece)
+    while size := fileobj.readinto(piece):
+        running.update(view[:size])
+    return running

@@ -49,14 +49,20 @@ PyObject *new_bytes(size_t len, uint8_t **bytes)
     return made;
 }
 
+/* The hex digit of a number below 16. No address depends on it, since it may be secret. */
+static char hex_digit(unsigned number)
+{
+    unsigned is_letter = (number + 6) >> 4;
+    return (char)('0' + number + is_letter * ('a' - '0' - 10));
+}
+
 /* At most YZ_MAX_OUTPUT_LEN bytes as text. */
 PyObject *hex_digits(const uint8_t *bytes, size_t len)
 {
-    static const char digits[] = "0123456789abcdef";
     char text[2 * YZ_MAX_OUTPUT_LEN];
     for (size_t i = 0; i < len; i++) {
-        text[2 * i] = digits[bytes[i] >> 4];
-        text[2 * i + 1] = digits[bytes[i] & 15];
+        text[2 * i] = hex_digit(bytes[i] >> 4);
+        text[2 * i + 1] = hex_digit(bytes[i] & 15);
     }
     return PyUnicode_FromStringAndSize(text, (Py_ssize_t)(2 * len));
 }

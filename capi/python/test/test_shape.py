@@ -367,8 +367,9 @@ class Threads(unittest.TestCase):
             call()
             return len(turns) - before
 
-        thread = threading.Thread(target=count)
+        thread, usual = threading.Thread(target=count), sys.getswitchinterval()
         thread.start()
+        sys.setswitchinterval(1000)  # a thread runs where another lets it, and not by the clock
         try:
             for call in (
                 lambda: yezdopin.sha1(data),
@@ -379,9 +380,10 @@ class Threads(unittest.TestCase):
                 lambda: yezdopin.hkdf_extract("sha256", data),
                 lambda: yezdopin.pbkdf2_hmac("sha256", b"", b"", 200_000),
             ):
-                # Another thread has a turn or two about the call too, and none on a busy machine.
-                self.assertTrue(any(turns_during(call) > 2 for _ in range(20)))
+                self.assertTrue(any(turns_during(call) for _ in range(20)))
+            self.assertEqual(turns_during(lambda: yezdopin.sha1(data[:2047])), 0)
         finally:
+            sys.setswitchinterval(usual)
             is_over.set()
             thread.join()
 
@@ -509,6 +511,15 @@ class Files(unittest.TestCase):
                     yezdopin.file_digest(opened, "sha256")
         with self.assertRaises(ValueError):
             yezdopin.file_digest(None, "sha256")
+
+    def test_no_bytes_yet(self):
+        """A pipe without bytes that isn't at its end has no digest."""
+        reading, writing = os.pipe()
+        os.set_blocking(reading, False)
+        with open(reading, "rb", buffering=0) as opened, open(writing, "wb", buffering=0) as other:
+            other.write(b"first")
+            with self.assertRaises(BlockingIOError):
+                yezdopin.file_digest(opened, "sha256")
 
 
 if __name__ == "__main__":

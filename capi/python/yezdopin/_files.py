@@ -22,10 +22,13 @@ def file_digest(
     if hasattr(fileobj, "getbuffer"):
         running.update(fileobj.getbuffer())
         return running
-    if not (hasattr(fileobj, "readinto") and fileobj.readable()):
+    is_readable = getattr(fileobj, "readable", lambda: False)
+    if not (hasattr(fileobj, "readinto") and is_readable()):
         raise ValueError(f"{fileobj!r} isn't a file that is open for reading bytes")
     piece = bytearray(_bufsize)
     view = memoryview(piece)
     while size := fileobj.readinto(piece):
         running.update(view[:size])
+    if size is None:
+        raise BlockingIOError("the file has no bytes yet, and isn't at its end")
     return running

@@ -1,0 +1,42 @@
+"""What the tests of the package's shape share."""
+
+import hashlib
+
+import yezdopin
+from yezdopin import hmac as tags
+
+NAMES = ["sha1", "sha256", "sha384", "sha512", "sha512_256"]
+SIGNING = NAMES[:4]
+LONG = bytes(range(256)) * 64  # long enough for an update that lets other threads run
+
+
+def every_object():
+    """Each kind of object that holds a context or a key."""
+    yield yezdopin.sha256(b"message")
+    yield tags.Key(b"key", "sha256")
+    yield tags.Key(b"key", "sha256")._begin(b"message")
+    yield tags.new(b"key", b"message", "sha256")
+    yield tags.new(b"key", b"message", Foreign)
+
+
+class Foreign:
+    """A hash that the library doesn't know: SHA-256 under another name."""
+
+    name, digest_size, block_size = "foreign", 32, 64
+
+    def __init__(self, data=b""):
+        self._running = hashlib.sha256(data)
+
+    def update(self, data):
+        self._running.update(data)
+
+    def digest(self):
+        return self._running.digest()
+
+    def hexdigest(self):
+        return self._running.hexdigest()
+
+    def copy(self):
+        other = Foreign()
+        other._running = self._running.copy()
+        return other

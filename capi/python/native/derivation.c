@@ -3,9 +3,6 @@
  * Keys that are derived: HKDF and PBKDF2. */
 #include "native.h"
 
-/* RFC 5869, 2.3: an output has at most so many times the bytes of a tag. */
-#define HKDF_MOST_TAGS 255
-
 /* Gives the object that a call wrote, where there is one, or raises what it answered. */
 static PyObject *made(PyObject *out, yz_status status)
 {
@@ -18,7 +15,7 @@ static PyObject *made(PyObject *out, yz_status status)
  * that no memory is taken for it. */
 static bool hkdf_len(PyObject *object, uint32_t algorithm, size_t *len)
 {
-    size_t most = HKDF_MOST_TAGS * yz_output_len(algorithm);
+    size_t most = YZ_HKDF_MAX_OUT_LEN(yz_output_len(algorithm));
     Py_ssize_t wanted = PyLong_AsSsize_t(object);
     if (wanted == -1 && PyErr_Occurred()) return false;
     if (wanted < 0) {
@@ -131,6 +128,10 @@ static bool derived_len(PyObject *object, uint32_t algorithm, size_t *len)
     if (wanted == -1 && PyErr_Occurred()) return false;
     if (wanted < 1) {
         PyErr_SetString(PyExc_ValueError, "a derived key's length is at least 1");
+        return false;
+    }
+    if ((uint64_t)wanted > YZ_PBKDF2_MAX_OUT_LEN(*len)) {
+        PyErr_SetString(PyExc_OverflowError, "a derived key is past the limit of PBKDF2");
         return false;
     }
     *len = (size_t)wanted;

@@ -160,8 +160,9 @@ class Arguments(unittest.TestCase):
         for iterations in (2**32, 2**80):
             with self.assertRaises(OverflowError):
                 yezdopin.pbkdf2_hmac("sha256", b"", b"", iterations, 4)
-        with self.assertRaises(OverflowError):
-            yezdopin.pbkdf2_hmac("sha256", b"", b"", 1, 2**80)
+        for length in (2**32 * 32, 2**80):
+            with self.assertRaises(OverflowError):
+                yezdopin.pbkdf2_hmac("sha256", b"", b"", 1, length)
         with self.assertRaises(ValueError):
             yezdopin.hkdf("sha256", b"", b"", b"", -1)
         self.assertEqual(yezdopin.hkdf("sha256", b"", b"", b"", 0), b"")

@@ -23,7 +23,7 @@ import zipfile
 from typing import Any, Iterable, Iterator
 
 FOLDER = pathlib.Path(__file__).resolve().parent
-# What is above an sdist isn't this repository, and may be anyone's.
+# The folders above an unpacked sdist aren't this repository's, and may be anyone's.
 IS_SDIST = (FOLDER / "PKG-INFO").is_file()
 PROJECT = tomllib.loads((FOLDER / "pyproject.toml").read_text())["project"]
 STEM = f"{PROJECT['name']}-{PROJECT['version']}"
@@ -34,8 +34,8 @@ USUAL = ["/usr/local/lib", "/usr/lib/x86_64-linux-gnu", "/usr/lib64", "/usr/lib"
 HINT = "build it (`make -C capi`), install it, or name its folder in YEZDOPIN_LIB_DIR"
 
 
-def _told(variable: str) -> list[pathlib.Path]:
-    """The folder that pkg-config tells, where it tells one."""
+def _pkg_config(variable: str) -> list[pathlib.Path]:
+    """A folder that pkg-config has for the installed library, if any."""
     command = ["pkg-config", f"--variable={variable}", "yezdopin"]
     try:
         run = subprocess.run(command, capture_output=True, text=True, check=True)
@@ -54,14 +54,14 @@ def _found(name: str, folders: Iterable[pathlib.Path], hint: str) -> pathlib.Pat
 
 
 def _library() -> tuple[pathlib.Path, pathlib.Path]:
-    """The header and the archive: those that are named, of this repository, or installed."""
+    """The header and the archive: of YEZDOPIN_LIB_DIR, of this repository, or installed."""
     given = os.environ.get("YEZDOPIN_LIB_DIR")
     beside = [] if IS_SDIST else [FOLDER.parent / "out"]
-    usual = [*beside, *_told("libdir"), *map(pathlib.Path, USUAL)]
+    usual = [*beside, *_pkg_config("libdir"), *map(pathlib.Path, USUAL)]
     archive = _found(ARCHIVE, [pathlib.Path(given)] if given else usual, HINT)
     near = [folder / "include" for folder in archive.resolve().parents[1:3]]
     beside = [] if IS_SDIST else [FOLDER.parent / "include"]
-    return _found(HEADER, [*near, *beside, *_told("includedir")], HINT), archive
+    return _found(HEADER, [*near, *beside, *_pkg_config("includedir")], HINT), archive
 
 
 def _compile(folder: pathlib.Path) -> None:
@@ -102,7 +102,7 @@ def _license() -> bytes:
 
 
 def _metadata() -> bytes:
-    """What is said about the package."""
+    """The package's metadata, for a wheel or an sdist."""
     return f"""Metadata-Version: 2.1
 Name: {PROJECT["name"]}
 Version: {PROJECT["version"]}
@@ -117,9 +117,9 @@ Description-Content-Type: text/markdown
 def _write_wheel(directory: str, files: list[tuple[str, bytes]]) -> str:
     """Writes a wheel of some files, and gives its name."""
     info, name = f"{STEM}.dist-info", f"{STEM}-{TAG}.whl"
-    said = f"Wheel-Version: 1.0\nGenerator: {STEM}\nRoot-Is-Purelib: false\nTag: {TAG}\n"
+    about = f"Wheel-Version: 1.0\nGenerator: {STEM}\nRoot-Is-Purelib: false\nTag: {TAG}\n"
     files += [(f"{info}/METADATA", _metadata()), (f"{info}/LICENSE", _license())]
-    files += [(f"{info}/WHEEL", said.encode())]
+    files += [(f"{info}/WHEEL", about.encode())]
     record = ""
     for path, data in files:
         digest = base64.urlsafe_b64encode(hashlib.sha256(data).digest()).rstrip(b"=").decode()
@@ -147,13 +147,13 @@ def build_wheel(
 def build_editable(
     wheel_directory: str, config_settings: Any = None, metadata_directory: Any = None
 ) -> str:
-    """Writes a wheel that names this folder, whose extension is compiled in its place."""
+    """Writes a wheel that refers to this folder, and compiles the extension in place."""
     _compile(FOLDER / "yezdopin")
     return _write_wheel(wheel_directory, [("yezdopin.pth", f"{FOLDER}\n".encode())])
 
 
 def build_sdist(sdist_directory: str, config_settings: Any = None) -> str:
-    """Writes what a wheel is built from, but for the library, and gives its name."""
+    """Writes the sources without the library, and gives the archive's name."""
     members = [("PKG-INFO", _metadata()), ("LICENSE", _license())]
     names = ["pyproject.toml", "build_backend.py", "README.md"]
     paths = [*(FOLDER / name for name in names), *sorted((FOLDER / "native").iterdir()), *_texts()]

@@ -127,8 +127,8 @@ def processor() -> str:
     return said.group(1) if said else "a processor without a name"
 
 
-def told(length: float) -> str:
-    """A time in the unit that suits it."""
+def formatted(length: float) -> str:
+    """A time in microseconds, with as many digits as are worth showing."""
     return f"{length * 1e6:.2f} us" if length < 1e-4 else f"{length * 1e6:.0f} us"
 
 
@@ -142,7 +142,7 @@ def main() -> None:
         if ours() != theirs():
             raise SystemExit(f"{what} gives something else")
         mine, other = measured(ours, theirs)
-        print(f"| {what} | {told(mine)} | {told(other)} | {mine / other:.2f} |")
+        print(f"| {what} | {formatted(mine)} | {formatted(other)} | {mine / other:.2f} |")
 
 
 if __name__ == "__main__":

@@ -1,9 +1,9 @@
 /* SPDX-License-Identifier: ISC
  *
- * The bytes of Python's objects, which are read where they lie, and those that are made. */
+ * Buffers of Python's objects, which are read in place, and new objects. */
 #include "native.h"
 
-/* Borrows the bytes of an object that has them in one piece. */
+/* Borrows the contiguous buffer of an object. */
 bool borrow(PyObject *object, Py_buffer *view)
 {
     if (PyUnicode_Check(object)) {
@@ -13,7 +13,7 @@ bool borrow(PyObject *object, Py_buffer *view)
     return PyObject_GetBuffer(object, view, PyBUF_SIMPLE) == 0;
 }
 
-/* Borrows from all of some objects or from none. NULL has no bytes. */
+/* Borrows the buffers of all of some objects, or of none. For NULL the buffer is empty. */
 bool borrow_all(PyObject *const *objects, int count, Py_buffer *views)
 {
     for (int i = 0; i < count; i++) {
@@ -41,7 +41,7 @@ size_t len_of(const Py_buffer *view)
     return (size_t)view->len;
 }
 
-/* A new object of `bytes`, and where its bytes are to be written before anyone else sees it. */
+/* A new `bytes` object, and where to write its bytes before it is passed on. */
 PyObject *new_bytes(size_t len, uint8_t **bytes)
 {
     PyObject *made = PyBytes_FromStringAndSize(NULL, (Py_ssize_t)len);

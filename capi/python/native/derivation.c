@@ -3,7 +3,7 @@
  * Keys that are derived: HKDF and PBKDF2. */
 #include "native.h"
 
-/* Gives the object that a call wrote, where there is one, or raises what it answered. */
+/* Returns the object that a call wrote, if it was allocated, or raises the call's status. */
 static PyObject *made(PyObject *out, yz_status status)
 {
     if (out == NULL || status == YZ_OK) return out;
@@ -11,15 +11,15 @@ static PyObject *made(PyObject *out, yz_status status)
     return refuse(status);
 }
 
-/* A length of HKDF's output. One that is too long becomes the least that the library refuses, so
- * that no memory is taken for it. */
+/* The length of an output of HKDF. A length past the limit becomes the least that the library
+ * refuses, so that no memory is allocated for it. */
 static bool hkdf_len(PyObject *object, uint32_t algorithm, size_t *len)
 {
     size_t most = YZ_HKDF_MAX_OUT_LEN(yz_output_len(algorithm));
     Py_ssize_t wanted = PyLong_AsSsize_t(object);
     if (wanted == -1 && PyErr_Occurred()) return false;
     if (wanted < 0) {
-        PyErr_SetString(PyExc_ValueError, "a length is at least 0");
+        PyErr_SetString(PyExc_ValueError, "the length must be at least 0");
         return false;
     }
     *len = (size_t)wanted > most ? most + 1 : (size_t)wanted;
@@ -104,14 +104,14 @@ static PyObject *hkdf_expand(PyObject *Py_UNUSED(module), PyObject *const *args,
     return made(out, status);
 }
 
-/* A number of iterations. What is below 1 is refused as 0 is. */
+/* The number of iterations. A number below 1 is refused as 0 is. */
 static bool iterations_of(PyObject *object, uint32_t *iterations)
 {
     int overflow;
     long long wanted = PyLong_AsLongLongAndOverflow(object, &overflow);
     if (wanted == -1 && overflow == 0 && PyErr_Occurred()) return false;
     if (overflow > 0 || wanted > (long long)UINT32_MAX) {
-        PyErr_SetString(PyExc_OverflowError, "iterations are a number of 32 bits");
+        PyErr_SetString(PyExc_OverflowError, "the number of iterations must be below 2**32");
         return false;
     }
     *iterations = overflow < 0 || wanted < 0 ? 0 : (uint32_t)wanted;
@@ -119,7 +119,7 @@ static bool iterations_of(PyObject *object, uint32_t *iterations)
     return *iterations != 0;
 }
 
-/* A derived key's length, which is a digest's where it is NULL or None. */
+/* The length of a derived key, a digest's where the object is NULL or None. */
 static bool derived_len(PyObject *object, uint32_t algorithm, size_t *len)
 {
     *len = yz_output_len(algorithm);
@@ -127,11 +127,11 @@ static bool derived_len(PyObject *object, uint32_t algorithm, size_t *len)
     Py_ssize_t wanted = PyLong_AsSsize_t(object);
     if (wanted == -1 && PyErr_Occurred()) return false;
     if (wanted < 1) {
-        PyErr_SetString(PyExc_ValueError, "a derived key's length is at least 1");
+        PyErr_SetString(PyExc_ValueError, "the length of a derived key must be at least 1");
         return false;
     }
     if ((uint64_t)wanted > YZ_PBKDF2_MAX_OUT_LEN(*len)) {
-        PyErr_SetString(PyExc_OverflowError, "a derived key is past the limit of PBKDF2");
+        PyErr_SetString(PyExc_OverflowError, "the derived key is past the limit of PBKDF2");
         return false;
     }
     *len = (size_t)wanted;

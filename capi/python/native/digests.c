@@ -3,11 +3,11 @@
  * The constructors of digests. */
 #include "native.h"
 
-/* What is hashed comes as `data`, or as `string`, which is hashlib's older name for it. */
+/* The message is `data`, or `string`, which is hashlib's older name for it. */
 static PyObject *constructed(PyObject *module, uint32_t algorithm, PyObject *data, PyObject *string)
 {
     if (data != NULL && string != NULL) {
-        PyErr_SetString(PyExc_TypeError, "'data' and 'string' are the same argument");
+        PyErr_SetString(PyExc_TypeError, "give 'data' or 'string', not both");
         return NULL;
     }
     module_state *state = PyModule_GetState(module);

@@ -23,8 +23,8 @@ static bool put(const signature *takes, PyObject *keyword, PyObject *value, PyOb
     return false;
 }
 
-/* The arguments of a call in the order of their names, NULL where one isn't given. They are
- * borrowed. */
+/* Stores the arguments of a call in the order of their names as borrowed references, NULL for each
+ * that isn't given. */
 bool gather(const signature *takes, PyObject *const *args, Py_ssize_t args_len, PyObject *keywords,
             PyObject **values)
 {
@@ -43,8 +43,8 @@ bool gather(const signature *takes, PyObject *const *args, Py_ssize_t args_len, 
     return true;
 }
 
-/* Raises `yezdopin.Error` of a status, and of a reason that is given up, or the status's own where
- * it is NULL. */
+/* Raises `yezdopin.Error` with a status. It takes the reference to the reason; where that is NULL,
+ * the reason is the status's own. */
 static PyObject *raise(yz_status status, PyObject *reason)
 {
     PyObject *errors = PyImport_ImportModule("yezdopin._errors");
@@ -67,21 +67,21 @@ PyObject *refuse(yz_status status)
     return raise(status, NULL);
 }
 
-/* Refuses a hash that the library doesn't have, or not for this call. */
+/* Raises `yezdopin.Error` for a hash that the library doesn't have for this call. */
 PyObject *refuse_hash(PyObject *hash)
 {
     PyObject *reason = PyUnicode_FromFormat("unsupported hash type %S", hash);
     return reason == NULL ? NULL : raise(YZ_UNKNOWN_ALGORITHM, reason);
 }
 
-/* What a verification answers. */
+/* The result of a verification. */
 PyObject *verdict(yz_status status)
 {
     if (status != YZ_OK && status != YZ_UNSPECIFIED) return refuse(status);
     return PyBool_FromLong(status == YZ_OK);
 }
 
-/* Contexts and keys are secret, and belong to this process: pickling writes none. */
+/* A pickle would hold key state: no context and no key is pickled. */
 PyObject *cannot_pickle(PyObject *self, PyObject *Py_UNUSED(protocol))
 {
     PyObject *name = PyType_GetName(Py_TYPE(self));

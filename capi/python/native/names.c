@@ -45,7 +45,7 @@ static char lower(char letter)
     return letter >= 'A' && letter <= 'Z' ? (char)(letter - 'A' + 'a') : letter;
 }
 
-/* The algorithm of a name in letters of either case. */
+/* Finds the algorithm of a name, whose letters may be of either case. */
 bool algorithm_of_name(PyObject *name, uint32_t *algorithm)
 {
     if (!PyUnicode_Check(name)) {
@@ -66,7 +66,7 @@ bool algorithm_of_name(PyObject *name, uint32_t *algorithm)
     return false;
 }
 
-/* The algorithm of a name, or of a constructor of this module. */
+/* Finds the algorithm of a name, or of a constructor of this module. */
 bool algorithm_of(PyObject *name_or_constructor, uint32_t *algorithm)
 {
     if (PyUnicode_Check(name_or_constructor)) {
@@ -77,7 +77,7 @@ bool algorithm_of(PyObject *name_or_constructor, uint32_t *algorithm)
     if (PyCallable_Check(name_or_constructor)) {
         refuse_hash(name_or_constructor);
     } else {
-        PyErr_SetString(PyExc_TypeError, "a hash is given by its name or its constructor");
+        PyErr_SetString(PyExc_TypeError, "a hash must be a name or a constructor");
     }
     return false;
 }

@@ -12,10 +12,10 @@
 #include <stdint.h>
 #include <yezdopin.h>
 
-/* Inputs from this length on let other threads run meanwhile, as those of hashlib. */
+/* Calls with at least this many bytes of input release the GIL, as those of hashlib do. */
 #define GIL_MIN_LEN 2048
 
-/* Python's tables of types hold functions as `void *`, which is pedantically no C. */
+/* Python's slots hold functions as `void *`, a cast that ISO C doesn't have. */
 #define SLOT(id, function) {(id), __extension__(void *)(function)}
 #define METHOD(function) ((PyCFunction)(void (*)(void))(function))
 #define FAST (METH_FASTCALL | METH_KEYWORDS)
@@ -37,7 +37,7 @@ typedef struct {
     const char *names[MOST_ARGUMENTS];
 } signature;
 
-/* errors.c: what answers a pointer or a bool has raised where that is NULL or false. */
+/* errors.c: a call that returns NULL or false has raised an exception. */
 bool gather(const signature *takes, PyObject *const *args, Py_ssize_t args_len, PyObject *keywords,
             PyObject **values);
 PyObject *refuse(yz_status status);
@@ -65,8 +65,8 @@ void go_on(PyThreadState *saved);
 void enter(PyThread_type_lock lock);
 void leave(PyThread_type_lock lock);
 
-/* running.c: digests and tags of a message in pieces, which begin with the bytes of an object, or
- * with none where it is NULL. */
+/* running.c: a digest or a tag of a message in pieces, which begins with the bytes of an object, or
+ * empty where that is NULL. */
 PyObject *begun_digest(PyTypeObject *type, uint32_t algorithm, PyObject *data);
 PyObject *begun_tag(PyTypeObject *type, uint32_t algorithm, const yz_hmac_key *key, PyObject *msg);
 extern PyType_Spec digest_spec;

@@ -46,8 +46,8 @@ static yz_status call_update(running *it, const Py_buffer *input)
     return yz_digest_update(&it->context.digest, bytes_of(input), len_of(input));
 }
 
-/* Updates a context, which no other thread reads or writes meanwhile. Where no lock is to be had,
- * the GIL serves for a long input too. */
+/* Updates a context while no other thread reads or writes it. Where no lock can be allocated, a
+ * long input keeps the GIL. */
 static yz_status update_alone(running *it, const Py_buffer *input)
 {
     if (it->lock == NULL && len_of(input) >= GIL_MIN_LEN) it->lock = PyThread_allocate_lock();
@@ -70,7 +70,7 @@ static bool add(running *it, PyObject *data)
     return status == YZ_OK;
 }
 
-/* What began with a status, with its first bytes, or NULL. */
+/* Adds the first bytes to a new object, whose context was begun with a status. */
 static PyObject *begun(running *it, yz_status status, PyObject *data)
 {
     if (status != YZ_OK) refuse(status);
@@ -99,7 +99,7 @@ static PyObject *running_update(PyObject *self, PyObject *data)
     Py_RETURN_NONE;
 }
 
-/* Writes the digest or the tag so far, and gives its length, or 0 where it raises. */
+/* Writes the digest or tag of the message so far. Returns its length, or 0 after an exception. */
 static size_t finished(running *it, uint8_t *out)
 {
     size_t len = yz_output_len(it->algorithm);
@@ -167,11 +167,11 @@ static PyMethodDef running_methods[] = {
      PyDoc_STR("update($self, data, /)\n--\n\nAdds bytes to the message.")},
     {"digest", running_digest, METH_NOARGS,
      PyDoc_STR("digest($self, /)\n--\n\n"
-               "What the message so far gives, as bytes. More may be added.")},
+               "The digest or tag of the message so far. More may be added.")},
     {"hexdigest", running_hexdigest, METH_NOARGS,
-     PyDoc_STR("hexdigest($self, /)\n--\n\nWhat the message so far gives, as hex digits.")},
+     PyDoc_STR("hexdigest($self, /)\n--\n\nThe digest or tag so far as hex digits.")},
     {"copy", running_copy, METH_NOARGS,
-     PyDoc_STR("copy($self, /)\n--\n\nA copy that goes on by itself.")},
+     PyDoc_STR("copy($self, /)\n--\n\nAn independent copy.")},
     {"__copy__", running_copy, METH_NOARGS, NULL},
     {"__deepcopy__", running_copy, METH_O, NULL},
     {"__reduce__", cannot_pickle, METH_NOARGS, NULL},
@@ -181,8 +181,8 @@ static PyMethodDef running_methods[] = {
 
 static PyGetSetDef running_members[] = {
     {"name", running_name, NULL, PyDoc_STR("The algorithm's name."), NULL},
-    {"digest_size", running_digest_size, NULL, PyDoc_STR("The bytes that it gives."), NULL},
-    {"block_size", running_block_size, NULL, PyDoc_STR("The bytes of a block."), NULL},
+    {"digest_size", running_digest_size, NULL, PyDoc_STR("The length of the digest or tag."), NULL},
+    {"block_size", running_block_size, NULL, PyDoc_STR("The length of a block."), NULL},
     {NULL, NULL, NULL, NULL, NULL},
 };
 

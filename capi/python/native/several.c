@@ -3,7 +3,7 @@
  * Digests of several messages by one call. */
 #include "native.h"
 
-/* What is borrowed for a call: a view and a place for each message, and room for the digests. */
+/* The memory of a call: each message's view and entry for the library, and room for the digests. */
 typedef struct {
     Py_ssize_t count;
     Py_buffer *views;
@@ -81,7 +81,7 @@ PyObject *digest_each(PyObject *Py_UNUSED(module), PyObject *const *args, Py_ssi
     uint32_t algorithm;
     if (!gather(&takes, args, args_len, keywords, values)) return NULL;
     if (!algorithm_of_name(values[0], &algorithm)) return NULL;
-    /* A tuple of its own: the messages stay, whatever others do with what was given. */
+    /* A tuple keeps the messages alive, whatever other threads do with the caller's list. */
     PyObject *messages = PySequence_Tuple(values[1]);
     if (messages == NULL) return NULL;
     PyObject *list = digests(algorithm, messages);

@@ -14,7 +14,7 @@ static key_object *key_of(PyObject *self)
     return (key_object *)self;
 }
 
-/* The algorithm of a hash under which there are tags: SHA-512/256 has digests alone. */
+/* Finds the algorithm of a hash for HMAC. SHA-512/256 has digests alone. */
 static bool algorithm_of_tags(PyObject *digestmod, uint32_t *algorithm)
 {
     if (!algorithm_of(digestmod, algorithm)) return false;
@@ -108,7 +108,7 @@ static PyObject *key_begin(PyObject *self, PyTypeObject *defining, PyObject *con
     return begun_tag(state->tag_type, key_of(self)->algorithm, &key_of(self)->key, msg);
 }
 
-/* A key doesn't change: it is its own copy. */
+/* A key is immutable: it is its own copy. */
 static PyObject *key_copy(PyObject *self, PyObject *Py_UNUSED(memo))
 {
     return Py_NewRef(self);
@@ -144,8 +144,8 @@ static PyMethodDef key_methods[] = {
 
 static PyGetSetDef key_members[] = {
     {"name", key_name, NULL, PyDoc_STR("The algorithm's name."), NULL},
-    {"digest_size", key_digest_size, NULL, PyDoc_STR("The bytes of a tag."), NULL},
-    {"block_size", key_block_size, NULL, PyDoc_STR("The bytes of a block."), NULL},
+    {"digest_size", key_digest_size, NULL, PyDoc_STR("The length of a tag."), NULL},
+    {"block_size", key_block_size, NULL, PyDoc_STR("The length of a block."), NULL},
     {NULL, NULL, NULL, NULL, NULL},
 };
 
@@ -223,7 +223,7 @@ static PyObject *hmac_verify(PyObject *Py_UNUSED(module), PyObject *const *args,
     return verdict(status);
 }
 
-/* Compares text of ASCII alone, whose length doesn't tell of anything else. */
+/* Compares two texts, each of which must be ASCII. */
 static PyObject *compare_text(PyObject *a, PyObject *b)
 {
     Py_ssize_t a_len, b_len;
@@ -231,7 +231,7 @@ static PyObject *compare_text(PyObject *a, PyObject *b)
     const char *b_text = PyUnicode_AsUTF8AndSize(b, &b_len);
     if (a_text == NULL || b_text == NULL) return NULL;
     if (a_len != PyUnicode_GetLength(a) || b_len != PyUnicode_GetLength(b)) {
-        PyErr_SetString(PyExc_TypeError, "text is compared where all of it is ASCII");
+        PyErr_SetString(PyExc_TypeError, "text that is not ASCII can't be compared");
         return NULL;
     }
     return PyBool_FromLong(yz_equal((const uint8_t *)a_text, (size_t)a_len,
@@ -248,7 +248,7 @@ static PyObject *compare_digest(PyObject *Py_UNUSED(module), PyObject *const *ar
     }
     if (PyUnicode_Check(args[0]) && PyUnicode_Check(args[1])) return compare_text(args[0], args[1]);
     if (PyUnicode_Check(args[0]) || PyUnicode_Check(args[1])) {
-        PyErr_SetString(PyExc_TypeError, "text is compared with text, and bytes with bytes");
+        PyErr_SetString(PyExc_TypeError, "a str can only be compared with a str");
         return NULL;
     }
     if (!borrow_all(args, 2, views)) return NULL;

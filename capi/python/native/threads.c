@@ -1,12 +1,12 @@
 /* SPDX-License-Identifier: ISC
  *
- * Threads. What holds the interpreter's lock (GIL) is alone, and needs no other lock. A long
- * update lets other threads run, and takes a lock of its object. A build of Python without a GIL
- * doesn't load extensions for the limited API of this version. */
+ * Threads. A short call keeps the interpreter's lock (GIL) and needs no other. An update that
+ * releases the GIL takes a lock of its object, and from then on all calls on that object do. A
+ * build of Python without a GIL doesn't load extensions for this version's limited API. */
 #include "native.h"
 
-/* Lets other threads run where an input is long: go_on() ends it. Until then no object of Python is
- * touched but bytes that are borrowed. */
+/* Releases the GIL where an input is long, until go_on(). In between, the caller may only touch
+ * borrowed buffers and its own memory. */
 PyThreadState *let_others_run(size_t input_len)
 {
     return input_len < GIL_MIN_LEN ? NULL : PyEval_SaveThread();
@@ -17,8 +17,8 @@ void go_on(PyThreadState *saved)
     if (saved != NULL) PyEval_RestoreThread(saved);
 }
 
-/* Takes an object's lock where it has one. Its holder may wait for the GIL, which is let go for as
- * long as this waits. */
+/* Takes an object's lock where it has one. It releases the GIL while it waits, since the holder of
+ * the lock may wait for the GIL. */
 void enter(PyThread_type_lock lock)
 {
     if (lock == NULL || PyThread_acquire_lock(lock, NOWAIT_LOCK)) return;

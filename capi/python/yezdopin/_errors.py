@@ -1,4 +1,4 @@
-"""What the library refuses."""
+"""The exception for what the library refuses."""
 
 from __future__ import annotations
 
@@ -7,7 +7,7 @@ __all__ = ["Error"]
 _REASONS = {
     1: "unsupported hash type",
     2: "no context or key",
-    3: "no such length of the output",
+    3: "wrong length of the output",
     4: "there must be at least one iteration",
     5: "an input is too long",
 }

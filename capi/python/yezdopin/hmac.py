@@ -26,7 +26,7 @@ if TYPE_CHECKING:
 
 __all__ = ["HMAC", "Key", "compare_digest", "digest", "new", "verify"]
 
-# What the library knows constructors by: its own by themselves, those of hashlib by their names.
+# The constructors that stand for the library's hashes, each with what the extension takes for it.
 _KNOWN: list[tuple[Any, Any]] = [
     *((it, it) for it in (_native.sha1, _native.sha256, _native.sha384, _native.sha512)),
     (_native.sha512_256, _native.sha512_256),
@@ -38,14 +38,14 @@ _LEAST_BLOCK = 16
 
 
 def _native_hash(digestmod: Any) -> Any:
-    """What the library knows a hash by, or None."""
+    """What the extension takes for a hash of the library, or None for another hash."""
     if isinstance(digestmod, str):
         return digestmod
     return next((known for constructor, known in _KNOWN if constructor is digestmod), None)
 
 
 def _constructor(digestmod: Any) -> Callable[..., Any]:
-    """What begins a digest of a hash, which is a name, a constructor or a module."""
+    """A constructor of digests for a name, a constructor or a module."""
     if callable(digestmod):
         return digestmod  # type: ignore[no-any-return]
     if isinstance(digestmod, str):
@@ -97,7 +97,7 @@ class HMAC:
         self._hold(_native.hmac_new(key, msg, digestmod))
 
     def _hold(self, tag: _native.Tag) -> None:
-        """Takes a tag of the library."""
+        """Stores a tag of the library."""
         self._hmac, self._inner, self._outer = tag, None, None
         self.digest_size = tag.digest_size
         self.block_size = tag.block_size
@@ -118,7 +118,7 @@ class HMAC:
             self._inner.update(msg)
 
     def _block_size(self) -> int:
-        """The bytes of the hash's block, or a warning and a usual number."""
+        """The hash's block length, or the usual one with a warning."""
         said: int | None = getattr(self._inner, "block_size", None)
         if said is not None and said >= _LEAST_BLOCK:
             return said
@@ -137,7 +137,7 @@ class HMAC:
         running.update(msg)
 
     def _finished(self) -> _native.Digest | _native.Tag:
-        """What gives the tag of the message so far."""
+        """The object whose digest is the tag of the message so far."""
         if self._hmac is not None:
             return self._hmac
         outer: _native.Digest = self._outer.copy()
@@ -153,7 +153,7 @@ class HMAC:
         return self._finished().hexdigest()
 
     def copy(self) -> HMAC:
-        """A copy that goes on by itself."""
+        """An independent copy."""
         other = type(self).__new__(type(self))
         other.block_size, other.digest_size = self.block_size, self.digest_size
         if self._hmac is not None:

@@ -24,6 +24,9 @@
 #include <stdbool.h>
 #include <stddef.h>
 #include <stdint.h>
+#if defined(__x86_64__) && (defined(__GNUC__) || defined(__clang__))
+#include <cpuid.h>
+#endif
 
 /* The version of this header. The major number is that of the shared library's name, and rises
  * where a caller must be compiled again: with a call or the layout of a context or a key.
@@ -110,6 +113,19 @@ typedef struct {
     yz_digest_context inner;
     uint64_t outer[8];
 } yz_hmac_context; /* 280 bytes */
+
+#if defined(__x86_64__) && (defined(__GNUC__) || defined(__clang__))
+/* Whether the processor can run the library, whose code is for x86-64-v2: Intel's processors from
+ * 2009 on, AMD's from 2011 on. On an older one a call ends the program by SIGILL. This function is
+ * the caller's own code, since the library's may not run there. */
+static inline bool yz_supported(void) {
+    const unsigned wanted =
+        bit_SSE3 | bit_SSSE3 | bit_CMPXCHG16B | bit_SSE4_1 | bit_SSE4_2 | bit_POPCNT;
+    unsigned a, b, c, d;
+    if (!__get_cpuid(1, &a, &b, &c, &d) || (c & wanted) != wanted) return false;
+    return __get_cpuid(0x80000001, &a, &b, &c, &d) && (c & bit_LAHF_LM) != 0;
+}
+#endif
 
 /* The version that the library was built as: a caller compares its upper 16 bits with those of
  * YZ_VERSION where it loads the library by itself. */

@@ -27,7 +27,6 @@ FOLDER = pathlib.Path(__file__).resolve().parent
 IS_SDIST = (FOLDER / "PKG-INFO").is_file()
 PROJECT = tomllib.loads((FOLDER / "pyproject.toml").read_text())["project"]
 STEM = f"{PROJECT['name']}-{PROJECT['version']}"
-TAG = f"cp311-abi3-{sysconfig.get_platform().replace('-', '_').replace('.', '_')}"
 EXTENSION = "_native.abi3.so"
 HEADER, ARCHIVE = "yezdopin.h", "libyezdopin.a"
 USUAL = ["/usr/local/lib", "/usr/lib/x86_64-linux-gnu", "/usr/lib64", "/usr/lib"]
@@ -114,10 +113,16 @@ Description-Content-Type: text/markdown
 {(FOLDER / "README.md").read_text()}""".encode()
 
 
-def _write_wheel(directory: str, files: list[tuple[str, bytes]]) -> str:
+def _tag(settings: Any) -> str:
+    """The wheel's tag: for this machine's platform, or for the one that the settings name."""
+    platform = (settings or {}).get("platform", sysconfig.get_platform())
+    return f"cp311-abi3-{platform.replace('-', '_').replace('.', '_')}"
+
+
+def _write_wheel(directory: str, files: list[tuple[str, bytes]], tag: str) -> str:
     """Writes a wheel of some files, and gives its name."""
-    info, name = f"{STEM}.dist-info", f"{STEM}-{TAG}.whl"
-    about = f"Wheel-Version: 1.0\nGenerator: {STEM}\nRoot-Is-Purelib: false\nTag: {TAG}\n"
+    info, name = f"{STEM}.dist-info", f"{STEM}-{tag}.whl"
+    about = f"Wheel-Version: 1.0\nGenerator: {STEM}\nRoot-Is-Purelib: false\nTag: {tag}\n"
     files += [(f"{info}/METADATA", _metadata()), (f"{info}/LICENSE", _license())]
     files += [(f"{info}/WHEEL", about.encode())]
     record = ""
@@ -136,12 +141,12 @@ def _write_wheel(directory: str, files: list[tuple[str, bytes]]) -> str:
 def build_wheel(
     wheel_directory: str, config_settings: Any = None, metadata_directory: Any = None
 ) -> str:
-    """Writes the wheel, and gives its name."""
+    """Writes the wheel, and gives its name. The settings may name a `platform` for its tag."""
     with tempfile.TemporaryDirectory() as room:
         fill(pathlib.Path(room))
         paths = sorted(pathlib.Path(room, "yezdopin").iterdir())
         files = [(f"yezdopin/{path.name}", path.read_bytes()) for path in paths]
-        return _write_wheel(wheel_directory, files)
+        return _write_wheel(wheel_directory, files, _tag(config_settings))
 
 
 def build_editable(
@@ -149,7 +154,8 @@ def build_editable(
 ) -> str:
     """Writes a wheel that refers to this folder, and compiles the extension in place."""
     _compile(FOLDER / "yezdopin")
-    return _write_wheel(wheel_directory, [("yezdopin.pth", f"{FOLDER}\n".encode())])
+    files = [("yezdopin.pth", f"{FOLDER}\n".encode())]
+    return _write_wheel(wheel_directory, files, _tag(config_settings))
 
 
 def build_sdist(sdist_directory: str, config_settings: Any = None) -> str:

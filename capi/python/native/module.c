@@ -38,8 +38,18 @@ static int add_version(PyObject *module)
     return added;
 }
 
+/* The library's code would end the program on an older processor. */
+static int test_processor(void)
+{
+    if (yz_supported()) return 0;
+    PyErr_SetString(PyExc_ImportError,
+                    "yezdopin needs an x86-64-v2 processor (SSE4.2, SSSE3 and POPCNT)");
+    return -1;
+}
+
 static int fill(PyObject *module)
 {
+    if (test_processor() != 0) return -1;
     if (add_version(module) != 0 || add_types(module) != 0) return -1;
     if (PyModule_AddFunctions(module, digest_functions) != 0) return -1;
     if (PyModule_AddFunctions(module, tag_functions) != 0) return -1;

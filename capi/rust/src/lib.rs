@@ -35,6 +35,16 @@ pub fn library_version() -> u32 {
     unsafe { calls::yz_version() }
 }
 
+/// Whether the processor can run the library, whose code is for x86-64-v2 (SSSE3, SSE4.2, POPCNT).
+/// On an older processor any other call of this crate ends the program by `SIGILL`.
+pub fn is_supported() -> bool {
+    is_x86_feature_detected!("sse3")
+        && is_x86_feature_detected!("ssse3")
+        && is_x86_feature_detected!("sse4.1")
+        && is_x86_feature_detected!("sse4.2")
+        && is_x86_feature_detected!("popcnt")
+}
+
 // What a status says.
 fn done(status: i32) -> Result<(), error::Unspecified> {
     match status {

@@ -1,0 +1,92 @@
+# Packages of the built library, for users without the Rattle kit, into out/dist with SHA256SUMS:
+#
+#     make dist; make dist-check
+#
+# The same library, sources and tools give the same bytes: SOURCE_DATE_EPOCH is the time of all
+# files, by default that of the last commit. To add a package, write its word into PACKAGES and a
+# rule dist-WORD that puts it into DIST; for a Debian package a file debian/NAME.control, and a rule
+# that fills WORK/NAME with what is installed, and then calls `deb`.
+
+PACKAGES = tarball deb-libyezdopin$(MAJOR) deb-libyezdopin-dev wheel crate
+
+DIST = $(WHOLE_OUT)/dist
+WORK = $(DIST).work
+DPKG_LIBDIR = /usr/lib/x86_64-linux-gnu
+TREE = yezdopin-$(VERSION)-linux-x86_64
+SOURCE_DATE_EPOCH ?= $(or $(shell git log -1 --format=%ct 2>/dev/null),1767225600)
+# A placeholder: the project has no mail address (SECURITY.md says how faults are reported).
+MAINTAINER ?= The Yezdopin authors <yezdopin@example.org>
+
+# $(call install_in,FOLDER,PREFIX,LIBDIR): what `make install` installs, in an empty folder.
+define install_in
+	rm -rf "$(1)"
+	$(MAKE) -s --no-print-directory -o $(BUILT) install DESTDIR="$(1)" PREFIX=$(2) LIBDIR=$(3) \
+	    INCLUDEDIR=$(2)/include DOCDIR=$(2)/share/doc/yezdopin MANDIR=$(2)/share/man
+endef
+
+# $(call deb,NAME): the Debian package of WORK/NAME.
+deb = MAINTAINER='$(MAINTAINER)' SOURCE_DATE_EPOCH=$(SOURCE_DATE_EPOCH) \
+    dist/deb "$(WORK)/$(1)" $(VERSION) "$(DIST)"
+
+dist: all
+	rm -rf "$(DIST)" "$(WORK)" && mkdir -p "$(DIST)" "$(WORK)"
+	$(MAKE) --no-print-directory -o $(BUILT) $(PACKAGES:%=dist-%)
+	cd "$(DIST)" && sha256sum * >../SHA256SUMS && mv ../SHA256SUMS . && cat SHA256SUMS
+
+# A tree that works wherever it is unpacked, and install.sh, which copies it.
+dist-tarball: all
+	$(call install_in,$(WORK)/$(TREE),,/lib)
+	sed -i 's,^prefix=.*,prefix=$${pcfiledir}/../..,' "$(WORK)/$(TREE)/lib/pkgconfig/yezdopin.pc"
+	cp dist/INSTALL dist/install.sh "$(WORK)/$(TREE)"
+	chmod -R u=rwX,go=rX "$(WORK)/$(TREE)"
+	LC_ALL=C tar -C "$(WORK)" --sort=name --owner=0 --group=0 --numeric-owner --format=ustar \
+	    --mtime=@$(SOURCE_DATE_EPOCH) -cf - $(TREE) | gzip -9n >"$(DIST)/$(TREE).tar.gz"
+
+# The shared library, with what dpkg-shlibdeps reads for packages that use it.
+dist-deb-libyezdopin$(MAJOR): all
+	rm -rf "$(WORK)/libyezdopin$(MAJOR)"
+	mkdir -p "$(WORK)/libyezdopin$(MAJOR)/DEBIAN" "$(WORK)/libyezdopin$(MAJOR)$(DPKG_LIBDIR)"
+	strip --strip-unneeded --remove-section=.comment $(SHARED) \
+	    -o "$(WORK)/libyezdopin$(MAJOR)$(DPKG_LIBDIR)/$(notdir $(SHARED))"
+	chmod 644 "$(WORK)/libyezdopin$(MAJOR)$(DPKG_LIBDIR)/$(notdir $(SHARED))"
+	ln -s $(notdir $(SHARED)) "$(WORK)/libyezdopin$(MAJOR)$(DPKG_LIBDIR)/$(SONAME)"
+	cd "$(WORK)/libyezdopin$(MAJOR)/DEBIAN" && echo 'activate-noawait ldconfig' >triggers && \
+	echo 'libyezdopin $(MAJOR) libyezdopin$(MAJOR) (>= $(VERSION))' >shlibs && \
+	echo '$(SONAME) libyezdopin$(MAJOR) #MINVER#' >symbols
+	nm -D --defined-only $(SHARED) | awk '$$2 == "A" { $$3 = $$3 "@" $$3 } \
+	    { sub(/@@/, "@", $$3); print " " $$3, "$(VERSION)" }' | LC_ALL=C sort \
+	    >>"$(WORK)/libyezdopin$(MAJOR)/DEBIAN/symbols"
+	$(call deb,libyezdopin$(MAJOR))
+
+dist-deb-libyezdopin-dev: all
+	$(call install_in,$(WORK)/libyezdopin-dev,/usr,$(DPKG_LIBDIR))
+	cd "$(WORK)/libyezdopin-dev/usr" && rm lib/*/libyezdopin.so.* share/doc/yezdopin/LICENSE && \
+	mv share/doc/yezdopin share/doc/libyezdopin-dev && gzip -9n share/man/man3/*
+	$(call deb,libyezdopin-dev)
+
+# The Python package with its extension, which has the archive in it.
+dist-wheel: all
+	cd python && CC='$(CC)' CFLAGS=-O2 LDFLAGS=-s YEZDOPIN_LIB_DIR="$(WHOLE_OUT)" $(PYTHON) -B -c \
+	    'import build_backend, sys; build_backend.build_wheel(sys.argv[1], {"platform": sys.argv[2]})' \
+	    "$(DIST)" manylinux_2_17_x86_64
+	rm -rf "$(WORK)/wheel" && mkdir -p "$(WORK)/wheel"
+	cd "$(WORK)/wheel" && $(PYTHON) -m zipfile -e "$(DIST)"/*.whl .
+	dist/manylinux "$(WORK)/wheel/yezdopin/_native.abi3.so"
+
+# The Rust crate with the archive in prebuilt/. `cargo package` also builds what it packed.
+dist-crate: all
+	rm -rf "$(WORK)/rust" && mkdir -p "$(WORK)/rust/prebuilt"
+	cp -R rust/src rust/build.rs rust/Cargo.toml rust/Cargo.lock rust/README.md ../LICENSE "$(WORK)/rust"
+	cp $(ARCHIVE) "$(WORK)/rust/prebuilt"
+	cd "$(WORK)/rust" && unset YEZDOPIN_LIB_DIR && CARGO_TARGET_DIR="$(WORK)/cargo" \
+	    $(CARGO) package --offline --quiet --allow-dirty
+	cp "$(WORK)/cargo/package/yezdopin-$(VERSION).crate" "$(DIST)"
+
+packages-named:
+	@echo $(PACKAGES)
+
+# Each package in a Debian system of its own, which has neither the kit nor this repository.
+dist-check: dist
+	test/packages "$(DIST)"
+
+.PHONY: dist dist-check packages-named $(PACKAGES:%=dist-%)

@@ -1,0 +1,49 @@
+#!/bin/sh
+# Copies the unpacked tree below a prefix, or removes it from there:
+#
+#     ./install.sh [PREFIX]
+#     ./install.sh --uninstall [PREFIX]
+#
+# The prefix is an absolute path, by default /usr/local; DESTDIR is put before it.
+set -eu
+action=install
+if [ "${1:-}" = --uninstall ]; then
+    action=uninstall
+    shift
+fi
+prefix=${1:-/usr/local}
+case $prefix in
+/*) ;;
+*)
+    echo "install.sh: $prefix is no absolute path" >&2
+    exit 2
+    ;;
+esac
+root=${DESTDIR:-}$prefix
+cd "$(dirname "$0")"
+
+install() {
+    for feature in pni ssse3 cx16 sse4_1 sse4_2 popcnt lahf_lm; do
+        if ! grep -qw "$feature" "${CPUINFO:-/proc/cpuinfo}"; then
+            echo "install.sh: this processor is older than x86-64-v2 (it lacks $feature)" >&2
+            exit 1
+        fi
+    done
+    mkdir -p "$root"
+    cp -RP include lib share "$root"
+}
+
+uninstall() {
+    find include lib share ! -type d | while IFS= read -r file; do
+        rm -f "$root/$file"
+    done
+    for folder in lib/cmake/yezdopin share/doc/yezdopin; do
+        [ ! -d "$root/$folder" ] || rmdir "$root/$folder"
+    done
+}
+
+$action
+# So that the system finds the shared library.
+if [ -z "${DESTDIR:-}" ] && [ "$(id -u)" = 0 ] && command -v ldconfig >/dev/null; then
+    ldconfig
+fi

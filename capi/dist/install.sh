@@ -24,7 +24,7 @@ cd "$(dirname "$0")"
 
 install() {
     for feature in pni ssse3 cx16 sse4_1 sse4_2 popcnt lahf_lm; do
-        if ! grep -qw "$feature" "${CPUINFO:-/proc/cpuinfo}"; then
+        if ! grep -qw "$feature" /proc/cpuinfo; then
             echo "install.sh: this processor is older than x86-64-v2 (it lacks $feature)" >&2
             exit 1
         fi
@@ -37,7 +37,7 @@ uninstall() {
     find include lib share ! -type d | while IFS= read -r file; do
         rm -f "$root/$file"
     done
-    for folder in lib/cmake/yezdopin share/doc/yezdopin; do
+    for folder in lib/cmake/yezdopin share/doc/yezdopin/examples share/doc/yezdopin; do
         [ ! -d "$root/$folder" ] || rmdir "$root/$folder"
     done
 }

@@ -116,8 +116,8 @@ typedef struct {
 
 #if defined(__x86_64__) && (defined(__GNUC__) || defined(__clang__))
 /* Whether the processor can run the library, whose code is for x86-64-v2: Intel's processors from
- * 2009 on, AMD's from 2011 on. On an older one a call ends the program by SIGILL. This function is
- * the caller's own code, since the library's may not run there. */
+ * 2009 on, AMD's from 2011 on. On an older one a call may end the program by SIGILL. This function
+ * is compiled into the caller, since no code of the library is sure to run there. */
 static inline bool yz_supported(void) {
     const unsigned wanted =
         bit_SSE3 | bit_SSSE3 | bit_CMPXCHG16B | bit_SSE4_1 | bit_SSE4_2 | bit_POPCNT;

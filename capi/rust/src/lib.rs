@@ -36,7 +36,7 @@ pub fn library_version() -> u32 {
 }
 
 /// Whether the processor can run the library, whose code is for x86-64-v2 (SSSE3, SSE4.2, POPCNT).
-/// On an older processor any other call of this crate ends the program by `SIGILL`.
+/// On an older processor any other call of this crate may end the program by `SIGILL`.
 pub fn is_supported() -> bool {
     is_x86_feature_detected!("sse3")
         && is_x86_feature_detected!("ssse3")

@@ -381,6 +381,7 @@ static void equality_and_clearing(void) {
 }
 
 int main(void) {
+    IS(yz_supported(), true);
     IS(yz_version(), YZ_VERSION);
     known_values(), statuses(), several_messages();
     longest_outputs(), past_the_longest_derived();

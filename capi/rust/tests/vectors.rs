@@ -311,4 +311,5 @@ fn comparison_and_version() {
         yezdopin::library_version(),
         parts[0] << 16 | parts[1] << 8 | parts[2]
     );
+    assert!(yezdopin::is_supported());
 }

@@ -1,0 +1,150 @@
+/* SPDX-License-Identifier: ISC
+ *
+ * What is handed on to another provider, and why.
+ *
+ * OpenSSL chooses the provider of a MAC or a KDF by its name alone, before the caller names the
+ * digest. Where the application prefers this provider (`default_properties = ?provider=yezdopin`),
+ * work comes here that the library has no call for. To refuse it would break the application, so
+ * the HMAC, HKDF or PBKDF2 of another provider that the application has loaded does it:
+ *
+ * - under a digest that the library lacks, as MD5, SHA-224 or SHA-3; and under SHA-512/256, which
+ *   it has as a digest alone;
+ * - under a digest that is asked for with properties, since these may exclude this provider;
+ * - HMAC of a TLS record whose padding is secret (`tls-data-size`: CBC without encrypt-then-MAC).
+ *   libssl passes the record with its padding, and the time must not tell how long the padding is
+ *   (the attack Lucky Thirteen). OpenSSL's HMAC has code for this; the library's takes a time that
+ *   depends on the length. To ignore the parameter would give the right tag and leak;
+ * - PBKDF2 of 2^32 iterations or more, which the library's 32 bits don't count.
+ *
+ * Another provider is any that isn't this one (`provider!=yezdopin`). If none serves, the call is
+ * refused. */
+#include "provider.h"
+
+#define NOT_OURS "provider!=yezdopin"
+
+/* Whether the library makes the tag. A length of 0 says that the message is no TLS record. */
+int library_signs(const chosen_digest *digest, size_t record_len)
+{
+    return digest->algorithm != 0 && record_len == 0;
+}
+
+/* Whether the library derives the key. */
+int library_derives(const chosen_digest *digest, uint64_t iterations)
+{
+    return digest->algorithm != 0 && iterations <= UINT32_MAX;
+}
+
+/* Finds a digest that isn't known by name, or has properties, in the application's providers.
+ * Another name of a digest of the library is found here too. */
+static int find_digest(const provider *reporter, chosen_digest *digest)
+{
+    const char *properties = (const char *)digest->properties.bytes;
+    EVP_MD *found =
+        EVP_MD_fetch(reporter->library_context, (const char *)digest->name.bytes, properties);
+    if (found == NULL) return refuse(reporter, PROV_R_INVALID_DIGEST);
+    digest->algorithm = 0;
+    if (digest->properties.len == 0) {
+        digest->algorithm = EVP_MD_is_a(found, "SHA2-256")   ? YZ_SHA256
+                            : EVP_MD_is_a(found, "SHA2-384") ? YZ_SHA384
+                            : EVP_MD_is_a(found, "SHA2-512") ? YZ_SHA512
+                            : EVP_MD_is_a(found, "SHA1")     ? YZ_SHA1
+                                                             : 0;
+    }
+    digest->output_len = (size_t)EVP_MD_get_size(found);
+    digest->block_len = (size_t)EVP_MD_get_block_size(found);
+    EVP_MD_free(found);
+    return 1;
+}
+
+/* Chooses the digest that parameters name, if they name one. */
+int choose_digest(const provider *reporter, chosen_digest *digest, const OSSL_PARAM params[])
+{
+    uint32_t algorithm;
+    if (OSSL_PARAM_locate_const(params, OSSL_ALG_PARAM_DIGEST) == NULL) return 1;
+    forget(&digest->properties);
+    if (!keep_word(reporter, &digest->name, params, OSSL_ALG_PARAM_DIGEST)
+        || !keep_word(reporter, &digest->properties, params, OSSL_ALG_PARAM_PROPERTIES)) {
+        forget(&digest->name);
+        return 0;
+    }
+    algorithm = algorithm_of_name((const char *)digest->name.bytes);
+    if (digest->properties.len == 0 && algorithm != 0) {
+        digest->algorithm = algorithm == YZ_SHA512_256 ? 0 : algorithm;
+        digest->output_len = yz_output_len(algorithm);
+        digest->block_len = yz_block_len(algorithm);
+        return 1;
+    }
+    if (find_digest(reporter, digest)) return 1;
+    forget(&digest->name);
+    return 0;
+}
+
+/* Makes `to`, which holds nothing that is freed, a copy of its own. */
+int copy_digest(chosen_digest *to, const chosen_digest *from)
+{
+    int is_named, has_properties;
+    *to = *from;
+    is_named = copy_kept(&to->name, &from->name);
+    has_properties = copy_kept(&to->properties, &from->properties);
+    return is_named && has_properties;
+}
+
+void forget_digest(chosen_digest *digest)
+{
+    forget(&digest->name);
+    forget(&digest->properties);
+    *digest = (chosen_digest){0};
+}
+
+/* Puts what was kept into a list of parameters; where the list goes on. */
+OSSL_PARAM *put_bytes(const kept *what, const char *name, OSSL_PARAM *params)
+{
+    if (what->bytes == NULL) return params;
+    *params = OSSL_PARAM_construct_octet_string(name, what->bytes, what->len);
+    return params + 1;
+}
+
+static OSSL_PARAM *put_word(const kept *what, const char *name, OSSL_PARAM *params)
+{
+    if (what->bytes == NULL) return params;
+    *params = OSSL_PARAM_construct_utf8_string(name, (char *)what->bytes, what->len);
+    return params + 1;
+}
+
+OSSL_PARAM *put_digest(const chosen_digest *digest, OSSL_PARAM *params)
+{
+    OSSL_PARAM *next = put_word(&digest->name, OSSL_ALG_PARAM_DIGEST, params);
+    return put_word(&digest->properties, OSSL_ALG_PARAM_PROPERTIES, next);
+}
+
+/* Begins a message under another provider's HMAC; NULL if none serves. */
+EVP_MAC_CTX *begin_other_tag(const provider *reporter, const chosen_digest *digest,
+                             const kept *key, size_t record_len)
+{
+    OSSL_PARAM params[MOST_DIGEST_PARAMS + 2], *next = put_digest(digest, params);
+    EVP_MAC *hmac = EVP_MAC_fetch(reporter->library_context, "HMAC", NOT_OURS);
+    EVP_MAC_CTX *made = EVP_MAC_CTX_new(hmac);
+    EVP_MAC_free(hmac);
+    if (made == NULL) {
+        (void)refuse(reporter, PROV_R_INVALID_DIGEST);
+        return NULL;
+    }
+    *next++ = OSSL_PARAM_construct_size_t(OSSL_MAC_PARAM_TLS_DATA_SIZE, &record_len);
+    *next = OSSL_PARAM_construct_end();
+    if (EVP_MAC_init(made, key->bytes, key->len, params)) return made;
+    EVP_MAC_CTX_free(made);
+    return NULL;
+}
+
+/* Derives a key by another provider's KDF. It takes the parameters that it knows. */
+int derive_by_other(const provider *reporter, const char *kdf, const OSSL_PARAM params[],
+                    unsigned char *out, size_t out_len)
+{
+    EVP_KDF *other = EVP_KDF_fetch(reporter->library_context, kdf, NOT_OURS);
+    EVP_KDF_CTX *context = EVP_KDF_CTX_new(other);
+    int is_done = context == NULL ? refuse(reporter, PROV_R_INVALID_DIGEST)
+                                  : EVP_KDF_derive(context, out, out_len, params);
+    EVP_KDF_CTX_free(context);
+    EVP_KDF_free(other);
+    return is_done;
+}

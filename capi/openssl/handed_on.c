@@ -123,7 +123,7 @@ EVP_MAC_CTX *begin_other_tag(const provider *reporter, const chosen_digest *dige
 {
     OSSL_PARAM params[MOST_DIGEST_PARAMS + 2], *next = put_digest(digest, params);
     EVP_MAC *hmac = EVP_MAC_fetch(reporter->library_context, "HMAC", NOT_OURS);
-    EVP_MAC_CTX *made = EVP_MAC_CTX_new(hmac);
+    EVP_MAC_CTX *made = hmac == NULL ? NULL : EVP_MAC_CTX_new(hmac);
     EVP_MAC_free(hmac);
     if (made == NULL) {
         (void)refuse(reporter, PROV_R_INVALID_DIGEST);

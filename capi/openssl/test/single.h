@@ -1,0 +1,56 @@
+/* What the tests of one provider share. */
+#ifndef YEZDOPIN_SINGLE_H
+#define YEZDOPIN_SINGLE_H
+
+#include <openssl/core_names.h>
+#include <openssl/err.h>
+#include <openssl/evp.h>
+#include <openssl/kdf.h>
+#include <openssl/params.h>
+#include <openssl/provider.h>
+#include <stdint.h>
+#include <stdio.h>
+#include <string.h>
+
+#define OURS "provider=yezdopin"
+#define THEIRS "provider=default"
+
+static int failures;
+
+#define CHECK(it)                                                  \
+    do {                                                           \
+        if (!(it)) {                                               \
+            printf("%s:%d: %s fails\n", __FILE__, __LINE__, #it);  \
+            ERR_print_errors_fp(stdout);                           \
+            failures++;                                            \
+        }                                                          \
+        ERR_clear_error();                                         \
+    } while (0)
+
+static inline EVP_MAC_CTX *new_hmac(OSSL_LIB_CTX *context, const char *properties)
+{
+    EVP_MAC *mac = EVP_MAC_fetch(context, "HMAC", properties);
+    EVP_MAC_CTX *made = EVP_MAC_CTX_new(mac);
+    EVP_MAC_free(mac);
+    return made;
+}
+
+static inline EVP_KDF_CTX *new_kdf(OSSL_LIB_CTX *context, const char *name)
+{
+    EVP_KDF *kdf = EVP_KDF_fetch(context, name, OURS);
+    EVP_KDF_CTX *made = EVP_KDF_CTX_new(kdf);
+    EVP_KDF_free(kdf);
+    return made;
+}
+
+static inline OSSL_PARAM word(const char *name, const char *value)
+{
+    return OSSL_PARAM_construct_utf8_string(name, (char *)value, 0);
+}
+
+static inline OSSL_PARAM octets(const char *name, const void *value, size_t len)
+{
+    return OSSL_PARAM_construct_octet_string(name, (void *)value, len);
+}
+
+#endif

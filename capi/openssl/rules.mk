@@ -35,10 +35,72 @@ $(COUNTED): $(PROVIDER_NEEDS) openssl/test/count.c
 
 $(SANITIZED): $(PROVIDER_NEEDS)
 	mkdir -p $(@D)
-	$(CC) -O1 -g $(STRICT) -fPIC -fsanitize=address,undefined -fno-sanitize-recover=all \
-	    $(PROVIDER_SOURCES) $(filter-out -Wl$(COMMA)--no-undefined,$(PROVIDER_LINKS)) -o $@
+	$(CC) -O1 -g $(STRICT) -fPIC $(SANITIZERS) $(PROVIDER_SOURCES) \
+	    $(filter-out -Wl$(COMMA)--no-undefined,$(PROVIDER_LINKS)) -o $@
 
+# The tests, each of which takes the folder of the module.
+PROVIDER_TESTS = agree orders refused_memory wiped
+PROVIDER_TEST_HEADERS = openssl/test/agree.h openssl/test/single.h
 COMMA = ,
+SANITIZERS = -fsanitize=address,undefined -fno-sanitize-recover=all
+# That libcrypto keeps its tables until the program has ended is no leak.
+LEAKS = --leak-check=full --show-leak-kinds=all --errors-for-leak-kinds=all --error-exitcode=9
+# Of 8 threads: some 300,000 calls.
+AGREE_CASES ?= 2900
+
+$(PROVIDER_TESTS:%=$(OUT)/openssl/%): $(OUT)/openssl/%: openssl/test/%.c $(ARCHIVE) \
+    $(PROVIDER_TEST_HEADERS) $(wildcard openssl/test/agree_*.c)
+	mkdir -p $(@D)
+	$(CC) -O1 -g $(STRICT) $(filter %/$*.c %/$*_digests.c %/$*_tags.c %/$*_derivations.c,$^) \
+	    $(ARCHIVE) -lcrypto -lpthread -o $@
+
+$(PROVIDER_TESTS:%=$(OUT)/openssl/sanitized/%): $(OUT)/openssl/sanitized/%: openssl/test/%.c \
+    $(ARCHIVE) $(PROVIDER_TEST_HEADERS) $(wildcard openssl/test/agree_*.c)
+	mkdir -p $(@D)
+	$(CC) -O1 -g $(STRICT) $(SANITIZERS) \
+	    $(filter %/$*.c %/$*_digests.c %/$*_tags.c %/$*_derivations.c,$^) \
+	    $(ARCHIVE) -lcrypto -lpthread -o $@
+
+openssl-check: openssl-agree openssl-orders openssl-memory openssl-wiped openssl-sanitized \
+    openssl-valgrind openssl-programs openssl-exports
+
+# Random calls beside the default provider's.
+openssl-agree: $(PROVIDER) $(OUT)/openssl/agree
+	$(OUT)/openssl/agree $(<D) $(AGREE_CASES) 8
+
+# Wrong orders, missing and wrong parameters, records, loading and unloading.
+openssl-orders: $(PROVIDER) $(OUT)/openssl/orders
+	$(OUT)/openssl/orders $(<D)
+
+# Each allocation refused in turn.
+openssl-memory: $(PROVIDER) $(OUT)/openssl/refused_memory
+	$(OUT)/openssl/refused_memory $(<D)
+
+# No key, no words made of one and no message is left.
+openssl-wiped: $(PROVIDER) $(OUT)/openssl/wiped
+	$(OUT)/openssl/wiped $(<D)
+
+openssl-sanitized: $(SANITIZED) $(patsubst %,$(OUT)/openssl/sanitized/%,agree orders refused_memory)
+	$(<D)/agree $(<D) 100 8
+	$(<D)/orders $(<D)
+	$(<D)/refused_memory $(<D)
+
+openssl-valgrind: $(PROVIDER) $(OUT)/openssl/agree $(OUT)/openssl/orders \
+    $(OUT)/openssl/refused_memory
+	$(VALGRIND) -q $(LEAKS) $(OUT)/openssl/agree $(<D) 20 4
+	$(VALGRIND) -q $(LEAKS) $(OUT)/openssl/orders $(<D)
+	$(VALGRIND) -q --error-exitcode=9 $(OUT)/openssl/refused_memory $(<D)
+
+# OpenSSL's commands, Python's hashlib, hmac and ssl, and TLS over the counting build.
+openssl-programs: $(COUNTED)
+	$(PYTHON) -B openssl/test/programs $(<D)
+
+# The module has one name, and needs OpenSSL and a C library alone.
+openssl-exports: $(PROVIDER)
+	test "$$(nm -D --defined-only $< | awk '{ print $$3 }' | xargs)" = OSSL_provider_init
+	test "$$(readelf -d $< | sed -n 's/.*(NEEDED).*\[\(.*\)\]/\1/p' | sort | xargs)" = \
+	    'libc.so.6 libcrypto.so.3'
+	test "$$(objdump -T $< | grep -o 'OPENSSL_[0-9.]*' | sort -u | xargs)" = OPENSSL_3.0.0
 
 openssl-install: $(PROVIDER)
 	$(INSTALL) -d "$(DESTDIR)$(MODULESDIR)" "$(DESTDIR)$(PROVIDER_DOCDIR)"
@@ -50,4 +112,6 @@ openssl-uninstall:
 	rm -f "$(DESTDIR)$(MODULESDIR)/yezdopin.so"
 	rm -rf "$(DESTDIR)$(PROVIDER_DOCDIR)"
 
-.PHONY: openssl openssl-install openssl-uninstall
+.PHONY: openssl openssl-check openssl-agree openssl-orders openssl-memory openssl-wiped \
+    openssl-sanitized openssl-valgrind openssl-programs openssl-exports openssl-install \
+    openssl-uninstall

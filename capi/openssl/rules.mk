@@ -47,6 +47,9 @@ SANITIZERS = -fsanitize=address,undefined -fno-sanitize-recover=all
 LEAKS = --leak-check=full --show-leak-kinds=all --errors-for-leak-kinds=all --error-exitcode=9
 # Of 8 threads: some 300,000 calls.
 AGREE_CASES ?= 2900
+SANITIZED_CASES ?= 100
+VALGRIND_CASES ?= 20
+VALGRIND_LOADS ?= 20
 
 $(PROVIDER_TESTS:%=$(OUT)/openssl/%): $(OUT)/openssl/%: openssl/test/%.c $(ARCHIVE) \
     $(PROVIDER_TEST_HEADERS) $(wildcard openssl/test/agree_*.c)
@@ -62,7 +65,7 @@ $(PROVIDER_TESTS:%=$(OUT)/openssl/sanitized/%): $(OUT)/openssl/sanitized/%: open
 	    $(ARCHIVE) -lcrypto -lpthread -o $@
 
 openssl-check: openssl-agree openssl-orders openssl-memory openssl-wiped openssl-sanitized \
-    openssl-valgrind openssl-programs openssl-exports
+    openssl-valgrind openssl-programs openssl-exports openssl-installed
 
 # Random calls beside the default provider's.
 openssl-agree: $(PROVIDER) $(OUT)/openssl/agree
@@ -70,7 +73,7 @@ openssl-agree: $(PROVIDER) $(OUT)/openssl/agree
 
 # Wrong orders, missing and wrong parameters, records, loading and unloading.
 openssl-orders: $(PROVIDER) $(OUT)/openssl/orders
-	$(OUT)/openssl/orders $(<D)
+	$(OUT)/openssl/orders $(<D) 100
 
 # Each allocation refused in turn.
 openssl-memory: $(PROVIDER) $(OUT)/openssl/refused_memory
@@ -81,14 +84,14 @@ openssl-wiped: $(PROVIDER) $(OUT)/openssl/wiped
 	$(OUT)/openssl/wiped $(<D)
 
 openssl-sanitized: $(SANITIZED) $(patsubst %,$(OUT)/openssl/sanitized/%,agree orders refused_memory)
-	$(<D)/agree $(<D) 100 8
-	$(<D)/orders $(<D)
+	$(<D)/agree $(<D) $(SANITIZED_CASES) 8
+	$(<D)/orders $(<D) 20
 	$(<D)/refused_memory $(<D)
 
 openssl-valgrind: $(PROVIDER) $(OUT)/openssl/agree $(OUT)/openssl/orders \
     $(OUT)/openssl/refused_memory
-	$(VALGRIND) -q $(LEAKS) $(OUT)/openssl/agree $(<D) 20 4
-	$(VALGRIND) -q $(LEAKS) $(OUT)/openssl/orders $(<D)
+	$(VALGRIND) -q $(LEAKS) $(OUT)/openssl/agree $(<D) $(VALGRIND_CASES) 4
+	$(VALGRIND) -q $(LEAKS) $(OUT)/openssl/orders $(<D) $(VALGRIND_LOADS)
 	$(VALGRIND) -q --error-exitcode=9 $(OUT)/openssl/refused_memory $(<D)
 
 # OpenSSL's commands, Python's hashlib, hmac and ssl, and TLS over the counting build.
@@ -102,6 +105,18 @@ openssl-exports: $(PROVIDER)
 	    'libc.so.6 libcrypto.so.3'
 	test "$$(objdump -T $< | grep -o 'OPENSSL_[0-9.]*' | sort -u | xargs)" = OPENSSL_3.0.0
 
+# What is installed, by a copy of the configuration beside it.
+PROVIDER_ROOT = $(OUT)/openssl/root
+openssl-installed: $(PROVIDER)
+	rm -rf $(PROVIDER_ROOT)
+	$(MAKE) --no-print-directory -o $(BUILT) openssl-install DESTDIR=$(PROVIDER_ROOT) \
+	    MODULESDIR=/modules PROVIDER_DOCDIR=/doc >/dev/null
+	OPENSSL_CONF=$(PROVIDER_ROOT)/doc/yezdopin.cnf OPENSSL_MODULES=$(PROVIDER_ROOT)/modules \
+	    openssl list -providers | grep -q 'name: Yezdopin'
+	$(MAKE) --no-print-directory openssl-uninstall DESTDIR=$(PROVIDER_ROOT) MODULESDIR=/modules \
+	    PROVIDER_DOCDIR=/doc >/dev/null
+	test -z "$$(find $(PROVIDER_ROOT) ! -type d)"
+
 openssl-install: $(PROVIDER)
 	$(INSTALL) -d "$(DESTDIR)$(MODULESDIR)" "$(DESTDIR)$(PROVIDER_DOCDIR)"
 	$(INSTALL) -m 644 $(PROVIDER) "$(DESTDIR)$(MODULESDIR)"
@@ -113,5 +128,5 @@ openssl-uninstall:
 	rm -rf "$(DESTDIR)$(PROVIDER_DOCDIR)"
 
 .PHONY: openssl openssl-check openssl-agree openssl-orders openssl-memory openssl-wiped \
-    openssl-sanitized openssl-valgrind openssl-programs openssl-exports openssl-install \
-    openssl-uninstall
+    openssl-sanitized openssl-valgrind openssl-programs openssl-exports openssl-installed \
+    openssl-install openssl-uninstall

@@ -1,8 +1,8 @@
 /* Calls in wrong orders, and missing and wrong parameters, with and without the default provider
- * beside; records of TLS; loading and unloading in both orders. orders MODULES */
+ * beside; records of TLS; loading and unloading in both orders. orders MODULES LOADS */
 #include "single.h"
+#include <stdlib.h>
 
-#define LOADS 100
 #define MOST_RECORD 600
 
 /* Whether a call refuses, and gives the reason. */
@@ -177,12 +177,11 @@ static void run(const char *modules, int has_default, int is_default_first, int 
 
 int main(int argc, char **argv)
 {
-    if (argc != 2) return 2;
+    long loads = argc == 3 ? strtol(argv[2], NULL, 10) : 0;
     make_params();
-    for (int i = 0; i < LOADS; i++) {
+    for (long i = 0; i < loads && failures == 0; i++) {
         run(argv[1], i % 2 == 1, i % 4 == 1, i == 1);
-        if (failures != 0) break;
     }
-    printf("%d loads: %d failures\n", LOADS, failures);
-    return failures != 0;
+    printf("%ld loads: %d failures\n", loads, failures);
+    return failures != 0 || loads == 0;
 }

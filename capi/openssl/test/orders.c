@@ -85,6 +85,33 @@ static void tag_under_other_digests(EVP_MAC_CTX *it, int has_default)
     CHECK(EVP_MAC_init(it, NULL, 0, sha256) == 1 && EVP_MAC_CTX_get_mac_size(it) == 32);
 }
 
+/* What is handed on is refused where no other provider serves. A record's tag would be right by the
+ * library too, and its time would tell the length of the padding. */
+static void handed_on(OSSL_LIB_CTX *context)
+{
+    size_t total = 100;
+    uint64_t many = (uint64_t)UINT32_MAX + 2;
+    unsigned char out[32];
+    const OSSL_PARAM record[] = {OSSL_PARAM_construct_size_t("tls-data-size", &total),
+                                 OSSL_PARAM_construct_end()};
+    const OSSL_PARAM with_properties[] = {word("digest", "SHA256"), word("properties", OURS),
+                                          OSSL_PARAM_construct_end()};
+    const OSSL_PARAM iterations[] = {OSSL_PARAM_construct_uint64("iter", &many),
+                                     octets("pass", "p", 1), octets("salt", "s", 1),
+                                     OSSL_PARAM_construct_end()};
+    EVP_MAC_CTX *tag = new_hmac(context, OURS);
+    EVP_KDF_CTX *derivation = new_kdf(context, "PBKDF2");
+    CHECK(EVP_MAC_init(tag, (const unsigned char *)"key", 3, sha256) == 1);
+    CHECK(EVP_MAC_CTX_set_params(tag, record) == 0);
+    CHECK(EVP_MAC_update(tag, out, 0) == 0);
+    EVP_MAC_CTX_free(tag);
+    tag = new_hmac(context, OURS);
+    CHECK(EVP_MAC_init(tag, (const unsigned char *)"key", 3, with_properties) == 0);
+    EVP_MAC_CTX_free(tag);
+    CHECK(EVP_KDF_derive(derivation, out, sizeof out, iterations) == 0);
+    EVP_KDF_CTX_free(derivation);
+}
+
 static void derivations(OSSL_LIB_CTX *context)
 {
     const OSSL_PARAM wrong_mode[] = {word("mode", "EXTRACT"), OSSL_PARAM_construct_end()};
@@ -168,6 +195,7 @@ static void run(const char *modules, int has_default, int is_default_first, int 
     tag_under_other_digests(it, has_default);
     EVP_MAC_CTX_free(it);
     derivations(context);
+    if (!has_default) handed_on(context);
     if (has_records) records(context);
     if (is_default_first) OSSL_PROVIDER_unload(theirs);
     OSSL_PROVIDER_unload(ours);

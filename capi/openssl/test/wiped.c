@@ -147,6 +147,7 @@ static bool hmac(scene_of_secrets *scene)
     bool is_done = EVP_MAC_init(it, scene->secret, SECRET_LEN, scene->digest)
                    && EVP_MAC_update(it, text, 4);
     hold(scene);
+    EVP_MAC_CTX_free(EVP_MAC_CTX_dup(it)); /* one that still has the key */
     copy = EVP_MAC_CTX_dup(it);
     is_done = is_done && EVP_MAC_final(it, out, &len, sizeof out)
                    && EVP_MAC_init(it, text, 4, NULL) && EVP_MAC_update(it, text, 4);
@@ -197,6 +198,8 @@ static bool derive(scene_of_secrets *scene, const char *name, const char *mode)
         OSSL_PARAM_construct_octet_string("key", secret, SECRET_LEN),
         OSSL_PARAM_construct_octet_string("pass", secret, SECRET_LEN),
         OSSL_PARAM_construct_octet_string("salt", (char *)"some salt", 9),
+        OSSL_PARAM_construct_octet_string("info", secret, SECRET_LEN),
+        OSSL_PARAM_construct_octet_string("info", secret, SECRET_LEN),
         OSSL_PARAM_construct_utf8_string("mode", (char *)mode, 0),
         OSSL_PARAM_construct_end()};
     EVP_KDF *kdf = EVP_KDF_fetch(NULL, name, OURS);

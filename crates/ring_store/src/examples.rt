@@ -1,9 +1,11 @@
 //! A first use, proved from the contracts alone.
 
-ghost use Rattle.std.specs.Prelude.{IsOkUnless};
+ghost use Rattle.std.specs.Prelude.{◌≡◌, IfOk, IsOkUnless};
+ghost use Rattle.ring_store.specs.Text.{IsStore};
+ghost use Rattle.ring_store.specs.declared.error.LoadError.TheVariants.{Memory as LoadMemory};
 ghost use Rattle.ring_store.specs.declared.error.StoreError.TheVariants.{Memory};
 
-use crate::error::StoreError;
+use crate::error::{LoadError, StoreError};
 use crate::store::PasswordStore;
 use crate::token::TokenMaker;
 use std::alloc::Global;
@@ -35,4 +37,14 @@ pub fn first_use(
     let token = maker.issue(b"alice", expiry).unwrap();
     maker.check(b"alice", expiry, now, &token).unwrap();
     Ok(())
+}
+
+/// A store outlives the process: its text, kept anywhere, is read as the same store. Only memory
+/// can be wanting.
+pub fn over_a_restart(alloc: Global, store: &PasswordStore) -> Result<PasswordStore, LoadError>
+    ensures same { IsStore store.now → IfOk result (λ t. t ≡ store.now) }
+    ensures memory { IsStore store.now → IsOkUnless result LoadMemory }
+{
+    let text = store.to_text(alloc)?;
+    PasswordStore::from_text(alloc, &text)
 }

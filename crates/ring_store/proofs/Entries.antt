@@ -1,0 +1,141 @@
+-- The entries of tables, in the order of their names.
+use Rattle.std.proofs.Common.{◌≡◌, ℕ, Bool, true, false, ◌&&◌, List, [], ◌∷◌, ◌++◌, length, All, refl, sym, ap, subst, ◌∙◌, arith, T}
+use Rattle.std.specs.Ordering.{is_lt, ordering_reverse, nat_cmp}
+use Rattle.std.specs.declared.cmp.Ordering.{Ordering}
+use Rattle.std.specs.declared.cmp.Ordering.TheVariants.{Less, Equal, Greater}
+use Rattle.std.specs.Cmp.Lexicographic.{nat_list_cmp_total}
+use Rattle.std.specs.FinMap as table
+use Rattle.std.specs.FinMap.Entries.{put, by_order, below_all, is_sorted}
+use Rattle.std.specs.List.{AllByRecursion}
+use Rattle.std.specs.List.Sorted.{IsStrictlySortedBy}
+use Rattle.std.specs.Map.{keys_of}
+use Rattle.std.specs.declared.vec.Vec.{Vec}
+use Rattle.std.proofs.lemmas.List.Elements.{All-nil, All-cons, All-head, All-tail, All-append}
+use Rattle.ring_store.specs.Records.{IsBehind, named}
+use Rattle.ring_store.proofs.Names.{order, key_order}
+
+first : (a b : Bool) → T (a && b) → T a
+first true b p = tt
+first false b p = p
+
+second : (a b : Bool) → T (a && b) → T b
+second true b p = p
+second false b p = absurd p
+
+less : (o : Ordering) → T (is_lt o) → o ≡ Less
+less Less p = refl
+less Equal p = absurd p
+less Greater p = absurd p
+
+lower_test : (o : Ordering) → o ≡ Less → is_lt o ≡ true
+lower_test o e = ap is_lt e
+
+test_lower : (o : Ordering) → is_lt o ≡ true → o ≡ Less
+test_lower Less e = refl
+test_lower Equal e = cc e
+test_lower Greater e = cc e
+
+abbrev Behind : {X : Type 0} → List ℕ → List ℕ × X → Type 0
+Behind name e = order e.0 name ≡ Less
+
+module _ {X : Type 0} where
+  below_at : (k : List ℕ) (es : List (List ℕ × X)) (e : List ℕ × X) (rest : List (List ℕ × X))
+      → T (below_all order k (es ++ e ∷ rest)) → order k e.0 ≡ Less
+  below_at k [] e rest h = less (order k e.0) (first (is_lt (order k e.0)) (below_all order k rest) h)
+  below_at k (x ∷ es) e rest h =
+      below_at k es e rest (second (is_lt (order k x.0)) (below_all order k (es ++ e ∷ rest)) h)
+
+  -- among sorted entries, each stands behind those before it
+  pub sorted_front : (es : List (List ℕ × X)) (e : List ℕ × X) (rest : List (List ℕ × X))
+      → T (is_sorted order (es ++ e ∷ rest)) → IsBehind e.0 es
+  sorted_front [] e rest h = All-nil (Behind e.0)
+  sorted_front (x ∷ es) e rest h =
+      let all = es ++ e ∷ rest in
+      All-cons (Behind e.0) x es
+      (below_at x.0 es e rest (first (below_all order x.0 all) (is_sorted order all) h))
+      (sorted_front es e rest (second (below_all order x.0 all) (is_sorted order all) h))
+
+  put_last : (k : List ℕ) (v : X) (es : List (List ℕ × X)) → IsBehind k es
+      → put order k v es ≡ es ++ (k, v) ∷ []
+  put_last k v [] h = refl
+  put_last k v (e ∷ es) h =
+      let greater : order k e.0 ≡ Greater =
+      nat_list_cmp_total.antisymm k e.0 ∙ ap ordering_reverse (All-head (Behind k) e es h) in
+      ap (λ o. by_order o ((k, v) ∷ e ∷ es) ((e.0, v) ∷ es) (e ∷ put order k v es)) greater
+      ∙ ap (λ l. e ∷ l) (put_last k v es (All-tail (Behind k) e es h))
+
+  -- an entry whose name stands behind all comes last
+  pub entries-insert_last : (m : table.FinMap order X) (k : List ℕ) (v : X)
+      → IsBehind k (table.entries m)
+      → table.entries (table.insert m k v) ≡ table.entries m ++ (k, v) ∷ []
+  entries-insert_last m k v h =
+      table.entries-insert nat_list_cmp_total m k v ∙ put_last k v (table.entries m) h
+
+  no_entry : (es : List (List ℕ × X)) → length es ≡ 0 → es ≡ []
+  no_entry [] e = refl
+  no_entry (x ∷ es) e = absurd (omega arith)
+
+  pub entries-empty : table.entries (table.empty {X = X} {R = order}) ≡ []
+  entries-empty =
+      no_entry (table.entries table.empty) (sym (table.len-entries table.empty) ∙ table.len-empty order X)
+
+  put_first : (k : List ℕ) (v : X) (es : List (List ℕ × X)) → T (below_all order k es)
+      → put order k v es ≡ (k, v) ∷ es
+  put_first k v [] h = refl
+  put_first k v (e ∷ es) h =
+      let lower = less (order k e.0) (first (is_lt (order k e.0)) (below_all order k es) h) in
+      ap (λ o. by_order o ((k, v) ∷ e ∷ es) ((e.0, v) ∷ es) (e ∷ put order k v es)) lower
+
+module _ {X A : Type 0} where
+  named_below : (k : Vec ℕ A) (es : List (Vec ℕ A × X))
+      → AllByRecursion (λ y. key_order k y ≡ Less) (keys_of es)
+      → T (below_all order k.items (named es))
+  named_below k [] h = tt
+  named_below k (e ∷ es) h =
+      subst (λ o. T (is_lt o && below_all order k.items (named es))) (sym h.0) (named_below k es h.1)
+
+  -- the entries of a map, by name, are those of its table
+  pub entries-named : (es : List (Vec ℕ A × X)) → IsStrictlySortedBy key_order (keys_of es)
+      → table.entries (table.from_entries {R = order} (named es)) ≡ named es
+  unfolding IsStrictlySortedBy
+  entries-named [] h = entries-empty
+  entries-named (e ∷ es) h =
+      table.entries-insert nat_list_cmp_total (table.from_entries (named es)) e.0.items e.1
+      ∙ ap (put order e.0.items e.1) (entries-named es h.1)
+      ∙ put_first e.0.items e.1 (named es) (named_below e.0 es h.0)
+
+  -- the same of a table that shows the map
+  pub entries-shown : {m : table.FinMap order X} (es : List (Vec ℕ A × X))
+      → table.from_entries {R = order} (named es) ≡ m → IsStrictlySortedBy key_order (keys_of es)
+      → table.entries m ≡ named es
+  entries-shown es shows h = ap table.entries (sym shows) ∙ entries-named es h
+
+module _ {X : Type 0} (name : List ℕ) where
+  behind_front : (es : List (List ℕ × X)) (e : List ℕ × X) → IsBehind e.0 es
+      → order e.0 name ≡ Less → IsBehind name es
+  behind_front [] e h lower = All-nil (Behind name)
+  behind_front (x ∷ es) e h lower =
+      All-cons (Behind name) x es
+      (nat_list_cmp_total.trans x.0 e.0 name (All-head (Behind e.0) x es h) lower)
+      (behind_front es e (All-tail (Behind e.0) x es h) lower)
+
+  behind_last : (es : List (List ℕ × X)) (e : List ℕ × X) → IsBehind name (es ++ e ∷ [])
+      → order e.0 name ≡ Less
+  behind_last [] e h = All-head (Behind name) e [] h
+  behind_last (x ∷ es) e h = behind_last es e (All-tail (Behind name) x (es ++ e ∷ []) h)
+
+  -- a name stands behind all names where it stands behind the last of them
+  pub IsBehind-last : (all front : List (List ℕ × X)) (e : List ℕ × X) → all ≡ front ++ e ∷ []
+      → T (is_sorted order all)
+      → (is_lt (order e.0 name) ≡ true → IsBehind name all)
+      × (IsBehind name all → is_lt (order e.0 name) ≡ true)
+  IsBehind-last all front e same h =
+      let sorted = sorted_front front e [] (subst (λ l. T (is_sorted order l)) same h) in (
+        λ test.
+            let lower = test_lower (order e.0 name) test in
+            subst (IsBehind name) (sym same)
+            (All-append (Behind name) front (e ∷ []) (behind_front front e sorted lower)
+            (All-cons (Behind name) e [] lower (All-nil (Behind name)))),
+        λ all_lower.
+            lower_test (order e.0 name) (behind_last front e (subst (IsBehind name) same all_lower)),
+      )

@@ -1,0 +1,82 @@
+use Rattle.std.proofs.Common.{◌≡◌, ℕ, ◌<◌, List, [], ◌∷◌, ◌++◌, length, All, sym, ap, subst, ◌∙◌, arith, append_assoc}
+use Rattle.std.specs.Prelude.{Err}
+use Rattle.std.specs.FinMap as table
+use Rattle.std.proofs.lemmas.Bool.Decides.{nat_tests}
+use Rattle.std.proofs.lemmas.List.Elements.{All-nil, All-push}
+use Rattle.std.proofs.lemmas.Result.{err_from_is_err_and}
+use Rattle.ring_store.specs.Records.{IsBehind}
+use Rattle.ring_store.specs.Text.{IsEntry, head_then, lines_of, record_then}
+use Rattle.ring_store.specs.declared.error.LoadError.TheVariants.{BadText}
+use Rattle.ring_store.specs.declared.records.Record.{Record}
+use Rattle.ring_store.proofs.Entries.{entries-empty, entries-insert_last}
+use Rattle.ring_store.proofs.Stores.{next, next_behind}
+use Rattle.ring_store.proofs.Texts.{lines_of-append, record_then-append, record_then-grows}
+use Rattle.ring_store.proofs.Texts.{record_then-injective}
+use Rattle.ring_store.proofs.store.PasswordStore.from_text.Goals as goal
+
+pub loop-rest-init : goal.loop-rest-init
+loop-rest-init g c =
+    let read = c.in-Some.ensures.read in
+    let none = ap table.entries c.new-records.ensures ∙ entries-empty in
+    let begin = head_then c.in-Some.head.0 c.in-Some.head.1 in
+    record {
+      whole = read.0 ∙ ap (λ es. begin (lines_of es ++ c.in-Some.head.2.now)) (sym none);
+      head = read.1;
+      each = subst (All IsEntry) (sym none) (All-nil IsEntry);
+    }
+
+pub returns-in_err-name-clause-bad : goal.returns-in_err-name-clause-bad
+returns-in_err-name-clause-bad g c = λ bad s h is.
+    let p = err_from_is_err_and c.from_residual.result c.from_residual.ensures.1 in
+    let told : c.in_err-name.field-0.0 ≡ BadText = cc (bad, p.1, p.2) in
+    let so_far = c.loop-rest.invariant in
+    let some : 0 < length c.loop-rest.rest.now =
+    grind (arith, nat_tests, c.is_empty.ensures, c.loop-rest-test.true) in
+    let n = next s h is c.in-Some.head.0 c.in-Some.head.1 (table.entries c.loop-rest.records)
+    c.loop-rest.rest.now so_far.head so_far.each so_far.whole some in
+    c.in_err-name.ensures.bad (ap Err told) n.entry (lines_of n.others) n.is n.line
+
+pub returns-then-not-is_last-clause-bad : goal.returns-then-not-is_last-clause-bad
+returns-then-not-is_last-clause-bad g c = λ _ s h is.
+    let so_far = c.loop-rest.invariant in
+    let some : 0 < length c.loop-rest.rest.now =
+    grind (arith, nat_tests, c.is_empty.ensures, c.loop-rest-test.true) in
+    let es = table.entries c.loop-rest.records in
+    let n = next s h is c.in-Some.head.0 c.in-Some.head.1 es c.loop-rest.rest.now so_far.head
+    so_far.each so_far.whole some in
+    let behind = next_behind s h is c.in-Some.head.0 c.in-Some.head.1 es c.loop-rest.rest.now
+    so_far.head so_far.each so_far.whole n in
+    let read = c.in_ok-name.ensures.read in
+    let same = record_then-injective (c.in_ok-name.name.items, c.in_ok-name.kept) n.entry
+    c.in_ok-name.behind.now (lines_of n.others) read.1 n.is (sym read.0 ∙ n.line) in
+    let name = c.deref.ensures.value ∙ ap (λ e. e.0) same.0 in
+    let told = c.is_last.ensures.1 (subst (λ k. IsBehind k es) (sym name) behind) in
+    cc (told, c.if-not-is_last.true)
+
+pub loop-rest-smaller : goal.loop-rest-smaller
+loop-rest-smaller g c =
+    let read = c.in_ok-name.ensures.read in
+    let grows = record_then-grows (c.in_ok-name.name.items, c.in_ok-name.kept)
+    c.in_ok-name.behind.now in
+    omega (arith, grows, ap length read.0)
+
+pub loop-rest-preserved : goal.loop-rest-preserved
+loop-rest-preserved g c =
+    let so_far = c.loop-rest.invariant in
+    let read = c.in_ok-name.ensures.read in
+    let es = table.entries c.loop-rest.records in
+    let e : List ℕ × Record = (c.in_ok-name.name.items, c.in_ok-name.kept) in
+    let rest = c.in_ok-name.behind.now in
+    let told = c.is_last.ensures.0 c.if-not-is_last.false in
+    let behind = subst (λ k. IsBehind k es) c.deref.ensures.value told in
+    let added = ap table.entries c.in_ok-add_owned.ensures.ok
+    ∙ entries-insert_last c.loop-rest.records c.in_ok-name.name.items c.in_ok-name.kept behind in
+    let lines = ap (λ l. lines_of l ++ rest) added
+    ∙ ap (λ l. l ++ rest) (lines_of-append es (e ∷ []))
+    ∙ append_assoc (lines_of es) (record_then e []) rest
+    ∙ ap (λ l. lines_of es ++ l) (record_then-append e [] rest ∙ sym read.0) in
+    record {
+      whole = so_far.whole ∙ ap (head_then c.in-Some.head.0 c.in-Some.head.1) (sym lines);
+      head = so_far.head;
+      each = subst (All IsEntry) (sym added) (All-push IsEntry es e so_far.each read.1);
+    }

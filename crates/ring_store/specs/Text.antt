@@ -1,0 +1,71 @@
+-- A store as text: a line for the store's own salt and iterations, and then a line for each record,
+-- in the order of the names.
+use Rattle.std.specs.Prelude.{◌≡◌, ℕ, ◌^◌, ◌<◌, ◌==◌, Bool, true, false, List, [], ◌∷◌, ◌++◌, length, All, codes}
+use Rattle.std.specs.Fmt.{decimal}
+use Rattle.std.specs.FinMap as table
+use Rattle.std.specs.List.{flat_map}
+use Rattle.std.specs.Int.NonZero.{non_zero_u32_get}
+use Rattle.std.specs.declared.num.NonZeroU32.{NonZeroU32}
+use Rattle.hex.specs.Hex.{IsBytes, encode_lower}
+use Rattle.ring_store.specs.Store.{is_name}
+use Rattle.ring_store.specs.declared.records.Record.{Record}
+use Rattle.ring_store.specs.declared.store.PasswordStore.{PasswordStore}
+
+-- bytes in lower case hex, and what follows
+abbrev pub hex_then : (bytes : List ℕ) (end : ℕ) (rest : List ℕ) → List ℕ
+hex_then bytes end rest = encode_lower bytes ++ end ∷ rest
+
+-- iterations in decimal, and what follows
+abbrev pub count_then : (c : NonZeroU32) (end : ℕ) (rest : List ℕ) → List ℕ
+count_then c end rest = decimal (non_zero_u32_get c) ++ end ∷ rest
+
+-- `NAME ITERATIONS CREDENTIAL` and a line feed, and what follows
+unfoldable pub record_then : List ℕ × Record → (rest : List ℕ) → List ℕ
+record_then e rest =
+    hex_then e.0 32 (count_then e.1.iterations 32 (hex_then e.1.credential 10 rest))
+
+-- a line for each record
+abbrev pub lines_of : List (List ℕ × Record) → List ℕ
+lines_of [] = []
+lines_of (e ∷ es) = record_then e (lines_of es)
+
+-- `ring_store 1 SALT ITERATIONS` and a line feed, and what follows
+unfoldable pub head_then : (db_salt : List ℕ) (c : NonZeroU32) (rest : List ℕ) → List ℕ
+head_then db_salt c rest = codes "ring_store 1 " ++ hex_then db_salt 32 (count_then c 10 rest)
+
+-- the text of a store
+abbrev pub text_of : {Z : Type 0} → PasswordStore Z → List ℕ
+text_of s = head_then s.db_salt s.iterations (lines_of (table.entries s.records))
+
+-- a count of iterations fits 32 bits
+abbrev pub IsCount : NonZeroU32 → Type 0
+IsCount c = non_zero_u32_get c < 2 ^ 32
+
+-- a name of 1 to 64 bytes, and a credential of 32
+pub record IsEntry (e : List ℕ × Record) : Type 0 where
+  pub name : is_name e.0 ≡ true
+  pub name_bytes : IsBytes e.0
+  pub iterations : IsCount e.1.iterations
+  pub credential : length e.1.credential ≡ 32
+  pub credential_bytes : IsBytes e.1.credential
+
+-- a salt of 16 bytes
+pub record IsHead (db_salt : List ℕ) (c : NonZeroU32) : Type 0 where
+  pub salt : length db_salt ≡ 16
+  pub salt_bytes : IsBytes db_salt
+  pub iterations : IsCount c
+
+-- what each store is whose salt and iterations are of their types, and whose records were kept by
+-- its calls
+pub record IsStore {Z : Type 0} (s : PasswordStore Z) : Type 0 where
+  pub head : IsHead s.db_salt s.iterations
+  pub entries : All IsEntry (table.entries s.records)
+
+-- the byte stands nowhere in the text
+abbrev pub IsWithout : ℕ → List ℕ → Type 0
+IsWithout byte text = All (λ b. (b == byte) ≡ false) text
+
+-- the text is cut at the first such byte
+pub record IsFirstCut (byte : ℕ) (text before behind : List ℕ) : Type 0 where
+  pub whole : text ≡ before ++ byte ∷ behind
+  pub first : IsWithout byte before

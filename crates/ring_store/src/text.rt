@@ -1,0 +1,266 @@
+//! The lines of a store's text.
+
+ghost use Rattle.std.specs.Prelude.{◌≡◌, ◌≢◌, ◌↔◌, ℕ, ◌≤◌, List, [], ◌∷◌, ◌++◌, length, IfSome, IfOk};
+ghost use Rattle.std.specs.Prelude.{IsNone, IsTrue, IsErrOf, OnOk, OnErr, All, true};
+ghost use Rattle.hex.specs.Hex.{IsBytes, encode_lower, hex_digit_value};
+ghost use Rattle.std.specs.Char.{digit_value};
+ghost use Rattle.std.specs.Int.NonZero.{non_zero_u32_get};
+ghost use Rattle.std.specs.Fmt.{decimal};
+ghost use Rattle.std.specs.declared.num.NonZeroU32.{NonZeroU32};
+ghost use Rattle.ring_store.specs.Store.{is_name};
+ghost use Rattle.ring_store.specs.Text.{IsCount, IsEntry, IsFirstCut, IsHead, IsWithout};
+ghost use Rattle.ring_store.specs.Text.{head_then, hex_then, count_then, record_then};
+ghost use Rattle.ring_store.specs.declared.records.Record.{Record};
+
+use crate::credential::{CREDENTIAL_LEN, DB_SALT_LEN, MAX_NAME_LEN};
+use crate::error::LoadError;
+use crate::records::Record;
+use hex::FromHexError;
+use itoa::Buffer;
+use memchr::memchr;
+use std::alloc::{AllocError, Allocator};
+use std::num::NonZeroU32;
+use std::str;
+
+// What a text begins with: the format's name, and its version.
+const MARK: &[u8] = b"ring_store 1 ";
+
+// Appends bytes in hex, and a byte that ends them.
+fn append_hex<A: Allocator + Copy>(
+    alloc: A,
+    out: &mut Vec<u8, A>,
+    bytes: &[u8],
+    end: u8,
+) -> Result<(), AllocError>
+    ensures { OnOk result (out.new.items ≡ out.old.items ++ hex_then bytes.now end []) }
+{
+    out.extend_from_slice(hex::encode(alloc, bytes)?.as_bytes())?;
+    out.push(end)?;
+    Ok(())
+}
+
+// Appends iterations in decimal, and a byte that ends them.
+fn append_count<A: Allocator>(
+    out: &mut Vec<u8, A>,
+    iterations: NonZeroU32,
+    end: u8,
+) -> Result<(), AllocError>
+    ensures { OnOk result (out.new.items ≡ out.old.items ++ count_then iterations end []) }
+{
+    out.extend_from_slice(Buffer::new().format(iterations.get()).as_bytes())?;
+    out.push(end)?;
+    Ok(())
+}
+
+#[tactic(auto, unfolding(crate::specs::Text::head_then))]
+/// Appends the first line of a store's text.
+pub(crate) fn append_head<A: Allocator + Copy>(
+    alloc: A,
+    out: &mut Vec<u8, A>,
+    db_salt: &[u8; DB_SALT_LEN],
+    iterations: NonZeroU32,
+) -> Result<(), AllocError>
+    ensures { OnOk result (out.new.items ≡ out.old.items ++ head_then db_salt.now iterations []) }
+{
+    out.extend_from_slice(MARK)?;
+    append_hex(alloc, out, db_salt, b' ')?;
+    append_count(out, iterations, b'\n')?;
+    Ok(())
+}
+
+#[tactic(auto, unfolding(crate::specs::Text::record_then))]
+/// Appends the line of a record.
+pub(crate) fn append_record<A: Allocator + Copy>(
+    alloc: A,
+    out: &mut Vec<u8, A>,
+    name: &[u8],
+    kept: &Record,
+) -> Result<(), AllocError>
+    ensures { OnOk result (out.new.items ≡ out.old.items ++ record_then (name.now, kept.now) []) }
+{
+    append_hex(alloc, out, name, b' ')?;
+    append_count(out, kept.iterations, b' ')?;
+    append_hex(alloc, out, &kept.credential, b'\n')?;
+    Ok(())
+}
+
+// What stands before the first such byte and what stands behind it, or `None` where there is none.
+fn cut_at(text: &[u8], byte: u8) -> Option<(&[u8], &[u8])>
+    ensures cut { IfSome result (λ parts. IsFirstCut byte text.now parts.0.now parts.1.now) }
+    ensures whole { IsNone result → IsWithout byte text.now }
+{
+    match memchr(byte, text) {
+        Some(at) => Some((&text[..at], &text[at + 1..])),
+        None => None,
+    }
+}
+
+// Whether digits are those of some bytes, in lower case.
+fn is_hex_of(digits: &[u8], bytes: &[u8]) -> bool
+    requires { length bytes.now ≤ MAX_NAME_LEN }
+    ensures { IsTrue result ↔ (digits.now ≡ encode_lower bytes.now) }
+{
+    let mut again = [0; 2 * MAX_NAME_LEN];
+    let again = &mut again[..2 * bytes.len()];
+    hex::encode_to_slice(bytes, &mut *again).is_ok() && *again == *digits
+}
+
+// Reads as many bytes as there is room for.
+fn fill(digits: &[u8], out: &mut [u8]) -> bool
+    requires { length out.old ≤ MAX_NAME_LEN }
+    ensures read { IsTrue result → (digits.now ≡ encode_lower out.new) × IsBytes out.new }
+    ensures bad { ¬ (IsTrue result) → (bytes : List ℕ) → IsBytes bytes
+        → length bytes ≡ length out.old → digits.now ≢ encode_lower bytes }
+{
+    hex::decode_to_slice(digits, &mut *out).is_ok() && is_hex_of(digits, &*out)
+}
+
+// What digits are refused as that don't decode.
+fn refusal(error: FromHexError) -> LoadError
+    ensures { result ≡ LoadError.BadText → error ≢ FromHexError.OutOfMemory }
+{
+    match error {
+        FromHexError::OutOfMemory => LoadError::Memory,
+        _ => LoadError::BadText,
+    }
+}
+
+// Reads a name.
+fn name_in<A: Allocator>(alloc: A, digits: &[u8]) -> Result<Vec<u8, A>, LoadError>
+    ensures read { IfOk result (λ name. (digits.now ≡ encode_lower name.items)
+        × IsBytes name.items × (is_name name.items ≡ true)) }
+    ensures bad { IsErrOf result LoadError.BadText → (name : List ℕ) → IsBytes name
+        → is_name name ≡ true → digits.now ≢ encode_lower name }
+{
+    if digits.is_empty() || digits.len() > 2 * MAX_NAME_LEN {
+        return Err(LoadError::BadText);
+    }
+    let name = match hex::decode(alloc, digits) {
+        Ok(name) => name,
+        Err(error) => return Err(refusal(error)),
+    };
+    if !is_hex_of(digits, &name) {
+        return Err(LoadError::BadText);
+    }
+    Ok(name)
+}
+
+// Reads a count of iterations.
+fn count_in(digits: &[u8]) -> Option<NonZeroU32>
+    ensures read { IfSome result (λ c. (digits.now ≡ decimal (non_zero_u32_get c)) × IsCount c) }
+    ensures bad { IsNone result → (c : NonZeroU32) → IsCount c
+        → digits.now ≢ decimal (non_zero_u32_get c) }
+{
+    let Ok(text) = str::from_utf8(digits) else {
+        return None;
+    };
+    let Ok(count) = text.parse::<u32>() else {
+        return None;
+    };
+    if Buffer::new().format(count).as_bytes() != digits {
+        return None;
+    }
+    NonZeroU32::new(count)
+}
+
+// Reads bytes before `end`, as many as there is room for, and gives what follows.
+fn hex_before<'a>(text: &'a [u8], end: u8, out: &mut [u8]) -> Option<&'a [u8]>
+    requires end { hex_digit_value end ≡ None }
+    requires room { length out.old ≤ MAX_NAME_LEN }
+    ensures read { IfSome result (λ rest. (text.now ≡ hex_then out.new end rest.now)
+        × IsBytes out.new) }
+    ensures bad { IsNone result → (bytes rest : List ℕ) → IsBytes bytes
+        → length bytes ≡ length out.old → text.now ≢ hex_then bytes end rest }
+{
+    let Some((digits, rest)) = cut_at(text, end) else {
+        return None;
+    };
+    if !fill(digits, out) {
+        return None;
+    }
+    Some(rest)
+}
+
+// Reads a name before `end`, and gives what follows.
+fn name_before<A: Allocator>(
+    alloc: A,
+    text: &[u8],
+    end: u8,
+) -> Result<(Vec<u8, A>, &[u8]), LoadError>
+    requires { hex_digit_value end ≡ None }
+    ensures read { IfOk result (λ found. (text.now ≡ hex_then found.0.items end found.1.now)
+        × IsBytes found.0.items × (is_name found.0.items ≡ true)) }
+    ensures bad { IsErrOf result LoadError.BadText → (name rest : List ℕ) → IsBytes name
+        → is_name name ≡ true → text.now ≢ hex_then name end rest }
+{
+    let Some((digits, rest)) = cut_at(text, end) else {
+        return Err(LoadError::BadText);
+    };
+    match name_in(alloc, digits) {
+        Ok(name) => Ok((name, rest)),
+        Err(error) => Err(error),
+    }
+}
+
+// Reads iterations before `end`, and gives what follows.
+fn count_before(text: &[u8], end: u8) -> Option<(NonZeroU32, &[u8])>
+    requires { 10 ≤ digit_value end }
+    ensures read { IfSome result (λ found. (text.now ≡ count_then found.0 end found.1.now)
+        × IsCount found.0) }
+    ensures bad { IsNone result → (c : NonZeroU32) (rest : List ℕ) → IsCount c
+        → text.now ≢ count_then c end rest }
+{
+    let Some((digits, rest)) = cut_at(text, end) else {
+        return None;
+    };
+    match count_in(digits) {
+        Some(iterations) => Some((iterations, rest)),
+        None => None,
+    }
+}
+
+/// Reads the first line of a store's text: the salt and the iterations. Gives what follows, too.
+pub(crate) fn head_in(text: &[u8]) -> Option<([u8; DB_SALT_LEN], NonZeroU32, &[u8])>
+    ensures read { IfSome result (λ head. (text.now ≡ head_then head.0 head.1 head.2.now)
+        × IsHead head.0 head.1) }
+    ensures bad { IsNone result → (db_salt : List ℕ) (c : NonZeroU32) (rest : List ℕ)
+        → IsHead db_salt c → text.now ≢ head_then db_salt c rest }
+{
+    let Some(rest) = text.strip_prefix(MARK) else {
+        return None;
+    };
+    let mut db_salt = [0; DB_SALT_LEN];
+    let Some(rest) = hex_before(rest, b' ', &mut db_salt) else {
+        return None;
+    };
+    match count_before(rest, b'\n') {
+        Some((iterations, rest)) => Some((db_salt, iterations, rest)),
+        None => None,
+    }
+}
+
+/// Reads the line of a record, and gives what follows.
+pub(crate) fn record_in<A: Allocator>(
+    alloc: A,
+    text: &[u8],
+) -> Result<(Vec<u8, A>, Record, &[u8]), LoadError>
+    ensures read { IfOk result (λ found.
+        (text.now ≡ record_then (found.0.items, found.1) found.2.now)
+        × IsEntry (found.0.items, found.1)) }
+    ensures bad { IsErrOf result LoadError.BadText → (e : List ℕ × Record) (rest : List ℕ)
+        → IsEntry e → text.now ≢ record_then e rest }
+{
+    let (name, rest) = name_before(alloc, text, b' ')?;
+    let Some((iterations, rest)) = count_before(rest, b' ') else {
+        return Err(LoadError::BadText);
+    };
+    let mut credential = [0; CREDENTIAL_LEN];
+    let Some(rest) = hex_before(rest, b'\n', &mut credential) else {
+        return Err(LoadError::BadText);
+    };
+    let kept = Record {
+        iterations,
+        credential,
+    };
+    Ok((name, kept, rest))
+}

@@ -1,5 +1,5 @@
 -- The entries of tables, in the order of their names.
-use Rattle.std.proofs.Common.{◌≡◌, ℕ, Bool, true, false, ◌&&◌, List, [], ◌∷◌, ◌++◌, length, All, refl, sym, ap, subst, ◌∙◌, arith, T}
+use Rattle.std.proofs.Common.{◌≡◌, ℕ, Bool, true, false, ◌&&◌, List, [], ◌∷◌, ◌++◌, map, length, All, refl, sym, ap, subst, ◌∙◌, arith, T}
 use Rattle.std.specs.Ordering.{is_lt, ordering_reverse, nat_cmp}
 use Rattle.std.specs.declared.cmp.Ordering.{Ordering}
 use Rattle.std.specs.declared.cmp.Ordering.TheVariants.{Less, Equal, Greater}
@@ -8,7 +8,15 @@ use Rattle.std.specs.FinMap as table
 use Rattle.std.specs.FinMap.Entries.{put, by_order, below_all, is_sorted}
 use Rattle.std.specs.List.{AllByRecursion}
 use Rattle.std.specs.List.Sorted.{IsStrictlySortedBy}
+use Rattle.std.specs.Iterator.{SkipsThenYields}
+use Rattle.std.specs.List.{slice_get}
 use Rattle.std.specs.Map.{keys_of}
+use Rattle.std.specs.Map.Iter.{TakesFirst, deref}
+use Rattle.std.specs.Option.{option_map}
+use Rattle.std.specs.Prelude.{Option}
+use Rattle.std.specs.Borrow.{Bor}
+use Rattle.std.proofs.lemmas.Iterator.Consumers.{nth_from_yields_List, YieldsList-from_rest}
+use Rattle.std.proofs.lemmas.Option.{slice_get-map}
 use Rattle.std.specs.declared.vec.Vec.{Vec}
 use Rattle.std.proofs.lemmas.List.Elements.{All-nil, All-cons, All-head, All-tail, All-append}
 use Rattle.ring_store.specs.Records.{IsBehind, named}
@@ -86,6 +94,12 @@ module _ {X : Type 0} where
       let lower = less (order k e.0) (first (is_lt (order k e.0)) (below_all order k es) h) in
       ap (λ o. by_order o ((k, v) ∷ e ∷ es) ((e.0, v) ∷ es) (e ∷ put order k v es)) lower
 
+-- the names of entries
+names-named : {X A : Type 0} (es : List (Vec ℕ A × X))
+    → map (λ (e : List ℕ × X). e.0) (named es) ≡ map (λ (k : Vec ℕ A). k.items) (keys_of es)
+names-named [] = refl
+names-named (e ∷ es) = ap (λ l. e.0.items ∷ l) (names-named es)
+
 module _ {X A : Type 0} where
   named_below : (k : Vec ℕ A) (es : List (Vec ℕ A × X))
       → AllByRecursion (λ y. key_order k y ≡ Less) (keys_of es)
@@ -109,6 +123,24 @@ module _ {X A : Type 0} where
       → table.from_entries {R = order} (named es) ≡ m → IsStrictlySortedBy key_order (keys_of es)
       → table.entries m ≡ named es
   entries-shown es shows h = ap table.entries (sym shows) ∙ entries-named es h
+
+-- the name at an index, as the keys of the map are walked
+module _ {X A : Type 0} {m : table.FinMap order X} (es : List (Vec ℕ A × X))
+    (shows : table.from_entries {R = order} (named es) ≡ m)
+    (sorted : IsStrictlySortedBy key_order (keys_of es)) (index : ℕ) where
+  pub nth_name-shown : {start : List (Vec ℕ A)} {given : Option (Bor (Vec ℕ A))}
+      (found : Option (Bor (Vec ℕ A))) (end : List (Vec ℕ A)) → start ≡ keys_of es
+      → SkipsThenYields (TakesFirst deref) start index found end → found ≡ given
+      → option_map (λ (k : Vec ℕ A). k.items) (option_map deref given)
+      ≡ slice_get (table.keys m) index
+  nth_name-shown found end rest ran is =
+      let at : option_map deref found ≡ slice_get (keys_of es) index =
+      nth_from_yields_List found end index ran (YieldsList-from_rest (keys_of es) rest) in
+      ap (λ o. option_map (λ (k : Vec ℕ A). k.items) (option_map deref o)) (sym is)
+      ∙ ap (option_map (λ (k : Vec ℕ A). k.items)) at
+      ∙ sym (slice_get-map (λ (k : Vec ℕ A). k.items) (keys_of es) index)
+      ∙ ap (λ ks. slice_get ks index)
+      (sym (ap (map (λ e. e.0)) (entries-shown es shows sorted) ∙ names-named es))
 
 module _ {X : Type 0} (name : List ℕ) where
   behind_front : (es : List (List ℕ × X)) (e : List ℕ × X) → IsBehind e.0 es

@@ -4,15 +4,24 @@ use Rattle.std.proofs.Common.{◌≢◌, ◌⊎◌, inl, inr}
 use Rattle.std.specs.Prelude.{Result, Ok, Err, IfOk, IsErrOf}
 use Rattle.ring_store.specs.declared.error.LoadError.{LoadError}
 use Rattle.ring_store.specs.declared.error.LoadError.TheVariants.{BadText, Memory}
+use Rattle.std.specs.Prelude.{codes}
+use Rattle.std.specs.Cmp.Lexicographic.{nat_list_cmp_total}
 use Rattle.std.specs.FinMap as table
+use Rattle.std.specs.FinMap.Entries.{put, by_order}
+use Rattle.std.specs.Fmt.{decimal, digits}
+use Rattle.std.specs.Int.NonZero.{non_zero_u32_get}
+use Rattle.std.specs.List.{range_with_len}
+use Rattle.std.specs.declared.cmp.Ordering.TheVariants.{Less}
+use Rattle.hex.specs.Hex.{encode_lower, encode_with}
+use Rattle.ring_store.specs.Store.{new_store, with_record}
 use Rattle.std.specs.declared.num.NonZeroU32.{NonZeroU32}
 use Rattle.std.proofs.lemmas.List.Elements.{All-head}
 use Rattle.ring_store.specs.Records.{IsBehind}
-use Rattle.ring_store.specs.Text.{IsEntry, IsHead, IsStore, head_then, lines_of, record_then}
+use Rattle.ring_store.specs.Text.{IsEntry, IsHead, IsStore, head_then, hex_then, lines_of, record_then}
 use Rattle.ring_store.specs.Text.{text_of}
 use Rattle.ring_store.specs.declared.records.Record.{Record}
 use Rattle.ring_store.specs.declared.store.PasswordStore.{PasswordStore}
-use Rattle.ring_store.proofs.Entries.{sorted_front}
+use Rattle.ring_store.proofs.Entries.{entries-empty, sorted_front}
 use Rattle.ring_store.proofs.Names.{order}
 use Rattle.ring_store.proofs.Texts.{More, head_then-injective, lines_of-first, no_line}
 
@@ -85,3 +94,39 @@ pub read_back : {Z : Type 0} (s : PasswordStore Z) (r : Result (PasswordStore Z)
 read_back s (Ok t) h read bad = inl (ap Ok (text_of-injective t s read.1 h read.0))
 read_back s (Err BadText) h read bad = absurd (bad refl s h refl)
 read_back s (Err Memory) h read bad = inr refl
+
+-- two names whose records were put in the other order
+entries_of_two : (first second : List ℕ) (a b : Record) → order first second ≡ Less
+    → table.entries (table.insert (table.insert (table.empty {R = order}) second b) first a)
+    ≡ (first, a) ∷ (second, b) ∷ []
+entries_of_two first second a b lower =
+    table.entries-insert nat_list_cmp_total _ first a
+    ∙ ap (put order first a) (table.entries-insert nat_list_cmp_total table.empty second b
+    ∙ ap (put order second b) entries-empty)
+    ∙ ap (λ o. by_order o ((first, a) ∷ (second, b) ∷ []) ((second, a) ∷ []) ((second, b) ∷ (first, a) ∷ []))
+    lower
+
+-- the lines of the example, by the numbers of its iterations
+abbrev example : (one two : ℕ) → List ℕ
+example one two =
+    codes "ring_store 1 " ++ hex_then (range_with_len 0 16) 32 (decimal two ++ (10
+    ∷ hex_then (codes "alice") 32 (decimal two ++ (32 ∷ hex_then (range_with_len 0 32) 10
+    (hex_then (codes "bob") 32 (decimal one ++ (32 ∷ hex_then (range_with_len 224 32) 10 [])))))))
+
+example_text : example 1 600000 ≡ codes "ring_store 1 000102030405060708090a0b0c0d0e0f 600000\n616c696365 600000 000102030405060708090a0b0c0d0e0f101112131415161718191a1b1c1d1e1f\n626f62 1 e0e1e2e3e4e5e6e7e8e9eaebecedeeeff0f1f2f3f4f5f6f7f8f9fafbfcfdfeff\n"
+unfolding encode_with digits
+example_text = refl
+
+pub text_of_two : (Z : Type 0) (one two : NonZeroU32) → non_zero_u32_get one ≡ 1
+    → non_zero_u32_get two ≡ 600000
+    → (let s : PasswordStore Z = new_store (range_with_len 0 16) two in
+    let s2 = with_record s (codes "bob") one (range_with_len 224 32) in
+    text_of (with_record s2 (codes "alice") two (range_with_len 0 32)))
+    ≡ codes "ring_store 1 000102030405060708090a0b0c0d0e0f 600000\n616c696365 600000 000102030405060708090a0b0c0d0e0f101112131415161718191a1b1c1d1e1f\n626f62 1 e0e1e2e3e4e5e6e7e8e9eaebecedeeeff0f1f2f3f4f5f6f7f8f9fafbfcfdfeff\n"
+unfolding head_then record_then
+text_of_two Z one two e1 e2 =
+    let a : Record = record { iterations = two; credential = range_with_len 0 32 } in
+    let b : Record = record { iterations = one; credential = range_with_len 224 32 } in
+    ap (λ es. head_then (range_with_len 0 16) two (lines_of es))
+    (entries_of_two (codes "alice") (codes "bob") a b refl)
+    ∙ ap (λ n. example n (non_zero_u32_get two)) e1 ∙ ap (example 1) e2 ∙ example_text

@@ -185,6 +185,13 @@ lines_of-append [] fs = refl
 lines_of-append (e ∷ es) fs =
     ap (record_then e) (lines_of-append es fs) ∙ sym (record_then-append e (lines_of es) (lines_of fs))
 
+-- what was written with one more line, where the line and those after it were left
+pub one_more_line : {after whole : List ℕ} (out : List ℕ) (e : List ℕ × Record) (es : List (List ℕ × Record))
+    → after ≡ out ++ record_then e [] → out ++ lines_of (e ∷ es) ≡ whole → after ++ lines_of es ≡ whole
+one_more_line out e es written left =
+    ap (λ l. l ++ lines_of es) written ∙ append_assoc out (record_then e []) (lines_of es)
+    ∙ ap (λ l. out ++ l) (record_then-append e [] (lines_of es)) ∙ left
+
 -- records whose lines begin a text of lines are the first of those records
 pub record More (es fs : List (List ℕ × Record)) (rest : List ℕ) : Type 0 where
   pub more : List (List ℕ × Record)

@@ -87,7 +87,7 @@ pub(crate) fn append_record<A: Allocator + Copy>(
 // What stands before the first such byte and what stands behind it, or `None` where there is none.
 fn cut_at(text: &[u8], byte: u8) -> Option<(&[u8], &[u8])>
     ensures cut { IfSome result (λ parts. IsFirstCut byte text.now parts.0.now parts.1.now) }
-    ensures whole { IsNone result → IsWithout byte text.now }
+    ensures none { IsNone result → IsWithout byte text.now }
 {
     match memchr(byte, text) {
         Some(at) => Some((&text[..at], &text[at + 1..])),
@@ -108,8 +108,8 @@ fn is_hex_of(digits: &[u8], bytes: &[u8]) -> bool
 // Reads as many bytes as there is room for.
 fn fill(digits: &[u8], out: &mut [u8]) -> bool
     requires { length out.old ≤ MAX_NAME_LEN }
-    ensures read { IsTrue result → (digits.now ≡ encode_lower out.new) × IsBytes out.new }
-    ensures bad { ¬ (IsTrue result) → (bytes : List ℕ) → IsBytes bytes
+    ensures ok { IsTrue result → (digits.now ≡ encode_lower out.new) × IsBytes out.new }
+    ensures refused { ¬ (IsTrue result) → (bytes : List ℕ) → IsBytes bytes
         → length bytes ≡ length out.old → digits.now ≢ encode_lower bytes }
 {
     hex::decode_to_slice(digits, &mut *out).is_ok() && is_hex_of(digits, &*out)
@@ -127,9 +127,9 @@ fn refusal(error: FromHexError) -> LoadError
 
 // Reads a name.
 fn name_in<A: Allocator>(alloc: A, digits: &[u8]) -> Result<Vec<u8, A>, LoadError>
-    ensures read { IfOk result (λ name. (digits.now ≡ encode_lower name.items)
+    ensures ok { IfOk result (λ name. (digits.now ≡ encode_lower name.items)
         × IsBytes name.items × (is_name name.items ≡ true)) }
-    ensures bad { IsErrOf result LoadError.BadText → (name : List ℕ) → IsBytes name
+    ensures refused { IsErrOf result LoadError.BadText → (name : List ℕ) → IsBytes name
         → is_name name ≡ true → digits.now ≢ encode_lower name }
 {
     if digits.is_empty() || digits.len() > 2 * MAX_NAME_LEN {
@@ -147,8 +147,8 @@ fn name_in<A: Allocator>(alloc: A, digits: &[u8]) -> Result<Vec<u8, A>, LoadErro
 
 // Reads a count of iterations.
 fn count_in(digits: &[u8]) -> Option<NonZeroU32>
-    ensures read { IfSome result (λ c. (digits.now ≡ decimal (non_zero_u32_get c)) × IsCount c) }
-    ensures bad { IsNone result → (c : NonZeroU32) → IsCount c
+    ensures ok { IfSome result (λ c. (digits.now ≡ decimal (non_zero_u32_get c)) × IsCount c) }
+    ensures refused { IsNone result → (c : NonZeroU32) → IsCount c
         → digits.now ≢ decimal (non_zero_u32_get c) }
 {
     let Ok(text) = str::from_utf8(digits) else {
@@ -167,9 +167,9 @@ fn count_in(digits: &[u8]) -> Option<NonZeroU32>
 fn hex_before<'a>(text: &'a [u8], end: u8, out: &mut [u8]) -> Option<&'a [u8]>
     requires end { hex_digit_value end ≡ None }
     requires room { length out.old ≤ MAX_NAME_LEN }
-    ensures read { IfSome result (λ rest. (text.now ≡ hex_then out.new end rest.now)
+    ensures ok { IfSome result (λ rest. (text.now ≡ hex_then out.new end rest.now)
         × IsBytes out.new) }
-    ensures bad { IsNone result → (bytes rest : List ℕ) → IsBytes bytes
+    ensures refused { IsNone result → (bytes rest : List ℕ) → IsBytes bytes
         → length bytes ≡ length out.old → text.now ≢ hex_then bytes end rest }
 {
     let Some((digits, rest)) = cut_at(text, end) else {
@@ -188,9 +188,9 @@ fn name_before<A: Allocator>(
     end: u8,
 ) -> Result<(Vec<u8, A>, &[u8]), LoadError>
     requires { hex_digit_value end ≡ None }
-    ensures read { IfOk result (λ found. (text.now ≡ hex_then found.0.items end found.1.now)
+    ensures ok { IfOk result (λ found. (text.now ≡ hex_then found.0.items end found.1.now)
         × IsBytes found.0.items × (is_name found.0.items ≡ true)) }
-    ensures bad { IsErrOf result LoadError.BadText → (name rest : List ℕ) → IsBytes name
+    ensures refused { IsErrOf result LoadError.BadText → (name rest : List ℕ) → IsBytes name
         → is_name name ≡ true → text.now ≢ hex_then name end rest }
 {
     let Some((digits, rest)) = cut_at(text, end) else {
@@ -205,9 +205,9 @@ fn name_before<A: Allocator>(
 // Reads iterations before `end`, and gives what follows.
 fn count_before(text: &[u8], end: u8) -> Option<(NonZeroU32, &[u8])>
     requires { 10 ≤ digit_value end }
-    ensures read { IfSome result (λ found. (text.now ≡ count_then found.0 end found.1.now)
+    ensures ok { IfSome result (λ found. (text.now ≡ count_then found.0 end found.1.now)
         × IsCount found.0) }
-    ensures bad { IsNone result → (c : NonZeroU32) (rest : List ℕ) → IsCount c
+    ensures refused { IsNone result → (c : NonZeroU32) (rest : List ℕ) → IsCount c
         → text.now ≢ count_then c end rest }
 {
     let Some((digits, rest)) = cut_at(text, end) else {
@@ -221,9 +221,9 @@ fn count_before(text: &[u8], end: u8) -> Option<(NonZeroU32, &[u8])>
 
 /// Reads the first line of a store's text: the salt and the iterations. Gives what follows, too.
 pub(crate) fn head_in(text: &[u8]) -> Option<([u8; DB_SALT_LEN], NonZeroU32, &[u8])>
-    ensures read { IfSome result (λ head. (text.now ≡ head_then head.0 head.1 head.2.now)
+    ensures ok { IfSome result (λ head. (text.now ≡ head_then head.0 head.1 head.2.now)
         × IsHead head.0 head.1) }
-    ensures bad { IsNone result → (db_salt : List ℕ) (c : NonZeroU32) (rest : List ℕ)
+    ensures refused { IsNone result → (db_salt : List ℕ) (c : NonZeroU32) (rest : List ℕ)
         → IsHead db_salt c → text.now ≢ head_then db_salt c rest }
 {
     let Some(rest) = text.strip_prefix(MARK) else {
@@ -244,10 +244,10 @@ pub(crate) fn record_in<A: Allocator>(
     alloc: A,
     text: &[u8],
 ) -> Result<(Vec<u8, A>, Record, &[u8]), LoadError>
-    ensures read { IfOk result (λ found.
+    ensures ok { IfOk result (λ found.
         (text.now ≡ record_then (found.0.items, found.1) found.2.now)
         × IsEntry (found.0.items, found.1)) }
-    ensures bad { IsErrOf result LoadError.BadText → (e : List ℕ × Record) (rest : List ℕ)
+    ensures refused { IsErrOf result LoadError.BadText → (e : List ℕ × Record) (rest : List ℕ)
         → IsEntry e → text.now ≢ record_then e rest }
 {
     let (name, rest) = name_before(alloc, text, b' ')?;

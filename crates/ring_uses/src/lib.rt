@@ -1,5 +1,5 @@
 //! Callers of `ring` and `ring_store`, one small function a call, each proved from the contracts
-//! alone. README's first use and the examples of `ring`'s modules are taken from here.
+//! alone. README's first use and the examples of the libraries' pages are taken from here.
 #![tactic(auto)]
 
 pub mod basics;
@@ -12,3 +12,4 @@ pub mod rand;
 pub mod raw;
 pub mod several;
 pub mod store;
+pub mod token;

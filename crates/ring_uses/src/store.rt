@@ -1,22 +1,77 @@
-//! A login.
+//! A password store: a first use, a login, a restart, and the blocks of a check.
 
-ghost use Rattle.std.specs.Prelude.{◌≡◌, ◌↔◌, ℕ, List, Err, IfOk, IsErrOf, OnErr, OnOk};
-ghost use Rattle.ring_store.specs.Store.{verdict, with_raise};
+ghost use Rattle.std.specs.Prelude.{◌≡◌, ◌↔◌, ℕ, List, Ok, Err, IfOk, IsErrOf, IsOkUnless, OnErr, OnOk};
+ghost use Rattle.ring_store.specs.Store.{admission, verdict, verify_blocks, with_raise};
+ghost use Rattle.ring_store.specs.Text.{IsStore};
 ghost use Rattle.ring_store.specs.Token.{MakerStandsFor, token_of};
 
-use ring_store::{PasswordStore, StoreError, TokenMaker};
+use ring::cost::Meter;
+use ring_store::{DB_SALT_LEN, LoadError, PasswordStore, StoreError, TOKEN_LEN, TokenMaker};
+use std::alloc::Global;
+use std::num::NonZeroU32;
 
-/// Gives a token of the name, up to an expiry, to whoever knows its password.
+/// Sets the password of a name and verifies it, also after the iteration count of the store is
+/// changed. Then issues a token that is valid for an hour, and checks it.
 ///
-/// Refused exactly where the verification of the password is, and as that is. The store is then as
-/// it was.
+/// `db_salt` and `master` are random, and kept. `now` is a time in seconds. Refused only if there is
+/// no memory for the name's record.
+pub fn first_use(
+    alloc: Global,
+    db_salt: [u8; DB_SALT_LEN],
+    iterations: NonZeroU32,
+    more: NonZeroU32,
+    master: &[u8; 32],
+    now: u64,
+) -> Result<(), StoreError>
+    ensures { IsOkUnless result StoreError.Memory }
+{
+    let mut store = PasswordStore::new(alloc, db_salt, iterations);
+    store.set_password(b"alice", b"correct horse")?;
+    store.verify_password(b"alice", b"correct horse")?;
+
+    store.set_iterations(more);
+    store.verify_password(b"alice", b"correct horse")?;
+
+    let maker = TokenMaker::new(master, b"tokens of this service").unwrap();
+    let expiry = now.saturating_add(3_600);
+    let token = maker.issue(b"alice", expiry).unwrap();
+    maker.check(b"alice", expiry, now, &token).unwrap();
+    Ok(())
+}
+
+/// Writes a store as text and reads it back: the store is the same after a restart.
+///
+/// Refused only if there is no memory for the text or a record.
+pub fn over_a_restart(alloc: Global, store: &PasswordStore) -> Result<PasswordStore, LoadError>
+    ensures ok { IsStore store.now → IfOk result (λ read. read ≡ store.now) }
+    ensures refused { IsStore store.now → IsOkUnless result LoadError.Memory }
+{
+    let text = store.to_text(alloc)?;
+    PasswordStore::from_text(alloc, &text)
+}
+
+/// The number of blocks that a check of `password` takes: no more for a right password than for a
+/// wrong one.
+pub fn blocks_of_check(store: &PasswordStore, name: &[u8], password: &[u8]) -> u128
+    ensures { admission name.now password.now ≡ Ok tt
+        → result ≡ verify_blocks store.now name.now password.now }
+{
+    let mut meter = Meter::new();
+    let _ = store.check_password_counted(name, password, &mut meter);
+    meter.blocks()
+}
+
+/// Issues a token of `name` until `expiry` to whoever knows its password.
+///
+/// Refused exactly where the verification of the password is, and as that is. The store is then
+/// unchanged.
 pub fn log_in(
     store: &mut PasswordStore,
     maker: &TokenMaker,
     name: &[u8],
     password: &[u8],
     expiry: u64,
-) -> Result<[u8; 32], StoreError>
+) -> Result<[u8; TOKEN_LEN], StoreError>
     ensures ok { (k : List ℕ) → MakerStandsFor maker.now k
         → IfOk result (λ token. token ≡ token_of k name.now expiry) }
     ensures raise { OnOk result (store.new ≡ with_raise store.old name.now password.now) }

@@ -1,7 +1,8 @@
 //! Rows of names and passwords, and many names beside a plain list.
 
 use ring::cost::Meter;
-use ring_store::{PasswordStore, Reply, StoreError, examples};
+use ring_store::{PasswordStore, Reply, StoreError};
+use ring_uses::store::first_use;
 use std::alloc::Global;
 use std::num::NonZeroU32;
 
@@ -129,6 +130,6 @@ fn a_thousand_names_and_a_list_of_them(rt: HostRuntime) {
 #[test]
 fn first_use_ends_well(rt: HostRuntime) {
     let (few, more) = (iterations(1000), iterations(2000));
-    let answer = examples::first_use(rt.alloc(), DB_SALT, few, more, &[7; 32], 1_700_000_000);
+    let answer = first_use(rt.alloc(), DB_SALT, few, more, &[7; 32], 1_700_000_000);
     assert!(rt; answer.is_ok());
 }

@@ -1,4 +1,5 @@
+use Rattle.ring_store.proofs.Stores.{text_of_two}
 use Rattle.ring_store.proofs.laws.text_of_two_records.Goals as goal
 
 pub returns : goal.returns
-returns g c = λ one two e1 e2. ?
+returns g c = text_of_two g.row.A.Denot

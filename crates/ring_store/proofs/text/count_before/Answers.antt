@@ -4,12 +4,12 @@ use Rattle.std.specs.Int.NonZero.{non_zero_u32_get}
 use Rattle.ring_store.proofs.Texts.{count_cut, not_cut}
 use Rattle.ring_store.proofs.text.count_before.Goals as goal
 
-pub returns-in_default-clause-bad : goal.returns-in_default-clause-bad
-returns-in_default-clause-bad c = λ _ d rest small e.
+pub returns-in_default-clause-refused : goal.returns-in_default-clause-refused
+returns-in_default-clause-refused c = λ _ d rest small e.
     not_cut c.args.end (decimal (non_zero_u32_get d)) rest c.args.text.now
-    (c.in_default.ensures.whole refl) e
+    (c.in_default.ensures.none refl) e
 
-pub returns-in-None-clause-bad : goal.returns-in-None-clause-bad
-returns-in-None-clause-bad c = λ _ d rest small e.
+pub returns-in-None-clause-refused : goal.returns-in-None-clause-refused
+returns-in-None-clause-refused c = λ _ d rest small e.
     let cut = count_cut c.in-Some.ensures.cut c.requires d rest small e in
-    c.in-None.ensures.bad refl d small cut.0
+    c.in-None.ensures.refused refl d small cut.0

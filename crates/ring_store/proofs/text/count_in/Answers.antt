@@ -14,20 +14,20 @@ zero_of : (o : Option NonZeroU32) (n : ℕ) → IsNone o
 zero_of None n none h = h
 zero_of (Some x) n none h = cc none
 
-pub returns-in_default-clause-bad : goal.returns-in_default-clause-bad
-returns-in_default-clause-bad c = λ _ d small e.
+pub returns-in_default-clause-refused : goal.returns-in_default-clause-refused
+returns-in_default-clause-refused c = λ _ d small e.
     let ascii = IsAscii-decimal (non_zero_u32_get d) (omega arith) in
     c.in_default.ensures.cases.0 (IsUtf8-from_ascii c.args.digits.now (subst IsAscii (sym e) ascii))
 
-pub returns-in_default-parse-clause-bad : goal.returns-in_default-parse-clause-bad
-returns-in_default-parse-clause-bad c = λ _ d small e.
+pub returns-in_default-parse-clause-refused : goal.returns-in_default-parse-clause-refused
+returns-in_default-parse-clause-refused c = λ _ d small e.
     let n = non_zero_u32_get d in
     let text = c.in-Ok.ensures.cases.0 in
     let read = parse-decimal 32 n c.in-Ok.text.now c.parse.result small (omega arith) (text ∙ e) c.parse.ensures.value.0 in
     cc (read, c.in_default-parse.is)
 
-pub returns-then-ne-clause-bad : goal.returns-then-ne-clause-bad
-returns-then-ne-clause-bad c = λ _ d small e.
+pub returns-then-ne-clause-refused : goal.returns-then-ne-clause-refused
+returns-then-ne-clause-refused c = λ _ d small e.
     let n = non_zero_u32_get d in
     let text = c.in-Ok.ensures.cases.0 in
     let read = parse-decimal 32 n c.in-Ok.text.now c.parse.result small (omega arith) (text ∙ e) c.parse.ensures.value.0 in
@@ -36,8 +36,8 @@ returns-then-ne-clause-bad c = λ _ d small e.
     let same = (bytes_eq-Decides c.as_bytes.result.now c.args.digits.now).1 written in
     cc (c.ne.ensures, c.if-ne.true, ap not same)
 
-pub returns-clause-bad : goal.returns-clause-bad
-returns-clause-bad c = λ none d small e.
+pub returns-clause-refused : goal.returns-clause-refused
+returns-clause-refused c = λ none d small e.
     let n = non_zero_u32_get d in
     let text = c.in-Ok.ensures.cases.0 in
     let read = parse-decimal 32 n c.in-Ok.text.now c.parse.result small (omega arith) (text ∙ e) c.parse.ensures.value.0 in

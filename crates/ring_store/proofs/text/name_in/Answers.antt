@@ -9,8 +9,8 @@ use Rattle.ring_store.proofs.Texts.{is_name-from_length, name_digits}
 use Rattle.ring_store.proofs.text.name_in.Goals as goal
 use Rattle.ring_store.proofs.text.name_in.Goals.{then-is_empty-via-then-is_empty, then-is_empty-via-else-is_empty+then-digits}
 
-pub returns-then-is_empty-clause-bad : goal.returns-then-is_empty-clause-bad
-returns-then-is_empty-clause-bad g c = λ _ name h is e.
+pub returns-then-is_empty-clause-refused : goal.returns-then-is_empty-clause-refused
+returns-then-is_empty-clause-refused g c = λ _ name h is e.
     let len = name_digits c.args.digits.now name is e in
     elim c.then-is_empty.branch [
       | then-is_empty-via-then-is_empty w ↦
@@ -19,8 +19,8 @@ returns-then-is_empty-clause-bad g c = λ _ name h is e.
       | then-is_empty-via-else-is_empty+then-digits w ↦ absurd (omega arith)
     ]
 
-pub returns-in-Err-clause-bad : goal.returns-in-Err-clause-bad
-returns-in-Err-clause-bad g c = λ bad name h is e.
+pub returns-in-Err-clause-refused : goal.returns-in-Err-clause-refused
+returns-in-Err-clause-refused g c = λ bad name h is e.
     let read = ap decode_of e ∙ decode_of-encode_lower name h in
     let told : c.refusal.result ≡ BadText = cc bad in
     elim c.in-Err.ensures.err [
@@ -35,16 +35,16 @@ is_hex_of-requires g c =
     let same = ap length c.deref.ensures.value in
     omega arith
 
-pub returns-then-not-is_hex_of-clause-bad : goal.returns-then-not-is_hex_of-clause-bad
-returns-then-not-is_hex_of-clause-bad g c = λ _ name h is e.
+pub returns-then-not-is_hex_of-clause-refused : goal.returns-then-not-is_hex_of-clause-refused
+returns-then-not-is_hex_of-clause-refused g c = λ _ name h is e.
     let read = ap decode_of e ∙ decode_of-encode_lower name h in
     let same = decode_of-same c.args.digits.now c.in-Ok.name.items name c.in-Ok.ensures.ok read in
     let told = c.is_hex_of.ensures.1 (e ∙ ap encode_lower (sym (c.deref.ensures.value ∙ same))) in
     let other = c.if-not-is_hex_of.true in
     cc
 
-pub returns-clause-read : goal.returns-clause-read
-returns-clause-read g c =
+pub returns-clause-ok : goal.returns-clause-ok
+returns-clause-ok g c =
     let read = decode_of-ok c.args.digits.now c.in-Ok.name.items c.in-Ok.ensures.ok in
     let len = read.2 in
     let other = c.if-not-is_hex_of.false in

@@ -3,7 +3,7 @@ use Rattle.ring_store.specs.Records.{named}
 use Rattle.ring_store.specs.declared.records.Record.{Record}
 use Rattle.ring_store.specs.Text.{lines_of, record_then}
 use Rattle.ring_store.proofs.Entries.{entries-shown}
-use Rattle.ring_store.proofs.Texts.{record_then-append}
+use Rattle.ring_store.proofs.Texts.{one_more_line}
 use Rattle.ring_store.proofs.records.Records.append_lines.Goals as goal
 
 pub loop-name-init : goal.loop-name-init
@@ -14,15 +14,12 @@ loop-name-init g c =
 
 pub loop-name-preserved : goal.loop-name-preserved
 loop-name-preserved g c =
-    let rest = lines_of (named c.next.new.self) in
-    let e : List ℕ × Record = (c.in-Some.name.now.items, c.in-Some.kept.now) in
-    ap (λ l. l ++ rest) (c.in_ok-append_record.ensures
+    one_more_line c.loop-name.out.items (c.in-Some.name.now.items, c.in-Some.kept.now) (named c.next.new.self)
+    (c.in_ok-append_record.ensures
     ∙ ap (λ n. c.loop-name.out.items ++ record_then (n, c.in-Some.kept.now) [])
     c.deref.ensures.value)
-    ∙ append_assoc c.loop-name.out.items (record_then e []) rest
-    ∙ ap (λ l. c.loop-name.out.items ++ l) (record_then-append e [] rest)
-    ∙ ap (λ l. c.loop-name.out.items ++ lines_of (named l)) (sym c.in-Some.ensures.steps)
-    ∙ c.loop-name.invariant
+    (ap (λ l. c.loop-name.out.items ++ lines_of (named l)) (sym c.in-Some.ensures.steps)
+    ∙ c.loop-name.invariant)
 
 pub returns : goal.returns
 returns g c =

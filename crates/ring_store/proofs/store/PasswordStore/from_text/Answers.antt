@@ -16,7 +16,7 @@ use Rattle.ring_store.proofs.store.PasswordStore.from_text.Goals as goal
 
 pub loop-rest-init : goal.loop-rest-init
 loop-rest-init g c =
-    let read = c.in-Some.ensures.read in
+    let read = c.in-Some.ensures.ok in
     let none = ap table.entries c.new-records.ensures ∙ entries-empty in
     let begin = head_then c.in-Some.head.0 c.in-Some.head.1 in
     record {
@@ -25,8 +25,8 @@ loop-rest-init g c =
       each = subst (All IsEntry) (sym none) (All-nil IsEntry);
     }
 
-pub returns-in_err-name-clause-bad : goal.returns-in_err-name-clause-bad
-returns-in_err-name-clause-bad g c = λ bad s h is.
+pub returns-in_err-name-clause-refused : goal.returns-in_err-name-clause-refused
+returns-in_err-name-clause-refused g c = λ bad s h is.
     let p = err_from_is_err_and c.from_residual.result c.from_residual.ensures.1 in
     let told : c.in_err-name.field-0.0 ≡ BadText = cc (bad, p.1, p.2) in
     let so_far = c.loop-rest.invariant in
@@ -34,10 +34,10 @@ returns-in_err-name-clause-bad g c = λ bad s h is.
     grind (arith, nat_tests, c.is_empty.ensures, c.loop-rest-test.true) in
     let n = next s h is c.in-Some.head.0 c.in-Some.head.1 (table.entries c.loop-rest.records)
     c.loop-rest.rest.now so_far.head so_far.each so_far.whole some in
-    c.in_err-name.ensures.bad (ap Err told) n.entry (lines_of n.others) n.is n.line
+    c.in_err-name.ensures.refused (ap Err told) n.entry (lines_of n.others) n.is n.line
 
-pub returns-then-not-is_last-clause-bad : goal.returns-then-not-is_last-clause-bad
-returns-then-not-is_last-clause-bad g c = λ _ s h is.
+pub returns-then-not-is_last-clause-refused : goal.returns-then-not-is_last-clause-refused
+returns-then-not-is_last-clause-refused g c = λ _ s h is.
     let so_far = c.loop-rest.invariant in
     let some : 0 < length c.loop-rest.rest.now =
     grind (arith, nat_tests, c.is_empty.ensures, c.loop-rest-test.true) in
@@ -46,7 +46,7 @@ returns-then-not-is_last-clause-bad g c = λ _ s h is.
     so_far.each so_far.whole some in
     let behind = next_behind s h is c.in-Some.head.0 c.in-Some.head.1 es c.loop-rest.rest.now
     so_far.head so_far.each so_far.whole n in
-    let read = c.in_ok-name.ensures.read in
+    let read = c.in_ok-name.ensures.ok in
     let same = record_then-injective (c.in_ok-name.name.items, c.in_ok-name.kept) n.entry
     c.in_ok-name.behind.now (lines_of n.others) read.1 n.is (sym read.0 ∙ n.line) in
     let name = c.deref.ensures.value ∙ ap (λ e. e.0) same.0 in
@@ -55,7 +55,7 @@ returns-then-not-is_last-clause-bad g c = λ _ s h is.
 
 pub loop-rest-smaller : goal.loop-rest-smaller
 loop-rest-smaller g c =
-    let read = c.in_ok-name.ensures.read in
+    let read = c.in_ok-name.ensures.ok in
     let grows = record_then-grows (c.in_ok-name.name.items, c.in_ok-name.kept)
     c.in_ok-name.behind.now in
     omega (arith, grows, ap length read.0)
@@ -63,7 +63,7 @@ loop-rest-smaller g c =
 pub loop-rest-preserved : goal.loop-rest-preserved
 loop-rest-preserved g c =
     let so_far = c.loop-rest.invariant in
-    let read = c.in_ok-name.ensures.read in
+    let read = c.in_ok-name.ensures.ok in
     let es = table.entries c.loop-rest.records in
     let e : List ℕ × Record = (c.in_ok-name.name.items, c.in_ok-name.kept) in
     let rest = c.in_ok-name.behind.now in

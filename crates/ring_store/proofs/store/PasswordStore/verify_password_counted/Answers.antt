@@ -16,5 +16,5 @@ pub returns-then-is_low-clause-cost : goal.returns-then-is_low-clause-cost
 returns-then-is_low-clause-cost g c =
     let tested = verify_blocks c.args.self.now c.args.name.now c.args.password.now in
     let again = record_blocks c.args.self.now c.args.name.now c.args.password.now in
-    let made = c.record_of-made.ensures.cost in
-    raised_twice c.args.meter.now tested again c.verified.ensures.cost made (search rules)
+    let made = c.make_record-made.ensures.cost in
+    raised_twice c.args.meter.now tested again c.verified_record.ensures.cost made (search rules)

@@ -5,12 +5,12 @@ use Rattle.std.specs.declared.num.NonZeroU32.{NonZeroU32}
 use Rattle.ring.specs.Algorithm.{max_input_len}
 use Rattle.ring.specs.declared.digest.algorithm.TheConstants.{SHA256}
 use Rattle.ring_store.specs.Store.{admission, verdict, with_iterations, with_password, with_raise}
-use Rattle.ring_store.specs.Token.{MakerStandsFor, checked, token_key, token_of}
+use Rattle.ring_store.specs.Token.{MakerStandsFor, checked, token_input_len, token_key, token_of}
 use Rattle.ring_store.specs.declared.error.StoreError.{StoreError}
 use Rattle.ring_store.specs.declared.error.TokenError.{TokenError}
 use Rattle.ring_store.specs.declared.store.PasswordStore.{PasswordStore}
 use Rattle.ring_store.proofs.Verdicts.{set_then_verify, verdict-with_iterations, verify_again}
-use Rattle.ring_store.proofs.examples.first_use.Goals as goal
+use Rattle.ring_uses.proofs.store.first_use.Goals as goal
 
 -- the example's name and password
 abbrev alice : List ℕ
@@ -52,7 +52,7 @@ returns-in_err-verify_password-2 c =
 
 -- a token that was issued passes
 passes_by : {token : List ℕ} {r : Result (Unit {0}) TokenError} (k user : List ℕ) (expiry now : ℕ)
-    → 72 + length user ≤ max_input_len SHA256 → now ≤ expiry → token ≡ token_of k user expiry
+    → token_input_len (length user) ≤ max_input_len SHA256 → now ≤ expiry → token ≡ token_of k user expiry
     → r ≡ checked k user expiry now token → r ≡ Ok tt
 passes_by k user expiry now within early made is =
     let passes : checked k user expiry now (token_of k user expiry) ≡ Ok tt = search rules in

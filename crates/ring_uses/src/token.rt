@@ -1,0 +1,56 @@
+//! Tokens: two makers during a change of keys, and what a token costs.
+
+ghost use Rattle.std.specs.Prelude.{◌≡◌, ◌↔◌, ◌⊎◌, ℕ, ◌≤◌, List, length, Ok, IfOk, IsOk};
+ghost use Rattle.ring.specs.Algorithm.{max_input_len};
+ghost use Rattle.ring.specs.declared.digest.algorithm.TheConstants.{SHA256};
+ghost use Rattle.ring_store.specs.Token.{MakerStandsFor, checked, token_blocks, token_input_len};
+
+use ring::cost::Meter;
+use ring_store::{TOKEN_LEN, TokenError, TokenMaker};
+
+/// Checks a token under a new maker, and under the old one if the new one did not issue it.
+pub fn check_under_both(
+    new: &TokenMaker,
+    old: &TokenMaker,
+    user: &[u8],
+    expiry: u64,
+    now: u64,
+    token: &[u8],
+) -> Result<(), TokenError>
+    ensures ok { (k l : List ℕ) → MakerStandsFor new.now k → MakerStandsFor old.now l
+        → IsOk result ↔ ((checked k user.now expiry now token.now ≡ Ok tt)
+        ⊎ (checked l user.now expiry now token.now ≡ Ok tt)) }
+{
+    match new.check(user, expiry, now, token) {
+        Err(TokenError::BadToken) => old.check(user, expiry, now, token),
+        checked => checked,
+    }
+}
+
+/// A token, and the number of blocks that it took.
+pub fn token_and_blocks(
+    maker: &TokenMaker,
+    user: &[u8],
+    expiry: u64,
+) -> Result<([u8; TOKEN_LEN], u128), TokenError>
+    ensures { IfOk result (λ made. made.1 ≡ token_blocks (length user.now)) }
+{
+    let mut meter = Meter::new();
+    let token = maker.issue_counted(user, expiry, &mut meter)?;
+    Ok((token, meter.blocks()))
+}
+
+/// The number of byte pairs that a check compares: all of them, also where the first differ.
+pub fn pairs_of_check(
+    maker: &TokenMaker,
+    user: &[u8],
+    expiry: u64,
+    now: u64,
+    token: &[u8; TOKEN_LEN],
+) -> u128
+    ensures { token_input_len (length user.now) ≤ max_input_len SHA256 → result ≡ TOKEN_LEN }
+{
+    let mut meter = Meter::new();
+    let _ = maker.check_counted(user, expiry, now, token, &mut meter);
+    meter.byte_pairs()
+}

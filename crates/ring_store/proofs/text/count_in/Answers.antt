@@ -1,5 +1,5 @@
-use Rattle.std.proofs.Common.{◌≡◌, refl, sym, ap, subst, ◌∙◌, List, ℕ, length, arith, true, ◌<◌, ◌^◌}
-use Rattle.std.specs.Prelude.{Result, Ok, Err, Option, Some, None, IsNone, MatchOption, not}
+use Rattle.std.proofs.Common.{◌≡◌, sym, ap, subst, ◌∙◌, ℕ, arith, ◌<◌}
+use Rattle.std.specs.Prelude.{Option, Some, None, IsNone, MatchOption, not}
 use Rattle.std.specs.declared.num.NonZeroU32.{NonZeroU32}
 use Rattle.std.proofs.lemmas.Slice.Eq.{bytes_eq-Decides}
 use Rattle.std.specs.Fmt.{decimal}

@@ -1,4 +1,4 @@
-use Rattle.std.proofs.Common.{◌≡◌, refl, sym, ap, ◌∙◌, List, ℕ, length}
+use Rattle.std.proofs.Common.{sym, ap, ◌∙◌, length}
 use Rattle.std.specs.Prelude.{is_ok}
 use Rattle.hex.specs.Hex.{encode_lower}
 use Rattle.ring_store.proofs.Texts.{filled}

@@ -1,4 +1,4 @@
-use Rattle.std.proofs.Common.{◌≡◌, ◌++◌, List, ℕ, drop, ap, refl, sym, ◌∙◌, rules}
+use Rattle.std.proofs.Common.{◌++◌, List, ℕ, drop, ap, refl, sym, ◌∙◌, rules}
 use Rattle.std.specs.Prelude.{codes, None, Some}
 use Rattle.std.proofs.lemmas.Bool.{eqb-true, eq-eqb}
 use Rattle.std.proofs.lemmas.Slice.Eq.{strip_prefix_is}

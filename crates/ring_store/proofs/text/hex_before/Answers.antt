@@ -1,4 +1,3 @@
-use Rattle.std.proofs.Common.{refl}
 use Rattle.ring_store.proofs.Texts.{hex_cut}
 use Rattle.ring_store.proofs.text.hex_before.Goals as goal
 

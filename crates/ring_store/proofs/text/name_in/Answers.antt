@@ -1,9 +1,8 @@
-use Rattle.std.proofs.Common.{◌≡◌, refl, sym, ap, subst, ◌∙◌, List, ℕ, length, arith, true, ◌≤◌, ◌<◌, inl, inr}
+use Rattle.std.proofs.Common.{◌≡◌, sym, ap, ◌∙◌, length, arith, ◌<◌, inl, inr}
 use Rattle.std.proofs.lemmas.Bool.{eqb-true}
 use Rattle.hex.specs.Hex.{encode_lower, decode_of}
 use Rattle.hex.proofs.HexLemmas.{decode_of-ok, decode_of-encode_lower, decode_of-same}
 use Rattle.std.proofs.lemmas.Bool.Decides.{nat_tests}
-use Rattle.ring_store.specs.Store.{is_name}
 use Rattle.ring_store.specs.declared.error.LoadError.TheVariants.{BadText}
 use Rattle.ring_store.proofs.Texts.{is_name-from_length, name_digits}
 use Rattle.ring_store.proofs.text.name_in.Goals as goal

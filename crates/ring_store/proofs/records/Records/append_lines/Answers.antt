@@ -1,6 +1,5 @@
-use Rattle.std.proofs.Common.{◌≡◌, ◌++◌, ℕ, List, [], sym, ap, ◌∙◌, append_assoc, append-nil}
+use Rattle.std.proofs.Common.{◌++◌, [], sym, ap, ◌∙◌, append-nil}
 use Rattle.ring_store.specs.Records.{named}
-use Rattle.ring_store.specs.declared.records.Record.{Record}
 use Rattle.ring_store.specs.Text.{lines_of, record_then}
 use Rattle.ring_store.proofs.Entries.{entries-shown}
 use Rattle.ring_store.proofs.Texts.{one_more_line}

@@ -1,4 +1,4 @@
-use Rattle.std.proofs.Common.{◌≡◌, ℕ, List, sym, ap, subst, ◌∙◌, refl}
+use Rattle.std.proofs.Common.{ℕ, List, sym, ap, subst, ◌∙◌, refl}
 use Rattle.std.specs.FinMap as table
 use Rattle.std.specs.Ordering.{is_lt}
 use Rattle.ring_store.proofs.Names.{order}

@@ -1,6 +1,6 @@
-use Rattle.std.proofs.Common.{◌≡◌, sym, ap, ◌∙◌}
-use Rattle.std.specs.Prelude.{Option, None, Some}
-use Rattle.std.specs.Option.{option_copied, option_map}
+use Rattle.std.proofs.Common.{ap, ◌∙◌}
+use Rattle.std.specs.Prelude.{Some}
+use Rattle.std.specs.Option.{option_copied}
 use Rattle.ring_store.proofs.Entries.{nth_name-shown}
 use Rattle.ring_store.proofs.records.Records.name_at.Goals as goal
 

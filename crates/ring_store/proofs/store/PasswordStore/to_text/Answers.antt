@@ -1,4 +1,4 @@
-use Rattle.std.proofs.Common.{◌≡◌, ◌∙◌, ap, [], ◌++◌}
+use Rattle.std.proofs.Common.{◌∙◌, ap, [], ◌++◌}
 use Rattle.std.specs.FinMap as table
 use Rattle.ring_store.specs.Text.{head_then, lines_of}
 use Rattle.ring_store.proofs.Texts.{head_then-append}

@@ -1,0 +1,18 @@
+-- What is done with a store.
+use Rattle.std.specs.Prelude.{Option, Some, None, Result, Ok, Err}
+use Rattle.std.specs.declared.num.NonZeroU32.{NonZeroU32}
+use Rattle.ring_store.specs.Store.{with_iterations}
+use Rattle.ring_store.specs.declared.error.StoreError.{StoreError}
+use Rattle.ring_store.specs.declared.store.PasswordStore.{PasswordStore}
+use Rattle.ring_passwords.specs.Failure.{failure_of}
+use Rattle.ring_passwords.specs.declared.failure.Failure.{Failure}
+
+-- the store with its iterations set, where some are given
+abbrev pub with_given : {Z : Type 0} → PasswordStore Z → Option NonZeroU32 → PasswordStore Z
+with_given s None = s
+with_given s (Some iterations) = with_iterations s iterations
+
+-- a store's answer as the program's
+abbrev pub told : Result (Unit {0}) StoreError → Result (Unit {0}) Failure
+told (Ok u) = Ok u
+told (Err error) = Err (failure_of error)

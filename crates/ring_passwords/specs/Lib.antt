@@ -1,0 +1,5 @@
+pub mod Action
+pub mod Change
+pub mod Failure
+pub mod File
+pub mod Listing

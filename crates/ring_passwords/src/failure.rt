@@ -1,0 +1,152 @@
+//! Why a run ends without success.
+
+ghost use Rattle.std.specs.Prelude.{◌≡◌};
+ghost use Rattle.ring_passwords.specs.Failure.{failure_of, load_failure_of, status_of};
+ghost use Rattle.ring_passwords.specs.declared.failure.Failure.TheVariants.{Memory};
+
+use ring_store::{LoadError, StoreError};
+use std::alloc::AllocError;
+use std::{fmt, io};
+
+/// What the system is asked for.
+#[derive(Clone, Copy)]
+pub enum Step {
+    /// The program's arguments.
+    Arguments,
+    /// The line of the password.
+    ReadPassword,
+    /// The file as it is.
+    ReadFile,
+    /// The lock.
+    Lock,
+    /// The salt of a new store.
+    Salt,
+    /// The new file, in the place of the old one.
+    Replace,
+    /// The folder on disk, once the file is replaced.
+    SyncFolder,
+    /// The names on standard output.
+    WriteNames,
+}
+
+/// Why a run ends without success.
+#[derive(Drop)]
+pub enum Failure {
+    /// The arguments ask for nothing that the program does.
+    Usage,
+    /// Standard input ends before the first byte of a line.
+    NoPassword,
+    /// The name has no byte, or more than 64.
+    BadName,
+    /// The password is longer than HMAC-SHA-256 admits.
+    TooLong,
+    /// The name has no record, or one of another password.
+    WrongNameOrPassword,
+    /// The name has no record.
+    NoSuchName,
+    /// There is no such file.
+    NoFile,
+    /// The path is not that of a regular file.
+    NotAFile,
+    /// The file does not have the text of a store.
+    NotAStore,
+    /// Another process holds the lock for too long.
+    InUse,
+    /// There is no memory.
+    Memory,
+    /// The system refuses a step.
+    System(Step, io::Error),
+}
+
+/// The exit status of a name without a record, or with one of another password.
+pub const NOT_FOUND: u8 = 1;
+
+/// The exit status of every other failure.
+pub const FAILED: u8 = 2;
+
+const USAGE: &str = "usage: passwords FILE set NAME [--iterations N]
+       passwords FILE verify NAME
+       passwords FILE remove NAME
+       passwords FILE list";
+
+impl Failure {
+    /// The exit status of the run.
+    pub fn status(&self) -> u8
+        ensures { result ≡ status_of self.now }
+    {
+        match self {
+            Failure::WrongNameOrPassword | Failure::NoSuchName => NOT_FOUND,
+            _ => FAILED,
+        }
+    }
+}
+
+impl fmt::Display for Step {
+    fn fmt<W: fmt::Write>(&self, f: &mut fmt::Formatter<W>) -> fmt::Result {
+        match self {
+            Step::Arguments => write!(f, "cannot read the arguments"),
+            Step::ReadPassword => write!(f, "cannot read the password"),
+            Step::ReadFile => write!(f, "cannot read the file"),
+            Step::Lock => write!(f, "cannot lock the file"),
+            Step::Salt => write!(f, "cannot get random bytes"),
+            Step::Replace => write!(f, "cannot replace the file"),
+            Step::SyncFolder => write!(f, "replaced the file, but cannot sync its folder"),
+            Step::WriteNames => write!(f, "cannot write the names"),
+        }
+    }
+}
+
+/// One line, or the usage. It shows nothing of the file or of a password.
+impl fmt::Display for Failure {
+    fn fmt<W: fmt::Write>(&self, f: &mut fmt::Formatter<W>) -> fmt::Result {
+        match self {
+            Failure::Usage => f.write_str(USAGE),
+            Failure::NoPassword => write!(f, "no password on standard input"),
+            Failure::BadName => write!(f, "a name has 1 to 64 bytes"),
+            Failure::TooLong => write!(f, "the password is too long"),
+            Failure::WrongNameOrPassword => write!(f, "wrong name or password"),
+            Failure::NoSuchName => write!(f, "no such name"),
+            Failure::NoFile => write!(f, "no such file"),
+            Failure::NotAFile => write!(f, "not a regular file"),
+            Failure::NotAStore => write!(f, "not a password store"),
+            Failure::InUse => write!(f, "another process has locked the file"),
+            Failure::Memory => write!(f, "out of memory"),
+            Failure::System(step, error) => write!(f, "{step}: {error}"),
+        }
+    }
+}
+
+/// Only memory is refused so.
+impl From<AllocError> for Failure {
+    ghost from_gives = { λ _ failure. failure ≡ Memory };
+
+    fn from(_error: AllocError) -> Self {
+        Failure::Memory
+    }
+}
+
+/// A store's refusal.
+impl From<StoreError> for Failure {
+    ghost from_gives = { λ error failure. failure ≡ failure_of error };
+
+    fn from(error: StoreError) -> Self {
+        match error {
+            StoreError::BadName => Failure::BadName,
+            StoreError::TooLong => Failure::TooLong,
+            StoreError::WrongUsernameOrPassword => Failure::WrongNameOrPassword,
+            StoreError::Memory => Failure::Memory,
+        }
+    }
+}
+
+/// Why a text is read as no store.
+impl From<LoadError> for Failure {
+    ghost from_gives = { λ error failure. failure ≡ load_failure_of error };
+
+    fn from(error: LoadError) -> Self {
+        match error {
+            LoadError::BadText => Failure::NotAStore,
+            LoadError::Memory => Failure::Memory,
+        }
+    }
+}

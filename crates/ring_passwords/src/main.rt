@@ -1,0 +1,140 @@
+//! Keeps passwords in a file: `FILE set|verify|remove NAME` and `FILE list`.
+//!
+//! A password is one line of standard input. The file has the text of a store, as `ring_store` writes
+//! it, and is replaced whole or not at all. `docs/PASSWORDS.md` has the statuses and the messages.
+#![tactic(auto)]
+
+ghost use Rattle.std.specs.Prelude.{◌≡◌, IfErr};
+ghost use Rattle.ring_passwords.specs.Failure.{status_of};
+
+use crate::action::{Action, action_of};
+use crate::failure::{Failure, Step};
+use crate::file::LockedFile;
+use crate::listing::listing_of;
+use crate::password::read_password;
+use ring_store::PasswordStore;
+use std::fs::File;
+use std::io::Write;
+use std::num::NonZeroU32;
+use std::process::ExitCode;
+use std::random::RandomSource;
+use std::rt::{Clock, Env, Files};
+use std::{env, io};
+
+mod action;
+mod change;
+mod failure;
+mod file;
+mod listing;
+mod password;
+
+/// The program's arguments, without its own name.
+fn arguments<R: Env + AllocGlobal>(rt: &R) -> Result<Vec<String>, Failure>
+    ensures status { IfErr result (λ failure. status_of failure ≡ 2) }
+{
+    let words = match env::args(rt) {
+        Ok(words) => words,
+        Err(error) => return Err(Failure::System(Step::Arguments, error)),
+    };
+    let words = words.skip(1).collect(rt.alloc())?;
+    Ok(words)
+}
+
+/// A store with no record, under a random salt.
+fn new_store<R: RandomSource + AllocGlobal>(
+    rt: &R,
+    iterations: Option<NonZeroU32>,
+) -> Result<PasswordStore, Failure>
+    ensures status { IfErr result (λ failure. status_of failure ≡ 2) }
+{
+    let mut salt = [0; 16];
+    if let Err(error) = rt.fill_bytes(&mut salt) {
+        return Err(Failure::System(Step::Salt, error));
+    }
+    let iterations = change::iterations_of_new(iterations);
+    Ok(PasswordStore::new(rt.alloc(), salt, iterations))
+}
+
+/// Sets a name's password in a file, which need not be there.
+fn set<R: Files<File = File> + AllocGlobal + Clock + Input + RandomSource>(
+    rt: &R,
+    path: &str,
+    name: &[u8],
+    iterations: Option<NonZeroU32>,
+) -> Result<(), Failure>
+    ensures status { IfErr result (λ failure. status_of failure ≡ 2) }
+{
+    let password = read_password(rt.alloc(), &mut rt.reader())?;
+    let file = LockedFile::new(rt, path)?;
+    let mut store = match file.load(rt) {
+        Err(Failure::NoFile) => new_store(rt, iterations)?,
+        loaded => loaded?,
+    };
+    change::set(&mut store, name, &password, iterations)?;
+    file.replace(rt, &store)
+}
+
+/// Tests a name's password against a file.
+fn verify<R: Files + AllocGlobal + Input>(rt: &R, path: &str, name: &[u8]) -> Result<(), Failure> {
+    let password = read_password(rt.alloc(), &mut rt.reader())?;
+    let store = file::load(rt, path)?;
+    change::verify(&store, name, &password)
+}
+
+/// Removes a name from a file.
+fn remove<R: Files<File = File> + AllocGlobal + Clock>(
+    rt: &R,
+    path: &str,
+    name: &[u8],
+) -> Result<(), Failure> {
+    file::require_regular(rt, path)?;
+    let file = LockedFile::new(rt, path)?;
+    let mut store = file.load(rt)?;
+    change::remove(&mut store, name)?;
+    file.replace(rt, &store)
+}
+
+/// Writes the names of a file, a line each.
+fn list<R: Files + AllocGlobal + Print>(rt: &R, path: &str) -> Result<(), Failure>
+    ensures status { IfErr result (λ failure. status_of failure ≡ 2) }
+{
+    let store = file::load(rt, path)?;
+    let lines = listing_of(rt.alloc(), &store)?;
+    match io::writer(rt).write_all(&lines) {
+        Ok(()) => Ok(()),
+        Err(error) => Err(Failure::System(Step::WriteNames, error)),
+    }
+}
+
+/// Does what the arguments ask for.
+fn run<R>(rt: &R) -> Result<(), Failure>
+where
+    R: Files<File = File> + AllocGlobal + Clock + Env + Input + Print + RandomSource,
+{
+    let words = arguments(rt)?;
+    let Some((path, words)) = words.split_first() else {
+        return Err(Failure::Usage);
+    };
+    let Some(action) = action_of(words) else {
+        return Err(Failure::Usage);
+    };
+    let path = path.as_str();
+    let name = words.get(1).map_or("", |name| name.as_str()).as_bytes();
+    match action {
+        Action::Set(iterations) => set(rt, path, name, iterations),
+        Action::Verify => verify(rt, path, name),
+        Action::Remove => remove(rt, path, name),
+        Action::List => list(rt, path),
+    }
+}
+
+fn main(rt: HostRuntime) -> ExitCode {
+    match run(&rt) {
+        Ok(()) => ExitCode::SUCCESS,
+        Err(failure) => {
+            // Where standard error fails too, the status still tells.
+            let _ = eprintln!(rt; "passwords: {failure}");
+            ExitCode::from(failure.status())
+        }
+    }
+}

@@ -1,5 +1,6 @@
 -- The entries of tables, in the order of their names.
-use Rattle.std.proofs.Common.{◌≡◌, ℕ, Bool, true, false, ◌&&◌, List, [], ◌∷◌, ◌++◌, map, length, refl, sym, ap, subst, ◌∙◌, arith, T}
+use Rattle.std.proofs.Common.{◌≡◌, ℕ, Bool, true, false, ◌&&◌, List, [], ◌∷◌, ◌++◌, map, length}
+use Rattle.std.proofs.Common.{refl, sym, ap, subst, ◌∙◌, arith, T}
 use Rattle.std.specs.Ordering.{is_lt, ordering_reverse}
 use Rattle.std.specs.declared.cmp.Ordering.{Ordering}
 use Rattle.std.specs.declared.cmp.Ordering.TheVariants.{Less, Equal, Greater}
@@ -49,7 +50,8 @@ Behind name e = order e.0 name ≡ Less
 module _ {X : Type 0} where
   below_at : (k : List ℕ) (es : List (List ℕ × X)) (e : List ℕ × X) (rest : List (List ℕ × X))
       → T (below_all order k (es ++ e ∷ rest)) → order k e.0 ≡ Less
-  below_at k [] e rest h = less (order k e.0) (first (is_lt (order k e.0)) (below_all order k rest) h)
+  below_at k [] e rest h =
+      less (order k e.0) (first (is_lt (order k e.0)) (below_all order k rest) h)
   below_at k (x ∷ es) e rest h =
       below_at k es e rest (second (is_lt (order k x.0)) (below_all order k (es ++ e ∷ rest)) h)
 
@@ -85,7 +87,8 @@ module _ {X : Type 0} where
 
   pub entries-empty : table.entries (table.empty {X = X} {R = order}) ≡ []
   entries-empty =
-      no_entry (table.entries table.empty) (sym (table.len-entries table.empty) ∙ table.len-empty order X)
+      no_entry (table.entries table.empty)
+      (sym (table.len-entries table.empty) ∙ table.len-empty order X)
 
   put_first : (k : List ℕ) (v : X) (es : List (List ℕ × X)) → T (below_all order k es)
       → put order k v es ≡ (k, v) ∷ es
@@ -106,7 +109,8 @@ module _ {X A : Type 0} where
       → T (below_all order k.items (named es))
   named_below k [] h = tt
   named_below k (e ∷ es) h =
-      subst (λ o. T (is_lt o && below_all order k.items (named es))) (sym h.0) (named_below k es h.1)
+      subst (λ o. T (is_lt o && below_all order k.items (named es))) (sym h.0)
+      (named_below k es h.1)
 
   -- the entries of a map, by name, are those of its table
   pub entries-named : (es : List (Vec ℕ A × X)) → IsStrictlySortedBy key_order (keys_of es)
@@ -169,5 +173,6 @@ module _ {X : Type 0} (name : List ℕ) where
             (All-append (Behind name) front (e ∷ []) (behind_front front e sorted lower)
             (All-cons (Behind name) e [] lower (All-nil (Behind name)))),
         λ all_lower.
-            lower_test (order e.0 name) (behind_last front e (subst (IsBehind name) same all_lower)),
+            lower_test (order e.0 name)
+            (behind_last front e (subst (IsBehind name) same all_lower)),
       )

@@ -1,5 +1,6 @@
 -- What a text says of the stores that have it.
-use Rattle.std.proofs.Common.{◌≡◌, ℕ, ◌<◌, List, [], ◌∷◌, ◌++◌, length, All, refl, sym, ap, subst, ◌∙◌, arith, append-nil, T}
+use Rattle.std.proofs.Common.{◌≡◌, ℕ, ◌<◌, List, [], ◌∷◌, ◌++◌, length, All, refl, sym, ap, subst}
+use Rattle.std.proofs.Common.{◌∙◌, arith, append_assoc, append-nil, T}
 use Rattle.std.proofs.Common.{◌≢◌, ◌⊎◌, inl, inr}
 use Rattle.std.specs.Prelude.{Result, Ok, Err, IfOk, IsErrOf}
 use Rattle.ring_store.specs.declared.error.LoadError.{LoadError}
@@ -17,13 +18,16 @@ use Rattle.ring_store.specs.Store.{new_store, with_record}
 use Rattle.std.specs.declared.num.NonZeroU32.{NonZeroU32}
 use Rattle.std.proofs.lemmas.List.Elements.{All-head}
 use Rattle.ring_store.specs.Records.{IsBehind}
-use Rattle.ring_store.specs.Text.{IsEntry, IsHead, IsStore, head_then, hex_then, lines_of, record_then}
+use Rattle.ring_store.specs.Text.{IsEntry, IsHead, IsStore, head_then, hex_then, lines_of}
+use Rattle.ring_store.specs.Text.{record_then}
 use Rattle.ring_store.specs.Text.{text_of}
 use Rattle.ring_store.specs.declared.records.Record.{Record}
 use Rattle.ring_store.specs.declared.store.PasswordStore.{PasswordStore}
 use Rattle.ring_store.proofs.Entries.{entries-empty, sorted_front}
 use Rattle.ring_store.proofs.Names.{order}
-use Rattle.ring_store.proofs.Texts.{More, head_then-injective, lines_of-first, no_line}
+use Rattle.ring_store.proofs.Texts.{More, head_then-injective, lines_of-append, lines_of-first}
+use Rattle.ring_store.proofs.Texts.{no_line}
+use Rattle.ring_store.proofs.Texts.{record_then-append, record_then-grows, record_then-injective}
 
 -- the entry that comes next, behind entries es of fs
 pub record Next (es fs : List (List ℕ × Record)) (rest : List ℕ) : Type 0 where
@@ -64,11 +68,44 @@ module _ {Z : Type 0} {text : List ℕ} (s : PasswordStore Z) (h : IsStore s) (i
       let m = begins.2 in
       next_of es (table.entries s.records) rest m.more m.whole m.lines m.each some
 
-  -- whose name stands behind the others
-  pub next_behind : (n : Next es (table.entries s.records) rest) → IsBehind n.entry.0 es
+  -- whose name comes after the others
+  next_behind : (n : Next es (table.entries s.records) rest) → IsBehind n.entry.0 es
   next_behind n =
       sorted_front es n.entry n.others
       (subst (λ l. T (table.is_sorted order l)) n.whole (table.entries_sorted s.records))
+
+  behind_by : (n : Next es (table.entries s.records) rest) (e : List ℕ × Record) (left : List ℕ)
+      → rest ≡ record_then e left → IsEntry e → IsBehind e.0 es
+  behind_by n e left line is_e =
+      let same = record_then-injective e n.entry left (lines_of n.others) is_e n.is
+      (sym line ∙ n.line) in
+      subst (λ (x : List ℕ × Record). IsBehind x.0 es) (sym same.0) (next_behind n)
+
+  -- where a record was read, its name comes after the others
+  pub behind_read : (e : List ℕ × Record) (left : List ℕ) → rest ≡ record_then e left → IsEntry e
+      → IsBehind e.0 es
+  behind_read e left line is_e =
+      let grows = record_then-grows e left in
+      behind_by (next (omega (arith, grows, ap length line))) e left line is_e
+
+  read_by : Next es (table.entries s.records) rest
+      → ((e : List ℕ × Record) (left : List ℕ) → IsEntry e → rest ≢ record_then e left) → ⊥
+  read_by n none = none n.entry (lines_of n.others) n.is n.line
+
+  -- where some text is left, a record can be read
+  pub no_bad_line : 0 < length rest
+      → ((e : List ℕ × Record) (left : List ℕ) → IsEntry e → rest ≢ record_then e left) → ⊥
+  no_bad_line some none = read_by (next some) none
+
+-- what was read with one more record
+pub one_more_read : {text : List ℕ} (salt : List ℕ) (c : NonZeroU32)
+    (es es' : List (List ℕ × Record)) (e : List ℕ × Record) (rest left : List ℕ) → es' ≡ es ++ e ∷ [] → rest ≡ record_then e left
+    → text ≡ head_then salt c (lines_of es ++ rest) → text ≡ head_then salt c (lines_of es' ++ left)
+one_more_read salt c es es' e rest left added line whole =
+    whole ∙ ap (head_then salt c) (sym (ap (λ l. lines_of l ++ left) added
+    ∙ ap (λ l. l ++ left) (lines_of-append es (e ∷ []))
+    ∙ append_assoc (lines_of es) (record_then e []) left
+    ∙ ap (λ l. lines_of es ++ l) (record_then-append e [] left ∙ sym line)))
 
 no_more : (more : List (List ℕ × Record)) → lines_of more ≡ [] → more ≡ []
 no_more [] e = refl
@@ -79,7 +116,8 @@ pub text_of-injective : {Z : Type 0} (s t : PasswordStore Z) → IsStore s → I
     → text_of s ≡ text_of t → s ≡ t
 text_of-injective s t hs ht e =
     let same = begins s hs e t.db_salt t.iterations (table.entries t.records) [] ht.head ht.entries
-    (ap (head_then t.db_salt t.iterations) (sym (append-nil (lines_of (table.entries t.records))))) in
+    (ap (head_then t.db_salt t.iterations)
+    (sym (append-nil (lines_of (table.entries t.records))))) in
     let m = same.2 in
     let entries = m.whole ∙ ap (λ more. table.entries t.records ++ more) (no_more m.more m.lines)
     ∙ append-nil (table.entries t.records) in
@@ -103,8 +141,8 @@ entries_of_two first second a b lower =
     table.entries-insert nat_list_cmp_total _ first a
     ∙ ap (put order first a) (table.entries-insert nat_list_cmp_total table.empty second b
     ∙ ap (put order second b) entries-empty)
-    ∙ ap (λ o. by_order o ((first, a) ∷ (second, b) ∷ []) ((second, a) ∷ []) ((second, b) ∷ (first, a) ∷ []))
-    lower
+    ∙ ap (λ o. by_order o ((first, a) ∷ (second, b) ∷ []) ((second, a) ∷ [])
+    ((second, b) ∷ (first, a) ∷ [])) lower
 
 -- the lines of the example, by the numbers of its iterations
 abbrev example : (one two : ℕ) → List ℕ
@@ -113,7 +151,10 @@ example one two =
     ∷ hex_then (codes "alice") 32 (decimal two ++ (32 ∷ hex_then (range_with_len 0 32) 10
     (hex_then (codes "bob") 32 (decimal one ++ (32 ∷ hex_then (range_with_len 224 32) 10 [])))))))
 
-example_text : example 1 600000 ≡ codes "ring_store 1 000102030405060708090a0b0c0d0e0f 600000\n616c696365 600000 000102030405060708090a0b0c0d0e0f101112131415161718191a1b1c1d1e1f\n626f62 1 e0e1e2e3e4e5e6e7e8e9eaebecedeeeff0f1f2f3f4f5f6f7f8f9fafbfcfdfeff\n"
+example_text : example 1 600000
+    ≡ codes "ring_store 1 000102030405060708090a0b0c0d0e0f 600000\n"
+    ++ codes "616c696365 600000 000102030405060708090a0b0c0d0e0f101112131415161718191a1b1c1d1e1f\n"
+    ++ codes "626f62 1 e0e1e2e3e4e5e6e7e8e9eaebecedeeeff0f1f2f3f4f5f6f7f8f9fafbfcfdfeff\n"
 unfolding encode_with digits
 example_text = refl
 
@@ -122,7 +163,9 @@ pub text_of_two : (Z : Type 0) (one two : NonZeroU32) → non_zero_u32_get one �
     → (let s : PasswordStore Z = new_store (range_with_len 0 16) two in
     let s2 = with_record s (codes "bob") one (range_with_len 224 32) in
     text_of (with_record s2 (codes "alice") two (range_with_len 0 32)))
-    ≡ codes "ring_store 1 000102030405060708090a0b0c0d0e0f 600000\n616c696365 600000 000102030405060708090a0b0c0d0e0f101112131415161718191a1b1c1d1e1f\n626f62 1 e0e1e2e3e4e5e6e7e8e9eaebecedeeeff0f1f2f3f4f5f6f7f8f9fafbfcfdfeff\n"
+    ≡ codes "ring_store 1 000102030405060708090a0b0c0d0e0f 600000\n"
+    ++ codes "616c696365 600000 000102030405060708090a0b0c0d0e0f101112131415161718191a1b1c1d1e1f\n"
+    ++ codes "626f62 1 e0e1e2e3e4e5e6e7e8e9eaebecedeeeff0f1f2f3f4f5f6f7f8f9fafbfcfdfeff\n"
 unfolding head_then record_then
 text_of_two Z one two e1 e2 =
     let a : Record = record { iterations = two; credential = range_with_len 0 32 } in

@@ -1,6 +1,7 @@
 -- Lines of a store's text: each is read in one way.
 use Rattle.std.proofs.Common.{◌≡◌, ◌≢◌, ◌==◌, ℕ, suc, ◌/◌, ◌%◌, ◌<◌, ◌≤◌, true, false}
-use Rattle.std.proofs.Common.{List, [], ◌∷◌, ◌++◌, length, drop, All, refl, sym, ap, subst, ◌∙◌, arith}
+use Rattle.std.proofs.Common.{List, [], ◌∷◌, ◌++◌, length, drop, All, refl, sym, ap, subst, ◌∙◌}
+use Rattle.std.proofs.Common.{arith}
 use Rattle.std.proofs.Common.{length-append, append_assoc}
 use Rattle.std.specs.Prelude.{Some, None, slice_index, Result, Ok, Err, MatchResult, nat_le}
 use Rattle.std.specs.Char.{digit_value}
@@ -13,7 +14,8 @@ use Rattle.std.proofs.lemmas.Fmt.{decimal_is_IsNumeral, decimal_injective}
 use Rattle.std.proofs.lemmas.List.Elements.{All-nil, All-cons, All-head, All-tail}
 use denote.Struct.Props.{props}
 use mathlib.Core.HLevel.{Σ_prop_path}
-use Rattle.hex.specs.Hex.{IsBytes, decode_of, encode_lower, encode_with, hex_digit_value, lower_digits, decode_sized}
+use Rattle.hex.specs.Hex.{IsBytes, decode_of, encode_lower, encode_with, hex_digit_value}
+use Rattle.hex.specs.Hex.{lower_digits, decode_sized}
 use Rattle.hex.specs.declared.error.FromHexError.{FromHexError}
 use Rattle.hex.proofs.HexLemmas.{IsDigits-lower_digits, decode_of-encode_lower, length-encode_with}
 use Rattle.hex.proofs.HexLemmas.{decode_of-same, decode_sized-encode_lower}
@@ -73,7 +75,8 @@ digit_apart end k none below =
     as (λ b. (slice_index lower_digits k == end) ≡ b → b ≡ false) [
       | true ↦ λ is.
           (let same = eqb-true (slice_index lower_digits k) end is in
-          absurd (no_value k (sym (IsDigits-lower_digits k below) ∙ ap hex_digit_value same ∙ none)))
+          absurd (no_value k
+          (sym (IsDigits-lower_digits k below) ∙ ap hex_digit_value same ∙ none)))
       | false ↦ λ _. refl
     ] refl
 
@@ -183,11 +186,13 @@ pub lines_of-append : (es fs : List (List ℕ × Record))
     → lines_of (es ++ fs) ≡ lines_of es ++ lines_of fs
 lines_of-append [] fs = refl
 lines_of-append (e ∷ es) fs =
-    ap (record_then e) (lines_of-append es fs) ∙ sym (record_then-append e (lines_of es) (lines_of fs))
+    ap (record_then e) (lines_of-append es fs)
+    ∙ sym (record_then-append e (lines_of es) (lines_of fs))
 
 -- what was written with one more line, where the line and those after it were left
-pub one_more_line : {after whole : List ℕ} (out : List ℕ) (e : List ℕ × Record) (es : List (List ℕ × Record))
-    → after ≡ out ++ record_then e [] → out ++ lines_of (e ∷ es) ≡ whole → after ++ lines_of es ≡ whole
+pub one_more_line : {after whole : List ℕ} (out : List ℕ) (e : List ℕ × Record)
+    (es : List (List ℕ × Record)) → after ≡ out ++ record_then e []
+    → out ++ lines_of (e ∷ es) ≡ whole → after ++ lines_of es ≡ whole
 one_more_line out e es written left =
     ap (λ l. l ++ lines_of es) written ∙ append_assoc out (record_then e []) (lines_of es)
     ∙ ap (λ l. out ++ l) (record_then-append e [] (lines_of es)) ∙ left
@@ -270,3 +275,11 @@ pub head_then-append : (x : List ℕ) (c : NonZeroU32) (s t : List ℕ)
     → head_then x c s ++ t ≡ head_then x c (s ++ t)
 unfolding head_then
 head_then-append x c s t = simp append_assoc
+
+-- a head that was appended to nothing, and then lines
+pub text_written : {start one two : List ℕ} (salt : List ℕ) (c : NonZeroU32) (lines : List ℕ)
+    → start ≡ [] → one ≡ start ++ head_then salt c [] → two ≡ one ++ lines
+    → two ≡ head_then salt c lines
+text_written salt c lines empty head rest =
+    rest ∙ ap (λ l. l ++ lines) (head ∙ ap (λ l. l ++ head_then salt c []) empty)
+    ∙ head_then-append salt c [] lines

@@ -1,6 +1,7 @@
 //! The lines of a store's text.
 
-ghost use Rattle.std.specs.Prelude.{◌≡◌, ◌≢◌, ◌↔◌, ℕ, ◌≤◌, List, [], ◌∷◌, ◌++◌, length, IfSome, IfOk};
+ghost use Rattle.std.specs.Prelude.{◌≡◌, ◌≢◌, ◌↔◌, ℕ, ◌≤◌, List, [], ◌∷◌, ◌++◌, length, IfSome};
+ghost use Rattle.std.specs.Prelude.{IfOk};
 ghost use Rattle.std.specs.Prelude.{IsNone, IsTrue, IsErrOf, OnOk, OnErr, All, true};
 ghost use Rattle.hex.specs.Hex.{IsBytes, encode_lower, hex_digit_value};
 ghost use Rattle.std.specs.Char.{digit_value};

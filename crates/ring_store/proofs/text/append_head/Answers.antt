@@ -5,5 +5,9 @@ use Rattle.ring_store.proofs.text.append_head.Goals as goal
 pub returns : goal.returns
 unfolding head_then
 returns g c =
-    rw (c.in_ok-append_count.ensures, c.in_ok-append_hex.ensures, c.in_ok-extend_from_slice.ensures.items)
+    rw (
+      c.in_ok-append_count.ensures,
+      c.in_ok-append_hex.ensures,
+      c.in_ok-extend_from_slice.ensures.items,
+    )
     (simp append_assoc)

@@ -1,4 +1,4 @@
-use Rattle.std.proofs.Common.{◌≡◌, sym, ap, subst, ◌∙◌, ℕ, arith, ◌<◌}
+use Rattle.std.proofs.Common.{◌≡◌, sym, ap, subst, ◌∙◌, ℕ, arith, ◌<◌, true≢false}
 use Rattle.std.specs.Prelude.{Option, Some, None, IsNone, MatchOption, not}
 use Rattle.std.specs.declared.num.NonZeroU32.{NonZeroU32}
 use Rattle.std.proofs.lemmas.Slice.Eq.{bytes_eq-Decides}
@@ -23,24 +23,27 @@ pub returns-in_default-parse-clause-refused : goal.returns-in_default-parse-clau
 returns-in_default-parse-clause-refused c = λ _ d small e.
     let n = non_zero_u32_get d in
     let text = c.in-Ok.ensures.cases.0 in
-    let read = parse-decimal 32 n c.in-Ok.text.now c.parse.result small (omega arith) (text ∙ e) c.parse.ensures.value.0 in
+    let read = parse-decimal 32 n c.in-Ok.text.now c.parse.result small (omega arith) (text ∙ e)
+    c.parse.ensures.value.0 in
     cc (read, c.in_default-parse.is)
 
 pub returns-then-ne-clause-refused : goal.returns-then-ne-clause-refused
 returns-then-ne-clause-refused c = λ _ d small e.
     let n = non_zero_u32_get d in
     let text = c.in-Ok.ensures.cases.0 in
-    let read = parse-decimal 32 n c.in-Ok.text.now c.parse.result small (omega arith) (text ∙ e) c.parse.ensures.value.0 in
+    let read = parse-decimal 32 n c.in-Ok.text.now c.parse.result small (omega arith) (text ∙ e)
+    c.parse.ensures.value.0 in
     let count : c.in-Ok-parse.count ≡ n = cc (read, c.in-Ok-parse.is) in
     let written = c.as_bytes.ensures.value ∙ c.format.ensures.text ∙ ap decimal count ∙ sym e in
     let same = (bytes_eq-Decides c.as_bytes.result.now c.args.digits.now).1 written in
-    cc (c.ne.ensures, c.if-ne.true, ap not same)
+    absurd (true≢false (sym c.if-ne.true ∙ c.ne.ensures ∙ ap not same))
 
 pub returns-clause-refused : goal.returns-clause-refused
 returns-clause-refused c = λ none d small e.
     let n = non_zero_u32_get d in
     let text = c.in-Ok.ensures.cases.0 in
-    let read = parse-decimal 32 n c.in-Ok.text.now c.parse.result small (omega arith) (text ∙ e) c.parse.ensures.value.0 in
+    let read = parse-decimal 32 n c.in-Ok.text.now c.parse.result small (omega arith) (text ∙ e)
+    c.parse.ensures.value.0 in
     let count : c.in-Ok-parse.count ≡ n = cc (read, c.in-Ok-parse.is) in
     let zero = zero_of c.new-2.result c.in-Ok-parse.count none c.new-2.ensures in
     let some : 0 < n = d.ok in

@@ -16,7 +16,8 @@ pub returns-in_default-hex_before-clause-refused : goal.returns-in_default-hex_b
 unfolding head_then
 returns-in_default-hex_before-clause-refused c = λ _ salt d rest h e.
     let behind = c.in-Some.ensures.cases.1 ∙ ap (drop 13) e in
-    c.in_default-hex_before.ensures.refused refl salt (count_then d 10 rest) h.salt_bytes h.salt behind
+    c.in_default-hex_before.ensures.refused refl salt (count_then d 10 rest) h.salt_bytes h.salt
+    behind
 
 pub returns-in-Some-count_before-clause-ok : goal.returns-in-Some-count_before-clause-ok
 unfolding head_then

@@ -6,14 +6,16 @@ use Rattle.std.proofs.lemmas.Bool.Decides.{nat_tests}
 use Rattle.ring_store.specs.declared.error.LoadError.TheVariants.{BadText}
 use Rattle.ring_store.proofs.Texts.{is_name-from_length, name_digits}
 use Rattle.ring_store.proofs.text.name_in.Goals as goal
-use Rattle.ring_store.proofs.text.name_in.Goals.{then-is_empty-via-then-is_empty, then-is_empty-via-else-is_empty+then-digits}
+use Rattle.ring_store.proofs.text.name_in.Goals.{then-is_empty-via-then-is_empty}
+use Rattle.ring_store.proofs.text.name_in.Goals.{then-is_empty-via-else-is_empty+then-digits}
 
 pub returns-then-is_empty-clause-refused : goal.returns-then-is_empty-clause-refused
 returns-then-is_empty-clause-refused g c = λ _ name h is e.
     let len = name_digits c.args.digits.now name is e in
     elim c.then-is_empty.branch [
       | then-is_empty-via-then-is_empty w ↦
-          (let empty = eqb-true (length c.args.digits.now) 0 (sym c.is_empty.ensures ∙ w.if-is_empty.true) in
+          (let empty = eqb-true (length c.args.digits.now) 0
+          (sym c.is_empty.ensures ∙ w.if-is_empty.true) in
           absurd (omega arith))
       | then-is_empty-via-else-is_empty+then-digits w ↦ absurd (omega arith)
     ]
@@ -49,5 +51,8 @@ returns-clause-ok g c =
     let other = c.if-not-is_hex_of.false in
     let some : 0 < length c.args.digits.now =
     grind (arith, nat_tests, c.is_empty.ensures, c.if-is_empty.false) in
-    let told = c.is_hex_of.ensures.0 other in
-    (told ∙ ap encode_lower c.deref.ensures.value, read.3, is_name-from_length c.in-Ok.name.items (omega arith) (omega arith))
+    let told = c.is_hex_of.ensures.0 other in (
+      told ∙ ap encode_lower c.deref.ensures.value,
+      read.3,
+      is_name-from_length c.in-Ok.name.items (omega arith) (omega arith),
+    )

@@ -21,7 +21,8 @@ returns-in_default-clause-refused g c = λ _ e rest h same.
     let name = hex_then-injective 32 refl c.in_ok-name.name.items e.0 c.in_ok-name.rest.now
     (count_then e.1.iterations 32 (hex_then e.1.credential 10 rest)) read.1 h.name_bytes
     (sym read.0 ∙ same) in
-    c.in_default.ensures.refused refl e.1.iterations (hex_then e.1.credential 10 rest) h.iterations name.1
+    c.in_default.ensures.refused refl e.1.iterations (hex_then e.1.credential 10 rest)
+    h.iterations name.1
 
 pub returns-in_default-hex_before-clause-refused : goal.returns-in_default-hex_before-clause-refused
 unfolding record_then

@@ -13,7 +13,8 @@ loop-name-init g c =
 
 pub loop-name-preserved : goal.loop-name-preserved
 loop-name-preserved g c =
-    one_more_line c.loop-name.out.items (c.in-Some.name.now.items, c.in-Some.kept.now) (named c.next.new.self)
+    one_more_line c.loop-name.out.items (c.in-Some.name.now.items, c.in-Some.kept.now)
+    (named c.next.new.self)
     (c.in_ok-append_record.ensures
     ∙ ap (λ n. c.loop-name.out.items ++ record_then (n, c.in-Some.kept.now) [])
     c.deref.ensures.value)

@@ -7,4 +7,5 @@ use Rattle.ring_store.proofs.records.Records.append_lines.Given as goal
 -- what was written, and the lines that are left
 abbrev pub invariant-loop-name : goal.invariant-loop-name
 invariant-loop-name g l =
-    l.out.items ++ lines_of (named l.name-iterator) ≡ l.initial.out.items ++ lines_of (table.entries l.self)
+    l.out.items ++ lines_of (named l.name-iterator)
+    ≡ l.initial.out.items ++ lines_of (table.entries l.self)

@@ -13,7 +13,8 @@ pub returns-in-Some : goal.returns-in-Some
 returns-in-Some g c =
     let kept = entries-shown c.self.inside.by_name.entries c.self.view_is c.iter.ensures.ordered in
     let last : List ℕ × Record = (c.in-Some.last.now.items, c.in-Some.field-0-1.now) in
-    let parted = kept ∙ ap named (sym c.iter.ensures.rest ∙ c.in-Some.ensures.steps) ∙ map-append _ _ _ in
+    let parted = kept ∙ ap named (sym c.iter.ensures.rest ∙ c.in-Some.ensures.steps)
+    ∙ map-append _ _ _ in
     let told = IsBehind-last c.args.name.now (table.entries c.args.self.now)
     (named c.next_back.new.self) last parted (table.entries_sorted c.args.self.now) in
     let same = c.is_lt.ensures ∙ ap is_lt (c.cmp.ensures

@@ -13,6 +13,7 @@ returns-clause-found g c =
 
 pub returns-clause-removed : goal.returns-clause-removed
 returns-clause-removed g c =
-    from_entries-remove_entry c.args.name.now c.self.inside.by_name.entries c.remove.new.self.entries
+    from_entries-remove_entry c.args.name.now c.self.inside.by_name.entries
+    c.remove.new.self.entries
     c.remove.ensures.updates.1 c.remove.ensures.entries
     ∙ ap (λ t. table.remove t c.args.name.now) c.self.view_is

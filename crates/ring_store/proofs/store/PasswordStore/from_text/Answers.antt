@@ -1,4 +1,5 @@
-use Rattle.std.proofs.Common.{◌≡◌, ℕ, ◌<◌, List, [], ◌∷◌, ◌++◌, length, All, sym, ap, subst, ◌∙◌, arith, append_assoc}
+use Rattle.std.proofs.Common.{◌≡◌, ℕ, ◌<◌, List, [], ◌∷◌, ◌++◌, length, All, sym, ap, subst, ◌∙◌}
+use Rattle.std.proofs.Common.{arith, append_assoc}
 use Rattle.std.specs.Prelude.{Err}
 use Rattle.std.specs.FinMap as table
 use Rattle.std.proofs.lemmas.Bool.Decides.{nat_tests}
@@ -9,7 +10,7 @@ use Rattle.ring_store.specs.Text.{IsEntry, head_then, lines_of, record_then}
 use Rattle.ring_store.specs.declared.error.LoadError.TheVariants.{BadText}
 use Rattle.ring_store.specs.declared.records.Record.{Record}
 use Rattle.ring_store.proofs.Entries.{entries-empty, entries-insert_last}
-use Rattle.ring_store.proofs.Stores.{next, next_behind}
+use Rattle.ring_store.proofs.Stores.{behind_read, no_bad_line, one_more_read}
 use Rattle.ring_store.proofs.Texts.{lines_of-append, record_then-append, record_then-grows}
 use Rattle.ring_store.proofs.Texts.{record_then-injective}
 use Rattle.ring_store.proofs.store.PasswordStore.from_text.Goals as goal
@@ -32,25 +33,20 @@ returns-in_err-name-clause-refused g c = λ bad s h is.
     let so_far = c.loop-rest.invariant in
     let some : 0 < length c.loop-rest.rest.now =
     grind (arith, nat_tests, c.is_empty.ensures, c.loop-rest-test.true) in
-    let n = next s h is c.in-Some.head.0 c.in-Some.head.1 (table.entries c.loop-rest.records)
-    c.loop-rest.rest.now so_far.head so_far.each so_far.whole some in
-    c.in_err-name.ensures.refused (ap Err told) n.entry (lines_of n.others) n.is n.line
+    no_bad_line s h is c.in-Some.head.0 c.in-Some.head.1 (table.entries c.loop-rest.records)
+    c.loop-rest.rest.now so_far.head so_far.each so_far.whole some
+    (c.in_err-name.ensures.refused (ap Err told))
 
 pub returns-then-not-is_last-clause-refused : goal.returns-then-not-is_last-clause-refused
 returns-then-not-is_last-clause-refused g c = λ _ s h is.
     let so_far = c.loop-rest.invariant in
-    let some : 0 < length c.loop-rest.rest.now =
-    grind (arith, nat_tests, c.is_empty.ensures, c.loop-rest-test.true) in
-    let es = table.entries c.loop-rest.records in
-    let n = next s h is c.in-Some.head.0 c.in-Some.head.1 es c.loop-rest.rest.now so_far.head
-    so_far.each so_far.whole some in
-    let behind = next_behind s h is c.in-Some.head.0 c.in-Some.head.1 es c.loop-rest.rest.now
-    so_far.head so_far.each so_far.whole n in
     let read = c.in_ok-name.ensures.ok in
-    let same = record_then-injective (c.in_ok-name.name.items, c.in_ok-name.kept) n.entry
-    c.in_ok-name.behind.now (lines_of n.others) read.1 n.is (sym read.0 ∙ n.line) in
-    let name = c.deref.ensures.value ∙ ap (λ e. e.0) same.0 in
-    let told = c.is_last.ensures.1 (subst (λ k. IsBehind k es) (sym name) behind) in
+    let es = table.entries c.loop-rest.records in
+    let behind = behind_read s h is c.in-Some.head.0 c.in-Some.head.1 es c.loop-rest.rest.now
+    so_far.head so_far.each so_far.whole (c.in_ok-name.name.items, c.in_ok-name.kept)
+    c.in_ok-name.behind.now read.0 read.1 in
+    let told = c.is_last.ensures.1
+    (subst (λ k. IsBehind k es) (sym c.deref.ensures.value) behind) in
     cc (told, c.if-not-is_last.true)
 
 pub loop-rest-smaller : goal.loop-rest-smaller
@@ -66,17 +62,13 @@ loop-rest-preserved g c =
     let read = c.in_ok-name.ensures.ok in
     let es = table.entries c.loop-rest.records in
     let e : List ℕ × Record = (c.in_ok-name.name.items, c.in_ok-name.kept) in
-    let rest = c.in_ok-name.behind.now in
     let told = c.is_last.ensures.0 c.if-not-is_last.false in
     let behind = subst (λ k. IsBehind k es) c.deref.ensures.value told in
     let added = ap table.entries c.in_ok-add_owned.ensures.ok
     ∙ entries-insert_last c.loop-rest.records c.in_ok-name.name.items c.in_ok-name.kept behind in
-    let lines = ap (λ l. lines_of l ++ rest) added
-    ∙ ap (λ l. l ++ rest) (lines_of-append es (e ∷ []))
-    ∙ append_assoc (lines_of es) (record_then e []) rest
-    ∙ ap (λ l. lines_of es ++ l) (record_then-append e [] rest ∙ sym read.0) in
     record {
-      whole = so_far.whole ∙ ap (head_then c.in-Some.head.0 c.in-Some.head.1) (sym lines);
+      whole = one_more_read c.in-Some.head.0 c.in-Some.head.1 es _ e c.loop-rest.rest.now
+          c.in_ok-name.behind.now added read.0 so_far.whole;
       head = so_far.head;
       each = subst (All IsEntry) (sym added) (All-push IsEntry es e so_far.each read.1);
     }

@@ -133,6 +133,13 @@ read_back s (Ok t) h read bad = inl (ap Ok (text_of-injective t s read.1 h read.
 read_back s (Err BadText) h read bad = absurd (bad refl s h refl)
 read_back s (Err Memory) h read bad = inr refl
 
+-- what was read of a store's text is that store
+pub same_store : {Z : Type 0} {text : List ℕ} (s : PasswordStore Z)
+    (r : Result (PasswordStore Z) LoadError) → IsStore s → text ≡ text_of s
+    → IfOk r (λ t. (text_of t ≡ text) × IsStore t) → IfOk r (λ t. t ≡ s)
+same_store s (Ok t) h written read = text_of-injective t s read.1 h (read.0 ∙ written)
+same_store s (Err e) h written read = tt
+
 -- two names whose records were put in the other order
 entries_of_two : (first second : List ℕ) (a b : Record) → order first second ≡ Less
     → table.entries (table.insert (table.insert (table.empty {R = order}) second b) first a)

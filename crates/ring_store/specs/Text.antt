@@ -1,5 +1,5 @@
--- A store as text: a line for the store's own salt and iterations, and then a line for each record,
--- in the order of the names.
+-- A store as text: a line for its salt and its iteration count, and then a line for each record, in
+-- the order of names.
 use Rattle.std.specs.Prelude.{◌≡◌, ℕ, ◌^◌, ◌<◌, ◌==◌, true, false, List, [], ◌∷◌, ◌++◌, length}
 use Rattle.std.specs.Prelude.{All, codes}
 use Rattle.std.specs.Fmt.{decimal}
@@ -11,15 +11,15 @@ use Rattle.ring_store.specs.Store.{is_name}
 use Rattle.ring_store.specs.declared.records.Record.{Record}
 use Rattle.ring_store.specs.declared.store.PasswordStore.{PasswordStore}
 
--- bytes in lower case hex, and what follows
+-- bytes in lower-case hex, the byte that ends them, and the rest
 abbrev pub hex_then : (bytes : List ℕ) (end : ℕ) (rest : List ℕ) → List ℕ
 hex_then bytes end rest = encode_lower bytes ++ end ∷ rest
 
--- iterations in decimal, and what follows
+-- an iteration count in decimal, the byte that ends it, and the rest
 abbrev pub count_then : (c : NonZeroU32) (end : ℕ) (rest : List ℕ) → List ℕ
 count_then c end rest = decimal (non_zero_u32_get c) ++ end ∷ rest
 
--- `NAME ITERATIONS CREDENTIAL` and a line feed, and what follows
+-- `NAME ITERATIONS CREDENTIAL`, a line feed, and the rest
 unfoldable pub record_then : List ℕ × Record → (rest : List ℕ) → List ℕ
 record_then e rest =
     hex_then e.0 32 (count_then e.1.iterations 32 (hex_then e.1.credential 10 rest))
@@ -29,7 +29,7 @@ abbrev pub lines_of : List (List ℕ × Record) → List ℕ
 lines_of [] = []
 lines_of (e ∷ es) = record_then e (lines_of es)
 
--- `ring_store 1 SALT ITERATIONS` and a line feed, and what follows
+-- `ring_store 1 SALT ITERATIONS`, a line feed, and the rest
 unfoldable pub head_then : (db_salt : List ℕ) (c : NonZeroU32) (rest : List ℕ) → List ℕ
 head_then db_salt c rest = codes "ring_store 1 " ++ hex_then db_salt 32 (count_then c 10 rest)
 
@@ -37,7 +37,7 @@ head_then db_salt c rest = codes "ring_store 1 " ++ hex_then db_salt 32 (count_t
 abbrev pub text_of : {Z : Type 0} → PasswordStore Z → List ℕ
 text_of s = head_then s.db_salt s.iterations (lines_of (table.entries s.records))
 
--- a count of iterations fits 32 bits
+-- an iteration count fits 32 bits
 abbrev pub IsCount : NonZeroU32 → Type 0
 IsCount c = non_zero_u32_get c < 2 ^ 32
 
@@ -55,17 +55,17 @@ pub record IsHead (db_salt : List ℕ) (c : NonZeroU32) : Type 0 where
   pub salt_bytes : IsBytes db_salt
   pub iterations : IsCount c
 
--- what each store is whose salt and iterations are of their types, and whose records were kept by
--- its calls
+-- what every store is that calls made: its salt and counts have their types, and the calls that
+-- keep a record refuse other names
 pub record IsStore {Z : Type 0} (s : PasswordStore Z) : Type 0 where
   pub head : IsHead s.db_salt s.iterations
   pub entries : All IsEntry (table.entries s.records)
 
--- the byte stands nowhere in the text
+-- the byte is nowhere in the text
 abbrev pub IsWithout : ℕ → List ℕ → Type 0
 IsWithout byte text = All (λ b. (b == byte) ≡ false) text
 
--- the text is cut at the first such byte
+-- the text is split at the first such byte
 pub record IsFirstCut (byte : ℕ) (text before behind : List ℕ) : Type 0 where
   pub whole : text ≡ before ++ byte ∷ behind
   pub first : IsWithout byte before

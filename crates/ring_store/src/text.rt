@@ -1,4 +1,4 @@
-//! The lines of a store's text.
+//! The lines of a store's text: each part has a call that writes it and one that reads it.
 
 ghost use Rattle.std.specs.Prelude.{◌≡◌, ◌≢◌, ◌↔◌, ℕ, ◌≤◌, List, [], ◌∷◌, ◌++◌, length, IfSome};
 ghost use Rattle.std.specs.Prelude.{IfOk};
@@ -23,10 +23,10 @@ use std::alloc::{AllocError, Allocator};
 use std::num::NonZeroU32;
 use std::str;
 
-// What a text begins with: the format's name, and its version.
+// The start of every text: the name of the format and its version.
 const MARK: &[u8] = b"ring_store 1 ";
 
-// Appends bytes in hex, and a byte that ends them.
+// Appends bytes in hex, and then the byte `end`.
 fn append_hex<A: Allocator + Copy>(
     alloc: A,
     out: &mut Vec<u8, A>,
@@ -40,7 +40,7 @@ fn append_hex<A: Allocator + Copy>(
     Ok(())
 }
 
-// Appends iterations in decimal, and a byte that ends them.
+// Appends an iteration count in decimal, and then the byte `end`.
 fn append_count<A: Allocator>(
     out: &mut Vec<u8, A>,
     iterations: NonZeroU32,
@@ -54,7 +54,7 @@ fn append_count<A: Allocator>(
 }
 
 #[tactic(auto, unfolding(crate::specs::Text::head_then))]
-/// Appends the first line of a store's text.
+/// Appends the first line of a text.
 pub(crate) fn append_head<A: Allocator + Copy>(
     alloc: A,
     out: &mut Vec<u8, A>,
@@ -85,7 +85,7 @@ pub(crate) fn append_record<A: Allocator + Copy>(
     Ok(())
 }
 
-// What stands before the first such byte and what stands behind it, or `None` where there is none.
+// The text before the first `byte` and the text after it, or `None` if there is none.
 fn cut_at(text: &[u8], byte: u8) -> Option<(&[u8], &[u8])>
     ensures cut { IfSome result (λ parts. IsFirstCut byte text.now parts.0.now parts.1.now) }
     ensures none { IsNone result → IsWithout byte text.now }
@@ -96,7 +96,7 @@ fn cut_at(text: &[u8], byte: u8) -> Option<(&[u8], &[u8])>
     }
 }
 
-// Whether digits are those of some bytes, in lower case.
+// Whether these are the digits of `bytes`, in lower case.
 fn is_hex_of(digits: &[u8], bytes: &[u8]) -> bool
     requires { length bytes.now ≤ MAX_NAME_LEN }
     ensures { IsTrue result ↔ (digits.now ≡ encode_lower bytes.now) }
@@ -106,7 +106,7 @@ fn is_hex_of(digits: &[u8], bytes: &[u8]) -> bool
     hex::encode_to_slice(bytes, &mut *again).is_ok() && *again == *digits
 }
 
-// Reads as many bytes as there is room for.
+// Decodes as many bytes as `out` has.
 fn fill(digits: &[u8], out: &mut [u8]) -> bool
     requires { length out.old ≤ MAX_NAME_LEN }
     ensures ok { IsTrue result → (digits.now ≡ encode_lower out.new) × IsBytes out.new }
@@ -116,7 +116,7 @@ fn fill(digits: &[u8], out: &mut [u8]) -> bool
     hex::decode_to_slice(digits, &mut *out).is_ok() && is_hex_of(digits, &*out)
 }
 
-// What digits are refused as that don't decode.
+// The error for digits that don't decode.
 fn refusal(error: FromHexError) -> LoadError
     ensures { result ≡ LoadError.BadText → error ≢ FromHexError.OutOfMemory }
 {
@@ -126,7 +126,7 @@ fn refusal(error: FromHexError) -> LoadError
     }
 }
 
-// Reads a name.
+// Decodes a name.
 fn name_in<A: Allocator>(alloc: A, digits: &[u8]) -> Result<Vec<u8, A>, LoadError>
     ensures ok { IfOk result (λ name. (digits.now ≡ encode_lower name.items)
         × IsBytes name.items × (is_name name.items ≡ true)) }
@@ -146,7 +146,7 @@ fn name_in<A: Allocator>(alloc: A, digits: &[u8]) -> Result<Vec<u8, A>, LoadErro
     Ok(name)
 }
 
-// Reads a count of iterations.
+// Reads an iteration count, which has no leading zero.
 fn count_in(digits: &[u8]) -> Option<NonZeroU32>
     ensures ok { IfSome result (λ c. (digits.now ≡ decimal (non_zero_u32_get c)) × IsCount c) }
     ensures refused { IsNone result → (c : NonZeroU32) → IsCount c
@@ -164,7 +164,7 @@ fn count_in(digits: &[u8]) -> Option<NonZeroU32>
     NonZeroU32::new(count)
 }
 
-// Reads bytes before `end`, as many as there is room for, and gives what follows.
+// Reads as many bytes as `out` has, and the byte `end`. Returns the text after it.
 fn hex_before<'a>(text: &'a [u8], end: u8, out: &mut [u8]) -> Option<&'a [u8]>
     requires end { hex_digit_value end ≡ None }
     requires room { length out.old ≤ MAX_NAME_LEN }
@@ -182,7 +182,7 @@ fn hex_before<'a>(text: &'a [u8], end: u8, out: &mut [u8]) -> Option<&'a [u8]>
     Some(rest)
 }
 
-// Reads a name before `end`, and gives what follows.
+// Reads a name and the byte `end`. Returns the name and the text after them.
 fn name_before<A: Allocator>(
     alloc: A,
     text: &[u8],
@@ -203,7 +203,7 @@ fn name_before<A: Allocator>(
     }
 }
 
-// Reads iterations before `end`, and gives what follows.
+// Reads an iteration count and the byte `end`. Returns the count and the text after them.
 fn count_before(text: &[u8], end: u8) -> Option<(NonZeroU32, &[u8])>
     requires { 10 ≤ digit_value end }
     ensures ok { IfSome result (λ found. (text.now ≡ count_then found.0 end found.1.now)
@@ -220,7 +220,7 @@ fn count_before(text: &[u8], end: u8) -> Option<(NonZeroU32, &[u8])>
     }
 }
 
-/// Reads the first line of a store's text: the salt and the iterations. Gives what follows, too.
+/// Reads the first line of a text. Returns the salt, the iteration count and the text after it.
 pub(crate) fn head_in(text: &[u8]) -> Option<([u8; DB_SALT_LEN], NonZeroU32, &[u8])>
     ensures ok { IfSome result (λ head. (text.now ≡ head_then head.0 head.1 head.2.now)
         × IsHead head.0 head.1) }
@@ -240,7 +240,7 @@ pub(crate) fn head_in(text: &[u8]) -> Option<([u8; DB_SALT_LEN], NonZeroU32, &[u
     }
 }
 
-/// Reads the line of a record, and gives what follows.
+/// Reads the line of a record. Returns the name, the record and the text after it.
 pub(crate) fn record_in<A: Allocator>(
     alloc: A,
     text: &[u8],

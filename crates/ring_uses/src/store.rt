@@ -1,12 +1,16 @@
-//! A password store: a first use, a login, a restart, and the blocks of a check.
+//! A password store: a first use, a login, a restart, and the cost of a check.
 
 ghost use Rattle.std.specs.Prelude.{◌≡◌, ◌↔◌, ℕ, List, Ok, Err, IfOk, IsErrOf, IsOkUnless, OnErr, OnOk};
+ghost use Rattle.std.specs.Prelude.{IsTrue};
+ghost use Rattle.ring.specs.Cost.{raised};
 ghost use Rattle.ring_store.specs.Store.{admission, verdict, verify_blocks, with_raise};
 ghost use Rattle.ring_store.specs.Text.{IsStore};
 ghost use Rattle.ring_store.specs.Token.{MakerStandsFor, token_of};
 
 use ring::cost::Meter;
-use ring_store::{DB_SALT_LEN, LoadError, PasswordStore, StoreError, TOKEN_LEN, TokenMaker};
+use ring_store::{
+    CREDENTIAL_LEN, DB_SALT_LEN, LoadError, PasswordStore, StoreError, TOKEN_LEN, TokenMaker,
+};
 use std::alloc::Global;
 use std::num::NonZeroU32;
 
@@ -50,15 +54,18 @@ pub fn over_a_restart(alloc: Global, store: &PasswordStore) -> Result<PasswordSt
     PasswordStore::from_text(alloc, &text)
 }
 
-/// The number of blocks that a check of `password` takes: no more for a right password than for a
-/// wrong one.
-pub fn blocks_of_check(store: &PasswordStore, name: &[u8], password: &[u8]) -> u128
-    ensures { admission name.now password.now ≡ Ok tt
-        → result ≡ verify_blocks store.now name.now password.now }
+/// Whether `password` is the password of `name`, with the work added to the meter of a request.
+pub fn check_in_request(
+    store: &PasswordStore,
+    name: &[u8],
+    password: &[u8],
+    meter: &mut Meter,
+) -> bool
+    ensures ok { IsTrue result ↔ (verdict store.now name.now password.now ≡ Ok tt) }
+    ensures cost { admission name.now password.now ≡ Ok tt → meter.new
+        ≡ raised meter.old (verify_blocks store.now name.now password.now) CREDENTIAL_LEN }
 {
-    let mut meter = Meter::new();
-    let _ = store.check_password_counted(name, password, &mut meter);
-    meter.blocks()
+    store.check_password_counted(name, password, meter).is_ok()
 }
 
 /// Issues a token of `name` until `expiry` to whoever knows its password.

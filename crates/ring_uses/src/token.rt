@@ -2,6 +2,7 @@
 
 ghost use Rattle.std.specs.Prelude.{◌≡◌, ◌↔◌, ◌⊎◌, ℕ, ◌≤◌, List, length, Ok, IfOk, IsOk};
 ghost use Rattle.ring.specs.Algorithm.{max_input_len};
+ghost use Rattle.ring.specs.Cost.{raised};
 ghost use Rattle.ring.specs.declared.digest.algorithm.TheConstants.{SHA256};
 ghost use Rattle.ring_store.specs.Token.{MakerStandsFor, checked, token_blocks, token_input_len};
 
@@ -40,17 +41,18 @@ pub fn token_and_blocks(
     Ok((token, meter.blocks()))
 }
 
-/// The number of byte pairs that a check compares: all of them, also where the first differ.
-pub fn pairs_of_check(
+/// Whether a token is valid now, with the work added to the meter of a request: each pair of bytes,
+/// also where the first differ.
+pub fn check_in_request(
     maker: &TokenMaker,
     user: &[u8],
     expiry: u64,
     now: u64,
     token: &[u8; TOKEN_LEN],
-) -> u128
-    ensures { token_input_len (length user.now) ≤ max_input_len SHA256 → result ≡ TOKEN_LEN }
+    meter: &mut Meter,
+) -> bool
+    ensures cost { token_input_len (length user.now) ≤ max_input_len SHA256 → meter.new
+        ≡ raised meter.old (token_blocks (length user.now)) TOKEN_LEN }
 {
-    let mut meter = Meter::new();
-    let _ = maker.check_counted(user, expiry, now, token, &mut meter);
-    meter.byte_pairs()
+    maker.check_counted(user, expiry, now, token, meter).is_ok()
 }

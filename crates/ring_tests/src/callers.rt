@@ -3,16 +3,28 @@
 use crate::rand::ready_for_all;
 use crate::texts::is_hex_of;
 use ring::cost::Meter;
-use ring::digest::SHA256;
+use ring::digest::{Context, MAX_OUTPUT_LEN, SHA256, SHA512};
 use ring::error::Unspecified;
-use ring::hmac::{HMAC_SHA256, Key};
+use ring::hkdf::{HKDF_SHA256, Prk, Salt};
+use ring::hmac::{HMAC_SHA256, HMAC_SHA384, Key, sign};
 use ring_store::{PasswordStore, TokenMaker};
-use ring_uses::basics::{bit_length_field, blocks_of_digest, is_same_token, whole_and_left};
+use ring_uses::basics::{
+    bit_length_field, blocks_of_digest, bytes_for_bits, is_same_token, key_bits,
+    long_bit_length_field, masked_block, pairs_of_comparison, whole_and_left, xored,
+};
 use ring_uses::digest::digest_of_two;
-use ring_uses::hkdf::{expand_secret, tag_under_output};
-use ring_uses::hmac::{tag_counted, tag_of_two, verify_tag};
+use ring_uses::hkdf::{
+    Length, asked_len, current_and_next, expand_secret, expand_stored, key_under_salt, next_key,
+    next_salt, tag_under_output,
+};
+use ring_uses::hmac::{
+    key_for_both, tag_counted, tag_len, tag_of_two, tags_of_front_and_whole, verify_tag,
+};
 use ring_uses::pbkdf2::{derive_and_verify, stored_of, verify_stored};
-use ring_uses::pieces::{digest_of_list, digest_of_whole, digests_of_front_and_whole};
+use ring_uses::pieces::{
+    digest_again, digest_and_blocks, digest_of_list, digest_of_whole, digests_of_front_and_whole,
+    finish_into, lengths_of,
+};
 use ring_uses::rand::{nonce, tag_under_generated};
 use ring_uses::several::{
     digests_of_both, digests_of_four, stored_of_both, stored_of_four, verify_four,
@@ -22,13 +34,16 @@ use std::num::NonZeroU32;
 use std::test::Fail;
 
 // Two messages of the examples for FIPS 180-4, and their digests by SHA-256.
-const SHORT: &[u8] = b"abc";
+pub const SHORT: &[u8] = b"abc";
 
-const LONG_REST: &[u8] = b"dbcdecdefdefgefghfghighijhijkijkljklmklmnlmnomnopnopq";
+pub const LONG_REST: &[u8] = b"dbcdecdefdefgefghfghighijhijkijkljklmklmnlmnomnopnopq";
 
-const OF_SHORT: &str = "ba7816bf8f01cfea414140de5dae2223b00361a396177a9cb410ff61f20015ad";
+pub const OF_SHORT: &str = "ba7816bf8f01cfea414140de5dae2223b00361a396177a9cb410ff61f20015ad";
 
-const OF_LONG: &str = "248d6a61d20638b8e5c026930c3e6039a33ce45964ff2167f6ecedd419db06c1";
+pub const OF_LONG: &str = "248d6a61d20638b8e5c026930c3e6039a33ce45964ff2167f6ecedd419db06c1";
+
+// The digest by SHA-256 of the first of these digests, from Python's `hashlib`.
+const OF_DIGEST: &str = "4f8b42c22dd3729b519ba6f68d2da7cc5b2d606d05daed5ad5128cc03e6c6358";
 
 // The digest of no byte by SHA-256, from Python's `hashlib`.
 const OF_NOTHING: &str = "e3b0c44298fc1c149afbf4c8996fb92427ae41e4649b934ca495991b7852b855";
@@ -38,7 +53,10 @@ const OF_SHORT_BY_SHA512: &str = "ddaf35a193617abacc417349ae20413112e6fa4e89a97e
     2192992a274fc1a836ba3c23a3feebbd454d4423643ce80e2a9ac94fa54ca49f";
 
 // RFC 4231, section 4.3.
-const TAG: &str = "5bdcc146bf60754e6a042426089575c75a003f089d2739839dec58b964ec3843";
+pub const TAG: &str = "5bdcc146bf60754e6a042426089575c75a003f089d2739839dec58b964ec3843";
+
+// What Python's `hmac` gives for the first 16 bytes of that message.
+const TAG_OF_FRONT: &str = "b4f901c96804e22a9b5e2e9d945c655c01d5987121cec6f55ff5f5beaed22e4f";
 
 // RFC 5869, appendix A.1.
 const SALT: [u8; 13] = [0, 1, 2, 3, 4, 5, 6, 7, 8, 9, 10, 11, 12];
@@ -47,6 +65,19 @@ const INFO: [u8; 10] = [0xf0, 0xf1, 0xf2, 0xf3, 0xf4, 0xf5, 0xf6, 0xf7, 0xf8, 0x
 
 const OUTPUT: &str = "3cb25f25faacd57a90434f64d0362f2a2d2d0a90cf1a5a4c5db02d56ecc4c5bf\
     34007208d5b887185865";
+
+const PSEUDORANDOM_KEY: [u8; 32] = [
+    0x07, 0x77, 0x09, 0x36, 0x2c, 0x2e, 0x32, 0xdf, 0x0d, 0xdc, 0x3f, 0x0d, 0xc4, 0x7b, 0xba, 0x63,
+    0x90, 0xb6, 0xc7, 0x3b, 0xb5, 0x0f, 0x9c, 0x31, 0x22, 0xec, 0x84, 0x4a, 0xd7, 0xc2, 0xb3, 0xe5,
+];
+
+// What HKDF over Python's `hmac` gives where the first 32 bytes of that output are the pseudorandom
+// key, and where they are the salt of the same secret.
+const OUTPUT_OF_NEXT: &str = "6622a6618764bac114afeb820637d4d5d8c2fa73195446a0945eff0bc1dbdff1\
+    657c54c1af64db06f423";
+
+const OUTPUT_OF_NEXT_SALT: &str = "785d9c6ffe2d2e1e4a080eaafd083bd77b3c73849866660da1e4ff06c80b1797\
+    5e1d1c329e48d0162017";
 
 // What Python's `hmac` gives for `hello, world` under the first 32 bytes of that output.
 const TAG_UNDER_OUTPUT: &str = "4534f79f5410c70bd63c9ca503f6ec903cb61876bb1ea1c4d2311f1c9f3e68c0";
@@ -83,6 +114,28 @@ fn basics(rt: HostRuntime) {
 }
 
 #[test]
+fn pairs_and_exclusive_or(rt: HostRuntime) {
+    // All pairs where the lengths agree, and else none.
+    assert!(rt;
+        pairs_of_comparison(b"token", b"Token") == 5 && pairs_of_comparison(b"token", b"toke") == 0
+    );
+    // RFC 2104, section 2: the inner mask of no byte, and of the mask itself.
+    assert!(rt; masked_block(&[0; 64], 0x36) == [0x36; 64]);
+    assert!(rt; masked_block(&[0x36; 64], 0x36) == [0; 64]);
+    assert!(rt; xored(&[0xf0; 32], &[0x3c; 32]) == [0xcc; 32]);
+}
+
+#[test]
+fn lengths_in_bits(rt: HostRuntime) {
+    // FIPS 180-4, 5.1.2: the same message of 24 bits.
+    let field = long_bit_length_field(3);
+    assert!(rt; field == Ok([0, 0, 0, 0, 0, 0, 0, 0, 0, 0, 0, 0, 0, 0, 0, 24]));
+    assert!(rt; long_bit_length_field(1 << 125).is_err());
+    assert!(rt; bytes_for_bits(0) == 0 && bytes_for_bits(24) == 3 && bytes_for_bits(25) == 4);
+    assert!(rt; key_bits(0).is_err() && key_bits(256).is_ok_and(|bits| bits.get() == 256));
+}
+
+#[test]
 fn digests(rt: HostRuntime) -> Result<(), Unspecified> {
     assert!(rt; is_hex_of(OF_SHORT_BY_SHA512, digest_of_whole(SHORT)?.as_ref()));
     assert!(rt; is_hex_of(OF_LONG, digest_of_two(SHORT, LONG_REST)?.as_ref()));
@@ -90,6 +143,24 @@ fn digests(rt: HostRuntime) -> Result<(), Unspecified> {
     assert!(rt; is_hex_of(OF_LONG, list.as_ref()));
     let (front, all) = digests_of_front_and_whole(&SHA256, SHORT, LONG_REST)?;
     assert!(rt; is_hex_of(OF_SHORT, front.as_ref()) && is_hex_of(OF_LONG, all.as_ref()));
+    Ok(())
+}
+
+#[test]
+fn digests_and_lengths(rt: HostRuntime) -> Result<(), Unspecified> {
+    // The padded message of 56 bytes is two blocks.
+    let (list, blocks) = digest_and_blocks(&SHA256, &[SHORT, &[], LONG_REST])?;
+    assert!(rt; is_hex_of(OF_LONG, list.as_ref()) && blocks == 2);
+    let mut context = Context::new(&SHA256);
+    context.update(SHORT);
+    let mut out = [0; MAX_OUTPUT_LEN];
+    assert!(rt; finish_into(context, &mut out)? == 32 && is_hex_of(OF_SHORT, &out[..32]));
+    assert!(rt; &out[32..] == [0; 32].as_slice());
+    let again = digest_again(&ring::digest::digest(&SHA256, SHORT)?)?;
+    assert!(rt; is_hex_of(OF_DIGEST, again.as_ref()));
+    // FIPS 180-4, section 1, figure 1: below 2^64 and below 2^128 bits.
+    assert!(rt; lengths_of(&SHA256) == (64, 32, 32, (1 << 61) - 1));
+    assert!(rt; lengths_of(&SHA512) == (128, 64, 64, (1 << 125) - 1));
     Ok(())
 }
 
@@ -112,6 +183,17 @@ fn tags(rt: HostRuntime) -> Result<(), Unspecified> {
 }
 
 #[test]
+fn tags_midway(rt: HostRuntime) -> Result<(), Unspecified> {
+    let (key, other) = key_for_both(&Key::new(HMAC_SHA256, b"Jefe")?);
+    let (front, all) = tags_of_front_and_whole(&key, b"what do ya want ", b"for nothing?")?;
+    assert!(rt; is_hex_of(TAG_OF_FRONT, front.as_ref()) && is_hex_of(TAG, all.as_ref()));
+    let same = sign(&other, b"what do ya want for nothing?")?;
+    assert!(rt; is_hex_of(TAG, same.as_ref()));
+    assert!(rt; tag_len(&key) == 32 && tag_len(&Key::new(HMAC_SHA384, b"Jefe")?) == 48);
+    Ok(())
+}
+
+#[test]
 fn blocks_of_a_tag(rt: HostRuntime) -> Result<(), Unspecified> {
     let mut meter = Meter::new();
     let key = Key::new(HMAC_SHA256, b"Jefe")?;
@@ -126,6 +208,37 @@ fn outputs(rt: HostRuntime) -> Result<(), Unspecified> {
     expand_secret(&SALT, &[0x0b; 22], &[&INFO], &mut output)?;
     assert!(rt; is_hex_of(OUTPUT, &output));
     let tag = tag_under_output(&SALT, &[0x0b; 22], &[&INFO], b"hello, world")?;
+    assert!(rt; is_hex_of(TAG_UNDER_OUTPUT, tag.as_ref()));
+    Ok(())
+}
+
+#[test]
+fn chains_of_keys(rt: HostRuntime) -> Result<(), Unspecified> {
+    let mut output = [0; 42];
+    expand_stored(&PSEUDORANDOM_KEY, &[&INFO], &mut output)?;
+    assert!(rt; is_hex_of(OUTPUT, &output));
+    let stored = Prk::new_less_safe(HKDF_SHA256, &PSEUDORANDOM_KEY)?;
+    assert!(rt; asked_len(&stored, &[&INFO], 8_160)? == 8_160);
+    assert!(rt; asked_len(&stored, &[&INFO], 8_161).is_err());
+    let (current, next) = current_and_next(&stored, &[&INFO])?;
+    current.expand(&[&INFO], Length(42))?.fill(&mut output)?;
+    assert!(rt; is_hex_of(OUTPUT, &output));
+    next.expand(&[&INFO], Length(42))?.fill(&mut output)?;
+    assert!(rt; is_hex_of(OUTPUT_OF_NEXT, &output));
+    next_key(&stored, &[&INFO])?
+        .expand(&[&INFO], Length(42))?
+        .fill(&mut output)?;
+    assert!(rt; is_hex_of(OUTPUT_OF_NEXT, &output));
+    let salted = next_salt(&stored, &[&INFO])?.extract(&[0x0b; 22])?;
+    salted.expand(&[&INFO], Length(42))?.fill(&mut output)?;
+    assert!(rt; is_hex_of(OUTPUT_OF_NEXT_SALT, &output));
+    Ok(())
+}
+
+#[test]
+fn keys_under_a_salt(rt: HostRuntime) -> Result<(), Unspecified> {
+    let key = key_under_salt(&Salt::new(HKDF_SHA256, &SALT)?, &[0x0b; 22], &[&INFO])?;
+    let tag = sign(&key, b"hello, world")?;
     assert!(rt; is_hex_of(TAG_UNDER_OUTPUT, tag.as_ref()));
     Ok(())
 }

@@ -24,6 +24,8 @@ mod long_lengths;
 #[cfg(test)]
 mod messages;
 #[cfg(test)]
+mod more_callers;
+#[cfg(test)]
 mod pbkdf2;
 #[cfg(test)]
 mod pbkdf2_each;

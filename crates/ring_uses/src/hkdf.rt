@@ -1,9 +1,10 @@
 //! Keys from secrets.
 
-ghost use Rattle.std.specs.Prelude.{◌≡◌, ◌↔◌, ◌≤◌, ℕ, List, length, IfOk, IsOk, OnErr, OnOk};
-ghost use Rattle.ring.specs.Algorithm.{max_input_len};
-ghost use Rattle.ring.specs.Hkdf.{PrkStandsFor, SaltStandsFor, okm, prk_algorithm};
-ghost use Rattle.ring.specs.Hmac.{IsTag, hmac_of};
+ghost use Rattle.std.specs.Prelude.{◌≡◌, ◌↔◌, ◌*◌, ◌<◌, ◌≤◌, ℕ, List, length};
+ghost use Rattle.std.specs.Prelude.{IfOk, IsErr, IsOk, OnErr, OnOk};
+ghost use Rattle.ring.specs.Algorithm.{max_input_len, output_len};
+ghost use Rattle.ring.specs.Hkdf.{PrkStandsFor, SaltStandsFor, okm, prk_algorithm, salt_algorithm};
+ghost use Rattle.ring.specs.Hmac.{IsTag, KeyStandsFor, hmac_of, key_algorithm};
 ghost use Rattle.ring.specs.Limits.{IsInfoWithin, IsOutputWithin, IsTagWithin};
 ghost use Rattle.ring.specs.Pieces.{joined};
 
@@ -97,4 +98,35 @@ pub fn next_salt(current: &Prk, info: &[&[u8]]) -> Result<Salt, Unspecified>
         SaltStandsFor salt (okm (prk_algorithm current.now) k (joined info.now) 32)) }
 {
     Salt::try_from(current.expand(info, HKDF_SHA256)?)
+}
+
+/// A key for tags by the salt's own algorithm, made of output for what `info` tells.
+pub fn key_under_salt(salt: &Salt, secret: &[u8], info: &[&[u8]]) -> Result<Key, Unspecified>
+    ensures ok { (s : List ℕ) → SaltStandsFor salt.now s → IfOk result (λ key.
+        KeyStandsFor key (okm (salt_algorithm salt.now)
+        (hmac_of (salt_algorithm salt.now) s secret.now) (joined info.now)
+        (output_len (salt_algorithm salt.now)))) }
+    ensures algorithm { IfOk result (λ key. key_algorithm key ≡ salt_algorithm salt.now) }
+{
+    let prk = salt.extract(secret)?;
+    let asked = prk.expand(info, salt.algorithm().hmac_algorithm())?;
+    Key::try_from(asked)
+}
+
+/// The current pseudorandom key of a chain and the next one, each to be kept.
+pub fn current_and_next(current: &Prk, info: &[&[u8]]) -> Result<(Prk, Prk), Unspecified>
+    ensures current { IfOk result (λ both. both.0 ≡ current.now) }
+    ensures next { (k : List ℕ) → PrkStandsFor current.now k → IfOk result (λ both.
+        PrkStandsFor both.1 (okm (prk_algorithm current.now) k (joined info.now) 32)) }
+{
+    let next = next_key(current, info)?;
+    Ok((current.clone(), next))
+}
+
+/// How many bytes an output has that was asked for: refused where 255 digests have fewer.
+pub fn asked_len(prk: &Prk, info: &[&[u8]], len: usize) -> Result<usize, Unspecified>
+    ensures ok { IfOk result (λ asked. asked ≡ len) }
+    ensures refused { IsErr result ↔ (255 * output_len (prk_algorithm prk.now) < len) }
+{
+    Ok(prk.expand(info, Length(len))?.len().0)
 }

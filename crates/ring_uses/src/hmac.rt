@@ -2,7 +2,7 @@
 
 ghost use Rattle.std.specs.Prelude.{◌≡◌, ◌↔◌, ◌⊎◌, ◌+◌, ◌<◌, ◌≤◌, ◌++◌};
 ghost use Rattle.std.specs.Prelude.{ℕ, List, length, IfOk, IsErr, IsOk, OnErr, OnOk};
-ghost use Rattle.ring.specs.Algorithm.{block_len, max_input_len};
+ghost use Rattle.ring.specs.Algorithm.{block_len, max_input_len, output_len};
 ghost use Rattle.ring.specs.Cost.{padded_blocks, raised};
 ghost use Rattle.ring.specs.Hmac.{IsTag, KeyStandsFor, hmac_of, key_algorithm};
 ghost use Rattle.ring.specs.Limits.{IsTagWithin};
@@ -53,4 +53,38 @@ pub fn tag_counted(
         (key_algorithm key.now) (length (first.now ++ second.now)) + 1) 0) }
 {
     sign_pieces(key, &[first, second], meter)
+}
+
+/// The tag of a front of a message, and that of the whole: a copy of the context is signed midway,
+/// and the context itself goes on.
+pub fn tags_of_front_and_whole(
+    key: &Key,
+    front: &[u8],
+    rest: &[u8],
+) -> Result<(Tag, Tag), Unspecified>
+    ensures front { (k : List ℕ) → KeyStandsFor key.now k
+        → IfOk result (λ tags. IsTag tags.0 (key_algorithm key.now) k front.now) }
+    ensures whole { (k : List ℕ) → KeyStandsFor key.now k
+        → IfOk result (λ tags. IsTag tags.1 (key_algorithm key.now) k (front.now ++ rest.now)) }
+{
+    let mut context = Context::with_key(key);
+    context.update(front);
+    let of_front = context.clone().sign()?;
+    context.update(rest);
+    let of_whole = context.sign()?;
+    Ok((of_front, of_whole))
+}
+
+/// A sender and a receiver with the same key, each with a key of its own.
+pub fn key_for_both(key: &Key) -> (Key, Key)
+    ensures { result ≡ (key.now, key.now) }
+{
+    (key.clone(), key.clone())
+}
+
+/// How many bytes a tag under this key has.
+pub fn tag_len(key: &Key) -> usize
+    ensures { result ≡ output_len (key_algorithm key.now) }
+{
+    key.algorithm().digest_algorithm().output_len()
 }

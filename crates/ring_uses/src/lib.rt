@@ -2,14 +2,17 @@
 //! alone. README's first use and the examples of the libraries' pages are taken from here.
 #![tactic(auto)]
 
+pub mod accounts;
 pub mod basics;
 pub mod digest;
 pub mod hkdf;
 pub mod hmac;
+pub mod laws;
 pub mod pbkdf2;
 pub mod pieces;
 pub mod rand;
 pub mod raw;
 pub mod several;
+pub mod states;
 pub mod store;
 pub mod token;

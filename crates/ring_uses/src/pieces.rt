@@ -1,13 +1,16 @@
 //! Digests of messages that are whole, or come in more than two pieces.
 
-ghost use Rattle.std.specs.Prelude.{◌≡◌, ◌↔◌, ◌<◌, ◌++◌, length, IfOk, IsErr};
-ghost use Rattle.ring.specs.Algorithm.{max_input_len};
+ghost use Rattle.std.specs.Prelude.{◌≡◌, ◌↔◌, ◌<◌, ◌++◌, ℕ, List, length, take};
+ghost use Rattle.std.specs.Prelude.{IfOk, IsErr, OnErr, OnOk};
+ghost use Rattle.ring.specs.Algorithm.{block_len, chaining_len, max_input_len, output_len};
+ghost use Rattle.ring.specs.Context.{StandsFor, context_algorithm};
 ghost use Rattle.ring.specs.Cost.{padded_blocks};
-ghost use Rattle.ring.specs.Digest.{IsDigest};
+ghost use Rattle.ring.specs.Digest.{IsDigest, digest_of};
 ghost use Rattle.ring.specs.Pieces.{joined};
+ghost use Rattle.ring.specs.declared.digest.algorithm.Algorithm as digest;
 
 use ring::cost::Meter;
-use ring::digest::{Algorithm, Context, Digest, SHA512, digest};
+use ring::digest::{Algorithm, Context, Digest, MAX_OUTPUT_LEN, SHA512, digest};
 use ring::error::Unspecified;
 use ring::laws::digest_pieces;
 
@@ -65,4 +68,47 @@ pub fn digest_and_blocks(
     let mut meter = Meter::new();
     let digest = digest_pieces(algorithm, pieces, &mut meter)?;
     Ok((digest, meter.blocks()))
+}
+
+/// Writes the digest of what `context` stands for to the front of `out`, and returns how many bytes
+/// it has.
+pub fn finish_into(context: Context, out: &mut [u8; MAX_OUTPUT_LEN]) -> Result<usize, Unspecified>
+    ensures ok { (m : List ℕ) → StandsFor context m → OnOk result
+        (take (output_len (context_algorithm context)) out.new
+        ≡ digest_of (context_algorithm context) m) }
+    ensures len { IfOk result (λ len. len ≡ output_len (context_algorithm context)) }
+    ensures refused { (m : List ℕ) → StandsFor context m
+        → IsErr result ↔ (max_input_len (context_algorithm context) < length m) }
+    ensures unchanged { OnErr result (out.new ≡ out.old) }
+{
+    let len = context.algorithm().output_len();
+    let digest = context.finish()?;
+    out[..len].copy_from_slice(digest.as_ref());
+    Ok(len)
+}
+
+/// The digest of a digest, by the algorithm that made it.
+pub fn digest_again(first: &Digest) -> Result<Digest, Unspecified>
+    ensures ok { (a : digest.Algorithm) (m : List ℕ) → IsDigest first.now a m
+        → IfOk result (λ second. IsDigest second a (digest_of a m)) }
+{
+    digest(&first.algorithm(), first.as_ref())
+}
+
+/// The lengths of an algorithm in bytes: of a block, of the chaining words, of a digest, and of the
+/// longest message.
+pub fn lengths_of(algorithm: &Algorithm) -> (usize, usize, usize, u128)
+    ensures { result ≡ (
+      block_len algorithm.now,
+      chaining_len algorithm.now,
+      output_len algorithm.now,
+      max_input_len algorithm.now,
+    ) }
+{
+    (
+        algorithm.block_len(),
+        algorithm.chaining_len(),
+        algorithm.output_len(),
+        algorithm.max_input_len(),
+    )
 }

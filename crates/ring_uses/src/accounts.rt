@@ -1,0 +1,71 @@
+//! The accounts of a service: registering, asking for more iterations, and lists of calls.
+
+ghost use Rattle.std.specs.Prelude.{◌≡◌, ◌↔◌, ◌⊎◌, [], ◌∷◌, Ok, true, false};
+ghost use Rattle.std.specs.Prelude.{IfOk, IsErrOf, IsTrue, OnErr};
+ghost use Rattle.ring_store.specs.Command.{IsRun};
+ghost use Rattle.ring_store.specs.Store.{knows, with_password};
+ghost use Rattle.ring_store.specs.Token.{checked, token_key};
+ghost use Rattle.ring_store.specs.declared.command.Command.TheVariants as command;
+
+use ring_store::{Command, PasswordStore, Reply, StoreError, TokenError, TokenMaker};
+use std::num::NonZeroU32;
+
+/// Whether a name has a record.
+pub fn is_registered(store: &PasswordStore, name: &[u8]) -> bool
+    ensures { IsTrue result ↔ (knows store.now name.now ≡ true) }
+{
+    store.iterations_of(name).is_some()
+}
+
+/// Sets the password of a name that has none, and answers whether it had none.
+///
+/// A name that has a record keeps it.
+pub fn register(store: &mut PasswordStore, name: &[u8], password: &[u8]) -> Result<bool, StoreError>
+    ensures known { knows store.old name.now ≡ true
+        → (result ≡ Ok false) × (store.new ≡ store.old) }
+    ensures ok { IfOk result (λ is_new. IsTrue is_new
+        → store.new ≡ with_password store.old name.now password.now) }
+    ensures unchanged { OnErr result (store.new ≡ store.old) }
+{
+    if is_registered(store, name) {
+        return Ok(false);
+    }
+    store.set_password(name, password)?;
+    Ok(true)
+}
+
+/// Asks for more iterations, and makes the record of one name with these.
+pub fn strengthen<'a>(
+    store: &mut PasswordStore,
+    iterations: NonZeroU32,
+    name: &'a [u8],
+    password: &'a [u8],
+) -> [Reply; 2]
+    ensures { IsRun store.old
+        (command.SetIterations iterations ∷ command.VerifyPassword name.entry password.entry ∷ [])
+        result store.new }
+{
+    let mut replies = [Reply::Done; 2];
+    let commands = [
+        Command::SetIterations(iterations),
+        Command::VerifyPassword(name, password),
+    ];
+    store.run(&commands, &mut replies);
+    replies
+}
+
+/// Tests a token of a user and an expiry at the time `now`, under the key that is made of a master
+/// secret and a salt.
+pub fn passes(
+    master: &[u8],
+    salt: &[u8],
+    user: &[u8],
+    expiry: u64,
+    now: u64,
+    token: &[u8],
+) -> Result<(), TokenError>
+    ensures { IsErrOf result TokenError.TooLong ⊎ (result
+        ≡ checked (token_key master.now salt.now) user.now expiry now token.now) }
+{
+    TokenMaker::new(master, salt)?.check(user, expiry, now, token)
+}

@@ -1,0 +1,82 @@
+//! Callers whose proofs use a law: the call of a law gives them its clause.
+
+ghost use Rattle.std.specs.Prelude.{◌≡◌, ◌↔◌, ℕ, List, IfOk, IsTrue, replicate, take};
+ghost use Rattle.ring.specs.Hkdf.{PrkStandsFor};
+ghost use Rattle.ring.specs.Hmac.{hmac_of};
+ghost use Rattle.ring.specs.Limits.{IsOutputWithin};
+
+use crate::basics::pairs_of_comparison;
+use crate::hkdf::Length;
+use ring::digest::{SHA1_FOR_LEGACY_USE_ONLY, SHA256, SHA384, SHA512};
+use ring::error::Unspecified;
+use ring::hkdf::{HKDF_SHA256, Prk, Salt};
+use ring::laws::{
+    comparison_is_symmetric, empty_salt_extracts_as_zeros, limits_of_sha1, limits_of_sha256,
+    limits_of_sha384, limits_of_sha512, shorter_derivation_is_a_front, shorter_output_is_a_front,
+};
+use ring::pbkdf2::{PBKDF2_HMAC_SHA256, derive};
+use std::num::NonZeroU32;
+
+/// Whether so many bytes of output can be asked for by each of HKDF's four algorithms: the limit of
+/// SHA-1 is the lowest.
+pub fn can_ask_all(len: usize) -> bool
+    ensures { IsTrue result ↔ (IsOutputWithin SHA1_FOR_LEGACY_USE_ONLY len
+        × IsOutputWithin SHA256 len × IsOutputWithin SHA384 len × IsOutputWithin SHA512 len) }
+{
+    limits_of_sha1();
+    limits_of_sha256();
+    limits_of_sha384();
+    limits_of_sha512();
+    len <= 5_100
+}
+
+/// The pseudorandom key of a secret without a salt: that of a salt of 32 zeros.
+pub fn extract_without_salt(secret: &[u8]) -> Result<Prk, Unspecified>
+    ensures ok { IfOk result (λ prk.
+        PrkStandsFor prk (hmac_of SHA256 (replicate 32 0) secret.now)) }
+{
+    empty_salt_extracts_as_zeros();
+    Salt::new(HKDF_SHA256, &[])?.extract(secret)
+}
+
+/// An output of 64 bytes and one of 32 for the same info: the second is the front of the first, so
+/// they are no two keys.
+pub fn long_and_short_output(prk: &Prk, info: &[&[u8]]) -> Result<([u8; 64], [u8; 32]), Unspecified>
+    ensures front { (k : List ℕ) → PrkStandsFor prk.now k
+        → IfOk result (λ both. both.1 ≡ take 32 both.0) }
+{
+    shorter_output_is_a_front();
+    let mut long = [0; 64];
+    prk.expand(info, Length(64))?.fill(&mut long)?;
+    let mut short = [0; 32];
+    prk.expand(info, Length(32))?.fill(&mut short)?;
+    Ok((long, short))
+}
+
+/// A key of 64 bytes and one of 32 of the same password: the second is the front of the first.
+pub fn long_and_short_key(
+    iterations: NonZeroU32,
+    salt: &[u8],
+    password: &[u8],
+) -> Result<([u8; 64], [u8; 32]), Unspecified>
+    ensures front { IfOk result (λ both. both.1 ≡ take 32 both.0) }
+{
+    shorter_derivation_is_a_front();
+    let mut long = [0; 64];
+    derive(PBKDF2_HMAC_SHA256, iterations, salt, password, &mut long)?;
+    let mut short = [0; 32];
+    derive(PBKDF2_HMAC_SHA256, iterations, salt, password, &mut short)?;
+    Ok((long, short))
+}
+
+/// How many pairs of bytes are read where two tokens are compared, and where they change places: as
+/// many.
+pub fn pairs_both_ways(first: &[u8], second: &[u8]) -> (u128, u128)
+    ensures { result.0 ≡ result.1 }
+{
+    comparison_is_symmetric();
+    (
+        pairs_of_comparison(first, second),
+        pairs_of_comparison(second, first),
+    )
+}

@@ -7,7 +7,7 @@
 # rule dist-WORD that puts it into DIST; for a Debian package a file debian/NAME.control, and a rule
 # that fills WORK/NAME with what is installed, and then calls `deb`.
 
-PACKAGES = tarball deb-libyezdopin$(MAJOR) deb-libyezdopin-dev wheel crate
+PACKAGES = tarball deb-libyezdopin$(MAJOR) deb-libyezdopin-dev wheel crate $(PROVIDER_PACKAGE)
 
 DIST = $(WHOLE_OUT)/dist
 WORK = $(DIST).work

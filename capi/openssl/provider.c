@@ -78,13 +78,6 @@ static void tear_down(void *self)
     OPENSSL_free(ending);
 }
 
-/* Whether the processor has the instructions of x86-64-v2, for which the library is compiled. */
-static int processor_serves(void)
-{
-    return __builtin_cpu_supports("ssse3") && __builtin_cpu_supports("sse4.2")
-           && __builtin_cpu_supports("popcnt");
-}
-
 static provider *make_provider(const OSSL_CORE_HANDLE *core, const OSSL_DISPATCH *in)
 {
     provider *made = OPENSSL_zalloc(sizeof *made);
@@ -105,8 +98,8 @@ static provider *make_provider(const OSSL_CORE_HANDLE *core, const OSSL_DISPATCH
     return NULL;
 }
 
-/* OpenSSL calls this when it loads the module. A refusal leaves the application with the other
- * providers. */
+/* OpenSSL calls this when it loads the module. On a processor for which the library isn't compiled it
+ * refuses, which leaves the application with the other providers. */
 OSSL_provider_init_fn OSSL_provider_init;
 int OSSL_provider_init(const OSSL_CORE_HANDLE *core, const OSSL_DISPATCH *in,
                        const OSSL_DISPATCH **out, void **self)
@@ -118,7 +111,7 @@ int OSSL_provider_init(const OSSL_CORE_HANDLE *core, const OSSL_DISPATCH *in,
         ENTRY(PROVIDER_QUERY_OPERATION, provider_query_operation, query),
         LAST_ENTRY,
     };
-    provider *made = processor_serves() ? make_provider(core, in) : NULL;
+    provider *made = yz_supported() ? make_provider(core, in) : NULL;
     if (made == NULL) return 0;
     *out = calls;
     *self = made;

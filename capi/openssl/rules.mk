@@ -5,10 +5,11 @@
 #
 # It needs OpenSSL 3's headers (Debian: libssl-dev).
 
+PROVIDER_DEB = openssl-provider-yezdopin
 PKG_CONFIG ?= pkg-config
 # OpenSSL's own folder of modules, from which `module = yezdopin.so` is loaded by its name alone.
 MODULESDIR ?= $(shell $(PKG_CONFIG) --variable=modulesdir libcrypto)
-PROVIDER_DOCDIR ?= $(PREFIX)/share/doc/yezdopin-openssl
+PROVIDER_DOCDIR ?= $(PREFIX)/share/doc/$(PROVIDER_DEB)
 
 PROVIDER = $(OUT)/openssl/yezdopin.so
 COUNTED = $(OUT)/openssl/counted/yezdopin.so
@@ -26,7 +27,8 @@ openssl: $(PROVIDER)
 
 $(PROVIDER): $(PROVIDER_NEEDS)
 	mkdir -p $(@D)
-	$(CC) $(CFLAGS) $(STRICT) -fPIC $(PROVIDER_SOURCES) $(LDFLAGS) $(PROVIDER_LINKS) -o $@
+	$(CC) $(CFLAGS) -ffile-prefix-map='$(CURDIR)'=. $(STRICT) -fPIC $(PROVIDER_SOURCES) $(LDFLAGS) \
+	    $(PROVIDER_LINKS) -o $@
 
 $(COUNTED): $(PROVIDER_NEEDS) openssl/test/count.c
 	mkdir -p $(@D)
@@ -105,6 +107,13 @@ openssl-exports: $(PROVIDER)
 	    'libc.so.6 libcrypto.so.3'
 	test "$$(objdump -T $< | grep -o 'OPENSSL_[0-9.]*' | sort -u | xargs)" = OPENSSL_3.0.0
 
+# The time of each kind of work beside the default provider's, with the instructions that OpenSSL
+# finds, and then without SSSE3, AVX, AVX2 and SHA instructions.
+openssl-bench: $(PROVIDER) openssl/bench.c
+	$(CC) -O2 $(STRICT) openssl/bench.c $(ARCHIVE) -lcrypto -o $(OUT)/openssl/bench
+	@$(OUT)/openssl/bench $(<D)
+	@OPENSSL_ia32cap='~0x1000020000000000:~0x20000020' $(OUT)/openssl/bench $(<D)
+
 # What is installed, by a copy of the configuration beside it.
 PROVIDER_ROOT = $(OUT)/openssl/root
 openssl-installed: $(PROVIDER)
@@ -127,6 +136,19 @@ openssl-uninstall:
 	rm -f "$(DESTDIR)$(MODULESDIR)/yezdopin.so"
 	rm -rf "$(DESTDIR)$(PROVIDER_DOCDIR)"
 
+# The Debian package, one word of PACKAGES in dist/dist.mk where OpenSSL's headers are. It has the
+# configuration as documentation, and switches nothing on.
+PROVIDER_PACKAGE = $(shell echo '\#include <openssl/core_dispatch.h>' | $(CC) -E - >/dev/null 2>&1 \
+    && echo deb-$(PROVIDER_DEB))
+dist-deb-$(PROVIDER_DEB): $(PROVIDER)
+	rm -rf "$(WORK)/$(PROVIDER_DEB)"
+	$(MAKE) -s --no-print-directory -o $(BUILT) openssl-install DESTDIR="$(WORK)/$(PROVIDER_DEB)" \
+	    MODULESDIR=$(DPKG_LIBDIR)/ossl-modules PROVIDER_DOCDIR=/usr/share/doc/$(PROVIDER_DEB)
+	strip --strip-unneeded --remove-section=.comment \
+	    "$(WORK)/$(PROVIDER_DEB)$(DPKG_LIBDIR)/ossl-modules/yezdopin.so"
+	rm "$(WORK)/$(PROVIDER_DEB)/usr/share/doc/$(PROVIDER_DEB)/LICENSE"
+	$(call deb,$(PROVIDER_DEB))
+
 .PHONY: openssl openssl-check openssl-agree openssl-orders openssl-memory openssl-wiped \
-    openssl-sanitized openssl-valgrind openssl-programs openssl-exports openssl-installed \
+    openssl-sanitized openssl-valgrind openssl-programs openssl-exports openssl-installed openssl-bench \
     openssl-install openssl-uninstall

@@ -8,7 +8,7 @@ use ring::error::Unspecified;
 use ring::hkdf::{HKDF_SHA256, Prk};
 use ring::hmac::{HMAC_SHA256, Key};
 use ring_store::{PasswordStore, Reply, StoreError, TokenError, TokenMaker};
-use ring_uses::accounts::{is_registered, passes, register, strengthen};
+use ring_uses::accounts::{is_registered, passes, register, store_of_one, strengthen};
 use ring_uses::hkdf::Length;
 use ring_uses::laws::{
     can_ask_all, extract_without_salt, long_and_short_key, long_and_short_output, pairs_both_ways,
@@ -21,7 +21,19 @@ use ring_uses::states::{bytes_of_long, bytes_of_short, words_after_block};
 use std::num::{NonZeroU32, Wrapping};
 use std::test::Fail;
 
-// FIPS 180-4: the first two initial words of SHA-256 (5.3.3), and the first of SHA-512 (5.3.5).
+// FIPS 180-4, 5.3.3: the initial words of SHA-256.
+const INITIAL_WORDS: [Wrapping<u32>; 8] = [
+    Wrapping(0x6a09e667),
+    Wrapping(0xbb67ae85),
+    Wrapping(0x3c6ef372),
+    Wrapping(0xa54ff53a),
+    Wrapping(0x510e527f),
+    Wrapping(0x9b05688c),
+    Wrapping(0x1f83d9ab),
+    Wrapping(0x5be0cd19),
+];
+
+// The bytes of the first two of these, and of the first initial word of SHA-512 (5.3.5).
 const FIRST_SHORT: [u8; 8] = [0x6a, 0x09, 0xe6, 0x67, 0xbb, 0x67, 0xae, 0x85];
 
 const FIRST_LONG: [u8; 8] = [0x6a, 0x09, 0xe6, 0x67, 0xf3, 0xbc, 0xc9, 0x08];
@@ -83,28 +95,26 @@ fn algorithms_by_number(rt: HostRuntime) -> Result<(), Unspecified> {
 
 #[test]
 fn chaining_words(rt: HostRuntime) {
-    // FIPS 180-4, 5.3.3.
-    let words = [
-        Wrapping(0x6a09e667),
-        Wrapping(0xbb67ae85),
-        Wrapping(0x3c6ef372),
-        Wrapping(0xa54ff53a),
-        Wrapping(0x510e527f),
-        Wrapping(0x9b05688c),
-        Wrapping(0x1f83d9ab),
-        Wrapping(0x5be0cd19),
-    ];
-    let bytes = bytes_of_short(words);
+    let bytes = bytes_of_short(INITIAL_WORDS);
     assert!(rt; &bytes[..8] == FIRST_SHORT.as_slice() && &bytes[32..] == [0; 32].as_slice());
     let long = bytes_of_long([Wrapping(0x6a09e667f3bcc908); 8]);
     assert!(rt; &long[56..] == FIRST_LONG.as_slice());
-    // FIPS 180-4, 5.1.1: the padding of the short message, of 24 bits.
+}
+
+// FIPS 180-4, 5.1.1: the short message with its padding, of 24 bits.
+fn padded_short() -> [u8; 64] {
     let mut block = [0; 64];
     block[..3].copy_from_slice(SHORT);
     block[3] = 0x80;
     block[63] = 24;
-    let last = bytes_of_short(words_after_block(&words, &block));
-    assert!(rt; is_hex_of(OF_SHORT, &last[..32]));
+    block
+}
+
+#[test]
+fn a_block_of_words(rt: HostRuntime) {
+    let last = bytes_of_short(words_after_block(&INITIAL_WORDS, &padded_short()));
+    let (digest, rest) = last.split_at(32);
+    assert!(rt; is_hex_of(OF_SHORT, digest) && rest == [0; 32].as_slice());
 }
 
 #[test]
@@ -138,7 +148,9 @@ fn accounts(rt: HostRuntime) -> Result<(), Fail> {
     assert!(rt; replies == [Reply::Done, refused]);
     let replies = strengthen(&mut store, two, b"alice", b"correct horse");
     assert!(rt; replies == [Reply::Done; 2] && store.iterations_of(b"alice") == Some(two));
-    Ok(())
+    let mut other = store_of_one(rt.alloc(), [7; 16], two, b"alice", b"correct horse")?;
+    assert!(rt; other.iterations_of(b"alice") == Some(two));
+    Ok(other.verify_password(b"alice", b"correct horse")?)
 }
 
 #[test]

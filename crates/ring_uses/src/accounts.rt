@@ -3,12 +3,29 @@
 ghost use Rattle.std.specs.Prelude.{◌≡◌, ◌↔◌, ◌⊎◌, [], ◌∷◌, Ok, true, false};
 ghost use Rattle.std.specs.Prelude.{IfOk, IsErrOf, IsTrue, OnErr};
 ghost use Rattle.ring_store.specs.Command.{IsRun};
-ghost use Rattle.ring_store.specs.Store.{knows, with_password};
+ghost use Rattle.ring_store.specs.Store.{knows, new_store, with_password};
 ghost use Rattle.ring_store.specs.Token.{checked, token_key};
 ghost use Rattle.ring_store.specs.declared.command.Command.TheVariants as command;
 
 use ring_store::{Command, PasswordStore, Reply, StoreError, TokenError, TokenMaker};
+use std::alloc::Allocator;
 use std::num::NonZeroU32;
+
+/// A store with one account, whose records stand in memory of `alloc`.
+pub fn store_of_one<A: Allocator + Copy>(
+    alloc: A,
+    db_salt: [u8; 16],
+    iterations: NonZeroU32,
+    name: &[u8],
+    password: &[u8],
+) -> Result<PasswordStore<A>, StoreError>
+    ensures { IfOk result (λ store. store
+        ≡ with_password (new_store db_salt iterations) name.now password.now) }
+{
+    let mut store = PasswordStore::new_in(alloc, db_salt, iterations);
+    store.set_password(name, password)?;
+    Ok(store)
+}
 
 /// Whether a name has a record.
 pub fn is_registered(store: &PasswordStore, name: &[u8]) -> bool

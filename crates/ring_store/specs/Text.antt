@@ -55,8 +55,7 @@ pub record IsHead (db_salt : List ℕ) (c : NonZeroU32) : Type 0 where
   pub salt_bytes : IsBytes db_salt
   pub iterations : IsCount c
 
--- what every store is that calls made: its salt and counts have their types, and the calls that
--- keep a record refuse other names
+-- the salt, the counts and the records of a store are of their types, and its names are admitted
 pub record IsStore {Z : Type 0} (s : PasswordStore Z) : Type 0 where
   pub head : IsHead s.db_salt s.iterations
   pub entries : All IsEntry (table.entries s.records)

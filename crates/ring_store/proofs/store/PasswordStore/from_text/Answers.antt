@@ -1,18 +1,17 @@
-use Rattle.std.proofs.Common.{◌≡◌, ℕ, ◌<◌, List, [], ◌∷◌, ◌++◌, length, All, sym, ap, subst, ◌∙◌}
-use Rattle.std.proofs.Common.{arith, append_assoc}
+use Rattle.std.proofs.Common.{◌≡◌, ℕ, ◌<◌, List, ◌++◌, length, All, sym, ap, subst, ◌∙◌}
+use Rattle.std.proofs.Common.{arith}
 use Rattle.std.specs.Prelude.{Err}
 use Rattle.std.specs.FinMap as table
 use Rattle.std.proofs.lemmas.Bool.Decides.{nat_tests}
 use Rattle.std.proofs.lemmas.List.Elements.{All-nil, All-push}
 use Rattle.std.proofs.lemmas.Result.{err_from_is_err_and}
 use Rattle.ring_store.specs.Records.{IsBehind}
-use Rattle.ring_store.specs.Text.{IsEntry, head_then, lines_of, record_then}
+use Rattle.ring_store.specs.Text.{IsEntry, head_then, lines_of}
 use Rattle.ring_store.specs.declared.error.LoadError.TheVariants.{BadText}
 use Rattle.ring_store.specs.declared.records.Record.{Record}
 use Rattle.ring_store.proofs.Entries.{entries-empty, entries-insert_last}
 use Rattle.ring_store.proofs.Stores.{behind_read, no_bad_line, one_more_read}
-use Rattle.ring_store.proofs.Texts.{lines_of-append, record_then-append, record_then-grows}
-use Rattle.ring_store.proofs.Texts.{record_then-injective}
+use Rattle.ring_store.proofs.Texts.{record_then-grows}
 use Rattle.ring_store.proofs.store.PasswordStore.from_text.Goals as goal
 
 pub loop-rest-init : goal.loop-rest-init

@@ -10,21 +10,21 @@ use crate::digest::context::Context;
 use crate::raw::number::{digest_of_number, number_of_digest};
 use crate::raw::words::{block_of, halves, joined, numbers_of_block};
 
-/// A digest's context.
+/// The numbers of a digest's context.
 #[repr(C)]
 #[derive(Clone, Copy)]
 pub struct RawContext {
     /// The algorithm's number.
     pub algorithm: u32,
-    /// How many of the pending bytes count.
+    /// The number of pending bytes.
     pub num_pending: u32,
-    /// The bytes of the blocks that were run: the lower 64 bits of their count.
+    /// The lower 64 bits of the number of bytes in the blocks that were run.
     pub completed_low: u64,
-    /// The upper 64 bits of that count, which is cut off at `u128::MAX`.
+    /// The upper 64 bits of that number, which stops at `u128::MAX`.
     pub completed_high: u64,
     /// The chaining words.
     pub words: [u64; 8],
-    /// The bytes that wait for their block to be full, and any bytes behind them.
+    /// The pending bytes, of a block that is not complete, and any bytes after them.
     pub pending: [u8; MAX_BLOCK_LEN],
 }
 
@@ -32,7 +32,7 @@ impl RawContext {
     ghost use Rattle.ring.specs.Raw.{IsNoContext, RawStandsFor, digest_named};
     ghost use Rattle.ring.specs.Raw.{named_block_len, raw_message_len};
 
-    /// The numbers of a context.
+    /// The numbers of `context`.
     #[tactic(auto, unfolding(crate::specs::Raw::RawStandsFor))]
     pub fn new(context: &Context) -> Self
         ensures { (m : List ℕ) → StandsFor context.now m
@@ -49,8 +49,8 @@ impl RawContext {
         }
     }
 
-    /// Adds `input` to the message where that leaves the pending block short, which takes less than
-    /// a context that is made and read again: true where it did, and else nothing was changed.
+    /// Adds `input` to the message if that completes no block, and returns whether it did. This is
+    /// faster than making a context and its numbers again. Otherwise nothing is changed.
     #[tactic(auto, unfolding(crate::specs::Raw::named_block_len))]
     pub fn keep(&mut self, input: &[u8]) -> bool
         ensures stands { IsTrue result → (a : Algorithm) (m : List ℕ)
@@ -73,8 +73,8 @@ impl RawContext {
         true
     }
 
-    /// The context of these numbers: `None` where they name no algorithm, or as many pending bytes
-    /// as a block has.
+    /// The context of these numbers: `None` if they name no algorithm, or count as many pending
+    /// bytes as a block has, or more.
     #[tactic(auto, unfolding(crate::specs::Raw::RawStandsFor, crate::specs::Raw::named_block_len))]
     pub fn context(&self) -> Option<Context>
         ensures none { IsNone result ↔ IsNoContext self.now }

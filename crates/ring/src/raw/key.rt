@@ -8,24 +8,24 @@ use crate::hmac::key::Key;
 use crate::raw::number::{digest_of_number, number_of_digest};
 use crate::raw::words::{block_of, numbers_of_block};
 
-/// A key: the chaining words after each of its two masked blocks.
+/// The numbers of a key: the chaining words after each of its two masked blocks.
 #[repr(C)]
 #[derive(Clone, Copy)]
 pub struct RawKey {
     /// The number of the digest algorithm.
     pub algorithm: u32,
-    /// Nothing yet: what fills the gap before the words.
+    /// Unused: it fills the gap before the words.
     pub reserved: u32,
-    /// The words before the message.
+    /// The words after the inner block, which the message follows.
     pub inner: [u64; 8],
-    /// The words before the inner digest.
+    /// The words after the outer block, which the inner digest follows.
     pub outer: [u64; 8],
 }
 
 impl RawKey {
     ghost use Rattle.ring.specs.Raw.{IsNoKey, RawKeyStandsFor, digest_named};
 
-    /// The numbers of a key.
+    /// The numbers of `key`.
     #[tactic(auto, unfolding(crate::specs::Raw::RawKeyStandsFor))]
     pub fn new(key: &Key) -> Self
         ensures { (k : List ℕ) → KeyStandsFor key.now k
@@ -39,7 +39,7 @@ impl RawKey {
         }
     }
 
-    /// The key of these numbers: `None` where they name no algorithm.
+    /// The key of these numbers: `None` if they name no algorithm.
     #[tactic(auto, unfolding(crate::specs::Raw::RawKeyStandsFor))]
     pub fn key(&self) -> Option<Key>
         ensures none { IsNone result ↔ IsNoKey self.now }

@@ -7,7 +7,7 @@ use crate::digest::algorithm::{
     Algorithm, AlgorithmId, SHA1_FOR_LEGACY_USE_ONLY, SHA256, SHA384, SHA512, SHA512_256,
 };
 
-/// The digest algorithm of a number: 1 to 5, in the order of their constants.
+/// The digest algorithm of `number`: 1 to 5, in the order of the constants, and else `None`.
 pub fn digest_of_number(number: u32) -> Option<Algorithm>
     ensures { result ≡ digest_named number }
 {
@@ -21,7 +21,7 @@ pub fn digest_of_number(number: u32) -> Option<Algorithm>
     }
 }
 
-/// The number of a digest algorithm.
+/// The number of `algorithm`.
 pub fn number_of_digest(algorithm: &Algorithm) -> u32
     ensures { digest_named result ≡ Some algorithm.now }
 {

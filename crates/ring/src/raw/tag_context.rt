@@ -10,13 +10,13 @@ use crate::raw::context::RawContext;
 use crate::raw::number::digest_of_number;
 use crate::raw::words::{block_of, joined, numbers_of_block};
 
-/// A tag's context.
+/// The numbers of a tag's context.
 #[repr(C)]
 #[derive(Clone, Copy)]
 pub struct RawTagContext {
     /// The context of the inner digest.
     pub inner: RawContext,
-    /// The words before the inner digest.
+    /// The words after the key's outer block, which the inner digest follows.
     pub outer: [u64; 8],
 }
 
@@ -24,7 +24,7 @@ impl RawTagContext {
     ghost use Rattle.ring.specs.Raw.{IsNoTagContext, RawTagStandsFor, completed_len, digest_named};
     ghost use Rattle.ring.specs.Raw.{named_block_len, raw_message_len};
 
-    /// The numbers of a context.
+    /// The numbers of `context`.
     #[tactic(auto, unfolding(crate::specs::Raw::RawTagStandsFor))]
     pub fn new(context: &Context) -> Self
         ensures { (k m : List ℕ) → TagStandsFor context.now k m
@@ -49,8 +49,8 @@ impl RawTagContext {
         completed_bytes >= algorithm.block_len() as u128
     }
 
-    /// Adds `input` to the message where that leaves the pending block short, as
-    /// [`RawContext::keep`] does. Numbers that count less than the key's block stay as they are.
+    /// Adds `input` to the message if that completes no block, as [`RawContext::keep`] does.
+    /// Numbers that count less than the key's block are unchanged.
     #[tactic(auto, unfolding(crate::specs::Raw::RawTagStandsFor))]
     pub fn keep(&mut self, input: &[u8]) -> bool
         ensures stands { IsTrue result → (a : Algorithm) (k m : List ℕ)
@@ -64,8 +64,8 @@ impl RawTagContext {
         self.counts_key_block() && self.inner.keep(input)
     }
 
-    /// The context of these numbers: `None` where the inner ones are no context's, or count less
-    /// than the key's block.
+    /// The context of these numbers: `None` if the inner ones are no context's, or count less than
+    /// the key's block.
     #[tactic(auto, unfolding(crate::specs::Raw::RawTagStandsFor))]
     pub fn context(&self) -> Option<Context>
         ensures none { IsNone result ↔ IsNoTagContext self.now }

@@ -100,17 +100,19 @@ openssl-valgrind: $(PROVIDER) $(OUT)/openssl/agree $(OUT)/openssl/orders \
 openssl-programs: $(COUNTED)
 	$(PYTHON) -B openssl/test/programs $(<D)
 
-# The module has one name, and needs OpenSSL and a C library alone.
+# The module has one name, and needs OpenSSL and these functions of a C library alone.
 openssl-exports: $(PROVIDER)
 	test "$$(nm -D --defined-only $< | awk '{ print $$3 }' | xargs)" = OSSL_provider_init
 	test "$$(readelf -d $< | sed -n 's/.*(NEEDED).*\[\(.*\)\]/\1/p' | sort | xargs)" = \
 	    'libc.so.6 libcrypto.so.3'
+	test "$$(objdump -T $< | awk '/GLIBC_/ && !/ w / { print $$NF }' | sort | xargs)" = \
+	    'memcpy memmove memset strcspn strlen'
 	test "$$(objdump -T $< | grep -o 'OPENSSL_[0-9.]*' | sort -u | xargs)" = OPENSSL_3.0.0
 
 # The time of each kind of work beside the default provider's, with the instructions that OpenSSL
 # finds, and then without SSSE3, AVX, AVX2 and SHA instructions.
-openssl-bench: $(PROVIDER) openssl/bench.c
-	$(CC) -O2 $(STRICT) openssl/bench.c $(ARCHIVE) -lcrypto -o $(OUT)/openssl/bench
+openssl-bench: $(PROVIDER) openssl/bench/bench.c
+	$(CC) -O2 $(STRICT) openssl/bench/bench.c $(ARCHIVE) -lcrypto -o $(OUT)/openssl/bench
 	@$(OUT)/openssl/bench $(<D)
 	@OPENSSL_ia32cap='~0x1000020000000000:~0x20000020' $(OUT)/openssl/bench $(<D)
 

@@ -1,4 +1,4 @@
-//! Keys from passwords.
+//! Keys derived from passwords: PBKDF2 (RFC 2898, section 5.2).
 
 ghost use Rattle.std.specs.Prelude.{◌≡◌, ◌≢◌, ◌↔◌, ◌<◌, ◌≤◌, Some, None, length};
 ghost use Rattle.ring.specs.Limits.{CanDerive, max_dk_len};
@@ -28,7 +28,12 @@ fn max_key_len(algorithm: u32) -> u128
     u32::MAX as u128 * digest_len as u128
 }
 
-/// Fills `out` with the key that is derived from `secret`.
+/// Fills `out` with the key that is derived from `secret` and `salt` in so many `iterations`, by
+/// the PBKDF2 algorithm of the number `algorithm` (RFC 2898, section 5.2).
+///
+/// Refused as `UNKNOWN_ALGORITHM`, as `WRONG_LENGTH` where `out` is longer than `2^32 - 1` digests,
+/// as `NO_ITERATIONS`, and as `UNSPECIFIED` where the secret or the salt is too long. `out` is then
+/// unchanged.
 #[unsafe(no_mangle)]
 pub extern "C" fn yz_pbkdf2_derive(
     algorithm: u32,
@@ -68,7 +73,12 @@ pub extern "C" fn yz_pbkdf2_derive(
     }
 }
 
-/// 0 exactly where `derived` isn't empty and is what `yz_pbkdf2_derive` gives for its length.
+/// Returns 0 exactly if `derived` is not empty and is the key of its length that
+/// [`yz_pbkdf2_derive`] derives from the same `algorithm`, `iterations`, `salt` and `secret` (RFC
+/// 2898, section 5.2).
+///
+/// Refused as `UNKNOWN_ALGORITHM`, `WRONG_LENGTH` and `NO_ITERATIONS` as that call is, and else as
+/// `UNSPECIFIED`: a mismatch, an empty value, or a secret or salt that is too long.
 #[unsafe(no_mangle)]
 pub extern "C" fn yz_pbkdf2_verify(
     algorithm: u32,

@@ -1,4 +1,4 @@
-//! Digests.
+//! Digests (FIPS 180-4).
 
 ghost use Rattle.std.specs.Prelude.{◌≡◌, ◌≢◌, ◌↔◌, ◌++◌, [], ℕ, List, Some, None, length};
 ghost use Rattle.ring.specs.Algorithm.{output_len};
@@ -11,7 +11,11 @@ use crate::status::{OK, UNKNOWN_ALGORITHM, UNKNOWN_CONTEXT, UNSPECIFIED, WRONG_L
 use ring::digest::{self, Context};
 use ring::raw::{RawContext, digest_of_number};
 
-/// Writes the digest of `message` over `out`, which has its length.
+/// Writes the digest of `message` to `out`, by the digest algorithm of the number `algorithm` (FIPS
+/// 180-4, section 6).
+///
+/// Refused as `UNKNOWN_ALGORITHM`, as `WRONG_LENGTH` where `out` has not the length of a digest,
+/// and as `UNSPECIFIED` where the message is too long. `out` is then unchanged.
 #[unsafe(no_mangle)]
 pub extern "C" fn yz_digest(algorithm: u32, message: &[u8], out: &mut [u8]) -> i32
     ensures ok { (a : Algorithm) → digest_named algorithm ≡ Some a → result ≡ OK
@@ -39,7 +43,10 @@ pub extern "C" fn yz_digest(algorithm: u32, message: &[u8], out: &mut [u8]) -> i
     OK
 }
 
-/// Begins the digest of a message that comes in pieces.
+/// Starts in `context` the digest of a message that arrives in pieces, by the digest algorithm of
+/// the number `algorithm` (FIPS 180-4, section 5.3).
+///
+/// Refused as `UNKNOWN_ALGORITHM`. `context` is then unchanged.
 #[unsafe(no_mangle)]
 pub extern "C" fn yz_digest_init(algorithm: u32, context: &mut RawContext) -> i32
     ensures ok { (a : Algorithm) → digest_named algorithm ≡ Some a
@@ -54,7 +61,10 @@ pub extern "C" fn yz_digest_init(algorithm: u32, context: &mut RawContext) -> i3
     OK
 }
 
-/// Adds `input` to the message.
+/// Adds `input` to the message of `context` (FIPS 180-4, section 6).
+///
+/// Refused as `UNKNOWN_CONTEXT` where the numbers are no context's, which are then unchanged. Where
+/// the message is too long, [`yz_digest_final`] is refused.
 #[unsafe(no_mangle)]
 pub extern "C" fn yz_digest_update(context: &mut RawContext, input: &[u8]) -> i32
     ensures ok { (a : Algorithm) (m : List ℕ) → RawStandsFor context.old a m
@@ -74,8 +84,11 @@ pub extern "C" fn yz_digest_update(context: &mut RawContext, input: &[u8]) -> i3
     OK
 }
 
-/// Writes the digest of the message so far over `out`, which has its length. The context stays, and
-/// may go on.
+/// Writes the digest of the message of `context` to `out` (FIPS 180-4, section 6). The context is
+/// unchanged, and more input may follow.
+///
+/// Refused as `UNKNOWN_CONTEXT`, as `WRONG_LENGTH` where `out` has not the length of a digest, and
+/// as `UNSPECIFIED` where the message is too long. `out` is then unchanged.
 #[unsafe(no_mangle)]
 pub extern "C" fn yz_digest_final(context: &RawContext, out: &mut [u8]) -> i32
     ensures ok { (a : Algorithm) (m : List ℕ) → RawStandsFor context.now a m → result ≡ OK

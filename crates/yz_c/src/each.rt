@@ -15,8 +15,8 @@ use ring::raw::digest_of_number;
 // How many digests are held at a time: some groups of four, which is what runs side by side.
 const GROUP: usize = 16;
 
-// What the lengths are refused for, if they are. One loop makes both tests: of one that only counts
-// the output's length off, the compiler would make a multiplication, and the library has none.
+// Why the lengths are refused, if they are. One loop makes both tests: the compiler would turn a
+// loop that only adds up the output's length into a multiplication, and the library has none.
 fn status_of_lengths(algorithm: &Algorithm, messages: &[&[u8]], out_len: usize) -> i32
     ensures wrong_length { result ≡ WRONG_LENGTH
         ↔ out_len ≢ length messages.now * output_len algorithm.now }
@@ -60,7 +60,7 @@ fn write_at(out: &mut [u8], at: usize, bytes: &[u8])
     out[at..at + bytes.len()].copy_from_slice(bytes);
 }
 
-// Writes the digests over `out` from the place `at` on, and gives the place behind them.
+// Writes the digests to `out` from the place `at` on, and returns the place after them.
 fn write_digests(digests: &[Digest], out: &mut [u8], at: usize) -> usize
     requires { at + length (bytes_of_each digests.now) ≤ length out.old }
     ensures end { result ≡ at + length (bytes_of_each digests.now) }
@@ -75,7 +75,7 @@ fn write_digests(digests: &[Digest], out: &mut [u8], at: usize) -> usize
     end
 }
 
-// Writes the digests of the messages over `out`, a group at a time.
+// Writes the digests of the messages to `out`, a group at a time.
 fn write_each(algorithm: &Algorithm, messages: &[&[u8]], out: &mut [u8])
     requires within { CanDigestEach algorithm.now messages.now (length messages.now) }
     requires room { length out.old ≡ length messages.now * output_len algorithm.now }
@@ -97,8 +97,11 @@ fn write_each(algorithm: &Algorithm, messages: &[&[u8]], out: &mut [u8])
     }
 }
 
-/// Writes the digests of the messages over `out`, one after another: it has as many bytes as all of
-/// them have.
+/// Writes the digests of `messages` to `out`, one after another, by the digest algorithm of the
+/// number `algorithm` (FIPS 180-4, section 6).
+///
+/// Refused as `UNKNOWN_ALGORITHM`, as `WRONG_LENGTH` where `out` has not the length of all digests
+/// together, and as `UNSPECIFIED` where a message is too long. `out` is then unchanged.
 #[unsafe(no_mangle)]
 pub extern "C" fn yz_digest_each(algorithm: u32, messages: &[&[u8]], out: &mut [u8]) -> i32
     ensures ok { (a : Algorithm) → digest_named algorithm ≡ Some a → result ≡ OK

@@ -1,4 +1,4 @@
-//! Keys from secrets.
+//! Keys derived from secrets: HKDF (RFC 5869).
 
 ghost use Rattle.std.specs.Prelude.{◌≡◌, ◌≢◌, ◌↔◌, ℕ, ◌*◌, ◌≤◌, ◌<◌};
 ghost use Rattle.std.specs.Prelude.{List, Some, None, length, IsTrue};
@@ -38,7 +38,11 @@ fn is_output_within(algorithm: &hkdf::Algorithm, len: usize) -> bool
     len <= MAX_ROUNDS * algorithm.hmac_algorithm().digest_algorithm().output_len()
 }
 
-/// Writes the PRK of `secret` over `out`, which has the length of a digest: HKDF's extract.
+/// Writes the PRK that is extracted from `secret` with `salt` to `out`, by the HKDF algorithm of
+/// the number `algorithm` (RFC 5869, section 2.2).
+///
+/// Refused as `UNKNOWN_ALGORITHM`, as `WRONG_LENGTH` where `out` has not the length of a digest,
+/// and as `UNSPECIFIED` where the salt or the secret is too long. `out` is then unchanged.
 #[unsafe(no_mangle)]
 pub extern "C" fn yz_hkdf_extract(algorithm: u32, salt: &[u8], secret: &[u8], out: &mut [u8]) -> i32
     ensures ok { (a : Algorithm) → hkdf_named algorithm ≡ Some a → result ≡ OK
@@ -66,7 +70,11 @@ pub extern "C" fn yz_hkdf_extract(algorithm: u32, salt: &[u8], secret: &[u8], ou
     write_tag(&salt, secret, out)
 }
 
-/// Fills `out` with the output of the PRK `prk` for `info`: HKDF's expand.
+/// Fills `out` with the output of the PRK `prk` for `info`, by the HKDF algorithm of the number
+/// `algorithm` (RFC 5869, section 2.3).
+///
+/// Refused as `UNKNOWN_ALGORITHM`, as `WRONG_LENGTH` where `out` is longer than 255 digests, and as
+/// `UNSPECIFIED` where the PRK or the info is too long. `out` is then unchanged.
 #[unsafe(no_mangle)]
 pub extern "C" fn yz_hkdf_expand(algorithm: u32, prk: &[u8], info: &[u8], out: &mut [u8]) -> i32
     ensures ok { (a : Algorithm) → hkdf_named algorithm ≡ Some a → result ≡ OK
@@ -94,7 +102,11 @@ pub extern "C" fn yz_hkdf_expand(algorithm: u32, prk: &[u8], info: &[u8], out: &
     fill(&prk, info, out)
 }
 
-/// Fills `out` with the output of the PRK of `secret` for `info`: HKDF's extract, and then expand.
+/// Fills `out` with the output for `info` of the PRK that is extracted from `secret` with `salt`,
+/// by the HKDF algorithm of the number `algorithm` (RFC 5869, sections 2.2 and 2.3).
+///
+/// Refused as `UNKNOWN_ALGORITHM`, as `WRONG_LENGTH` where `out` is longer than 255 digests, and as
+/// `UNSPECIFIED` where the salt, the secret or the info is too long. `out` is then unchanged.
 #[unsafe(no_mangle)]
 pub extern "C" fn yz_hkdf(
     algorithm: u32,

@@ -7,7 +7,8 @@ ghost use Rattle.ring.specs.declared.digest.algorithm.Algorithm.{Algorithm};
 
 use ring::raw::digest_of_number;
 
-/// The bytes of a digest or a tag, and 0 for a number that names no algorithm.
+/// The length in bytes of a digest or a tag by the algorithm of the number `algorithm`, 0 where the
+/// number names none.
 #[unsafe(no_mangle)]
 pub extern "C" fn yz_output_len(algorithm: u32) -> usize
     ensures ok { (a : Algorithm) → digest_named algorithm ≡ Some a → result ≡ output_len a }
@@ -19,7 +20,8 @@ pub extern "C" fn yz_output_len(algorithm: u32) -> usize
     }
 }
 
-/// The bytes of a block, and 0 for a number that names no algorithm.
+/// The length in bytes of a block of the algorithm of the number `algorithm`, 0 where the number
+/// names none.
 #[unsafe(no_mangle)]
 pub extern "C" fn yz_block_len(algorithm: u32) -> usize
     ensures ok { (a : Algorithm) → digest_named algorithm ≡ Some a → result ≡ block_len a }

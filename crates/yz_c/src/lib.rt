@@ -1,9 +1,9 @@
 //! The digests, tags and derived keys of `ring` for callers in C: `capi/include/yezdopin.h`
 //! declares each call.
 //!
-//! A call that can be refused answers a number of [`status`]: 0 where it did what it says, and else
-//! the first cause, past which all that it would have written is as it was. Which one it answers is
-//! said for contexts and keys that no call made too. No call has a `requires`, asks for memory or
+//! A call that can be refused returns a number of [`status`]: 0 on success, and else the first
+//! cause that holds. On failure nothing is written. The contracts also say which status a call
+//! returns for a context or a key that no call made. No call has a `requires`, allocates memory or
 //! keeps anything between two calls.
 #![tactic(auto)]
 

@@ -1,19 +1,20 @@
-//! What calls answer: the first of these causes, in the order of their numbers.
+//! The status that a call returns: the first of these causes that holds, in the order of their
+//! numbers.
 
-/// Done.
+/// Success.
 pub(crate) const OK: i32 = 0;
 
 /// The number names no algorithm of this call.
 pub(crate) const UNKNOWN_ALGORITHM: i32 = 1;
 
-/// The memory holds numbers that no context or key has.
+/// The memory in place of a context or a key holds numbers that none has.
 pub(crate) const UNKNOWN_CONTEXT: i32 = 2;
 
-/// The output has a length that the call doesn't give.
+/// The output has a length that the call can't fill.
 pub(crate) const WRONG_LENGTH: i32 = 3;
 
-/// No iterations were asked for.
+/// The number of iterations is 0.
 pub(crate) const NO_ITERATIONS: i32 = 4;
 
-/// An input is past its limit, or what was verified is something else: which is not told.
+/// An input is too long, or a verification found a mismatch: the status doesn't say which.
 pub(crate) const UNSPECIFIED: i32 = 5;

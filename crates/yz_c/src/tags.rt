@@ -1,4 +1,4 @@
-//! Tags.
+//! Tags: HMAC (RFC 2104).
 
 ghost use Rattle.std.specs.Prelude.{◌≡◌, ◌≢◌, ◌↔◌, ◌++◌, [], ℕ, List, Some, None, length};
 ghost use Rattle.ring.specs.Algorithm.{output_len};
@@ -17,7 +17,7 @@ use crate::status::{OK, UNKNOWN_ALGORITHM, UNKNOWN_CONTEXT, UNSPECIFIED, WRONG_L
 use ring::hmac::{self, Context, Key};
 use ring::raw::{RawKey, RawTagContext};
 
-// Writes the tag of a message over `out`.
+// Writes the tag of a message to `out`.
 pub(crate) fn write_tag(key: &Key, message: &[u8], out: &mut [u8]) -> i32
     requires { length out.old ≡ output_len (key_algorithm key.now) }
     ensures ok { (k : List ℕ) → KeyStandsFor key.now k → result ≡ OK
@@ -47,7 +47,11 @@ fn verify_tag(key: &Key, message: &[u8], tag: &[u8]) -> i32
     }
 }
 
-/// Writes the tag of `message` under `key` over `out`, which has its length.
+/// Writes the tag of `message` under the key bytes `key` to `out`, by the HMAC algorithm of the
+/// number `algorithm` (RFC 2104, section 2).
+///
+/// Refused as `UNKNOWN_ALGORITHM`, as `WRONG_LENGTH` where `out` has not the length of a tag, and
+/// as `UNSPECIFIED` where the key or the message is too long. `out` is then unchanged.
 #[unsafe(no_mangle)]
 pub extern "C" fn yz_hmac_sign(algorithm: u32, key: &[u8], message: &[u8], out: &mut [u8]) -> i32
     ensures ok { (a : Algorithm) → hmac_named algorithm ≡ Some a → result ≡ OK
@@ -74,7 +78,11 @@ pub extern "C" fn yz_hmac_sign(algorithm: u32, key: &[u8], message: &[u8], out: 
     write_tag(&signing_key, message, out)
 }
 
-/// 0 exactly where `tag` is the whole tag of `message` under `key`.
+/// Returns 0 exactly if `tag` is the whole tag of `message` under the key bytes `key`, by the HMAC
+/// algorithm of the number `algorithm` (RFC 2104, section 2).
+///
+/// Refused as `UNKNOWN_ALGORITHM`, and else as `UNSPECIFIED`: a mismatch, or a key or message that
+/// is too long.
 #[unsafe(no_mangle)]
 pub extern "C" fn yz_hmac_verify(algorithm: u32, key: &[u8], message: &[u8], tag: &[u8]) -> i32
     ensures ok { (a : Algorithm) → hmac_named algorithm ≡ Some a
@@ -92,7 +100,11 @@ pub extern "C" fn yz_hmac_verify(algorithm: u32, key: &[u8], message: &[u8], tag
     verify_tag(&verifying_key, message, tag)
 }
 
-/// Makes a key of the bytes `value`, so that no signing under it makes one again.
+/// Makes in `key` the key of the bytes `value`, to be used for any number of tags, for the HMAC
+/// algorithm of the number `algorithm` (RFC 2104, section 2).
+///
+/// Refused as `UNKNOWN_ALGORITHM`, and as `UNSPECIFIED` where the value is too long. `key` is then
+/// unchanged.
 #[unsafe(no_mangle)]
 pub extern "C" fn yz_hmac_key_init(algorithm: u32, value: &[u8], key: &mut RawKey) -> i32
     ensures ok { (a : Algorithm) → hmac_named algorithm ≡ Some a → result ≡ OK
@@ -113,7 +125,11 @@ pub extern "C" fn yz_hmac_key_init(algorithm: u32, value: &[u8], key: &mut RawKe
     OK
 }
 
-/// Writes the tag of `message` under a key over `out`, which has its length.
+/// Writes the tag of `message` under `key` to `out` (RFC 2104, section 2).
+///
+/// Refused as `UNKNOWN_CONTEXT` where the numbers are no key's, as `WRONG_LENGTH` where `out` has
+/// not the length of a tag, and as `UNSPECIFIED` where the message is too long. `out` is then
+/// unchanged.
 #[unsafe(no_mangle)]
 pub extern "C" fn yz_hmac_key_sign(key: &RawKey, message: &[u8], out: &mut [u8]) -> i32
     ensures ok { (a : digest.Algorithm) (k : List ℕ) → RawKeyStandsFor key.now a k → result ≡ OK
@@ -136,7 +152,10 @@ pub extern "C" fn yz_hmac_key_sign(key: &RawKey, message: &[u8], out: &mut [u8])
     write_tag(&key, message, out)
 }
 
-/// 0 exactly where `tag` is the whole tag of `message` under a key.
+/// Returns 0 exactly if `tag` is the whole tag of `message` under `key` (RFC 2104, section 2).
+///
+/// Refused as `UNKNOWN_CONTEXT` where the numbers are no key's, and else as `UNSPECIFIED`: a
+/// mismatch, or a message that is too long.
 #[unsafe(no_mangle)]
 pub extern "C" fn yz_hmac_key_verify(key: &RawKey, message: &[u8], tag: &[u8]) -> i32
     ensures ok { (a : digest.Algorithm) (k : List ℕ) → RawKeyStandsFor key.now a k
@@ -153,7 +172,10 @@ pub extern "C" fn yz_hmac_key_verify(key: &RawKey, message: &[u8], tag: &[u8]) -
     }
 }
 
-/// Begins the tag, under a key, of a message that comes in pieces.
+/// Starts in `context` the tag under `key` of a message that arrives in pieces (RFC 2104, section
+/// 2).
+///
+/// Refused as `UNKNOWN_CONTEXT` where the numbers are no key's. `context` is then unchanged.
 #[unsafe(no_mangle)]
 pub extern "C" fn yz_hmac_init(key: &RawKey, context: &mut RawTagContext) -> i32
     ensures ok { (a : digest.Algorithm) (k : List ℕ) → RawKeyStandsFor key.now a k
@@ -169,7 +191,10 @@ pub extern "C" fn yz_hmac_init(key: &RawKey, context: &mut RawTagContext) -> i32
     OK
 }
 
-/// Adds `input` to the message.
+/// Adds `input` to the message of `context` (RFC 2104, section 2).
+///
+/// Refused as `UNKNOWN_CONTEXT` where the numbers are no context's, which are then unchanged. Where
+/// the message is too long, [`yz_hmac_final`] is refused.
 #[unsafe(no_mangle)]
 pub extern "C" fn yz_hmac_update(context: &mut RawTagContext, input: &[u8]) -> i32
     ensures ok { (a : digest.Algorithm) (k m : List ℕ) → RawTagStandsFor context.old a k m
@@ -189,8 +214,11 @@ pub extern "C" fn yz_hmac_update(context: &mut RawTagContext, input: &[u8]) -> i
     OK
 }
 
-/// Writes the tag of the message so far over `out`, which has its length. The context stays, and
-/// may go on.
+/// Writes the tag of the message of `context` to `out` (RFC 2104, section 2). The context is
+/// unchanged, and more input may follow.
+///
+/// Refused as `UNKNOWN_CONTEXT`, as `WRONG_LENGTH` where `out` has not the length of a tag, and as
+/// `UNSPECIFIED` where the message is too long. `out` is then unchanged.
 #[unsafe(no_mangle)]
 pub extern "C" fn yz_hmac_final(context: &RawTagContext, out: &mut [u8]) -> i32
     ensures ok { (a : digest.Algorithm) (k m : List ℕ) → RawTagStandsFor context.now a k m

@@ -1,4 +1,4 @@
-use Rattle.std.proofs.Common.{◌≡◌, ◌∙◌, ◌≤◌, ℕ, ap, arith, length, rules}
+use Rattle.std.proofs.Common.{◌∙◌, ◌≤◌, ℕ, ap, arith, length}
 use Rattle.ring.specs.Cost.{Counts, compared_pairs, raised}
 use Rattle.ring_uses.proofs.basics.pairs_of_comparison.Goals as goal
 

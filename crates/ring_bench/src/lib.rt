@@ -1,32 +1,8 @@
 //! Lines of test vectors for `ring`, and the answers to them.
 //!
-//! A text is lines that end with a line feed. What stands behind the last line feed is a line where
-//! it isn't empty, and one carriage return at a line's end is no part of it. An empty line and a
-//! line that begins with `#` are given no answer. Any other line is fields, with exactly one space
-//! between two of them. Words are matched exactly:
-//!
-//! | Line                                            | Answer                                    |
-//! |-------------------------------------------------|-------------------------------------------|
-//! | `digest ALG PIECES`                             | the digest of all the pieces              |
-//! | `hmac ALG KEY PIECES`                           | the tag of all the pieces under the key   |
-//! | `hmac-verify ALG KEY PIECES TAG`                | whether TAG is that tag                   |
-//! | `hkdf ALG SALT SECRET PIECES LEN`               | LEN bytes of output, the pieces the info  |
-//! | `pbkdf2 ALG ITERATIONS SECRET SALT LEN`         | LEN bytes derived from the secret         |
-//! | `pbkdf2-verify ALG ITERATIONS SECRET SALT VALUE`| whether VALUE is derived from the secret  |
-//!
-//! - ALG is `SHA1`, `SHA256`, `SHA384`, `SHA512` or, of a digest alone, `SHA512_256`.
-//! - KEY, TAG, SALT, SECRET and VALUE are `-` for no byte, or an even number, not 0, of hex digits
-//!   of either case.
-//! - PIECES is `-` for no piece, or parts with commas between them, each an even number of hex
-//!   digits, 0 included. They are given to `ring` one by one, but by `hmac-verify` joined, and by
-//!   `hkdf` without the empty ones, which add nothing to the info.
-//! - LEN is 0 to 65,536 and ITERATIONS 1 to 4,294,967,295, in decimal without a sign and without a
-//!   leading zero.
-//!
-//! An answer is one line: bytes in lower case hex, `-` for none, or `match` or `mismatch`, and
-//! behind them a space and the number of blocks that the whole line cost, keys included, in
-//! decimal. A line of which `ring` refuses a call is answered `refused`, and a line of any other
-//! form `bad line`. Here the second line answers the first:
+//! `docs/LINES.md` describes the lines, the answers and how a program over these calls ends. The
+//! definitions `line_of`, `answer_of` and `reply` (`specs/`) are that format. Here the second line
+//! answers the first:
 //!
 //! ```text
 //! digest SHA256 68656c6c6f,2c20,776f726c64

@@ -1,8 +1,11 @@
 //! Tests of `ring_store` over its public calls: rows of commands with their replies, tokens of
-//! another implementation, many names beside a plain list, and heaps that refuse each request.
-//! Credentials of another implementation stand in `vectors/pbkdf2.txt`.
+//! another implementation, records one by one and as text, many names beside a plain list, and heaps
+//! that refuse each request.
 
 mod commands;
+mod full_heaps;
+mod many_records;
 mod names;
+mod records;
 mod small_heaps;
 mod tokens;

@@ -1,0 +1,77 @@
+//! A text of many records, and the time that it takes.
+
+use crate::store::names::{iterations, new_store};
+use ring_store::{LoadError, PasswordStore, StoreError};
+use std::alloc::Global;
+use std::io;
+use std::time::{Duration, Instant};
+
+// How many records there are.
+const MANY: u32 = 100_000;
+
+// Puts the names out of their order: it has no divisor with the number of records.
+const STRIDE: u32 = 7_919;
+
+// The name of a number. The names are in the order of their numbers.
+fn name_of(number: u32) -> [u8; 20] {
+    let mut name = *b"user 0000@example.or";
+    name[5..9].copy_from_slice(&number.to_be_bytes());
+    name
+}
+
+// A store of many records that were restored out of order.
+fn store_of_many(alloc: Global) -> Result<PasswordStore, StoreError> {
+    let mut store = new_store(alloc, 600_000);
+    for step in 0..MANY {
+        let number = step * STRIDE % MANY;
+        let credential = [number.to_be_bytes()[3]; 32];
+        store.restore(&name_of(number), iterations(number + 1), credential)?;
+    }
+    Ok(store)
+}
+
+// Whether a store has each record that was restored.
+fn has_many(store: &PasswordStore) -> bool {
+    for number in 0..MANY {
+        let wanted = (iterations(number + 1), [number.to_be_bytes()[3]; 32]);
+        if store.record(&name_of(number)) != Some(wanted) {
+            return false;
+        }
+    }
+    store.len() == MANY as usize
+}
+
+// The text of a store, and how long it took.
+fn written(rt: &HostRuntime, store: &PasswordStore) -> io::Result<(Vec<u8>, Duration)> {
+    let start = Instant::now(rt)?;
+    let text = store.to_text(rt.alloc())?;
+    Ok((text, start.elapsed(rt)?))
+}
+
+// What a text is read as, and how long it took.
+fn read(rt: &HostRuntime, text: &[u8]) -> io::Result<(Result<PasswordStore, LoadError>, Duration)> {
+    let start = Instant::now(rt)?;
+    let store = PasswordStore::from_text(rt.alloc(), text);
+    Ok((store, start.elapsed(rt)?))
+}
+
+// Whether many records are written and read back as they were. Prints how long each took.
+fn keeps_many(rt: &HostRuntime, store: &PasswordStore) -> io::Result<bool> {
+    let (text, to_write) = written(rt, store)?;
+    let (again, to_read) = read(rt, &text)?;
+    let (records, len) = (store.len(), text.len());
+    println!(rt; "{records} records, {len} bytes: written in {to_write:?}, read in {to_read:?}")?;
+    let Ok(again) = again else {
+        return Ok(false);
+    };
+    Ok(has_many(&again) && again.to_text(rt.alloc())? == text)
+}
+
+#[test]
+fn many_records_as_text(rt: HostRuntime) {
+    let Ok(store) = store_of_many(rt.alloc()) else {
+        panic!(rt; "a record was not restored");
+    };
+    assert!(rt; has_many(&store));
+    assert!(rt; matches!(keeps_many(&rt, &store), Ok(true)));
+}

@@ -1,7 +1,7 @@
 //! What is done with a store, once it is read.
 
-ghost use Rattle.std.specs.Prelude.{◌≡◌, ◌≢◌, ◌⊎◌, IfErr, IfOk, IfSome, IsErrOf, IsNone, OnErr, OnOk};
-ghost use Rattle.std.specs.Prelude.{false, true};
+ghost use Rattle.std.specs.Prelude.{◌≡◌, ◌≢◌, ◌⊎◌, Ok, false, true};
+ghost use Rattle.std.specs.Prelude.{IfErr, IfOk, IfSome, IsErrOf, IsNone, OnErr, OnOk};
 ghost use Rattle.std.specs.Int.NonZero.{non_zero_u32_get};
 ghost use Rattle.ring_store.specs.Store.{admission, knows, verdict, with_password, without};
 ghost use Rattle.ring_store.specs.Text.{IsStore, text_of};
@@ -39,6 +39,8 @@ pub fn set(
         (store.new ≡ with_password (with_given store.old iterations) name.now password.now) }
     ensures refused { (result ≡ told (admission name.now password.now))
         ⊎ IsErrOf result Failure.Memory }
+    ensures memory { IsErrOf result Failure.Memory
+        → (admission name.now password.now ≡ Ok tt) × (knows store.old name.now ≡ false) }
     ensures unchanged { OnErr result (store.new ≡ with_given store.old iterations) }
 {
     if let Some(iterations) = iterations {

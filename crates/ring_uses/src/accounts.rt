@@ -40,8 +40,8 @@ pub fn is_registered(store: &PasswordStore, name: &[u8]) -> bool
 pub fn register(store: &mut PasswordStore, name: &[u8], password: &[u8]) -> Result<bool, StoreError>
     ensures known { knows store.old name.now ≡ true
         → (result ≡ Ok false) × (store.new ≡ store.old) }
-    ensures ok { IfOk result (λ is_new. IsTrue is_new
-        → store.new ≡ with_password store.old name.now password.now) }
+    ensures ok { knows store.old name.now ≡ false → IfOk result (λ is_new. (is_new ≡ true)
+        × (store.new ≡ with_password store.old name.now password.now)) }
     ensures unchanged { OnErr result (store.new ≡ store.old) }
 {
     if is_registered(store, name) {

@@ -1,7 +1,8 @@
 //! Keeps passwords in a file: `FILE set|verify|remove NAME` and `FILE list`.
 //!
-//! A password is one line of standard input. The file has the text of a store, as `ring_store` writes
-//! it, and is replaced whole or not at all. `docs/PASSWORDS.md` has the statuses and the messages.
+//! A password is one line of standard input. The file has the text of a store, as `ring_store`
+//! writes it, and is replaced whole or not at all. `docs/PASSWORDS.md` has the statuses and the
+//! messages.
 #![tactic(auto)]
 
 ghost use Rattle.std.specs.Prelude.{◌≡◌, IfErr};
@@ -12,7 +13,7 @@ use crate::failure::{Failure, Step};
 use crate::file::LockedFile;
 use crate::listing::listing_of;
 use crate::password::read_password;
-use ring_store::PasswordStore;
+use ring_store::{DB_SALT_LEN, PasswordStore};
 use std::fs::File;
 use std::io::Write;
 use std::num::NonZeroU32;
@@ -47,7 +48,7 @@ fn new_store<R: RandomSource + AllocGlobal>(
 ) -> Result<PasswordStore, Failure>
     ensures status { IfErr result (λ failure. status_of failure ≡ 2) }
 {
-    let mut salt = [0; 16];
+    let mut salt = [0; DB_SALT_LEN];
     if let Err(error) = rt.fill_bytes(&mut salt) {
         return Err(Failure::System(Step::Salt, error));
     }

@@ -99,7 +99,8 @@ module _ {Z : Type 0} {text : List ℕ} (s : PasswordStore Z) (h : IsStore s) (i
 
 -- what was read with one more record
 pub one_more_read : {text : List ℕ} (salt : List ℕ) (c : NonZeroU32)
-    (es es' : List (List ℕ × Record)) (e : List ℕ × Record) (rest left : List ℕ) → es' ≡ es ++ e ∷ [] → rest ≡ record_then e left
+    (es es' : List (List ℕ × Record)) (e : List ℕ × Record) (rest left : List ℕ)
+    → es' ≡ es ++ e ∷ [] → rest ≡ record_then e left
     → text ≡ head_then salt c (lines_of es ++ rest) → text ≡ head_then salt c (lines_of es' ++ left)
 one_more_read salt c es es' e rest left added line whole =
     whole ∙ ap (head_then salt c) (sym (ap (λ l. lines_of l ++ left) added

@@ -32,9 +32,9 @@ impl<A: Allocator + Copy> PasswordStore<A> {
     /// The store whose text `text` is, as [`PasswordStore::to_text`] writes it, with its records in
     /// memory of `alloc`.
     ///
-    /// Refused as `BadText` if no store has this text. So a name that is there twice or out of order,
-    /// a digit in upper case, a leading zero and a line without its end are refused. Refused as
-    /// `Memory` if there is no memory for a record.
+    /// Refused as `BadText` if no store has this text. So a name that is there twice or out of
+    /// order, a digit in upper case, a leading zero and a line without its end are refused. Refused
+    /// as `Memory` if there is no memory for a record.
     pub fn from_text(alloc: A, text: &[u8]) -> Result<Self, LoadError>
         ensures ok { IfOk result (λ s. (text_of s ≡ text.now) × IsStore s) }
         ensures refused { IsErrOf result LoadError.BadText

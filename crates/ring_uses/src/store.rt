@@ -1,7 +1,7 @@
 //! A password store: a first use, a login, a restart, and the cost of a check.
 
-ghost use Rattle.std.specs.Prelude.{◌≡◌, ◌↔◌, ℕ, List, Ok, Err, IfOk, IsErrOf, IsOkUnless, OnErr, OnOk};
-ghost use Rattle.std.specs.Prelude.{IsTrue};
+ghost use Rattle.std.specs.Prelude.{◌≡◌, ◌↔◌, ℕ, List, Ok, Err};
+ghost use Rattle.std.specs.Prelude.{IfOk, IsErrOf, IsOkUnless, IsTrue, OnErr, OnOk};
 ghost use Rattle.ring.specs.Cost.{raised};
 ghost use Rattle.ring_store.specs.Store.{admission, verdict, verify_blocks, with_raise};
 ghost use Rattle.ring_store.specs.Text.{IsStore};
@@ -17,8 +17,8 @@ use std::num::NonZeroU32;
 /// Sets the password of a name and verifies it, also after the iteration count of the store is
 /// changed. Then issues a token that is valid for an hour, and checks it.
 ///
-/// `db_salt` and `master` are random, and kept. `now` is a time in seconds. Refused only if there is
-/// no memory for the name's record.
+/// `db_salt` and `master` are random, and kept. `now` is a time in seconds. Refused only if there
+/// is no memory for the name's record.
 pub fn first_use(
     alloc: Global,
     db_salt: [u8; DB_SALT_LEN],

@@ -1,4 +1,4 @@
-use Rattle.std.proofs.Common.{rules, arith, ◌≡◌, ℕ, ◌+◌, ◌≤◌, List, length, codes, IfOk, refl, ap}
+use Rattle.std.proofs.Common.{rules, arith, ◌≡◌, ℕ, ◌≤◌, List, length, codes, IfOk, refl, ap}
 use Rattle.std.proofs.Common.{subst, ◌∙◌}
 use Rattle.std.specs.Prelude.{Result, Ok, Err, is_ok}
 use Rattle.std.specs.declared.num.NonZeroU32.{NonZeroU32}
@@ -52,7 +52,8 @@ returns-in_err-verify_password-2 c =
 
 -- a token that was issued passes
 passes_by : {token : List ℕ} {r : Result (Unit {0}) TokenError} (k user : List ℕ) (expiry now : ℕ)
-    → token_input_len (length user) ≤ max_input_len SHA256 → now ≤ expiry → token ≡ token_of k user expiry
+    → token_input_len (length user) ≤ max_input_len SHA256 → now ≤ expiry
+    → token ≡ token_of k user expiry
     → r ≡ checked k user expiry now token → r ≡ Ok tt
 passes_by k user expiry now within early made is =
     let passes : checked k user expiry now (token_of k user expiry) ≡ Ok tt = search rules in

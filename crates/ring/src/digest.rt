@@ -64,7 +64,7 @@
 //! ```
 //!
 //! The imports of the last two examples stand in `pieces.rt` and `several.rt` of
-//! `crates/ring_uses/src`.
+//! `crates/ring_examples/src`.
 
 ghost use Rattle.std.specs.Prelude.{◌≡◌, ◌↔◌, length, ◌<◌, IfOk, IsErr, OnOk, OnErr};
 ghost use Rattle.ring_core.specs.Cost.{raised};

@@ -68,7 +68,7 @@
 //! }
 //! ```
 //!
-//! The imports of these examples stand in `crates/ring_uses/src/hkdf.rt`.
+//! The imports of these examples stand in `crates/ring_examples/src/hkdf.rt`.
 
 pub(crate) mod algorithm;
 mod conversions;

@@ -28,7 +28,7 @@
 //! }
 //! ```
 //!
-//! The imports of these examples stand in `crates/ring_uses/src/hmac.rt`.
+//! The imports of these examples stand in `crates/ring_examples/src/hmac.rt`.
 
 ghost use Rattle.std.specs.Prelude.{◌≡◌, ◌↔◌, ℕ, ◌+◌, ◌<◌};
 ghost use Rattle.std.specs.Prelude.{List, length, IfOk, IsOk, IsErr, OnOk, OnErr};

@@ -16,8 +16,8 @@
 //! work on a [`cost::Meter`]. A refused call answers `Err(Unspecified)` and leaves its outputs as
 //! they were.
 //!
-//! The modules' examples are callers that the crate `ring_uses` proves. They stand there with their
-//! imports.
+//! The modules' examples are callers that the crate `ring_examples` proves. They stand there with
+//! their imports.
 #![tactic(auto)]
 
 pub mod digest;

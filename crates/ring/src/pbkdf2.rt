@@ -61,7 +61,8 @@
 //! }
 //! ```
 //!
-//! The imports of these examples stand in `pbkdf2.rt` and `several.rt` of `crates/ring_uses/src`.
+//! The imports of these examples stand in `pbkdf2.rt` and `several.rt` of
+//! `crates/ring_examples/src`.
 
 ghost use Rattle.std.specs.Prelude.{◌≡◌, ◌↔◌, length, IsOk, OnOk, OnErr};
 ghost use Rattle.std.specs.Int.NonZero.{non_zero_u32_get};

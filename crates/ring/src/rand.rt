@@ -13,7 +13,7 @@
 //! }
 //! ```
 //!
-//! The imports of this example stand in `crates/ring_uses/src/rand.rt`.
+//! The imports of this example stand in `crates/ring_examples/src/rand.rt`.
 
 ghost use Rattle.std.specs.Prelude.{◌≡◌, ◌↔◌, ◌≤◌, ◌++◌, ℕ, Bool, false, List, IsTrue};
 ghost use Rattle.std.specs.Prelude.{IfOk, IsErr, OnOk, OnErr, length, refl, replicate};

@@ -10,7 +10,7 @@
 //! }
 //! ```
 //!
-//! The imports of this example stand in `crates/ring_uses/src/basics.rt`.
+//! The imports of this example stand in `crates/ring_examples/src/basics.rt`.
 
 ghost use Rattle.std.specs.Prelude.{◌≡◌, Result};
 ghost use Rattle.std.specs.Int.{div_ceil, to_be_bytes, w128, w64};

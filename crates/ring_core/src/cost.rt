@@ -15,7 +15,7 @@
 //! }
 //! ```
 //!
-//! The imports of this example stand in `crates/ring_uses/src/basics.rt`.
+//! The imports of this example stand in `crates/ring_examples/src/basics.rt`.
 
 ghost use Rattle.std.specs.Prelude.{◌≡◌};
 ghost use Rattle.ring_core.specs.Cost.{raised};

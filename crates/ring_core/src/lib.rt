@@ -7,8 +7,8 @@
 //! - [`polyfill`]: slices as chunks of one length.
 //! - [`error`]: the errors.
 //!
-//! The modules' examples are callers that the crate `ring_uses` proves. They stand there with their
-//! imports.
+//! The modules' examples are callers that the crate `ring_examples` proves. They stand there with
+//! their imports.
 #![tactic(auto)]
 
 pub mod bb;

@@ -1,4 +1,4 @@
-//! Each caller of `ring_uses` once, against a value from outside.
+//! Each caller of `ring_examples` once, against a value from outside.
 
 use crate::rand::ready_for_all;
 use crate::texts::is_hex_of;
@@ -7,29 +7,29 @@ use ring::digest::{Context, MAX_OUTPUT_LEN, SHA256, SHA512};
 use ring::error::Unspecified;
 use ring::hkdf::{HKDF_SHA256, Prk, Salt};
 use ring::hmac::{HMAC_SHA256, HMAC_SHA384, Key, sign};
-use ring_store::{PasswordStore, TokenMaker};
-use ring_uses::basics::{
+use ring_examples::basics::{
     bit_length_field, blocks_of_digest, bytes_for_bits, is_same_token, key_bits,
     long_bit_length_field, masked_block, pairs_of_comparison, whole_and_left, xored,
 };
-use ring_uses::digest::digest_of_two;
-use ring_uses::hkdf::{
+use ring_examples::digest::digest_of_two;
+use ring_examples::hkdf::{
     Length, asked_len, current_and_next, expand_secret, expand_stored, key_under_salt, next_key,
     next_salt, tag_under_output,
 };
-use ring_uses::hmac::{
+use ring_examples::hmac::{
     key_for_both, tag_counted, tag_len, tag_of_two, tags_of_front_and_whole, verify_tag,
 };
-use ring_uses::pbkdf2::{derive_and_verify, stored_of, verify_stored};
-use ring_uses::pieces::{
+use ring_examples::pbkdf2::{derive_and_verify, stored_of, verify_stored};
+use ring_examples::pieces::{
     digest_again, digest_and_blocks, digest_of_list, digest_of_whole, digests_of_front_and_whole,
     finish_into, lengths_of,
 };
-use ring_uses::rand::{nonce, tag_under_generated};
-use ring_uses::several::{
+use ring_examples::rand::{nonce, tag_under_generated};
+use ring_examples::several::{
     digests_of_both, digests_of_four, stored_of_both, stored_of_four, verify_four,
 };
-use ring_uses::store::log_in;
+use ring_examples::store::log_in;
+use ring_store::{PasswordStore, TokenMaker};
 use std::num::NonZeroU32;
 use std::test::Fail;
 

@@ -1,5 +1,5 @@
-//! The callers of `ring_uses` over plain numbers, chaining words, laws and accounts, each against a
-//! value from outside.
+//! The callers of `ring_examples` over plain numbers, chaining words, laws and accounts, each against
+//! a value from outside.
 
 use crate::callers::{LONG_REST, OF_LONG, OF_SHORT, SHORT, TAG};
 use crate::texts::is_hex_of;
@@ -7,17 +7,17 @@ use ring::digest::{SHA1_FOR_LEGACY_USE_ONLY, SHA256, digest};
 use ring::error::Unspecified;
 use ring::hkdf::{HKDF_SHA256, Prk};
 use ring::hmac::{HMAC_SHA256, Key};
-use ring_store::{PasswordStore, Reply, StoreError, TokenError, TokenMaker};
-use ring_uses::accounts::{is_registered, passes, register, store_of_one, strengthen};
-use ring_uses::hkdf::Length;
-use ring_uses::laws::{
+use ring_examples::accounts::{is_registered, passes, register, store_of_one, strengthen};
+use ring_examples::hkdf::Length;
+use ring_examples::laws::{
     can_ask_all, extract_without_salt, long_and_short_key, long_and_short_output, pairs_both_ways,
 };
-use ring_uses::raw::{
+use ring_examples::raw::{
     add_raw, add_raw_tag, begin_raw, begin_raw_tag, digest_by_number, finish_raw, finish_raw_tag,
     number_beside, raw_key_of, tag_under_raw,
 };
-use ring_uses::states::{bytes_of_long, bytes_of_short, words_after_block};
+use ring_examples::states::{bytes_of_long, bytes_of_short, words_after_block};
+use ring_store::{PasswordStore, Reply, StoreError, TokenError, TokenMaker};
 use std::num::{NonZeroU32, Wrapping};
 use std::test::Fail;
 

@@ -1,8 +1,8 @@
 //! Rows of names and passwords, and many names beside a plain list.
 
 use ring::cost::Meter;
+use ring_examples::store::first_use;
 use ring_store::{PasswordStore, Reply, StoreError};
-use ring_uses::store::first_use;
 use std::alloc::Global;
 use std::num::NonZeroU32;
 

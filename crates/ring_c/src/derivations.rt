@@ -1,0 +1,109 @@
+//! Keys derived from passwords: PBKDF2 (RFC 2898, section 5.2).
+
+ghost use Rattle.std.specs.Prelude.{◌≡◌, ◌≢◌, ◌↔◌, ◌<◌, ◌≤◌, Some, None, length};
+ghost use Rattle.ring.specs.Limits.{CanDerive, max_dk_len};
+ghost use Rattle.ring.specs.Pbkdf2.{IsDerived, dk, pbkdf2_digest};
+ghost use Rattle.ring.specs.declared.pbkdf2.algorithm.Algorithm.{Algorithm};
+ghost use Rattle.ring_c.specs.Number.{pbkdf2_named};
+
+use crate::number::pbkdf2_of_number;
+use crate::status::{NO_ITERATIONS, OK, UNKNOWN_ALGORITHM, UNSPECIFIED, WRONG_LENGTH};
+use ring::digest::{SHA1_OUTPUT_LEN, SHA256_OUTPUT_LEN, SHA384_OUTPUT_LEN, SHA512_OUTPUT_LEN};
+use ring::pbkdf2;
+use std::num::NonZeroU32;
+
+// The bytes of the longest key of an algorithm's number: more blocks have no number (RFC 2898,
+// section 5.2).
+fn max_key_len(algorithm: u32) -> u128
+    ensures { (a : Algorithm) → pbkdf2_named algorithm ≡ Some a
+        → result ≡ max_dk_len (pbkdf2_digest a) }
+{
+    let digest_len = match algorithm {
+        1 => SHA1_OUTPUT_LEN,
+        2 => SHA256_OUTPUT_LEN,
+        3 => SHA384_OUTPUT_LEN,
+        4 => SHA512_OUTPUT_LEN,
+        _ => 0,
+    };
+    u32::MAX as u128 * digest_len as u128
+}
+
+/// Fills `out` with the key that is derived from `secret` and `salt` in so many `iterations`, by
+/// the PBKDF2 algorithm of the number `algorithm` (RFC 2898, section 5.2).
+///
+/// Refused as `UNKNOWN_ALGORITHM`, as `WRONG_LENGTH` where `out` is longer than `2^32 - 1` digests,
+/// as `NO_ITERATIONS`, and as `UNSPECIFIED` where the secret or the salt is too long. `out` is then
+/// unchanged.
+#[unsafe(no_mangle)]
+pub extern "C" fn yz_pbkdf2_derive(
+    algorithm: u32,
+    iterations: u32,
+    salt: &[u8],
+    secret: &[u8],
+    out: &mut [u8],
+) -> i32
+    ensures ok { (a : Algorithm) → pbkdf2_named algorithm ≡ Some a → result ≡ OK
+        → out.new ≡ dk (pbkdf2_digest a) secret.now salt.now iterations (length out.old) }
+    ensures unknown { result ≡ UNKNOWN_ALGORITHM ↔ pbkdf2_named algorithm ≡ None }
+    ensures wrong_length { (a : Algorithm) → pbkdf2_named algorithm ≡ Some a
+        → (result ≡ WRONG_LENGTH ↔ max_dk_len (pbkdf2_digest a) < length out.old) }
+    ensures no_iterations { (a : Algorithm) → pbkdf2_named algorithm ≡ Some a
+        → length out.old ≤ max_dk_len (pbkdf2_digest a)
+        → (result ≡ NO_ITERATIONS ↔ iterations ≡ 0) }
+    ensures refused { (a : Algorithm) → pbkdf2_named algorithm ≡ Some a → 0 < iterations
+        → (result ≡ OK ↔ CanDerive (pbkdf2_digest a)
+        (length secret.now) (length salt.now) (length out.old)) }
+    ensures told { (a : Algorithm) → pbkdf2_named algorithm ≡ Some a → 0 < iterations
+        → length out.old ≤ max_dk_len (pbkdf2_digest a) → result ≢ OK → result ≡ UNSPECIFIED }
+    ensures unchanged { result ≢ OK → out.new ≡ out.old }
+{
+    let max_len = max_key_len(algorithm);
+    let Some(algorithm) = pbkdf2_of_number(algorithm) else {
+        return UNKNOWN_ALGORITHM;
+    };
+    if out.len() as u128 > max_len {
+        return WRONG_LENGTH;
+    }
+    let Some(iterations) = NonZeroU32::new(iterations) else {
+        return NO_ITERATIONS;
+    };
+    match pbkdf2::derive(algorithm, iterations, salt, secret, out) {
+        Ok(()) => OK,
+        Err(_) => UNSPECIFIED,
+    }
+}
+
+/// Returns 0 exactly if `derived` is not empty and is the key of its length that
+/// [`yz_pbkdf2_derive`] derives from the same `algorithm`, `iterations`, `salt` and `secret` (RFC
+/// 2898, section 5.2).
+///
+/// Refused as `UNKNOWN_ALGORITHM`, `WRONG_LENGTH` and `NO_ITERATIONS` as that call is, and else as
+/// `UNSPECIFIED`: a mismatch, an empty value, or a secret or salt that is too long.
+#[unsafe(no_mangle)]
+pub extern "C" fn yz_pbkdf2_verify(
+    algorithm: u32,
+    iterations: u32,
+    salt: &[u8],
+    secret: &[u8],
+    derived: &[u8],
+) -> i32
+    ensures ok { (a : Algorithm) → pbkdf2_named algorithm ≡ Some a → 0 < iterations
+        → (result ≡ OK ↔ IsDerived (pbkdf2_digest a)
+        secret.now salt.now iterations derived.now) }
+    ensures unknown { result ≡ UNKNOWN_ALGORITHM ↔ pbkdf2_named algorithm ≡ None }
+    ensures no_iterations { (a : Algorithm) → pbkdf2_named algorithm ≡ Some a
+        → (result ≡ NO_ITERATIONS ↔ iterations ≡ 0) }
+    ensures told { (a : Algorithm) → pbkdf2_named algorithm ≡ Some a → 0 < iterations
+        → result ≢ OK → result ≡ UNSPECIFIED }
+{
+    let Some(algorithm) = pbkdf2_of_number(algorithm) else {
+        return UNKNOWN_ALGORITHM;
+    };
+    let Some(iterations) = NonZeroU32::new(iterations) else {
+        return NO_ITERATIONS;
+    };
+    match pbkdf2::verify(algorithm, iterations, salt, secret, derived) {
+        Ok(()) => OK,
+        Err(_) => UNSPECIFIED,
+    }
+}

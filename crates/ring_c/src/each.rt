@@ -1,0 +1,129 @@
+//! Digests of several messages at once.
+
+ghost use Rattle.std.specs.Prelude.{◌≡◌, ◌≢◌, ◌↔◌, ◌++◌, ◌+◌, ◌*◌, ◌≤◌, Some, None};
+ghost use Rattle.std.specs.Prelude.{length, take, drop};
+ghost use Rattle.ring.specs.Algorithm.{output_len};
+ghost use Rattle.ring.specs.Each.{CanDigestEach};
+ghost use Rattle.ring.specs.Raw.{digest_named};
+ghost use Rattle.ring.specs.declared.digest.algorithm.Algorithm.{Algorithm};
+ghost use Rattle.ring_c.specs.Each.{bytes_of_each, digests_of};
+
+use crate::status::{OK, UNKNOWN_ALGORITHM, UNSPECIFIED, WRONG_LENGTH};
+use ring::digest::{self, Algorithm, Digest};
+use ring::raw::digest_of_number;
+
+// How many digests are held at a time: some groups of four, which is what runs side by side.
+const GROUP: usize = 16;
+
+// Why the lengths are refused, if they are. One loop makes both tests: the compiler would turn a
+// loop that only adds up the output's length into a multiplication, and the library has none.
+fn status_of_lengths(algorithm: &Algorithm, messages: &[&[u8]], out_len: usize) -> i32
+    ensures wrong_length { result ≡ WRONG_LENGTH
+        ↔ out_len ≢ length messages.now * output_len algorithm.now }
+    ensures refused { out_len ≡ length messages.now * output_len algorithm.now
+        → (result ≡ OK ↔ CanDigestEach algorithm.now messages.now (length messages.now)) }
+    ensures told { result ≢ OK → result ≢ WRONG_LENGTH → result ≡ UNSPECIFIED }
+{
+    let output_len = algorithm.output_len();
+    let max_input_len = algorithm.max_input_len();
+    let mut left = out_len;
+    let mut are_within = true;
+    'messages: for i in 0..messages.len() {
+        if left < output_len {
+            return WRONG_LENGTH;
+        }
+        left -= output_len;
+        if messages[i].len() as u128 > max_input_len {
+            are_within = false;
+        }
+    }
+    if left != 0 {
+        return WRONG_LENGTH;
+    }
+    if are_within { OK } else { UNSPECIFIED }
+}
+
+// A digest to fill room with.
+fn any_digest(algorithm: &Algorithm) -> Digest {
+    match digest::digest(algorithm, &[]) {
+        Ok(made) => made,
+        // No byte is within the limit.
+        Err(_) => unreachable!(),
+    }
+}
+
+// Writes the bytes from the place `at` on.
+fn write_at(out: &mut [u8], at: usize, bytes: &[u8])
+    requires { at + length bytes.now ≤ length out.old }
+    ensures { out.new ≡ take at out.old ++ bytes.now ++ drop (at + length bytes.now) out.old }
+{
+    out[at..at + bytes.len()].copy_from_slice(bytes);
+}
+
+// Writes the digests to `out` from the place `at` on, and returns the place after them.
+fn write_digests(digests: &[Digest], out: &mut [u8], at: usize) -> usize
+    requires { at + length (bytes_of_each digests.now) ≤ length out.old }
+    ensures end { result ≡ at + length (bytes_of_each digests.now) }
+    ensures ok { take result out.new ≡ take at out.old ++ bytes_of_each digests.now }
+{
+    let mut end = at;
+    'digests: for i in 0..digests.len() {
+        let bytes = digests[i].as_ref();
+        write_at(out, end, bytes);
+        end += bytes.len();
+    }
+    end
+}
+
+// Writes the digests of the messages to `out`, a group at a time.
+fn write_each(algorithm: &Algorithm, messages: &[&[u8]], out: &mut [u8])
+    requires within { CanDigestEach algorithm.now messages.now (length messages.now) }
+    requires room { length out.old ≡ length messages.now * output_len algorithm.now }
+    ensures { out.new ≡ digests_of algorithm.now messages.now }
+{
+    let mut group = [any_digest(algorithm); GROUP];
+    let mut made = 0;
+    let mut written = 0;
+    'groups: while made < messages.len() {
+        let count = GROUP.min(messages.len() - made);
+        let digests = &mut group[..count];
+        match digest::digest_each(algorithm, &messages[made..made + count], digests) {
+            Ok(()) => {}
+            // There is a place a message, and each is within the limit.
+            Err(_) => unreachable!(),
+        }
+        written = write_digests(digests, out, written);
+        made += count;
+    }
+}
+
+/// Writes the digests of `messages` to `out`, one after another, by the digest algorithm of the
+/// number `algorithm` (FIPS 180-4, section 6).
+///
+/// Refused as `UNKNOWN_ALGORITHM`, as `WRONG_LENGTH` where `out` has not the length of all digests
+/// together, and as `UNSPECIFIED` where a message is too long. `out` is then unchanged.
+#[unsafe(no_mangle)]
+pub extern "C" fn yz_digest_each(algorithm: u32, messages: &[&[u8]], out: &mut [u8]) -> i32
+    ensures ok { (a : Algorithm) → digest_named algorithm ≡ Some a → result ≡ OK
+        → out.new ≡ digests_of a messages.now }
+    ensures unknown { result ≡ UNKNOWN_ALGORITHM ↔ digest_named algorithm ≡ None }
+    ensures wrong_length { (a : Algorithm) → digest_named algorithm ≡ Some a
+        → (result ≡ WRONG_LENGTH
+        ↔ length out.old ≢ length messages.now * output_len a) }
+    ensures refused { (a : Algorithm) → digest_named algorithm ≡ Some a
+        → length out.old ≡ length messages.now * output_len a
+        → (result ≡ OK ↔ CanDigestEach a messages.now (length messages.now)) }
+    ensures told { (a : Algorithm) → digest_named algorithm ≡ Some a
+        → length out.old ≡ length messages.now * output_len a → result ≢ OK
+        → result ≡ UNSPECIFIED }
+    ensures unchanged { result ≢ OK → out.new ≡ out.old }
+{
+    let Some(algorithm) = digest_of_number(algorithm) else {
+        return UNKNOWN_ALGORITHM;
+    };
+    let status = status_of_lengths(&algorithm, messages, out.len());
+    if status == OK {
+        write_each(&algorithm, messages, out);
+    }
+    status
+}

@@ -1,0 +1,166 @@
+//! Keys derived from secrets: HKDF (RFC 5869).
+
+ghost use Rattle.std.specs.Prelude.{◌≡◌, ◌≢◌, ◌↔◌, ℕ, ◌*◌, ◌≤◌, ◌<◌};
+ghost use Rattle.std.specs.Prelude.{List, Some, None, length, IsTrue};
+ghost use Rattle.ring.specs.Algorithm.{output_len};
+ghost use Rattle.ring.specs.Hkdf.{PrkStandsFor, hkdf_digest, okm, prk_algorithm};
+ghost use Rattle.ring.specs.Hmac.{hmac_of};
+ghost use Rattle.ring.specs.Limits.{IsInfoWithin, IsOutputWithin};
+ghost use Rattle.ring.specs.declared.hkdf.algorithm.Algorithm.{Algorithm};
+ghost use Rattle.ring_c.specs.Limits.{CanExpand, CanMake, CanSign};
+ghost use Rattle.ring_c.specs.Number.{hkdf_named};
+
+use crate::number::hkdf_of_number;
+use crate::status::{OK, UNKNOWN_ALGORITHM, UNSPECIFIED, WRONG_LENGTH};
+use crate::tags::write_tag;
+use ring::hkdf::{self, KeyType, Prk, Salt};
+use ring::hmac::Key;
+
+// The most rounds of an output (RFC 5869, section 2.3).
+const MAX_ROUNDS: usize = 255;
+
+// A number of bytes.
+#[derive(Drop)]
+struct Length(usize);
+
+impl KeyType for Length {
+    ghost key_len = { λ length. length.0 };
+
+    fn len(&self) -> usize {
+        self.0
+    }
+}
+
+// Whether so many bytes may be asked for.
+fn is_output_within(algorithm: &hkdf::Algorithm, len: usize) -> bool
+    ensures { IsTrue result ↔ IsOutputWithin (hkdf_digest algorithm.now) len }
+{
+    len <= MAX_ROUNDS * algorithm.hmac_algorithm().digest_algorithm().output_len()
+}
+
+/// Writes the PRK that is extracted from `secret` with `salt` to `out`, by the HKDF algorithm of
+/// the number `algorithm` (RFC 5869, section 2.2).
+///
+/// Refused as `UNKNOWN_ALGORITHM`, as `WRONG_LENGTH` where `out` has not the length of a digest,
+/// and as `UNSPECIFIED` where the salt or the secret is too long. `out` is then unchanged.
+#[unsafe(no_mangle)]
+pub extern "C" fn yz_hkdf_extract(algorithm: u32, salt: &[u8], secret: &[u8], out: &mut [u8]) -> i32
+    ensures ok { (a : Algorithm) → hkdf_named algorithm ≡ Some a → result ≡ OK
+        → out.new ≡ hmac_of (hkdf_digest a) salt.now secret.now }
+    ensures unknown { result ≡ UNKNOWN_ALGORITHM ↔ hkdf_named algorithm ≡ None }
+    ensures wrong_length { (a : Algorithm) → hkdf_named algorithm ≡ Some a
+        → (result ≡ WRONG_LENGTH ↔ length out.old ≢ output_len (hkdf_digest a)) }
+    ensures refused { (a : Algorithm) → hkdf_named algorithm ≡ Some a
+        → length out.old ≡ output_len (hkdf_digest a)
+        → (result ≡ OK ↔ CanSign (hkdf_digest a) (length salt.now) (length secret.now)) }
+    ensures told { (a : Algorithm) → hkdf_named algorithm ≡ Some a
+        → length out.old ≡ output_len (hkdf_digest a) → result ≢ OK → result ≡ UNSPECIFIED }
+    ensures unchanged { result ≢ OK → out.new ≡ out.old }
+{
+    let Some(algorithm) = hkdf_of_number(algorithm) else {
+        return UNKNOWN_ALGORITHM;
+    };
+    let algorithm = algorithm.hmac_algorithm();
+    if out.len() != algorithm.digest_algorithm().output_len() {
+        return WRONG_LENGTH;
+    }
+    let Ok(salt) = Key::new(algorithm, salt) else {
+        return UNSPECIFIED;
+    };
+    write_tag(&salt, secret, out)
+}
+
+/// Fills `out` with the output of the PRK `prk` for `info`, by the HKDF algorithm of the number
+/// `algorithm` (RFC 5869, section 2.3).
+///
+/// Refused as `UNKNOWN_ALGORITHM`, as `WRONG_LENGTH` where `out` is longer than 255 digests, and as
+/// `UNSPECIFIED` where the PRK or the info is too long. `out` is then unchanged.
+#[unsafe(no_mangle)]
+pub extern "C" fn yz_hkdf_expand(algorithm: u32, prk: &[u8], info: &[u8], out: &mut [u8]) -> i32
+    ensures ok { (a : Algorithm) → hkdf_named algorithm ≡ Some a → result ≡ OK
+        → out.new ≡ okm (hkdf_digest a) prk.now info.now (length out.old) }
+    ensures unknown { result ≡ UNKNOWN_ALGORITHM ↔ hkdf_named algorithm ≡ None }
+    ensures wrong_length { (a : Algorithm) → hkdf_named algorithm ≡ Some a
+        → (result ≡ WRONG_LENGTH ↔ (255 * output_len (hkdf_digest a) < length out.old)) }
+    ensures refused { (a : Algorithm) → hkdf_named algorithm ≡ Some a
+        → IsOutputWithin (hkdf_digest a) (length out.old)
+        → (result ≡ OK
+        ↔ CanExpand (hkdf_digest a) (length prk.now) (length info.now) (length out.old)) }
+    ensures told { (a : Algorithm) → hkdf_named algorithm ≡ Some a
+        → IsOutputWithin (hkdf_digest a) (length out.old) → result ≢ OK → result ≡ UNSPECIFIED }
+    ensures unchanged { result ≢ OK → out.new ≡ out.old }
+{
+    let Some(algorithm) = hkdf_of_number(algorithm) else {
+        return UNKNOWN_ALGORITHM;
+    };
+    if !is_output_within(&algorithm, out.len()) {
+        return WRONG_LENGTH;
+    }
+    let Ok(prk) = Prk::new_less_safe(algorithm, prk) else {
+        return UNSPECIFIED;
+    };
+    fill(&prk, info, out)
+}
+
+/// Fills `out` with the output for `info` of the PRK that is extracted from `secret` with `salt`,
+/// by the HKDF algorithm of the number `algorithm` (RFC 5869, sections 2.2 and 2.3).
+///
+/// Refused as `UNKNOWN_ALGORITHM`, as `WRONG_LENGTH` where `out` is longer than 255 digests, and as
+/// `UNSPECIFIED` where the salt, the secret or the info is too long. `out` is then unchanged.
+#[unsafe(no_mangle)]
+pub extern "C" fn yz_hkdf(
+    algorithm: u32,
+    salt: &[u8],
+    secret: &[u8],
+    info: &[u8],
+    out: &mut [u8],
+) -> i32
+    ensures ok { (a : Algorithm) → hkdf_named algorithm ≡ Some a → result ≡ OK
+        → out.new ≡ okm (hkdf_digest a)
+        (hmac_of (hkdf_digest a) salt.now secret.now) info.now (length out.old) }
+    ensures unknown { result ≡ UNKNOWN_ALGORITHM ↔ hkdf_named algorithm ≡ None }
+    ensures wrong_length { (a : Algorithm) → hkdf_named algorithm ≡ Some a
+        → (result ≡ WRONG_LENGTH ↔ (255 * output_len (hkdf_digest a) < length out.old)) }
+    ensures refused { (a : Algorithm) → hkdf_named algorithm ≡ Some a
+        → IsOutputWithin (hkdf_digest a) (length out.old)
+        → (result ≡ OK ↔ CanMake (hkdf_digest a)
+        (length salt.now) (length secret.now) (length info.now) (length out.old)) }
+    ensures told { (a : Algorithm) → hkdf_named algorithm ≡ Some a
+        → IsOutputWithin (hkdf_digest a) (length out.old) → result ≢ OK → result ≡ UNSPECIFIED }
+    ensures unchanged { result ≢ OK → out.new ≡ out.old }
+{
+    let Some(algorithm) = hkdf_of_number(algorithm) else {
+        return UNKNOWN_ALGORITHM;
+    };
+    if !is_output_within(&algorithm, out.len()) {
+        return WRONG_LENGTH;
+    }
+    let Ok(salt) = Salt::new(algorithm, salt) else {
+        return UNSPECIFIED;
+    };
+    let Ok(prk) = salt.extract(secret) else {
+        return UNSPECIFIED;
+    };
+    fill(&prk, info, out)
+}
+
+// Fills `out` with the PRK's output for `info`.
+fn fill(prk: &Prk, info: &[u8], out: &mut [u8]) -> i32
+    requires { IsOutputWithin (prk_algorithm prk.now) (length out.old) }
+    ensures ok { (k : List ℕ) → PrkStandsFor prk.now k → result ≡ OK
+        → out.new ≡ okm (prk_algorithm prk.now) k info.now (length out.old) }
+    ensures refused { result ≡ OK
+        ↔ IsInfoWithin (prk_algorithm prk.now) (length info.now) (length out.old) }
+    ensures told { result ≢ OK → result ≡ UNSPECIFIED }
+    ensures unchanged { result ≢ OK → out.new ≡ out.old }
+{
+    let pieces = [info];
+    let Ok(output) = prk.expand(&pieces, Length(out.len())) else {
+        // The length was tested.
+        unreachable!()
+    };
+    match output.fill(out) {
+        Ok(()) => OK,
+        Err(_) => UNSPECIFIED,
+    }
+}

@@ -1,0 +1,251 @@
+//! Tags: HMAC (RFC 2104).
+
+ghost use Rattle.std.specs.Prelude.{◌≡◌, ◌≢◌, ◌↔◌, ◌++◌, [], ℕ, List, Some, None, length};
+ghost use Rattle.ring.specs.Algorithm.{output_len};
+ghost use Rattle.ring.specs.Hmac.{KeyStandsFor, hmac_digest, hmac_of, key_algorithm};
+ghost use Rattle.ring.specs.Limits.{IsMessageWithin, IsTagWithin};
+ghost use Rattle.ring.specs.Raw.{IsNoKey, IsNoTagContext, RawKeyStandsFor, RawTagStandsFor};
+ghost use Rattle.ring.specs.Raw.{digest_named, raw_message_len};
+ghost use Rattle.ring.specs.declared.digest.algorithm.Algorithm as digest;
+ghost use Rattle.ring.specs.declared.hmac.algorithm.Algorithm.{Algorithm};
+ghost use Rattle.ring_c.specs.Limits.{CanSign};
+ghost use Rattle.ring_c.specs.Number.{hmac_named};
+
+use crate::lengths::yz_output_len;
+use crate::number::hmac_of_number;
+use crate::status::{OK, UNKNOWN_ALGORITHM, UNKNOWN_CONTEXT, UNSPECIFIED, WRONG_LENGTH};
+use ring::hmac::{self, Context, Key};
+use ring::raw::{RawKey, RawTagContext};
+
+// Writes the tag of a message to `out`.
+pub(crate) fn write_tag(key: &Key, message: &[u8], out: &mut [u8]) -> i32
+    requires { length out.old ≡ output_len (key_algorithm key.now) }
+    ensures ok { (k : List ℕ) → KeyStandsFor key.now k → result ≡ OK
+        → out.new ≡ hmac_of (key_algorithm key.now) k message.now }
+    ensures refused { result ≡ OK ↔ IsTagWithin (key_algorithm key.now) (length message.now) }
+    ensures told { result ≢ OK → result ≡ UNSPECIFIED }
+    ensures unchanged { result ≢ OK → out.new ≡ out.old }
+{
+    let Ok(tag) = hmac::sign(key, message) else {
+        return UNSPECIFIED;
+    };
+    out.copy_from_slice(tag.as_ref());
+    OK
+}
+
+// Verifies the tag of a message.
+fn verify_tag(key: &Key, message: &[u8], tag: &[u8]) -> i32
+    ensures ok { (k : List ℕ) → KeyStandsFor key.now k
+        → (result ≡ OK ↔ (IsTagWithin (key_algorithm key.now) (length message.now)
+        × (tag.now ≡ hmac_of (key_algorithm key.now) k message.now))) }
+    ensures refused { result ≡ OK → IsTagWithin (key_algorithm key.now) (length message.now) }
+    ensures told { result ≢ OK → result ≡ UNSPECIFIED }
+{
+    match hmac::verify(key, message, tag) {
+        Ok(()) => OK,
+        Err(_) => UNSPECIFIED,
+    }
+}
+
+/// Writes the tag of `message` under the key bytes `key` to `out`, by the HMAC algorithm of the
+/// number `algorithm` (RFC 2104, section 2).
+///
+/// Refused as `UNKNOWN_ALGORITHM`, as `WRONG_LENGTH` where `out` has not the length of a tag, and
+/// as `UNSPECIFIED` where the key or the message is too long. `out` is then unchanged.
+#[unsafe(no_mangle)]
+pub extern "C" fn yz_hmac_sign(algorithm: u32, key: &[u8], message: &[u8], out: &mut [u8]) -> i32
+    ensures ok { (a : Algorithm) → hmac_named algorithm ≡ Some a → result ≡ OK
+        → out.new ≡ hmac_of (hmac_digest a) key.now message.now }
+    ensures unknown { result ≡ UNKNOWN_ALGORITHM ↔ hmac_named algorithm ≡ None }
+    ensures wrong_length { (a : Algorithm) → hmac_named algorithm ≡ Some a
+        → (result ≡ WRONG_LENGTH ↔ length out.old ≢ output_len (hmac_digest a)) }
+    ensures refused { (a : Algorithm) → hmac_named algorithm ≡ Some a
+        → length out.old ≡ output_len (hmac_digest a)
+        → (result ≡ OK ↔ CanSign (hmac_digest a) (length key.now) (length message.now)) }
+    ensures told { (a : Algorithm) → hmac_named algorithm ≡ Some a
+        → length out.old ≡ output_len (hmac_digest a) → result ≢ OK → result ≡ UNSPECIFIED }
+    ensures unchanged { result ≢ OK → out.new ≡ out.old }
+{
+    let Some(algorithm) = hmac_of_number(algorithm) else {
+        return UNKNOWN_ALGORITHM;
+    };
+    if out.len() != algorithm.digest_algorithm().output_len() {
+        return WRONG_LENGTH;
+    }
+    let Ok(signing_key) = Key::new(algorithm, key) else {
+        return UNSPECIFIED;
+    };
+    write_tag(&signing_key, message, out)
+}
+
+/// Returns 0 exactly if `tag` is the whole tag of `message` under the key bytes `key`, by the HMAC
+/// algorithm of the number `algorithm` (RFC 2104, section 2).
+///
+/// Refused as `UNKNOWN_ALGORITHM`, and else as `UNSPECIFIED`: a mismatch, or a key or message that
+/// is too long.
+#[unsafe(no_mangle)]
+pub extern "C" fn yz_hmac_verify(algorithm: u32, key: &[u8], message: &[u8], tag: &[u8]) -> i32
+    ensures ok { (a : Algorithm) → hmac_named algorithm ≡ Some a
+        → (result ≡ OK ↔ (CanSign (hmac_digest a) (length key.now) (length message.now)
+        × (tag.now ≡ hmac_of (hmac_digest a) key.now message.now))) }
+    ensures unknown { result ≡ UNKNOWN_ALGORITHM ↔ hmac_named algorithm ≡ None }
+    ensures told { result ≢ UNKNOWN_ALGORITHM → result ≢ OK → result ≡ UNSPECIFIED }
+{
+    let Some(algorithm) = hmac_of_number(algorithm) else {
+        return UNKNOWN_ALGORITHM;
+    };
+    let Ok(verifying_key) = Key::new(algorithm, key) else {
+        return UNSPECIFIED;
+    };
+    verify_tag(&verifying_key, message, tag)
+}
+
+/// Makes in `key` the key of the bytes `value`, to be used for any number of tags, for the HMAC
+/// algorithm of the number `algorithm` (RFC 2104, section 2).
+///
+/// Refused as `UNKNOWN_ALGORITHM`, and as `UNSPECIFIED` where the value is too long. `key` is then
+/// unchanged.
+#[unsafe(no_mangle)]
+pub extern "C" fn yz_hmac_key_init(algorithm: u32, value: &[u8], key: &mut RawKey) -> i32
+    ensures ok { (a : Algorithm) → hmac_named algorithm ≡ Some a → result ≡ OK
+        → RawKeyStandsFor key.new (hmac_digest a) value.now }
+    ensures unknown { result ≡ UNKNOWN_ALGORITHM ↔ hmac_named algorithm ≡ None }
+    ensures refused { (a : Algorithm) → hmac_named algorithm ≡ Some a
+        → (result ≡ OK ↔ IsMessageWithin (hmac_digest a) (length value.now)) }
+    ensures told { result ≢ UNKNOWN_ALGORITHM → result ≢ OK → result ≡ UNSPECIFIED }
+    ensures unchanged { result ≢ OK → key.new ≡ key.old }
+{
+    let Some(algorithm) = hmac_of_number(algorithm) else {
+        return UNKNOWN_ALGORITHM;
+    };
+    let Ok(made) = Key::new(algorithm, value) else {
+        return UNSPECIFIED;
+    };
+    *key = RawKey::new(&made);
+    OK
+}
+
+/// Writes the tag of `message` under `key` to `out` (RFC 2104, section 2).
+///
+/// Refused as `UNKNOWN_CONTEXT` where the numbers are no key's, as `WRONG_LENGTH` where `out` has
+/// not the length of a tag, and as `UNSPECIFIED` where the message is too long. `out` is then
+/// unchanged.
+#[unsafe(no_mangle)]
+pub extern "C" fn yz_hmac_key_sign(key: &RawKey, message: &[u8], out: &mut [u8]) -> i32
+    ensures ok { (a : digest.Algorithm) (k : List ℕ) → RawKeyStandsFor key.now a k → result ≡ OK
+        → out.new ≡ hmac_of a k message.now }
+    ensures unknown { result ≡ UNKNOWN_CONTEXT ↔ IsNoKey key.now }
+    ensures wrong_length { (a : digest.Algorithm) → digest_named key.now.algorithm ≡ Some a
+        → (result ≡ WRONG_LENGTH ↔ length out.old ≢ output_len a) }
+    ensures refused { (a : digest.Algorithm) → digest_named key.now.algorithm ≡ Some a
+        → length out.old ≡ output_len a → (result ≡ OK ↔ IsTagWithin a (length message.now)) }
+    ensures told { result ≢ OK → result ≢ UNKNOWN_CONTEXT → result ≢ WRONG_LENGTH
+        → result ≡ UNSPECIFIED }
+    ensures unchanged { result ≢ OK → out.new ≡ out.old }
+{
+    let Some(key) = key.key() else {
+        return UNKNOWN_CONTEXT;
+    };
+    if out.len() != key.algorithm().digest_algorithm().output_len() {
+        return WRONG_LENGTH;
+    }
+    write_tag(&key, message, out)
+}
+
+/// Returns 0 exactly if `tag` is the whole tag of `message` under `key` (RFC 2104, section 2).
+///
+/// Refused as `UNKNOWN_CONTEXT` where the numbers are no key's, and else as `UNSPECIFIED`: a
+/// mismatch, or a message that is too long.
+#[unsafe(no_mangle)]
+pub extern "C" fn yz_hmac_key_verify(key: &RawKey, message: &[u8], tag: &[u8]) -> i32
+    ensures ok { (a : digest.Algorithm) (k : List ℕ) → RawKeyStandsFor key.now a k
+        → (result ≡ OK ↔ (IsTagWithin a (length message.now)
+        × (tag.now ≡ hmac_of a k message.now))) }
+    ensures unknown { result ≡ UNKNOWN_CONTEXT ↔ IsNoKey key.now }
+    ensures refused { (a : digest.Algorithm) → digest_named key.now.algorithm ≡ Some a
+        → result ≡ OK → IsTagWithin a (length message.now) }
+    ensures told { result ≢ OK → result ≢ UNKNOWN_CONTEXT → result ≡ UNSPECIFIED }
+{
+    match key.key() {
+        Some(key) => verify_tag(&key, message, tag),
+        None => UNKNOWN_CONTEXT,
+    }
+}
+
+/// Starts in `context` the tag under `key` of a message that arrives in pieces (RFC 2104, section
+/// 2).
+///
+/// Refused as `UNKNOWN_CONTEXT` where the numbers are no key's. `context` is then unchanged.
+#[unsafe(no_mangle)]
+pub extern "C" fn yz_hmac_init(key: &RawKey, context: &mut RawTagContext) -> i32
+    ensures ok { (a : digest.Algorithm) (k : List ℕ) → RawKeyStandsFor key.now a k
+        → result ≡ OK × RawTagStandsFor context.new a k [] }
+    ensures unknown { result ≡ UNKNOWN_CONTEXT ↔ IsNoKey key.now }
+    ensures told { result ≢ OK → result ≡ UNKNOWN_CONTEXT }
+    ensures unchanged { result ≢ OK → context.new ≡ context.old }
+{
+    let Some(signing_key) = key.key() else {
+        return UNKNOWN_CONTEXT;
+    };
+    *context = RawTagContext::new(&Context::with_key(&signing_key));
+    OK
+}
+
+/// Adds `input` to the message of `context` (RFC 2104, section 2).
+///
+/// Refused as `UNKNOWN_CONTEXT` where the numbers are no context's, which are then unchanged. Where
+/// the message is too long, [`yz_hmac_final`] is refused.
+#[unsafe(no_mangle)]
+pub extern "C" fn yz_hmac_update(context: &mut RawTagContext, input: &[u8]) -> i32
+    ensures ok { (a : digest.Algorithm) (k m : List ℕ) → RawTagStandsFor context.old a k m
+        → result ≡ OK × RawTagStandsFor context.new a k (m ++ input.now) }
+    ensures unknown { result ≡ UNKNOWN_CONTEXT ↔ IsNoTagContext context.old }
+    ensures told { result ≢ OK → result ≡ UNKNOWN_CONTEXT }
+    ensures unchanged { result ≢ OK → context.new ≡ context.old }
+{
+    if context.keep(input) {
+        return OK;
+    }
+    let Some(mut running) = context.context() else {
+        return UNKNOWN_CONTEXT;
+    };
+    running.update(input);
+    *context = RawTagContext::new(&running);
+    OK
+}
+
+/// Writes the tag of the message of `context` to `out` (RFC 2104, section 2). The context is
+/// unchanged, and more input may follow.
+///
+/// Refused as `UNKNOWN_CONTEXT`, as `WRONG_LENGTH` where `out` has not the length of a tag, and as
+/// `UNSPECIFIED` where the message is too long. `out` is then unchanged.
+#[unsafe(no_mangle)]
+pub extern "C" fn yz_hmac_final(context: &RawTagContext, out: &mut [u8]) -> i32
+    ensures ok { (a : digest.Algorithm) (k m : List ℕ) → RawTagStandsFor context.now a k m
+        → result ≡ OK → out.new ≡ hmac_of a k m }
+    ensures unknown { result ≡ UNKNOWN_CONTEXT ↔ IsNoTagContext context.now }
+    ensures wrong_length { (a : digest.Algorithm)
+        → digest_named context.now.inner.algorithm ≡ Some a → result ≢ UNKNOWN_CONTEXT
+        → (result ≡ WRONG_LENGTH ↔ length out.old ≢ output_len a) }
+    ensures refused { (a : digest.Algorithm) → digest_named context.now.inner.algorithm ≡ Some a
+        → result ≢ UNKNOWN_CONTEXT → length out.old ≡ output_len a
+        → (result ≡ OK ↔ IsMessageWithin a (raw_message_len context.now.inner)) }
+    ensures refused_of { (a : digest.Algorithm) (k m : List ℕ)
+        → RawTagStandsFor context.now a k m → length out.old ≡ output_len a
+        → (result ≡ OK ↔ IsTagWithin a (length m)) }
+    ensures told { result ≢ OK → result ≢ UNKNOWN_CONTEXT → result ≢ WRONG_LENGTH
+        → result ≡ UNSPECIFIED }
+    ensures unchanged { result ≢ OK → out.new ≡ out.old }
+{
+    let Some(running) = context.context() else {
+        return UNKNOWN_CONTEXT;
+    };
+    if out.len() != yz_output_len(context.inner.algorithm) {
+        return WRONG_LENGTH;
+    }
+    let Ok(tag) = running.sign() else {
+        return UNSPECIFIED;
+    };
+    out.copy_from_slice(tag.as_ref());
+    OK
+}

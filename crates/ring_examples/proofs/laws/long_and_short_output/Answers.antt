@@ -1,0 +1,11 @@
+use Rattle.std.proofs.Common.{arith}
+use Rattle.ring_examples.proofs.laws.long_and_short_output.Goals as goal
+
+pub returns : goal.returns
+returns c = record {
+  front = λ k stands.
+      let long = c.in_ok-fill.ensures.ok k _ _ (c.in_ok-expand.ensures.ok k stands) in
+      let short = c.in_ok-fill-2.ensures.ok k _ _ (c.in_ok-expand-2.ensures.ok k stands) in
+      rw (short, long, c.in_ok-expand.ensures.algorithm, c.in_ok-expand-2.ensures.algorithm)
+      (c.law_5.ensures _ k _ 32 64 (omega arith));
+}

@@ -1,9 +1,0 @@
-use Rattle.std.proofs.Common.{[]}
-use Rattle.ring.specs.declared.digest.algorithm.TheConstants.{SHA256}
-use Rattle.ring_uses.proofs.laws.extract_without_salt.Goals as goal
-
-pub returns : goal.returns
-returns c = record {
-  ok = rw (c.in_ok-new.ensures.algorithm, c.law_7.ensures SHA256 c.args.secret.now) at
-      (c.extract.ensures.ok [] c.in_ok-new.ensures.ok);
-}

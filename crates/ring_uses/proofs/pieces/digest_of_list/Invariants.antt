@@ -1,9 +1,0 @@
-use Rattle.std.proofs.Common.{◌≡◌, take}
-use Rattle.ring.specs.Context.{StandsFor, context_algorithm}
-use Rattle.ring.specs.Pieces.{joined}
-use Rattle.ring_uses.proofs.pieces.digest_of_list.Given as goal
-
-abbrev pub invariant-pieces : goal.invariant-pieces
-invariant-pieces l =
-    StandsFor l.context (joined (take l.piece-index l.pieces))
-    × (context_algorithm l.context ≡ l.algorithm)

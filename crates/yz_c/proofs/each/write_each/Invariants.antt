@@ -1,9 +1,0 @@
-use Rattle.std.proofs.Common.{length, ◌-◌}
-use Rattle.yz_c.proofs.Written.{AreWritten}
-use Rattle.yz_c.proofs.each.write_each.Given as goal
-
-abbrev pub invariant-groups : goal.invariant-groups
-invariant-groups l = AreWritten l.algorithm l.messages l.made l.written l.out
-
-abbrev pub decreases-groups : goal.decreases-groups
-decreases-groups l = length l.messages - l.made

@@ -10,7 +10,7 @@ use Rattle.std.proofs.lemmas.List.{get_or-set_other, get_or-set_same, length-tak
 use Rattle.std.specs.Borrow.{Bor}
 use Rattle.ring_core.specs.Cost.{Counts, raised}
 use Rattle.ring_core.proofs.Costs.{raised-none, raised-raised}
-use Rattle.ring_core.proofs.Four.{four_cases}
+use Rattle.ring.proofs.FourCases.{four_cases}
 use Rattle.ring.specs.Algorithm.{output_len, word_len}
 use Rattle.ring.specs.Cost.{derive_blocks, derive_rounds, iterate_blocks, key_blocks}
 use Rattle.ring.specs.Cost.{padded_blocks}

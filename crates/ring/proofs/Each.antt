@@ -11,7 +11,7 @@ use Rattle.std.proofs.lemmas.List.Sums.{sum_by-append}
 use Rattle.std.specs.Borrow.{Bor}
 use Rattle.ring_core.specs.Cost.{Counts, raised}
 use Rattle.ring_core.proofs.Costs.{raised-none, raised-raised}
-use Rattle.ring_core.proofs.Four.{four_cases}
+use Rattle.ring.proofs.FourCases.{four_cases}
 use Rattle.ring.specs.Cost.{padded_blocks}
 use Rattle.ring.specs.Digest.{IsDigest}
 use Rattle.ring.specs.Each.{AreDigests, CanDigestEach, each_blocks, message_at}

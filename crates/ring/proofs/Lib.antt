@@ -1,3 +1,4 @@
+pub mod FourCases
 pub mod Costs
 pub mod Rows
 pub mod Outputs

@@ -5,7 +5,7 @@ use Rattle.std.proofs.Common.{◌&&◌, List, ◌++◌, length, take, drop, refl
 use Rattle.std.proofs.Common.{add-one, suc-mul, zero-mul, length-drop, length-take-le, take_all}
 use Rattle.std.proofs.Math.Seq.{take-append-add}
 use Rattle.std.proofs.Math.Nat.{lt_of_mul-lt-mul_right}
-use Rattle.ring_core.proofs.Four.{four_cases}
+use Rattle.ring.proofs.FourCases.{four_cases}
 use Rattle.std.proofs.lemmas.Grind.{div_ceil_times}
 use Rattle.std.proofs.lemmas.Slice.{take-put_mid}
 use Rattle.ring_core.specs.Cost.{Counts, raised}

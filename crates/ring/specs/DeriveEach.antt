@@ -2,7 +2,7 @@
 use Rattle.std.specs.Prelude.{◌≡◌, ◌↔◌, ℕ, zero, suc, ◌+◌, ◌<◌, Bool, false, IsTrue, List, []}
 use Rattle.std.specs.Prelude.{get_or, length}
 use Rattle.std.specs.Borrow.{Bor}
-use Rattle.ring_core.specs.Lane.{words_of_lane}
+use Rattle.ring.specs.FourLanes.{words_of_lane}
 use Rattle.ring.specs.Cost.{derive_blocks}
 use Rattle.ring.specs.Each.{message_at}
 use Rattle.ring.specs.Hmac.{KeyStandsFor, key_algorithm}

@@ -1,7 +1,7 @@
 -- Digests and keys as the words of states.
 use Rattle.std.specs.Prelude.{◌≡◌, ℕ, List, take}
-use Rattle.ring_core.specs.Lane.{words_of_lane}
-use Rattle.ring_core.specs.declared.digest.four.FourStates.{FourStates}
+use Rattle.ring.specs.FourLanes.{words_of_lane}
+use Rattle.ring_core.specs.declared.digest.states.States.{States}
 use Rattle.ring.specs.Algorithm.{output_len, word_count, word_len}
 use Rattle.ring.specs.Digest.{words_after}
 use Rattle.ring.specs.Hmac.{KeyStandsFor, key_algorithm}
@@ -20,7 +20,7 @@ pub record IsKeyInLane (a : Algorithm) (inner outer k : List ℕ) : Type 0 where
   pub outside : take (word_count a) outer ≡ words_after a (outer_block a k)
 
 -- in each lane the two states are those of the key
-abbrev pub IsKeyInLanes : (key : Key) (inner outer : FourStates) → Type 0
+abbrev pub IsKeyInLanes : (key : Key) (inner outer : States (List ℕ)) → Type 0
 IsKeyInLanes key inner outer =
     (l : ℕ) (p : List ℕ) → KeyStandsFor key p
     → IsKeyInLane (key_algorithm key) (words_of_lane l inner) (words_of_lane l outer) p

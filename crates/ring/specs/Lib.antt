@@ -19,3 +19,4 @@ pub mod Okm
 pub mod Pbkdf2
 pub mod DeriveEach
 pub mod Raw
+pub mod FourLanes

@@ -82,6 +82,7 @@ pub(crate) mod block_context;
 pub(crate) mod context;
 pub mod dynstate;
 mod each;
+pub(crate) mod four_states;
 mod initial;
 mod lanes;
 pub(crate) mod padding;
@@ -97,7 +98,7 @@ pub use crate::digest::dynstate::Output;
 pub use crate::digest::each::{digest_each, digest_each_counted};
 pub use crate::digest::padding::padding_is_shortest;
 pub use crate::digest::value::Digest;
-pub use ring_core::digest::{four, sha1, sha2, word};
+pub use ring_core::digest::{sha1, sha2, states, word};
 
 /// Computes the digest of `message` as [`digest`] does, and counts its blocks on `meter`. A refusal
 /// leaves `meter` as it was.

@@ -1,7 +1,7 @@
 pub mod Rotation
 pub mod ShortForms
 pub mod Lanes
-pub mod Four
+pub mod Vectors
 pub mod Halves
 pub mod Mapped
 pub mod Schedule

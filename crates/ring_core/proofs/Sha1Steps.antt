@@ -1,10 +1,10 @@
 -- The steps of SHA-1's definitions.
 use Rattle.std.proofs.Common.{◌≡◌, ℕ, ◌+◌, ◌-◌, ◌<◌, ◌≤◌, List, [], ◌∷◌, length, slice_index, refl}
-use Rattle.std.proofs.Common.{ap, ◌∙◌, add-one, arith, nat_lt, true, false}
-use Rattle.ring_core.specs.Schedule.{listed}
+use Rattle.std.proofs.Common.{ap, sym, ◌∙◌, add-one, arith, nat_lt, true, false}
+use Rattle.ring_core.specs.Schedule.{IsRing, listed}
 use Rattle.ring_core.specs.Sha1.{W, add_state, block_step, next_word, round, rounds_from, scheduled}
 use Rattle.ring_core.specs.Word.{word_at}
-use Rattle.ring_core.proofs.Schedule.{listed_at-next, slice_index-listed}
+use Rattle.ring_core.proofs.Schedule.{listed_at-next, ring-same, slice_index-listed}
 
 W-next_word : (b : List ℕ) (t : ℕ) → W b t ≡ next_word b (listed (next_word b) t) t
 unfolding W
@@ -16,6 +16,11 @@ before b t k h = slice_index-listed (next_word b) t k h
 
 pub W-first : (b : List ℕ) (t : ℕ) → t < 16 → W b t ≡ word_at 32 b t
 W-first b t h = let e : nat_lt t 16 ≡ true = search arith in W-next_word b t ∙ rw e refl
+
+-- the words of a block are the first sixteen of its schedule
+pub ring-loaded : (b ring : List ℕ) → IsRing (word_at 32 b) ring 16 → IsRing (W b) ring 16
+ring-loaded b ring loaded =
+    ring-same (word_at 32 b) (W b) ring 16 loaded (λ k below. sym (W-first b k below))
 
 pub W-next : (b : List ℕ) (t : ℕ) → 16 ≤ t
     → W b t ≡ scheduled (W b (t - 3)) (W b (t - 8)) (W b (t - 14)) (W b (t - 16))

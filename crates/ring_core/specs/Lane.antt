@@ -1,16 +1,11 @@
--- Four words of 32 bits side by side, and four states of them.
+-- Words side by side, each the word of a lane.
 use Rattle.std.specs.Prelude.{ℕ, ◌%◌, ◌^◌, List, map, slice_index}
-use Rattle.ring_core.specs.declared.digest.four.FourStates.{FourStates}
-use Rattle.ring_core.specs.declared.digest.word.four.FourWords.{FourWords}
+use Rattle.ring_core.specs.declared.digest.states.States.{States}
 
--- the number in lane i of a vector; lanes are counted round
-abbrev pub lane : ℕ → List ℕ → ℕ
-lane i x = slice_index x (i % 4) % 2 ^ 32
+-- the word of `bits` bits at a place of a vector
+abbrev pub lane : ℕ → ℕ → List ℕ → ℕ
+lane bits i x = slice_index x i % 2 ^ bits
 
--- the word in lane i
-abbrev pub word_of_lane : ℕ → FourWords → ℕ
-word_of_lane i words = lane i words.0
-
--- the words of the state in lane i
-abbrev pub words_of_lane : ℕ → FourStates → List ℕ
-words_of_lane i states = map (word_of_lane i) states.words
+-- the words of a state, each read from its vector
+abbrev pub words_of_lane : {V : Type 0} → (V → ℕ) → States V → List ℕ
+words_of_lane f states = map (λ x. f x.0) states.words

@@ -70,11 +70,11 @@ impl Meter {
         self.blocks = self.blocks.saturating_add(1);
     }
 
-    // Four blocks more.
-    pub(crate) fn add_four_blocks(&mut self)
-        ensures { self.new ≡ raised self.old 4 0 }
+    // So many blocks more.
+    pub(crate) fn add_blocks(&mut self, count: usize)
+        ensures { self.new ≡ raised self.old count 0 }
     {
-        self.blocks = self.blocks.saturating_add(4);
+        self.blocks = self.blocks.saturating_add(count as u128);
     }
 
     // One pair of bytes more.

@@ -4,7 +4,7 @@ ghost use Rattle.std.specs.Prelude.{◌≡◌, ℕ, ◌-◌, ◌*◌, ◌/◌, �
 ghost use Rattle.std.specs.Prelude.{length};
 ghost use Rattle.ring_core.specs.Chunks.{chunk_at};
 ghost use Rattle.ring_core.specs.Cost.{raised};
-ghost use Rattle.ring_core.specs.Lane.{words_of_lane};
+ghost use Rattle.ring.specs.FourLanes.{words_of_lane};
 ghost use Rattle.ring.specs.Algorithm.{block_function, block_len, initial_words};
 ghost use Rattle.ring.specs.Cost.{padded_blocks};
 ghost use Rattle.ring.specs.Digest.{IsDigest};
@@ -17,12 +17,14 @@ ghost use Rattle.ring.specs.State.{chaining_words};
 use crate::digest::algorithm::Algorithm;
 use crate::digest::block_context::run_blocks_32;
 use crate::digest::dynstate::{DynState, short_output};
+use crate::digest::four_states::{
+    FourStates, block_data_order_32_four_counted, in_four_lanes,
+    sha1_block_data_order_four_counted, state_of_four,
+};
 use crate::digest::padding::{MAX_TAIL_LEN, write_tail};
 use crate::digest::value::Digest;
 use ring_core::cost::Meter;
-use ring_core::digest::four::FourStates;
-use ring_core::digest::sha1::sha1_block_data_order_four_counted;
-use ring_core::digest::sha2::{State32, block_data_order_32_four_counted};
+use ring_core::digest::sha2::State32;
 
 // The bytes of a block where words have 32 bits.
 const BLOCK_LEN: usize = 64;
@@ -123,7 +125,7 @@ fn states_after(
         (words_at algorithm (message_at messages.now i) count) (words_of_lane i result) }
     ensures cost { meter.new ≡ raised meter.old (4 * count) 0 }
 {
-    let mut states = FourStates::splat(first);
+    let mut states = in_four_lanes(first);
     'blocks: for number in 0..count {
         let blocks = [
             padded_block(algorithm, messages[0], number),
@@ -210,7 +212,13 @@ fn finished_at(
     ensures cost { meter.new ≡ raised meter.old
         (padded_blocks algorithm (length (message_at messages.now i)) - count) 0 }
 {
-    finished(algorithm, states.state(i), messages[i], count, meter)
+    finished(
+        algorithm,
+        state_of_four(states, i),
+        messages[i],
+        count,
+        meter,
+    )
 }
 
 // The smallest number of blocks of four padded messages.

@@ -4,7 +4,7 @@ ghost use Rattle.std.specs.Prelude.{◌≡◌, ◌↔◌, ℕ, ◌+◌, ◌-◌,
 ghost use Rattle.std.specs.Prelude.{IsOk, IsTrue, OnErr, OnOk, drop, get_or, length, take};
 ghost use Rattle.std.specs.Int.NonZero.{non_zero_u32_get};
 ghost use Rattle.ring_core.specs.Cost.{raised};
-ghost use Rattle.ring_core.specs.Lane.{words_of_lane};
+ghost use Rattle.ring.specs.FourLanes.{words_of_lane};
 ghost use Rattle.ring.specs.Algorithm.{output_len, word_len};
 ghost use Rattle.ring.specs.Cost.{derive_rounds, iterate_blocks};
 ghost use Rattle.ring.specs.DeriveEach.{AreVerified, CanVerifyEach, FourStandFor, bytes_at};
@@ -16,6 +16,7 @@ ghost use Rattle.ring.specs.State.{word_bytes};
 
 use crate::digest;
 use crate::digest::dynstate::short_output;
+use crate::digest::four_states::FourStates;
 use crate::hmac::Key;
 use crate::hmac::algorithm::Algorithm as HmacAlgorithm;
 use crate::limits::can_verify;
@@ -25,7 +26,6 @@ use crate::pbkdf2::lanes::{FourKeys, four_keys, key_within, round_in_lanes};
 use crate::pbkdf2::rounds::are_rounds;
 use ring_core::bb::verify_slices_are_equal_counted;
 use ring_core::cost::Meter;
-use ring_core::digest::four::FourStates;
 use ring_core::error::Unspecified;
 use std::num::NonZeroU32;
 

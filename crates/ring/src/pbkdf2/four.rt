@@ -4,7 +4,7 @@ ghost use Rattle.std.specs.Prelude.{◌≡◌, ℕ, ◌+◌, ◌-◌, ◌*◌, �
 ghost use Rattle.std.specs.Prelude.{◌↔◌, List, IfNone, IfSome, IsTrue, length, take};
 ghost use Rattle.std.specs.Int.NonZero.{non_zero_u32_get};
 ghost use Rattle.ring_core.specs.Cost.{raised};
-ghost use Rattle.ring_core.specs.Lane.{words_of_lane};
+ghost use Rattle.ring.specs.FourLanes.{words_of_lane};
 ghost use Rattle.ring_core.specs.Sha2.{words_32};
 ghost use Rattle.ring.specs.Algorithm.{output_len, word_len};
 ghost use Rattle.ring.specs.Cost.{iterate_blocks, padded_blocks};
@@ -17,12 +17,12 @@ ghost use Rattle.ring.specs.State.{word_bytes};
 
 use crate::digest::algorithm::SHA256_OUTPUT_LEN;
 use crate::digest::dynstate::{DynState, short_output, short_state};
+use crate::digest::four_states::{FourStates, four_states, in_four_lanes};
 use crate::hmac::Key;
 use crate::pbkdf2::iterates::{bytes_of, first_iterate};
 use crate::pbkdf2::sums::four_sums;
 use ring_core::bb::verify_slices_are_equal_counted;
 use ring_core::cost::Meter;
-use ring_core::digest::four::FourStates;
 use ring_core::digest::sha2::State32;
 use std::num::NonZeroU32;
 
@@ -50,8 +50,8 @@ fn four_key(key: &Key, len: usize) -> Option<FourKey>
         unreachable!()
     };
     Some(FourKey {
-        inner: FourStates::splat(&inner),
-        outer: FourStates::splat(&outer),
+        inner: in_four_lanes(&inner),
+        outer: in_four_lanes(&outer),
     })
 }
 
@@ -84,7 +84,7 @@ fn first_states(key: &Key, salt: &[u8], before: u32, meter: &mut Meter) -> FourS
     let second = first_state(key, salt, before + 2, meter);
     let third = first_state(key, salt, before + 3, meter);
     let fourth = first_state(key, salt, before + 4, meter);
-    FourStates::new(&first, &second, &third, &fourth)
+    four_states(&first, &second, &third, &fourth)
 }
 
 // The words of the four rounds after the first `before`.

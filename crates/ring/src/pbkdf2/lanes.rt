@@ -4,7 +4,7 @@ ghost use Rattle.std.specs.Prelude.{◌≡◌, ℕ, ◌+◌, ◌-◌, ◌*◌, �
 ghost use Rattle.std.specs.Prelude.{List, [], get_or, length, take};
 ghost use Rattle.std.specs.Int.NonZero.{non_zero_u32_get};
 ghost use Rattle.ring_core.specs.Cost.{raised};
-ghost use Rattle.ring_core.specs.Lane.{words_of_lane};
+ghost use Rattle.ring.specs.FourLanes.{words_of_lane};
 ghost use Rattle.ring_core.specs.Sha2.{words_32};
 ghost use Rattle.ring.specs.Algorithm.{max_input_len, output_len, word_len};
 ghost use Rattle.ring.specs.Cost.{derive_rounds, iterate_blocks, key_blocks, padded_blocks};
@@ -18,12 +18,12 @@ ghost use Rattle.ring.specs.State.{word_bytes};
 
 use crate::digest;
 use crate::digest::dynstate::{DynState, short_output};
+use crate::digest::four_states::{FourStates, four_states};
 use crate::hmac::Key;
 use crate::hmac::algorithm::Algorithm;
 use crate::pbkdf2::four::first_state;
 use crate::pbkdf2::sums::four_sums;
 use ring_core::cost::Meter;
-use ring_core::digest::four::FourStates;
 use ring_core::digest::sha2::State32;
 use std::num::NonZeroU32;
 
@@ -98,8 +98,8 @@ pub(crate) fn four_keys(algorithm: Algorithm, secrets: &[&[u8]], meter: &mut Met
     let third = words_of(&keys[2]);
     let fourth = words_of(&keys[3]);
     FourKeys {
-        inner: FourStates::new(&first.0, &second.0, &third.0, &fourth.0),
-        outer: FourStates::new(&first.1, &second.1, &third.1, &fourth.1),
+        inner: four_states(&first.0, &second.0, &third.0, &fourth.0),
+        outer: four_states(&first.1, &second.1, &third.1, &fourth.1),
         keys,
     }
 }
@@ -153,7 +153,7 @@ fn first_states(
     let second = first_state_at(algorithm, keys, salts, 1, number, meter);
     let third = first_state_at(algorithm, keys, salts, 2, number, meter);
     let fourth = first_state_at(algorithm, keys, salts, 3, number, meter);
-    FourStates::new(&first, &second, &third, &fourth)
+    four_states(&first, &second, &third, &fourth)
 }
 
 // The words of the round of this number, of each salt under the key at its place.

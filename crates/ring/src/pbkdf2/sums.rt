@@ -3,7 +3,7 @@
 ghost use Rattle.std.specs.Prelude.{◌≡◌, ℕ, ◌-◌, ◌*◌, List};
 ghost use Rattle.std.specs.Int.NonZero.{non_zero_u32_get};
 ghost use Rattle.ring_core.specs.Cost.{raised};
-ghost use Rattle.ring_core.specs.Lane.{words_of_lane};
+ghost use Rattle.ring.specs.FourLanes.{words_of_lane};
 ghost use Rattle.ring_core.specs.Sha2.{words_32, words_64};
 ghost use Rattle.ring.specs.Algorithm.{word_len};
 ghost use Rattle.ring.specs.Lanes.{IsKeyInLane, digest_bytes};
@@ -11,11 +11,11 @@ ghost use Rattle.ring.specs.Pbkdf2.{iterate, xored};
 
 use crate::digest::Algorithm;
 use crate::digest::algorithm::AlgorithmId;
+use crate::digest::four_states::FourStates;
 use crate::hmac::lanes::four::{FourSha1, FourSha256};
 use crate::hmac::lanes::one::{Sha1, Sha256, Sha384, Sha512, Sha512_256};
 use crate::pbkdf2::iterates::xor_iterates;
 use ring_core::cost::Meter;
-use ring_core::digest::four::FourStates;
 use ring_core::digest::sha2::{State32, State64};
 use std::num::NonZeroU32;
 

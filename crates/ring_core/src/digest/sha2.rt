@@ -1,9 +1,9 @@
 //! The block functions of SHA-2 (FIPS 180-4, 6.2.2 and 6.4.2), written once for both word sizes.
-//! The schedule's step alone has a form for each, in `lanes`.
+//! The schedule's step alone has a form for each.
 ghost use Rattle.std.specs.Prelude.{◌≡◌, ℕ, ◌+◌, ◌*◌, ◌/◌, ◌%◌, ◌<◌, ◌≤◌};
 ghost use Rattle.std.specs.Prelude.{List, [], get_or, length, map};
 ghost use Rattle.ring_core.specs.Cost.{raised};
-ghost use Rattle.ring_core.specs.Lane.{word_of_lane, words_of_lane};
+ghost use Rattle.ring_core.specs.Lane.{words_of_lane};
 ghost use Rattle.ring_core.specs.Schedule.{IsBefore, IsBlockOf, IsRing};
 ghost use Rattle.ring_core.specs.Sha2.{Σ0, Σ1, W, add_state, block_len, block_step};
 ghost use Rattle.ring_core.specs.Sha2.{blocks_from, family_256, family_512, words_32};
@@ -12,26 +12,29 @@ ghost use Rattle.ring_core.specs.Views.{chunk_items, chunk_total};
 ghost use Rattle.ring_core.specs.Word.{add_words};
 
 mod constants;
-mod lanes;
-mod w32;
-mod w64;
+mod sha256;
+mod sha256_schedule;
+mod sha2_schedule;
+mod sha512;
+mod sha512_schedule;
+mod vector_schedule;
 
 use crate::cost::Meter;
-use crate::digest::four::FourStates;
-use crate::digest::schedule::{load, load_four, load_words, pair};
 pub use crate::digest::sha2::constants::constants_are_cube_roots;
-use crate::digest::sha2::lanes::Lanes;
-use crate::digest::word::Sha2;
-use crate::digest::word::four::FourWords;
+use crate::digest::sha2::sha2_schedule::ExtendSchedule;
+use crate::digest::states::{Ring, States};
 use crate::digest::word::functions::{choose_word, majority_word};
-use crate::digest::word::lane_word::LaneWord;
+use crate::digest::word::in_lanes::InLanes;
+use crate::digest::word::lane_word::{LaneWord, Vector};
+use crate::digest::word::{Sha2, Word};
+use crate::digest::word_ring::{load, load_blocks, load_words, pair};
 use crate::polyfill::slice::AsChunks;
 use std::num::Wrapping;
-use std::simd::Simd;
 
 // The rounds take as a const argument how many words of a block come from a state, and this where
 // the block is read from bytes, so that each form has its own copy of them: the compiler inlines
-// rounds that have one caller. With two callers it called them, which took a fifth longer.
+// rounds that have one caller. With two callers it called them, which took a fifth longer. No code
+// reads it.
 const BYTES: usize = 0;
 
 // ROTR first ⊕ ROTR second ⊕ ROTR third, nested: each rotation waits for the one inside it, but
@@ -83,7 +86,13 @@ fn round<S: LaneWord>(v: [S; 8], sum: S) -> [S; 8]
 
 // Rounds `16 * turn + place` and the next, from the words at `place`.
 #[inline(always)]
-fn two_rounds<S: Lanes>(ring: &[S::Slot; 16], v: [S; 8], turn: usize, place: usize) -> [S; 8]
+fn two_rounds<S: ExtendSchedule>(
+    ring: &[S::Slot; 16],
+    v: [S; 8],
+    turn: usize,
+    place: usize,
+) -> [S; 8]
+    requires some { 0 < S.LANES }
     requires place { place + 2 ≤ 16 }
     requires turn { 16 * turn + 16 ≤ S.One.family.rounds }
     ensures { (i : ℕ) (h b : List ℕ) (n t : ℕ)
@@ -93,19 +102,22 @@ fn two_rounds<S: Lanes>(ring: &[S::Slot; 16], v: [S; 8], turn: usize, place: usi
         → map (S.lane i) result ≡ rounds_from S.One.family h b (t + 2) }
 {
     let t = 16 * turn + place;
-    let constants = [S::splat(S::One::k(t)), S::splat(S::One::k(t + 1))];
-    let [first, second] = S::add_pairs(constants, pair(ring, place));
+    let [word, next_word] = pair(ring, place);
+    let constant = S::splat(S::One::k(t));
+    let next_constant = S::splat(S::One::k(t + 1));
+    let (first, second) = S::add_pairs(constant, next_constant, word, next_word);
     round(round(v, first), second)
 }
 
 // The same after the first turn, where the words are computed first.
 #[inline(always)]
-fn next_two_rounds<S: Lanes>(
+fn next_two_rounds<S: ExtendSchedule>(
     ring: &mut [S::Slot; 16],
     v: [S; 8],
     turn: usize,
     place: usize,
 ) -> [S; 8]
+    requires some { 0 < S.LANES }
     requires place { place + 2 ≤ 16 }
     requires later { 1 ≤ turn }
     requires turn { 16 * turn + 16 ≤ S.One.family.rounds }
@@ -115,13 +127,14 @@ fn next_two_rounds<S: Lanes>(
         → IsBefore (W S.One.family b) (rounds_from S.One.family h b)
         (map (S.slot_lane i) ring.new) (map (S.lane i) result) (t + 2) }
 {
-    S::fill(ring, place);
+    S::extend(ring, place);
     two_rounds(ring, v, turn, place)
 }
 
 // The first sixteen rounds, from the block's own words.
 #[inline(always)]
-fn first_turn<S: Lanes, const FORM: usize>(ring: &[S::Slot; 16], v: [S; 8]) -> [S; 8]
+fn first_turn<S: ExtendSchedule, const CALLER: usize>(ring: &[S::Slot; 16], v: [S; 8]) -> [S; 8]
+    requires some { 0 < S.LANES }
     ensures { (i : ℕ) (b : List ℕ) → IsRing (W S.One.family b) (map (S.slot_lane i) ring.now) 16
         → map (S.lane i) result ≡ rounds_from S.One.family (map (S.lane i) v) b 16 }
 {
@@ -137,11 +150,12 @@ fn first_turn<S: Lanes, const FORM: usize>(ring: &[S::Slot; 16], v: [S; 8]) -> [
 
 // The sixteen rounds of a later turn, each with its slot as a literal.
 #[inline(always)]
-fn later_turn<S: Lanes, const FORM: usize>(
+fn later_turn<S: ExtendSchedule, const CALLER: usize>(
     ring: &mut [S::Slot; 16],
     v: [S; 8],
     turn: usize,
 ) -> [S; 8]
+    requires some { 0 < S.LANES }
     requires later { 1 ≤ turn }
     requires turn { 16 * turn + 16 ≤ S.One.family.rounds }
     ensures { (i : ℕ) (h b : List ℕ)
@@ -181,22 +195,24 @@ fn add_state<S: LaneWord>(state: &[S; 8], v: &[S; 8]) -> [S; 8]
 
 // Runs the block function in each lane, over the block whose words the ring holds there.
 #[inline(always)]
-fn run_loaded<S: Lanes, const FORM: usize>(ring: &mut [S::Slot; 16], state: &mut [S; 8])
+fn run_loaded<S: ExtendSchedule, const CALLER: usize>(ring: &mut [S::Slot; 16], state: &mut [S; 8])
+    requires some { 0 < S.LANES }
     ensures { (i : ℕ) (b : List ℕ) → IsRing (W S.One.family b) (map (S.slot_lane i) ring.old) 16
         → map (S.lane i) state.new ≡ block_step S.One.family (map (S.lane i) state.old) b }
 {
-    let mut variables = first_turn::<S, FORM>(ring, *state); // steps 2 and 3
+    let mut variables = first_turn::<S, CALLER>(ring, *state); // steps 2 and 3
     let turns = S::One::ROUNDS / 16;
     'later: for turn in 1..turns {
-        variables = later_turn::<S, FORM>(ring, variables, turn); // steps 1 and 3
+        variables = later_turn::<S, CALLER>(ring, variables, turn); // steps 1 and 3
     }
     *state = add_state(state, &variables); // step 4
 }
 
 // Runs the block function over one block. `ring` is room for the words of the schedule.
 #[inline(always)]
-fn run_block<S: Lanes>(ring: &mut [S::Slot; 16], state: &mut [S; 8], block: &[u8])
-    requires { length block.now ≡ 16 * (S.One.bits / 8) }
+fn run_block<S: ExtendSchedule>(ring: &mut [S::Slot; 16], state: &mut [S; 8], block: &[u8])
+    requires some { 0 < S.LANES }
+    requires whole { length block.now ≡ 16 * (S.One.bits / 8) }
     ensures { (i : ℕ) → map (S.lane i) state.new
         ≡ block_step S.One.family (map (S.lane i) state.old) block.now }
 {
@@ -205,13 +221,14 @@ fn run_block<S: Lanes>(ring: &mut [S::Slot; 16], state: &mut [S; 8], block: &[u8
 }
 
 // Runs the block function over each block in order. `ring` is room for the words of a schedule.
-fn run_blocks<S: Lanes, const N: usize>(
+fn run_blocks<S: ExtendSchedule, const N: usize>(
     ring: &mut [S::Slot; 16],
     state: &mut [S; 8],
     blocks: AsChunks<'_, u8, N>,
     meter: &mut Meter,
 )
-    requires { N ≡ block_len S.One.family }
+    requires some { 0 < S.LANES }
+    requires whole { N ≡ block_len S.One.family }
     ensures words { (i : ℕ) → map (S.lane i) state.new
         ≡ blocks_from S.One.family (map (S.lane i) state.old)
         (chunk_items blocks.entry) (chunk_total blocks.entry) }
@@ -277,42 +294,54 @@ pub fn block_data_order_64(state: &mut State64, blocks: AsChunks<'_, u8, 128>)
     block_data_order_64_counted(state, blocks, &mut Meter::new())
 }
 
-// Runs the block function over four blocks, each with its own state.
-fn run_four_blocks(state: &mut [FourWords; 8], blocks: &[[u8; 64]; 4])
-    ensures { (i : ℕ) → map (word_of_lane i) state.new
-        ≡ block_step family_256 (map (word_of_lane i) state.old) (get_or blocks.now (i % 4) []) }
+// Runs the block function in each lane, over the block of that number.
+fn run_lane_blocks<V: Vector, const N: usize>(
+    ring: &mut Ring<V>,
+    state: &mut [InLanes<V>; 8],
+    blocks: &[[u8; N]],
+)
+    requires some { 0 < V.LANES }
+    requires lanes { length blocks.now ≡ V.LANES }
+    requires whole { N ≡ block_len V.One.family }
+    ensures { (i : ℕ) → i < V.LANES → map (λ x. V.lane i x.0) state.new
+        ≡ block_step V.One.family (map (λ x. V.lane i x.0) state.old) (get_or blocks.now i []) }
 {
-    let mut ring = [FourWords(Simd::splat(0)); 16];
-    load_four(&mut ring, blocks); // step 1, to W(15)
-    run_loaded::<FourWords, BYTES>(&mut ring, state);
+    load_blocks::<V, N>(ring, blocks); // step 1, to W(15)
+    run_loaded::<InLanes<V>, BYTES>(ring, state);
 }
 
-/// Runs SHA-256's block function in each of four lanes (6.2.2): over the state in lane i of
-/// `states`, which is replaced, and block i of `blocks`, of 64 bytes. Four blocks are counted on
-/// `meter`.
-pub fn block_data_order_32_four_counted(
-    states: &mut FourStates,
-    blocks: &[[u8; 64]; 4],
+/// Runs SHA-256's or SHA-512's block function in each lane (6.2.2, 6.4.2): over the state in lane i
+/// of `states`, which is replaced, and block i of `blocks`, of 64 bytes where words have 32 bits and
+/// of 128 where they have 64. `ring` is room for a schedule. The blocks are counted on `meter`, as
+/// many as there are lanes.
+pub fn block_data_order_lanes_counted<V: Vector, const N: usize>(
+    ring: &mut Ring<V>,
+    states: &mut States<V>,
+    blocks: &[[u8; N]],
     meter: &mut Meter,
 )
-    ensures words { (i : ℕ) → i < 4 → words_of_lane i states.new
-        ≡ block_step family_256 (words_of_lane i states.old) (get_or blocks.now i []) }
-    ensures cost { meter.new ≡ raised meter.old 4 0 }
+    requires some { 0 < V.LANES }
+    requires lanes { length blocks.now ≡ V.LANES }
+    requires whole { N ≡ block_len V.One.family }
+    ensures words { (i : ℕ) → i < V.LANES → words_of_lane (V.lane i) states.new
+        ≡ block_step V.One.family (words_of_lane (V.lane i) states.old) (get_or blocks.now i []) }
+    ensures cost { meter.new ≡ raised meter.old V.LANES 0 }
 {
-    run_four_blocks(&mut states.words, blocks);
-    meter.add_four_blocks();
+    run_lane_blocks(ring, &mut states.words, blocks);
+    meter.add_blocks(V::LANES);
 }
 
 // Runs the block function over the block whose first `N` words are those of `front`, and whose
 // other words are those of `padding`.
 #[inline(always)]
-fn run_words<S: Lanes, const N: usize>(
+fn run_words<S: ExtendSchedule, const N: usize>(
     ring: &mut [S::Slot; 16],
     state: &mut [S; 8],
     front: &[S; 8],
     padding: &[S::One; 16],
 )
-    requires { N ≤ 8 }
+    requires some { 0 < S.LANES }
+    requires front { N ≤ 8 }
     ensures { (i : ℕ) (b : List ℕ)
         → IsBlockOf S.One.bits N (map (S.lane i) front.now) (map S.One.value padding.now) b
         → map (S.lane i) state.new ≡ block_step S.One.family (map (S.lane i) state.old) b }
@@ -322,14 +351,15 @@ fn run_words<S: Lanes, const N: usize>(
 }
 
 // The same, and counts the block.
-fn run_counted_words<S: Lanes, const N: usize>(
+fn run_counted_words<S: ExtendSchedule, const N: usize>(
     ring: &mut [S::Slot; 16],
     state: &mut [S; 8],
     front: &[S; 8],
     padding: &[S::One; 16],
     meter: &mut Meter,
 )
-    requires { N ≤ 8 }
+    requires some { 0 < S.LANES }
+    requires front { N ≤ 8 }
     ensures words { (i : ℕ) (b : List ℕ)
         → IsBlockOf S.One.bits N (map (S.lane i) front.now) (map S.One.value padding.now) b
         → map (S.lane i) state.new ≡ block_step S.One.family (map (S.lane i) state.old) b }
@@ -372,35 +402,48 @@ pub fn block_of_words_64_counted<const N: usize>(
     run_counted_words::<Wrapping<u64>, N>(&mut [Wrapping(0u64); 16], state, front, padding, meter)
 }
 
-// Runs the block function over a block in each of four lanes, with the same `padding`.
-fn run_four_words(state: &mut [FourWords; 8], front: &[FourWords; 8], padding: &[Wrapping<u32>; 16])
-    ensures { (i : ℕ) (b : List ℕ)
-        → IsBlockOf 32 8 (map (word_of_lane i) front.now) (words_32 padding.now) b
-        → map (word_of_lane i) state.new
-        ≡ block_step family_256 (map (word_of_lane i) state.old) b }
+// Runs the block function over a block in each lane, with the same `padding`.
+fn run_lane_words<V: Vector, const N: usize>(
+    ring: &mut Ring<V>,
+    state: &mut [InLanes<V>; 8],
+    front: &[InLanes<V>; 8],
+    padding: &[V::One; 16],
+)
+    requires some { 0 < V.LANES }
+    requires front { N ≤ 8 }
+    ensures words { (i : ℕ) (b : List ℕ)
+        → IsBlockOf V.One.bits N (map (λ x. V.lane i x.0) front.now)
+        (map V.One.value padding.now) b
+        → map (λ x. V.lane i x.0) state.new
+        ≡ block_step V.One.family (map (λ x. V.lane i x.0) state.old) b }
+    ensures eight { (length state.old ≡ 8) × (length front.now ≡ 8) }
 {
-    let mut ring = [FourWords(Simd::splat(0)); 16];
-    load_words::<FourWords, 8>(&mut ring, front, padding); // step 1, to W(15)
-    run_loaded::<FourWords, 8>(&mut ring, state);
+    load_words::<InLanes<V>, N>(ring, front, padding); // step 1, to W(15)
+    run_loaded::<InLanes<V>, N>(ring, state);
 }
 
-/// Runs SHA-256's block function in each of four lanes, over one block that is given as words
-/// (6.2.2): the eight words of the lane in `fronts`, and then the last eight of `padding`, the same
-/// in all lanes. The states in the lanes of `states` are replaced. Four blocks are counted on
-/// `meter`.
-pub fn block_of_words_32_four_counted(
-    states: &mut FourStates,
-    fronts: &FourStates,
-    padding: &[Wrapping<u32>; 16],
+/// Runs SHA-256's or SHA-512's block function in each lane, over one block that is given as words
+/// (6.2.2, 6.4.2): the first `N` words of the lane in `fronts`, at most eight, and then those of
+/// `padding` past them, the same in all lanes. The states in the lanes of `states` are replaced.
+/// `ring` is room for a schedule. The blocks are counted on `meter`, as many as there are lanes.
+pub fn block_of_words_lanes_counted<V: Vector, const N: usize>(
+    ring: &mut Ring<V>,
+    states: &mut States<V>,
+    fronts: &States<V>,
+    padding: &[V::One; 16],
     meter: &mut Meter,
 )
+    requires some { 0 < V.LANES }
+    requires front { N ≤ 8 }
     ensures words { (i : ℕ) (b : List ℕ)
-        → IsBlockOf 32 8 (words_of_lane i fronts.now) (words_32 padding.now) b
-        → words_of_lane i states.new ≡ block_step family_256 (words_of_lane i states.old) b }
-    ensures cost { meter.new ≡ raised meter.old 4 0 }
-    ensures eight { (i : ℕ) → (length (words_of_lane i states.old) ≡ 8)
-        × (length (words_of_lane i fronts.now) ≡ 8) }
+        → IsBlockOf V.One.bits N (words_of_lane (V.lane i) fronts.now)
+        (map V.One.value padding.now) b
+        → words_of_lane (V.lane i) states.new
+        ≡ block_step V.One.family (words_of_lane (V.lane i) states.old) b }
+    ensures cost { meter.new ≡ raised meter.old V.LANES 0 }
+    ensures eight { (i : ℕ) → (length (words_of_lane (V.lane i) states.old) ≡ 8)
+        × (length (words_of_lane (V.lane i) fronts.now) ≡ 8) }
 {
-    run_four_words(&mut states.words, &fronts.words, padding);
-    meter.add_four_blocks();
+    run_lane_words::<V, N>(ring, &mut states.words, &fronts.words, padding);
+    meter.add_blocks(V::LANES);
 }

@@ -1,13 +1,13 @@
 //! Four lanes, each with a state of its own.
 
-ghost use Rattle.ring_core.specs.Lane.{words_of_lane};
+ghost use Rattle.ring.specs.FourLanes.{words_of_lane};
 
+use crate::digest::four_states::{
+    FourStates, block_of_words_32_four_counted, sha1_block_of_words_four_counted,
+};
 use crate::hmac::lanes::DigestLanes;
 use crate::hmac::lanes::one::{SHA1_PADDING, SHA256_PADDING};
 use ring_core::cost::Meter;
-use ring_core::digest::four::FourStates;
-use ring_core::digest::sha1::sha1_block_of_words_four_counted;
-use ring_core::digest::sha2::block_of_words_32_four_counted;
 
 // SHA-1.
 pub(crate) struct FourSha1;

@@ -1,35 +1,42 @@
 //! Words of one size side by side, one in each lane: a word alone, or a vector of them.
-ghost use Rattle.std.specs.Prelude.{◌≡◌, ℕ, ◌^◌, ◌<◌, ◌≤◌, [], ◌∷◌, bit_and, map};
-ghost use Rattle.ring_core.specs.Word.{◌⊕◌, add_words, rotr};
+ghost use Rattle.std.specs.Prelude.{◌≡◌, ◌≢◌, ℕ, ◌^◌, ◌<◌, ◌≤◌, bit_and};
+ghost use Rattle.ring_core.specs.Word.{◌⊕◌, add_words, rotr, shr};
 
 use crate::digest::word::traits::Sha2;
 
-// Words in lanes, with the operations of FIPS 180-4, 3.2, on the word of each lane. A clause names
-// a lane by its number. A single word is in every lane, whatever the number.
-pub(crate) trait LaneWord: Copy {
-    // the word that stands in a lane
+/// Words in lanes, with the operations of FIPS 180-4, 3.2, on the word of each lane. A clause names
+/// a lane by its number. A single word is in every lane, whatever the number.
+pub trait LaneWord: Copy {
+    /// The word in a lane.
     type One: Sha2;
+
+    /// The number of lanes.
+    const LANES: usize;
+
+    ghost LANES: { ℕ };
 
     // the number of the word in a lane; lanes are counted round
     ghost lane: { ℕ → Self → ℕ };
 
-    // one word in each lane
+    /// The word `word` in each lane.
     fn splat(word: Self::One) -> Self
+        requires { 0 < LANES }
         ensures { (i : ℕ) → lane i result ≡ Self.One.value word };
 
-    // the sums modulo 2 to the power of the bits (3.2, item 2)
+    /// The sums of these words and of those of `o`, modulo 2 to the power of the bits (FIPS 180-4,
+    /// 3.2, item 1).
     fn plus(self, o: Self) -> Self
         ensures { (i : ℕ) → lane i result ≡ add_words Self.One.bits (lane i self) (lane i o) };
 
-    // the bits that both words have
+    /// The bits that both these words and those of `o` have (FIPS 180-4, 3.2, item 2).
     fn bit_and(self, o: Self) -> Self
         ensures { (i : ℕ) → lane i result ≡ bit_and (lane i self) (lane i o) };
 
-    // the bits that one word has and the other doesn't
+    /// The bits that either these words or those of `o` have (FIPS 180-4, 3.2, item 2).
     fn bit_xor(self, o: Self) -> Self
         ensures { (i : ℕ) → lane i result ≡ lane i self ⊕ lane i o };
 
-    // the words rotated right (3.2, item 4)
+    /// The words rotated right by `count` bits (FIPS 180-4, 3.2, item 4).
     fn rotr(self, count: u32) -> Self
         requires positive { 1 ≤ count }
         requires below { count < Self.One.bits }
@@ -39,8 +46,28 @@ pub(crate) trait LaneWord: Copy {
     ghost fits: { (i : ℕ) (x : Self) → lane i x < 2 ^ Self.One.bits };
 }
 
+/// A vector of words, of which each can be read and replaced.
+pub trait Vector: LaneWord {
+    /// The word in lane `i`.
+    fn word(self, i: usize) -> Self::One
+        requires { i < Self.LANES }
+        ensures { Self.One.value result ≡ Self.lane i self };
+
+    /// The vector with the word `word` in lane `i`.
+    fn with(self, i: usize, word: Self::One) -> Self
+        requires { i < Self.LANES }
+        ensures set { Self.lane i result ≡ Self.One.value word }
+        ensures rest { (k : ℕ) → k < Self.LANES → k ≢ i → Self.lane k result ≡ Self.lane k self };
+
+    /// The words shifted right by `count` bits (FIPS 180-4, 3.2, item 3).
+    fn shift_right(self, count: u32) -> Self
+        requires { count < Self.One.bits }
+        ensures { (i : ℕ) → Self.lane i result ≡ shr count (Self.lane i self) };
+}
+
 // Words in lanes, and the slots in which a schedule keeps them.
 pub(crate) trait Slots: LaneWord {
+    // holds a word of each lane
     type Slot: Copy;
 
     // the number of the word that a slot holds in a lane
@@ -50,10 +77,10 @@ pub(crate) trait Slots: LaneWord {
     fn to_slot(self) -> Self::Slot
         ensures { (i : ℕ) → slot_lane i result ≡ Self.lane i self };
 
-    // Adds two words and the words of two slots, each to its own: the constants of two rounds and
-    // the rounds' words.
-    fn add_pairs(x: [Self; 2], y: [Self::Slot; 2]) -> [Self; 2]
-        ensures { (i a b c d : ℕ) → map (Self.lane i) x ≡ a ∷ b ∷ []
-            → map (slot_lane i) y ≡ c ∷ d ∷ [] → map (Self.lane i) result
-            ≡ add_words Self.One.bits a c ∷ add_words Self.One.bits b d ∷ [] };
+    // Adds the word of a slot to each of two words: the words of two rounds to their constants.
+    fn add_pairs(x: Self, y: Self, s: Self::Slot, t: Self::Slot) -> (Self, Self)
+        ensures first { (i : ℕ) → Self.lane i result.0
+            ≡ add_words Self.One.bits (Self.lane i x) (slot_lane i s) }
+        ensures second { (i : ℕ) → Self.lane i result.1
+            ≡ add_words Self.One.bits (Self.lane i y) (slot_lane i t) };
 }

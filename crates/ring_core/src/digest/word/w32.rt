@@ -2,8 +2,7 @@
 ghost use Rattle.std.specs.Prelude.{◌≡◌, ℕ, ◌-◌, ◌+◌, ◌*◌, ◌%◌, ◌^◌, ◌<◌, ◌≤◌, [], ◌∷◌};
 ghost use Rattle.std.specs.Prelude.{map, bit_and, bit_or, bit_xor};
 ghost use Rattle.std.proofs.Common.{refl, mod-lt, pow_pos};
-ghost use Rattle.ring_core.specs.Sha2.{words_32};
-ghost use Rattle.ring_core.specs.Word.{add_words, low_32, rotr};
+ghost use Rattle.ring_core.specs.Word.{add_words, low_32, rotr, word_32};
 
 use crate::digest::word::lane_word::{LaneWord, Slots};
 use crate::digest::word::traits::Word;
@@ -67,24 +66,13 @@ pub(crate) fn rotate_lanes(lanes: u64x2, count: u32) -> u64x2
 
 // Two numbers added to the words of two slots.
 #[inline(always)]
-fn add_slots(first: u32, second: u32, slots: [u64; 2]) -> [Wrapping<u32>; 2]
-    ensures { (c d : ℕ) → map low_32 slots ≡ c ∷ d ∷ []
-        → words_32 result
-        ≡ add_words 32 (first % 2 ^ 32) c ∷ add_words 32 (second % 2 ^ 32) d ∷ [] }
+fn add_slots(x: u32, y: u32, s: u64, t: u64) -> (Wrapping<u32>, Wrapping<u32>)
+    ensures first { word_32 result.0 ≡ add_words 32 (x % 2 ^ 32) (low_32 s) }
+    ensures second { word_32 result.1 ≡ add_words 32 (y % 2 ^ 32) (low_32 t) }
 {
-    let sums = Simd::from_array([first as u64, second as u64]) + Simd::from_array(slots);
-    let [third, fourth] = sums.to_array();
-    [Wrapping(low_half(third)), Wrapping(low_half(fourth))]
-}
-
-// The first word added to the word of the first slot, and the second to that of the second.
-#[inline(always)]
-fn add_pairs(x: [Wrapping<u32>; 2], y: [u64; 2]) -> [Wrapping<u32>; 2]
-    ensures { (a b c d : ℕ) → words_32 x ≡ a ∷ b ∷ [] → map low_32 y ≡ c ∷ d ∷ []
-        → words_32 result ≡ add_words 32 a c ∷ add_words 32 b d ∷ [] }
-{
-    let [first, second] = x;
-    add_slots(first.0, second.0, y)
+    let sums = Simd::from_array([x as u64, y as u64]) + Simd::from_array([s, t]);
+    let [first, second] = sums.to_array();
+    (Wrapping(low_half(first)), Wrapping(low_half(second)))
 }
 
 /// The words of SHA-1 and SHA-256: 32 bits.
@@ -134,8 +122,13 @@ impl Word for Wrapping<u32> {
     ghost zero_is = { refl };
 }
 
+/// A single word: the operations of FIPS 180-4, 3.2, on it.
 impl LaneWord for Wrapping<u32> {
     type One = Wrapping<u32>;
+
+    const LANES: usize = 1;
+
+    ghost LANES = { 1 };
 
     ghost lane = { λ _ x. x.0 % 2 ^ 32 };
 
@@ -179,10 +172,12 @@ impl Slots for Wrapping<u32> {
     }
 
     #[inline(always)]
-    fn add_pairs(x: [Wrapping<u32>; 2], y: [u64; 2]) -> [Wrapping<u32>; 2]
-        ensures { (i a b c d : ℕ) → words_32 x ≡ a ∷ b ∷ [] → map low_32 y ≡ c ∷ d ∷ []
-            → words_32 result ≡ add_words 32 a c ∷ add_words 32 b d ∷ [] }
-    {
-        add_pairs(x, y)
+    fn add_pairs(
+        x: Wrapping<u32>,
+        y: Wrapping<u32>,
+        s: u64,
+        t: u64,
+    ) -> (Wrapping<u32>, Wrapping<u32>) {
+        add_slots(x.0, y.0, s, t)
     }
 }

@@ -3,7 +3,7 @@ ghost use Rattle.std.specs.Prelude.{◌≡◌, ℕ, ◌-◌, ◌*◌, ◌%◌, �
 ghost use Rattle.std.specs.Prelude.{map, bit_and, bit_or, bit_xor};
 ghost use Rattle.std.proofs.Common.{refl, mod-lt, pow_pos};
 ghost use Rattle.ring_core.specs.Sha2.{words_64};
-ghost use Rattle.ring_core.specs.Word.{add_words, rotr};
+ghost use Rattle.ring_core.specs.Word.{rotr};
 
 use crate::digest::word::lane_word::{LaneWord, Slots};
 use crate::digest::word::traits::Word;
@@ -105,8 +105,13 @@ impl Word for Wrapping<u64> {
     ghost zero_is = { refl };
 }
 
+/// A single word: the operations of FIPS 180-4, 3.2, on it.
 impl LaneWord for Wrapping<u64> {
     type One = Wrapping<u64>;
+
+    const LANES: usize = 1;
+
+    ghost LANES = { 1 };
 
     ghost lane = { λ _ x. x.0 % 2 ^ 64 };
 
@@ -149,12 +154,12 @@ impl Slots for Wrapping<u64> {
 
     // Word by word: taking two lanes of 64 bits apart takes longer than a second addition.
     #[inline(always)]
-    fn add_pairs(x: [Wrapping<u64>; 2], y: [Wrapping<u64>; 2]) -> [Wrapping<u64>; 2]
-        ensures { (i a b c d : ℕ) → words_64 x ≡ a ∷ b ∷ [] → words_64 y ≡ c ∷ d ∷ []
-            → words_64 result ≡ add_words 64 a c ∷ add_words 64 b d ∷ [] }
-    {
-        let [first, second] = x;
-        let [third, fourth] = y;
-        [Word::plus(first, third), Word::plus(second, fourth)]
+    fn add_pairs(
+        x: Wrapping<u64>,
+        y: Wrapping<u64>,
+        s: Wrapping<u64>,
+        t: Wrapping<u64>,
+    ) -> (Wrapping<u64>, Wrapping<u64>) {
+        (Word::plus(x, s), Word::plus(y, t))
     }
 }

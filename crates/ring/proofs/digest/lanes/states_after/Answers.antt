@@ -3,7 +3,7 @@ use Rattle.std.proofs.lemmas.List.{length-map}
 use Rattle.ring_core.specs.Chunks.{chunk_at}
 use Rattle.ring_core.specs.Cost.{raised}
 use Rattle.ring_core.specs.Sha2.{words_32}
-use Rattle.ring_core.proofs.Four.{four_cases}
+use Rattle.ring.proofs.FourCases.{four_cases}
 use Rattle.ring.specs.Each.{message_at}
 use Rattle.ring.specs.Padding.{padded}
 use Rattle.ring.proofs.LaneBlocks.{words-first, words-next}
@@ -18,7 +18,7 @@ blocks-2-init c =
     let long : length first ≡ 8 = length-map c.args.first.now _ ∙ c.told-first in
     let start = λ (m : List ℕ). words-first a m c.requires.first long in
     record {
-      words = λ i below. rw (c.splat-states.ensures i) (start (message_at c.args.messages.now i));
+      words = λ i below. rw (c.in_four_lanes-states.ensures i) (start (message_at c.args.messages.now i));
       cost = raised-none c.args.meter.now;
     }
 

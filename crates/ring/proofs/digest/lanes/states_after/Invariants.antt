@@ -1,6 +1,6 @@
 use Rattle.std.proofs.Common.{◌≡◌, ℕ, ◌*◌, ◌<◌}
 use Rattle.ring_core.specs.Cost.{raised}
-use Rattle.ring_core.specs.Lane.{words_of_lane}
+use Rattle.ring.specs.FourLanes.{words_of_lane}
 use Rattle.ring.specs.Each.{HasWords, message_at, words_at}
 use Rattle.ring.proofs.digest.lanes.states_after.Given as goal
 

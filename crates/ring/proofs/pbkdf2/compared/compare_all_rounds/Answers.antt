@@ -1,6 +1,6 @@
 use Rattle.std.proofs.Common.{◌≡◌, ◌+◌, ◌-◌, arith, min}
 use Rattle.std.specs.Int.NonZero.{non_zero_u32_get}
-use Rattle.ring_core.specs.Lane.{words_of_lane}
+use Rattle.ring.specs.FourLanes.{words_of_lane}
 use Rattle.ring.specs.Algorithm.{output_len}
 use Rattle.ring.proofs.DeriveEach.{four_compared-all, four_compared-next, four_compared-none}
 use Rattle.ring.proofs.pbkdf2.compared.compare_all_rounds.Goals as goal

@@ -3,7 +3,7 @@ use Rattle.std.proofs.Common.{drop, get_or, length, rules, suc-mul, sym, take}
 use Rattle.std.proofs.Common.{zero-mul}
 use Rattle.std.proofs.lemmas.List.{get_or_default}
 use Rattle.ring_core.specs.Cost.{raised}
-use Rattle.ring_core.specs.Lane.{words_of_lane}
+use Rattle.ring.specs.FourLanes.{words_of_lane}
 use Rattle.ring_core.proofs.Costs.{raised-none}
 use Rattle.ring.specs.State.{word_bytes}
 use Rattle.ring.proofs.DeriveEach.{narrowed-next, narrowed-none, raised-both}

@@ -1,6 +1,6 @@
 use Rattle.std.proofs.Common.{◌≡◌, ◌-◌, ◌*◌, [], drop, get_or, take}
 use Rattle.ring_core.specs.Cost.{raised}
-use Rattle.ring_core.specs.Lane.{words_of_lane}
+use Rattle.ring.specs.FourLanes.{words_of_lane}
 use Rattle.ring.specs.State.{word_bytes}
 use Rattle.ring.proofs.DeriveEach.{AreNarrowed}
 use Rattle.ring.proofs.pbkdf2.compared.compare_round.Given as goal

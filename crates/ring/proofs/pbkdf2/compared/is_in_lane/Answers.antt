@@ -1,7 +1,7 @@
 use Rattle.std.proofs.Common.{◌≡◌, ℕ, ◌∙◌, ap, length, rules}
 use Rattle.std.proofs.Common.{sym, take}
 use Rattle.ring_core.specs.Cost.{raised}
-use Rattle.ring_core.specs.Lane.{words_of_lane}
+use Rattle.ring.specs.FourLanes.{words_of_lane}
 use Rattle.ring_core.proofs.Costs.{compared_pairs-same}
 use Rattle.ring.specs.State.{word_bytes}
 use Rattle.ring.proofs.Outputs.{first_bytes}

@@ -2,7 +2,7 @@ use Rattle.std.proofs.Common.{◌≡◌, ◌+◌, ◌-◌, ◌*◌, ◌≤◌, �
 use Rattle.std.proofs.Common.{ap, arith, length, rules, suc-mul, sym}
 use Rattle.std.proofs.Common.{take, zero-mul, ◌∙◌}
 use Rattle.std.proofs.lemmas.Slice.{take-put_mid}
-use Rattle.ring_core.specs.Lane.{words_of_lane}
+use Rattle.ring.specs.FourLanes.{words_of_lane}
 use Rattle.ring.specs.Pieces.{joined_blocks}
 use Rattle.ring.specs.State.{word_bytes}
 use Rattle.ring.proofs.Outputs.{first_bytes}

@@ -1,5 +1,5 @@
 use Rattle.std.proofs.Common.{◌≡◌, ℕ, ◌+◌, ◌*◌, ◌<◌, List, take}
-use Rattle.ring_core.specs.Lane.{words_of_lane}
+use Rattle.ring.specs.FourLanes.{words_of_lane}
 use Rattle.ring.specs.Pieces.{joined_blocks}
 use Rattle.ring.specs.State.{word_bytes}
 use Rattle.ring.proofs.pbkdf2.four.put_rounds.Given as goal

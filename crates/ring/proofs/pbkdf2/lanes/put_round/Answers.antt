@@ -1,7 +1,7 @@
 use Rattle.std.proofs.Common.{◌≡◌, ◌+◌, ◌-◌, ◌≤◌, ◌++◌, ◌∙◌, [], ap, arith}
 use Rattle.std.proofs.Common.{get_or, length, rules, take}
 use Rattle.std.proofs.lemmas.Slice.{take-put_mid}
-use Rattle.ring_core.specs.Lane.{words_of_lane}
+use Rattle.ring.specs.FourLanes.{words_of_lane}
 use Rattle.ring.specs.State.{word_bytes}
 use Rattle.ring.proofs.Outputs.{first_bytes}
 use Rattle.ring.proofs.Rounds.{length-part}

@@ -1,5 +1,5 @@
 use Rattle.std.proofs.Common.{◌≡◌, ℕ, ◌-◌, ◌<◌, ◌≤◌, ◌++◌, [], get_or, length, take}
-use Rattle.ring_core.specs.Lane.{words_of_lane}
+use Rattle.ring.specs.FourLanes.{words_of_lane}
 use Rattle.ring.specs.State.{word_bytes}
 use Rattle.ring.proofs.pbkdf2.lanes.put_round.Given as goal
 

@@ -1,6 +1,6 @@
 use Rattle.std.proofs.Common.{◌≡◌, ℕ, ◌+◌, ◌-◌, ◌<◌, [], arith, get_or, length, min}
 use Rattle.std.specs.Int.NonZero.{non_zero_u32_get}
-use Rattle.ring_core.specs.Lane.{words_of_lane}
+use Rattle.ring.specs.FourLanes.{words_of_lane}
 use Rattle.ring.specs.Algorithm.{output_len}
 use Rattle.ring.proofs.DeriveEach.{four-all, four-next, four-none}
 use Rattle.ring.proofs.pbkdf2.lanes.write_all_rounds.Goals as goal

@@ -14,7 +14,7 @@ returns-clause-words g c = λ i.
       c.plus-3.ensures i,
       c.plus-4.ensures i,
       c.plus-5.ensures i,
-      g.met.S.Lanes.bits_are,
+      g.met.S.ExtendSchedule.bits_are,
     ) (simp (value_read f c.args.state.now 8 chaining, value_read f c.args.v.now 5 variables))
 
 pub returns-clause-rest : goal.returns-clause-rest

@@ -3,7 +3,7 @@ use Rattle.ring_core.proofs.digest.sha1.next_two_rounds.Goals as goal
 
 pub returns : goal.returns
 returns g c = λ i h b before.
-    let ready = c.fill.ensures i b before.words in record {
+    let ready = c.extend.ensures i b before.words in record {
       words = ready;
       variables =
           c.two_rounds.ensures i h b (c.args.t + 2) ready (omega arith) (omega arith)

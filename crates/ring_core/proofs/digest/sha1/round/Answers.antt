@@ -16,5 +16,5 @@ returns g c = λ i w are.
       c.rotate_left-2.ensures i,
       c.round_function.ensures i,
       are,
-      g.met.S.Lanes.bits_are,
+      g.met.S.ExtendSchedule.bits_are,
     ) (simp (value_read (g.S.LaneWord.lane i) c.args.v 5 five, sum_of_pair (2 ^ 32)))

@@ -7,7 +7,7 @@ returns-then-t-lt20 g c = λ i.
     let f = g.S.LaneWord.lane i in
     let first : nat_lt c.args.t 20 ≡ true = search arith in
     let is : f c.choose_word.result ≡ choose 32 (f c.args.x) (f c.args.y) (f c.args.z) =
-    rw g.met.S.Lanes.bits_are at (c.choose_word.ensures i) in
+    rw g.met.S.ExtendSchedule.bits_are at (c.choose_word.ensures i) in
     rw first is
 
 pub returns-then-t-lt60 : goal.returns-then-t-lt60

@@ -1,14 +1,10 @@
-use Rattle.std.proofs.Common.{map, sym}
-use Rattle.ring_core.specs.Sha1.{W}
-use Rattle.ring_core.specs.Word.{low_32, word_at}
-use Rattle.ring_core.proofs.Schedule.{ring-same}
-use Rattle.ring_core.proofs.Sha1Steps.{W-first}
+use Rattle.std.proofs.Common.{map}
+use Rattle.ring_core.specs.Word.{low_32}
+use Rattle.ring_core.proofs.Sha1Steps.{ring-loaded}
 use Rattle.ring_core.proofs.digest.sha1.run_block.Goals as goal
 
 pub returns-clause-words : goal.returns-clause-words
 returns-clause-words c =
     let block = c.args.block.now in
-    let ring = map low_32 c.load.new.ring in
-    let ready = ring-same (word_at 32 block) (W block) ring 16 (c.load.ensures 0)
-    (λ k below. sym (W-first block k below)) in
-    c.run_loaded.ensures.words 0 block ready
+    c.run_loaded.ensures.words 0 block
+    (ring-loaded block (map low_32 c.load.new.ring) (c.load.ensures 0))

@@ -1,6 +1,6 @@
 use Rattle.std.proofs.Common.{◌≡◌, length, map, rules}
 use Rattle.std.proofs.Math.ListN.{length-map}
-use Rattle.ring_core.proofs.Four.{xor_eight}
+use Rattle.ring_core.proofs.Vectors.{xor_eight}
 use Rattle.ring_core.proofs.Mapped.{value_read}
 use Rattle.ring.proofs.hmac.lanes.one.xored_words.Goals as goal
 

@@ -1,5 +1,5 @@
 use Rattle.std.proofs.Common.{mod-lt, pow_pos}
-use Rattle.ring_core.specs.Lane.{word_of_lane}
+use Rattle.ring.specs.FourLanes.{word_of_lane}
 use Rattle.ring.proofs.Paddings.{sha1_padding}
 use Rattle.ring.proofs.Words.{padded-words}
 use Rattle.ring.proofs.hmac.lanes.four.FourSha1DigestLanes.run.Goals as goal

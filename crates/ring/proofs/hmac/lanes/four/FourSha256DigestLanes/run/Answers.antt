@@ -1,5 +1,5 @@
 use Rattle.std.proofs.Common.{mod-lt, pow_pos}
-use Rattle.ring_core.specs.Lane.{word_of_lane, words_of_lane}
+use Rattle.ring.specs.FourLanes.{word_of_lane, words_of_lane}
 use Rattle.ring.proofs.Lanes.{all_ran}
 use Rattle.ring.proofs.Paddings.{sha256_padding}
 use Rattle.ring.proofs.Words.{padded-words}

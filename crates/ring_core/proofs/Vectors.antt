@@ -1,0 +1,124 @@
+-- Vectors, lane by lane, and lists of eight words.
+use Rattle.std.proofs.Common.{◌≡◌, ◌≢◌, ℕ, zero, suc, ◌*◌, ◌-◌, ◌/◌, ◌%◌, ◌^◌, ◌<◌, ◌≤◌}
+use Rattle.std.proofs.Common.{List, [], ◌∷◌, slice_set, ap}
+use Rattle.std.proofs.Common.{length, slice_index, bit_or, refl, sym, arith, mod-lt, pow_pos}
+use Rattle.std.proofs.lemmas.List.{get_or-set_other, get_or-set_same}
+use Rattle.std.proofs.lemmas.Nat.{shr_le}
+use Rattle.std.proofs.lemmas.Simd.{get_or-replicate}
+use Rattle.std.proofs.Math.Facts.{Fits-lt-pow}
+use Rattle.std.proofs.Math.ListN.{replicate}
+use Rattle.std.proofs.Math.Nat.{div-le_self, mod-eq_of_lt}
+use Rattle.std.specs.Int.{Width}
+use Rattle.std.specs.Simd.Lanes.{Each1, zip2}
+use Rattle.ring_core.specs.Bytes.{xor_lists}
+use Rattle.ring_core.specs.Word.{◌⊕◌, rotr, shr}
+use Rattle.ring_core.proofs.Rotation.{or_of_shifts, or_of_shifts-rotr, rotr-lt}
+use mir.Val.{bits, Fits}
+
+-- the same number in each lane
+pub in_splat : (lanes n i : ℕ) → 0 < lanes → slice_index (replicate lanes n) (i % lanes) ≡ n
+in_splat lanes n i some = get_or-replicate lanes (i % lanes) n 0 (mod-lt i some)
+
+-- an operation on two vectors, at any place: past their end both are 0
+pub at_zip : (f : ℕ → ℕ → ℕ) (x y : List ℕ) → f 0 0 ≡ 0 → length x ≡ length y → (k : ℕ)
+    → slice_index (zip2 f x y) k ≡ f (slice_index x k) (slice_index y k)
+at_zip f [] [] none same k = sym none
+at_zip f (x ∷ xs) (y ∷ ys) none same zero = refl
+at_zip f (x ∷ xs) (y ∷ ys) none same (suc k) = at_zip f xs ys none (omega (arith, same)) k
+at_zip f [] (y ∷ ys) none same k = absurd (omega (arith, same))
+at_zip f (x ∷ xs) [] none same k = absurd (omega (arith, same))
+
+-- an operation on a vector and the same number in each lane
+pub at_zip_splat : (f : ℕ → ℕ → ℕ) (x : List ℕ) (lanes n : ℕ) → f 0 n ≡ 0 → length x ≡ lanes
+    → (k : ℕ) → slice_index (zip2 f x (replicate lanes n)) k ≡ f (slice_index x k) n
+at_zip_splat f [] zero n none same k = sym none
+at_zip_splat f (x ∷ xs) (suc lanes) n none same zero = refl
+at_zip_splat f (x ∷ xs) (suc lanes) n none same (suc k) =
+    at_zip_splat f xs lanes n none (omega (arith, same)) k
+at_zip_splat f [] (suc lanes) n none same k = absurd (omega (arith, same))
+at_zip_splat f (x ∷ xs) zero n none same k = absurd (omega (arith, same))
+
+-- each number of a vector fits its type, and so does what is read past its end
+pub at_fits : (w : Width) (x : List ℕ) → Each1 (Fits w) x → (k : ℕ) → slice_index x k < 2 ^ bits w
+at_fits w [] all k = pow_pos (bits w)
+at_fits w (x ∷ xs) all zero = Fits-lt-pow all.0
+at_fits w (x ∷ xs) all (suc k) = at_fits w xs all.1 k
+
+-- 0 shifted right
+pub shr-zero : (n : ℕ) → 0 / 2 ^ n ≡ 0
+shr-zero n = omega (arith, div-le_self 0 (2 ^ n))
+
+-- a vector shifted right
+abbrev pub shifted_right : (lanes n : ℕ) → List ℕ → List ℕ
+shifted_right lanes n x = zip2 (λ a b. a / 2 ^ b) x (replicate lanes n)
+
+-- a vector shifted left, in words of w bits
+abbrev pub shifted_left : (w lanes n : ℕ) → List ℕ → List ℕ
+shifted_left w lanes n x = zip2 (λ a b. a * 2 ^ b % 2 ^ w) x (replicate lanes n)
+
+pub at_shr : (w : Width) (lanes n : ℕ) (x : List ℕ) → (length x ≡ lanes) × Each1 (Fits w) x
+    → (k : ℕ)
+    → slice_index (shifted_right lanes n x) k % 2 ^ bits w ≡ shr n (slice_index x k % 2 ^ bits w)
+at_shr w lanes n x known k =
+    let fits = at_fits w x known.1 k in
+    rw (
+      at_zip_splat (λ a b. a / 2 ^ b) x lanes n (shr-zero n) known.0 k,
+      mod-eq_of_lt fits,
+    ) (mod-eq_of_lt (omega (arith, fits, shr_le (slice_index x k) n)))
+
+at_or_of_shifts : (w lanes n : ℕ) (x : List ℕ) → length x ≡ lanes → (k : ℕ)
+    → slice_index (zip2 bit_or (shifted_right lanes n x) (shifted_left w lanes (w - n) x)) k
+    ≡ or_of_shifts w (slice_index x k) n
+at_or_of_shifts w zero n [] same k =
+    let none : 0 * 2 ^ (w - n) ≡ 0 = omega arith in
+    rw (shr-zero n, none) (sym (mod-eq_of_lt (pow_pos w)))
+at_or_of_shifts w (suc lanes) n (x ∷ xs) same zero = refl
+at_or_of_shifts w (suc lanes) n (x ∷ xs) same (suc k) =
+    at_or_of_shifts w lanes n xs (omega (arith, same)) k
+at_or_of_shifts w (suc lanes) n [] same k = absurd (omega (arith, same))
+at_or_of_shifts w zero n (x ∷ xs) same k = absurd (omega (arith, same))
+
+-- a vector rotated right
+pub at_rotr : (w : Width) (lanes n : ℕ) (x : List ℕ) → n ≤ bits w
+    → (length x ≡ lanes) × Each1 (Fits w) x → (k : ℕ)
+    → slice_index
+    (zip2 bit_or (shifted_right lanes n x) (shifted_left (bits w) lanes (bits w - n) x)) k
+    % 2 ^ bits w
+    ≡ rotr (bits w) n (slice_index x k % 2 ^ bits w)
+at_rotr w lanes n x le known k =
+    let fits = at_fits w x known.1 k in
+    rw (
+      at_or_of_shifts (bits w) lanes n x known.0 k,
+      or_of_shifts-rotr (bits w) (slice_index x k) n le fits,
+      mod-eq_of_lt fits,
+    ) (mod-eq_of_lt (rotr-lt (bits w) (slice_index x k) n le fits))
+
+-- another number in one lane
+pub at_set_same : (w lanes i n : ℕ) (x : List ℕ) → length x ≡ lanes → i < lanes
+    → slice_index (slice_set x i n) (i % lanes) % 2 ^ w ≡ n % 2 ^ w
+at_set_same w lanes i n x same below =
+    rw (mod-eq_of_lt below)
+    (ap (λ y. y % 2 ^ w) (get_or-set_same x i n 0 (omega (arith, same, below))))
+
+-- the other lanes stay
+pub at_set_other : (w lanes i n : ℕ) (x : List ℕ) (k : ℕ) → k < lanes → k ≢ i
+    → slice_index (slice_set x i n) (k % lanes) % 2 ^ w ≡ slice_index x (k % lanes) % 2 ^ w
+at_set_other w lanes i n x k below other =
+    rw (mod-eq_of_lt below) (ap (λ y. y % 2 ^ w) (get_or-set_other x i k n 0 other))
+
+-- a list of eight, item by item
+pub eight_read : (l : List ℕ) → length l ≡ 8
+    → slice_index l 0 ∷ slice_index l 1 ∷ slice_index l 2 ∷ slice_index l 3
+    ∷ slice_index l 4 ∷ slice_index l 5 ∷ slice_index l 6 ∷ slice_index l 7 ∷ [] ≡ l
+eight_read (a ∷ b ∷ c ∷ d ∷ e ∷ f ∷ g ∷ h ∷ []) eight = refl
+eight_read _ eight = absurd (omega arith)
+
+-- the exclusive or of two lists of eight, item by item
+pub xor_eight : (x y : List ℕ) → length x ≡ 8 → length y ≡ 8
+    → (slice_index x 0 ⊕ slice_index y 0) ∷ (slice_index x 1 ⊕ slice_index y 1)
+    ∷ (slice_index x 2 ⊕ slice_index y 2) ∷ (slice_index x 3 ⊕ slice_index y 3)
+    ∷ (slice_index x 4 ⊕ slice_index y 4) ∷ (slice_index x 5 ⊕ slice_index y 5)
+    ∷ (slice_index x 6 ⊕ slice_index y 6) ∷ (slice_index x 7 ⊕ slice_index y 7) ∷ []
+    ≡ xor_lists x y
+xor_eight (a ∷ b ∷ c ∷ d ∷ e ∷ f ∷ g ∷ h ∷ []) (i ∷ j ∷ k ∷ l ∷ m ∷ n ∷ o ∷ p ∷ []) ex ey = refl
+xor_eight _ _ ex ey = absurd (omega arith)

@@ -1,0 +1,8 @@
+use Rattle.std.proofs.Common.{◌≡◌, ℕ, ◌<◌, []}
+use Rattle.std.proofs.Math.ListN.{get_or}
+use Rattle.ring_core.specs.Word.{word_at}
+use Rattle.ring_core.proofs.digest.word_ring.read_words.Given as goal
+
+abbrev pub invariant-lanes : goal.invariant-lanes
+invariant-lanes g l = (k : ℕ) → k < l.i
+    → g.V.LaneWord.lane k l.words ≡ word_at g.V.One.Word.bits (get_or l.blocks k []) l.j

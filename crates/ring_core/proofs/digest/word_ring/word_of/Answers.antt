@@ -1,0 +1,17 @@
+use Rattle.std.proofs.Common.{List, ℕ, ◌≡◌, ◌∙◌, arith, length, map, nat_lt, sym, true}
+use Rattle.std.proofs.Math.ListN.{length-map}
+use Rattle.ring_core.proofs.Mapped.{past_front, value_read}
+use Rattle.ring_core.proofs.digest.word_ring.word_of.Goals as goal
+
+pub returns-else-t : goal.returns-else-t
+returns-else-t g c = λ i.
+    let value = g.S.One.Word.value in
+    let t = c.args.t in
+    let front : List ℕ = map (g.S.LaneWord.lane i) c.args.front.now in
+    let padding = c.args.padding.now in
+    let long : length front ≡ 8 =
+    length-map c.args.front.now (g.S.LaneWord.lane i) ∙ c.told-front in
+    let below : nat_lt t 16 ≡ true = search (arith, c.requires.place) in
+    c.splat.ensures i
+    ∙ value_read value padding 16 c.told-padding t _ below
+    ∙ sym (past_front g.row.N t front (map value padding) (omega (arith, long)) (omega arith))

@@ -1,0 +1,116 @@
+//! The last sixteen words of a schedule, in a ring: word `t` stands in slot `t` modulo 16.
+ghost use Rattle.std.specs.Prelude.{◌≡◌, ℕ, ◌+◌, ◌*◌, ◌/◌, ◌%◌, ◌<◌, ◌≤◌, ◌++◌, List};
+ghost use Rattle.std.specs.Prelude.{[], ◌∷◌, drop, get_or, length, map, slice_index, take};
+ghost use Rattle.ring_core.specs.Schedule.{IsBlockOf, IsRing};
+ghost use Rattle.ring_core.specs.Word.{word_at};
+
+use crate::digest::word::in_lanes::InLanes;
+use crate::digest::word::lane_word::{LaneWord, Slots, Vector};
+use crate::digest::word::{Sha2, Word};
+
+// Each function here is a few instructions of a block function and is always inlined: a slot is
+// then a literal, and words stay in lanes from step to step.
+
+// Fills the ring with the words of the block, the same in each lane.
+#[inline(always)]
+pub(crate) fn load<S: Slots>(ring: &mut [S::Slot; 16], block: &[u8])
+    requires some { 0 < S.LANES }
+    requires whole { length block.now ≡ 16 * (S.One.bits / 8) }
+    ensures { (i : ℕ) → IsRing (word_at S.One.bits block.now) (map (S.slot_lane i) ring.new) 16 }
+{
+    'words: for t in 0..16 {
+        ring[t] = S::splat(S::One::read_word(block, t)).to_slot();
+    }
+}
+
+// Word `j` of each block, each in its block's lane.
+#[inline(always)]
+fn read_words<V: Vector, const N: usize>(blocks: &[[u8; N]], j: usize) -> V
+    requires some { 0 < V.LANES }
+    requires lanes { length blocks.now ≡ V.LANES }
+    requires whole { N ≡ 16 * (V.One.bits / 8) }
+    requires place { j < 16 }
+    ensures { (i : ℕ) → i < V.LANES
+        → V.lane i result ≡ word_at V.One.bits (get_or blocks.now i []) j }
+{
+    let mut words = V::splat(V::One::ZERO);
+    'lanes: for i in 0..V::LANES {
+        words = words.with(i, V::One::read_word(&blocks[i], j));
+    }
+    words
+}
+
+// Fills the ring with the words of the blocks, each block's in its own lane.
+#[inline(always)]
+pub(crate) fn load_blocks<V: Vector, const N: usize>(
+    ring: &mut [InLanes<V>; 16],
+    blocks: &[[u8; N]],
+)
+    requires some { 0 < V.LANES }
+    requires lanes { length blocks.now ≡ V.LANES }
+    requires whole { N ≡ 16 * (V.One.bits / 8) }
+    ensures { (i : ℕ) → i < V.LANES → IsRing (word_at V.One.bits (get_or blocks.now i []))
+        (map (λ x. V.lane i x.0) ring.new) 16 }
+{
+    'words: for t in 0..16 {
+        ring[t] = InLanes(read_words::<V, N>(blocks, t));
+    }
+}
+
+// Word `t` of a block whose first `N` words are those of `front`, and whose other words are those
+// of `padding`, the same in each lane.
+#[inline(always)]
+fn word_of<S: Slots, const N: usize>(front: &[S; 8], padding: &[S::One; 16], t: usize) -> S
+    requires some { 0 < S.LANES }
+    requires front { N ≤ 8 }
+    requires place { t < 16 }
+    ensures { (i : ℕ) → S.lane i result ≡ slice_index
+        (take N (map (S.lane i) front.now) ++ drop N (map S.One.value padding.now)) t }
+{
+    if t < N {
+        front[t]
+    } else {
+        S::splat(padding[t])
+    }
+}
+
+// Fills the ring with the words of such a block.
+#[inline(always)]
+pub(crate) fn load_words<S: Slots, const N: usize>(
+    ring: &mut [S::Slot; 16],
+    front: &[S; 8],
+    padding: &[S::One; 16],
+)
+    requires some { 0 < S.LANES }
+    requires front { N ≤ 8 }
+    ensures { (i : ℕ) (b : List ℕ)
+        → IsBlockOf S.One.bits N (map (S.lane i) front.now) (map S.One.value padding.now) b
+        → IsRing (word_at S.One.bits b) (map (S.slot_lane i) ring.new) 16 }
+{
+    'words: for t in 0..16 {
+        ring[t] = word_of::<S, N>(front, padding, t).to_slot();
+    }
+}
+
+// The words in `slot` and in the slot after it.
+#[inline(always)]
+pub(crate) fn pair<T: Copy>(ring: &[T; 16], slot: usize) -> [T; 2]
+    requires { slot < 16 }
+    ensures { (value : T → ℕ) (w : ℕ → ℕ) (n t : ℕ) → IsRing w (map value ring.now) n
+        → slot ≡ t % 16 → t + 2 ≤ n → n ≤ t + 16 → map value result ≡ w t ∷ w (t + 1) ∷ [] }
+{
+    [ring[slot], ring[(slot + 1) % 16]]
+}
+
+// Replaces the oldest two words, in `slot` and the slot after it, by the next two.
+#[inline(always)]
+pub(crate) fn set_pair<T: Copy>(ring: &mut [T; 16], slot: usize, words: [T; 2])
+    requires { slot < 16 }
+    ensures { (value : T → ℕ) (w : ℕ → ℕ) (t : ℕ) → IsRing w (map value ring.old) t
+        → slot ≡ t % 16 → map value words ≡ w t ∷ w (t + 1) ∷ []
+        → IsRing w (map value ring.new) (t + 2) }
+{
+    let [first, second] = words;
+    ring[slot] = first;
+    ring[(slot + 1) % 16] = second;
+}

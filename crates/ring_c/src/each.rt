@@ -10,6 +10,7 @@ ghost use Rattle.ring_c.specs.Each.{bytes_of_each, digests_of};
 
 use crate::status::{OK, UNKNOWN_ALGORITHM, UNSPECIFIED, WRONG_LENGTH};
 use ring::digest::{self, Algorithm, Digest};
+use ring::polyfill::slice::write_at;
 use ring::raw::digest_of_number;
 
 // How many digests are held at a time: some groups of four, which is what runs side by side.
@@ -50,14 +51,6 @@ fn any_digest(algorithm: &Algorithm) -> Digest {
         // No byte is within the limit.
         Err(_) => unreachable!(),
     }
-}
-
-// Writes the bytes from the place `at` on.
-fn write_at(out: &mut [u8], at: usize, bytes: &[u8])
-    requires { at + length bytes.now ≤ length out.old }
-    ensures { out.new ≡ take at out.old ++ bytes.now ++ drop (at + length bytes.now) out.old }
-{
-    out[at..at + bytes.len()].copy_from_slice(bytes);
 }
 
 // Writes the digests to `out` from the place `at` on, and returns the place after them.

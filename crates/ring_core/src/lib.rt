@@ -4,7 +4,7 @@
 //! - [`cost`]: the meter, which counts blocks and compared pairs of bytes.
 //! - [`bb`]: comparison and exclusive or of byte slices.
 //! - [`bits`]: lengths in bits.
-//! - [`polyfill`]: slices as chunks of one length.
+//! - [`polyfill`]: slices as chunks of one length, and bytes written into a slice.
 //! - [`error`]: the errors.
 //!
 //! The modules' examples are callers that the crate `ring_examples` proves. They stand there with

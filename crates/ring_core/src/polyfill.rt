@@ -1,3 +1,3 @@
-//! Parts of Rust's standard library that Rattle's does not have yet.
+//! Helpers on slices, and parts of Rust's standard library that Rattle's does not have yet.
 
 pub mod slice;

@@ -1,6 +1,6 @@
 //! The rounds of an output (RFC 5869, section 2.3).
 
-ghost use Rattle.std.specs.Prelude.{◌≡◌, ◌+◌, ◌≤◌, ℕ, List, [], ◌∷◌, ◌++◌, length, take, drop};
+ghost use Rattle.std.specs.Prelude.{◌≡◌, ◌+◌, ℕ, List, [], ◌∷◌, ◌++◌, length};
 ghost use Rattle.ring_core.specs.Cost.{raised};
 ghost use Rattle.ring.specs.Cost.{fill_blocks, padded_blocks};
 ghost use Rattle.ring.specs.Hkdf.{okm};
@@ -10,6 +10,7 @@ ghost use Rattle.ring.specs.Pieces.{joined};
 
 use crate::hmac::{Context, Key, Tag};
 use ring_core::cost::Meter;
+use ring_core::polyfill::slice::write_at;
 
 // T(number): the tag of the round before, the info and the number.
 fn round(key: &Key, previous: &[u8], info: &[&[u8]], number: u8, meter: &mut Meter) -> Tag
@@ -32,14 +33,6 @@ fn round(key: &Key, previous: &[u8], info: &[&[u8]], number: u8, meter: &mut Met
         // The caller has tested the lengths.
         Err(_) => unreachable!(),
     }
-}
-
-// Writes the bytes at place `at` and those after it.
-fn write_at(out: &mut [u8], at: usize, bytes: &[u8])
-    requires { at + length bytes.now ≤ length out.old }
-    ensures { out.new ≡ take at out.old ++ bytes.now ++ drop (at + length bytes.now) out.old }
-{
-    out[at..at + bytes.len()].copy_from_slice(bytes);
 }
 
 // Writes the whole output: the tags one after another, and the front of the last.

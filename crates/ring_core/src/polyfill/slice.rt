@@ -1,4 +1,4 @@
-//! Slices seen as whole chunks of one length.
+//! Slices seen as whole chunks of one length, and bytes written into a slice.
 //!
 //! ```
 //! pub fn whole_and_left(message: &[u8]) -> (usize, usize)
@@ -11,7 +11,7 @@
 //!
 //! The imports of this example stand in `crates/ring_examples/src/basics.rt`.
 
-ghost use Rattle.std.specs.Prelude.{◌≡◌, ◌*◌, ◌<◌, length, take, drop};
+ghost use Rattle.std.specs.Prelude.{◌≡◌, ◌+◌, ◌*◌, ◌<◌, ◌≤◌, ◌++◌, length, take, drop};
 ghost use Rattle.ring_core.specs.Chunks.{chunk_count};
 ghost use Rattle.ring_core.specs.Views.{chunk_items};
 
@@ -27,4 +27,12 @@ pub fn as_chunks<T, const N: usize>(slice: &[T]) -> (AsChunks<'_, T, N>, &[T])
     ensures rest { result.1.now ≡ drop (chunk_count N (length slice.now) * N) slice.now }
 {
     AsChunks::split(slice)
+}
+
+/// Writes `bytes` over those of `out` from the position `at` on. They must end within `out`.
+pub fn write_at(out: &mut [u8], at: usize, bytes: &[u8])
+    requires { at + length bytes.now ≤ length out.old }
+    ensures { out.new ≡ take at out.old ++ bytes.now ++ drop (at + length bytes.now) out.old }
+{
+    out[at..at + bytes.len()].copy_from_slice(bytes);
 }

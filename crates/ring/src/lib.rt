@@ -8,6 +8,7 @@
 //! - [`hmac`]: keys, tags and their verification (RFC 2104).
 //! - [`hkdf`]: keys derived from secrets (RFC 5869).
 //! - [`pbkdf2`]: keys derived from passwords (RFC 2898).
+//! - [`limits`]: the greatest lengths of outputs and of derived keys.
 //! - [`rand`]: byte sources that the caller implements, and values made of their bytes.
 //! - [`raw`]: contexts and keys as plain numbers.
 //! - [`laws`]: facts that relate several calls.
@@ -24,7 +25,7 @@ pub mod digest;
 pub mod hkdf;
 pub mod hmac;
 pub mod laws;
-mod limits;
+pub mod limits;
 pub mod pbkdf2;
 pub mod rand;
 pub mod raw;

@@ -1,13 +1,27 @@
-//! The tests of lengths, but for a digest's own, which stands beside its limit
-//! (`digest::algorithm::is_message_within`). They take `u128`, so that no sum wraps before its
-//! test.
+//! The limits of lengths, but for a digest's own
+//! ([`max_input_len`](crate::digest::Algorithm::max_input_len)).
+//!
+//! The lengths are `u128`, so that no sum wraps before its test.
+//!
+//! ```
+//! pub fn can_ask(len: usize) -> bool
+//!     ensures { IsTrue result ↔ IsOutputWithin SHA256 len }
+//! {
+//!     len as u128 <= max_okm_len(&HKDF_SHA256)
+//! }
+//! ```
+//!
+//! The imports of this example stand in `crates/ring_examples/src/hkdf.rt`.
 
 ghost use Rattle.std.specs.Prelude.{◌≡◌, ◌↔◌, IsTrue, length};
+ghost use Rattle.ring.specs.Hkdf.{hkdf_digest};
 ghost use Rattle.ring.specs.Limits.{CanDerive, CanVerify, IsInfoWithin};
-ghost use Rattle.ring.specs.Limits.{IsOutputWithin, IsTagWithin};
+ghost use Rattle.ring.specs.Limits.{IsOutputWithin, IsTagWithin, max_dk_len, max_okm_len};
+ghost use Rattle.ring.specs.Pbkdf2.{pbkdf2_digest};
 ghost use Rattle.ring.specs.Pieces.{joined};
 
 use crate::digest::algorithm::{Algorithm, is_message_within};
+use crate::{hkdf, pbkdf2};
 
 // The largest number of rounds of an output: a round's number is one byte (RFC 5869, section 2.3).
 const MAX_ROUNDS: u128 = 255;
@@ -17,6 +31,36 @@ const ROUND_NUMBER_LEN: u128 = 1;
 
 // The bytes of INT (i), the number of a round, which follow the salt (RFC 2898, section 5.2).
 const INT_LEN: u128 = 4;
+
+/// The length in bytes of the longest output of HKDF by `algorithm`: 255 digests (RFC 5869, section
+/// 2.3).
+pub fn max_okm_len(algorithm: &hkdf::Algorithm) -> u128
+    ensures { result ≡ max_okm_len (hkdf_digest algorithm.now) }
+{
+    longest_output(&algorithm.hmac_algorithm().digest_algorithm())
+}
+
+/// The length in bytes of the longest key that PBKDF2 derives by `algorithm`: `2^32 - 1` digests
+/// (RFC 2898, section 5.2).
+pub fn max_dk_len(algorithm: &pbkdf2::Algorithm) -> u128
+    ensures { result ≡ max_dk_len (pbkdf2_digest algorithm.now) }
+{
+    longest_derivation(&algorithm.hmac_algorithm().digest_algorithm())
+}
+
+// The length of the longest output over a digest algorithm.
+fn longest_output(algorithm: &Algorithm) -> u128
+    ensures { result ≡ max_okm_len algorithm.now }
+{
+    MAX_ROUNDS * algorithm.output_len() as u128
+}
+
+// The length of the longest derivation over a digest algorithm: more rounds have no number.
+fn longest_derivation(algorithm: &Algorithm) -> u128
+    ensures { result ≡ max_dk_len algorithm.now }
+{
+    u32::MAX as u128 * algorithm.output_len() as u128
+}
 
 // The number of bytes in all pieces: a slice has fewer than 2^64 pieces of fewer than 2^64 bytes.
 pub(crate) fn joined_len(pieces: &[&[u8]]) -> u128
@@ -41,7 +85,7 @@ pub(crate) fn is_tag_within(algorithm: &Algorithm, len: u128) -> bool
 pub(crate) fn is_output_within(algorithm: &Algorithm, len: u128) -> bool
     ensures { IsTrue result ↔ IsOutputWithin algorithm.now len }
 {
-    len <= MAX_ROUNDS * algorithm.output_len() as u128
+    len <= longest_output(algorithm)
 }
 
 // Whether each round of an output of `len` bytes has a tag, where the info has `info_len` bytes:
@@ -69,10 +113,9 @@ pub(crate) fn can_derive(
 {
     let beside_salt = algorithm.block_len() as u128 + INT_LEN;
     let most_salt = algorithm.max_input_len() - beside_salt;
-    let most_output = u32::MAX as u128 * algorithm.output_len() as u128;
     is_message_within(algorithm, secret_len)
         && (out_len == 0 || salt_len <= most_salt)
-        && out_len <= most_output
+        && out_len <= longest_derivation(algorithm)
 }
 
 // Whether a derived value of `value_len` bytes can be verified. An empty one never can.

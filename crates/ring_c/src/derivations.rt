@@ -8,25 +8,9 @@ ghost use Rattle.ring_c.specs.Number.{pbkdf2_named};
 
 use crate::number::pbkdf2_of_number;
 use crate::status::{NO_ITERATIONS, OK, UNKNOWN_ALGORITHM, UNSPECIFIED, WRONG_LENGTH};
-use ring::digest::{SHA1_OUTPUT_LEN, SHA256_OUTPUT_LEN, SHA384_OUTPUT_LEN, SHA512_OUTPUT_LEN};
+use ring::limits::max_dk_len;
 use ring::pbkdf2;
 use std::num::NonZeroU32;
-
-// The bytes of the longest key of an algorithm's number: more blocks have no number (RFC 2898,
-// section 5.2).
-fn max_key_len(algorithm: u32) -> u128
-    ensures { (a : Algorithm) → pbkdf2_named algorithm ≡ Some a
-        → result ≡ max_dk_len (pbkdf2_digest a) }
-{
-    let digest_len = match algorithm {
-        1 => SHA1_OUTPUT_LEN,
-        2 => SHA256_OUTPUT_LEN,
-        3 => SHA384_OUTPUT_LEN,
-        4 => SHA512_OUTPUT_LEN,
-        _ => 0,
-    };
-    u32::MAX as u128 * digest_len as u128
-}
 
 /// Fills `out` with the key that is derived from `secret` and `salt` in so many `iterations`, by
 /// the PBKDF2 algorithm of the number `algorithm` (RFC 2898, section 5.2).
@@ -57,11 +41,10 @@ pub extern "C" fn yz_pbkdf2_derive(
         → length out.old ≤ max_dk_len (pbkdf2_digest a) → result ≢ OK → result ≡ UNSPECIFIED }
     ensures unchanged { result ≢ OK → out.new ≡ out.old }
 {
-    let max_len = max_key_len(algorithm);
     let Some(algorithm) = pbkdf2_of_number(algorithm) else {
         return UNKNOWN_ALGORITHM;
     };
-    if out.len() as u128 > max_len {
+    if out.len() as u128 > max_dk_len(&algorithm) {
         return WRONG_LENGTH;
     }
     let Some(iterations) = NonZeroU32::new(iterations) else {

@@ -1,11 +1,11 @@
 //! Keys derived from secrets: HKDF (RFC 5869).
 
-ghost use Rattle.std.specs.Prelude.{◌≡◌, ◌≢◌, ◌↔◌, ℕ, ◌*◌, ◌≤◌, ◌<◌};
+ghost use Rattle.std.specs.Prelude.{◌≡◌, ◌≢◌, ◌↔◌, ℕ, ◌≤◌, ◌<◌};
 ghost use Rattle.std.specs.Prelude.{List, Some, None, length, IsTrue};
 ghost use Rattle.ring.specs.Algorithm.{output_len};
 ghost use Rattle.ring.specs.Hkdf.{PrkStandsFor, hkdf_digest, okm, prk_algorithm};
 ghost use Rattle.ring.specs.Hmac.{hmac_of};
-ghost use Rattle.ring.specs.Limits.{IsInfoWithin, IsOutputWithin};
+ghost use Rattle.ring.specs.Limits.{IsInfoWithin, IsOutputWithin, max_okm_len};
 ghost use Rattle.ring.specs.declared.hkdf.algorithm.Algorithm.{Algorithm};
 ghost use Rattle.ring_c.specs.Limits.{CanExpand, CanMake, CanSign};
 ghost use Rattle.ring_c.specs.Number.{hkdf_named};
@@ -15,9 +15,7 @@ use crate::status::{OK, UNKNOWN_ALGORITHM, UNSPECIFIED, WRONG_LENGTH};
 use crate::tags::write_tag;
 use ring::hkdf::{self, KeyType, Prk, Salt};
 use ring::hmac::Key;
-
-// The most rounds of an output (RFC 5869, section 2.3).
-const MAX_ROUNDS: usize = 255;
+use ring::limits::max_okm_len;
 
 // A number of bytes.
 #[derive(Drop)]
@@ -35,7 +33,7 @@ impl KeyType for Length {
 fn is_output_within(algorithm: &hkdf::Algorithm, len: usize) -> bool
     ensures { IsTrue result ↔ IsOutputWithin (hkdf_digest algorithm.now) len }
 {
-    len <= MAX_ROUNDS * algorithm.hmac_algorithm().digest_algorithm().output_len()
+    len as u128 <= max_okm_len(algorithm)
 }
 
 /// Writes the PRK that is extracted from `secret` with `salt` to `out`, by the HKDF algorithm of
@@ -81,7 +79,7 @@ pub extern "C" fn yz_hkdf_expand(algorithm: u32, prk: &[u8], info: &[u8], out: &
         → out.new ≡ okm (hkdf_digest a) prk.now info.now (length out.old) }
     ensures unknown { result ≡ UNKNOWN_ALGORITHM ↔ hkdf_named algorithm ≡ None }
     ensures wrong_length { (a : Algorithm) → hkdf_named algorithm ≡ Some a
-        → (result ≡ WRONG_LENGTH ↔ (255 * output_len (hkdf_digest a) < length out.old)) }
+        → (result ≡ WRONG_LENGTH ↔ max_okm_len (hkdf_digest a) < length out.old) }
     ensures refused { (a : Algorithm) → hkdf_named algorithm ≡ Some a
         → IsOutputWithin (hkdf_digest a) (length out.old)
         → (result ≡ OK
@@ -120,7 +118,7 @@ pub extern "C" fn yz_hkdf(
         (hmac_of (hkdf_digest a) salt.now secret.now) info.now (length out.old) }
     ensures unknown { result ≡ UNKNOWN_ALGORITHM ↔ hkdf_named algorithm ≡ None }
     ensures wrong_length { (a : Algorithm) → hkdf_named algorithm ≡ Some a
-        → (result ≡ WRONG_LENGTH ↔ (255 * output_len (hkdf_digest a) < length out.old)) }
+        → (result ≡ WRONG_LENGTH ↔ max_okm_len (hkdf_digest a) < length out.old) }
     ensures refused { (a : Algorithm) → hkdf_named algorithm ≡ Some a
         → IsOutputWithin (hkdf_digest a) (length out.old)
         → (result ≡ OK ↔ CanMake (hkdf_digest a)

@@ -1,7 +1,7 @@
 //! Keys from secrets.
 
 ghost use Rattle.std.specs.Prelude.{◌≡◌, ◌↔◌, ◌*◌, ◌<◌, ◌≤◌, ℕ, List, length};
-ghost use Rattle.std.specs.Prelude.{IfOk, IsErr, IsOk, OnErr, OnOk};
+ghost use Rattle.std.specs.Prelude.{IfOk, IsErr, IsOk, IsTrue, OnErr, OnOk};
 ghost use Rattle.ring.specs.Algorithm.{max_input_len, output_len};
 ghost use Rattle.ring.specs.Hkdf.{PrkStandsFor, SaltStandsFor, okm, prk_algorithm, salt_algorithm};
 ghost use Rattle.ring.specs.Hmac.{IsTag, KeyStandsFor, hmac_of, key_algorithm};
@@ -12,6 +12,7 @@ use ring::digest::SHA256;
 use ring::error::Unspecified;
 use ring::hkdf::{HKDF_SHA256, KeyType, Prk, Salt};
 use ring::hmac::{HMAC_SHA256, Key, Tag, sign};
+use ring::limits::max_okm_len;
 
 /// A number of bytes.
 #[derive(Drop)]
@@ -129,4 +130,11 @@ pub fn asked_len(prk: &Prk, info: &[&[u8]], len: usize) -> Result<usize, Unspeci
     ensures refused { IsErr result ↔ (255 * output_len (prk_algorithm prk.now) < len) }
 {
     Ok(prk.expand(info, Length(len))?.len().0)
+}
+
+/// Whether an output of `len` bytes can be asked for.
+pub fn can_ask(len: usize) -> bool
+    ensures { IsTrue result ↔ IsOutputWithin SHA256 len }
+{
+    len as u128 <= max_okm_len(&HKDF_SHA256)
 }

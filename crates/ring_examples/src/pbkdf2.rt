@@ -1,12 +1,13 @@
 //! Keys from passwords.
 
-ghost use Rattle.std.specs.Prelude.{◌≡◌, ◌↔◌, ◌≤◌, length, IfOk, IsOk};
+ghost use Rattle.std.specs.Prelude.{◌≡◌, ◌↔◌, ◌≤◌, length, IfOk, IsOk, IsTrue};
 ghost use Rattle.std.specs.Int.NonZero.{non_zero_u32_get};
-ghost use Rattle.ring.specs.Limits.{CanDerive};
+ghost use Rattle.ring.specs.Limits.{CanDerive, max_dk_len};
 ghost use Rattle.ring.specs.Pbkdf2.{IsDerived, dk};
 
 use ring::digest::{SHA256, SHA256_OUTPUT_LEN};
 use ring::error::Unspecified;
+use ring::limits::max_dk_len;
 use ring::pbkdf2::{PBKDF2_HMAC_SHA256, derive, verify};
 use std::num::NonZeroU32;
 
@@ -50,4 +51,11 @@ pub fn derive_and_verify(
 {
     let stored = stored_of(iterations, salt, password)?;
     verify_stored(iterations, salt, password, &stored)
+}
+
+/// Whether a key of `len` bytes can be derived from a password and a salt that are short enough.
+pub fn can_derive_len(len: usize) -> bool
+    ensures { IsTrue result ↔ (len ≤ max_dk_len SHA256) }
+{
+    len as u128 <= max_dk_len(&PBKDF2_HMAC_SHA256)
 }

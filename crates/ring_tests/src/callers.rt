@@ -13,13 +13,13 @@ use ring_examples::basics::{
 };
 use ring_examples::digest::digest_of_two;
 use ring_examples::hkdf::{
-    Length, asked_len, current_and_next, expand_secret, expand_stored, key_under_salt, next_key,
-    next_salt, tag_under_output,
+    Length, asked_len, can_ask, current_and_next, expand_secret, expand_stored, key_under_salt,
+    next_key, next_salt, tag_under_output,
 };
 use ring_examples::hmac::{
     key_for_both, tag_counted, tag_len, tag_of_two, tags_of_front_and_whole, verify_tag,
 };
-use ring_examples::pbkdf2::{derive_and_verify, stored_of, verify_stored};
+use ring_examples::pbkdf2::{can_derive_len, derive_and_verify, stored_of, verify_stored};
 use ring_examples::pieces::{
     digest_again, digest_and_blocks, digest_of_list, digest_of_whole, digests_of_front_and_whole,
     finish_into, lengths_of,
@@ -207,6 +207,8 @@ fn outputs(rt: HostRuntime) -> Result<(), Unspecified> {
     let mut output = [0; 42];
     expand_secret(&SALT, &[0x0b; 22], &[&INFO], &mut output)?;
     assert!(rt; is_hex_of(OUTPUT, &output));
+    // RFC 5869, 2.3: 255 digests of 32 bytes.
+    assert!(rt; can_ask(8_160) && !can_ask(8_161));
     let tag = tag_under_output(&SALT, &[0x0b; 22], &[&INFO], b"hello, world")?;
     assert!(rt; is_hex_of(TAG_UNDER_OUTPUT, tag.as_ref()));
     Ok(())
@@ -249,6 +251,8 @@ fn passwords(rt: HostRuntime) -> Result<(), Unspecified> {
     assert!(rt; is_hex_of(STORED, &stored));
     verify_stored(NonZeroU32::MIN, b"salt", b"passwd", &stored)?;
     assert!(rt; verify_stored(NonZeroU32::MIN, b"salt", b"Passwd", &stored).is_err());
+    // RFC 2898, 5.2: 2^32 - 1 digests of 32 bytes.
+    assert!(rt; can_derive_len(137_438_953_440) && !can_derive_len(137_438_953_441));
     derive_and_verify(NonZeroU32::MIN, b"salt", b"passwd")
 }
 

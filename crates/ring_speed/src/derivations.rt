@@ -22,6 +22,7 @@ fn front_after<const N: usize>(hash: Hash, steps: u32) -> u64
     let iterations = NonZeroU32::new(steps.max(1)).unwrap();
     let mut out = [0; N];
     let Ok(()) = derive(algorithm, iterations, &SALT, &KEY, &mut out) else {
+        // So short a key, a salt and an output are within the limits.
         unreachable!()
     };
     message::front(&out)

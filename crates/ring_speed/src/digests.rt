@@ -21,6 +21,7 @@ fn replace_front_by_digests(algorithm: &Algorithm, message: &mut [u8], steps: u3
     #[tactic(auto, using(crate::proofs::Steps::iterate_next))]
     'steps: for _step in 0..steps {
         let Ok(made) = digest(algorithm, message) else {
+            // The message is within the limit.
             unreachable!()
         };
         replace_front(message, made.as_ref());

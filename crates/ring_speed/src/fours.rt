@@ -48,6 +48,7 @@ pub(crate) fn front_after<const N: usize>(hash: Hash, steps: u32) -> u64
     let algorithm = hash.digest_algorithm();
     // Not by `digest`: with a second caller it isn't written in line where it is timed.
     let Ok(none) = Context::new(&algorithm).finish() else {
+        // The empty message is within the limit.
         unreachable!()
     };
     let mut digests = [none; 4];

@@ -20,6 +20,7 @@ fn replace_front_by_tags(key: &Key, message: &mut [u8], steps: u32)
 {
     'steps: for _step in 0..steps {
         let Ok(made) = sign(key, message) else {
+            // At most 64 bytes are within the limit.
             unreachable!()
         };
         replace_front(message, made.as_ref());
@@ -31,6 +32,7 @@ pub(crate) fn front_after(hash: Hash, steps: u32) -> u64
     ensures { result ≡ front (message_after (hmac_of (algorithm_of hash) KEY) SHORT_LEN steps) }
 {
     let Ok(key) = Key::new(hash.hmac_algorithm(), &KEY) else {
+        // So short a key is within the limit.
         unreachable!()
     };
     let mut message = [0; SHORT_LEN];

@@ -20,3 +20,4 @@ pub mod Pbkdf2
 pub mod DeriveEach
 pub mod Raw
 pub mod FourLanes
+pub mod Cut

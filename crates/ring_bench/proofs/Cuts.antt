@@ -12,11 +12,11 @@ use Rattle.std.proofs.lemmas.List.Splits.{slice_split_none}
 use Rattle.std.proofs.Math.ListN.{drop_of_length-le}
 use Rattle.std.proofs.Math.Seq.{take-add, take-length}
 use Rattle.hex.specs.Hex.{decode_of}
+use Rattle.ring.specs.Cut.{IsFirstCut, IsWithout}
 use Rattle.ring.specs.Pieces.{joined}
 use Rattle.ring_bench.specs.Field.{is_comma, parts_bytes, value_of}
 use Rattle.ring_bench.specs.Pieces.{cut_into, pieces_listed}
 use Rattle.ring_bench.specs.Request.{concatenated}
-use Rattle.ring_bench.specs.Text.{IsFirstCut, IsWithout}
 use Rattle.ring_bench.proofs.Texts.{IsFirstCut-split}
 use Rattle.ring_bench.specs.declared.pieces.Pieces.{Pieces}
 

@@ -13,10 +13,11 @@ use Rattle.std.proofs.lemmas.List.Elements.{All-append}
 use Rattle.std.proofs.lemmas.List.Folds.{list_any-append}
 use Rattle.std.proofs.lemmas.List.Concat.{flat_map-append}
 use Rattle.std.proofs.Math.Seq.{take-append_seam}
+use Rattle.ring.specs.Cut.{IsFirstCut}
 use Rattle.ring_bench.specs.declared.status.Status.{Status}
 use Rattle.ring_bench.specs.declared.status.BenchError.{BenchError}
 use Rattle.ring_bench.specs.declared.status.Status.TheVariants.{Clean, SomeBad}
-use Rattle.ring_bench.specs.Text.{IsFirstCut, is_line_feed, without_return, lines, ended_lines}
+use Rattle.ring_bench.specs.Text.{is_line_feed, without_return, lines, ended_lines}
 use Rattle.ring_bench.specs.Text.{replies, answers, is_bad_kind, status_of}
 use Rattle.ring_bench.specs.Reply.{reply, kind}
 use Rattle.ring_bench.specs.Session.{HasNoLineFeed, Begins, Fed, Stopped, status_after}

@@ -1,7 +1,8 @@
 //! A text, and the bytes at which it is cut.
 ghost use Rattle.std.specs.Prelude.{◌≡◌, ◌==◌, IfOk, IfSome, IsNone, map, take};
 ghost use Rattle.std.specs.List.{slice_split};
-ghost use Rattle.ring_bench.specs.Text.{IsFirstCut, IsWithout, without_return};
+ghost use Rattle.ring.specs.Cut.{IsFirstCut, IsWithout};
+ghost use Rattle.ring_bench.specs.Text.{without_return};
 
 use memchr::memchr;
 use std::alloc::{AllocError, Allocator};

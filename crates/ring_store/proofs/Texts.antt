@@ -19,10 +19,11 @@ use Rattle.hex.specs.Hex.{lower_digits, decode_sized}
 use Rattle.hex.specs.declared.error.FromHexError.{FromHexError}
 use Rattle.hex.proofs.HexLemmas.{IsDigits-lower_digits, decode_of-encode_lower, length-encode_with}
 use Rattle.hex.proofs.HexLemmas.{decode_of-same, decode_sized-encode_lower}
+use Rattle.ring.specs.Cut.{IsFirstCut, IsWithout}
 use Rattle.ring_store.specs.Store.{is_name}
 use Rattle.std.proofs.lemmas.Bool.{and_parts}
 use Rattle.std.proofs.lemmas.Bool.Decides.{nat_tests}
-use Rattle.ring_store.specs.Text.{IsCount, IsEntry, IsFirstCut, IsHead, IsWithout, count_then}
+use Rattle.ring_store.specs.Text.{IsCount, IsEntry, IsHead, count_then}
 use Rattle.ring_store.specs.Text.{head_then, hex_then, lines_of, record_then}
 use Rattle.ring_store.specs.declared.records.Record.{Record}
 

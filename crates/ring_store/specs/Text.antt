@@ -1,6 +1,6 @@
 -- A store as text: a line for its salt and its iteration count, and then a line for each record, in
 -- the order of names.
-use Rattle.std.specs.Prelude.{◌≡◌, ℕ, ◌^◌, ◌<◌, ◌==◌, true, false, List, [], ◌∷◌, ◌++◌, length}
+use Rattle.std.specs.Prelude.{◌≡◌, ℕ, ◌^◌, ◌<◌, true, List, [], ◌∷◌, ◌++◌, length}
 use Rattle.std.specs.Prelude.{All, codes}
 use Rattle.std.specs.Fmt.{decimal}
 use Rattle.std.specs.FinMap as table
@@ -59,12 +59,3 @@ pub record IsHead (db_salt : List ℕ) (c : NonZeroU32) : Type 0 where
 pub record IsStore {Z : Type 0} (s : PasswordStore Z) : Type 0 where
   pub head : IsHead s.db_salt s.iterations
   pub entries : All IsEntry (table.entries s.records)
-
--- the byte is nowhere in the text
-abbrev pub IsWithout : ℕ → List ℕ → Type 0
-IsWithout byte text = All (λ b. (b == byte) ≡ false) text
-
--- the text is split at the first such byte
-pub record IsFirstCut (byte : ℕ) (text before behind : List ℕ) : Type 0 where
-  pub whole : text ≡ before ++ byte ∷ behind
-  pub first : IsWithout byte before

@@ -8,8 +8,9 @@ ghost use Rattle.std.specs.Char.{digit_value};
 ghost use Rattle.std.specs.Int.NonZero.{non_zero_u32_get};
 ghost use Rattle.std.specs.Fmt.{decimal};
 ghost use Rattle.std.specs.declared.num.NonZeroU32.{NonZeroU32};
+ghost use Rattle.ring.specs.Cut.{IsFirstCut, IsWithout};
 ghost use Rattle.ring_store.specs.Store.{is_name};
-ghost use Rattle.ring_store.specs.Text.{IsCount, IsEntry, IsFirstCut, IsHead, IsWithout};
+ghost use Rattle.ring_store.specs.Text.{IsCount, IsEntry, IsHead};
 ghost use Rattle.ring_store.specs.Text.{head_then, hex_then, count_then, record_then};
 ghost use Rattle.ring_store.specs.declared.records.Record.{Record};
 

@@ -33,7 +33,7 @@ const SHA1_WORDS: State32 = [
 ];
 
 // FIPS 180-4, 5.3.3
-const SHA256_WORDS: State32 = [
+pub const SHA256_WORDS: State32 = [
     Wrapping(0x6a09e667),
     Wrapping(0xbb67ae85),
     Wrapping(0x3c6ef372),

@@ -1,7 +1,8 @@
-//! The callers of `ring_examples` over plain numbers, chaining words, laws and accounts, each against
-//! a value from outside.
+//! The callers of `ring_examples` over plain numbers, chaining words, laws and accounts, each
+//! against a value from outside.
 
 use crate::callers::{LONG_REST, OF_LONG, OF_SHORT, SHORT, TAG};
+use crate::core_calls::SHA256_WORDS;
 use crate::texts::is_hex_of;
 use ring::digest::{SHA1_FOR_LEGACY_USE_ONLY, SHA256, digest};
 use ring::error::Unspecified;
@@ -21,19 +22,8 @@ use ring_store::{PasswordStore, Reply, StoreError, TokenError, TokenMaker};
 use std::num::{NonZeroU32, Wrapping};
 use std::test::Fail;
 
-// FIPS 180-4, 5.3.3: the initial words of SHA-256.
-const INITIAL_WORDS: [Wrapping<u32>; 8] = [
-    Wrapping(0x6a09e667),
-    Wrapping(0xbb67ae85),
-    Wrapping(0x3c6ef372),
-    Wrapping(0xa54ff53a),
-    Wrapping(0x510e527f),
-    Wrapping(0x9b05688c),
-    Wrapping(0x1f83d9ab),
-    Wrapping(0x5be0cd19),
-];
-
-// The bytes of the first two of these, and of the first initial word of SHA-512 (5.3.5).
+// FIPS 180-4, 5.3.3 and 5.3.5: the bytes of the first two initial words of SHA-256, and of the first
+// one of SHA-512.
 const FIRST_SHORT: [u8; 8] = [0x6a, 0x09, 0xe6, 0x67, 0xbb, 0x67, 0xae, 0x85];
 
 const FIRST_LONG: [u8; 8] = [0x6a, 0x09, 0xe6, 0x67, 0xf3, 0xbc, 0xc9, 0x08];
@@ -95,7 +85,7 @@ fn algorithms_by_number(rt: HostRuntime) -> Result<(), Unspecified> {
 
 #[test]
 fn chaining_words(rt: HostRuntime) {
-    let bytes = bytes_of_short(INITIAL_WORDS);
+    let bytes = bytes_of_short(SHA256_WORDS);
     assert!(rt; &bytes[..8] == FIRST_SHORT.as_slice() && &bytes[32..] == [0; 32].as_slice());
     let long = bytes_of_long([Wrapping(0x6a09e667f3bcc908); 8]);
     assert!(rt; &long[56..] == FIRST_LONG.as_slice());
@@ -112,7 +102,7 @@ fn padded_short() -> [u8; 64] {
 
 #[test]
 fn a_block_of_words(rt: HostRuntime) {
-    let last = bytes_of_short(words_after_block(&INITIAL_WORDS, &padded_short()));
+    let last = bytes_of_short(words_after_block(&SHA256_WORDS, &padded_short()));
     let (digest, rest) = last.split_at(32);
     assert!(rt; is_hex_of(OF_SHORT, digest) && rest == [0; 32].as_slice());
 }

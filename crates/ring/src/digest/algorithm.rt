@@ -1,6 +1,6 @@
 //! The five algorithms and their lengths.
 
-ghost use Rattle.std.specs.Prelude.{◌≡◌, ◌↔◌, ◌≤◌, ◌-◌, ◌^◌, ℕ, IsTrue, Some, replicate};
+ghost use Rattle.std.specs.Prelude.{◌≡◌, ◌↔◌, ◌≤◌, ◌-◌, IsTrue, Some, replicate};
 ghost use Rattle.ring_core.specs.Sha1 as sha1;
 ghost use Rattle.ring_core.specs.Sha2.{block_step, family_256, family_512};
 ghost use Rattle.ring.specs.Algorithm.{block_function, block_len, chaining_len};
@@ -9,6 +9,7 @@ ghost use Rattle.ring.specs.Algorithm.{name_of, output_len, row, word_count};
 ghost use Rattle.ring.specs.Initial.{AreSquareRoots};
 ghost use Rattle.ring.specs.Limits.{IsMessageWithin};
 ghost use Rattle.ring.specs.State.{chaining_words, is_state_of, spare_words};
+ghost use Rattle.ring.specs.Table.{sha1_row, sha256_row, sha384_row, sha512_row, sha512_256_row};
 
 use crate::digest::dynstate::DynState;
 use crate::digest::initial;
@@ -172,49 +173,17 @@ pub(crate) fn is_message_within(algorithm: &Algorithm, len: u128) -> bool
 /// with that row's block function and initial words, and that each length constant is the length in
 /// a row. The call does nothing.
 pub fn constants_are_their_rows()
-    ensures sha1 { row SHA1_FOR_LEGACY_USE_ONLY ≡ record {
-      word_len = 4;
-      block_len = 64;
-      length_len = 8;
-      output_len = SHA1_OUTPUT_LEN;
-      chaining_len = 20;
-      max_input_len = 2 ^ 61 - 1;
-    } }
-    ensures sha256 { row SHA256 ≡ record {
-      word_len = 4;
-      block_len = 64;
-      length_len = 8;
-      output_len = SHA256_OUTPUT_LEN;
-      chaining_len = 32;
-      max_input_len = 2 ^ 61 - 1;
-    } }
-    ensures sha384 { row SHA384 ≡ record {
-      word_len = 8;
-      block_len = 128;
-      length_len = 16;
-      output_len = SHA384_OUTPUT_LEN;
-      chaining_len = 64;
-      max_input_len = 2 ^ 125 - 1;
-    } }
-    ensures sha512 { row SHA512 ≡ record {
-      word_len = 8;
-      block_len = 128;
-      length_len = 16;
-      output_len = SHA512_OUTPUT_LEN;
-      chaining_len = 64;
-      max_input_len = 2 ^ 125 - 1;
-    } }
-    ensures sha512_256 { row SHA512_256 ≡ record {
-      word_len = 8;
-      block_len = 128;
-      length_len = 16;
-      output_len = SHA512_256_OUTPUT_LEN;
-      chaining_len = 64;
-      max_input_len = 2 ^ 125 - 1;
-    } }
-    ensures output_lens { (SHA1_OUTPUT_LEN ≡ 20) × (SHA256_OUTPUT_LEN ≡ 32)
-        × (SHA384_OUTPUT_LEN ≡ 48) × (SHA512_OUTPUT_LEN ≡ 64) × (SHA512_256_OUTPUT_LEN ≡ 32) }
-    ensures sha1_chaining_len { CHAINING_LEN ≡ 20 }
+    ensures sha1 { row SHA1_FOR_LEGACY_USE_ONLY ≡ sha1_row }
+    ensures sha256 { row SHA256 ≡ sha256_row }
+    ensures sha384 { row SHA384 ≡ sha384_row }
+    ensures sha512 { row SHA512 ≡ sha512_row }
+    ensures sha512_256 { row SHA512_256 ≡ sha512_256_row }
+    ensures output_lens { (SHA1_OUTPUT_LEN ≡ sha1_row.output_len)
+        × (SHA256_OUTPUT_LEN ≡ sha256_row.output_len)
+        × (SHA384_OUTPUT_LEN ≡ sha384_row.output_len)
+        × (SHA512_OUTPUT_LEN ≡ sha512_row.output_len)
+        × (SHA512_256_OUTPUT_LEN ≡ sha512_256_row.output_len) }
+    ensures sha1_chaining_len { CHAINING_LEN ≡ sha1_row.chaining_len }
     ensures greatest_lens { (a : Algorithm) → (block_len a ≤ MAX_BLOCK_LEN)
         × (output_len a ≤ MAX_OUTPUT_LEN) × (chaining_len a ≤ MAX_CHAINING_LEN) }
     ensures greatest_are_sha512s { (block_len SHA512 ≡ MAX_BLOCK_LEN)

@@ -1,6 +1,6 @@
 -- Lists of messages and of their digests.
 use Rattle.std.proofs.Common.{◌≡◌, ℕ, ◌+◌, ◌-◌, ◌<◌, ◌≤◌, List, [], ◌∷◌, ◌++◌, length, take, drop}
-use Rattle.std.proofs.Common.{get_or, inl, inr, length-append, length-drop, map, refl, slice_set}
+use Rattle.std.proofs.Common.{get_or, inl, inr, length-append, length-drop, map, refl}
 use Rattle.std.proofs.Common.{sym, ap, ◌∙◌, arith}
 use Rattle.std.proofs.Math.ListN.{get_or-map}
 use Rattle.std.proofs.Math.Seq.{take-add}
@@ -11,7 +11,6 @@ use Rattle.std.proofs.lemmas.List.Sums.{sum_by-append}
 use Rattle.std.specs.Borrow.{Bor}
 use Rattle.ring_core.specs.Cost.{Counts, raised}
 use Rattle.ring_core.proofs.Costs.{raised-none, raised-raised}
-use Rattle.ring.proofs.FourCases.{four_cases}
 use Rattle.ring.specs.Cost.{padded_blocks}
 use Rattle.ring.specs.Digest.{IsDigest}
 use Rattle.ring.specs.Each.{AreDigests, CanDigestEach, each_blocks, message_at}
@@ -28,30 +27,6 @@ message-read messages k =
 pub raised-then : (m0 : Counts) {m1 m2 : Counts} (a b : ℕ) → m1 ≡ raised m0 a 0 → m2 ≡ raised m1 b 0
     → m2 ≡ raised m0 (a + b) 0
 raised-then m0 a b e1 e2 = e2 ∙ rw e1 (raised-raised m0 a 0 b 0)
-
--- the blocks of four messages
-pub each_blocks-four : (a : Algorithm) (messages : List (Bor (List ℕ))) → length messages ≡ 4
-    → each_blocks a messages ≡ padded_blocks a (length (message_at messages 0))
-    + padded_blocks a (length (message_at messages 1))
-    + padded_blocks a (length (message_at messages 2))
-    + padded_blocks a (length (message_at messages 3))
-each_blocks-four a (m ∷ n ∷ o ∷ p ∷ []) four = omega arith
-each_blocks-four a _ four = absurd (omega arith)
-
--- four digests written at their places
-pub digests-four : {d e f g : Digest} (a : Algorithm) (messages : List (Bor (List ℕ)))
-    (out : List Digest) → (length messages ≡ 4) × (length out ≡ 4)
-    → IsDigest d a (message_at messages 0) → IsDigest e a (message_at messages 1)
-    → IsDigest f a (message_at messages 2) → IsDigest g a (message_at messages 3)
-    → AreDigests (slice_set (slice_set (slice_set (slice_set out 0 d) 1 e) 2 f) 3 g) a messages
-digests-four {d} {e} {f} {g} a messages (_ ∷ _ ∷ _ ∷ _ ∷ []) sizes h0 h1 h2 h3 =
-    record {
-      count = sym sizes.0;
-      each = λ k z below. four_cases
-          (λ (i : ℕ). IsDigest (get_or (d ∷ e ∷ f ∷ g ∷ []) i z) a (message_at messages i))
-          h0 h1 h2 h3 k (omega (arith, sizes.0, below));
-    }
-digests-four a messages _ sizes h0 h1 h2 h3 = absurd (omega (arith, sizes.1))
 
 message_at-append : (ms ns : List (Bor (List ℕ))) (k : ℕ)
     → message_at (ms ++ ns) k ≡ get_or (map (λ m. m.now) ms ++ map (λ n. n.now) ns) k []
@@ -86,6 +61,21 @@ digests-append {ds} {es} {a} ms ns first second =
       ];
     }
 
+module _ (a : Algorithm) (messages : List (Bor (List ℕ))) (n k : ℕ) where
+  -- the blocks of the first n messages and of the next k
+  pub each_blocks-more : each_blocks a (take n messages) + each_blocks a (take k (drop n messages))
+      ≡ each_blocks a (take (n + k) messages)
+  each_blocks-more =
+      sym (sum_by-append (λ m. padded_blocks a (length m.now)) (take n messages) _)
+      ∙ ap (each_blocks a) (sym (take-add n k messages))
+
+  -- and their digests
+  pub digests-more : {xs ys zs : List Digest} → AreDigests xs a (take n messages)
+      → zs ≡ xs ++ ys → AreDigests ys a (take k (drop n messages))
+      → AreDigests zs a (take (n + k) messages)
+  digests-more have put are =
+      rw (put, take-add n k messages) (digests-append (take n messages) _ have are)
+
 -- the first n of the messages have their digests in out
 pub record HaveDigests (a : Algorithm) (messages : List (Bor (List ℕ))) (n : ℕ)
     (out : List Digest) (before now : Counts) : Type 0 where
@@ -100,25 +90,18 @@ digests-none a messages out m =
       cost = raised-none m;
     }
 
-module _ {a : Algorithm} {messages : List (Bor (List ℕ))} {before now : Counts} where
-  -- and the next k
-  pub digests-next : {out ys next : List Digest} {after : Counts} (n k : ℕ)
-      → HaveDigests a messages n out before now → take (n + k) next ≡ take n out ++ ys
-      → AreDigests ys a (take k (drop n messages))
-      → after ≡ raised now (each_blocks a (take k (drop n messages))) 0
-      → HaveDigests a messages (n + k) next before after
-  digests-next n k have put are cost =
-      let front = take n messages in
-      let more = take k (drop n messages) in
-      let both : take (n + k) messages ≡ front ++ more = take-add n k messages in
-      let sum : each_blocks a front + each_blocks a more ≡ each_blocks a (take (n + k) messages) =
-      sym (sum_by-append (λ m. padded_blocks a (length m.now)) front more)
-      ∙ ap (each_blocks a) (sym both) in
-      record {
-        digests = rw (put, both) (digests-append front more have.digests are);
-        cost = raised-then before (each_blocks a front) (each_blocks a more) have.cost cost
-            ∙ ap (λ (z : ℕ). raised before z 0) sum;
-      }
+-- and the next k
+pub digests-next : {a : Algorithm} {messages : List (Bor (List ℕ))} {before now after : Counts}
+    {out ys next : List Digest} (n k : ℕ) → HaveDigests a messages n out before now
+    → take (n + k) next ≡ take n out ++ ys → AreDigests ys a (take k (drop n messages))
+    → after ≡ raised now (each_blocks a (take k (drop n messages))) 0
+    → HaveDigests a messages (n + k) next before after
+digests-next {a} {messages} {before} n k have put are cost =
+    record {
+      digests = digests-more a messages n k have.digests put are;
+      cost = raised-then before (each_blocks a (take n messages)) _ have.cost cost
+          ∙ ap (λ (z : ℕ). raised before z 0) (each_blocks-more a messages n k);
+    }
 
 -- the message at a place of some of the messages
 pub message_at-part : (messages : List (Bor (List ℕ))) (i k j : ℕ) → j < k

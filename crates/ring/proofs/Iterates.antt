@@ -7,7 +7,6 @@ use Rattle.ring_core.specs.Bytes.{xor_lists}
 use Rattle.ring_core.specs.Cost.{Counts, raised}
 use Rattle.ring_core.proofs.Costs.{raised-none, raised-raised}
 use Rattle.ring.specs.Algorithm.{output_len}
-use Rattle.ring.specs.Cost.{iterate_blocks, padded_blocks}
 use Rattle.ring.specs.Hmac.{hmac_of}
 use Rattle.ring.specs.Lanes.{digest_bytes}
 use Rattle.ring.specs.Pbkdf2.{iterate, xored}
@@ -94,19 +93,3 @@ cost_next m0 n j some e1 e2 =
     let sum : n * (2 * q) + 2 * n ≡ n * (2 * (q + 1)) = grind arith in
     e2 ∙ rw e1 (raised-raised m0 (n * (2 * q)) 0 (2 * n) 0)
     ∙ ap (λ (z : ℕ). raised m0 z 0) (sum ∙ ap (λ (z : ℕ). n * (2 * z)) (sym up))
-
--- the cost of a round: that of its first iterate and of the others
-pub cost_round : (m0 : Counts) {m1 m2 : Counts} (a : Algorithm) (n c : ℕ)
-    → m1 ≡ raised m0 (padded_blocks a (n + 4) + 1) 0 → m2 ≡ raised m1 (2 * (c - 1)) 0
-    → m2 ≡ raised m0 (iterate_blocks a n c) 0
-cost_round m0 a n c e1 e2 = e2 ∙ rw e1 (raised-raised m0 _ 0 (2 * (c - 1)) 0)
-
--- that of four rounds
-pub cost_rounds : (m0 : Counts) {m1 m2 : Counts} (a : Algorithm) (n c : ℕ)
-    → m1 ≡ raised m0 (4 * (padded_blocks a (n + 4) + 1)) 0
-    → m2 ≡ raised m1 (4 * (2 * (c - 1))) 0 → m2 ≡ raised m0 (4 * iterate_blocks a n c) 0
-cost_rounds m0 a n c e1 e2 =
-    let b : ℕ = padded_blocks a (n + 4) + 1 in
-    let sum : 4 * b + 4 * (2 * (c - 1)) ≡ 4 * (b + 2 * (c - 1)) = omega arith in
-    e2 ∙ rw e1 (raised-raised m0 (4 * b) 0 (4 * (2 * (c - 1))) 0)
-    ∙ ap (λ (z : ℕ). raised m0 z 0) sum

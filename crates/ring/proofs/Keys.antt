@@ -170,12 +170,6 @@ key_digest_blocks-short a n h =
     let short : nat_le n (block_len a) ≡ true = search rules in
     rw short refl
 
-pub key_digest_blocks-long : (a : Algorithm) (n : ℕ) → block_len a < n
-    → key_digest_blocks a n ≡ padded_blocks a n
-key_digest_blocks-long a n h =
-    let long : nat_le n (block_len a) ≡ false = search rules in
-    rw long refl
-
 -- a tag has the output's length
 pub length-hmac_of : (a : Algorithm) (k m : List ℕ) → length (hmac_of a k m) ≡ output_len a
 unfolding hmac_of

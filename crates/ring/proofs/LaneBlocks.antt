@@ -1,7 +1,7 @@
--- The blocks of a padded message, under an algorithm whose blocks have 64 bytes.
-use Rattle.std.proofs.Common.{◌≡◌, ℕ, ◌+◌, ◌-◌, ◌*◌, ◌/◌, ◌≤◌, List, ◌∷◌, ◌++◌}
+-- The blocks of a padded message.
+use Rattle.std.proofs.Common.{◌≡◌, ℕ, ◌+◌, ◌-◌, ◌*◌, ◌/◌, ◌%◌, ◌<◌, ◌≤◌, List, ◌∷◌, ◌++◌}
 use Rattle.std.proofs.Common.{length, take, drop, replicate, refl, sym, ap, ◌∙◌, arith}
-use Rattle.std.proofs.Common.{append_assoc, length-append, length-drop, IsTrue}
+use Rattle.std.proofs.Common.{append_assoc, inl, inr, length-append, length-drop}
 use Rattle.std.proofs.lemmas.List.{drop-append-le, drop_at, drop-drop}
 use Rattle.std.proofs.lemmas.List.{length-take-le, take-append-drop, take-append-le, take_all}
 use Rattle.std.specs.Int.{bytes_high_first}
@@ -13,21 +13,24 @@ use Rattle.ring_core.proofs.ChunkFolds.{fold_chunks-none, fold_chunks-then}
 use Rattle.ring_core.proofs.Sha1Steps as sha1_steps
 use Rattle.ring_core.proofs.Sha2Steps as sha2_steps
 use Rattle.ring.specs.Algorithm.{block_function, block_len, initial_words, length_len}
-use Rattle.ring.specs.Algorithm.{row_of, word_count}
-use Rattle.ring.specs.Cost.{padded_blocks}
-use Rattle.ring.specs.Digest.{words_after}
+use Rattle.ring.specs.Algorithm.{word_count}
+use Rattle.ring.specs.Cost.{padded_blocks, whole_blocks}
+use Rattle.ring.specs.Digest.{blocks_from, words_after}
 use Rattle.ring.specs.Each.{HasWords, words_at}
 use Rattle.ring.specs.Padding.{IsWhole, padded, tail_of, zeros_of}
-use Rattle.ring.specs.State.{is_state_of, state_word_len}
 use Rattle.ring.specs.declared.digest.algorithm.Algorithm.{Algorithm}
-use Rattle.ring.specs.declared.digest.algorithm.AlgorithmId.{AlgorithmId}
-use Rattle.ring.specs.declared.digest.algorithm.AlgorithmId.TheVariants.{Sha1, Sha256, Sha384}
-use Rattle.ring.specs.declared.digest.algorithm.AlgorithmId.TheVariants.{Sha512, Sha512_256}
-use Rattle.ring.specs.declared.digest.dynstate.DynState.{DynState}
+use Rattle.ring.specs.declared.digest.algorithm.TheConstants.{SHA1_FOR_LEGACY_USE_ONLY}
 use Rattle.ring.proofs.Blocks.{mul_whole}
 use Rattle.ring.proofs.Padding.{length-padded}
-use Rattle.ring.proofs.Rows.{block_len-positive}
+use Rattle.ring.proofs.Rows.{block_len-positive, sizes_of}
 use Rattle.ring.proofs.Tails.{padded-append}
+
+-- what holds of both sizes of blocks
+by_size : (P : ℕ → Type 0) (a : Algorithm) {n : ℕ} → block_len a ≡ n → P 64 → P 128 → P n
+by_size P a e short long = elim (sizes_of a) [
+  | inl h ↦ rw (sym e ∙ h.0) short
+  | inr h ↦ rw (sym e ∙ h.0) long
+]
 
 -- no block
 pub words_at-none : (a : Algorithm) (m : List ℕ) → words_at a m 0 ≡ initial_words a
@@ -36,8 +39,8 @@ words_at-none a m =
     fold_chunks-none (block_function a) (block_len a) (initial_words a) (padded a m)
 
 -- one block more
-pub words_at-next : (a : Algorithm) (m block : List ℕ) (k : ℕ) → block_len a ≡ 64
-    → block ≡ chunk_at 64 (padded a m) k
+pub words_at-next : {n : ℕ} (a : Algorithm) (m block : List ℕ) (k : ℕ) → block_len a ≡ n
+    → block ≡ chunk_at n (padded a m) k
     → words_at a m (k + 1) ≡ block_function a (words_at a m k) block
 unfolding words_at
 words_at-next a m block k e is =
@@ -55,15 +58,6 @@ words_at-all a m =
     ∙ (mul_whole (padded_blocks a (length m)) (block_len a) (block_len-positive a)).1 in
     ap (fold_chunks (block_function a) (block_len a) (initial_words a) (padded a m)) (sym count)
 
--- one block by itself
-pub chained-one : (step : List ℕ → List ℕ → List ℕ) (n : ℕ) (h block : List ℕ) → n ≡ 64
-    → length block ≡ 64 → fold_chunks step n h block (length block / n) ≡ step h block
-chained-one step n h block e long =
-    let one : length block / 64 ≡ 0 + 1 = rw long refl in
-    let first : take 64 block ≡ block = take_all 64 block (omega (arith, long)) in
-    rw e (ap (fold_chunks step 64 h block) one ∙ fold_chunks-next step 64 h block 0
-    ∙ ap (λ z. step z (take 64 block)) (fold_chunks-none step 64 h block) ∙ ap (step h) first)
-
 -- what is added to a message
 abbrev padding_of : Algorithm → List ℕ → List ℕ
 padding_of a m =
@@ -74,95 +68,104 @@ unfolding padded
 padded-split a m = simp append_assoc
 
 -- a block that is whole in the message
-pub chunk-whole : (a : Algorithm) (m : List ℕ) (k : ℕ) → 64 * k + 64 ≤ length m
-    → chunk_at 64 (padded a m) k ≡ take 64 (drop (64 * k) m)
-chunk-whole a m k fits =
+pub chunk-whole : {n : ℕ} (a : Algorithm) (m : List ℕ) (k : ℕ) → block_len a ≡ n
+    → k < length m / n → chunk_at n (padded a m) k ≡ take n (drop (n * k) m)
+chunk-whole {n} a m k e below =
     let past = padding_of a m in
-    let at : k * 64 ≡ 64 * k = omega arith in
-    let room : 64 ≤ length (drop (64 * k) m) = omega (arith, length-drop (64 * k) m) in
-    rw (padded-split a m, at, drop-append-le (64 * k) m past (omega arith))
-    (take-append-le 64 _ _ room)
+    let at : k * n ≡ n * k = grind arith in
+    let fits : n * k + n ≤ length m = by_size (λ n. k < length m / n → n * k + n ≤ length m) a e
+    (λ h. omega arith) (λ h. omega arith) below in
+    let room : n ≤ length (drop (n * k) m) = omega (arith, length-drop (n * k) m) in
+    rw (padded-split a m, at, drop-append-le (n * k) m past (omega arith))
+    (take-append-le n _ _ room)
 
 -- the words after blocks that are whole in the message
-words_at-front : (a : Algorithm) (m : List ℕ) (k : ℕ) → block_len a ≡ 64 → 64 * k ≤ length m
-    → words_at a m k ≡ fold_chunks (block_function a) 64 (initial_words a) m k
+words_at-front : {n : ℕ} (a : Algorithm) (m : List ℕ) (k : ℕ) → block_len a ≡ n
+    → n * k ≤ length m
+    → words_at a m k ≡ fold_chunks (block_function a) n (initial_words a) m k
 unfolding words_at
-words_at-front a m k e fits =
+words_at-front {n} a m k e fits =
     let step = block_function a in
     let h = initial_words a in
+    let at : k * n ≡ n * k = grind arith in
     ap (λ (n : ℕ). fold_chunks step n h (padded a m) k) e
-    ∙ ap (λ z. fold_chunks step 64 h z k) (padded-split a m)
-    ∙ fold_chunks-append step 64 h m (padding_of a m) k (omega arith)
+    ∙ ap (λ z. fold_chunks step n h z k) (padded-split a m)
+    ∙ fold_chunks-append step n h m (padding_of a m) k (omega arith)
 
--- and after all of these, from some on
-pub words_at-whole : (a : Algorithm) (m rest : List ℕ) (k : ℕ) → block_len a ≡ 64
-    → k ≤ length m / 64 → rest ≡ drop (64 * k) m
-    → fold_chunks (block_function a) (block_len a) (words_at a m k) rest (length rest / block_len a)
-    ≡ words_at a m (length m / 64)
-words_at-whole a m rest k e fits er =
+-- the k blocks at the front of x bytes, and the whole blocks past them
+pub record AreParted (n k x : ℕ) : Type 0 where
+  pub front : n * k ≤ x
+  pub last : n * (x / n) ≤ x
+  pub sum : k + (x - n * k) / n ≡ x / n
+
+pub parted : {n : ℕ} (a : Algorithm) (k x : ℕ) → block_len a ≡ n → k ≤ x / n → AreParted n k x
+parted a k x e h =
+    by_size (λ n. k ≤ x / n → AreParted n k x) a e
+    (λ h. record { front = omega arith; last = omega arith; sum = omega arith })
+    (λ h. record { front = omega arith; last = omega arith; sum = omega arith }) h
+
+-- the blocks past those
+pub blocks_left : {n : ℕ} (a : Algorithm) (k : ℕ) (m rest : List ℕ) → block_len a ≡ n
+    → k ≤ length m / n → rest ≡ drop (n * k) m
+    → whole_blocks a (length rest) ≡ length m / n - k
+blocks_left {n} a k m rest e fits er =
+    let long : length rest ≡ length m - n * k = ap length er ∙ length-drop (n * k) m in
+    rw (e, long) (omega (arith, (parted a k (length m) e fits).sum))
+
+-- and the words after all that are whole in the message, from some on
+pub words_at-whole : {n : ℕ} (a : Algorithm) (m rest : List ℕ) (k : ℕ) → block_len a ≡ n
+    → k ≤ length m / n → rest ≡ drop (n * k) m
+    → blocks_from a (words_at a m k) rest ≡ words_at a m (length m / n)
+words_at-whole {n} a m rest k e fits er =
     let step = block_function a in
     let h = initial_words a in
-    let p : List ℕ = take (64 * k) m in
-    let lp : length p ≡ 64 * k = length-take-le (64 * k) m (omega arith) in
-    let lr : length rest ≡ length m - 64 * k = ap length er ∙ length-drop (64 * k) m in
-    let parts : p ++ rest ≡ m = ap (λ z. p ++ z) er ∙ take-append-drop (64 * k) m in
-    let sum : k + length rest / 64 ≡ length m / 64 = omega (arith, lr) in
-    let front : fold_chunks step 64 h p k ≡ words_at a m k =
-    sym (fold_chunks-append step 64 h p rest k (omega (arith, lp)))
-    ∙ ap (λ z. fold_chunks step 64 h z k) parts
-    ∙ sym (words_at-front a m k e (omega arith)) in
+    let p : List ℕ = take (n * k) m in
+    let parts = parted a k (length m) e fits in
+    let lp : length p ≡ k * n = length-take-le (n * k) m parts.front ∙ grind arith in
+    let lr : length rest ≡ length m - n * k = ap length er ∙ length-drop (n * k) m in
+    let joined : p ++ rest ≡ m = ap (λ z. p ++ z) er ∙ take-append-drop (n * k) m in
+    let sum : k + length rest / n ≡ length m / n = rw lr parts.sum in
+    let front : fold_chunks step n h p k ≡ words_at a m k =
+    sym (fold_chunks-append step n h p rest k (omega (arith, lp)))
+    ∙ ap (λ z. fold_chunks step n h z k) joined
+    ∙ sym (words_at-front a m k e parts.front) in
     rw e (
-    ap (λ z. fold_chunks step 64 z rest (length rest / 64)) (sym front)
-    ∙ sym (fold_chunks-then step 64 h p rest k (length rest / 64) (omega (arith, lp)))
-    ∙ ap (λ z. fold_chunks step 64 h z (k + length rest / 64)) parts
-    ∙ ap (fold_chunks step 64 h m) sum
-    ∙ sym (words_at-front a m (length m / 64) e (omega arith))
+    ap (λ z. fold_chunks step n z rest (length rest / n)) (sym front)
+    ∙ sym (fold_chunks-then step n h p rest k (length rest / n) lp)
+    ∙ ap (λ z. fold_chunks step n h z (k + length rest / n)) joined
+    ∙ ap (fold_chunks step n h m) sum
+    ∙ sym (words_at-front a m (length m / n) e parts.last)
     )
 
--- a block past those
-pub chunk-tail : {x : List ℕ} {w : ℕ} (a : Algorithm) (m : List ℕ) (k : ℕ) → block_len a ≡ 64
-    → w ≡ length m / 64 → w ≤ k → x ≡ drop (64 * w) m
-    → chunk_at 64 (padded a m) k ≡ take 64 (drop (64 * (k - w)) (tail_of a x (length m)))
-chunk-tail {x = x} {w = w} a m k e ew past ex =
-    let p : List ℕ = take (64 * w) m in
+-- the bytes of w whole blocks, and those up to block k
+record AreAt (n w k : ℕ) : Type 0 where
+  whole : (n * w) % n ≡ 0
+  at : k * n ≡ n * w + n * (k - w)
+
+-- a block past those that are whole in the message
+pub chunk-tail : {n w : ℕ} {x : List ℕ} (a : Algorithm) (m : List ℕ) (k : ℕ) → block_len a ≡ n
+    → w ≡ length m / n → w ≤ k → x ≡ drop (n * w) m
+    → chunk_at n (padded a m) k ≡ take n (drop (n * (k - w)) (tail_of a x (length m)))
+chunk-tail {n} {w} {x} a m k e ew past ex =
+    let p : List ℕ = take (n * w) m in
     let t : List ℕ = tail_of a x (length m) in
-    let lp : length p ≡ 64 * w = length-take-le (64 * w) m (omega arith) in
-    let whole : IsWhole a p = rw (e, lp) (omega arith) in
-    let joined : p ++ x ≡ m = ap (λ z. p ++ z) ex ∙ take-append-drop (64 * w) m in
+    let places : AreAt n w k = by_size (λ n. AreAt n w k) a e
+    (record { whole = omega arith; at = omega (arith, past) })
+    (record { whole = omega arith; at = omega (arith, past) }) in
+    let front : w ≤ length m / n = omega arith in
+    let lp : length p ≡ n * w = length-take-le (n * w) m (parted a w (length m) e front).front in
+    let whole : IsWhole a p = rw (e, lp) places.whole in
+    let joined : p ++ x ≡ m = ap (λ z. p ++ z) ex ∙ take-append-drop (n * w) m in
     let split : padded a m ≡ p ++ t =
     ap (padded a) (sym joined) ∙ padded-append a p x whole
     ∙ ap (λ (z : List ℕ). p ++ tail_of a x (length z)) joined in
-    let at : k * 64 ≡ 64 * w + 64 * (k - w) = omega arith in
-    rw (split, at, ← drop-drop (64 * (k - w)) (64 * w) (p ++ t), drop_at p t (64 * w) lp) refl
-
--- SHA-256 has the only other blocks of 64 bytes
-pub short_is_sha256 : (i : AlgorithmId) → (row_of i).block_len ≡ 64 → (i ≡ Sha1 → ⊥)
-    → i ≡ Sha256
-short_is_sha256 Sha1 e other = absurd (other refl)
-short_is_sha256 Sha256 e other = refl
-short_is_sha256 Sha384 e other = absurd (omega arith)
-short_is_sha256 Sha512 e other = absurd (omega arith)
-short_is_sha256 Sha512_256 e other = absurd (omega arith)
-
--- words of 32 bits go with these blocks
-short_words : (i : AlgorithmId) → (row_of i).block_len ≡ 64 → 4 ≡ (row_of i).word_len
-short_words Sha1 e = refl
-short_words Sha256 e = refl
-short_words Sha384 e = absurd (omega arith)
-short_words Sha512 e = absurd (omega arith)
-short_words Sha512_256 e = absurd (omega arith)
-
-pub short_state : (a : Algorithm) (s : DynState) → block_len a ≡ 64 → state_word_len s ≡ 4
-    → IsTrue (is_state_of a s)
-short_state a s e four = rw (four, ← short_words a.id e) refl
+    rw (split, places.at, ← drop-drop (n * (k - w)) (n * w) (p ++ t), drop_at p t (n * w) lp) refl
 
 -- a lane's words after a block of SHA-1
-pub lane-sha1 : {h old new : List ℕ} (a : Algorithm) (block : List ℕ) → a.id ≡ Sha1
-    → HasWords a h old
+pub lane-sha1 : {h old new : List ℕ} (block : List ℕ) → HasWords SHA1_FOR_LEGACY_USE_ONLY h old
     → take 5 new ≡ sha1.block_step (take 5 old) block → drop 5 new ≡ drop 5 old
-    → HasWords a (block_function a h block) new
-lane-sha1 {h} {old} {new} a block is has words rest =
-    let five : take 5 old ≡ h = rw is at has.chaining in
+    → HasWords SHA1_FOR_LEGACY_USE_ONLY (sha1.block_step h block) new
+lane-sha1 {h} {old} {new} block has words rest =
     let front : length (take 5 new) ≡ 5 =
     ap length words ∙ sha1_steps.length-block_step (take 5 old) block in
     let long : length new ≡ 8 = ap length (sym (take-append-drop 5 new)) ∙ omega (
@@ -173,21 +176,19 @@ lane-sha1 {h} {old} {new} a block is has words rest =
       front,
       has.count,
     ) in
-    record { chaining = rw is (words ∙ ap (λ z. sha1.block_step z block) five); count = long }
+    record { chaining = words ∙ ap (λ z. sha1.block_step z block) has.chaining; count = long }
 
--- and of SHA-256
-pub lane-sha256 : {h old new : List ℕ} (a : Algorithm) (block : List ℕ) → a.id ≡ Sha256
-    → HasWords a h old
-    → new ≡ sha2.block_step sha2.family_256 old block
-    → HasWords a (block_function a h block) new
-lane-sha256 {h} {old} {new} a block is has words =
-    let eight : take 8 old ≡ h = rw is at has.chaining in
-    let all : old ≡ h = sym (take_all 8 old (omega (arith, has.count))) ∙ eight in
-    let long : length new ≡ 8 =
-    ap length words ∙ sha2_steps.length-block_step sha2.family_256 old block in
+-- and of an algorithm of SHA-2
+pub lane-sha2 : {h old new : List ℕ} (a : Algorithm) (f : sha2.Family) (block : List ℕ)
+    → word_count a ≡ 8 → HasWords a h old → new ≡ sha2.block_step f old block
+    → HasWords a (sha2.block_step f h block) new
+lane-sha2 {h} {old} {new} a f block eight has words =
+    let all : old ≡ h =
+    sym (take_all (word_count a) old (omega (arith, eight, has.count))) ∙ has.chaining in
+    let long : length new ≡ 8 = ap length words ∙ sha2_steps.length-block_step f old block in
     record {
-      chaining = rw is (take_all 8 new (omega (arith, long)) ∙ words
-          ∙ ap (λ z. sha2.block_step sha2.family_256 z block) all);
+      chaining = take_all (word_count a) new (omega (arith, eight, long)) ∙ words
+          ∙ ap (λ z. sha2.block_step f z block) all;
       count = long;
     }
 
@@ -197,8 +198,8 @@ pub words-first : {ws : List ℕ} (a : Algorithm) (m : List ℕ)
 words-first a m e long = record { chaining = e ∙ sym (words_at-none a m); count = long }
 
 -- and after one block more
-pub words-next : {ws : List ℕ} (a : Algorithm) (m block : List ℕ) (k : ℕ) → block_len a ≡ 64
-    → block ≡ chunk_at 64 (padded a m) k
+pub words-next : {n : ℕ} {ws : List ℕ} (a : Algorithm) (m block : List ℕ) (k : ℕ)
+    → block_len a ≡ n → block ≡ chunk_at n (padded a m) k
     → HasWords a (block_function a (words_at a m k) block) ws
     → HasWords a (words_at a m (k + 1)) ws
 words-next a m block k e is has =

@@ -1,19 +1,14 @@
 -- Messages of a digest's length in lanes, signed by one block after each masked block of the key.
 use Rattle.std.proofs.Common.{◌≡◌, ℕ, ◌+◌, ◌-◌, ◌*◌, ◌/◌, ◌≤◌, List, ◌∷◌, ◌++◌, length, take}
 use Rattle.std.proofs.Common.{drop, replicate, refl, sym, ap, ◌∙◌, arith, length-append}
-use Rattle.std.proofs.Common.{append_assoc, length-take-le, mod-lt, pow_pos, take_all, zero-mul}
-use Rattle.std.proofs.Common.{◌%◌, ◌^◌}
-use Rattle.std.proofs.lemmas.List.{length-map, length-replicate, take-append-drop, take-append-le}
+use Rattle.std.proofs.Common.{append_assoc, length-take-le, take_all, zero-mul}
+use Rattle.std.proofs.lemmas.List.{length-replicate, take-append-drop, take-append-le}
 use Rattle.std.proofs.lemmas.List.{take-take}
 use Rattle.std.proofs.lemmas.List.Concat.{flat_map-append}
 use Rattle.std.proofs.Math.Nat.{div_self, mod_self}
 use Rattle.std.specs.Int.{bytes_high_first}
-use Rattle.std.specs.declared.num.Wrapping.{Wrapping}
 use Rattle.ring_core.specs.Chunks.{fold_chunks}
 use Rattle.ring_core.specs.Cost.{Counts, raised}
-use Rattle.ring_core.specs.Schedule.{IsBlockOf}
-use Rattle.ring_core.specs.Sha2.{block_step, family_256}
-use Rattle.ring_core.proofs.Sha2Steps.{length-block_step}
 use Rattle.ring_core.proofs.ChunkFolds.{fold_chunks-next, fold_chunks-none}
 use Rattle.ring_core.proofs.Costs.{raised-raised}
 use Rattle.ring.specs.Algorithm.{block_function, block_len, length_len, output_len, word_count}
@@ -34,17 +29,6 @@ use Rattle.ring.proofs.Lengths.{length-words_after}
 use Rattle.ring.proofs.Outputs.{length-bytes_high_first, length-word_bytes}
 use Rattle.ring.proofs.Rows.{block_len-positive, eight_words, output_len-most}
 use Rattle.ring.proofs.Tails.{padded-append}
-use Rattle.ring.proofs.Words.{ArePadding, padded-words, values}
-
--- four rises by b blocks each
-pub cost_four : (m0 : Counts) {m1 m2 m3 m4 : Counts} (b : ℕ) → m1 ≡ raised m0 b 0
-    → m2 ≡ raised m1 b 0 → m3 ≡ raised m2 b 0 → m4 ≡ raised m3 b 0 → m4 ≡ raised m0 (4 * b) 0
-cost_four m0 {m2 = m2} {m3 = m3} b e1 e2 e3 e4 =
-    let two : m2 ≡ raised m0 (b + b) 0 = e2 ∙ rw e1 (raised-raised m0 b 0 b 0) in
-    let three : m3 ≡ raised m0 (b + b + b) 0 =
-    e3 ∙ rw two (raised-raised m0 (b + b) 0 b 0) in
-    let sum : b + b + b + b ≡ 4 * b = omega arith in
-    e4 ∙ rw three (raised-raised m0 (b + b + b) 0 b 0) ∙ ap (λ (z : ℕ). raised m0 z 0) sum
 
 -- two rises by b blocks each
 pub cost_two : (m0 : Counts) {m1 m2 : Counts} (b : ℕ) → m1 ≡ raised m0 b 0 → m2 ≡ raised m1 b 0
@@ -52,36 +36,6 @@ pub cost_two : (m0 : Counts) {m1 m2 : Counts} (b : ℕ) → m1 ≡ raised m0 b 0
 cost_two m0 b e1 e2 =
     let sum : b + b ≡ 2 * b = omega arith in
     e2 ∙ rw e1 (raised-raised m0 b 0 b 0) ∙ ap (λ (z : ℕ). raised m0 z 0) sum
-
--- the run over a block x of a state whose eight words all chain
-pub all_run : (step : List ℕ → List ℕ → List ℕ) (old new x : List ℕ) → length old ≡ 8
-    → length new ≡ 8 → new ≡ step old x → take 8 new ≡ step (take 8 old) x
-all_run step old new x lo ln e =
-    take_all 8 new (omega (arith, ln)) ∙ e
-    ∙ ap (λ h. step h x) (sym (take_all 8 old (omega (arith, lo))))
-
--- the same of SHA-256, which ends with eight words
-pub all_ran : (old new x : List ℕ) → length old ≡ 8
-    → new ≡ block_step family_256 old x
-    → take 8 new ≡ block_step family_256 (take 8 old) x
-all_ran old new x lo e =
-    all_run (block_step family_256) old new x lo
-    (ap length e ∙ length-block_step family_256 old x) e
-
--- the run over a digest's words and their padding, where all eight words chain
-pub padded_run : {a : Algorithm} {w k : ℕ} {padding : List (Wrapping ℕ)}
-    (step : List ℕ → List ℕ → List ℕ) (old new digest : List (Wrapping ℕ))
-    → ArePadding a w k padding → (length old ≡ 8) × ((length new ≡ 8) × (length digest ≡ 8))
-    → ((block : List ℕ) → IsBlockOf w k (values w digest) (values w padding) block
-    → values w new ≡ step (values w old) block)
-    → take 8 (values w new)
-    ≡ step (take 8 (values w old)) (digest_bytes a (values w digest) ++ prepared_padding a)
-padded_run {w = w} step old new digest t eights run =
-    let value = λ (x : Wrapping ℕ). x.0 % 2 ^ w in
-    all_run step (values w old) (values w new) _ (length-map old value ∙ eights.0)
-    (length-map new value ∙ eights.1.0)
-    (run _ (padded-words value digest t (length-map digest value ∙ eights.1.1)
-    (λ x. mod-lt _ (pow_pos w))))
 
 -- a digest and its padding are one block long
 length-padded : (a : Algorithm) (m : List ℕ) → length m ≡ output_len a
@@ -115,7 +69,7 @@ padded-message a p m lp lm =
     ap (λ z. p ++ z) tail ∙ sym (padded-append a p m whole)
 
 -- one block is chained by one run
-one_chained : (a : Algorithm) (h x : List ℕ) → length x ≡ block_len a
+pub one_chained : (a : Algorithm) (h x : List ℕ) → length x ≡ block_len a
     → blocks_from a h x ≡ block_function a h x
 one_chained a h x lx =
     let b : ℕ = block_len a in

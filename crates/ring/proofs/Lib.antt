@@ -1,4 +1,3 @@
-pub mod FourCases
 pub mod Costs
 pub mod Rows
 pub mod Outputs
@@ -22,7 +21,13 @@ pub mod Feeding
 pub mod Signing
 pub mod Expanding
 pub mod Iterates
+pub mod Sums
+pub mod Jobs
 pub mod Rounds
-pub mod DeriveEach
+pub mod Places
+pub mod KeysAt
+pub mod DerivedKeys
+pub mod VerifiedKeys
+pub mod Parts
 pub mod Comparing
 pub mod Numbers

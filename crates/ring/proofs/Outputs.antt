@@ -3,13 +3,12 @@ use Rattle.std.proofs.Common.{◌≡◌, ℕ, zero, suc, ◌+◌, ◌-◌, ◌*�
 use Rattle.std.proofs.Common.{◌∷◌, ◌++◌, length, take, drop, replicate, slice_index, get_or, refl}
 use Rattle.std.proofs.Common.{sym, ap, ◌∙◌, arith, length-append, map, take-add}
 use Rattle.std.proofs.lemmas.List.{take_at, drop_at, drop_more, get_or-map, length-map}
-use Rattle.std.proofs.lemmas.List.{drop-replicate, append_assoc, length-take-le, take-append-le}
+use Rattle.std.proofs.lemmas.List.{drop-replicate, append_assoc, length-take-le}
 use Rattle.std.proofs.lemmas.List.Concat.{flat_map-append}
 use Rattle.std.proofs.lemmas.Simd.{get_or_narrower}
 use Rattle.std.specs.Int.{byte_at, bytes_high_first}
 use Rattle.std.specs.Simd.Lanes.{Each1, digits_l, number_l}
 use Rattle.std.specs.declared.num.Wrapping.{Wrapping}
-use Rattle.ring_core.specs.Sha2.{words_32}
 use Rattle.ring.specs.State.{word_bytes}
 use borrow.Rule.Slice.PartMut.{put_mid}
 
@@ -27,17 +26,6 @@ length-word_bytes n (w ∷ ws) =
       length-bytes_high_first n w,
       length-word_bytes n ws,
     )
-
--- the first k bytes of an output that begins with those of eight words
-pub first_bytes : {out words : List ℕ} (k : ℕ) (state : List (Wrapping ℕ)) (rest : List ℕ)
-    → (length state ≡ 8) × (k ≤ 32) → out ≡ word_bytes 4 (words_32 state) ++ rest
-    → words_32 state ≡ words → take k out ≡ take k (word_bytes 4 words)
-first_bytes k state rest sizes begins is =
-    let count : length (words_32 state) ≡ 8 = length-map state _ ∙ sizes.0 in
-    let fits : k ≤ length (word_bytes 4 (words_32 state)) =
-    omega (arith, length-word_bytes 4 (words_32 state), count, sizes.1) in
-    ap (take k) begins ∙ take-append-le k (word_bytes 4 (words_32 state)) rest fits
-    ∙ ap (λ z. take k (word_bytes 4 z)) is
 
 -- the bytes of some words more
 word_bytes-more : (n : ℕ) (ws : List ℕ) (i m : ℕ)

@@ -1,11 +1,23 @@
--- The paddings as words are the standard's, each behind a digest of its algorithm.
-use Rattle.std.proofs.Common.{refl, lit≤}
+-- The paddings as words are the standard's, each behind a digest of its algorithm; and what a run
+-- over such a block makes of a state.
+use Rattle.std.proofs.Common.{◌≡◌, ℕ, ◌%◌, ◌^◌, ◌<◌, List, ◌++◌, length, map, take, refl, sym, ap}
+use Rattle.std.proofs.Common.{◌∙◌, arith, lit≤, mod-lt, pow_pos, take_all}
+use Rattle.std.proofs.lemmas.List.{length-map}
+use Rattle.std.specs.declared.num.Wrapping.{Wrapping}
+use Rattle.ring_core.specs.Schedule.{IsBlockOf}
+use Rattle.ring_core.specs.Sha2.{Family, block_step}
+use Rattle.ring_core.proofs.Sha2Steps.{length-block_step}
+use Rattle.ring.specs.Lanes.{digest_bytes}
+use Rattle.ring.specs.Prepared.{prepared_padding}
+use Rattle.ring.specs.declared.digest.algorithm.Algorithm.{Algorithm}
 use Rattle.ring.specs.declared.digest.algorithm.TheConstants.{SHA1_FOR_LEGACY_USE_ONLY, SHA256}
 use Rattle.ring.specs.declared.digest.algorithm.TheConstants.{SHA384, SHA512, SHA512_256}
-use Rattle.ring.specs.declared.hmac.lanes.one.TheConstants.{SHA1_PADDING, SHA256_PADDING}
-use Rattle.ring.specs.declared.hmac.lanes.one.TheConstants.{SHA384_PADDING, SHA512_PADDING}
-use Rattle.ring.specs.declared.hmac.lanes.one.TheConstants.{SHA512_256_PADDING}
-use Rattle.ring.proofs.Words.{ArePadding}
+use Rattle.ring.specs.declared.digest.side_by_side.paddings.TheConstants.{SHA1_PADDING}
+use Rattle.ring.specs.declared.digest.side_by_side.paddings.TheConstants.{SHA256_PADDING}
+use Rattle.ring.specs.declared.digest.side_by_side.paddings.TheConstants.{SHA384_PADDING}
+use Rattle.ring.specs.declared.digest.side_by_side.paddings.TheConstants.{SHA512_PADDING}
+use Rattle.ring.specs.declared.digest.side_by_side.paddings.TheConstants.{SHA512_256_PADDING}
+use Rattle.ring.proofs.Words.{ArePadding, padded-words, values}
 
 pub sha1_padding : ArePadding SHA1_FOR_LEGACY_USE_ONLY 32 5 SHA1_PADDING
 sha1_padding =
@@ -26,3 +38,36 @@ sha512_padding =
 pub sha512_256_padding : ArePadding SHA512_256 64 4 SHA512_256_PADDING
 sha512_256_padding =
     record { bits = refl; digest = refl; room = lit≤ tt; sixteen = refl; bytes = refl }
+
+-- the words of a lane after a run over a digest's words and their padding, where all eight chain
+pub lane_run : {X : Type 0} {a : Algorithm} {w k : ℕ} {padding : List (Wrapping ℕ)}
+    (family : Family) (f : X → ℕ) (old new digest : List X) → ArePadding a w k padding
+    → (length (map f old) ≡ 8) × (length (map f digest) ≡ 8) → ((x : X) → f x < 2 ^ w)
+    → ((block : List ℕ) → IsBlockOf w k (map f digest) (values w padding) block
+    → map f new ≡ block_step family (map f old) block)
+    → take 8 (map f new)
+    ≡ block_step family (take 8 (map f old)) (digest_bytes a (map f digest) ++ prepared_padding a)
+lane_run {a} family f old new digest t eights fits run =
+    let block : List ℕ = digest_bytes a (map f digest) ++ prepared_padding a in
+    let step : List ℕ → List ℕ → List ℕ = block_step family in
+    let ran : map f new ≡ step (map f old) block =
+    run block (padded-words f digest t eights.1 fits) in
+    let eight : length (map f new) ≡ 8 =
+    ap length ran ∙ length-block_step family (map f old) block in
+    take_all 8 (map f new) (omega (arith, eight)) ∙ ran
+    ∙ ap (λ h. step h block) (sym (take_all 8 (map f old) (omega (arith, eights.0))))
+
+-- the same of words as they are
+pub words_run : {a : Algorithm} {w k : ℕ} {padding : List (Wrapping ℕ)} (family : Family)
+    (old new digest : List (Wrapping ℕ)) → ArePadding a w k padding
+    → (length old ≡ 8) × (length digest ≡ 8)
+    → ((block : List ℕ) → IsBlockOf w k (values w digest) (values w padding) block
+    → values w new ≡ block_step family (values w old) block)
+    → take 8 (values w new)
+    ≡ block_step family (take 8 (values w old))
+    (digest_bytes a (values w digest) ++ prepared_padding a)
+words_run {w = w} family old new digest t eights run =
+    let value = λ (x : Wrapping ℕ). x.0 % 2 ^ w in
+    lane_run family value old new digest t
+    (length-map old value ∙ eights.0, length-map digest value ∙ eights.1)
+    (λ x. mod-lt _ (pow_pos w)) run

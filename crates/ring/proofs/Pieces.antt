@@ -1,10 +1,10 @@
 -- Numbered blocks of one length, one after another, and their fronts.
-use Rattle.std.proofs.Common.{◌≡◌, ℕ, List, [], ◌∷◌, ◌++◌, ◌+◌, ◌*◌, ◌≤◌, ◌<◌, ◌↔◌, length, take}
-use Rattle.std.proofs.Common.{drop, suc, zero, refl, sym, ◌∙◌, arith, length-append, length-take-le}
-use Rattle.std.proofs.Common.{mul-le-mul_right, suc-mul, append-nil, append_assoc, add-one}
-use Rattle.std.proofs.Common.{slice_index_or}
+use Rattle.std.proofs.Common.{◌≡◌, ℕ, List, [], ◌∷◌, ◌++◌, ◌+◌, ◌-◌, ◌*◌, ◌≤◌, ◌<◌, ◌↔◌, length}
+use Rattle.std.proofs.Common.{min, take, drop, suc, zero, refl, sym, ap, ◌∙◌, arith, length-append}
+use Rattle.std.proofs.Common.{length-take-le, mul-le-mul_right, suc-mul, append-nil, append_assoc}
+use Rattle.std.proofs.Common.{add-one, slice_index_or, take_all}
 use Rattle.std.specs.Borrow.{Bor}
-use Rattle.std.proofs.lemmas.List.{take_more, take-append-le}
+use Rattle.std.proofs.lemmas.List.{length-take, take_more, take-append-le}
 use Rattle.std.proofs.lemmas.Grind.{flat_map-append}
 use Rattle.std.proofs.Math.Seq.{drop-append_seam, take-add, take-append-add, take-append_seam}
 use Rattle.ring.specs.Pieces.{joined, joined_blocks}
@@ -77,6 +77,47 @@ module _ {f : ℕ → List ℕ} {L : ℕ} where
       let len : length (joined_blocks f r) ≡ w = length-joined_blocks even r ∙ sym e in
       joined_blocks-agree even R (suc r) (w + n) room wide
       ∙ rw (joined_blocks-next f r, ← len) (take-append-add (joined_blocks f r) (f (suc r)) n)
+
+-- xs are the first w of n bytes, of r blocks; the blocks have no more, but where w is n
+pub record IsPut (f : ℕ → List ℕ) (n r w : ℕ) (xs : List ℕ) : Type 0 where
+  pub front : xs ≡ take w (joined_blocks f r)
+  pub room : w ≤ length (joined_blocks f r)
+  pub exact : w < n → length (joined_blocks f r) ≡ w
+
+pub put-none : (f : ℕ → List ℕ) (n : ℕ) → IsPut f n 0 0 []
+put-none f n =
+    record { front = refl; room = omega arith; exact = λ some. rw joined_blocks-none refl }
+
+module _ {f : ℕ → List ℕ} {n r w : ℕ} {xs : List ℕ} where
+  -- a front of the next block comes after them, or nothing
+  put-front : IsPut f n r w xs → (L k : ℕ) → k ≡ min L (n - w)
+      → take (w + k) (joined_blocks f r ++ f (r + 1)) ≡ xs ++ take k (f (r + 1))
+  put-front h L zero part =
+      let e : w + 0 ≡ w = omega arith in
+      rw (e, append-nil, take-append-le w (joined_blocks f r) (f (r + 1)) h.room) (sym h.front)
+  put-front h L (suc j) part =
+      let len : length (joined_blocks f r) ≡ w = h.exact (omega (arith, part)) in
+      let all : xs ≡ joined_blocks f r =
+      h.front ∙ take_all w (joined_blocks f r) (omega (arith, len)) in
+      rw (all, ← len) (take-append-add (joined_blocks f r) (f (r + 1)) (suc j))
+
+  -- k bytes of a block of no more than L are put after them
+  pub put-next : {k : ℕ} {bytes : List ℕ} (L : ℕ) → IsPut f n r w xs → k ≡ min L (n - w)
+      → bytes ≡ take k (f (r + 1)) → length bytes ≡ k → length (f (r + 1)) ≤ L
+      → IsPut f n (r + 1) (w + k) (xs ++ bytes)
+  put-next {k = k} L h part is size short =
+      let next : joined_blocks f (r + 1) ≡ joined_blocks f r ++ f (r + 1) =
+      rw add-one (joined_blocks-next f r) in
+      let sum = length-append (joined_blocks f r) (f (r + 1)) in
+      let taken : min k (length (f (r + 1))) ≡ k =
+      sym (length-take k (f (r + 1))) ∙ ap length (sym is) ∙ size in
+      record {
+        front = rw (next, is) (sym (put-front h L k part));
+        room = rw next (omega (arith, sum, taken, h.room));
+        exact = λ more.
+            let len = h.exact (omega (arith, more)) in
+            rw next (omega (arith, sum, len, taken, short, part, more));
+      }
 
 -- one block more is written, after the first r ones
 pub written-more : (f : ℕ → List ℕ) (r : ℕ) {xs block out : List ℕ} (rest : List ℕ)

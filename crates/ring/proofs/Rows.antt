@@ -1,10 +1,9 @@
 -- What the rows have in common.
-use Rattle.std.proofs.Common.{◌≡◌, ℕ, zero, ◌<◌, ◌≤◌, ◌+◌, ◌-◌, ◌*◌, ◌^◌, ◌⊎◌, refl, inl, inr, lit<}
-use Rattle.std.proofs.Common.{lit≤, ◌/◌, ap, arith}
+use Rattle.std.proofs.Common.{◌≡◌, ℕ, zero, ◌<◌, ◌≤◌, ◌-◌, ◌*◌, ◌^◌, ◌⊎◌, refl, inl, inr, lit<}
+use Rattle.std.proofs.Common.{lit≤, ◌/◌}
 use Rattle.ring.specs.Algorithm.{block_len, length_len, max_input_len, output_len, row_of, word_len}
 use Rattle.ring.specs.Algorithm.{word_count}
 use Rattle.ring.specs.declared.digest.algorithm.Algorithm.{Algorithm}
-use Rattle.ring.specs.declared.digest.algorithm.TheConstants.{SHA1_FOR_LEGACY_USE_ONLY, SHA256}
 use Rattle.ring.specs.declared.digest.algorithm.AlgorithmId.{AlgorithmId}
 use Rattle.ring.specs.declared.digest.algorithm.AlgorithmId.TheVariants.{Sha1, Sha256, Sha384}
 use Rattle.ring.specs.declared.digest.algorithm.AlgorithmId.TheVariants.{Sha512, Sha512_256}
@@ -44,12 +43,6 @@ output_len-most_of_id Sha512_256 = lit≤ tt
 -- a digest is a front of the chaining words
 pub output_len-most : (a : Algorithm) → output_len a ≤ word_len a * word_count a
 output_len-most a = output_len-most_of_id a.id
-
-pub length_len-most : (a : Algorithm) → length_len a + 48 ≤ block_len a
-length_len-most a = elim (sizes_of a) [
-  | inl h ↦ rw (h.0, h.1) (lit≤ tt)
-  | inr h ↦ rw (h.0, h.1) (lit≤ tt)
-]
 
 output_len-positive_of_id : (i : AlgorithmId) → zero < (row_of i).output_len
 output_len-positive_of_id Sha1 = lit< tt
@@ -93,18 +86,3 @@ eight_words_of_id Sha512_256 = lit≤ tt
 -- eight words have the bytes of a digest
 pub eight_words : (a : Algorithm) → output_len a ≤ word_len a * 8
 eight_words a = eight_words_of_id a.id
-
-short_other_of_id : (i : AlgorithmId) → (row_of i).word_len ≡ 4 → (i ≡ Sha1 → ⊥) → i ≡ Sha256
-short_other_of_id Sha1 h other = absurd (other refl)
-short_other_of_id Sha256 h other = refl
-short_other_of_id Sha384 h other = absurd (omega arith)
-short_other_of_id Sha512 h other = absurd (omega arith)
-short_other_of_id Sha512_256 h other = absurd (omega arith)
-
--- of the algorithms of 32-bit words, one isn't SHA-1
-pub short_other : (a : Algorithm) → word_len a ≡ 4 → (a ≡ SHA1_FOR_LEGACY_USE_ONLY → ⊥)
-    → a ≡ SHA256
-short_other a h other =
-    let id : a.id ≡ Sha256 =
-    short_other_of_id a.id h (λ e. other (ap (λ (i : AlgorithmId). record { id = i }) e)) in
-    ap (λ (i : AlgorithmId). record { id = i }) id

@@ -15,7 +15,7 @@ use Rattle.ring.specs.Cost.{whole_blocks}
 use Rattle.ring.specs.declared.digest.algorithm.Algorithm.{Algorithm}
 use Rattle.ring.specs.declared.digest.block_context.BlockContext.{BlockContext}
 use Rattle.ring.specs.declared.digest.context.Context.{Context}
-use Rattle.ring.proofs.Blocks.{mul_whole, whole_div-add, short_div, whole_mul}
+use Rattle.ring.proofs.Blocks.{mul_whole, whole_div-add, short_div}
 use Rattle.ring.proofs.Rows.{block_len-positive}
 
 -- no block moved
@@ -204,17 +204,6 @@ stands_len s m h fits =
     ap length h.message ∙ length-append h.whole (pending_bytes s)
     ∙ ap (λ (z : ℕ). length h.whole + z) pending
 
--- the pending bytes are what its whole blocks leave of the message
-pub stands_pending : (s : Context) (m : List ℕ) → StandsFor s m → s.num_pending ≤ length s.pending
-    → length m % block_len s.block.algorithm ≡ s.num_pending
-unfolding StandsFor
-stands_pending s m h fits =
-    let b : ℕ = block_len s.block.algorithm in
-    let whole = whole_mul (length h.whole) b h.taken.whole in
-    let e : length m ≡ length h.whole / b * b + s.num_pending =
-    omega (arith, stands_len s m h fits, whole) in
-    ap (λ (z : ℕ). z % b) e ∙ mod-mul-add _ b s.num_pending s.partial
-
 -- the blocks that d bytes more complete
 pub stands_blocks : (s : Context) (m : List ℕ) (d : ℕ) → StandsFor s m
     → s.num_pending ≤ length s.pending
@@ -231,9 +220,3 @@ stands_blocks s m d h fits =
     let without = ap (λ (z : ℕ). z / b) len
     ∙ whole_div-add (length h.whole) s.num_pending b pos h.taken.whole in
     omega (arith, with_more, without, short_div s.num_pending b s.partial)
-
--- the count of a message that a context stands for
-pub stands_counted : (s : Context) (m : List ℕ) → StandsFor s m → s.num_pending ≤ length s.pending
-    → message_len s ≡ cut_off (length m)
-unfolding StandsFor
-stands_counted s m h fits = omega (arith, stands_len s m h fits, h.taken.count)

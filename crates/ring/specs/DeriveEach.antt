@@ -2,16 +2,13 @@
 use Rattle.std.specs.Prelude.{◌≡◌, ◌↔◌, ℕ, zero, suc, ◌+◌, ◌<◌, Bool, false, IsTrue, List, []}
 use Rattle.std.specs.Prelude.{get_or, length}
 use Rattle.std.specs.Borrow.{Bor}
-use Rattle.ring.specs.FourLanes.{words_of_lane}
 use Rattle.ring.specs.Cost.{derive_blocks}
 use Rattle.ring.specs.Each.{message_at}
 use Rattle.ring.specs.Hmac.{KeyStandsFor, key_algorithm}
-use Rattle.ring.specs.Lanes.{IsKeyInLane}
 use Rattle.ring.specs.Limits.{CanDerive, CanVerify}
 use Rattle.ring.specs.Pbkdf2.{IsDerived, dk}
 use Rattle.ring.specs.declared.digest.algorithm.Algorithm.{Algorithm}
 use Rattle.ring.specs.declared.hmac.key.Key.{Key}
-use Rattle.ring.specs.declared.pbkdf2.lanes.FourKeys.{FourKeys}
 
 -- the secret, or the salt, at a place of a list
 abbrev pub bytes_at : List (Bor (List ℕ)) → ℕ → List ℕ
@@ -54,15 +51,9 @@ pub record IsKeyOf (a : Algorithm) (key : Key) (p : List ℕ) : Type 0 where
   pub algorithm : key_algorithm key ≡ a
   pub stands : KeyStandsFor key p
 
--- the first four keys are those of the bytes p 0 to p 3
+-- the key at each place i is that of the bytes p i
 pub record AreKeysOf (a : Algorithm) (keys : List Key) (p : ℕ → List ℕ) : Type 0 where
-  pub each : (i : ℕ) (key : Key) → i < 4 → IsKeyOf a (get_or keys i key) (p i)
-
--- four keys, and each one's words in its lane, are those of the bytes p 0 to p 3
-pub record FourStandFor (four : FourKeys) (a : Algorithm) (p : ℕ → List ℕ) : Type 0 where
-  pub keys : AreKeysOf a four.keys p
-  pub lanes : (i : ℕ) → i < 4
-      → IsKeyInLane a (words_of_lane i four.inner) (words_of_lane i four.outer) (p i)
+  pub each : (i : ℕ) (key : Key) → i < length keys → IsKeyOf a (get_or keys i key) (p i)
 
 -- there are as many answers as values, and each says whether the value at its place is derived from
 -- the secret and the salt there, after c iterations

@@ -18,6 +18,6 @@ pub mod Hkdf
 pub mod Okm
 pub mod Pbkdf2
 pub mod DeriveEach
+pub mod Jobs
 pub mod Raw
-pub mod FourLanes
 pub mod Cut

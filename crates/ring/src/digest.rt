@@ -79,14 +79,17 @@ use ring_core::error::Unspecified;
 
 pub(crate) mod algorithm;
 pub(crate) mod block_context;
+mod block_lanes;
 pub(crate) mod context;
 pub mod dynstate;
-mod each;
-pub(crate) mod four_states;
+pub(crate) mod each;
 mod initial;
-mod lanes;
+mod padded_blocks;
 pub(crate) mod padding;
+pub(crate) mod side_by_side;
+mod together;
 pub(crate) mod value;
+pub(crate) mod vectors;
 
 pub use crate::digest::algorithm::{
     Algorithm, MAX_BLOCK_LEN, MAX_CHAINING_LEN, MAX_OUTPUT_LEN, SHA1_FOR_LEGACY_USE_ONLY,

@@ -46,8 +46,8 @@ use ring_core::error::Unspecified;
 pub(crate) mod algorithm;
 pub(crate) mod context;
 pub(crate) mod key;
-pub(crate) mod lanes;
 pub(crate) mod tag;
+pub(crate) mod tag_of_digest;
 
 pub use crate::hmac::algorithm::{
     Algorithm, HMAC_SHA1_FOR_LEGACY_USE_ONLY, HMAC_SHA256, HMAC_SHA384, HMAC_SHA512,

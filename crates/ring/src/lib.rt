@@ -11,6 +11,7 @@
 //! - [`limits`]: the greatest lengths of outputs and of derived keys.
 //! - [`rand`]: byte sources that the caller implements, and values made of their bytes.
 //! - [`raw`]: contexts and keys as plain numbers.
+//! - [`wide`]: the calls that run several messages or rounds at once, for processors with AVX2.
 //! - [`laws`]: facts that relate several calls.
 //!
 //! A call whose name ends in `_counted` does what the call without that ending does, and counts its
@@ -29,5 +30,6 @@ pub mod limits;
 pub mod pbkdf2;
 pub mod rand;
 pub mod raw;
+pub mod wide;
 
 pub use ring_core::{bb, bb as constant_time, bits, cost, error, polyfill};

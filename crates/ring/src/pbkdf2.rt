@@ -71,33 +71,32 @@ ghost use Rattle.ring.specs.Cost.{derive_blocks};
 ghost use Rattle.ring.specs.Limits.{CanDerive, CanVerify};
 ghost use Rattle.ring.specs.Pbkdf2.{IsDerived, dk, pbkdf2_digest};
 
+use crate::digest::vectors::Vectors;
 use crate::hmac::Key;
 use crate::limits::{can_derive, can_verify};
-use crate::pbkdf2::rounds::{are_rounds, write_rounds};
+use crate::pbkdf2::parts::{are_rounds, write_rounds};
 use ring_core::cost::Meter;
 use ring_core::error::Unspecified;
 use std::num::NonZeroU32;
 
 pub(crate) mod algorithm;
-pub(crate) mod compared;
-pub(crate) mod each;
-pub(crate) mod four;
+pub(crate) mod each_derived;
+pub(crate) mod each_verified;
 pub(crate) mod iterates;
-pub(crate) mod lanes;
-pub(crate) mod rounds;
-pub(crate) mod sums;
+pub(crate) mod jobs;
+pub(crate) mod keys;
+pub(crate) mod parts;
 
 pub use crate::pbkdf2::algorithm::{
     Algorithm, PBKDF2_HMAC_SHA1, PBKDF2_HMAC_SHA256, PBKDF2_HMAC_SHA384, PBKDF2_HMAC_SHA512,
     constants_are_based_on_their_digests,
 };
-pub use crate::pbkdf2::compared::{verify_each, verify_each_counted};
-pub use crate::pbkdf2::each::{derive_each, derive_each_counted};
+pub use crate::pbkdf2::each_derived::{derive_each, derive_each_counted};
+pub use crate::pbkdf2::each_verified::{verify_each, verify_each_counted};
 
-/// Derives a key as [`derive`] does, and counts its blocks on `meter`: those of the HMAC key, and
-/// for each round of output those of the first iterate and two for each further one. A refusal
-/// leaves `meter` as it was.
-pub fn derive_counted(
+// Derives a key as `derive_counted` does, over vectors of this width.
+pub(crate) fn derive_in(
+    vectors: Vectors,
     algorithm: Algorithm,
     iterations: NonZeroU32,
     salt: &[u8],
@@ -124,8 +123,39 @@ pub fn derive_counted(
         return Err(Unspecified);
     }
     let key = Key::new_counted(hmac_algorithm, secret, meter)?;
-    write_rounds(&key, iterations, salt, out, meter);
+    write_rounds(vectors, &key, iterations, salt, out, meter);
     Ok(())
+}
+
+/// Derives a key as [`derive`] does, and counts its blocks on `meter`: those of the HMAC key, and
+/// for each round of output those of the first iterate and two for each further one. A refusal
+/// leaves `meter` as it was.
+pub fn derive_counted(
+    algorithm: Algorithm,
+    iterations: NonZeroU32,
+    salt: &[u8],
+    secret: &[u8],
+    out: &mut [u8],
+    meter: &mut Meter,
+) -> Result<(), Unspecified>
+    ensures ok { OnOk result (out.new ≡ dk (pbkdf2_digest algorithm)
+        secret.now salt.now (non_zero_u32_get iterations) (length out.old)) }
+    ensures refused { IsOk result ↔ CanDerive (pbkdf2_digest algorithm)
+        (length secret.now) (length salt.now) (length out.old) }
+    ensures unchanged { OnErr result ((out.new ≡ out.old) × (meter.new ≡ meter.old)) }
+    ensures cost { OnOk result (meter.new ≡ raised meter.old
+        (derive_blocks (pbkdf2_digest algorithm) (length secret.now) (length salt.now)
+        (non_zero_u32_get iterations) (length out.old)) 0) }
+{
+    derive_in(
+        Vectors::Of128Bits,
+        algorithm,
+        iterations,
+        salt,
+        secret,
+        out,
+        meter,
+    )
 }
 
 /// Derives a key from `secret` and `salt`, and writes it to the whole of `out` (RFC 2898, section
@@ -159,10 +189,9 @@ pub fn derive(
     derive_counted(algorithm, iterations, salt, secret, out, &mut Meter::new())
 }
 
-/// Tests a value as [`verify`] does, and counts the blocks and the compared pairs of bytes on
-/// `meter`. A value that differs costs as much as one that matches, wherever it differs. Where a
-/// length is refused, `meter` is as it was.
-pub fn verify_counted(
+// Tests a value as `verify_counted` does, over vectors of this width.
+pub(crate) fn verify_in(
+    vectors: Vectors,
     algorithm: Algorithm,
     iterations: NonZeroU32,
     salt: &[u8],
@@ -192,11 +221,45 @@ pub fn verify_counted(
         return Err(Unspecified);
     }
     let key = Key::new_counted(hmac_algorithm, secret, meter)?;
-    if are_rounds(&key, iterations, salt, previously_derived, meter) {
+    if are_rounds(vectors, &key, iterations, salt, previously_derived, meter) {
         Ok(())
     } else {
         Err(Unspecified)
     }
+}
+
+/// Tests a value as [`verify`] does, and counts the blocks and the compared pairs of bytes on
+/// `meter`. A value that differs costs as much as one that matches, wherever it differs. Where a
+/// length is refused, `meter` is as it was.
+pub fn verify_counted(
+    algorithm: Algorithm,
+    iterations: NonZeroU32,
+    salt: &[u8],
+    secret: &[u8],
+    previously_derived: &[u8],
+    meter: &mut Meter,
+) -> Result<(), Unspecified>
+    ensures ok { IsOk result ↔ IsDerived (pbkdf2_digest algorithm)
+        secret.now salt.now (non_zero_u32_get iterations) previously_derived.now }
+    ensures unchanged { ¬ (CanVerify (pbkdf2_digest algorithm)
+        (length secret.now) (length salt.now) (length previously_derived.now))
+        → meter.new ≡ meter.old }
+    ensures cost { CanVerify (pbkdf2_digest algorithm)
+        (length secret.now) (length salt.now) (length previously_derived.now)
+        → meter.new ≡ raised meter.old
+        (derive_blocks (pbkdf2_digest algorithm) (length secret.now) (length salt.now)
+        (non_zero_u32_get iterations) (length previously_derived.now))
+        (length previously_derived.now) }
+{
+    verify_in(
+        Vectors::Of128Bits,
+        algorithm,
+        iterations,
+        salt,
+        secret,
+        previously_derived,
+        meter,
+    )
 }
 
 /// Returns Ok exactly if `previously_derived` is not empty and is what [`derive`] writes for its

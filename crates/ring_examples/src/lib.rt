@@ -16,3 +16,4 @@ pub mod several;
 pub mod states;
 pub mod store;
 pub mod token;
+pub mod wide;

@@ -37,3 +37,5 @@ mod several;
 mod store;
 #[cfg(test)]
 mod texts;
+#[cfg(test)]
+mod wide_callers;

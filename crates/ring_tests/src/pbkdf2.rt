@@ -1,8 +1,14 @@
 //! Keys derived from passwords: values that are verified, and what that costs.
 
+use crate::texts::is_hex_of;
 use ring::cost::Meter;
+use ring::digest::{SHA256, digest};
 use ring::error::Unspecified;
-use ring::pbkdf2::{PBKDF2_HMAC_SHA1, derive_counted, verify_counted};
+use ring::pbkdf2::{
+    Algorithm, PBKDF2_HMAC_SHA1, PBKDF2_HMAC_SHA256, PBKDF2_HMAC_SHA384, PBKDF2_HMAC_SHA512,
+    derive, derive_counted, verify_counted,
+};
+use ring::wide;
 use std::num::NonZeroU32;
 
 const SECRET: &[u8] = b"password";
@@ -52,5 +58,58 @@ fn mismatches_cost_what_matches_do(rt: HostRuntime) -> Result<(), Unspecified> {
             && verifies(&[0; 5], one) == (false, 4, 5)
             && verifies(&[], one) == (false, 0, 0)
     );
+    Ok(())
+}
+
+// The bytes of a value that has rounds for eight lanes, four and one, and a last one that is cut.
+const LONG: usize = 700;
+
+// From Python: for each algorithm the digest by SHA-256 of `hashlib.pbkdf2_hmac`'s 700 bytes, of
+// three iterations.
+const OF_LONG: [(Algorithm, &str); 4] = [
+    (
+        PBKDF2_HMAC_SHA1,
+        "e3dcdb27116216d6bf382e7b4aa94e3d2da42fe4b29adf2855b4c068965b2770",
+    ),
+    (
+        PBKDF2_HMAC_SHA256,
+        "2075cffdeda9e8f5dc42449ab51881cb5e3d913517a5ee656d3787411ed5f7f7",
+    ),
+    (
+        PBKDF2_HMAC_SHA384,
+        "9654562fd446376e219b76bbcde953b2ca36123f09ee70de937c157c794025ab",
+    ),
+    (
+        PBKDF2_HMAC_SHA512,
+        "5aa40e3591edf3f38e8b1db73fe5abfcdb3bd4cee002d59aa24ff755654c1fc2",
+    ),
+];
+
+// Whether a long value is verified over wide vectors, and refused where a byte of it differs.
+fn is_told_apart(algorithm: Algorithm, iterations: NonZeroU32, value: &[u8; LONG]) -> bool {
+    for place in [0, 159, 160, 256, 511, 512, 640, 699] {
+        let mut wrong = *value;
+        wrong[place] ^= 1;
+        if wide::verify(algorithm, iterations, SALT, SECRET, &wrong).is_ok() {
+            return false;
+        }
+    }
+    wide::verify(algorithm, iterations, SALT, SECRET, value).is_ok()
+}
+
+#[test]
+fn long_values_over_vectors_of_both_widths(rt: HostRuntime) -> Result<(), Unspecified> {
+    let three = NonZeroU32::new(3).ok_or(Unspecified)?;
+    for (algorithm, expected) in OF_LONG {
+        let mut value = [0; LONG];
+        derive(algorithm, three, SALT, SECRET, &mut value)?;
+        let mut wide_value = [0; LONG];
+        wide::derive(algorithm, three, SALT, SECRET, &mut wide_value)?;
+        assert!(rt;
+            is_hex_of(expected, digest(&SHA256, &value)?.as_ref())
+                && value == wide_value
+                && is_told_apart(algorithm, three, &value)
+        );
+    }
     Ok(())
 }

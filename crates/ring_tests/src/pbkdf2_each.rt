@@ -11,6 +11,7 @@ use ring::pbkdf2::{
     Algorithm, PBKDF2_HMAC_SHA1, PBKDF2_HMAC_SHA256, PBKDF2_HMAC_SHA384, PBKDF2_HMAC_SHA512,
     derive_each, verify_each_counted,
 };
+use ring::wide;
 use std::num::NonZeroU32;
 
 const ALGORITHMS: [Algorithm; 4] = [
@@ -21,36 +22,36 @@ const ALGORITHMS: [Algorithm; 4] = [
 ];
 
 // The most keys at once.
-const MOST: usize = 9;
+const MOST: usize = 13;
 
-// What follows is from Python: for each algorithm the digest by SHA-256 of nine keys one after
+// What follows is from Python: for each algorithm the digest by SHA-256 of these keys one after
 // another, each by `hashlib.pbkdf2_hmac` of three iterations from the secret and the salt below.
 const OF_20_BYTES: [&str; 4] = [
-    "9d27f136ccf23cd85417fdd1e138bf0474b468622bc7175af709c8e4f2f27e1e",
-    "7f40102b82abed729faf83b8bcbb380d364809f6018c1b883979661aea8832a3",
-    "0d7a6b841ede3aaae6997d325debcf4214e288537df68686aeddd88c7c11b359",
-    "9b33f77e172550922bb3704acba3c15856c5a28d2dde45f7c16ff732aa73cfae",
+    "d221a6505560cce915e35f74146f730dc4fa6b58b14472693170548c1327e9f9",
+    "022a740add93959572f8847b4ae12f85c5b0f359d21566f65ef9d9f40d25231a",
+    "1e4912720d9d6dae4681c05b1a4910409a19bd2bf0e1cb48bdc29d309d1bbe45",
+    "676ff42423bbe6ba215a90104c378310eff78ccde5f4bfd99394ae3a780c7cef",
 ];
 
 const OF_32_BYTES: [&str; 4] = [
-    "68906e99d337b74661cc46009bb5703db258a0f4b0c4e0ec1ea09cfbf9a6dd35",
-    "ee823604a2530a0cce3de186dea2d899c6b8e5f1a8c9a9005b7b61066a2fe4e4",
-    "a0c1915eb45340a7863ecdce8094215c14bcb965fdfdfd937e0c46d08e4f59e9",
-    "1eb6fa2d67371ccb246061e1c50bf4fb371ce23977d37d0efdb8f788f35556b5",
+    "706e34c5123e8730a5a6a19bd6550d30d077ed6bcac9d7c1508fe9fb89f54bd6",
+    "055c975b2528ef558adca7a1d71dae17652d3124450c36047b2ed723321c5667",
+    "3d3b98b079a08d12efaecb278e6825995499d0f4c04cfe7ba040308aaa478b00",
+    "3d0177cdca25e10d3f40f8a6c86cf77a24c0e73e72274958ee75b9734b1191c3",
 ];
 
 const OF_64_BYTES: [&str; 4] = [
-    "1792c0b05cf736cb1c8af0cfd8e024edb02268c0ea8ff2f2fdbdb68bf27cbd9e",
-    "3af271f24f93635f1f840e0f59850688c34e9ec81ff38dd9753ecdbe6d9f5d5c",
-    "df16ecfed32c4995b9ce4b491c744e0fb2ec8c3de0c11ca0dae6d9f1f77b63c5",
-    "387291b099188292ee667704473c9b5fa435cd33d73ee70e56fd738ddd488d8d",
+    "23b5b1ce7b5fb77fe6a188b26fb81b3908315bbe7071550c37d51fab2a268844",
+    "12a51e833229fd6d753584abcd20963e48f5f740a088a2ee31643a58eac09eae",
+    "e7b6d0a457c579c67316292b9bc2c34799d939713249ee25883695bd30a55637",
+    "de148e4869a3a0ba4f28c96dda91cba08aa5c2aedaff0d32f2b697331a08bf2e",
 ];
 
 const OF_100_BYTES: [&str; 4] = [
-    "8c233398d317a43e4ad68b0debbba3787d38f194e7f5fa568e0f27c49e260ff6",
-    "e3fce5e7751ad5835831fe4dd89f36260293e3e41944fdbe1ecb715b33b81c6b",
-    "04556a803f57aa5e9ff8845c374a97375548c10ce3768a2628a10e96d8ffa2fd",
-    "7b3eb459c3302bfa0df1c66511c56fc2c7804ecfe90dc0a8161f900c15d7ecd9",
+    "f1d56e5592378e69580fc9a251609f78f0b44e72bc87ebeef5458ca71a0b3779",
+    "9700628fd12481335201d61188fd8f32a4b33be79f9ea5c8743faa7234a5bc5b",
+    "7a13a0f0a6ec9957b30825499a0558e8e2f1785adab2ee870087cc70d2d36efc",
+    "5845bfecb77a64dbba506fe2ec5a48a460f7781246e05037dc55987c5e138cf1",
 ];
 
 // Secrets of no byte, of a block and of more, each a front of the bytes.
@@ -65,6 +66,10 @@ fn secrets_of(bytes: &[u8; 257]) -> [&[u8]; MOST] {
         &bytes[..129],
         &bytes[..17],
         &bytes[..257],
+        &bytes[..1],
+        &bytes[..63],
+        &bytes[..127],
+        &bytes[..66],
     ]
 }
 
@@ -80,10 +85,24 @@ fn salts_of(bytes: &[u8; 257]) -> [&[u8]; MOST] {
         &bytes[..8],
         &bytes[..130],
         &bytes[..257],
+        &bytes[..16],
+        &bytes[..55],
+        &bytes[..119],
+        &bytes[..4],
     ]
 }
 
-// The keys of the first secrets and salts, and zeros after them.
+// Whether the keys are the same.
+fn are_same<const N: usize>(keys: &[[u8; N]; MOST], others: &[[u8; N]; MOST]) -> bool {
+    for (key, other) in keys.iter().zip(others) {
+        if *key != *other {
+            return false;
+        }
+    }
+    true
+}
+
+// The keys of the first secrets and salts, and zeros after them, over vectors of both widths.
 fn keys_of<const N: usize>(
     algorithm: Algorithm,
     count: usize,
@@ -101,7 +120,19 @@ fn keys_of<const N: usize>(
         &secrets[..count],
         &mut keys[..count],
     )?;
-    Ok(keys)
+    let mut wide_keys = [[0; N]; MOST];
+    wide::derive_each(
+        algorithm,
+        three,
+        &salts[..count],
+        &secrets[..count],
+        &mut wide_keys[..count],
+    )?;
+    if are_same(&keys, &wide_keys) {
+        Ok(keys)
+    } else {
+        Err(Unspecified)
+    }
 }
 
 // The digest of the keys one after another.
@@ -139,7 +170,7 @@ fn are_of_others<const N: usize>(digests: [&str; 4]) -> Result<bool, Unspecified
         if !is_hex_of(expected, digest_of(&all)?.as_ref()) {
             return Ok(false);
         }
-        for count in [0, 1, 3, 4, 5, 8] {
+        for count in [0, 1, 3, 4, 5, 8, 9, 12] {
             if !agrees_on_first(*algorithm, &all, count)? {
                 return Ok(false);
             }
@@ -200,7 +231,8 @@ fn rfc_6070_side_by_side(rt: HostRuntime) -> Result<(), Unspecified> {
     Ok(())
 }
 
-// The answers for the first of these values, and false after them, and what they cost.
+// The answers for the first of these values, over vectors of both widths, false after them, and
+// what they cost.
 fn answers_for<const N: usize>(
     algorithm: Algorithm,
     values: &[[u8; N]; MOST],
@@ -220,7 +252,20 @@ fn answers_for<const N: usize>(
         &mut matches[..count],
         &mut meter,
     )?;
-    Ok((matches, meter.blocks(), meter.byte_pairs()))
+    let mut wide_matches = [false; MOST];
+    wide::verify_each(
+        algorithm,
+        three,
+        &salts_of(&bytes)[..count],
+        &secrets_of(&bytes)[..count],
+        &values[..count],
+        &mut wide_matches[..count],
+    )?;
+    if matches == wide_matches {
+        Ok((matches, meter.blocks(), meter.byte_pairs()))
+    } else {
+        Err(Unspecified)
+    }
 }
 
 // Whether exactly the answers at the other places before `count` are true where one value differs
@@ -263,7 +308,7 @@ fn tells_each_apart<const N: usize>() -> Result<bool, Unspecified>
                 return Ok(false);
             }
         }
-        for count in [0, 1, 3, 4, 5, 8] {
+        for count in [0, 1, 3, 4, 5, 8, 9, 12] {
             if !tells_one_apart(algorithm, &values, 2, count)? {
                 return Ok(false);
             }

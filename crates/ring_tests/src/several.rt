@@ -8,6 +8,7 @@ use ring::digest::{
     digest_each_counted,
 };
 use ring::error::Unspecified;
+use ring::wide;
 
 const ALGORITHMS: [Algorithm; 5] = [SHA1_FOR_LEGACY_USE_ONLY, SHA256, SHA384, SHA512, SHA512_256];
 
@@ -15,7 +16,7 @@ const ALGORITHMS: [Algorithm; 5] = [SHA1_FOR_LEGACY_USE_ONLY, SHA256, SHA384, SH
 const LENS: usize = 258;
 
 // The most messages of a list.
-const MOST: usize = 9;
+const MOST: usize = 20;
 
 // The front of the bytes that has this length, counted round.
 fn front(bytes: &[u8; 257], len: usize) -> &[u8] {
@@ -41,7 +42,8 @@ fn blocks_of(algorithm: &Algorithm, messages: &[&[u8]]) -> u128 {
     blocks
 }
 
-// Whether the messages get the digests that others give them, for their blocks.
+// Whether the messages get the digests that others give them, for their blocks, over vectors of both
+// widths.
 fn agrees(
     algorithm: Algorithm,
     messages: &[&[u8]],
@@ -49,10 +51,14 @@ fn agrees(
 ) -> Result<bool, Unspecified> {
     let mut meter = Meter::new();
     digest_each_counted(&algorithm, messages, digests, &mut meter)?;
-    Ok(
-        are_of_others(algorithm, messages, digests)
-            && meter.blocks() == blocks_of(&algorithm, messages),
-    )
+    if !are_of_others(algorithm, messages, digests)
+        || meter.blocks() != blocks_of(&algorithm, messages)
+    {
+        return Ok(false);
+    }
+    digests.fill(digest(&algorithm, b"in the place of each")?);
+    wide::digest_each(&algorithm, messages, digests)?;
+    Ok(are_of_others(algorithm, messages, digests))
 }
 
 // The same of four messages whose lengths lie so far apart, at every length in every place.
@@ -96,6 +102,17 @@ fn mixed(bytes: &[u8; 257]) -> [&[u8]; MOST] {
         front(bytes, 119),
         front(bytes, 120),
         front(bytes, 257),
+        front(bytes, 128),
+        front(bytes, 111),
+        front(bytes, 112),
+        front(bytes, 239),
+        front(bytes, 240),
+        front(bytes, 1),
+        front(bytes, 63),
+        front(bytes, 127),
+        front(bytes, 129),
+        front(bytes, 65),
+        front(bytes, 192),
     ]
 }
 
@@ -111,7 +128,7 @@ fn agrees_on_first(algorithm: Algorithm, count: usize) -> Result<bool, Unspecifi
 #[test]
 fn numbers_of_messages(rt: HostRuntime) {
     for algorithm in ALGORITHMS {
-        for count in [0, 1, 3, 4, 5, 8, 9] {
+        for count in 0..MOST + 1 {
             assert!(rt; agrees_on_first(algorithm, count) == Ok(true));
         }
     }

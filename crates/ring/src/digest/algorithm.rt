@@ -1,6 +1,6 @@
 //! The five algorithms and their lengths.
 
-ghost use Rattle.std.specs.Prelude.{◌≡◌, ◌↔◌, ◌≤◌, ◌-◌, IsTrue, Some, replicate};
+ghost use Rattle.std.specs.Prelude.{◌≡◌, ◌↔◌, ◌≤◌, ◌-◌, IsTrue, Some, length, replicate};
 ghost use Rattle.ring_core.specs.Sha1 as sha1;
 ghost use Rattle.ring_core.specs.Sha2.{block_step, family_256, family_512};
 ghost use Rattle.ring.specs.Algorithm.{block_function, block_len, chaining_len};
@@ -8,7 +8,7 @@ ghost use Rattle.ring.specs.Algorithm.{initial_words, length_len, max_input_len}
 ghost use Rattle.ring.specs.Algorithm.{name_of, output_len, row, word_count};
 ghost use Rattle.ring.specs.Initial.{AreSquareRoots};
 ghost use Rattle.ring.specs.Limits.{IsMessageWithin};
-ghost use Rattle.ring.specs.State.{chaining_words, is_state_of, spare_words};
+ghost use Rattle.ring.specs.State.{chaining_words, is_state_of, spare_words, words};
 ghost use Rattle.ring.specs.Table.{sha1_row, sha256_row, sha384_row, sha512_row, sha512_256_row};
 
 use crate::digest::dynstate::DynState;
@@ -149,6 +149,7 @@ impl Algorithm {
         ensures words { chaining_words self.now result ≡ initial_words self.now }
         ensures spare { spare_words self.now result ≡ replicate (8 - word_count self.now) 0 }
         ensures sized { IsTrue (is_state_of self.now result) }
+        ensures count { length (words result) ≡ 8 }
     {
         match self.id {
             AlgorithmId::Sha1 => DynState::As32(initial::SHA1),

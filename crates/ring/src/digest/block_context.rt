@@ -39,7 +39,7 @@ fn run_blocks_64<'i>(words: &mut State64, input: &'i [u8], meter: &mut Meter) ->
 }
 
 // The same for the words of an algorithm of 32-bit words.
-pub(crate) fn run_blocks_32<'i>(
+fn run_blocks_32<'i>(
     algorithm: Algorithm,
     words: &mut State32,
     input: &'i [u8],
@@ -65,7 +65,7 @@ pub(crate) fn run_blocks_32<'i>(
 }
 
 // Advances `state` over the whole blocks of `input`, and returns the bytes past them.
-fn run_blocks<'i>(
+pub(crate) fn run_blocks<'i>(
     algorithm: Algorithm,
     state: &mut DynState,
     input: &'i [u8],

@@ -1,6 +1,6 @@
 //! The iterates of a round: the first, of the salt and the round's number, and the tags of tags.
 
-ghost use Rattle.std.specs.Prelude.{◌≡◌, ℕ, ◌+◌, ◌-◌, ◌*◌, List, length, take};
+ghost use Rattle.std.specs.Prelude.{◌≡◌, ℕ, ◌+◌, ◌-◌, ◌*◌, ◌<◌, List, length, take};
 ghost use Rattle.std.specs.Int.NonZero.{non_zero_u32_get};
 ghost use Rattle.ring_core.specs.Cost.{raised};
 ghost use Rattle.ring.specs.Algorithm.{output_len};
@@ -11,7 +11,8 @@ ghost use Rattle.ring.specs.Limits.{IsTagWithin};
 ghost use Rattle.ring.specs.Pbkdf2.{iterate, xored};
 
 use crate::digest::dynstate::OUTPUT_ROOM;
-use crate::hmac::lanes::{DigestLanes, replace_by_tag};
+use crate::digest::side_by_side::SideBySide;
+use crate::hmac::tag_of_digest::replace_by_tag;
 use crate::hmac::{Context, Key, Tag};
 use ring_core::cost::Meter;
 use std::num::NonZeroU32;
@@ -45,25 +46,27 @@ pub(crate) fn bytes_of(tag: &Tag) -> [u8; OUTPUT_ROOM]
 }
 
 // The exclusive or of the first iterate and of those after it, in each lane under its key.
-pub(crate) fn xor_iterates<H: DigestLanes>(
-    inner: &H::State,
-    outer: &H::State,
-    first: &H::State,
+pub(crate) fn xor_iterates<H: SideBySide>(
+    ring: &mut H::Ring,
+    inner: &H::States,
+    outer: &H::States,
+    first: &H::States,
     iterations: NonZeroU32,
     meter: &mut Meter,
-) -> H::State
+) -> H::States
+    requires { 0 < H.LANES }
     ensures ok { (l : ℕ) (p s : List ℕ) (i : ℕ)
-        → IsKeyInLane H.algorithm (H.words l inner.now) (H.words l outer.now) p
-        → digest_bytes H.algorithm (H.words l first.now) ≡ iterate H.algorithm p s i 1
-        → digest_bytes H.algorithm (H.words l result)
+        → IsKeyInLane H.algorithm (H.lane l inner.now) (H.lane l outer.now) p
+        → digest_bytes H.algorithm (H.lane l first.now) ≡ iterate H.algorithm p s i 1
+        → digest_bytes H.algorithm (H.lane l result)
         ≡ xored H.algorithm p s i (non_zero_u32_get iterations) }
     ensures cost { meter.new
-        ≡ raised meter.old (H.lanes * (2 * (non_zero_u32_get iterations - 1))) 0 }
+        ≡ raised meter.old (H.LANES * (2 * (non_zero_u32_get iterations - 1))) 0 }
 {
     let mut sum = *first;
     let mut iterate = *first;
     'iterates: for _made in 1..iterations.get() {
-        replace_by_tag::<H>(inner, outer, &mut iterate, meter);
+        replace_by_tag::<H>(ring, inner, outer, &mut iterate, meter);
         H::xor(&mut sum, &iterate);
     }
     sum

@@ -5,15 +5,15 @@ use Rattle.ring.proofs.pbkdf2.iterates.xor_iterates.Goals as goal
 
 pub iterates-init : goal.iterates-init
 iterates-init g c =
-    (λ lane p s i stands h. made-first h, cost_first c.args.meter.now g.H.DigestLanes.lanes)
+    (λ l p s i stands h. made-first h, cost_first c.args.meter.now g.H.SideBySide.LANES)
 
 pub iterates-preserved : goal.iterates-preserved
 iterates-preserved g c =
     let made = c.iterates.invariant in (
-      λ lane p s i stands h.
-          made-next (made.0 lane p s i stands h) (c.replace_by_tag.ensures.ok lane p stands)
-          (c.xor.ensures lane),
-      cost_next c.args.meter.now g.H.DigestLanes.lanes c.iterates._made c.iterates.auto._made made.1
+      λ l p s i stands h.
+          made-next (made.0 l p s i stands h) (c.replace_by_tag.ensures.ok l p stands)
+          (c.xor.ensures l),
+      cost_next c.args.meter.now g.H.SideBySide.LANES c.iterates._made c.iterates.auto._made made.1
           c.replace_by_tag.ensures.cost,
     )
 
@@ -21,4 +21,4 @@ pub returns : goal.returns
 returns g c =
     let last : c.iterates._made ≡ non_zero_u32_get c.args.iterations = omega arith in
     let made = rw last at c.iterates.invariant in
-    record { ok = λ lane p s i stands h. (made.0 lane p s i stands h).sum; cost = made.1 }
+    record { ok = λ l p s i stands h. (made.0 l p s i stands h).sum; cost = made.1 }

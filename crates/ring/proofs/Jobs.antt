@@ -1,0 +1,148 @@
+-- The rounds of jobs, in lanes.
+use Rattle.std.proofs.Common.{◌≡◌, ◌≢◌, ℕ, ◌+◌, ◌-◌, ◌*◌, ◌<◌, IsTrue, List, [], ◌∷◌, get_or}
+use Rattle.std.proofs.Common.{inl, inr, length, refl, rules, set, sym, take, ◌∙◌, ap, arith}
+use Rattle.std.proofs.lemmas.Bool.{cases_lt}
+use Rattle.std.proofs.lemmas.List.{get_or-set_other, get_or-set_same, get_or-take}
+use Rattle.ring_core.specs.Cost.{Counts, raised}
+use Rattle.ring.specs.Algorithm.{output_len, word_len}
+use Rattle.ring.specs.DeriveEach.{sum_below}
+use Rattle.ring.specs.Hmac.{KeyStandsFor, tag_algorithm, tag_bytes}
+use Rattle.ring.specs.Jobs.{AreStarts, BeginsWithRound, CanRun, IsStart, first_blocks}
+use Rattle.ring.specs.Jobs.{job_algorithm, job_blocks}
+use Rattle.ring.specs.Lanes.{IsKeyInLane, digest_bytes}
+use Rattle.ring.specs.Pbkdf2.{iterate, xored}
+use Rattle.ring.specs.State.{is_state_of, state_word_len, word_bytes, words}
+use Rattle.ring.specs.declared.digest.algorithm.Algorithm.{Algorithm}
+use Rattle.ring.specs.declared.digest.dynstate.DynState.{DynState}
+use Rattle.ring.specs.declared.hmac.tag.Tag.{Tag}
+use Rattle.ring.specs.declared.pbkdf2.jobs.Job.{Job}
+use Rattle.ring.proofs.Each.{raised-then}
+use Rattle.ring.proofs.Lanes.{digest_read, key_in_lane}
+use Rattle.ring.proofs.Sums.{sum_below-more}
+
+-- what a job starts from, with the words that were read of its first iterate's bytes
+pub job-start : (job : Job) (tag : Tag) (bytes : List ℕ) {first : DynState}
+    → tag_algorithm tag ≡ job_algorithm job
+    → ((p : List ℕ) → KeyStandsFor job.key.now p
+    → tag_bytes tag ≡ iterate (job_algorithm job) p job.salt.now job.number 1)
+    → take (output_len (tag_algorithm tag)) bytes ≡ tag_bytes tag
+    → state_word_len first ≡ state_word_len job.key.now.inner.state
+    → word_bytes (state_word_len first) (words first) ≡ take (8 * state_word_len first) bytes
+    → IsStart job job.key.now.inner.state job.key.now.outer.state first
+job-start job tag bytes {first} same made read size written =
+    let a : Algorithm = job_algorithm job in
+    let key = job.key.now in
+    let inner : IsTrue (is_state_of a key.inner.state) = key.inner.sized in
+    let outer : IsTrue (is_state_of a key.outer.state) = rw key.same at key.outer.sized in
+    let sized : state_word_len first ≡ word_len a = search (rules, inner, size) in
+    record {
+      inner_sized = inner;
+      outer_sized = outer;
+      first_sized = search (rules, sized);
+      key = λ p stands. key_in_lane key p refl refl stands;
+      first = λ p stands. digest_read a (words first) bytes sized written same read
+          ∙ made p stands;
+    }
+
+-- what holds at each place below i, and of the item put there, holds below the next place
+pub put-next : {X : Type 0} (P : ℕ → X → Type 0) (xs : List X) (i : ℕ) (x : X) → i < length xs
+    → ((k : ℕ) (d : X) → k < i → P k (get_or xs k d)) → P i x
+    → (k : ℕ) (d : X) → k < i + 1 → P k (get_or (set xs i x) k d)
+put-next P xs i x room each here k d below = elim (cases_lt k i) [
+  | inl lt ↦
+      let other : k ≢ i = λ e. omega (arith, e, lt) in
+      rw (get_or-set_other xs i k x d other) (each k d lt)
+  | inr ge ↦
+      let e : k ≡ i = omega (arith, ge, below) in
+      rw (e, get_or-set_same xs i x d room) here
+]
+
+-- a list that isn't empty has an item
+some-item : {X : Type 0} (xs : List X) → 0 < length xs → X
+some-item [] some = absurd (omega (arith, some))
+some-item (x ∷ xs) some = x
+
+-- the states of one more job
+pub starts-next : (jobs : List Job) (inner outer first : List DynState) (i : ℕ) {found : Job}
+    {x y z : DynState} → (i < length inner) × ((i < length outer) × (i < length first))
+    → ((job : Job) → found ≡ get_or jobs i job) → AreStarts jobs inner outer first i
+    → IsStart found x y z → AreStarts jobs (set inner i x) (set outer i y) (set first i z) (i + 1)
+starts-next jobs inner outer first i {x} {y} {z} room is starts here =
+    record {
+      each = λ k job s t u below. elim (cases_lt k i) [
+        | inl lt ↦
+            let other : k ≢ i = λ e. omega (arith, e, lt) in
+            rw (
+              get_or-set_other inner i k x s other,
+              get_or-set_other outer i k y t other,
+              get_or-set_other first i k z u other,
+            ) (starts.each k job s t u lt)
+        | inr ge ↦
+            let e : k ≡ i = omega (arith, ge, below) in
+            rw (
+              e,
+              get_or-set_same inner i x s room.0,
+              get_or-set_same outer i y t room.1.0,
+              get_or-set_same first i z u room.1.1,
+              ← is job,
+            ) here
+      ];
+    }
+
+-- the states of the jobs of one algorithm, as many as there are jobs
+module _ {a : Algorithm} {jobs : List Job} {inner outer first : List DynState}
+    (each : (i : ℕ) (job : Job) → i < length jobs → CanRun a (get_or jobs i job))
+    (starts : AreStarts jobs inner outer first (length jobs)) (i : ℕ) where
+  pub start-at : (job : Job) (s t u : DynState) → i < length jobs → IsStart (get_or jobs i job)
+      (get_or (take (length jobs) inner) i s) (get_or (take (length jobs) outer) i t)
+      (get_or (take (length jobs) first) i u)
+  start-at job s t u below =
+      let n : ℕ = length jobs in
+      rw (
+        get_or-take n inner i s below,
+        get_or-take n outer i t below,
+        get_or-take n first i u below,
+      ) (starts.each i job s t u below)
+
+  pub sized-at : (s t u : DynState) → i < length jobs
+      → IsTrue (is_state_of a (get_or (take (length jobs) inner) i s))
+      × (IsTrue (is_state_of a (get_or (take (length jobs) outer) i t))
+      × IsTrue (is_state_of a (get_or (take (length jobs) first) i u)))
+  sized-at s t u below =
+      let job = some-item jobs (omega (arith, below)) in
+      let start = start-at job s t u below in
+      let same = (each i job below).algorithm in (
+        rw same at start.inner_sized,
+        (rw same at start.outer_sized, rw same at start.first_sized),
+      )
+
+pub word-size : (a : Algorithm) (s : DynState) → IsTrue (is_state_of a s)
+    → state_word_len s ≡ word_len a
+word-size a s sized = search (rules, sized)
+
+-- a lane's words there, summed, begin with the round
+pub lane-round : {a : Algorithm} {job : Job} {s t u : DynState} {inner outer first : List ℕ}
+    (sums bytes : List ℕ) {c : ℕ} → CanRun a job → IsStart job s t u
+    → (inner ≡ words s) × ((outer ≡ words t) × (first ≡ words u))
+    → ((p salt : List ℕ) (i : ℕ) → IsKeyInLane a inner outer p
+    → digest_bytes a first ≡ iterate a p salt i 1 → digest_bytes a sums ≡ xored a p salt i c)
+    → take (output_len a) bytes ≡ digest_bytes a sums → BeginsWithRound job c bytes
+lane-round {job = job} sums bytes can start same summed written =
+    record {
+      round = λ p stands.
+          let key = rw can.algorithm at (start.key p stands) in
+          let first = rw can.algorithm at (start.first p stands) in
+          rw can.algorithm (written ∙ summed p job.salt.now job.number
+          (rw (same.0, same.1.0) key) (rw same.1.1 first));
+    }
+
+-- the blocks of n jobs: those of their first iterates, and then as many for each
+pub cost_jobs : (m0 : Counts) {m1 m2 : Counts} (jobs : List Job) (job : Job) (c n : ℕ)
+    → m1 ≡ raised m0 (sum_below (λ i. first_blocks (get_or jobs i job)) n) 0
+    → m2 ≡ raised m1 (n * (2 * (c - 1))) 0
+    → m2 ≡ raised m0 (sum_below (λ i. job_blocks c (get_or jobs i job)) n) 0
+cost_jobs m0 jobs job c n e1 e2 =
+    let firsts : ℕ → ℕ = λ i. first_blocks (get_or jobs i job) in
+    let more : ℕ = 2 * (c - 1) in
+    raised-then m0 (sum_below firsts n) (n * more) e1 e2
+    ∙ ap (λ (z : ℕ). raised m0 z 0) (sym (sum_below-more firsts more n))

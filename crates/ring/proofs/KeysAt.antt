@@ -1,0 +1,135 @@
+-- Keys of several secrets, and the jobs of their rounds of one number.
+use Rattle.std.proofs.Common.{◌≡◌, ℕ, zero, suc, ◌+◌, ◌<◌, ◌≤◌, List, [], ◌∷◌, length, take, get_or}
+use Rattle.std.proofs.Common.{ap, ◌∙◌, arith, refl}
+use Rattle.std.proofs.lemmas.List.{get_or-take}
+use Rattle.std.specs.Borrow.{Bor}
+use Rattle.ring_core.specs.Cost.{Counts, raised}
+use Rattle.ring.specs.Algorithm.{max_input_len, output_len}
+use Rattle.ring.specs.Cost.{iterate_blocks, key_blocks}
+use Rattle.ring.specs.DeriveEach.{AreKeysOf, IsKeyOf, bytes_at, sum_below}
+use Rattle.ring.specs.Hmac.{KeyStandsFor, key_algorithm}
+use Rattle.ring.specs.Jobs.{BeginsWithRound, CanRun, job_blocks}
+use Rattle.ring.specs.Limits.{IsTagWithin}
+use Rattle.ring.specs.Pbkdf2.{xored}
+use Rattle.ring.specs.declared.digest.algorithm.Algorithm.{Algorithm}
+use Rattle.ring.specs.declared.digest.dynstate.Output.{Output}
+use Rattle.ring.specs.declared.hmac.key.Key.{Key}
+use Rattle.ring.specs.declared.pbkdf2.jobs.Job.{Job}
+use Rattle.ring.proofs.Each.{message-read}
+use Rattle.ring.proofs.Places.{HoldsBelow, read_at}
+use Rattle.ring.proofs.Sums.{sum_below-same}
+
+-- the cost of the key of the secret at a place
+pub cost_key_at : (a : Algorithm) (m0 : Counts) {m1 : Counts} (items : List (Bor (List ℕ))) (i : ℕ)
+    → m1 ≡ raised m0 (key_blocks a (length (read_at items i))) 0
+    → m1 ≡ raised m0 (key_blocks a (length (bytes_at items i))) 0
+cost_key_at a m0 items i e = rw (message-read items i) e
+
+-- the key of the secret at a place
+pub key_at : {a : Algorithm} {key : Key} (secrets : List (Bor (List ℕ))) (i : ℕ)
+    → key_algorithm key ≡ a → KeyStandsFor key (read_at secrets i)
+    → IsKeyOf a key (bytes_at secrets i)
+key_at secrets i same stands =
+    record { algorithm = same; stands = rw (message-read secrets i) stands }
+
+-- each secret is within the limit, as an index reads it
+pub key_fits : (a : Algorithm) (secrets : List (Bor (List ℕ))) (n i : ℕ)
+    → ((j : ℕ) → j < n → length (bytes_at secrets j) ≤ max_input_len a) → i < n
+    → length (read_at secrets i) ≤ max_input_len a
+key_fits a secrets n i within below = rw (message-read secrets i) at (within i below)
+
+-- the keys from the place i on are those of what p gives from there on
+pub record AreKeysFrom (a : Algorithm) (i : ℕ) (keys : List Key) (p : ℕ → List ℕ) : Type 0 where
+  pub each : (j : ℕ) (key : Key) → j < length keys → IsKeyOf a (get_or keys j key) (p (i + j))
+
+pub keys-none : (a : Algorithm) (i : ℕ) (p : ℕ → List ℕ) → AreKeysFrom a i [] p
+keys-none a i p = record { each = λ j key below. absurd (omega (arith, below)) }
+
+-- and one before them
+keys-before : {a : Algorithm} {k : Key} {keys : List Key} {p : ℕ → List ℕ} (i : ℕ)
+    → IsKeyOf a k (p i) → AreKeysFrom a (suc i) keys p → (j : ℕ) (key : Key)
+    → j < length (k ∷ keys) → IsKeyOf a (get_or (k ∷ keys) j key) (p (i + j))
+keys-before {p = p} i is more zero key below =
+    let at : i + 0 ≡ i = omega arith in rw at is
+keys-before {p = p} i is more (suc j) key below =
+    let at : i + suc j ≡ suc i + j = omega arith in rw at (more.each j key (omega (arith, below)))
+
+pub keys-more : {a : Algorithm} {k : Key} {keys : List Key} {p : ℕ → List ℕ} (i : ℕ)
+    → IsKeyOf a k (p i) → AreKeysFrom a (suc i) keys p → AreKeysFrom a i (k ∷ keys) p
+keys-more i is more = record { each = keys-before i is more }
+
+pub keys-all : {a : Algorithm} {keys : List Key} {p : ℕ → List ℕ} → AreKeysFrom a 0 keys p
+    → AreKeysOf a keys p
+keys-all {p = p} h =
+    record {
+      each = λ i key below. let at : 0 + i ≡ i = omega arith in rw at at (h.each i key below);
+    }
+
+-- a job, of which lemmas speak past the end of a list
+pub some_job : Key → Job
+some_job key =
+    record {
+      key = record { ref_ptr = (0, 0); now = key };
+      salt = record { ref_ptr = (0, 0); now = [] };
+      number = 0;
+    }
+
+-- the job is the round of this number, of the key and the salt at the place i
+pub record IsJobAt (keys : List Key) (salts : List (Bor (List ℕ))) (number i : ℕ) (job : Job)
+    : Type 0 where
+  pub key : (d : Key) → job.key.now ≡ get_or keys i d
+  pub salt : job.salt.now ≡ bytes_at salts i
+  pub round : job.number ≡ number
+
+module _ {a : Algorithm} {keys : List Key} {salts : List (Bor (List ℕ))} {number i : ℕ} {job : Job}
+    (is : IsJobAt keys salts number i job)
+    (all : (key : Key) → key_algorithm (get_or keys i key) ≡ a) where
+  job-algorithm : key_algorithm job.key.now ≡ a
+  job-algorithm = ap (λ (k : Key). key_algorithm k) (is.key job.key.now) ∙ all job.key.now
+
+  -- it can be run, and costs what the salt there does
+  pub job-can : IsTagWithin a (length (bytes_at salts i) + 4) → CanRun a job
+  job-can within =
+      record { algorithm = job-algorithm; within = rw (job-algorithm, is.salt) within }
+
+  pub job-blocks : (c : ℕ) → job_blocks c job ≡ iterate_blocks a (length (bytes_at salts i)) c
+  job-blocks c = rw (job-algorithm, is.salt) refl
+
+  -- and gives the round of the key and the salt there
+  pub job-round : {c : ℕ} {bytes : List ℕ} (p : ℕ → List ℕ) → AreKeysOf a keys p
+      → i < length keys → BeginsWithRound job c bytes
+      → take (output_len a) bytes ≡ xored a (p i) (bytes_at salts i) number c
+  job-round p of below begins =
+      let stands : KeyStandsFor job.key.now (p i) =
+      rw (is.key job.key.now) (of.each i job.key.now below).stands in
+      rw (job-algorithm, is.salt, is.round) at (begins.round (p i) stands)
+
+-- at each of m places
+module _ {a : Algorithm} {keys : List Key} {salts : List (Bor (List ℕ))} {number : ℕ}
+    {jobs : List Job} (are : (d : Job) → HoldsBelow (IsJobAt keys salts number) d (length keys) jobs)
+    (all : (i : ℕ) (key : Key) → i < length keys → key_algorithm (get_or keys i key) ≡ a) where
+  is-job : (i : ℕ) (d : Job) → i < length keys
+      → IsJobAt keys salts number i (get_or (take (length keys) jobs) i d)
+  is-job i d below = rw (get_or-take (length keys) jobs i d below) ((are d).each i below)
+
+  pub jobs-can : ((i : ℕ) → i < length keys → IsTagWithin a (length (bytes_at salts i) + 4))
+      → (i : ℕ) (d : Job) → i < length keys → CanRun a (get_or (take (length keys) jobs) i d)
+  jobs-can within i d below =
+      job-can (is-job i d below) (λ key. all i key below) (within i below)
+
+  pub jobs-blocks : (c : ℕ) (d : Job)
+      → sum_below (λ i. job_blocks c (get_or (take (length keys) jobs) i d)) (length keys)
+      ≡ sum_below (λ i. iterate_blocks a (length (bytes_at salts i)) c) (length keys)
+  jobs-blocks c d =
+      sum_below-same (λ i. job_blocks c (get_or (take (length keys) jobs) i d))
+      (λ i. iterate_blocks a (length (bytes_at salts i)) c) (length keys)
+      (λ i below. job-blocks (is-job i d below) (λ key. all i key below) c)
+
+  pub jobs-rounds : (c : ℕ) (rounds : List Output) (d : Job)
+      → ((i : ℕ) (room : Output) → i < length keys
+      → BeginsWithRound (get_or (take (length keys) jobs) i d) c (get_or rounds i room).0)
+      → (p : ℕ → List ℕ) (i : ℕ) (room : Output) → AreKeysOf a keys p → i < length keys
+      → take (output_len a) (get_or rounds i room).0
+      ≡ xored a (p i) (bytes_at salts i) number c
+  jobs-rounds c rounds d begin p i room of below =
+      job-round (is-job i d below) (λ key. all i key below) p of below (begin i room below)

@@ -1,0 +1,13 @@
+use Rattle.std.proofs.Common.{◌-◌, ◌≤◌, length}
+use Rattle.ring.proofs.Each.{HaveDigests}
+use Rattle.ring.proofs.digest.each.write_each.Given as goal
+
+abbrev pub decreases-parts : goal.decreases-parts
+decreases-parts l = length l.messages - l.made
+
+abbrev pub invariant-parts : goal.invariant-parts
+invariant-parts l =
+    record {
+      within : l.made ≤ length l.messages;
+      have : HaveDigests l.algorithm l.messages l.made l.out l.fn.meter l.meter;
+    }

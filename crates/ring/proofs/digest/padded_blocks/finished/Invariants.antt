@@ -1,0 +1,13 @@
+use Rattle.std.proofs.Common.{◌≡◌, ◌-◌, IsTrue}
+use Rattle.ring_core.specs.Cost.{raised}
+use Rattle.ring.specs.Each.{words_at}
+use Rattle.ring.specs.State.{chaining_words, is_state_of}
+use Rattle.ring.proofs.digest.padded_blocks.finished.Given as goal
+
+abbrev pub invariant-rest : goal.invariant-rest
+invariant-rest g l =
+    record {
+      sized : IsTrue (is_state_of l.algorithm l.state);
+      words : chaining_words l.algorithm l.state ≡ words_at l.algorithm l.message l.number;
+      cost : l.meter ≡ raised l.fn.meter (l.number - l.count) 0;
+    }

@@ -1,0 +1,12 @@
+use Rattle.std.proofs.Common.{◌≡◌, ℕ, ◌*◌, ◌<◌}
+use Rattle.ring_core.specs.Cost.{raised}
+use Rattle.ring.specs.Each.{HasWords, message_at, words_at}
+use Rattle.ring.proofs.digest.together.states_after.Given as goal
+
+abbrev pub invariant-blocks-2 : goal.invariant-blocks-2
+invariant-blocks-2 g l =
+    record {
+      words : (i : ℕ) → i < g.H.SideBySide.LANES → HasWords l.algorithm
+          (words_at l.algorithm (message_at l.messages i) l.number) (g.H.SideBySide.lane i l.states);
+      cost : l.meter ≡ raised l.fn.meter (g.H.SideBySide.LANES * l.number) 0;
+    }

@@ -1,0 +1,17 @@
+use Rattle.std.proofs.Common.{◌≡◌, get_or, length}
+use Rattle.ring_core.specs.Cost.{raised}
+use Rattle.ring.specs.DeriveEach.{sum_below}
+use Rattle.ring.specs.Jobs.{AreStarts, first_blocks}
+use Rattle.ring.specs.declared.pbkdf2.jobs.Job.{Job}
+use Rattle.ring.proofs.pbkdf2.jobs.starts_of.Given as goal
+
+-- the first i jobs' states are there
+abbrev pub invariant-starts : goal.invariant-starts
+invariant-starts l =
+    record {
+      starts : AreStarts l.fn.jobs l.starts.inner l.starts.outer l.starts.first l.i;
+      lengths : (length l.starts.inner ≡ 8) × ((length l.starts.outer ≡ 8)
+          × (length l.starts.first ≡ 8));
+      cost : (job : Job) → l.meter ≡ raised l.fn.meter
+          (sum_below (λ k. first_blocks (get_or l.fn.jobs k job)) l.i) 0;
+    }

@@ -1,0 +1,64 @@
+use Rattle.std.proofs.Common.{◌<◌, ◌∙◌, ℕ, ap, arith, get_or, length}
+use Rattle.std.proofs.Math.ListN.{length-set}
+use Rattle.std.specs.Int.NonZero.{non_zero_u32_get}
+use Rattle.ring.specs.Jobs.{BeginsWithRound}
+use Rattle.ring.specs.Lanes.{digest_bytes}
+use Rattle.ring.specs.State.{words}
+use Rattle.ring.specs.declared.digest.dynstate.Output.{Output}
+use Rattle.ring.specs.declared.pbkdf2.jobs.Job.{Job}
+use Rattle.ring.proofs.Jobs.{cost_jobs, lane-round, put-next, sized-at, start-at, word-size}
+use Rattle.ring.proofs.Lanes.{digest_written}
+use Rattle.ring.proofs.pbkdf2.jobs.write_in_lanes.Goals as goal
+
+pub new-inner-requires-clause-sized : goal.new-inner-requires-clause-sized
+new-inner-requires-clause-sized g c = λ i s below.
+    (sized-at c.requires.each c.starts_of-starts.ensures.starts i s s s
+    (omega (arith, below, c.requires.lanes))).0
+
+pub new-outer-requires-clause-sized : goal.new-outer-requires-clause-sized
+new-outer-requires-clause-sized g c = λ i s below.
+    (sized-at c.requires.each c.starts_of-starts.ensures.starts i s s s
+    (omega (arith, below, c.requires.lanes))).1.0
+
+pub new-first-requires-clause-sized : goal.new-first-requires-clause-sized
+new-first-requires-clause-sized g c = λ i s below.
+    (sized-at c.requires.each c.starts_of-starts.ensures.starts i s s s
+    (omega (arith, below, c.requires.lanes))).1.1
+
+pub rounds-preserved : goal.rounds-preserved
+rounds-preserved g c =
+    let a = g.H.SideBySide.algorithm in
+    let i = c.rounds.i in
+    let jobs = c.args.jobs.now in
+    let state = c.state.result in
+    let output = c.format_output in
+    let below : i < length jobs = omega arith in
+    let lane : i < g.H.SideBySide.LANES = omega arith in
+    let written = digest_written a (words state) _ (word-size a state c.state.ensures.sized)
+    output.ensures.count output.ensures.bytes ∙ ap (digest_bytes a) c.state.ensures.words in
+    let here = λ (job : Job). lane-round _ _ (c.requires.each i job below)
+    (start-at c.requires.each c.starts_of-starts.ensures.starts i job state state state below) (
+      c.new-inner.ensures i state lane,
+      (
+        c.new-outer.ensures i state lane,
+        c.new-first.ensures i state lane,
+      ),
+    ) (c.xor_iterates-sums.ensures.ok i) written in
+    record {
+      written = put-next (λ (k : ℕ) (out : Output). (job : Job)
+          → BeginsWithRound (get_or jobs k job) (non_zero_u32_get c.args.iterations) out.0)
+          c.rounds.rounds i output.result (omega arith) c.rounds.invariant.written here;
+      count = simp length-set c.rounds.invariant.count;
+    }
+
+pub returns-clause-ok : goal.returns-clause-ok
+returns-clause-ok g c = λ i job room below.
+    c.rounds.invariant.written i room (omega (arith, below)) job
+
+pub returns-clause-cost : goal.returns-clause-cost
+returns-clause-cost g c = λ job.
+    let jobs = c.args.jobs.now in
+    cost_jobs c.args.meter.now {m2 = c.xor_iterates-sums.new.meter} jobs job
+    (non_zero_u32_get c.args.iterations) (length jobs)
+    (c.starts_of-starts.ensures.cost job)
+    (rw (← c.requires.lanes) at c.xor_iterates-sums.ensures.cost)

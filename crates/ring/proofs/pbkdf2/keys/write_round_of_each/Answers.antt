@@ -1,0 +1,62 @@
+use Rattle.std.proofs.Common.{◌≡◌, ℕ, List, refl, rules, ◌∙◌, ap, arith, length, sym, take}
+use Rattle.std.proofs.lemmas.List.{get_or_default, length-take-le}
+use Rattle.std.specs.Int.NonZero.{non_zero_u32_get}
+use Rattle.ring_core.specs.Cost.{raised}
+use Rattle.ring.specs.Lanes.{CanRunTogether}
+use Rattle.ring.specs.declared.digest.algorithm.Algorithm.{Algorithm}
+use Rattle.ring.specs.declared.pbkdf2.jobs.Job.{Job}
+use Rattle.ring.proofs.Each.{message-read}
+use Rattle.ring.proofs.KeysAt.{IsJobAt, jobs-blocks, jobs-can, jobs-rounds, some_job}
+use Rattle.ring.proofs.Places.{places-next, places-none}
+use Rattle.ring.proofs.pbkdf2.keys.write_round_of_each.Goals as goal
+
+-- as many jobs are run as there are keys
+several : (a : Algorithm) {n : ℕ} (jobs : List Job) → CanRunTogether a n → length jobs ≡ 8
+    → length (take n jobs) ≡ n
+several a {n = n} jobs can eight = length-take-le n jobs (grind (arith, can, eight))
+
+pub jobs-init : goal.jobs-init
+jobs-init c = (
+  refl,
+  λ d. places-none (IsJobAt c.args.keys.now c.args.salts.now c.args.number) d _,
+)
+
+pub jobs-preserved : goal.jobs-preserved
+jobs-preserved c =
+    let i = c.jobs.i in
+    let keys = c.args.keys.now in
+    let salts = c.args.salts.now in
+    let eight = c.jobs.invariant.0 in (
+      search (rules, eight),
+      λ d. places-next (IsJobAt keys salts c.args.number) d i (c.jobs.invariant.1 d)
+          (grind (arith, eight, c.requires.together))
+          (record {
+            key = λ k. c.index-keys-i.is
+                ∙ get_or_default keys i c.index-keys-i.result k c.jobs-test.true;
+            salt = sym (message-read salts i);
+            round = refl;
+          }),
+    )
+
+pub run_jobs-requires-clause-each : goal.run_jobs-requires-clause-each
+run_jobs-requires-clause-each c =
+    let long = several c.args.algorithm c.jobs.jobs c.requires.together c.jobs-test.array_long in
+    let all : c.jobs.i ≡ length c.args.keys.now = omega arith in
+    rw long (jobs-can (rw all at c.jobs.invariant.1) c.requires.keys c.requires.within)
+
+pub returns-clause-ok : goal.returns-clause-ok
+returns-clause-ok c =
+    let long = several c.args.algorithm c.jobs.jobs c.requires.together c.jobs-test.array_long in
+    let all : c.jobs.i ≡ length c.args.keys.now = omega arith in
+    jobs-rounds (rw all at c.jobs.invariant.1) c.requires.keys
+    (non_zero_u32_get c.args.iterations) _ (some_job c.index-keys-0.result)
+    (λ i room below. c.run_jobs.ensures.ok i (some_job c.index-keys-0.result) room (rw long below))
+
+pub returns-clause-cost : goal.returns-clause-cost
+returns-clause-cost c =
+    let long = several c.args.algorithm c.jobs.jobs c.requires.together c.jobs-test.array_long in
+    let all : c.jobs.i ≡ length c.args.keys.now = omega arith in
+    rw long at (c.run_jobs.ensures.cost (some_job c.index-keys-0.result))
+    ∙ ap (λ (z : ℕ). raised c.args.meter.now z 0)
+    (jobs-blocks (rw all at c.jobs.invariant.1) c.requires.keys
+    (non_zero_u32_get c.args.iterations) (some_job c.index-keys-0.result))

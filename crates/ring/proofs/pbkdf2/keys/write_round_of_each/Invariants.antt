@@ -1,0 +1,10 @@
+use Rattle.std.proofs.Common.{◌≡◌, length}
+use Rattle.ring.specs.declared.pbkdf2.jobs.Job.{Job}
+use Rattle.ring.proofs.KeysAt.{IsJobAt}
+use Rattle.ring.proofs.Places.{HoldsBelow}
+use Rattle.ring.proofs.pbkdf2.keys.write_round_of_each.Given as goal
+
+abbrev pub invariant-jobs : goal.invariant-jobs
+invariant-jobs l =
+    (length l.jobs ≡ 8)
+    × ((d : Job) → HoldsBelow (IsJobAt l.keys l.salts l.number) d l.i l.jobs)

@@ -1,0 +1,221 @@
+//! One lane: a state as it is.
+
+ghost use Rattle.std.specs.Prelude.{◌≡◌, map};
+ghost use Rattle.ring_core.specs.Bytes.{xor_lists};
+ghost use Rattle.ring_core.specs.Sha2.{words_32, words_64};
+
+use crate::digest::dynstate::DynState;
+use crate::digest::side_by_side::in_lanes::SideBySide;
+use crate::digest::side_by_side::paddings::{
+    SHA1_PADDING, SHA256_PADDING, SHA384_PADDING, SHA512_256_PADDING, SHA512_PADDING,
+};
+use ring_core::cost::Meter;
+use ring_core::digest::sha1::sha1_block_of_words_counted;
+use ring_core::digest::sha2::{
+    State32, State64, block_of_words_32_counted, block_of_words_64_counted,
+};
+use ring_core::digest::word::Word;
+
+// The exclusive or of the words of two states.
+#[inline(always)]
+fn xored_words<W: Word>(sum: [W; 8], digest: [W; 8]) -> [W; 8]
+    ensures { map W.value result ≡ xor_lists (map W.value sum) (map W.value digest) }
+{
+    let [a, b, c, d, e, f, g, h] = sum;
+    let [i, j, k, l, m, n, o, p] = digest;
+    [
+        a.bit_xor(i),
+        b.bit_xor(j),
+        c.bit_xor(k),
+        d.bit_xor(l),
+        e.bit_xor(m),
+        f.bit_xor(n),
+        g.bit_xor(o),
+        h.bit_xor(p),
+    ]
+}
+
+// SHA-1.
+pub(crate) struct Sha1;
+
+impl SideBySide for Sha1 {
+    ghost use Rattle.ring.specs.declared.digest.algorithm.TheConstants.{SHA1_FOR_LEGACY_USE_ONLY};
+
+    type States = State32;
+
+    type Ring = ();
+
+    const LANES: usize = 1;
+
+    ghost LANES = { 1 };
+
+    ghost algorithm = { SHA1_FOR_LEGACY_USE_ONLY };
+
+    ghost lane = { λ i state. words_32 state };
+
+    fn new(states: &[DynState]) -> State32 {
+        states[0].short_words()
+    }
+
+    fn state(states: &State32, i: usize) -> DynState {
+        DynState::As32(*states)
+    }
+
+    #[inline(always)]
+    fn run_digests(_ring: &mut (), states: &mut State32, digests: &State32, meter: &mut Meter) {
+        sha1_block_of_words_counted(states, digests, &SHA1_PADDING, meter)
+    }
+
+    #[inline(always)]
+    fn xor(states: &mut State32, others: &State32) {
+        *states = xored_words(*states, *others);
+    }
+}
+
+// SHA-256.
+pub(crate) struct Sha256;
+
+impl SideBySide for Sha256 {
+    ghost use Rattle.ring.specs.declared.digest.algorithm.TheConstants.{SHA256};
+
+    type States = State32;
+
+    type Ring = ();
+
+    const LANES: usize = 1;
+
+    ghost LANES = { 1 };
+
+    ghost algorithm = { SHA256 };
+
+    ghost lane = { λ i state. words_32 state };
+
+    fn new(states: &[DynState]) -> State32 {
+        states[0].short_words()
+    }
+
+    fn state(states: &State32, i: usize) -> DynState {
+        DynState::As32(*states)
+    }
+
+    #[inline(always)]
+    fn run_digests(_ring: &mut (), states: &mut State32, digests: &State32, meter: &mut Meter) {
+        block_of_words_32_counted(states, digests, &SHA256_PADDING, meter)
+    }
+
+    #[inline(always)]
+    fn xor(states: &mut State32, others: &State32) {
+        *states = xored_words(*states, *others);
+    }
+}
+
+// SHA-384.
+pub(crate) struct Sha384;
+
+impl SideBySide for Sha384 {
+    ghost use Rattle.ring.specs.declared.digest.algorithm.TheConstants.{SHA384};
+
+    type States = State64;
+
+    type Ring = ();
+
+    const LANES: usize = 1;
+
+    ghost LANES = { 1 };
+
+    ghost algorithm = { SHA384 };
+
+    ghost lane = { λ i state. words_64 state };
+
+    fn new(states: &[DynState]) -> State64 {
+        states[0].long_words()
+    }
+
+    fn state(states: &State64, i: usize) -> DynState {
+        DynState::As64(*states)
+    }
+
+    #[inline(always)]
+    fn run_digests(_ring: &mut (), states: &mut State64, digests: &State64, meter: &mut Meter) {
+        block_of_words_64_counted::<6>(states, digests, &SHA384_PADDING, meter)
+    }
+
+    #[inline(always)]
+    fn xor(states: &mut State64, others: &State64) {
+        *states = xored_words(*states, *others);
+    }
+}
+
+// SHA-512.
+pub(crate) struct Sha512;
+
+impl SideBySide for Sha512 {
+    ghost use Rattle.ring.specs.declared.digest.algorithm.TheConstants.{SHA512};
+
+    type States = State64;
+
+    type Ring = ();
+
+    const LANES: usize = 1;
+
+    ghost LANES = { 1 };
+
+    ghost algorithm = { SHA512 };
+
+    ghost lane = { λ i state. words_64 state };
+
+    fn new(states: &[DynState]) -> State64 {
+        states[0].long_words()
+    }
+
+    fn state(states: &State64, i: usize) -> DynState {
+        DynState::As64(*states)
+    }
+
+    #[inline(always)]
+    fn run_digests(_ring: &mut (), states: &mut State64, digests: &State64, meter: &mut Meter) {
+        block_of_words_64_counted::<8>(states, digests, &SHA512_PADDING, meter)
+    }
+
+    #[inline(always)]
+    fn xor(states: &mut State64, others: &State64) {
+        *states = xored_words(*states, *others);
+    }
+}
+
+// SHA-512/256.
+pub(crate) struct Sha512_256;
+
+impl SideBySide for Sha512_256 {
+    ghost use Rattle.ring.specs.declared.digest.algorithm.TheConstants.{SHA512_256};
+
+    type States = State64;
+
+    type Ring = ();
+
+    const LANES: usize = 1;
+
+    ghost LANES = { 1 };
+
+    ghost algorithm = { SHA512_256 };
+
+    ghost lane = { λ i state. words_64 state };
+
+    fn new(states: &[DynState]) -> State64 {
+        states[0].long_words()
+    }
+
+    fn state(states: &State64, i: usize) -> DynState {
+        DynState::As64(*states)
+    }
+
+    #[inline(always)]
+    fn run_digests(_ring: &mut (), states: &mut State64, digests: &State64, meter: &mut Meter) {
+        block_of_words_64_counted::<4>(states, digests, &SHA512_256_PADDING, meter)
+    }
+
+    #[inline(always)]
+    fn xor(states: &mut State64, others: &State64) {
+        *states = xored_words(*states, *others);
+    }
+}

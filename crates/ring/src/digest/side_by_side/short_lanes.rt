@@ -1,0 +1,130 @@
+//! SHA-1 and SHA-256: states in the lanes of vectors of 32-bit words.
+
+ghost use Rattle.std.specs.Prelude.{◌≡◌, ℕ, ◌<◌, ◌≤◌, [], get_or, length};
+ghost use Rattle.ring_core.specs.Lane.{words_of_lane};
+ghost use Rattle.ring_core.specs.Sha2.{words_32};
+ghost use Rattle.ring.specs.State.{state_word_len, words};
+ghost use Rattle.ring.specs.declared.digest.dynstate.DynState.{DynState};
+
+use crate::digest::dynstate::DynState;
+use crate::digest::side_by_side::in_lanes::{MAX_LANES, SideBySide};
+use crate::digest::side_by_side::paddings::{SHA1_PADDING, SHA256_PADDING};
+use ring_core::cost::Meter;
+use ring_core::digest::sha1::sha1_block_of_words_lanes_counted;
+use ring_core::digest::sha2::{State32, block_of_words_lanes_counted};
+use ring_core::digest::states::{Ring, States};
+use ring_core::digest::word::in_lanes::InLanes;
+use ring_core::digest::word::lane_word::{LaneWord, Vector};
+use std::num::Wrapping;
+use std::simd::{u32x4, u32x8};
+
+// The words of the states, in room for the greatest number of lanes.
+fn words_of(states: &[DynState]) -> [State32; MAX_LANES]
+    requires most { length states.now ≤ 8 }
+    requires sized { (i : ℕ) (s : DynState) → i < length states.now
+        → state_word_len (get_or states.now i s) ≡ 4 }
+    ensures { (i : ℕ) (s : DynState) → i < length states.now
+        → words_32 (get_or result i []) ≡ words (get_or states.now i s) }
+{
+    let mut all = [[Wrapping(0); 8]; MAX_LANES];
+    'lanes: for i in 0..states.len() {
+        all[i] = states[i].short_words();
+    }
+    all
+}
+
+// SHA-1 in the lanes of a vector.
+pub(crate) struct Sha1In<V>(V);
+
+impl<V: Vector<One = Wrapping<u32>>> SideBySide for Sha1In<V> {
+    ghost use Rattle.ring.specs.declared.digest.algorithm.TheConstants.{SHA1_FOR_LEGACY_USE_ONLY};
+
+    type States = States<V>;
+
+    type Ring = Ring<V>;
+
+    const LANES: usize = V::LANES;
+
+    ghost LANES = { V.LANES };
+
+    ghost algorithm = { SHA1_FOR_LEGACY_USE_ONLY };
+
+    ghost lane = { λ i states. words_of_lane (V.lane i) states };
+
+    fn new(states: &[DynState]) -> States<V> {
+        let words = words_of(states);
+        States::new(&words[..V::LANES])
+    }
+
+    fn state(states: &States<V>, i: usize) -> DynState {
+        DynState::As32(states.state(i))
+    }
+
+    #[inline(always)]
+    fn run_digests(
+        ring: &mut Ring<V>,
+        states: &mut States<V>,
+        digests: &States<V>,
+        meter: &mut Meter,
+    ) {
+        sha1_block_of_words_lanes_counted(ring, states, digests, &SHA1_PADDING, meter)
+    }
+
+    #[inline(always)]
+    fn xor(states: &mut States<V>, others: &States<V>) {
+        states.xor_assign(others)
+    }
+}
+
+// SHA-256 in the lanes of a vector.
+pub(crate) struct Sha256In<V>(V);
+
+impl<V: Vector<One = Wrapping<u32>>> SideBySide for Sha256In<V> {
+    ghost use Rattle.ring.specs.declared.digest.algorithm.TheConstants.{SHA256};
+
+    type States = States<V>;
+
+    type Ring = Ring<V>;
+
+    const LANES: usize = V::LANES;
+
+    ghost LANES = { V.LANES };
+
+    ghost algorithm = { SHA256 };
+
+    ghost lane = { λ i states. words_of_lane (V.lane i) states };
+
+    fn new(states: &[DynState]) -> States<V> {
+        let words = words_of(states);
+        States::new(&words[..V::LANES])
+    }
+
+    fn state(states: &States<V>, i: usize) -> DynState {
+        DynState::As32(states.state(i))
+    }
+
+    #[inline(always)]
+    fn run_digests(
+        ring: &mut Ring<V>,
+        states: &mut States<V>,
+        digests: &States<V>,
+        meter: &mut Meter,
+    ) {
+        block_of_words_lanes_counted::<V, 8>(ring, states, digests, &SHA256_PADDING, meter)
+    }
+
+    #[inline(always)]
+    fn xor(states: &mut States<V>, others: &States<V>) {
+        states.xor_assign(others)
+    }
+}
+
+// Room for a schedule of eight lanes.
+pub(crate) fn eight_short() -> Ring<u32x8> {
+    [InLanes::splat(Wrapping(0)); 16]
+}
+
+// Room for a schedule of four lanes.
+pub(crate) fn four_short() -> Ring<u32x4> {
+    [InLanes::splat(Wrapping(0)); 16]
+}

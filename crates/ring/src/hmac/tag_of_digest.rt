@@ -1,0 +1,33 @@
+//! Tags of messages as long as a digest, side by side: such a message is the words that the block
+//! function ended with, and its padding after a key's block is the same for all.
+
+ghost use Rattle.std.specs.Prelude.{◌≡◌, ℕ, ◌*◌, ◌<◌, List};
+ghost use Rattle.ring_core.specs.Cost.{raised};
+ghost use Rattle.ring.specs.Hmac.{hmac_of};
+ghost use Rattle.ring.specs.Lanes.{IsKeyInLane, digest_bytes};
+
+use crate::digest::side_by_side::SideBySide;
+use ring_core::cost::Meter;
+
+// Replaces the words of a digest by those of its tag, in each lane under the key of that lane.
+#[inline(always)]
+pub(crate) fn replace_by_tag<H: SideBySide>(
+    ring: &mut H::Ring,
+    inner: &H::States,
+    outer: &H::States,
+    digest: &mut H::States,
+    meter: &mut Meter,
+)
+    requires { 0 < H.LANES }
+    ensures ok { (i : ℕ) (k : List ℕ)
+        → IsKeyInLane H.algorithm (H.lane i inner.now) (H.lane i outer.now) k
+        → digest_bytes H.algorithm (H.lane i digest.new)
+        ≡ hmac_of H.algorithm k (digest_bytes H.algorithm (H.lane i digest.old)) }
+    ensures cost { meter.new ≡ raised meter.old (2 * H.LANES) 0 }
+{
+    let mut inside = *inner;
+    H::run_digests(ring, &mut inside, digest, meter);
+    let mut outside = *outer;
+    H::run_digests(ring, &mut outside, &inside, meter);
+    *digest = outside;
+}

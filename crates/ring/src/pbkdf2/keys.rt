@@ -1,0 +1,115 @@
+//! Keys of several secrets, and their rounds of one number.
+
+ghost use Rattle.std.specs.Prelude.{◌≡◌, ℕ, ◌+◌, ◌<◌, ◌≤◌, List, get_or, length, take};
+ghost use Rattle.std.specs.Int.NonZero.{non_zero_u32_get};
+ghost use Rattle.ring_core.specs.Cost.{raised};
+ghost use Rattle.ring.specs.Algorithm.{max_input_len, output_len};
+ghost use Rattle.ring.specs.Cost.{iterate_blocks, key_blocks};
+ghost use Rattle.ring.specs.DeriveEach.{AreKeysOf, bytes_at, sum_below};
+ghost use Rattle.ring.specs.Hmac.{KeyStandsFor, hmac_digest, key_algorithm};
+ghost use Rattle.ring.specs.Lanes.{CanRunTogether};
+ghost use Rattle.ring.specs.Limits.{IsTagWithin};
+ghost use Rattle.ring.specs.Pbkdf2.{xored};
+ghost use Rattle.ring.specs.declared.digest.dynstate.Output.{Output};
+
+use crate::digest;
+use crate::digest::dynstate::Output;
+use crate::digest::side_by_side::MAX_LANES;
+use crate::hmac::Key;
+use crate::hmac::algorithm::Algorithm;
+use crate::pbkdf2::jobs::{Job, run_jobs};
+use ring_core::cost::Meter;
+use std::num::NonZeroU32;
+
+// The key of a secret that has one.
+pub(crate) fn key_within(algorithm: Algorithm, secret: &[u8], meter: &mut Meter) -> Key
+    requires { length secret.now ≤ max_input_len (hmac_digest algorithm) }
+    ensures ok { KeyStandsFor result secret.now }
+    ensures cost { meter.new
+        ≡ raised meter.old (key_blocks (hmac_digest algorithm) (length secret.now)) 0 }
+    ensures algorithm { key_algorithm result ≡ hmac_digest algorithm }
+{
+    match Key::new_counted(algorithm, secret, meter) {
+        Ok(key) => key,
+        // The secret is within the limit.
+        Err(_) => unreachable!(),
+    }
+}
+
+// The keys of four secrets.
+pub(crate) fn four_keys(algorithm: Algorithm, secrets: &[&[u8]], meter: &mut Meter) -> [Key; 4]
+    requires secrets { length secrets.now ≡ 4 }
+    requires within { (i : ℕ) → i < 4
+        → length (bytes_at secrets.now i) ≤ max_input_len (hmac_digest algorithm) }
+    ensures ok { AreKeysOf (hmac_digest algorithm) result (bytes_at secrets.now) }
+    ensures cost { meter.new ≡ raised meter.old (sum_below
+        (λ i. key_blocks (hmac_digest algorithm) (length (bytes_at secrets.now i))) 4) 0 }
+{
+    [
+        key_within(algorithm, secrets[0], meter),
+        key_within(algorithm, secrets[1], meter),
+        key_within(algorithm, secrets[2], meter),
+        key_within(algorithm, secrets[3], meter),
+    ]
+}
+
+// The keys of eight secrets.
+pub(crate) fn eight_keys(algorithm: Algorithm, secrets: &[&[u8]], meter: &mut Meter) -> [Key; 8]
+    requires secrets { length secrets.now ≡ 8 }
+    requires within { (i : ℕ) → i < 8
+        → length (bytes_at secrets.now i) ≤ max_input_len (hmac_digest algorithm) }
+    ensures ok { AreKeysOf (hmac_digest algorithm) result (bytes_at secrets.now) }
+    ensures cost { meter.new ≡ raised meter.old (sum_below
+        (λ i. key_blocks (hmac_digest algorithm) (length (bytes_at secrets.now i))) 8) 0 }
+{
+    [
+        key_within(algorithm, secrets[0], meter),
+        key_within(algorithm, secrets[1], meter),
+        key_within(algorithm, secrets[2], meter),
+        key_within(algorithm, secrets[3], meter),
+        key_within(algorithm, secrets[4], meter),
+        key_within(algorithm, secrets[5], meter),
+        key_within(algorithm, secrets[6], meter),
+        key_within(algorithm, secrets[7], meter),
+    ]
+}
+
+// Writes the round of this number of each salt, under the key at its place.
+pub(crate) fn write_round_of_each(
+    algorithm: digest::Algorithm,
+    keys: &[Key],
+    iterations: NonZeroU32,
+    salts: &[&[u8]],
+    number: u32,
+    rounds: &mut [Output],
+    meter: &mut Meter,
+)
+    requires together { CanRunTogether algorithm (length keys.now) }
+    requires keys { (i : ℕ) (key : Key) → i < length keys.now
+        → key_algorithm (get_or keys.now i key) ≡ algorithm }
+    requires salts { length salts.now ≡ length keys.now }
+    requires rounds { length rounds.old ≡ length keys.now }
+    requires within { (i : ℕ) → i < length keys.now
+        → IsTagWithin algorithm (length (bytes_at salts.now i) + 4) }
+    ensures ok { (p : ℕ → List ℕ) (i : ℕ) (room : Output)
+        → AreKeysOf algorithm keys.now p → i < length keys.now
+        → take (output_len algorithm) (get_or rounds.new i room).0
+        ≡ xored algorithm (p i) (bytes_at salts.now i) number (non_zero_u32_get iterations) }
+    ensures cost { meter.new ≡ raised meter.old (sum_below (λ i. iterate_blocks algorithm
+        (length (bytes_at salts.now i)) (non_zero_u32_get iterations)) (length keys.now)) 0 }
+{
+    let first = Job {
+        key: &keys[0],
+        salt: salts[0],
+        number,
+    };
+    let mut jobs = [first; MAX_LANES];
+    'jobs: for i in 0..keys.len() {
+        jobs[i] = Job {
+            key: &keys[i],
+            salt: salts[i],
+            number,
+        };
+    }
+    run_jobs(algorithm, &jobs[..keys.len()], iterations, rounds, meter);
+}

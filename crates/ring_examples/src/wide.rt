@@ -1,0 +1,103 @@
+//! Several digests and keys at once, over vectors of 256 bits.
+
+ghost use Rattle.std.specs.Prelude.{◌≡◌, ◌↔◌, IfOk, IsErr, IsOk, length};
+ghost use Rattle.std.specs.Int.NonZero.{non_zero_u32_get};
+ghost use Rattle.ring.specs.DeriveEach.{AreDerived, AreVerified, CanDeriveEach, CanVerifyEach};
+ghost use Rattle.ring.specs.Each.{AreDigests, CanDigestEach};
+ghost use Rattle.ring.specs.Limits.{CanDerive};
+ghost use Rattle.ring.specs.Pbkdf2.{IsDerived, dk};
+
+use ring::digest::{Algorithm, Digest, SHA256, SHA256_OUTPUT_LEN, digest};
+use ring::error::Unspecified;
+use ring::pbkdf2::PBKDF2_HMAC_SHA256;
+use ring::wide;
+use std::num::NonZeroU32;
+
+/// The digests of eight messages, computed side by side.
+pub fn digests_of_eight(
+    algorithm: &Algorithm,
+    messages: &[&[u8]; 8],
+) -> Result<[Digest; 8], Unspecified>
+    ensures ok { IfOk result (λ digests. AreDigests digests algorithm.now messages.now) }
+    ensures refused { IsOk result ↔ CanDigestEach algorithm.now messages.now 8 }
+{
+    let mut digests = [digest(algorithm, &[])?; 8];
+    wide::digest_each(algorithm, messages, &mut digests)?;
+    Ok(digests)
+}
+
+/// The bytes of eight digests of SHA-256.
+pub const LONG_KEY_LEN: usize = 256;
+
+/// A key of eight rounds, which are computed side by side.
+pub fn long_key_of(
+    iterations: NonZeroU32,
+    salt: &[u8],
+    password: &[u8],
+) -> Result<[u8; LONG_KEY_LEN], Unspecified>
+    ensures ok { IfOk result (λ key.
+        key ≡ dk SHA256 password.now salt.now (non_zero_u32_get iterations) 256) }
+    ensures refused { IsOk result
+        ↔ CanDerive SHA256 (length password.now) (length salt.now) 256 }
+{
+    let mut key = [0; LONG_KEY_LEN];
+    wide::derive(PBKDF2_HMAC_SHA256, iterations, salt, password, &mut key)?;
+    Ok(key)
+}
+
+/// Ok exactly where `key` isn't empty, and is what is derived from this password.
+pub fn verify_long_key(
+    iterations: NonZeroU32,
+    salt: &[u8],
+    password: &[u8],
+    key: &[u8],
+) -> Result<(), Unspecified>
+    ensures ok { IsOk result
+        ↔ IsDerived SHA256 password.now salt.now (non_zero_u32_get iterations) key.now }
+{
+    wide::verify(PBKDF2_HMAC_SHA256, iterations, salt, password, key)
+}
+
+/// What a login stores of eight passwords, derived side by side.
+pub fn stored_of_eight(
+    iterations: NonZeroU32,
+    salts: &[&[u8]; 8],
+    passwords: &[&[u8]; 8],
+) -> Result<[[u8; SHA256_OUTPUT_LEN]; 8], Unspecified>
+    ensures ok { IfOk result (λ stored. AreDerived stored SHA256
+        salts.now passwords.now (non_zero_u32_get iterations) 32) }
+    ensures refused { IsOk result ↔ CanDeriveEach SHA256 salts.now passwords.now 8 32 }
+{
+    let mut stored = [[0; SHA256_OUTPUT_LEN]; 8];
+    wide::derive_each(
+        PBKDF2_HMAC_SHA256,
+        iterations,
+        salts,
+        passwords,
+        &mut stored,
+    )?;
+    Ok(stored)
+}
+
+/// Whether each of eight passwords is the one of what was stored at its place.
+pub fn verify_eight(
+    iterations: NonZeroU32,
+    salts: &[&[u8]; 8],
+    passwords: &[&[u8]; 8],
+    stored: &[[u8; SHA256_OUTPUT_LEN]; 8],
+) -> Result<[bool; 8], Unspecified>
+    ensures ok { IfOk result (λ matches. AreVerified matches SHA256
+        salts.now passwords.now (non_zero_u32_get iterations) stored.now) }
+    ensures refused { IsOk result ↔ CanVerifyEach SHA256 salts.now passwords.now stored.now 8 32 }
+{
+    let mut matches = [false; 8];
+    wide::verify_each(
+        PBKDF2_HMAC_SHA256,
+        iterations,
+        salts,
+        passwords,
+        stored,
+        &mut matches,
+    )?;
+    Ok(matches)
+}

@@ -1,0 +1,70 @@
+//! The callers of `ring_examples` over vectors of 256 bits, each against a value from outside.
+
+use crate::texts::is_hex_of;
+use ring::digest::{Context, Digest, SHA256, digest};
+use ring::error::Unspecified;
+use ring_examples::wide::{
+    digests_of_eight, long_key_of, stored_of_eight, verify_eight, verify_long_key,
+};
+use std::num::NonZeroU32;
+
+// FIPS 180-4's own message of one block, and NIST's digest of it.
+const MESSAGE: &[u8] = b"abc";
+
+const OF_MESSAGE: &str = "ba7816bf8f01cfea414140de5dae2223b00361a396177a9cb410ff61f20015ad";
+
+#[test]
+fn digests_of_eight_messages(rt: HostRuntime) -> Result<(), Unspecified> {
+    let digests = digests_of_eight(&SHA256, &[MESSAGE; 8])?;
+    for made in &digests {
+        assert!(rt; is_hex_of(OF_MESSAGE, made.as_ref()));
+    }
+    Ok(())
+}
+
+// From Python: the digest by SHA-256 of the 256 bytes that `hashlib.pbkdf2_hmac` derives with one
+// iteration.
+const OF_LONG_KEY: &str = "901ef29a5f867fa1b37e587fce3d2972b3793872fbb718e181989f7847a6b970";
+
+#[test]
+fn a_key_of_eight_rounds(rt: HostRuntime) -> Result<(), Unspecified> {
+    let one = NonZeroU32::MIN;
+    let key = long_key_of(one, b"salt", b"password")?;
+    assert!(rt;
+        is_hex_of(OF_LONG_KEY, digest(&SHA256, &key)?.as_ref())
+            && verify_long_key(one, b"salt", b"password", &key).is_ok()
+            && verify_long_key(one, b"salt", b"Password", &key).is_err()
+    );
+    Ok(())
+}
+
+const SALTS: [&[u8]; 8] = [b"a", b"b", b"c", b"d", b"e", b"f", b"g", b"h"];
+
+const PASSWORDS: [&[u8]; 8] = [
+    b"one", b"two", b"three", b"four", b"five", b"six", b"seven", b"eight",
+];
+
+// From Python: the digest by SHA-256 of what `hashlib.pbkdf2_hmac` derives of these, with one
+// iteration, one after another.
+const OF_STORED: &str = "d37ce0e64d0d22ae75338cc2cde3f36705dfb328ddac60426fc4868e9eb19e87";
+
+// The digest of all of them, one after another.
+fn digest_of(stored: &[[u8; 32]; 8]) -> Result<Digest, Unspecified> {
+    let mut context = Context::new(&SHA256);
+    for one in stored {
+        context.update(one);
+    }
+    context.finish()
+}
+
+#[test]
+fn eight_passwords(rt: HostRuntime) -> Result<(), Unspecified> {
+    let one = NonZeroU32::MIN;
+    let stored = stored_of_eight(one, &SALTS, &PASSWORDS)?;
+    assert!(rt;
+        is_hex_of(OF_STORED, digest_of(&stored)?.as_ref())
+            && verify_eight(one, &SALTS, &PASSWORDS, &stored)? == [true; 8]
+            && verify_eight(one, &SALTS, &SALTS, &stored)? == [false; 8]
+    );
+    Ok(())
+}

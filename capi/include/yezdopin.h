@@ -5,9 +5,10 @@
  * RFC 2898), each call proved to give the standard's bytes. What is proved and what is not stands
  * in README.md, which is installed as share/doc/yezdopin/README.md.
  *
- * Each call returns whatever it is given. It takes no memory from the system, keeps no state and
- * sets no errno, so that calls may run in any threads at once, as long as no two share memory that
- * one of them writes: one thread a context, while one key serves all threads.
+ * Each call returns whatever it is given. It takes no memory from the system, keeps no state but a
+ * byte that remembers what the processor has, and sets no errno, so that calls may run in any
+ * threads at once, as long as no two share memory that one of them writes: one thread a context,
+ * while one key serves all threads.
  *
  * The caller sees to it, and nothing tests, that
  * - a pointer with a length behind it is that of so many bytes, which may be read, or written where
@@ -149,9 +150,9 @@ typedef struct {
 /* The digests of `count` messages, one after another in `out`, that of messages[i] from
  * i * yz_output_len(algorithm) on: `out_len` is `count` times that length, or the call is refused.
  * They are those of yz_digest. From four messages on it is faster under YZ_SHA1 and YZ_SHA256,
- * which make four at a time side by side, the more so the more messages there are and the more
- * alike their lengths. Fewer, and few short ones under the others, are faster by yz_digest, since
- * each call runs a block of its own first. */
+ * which run several side by side, the more so the more messages there are, the more alike their
+ * lengths, and on a processor with AVX2. Fewer, and few short ones under the others, are faster by
+ * yz_digest, since each call runs a block of its own first. */
 yz_status yz_digest_each(uint32_t algorithm, const yz_message *messages, size_t count,
                          uint8_t *out, size_t out_len) YZ_MUST_CHECK;
 

@@ -120,7 +120,7 @@ openssl-bench: $(PROVIDER) openssl/bench/bench.c
 PROVIDER_ROOT = $(OUT)/openssl/root
 openssl-installed: $(PROVIDER)
 	rm -rf $(PROVIDER_ROOT)
-	$(MAKE) --no-print-directory -o $(BUILT) openssl-install DESTDIR=$(PROVIDER_ROOT) \
+	$(MAKE) --no-print-directory $(KEPT) openssl-install DESTDIR=$(PROVIDER_ROOT) \
 	    MODULESDIR=/modules PROVIDER_DOCDIR=/doc >/dev/null
 	OPENSSL_CONF=$(PROVIDER_ROOT)/doc/yezdopin.cnf OPENSSL_MODULES=$(PROVIDER_ROOT)/modules \
 	    openssl list -providers | grep -q 'name: Yezdopin'
@@ -144,7 +144,7 @@ PROVIDER_PACKAGE = $(shell echo '\#include <openssl/core_dispatch.h>' | $(CC) -E
     && echo deb-$(PROVIDER_DEB))
 dist-deb-$(PROVIDER_DEB): $(PROVIDER)
 	rm -rf "$(WORK)/$(PROVIDER_DEB)"
-	$(MAKE) -s --no-print-directory -o $(BUILT) openssl-install DESTDIR="$(WORK)/$(PROVIDER_DEB)" \
+	$(MAKE) -s --no-print-directory $(KEPT) openssl-install DESTDIR="$(WORK)/$(PROVIDER_DEB)" \
 	    MODULESDIR=$(DPKG_LIBDIR)/ossl-modules PROVIDER_DOCDIR=/usr/share/doc/$(PROVIDER_DEB)
 	strip --strip-unneeded --remove-section=.comment \
 	    "$(WORK)/$(PROVIDER_DEB)$(DPKG_LIBDIR)/ossl-modules/yezdopin.so"

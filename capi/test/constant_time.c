@@ -77,10 +77,11 @@ static void digests_of_several(uint32_t n) {
     size_t len = yz_output_len(n);
     begin();
     for (size_t i = 0; i < LENGTHS; i++) {
-        const yz_message five[] = {{message, LEN[i]}, {key, other(i)}, {message, other(i)},
-                                   {message, LEN[i]}, {key, LEN[i]}};
+        const yz_message nine[] = {{message, LEN[i]}, {key, other(i)}, {message, other(i)},
+                                   {message, LEN[i]}, {key, LEN[i]},   {key, other(i)},
+                                   {message, LEN[i]}, {key, LEN[i]},   {message, other(i)}};
         hide_all();
-        is(yz_digest_each(n, five, 5, out, 5 * len), YZ_OK);
+        is(yz_digest_each(n, nine, 9, out, 9 * len), YZ_OK);
     }
     end("digests of several messages", n, false);
 }

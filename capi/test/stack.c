@@ -8,11 +8,13 @@
 #define ROOM (64 * 1024)
 #define PROMISED (8 * 1024)
 #define PAINT 0xa5
+#define COUNT 10
 
 static uint8_t stack[ROOM] __attribute__((aligned(64)));
-static uint8_t bytes[400], out[400];
-static const yz_message messages[] = {{bytes, 400}, {bytes, 300}, {bytes, 400},
-                                      {bytes, 400}, {bytes, 333}, {bytes, 1}};
+static uint8_t bytes[600], out[COUNT * YZ_MAX_OUTPUT_LEN];
+static const yz_message messages[COUNT] = {
+    {bytes, 400}, {bytes, 300}, {bytes, 400}, {bytes, 400}, {bytes, 333},
+    {bytes, 400}, {bytes, 500}, {bytes, 600}, {bytes, 400}, {bytes, 1}};
 static yz_digest_context context;
 static yz_hmac_key key;
 static yz_hmac_context tag;
@@ -39,9 +41,9 @@ static void run(void) {
     case 12: status = yz_hkdf_extract(n, bytes, 300, bytes, 400, out, len); break;
     case 13: status = yz_hkdf_expand(n, bytes, 300, bytes, 200, out, 400); break;
     case 14: status = yz_hkdf(n, bytes, 300, bytes, 400, bytes, 200, out, 400); break;
-    case 15: status = yz_pbkdf2_derive(n, 3, bytes, 300, bytes, 400, out, 400); break;
-    case 16: status = yz_pbkdf2_verify(n, 3, bytes, 300, bytes, 400, out, 400); break;
-    case 17: status = yz_digest_each(n, messages, 6, out, 6 * len); break;
+    case 15: status = yz_pbkdf2_derive(n, 3, bytes, 300, bytes, 400, out, sizeof out); break;
+    case 16: status = yz_pbkdf2_verify(n, 3, bytes, 300, bytes, 400, out, sizeof out); break;
+    case 17: status = yz_digest_each(n, messages, COUNT, out, COUNT * len); break;
     }
     if (status != YZ_OK) printf("call %d of algorithm %u answers %d\n", call, n, status);
 }

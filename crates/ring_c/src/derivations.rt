@@ -8,18 +8,12 @@ ghost use Rattle.ring_c.specs.Number.{pbkdf2_named};
 
 use crate::number::pbkdf2_of_number;
 use crate::status::{NO_ITERATIONS, OK, UNKNOWN_ALGORITHM, UNSPECIFIED, WRONG_LENGTH};
+use crate::width::{Usual, Wide, Width};
 use ring::limits::max_dk_len;
-use ring::pbkdf2;
 use std::num::NonZeroU32;
 
-/// Fills `out` with the key that is derived from `secret` and `salt` in so many `iterations`, by
-/// the PBKDF2 algorithm of the number `algorithm` (RFC 2898, section 5.2).
-///
-/// Refused as `UNKNOWN_ALGORITHM`, as `WRONG_LENGTH` where `out` is longer than `2^32 - 1` digests,
-/// as `NO_ITERATIONS`, and as `UNSPECIFIED` where the secret or the salt is too long. `out` is then
-/// unchanged.
-#[unsafe(no_mangle)]
-pub extern "C" fn yz_pbkdf2_derive(
+// What `yz_pbkdf2_derive` and `yz_pbkdf2_derive_wide` promise, at the width of each.
+fn derive<W: Width>(
     algorithm: u32,
     iterations: u32,
     salt: &[u8],
@@ -50,7 +44,98 @@ pub extern "C" fn yz_pbkdf2_derive(
     let Some(iterations) = NonZeroU32::new(iterations) else {
         return NO_ITERATIONS;
     };
-    match pbkdf2::derive(algorithm, iterations, salt, secret, out) {
+    match W::derive(algorithm, iterations, salt, secret, out) {
+        Ok(()) => OK,
+        Err(_) => UNSPECIFIED,
+    }
+}
+
+/// Fills `out` with the key that is derived from `secret` and `salt` in so many `iterations`, by
+/// the PBKDF2 algorithm of the number `algorithm` (RFC 2898, section 5.2).
+///
+/// Refused as `UNKNOWN_ALGORITHM`, as `WRONG_LENGTH` where `out` is longer than `2^32 - 1` digests,
+/// as `NO_ITERATIONS`, and as `UNSPECIFIED` where the secret or the salt is too long. `out` is then
+/// unchanged.
+#[unsafe(no_mangle)]
+pub extern "C" fn yz_pbkdf2_derive(
+    algorithm: u32,
+    iterations: u32,
+    salt: &[u8],
+    secret: &[u8],
+    out: &mut [u8],
+) -> i32
+    ensures ok { (a : Algorithm) → pbkdf2_named algorithm ≡ Some a → result ≡ OK
+        → out.new ≡ dk (pbkdf2_digest a) secret.now salt.now iterations (length out.old) }
+    ensures unknown { result ≡ UNKNOWN_ALGORITHM ↔ pbkdf2_named algorithm ≡ None }
+    ensures wrong_length { (a : Algorithm) → pbkdf2_named algorithm ≡ Some a
+        → (result ≡ WRONG_LENGTH ↔ max_dk_len (pbkdf2_digest a) < length out.old) }
+    ensures no_iterations { (a : Algorithm) → pbkdf2_named algorithm ≡ Some a
+        → length out.old ≤ max_dk_len (pbkdf2_digest a)
+        → (result ≡ NO_ITERATIONS ↔ iterations ≡ 0) }
+    ensures refused { (a : Algorithm) → pbkdf2_named algorithm ≡ Some a → 0 < iterations
+        → (result ≡ OK ↔ CanDerive (pbkdf2_digest a)
+        (length secret.now) (length salt.now) (length out.old)) }
+    ensures told { (a : Algorithm) → pbkdf2_named algorithm ≡ Some a → 0 < iterations
+        → length out.old ≤ max_dk_len (pbkdf2_digest a) → result ≢ OK → result ≡ UNSPECIFIED }
+    ensures unchanged { result ≢ OK → out.new ≡ out.old }
+{
+    derive::<Usual>(algorithm, iterations, salt, secret, out)
+}
+
+/// Fills `out` as [`yz_pbkdf2_derive`] does from the same `algorithm`, `iterations`, `salt` and
+/// `secret` (RFC 2898, section 5.2), more rounds of it side by side: for the build for x86-64-v3.
+///
+/// Refused as that call is, with `out` unchanged.
+#[unsafe(no_mangle)]
+pub extern "C" fn yz_pbkdf2_derive_wide(
+    algorithm: u32,
+    iterations: u32,
+    salt: &[u8],
+    secret: &[u8],
+    out: &mut [u8],
+) -> i32
+    ensures ok { (a : Algorithm) → pbkdf2_named algorithm ≡ Some a → result ≡ OK
+        → out.new ≡ dk (pbkdf2_digest a) secret.now salt.now iterations (length out.old) }
+    ensures unknown { result ≡ UNKNOWN_ALGORITHM ↔ pbkdf2_named algorithm ≡ None }
+    ensures wrong_length { (a : Algorithm) → pbkdf2_named algorithm ≡ Some a
+        → (result ≡ WRONG_LENGTH ↔ max_dk_len (pbkdf2_digest a) < length out.old) }
+    ensures no_iterations { (a : Algorithm) → pbkdf2_named algorithm ≡ Some a
+        → length out.old ≤ max_dk_len (pbkdf2_digest a)
+        → (result ≡ NO_ITERATIONS ↔ iterations ≡ 0) }
+    ensures refused { (a : Algorithm) → pbkdf2_named algorithm ≡ Some a → 0 < iterations
+        → (result ≡ OK ↔ CanDerive (pbkdf2_digest a)
+        (length secret.now) (length salt.now) (length out.old)) }
+    ensures told { (a : Algorithm) → pbkdf2_named algorithm ≡ Some a → 0 < iterations
+        → length out.old ≤ max_dk_len (pbkdf2_digest a) → result ≢ OK → result ≡ UNSPECIFIED }
+    ensures unchanged { result ≢ OK → out.new ≡ out.old }
+{
+    derive::<Wide>(algorithm, iterations, salt, secret, out)
+}
+
+// What `yz_pbkdf2_verify` and `yz_pbkdf2_verify_wide` promise, at the width of each.
+fn verify<W: Width>(
+    algorithm: u32,
+    iterations: u32,
+    salt: &[u8],
+    secret: &[u8],
+    derived: &[u8],
+) -> i32
+    ensures ok { (a : Algorithm) → pbkdf2_named algorithm ≡ Some a → 0 < iterations
+        → (result ≡ OK ↔ IsDerived (pbkdf2_digest a)
+        secret.now salt.now iterations derived.now) }
+    ensures unknown { result ≡ UNKNOWN_ALGORITHM ↔ pbkdf2_named algorithm ≡ None }
+    ensures no_iterations { (a : Algorithm) → pbkdf2_named algorithm ≡ Some a
+        → (result ≡ NO_ITERATIONS ↔ iterations ≡ 0) }
+    ensures told { (a : Algorithm) → pbkdf2_named algorithm ≡ Some a → 0 < iterations
+        → result ≢ OK → result ≡ UNSPECIFIED }
+{
+    let Some(algorithm) = pbkdf2_of_number(algorithm) else {
+        return UNKNOWN_ALGORITHM;
+    };
+    let Some(iterations) = NonZeroU32::new(iterations) else {
+        return NO_ITERATIONS;
+    };
+    match W::verify(algorithm, iterations, salt, secret, derived) {
         Ok(()) => OK,
         Err(_) => UNSPECIFIED,
     }
@@ -79,14 +164,29 @@ pub extern "C" fn yz_pbkdf2_verify(
     ensures told { (a : Algorithm) → pbkdf2_named algorithm ≡ Some a → 0 < iterations
         → result ≢ OK → result ≡ UNSPECIFIED }
 {
-    let Some(algorithm) = pbkdf2_of_number(algorithm) else {
-        return UNKNOWN_ALGORITHM;
-    };
-    let Some(iterations) = NonZeroU32::new(iterations) else {
-        return NO_ITERATIONS;
-    };
-    match pbkdf2::verify(algorithm, iterations, salt, secret, derived) {
-        Ok(()) => OK,
-        Err(_) => UNSPECIFIED,
-    }
+    verify::<Usual>(algorithm, iterations, salt, secret, derived)
+}
+
+/// Tests `derived` as [`yz_pbkdf2_verify`] does by the same `algorithm`, `iterations`, `salt` and
+/// `secret` (RFC 2898, section 5.2), more rounds of it side by side: for the build for x86-64-v3.
+///
+/// Refused as that call is.
+#[unsafe(no_mangle)]
+pub extern "C" fn yz_pbkdf2_verify_wide(
+    algorithm: u32,
+    iterations: u32,
+    salt: &[u8],
+    secret: &[u8],
+    derived: &[u8],
+) -> i32
+    ensures ok { (a : Algorithm) → pbkdf2_named algorithm ≡ Some a → 0 < iterations
+        → (result ≡ OK ↔ IsDerived (pbkdf2_digest a)
+        secret.now salt.now iterations derived.now) }
+    ensures unknown { result ≡ UNKNOWN_ALGORITHM ↔ pbkdf2_named algorithm ≡ None }
+    ensures no_iterations { (a : Algorithm) → pbkdf2_named algorithm ≡ Some a
+        → (result ≡ NO_ITERATIONS ↔ iterations ≡ 0) }
+    ensures told { (a : Algorithm) → pbkdf2_named algorithm ≡ Some a → 0 < iterations
+        → result ≢ OK → result ≡ UNSPECIFIED }
+{
+    verify::<Wide>(algorithm, iterations, salt, secret, derived)
 }

@@ -9,11 +9,12 @@ ghost use Rattle.ring.specs.declared.digest.algorithm.Algorithm.{Algorithm};
 ghost use Rattle.ring_c.specs.Each.{bytes_of_each, digests_of};
 
 use crate::status::{OK, UNKNOWN_ALGORITHM, UNSPECIFIED, WRONG_LENGTH};
+use crate::width::{Usual, Wide, Width};
 use ring::digest::{self, Algorithm, Digest};
 use ring::polyfill::slice::write_at;
 use ring::raw::digest_of_number;
 
-// How many digests are held at a time: some groups of four, which is what runs side by side.
+// How many digests are held at a time: some groups of as many as run side by side.
 const GROUP: usize = 16;
 
 // Why the lengths are refused, if they are. One loop makes both tests: the compiler would turn a
@@ -69,7 +70,7 @@ fn write_digests(digests: &[Digest], out: &mut [u8], at: usize) -> usize
 }
 
 // Writes the digests of the messages to `out`, a group at a time.
-fn write_each(algorithm: &Algorithm, messages: &[&[u8]], out: &mut [u8])
+fn write_each<W: Width>(algorithm: &Algorithm, messages: &[&[u8]], out: &mut [u8])
     requires within { CanDigestEach algorithm.now messages.now (length messages.now) }
     requires room { length out.old ≡ length messages.now * output_len algorithm.now }
     ensures { out.new ≡ digests_of algorithm.now messages.now }
@@ -80,7 +81,7 @@ fn write_each(algorithm: &Algorithm, messages: &[&[u8]], out: &mut [u8])
     'groups: while made < messages.len() {
         let count = GROUP.min(messages.len() - made);
         let digests = &mut group[..count];
-        match digest::digest_each(algorithm, &messages[made..made + count], digests) {
+        match W::digest_each(algorithm, &messages[made..made + count], digests) {
             Ok(()) => {}
             // There is a place a message, and each is within the limit.
             Err(_) => unreachable!(),
@@ -88,6 +89,32 @@ fn write_each(algorithm: &Algorithm, messages: &[&[u8]], out: &mut [u8])
         written = write_digests(digests, out, written);
         made += count;
     }
+}
+
+// What `yz_digest_each` and `yz_digest_each_wide` promise, at the width of each.
+fn digest_each<W: Width>(algorithm: u32, messages: &[&[u8]], out: &mut [u8]) -> i32
+    ensures ok { (a : Algorithm) → digest_named algorithm ≡ Some a → result ≡ OK
+        → out.new ≡ digests_of a messages.now }
+    ensures unknown { result ≡ UNKNOWN_ALGORITHM ↔ digest_named algorithm ≡ None }
+    ensures wrong_length { (a : Algorithm) → digest_named algorithm ≡ Some a
+        → (result ≡ WRONG_LENGTH
+        ↔ length out.old ≢ length messages.now * output_len a) }
+    ensures refused { (a : Algorithm) → digest_named algorithm ≡ Some a
+        → length out.old ≡ length messages.now * output_len a
+        → (result ≡ OK ↔ CanDigestEach a messages.now (length messages.now)) }
+    ensures told { (a : Algorithm) → digest_named algorithm ≡ Some a
+        → length out.old ≡ length messages.now * output_len a → result ≢ OK
+        → result ≡ UNSPECIFIED }
+    ensures unchanged { result ≢ OK → out.new ≡ out.old }
+{
+    let Some(algorithm) = digest_of_number(algorithm) else {
+        return UNKNOWN_ALGORITHM;
+    };
+    let status = status_of_lengths(&algorithm, messages, out.len());
+    if status == OK {
+        write_each::<W>(&algorithm, messages, out);
+    }
+    status
 }
 
 /// Writes the digests of `messages` to `out`, one after another, by the digest algorithm of the
@@ -111,12 +138,28 @@ pub extern "C" fn yz_digest_each(algorithm: u32, messages: &[&[u8]], out: &mut [
         → result ≡ UNSPECIFIED }
     ensures unchanged { result ≢ OK → out.new ≡ out.old }
 {
-    let Some(algorithm) = digest_of_number(algorithm) else {
-        return UNKNOWN_ALGORITHM;
-    };
-    let status = status_of_lengths(&algorithm, messages, out.len());
-    if status == OK {
-        write_each(&algorithm, messages, out);
-    }
-    status
+    digest_each::<Usual>(algorithm, messages, out)
+}
+
+/// Writes the digests of `messages` to `out` as [`yz_digest_each`] does by the same `algorithm`
+/// (FIPS 180-4, section 6), more of them side by side: for the build for x86-64-v3.
+///
+/// Refused as that call is, with `out` unchanged.
+#[unsafe(no_mangle)]
+pub extern "C" fn yz_digest_each_wide(algorithm: u32, messages: &[&[u8]], out: &mut [u8]) -> i32
+    ensures ok { (a : Algorithm) → digest_named algorithm ≡ Some a → result ≡ OK
+        → out.new ≡ digests_of a messages.now }
+    ensures unknown { result ≡ UNKNOWN_ALGORITHM ↔ digest_named algorithm ≡ None }
+    ensures wrong_length { (a : Algorithm) → digest_named algorithm ≡ Some a
+        → (result ≡ WRONG_LENGTH
+        ↔ length out.old ≢ length messages.now * output_len a) }
+    ensures refused { (a : Algorithm) → digest_named algorithm ≡ Some a
+        → length out.old ≡ length messages.now * output_len a
+        → (result ≡ OK ↔ CanDigestEach a messages.now (length messages.now)) }
+    ensures told { (a : Algorithm) → digest_named algorithm ≡ Some a
+        → length out.old ≡ length messages.now * output_len a → result ≢ OK
+        → result ≡ UNSPECIFIED }
+    ensures unchanged { result ≢ OK → out.new ≡ out.old }
+{
+    digest_each::<Wide>(algorithm, messages, out)
 }

@@ -6,10 +6,10 @@ use Rattle.ring_c.proofs.Written.{room-next, written-all, written-next}
 use Rattle.ring_c.proofs.each.write_each.Goals as goal
 
 pub groups-init : goal.groups-init
-groups-init c = record { place = omega arith; few = omega arith; bytes = refl }
+groups-init g c = record { place = omega arith; few = omega arith; bytes = refl }
 
 pub unreachable-requires : goal.unreachable-requires
-unreachable-requires c =
+unreachable-requires g c =
     let made = c.groups.made in
     let count = c.min-count.result in
     let messages = c.args.messages.now in
@@ -23,7 +23,7 @@ unreachable-requires c =
     absurd (false≢true (c.in-Err.ensures.refused.1 (rw (size, room) can)))
 
 pub write_digests-written-requires : goal.write_digests-written-requires
-write_digests-written-requires c =
+write_digests-written-requires g c =
     let made = c.groups.made in
     let count = c.min-count.result in
     let size : made + count - made ≡ count = omega arith in
@@ -34,7 +34,7 @@ write_digests-written-requires c =
     (omega (arith, c.requires.room, c.groups.auto.out)) fits are
 
 pub groups-preserved : goal.groups-preserved
-groups-preserved c =
+groups-preserved g c =
     let made = c.groups.made in
     let count = c.min-count.result in
     let size : made + count - made ≡ count = omega arith in
@@ -45,6 +45,6 @@ groups-preserved c =
     written-next c.args.messages.now made count c.groups.invariant fits are write.end write.ok
 
 pub returns : goal.returns
-returns c =
+returns g c =
     written-all c.groups.made c.groups.written c.groups.invariant c.groups-test.false
     (omega (arith, c.requires.room, c.groups.auto.out))

@@ -3,7 +3,7 @@ use Rattle.ring_c.proofs.Written.{AreWritten}
 use Rattle.ring_c.proofs.each.write_each.Given as goal
 
 abbrev pub invariant-groups : goal.invariant-groups
-invariant-groups l = AreWritten l.algorithm l.messages l.made l.written l.out
+invariant-groups g l = AreWritten l.algorithm l.messages l.made l.written l.out
 
 abbrev pub decreases-groups : goal.decreases-groups
-decreases-groups l = length l.messages - l.made
+decreases-groups g l = length l.messages - l.made

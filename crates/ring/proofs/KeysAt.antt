@@ -106,7 +106,8 @@ module _ {a : Algorithm} {keys : List Key} {salts : List (Bor (List ℕ))} {numb
 
 -- at each of m places
 module _ {a : Algorithm} {keys : List Key} {salts : List (Bor (List ℕ))} {number : ℕ}
-    {jobs : List Job} (are : (d : Job) → HoldsBelow (IsJobAt keys salts number) d (length keys) jobs)
+    {jobs : List Job}
+    (are : (d : Job) → HoldsBelow (IsJobAt keys salts number) d (length keys) jobs)
     (all : (i : ℕ) (key : Key) → i < length keys → key_algorithm (get_or keys i key) ≡ a) where
   is-job : (i : ℕ) (d : Job) → i < length keys
       → IsJobAt keys salts number i (get_or (take (length keys) jobs) i d)

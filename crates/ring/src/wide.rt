@@ -1,8 +1,8 @@
-//! The calls that run several messages or rounds side by side, over vectors of 256 bits: eight words
-//! of 32 bits, or four of 64.
+//! The calls that run several messages or rounds side by side, over vectors of 256 bits: eight
+//! words of 32 bits, or four of 64.
 //!
-//! They give what [`digest`](crate::digest) and [`pbkdf2`](crate::pbkdf2) give, whose calls run over
-//! vectors of 128 bits, four words of 32 bits. In a build for processors with AVX2
+//! They give what [`digest`](crate::digest) and [`pbkdf2`](crate::pbkdf2) give, whose calls run
+//! over vectors of 128 bits, four words of 32 bits. In a build for processors with AVX2
 //! (`rt lib --cpu=x86-64-v3`) they take about half the time, in one for older processors more. A
 //! library can't ask what it is built for, so the caller chooses:
 //!
@@ -42,8 +42,8 @@ use std::num::NonZeroU32;
 const WIDE: Vectors = Vectors::Of256Bits;
 
 /// Writes the digests of `messages` under `algorithm` to `out` as
-/// [`digest::digest_each`](crate::digest::digest_each) does (FIPS 180-4, section 6): eight at a time
-/// side by side, of SHA-384, SHA-512 and SHA-512/256 four.
+/// [`digest::digest_each`](crate::digest::digest_each) does (FIPS 180-4, section 6): eight at a
+/// time side by side, of SHA-384, SHA-512 and SHA-512/256 four.
 ///
 /// Refused where `out` has more or fewer places than there are messages, or where a message is
 /// longer than the algorithm's `max_input_len` bytes. `out` is then unchanged.
@@ -60,8 +60,8 @@ pub fn digest_each(
 }
 
 /// Derives a key from `secret` and `salt` in `iterations` iterations, and writes it to the whole of
-/// `out`, as [`pbkdf2::derive`](crate::pbkdf2::derive) does (RFC 2898, section 5.2): eight rounds of
-/// output at a time side by side, under `algorithm` of 64-bit words four.
+/// `out`, as [`pbkdf2::derive`](crate::pbkdf2::derive) does (RFC 2898, section 5.2): eight rounds
+/// of output at a time side by side, under `algorithm` of 64-bit words four.
 ///
 /// Refused where [`pbkdf2::derive`](crate::pbkdf2::derive) is. `out` is then unchanged.
 pub fn derive(
@@ -116,8 +116,8 @@ pub fn verify(
 
 /// Derives a key of `N` bytes for each place of `out` from the values of `salts` and `secrets` at
 /// that place, with the same `algorithm` and `iterations`, as
-/// [`pbkdf2::derive_each`](crate::pbkdf2::derive_each) does (RFC 2898, section 5.2): eight at a time
-/// side by side, under an algorithm of 64-bit words four.
+/// [`pbkdf2::derive_each`](crate::pbkdf2::derive_each) does (RFC 2898, section 5.2): eight at a
+/// time side by side, under an algorithm of 64-bit words four.
 ///
 /// Refused where [`pbkdf2::derive_each`](crate::pbkdf2::derive_each) is. `out` is then unchanged.
 pub fn derive_each<const N: usize>(

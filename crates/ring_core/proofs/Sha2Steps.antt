@@ -1,7 +1,7 @@
 -- The steps of SHA-2's definitions.
 use Rattle.std.proofs.Common.{◌≡◌, ◌⊎◌, ℕ, ◌+◌, ◌-◌, ◌*◌, ◌/◌, ◌<◌, ◌≤◌, List, [], ◌∷◌, length}
-use Rattle.std.proofs.Common.{slice_index, refl, sym, subst, ap, ◌∙◌, add-one, arith, inl, inr, nat_lt, true}
-use Rattle.std.proofs.Common.{false}
+use Rattle.std.proofs.Common.{slice_index, refl, sym, subst, ap, ◌∙◌, add-one, arith, inl, inr}
+use Rattle.std.proofs.Common.{nat_lt, true, false}
 use Rattle.ring_core.specs.Schedule.{IsRing, listed}
 use Rattle.ring_core.specs.Sha2.{Family, W, add_state, block_step, family_256, family_512}
 use Rattle.ring_core.specs.Sha2.{next_word, round, rounds_from, scheduled}

@@ -22,8 +22,8 @@ use ring_store::{PasswordStore, Reply, StoreError, TokenError, TokenMaker};
 use std::num::{NonZeroU32, Wrapping};
 use std::test::Fail;
 
-// FIPS 180-4, 5.3.3 and 5.3.5: the bytes of the first two initial words of SHA-256, and of the first
-// one of SHA-512.
+// FIPS 180-4, 5.3.3 and 5.3.5: the bytes of the first two initial words of SHA-256, and of the
+// first one of SHA-512.
 const FIRST_SHORT: [u8; 8] = [0x6a, 0x09, 0xe6, 0x67, 0xbb, 0x67, 0xae, 0x85];
 
 const FIRST_LONG: [u8; 8] = [0x6a, 0x09, 0xe6, 0x67, 0xf3, 0xbc, 0xc9, 0x08];

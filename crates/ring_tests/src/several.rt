@@ -42,8 +42,8 @@ fn blocks_of(algorithm: &Algorithm, messages: &[&[u8]]) -> u128 {
     blocks
 }
 
-// Whether the messages get the digests that others give them, for their blocks, over vectors of both
-// widths.
+// Whether the messages get the digests that others give them, for their blocks, over vectors of
+// both widths.
 fn agrees(
     algorithm: Algorithm,
     messages: &[&[u8]],

@@ -1,6 +1,7 @@
 //! The blocks of a padded message, and its digest from the state after the first of them.
 
-ghost use Rattle.std.specs.Prelude.{◌≡◌, ◌-◌, ◌/◌, ◌<◌, ◌≤◌, IsTrue, length};
+ghost use Rattle.std.specs.Prelude.{◌≡◌, ◌≢◌, ◌-◌, ◌*◌, ◌/◌, ◌<◌, ◌≤◌, ◌++◌, IsTrue, length};
+ghost use Rattle.std.specs.Prelude.{replicate};
 ghost use Rattle.ring_core.specs.Chunks.{chunk_at};
 ghost use Rattle.ring_core.specs.Cost.{raised};
 ghost use Rattle.ring.specs.Algorithm.{block_len};
@@ -9,17 +10,17 @@ ghost use Rattle.ring.specs.Digest.{IsDigest};
 ghost use Rattle.ring.specs.Each.{words_at};
 ghost use Rattle.ring.specs.Limits.{IsMessageWithin};
 ghost use Rattle.ring.specs.Padding.{padded};
-ghost use Rattle.ring.specs.State.{chaining_words, is_state_of};
+ghost use Rattle.ring.specs.State.{chaining_words, is_state_of, state_word_len, word_bytes, words};
 
 use crate::digest::algorithm::Algorithm;
 use crate::digest::block_context::run_blocks;
-use crate::digest::dynstate::DynState;
+use crate::digest::dynstate::{DynState, Output, long_output, short_output};
 use crate::digest::padding::{MAX_TAIL_LEN, write_tail};
 use crate::digest::value::Digest;
 use ring_core::cost::Meter;
 
-// Here `N` is the number of bytes in a block of the algorithm: a constant, so that a copy of a block
-// is a few instructions.
+// Here `N` is the number of bytes in a block of the algorithm: a constant, so that a copy of a
+// block is a few instructions.
 
 // The number of blocks of a padded message.
 pub(crate) fn blocks_of<const N: usize>(algorithm: Algorithm, message: &[u8]) -> usize
@@ -51,7 +52,9 @@ fn put_tail_block<const N: usize>(
     block.copy_from_slice(&tail[..len][start..start + N]);
 }
 
-// Writes a block of the padded message.
+// Writes a block of the padded message. It is inlined, since calls take a hundredth of the time of
+// SHA-1's blocks.
+#[inline(always)]
 pub(crate) fn put_block<const N: usize>(
     algorithm: Algorithm,
     message: &[u8],
@@ -97,7 +100,25 @@ fn run_whole<const N: usize>(
     whole
 }
 
-// The digest of a message from the state after the first `count` blocks of it padded.
+// The bytes of the state. `N` tells the size of its words, so that the compiler reads those of one
+// size alone, in pieces as large as they were written in.
+#[inline(always)]
+fn output_of<const N: usize>(state: &DynState) -> Output
+    requires short { N ≡ 64 → state_word_len state.now ≡ 4 }
+    requires long { N ≢ 64 → state_word_len state.now ≡ 8 }
+    ensures { result.0 ≡ word_bytes (state_word_len state.now) (words state.now)
+        ++ replicate (64 - 8 * state_word_len state.now) 0 }
+{
+    if N == 64 {
+        short_output(&state.short_words())
+    } else {
+        long_output(&state.long_words())
+    }
+}
+
+// The digest of a message from the state after the first `count` blocks of it padded. It is
+// inlined, so that the state isn't copied from where it was just stored.
+#[inline(always)]
 pub(crate) fn finished<const N: usize>(
     algorithm: Algorithm,
     state: DynState,
@@ -121,5 +142,5 @@ pub(crate) fn finished<const N: usize>(
         put_block(algorithm, message, number, &mut block);
         let _ = run_blocks(algorithm, &mut state, &block, meter);
     }
-    Digest::new(state.format_output(), algorithm)
+    Digest::new(output_of::<N>(&state), algorithm)
 }

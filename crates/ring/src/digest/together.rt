@@ -55,6 +55,7 @@ fn fewest_blocks<const N: usize>(algorithm: Algorithm, messages: &[&[u8]]) -> us
 }
 
 // Writes a block of each padded message to its place.
+#[inline(always)]
 fn put_blocks<const N: usize>(
     algorithm: Algorithm,
     messages: &[&[u8]],
@@ -66,7 +67,8 @@ fn put_blocks<const N: usize>(
     requires below { (i : ℕ) → i < length messages.now
         → number < padded_blocks algorithm (length (message_at messages.now i)) }
     ensures { (i : ℕ) → i < length messages.now
-        → get_or blocks.new i [] ≡ chunk_at N (padded algorithm (message_at messages.now i)) number }
+        → get_or blocks.new i []
+        ≡ chunk_at N (padded algorithm (message_at messages.now i)) number }
 {
     'lanes: for i in 0..messages.len() {
         put_block::<N>(algorithm, messages[i], number, &mut blocks[i]);
@@ -92,8 +94,7 @@ fn states_after<H: RunBlocks<N>, const N: usize>(
         (words_at algorithm (message_at messages.now i) count) (H.lane i result) }
     ensures cost { meter.new ≡ raised meter.old (H.LANES * count) 0 }
 {
-    let first = [algorithm.initial_state(); MAX_LANES];
-    let mut states = H::new(&first[..H::LANES]);
+    let mut states = H::splat(&algorithm.initial_state());
     let mut blocks = [[0; N]; MAX_LANES];
     'blocks: for number in 0..count {
         put_blocks::<N>(algorithm, messages, number, &mut blocks[..H::LANES]);

@@ -356,8 +356,8 @@ fn run_lane_words<V: Vector<One = Wrapping<u32>>>(
 }
 
 /// Runs SHA-1's block function in each lane, over one block that is given as words (6.1.2): the
-/// first five words of the lane in `fronts`, and then those of `padding` from the sixth on, the same
-/// in all lanes. `ring` is room for a schedule.
+/// first five words of the lane in `fronts`, and then those of `padding` from the sixth on, the
+/// same in all lanes. `ring` is room for a schedule.
 ///
 /// In each lane of `states` the first five words are replaced, and the last three stay. The blocks
 /// are counted on `meter`, as many as there are lanes.

@@ -311,9 +311,9 @@ fn run_lane_blocks<V: Vector, const N: usize>(
 }
 
 /// Runs SHA-256's or SHA-512's block function in each lane (6.2.2, 6.4.2): over the state in lane i
-/// of `states`, which is replaced, and block i of `blocks`, of 64 bytes where words have 32 bits and
-/// of 128 where they have 64. `ring` is room for a schedule. The blocks are counted on `meter`, as
-/// many as there are lanes.
+/// of `states`, which is replaced, and block i of `blocks`, of 64 bytes where words have 32 bits
+/// and of 128 where they have 64. `ring` is room for a schedule. The blocks are counted on `meter`,
+/// as many as there are lanes.
 pub fn block_data_order_lanes_counted<V: Vector, const N: usize>(
     ring: &mut Ring<V>,
     states: &mut States<V>,

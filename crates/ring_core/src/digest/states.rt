@@ -25,8 +25,8 @@ impl<V: Copy> Clone for States<V> {
 
 impl<V: Copy> Copy for States<V> {}
 
-/// Room for the last sixteen words of a schedule in each lane. A caller that knows the vector's type
-/// makes it: of a type parameter the check doesn't know that sixteen fit in memory.
+/// Room for the last sixteen words of a schedule in each lane. A caller that knows the vector's
+/// type makes it: of a type parameter the check doesn't know that sixteen fit in memory.
 pub type Ring<V> = [InLanes<V>; 16];
 
 // The words at place `at` of several states, the first state's in lane 0.

@@ -57,6 +57,10 @@ impl SideBySide for Sha1 {
         states[0].short_words()
     }
 
+    fn splat(state: &DynState) -> State32 {
+        state.short_words()
+    }
+
     fn state(states: &State32, i: usize) -> DynState {
         DynState::As32(*states)
     }
@@ -92,6 +96,10 @@ impl SideBySide for Sha256 {
 
     fn new(states: &[DynState]) -> State32 {
         states[0].short_words()
+    }
+
+    fn splat(state: &DynState) -> State32 {
+        state.short_words()
     }
 
     fn state(states: &State32, i: usize) -> DynState {
@@ -131,6 +139,10 @@ impl SideBySide for Sha384 {
         states[0].long_words()
     }
 
+    fn splat(state: &DynState) -> State64 {
+        state.long_words()
+    }
+
     fn state(states: &State64, i: usize) -> DynState {
         DynState::As64(*states)
     }
@@ -168,6 +180,10 @@ impl SideBySide for Sha512 {
         states[0].long_words()
     }
 
+    fn splat(state: &DynState) -> State64 {
+        state.long_words()
+    }
+
     fn state(states: &State64, i: usize) -> DynState {
         DynState::As64(*states)
     }
@@ -203,6 +219,10 @@ impl SideBySide for Sha512_256 {
 
     fn new(states: &[DynState]) -> State64 {
         states[0].long_words()
+    }
+
+    fn splat(state: &DynState) -> State64 {
+        state.long_words()
     }
 
     fn state(states: &State64, i: usize) -> DynState {

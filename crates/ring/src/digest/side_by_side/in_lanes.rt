@@ -44,6 +44,12 @@ pub(crate) trait SideBySide {
         ensures { (i : ℕ) (s : DynState) → i < LANES
             → lane i result ≡ words (get_or states.now i s) };
 
+    // The same state in each lane.
+    fn splat(state: &DynState) -> Self::States
+        requires some { 0 < LANES }
+        requires sized { IsTrue (is_state_of algorithm state.now) }
+        ensures { (i : ℕ) → lane i result ≡ words state.now };
+
     // The state in lane `i`.
     fn state(states: &Self::States, i: usize) -> DynState
         requires { i < LANES }

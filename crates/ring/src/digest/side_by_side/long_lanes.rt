@@ -55,6 +55,10 @@ impl<V: Vector<One = Wrapping<u64>>> SideBySide for Sha384In<V> {
         States::new(&words[..V::LANES])
     }
 
+    fn splat(state: &DynState) -> States<V> {
+        States::splat(&state.long_words())
+    }
+
     fn state(states: &States<V>, i: usize) -> DynState {
         DynState::As64(states.state(i))
     }
@@ -98,6 +102,10 @@ impl<V: Vector<One = Wrapping<u64>>> SideBySide for Sha512In<V> {
         States::new(&words[..V::LANES])
     }
 
+    fn splat(state: &DynState) -> States<V> {
+        States::splat(&state.long_words())
+    }
+
     fn state(states: &States<V>, i: usize) -> DynState {
         DynState::As64(states.state(i))
     }
@@ -139,6 +147,10 @@ impl<V: Vector<One = Wrapping<u64>>> SideBySide for Sha512_256In<V> {
     fn new(states: &[DynState]) -> States<V> {
         let words = words_of(states);
         States::new(&words[..V::LANES])
+    }
+
+    fn splat(state: &DynState) -> States<V> {
+        States::splat(&state.long_words())
     }
 
     fn state(states: &States<V>, i: usize) -> DynState {

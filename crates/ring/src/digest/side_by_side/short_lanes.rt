@@ -56,6 +56,10 @@ impl<V: Vector<One = Wrapping<u32>>> SideBySide for Sha1In<V> {
         States::new(&words[..V::LANES])
     }
 
+    fn splat(state: &DynState) -> States<V> {
+        States::splat(&state.short_words())
+    }
+
     fn state(states: &States<V>, i: usize) -> DynState {
         DynState::As32(states.state(i))
     }
@@ -97,6 +101,10 @@ impl<V: Vector<One = Wrapping<u32>>> SideBySide for Sha256In<V> {
     fn new(states: &[DynState]) -> States<V> {
         let words = words_of(states);
         States::new(&words[..V::LANES])
+    }
+
+    fn splat(state: &DynState) -> States<V> {
+        States::splat(&state.short_words())
     }
 
     fn state(states: &States<V>, i: usize) -> DynState {

@@ -3,8 +3,8 @@ ghost use Rattle.std.specs.Prelude.{◌≡◌};
 
 use crate::digest::word::lane_word::{LaneWord, Slots, Vector};
 
-/// A vector of words. The check has rules for arrays and pairs of a struct of any type, and none for
-/// those of a vector of any number of lanes.
+/// A vector of words. The check has rules for arrays and pairs of a struct of any type, and none
+/// for those of a vector of any number of lanes.
 #[derive(Clone, Copy)]
 pub struct InLanes<V: Copy>(pub(crate) V);
 

@@ -46,6 +46,6 @@ returns-clause-ok g c =
     record {
       algorithm = ap (λ (d : Digest). d.algorithm) c.new.ensures;
       bytes = ap bytes_of c.new.ensures
-          ∙ digest_from _ c.rest.state a m c.format_output.ensures.bytes c.rest.invariant.sized
+          ∙ digest_from _ c.rest.state a m c.output_of.ensures c.rest.invariant.sized
           (c.rest.invariant.words ∙ ap (words_at a m) last ∙ words_at-all a m);
     }

@@ -15,6 +15,7 @@ messages-preserved g c =
     let messages = c.args.messages.now in
     let least = c.min-fewest.result in
     let blocks = λ (k : ℕ). padded_blocks c.args.algorithm (length (message_at messages k)) in
-    let here : least ≤ blocks c.messages.i = rw (message-read messages c.messages.i) (omega arith) in
+    let here : least ≤ blocks c.messages.i =
+    rw (message-read messages c.messages.i) (omega arith) in
     below_more (λ (k : ℕ). least ≤ blocks k) c.messages.i
     (λ k h. omega (arith, c.messages.invariant k h)) here

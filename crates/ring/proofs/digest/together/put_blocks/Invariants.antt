@@ -7,4 +7,5 @@ use Rattle.ring.proofs.digest.together.put_blocks.Given as goal
 -- the blocks of the first i messages are there
 abbrev pub invariant-lanes : goal.invariant-lanes
 invariant-lanes g l = (k : ℕ) → k < l.i
-    → get_or l.blocks k [] ≡ chunk_at g.row.N (padded l.algorithm (message_at l.messages k)) l.number
+    → get_or l.blocks k []
+    ≡ chunk_at g.row.N (padded l.algorithm (message_at l.messages k)) l.number

@@ -7,6 +7,7 @@ abbrev pub invariant-blocks-2 : goal.invariant-blocks-2
 invariant-blocks-2 g l =
     record {
       words : (i : ℕ) → i < g.H.SideBySide.LANES → HasWords l.algorithm
-          (words_at l.algorithm (message_at l.messages i) l.number) (g.H.SideBySide.lane i l.states);
+          (words_at l.algorithm (message_at l.messages i) l.number)
+          (g.H.SideBySide.lane i l.states);
       cost : l.meter ≡ raised l.fn.meter (g.H.SideBySide.LANES * l.number) 0;
     }

@@ -24,13 +24,15 @@ pub returns-in-4-clause-ok : goal.returns-in-4-clause-ok
 returns-in-4-clause-ok g c =
     let count : length c.args.secrets.now ≡ 4 = c.in-4.is in
     let several : length c.four_keys-keys.result ≡ 4 = search rules in
-    each-derived (c.write_under-in-4.auto.out ∙ sym c.requires.within.secret_count ∙ count) count several
+    each-derived (c.write_under-in-4.auto.out ∙ sym c.requires.within.secret_count ∙ count) count
+    several
     c.digest_algorithm-digest.ensures c.four_keys-keys.ensures.ok c.write_under-in-4.ensures.ok
 
 pub returns-in-4-clause-cost : goal.returns-in-4-clause-cost
 returns-in-4-clause-cost g c =
     let several : length c.four_keys-keys.result ≡ 4 = search rules in
-    let rounds = rw (c.digest_algorithm-digest.ensures, several) at c.write_under-in-4.ensures.cost in
+    let rounds =
+    rw (c.digest_algorithm-digest.ensures, several) at c.write_under-in-4.ensures.cost in
     rw c.in-4.is (cost-each (hmac_digest c.args.algorithm) c.args.salts.now c.args.secrets.now
     (non_zero_u32_get c.args.iterations) g.row.N 4 c.args.meter.now 0
     c.four_keys-keys.ensures.cost rounds)

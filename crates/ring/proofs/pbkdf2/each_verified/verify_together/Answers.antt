@@ -40,7 +40,8 @@ returns-in-4-clause-cost g c =
     let several : length c.four_keys-keys.result ≡ 4 = search rules in
     let few : length c.args.values.now ≡ 4 =
     sym c.requires.within.secret_count ∙ c.in-4.is in
-    let rounds = rw (c.digest_algorithm-digest.ensures, several) at c.verify_under-in-4.ensures.cost in
+    let rounds =
+    rw (c.digest_algorithm-digest.ensures, several) at c.verify_under-in-4.ensures.cost in
     rw (c.in-4.is, few) (cost-each (hmac_digest c.args.algorithm) c.args.salts.now
     c.args.secrets.now (non_zero_u32_get c.args.iterations) g.row.N 4 c.args.meter.now
     (4 * g.row.N) c.four_keys-keys.ensures.cost rounds)

@@ -65,7 +65,8 @@ returns-clause-cost c =
     let a = hmac_digest c.args.algorithm in
     let secrets = c.args.secrets.now in
     let blocks = λ (i : ℕ). key_blocks a (length (bytes_at secrets i)) in
-    (risen-next (risen-next (risen-next (risen-next (risen-next (risen-next (risen-next (risen-next (risen-none blocks c.args.meter.now)
+    (risen-next (risen-next (risen-next (risen-next (risen-next (risen-next (risen-next
+    (risen-next (risen-none blocks c.args.meter.now)
     (cost_key_at a _ secrets 0 c.key_within.ensures.cost))
     (cost_key_at a _ secrets 1 c.key_within-2.ensures.cost))
     (cost_key_at a _ secrets 2 c.key_within-3.ensures.cost))

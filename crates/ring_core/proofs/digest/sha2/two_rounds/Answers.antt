@@ -20,7 +20,13 @@ returns g c = λ i h b n t ready at below near before.
     let are = values_of_two slot c.pair.result w w_next
     c.index-pair-0.result c.index-pair-1.result two words in
     let first : f c.add_pairs-first.result.0 ≡ add_words bits k w =
-    rw (c.add_pairs-first.ensures.first i, c.splat-constant.ensures i, c.k.ensures, are.0, at) refl in
+    rw (
+      c.add_pairs-first.ensures.first i,
+      c.splat-constant.ensures i,
+      c.k.ensures,
+      are.0,
+      at,
+    ) refl in
     let second : f c.add_pairs-first.result.1 ≡ add_words bits k_next w_next =
     rw (
       c.add_pairs-first.ensures.second i,

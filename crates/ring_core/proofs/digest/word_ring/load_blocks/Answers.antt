@@ -13,7 +13,8 @@ words-preserved g c =
     let word : InLanes g.row.V.Denot = record { 0 = c.read_words.result } in
     let read = λ (i : ℕ). word_at g.V.One.Word.bits (get_or c.args.blocks.now i []) in (
       length-set ring t word ∙ c.words.invariant.0,
-      λ i k lane below. filled_more {w = read i} (λ x. g.V.LaneWord.lane i x.0) ring word (omega arith)
+      λ i k lane below. filled_more {w = read i} (λ x. g.V.LaneWord.lane i x.0) ring word
+          (omega arith)
           (λ k. c.words.invariant.1 i k lane)
           (c.read_words.ensures i lane) k below,
     )

@@ -6,4 +6,5 @@ use Rattle.ring.proofs.digest.block_lanes.Sha512_256InRunBlocks128.run_blocks.Go
 
 pub returns-clause-words : goal.returns-clause-words
 returns-clause-words g c = λ i h below has.
-    lane-sha2 SHA512_256 family_512 _ refl has (c.block_data_order_lanes_counted.ensures.words i below)
+    lane-sha2 SHA512_256 family_512 _ refl has
+    (c.block_data_order_lanes_counted.ensures.words i below)

@@ -29,7 +29,8 @@ returns g c = λ i b ready.
     c.index-pair-0-4.result c.index-pair-1-4.result both_3 three in
     let first = c.next_word-first.ensures i in
     let second = c.next_word-second.ensures i in
-    let next : map f (record { 0 = c.next_word-first.result } ∷ record { 0 = c.next_word-second.result } ∷ [])
+    let next : map f (record { 0 = c.next_word-first.result }
+    ∷ record { 0 = c.next_word-second.result } ∷ [])
     ≡ w t ∷ w (t + 1) ∷ [] =
     rw (first, second, in_16.0, in_16.1, in_14.0, in_14.1, in_8.0, in_8.1, in_3.0, in_3.1)
     (W-next_two b t c.requires.from) in

@@ -28,7 +28,8 @@ returns g c = λ i b t from place ready.
     c.index-pair-0-4.result c.index-pair-1-4.result both_2 two in
     let first = c.next_word-first.ensures i in
     let second = c.next_word-second.ensures i in
-    let next : map f (record { 0 = c.next_word-first.result } ∷ record { 0 = c.next_word-second.result } ∷ [])
+    let next : map f (record { 0 = c.next_word-first.result }
+    ∷ record { 0 = c.next_word-second.result } ∷ [])
     ≡ w t ∷ w (t + 1) ∷ [] =
     rw (first, second, in_16.0, in_16.1, in_15.0, in_15.1, in_7.0, in_7.1, in_2.0, in_2.1)
     (W-next_two family b t from) in

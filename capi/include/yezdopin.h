@@ -15,7 +15,7 @@
  *   it is no pointer to const; where the length is 0 it may be NULL, but for that in a yz_message;
  * - what a call writes overlaps nothing else that it is given;
  * - a pointer to a context or a key is aligned as its type, and not NULL;
- * - the thread has 8 KiB of stack left.
+ * - the thread has 16 KiB of stack left.
  *
  * A call that can be refused answers YZ_OK or the first cause in the order of yz_status. Past YZ_OK
  * it has written nothing. */
@@ -149,10 +149,10 @@ typedef struct {
 
 /* The digests of `count` messages, one after another in `out`, that of messages[i] from
  * i * yz_output_len(algorithm) on: `out_len` is `count` times that length, or the call is refused.
- * They are those of yz_digest. From four messages on it is faster under YZ_SHA1 and YZ_SHA256,
- * which run several side by side, the more so the more messages there are, the more alike their
- * lengths, and on a processor with AVX2. Fewer, and few short ones under the others, are faster by
- * yz_digest, since each call runs a block of its own first. */
+ * They are those of yz_digest. From four messages on it is faster under YZ_SHA1 and YZ_SHA256, and
+ * on a processor with AVX2 under all algorithms: it runs several side by side, and gains with the
+ * number of messages and where their lengths are alike. Fewer are faster by yz_digest, since each
+ * call runs a block of its own first. */
 yz_status yz_digest_each(uint32_t algorithm, const yz_message *messages, size_t count,
                          uint8_t *out, size_t out_len) YZ_MUST_CHECK;
 

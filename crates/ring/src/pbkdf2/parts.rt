@@ -39,6 +39,24 @@ pub(crate) fn are_same(derived: &[u8], given: &[u8], meter: &mut Meter) -> bool
     verify_slices_are_equal_counted(derived, given, meter).is_ok()
 }
 
+// The most of 8, 4 and 1 rounds of which each is wanted, where `left` bytes are left. It divides
+// nothing, and neither does the rest of the library: a division's time depends on its operands.
+fn wanted_rounds(output_len: usize, left: usize) -> usize
+    requires some { 0 < left }
+    requires fits { output_len ≤ 64 }
+    ensures some { 0 < result }
+    ensures most { result ≤ 8 }
+    ensures needed { (result - 1) * output_len < left }
+{
+    if 7 * output_len < left {
+        8
+    } else if 3 * output_len < left {
+        4
+    } else {
+        1
+    }
+}
+
 // How many rounds the next part has, and how many bytes of them are wanted, where `left` bytes are
 // left.
 fn next_part(algorithm: digest::Algorithm, vectors: Vectors, left: usize) -> (usize, usize)
@@ -49,7 +67,7 @@ fn next_part(algorithm: digest::Algorithm, vectors: Vectors, left: usize) -> (us
     ensures needed { result.0 * output_len algorithm < left + output_len algorithm }
 {
     let output_len = algorithm.output_len();
-    let rounds = lanes_for(algorithm, vectors, left.div_ceil(output_len));
+    let rounds = lanes_for(algorithm, vectors, wanted_rounds(output_len, left));
     (rounds, left.min(rounds * output_len))
 }
 

@@ -1,7 +1,7 @@
 -- Keys of several secrets, and the jobs of their rounds of one number.
 use Rattle.std.proofs.Common.{◌≡◌, ℕ, zero, suc, ◌+◌, ◌<◌, ◌≤◌, List, [], ◌∷◌, length, take, get_or}
 use Rattle.std.proofs.Common.{ap, ◌∙◌, arith, refl}
-use Rattle.std.proofs.lemmas.List.{get_or-take}
+use Rattle.std.proofs.lemmas.List.{get_or-take, length-take-le}
 use Rattle.std.specs.Borrow.{Bor}
 use Rattle.ring_core.specs.Cost.{Counts, raised}
 use Rattle.ring.specs.Algorithm.{max_input_len, output_len}
@@ -25,10 +25,13 @@ pub cost_key_at : (a : Algorithm) (m0 : Counts) {m1 : Counts} (items : List (Bor
     → m1 ≡ raised m0 (key_blocks a (length (bytes_at items i))) 0
 cost_key_at a m0 items i e = rw (message-read items i) e
 
--- the key of the secret at a place
+-- the key is that of the secret at the place i
+abbrev pub IsKeyAt : Algorithm → List (Bor (List ℕ)) → ℕ → Key → Type 0
+IsKeyAt a secrets i key = IsKeyOf a key (bytes_at secrets i)
+
 pub key_at : {a : Algorithm} {key : Key} (secrets : List (Bor (List ℕ))) (i : ℕ)
     → key_algorithm key ≡ a → KeyStandsFor key (read_at secrets i)
-    → IsKeyOf a key (bytes_at secrets i)
+    → IsKeyAt a secrets i key
 key_at secrets i same stands =
     record { algorithm = same; stands = rw (message-read secrets i) stands }
 
@@ -38,31 +41,15 @@ pub key_fits : (a : Algorithm) (secrets : List (Bor (List ℕ))) (n i : ℕ)
     → length (read_at secrets i) ≤ max_input_len a
 key_fits a secrets n i within below = rw (message-read secrets i) at (within i below)
 
--- the keys from the place i on are those of what p gives from there on
-pub record AreKeysFrom (a : Algorithm) (i : ℕ) (keys : List Key) (p : ℕ → List ℕ) : Type 0 where
-  pub each : (j : ℕ) (key : Key) → j < length keys → IsKeyOf a (get_or keys j key) (p (i + j))
-
-pub keys-none : (a : Algorithm) (i : ℕ) (p : ℕ → List ℕ) → AreKeysFrom a i [] p
-keys-none a i p = record { each = λ j key below. absurd (omega (arith, below)) }
-
--- and one before them
-keys-before : {a : Algorithm} {k : Key} {keys : List Key} {p : ℕ → List ℕ} (i : ℕ)
-    → IsKeyOf a k (p i) → AreKeysFrom a (suc i) keys p → (j : ℕ) (key : Key)
-    → j < length (k ∷ keys) → IsKeyOf a (get_or (k ∷ keys) j key) (p (i + j))
-keys-before {p = p} i is more zero key below =
-    let at : i + 0 ≡ i = omega arith in rw at is
-keys-before {p = p} i is more (suc j) key below =
-    let at : i + suc j ≡ suc i + j = omega arith in rw at (more.each j key (omega (arith, below)))
-
-pub keys-more : {a : Algorithm} {k : Key} {keys : List Key} {p : ℕ → List ℕ} (i : ℕ)
-    → IsKeyOf a k (p i) → AreKeysFrom a (suc i) keys p → AreKeysFrom a i (k ∷ keys) p
-keys-more i is more = record { each = keys-before i is more }
-
-pub keys-all : {a : Algorithm} {keys : List Key} {p : ℕ → List ℕ} → AreKeysFrom a 0 keys p
-    → AreKeysOf a keys p
-keys-all {p = p} h =
+-- the keys at the first n places are those of the secrets there
+pub keys-all : {a : Algorithm} {keys : List Key} (secrets : List (Bor (List ℕ))) (n : ℕ)
+    → ((d : Key) → HoldsBelow (IsKeyAt a secrets) d n keys) → n ≤ length keys
+    → AreKeysOf a (take n keys) (bytes_at secrets)
+keys-all {keys = keys} secrets n have room =
     record {
-      each = λ i key below. let at : 0 + i ≡ i = omega arith in rw at at (h.each i key below);
+      each = λ i key below.
+          let first : i < n = omega (arith, below, length-take-le n keys room) in
+          rw (get_or-take n keys i key first) ((have key).each i first);
     }
 
 -- a job, of which lemmas speak past the end of a list

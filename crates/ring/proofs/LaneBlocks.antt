@@ -12,13 +12,16 @@ use Rattle.ring_core.proofs.ChunkFolds.{fold_chunks-append, fold_chunks-next}
 use Rattle.ring_core.proofs.ChunkFolds.{fold_chunks-none, fold_chunks-then}
 use Rattle.ring_core.proofs.Sha1Steps as sha1_steps
 use Rattle.ring_core.proofs.Sha2Steps as sha2_steps
-use Rattle.ring.specs.Algorithm.{block_function, block_len, initial_words, length_len}
-use Rattle.ring.specs.Algorithm.{word_count}
+use Rattle.ring.specs.Algorithm.{block_function, block_function_of_id, block_len, initial_words}
+use Rattle.ring.specs.Algorithm.{length_len, row_of, word_count, word_len}
 use Rattle.ring.specs.Cost.{padded_blocks, whole_blocks}
 use Rattle.ring.specs.Digest.{blocks_from, words_after}
 use Rattle.ring.specs.Each.{HasWords, words_at}
 use Rattle.ring.specs.Padding.{IsWhole, padded, tail_of, zeros_of}
 use Rattle.ring.specs.declared.digest.algorithm.Algorithm.{Algorithm}
+use Rattle.ring.specs.declared.digest.algorithm.AlgorithmId.{AlgorithmId}
+use Rattle.ring.specs.declared.digest.algorithm.AlgorithmId.TheVariants.{Sha1, Sha256, Sha384}
+use Rattle.ring.specs.declared.digest.algorithm.AlgorithmId.TheVariants.{Sha512, Sha512_256}
 use Rattle.ring.specs.declared.digest.algorithm.TheConstants.{SHA1_FOR_LEGACY_USE_ONLY}
 use Rattle.ring.proofs.Blocks.{mul_whole}
 use Rattle.ring.proofs.Padding.{length-padded}
@@ -191,6 +194,23 @@ lane-sha2 {h} {old} {new} a f block eight has words =
           ∙ ap (λ z. sha2.block_step f z block) all;
       count = long;
     }
+
+-- the algorithms of 64-bit words have one block function, of which eight words chain
+long_step_of_id : (i : AlgorithmId) → (row_of i).word_len ≡ 8
+    → (block_function_of_id i ≡ sha2.block_step sha2.family_512)
+    × ((row_of i).chaining_len / (row_of i).word_len ≡ 8)
+long_step_of_id Sha1 is = absurd (omega (arith, is))
+long_step_of_id Sha256 is = absurd (omega (arith, is))
+long_step_of_id Sha384 is = (refl, refl)
+long_step_of_id Sha512 is = (refl, refl)
+long_step_of_id Sha512_256 is = (refl, refl)
+
+pub lane-long : {h old new : List ℕ} (a : Algorithm) (block : List ℕ) → word_len a ≡ 8
+    → HasWords a h old → new ≡ sha2.block_step sha2.family_512 old block
+    → HasWords a (block_function a h block) new
+lane-long {h} {old} {new} a block is has words =
+    let step = long_step_of_id a.id is in
+    rw step.0 (lane-sha2 a sha2.family_512 block step.1 has words)
 
 -- a state before the first block
 pub words-first : {ws : List ℕ} (a : Algorithm) (m : List ℕ)

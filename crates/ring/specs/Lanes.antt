@@ -1,5 +1,5 @@
 -- Digests and keys as the words of states.
-use Rattle.std.specs.Prelude.{◌≡◌, ◌⊎◌, ℕ, List, take}
+use Rattle.std.specs.Prelude.{◌≡◌, ◌⊎◌, ℕ, ◌*◌, ◌≤◌, List, take}
 use Rattle.ring.specs.Algorithm.{output_len, word_count, word_len}
 use Rattle.ring.specs.Digest.{words_after}
 use Rattle.ring.specs.KeyBlocks.{inner_block, outer_block}
@@ -10,9 +10,12 @@ use Rattle.ring.specs.declared.digest.algorithm.Algorithm.{Algorithm}
 abbrev pub digest_bytes : Algorithm → List ℕ → List ℕ
 digest_bytes a ws = take (output_len a) (word_bytes (word_len a) ws)
 
--- so many messages or rounds can run side by side: in lanes of 32 or of 64 bits, or one alone
-abbrev pub CanRunTogether : Algorithm → ℕ → Type 0
-CanRunTogether a n = (n ≡ 1) ⊎ (n ≡ 4) ⊎ ((n ≡ 8) × (word_len a ≡ 4))
+-- so many messages or rounds can run side by side over vectors of so many bits: one alone, four
+-- whose words fit in a vector, or eight of 32-bit words
+abbrev pub CanRunTogether : (bits : ℕ) → Algorithm → ℕ → Type 0
+CanRunTogether bits a n =
+    (n ≡ 1) ⊎ ((n ≡ 4) × (4 * (8 * word_len a) ≤ bits))
+    ⊎ ((n ≡ 8) × (word_len a ≡ 4) × (8 * 32 ≤ bits))
 
 -- the words of two states are those after the masked blocks of the key k (RFC 2104, section 2)
 pub record IsKeyInLane (a : Algorithm) (inner outer k : List ℕ) : Type 0 where

@@ -71,7 +71,7 @@ ghost use Rattle.ring.specs.Cost.{derive_blocks};
 ghost use Rattle.ring.specs.Limits.{CanDerive, CanVerify};
 ghost use Rattle.ring.specs.Pbkdf2.{IsDerived, dk, pbkdf2_digest};
 
-use crate::digest::vectors::Vectors;
+use crate::digest::vectors::SSE;
 use crate::hmac::Key;
 use crate::limits::{can_derive, can_verify};
 use crate::pbkdf2::parts::{are_rounds, write_rounds};
@@ -94,9 +94,8 @@ pub use crate::pbkdf2::algorithm::{
 pub use crate::pbkdf2::each_derived::{derive_each, derive_each_counted};
 pub use crate::pbkdf2::each_verified::{verify_each, verify_each_counted};
 
-// Derives a key as `derive_counted` does, over vectors of this width.
-pub(crate) fn derive_in(
-    vectors: Vectors,
+// Derives a key as `derive_counted` does, over vectors of so many bits.
+pub(crate) fn derive_in<const BITS: usize>(
     algorithm: Algorithm,
     iterations: NonZeroU32,
     salt: &[u8],
@@ -123,7 +122,7 @@ pub(crate) fn derive_in(
         return Err(Unspecified);
     }
     let key = Key::new_counted(hmac_algorithm, secret, meter)?;
-    write_rounds(vectors, &key, iterations, salt, out, meter);
+    write_rounds::<BITS>(&key, iterations, salt, out, meter);
     Ok(())
 }
 
@@ -147,15 +146,7 @@ pub fn derive_counted(
         (derive_blocks (pbkdf2_digest algorithm) (length secret.now) (length salt.now)
         (non_zero_u32_get iterations) (length out.old)) 0) }
 {
-    derive_in(
-        Vectors::Of128Bits,
-        algorithm,
-        iterations,
-        salt,
-        secret,
-        out,
-        meter,
-    )
+    derive_in::<SSE>(algorithm, iterations, salt, secret, out, meter)
 }
 
 /// Derives a key from `secret` and `salt`, and writes it to the whole of `out` (RFC 2898, section
@@ -189,9 +180,8 @@ pub fn derive(
     derive_counted(algorithm, iterations, salt, secret, out, &mut Meter::new())
 }
 
-// Tests a value as `verify_counted` does, over vectors of this width.
-pub(crate) fn verify_in(
-    vectors: Vectors,
+// Tests a value as `verify_counted` does, over vectors of so many bits.
+pub(crate) fn verify_in<const BITS: usize>(
     algorithm: Algorithm,
     iterations: NonZeroU32,
     salt: &[u8],
@@ -221,7 +211,7 @@ pub(crate) fn verify_in(
         return Err(Unspecified);
     }
     let key = Key::new_counted(hmac_algorithm, secret, meter)?;
-    if are_rounds(vectors, &key, iterations, salt, previously_derived, meter) {
+    if are_rounds::<BITS>(&key, iterations, salt, previously_derived, meter) {
         Ok(())
     } else {
         Err(Unspecified)
@@ -251,8 +241,7 @@ pub fn verify_counted(
         (non_zero_u32_get iterations) (length previously_derived.now))
         (length previously_derived.now) }
 {
-    verify_in(
-        Vectors::Of128Bits,
+    verify_in::<SSE>(
         algorithm,
         iterations,
         salt,

@@ -30,7 +30,7 @@ ghost use Rattle.ring.specs.Limits.{CanDerive};
 ghost use Rattle.ring.specs.Pbkdf2.{IsDerived, dk, pbkdf2_digest};
 
 use crate::digest::each::digest_each_in;
-use crate::digest::vectors::Vectors;
+use crate::digest::vectors::AVX2;
 use crate::digest::{self, Digest};
 use crate::pbkdf2::each_derived::derive_each_in;
 use crate::pbkdf2::each_verified::verify_each_in;
@@ -38,8 +38,6 @@ use crate::pbkdf2::{Algorithm, derive_in, verify_in};
 use ring_core::cost::Meter;
 use ring_core::error::Unspecified;
 use std::num::NonZeroU32;
-
-const WIDE: Vectors = Vectors::Of256Bits;
 
 /// Writes the digests of `messages` under `algorithm` to `out` as
 /// [`digest::digest_each`](crate::digest::digest_each) does (FIPS 180-4, section 6): eight at a
@@ -56,7 +54,7 @@ pub fn digest_each(
     ensures refused { IsOk result ↔ CanDigestEach algorithm.now messages.now (length out.old) }
     ensures unchanged { OnErr result (out.new ≡ out.old) }
 {
-    digest_each_in(WIDE, algorithm, messages, out, &mut Meter::new())
+    digest_each_in::<AVX2>(algorithm, messages, out, &mut Meter::new())
 }
 
 /// Derives a key from `secret` and `salt` in `iterations` iterations, and writes it to the whole of
@@ -77,15 +75,7 @@ pub fn derive(
         (length secret.now) (length salt.now) (length out.old) }
     ensures unchanged { OnErr result (out.new ≡ out.old) }
 {
-    derive_in(
-        WIDE,
-        algorithm,
-        iterations,
-        salt,
-        secret,
-        out,
-        &mut Meter::new(),
-    )
+    derive_in::<AVX2>(algorithm, iterations, salt, secret, out, &mut Meter::new())
 }
 
 /// Returns Ok exactly if `previously_derived` is not empty and is what [`derive`] writes for its
@@ -103,8 +93,7 @@ pub fn verify(
     ensures ok { IsOk result ↔ IsDerived (pbkdf2_digest algorithm)
         secret.now salt.now (non_zero_u32_get iterations) previously_derived.now }
 {
-    verify_in(
-        WIDE,
+    verify_in::<AVX2>(
         algorithm,
         iterations,
         salt,
@@ -133,8 +122,7 @@ pub fn derive_each<const N: usize>(
         salts.now secrets.now (length out.old) N }
     ensures unchanged { OnErr result (out.new ≡ out.old) }
 {
-    derive_each_in(
-        WIDE,
+    derive_each_in::<AVX2, N>(
         algorithm,
         iterations,
         salts,
@@ -165,8 +153,7 @@ pub fn verify_each<const N: usize>(
         salts.now secrets.now previously_derived.now (length matches.old) N }
     ensures unchanged { OnErr result (matches.new ≡ matches.old) }
 {
-    verify_each_in(
-        WIDE,
+    verify_each_in::<AVX2, N>(
         algorithm,
         iterations,
         salts,

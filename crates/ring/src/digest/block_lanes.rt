@@ -1,13 +1,16 @@
 //! Block functions over one block in each lane.
 
+ghost use Rattle.std.proofs.Common.{ap};
 ghost use Rattle.std.specs.Prelude.{◌≡◌, ℕ, ◌<◌, List, [], get_or, length};
 ghost use Rattle.ring_core.specs.Cost.{raised};
-ghost use Rattle.ring.specs.Algorithm.{block_function, block_len};
+ghost use Rattle.ring.specs.Algorithm.{block_function, word_len};
 ghost use Rattle.ring.specs.Each.{HasWords};
+ghost use Rattle.ring.specs.declared.digest.algorithm.Algorithm.{Algorithm};
 
-use crate::digest::side_by_side::SideBySide;
-use crate::digest::side_by_side::long_lanes::{Sha384In, Sha512_256In, Sha512In};
-use crate::digest::side_by_side::short_lanes::{Sha1In, Sha256In};
+use crate::digest::side_by_side::lane_digests::{Sha1, Sha256};
+use crate::digest::side_by_side::lane_states::LaneStates;
+use crate::digest::side_by_side::long_lanes::LongIn;
+use crate::digest::side_by_side::short_lanes::ShortIn;
 use ring_core::cost::Meter;
 use ring_core::digest::sha1::sha1_block_data_order_lanes_counted;
 use ring_core::digest::sha2::block_data_order_lanes_counted;
@@ -15,8 +18,11 @@ use ring_core::digest::states::{Ring, States};
 use ring_core::digest::word::lane_word::{LaneWord, Vector};
 use std::num::Wrapping;
 
-// A digest algorithm that runs over a block in each lane.
-pub(crate) trait RunBlocks<const N: usize>: SideBySide {
+// A block function that runs over a block in each lane.
+pub(crate) trait RunBlocks<const N: usize>: LaneStates {
+    // it is that of the algorithm
+    ghost is_of: { Algorithm → Type 0 };
+
     // Advances the state in each lane over the block at its place.
     fn run_blocks(
         ring: &mut Self::Ring,
@@ -26,14 +32,20 @@ pub(crate) trait RunBlocks<const N: usize>: SideBySide {
     )
         requires some { 0 < Self.LANES }
         requires lanes { length blocks.now ≡ Self.LANES }
-        ensures words { (i : ℕ) (h : List ℕ) → i < Self.LANES
-            → HasWords Self.algorithm h (Self.lane i states.old)
-            → HasWords Self.algorithm (block_function Self.algorithm h (get_or blocks.now i []))
-            (Self.lane i states.new) }
+        ensures words { (a : Algorithm) (i : ℕ) (h : List ℕ) → is_of a → i < Self.LANES
+            → HasWords a h (Self.lane i states.old)
+            → HasWords a (block_function a h (get_or blocks.now i [])) (Self.lane i states.new) }
         ensures cost { meter.new ≡ raised meter.old Self.LANES 0 };
+
+    // the algorithm's words have this size
+    ghost sized: { (a : Algorithm) → is_of a → word_len a ≡ Self.word_len };
 }
 
-impl<V: Vector<One = Wrapping<u32>>> RunBlocks<64> for Sha1In<V> {
+impl<V: Vector<One = Wrapping<u32>>> RunBlocks<64> for ShortIn<V, Sha1> {
+    ghost use Rattle.ring.specs.declared.digest.algorithm.TheConstants.{SHA1_FOR_LEGACY_USE_ONLY};
+
+    ghost is_of = { λ a. a ≡ SHA1_FOR_LEGACY_USE_ONLY };
+
     #[inline(always)]
     fn run_blocks(
         ring: &mut Ring<V>,
@@ -43,9 +55,15 @@ impl<V: Vector<One = Wrapping<u32>>> RunBlocks<64> for Sha1In<V> {
     ) {
         sha1_block_data_order_lanes_counted(ring, states, blocks, meter)
     }
+
+    ghost sized = { λ a is. ap word_len is };
 }
 
-impl<V: Vector<One = Wrapping<u32>>> RunBlocks<64> for Sha256In<V> {
+impl<V: Vector<One = Wrapping<u32>>> RunBlocks<64> for ShortIn<V, Sha256> {
+    ghost use Rattle.ring.specs.declared.digest.algorithm.TheConstants.{SHA256};
+
+    ghost is_of = { λ a. a ≡ SHA256 };
+
     #[inline(always)]
     fn run_blocks(
         ring: &mut Ring<V>,
@@ -55,9 +73,14 @@ impl<V: Vector<One = Wrapping<u32>>> RunBlocks<64> for Sha256In<V> {
     ) {
         block_data_order_lanes_counted(ring, states, blocks, meter)
     }
+
+    ghost sized = { λ a is. ap word_len is };
 }
 
-impl<V: Vector<One = Wrapping<u64>>> RunBlocks<128> for Sha384In<V> {
+// One block function serves the three algorithms of 64-bit words.
+impl<V: Vector<One = Wrapping<u64>>, A> RunBlocks<128> for LongIn<V, A> {
+    ghost is_of = { λ a. word_len a ≡ 8 };
+
     #[inline(always)]
     fn run_blocks(
         ring: &mut Ring<V>,
@@ -67,28 +90,6 @@ impl<V: Vector<One = Wrapping<u64>>> RunBlocks<128> for Sha384In<V> {
     ) {
         block_data_order_lanes_counted(ring, states, blocks, meter)
     }
-}
 
-impl<V: Vector<One = Wrapping<u64>>> RunBlocks<128> for Sha512In<V> {
-    #[inline(always)]
-    fn run_blocks(
-        ring: &mut Ring<V>,
-        states: &mut States<V>,
-        blocks: &[[u8; 128]],
-        meter: &mut Meter,
-    ) {
-        block_data_order_lanes_counted(ring, states, blocks, meter)
-    }
-}
-
-impl<V: Vector<One = Wrapping<u64>>> RunBlocks<128> for Sha512_256In<V> {
-    #[inline(always)]
-    fn run_blocks(
-        ring: &mut Ring<V>,
-        states: &mut States<V>,
-        blocks: &[[u8; 128]],
-        meter: &mut Meter,
-    ) {
-        block_data_order_lanes_counted(ring, states, blocks, meter)
-    }
+    ghost sized = { λ a is. is };
 }

@@ -8,7 +8,7 @@ ghost use Rattle.ring.specs.Limits.{IsMessageWithin};
 use crate::digest::algorithm::{Algorithm, is_message_within};
 use crate::digest::together::write_together;
 use crate::digest::value::Digest;
-use crate::digest::vectors::{Vectors, lanes_for};
+use crate::digest::vectors::{SSE, lanes_for};
 use ring_core::cost::Meter;
 use ring_core::error::Unspecified;
 
@@ -26,8 +26,7 @@ fn are_within(algorithm: &Algorithm, messages: &[&[u8]]) -> bool
 }
 
 // Writes the digests of the messages to `out`, as many side by side as can be.
-fn write_each(
-    vectors: Vectors,
+fn write_each<const BITS: usize>(
     algorithm: &Algorithm,
     messages: &[&[u8]],
     out: &mut [Digest],
@@ -39,15 +38,14 @@ fn write_each(
 {
     let mut made = 0;
     'parts: while made < messages.len() {
-        let end = made + lanes_for(*algorithm, vectors, messages.len() - made);
-        write_together(*algorithm, &messages[made..end], &mut out[made..end], meter);
+        let end = made + lanes_for::<BITS>(*algorithm, messages.len() - made);
+        write_together::<BITS>(*algorithm, &messages[made..end], &mut out[made..end], meter);
         made = end;
     }
 }
 
-// Writes the digests as `digest_each_counted` does, over vectors of this width.
-pub(crate) fn digest_each_in(
-    vectors: Vectors,
+// Writes the digests as `digest_each_counted` does, over vectors of so many bits.
+pub(crate) fn digest_each_in<const BITS: usize>(
     algorithm: &Algorithm,
     messages: &[&[u8]],
     out: &mut [Digest],
@@ -62,7 +60,7 @@ pub(crate) fn digest_each_in(
     if messages.len() != out.len() || !are_within(algorithm, messages) {
         return Err(Unspecified);
     }
-    write_each(vectors, algorithm, messages, out, meter);
+    write_each::<BITS>(algorithm, messages, out, meter);
     Ok(())
 }
 
@@ -81,7 +79,7 @@ pub fn digest_each_counted(
     ensures cost { OnOk result (meter.new
         ≡ raised meter.old (each_blocks algorithm.now messages.now) 0) }
 {
-    digest_each_in(Vectors::Of128Bits, algorithm, messages, out, meter)
+    digest_each_in::<SSE>(algorithm, messages, out, meter)
 }
 
 /// Writes the digests of `messages` under `algorithm` to `out`, each at its message's place (FIPS

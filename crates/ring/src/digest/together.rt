@@ -3,7 +3,7 @@
 ghost use Rattle.std.specs.Prelude.{◌≡◌, ℕ, ◌*◌, ◌<◌, ◌≤◌, [], get_or, length};
 ghost use Rattle.ring_core.specs.Chunks.{chunk_at};
 ghost use Rattle.ring_core.specs.Cost.{raised};
-ghost use Rattle.ring.specs.Algorithm.{block_len, word_len};
+ghost use Rattle.ring.specs.Algorithm.{block_len};
 ghost use Rattle.ring.specs.Cost.{padded_blocks};
 ghost use Rattle.ring.specs.Digest.{IsDigest};
 ghost use Rattle.ring.specs.Each.{AreDigests, CanDigestEach, HasWords, each_blocks, message_at};
@@ -15,12 +15,13 @@ ghost use Rattle.ring.specs.Padding.{padded};
 use crate::digest::algorithm::{Algorithm, AlgorithmId};
 use crate::digest::block_context::BlockContext;
 use crate::digest::block_lanes::RunBlocks;
-use crate::digest::dynstate::DynState;
 use crate::digest::padded_blocks::{blocks_of, finished, put_block};
-use crate::digest::side_by_side::long_lanes::{Sha384In, Sha512_256In, Sha512In, four_long};
-use crate::digest::side_by_side::short_lanes::{Sha1In, Sha256In, eight_short, four_short};
-use crate::digest::side_by_side::{MAX_LANES, SideBySide};
+use crate::digest::side_by_side::lane_digests::{Sha1, Sha256, Sha512};
+use crate::digest::side_by_side::lane_states::{LaneStates, MAX_LANES};
+use crate::digest::side_by_side::long_lanes::LongIn;
+use crate::digest::side_by_side::short_lanes::ShortIn;
 use crate::digest::value::Digest;
+use crate::digest::vectors::AVX2;
 use ring_core::cost::Meter;
 use std::simd::{u32x4, u32x8, u64x4};
 
@@ -77,7 +78,6 @@ fn put_blocks<const N: usize>(
 
 // The states after the first `count` blocks of the padded messages.
 fn states_after<H: RunBlocks<N>, const N: usize>(
-    ring: &mut H::Ring,
     algorithm: Algorithm,
     messages: &[&[u8]],
     count: usize,
@@ -85,7 +85,7 @@ fn states_after<H: RunBlocks<N>, const N: usize>(
 ) -> H::States
     requires some { 0 < H.LANES }
     requires most { H.LANES ≤ 8 }
-    requires same { algorithm ≡ H.algorithm }
+    requires same { H.is_of algorithm }
     requires whole { block_len algorithm ≡ N }
     requires within { CanDigestEach algorithm messages.now H.LANES }
     requires below { (i : ℕ) → i < H.LANES
@@ -94,19 +94,20 @@ fn states_after<H: RunBlocks<N>, const N: usize>(
         (words_at algorithm (message_at messages.now i) count) (H.lane i result) }
     ensures cost { meter.new ≡ raised meter.old (H.LANES * count) 0 }
 {
+    let mut ring = H::ring();
     let mut states = H::splat(&algorithm.initial_state());
     let mut blocks = [[0; N]; MAX_LANES];
     'blocks: for number in 0..count {
         put_blocks::<N>(algorithm, messages, number, &mut blocks[..H::LANES]);
-        H::run_blocks(ring, &mut states, &blocks[..H::LANES], meter);
+        H::run_blocks(&mut ring, &mut states, &blocks[..H::LANES], meter);
     }
     states
 }
 
 // Writes the digests of as many messages as there are lanes: side by side while all have blocks,
 // then each by itself.
+#[inline(never)]
 fn write_in_lanes<H: RunBlocks<N>, const N: usize>(
-    ring: &mut H::Ring,
     algorithm: Algorithm,
     messages: &[&[u8]],
     out: &mut [Digest],
@@ -114,7 +115,7 @@ fn write_in_lanes<H: RunBlocks<N>, const N: usize>(
 )
     requires some { 0 < H.LANES }
     requires most { H.LANES ≤ 8 }
-    requires same { algorithm ≡ H.algorithm }
+    requires same { H.is_of algorithm }
     requires whole { block_len algorithm ≡ N }
     requires lanes { length messages.now ≡ H.LANES }
     requires within { CanDigestEach algorithm messages.now (length out.old) }
@@ -122,95 +123,44 @@ fn write_in_lanes<H: RunBlocks<N>, const N: usize>(
     ensures cost { meter.new ≡ raised meter.old (each_blocks algorithm messages.now) 0 }
 {
     let count = fewest_blocks::<N>(algorithm, messages);
-    let states = states_after::<H, N>(ring, algorithm, messages, count, meter);
+    let states = states_after::<H, N>(algorithm, messages, count, meter);
     'lanes: for i in 0..messages.len() {
         let state = H::state(&states, i);
         out[i] = finished::<N>(algorithm, state, messages[i], count, meter);
     }
 }
 
-// The digests of eight messages under an algorithm of 32-bit words.
-fn write_eight_short(
-    algorithm: Algorithm,
-    messages: &[&[u8]],
-    out: &mut [Digest],
-    meter: &mut Meter,
-)
-    requires short { word_len algorithm ≡ 4 }
-    requires lanes { length messages.now ≡ 8 }
-    requires within { CanDigestEach algorithm messages.now (length out.old) }
-    ensures ok { AreDigests out.new algorithm messages.now }
-    ensures cost { meter.new ≡ raised meter.old (each_blocks algorithm messages.now) 0 }
-{
-    let ring = &mut eight_short();
-    if algorithm.is_sha1() {
-        write_in_lanes::<Sha1In<u32x8>, 64>(ring, algorithm, messages, out, meter);
-    } else {
-        write_in_lanes::<Sha256In<u32x8>, 64>(ring, algorithm, messages, out, meter);
-    }
-}
-
-// The digests of four messages under such an algorithm.
-fn write_four_short(algorithm: Algorithm, messages: &[&[u8]], out: &mut [Digest], meter: &mut Meter)
-    requires short { word_len algorithm ≡ 4 }
-    requires lanes { length messages.now ≡ 4 }
-    requires within { CanDigestEach algorithm messages.now (length out.old) }
-    ensures ok { AreDigests out.new algorithm messages.now }
-    ensures cost { meter.new ≡ raised meter.old (each_blocks algorithm messages.now) 0 }
-{
-    let ring = &mut four_short();
-    if algorithm.is_sha1() {
-        write_in_lanes::<Sha1In<u32x4>, 64>(ring, algorithm, messages, out, meter);
-    } else {
-        write_in_lanes::<Sha256In<u32x4>, 64>(ring, algorithm, messages, out, meter);
-    }
-}
-
-// The digests of four messages under an algorithm of 64-bit words.
-fn write_four_long(algorithm: Algorithm, messages: &[&[u8]], out: &mut [Digest], meter: &mut Meter)
-    requires long { word_len algorithm ≡ 8 }
-    requires lanes { length messages.now ≡ 4 }
-    requires within { CanDigestEach algorithm messages.now (length out.old) }
-    ensures ok { AreDigests out.new algorithm messages.now }
-    ensures cost { meter.new ≡ raised meter.old (each_blocks algorithm messages.now) 0 }
-{
-    let ring = &mut four_long();
-    match algorithm.id {
-        AlgorithmId::Sha384 => {
-            write_in_lanes::<Sha384In<u64x4>, 128>(ring, algorithm, messages, out, meter);
-        }
-        AlgorithmId::Sha512 => {
-            write_in_lanes::<Sha512In<u64x4>, 128>(ring, algorithm, messages, out, meter);
-        }
-        AlgorithmId::Sha512_256 => {
-            write_in_lanes::<Sha512_256In<u64x4>, 128>(ring, algorithm, messages, out, meter);
-        }
-        // Their words have 32 bits.
-        AlgorithmId::Sha1 | AlgorithmId::Sha256 => unreachable!(),
-    }
-}
-
 // Writes the digests of messages of which so many can run together.
-pub(crate) fn write_together(
+pub(crate) fn write_together<const BITS: usize>(
     algorithm: Algorithm,
     messages: &[&[u8]],
     out: &mut [Digest],
     meter: &mut Meter,
 )
-    requires together { CanRunTogether algorithm (length messages.now) }
+    requires together { CanRunTogether BITS algorithm (length messages.now) }
     requires within { CanDigestEach algorithm messages.now (length out.old) }
     ensures ok { AreDigests out.new algorithm messages.now }
     ensures cost { meter.new ≡ raised meter.old (each_blocks algorithm messages.now) 0 }
 {
-    if messages.len() == 1 {
-        out[0] = digest_within(algorithm, messages[0], meter);
-        return;
-    }
-    match algorithm.initial_state() {
-        DynState::As32(_) if messages.len() == 8 => {
-            write_eight_short(algorithm, messages, out, meter);
+    match (algorithm.id, messages.len()) {
+        (_, 1) => out[0] = digest_within(algorithm, messages[0], meter),
+        (AlgorithmId::Sha1, 8) if BITS >= AVX2 => {
+            write_in_lanes::<ShortIn<u32x8, Sha1>, 64>(algorithm, messages, out, meter);
         }
-        DynState::As32(_) => write_four_short(algorithm, messages, out, meter),
-        DynState::As64(_) => write_four_long(algorithm, messages, out, meter),
+        (AlgorithmId::Sha256, 8) if BITS >= AVX2 => {
+            write_in_lanes::<ShortIn<u32x8, Sha256>, 64>(algorithm, messages, out, meter);
+        }
+        (AlgorithmId::Sha1, _) => {
+            write_in_lanes::<ShortIn<u32x4, Sha1>, 64>(algorithm, messages, out, meter);
+        }
+        (AlgorithmId::Sha256, _) => {
+            write_in_lanes::<ShortIn<u32x4, Sha256>, 64>(algorithm, messages, out, meter);
+        }
+        // The three algorithms of 64-bit words have one block function.
+        _ if BITS >= AVX2 => {
+            write_in_lanes::<LongIn<u64x4, Sha512>, 128>(algorithm, messages, out, meter);
+        }
+        // Words of 64 bits run alone in narrower vectors.
+        _ => unreachable!(),
     }
 }

@@ -6,43 +6,24 @@ ghost use Rattle.ring.specs.Lanes.{CanRunTogether};
 use crate::digest::algorithm::Algorithm;
 use crate::digest::dynstate::DynState;
 
-// The vectors that a call runs over. A crate can't ask which its build has, so its caller says.
-#[derive(Clone, Copy)]
-pub(crate) enum Vectors {
-    // SSE: four words of 32 bits. Two of 64 bits are no faster than one after the other.
-    Of128Bits,
-    // AVX2: eight words of 32 bits, or four of 64.
-    Of256Bits,
-}
+// The bits of a vector with SSE, and with AVX2. A crate can't ask which of them its build has, so a
+// caller names one as a const argument: the linker then drops what the other would run.
+pub(crate) const SSE: usize = 128;
 
-// The greatest number of lanes, and the next smaller one that pays.
-fn numbers_of_lanes(algorithm: Algorithm, vectors: Vectors) -> (usize, usize)
-    ensures some { 0 < result.0 }
-    ensures more { 0 < result.1 }
-    ensures greatest { CanRunTogether algorithm result.0 }
-    ensures smaller { CanRunTogether algorithm result.1 }
-{
-    match (algorithm.initial_state(), vectors) {
-        (DynState::As32(_), Vectors::Of256Bits) => (8, 4),
-        (DynState::As32(_), Vectors::Of128Bits) => (4, 4),
-        (DynState::As64(_), Vectors::Of256Bits) => (4, 4),
-        (DynState::As64(_), Vectors::Of128Bits) => (1, 1),
-    }
-}
+pub(crate) const AVX2: usize = 256;
 
-// How many of those that are left run side by side next.
-pub(crate) fn lanes_for(algorithm: Algorithm, vectors: Vectors, left: usize) -> usize
+// How many of those that are left run side by side next: as many as a vector has words. Two words of
+// 64 bits are no faster than one after the other.
+pub(crate) fn lanes_for<const BITS: usize>(algorithm: Algorithm, left: usize) -> usize
     requires { 0 < left }
     ensures some { 0 < result }
     ensures within { result ≤ left }
-    ensures together { CanRunTogether algorithm result }
+    ensures together { CanRunTogether BITS algorithm result }
 {
-    let (greatest, smaller) = numbers_of_lanes(algorithm, vectors);
-    if greatest <= left {
-        greatest
-    } else if smaller <= left {
-        smaller
-    } else {
-        1
+    match algorithm.initial_state() {
+        DynState::As32(_) if BITS >= AVX2 && left >= 8 => 8,
+        DynState::As32(_) if BITS >= SSE && left >= 4 => 4,
+        DynState::As64(_) if BITS >= AVX2 && left >= 4 => 4,
+        _ => 1,
     }
 }

@@ -6,7 +6,7 @@ ghost use Rattle.ring_core.specs.Cost.{raised};
 ghost use Rattle.ring.specs.Hmac.{hmac_of};
 ghost use Rattle.ring.specs.Lanes.{IsKeyInLane, digest_bytes};
 
-use crate::digest::side_by_side::SideBySide;
+use crate::digest::side_by_side::lane_digests::SideBySide;
 use ring_core::cost::Meter;
 
 // Replaces the words of a digest by those of its tag, in each lane under the key of that lane.

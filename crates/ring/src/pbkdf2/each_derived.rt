@@ -16,11 +16,11 @@ ghost use Rattle.ring.specs.declared.digest.dynstate.Output.{Output};
 ghost use Rattle.ring.specs.declared.hmac.key.Key.{Key};
 
 use crate::digest::dynstate::Output;
-use crate::digest::vectors::{Vectors, lanes_for};
+use crate::digest::vectors::{SSE, lanes_for};
 use crate::hmac::Key;
 use crate::limits::can_derive;
 use crate::pbkdf2::algorithm::Algorithm;
-use crate::pbkdf2::keys::{eight_keys, four_keys, key_within, write_round_of_each};
+use crate::pbkdf2::keys::{key_within, keys_of, write_round_of_each};
 use crate::pbkdf2::parts::{NO_ROUNDS, write_rounds};
 use crate::{digest, hmac};
 use ring_core::cost::Meter;
@@ -67,7 +67,7 @@ fn put_round<const N: usize>(rounds: &[Output], written: usize, end: usize, out:
 }
 
 // Writes to each place of `out` what is derived from the salt and the key there.
-fn write_under<const N: usize>(
+fn write_under<const BITS: usize, const N: usize>(
     algorithm: digest::Algorithm,
     keys: &[Key],
     iterations: NonZeroU32,
@@ -75,7 +75,7 @@ fn write_under<const N: usize>(
     out: &mut [[u8; N]],
     meter: &mut Meter,
 )
-    requires together { CanRunTogether algorithm (length keys.now) }
+    requires together { CanRunTogether BITS algorithm (length keys.now) }
     requires keys { (i : ℕ) (key : Key) → i < length keys.now
         → key_algorithm (get_or keys.now i key) ≡ algorithm }
     requires salts { length salts.now ≡ length keys.now }
@@ -99,7 +99,7 @@ fn write_under<const N: usize>(
     'rounds: while written < N {
         let end = written + output_len.min(N - written);
         number += 1;
-        write_round_of_each(algorithm, keys, iterations, salts, number, rounds, meter);
+        write_round_of_each::<BITS>(algorithm, keys, iterations, salts, number, rounds, meter);
         put_round(rounds, written, end, out);
         written = end;
     }
@@ -107,8 +107,7 @@ fn write_under<const N: usize>(
 
 // Writes to each place of `out` the key of the secret and the salt there: of as many as can run
 // together.
-fn write_together<const N: usize>(
-    vectors: Vectors,
+fn write_together<const BITS: usize, const N: usize>(
     algorithm: hmac::Algorithm,
     iterations: NonZeroU32,
     salts: &[&[u8]],
@@ -116,7 +115,7 @@ fn write_together<const N: usize>(
     out: &mut [[u8; N]],
     meter: &mut Meter,
 )
-    requires together { CanRunTogether (hmac_digest algorithm) (length out.old) }
+    requires together { CanRunTogether BITS (hmac_digest algorithm) (length out.old) }
     requires within { CanDeriveEach (hmac_digest algorithm) salts.now secrets.now
         (length out.old) N }
     ensures ok { AreDerived out.new (hmac_digest algorithm) salts.now secrets.now
@@ -124,26 +123,19 @@ fn write_together<const N: usize>(
     ensures cost { meter.new ≡ raised meter.old (derive_each_blocks (hmac_digest algorithm)
         salts.now secrets.now (non_zero_u32_get iterations) N) 0 }
 {
-    let digest = algorithm.digest_algorithm();
-    match secrets.len() {
-        8 => {
-            let keys = eight_keys(algorithm, secrets, meter);
-            write_under(digest, &keys, iterations, salts, out, meter);
-        }
-        4 => {
-            let keys = four_keys(algorithm, secrets, meter);
-            write_under(digest, &keys, iterations, salts, out, meter);
-        }
-        _ => {
-            let key = key_within(algorithm, secrets[0], meter);
-            write_rounds(vectors, &key, iterations, salts[0], &mut out[0], meter);
-        }
+    if secrets.len() == 1 {
+        let key = key_within(algorithm, secrets[0], meter);
+        write_rounds::<BITS>(&key, iterations, salts[0], &mut out[0], meter);
+        return;
     }
+    let digest = algorithm.digest_algorithm();
+    let keys = keys_of(algorithm, secrets, meter);
+    let keys = &keys[..secrets.len()];
+    write_under::<BITS, N>(digest, keys, iterations, salts, out, meter);
 }
 
 // Writes the keys of the secrets to `out`, as many side by side as can run together.
-fn write_each<const N: usize>(
-    vectors: Vectors,
+fn write_each<const BITS: usize, const N: usize>(
     algorithm: hmac::Algorithm,
     iterations: NonZeroU32,
     salts: &[&[u8]],
@@ -160,9 +152,8 @@ fn write_each<const N: usize>(
     let digest = algorithm.digest_algorithm();
     let mut made = 0;
     'together: while made < out.len() {
-        let end = made + lanes_for(digest, vectors, out.len() - made);
-        write_together(
-            vectors,
+        let end = made + lanes_for::<BITS>(digest, out.len() - made);
+        write_together::<BITS, N>(
             algorithm,
             iterations,
             &salts[made..end],
@@ -174,9 +165,8 @@ fn write_each<const N: usize>(
     }
 }
 
-// Derives several keys as `derive_each_counted` does, over vectors of this width.
-pub(crate) fn derive_each_in<const N: usize>(
-    vectors: Vectors,
+// Derives several keys as `derive_each_counted` does, over vectors of so many bits.
+pub(crate) fn derive_each_in<const BITS: usize, const N: usize>(
     algorithm: Algorithm,
     iterations: NonZeroU32,
     salts: &[&[u8]],
@@ -200,15 +190,7 @@ pub(crate) fn derive_each_in<const N: usize>(
     if !are_within(&hmac_algorithm.digest_algorithm(), salts, secrets, N) {
         return Err(Unspecified);
     }
-    write_each(
-        vectors,
-        hmac_algorithm,
-        iterations,
-        salts,
-        secrets,
-        out,
-        meter,
-    );
+    write_each::<BITS, N>(hmac_algorithm, iterations, salts, secrets, out, meter);
     Ok(())
 }
 
@@ -232,15 +214,7 @@ pub fn derive_each_counted<const N: usize>(
         (derive_each_blocks (pbkdf2_digest algorithm) salts.now secrets.now
         (non_zero_u32_get iterations) N) 0) }
 {
-    derive_each_in(
-        Vectors::Of128Bits,
-        algorithm,
-        iterations,
-        salts,
-        secrets,
-        out,
-        meter,
-    )
+    derive_each_in::<SSE, N>(algorithm, iterations, salts, secrets, out, meter)
 }
 
 /// Derives a key of `N` bytes for each place of `out`, with the same `algorithm` and `iterations`,

@@ -17,12 +17,12 @@ ghost use Rattle.ring.specs.declared.hmac.key.Key.{Key};
 
 use crate::digest;
 use crate::digest::dynstate::Output;
-use crate::digest::vectors::{Vectors, lanes_for};
+use crate::digest::vectors::{SSE, lanes_for};
 use crate::hmac::Key;
 use crate::hmac::algorithm::Algorithm as HmacAlgorithm;
 use crate::limits::can_verify;
 use crate::pbkdf2::algorithm::Algorithm;
-use crate::pbkdf2::keys::{eight_keys, four_keys, key_within, write_round_of_each};
+use crate::pbkdf2::keys::{key_within, keys_of, write_round_of_each};
 use crate::pbkdf2::parts::{NO_ROUNDS, are_rounds, are_same};
 use ring_core::cost::Meter;
 use ring_core::error::Unspecified;
@@ -84,7 +84,7 @@ fn compare_round<const N: usize>(
 
 // Sets each place of `matches` to whether the value there is derived from the salt and the key
 // there.
-fn verify_under<const N: usize>(
+fn verify_under<const BITS: usize, const N: usize>(
     algorithm: digest::Algorithm,
     keys: &[Key],
     iterations: NonZeroU32,
@@ -93,7 +93,7 @@ fn verify_under<const N: usize>(
     matches: &mut [bool],
     meter: &mut Meter,
 )
-    requires together { CanRunTogether algorithm (length keys.now) }
+    requires together { CanRunTogether BITS algorithm (length keys.now) }
     requires keys { (i : ℕ) (key : Key) → i < length keys.now
         → key_algorithm (get_or keys.now i key) ≡ algorithm }
     requires salts { length salts.now ≡ length keys.now }
@@ -120,7 +120,7 @@ fn verify_under<const N: usize>(
     'rounds: while checked < N {
         let end = checked + output_len.min(N - checked);
         number += 1;
-        write_round_of_each(algorithm, keys, iterations, salts, number, rounds, meter);
+        write_round_of_each::<BITS>(algorithm, keys, iterations, salts, number, rounds, meter);
         compare_round(rounds, checked, end, values, matches, meter);
         checked = end;
     }
@@ -128,8 +128,7 @@ fn verify_under<const N: usize>(
 
 // Sets each place of `matches` to whether the value there is derived from the secret and the salt
 // there: of as many as can run together.
-fn verify_together<const N: usize>(
-    vectors: Vectors,
+fn verify_together<const BITS: usize, const N: usize>(
     algorithm: HmacAlgorithm,
     iterations: NonZeroU32,
     salts: &[&[u8]],
@@ -138,7 +137,7 @@ fn verify_together<const N: usize>(
     matches: &mut [bool],
     meter: &mut Meter,
 )
-    requires together { CanRunTogether (hmac_digest algorithm) (length values.now) }
+    requires together { CanRunTogether BITS (hmac_digest algorithm) (length values.now) }
     requires within { CanVerifyEach (hmac_digest algorithm) salts.now secrets.now values.now
         (length values.now) N }
     requires len { (k : ℕ) → k < length values.now → length (get_or values.now k []) ≡ N }
@@ -148,26 +147,19 @@ fn verify_together<const N: usize>(
     ensures cost { meter.new ≡ raised meter.old (derive_each_blocks (hmac_digest algorithm)
         salts.now secrets.now (non_zero_u32_get iterations) N) (length values.now * N) }
 {
-    let digest = algorithm.digest_algorithm();
-    match secrets.len() {
-        8 => {
-            let keys = eight_keys(algorithm, secrets, meter);
-            verify_under(digest, &keys, iterations, salts, values, matches, meter);
-        }
-        4 => {
-            let keys = four_keys(algorithm, secrets, meter);
-            verify_under(digest, &keys, iterations, salts, values, matches, meter);
-        }
-        _ => {
-            let key = key_within(algorithm, secrets[0], meter);
-            matches[0] = are_rounds(vectors, &key, iterations, salts[0], &values[0], meter);
-        }
+    if secrets.len() == 1 {
+        let key = key_within(algorithm, secrets[0], meter);
+        matches[0] = are_rounds::<BITS>(&key, iterations, salts[0], &values[0], meter);
+        return;
     }
+    let digest = algorithm.digest_algorithm();
+    let keys = keys_of(algorithm, secrets, meter);
+    let keys = &keys[..secrets.len()];
+    verify_under::<BITS, N>(digest, keys, iterations, salts, values, matches, meter);
 }
 
 // Sets `matches` to the answers for all values, as many side by side as can run together.
-fn verify_all<const N: usize>(
-    vectors: Vectors,
+fn verify_all<const BITS: usize, const N: usize>(
     algorithm: HmacAlgorithm,
     iterations: NonZeroU32,
     salts: &[&[u8]],
@@ -188,9 +180,8 @@ fn verify_all<const N: usize>(
     let digest = algorithm.digest_algorithm();
     let mut made = 0;
     'together: while made < values.len() {
-        let end = made + lanes_for(digest, vectors, values.len() - made);
-        verify_together(
-            vectors,
+        let end = made + lanes_for::<BITS>(digest, values.len() - made);
+        verify_together::<BITS, N>(
             algorithm,
             iterations,
             &salts[made..end],
@@ -203,9 +194,8 @@ fn verify_all<const N: usize>(
     }
 }
 
-// Tests several values as `verify_each_counted` does, over vectors of this width.
-pub(crate) fn verify_each_in<const N: usize>(
-    vectors: Vectors,
+// Tests several values as `verify_each_counted` does, over vectors of so many bits.
+pub(crate) fn verify_each_in<const BITS: usize, const N: usize>(
     algorithm: Algorithm,
     iterations: NonZeroU32,
     salts: &[&[u8]],
@@ -232,8 +222,7 @@ pub(crate) fn verify_each_in<const N: usize>(
     if !are_within(&digest_algorithm, salts, secrets, previously_derived) {
         return Err(Unspecified);
     }
-    verify_all(
-        vectors,
+    verify_all::<BITS, N>(
         hmac_algorithm,
         iterations,
         salts,
@@ -266,8 +255,7 @@ pub fn verify_each_counted<const N: usize>(
         (derive_each_blocks (pbkdf2_digest algorithm) salts.now secrets.now
         (non_zero_u32_get iterations) N) (length previously_derived.now * N)) }
 {
-    verify_each_in(
-        Vectors::Of128Bits,
+    verify_each_in::<SSE, N>(
         algorithm,
         iterations,
         salts,

@@ -11,7 +11,7 @@ ghost use Rattle.ring.specs.Limits.{IsTagWithin};
 ghost use Rattle.ring.specs.Pbkdf2.{iterate, xored};
 
 use crate::digest::dynstate::OUTPUT_ROOM;
-use crate::digest::side_by_side::SideBySide;
+use crate::digest::side_by_side::lane_digests::SideBySide;
 use crate::hmac::tag_of_digest::replace_by_tag;
 use crate::hmac::{Context, Key, Tag};
 use ring_core::cost::Meter;

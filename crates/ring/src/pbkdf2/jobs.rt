@@ -4,7 +4,6 @@
 ghost use Rattle.std.specs.Prelude.{◌≡◌, ℕ, ◌<◌, ◌≤◌, get_or, length};
 ghost use Rattle.std.specs.Int.NonZero.{non_zero_u32_get};
 ghost use Rattle.ring_core.specs.Cost.{raised};
-ghost use Rattle.ring.specs.Algorithm.{word_len};
 ghost use Rattle.ring.specs.DeriveEach.{sum_below};
 ghost use Rattle.ring.specs.Jobs.{AreStarts, BeginsWithRound, CanRun, IsJobWithin, first_blocks};
 ghost use Rattle.ring.specs.Jobs.{job_blocks};
@@ -14,10 +13,14 @@ ghost use Rattle.ring.specs.declared.digest.dynstate.Output.{Output};
 use crate::digest;
 use crate::digest::algorithm::AlgorithmId;
 use crate::digest::dynstate::{DynState, Output};
-use crate::digest::side_by_side::alone::{Sha1, Sha256, Sha384, Sha512, Sha512_256};
-use crate::digest::side_by_side::long_lanes::{Sha384In, Sha512_256In, Sha512In, four_long};
-use crate::digest::side_by_side::short_lanes::{Sha1In, Sha256In, eight_short, four_short};
-use crate::digest::side_by_side::{MAX_LANES, SideBySide};
+use crate::digest::side_by_side::alone::{LongAlone, ShortAlone};
+use crate::digest::side_by_side::lane_digests::{
+    Sha1, Sha256, Sha384, Sha512, Sha512_256, SideBySide,
+};
+use crate::digest::side_by_side::lane_states::{LaneStates, MAX_LANES};
+use crate::digest::side_by_side::long_lanes::LongIn;
+use crate::digest::side_by_side::short_lanes::ShortIn;
+use crate::digest::vectors::AVX2;
 use crate::hmac::Key;
 use crate::pbkdf2::iterates::{bytes_of, first_iterate, xor_iterates};
 use ring_core::cost::Meter;
@@ -41,6 +44,8 @@ struct Starts {
     first: [DynState; MAX_LANES],
 }
 
+const NO_STATES: [DynState; MAX_LANES] = [DynState::As32([Wrapping(0); 8]); MAX_LANES];
+
 // What the rounds of the jobs start from.
 fn starts_of(jobs: &[Job], meter: &mut Meter) -> Starts
     requires most { length jobs.now ≤ 8 }
@@ -53,11 +58,10 @@ fn starts_of(jobs: &[Job], meter: &mut Meter) -> Starts
     ensures lengths { (length result.inner ≡ 8) × (length result.outer ≡ 8)
         × (length result.first ≡ 8) }
 {
-    let none = [DynState::As32([Wrapping(0); 8]); MAX_LANES];
     let mut starts = Starts {
-        inner: none,
-        outer: none,
-        first: none,
+        inner: NO_STATES,
+        outer: NO_STATES,
+        first: NO_STATES,
     };
     'starts: for i in 0..jobs.len() {
         let job = jobs[i];
@@ -70,8 +74,8 @@ fn starts_of(jobs: &[Job], meter: &mut Meter) -> Starts
 }
 
 // Writes the rounds of as many jobs as there are lanes.
+#[inline(never)]
 fn write_in_lanes<H: SideBySide>(
-    ring: &mut H::Ring,
     jobs: &[Job],
     iterations: NonZeroU32,
     rounds: &mut [Output],
@@ -93,21 +97,22 @@ fn write_in_lanes<H: SideBySide>(
     let inner = H::new(&starts.inner[..jobs.len()]);
     let outer = H::new(&starts.outer[..jobs.len()]);
     let first = H::new(&starts.first[..jobs.len()]);
-    let sums = xor_iterates::<H>(ring, &inner, &outer, &first, iterations, meter);
+    let mut ring = H::ring();
+    let sums = xor_iterates::<H>(&mut ring, &inner, &outer, &first, iterations, meter);
     'rounds: for i in 0..jobs.len() {
         rounds[i] = H::state(&sums, i).format_output();
     }
 }
 
-// Writes the round of a job alone.
-fn write_one(
+// Writes the rounds of the jobs, of which so many can run together.
+pub(crate) fn run_jobs<const BITS: usize>(
     algorithm: digest::Algorithm,
     jobs: &[Job],
     iterations: NonZeroU32,
     rounds: &mut [Output],
     meter: &mut Meter,
 )
-    requires one { length jobs.now ≡ 1 }
+    requires together { CanRunTogether BITS algorithm (length jobs.now) }
     requires each { (i : ℕ) (job : Job) → i < length jobs.now
         → CanRun algorithm (get_or jobs.now i job) }
     requires room { length rounds.old ≡ length jobs.now }
@@ -117,110 +122,42 @@ fn write_one(
         (sum_below (λ i. job_blocks (non_zero_u32_get iterations) (get_or jobs.now i job))
         (length jobs.now)) 0 }
 {
-    match algorithm.id {
-        AlgorithmId::Sha1 => write_in_lanes::<Sha1>(&mut (), jobs, iterations, rounds, meter),
-        AlgorithmId::Sha256 => write_in_lanes::<Sha256>(&mut (), jobs, iterations, rounds, meter),
-        AlgorithmId::Sha384 => write_in_lanes::<Sha384>(&mut (), jobs, iterations, rounds, meter),
-        AlgorithmId::Sha512 => write_in_lanes::<Sha512>(&mut (), jobs, iterations, rounds, meter),
-        AlgorithmId::Sha512_256 => write_in_lanes::<Sha512_256>(
-            &mut (),
-            jobs,
-            iterations,
-            rounds,
-            meter,
-        ),
-    }
-}
-
-// Writes the rounds of four jobs.
-fn write_four(
-    algorithm: digest::Algorithm,
-    jobs: &[Job],
-    iterations: NonZeroU32,
-    rounds: &mut [Output],
-    meter: &mut Meter,
-)
-    requires four { length jobs.now ≡ 4 }
-    requires each { (i : ℕ) (job : Job) → i < length jobs.now
-        → CanRun algorithm (get_or jobs.now i job) }
-    requires room { length rounds.old ≡ length jobs.now }
-    ensures ok { (i : ℕ) (job : Job) (room : Output) → i < length jobs.now → BeginsWithRound
-        (get_or jobs.now i job) (non_zero_u32_get iterations) (get_or rounds.new i room).0 }
-    ensures cost { (job : Job) → meter.new ≡ raised meter.old
-        (sum_below (λ i. job_blocks (non_zero_u32_get iterations) (get_or jobs.now i job))
-        (length jobs.now)) 0 }
-{
-    match algorithm.id {
-        AlgorithmId::Sha1 => {
-            write_in_lanes::<Sha1In<u32x4>>(&mut four_short(), jobs, iterations, rounds, meter)
+    match (algorithm.id, jobs.len()) {
+        (AlgorithmId::Sha1, 8) if BITS >= AVX2 => {
+            write_in_lanes::<ShortIn<u32x8, Sha1>>(jobs, iterations, rounds, meter)
         }
-        AlgorithmId::Sha256 => {
-            write_in_lanes::<Sha256In<u32x4>>(&mut four_short(), jobs, iterations, rounds, meter)
+        (AlgorithmId::Sha1, 4) => {
+            write_in_lanes::<ShortIn<u32x4, Sha1>>(jobs, iterations, rounds, meter)
         }
-        AlgorithmId::Sha384 => {
-            write_in_lanes::<Sha384In<u64x4>>(&mut four_long(), jobs, iterations, rounds, meter)
+        (AlgorithmId::Sha1, _) => {
+            write_in_lanes::<ShortAlone<Sha1>>(jobs, iterations, rounds, meter)
         }
-        AlgorithmId::Sha512 => {
-            write_in_lanes::<Sha512In<u64x4>>(&mut four_long(), jobs, iterations, rounds, meter)
+        (AlgorithmId::Sha256, 8) if BITS >= AVX2 => {
+            write_in_lanes::<ShortIn<u32x8, Sha256>>(jobs, iterations, rounds, meter)
         }
-        AlgorithmId::Sha512_256 => {
-            write_in_lanes::<Sha512_256In<u64x4>>(&mut four_long(), jobs, iterations, rounds, meter)
+        (AlgorithmId::Sha256, 4) => {
+            write_in_lanes::<ShortIn<u32x4, Sha256>>(jobs, iterations, rounds, meter)
         }
-    }
-}
-
-// Writes the rounds of eight jobs, where words have 32 bits.
-fn write_eight(
-    algorithm: digest::Algorithm,
-    jobs: &[Job],
-    iterations: NonZeroU32,
-    rounds: &mut [Output],
-    meter: &mut Meter,
-)
-    requires eight { length jobs.now ≡ 8 }
-    requires short { word_len algorithm ≡ 4 }
-    requires each { (i : ℕ) (job : Job) → i < length jobs.now
-        → CanRun algorithm (get_or jobs.now i job) }
-    requires room { length rounds.old ≡ length jobs.now }
-    ensures ok { (i : ℕ) (job : Job) (room : Output) → i < length jobs.now → BeginsWithRound
-        (get_or jobs.now i job) (non_zero_u32_get iterations) (get_or rounds.new i room).0 }
-    ensures cost { (job : Job) → meter.new ≡ raised meter.old
-        (sum_below (λ i. job_blocks (non_zero_u32_get iterations) (get_or jobs.now i job))
-        (length jobs.now)) 0 }
-{
-    match algorithm.id {
-        AlgorithmId::Sha1 => {
-            write_in_lanes::<Sha1In<u32x8>>(&mut eight_short(), jobs, iterations, rounds, meter)
+        (AlgorithmId::Sha256, _) => {
+            write_in_lanes::<ShortAlone<Sha256>>(jobs, iterations, rounds, meter)
         }
-        AlgorithmId::Sha256 => {
-            write_in_lanes::<Sha256In<u32x8>>(&mut eight_short(), jobs, iterations, rounds, meter)
+        (AlgorithmId::Sha384, 4) if BITS >= AVX2 => {
+            write_in_lanes::<LongIn<u64x4, Sha384>>(jobs, iterations, rounds, meter)
         }
-        // Words have 64 bits, of which no vector has eight.
-        _ => unreachable!(),
-    }
-}
-
-// Writes the rounds of the jobs, which run side by side.
-pub(crate) fn run_jobs(
-    algorithm: digest::Algorithm,
-    jobs: &[Job],
-    iterations: NonZeroU32,
-    rounds: &mut [Output],
-    meter: &mut Meter,
-)
-    requires together { CanRunTogether algorithm (length jobs.now) }
-    requires each { (i : ℕ) (job : Job) → i < length jobs.now
-        → CanRun algorithm (get_or jobs.now i job) }
-    requires room { length rounds.old ≡ length jobs.now }
-    ensures ok { (i : ℕ) (job : Job) (room : Output) → i < length jobs.now → BeginsWithRound
-        (get_or jobs.now i job) (non_zero_u32_get iterations) (get_or rounds.new i room).0 }
-    ensures cost { (job : Job) → meter.new ≡ raised meter.old
-        (sum_below (λ i. job_blocks (non_zero_u32_get iterations) (get_or jobs.now i job))
-        (length jobs.now)) 0 }
-{
-    match jobs.len() {
-        8 => write_eight(algorithm, jobs, iterations, rounds, meter),
-        4 => write_four(algorithm, jobs, iterations, rounds, meter),
-        _ => write_one(algorithm, jobs, iterations, rounds, meter),
+        (AlgorithmId::Sha384, _) => {
+            write_in_lanes::<LongAlone<Sha384>>(jobs, iterations, rounds, meter)
+        }
+        (AlgorithmId::Sha512, 4) if BITS >= AVX2 => {
+            write_in_lanes::<LongIn<u64x4, Sha512>>(jobs, iterations, rounds, meter)
+        }
+        (AlgorithmId::Sha512, _) => {
+            write_in_lanes::<LongAlone<Sha512>>(jobs, iterations, rounds, meter)
+        }
+        (AlgorithmId::Sha512_256, 4) if BITS >= AVX2 => {
+            write_in_lanes::<LongIn<u64x4, Sha512_256>>(jobs, iterations, rounds, meter)
+        }
+        (AlgorithmId::Sha512_256, _) => {
+            write_in_lanes::<LongAlone<Sha512_256>>(jobs, iterations, rounds, meter)
+        }
     }
 }

@@ -14,7 +14,7 @@ ghost use Rattle.ring.specs.declared.digest.dynstate.Output.{Output};
 
 use crate::digest;
 use crate::digest::dynstate::Output;
-use crate::digest::side_by_side::MAX_LANES;
+use crate::digest::side_by_side::lane_states::MAX_LANES;
 use crate::hmac::Key;
 use crate::hmac::algorithm::Algorithm;
 use crate::pbkdf2::jobs::{Job, run_jobs};
@@ -36,46 +36,41 @@ pub(crate) fn key_within(algorithm: Algorithm, secret: &[u8], meter: &mut Meter)
     }
 }
 
-// The keys of four secrets.
-pub(crate) fn four_keys(algorithm: Algorithm, secrets: &[&[u8]], meter: &mut Meter) -> [Key; 4]
-    requires secrets { length secrets.now ≡ 4 }
-    requires within { (i : ℕ) → i < 4
+// The keys of the secrets, each at its secret's place, in room for the greatest number of lanes.
+pub(crate) fn keys_of(
+    algorithm: Algorithm,
+    secrets: &[&[u8]],
+    meter: &mut Meter,
+) -> [Key; MAX_LANES]
+    requires some { 0 < length secrets.now }
+    requires most { length secrets.now ≤ 8 }
+    requires within { (i : ℕ) → i < length secrets.now
         → length (bytes_at secrets.now i) ≤ max_input_len (hmac_digest algorithm) }
-    ensures ok { AreKeysOf (hmac_digest algorithm) result (bytes_at secrets.now) }
-    ensures cost { meter.new ≡ raised meter.old (sum_below
-        (λ i. key_blocks (hmac_digest algorithm) (length (bytes_at secrets.now i))) 4) 0 }
+    ensures ok { AreKeysOf (hmac_digest algorithm)
+        (take (length secrets.now) result) (bytes_at secrets.now) }
+    ensures cost { meter.new ≡ raised meter.old (sum_below (λ i. key_blocks
+        (hmac_digest algorithm) (length (bytes_at secrets.now i))) (length secrets.now)) 0 }
+    ensures count { length (take (length secrets.now) result) ≡ length secrets.now }
 {
-    [
-        key_within(algorithm, secrets[0], meter),
-        key_within(algorithm, secrets[1], meter),
-        key_within(algorithm, secrets[2], meter),
-        key_within(algorithm, secrets[3], meter),
-    ]
-}
-
-// The keys of eight secrets.
-pub(crate) fn eight_keys(algorithm: Algorithm, secrets: &[&[u8]], meter: &mut Meter) -> [Key; 8]
-    requires secrets { length secrets.now ≡ 8 }
-    requires within { (i : ℕ) → i < 8
-        → length (bytes_at secrets.now i) ≤ max_input_len (hmac_digest algorithm) }
-    ensures ok { AreKeysOf (hmac_digest algorithm) result (bytes_at secrets.now) }
-    ensures cost { meter.new ≡ raised meter.old (sum_below
-        (λ i. key_blocks (hmac_digest algorithm) (length (bytes_at secrets.now i))) 8) 0 }
-{
-    [
-        key_within(algorithm, secrets[0], meter),
-        key_within(algorithm, secrets[1], meter),
-        key_within(algorithm, secrets[2], meter),
-        key_within(algorithm, secrets[3], meter),
-        key_within(algorithm, secrets[4], meter),
-        key_within(algorithm, secrets[5], meter),
-        key_within(algorithm, secrets[6], meter),
-        key_within(algorithm, secrets[7], meter),
-    ]
+    let first = key_within(algorithm, secrets[0], meter);
+    let mut keys = [
+        first.clone(),
+        first.clone(),
+        first.clone(),
+        first.clone(),
+        first.clone(),
+        first.clone(),
+        first.clone(),
+        first,
+    ];
+    'keys: for i in 1..secrets.len() {
+        keys[i] = key_within(algorithm, secrets[i], meter);
+    }
+    keys
 }
 
 // Writes the round of this number of each salt, under the key at its place.
-pub(crate) fn write_round_of_each(
+pub(crate) fn write_round_of_each<const BITS: usize>(
     algorithm: digest::Algorithm,
     keys: &[Key],
     iterations: NonZeroU32,
@@ -84,7 +79,7 @@ pub(crate) fn write_round_of_each(
     rounds: &mut [Output],
     meter: &mut Meter,
 )
-    requires together { CanRunTogether algorithm (length keys.now) }
+    requires together { CanRunTogether BITS algorithm (length keys.now) }
     requires keys { (i : ℕ) (key : Key) → i < length keys.now
         → key_algorithm (get_or keys.now i key) ≡ algorithm }
     requires salts { length salts.now ≡ length keys.now }
@@ -111,5 +106,5 @@ pub(crate) fn write_round_of_each(
             number,
         };
     }
-    run_jobs(algorithm, &jobs[..keys.len()], iterations, rounds, meter);
+    run_jobs::<BITS>(algorithm, &jobs[..keys.len()], iterations, rounds, meter);
 }

@@ -19,8 +19,8 @@ ghost use Rattle.ring.specs.declared.pbkdf2.jobs.Job.{Job};
 use crate::digest;
 use crate::digest::algorithm::MAX_OUTPUT_LEN;
 use crate::digest::dynstate::{OUTPUT_ROOM, Output};
-use crate::digest::side_by_side::MAX_LANES;
-use crate::digest::vectors::{Vectors, lanes_for};
+use crate::digest::side_by_side::lane_states::MAX_LANES;
+use crate::digest::vectors::lanes_for;
 use crate::hmac::Key;
 use crate::pbkdf2::jobs::{Job, run_jobs};
 use ring_core::bb::verify_slices_are_equal_counted;
@@ -59,15 +59,15 @@ fn wanted_rounds(output_len: usize, left: usize) -> usize
 
 // How many rounds the next part has, and how many bytes of them are wanted, where `left` bytes are
 // left.
-fn next_part(algorithm: digest::Algorithm, vectors: Vectors, left: usize) -> (usize, usize)
+fn next_part<const BITS: usize>(algorithm: digest::Algorithm, left: usize) -> (usize, usize)
     requires some { 0 < left }
     requires most { left < 2 ^ 63 }
-    ensures together { CanRunTogether algorithm result.0 }
+    ensures together { CanRunTogether BITS algorithm result.0 }
     ensures wanted { result.1 ≡ min (result.0 * output_len algorithm) left }
     ensures needed { result.0 * output_len algorithm < left + output_len algorithm }
 {
     let output_len = algorithm.output_len();
-    let rounds = lanes_for(algorithm, vectors, wanted_rounds(output_len, left));
+    let rounds = lanes_for::<BITS>(algorithm, wanted_rounds(output_len, left));
     (rounds, left.min(rounds * output_len))
 }
 
@@ -108,7 +108,7 @@ fn put_rounds(rounds: &[Output], output_len: usize, out: &mut [u8])
 }
 
 // Writes the part of so many rounds that comes after the first `before`.
-fn write_part(
+fn write_part<const BITS: usize>(
     key: &Key,
     iterations: NonZeroU32,
     salt: &[u8],
@@ -117,7 +117,7 @@ fn write_part(
     out: &mut [u8],
     meter: &mut Meter,
 )
-    requires together { CanRunTogether (key_algorithm key.now) rounds }
+    requires together { CanRunTogether BITS (key_algorithm key.now) rounds }
     requires within { IsTagWithin (key_algorithm key.now) (length salt.now + 4) }
     requires size { length out.old ≤ rounds * output_len (key_algorithm key.now) }
     requires needed { derive_rounds (key_algorithm key.now) (length out.old) ≡ rounds }
@@ -133,12 +133,12 @@ fn write_part(
     let jobs = jobs_after(key, salt, before, rounds);
     let mut outputs = NO_ROUNDS;
     let outputs = &mut outputs[..rounds];
-    run_jobs(algorithm, &jobs[..rounds], iterations, outputs, meter);
+    run_jobs::<BITS>(algorithm, &jobs[..rounds], iterations, outputs, meter);
     put_rounds(outputs, algorithm.output_len(), out);
 }
 
 // Whether these are the bytes of the part of so many rounds that comes after the first `before`.
-fn is_part(
+fn is_part<const BITS: usize>(
     key: &Key,
     iterations: NonZeroU32,
     salt: &[u8],
@@ -147,7 +147,7 @@ fn is_part(
     part: &[u8],
     meter: &mut Meter,
 ) -> bool
-    requires together { CanRunTogether (key_algorithm key.now) rounds }
+    requires together { CanRunTogether BITS (key_algorithm key.now) rounds }
     requires within { IsTagWithin (key_algorithm key.now) (length salt.now + 4) }
     requires size { length part.now ≤ rounds * output_len (key_algorithm key.now) }
     requires needed { derive_rounds (key_algorithm key.now) (length part.now) ≡ rounds }
@@ -161,13 +161,12 @@ fn is_part(
 {
     let mut buffer = [0; MAX_LANES * MAX_OUTPUT_LEN];
     let derived = &mut buffer[..part.len()];
-    write_part(key, iterations, salt, before, rounds, derived, meter);
+    write_part::<BITS>(key, iterations, salt, before, rounds, derived, meter);
     are_same(derived, part, meter)
 }
 
 // Writes the first bytes of all rounds to the whole of `out`.
-pub(crate) fn write_rounds(
-    vectors: Vectors,
+pub(crate) fn write_rounds<const BITS: usize>(
     key: &Key,
     iterations: NonZeroU32,
     salt: &[u8],
@@ -188,10 +187,10 @@ pub(crate) fn write_rounds(
     let mut number = 0;
     let mut written = 0;
     'parts: while written < out.len() {
-        let (rounds, len) = next_part(algorithm, vectors, out.len() - written);
+        let (rounds, len) = next_part::<BITS>(algorithm, out.len() - written);
         let end = written + len;
         let part = &mut out[written..end];
-        write_part(key, iterations, salt, number, rounds, part, meter);
+        write_part::<BITS>(key, iterations, salt, number, rounds, part, meter);
         number += rounds as u32;
         written = end;
     }
@@ -199,8 +198,7 @@ pub(crate) fn write_rounds(
 
 // Whether `value` is the first bytes of all rounds. They are computed as `write_rounds` computes
 // them.
-pub(crate) fn are_rounds(
-    vectors: Vectors,
+pub(crate) fn are_rounds<const BITS: usize>(
     key: &Key,
     iterations: NonZeroU32,
     salt: &[u8],
@@ -223,11 +221,11 @@ pub(crate) fn are_rounds(
     let mut checked = 0;
     let mut matches = true;
     'parts: while checked < value.len() {
-        let (rounds, len) = next_part(algorithm, vectors, value.len() - checked);
+        let (rounds, len) = next_part::<BITS>(algorithm, value.len() - checked);
         let end = checked + len;
         let part = &value[checked..end];
         // No early exit: after a part that differs, the others are compared.
-        matches &= is_part(key, iterations, salt, number, rounds, part, meter);
+        matches &= is_part::<BITS>(key, iterations, salt, number, rounds, part, meter);
         number += rounds as u32;
         checked = end;
     }

@@ -1,11 +1,15 @@
 //! One lane: a state as it is.
 
+ghost use Rattle.std.proofs.Common.{refl};
 ghost use Rattle.std.specs.Prelude.{◌≡◌, map};
 ghost use Rattle.ring_core.specs.Bytes.{xor_lists};
 ghost use Rattle.ring_core.specs.Sha2.{words_32, words_64};
 
 use crate::digest::dynstate::DynState;
-use crate::digest::side_by_side::in_lanes::SideBySide;
+use crate::digest::side_by_side::lane_digests::{
+    Sha1, Sha256, Sha384, Sha512, Sha512_256, SideBySide,
+};
+use crate::digest::side_by_side::lane_states::LaneStates;
 use crate::digest::side_by_side::paddings::{
     SHA1_PADDING, SHA256_PADDING, SHA384_PADDING, SHA512_256_PADDING, SHA512_PADDING,
 };
@@ -35,12 +39,10 @@ fn xored_words<W: Word>(sum: [W; 8], digest: [W; 8]) -> [W; 8]
     ]
 }
 
-// SHA-1.
-pub(crate) struct Sha1;
+// A state of 32-bit words.
+pub(crate) struct ShortAlone<A>(A);
 
-impl SideBySide for Sha1 {
-    ghost use Rattle.ring.specs.declared.digest.algorithm.TheConstants.{SHA1_FOR_LEGACY_USE_ONLY};
-
+impl<A> LaneStates for ShortAlone<A> {
     type States = State32;
 
     type Ring = ();
@@ -49,9 +51,11 @@ impl SideBySide for Sha1 {
 
     ghost LANES = { 1 };
 
-    ghost algorithm = { SHA1_FOR_LEGACY_USE_ONLY };
+    ghost word_len = { 4 };
 
     ghost lane = { λ i state. words_32 state };
+
+    fn ring() -> () {}
 
     fn new(states: &[DynState]) -> State32 {
         states[0].short_words()
@@ -64,65 +68,43 @@ impl SideBySide for Sha1 {
     fn state(states: &State32, i: usize) -> DynState {
         DynState::As32(*states)
     }
+
+    #[inline(always)]
+    fn xor(states: &mut State32, others: &State32) {
+        *states = xored_words(*states, *others);
+    }
+}
+
+impl SideBySide for ShortAlone<Sha1> {
+    ghost use Rattle.ring.specs.declared.digest.algorithm.TheConstants.{SHA1_FOR_LEGACY_USE_ONLY};
+
+    ghost algorithm = { SHA1_FOR_LEGACY_USE_ONLY };
 
     #[inline(always)]
     fn run_digests(_ring: &mut (), states: &mut State32, digests: &State32, meter: &mut Meter) {
         sha1_block_of_words_counted(states, digests, &SHA1_PADDING, meter)
     }
 
-    #[inline(always)]
-    fn xor(states: &mut State32, others: &State32) {
-        *states = xored_words(*states, *others);
-    }
+    ghost sized = { refl };
 }
 
-// SHA-256.
-pub(crate) struct Sha256;
-
-impl SideBySide for Sha256 {
+impl SideBySide for ShortAlone<Sha256> {
     ghost use Rattle.ring.specs.declared.digest.algorithm.TheConstants.{SHA256};
 
-    type States = State32;
-
-    type Ring = ();
-
-    const LANES: usize = 1;
-
-    ghost LANES = { 1 };
-
     ghost algorithm = { SHA256 };
-
-    ghost lane = { λ i state. words_32 state };
-
-    fn new(states: &[DynState]) -> State32 {
-        states[0].short_words()
-    }
-
-    fn splat(state: &DynState) -> State32 {
-        state.short_words()
-    }
-
-    fn state(states: &State32, i: usize) -> DynState {
-        DynState::As32(*states)
-    }
 
     #[inline(always)]
     fn run_digests(_ring: &mut (), states: &mut State32, digests: &State32, meter: &mut Meter) {
         block_of_words_32_counted(states, digests, &SHA256_PADDING, meter)
     }
 
-    #[inline(always)]
-    fn xor(states: &mut State32, others: &State32) {
-        *states = xored_words(*states, *others);
-    }
+    ghost sized = { refl };
 }
 
-// SHA-384.
-pub(crate) struct Sha384;
+// A state of 64-bit words.
+pub(crate) struct LongAlone<A>(A);
 
-impl SideBySide for Sha384 {
-    ghost use Rattle.ring.specs.declared.digest.algorithm.TheConstants.{SHA384};
-
+impl<A> LaneStates for LongAlone<A> {
     type States = State64;
 
     type Ring = ();
@@ -131,9 +113,11 @@ impl SideBySide for Sha384 {
 
     ghost LANES = { 1 };
 
-    ghost algorithm = { SHA384 };
+    ghost word_len = { 8 };
 
     ghost lane = { λ i state. words_64 state };
+
+    fn ring() -> () {}
 
     fn new(states: &[DynState]) -> State64 {
         states[0].long_words()
@@ -146,96 +130,48 @@ impl SideBySide for Sha384 {
     fn state(states: &State64, i: usize) -> DynState {
         DynState::As64(*states)
     }
+
+    #[inline(always)]
+    fn xor(states: &mut State64, others: &State64) {
+        *states = xored_words(*states, *others);
+    }
+}
+
+impl SideBySide for LongAlone<Sha384> {
+    ghost use Rattle.ring.specs.declared.digest.algorithm.TheConstants.{SHA384};
+
+    ghost algorithm = { SHA384 };
 
     #[inline(always)]
     fn run_digests(_ring: &mut (), states: &mut State64, digests: &State64, meter: &mut Meter) {
         block_of_words_64_counted::<6>(states, digests, &SHA384_PADDING, meter)
     }
 
-    #[inline(always)]
-    fn xor(states: &mut State64, others: &State64) {
-        *states = xored_words(*states, *others);
-    }
+    ghost sized = { refl };
 }
 
-// SHA-512.
-pub(crate) struct Sha512;
-
-impl SideBySide for Sha512 {
+impl SideBySide for LongAlone<Sha512> {
     ghost use Rattle.ring.specs.declared.digest.algorithm.TheConstants.{SHA512};
 
-    type States = State64;
-
-    type Ring = ();
-
-    const LANES: usize = 1;
-
-    ghost LANES = { 1 };
-
     ghost algorithm = { SHA512 };
-
-    ghost lane = { λ i state. words_64 state };
-
-    fn new(states: &[DynState]) -> State64 {
-        states[0].long_words()
-    }
-
-    fn splat(state: &DynState) -> State64 {
-        state.long_words()
-    }
-
-    fn state(states: &State64, i: usize) -> DynState {
-        DynState::As64(*states)
-    }
 
     #[inline(always)]
     fn run_digests(_ring: &mut (), states: &mut State64, digests: &State64, meter: &mut Meter) {
         block_of_words_64_counted::<8>(states, digests, &SHA512_PADDING, meter)
     }
 
-    #[inline(always)]
-    fn xor(states: &mut State64, others: &State64) {
-        *states = xored_words(*states, *others);
-    }
+    ghost sized = { refl };
 }
 
-// SHA-512/256.
-pub(crate) struct Sha512_256;
-
-impl SideBySide for Sha512_256 {
+impl SideBySide for LongAlone<Sha512_256> {
     ghost use Rattle.ring.specs.declared.digest.algorithm.TheConstants.{SHA512_256};
 
-    type States = State64;
-
-    type Ring = ();
-
-    const LANES: usize = 1;
-
-    ghost LANES = { 1 };
-
     ghost algorithm = { SHA512_256 };
-
-    ghost lane = { λ i state. words_64 state };
-
-    fn new(states: &[DynState]) -> State64 {
-        states[0].long_words()
-    }
-
-    fn splat(state: &DynState) -> State64 {
-        state.long_words()
-    }
-
-    fn state(states: &State64, i: usize) -> DynState {
-        DynState::As64(*states)
-    }
 
     #[inline(always)]
     fn run_digests(_ring: &mut (), states: &mut State64, digests: &State64, meter: &mut Meter) {
         block_of_words_64_counted::<4>(states, digests, &SHA512_256_PADDING, meter)
     }
 
-    #[inline(always)]
-    fn xor(states: &mut State64, others: &State64) {
-        *states = xored_words(*states, *others);
-    }
+    ghost sized = { refl };
 }

@@ -1,5 +1,6 @@
-//! SHA-384, SHA-512 and SHA-512/256: states in the lanes of vectors of 64-bit words.
+//! States in the lanes of vectors of 64-bit words.
 
+ghost use Rattle.std.proofs.Common.{refl};
 ghost use Rattle.std.specs.Prelude.{◌≡◌, ℕ, ◌<◌, ◌≤◌, [], get_or, length};
 ghost use Rattle.ring_core.specs.Lane.{words_of_lane};
 ghost use Rattle.ring_core.specs.Sha2.{words_64};
@@ -7,7 +8,8 @@ ghost use Rattle.ring.specs.State.{state_word_len, words};
 ghost use Rattle.ring.specs.declared.digest.dynstate.DynState.{DynState};
 
 use crate::digest::dynstate::DynState;
-use crate::digest::side_by_side::in_lanes::{MAX_LANES, SideBySide};
+use crate::digest::side_by_side::lane_digests::{Sha384, Sha512, Sha512_256, SideBySide};
+use crate::digest::side_by_side::lane_states::{LaneStates, MAX_LANES};
 use crate::digest::side_by_side::paddings::{SHA384_PADDING, SHA512_256_PADDING, SHA512_PADDING};
 use ring_core::cost::Meter;
 use ring_core::digest::sha2::{State64, block_of_words_lanes_counted};
@@ -15,7 +17,6 @@ use ring_core::digest::states::{Ring, States};
 use ring_core::digest::word::in_lanes::InLanes;
 use ring_core::digest::word::lane_word::{LaneWord, Vector};
 use std::num::Wrapping;
-use std::simd::u64x4;
 
 // The words of the states, in room for the greatest number of lanes.
 fn words_of(states: &[DynState]) -> [State64; MAX_LANES]
@@ -32,12 +33,10 @@ fn words_of(states: &[DynState]) -> [State64; MAX_LANES]
     all
 }
 
-// SHA-384 in the lanes of a vector.
-pub(crate) struct Sha384In<V>(V);
+// States in the lanes of a vector.
+pub(crate) struct LongIn<V, A>(V, A);
 
-impl<V: Vector<One = Wrapping<u64>>> SideBySide for Sha384In<V> {
-    ghost use Rattle.ring.specs.declared.digest.algorithm.TheConstants.{SHA384};
-
+impl<V: Vector<One = Wrapping<u64>>, A> LaneStates for LongIn<V, A> {
     type States = States<V>;
 
     type Ring = Ring<V>;
@@ -46,10 +45,16 @@ impl<V: Vector<One = Wrapping<u64>>> SideBySide for Sha384In<V> {
 
     ghost LANES = { V.LANES };
 
-    ghost algorithm = { SHA384 };
+    ghost word_len = { 8 };
 
     ghost lane = { λ i states. words_of_lane (V.lane i) states };
 
+    fn ring() -> Ring<V> {
+        [InLanes::splat(Wrapping(0)); 16]
+    }
+
+    // Not inlined, so that its room is free again when the rounds run.
+    #[inline(never)]
     fn new(states: &[DynState]) -> States<V> {
         let words = words_of(states);
         States::new(&words[..V::LANES])
@@ -62,6 +67,17 @@ impl<V: Vector<One = Wrapping<u64>>> SideBySide for Sha384In<V> {
     fn state(states: &States<V>, i: usize) -> DynState {
         DynState::As64(states.state(i))
     }
+
+    #[inline(always)]
+    fn xor(states: &mut States<V>, others: &States<V>) {
+        states.xor_assign(others)
+    }
+}
+
+impl<V: Vector<One = Wrapping<u64>>> SideBySide for LongIn<V, Sha384> {
+    ghost use Rattle.ring.specs.declared.digest.algorithm.TheConstants.{SHA384};
+
+    ghost algorithm = { SHA384 };
 
     #[inline(always)]
     fn run_digests(
@@ -73,42 +89,13 @@ impl<V: Vector<One = Wrapping<u64>>> SideBySide for Sha384In<V> {
         block_of_words_lanes_counted::<V, 6>(ring, states, digests, &SHA384_PADDING, meter)
     }
 
-    #[inline(always)]
-    fn xor(states: &mut States<V>, others: &States<V>) {
-        states.xor_assign(others)
-    }
+    ghost sized = { refl };
 }
 
-// SHA-512 in the lanes of a vector.
-pub(crate) struct Sha512In<V>(V);
-
-impl<V: Vector<One = Wrapping<u64>>> SideBySide for Sha512In<V> {
+impl<V: Vector<One = Wrapping<u64>>> SideBySide for LongIn<V, Sha512> {
     ghost use Rattle.ring.specs.declared.digest.algorithm.TheConstants.{SHA512};
 
-    type States = States<V>;
-
-    type Ring = Ring<V>;
-
-    const LANES: usize = V::LANES;
-
-    ghost LANES = { V.LANES };
-
     ghost algorithm = { SHA512 };
-
-    ghost lane = { λ i states. words_of_lane (V.lane i) states };
-
-    fn new(states: &[DynState]) -> States<V> {
-        let words = words_of(states);
-        States::new(&words[..V::LANES])
-    }
-
-    fn splat(state: &DynState) -> States<V> {
-        States::splat(&state.long_words())
-    }
-
-    fn state(states: &States<V>, i: usize) -> DynState {
-        DynState::As64(states.state(i))
-    }
 
     #[inline(always)]
     fn run_digests(
@@ -120,42 +107,13 @@ impl<V: Vector<One = Wrapping<u64>>> SideBySide for Sha512In<V> {
         block_of_words_lanes_counted::<V, 8>(ring, states, digests, &SHA512_PADDING, meter)
     }
 
-    #[inline(always)]
-    fn xor(states: &mut States<V>, others: &States<V>) {
-        states.xor_assign(others)
-    }
+    ghost sized = { refl };
 }
 
-// SHA-512/256 in the lanes of a vector.
-pub(crate) struct Sha512_256In<V>(V);
-
-impl<V: Vector<One = Wrapping<u64>>> SideBySide for Sha512_256In<V> {
+impl<V: Vector<One = Wrapping<u64>>> SideBySide for LongIn<V, Sha512_256> {
     ghost use Rattle.ring.specs.declared.digest.algorithm.TheConstants.{SHA512_256};
 
-    type States = States<V>;
-
-    type Ring = Ring<V>;
-
-    const LANES: usize = V::LANES;
-
-    ghost LANES = { V.LANES };
-
     ghost algorithm = { SHA512_256 };
-
-    ghost lane = { λ i states. words_of_lane (V.lane i) states };
-
-    fn new(states: &[DynState]) -> States<V> {
-        let words = words_of(states);
-        States::new(&words[..V::LANES])
-    }
-
-    fn splat(state: &DynState) -> States<V> {
-        States::splat(&state.long_words())
-    }
-
-    fn state(states: &States<V>, i: usize) -> DynState {
-        DynState::As64(states.state(i))
-    }
 
     #[inline(always)]
     fn run_digests(
@@ -167,13 +125,5 @@ impl<V: Vector<One = Wrapping<u64>>> SideBySide for Sha512_256In<V> {
         block_of_words_lanes_counted::<V, 4>(ring, states, digests, &SHA512_256_PADDING, meter)
     }
 
-    #[inline(always)]
-    fn xor(states: &mut States<V>, others: &States<V>) {
-        states.xor_assign(others)
-    }
-}
-
-// Room for a schedule of four lanes.
-pub(crate) fn four_long() -> Ring<u64x4> {
-    [InLanes::splat(Wrapping(0)); 16]
+    ghost sized = { refl };
 }

@@ -1,5 +1,6 @@
-//! SHA-1 and SHA-256: states in the lanes of vectors of 32-bit words.
+//! States in the lanes of vectors of 32-bit words.
 
+ghost use Rattle.std.proofs.Common.{refl};
 ghost use Rattle.std.specs.Prelude.{◌≡◌, ℕ, ◌<◌, ◌≤◌, [], get_or, length};
 ghost use Rattle.ring_core.specs.Lane.{words_of_lane};
 ghost use Rattle.ring_core.specs.Sha2.{words_32};
@@ -7,7 +8,8 @@ ghost use Rattle.ring.specs.State.{state_word_len, words};
 ghost use Rattle.ring.specs.declared.digest.dynstate.DynState.{DynState};
 
 use crate::digest::dynstate::DynState;
-use crate::digest::side_by_side::in_lanes::{MAX_LANES, SideBySide};
+use crate::digest::side_by_side::lane_digests::{Sha1, Sha256, SideBySide};
+use crate::digest::side_by_side::lane_states::{LaneStates, MAX_LANES};
 use crate::digest::side_by_side::paddings::{SHA1_PADDING, SHA256_PADDING};
 use ring_core::cost::Meter;
 use ring_core::digest::sha1::sha1_block_of_words_lanes_counted;
@@ -16,7 +18,6 @@ use ring_core::digest::states::{Ring, States};
 use ring_core::digest::word::in_lanes::InLanes;
 use ring_core::digest::word::lane_word::{LaneWord, Vector};
 use std::num::Wrapping;
-use std::simd::{u32x4, u32x8};
 
 // The words of the states, in room for the greatest number of lanes.
 fn words_of(states: &[DynState]) -> [State32; MAX_LANES]
@@ -33,12 +34,10 @@ fn words_of(states: &[DynState]) -> [State32; MAX_LANES]
     all
 }
 
-// SHA-1 in the lanes of a vector.
-pub(crate) struct Sha1In<V>(V);
+// States in the lanes of a vector.
+pub(crate) struct ShortIn<V, A>(V, A);
 
-impl<V: Vector<One = Wrapping<u32>>> SideBySide for Sha1In<V> {
-    ghost use Rattle.ring.specs.declared.digest.algorithm.TheConstants.{SHA1_FOR_LEGACY_USE_ONLY};
-
+impl<V: Vector<One = Wrapping<u32>>, A> LaneStates for ShortIn<V, A> {
     type States = States<V>;
 
     type Ring = Ring<V>;
@@ -47,10 +46,16 @@ impl<V: Vector<One = Wrapping<u32>>> SideBySide for Sha1In<V> {
 
     ghost LANES = { V.LANES };
 
-    ghost algorithm = { SHA1_FOR_LEGACY_USE_ONLY };
+    ghost word_len = { 4 };
 
     ghost lane = { λ i states. words_of_lane (V.lane i) states };
 
+    fn ring() -> Ring<V> {
+        [InLanes::splat(Wrapping(0)); 16]
+    }
+
+    // Not inlined, so that its room is free again when the rounds run.
+    #[inline(never)]
     fn new(states: &[DynState]) -> States<V> {
         let words = words_of(states);
         States::new(&words[..V::LANES])
@@ -63,6 +68,17 @@ impl<V: Vector<One = Wrapping<u32>>> SideBySide for Sha1In<V> {
     fn state(states: &States<V>, i: usize) -> DynState {
         DynState::As32(states.state(i))
     }
+
+    #[inline(always)]
+    fn xor(states: &mut States<V>, others: &States<V>) {
+        states.xor_assign(others)
+    }
+}
+
+impl<V: Vector<One = Wrapping<u32>>> SideBySide for ShortIn<V, Sha1> {
+    ghost use Rattle.ring.specs.declared.digest.algorithm.TheConstants.{SHA1_FOR_LEGACY_USE_ONLY};
+
+    ghost algorithm = { SHA1_FOR_LEGACY_USE_ONLY };
 
     #[inline(always)]
     fn run_digests(
@@ -74,42 +90,13 @@ impl<V: Vector<One = Wrapping<u32>>> SideBySide for Sha1In<V> {
         sha1_block_of_words_lanes_counted(ring, states, digests, &SHA1_PADDING, meter)
     }
 
-    #[inline(always)]
-    fn xor(states: &mut States<V>, others: &States<V>) {
-        states.xor_assign(others)
-    }
+    ghost sized = { refl };
 }
 
-// SHA-256 in the lanes of a vector.
-pub(crate) struct Sha256In<V>(V);
-
-impl<V: Vector<One = Wrapping<u32>>> SideBySide for Sha256In<V> {
+impl<V: Vector<One = Wrapping<u32>>> SideBySide for ShortIn<V, Sha256> {
     ghost use Rattle.ring.specs.declared.digest.algorithm.TheConstants.{SHA256};
 
-    type States = States<V>;
-
-    type Ring = Ring<V>;
-
-    const LANES: usize = V::LANES;
-
-    ghost LANES = { V.LANES };
-
     ghost algorithm = { SHA256 };
-
-    ghost lane = { λ i states. words_of_lane (V.lane i) states };
-
-    fn new(states: &[DynState]) -> States<V> {
-        let words = words_of(states);
-        States::new(&words[..V::LANES])
-    }
-
-    fn splat(state: &DynState) -> States<V> {
-        States::splat(&state.short_words())
-    }
-
-    fn state(states: &States<V>, i: usize) -> DynState {
-        DynState::As32(states.state(i))
-    }
 
     #[inline(always)]
     fn run_digests(
@@ -121,18 +108,5 @@ impl<V: Vector<One = Wrapping<u32>>> SideBySide for Sha256In<V> {
         block_of_words_lanes_counted::<V, 8>(ring, states, digests, &SHA256_PADDING, meter)
     }
 
-    #[inline(always)]
-    fn xor(states: &mut States<V>, others: &States<V>) {
-        states.xor_assign(others)
-    }
-}
-
-// Room for a schedule of eight lanes.
-pub(crate) fn eight_short() -> Ring<u32x8> {
-    [InLanes::splat(Wrapping(0)); 16]
-}
-
-// Room for a schedule of four lanes.
-pub(crate) fn four_short() -> Ring<u32x4> {
-    [InLanes::splat(Wrapping(0)); 16]
+    ghost sized = { refl };
 }

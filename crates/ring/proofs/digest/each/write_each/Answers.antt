@@ -5,14 +5,14 @@ use Rattle.ring.proofs.Each.{can-part, digests-next, digests-none}
 use Rattle.ring.proofs.digest.each.write_each.Goals as goal
 
 pub parts-init : goal.parts-init
-parts-init c =
+parts-init g c =
     record {
       within = omega arith;
       have = digests-none c.args.algorithm.now c.args.messages.now c.args.out.now c.args.meter.now;
     }
 
 pub write_together-requires-clause-within : goal.write_together-requires-clause-within
-write_together-requires-clause-within c =
+write_together-requires-clause-within g c =
     let at = c.parts.made in
     let k = c.lanes_for.result in
     let size : at + k - at ≡ k = omega arith in
@@ -23,7 +23,7 @@ write_together-requires-clause-within c =
     rw (size, long) (can-part c.args.algorithm.now c.args.messages.now at k c.requires room)
 
 pub parts-preserved : goal.parts-preserved
-parts-preserved c =
+parts-preserved g c =
     let at = c.parts.made in
     let k = c.lanes_for.result in
     let size : at + k - at ≡ k = omega arith in

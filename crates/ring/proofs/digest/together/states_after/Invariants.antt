@@ -6,8 +6,8 @@ use Rattle.ring.proofs.digest.together.states_after.Given as goal
 abbrev pub invariant-blocks-2 : goal.invariant-blocks-2
 invariant-blocks-2 g l =
     record {
-      words : (i : ℕ) → i < g.H.SideBySide.LANES → HasWords l.algorithm
+      words : (i : ℕ) → i < g.H.LaneStates.LANES → HasWords l.algorithm
           (words_at l.algorithm (message_at l.messages i) l.number)
-          (g.H.SideBySide.lane i l.states);
-      cost : l.meter ≡ raised l.fn.meter (g.H.SideBySide.LANES * l.number) 0;
+          (g.H.LaneStates.lane i l.states);
+      cost : l.meter ≡ raised l.fn.meter (g.H.LaneStates.LANES * l.number) 0;
     }

@@ -12,5 +12,5 @@ returns-clause-ok g c = λ i k stands.
 
 pub returns-clause-cost : goal.returns-clause-cost
 returns-clause-cost g c =
-    cost_two c.args.meter.now g.H.SideBySide.LANES c.run_digests.ensures.cost
+    cost_two c.args.meter.now g.H.LaneStates.LANES c.run_digests.ensures.cost
     c.run_digests-2.ensures.cost

@@ -1,61 +1,72 @@
-use Rattle.std.proofs.Common.{◌≡◌, ◌∙◌, [], arith, get_or, length, rules, sym}
+use Rattle.std.proofs.Common.{◌≡◌, ◌∙◌, ◌<◌, [], arith, get_or, length, refl, rules, sym, take}
 use Rattle.std.specs.Int.NonZero.{non_zero_u32_get}
 use Rattle.ring.specs.Hmac.{hmac_digest}
+use Rattle.ring.specs.Lanes.{CanRunTogether}
 use Rattle.ring.proofs.DerivedKeys.{blocks-one, cost-each, each-derived, one-derived}
 use Rattle.ring.proofs.Rounds.{cost_derived}
 use Rattle.ring.proofs.pbkdf2.each_derived.write_together.Goals as goal
 
-pub returns-in-8-clause-ok : goal.returns-in-8-clause-ok
-returns-in-8-clause-ok g c =
-    let count : length c.args.secrets.now ≡ 8 = c.in-8.is in
-    let several : length c.eight_keys-keys.result ≡ 8 = search rules in
-    each-derived (c.write_under.auto.out ∙ sym c.requires.within.secret_count ∙ count) count several
-    c.digest_algorithm-digest.ensures c.eight_keys-keys.ensures.ok c.write_under.ensures.ok
-
-pub returns-in-8-clause-cost : goal.returns-in-8-clause-cost
-returns-in-8-clause-cost g c =
-    let several : length c.eight_keys-keys.result ≡ 8 = search rules in
-    let rounds = rw (c.digest_algorithm-digest.ensures, several) at c.write_under.ensures.cost in
-    rw c.in-8.is (cost-each (hmac_digest c.args.algorithm) c.args.salts.now c.args.secrets.now
-    (non_zero_u32_get c.args.iterations) g.row.N 8 c.args.meter.now 0
-    c.eight_keys-keys.ensures.cost rounds)
-
-pub returns-in-4-clause-ok : goal.returns-in-4-clause-ok
-returns-in-4-clause-ok g c =
-    let count : length c.args.secrets.now ≡ 4 = c.in-4.is in
-    let several : length c.four_keys-keys.result ≡ 4 = search rules in
-    each-derived (c.write_under-in-4.auto.out ∙ sym c.requires.within.secret_count ∙ count) count
-    several
-    c.digest_algorithm-digest.ensures c.four_keys-keys.ensures.ok c.write_under-in-4.ensures.ok
-
-pub returns-in-4-clause-cost : goal.returns-in-4-clause-cost
-returns-in-4-clause-cost g c =
-    let several : length c.four_keys-keys.result ≡ 4 = search rules in
-    let rounds =
-    rw (c.digest_algorithm-digest.ensures, several) at c.write_under-in-4.ensures.cost in
-    rw c.in-4.is (cost-each (hmac_digest c.args.algorithm) c.args.salts.now c.args.secrets.now
-    (non_zero_u32_get c.args.iterations) g.row.N 4 c.args.meter.now 0
-    c.four_keys-keys.ensures.cost rounds)
-
-pub returns-in_default-clause-ok : goal.returns-in_default-clause-ok
-returns-in_default-clause-ok g c =
+pub returns-then-secrets-eq1-clause-ok : goal.returns-then-secrets-eq1-clause-ok
+returns-then-secrets-eq1-clause-ok g c =
     let out = c.args.out.now in
-    let one : length c.args.secrets.now ≡ 1 =
-    grind (arith, c.requires.together, c.requires.within.secret_count) in
+    let one : length c.args.secrets.now ≡ 1 = omega arith in
     let long : length (get_or out 0 []) ≡ g.row.N = search rules in
     let key = c.key_within-key.ensures in
     one-derived out (sym c.requires.within.secret_count ∙ one, one)
     (rw (key.algorithm, long) at (c.write_rounds.ensures.ok _ key.ok))
 
-pub returns-in_default-clause-cost : goal.returns-in_default-clause-cost
-returns-in_default-clause-cost g c =
+pub returns-then-secrets-eq1-clause-cost : goal.returns-then-secrets-eq1-clause-cost
+returns-then-secrets-eq1-clause-cost g c =
     let a = hmac_digest c.args.algorithm in
     let secrets = c.args.secrets.now in
     let iterations = non_zero_u32_get c.args.iterations in
-    let one : length secrets ≡ 1 =
-    grind (arith, c.requires.together, c.requires.within.secret_count) in
+    let one : length secrets ≡ 1 = omega arith in
     let long : length (get_or c.args.out.now 0 []) ≡ g.row.N = search rules in
     let key = c.key_within-key.ensures in
     let rounds = rw (key.algorithm, long) at c.write_rounds.ensures.cost in
     rw (one, ← blocks-one a c.args.salts.now secrets iterations g.row.N)
     (cost_derived a c.args.meter.now _ _ 0 key.cost rounds)
+
+pub write_under-requires : goal.write_under-requires
+write_under-requires g c =
+    let keys = c.keys_of-keys.ensures in
+    let together : CanRunTogether g.row.BITS c.digest_algorithm-digest.result
+        (length (take (length c.args.secrets.now) c.keys_of-keys.result)) = rw (
+      keys.count,
+      c.requires.within.secret_count,
+      c.digest_algorithm-digest.ensures,
+    ) c.requires.together in
+    let digest = c.digest_algorithm-digest.ensures in
+    let within = c.requires.within in
+    let first : 0 < length c.args.out.now = grind (arith, c.requires.together) in (
+      search rules,
+      (
+        together,
+        (
+          λ i key below. (keys.ok.each i key below).algorithm ∙ sym digest,
+          (
+            within.salt_count ∙ sym within.secret_count ∙ sym keys.count,
+            (
+              λ i some below.
+                  let there = within.each i (omega (arith, keys.count, within.secret_count, below)) in
+                  rw digest (there.salt some),
+              (rw digest (within.each 0 first).rounds, sym within.secret_count ∙ sym keys.count),
+            ),
+          ),
+        ),
+      ),
+    )
+
+pub returns-clause-ok : goal.returns-clause-ok
+returns-clause-ok g c =
+    let keys = c.keys_of-keys.ensures in
+    each-derived (c.write_under.auto.out ∙ sym c.requires.within.secret_count) refl keys.count
+    c.digest_algorithm-digest.ensures keys.ok c.write_under.ensures.ok
+
+pub returns-clause-cost : goal.returns-clause-cost
+returns-clause-cost g c =
+    let keys = c.keys_of-keys.ensures in
+    let rounds = rw (c.digest_algorithm-digest.ensures, keys.count) at c.write_under.ensures.cost in
+    cost-each (hmac_digest c.args.algorithm) c.args.salts.now c.args.secrets.now
+    (non_zero_u32_get c.args.iterations) g.row.N (length c.args.secrets.now) c.args.meter.now 0
+    keys.cost rounds

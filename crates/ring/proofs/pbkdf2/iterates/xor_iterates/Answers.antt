@@ -5,7 +5,7 @@ use Rattle.ring.proofs.pbkdf2.iterates.xor_iterates.Goals as goal
 
 pub iterates-init : goal.iterates-init
 iterates-init g c =
-    (λ l p s i stands h. made-first h, cost_first c.args.meter.now g.H.SideBySide.LANES)
+    (λ l p s i stands h. made-first h, cost_first c.args.meter.now g.H.LaneStates.LANES)
 
 pub iterates-preserved : goal.iterates-preserved
 iterates-preserved g c =
@@ -13,7 +13,7 @@ iterates-preserved g c =
       λ l p s i stands h.
           made-next (made.0 l p s i stands h) (c.replace_by_tag.ensures.ok l p stands)
           (c.xor.ensures l),
-      cost_next c.args.meter.now g.H.SideBySide.LANES c.iterates._made c.iterates.auto._made made.1
+      cost_next c.args.meter.now g.H.LaneStates.LANES c.iterates._made c.iterates.auto._made made.1
           c.replace_by_tag.ensures.cost,
     )
 

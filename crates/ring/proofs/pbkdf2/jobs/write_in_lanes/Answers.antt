@@ -1,4 +1,4 @@
-use Rattle.std.proofs.Common.{◌<◌, ◌∙◌, ℕ, ap, arith, get_or, length}
+use Rattle.std.proofs.Common.{◌<◌, ◌∙◌, ℕ, ap, arith, get_or, length, sym}
 use Rattle.std.proofs.Math.ListN.{length-set}
 use Rattle.std.specs.Int.NonZero.{non_zero_u32_get}
 use Rattle.ring.specs.Jobs.{BeginsWithRound}
@@ -12,18 +12,18 @@ use Rattle.ring.proofs.pbkdf2.jobs.write_in_lanes.Goals as goal
 
 pub new-inner-requires-clause-sized : goal.new-inner-requires-clause-sized
 new-inner-requires-clause-sized g c = λ i s below.
-    (sized-at c.requires.each c.starts_of-starts.ensures.starts i s s s
-    (omega (arith, below, c.requires.lanes))).0
+    word-size _ _ (sized-at c.requires.each c.starts_of-starts.ensures.starts i s s s
+    (omega (arith, below, c.requires.lanes))).0 ∙ g.met.H.SideBySide.sized
 
 pub new-outer-requires-clause-sized : goal.new-outer-requires-clause-sized
 new-outer-requires-clause-sized g c = λ i s below.
-    (sized-at c.requires.each c.starts_of-starts.ensures.starts i s s s
-    (omega (arith, below, c.requires.lanes))).1.0
+    word-size _ _ (sized-at c.requires.each c.starts_of-starts.ensures.starts i s s s
+    (omega (arith, below, c.requires.lanes))).1.0 ∙ g.met.H.SideBySide.sized
 
 pub new-first-requires-clause-sized : goal.new-first-requires-clause-sized
 new-first-requires-clause-sized g c = λ i s below.
-    (sized-at c.requires.each c.starts_of-starts.ensures.starts i s s s
-    (omega (arith, below, c.requires.lanes))).1.1
+    word-size _ _ (sized-at c.requires.each c.starts_of-starts.ensures.starts i s s s
+    (omega (arith, below, c.requires.lanes))).1.1 ∙ g.met.H.SideBySide.sized
 
 pub rounds-preserved : goal.rounds-preserved
 rounds-preserved g c =
@@ -33,8 +33,8 @@ rounds-preserved g c =
     let state = c.state.result in
     let output = c.format_output in
     let below : i < length jobs = omega arith in
-    let lane : i < g.H.SideBySide.LANES = omega arith in
-    let written = digest_written a (words state) _ (word-size a state c.state.ensures.sized)
+    let lane : i < g.H.LaneStates.LANES = omega arith in
+    let written = digest_written a (words state) _ (c.state.ensures.sized ∙ sym g.met.H.SideBySide.sized)
     output.ensures.count output.ensures.bytes ∙ ap (digest_bytes a) c.state.ensures.words in
     let here = λ (job : Job). lane-round _ _ (c.requires.each i job below)
     (start-at c.requires.each c.starts_of-starts.ensures.starts i job state state state below) (

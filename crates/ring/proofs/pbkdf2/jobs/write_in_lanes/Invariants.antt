@@ -12,5 +12,5 @@ invariant-rounds g l =
       written : (k : ℕ) (room : Output) → k < l.i → (job : Job)
           → BeginsWithRound (get_or l.fn.jobs k job) (non_zero_u32_get l.fn.iterations)
           (get_or l.rounds k room).0;
-      count : length l.rounds ≡ g.H.SideBySide.LANES;
+      count : length l.rounds ≡ g.H.LaneStates.LANES;
     }

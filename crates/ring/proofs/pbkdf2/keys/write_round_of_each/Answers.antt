@@ -11,18 +11,18 @@ use Rattle.ring.proofs.Places.{places-next, places-none}
 use Rattle.ring.proofs.pbkdf2.keys.write_round_of_each.Goals as goal
 
 -- as many jobs are run as there are keys
-several : (a : Algorithm) {n : ℕ} (jobs : List Job) → CanRunTogether a n → length jobs ≡ 8
-    → length (take n jobs) ≡ n
+several : {bits : ℕ} (a : Algorithm) {n : ℕ} (jobs : List Job) → CanRunTogether bits a n
+    → length jobs ≡ 8 → length (take n jobs) ≡ n
 several a {n = n} jobs can eight = length-take-le n jobs (grind (arith, can, eight))
 
 pub jobs-init : goal.jobs-init
-jobs-init c = (
+jobs-init g c = (
   refl,
   λ d. places-none (IsJobAt c.args.keys.now c.args.salts.now c.args.number) d _,
 )
 
 pub jobs-preserved : goal.jobs-preserved
-jobs-preserved c =
+jobs-preserved g c =
     let i = c.jobs.i in
     let keys = c.args.keys.now in
     let salts = c.args.salts.now in
@@ -39,13 +39,13 @@ jobs-preserved c =
     )
 
 pub run_jobs-requires-clause-each : goal.run_jobs-requires-clause-each
-run_jobs-requires-clause-each c =
+run_jobs-requires-clause-each g c =
     let long = several c.args.algorithm c.jobs.jobs c.requires.together c.jobs-test.array_long in
     let all : c.jobs.i ≡ length c.args.keys.now = omega arith in
     rw long (jobs-can (rw all at c.jobs.invariant.1) c.requires.keys c.requires.within)
 
 pub returns-clause-ok : goal.returns-clause-ok
-returns-clause-ok c =
+returns-clause-ok g c =
     let long = several c.args.algorithm c.jobs.jobs c.requires.together c.jobs-test.array_long in
     let all : c.jobs.i ≡ length c.args.keys.now = omega arith in
     jobs-rounds (rw all at c.jobs.invariant.1) c.requires.keys
@@ -53,7 +53,7 @@ returns-clause-ok c =
     (λ i room below. c.run_jobs.ensures.ok i (some_job c.index-keys-0.result) room (rw long below))
 
 pub returns-clause-cost : goal.returns-clause-cost
-returns-clause-cost c =
+returns-clause-cost g c =
     let long = several c.args.algorithm c.jobs.jobs c.requires.together c.jobs-test.array_long in
     let all : c.jobs.i ≡ length c.args.keys.now = omega arith in
     rw long at (c.run_jobs.ensures.cost (some_job c.index-keys-0.result))

@@ -5,6 +5,6 @@ use Rattle.ring.proofs.Places.{HoldsBelow}
 use Rattle.ring.proofs.pbkdf2.keys.write_round_of_each.Given as goal
 
 abbrev pub invariant-jobs : goal.invariant-jobs
-invariant-jobs l =
+invariant-jobs g l =
     (length l.jobs ≡ 8)
     × ((d : Job) → HoldsBelow (IsJobAt l.keys l.salts l.number) d l.i l.jobs)

@@ -6,12 +6,12 @@ use Rattle.ring.proofs.Rounds.{IsNext, length-part}
 use Rattle.ring.proofs.pbkdf2.parts.are_rounds.Goals as goal
 
 pub parts-init : goal.parts-init
-parts-init c =
+parts-init g c =
     let iterations = non_zero_u32_get c.args.iterations in
     compared-none c.args.key.now c.args.salt.now iterations c.args.value.now c.args.meter.now
 
 pub parts-preserved : goal.parts-preserved
-parts-preserved c =
+parts-preserved g c =
     let value = c.args.value.now in
     let w = c.parts.checked in
     let n = c.next_part-rounds.result.1 in

@@ -4,9 +4,9 @@ use Rattle.ring.proofs.Parts.{HasCompared}
 use Rattle.ring.proofs.pbkdf2.parts.are_rounds.Given as goal
 
 abbrev pub invariant-parts : goal.invariant-parts
-invariant-parts l =
+invariant-parts g l =
     let iterations = non_zero_u32_get l.iterations in
     HasCompared l.key l.salt iterations l.number l.checked l.matches l.value l.fn.meter l.meter
 
 abbrev pub decreases-parts : goal.decreases-parts
-decreases-parts l = length l.value - l.checked
+decreases-parts g l = length l.value - l.checked

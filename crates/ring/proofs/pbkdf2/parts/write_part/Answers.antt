@@ -11,7 +11,7 @@ use Rattle.ring.proofs.Rounds.{after-rounds}
 use Rattle.ring.proofs.pbkdf2.parts.write_part.Goals as goal
 
 pub returns : goal.returns
-returns c =
+returns g c =
     let key = c.args.key.now in
     let a = key_algorithm key in
     let s = c.args.salt.now in

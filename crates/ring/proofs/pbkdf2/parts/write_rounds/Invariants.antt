@@ -4,9 +4,9 @@ use Rattle.ring.proofs.Parts.{HasWritten}
 use Rattle.ring.proofs.pbkdf2.parts.write_rounds.Given as goal
 
 abbrev pub invariant-parts : goal.invariant-parts
-invariant-parts l =
+invariant-parts g l =
     let iterations = non_zero_u32_get l.iterations in
     HasWritten l.key l.salt iterations l.number l.written l.out l.fn.meter l.meter
 
 abbrev pub decreases-parts : goal.decreases-parts
-decreases-parts l = length l.out - l.written
+decreases-parts g l = length l.out - l.written

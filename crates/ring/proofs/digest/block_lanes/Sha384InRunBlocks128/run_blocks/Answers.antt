@@ -1,9 +1,0 @@
-use Rattle.std.proofs.Common.{refl}
-use Rattle.ring_core.specs.Sha2.{family_512}
-use Rattle.ring.specs.declared.digest.algorithm.TheConstants.{SHA384}
-use Rattle.ring.proofs.LaneBlocks.{lane-sha2}
-use Rattle.ring.proofs.digest.block_lanes.Sha384InRunBlocks128.run_blocks.Goals as goal
-
-pub returns-clause-words : goal.returns-clause-words
-returns-clause-words g c = λ i h below has.
-    lane-sha2 SHA384 family_512 _ refl has (c.block_data_order_lanes_counted.ensures.words i below)

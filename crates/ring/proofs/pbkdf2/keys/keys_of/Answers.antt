@@ -1,0 +1,60 @@
+use Rattle.std.proofs.Common.{◌≡◌, ℕ, suc, ◌+◌, add-one, arith, length, length-take-le, refl, rules}
+use Rattle.ring.specs.Cost.{key_blocks}
+use Rattle.ring.specs.DeriveEach.{bytes_at}
+use Rattle.ring.specs.Hmac.{hmac_digest}
+use Rattle.ring.proofs.KeysAt.{IsKeyAt, cost_key_at, key_at, key_fits, keys-all}
+use Rattle.ring.proofs.Places.{places-next, risen-next, risen-none}
+use Rattle.ring.proofs.pbkdf2.keys.keys_of.Goals as goal
+
+pub key_within-requires : goal.key_within-requires
+key_within-requires c =
+    let secrets = c.args.secrets.now in
+    key_fits (hmac_digest c.args.algorithm) secrets (length secrets) c.keys.i c.requires.within
+    (omega arith)
+
+pub keys-init : goal.keys-init
+keys-init c =
+    let a = hmac_digest c.args.algorithm in
+    let secrets = c.args.secrets.now in
+    let blocks = λ (i : ℕ). key_blocks a (length (bytes_at secrets i)) in
+    let first = c.key_within-first.ensures in
+    record {
+      keys = λ d. record {
+            each = λ i below.
+                let zero : i ≡ 0 = omega (arith, below) in
+                rw (zero, c.clone.ensures) (key_at secrets 0 first.algorithm first.ok);
+          };
+      size = refl;
+      cost = risen-next (risen-none blocks c.args.meter.now) (cost_key_at a _ secrets 0 first.cost);
+    }
+
+pub keys-preserved : goal.keys-preserved
+keys-preserved c =
+    let a = hmac_digest c.args.algorithm in
+    let secrets = c.args.secrets.now in
+    let i = c.keys.i in
+    let size = c.keys.invariant.size in
+    let key = c.key_within.ensures in
+    record {
+      keys = λ d. places-next (IsKeyAt a secrets) d i (c.keys.invariant.keys d)
+          (omega (arith, size, c.requires.most)) (key_at secrets i key.algorithm key.ok);
+      size = search (rules, size);
+      cost = rw add-one (risen-next c.keys.invariant.cost (cost_key_at a _ secrets i key.cost));
+    }
+
+pub returns-clause-ok : goal.returns-clause-ok
+returns-clause-ok c =
+    let secrets = c.args.secrets.now in
+    let last : c.keys.i ≡ length secrets = omega (arith, c.requires.some) in
+    keys-all secrets (length secrets) (rw last at c.keys.invariant.keys)
+    (omega (arith, c.keys.invariant.size, c.requires.most))
+
+pub returns-clause-cost : goal.returns-clause-cost
+returns-clause-cost c =
+    let last : c.keys.i ≡ length c.args.secrets.now = omega (arith, c.requires.some) in
+    rw last at c.keys.invariant.cost.cost
+
+pub returns-clause-count : goal.returns-clause-count
+returns-clause-count c =
+    length-take-le (length c.args.secrets.now) c.keys.keys
+    (omega (arith, c.keys.invariant.size, c.requires.most))

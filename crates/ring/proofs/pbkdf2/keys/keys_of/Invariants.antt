@@ -1,0 +1,18 @@
+use Rattle.std.proofs.Common.{◌≡◌, ℕ, length}
+use Rattle.ring.specs.Cost.{key_blocks}
+use Rattle.ring.specs.DeriveEach.{bytes_at}
+use Rattle.ring.specs.Hmac.{hmac_digest}
+use Rattle.ring.specs.declared.hmac.key.Key.{Key}
+use Rattle.ring.proofs.KeysAt.{IsKeyAt}
+use Rattle.ring.proofs.Places.{HasRisen, HoldsBelow}
+use Rattle.ring.proofs.pbkdf2.keys.keys_of.Given as goal
+
+-- the keys of the first i secrets are there
+abbrev pub invariant-keys : goal.invariant-keys
+invariant-keys l =
+    let a = hmac_digest l.algorithm in
+    record {
+      keys : (d : Key) → HoldsBelow (IsKeyAt a l.secrets) d l.i l.keys;
+      size : length l.keys ≡ 8;
+      cost : HasRisen (λ k. key_blocks a (length (bytes_at l.secrets k))) l.i l.fn.meter l.meter;
+    }

@@ -1,23 +1,21 @@
 //! The block function of SHA-1 (FIPS 180-4, 6.1.2).
-ghost use Rattle.std.specs.Prelude.{◌≡◌, ℕ, ◌+◌, ◌*◌, ◌%◌, ◌<◌, ◌≤◌, List};
-ghost use Rattle.std.specs.Prelude.{[], get_or, length, map, take, drop};
+ghost use Rattle.std.specs.Prelude.{◌≡◌, ℕ, ◌<◌, List, [], get_or, length, map, take, drop};
 ghost use Rattle.ring_core.specs.Cost.{raised};
 ghost use Rattle.ring_core.specs.Lane.{words_of_lane};
-ghost use Rattle.ring_core.specs.Schedule.{IsBefore, IsBlockOf, IsRing};
-ghost use Rattle.ring_core.specs.Sha1.{W, add_state, block_step, blocks_from, round};
-ghost use Rattle.ring_core.specs.Sha1.{round_constant, round_function, rounds_from};
+ghost use Rattle.ring_core.specs.Schedule.{IsBlockOf};
+ghost use Rattle.ring_core.specs.Sha1.{block_step, blocks_from};
 ghost use Rattle.ring_core.specs.Views.{chunk_items, chunk_total};
-ghost use Rattle.ring_core.specs.Word.{add_words, rotl, word_32};
+ghost use Rattle.ring_core.specs.Word.{word_32};
 
+mod sha1_rounds;
 mod sha1_schedule;
 
 use crate::cost::Meter;
-use crate::digest::sha1::sha1_schedule::ExtendSchedule;
+use crate::digest::sha1::sha1_rounds::{BYTES, WORDS, run_loaded};
 use crate::digest::states::{Ring, States};
-use crate::digest::word::functions::{choose_word, majority_word};
 use crate::digest::word::in_lanes::InLanes;
 use crate::digest::word::lane_word::Vector;
-use crate::digest::word_ring::{load, load_blocks, load_words, pair};
+use crate::digest::word_ring::{load, load_blocks, load_words};
 use crate::polyfill::slice::AsChunks;
 use std::num::Wrapping;
 
@@ -28,195 +26,6 @@ pub const CHAINING_LEN: usize = 20;
 
 // The number of these words.
 const CHAINING_WORDS: usize = 5;
-
-// Where the block function reads its block from. The rounds take this as a const argument, so that
-// each form has its own copy of them: the compiler inlines rounds that have one caller. With two
-// callers it called them, which took a fifth longer. No code reads it.
-const BYTES: usize = 0;
-
-const WORDS: usize = 1;
-
-// ROTL (3.2, item 5)
-#[inline(always)]
-fn rotate_left<S: ExtendSchedule>(x: S, count: u32) -> S
-    requires positive { 1 ≤ count }
-    requires below { count < 32 }
-    ensures { (i : ℕ) → S.lane i result ≡ rotl 32 count (S.lane i x) }
-{
-    x.rotr(32 - count)
-}
-
-// f of round `t` (4.1.1)
-#[inline(always)]
-fn round_function<S: ExtendSchedule>(t: usize, x: S, y: S, z: S) -> S
-    ensures { (i : ℕ) → S.lane i result
-        ≡ round_function t (S.lane i x) (S.lane i y) (S.lane i z) }
-{
-    if t < 20 {
-        choose_word(x, y, z)
-    } else if t >= 40 && t < 60 {
-        majority_word(x, y, z)
-    } else {
-        x.bit_xor(y).bit_xor(z)
-    }
-}
-
-// K of round `t` (4.2.1)
-#[inline(always)]
-fn round_constant(t: usize) -> Word32
-    ensures { word_32 result ≡ round_constant t }
-{
-    if t < 20 {
-        Wrapping(0x5a827999)
-    } else if t < 40 {
-        Wrapping(0x6ed9eba1)
-    } else if t < 60 {
-        Wrapping(0x8f1bbcdc)
-    } else {
-        Wrapping(0xca62c1d6)
-    }
-}
-
-// Round `t` (step 3), from the sum of its constant and its word.
-#[inline(always)]
-fn round<S: ExtendSchedule>(v: [S; 5], t: usize, sum: S) -> [S; 5]
-    ensures { (i w : ℕ) → S.lane i sum ≡ add_words 32 (round_constant t) w
-        → map (S.lane i) result ≡ round (map (S.lane i) v) t w }
-{
-    let [a, b, c, d, e] = v;
-    let temp = rotate_left(a, 5)
-        .plus(round_function(t, b, c, d))
-        .plus(e)
-        .plus(sum);
-    [temp, a, rotate_left(b, 30), c, d]
-}
-
-// From here to `later_turn` each function is always inlined: slots are then literals, and so are
-// the round numbers, by which functions and constants are chosen.
-
-// Rounds `t` and `t + 1`.
-#[inline(always)]
-fn two_rounds<S: ExtendSchedule>(ring: &[S::Slot; 16], v: [S; 5], t: usize) -> [S; 5]
-    requires some { 0 < S.LANES }
-    requires rounds { t + 2 ≤ 80 }
-    ensures { (i : ℕ) (h b : List ℕ) (n : ℕ) → IsRing (W b) (map (S.slot_lane i) ring.now) n
-        → t + 2 ≤ n → n ≤ t + 16 → map (S.lane i) v ≡ rounds_from h b t
-        → map (S.lane i) result ≡ rounds_from h b (t + 2) }
-{
-    let [word, next_word] = pair(ring, t % 16);
-    let constant = S::repeated(round_constant(t));
-    let next_constant = S::repeated(round_constant(t + 1));
-    let (first, second) = S::add_pairs(constant, next_constant, word, next_word);
-    round(round(v, t, first), t + 1, second)
-}
-
-// The same from round 16 on, where the words are computed first.
-#[inline(always)]
-fn next_two_rounds<S: ExtendSchedule>(ring: &mut [S::Slot; 16], v: [S; 5], t: usize) -> [S; 5]
-    requires some { 0 < S.LANES }
-    requires from { 16 ≤ t }
-    requires below { t + 2 ≤ 80 }
-    ensures { (i : ℕ) (h b : List ℕ)
-        → IsBefore (W b) (rounds_from h b) (map (S.slot_lane i) ring.old) (map (S.lane i) v) t
-        → IsBefore (W b) (rounds_from h b) (map (S.slot_lane i) ring.new) (map (S.lane i) result)
-        (t + 2) }
-{
-    S::extend(ring, t);
-    two_rounds(ring, v, t)
-}
-
-// Four rounds in one body. A body of sixteen is so large that the compiler no longer inlines its
-// calls, though they ask for it, and the block function takes twice the time.
-#[inline(always)]
-fn next_four_rounds<S: ExtendSchedule>(ring: &mut [S::Slot; 16], v: [S; 5], t: usize) -> [S; 5]
-    requires some { 0 < S.LANES }
-    requires from { 16 ≤ t }
-    requires below { t + 4 ≤ 80 }
-    ensures { (i : ℕ) (h b : List ℕ)
-        → IsBefore (W b) (rounds_from h b) (map (S.slot_lane i) ring.old) (map (S.lane i) v) t
-        → IsBefore (W b) (rounds_from h b) (map (S.slot_lane i) ring.new) (map (S.lane i) result)
-        (t + 4) }
-{
-    let v = next_two_rounds(ring, v, t);
-    next_two_rounds(ring, v, t + 2)
-}
-
-// The first sixteen rounds, from the block's own words.
-#[inline(always)]
-fn first_turn<S: ExtendSchedule, const CALLER: usize>(ring: &[S::Slot; 16], v: [S; 5]) -> [S; 5]
-    requires some { 0 < S.LANES }
-    ensures { (i : ℕ) (b : List ℕ) → IsRing (W b) (map (S.slot_lane i) ring.now) 16
-        → map (S.lane i) result ≡ rounds_from (map (S.lane i) v) b 16 }
-{
-    let v = two_rounds(ring, v, 0);
-    let v = two_rounds(ring, v, 2);
-    let v = two_rounds(ring, v, 4);
-    let v = two_rounds(ring, v, 6);
-    let v = two_rounds(ring, v, 8);
-    let v = two_rounds(ring, v, 10);
-    let v = two_rounds(ring, v, 12);
-    two_rounds(ring, v, 14)
-}
-
-// The sixteen rounds of a later turn. The turn is a const argument: with one body for all turns the
-// compiler inlines few calls, and slots and round numbers are no literals.
-#[inline(always)]
-fn later_turn<S: ExtendSchedule, const CALLER: usize, const TURN: usize>(
-    ring: &mut [S::Slot; 16],
-    v: [S; 5],
-) -> [S; 5]
-    requires some { 0 < S.LANES }
-    requires later { 1 ≤ TURN }
-    requires turn { TURN < 5 }
-    ensures { (i : ℕ) (h b : List ℕ)
-        → IsBefore (W b) (rounds_from h b) (map (S.slot_lane i) ring.old) (map (S.lane i) v)
-        (16 * TURN)
-        → IsBefore (W b) (rounds_from h b) (map (S.slot_lane i) ring.new) (map (S.lane i) result)
-        (16 * TURN + 16) }
-{
-    let t = 16 * TURN;
-    let v = next_four_rounds(ring, v, t);
-    let v = next_four_rounds(ring, v, t + 4);
-    let v = next_four_rounds(ring, v, t + 8);
-    next_four_rounds(ring, v, t + 12)
-}
-
-// The first five words, each with its variable of `v` added (step 4), and the last three as they
-// were.
-#[inline(always)]
-fn add_state<S: ExtendSchedule>(state: &[S; 8], v: &[S; 5]) -> [S; 8]
-    ensures words { (i : ℕ) → take 5 (map (S.lane i) result)
-        ≡ add_state (map (S.lane i) state.now) (map (S.lane i) v.now) }
-    ensures rest { drop 5 result ≡ drop 5 state.now }
-{
-    [
-        state[0].plus(v[0]),
-        state[1].plus(v[1]),
-        state[2].plus(v[2]),
-        state[3].plus(v[3]),
-        state[4].plus(v[4]),
-        state[5],
-        state[6],
-        state[7],
-    ]
-}
-
-// Runs the block function in each lane, over the block whose words the ring holds there.
-#[inline(always)]
-fn run_loaded<S: ExtendSchedule, const CALLER: usize>(ring: &mut [S::Slot; 16], state: &mut [S; 8])
-    requires some { 0 < S.LANES }
-    ensures words { (i : ℕ) (b : List ℕ) → IsRing (W b) (map (S.slot_lane i) ring.old) 16
-        → take 5 (map (S.lane i) state.new) ≡ block_step (take 5 (map (S.lane i) state.old)) b }
-    ensures rest { drop 5 state.new ≡ drop 5 state.old }
-{
-    let chaining = [state[0], state[1], state[2], state[3], state[4]]; // step 2
-    let v = first_turn::<S, CALLER>(ring, chaining); // step 3
-    let v = later_turn::<S, CALLER, 1>(ring, v); // steps 1 and 3
-    let v = later_turn::<S, CALLER, 2>(ring, v);
-    let v = later_turn::<S, CALLER, 3>(ring, v);
-    let last = later_turn::<S, CALLER, 4>(ring, v);
-    *state = add_state(state, &last); // step 4
-}
 
 // Runs the block function over one block.
 fn run_block(state: &mut [Word32; 8], block: &[u8])

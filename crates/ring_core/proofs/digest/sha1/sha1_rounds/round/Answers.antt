@@ -1,0 +1,20 @@
+use Rattle.std.proofs.Common.{◌≡◌, ◌^◌, length, rules}
+use Rattle.ring_core.specs.Sha1.{round}
+use Rattle.ring_core.proofs.Lanes.{sum_of_pair}
+use Rattle.ring_core.proofs.Mapped.{value_read}
+use Rattle.ring_core.proofs.digest.sha1.sha1_rounds.round.Goals as goal
+
+pub returns : goal.returns
+unfolding round
+returns g c = λ i w are.
+    let five : length c.args.v ≡ 5 = search rules in
+    rw (
+      c.plus-temp.ensures i,
+      c.plus-2.ensures i,
+      c.plus.ensures i,
+      c.rotate_left.ensures i,
+      c.rotate_left-2.ensures i,
+      c.round_function.ensures i,
+      are,
+      g.met.S.ExtendSchedule.bits_are,
+    ) (simp (value_read (g.S.LaneWord.lane i) c.args.v 5 five, sum_of_pair (2 ^ 32)))

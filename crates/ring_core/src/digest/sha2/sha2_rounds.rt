@@ -1,0 +1,193 @@
+//! The rounds of SHA-2 over a block whose words are loaded (FIPS 180-4, 6.2.2 and 6.4.2, steps 1 to
+//! 4), written once for both word sizes.
+ghost use Rattle.std.specs.Prelude.{◌≡◌, ℕ, ◌+◌, ◌*◌, ◌<◌, ◌≤◌, List, map};
+ghost use Rattle.ring_core.specs.Schedule.{IsBefore, IsRing};
+ghost use Rattle.ring_core.specs.Sha2.{Σ0, Σ1, W, add_state, block_step, round, rounds_from};
+ghost use Rattle.ring_core.specs.Sha2.{three_rotations};
+ghost use Rattle.ring_core.specs.Word.{add_words};
+
+use crate::digest::sha2::sha2_schedule::ExtendSchedule;
+use crate::digest::word::Sha2;
+use crate::digest::word::functions::{choose_word, majority_word};
+use crate::digest::word::lane_word::LaneWord;
+use crate::digest::word_ring::pair;
+
+// The rounds take as a const argument how many words of a block come from a state, and this where
+// the block is read from bytes, so that each form has its own copy of them: the compiler inlines
+// rounds that have one caller. With two callers it called them, which took a fifth longer. No code
+// reads it.
+pub(crate) const BYTES: usize = 0;
+
+// ROTR first ⊕ ROTR second ⊕ ROTR third, nested: each rotation waits for the one inside it, but
+// three independent rotations need two more copies of the word, which takes longer.
+#[inline(always)]
+fn rotations<S: LaneWord>(x: S, counts: (u32, u32, u32)) -> S
+    requires first { 1 ≤ counts.0 }
+    requires second { counts.0 < counts.1 }
+    requires third { counts.1 < counts.2 }
+    requires below { counts.2 < S.One.bits }
+    ensures { (i : ℕ) → S.lane i result ≡ three_rotations S.One.bits counts (S.lane i x) }
+{
+    let (first, second, third) = counts;
+    let inner = x.bit_xor(x.rotr(third - second));
+    let outer = x.bit_xor(inner.rotr(second - first));
+    outer.rotr(first)
+}
+
+// Σ0
+#[inline(always)]
+fn big_sigma_0<S: LaneWord>(x: S) -> S
+    ensures { (i : ℕ) → S.lane i result ≡ Σ0 S.One.family (S.lane i x) }
+{
+    rotations(x, S::One::BIG_SIGMA_0)
+}
+
+// Σ1
+#[inline(always)]
+fn big_sigma_1<S: LaneWord>(x: S) -> S
+    ensures { (i : ℕ) → S.lane i result ≡ Σ1 S.One.family (S.lane i x) }
+{
+    rotations(x, S::One::BIG_SIGMA_1)
+}
+
+// One round (step 3), from the sum of its constant and its word.
+#[inline(always)]
+fn round<S: LaneWord>(v: [S; 8], sum: S) -> [S; 8]
+    ensures { (i k w : ℕ) → S.lane i sum ≡ add_words S.One.bits k w
+        → map (S.lane i) result ≡ round S.One.family (map (S.lane i) v) k w }
+{
+    let [a, b, c, d, e, f, g, h] = v;
+    let temp1 = h.plus(big_sigma_1(e)).plus(choose_word(e, f, g)).plus(sum);
+    let temp2 = big_sigma_0(a).plus(majority_word(a, b, c));
+    [temp1.plus(temp2), a, b, c, d.plus(temp1), e, f, g]
+}
+
+// From here to `later_turn` each function is always inlined: slots are then literals, and no
+// variable is copied from round to round.
+
+// Rounds `16 * turn + place` and the next, from the words at `place`.
+#[inline(always)]
+fn two_rounds<S: ExtendSchedule>(
+    ring: &[S::Slot; 16],
+    v: [S; 8],
+    turn: usize,
+    place: usize,
+) -> [S; 8]
+    requires some { 0 < S.LANES }
+    requires place { place + 2 ≤ 16 }
+    requires turn { 16 * turn + 16 ≤ S.One.family.rounds }
+    ensures { (i : ℕ) (h b : List ℕ) (n t : ℕ)
+        → IsRing (W S.One.family b) (map (S.slot_lane i) ring.now) n
+        → t ≡ 16 * turn + place → t + 2 ≤ n → n ≤ t + 16
+        → map (S.lane i) v ≡ rounds_from S.One.family h b t
+        → map (S.lane i) result ≡ rounds_from S.One.family h b (t + 2) }
+{
+    let t = 16 * turn + place;
+    let [word, next_word] = pair(ring, place);
+    let constant = S::splat(S::One::k(t));
+    let next_constant = S::splat(S::One::k(t + 1));
+    let (first, second) = S::add_pairs(constant, next_constant, word, next_word);
+    round(round(v, first), second)
+}
+
+// The same after the first turn, where the words are computed first.
+#[inline(always)]
+fn next_two_rounds<S: ExtendSchedule>(
+    ring: &mut [S::Slot; 16],
+    v: [S; 8],
+    turn: usize,
+    place: usize,
+) -> [S; 8]
+    requires some { 0 < S.LANES }
+    requires place { place + 2 ≤ 16 }
+    requires later { 1 ≤ turn }
+    requires turn { 16 * turn + 16 ≤ S.One.family.rounds }
+    ensures { (i : ℕ) (h b : List ℕ) (t : ℕ) → t ≡ 16 * turn + place
+        → IsBefore (W S.One.family b) (rounds_from S.One.family h b)
+        (map (S.slot_lane i) ring.old) (map (S.lane i) v) t
+        → IsBefore (W S.One.family b) (rounds_from S.One.family h b)
+        (map (S.slot_lane i) ring.new) (map (S.lane i) result) (t + 2) }
+{
+    S::extend(ring, place);
+    two_rounds(ring, v, turn, place)
+}
+
+// The first sixteen rounds, from the block's own words.
+#[inline(always)]
+fn first_turn<S: ExtendSchedule, const CALLER: usize>(ring: &[S::Slot; 16], v: [S; 8]) -> [S; 8]
+    requires some { 0 < S.LANES }
+    ensures { (i : ℕ) (b : List ℕ) → IsRing (W S.One.family b) (map (S.slot_lane i) ring.now) 16
+        → map (S.lane i) result ≡ rounds_from S.One.family (map (S.lane i) v) b 16 }
+{
+    let v = two_rounds(ring, v, 0, 0);
+    let v = two_rounds(ring, v, 0, 2);
+    let v = two_rounds(ring, v, 0, 4);
+    let v = two_rounds(ring, v, 0, 6);
+    let v = two_rounds(ring, v, 0, 8);
+    let v = two_rounds(ring, v, 0, 10);
+    let v = two_rounds(ring, v, 0, 12);
+    two_rounds(ring, v, 0, 14)
+}
+
+// The sixteen rounds of a later turn, each with its slot as a literal.
+#[inline(always)]
+fn later_turn<S: ExtendSchedule, const CALLER: usize>(
+    ring: &mut [S::Slot; 16],
+    v: [S; 8],
+    turn: usize,
+) -> [S; 8]
+    requires some { 0 < S.LANES }
+    requires later { 1 ≤ turn }
+    requires turn { 16 * turn + 16 ≤ S.One.family.rounds }
+    ensures { (i : ℕ) (h b : List ℕ)
+        → IsBefore (W S.One.family b) (rounds_from S.One.family h b)
+        (map (S.slot_lane i) ring.old) (map (S.lane i) v) (16 * turn)
+        → IsBefore (W S.One.family b) (rounds_from S.One.family h b)
+        (map (S.slot_lane i) ring.new) (map (S.lane i) result) (16 * (turn + 1)) }
+{
+    let v = next_two_rounds(ring, v, turn, 0);
+    let v = next_two_rounds(ring, v, turn, 2);
+    let v = next_two_rounds(ring, v, turn, 4);
+    let v = next_two_rounds(ring, v, turn, 6);
+    let v = next_two_rounds(ring, v, turn, 8);
+    let v = next_two_rounds(ring, v, turn, 10);
+    let v = next_two_rounds(ring, v, turn, 12);
+    next_two_rounds(ring, v, turn, 14)
+}
+
+// Each word of `state` with its variable of `v` added (step 4).
+fn add_state<S: LaneWord>(state: &[S; 8], v: &[S; 8]) -> [S; 8]
+    ensures { (i : ℕ) → map (S.lane i) result
+        ≡ add_state S.One.bits (map (S.lane i) state.now) (map (S.lane i) v.now) }
+{
+    let [a, b, c, d, e, f, g, h] = *state;
+    let [i, j, k, l, m, n, o, p] = *v;
+    [
+        a.plus(i),
+        b.plus(j),
+        c.plus(k),
+        d.plus(l),
+        e.plus(m),
+        f.plus(n),
+        g.plus(o),
+        h.plus(p),
+    ]
+}
+
+// Runs the block function in each lane, over the block whose words the ring holds there.
+#[inline(always)]
+pub(crate) fn run_loaded<S: ExtendSchedule, const CALLER: usize>(
+    ring: &mut [S::Slot; 16],
+    state: &mut [S; 8],
+)
+    requires some { 0 < S.LANES }
+    ensures { (i : ℕ) (b : List ℕ) → IsRing (W S.One.family b) (map (S.slot_lane i) ring.old) 16
+        → map (S.lane i) state.new ≡ block_step S.One.family (map (S.lane i) state.old) b }
+{
+    let mut variables = first_turn::<S, CALLER>(ring, *state); // steps 2 and 3
+    let turns = S::One::ROUNDS / 16;
+    'later: for turn in 1..turns {
+        variables = later_turn::<S, CALLER>(ring, variables, turn); // steps 1 and 3
+    }
+    *state = add_state(state, &variables); // step 4
+}

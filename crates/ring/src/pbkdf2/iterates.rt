@@ -45,9 +45,10 @@ pub(crate) fn bytes_of(tag: &Tag) -> [u8; OUTPUT_ROOM]
     bytes
 }
 
-// The exclusive or of the first iterate and of those after it, in each lane under its key.
+// The exclusive or of the first iterate and of those after it, in each lane under its key. It isn't
+// inlined, so that its caller keeps no room for it while first iterates are computed.
+#[inline(never)]
 pub(crate) fn xor_iterates<H: SideBySide>(
-    ring: &mut H::Ring,
     inner: &H::States,
     outer: &H::States,
     first: &H::States,
@@ -63,10 +64,11 @@ pub(crate) fn xor_iterates<H: SideBySide>(
     ensures cost { meter.new
         ≡ raised meter.old (H.LANES * (2 * (non_zero_u32_get iterations - 1))) 0 }
 {
+    let mut ring = H::ring();
     let mut sum = *first;
     let mut iterate = *first;
     'iterates: for _made in 1..iterations.get() {
-        replace_by_tag::<H>(ring, inner, outer, &mut iterate, meter);
+        replace_by_tag::<H>(&mut ring, inner, outer, &mut iterate, meter);
         H::xor(&mut sum, &iterate);
     }
     sum

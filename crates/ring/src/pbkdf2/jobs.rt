@@ -46,23 +46,18 @@ struct Starts {
 
 const NO_STATES: [DynState; MAX_LANES] = [DynState::As32([Wrapping(0); 8]); MAX_LANES];
 
-// What the rounds of the jobs start from.
-fn starts_of(jobs: &[Job], meter: &mut Meter) -> Starts
+// Sets what the rounds of the jobs start from.
+fn set_starts(jobs: &[Job], starts: &mut Starts, meter: &mut Meter)
     requires most { length jobs.now ≤ 8 }
     requires within { (i : ℕ) (job : Job) → i < length jobs.now
         → IsJobWithin (get_or jobs.now i job) }
-    ensures starts { AreStarts jobs.now result.inner result.outer result.first
+    ensures starts { AreStarts jobs.now starts.new.inner starts.new.outer starts.new.first
         (length jobs.now) }
     ensures cost { (job : Job) → meter.new ≡ raised meter.old
         (sum_below (λ i. first_blocks (get_or jobs.now i job)) (length jobs.now)) 0 }
-    ensures lengths { (length result.inner ≡ 8) × (length result.outer ≡ 8)
-        × (length result.first ≡ 8) }
+    ensures lengths { (length starts.new.inner ≡ 8) × (length starts.new.outer ≡ 8)
+        × (length starts.new.first ≡ 8) }
 {
-    let mut starts = Starts {
-        inner: NO_STATES,
-        outer: NO_STATES,
-        first: NO_STATES,
-    };
     'starts: for i in 0..jobs.len() {
         let job = jobs[i];
         let tag = first_iterate(job.key, job.salt, job.number, meter);
@@ -70,7 +65,6 @@ fn starts_of(jobs: &[Job], meter: &mut Meter) -> Starts
         starts.outer[i] = job.key.outer.state;
         starts.first[i] = job.key.inner.state.with_bytes(&bytes_of(&tag));
     }
-    starts
 }
 
 // Writes the rounds of as many jobs as there are lanes.
@@ -93,12 +87,16 @@ fn write_in_lanes<H: SideBySide>(
         (sum_below (λ i. job_blocks (non_zero_u32_get iterations) (get_or jobs.now i job))
         (length jobs.now)) 0 }
 {
-    let starts = starts_of(jobs, meter);
+    let mut starts = Starts {
+        inner: NO_STATES,
+        outer: NO_STATES,
+        first: NO_STATES,
+    };
+    set_starts(jobs, &mut starts, meter);
     let inner = H::new(&starts.inner[..jobs.len()]);
     let outer = H::new(&starts.outer[..jobs.len()]);
     let first = H::new(&starts.first[..jobs.len()]);
-    let mut ring = H::ring();
-    let sums = xor_iterates::<H>(&mut ring, &inner, &outer, &first, iterations, meter);
+    let sums = xor_iterates::<H>(&inner, &outer, &first, iterations, meter);
     'rounds: for i in 0..jobs.len() {
         rounds[i] = H::state(&sums, i).format_output();
     }

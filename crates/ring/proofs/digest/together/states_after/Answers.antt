@@ -34,12 +34,12 @@ blocks-2-preserved g c =
     omega (arith, c.put_blocks.auto.blocks, c.LANES.ensures, c.requires.most) in
     let blocks = take count (put ++ rest) in
     let is : (i : ℕ) → i < lanes
-        → get_or blocks i [] ≡ chunk_at g.row.N (padded a (message_at messages i)) k =
+    → get_or blocks i [] ≡ chunk_at g.row.N (padded a (message_at messages i)) k =
     λ i below.
-        let read : get_or blocks i [] ≡ get_or put i [] =
-        get_or-take count (put ++ rest) i [] (omega (arith, c.LANES-in-blocks-2.ensures, below))
-        ∙ get_or_append_left put rest [] i (omega (arith, long, below)) in
-        rw read (c.put_blocks.ensures i (omega (arith, c.requires.within.count, below))) in
+    let read : get_or blocks i [] ≡ get_or put i [] =
+    get_or-take count (put ++ rest) i [] (omega (arith, c.LANES-in-blocks-2.ensures, below))
+    ∙ get_or_append_left put rest [] i (omega (arith, long, below)) in
+    rw read (c.put_blocks.ensures i (omega (arith, c.requires.within.count, below))) in
     record {
       words = λ i below. words-next a (message_at messages i) _ k c.requires.whole
           (is i below) (c.run_blocks.ensures.words a i (words_at a (message_at messages i) k)

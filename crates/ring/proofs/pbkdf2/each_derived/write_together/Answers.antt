@@ -31,7 +31,7 @@ pub write_under-requires : goal.write_under-requires
 write_under-requires g c =
     let keys = c.keys_of-keys.ensures in
     let together : CanRunTogether g.row.BITS c.digest_algorithm-digest.result
-        (length (take (length c.args.secrets.now) c.keys_of-keys.result)) = rw (
+    (length (take (length c.args.secrets.now) c.keys_of-keys.result)) = rw (
       keys.count,
       c.requires.within.secret_count,
       c.digest_algorithm-digest.ensures,

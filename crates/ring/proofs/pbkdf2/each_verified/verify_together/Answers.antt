@@ -38,7 +38,7 @@ pub verify_under-requires : goal.verify_under-requires
 verify_under-requires g c =
     let keys = c.keys_of-keys.ensures in
     let together : CanRunTogether g.row.BITS c.digest_algorithm-digest.result
-        (length (take (length c.args.secrets.now) c.keys_of-keys.result)) = rw (
+    (length (take (length c.args.secrets.now) c.keys_of-keys.result)) = rw (
       keys.count,
       c.requires.within.secret_count,
       c.digest_algorithm-digest.ensures,

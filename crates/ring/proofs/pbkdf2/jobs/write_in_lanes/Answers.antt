@@ -12,17 +12,17 @@ use Rattle.ring.proofs.pbkdf2.jobs.write_in_lanes.Goals as goal
 
 pub new-inner-requires-clause-sized : goal.new-inner-requires-clause-sized
 new-inner-requires-clause-sized g c = λ i s below.
-    word-size _ _ (sized-at c.requires.each c.starts_of-starts.ensures.starts i s s s
+    word-size _ _ (sized-at c.requires.each c.set_starts.ensures.starts i s s s
     (omega (arith, below, c.requires.lanes))).0 ∙ g.met.H.SideBySide.sized
 
 pub new-outer-requires-clause-sized : goal.new-outer-requires-clause-sized
 new-outer-requires-clause-sized g c = λ i s below.
-    word-size _ _ (sized-at c.requires.each c.starts_of-starts.ensures.starts i s s s
+    word-size _ _ (sized-at c.requires.each c.set_starts.ensures.starts i s s s
     (omega (arith, below, c.requires.lanes))).1.0 ∙ g.met.H.SideBySide.sized
 
 pub new-first-requires-clause-sized : goal.new-first-requires-clause-sized
 new-first-requires-clause-sized g c = λ i s below.
-    word-size _ _ (sized-at c.requires.each c.starts_of-starts.ensures.starts i s s s
+    word-size _ _ (sized-at c.requires.each c.set_starts.ensures.starts i s s s
     (omega (arith, below, c.requires.lanes))).1.1 ∙ g.met.H.SideBySide.sized
 
 pub rounds-preserved : goal.rounds-preserved
@@ -37,7 +37,7 @@ rounds-preserved g c =
     let written = digest_written a (words state) _ (c.state.ensures.sized ∙ sym g.met.H.SideBySide.sized)
     output.ensures.count output.ensures.bytes ∙ ap (digest_bytes a) c.state.ensures.words in
     let here = λ (job : Job). lane-round _ _ (c.requires.each i job below)
-    (start-at c.requires.each c.starts_of-starts.ensures.starts i job state state state below) (
+    (start-at c.requires.each c.set_starts.ensures.starts i job state state state below) (
       c.new-inner.ensures i state lane,
       (
         c.new-outer.ensures i state lane,
@@ -60,5 +60,5 @@ returns-clause-cost g c = λ job.
     let jobs = c.args.jobs.now in
     cost_jobs c.args.meter.now {m2 = c.xor_iterates-sums.new.meter} jobs job
     (non_zero_u32_get c.args.iterations) (length jobs)
-    (c.starts_of-starts.ensures.cost job)
+    (c.set_starts.ensures.cost job)
     (rw (← c.requires.lanes) at c.xor_iterates-sums.ensures.cost)

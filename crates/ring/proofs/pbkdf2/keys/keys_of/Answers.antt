@@ -20,10 +20,10 @@ keys-init c =
     let first = c.key_within-first.ensures in
     record {
       keys = λ d. record {
-            each = λ i below.
-                let zero : i ≡ 0 = omega (arith, below) in
-                rw (zero, c.clone.ensures) (key_at secrets 0 first.algorithm first.ok);
-          };
+        each = λ i below.
+            let zero : i ≡ 0 = omega (arith, below) in
+            rw (zero, c.clone.ensures) (key_at secrets 0 first.algorithm first.ok);
+      };
       size = refl;
       cost = risen-next (risen-none blocks c.args.meter.now) (cost_key_at a _ secrets 0 first.cost);
     }

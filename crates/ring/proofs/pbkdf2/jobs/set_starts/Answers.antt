@@ -1,4 +1,4 @@
-use Rattle.std.proofs.Common.{◌≡◌, ◌∙◌, arith, get_or, length, refl}
+use Rattle.std.proofs.Common.{◌≡◌, ◌∙◌, arith, get_or, length, rules}
 use Rattle.std.proofs.Math.ListN.{length-set}
 use Rattle.std.proofs.lemmas.List.{get_or_default}
 use Rattle.ring.specs.Jobs.{first_blocks}
@@ -6,13 +6,13 @@ use Rattle.ring.specs.declared.pbkdf2.jobs.Job.{Job}
 use Rattle.ring.proofs.Costs.{raised-none}
 use Rattle.ring.proofs.Jobs.{job-start, starts-next}
 use Rattle.ring.proofs.Sums.{raised-next, sum_below-none}
-use Rattle.ring.proofs.pbkdf2.jobs.starts_of.Goals as goal
+use Rattle.ring.proofs.pbkdf2.jobs.set_starts.Goals as goal
 
 pub starts-init : goal.starts-init
 starts-init c =
     record {
       starts = record { each = λ k job s t u below. absurd (omega (arith, below)) };
-      lengths = (refl, (refl, refl));
+      lengths = search rules;
       cost = λ job. rw (sum_below-none (λ k. first_blocks (get_or c.args.jobs.now k job)))
           (raised-none c.args.meter.now);
     }

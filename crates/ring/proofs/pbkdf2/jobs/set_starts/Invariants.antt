@@ -3,7 +3,7 @@ use Rattle.ring_core.specs.Cost.{raised}
 use Rattle.ring.specs.DeriveEach.{sum_below}
 use Rattle.ring.specs.Jobs.{AreStarts, first_blocks}
 use Rattle.ring.specs.declared.pbkdf2.jobs.Job.{Job}
-use Rattle.ring.proofs.pbkdf2.jobs.starts_of.Given as goal
+use Rattle.ring.proofs.pbkdf2.jobs.set_starts.Given as goal
 
 -- the first i jobs' states are there
 abbrev pub invariant-starts : goal.invariant-starts

@@ -1,5 +1,5 @@
 -- Keys of several secrets, and the jobs of their rounds of one number.
-use Rattle.std.proofs.Common.{◌≡◌, ℕ, zero, suc, ◌+◌, ◌<◌, ◌≤◌, List, [], ◌∷◌, length, take, get_or}
+use Rattle.std.proofs.Common.{◌≡◌, ℕ, ◌+◌, ◌<◌, ◌≤◌, List, [], length, take, get_or}
 use Rattle.std.proofs.Common.{ap, ◌∙◌, arith, refl}
 use Rattle.std.proofs.lemmas.List.{get_or-take, length-take-le}
 use Rattle.std.specs.Borrow.{Bor}

@@ -3,13 +3,6 @@ use Rattle.ring.proofs.Lengths.{counted_first, counted_tag}
 use Rattle.ring.proofs.Outcomes.{on_ok_map}
 use Rattle.ring.proofs.hmac.sign_counted.Goals as goal
 
-pub returns-clause-ok : goal.returns-clause-ok
-returns-clause-ok c = λ k h.
-    let context = c.with_key-context.ensures in
-    let update = c.update_counted.ensures in
-    let t = c.sign_counted.ensures.ok k _ (update.stands k _ (context.stands k h)) in
-    rw (update.algorithm ∙ context.algorithm) at t
-
 pub returns-clause-cost : goal.returns-clause-cost
 returns-clause-cost c =
     let context = c.with_key-context.ensures in

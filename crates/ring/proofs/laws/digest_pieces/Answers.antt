@@ -1,8 +1,7 @@
-use Rattle.std.proofs.Common.{◌≤◌, arith, rules}
+use Rattle.std.proofs.Common.{arith}
 use Rattle.std.proofs.lemmas.List.{take_all}
-use Rattle.ring.specs.Algorithm.{max_input_len}
 use Rattle.ring.proofs.Feeding.{fed_end, fed_more, fed_none, fed_piece}
-use Rattle.ring.proofs.Outcomes.{on_err_never, on_ok_map}
+use Rattle.ring.proofs.Outcomes.{on_ok_map}
 use Rattle.ring.proofs.laws.digest_pieces.Goals as goal
 
 pub pieces-init : goal.pieces-init
@@ -15,22 +14,6 @@ pieces-preserved c =
     let more = c.update_counted.ensures in
     fed_piece c.args.pieces.now c.pieces.piece-index _ (omega arith)
     (fed_more _ c.pieces.invariant more.algorithm more.counted more.pending more.stands more.cost)
-
-pub returns-clause-ok : goal.returns-clause-ok
-returns-clause-ok c =
-    let all = take_all c.pieces.piece-index c.args.pieces.now (omega arith) in
-    let fed = rw all at c.pieces.invariant in
-    rw fed.algorithm at (c.finish_counted.ensures.ok _ fed.stands)
-
-pub returns-clause-unchanged : goal.returns-clause-unchanged
-returns-clause-unchanged c =
-    let all = take_all c.pieces.piece-index c.args.pieces.now (omega arith) in
-    let fed = rw all at c.pieces.invariant in
-    let within : c.joined_len.result ≤ max_input_len c.args.algorithm.now =
-    search (rules, c.if-not-is_message_within.ensures) in
-    on_err_never c.finish_counted.result _ (λ refused.
-    let over = rw fed.algorithm at (c.finish_counted.ensures.refused.0 refused) in
-    omega (arith, over, within, fed.counted, c.joined_len.ensures))
 
 pub returns-clause-cost : goal.returns-clause-cost
 returns-clause-cost c =

@@ -13,11 +13,6 @@ use Rattle.ring.proofs.Finishing.{digest_from}
 use Rattle.ring.proofs.Rows.{block_len-positive}
 use Rattle.ring.proofs.digest.padded_blocks.finished.Goals as goal
 
-pub rest-init : goal.rest-init
-rest-init g c =
-    let whole = c.run_whole-done.ensures in
-    record { sized = whole.sized; words = whole.words; cost = whole.cost }
-
 pub rest-preserved : goal.rest-preserved
 rest-preserved g c =
     let a = c.args.algorithm in

@@ -1,23 +1,12 @@
-use Rattle.std.proofs.Common.{◌≡◌, ◌+◌, ◌++◌, ◌∷◌, [], length, ap, ◌∙◌, arith, append-nil}
+use Rattle.std.proofs.Common.{◌≡◌, ◌+◌, ◌++◌, ◌∷◌, [], length, ap, ◌∙◌, arith}
 use Rattle.std.proofs.Common.{length-append}
 use Rattle.std.proofs.lemmas.List.{take_all}
 use Rattle.ring_core.specs.Cost.{raised}
 use Rattle.ring.specs.Cost.{padded_blocks}
 use Rattle.ring.specs.Hmac.{key_algorithm}
 use Rattle.ring.specs.Pieces.{joined}
-use Rattle.ring.proofs.Signing.{signed_end, signed_more, signed_none, signed_piece}
+use Rattle.ring.proofs.Signing.{signed_end, signed_more, signed_piece}
 use Rattle.ring.proofs.hkdf.rounds.round.Goals as goal
-
-pub loop-piece-init : goal.loop-piece-init
-loop-piece-init c =
-    let new = c.with_key-context.ensures in
-    let more = c.update_counted.ensures in
-    let none =
-    signed_none {m = c.args.meter.now} new.algorithm new.counted new.pending new.stands in
-    let previous = c.args.previous.now in
-    let begun =
-    signed_more previous none more.algorithm more.counted more.pending more.stands more.cost in
-    rw append-nil begun
 
 pub loop-piece-preserved : goal.loop-piece-preserved
 loop-piece-preserved c =

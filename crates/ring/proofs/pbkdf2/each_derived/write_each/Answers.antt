@@ -42,15 +42,3 @@ together-preserved g c =
     (take-put_mid at _ c.together.out c.write_together.new.out (at + k) (omega (arith, long))
     (omega arith))
     part.ok part.cost
-
-pub returns-clause-cost : goal.returns-clause-cost
-returns-clause-cost g c =
-    let all : c.together.made ≡ length c.args.secrets.now =
-    omega (
-      arith,
-      c.together.invariant.within,
-      c.together-test.false,
-      c.together.auto.out,
-      c.requires.secret_count,
-    ) in
-    rw all at c.together.invariant.cost

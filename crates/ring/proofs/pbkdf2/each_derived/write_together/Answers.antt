@@ -2,18 +2,9 @@ use Rattle.std.proofs.Common.{◌≡◌, ◌∙◌, ◌<◌, [], arith, get_or, 
 use Rattle.std.specs.Int.NonZero.{non_zero_u32_get}
 use Rattle.ring.specs.Hmac.{hmac_digest}
 use Rattle.ring.specs.Lanes.{CanRunTogether}
-use Rattle.ring.proofs.DerivedKeys.{blocks-one, cost-each, each-derived, one-derived}
+use Rattle.ring.proofs.DerivedKeys.{blocks-one, cost-each, each-derived}
 use Rattle.ring.proofs.Rounds.{cost_derived}
 use Rattle.ring.proofs.pbkdf2.each_derived.write_together.Goals as goal
-
-pub returns-then-secrets-eq1-clause-ok : goal.returns-then-secrets-eq1-clause-ok
-returns-then-secrets-eq1-clause-ok g c =
-    let out = c.args.out.now in
-    let one : length c.args.secrets.now ≡ 1 = omega arith in
-    let long : length (get_or out 0 []) ≡ g.row.N = search rules in
-    let key = c.key_within-key.ensures in
-    one-derived out (sym c.requires.within.secret_count ∙ one, one)
-    (rw (key.algorithm, long) at (c.write_rounds.ensures.ok _ key.ok))
 
 pub returns-then-secrets-eq1-clause-cost : goal.returns-then-secrets-eq1-clause-cost
 returns-then-secrets-eq1-clause-cost g c =

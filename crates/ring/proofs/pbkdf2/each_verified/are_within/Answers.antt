@@ -1,6 +1,5 @@
-use Rattle.std.proofs.Common.{◌≡◌, ◌<◌, ◌∙◌, ap, arith, inl, inr, length, rules, sym, true≢false}
+use Rattle.std.proofs.Common.{◌≡◌, ◌<◌, ◌∙◌, length, rules, sym, true≢false}
 use Rattle.std.proofs.Common.{[], get_or}
-use Rattle.std.proofs.lemmas.Bool.{cases_order}
 use Rattle.std.proofs.lemmas.List.{get_or_default}
 use Rattle.ring.specs.DeriveEach.{bytes_at}
 use Rattle.ring.specs.Limits.{CanVerify}
@@ -23,26 +22,3 @@ returns-then-not-can_verify-clause-ok g c =
           let read = rw (message-read secrets i, message-read salts i, ← size) at within in
           search (rules, c.can_verify.ensures.1 read, c.if-not-can_verify.true),
     )
-
-pub places-preserved : goal.places-preserved
-places-preserved g c =
-    let i = c.places.i in
-    let secrets = c.args.secrets.now in
-    let salts = c.args.salts.now in
-    let value = c.index-values-i.result in
-    let below : i < length c.args.values.now = c.places-test.true in
-    let there : value ≡ get_or c.args.values.now i [] =
-    c.index-values-i.is ∙ get_or_default c.args.values.now i value [] below in
-    let size : length value ≡ g.row.N = search rules in
-    let long : length (get_or c.args.values.now i []) ≡ g.row.N = ap length (sym there) ∙ size in
-    let this : CanVerify c.args.algorithm.now (length (bytes_at secrets i))
-    (length (bytes_at salts i)) g.row.N =
-    rw (message-read secrets i, message-read salts i, ← size)
-    (search (rules, c.if-not-can_verify.ensures)) in
-    λ k less. elim (cases_order k i) [
-      | inl e ↦ rw e (this, long)
-      | inr o ↦ elim o [
-        | inl h ↦ c.places.invariant k h
-        | inr h ↦ absurd (omega (arith, h, less))
-      ]
-    ]

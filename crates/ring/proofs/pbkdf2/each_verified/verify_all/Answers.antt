@@ -54,9 +54,3 @@ together-preserved g c =
     (take-put_mid at _ c.together.matches c.verify_together.new.matches (at + k)
     (omega (arith, long)) (omega (arith, fits)))
     part.ok part.cost
-
-pub returns-clause-cost : goal.returns-clause-cost
-returns-clause-cost g c =
-    let all : c.together.made ≡ length c.args.values.now =
-    omega (arith, c.together.invariant.within, c.together-test.false) in
-    rw c.requires.within.secret_count (rw all at c.together.invariant.cost)

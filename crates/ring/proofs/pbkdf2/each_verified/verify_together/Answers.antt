@@ -1,24 +1,11 @@
-use Rattle.std.proofs.Common.{◌≡◌, ◌*◌, ◌∙◌, ◌<◌, [], arith, get_or, length, rules, sym, take}
-use Rattle.std.proofs.lemmas.List.{get_or_default}
+use Rattle.std.proofs.Common.{◌≡◌, ◌*◌, ◌∙◌, ◌<◌, arith, length, rules, sym, take}
 use Rattle.std.specs.Int.NonZero.{non_zero_u32_get}
 use Rattle.ring.specs.Hmac.{hmac_digest}
 use Rattle.ring.specs.Lanes.{CanRunTogether}
 use Rattle.ring.proofs.DerivedKeys.{blocks-one, cost-each}
 use Rattle.ring.proofs.Rounds.{cost_derived}
-use Rattle.ring.proofs.VerifiedKeys.{each-verified, one-verified}
+use Rattle.ring.proofs.VerifiedKeys.{each-verified}
 use Rattle.ring.proofs.pbkdf2.each_verified.verify_together.Goals as goal
-
-pub returns-then-secrets-eq1-clause-ok : goal.returns-then-secrets-eq1-clause-ok
-returns-then-secrets-eq1-clause-ok g c =
-    let values = c.args.values.now in
-    let few : length values ≡ 1 = omega (arith, c.requires.within.secret_count) in
-    let value = c.index-values-0.result in
-    let there : value ≡ get_or values 0 [] =
-    c.index-values-0.is ∙ get_or_default values 0 value [] (omega (arith, few)) in
-    let long : length (get_or values 0 []) ≡ g.row.N = c.requires.len 0 (omega (arith, few)) in
-    let key = c.key_within-key.ensures in
-    one-verified c.args.matches.now (c.requires.places ∙ few) (rw few at c.requires.within) long
-    (rw (key.algorithm, there, long) at (c.are_rounds.ensures.ok _ key.ok))
 
 pub returns-then-secrets-eq1-clause-cost : goal.returns-then-secrets-eq1-clause-cost
 returns-then-secrets-eq1-clause-cost g c =

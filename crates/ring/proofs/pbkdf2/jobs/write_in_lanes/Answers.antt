@@ -51,10 +51,6 @@ rounds-preserved g c =
       count = simp length-set c.rounds.invariant.count;
     }
 
-pub returns-clause-ok : goal.returns-clause-ok
-returns-clause-ok g c = λ i job room below.
-    c.rounds.invariant.written i room (omega (arith, below)) job
-
 pub returns-clause-cost : goal.returns-clause-cost
 returns-clause-cost g c = λ job.
     let jobs = c.args.jobs.now in

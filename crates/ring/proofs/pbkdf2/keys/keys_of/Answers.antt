@@ -1,4 +1,4 @@
-use Rattle.std.proofs.Common.{◌≡◌, ℕ, suc, ◌+◌, add-one, arith, length, length-take-le, refl, rules}
+use Rattle.std.proofs.Common.{◌≡◌, ℕ, add-one, arith, length, refl, rules}
 use Rattle.ring.specs.Cost.{key_blocks}
 use Rattle.ring.specs.DeriveEach.{bytes_at}
 use Rattle.ring.specs.Hmac.{hmac_digest}
@@ -47,14 +47,4 @@ returns-clause-ok c =
     let secrets = c.args.secrets.now in
     let last : c.keys.i ≡ length secrets = omega (arith, c.requires.some) in
     keys-all secrets (length secrets) (rw last at c.keys.invariant.keys)
-    (omega (arith, c.keys.invariant.size, c.requires.most))
-
-pub returns-clause-cost : goal.returns-clause-cost
-returns-clause-cost c =
-    let last : c.keys.i ≡ length c.args.secrets.now = omega (arith, c.requires.some) in
-    rw last at c.keys.invariant.cost.cost
-
-pub returns-clause-count : goal.returns-clause-count
-returns-clause-count c =
-    length-take-le (length c.args.secrets.now) c.keys.keys
     (omega (arith, c.keys.invariant.size, c.requires.most))

@@ -1,4 +1,4 @@
-use Rattle.std.proofs.Common.{◌≡◌, ℕ, length}
+use Rattle.std.proofs.Common.{◌≡◌, length}
 use Rattle.ring.specs.Cost.{key_blocks}
 use Rattle.ring.specs.DeriveEach.{bytes_at}
 use Rattle.ring.specs.Hmac.{hmac_digest}

@@ -7,19 +7,13 @@ use Rattle.ring.specs.declared.digest.algorithm.Algorithm.{Algorithm}
 use Rattle.ring.specs.declared.pbkdf2.jobs.Job.{Job}
 use Rattle.ring.proofs.Each.{message-read}
 use Rattle.ring.proofs.KeysAt.{IsJobAt, jobs-blocks, jobs-can, jobs-rounds, some_job}
-use Rattle.ring.proofs.Places.{places-next, places-none}
+use Rattle.ring.proofs.Places.{places-next}
 use Rattle.ring.proofs.pbkdf2.keys.write_round_of_each.Goals as goal
 
 -- as many jobs are run as there are keys
 several : {bits : ℕ} (a : Algorithm) {n : ℕ} (jobs : List Job) → CanRunTogether bits a n
     → length jobs ≡ 8 → length (take n jobs) ≡ n
 several a {n = n} jobs can eight = length-take-le n jobs (grind (arith, can, eight))
-
-pub jobs-init : goal.jobs-init
-jobs-init g c = (
-  refl,
-  λ d. places-none (IsJobAt c.args.keys.now c.args.salts.now c.args.number) d _,
-)
 
 pub jobs-preserved : goal.jobs-preserved
 jobs-preserved g c =

@@ -1,15 +1,9 @@
-use Rattle.std.proofs.Common.{◌≡◌, ◌*◌, ◌++◌, ℕ, arith, sym, ◌∙◌, ap, length, take}
-use Rattle.std.proofs.lemmas.List.{length-take-le}
-use Rattle.ring_core.specs.Cost.{raised}
-use Rattle.ring.specs.Algorithm.{block_len}
-use Rattle.ring.specs.Cost.{padded_blocks}
+use Rattle.std.proofs.Common.{◌≡◌, ◌++◌, arith, sym, ◌∙◌, ap, length}
 use Rattle.ring.specs.Digest.{bytes_of}
 use Rattle.ring.specs.Padding.{tail_of}
 use Rattle.ring.specs.declared.digest.value.Digest.{Digest}
-use Rattle.ring.proofs.Blocks.{mul_whole}
 use Rattle.ring.proofs.Finishing.{taken_len}
-use Rattle.ring.proofs.Rows.{block_len-positive}
-use Rattle.ring.proofs.Tails.{padded-append, tail_sizes}
+use Rattle.ring.proofs.Tails.{padded-append}
 use Rattle.ring.proofs.digest.block_context.BlockContext.try_finish.Goals as goal
 
 pub returns-clause-ok : goal.returns-clause-ok
@@ -25,17 +19,3 @@ returns-clause-ok c = λ p h.
       algorithm = ap (λ (d : Digest). d.algorithm) c.new.ensures;
       bytes = ap bytes_of c.new.ensures ∙ c.output_after-output.ensures.ok p (p ++ x) h end;
     }
-
-pub returns-clause-cost : goal.returns-clause-cost
-returns-clause-cost c =
-    let a = c.args.self.now.algorithm in
-    let x = c.args.pending.now in
-    let sizes = tail_sizes a (length x) (omega arith) in
-    let blocks = padded_blocks a (length x) in
-    let tail = c.write_tail-len in
-    let size : length (take tail.result tail.new.bytes) ≡ blocks * block_len a =
-    length-take-le _ tail.new.bytes (omega (arith, tail.ensures.len, sizes.0))
-    ∙ tail.ensures.len in
-    c.output_after-output.ensures.cost
-    ∙ ap (λ (n : ℕ). raised c.args.meter.now n 0)
-    (rw size (mul_whole blocks (block_len a) (block_len-positive a)).1)

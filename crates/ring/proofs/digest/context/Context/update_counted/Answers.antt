@@ -1,7 +1,7 @@
 use Rattle.std.proofs.Common.{ℕ, ◌≤◌, length, refl, arith, ◌∙◌, ap}
 use Rattle.ring_core.specs.Cost.{raised}
 use Rattle.ring.proofs.Rows.{block_len-most}
-use Rattle.ring.proofs.Updating.{moved_none, moved_both, stands_moved, counted_moved, pending_moved}
+use Rattle.ring.proofs.Updating.{moved_none, moved_both, stands_moved, pending_moved}
 use Rattle.ring.proofs.Updating.{cost_moved, ahead_len, stands_blocks}
 use Rattle.ring.proofs.digest.context.Context.update_counted.Goals as goal
 
@@ -35,14 +35,6 @@ returns-clause-stands c =
     let moved = moved_both completed c.update-leftover.ensures.moved c.keep-2.ensures.block in
     stands_moved c.args.self.now _ c.args.input.now moved
     (c.keep-2.ensures.pending ∙ rw c.complete_pending-rest.ensures.empty refl)
-
-pub returns-clause-counted : goal.returns-clause-counted
-returns-clause-counted c =
-    let completed = c.complete_pending-rest.ensures.moved in
-    let moved = moved_both completed c.update-leftover.ensures.moved c.keep-2.ensures.block in
-    counted_moved c.args.self.now c.keep-2.new.self c.args.input.now moved
-    (omega (arith, block_len-most c.args.self.now.block.algorithm))
-    (omega (arith, c.complete_pending-rest.ensures.empty, c.keep-2.ensures.count))
 
 pub returns-clause-pending : goal.returns-clause-pending
 returns-clause-pending c =

@@ -1,4 +1,4 @@
-use Rattle.std.proofs.Common.{◌+◌, ℕ, refl, rules, ap, ◌∙◌}
+use Rattle.std.proofs.Common.{◌+◌, ℕ, ap, ◌∙◌}
 use Rattle.ring_core.specs.Cost.{raised}
 use Rattle.ring.specs.Algorithm.{output_len}
 use Rattle.ring.specs.Context.{context_algorithm}
@@ -24,12 +24,6 @@ returns-clause-cost c =
     let len = c.as_ref.ensures.len ∙ ap output_len c.in_ok-digest.ensures.algorithm in
     cost_sign _ _ taken (update.algorithm ∙ same) len c.in_ok-digest.ensures.cost
     c.in_ok-value.ensures.cost
-
-pub returns-in_err-digest-clause-refused_of : goal.returns-in_err-digest-clause-refused_of
-returns-in_err-digest-clause-refused_of c = λ k m h.
-    let r = c.in_err-digest.ensures.refused_of _ h.inner in
-    let r' = rw (inner_len (context_algorithm c.args.self.inner) k m) at r in
-    (λ e. r'.0 refl, λ o. search rules)
 
 pub returns-clause-refused_of : goal.returns-clause-refused_of
 returns-clause-refused_of c = λ k m h.

@@ -10,6 +10,3 @@ returns-clause-ok g c = λ i.
     lane_run family_512 (λ (x : InLanes g.row.V.Denot). g.V.LaneWord.lane i x.0)
     c.args.states.now.words run.new.states.words c.args.digests.now.words sha512_256_padding
     (run.ensures.eight i) (λ x. g.met.V.LaneWord.fits i x.0) (run.ensures.words i)
-
-pub returns-clause-eight : goal.returns-clause-eight
-returns-clause-eight g c = λ i. (c.block_of_words_lanes_counted.ensures.eight i).1

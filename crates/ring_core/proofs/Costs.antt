@@ -1,5 +1,5 @@
 -- How rises of a meter add up.
-use Rattle.std.proofs.Common.{◌≡◌, ◌≢◌, ℕ, ◌+◌, ◌-◌, ◌^◌, ◌<◌, ◌==◌, true, false, refl, ap, arith}
+use Rattle.std.proofs.Common.{◌≡◌, ◌≢◌, ℕ, ◌+◌, ◌-◌, ◌^◌, ◌<◌, ◌==◌, false, refl, ap, arith}
 use Rattle.std.proofs.Common.{rules, min}
 use Rattle.ring_core.specs.Cost.{Counts, compared_pairs, raised_count, raised}
 
@@ -55,10 +55,6 @@ counted_new m0 m1 blocks pairs none e fits =
     let first = ap (λ (c : Counts). c.blocks) none in
     let last = counted m0 m1 blocks pairs e (omega arith) in
     omega arith
-
--- a comparison of lists of one length reads each pair
-pub compared_pairs-same : (n : ℕ) → compared_pairs n n ≡ n
-compared_pairs-same n = let e : (n == n) ≡ true = search rules in rw e refl
 
 -- a comparison of lists of two lengths reads none
 pub compared_pairs-none : (m n : ℕ) → m ≢ n → compared_pairs m n ≡ 0

@@ -52,6 +52,14 @@ ring-read {slot} f ring t x ready place below near =
     sym (get_or-map f ring slot x 0 room) ∙ ap (slice_index (map f ring)) place
     ∙ ready.held t below near
 
+-- a ring before the first word
+pub ring-empty : {X : Type 0} {w : ℕ → ℕ} (f : X → ℕ) (ring : List X) → length ring ≡ 16
+    → IsRing w (map f ring) 0
+ring-empty f ring sixteen = record {
+  sixteen = length-map ring f ∙ sixteen;
+  held = λ k below near. absurd (omega arith);
+}
+
 -- one word more, in the slot of the oldest
 pub ring-set : {X : Type 0} {t : ℕ} (f : X → ℕ) (w : ℕ → ℕ) (ring : List X) (slot : ℕ) (x : X)
     → IsRing w (map f ring) t → slot ≡ t % 16 → f x ≡ w t

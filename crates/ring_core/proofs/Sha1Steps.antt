@@ -1,21 +1,15 @@
 -- The steps of SHA-1's definitions.
-use Rattle.std.proofs.Common.{◌≡◌, ℕ, ◌+◌, ◌-◌, ◌<◌, ◌≤◌, List, [], ◌∷◌, length, slice_index, refl}
+use Rattle.std.proofs.Common.{◌≡◌, ℕ, ◌+◌, ◌-◌, ◌<◌, ◌≤◌, List, [], ◌∷◌, length, refl}
 use Rattle.std.proofs.Common.{ap, sym, ◌∙◌, add-one, arith, nat_lt, true, false}
-use Rattle.ring_core.specs.Schedule.{IsRing, listed}
+use Rattle.ring_core.specs.Schedule.{IsRing}
 use Rattle.ring_core.specs.Sha1.{W, add_state, block_step, next_word, round, rounds_from, scheduled}
 use Rattle.ring_core.specs.Word.{word_at}
 use Rattle.ring_core.proofs.Schedule.{listed_at-next, ring-same, slice_index-listed}
 
-W-next_word : (b : List ℕ) (t : ℕ) → W b t ≡ next_word b (listed (next_word b) t) t
-unfolding W
-W-next_word b t = listed_at-next (next_word b) t
-
-before : (b : List ℕ) (t k : ℕ) → k < t → slice_index (listed (next_word b) t) k ≡ W b k
-unfolding W
-before b t k h = slice_index-listed (next_word b) t k h
-
 pub W-first : (b : List ℕ) (t : ℕ) → t < 16 → W b t ≡ word_at 32 b t
-W-first b t h = let e : nat_lt t 16 ≡ true = search arith in W-next_word b t ∙ rw e refl
+unfolding W
+W-first b t h =
+    let e : nat_lt t 16 ≡ true = search arith in listed_at-next (next_word b) t ∙ rw e refl
 
 -- the words of a block are the first sixteen of its schedule
 pub ring-loaded : (b ring : List ℕ) → IsRing (word_at 32 b) ring 16 → IsRing (W b) ring 16
@@ -24,15 +18,17 @@ ring-loaded b ring loaded =
 
 pub W-next : (b : List ℕ) (t : ℕ) → 16 ≤ t
     → W b t ≡ scheduled (W b (t - 3)) (W b (t - 8)) (W b (t - 14)) (W b (t - 16))
+unfolding W
 W-next b t h =
     let e : nat_lt t 16 ≡ false = search arith in
-    W-next_word b t
+    let before = slice_index-listed (next_word b) t in
+    listed_at-next (next_word b) t
     ∙ rw (
       e,
-      before b t (t - 3) (omega arith),
-      before b t (t - 8) (omega arith),
-      before b t (t - 14) (omega arith),
-      before b t (t - 16) (omega arith),
+      before (t - 3) (omega arith),
+      before (t - 8) (omega arith),
+      before (t - 14) (omega arith),
+      before (t - 16) (omega arith),
     ) refl
 
 -- a word and the next, each from the words before it

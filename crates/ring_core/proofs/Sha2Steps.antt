@@ -1,25 +1,17 @@
 -- The steps of SHA-2's definitions.
 use Rattle.std.proofs.Common.{◌≡◌, ◌⊎◌, ℕ, ◌+◌, ◌-◌, ◌*◌, ◌/◌, ◌<◌, ◌≤◌, List, [], ◌∷◌, length}
-use Rattle.std.proofs.Common.{slice_index, refl, sym, subst, ap, ◌∙◌, add-one, arith, inl, inr}
+use Rattle.std.proofs.Common.{slice_index, refl, sym, ap, ◌∙◌, add-one, arith, inl, inr}
 use Rattle.std.proofs.Common.{nat_lt, true, false}
-use Rattle.ring_core.specs.Schedule.{IsRing, listed}
+use Rattle.ring_core.specs.Schedule.{IsRing}
 use Rattle.ring_core.specs.Sha2.{Family, W, add_state, block_step, family_256, family_512}
 use Rattle.ring_core.specs.Sha2.{next_word, round, rounds_from, scheduled}
 use Rattle.ring_core.specs.Word.{word_at}
 use Rattle.ring_core.proofs.Schedule.{listed_at-next, ring-same, slice_index-listed}
 
-W-next_word : (f : Family) (b : List ℕ) (t : ℕ)
-    → W f b t ≡ next_word f b (listed (next_word f b) t) t
-unfolding W
-W-next_word f b t = listed_at-next (next_word f b) t
-
-before : (f : Family) (b : List ℕ) (t k : ℕ) → k < t
-    → slice_index (listed (next_word f b) t) k ≡ W f b k
-unfolding W
-before f b t k h = slice_index-listed (next_word f b) t k h
-
 pub W-first : (f : Family) (b : List ℕ) (t : ℕ) → t < 16 → W f b t ≡ word_at f.bits b t
-W-first f b t h = let e : nat_lt t 16 ≡ true = search arith in W-next_word f b t ∙ rw e refl
+unfolding W
+W-first f b t h =
+    let e : nat_lt t 16 ≡ true = search arith in listed_at-next (next_word f b) t ∙ rw e refl
 
 -- the words of a block are the first sixteen of its schedule
 pub ring-loaded : (f : Family) (bits : ℕ) (b ring : List ℕ) → bits ≡ f.bits
@@ -30,15 +22,17 @@ ring-loaded f bits b ring same loaded =
 
 pub W-next : (f : Family) (b : List ℕ) (t : ℕ) → 16 ≤ t
     → W f b t ≡ scheduled f (W f b (t - 2)) (W f b (t - 7)) (W f b (t - 15)) (W f b (t - 16))
+unfolding W
 W-next f b t h =
     let e : nat_lt t 16 ≡ false = search arith in
-    W-next_word f b t
+    let before = slice_index-listed (next_word f b) t in
+    listed_at-next (next_word f b) t
     ∙ rw (
       e,
-      before f b t (t - 2) (omega arith),
-      before f b t (t - 7) (omega arith),
-      before f b t (t - 15) (omega arith),
-      before f b t (t - 16) (omega arith),
+      before (t - 2) (omega arith),
+      before (t - 7) (omega arith),
+      before (t - 15) (omega arith),
+      before (t - 16) (omega arith),
     ) refl
 
 -- a word and the next, each from the words before it
@@ -67,27 +61,6 @@ rounds-turns f (inl e) =
     let r : f.rounds ≡ 64 = ap (λ (x : Family). x.rounds) e in (omega arith, omega arith)
 rounds-turns f (inr e) =
     let r : f.rounds ≡ 80 = ap (λ (x : Family). x.rounds) e in (omega arith, omega arith)
-
--- the rotations of σ0 and of σ1 come in order, within a word
-pub record AreInOrder (f : Family) : Type 0 where
-  pub order_0 : f.small_0.0 ≤ f.small_0.1
-  pub within_0 : f.small_0.1 ≤ f.bits
-  pub order_1 : f.small_1.0 ≤ f.small_1.1
-  pub within_1 : f.small_1.1 ≤ f.bits
-
-pub in_order : (f : Family) → (f ≡ family_256) ⊎ (f ≡ family_512) → AreInOrder f
-in_order f (inl e) = subst AreInOrder (sym e) (record {
-  order_0 = omega arith;
-  within_0 = omega arith;
-  order_1 = omega arith;
-  within_1 = omega arith;
-})
-in_order f (inr e) = subst AreInOrder (sym e) (record {
-  order_0 = omega arith;
-  within_0 = omega arith;
-  order_1 = omega arith;
-  within_1 = omega arith;
-})
 
 pub block_step-rounds : (f : Family) (h b : List ℕ)
     → block_step f h b ≡ add_state f.bits h (rounds_from f h b f.rounds)

@@ -1,7 +1,7 @@
 -- Vectors, lane by lane, and lists of eight words.
 use Rattle.std.proofs.Common.{◌≡◌, ◌≢◌, ℕ, zero, suc, ◌*◌, ◌-◌, ◌/◌, ◌%◌, ◌^◌, ◌<◌, ◌≤◌}
 use Rattle.std.proofs.Common.{List, [], ◌∷◌, slice_set, ap}
-use Rattle.std.proofs.Common.{length, slice_index, bit_or, refl, sym, arith, mod-lt, pow_pos}
+use Rattle.std.proofs.Common.{length, slice_index, map, bit_or, refl, sym, arith, mod-lt, pow_pos}
 use Rattle.std.proofs.lemmas.List.{get_or-set_other, get_or-set_same}
 use Rattle.std.proofs.lemmas.Nat.{shr_le}
 use Rattle.std.proofs.lemmas.Simd.{get_or-replicate}
@@ -106,12 +106,12 @@ pub at_set_other : (w lanes i n : ℕ) (x : List ℕ) (k : ℕ) → k < lanes �
 at_set_other w lanes i n x k below other =
     rw (mod-eq_of_lt below) (ap (λ y. y % 2 ^ w) (get_or-set_other x i k n 0 other))
 
--- a list of eight, item by item
-pub eight_read : (l : List ℕ) → length l ≡ 8
-    → slice_index l 0 ∷ slice_index l 1 ∷ slice_index l 2 ∷ slice_index l 3
+-- the numbers of eight words, one by one
+pub eight_read : {X : Type 0} (f : X → ℕ) (xs : List X) → length xs ≡ 8
+    → let l = map f xs in slice_index l 0 ∷ slice_index l 1 ∷ slice_index l 2 ∷ slice_index l 3
     ∷ slice_index l 4 ∷ slice_index l 5 ∷ slice_index l 6 ∷ slice_index l 7 ∷ [] ≡ l
-eight_read (a ∷ b ∷ c ∷ d ∷ e ∷ f ∷ g ∷ h ∷ []) eight = refl
-eight_read _ eight = absurd (omega arith)
+eight_read f (a ∷ b ∷ c ∷ d ∷ e ∷ g ∷ h ∷ i ∷ []) eight = refl
+eight_read f _ eight = absurd (omega arith)
 
 -- the exclusive or of two lists of eight, item by item
 pub xor_eight : (x y : List ℕ) → length x ≡ 8 → length y ≡ 8

@@ -1,10 +1,10 @@
-use Rattle.std.proofs.Common.{◌≡◌, ℕ, ◌<◌, [], length, slice_index, map}
+use Rattle.std.proofs.Common.{ℕ, ◌<◌, [], map}
 use Rattle.std.proofs.Math.ListN.{get_or}
+use Rattle.ring_core.specs.Schedule.{IsRing}
 use Rattle.ring_core.specs.Word.{word_at}
 use Rattle.ring_core.proofs.digest.word_ring.load_blocks.Given as goal
 
 abbrev pub invariant-words : goal.invariant-words
-invariant-words g l = (length l.ring ≡ 16)
-    × ((i k : ℕ) → i < g.V.LaneWord.LANES → k < l.t
-    → slice_index (map (λ x. g.V.LaneWord.lane i x.0) l.ring) k
-    ≡ word_at g.V.One.Word.bits (get_or l.blocks i []) k)
+invariant-words g l = (i : ℕ) → i < g.V.LaneWord.LANES
+    → IsRing (word_at g.V.One.Word.bits (get_or l.blocks i []))
+    (map (λ x. g.V.LaneWord.lane i x.0) l.ring) l.t

@@ -1,8 +1,11 @@
-use Rattle.std.proofs.Common.{◌≡◌, ℕ, ◌<◌, ◌++◌, drop, length, slice_index, map, take}
+use Rattle.std.proofs.Common.{ℕ, List, map}
+use Rattle.ring_core.specs.Schedule.{IsBlockOf, IsRing}
+use Rattle.ring_core.specs.Word.{word_at}
 use Rattle.ring_core.proofs.digest.word_ring.load_words.Given as goal
 
 abbrev pub invariant-words : goal.invariant-words
-invariant-words g l = (length l.ring ≡ 16)
-    × ((i k : ℕ) → k < l.t → slice_index (map (g.S.Slots.slot_lane i) l.ring) k
-    ≡ slice_index (take g.row.N (map (g.S.LaneWord.lane i) l.front)
-    ++ drop g.row.N (map g.S.One.Word.value l.padding)) k)
+invariant-words g l =
+    let bits = g.S.One.Word.bits in
+    (i : ℕ) (b : List ℕ) → IsBlockOf bits g.row.N (map (g.S.LaneWord.lane i) l.front)
+    (map g.S.One.Word.value l.padding) b
+    → IsRing (word_at bits b) (map (g.S.Slots.slot_lane i) l.ring) l.t

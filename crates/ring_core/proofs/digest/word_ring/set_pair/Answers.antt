@@ -1,4 +1,4 @@
-use Rattle.std.proofs.Common.{◌≡◌, ◌+◌, ◌%◌, length, arith, rules}
+use Rattle.std.proofs.Common.{◌≡◌, ◌+◌, ◌%◌, arith}
 use Rattle.std.proofs.Math.ListN.{get_or, set}
 use Rattle.ring_core.proofs.Mapped.{values_of_two}
 use Rattle.ring_core.proofs.Schedule.{ring-set}
@@ -11,9 +11,7 @@ returns g c = λ f w t ready place are.
     let words = c.args.words in
     let first = get_or words 0 c.index-words-0.result in
     let second = get_or words 1 c.index-words-1.result in
-    let two : length words ≡ 2 = search rules in
-    let values =
-    values_of_two f words (w t) (w (t + 1)) c.index-words-0.result c.index-words-1.result two are in
+    let values = values_of_two f words c.index-words-0.result c.index-words-1.result are in
     let more = ring-set f w ring slot first ready place values.0 in
     let e : t + 1 + 1 ≡ t + 2 = omega arith in
     let next = (slot + 1) % 16 in

@@ -1,4 +1,4 @@
-use Rattle.std.proofs.Common.{◌≡◌, ◌+◌, length, map, refl, sym, ◌∙◌, arith, rules}
+use Rattle.std.proofs.Common.{◌≡◌, ◌+◌, map, refl, sym, ◌∙◌, arith}
 use Rattle.ring_core.specs.Sha1.{W, round, round_constant, rounds_from}
 use Rattle.ring_core.specs.Word.{add_words}
 use Rattle.ring_core.proofs.Mapped.{values_of_two}
@@ -15,9 +15,8 @@ returns g c = λ i h b n ready below near before.
     let w = W b t in
     let w_next = W b (t + 1) in
     let words = c.pair.ensures slot (W b) n t ready refl below near in
-    let two : length c.pair.result ≡ 2 = search rules in
-    let are = values_of_two slot c.pair.result w w_next
-    c.index-pair-0.result c.index-pair-1.result two words in
+    let are =
+    values_of_two slot c.pair.result c.index-pair-0.result c.index-pair-1.result words in
     let first : f c.add_pairs-first.result.0 ≡ add_words 32 k w =
     rw (
       c.add_pairs-first.ensures.first i,

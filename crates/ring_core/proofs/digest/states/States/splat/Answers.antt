@@ -1,5 +1,4 @@
-use Rattle.std.proofs.Common.{◌≡◌, length, map, rules}
-use Rattle.std.proofs.Math.ListN.{length-map}
+use Rattle.std.proofs.Common.{◌≡◌, length, rules}
 use Rattle.ring_core.proofs.Vectors.{eight_read}
 use Rattle.ring_core.proofs.Mapped.{value_read}
 use Rattle.ring_core.proofs.digest.states.States.splat.Goals as goal
@@ -9,7 +8,6 @@ returns g c = λ i.
     let value = g.V.One.Word.value in
     let state = c.args.state.now in
     let eight : length state ≡ 8 = search rules in
-    let words : length (map value state) ≡ 8 = simp length-map eight in
     rw (
       c.splat.ensures i,
       c.splat-2.ensures i,
@@ -19,4 +17,4 @@ returns g c = λ i.
       c.splat-6.ensures i,
       c.splat-7.ensures i,
       c.splat-8.ensures i,
-    ) (simp (value_read value state 8 eight) (eight_read (map value state) words))
+    ) (simp (value_read value state 8 eight) (eight_read value state eight))

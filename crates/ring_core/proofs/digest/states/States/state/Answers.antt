@@ -1,5 +1,4 @@
-use Rattle.std.proofs.Common.{◌≡◌, length, map, rules}
-use Rattle.std.proofs.Math.ListN.{length-map}
+use Rattle.std.proofs.Common.{◌≡◌, length, rules}
 use Rattle.ring_core.specs.declared.digest.word.in_lanes.InLanes.{InLanes}
 use Rattle.ring_core.proofs.Vectors.{eight_read}
 use Rattle.ring_core.proofs.Mapped.{value_read}
@@ -10,7 +9,6 @@ returns g c =
     let lane = λ (x : InLanes g.row.V.Denot). g.V.LaneWord.lane c.args.i x.0 in
     let states = c.args.self.now in
     let eight : length states.words ≡ 8 = search rules in
-    let words : length (map lane states.words) ≡ 8 = simp length-map eight in
     rw (
       c.word.ensures,
       c.word-2.ensures,
@@ -20,4 +18,4 @@ returns g c =
       c.word-6.ensures,
       c.word-7.ensures,
       c.word-8.ensures,
-    ) (simp (value_read lane states.words 8 eight) (eight_read (map lane states.words) words))
+    ) (simp (value_read lane states.words 8 eight) (eight_read lane states.words eight))

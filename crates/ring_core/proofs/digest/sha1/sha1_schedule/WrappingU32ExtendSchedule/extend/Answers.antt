@@ -18,19 +18,6 @@ returns c = λ i b ready.
     let three =
     c.pair-three.ensures low_32 w t (t - 3) ready (omega arith) (omega arith) (omega arith) in
     let next : map low_32 c.next_two-next.result ≡ w t ∷ w (t + 1) ∷ [] =
-    rw (
-      c.next_two-next.ensures,
-      low_read c.pair-sixteen.result 0,
-      low_read c.pair-sixteen.result 1,
-      low_read c.pair-fourteen.result 0,
-      low_read c.pair-fourteen.result 1,
-      low_read c.pair-eight.result 0,
-      low_read c.pair-eight.result 1,
-      low_read c.pair-three.result 0,
-      low_read c.pair-three.result 1,
-      sixteen,
-      fourteen,
-      eight,
-      three,
-    ) (W-next_two b t c.requires.from) in
+    rw c.next_two-next.ensures
+    (simp low_read (rw (sixteen, fourteen, eight, three) (W-next_two b t c.requires.from))) in
     c.set_pair.ensures low_32 w t ready refl next

@@ -17,19 +17,6 @@ returns c = λ i b t from place ready.
     let two =
     c.pair-two.ensures low_32 w t (t - 2) ready (omega arith) (omega arith) (omega arith) in
     let next : map low_32 c.next_two-next.result ≡ w t ∷ w (t + 1) ∷ [] =
-    rw (
-      c.next_two-next.ensures,
-      low_read c.pair-sixteen.result 0,
-      low_read c.pair-sixteen.result 1,
-      low_read c.pair-fifteen.result 0,
-      low_read c.pair-fifteen.result 1,
-      low_read c.pair-seven.result 0,
-      low_read c.pair-seven.result 1,
-      low_read c.pair-two.result 0,
-      low_read c.pair-two.result 1,
-      sixteen,
-      fifteen,
-      seven,
-      two,
-    ) (W-next_two family_256 b t from) in
+    rw c.next_two-next.ensures
+    (simp low_read (rw (sixteen, fifteen, seven, two) (W-next_two family_256 b t from))) in
     c.set_pair.ensures low_32 w t ready place next

@@ -1,10 +1,9 @@
 -- Vectors, lane by lane, and lists of eight words.
 use Rattle.std.proofs.Common.{◌≡◌, ◌≢◌, ℕ, zero, suc, ◌*◌, ◌-◌, ◌/◌, ◌%◌, ◌^◌, ◌<◌, ◌≤◌}
 use Rattle.std.proofs.Common.{List, [], ◌∷◌, slice_set, ap}
-use Rattle.std.proofs.Common.{length, slice_index, map, bit_or, refl, sym, arith, mod-lt, pow_pos}
+use Rattle.std.proofs.Common.{length, slice_index, map, bit_or, refl, sym, arith, pow_pos}
 use Rattle.std.proofs.lemmas.List.{get_or-set_other, get_or-set_same}
 use Rattle.std.proofs.lemmas.Nat.{shr_le}
-use Rattle.std.proofs.lemmas.Simd.{get_or-replicate}
 use Rattle.std.proofs.Math.Facts.{Fits-lt-pow}
 use Rattle.std.proofs.Math.ListN.{replicate}
 use Rattle.std.proofs.Math.Nat.{div-le_self, mod-eq_of_lt}
@@ -14,10 +13,6 @@ use Rattle.ring_core.specs.Bytes.{xor_lists}
 use Rattle.ring_core.specs.Word.{◌⊕◌, rotr, shr}
 use Rattle.ring_core.proofs.Rotation.{or_of_shifts, or_of_shifts-rotr, rotr-lt}
 use mir.Val.{bits, Fits}
-
--- the same number in each lane
-pub in_splat : (lanes n i : ℕ) → 0 < lanes → slice_index (replicate lanes n) (i % lanes) ≡ n
-in_splat lanes n i some = get_or-replicate lanes (i % lanes) n 0 (mod-lt i some)
 
 -- an operation on two vectors, at any place: past their end both are 0
 pub at_zip : (f : ℕ → ℕ → ℕ) (x y : List ℕ) → f 0 0 ≡ 0 → length x ≡ length y → (k : ℕ)

@@ -1,4 +1,0 @@
-use Rattle.ring_core.proofs.digest.sha2.sha256_schedule.small_sigma_0.Goals as goal
-
-pub returns : goal.returns
-returns c = c.rotations_and_shift.ensures

@@ -155,16 +155,6 @@ module _ {b n : BlockContext} where
         cost = em;
       }
 
--- what is left of y is less than a block
-pub left_short : (a : Algorithm) (y left : List ℕ)
-    → left ≡ drop (whole_blocks a (length y) * block_len a) y → length left < block_len a
-left_short a y left el =
-    let b : ℕ = block_len a in
-    let below : length y % b < b = mod_below (length y) b (block_len-positive a) in
-    let rest : length left ≡ length y - length y / b * b =
-    ap length el ∙ length-drop (whole_blocks a (length y) * b) y in
-    omega (arith, rest, below, div-add-mod' (length y) b)
-
 -- a multiple and more, divided
 pub whole_div-add : (x y b : ℕ) → zero < b → x % b ≡ 0 → (x + y) / b ≡ x / b + y / b
 whole_div-add x y b pos hx =

@@ -124,21 +124,6 @@ each-derived {secrets = secrets} long count several is are all =
       each = λ k below. made (bytes_at secrets) k are (omega (arith, count, several, below));
     }
 
--- and one
-pub one-derived : {a : Algorithm} {salts secrets : List (Bor (List ℕ))} {c n : ℕ} {key : List ℕ}
-    → (out : List (List ℕ)) → (length out ≡ 1) × (length secrets ≡ 1)
-    → key ≡ dk a (read_at secrets 0) (read_at salts 0) c n
-    → AreDerived (slice_set out 0 key) a salts secrets c n
-one-derived {a} {salts} {secrets} {c} {n} {key} out one is =
-    let made : key ≡ dk a (bytes_at secrets 0) (bytes_at salts 0) c n =
-    rw (message-read secrets 0, message-read salts 0) is in
-    record {
-      count = length-set out 0 key ∙ one.0 ∙ sym one.1;
-      each = λ k below.
-          let first : k ≡ 0 = omega (arith, one.1, below) in
-          rw (first, get_or-set_same out 0 key [] (omega (arith, one.0))) made;
-    }
-
 module _ (a : Algorithm) (salts secrets : List (Bor (List ℕ))) (c n : ℕ) where
   pub blocks-each : (m : ℕ) → sum_below (λ i. key_blocks a (length (bytes_at secrets i))) m
       + derive_rounds a n * each_round_blocks a salts c m
@@ -192,15 +177,6 @@ can_derive-part salts secrets i k can fits =
       each = λ j below. rw (message_at-part secrets i k j below, message_at-part salts i k j below)
           (can.each (i + j) (omega (arith, fits, below)));
     }
-
--- and the one at a place
-pub can_derive-at : {a : Algorithm} {salts secrets : List (Bor (List ℕ))} {m n : ℕ} (i : ℕ)
-    → CanDeriveEach a salts secrets m n → i < m
-    → CanDerive a (length (read_at secrets i)) (length (read_at salts i)) n
-can_derive-at {salts = salts} {secrets = secrets} i can below =
-    let this : CanDerive _ (length (bytes_at secrets i)) (length (bytes_at salts i)) _ =
-    can.each i below in
-    rw (message-read secrets i, message-read salts i) at this
 
 -- the keys at the first m places are derived
 pub record HaveKeys (a : Algorithm) (salts secrets : List (Bor (List ℕ))) (c n m : ℕ)

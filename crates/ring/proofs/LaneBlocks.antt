@@ -164,24 +164,7 @@ chunk-tail {n} {w} {x} a m k e ew past ex =
     ∙ ap (λ (z : List ℕ). p ++ tail_of a x (length z)) joined in
     rw (split, places.at, ← drop-drop (n * (k - w)) (n * w) (p ++ t), drop_at p t (n * w) lp) refl
 
--- a lane's words after a block of SHA-1
-pub lane-sha1 : {h old new : List ℕ} (block : List ℕ) → HasWords SHA1_FOR_LEGACY_USE_ONLY h old
-    → take 5 new ≡ sha1.block_step (take 5 old) block → drop 5 new ≡ drop 5 old
-    → HasWords SHA1_FOR_LEGACY_USE_ONLY (sha1.block_step h block) new
-lane-sha1 {h} {old} {new} block has words rest =
-    let front : length (take 5 new) ≡ 5 =
-    ap length words ∙ sha1_steps.length-block_step (take 5 old) block in
-    let long : length new ≡ 8 = ap length (sym (take-append-drop 5 new)) ∙ omega (
-      arith,
-      length-append (take 5 new) (drop 5 new),
-      ap length rest,
-      length-drop 5 old,
-      front,
-      has.count,
-    ) in
-    record { chaining = words ∙ ap (λ z. sha1.block_step z block) has.chaining; count = long }
-
--- and of an algorithm of SHA-2
+-- the words of a lane after a block of SHA-2
 pub lane-sha2 : {h old new : List ℕ} (a : Algorithm) (f : sha2.Family) (block : List ℕ)
     → word_count a ≡ 8 → HasWords a h old → new ≡ sha2.block_step f old block
     → HasWords a (sha2.block_step f h block) new

@@ -74,11 +74,6 @@ last_past a n = elim (sizes_of a) [
   | inr e ↦ rw (e.0, e.1) (omega arith)
 ]
 
-pub whole_past : (a : Algorithm) (n k : ℕ)
-    → whole_blocks a (block_len a + n + k) - whole_blocks a (block_len a + n)
-    ≡ whole_blocks a (n + k) - whole_blocks a n
-whole_past a n k = elim (sizes_of a) [ inl e ↦ rw e.0 (omega arith) | inr e ↦ rw e.0 (omega arith) ]
-
 -- n bytes were taken in: q of them are pending, and the meter rose by their whole blocks
 pub record HasCounted (a : Algorithm) (q n : ℕ) (before now : Counts) : Type 0 where
   pub pending : q ≡ n % block_len a

@@ -147,15 +147,3 @@ module _ {key : Key} {s : List ℕ} {c r w : ℕ} {m : Bool} {value : List ℕ} 
                   (both_true m b).1 ((h.front p stands).1 both.0, (same p stands).1 both.1),
             );
       }
-
-  pub compared-all : HasCompared key s c r w m value m0 m1 → length value ≤ w
-      → ((p : List ℕ) → KeyStandsFor key p
-      → (m ≡ true) ↔ (value ≡ dk (key_algorithm key) p s c (length value)))
-      × (m1 ≡ raised m0 (derive_rounds (key_algorithm key) (length value) * round_blocks key s c)
-      (length value))
-  compared-all h all =
-      let whole : take w value ≡ value = take_all w value all in
-      let end = run-all h.run all in (
-        λ p stands. rw (whole, end.0) at (h.front p stands),
-        rw end.0 at end.1,
-      )

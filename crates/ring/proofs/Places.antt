@@ -36,9 +36,6 @@ pub record HoldsBelow {X : Type 0} (P : ℕ → X → Type 0) (d : X) (m : ℕ) 
   pub each : (i : ℕ) → i < m → P i (get_or xs i d)
 
 module _ {X : Type 0} (P : ℕ → X → Type 0) (d : X) where
-  pub places-none : (xs : List X) → HoldsBelow P d 0 xs
-  places-none xs = record { each = λ i below. absurd (omega (arith, below)) }
-
   -- and of k more that are written after these
   pub places-part : {out ys next : List X} (m k : ℕ) → HoldsBelow P d m out → m ≤ length out
       → take (m + k) next ≡ take m out ++ ys → HoldsBelow (λ j. P (m + j)) d k ys

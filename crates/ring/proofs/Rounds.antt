@@ -72,10 +72,6 @@ rounds a p s c r = joined_blocks (λ i. xored a p s i c) r
 abbrev pub rounds_after : (a : Algorithm) (p s : List ℕ) (c r t : ℕ) → List ℕ
 rounds_after a p s c r t = joined_blocks (λ i. xored a p s (r + i) c) t
 
-even_rounds : (a : Algorithm) (p s : List ℕ) (c r : ℕ)
-    → IsEven (λ i. xored a p s (r + i) c) (output_len a)
-even_rounds a p s c r = record { each = λ i. length-xored a p s (r + suc i) c }
-
 even_first : (a : Algorithm) (p s : List ℕ) (c : ℕ) → IsEven (λ i. xored a p s i c) (output_len a)
 even_first a p s c = record { each = λ i. length-xored a p s (suc i) c }
 

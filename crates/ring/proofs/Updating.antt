@@ -169,17 +169,6 @@ module _ {k : ℕ} {left : List ℕ} {before after : Counts} where
             ∙ ap (λ (v : List ℕ). (h.whole ++ take size ahead) ++ v) (sym j.rest ∙ sym front);
       }
 
-  -- what it counts after an update
-  pub counted_moved : (s n : Context) (d : List ℕ)
-      → HasMoved k s.block n.block (pending_bytes s ++ d) left before after
-      → s.num_pending ≤ length s.pending → n.num_pending ≡ length left
-      → message_len n ≡ cut_off (message_len s + length d)
-  counted_moved s n d j fits el =
-      let ahead : List ℕ = pending_bytes s ++ d in
-      let rest : length left ≡ length ahead - j.blocks * k =
-      ap length j.rest ∙ length-drop (j.blocks * k) ahead in
-      omega (arith, j.counted, j.fits, rest, ahead_len s d fits)
-
   pub pending_moved : (s n : Context) (d : List ℕ)
       → HasMoved k s.block n.block (pending_bytes s ++ d) left before after
       → s.num_pending ≤ length s.pending → n.num_pending ≡ length left → length left < k

@@ -150,15 +150,6 @@ can_verify-part {values = values} salts secrets i k can fits =
           (can.each (i + j) (omega (arith, fits, below)));
     }
 
--- and the one at a place
-pub can_verify-at : {a : Algorithm} {salts secrets : List (Bor (List ℕ))}
-    {values : List (List ℕ)} {m n : ℕ} (i : ℕ) → CanVerifyEach a salts secrets values m n → i < m
-    → CanVerify a (length (read_at secrets i)) (length (read_at salts i)) n
-can_verify-at {salts = salts} {secrets = secrets} i can below =
-    let this : CanVerify _ (length (bytes_at secrets i)) (length (bytes_at salts i)) _ =
-    can.each i below in
-    rw (message-read secrets i, message-read salts i) at this
-
 -- a value within its limits is a derivation exactly where it is the one of n bytes
 derived-same : {a : Algorithm} {p s value : List ℕ} {c n : ℕ} {b : Bool}
     → CanVerify a (length p) (length s) n → length value ≡ n → (b ≡ true) ↔ (value ≡ dk a p s c n)
@@ -185,24 +176,6 @@ each-verified {secrets = secrets} {m = m} long can len several is are all =
           let h : k < m = omega (arith, can.value_count, below) in
           derived-same (can.each k h) (len k h)
           (told (bytes_at secrets) k are (omega (arith, several, h)));
-    }
-
--- and one
-pub one-verified : {a : Algorithm} {salts secrets : List (Bor (List ℕ))} {c n : ℕ}
-    {values : List (List ℕ)} {b : Bool} (matches : List Bool) → length matches ≡ 1
-    → CanVerifyEach a salts secrets values 1 n
-    → length (get_or values 0 []) ≡ n
-    → (b ≡ true) ↔ (get_or values 0 [] ≡ dk a (read_at secrets 0) (read_at salts 0) c n)
-    → AreVerified (slice_set matches 0 b) a salts secrets c values
-one-verified {a} {salts} {secrets} {c} {n} {values} {b} matches long can len is =
-    let told : (b ≡ true) ↔ (get_or values 0 [] ≡ dk a (bytes_at secrets 0) (bytes_at salts 0) c n)
-    = rw (message-read secrets 0, message-read salts 0) is in
-    record {
-      count = length-set matches 0 b ∙ long ∙ sym can.value_count;
-      each = λ k below.
-          let first : k ≡ 0 = omega (arith, can.value_count, below) in
-          rw (first, get_or-set_same matches 0 b false (omega (arith, long)))
-          (derived-same (can.each 0 (omega arith)) len told);
     }
 
 -- the answers at the first m places are right

@@ -6,7 +6,7 @@
 #include <ucontext.h>
 
 #define ROOM (64 * 1024)
-#define PROMISED (16 * 1024)
+#define PROMISED (8 * 1024)
 #define PAINT 0xa5
 #define COUNT 10
 

@@ -12,8 +12,8 @@ pub(crate) const SSE: usize = 128;
 
 pub(crate) const AVX2: usize = 256;
 
-// How many of those that are left run side by side next: as many as a vector has words. Two words of
-// 64 bits are no faster than one after the other.
+// How many of those that are left run side by side next: as many as a vector has words. Two words
+// of 64 bits are no faster than one after the other.
 pub(crate) fn lanes_for<const BITS: usize>(algorithm: Algorithm, left: usize) -> usize
     requires { 0 < left }
     ensures some { 0 < result }

@@ -29,6 +29,7 @@ write_under-requires g c =
     ) c.requires.together in
     let digest = c.digest_algorithm-digest.ensures in
     let within = c.requires.within in
+    let count = keys.count ∙ within.secret_count in
     let first : 0 < length c.args.out.now = grind (arith, c.requires.together) in (
       search rules,
       (
@@ -39,9 +40,9 @@ write_under-requires g c =
             within.salt_count ∙ sym within.secret_count ∙ sym keys.count,
             (
               λ i some below.
-                  let there = within.each i (omega (arith, keys.count, within.secret_count, below)) in
+                  let there = within.each i (omega (arith, count, below)) in
                   rw digest (there.salt some),
-              (rw digest (within.each 0 first).rounds, sym within.secret_count ∙ sym keys.count),
+              (rw digest (within.each 0 first).rounds, sym count),
             ),
           ),
         ),

@@ -32,7 +32,8 @@ verify_under-requires g c =
     ) c.requires.together in
     let digest = c.digest_algorithm-digest.ensures in
     let within = c.requires.within in
-    let same = within.secret_count ∙ sym within.value_count in
+    let count = keys.count ∙ within.secret_count in
+    let all = count ∙ sym within.value_count in
     let first : 0 < length c.args.values.now = grind (arith, c.requires.together) in (
       search rules,
       (
@@ -43,15 +44,15 @@ verify_under-requires g c =
             within.salt_count ∙ sym within.secret_count ∙ sym keys.count,
             (
               λ i below.
-                  let there = within.each i (omega (arith, keys.count, within.secret_count, below)) in
+                  let there = within.each i (omega (arith, count, below)) in
                   rw digest (there.within.salt there.nonempty),
               (
                 rw digest (within.each 0 first).within.rounds,
                 (
-                  sym same ∙ sym keys.count,
+                  sym all,
                   (
-                    λ i below. c.requires.len i (omega (arith, keys.count, same, below)),
-                    c.requires.places ∙ sym same ∙ sym keys.count,
+                    λ i below. c.requires.len i (omega (arith, all, below)),
+                    c.requires.places ∙ sym all,
                   ),
                 ),
               ),
@@ -71,7 +72,8 @@ returns-clause-ok g c =
 pub returns-clause-cost : goal.returns-clause-cost
 returns-clause-cost g c =
     let keys = c.keys_of-keys.ensures in
-    let rounds = rw (c.digest_algorithm-digest.ensures, keys.count) at c.verify_under.ensures.cost in
+    let rounds =
+    rw (c.digest_algorithm-digest.ensures, keys.count) at c.verify_under.ensures.cost in
     rw (← c.requires.within.secret_count) (cost-each (hmac_digest c.args.algorithm)
     c.args.salts.now c.args.secrets.now (non_zero_u32_get c.args.iterations) g.row.N
     (length c.args.secrets.now) c.args.meter.now (length c.args.secrets.now * g.row.N)

@@ -34,7 +34,8 @@ rounds-preserved g c =
     let output = c.format_output in
     let below : i < length jobs = omega arith in
     let lane : i < g.H.LaneStates.LANES = omega arith in
-    let written = digest_written a (words state) _ (c.state.ensures.sized ∙ sym g.met.H.SideBySide.sized)
+    let sized = c.state.ensures.sized ∙ sym g.met.H.SideBySide.sized in
+    let written = digest_written a (words state) _ sized
     output.ensures.count output.ensures.bytes ∙ ap (digest_bytes a) c.state.ensures.words in
     let here = λ (job : Job). lane-round _ _ (c.requires.each i job below)
     (start-at c.requires.each c.set_starts.ensures.starts i job state state state below) (

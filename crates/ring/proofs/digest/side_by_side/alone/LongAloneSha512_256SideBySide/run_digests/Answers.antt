@@ -1,6 +1,7 @@
 use Rattle.ring_core.specs.Sha2.{family_512}
 use Rattle.ring.proofs.Paddings.{sha512_256_padding, words_run}
-use Rattle.ring.proofs.digest.side_by_side.alone.LongAloneSha512_256SideBySide.run_digests.Goals as goal
+use Rattle.ring.proofs.digest.side_by_side.alone as lanes
+use lanes.LongAloneSha512_256SideBySide.run_digests.Goals as goal
 
 pub returns-clause-ok : goal.returns-clause-ok
 returns-clause-ok c = λ i.

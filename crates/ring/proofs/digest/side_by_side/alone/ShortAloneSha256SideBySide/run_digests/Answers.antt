@@ -1,6 +1,7 @@
 use Rattle.ring_core.specs.Sha2.{family_256}
 use Rattle.ring.proofs.Paddings.{sha256_padding, words_run}
-use Rattle.ring.proofs.digest.side_by_side.alone.ShortAloneSha256SideBySide.run_digests.Goals as goal
+use Rattle.ring.proofs.digest.side_by_side.alone as lanes
+use lanes.ShortAloneSha256SideBySide.run_digests.Goals as goal
 
 pub returns-clause-ok : goal.returns-clause-ok
 returns-clause-ok c = λ i.

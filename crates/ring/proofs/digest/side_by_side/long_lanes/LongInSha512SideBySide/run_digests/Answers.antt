@@ -1,7 +1,8 @@
 use Rattle.ring_core.specs.Sha2.{family_512}
 use Rattle.ring_core.specs.declared.digest.word.in_lanes.InLanes.{InLanes}
 use Rattle.ring.proofs.Paddings.{lane_run, sha512_padding}
-use Rattle.ring.proofs.digest.side_by_side.long_lanes.LongInSha512SideBySide.run_digests.Goals as goal
+use Rattle.ring.proofs.digest.side_by_side.long_lanes as lanes
+use lanes.LongInSha512SideBySide.run_digests.Goals as goal
 
 pub returns-clause-ok : goal.returns-clause-ok
 returns-clause-ok g c = λ i.

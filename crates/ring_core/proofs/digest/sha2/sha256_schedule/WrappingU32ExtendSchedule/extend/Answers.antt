@@ -3,7 +3,8 @@ use Rattle.ring_core.specs.Sha2.{W, family_256}
 use Rattle.ring_core.specs.Word.{low_32}
 use Rattle.ring_core.proofs.Halves.{low_read}
 use Rattle.ring_core.proofs.Sha2Steps.{W-next_two}
-use Rattle.ring_core.proofs.digest.sha2.sha256_schedule.WrappingU32ExtendSchedule.extend.Goals as goal
+use Rattle.ring_core.proofs.digest.sha2.sha256_schedule as schedule
+use schedule.WrappingU32ExtendSchedule.extend.Goals as goal
 
 pub returns : goal.returns
 returns c = λ i b t from place ready.

@@ -2,7 +2,8 @@ use Rattle.std.proofs.Common.{◌≡◌, ℕ, ◌+◌, ◌-◌, ◌%◌, ◌^◌
 use Rattle.std.specs.declared.num.Wrapping.{Wrapping}
 use Rattle.ring_core.specs.Sha2.{W, family_512, words_64}
 use Rattle.ring_core.proofs.Sha2Steps.{W-next_two}
-use Rattle.ring_core.proofs.digest.sha2.sha512_schedule.WrappingU64ExtendSchedule.extend.Goals as goal
+use Rattle.ring_core.proofs.digest.sha2.sha512_schedule as schedule
+use schedule.WrappingU64ExtendSchedule.extend.Goals as goal
 
 pub returns : goal.returns
 returns c = λ i b t from place ready.

@@ -4,7 +4,7 @@ use Rattle.std.proofs.Common.{length, take, drop, sym, ap, ◌∙◌, arith, add
 use Rattle.std.proofs.Common.{length-drop, replicate}
 use Rattle.std.proofs.lemmas.List.{length-take-le, take-append-drop}
 use Rattle.std.proofs.Math.Nat.{mul-div_cancel, div-mul-le_self, add-mul-div_left}
-use Rattle.std.proofs.lemmas.Nat.{div-add-mod', mod-mul-add, div-mul-add, mod_below}
+use Rattle.std.proofs.lemmas.Nat.{div-add-mod', mod-mul-add, div-mul-add}
 use Rattle.ring_core.specs.Chunks.{fold_chunks}
 use Rattle.ring_core.specs.Cost.{Counts, raised}
 use Rattle.ring_core.proofs.ChunkFolds.{fold_chunks-none, fold_chunks-then, fold_chunks-append}

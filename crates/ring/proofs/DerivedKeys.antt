@@ -1,8 +1,7 @@
 -- Keys derived at several places.
 use Rattle.std.proofs.Common.{◌≡◌, ℕ, ◌+◌, ◌-◌, ◌*◌, ◌<◌, ◌≤◌, List, [], ◌++◌, length}
-use Rattle.std.proofs.Common.{take, get_or, refl, sym, ap, ◌∙◌, arith, length-set, min}
-use Rattle.std.proofs.Common.{slice_set, take_all}
-use Rattle.std.proofs.lemmas.List.{get_or-set_same}
+use Rattle.std.proofs.Common.{take, get_or, refl, sym, ap, ◌∙◌, arith, min}
+use Rattle.std.proofs.Common.{take_all}
 use Rattle.std.specs.Borrow.{Bor}
 use Rattle.ring_core.specs.Cost.{Counts, raised}
 use Rattle.ring_core.proofs.Costs.{raised-none}
@@ -11,7 +10,6 @@ use Rattle.ring.specs.Cost.{derive_blocks, derive_rounds, iterate_blocks, key_bl
 use Rattle.ring.specs.DeriveEach.{AreDerived, AreKeysOf, CanDeriveEach, bytes_at}
 use Rattle.ring.specs.DeriveEach.{derive_blocks_at, derive_each_blocks, sum_below}
 use Rattle.ring.specs.Jobs.{dk_after}
-use Rattle.ring.specs.Limits.{CanDerive}
 use Rattle.ring.specs.Pbkdf2.{dk, xored}
 use Rattle.ring.specs.declared.digest.algorithm.Algorithm.{Algorithm}
 use Rattle.ring.specs.declared.digest.dynstate.Output.{Output}

@@ -1,16 +1,14 @@
 -- The blocks of a padded message.
 use Rattle.std.proofs.Common.{◌≡◌, ℕ, ◌+◌, ◌-◌, ◌*◌, ◌/◌, ◌%◌, ◌<◌, ◌≤◌, List, ◌∷◌, ◌++◌}
 use Rattle.std.proofs.Common.{length, take, drop, replicate, refl, sym, ap, ◌∙◌, arith}
-use Rattle.std.proofs.Common.{append_assoc, inl, inr, length-append, length-drop}
+use Rattle.std.proofs.Common.{append_assoc, inl, inr, length-drop}
 use Rattle.std.proofs.lemmas.List.{drop-append-le, drop_at, drop-drop}
 use Rattle.std.proofs.lemmas.List.{length-take-le, take-append-drop, take-append-le, take_all}
 use Rattle.std.specs.Int.{bytes_high_first}
 use Rattle.ring_core.specs.Chunks.{chunk_at, fold_chunks}
-use Rattle.ring_core.specs.Sha1 as sha1
 use Rattle.ring_core.specs.Sha2 as sha2
 use Rattle.ring_core.proofs.ChunkFolds.{fold_chunks-append, fold_chunks-next}
 use Rattle.ring_core.proofs.ChunkFolds.{fold_chunks-none, fold_chunks-then}
-use Rattle.ring_core.proofs.Sha1Steps as sha1_steps
 use Rattle.ring_core.proofs.Sha2Steps as sha2_steps
 use Rattle.ring.specs.Algorithm.{block_function, block_function_of_id, block_len, initial_words}
 use Rattle.ring.specs.Algorithm.{length_len, row_of, word_count, word_len}
@@ -22,7 +20,6 @@ use Rattle.ring.specs.declared.digest.algorithm.Algorithm.{Algorithm}
 use Rattle.ring.specs.declared.digest.algorithm.AlgorithmId.{AlgorithmId}
 use Rattle.ring.specs.declared.digest.algorithm.AlgorithmId.TheVariants.{Sha1, Sha256, Sha384}
 use Rattle.ring.specs.declared.digest.algorithm.AlgorithmId.TheVariants.{Sha512, Sha512_256}
-use Rattle.ring.specs.declared.digest.algorithm.TheConstants.{SHA1_FOR_LEGACY_USE_ONLY}
 use Rattle.ring.proofs.Blocks.{mul_whole}
 use Rattle.ring.proofs.Padding.{length-padded}
 use Rattle.ring.proofs.Rows.{block_len-positive, sizes_of}

@@ -9,7 +9,7 @@ use borrow.Rule.Slice.PartMut.{put_mid}
 use Rattle.ring_core.specs.Cost.{Counts, raised}
 use Rattle.ring_core.proofs.Costs.{raised-none, raised-raised}
 use Rattle.ring.specs.Algorithm.{block_len}
-use Rattle.ring.specs.Context.{HasMoved, HasTaken, IsJoined, StandsFor, cut_off, message_len}
+use Rattle.ring.specs.Context.{HasMoved, HasTaken, IsJoined, StandsFor}
 use Rattle.ring.specs.Context.{pending_bytes, pending_len}
 use Rattle.ring.specs.Cost.{whole_blocks}
 use Rattle.ring.specs.declared.digest.algorithm.Algorithm.{Algorithm}

@@ -1,7 +1,7 @@
 -- Values compared with what is derived at their places.
 use Rattle.std.proofs.Common.{◌≡◌, ◌↔◌, ℕ, ◌+◌, ◌-◌, ◌*◌, ◌<◌, ◌≤◌, Bool, true, false, ◌&&◌}
 use Rattle.std.proofs.Common.{List, [], ◌++◌, length, take, drop, get_or, refl, sym, ap, ◌∙◌, arith}
-use Rattle.std.proofs.Common.{inl, inr, length-set, slice_set, take_all, zero-mul}
+use Rattle.std.proofs.Common.{inl, inr, slice_set, take_all, zero-mul}
 use Rattle.std.proofs.lemmas.Bool.{cases_order}
 use Rattle.std.proofs.lemmas.List.{get_or-set_other, get_or-set_same}
 use Rattle.std.specs.Borrow.{Bor}
@@ -17,16 +17,12 @@ use Rattle.ring.specs.declared.digest.algorithm.Algorithm.{Algorithm}
 use Rattle.ring.specs.declared.digest.dynstate.Output.{Output}
 use Rattle.ring.specs.declared.hmac.key.Key.{Key}
 use Rattle.ring.proofs.DerivedKeys.{AreNextRounds, blocks-part, each_round_blocks, next-part}
-use Rattle.ring.proofs.Each.{message-read, message_at-part}
+use Rattle.ring.proofs.Each.{message_at-part}
+use Rattle.ring.proofs.Parts.{both_true}
 use Rattle.ring.proofs.Places.{get_or-items_from, items_from, length-items_from}
-use Rattle.ring.proofs.Places.{places-part, read_at}
+use Rattle.ring.proofs.Places.{places-part}
 use Rattle.ring.proofs.Rounds.{HasRun, next-one, run-all, run-next, run-none, same-next}
 use Rattle.ring.proofs.Sums.{raised-both, sum_below-none}
-
--- a both where each of two is true
-both_are : (m k : Bool) → ((m && k) ≡ true) ↔ ((m ≡ true) × (k ≡ true))
-both_are true k = (λ h. (refl, h), λ h. h.1)
-both_are false k = (λ h. absurd (cc), λ h. absurd (let e : false ≡ true = h.0 in cc))
 
 -- of the answers, the first m say whether they did before and P holds there too
 pub record AreNarrowed (P : ℕ → Type 0) (m : ℕ) (before now : List Bool) : Type 0 where
@@ -42,7 +38,7 @@ pub narrowed-next : {P : ℕ → Type 0} {before now : List Bool} {b : Bool} (i 
     → AreNarrowed P (i + 1) before (slice_set now i (get_or now i false && b))
 narrowed-next {P} {before} {now} {b} i t room h =
     let kept : get_or now i false ≡ get_or before i false = t.rest i (omega arith) in
-    let both = both_are (get_or now i false) b in
+    let both = both_true (get_or now i false) b in
     let this : (get_or (slice_set now i (get_or now i false && b)) i false ≡ true)
     ↔ ((get_or before i false ≡ true) × P i) =
     rw (get_or-set_same now i (get_or now i false && b) false room) (

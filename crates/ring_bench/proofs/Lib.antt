@@ -1,4 +1,5 @@
 pub mod Texts
+pub mod FedTexts
 pub mod Runs
 pub mod Limits
 pub mod Numbers

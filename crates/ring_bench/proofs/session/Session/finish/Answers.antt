@@ -1,5 +1,5 @@
 use Rattle.std.proofs.Common.{◌≡◌, ◌<◌, length, rules}
-use Rattle.ring_bench.proofs.Runs.{open-answered, open-status, none-answered, none-status}
+use Rattle.ring_bench.proofs.FedTexts.{open-answered, open-status, none-answered, none-status}
 use Rattle.ring_bench.proofs.session.Session.finish.Goals as goal
 use Rattle.ring_bench.proofs.session.Session.finish.Goals.{then-not-is_empty+in_ok-end_line}
 use Rattle.ring_bench.proofs.session.Session.finish.Goals.{else-not-is_empty}

@@ -106,7 +106,6 @@ fn states_after<H: RunBlocks<N>, const N: usize>(
 
 // Writes the digests of as many messages as there are lanes: side by side while all have blocks,
 // then each by itself.
-#[inline(never)]
 fn write_in_lanes<H: RunBlocks<N>, const N: usize>(
     algorithm: Algorithm,
     messages: &[&[u8]],

@@ -68,7 +68,14 @@ fn next_part<const BITS: usize>(algorithm: digest::Algorithm, left: usize) -> (u
 {
     let output_len = algorithm.output_len();
     let rounds = lanes_for::<BITS>(algorithm, wanted_rounds(output_len, left));
-    (rounds, left.min(rounds * output_len))
+    // By sums, since a product of both would be a multiplication.
+    let four = (output_len + output_len) + (output_len + output_len);
+    let len = match rounds {
+        8 => four + four,
+        4 => four,
+        _ => output_len,
+    };
+    (rounds, left.min(len))
 }
 
 // The jobs of so many rounds, which come after the first `before`. The array's other jobs aren't

@@ -1,6 +1,6 @@
 -- Keys of several secrets, and the jobs of their rounds of one number.
 use Rattle.std.proofs.Common.{◌≡◌, ℕ, ◌+◌, ◌<◌, ◌≤◌, List, [], length, take, get_or}
-use Rattle.std.proofs.Common.{ap, ◌∙◌, arith, refl}
+use Rattle.std.proofs.Common.{ap, ◌∙◌, arith, refl, sym}
 use Rattle.std.proofs.lemmas.List.{get_or-take, length-take-le}
 use Rattle.std.specs.Borrow.{Bor}
 use Rattle.ring_core.specs.Cost.{Counts, raised}
@@ -9,6 +9,7 @@ use Rattle.ring.specs.Cost.{iterate_blocks, key_blocks}
 use Rattle.ring.specs.DeriveEach.{AreKeysOf, IsKeyOf, bytes_at, sum_below}
 use Rattle.ring.specs.Hmac.{KeyStandsFor, key_algorithm}
 use Rattle.ring.specs.Jobs.{BeginsWithRound, CanRun, job_blocks}
+use Rattle.ring.specs.Lanes.{CanRunTogether}
 use Rattle.ring.specs.Limits.{IsTagWithin}
 use Rattle.ring.specs.Pbkdf2.{xored}
 use Rattle.ring.specs.declared.digest.algorithm.Algorithm.{Algorithm}
@@ -51,6 +52,17 @@ keys-all {keys = keys} secrets n have room =
           let first : i < n = omega (arith, below, length-take-le n keys room) in
           rw (get_or-take n keys i key first) ((have key).each i first);
     }
+
+-- they are all of one algorithm
+pub keys-algorithm : {a b : Algorithm} {keys : List Key} {p : ℕ → List ℕ} → b ≡ a
+    → AreKeysOf a keys p → (i : ℕ) (key : Key) → i < length keys
+    → key_algorithm (get_or keys i key) ≡ b
+keys-algorithm is are i key below = (are.each i key below).algorithm ∙ sym is
+
+-- and can run together where as many can
+pub keys-together : {a b : Algorithm} {bits m n : ℕ} → b ≡ a → m ≡ n → CanRunTogether bits a n
+    → CanRunTogether bits b m
+keys-together is count can = rw (is, count) can
 
 -- a job, of which lemmas speak past the end of a list
 pub some_job : Key → Job

@@ -53,7 +53,7 @@ fn clear<const N: usize>(out: &mut [[u8; N]])
 
 // Writes the front of each round to the same part of the place of its number.
 fn put_round<const N: usize>(rounds: &[Output], written: usize, end: usize, out: &mut [[u8; N]])
-    requires places { length out.old ≡ length rounds.now }
+    requires count { length out.old ≡ length rounds.now }
     requires order { written ≤ end }
     requires within { end ≤ N }
     requires part { end - written ≤ 64 }
@@ -78,11 +78,10 @@ fn write_under<const BITS: usize, const N: usize>(
     requires together { CanRunTogether BITS algorithm (length keys.now) }
     requires keys { (i : ℕ) (key : Key) → i < length keys.now
         → key_algorithm (get_or keys.now i key) ≡ algorithm }
-    requires salts { length salts.now ≡ length keys.now }
+    requires count { (length salts.now ≡ length keys.now) × (length out.old ≡ length keys.now) }
     requires within { (i : ℕ) → 0 < N → i < length keys.now
         → IsTagWithin algorithm (length (bytes_at salts.now i) + 4) }
     requires rounds { N ≤ (2 ^ 32 - 1) * output_len algorithm }
-    requires places { length out.old ≡ length keys.now }
     ensures ok { (p : ℕ → List ℕ) (i : ℕ) → AreKeysOf algorithm keys.now p → i < length keys.now
         → get_or out.new i []
         ≡ dk algorithm (p i) (bytes_at salts.now i) (non_zero_u32_get iterations) N }

@@ -35,8 +35,7 @@ fn are_within<const N: usize>(
     secrets: &[&[u8]],
     values: &[[u8; N]],
 ) -> bool
-    requires salts { length salts.now ≡ length values.now }
-    requires secrets { length secrets.now ≡ length values.now }
+    requires { (length salts.now ≡ length values.now) × (length secrets.now ≡ length values.now) }
     ensures ok { IsTrue result ↔ ((k : ℕ) → k < length values.now → CanVerify algorithm.now
         (length (bytes_at secrets.now k)) (length (bytes_at salts.now k)) N) }
     ensures len { IsTrue result
@@ -63,8 +62,8 @@ fn compare_round<const N: usize>(
     matches: &mut [bool],
     meter: &mut Meter,
 )
-    requires values { length values.now ≡ length rounds.now }
-    requires places { length matches.old ≡ length rounds.now }
+    requires count { (length values.now ≡ length rounds.now)
+        × (length matches.old ≡ length rounds.now) }
     requires order { checked ≤ end }
     requires within { end ≤ N }
     requires part { end - checked ≤ 64 }
@@ -96,13 +95,12 @@ fn verify_under<const BITS: usize, const N: usize>(
     requires together { CanRunTogether BITS algorithm (length keys.now) }
     requires keys { (i : ℕ) (key : Key) → i < length keys.now
         → key_algorithm (get_or keys.now i key) ≡ algorithm }
-    requires salts { length salts.now ≡ length keys.now }
+    requires count { (length salts.now ≡ length keys.now) × (length values.now ≡ length keys.now)
+        × (length matches.old ≡ length keys.now) }
     requires within { (i : ℕ) → i < length keys.now
         → IsTagWithin algorithm (length (bytes_at salts.now i) + 4) }
     requires rounds { N ≤ (2 ^ 32 - 1) * output_len algorithm }
-    requires values { length values.now ≡ length keys.now }
     requires len { (i : ℕ) → i < length keys.now → length (get_or values.now i []) ≡ N }
-    requires places { length matches.old ≡ length keys.now }
     ensures ok { (p : ℕ → List ℕ) (i : ℕ) → AreKeysOf algorithm keys.now p → i < length keys.now
         → IsTrue (get_or matches.new i false) ↔ (get_or values.now i []
         ≡ dk algorithm (p i) (bytes_at salts.now i) (non_zero_u32_get iterations) N) }
@@ -141,7 +139,7 @@ fn verify_together<const BITS: usize, const N: usize>(
     requires within { CanVerifyEach (hmac_digest algorithm) salts.now secrets.now values.now
         (length values.now) N }
     requires len { (k : ℕ) → k < length values.now → length (get_or values.now k []) ≡ N }
-    requires places { length matches.old ≡ length values.now }
+    requires count { length matches.old ≡ length values.now }
     ensures ok { AreVerified matches.new (hmac_digest algorithm) salts.now secrets.now
         (non_zero_u32_get iterations) values.now }
     ensures cost { meter.new ≡ raised meter.old (derive_each_blocks (hmac_digest algorithm)
@@ -171,7 +169,7 @@ fn verify_all<const BITS: usize, const N: usize>(
     requires within { CanVerifyEach (hmac_digest algorithm) salts.now secrets.now values.now
         (length values.now) N }
     requires len { (k : ℕ) → k < length values.now → length (get_or values.now k []) ≡ N }
-    requires places { length matches.old ≡ length values.now }
+    requires count { length matches.old ≡ length values.now }
     ensures ok { AreVerified matches.new (hmac_digest algorithm) salts.now secrets.now
         (non_zero_u32_get iterations) values.now }
     ensures cost { meter.new ≡ raised meter.old (derive_each_blocks (hmac_digest algorithm)

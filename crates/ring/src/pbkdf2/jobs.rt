@@ -67,7 +67,8 @@ fn set_starts(jobs: &[Job], starts: &mut Starts, meter: &mut Meter)
     }
 }
 
-// Writes the rounds of as many jobs as there are lanes.
+// Writes the rounds of as many jobs as there are lanes. It is not inlined, since its caller would
+// then hold on the stack what the jobs start from once for each number of lanes.
 #[inline(never)]
 fn write_in_lanes<H: SideBySide>(
     jobs: &[Job],
@@ -80,7 +81,7 @@ fn write_in_lanes<H: SideBySide>(
     requires lanes { length jobs.now ≡ H.LANES }
     requires each { (i : ℕ) (job : Job) → i < length jobs.now
         → CanRun H.algorithm (get_or jobs.now i job) }
-    requires room { length rounds.old ≡ length jobs.now }
+    requires count { length rounds.old ≡ length jobs.now }
     ensures ok { (i : ℕ) (job : Job) (room : Output) → i < length jobs.now → BeginsWithRound
         (get_or jobs.now i job) (non_zero_u32_get iterations) (get_or rounds.new i room).0 }
     ensures cost { (job : Job) → meter.new ≡ raised meter.old
@@ -113,7 +114,7 @@ pub(crate) fn run_jobs<const BITS: usize>(
     requires together { CanRunTogether BITS algorithm (length jobs.now) }
     requires each { (i : ℕ) (job : Job) → i < length jobs.now
         → CanRun algorithm (get_or jobs.now i job) }
-    requires room { length rounds.old ≡ length jobs.now }
+    requires count { length rounds.old ≡ length jobs.now }
     ensures ok { (i : ℕ) (job : Job) (room : Output) → i < length jobs.now → BeginsWithRound
         (get_or jobs.now i job) (non_zero_u32_get iterations) (get_or rounds.new i room).0 }
     ensures cost { (job : Job) → meter.new ≡ raised meter.old

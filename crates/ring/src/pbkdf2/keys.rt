@@ -82,8 +82,7 @@ pub(crate) fn write_round_of_each<const BITS: usize>(
     requires together { CanRunTogether BITS algorithm (length keys.now) }
     requires keys { (i : ℕ) (key : Key) → i < length keys.now
         → key_algorithm (get_or keys.now i key) ≡ algorithm }
-    requires salts { length salts.now ≡ length keys.now }
-    requires rounds { length rounds.old ≡ length keys.now }
+    requires count { (length salts.now ≡ length keys.now) × (length rounds.old ≡ length keys.now) }
     requires within { (i : ℕ) → i < length keys.now
         → IsTagWithin algorithm (length (bytes_at salts.now i) + 4) }
     ensures ok { (p : ℕ → List ℕ) (i : ℕ) (room : Output)

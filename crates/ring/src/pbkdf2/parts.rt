@@ -68,7 +68,7 @@ fn next_part<const BITS: usize>(algorithm: digest::Algorithm, left: usize) -> (u
 {
     let output_len = algorithm.output_len();
     let rounds = lanes_for::<BITS>(algorithm, wanted_rounds(output_len, left));
-    // By sums, since a product of both would be a multiplication.
+    // By sums: no two variables are multiplied, as on some processors the time depends on them.
     let four = (output_len + output_len) + (output_len + output_len);
     let len = match rounds {
         8 => four + four,

@@ -1,8 +1,8 @@
-use Rattle.std.proofs.Common.{◌≡◌, ◌∙◌, ◌<◌, [], arith, get_or, length, refl, rules, sym, take}
+use Rattle.std.proofs.Common.{◌≡◌, ◌∙◌, ◌<◌, [], arith, get_or, length, refl, rules, sym}
 use Rattle.std.specs.Int.NonZero.{non_zero_u32_get}
 use Rattle.ring.specs.Hmac.{hmac_digest}
-use Rattle.ring.specs.Lanes.{CanRunTogether}
 use Rattle.ring.proofs.DerivedKeys.{blocks-one, cost-each, each-derived}
+use Rattle.ring.proofs.KeysAt.{keys-algorithm, keys-together}
 use Rattle.ring.proofs.Rounds.{cost_derived}
 use Rattle.ring.proofs.pbkdf2.each_derived.write_together.Goals as goal
 
@@ -21,28 +21,22 @@ returns-then-secrets-eq1-clause-cost g c =
 pub write_under-requires : goal.write_under-requires
 write_under-requires g c =
     let keys = c.keys_of-keys.ensures in
-    let together : CanRunTogether g.row.BITS c.digest_algorithm-digest.result
-    (length (take (length c.args.secrets.now) c.keys_of-keys.result)) = rw (
-      keys.count,
-      c.requires.within.secret_count,
-      c.digest_algorithm-digest.ensures,
-    ) c.requires.together in
     let digest = c.digest_algorithm-digest.ensures in
     let within = c.requires.within in
     let count = keys.count ∙ within.secret_count in
     let first : 0 < length c.args.out.now = grind (arith, c.requires.together) in (
       search rules,
       (
-        together,
+        keys-together digest count c.requires.together,
         (
-          λ i key below. (keys.ok.each i key below).algorithm ∙ sym digest,
+          keys-algorithm digest keys.ok,
           (
-            within.salt_count ∙ sym within.secret_count ∙ sym keys.count,
+            (within.salt_count ∙ sym count, sym count),
             (
               λ i some below.
                   let there = within.each i (omega (arith, count, below)) in
                   rw digest (there.salt some),
-              (rw digest (within.each 0 first).rounds, sym count),
+              rw digest (within.each 0 first).rounds,
             ),
           ),
         ),

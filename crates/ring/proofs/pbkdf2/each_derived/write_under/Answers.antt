@@ -9,7 +9,7 @@ pub rounds-init : goal.rounds-init
 rounds-init g c =
     let keys = c.args.keys.now in
     let len : (i : ℕ) → i < length keys → length (get_or c.clear.new.out i []) ≡ g.row.N =
-    λ i below. c.clear.ensures i (omega (arith, c.requires.places, below)) in
+    λ i below. c.clear.ensures i (omega (arith, c.requires.count.1, below)) in
     written_each-none keys c.args.algorithm c.args.salts.now
     (non_zero_u32_get c.args.iterations) g.row.N c.clear.new.out c.args.meter.now len
 

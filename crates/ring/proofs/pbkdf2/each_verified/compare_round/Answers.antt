@@ -26,7 +26,7 @@ places-preserved g c =
     let k = c.args.end - w in
     let value = c.index-values-i.result in
     let below : i < length c.args.values.now =
-    omega (arith, c.requires.values, c.places-test.true) in
+    omega (arith, c.requires.count.0, c.places-test.true) in
     let there : value ≡ get_or c.args.values.now i [] =
     c.index-values-i.is ∙ get_or_default c.args.values.now i value [] below in
     let room : w + k ≤ length value = search rules in
@@ -35,7 +35,7 @@ places-preserved g c =
       λ r. let round : get_or c.args.rounds.now i no_output ≡ get_or c.args.rounds.now i r =
           get_or_default c.args.rounds.now i no_output r c.places-test.true in
           narrowed-next i (c.places.invariant.0 r)
-          (omega (arith, c.places.auto.matches, c.requires.places, c.places-test.true))
+          (omega (arith, c.places.auto.matches, c.requires.count.1, c.places-test.true))
           (rw (there, round) at c.are_same.ensures.ok),
       raised-both c.args.meter.now 0 (i * k) 0 k c.places.invariant.1 pairs
           ∙ ap (λ (z : ℕ). raised c.args.meter.now 0 z) (rw add-one (sym (suc-mul i k))),

@@ -21,7 +21,7 @@ verify_together-requires g c =
     let room : at + k ≤ length values = omega arith in
     let few : length (items_from at k values) ≡ k = length-items_from at k values room in
     let fits : at + k ≤ length c.together.matches =
-    omega (arith, room, c.together.auto.matches, c.requires.places) in
+    omega (arith, room, c.together.auto.matches, c.requires.count) in
     let len : (i : ℕ) → i < k → length (get_or (items_from at k values) i []) ≡ g.row.N =
     λ i below. rw (get_or-items_from at k i values [] below)
     (c.requires.len (at + i) (omega (arith, room, below))) in (
@@ -46,11 +46,11 @@ together-preserved g c =
     let few : length (items_from at k values) ≡ k = length-items_from at k values room in
     let part = rw (size, few) at c.verify_together.ensures in
     let fits : at + k ≤ length c.together.matches =
-    omega (arith, room, c.together.auto.matches, c.requires.places) in
+    omega (arith, room, c.together.auto.matches, c.requires.count) in
     let long : length c.verify_together.new.matches ≡ k =
     c.verify_together.auto.matches ∙ rw size (length-items_from at k c.together.matches fits) in
     answers-part at k c.together.invariant
-    (room, (c.requires.within.secret_count, c.together.auto.matches ∙ c.requires.places))
+    (room, (c.requires.within.secret_count, c.together.auto.matches ∙ c.requires.count))
     (take-put_mid at _ c.together.matches c.verify_together.new.matches (at + k)
     (omega (arith, long)) (omega (arith, fits)))
     part.ok part.cost

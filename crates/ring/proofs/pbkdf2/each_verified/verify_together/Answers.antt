@@ -1,8 +1,8 @@
-use Rattle.std.proofs.Common.{◌≡◌, ◌*◌, ◌∙◌, ◌<◌, arith, length, rules, sym, take}
+use Rattle.std.proofs.Common.{◌≡◌, ◌*◌, ◌∙◌, ◌<◌, arith, length, rules, sym}
 use Rattle.std.specs.Int.NonZero.{non_zero_u32_get}
 use Rattle.ring.specs.Hmac.{hmac_digest}
-use Rattle.ring.specs.Lanes.{CanRunTogether}
 use Rattle.ring.proofs.DerivedKeys.{blocks-one, cost-each}
+use Rattle.ring.proofs.KeysAt.{keys-algorithm, keys-together}
 use Rattle.ring.proofs.Rounds.{cost_derived}
 use Rattle.ring.proofs.VerifiedKeys.{each-verified}
 use Rattle.ring.proofs.pbkdf2.each_verified.verify_together.Goals as goal
@@ -24,37 +24,24 @@ returns-then-secrets-eq1-clause-cost g c =
 pub verify_under-requires : goal.verify_under-requires
 verify_under-requires g c =
     let keys = c.keys_of-keys.ensures in
-    let together : CanRunTogether g.row.BITS c.digest_algorithm-digest.result
-    (length (take (length c.args.secrets.now) c.keys_of-keys.result)) = rw (
-      keys.count,
-      c.requires.within.secret_count,
-      c.digest_algorithm-digest.ensures,
-    ) c.requires.together in
     let digest = c.digest_algorithm-digest.ensures in
     let within = c.requires.within in
     let count = keys.count ∙ within.secret_count in
-    let all = count ∙ sym within.value_count in
     let first : 0 < length c.args.values.now = grind (arith, c.requires.together) in (
       search rules,
       (
-        together,
+        keys-together digest count c.requires.together,
         (
-          λ i key below. (keys.ok.each i key below).algorithm ∙ sym digest,
+          keys-algorithm digest keys.ok,
           (
-            within.salt_count ∙ sym within.secret_count ∙ sym keys.count,
+            (within.salt_count ∙ sym count, sym count, c.requires.count ∙ sym count),
             (
               λ i below.
                   let there = within.each i (omega (arith, count, below)) in
                   rw digest (there.within.salt there.nonempty),
               (
                 rw digest (within.each 0 first).within.rounds,
-                (
-                  sym all,
-                  (
-                    λ i below. c.requires.len i (omega (arith, all, below)),
-                    c.requires.places ∙ sym all,
-                  ),
-                ),
+                λ i below. c.requires.len i (omega (arith, count, below)),
               ),
             ),
           ),
@@ -65,7 +52,7 @@ verify_under-requires g c =
 pub returns-clause-ok : goal.returns-clause-ok
 returns-clause-ok g c =
     let keys = c.keys_of-keys.ensures in
-    each-verified (c.verify_under.auto.matches ∙ c.requires.places) c.requires.within
+    each-verified (c.verify_under.auto.matches ∙ c.requires.count) c.requires.within
     c.requires.len (keys.count ∙ c.requires.within.secret_count)
     c.digest_algorithm-digest.ensures keys.ok c.verify_under.ensures.ok
 

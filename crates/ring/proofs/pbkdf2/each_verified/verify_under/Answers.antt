@@ -10,7 +10,7 @@ pub rounds-init : goal.rounds-init
 rounds-init g c =
     let keys = c.args.keys.now in
     let all : (i : ℕ) → i < length keys → get_or c.fill.new.self i false ≡ true =
-    λ i below. c.fill.ensures.clones i false (omega (arith, c.requires.places, below)) refl in
+    λ i below. c.fill.ensures.clones i false (omega (arith, c.requires.count.2, below)) refl in
     compared_each-none keys c.args.algorithm c.args.salts.now
     (non_zero_u32_get c.args.iterations) g.row.N c.args.values.now c.fill.new.self
     c.args.meter.now all

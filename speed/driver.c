@@ -157,28 +157,30 @@ static void time_all(void)
                 time_row(&rows[i], hash, repetition % PLACES);
 }
 
-static double least_of(enum name name, uint64_t wanted)
+static double verification(enum name name)
 {
-    double least = 0;
-    for (int repetition = 0; repetition < REPETITIONS; repetition++) {
-        double start = seconds();
-        if (ring_speed_verify(name, ITERATIONS) != wanted) {
-            fprintf(stderr, "speed: a password wasn't set, or a name is wrongly known\n");
-            exit(1);
-        }
-        double taken = seconds() - start;
-        if (least == 0 || taken < least)
-            least = taken;
+    double start = seconds();
+    if (ring_speed_verify(name, ITERATIONS) != (name != UNKNOWN_NAME)) {
+        fprintf(stderr, "speed: a password wasn't set, or a name is wrongly known\n");
+        exit(1);
     }
-    return least;
+    return seconds() - start;
 }
 
-// Whether the time of a verification tells that a name has no record.
+// Whether the time of a verification tells that a name has no record. The names take turns, so that
+// what slows the machine for a while slows each of them.
 static void print_verifications(void)
 {
-    double set = least_of(NO_NAME, 1);
-    double known = least_of(KNOWN_NAME, 1) - set;
-    double unknown = least_of(UNKNOWN_NAME, 0) - set;
+    double least[NO_NAME + 1] = {0};
+    for (int repetition = 0; repetition < REPETITIONS; repetition++) {
+        for (enum name name = UNKNOWN_NAME; name <= NO_NAME; name++) {
+            double taken = verification(name);
+            if (least[name] == 0 || taken < least[name])
+                least[name] = taken;
+        }
+    }
+    double known = least[KNOWN_NAME] - least[NO_NAME];
+    double unknown = least[UNKNOWN_NAME] - least[NO_NAME];
     printf("\n| Verification, %d iterations | Time | / known |\n|---|---|---|\n", ITERATIONS);
     printf("| of a name with a record | %.0f us | 1.00 |\n", 1e6 * known);
     printf("| of a name without one | %.0f us | %.2f |\n", 1e6 * unknown, unknown / known);

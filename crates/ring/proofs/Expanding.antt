@@ -1,15 +1,14 @@
 -- An output, round by round, and what its rounds cost.
-use Rattle.std.proofs.Common.{◌≡◌, ℕ, zero, suc, ◌+◌, ◌-◌, ◌*◌, ◌<◌, ◌≤◌, List, [], ◌∷◌, ◌++◌}
+use Rattle.std.proofs.Common.{◌≡◌, ℕ, suc, ◌+◌, ◌-◌, ◌*◌, ◌<◌, ◌≤◌, List, [], ◌∷◌, ◌++◌}
 use Rattle.std.proofs.Common.{length, take, drop, refl, sym, ap, ◌∙◌, arith, add-one, append-nil}
-use Rattle.std.proofs.Common.{length-take-le, suc-mul}
+use Rattle.std.proofs.Common.{length-take-le, inl, inr, zero-mul}
 use Rattle.std.proofs.Math.Nat.{lt_of_mul-lt-mul_right}
 use Rattle.std.proofs.lemmas.List.{at_drop_all}
-use Rattle.std.proofs.lemmas.Grind.{div_ceil_times}
-use Rattle.std.specs.Int.{div_ceil}
+use Rattle.std.proofs.lemmas.Bool.{cases_lt}
 use Rattle.ring_core.specs.Cost.{Counts, raised}
 use Rattle.ring_core.proofs.Costs.{raised-raised}
 use Rattle.ring.specs.Algorithm.{output_len}
-use Rattle.ring.specs.Cost.{fill_rounds, padded_blocks}
+use Rattle.ring.specs.Cost.{derive_rounds, fill_rounds, padded_blocks}
 use Rattle.ring.specs.Hkdf.{okm, t_of}
 use Rattle.ring.specs.Hmac.{KeyStandsFor, hmac_of, key_algorithm, tag_algorithm, tag_bytes}
 use Rattle.ring.specs.Pieces.{joined_blocks}
@@ -17,8 +16,8 @@ use Rattle.ring.specs.declared.digest.algorithm.Algorithm.{Algorithm}
 use Rattle.ring.specs.declared.hmac.key.Key.{Key}
 use Rattle.ring.specs.declared.hmac.tag.Tag.{Tag}
 use Rattle.ring.proofs.Keys.{length-hmac_of}
-use Rattle.ring.proofs.Rows.{output_len-positive}
 use Rattle.ring.proofs.Pieces.{IsEven, joined_blocks-part, written-more}
+use Rattle.ring.proofs.Rounds.{mul-more, rounds-reach}
 
 -- T(0) is empty
 pub t_of-none : (a : Algorithm) (k info : List ℕ) → t_of a k info 0 ≡ []
@@ -54,35 +53,22 @@ round-lt L r w n e p q =
     let lt : r * L < 255 * L = omega (arith, e) in
     lt_of_mul-lt-mul_right L lt
 
--- a quotient, rounded up, is at most r + 1 where r + 1 times the divisor are enough, and above r
--- where r times are not
-div_ceil-most : (L r n : ℕ) → zero < L → n ≤ suc r * L → div_ceil n L < suc (suc r)
-div_ceil-most L r n pos enough =
-    let h = (div_ceil_times n L pos).1 in
-    let lt : div_ceil n L * L < suc (suc r) * L = rw (suc-mul (suc r) L) (omega (arith, h)) in
-    lt_of_mul-lt-mul_right L lt
-
-div_ceil-least : (L r n : ℕ) → zero < L → r * L < n → r < div_ceil n L
-div_ceil-least L r n pos few =
-    let h = (div_ceil_times n L pos).0 in
-    let lt : r * L < div_ceil n L * L = omega (arith, h) in
-    lt_of_mul-lt-mul_right L lt
-
 -- the rounds but the last of n bytes: r, where r tags are written, and one more, or a front of it,
 -- is left
 pub rounds_at : (a : Algorithm) (r w n : ℕ) → w ≡ r * output_len a → w ≤ n → n - w ≤ output_len a
     → (0 < r → w < n) → fill_rounds a n - 1 ≡ r
-rounds_at a zero w n e below left needed =
-    let most = div_ceil-most (output_len a) 0 n (output_len-positive a) (omega arith) in
-    omega (arith, most)
-rounds_at a (suc r) w n e below left needed =
-    let pos = output_len-positive a in
-    let some : 0 < suc r = omega arith in
-    let more : w < n = needed some in
-    let wide : n ≤ suc (suc r) * output_len a = rw (suc-mul (suc r) (output_len a)) (omega arith) in
-    let most = div_ceil-most (output_len a) (suc r) n pos wide in
-    let least = div_ceil-least (output_len a) (suc r) n pos (omega arith) in
-    omega (arith, most, least)
+rounds_at a r w n e below left needed = elim (cases_lt w n) [
+  | inl more ↦
+      let next : (r + 1) * output_len a ≡ w + output_len a =
+      omega (arith, mul-more r (output_len a), e) in
+      let all : derive_rounds a n ≡ r + 1 =
+      rounds-reach a (r + 1) n (omega (arith, next, left)) (omega (arith, next, more)) in
+      omega (arith, all)
+  | inr all ↦
+      let none : r ≡ 0 = grind (arith, needed, all) in
+      let nothing : n ≡ 0 = omega (arith, all, below, rw none at e, zero-mul (output_len a)) in
+      rw (none, nothing) (omega arith)
+]
 
 -- the blocks of the first round, whose info has i bytes, and those of each further one
 abbrev pub first_blocks : Algorithm → ℕ → ℕ

@@ -1,40 +1,61 @@
--- A digest context that takes a message piece by piece: what it stands for, what it counts and what
--- that costs.
-use Rattle.std.proofs.Common.{◌≡◌, ℕ, ◌+◌, ◌%◌, ◌<◌, List, [], ◌++◌, length, take, ◌∙◌, arith}
-use Rattle.std.proofs.Common.{length-append, slice_index_or}
+-- A context that takes a message piece by piece: what it stands for, what it counts and what that
+-- costs.
+use Rattle.std.proofs.Common.{◌≡◌, ℕ, ◌+◌, ◌%◌, ◌<◌, ◌≤◌, List, [], ◌++◌, length, take, ◌∙◌, arith}
+use Rattle.std.proofs.Common.{append_assoc, length-append, slice_index_or}
 use Rattle.std.specs.Borrow.{Bor}
 use Rattle.ring_core.specs.Cost.{Counts, raised}
 use Rattle.ring.specs.Algorithm.{block_len}
 use Rattle.ring.specs.Context.{StandsFor, context_algorithm, cut_off, message_len, pending_len}
-use Rattle.ring.specs.Cost.{padded_blocks, whole_blocks}
+use Rattle.ring.specs.Cost.{whole_blocks}
+use Rattle.ring.specs.Hmac.{KeyStandsFor, TagStandsFor, key_algorithm, signing_algorithm}
+use Rattle.ring.specs.Hmac.{signing_len, signing_pending}
 use Rattle.ring.specs.Pieces.{joined}
 use Rattle.ring.specs.declared.digest.algorithm.Algorithm.{Algorithm}
-use Rattle.ring.specs.declared.digest.context.Context.{Context}
-use Rattle.ring.proofs.Lengths.{HasCounted, counted_end, counted_more, counted_none}
+use Rattle.ring.specs.declared.digest.context.Context as digest
+use Rattle.ring.specs.declared.hmac.context.Context as hmac
+use Rattle.ring.specs.declared.hmac.key.Key.{Key}
+use Rattle.ring.proofs.Lengths.{HasCounted, counted_more, counted_none}
 use Rattle.ring.proofs.Pieces.{joined-more}
 
--- the context took the bytes m, at the cost of their whole blocks
-pub record HasFed (a : Algorithm) (c : Context) (m : List ℕ) (before now : Counts) : Type 0 where
-  pub algorithm : context_algorithm c ≡ a
-  pub counted : message_len c ≡ cut_off (length m)
-  pub taken : HasCounted a (pending_len c) (length m) before now
-  pub stands : StandsFor c m
+-- a context of the algorithm a, which it tells as b, took the bytes m after the first `base`, at
+-- the cost of their whole blocks: it counts `count` bytes, of which `pending` wait, and P says what
+-- it stands for
+pub record HasFed (P : List ℕ → Type 0) (a b : Algorithm) (base count pending : ℕ) (m : List ℕ)
+    (before now : Counts) : Type 0 where
+  pub algorithm : b ≡ a
+  pub counted : count ≡ cut_off (base + length m)
+  pub taken : HasCounted a pending (length m) before now
+  pub stands : P m
 
-module _ {a : Algorithm} {c : Context} where
+-- a digest's context took m
+abbrev pub HasFedDigest : Algorithm → digest.Context → List ℕ → (before now : Counts) → Type 0
+HasFedDigest a c = HasFed (StandsFor c) a (context_algorithm c) 0 (message_len c) (pending_len c)
+
+-- a tag's context took m, behind the key's block
+abbrev pub HasFedTag : Key → hmac.Context → List ℕ → (before now : Counts) → Type 0
+HasFedTag key c =
+    HasFed (λ m. (k : List ℕ) → KeyStandsFor key k → TagStandsFor c k m) (key_algorithm key)
+    (signing_algorithm c) (block_len (key_algorithm key)) (signing_len c) (signing_pending c)
+
+module _ {P : List ℕ → Type 0} {a b : Algorithm} {base count pending : ℕ} where
   -- a new context
-  pub fed_none : {m : Counts} → context_algorithm c ≡ a → message_len c ≡ 0 → pending_len c ≡ 0
-      → StandsFor c [] → HasFed a c [] m m
-  fed_none ea ec ep s =
-      record { algorithm = ea; counted = ec; taken = counted_none a ep; stands = s }
+  pub fed_none : {m : Counts} → b ≡ a → count ≡ base → base ≤ 128 → pending ≡ 0 → P []
+      → HasFed P a b base count pending [] m m
+  fed_none ea ec small ep s =
+      record {
+        algorithm = ea;
+        counted = omega (arith, ec, small);
+        taken = counted_none a ep;
+        stands = s;
+      }
 
   -- the bytes d more
-  pub fed_more : {n : Context} {m : List ℕ} (d : List ℕ) {m0 m1 m2 : Counts} → HasFed a c m m0 m1
-      → context_algorithm n ≡ context_algorithm c
-      → message_len n ≡ cut_off (message_len c + length d)
-      → pending_len n ≡ (pending_len c + length d) % block_len (context_algorithm c)
-      → ((x : List ℕ) → StandsFor c x → StandsFor n (x ++ d))
-      → m2 ≡ raised m1 (whole_blocks (context_algorithm c) (pending_len c + length d)) 0
-      → HasFed a n (m ++ d) m0 m2
+  pub fed_more : {Q : List ℕ → Type 0} {c : Algorithm} {more left : ℕ} {m : List ℕ} (d : List ℕ)
+      {m0 m1 m2 : Counts} → HasFed P a b base count pending m m0 m1
+      → c ≡ b → more ≡ cut_off (count + length d) → left ≡ (pending + length d) % block_len b
+      → ((x : List ℕ) → P x → Q (x ++ d))
+      → m2 ≡ raised m1 (whole_blocks b (pending + length d)) 0
+      → HasFed Q a c base more left (m ++ d) m0 m2
   fed_more {m = m} d t ea ec ep s em =
       record {
         algorithm = ea ∙ t.algorithm;
@@ -43,15 +64,22 @@ module _ {a : Algorithm} {c : Context} where
         stands = s m t.stands;
       }
 
-  -- one piece more
-  pub fed_piece : (pieces : List (Bor (List ℕ))) (i : ℕ) (d : Bor (List ℕ)) {m0 m1 : Counts}
-      → i < length pieces
-      → HasFed a c (joined (take i pieces) ++ (slice_index_or pieces i d).now) m0 m1
-      → HasFed a c (joined (take (i + 1) pieces)) m0 m1
-  fed_piece pieces i d below t = rw (joined-more pieces i d below) t
+  -- one piece more, after the bytes x and the pieces before it
+  pub fed_piece : (x : List ℕ) (pieces : List (Bor (List ℕ))) (i : ℕ) (d : Bor (List ℕ))
+      {m0 m1 : Counts} → i < length pieces
+      → HasFed P a b base count pending
+      ((x ++ joined (take i pieces)) ++ (slice_index_or pieces i d).now) m0 m1
+      → HasFed P a b base count pending (x ++ joined (take (i + 1) pieces)) m0 m1
+  fed_piece x pieces i d below t =
+      let piece : List ℕ = (slice_index_or pieces i d).now in
+      rw (joined-more pieces i d below, ← append_assoc x (joined (take i pieces)) piece) t
 
-  -- the end
-  pub fed_end : {m : List ℕ} {m0 m1 m2 : Counts} → HasFed a c m m0 m1
-      → m2 ≡ raised m1 (padded_blocks (context_algorithm c) (pending_len c)) 0
-      → m2 ≡ raised m0 (padded_blocks a (length m)) 0
-  fed_end t = counted_end t.algorithm t.taken
+-- a tag's context took the bytes d more
+pub fed_tag-more : {key : Key} {c n : hmac.Context} {m : List ℕ} (d : List ℕ) {m0 m1 m2 : Counts}
+    → HasFedTag key c m m0 m1 → signing_algorithm n ≡ signing_algorithm c
+    → signing_len n ≡ cut_off (signing_len c + length d)
+    → signing_pending n ≡ (signing_pending c + length d) % block_len (signing_algorithm c)
+    → ((k x : List ℕ) → TagStandsFor c k x → TagStandsFor n k (x ++ d))
+    → m2 ≡ raised m1 (whole_blocks (signing_algorithm c) (signing_pending c + length d)) 0
+    → HasFedTag key n (m ++ d) m0 m2
+fed_tag-more d t ea ec ep s em = fed_more d t ea ec ep (λ x stands k h. s k x (stands k h)) em

@@ -1,41 +1,26 @@
 -- How a key is made one block, and what keys and tags cost.
 use Rattle.std.proofs.Common.{◌≡◌, ℕ, ◌+◌, ◌-◌, ◌<◌, ◌≤◌, List, [], ◌++◌, length, take, replicate}
 use Rattle.std.proofs.Common.{nat_le, true, false, Bool, if◌then◌else◌, rules, refl, sym, ap, subst}
-use Rattle.std.proofs.Common.{◌∙◌, arith, length-append, append_assoc, lit<}
+use Rattle.std.proofs.Common.{◌∙◌, arith, length-append, append_assoc}
 use Rattle.std.proofs.lemmas.List.{take_at, replicate-append-replicate, length-replicate}
 use Rattle.std.proofs.lemmas.List.{length-map}
 use Rattle.ring_core.specs.Cost.{Counts, raised}
 use Rattle.ring_core.proofs.Costs.{raised-raised}
-use Rattle.ring.specs.Algorithm.{block_len, length_len, output_len, row_of}
+use Rattle.ring.specs.Algorithm.{block_len, length_len, output_len}
 use Rattle.ring.specs.Context.{HasMoved, HasTaken, StandsFor, counted_bytes}
 use Rattle.ring.specs.Cost.{key_digest_blocks, last_blocks, padded_blocks}
 use Rattle.ring.specs.Digest.{IsDigest, bytes_of, digest_algorithm, digest_of}
 use Rattle.ring.specs.Hmac.{IsTag, TagStandsFor, hmac_of, signing_algorithm}
 use Rattle.ring.specs.KeyBlocks.{inner_block, key_block, outer_block, short_key}
 use Rattle.ring.specs.declared.digest.algorithm.Algorithm.{Algorithm}
-use Rattle.ring.specs.declared.digest.algorithm.AlgorithmId.{AlgorithmId}
-use Rattle.ring.specs.declared.digest.algorithm.AlgorithmId.TheVariants.{Sha1, Sha256, Sha384}
-use Rattle.ring.specs.declared.digest.algorithm.AlgorithmId.TheVariants.{Sha512, Sha512_256}
 use Rattle.ring.specs.declared.digest.block_context.BlockContext.{BlockContext}
 use Rattle.ring.specs.declared.digest.value.Digest.{Digest}
 use Rattle.ring.specs.declared.hmac.context.Context.{Context}
 use Rattle.ring.specs.declared.hmac.tag.Tag.{Tag}
 use Rattle.ring.proofs.Blocks.{short_div}
 use Rattle.ring.proofs.Lengths.{HasCounted, counted_end, last_past, length-digest_of}
-use Rattle.ring.proofs.Rows.{block_len-most}
+use Rattle.ring.proofs.Rows.{block_len-most, output_below}
 use Rattle.ring.proofs.Updating.{moved_block}
-
-output_below_of_id : (i : AlgorithmId)
-    → (row_of i).output_len + (row_of i).length_len < (row_of i).block_len
-output_below_of_id Sha1 = lit< tt
-output_below_of_id Sha256 = lit< tt
-output_below_of_id Sha384 = lit< tt
-output_below_of_id Sha512 = lit< tt
-output_below_of_id Sha512_256 = lit< tt
-
--- a digest and a length field are less than a block
-pub output_below : (a : Algorithm) → output_len a + length_len a < block_len a
-output_below a = output_below_of_id a.id
 
 -- a digest and its padding are one block
 pub one_block : (a : Algorithm) → padded_blocks a (output_len a) ≡ 1

@@ -1,7 +1,7 @@
 -- The blocks of a padded message.
 use Rattle.std.proofs.Common.{◌≡◌, ℕ, ◌+◌, ◌-◌, ◌*◌, ◌/◌, ◌%◌, ◌<◌, ◌≤◌, List, ◌∷◌, ◌++◌}
 use Rattle.std.proofs.Common.{length, take, drop, replicate, refl, sym, ap, ◌∙◌, arith}
-use Rattle.std.proofs.Common.{append_assoc, inl, inr, length-drop}
+use Rattle.std.proofs.Common.{append_assoc, length-drop}
 use Rattle.std.proofs.lemmas.List.{drop-append-le, drop_at, drop-drop}
 use Rattle.std.proofs.lemmas.List.{length-take-le, take-append-drop, take-append-le, take_all}
 use Rattle.std.specs.Int.{bytes_high_first}
@@ -10,27 +10,22 @@ use Rattle.ring_core.specs.Sha2 as sha2
 use Rattle.ring_core.proofs.ChunkFolds.{fold_chunks-append, fold_chunks-next}
 use Rattle.ring_core.proofs.ChunkFolds.{fold_chunks-none, fold_chunks-then}
 use Rattle.ring_core.proofs.Sha2Steps as sha2_steps
-use Rattle.ring.specs.Algorithm.{block_function, block_function_of_id, block_len, initial_words}
-use Rattle.ring.specs.Algorithm.{length_len, row_of, word_count, word_len}
+use Rattle.ring.specs.Algorithm.{block_function, block_len, initial_words}
+use Rattle.ring.specs.Algorithm.{length_len, word_count, word_len}
 use Rattle.ring.specs.Cost.{padded_blocks, whole_blocks}
 use Rattle.ring.specs.Digest.{blocks_from, words_after}
 use Rattle.ring.specs.Each.{HasWords, words_at}
 use Rattle.ring.specs.Padding.{IsWhole, padded, tail_of, zeros_of}
 use Rattle.ring.specs.declared.digest.algorithm.Algorithm.{Algorithm}
-use Rattle.ring.specs.declared.digest.algorithm.AlgorithmId.{AlgorithmId}
-use Rattle.ring.specs.declared.digest.algorithm.AlgorithmId.TheVariants.{Sha1, Sha256, Sha384}
-use Rattle.ring.specs.declared.digest.algorithm.AlgorithmId.TheVariants.{Sha512, Sha512_256}
 use Rattle.ring.proofs.Blocks.{mul_whole}
 use Rattle.ring.proofs.Padding.{length-padded}
-use Rattle.ring.proofs.Rows.{block_len-positive, sizes_of}
+use Rattle.ring.proofs.Rows.{block_len-positive, by_sizes}
+use Rattle.ring.proofs.Runs.{long_row}
 use Rattle.ring.proofs.Tails.{padded-append}
 
 -- what holds of both sizes of blocks
 by_size : (P : ℕ → Type 0) (a : Algorithm) {n : ℕ} → block_len a ≡ n → P 64 → P 128 → P n
-by_size P a e short long = elim (sizes_of a) [
-  | inl h ↦ rw (sym e ∙ h.0) short
-  | inr h ↦ rw (sym e ∙ h.0) long
-]
+by_size P a e short long = rw (← e) (by_sizes (λ b l. P b) a short long)
 
 -- no block
 pub words_at-none : (a : Algorithm) (m : List ℕ) → words_at a m 0 ≡ initial_words a
@@ -68,9 +63,9 @@ unfolding padded
 padded-split a m = simp append_assoc
 
 -- a block that is whole in the message
-pub chunk-whole : {n : ℕ} (a : Algorithm) (m : List ℕ) (k : ℕ) → block_len a ≡ n
+pub chunk_whole : {n : ℕ} (a : Algorithm) (m : List ℕ) (k : ℕ) → block_len a ≡ n
     → k < length m / n → chunk_at n (padded a m) k ≡ take n (drop (n * k) m)
-chunk-whole {n} a m k e below =
+chunk_whole {n} a m k e below =
     let past = padding_of a m in
     let at : k * n ≡ n * k = grind arith in
     let fits : n * k + n ≤ length m = by_size (λ n. k < length m / n → n * k + n ≤ length m) a e
@@ -105,18 +100,18 @@ parted a k x e h =
     (λ h. record { front = omega arith; last = omega arith; sum = omega arith }) h
 
 -- the blocks past those
-pub blocks_left : {n : ℕ} (a : Algorithm) (k : ℕ) (m rest : List ℕ) → block_len a ≡ n
+pub blocks_left : {n : ℕ} {rest : List ℕ} (a : Algorithm) (m : List ℕ) (k : ℕ) → block_len a ≡ n
     → k ≤ length m / n → rest ≡ drop (n * k) m
     → whole_blocks a (length rest) ≡ length m / n - k
-blocks_left {n} a k m rest e fits er =
+blocks_left {n} {rest} a m k e fits er =
     let long : length rest ≡ length m - n * k = ap length er ∙ length-drop (n * k) m in
     rw (e, long) (omega (arith, (parted a k (length m) e fits).sum))
 
--- and the words after all that are whole in the message, from some on
-pub words_at-whole : {n : ℕ} (a : Algorithm) (m rest : List ℕ) (k : ℕ) → block_len a ≡ n
-    → k ≤ length m / n → rest ≡ drop (n * k) m
-    → blocks_from a (words_at a m k) rest ≡ words_at a m (length m / n)
-words_at-whole {n} a m rest k e fits er =
+-- and the words after all that are whole in the message, from those after k blocks
+pub words_at-whole : {n : ℕ} {old new rest : List ℕ} (a : Algorithm) (m : List ℕ) (k : ℕ)
+    → block_len a ≡ n → k ≤ length m / n → rest ≡ drop (n * k) m → old ≡ words_at a m k
+    → new ≡ blocks_from a old rest → new ≡ words_at a m (length m / n)
+words_at-whole {n} {old} {rest = rest} a m k e fits er is run =
     let step = block_function a in
     let h = initial_words a in
     let p : List ℕ = take (n * k) m in
@@ -125,12 +120,11 @@ words_at-whole {n} a m rest k e fits er =
     let lr : length rest ≡ length m - n * k = ap length er ∙ length-drop (n * k) m in
     let joined : p ++ rest ≡ m = ap (λ z. p ++ z) er ∙ take-append-drop (n * k) m in
     let sum : k + length rest / n ≡ length m / n = rw lr parts.sum in
-    let front : fold_chunks step n h p k ≡ words_at a m k =
-    sym (fold_chunks-append step n h p rest k (omega (arith, lp)))
-    ∙ ap (λ z. fold_chunks step n h z k) joined
-    ∙ sym (words_at-front a m k e parts.front) in
-    rw e (
-    ap (λ z. fold_chunks step n z rest (length rest / n)) (sym front)
+    let front : old ≡ fold_chunks step n h p k =
+    is ∙ words_at-front a m k e parts.front ∙ ap (λ z. fold_chunks step n h z k) (sym joined)
+    ∙ fold_chunks-append step n h p rest k (omega (arith, lp)) in
+    run ∙ rw e (
+    ap (λ z. fold_chunks step n z rest (length rest / n)) front
     ∙ sym (fold_chunks-then step n h p rest k (length rest / n) lp)
     ∙ ap (λ z. fold_chunks step n h z (k + length rest / n)) joined
     ∙ ap (fold_chunks step n h m) sum
@@ -143,10 +137,10 @@ record AreAt (n w k : ℕ) : Type 0 where
   at : k * n ≡ n * w + n * (k - w)
 
 -- a block past those that are whole in the message
-pub chunk-tail : {n w : ℕ} {x : List ℕ} (a : Algorithm) (m : List ℕ) (k : ℕ) → block_len a ≡ n
+pub chunk_tail : {n w : ℕ} {x : List ℕ} (a : Algorithm) (m : List ℕ) (k : ℕ) → block_len a ≡ n
     → w ≡ length m / n → w ≤ k → x ≡ drop (n * w) m
     → chunk_at n (padded a m) k ≡ take n (drop (n * (k - w)) (tail_of a x (length m)))
-chunk-tail {n} {w} {x} a m k e ew past ex =
+chunk_tail {n} {w} {x} a m k e ew past ex =
     let p : List ℕ = take (n * w) m in
     let t : List ℕ = tail_of a x (length m) in
     let places : AreAt n w k = by_size (λ n. AreAt n w k) a e
@@ -176,21 +170,12 @@ lane-sha2 {h} {old} {new} a f block eight has words =
     }
 
 -- the algorithms of 64-bit words have one block function, of which eight words chain
-long_step_of_id : (i : AlgorithmId) → (row_of i).word_len ≡ 8
-    → (block_function_of_id i ≡ sha2.block_step sha2.family_512)
-    × ((row_of i).chaining_len / (row_of i).word_len ≡ 8)
-long_step_of_id Sha1 is = absurd (omega (arith, is))
-long_step_of_id Sha256 is = absurd (omega (arith, is))
-long_step_of_id Sha384 is = (refl, refl)
-long_step_of_id Sha512 is = (refl, refl)
-long_step_of_id Sha512_256 is = (refl, refl)
-
 pub lane-long : {h old new : List ℕ} (a : Algorithm) (block : List ℕ) → word_len a ≡ 8
     → HasWords a h old → new ≡ sha2.block_step sha2.family_512 old block
     → HasWords a (block_function a h block) new
 lane-long {h} {old} {new} a block is has words =
-    let step = long_step_of_id a.id is in
-    rw step.0 (lane-sha2 a sha2.family_512 block step.1 has words)
+    let row = long_row a.id (sym is) in
+    rw row.step_is (lane-sha2 a sha2.family_512 block row.count_is has words)
 
 -- a state before the first block
 pub words-first : {ws : List ℕ} (a : Algorithm) (m : List ℕ)

@@ -24,10 +24,10 @@ use Rattle.ring.specs.declared.digest.dynstate.DynState.{DynState}
 use Rattle.ring.specs.declared.hmac.key.Key.{Key}
 use Rattle.ring.specs.declared.digest.algorithm.Algorithm.{Algorithm}
 use Rattle.ring.proofs.Blocks.{words_after-append}
-use Rattle.ring.proofs.Keys.{length-inner_block, length-outer_block, one_block, output_below}
+use Rattle.ring.proofs.Keys.{length-inner_block, length-outer_block, one_block}
 use Rattle.ring.proofs.Lengths.{length-words_after}
 use Rattle.ring.proofs.Outputs.{length-bytes_high_first, length-word_bytes}
-use Rattle.ring.proofs.Rows.{block_len-positive, eight_words, output_len-most}
+use Rattle.ring.proofs.Rows.{block_len-positive, eight_words, output_below, output_len-most}
 use Rattle.ring.proofs.Tails.{padded-append}
 
 -- two rises by b blocks each

@@ -18,7 +18,6 @@ pub mod Paddings
 pub mod Lanes
 pub mod SameKeys
 pub mod Feeding
-pub mod Signing
 pub mod Expanding
 pub mod Iterates
 pub mod Sums
@@ -27,7 +26,7 @@ pub mod Rounds
 pub mod Places
 pub mod KeysAt
 pub mod DerivedKeys
-pub mod VerifiedKeys
+pub mod Taking
 pub mod Parts
 pub mod Comparing
 pub mod Numbers

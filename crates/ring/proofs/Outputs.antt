@@ -3,7 +3,7 @@ use Rattle.std.proofs.Common.{◌≡◌, ℕ, zero, suc, ◌+◌, ◌-◌, ◌*�
 use Rattle.std.proofs.Common.{◌∷◌, ◌++◌, length, take, drop, replicate, slice_index, get_or, refl}
 use Rattle.std.proofs.Common.{sym, ap, ◌∙◌, arith, length-append, map, take-add}
 use Rattle.std.proofs.lemmas.List.{take_at, drop_at, drop_more, get_or-map, length-map}
-use Rattle.std.proofs.lemmas.List.{drop-replicate, append_assoc, length-take-le}
+use Rattle.std.proofs.lemmas.List.{drop-drop, drop-replicate, append_assoc, length-take-le}
 use Rattle.std.proofs.lemmas.List.Concat.{flat_map-append}
 use Rattle.std.proofs.lemmas.Simd.{get_or_narrower}
 use Rattle.std.specs.Int.{byte_at, bytes_high_first}
@@ -93,21 +93,10 @@ pub four_words : (w : ℕ) (ws : List (Wrapping ℕ)) (i : ℕ) (d : Wrapping �
     ≡ take 4 (drop i (map (λ (x : Wrapping ℕ). x.0 % 2 ^ w) ws))
 four_words w ws i d h =
     let xs = map (λ (x : Wrapping ℕ). x.0 % 2 ^ w) ws in
-    let long : length xs ≡ length ws = length-map ws (λ (x : Wrapping ℕ). x.0 % 2 ^ w) in
-    let e2 : i + 1 + 1 ≡ i + 2 = omega arith in
-    let e3 : i + 2 + 1 ≡ i + 3 = omega arith in
-    rw (
-      word_at w ws i d (omega arith),
-      word_at w ws (i + 1) d (omega arith),
-      word_at w ws (i + 2) d (omega arith),
-      word_at w ws (i + 3) d (omega arith),
-      drop_more xs i 0 (omega arith),
-      drop_more xs (i + 1) 0 (omega arith),
-      e2,
-      drop_more xs (i + 2) 0 (omega arith),
-      e3,
-      drop_more xs (i + 3) 0 (omega arith),
-    ) refl
+    let next : i + 2 + 1 ≡ i + 3 = omega arith in
+    let last = rw next at (two_words w ws (i + 2) d (omega arith)) in
+    (λ t. two_words w ws i d (omega arith) t ++ last t)
+    ∙ sym (take-add 2 2 (drop i xs) ∙ ap (λ z. take 2 (drop i xs) ++ take 2 z) (drop-drop 2 i xs))
 
 -- byte i of a number
 pub byte_is : (i x : ℕ) → x / 256 ^ i % 256 ≡ byte_at i x

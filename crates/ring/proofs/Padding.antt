@@ -7,7 +7,7 @@ use Rattle.ring.specs.Algorithm.{block_len, length_len}
 use Rattle.ring.specs.Padding.{IsPadded, padded, padded_blocks, padded_with, zeros_of}
 use Rattle.ring.specs.declared.digest.algorithm.Algorithm.{Algorithm}
 use Rattle.ring.proofs.Outputs.{length-bytes_high_first}
-use Rattle.ring.proofs.Rows.{AreSizes, sizes_of}
+use Rattle.ring.proofs.Rows.{AreSizes, by_sizes, sizes_of}
 
 length-padded_with : (a : Algorithm) (m : List ℕ) (z : ℕ)
     → length (padded_with a m z) ≡ length m + 1 + z + length_len a
@@ -49,9 +49,8 @@ padded_is_padded a m =
 pub length-padded : (a : Algorithm) (m : List ℕ)
     → length (padded a m) ≡ padded_blocks a (length m) * block_len a
 unfolding padded
-length-padded a m = length-padded_with a m (zeros_of a (length m)) ∙ sizes (sizes_of a)
-  where
-    sizes : {b l : ℕ} → AreSizes b l
-        → length m + 1 + zeros_for (length m) b l + l ≡ ((length m + l) / b + 1) * b
-    sizes (inl e) = rw (e.0, e.1) (omega arith)
-    sizes (inr e) = rw (e.0, e.1) (omega arith)
+length-padded a m =
+    let n : ℕ = length m in
+    length-padded_with a m (zeros_of a n)
+    ∙ by_sizes (λ b l. n + 1 + zeros_for n b l + l ≡ ((n + l) / b + 1) * b) a (omega arith)
+    (omega arith)

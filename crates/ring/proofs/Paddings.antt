@@ -1,6 +1,6 @@
 -- The paddings as words are the standard's, each behind a digest of its algorithm; and what a run
 -- over such a block makes of a state.
-use Rattle.std.proofs.Common.{◌≡◌, ℕ, ◌%◌, ◌^◌, ◌<◌, List, ◌++◌, length, map, take, refl, sym, ap}
+use Rattle.std.proofs.Common.{◌≡◌, ℕ, ◌^◌, ◌<◌, List, ◌++◌, length, map, take, refl, sym, ap}
 use Rattle.std.proofs.Common.{◌∙◌, arith, lit≤, mod-lt, pow_pos, take_all}
 use Rattle.std.proofs.lemmas.List.{length-map}
 use Rattle.std.specs.declared.num.Wrapping.{Wrapping}
@@ -41,17 +41,17 @@ sha512_256_padding =
 
 -- the words of a lane after a run over a digest's words and their padding, where all eight chain
 pub lane_run : {X : Type 0} {a : Algorithm} {w k : ℕ} {padding : List (Wrapping ℕ)}
-    (family : Family) (f : X → ℕ) (old new digest : List X) → ArePadding a w k padding
+    {f : X → ℕ} (family : Family) (old new digest : List X) → ArePadding a w k padding
     → (length (map f old) ≡ 8) × (length (map f digest) ≡ 8) → ((x : X) → f x < 2 ^ w)
     → ((block : List ℕ) → IsBlockOf w k (map f digest) (values w padding) block
     → map f new ≡ block_step family (map f old) block)
     → take 8 (map f new)
     ≡ block_step family (take 8 (map f old)) (digest_bytes a (map f digest) ++ prepared_padding a)
-lane_run {a} family f old new digest t eights fits run =
+lane_run {a = a} {f = f} family old new digest t eights fits run =
     let block : List ℕ = digest_bytes a (map f digest) ++ prepared_padding a in
     let step : List ℕ → List ℕ → List ℕ = block_step family in
     let ran : map f new ≡ step (map f old) block =
-    run block (padded-words f digest t eights.1 fits) in
+    run block (padded-words digest t eights.1 fits) in
     let eight : length (map f new) ≡ 8 =
     ap length ran ∙ length-block_step family (map f old) block in
     take_all 8 (map f new) (omega (arith, eight)) ∙ ran
@@ -66,8 +66,6 @@ pub words_run : {a : Algorithm} {w k : ℕ} {padding : List (Wrapping ℕ)} (fam
     → take 8 (values w new)
     ≡ block_step family (take 8 (values w old))
     (digest_bytes a (values w digest) ++ prepared_padding a)
-words_run {w = w} family old new digest t eights run =
-    let value = λ (x : Wrapping ℕ). x.0 % 2 ^ w in
-    lane_run family value old new digest t
-    (length-map old value ∙ eights.0, length-map digest value ∙ eights.1)
-    (λ x. mod-lt _ (pow_pos w)) run
+words_run {w = w} family old new digest t eights =
+    lane_run family old new digest t (length-map old _ ∙ eights.0, length-map digest _ ∙ eights.1)
+    (λ x. mod-lt _ (pow_pos w))

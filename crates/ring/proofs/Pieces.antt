@@ -78,46 +78,46 @@ module _ {f : ℕ → List ℕ} {L : ℕ} where
       joined_blocks-agree even R (suc r) (w + n) room wide
       ∙ rw (joined_blocks-next f r, ← len) (take-append-add (joined_blocks f r) (f (suc r)) n)
 
--- xs are the first w of n bytes, of r blocks; the blocks have no more, but where w is n
-pub record IsPut (f : ℕ → List ℕ) (n r w : ℕ) (xs : List ℕ) : Type 0 where
-  pub front : xs ≡ take w (joined_blocks f r)
+-- w of n bytes are those of r blocks: these have no more, but where w is n
+pub record IsPut (f : ℕ → List ℕ) (n r w : ℕ) : Type 0 where
   pub room : w ≤ length (joined_blocks f r)
   pub exact : w < n → length (joined_blocks f r) ≡ w
 
-pub put-none : (f : ℕ → List ℕ) (n : ℕ) → IsPut f n 0 0 []
-put-none f n =
-    record { front = refl; room = omega arith; exact = λ some. rw joined_blocks-none refl }
+pub put-none : (f : ℕ → List ℕ) (n : ℕ) → IsPut f n 0 0
+put-none f n = record { room = omega arith; exact = λ some. rw joined_blocks-none refl }
 
-module _ {f : ℕ → List ℕ} {n r w : ℕ} {xs : List ℕ} where
+module _ {f : ℕ → List ℕ} {n r w : ℕ} where
   -- a front of the next block comes after them, or nothing
-  put-front : IsPut f n r w xs → (L k : ℕ) → k ≡ min L (n - w)
-      → take (w + k) (joined_blocks f r ++ f (r + 1)) ≡ xs ++ take k (f (r + 1))
+  put-front : IsPut f n r w → (L k : ℕ) → k ≡ min L (n - w)
+      → take (w + k) (joined_blocks f r ++ f (r + 1))
+      ≡ take w (joined_blocks f r) ++ take k (f (r + 1))
   put-front h L zero part =
       let e : w + 0 ≡ w = omega arith in
-      rw (e, append-nil, take-append-le w (joined_blocks f r) (f (r + 1)) h.room) (sym h.front)
+      rw (e, append-nil, take-append-le w (joined_blocks f r) (f (r + 1)) h.room) refl
   put-front h L (suc j) part =
       let len : length (joined_blocks f r) ≡ w = h.exact (omega (arith, part)) in
-      let all : xs ≡ joined_blocks f r =
-      h.front ∙ take_all w (joined_blocks f r) (omega (arith, len)) in
-      rw (all, ← len) (take-append-add (joined_blocks f r) (f (r + 1)) (suc j))
+      rw (take_all w (joined_blocks f r) (omega (arith, len)), ← len)
+      (take-append-add (joined_blocks f r) (f (r + 1)) (suc j))
 
   -- k bytes of a block of no more than L are put after them
-  pub put-next : {k : ℕ} {bytes : List ℕ} (L : ℕ) → IsPut f n r w xs → k ≡ min L (n - w)
+  pub put-next : {k : ℕ} {bytes : List ℕ} (L : ℕ) → IsPut f n r w → k ≡ min L (n - w)
       → bytes ≡ take k (f (r + 1)) → length bytes ≡ k → length (f (r + 1)) ≤ L
-      → IsPut f n (r + 1) (w + k) (xs ++ bytes)
+      → IsPut f n (r + 1) (w + k)
+      × (take (w + k) (joined_blocks f (r + 1)) ≡ take w (joined_blocks f r) ++ bytes)
   put-next {k = k} L h part is size short =
       let next : joined_blocks f (r + 1) ≡ joined_blocks f r ++ f (r + 1) =
       rw add-one (joined_blocks-next f r) in
       let sum = length-append (joined_blocks f r) (f (r + 1)) in
       let taken : min k (length (f (r + 1))) ≡ k =
-      sym (length-take k (f (r + 1))) ∙ ap length (sym is) ∙ size in
-      record {
-        front = rw (next, is) (sym (put-front h L k part));
-        room = rw next (omega (arith, sum, taken, h.room));
-        exact = λ more.
-            let len = h.exact (omega (arith, more)) in
-            rw next (omega (arith, sum, len, taken, short, part, more));
-      }
+      sym (length-take k (f (r + 1))) ∙ ap length (sym is) ∙ size in (
+        record {
+          room = rw next (omega (arith, sum, taken, h.room));
+          exact = λ more.
+              let len = h.exact (omega (arith, more)) in
+              rw next (omega (arith, sum, len, taken, short, part, more));
+        },
+        rw (next, is) (put-front h L k part),
+      )
 
 -- one block more is written, after the first r ones
 pub written-more : (f : ℕ → List ℕ) (r : ℕ) {xs block out : List ℕ} (rest : List ℕ)
@@ -127,22 +127,25 @@ written-more f r {xs = xs} {block = block} rest front e eo =
     rw (add-one r, joined_blocks-next f r, ← front, ← e, eo, ← length-append xs block)
     (take-append_seam (xs ++ block) rest)
 
--- lists that agree up to w and on the n items from there on agree up to w + n, and the other way
--- round
-pub same_part : (xs ys : List ℕ) {front part : List ℕ} (w n : ℕ) → w ≤ length xs
-    → length front ≡ w → take (w + n) ys ≡ front ++ part
-    → (take (w + n) xs ≡ take (w + n) ys) ↔ ((take w xs ≡ front) × (take n (drop w xs) ≡ part))
-same_part xs ys {front = front} {part = part} w n below len e = (
-  λ h.
-      let joint : take w xs ++ take n (drop w xs) ≡ front ++ part =
-      sym (take-add w n xs) ∙ h ∙ e in
-      let short : length (take w xs) ≡ w = length-take-le w xs below in
-      let first : take w xs ≡ front =
-      sym (take-append_seam (take w xs) (take n (drop w xs)))
-      ∙ rw (short, joint, ← len) (take-append_seam front part) in
-      let second : take n (drop w xs) ≡ part =
-      sym (drop-append_seam (take w xs) (take n (drop w xs)))
-      ∙ rw (short, joint, ← len) (drop-append_seam front part) in
-      (first, second),
-  λ h. take-add w n xs ∙ rw (h.0, h.1) (sym e),
-)
+-- a list begins with a front and a part exactly where it begins with the front, and has the part
+-- after it
+pub same_part : (xs front part : List ℕ) → length front ≤ length xs
+    → (take (length (front ++ part)) xs ≡ front ++ part)
+    ↔ ((take (length front) xs ≡ front) × (take (length part) (drop (length front) xs) ≡ part))
+same_part xs front part below =
+    let w : ℕ = length front in
+    let n : ℕ = length part in
+    let split : take (length (front ++ part)) xs ≡ take w xs ++ take n (drop w xs) =
+    ap (λ (m : ℕ). take m xs) (length-append front part) ∙ take-add w n xs in
+    let short : length (take w xs) ≡ w = length-take-le w xs below in (
+      λ h.
+          let joint = sym split ∙ h in
+          let first : take w xs ≡ front =
+          sym (take-append_seam (take w xs) (take n (drop w xs)))
+          ∙ rw (short, joint) (take-append_seam front part) in
+          let second : take n (drop w xs) ≡ part =
+          sym (drop-append_seam (take w xs) (take n (drop w xs)))
+          ∙ rw (short, joint) (drop-append_seam front part) in
+          (first, second),
+      λ h. split ∙ rw (h.0, h.1) refl,
+    )

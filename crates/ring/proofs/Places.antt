@@ -1,9 +1,7 @@
 -- What holds at the places of a list, and what a meter rises by there.
-use Rattle.std.proofs.Common.{◌≡◌, ℕ, suc, ◌+◌, ◌-◌, ◌<◌, ◌≤◌, List, [], ◌++◌, length, take, drop}
+use Rattle.std.proofs.Common.{◌≡◌, ℕ, suc, ◌+◌, ◌<◌, ◌≤◌, List, [], length, take, drop}
 use Rattle.std.proofs.Common.{get_or, sym, ap, ◌∙◌, arith, inl, inr, length-drop, slice_set}
 use Rattle.std.proofs.lemmas.Bool.{cases_order}
-use Rattle.std.proofs.lemmas.List.{get_or-append_right, get_or-drop, get_or-take}
-use Rattle.std.proofs.lemmas.List.{get_or_append_left}
 use Rattle.std.proofs.lemmas.List.{get_or-set_other, get_or-set_same, length-take-le}
 use Rattle.std.specs.Borrow.{Bor}
 use Rattle.ring_core.specs.Cost.{Counts, raised}
@@ -25,51 +23,12 @@ pub length-items_from : {X : Type 0} (i k : ℕ) (items : List X) → i + k ≤ 
 length-items_from i k items room =
     length-take-le k (drop i items) (omega (arith, length-drop i items, room))
 
-pub get_or-items_from : {X : Type 0} (i k j : ℕ) (items : List X) (d : X) → j < k
-    → get_or (items_from i k items) j d ≡ get_or items (i + j) d
-get_or-items_from i k j items d below =
-    get_or-take k (drop i items) j d below ∙ get_or-drop i items j d
-
 -- P holds of the items at the first m places
 pub record HoldsBelow {X : Type 0} (P : ℕ → X → Type 0) (d : X) (m : ℕ) (xs : List X)
     : Type 0 where
   pub each : (i : ℕ) → i < m → P i (get_or xs i d)
 
 module _ {X : Type 0} (P : ℕ → X → Type 0) (d : X) where
-  -- and of k more that are written after these
-  pub places-part : {out ys next : List X} (m k : ℕ) → HoldsBelow P d m out → m ≤ length out
-      → take (m + k) next ≡ take m out ++ ys → HoldsBelow (λ j. P (m + j)) d k ys
-      → HoldsBelow P d (m + k) next
-  places-part {out} {ys} {next} m k have room put more =
-      let front : length (take m out) ≡ m = length-take-le m out room in
-      let read : (i : ℕ) → i < m + k → get_or next i d ≡ get_or (take m out ++ ys) i d =
-      λ i below. sym (get_or-take (m + k) next i d below) ∙ ap (λ zs. get_or zs i d) put in
-      let low : (i : ℕ) → i < m → P i (get_or next i d) =
-      λ i h. rw (
-        read i (omega (arith, h)),
-        get_or_append_left (take m out) ys d i (omega (arith, front, h)),
-        get_or-take m out i d h,
-      ) (have.each i h) in
-      let high : (j : ℕ) → j < k → P (m + j) (get_or next (m + j) d) =
-      λ j h.
-      let back : m + j - m ≡ j = omega arith in
-      rw (
-        read (m + j) (omega (arith, h)),
-        get_or-append_right (take m out) ys m (m + j) d front (omega arith),
-        back,
-      ) (more.each j h) in
-      record {
-        each = λ i below. elim (cases_order i m) [
-          | inl e ↦ let h : 0 < k = omega (arith, e, below) in
-              let at : m + 0 ≡ i = omega (arith, e) in rw at at (high 0 h)
-          | inr o ↦ elim o [
-            | inl h ↦ low i h
-            | inr h ↦ let at : m + (i - m) ≡ i = omega (arith, h) in
-                rw at at (high (i - m) (omega (arith, h, below)))
-          ]
-        ];
-      }
-
   -- and of the next
   pub places-next : {out : List X} {x : X} (m : ℕ) → HoldsBelow P d m out → m < length out → P m x
       → HoldsBelow P d (m + 1) (slice_set out m x)

@@ -1,7 +1,7 @@
 -- A derivation in parts, each of some rounds, one after another.
-use Rattle.std.proofs.Common.{◌≡◌, ◌↔◌, ℕ, suc, ◌+◌, ◌-◌, ◌*◌, ◌<◌, ◌≤◌, min, List, ◌++◌, length}
-use Rattle.std.proofs.Common.{take, drop, refl, sym, ap, ◌∙◌, arith, add-one, suc-mul, zero-mul}
-use Rattle.std.proofs.Common.{length-drop, length-take-le, take_all}
+use Rattle.std.proofs.Common.{◌≡◌, ℕ, suc, ◌+◌, ◌-◌, ◌*◌, ◌<◌, ◌≤◌, min, List, ◌++◌, length}
+use Rattle.std.proofs.Common.{take, refl, sym, ap, ◌∙◌, arith, add-one, suc-mul, zero-mul}
+use Rattle.std.proofs.Common.{length-take-le, take_all}
 use Rattle.std.proofs.Math.Seq.{take-append-add}
 use Rattle.std.proofs.Math.Nat.{lt_of_mul-lt-mul_right}
 use Rattle.std.proofs.lemmas.Grind.{div_ceil_times}
@@ -10,20 +10,14 @@ use Rattle.ring_core.specs.Cost.{Counts, raised}
 use Rattle.ring_core.proofs.Costs.{raised-none}
 use Rattle.ring.specs.Algorithm.{output_len}
 use Rattle.ring.specs.Cost.{derive_rounds, key_blocks}
-use Rattle.ring.specs.Jobs.{dk_after}
 use Rattle.ring.specs.Pbkdf2.{dk, xored}
 use Rattle.ring.specs.Pieces.{joined_blocks}
 use Rattle.ring.specs.declared.digest.algorithm.Algorithm.{Algorithm}
 use Rattle.ring.proofs.Iterates.{length-xored}
 use Rattle.ring.proofs.Pieces.{IsEven, joined_blocks-append, joined_blocks-next, joined_blocks-none}
-use Rattle.ring.proofs.Pieces.{length-joined_blocks, same_part}
+use Rattle.ring.proofs.Pieces.{length-joined_blocks}
 use Rattle.ring.proofs.Rows.{output_len-positive}
 use Rattle.ring.proofs.Sums.{raised-both}
-
--- a part within a list has its length
-pub length-part : (w k : ℕ) (xs : List ℕ) → w + k ≤ length xs → length (take k (drop w xs)) ≡ k
-length-part w k xs room =
-    length-take-le k (drop w xs) (omega (arith, length-drop w xs))
 
 -- one product more
 pub mul-more : (r b : ℕ) → r * b + b ≡ (r + 1) * b
@@ -75,22 +69,13 @@ rounds_after a p s c r t = joined_blocks (λ i. xored a p s (r + i) c) t
 even_first : (a : Algorithm) (p s : List ℕ) (c : ℕ) → IsEven (λ i. xored a p s i c) (output_len a)
 even_first a p s c = record { each = λ i. length-xored a p s (suc i) c }
 
--- a part of t rounds, from their blocks
-pub after-rounds : (a : Algorithm) (p s : List ℕ) (c r t k : ℕ) → derive_rounds a k ≡ t
-    → dk_after a p s c r k ≡ take k (rounds_after a p s c r t)
-unfolding dk_after
-after-rounds a p s c r t k e = rw e refl
-
--- a part of one round, from its bytes
-pub after-one : (a : Algorithm) (p s : List ℕ) (c r : ℕ) {k : ℕ} → 0 < k → k ≤ output_len a
-    → take k (xored a p s (r + 1) c) ≡ dk_after a p s c r k
-after-one a p s c r {k = k} some fits =
-    let f : ℕ → List ℕ = λ i. xored a p s (r + i) c in
-    let one : derive_rounds a k ≡ 1 =
-    rounds-reach a 1 k (omega (arith, fits)) (omega (arith, some)) in
-    let same : rounds_after a p s c r 1 ≡ xored a p s (r + 1) c =
-    rw (joined_blocks-next f 0, joined_blocks-none f) refl in
-    sym (after-rounds a p s c r 1 k one ∙ ap (take k) same)
+-- all bytes of a derivation are there
+pub length-dk : (a : Algorithm) (p s : List ℕ) (c n : ℕ) → length (dk a p s c n) ≡ n
+unfolding dk
+length-dk a p s c n =
+    let L : ℕ = output_len a in
+    let whole = length-joined_blocks (even_first a p s c) (derive_rounds a n) in
+    length-take-le n _ (rw whole (omega (arith, div_ceil_times n L (output_len-positive a))))
 
 module _ {a : Algorithm} {n r w : ℕ} where
   -- the bytes that are reached
@@ -104,20 +89,10 @@ module _ {a : Algorithm} {n r w : ℕ} where
   unfolding dk
   reached-dk p s c t = rw (reached-rounds t) refl
 
-  pub length-dk : (p s : List ℕ) (c : ℕ) → HasReached a n r w → length (dk a p s c w) ≡ w
-  length-dk p s c t =
-      let whole = length-joined_blocks (even_first a p s c) r in
-      rw (reached-dk p s c t) (length-take-le w _ (rw whole (omega (arith, t.place))))
-
 module _ {a : Algorithm} {n r w t k : ℕ} (h : HasReached a n r w) (next : IsNext a n w t k) where
   -- what the next part reaches
   reached-whole : w ≡ r * output_len a
   reached-whole = omega (arith, h.place, next.more)
-
-  pub next-rounds : derive_rounds a k ≡ t
-  next-rounds =
-      rounds-reach a t k (omega (arith, next.wanted))
-      (omega (arith, next.wanted, next.needed, output_len-positive a))
 
   pub next-reached : HasReached a n (r + t) (w + k)
   next-reached =
@@ -128,33 +103,20 @@ module _ {a : Algorithm} {n r w t k : ℕ} (h : HasReached a n r w) (next : IsNe
         needed = omega (arith, sum, reached-whole, next.needed, next.more);
       }
 
-  rounds-next : (p s : List ℕ) (c : ℕ)
-      → take (w + k) (rounds a p s c (r + t)) ≡ dk a p s c w ++ dk_after a p s c r k
-  rounds-next p s c =
+  -- DK goes on with the next part
+  pub dk-next : (p s : List ℕ) (c : ℕ)
+      → dk a p s c (w + k) ≡ dk a p s c w ++ take k (rounds_after a p s c r t)
+  dk-next p s c =
       let front : List ℕ = rounds a p s c r in
       let size : length front ≡ w =
       length-joined_blocks (even_first a p s c) r ∙ sym reached-whole in
       let all : take w front ≡ front = take_all w front (omega (arith, size)) in
-      rw (
+      reached-dk p s c next-reached ∙ rw (
         joined_blocks-append (λ i. xored a p s i c) r t,
         reached-dk p s c h,
-        after-rounds a p s c r t k next-rounds,
         all,
         ← size,
       ) (take-append-add front (rounds_after a p s c r t) k)
-
-  -- DK goes on with the next part
-  pub dk-next : (p s : List ℕ) (c : ℕ)
-      → dk a p s c (w + k) ≡ dk a p s c w ++ dk_after a p s c r k
-  dk-next p s c = reached-dk p s c next-reached ∙ rounds-next p s c
-
-  -- and a value agrees with it exactly where it did before, and does on the next part
-  pub same-next : (p s : List ℕ) (c : ℕ) (value : List ℕ) → length value ≡ n
-      → (take (w + k) value ≡ dk a p s c (w + k))
-      ↔ ((take w value ≡ dk a p s c w) × (take k (drop w value) ≡ dk_after a p s c r k))
-  same-next p s c value len =
-      rw (reached-dk p s c next-reached) (same_part value (rounds a p s c (r + t)) w k
-      (omega (arith, len, next.more)) (length-dk p s c h) (rounds-next p s c))
 
 -- r rounds reach w of n bytes, at the cost of b blocks for each, and of some pairs of bytes
 pub record HasRun (a : Algorithm) (b n r w pairs : ℕ) (before now : Counts) : Type 0 where
@@ -198,9 +160,11 @@ cost_derived a m0 p b pairs e1 e2 =
     let none : 0 + pairs ≡ pairs = omega arith in
     raised-both m0 (key_blocks a p) 0 b pairs e1 e2 ∙ ap (raised m0 (key_blocks a p + b)) none
 
--- the first k bytes of what begins with a round are those of the round
-pub part_of_round : (a : Algorithm) (p s : List ℕ) (c r : ℕ) (bytes : List ℕ) (k : ℕ) → 0 < k
+-- the first k bytes of what begins with a round are a part of one round
+pub part_of_round : (a : Algorithm) (p s : List ℕ) (c r : ℕ) (bytes : List ℕ) (k : ℕ)
     → k ≤ output_len a → take (output_len a) bytes ≡ xored a p s (r + 1) c
-    → take k bytes ≡ dk_after a p s c r k
-part_of_round a p s c r bytes k some fits h =
-    sym (take-take k (output_len a) bytes fits) ∙ ap (take k) h ∙ after-one a p s c r some fits
+    → take k bytes ≡ take k (rounds_after a p s c r 1)
+part_of_round a p s c r bytes k fits h =
+    let f : ℕ → List ℕ = λ i. xored a p s (r + i) c in
+    sym (take-take k (output_len a) bytes fits)
+    ∙ ap (take k) (h ∙ rw (joined_blocks-next f 0, joined_blocks-none f) refl)

@@ -16,6 +16,7 @@ use Rattle.ring.specs.declared.digest.algorithm.AlgorithmId.{AlgorithmId}
 use Rattle.ring.specs.declared.digest.algorithm.AlgorithmId.TheVariants.{Sha1, Sha256, Sha384}
 use Rattle.ring.specs.declared.digest.algorithm.AlgorithmId.TheVariants.{Sha512, Sha512_256}
 use Rattle.ring.specs.declared.digest.dynstate.DynState.{DynState}
+use Rattle.ring.proofs.Rows.{block_len-positive}
 
 -- what the choice of a block function needs of a row
 pub record IsRow (i : AlgorithmId) (step : List ℕ → List ℕ → List ℕ) (block count : ℕ)
@@ -46,7 +47,7 @@ pub sha1_row : (i : AlgorithmId) → i ≡ Sha1 → IsRow i sha1.block_step 64 5
 sha1_row i e = rw e (record { step_is = refl; block_is = refl; count_is = refl })
 
 -- the chunks of a view of a list are the whole chunks at its front
-pub fold_chunks-front : (step : List ℕ → List ℕ → List ℕ) (n : ℕ) (h y items : List ℕ) → 0 < n
+fold_chunks-front : (step : List ℕ → List ℕ → List ℕ) (n : ℕ) (h y items : List ℕ) → 0 < n
     → items ≡ take (length y / n * n) y
     → fold_chunks step n h items (length items / n) ≡ fold_chunks step n h y (length y / n)
 fold_chunks-front step n h y items pos e =
@@ -59,15 +60,16 @@ fold_chunks-front step n h y items pos e =
     rw (count, e) (sym (fold_chunks-append step n h front left k (omega (arith, long)))
     ∙ ap (λ (x : List ℕ). fold_chunks step n h x k) (take-append-drop (k * n) y))
 
--- the chaining words after the whole blocks of a list
-pub words_run : {step : List ℕ → List ℕ → List ℕ} {n count : ℕ} {old new : List ℕ}
+-- the chaining words after the whole blocks of a list, of which there is a view
+pub words_run : {step : List ℕ → List ℕ → List ℕ} {n count : ℕ} {old new items : List ℕ}
     (a : Algorithm) (s t : DynState) (y : List ℕ)
     → IsRow a.id step n count → chaining_words a s ≡ old → chaining_words a t ≡ new
-    → new ≡ fold_chunks step n old y (length y / n)
-    → chaining_words a t
-    ≡ blocks_from a (chaining_words a s) y
-words_run a s t y row es et en =
-    et ∙ en ∙ sym (rw (row.step_is, row.block_is, es) refl)
+    → items ≡ take (length y / n * n) y → new ≡ fold_chunks step n old items (length items / n)
+    → chaining_words a t ≡ blocks_from a (chaining_words a s) y
+words_run {step} {n} {old = old} {items = items} a s t y row es et view en =
+    let pos : 0 < n = rw row.block_is at (block_len-positive a) in
+    et ∙ en ∙ fold_chunks-front step n old y items pos view
+    ∙ sym (rw (row.step_is, row.block_is, es) refl)
 
 -- all words chain where there are eight
 all_chaining : (a : Algorithm) (step : List ℕ → List ℕ → List ℕ) (n : ℕ) (ws : List ℕ)
@@ -76,12 +78,12 @@ all_chaining : (a : Algorithm) (step : List ℕ → List ℕ → List ℕ) (n : 
 all_chaining a step n ws row len = rw row.count_is (take_all 8 ws (omega (arith, len)))
 
 -- the run of a state of eight words that chain
-pub words_run_all : {step : List ℕ → List ℕ → List ℕ} {n : ℕ}
+pub words_run_all : {step : List ℕ → List ℕ → List ℕ} {n : ℕ} {items : List ℕ}
     (a : Algorithm) (s t : DynState) (y : List ℕ)
     → IsRow a.id step n 8 → length (words s) ≡ 8 → length (words t) ≡ 8
-    → words t ≡ fold_chunks step n (words s) y (length y / n)
-    → chaining_words a t
-    ≡ blocks_from a (chaining_words a s) y
-words_run_all {step} {n} a s t y row ls lt en =
+    → items ≡ take (length y / n * n) y
+    → words t ≡ fold_chunks step n (words s) items (length items / n)
+    → chaining_words a t ≡ blocks_from a (chaining_words a s) y
+words_run_all {step} {n} a s t y row ls lt =
     words_run a s t y row (all_chaining a step n (words s) row ls)
-    (all_chaining a step n (words t) row lt) en
+    (all_chaining a step n (words t) row lt)

@@ -7,7 +7,8 @@ use Rattle.ring.specs.Digest.{digest_of}
 use Rattle.ring.specs.Hmac.{hmac_of}
 use Rattle.ring.specs.KeyBlocks.{key_block, masked, short_key}
 use Rattle.ring.specs.declared.digest.algorithm.Algorithm.{Algorithm}
-use Rattle.ring.proofs.Keys.{output_below, short_key-long, short_key-short}
+use Rattle.ring.proofs.Keys.{short_key-long, short_key-short}
+use Rattle.ring.proofs.Rows.{output_below}
 use Rattle.ring.proofs.Lengths.{length-digest_of}
 
 -- keys of one block sign alike

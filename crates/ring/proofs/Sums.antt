@@ -2,7 +2,7 @@
 use Rattle.std.proofs.Common.{◌≡◌, ℕ, zero, suc, ◌+◌, ◌*◌, ◌<◌, List, get_or, sym, ap}
 use Rattle.std.proofs.Common.{◌∙◌, add-one, arith, refl}
 use Rattle.ring_core.specs.Cost.{Counts, raised}
-use Rattle.ring_core.proofs.Costs.{raised-raised}
+use Rattle.ring_core.proofs.Costs.{raised-none, raised-raised}
 use Rattle.ring.specs.DeriveEach.{sum_below}
 use Rattle.ring.proofs.Each.{raised-then}
 
@@ -80,3 +80,12 @@ raised-pairs m0 b q e1 e2 =
     let blocks : b + 0 ≡ b = omega arith in
     let pairs : 0 + q ≡ q = omega arith in
     rw (blocks, pairs) at (raised-both m0 b 0 0 q e1 e2)
+
+-- for each of w bytes P pairs, and then for k more
+pub pairs-none : (m : Counts) (P : ℕ) → m ≡ raised m 0 (P * 0)
+pairs-none m P = raised-none m ∙ ap (raised m 0) (grind arith)
+
+pub pairs-more : (m0 : Counts) {m1 m2 : Counts} (P w k : ℕ) → m1 ≡ raised m0 0 (P * w)
+    → m2 ≡ raised m1 0 (P * k) → m2 ≡ raised m0 0 (P * (w + k))
+pairs-more m0 P w k e1 e2 =
+    raised-both m0 0 (P * w) 0 (P * k) e1 e2 ∙ ap (raised m0 0) (grind arith)

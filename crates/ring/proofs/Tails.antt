@@ -1,5 +1,5 @@
 -- What follows the whole blocks of a padded message.
-use Rattle.std.proofs.Common.{◌≡◌, ℕ, suc, ◌+◌, ◌-◌, ◌*◌, ◌/◌, ◌%◌, ◌<◌, ◌≤◌, inl, inr, List, ◌∷◌}
+use Rattle.std.proofs.Common.{◌≡◌, ℕ, suc, ◌+◌, ◌-◌, ◌*◌, ◌/◌, ◌%◌, ◌<◌, ◌≤◌, List, ◌∷◌}
 use Rattle.std.proofs.Common.{◌++◌, length, take, drop, replicate, slice_set, sym, ap, ◌∙◌, arith}
 use Rattle.std.proofs.Common.{length-append, append_assoc, drop-drop, refl}
 use Rattle.std.proofs.lemmas.List.{drop-replicate, take-replicate, length-replicate, take_at}
@@ -18,36 +18,23 @@ use Rattle.ring.specs.declared.digest.dynstate.DynState.{DynState}
 use Rattle.ring.proofs.Blocks.{words_after-append}
 use Rattle.ring.proofs.Outputs.{length-bytes_high_first}
 use Rattle.ring.proofs.Padding.{padded_is_padded}
-use Rattle.ring.proofs.Rows.{AreSizes, sizes_of}
+use Rattle.ring.proofs.Rows.{by_sizes}
 
 -- the tail has room for all that is written, and no more than two blocks
 pub tail_sizes : (a : Algorithm) (r : ℕ) → r < block_len a
     → (padded_blocks a r * block_len a ≤ 256)
     × (r + 1 + length_len a ≤ padded_blocks a r * block_len a)
-tail_sizes a r below = sizes (block_len a) (length_len a) (sizes_of a) below
-  where
-    sizes : (b l : ℕ) → AreSizes b l → r < b
-        → (((r + l) / b + 1) * b ≤ 256) × (r + 1 + l ≤ ((r + l) / b + 1) * b)
-    sizes b l (inl e) h =
-        let h' : r < 64 = rw e.0 at h in
-        rw (e.0, e.1) (omega arith, omega arith)
-    sizes b l (inr e) h =
-        let h' : r < 128 = rw e.0 at h in
-        rw (e.0, e.1) (omega arith, omega arith)
+tail_sizes a r =
+    by_sizes (λ b l. r < b → (((r + l) / b + 1) * b ≤ 256) × (r + 1 + l ≤ ((r + l) / b + 1) * b)) a
+    (λ h. (omega arith, omega arith)) (λ h. (omega arith, omega arith))
 
 -- the zeros depend only on what is left of the message
 pub zeros_past : (a : Algorithm) (n r : ℕ) → n % block_len a ≡ 0
     → zeros_of a (n + r) ≡ zeros_of a r
-zeros_past a n r h = past (block_len a) (length_len a) (sizes_of a) h
-  where
-    past : (b l : ℕ) → AreSizes b l → n % b ≡ 0
-        → ((n + r + l) / b + 1) * b - (n + r + 1 + l) ≡ ((r + l) / b + 1) * b - (r + 1 + l)
-    past b l (inl e) w =
-        let w' : n % 64 ≡ 0 = rw e.0 at w in
-        rw (e.0, e.1) (omega arith)
-    past b l (inr e) w =
-        let w' : n % 128 ≡ 0 = rw e.0 at w in
-        rw (e.0, e.1) (omega arith)
+zeros_past a n r =
+    by_sizes (λ b l. n % b ≡ 0
+    → ((n + r + l) / b + 1) * b - (n + r + 1 + l) ≡ ((r + l) / b + 1) * b - (r + 1 + l)) a
+    (λ h. omega arith) (λ h. omega arith)
 
 -- the padded message is its whole blocks and the tail
 pub padded-append : (a : Algorithm) (p x : List ℕ) → IsWhole a p
@@ -120,18 +107,9 @@ tail_written a x n t below et =
 
 -- what follows whole blocks in whole blocks is whole blocks
 whole-rest : (a : Algorithm) (p x : List ℕ) → IsWhole a p → IsWhole a (p ++ x) → IsWhole a x
-whole-rest a p x hp h = rest (block_len a) (sizes_of a) hp (rw length-append at h)
-  where
-    rest : (b : ℕ) {l : ℕ} → AreSizes b l → length p % b ≡ 0 → (length p + length x) % b ≡ 0
-        → length x % b ≡ 0
-    rest b (inl e) u v =
-        let u' : length p % 64 ≡ 0 = rw e.0 at u in
-        let v' : (length p + length x) % 64 ≡ 0 = rw e.0 at v in
-        rw e.0 (omega arith)
-    rest b (inr e) u v =
-        let u' : length p % 128 ≡ 0 = rw e.0 at u in
-        let v' : (length p + length x) % 128 ≡ 0 = rw e.0 at v in
-        rw e.0 (omega arith)
+whole-rest a p x hp h =
+    by_sizes (λ b l. length p % b ≡ 0 → (length p + length x) % b ≡ 0 → length x % b ≡ 0) a
+    (λ u v. omega arith) (λ u v. omega arith) hp (rw length-append at h)
 
 -- the words after the blocks that end a padded message
 pub words_after-padded : (b : BlockContext) (p m tail : List ℕ) (s : DynState) → HasTaken b p

@@ -2,11 +2,11 @@
 use Rattle.std.proofs.Common.{◌≡◌, ℕ, zero, suc, ◌+◌, ◌*◌, ◌/◌, ◌%◌, ◌^◌, ◌<◌, ◌≤◌, min, List}
 use Rattle.std.proofs.Common.{[], ◌∷◌, ◌++◌, length, map, take, drop, slice_index, refl, sym, ap}
 use Rattle.std.proofs.Common.{◌∙◌, arith, inl, inr, length-append, length-drop, length-take-le}
-use Rattle.std.proofs.Common.{mod-lt, pow_pos, suc-mul, take-add, zero-mul}
+use Rattle.std.proofs.Common.{mod-lt, pow_pos, suc-mul, zero-mul}
 use Rattle.std.proofs.lemmas.List.{length-map}
 use Rattle.std.specs.declared.num.Wrapping.{Wrapping}
 use Rattle.std.proofs.lemmas.Bool.{cases_lt}
-use Rattle.std.proofs.lemmas.List.{drop-drop, get_or-take, get_or_append_left}
+use Rattle.std.proofs.lemmas.List.{get_or-take, get_or_append_left}
 use Rattle.std.proofs.lemmas.List.{take-append-drop, take_at}
 use Rattle.std.proofs.lemmas.List.Concat.{flat_map-append}
 use Rattle.std.proofs.lemmas.List.{get_or-drop, get_or_past}
@@ -186,11 +186,11 @@ pub record ArePadding (a : Algorithm) (w k : ℕ) (padding : List (Wrapping ℕ)
 
 -- with them, the words of a lane make a block
 pub padded-words : {X : Type 0} {a : Algorithm} {w k : ℕ} {padding : List (Wrapping ℕ)}
-    (f : X → ℕ) (xs : List X) → ArePadding a w k padding → length (map f xs) ≡ 8
+    {f : X → ℕ} (xs : List X) → ArePadding a w k padding → length (map f xs) ≡ 8
     → ((x : X) → f x < 2 ^ w)
     → IsBlockOf w k (map f xs) (values w padding)
     (digest_bytes a (map f xs) ++ prepared_padding a)
-padded-words {a = a} {w = w} {k = k} {padding = padding} f xs t eight each =
+padded-words {a = a} {w = w} {k = k} {padding = padding} {f} xs t eight each =
     let n : ℕ = word_len a in
     let ws : List ℕ = map f xs in
     let vs : List ℕ = values w padding in
@@ -216,14 +216,6 @@ padded-words {a = a} {w = w} {k = k} {padding = padding} f xs t eight each =
       word = λ j below. block-words w n all j size (omega (arith, long)) fits
           ∙ ap (λ z. word_at w z j) block;
     }
-
--- n bytes at a place, and those after them
-pub placed : (n k m : ℕ) (xs : List ℕ) {bytes rest : List ℕ} → bytes ≡ take n (drop k xs)
-    → rest ≡ take m (drop (k + n) xs) → bytes ++ rest ≡ take (n + m) (drop k xs)
-placed n k m xs {rest = rest} eb er =
-    ap (λ z. z ++ rest) eb
-    ∙ ap (λ z. take n (drop k xs) ++ z) (er ∙ ap (take m) (sym (drop-drop n k xs)))
-    ∙ sym (take-add n m (drop k xs))
 
 part-below : (n k : ℕ) (xs : List ℕ) → AllBelow 256 xs → AllBelow 256 (take n (drop k xs))
 part-below n k xs small t = elim (cases_lt t n) [

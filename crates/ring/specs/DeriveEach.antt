@@ -14,6 +14,10 @@ use Rattle.ring.specs.declared.hmac.key.Key.{Key}
 abbrev pub bytes_at : List (Bor (List ℕ)) → ℕ → List ℕ
 bytes_at = message_at
 
+-- the key of n bytes at a place, after c iterations
+abbrev pub dk_at : (a : Algorithm) (salts secrets : List (Bor (List ℕ))) (c n k : ℕ) → List ℕ
+dk_at a salts secrets c n k = dk a (bytes_at secrets k) (bytes_at salts k) c n
+
 -- there are as many keys of n bytes as secrets, and each is derived from the secret and the salt at
 -- its place, after c iterations
 pub record AreDerived (keys : List (List ℕ)) (a : Algorithm) (salts secrets : List (Bor (List ℕ)))

@@ -1,12 +1,11 @@
 -- Rounds of output as jobs: each is of a key, a salt and a number.
 use Rattle.std.specs.Prelude.{◌≡◌, ℕ, ◌+◌, ◌<◌, List, IsTrue, get_or, length, take}
 use Rattle.ring.specs.Algorithm.{output_len}
-use Rattle.ring.specs.Cost.{derive_rounds, iterate_blocks, padded_blocks}
+use Rattle.ring.specs.Cost.{iterate_blocks, padded_blocks}
 use Rattle.ring.specs.Hmac.{KeyStandsFor, key_algorithm}
 use Rattle.ring.specs.Lanes.{IsKeyInLane, digest_bytes}
 use Rattle.ring.specs.Limits.{IsTagWithin}
 use Rattle.ring.specs.Pbkdf2.{iterate, xored}
-use Rattle.ring.specs.Pieces.{joined_blocks}
 use Rattle.ring.specs.State.{is_state_of, words}
 use Rattle.ring.specs.declared.digest.algorithm.Algorithm.{Algorithm}
 use Rattle.ring.specs.declared.digest.dynstate.DynState.{DynState}
@@ -54,7 +53,3 @@ first_blocks job = padded_blocks (job_algorithm job) (length job.salt.now + 4) +
 -- the blocks of the job's round, after c iterations
 abbrev pub job_blocks : ℕ → Job → ℕ
 job_blocks c job = iterate_blocks (job_algorithm job) (length job.salt.now) c
-
--- DK goes on after r rounds: the first n bytes of T_(r + 1) || T_(r + 2) || ..
-unfoldable pub dk_after : Algorithm → (p s : List ℕ) → (c r n : ℕ) → List ℕ
-dk_after a p s c r n = take n (joined_blocks (λ i. xored a p s (r + i) c) (derive_rounds a n))

@@ -8,6 +8,7 @@ pub mod Cost
 pub mod Digest
 pub mod Context
 pub mod Pieces
+pub mod Receiver
 pub mod Each
 pub mod Source
 pub mod KeyBlocks

@@ -66,17 +66,6 @@
 //! The imports of the last two examples stand in `pieces.rt` and `several.rt` of
 //! `crates/ring_examples/src`.
 
-ghost use Rattle.std.specs.Prelude.{◌≡◌, ◌↔◌, length, ◌<◌, IfOk, IsErr, OnOk, OnErr};
-ghost use Rattle.ring_core.specs.Cost.{raised};
-ghost use Rattle.ring.specs.Algorithm.{max_input_len};
-ghost use Rattle.ring.specs.Cost.{padded_blocks};
-ghost use Rattle.ring.specs.Digest.{IsDigest};
-
-use crate::digest::algorithm::is_message_within;
-use crate::digest::block_context::BlockContext;
-use ring_core::cost::Meter;
-use ring_core::error::Unspecified;
-
 pub(crate) mod algorithm;
 pub(crate) mod block_context;
 mod block_lanes;
@@ -87,6 +76,7 @@ mod initial;
 mod padded_blocks;
 pub(crate) mod padding;
 pub(crate) mod side_by_side;
+mod single;
 mod together;
 pub(crate) mod value;
 pub(crate) mod vectors;
@@ -98,39 +88,8 @@ pub use crate::digest::algorithm::{
 };
 pub use crate::digest::context::Context;
 pub use crate::digest::dynstate::Output;
-pub use crate::digest::each::{digest_each, digest_each_counted};
+pub use crate::digest::each::{digest_each, digest_each_counted, digest_each_in};
 pub use crate::digest::padding::padding_is_shortest;
+pub use crate::digest::single::{digest, digest_counted};
 pub use crate::digest::value::Digest;
 pub use ring_core::digest::{sha1, sha2, states, word};
-
-/// Computes the digest of `message` as [`digest`] does, and counts its blocks on `meter`. A refusal
-/// leaves `meter` as it was.
-pub fn digest_counted(
-    algorithm: &Algorithm,
-    message: &[u8],
-    meter: &mut Meter,
-) -> Result<Digest, Unspecified>
-    ensures ok { IfOk result (λ digest. IsDigest digest algorithm.now message.now) }
-    ensures refused { IsErr result ↔ (max_input_len algorithm.now < length message.now) }
-    ensures unchanged { OnErr result (meter.new ≡ meter.old) }
-    ensures cost { OnOk result (meter.new
-        ≡ raised meter.old (padded_blocks algorithm.now (length message.now)) 0) }
-{
-    if !is_message_within(algorithm, message.len() as u128) {
-        return Err(Unspecified);
-    }
-    // This needs no `Context`: the bytes past the whole blocks are padded straight from `message`.
-    let mut blocks = BlockContext::new(algorithm);
-    let rest = blocks.update(message, meter);
-    blocks.try_finish(rest, meter)
-}
-
-/// Returns the digest of `message` under `algorithm` (FIPS 180-4, section 6).
-///
-/// Refused where the message is longer than the algorithm's `max_input_len` bytes.
-pub fn digest(algorithm: &Algorithm, message: &[u8]) -> Result<Digest, Unspecified>
-    ensures ok { IfOk result (λ digest. IsDigest digest algorithm.now message.now) }
-    ensures refused { IsErr result ↔ (max_input_len algorithm.now < length message.now) }
-{
-    digest_counted(algorithm, message, &mut Meter::new())
-}

@@ -11,7 +11,7 @@
 //! - [`limits`]: the greatest lengths of outputs and of derived keys.
 //! - [`rand`]: byte sources that the caller implements, and values made of their bytes.
 //! - [`raw`]: contexts and keys as plain numbers.
-//! - [`wide`]: the calls that run several messages or rounds at once, for processors with AVX2.
+//! - [`width`]: how wide the vectors are over which several messages or rounds run at once.
 //! - [`laws`]: facts that relate several calls.
 //!
 //! A call whose name ends in `_counted` does what the call without that ending does, and counts its
@@ -30,6 +30,6 @@ pub mod limits;
 pub mod pbkdf2;
 pub mod rand;
 pub mod raw;
-pub mod wide;
+pub mod width;
 
 pub use ring_core::{bb, bb as constant_time, bits, cost, error, polyfill};

@@ -74,7 +74,8 @@ ghost use Rattle.ring.specs.Pbkdf2.{IsDerived, dk, pbkdf2_digest};
 use crate::digest::vectors::SSE;
 use crate::hmac::Key;
 use crate::limits::{can_derive, can_verify};
-use crate::pbkdf2::parts::{are_rounds, write_rounds};
+use crate::pbkdf2::parts::derive_under;
+use crate::pbkdf2::receiver::{Compared, Written};
 use ring_core::cost::Meter;
 use ring_core::error::Unspecified;
 use std::num::NonZeroU32;
@@ -86,16 +87,22 @@ pub(crate) mod iterates;
 pub(crate) mod jobs;
 pub(crate) mod keys;
 pub(crate) mod parts;
+pub(crate) mod receiver;
+pub(crate) mod several;
 
 pub use crate::pbkdf2::algorithm::{
     Algorithm, PBKDF2_HMAC_SHA1, PBKDF2_HMAC_SHA256, PBKDF2_HMAC_SHA384, PBKDF2_HMAC_SHA512,
     constants_are_based_on_their_digests,
 };
-pub use crate::pbkdf2::each_derived::{derive_each, derive_each_counted};
-pub use crate::pbkdf2::each_verified::{verify_each, verify_each_counted};
+pub use crate::pbkdf2::each_derived::{derive_each, derive_each_counted, derive_each_in};
+pub use crate::pbkdf2::each_verified::{verify_each, verify_each_counted, verify_each_in};
 
-// Derives a key as `derive_counted` does, over vectors of so many bits.
-pub(crate) fn derive_in<const BITS: usize>(
+/// Derives a key from `secret` and `salt` in `iterations` iterations under `algorithm`, and writes
+/// it to the whole of `out`, as [`derive`] does (RFC 2898, section 5.2), over vectors of `BITS`
+/// bits. Its blocks are counted on `meter`.
+///
+/// Refused as [`derive`] is. `out` and `meter` are then as they were.
+pub fn derive_in<const BITS: usize>(
     algorithm: Algorithm,
     iterations: NonZeroU32,
     salt: &[u8],
@@ -122,7 +129,8 @@ pub(crate) fn derive_in<const BITS: usize>(
         return Err(Unspecified);
     }
     let key = Key::new_counted(hmac_algorithm, secret, meter)?;
-    write_rounds::<BITS>(&key, iterations, salt, out, meter);
+    let len = out.len();
+    derive_under::<BITS, Written>(&key, iterations, salt, len, 0, &mut Written { out }, meter);
     Ok(())
 }
 
@@ -180,8 +188,12 @@ pub fn derive(
     derive_counted(algorithm, iterations, salt, secret, out, &mut Meter::new())
 }
 
-// Tests a value as `verify_counted` does, over vectors of so many bits.
-pub(crate) fn verify_in<const BITS: usize>(
+/// Returns Ok exactly if [`verify`] does with the same `algorithm`, `iterations`, `salt`, `secret`
+/// and `previously_derived` (RFC 2898, section 5.2), over vectors of `BITS` bits. The blocks and
+/// the compared pairs of bytes are counted on `meter`.
+///
+/// Refused as [`verify`] is. Where a length is refused, `meter` is as it was.
+pub fn verify_in<const BITS: usize>(
     algorithm: Algorithm,
     iterations: NonZeroU32,
     salt: &[u8],
@@ -211,11 +223,13 @@ pub(crate) fn verify_in<const BITS: usize>(
         return Err(Unspecified);
     }
     let key = Key::new_counted(hmac_algorithm, secret, meter)?;
-    if are_rounds::<BITS>(&key, iterations, salt, previously_derived, meter) {
-        Ok(())
-    } else {
-        Err(Unspecified)
-    }
+    let len = previously_derived.len();
+    let mut compared = Compared {
+        value: previously_derived,
+        matches: true,
+    };
+    derive_under::<BITS, Compared>(&key, iterations, salt, len, 0, &mut compared, meter);
+    compared.matches.then_some(()).ok_or(Unspecified)
 }
 
 /// Tests a value as [`verify`] does, and counts the blocks and the compared pairs of bytes on

@@ -8,12 +8,14 @@ ghost use Rattle.ring_c.specs.Number.{pbkdf2_named};
 
 use crate::number::pbkdf2_of_number;
 use crate::status::{NO_ITERATIONS, OK, UNKNOWN_ALGORITHM, UNSPECIFIED, WRONG_LENGTH};
-use crate::width::{Usual, Wide, Width};
+use ring::cost::Meter;
 use ring::limits::max_dk_len;
+use ring::pbkdf2;
+use ring::width::{AVX2, SSE};
 use std::num::NonZeroU32;
 
-// What `yz_pbkdf2_derive` and `yz_pbkdf2_derive_wide` promise, at the width of each.
-fn derive<W: Width>(
+// What `yz_pbkdf2_derive` and `yz_pbkdf2_derive_wide` promise, over vectors of so many bits.
+fn derive<const BITS: usize>(
     algorithm: u32,
     iterations: u32,
     salt: &[u8],
@@ -44,7 +46,8 @@ fn derive<W: Width>(
     let Some(iterations) = NonZeroU32::new(iterations) else {
         return NO_ITERATIONS;
     };
-    match W::derive(algorithm, iterations, salt, secret, out) {
+    let mut meter = Meter::new();
+    match pbkdf2::derive_in::<BITS>(algorithm, iterations, salt, secret, out, &mut meter) {
         Ok(()) => OK,
         Err(_) => UNSPECIFIED,
     }
@@ -79,7 +82,7 @@ pub extern "C" fn yz_pbkdf2_derive(
         → length out.old ≤ max_dk_len (pbkdf2_digest a) → result ≢ OK → result ≡ UNSPECIFIED }
     ensures unchanged { result ≢ OK → out.new ≡ out.old }
 {
-    derive::<Usual>(algorithm, iterations, salt, secret, out)
+    derive::<SSE>(algorithm, iterations, salt, secret, out)
 }
 
 /// Fills `out` as [`yz_pbkdf2_derive`] does from the same `algorithm`, `iterations`, `salt` and
@@ -109,11 +112,11 @@ pub extern "C" fn yz_pbkdf2_derive_wide(
         → length out.old ≤ max_dk_len (pbkdf2_digest a) → result ≢ OK → result ≡ UNSPECIFIED }
     ensures unchanged { result ≢ OK → out.new ≡ out.old }
 {
-    derive::<Wide>(algorithm, iterations, salt, secret, out)
+    derive::<AVX2>(algorithm, iterations, salt, secret, out)
 }
 
-// What `yz_pbkdf2_verify` and `yz_pbkdf2_verify_wide` promise, at the width of each.
-fn verify<W: Width>(
+// What `yz_pbkdf2_verify` and `yz_pbkdf2_verify_wide` promise, over vectors of so many bits.
+fn verify<const BITS: usize>(
     algorithm: u32,
     iterations: u32,
     salt: &[u8],
@@ -135,7 +138,8 @@ fn verify<W: Width>(
     let Some(iterations) = NonZeroU32::new(iterations) else {
         return NO_ITERATIONS;
     };
-    match W::verify(algorithm, iterations, salt, secret, derived) {
+    let mut meter = Meter::new();
+    match pbkdf2::verify_in::<BITS>(algorithm, iterations, salt, secret, derived, &mut meter) {
         Ok(()) => OK,
         Err(_) => UNSPECIFIED,
     }
@@ -164,7 +168,7 @@ pub extern "C" fn yz_pbkdf2_verify(
     ensures told { (a : Algorithm) → pbkdf2_named algorithm ≡ Some a → 0 < iterations
         → result ≢ OK → result ≡ UNSPECIFIED }
 {
-    verify::<Usual>(algorithm, iterations, salt, secret, derived)
+    verify::<SSE>(algorithm, iterations, salt, secret, derived)
 }
 
 /// Tests `derived` as [`yz_pbkdf2_verify`] does by the same `algorithm`, `iterations`, `salt` and
@@ -188,5 +192,5 @@ pub extern "C" fn yz_pbkdf2_verify_wide(
     ensures told { (a : Algorithm) → pbkdf2_named algorithm ≡ Some a → 0 < iterations
         → result ≢ OK → result ≡ UNSPECIFIED }
 {
-    verify::<Wide>(algorithm, iterations, salt, secret, derived)
+    verify::<AVX2>(algorithm, iterations, salt, secret, derived)
 }

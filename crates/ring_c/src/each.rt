@@ -9,10 +9,11 @@ ghost use Rattle.ring.specs.declared.digest.algorithm.Algorithm.{Algorithm};
 ghost use Rattle.ring_c.specs.Each.{bytes_of_each, digests_of};
 
 use crate::status::{OK, UNKNOWN_ALGORITHM, UNSPECIFIED, WRONG_LENGTH};
-use crate::width::{Usual, Wide, Width};
+use ring::cost::Meter;
 use ring::digest::{self, Algorithm, Digest};
 use ring::polyfill::slice::write_at;
 use ring::raw::digest_of_number;
+use ring::width::{AVX2, SSE};
 
 // How many digests are held at a time: some groups of as many as run side by side.
 const GROUP: usize = 16;
@@ -70,7 +71,7 @@ fn write_digests(digests: &[Digest], out: &mut [u8], at: usize) -> usize
 }
 
 // Writes the digests of the messages to `out`, a group at a time.
-fn write_each<W: Width>(algorithm: &Algorithm, messages: &[&[u8]], out: &mut [u8])
+fn write_each<const BITS: usize>(algorithm: &Algorithm, messages: &[&[u8]], out: &mut [u8])
     requires within { CanDigestEach algorithm.now messages.now (length messages.now) }
     requires room { length out.old ≡ length messages.now * output_len algorithm.now }
     ensures { out.new ≡ digests_of algorithm.now messages.now }
@@ -81,7 +82,8 @@ fn write_each<W: Width>(algorithm: &Algorithm, messages: &[&[u8]], out: &mut [u8
     'groups: while made < messages.len() {
         let count = GROUP.min(messages.len() - made);
         let digests = &mut group[..count];
-        match W::digest_each(algorithm, &messages[made..made + count], digests) {
+        let messages = &messages[made..made + count];
+        match digest::digest_each_in::<BITS>(algorithm, messages, digests, &mut Meter::new()) {
             Ok(()) => {}
             // There is a place a message, and each is within the limit.
             Err(_) => unreachable!(),
@@ -91,8 +93,8 @@ fn write_each<W: Width>(algorithm: &Algorithm, messages: &[&[u8]], out: &mut [u8
     }
 }
 
-// What `yz_digest_each` and `yz_digest_each_wide` promise, at the width of each.
-fn digest_each<W: Width>(algorithm: u32, messages: &[&[u8]], out: &mut [u8]) -> i32
+// What `yz_digest_each` and `yz_digest_each_wide` promise, over vectors of so many bits.
+fn digest_each<const BITS: usize>(algorithm: u32, messages: &[&[u8]], out: &mut [u8]) -> i32
     ensures ok { (a : Algorithm) → digest_named algorithm ≡ Some a → result ≡ OK
         → out.new ≡ digests_of a messages.now }
     ensures unknown { result ≡ UNKNOWN_ALGORITHM ↔ digest_named algorithm ≡ None }
@@ -112,7 +114,7 @@ fn digest_each<W: Width>(algorithm: u32, messages: &[&[u8]], out: &mut [u8]) -> 
     };
     let status = status_of_lengths(&algorithm, messages, out.len());
     if status == OK {
-        write_each::<W>(&algorithm, messages, out);
+        write_each::<BITS>(&algorithm, messages, out);
     }
     status
 }
@@ -138,7 +140,7 @@ pub extern "C" fn yz_digest_each(algorithm: u32, messages: &[&[u8]], out: &mut [
         → result ≡ UNSPECIFIED }
     ensures unchanged { result ≢ OK → out.new ≡ out.old }
 {
-    digest_each::<Usual>(algorithm, messages, out)
+    digest_each::<SSE>(algorithm, messages, out)
 }
 
 /// Writes the digests of `messages` to `out` as [`yz_digest_each`] does by the same `algorithm`
@@ -161,5 +163,5 @@ pub extern "C" fn yz_digest_each_wide(algorithm: u32, messages: &[&[u8]], out: &
         → result ≡ UNSPECIFIED }
     ensures unchanged { result ≢ OK → out.new ≡ out.old }
 {
-    digest_each::<Wide>(algorithm, messages, out)
+    digest_each::<AVX2>(algorithm, messages, out)
 }

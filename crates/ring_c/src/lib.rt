@@ -20,4 +20,3 @@ mod number;
 mod status;
 mod tags;
 mod version;
-mod width;

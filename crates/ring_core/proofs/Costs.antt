@@ -9,32 +9,22 @@ raised_count-none n = omega arith
 raised_count-more : (n a b : ℕ) → raised_count (raised_count n a) b ≡ raised_count n (a + b)
 raised_count-more n a b = omega arith
 
--- counts that are each raised
-pub raised_from : (c d : Counts) (blocks pairs : ℕ)
-    → d.blocks ≡ raised_count c.blocks blocks → d.byte_pairs ≡ raised_count c.byte_pairs pairs
-    → d ≡ raised c blocks pairs
-unfolding raised
-raised_from c d blocks pairs b p = rw (← b, ← p) refl
-
 -- a rise by nothing
 pub raised-none : (c : Counts) → c ≡ raised c 0 0
-raised-none c = raised_from c c 0 0 (raised_count-none c.blocks) (raised_count-none c.byte_pairs)
-
-raised_blocks : (c : Counts) (a p : ℕ) → (raised c a p).blocks ≡ raised_count c.blocks a
 unfolding raised
-raised_blocks c a p = refl
-
-raised_byte_pairs : (c : Counts) (a p : ℕ) → (raised c a p).byte_pairs ≡ raised_count c.byte_pairs p
-unfolding raised
-raised_byte_pairs c a p = refl
+raised-none c = λ i. record {
+  blocks = raised_count-none c.blocks i;
+  byte_pairs = raised_count-none c.byte_pairs i;
+}
 
 -- one rise after another
 pub raised-raised : (c : Counts) (a p b q : ℕ)
     → raised (raised c a p) b q ≡ raised c (a + b) (p + q)
-raised-raised c a p b q =
-    raised_from c (raised (raised c a p) b q) (a + b) (p + q)
-    (rw (raised_blocks (raised c a p) b q, raised_blocks c a p, raised_count-more) refl)
-    (rw (raised_byte_pairs (raised c a p) b q, raised_byte_pairs c a p, raised_count-more) refl)
+unfolding raised
+raised-raised c a p b q = λ i. record {
+  blocks = raised_count-more c.blocks a b i;
+  byte_pairs = raised_count-more c.byte_pairs p q i;
+}
 
 -- a meter that was raised by so many blocks shows as many more, where it has room for them
 pub counted : (m0 m1 : Counts) (blocks pairs : ℕ) → m1 ≡ raised m0 blocks pairs

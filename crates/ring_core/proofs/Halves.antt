@@ -3,7 +3,6 @@ use Rattle.std.proofs.Common.{◌≡◌, ℕ, zero, suc, ◌+◌, ◌*◌, ◌/�
 use Rattle.std.proofs.Common.{length, slice_index, map, refl, sym, ap, ◌∙◌, arith}
 use Rattle.std.proofs.Math.Nat.{mod-eq_of_lt, mod-one, pow-suc, one-le-pow}
 use Rattle.std.proofs.lemmas.Nat.{xor_mod}
-use Rattle.std.proofs.Math.ListN.{get_or-map as get_or_default-map}
 use Rattle.std.specs.Simd.Lanes.{number_l, digits_l, zip2}
 use Rattle.ring_core.specs.Word.{◌⊕◌, low_32}
 use lib.Arith.{mod-mul}
@@ -60,10 +59,6 @@ two_slots (x ∷ y ∷ []) e =
 two_slots [] e = absurd (omega (arith, ap length e))
 two_slots (x ∷ []) e = absurd (omega (arith, ap length e))
 two_slots (x ∷ y ∷ z ∷ r) e = absurd (omega (arith, ap length e))
-
--- the word of one slot of a list
-pub low_read : (xs : List ℕ) (i : ℕ) → low_32 (slice_index xs i) ≡ slice_index (map low_32 xs) i
-low_read xs i = sym (get_or_default-map low_32 xs i 0)
 
 -- two slots added
 abbrev plus : ℕ → ℕ → ℕ

@@ -1,5 +1,5 @@
 -- Vectors of two lanes, and the order of sums in them.
-use Rattle.std.proofs.Common.{◌≡◌, ℕ, ◌+◌, ◌%◌, ◌^◌, ◌<◌, List, [], ◌∷◌, length, slice_index, map}
+use Rattle.std.proofs.Common.{◌≡◌, ℕ, ◌+◌, ◌%◌, ◌^◌, ◌<◌, List, [], ◌∷◌, length, slice_index}
 use Rattle.std.proofs.Common.{refl, ap, arith}
 use Rattle.std.proofs.Math.Facts.{Fits-lt-pow}
 use Rattle.std.proofs.Math.Nat.{add-mod-mod, mod-add-mod}
@@ -27,11 +27,9 @@ two_lanes (a ∷ b ∷ []) (two, fits) =
     }
 two_lanes _ (two, fits) = absurd (omega arith)
 
--- a function of each of two lanes
-pub lanes_read : (f : ℕ → ℕ) (x : List ℕ) → length x ≡ 2
-    → map f x ≡ f (slice_index x 0) ∷ f (slice_index x 1) ∷ []
-lanes_read f (a ∷ b ∷ []) two = refl
-lanes_read f _ two = absurd (omega arith)
+-- lists of two that are the same, item by item
+pub same_two : {a b c d : ℕ} → a ∷ b ∷ [] ≡ c ∷ d ∷ [] → (a ≡ c) × (b ≡ d)
+same_two e = (ap (λ (l : List ℕ). slice_index l 0) e, ap (λ (l : List ℕ). slice_index l 1) e)
 
 -- four numbers added from the last or from the first
 pub sum_from_last : (n a b c d : ℕ)

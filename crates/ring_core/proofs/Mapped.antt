@@ -1,25 +1,16 @@
 -- The numbers of a list of words, read and written.
-use Rattle.std.proofs.Common.{◌≡◌, ℕ, ◌+◌, ◌-◌, ◌≤◌, List, [], ◌∷◌, ◌++◌, drop, length, take}
-use Rattle.std.proofs.Common.{slice_index, map, refl, sym}
+use Rattle.std.proofs.Common.{◌≡◌, ℕ, ◌+◌, ◌-◌, ◌≤◌, List, ◌++◌, drop, length, take}
+use Rattle.std.proofs.Common.{slice_index, map, sym}
 use Rattle.std.proofs.Common.{ap, ◌∙◌, arith, nat_lt, true}
 use Rattle.std.proofs.lemmas.List.{get_or-append_right, get_or-drop, length-take-le}
 use Rattle.std.proofs.lemmas.List.{get_or-map}
 use Rattle.std.proofs.lemmas.Bool.{ltb-true}
-use Rattle.std.proofs.Math.ListN.{get_or, length-map}
+use Rattle.std.proofs.Math.ListN.{get_or}
 
 -- the number of a word that was read from n of them
 pub value_read : {X : Type 0} (f : X → ℕ) (xs : List X) (n : ℕ) → length xs ≡ n → (i : ℕ) (x : X)
     → nat_lt i n ≡ true → f (get_or xs i x) ≡ slice_index (map f xs) i
 value_read f xs n len i x below = sym (get_or-map f xs i x 0 (rw len (ltb-true i n below)))
-
--- the two words of a list, of which the numbers are known
-pub values_of_two : {X : Type 0} {m n : ℕ} (f : X → ℕ) (xs : List X) (x y : X)
-    → map f xs ≡ m ∷ n ∷ [] → (f (get_or xs 0 x) ≡ m) × (f (get_or xs 1 y) ≡ n)
-values_of_two f xs x y are =
-    let two : length xs ≡ 2 = sym (length-map xs f) ∙ ap length are in (
-      value_read f xs 2 two 0 x refl ∙ ap (λ (l : List ℕ). slice_index l 0) are,
-      value_read f xs 2 two 1 y refl ∙ ap (λ (l : List ℕ). slice_index l 1) are,
-    )
 
 -- an item past the front of a list that is put before the rest of another
 pub past_front : (n t : ℕ) (xs ys : List ℕ) → n ≤ length xs → n ≤ t

@@ -1,5 +1,5 @@
 -- The steps of SHA-1's definitions.
-use Rattle.std.proofs.Common.{◌≡◌, ℕ, ◌+◌, ◌-◌, ◌<◌, ◌≤◌, List, [], ◌∷◌, length, refl}
+use Rattle.std.proofs.Common.{◌≡◌, ℕ, ◌+◌, ◌-◌, ◌<◌, ◌≤◌, List, length, refl}
 use Rattle.std.proofs.Common.{ap, sym, ◌∙◌, add-one, arith, nat_lt, true, false}
 use Rattle.ring_core.specs.Schedule.{IsRing}
 use Rattle.ring_core.specs.Sha1.{W, add_state, block_step, next_word, round, rounds_from, scheduled}
@@ -33,15 +33,16 @@ W-next b t h =
 
 -- a word and the next, each from the words before it
 pub W-next_two : (b : List ℕ) (t : ℕ) → 16 ≤ t
-    → scheduled (W b (t - 3)) (W b (t - 8)) (W b (t - 14)) (W b (t - 16))
-    ∷ scheduled (W b (t - 3 + 1)) (W b (t - 8 + 1)) (W b (t - 14 + 1)) (W b (t - 16 + 1)) ∷ []
-    ≡ W b t ∷ W b (t + 1) ∷ []
+    → (scheduled (W b (t - 3)) (W b (t - 8)) (W b (t - 14)) (W b (t - 16)) ≡ W b t)
+    × (scheduled (W b (t - 3 + 1)) (W b (t - 8 + 1)) (W b (t - 14 + 1)) (W b (t - 16 + 1))
+    ≡ W b (t + 1))
 W-next_two b t h =
     let three : t - 3 + 1 ≡ t + 1 - 3 = omega arith in
     let eight : t - 8 + 1 ≡ t + 1 - 8 = omega arith in
     let fourteen : t - 14 + 1 ≡ t + 1 - 14 = omega arith in
     let sixteen : t - 16 + 1 ≡ t + 1 - 16 = omega arith in
-    rw (three, eight, fourteen, sixteen, ← W-next b t h, ← W-next b (t + 1) (omega arith)) refl
+    let next = W-next b (t + 1) (omega arith) in
+    (sym (W-next b t h), rw (three, eight, fourteen, sixteen) (sym next))
 
 pub rounds-next : (h b : List ℕ) (t : ℕ)
     → rounds_from h b (t + 1) ≡ round (rounds_from h b t) t (W b t)

@@ -1,5 +1,5 @@
 -- The steps of SHA-2's definitions.
-use Rattle.std.proofs.Common.{◌≡◌, ◌⊎◌, ℕ, ◌+◌, ◌-◌, ◌*◌, ◌/◌, ◌<◌, ◌≤◌, List, [], ◌∷◌, length}
+use Rattle.std.proofs.Common.{◌≡◌, ◌⊎◌, ℕ, ◌+◌, ◌-◌, ◌*◌, ◌/◌, ◌<◌, ◌≤◌, List, length}
 use Rattle.std.proofs.Common.{slice_index, refl, sym, ap, ◌∙◌, add-one, arith, inl, inr}
 use Rattle.std.proofs.Common.{nat_lt, true, false}
 use Rattle.ring_core.specs.Schedule.{IsRing}
@@ -37,16 +37,16 @@ W-next f b t h =
 
 -- a word and the next, each from the words before it
 pub W-next_two : (f : Family) (b : List ℕ) (t : ℕ) → 16 ≤ t
-    → scheduled f (W f b (t - 2)) (W f b (t - 7)) (W f b (t - 15)) (W f b (t - 16))
-    ∷ scheduled f (W f b (t - 2 + 1)) (W f b (t - 7 + 1)) (W f b (t - 15 + 1)) (W f b (t - 16 + 1))
-    ∷ []
-    ≡ W f b t ∷ W f b (t + 1) ∷ []
+    → (scheduled f (W f b (t - 2)) (W f b (t - 7)) (W f b (t - 15)) (W f b (t - 16)) ≡ W f b t)
+    × (scheduled f (W f b (t - 2 + 1)) (W f b (t - 7 + 1)) (W f b (t - 15 + 1))
+    (W f b (t - 16 + 1)) ≡ W f b (t + 1))
 W-next_two f b t h =
     let two : t - 2 + 1 ≡ t + 1 - 2 = omega arith in
     let seven : t - 7 + 1 ≡ t + 1 - 7 = omega arith in
     let fifteen : t - 15 + 1 ≡ t + 1 - 15 = omega arith in
     let sixteen : t - 16 + 1 ≡ t + 1 - 16 = omega arith in
-    rw (two, seven, fifteen, sixteen, ← W-next f b t h, ← W-next f b (t + 1) (omega arith)) refl
+    let next = W-next f b (t + 1) (omega arith) in
+    (sym (W-next f b t h), rw (two, seven, fifteen, sixteen) (sym next))
 
 pub rounds-next : (f : Family) (h b : List ℕ) (t : ℕ)
     → rounds_from f h b (t + 1)

@@ -64,6 +64,7 @@ impl Meter {
     }
 
     // One block more.
+    #[tactic(auto, unfolding(crate::specs::Cost::raised))]
     pub(crate) fn add_block(&mut self)
         ensures { self.new ≡ raised self.old 1 0 }
     {
@@ -71,6 +72,7 @@ impl Meter {
     }
 
     // So many blocks more.
+    #[tactic(auto, unfolding(crate::specs::Cost::raised))]
     pub(crate) fn add_blocks(&mut self, count: usize)
         ensures { self.new ≡ raised self.old count 0 }
     {
@@ -78,6 +80,7 @@ impl Meter {
     }
 
     // One pair of bytes more.
+    #[tactic(auto, unfolding(crate::specs::Cost::raised))]
     pub(crate) fn add_byte_pair(&mut self)
         ensures { self.new ≡ raised self.old 0 1 }
     {

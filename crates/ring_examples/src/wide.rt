@@ -7,10 +7,11 @@ ghost use Rattle.ring.specs.Each.{AreDigests, CanDigestEach};
 ghost use Rattle.ring.specs.Limits.{CanDerive};
 ghost use Rattle.ring.specs.Pbkdf2.{IsDerived, dk};
 
-use ring::digest::{Algorithm, Digest, SHA256, SHA256_OUTPUT_LEN, digest};
+use ring::cost::Meter;
+use ring::digest::{Algorithm, Digest, SHA256, SHA256_OUTPUT_LEN, digest, digest_each_in};
 use ring::error::Unspecified;
-use ring::pbkdf2::PBKDF2_HMAC_SHA256;
-use ring::wide;
+use ring::pbkdf2::{PBKDF2_HMAC_SHA256, derive_each_in, derive_in, verify_each_in, verify_in};
+use ring::width::AVX2;
 use std::num::NonZeroU32;
 
 /// The digests of eight messages, computed side by side.
@@ -22,7 +23,7 @@ pub fn digests_of_eight(
     ensures refused { IsOk result ↔ CanDigestEach algorithm.now messages.now 8 }
 {
     let mut digests = [digest(algorithm, &[])?; 8];
-    wide::digest_each(algorithm, messages, &mut digests)?;
+    digest_each_in::<AVX2>(algorithm, messages, &mut digests, &mut Meter::new())?;
     Ok(digests)
 }
 
@@ -41,7 +42,14 @@ pub fn long_key_of(
         ↔ CanDerive SHA256 (length password.now) (length salt.now) 256 }
 {
     let mut key = [0; LONG_KEY_LEN];
-    wide::derive(PBKDF2_HMAC_SHA256, iterations, salt, password, &mut key)?;
+    derive_in::<AVX2>(
+        PBKDF2_HMAC_SHA256,
+        iterations,
+        salt,
+        password,
+        &mut key,
+        &mut Meter::new(),
+    )?;
     Ok(key)
 }
 
@@ -55,7 +63,14 @@ pub fn verify_long_key(
     ensures ok { IsOk result
         ↔ IsDerived SHA256 password.now salt.now (non_zero_u32_get iterations) key.now }
 {
-    wide::verify(PBKDF2_HMAC_SHA256, iterations, salt, password, key)
+    verify_in::<AVX2>(
+        PBKDF2_HMAC_SHA256,
+        iterations,
+        salt,
+        password,
+        key,
+        &mut Meter::new(),
+    )
 }
 
 /// What a login stores of eight passwords, derived side by side.
@@ -69,12 +84,13 @@ pub fn stored_of_eight(
     ensures refused { IsOk result ↔ CanDeriveEach SHA256 salts.now passwords.now 8 32 }
 {
     let mut stored = [[0; SHA256_OUTPUT_LEN]; 8];
-    wide::derive_each(
+    derive_each_in::<AVX2, SHA256_OUTPUT_LEN>(
         PBKDF2_HMAC_SHA256,
         iterations,
         salts,
         passwords,
         &mut stored,
+        &mut Meter::new(),
     )?;
     Ok(stored)
 }
@@ -91,13 +107,14 @@ pub fn verify_eight(
     ensures refused { IsOk result ↔ CanVerifyEach SHA256 salts.now passwords.now stored.now 8 32 }
 {
     let mut matches = [false; 8];
-    wide::verify_each(
+    verify_each_in::<AVX2, SHA256_OUTPUT_LEN>(
         PBKDF2_HMAC_SHA256,
         iterations,
         salts,
         passwords,
         stored,
         &mut matches,
+        &mut Meter::new(),
     )?;
     Ok(matches)
 }

@@ -6,9 +6,9 @@ use ring::digest::{SHA256, digest};
 use ring::error::Unspecified;
 use ring::pbkdf2::{
     Algorithm, PBKDF2_HMAC_SHA1, PBKDF2_HMAC_SHA256, PBKDF2_HMAC_SHA384, PBKDF2_HMAC_SHA512,
-    derive, derive_counted, verify_counted,
+    derive, derive_counted, derive_in, verify_counted, verify_in,
 };
-use ring::wide;
+use ring::width::AVX2;
 use std::num::NonZeroU32;
 
 const SECRET: &[u8] = b"password";
@@ -85,16 +85,22 @@ const OF_LONG: [(Algorithm, &str); 4] = [
     ),
 ];
 
-// Whether a long value is verified over wide vectors, and refused where a byte of it differs.
+// Whether a long value is verified over wide vectors.
+fn is_verified_wide(algorithm: Algorithm, iterations: NonZeroU32, value: &[u8; LONG]) -> bool {
+    let mut meter = Meter::new();
+    verify_in::<AVX2>(algorithm, iterations, SALT, SECRET, value, &mut meter).is_ok()
+}
+
+// Whether that is so, and it is refused where a byte of it differs.
 fn is_told_apart(algorithm: Algorithm, iterations: NonZeroU32, value: &[u8; LONG]) -> bool {
     for place in [0, 159, 160, 256, 511, 512, 640, 699] {
         let mut wrong = *value;
         wrong[place] ^= 1;
-        if wide::verify(algorithm, iterations, SALT, SECRET, &wrong).is_ok() {
+        if is_verified_wide(algorithm, iterations, &wrong) {
             return false;
         }
     }
-    wide::verify(algorithm, iterations, SALT, SECRET, value).is_ok()
+    is_verified_wide(algorithm, iterations, value)
 }
 
 #[test]
@@ -104,7 +110,8 @@ fn long_values_over_vectors_of_both_widths(rt: HostRuntime) -> Result<(), Unspec
         let mut value = [0; LONG];
         derive(algorithm, three, SALT, SECRET, &mut value)?;
         let mut wide_value = [0; LONG];
-        wide::derive(algorithm, three, SALT, SECRET, &mut wide_value)?;
+        let mut meter = Meter::new();
+        derive_in::<AVX2>(algorithm, three, SALT, SECRET, &mut wide_value, &mut meter)?;
         assert!(rt;
             is_hex_of(expected, digest(&SHA256, &value)?.as_ref())
                 && value == wide_value

@@ -9,9 +9,9 @@ use ring::digest::{Context, Digest, SHA256};
 use ring::error::Unspecified;
 use ring::pbkdf2::{
     Algorithm, PBKDF2_HMAC_SHA1, PBKDF2_HMAC_SHA256, PBKDF2_HMAC_SHA384, PBKDF2_HMAC_SHA512,
-    derive_each, verify_each_counted,
+    derive_each, derive_each_in, verify_each_counted, verify_each_in,
 };
-use ring::wide;
+use ring::width::AVX2;
 use std::num::NonZeroU32;
 
 const ALGORITHMS: [Algorithm; 4] = [
@@ -121,12 +121,13 @@ fn keys_of<const N: usize>(
         &mut keys[..count],
     )?;
     let mut wide_keys = [[0; N]; MOST];
-    wide::derive_each(
+    derive_each_in::<AVX2, N>(
         algorithm,
         three,
         &salts[..count],
         &secrets[..count],
         &mut wide_keys[..count],
+        &mut Meter::new(),
     )?;
     if are_same(&keys, &wide_keys) {
         Ok(keys)
@@ -253,15 +254,18 @@ fn answers_for<const N: usize>(
         &mut meter,
     )?;
     let mut wide_matches = [false; MOST];
-    wide::verify_each(
+    let mut wide_meter = Meter::new();
+    verify_each_in::<AVX2, N>(
         algorithm,
         three,
         &salts_of(&bytes)[..count],
         &secrets_of(&bytes)[..count],
         &values[..count],
         &mut wide_matches[..count],
+        &mut wide_meter,
     )?;
-    if matches == wide_matches {
+    let is_same_cost = meter.blocks() == wide_meter.blocks();
+    if matches == wide_matches && is_same_cost && meter.byte_pairs() == wide_meter.byte_pairs() {
         Ok((matches, meter.blocks(), meter.byte_pairs()))
     } else {
         Err(Unspecified)

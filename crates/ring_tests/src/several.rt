@@ -5,10 +5,10 @@ use crate::messages::{counting_bytes, padded_blocks};
 use ring::cost::Meter;
 use ring::digest::{
     Algorithm, Digest, SHA1_FOR_LEGACY_USE_ONLY, SHA256, SHA384, SHA512, SHA512_256, digest,
-    digest_each_counted,
+    digest_each_counted, digest_each_in,
 };
 use ring::error::Unspecified;
-use ring::wide;
+use ring::width::AVX2;
 
 const ALGORITHMS: [Algorithm; 5] = [SHA1_FOR_LEGACY_USE_ONLY, SHA256, SHA384, SHA512, SHA512_256];
 
@@ -57,8 +57,9 @@ fn agrees(
         return Ok(false);
     }
     digests.fill(digest(&algorithm, b"in the place of each")?);
-    wide::digest_each(&algorithm, messages, digests)?;
-    Ok(are_of_others(algorithm, messages, digests))
+    let mut wide_meter = Meter::new();
+    digest_each_in::<AVX2>(&algorithm, messages, digests, &mut wide_meter)?;
+    Ok(are_of_others(algorithm, messages, digests) && wide_meter.blocks() == meter.blocks())
 }
 
 // The same of four messages whose lengths lie so far apart, at every length in every place.

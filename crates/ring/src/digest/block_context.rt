@@ -124,6 +124,7 @@ impl BlockContext {
     }
 
     // Runs the whole blocks of `input`, and returns the bytes past them.
+    #[tactic(auto, using(crate::proofs::Blocks::moved_front))]
     pub(crate) fn update<'i>(&mut self, input: &'i [u8], meter: &mut Meter) -> &'i [u8]
         ensures moved { HasMoved (block_len (block_algorithm self.old)) self.old self.new
             input.now result.now meter.old meter.new }

@@ -9,8 +9,7 @@ ghost use Rattle.ring.specs.declared.digest.algorithm.Algorithm.{Algorithm};
 
 use crate::digest::side_by_side::lane_digests::{Sha1, Sha256};
 use crate::digest::side_by_side::lane_states::LaneStates;
-use crate::digest::side_by_side::long_lanes::LongIn;
-use crate::digest::side_by_side::short_lanes::ShortIn;
+use crate::digest::side_by_side::vector_states::InVector;
 use ring_core::cost::Meter;
 use ring_core::digest::sha1::sha1_block_data_order_lanes_counted;
 use ring_core::digest::sha2::block_data_order_lanes_counted;
@@ -41,7 +40,7 @@ pub(crate) trait RunBlocks<const N: usize>: LaneStates {
     ghost sized: { (a : Algorithm) → is_of a → word_len a ≡ Self.word_len };
 }
 
-impl<V: Vector<One = Wrapping<u32>>> RunBlocks<64> for ShortIn<V, Sha1> {
+impl<V: Vector<One = Wrapping<u32>>> RunBlocks<64> for InVector<V, Sha1> {
     ghost use Rattle.ring.specs.declared.digest.algorithm.TheConstants.{SHA1_FOR_LEGACY_USE_ONLY};
 
     ghost is_of = { λ a. a ≡ SHA1_FOR_LEGACY_USE_ONLY };
@@ -59,7 +58,7 @@ impl<V: Vector<One = Wrapping<u32>>> RunBlocks<64> for ShortIn<V, Sha1> {
     ghost sized = { λ a is. ap word_len is };
 }
 
-impl<V: Vector<One = Wrapping<u32>>> RunBlocks<64> for ShortIn<V, Sha256> {
+impl<V: Vector<One = Wrapping<u32>>> RunBlocks<64> for InVector<V, Sha256> {
     ghost use Rattle.ring.specs.declared.digest.algorithm.TheConstants.{SHA256};
 
     ghost is_of = { λ a. a ≡ SHA256 };
@@ -78,7 +77,7 @@ impl<V: Vector<One = Wrapping<u32>>> RunBlocks<64> for ShortIn<V, Sha256> {
 }
 
 // One block function serves the three algorithms of 64-bit words.
-impl<V: Vector<One = Wrapping<u64>>, A> RunBlocks<128> for LongIn<V, A> {
+impl<V: Vector<One = Wrapping<u64>>, A> RunBlocks<128> for InVector<V, A> {
     ghost is_of = { λ a. word_len a ≡ 8 };
 
     #[inline(always)]

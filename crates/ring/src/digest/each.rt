@@ -44,8 +44,11 @@ fn write_each<const BITS: usize>(
     }
 }
 
-// Writes the digests as `digest_each_counted` does, over vectors of so many bits.
-pub(crate) fn digest_each_in<const BITS: usize>(
+/// Writes the digests of `messages` under `algorithm` to `out` as [`digest_each`] does (FIPS 180-4,
+/// section 6), over vectors of `BITS` bits, and counts their blocks on `meter`.
+///
+/// Refused as [`digest_each`] is. `out` and `meter` are then as they were.
+pub fn digest_each_in<const BITS: usize>(
     algorithm: &Algorithm,
     messages: &[&[u8]],
     out: &mut [Digest],

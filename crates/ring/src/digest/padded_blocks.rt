@@ -14,10 +14,11 @@ ghost use Rattle.ring.specs.State.{chaining_words, is_state_of, state_word_len, 
 
 use crate::digest::algorithm::Algorithm;
 use crate::digest::block_context::run_blocks;
-use crate::digest::dynstate::{DynState, Output, long_output, short_output};
+use crate::digest::dynstate::{DynState, Output, StateWord, long_output, short_output};
 use crate::digest::padding::{MAX_TAIL_LEN, write_tail};
 use crate::digest::value::Digest;
 use ring_core::cost::Meter;
+use std::num::Wrapping;
 
 // Here `N` is the number of bytes in a block of the algorithm: a constant, so that a copy of a
 // block is a few instructions.
@@ -55,6 +56,7 @@ fn put_tail_block<const N: usize>(
 // Writes a block of the padded message. It is inlined, since calls take a hundredth of the time of
 // SHA-1's blocks.
 #[inline(always)]
+#[tactic(auto, using(crate::proofs::LaneBlocks::chunk_whole))]
 pub(crate) fn put_block<const N: usize>(
     algorithm: Algorithm,
     message: &[u8],
@@ -110,9 +112,9 @@ fn output_of<const N: usize>(state: &DynState) -> Output
         ++ replicate (64 - 8 * state_word_len state.now) 0 }
 {
     if N == 64 {
-        short_output(&state.short_words())
+        short_output(Wrapping::<u32>::words_in(state))
     } else {
-        long_output(&state.long_words())
+        long_output(Wrapping::<u64>::words_in(state))
     }
 }
 

@@ -3,6 +3,5 @@
 pub(crate) mod alone;
 pub(crate) mod lane_digests;
 pub(crate) mod lane_states;
-pub(crate) mod long_lanes;
 mod paddings;
-pub(crate) mod short_lanes;
+pub(crate) mod vector_states;

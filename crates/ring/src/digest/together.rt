@@ -13,33 +13,16 @@ ghost use Rattle.ring.specs.Limits.{IsMessageWithin};
 ghost use Rattle.ring.specs.Padding.{padded};
 
 use crate::digest::algorithm::{Algorithm, AlgorithmId};
-use crate::digest::block_context::BlockContext;
 use crate::digest::block_lanes::RunBlocks;
 use crate::digest::padded_blocks::{blocks_of, finished, put_block};
 use crate::digest::side_by_side::lane_digests::{Sha1, Sha256, Sha512};
 use crate::digest::side_by_side::lane_states::{LaneStates, MAX_LANES};
-use crate::digest::side_by_side::long_lanes::LongIn;
-use crate::digest::side_by_side::short_lanes::ShortIn;
+use crate::digest::side_by_side::vector_states::InVector;
+use crate::digest::single::digest_counted;
 use crate::digest::value::Digest;
 use crate::digest::vectors::AVX2;
 use ring_core::cost::Meter;
 use std::simd::{u32x4, u32x8, u64x4};
-
-// The digest of a message that is within the limit.
-fn digest_within(algorithm: Algorithm, message: &[u8], meter: &mut Meter) -> Digest
-    requires { IsMessageWithin algorithm (length message.now) }
-    ensures ok { IsDigest result algorithm message.now }
-    ensures cost { meter.new
-        ≡ raised meter.old (padded_blocks algorithm (length message.now)) 0 }
-{
-    let mut blocks = BlockContext::new(&algorithm);
-    let rest = blocks.update(message, meter);
-    match blocks.try_finish(rest, meter) {
-        Ok(digest) => digest,
-        // The whole length is within the limit.
-        Err(_) => unreachable!(),
-    }
-}
 
 // The smallest number of blocks of the padded messages.
 fn fewest_blocks<const N: usize>(algorithm: Algorithm, messages: &[&[u8]]) -> usize
@@ -142,22 +125,28 @@ pub(crate) fn write_together<const BITS: usize>(
     ensures cost { meter.new ≡ raised meter.old (each_blocks algorithm messages.now) 0 }
 {
     match (algorithm.id, messages.len()) {
-        (_, 1) => out[0] = digest_within(algorithm, messages[0], meter),
+        (_, 1) => {
+            // Each message is within the limit.
+            let Ok(digest) = digest_counted(&algorithm, messages[0], meter) else {
+                unreachable!()
+            };
+            out[0] = digest;
+        }
         (AlgorithmId::Sha1, 8) if BITS >= AVX2 => {
-            write_in_lanes::<ShortIn<u32x8, Sha1>, 64>(algorithm, messages, out, meter);
+            write_in_lanes::<InVector<u32x8, Sha1>, 64>(algorithm, messages, out, meter);
         }
         (AlgorithmId::Sha256, 8) if BITS >= AVX2 => {
-            write_in_lanes::<ShortIn<u32x8, Sha256>, 64>(algorithm, messages, out, meter);
+            write_in_lanes::<InVector<u32x8, Sha256>, 64>(algorithm, messages, out, meter);
         }
         (AlgorithmId::Sha1, _) => {
-            write_in_lanes::<ShortIn<u32x4, Sha1>, 64>(algorithm, messages, out, meter);
+            write_in_lanes::<InVector<u32x4, Sha1>, 64>(algorithm, messages, out, meter);
         }
         (AlgorithmId::Sha256, _) => {
-            write_in_lanes::<ShortIn<u32x4, Sha256>, 64>(algorithm, messages, out, meter);
+            write_in_lanes::<InVector<u32x4, Sha256>, 64>(algorithm, messages, out, meter);
         }
         // The three algorithms of 64-bit words have one block function.
         _ if BITS >= AVX2 => {
-            write_in_lanes::<LongIn<u64x4, Sha512>, 128>(algorithm, messages, out, meter);
+            write_in_lanes::<InVector<u64x4, Sha512>, 128>(algorithm, messages, out, meter);
         }
         // Words of 64 bits run alone in narrower vectors.
         _ => unreachable!(),

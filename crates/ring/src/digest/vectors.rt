@@ -6,11 +6,14 @@ ghost use Rattle.ring.specs.Lanes.{CanRunTogether};
 use crate::digest::algorithm::Algorithm;
 use crate::digest::dynstate::DynState;
 
-// The bits of a vector with SSE, and with AVX2. A crate can't ask which of them its build has, so a
-// caller names one as a const argument: the linker then drops what the other would run.
-pub(crate) const SSE: usize = 128;
+// A crate can't ask which vectors its build has, so a caller names their bits as a const argument:
+// the linker then drops what the others would run.
 
-pub(crate) const AVX2: usize = 256;
+/// The bits of a vector with SSE, which a build for x86-64-v2 has.
+pub const SSE: usize = 128;
+
+/// The bits of a vector with AVX2, which a build for x86-64-v3 has.
+pub const AVX2: usize = 256;
 
 // How many of those that are left run side by side next: as many as a vector has words. Two words
 // of 64 bits are no faster than one after the other.

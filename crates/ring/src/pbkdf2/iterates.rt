@@ -30,6 +30,7 @@ pub(crate) fn first_iterate(key: &Key, salt: &[u8], number: u32, meter: &mut Met
     context.update_counted(salt, meter);
     context.update_counted(&number.to_be_bytes(), meter);
     let Ok(tag) = context.sign_counted(meter) else {
+        // The salt and the number are within the limit.
         unreachable!()
     };
     tag

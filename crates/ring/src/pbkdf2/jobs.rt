@@ -13,13 +13,12 @@ ghost use Rattle.ring.specs.declared.digest.dynstate.Output.{Output};
 use crate::digest;
 use crate::digest::algorithm::AlgorithmId;
 use crate::digest::dynstate::{DynState, Output};
-use crate::digest::side_by_side::alone::{LongAlone, ShortAlone};
+use crate::digest::side_by_side::alone::Alone;
 use crate::digest::side_by_side::lane_digests::{
     Sha1, Sha256, Sha384, Sha512, Sha512_256, SideBySide,
 };
 use crate::digest::side_by_side::lane_states::{LaneStates, MAX_LANES};
-use crate::digest::side_by_side::long_lanes::LongIn;
-use crate::digest::side_by_side::short_lanes::ShortIn;
+use crate::digest::side_by_side::vector_states::InVector;
 use crate::digest::vectors::AVX2;
 use crate::hmac::Key;
 use crate::pbkdf2::iterates::{bytes_of, first_iterate, xor_iterates};
@@ -123,40 +122,40 @@ pub(crate) fn run_jobs<const BITS: usize>(
 {
     match (algorithm.id, jobs.len()) {
         (AlgorithmId::Sha1, 8) if BITS >= AVX2 => {
-            write_in_lanes::<ShortIn<u32x8, Sha1>>(jobs, iterations, rounds, meter)
+            write_in_lanes::<InVector<u32x8, Sha1>>(jobs, iterations, rounds, meter)
         }
         (AlgorithmId::Sha1, 4) => {
-            write_in_lanes::<ShortIn<u32x4, Sha1>>(jobs, iterations, rounds, meter)
+            write_in_lanes::<InVector<u32x4, Sha1>>(jobs, iterations, rounds, meter)
         }
         (AlgorithmId::Sha1, _) => {
-            write_in_lanes::<ShortAlone<Sha1>>(jobs, iterations, rounds, meter)
+            write_in_lanes::<Alone<Wrapping<u32>, Sha1>>(jobs, iterations, rounds, meter)
         }
         (AlgorithmId::Sha256, 8) if BITS >= AVX2 => {
-            write_in_lanes::<ShortIn<u32x8, Sha256>>(jobs, iterations, rounds, meter)
+            write_in_lanes::<InVector<u32x8, Sha256>>(jobs, iterations, rounds, meter)
         }
         (AlgorithmId::Sha256, 4) => {
-            write_in_lanes::<ShortIn<u32x4, Sha256>>(jobs, iterations, rounds, meter)
+            write_in_lanes::<InVector<u32x4, Sha256>>(jobs, iterations, rounds, meter)
         }
         (AlgorithmId::Sha256, _) => {
-            write_in_lanes::<ShortAlone<Sha256>>(jobs, iterations, rounds, meter)
+            write_in_lanes::<Alone<Wrapping<u32>, Sha256>>(jobs, iterations, rounds, meter)
         }
         (AlgorithmId::Sha384, 4) if BITS >= AVX2 => {
-            write_in_lanes::<LongIn<u64x4, Sha384>>(jobs, iterations, rounds, meter)
+            write_in_lanes::<InVector<u64x4, Sha384>>(jobs, iterations, rounds, meter)
         }
         (AlgorithmId::Sha384, _) => {
-            write_in_lanes::<LongAlone<Sha384>>(jobs, iterations, rounds, meter)
+            write_in_lanes::<Alone<Wrapping<u64>, Sha384>>(jobs, iterations, rounds, meter)
         }
         (AlgorithmId::Sha512, 4) if BITS >= AVX2 => {
-            write_in_lanes::<LongIn<u64x4, Sha512>>(jobs, iterations, rounds, meter)
+            write_in_lanes::<InVector<u64x4, Sha512>>(jobs, iterations, rounds, meter)
         }
         (AlgorithmId::Sha512, _) => {
-            write_in_lanes::<LongAlone<Sha512>>(jobs, iterations, rounds, meter)
+            write_in_lanes::<Alone<Wrapping<u64>, Sha512>>(jobs, iterations, rounds, meter)
         }
         (AlgorithmId::Sha512_256, 4) if BITS >= AVX2 => {
-            write_in_lanes::<LongIn<u64x4, Sha512_256>>(jobs, iterations, rounds, meter)
+            write_in_lanes::<InVector<u64x4, Sha512_256>>(jobs, iterations, rounds, meter)
         }
         (AlgorithmId::Sha512_256, _) => {
-            write_in_lanes::<LongAlone<Sha512_256>>(jobs, iterations, rounds, meter)
+            write_in_lanes::<Alone<Wrapping<u64>, Sha512_256>>(jobs, iterations, rounds, meter)
         }
     }
 }

@@ -1,5 +1,4 @@
-//! A derivation under one key, in parts of as many rounds as run side by side. A verification
-//! derives the same parts into room of its own, and compares them.
+//! A derivation under one key, in parts of as many rounds as run side by side.
 
 ghost use Rattle.std.specs.Prelude.{◌≡◌, ◌↔◌, ℕ, ◌+◌, ◌-◌, ◌*◌, ◌^◌, ◌<◌, ◌≤◌};
 ghost use Rattle.std.specs.Prelude.{List, get_or, length, min, take, IsTrue};
@@ -8,36 +7,26 @@ ghost use Rattle.ring_core.specs.Cost.{raised};
 ghost use Rattle.ring.specs.Algorithm.{output_len};
 ghost use Rattle.ring.specs.Cost.{derive_rounds, iterate_blocks};
 ghost use Rattle.ring.specs.Hmac.{KeyStandsFor, key_algorithm};
-ghost use Rattle.ring.specs.Jobs.{dk_after};
 ghost use Rattle.ring.specs.Lanes.{CanRunTogether};
 ghost use Rattle.ring.specs.Limits.{IsTagWithin};
-ghost use Rattle.ring.specs.Pbkdf2.{dk};
+ghost use Rattle.ring.specs.Pbkdf2.{dk, xored};
 ghost use Rattle.ring.specs.Pieces.{joined_blocks};
+ghost use Rattle.ring.specs.Receiver.{Takes};
 ghost use Rattle.ring.specs.declared.digest.dynstate.Output.{Output};
 ghost use Rattle.ring.specs.declared.pbkdf2.jobs.Job.{Job};
 
 use crate::digest;
-use crate::digest::algorithm::MAX_OUTPUT_LEN;
 use crate::digest::dynstate::{OUTPUT_ROOM, Output};
 use crate::digest::side_by_side::lane_states::MAX_LANES;
 use crate::digest::vectors::lanes_for;
 use crate::hmac::Key;
 use crate::pbkdf2::jobs::{Job, run_jobs};
-use ring_core::bb::verify_slices_are_equal_counted;
+use crate::pbkdf2::receiver::Receiver;
 use ring_core::cost::Meter;
 use std::num::NonZeroU32;
 
 // Room for as many rounds as can run side by side.
 pub(crate) const NO_ROUNDS: [Output; MAX_LANES] = [Output([0; OUTPUT_ROOM]); MAX_LANES];
-
-// Whether the bytes are those that were derived, of which there are as many.
-pub(crate) fn are_same(derived: &[u8], given: &[u8], meter: &mut Meter) -> bool
-    requires { length derived.now ≡ length given.now }
-    ensures ok { IsTrue result ↔ (given.now ≡ derived.now) }
-    ensures cost { meter.new ≡ raised meter.old 0 (length given.now) }
-{
-    verify_slices_are_equal_counted(derived, given, meter).is_ok()
-}
 
 // The most of 8, 4 and 1 rounds of which each is wanted, where `left` bytes are left. It divides
 // nothing, and neither does the rest of the library: a division's time depends on its operands.
@@ -61,7 +50,6 @@ fn wanted_rounds(output_len: usize, left: usize) -> usize
 // left.
 fn next_part<const BITS: usize>(algorithm: digest::Algorithm, left: usize) -> (usize, usize)
     requires some { 0 < left }
-    requires most { left < 2 ^ 63 }
     ensures together { CanRunTogether BITS algorithm result.0 }
     ensures wanted { result.1 ≡ min (result.0 * output_len algorithm) left }
     ensures needed { result.0 * output_len algorithm < left + output_len algorithm }
@@ -98,143 +86,98 @@ fn jobs_after<'a>(key: &'a Key, salt: &'a [u8], before: u32, rounds: usize) -> [
     jobs
 }
 
-// Writes the rounds one after another, as many of their bytes as `out` has.
-fn put_rounds(rounds: &[Output], output_len: usize, out: &mut [u8])
+// Hands over the front of each round, one after another, until there are `len` bytes.
+fn take_rounds_in_order<R: Receiver>(
+    rounds: &[Output],
+    output_len: usize,
+    len: usize,
+    place: usize,
+    from: usize,
+    receiver: &mut R,
+    meter: &mut Meter,
+)
     requires fits { output_len ≤ 64 }
-    requires enough { length out.old ≤ length rounds.now * output_len }
-    ensures { (f : ℕ → List ℕ) → ((i : ℕ) (room : Output) → i < length rounds.now
+    requires enough { len ≤ length rounds.now * output_len }
+    requires place { place < R.places receiver.old }
+    requires room { from + len ≤ R.room receiver.old }
+    requires size { R.room receiver.old < 2 ^ 63 }
+    ensures ok { (f : ℕ → List ℕ) → ((i : ℕ) (room : Output) → i < length rounds.now
         → take output_len (get_or rounds.now i room).0 ≡ f (i + 1))
-        → out.new ≡ take (length out.old) (joined_blocks f (length rounds.now)) }
+        → Takes R.HasCome place 1 from
+        (λ i. take len (joined_blocks f (length rounds.now))) receiver.old receiver.new }
+    ensures same { (R.places receiver.new ≡ R.places receiver.old)
+        × (R.room receiver.new ≡ R.room receiver.old) }
+    ensures cost { meter.new ≡ raised meter.old 0 (R.pairs * len) }
 {
-    let mut written = 0;
+    let mut taken = 0;
     'rounds: for i in 0..rounds.len() {
-        let end = written + output_len.min(out.len() - written);
-        out[written..end].copy_from_slice(&rounds[i].0[..end - written]);
-        written = end;
+        let part_len = output_len.min(len - taken);
+        receiver.take(place, from + taken, &rounds[i].0[..part_len], meter);
+        taken += part_len;
     }
 }
 
-// Writes the part of so many rounds that comes after the first `before`.
-fn write_part<const BITS: usize>(
+// Writes the rounds that come after the first `before`, as many as there is room for.
+fn write_rounds_after<const BITS: usize>(
     key: &Key,
     iterations: NonZeroU32,
     salt: &[u8],
     before: u32,
-    rounds: usize,
-    out: &mut [u8],
+    rounds: &mut [Output],
     meter: &mut Meter,
 )
-    requires together { CanRunTogether BITS (key_algorithm key.now) rounds }
+    requires together { CanRunTogether BITS (key_algorithm key.now) (length rounds.old) }
     requires within { IsTagWithin (key_algorithm key.now) (length salt.now + 4) }
-    requires size { length out.old ≤ rounds * output_len (key_algorithm key.now) }
-    requires needed { derive_rounds (key_algorithm key.now) (length out.old) ≡ rounds }
-    requires numbers { before + rounds < 2 ^ 32 }
-    ensures ok { (p : List ℕ) → KeyStandsFor key.now p
-        → out.new ≡ dk_after (key_algorithm key.now) p salt.now (non_zero_u32_get iterations)
-        before (length out.old) }
-    ensures cost { meter.new ≡ raised meter.old (rounds
+    requires numbers { before + length rounds.old < 2 ^ 32 }
+    ensures ok { (p : List ℕ) (i : ℕ) (room : Output) → KeyStandsFor key.now p
+        → i < length rounds.old → take (output_len (key_algorithm key.now))
+        (get_or rounds.new i room).0 ≡ xored (key_algorithm key.now) p salt.now
+        (before + (i + 1)) (non_zero_u32_get iterations) }
+    ensures cost { meter.new ≡ raised meter.old (length rounds.old
         * iterate_blocks (key_algorithm key.now) (length salt.now) (non_zero_u32_get iterations))
         0 }
 {
     let algorithm = key.algorithm().digest_algorithm();
-    let jobs = jobs_after(key, salt, before, rounds);
-    let mut outputs = NO_ROUNDS;
-    let outputs = &mut outputs[..rounds];
-    run_jobs::<BITS>(algorithm, &jobs[..rounds], iterations, outputs, meter);
-    put_rounds(outputs, algorithm.output_len(), out);
+    let jobs = jobs_after(key, salt, before, rounds.len());
+    run_jobs::<BITS>(algorithm, &jobs[..rounds.len()], iterations, rounds, meter);
 }
 
-// Whether these are the bytes of the part of so many rounds that comes after the first `before`.
-fn is_part<const BITS: usize>(
+// Derives `len` bytes under the key, which the receiver takes at a place.
+pub(crate) fn derive_under<const BITS: usize, R: Receiver>(
     key: &Key,
     iterations: NonZeroU32,
     salt: &[u8],
-    before: u32,
-    rounds: usize,
-    part: &[u8],
-    meter: &mut Meter,
-) -> bool
-    requires together { CanRunTogether BITS (key_algorithm key.now) rounds }
-    requires within { IsTagWithin (key_algorithm key.now) (length salt.now + 4) }
-    requires size { length part.now ≤ rounds * output_len (key_algorithm key.now) }
-    requires needed { derive_rounds (key_algorithm key.now) (length part.now) ≡ rounds }
-    requires numbers { before + rounds < 2 ^ 32 }
-    ensures ok { (p : List ℕ) → KeyStandsFor key.now p → IsTrue result
-        ↔ (part.now ≡ dk_after (key_algorithm key.now) p salt.now (non_zero_u32_get iterations)
-        before (length part.now)) }
-    ensures cost { meter.new ≡ raised meter.old (rounds
-        * iterate_blocks (key_algorithm key.now) (length salt.now) (non_zero_u32_get iterations))
-        (length part.now) }
-{
-    let mut buffer = [0; MAX_LANES * MAX_OUTPUT_LEN];
-    let derived = &mut buffer[..part.len()];
-    write_part::<BITS>(key, iterations, salt, before, rounds, derived, meter);
-    are_same(derived, part, meter)
-}
-
-// Writes the first bytes of all rounds to the whole of `out`.
-pub(crate) fn write_rounds<const BITS: usize>(
-    key: &Key,
-    iterations: NonZeroU32,
-    salt: &[u8],
-    out: &mut [u8],
+    len: usize,
+    place: usize,
+    receiver: &mut R,
     meter: &mut Meter,
 )
-    requires salt { 0 < length out.old
-        → IsTagWithin (key_algorithm key.now) (length salt.now + 4) }
-    requires rounds { length out.old ≤ (2 ^ 32 - 1) * output_len (key_algorithm key.now) }
-    ensures ok { (p : List ℕ) → KeyStandsFor key.now p → out.new ≡ dk (key_algorithm key.now)
-        p salt.now (non_zero_u32_get iterations) (length out.old) }
+    requires salt { 0 < len → IsTagWithin (key_algorithm key.now) (length salt.now + 4) }
+    requires rounds { len ≤ (2 ^ 32 - 1) * output_len (key_algorithm key.now) }
+    requires place { place < R.places receiver.old }
+    requires room { len ≤ R.room receiver.old }
+    requires size { R.room receiver.old < 2 ^ 63 }
+    ensures ok { (p : List ℕ) → KeyStandsFor key.now p → Takes R.HasCome place 1 0
+        (λ i. dk (key_algorithm key.now) p salt.now (non_zero_u32_get iterations) len)
+        receiver.old receiver.new }
+    ensures same { (R.places receiver.new ≡ R.places receiver.old)
+        × (R.room receiver.new ≡ R.room receiver.old) }
     ensures cost { meter.new ≡ raised meter.old
-        (derive_rounds (key_algorithm key.now) (length out.old)
+        (derive_rounds (key_algorithm key.now) len
         * iterate_blocks (key_algorithm key.now) (length salt.now) (non_zero_u32_get iterations))
-        0 }
+        (R.pairs * len) }
 {
     let algorithm = key.algorithm().digest_algorithm();
+    let output_len = algorithm.output_len();
     let mut number = 0;
-    let mut written = 0;
-    'parts: while written < out.len() {
-        let (rounds, len) = next_part::<BITS>(algorithm, out.len() - written);
-        let end = written + len;
-        let part = &mut out[written..end];
-        write_part::<BITS>(key, iterations, salt, number, rounds, part, meter);
-        number += rounds as u32;
-        written = end;
+    let mut taken = 0;
+    'parts: while taken < len {
+        let (count, part_len) = next_part::<BITS>(algorithm, len - taken);
+        let mut outputs = NO_ROUNDS;
+        let rounds = &mut outputs[..count];
+        write_rounds_after::<BITS>(key, iterations, salt, number, rounds, meter);
+        take_rounds_in_order(rounds, output_len, part_len, place, taken, receiver, meter);
+        number += count as u32;
+        taken += part_len;
     }
-}
-
-// Whether `value` is the first bytes of all rounds. They are computed as `write_rounds` computes
-// them.
-pub(crate) fn are_rounds<const BITS: usize>(
-    key: &Key,
-    iterations: NonZeroU32,
-    salt: &[u8],
-    value: &[u8],
-    meter: &mut Meter,
-) -> bool
-    requires salt { 0 < length value.now
-        → IsTagWithin (key_algorithm key.now) (length salt.now + 4) }
-    requires rounds { length value.now ≤ (2 ^ 32 - 1) * output_len (key_algorithm key.now) }
-    ensures ok { (p : List ℕ) → KeyStandsFor key.now p → IsTrue result
-        ↔ (value.now ≡ dk (key_algorithm key.now)
-        p salt.now (non_zero_u32_get iterations) (length value.now)) }
-    ensures cost { meter.new ≡ raised meter.old
-        (derive_rounds (key_algorithm key.now) (length value.now)
-        * iterate_blocks (key_algorithm key.now) (length salt.now) (non_zero_u32_get iterations))
-        (length value.now) }
-{
-    let algorithm = key.algorithm().digest_algorithm();
-    let mut number = 0;
-    let mut checked = 0;
-    let mut matches = true;
-    'parts: while checked < value.len() {
-        let (rounds, len) = next_part::<BITS>(algorithm, value.len() - checked);
-        let end = checked + len;
-        let part = &value[checked..end];
-        // No early exit: after a part that differs, the others are compared.
-        matches &= is_part::<BITS>(key, iterations, salt, number, rounds, part, meter);
-        number += rounds as u32;
-        checked = end;
-    }
-    matches
 }

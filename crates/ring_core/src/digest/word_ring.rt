@@ -1,6 +1,6 @@
 //! The last sixteen words of a schedule, in a ring: word `t` stands in slot `t` modulo 16.
 ghost use Rattle.std.specs.Prelude.{◌≡◌, ℕ, ◌+◌, ◌*◌, ◌/◌, ◌%◌, ◌<◌, ◌≤◌, ◌++◌, List};
-ghost use Rattle.std.specs.Prelude.{[], ◌∷◌, drop, get_or, length, map, slice_index, take};
+ghost use Rattle.std.specs.Prelude.{[], drop, get_or, length, map, slice_index, take};
 ghost use Rattle.ring_core.specs.Schedule.{IsBlockOf, IsRing};
 ghost use Rattle.ring_core.specs.Word.{word_at};
 
@@ -94,23 +94,23 @@ pub(crate) fn load_words<S: Slots, const N: usize>(
 
 // The words in `slot` and in the slot after it.
 #[inline(always)]
-pub(crate) fn pair<T: Copy>(ring: &[T; 16], slot: usize) -> [T; 2]
+pub(crate) fn pair<T: Copy>(ring: &[T; 16], slot: usize) -> (T, T)
     requires { slot < 16 }
     ensures { (value : T → ℕ) (w : ℕ → ℕ) (n t : ℕ) → IsRing w (map value ring.now) n
-        → slot ≡ t % 16 → t + 2 ≤ n → n ≤ t + 16 → map value result ≡ w t ∷ w (t + 1) ∷ [] }
+        → slot ≡ t % 16 → t + 2 ≤ n → n ≤ t + 16
+        → (value result.0 ≡ w t) × (value result.1 ≡ w (t + 1)) }
 {
-    [ring[slot], ring[(slot + 1) % 16]]
+    (ring[slot], ring[(slot + 1) % 16])
 }
 
 // Replaces the oldest two words, in `slot` and the slot after it, by the next two.
 #[inline(always)]
-pub(crate) fn set_pair<T: Copy>(ring: &mut [T; 16], slot: usize, words: [T; 2])
+pub(crate) fn set_pair<T: Copy>(ring: &mut [T; 16], slot: usize, words: (T, T))
     requires { slot < 16 }
     ensures { (value : T → ℕ) (w : ℕ → ℕ) (t : ℕ) → IsRing w (map value ring.old) t
-        → slot ≡ t % 16 → map value words ≡ w t ∷ w (t + 1) ∷ []
+        → slot ≡ t % 16 → value words.0 ≡ w t → value words.1 ≡ w (t + 1)
         → IsRing w (map value ring.new) (t + 2) }
 {
-    let [first, second] = words;
-    ring[slot] = first;
-    ring[(slot + 1) % 16] = second;
+    ring[slot] = words.0;
+    ring[(slot + 1) % 16] = words.1;
 }

@@ -1,22 +1,24 @@
-use Rattle.std.proofs.Common.{arith}
+use Rattle.std.proofs.Common.{[], arith}
 use Rattle.std.proofs.lemmas.List.{take_all}
-use Rattle.ring.proofs.Feeding.{fed_end, fed_more, fed_none, fed_piece}
+use Rattle.ring.proofs.Feeding.{fed_more, fed_none, fed_piece}
+use Rattle.ring.proofs.Lengths.{counted_end}
 use Rattle.ring.proofs.Outcomes.{on_ok_map}
 use Rattle.ring.proofs.laws.digest_pieces.Goals as goal
 
 pub pieces-init : goal.pieces-init
 pieces-init c =
     let new = c.new-context.ensures in
-    fed_none new.algorithm new.counted new.pending new.stands
+    fed_none new.algorithm new.counted (omega arith) new.pending new.stands
 
 pub pieces-preserved : goal.pieces-preserved
 pieces-preserved c =
     let more = c.update_counted.ensures in
-    fed_piece c.args.pieces.now c.pieces.piece-index _ (omega arith)
+    fed_piece [] c.args.pieces.now c.pieces.piece-index _ (omega arith)
     (fed_more _ c.pieces.invariant more.algorithm more.counted more.pending more.stands more.cost)
 
 pub returns-clause-cost : goal.returns-clause-cost
 returns-clause-cost c =
     let all = take_all c.pieces.piece-index c.args.pieces.now (omega arith) in
     let fed = rw all at c.pieces.invariant in
-    on_ok_map c.finish_counted.result (fed_end fed) c.finish_counted.ensures.cost
+    on_ok_map c.finish_counted.result (counted_end fed.algorithm fed.taken)
+    c.finish_counted.ensures.cost

@@ -1,8 +1,8 @@
 use Rattle.std.proofs.Common.{take}
 use Rattle.ring.specs.Pieces.{joined}
-use Rattle.ring.proofs.Feeding.{HasFed}
+use Rattle.ring.proofs.Feeding.{HasFedDigest}
 use Rattle.ring.proofs.laws.digest_pieces.Given as goal
 
 abbrev pub invariant-pieces : goal.invariant-pieces
 invariant-pieces l =
-    HasFed l.algorithm l.context (joined (take l.piece-index l.pieces)) l.fn.meter l.meter
+    HasFedDigest l.algorithm l.context (joined (take l.piece-index l.pieces)) l.fn.meter l.meter

@@ -1,6 +1,6 @@
 use Rattle.std.proofs.Common.{[], sym, arith}
 use Rattle.ring.specs.Algorithm.{output_len}
-use Rattle.ring.proofs.Keys.{output_below}
+use Rattle.ring.proofs.Rows.{output_below}
 use Rattle.ring.proofs.SameKeys.{hmac_of-zeros}
 use Rattle.ring.proofs.laws.law_7.Goals as goal
 

@@ -1,8 +1,8 @@
 use Rattle.std.proofs.Common.{take}
 use Rattle.ring.specs.Pieces.{joined}
-use Rattle.ring.proofs.Signing.{HasSigned}
+use Rattle.ring.proofs.Feeding.{HasFedTag}
 use Rattle.ring.proofs.laws.sign_pieces.Given as goal
 
 abbrev pub invariant-parts : goal.invariant-parts
 invariant-parts l =
-    HasSigned l.key l.context (joined (take l.piece-index l.pieces)) l.fn.meter l.meter
+    HasFedTag l.key l.context (joined (take l.piece-index l.pieces)) l.fn.meter l.meter

@@ -1,17 +1,27 @@
-use Rattle.std.proofs.Common.{◌∙◌, length}
+use Rattle.std.proofs.Common.{◌≡◌, ◌*◌, ◌∙◌, arith, length, refl, rules}
+use Rattle.ring.specs.Limits.{CanVerify}
+use Rattle.ring.specs.Pbkdf2.{pbkdf2_digest}
+use Rattle.ring.proofs.DerivedKeys.{derived-same}
 use Rattle.ring.proofs.Rounds.{cost_derived}
+use Rattle.ring.proofs.Taking.{taken-all}
 use Rattle.ring.proofs.pbkdf2.verify_in.Goals as goal
 
-pub returns-then-are_rounds-clause-cost : goal.returns-then-are_rounds-clause-cost
-returns-then-are_rounds-clause-cost g c = λ within.
+pub returns-clause-ok : goal.returns-clause-ok
+returns-clause-ok g c =
     let same = c.hmac_algorithm-hmac_algorithm.ensures in
-    let key = rw same at c.in_ok-key.ensures.cost in
-    let rounds = rw (c.in_ok-key.ensures.algorithm ∙ same) at c.are_rounds.ensures.cost in
-    cost_derived _ _ (length c.args.secret.now) _ (length c.args.previously_derived.now) key rounds
+    let key = c.in_ok-key.ensures in
+    let made = rw (key.algorithm ∙ same) at (c.derive_under.ensures.ok _ key.ok) in
+    let took = taken-all made (λ place. (refl, λ zero. (λ e. (e, refl), λ h. h.0))) in
+    let has = took.1 0 0 (omega arith) refl in
+    let within : CanVerify (pbkdf2_digest c.args.algorithm) (length c.args.secret.now)
+    (length c.args.salt.now) (length c.args.previously_derived.now) = search rules in
+    let told = derived-same within refl refl (rw has.0 at (has.1 refl)) in search (rules, told)
 
-pub returns-else-are_rounds-clause-cost : goal.returns-else-are_rounds-clause-cost
-returns-else-are_rounds-clause-cost g c = λ within.
+pub returns-clause-cost : goal.returns-clause-cost
+returns-clause-cost g c = λ within.
     let same = c.hmac_algorithm-hmac_algorithm.ensures in
     let key = rw same at c.in_ok-key.ensures.cost in
-    let rounds = rw (c.in_ok-key.ensures.algorithm ∙ same) at c.are_rounds.ensures.cost in
-    cost_derived _ _ (length c.args.secret.now) _ (length c.args.previously_derived.now) key rounds
+    let rounds = rw (c.in_ok-key.ensures.algorithm ∙ same) at c.derive_under.ensures.cost in
+    let n = length c.args.previously_derived.now in
+    let pairs : 1 * n ≡ n = omega arith in
+    cost_derived _ _ (length c.args.secret.now) _ n key (rw pairs at rounds)

@@ -3,9 +3,8 @@
 ghost use Rattle.std.proofs.Common.{refl};
 ghost use Rattle.std.specs.Prelude.{◌≡◌, map};
 ghost use Rattle.ring_core.specs.Bytes.{xor_lists};
-ghost use Rattle.ring_core.specs.Sha2.{words_32, words_64};
 
-use crate::digest::dynstate::DynState;
+use crate::digest::dynstate::{DynState, StateWord};
 use crate::digest::side_by_side::lane_digests::{
     Sha1, Sha256, Sha384, Sha512, Sha512_256, SideBySide,
 };
@@ -19,6 +18,7 @@ use ring_core::digest::sha2::{
     State32, State64, block_of_words_32_counted, block_of_words_64_counted,
 };
 use ring_core::digest::word::Word;
+use std::num::Wrapping;
 
 // The exclusive or of the words of two states.
 #[inline(always)]
@@ -39,11 +39,11 @@ fn xored_words<W: Word>(sum: [W; 8], digest: [W; 8]) -> [W; 8]
     ]
 }
 
-// A state of 32-bit words.
-pub(crate) struct ShortAlone<A>(A);
+// A state of the algorithm `A`.
+pub(crate) struct Alone<W, A>(W, A);
 
-impl<A> LaneStates for ShortAlone<A> {
-    type States = State32;
+impl<W: StateWord, A> LaneStates for Alone<W, A> {
+    type States = [W; 8];
 
     type Ring = ();
 
@@ -51,31 +51,31 @@ impl<A> LaneStates for ShortAlone<A> {
 
     ghost LANES = { 1 };
 
-    ghost word_len = { 4 };
+    ghost word_len = { W.len };
 
-    ghost lane = { λ i state. words_32 state };
+    ghost lane = { λ i state. map W.value state };
 
     fn ring() -> () {}
 
-    fn new(states: &[DynState]) -> State32 {
-        states[0].short_words()
+    fn new(states: &[DynState]) -> [W; 8] {
+        *W::words_in(&states[0])
     }
 
-    fn splat(state: &DynState) -> State32 {
-        state.short_words()
+    fn splat(state: &DynState) -> [W; 8] {
+        *W::words_in(state)
     }
 
-    fn state(states: &State32, i: usize) -> DynState {
-        DynState::As32(*states)
+    fn state(states: &[W; 8], i: usize) -> DynState {
+        W::state_of(states)
     }
 
     #[inline(always)]
-    fn xor(states: &mut State32, others: &State32) {
+    fn xor(states: &mut [W; 8], others: &[W; 8]) {
         *states = xored_words(*states, *others);
     }
 }
 
-impl SideBySide for ShortAlone<Sha1> {
+impl SideBySide for Alone<Wrapping<u32>, Sha1> {
     ghost use Rattle.ring.specs.declared.digest.algorithm.TheConstants.{SHA1_FOR_LEGACY_USE_ONLY};
 
     ghost algorithm = { SHA1_FOR_LEGACY_USE_ONLY };
@@ -88,7 +88,7 @@ impl SideBySide for ShortAlone<Sha1> {
     ghost sized = { refl };
 }
 
-impl SideBySide for ShortAlone<Sha256> {
+impl SideBySide for Alone<Wrapping<u32>, Sha256> {
     ghost use Rattle.ring.specs.declared.digest.algorithm.TheConstants.{SHA256};
 
     ghost algorithm = { SHA256 };
@@ -101,43 +101,7 @@ impl SideBySide for ShortAlone<Sha256> {
     ghost sized = { refl };
 }
 
-// A state of 64-bit words.
-pub(crate) struct LongAlone<A>(A);
-
-impl<A> LaneStates for LongAlone<A> {
-    type States = State64;
-
-    type Ring = ();
-
-    const LANES: usize = 1;
-
-    ghost LANES = { 1 };
-
-    ghost word_len = { 8 };
-
-    ghost lane = { λ i state. words_64 state };
-
-    fn ring() -> () {}
-
-    fn new(states: &[DynState]) -> State64 {
-        states[0].long_words()
-    }
-
-    fn splat(state: &DynState) -> State64 {
-        state.long_words()
-    }
-
-    fn state(states: &State64, i: usize) -> DynState {
-        DynState::As64(*states)
-    }
-
-    #[inline(always)]
-    fn xor(states: &mut State64, others: &State64) {
-        *states = xored_words(*states, *others);
-    }
-}
-
-impl SideBySide for LongAlone<Sha384> {
+impl SideBySide for Alone<Wrapping<u64>, Sha384> {
     ghost use Rattle.ring.specs.declared.digest.algorithm.TheConstants.{SHA384};
 
     ghost algorithm = { SHA384 };
@@ -150,7 +114,7 @@ impl SideBySide for LongAlone<Sha384> {
     ghost sized = { refl };
 }
 
-impl SideBySide for LongAlone<Sha512> {
+impl SideBySide for Alone<Wrapping<u64>, Sha512> {
     ghost use Rattle.ring.specs.declared.digest.algorithm.TheConstants.{SHA512};
 
     ghost algorithm = { SHA512 };
@@ -163,7 +127,7 @@ impl SideBySide for LongAlone<Sha512> {
     ghost sized = { refl };
 }
 
-impl SideBySide for LongAlone<Sha512_256> {
+impl SideBySide for Alone<Wrapping<u64>, Sha512_256> {
     ghost use Rattle.ring.specs.declared.digest.algorithm.TheConstants.{SHA512_256};
 
     ghost algorithm = { SHA512_256 };

@@ -1,14 +1,8 @@
 //! The padding of a message that is one block and a digest (FIPS 180-4, sections 5.1.1 and 5.1.2),
 //! as the words of the block in which the digest stands: room for it, and the padding.
 
+use crate::digest::initial::words;
 use std::num::Wrapping;
-
-// Words as plain numbers.
-macro_rules! words {
-    ($($word:expr),*) => {
-        [$(Wrapping($word)),*]
-    };
-}
 
 // The bit 1 that follows a message, as the highest of a word.
 const END_32: u32 = 1 << 31;

@@ -3,9 +3,9 @@ ghost use Rattle.std.specs.Prelude.{◌≡◌, ℕ, ◌+◌, ◌*◌, ◌<◌, �
 ghost use Rattle.ring_core.specs.Schedule.{IsBefore, IsRing};
 ghost use Rattle.ring_core.specs.Sha1.{W, add_state, block_step, round};
 ghost use Rattle.ring_core.specs.Sha1.{round_constant, round_function, rounds_from};
-ghost use Rattle.ring_core.specs.Word.{add_words, rotl, word_32};
+ghost use Rattle.ring_core.specs.Word.{add_words, rotl, word_32, word_at};
 
-use crate::digest::sha1::sha1_schedule::ExtendSchedule;
+use crate::digest::sha1::sha1_schedule::{ExtendSchedule, extend};
 use crate::digest::word::functions::{choose_word, majority_word};
 use crate::digest::word_ring::pair;
 use std::num::Wrapping;
@@ -84,7 +84,7 @@ fn two_rounds<S: ExtendSchedule>(ring: &[S::Slot; 16], v: [S; 5], t: usize) -> [
         → t + 2 ≤ n → n ≤ t + 16 → map (S.lane i) v ≡ rounds_from h b t
         → map (S.lane i) result ≡ rounds_from h b (t + 2) }
 {
-    let [word, next_word] = pair(ring, t % 16);
+    let (word, next_word) = pair(ring, t % 16);
     let constant = S::repeated(round_constant(t));
     let next_constant = S::repeated(round_constant(t + 1));
     let (first, second) = S::add_pairs(constant, next_constant, word, next_word);
@@ -102,7 +102,7 @@ fn next_two_rounds<S: ExtendSchedule>(ring: &mut [S::Slot; 16], v: [S; 5], t: us
         → IsBefore (W b) (rounds_from h b) (map (S.slot_lane i) ring.new) (map (S.lane i) result)
         (t + 2) }
 {
-    S::extend(ring, t);
+    extend::<S>(ring, t);
     two_rounds(ring, v, t)
 }
 
@@ -189,7 +189,7 @@ pub(crate) fn run_loaded<S: ExtendSchedule, const CALLER: usize>(
     state: &mut [S; 8],
 )
     requires some { 0 < S.LANES }
-    ensures words { (i : ℕ) (b : List ℕ) → IsRing (W b) (map (S.slot_lane i) ring.old) 16
+    ensures words { (i : ℕ) (b : List ℕ) → IsRing (word_at 32 b) (map (S.slot_lane i) ring.old) 16
         → take 5 (map (S.lane i) state.new) ≡ block_step (take 5 (map (S.lane i) state.old)) b }
     ensures rest { drop 5 state.new ≡ drop 5 state.old }
 {

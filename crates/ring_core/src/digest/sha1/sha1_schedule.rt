@@ -9,10 +9,19 @@ ghost use Rattle.ring_core.specs.Word.{low_32, word_32};
 
 use crate::digest::word::in_lanes::InLanes;
 use crate::digest::word::lane_word::{LaneWord, Slots, Vector};
-use crate::digest::word::w32::rotate_lanes;
+use crate::digest::word::w32::{from_lanes, rotate_lanes, to_lanes};
 use crate::digest::word_ring::{pair, set_pair};
 use std::num::Wrapping;
-use std::simd::{Simd, u64x2};
+use std::simd::u64x2;
+
+// The pairs of words that begin 16, 14, 8 and 3 words before the next pair.
+#[derive(Drop)]
+pub(crate) struct Before<T: Copy> {
+    sixteen: (T, T),
+    fourteen: (T, T),
+    eight: (T, T),
+    three: (T, T),
+}
 
 // Words of 32 bits in lanes, with their schedule.
 pub(crate) trait ExtendSchedule: Slots {
@@ -21,24 +30,37 @@ pub(crate) trait ExtendSchedule: Slots {
         requires { 0 < Self.LANES }
         ensures { (i : ℕ) → Self.lane i result ≡ word_32 word };
 
-    // Fills the slots of words `t` and `t + 1`.
-    fn extend(ring: &mut [Self::Slot; 16], t: usize)
-        requires from { 16 ≤ t }
-        requires below { t + 2 ≤ 80 }
-        ensures { (i : ℕ) (b : List ℕ) → IsRing (W b) (map (Self.slot_lane i) ring.old) t
-            → IsRing (W b) (map (Self.slot_lane i) ring.new) (t + 2) };
+    // The pair of words after those in `before`.
+    fn next_two(before: &Before<Self::Slot>) -> (Self::Slot, Self::Slot)
+        ensures first { (i : ℕ) → Self.slot_lane i result.0 ≡ scheduled
+            (Self.slot_lane i before.now.three.0) (Self.slot_lane i before.now.eight.0)
+            (Self.slot_lane i before.now.fourteen.0) (Self.slot_lane i before.now.sixteen.0) }
+        ensures second { (i : ℕ) → Self.slot_lane i result.1 ≡ scheduled
+            (Self.slot_lane i before.now.three.1) (Self.slot_lane i before.now.eight.1)
+            (Self.slot_lane i before.now.fourteen.1) (Self.slot_lane i before.now.sixteen.1) };
 
     ghost bits_are: { Self.One.bits ≡ 32 };
 }
 
-// The next two words of one block, from the pairs that begin 16, 14, 8 and 3 words before them.
+// Fills the slots of words `t` and `t + 1`.
 #[inline(always)]
-fn next_two(sixteen: u64x2, fourteen: u64x2, eight: u64x2, three: u64x2) -> u64x2
-    ensures { map low_32 result ≡ map (λ i. scheduled (low_32 (slice_index three i))
-        (low_32 (slice_index eight i)) (low_32 (slice_index fourteen i))
-        (low_32 (slice_index sixteen i))) (0 ∷ 1 ∷ []) }
+pub(crate) fn extend<S: ExtendSchedule>(ring: &mut [S::Slot; 16], t: usize)
+    requires from { 16 ≤ t }
+    requires below { t + 2 ≤ 80 }
+    ensures { (i : ℕ) (b : List ℕ) → IsRing (W b) (map (S.slot_lane i) ring.old) t
+        → IsRing (W b) (map (S.slot_lane i) ring.new) (t + 2) }
 {
-    rotate_lanes(three ^ eight ^ fourteen ^ sixteen, 31)
+    let sixteen = pair(ring, t % 16);
+    let fourteen = pair(ring, (t + 2) % 16);
+    let eight = pair(ring, (t + 8) % 16);
+    let three = pair(ring, (t + 13) % 16);
+    let before = Before {
+        sixteen,
+        fourteen,
+        eight,
+        three,
+    };
+    set_pair(ring, t % 16, S::next_two(&before));
 }
 
 impl ExtendSchedule for Wrapping<u32> {
@@ -48,13 +70,12 @@ impl ExtendSchedule for Wrapping<u32> {
     }
 
     #[inline(always)]
-    fn extend(ring: &mut [u64; 16], t: usize) {
-        let sixteen = Simd::from_array(pair(ring, t % 16));
-        let fourteen = Simd::from_array(pair(ring, (t + 2) % 16));
-        let eight = Simd::from_array(pair(ring, (t + 8) % 16));
-        let three = Simd::from_array(pair(ring, (t + 13) % 16));
-        let next = next_two(sixteen, fourteen, eight, three);
-        set_pair(ring, t % 16, next.to_array());
+    fn next_two(before: &Before<u64>) -> (u64, u64) {
+        let sixteen = to_lanes(&before.sixteen);
+        let fourteen = to_lanes(&before.fourteen);
+        let eight = to_lanes(&before.eight);
+        let three = to_lanes(&before.three);
+        from_lanes(rotate_lanes(three ^ eight ^ fourteen ^ sixteen, 31))
     }
 
     ghost bits_are = { refl };
@@ -81,14 +102,16 @@ impl<V: Vector<One = Wrapping<u32>>> ExtendSchedule for InLanes<V> {
     }
 
     #[inline(always)]
-    fn extend(ring: &mut [InLanes<V>; 16], t: usize) {
-        let [sixteen, sixteen_next] = pair(ring, t % 16);
-        let [fourteen, fourteen_next] = pair(ring, (t + 2) % 16);
-        let [eight, eight_next] = pair(ring, (t + 8) % 16);
-        let [three, three_next] = pair(ring, (t + 13) % 16);
+    fn next_two(before: &Before<InLanes<V>>) -> (InLanes<V>, InLanes<V>) {
+        let Before {
+            sixteen,
+            fourteen,
+            eight,
+            three,
+        } = before;
         let first = next_word(sixteen.0, fourteen.0, eight.0, three.0);
-        let second = next_word(sixteen_next.0, fourteen_next.0, eight_next.0, three_next.0);
-        set_pair(ring, t % 16, [InLanes(first), InLanes(second)]);
+        let second = next_word(sixteen.1, fourteen.1, eight.1, three.1);
+        (first, second)
     }
 
     ghost bits_are = { refl };

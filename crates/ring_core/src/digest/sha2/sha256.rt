@@ -12,6 +12,7 @@ use std::num::Wrapping;
 // not of numbers inside a struct.
 
 // K of round `t` (4.2.2)
+#[tactic(auto, unfolding(crate::specs::Sha2::constants_256))]
 fn round_constant(t: usize) -> u32
     requires { t < 64 }
     ensures { result ≡ slice_index constants_256 t }

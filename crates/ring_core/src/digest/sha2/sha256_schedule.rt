@@ -1,70 +1,41 @@
 //! Two words of 32 bits at a time: the schedule of SHA-256
 //! (FIPS 180-4, 6.2.2, step 1).
-ghost use Rattle.std.specs.Prelude.{◌≡◌, ℕ, ◌<◌, ◌≤◌, [], ◌∷◌, slice_index, map};
-ghost use Rattle.ring_core.specs.Sha2.{family_256, scheduled, two_rotations_and_shift, σ0, σ1};
+ghost use Rattle.std.specs.Prelude.{◌≡◌, ℕ, ◌<◌, ◌≤◌, map};
+ghost use Rattle.ring_core.specs.Sha2.{two_rotations_and_shift};
 ghost use Rattle.ring_core.specs.Word.{low_32};
 
-use crate::digest::sha2::sha2_schedule::ExtendSchedule;
+use crate::digest::sha2::sha2_schedule::{Before, ExtendSchedule};
 use crate::digest::word::Sha2;
-use crate::digest::word::w32::{doubled, joined};
-use crate::digest::word_ring::{pair, set_pair};
+use crate::digest::word::w32::{doubled, from_lanes, joined, to_lanes};
 use std::num::Wrapping;
 use std::simd::{Simd, u64x2};
 
-// ROTR first ⊕ ROTR second ⊕ SHR shift of the word in each slot, the rotations nested. A shift of
-// both copies of a word is one operation, a rotation of the word alone three.
+// σ0 or σ1 of the word in each slot (4.1.2), by its counts, the rotations nested. A shift of both
+// copies of a word is one operation, a rotation of the word alone three.
 #[inline(always)]
-fn rotations_and_shift(lanes: u64x2, first: u32, second: u32, shift: u32) -> u64x2
-    requires near { 1 ≤ first }
-    requires far { first < second }
-    requires below { second < 32 }
-    requires shift { shift < 32 }
-    ensures { map low_32 result
-        ≡ map (λ x. two_rotations_and_shift 32 (first, second, shift) (low_32 x)) lanes }
+fn small_sigma(lanes: u64x2, counts: (u32, u32, usize)) -> u64x2
+    requires first { 1 ≤ counts.0 }
+    requires second { counts.0 < counts.1 }
+    requires below { counts.1 < 32 }
+    requires shift { counts.2 < 32 }
+    ensures { map low_32 result ≡ map (two_rotations_and_shift 32 counts) (map low_32 lanes) }
 {
+    let (first, second, shift) = counts;
     let copies = doubled(lanes);
     let twice = joined(copies);
     let inner = twice ^ (twice >> Simd::splat((second - first) as u64));
-    (inner >> Simd::splat(first as u64)) ^ joined(copies >> Simd::splat(shift))
-}
-
-// σ0 of the word in each slot (4.1.2)
-#[inline(always)]
-fn small_sigma_0(lanes: u64x2) -> u64x2
-    ensures { map low_32 result ≡ map (λ x. σ0 family_256 (low_32 x)) lanes }
-{
-    let (first, second, shift) = Wrapping::<u32>::SMALL_SIGMA_0;
-    rotations_and_shift(lanes, first, second, shift as u32)
-}
-
-// σ1 of the word in each slot (4.1.2)
-#[inline(always)]
-fn small_sigma_1(lanes: u64x2) -> u64x2
-    ensures { map low_32 result ≡ map (λ x. σ1 family_256 (low_32 x)) lanes }
-{
-    let (first, second, shift) = Wrapping::<u32>::SMALL_SIGMA_1;
-    rotations_and_shift(lanes, first, second, shift as u32)
-}
-
-// The next two words, from the pairs that begin 16, 15, 7 and 2 words before them. The newest pair
-// is added last, so that the other sums need not wait for it.
-#[inline(always)]
-fn next_two(sixteen: u64x2, fifteen: u64x2, seven: u64x2, two: u64x2) -> u64x2
-    ensures { map low_32 result ≡ map (λ i. scheduled family_256
-        (low_32 (slice_index two i)) (low_32 (slice_index seven i))
-        (low_32 (slice_index fifteen i)) (low_32 (slice_index sixteen i))) (0 ∷ 1 ∷ []) }
-{
-    small_sigma_1(two) + (seven + (small_sigma_0(fifteen) + sixteen))
+    (inner >> Simd::splat(first as u64)) ^ joined(copies >> Simd::splat(shift as u32))
 }
 
 impl ExtendSchedule for Wrapping<u32> {
     #[inline(always)]
-    fn extend(ring: &mut [u64; 16], place: usize) {
-        let sixteen = Simd::from_array(pair(ring, place));
-        let fifteen = Simd::from_array(pair(ring, place + 1));
-        let seven = Simd::from_array(pair(ring, (place + 9) % 16));
-        let two = Simd::from_array(pair(ring, (place + 14) % 16));
-        let next = next_two(sixteen, fifteen, seven, two);
-        set_pair(ring, place, next.to_array());
+    fn next_two(before: &Before<u64>) -> (u64, u64) {
+        let sixteen = to_lanes(&before.sixteen);
+        let fifteen = to_lanes(&before.fifteen);
+        let seven = to_lanes(&before.seven);
+        let two = to_lanes(&before.two);
+        // The newest pair is added last, so that the other sums need not wait for it.
+        let newest = small_sigma(two, Self::SMALL_SIGMA_1);
+        from_lanes(newest + (seven + (small_sigma(fifteen, Self::SMALL_SIGMA_0) + sixteen)))
     }
 }

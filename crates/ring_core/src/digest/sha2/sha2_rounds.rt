@@ -2,11 +2,11 @@
 //! 4), written once for both word sizes.
 ghost use Rattle.std.specs.Prelude.{◌≡◌, ℕ, ◌+◌, ◌*◌, ◌<◌, ◌≤◌, List, map};
 ghost use Rattle.ring_core.specs.Schedule.{IsBefore, IsRing};
-ghost use Rattle.ring_core.specs.Sha2.{Σ0, Σ1, W, add_state, block_step, round, rounds_from};
+ghost use Rattle.ring_core.specs.Sha2.{W, add_state, block_step, round, rounds_from};
 ghost use Rattle.ring_core.specs.Sha2.{three_rotations};
-ghost use Rattle.ring_core.specs.Word.{add_words};
+ghost use Rattle.ring_core.specs.Word.{add_words, word_at};
 
-use crate::digest::sha2::sha2_schedule::ExtendSchedule;
+use crate::digest::sha2::sha2_schedule::{ExtendSchedule, extend};
 use crate::digest::word::Sha2;
 use crate::digest::word::functions::{choose_word, majority_word};
 use crate::digest::word::lane_word::LaneWord;
@@ -18,10 +18,10 @@ use crate::digest::word_ring::pair;
 // reads it.
 pub(crate) const BYTES: usize = 0;
 
-// ROTR first ⊕ ROTR second ⊕ ROTR third, nested: each rotation waits for the one inside it, but
-// three independent rotations need two more copies of the word, which takes longer.
+// Σ0 or Σ1 (4.1.2, 4.1.3), by its counts. The rotations are nested: each waits for the one inside
+// it, but three independent rotations need two more copies of the word, which takes longer.
 #[inline(always)]
-fn rotations<S: LaneWord>(x: S, counts: (u32, u32, u32)) -> S
+fn big_sigma<S: LaneWord>(x: S, counts: (u32, u32, u32)) -> S
     requires first { 1 ≤ counts.0 }
     requires second { counts.0 < counts.1 }
     requires third { counts.1 < counts.2 }
@@ -34,22 +34,6 @@ fn rotations<S: LaneWord>(x: S, counts: (u32, u32, u32)) -> S
     outer.rotr(first)
 }
 
-// Σ0
-#[inline(always)]
-fn big_sigma_0<S: LaneWord>(x: S) -> S
-    ensures { (i : ℕ) → S.lane i result ≡ Σ0 S.One.family (S.lane i x) }
-{
-    rotations(x, S::One::BIG_SIGMA_0)
-}
-
-// Σ1
-#[inline(always)]
-fn big_sigma_1<S: LaneWord>(x: S) -> S
-    ensures { (i : ℕ) → S.lane i result ≡ Σ1 S.One.family (S.lane i x) }
-{
-    rotations(x, S::One::BIG_SIGMA_1)
-}
-
 // One round (step 3), from the sum of its constant and its word.
 #[inline(always)]
 fn round<S: LaneWord>(v: [S; 8], sum: S) -> [S; 8]
@@ -57,8 +41,11 @@ fn round<S: LaneWord>(v: [S; 8], sum: S) -> [S; 8]
         → map (S.lane i) result ≡ round S.One.family (map (S.lane i) v) k w }
 {
     let [a, b, c, d, e, f, g, h] = v;
-    let temp1 = h.plus(big_sigma_1(e)).plus(choose_word(e, f, g)).plus(sum);
-    let temp2 = big_sigma_0(a).plus(majority_word(a, b, c));
+    let temp1 = h
+        .plus(big_sigma(e, S::One::BIG_SIGMA_1))
+        .plus(choose_word(e, f, g))
+        .plus(sum);
+    let temp2 = big_sigma(a, S::One::BIG_SIGMA_0).plus(majority_word(a, b, c));
     [temp1.plus(temp2), a, b, c, d.plus(temp1), e, f, g]
 }
 
@@ -83,7 +70,7 @@ fn two_rounds<S: ExtendSchedule>(
         → map (S.lane i) result ≡ rounds_from S.One.family h b (t + 2) }
 {
     let t = 16 * turn + place;
-    let [word, next_word] = pair(ring, place);
+    let (word, next_word) = pair(ring, place);
     let constant = S::splat(S::One::k(t));
     let next_constant = S::splat(S::One::k(t + 1));
     let (first, second) = S::add_pairs(constant, next_constant, word, next_word);
@@ -108,7 +95,7 @@ fn next_two_rounds<S: ExtendSchedule>(
         → IsBefore (W S.One.family b) (rounds_from S.One.family h b)
         (map (S.slot_lane i) ring.new) (map (S.lane i) result) (t + 2) }
 {
-    S::extend(ring, place);
+    extend::<S>(ring, place);
     two_rounds(ring, v, turn, place)
 }
 
@@ -181,7 +168,8 @@ pub(crate) fn run_loaded<S: ExtendSchedule, const CALLER: usize>(
     state: &mut [S; 8],
 )
     requires some { 0 < S.LANES }
-    ensures { (i : ℕ) (b : List ℕ) → IsRing (W S.One.family b) (map (S.slot_lane i) ring.old) 16
+    ensures { (i : ℕ) (b : List ℕ)
+        → IsRing (word_at S.One.bits b) (map (S.slot_lane i) ring.old) 16
         → map (S.lane i) state.new ≡ block_step S.One.family (map (S.lane i) state.old) b }
 {
     let mut variables = first_turn::<S, CALLER>(ring, *state); // steps 2 and 3

@@ -13,6 +13,7 @@ use std::num::Wrapping;
 // not of numbers inside a struct.
 
 // K of round `t` (4.2.3)
+#[tactic(auto, unfolding(crate::specs::Sha2::constants_512))]
 fn round_constant(t: usize) -> u64
     requires { t < 80 }
     ensures { result ≡ slice_index constants_512 t }

@@ -1,8 +1,10 @@
 //! Words of one size side by side, one in each lane: a word alone, or a vector of them.
 ghost use Rattle.std.specs.Prelude.{◌≡◌, ◌≢◌, ℕ, ◌^◌, ◌<◌, ◌≤◌, bit_and};
+ghost use Rattle.std.proofs.Common.{rules};
 ghost use Rattle.ring_core.specs.Word.{◌⊕◌, add_words, rotr, shr};
 
-use crate::digest::word::traits::Sha2;
+use crate::digest::word::traits::{Sha2, Word};
+use std::num::Wrapping;
 
 /// Words in lanes, with the operations of FIPS 180-4, 3.2, on the word of each lane. A clause names
 /// a lane by its number. A single word is in every lane, whatever the number.
@@ -44,6 +46,47 @@ pub trait LaneWord: Copy {
 
     // each word is below 2 ^ bits
     ghost fits: { (i : ℕ) (x : Self) → lane i x < 2 ^ Self.One.bits };
+}
+
+/// A single word: the operations of FIPS 180-4, 3.2, on it.
+impl<T: Copy> LaneWord for Wrapping<T>
+where
+    Wrapping<T>: Sha2,
+{
+    type One = Wrapping<T>;
+
+    const LANES: usize = 1;
+
+    ghost LANES = { 1 };
+
+    ghost lane = { λ _ x. ⟦<Wrapping<T> as Word>⟧.value x };
+
+    #[inline(always)]
+    fn splat(word: Wrapping<T>) -> Wrapping<T> {
+        word
+    }
+
+    #[inline(always)]
+    fn plus(self, o: Wrapping<T>) -> Wrapping<T> {
+        Word::plus(self, o)
+    }
+
+    #[inline(always)]
+    fn bit_and(self, o: Wrapping<T>) -> Wrapping<T> {
+        Word::bit_and(self, o)
+    }
+
+    #[inline(always)]
+    fn bit_xor(self, o: Wrapping<T>) -> Wrapping<T> {
+        Word::bit_xor(self, o)
+    }
+
+    #[inline(always)]
+    fn rotr(self, count: u32) -> Wrapping<T> {
+        Word::rotr(self, count)
+    }
+
+    ghost fits = { Prim.search rules };
 }
 
 /// A vector of words, of which each can be read and replaced.

@@ -4,7 +4,7 @@ ghost use Rattle.std.specs.Prelude.{map, bit_and, bit_or, bit_xor};
 ghost use Rattle.std.proofs.Common.{refl, mod-lt, pow_pos};
 ghost use Rattle.ring_core.specs.Word.{add_words, low_32, rotr, word_32};
 
-use crate::digest::word::lane_word::{LaneWord, Slots};
+use crate::digest::word::lane_word::Slots;
 use crate::digest::word::traits::Word;
 use std::num::Wrapping;
 use std::simd::{Simd, u32x4, u64x2};
@@ -21,19 +21,29 @@ fn rotate(word: u32, count: u32) -> u32
     word.rotate_right(count)
 }
 
-// A word in the low half of a slot.
-fn widened(word: u32) -> u64
-    ensures { low_32 result ≡ word % 2 ^ 32 }
-{
-    word as u64
-}
-
 // The word in the low half of a slot, whatever its high half holds.
 #[inline(always)]
 fn low_half(slot: u64) -> u32
     ensures { result % 2 ^ 32 ≡ low_32 slot }
 {
     (slot & 0xffff_ffff) as u32
+}
+
+// Two slots as lanes.
+#[inline(always)]
+pub(crate) fn to_lanes(slots: &(u64, u64)) -> u64x2
+    ensures { result ≡ slots.now.0 ∷ slots.now.1 ∷ [] }
+{
+    Simd::from_array([slots.0, slots.1])
+}
+
+// Two lanes as slots.
+#[inline(always)]
+pub(crate) fn from_lanes(lanes: u64x2) -> (u64, u64)
+    ensures { result.0 ∷ result.1 ∷ [] ≡ lanes }
+{
+    let [first, second] = lanes.to_array();
+    (first, second)
 }
 
 // The words of two slots, each twice.
@@ -59,7 +69,7 @@ pub(crate) fn joined(lanes: u32x4) -> u64x2
 pub(crate) fn rotate_lanes(lanes: u64x2, count: u32) -> u64x2
     requires positive { 1 ≤ count }
     requires below { count < 32 }
-    ensures { map low_32 result ≡ map (λ x. rotr 32 count (low_32 x)) lanes }
+    ensures { map low_32 result ≡ map (rotr 32 count) (map low_32 lanes) }
 {
     joined(doubled(lanes)) >> Simd::splat(count as u64)
 }
@@ -122,44 +132,6 @@ impl Word for Wrapping<u32> {
     ghost zero_is = { refl };
 }
 
-/// A single word: the operations of FIPS 180-4, 3.2, on it.
-impl LaneWord for Wrapping<u32> {
-    type One = Wrapping<u32>;
-
-    const LANES: usize = 1;
-
-    ghost LANES = { 1 };
-
-    ghost lane = { λ _ x. x.0 % 2 ^ 32 };
-
-    #[inline(always)]
-    fn splat(word: Wrapping<u32>) -> Wrapping<u32> {
-        word
-    }
-
-    #[inline(always)]
-    fn plus(self, o: Wrapping<u32>) -> Wrapping<u32> {
-        Word::plus(self, o)
-    }
-
-    #[inline(always)]
-    fn bit_and(self, o: Wrapping<u32>) -> Wrapping<u32> {
-        Word::bit_and(self, o)
-    }
-
-    #[inline(always)]
-    fn bit_xor(self, o: Wrapping<u32>) -> Wrapping<u32> {
-        Word::bit_xor(self, o)
-    }
-
-    #[inline(always)]
-    fn rotr(self, count: u32) -> Wrapping<u32> {
-        Word::rotr(self, count)
-    }
-
-    ghost fits = { λ _ _. mod-lt _ (pow_pos 32) };
-}
-
 // A slot holds the word in its low half: the lanes of a schedule's step are then slots as they are.
 // The high half keeps whatever a step carries into it.
 impl Slots for Wrapping<u32> {
@@ -168,7 +140,7 @@ impl Slots for Wrapping<u32> {
     ghost slot_lane = { λ _ x. x % 2 ^ 32 };
 
     fn to_slot(self) -> u64 {
-        widened(self.0)
+        self.0 as u64
     }
 
     #[inline(always)]

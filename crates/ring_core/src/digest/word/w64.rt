@@ -5,7 +5,7 @@ ghost use Rattle.std.proofs.Common.{refl, mod-lt, pow_pos};
 ghost use Rattle.ring_core.specs.Sha2.{words_64};
 ghost use Rattle.ring_core.specs.Word.{rotr};
 
-use crate::digest::word::lane_word::{LaneWord, Slots};
+use crate::digest::word::lane_word::Slots;
 use crate::digest::word::traits::Word;
 use std::num::Wrapping;
 use std::simd::{Simd, u64x2};
@@ -32,20 +32,19 @@ fn two_lanes(first: u64, second: u64) -> u64x2
 
 // Two words as lanes.
 #[inline(always)]
-pub(crate) fn to_lanes(words: [Wrapping<u64>; 2]) -> u64x2
-    ensures { result ≡ words_64 words }
+pub(crate) fn to_lanes(words: &(Wrapping<u64>, Wrapping<u64>)) -> u64x2
+    ensures { result ≡ words_64 (words.now.0 ∷ words.now.1 ∷ []) }
 {
-    let [first, second] = words;
-    two_lanes(first.0, second.0)
+    two_lanes(words.0.0, words.1.0)
 }
 
 // Two lanes as words.
 #[inline(always)]
-pub(crate) fn from_lanes(lanes: u64x2) -> [Wrapping<u64>; 2]
-    ensures { words_64 result ≡ lanes }
+pub(crate) fn from_lanes(lanes: u64x2) -> (Wrapping<u64>, Wrapping<u64>)
+    ensures { words_64 (result.0 ∷ result.1 ∷ []) ≡ lanes }
 {
     let [first, second] = lanes.to_array();
-    [Wrapping(first), Wrapping(second)]
+    (Wrapping(first), Wrapping(second))
 }
 
 // ROTR of each lane (3.2, item 4)
@@ -103,44 +102,6 @@ impl Word for Wrapping<u64> {
     ghost fits = { λ x. mod-lt _ (pow_pos 64) };
 
     ghost zero_is = { refl };
-}
-
-/// A single word: the operations of FIPS 180-4, 3.2, on it.
-impl LaneWord for Wrapping<u64> {
-    type One = Wrapping<u64>;
-
-    const LANES: usize = 1;
-
-    ghost LANES = { 1 };
-
-    ghost lane = { λ _ x. x.0 % 2 ^ 64 };
-
-    #[inline(always)]
-    fn splat(word: Wrapping<u64>) -> Wrapping<u64> {
-        word
-    }
-
-    #[inline(always)]
-    fn plus(self, o: Wrapping<u64>) -> Wrapping<u64> {
-        Word::plus(self, o)
-    }
-
-    #[inline(always)]
-    fn bit_and(self, o: Wrapping<u64>) -> Wrapping<u64> {
-        Word::bit_and(self, o)
-    }
-
-    #[inline(always)]
-    fn bit_xor(self, o: Wrapping<u64>) -> Wrapping<u64> {
-        Word::bit_xor(self, o)
-    }
-
-    #[inline(always)]
-    fn rotr(self, count: u32) -> Wrapping<u64> {
-        Word::rotr(self, count)
-    }
-
-    ghost fits = { λ _ _. mod-lt _ (pow_pos 64) };
 }
 
 impl Slots for Wrapping<u64> {

@@ -1,7 +1,7 @@
 use Rattle.std.proofs.Common.{◌≡◌, ◌+◌, ◌-◌, ◌*◌, ◌/◌, ℕ, ap, arith, drop, length, refl, sym}
 use Rattle.std.proofs.Common.{take, ◌∙◌}
 use Rattle.std.proofs.lemmas.List.{take_rest}
-use Rattle.ring.proofs.LaneBlocks.{chunk-tail}
+use Rattle.ring.proofs.LaneBlocks.{chunk_tail}
 use Rattle.ring.proofs.digest.padded_blocks.put_tail_block.Goals as goal
 
 pub returns : goal.returns
@@ -15,5 +15,5 @@ returns g c =
     c.copy_from_slice.ensures.after
     ∙ ap (λ (n : ℕ). take n (drop at (take tail.result tail.new.bytes))) size
     ∙ ap (λ z. take n (drop at z)) tail.ensures.bytes
-    ∙ sym (chunk-tail c.args.algorithm m c.args.number c.requires.whole refl c.requires.past
+    ∙ sym (chunk_tail c.args.algorithm m c.args.number c.requires.whole refl c.requires.past
     (take_rest m (n * w)))

@@ -5,16 +5,17 @@ use Rattle.ring_core.specs.Cost.{raised}
 use Rattle.ring.specs.Cost.{padded_blocks}
 use Rattle.ring.specs.Hmac.{key_algorithm}
 use Rattle.ring.specs.Pieces.{joined}
-use Rattle.ring.proofs.Signing.{signed_end, signed_more, signed_piece}
+use Rattle.ring.proofs.Feeding.{fed_piece, fed_tag-more}
+use Rattle.ring.proofs.Lengths.{counted_tag}
 use Rattle.ring.proofs.hkdf.rounds.round.Goals as goal
 
 pub loop-piece-preserved : goal.loop-piece-preserved
 loop-piece-preserved c =
     let before = c.loop-piece.invariant in
     let more = c.update_counted-in-loop-piece.ensures in
-    signed_piece c.args.previous.now c.args.info.now c.loop-piece.piece-index _
+    fed_piece c.args.previous.now c.args.info.now c.loop-piece.piece-index _
     c.loop-piece-test.true
-    (signed_more _ before more.algorithm more.counted more.pending more.stands more.cost)
+    (fed_tag-more _ before more.algorithm more.counted more.pending more.stands more.cost)
 
 pub returns-clause-ok : goal.returns-clause-ok
 returns-clause-ok c = λ k h.
@@ -32,7 +33,7 @@ returns-clause-cost c =
     let bytes = c.args.previous.now ++ joined c.args.info.now in
     let number = c.args.number ∷ [] in
     let whole =
-    signed_more number before more.algorithm more.counted more.pending more.stands more.cost in
+    fed_tag-more number before more.algorithm more.counted more.pending more.stands more.cost in
     let len : length (bytes ++ number)
     ≡ length c.args.previous.now + length (joined c.args.info.now) + 1 =
     omega (
@@ -40,5 +41,5 @@ returns-clause-cost c =
       length-append bytes number,
       length-append c.args.previous.now (joined c.args.info.now),
     ) in
-    signed_end whole c.in-Ok.ensures.cost
+    counted_tag whole.algorithm whole.taken c.in-Ok.ensures.cost
     ∙ ap (λ z. raised c.args.meter.now (padded_blocks (key_algorithm c.args.key.now) z + 1) 0) len

@@ -1,9 +1,9 @@
 use Rattle.std.proofs.Common.{◌++◌, take}
 use Rattle.ring.specs.Pieces.{joined}
-use Rattle.ring.proofs.Signing.{HasSigned}
+use Rattle.ring.proofs.Feeding.{HasFedTag}
 use Rattle.ring.proofs.hkdf.rounds.round.Given as goal
 
 abbrev pub invariant-loop-piece : goal.invariant-loop-piece
 invariant-loop-piece l =
     let taken = l.previous ++ joined (take l.piece-index l.info) in
-    HasSigned l.key l.context taken l.fn.meter l.meter
+    HasFedTag l.key l.context taken l.fn.meter l.meter

@@ -1,4 +1,4 @@
-use Rattle.std.proofs.Common.{◌≡◌, [], length, arith, rules}
+use Rattle.std.proofs.Common.{◌≡◌, [], arith, rules}
 use Rattle.std.proofs.Math.ListN.{get_or}
 use Rattle.ring_core.specs.declared.digest.word.in_lanes.InLanes.{InLanes}
 use Rattle.ring_core.specs.Word.{word_at}
@@ -7,16 +7,14 @@ use Rattle.ring_core.proofs.digest.word_ring.load_blocks.Goals as goal
 
 pub words-init : goal.words-init
 words-init g c = λ i below.
-    let sixteen : length c.args.ring.now ≡ 16 = search rules in
-    ring-empty (λ x. g.V.LaneWord.lane i x.0) c.args.ring.now sixteen
+    ring-empty (λ x. g.V.LaneWord.lane i x.0) c.args.ring.now (search rules)
 
 pub words-preserved : goal.words-preserved
 words-preserved g c = λ i below.
     let lane = λ (x : InLanes g.row.V.Denot). g.V.LaneWord.lane i x.0 in
     let w = word_at g.V.One.Word.bits (get_or c.args.blocks.now i []) in
-    let word : InLanes g.row.V.Denot = record { 0 = c.read_words.result } in
-    ring-set lane w c.words.ring c.words.t word (c.words.invariant i below) (omega arith)
-    (c.read_words.ensures i below)
+    ring-set lane w c.words.ring c.words.t (record { 0 = c.read_words.result })
+    (c.words.invariant i below) (omega arith) (c.read_words.ensures i below)
 
 pub returns : goal.returns
 returns g c = let all : c.words.t ≡ 16 = omega arith in rw all at c.words.invariant

@@ -1,22 +1,13 @@
-use Rattle.std.proofs.Common.{◌≡◌, length, arith, rules}
+use Rattle.std.proofs.Common.{arith, rules}
 use Rattle.ring_core.specs.Word.{word_at}
 use Rattle.ring_core.proofs.Schedule.{ring-empty, ring-set}
 use Rattle.ring_core.proofs.digest.word_ring.load_words.Goals as goal
 
 pub words-init : goal.words-init
-words-init g c = λ i b is.
-    let sixteen : length c.args.ring.now ≡ 16 = search rules in
-    ring-empty (g.S.Slots.slot_lane i) c.args.ring.now sixteen
+words-init g c = λ i b is. ring-empty (g.S.Slots.slot_lane i) c.args.ring.now (search rules)
 
 pub words-preserved : goal.words-preserved
 words-preserved g c = λ i b is.
-    let slot_lane = g.S.Slots.slot_lane i in
-    let w = word_at g.S.One.Word.bits b in
-    let t = c.words.t in
-    let word : slot_lane c.to_slot.result ≡ w t =
-    rw (c.to_slot.ensures i, c.word_of.ensures i) (is.word t (omega arith)) in
-    ring-set slot_lane w c.words.ring t c.to_slot.result (c.words.invariant i b is) (omega arith)
-    word
-
-pub returns : goal.returns
-returns g c = let all : c.words.t ≡ 16 = omega arith in rw all at c.words.invariant
+    ring-set (g.S.Slots.slot_lane i) (word_at g.S.One.Word.bits b) c.words.ring c.words.t
+    c.to_slot.result (c.words.invariant i b is) (omega arith)
+    (rw (c.to_slot.ensures i, c.word_of.ensures i) (is.word c.words.t (omega arith)))

@@ -4,7 +4,9 @@ use Rattle.ring.specs.Cost.{padded_blocks, raised}
 use Rattle.ring.specs.Hmac.{hmac_of, key_algorithm, signing_algorithm}
 use Rattle.ring.specs.declared.digest.algorithm.Algorithm.{Algorithm}
 use Rattle.ring.specs.declared.digest.algorithm.TheConstants.{SHA256}
-use Rattle.ring.proofs.Signing.{signed_end, signed_more, signed_none}
+use Rattle.ring.proofs.Feeding.{fed_none, fed_tag-more}
+use Rattle.ring.proofs.Lengths.{counted_tag}
+use Rattle.ring.proofs.Rows.{block_len-most}
 use Rattle.ring_store.specs.Token.{token_of}
 use Rattle.ring_store.proofs.token.TokenMaker.issue_counted.Goals as goal
 
@@ -26,14 +28,16 @@ returns-clause-ok c = λ k h.
 pub returns-clause-cost : goal.returns-clause-cost
 returns-clause-cost c =
     let new = c.with_key-context.ensures in
-    let none = signed_none new.algorithm new.counted new.pending new.stands in
+    let small = block_len-most (key_algorithm c.args.self.now.key) in
+    let none =
+    fed_none new.algorithm new.counted small new.pending (λ k h. new.stands k h) in
     let first = c.update_counted.ensures in
-    let one = signed_more c.to_be_bytes.result none first.algorithm first.counted first.pending
+    let one = fed_tag-more c.to_be_bytes.result none first.algorithm first.counted first.pending
     first.stands first.cost in
     let second = c.update_counted-2.ensures in
-    let two = signed_more c.args.user.now one second.algorithm second.counted second.pending
+    let two = fed_tag-more c.args.user.now one second.algorithm second.counted second.pending
     second.stands second.cost in
-    let last = signed_end two c.in-Ok.ensures.cost in
+    let last = counted_tag two.algorithm two.taken c.in-Ok.ensures.cost in
     let before = c.args.meter.now in
     let n = length c.args.user.now in
     let number : length c.to_be_bytes.result ≡ 8 = search rules in

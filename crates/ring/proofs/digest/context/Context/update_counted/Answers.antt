@@ -16,9 +16,7 @@ pub returns-then-input-room-clause-cost_of : goal.returns-then-input-room-clause
 returns-then-input-room-clause-cost_of c = λ m h.
     let fits : c.args.self.now.num_pending ≤ length c.args.self.now.pending =
     omega (arith, block_len-most c.args.self.now.block.algorithm) in
-    cost_moved c.args.self.now c.args.input.now (moved_none {m = c.args.meter.now} refl)
-    fits (omega (arith, ahead_len c.args.self.now c.args.input.now fits))
-    ∙ ap (λ (z : ℕ). raised c.args.meter.now z 0)
+    returns-then-input-room-clause-cost c ∙ ap (λ (z : ℕ). raised c.args.meter.now z 0)
     (stands_blocks c.args.self.now m (length c.args.input.now) h fits)
 
 pub returns-clause-cost : goal.returns-clause-cost
@@ -49,9 +47,5 @@ pub returns-clause-cost_of : goal.returns-clause-cost_of
 returns-clause-cost_of c = λ m h.
     let fits : c.args.self.now.num_pending ≤ length c.args.self.now.pending =
     omega (arith, block_len-most c.args.self.now.block.algorithm) in
-    let completed = c.complete_pending-rest.ensures.moved in
-    let moved = moved_both completed c.update-leftover.ensures.moved c.keep-2.ensures.block in
-    cost_moved c.args.self.now c.args.input.now moved fits
-    (rw completed.algorithm at c.update-leftover.ensures.short)
-    ∙ ap (λ (z : ℕ). raised c.args.meter.now z 0)
+    returns-clause-cost c ∙ ap (λ (z : ℕ). raised c.args.meter.now z 0)
     (stands_blocks c.args.self.now m (length c.args.input.now) h fits)

@@ -4,7 +4,8 @@ use Rattle.ring_core.proofs.Costs.{raised-raised}
 use Rattle.ring.specs.Algorithm.{block_len, output_len}
 use Rattle.ring.specs.Cost.{key_blocks, padded_blocks}
 use Rattle.ring.specs.declared.digest.algorithm.Algorithm.{Algorithm}
-use Rattle.ring.proofs.Keys.{key_digest_blocks-short, output_below}
+use Rattle.ring.proofs.Keys.{key_digest_blocks-short}
+use Rattle.ring.proofs.Rows.{output_below}
 use Rattle.ring.proofs.hkdf.salt.Salt.extract_counted.Goals as goal
 
 -- a tag, and the key that is made of it: no longer than a block

@@ -1,32 +1,27 @@
-use Rattle.std.proofs.Common.{◌≡◌, ◌≤◌, length, map, take, refl, sym, arith, rules}
+use Rattle.std.proofs.Common.{◌≡◌, ◌≤◌, length, map, take, sym, arith, rules}
 use Rattle.std.proofs.Math.ListN.{length-map}
 use Rattle.ring_core.specs.Schedule.{IsBefore}
 use Rattle.ring_core.specs.Sha1.{W, add_state, rounds_from}
 use Rattle.ring_core.proofs.Five.{first_five, add_state-take}
 use Rattle.ring_core.proofs.Mapped.{value_read}
-use Rattle.ring_core.proofs.Sha1Steps.{block_step-rounds}
+use Rattle.ring_core.proofs.Sha1Steps.{block_step-rounds, ring-loaded}
 use Rattle.ring_core.proofs.digest.sha1.sha1_rounds.run_loaded.Goals as goal
 
 pub returns-clause-words : goal.returns-clause-words
-returns-clause-words g c = λ i block ready.
+returns-clause-words g c = λ i block loaded.
     let f = g.S.LaneWord.lane i in
     let state = c.args.state.now in
     let h = take 5 (map f state) in
     let long : length state ≡ 8 = search rules in
     let enough : 5 ≤ length (map f state) = simp length-map (omega arith) in
     let ring = map (g.S.Slots.slot_lane i) c.args.ring.now in
+    let ready = ring-loaded block ring loaded in
     let r16 : IsBefore (W block) (rounds_from h block) ring (map f c.first_turn-v.result) 16 =
     record {
       words = ready;
       variables =
-          rw (
-            first_five (map f state) enough,
-            ← value_read f state 8 long 0 c.index-state-0.result refl,
-            ← value_read f state 8 long 1 c.index-state-1.result refl,
-            ← value_read f state 8 long 2 c.index-state-2.result refl,
-            ← value_read f state 8 long 3 c.index-state-3.result refl,
-            ← value_read f state 8 long 4 c.index-state-4.result refl,
-          ) (c.first_turn-v.ensures i block ready);
+          rw (first_five (map f state) enough)
+          (simp (value_read f state 8 long) at (c.first_turn-v.ensures i block ready));
     } in
     let r32 = c.later_turn-v.ensures i h block r16 in
     let r48 = c.later_turn-v-2.ensures i h block r32 in

@@ -1,5 +1,5 @@
 use Rattle.std.proofs.Common.{◌≡◌, ◌*◌, map, sym, ◌∙◌, arith}
-use Rattle.ring_core.proofs.Sha2Steps.{block_step-rounds, rounds-turns}
+use Rattle.ring_core.proofs.Sha2Steps.{block_step-rounds, ring-loaded, rounds-turns}
 use Rattle.ring_core.proofs.digest.sha2.sha2_rounds.run_loaded.Goals as goal
 
 pub later-init : goal.later-init
@@ -14,9 +14,11 @@ later-preserved g c = λ i b ready.
     c.later_turn-variables.ensures i h b (c.later.invariant i b ready)
 
 pub returns : goal.returns
-returns g c = λ i b ready.
+returns g c = λ i b loaded.
     let f = g.S.One.Sha2.family in
     let met = g.met.S.One.Sha2 in
+    let ring = map (g.S.Slots.slot_lane i) c.args.ring.now in
+    let ready = ring-loaded f g.S.One.Word.bits b ring met.bits_are loaded in
     let h = map (g.S.LaneWord.lane i) c.args.state.now in
     let whole = rounds-turns f met.which in
     let end : c.ROUNDS-turns.result ≡ f.rounds = c.ROUNDS-turns.ensures ∙ met.rounds_are in

@@ -8,12 +8,10 @@ use Rattle.ring_core.proofs.digest.states.States.xor_assign.Goals as goal
 pub returns : goal.returns
 returns g c = λ i.
     let lane = λ (x : InLanes g.row.V.Denot). g.V.LaneWord.lane i x.0 in
-    let x = c.args.self.now in
-    let y = c.args.other.now in
-    let eight_x : length x.words ≡ 8 = search rules in
-    let eight_y : length y.words ≡ 8 = search rules in
-    let words_x : length (map lane x.words) ≡ 8 = simp length-map eight_x in
-    let words_y : length (map lane y.words) ≡ 8 = simp length-map eight_y in
+    let x = c.args.self.now.words in
+    let y = c.args.other.now.words in
+    let eight_x : length x ≡ 8 = search rules in
+    let eight_y : length y ≡ 8 = search rules in
     rw (
       c.bit_xor.ensures i,
       c.bit_xor-2.ensures i,
@@ -24,6 +22,5 @@ returns g c = λ i.
       c.bit_xor-7.ensures i,
       c.bit_xor-8.ensures i,
     )
-    (simp (value_read lane x.words 8 eight_x)
-    (simp (value_read lane y.words 8 eight_y)
-    (xor_eight (map lane x.words) (map lane y.words) words_x words_y)))
+    (simp (value_read lane x 8 eight_x, value_read lane y 8 eight_y)
+    (xor_eight (map lane x) (map lane y) (simp length-map eight_x) (simp length-map eight_y)))

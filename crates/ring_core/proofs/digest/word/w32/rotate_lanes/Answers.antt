@@ -14,4 +14,5 @@ returns c =
     let twice = c.joined.ensures a a b b copies in
     let first = doubled-rotr 32 n a (omega arith) (mod-lt lanes.first (pow_pos 32)) in
     let second = doubled-rotr 32 n b (omega arith) (mod-lt lanes.second (pow_pos 32)) in
-    rw twice (λ i. first i ∷ second i ∷ []) ∙ sym (ap (map (λ x. rotr 32 n (low_32 x))) lanes.are)
+    rw twice (λ i. first i ∷ second i ∷ [])
+    ∙ sym (ap (λ l. map (rotr 32 n) (map low_32 l)) lanes.are)

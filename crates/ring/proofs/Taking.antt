@@ -1,0 +1,102 @@
+-- Bytes that come to places, part by part.
+use Rattle.std.proofs.Common.{◌≡◌, ◌↔◌, ℕ, ◌+◌, ◌-◌, ◌<◌, ◌≤◌, Bool, true, false, ◌&&◌, List, []}
+use Rattle.std.proofs.Common.{◌++◌, length, take, drop, arith, inl, inr, append-nil, append_assoc}
+use Rattle.std.proofs.Common.{length-append, refl}
+use Rattle.std.proofs.lemmas.Bool.{cases_lt}
+use Rattle.ring.specs.Receiver.{Takes}
+use Rattle.ring.proofs.Pieces.{same_part}
+
+-- a conjunction is true exactly where both parts are
+both_true : (m k : Bool) → ((m && k) ≡ true) ↔ ((m ≡ true) × (k ≡ true))
+both_true true k = (λ h. (refl, h), λ h. h.1)
+both_true false k = (λ h. absurd (cc), λ h. absurd (let e : false ≡ true = h.0 in cc))
+
+module _ {R : Type 0} {H : R → R → ℕ → List ℕ → Type 0} where
+  -- no place takes any
+  pub takes-none : (first m w : ℕ) (r : R) → Takes H first m w (λ i. []) r r
+  takes-none first m w r =
+      record {
+        each = λ start i front below long h. rw append-nil h;
+        others = λ start j front out h. h;
+      }
+
+  -- the bytes by other names
+  pub takes-same : {first m w : ℕ} {f g : ℕ → List ℕ} {x y : R} → Takes H first m w f x y
+      → ((i : ℕ) → i < m → f i ≡ g i) → Takes H first m w g x y
+  takes-same s same =
+      record {
+        each = λ start i front below long h.
+            rw (← same i below) (s.each start i front below long h);
+        others = s.others;
+      }
+
+  -- each of the places takes some bytes, and then others
+  pub takes-more : {first m w k v : ℕ} {f g h : ℕ → List ℕ} {x y z : R} → Takes H first m w f x y
+      → Takes H first m v g y z → v ≡ w + k
+      → ((i : ℕ) → i < m → (length (f i) ≡ k) × (h i ≡ f i ++ g i)) → Takes H first m w h x z
+  takes-more {f} {g} {h} s t place sum =
+      record {
+        each = λ start i front below long has.
+            let next = t.each start i (front ++ f i) below
+            (omega (arith, length-append front (f i), (sum i below).0, long, place))
+            (s.each start i front below long has) in
+            rw ((sum i below).1, ← append_assoc front (f i) (g i)) next;
+        others = λ start j front out has.
+            t.others start j front out (s.others start j front out has);
+      }
+
+  -- some places take bytes, and then the k after them
+  pub takes-places : {first m next w k : ℕ} {f g : ℕ → List ℕ} {x y z : R}
+      → Takes H first m w f x y → Takes H next k w g y z → next ≡ first + m
+      → ((i : ℕ) → i < k → g i ≡ f (m + i)) → Takes H first (m + k) w f x z
+  takes-places {first} {m} {next} {k = k} {f = f} s t place same =
+      record {
+        each = λ start i front below long has. elim (cases_lt i m) [
+          | inl lt ↦ t.others start (first + i) (front ++ f i)
+              (inl (omega (arith, place, lt)))
+              (s.each start i front lt long has)
+          | inr ge ↦
+              let at : first + i ≡ next + (i - m) = omega (arith, place, ge) in
+              let back : m + (i - m) ≡ i = omega (arith, ge) in
+              let less : i - m < k = omega (arith, ge, below) in
+              let bytes = rw back at (same (i - m) less) in
+              let had = s.others start (first + i) front (inr (omega (arith, ge))) has in
+              rw (at, ← bytes) (t.each start (i - m) front less long (rw at at had))
+        ];
+        others = λ start j front out has.
+            t.others start j front (elim out [
+              | inl h ↦ inl (omega (arith, place, h))
+              | inr h ↦ inr (omega (arith, place, h))
+            ]) (s.others start j front (elim out [
+              | inl h ↦ inl h
+              | inr h ↦ inr (omega (arith, h))
+            ]) has);
+      }
+
+  -- what came since the start: nothing after these places, and to each of them its bytes
+  pub taken-all : {first m : ℕ} {f : ℕ → List ℕ} {x y : R} → Takes H first m 0 f x y
+      → ((place : ℕ) → H x x place []) → H x y (first + m) []
+      × ((i place : ℕ) → i < m → place ≡ first + i → H x y place (f i))
+  taken-all {x = x} t none = (
+    t.others x _ [] (inr (omega arith)) (none _),
+    λ i place below at. rw at (t.each x i [] below refl (none _)),
+  )
+
+-- a part that is compared after a front: m says whether the front was the same, and b whether the
+-- part is
+pub compared-part : {A : Type 0} {m b : Bool} (front part value : List ℕ) {w : ℕ}
+    → length front ≡ w → w ≤ length value
+    → (b ≡ true) ↔ (take (length part) (drop w value) ≡ part)
+    → (m ≡ true) ↔ (A × (take (length front) value ≡ front))
+    → ((m && b) ≡ true) ↔ (A × (take (length (front ++ part)) value ≡ front ++ part))
+compared-part {m = m} {b = b} front part value long room is was =
+    let split = rw long at (same_part value front part (omega (arith, long, room))) in
+    let had = rw long at was in (
+      λ e.
+          let both = (both_true m b).0 e in
+          let first = had.0 both.0 in
+          (first.0, split.1 (first.1, is.0 both.1)),
+      λ h.
+          let both = split.0 h.1 in
+          (both_true m b).1 (had.1 (h.0, both.0), is.1 both.1),
+    )

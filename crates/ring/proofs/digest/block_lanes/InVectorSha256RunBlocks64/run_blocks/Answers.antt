@@ -1,0 +1,10 @@
+use Rattle.std.proofs.Common.{refl}
+use Rattle.ring_core.specs.Sha2.{family_256}
+use Rattle.ring.specs.declared.digest.algorithm.TheConstants.{SHA256}
+use Rattle.ring.proofs.LaneBlocks.{lane-sha2}
+use Rattle.ring.proofs.digest.block_lanes.InVectorSha256RunBlocks64.run_blocks.Goals as goal
+
+pub returns-clause-words : goal.returns-clause-words
+returns-clause-words g c = λ a i h is below has.
+    rw is (lane-sha2 SHA256 family_256 _ refl (rw is at has)
+    (c.block_data_order_lanes_counted.ensures.words i below))

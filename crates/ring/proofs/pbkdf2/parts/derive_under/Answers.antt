@@ -1,0 +1,73 @@
+use Rattle.std.proofs.Common.{◌≡◌, ◌∙◌, ◌+◌, ◌*◌, ◌≤◌, List, ℕ, ap, arith, length, refl}
+use Rattle.std.proofs.Common.{length-take-le}
+use Rattle.ring.specs.Algorithm.{output_len}
+use Rattle.std.specs.Int.NonZero.{non_zero_u32_get}
+use Rattle.ring.specs.Hmac.{key_algorithm}
+use Rattle.ring.specs.Pbkdf2.{dk, xored}
+use Rattle.ring.proofs.Parts.{round_blocks}
+use Rattle.ring.proofs.Rounds.{IsNext, dk-next, length-dk, run-all, run-next, run-none}
+use Rattle.ring.proofs.Sums.{raised-pairs}
+use Rattle.ring.proofs.Taking.{takes-more, takes-none}
+use Rattle.ring.proofs.pbkdf2.parts.derive_under.Goals as goal
+
+pub parts-init : goal.parts-init
+unfolding dk
+parts-init g c =
+    let a = key_algorithm c.args.key.now in
+    let iterations = non_zero_u32_get c.args.iterations in
+    let b = round_blocks c.args.key.now c.args.salt.now iterations in
+    let none : 0 ≡ g.R.Receiver.pairs * 0 = grind arith in
+    record {
+      run = rw (← none) (run-none a b c.args.len c.args.meter.now);
+      same = (refl, refl);
+      taken = λ p stands. takes-none c.args.place 1 0 c.args.receiver.now;
+    }
+
+pub parts-preserved : goal.parts-preserved
+parts-preserved g c =
+    let a = key_algorithm c.args.key.now in
+    let s = c.args.salt.now in
+    let iterations = non_zero_u32_get c.args.iterations in
+    let h = c.parts.invariant in
+    let w = c.parts.taken in
+    let t = c.next_part-count.result.0 in
+    let k = c.next_part-count.result.1 in
+    let same = c.digest_algorithm-algorithm.ensures ∙ c.algorithm.ensures in
+    let part = rw same at c.next_part-count.ensures in
+    let next : IsNext a c.args.len w t k = record {
+      more = c.parts-test.true;
+      wanted = part.wanted;
+      needed = part.needed;
+    } in
+    let most : t ≤ 8 = grind (arith, part.together) in
+    let long : length c.write_rounds_after.new.rounds ≡ t =
+    c.write_rounds_after.auto.rounds ∙ length-take-le t _ most in
+    let len = c.output_len-output_len.ensures ∙ ap output_len same in
+    let b = round_blocks c.args.key.now c.args.salt.now iterations in
+    let pairs = g.R.Receiver.pairs in
+    let more : pairs * w + pairs * k ≡ pairs * (w + k) = grind arith in
+    let all : w ≡ 0 + w = omega arith in
+    let rounds = c.write_rounds_after.ensures in
+    let took = c.take_rounds_in_order.ensures in
+    record {
+      run = rw (← more) (run-next (pairs * k) h.run next
+          (raised-pairs c.parts.meter (t * b) (pairs * k)
+          (rw (← c.write_rounds_after.auto.rounds, long) at rounds.cost) took.cost));
+      same = (took.same.0 ∙ h.same.0, took.same.1 ∙ h.same.1);
+      taken = λ p stands.
+          let f : ℕ → List ℕ = λ i. xored a p s (c.parts.number + i) iterations in
+          let bytes = rw (len, long) at took.ok f (λ i room below. rounds.ok p i room stands
+          (omega (arith, c.write_rounds_after.auto.rounds, long, below))) in
+          takes-more (h.taken p stands) bytes all
+          (λ i below. (length-dk a p s iterations w, dk-next h.run.reached next p s iterations));
+    }
+
+pub returns : goal.returns
+returns g c =
+    let h = c.parts.invariant in
+    let end = run-all h.run c.parts-test.false in
+    record {
+      ok = λ p stands. rw end.0 at (h.taken p stands);
+      same = h.same;
+      cost = rw end.0 at end.1;
+    }

@@ -1,0 +1,21 @@
+use Rattle.std.proofs.Common.{◌≡◌, ℕ, ◌+◌, ◌*◌, ◌<◌, List, get_or, length, min, take}
+use Rattle.ring_core.specs.Cost.{raised}
+use Rattle.ring.specs.Pieces.{joined_blocks}
+use Rattle.ring.specs.Receiver.{Takes}
+use Rattle.ring.specs.declared.digest.dynstate.Output.{Output}
+use Rattle.ring.proofs.Pieces.{IsPut}
+use Rattle.ring.proofs.pbkdf2.parts.take_rounds_in_order.Given as goal
+
+abbrev pub invariant-rounds : goal.invariant-rounds
+invariant-rounds g l =
+    let r = g.R.Receiver in
+    record {
+      reached : l.taken ≡ min (l.i * l.output_len) l.len;
+      same : (r.places l.receiver ≡ r.places l.fn.receiver)
+          × (r.room l.receiver ≡ r.room l.fn.receiver);
+      cost : l.meter ≡ raised l.fn.meter 0 (r.pairs * l.taken);
+      taken : (f : ℕ → List ℕ) → ((i : ℕ) (room : Output) → i < length l.rounds
+          → take l.output_len (get_or l.rounds i room).0 ≡ f (i + 1))
+          → IsPut f l.len l.i l.taken × Takes r.HasCome l.place 1 l.from
+          (λ i. take l.taken (joined_blocks f l.i)) l.fn.receiver l.receiver;
+    }

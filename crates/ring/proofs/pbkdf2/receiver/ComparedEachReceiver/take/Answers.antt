@@ -1,0 +1,46 @@
+use Rattle.std.proofs.Common.{◌≡◌, ◌≢◌, ◌+◌, ◌≤◌, ◌<◌, ◌&&◌, ◌∙◌, [], arith, false, get_or}
+use Rattle.std.proofs.Common.{length}
+use Rattle.std.proofs.Math.ListN.{length-set}
+use Rattle.std.proofs.lemmas.List.{get_or-set_other, get_or-set_same}
+use Rattle.ring.proofs.Taking.{compared-part}
+use Rattle.ring.proofs.pbkdf2.receiver.ComparedEachReceiver.take.Goals as goal
+
+pub has_at-same-requires : goal.has_at-same-requires
+has_at-same-requires g c =
+    (omega (arith, c.requires.size), (omega (arith, c.requires.place), c.requires.room))
+
+pub returns-clause-ok : goal.returns-clause-ok
+returns-clause-ok g c =
+    let place = c.args.place in
+    let w = c.args.from in
+    let part = c.args.part.now in
+    let values = c.args.self.now.values.now in
+    let matches = c.args.self.now.matches.now in
+    let same = c.has_at-same.result in
+    let now = get_or matches place false && same in
+    let room : place < length matches = omega (arith, c.requires.place) in
+    let size = c.has_at-same.ensures.len in
+    let fits : w ≤ length (get_or values place []) = omega (arith, size, c.requires.room) in
+    let count = length-set matches place now in
+    record {
+      each = λ start i front first long has.
+          let here : place + i ≡ place = omega (arith, first) in
+          let before = rw here at has in
+          rw here (
+            before.0,
+            before.1,
+            count ∙ before.2,
+            λ some. size,
+            rw (get_or-set_same matches place now false room)
+                (compared-part front part (get_or values place []) long fits
+                c.has_at-same.ensures.ok before.4),
+          );
+      others = λ start j front out has.
+          let other : j ≢ place = λ e. omega (arith, e, out) in (
+            has.0,
+            has.1,
+            count ∙ has.2,
+            has.3,
+            rw (get_or-set_other matches place j now false other) has.4,
+          );
+    }

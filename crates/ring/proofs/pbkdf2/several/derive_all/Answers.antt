@@ -1,0 +1,78 @@
+use Rattle.std.proofs.Common.{◌≡◌, ◌≤◌, ◌+◌, ◌-◌, ◌*◌, ◌∙◌, arith, length, refl, rules}
+use Rattle.std.proofs.Common.{zero-mul}
+use Rattle.std.specs.Int.NonZero.{non_zero_u32_get}
+use Rattle.ring.specs.DeriveEach.{derive_blocks_at, sum_below}
+use Rattle.ring.specs.Hmac.{hmac_digest}
+use Rattle.ring.proofs.DerivedKeys.{blocks-part, can_derive-part}
+use Rattle.ring.proofs.Each.{message_at-part}
+use Rattle.ring.proofs.Places.{items_from, length-items_from}
+use Rattle.ring.proofs.Sums.{pairs-none, raised-both, sum_below-none}
+use Rattle.ring.proofs.Taking.{takes-none, takes-places, takes-same}
+use Rattle.ring.proofs.pbkdf2.several.derive_all.Goals as goal
+
+pub together-init : goal.together-init
+together-init g c =
+    let blocks = derive_blocks_at (hmac_digest c.args.algorithm) c.args.salts.now
+    c.args.secrets.now (non_zero_u32_get c.args.iterations) c.args.len in
+    record {
+      within = omega arith;
+      same = (refl, refl);
+      cost = rw (sum_below-none blocks, zero-mul) (pairs-none c.args.meter.now g.R.Receiver.pairs);
+      taken = takes-same (takes-none 0 0 0 c.args.receiver.now)
+          (λ i below. absurd (omega (arith, below)));
+    }
+
+pub derive_together-requires : goal.derive_together-requires
+derive_together-requires g c =
+    let h = c.together.invariant in
+    let at = c.together.made in
+    let k = c.lanes_for.result in
+    let secrets = c.args.secrets.now in
+    let size : at + k - at ≡ k = omega arith in
+    let room : at + k ≤ length secrets = omega arith in
+    let few : length (items_from at k secrets) ≡ k = length-items_from at k secrets room in
+    record {
+      together = rw (size, few, ← c.digest_algorithm-digest.ensures) c.lanes_for.ensures.together;
+      within = rw (size, few)
+          (can_derive-part c.args.salts.now secrets at k c.requires.within room);
+      places = rw (size, few) (omega (arith, h.same, room, c.requires.places));
+      most = rw (size, few) (search rules);
+      room = omega (arith, h.same, c.requires.room);
+      size = omega (arith, h.same, c.requires.size);
+    }
+
+pub together-preserved : goal.together-preserved
+together-preserved g c =
+    let h = c.together.invariant in
+    let at = c.together.made in
+    let k = c.lanes_for.result in
+    let salts = c.args.salts.now in
+    let secrets = c.args.secrets.now in
+    let a = hmac_digest c.args.algorithm in
+    let iterations = non_zero_u32_get c.args.iterations in
+    let len = c.args.len in
+    let pairs = g.R.Receiver.pairs in
+    let size : at + k - at ≡ k = omega arith in
+    let room : at + k ≤ length secrets = omega arith in
+    let few : length (items_from at k secrets) ≡ k = length-items_from at k secrets room in
+    let part = rw (size, few) at c.derive_together.ensures in
+    let all = derive_blocks_at a salts secrets iterations len in
+    let some = derive_blocks_at a (items_from at k salts) (items_from at k secrets) iterations
+    len in
+    let more : pairs * (at * len) + pairs * (k * len) ≡ pairs * ((at + k) * len) = grind arith in
+    record {
+      within = room;
+      same = (part.same.0 ∙ h.same.0, part.same.1 ∙ h.same.1);
+      cost = rw (blocks-part a salts secrets iterations len at k, more) at
+          (raised-both c.args.meter.now (sum_below all at) (pairs * (at * len))
+          (sum_below some k) (pairs * (k * len)) h.cost part.cost);
+      taken = takes-places h.taken part.ok (omega arith) (λ j below.
+          rw (message_at-part secrets at k j below, message_at-part salts at k j below) refl);
+    }
+
+pub returns : goal.returns
+returns g c =
+    let h = c.together.invariant in
+    let all : c.together.made ≡ length c.args.secrets.now =
+    omega (arith, h.within, c.together-test.false) in
+    record { ok = rw all at h.taken; cost = rw all at h.cost }

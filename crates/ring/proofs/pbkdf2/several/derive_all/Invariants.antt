@@ -1,0 +1,26 @@
+use Rattle.std.proofs.Common.{◌≡◌, ◌≤◌, ◌-◌, ◌*◌, length}
+use Rattle.std.specs.Int.NonZero.{non_zero_u32_get}
+use Rattle.ring_core.specs.Cost.{raised}
+use Rattle.ring.specs.DeriveEach.{derive_blocks_at, dk_at, sum_below}
+use Rattle.ring.specs.Hmac.{hmac_digest}
+use Rattle.ring.specs.Receiver.{Takes}
+use Rattle.ring.proofs.pbkdf2.several.derive_all.Given as goal
+
+abbrev pub invariant-together : goal.invariant-together
+invariant-together g l =
+    let r = g.R.Receiver in
+    let a = hmac_digest l.algorithm in
+    let iterations = non_zero_u32_get l.iterations in
+    record {
+      within : l.made ≤ length l.secrets;
+      same : (r.places l.receiver ≡ r.places l.fn.receiver)
+          × (r.room l.receiver ≡ r.room l.fn.receiver);
+      cost : l.meter ≡ raised l.fn.meter
+          (sum_below (derive_blocks_at a l.salts l.secrets iterations l.len) l.made)
+          (r.pairs * (l.made * l.len));
+      taken : Takes r.HasCome 0 l.made 0 (dk_at a l.salts l.secrets iterations l.len)
+          l.fn.receiver l.receiver;
+    }
+
+abbrev pub decreases-together : goal.decreases-together
+decreases-together g l = length l.secrets - l.made

@@ -1,0 +1,71 @@
+use Rattle.std.proofs.Common.{◌≡◌, ◌∙◌, ◌*◌, ◌<◌, arith, length, refl, sym}
+use Rattle.std.specs.Int.NonZero.{non_zero_u32_get}
+use Rattle.ring.specs.Hmac.{hmac_digest}
+use Rattle.ring.proofs.DerivedKeys.{blocks-one, cost-each}
+use Rattle.ring.proofs.Each.{message-read}
+use Rattle.ring.proofs.KeysAt.{keys-algorithm, keys-together}
+use Rattle.ring.proofs.Rounds.{cost_derived}
+use Rattle.ring.proofs.Taking.{takes-same}
+use Rattle.ring.proofs.pbkdf2.several.derive_together.Goals as goal
+
+pub returns-then-secrets-eq1-clause-ok : goal.returns-then-secrets-eq1-clause-ok
+returns-then-secrets-eq1-clause-ok g c =
+    let secrets = c.args.secrets.now in
+    let salts = c.args.salts.now in
+    let one : length secrets ≡ 1 = omega arith in
+    let key = c.key_within-key.ensures in
+    rw one (takes-same (rw key.algorithm at (c.derive_under.ensures.ok _ key.ok)) (λ i below.
+    let first : i ≡ 0 = omega (arith, below) in
+    rw (first, message-read secrets 0, message-read salts 0) refl))
+
+pub returns-then-secrets-eq1-clause-cost : goal.returns-then-secrets-eq1-clause-cost
+returns-then-secrets-eq1-clause-cost g c =
+    let a = hmac_digest c.args.algorithm in
+    let secrets = c.args.secrets.now in
+    let len = c.args.len in
+    let one : length secrets ≡ 1 = omega arith in
+    let key = c.key_within-key.ensures in
+    let rounds = rw key.algorithm at c.derive_under.ensures.cost in
+    let pairs : 1 * len ≡ len = omega arith in
+    rw (
+      one,
+      pairs,
+      ← blocks-one a c.args.salts.now secrets
+          (non_zero_u32_get c.args.iterations) len,
+    )
+    (cost_derived a c.args.meter.now _ _ (g.R.Receiver.pairs * len) key.cost rounds)
+
+pub derive_under_each-requires : goal.derive_under_each-requires
+derive_under_each-requires g c =
+    let keys = c.keys_of-keys.ensures in
+    let digest = c.digest_algorithm-digest.ensures in
+    let within = c.requires.within in
+    let first : 0 < length c.args.secrets.now = grind (arith, c.requires.together) in
+    record {
+      together = keys-together digest keys.count c.requires.together;
+      keys = keys-algorithm digest keys.ok;
+      count = within.salt_count ∙ sym keys.count;
+      within = λ i some below.
+          rw digest ((within.each i (omega (arith, keys.count, below))).salt some);
+      rounds = rw digest (within.each 0 first).rounds;
+      places = rw keys.count c.requires.places;
+      most = rw keys.count c.requires.most;
+      room = c.requires.room;
+      size = c.requires.size;
+    }
+
+pub returns-clause-ok : goal.returns-clause-ok
+returns-clause-ok g c =
+    let keys = c.keys_of-keys.ensures in
+    rw (c.digest_algorithm-digest.ensures, keys.count) at
+    (c.derive_under_each.ensures.ok _ (rw (← c.digest_algorithm-digest.ensures) at keys.ok))
+
+pub returns-clause-cost : goal.returns-clause-cost
+returns-clause-cost g c =
+    let keys = c.keys_of-keys.ensures in
+    let rounds = rw (c.digest_algorithm-digest.ensures, keys.count)
+    at c.derive_under_each.ensures.cost in
+    cost-each (hmac_digest c.args.algorithm) c.args.salts.now c.args.secrets.now
+    (non_zero_u32_get c.args.iterations) c.args.len (length c.args.secrets.now)
+    c.args.meter.now (g.R.Receiver.pairs * (length c.args.secrets.now * c.args.len))
+    keys.cost rounds

@@ -1,0 +1,42 @@
+use Rattle.std.proofs.Common.{◌≡◌, ◌+◌, ◌*◌, ◌∙◌, ap, arith, get_or, length, refl, rules}
+use Rattle.std.proofs.Common.{take, zero-mul}
+use Rattle.std.proofs.lemmas.List.{get_or_default}
+use Rattle.ring.specs.declared.digest.dynstate.Output.{Output}
+use Rattle.ring.proofs.DerivedKeys.{no_output}
+use Rattle.ring.proofs.Rounds.{mul-more}
+use Rattle.ring.proofs.Sums.{pairs-more, pairs-none}
+use Rattle.ring.proofs.Taking.{takes-none, takes-places, takes-same}
+use Rattle.ring.proofs.pbkdf2.several.take_round_of_each.Goals as goal
+
+pub places-init : goal.places-init
+places-init g c =
+    record {
+      same = (refl, refl);
+      cost = rw zero-mul (pairs-none c.args.meter.now g.R.Receiver.pairs);
+      taken = λ room. takes-same (takes-none c.args.first 0 c.args.from c.args.receiver.now)
+          (λ i below. absurd (omega (arith, below)));
+    }
+
+pub places-preserved : goal.places-preserved
+places-preserved g c =
+    let h = c.places.invariant in
+    let i = c.places.i in
+    let len = c.args.len in
+    let rounds = c.args.rounds.now in
+    let size : length (take len (get_or rounds i no_output).0) ≡ len = search rules in
+    record {
+      same = (c.take.ensures.same.0 ∙ h.same.0, c.take.ensures.same.1 ∙ h.same.1);
+      cost = rw (mul-more i len) at (pairs-more c.args.meter.now g.R.Receiver.pairs (i * len) len
+          h.cost (rw size at c.take.ensures.cost));
+      taken = λ room. takes-places (h.taken room) c.take.ensures.ok refl
+          (λ j below.
+          let here : i + j ≡ i = omega (arith, below) in
+          rw here (ap (λ (round : Output). take len round.0)
+          (get_or_default rounds i no_output room c.places-test.true)));
+    }
+
+pub returns : goal.returns
+returns g c =
+    let h = c.places.invariant in
+    let all : c.places.i ≡ length c.args.rounds.now = omega arith in
+    record { ok = rw all at h.taken; same = h.same; cost = rw all at h.cost }

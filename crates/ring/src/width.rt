@@ -1,0 +1,26 @@
+//! The width of the vectors over which several messages or rounds run side by side, in bits.
+//!
+//! [`digest::digest_each`](crate::digest::digest_each) and the calls of [`pbkdf2`](crate::pbkdf2)
+//! run over vectors of 128 bits ([`SSE`]), four words of 32 bits. Their forms whose names end in
+//! `_in` take the width as a const argument. Over 256 bits ([`AVX2`]) they run eight words of 32
+//! bits, or four of 64: in a build for processors with AVX2 (`rt lib --cpu=x86-64-v3`) that takes
+//! about half the time, in one for older processors more. A library can't ask what it is built for,
+//! so the caller chooses:
+//!
+//! ```
+//! pub fn digests_of_eight(
+//!     algorithm: &Algorithm,
+//!     messages: &[&[u8]; 8],
+//! ) -> Result<[Digest; 8], Unspecified>
+//!     ensures ok { IfOk result (λ digests. AreDigests digests algorithm.now messages.now) }
+//!     ensures refused { IsOk result ↔ CanDigestEach algorithm.now messages.now 8 }
+//! {
+//!     let mut digests = [digest(algorithm, &[])?; 8];
+//!     digest_each_in::<AVX2>(algorithm, messages, &mut digests, &mut Meter::new())?;
+//!     Ok(digests)
+//! }
+//! ```
+//!
+//! The imports of this example stand in `crates/ring_examples/src/wide.rt`.
+
+pub use crate::digest::vectors::{AVX2, SSE};

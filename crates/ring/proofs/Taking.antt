@@ -20,6 +20,14 @@ module _ {R : Type 0} {H : R → R → ℕ → List ℕ → Type 0} where
         others = λ start j front out h. h;
       }
 
+  -- of no places none takes any
+  pub takes-nowhere : (first w : ℕ) (f : ℕ → List ℕ) (r : R) → Takes H first 0 w f r r
+  takes-nowhere first w f r =
+      record {
+        each = λ start i front below. absurd (omega (arith, below));
+        others = λ start j front out h. h;
+      }
+
   -- the bytes by other names
   pub takes-same : {first m w : ℕ} {f g : ℕ → List ℕ} {x y : R} → Takes H first m w f x y
       → ((i : ℕ) → i < m → f i ≡ g i) → Takes H first m w g x y

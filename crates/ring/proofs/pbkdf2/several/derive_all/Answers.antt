@@ -1,25 +1,26 @@
 use Rattle.std.proofs.Common.{◌≡◌, ◌≤◌, ◌+◌, ◌-◌, ◌*◌, ◌∙◌, arith, length, refl, rules}
 use Rattle.std.proofs.Common.{zero-mul}
 use Rattle.std.specs.Int.NonZero.{non_zero_u32_get}
-use Rattle.ring.specs.DeriveEach.{derive_blocks_at, sum_below}
+use Rattle.ring.specs.DeriveEach.{derive_blocks_at, dk_at, sum_below}
 use Rattle.ring.specs.Hmac.{hmac_digest}
 use Rattle.ring.proofs.DerivedKeys.{blocks-part, can_derive-part}
 use Rattle.ring.proofs.Each.{message_at-part}
 use Rattle.ring.proofs.Places.{items_from, length-items_from}
 use Rattle.ring.proofs.Sums.{pairs-none, raised-both, sum_below-none}
-use Rattle.ring.proofs.Taking.{takes-none, takes-places, takes-same}
+use Rattle.ring.proofs.Taking.{takes-nowhere, takes-places}
 use Rattle.ring.proofs.pbkdf2.several.derive_all.Goals as goal
 
 pub together-init : goal.together-init
 together-init g c =
     let blocks = derive_blocks_at (hmac_digest c.args.algorithm) c.args.salts.now
     c.args.secrets.now (non_zero_u32_get c.args.iterations) c.args.len in
+    let bytes = dk_at (hmac_digest c.args.algorithm) c.args.salts.now c.args.secrets.now
+    (non_zero_u32_get c.args.iterations) c.args.len in
     record {
       within = omega arith;
       same = (refl, refl);
       cost = rw (sum_below-none blocks, zero-mul) (pairs-none c.args.meter.now g.R.Receiver.pairs);
-      taken = takes-same (takes-none 0 0 0 c.args.receiver.now)
-          (λ i below. absurd (omega (arith, below)));
+      taken = takes-nowhere 0 0 bytes c.args.receiver.now;
     }
 
 pub derive_together-requires : goal.derive_together-requires

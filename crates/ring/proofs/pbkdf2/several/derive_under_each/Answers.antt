@@ -35,7 +35,6 @@ rounds-preserved g c =
     let k = c.min-part_len.result in
     let wanted : k ≡ min (output_len a) (c.args.len - w) =
     omega (arith, c.min-part_len.ensures, c.output_len-output_len.ensures) in
-    let next = next-one k c.rounds-test.true wanted in
     let round = c.write_round_of_each in
     let several : length round.new.rounds ≡ m = search rules in
     let b : 1 * each_round_blocks a salts iterations m ≡ each_round_blocks a salts iterations m =
@@ -45,6 +44,7 @@ rounds-preserved g c =
     let took = rw several at c.take_round_of_each.ensures in
     let all : w ≡ 0 + w = omega arith in
     let fits : k ≤ output_len a = omega (arith, wanted) in
+    let next = next-one k c.rounds-test.true wanted in
     record {
       run = rw (← more) (run-next (pairs * (m * k)) h.run next
           (rw b (raised-pairs c.rounds.meter (each_round_blocks a salts iterations m)

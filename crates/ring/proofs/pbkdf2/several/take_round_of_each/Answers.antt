@@ -5,7 +5,7 @@ use Rattle.ring.specs.declared.digest.dynstate.Output.{Output}
 use Rattle.ring.proofs.DerivedKeys.{no_output}
 use Rattle.ring.proofs.Rounds.{mul-more}
 use Rattle.ring.proofs.Sums.{pairs-more, pairs-none}
-use Rattle.ring.proofs.Taking.{takes-none, takes-places, takes-same}
+use Rattle.ring.proofs.Taking.{takes-nowhere, takes-places}
 use Rattle.ring.proofs.pbkdf2.several.take_round_of_each.Goals as goal
 
 pub places-init : goal.places-init
@@ -13,8 +13,7 @@ places-init g c =
     record {
       same = (refl, refl);
       cost = rw zero-mul (pairs-none c.args.meter.now g.R.Receiver.pairs);
-      taken = λ room. takes-same (takes-none c.args.first 0 c.args.from c.args.receiver.now)
-          (λ i below. absurd (omega (arith, below)));
+      taken = λ room. takes-nowhere c.args.first c.args.from _ c.args.receiver.now;
     }
 
 pub places-preserved : goal.places-preserved

@@ -130,10 +130,8 @@ impl BlockContext {
             input.now result.now meter.old meter.new }
         ensures short { length result.now < block_len (block_algorithm self.old) }
     {
-        let mut state = self.state;
-        let rest = run_blocks(self.algorithm, &mut state, input, meter);
+        let rest = run_blocks(self.algorithm, &mut self.state, input, meter);
         let completed = (input.len() - rest.len()) as u128;
-        self.state = state;
         self.completed_bytes = self.completed_bytes.saturating_add(completed);
         rest
     }

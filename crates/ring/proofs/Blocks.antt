@@ -5,17 +5,12 @@ use Rattle.std.proofs.Common.{length-drop, replicate}
 use Rattle.std.proofs.lemmas.List.{length-take-le, take-append-drop}
 use Rattle.std.proofs.Math.Nat.{mul-div_cancel, div-mul-le_self, add-mul-div_left}
 use Rattle.std.proofs.lemmas.Nat.{div-add-mod', mod-mul-add, div-mul-add}
-use Rattle.ring_core.specs.Chunks.{fold_chunks}
-use Rattle.ring_core.specs.Cost.{Counts, raised}
+use Rattle.ring_core.specs.Prelude.{fold_chunks}
+use Rattle.ring.specs.Prelude.{Algorithm, BlockContext, Counts, HasMoved, HasTaken, IsWhole}
+use Rattle.ring.specs.Prelude.{block_function, block_len, blocks_from, chaining_words, cut_off}
+use Rattle.ring.specs.Prelude.{initial_words, raised, spare_words, whole_blocks, word_count}
+use Rattle.ring.specs.Prelude.{words_after}
 use Rattle.ring_core.proofs.ChunkFolds.{fold_chunks-none, fold_chunks-then, fold_chunks-append}
-use Rattle.ring.specs.Algorithm.{block_function, block_len, initial_words, word_count}
-use Rattle.ring.specs.Context.{HasMoved, HasTaken, cut_off}
-use Rattle.ring.specs.Cost.{whole_blocks}
-use Rattle.ring.specs.Digest.{blocks_from, words_after}
-use Rattle.ring.specs.Padding.{IsWhole}
-use Rattle.ring.specs.State.{chaining_words, spare_words}
-use Rattle.ring.specs.declared.digest.algorithm.Algorithm.{Algorithm}
-use Rattle.ring.specs.declared.digest.block_context.BlockContext.{BlockContext}
 use Rattle.ring.proofs.Rows.{block_len-positive}
 
 -- a multiple divided

@@ -1,6 +1,6 @@
 -- What a comparison costs, after blocks were run for what it compares.
 use Rattle.std.proofs.Common.{◌≡◌, ℕ, ◌+◌, ap, ◌∙◌, arith}
-use Rattle.ring_core.specs.Cost.{Counts, compared_pairs, raised}
+use Rattle.ring.specs.Prelude.{Counts, compared_pairs, raised}
 use Rattle.ring_core.proofs.Costs.{raised-raised}
 
 -- b blocks made `made` bytes, of n as the caller tells it, and these were compared with `given`

@@ -3,14 +3,9 @@ use Rattle.std.proofs.Common.{◌≡◌, ◌↔◌, Bool, true, ℕ, ◌+◌, �
 use Rattle.std.proofs.Common.{take, refl, sym, ap, ◌∙◌, arith}
 use Rattle.std.proofs.Common.{take_all}
 use Rattle.std.specs.Borrow.{Bor}
-use Rattle.ring_core.specs.Cost.{Counts, raised}
-use Rattle.ring.specs.Cost.{derive_blocks, derive_rounds, iterate_blocks, key_blocks}
-use Rattle.ring.specs.DeriveEach.{CanDeriveEach, bytes_at}
-use Rattle.ring.specs.DeriveEach.{derive_blocks_at, sum_below}
-use Rattle.ring.specs.Limits.{CanVerify}
-use Rattle.ring.specs.Pbkdf2.{IsDerived, dk}
-use Rattle.ring.specs.declared.digest.algorithm.Algorithm.{Algorithm}
-use Rattle.ring.specs.declared.digest.dynstate.Output.{Output}
+use Rattle.ring.specs.Prelude.{Algorithm, CanDeriveEach, CanVerify, Counts, IsDerived, Output}
+use Rattle.ring.specs.Prelude.{bytes_at, derive_blocks, derive_blocks_at, derive_rounds, dk}
+use Rattle.ring.specs.Prelude.{iterate_blocks, key_blocks, raised, sum_below}
 use Rattle.ring.proofs.Each.{message-read, message_at-part}
 use Rattle.ring.proofs.Places.{items_from, length-items_from, read_at}
 use Rattle.ring.proofs.Rounds.{length-dk}

@@ -9,13 +9,9 @@ use Rattle.std.proofs.lemmas.List.{drop_more, get_or-append_right, get_or-drop, 
 use Rattle.std.proofs.lemmas.List.{get_or_append_left, length-map, length-take-le, map-append}
 use Rattle.std.proofs.lemmas.List.Sums.{sum_by-append}
 use Rattle.std.specs.Borrow.{Bor}
-use Rattle.ring_core.specs.Cost.{Counts, raised}
+use Rattle.ring.specs.Prelude.{Algorithm, AreDigests, CanDigestEach, Counts, Digest, IsDigest}
+use Rattle.ring.specs.Prelude.{each_blocks, message_at, padded_blocks, raised}
 use Rattle.ring_core.proofs.Costs.{raised-none, raised-raised}
-use Rattle.ring.specs.Cost.{padded_blocks}
-use Rattle.ring.specs.Digest.{IsDigest}
-use Rattle.ring.specs.Each.{AreDigests, CanDigestEach, each_blocks, message_at}
-use Rattle.ring.specs.declared.digest.algorithm.Algorithm.{Algorithm}
-use Rattle.ring.specs.declared.digest.value.Digest.{Digest}
 
 -- the message at a place, as an index reads it
 pub message-read : (messages : List (Bor (List ℕ))) (k : ℕ)

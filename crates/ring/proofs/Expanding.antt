@@ -5,16 +5,10 @@ use Rattle.std.proofs.Common.{length-take-le, inl, inr, zero-mul}
 use Rattle.std.proofs.Math.Nat.{lt_of_mul-lt-mul_right}
 use Rattle.std.proofs.lemmas.List.{at_drop_all}
 use Rattle.std.proofs.lemmas.Bool.{cases_lt}
-use Rattle.ring_core.specs.Cost.{Counts, raised}
+use Rattle.ring.specs.Prelude.{Algorithm, Counts, Key, KeyStandsFor, Tag, derive_rounds}
+use Rattle.ring.specs.Prelude.{fill_rounds, hmac_of, joined_blocks, key_algorithm, okm, output_len}
+use Rattle.ring.specs.Prelude.{padded_blocks, raised, t_of, tag_algorithm, tag_bytes}
 use Rattle.ring_core.proofs.Costs.{raised-raised}
-use Rattle.ring.specs.Algorithm.{output_len}
-use Rattle.ring.specs.Cost.{derive_rounds, fill_rounds, padded_blocks}
-use Rattle.ring.specs.Hkdf.{okm, t_of}
-use Rattle.ring.specs.Hmac.{KeyStandsFor, hmac_of, key_algorithm, tag_algorithm, tag_bytes}
-use Rattle.ring.specs.Pieces.{joined_blocks}
-use Rattle.ring.specs.declared.digest.algorithm.Algorithm.{Algorithm}
-use Rattle.ring.specs.declared.hmac.key.Key.{Key}
-use Rattle.ring.specs.declared.hmac.tag.Tag.{Tag}
 use Rattle.ring.proofs.Keys.{length-hmac_of}
 use Rattle.ring.proofs.Pieces.{IsEven, joined_blocks-part, written-more}
 use Rattle.ring.proofs.Rounds.{mul-more, rounds-reach}

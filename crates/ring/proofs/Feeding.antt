@@ -3,17 +3,12 @@
 use Rattle.std.proofs.Common.{◌≡◌, ℕ, ◌+◌, ◌%◌, ◌<◌, ◌≤◌, List, [], ◌++◌, length, take, ◌∙◌, arith}
 use Rattle.std.proofs.Common.{append_assoc, length-append, slice_index_or}
 use Rattle.std.specs.Borrow.{Bor}
-use Rattle.ring_core.specs.Cost.{Counts, raised}
-use Rattle.ring.specs.Algorithm.{block_len}
-use Rattle.ring.specs.Context.{StandsFor, context_algorithm, cut_off, message_len, pending_len}
-use Rattle.ring.specs.Cost.{whole_blocks}
-use Rattle.ring.specs.Hmac.{KeyStandsFor, TagStandsFor, key_algorithm, signing_algorithm}
-use Rattle.ring.specs.Hmac.{signing_len, signing_pending}
-use Rattle.ring.specs.Pieces.{joined}
-use Rattle.ring.specs.declared.digest.algorithm.Algorithm.{Algorithm}
+use Rattle.ring.specs.Prelude.{Algorithm, Counts, Key, KeyStandsFor, StandsFor, TagStandsFor}
+use Rattle.ring.specs.Prelude.{block_len, context_algorithm, cut_off, joined, key_algorithm}
+use Rattle.ring.specs.Prelude.{message_len, pending_len, raised, signing_algorithm, signing_len}
+use Rattle.ring.specs.Prelude.{signing_pending, whole_blocks}
 use Rattle.ring.specs.declared.digest.context.Context as digest
 use Rattle.ring.specs.declared.hmac.context.Context as hmac
-use Rattle.ring.specs.declared.hmac.key.Key.{Key}
 use Rattle.ring.proofs.Lengths.{HasCounted, counted_more, counted_none}
 use Rattle.ring.proofs.Pieces.{joined-more}
 

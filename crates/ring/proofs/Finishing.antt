@@ -6,15 +6,10 @@ use Rattle.ring.proofs.Lengths.{length-words_after}
 use Rattle.std.proofs.lemmas.List.Concat.{flat_map-append}
 use Rattle.std.proofs.lemmas.List.{take-append-le, take-append-drop}
 use Rattle.std.specs.Int.{bytes_high_first}
-use Rattle.ring.specs.Algorithm.{max_input_len, output_len, word_count, word_len}
-use Rattle.ring.specs.Context.{HasTaken}
-use Rattle.ring.specs.Digest.{digest_of, words_after}
-use Rattle.ring.specs.Padding.{padded}
-use Rattle.ring.specs.State.{chaining_words, is_state_of, spare_words, state_word_len}
-use Rattle.ring.specs.State.{word_bytes, words}
-use Rattle.ring.specs.declared.digest.algorithm.Algorithm.{Algorithm}
-use Rattle.ring.specs.declared.digest.block_context.BlockContext.{BlockContext}
-use Rattle.ring.specs.declared.digest.dynstate.DynState.{DynState}
+use Rattle.ring.specs.Prelude.{Algorithm, BlockContext, DynState, HasTaken, chaining_words}
+use Rattle.ring.specs.Prelude.{digest_of, is_state_of, max_input_len, output_len, padded}
+use Rattle.ring.specs.Prelude.{spare_words, state_word_len, word_bytes, word_count, word_len, words}
+use Rattle.ring.specs.Prelude.{words_after}
 use Rattle.ring.proofs.Outputs.{length-word_bytes}
 use Rattle.ring.proofs.Rows.{max_input_len-most, output_len-most}
 

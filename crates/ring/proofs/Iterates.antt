@@ -3,14 +3,10 @@ use Rattle.std.proofs.Common.{◌≡◌, ℕ, zero, suc, ◌+◌, ◌-◌, ◌*�
 use Rattle.std.proofs.Common.{replicate, refl, sym, ap, ◌∙◌, arith, add-one}
 use Rattle.std.proofs.lemmas.List.{length-replicate}
 use Rattle.std.specs.Int.{bytes_high_first}
-use Rattle.ring_core.specs.Bytes.{xor_lists}
-use Rattle.ring_core.specs.Cost.{Counts, raised}
+use Rattle.ring_core.specs.Prelude.{xor_lists}
+use Rattle.ring.specs.Prelude.{Algorithm, Counts, digest_bytes, hmac_of, iterate, output_len}
+use Rattle.ring.specs.Prelude.{raised, xored}
 use Rattle.ring_core.proofs.Costs.{raised-none, raised-raised}
-use Rattle.ring.specs.Algorithm.{output_len}
-use Rattle.ring.specs.Hmac.{hmac_of}
-use Rattle.ring.specs.Lanes.{digest_bytes}
-use Rattle.ring.specs.Pbkdf2.{iterate, xored}
-use Rattle.ring.specs.declared.digest.algorithm.Algorithm.{Algorithm}
 use Rattle.ring.proofs.Keys.{length-hmac_of}
 use Rattle.ring.proofs.Words.{digest_bytes-xor}
 

@@ -3,19 +3,11 @@ use Rattle.std.proofs.Common.{◌≡◌, ◌≢◌, ℕ, ◌+◌, ◌-◌, ◌*�
 use Rattle.std.proofs.Common.{inl, inr, length, refl, rules, set, sym, take, ◌∙◌, ap, arith}
 use Rattle.std.proofs.lemmas.Bool.{cases_lt}
 use Rattle.std.proofs.lemmas.List.{get_or-set_other, get_or-set_same, get_or-take}
-use Rattle.ring_core.specs.Cost.{Counts, raised}
-use Rattle.ring.specs.Algorithm.{output_len, word_len}
-use Rattle.ring.specs.DeriveEach.{sum_below}
-use Rattle.ring.specs.Hmac.{KeyStandsFor, tag_algorithm, tag_bytes}
-use Rattle.ring.specs.Jobs.{AreStarts, BeginsWithRound, CanRun, IsStart, first_blocks}
-use Rattle.ring.specs.Jobs.{job_algorithm, job_blocks}
-use Rattle.ring.specs.Lanes.{IsKeyInLane, digest_bytes}
-use Rattle.ring.specs.Pbkdf2.{iterate, xored}
-use Rattle.ring.specs.State.{is_state_of, state_word_len, word_bytes, words}
-use Rattle.ring.specs.declared.digest.algorithm.Algorithm.{Algorithm}
-use Rattle.ring.specs.declared.digest.dynstate.DynState.{DynState}
-use Rattle.ring.specs.declared.hmac.tag.Tag.{Tag}
-use Rattle.ring.specs.declared.pbkdf2.jobs.Job.{Job}
+use Rattle.ring.specs.Prelude.{Algorithm, AreStarts, BeginsWithRound, CanRun, Counts, DynState}
+use Rattle.ring.specs.Prelude.{IsKeyInLane, IsStart, Job, KeyStandsFor, Tag, digest_bytes}
+use Rattle.ring.specs.Prelude.{first_blocks, is_state_of, iterate, job_algorithm, job_blocks}
+use Rattle.ring.specs.Prelude.{output_len, raised, state_word_len, sum_below, tag_algorithm}
+use Rattle.ring.specs.Prelude.{tag_bytes, word_bytes, word_len, words, xored}
 use Rattle.ring.proofs.Each.{raised-then}
 use Rattle.ring.proofs.Lanes.{digest_read, key_in_lane}
 use Rattle.ring.proofs.Sums.{sum_below-more}

@@ -4,19 +4,13 @@ use Rattle.std.proofs.Common.{nat_le, true, false, Bool, if◌then◌else◌, ru
 use Rattle.std.proofs.Common.{◌∙◌, arith, length-append, append_assoc}
 use Rattle.std.proofs.lemmas.List.{take_at, replicate-append-replicate, length-replicate}
 use Rattle.std.proofs.lemmas.List.{length-map}
-use Rattle.ring_core.specs.Cost.{Counts, raised}
+use Rattle.ring.specs.Prelude.{Algorithm, BlockContext, Counts, Digest, HasMoved, HasTaken}
+use Rattle.ring.specs.Prelude.{IsDigest, IsTag, StandsFor, Tag, TagStandsFor, block_len, bytes_of}
+use Rattle.ring.specs.Prelude.{counted_bytes, digest_algorithm, digest_of, hmac_of, inner_block}
+use Rattle.ring.specs.Prelude.{key_block, key_digest_blocks, last_blocks, length_len, outer_block}
+use Rattle.ring.specs.Prelude.{output_len, padded_blocks, raised, short_key, signing_algorithm}
 use Rattle.ring_core.proofs.Costs.{raised-raised}
-use Rattle.ring.specs.Algorithm.{block_len, length_len, output_len}
-use Rattle.ring.specs.Context.{HasMoved, HasTaken, StandsFor, counted_bytes}
-use Rattle.ring.specs.Cost.{key_digest_blocks, last_blocks, padded_blocks}
-use Rattle.ring.specs.Digest.{IsDigest, bytes_of, digest_algorithm, digest_of}
-use Rattle.ring.specs.Hmac.{IsTag, TagStandsFor, hmac_of, signing_algorithm}
-use Rattle.ring.specs.KeyBlocks.{inner_block, key_block, outer_block, short_key}
-use Rattle.ring.specs.declared.digest.algorithm.Algorithm.{Algorithm}
-use Rattle.ring.specs.declared.digest.block_context.BlockContext.{BlockContext}
-use Rattle.ring.specs.declared.digest.value.Digest.{Digest}
 use Rattle.ring.specs.declared.hmac.context.Context.{Context}
-use Rattle.ring.specs.declared.hmac.tag.Tag.{Tag}
 use Rattle.ring.proofs.Blocks.{short_div}
 use Rattle.ring.proofs.Lengths.{HasCounted, counted_end, last_past, length-digest_of}
 use Rattle.ring.proofs.Rows.{block_len-most, output_below}

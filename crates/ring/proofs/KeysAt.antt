@@ -3,19 +3,10 @@ use Rattle.std.proofs.Common.{◌≡◌, ℕ, ◌+◌, ◌<◌, ◌≤◌, List,
 use Rattle.std.proofs.Common.{ap, ◌∙◌, arith, refl, sym}
 use Rattle.std.proofs.lemmas.List.{get_or-take, length-take-le}
 use Rattle.std.specs.Borrow.{Bor}
-use Rattle.ring_core.specs.Cost.{Counts, raised}
-use Rattle.ring.specs.Algorithm.{max_input_len, output_len}
-use Rattle.ring.specs.Cost.{iterate_blocks, key_blocks}
-use Rattle.ring.specs.DeriveEach.{AreKeysOf, IsKeyOf, bytes_at, sum_below}
-use Rattle.ring.specs.Hmac.{KeyStandsFor, key_algorithm}
-use Rattle.ring.specs.Jobs.{BeginsWithRound, CanRun, job_blocks}
-use Rattle.ring.specs.Lanes.{CanRunTogether}
-use Rattle.ring.specs.Limits.{IsTagWithin}
-use Rattle.ring.specs.Pbkdf2.{xored}
-use Rattle.ring.specs.declared.digest.algorithm.Algorithm.{Algorithm}
-use Rattle.ring.specs.declared.digest.dynstate.Output.{Output}
-use Rattle.ring.specs.declared.hmac.key.Key.{Key}
-use Rattle.ring.specs.declared.pbkdf2.jobs.Job.{Job}
+use Rattle.ring.specs.Prelude.{Algorithm, AreKeysOf, BeginsWithRound, CanRun, CanRunTogether}
+use Rattle.ring.specs.Prelude.{Counts, IsKeyOf, IsTagWithin, Job, Key, KeyStandsFor, Output}
+use Rattle.ring.specs.Prelude.{bytes_at, iterate_blocks, job_blocks, key_algorithm, key_blocks}
+use Rattle.ring.specs.Prelude.{max_input_len, output_len, raised, sum_below, xored}
 use Rattle.ring.proofs.Each.{message-read}
 use Rattle.ring.proofs.Places.{HoldsBelow, read_at}
 use Rattle.ring.proofs.Sums.{sum_below-same}

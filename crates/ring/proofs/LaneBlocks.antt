@@ -5,18 +5,14 @@ use Rattle.std.proofs.Common.{append_assoc, length-drop}
 use Rattle.std.proofs.lemmas.List.{drop-append-le, drop_at, drop-drop}
 use Rattle.std.proofs.lemmas.List.{length-take-le, take-append-drop, take-append-le, take_all}
 use Rattle.std.specs.Int.{bytes_high_first}
-use Rattle.ring_core.specs.Chunks.{chunk_at, fold_chunks}
+use Rattle.ring_core.specs.Prelude.{chunk_at, fold_chunks}
+use Rattle.ring.specs.Prelude.{Algorithm, HasWords, IsWhole, block_function, block_len, blocks_from}
+use Rattle.ring.specs.Prelude.{initial_words, length_len, padded, padded_blocks, tail_of}
+use Rattle.ring.specs.Prelude.{whole_blocks, word_count, word_len, words_after, words_at, zeros_of}
 use Rattle.ring_core.specs.Sha2 as sha2
 use Rattle.ring_core.proofs.ChunkFolds.{fold_chunks-append, fold_chunks-next}
 use Rattle.ring_core.proofs.ChunkFolds.{fold_chunks-none, fold_chunks-then}
 use Rattle.ring_core.proofs.Sha2Steps as sha2_steps
-use Rattle.ring.specs.Algorithm.{block_function, block_len, initial_words}
-use Rattle.ring.specs.Algorithm.{length_len, word_count, word_len}
-use Rattle.ring.specs.Cost.{padded_blocks, whole_blocks}
-use Rattle.ring.specs.Digest.{blocks_from, words_after}
-use Rattle.ring.specs.Each.{HasWords, words_at}
-use Rattle.ring.specs.Padding.{IsWhole, padded, tail_of, zeros_of}
-use Rattle.ring.specs.declared.digest.algorithm.Algorithm.{Algorithm}
 use Rattle.ring.proofs.Blocks.{mul_whole}
 use Rattle.ring.proofs.Padding.{length-padded}
 use Rattle.ring.proofs.Rows.{block_len-positive, by_sizes}

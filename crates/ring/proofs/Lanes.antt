@@ -7,22 +7,14 @@ use Rattle.std.proofs.lemmas.List.{take-take}
 use Rattle.std.proofs.lemmas.List.Concat.{flat_map-append}
 use Rattle.std.proofs.Math.Nat.{div_self, mod_self}
 use Rattle.std.specs.Int.{bytes_high_first}
-use Rattle.ring_core.specs.Chunks.{fold_chunks}
-use Rattle.ring_core.specs.Cost.{Counts, raised}
+use Rattle.ring_core.specs.Prelude.{fold_chunks}
+use Rattle.ring.specs.Prelude.{Algorithm, Counts, DynState, IsKeyInLane, IsWhole, Key, KeyStandsFor}
+use Rattle.ring.specs.Prelude.{block_function, block_len, blocks_from, chaining_words, digest_bytes}
+use Rattle.ring.specs.Prelude.{digest_of, hmac_of, inner_block, key_algorithm, length_len}
+use Rattle.ring.specs.Prelude.{outer_block, output_len, padded, prepared_padding, raised, tail_of}
+use Rattle.ring.specs.Prelude.{word_bytes, word_count, word_len, words, words_after, zeros_of}
 use Rattle.ring_core.proofs.ChunkFolds.{fold_chunks-next, fold_chunks-none}
 use Rattle.ring_core.proofs.Costs.{raised-raised}
-use Rattle.ring.specs.Algorithm.{block_function, block_len, length_len, output_len, word_count}
-use Rattle.ring.specs.Algorithm.{word_len}
-use Rattle.ring.specs.Digest.{blocks_from, digest_of, words_after}
-use Rattle.ring.specs.Hmac.{KeyStandsFor, hmac_of, key_algorithm}
-use Rattle.ring.specs.KeyBlocks.{inner_block, outer_block}
-use Rattle.ring.specs.Lanes.{IsKeyInLane, digest_bytes}
-use Rattle.ring.specs.Padding.{IsWhole, padded, tail_of, zeros_of}
-use Rattle.ring.specs.Prepared.{prepared_padding}
-use Rattle.ring.specs.State.{chaining_words, word_bytes, words}
-use Rattle.ring.specs.declared.digest.dynstate.DynState.{DynState}
-use Rattle.ring.specs.declared.hmac.key.Key.{Key}
-use Rattle.ring.specs.declared.digest.algorithm.Algorithm.{Algorithm}
 use Rattle.ring.proofs.Blocks.{words_after-append}
 use Rattle.ring.proofs.Keys.{length-inner_block, length-outer_block, one_block}
 use Rattle.ring.proofs.Lengths.{length-words_after}

@@ -3,19 +3,13 @@ use Rattle.std.proofs.Common.{◌≡◌, ℕ, ◌+◌, ◌*◌, ◌/◌, ◌%◌
 use Rattle.std.proofs.Common.{ap, ◌∙◌, arith, length-take-le}
 use Rattle.ring_core.specs.Sha1 as sha1
 use Rattle.ring_core.specs.Sha2 as sha2
-use Rattle.ring_core.specs.Cost.{Counts, raised}
+use Rattle.ring.specs.Prelude.{Algorithm, AlgorithmId, Counts, Sha1, Sha256, Sha384, Sha512}
+use Rattle.ring.specs.Prelude.{Sha512_256, block_function_of_id, block_len, digest_of}
+use Rattle.ring.specs.Prelude.{initial_words_of_id, last_blocks, output_len, padded, padded_blocks}
+use Rattle.ring.specs.Prelude.{raised, row_of, whole_blocks, word_bytes, word_count, word_len}
+use Rattle.ring.specs.Prelude.{words_after}
 use Rattle.ring_core.proofs.Costs.{raised-none, raised-raised}
 use Rattle.ring_core.proofs.ChunkFolds.{length-fold_chunks}
-use Rattle.ring.specs.Algorithm.{block_function_of_id, row_of, word_count, block_len}
-use Rattle.ring.specs.Algorithm.{initial_words_of_id, output_len, word_len}
-use Rattle.ring.specs.Cost.{last_blocks, padded_blocks, whole_blocks}
-use Rattle.ring.specs.Digest.{digest_of, words_after}
-use Rattle.ring.specs.Padding.{padded}
-use Rattle.ring.specs.State.{word_bytes}
-use Rattle.ring.specs.declared.digest.algorithm.Algorithm.{Algorithm}
-use Rattle.ring.specs.declared.digest.algorithm.AlgorithmId.{AlgorithmId}
-use Rattle.ring.specs.declared.digest.algorithm.AlgorithmId.TheVariants.{Sha1, Sha256, Sha384}
-use Rattle.ring.specs.declared.digest.algorithm.AlgorithmId.TheVariants.{Sha512, Sha512_256}
 use Rattle.ring.proofs.Outputs.{length-word_bytes}
 use Rattle.ring.proofs.Rows.{output_len-most, sizes_of}
 

@@ -7,22 +7,11 @@ use Rattle.std.proofs.Math.Nat.{mod-mod, mod-eq_of_lt}
 use Rattle.std.proofs.lemmas.Bool.{cases_lt}
 use Rattle.std.proofs.lemmas.List.{take_at}
 use Rattle.std.specs.declared.num.Wrapping.{Wrapping}
-use Rattle.ring.specs.Algorithm.{block_len, row_of}
-use Rattle.ring.specs.Context.{HasTaken}
-use Rattle.ring.specs.Hmac.{KeyStandsFor}
-use Rattle.ring.specs.KeyBlocks.{inner_block, outer_block}
-use Rattle.ring.specs.Raw.{IsRawState, RawStandsFor, RawTagStandsFor, completed_len, digest_named}
-use Rattle.ring.specs.Raw.{named_block_len, raw_words}
-use Rattle.ring.specs.State.{state_word_len, words}
-use Rattle.ring.specs.declared.digest.algorithm.Algorithm.{Algorithm}
-use Rattle.ring.specs.declared.digest.algorithm.AlgorithmId.{AlgorithmId}
-use Rattle.ring.specs.declared.digest.algorithm.AlgorithmId.TheVariants.{Sha1, Sha256, Sha384}
-use Rattle.ring.specs.declared.digest.algorithm.AlgorithmId.TheVariants.{Sha512, Sha512_256}
-use Rattle.ring.specs.declared.digest.block_context.BlockContext.{BlockContext}
-use Rattle.ring.specs.declared.digest.dynstate.DynState.{DynState}
-use Rattle.ring.specs.declared.digest.dynstate.DynState.TheVariants.{As64, As32}
-use Rattle.ring.specs.declared.hmac.key.Key.{Key}
-use Rattle.ring.specs.declared.raw.tag_context.RawTagContext.{RawTagContext}
+use Rattle.ring.specs.Prelude.{Algorithm, AlgorithmId, As32, As64, BlockContext, DynState, HasTaken}
+use Rattle.ring.specs.Prelude.{IsRawState, Key, KeyStandsFor, RawStandsFor, RawTagContext}
+use Rattle.ring.specs.Prelude.{RawTagStandsFor, Sha1, Sha256, Sha384, Sha512, Sha512_256, block_len}
+use Rattle.ring.specs.Prelude.{completed_len, digest_named, inner_block, named_block_len}
+use Rattle.ring.specs.Prelude.{outer_block, raw_words, row_of, state_word_len, words}
 use Rattle.ring.proofs.Keys.{inner_len}
 use Rattle.ring.proofs.Rows.{block_len-most}
 

@@ -9,7 +9,7 @@ use Rattle.std.proofs.lemmas.Simd.{get_or_narrower}
 use Rattle.std.specs.Int.{byte_at, bytes_high_first}
 use Rattle.std.specs.Simd.Lanes.{Each1, digits_l, number_l}
 use Rattle.std.specs.declared.num.Wrapping.{Wrapping}
-use Rattle.ring.specs.State.{word_bytes}
+use Rattle.ring.specs.Prelude.{word_bytes}
 use borrow.Rule.Slice.PartMut.{put_mid}
 
 pub length-bytes_high_first : (n x : ℕ) → length (bytes_high_first n x) ≡ n

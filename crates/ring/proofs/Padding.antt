@@ -3,9 +3,8 @@ use Rattle.std.proofs.Common.{◌≡◌, ℕ, ◌+◌, ◌-◌, ◌*◌, ◌/◌
 use Rattle.std.proofs.Common.{length, replicate, refl, ◌∙◌, arith, length-append}
 use Rattle.std.proofs.lemmas.List.{length-replicate}
 use Rattle.std.specs.Int.{bytes_high_first}
-use Rattle.ring.specs.Algorithm.{block_len, length_len}
-use Rattle.ring.specs.Padding.{IsPadded, padded, padded_blocks, padded_with, zeros_of}
-use Rattle.ring.specs.declared.digest.algorithm.Algorithm.{Algorithm}
+use Rattle.ring.specs.Prelude.{Algorithm, IsPadded, block_len, length_len, padded, padded_blocks}
+use Rattle.ring.specs.Prelude.{padded_with, zeros_of}
 use Rattle.ring.proofs.Outputs.{length-bytes_high_first}
 use Rattle.ring.proofs.Rows.{AreSizes, by_sizes, sizes_of}
 

@@ -4,14 +4,10 @@ use Rattle.std.proofs.Common.{◌≡◌, ℕ, ◌^◌, ◌<◌, List, ◌++◌, 
 use Rattle.std.proofs.Common.{◌∙◌, arith, lit≤, mod-lt, pow_pos, take_all}
 use Rattle.std.proofs.lemmas.List.{length-map}
 use Rattle.std.specs.declared.num.Wrapping.{Wrapping}
-use Rattle.ring_core.specs.Schedule.{IsBlockOf}
-use Rattle.ring_core.specs.Sha2.{Family, block_step}
+use Rattle.ring_core.specs.Prelude.{Family, IsBlockOf, block_step}
+use Rattle.ring.specs.Prelude.{Algorithm, SHA1_FOR_LEGACY_USE_ONLY, SHA256, SHA384, SHA512}
+use Rattle.ring.specs.Prelude.{SHA512_256, digest_bytes, prepared_padding}
 use Rattle.ring_core.proofs.Sha2Steps.{length-block_step}
-use Rattle.ring.specs.Lanes.{digest_bytes}
-use Rattle.ring.specs.Prepared.{prepared_padding}
-use Rattle.ring.specs.declared.digest.algorithm.Algorithm.{Algorithm}
-use Rattle.ring.specs.declared.digest.algorithm.TheConstants.{SHA1_FOR_LEGACY_USE_ONLY, SHA256}
-use Rattle.ring.specs.declared.digest.algorithm.TheConstants.{SHA384, SHA512, SHA512_256}
 use Rattle.ring.specs.declared.digest.side_by_side.paddings.TheConstants.{SHA1_PADDING}
 use Rattle.ring.specs.declared.digest.side_by_side.paddings.TheConstants.{SHA256_PADDING}
 use Rattle.ring.specs.declared.digest.side_by_side.paddings.TheConstants.{SHA384_PADDING}

@@ -2,14 +2,8 @@
 use Rattle.std.proofs.Common.{◌≡◌, ℕ, ◌+◌, ◌*◌, ◌<◌, ◌≤◌, List, length, take, get_or, refl}
 use Rattle.std.proofs.Common.{length-take-le}
 use Rattle.std.proofs.lemmas.List.{get_or-take}
-use Rattle.ring.specs.Algorithm.{output_len}
-use Rattle.ring.specs.Cost.{iterate_blocks}
-use Rattle.ring.specs.DeriveEach.{sum_below}
-use Rattle.ring.specs.Hmac.{KeyStandsFor, key_algorithm}
-use Rattle.ring.specs.Jobs.{BeginsWithRound, job_blocks}
-use Rattle.ring.specs.Pbkdf2.{xored}
-use Rattle.ring.specs.declared.hmac.key.Key.{Key}
-use Rattle.ring.specs.declared.pbkdf2.jobs.Job.{Job}
+use Rattle.ring.specs.Prelude.{BeginsWithRound, Job, Key, KeyStandsFor, iterate_blocks, job_blocks}
+use Rattle.ring.specs.Prelude.{key_algorithm, output_len, sum_below, xored}
 use Rattle.ring.proofs.Sums.{sum_below-each}
 
 -- the blocks of one round of c iterates

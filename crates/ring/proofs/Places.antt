@@ -4,9 +4,8 @@ use Rattle.std.proofs.Common.{get_or, sym, ap, ◌∙◌, arith, inl, inr, lengt
 use Rattle.std.proofs.lemmas.Bool.{cases_order}
 use Rattle.std.proofs.lemmas.List.{get_or-set_other, get_or-set_same, length-take-le}
 use Rattle.std.specs.Borrow.{Bor}
-use Rattle.ring_core.specs.Cost.{Counts, raised}
+use Rattle.ring.specs.Prelude.{Counts, raised, sum_below}
 use Rattle.ring_core.proofs.Costs.{raised-none}
-use Rattle.ring.specs.DeriveEach.{sum_below}
 use Rattle.ring.proofs.Each.{raised-then}
 use Rattle.ring.proofs.Sums.{sum_below-next, sum_below-none}
 

@@ -6,13 +6,9 @@ use Rattle.std.proofs.Math.Seq.{take-append-add}
 use Rattle.std.proofs.Math.Nat.{lt_of_mul-lt-mul_right}
 use Rattle.std.proofs.lemmas.Grind.{div_ceil_times}
 use Rattle.std.proofs.lemmas.List.{take-take}
-use Rattle.ring_core.specs.Cost.{Counts, raised}
+use Rattle.ring.specs.Prelude.{Algorithm, Counts, derive_rounds, dk, joined_blocks, key_blocks}
+use Rattle.ring.specs.Prelude.{output_len, raised, xored}
 use Rattle.ring_core.proofs.Costs.{raised-none}
-use Rattle.ring.specs.Algorithm.{output_len}
-use Rattle.ring.specs.Cost.{derive_rounds, key_blocks}
-use Rattle.ring.specs.Pbkdf2.{dk, xored}
-use Rattle.ring.specs.Pieces.{joined_blocks}
-use Rattle.ring.specs.declared.digest.algorithm.Algorithm.{Algorithm}
 use Rattle.ring.proofs.Iterates.{length-xored}
 use Rattle.ring.proofs.Pieces.{IsEven, joined_blocks-append, joined_blocks-next, joined_blocks-none}
 use Rattle.ring.proofs.Pieces.{length-joined_blocks}

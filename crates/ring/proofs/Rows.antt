@@ -1,13 +1,9 @@
 -- What the rows have in common.
 use Rattle.std.proofs.Common.{◌≡◌, ℕ, zero, ◌<◌, ◌≤◌, ◌-◌, ◌*◌, ◌^◌, ◌⊎◌, refl, inl, inr, lit<}
 use Rattle.std.proofs.Common.{lit≤, ◌+◌, ◌/◌}
-use Rattle.ring.specs.Algorithm.{block_len, length_len, max_input_len, output_len, row_of, word_len}
-use Rattle.ring.specs.Algorithm.{word_count}
-use Rattle.ring.specs.Table.{Row}
-use Rattle.ring.specs.declared.digest.algorithm.Algorithm.{Algorithm}
-use Rattle.ring.specs.declared.digest.algorithm.AlgorithmId.{AlgorithmId}
-use Rattle.ring.specs.declared.digest.algorithm.AlgorithmId.TheVariants.{Sha1, Sha256, Sha384}
-use Rattle.ring.specs.declared.digest.algorithm.AlgorithmId.TheVariants.{Sha512, Sha512_256}
+use Rattle.ring.specs.Prelude.{Algorithm, AlgorithmId, Row, Sha1, Sha256, Sha384, Sha512}
+use Rattle.ring.specs.Prelude.{Sha512_256, block_len, length_len, max_input_len, output_len, row_of}
+use Rattle.ring.specs.Prelude.{word_count, word_len}
 
 -- the two sizes of blocks, b bytes, and length fields, l bytes
 abbrev pub AreSizes : (b l : ℕ) → Type 0

@@ -3,19 +3,13 @@ use Rattle.std.proofs.Common.{◌≡◌, ℕ, ◌*◌, ◌/◌, ◌<◌, List, l
 use Rattle.std.proofs.Common.{arith}
 use Rattle.std.proofs.lemmas.List.{length-take-le, take-append-drop, take_all}
 use Rattle.std.proofs.Math.Nat.{mul-div_cancel, div-mul-le_self}
-use Rattle.ring_core.specs.Chunks.{fold_chunks}
+use Rattle.ring_core.specs.Prelude.{fold_chunks}
+use Rattle.ring.specs.Prelude.{Algorithm, AlgorithmId, DynState, Sha1, Sha256, Sha384, Sha512}
+use Rattle.ring.specs.Prelude.{Sha512_256, block_function_of_id, blocks_from, chaining_words}
+use Rattle.ring.specs.Prelude.{row_of, word_count, words}
 use Rattle.ring_core.specs.Sha1 as sha1
 use Rattle.ring_core.specs.Sha2 as sha2
 use Rattle.ring_core.proofs.ChunkFolds.{fold_chunks-append}
-use Rattle.ring.specs.Algorithm.{block_function_of_id, row_of}
-use Rattle.ring.specs.Algorithm.{word_count}
-use Rattle.ring.specs.Digest.{blocks_from}
-use Rattle.ring.specs.State.{chaining_words, words}
-use Rattle.ring.specs.declared.digest.algorithm.Algorithm.{Algorithm}
-use Rattle.ring.specs.declared.digest.algorithm.AlgorithmId.{AlgorithmId}
-use Rattle.ring.specs.declared.digest.algorithm.AlgorithmId.TheVariants.{Sha1, Sha256, Sha384}
-use Rattle.ring.specs.declared.digest.algorithm.AlgorithmId.TheVariants.{Sha512, Sha512_256}
-use Rattle.ring.specs.declared.digest.dynstate.DynState.{DynState}
 use Rattle.ring.proofs.Rows.{block_len-positive}
 
 -- what the choice of a block function needs of a row

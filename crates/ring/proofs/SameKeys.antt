@@ -2,11 +2,8 @@
 use Rattle.std.proofs.Common.{◌≡◌, ℕ, ◌+◌, ◌-◌, ◌<◌, ◌≤◌, List, ◌++◌, length, replicate, refl, ◌∙◌}
 use Rattle.std.proofs.Common.{ap, arith, length-append, append_assoc}
 use Rattle.std.proofs.lemmas.List.{length-replicate, replicate-append-replicate}
-use Rattle.ring.specs.Algorithm.{block_len}
-use Rattle.ring.specs.Digest.{digest_of}
-use Rattle.ring.specs.Hmac.{hmac_of}
-use Rattle.ring.specs.KeyBlocks.{key_block, masked, short_key}
-use Rattle.ring.specs.declared.digest.algorithm.Algorithm.{Algorithm}
+use Rattle.ring.specs.Prelude.{Algorithm, block_len, digest_of, hmac_of, key_block, masked}
+use Rattle.ring.specs.Prelude.{short_key}
 use Rattle.ring.proofs.Keys.{short_key-long, short_key-short}
 use Rattle.ring.proofs.Rows.{output_below}
 use Rattle.ring.proofs.Lengths.{length-digest_of}

@@ -1,9 +1,8 @@
 -- Sums over places, and what a meter rises by there.
 use Rattle.std.proofs.Common.{◌≡◌, ℕ, zero, suc, ◌+◌, ◌*◌, ◌<◌, List, get_or, sym, ap}
 use Rattle.std.proofs.Common.{◌∙◌, add-one, arith, refl}
-use Rattle.ring_core.specs.Cost.{Counts, raised}
+use Rattle.ring.specs.Prelude.{Counts, raised, sum_below}
 use Rattle.ring_core.proofs.Costs.{raised-none, raised-raised}
-use Rattle.ring.specs.DeriveEach.{sum_below}
 use Rattle.ring.proofs.Each.{raised-then}
 
 -- what two rises make of both counts

@@ -6,15 +6,9 @@ use Rattle.std.proofs.lemmas.List.{drop-replicate, take-replicate, length-replic
 use Rattle.std.proofs.Math.Seq.{set-append_seam, take-append-add}
 use Rattle.std.specs.Int.{bytes_high_first}
 use borrow.Rule.Slice.PartMut.{put_mid}
-use Rattle.ring.specs.Algorithm.{block_len, length_len}
-use Rattle.ring.specs.Context.{HasTaken}
-use Rattle.ring.specs.Cost.{padded_blocks}
-use Rattle.ring.specs.Digest.{blocks_from, words_after}
-use Rattle.ring.specs.Padding.{IsWhole, padded, padded_with, tail_of, zeros_of}
-use Rattle.ring.specs.State.{chaining_words}
-use Rattle.ring.specs.declared.digest.algorithm.Algorithm.{Algorithm}
-use Rattle.ring.specs.declared.digest.block_context.BlockContext.{BlockContext}
-use Rattle.ring.specs.declared.digest.dynstate.DynState.{DynState}
+use Rattle.ring.specs.Prelude.{Algorithm, BlockContext, DynState, HasTaken, IsWhole, block_len}
+use Rattle.ring.specs.Prelude.{blocks_from, chaining_words, length_len, padded, padded_blocks}
+use Rattle.ring.specs.Prelude.{padded_with, tail_of, words_after, zeros_of}
 use Rattle.ring.proofs.Blocks.{words_after-append}
 use Rattle.ring.proofs.Outputs.{length-bytes_high_first}
 use Rattle.ring.proofs.Padding.{padded_is_padded}

@@ -3,7 +3,7 @@ use Rattle.std.proofs.Common.{◌≡◌, ◌↔◌, ℕ, ◌+◌, ◌-◌, ◌<�
 use Rattle.std.proofs.Common.{◌++◌, length, take, drop, arith, inl, inr, append-nil, append_assoc}
 use Rattle.std.proofs.Common.{length-append, refl}
 use Rattle.std.proofs.lemmas.Bool.{cases_lt}
-use Rattle.ring.specs.Receiver.{Takes}
+use Rattle.ring.specs.Prelude.{Takes}
 use Rattle.ring.proofs.Pieces.{same_part}
 
 -- a conjunction is true exactly where both parts are

@@ -6,15 +6,10 @@ use Rattle.std.proofs.lemmas.List.{take_all, take_at, drop_at, take-append-drop,
 use Rattle.std.proofs.lemmas.Nat.{div-mul-add, mod-mul-add}
 use Rattle.std.proofs.lemmas.Slice.{take-put_mid}
 use borrow.Rule.Slice.PartMut.{put_mid}
-use Rattle.ring_core.specs.Cost.{Counts, raised}
+use Rattle.ring.specs.Prelude.{Algorithm, BlockContext, Context, Counts, HasMoved, HasTaken}
+use Rattle.ring.specs.Prelude.{IsJoined, StandsFor, block_len, pending_bytes, pending_len, raised}
+use Rattle.ring.specs.Prelude.{whole_blocks}
 use Rattle.ring_core.proofs.Costs.{raised-none, raised-raised}
-use Rattle.ring.specs.Algorithm.{block_len}
-use Rattle.ring.specs.Context.{HasMoved, HasTaken, IsJoined, StandsFor}
-use Rattle.ring.specs.Context.{pending_bytes, pending_len}
-use Rattle.ring.specs.Cost.{whole_blocks}
-use Rattle.ring.specs.declared.digest.algorithm.Algorithm.{Algorithm}
-use Rattle.ring.specs.declared.digest.block_context.BlockContext.{BlockContext}
-use Rattle.ring.specs.declared.digest.context.Context.{Context}
 use Rattle.ring.proofs.Blocks.{mul_whole, whole_div-add, short_div}
 use Rattle.ring.proofs.Rows.{block_len-positive}
 

@@ -16,16 +16,11 @@ use Rattle.std.proofs.Math.Nat.{mod-eq_of_lt, pow-suc}
 use Rattle.std.proofs.Math.Seq.{drop-append-add}
 use Rattle.std.specs.Int.{byte_at, bytes_high_first}
 use Rattle.std.specs.Int.Digits.{number_from_digits_after}
-use Rattle.ring_core.specs.Bytes.{xor_lists}
-use Rattle.ring_core.specs.Schedule.{IsBlockOf}
-use Rattle.ring_core.specs.Word.{◌⊕◌, big_endian, word_at}
+use Rattle.ring_core.specs.Prelude.{◌⊕◌, IsBlockOf, big_endian, word_at, xor_lists}
+use Rattle.ring.specs.Prelude.{Algorithm, digest_bytes, output_len, prepared_padding, word_bytes}
+use Rattle.ring.specs.Prelude.{word_len}
 use Rattle.ring_core.proofs.Bytes.{xor_lists-none, xor_lists-take}
 use Rattle.ring_core.proofs.Mapped.{past_front}
-use Rattle.ring.specs.Algorithm.{output_len, word_len}
-use Rattle.ring.specs.Lanes.{digest_bytes}
-use Rattle.ring.specs.Prepared.{prepared_padding}
-use Rattle.ring.specs.State.{word_bytes}
-use Rattle.ring.specs.declared.digest.algorithm.Algorithm.{Algorithm}
 use Rattle.ring.proofs.Outputs.{byte_is, length-bytes_high_first, length-word_bytes}
 
 -- one byte more

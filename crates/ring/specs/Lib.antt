@@ -22,3 +22,4 @@ pub mod DeriveEach
 pub mod Jobs
 pub mod Raw
 pub mod Cut
+pub mod Prelude

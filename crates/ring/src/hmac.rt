@@ -32,11 +32,9 @@
 
 ghost use Rattle.std.specs.Prelude.{◌≡◌, ◌↔◌, ℕ, ◌+◌, ◌<◌};
 ghost use Rattle.std.specs.Prelude.{List, length, IfOk, IsOk, IsErr, OnOk, OnErr};
-ghost use Rattle.ring_core.specs.Cost.{compared_pairs, raised};
-ghost use Rattle.ring.specs.Algorithm.{block_len, max_input_len, output_len};
-ghost use Rattle.ring.specs.Cost.{padded_blocks};
-ghost use Rattle.ring.specs.Hmac.{IsTag, KeyStandsFor, hmac_of, key_algorithm, tag_algorithm};
-ghost use Rattle.ring.specs.Limits.{IsTagWithin};
+ghost use Rattle.ring.specs.Prelude.{IsTag, IsTagWithin, KeyStandsFor, block_len, compared_pairs};
+ghost use Rattle.ring.specs.Prelude.{hmac_of, key_algorithm, max_input_len, output_len};
+ghost use Rattle.ring.specs.Prelude.{padded_blocks, raised, tag_algorithm};
 
 use crate::limits::is_tag_within;
 use ring_core::bb::verify_slices_are_equal_counted;

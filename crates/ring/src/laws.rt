@@ -5,25 +5,16 @@
 
 ghost use Rattle.std.specs.Prelude.{◌≡◌, ◌↔◌, ℕ, ◌+◌, ◌-◌, ◌^◌, ◌<◌, ◌≤◌, List, [], ◌++◌};
 ghost use Rattle.std.specs.Prelude.{length, replicate, take, IfOk, IsErr, None, OnErr, OnOk, Some};
-ghost use Rattle.ring_core.specs.Cost.{compared_pairs, raised};
+ghost use Rattle.ring.specs.Prelude.{Algorithm, CanDerive, IsDigest, IsInfoWithin, IsMessageWithin};
+ghost use Rattle.ring.specs.Prelude.{IsNoContext, IsNoKey, IsNoTagContext, IsOutputWithin, IsTag};
+ghost use Rattle.ring.specs.Prelude.{IsTagWithin, KeyStandsFor, RawContext, RawKey};
+ghost use Rattle.ring.specs.Prelude.{RawKeyStandsFor, RawStandsFor, RawTagContext, RawTagStandsFor};
+ghost use Rattle.ring.specs.Prelude.{SHA1_FOR_LEGACY_USE_ONLY, SHA256, SHA384, SHA512, block_len};
+ghost use Rattle.ring.specs.Prelude.{compared_pairs, derive_blocks, digest_named, digest_of, dk};
+ghost use Rattle.ring.specs.Prelude.{hmac_of, joined, key_algorithm, max_input_len};
+ghost use Rattle.ring.specs.Prelude.{named_block_len, okm, output_len, padded_blocks, raised};
+ghost use Rattle.ring.specs.Prelude.{tag_algorithm};
 ghost use Rattle.std.specs.Borrow.{Bor};
-ghost use Rattle.ring.specs.Algorithm.{block_len, max_input_len, output_len};
-ghost use Rattle.ring.specs.Cost.{derive_blocks, padded_blocks};
-ghost use Rattle.ring.specs.Digest.{IsDigest, digest_of};
-ghost use Rattle.ring.specs.Hkdf.{okm};
-ghost use Rattle.ring.specs.Hmac.{IsTag, KeyStandsFor, hmac_of, key_algorithm, tag_algorithm};
-ghost use Rattle.ring.specs.Limits.{CanDerive, IsInfoWithin, IsMessageWithin};
-ghost use Rattle.ring.specs.Limits.{IsOutputWithin, IsTagWithin};
-ghost use Rattle.ring.specs.Pbkdf2.{dk};
-ghost use Rattle.ring.specs.Pieces.{joined};
-ghost use Rattle.ring.specs.Raw.{IsNoContext, IsNoKey, IsNoTagContext, RawKeyStandsFor};
-ghost use Rattle.ring.specs.Raw.{RawStandsFor, RawTagStandsFor, digest_named, named_block_len};
-ghost use Rattle.ring.specs.declared.digest.algorithm.Algorithm.{Algorithm};
-ghost use Rattle.ring.specs.declared.digest.algorithm.TheConstants.{SHA1_FOR_LEGACY_USE_ONLY};
-ghost use Rattle.ring.specs.declared.digest.algorithm.TheConstants.{SHA256, SHA384, SHA512};
-ghost use Rattle.ring.specs.declared.raw.context.RawContext.{RawContext};
-ghost use Rattle.ring.specs.declared.raw.key.RawKey.{RawKey};
-ghost use Rattle.ring.specs.declared.raw.tag_context.RawTagContext.{RawTagContext};
 
 use crate::digest::algorithm::is_message_within;
 use crate::digest::{Algorithm, Context, Digest};

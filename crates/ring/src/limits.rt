@@ -14,11 +14,9 @@
 //! The imports of this example stand in `crates/ring_examples/src/hkdf.rt`.
 
 ghost use Rattle.std.specs.Prelude.{◌≡◌, ◌↔◌, IsTrue, length};
-ghost use Rattle.ring.specs.Hkdf.{hkdf_digest};
-ghost use Rattle.ring.specs.Limits.{CanDerive, CanVerify, IsInfoWithin};
-ghost use Rattle.ring.specs.Limits.{IsOutputWithin, IsTagWithin, max_dk_len, max_okm_len};
-ghost use Rattle.ring.specs.Pbkdf2.{pbkdf2_digest};
-ghost use Rattle.ring.specs.Pieces.{joined};
+ghost use Rattle.ring.specs.Prelude.{CanDerive, CanVerify, IsInfoWithin, IsOutputWithin};
+ghost use Rattle.ring.specs.Prelude.{IsTagWithin, hkdf_digest, joined, max_dk_len, max_okm_len};
+ghost use Rattle.ring.specs.Prelude.{pbkdf2_digest};
 
 use crate::digest::algorithm::{Algorithm, is_message_within};
 use crate::{hkdf, pbkdf2};

@@ -66,10 +66,8 @@
 
 ghost use Rattle.std.specs.Prelude.{◌≡◌, ◌↔◌, length, IsOk, OnOk, OnErr};
 ghost use Rattle.std.specs.Int.NonZero.{non_zero_u32_get};
-ghost use Rattle.ring_core.specs.Cost.{raised};
-ghost use Rattle.ring.specs.Cost.{derive_blocks};
-ghost use Rattle.ring.specs.Limits.{CanDerive, CanVerify};
-ghost use Rattle.ring.specs.Pbkdf2.{IsDerived, dk, pbkdf2_digest};
+ghost use Rattle.ring.specs.Prelude.{CanDerive, CanVerify, IsDerived, derive_blocks, dk};
+ghost use Rattle.ring.specs.Prelude.{pbkdf2_digest, raised};
 
 use crate::digest::vectors::SSE;
 use crate::hmac::Key;

@@ -18,7 +18,7 @@
 ghost use Rattle.std.specs.Prelude.{◌≡◌, ◌↔◌, ◌≤◌, ◌++◌, ℕ, Bool, false, List, IsTrue};
 ghost use Rattle.std.specs.Prelude.{IfOk, IsErr, OnOk, OnErr, length, refl, replicate};
 ghost use Rattle.std.specs.Borrow.{sem, Lends, Array, u8};
-ghost use Rattle.ring.specs.Source.{random_value};
+ghost use Rattle.ring.specs.Prelude.{random_value};
 
 use ring_core::error::Unspecified;
 

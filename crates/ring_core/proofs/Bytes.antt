@@ -4,8 +4,7 @@ use Rattle.std.proofs.Common.{slice_index_or, slice_set, map, take, drop, bit_or
 use Rattle.std.proofs.Common.{◌∙◌, arith, min}
 use Rattle.std.specs.Int.Bits.{xor_assoc, xor_self, xor_zero_l, xor_zero_r}
 use Rattle.std.proofs.lemmas.Nat.{le_or_l, le_or_r}
-use Rattle.ring_core.specs.Bytes.{xor_lists}
-use Rattle.ring_core.specs.Word.{◌⊕◌}
+use Rattle.ring_core.specs.Prelude.{◌⊕◌, xor_lists}
 
 ⊕-zero : (x y : ℕ) → x ⊕ y ≡ 0 → x ≡ y
 ⊕-zero x y none =

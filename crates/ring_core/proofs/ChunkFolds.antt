@@ -2,7 +2,7 @@
 use Rattle.std.proofs.Common.{◌≡◌, ℕ, zero, suc, ◌+◌, ◌*◌, ◌≤◌, List, ◌++◌, length, take, drop}
 use Rattle.std.proofs.Common.{refl, arith, length-drop, add-zero, add-one}
 use Rattle.std.proofs.lemmas.List.{take-append-le, drop-append-le, drop_at, drop-drop}
-use Rattle.ring_core.specs.Chunks.{chunk_at, fold_chunks}
+use Rattle.ring_core.specs.Prelude.{chunk_at, fold_chunks}
 
 -- no chunk
 pub fold_chunks-none : (step : List ℕ → List ℕ → List ℕ) (n : ℕ) (h p : List ℕ)

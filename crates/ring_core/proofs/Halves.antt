@@ -4,7 +4,7 @@ use Rattle.std.proofs.Common.{length, slice_index, map, refl, sym, ap, ◌∙◌
 use Rattle.std.proofs.Math.Nat.{mod-eq_of_lt, mod-one, pow-suc, one-le-pow}
 use Rattle.std.proofs.lemmas.Nat.{xor_mod}
 use Rattle.std.specs.Simd.Lanes.{number_l, digits_l, zip2}
-use Rattle.ring_core.specs.Word.{◌⊕◌, low_32}
+use Rattle.ring_core.specs.Prelude.{◌⊕◌, low_32}
 use lib.Arith.{mod-mul}
 
 -- the last n bytes of a number, put together

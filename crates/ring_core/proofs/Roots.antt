@@ -3,7 +3,7 @@ use Rattle.std.proofs.Common.{◌≡◌, ℕ, zero, suc, ◌+◌, ◌*◌, ◌^�
 use Rattle.std.proofs.Common.{true, false, if◌then◌else◌, List, [], ◌∷◌, length, slice_index, refl}
 use Rattle.std.proofs.Common.{arith, rules}
 use Rattle.std.proofs.lemmas.Bool.{and_parts, leb-true, ltb-true}
-use Rattle.ring_core.specs.Roots.{IsRootFraction, first_primes}
+use Rattle.ring_core.specs.Prelude.{IsRootFraction, first_primes}
 
 -- the whole part of the root of order e of p, where it is at most n
 abbrev whole_root : ℕ → ℕ → ℕ → ℕ

@@ -12,8 +12,7 @@ use Rattle.std.proofs.Math.Nat.{add-mod_right, div-lt_iff_lt-mul, mod-add-mod, m
 use Rattle.std.proofs.Math.Nat.{mul-add-div_right, div-le_self}
 use Rattle.std.specs.Int.Bits.{or_shifted_r, xor_assoc}
 use Rattle.std.specs.Int.{bit_at}
-use Rattle.ring_core.specs.Sha2.{three_rotations}
-use Rattle.ring_core.specs.Word.{◌⊕◌, rotr}
+use Rattle.ring_core.specs.Prelude.{◌⊕◌, rotr, three_rotations}
 
 -- a word of w bits shifted right by k, or'ed with itself shifted left by the rest
 abbrev pub or_of_shifts : (w n k : ℕ) → ℕ

@@ -6,7 +6,7 @@ use Rattle.std.proofs.lemmas.List.{get_or_append_left, get_or_push, length-set, 
 use Rattle.std.proofs.lemmas.List.{map-set}
 use Rattle.std.proofs.lemmas.Bool.{cases_lt}
 use Rattle.std.proofs.Math.ListN.{get_or, length-map, set}
-use Rattle.ring_core.specs.Schedule.{IsRing, listed, listed_at}
+use Rattle.ring_core.specs.Prelude.{IsRing, listed, listed_at}
 
 length-listed : (next : List ℕ → ℕ → ℕ) (n : ℕ) → length (listed next n) ≡ n
 unfolding listed

@@ -2,10 +2,8 @@
 use Rattle.std.proofs.Common.{◌≡◌, ◌⊎◌, ℕ, ◌+◌, ◌-◌, ◌*◌, ◌/◌, ◌<◌, ◌≤◌, List, length}
 use Rattle.std.proofs.Common.{slice_index, refl, sym, ap, ◌∙◌, add-one, arith, inl, inr}
 use Rattle.std.proofs.Common.{nat_lt, true, false}
-use Rattle.ring_core.specs.Schedule.{IsRing}
-use Rattle.ring_core.specs.Sha2.{Family, W, add_state, block_step, family_256, family_512}
-use Rattle.ring_core.specs.Sha2.{next_word, round, rounds_from, scheduled}
-use Rattle.ring_core.specs.Word.{word_at}
+use Rattle.ring_core.specs.Prelude.{Family, IsRing, W, add_state, block_step, family_256}
+use Rattle.ring_core.specs.Prelude.{family_512, next_word, round, rounds_from, scheduled, word_at}
 use Rattle.ring_core.proofs.Schedule.{listed_at-next, ring-same, slice_index-listed}
 
 pub W-first : (f : Family) (b : List ℕ) (t : ℕ) → t < 16 → W f b t ≡ word_at f.bits b t

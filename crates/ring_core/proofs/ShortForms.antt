@@ -4,7 +4,7 @@ use Rattle.std.proofs.lemmas.Nat.{and-not, and_assoc, and_comm, xor_comm}
 use Rattle.std.proofs.lemmas.Nat.Bits.{bit_at-lt, bit_at_and, bit_at_xor, same_from_bits}
 use Rattle.std.specs.Int.Bits.{and_self, xor_add_and, xor_assoc, xor_self, xor_zero_l}
 use Rattle.std.specs.Int.{bit_at}
-use Rattle.ring_core.specs.Word.{◌⊕◌, choose, complement, majority}
+use Rattle.ring_core.specs.Prelude.{◌⊕◌, choose, complement, majority}
 
 -- and goes through exclusive or, digit by digit
 digit_and-xor : (p q r : ℕ) → p < 2 → q < 2 → r < 2 → min p ((q + r) % 2) ≡ (min p q + min p r) % 2

@@ -9,8 +9,7 @@ use Rattle.std.proofs.Math.ListN.{replicate}
 use Rattle.std.proofs.Math.Nat.{div-le_self, mod-eq_of_lt}
 use Rattle.std.specs.Int.{Width}
 use Rattle.std.specs.Simd.Lanes.{Each1, zip2}
-use Rattle.ring_core.specs.Bytes.{xor_lists}
-use Rattle.ring_core.specs.Word.{◌⊕◌, rotr, shr}
+use Rattle.ring_core.specs.Prelude.{◌⊕◌, rotr, shr, xor_lists}
 use Rattle.ring_core.proofs.Rotation.{or_of_shifts, or_of_shifts-rotr, rotr-lt}
 use mir.Val.{bits, Fits}
 

@@ -10,3 +10,4 @@ pub mod Cost
 pub mod Roots
 pub mod Sha2
 pub mod Sha1
+pub mod Prelude

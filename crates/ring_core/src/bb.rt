@@ -11,9 +11,7 @@
 //! The imports of this example stand in `crates/ring_examples/src/basics.rt`.
 
 ghost use Rattle.std.specs.Prelude.{◌≡◌, ◌↔◌, IsOk, length, map};
-ghost use Rattle.ring_core.specs.Bytes.{xor_lists};
-ghost use Rattle.ring_core.specs.Cost.{compared_pairs, raised};
-ghost use Rattle.ring_core.specs.Word.{◌⊕◌};
+ghost use Rattle.ring_core.specs.Prelude.{◌⊕◌, compared_pairs, raised, xor_lists};
 
 use crate::cost::Meter;
 use crate::error::Unspecified;

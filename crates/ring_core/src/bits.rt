@@ -15,7 +15,7 @@
 ghost use Rattle.std.specs.Prelude.{◌≡◌, Result};
 ghost use Rattle.std.specs.Int.{div_ceil, to_be_bytes, w128, w64};
 ghost use Rattle.ring_core.specs.declared.error.InputTooLongError.{InputTooLongError};
-ghost use Rattle.ring_core.specs.Bits.{GivesBits, GivesNonZero, bit_count};
+ghost use Rattle.ring_core.specs.Prelude.{GivesBits, GivesNonZero, bit_count};
 
 use crate::error::{InputTooLongError, Unspecified};
 use std::num::NonZeroU64;

@@ -18,7 +18,7 @@
 //! The imports of this example stand in `crates/ring_examples/src/basics.rt`.
 
 ghost use Rattle.std.specs.Prelude.{◌≡◌};
-ghost use Rattle.ring_core.specs.Cost.{raised};
+ghost use Rattle.ring_core.specs.Prelude.{raised};
 
 use std::marker::Model;
 

@@ -1,6 +1,6 @@
 //! The errors: one without a cause, and one for an input that is too long.
 ghost use Rattle.std.specs.Prelude.{◌≡◌};
-ghost use Rattle.ring_core.specs.Error.{refused_length};
+ghost use Rattle.ring_core.specs.Prelude.{refused_length};
 
 /// An error without a cause, so that a refusal tells nothing about a secret.
 #[derive(Clone, Copy, Debug, PartialEq, Eq)]

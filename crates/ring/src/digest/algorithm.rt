@@ -2,14 +2,12 @@
 
 ghost use Rattle.std.specs.Prelude.{◌≡◌, ◌↔◌, ◌≤◌, ◌-◌, IsTrue, Some, length, replicate};
 ghost use Rattle.ring_core.specs.Sha1 as sha1;
-ghost use Rattle.ring_core.specs.Sha2.{block_step, family_256, family_512};
-ghost use Rattle.ring.specs.Algorithm.{block_function, block_len, chaining_len};
-ghost use Rattle.ring.specs.Algorithm.{initial_words, length_len, max_input_len};
-ghost use Rattle.ring.specs.Algorithm.{name_of, output_len, row, word_count};
-ghost use Rattle.ring.specs.Initial.{AreSquareRoots};
-ghost use Rattle.ring.specs.Limits.{IsMessageWithin};
-ghost use Rattle.ring.specs.State.{chaining_words, is_state_of, spare_words, words};
-ghost use Rattle.ring.specs.Table.{sha1_row, sha256_row, sha384_row, sha512_row, sha512_256_row};
+ghost use Rattle.ring_core.specs.Prelude.{block_step, family_256, family_512};
+ghost use Rattle.ring.specs.Prelude.{AreSquareRoots, IsMessageWithin, block_function, block_len};
+ghost use Rattle.ring.specs.Prelude.{chaining_len, chaining_words, initial_words, is_state_of};
+ghost use Rattle.ring.specs.Prelude.{length_len, max_input_len, name_of, output_len, row, sha1_row};
+ghost use Rattle.ring.specs.Prelude.{sha256_row, sha384_row, sha512_256_row, sha512_row};
+ghost use Rattle.ring.specs.Prelude.{spare_words, word_count, words};
 
 use crate::digest::dynstate::DynState;
 use crate::digest::initial;

@@ -2,10 +2,7 @@
 
 ghost use Rattle.std.proofs.Common.{ap};
 ghost use Rattle.std.specs.Prelude.{◌≡◌, ℕ, ◌<◌, List, [], get_or, length};
-ghost use Rattle.ring_core.specs.Cost.{raised};
-ghost use Rattle.ring.specs.Algorithm.{block_function, word_len};
-ghost use Rattle.ring.specs.Each.{HasWords};
-ghost use Rattle.ring.specs.declared.digest.algorithm.Algorithm.{Algorithm};
+ghost use Rattle.ring.specs.Prelude.{Algorithm, HasWords, block_function, raised, word_len};
 
 use crate::digest::side_by_side::lane_digests::{Sha1, Sha256};
 use crate::digest::side_by_side::lane_states::LaneStates;

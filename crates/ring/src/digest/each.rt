@@ -1,9 +1,8 @@
 //! Digests of several messages at once.
 
 ghost use Rattle.std.specs.Prelude.{◌≡◌, ◌↔◌, ℕ, ◌<◌, IsOk, IsTrue, OnErr, OnOk, length};
-ghost use Rattle.ring_core.specs.Cost.{raised};
-ghost use Rattle.ring.specs.Each.{AreDigests, CanDigestEach, each_blocks, message_at};
-ghost use Rattle.ring.specs.Limits.{IsMessageWithin};
+ghost use Rattle.ring.specs.Prelude.{AreDigests, CanDigestEach, IsMessageWithin, each_blocks};
+ghost use Rattle.ring.specs.Prelude.{message_at, raised};
 
 use crate::digest::algorithm::{Algorithm, is_message_within};
 use crate::digest::together::write_together;

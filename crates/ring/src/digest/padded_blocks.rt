@@ -2,15 +2,10 @@
 
 ghost use Rattle.std.specs.Prelude.{◌≡◌, ◌≢◌, ◌-◌, ◌*◌, ◌/◌, ◌<◌, ◌≤◌, ◌++◌, IsTrue, length};
 ghost use Rattle.std.specs.Prelude.{replicate};
-ghost use Rattle.ring_core.specs.Chunks.{chunk_at};
-ghost use Rattle.ring_core.specs.Cost.{raised};
-ghost use Rattle.ring.specs.Algorithm.{block_len};
-ghost use Rattle.ring.specs.Cost.{padded_blocks};
-ghost use Rattle.ring.specs.Digest.{IsDigest};
-ghost use Rattle.ring.specs.Each.{words_at};
-ghost use Rattle.ring.specs.Limits.{IsMessageWithin};
-ghost use Rattle.ring.specs.Padding.{padded};
-ghost use Rattle.ring.specs.State.{chaining_words, is_state_of, state_word_len, word_bytes, words};
+ghost use Rattle.ring_core.specs.Prelude.{chunk_at};
+ghost use Rattle.ring.specs.Prelude.{IsDigest, IsMessageWithin, block_len, chaining_words};
+ghost use Rattle.ring.specs.Prelude.{is_state_of, padded, padded_blocks, raised, state_word_len};
+ghost use Rattle.ring.specs.Prelude.{word_bytes, words, words_at};
 
 use crate::digest::algorithm::Algorithm;
 use crate::digest::block_context::run_blocks;

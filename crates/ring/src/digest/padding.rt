@@ -3,10 +3,8 @@
 ghost use Rattle.std.specs.Prelude.{◌≡◌, ℕ, ◌-◌, ◌*◌, ◌^◌, ◌<◌, ◌≤◌, List};
 ghost use Rattle.std.specs.Prelude.{◌++◌, drop, length, replicate, take};
 ghost use Rattle.std.specs.Int.{bytes_high_first};
-ghost use Rattle.ring.specs.Algorithm.{block_len, length_len, max_input_len};
-ghost use Rattle.ring.specs.Cost.{padded_blocks};
-ghost use Rattle.ring.specs.Padding.{IsPadded, padded, tail_of};
-ghost use Rattle.ring.specs.declared.digest.algorithm.Algorithm.{Algorithm};
+ghost use Rattle.ring.specs.Prelude.{Algorithm, IsPadded, block_len, length_len, max_input_len};
+ghost use Rattle.ring.specs.Prelude.{padded, padded_blocks, tail_of};
 
 use crate::digest::algorithm::{Algorithm, MAX_BLOCK_LEN};
 use ring_core::bits::{BitLength, FromByteLen};

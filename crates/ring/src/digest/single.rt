@@ -1,10 +1,7 @@
 //! The digest of one message.
 
 ghost use Rattle.std.specs.Prelude.{◌≡◌, ◌↔◌, length, ◌<◌, IfOk, IsErr, OnOk, OnErr};
-ghost use Rattle.ring_core.specs.Cost.{raised};
-ghost use Rattle.ring.specs.Algorithm.{max_input_len};
-ghost use Rattle.ring.specs.Cost.{padded_blocks};
-ghost use Rattle.ring.specs.Digest.{IsDigest};
+ghost use Rattle.ring.specs.Prelude.{IsDigest, max_input_len, padded_blocks, raised};
 
 use crate::digest::algorithm::{Algorithm, is_message_within};
 use crate::digest::block_context::BlockContext;

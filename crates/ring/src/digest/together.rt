@@ -1,16 +1,10 @@
 //! Digests of several messages side by side, as many as a vector has lanes.
 
 ghost use Rattle.std.specs.Prelude.{◌≡◌, ℕ, ◌*◌, ◌<◌, ◌≤◌, [], get_or, length};
-ghost use Rattle.ring_core.specs.Chunks.{chunk_at};
-ghost use Rattle.ring_core.specs.Cost.{raised};
-ghost use Rattle.ring.specs.Algorithm.{block_len};
-ghost use Rattle.ring.specs.Cost.{padded_blocks};
-ghost use Rattle.ring.specs.Digest.{IsDigest};
-ghost use Rattle.ring.specs.Each.{AreDigests, CanDigestEach, HasWords, each_blocks, message_at};
-ghost use Rattle.ring.specs.Each.{words_at};
-ghost use Rattle.ring.specs.Lanes.{CanRunTogether};
-ghost use Rattle.ring.specs.Limits.{IsMessageWithin};
-ghost use Rattle.ring.specs.Padding.{padded};
+ghost use Rattle.ring_core.specs.Prelude.{chunk_at};
+ghost use Rattle.ring.specs.Prelude.{AreDigests, CanDigestEach, CanRunTogether, HasWords, IsDigest};
+ghost use Rattle.ring.specs.Prelude.{IsMessageWithin, block_len, each_blocks, message_at, padded};
+ghost use Rattle.ring.specs.Prelude.{padded_blocks, raised, words_at};
 
 use crate::digest::algorithm::{Algorithm, AlgorithmId};
 use crate::digest::block_lanes::RunBlocks;

@@ -1,8 +1,7 @@
 //! The digest that a call returns.
 
 ghost use Rattle.std.specs.Prelude.{◌≡◌, length};
-ghost use Rattle.ring.specs.Algorithm.{output_len};
-ghost use Rattle.ring.specs.Digest.{bytes_of, digest_algorithm};
+ghost use Rattle.ring.specs.Prelude.{bytes_of, digest_algorithm, output_len};
 
 use crate::digest::algorithm::Algorithm;
 use crate::digest::dynstate::Output;

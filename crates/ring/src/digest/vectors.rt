@@ -1,7 +1,7 @@
 //! How many messages or rounds run side by side.
 
 ghost use Rattle.std.specs.Prelude.{ℕ, ◌<◌, ◌≤◌};
-ghost use Rattle.ring.specs.Lanes.{CanRunTogether};
+ghost use Rattle.ring.specs.Prelude.{CanRunTogether};
 
 use crate::digest::algorithm::Algorithm;
 use crate::digest::dynstate::DynState;

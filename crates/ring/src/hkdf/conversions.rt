@@ -1,9 +1,8 @@
 //! Keys, salts and PRKs made of output (RFC 5869, section 2.3).
 
-ghost use Rattle.ring.specs.Hkdf.{PrkStandsFor, SaltStandsFor, hkdf_digest};
-ghost use Rattle.ring.specs.Hkdf.{prk_algorithm, salt_algorithm};
-ghost use Rattle.ring.specs.Hmac.{KeyStandsFor, hmac_digest, key_algorithm};
-ghost use Rattle.ring.specs.Okm.{IsMadeOf, carried};
+ghost use Rattle.ring.specs.Prelude.{IsMadeOf, KeyStandsFor, PrkStandsFor, SaltStandsFor, carried};
+ghost use Rattle.ring.specs.Prelude.{hkdf_digest, hmac_digest, key_algorithm, prk_algorithm};
+ghost use Rattle.ring.specs.Prelude.{salt_algorithm};
 
 use crate::hkdf::algorithm::Algorithm;
 use crate::hkdf::prk::{Okm, Prk};

@@ -1,12 +1,9 @@
 //! The rounds of an output (RFC 5869, section 2.3).
 
 ghost use Rattle.std.specs.Prelude.{◌≡◌, ◌+◌, ℕ, List, [], ◌∷◌, ◌++◌, length};
-ghost use Rattle.ring_core.specs.Cost.{raised};
-ghost use Rattle.ring.specs.Cost.{fill_blocks, padded_blocks};
-ghost use Rattle.ring.specs.Hkdf.{okm};
-ghost use Rattle.ring.specs.Hmac.{IsTag, KeyStandsFor, key_algorithm, tag_algorithm};
-ghost use Rattle.ring.specs.Limits.{IsInfoWithin, IsOutputWithin, IsTagWithin};
-ghost use Rattle.ring.specs.Pieces.{joined};
+ghost use Rattle.ring.specs.Prelude.{IsInfoWithin, IsOutputWithin, IsTag, IsTagWithin};
+ghost use Rattle.ring.specs.Prelude.{KeyStandsFor, fill_blocks, joined, key_algorithm, okm};
+ghost use Rattle.ring.specs.Prelude.{padded_blocks, raised, tag_algorithm};
 
 use crate::hmac::{Context, Key, Tag};
 use ring_core::cost::Meter;

@@ -1,12 +1,9 @@
 //! Salts, and the extract of a PRK (RFC 5869, section 2.2).
 
 ghost use Rattle.std.specs.Prelude.{◌≡◌, ◌↔◌, ◌+◌, ◌<◌, ℕ, List, length, IfOk, IsErr, OnErr, OnOk};
-ghost use Rattle.ring_core.specs.Cost.{raised};
-ghost use Rattle.ring.specs.Algorithm.{block_len, max_input_len};
-ghost use Rattle.ring.specs.Cost.{key_blocks, padded_blocks};
-ghost use Rattle.ring.specs.Hkdf.{PrkStandsFor, SaltStandsFor, hkdf_digest};
-ghost use Rattle.ring.specs.Hkdf.{prk_algorithm, salt_algorithm};
-ghost use Rattle.ring.specs.Hmac.{hmac_of};
+ghost use Rattle.ring.specs.Prelude.{PrkStandsFor, SaltStandsFor, block_len, hkdf_digest, hmac_of};
+ghost use Rattle.ring.specs.Prelude.{key_blocks, max_input_len, padded_blocks, prk_algorithm};
+ghost use Rattle.ring.specs.Prelude.{raised, salt_algorithm};
 
 use crate::hkdf::algorithm::Algorithm;
 use crate::hkdf::prk::Prk;

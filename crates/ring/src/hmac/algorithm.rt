@@ -1,8 +1,7 @@
 //! The four HMAC algorithms.
 
 ghost use Rattle.std.specs.Prelude.{◌≡◌, ◌++◌, Some, codes};
-ghost use Rattle.ring.specs.Algorithm.{name_of};
-ghost use Rattle.ring.specs.Hmac.{hmac_digest};
+ghost use Rattle.ring.specs.Prelude.{hmac_digest, name_of};
 
 use crate::digest::algorithm::{self as digest, SHA1_FOR_LEGACY_USE_ONLY, SHA256, SHA384, SHA512};
 use std::fmt;

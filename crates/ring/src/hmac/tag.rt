@@ -1,7 +1,7 @@
 //! The tag that a call returns.
 
 ghost use Rattle.std.specs.Prelude.{◌≡◌, length};
-ghost use Rattle.ring.specs.Algorithm.{output_len};
+ghost use Rattle.ring.specs.Prelude.{output_len};
 
 use crate::digest::Digest;
 

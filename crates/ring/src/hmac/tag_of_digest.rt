@@ -2,9 +2,7 @@
 //! function ended with, and its padding after a key's block is the same for all.
 
 ghost use Rattle.std.specs.Prelude.{◌≡◌, ℕ, ◌*◌, ◌<◌, List};
-ghost use Rattle.ring_core.specs.Cost.{raised};
-ghost use Rattle.ring.specs.Hmac.{hmac_of};
-ghost use Rattle.ring.specs.Lanes.{IsKeyInLane, digest_bytes};
+ghost use Rattle.ring.specs.Prelude.{IsKeyInLane, digest_bytes, hmac_of, raised};
 
 use crate::digest::side_by_side::lane_digests::SideBySide;
 use ring_core::cost::Meter;

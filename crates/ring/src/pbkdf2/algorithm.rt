@@ -1,8 +1,7 @@
 //! The four PBKDF2 algorithms.
 
 ghost use Rattle.std.specs.Prelude.{◌≡◌};
-ghost use Rattle.ring.specs.Hmac.{hmac_digest};
-ghost use Rattle.ring.specs.Pbkdf2.{pbkdf2_digest};
+ghost use Rattle.ring.specs.Prelude.{hmac_digest, pbkdf2_digest};
 
 use crate::digest::algorithm::{SHA1_FOR_LEGACY_USE_ONLY, SHA256, SHA384, SHA512};
 use crate::hmac::algorithm::{

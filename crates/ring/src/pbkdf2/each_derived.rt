@@ -2,9 +2,8 @@
 
 ghost use Rattle.std.specs.Prelude.{◌≡◌, ◌↔◌, ℕ, ◌<◌, [], IsOk, OnErr, OnOk, get_or, length};
 ghost use Rattle.std.specs.Int.NonZero.{non_zero_u32_get};
-ghost use Rattle.ring_core.specs.Cost.{raised};
-ghost use Rattle.ring.specs.DeriveEach.{AreDerived, CanDeriveEach, derive_each_blocks};
-ghost use Rattle.ring.specs.Pbkdf2.{pbkdf2_digest};
+ghost use Rattle.ring.specs.Prelude.{AreDerived, CanDeriveEach, derive_each_blocks, pbkdf2_digest};
+ghost use Rattle.ring.specs.Prelude.{raised};
 
 use crate::digest::vectors::SSE;
 use crate::pbkdf2::algorithm::Algorithm;

@@ -2,13 +2,9 @@
 
 ghost use Rattle.std.specs.Prelude.{◌≡◌, ℕ, ◌+◌, ◌-◌, ◌*◌, ◌<◌, List, length, take};
 ghost use Rattle.std.specs.Int.NonZero.{non_zero_u32_get};
-ghost use Rattle.ring_core.specs.Cost.{raised};
-ghost use Rattle.ring.specs.Algorithm.{output_len};
-ghost use Rattle.ring.specs.Cost.{padded_blocks};
-ghost use Rattle.ring.specs.Hmac.{KeyStandsFor, key_algorithm, tag_algorithm, tag_bytes};
-ghost use Rattle.ring.specs.Lanes.{IsKeyInLane, digest_bytes};
-ghost use Rattle.ring.specs.Limits.{IsTagWithin};
-ghost use Rattle.ring.specs.Pbkdf2.{iterate, xored};
+ghost use Rattle.ring.specs.Prelude.{IsKeyInLane, IsTagWithin, KeyStandsFor, digest_bytes, iterate};
+ghost use Rattle.ring.specs.Prelude.{key_algorithm, output_len, padded_blocks, raised};
+ghost use Rattle.ring.specs.Prelude.{tag_algorithm, tag_bytes, xored};
 
 use crate::digest::dynstate::OUTPUT_ROOM;
 use crate::digest::side_by_side::lane_digests::SideBySide;

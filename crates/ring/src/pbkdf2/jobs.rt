@@ -3,12 +3,9 @@
 
 ghost use Rattle.std.specs.Prelude.{◌≡◌, ℕ, ◌<◌, ◌≤◌, get_or, length};
 ghost use Rattle.std.specs.Int.NonZero.{non_zero_u32_get};
-ghost use Rattle.ring_core.specs.Cost.{raised};
-ghost use Rattle.ring.specs.DeriveEach.{sum_below};
-ghost use Rattle.ring.specs.Jobs.{AreStarts, BeginsWithRound, CanRun, IsJobWithin, first_blocks};
-ghost use Rattle.ring.specs.Jobs.{job_blocks};
-ghost use Rattle.ring.specs.Lanes.{CanRunTogether};
-ghost use Rattle.ring.specs.declared.digest.dynstate.Output.{Output};
+ghost use Rattle.ring.specs.Prelude.{AreStarts, BeginsWithRound, CanRun, CanRunTogether};
+ghost use Rattle.ring.specs.Prelude.{IsJobWithin, Output, first_blocks, job_blocks, raised};
+ghost use Rattle.ring.specs.Prelude.{sum_below};
 
 use crate::digest;
 use crate::digest::algorithm::AlgorithmId;

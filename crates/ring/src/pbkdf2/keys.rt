@@ -2,15 +2,10 @@
 
 ghost use Rattle.std.specs.Prelude.{◌≡◌, ℕ, ◌+◌, ◌<◌, ◌≤◌, List, get_or, length, take};
 ghost use Rattle.std.specs.Int.NonZero.{non_zero_u32_get};
-ghost use Rattle.ring_core.specs.Cost.{raised};
-ghost use Rattle.ring.specs.Algorithm.{max_input_len, output_len};
-ghost use Rattle.ring.specs.Cost.{iterate_blocks, key_blocks};
-ghost use Rattle.ring.specs.DeriveEach.{AreKeysOf, bytes_at, sum_below};
-ghost use Rattle.ring.specs.Hmac.{KeyStandsFor, hmac_digest, key_algorithm};
-ghost use Rattle.ring.specs.Lanes.{CanRunTogether};
-ghost use Rattle.ring.specs.Limits.{IsTagWithin};
-ghost use Rattle.ring.specs.Pbkdf2.{xored};
-ghost use Rattle.ring.specs.declared.digest.dynstate.Output.{Output};
+ghost use Rattle.ring.specs.Prelude.{AreKeysOf, CanRunTogether, IsTagWithin, KeyStandsFor, Output};
+ghost use Rattle.ring.specs.Prelude.{bytes_at, hmac_digest, iterate_blocks, key_algorithm};
+ghost use Rattle.ring.specs.Prelude.{key_blocks, max_input_len, output_len, raised, sum_below};
+ghost use Rattle.ring.specs.Prelude.{xored};
 
 use crate::digest;
 use crate::digest::dynstate::Output;

@@ -3,17 +3,9 @@
 ghost use Rattle.std.specs.Prelude.{◌≡◌, ◌↔◌, ℕ, ◌+◌, ◌-◌, ◌*◌, ◌^◌, ◌<◌, ◌≤◌};
 ghost use Rattle.std.specs.Prelude.{List, get_or, length, min, take, IsTrue};
 ghost use Rattle.std.specs.Int.NonZero.{non_zero_u32_get};
-ghost use Rattle.ring_core.specs.Cost.{raised};
-ghost use Rattle.ring.specs.Algorithm.{output_len};
-ghost use Rattle.ring.specs.Cost.{derive_rounds, iterate_blocks};
-ghost use Rattle.ring.specs.Hmac.{KeyStandsFor, key_algorithm};
-ghost use Rattle.ring.specs.Lanes.{CanRunTogether};
-ghost use Rattle.ring.specs.Limits.{IsTagWithin};
-ghost use Rattle.ring.specs.Pbkdf2.{dk, xored};
-ghost use Rattle.ring.specs.Pieces.{joined_blocks};
-ghost use Rattle.ring.specs.Receiver.{Takes};
-ghost use Rattle.ring.specs.declared.digest.dynstate.Output.{Output};
-ghost use Rattle.ring.specs.declared.pbkdf2.jobs.Job.{Job};
+ghost use Rattle.ring.specs.Prelude.{CanRunTogether, IsTagWithin, Job, KeyStandsFor, Output, Takes};
+ghost use Rattle.ring.specs.Prelude.{derive_rounds, dk, iterate_blocks, joined_blocks};
+ghost use Rattle.ring.specs.Prelude.{key_algorithm, output_len, raised, xored};
 
 use crate::digest;
 use crate::digest::dynstate::{OUTPUT_ROOM, Output};

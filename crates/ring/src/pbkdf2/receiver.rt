@@ -4,8 +4,7 @@
 ghost use Rattle.std.specs.Prelude.{◌≡◌, ◌≢◌, ◌↔◌, ℕ, ◌+◌, ◌*◌, ◌^◌, ◌<◌, ◌≤◌, List, [], ◌++◌};
 ghost use Rattle.std.specs.Prelude.{IsTrue, drop, false, get_or, length, min, take, true};
 ghost use Rattle.std.proofs.Common.{arith, refl};
-ghost use Rattle.ring_core.specs.Cost.{raised};
-ghost use Rattle.ring.specs.Receiver.{Takes};
+ghost use Rattle.ring.specs.Prelude.{Takes, raised};
 
 use ring_core::bb::verify_slices_are_equal_counted;
 use ring_core::cost::Meter;

@@ -3,18 +3,10 @@
 ghost use Rattle.std.specs.Prelude.{◌≡◌, ◌↔◌, ℕ, ◌+◌, ◌-◌, ◌*◌, ◌^◌, ◌<◌, ◌≤◌, List, IsTrue};
 ghost use Rattle.std.specs.Prelude.{get_or, length, take};
 ghost use Rattle.std.specs.Int.NonZero.{non_zero_u32_get};
-ghost use Rattle.ring_core.specs.Cost.{raised};
-ghost use Rattle.ring.specs.Algorithm.{output_len};
-ghost use Rattle.ring.specs.Cost.{derive_rounds, iterate_blocks};
-ghost use Rattle.ring.specs.DeriveEach.{AreKeysOf, CanDeriveEach, bytes_at, derive_each_blocks};
-ghost use Rattle.ring.specs.DeriveEach.{dk_at, sum_below};
-ghost use Rattle.ring.specs.Hmac.{hmac_digest, key_algorithm};
-ghost use Rattle.ring.specs.Lanes.{CanRunTogether};
-ghost use Rattle.ring.specs.Limits.{CanDerive, IsTagWithin};
-ghost use Rattle.ring.specs.Pbkdf2.{dk};
-ghost use Rattle.ring.specs.Receiver.{Takes};
-ghost use Rattle.ring.specs.declared.digest.dynstate.Output.{Output};
-ghost use Rattle.ring.specs.declared.hmac.key.Key.{Key};
+ghost use Rattle.ring.specs.Prelude.{AreKeysOf, CanDerive, CanDeriveEach, CanRunTogether};
+ghost use Rattle.ring.specs.Prelude.{IsTagWithin, Key, Output, Takes, bytes_at, derive_each_blocks};
+ghost use Rattle.ring.specs.Prelude.{derive_rounds, dk, dk_at, hmac_digest, iterate_blocks};
+ghost use Rattle.ring.specs.Prelude.{key_algorithm, output_len, raised, sum_below};
 
 use crate::digest::dynstate::Output;
 use crate::digest::vectors::lanes_for;

@@ -2,8 +2,8 @@
 
 ghost use Rattle.std.specs.Prelude.{◌≡◌, ◌↔◌, ℕ, ◌+◌, ◌<◌, List, ◌++◌};
 ghost use Rattle.std.specs.Prelude.{length, IfSome, IsNone, IsSomeAnd, IsTrue, IsFalse, Some};
-ghost use Rattle.ring.specs.Context.{StandsFor, context_algorithm, message_len, pending_len};
-ghost use Rattle.ring.specs.declared.digest.algorithm.Algorithm.{Algorithm};
+ghost use Rattle.ring.specs.Prelude.{Algorithm, StandsFor, context_algorithm, message_len};
+ghost use Rattle.ring.specs.Prelude.{pending_len};
 
 use crate::digest::algorithm::MAX_BLOCK_LEN;
 use crate::digest::context::Context;

@@ -1,8 +1,7 @@
 //! The numbers of a key.
 
 ghost use Rattle.std.specs.Prelude.{◌≡◌, ◌↔◌, ℕ, List, IfSome, IsNone, IsSomeAnd, Some};
-ghost use Rattle.ring.specs.Hmac.{KeyStandsFor, key_algorithm};
-ghost use Rattle.ring.specs.declared.digest.algorithm.Algorithm.{Algorithm};
+ghost use Rattle.ring.specs.Prelude.{Algorithm, KeyStandsFor, key_algorithm};
 
 use crate::hmac::key::Key;
 use crate::raw::number::{digest_of_number, number_of_digest};

@@ -1,7 +1,7 @@
 //! Algorithms by their numbers.
 
 ghost use Rattle.std.specs.Prelude.{◌≡◌, Some};
-ghost use Rattle.ring.specs.Raw.{digest_named};
+ghost use Rattle.ring.specs.Prelude.{digest_named};
 
 use crate::digest::algorithm::{
     Algorithm, AlgorithmId, SHA1_FOR_LEGACY_USE_ONLY, SHA256, SHA384, SHA512, SHA512_256,

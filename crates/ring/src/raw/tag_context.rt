@@ -2,8 +2,8 @@
 
 ghost use Rattle.std.specs.Prelude.{◌≡◌, ◌↔◌, ℕ, ◌+◌, ◌<◌, ◌≤◌, List, ◌++◌};
 ghost use Rattle.std.specs.Prelude.{length, IfSome, IsNone, IsSomeAnd, IsTrue, IsFalse, Some};
-ghost use Rattle.ring.specs.Hmac.{TagStandsFor, signing_algorithm, signing_len, signing_pending};
-ghost use Rattle.ring.specs.declared.digest.algorithm.Algorithm.{Algorithm};
+ghost use Rattle.ring.specs.Prelude.{Algorithm, TagStandsFor, signing_algorithm, signing_len};
+ghost use Rattle.ring.specs.Prelude.{signing_pending};
 
 use crate::hmac::context::Context;
 use crate::raw::context::RawContext;

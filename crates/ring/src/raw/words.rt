@@ -1,10 +1,9 @@
 //! States and counts as plain numbers.
 
 ghost use Rattle.std.specs.Prelude.{◌≡◌, ◌+◌, ◌*◌, ◌%◌, ◌^◌, ℕ, List, IsTrue, length, map};
-ghost use Rattle.ring_core.specs.Sha2.{words_32, words_64};
-ghost use Rattle.ring.specs.Context.{HasTaken, block_algorithm, counted_bytes, cut_off};
-ghost use Rattle.ring.specs.Raw.{IsRawState, joined_halves, raw_words};
-ghost use Rattle.ring.specs.State.{is_state_of, words};
+ghost use Rattle.ring_core.specs.Prelude.{words_32, words_64};
+ghost use Rattle.ring.specs.Prelude.{HasTaken, IsRawState, block_algorithm, counted_bytes, cut_off};
+ghost use Rattle.ring.specs.Prelude.{is_state_of, joined_halves, raw_words, words};
 
 use crate::digest::algorithm::Algorithm;
 use crate::digest::block_context::BlockContext;

@@ -1,11 +1,8 @@
 //! The block function of SHA-1 (FIPS 180-4, 6.1.2).
 ghost use Rattle.std.specs.Prelude.{◌≡◌, ℕ, ◌<◌, List, [], get_or, length, map, take, drop};
-ghost use Rattle.ring_core.specs.Cost.{raised};
-ghost use Rattle.ring_core.specs.Lane.{words_of_lane};
-ghost use Rattle.ring_core.specs.Schedule.{IsBlockOf};
+ghost use Rattle.ring_core.specs.Prelude.{IsBlockOf, chunk_items, chunk_total, raised, word_32};
+ghost use Rattle.ring_core.specs.Prelude.{words_of_lane};
 ghost use Rattle.ring_core.specs.Sha1.{block_step, blocks_from};
-ghost use Rattle.ring_core.specs.Views.{chunk_items, chunk_total};
-ghost use Rattle.ring_core.specs.Word.{word_32};
 
 mod sha1_rounds;
 mod sha1_schedule;

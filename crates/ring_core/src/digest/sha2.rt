@@ -2,12 +2,9 @@
 //! The schedule's step alone has a form for each.
 ghost use Rattle.std.specs.Prelude.{◌≡◌, ℕ, ◌*◌, ◌/◌, ◌<◌, ◌≤◌};
 ghost use Rattle.std.specs.Prelude.{List, [], get_or, length, map};
-ghost use Rattle.ring_core.specs.Cost.{raised};
-ghost use Rattle.ring_core.specs.Lane.{words_of_lane};
-ghost use Rattle.ring_core.specs.Schedule.{IsBlockOf};
-ghost use Rattle.ring_core.specs.Sha2.{block_len, block_step, blocks_from};
-ghost use Rattle.ring_core.specs.Sha2.{family_256, family_512, words_32, words_64};
-ghost use Rattle.ring_core.specs.Views.{chunk_items, chunk_total};
+ghost use Rattle.ring_core.specs.Prelude.{IsBlockOf, block_len, block_step, blocks_from};
+ghost use Rattle.ring_core.specs.Prelude.{chunk_items, chunk_total, family_256, family_512, raised};
+ghost use Rattle.ring_core.specs.Prelude.{words_32, words_64, words_of_lane};
 
 mod constants;
 mod sha256;

@@ -1,7 +1,6 @@
 //! Chaining states side by side (FIPS 180-4, 6.1 and 6.2), for several messages at a time.
 ghost use Rattle.std.specs.Prelude.{◌≡◌, ℕ, ⊤, ◌<◌, [], get_or, length, map, slice_index};
-ghost use Rattle.ring_core.specs.Bytes.{xor_lists};
-ghost use Rattle.ring_core.specs.Lane.{words_of_lane};
+ghost use Rattle.ring_core.specs.Prelude.{words_of_lane, xor_lists};
 
 use crate::digest::word::Word;
 use crate::digest::word::in_lanes::InLanes;

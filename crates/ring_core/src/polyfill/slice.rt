@@ -12,8 +12,7 @@
 //! The imports of this example stand in `crates/ring_examples/src/basics.rt`.
 
 ghost use Rattle.std.specs.Prelude.{◌≡◌, ◌+◌, ◌*◌, ◌<◌, ◌≤◌, ◌++◌, length, take, drop};
-ghost use Rattle.ring_core.specs.Chunks.{chunk_count};
-ghost use Rattle.ring_core.specs.Views.{chunk_items};
+ghost use Rattle.ring_core.specs.Prelude.{chunk_count, chunk_items};
 
 mod view;
 

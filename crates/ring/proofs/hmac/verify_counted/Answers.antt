@@ -1,5 +1,5 @@
 use Rattle.std.proofs.Common.{length, ap, ◌∙◌}
-use Rattle.ring.specs.Algorithm.{output_len}
+use Rattle.ring.specs.Prelude.{output_len}
 use Rattle.ring.proofs.Comparing.{cost_compared}
 use Rattle.ring.proofs.hmac.verify_counted.Goals as goal
 

@@ -1,5 +1,5 @@
 use Rattle.std.proofs.Common.{take}
-use Rattle.ring.specs.Pieces.{joined}
+use Rattle.ring.specs.Prelude.{joined}
 use Rattle.ring.proofs.Feeding.{HasFedDigest}
 use Rattle.ring.proofs.laws.digest_pieces.Given as goal
 

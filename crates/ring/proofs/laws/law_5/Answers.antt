@@ -1,6 +1,6 @@
 use Rattle.std.proofs.Common.{sym}
 use Rattle.std.proofs.lemmas.List.{take-take}
-use Rattle.ring.specs.Hkdf.{okm}
+use Rattle.ring.specs.Prelude.{okm}
 use Rattle.ring.proofs.laws.law_5.Goals as goal
 
 pub returns : goal.returns

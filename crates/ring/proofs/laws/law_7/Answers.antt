@@ -1,5 +1,5 @@
 use Rattle.std.proofs.Common.{[], sym, arith}
-use Rattle.ring.specs.Algorithm.{output_len}
+use Rattle.ring.specs.Prelude.{output_len}
 use Rattle.ring.proofs.Rows.{output_below}
 use Rattle.ring.proofs.SameKeys.{hmac_of-zeros}
 use Rattle.ring.proofs.laws.law_7.Goals as goal

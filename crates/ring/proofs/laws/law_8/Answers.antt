@@ -1,10 +1,7 @@
 use Rattle.std.proofs.Common.{◌*◌, ◌≤◌, ℕ, List, ◌∙◌, sym, suc, arith}
 use Rattle.std.proofs.lemmas.Grind.{div_ceil_times}
 use Rattle.std.proofs.lemmas.List.{take-take}
-use Rattle.ring.specs.Algorithm.{output_len}
-use Rattle.ring.specs.Cost.{derive_rounds}
-use Rattle.ring.specs.Pbkdf2.{dk, xored}
-use Rattle.ring.specs.Pieces.{joined_blocks}
+use Rattle.ring.specs.Prelude.{derive_rounds, dk, joined_blocks, output_len, xored}
 use Rattle.ring.proofs.Iterates.{length-xored}
 use Rattle.ring.proofs.Pieces.{IsEven, joined_blocks-agree}
 use Rattle.ring.proofs.Rows.{output_len-positive}

@@ -1,6 +1,6 @@
 use Rattle.std.proofs.Common.{[], arith}
 use Rattle.std.proofs.lemmas.List.{take_all}
-use Rattle.ring.specs.Hmac.{key_algorithm}
+use Rattle.ring.specs.Prelude.{key_algorithm}
 use Rattle.ring.proofs.Feeding.{fed_none, fed_piece, fed_tag-more}
 use Rattle.ring.proofs.Lengths.{counted_tag}
 use Rattle.ring.proofs.Outcomes.{on_ok_map}

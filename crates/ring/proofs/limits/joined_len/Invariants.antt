@@ -1,5 +1,5 @@
 use Rattle.std.proofs.Common.{◌≡◌, ◌*◌, ◌≤◌, length, take}
-use Rattle.ring.specs.Pieces.{joined}
+use Rattle.ring.specs.Prelude.{joined}
 use Rattle.ring.proofs.limits.joined_len.Given as goal
 
 abbrev pub invariant-loop-piece : goal.invariant-loop-piece

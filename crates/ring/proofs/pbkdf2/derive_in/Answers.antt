@@ -1,6 +1,6 @@
 use Rattle.std.proofs.Common.{◌≡◌, ◌*◌, ◌∙◌, arith, length, refl, rules, sym, take_all}
 use Rattle.std.specs.Int.NonZero.{non_zero_u32_get}
-use Rattle.ring.specs.Pbkdf2.{pbkdf2_digest}
+use Rattle.ring.specs.Prelude.{pbkdf2_digest}
 use Rattle.ring.proofs.Rounds.{cost_derived, length-dk}
 use Rattle.ring.proofs.Taking.{taken-all}
 use Rattle.ring.proofs.pbkdf2.derive_in.Goals as goal

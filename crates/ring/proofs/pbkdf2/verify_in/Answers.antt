@@ -1,6 +1,5 @@
 use Rattle.std.proofs.Common.{◌≡◌, ◌*◌, ◌∙◌, arith, length, refl, rules}
-use Rattle.ring.specs.Limits.{CanVerify}
-use Rattle.ring.specs.Pbkdf2.{pbkdf2_digest}
+use Rattle.ring.specs.Prelude.{CanVerify, pbkdf2_digest}
 use Rattle.ring.proofs.DerivedKeys.{derived-same}
 use Rattle.ring.proofs.Rounds.{cost_derived}
 use Rattle.ring.proofs.Taking.{taken-all}

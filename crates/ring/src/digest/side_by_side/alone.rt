@@ -2,7 +2,7 @@
 
 ghost use Rattle.std.proofs.Common.{refl};
 ghost use Rattle.std.specs.Prelude.{◌≡◌, map};
-ghost use Rattle.ring_core.specs.Bytes.{xor_lists};
+ghost use Rattle.ring_core.specs.Prelude.{xor_lists};
 
 use crate::digest::dynstate::{DynState, StateWord};
 use crate::digest::side_by_side::lane_digests::{

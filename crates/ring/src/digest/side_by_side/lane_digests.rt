@@ -1,11 +1,8 @@
 //! What a digest algorithm does over states in lanes.
 
 ghost use Rattle.std.specs.Prelude.{◌≡◌, ℕ, ◌<◌, ◌++◌, length, take};
-ghost use Rattle.ring_core.specs.Cost.{raised};
-ghost use Rattle.ring.specs.Algorithm.{block_function, word_count, word_len};
-ghost use Rattle.ring.specs.Lanes.{digest_bytes};
-ghost use Rattle.ring.specs.Prepared.{prepared_padding};
-ghost use Rattle.ring.specs.declared.digest.algorithm.Algorithm.{Algorithm};
+ghost use Rattle.ring.specs.Prelude.{Algorithm, block_function, digest_bytes, prepared_padding};
+ghost use Rattle.ring.specs.Prelude.{raised, word_count, word_len};
 
 use crate::digest::side_by_side::lane_states::LaneStates;
 use ring_core::cost::Meter;

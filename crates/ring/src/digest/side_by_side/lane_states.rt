@@ -1,9 +1,8 @@
 //! Chaining states in lanes, of words of one size.
 
 ghost use Rattle.std.specs.Prelude.{◌≡◌, ℕ, ◌<◌, ◌≤◌, List, get_or, length};
-ghost use Rattle.ring_core.specs.Bytes.{xor_lists};
-ghost use Rattle.ring.specs.State.{state_word_len, words};
-ghost use Rattle.ring.specs.declared.digest.dynstate.DynState.{DynState};
+ghost use Rattle.ring_core.specs.Prelude.{xor_lists};
+ghost use Rattle.ring.specs.Prelude.{DynState, state_word_len, words};
 
 use crate::digest::dynstate::DynState;
 

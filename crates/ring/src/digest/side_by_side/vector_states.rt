@@ -2,9 +2,8 @@
 
 ghost use Rattle.std.proofs.Common.{refl};
 ghost use Rattle.std.specs.Prelude.{◌≡◌, ℕ, ◌<◌, ◌≤◌, [], get_or, length, map};
-ghost use Rattle.ring_core.specs.Lane.{words_of_lane};
-ghost use Rattle.ring.specs.State.{state_word_len, words};
-ghost use Rattle.ring.specs.declared.digest.dynstate.DynState.{DynState};
+ghost use Rattle.ring_core.specs.Prelude.{words_of_lane};
+ghost use Rattle.ring.specs.Prelude.{DynState, state_word_len, words};
 
 use crate::digest::dynstate::{DynState, StateWord};
 use crate::digest::side_by_side::lane_digests::{

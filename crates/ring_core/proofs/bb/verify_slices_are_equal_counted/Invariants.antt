@@ -1,5 +1,5 @@
 use Rattle.std.proofs.Common.{◌≡◌, ◌↔◌, take}
-use Rattle.ring_core.specs.Cost.{raised}
+use Rattle.ring_core.specs.Prelude.{raised}
 use Rattle.ring_core.proofs.bb.verify_slices_are_equal_counted.Given as goal
 
 abbrev pub invariant-pairs : goal.invariant-pairs

@@ -1,6 +1,6 @@
 use Rattle.std.proofs.Common.{add-one}
 use Rattle.ring_core.proofs.Bytes.{map-step}
-use Rattle.ring_core.specs.Word.{◌⊕◌}
+use Rattle.ring_core.specs.Prelude.{◌⊕◌}
 use Rattle.ring_core.proofs.bb.xor_assign.Goals as goal
 
 pub bytes-preserved : goal.bytes-preserved

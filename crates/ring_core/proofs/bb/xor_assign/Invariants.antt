@@ -1,5 +1,5 @@
 use Rattle.std.proofs.Common.{◌≡◌, ◌++◌, map, take, drop}
-use Rattle.ring_core.specs.Word.{◌⊕◌}
+use Rattle.ring_core.specs.Prelude.{◌⊕◌}
 use Rattle.ring_core.proofs.bb.xor_assign.Given as goal
 
 abbrev pub invariant-bytes : goal.invariant-bytes

@@ -3,9 +3,8 @@
 ghost use Rattle.std.specs.Prelude.{◌≡◌, ℕ, ◌+◌, ◌%◌, ◌^◌, ◌<◌, ◌≤◌};
 ghost use Rattle.std.specs.Prelude.{List, [], ◌∷◌, map, slice_index};
 ghost use Rattle.std.proofs.Common.{refl};
-ghost use Rattle.ring_core.specs.Schedule.{IsRing};
+ghost use Rattle.ring_core.specs.Prelude.{IsRing, low_32, word_32};
 ghost use Rattle.ring_core.specs.Sha1.{W, scheduled};
-ghost use Rattle.ring_core.specs.Word.{low_32, word_32};
 
 use crate::digest::word::in_lanes::InLanes;
 use crate::digest::word::lane_word::{LaneWord, Slots, Vector};

@@ -1,8 +1,8 @@
 //! The round constants of SHA-2 (FIPS 180-4, 4.2.2 and 4.2.3).
 
 ghost use Rattle.std.specs.Prelude.{ℕ, ◌<◌, slice_index};
-ghost use Rattle.ring_core.specs.Roots.{IsRootFraction, first_primes};
-ghost use Rattle.ring_core.specs.Sha2.{constants_256, constants_512};
+ghost use Rattle.ring_core.specs.Prelude.{IsRootFraction, constants_256, constants_512};
+ghost use Rattle.ring_core.specs.Prelude.{first_primes};
 
 // K of SHA-256 (4.2.2)
 pub(crate) const K_256: [u32; 64] = [

@@ -1,8 +1,7 @@
 //! What SHA-256 asks of a word of 32 bits, and its numbers (FIPS 180-4, 4.1.2 and 4.2.2).
 ghost use Rattle.std.specs.Prelude.{◌≡◌, ◌*◌, ◌%◌, ◌^◌, ◌<◌, length, slice_index};
 ghost use Rattle.std.proofs.Common.{refl, inl};
-ghost use Rattle.ring_core.specs.Sha2.{constants_256, family_256};
-ghost use Rattle.ring_core.specs.Word.{shr, word_at};
+ghost use Rattle.ring_core.specs.Prelude.{constants_256, family_256, shr, word_at};
 
 use crate::digest::sha2::constants::K_256;
 use crate::digest::word::{Sha2, Word};

@@ -1,8 +1,7 @@
 //! Two words of 32 bits at a time: the schedule of SHA-256
 //! (FIPS 180-4, 6.2.2, step 1).
 ghost use Rattle.std.specs.Prelude.{◌≡◌, ℕ, ◌<◌, ◌≤◌, map};
-ghost use Rattle.ring_core.specs.Sha2.{two_rotations_and_shift};
-ghost use Rattle.ring_core.specs.Word.{low_32};
+ghost use Rattle.ring_core.specs.Prelude.{low_32, two_rotations_and_shift};
 
 use crate::digest::sha2::sha2_schedule::{Before, ExtendSchedule};
 use crate::digest::word::Sha2;

@@ -1,10 +1,8 @@
 //! The rounds of SHA-2 over a block whose words are loaded (FIPS 180-4, 6.2.2 and 6.4.2, steps 1 to
 //! 4), written once for both word sizes.
 ghost use Rattle.std.specs.Prelude.{◌≡◌, ℕ, ◌+◌, ◌*◌, ◌<◌, ◌≤◌, List, map};
-ghost use Rattle.ring_core.specs.Schedule.{IsBefore, IsRing};
-ghost use Rattle.ring_core.specs.Sha2.{W, add_state, block_step, round, rounds_from};
-ghost use Rattle.ring_core.specs.Sha2.{three_rotations};
-ghost use Rattle.ring_core.specs.Word.{add_words, word_at};
+ghost use Rattle.ring_core.specs.Prelude.{IsBefore, IsRing, W, add_state, add_words, block_step};
+ghost use Rattle.ring_core.specs.Prelude.{round, rounds_from, three_rotations, word_at};
 
 use crate::digest::sha2::sha2_schedule::{ExtendSchedule, extend};
 use crate::digest::word::Sha2;

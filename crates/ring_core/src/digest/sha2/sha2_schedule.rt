@@ -1,7 +1,6 @@
 //! The schedule of SHA-2 (FIPS 180-4, 6.2.2 and 6.4.2, step 1), two words at a time.
 ghost use Rattle.std.specs.Prelude.{◌≡◌, ℕ, ◌+◌, ◌%◌, ◌≤◌, List, map};
-ghost use Rattle.ring_core.specs.Schedule.{IsRing};
-ghost use Rattle.ring_core.specs.Sha2.{W, scheduled};
+ghost use Rattle.ring_core.specs.Prelude.{IsRing, W, scheduled};
 
 use crate::digest::word::lane_word::Slots;
 use crate::digest::word_ring::{pair, set_pair};

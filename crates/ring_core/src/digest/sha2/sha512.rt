@@ -2,8 +2,7 @@
 //! 4.1.3 and 4.2.3).
 ghost use Rattle.std.specs.Prelude.{◌≡◌, ◌*◌, ◌%◌, ◌^◌, ◌<◌, length, slice_index};
 ghost use Rattle.std.proofs.Common.{refl, inr};
-ghost use Rattle.ring_core.specs.Sha2.{constants_512, family_512};
-ghost use Rattle.ring_core.specs.Word.{shr, word_at};
+ghost use Rattle.ring_core.specs.Prelude.{constants_512, family_512, shr, word_at};
 
 use crate::digest::sha2::constants::K_512;
 use crate::digest::word::{Sha2, Word};

@@ -1,7 +1,7 @@
 //! Two words of 64 bits at a time: the schedule of SHA-384, SHA-512 and SHA-512/256
 //! (FIPS 180-4, 6.4.2, step 1).
 ghost use Rattle.std.specs.Prelude.{◌≡◌, ℕ, ◌<◌, ◌≤◌, map};
-ghost use Rattle.ring_core.specs.Sha2.{two_rotations_and_shift};
+ghost use Rattle.ring_core.specs.Prelude.{two_rotations_and_shift};
 
 use crate::digest::sha2::sha2_schedule::{Before, ExtendSchedule};
 use crate::digest::word::Sha2;

@@ -1,7 +1,7 @@
 //! Several blocks at a time: the schedule of SHA-2 in lanes, each that of a block of its own
 //! (FIPS 180-4, 6.2.2 and 6.4.2, step 1).
 ghost use Rattle.std.specs.Prelude.{◌≡◌, ℕ, ◌<◌, ◌≤◌};
-ghost use Rattle.ring_core.specs.Sha2.{scheduled, two_rotations_and_shift};
+ghost use Rattle.ring_core.specs.Prelude.{scheduled, two_rotations_and_shift};
 
 use crate::digest::sha2::sha2_schedule::{Before, ExtendSchedule};
 use crate::digest::word::Sha2;

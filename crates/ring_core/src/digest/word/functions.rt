@@ -1,6 +1,6 @@
 //! Ch and Maj of words (FIPS 180-4, 4.1).
 ghost use Rattle.std.specs.Prelude.{◌≡◌, ℕ};
-ghost use Rattle.ring_core.specs.Word.{choose, majority};
+ghost use Rattle.ring_core.specs.Prelude.{choose, majority};
 
 use crate::digest::word::lane_word::LaneWord;
 

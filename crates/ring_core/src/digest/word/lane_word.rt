@@ -1,7 +1,7 @@
 //! Words of one size side by side, one in each lane: a word alone, or a vector of them.
 ghost use Rattle.std.specs.Prelude.{◌≡◌, ◌≢◌, ℕ, ◌^◌, ◌<◌, ◌≤◌, bit_and};
 ghost use Rattle.std.proofs.Common.{rules};
-ghost use Rattle.ring_core.specs.Word.{◌⊕◌, add_words, rotr, shr};
+ghost use Rattle.ring_core.specs.Prelude.{◌⊕◌, add_words, rotr, shr};
 
 use crate::digest::word::traits::{Sha2, Word};
 use std::num::Wrapping;

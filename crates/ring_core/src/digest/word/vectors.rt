@@ -2,7 +2,7 @@
 //! (FIPS 180-4, 3.2).
 ghost use Rattle.std.specs.Prelude.{◌%◌};
 ghost use Rattle.std.proofs.Common.{mod-lt, pow_pos};
-ghost use Rattle.ring_core.specs.Lane.{lane};
+ghost use Rattle.ring_core.specs.Prelude.{lane};
 
 use crate::digest::word::lane_word::{LaneWord, Vector};
 use std::num::Wrapping;

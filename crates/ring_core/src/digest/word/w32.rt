@@ -2,7 +2,7 @@
 ghost use Rattle.std.specs.Prelude.{◌≡◌, ℕ, ◌-◌, ◌+◌, ◌*◌, ◌%◌, ◌^◌, ◌<◌, ◌≤◌, [], ◌∷◌};
 ghost use Rattle.std.specs.Prelude.{map, bit_and, bit_or, bit_xor};
 ghost use Rattle.std.proofs.Common.{refl, mod-lt, pow_pos};
-ghost use Rattle.ring_core.specs.Word.{add_words, low_32, rotr, word_32};
+ghost use Rattle.ring_core.specs.Prelude.{add_words, low_32, rotr, word_32};
 
 use crate::digest::word::lane_word::Slots;
 use crate::digest::word::traits::Word;

@@ -2,8 +2,7 @@
 ghost use Rattle.std.specs.Prelude.{◌≡◌, ℕ, ◌-◌, ◌*◌, ◌%◌, ◌^◌, ◌<◌, ◌≤◌, [], ◌∷◌};
 ghost use Rattle.std.specs.Prelude.{map, bit_and, bit_or, bit_xor};
 ghost use Rattle.std.proofs.Common.{refl, mod-lt, pow_pos};
-ghost use Rattle.ring_core.specs.Sha2.{words_64};
-ghost use Rattle.ring_core.specs.Word.{rotr};
+ghost use Rattle.ring_core.specs.Prelude.{rotr, words_64};
 
 use crate::digest::word::lane_word::Slots;
 use crate::digest::word::traits::Word;

@@ -1,8 +1,7 @@
 use Rattle.std.proofs.Common.{drop, refl}
-use Rattle.ring_core.specs.Roots.{first_primes}
+use Rattle.ring_core.specs.Prelude.{first_primes}
+use Rattle.ring.specs.Prelude.{Sha256, Sha384, Sha512, initial_words_of_id}
 use Rattle.ring_core.proofs.Roots.{fraction_at}
-use Rattle.ring.specs.Algorithm.{initial_words_of_id}
-use Rattle.ring.specs.declared.digest.algorithm.AlgorithmId.TheVariants.{Sha256, Sha384, Sha512}
 use Rattle.ring.proofs.digest.algorithm.constants_are_their_rows.Goals as goal
 
 pub returns-clause-sha256_words : goal.returns-clause-sha256_words

@@ -1,7 +1,7 @@
 use Rattle.std.proofs.Common.{◌≡◌, ◌+◌, ◌*◌, length, arith, rules, ◌∙◌, ap}
 use Rattle.std.proofs.lemmas.List.{length-map}
-use Rattle.ring_core.specs.Sha2.{words_64}
-use Rattle.ring.specs.State.{word_bytes}
+use Rattle.ring_core.specs.Prelude.{words_64}
+use Rattle.ring.specs.Prelude.{word_bytes}
 use Rattle.ring.proofs.Outputs.{two_words, output_more}
 use Rattle.ring.proofs.digest.dynstate.long_output.Goals as goal
 

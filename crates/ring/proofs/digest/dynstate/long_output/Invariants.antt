@@ -1,6 +1,6 @@
 use Rattle.std.proofs.Common.{◌≡◌, ◌-◌, ◌*◌, ◌++◌, take, replicate}
-use Rattle.ring_core.specs.Sha2.{words_64}
-use Rattle.ring.specs.State.{word_bytes}
+use Rattle.ring_core.specs.Prelude.{words_64}
+use Rattle.ring.specs.Prelude.{word_bytes}
 use Rattle.ring.proofs.digest.dynstate.long_output.Given as goal
 
 abbrev pub invariant-pairs : goal.invariant-pairs

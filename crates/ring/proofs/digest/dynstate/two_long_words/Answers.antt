@@ -1,7 +1,7 @@
 use Rattle.std.proofs.Common.{◌+◌, ◌*◌, ◌<◌, ◌≤◌, ◌^◌, ◌++◌, ℕ, List, [], ◌∷◌, arith, ap, ◌∙◌, sym}
 use Rattle.std.proofs.Math.Nat.{mod-eq_of_lt}
 use Rattle.std.specs.Simd.Lanes.{Each1}
-use Rattle.ring.specs.State.{word_bytes}
+use Rattle.ring.specs.Prelude.{word_bytes}
 use Rattle.ring.proofs.Outputs.{lane_bytes}
 use Rattle.ring.proofs.digest.dynstate.two_long_words.Goals as goal
 

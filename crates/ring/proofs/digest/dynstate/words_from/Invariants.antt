@@ -1,5 +1,5 @@
 use Rattle.std.proofs.Common.{◌≡◌, ◌*◌, length, map, take}
-use Rattle.ring.specs.State.{word_bytes}
+use Rattle.ring.specs.Prelude.{word_bytes}
 use Rattle.ring.proofs.digest.dynstate.words_from.Given as goal
 
 -- the first j words are there

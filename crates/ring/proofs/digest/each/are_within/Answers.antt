@@ -1,7 +1,6 @@
 use Rattle.std.proofs.Common.{arith, inl, inr, length, rules, sym, true≢false}
 use Rattle.std.proofs.lemmas.Bool.{cases_order}
-use Rattle.ring.specs.Each.{message_at}
-use Rattle.ring.specs.Limits.{IsMessageWithin}
+use Rattle.ring.specs.Prelude.{IsMessageWithin, message_at}
 use Rattle.ring.proofs.Each.{message-read}
 use Rattle.ring.proofs.digest.each.are_within.Goals as goal
 

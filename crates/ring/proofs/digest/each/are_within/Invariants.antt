@@ -1,6 +1,5 @@
 use Rattle.std.proofs.Common.{ℕ, ◌<◌, length}
-use Rattle.ring.specs.Each.{message_at}
-use Rattle.ring.specs.Limits.{IsMessageWithin}
+use Rattle.ring.specs.Prelude.{IsMessageWithin, message_at}
 use Rattle.ring.proofs.digest.each.are_within.Given as goal
 
 abbrev pub invariant-messages : goal.invariant-messages

@@ -1,11 +1,7 @@
 use Rattle.std.proofs.Common.{◌≡◌, ◌+◌, ◌-◌, ◌/◌, ◌∙◌, ℕ, ap, arith, length, rules, sym}
 use Rattle.std.proofs.Math.Nat.{div_self}
-use Rattle.ring_core.specs.Cost.{raised}
-use Rattle.ring.specs.Algorithm.{block_function, block_len}
-use Rattle.ring.specs.Cost.{padded_blocks}
-use Rattle.ring.specs.Digest.{bytes_of}
-use Rattle.ring.specs.Each.{words_at}
-use Rattle.ring.specs.declared.digest.value.Digest.{Digest}
+use Rattle.ring.specs.Prelude.{Digest, block_function, block_len, bytes_of, padded_blocks, raised}
+use Rattle.ring.specs.Prelude.{words_at}
 use Rattle.ring.proofs.LaneBlocks.{words_at-all, words_at-next}
 use Rattle.ring.proofs.Lanes.{one_chained}
 use Rattle.ring.proofs.Costs.{raised-raised}

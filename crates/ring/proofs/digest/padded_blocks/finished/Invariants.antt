@@ -1,7 +1,5 @@
 use Rattle.std.proofs.Common.{◌≡◌, ◌-◌, IsTrue}
-use Rattle.ring_core.specs.Cost.{raised}
-use Rattle.ring.specs.Each.{words_at}
-use Rattle.ring.specs.State.{chaining_words, is_state_of}
+use Rattle.ring.specs.Prelude.{chaining_words, is_state_of, raised, words_at}
 use Rattle.ring.proofs.digest.padded_blocks.finished.Given as goal
 
 abbrev pub invariant-rest : goal.invariant-rest

@@ -1,6 +1,6 @@
 use Rattle.std.proofs.Common.{◌≡◌, ◌-◌, ◌*◌, ◌∙◌, ℕ, ap, arith}
 use Rattle.std.proofs.lemmas.List.{take_rest}
-use Rattle.ring_core.specs.Cost.{raised}
+use Rattle.ring.specs.Prelude.{raised}
 use Rattle.ring.proofs.LaneBlocks.{blocks_left, words_at-whole}
 use Rattle.ring.proofs.Costs.{raised-none}
 use Rattle.ring.proofs.digest.padded_blocks.run_whole.Goals as goal

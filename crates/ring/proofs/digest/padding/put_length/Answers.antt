@@ -1,6 +1,6 @@
 use Rattle.std.proofs.Common.{◌≡◌, ◌∙◌, ℕ, ◌*◌, ap, List, arith, drop, refl, rules, sym, take}
 use Rattle.std.specs.Int.{bytes_high_first}
-use Rattle.ring.specs.Algorithm.{length_len}
+use Rattle.ring.specs.Prelude.{length_len}
 use Rattle.ring.proofs.Rows.{short_field}
 use Rattle.ring.proofs.Tails.{length_put}
 use Rattle.ring.proofs.digest.padding.put_length.Goals as goal

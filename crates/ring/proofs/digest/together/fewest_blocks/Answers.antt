@@ -1,7 +1,6 @@
 use Rattle.std.proofs.Common.{ℕ, ◌≤◌, arith, length}
 use borrow.Author.Count.{below_more}
-use Rattle.ring.specs.Cost.{padded_blocks}
-use Rattle.ring.specs.Each.{message_at}
+use Rattle.ring.specs.Prelude.{message_at, padded_blocks}
 use Rattle.ring.proofs.Each.{message-read}
 use Rattle.ring.proofs.digest.together.fewest_blocks.Goals as goal
 

@@ -1,6 +1,5 @@
 use Rattle.std.proofs.Common.{ℕ, ◌<◌, ◌≤◌, length}
-use Rattle.ring.specs.Cost.{padded_blocks}
-use Rattle.ring.specs.Each.{message_at}
+use Rattle.ring.specs.Prelude.{message_at, padded_blocks}
 use Rattle.ring.proofs.digest.together.fewest_blocks.Given as goal
 
 abbrev pub invariant-messages : goal.invariant-messages

@@ -1,9 +1,8 @@
 use Rattle.std.proofs.Common.{◌≡◌, ◌<◌, ℕ, List, [], ◌∙◌, ap, arith, get_or, length, slice_set, sym}
 use Rattle.std.proofs.lemmas.List.{get_or-set_other, get_or-set_same}
 use borrow.Author.Count.{below_more}
-use Rattle.ring_core.specs.Chunks.{chunk_at}
-use Rattle.ring.specs.Each.{message_at}
-use Rattle.ring.specs.Padding.{padded}
+use Rattle.ring_core.specs.Prelude.{chunk_at}
+use Rattle.ring.specs.Prelude.{message_at, padded}
 use Rattle.ring.proofs.Each.{message-read}
 use Rattle.ring.proofs.Rows.{block_len-most}
 use Rattle.ring.proofs.digest.together.put_blocks.Goals as goal

@@ -1,7 +1,6 @@
 use Rattle.std.proofs.Common.{◌≡◌, ℕ, ◌<◌, [], get_or}
-use Rattle.ring_core.specs.Chunks.{chunk_at}
-use Rattle.ring.specs.Each.{message_at}
-use Rattle.ring.specs.Padding.{padded}
+use Rattle.ring_core.specs.Prelude.{chunk_at}
+use Rattle.ring.specs.Prelude.{message_at, padded}
 use Rattle.ring.proofs.digest.together.put_blocks.Given as goal
 
 -- the blocks of the first i messages are there

@@ -1,10 +1,8 @@
 use Rattle.std.proofs.Common.{◌≡◌, ◌<◌, ℕ, ◌+◌, ◌*◌, ◌++◌, ◌∙◌, [], ap, arith, drop, get_or, length}
 use Rattle.std.proofs.Common.{take}
 use Rattle.std.proofs.lemmas.List.{get_or-take, get_or_append_left}
-use Rattle.ring_core.specs.Chunks.{chunk_at}
-use Rattle.ring_core.specs.Cost.{raised}
-use Rattle.ring.specs.Each.{message_at, words_at}
-use Rattle.ring.specs.Padding.{padded}
+use Rattle.ring_core.specs.Prelude.{chunk_at}
+use Rattle.ring.specs.Prelude.{message_at, padded, raised, words_at}
 use Rattle.ring.proofs.LaneBlocks.{words-first, words-next}
 use Rattle.ring.proofs.Costs.{raised-none}
 use Rattle.ring.proofs.Each.{raised-then}

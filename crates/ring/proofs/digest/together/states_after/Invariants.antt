@@ -1,6 +1,5 @@
 use Rattle.std.proofs.Common.{◌≡◌, ℕ, ◌*◌, ◌<◌}
-use Rattle.ring_core.specs.Cost.{raised}
-use Rattle.ring.specs.Each.{HasWords, message_at, words_at}
+use Rattle.ring.specs.Prelude.{HasWords, message_at, raised, words_at}
 use Rattle.ring.proofs.digest.together.states_after.Given as goal
 
 abbrev pub invariant-blocks-2 : goal.invariant-blocks-2

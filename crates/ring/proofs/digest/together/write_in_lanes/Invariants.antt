@@ -1,6 +1,5 @@
 use Rattle.std.proofs.Common.{◌≡◌, ◌+◌, ◌-◌, ◌*◌, length, take}
-use Rattle.ring_core.specs.Cost.{raised}
-use Rattle.ring.specs.Each.{AreDigests, each_blocks}
+use Rattle.ring.specs.Prelude.{AreDigests, each_blocks, raised}
 use Rattle.ring.proofs.digest.together.write_in_lanes.Given as goal
 
 -- the digests of the first i messages are there, and of the others the blocks in lanes are run

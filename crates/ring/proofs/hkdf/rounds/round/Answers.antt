@@ -1,10 +1,7 @@
 use Rattle.std.proofs.Common.{◌≡◌, ◌+◌, ◌++◌, ◌∷◌, [], length, ap, ◌∙◌, arith}
 use Rattle.std.proofs.Common.{length-append}
 use Rattle.std.proofs.lemmas.List.{take_all}
-use Rattle.ring_core.specs.Cost.{raised}
-use Rattle.ring.specs.Cost.{padded_blocks}
-use Rattle.ring.specs.Hmac.{key_algorithm}
-use Rattle.ring.specs.Pieces.{joined}
+use Rattle.ring.specs.Prelude.{joined, key_algorithm, padded_blocks, raised}
 use Rattle.ring.proofs.Feeding.{fed_piece, fed_tag-more}
 use Rattle.ring.proofs.Lengths.{counted_tag}
 use Rattle.ring.proofs.hkdf.rounds.round.Goals as goal

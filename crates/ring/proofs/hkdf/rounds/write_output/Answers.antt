@@ -1,10 +1,6 @@
 use Rattle.std.proofs.Common.{◌≡◌, ◌+◌, ◌-◌, ◌*◌, ◌≤◌, ℕ, length, sym, ap, ◌∙◌, arith}
 use Rattle.std.proofs.lemmas.Grind.{common_steps}
-use Rattle.ring_core.specs.Cost.{raised}
-use Rattle.ring.specs.Algorithm.{output_len}
-use Rattle.ring.specs.Hkdf.{t_of}
-use Rattle.ring.specs.Hmac.{key_algorithm}
-use Rattle.ring.specs.Pieces.{joined}
+use Rattle.ring.specs.Prelude.{joined, key_algorithm, output_len, raised, t_of}
 use Rattle.ring.proofs.Expanding.{cost_first, cost_next, first_round, next_round, round-lt}
 use Rattle.ring.proofs.Expanding.{rounds_at, written-last, written-next}
 use Rattle.ring.proofs.Expanding.{first_blocks, next_blocks}

@@ -1,5 +1,5 @@
 use Rattle.std.proofs.Common.{◌-◌, length}
-use Rattle.ring.specs.Pieces.{joined}
+use Rattle.ring.specs.Prelude.{joined}
 use Rattle.ring.proofs.Expanding.{IsWritten}
 use Rattle.ring.proofs.hkdf.rounds.write_output.Given as goal
 

@@ -1,8 +1,7 @@
 use Rattle.std.proofs.Common.{◌≡◌, length, take, arith, ap, ◌∙◌, length-take-le}
 use Rattle.std.proofs.lemmas.List.{length-map, take-map}
-use Rattle.ring_core.specs.Word.{◌⊕◌}
-use Rattle.ring.specs.Algorithm.{block_len}
-use Rattle.ring.specs.KeyBlocks.{masked}
+use Rattle.ring_core.specs.Prelude.{◌⊕◌}
+use Rattle.ring.specs.Prelude.{block_len, masked}
 use Rattle.ring.proofs.Keys.{taken_block}
 use Rattle.ring.proofs.Rows.{block_len-most}
 use Rattle.ring.proofs.hmac.key.masked_state.Goals as goal

@@ -1,8 +1,7 @@
 use Rattle.std.proofs.Common.{◌≡◌, ◌<◌, ◌∙◌, [], arith, get_or, length, refl, rules, sym}
 use Rattle.std.proofs.Common.{take_all, ℕ}
 use Rattle.std.specs.Int.NonZero.{non_zero_u32_get}
-use Rattle.ring.specs.DeriveEach.{AreDerived, bytes_at, dk_at}
-use Rattle.ring.specs.Pbkdf2.{pbkdf2_digest}
+use Rattle.ring.specs.Prelude.{AreDerived, bytes_at, dk_at, pbkdf2_digest}
 use Rattle.ring.proofs.Rounds.{length-dk}
 use Rattle.ring.proofs.Taking.{taken-all}
 use Rattle.ring.proofs.pbkdf2.each_derived.derive_each_in.Goals as goal

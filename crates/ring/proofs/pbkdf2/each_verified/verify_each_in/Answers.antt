@@ -1,8 +1,6 @@
 use Rattle.std.proofs.Common.{◌≡◌, ◌↔◌, ◌<◌, [], arith, false, get_or, length, refl, rules, true, ℕ}
 use Rattle.std.specs.Int.NonZero.{non_zero_u32_get}
-use Rattle.ring.specs.DeriveEach.{AreVerified, bytes_at}
-use Rattle.ring.specs.Limits.{CanVerify}
-use Rattle.ring.specs.Pbkdf2.{IsDerived, pbkdf2_digest}
+use Rattle.ring.specs.Prelude.{AreVerified, CanVerify, IsDerived, bytes_at, pbkdf2_digest}
 use Rattle.ring.proofs.DerivedKeys.{derived-same}
 use Rattle.ring.proofs.Rounds.{length-dk}
 use Rattle.ring.proofs.Taking.{taken-all}

@@ -1,5 +1,5 @@
 use Rattle.std.proofs.Common.{length, ap, sym, ◌∙◌, ◌++◌}
-use Rattle.ring.specs.Hmac.{hmac_of, key_algorithm}
+use Rattle.ring.specs.Prelude.{hmac_of, key_algorithm}
 use Rattle.ring.proofs.Iterates.{iterate-first}
 use Rattle.ring.proofs.Lengths.{counted_first, counted_more, counted_tag}
 use Rattle.ring.proofs.pbkdf2.iterates.first_iterate.Goals as goal

@@ -1,7 +1,5 @@
 use Rattle.std.proofs.Common.{◌≡◌, ℕ, ◌-◌, ◌*◌, List}
-use Rattle.ring_core.specs.Cost.{raised}
-use Rattle.ring.specs.Lanes.{IsKeyInLane, digest_bytes}
-use Rattle.ring.specs.Pbkdf2.{iterate}
+use Rattle.ring.specs.Prelude.{IsKeyInLane, digest_bytes, iterate, raised}
 use Rattle.ring.proofs.Iterates.{IsMade}
 use Rattle.ring.proofs.pbkdf2.iterates.xor_iterates.Given as goal
 

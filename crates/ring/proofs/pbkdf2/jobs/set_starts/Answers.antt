@@ -1,8 +1,7 @@
 use Rattle.std.proofs.Common.{◌≡◌, ◌∙◌, arith, get_or, length, rules}
 use Rattle.std.proofs.Math.ListN.{length-set}
 use Rattle.std.proofs.lemmas.List.{get_or_default}
-use Rattle.ring.specs.Jobs.{first_blocks}
-use Rattle.ring.specs.declared.pbkdf2.jobs.Job.{Job}
+use Rattle.ring.specs.Prelude.{Job, first_blocks}
 use Rattle.ring.proofs.Costs.{raised-none}
 use Rattle.ring.proofs.Jobs.{job-start, starts-next}
 use Rattle.ring.proofs.Sums.{raised-next, sum_below-none}

@@ -1,8 +1,5 @@
 use Rattle.std.proofs.Common.{◌≡◌, get_or, length}
-use Rattle.ring_core.specs.Cost.{raised}
-use Rattle.ring.specs.DeriveEach.{sum_below}
-use Rattle.ring.specs.Jobs.{AreStarts, first_blocks}
-use Rattle.ring.specs.declared.pbkdf2.jobs.Job.{Job}
+use Rattle.ring.specs.Prelude.{AreStarts, Job, first_blocks, raised, sum_below}
 use Rattle.ring.proofs.pbkdf2.jobs.set_starts.Given as goal
 
 -- the first i jobs' states are there

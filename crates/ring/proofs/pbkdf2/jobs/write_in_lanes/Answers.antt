@@ -1,11 +1,7 @@
 use Rattle.std.proofs.Common.{◌<◌, ◌∙◌, ℕ, ap, arith, get_or, length, sym}
 use Rattle.std.proofs.Math.ListN.{length-set}
 use Rattle.std.specs.Int.NonZero.{non_zero_u32_get}
-use Rattle.ring.specs.Jobs.{BeginsWithRound}
-use Rattle.ring.specs.Lanes.{digest_bytes}
-use Rattle.ring.specs.State.{words}
-use Rattle.ring.specs.declared.digest.dynstate.Output.{Output}
-use Rattle.ring.specs.declared.pbkdf2.jobs.Job.{Job}
+use Rattle.ring.specs.Prelude.{BeginsWithRound, Job, Output, digest_bytes, words}
 use Rattle.ring.proofs.Jobs.{cost_jobs, lane-round, put-next, sized-at, start-at, word-size}
 use Rattle.ring.proofs.Lanes.{digest_written}
 use Rattle.ring.proofs.pbkdf2.jobs.write_in_lanes.Goals as goal

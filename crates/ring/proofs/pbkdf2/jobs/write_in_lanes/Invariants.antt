@@ -1,8 +1,6 @@
 use Rattle.std.proofs.Common.{◌≡◌, ℕ, ◌<◌, get_or, length}
 use Rattle.std.specs.Int.NonZero.{non_zero_u32_get}
-use Rattle.ring.specs.Jobs.{BeginsWithRound}
-use Rattle.ring.specs.declared.digest.dynstate.Output.{Output}
-use Rattle.ring.specs.declared.pbkdf2.jobs.Job.{Job}
+use Rattle.ring.specs.Prelude.{BeginsWithRound, Job, Output}
 use Rattle.ring.proofs.pbkdf2.jobs.write_in_lanes.Given as goal
 
 -- the first i rounds are written

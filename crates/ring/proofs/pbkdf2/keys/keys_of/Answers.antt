@@ -1,7 +1,5 @@
 use Rattle.std.proofs.Common.{◌≡◌, ℕ, add-one, arith, length, refl, rules}
-use Rattle.ring.specs.Cost.{key_blocks}
-use Rattle.ring.specs.DeriveEach.{bytes_at}
-use Rattle.ring.specs.Hmac.{hmac_digest}
+use Rattle.ring.specs.Prelude.{bytes_at, hmac_digest, key_blocks}
 use Rattle.ring.proofs.KeysAt.{IsKeyAt, cost_key_at, key_at, key_fits, keys-all}
 use Rattle.ring.proofs.Places.{places-next, risen-next, risen-none}
 use Rattle.ring.proofs.pbkdf2.keys.keys_of.Goals as goal

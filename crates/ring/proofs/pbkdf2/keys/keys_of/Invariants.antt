@@ -1,8 +1,5 @@
 use Rattle.std.proofs.Common.{◌≡◌, length}
-use Rattle.ring.specs.Cost.{key_blocks}
-use Rattle.ring.specs.DeriveEach.{bytes_at}
-use Rattle.ring.specs.Hmac.{hmac_digest}
-use Rattle.ring.specs.declared.hmac.key.Key.{Key}
+use Rattle.ring.specs.Prelude.{Key, bytes_at, hmac_digest, key_blocks}
 use Rattle.ring.proofs.KeysAt.{IsKeyAt}
 use Rattle.ring.proofs.Places.{HasRisen, HoldsBelow}
 use Rattle.ring.proofs.pbkdf2.keys.keys_of.Given as goal

@@ -1,10 +1,7 @@
 use Rattle.std.proofs.Common.{◌≡◌, ℕ, List, refl, rules, ◌∙◌, ap, arith, length, sym, take}
 use Rattle.std.proofs.lemmas.List.{get_or_default, length-take-le}
 use Rattle.std.specs.Int.NonZero.{non_zero_u32_get}
-use Rattle.ring_core.specs.Cost.{raised}
-use Rattle.ring.specs.Lanes.{CanRunTogether}
-use Rattle.ring.specs.declared.digest.algorithm.Algorithm.{Algorithm}
-use Rattle.ring.specs.declared.pbkdf2.jobs.Job.{Job}
+use Rattle.ring.specs.Prelude.{Algorithm, CanRunTogether, Job, raised}
 use Rattle.ring.proofs.Each.{message-read}
 use Rattle.ring.proofs.KeysAt.{IsJobAt, jobs-blocks, jobs-can, jobs-rounds, some_job}
 use Rattle.ring.proofs.Places.{places-next}

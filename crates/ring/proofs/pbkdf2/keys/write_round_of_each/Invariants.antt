@@ -1,5 +1,5 @@
 use Rattle.std.proofs.Common.{◌≡◌, length}
-use Rattle.ring.specs.declared.pbkdf2.jobs.Job.{Job}
+use Rattle.ring.specs.Prelude.{Job}
 use Rattle.ring.proofs.KeysAt.{IsJobAt}
 use Rattle.ring.proofs.Places.{HoldsBelow}
 use Rattle.ring.proofs.pbkdf2.keys.write_round_of_each.Given as goal

@@ -1,9 +1,7 @@
 use Rattle.std.proofs.Common.{◌≡◌, ◌∙◌, ◌+◌, ◌*◌, ◌≤◌, List, ℕ, ap, arith, length, refl}
 use Rattle.std.proofs.Common.{length-take-le}
-use Rattle.ring.specs.Algorithm.{output_len}
+use Rattle.ring.specs.Prelude.{dk, key_algorithm, output_len, xored}
 use Rattle.std.specs.Int.NonZero.{non_zero_u32_get}
-use Rattle.ring.specs.Hmac.{key_algorithm}
-use Rattle.ring.specs.Pbkdf2.{dk, xored}
 use Rattle.ring.proofs.Parts.{round_blocks}
 use Rattle.ring.proofs.Rounds.{IsNext, dk-next, length-dk, run-all, run-next, run-none}
 use Rattle.ring.proofs.Sums.{raised-pairs}

@@ -1,8 +1,6 @@
 use Rattle.std.proofs.Common.{◌≡◌, ◌-◌, ◌*◌, List, ℕ}
 use Rattle.std.specs.Int.NonZero.{non_zero_u32_get}
-use Rattle.ring.specs.Hmac.{KeyStandsFor, key_algorithm}
-use Rattle.ring.specs.Pbkdf2.{dk}
-use Rattle.ring.specs.Receiver.{Takes}
+use Rattle.ring.specs.Prelude.{KeyStandsFor, Takes, dk, key_algorithm}
 use Rattle.ring.proofs.Parts.{round_blocks}
 use Rattle.ring.proofs.Rounds.{HasRun}
 use Rattle.ring.proofs.pbkdf2.parts.derive_under.Given as goal

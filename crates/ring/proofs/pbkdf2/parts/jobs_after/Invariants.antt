@@ -1,5 +1,5 @@
 use Rattle.std.proofs.Common.{◌≡◌, ℕ, ◌+◌, ◌<◌, get_or, length}
-use Rattle.ring.specs.declared.pbkdf2.jobs.Job.{Job}
+use Rattle.ring.specs.Prelude.{Job}
 use Rattle.ring.proofs.pbkdf2.parts.jobs_after.Given as goal
 
 abbrev pub invariant-jobs : goal.invariant-jobs

@@ -1,8 +1,7 @@
 use Rattle.std.proofs.Common.{◌≡◌, ◌+◌, ◌-◌, ◌≤◌, ◌∙◌, [], ap, arith, get_or, length, min, refl}
 use Rattle.std.proofs.Common.{rules, sym, take, zero-mul}
 use Rattle.std.proofs.lemmas.List.{length-take, length-take-le, take-take}
-use Rattle.ring.specs.Pieces.{joined_blocks}
-use Rattle.ring.specs.declared.digest.dynstate.Output.{Output}
+use Rattle.ring.specs.Prelude.{Output, joined_blocks}
 use Rattle.ring.proofs.Pieces.{put-next, put-none}
 use Rattle.ring.proofs.Rounds.{mul-more}
 use Rattle.ring.proofs.Sums.{pairs-more, pairs-none}

@@ -1,8 +1,5 @@
 use Rattle.std.proofs.Common.{◌≡◌, ℕ, ◌+◌, ◌*◌, ◌<◌, List, get_or, length, min, take}
-use Rattle.ring_core.specs.Cost.{raised}
-use Rattle.ring.specs.Pieces.{joined_blocks}
-use Rattle.ring.specs.Receiver.{Takes}
-use Rattle.ring.specs.declared.digest.dynstate.Output.{Output}
+use Rattle.ring.specs.Prelude.{Output, Takes, joined_blocks, raised}
 use Rattle.ring.proofs.Pieces.{IsPut}
 use Rattle.ring.proofs.pbkdf2.parts.take_rounds_in_order.Given as goal
 

@@ -1,6 +1,6 @@
 use Rattle.std.proofs.Common.{◌≤◌, arith, length}
 use Rattle.std.specs.Int.NonZero.{non_zero_u32_get}
-use Rattle.ring.specs.declared.pbkdf2.jobs.Job.{Job}
+use Rattle.ring.specs.Prelude.{Job}
 use Rattle.ring.proofs.Parts.{AreJobsAfter, jobs-cost, jobs-front, round_of_job}
 use Rattle.ring.proofs.pbkdf2.parts.write_rounds_after.Goals as goal
 

@@ -1,7 +1,6 @@
 use Rattle.std.proofs.Common.{arith, inl, inr, length, rules, sym, true≢false}
 use Rattle.std.proofs.lemmas.Bool.{cases_order}
-use Rattle.ring.specs.DeriveEach.{bytes_at}
-use Rattle.ring.specs.Limits.{CanDerive}
+use Rattle.ring.specs.Prelude.{CanDerive, bytes_at}
 use Rattle.ring.proofs.Each.{message-read}
 use Rattle.ring.proofs.pbkdf2.several.are_within.Goals as goal
 

@@ -1,6 +1,5 @@
 use Rattle.std.proofs.Common.{ℕ, ◌<◌, length}
-use Rattle.ring.specs.DeriveEach.{bytes_at}
-use Rattle.ring.specs.Limits.{CanDerive}
+use Rattle.ring.specs.Prelude.{CanDerive, bytes_at}
 use Rattle.ring.proofs.pbkdf2.several.are_within.Given as goal
 
 abbrev pub invariant-places : goal.invariant-places

@@ -1,8 +1,7 @@
 use Rattle.std.proofs.Common.{◌≡◌, ◌≤◌, ◌+◌, ◌-◌, ◌*◌, ◌∙◌, arith, length, refl, rules}
 use Rattle.std.proofs.Common.{zero-mul}
 use Rattle.std.specs.Int.NonZero.{non_zero_u32_get}
-use Rattle.ring.specs.DeriveEach.{derive_blocks_at, dk_at, sum_below}
-use Rattle.ring.specs.Hmac.{hmac_digest}
+use Rattle.ring.specs.Prelude.{derive_blocks_at, dk_at, hmac_digest, sum_below}
 use Rattle.ring.proofs.DerivedKeys.{blocks-part, can_derive-part}
 use Rattle.ring.proofs.Each.{message_at-part}
 use Rattle.ring.proofs.Places.{items_from, length-items_from}

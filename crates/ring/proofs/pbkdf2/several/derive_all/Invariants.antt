@@ -1,9 +1,6 @@
 use Rattle.std.proofs.Common.{◌≡◌, ◌≤◌, ◌-◌, ◌*◌, length}
 use Rattle.std.specs.Int.NonZero.{non_zero_u32_get}
-use Rattle.ring_core.specs.Cost.{raised}
-use Rattle.ring.specs.DeriveEach.{derive_blocks_at, dk_at, sum_below}
-use Rattle.ring.specs.Hmac.{hmac_digest}
-use Rattle.ring.specs.Receiver.{Takes}
+use Rattle.ring.specs.Prelude.{Takes, derive_blocks_at, dk_at, hmac_digest, raised, sum_below}
 use Rattle.ring.proofs.pbkdf2.several.derive_all.Given as goal
 
 abbrev pub invariant-together : goal.invariant-together

@@ -1,6 +1,6 @@
 use Rattle.std.proofs.Common.{◌≡◌, ◌∙◌, ◌*◌, ◌<◌, arith, length, refl, sym}
 use Rattle.std.specs.Int.NonZero.{non_zero_u32_get}
-use Rattle.ring.specs.Hmac.{hmac_digest}
+use Rattle.ring.specs.Prelude.{hmac_digest}
 use Rattle.ring.proofs.DerivedKeys.{blocks-one, cost-each}
 use Rattle.ring.proofs.Each.{message-read}
 use Rattle.ring.proofs.KeysAt.{keys-algorithm, keys-together}

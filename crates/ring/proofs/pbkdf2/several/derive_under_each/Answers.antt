@@ -1,9 +1,7 @@
 use Rattle.std.proofs.Common.{◌≡◌, ◌∙◌, ◌+◌, ◌-◌, ◌*◌, ◌≤◌, ◌++◌, ap, arith, get_or, length, min}
 use Rattle.std.proofs.Common.{refl, rules, sym}
 use Rattle.std.specs.Int.NonZero.{non_zero_u32_get}
-use Rattle.ring.specs.Algorithm.{output_len}
-use Rattle.ring.specs.DeriveEach.{bytes_at}
-use Rattle.ring.specs.Pbkdf2.{dk}
+use Rattle.ring.specs.Prelude.{bytes_at, dk, output_len}
 use Rattle.ring.proofs.DerivedKeys.{each_round_blocks, no_output}
 use Rattle.ring.proofs.Rounds.{dk-next, length-dk, next-one, part_of_round, run-all, run-next}
 use Rattle.ring.proofs.Rounds.{run-none}

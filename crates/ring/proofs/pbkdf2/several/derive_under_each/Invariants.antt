@@ -1,8 +1,6 @@
 use Rattle.std.proofs.Common.{◌≡◌, ◌-◌, ◌*◌, List, length, ℕ}
 use Rattle.std.specs.Int.NonZero.{non_zero_u32_get}
-use Rattle.ring.specs.DeriveEach.{AreKeysOf, bytes_at}
-use Rattle.ring.specs.Pbkdf2.{dk}
-use Rattle.ring.specs.Receiver.{Takes}
+use Rattle.ring.specs.Prelude.{AreKeysOf, Takes, bytes_at, dk}
 use Rattle.ring.proofs.DerivedKeys.{each_round_blocks}
 use Rattle.ring.proofs.Rounds.{HasRun}
 use Rattle.ring.proofs.pbkdf2.several.derive_under_each.Given as goal

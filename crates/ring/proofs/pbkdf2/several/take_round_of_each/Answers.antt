@@ -1,7 +1,7 @@
 use Rattle.std.proofs.Common.{◌≡◌, ◌+◌, ◌*◌, ◌∙◌, ap, arith, get_or, length, refl, rules}
 use Rattle.std.proofs.Common.{take, zero-mul}
 use Rattle.std.proofs.lemmas.List.{get_or_default}
-use Rattle.ring.specs.declared.digest.dynstate.Output.{Output}
+use Rattle.ring.specs.Prelude.{Output}
 use Rattle.ring.proofs.DerivedKeys.{no_output}
 use Rattle.ring.proofs.Rounds.{mul-more}
 use Rattle.ring.proofs.Sums.{pairs-more, pairs-none}

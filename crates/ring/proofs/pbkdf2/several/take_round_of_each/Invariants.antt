@@ -1,7 +1,5 @@
 use Rattle.std.proofs.Common.{◌≡◌, ◌*◌, get_or, take}
-use Rattle.ring_core.specs.Cost.{raised}
-use Rattle.ring.specs.Receiver.{Takes}
-use Rattle.ring.specs.declared.digest.dynstate.Output.{Output}
+use Rattle.ring.specs.Prelude.{Output, Takes, raised}
 use Rattle.ring.proofs.pbkdf2.several.take_round_of_each.Given as goal
 
 abbrev pub invariant-places : goal.invariant-places

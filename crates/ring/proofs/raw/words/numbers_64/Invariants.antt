@@ -1,5 +1,5 @@
 use Rattle.std.proofs.Common.{◌≡◌, length, take}
-use Rattle.ring_core.specs.Sha2.{words_64}
+use Rattle.ring_core.specs.Prelude.{words_64}
 use Rattle.ring.proofs.raw.words.numbers_64.Given as goal
 
 abbrev pub invariant-words : goal.invariant-words

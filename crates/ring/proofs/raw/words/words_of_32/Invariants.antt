@@ -1,5 +1,5 @@
 use Rattle.std.proofs.Common.{◌≡◌, ◌%◌, ◌^◌, length, map, take}
-use Rattle.ring_core.specs.Sha2.{words_32}
+use Rattle.ring_core.specs.Prelude.{words_32}
 use Rattle.ring.proofs.raw.words.words_of_32.Given as goal
 
 abbrev pub invariant-words : goal.invariant-words

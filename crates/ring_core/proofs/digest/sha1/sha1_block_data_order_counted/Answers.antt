@@ -1,7 +1,6 @@
 use Rattle.std.proofs.Common.{map, take, refl, sym, ◌∙◌}
-use Rattle.ring_core.specs.Chunks.{fold_chunks}
+use Rattle.ring_core.specs.Prelude.{fold_chunks, word_32}
 use Rattle.ring_core.specs.Sha1.{block_step}
-use Rattle.ring_core.specs.Word.{word_32}
 use Rattle.ring_core.proofs.ChunkFolds.{fold_chunks-next}
 use Rattle.ring_core.proofs.Costs.{raised-none, raised-raised}
 use Rattle.ring_core.proofs.digest.sha1.sha1_block_data_order_counted.Goals as goal

@@ -1,6 +1,5 @@
 use Rattle.std.proofs.Common.{map, refl, sym}
-use Rattle.ring_core.specs.Chunks.{fold_chunks}
-use Rattle.ring_core.specs.Sha2.{block_len, block_step}
+use Rattle.ring_core.specs.Prelude.{block_len, block_step, fold_chunks}
 use Rattle.ring_core.proofs.ChunkFolds.{fold_chunks-next}
 use Rattle.ring_core.proofs.Costs.{raised-none, raised-raised}
 use Rattle.ring_core.proofs.digest.sha2.run_blocks.Goals as goal

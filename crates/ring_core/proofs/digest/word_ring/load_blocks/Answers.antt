@@ -1,7 +1,6 @@
 use Rattle.std.proofs.Common.{◌≡◌, [], arith, rules}
 use Rattle.std.proofs.Math.ListN.{get_or}
-use Rattle.ring_core.specs.declared.digest.word.in_lanes.InLanes.{InLanes}
-use Rattle.ring_core.specs.Word.{word_at}
+use Rattle.ring_core.specs.Prelude.{InLanes, word_at}
 use Rattle.ring_core.proofs.Schedule.{ring-empty, ring-set}
 use Rattle.ring_core.proofs.digest.word_ring.load_blocks.Goals as goal
 

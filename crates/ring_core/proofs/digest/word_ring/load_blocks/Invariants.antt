@@ -1,7 +1,6 @@
 use Rattle.std.proofs.Common.{ℕ, ◌<◌, [], map}
 use Rattle.std.proofs.Math.ListN.{get_or}
-use Rattle.ring_core.specs.Schedule.{IsRing}
-use Rattle.ring_core.specs.Word.{word_at}
+use Rattle.ring_core.specs.Prelude.{IsRing, word_at}
 use Rattle.ring_core.proofs.digest.word_ring.load_blocks.Given as goal
 
 abbrev pub invariant-words : goal.invariant-words

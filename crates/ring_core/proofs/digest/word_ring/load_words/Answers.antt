@@ -1,5 +1,5 @@
 use Rattle.std.proofs.Common.{arith, rules}
-use Rattle.ring_core.specs.Word.{word_at}
+use Rattle.ring_core.specs.Prelude.{word_at}
 use Rattle.ring_core.proofs.Schedule.{ring-empty, ring-set}
 use Rattle.ring_core.proofs.digest.word_ring.load_words.Goals as goal
 

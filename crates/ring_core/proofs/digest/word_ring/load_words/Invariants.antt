@@ -1,6 +1,5 @@
 use Rattle.std.proofs.Common.{ℕ, List, map}
-use Rattle.ring_core.specs.Schedule.{IsBlockOf, IsRing}
-use Rattle.ring_core.specs.Word.{word_at}
+use Rattle.ring_core.specs.Prelude.{IsBlockOf, IsRing, word_at}
 use Rattle.ring_core.proofs.digest.word_ring.load_words.Given as goal
 
 abbrev pub invariant-words : goal.invariant-words

@@ -1,6 +1,6 @@
 use Rattle.std.proofs.Common.{◌≡◌, ℕ, ◌<◌, []}
 use Rattle.std.proofs.Math.ListN.{get_or}
-use Rattle.ring_core.specs.Word.{word_at}
+use Rattle.ring_core.specs.Prelude.{word_at}
 use Rattle.ring_core.proofs.digest.word_ring.read_words.Given as goal
 
 abbrev pub invariant-lanes : goal.invariant-lanes

@@ -1,7 +1,5 @@
 use Rattle.std.proofs.Common.{IsTrue, ◌≡◌}
-use Rattle.ring.specs.Digest.{blocks_from}
-use Rattle.ring.specs.State.{chaining_words, is_state_of}
-use Rattle.ring.specs.declared.digest.dynstate.DynState.TheVariants.{As32, As64}
+use Rattle.ring.specs.Prelude.{As32, As64, blocks_from, chaining_words, is_state_of}
 use Rattle.ring.proofs.Finishing.{digest_from}
 use Rattle.ring.proofs.Tails.{words_after-padded}
 use Rattle.ring.proofs.digest.block_context.BlockContext.output_after.Goals as goal

@@ -1,7 +1,5 @@
 use Rattle.std.proofs.Common.{◌≡◌, ◌++◌, arith, sym, ◌∙◌, ap, length}
-use Rattle.ring.specs.Digest.{bytes_of}
-use Rattle.ring.specs.Padding.{tail_of}
-use Rattle.ring.specs.declared.digest.value.Digest.{Digest}
+use Rattle.ring.specs.Prelude.{Digest, bytes_of, tail_of}
 use Rattle.ring.proofs.Finishing.{taken_len}
 use Rattle.ring.proofs.Tails.{padded-append}
 use Rattle.ring.proofs.digest.block_context.BlockContext.try_finish.Goals as goal

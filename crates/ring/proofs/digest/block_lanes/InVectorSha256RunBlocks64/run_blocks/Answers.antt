@@ -1,6 +1,6 @@
 use Rattle.std.proofs.Common.{refl}
-use Rattle.ring_core.specs.Sha2.{family_256}
-use Rattle.ring.specs.declared.digest.algorithm.TheConstants.{SHA256}
+use Rattle.ring_core.specs.Prelude.{family_256}
+use Rattle.ring.specs.Prelude.{SHA256}
 use Rattle.ring.proofs.LaneBlocks.{lane-sha2}
 use Rattle.ring.proofs.digest.block_lanes.InVectorSha256RunBlocks64.run_blocks.Goals as goal
 

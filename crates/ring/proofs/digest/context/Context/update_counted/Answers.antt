@@ -1,5 +1,5 @@
 use Rattle.std.proofs.Common.{ℕ, ◌≤◌, length, refl, arith, ◌∙◌, ap}
-use Rattle.ring_core.specs.Cost.{raised}
+use Rattle.ring.specs.Prelude.{raised}
 use Rattle.ring.proofs.Rows.{block_len-most}
 use Rattle.ring.proofs.Updating.{moved_none, moved_both, stands_moved, pending_moved}
 use Rattle.ring.proofs.Updating.{cost_moved, ahead_len, stands_blocks}

@@ -1,6 +1,5 @@
 use Rattle.std.proofs.Common.{◌≡◌, ℕ, ◌<◌, [], get_or, length, map}
-use Rattle.ring.specs.State.{words}
-use Rattle.ring.specs.declared.digest.dynstate.DynState.{DynState}
+use Rattle.ring.specs.Prelude.{DynState, words}
 use Rattle.ring.proofs.digest.side_by_side.vector_states.words_of.Given as goal
 
 -- the words of the first i states are there

@@ -1,9 +1,7 @@
 use Rattle.std.proofs.Common.{◌≡◌, ◌+◌, ◌≤◌, ℕ, length, ap, ◌∙◌, arith}
-use Rattle.ring_core.specs.Cost.{Counts, raised}
+use Rattle.ring.specs.Prelude.{Algorithm, Counts, block_len, key_blocks, output_len, padded_blocks}
+use Rattle.ring.specs.Prelude.{raised}
 use Rattle.ring_core.proofs.Costs.{raised-raised}
-use Rattle.ring.specs.Algorithm.{block_len, output_len}
-use Rattle.ring.specs.Cost.{key_blocks, padded_blocks}
-use Rattle.ring.specs.declared.digest.algorithm.Algorithm.{Algorithm}
 use Rattle.ring.proofs.Keys.{key_digest_blocks-short}
 use Rattle.ring.proofs.Rows.{output_below}
 use Rattle.ring.proofs.hkdf.salt.Salt.extract_counted.Goals as goal

@@ -1,7 +1,5 @@
 use Rattle.std.proofs.Common.{◌+◌, ℕ, ap, ◌∙◌}
-use Rattle.ring_core.specs.Cost.{raised}
-use Rattle.ring.specs.Algorithm.{output_len}
-use Rattle.ring.specs.Context.{context_algorithm}
+use Rattle.ring.specs.Prelude.{context_algorithm, output_len, raised}
 use Rattle.ring.proofs.Keys.{cost_sign, inner_last, inner_len, tag_is}
 use Rattle.ring.proofs.Lengths.{counted_first}
 use Rattle.ring.proofs.hmac.context.Context.sign_counted.Goals as goal

@@ -1,8 +1,6 @@
 use Rattle.std.proofs.Common.{length, ◌∙◌}
-use Rattle.ring_core.specs.Cost.{raised}
+use Rattle.ring.specs.Prelude.{hmac_digest, key_digest_blocks, raised}
 use Rattle.ring_core.proofs.Costs.{raised-raised}
-use Rattle.ring.specs.Cost.{key_digest_blocks}
-use Rattle.ring.specs.Hmac.{hmac_digest}
 use Rattle.ring.proofs.hmac.key.Key.new_counted.Goals as goal
 
 pub returns-clause-cost : goal.returns-clause-cost

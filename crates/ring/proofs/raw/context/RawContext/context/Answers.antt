@@ -1,8 +1,6 @@
 use Rattle.std.proofs.Common.{sym, subst, ◌∙◌}
 use Rattle.std.proofs.lemmas.Option.{same_Some}
-use Rattle.ring.specs.Context.{StandsFor}
-use Rattle.ring.specs.Raw.{IsRawState, RawStandsFor}
-use Rattle.ring.specs.declared.digest.algorithm.Algorithm.{Algorithm}
+use Rattle.ring.specs.Prelude.{Algorithm, IsRawState, RawStandsFor, StandsFor}
 use Rattle.ring.proofs.raw.context.RawContext.context.Goals as goal
 
 pub returns-clause-stands : goal.returns-clause-stands

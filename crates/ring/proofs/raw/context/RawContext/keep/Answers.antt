@@ -1,8 +1,7 @@
 use Rattle.std.proofs.Common.{◌≡◌, ◌≤◌, ◌<◌, ◌+◌, ◌++◌, ℕ, List, sym, ap, ◌∙◌, arith, length}
 use Rattle.std.proofs.Common.{append_assoc}
 use Rattle.std.proofs.lemmas.Option.{same_Some}
-use Rattle.ring.specs.Algorithm.{block_len}
-use Rattle.ring.specs.Raw.{RawStandsFor}
+use Rattle.ring.specs.Prelude.{RawStandsFor, block_len}
 use Rattle.ring.proofs.Numbers.{kept}
 use Rattle.ring.proofs.Rows.{block_len-most}
 use Rattle.ring.proofs.raw.context.RawContext.keep.Goals as goal

@@ -1,6 +1,5 @@
 use Rattle.std.proofs.Common.{◌∙◌}
-use Rattle.ring.specs.Context.{StandsFor}
-use Rattle.ring.specs.Raw.{RawStandsFor}
+use Rattle.ring.specs.Prelude.{RawStandsFor, StandsFor}
 use Rattle.ring.proofs.raw.context.RawContext.new.Goals as goal
 
 pub returns : goal.returns

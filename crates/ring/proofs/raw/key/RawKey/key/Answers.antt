@@ -1,10 +1,7 @@
 use Rattle.std.proofs.Common.{◌≡◌, sym, ap, subst, ◌∙◌, arith, length}
 use Rattle.std.proofs.lemmas.Option.{same_Some}
-use Rattle.ring.specs.Algorithm.{block_len}
-use Rattle.ring.specs.Context.{cut_off}
-use Rattle.ring.specs.KeyBlocks.{inner_block, outer_block}
-use Rattle.ring.specs.Raw.{IsRawState, RawKeyStandsFor}
-use Rattle.ring.specs.declared.digest.algorithm.Algorithm.{Algorithm}
+use Rattle.ring.specs.Prelude.{Algorithm, IsRawState, RawKeyStandsFor, block_len, cut_off}
+use Rattle.ring.specs.Prelude.{inner_block, outer_block}
 use Rattle.ring.proofs.Keys.{length-inner_block, length-outer_block}
 use Rattle.ring.proofs.Numbers.{key_stands}
 use Rattle.ring.proofs.Rows.{block_len-most}

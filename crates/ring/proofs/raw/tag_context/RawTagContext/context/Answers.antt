@@ -1,9 +1,6 @@
 use Rattle.std.proofs.Common.{◌≡◌, ◌≤◌, rules, sym, ap, subst, ◌∙◌, arith, length}
-use Rattle.ring.specs.Algorithm.{block_len}
-use Rattle.ring.specs.Context.{context_algorithm, cut_off, message_len}
-use Rattle.ring.specs.KeyBlocks.{outer_block}
-use Rattle.ring.specs.Raw.{IsRawState, RawTagStandsFor}
-use Rattle.ring.specs.declared.digest.algorithm.Algorithm.{Algorithm}
+use Rattle.ring.specs.Prelude.{Algorithm, IsRawState, RawTagStandsFor, block_len, context_algorithm}
+use Rattle.ring.specs.Prelude.{cut_off, message_len, outer_block}
 use Rattle.ring.proofs.Keys.{length-outer_block, tag_stands}
 use Rattle.ring.proofs.Numbers.{key_block_counted, named_len}
 use Rattle.ring.proofs.Rows.{block_len-most}

@@ -1,6 +1,6 @@
 use Rattle.std.proofs.Common.{◌≡◌, ◌≤◌, length, map, take, sym, arith, rules}
 use Rattle.std.proofs.Math.ListN.{length-map}
-use Rattle.ring_core.specs.Schedule.{IsBefore}
+use Rattle.ring_core.specs.Prelude.{IsBefore}
 use Rattle.ring_core.specs.Sha1.{W, add_state, rounds_from}
 use Rattle.ring_core.proofs.Five.{first_five, add_state-take}
 use Rattle.ring_core.proofs.Mapped.{value_read}

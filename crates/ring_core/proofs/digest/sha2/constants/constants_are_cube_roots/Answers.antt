@@ -1,6 +1,5 @@
 use Rattle.std.proofs.Common.{refl}
-use Rattle.ring_core.specs.Roots.{first_primes}
-use Rattle.ring_core.specs.Sha2.{constants_256, constants_512}
+use Rattle.ring_core.specs.Prelude.{constants_256, constants_512, first_primes}
 use Rattle.ring_core.proofs.Roots.{fraction_at}
 use Rattle.ring_core.proofs.digest.sha2.constants.constants_are_cube_roots.Goals as goal
 

@@ -1,6 +1,5 @@
 use Rattle.std.proofs.Common.{ℕ, ◌^◌, ◌/◌, [], ◌∷◌, map, arith, refl, sym, ap, ◌∙◌, mod-lt, pow_pos}
-use Rattle.ring_core.specs.Sha2.{two_rotations_and_shift}
-use Rattle.ring_core.specs.Word.{low_32}
+use Rattle.ring_core.specs.Prelude.{low_32, two_rotations_and_shift}
 use Rattle.ring_core.proofs.Lanes.{two_lanes}
 use Rattle.ring_core.proofs.Rotation.{doubled-three}
 use Rattle.ring_core.proofs.digest.sha2.sha256_schedule.small_sigma.Goals as goal

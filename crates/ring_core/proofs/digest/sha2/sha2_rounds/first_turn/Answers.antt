@@ -1,5 +1,5 @@
 use Rattle.std.proofs.Common.{map, refl, arith}
-use Rattle.ring_core.specs.Sha2.{rounds_from}
+use Rattle.ring_core.specs.Prelude.{rounds_from}
 use Rattle.ring_core.proofs.digest.sha2.sha2_rounds.first_turn.Goals as goal
 
 pub returns : goal.returns

@@ -1,5 +1,5 @@
 use Rattle.std.proofs.Common.{◌≡◌, ◌^◌, length, rules}
-use Rattle.ring_core.specs.Sha2.{round}
+use Rattle.ring_core.specs.Prelude.{round}
 use Rattle.ring_core.proofs.Lanes.{sum_of_pair}
 use Rattle.ring_core.proofs.Mapped.{value_read}
 use Rattle.ring_core.proofs.digest.sha2.sha2_rounds.round.Goals as goal

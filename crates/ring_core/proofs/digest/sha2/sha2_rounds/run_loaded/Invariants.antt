@@ -1,6 +1,5 @@
 use Rattle.std.proofs.Common.{ℕ, ◌*◌, List, map}
-use Rattle.ring_core.specs.Schedule.{IsBefore, IsRing}
-use Rattle.ring_core.specs.Sha2.{W, rounds_from}
+use Rattle.ring_core.specs.Prelude.{IsBefore, IsRing, W, rounds_from}
 use Rattle.ring_core.proofs.digest.sha2.sha2_rounds.run_loaded.Given as goal
 
 abbrev pub invariant-later : goal.invariant-later

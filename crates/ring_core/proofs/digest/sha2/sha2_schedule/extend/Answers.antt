@@ -1,5 +1,5 @@
 use Rattle.std.proofs.Common.{◌-◌, arith}
-use Rattle.ring_core.specs.Sha2.{W}
+use Rattle.ring_core.specs.Prelude.{W}
 use Rattle.ring_core.proofs.Sha2Steps.{W-next_two}
 use Rattle.ring_core.proofs.digest.sha2.sha2_schedule.extend.Goals as goal
 

@@ -1,5 +1,5 @@
 use Rattle.std.proofs.Common.{◌≡◌, length, rules}
-use Rattle.ring_core.specs.declared.digest.word.in_lanes.InLanes.{InLanes}
+use Rattle.ring_core.specs.Prelude.{InLanes}
 use Rattle.ring_core.proofs.Vectors.{eight_read}
 use Rattle.ring_core.proofs.Mapped.{value_read}
 use Rattle.ring_core.proofs.digest.states.States.state.Goals as goal

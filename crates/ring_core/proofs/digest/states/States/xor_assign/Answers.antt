@@ -1,6 +1,6 @@
 use Rattle.std.proofs.Common.{◌≡◌, length, map, rules}
 use Rattle.std.proofs.Math.ListN.{length-map}
-use Rattle.ring_core.specs.declared.digest.word.in_lanes.InLanes.{InLanes}
+use Rattle.ring_core.specs.Prelude.{InLanes}
 use Rattle.ring_core.proofs.Vectors.{xor_eight}
 use Rattle.ring_core.proofs.Mapped.{value_read}
 use Rattle.ring_core.proofs.digest.states.States.xor_assign.Goals as goal

@@ -1,5 +1,5 @@
 use Rattle.std.proofs.Common.{◌≡◌, ℕ, ◌+◌, ◌*◌, ◌/◌, ◌%◌, ◌^◌, List, [], ◌∷◌, slice_index, ap, ◌∙◌}
-use Rattle.ring_core.specs.Word.{low_32}
+use Rattle.ring_core.specs.Prelude.{low_32}
 use Rattle.ring_core.proofs.Lanes.{two_lanes}
 use Rattle.ring_core.proofs.Halves.{both-bytes, low-first, low-second}
 use Rattle.std.specs.Simd.Lanes.{number_l, digits_l}

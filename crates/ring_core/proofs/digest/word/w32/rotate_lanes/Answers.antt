@@ -1,5 +1,5 @@
 use Rattle.std.proofs.Common.{[], ◌∷◌, map, arith, sym, ap, ◌∙◌, mod-lt, pow_pos}
-use Rattle.ring_core.specs.Word.{low_32, rotr}
+use Rattle.ring_core.specs.Prelude.{low_32, rotr}
 use Rattle.ring_core.proofs.Lanes.{two_lanes}
 use Rattle.ring_core.proofs.Rotation.{doubled-rotr}
 use Rattle.ring_core.proofs.digest.word.w32.rotate_lanes.Goals as goal

@@ -1,4 +1,4 @@
-use Rattle.ring_core.specs.Sha2.{family_512}
+use Rattle.ring_core.specs.Prelude.{family_512}
 use Rattle.ring.proofs.Paddings.{sha512_256_padding, words_run}
 use Rattle.ring.proofs.digest.side_by_side.alone as states
 use states.AloneWrappingU64Sha512_256SideBySide.run_digests.Goals as goal

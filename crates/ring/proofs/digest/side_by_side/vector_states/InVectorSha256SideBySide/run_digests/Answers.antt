@@ -1,4 +1,4 @@
-use Rattle.ring_core.specs.Sha2.{family_256}
+use Rattle.ring_core.specs.Prelude.{family_256}
 use Rattle.ring.proofs.Paddings.{lane_run, sha256_padding}
 use Rattle.ring.proofs.digest.side_by_side.vector_states as states
 use states.InVectorSha256SideBySide.run_digests.Goals as goal

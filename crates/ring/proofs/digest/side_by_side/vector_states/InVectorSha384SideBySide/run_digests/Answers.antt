@@ -1,4 +1,4 @@
-use Rattle.ring_core.specs.Sha2.{family_512}
+use Rattle.ring_core.specs.Prelude.{family_512}
 use Rattle.ring.proofs.Paddings.{lane_run, sha384_padding}
 use Rattle.ring.proofs.digest.side_by_side.vector_states as states
 use states.InVectorSha384SideBySide.run_digests.Goals as goal

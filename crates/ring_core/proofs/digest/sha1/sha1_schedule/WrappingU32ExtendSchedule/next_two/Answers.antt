@@ -1,5 +1,5 @@
 use Rattle.std.proofs.Common.{◌∙◌, ap, map}
-use Rattle.ring_core.specs.Word.{low_32, rotr}
+use Rattle.ring_core.specs.Prelude.{low_32, rotr}
 use Rattle.ring_core.proofs.Halves.{xors_low}
 use Rattle.ring_core.proofs.Lanes.{same_two}
 use Rattle.ring_core.proofs.digest.sha1.sha1_schedule as schedule

@@ -1,5 +1,5 @@
 use Rattle.std.proofs.Common.{◌∙◌, ap, map}
-use Rattle.ring_core.specs.Word.{low_32}
+use Rattle.ring_core.specs.Prelude.{low_32}
 use Rattle.ring_core.proofs.Halves.{sums_low}
 use Rattle.ring_core.proofs.Lanes.{same_two}
 use Rattle.ring_core.proofs.digest.sha2.sha256_schedule as schedule

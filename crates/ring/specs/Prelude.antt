@@ -1,0 +1,79 @@
+-- The words that most contracts and proofs cite, and the types that they speak of, passed on from
+-- one place.
+pub use Rattle.ring.specs.Table.{sha1_row, sha256_row, sha384_row, sha512_row, sha512_256_row}
+pub use Rattle.ring.specs.Table.{sha1_words, sha256_words, sha384_words, sha512_words}
+pub use Rattle.ring.specs.Table.{sha512_256_words, Row}
+pub use Rattle.ring.specs.Algorithm.{row_of, row, word_len, block_len, length_len, output_len}
+pub use Rattle.ring.specs.Algorithm.{chaining_len, word_count, max_input_len, name_of_id, name_of}
+pub use Rattle.ring.specs.Algorithm.{initial_words_of_id, initial_words, block_function_of_id}
+pub use Rattle.ring.specs.Algorithm.{block_function}
+pub use Rattle.ring.specs.Initial.{AreSquareRoots}
+pub use Rattle.ring.specs.State.{words, state_word_len, word_bytes, is_state_of, chaining_words}
+pub use Rattle.ring.specs.State.{spare_words}
+pub use Rattle.ring.specs.Limits.{tag_input_len, first_round_len, next_round_len, max_okm_len}
+pub use Rattle.ring.specs.Limits.{first_iterate_len, derive_rounds, max_dk_len, IsMessageWithin}
+pub use Rattle.ring.specs.Limits.{IsTagWithin, IsOutputWithin, fits, can_expand, can_derive}
+pub use Rattle.ring.specs.Limits.{can_verify, IsInfoWithin, CanDerive, CanVerify}
+pub use Rattle.ring.specs.Padding.{IsWhole, padded_with, padded_blocks, zeros_of, tail_of, IsPadded}
+unfoldable pub use Rattle.ring.specs.Padding.{padded}
+pub use Rattle.ring.specs.Cost.{whole_blocks, last_blocks, key_digest_blocks, key_blocks}
+pub use Rattle.ring.specs.Cost.{fill_rounds, fill_blocks, iterate_blocks, derive_blocks}
+pub use Rattle.ring.specs.Digest.{blocks_from, digest_algorithm, bytes_of, IsDigest}
+unfoldable pub use Rattle.ring.specs.Digest.{words_after, digest_of}
+pub use Rattle.ring.specs.Context.{cut_off, block_algorithm, counted_bytes, context_algorithm}
+pub use Rattle.ring.specs.Context.{pending_bytes, pending_len, message_len, HasTaken, IsJoined}
+pub use Rattle.ring.specs.Context.{HasMoved}
+unfoldable pub use Rattle.ring.specs.Context.{StandsFor}
+pub use Rattle.ring.specs.Pieces.{joined}
+unfoldable pub use Rattle.ring.specs.Pieces.{joined_blocks}
+pub use Rattle.ring.specs.Receiver.{Takes}
+pub use Rattle.ring.specs.Each.{message_at, each_blocks, AreDigests, CanDigestEach, HasWords}
+unfoldable pub use Rattle.ring.specs.Each.{words_at}
+pub use Rattle.ring.specs.Source.{random_value}
+pub use Rattle.ring.specs.KeyBlocks.{masked, inner_block, outer_block}
+unfoldable pub use Rattle.ring.specs.KeyBlocks.{short_key, key_block}
+pub use Rattle.ring.specs.Prepared.{prepared_padding}
+pub use Rattle.ring.specs.Lanes.{digest_bytes, CanRunTogether, IsKeyInLane}
+pub use Rattle.ring.specs.Hmac.{hmac_digest, key_algorithm, signing_algorithm, signing_len}
+pub use Rattle.ring.specs.Hmac.{signing_pending, tag_algorithm, tag_bytes, KeyStandsFor}
+pub use Rattle.ring.specs.Hmac.{TagStandsFor, IsTag}
+unfoldable pub use Rattle.ring.specs.Hmac.{hmac_of}
+pub use Rattle.ring.specs.Hkdf.{hkdf_digest, salt_algorithm, SaltStandsFor, prk_algorithm}
+pub use Rattle.ring.specs.Hkdf.{PrkStandsFor}
+unfoldable pub use Rattle.ring.specs.Hkdf.{t_of, okm}
+pub use Rattle.ring.specs.Okm.{okm_algorithm, okm_info_len, okm_number, carried, OkmStandsFor}
+pub use Rattle.ring.specs.Okm.{CanFill, IsMadeOf}
+pub use Rattle.ring.specs.Pbkdf2.{pbkdf2_digest, IsDerived}
+unfoldable pub use Rattle.ring.specs.Pbkdf2.{iterate, xored, dk}
+pub use Rattle.ring.specs.DeriveEach.{bytes_at, dk_at, derive_blocks_at, derive_each_blocks}
+pub use Rattle.ring.specs.DeriveEach.{AreDerived, CanDeriveEach, IsKeyOf, AreKeysOf, AreVerified}
+pub use Rattle.ring.specs.DeriveEach.{CanVerifyEach}
+unfoldable pub use Rattle.ring.specs.DeriveEach.{sum_below}
+pub use Rattle.ring.specs.Jobs.{job_algorithm, IsJobWithin, first_blocks, job_blocks, CanRun}
+pub use Rattle.ring.specs.Jobs.{IsStart, AreStarts, BeginsWithRound}
+pub use Rattle.ring.specs.Raw.{digest_named, joined_halves, completed_len, raw_message_len}
+pub use Rattle.ring.specs.Raw.{IsNoContext, IsNoKey, IsNoTagContext, raw_words, IsRawState}
+pub use Rattle.ring.specs.Raw.{IsRawContext, IsRawKey, IsRawTagContext}
+unfoldable pub use Rattle.ring.specs.Raw.{named_block_len, RawStandsFor, RawKeyStandsFor}
+unfoldable pub use Rattle.ring.specs.Raw.{RawTagStandsFor}
+pub use Rattle.ring.specs.Cut.{IsWithout, IsFirstCut}
+pub use Rattle.ring_core.specs.Cost.{Counts, compared_pairs}
+unfoldable pub use Rattle.ring_core.specs.Cost.{raised}
+pub use Rattle.ring.specs.declared.digest.algorithm.Algorithm.{Algorithm}
+pub use Rattle.ring.specs.declared.digest.algorithm.AlgorithmId.{AlgorithmId}
+pub use Rattle.ring.specs.declared.digest.algorithm.AlgorithmId.TheVariants.{Sha1, Sha256, Sha384}
+pub use Rattle.ring.specs.declared.digest.algorithm.AlgorithmId.TheVariants.{Sha512, Sha512_256}
+pub use Rattle.ring.specs.declared.digest.algorithm.TheConstants.{SHA1_FOR_LEGACY_USE_ONLY, SHA256}
+pub use Rattle.ring.specs.declared.digest.algorithm.TheConstants.{SHA384, SHA512, SHA512_256}
+pub use Rattle.ring.specs.declared.digest.dynstate.DynState.{DynState}
+pub use Rattle.ring.specs.declared.digest.dynstate.DynState.TheVariants.{As32, As64}
+pub use Rattle.ring.specs.declared.digest.dynstate.Output.{Output}
+pub use Rattle.ring.specs.declared.digest.block_context.BlockContext.{BlockContext}
+pub use Rattle.ring.specs.declared.digest.context.Context.{Context}
+pub use Rattle.ring.specs.declared.digest.value.Digest.{Digest}
+pub use Rattle.ring.specs.declared.hmac.key.Key.{Key}
+pub use Rattle.ring.specs.declared.hmac.tag.Tag.{Tag}
+pub use Rattle.ring.specs.declared.pbkdf2.jobs.Job.{Job}
+pub use Rattle.ring.specs.declared.raw.context.RawContext.{RawContext}
+pub use Rattle.ring.specs.declared.raw.key.RawKey.{RawKey}
+pub use Rattle.ring.specs.declared.raw.tag_context.RawTagContext.{RawTagContext}

@@ -1,9 +1,9 @@
 -- Keys that make one block and so sign alike.
 use Rattle.std.proofs.Common.{◌≡◌, ℕ, ◌+◌, ◌-◌, ◌<◌, ◌≤◌, List, ◌++◌, length, replicate, refl, ◌∙◌}
-use Rattle.std.proofs.Common.{ap, arith, length-append, append_assoc}
+use Rattle.std.proofs.Common.{[], ap, arith, length-append, append_assoc, sym}
 use Rattle.std.proofs.lemmas.List.{length-replicate, replicate-append-replicate}
 use Rattle.ring.specs.Prelude.{Algorithm, block_len, digest_of, hmac_of, key_block, masked}
-use Rattle.ring.specs.Prelude.{short_key}
+use Rattle.ring.specs.Prelude.{output_len, short_key}
 use Rattle.ring.proofs.Keys.{short_key-long, short_key-short}
 use Rattle.ring.proofs.Rows.{output_below}
 use Rattle.ring.proofs.Lengths.{length-digest_of}
@@ -51,3 +51,10 @@ hmac_of-zeros a k m z fits =
 pub hmac_of-digest : (a : Algorithm) (k m : List ℕ) → block_len a < length k
     → hmac_of a k m ≡ hmac_of a (digest_of a k) m
 hmac_of-digest a k m long = hmac_of-same a k (digest_of a k) m (key_block-digest a k long)
+
+-- no key signs as zeros of a digest's length do
+pub hmac_of-nil : (a : Algorithm) (m : List ℕ)
+    → hmac_of a [] m ≡ hmac_of a (replicate (output_len a) 0) m
+hmac_of-nil a m = sym (hmac_of-zeros a [] m (output_len a) (omega (arith, output_below a)))
+
+pub ruleset key_laws = (hmac_of-zeros, hmac_of-digest, hmac_of-nil)

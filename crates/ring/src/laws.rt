@@ -86,18 +86,21 @@ pub fn sign_pieces(key: &Key, pieces: &[&[u8]], meter: &mut Meter) -> Result<Tag
 }
 
 /// Zeros appended to a key, up to the length of a block, change no tag (RFC 2104, section 2).
+#[tactic(auto, using(crate::proofs::SameKeys::key_laws))]
 pub fn law_3()
     ensures { (a : Algorithm) (k m : List ℕ) (z : ℕ) → length k + z ≤ block_len a
         → hmac_of a (k ++ replicate z 0) m ≡ hmac_of a k m }
 {}
 
 /// A key that is longer than a block signs as its digest does (RFC 2104, section 2).
+#[tactic(auto, using(crate::proofs::SameKeys::key_laws))]
 pub fn law_4()
     ensures { (a : Algorithm) (k m : List ℕ) → block_len a < length k
         → hmac_of a k m ≡ hmac_of a (digest_of a k) m }
 {}
 
 /// A shorter output of HKDF is the front of a longer one (RFC 5869, section 2.3).
+#[tactic(auto, unfolding(crate::specs::Hkdf::okm))]
 pub fn law_5()
     ensures { (a : Algorithm) (k info : List ℕ) (m n : ℕ) → m ≤ n
         → okm a k info m ≡ take m (okm a k info n) }
@@ -110,6 +113,7 @@ pub fn law_6()
 {}
 
 /// An empty salt extracts as one of as many zeros as a digest has bytes (RFC 5869, section 2.2).
+#[tactic(auto, using(crate::proofs::SameKeys::key_laws))]
 pub fn law_7()
     ensures { (a : Algorithm) (secret : List ℕ)
         → hmac_of a [] secret ≡ hmac_of a (replicate (output_len a) 0) secret }

@@ -96,6 +96,7 @@ fn state_of(algorithm: &Algorithm, numbers: &[u64; 8]) -> DynState
 }
 
 // The numbers of the state after whole blocks.
+#[tactic(auto, using(crate::proofs::Numbers::raw_taken))]
 pub(crate) fn numbers_of_block(block: &BlockContext) -> [u64; 8]
     ensures { (p : List ℕ) → HasTaken block.now p
         → IsRawState (block_algorithm block.now) result p }

@@ -2,7 +2,8 @@
 
 ghost use Rattle.std.proofs.Common.{ap};
 ghost use Rattle.std.specs.Prelude.{◌≡◌, ℕ, ◌<◌, List, [], get_or, length};
-ghost use Rattle.ring.specs.Prelude.{Algorithm, HasWords, block_function, raised, word_len};
+ghost use Rattle.ring.specs.Prelude.{Algorithm, HasWords, SHA1_FOR_LEGACY_USE_ONLY, SHA256};
+ghost use Rattle.ring.specs.Prelude.{block_function, raised, word_len};
 
 use crate::digest::side_by_side::lane_digests::{Sha1, Sha256};
 use crate::digest::side_by_side::lane_states::LaneStates;
@@ -38,8 +39,6 @@ pub(crate) trait RunBlocks<const N: usize>: LaneStates {
 }
 
 impl<V: Vector<One = Wrapping<u32>>> RunBlocks<64> for InVector<V, Sha1> {
-    ghost use Rattle.ring.specs.declared.digest.algorithm.TheConstants.{SHA1_FOR_LEGACY_USE_ONLY};
-
     ghost is_of = { λ a. a ≡ SHA1_FOR_LEGACY_USE_ONLY };
 
     #[inline(always)]
@@ -56,8 +55,6 @@ impl<V: Vector<One = Wrapping<u32>>> RunBlocks<64> for InVector<V, Sha1> {
 }
 
 impl<V: Vector<One = Wrapping<u32>>> RunBlocks<64> for InVector<V, Sha256> {
-    ghost use Rattle.ring.specs.declared.digest.algorithm.TheConstants.{SHA256};
-
     ghost is_of = { λ a. a ≡ SHA256 };
 
     #[inline(always)]

@@ -3,6 +3,7 @@
 ghost use Rattle.std.proofs.Common.{refl};
 ghost use Rattle.std.specs.Prelude.{◌≡◌, map};
 ghost use Rattle.ring_core.specs.Prelude.{xor_lists};
+ghost use Rattle.ring.specs.Prelude.{SHA1_FOR_LEGACY_USE_ONLY, SHA256, SHA384, SHA512, SHA512_256};
 
 use crate::digest::dynstate::{DynState, StateWord};
 use crate::digest::side_by_side::lane_digests::{
@@ -76,8 +77,6 @@ impl<W: StateWord, A> LaneStates for Alone<W, A> {
 }
 
 impl SideBySide for Alone<Wrapping<u32>, Sha1> {
-    ghost use Rattle.ring.specs.declared.digest.algorithm.TheConstants.{SHA1_FOR_LEGACY_USE_ONLY};
-
     ghost algorithm = { SHA1_FOR_LEGACY_USE_ONLY };
 
     #[inline(always)]
@@ -89,8 +88,6 @@ impl SideBySide for Alone<Wrapping<u32>, Sha1> {
 }
 
 impl SideBySide for Alone<Wrapping<u32>, Sha256> {
-    ghost use Rattle.ring.specs.declared.digest.algorithm.TheConstants.{SHA256};
-
     ghost algorithm = { SHA256 };
 
     #[inline(always)]
@@ -102,8 +99,6 @@ impl SideBySide for Alone<Wrapping<u32>, Sha256> {
 }
 
 impl SideBySide for Alone<Wrapping<u64>, Sha384> {
-    ghost use Rattle.ring.specs.declared.digest.algorithm.TheConstants.{SHA384};
-
     ghost algorithm = { SHA384 };
 
     #[inline(always)]
@@ -115,8 +110,6 @@ impl SideBySide for Alone<Wrapping<u64>, Sha384> {
 }
 
 impl SideBySide for Alone<Wrapping<u64>, Sha512> {
-    ghost use Rattle.ring.specs.declared.digest.algorithm.TheConstants.{SHA512};
-
     ghost algorithm = { SHA512 };
 
     #[inline(always)]
@@ -128,8 +121,6 @@ impl SideBySide for Alone<Wrapping<u64>, Sha512> {
 }
 
 impl SideBySide for Alone<Wrapping<u64>, Sha512_256> {
-    ghost use Rattle.ring.specs.declared.digest.algorithm.TheConstants.{SHA512_256};
-
     ghost algorithm = { SHA512_256 };
 
     #[inline(always)]

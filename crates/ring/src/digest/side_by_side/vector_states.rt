@@ -3,7 +3,8 @@
 ghost use Rattle.std.proofs.Common.{refl};
 ghost use Rattle.std.specs.Prelude.{◌≡◌, ℕ, ◌<◌, ◌≤◌, [], get_or, length, map};
 ghost use Rattle.ring_core.specs.Prelude.{words_of_lane};
-ghost use Rattle.ring.specs.Prelude.{DynState, state_word_len, words};
+ghost use Rattle.ring.specs.Prelude.{DynState, SHA1_FOR_LEGACY_USE_ONLY, SHA256, SHA384, SHA512};
+ghost use Rattle.ring.specs.Prelude.{SHA512_256, state_word_len, words};
 
 use crate::digest::dynstate::{DynState, StateWord};
 use crate::digest::side_by_side::lane_digests::{
@@ -79,8 +80,6 @@ impl<V: Vector<One = W>, W: StateWord, A> LaneStates for InVector<V, A> {
 }
 
 impl<V: Vector<One = Wrapping<u32>>> SideBySide for InVector<V, Sha1> {
-    ghost use Rattle.ring.specs.declared.digest.algorithm.TheConstants.{SHA1_FOR_LEGACY_USE_ONLY};
-
     ghost algorithm = { SHA1_FOR_LEGACY_USE_ONLY };
 
     #[inline(always)]
@@ -97,8 +96,6 @@ impl<V: Vector<One = Wrapping<u32>>> SideBySide for InVector<V, Sha1> {
 }
 
 impl<V: Vector<One = Wrapping<u32>>> SideBySide for InVector<V, Sha256> {
-    ghost use Rattle.ring.specs.declared.digest.algorithm.TheConstants.{SHA256};
-
     ghost algorithm = { SHA256 };
 
     #[inline(always)]
@@ -115,8 +112,6 @@ impl<V: Vector<One = Wrapping<u32>>> SideBySide for InVector<V, Sha256> {
 }
 
 impl<V: Vector<One = Wrapping<u64>>> SideBySide for InVector<V, Sha384> {
-    ghost use Rattle.ring.specs.declared.digest.algorithm.TheConstants.{SHA384};
-
     ghost algorithm = { SHA384 };
 
     #[inline(always)]
@@ -133,8 +128,6 @@ impl<V: Vector<One = Wrapping<u64>>> SideBySide for InVector<V, Sha384> {
 }
 
 impl<V: Vector<One = Wrapping<u64>>> SideBySide for InVector<V, Sha512> {
-    ghost use Rattle.ring.specs.declared.digest.algorithm.TheConstants.{SHA512};
-
     ghost algorithm = { SHA512 };
 
     #[inline(always)]
@@ -151,8 +144,6 @@ impl<V: Vector<One = Wrapping<u64>>> SideBySide for InVector<V, Sha512> {
 }
 
 impl<V: Vector<One = Wrapping<u64>>> SideBySide for InVector<V, Sha512_256> {
-    ghost use Rattle.ring.specs.declared.digest.algorithm.TheConstants.{SHA512_256};
-
     ghost algorithm = { SHA512_256 };
 
     #[inline(always)]

@@ -1,7 +1,7 @@
 //! The tag that a call returns.
 
 ghost use Rattle.std.specs.Prelude.{◌≡◌, length};
-ghost use Rattle.ring.specs.Prelude.{output_len};
+ghost use Rattle.ring.specs.Prelude.{output_len, tag_algorithm, tag_bytes};
 
 use crate::digest::Digest;
 
@@ -10,8 +10,6 @@ use crate::digest::Digest;
 pub struct Tag(Digest);
 
 impl Tag {
-    ghost use Rattle.ring.specs.Hmac.{tag_algorithm, tag_bytes};
-
     // The tag that is the digest `value`.
     pub(crate) fn new(value: Digest) -> Self
         ensures { result.0 ≡ value }

@@ -2,8 +2,9 @@
 
 ghost use Rattle.std.specs.Prelude.{◌≡◌, ◌↔◌, ℕ, ◌+◌, ◌<◌, List, ◌++◌};
 ghost use Rattle.std.specs.Prelude.{length, IfSome, IsNone, IsSomeAnd, IsTrue, IsFalse, Some};
-ghost use Rattle.ring.specs.Prelude.{Algorithm, StandsFor, context_algorithm, message_len};
-ghost use Rattle.ring.specs.Prelude.{pending_len};
+ghost use Rattle.ring.specs.Prelude.{Algorithm, IsNoContext, RawStandsFor, StandsFor};
+ghost use Rattle.ring.specs.Prelude.{context_algorithm, digest_named, message_len, named_block_len};
+ghost use Rattle.ring.specs.Prelude.{pending_len, raw_message_len};
 
 use crate::digest::algorithm::MAX_BLOCK_LEN;
 use crate::digest::context::Context;
@@ -29,9 +30,6 @@ pub struct RawContext {
 }
 
 impl RawContext {
-    ghost use Rattle.ring.specs.Raw.{IsNoContext, RawStandsFor, digest_named};
-    ghost use Rattle.ring.specs.Raw.{named_block_len, raw_message_len};
-
     /// The numbers of `context`.
     #[tactic(auto, unfolding(crate::specs::Raw::RawStandsFor))]
     pub fn new(context: &Context) -> Self

@@ -1,7 +1,8 @@
 //! The numbers of a key.
 
 ghost use Rattle.std.specs.Prelude.{◌≡◌, ◌↔◌, ℕ, List, IfSome, IsNone, IsSomeAnd, Some};
-ghost use Rattle.ring.specs.Prelude.{Algorithm, KeyStandsFor, key_algorithm};
+ghost use Rattle.ring.specs.Prelude.{Algorithm, IsNoKey, KeyStandsFor, RawKeyStandsFor};
+ghost use Rattle.ring.specs.Prelude.{digest_named, key_algorithm};
 
 use crate::hmac::key::Key;
 use crate::raw::number::{digest_of_number, number_of_digest};
@@ -22,8 +23,6 @@ pub struct RawKey {
 }
 
 impl RawKey {
-    ghost use Rattle.ring.specs.Raw.{IsNoKey, RawKeyStandsFor, digest_named};
-
     /// The numbers of `key`.
     #[tactic(auto, unfolding(crate::specs::Raw::RawKeyStandsFor))]
     pub fn new(key: &Key) -> Self

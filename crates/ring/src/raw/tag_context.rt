@@ -2,8 +2,9 @@
 
 ghost use Rattle.std.specs.Prelude.{◌≡◌, ◌↔◌, ℕ, ◌+◌, ◌<◌, ◌≤◌, List, ◌++◌};
 ghost use Rattle.std.specs.Prelude.{length, IfSome, IsNone, IsSomeAnd, IsTrue, IsFalse, Some};
-ghost use Rattle.ring.specs.Prelude.{Algorithm, TagStandsFor, signing_algorithm, signing_len};
-ghost use Rattle.ring.specs.Prelude.{signing_pending};
+ghost use Rattle.ring.specs.Prelude.{Algorithm, IsNoTagContext, RawTagStandsFor, TagStandsFor};
+ghost use Rattle.ring.specs.Prelude.{completed_len, digest_named, named_block_len, raw_message_len};
+ghost use Rattle.ring.specs.Prelude.{signing_algorithm, signing_len, signing_pending};
 
 use crate::hmac::context::Context;
 use crate::raw::context::RawContext;
@@ -21,9 +22,6 @@ pub struct RawTagContext {
 }
 
 impl RawTagContext {
-    ghost use Rattle.ring.specs.Raw.{IsNoTagContext, RawTagStandsFor, completed_len, digest_named};
-    ghost use Rattle.ring.specs.Raw.{named_block_len, raw_message_len};
-
     /// The numbers of `context`.
     #[tactic(auto, unfolding(crate::specs::Raw::RawTagStandsFor))]
     pub fn new(context: &Context) -> Self

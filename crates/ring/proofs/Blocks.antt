@@ -1,4 +1,5 @@
 -- How the words after blocks follow a list of whole blocks as it grows.
+use Rattle.std.proofs.lemmas.Grind.{common_steps}
 use Rattle.std.proofs.Common.{◌≤◌, ◌≡◌, ℕ, zero, ◌+◌, ◌-◌, ◌*◌, ◌/◌, ◌%◌, ◌<◌, List, [], ◌++◌}
 use Rattle.std.proofs.Common.{length, take, drop, sym, ap, ◌∙◌, arith, add_comm, length-append}
 use Rattle.std.proofs.Common.{length-drop, replicate}
@@ -16,15 +17,12 @@ use Rattle.ring.proofs.Rows.{block_len-positive}
 -- a multiple divided
 pub mul_whole : (n b : ℕ) → zero < b → (n * b % b ≡ 0) × (n * b / b ≡ n)
 mul_whole n b pos =
-    let e : n * b + 0 ≡ n * b = omega arith in
-    let r : (n * b + 0) % b ≡ 0 = mod-mul-add n b 0 pos in
-    (rw e at r, mul-div_cancel n pos)
+    grind (arith, common_steps, mod-mul-add, mul-div_cancel)
 
 -- nothing divided
 zero_whole : (b : ℕ) → zero < b → (0 % b ≡ 0) × (0 / b ≡ 0)
 zero_whole b pos =
-    let e : 0 * b ≡ 0 = omega arith in
-    rw e at (mul_whole 0 b pos)
+    grind (arith, common_steps, mul_whole)
 
 -- a number with no remainder
 pub whole_mul : (x b : ℕ) → x % b ≡ 0 → x ≡ x / b * b
@@ -49,8 +47,7 @@ IsWhole-append a p x hp hx =
 pub words_after-nil : (a : Algorithm) → words_after a [] ≡ initial_words a
 unfolding words_after
 words_after-nil a =
-    let z : 0 / block_len a ≡ 0 = (zero_whole (block_len a) (block_len-positive a)).1 in
-    rw z (fold_chunks-none (block_function a) (block_len a) (initial_words a) [])
+    grind (arith, common_steps, zero_whole, block_len-positive, fold_chunks-none)
 
 -- after a longer list
 pub words_after-append : (a : Algorithm) (p x : List ℕ) → IsWhole a p → IsWhole a x
@@ -69,12 +66,7 @@ pub HasTaken-nil : (b : BlockContext)
     → spare_words b.algorithm b.state ≡ replicate (8 - word_count b.algorithm) 0
     → b.completed_bytes ≡ 0 → HasTaken b []
 HasTaken-nil b ew es ec =
-    record {
-      whole = (zero_whole (block_len b.algorithm) (block_len-positive b.algorithm)).0;
-      words = ew ∙ sym (words_after-nil b.algorithm);
-      spare = es;
-      count = ec;
-    }
+    grind (arith, common_steps, zero_whole, block_len-positive, words_after-nil)
 
 -- the whole blocks at the front of a list
 abbrev whole_front : Algorithm → List ℕ → List ℕ
@@ -88,8 +80,7 @@ blocks-whole_front : (a : Algorithm) (x : List ℕ)
     → IsWhole a (whole_front a x)
     × (whole_blocks a (length (whole_front a x)) ≡ whole_blocks a (length x))
 blocks-whole_front a x =
-    let whole = mul_whole (whole_blocks a (length x)) (block_len a) (block_len-positive a) in
-    rw (length-whole_front a x) whole
+    grind (arith, common_steps, mul_whole, block_len-positive, length-whole_front)
 
 -- the words after them, which are all that is counted
 blocks_from-front : (a : Algorithm) (h x : List ℕ)
@@ -113,13 +104,7 @@ module _ {b n : BlockContext} where
       → spare_words b.algorithm n.state ≡ spare_words b.algorithm b.state
       → n.completed_bytes ≡ cut_off (b.completed_bytes + length x) → HasTaken n (p ++ x)
   HasTaken-append {p = p} x h hx ea ew es ec =
-      let a : Algorithm = b.algorithm in
-      record {
-        whole = rw ea (IsWhole-append a p x h.whole hx);
-        words = rw ea (ew ∙ rw h.words (sym (words_after-append a p x h.whole hx)));
-        spare = rw ea (es ∙ h.spare);
-        count = omega (arith, length-append p x, h.count);
-      }
+      grind (arith, common_steps, IsWhole-append, words_after-append)
 
   -- the whole blocks at the front of y moved
   pub moved_front : {y left : List ℕ} {before after : Counts} → n.algorithm ≡ b.algorithm
@@ -160,5 +145,4 @@ whole_div-add x y b pos hx =
 -- a number below the divisor
 pub short_div : (y b : ℕ) → y < b → y / b ≡ 0
 short_div y b h =
-    let e : 0 * b + y ≡ y = omega arith in
-    rw e at (div-mul-add 0 b y h)
+    grind (arith, common_steps, div-mul-add)

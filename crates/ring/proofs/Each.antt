@@ -1,12 +1,10 @@
 -- Lists of messages and of their digests.
-use Rattle.std.proofs.Common.{◌≡◌, ℕ, ◌+◌, ◌-◌, ◌<◌, ◌≤◌, List, [], ◌∷◌, ◌++◌, length, take, drop}
-use Rattle.std.proofs.Common.{get_or, inl, inr, length-append, length-drop, map, refl}
-use Rattle.std.proofs.Common.{sym, ap, ◌∙◌, arith}
+use Rattle.std.proofs.lemmas.Grind.{common_steps}
+use Rattle.std.proofs.Common.{◌≡◌, ℕ, ◌+◌, ◌<◌, ◌≤◌, List, [], ◌∷◌, ◌++◌, length, take, drop}
+use Rattle.std.proofs.Common.{get_or, map, ap, ◌∙◌, arith}
 use Rattle.std.proofs.Math.ListN.{get_or-map}
 use Rattle.std.proofs.Math.Seq.{take-add}
-use Rattle.std.proofs.lemmas.Bool.{cases_order}
-use Rattle.std.proofs.lemmas.List.{drop_more, get_or-append_right, get_or-drop, get_or-take}
-use Rattle.std.proofs.lemmas.List.{get_or_append_left, length-map, length-take-le, map-append}
+use Rattle.std.proofs.lemmas.List.{drop_more, length-take-le, map-append}
 use Rattle.std.proofs.lemmas.List.Sums.{sum_by-append}
 use Rattle.std.specs.Borrow.{Bor}
 use Rattle.ring.specs.Prelude.{Algorithm, AreDigests, CanDigestEach, Counts, Digest, IsDigest}
@@ -32,38 +30,14 @@ message_at-append ms ns k = ap (λ (xs : List (List ℕ)). get_or xs k []) (map-
 pub digests-append : {ds es : List Digest} {a : Algorithm} (ms ns : List (Bor (List ℕ)))
     → AreDigests ds a ms → AreDigests es a ns → AreDigests (ds ++ es) a (ms ++ ns)
 digests-append {ds} {es} {a} ms ns first second =
-    let left = map (λ (m : Bor (List ℕ)). m.now) ms in
-    let right = map (λ (n : Bor (List ℕ)). n.now) ns in
-    let long : length left ≡ length ms = length-map ms _ in
-    let low : (k : ℕ) (d : Digest) → k < length ms
-    → IsDigest (get_or (ds ++ es) k d) a (message_at (ms ++ ns) k) =
-    λ k d h. rw (
-      message_at-append ms ns k,
-      get_or_append_left left right [] k (omega (arith, long, h)),
-      get_or_append_left ds es d k (omega (arith, first.count, h)),
-    ) (first.each k d h) in
-    let high : (k : ℕ) (d : Digest) → length ms ≤ k → k < length (ms ++ ns)
-    → IsDigest (get_or (ds ++ es) k d) a (message_at (ms ++ ns) k) =
-    λ k d h below. rw (
-      message_at-append ms ns k,
-      get_or-append_right left right (length ms) k [] long h,
-      get_or-append_right ds es (length ms) k d first.count h,
-    ) (second.each (k - length ms) d (omega (arith, length-append ms ns, h, below))) in
-    record {
-      count = length-append ds es ∙ omega (arith, first.count, second.count, length-append ms ns);
-      each = λ k d below. elim (cases_order k (length ms)) [
-        | inl e ↦ high k d (omega (arith, e)) below
-        | inr o ↦ elim o [ inl h ↦ low k d h | inr h ↦ high k d (omega (arith, h)) below ]
-      ];
-    }
+    grind (arith, common_steps, message_at-append)
 
 module _ (a : Algorithm) (messages : List (Bor (List ℕ))) (n k : ℕ) where
   -- the blocks of the first n messages and of the next k
   pub each_blocks-more : each_blocks a (take n messages) + each_blocks a (take k (drop n messages))
       ≡ each_blocks a (take (n + k) messages)
   each_blocks-more =
-      sym (sum_by-append (λ m. padded_blocks a (length m.now)) (take n messages) _)
-      ∙ ap (each_blocks a) (sym (take-add n k messages))
+      grind (arith, common_steps, sum_by-append, take-add)
 
   -- and their digests
   pub digests-more : {xs ys zs : List Digest} → AreDigests xs a (take n messages)
@@ -81,10 +55,7 @@ pub record HaveDigests (a : Algorithm) (messages : List (Bor (List ℕ))) (n : �
 pub digests-none : (a : Algorithm) (messages : List (Bor (List ℕ))) (out : List Digest)
     (m : Counts) → HaveDigests a messages 0 out m m
 digests-none a messages out m =
-    record {
-      digests = record { count = refl; each = λ k d below. absurd (omega (arith, below)) };
-      cost = raised-none m;
-    }
+    grind (arith, common_steps, raised-none)
 
 -- and the next k
 pub digests-next : {a : Algorithm} {messages : List (Bor (List ℕ))} {before now after : Counts}
@@ -103,25 +74,13 @@ digests-next {a} {messages} {before} n k have put are cost =
 pub message_at-part : (messages : List (Bor (List ℕ))) (i k j : ℕ) → j < k
     → message_at (take k (drop i messages)) j ≡ message_at messages (i + j)
 message_at-part messages i k j below =
-    let none : Bor (List ℕ) = record { ref_ptr = (0, 0); now = [] } in
-    message-read (take k (drop i messages)) j
-    ∙ ap (λ (m : Bor (List ℕ)). m.now) (get_or-take k (drop i messages) j none below
-    ∙ get_or-drop i messages j none)
-    ∙ sym (message-read messages (i + j))
+    grind (arith, common_steps, message-read)
 
 -- some of the messages can be digested where all can
 pub can-part : {n : ℕ} (a : Algorithm) (messages : List (Bor (List ℕ))) (i k : ℕ)
     → CanDigestEach a messages n → i + k ≤ n → CanDigestEach a (take k (drop i messages)) k
 can-part a messages i k can fits =
-    let part = take k (drop i messages) in
-    let long : length part ≡ k =
-    length-take-le k (drop i messages) (omega (arith, length-drop i messages, can.count)) in
-    record {
-      count = long;
-      each = λ j below.
-          let h : j < k = omega (arith, long, below) in
-          rw (message_at-part messages i k j h) (can.each (i + j) (omega (arith, h, can.count)));
-    }
+    grind (arith, common_steps, length-take-le, message_at-part)
 
 -- a single message of a list
 module _ (a : Algorithm) (messages : List (Bor (List ℕ))) (i : ℕ) where
@@ -133,11 +92,7 @@ module _ (a : Algorithm) (messages : List (Bor (List ℕ))) (i : ℕ) where
       → IsDigest d a (get_or messages i record { ref_ptr = (0, 0); now = [] }).now
       → AreDigests (d ∷ []) a (take 1 (drop i messages))
   digests-one {d} below is =
-      let m = get_or messages i record { ref_ptr = (0, 0); now = [] } in
-      rw (one-message below) (record {
-        count = refl;
-        each = λ k z h. let e : k ≡ 0 = omega (arith, h) in rw e is;
-      })
+      grind (arith, common_steps, one-message)
 
   pub blocks-one : i < length messages → each_blocks a (take 1 (drop i messages))
       ≡ padded_blocks a

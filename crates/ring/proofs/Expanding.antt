@@ -1,13 +1,14 @@
 -- An output, round by round, and what its rounds cost.
-use Rattle.std.proofs.Common.{◌≡◌, ℕ, suc, ◌+◌, ◌-◌, ◌*◌, ◌<◌, ◌≤◌, List, [], ◌∷◌, ◌++◌}
-use Rattle.std.proofs.Common.{length, take, drop, refl, sym, ap, ◌∙◌, arith, add-one, append-nil}
-use Rattle.std.proofs.Common.{length-take-le, inl, inr, zero-mul}
+use Rattle.std.proofs.lemmas.Grind.{common_steps}
+use Rattle.std.proofs.Common.{◌≡◌, ℕ, suc, ◌+◌, ◌-◌, ◌*◌, ◌<◌, ◌≤◌, List, [], ◌∷◌, ◌++◌, length}
+use Rattle.std.proofs.Common.{take, drop, refl, sym, ap, ◌∙◌, arith, add-one, append-nil}
+use Rattle.std.proofs.Common.{length-take-le, zero-mul}
 use Rattle.std.proofs.Math.Nat.{lt_of_mul-lt-mul_right}
 use Rattle.std.proofs.lemmas.List.{at_drop_all}
 use Rattle.std.proofs.lemmas.Bool.{cases_lt}
-use Rattle.ring.specs.Prelude.{Algorithm, Counts, Key, KeyStandsFor, Tag, derive_rounds}
-use Rattle.ring.specs.Prelude.{fill_rounds, hmac_of, joined_blocks, key_algorithm, okm, output_len}
-use Rattle.ring.specs.Prelude.{padded_blocks, raised, t_of, tag_algorithm, tag_bytes}
+use Rattle.ring.specs.Prelude.{Algorithm, Counts, Key, KeyStandsFor, Tag, fill_rounds, hmac_of}
+use Rattle.ring.specs.Prelude.{joined_blocks, key_algorithm, okm, output_len, padded_blocks, raised}
+use Rattle.ring.specs.Prelude.{t_of, tag_algorithm, tag_bytes}
 use Rattle.ring_core.proofs.Costs.{raised-raised}
 use Rattle.ring.proofs.Keys.{length-hmac_of}
 use Rattle.ring.proofs.Pieces.{IsEven, joined_blocks-part, written-more}
@@ -44,25 +45,14 @@ next_round a k info r ep e =
 -- fewer rounds than 255 before another byte
 pub round-lt : (L r w n : ℕ) → w ≡ r * L → w < n → n ≤ 255 * L → r < 255
 round-lt L r w n e p q =
-    let lt : r * L < 255 * L = omega (arith, e) in
-    lt_of_mul-lt-mul_right L lt
+    grind (arith, common_steps, lt_of_mul-lt-mul_right)
 
 -- the rounds but the last of n bytes: r, where r tags are written, and one more, or a front of it,
 -- is left
 pub rounds_at : (a : Algorithm) (r w n : ℕ) → w ≡ r * output_len a → w ≤ n → n - w ≤ output_len a
     → (0 < r → w < n) → fill_rounds a n - 1 ≡ r
-rounds_at a r w n e below left needed = elim (cases_lt w n) [
-  | inl more ↦
-      let next : (r + 1) * output_len a ≡ w + output_len a =
-      omega (arith, mul-more r (output_len a), e) in
-      let all : derive_rounds a n ≡ r + 1 =
-      rounds-reach a (r + 1) n (omega (arith, next, left)) (omega (arith, next, more)) in
-      omega (arith, all)
-  | inr all ↦
-      let none : r ≡ 0 = grind (arith, needed, all) in
-      let nothing : n ≡ 0 = omega (arith, all, below, rw none at e, zero-mul (output_len a)) in
-      rw (none, nothing) (omega arith)
-]
+rounds_at a r w n e below left needed =
+    grind (arith, common_steps, cases_lt, mul-more, rounds-reach, zero-mul)
 
 -- the blocks of the first round, whose info has i bytes, and those of each further one
 abbrev pub first_blocks : Algorithm → ℕ → ℕ
@@ -94,12 +84,7 @@ module _ {key : Key} {info : List ℕ} {r w : ℕ} {tag : Tag} {out : List ℕ} 
       → out' ≡ take w out ++ bytes ++ rest
       → take (w + L) out' ≡ joined_blocks (t_of (key_algorithm key) k info) (r + 1)
   written-next {k = k} {bytes = bytes} {L = L} rest t stands el eb eo =
-      let tags : ℕ → List ℕ = t_of (key_algorithm key) k info in
-      let e : bytes ≡ tags (suc r) = eb ∙ t.next k stands in
-      let len : length bytes ≡ L =
-      ap length e ∙ length-t_of (key_algorithm key) k info r ∙ sym el in
-      rw (length-take-le w out t.in_out, len)
-      at (written-more tags r rest (t.done k stands) e eo)
+      grind (arith, common_steps, length-t_of, length-take-le, written-more)
 
   -- the tag, or a front of it, is all that was left to be written
   pub written-last : {k bytes out' : List ℕ} (n : ℕ) → IsWritten key info r w tag out m0 m1
@@ -138,6 +123,4 @@ pub cost_first : (a : Algorithm) (y i : ℕ) (m0 : Counts) {m1 : Counts}
     → m1 ≡ raised m0 (padded_blocks a (0 + i + 1) + 1) 0
     → m1 ≡ raised m0 (first_blocks a i + 0 * y) 0
 cost_first a y i m0 e =
-    let none : 0 + i ≡ i = omega arith in
-    let alone : first_blocks a i ≡ first_blocks a i + 0 * y = omega arith in
-    (rw none at e) ∙ ap (λ (z : ℕ). raised m0 z 0) alone
+    grind (arith, common_steps)

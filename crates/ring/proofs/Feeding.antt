@@ -1,7 +1,8 @@
 -- A context that takes a message piece by piece: what it stands for, what it counts and what that
 -- costs.
+use Rattle.std.proofs.lemmas.Grind.{common_steps}
 use Rattle.std.proofs.Common.{◌≡◌, ℕ, ◌+◌, ◌%◌, ◌<◌, ◌≤◌, List, [], ◌++◌, length, take, ◌∙◌, arith}
-use Rattle.std.proofs.Common.{append_assoc, length-append, slice_index_or}
+use Rattle.std.proofs.Common.{length-append, slice_index_or}
 use Rattle.std.specs.Borrow.{Bor}
 use Rattle.ring.specs.Prelude.{Algorithm, Counts, Key, KeyStandsFor, StandsFor, TagStandsFor}
 use Rattle.ring.specs.Prelude.{block_len, context_algorithm, cut_off, joined, key_algorithm}
@@ -37,12 +38,7 @@ module _ {P : List ℕ → Type 0} {a b : Algorithm} {base count pending : ℕ} 
   pub fed_none : {m : Counts} → b ≡ a → count ≡ base → base ≤ 128 → pending ≡ 0 → P []
       → HasFed P a b base count pending [] m m
   fed_none ea ec small ep s =
-      record {
-        algorithm = ea;
-        counted = omega (arith, ec, small);
-        taken = counted_none a ep;
-        stands = s;
-      }
+      grind (arith, common_steps, counted_none)
 
   -- the bytes d more
   pub fed_more : {Q : List ℕ → Type 0} {c : Algorithm} {more left : ℕ} {m : List ℕ} (d : List ℕ)
@@ -66,8 +62,7 @@ module _ {P : List ℕ → Type 0} {a b : Algorithm} {base count pending : ℕ} 
       ((x ++ joined (take i pieces)) ++ (slice_index_or pieces i d).now) m0 m1
       → HasFed P a b base count pending (x ++ joined (take (i + 1) pieces)) m0 m1
   fed_piece x pieces i d below t =
-      let piece : List ℕ = (slice_index_or pieces i d).now in
-      rw (joined-more pieces i d below, ← append_assoc x (joined (take i pieces)) piece) t
+      grind (arith, common_steps, joined-more)
 
 -- a tag's context took the bytes d more
 pub fed_tag-more : {key : Key} {c n : hmac.Context} {m : List ℕ} (d : List ℕ) {m0 m1 m2 : Counts}

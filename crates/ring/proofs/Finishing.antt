@@ -1,11 +1,10 @@
 -- How the last blocks make up the padding.
+use Rattle.std.proofs.lemmas.Grind.{common_steps}
 use Rattle.std.proofs.Common.{◌≡◌, ℕ, ◌+◌, ◌-◌, ◌*◌, ◌^◌, ◌≤◌, IsTrue, List, ◌++◌, length}
-use Rattle.std.proofs.Common.{replicate, ap, ◌∙◌, arith, rules, length-append, min, sym}
-use Rattle.std.proofs.Common.{append_assoc, take}
+use Rattle.std.proofs.Common.{replicate, ap, ◌∙◌, arith, rules, length-append, min, append_assoc}
+use Rattle.std.proofs.Common.{take}
 use Rattle.ring.proofs.Lengths.{length-words_after}
-use Rattle.std.proofs.lemmas.List.Concat.{flat_map-append}
-use Rattle.std.proofs.lemmas.List.{take-append-le, take-append-drop}
-use Rattle.std.specs.Int.{bytes_high_first}
+use Rattle.std.proofs.lemmas.List.{take-append-le}
 use Rattle.ring.specs.Prelude.{Algorithm, BlockContext, DynState, HasTaken, chaining_words}
 use Rattle.ring.specs.Prelude.{digest_of, is_state_of, max_input_len, output_len, padded}
 use Rattle.ring.specs.Prelude.{spare_words, state_word_len, word_bytes, word_count, word_len, words}
@@ -17,8 +16,7 @@ use Rattle.ring.proofs.Rows.{max_input_len-most, output_len-most}
 word_bytes_front : (a : Algorithm) (n : ℕ) (s : DynState)
     → word_bytes n (words s) ≡ word_bytes n (chaining_words a s) ++ word_bytes n (spare_words a s)
 word_bytes_front a n s =
-    ap (word_bytes n) (sym (take-append-drop (word_count a) (words s)))
-    ∙ flat_map-append (bytes_high_first n) (chaining_words a s) (spare_words a s)
+    grind (arith, common_steps)
 
 -- the digest at the front of a state's bytes
 pub digest_from : (out : List ℕ) (s : DynState) (a : Algorithm) (m : List ℕ)

@@ -1,4 +1,5 @@
 -- How a key is made one block, and what keys and tags cost.
+use Rattle.std.proofs.lemmas.Grind.{common_steps}
 use Rattle.std.proofs.Common.{◌≡◌, ℕ, ◌+◌, ◌-◌, ◌<◌, ◌≤◌, List, [], ◌++◌, length, take, replicate}
 use Rattle.std.proofs.Common.{nat_le, true, false, Bool, if◌then◌else◌, rules, refl, sym, ap, subst}
 use Rattle.std.proofs.Common.{◌∙◌, arith, length-append, append_assoc}
@@ -6,9 +7,9 @@ use Rattle.std.proofs.lemmas.List.{take_at, replicate-append-replicate, length-r
 use Rattle.std.proofs.lemmas.List.{length-map}
 use Rattle.ring.specs.Prelude.{Algorithm, BlockContext, Counts, Digest, HasMoved, HasTaken}
 use Rattle.ring.specs.Prelude.{IsDigest, IsTag, StandsFor, Tag, TagStandsFor, block_len, bytes_of}
-use Rattle.ring.specs.Prelude.{counted_bytes, digest_algorithm, digest_of, hmac_of, inner_block}
-use Rattle.ring.specs.Prelude.{key_block, key_digest_blocks, last_blocks, length_len, outer_block}
-use Rattle.ring.specs.Prelude.{output_len, padded_blocks, raised, short_key, signing_algorithm}
+use Rattle.ring.specs.Prelude.{counted_bytes, digest_of, hmac_of, inner_block, key_block}
+use Rattle.ring.specs.Prelude.{key_digest_blocks, last_blocks, length_len, outer_block, output_len}
+use Rattle.ring.specs.Prelude.{padded_blocks, raised, short_key, signing_algorithm}
 use Rattle.ring_core.proofs.Costs.{raised-raised}
 use Rattle.ring.specs.declared.hmac.context.Context.{Context}
 use Rattle.ring.proofs.Blocks.{short_div}
@@ -24,15 +25,13 @@ one_block a =
 pub short_key-short : (a : Algorithm) (k : List ℕ) → length k ≤ block_len a → short_key a k ≡ k
 unfolding short_key
 short_key-short a k h =
-    let short : nat_le (length k) (block_len a) ≡ true = search rules in
-    rw short refl
+    grind (arith, common_steps)
 
 pub short_key-long : (a : Algorithm) (k : List ℕ) → block_len a < length k
     → short_key a k ≡ digest_of a k
 unfolding short_key
 short_key-long a k h =
-    let long : nat_le (length k) (block_len a) ≡ false = search rules in
-    rw long refl
+    grind (arith, common_steps)
 
 -- one block y taken in by a new block context of the algorithm a
 pub taken_block : {b n : BlockContext} {a : Algorithm} {x y left : List ℕ} {m0 m1 : Counts}
@@ -52,9 +51,7 @@ pub tag_stands : (c : Context) (a : Algorithm) (k m : List ℕ) → signing_algo
     → StandsFor c.inner (inner_block a k ++ m) → HasTaken c.outer (outer_block a k)
     → TagStandsFor c k m
 tag_stands c a k m e i o =
-    let P : Algorithm → Type 0 = λ z. StandsFor c.inner (inner_block z k ++ m) in
-    let Q : Algorithm → Type 0 = λ z. HasTaken c.outer (outer_block z k) in
-    record { inner = subst P (sym e) i; outer = subst Q (sym e) o }
+    grind (arith, common_steps)
 
 -- the front of a short key with zeros after it
 key_block-is : (a : Algorithm) (k s : List ℕ) → short_key a k ≡ s → length s ≤ block_len a
@@ -82,18 +79,14 @@ pub key_block-long : (a : Algorithm) (k s block : List ℕ) → block_len a < le
     → s ≡ digest_of a k → block ≡ s ++ replicate (128 - length s) 0
     → take (block_len a) block ≡ key_block a k
 key_block-long a k s block h es e =
-    let below : length s ≤ block_len a =
-    omega (arith, ap length es, length-digest_of a k, output_below a) in
-    rw e (key_block-is a k s (short_key-long a k h ∙ sym es) below)
+    grind (arith, common_steps, length-digest_of, output_below, key_block-is, short_key-long)
 
 -- a key's block has the block's length
 pub length-key_block : (a : Algorithm) (k : List ℕ) → length (short_key a k) ≤ block_len a
     → length (key_block a k) ≡ block_len a
 unfolding key_block
 length-key_block a k fits =
-    let zeros : ℕ = block_len a - length (short_key a k) in
-    length-append (short_key a k) (replicate zeros 0)
-    ∙ omega (arith, length-replicate {A = ℕ} zeros 0)
+    grind (arith, common_steps)
 
 pub length-short_key : (a : Algorithm) (k : List ℕ) → length (short_key a k) ≤ block_len a
 unfolding short_key
@@ -117,8 +110,7 @@ pub cost_sign : {a e : Algorithm} {q d : ℕ} (n : ℕ) (m0 : Counts) {m1 m2 m3 
     → e ≡ a → d ≡ output_len a → m1 ≡ raised m0 n 0 → m3 ≡ raised m2 (padded_blocks e q) 0
     → m3 ≡ raised m0 (n + 1) 0
 cost_sign {a = a} {d = d} n m0 t ee ed e1 e3 =
-    let one : padded_blocks a d ≡ 1 = rw ed (one_block a) in
-    counted_end ee t e3 ∙ rw (e1, one) (raised-raised m0 _ 0 1 0)
+    grind (arith, common_steps, one_block, counted_end, raised-raised)
 
 -- the length of the message inside
 pub inner_len : (a : Algorithm) (k m : List ℕ)
@@ -137,17 +129,12 @@ pub tag_is : {t : Tag} {v d : Digest} {a : Algorithm} (k m : List ℕ) {x : List
     → IsTag t a k m
 unfolding hmac_of
 tag_is {a = a} k m e hv ex hd =
-    let inside = ap (λ (z : List ℕ). digest_of a (outer_block a k ++ z)) (ex ∙ hd.bytes) in
-    record {
-      algorithm = ap digest_algorithm e ∙ hv.algorithm;
-      bytes = ap bytes_of e ∙ hv.bytes ∙ inside;
-    }
+    grind (arith, common_steps)
 
 -- the blocks of a key's digest
 pub key_digest_blocks-short : (a : Algorithm) (n : ℕ) → n ≤ block_len a → key_digest_blocks a n ≡ 0
 key_digest_blocks-short a n h =
-    let short : nat_le n (block_len a) ≡ true = search rules in
-    rw short refl
+    grind (arith, common_steps)
 
 -- a tag has the output's length
 pub length-hmac_of : (a : Algorithm) (k m : List ℕ) → length (hmac_of a k m) ≡ output_len a

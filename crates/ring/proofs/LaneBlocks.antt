@@ -1,17 +1,17 @@
 -- The blocks of a padded message.
-use Rattle.std.proofs.Common.{◌≡◌, ℕ, ◌+◌, ◌-◌, ◌*◌, ◌/◌, ◌%◌, ◌<◌, ◌≤◌, List, ◌∷◌, ◌++◌}
-use Rattle.std.proofs.Common.{length, take, drop, replicate, refl, sym, ap, ◌∙◌, arith}
-use Rattle.std.proofs.Common.{append_assoc, length-drop}
-use Rattle.std.proofs.lemmas.List.{drop-append-le, drop_at, drop-drop}
-use Rattle.std.proofs.lemmas.List.{length-take-le, take-append-drop, take-append-le, take_all}
+use Rattle.std.proofs.lemmas.Grind.{common_steps}
+use Rattle.std.proofs.Common.{◌≡◌, ℕ, ◌+◌, ◌-◌, ◌*◌, ◌/◌, ◌%◌, ◌<◌, ◌≤◌, List, ◌∷◌, ◌++◌, length}
+use Rattle.std.proofs.Common.{take, drop, replicate, refl, sym, ap, ◌∙◌, arith, append_assoc}
+use Rattle.std.proofs.Common.{length-drop}
+use Rattle.std.proofs.lemmas.List.{drop_at, drop-drop, length-take-le, take-append-drop, take_all}
 use Rattle.std.specs.Int.{bytes_high_first}
 use Rattle.ring_core.specs.Prelude.{chunk_at, fold_chunks}
 use Rattle.ring.specs.Prelude.{Algorithm, HasWords, IsWhole, block_function, block_len, blocks_from}
 use Rattle.ring.specs.Prelude.{initial_words, length_len, padded, padded_blocks, tail_of}
 use Rattle.ring.specs.Prelude.{whole_blocks, word_count, word_len, words_after, words_at, zeros_of}
 use Rattle.ring_core.specs.Sha2 as sha2
-use Rattle.ring_core.proofs.ChunkFolds.{fold_chunks-append, fold_chunks-next}
-use Rattle.ring_core.proofs.ChunkFolds.{fold_chunks-none, fold_chunks-then}
+use Rattle.ring_core.proofs.ChunkFolds.{fold_chunks-append, fold_chunks-next, fold_chunks-none}
+use Rattle.ring_core.proofs.ChunkFolds.{fold_chunks-then}
 use Rattle.ring_core.proofs.Sha2Steps as sha2_steps
 use Rattle.ring.proofs.Blocks.{mul_whole}
 use Rattle.ring.proofs.Padding.{length-padded}
@@ -35,19 +35,14 @@ pub words_at-next : {n : ℕ} (a : Algorithm) (m block : List ℕ) (k : ℕ) →
     → words_at a m (k + 1) ≡ block_function a (words_at a m k) block
 unfolding words_at
 words_at-next a m block k e is =
-    fold_chunks-next (block_function a) (block_len a) (initial_words a) (padded a m) k
-    ∙ ap (λ (n : ℕ). block_function a (words_at a m k) (chunk_at n (padded a m) k)) e
-    ∙ ap (block_function a (words_at a m k)) (sym is)
+    grind (arith, common_steps, fold_chunks-next)
 
 -- all blocks
 pub words_at-all : (a : Algorithm) (m : List ℕ)
     → words_at a m (padded_blocks a (length m)) ≡ words_after a (padded a m)
 unfolding words_at words_after
 words_at-all a m =
-    let count : length (padded a m) / block_len a ≡ padded_blocks a (length m) =
-    ap (λ (n : ℕ). n / block_len a) (length-padded a m)
-    ∙ (mul_whole (padded_blocks a (length m)) (block_len a) (block_len-positive a)).1 in
-    ap (fold_chunks (block_function a) (block_len a) (initial_words a) (padded a m)) (sym count)
+    grind (arith, common_steps, length-padded, mul_whole, block_len-positive)
 
 -- what is added to a message
 abbrev padding_of : Algorithm → List ℕ → List ℕ
@@ -62,13 +57,7 @@ padded-split a m = simp append_assoc
 pub chunk_whole : {n : ℕ} (a : Algorithm) (m : List ℕ) (k : ℕ) → block_len a ≡ n
     → k < length m / n → chunk_at n (padded a m) k ≡ take n (drop (n * k) m)
 chunk_whole {n} a m k e below =
-    let past = padding_of a m in
-    let at : k * n ≡ n * k = grind arith in
-    let fits : n * k + n ≤ length m = by_size (λ n. k < length m / n → n * k + n ≤ length m) a e
-    (λ h. omega arith) (λ h. omega arith) below in
-    let room : n ≤ length (drop (n * k) m) = omega (arith, length-drop (n * k) m) in
-    rw (padded-split a m, at, drop-append-le (n * k) m past (omega arith))
-    (take-append-le n _ _ room)
+    grind (arith, common_steps, by_size, padded-split)
 
 -- the words after blocks that are whole in the message
 words_at-front : {n : ℕ} (a : Algorithm) (m : List ℕ) (k : ℕ) → block_len a ≡ n
@@ -76,12 +65,7 @@ words_at-front : {n : ℕ} (a : Algorithm) (m : List ℕ) (k : ℕ) → block_le
     → words_at a m k ≡ fold_chunks (block_function a) n (initial_words a) m k
 unfolding words_at
 words_at-front {n} a m k e fits =
-    let step = block_function a in
-    let h = initial_words a in
-    let at : k * n ≡ n * k = grind arith in
-    ap (λ (n : ℕ). fold_chunks step n h (padded a m) k) e
-    ∙ ap (λ z. fold_chunks step n h z k) (padded-split a m)
-    ∙ fold_chunks-append step n h m (padding_of a m) k (omega arith)
+    grind (arith, common_steps, padded-split, fold_chunks-append)
 
 -- the k blocks at the front of x bytes, and the whole blocks past them
 pub record AreParted (n k x : ℕ) : Type 0 where
@@ -91,9 +75,7 @@ pub record AreParted (n k x : ℕ) : Type 0 where
 
 pub parted : {n : ℕ} (a : Algorithm) (k x : ℕ) → block_len a ≡ n → k ≤ x / n → AreParted n k x
 parted a k x e h =
-    by_size (λ n. k ≤ x / n → AreParted n k x) a e
-    (λ h. record { front = omega arith; last = omega arith; sum = omega arith })
-    (λ h. record { front = omega arith; last = omega arith; sum = omega arith }) h
+    grind (arith, common_steps, by_size)
 
 -- the blocks past those
 pub blocks_left : {n : ℕ} {rest : List ℕ} (a : Algorithm) (m : List ℕ) (k : ℕ) → block_len a ≡ n

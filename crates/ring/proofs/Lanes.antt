@@ -1,18 +1,17 @@
 -- Messages of a digest's length in lanes, signed by one block after each masked block of the key.
-use Rattle.std.proofs.Common.{◌≡◌, ℕ, ◌+◌, ◌-◌, ◌*◌, ◌/◌, ◌≤◌, List, ◌∷◌, ◌++◌, length, take}
-use Rattle.std.proofs.Common.{drop, replicate, refl, sym, ap, ◌∙◌, arith, length-append}
-use Rattle.std.proofs.Common.{append_assoc, length-take-le, take_all, zero-mul}
-use Rattle.std.proofs.lemmas.List.{length-replicate, take-append-drop, take-append-le}
-use Rattle.std.proofs.lemmas.List.{take-take}
+use Rattle.std.proofs.lemmas.Grind.{common_steps}
+use Rattle.std.proofs.Common.{◌≡◌, ℕ, ◌*◌, ◌/◌, ◌≤◌, List, ◌++◌, length, take, drop, sym, ap, ◌∙◌}
+use Rattle.std.proofs.Common.{arith, length-take-le, take_all, zero-mul}
+use Rattle.std.proofs.lemmas.List.{take-append-drop, take-append-le}
 use Rattle.std.proofs.lemmas.List.Concat.{flat_map-append}
 use Rattle.std.proofs.Math.Nat.{div_self, mod_self}
 use Rattle.std.specs.Int.{bytes_high_first}
 use Rattle.ring_core.specs.Prelude.{fold_chunks}
 use Rattle.ring.specs.Prelude.{Algorithm, Counts, DynState, IsKeyInLane, IsWhole, Key, KeyStandsFor}
-use Rattle.ring.specs.Prelude.{block_function, block_len, blocks_from, chaining_words, digest_bytes}
-use Rattle.ring.specs.Prelude.{digest_of, hmac_of, inner_block, key_algorithm, length_len}
-use Rattle.ring.specs.Prelude.{outer_block, output_len, padded, prepared_padding, raised, tail_of}
-use Rattle.ring.specs.Prelude.{word_bytes, word_count, word_len, words, words_after, zeros_of}
+use Rattle.ring.specs.Prelude.{block_function, block_len, blocks_from, digest_bytes, digest_of}
+use Rattle.ring.specs.Prelude.{hmac_of, inner_block, key_algorithm, outer_block, output_len, padded}
+use Rattle.ring.specs.Prelude.{prepared_padding, raised, word_bytes, word_count, word_len, words}
+use Rattle.ring.specs.Prelude.{words_after}
 use Rattle.ring_core.proofs.ChunkFolds.{fold_chunks-next, fold_chunks-none}
 use Rattle.ring_core.proofs.Costs.{raised-raised}
 use Rattle.ring.proofs.Blocks.{words_after-append}
@@ -26,39 +25,19 @@ use Rattle.ring.proofs.Tails.{padded-append}
 pub cost_two : (m0 : Counts) {m1 m2 : Counts} (b : ℕ) → m1 ≡ raised m0 b 0 → m2 ≡ raised m1 b 0
     → m2 ≡ raised m0 (2 * b) 0
 cost_two m0 b e1 e2 =
-    let sum : b + b ≡ 2 * b = omega arith in
-    e2 ∙ rw e1 (raised-raised m0 b 0 b 0) ∙ ap (λ (z : ℕ). raised m0 z 0) sum
+    grind (arith, common_steps, raised-raised)
 
 -- a digest and its padding are one block long
 length-padded : (a : Algorithm) (m : List ℕ) → length m ≡ output_len a
     → length (m ++ prepared_padding a) ≡ block_len a
 length-padded a m lm =
-    let n : ℕ = output_len a in
-    let z : ℕ = zeros_of a n in
-    let field : List ℕ = bytes_high_first (length_len a) (8 * (block_len a + n)) in
-    let zeros : z ≡ block_len a - (n + 1 + length_len a) =
-    rw (one_block a) (omega arith) in
-    length-append m (prepared_padding a)
-    ∙ omega (
-      arith,
-      lm,
-      length-append (128 ∷ replicate z 0) field,
-      length-replicate {A = ℕ} z 0,
-      length-bytes_high_first (length_len a) (8 * (block_len a + n)),
-      zeros,
-      output_below a,
-    )
+    grind (arith, common_steps, one_block, length-bytes_high_first, output_below)
 
 -- after a block p, they end the padded message
 padded-message : (a : Algorithm) (p m : List ℕ) → length p ≡ block_len a → length m ≡ output_len a
     → p ++ (m ++ prepared_padding a) ≡ padded a (p ++ m)
 padded-message a p m lp lm =
-    let whole : IsWhole a p = rw lp (mod_self (block_len a)) in
-    let len : length (p ++ m) ≡ block_len a + output_len a =
-    length-append p m ∙ rw (lp, lm) refl in
-    let tail : m ++ prepared_padding a ≡ tail_of a m (length (p ++ m)) =
-    rw (len, lm) (sym (append_assoc m _ _)) in
-    ap (λ z. p ++ z) tail ∙ sym (padded-append a p m whole)
+    grind (arith, common_steps, mod_self, padded-append)
 
 -- one block is chained by one run
 pub one_chained : (a : Algorithm) (h x : List ℕ) → length x ≡ block_len a
@@ -104,8 +83,7 @@ block-digest a p m ws lp lm ew =
 length-digest_bytes : (a : Algorithm) (ws : List ℕ) → output_len a ≤ word_len a * length ws
     → length (digest_bytes a ws) ≡ output_len a
 length-digest_bytes a ws room =
-    length-take-le (output_len a) (word_bytes (word_len a) ws)
-    (omega (arith, length-word_bytes (word_len a) ws))
+    grind (arith, common_steps, length-take-le, length-word_bytes)
 
 -- the words in a lane: of the key, of the message, between the two digests and after them
 pub record AreSigned (a : Algorithm) (inner outer old middle new : List ℕ) : Type 0 where
@@ -142,32 +120,17 @@ pub key_in_lane : (key : Key) {s t : DynState} (p : List ℕ) → key.inner.stat
     → key.outer.state ≡ t → KeyStandsFor key p
     → IsKeyInLane (key_algorithm key) (words s) (words t) p
 key_in_lane key p es et stands =
-    let a : Algorithm = key_algorithm key in
-    record {
-      inside = ap (chaining_words a) (sym es) ∙ stands.inner.words;
-      outside = ap (chaining_words a) (sym et)
-          ∙ ap (λ (z : Algorithm). chaining_words z key.outer.state) (sym key.same)
-          ∙ stands.outer.words ∙ ap (λ (z : Algorithm). words_after z (outer_block a p)) key.same;
-    }
+    grind (arith, common_steps)
 
 -- the words that were read of a digest's bytes write it
 pub digest_read : (a : Algorithm) {b : Algorithm} {n : ℕ} (ws bytes : List ℕ) {digest : List ℕ}
     → n ≡ word_len a → word_bytes n ws ≡ take (8 * n) bytes → b ≡ a
     → take (output_len b) bytes ≡ digest → digest_bytes a ws ≡ digest
 digest_read a {n = n} ws bytes size ew same ed =
-    let m : ℕ = output_len a in
-    let room : m ≤ 8 * n = omega (arith, size, eight_words a) in
-    ap (λ (z : ℕ). take m (word_bytes z ws)) (sym size) ∙ ap (take m) ew
-    ∙ take-take m (8 * n) bytes room ∙ ap (λ (z : Algorithm). take (output_len z) bytes) (sym same)
-    ∙ ed
+    grind (arith, common_steps, eight_words)
 
 -- a state's bytes begin with the digest
 pub digest_written : (a : Algorithm) {n : ℕ} (ws zeros : List ℕ) {out : List ℕ} → n ≡ word_len a
     → length ws ≡ 8 → out ≡ word_bytes n ws ++ zeros → take (output_len a) out ≡ digest_bytes a ws
 digest_written a {n = n} ws zeros size eight e =
-    let m : ℕ = output_len a in
-    let long : length (word_bytes n ws) ≡ n * 8 =
-    length-word_bytes n ws ∙ ap (λ (z : ℕ). n * z) eight in
-    let room : m ≤ length (word_bytes n ws) = omega (arith, size, eight_words a, long) in
-    ap (take m) e ∙ take-append-le m (word_bytes n ws) zeros room
-    ∙ ap (λ (z : ℕ). take m (word_bytes z ws)) size
+    grind (arith, common_steps, length-word_bytes, eight_words)

@@ -1,13 +1,13 @@
 -- The length of a digest, and costs of whole messages.
-use Rattle.std.proofs.Common.{◌≡◌, ℕ, ◌+◌, ◌*◌, ◌/◌, ◌%◌, inl, inr, List, length, refl, sym}
-use Rattle.std.proofs.Common.{ap, ◌∙◌, arith, length-take-le}
+use Rattle.std.proofs.lemmas.Grind.{common_steps}
+use Rattle.std.proofs.Common.{◌≡◌, ℕ, ◌+◌, ◌/◌, ◌%◌, inl, inr, List, length, refl, sym, ap, ◌∙◌}
+use Rattle.std.proofs.Common.{arith, length-take-le}
 use Rattle.ring_core.specs.Sha1 as sha1
 use Rattle.ring_core.specs.Sha2 as sha2
 use Rattle.ring.specs.Prelude.{Algorithm, AlgorithmId, Counts, Sha1, Sha256, Sha384, Sha512}
 use Rattle.ring.specs.Prelude.{Sha512_256, block_function_of_id, block_len, digest_of}
-use Rattle.ring.specs.Prelude.{initial_words_of_id, last_blocks, output_len, padded, padded_blocks}
-use Rattle.ring.specs.Prelude.{raised, row_of, whole_blocks, word_bytes, word_count, word_len}
-use Rattle.ring.specs.Prelude.{words_after}
+use Rattle.ring.specs.Prelude.{initial_words_of_id, last_blocks, output_len, padded_blocks, raised}
+use Rattle.ring.specs.Prelude.{row_of, whole_blocks, word_count, words_after}
 use Rattle.ring_core.proofs.Costs.{raised-none, raised-raised}
 use Rattle.ring_core.proofs.ChunkFolds.{length-fold_chunks}
 use Rattle.ring.proofs.Outputs.{length-word_bytes}
@@ -34,39 +34,28 @@ initial_count Sha512_256 = refl
 pub length-words_after : (a : Algorithm) (p : List ℕ) → length (words_after a p) ≡ word_count a
 unfolding words_after
 length-words_after a p =
-    let keeps = λ (x y : List ℕ) (h : length x ≡ word_count a). keeps_count a.id x y in
-    length-fold_chunks _ _ (word_count a) _ _ p keeps (initial_count a.id)
+    grind (arith, common_steps, keeps_count, length-fold_chunks, initial_count)
 
 -- a digest has the output's length
 pub length-digest_of : (a : Algorithm) (m : List ℕ) → length (digest_of a m) ≡ output_len a
 unfolding digest_of
 length-digest_of a m =
-    let words : List ℕ = words_after a (padded a m) in
-    let long : length (word_bytes (word_len a) words) ≡ word_len a * word_count a =
-    length-word_bytes (word_len a) words
-    ∙ ap (λ (z : ℕ). word_len a * z) (length-words_after a (padded a m)) in
-    length-take-le (output_len a) _ (omega (arith, output_len-most a))
+    grind (arith, common_steps, length-word_bytes, length-words_after, length-take-le, output_len-most)
 
 -- the end of a message has the blocks of its pending bytes with their padding
 pub end_last : (a : Algorithm) (n : ℕ) → padded_blocks a (n % block_len a) ≡ last_blocks a n
-end_last a n = elim (sizes_of a) [
-  | inl e ↦ rw (e.0, e.1) (omega arith)
-  | inr e ↦ rw (e.0, e.1) (omega arith)
-]
+end_last a n =
+    grind (arith, common_steps, sizes_of)
 
 -- the blocks of a message and those of its end
 pub whole_last : (a : Algorithm) (n : ℕ) → whole_blocks a n + last_blocks a n ≡ padded_blocks a n
-whole_last a n = elim (sizes_of a) [
-  | inl e ↦ rw (e.0, e.1) (omega arith)
-  | inr e ↦ rw (e.0, e.1) (omega arith)
-]
+whole_last a n =
+    grind (arith, common_steps, sizes_of)
 
 -- a block before the message leaves its end as it is
 pub last_past : (a : Algorithm) (n : ℕ) → last_blocks a (block_len a + n) ≡ last_blocks a n
-last_past a n = elim (sizes_of a) [
-  | inl e ↦ rw (e.0, e.1) (omega arith)
-  | inr e ↦ rw (e.0, e.1) (omega arith)
-]
+last_past a n =
+    grind (arith, common_steps, sizes_of)
 
 -- n bytes were taken in: q of them are pending, and the meter rose by their whole blocks
 pub record HasCounted (a : Algorithm) (q n : ℕ) (before now : Counts) : Type 0 where
@@ -128,5 +117,4 @@ pub counted_first : {a b : Algorithm} {p q : ℕ} {m0 m1 : Counts} (n : ℕ) →
     → q ≡ (p + n) % block_len b → m1 ≡ raised m0 (whole_blocks b (p + n)) 0
     → HasCounted a q n m0 m1
 counted_first {a = a} n eb ep eq em =
-    let bare : 0 + n ≡ n = omega arith in
-    rw bare at (counted_more n eb (counted_none a ep) eq em)
+    grind (arith, common_steps, counted_more, counted_none)

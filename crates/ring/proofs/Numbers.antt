@@ -1,11 +1,11 @@
 -- Numbers in the place of contexts and keys.
+use Rattle.std.proofs.lemmas.Grind.{common_steps}
 use Rattle.std.proofs.Common.{◌≡◌, ℕ, ◌+◌, ◌*◌, ◌%◌, ◌^◌, ◌≤◌, List, [], ◌∷◌, ◌++◌, map, length}
-use Rattle.std.proofs.Common.{take, nat_eq, IsTrue, rules, refl, sym, ap, subst, ◌∙◌, inl, inr}
-use Rattle.std.proofs.Common.{arith, length-append, length-take, length-take-le, append_assoc}
-use Rattle.std.proofs.Common.{Option, Some, option_map, unwrap_or}
+use Rattle.std.proofs.Common.{take, nat_eq, IsTrue, rules, refl, sym, ap, ◌∙◌, inl, inr, arith}
+use Rattle.std.proofs.Common.{length-append, length-take, length-take-le, Option, Some, option_map}
+use Rattle.std.proofs.Common.{unwrap_or}
 use Rattle.std.proofs.Math.Nat.{mod-mod, mod-eq_of_lt}
 use Rattle.std.proofs.lemmas.Bool.{cases_lt}
-use Rattle.std.proofs.lemmas.List.{take_at}
 use Rattle.std.specs.declared.num.Wrapping.{Wrapping}
 use Rattle.ring.specs.Prelude.{Algorithm, AlgorithmId, As32, As64, BlockContext, DynState, HasTaken}
 use Rattle.ring.specs.Prelude.{IsRawState, Key, KeyStandsFor, RawStandsFor, RawTagContext}
@@ -55,9 +55,7 @@ pub key_stands : (key : Key) (a : Algorithm) (k : List ℕ) → key.inner.algori
     → HasTaken key.inner (inner_block a k) → HasTaken key.outer (outer_block a k)
     → KeyStandsFor key k
 key_stands key a k e i o =
-    let P : Algorithm → Type 0 = λ z. HasTaken key.inner (inner_block z k) in
-    let Q : Algorithm → Type 0 = λ z. HasTaken key.outer (outer_block z k) in
-    record { inner = subst P (sym e) i; outer = subst Q (sym e) o }
+    grind (arith, common_steps)
 
 -- the numbers of a tag's context count the key's block
 pub key_block_counted : (raw : RawTagContext) (a : Algorithm) (k m : List ℕ)
@@ -85,7 +83,4 @@ key_block_counted raw a k m h =
 pub kept : (n : ℕ) (p x c r : List ℕ) → n ≤ length p → c ≡ x
     → take (n + length x) (take n p ++ (c ++ r)) ≡ take n p ++ x
 kept n p x c r fits e =
-    let size : length (take n p ++ x) ≡ n + length x =
-    length-append (take n p) x ∙ ap (λ (z : ℕ). z + length x) (length-take-le n p fits) in
-    rw e (ap (take (n + length x)) (sym (append_assoc (take n p) x r))
-    ∙ take_at (take n p ++ x) r (n + length x) size)
+    grind (arith, common_steps, length-take-le)

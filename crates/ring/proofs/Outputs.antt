@@ -1,9 +1,10 @@
 -- How the bytes of words are written one word after another.
+use Rattle.std.proofs.lemmas.Grind.{common_steps}
 use Rattle.std.proofs.Common.{◌≡◌, ℕ, zero, suc, ◌+◌, ◌-◌, ◌*◌, ◌/◌, ◌%◌, ◌^◌, ◌<◌, ◌≤◌, List, []}
 use Rattle.std.proofs.Common.{◌∷◌, ◌++◌, length, take, drop, replicate, slice_index, get_or, refl}
 use Rattle.std.proofs.Common.{sym, ap, ◌∙◌, arith, length-append, map, take-add}
-use Rattle.std.proofs.lemmas.List.{take_at, drop_at, drop_more, get_or-map, length-map}
-use Rattle.std.proofs.lemmas.List.{drop-drop, drop-replicate, append_assoc, length-take-le}
+use Rattle.std.proofs.lemmas.List.{take_at, drop_at, get_or-map, drop-drop, drop-replicate}
+use Rattle.std.proofs.lemmas.List.{append_assoc, length-take-le}
 use Rattle.std.proofs.lemmas.List.Concat.{flat_map-append}
 use Rattle.std.proofs.lemmas.Simd.{get_or_narrower}
 use Rattle.std.specs.Int.{byte_at, bytes_high_first}
@@ -77,14 +78,7 @@ pub two_words : (w : ℕ) (ws : List (Wrapping ℕ)) (i : ℕ) (d : Wrapping ℕ
     → (get_or ws i d).0 % 2 ^ w ∷ (get_or ws (i + 1) d).0 % 2 ^ w ∷ []
     ≡ take 2 (drop i (map (λ (x : Wrapping ℕ). x.0 % 2 ^ w) ws))
 two_words w ws i d h =
-    let xs = map (λ (x : Wrapping ℕ). x.0 % 2 ^ w) ws in
-    let long : length xs ≡ length ws = length-map ws (λ (x : Wrapping ℕ). x.0 % 2 ^ w) in
-    rw (
-      word_at w ws i d (omega arith),
-      word_at w ws (i + 1) d (omega arith),
-      drop_more xs i 0 (omega arith),
-      drop_more xs (i + 1) 0 (omega arith),
-    ) refl
+    grind (arith, common_steps, word_at)
 
 -- the numbers of four words in a list
 pub four_words : (w : ℕ) (ws : List (Wrapping ℕ)) (i : ℕ) (d : Wrapping ℕ) → i + 4 ≤ length ws

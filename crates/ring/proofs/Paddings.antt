@@ -1,8 +1,8 @@
 -- The paddings as words are the standard's, each behind a digest of its algorithm; and what a run
 -- over such a block makes of a state.
-use Rattle.std.proofs.Common.{◌≡◌, ℕ, ◌^◌, ◌<◌, List, ◌++◌, length, map, take, refl, sym, ap}
-use Rattle.std.proofs.Common.{◌∙◌, arith, lit≤, mod-lt, pow_pos, take_all}
-use Rattle.std.proofs.lemmas.List.{length-map}
+use Rattle.std.proofs.lemmas.Grind.{common_steps}
+use Rattle.std.proofs.Common.{◌≡◌, ℕ, ◌^◌, ◌<◌, List, ◌++◌, length, map, take, refl, sym, ap, ◌∙◌}
+use Rattle.std.proofs.Common.{arith, lit≤, mod-lt, pow_pos, take_all}
 use Rattle.std.specs.declared.num.Wrapping.{Wrapping}
 use Rattle.ring_core.specs.Prelude.{Family, IsBlockOf, block_step}
 use Rattle.ring.specs.Prelude.{Algorithm, SHA1_FOR_LEGACY_USE_ONLY, SHA256, SHA384, SHA512}
@@ -63,5 +63,4 @@ pub words_run : {a : Algorithm} {w k : ℕ} {padding : List (Wrapping ℕ)} (fam
     ≡ block_step family (take 8 (values w old))
     (digest_bytes a (values w digest) ++ prepared_padding a)
 words_run {w = w} family old new digest t eights =
-    lane_run family old new digest t (length-map old _ ∙ eights.0, length-map digest _ ∙ eights.1)
-    (λ x. mod-lt _ (pow_pos w))
+    grind (arith, common_steps, lane_run, mod-lt, pow_pos)

@@ -1,11 +1,11 @@
 -- Numbered blocks of one length, one after another, and their fronts.
-use Rattle.std.proofs.Common.{◌≡◌, ℕ, List, [], ◌∷◌, ◌++◌, ◌+◌, ◌-◌, ◌*◌, ◌≤◌, ◌<◌, ◌↔◌, length}
-use Rattle.std.proofs.Common.{min, take, drop, suc, zero, refl, sym, ap, ◌∙◌, arith, length-append}
+use Rattle.std.proofs.lemmas.Grind.{common_steps}
+use Rattle.std.proofs.Common.{◌≡◌, ℕ, List, [], ◌++◌, ◌+◌, ◌-◌, ◌*◌, ◌≤◌, ◌<◌, ◌↔◌, length, min}
+use Rattle.std.proofs.Common.{take, drop, suc, zero, refl, sym, ap, ◌∙◌, arith, length-append}
 use Rattle.std.proofs.Common.{length-take-le, mul-le-mul_right, suc-mul, append-nil, append_assoc}
 use Rattle.std.proofs.Common.{add-one, slice_index_or, take_all}
 use Rattle.std.specs.Borrow.{Bor}
 use Rattle.std.proofs.lemmas.List.{length-take, take_more, take-append-le}
-use Rattle.std.proofs.lemmas.Grind.{flat_map-append}
 use Rattle.std.proofs.Math.Seq.{drop-append_seam, take-add, take-append-add, take-append_seam}
 use Rattle.ring.specs.Prelude.{joined, joined_blocks}
 
@@ -13,9 +13,7 @@ use Rattle.ring.specs.Prelude.{joined, joined_blocks}
 pub joined-more : (pieces : List (Bor (List ℕ))) (i : ℕ) (d : Bor (List ℕ)) → i < length pieces
     → joined (take (i + 1) pieces) ≡ joined (take i pieces) ++ (slice_index_or pieces i d).now
 joined-more pieces i d below =
-    let bytes : Bor (List ℕ) → List ℕ = λ (piece : Bor (List ℕ)). piece.now in
-    let last : List (Bor (List ℕ)) = slice_index_or pieces i d ∷ [] in
-    rw (take_more pieces i d below, flat_map-append bytes (take i pieces) last, append-nil) refl
+    grind (arith, common_steps, take_more)
 
 pub joined_blocks-none : (f : ℕ → List ℕ) → joined_blocks f 0 ≡ []
 unfolding joined_blocks

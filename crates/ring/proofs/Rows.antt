@@ -1,6 +1,7 @@
 -- What the rows have in common.
-use Rattle.std.proofs.Common.{◌≡◌, ℕ, zero, ◌<◌, ◌≤◌, ◌-◌, ◌*◌, ◌^◌, ◌⊎◌, refl, inl, inr, lit<}
-use Rattle.std.proofs.Common.{lit≤, ◌+◌, ◌/◌}
+use Rattle.std.proofs.lemmas.Grind.{common_steps}
+use Rattle.std.proofs.Common.{arith, ◌≡◌, ℕ, zero, ◌<◌, ◌≤◌, ◌-◌, ◌*◌, ◌^◌, ◌⊎◌, refl, inl, inr}
+use Rattle.std.proofs.Common.{lit<, lit≤, ◌+◌, ◌/◌}
 use Rattle.ring.specs.Prelude.{Algorithm, AlgorithmId, Row, Sha1, Sha256, Sha384, Sha512}
 use Rattle.ring.specs.Prelude.{Sha512_256, block_len, length_len, max_input_len, output_len, row_of}
 use Rattle.ring.specs.Prelude.{word_count, word_len}
@@ -22,10 +23,8 @@ sizes_of a = sizes_of_id a.id
 -- what holds of both sizes
 pub by_sizes : (P : (b l : ℕ) → Type 0) (a : Algorithm) → P 64 8 → P 128 16
     → P (block_len a) (length_len a)
-by_sizes P a short long = elim (sizes_of a) [
-  | inl e ↦ rw (e.0, e.1) short
-  | inr e ↦ rw (e.0, e.1) long
-]
+by_sizes P a short long =
+    grind (arith, common_steps, sizes_of)
 
 -- a length field that does not have sixteen bytes has eight
 pub short_field : (a : Algorithm) → (length_len a ≡ 16 → ⊥) → 8 ≡ length_len a

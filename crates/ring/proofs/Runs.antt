@@ -1,4 +1,5 @@
 -- How block functions over the chunks of a list make the words after its whole blocks.
+use Rattle.std.proofs.lemmas.Grind.{common_steps}
 use Rattle.std.proofs.Common.{◌≡◌, ℕ, ◌*◌, ◌/◌, ◌<◌, List, length, take, drop, refl, sym, ap, ◌∙◌}
 use Rattle.std.proofs.Common.{arith}
 use Rattle.std.proofs.lemmas.List.{length-take-le, take-append-drop, take_all}
@@ -61,9 +62,7 @@ pub words_run : {step : List ℕ → List ℕ → List ℕ} {n count : ℕ} {old
     → items ≡ take (length y / n * n) y → new ≡ fold_chunks step n old items (length items / n)
     → chaining_words a t ≡ blocks_from a (chaining_words a s) y
 words_run {step} {n} {old = old} {items = items} a s t y row es et view en =
-    let pos : 0 < n = rw row.block_is at (block_len-positive a) in
-    et ∙ en ∙ fold_chunks-front step n old y items pos view
-    ∙ sym (rw (row.step_is, row.block_is, es) refl)
+    grind (arith, common_steps, block_len-positive, fold_chunks-front)
 
 -- all words chain where there are eight
 all_chaining : (a : Algorithm) (step : List ℕ → List ℕ → List ℕ) (n : ℕ) (ws : List ℕ)
@@ -79,5 +78,4 @@ pub words_run_all : {step : List ℕ → List ℕ → List ℕ} {n : ℕ} {items
     → words t ≡ fold_chunks step n (words s) items (length items / n)
     → chaining_words a t ≡ blocks_from a (chaining_words a s) y
 words_run_all {step} {n} a s t y row ls lt =
-    words_run a s t y row (all_chaining a step n (words s) row ls)
-    (all_chaining a step n (words t) row lt)
+    grind (arith, common_steps, words_run, all_chaining)

@@ -1,14 +1,14 @@
 -- What follows the whole blocks of a padded message.
-use Rattle.std.proofs.Common.{◌≡◌, ℕ, suc, ◌+◌, ◌-◌, ◌*◌, ◌/◌, ◌%◌, ◌<◌, ◌≤◌, List, ◌∷◌}
-use Rattle.std.proofs.Common.{◌++◌, length, take, drop, replicate, slice_set, sym, ap, ◌∙◌, arith}
-use Rattle.std.proofs.Common.{length-append, append_assoc, drop-drop, refl}
-use Rattle.std.proofs.lemmas.List.{drop-replicate, take-replicate, length-replicate, take_at}
+use Rattle.std.proofs.lemmas.Grind.{common_steps}
+use Rattle.std.proofs.Common.{◌≡◌, ℕ, suc, ◌+◌, ◌-◌, ◌*◌, ◌%◌, ◌<◌, ◌≤◌, List, ◌∷◌, ◌++◌, length}
+use Rattle.std.proofs.Common.{take, drop, replicate, slice_set, sym, ap, ◌∙◌, arith, refl}
+use Rattle.std.proofs.lemmas.List.{drop-replicate, take-replicate, take_at}
 use Rattle.std.proofs.Math.Seq.{set-append_seam, take-append-add}
 use Rattle.std.specs.Int.{bytes_high_first}
 use borrow.Rule.Slice.PartMut.{put_mid}
 use Rattle.ring.specs.Prelude.{Algorithm, BlockContext, DynState, HasTaken, IsWhole, block_len}
 use Rattle.ring.specs.Prelude.{blocks_from, chaining_words, length_len, padded, padded_blocks}
-use Rattle.ring.specs.Prelude.{padded_with, tail_of, words_after, zeros_of}
+use Rattle.ring.specs.Prelude.{tail_of, words_after, zeros_of}
 use Rattle.ring.proofs.Blocks.{words_after-append}
 use Rattle.ring.proofs.Outputs.{length-bytes_high_first}
 use Rattle.ring.proofs.Padding.{padded_is_padded}
@@ -19,25 +19,20 @@ pub tail_sizes : (a : Algorithm) (r : ℕ) → r < block_len a
     → (padded_blocks a r * block_len a ≤ 256)
     × (r + 1 + length_len a ≤ padded_blocks a r * block_len a)
 tail_sizes a r =
-    by_sizes (λ b l. r < b → (((r + l) / b + 1) * b ≤ 256) × (r + 1 + l ≤ ((r + l) / b + 1) * b)) a
-    (λ h. (omega arith, omega arith)) (λ h. (omega arith, omega arith))
+    grind (arith, common_steps, by_sizes)
 
 -- the zeros depend only on what is left of the message
 pub zeros_past : (a : Algorithm) (n r : ℕ) → n % block_len a ≡ 0
     → zeros_of a (n + r) ≡ zeros_of a r
 zeros_past a n r =
-    by_sizes (λ b l. n % b ≡ 0
-    → ((n + r + l) / b + 1) * b - (n + r + 1 + l) ≡ ((r + l) / b + 1) * b - (r + 1 + l)) a
-    (λ h. omega arith) (λ h. omega arith)
+    grind (arith, common_steps, by_sizes)
 
 -- the padded message is its whole blocks and the tail
 pub padded-append : (a : Algorithm) (p x : List ℕ) → IsWhole a p
     → padded a (p ++ x) ≡ p ++ tail_of a x (length (p ++ x))
 unfolding padded
 padded-append a p x whole =
-    let zeros : zeros_of a (length (p ++ x)) ≡ zeros_of a (length x) =
-    ap (zeros_of a) (length-append p x) ∙ zeros_past a (length p) (length x) whole in
-    ap (padded_with a (p ++ x)) zeros ∙ simp append_assoc
+    grind (arith, common_steps, zeros_past)
 
 -- a length field of l bytes written before a place
 pub length_put : (a : Algorithm) (xs : List ℕ) {be : List ℕ} (n end : ℕ) {l : ℕ}
@@ -45,9 +40,7 @@ pub length_put : (a : Algorithm) (xs : List ℕ) {be : List ℕ} (n end : ℕ) {
     → put_mid (end - l) (end - (end - l)) xs be
     ≡ take (end - length_len a) xs ++ bytes_high_first (length_len a) (8 * n) ++ drop end xs
 length_put a xs n end {l = l} el room eb =
-    let past : drop (end - (end - l)) (drop (end - l) xs) ≡ drop end xs =
-    drop-drop (end - (end - l)) (end - l) xs ∙ ap (λ (z : ℕ). drop z xs) (omega arith) in
-    rw (eb, past, el) (simp append_assoc)
+    grind (arith, common_steps)
 
 -- zeros with x and the byte 0x80 written over their front
 abbrev marked : List ℕ → List ℕ
@@ -66,21 +59,12 @@ marked-is x below =
 take-marked : (x : List ℕ) (z : ℕ) → length x + suc z ≤ 256
     → take (length x + suc z) (marked x) ≡ x ++ 128 ∷ replicate z 0
 take-marked x z fits =
-    let n : ℕ = 255 - length x in
-    rw (marked-is x (omega arith)) (take-append-add x (128 ∷ replicate n 0) (suc z))
-    ∙ ap (λ (zs : List ℕ). x ++ 128 ∷ zs) (take-replicate z n 0 (omega arith))
+    grind (arith, common_steps, marked-is, take-append-add, take-replicate)
 
 length-tail_of : (a : Algorithm) (x : List ℕ) (n : ℕ)
     → length (tail_of a x n) ≡ length x + suc (zeros_of a (length x)) + length_len a
 length-tail_of a x n =
-    let zeros : List ℕ = replicate (zeros_of a (length x)) 0 in
-    let field : List ℕ = bytes_high_first (length_len a) (8 * n) in
-    length-append (x ++ 128 ∷ zeros) field ∙ omega (
-      arith,
-      length-append x (128 ∷ zeros),
-      length-replicate {A = ℕ} (zeros_of a (length x)) 0,
-      length-bytes_high_first (length_len a) (8 * n),
-    )
+    grind (arith, common_steps, length-bytes_high_first)
 
 -- the tail, as it is written over zeros
 pub tail_written : (a : Algorithm) (x : List ℕ) (n t : ℕ) → length x < block_len a
@@ -102,8 +86,7 @@ tail_written a x n t below et =
 -- what follows whole blocks in whole blocks is whole blocks
 whole-rest : (a : Algorithm) (p x : List ℕ) → IsWhole a p → IsWhole a (p ++ x) → IsWhole a x
 whole-rest a p x hp h =
-    by_sizes (λ b l. length p % b ≡ 0 → (length p + length x) % b ≡ 0 → length x % b ≡ 0) a
-    (λ u v. omega arith) (λ u v. omega arith) hp (rw length-append at h)
+    grind (arith, common_steps, by_sizes)
 
 -- the words after the blocks that end a padded message
 pub words_after-padded : (b : BlockContext) (p m tail : List ℕ) (s : DynState) → HasTaken b p

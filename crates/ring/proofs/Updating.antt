@@ -1,13 +1,14 @@
 -- How update keeps what a context stands for, what it counts and what it costs.
+use Rattle.std.proofs.lemmas.Grind.{common_steps}
 use Rattle.std.proofs.Common.{◌≡◌, ℕ, zero, ◌+◌, ◌-◌, ◌*◌, ◌/◌, ◌%◌, ◌<◌, ◌≤◌, List, ◌++◌, length}
 use Rattle.std.proofs.Common.{take, drop, refl, sym, ap, subst, ◌∙◌, arith, length-append}
 use Rattle.std.proofs.Common.{length-drop, length-take-le, append_assoc, take-add, drop-drop}
-use Rattle.std.proofs.lemmas.List.{take_all, take_at, drop_at, take-append-drop, append-nil}
+use Rattle.std.proofs.lemmas.List.{take_all, take_at, drop_at, append-nil}
 use Rattle.std.proofs.lemmas.Nat.{div-mul-add, mod-mul-add}
 use Rattle.std.proofs.lemmas.Slice.{take-put_mid}
 use borrow.Rule.Slice.PartMut.{put_mid}
-use Rattle.ring.specs.Prelude.{Algorithm, BlockContext, Context, Counts, HasMoved, HasTaken}
-use Rattle.ring.specs.Prelude.{IsJoined, StandsFor, block_len, pending_bytes, pending_len, raised}
+use Rattle.ring.specs.Prelude.{BlockContext, Context, Counts, HasMoved, HasTaken, IsJoined}
+use Rattle.ring.specs.Prelude.{StandsFor, block_len, pending_bytes, pending_len, raised}
 use Rattle.ring.specs.Prelude.{whole_blocks}
 use Rattle.ring_core.proofs.Costs.{raised-none, raised-raised}
 use Rattle.ring.proofs.Blocks.{mul_whole, whole_div-add, short_div}
@@ -102,9 +103,7 @@ pub moved_both : {b mid last new : BlockContext} {x rest left : List ℕ} {m0 m1
     → HasMoved (block_len mid.algorithm) mid last rest left m1 m2 → new ≡ last
     → HasMoved (block_len b.algorithm) b new x left m0 m2
 moved_both {b} {mid} {last} {x = x} {rest} {left} {m0} {m1} {m2} i j e =
-    let P : Algorithm → Type 0 = λ z. HasMoved (block_len z) mid last rest left m1 m2 in
-    let Q : BlockContext → Type 0 = λ z. HasMoved (block_len b.algorithm) b z x left m0 m2 in
-    subst Q (sym e) (moved_then i (subst P i.algorithm j))
+    grind (arith, common_steps, moved_then)
 
 -- the bytes d complete the pending block, which has k bytes
 pub record HasRoom (s : Context) (d : List ℕ) (k : ℕ) : Type 0 where
@@ -121,29 +120,13 @@ pub moved_fill : (s : Context) {new : BlockContext} (d : List ℕ) {ys left rest
     → length rest < block_len s.block.algorithm
     → HasMoved (block_len s.block.algorithm) s.block new (pending_bytes s ++ d) left before after
 moved_fill s d {ys = ys} {left = left} k room eys el j short =
-    let n : ℕ = k - s.num_pending in
-    let below : s.num_pending < k = rw room.size s.partial in
-    let block : List ℕ = take k (put_mid s.num_pending n s.pending ys) in
-    let sum : length (take n d) ≡ n = length-take-le n d (omega (arith, room.enough)) in
-    let seam : k ≡ s.num_pending + length ys = omega (arith, ap length eys) in
-    let front : block ≡ pending_bytes s ++ take n d =
-    take-put_mid s.num_pending n s.pending ys k seam room.fits
-    ∙ ap (λ (z : List ℕ). pending_bytes s ++ z) eys in
-    let pending : length (pending_bytes s) ≡ s.num_pending =
-    length-take-le s.num_pending s.pending room.fits in
-    let size : length block ≡ k =
-    ap length front ∙ length-append (pending_bytes s) (take n d) ∙ omega arith in
-    let all : pending_bytes s ++ d ≡ block ++ left =
-    ap (λ (z : List ℕ). pending_bytes s ++ z) (sym (take-append-drop n d))
-    ∙ sym (append_assoc (pending_bytes s) (take n d) (drop n d)) ∙ rw (front, el) refl in
-    moved_one j short (size ∙ room.size) all
+    grind (arith, common_steps, length-take-le, take-put_mid, moved_one)
 
 -- the bytes ahead of an update
 pub ahead_len : (s : Context) (d : List ℕ) → s.num_pending ≤ length s.pending
     → length (pending_bytes s ++ d) ≡ s.num_pending + length d
 ahead_len s d fits =
-    let pending = length-take-le s.num_pending s.pending fits in
-    length-append (pending_bytes s) d ∙ ap (λ (z : ℕ). z + length d) pending
+    grind (arith, common_steps, length-take-le)
 
 -- the context s, which has blocks of k bytes, became n by the bytes d
 module _ {k : ℕ} {left : List ℕ} {before after : Counts} where
@@ -153,16 +136,7 @@ module _ {k : ℕ} {left : List ℕ} {before after : Counts} where
       → (m : List ℕ) → StandsFor s m → StandsFor n (m ++ d)
   unfolding StandsFor
   stands_moved s n d j front m h =
-      let ahead : List ℕ = pending_bytes s ++ d in
-      let size : ℕ = j.blocks * k in
-      record {
-        whole = h.whole ++ take size ahead;
-        taken = j.taken h.whole h.taken;
-        message = ap (λ (v : List ℕ). v ++ d) h.message ∙ append_assoc h.whole (pending_bytes s) d
-            ∙ ap (λ (v : List ℕ). h.whole ++ v) (sym (take-append-drop size ahead))
-            ∙ sym (append_assoc h.whole (take size ahead) (drop size ahead))
-            ∙ ap (λ (v : List ℕ). (h.whole ++ take size ahead) ++ v) (sym j.rest ∙ sym front);
-      }
+      grind (arith, common_steps)
 
   pub pending_moved : (s n : Context) (d : List ℕ)
       → HasMoved k s.block n.block (pending_bytes s ++ d) left before after
@@ -184,9 +158,7 @@ module _ {k : ℕ} {left : List ℕ} {before after : Counts} where
 pub stands_len : (s : Context) (m : List ℕ) → (h : IsJoined s m) → s.num_pending ≤ length s.pending
     → length m ≡ length h.whole + s.num_pending
 stands_len s m h fits =
-    let pending = length-take-le s.num_pending s.pending fits in
-    ap length h.message ∙ length-append h.whole (pending_bytes s)
-    ∙ ap (λ (z : ℕ). length h.whole + z) pending
+    grind (arith, common_steps, length-take-le)
 
 -- the blocks that d bytes more complete
 pub stands_blocks : (s : Context) (m : List ℕ) (d : ℕ) → StandsFor s m

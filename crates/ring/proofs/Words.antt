@@ -1,17 +1,14 @@
 -- Bytes of words: which words they write, and what an exclusive or of words does to them.
-use Rattle.std.proofs.Common.{◌≡◌, ℕ, zero, suc, ◌+◌, ◌*◌, ◌/◌, ◌%◌, ◌^◌, ◌<◌, ◌≤◌, min, List}
-use Rattle.std.proofs.Common.{[], ◌∷◌, ◌++◌, length, map, take, drop, slice_index, refl, sym, ap}
-use Rattle.std.proofs.Common.{◌∙◌, arith, inl, inr, length-append, length-drop, length-take-le}
-use Rattle.std.proofs.Common.{mod-lt, pow_pos, suc-mul, zero-mul}
-use Rattle.std.proofs.lemmas.List.{length-map}
+use Rattle.std.proofs.lemmas.Grind.{common_steps}
+use Rattle.std.proofs.Common.{◌≡◌, ℕ, zero, suc, ◌+◌, ◌*◌, ◌/◌, ◌%◌, ◌^◌, ◌<◌, ◌≤◌, List, [], ◌∷◌}
+use Rattle.std.proofs.Common.{◌++◌, length, map, take, drop, slice_index, refl, sym, ap, ◌∙◌, arith}
+use Rattle.std.proofs.Common.{length-append, length-drop, length-take-le, mod-lt, pow_pos, suc-mul}
+use Rattle.std.proofs.Common.{zero-mul}
+use Rattle.std.proofs.lemmas.List.{length-map, take-append-drop, take_at}
 use Rattle.std.specs.declared.num.Wrapping.{Wrapping}
 use Rattle.std.proofs.lemmas.Bool.{cases_lt}
-use Rattle.std.proofs.lemmas.List.{get_or-take, get_or_append_left}
-use Rattle.std.proofs.lemmas.List.{take-append-drop, take_at}
 use Rattle.std.proofs.lemmas.List.Concat.{flat_map-append}
-use Rattle.std.proofs.lemmas.List.{get_or-drop, get_or_past}
-use Rattle.std.proofs.lemmas.Nat.{be_bytes_4, be_bytes_8}
-use Rattle.std.proofs.lemmas.Nat.{mod-pow-add, pow-add, xor_mod, xor_shr}
+use Rattle.std.proofs.lemmas.Nat.{be_bytes_4, be_bytes_8, mod-pow-add, pow-add, xor_mod, xor_shr}
 use Rattle.std.proofs.Math.Nat.{mod-eq_of_lt, pow-suc}
 use Rattle.std.proofs.Math.Seq.{drop-append-add}
 use Rattle.std.specs.Int.{byte_at, bytes_high_first}
@@ -89,12 +86,7 @@ take-short (suc n) (x ∷ xs) = omega (arith, take-short n xs)
 pub digest_bytes-xor : (a : Algorithm) (ws vs : List ℕ)
     → digest_bytes a (xor_lists ws vs) ≡ xor_lists (digest_bytes a ws) (digest_bytes a vs)
 digest_bytes-xor a ws vs =
-    let n : ℕ = output_len a in
-    let xs : List ℕ = word_bytes (word_len a) ws in
-    let ys : List ℕ = word_bytes (word_len a) vs in
-    let enough : min (length (take n xs)) (length ys) ≤ n = omega (arith, take-short n xs) in
-    ap (take n) (word_bytes-xor (word_len a) ws vs) ∙ take-xor_lists n xs ys
-    ∙ sym (xor_lists-take (take n xs) ys n enough)
+    grind (arith, common_steps, take-short, word_bytes-xor, take-xor_lists, xor_lists-take)
 
 -- the number that its bytes write, after others
 number-bytes : (n x high : ℕ)
@@ -141,19 +133,14 @@ map-below f m (x ∷ xs) some each (suc t) = map-below f m xs some each t
 
 front-below : (m n : ℕ) (xs ys : List ℕ) → n ≤ length xs → AllBelow m xs → AllBelow m ys
     → AllBelow m (take n xs ++ drop n ys)
-front-below m n xs ys room hx hy t = elim (cases_lt t n) [
-  | inl lt ↦
-      let long : t < length (take n xs) = omega (arith, length-take-le n xs room) in
-      rw (get_or_append_left (take n xs) (drop n ys) 0 t long, get_or-take n xs t 0 lt) (hx t)
-  | inr ge ↦ rw (past_front n t xs ys room ge) (hy t)
-]
+front-below m n xs ys room hx hy t =
+    grind (arith, common_steps, cases_lt, length-take-le, past_front)
 
 -- the words of w bits whose bytes these are
 block-words : (w n : ℕ) (ws : List ℕ) (t : ℕ) → w / 8 ≡ n → t < length ws
     → AllBelow (2 ^ (8 * n)) ws → slice_index ws t ≡ word_at w (word_bytes n ws) t
 block-words w n ws t size below fits =
-    rw size
-    (sym (ap big_endian (word_at-bytes n ws t below) ∙ word-number n (slice_index ws t) (fits t)))
+    grind (arith, common_steps, word_at-bytes, word-number)
 
 -- a front of the bytes of words
 take-word_bytes : (n k : ℕ) (ws : List ℕ) → k ≤ length ws
@@ -213,12 +200,8 @@ padded-words {a = a} {w = w} {k = k} {padding = padding} {f} xs t eight each =
     }
 
 part-below : (n k : ℕ) (xs : List ℕ) → AllBelow 256 xs → AllBelow 256 (take n (drop k xs))
-part-below n k xs small t = elim (cases_lt t n) [
-  | inl lt ↦ rw (get_or-take n (drop k xs) t 0 lt, get_or-drop k xs t 0) (small (k + t))
-  | inr ge ↦
-      let past : length (take n (drop k xs)) ≤ t = omega (arith, take-short n (drop k xs)) in
-      rw (get_or_past (take n (drop k xs)) t 0 past) (omega arith)
-]
+part-below n k xs small t =
+    grind (arith, common_steps, cases_lt, take-short)
 
 short_back : (n : ℕ) (bs : List ℕ) → length bs ≡ 4 → AllBelow 256 bs → n ≡ big_endian bs
     → bytes_high_first 4 (n % 2 ^ 32) ≡ bs

@@ -9,6 +9,7 @@ mod sha1_schedule;
 
 use crate::cost::Meter;
 use crate::digest::sha1::sha1_rounds::{BYTES, WORDS, run_loaded};
+use crate::digest::sha1::sha1_schedule::ExtendSchedule;
 use crate::digest::states::{Ring, States};
 use crate::digest::word::in_lanes::InLanes;
 use crate::digest::word::lane_word::Vector;
@@ -24,18 +25,6 @@ pub const CHAINING_LEN: usize = 20;
 // The number of these words.
 const CHAINING_WORDS: usize = 5;
 
-// Runs the block function over one block.
-fn run_block(state: &mut [Word32; 8], block: &[u8])
-    requires { length block.now ≡ 64 }
-    ensures words { take 5 (map word_32 state.new)
-        ≡ block_step (take 5 (map word_32 state.old)) block.now }
-    ensures rest { drop 5 state.new ≡ drop 5 state.old }
-{
-    let mut ring = [0u64; 16];
-    load::<Word32>(&mut ring, block); // step 1, to W(15)
-    run_loaded::<Word32, BYTES>(&mut ring, state);
-}
-
 /// Runs the block function as [`sha1_block_data_order`] does, and counts each block on `meter`.
 pub fn sha1_block_data_order_counted(
     state: &mut [Wrapping<u32>; 8],
@@ -49,7 +38,9 @@ pub fn sha1_block_data_order_counted(
     ensures cost { meter.new ≡ raised meter.old (chunk_total blocks.entry) 0 }
 {
     'each: for i in 0..blocks.len() {
-        run_block(state, &blocks[i]);
+        let mut ring = [0u64; 16];
+        load::<Word32>(&mut ring, &blocks[i]); // step 1, to W(15)
+        run_loaded::<Word32, BYTES>(&mut ring, state);
         meter.add_block();
     }
 }
@@ -64,23 +55,6 @@ pub fn sha1_block_data_order(state: &mut [Wrapping<u32>; 8], blocks: AsChunks<'_
     ensures rest { drop 5 state.new ≡ drop 5 state.old }
 {
     sha1_block_data_order_counted(state, blocks, &mut Meter::new())
-}
-
-// Runs the block function in each lane, over the block of that number.
-fn run_lane_blocks<V: Vector<One = Wrapping<u32>>, const N: usize>(
-    ring: &mut Ring<V>,
-    state: &mut [InLanes<V>; 8],
-    blocks: &[[u8; N]],
-)
-    requires some { 0 < V.LANES }
-    requires lanes { length blocks.now ≡ V.LANES }
-    requires whole { N ≡ 64 }
-    ensures words { (i : ℕ) → i < V.LANES → take 5 (map (λ x. V.lane i x.0) state.new)
-        ≡ block_step (take 5 (map (λ x. V.lane i x.0) state.old)) (get_or blocks.now i []) }
-    ensures rest { drop 5 state.new ≡ drop 5 state.old }
-{
-    load_blocks::<V, N>(ring, blocks); // step 1, to W(15)
-    run_loaded::<InLanes<V>, BYTES>(ring, state);
 }
 
 /// Runs SHA-1's block function in each lane (6.1.2): over the state in lane i of `states` and block
@@ -103,21 +77,32 @@ pub fn sha1_block_data_order_lanes_counted<V: Vector<One = Wrapping<u32>>, const
         ≡ drop 5 (words_of_lane (V.lane i) states.old) }
     ensures cost { meter.new ≡ raised meter.old V.LANES 0 }
 {
-    run_lane_blocks(ring, &mut states.words, blocks);
+    load_blocks::<V, N>(ring, blocks); // step 1, to W(15)
+    run_loaded::<InLanes<V>, BYTES>(ring, &mut states.words);
     meter.add_blocks(V::LANES);
 }
 
 // Runs the block function over the block whose first five words are those of `front`, and whose
-// other words are those of `padding`.
-fn run_words(state: &mut [Word32; 8], front: &[Word32; 8], padding: &[Word32; 16])
-    ensures words { (b : List ℕ)
-        → IsBlockOf 32 5 (map word_32 front.now) (map word_32 padding.now) b
-        → take 5 (map word_32 state.new) ≡ block_step (take 5 (map word_32 state.old)) b }
+// other words are those of `padding`: over one in each lane, and counts as many.
+#[inline(always)]
+fn run_words<S: ExtendSchedule<One = Wrapping<u32>>>(
+    ring: &mut [S::Slot; 16],
+    state: &mut [S; 8],
+    front: &[S; 8],
+    padding: &[Word32; 16],
+    meter: &mut Meter,
+)
+    requires { 0 < S.LANES }
+    ensures words { (i : ℕ) (b : List ℕ)
+        → IsBlockOf 32 5 (map (S.lane i) front.now) (map word_32 padding.now) b
+        → take 5 (map (S.lane i) state.new) ≡ block_step (take 5 (map (S.lane i) state.old)) b }
     ensures rest { drop 5 state.new ≡ drop 5 state.old }
+    ensures cost { meter.new ≡ raised meter.old S.LANES 0 }
+    ensures eight { length front.now ≡ 8 }
 {
-    let mut ring = [0u64; 16];
-    load_words::<Word32, CHAINING_WORDS>(&mut ring, front, padding); // step 1, to W(15)
-    run_loaded::<Word32, WORDS>(&mut ring, state);
+    load_words::<S, CHAINING_WORDS>(ring, front, padding); // step 1, to W(15)
+    run_loaded::<S, WORDS>(ring, state);
+    meter.add_blocks(S::LANES);
 }
 
 /// Runs SHA-1's block function over one block that is given as words (6.1.2): the first five words
@@ -138,27 +123,7 @@ pub fn sha1_block_of_words_counted(
     ensures rest { drop 5 state.new ≡ drop 5 state.old }
     ensures cost { meter.new ≡ raised meter.old 1 0 }
 {
-    run_words(state, front, padding);
-    meter.add_block();
-}
-
-// The same in each lane, with the same `padding`.
-fn run_lane_words<V: Vector<One = Wrapping<u32>>>(
-    ring: &mut Ring<V>,
-    state: &mut [InLanes<V>; 8],
-    front: &[InLanes<V>; 8],
-    padding: &[Word32; 16],
-)
-    requires { 0 < V.LANES }
-    ensures words { (i : ℕ) (b : List ℕ)
-        → IsBlockOf 32 5 (map (λ x. V.lane i x.0) front.now) (map word_32 padding.now) b
-        → take 5 (map (λ x. V.lane i x.0) state.new)
-        ≡ block_step (take 5 (map (λ x. V.lane i x.0) state.old)) b }
-    ensures rest { drop 5 state.new ≡ drop 5 state.old }
-    ensures eight { length front.now ≡ 8 }
-{
-    load_words::<InLanes<V>, CHAINING_WORDS>(ring, front, padding); // step 1, to W(15)
-    run_loaded::<InLanes<V>, WORDS>(ring, state);
+    run_words::<Word32>(&mut [0u64; 16], state, front, padding, meter)
 }
 
 /// Runs SHA-1's block function in each lane, over one block that is given as words (6.1.2): the
@@ -184,6 +149,5 @@ pub fn sha1_block_of_words_lanes_counted<V: Vector<One = Wrapping<u32>>>(
     ensures cost { meter.new ≡ raised meter.old V.LANES 0 }
     ensures eight { (i : ℕ) → length (words_of_lane (V.lane i) fronts.now) ≡ 8 }
 {
-    run_lane_words(ring, &mut states.words, &fronts.words, padding);
-    meter.add_blocks(V::LANES);
+    run_words::<InLanes<V>>(ring, &mut states.words, &fronts.words, padding, meter)
 }

@@ -1,6 +1,6 @@
 //! The block functions of SHA-2 (FIPS 180-4, 6.2.2 and 6.4.2), written once for both word sizes.
 //! The schedule's step alone has a form for each.
-ghost use Rattle.std.specs.Prelude.{◌≡◌, ℕ, ◌*◌, ◌/◌, ◌<◌, ◌≤◌};
+ghost use Rattle.std.specs.Prelude.{◌≡◌, ℕ, ◌<◌, ◌≤◌};
 ghost use Rattle.std.specs.Prelude.{List, [], get_or, length, map};
 ghost use Rattle.ring_core.specs.Prelude.{IsBlockOf, block_len, block_step, blocks_from};
 ghost use Rattle.ring_core.specs.Prelude.{chunk_items, chunk_total, family_256, family_512, raised};
@@ -26,18 +26,6 @@ use crate::digest::word_ring::{load, load_blocks, load_words};
 use crate::polyfill::slice::AsChunks;
 use std::num::Wrapping;
 
-// Runs the block function over one block. `ring` is room for the words of the schedule.
-#[inline(always)]
-fn run_block<S: ExtendSchedule>(ring: &mut [S::Slot; 16], state: &mut [S; 8], block: &[u8])
-    requires some { 0 < S.LANES }
-    requires whole { length block.now ≡ 16 * (S.One.bits / 8) }
-    ensures { (i : ℕ) → map (S.lane i) state.new
-        ≡ block_step S.One.family (map (S.lane i) state.old) block.now }
-{
-    load::<S>(ring, block); // step 1, to W(15)
-    run_loaded::<S, BYTES>(ring, state);
-}
-
 // Runs the block function over each block in order. `ring` is room for the words of a schedule.
 fn run_blocks<S: ExtendSchedule, const N: usize>(
     ring: &mut [S::Slot; 16],
@@ -53,7 +41,8 @@ fn run_blocks<S: ExtendSchedule, const N: usize>(
     ensures cost { meter.new ≡ raised meter.old (chunk_total blocks.entry) 0 }
 {
     'each: for i in 0..blocks.len() {
-        run_block(ring, state, &blocks[i]);
+        load::<S>(ring, &blocks[i]); // step 1, to W(15)
+        run_loaded::<S, BYTES>(ring, state);
         meter.add_block();
     }
 }
@@ -112,22 +101,6 @@ pub fn block_data_order_64(state: &mut State64, blocks: AsChunks<'_, u8, 128>)
     block_data_order_64_counted(state, blocks, &mut Meter::new())
 }
 
-// Runs the block function in each lane, over the block of that number.
-fn run_lane_blocks<V: Vector, const N: usize>(
-    ring: &mut Ring<V>,
-    state: &mut [InLanes<V>; 8],
-    blocks: &[[u8; N]],
-)
-    requires some { 0 < V.LANES }
-    requires lanes { length blocks.now ≡ V.LANES }
-    requires whole { N ≡ block_len V.One.family }
-    ensures { (i : ℕ) → i < V.LANES → map (λ x. V.lane i x.0) state.new
-        ≡ block_step V.One.family (map (λ x. V.lane i x.0) state.old) (get_or blocks.now i []) }
-{
-    load_blocks::<V, N>(ring, blocks); // step 1, to W(15)
-    run_loaded::<InLanes<V>, BYTES>(ring, state);
-}
-
 /// Runs SHA-256's or SHA-512's block function in each lane (6.2.2, 6.4.2): over the state in lane i
 /// of `states`, which is replaced, and block i of `blocks`, of 64 bytes where words have 32 bits
 /// and of 128 where they have 64. `ring` is room for a schedule. The blocks are counted on `meter`,
@@ -145,31 +118,14 @@ pub fn block_data_order_lanes_counted<V: Vector, const N: usize>(
         ≡ block_step V.One.family (words_of_lane (V.lane i) states.old) (get_or blocks.now i []) }
     ensures cost { meter.new ≡ raised meter.old V.LANES 0 }
 {
-    run_lane_blocks(ring, &mut states.words, blocks);
+    load_blocks::<V, N>(ring, blocks); // step 1, to W(15)
+    run_loaded::<InLanes<V>, BYTES>(ring, &mut states.words);
     meter.add_blocks(V::LANES);
 }
 
 // Runs the block function over the block whose first `N` words are those of `front`, and whose
-// other words are those of `padding`.
-#[inline(always)]
+// other words are those of `padding`: over one in each lane, and counts as many.
 fn run_words<S: ExtendSchedule, const N: usize>(
-    ring: &mut [S::Slot; 16],
-    state: &mut [S; 8],
-    front: &[S; 8],
-    padding: &[S::One; 16],
-)
-    requires some { 0 < S.LANES }
-    requires front { N ≤ 8 }
-    ensures { (i : ℕ) (b : List ℕ)
-        → IsBlockOf S.One.bits N (map (S.lane i) front.now) (map S.One.value padding.now) b
-        → map (S.lane i) state.new ≡ block_step S.One.family (map (S.lane i) state.old) b }
-{
-    load_words::<S, N>(ring, front, padding); // step 1, to W(15)
-    run_loaded::<S, N>(ring, state);
-}
-
-// The same, and counts the block.
-fn run_counted_words<S: ExtendSchedule, const N: usize>(
     ring: &mut [S::Slot; 16],
     state: &mut [S; 8],
     front: &[S; 8],
@@ -181,10 +137,12 @@ fn run_counted_words<S: ExtendSchedule, const N: usize>(
     ensures words { (i : ℕ) (b : List ℕ)
         → IsBlockOf S.One.bits N (map (S.lane i) front.now) (map S.One.value padding.now) b
         → map (S.lane i) state.new ≡ block_step S.One.family (map (S.lane i) state.old) b }
-    ensures cost { meter.new ≡ raised meter.old 1 0 }
+    ensures cost { meter.new ≡ raised meter.old S.LANES 0 }
+    ensures eight { (length state.old ≡ 8) × (length front.now ≡ 8) }
 {
-    run_words::<S, N>(ring, state, front, padding);
-    meter.add_block();
+    load_words::<S, N>(ring, front, padding); // step 1, to W(15)
+    run_loaded::<S, N>(ring, state);
+    meter.add_blocks(S::LANES);
 }
 
 /// Runs SHA-256's block function over one block that is given as words, and replaces the chaining
@@ -200,7 +158,7 @@ pub fn block_of_words_32_counted(
         → words_32 state.new ≡ block_step family_256 (words_32 state.old) b }
     ensures cost { meter.new ≡ raised meter.old 1 0 }
 {
-    run_counted_words::<Wrapping<u32>, 8>(&mut [0u64; 16], state, front, padding, meter)
+    run_words::<Wrapping<u32>, 8>(&mut [0u64; 16], state, front, padding, meter)
 }
 
 /// Runs SHA-512's block function, which SHA-384 and SHA-512/256 share, over one block that is given
@@ -217,27 +175,7 @@ pub fn block_of_words_64_counted<const N: usize>(
         → words_64 state.new ≡ block_step family_512 (words_64 state.old) b }
     ensures cost { meter.new ≡ raised meter.old 1 0 }
 {
-    run_counted_words::<Wrapping<u64>, N>(&mut [Wrapping(0u64); 16], state, front, padding, meter)
-}
-
-// Runs the block function over a block in each lane, with the same `padding`.
-fn run_lane_words<V: Vector, const N: usize>(
-    ring: &mut Ring<V>,
-    state: &mut [InLanes<V>; 8],
-    front: &[InLanes<V>; 8],
-    padding: &[V::One; 16],
-)
-    requires some { 0 < V.LANES }
-    requires front { N ≤ 8 }
-    ensures words { (i : ℕ) (b : List ℕ)
-        → IsBlockOf V.One.bits N (map (λ x. V.lane i x.0) front.now)
-        (map V.One.value padding.now) b
-        → map (λ x. V.lane i x.0) state.new
-        ≡ block_step V.One.family (map (λ x. V.lane i x.0) state.old) b }
-    ensures eight { (length state.old ≡ 8) × (length front.now ≡ 8) }
-{
-    load_words::<InLanes<V>, N>(ring, front, padding); // step 1, to W(15)
-    run_loaded::<InLanes<V>, N>(ring, state);
+    run_words::<Wrapping<u64>, N>(&mut [Wrapping(0u64); 16], state, front, padding, meter)
 }
 
 /// Runs SHA-256's or SHA-512's block function in each lane, over one block that is given as words
@@ -262,6 +200,5 @@ pub fn block_of_words_lanes_counted<V: Vector, const N: usize>(
     ensures eight { (i : ℕ) → (length (words_of_lane (V.lane i) states.old) ≡ 8)
         × (length (words_of_lane (V.lane i) fronts.now) ≡ 8) }
 {
-    run_lane_words::<V, N>(ring, &mut states.words, &fronts.words, padding);
-    meter.add_blocks(V::LANES);
+    run_words::<InLanes<V>, N>(ring, &mut states.words, &fronts.words, padding, meter)
 }

@@ -14,7 +14,11 @@ each-preserved g c =
     let blocks = c.args.blocks.items.now in record {
       words =
           λ i. let h = map (g.S.LaneWord.lane i) c.args.state.now in
-          rw (c.run_block.ensures i, c.each.invariant.words i, c.index.ensures, c.requires.whole)
-          (sym (fold_chunks-next (block_step family) (block_len family) h blocks c.each.i));
+          rw (
+            c.run_loaded.ensures i _ (c.load.ensures i),
+            c.each.invariant.words i,
+            c.index.ensures,
+            c.requires.whole,
+          ) (sym (fold_chunks-next (block_step family) (block_len family) h blocks c.each.i));
       cost = rw (c.add_block.ensures, c.each.invariant.cost, raised-raised) refl;
     }

@@ -1,6 +1,6 @@
 use Rattle.std.proofs.Common.{[]}
 use Rattle.std.proofs.Math.ListN.{get_or}
-use Rattle.ring_core.proofs.digest.sha1.run_lane_blocks.Goals as goal
+use Rattle.ring_core.proofs.digest.sha1.sha1_block_data_order_lanes_counted.Goals as goal
 
 pub returns-clause-words : goal.returns-clause-words
 returns-clause-words g c = λ i below.

@@ -1,7 +1,0 @@
-use Rattle.std.proofs.Common.{[]}
-use Rattle.std.proofs.Math.ListN.{get_or}
-use Rattle.ring_core.proofs.digest.sha2.run_lane_blocks.Goals as goal
-
-pub returns : goal.returns
-returns g c = λ i below.
-    c.run_loaded.ensures i (get_or c.args.blocks.now i []) (c.load_blocks.ensures i below)

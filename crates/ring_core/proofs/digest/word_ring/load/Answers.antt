@@ -1,10 +1,7 @@
-use Rattle.std.proofs.Common.{arith, rules}
+use Rattle.std.proofs.Common.{arith}
 use Rattle.ring_core.specs.Prelude.{word_at}
-use Rattle.ring_core.proofs.Schedule.{ring-empty, ring-set}
+use Rattle.ring_core.proofs.Schedule.{ring-set}
 use Rattle.ring_core.proofs.digest.word_ring.load.Goals as goal
-
-pub words-init : goal.words-init
-words-init g c = λ i. ring-empty (g.S.Slots.slot_lane i) c.args.ring.now (search rules)
 
 pub words-preserved : goal.words-preserved
 words-preserved g c = λ i.

@@ -1,12 +1,8 @@
-use Rattle.std.proofs.Common.{◌≡◌, [], arith, rules}
+use Rattle.std.proofs.Common.{◌≡◌, [], arith}
 use Rattle.std.proofs.Math.ListN.{get_or}
 use Rattle.ring_core.specs.Prelude.{InLanes, word_at}
-use Rattle.ring_core.proofs.Schedule.{ring-empty, ring-set}
+use Rattle.ring_core.proofs.Schedule.{ring-set}
 use Rattle.ring_core.proofs.digest.word_ring.load_blocks.Goals as goal
-
-pub words-init : goal.words-init
-words-init g c = λ i below.
-    ring-empty (λ x. g.V.LaneWord.lane i x.0) c.args.ring.now (search rules)
 
 pub words-preserved : goal.words-preserved
 words-preserved g c = λ i below.

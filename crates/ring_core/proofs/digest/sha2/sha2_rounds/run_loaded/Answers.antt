@@ -2,12 +2,6 @@ use Rattle.std.proofs.Common.{◌≡◌, ◌*◌, map, sym, ◌∙◌, arith}
 use Rattle.ring_core.proofs.Sha2Steps.{block_step-rounds, ring-loaded, rounds-turns}
 use Rattle.ring_core.proofs.digest.sha2.sha2_rounds.run_loaded.Goals as goal
 
-pub later-init : goal.later-init
-later-init g c = λ i b ready. record {
-  words = ready;
-  variables = c.first_turn-variables.ensures i b ready;
-}
-
 pub later-preserved : goal.later-preserved
 later-preserved g c = λ i b ready.
     let h = map (g.S.LaneWord.lane i) c.args.state.now in

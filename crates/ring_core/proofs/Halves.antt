@@ -1,6 +1,6 @@
 -- Numbers of 64 bits as halves of 32, by their bytes.
 use Rattle.std.proofs.Common.{◌≡◌, ℕ, zero, suc, ◌+◌, ◌*◌, ◌/◌, ◌%◌, ◌^◌, ◌<◌, List, [], ◌∷◌}
-use Rattle.std.proofs.Common.{length, slice_index, map, refl, sym, ap, ◌∙◌, arith}
+use Rattle.std.proofs.Common.{length, map, sym, ap, ◌∙◌, arith}
 use Rattle.std.proofs.Math.Nat.{mod-eq_of_lt, mod-one, pow-suc, one-le-pow}
 use Rattle.std.proofs.lemmas.Nat.{xor_mod}
 use Rattle.std.specs.Simd.Lanes.{number_l, digits_l, zip2}
@@ -38,28 +38,6 @@ pub low-second : (a b : ℕ) → a < 2 ^ 64
     → (a + 2 ^ 64 * b) / 2 ^ 32 / 2 ^ 32 % 2 ^ 32 ≡ b % 2 ^ 32
 low-second a b fits = omega arith
 
--- two slots whose words are known
-pub record TwoSlots (x : List ℕ) (a b : ℕ) : Type 0 where
-  pub first : ℕ
-  pub second : ℕ
-  pub are : x ≡ first ∷ second ∷ []
-  pub first_is : low_32 first ≡ a
-  pub second_is : low_32 second ≡ b
-
--- what is known of two slots by their words
-pub two_slots : (x : List ℕ) {a b : ℕ} → map low_32 x ≡ a ∷ b ∷ [] → TwoSlots x a b
-two_slots (x ∷ y ∷ []) e =
-    record {
-      first = x;
-      second = y;
-      are = refl;
-      first_is = ap (λ (l : List ℕ). slice_index l 0) e;
-      second_is = ap (λ (l : List ℕ). slice_index l 1) e;
-    }
-two_slots [] e = absurd (omega (arith, ap length e))
-two_slots (x ∷ []) e = absurd (omega (arith, ap length e))
-two_slots (x ∷ y ∷ z ∷ r) e = absurd (omega (arith, ap length e))
-
 -- two slots added
 abbrev plus : ℕ → ℕ → ℕ
 plus x y = (x + y) % 2 ^ 64
@@ -79,17 +57,10 @@ pub sums_low : (p q r s : List ℕ) {a a' b b' c c' d d' : ℕ}
     → map low_32 r ≡ c ∷ c' ∷ [] → map low_32 s ≡ d ∷ d' ∷ []
     → map low_32 (zip2 plus p (zip2 plus q (zip2 plus r s)))
     ≡ sum a b c d ∷ sum a' b' c' d' ∷ []
-sums_low p q r s ps qs rs ss =
-    let P = two_slots p ps in
-    let Q = two_slots q qs in
-    let R = two_slots r rs in
-    let S = two_slots s ss in
-    let first = sum_low P.first Q.first R.first S.first in
-    let second = sum_low P.second Q.second R.second S.second in
-    (λ i. map low_32 (zip2 plus (P.are i) (zip2 plus (Q.are i) (zip2 plus (R.are i) (S.are i)))))
-    ∙ (λ i. first i ∷ second i ∷ [])
-    ∙ (λ i. sum (P.first_is i) (Q.first_is i) (R.first_is i) (S.first_is i)
-    ∷ sum (P.second_is i) (Q.second_is i) (R.second_is i) (S.second_is i) ∷ [])
+sums_low (p ∷ p' ∷ []) (q ∷ q' ∷ []) (r ∷ r' ∷ []) (s ∷ s' ∷ []) ps qs rs ss =
+    cc (sum_low p q r s, sum_low p' q' r' s')
+sums_low _ _ _ _ ps qs rs ss =
+    absurd (omega (arith, ap length ps, ap length qs, ap length rs, ap length ss))
 
 -- the word of an exclusive or of four slots
 pub xors_low : (a b c d : ℕ)

@@ -169,3 +169,5 @@ doubled-three w a b s x ab bw fits =
     xor_mod turned (down * 2 ^ w + down) w
     ∙ ap (λ (m : ℕ). m ⊕ (down * 2 ^ w + down) % 2 ^ w) (doubled-two w a b x ab bw fits)
     ∙ ap (λ (m : ℕ). rotr w a x ⊕ rotr w b x ⊕ m) low
+
+pub ruleset rotations = (rotate_right-rotr)

@@ -36,12 +36,7 @@ pub W-next_two : (b : List ℕ) (t : ℕ) → 16 ≤ t
     × (scheduled (W b (t - 3 + 1)) (W b (t - 8 + 1)) (W b (t - 14 + 1)) (W b (t - 16 + 1))
     ≡ W b (t + 1))
 W-next_two b t h =
-    let three : t - 3 + 1 ≡ t + 1 - 3 = omega arith in
-    let eight : t - 8 + 1 ≡ t + 1 - 8 = omega arith in
-    let fourteen : t - 14 + 1 ≡ t + 1 - 14 = omega arith in
-    let sixteen : t - 16 + 1 ≡ t + 1 - 16 = omega arith in
-    let next = W-next b (t + 1) (omega arith) in
-    (sym (W-next b t h), rw (three, eight, fourteen, sixteen) (sym next))
+    (sym (W-next b t h), sym (grind (arith, W-next b (t + 1) (omega arith))))
 
 pub rounds-next : (h b : List ℕ) (t : ℕ)
     → rounds_from h b (t + 1) ≡ round (rounds_from h b t) t (W b t)

@@ -57,3 +57,5 @@ majority-short x y z =
       xor_assoc y (bit_and x y) (bit_and x z ⊕ bit_and y z),
       xor-cancel,
     ) (sym (xor_assoc (bit_and x y) (bit_and x z) (bit_and y z)))
+
+pub ruleset short_forms = (majority-short)

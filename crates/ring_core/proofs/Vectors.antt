@@ -100,6 +100,9 @@ pub at_set_other : (w lanes i n : ℕ) (x : List ℕ) (k : ℕ) → k < lanes �
 at_set_other w lanes i n x k below other =
     rw (mod-eq_of_lt below) (ap (λ y. y % 2 ^ w) (get_or-set_other x i k n 0 other))
 
+-- a number below that of the lanes is a lane's
+pub ruleset lane_numbers = (mod-eq_of_lt)
+
 -- the numbers of eight words, one by one
 pub eight_read : {X : Type 0} (f : X → ℕ) (xs : List X) → length xs ≡ 8
     → let l = map f xs in slice_index l 0 ∷ slice_index l 1 ∷ slice_index l 2 ∷ slice_index l 3

@@ -16,6 +16,7 @@ pub(crate) fn choose_word<W: LaneWord>(x: W, y: W, z: W) -> W
 // Maj(x, y, z), in four operations instead of the standard's five: `x ⊕ y` of a round is `y ⊕ z` of
 // the next
 #[inline(always)]
+#[tactic(auto, using(crate::proofs::ShortForms::short_forms))]
 pub(crate) fn majority_word<W: LaneWord>(x: W, y: W, z: W) -> W
     ensures { (i : ℕ) → W.lane i result
         ≡ majority (W.lane i x) (W.lane i y) (W.lane i z) }

@@ -49,6 +49,7 @@ impl<const L: usize> LaneWord for Simd<u32, L> {
 /// Its numbers are the words of 32 bits.
 impl<const L: usize> Vector for Simd<u32, L> {
     #[inline(always)]
+    #[tactic(auto, using(crate::proofs::Vectors::lane_numbers))]
     fn word(self, i: usize) -> Wrapping<u32> {
         Wrapping(self.to_array()[i])
     }
@@ -107,6 +108,7 @@ impl<const L: usize> LaneWord for Simd<u64, L> {
 /// Its numbers are the words of 64 bits.
 impl<const L: usize> Vector for Simd<u64, L> {
     #[inline(always)]
+    #[tactic(auto, using(crate::proofs::Vectors::lane_numbers))]
     fn word(self, i: usize) -> Wrapping<u64> {
         Wrapping(self.to_array()[i])
     }

@@ -13,6 +13,7 @@ use std::simd::{Simd, u64x2};
 // not of numbers inside a struct.
 
 // ROTR (3.2, item 4)
+#[tactic(auto, using(crate::proofs::Rotation::rotations))]
 fn rotate(word: u64, count: u32) -> u64
     requires positive { 1 ≤ count }
     requires below { count < 64 }

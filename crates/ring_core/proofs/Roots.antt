@@ -2,7 +2,8 @@
 use Rattle.std.proofs.Common.{◌≡◌, ℕ, zero, suc, ◌+◌, ◌*◌, ◌^◌, ◌<◌, ◌&&◌, nat_le, nat_lt, Bool}
 use Rattle.std.proofs.Common.{true, false, if◌then◌else◌, List, [], ◌∷◌, length, slice_index, refl}
 use Rattle.std.proofs.Common.{arith, rules}
-use Rattle.std.proofs.lemmas.Bool.{and_parts, leb-true, ltb-true}
+use Rattle.std.proofs.lemmas.Bool.{and_parts}
+use Rattle.std.proofs.lemmas.Bool.Decides.{nat_tests}
 use Rattle.ring_core.specs.Prelude.{IsRootFraction, first_primes}
 
 -- the whole part of the root of order e of p, where it is at most n
@@ -25,16 +26,12 @@ table_test e w [] (k ∷ ks) = false
 table_test e w (p ∷ ps) (k ∷ ks) = fraction_test e w p (whole_root e p p) k && table_test e w ps ks
 
 tested : (e w p r k : ℕ) → fraction_test e w p r k ≡ true → IsRootFraction e w p k
-tested e w p r k passes =
-    let bits = nat_lt k (2 ^ w) in
-    let low = nat_le ((r * 2 ^ w + k) ^ e) (p * 2 ^ (e * w)) in
-    let high = nat_lt (p * 2 ^ (e * w)) ((r * 2 ^ w + k + 1) ^ e) in
-    let bounds = and_parts low high (and_parts bits (low && high) passes).1 in record {
-      whole = r;
-      fraction = ltb-true k (2 ^ w) (and_parts bits (low && high) passes).0;
-      at_most = leb-true _ _ bounds.0;
-      above = ltb-true _ _ bounds.1;
-    }
+tested e w p r k passes = record {
+  whole = r;
+  fraction = grind (arith, nat_tests, passes);
+  at_most = grind (arith, nat_tests, passes);
+  above = grind (arith, nat_tests, passes);
+}
 
 pub fraction_at : (e w : ℕ) (ps ks : List ℕ) (t : ℕ) → table_test e w ps ks ≡ true → t < length ks
     → IsRootFraction e w (slice_index ps t) (slice_index ks t)

@@ -39,12 +39,7 @@ pub W-next_two : (f : Family) (b : List ℕ) (t : ℕ) → 16 ≤ t
     × (scheduled f (W f b (t - 2 + 1)) (W f b (t - 7 + 1)) (W f b (t - 15 + 1))
     (W f b (t - 16 + 1)) ≡ W f b (t + 1))
 W-next_two f b t h =
-    let two : t - 2 + 1 ≡ t + 1 - 2 = omega arith in
-    let seven : t - 7 + 1 ≡ t + 1 - 7 = omega arith in
-    let fifteen : t - 15 + 1 ≡ t + 1 - 15 = omega arith in
-    let sixteen : t - 16 + 1 ≡ t + 1 - 16 = omega arith in
-    let next = W-next f b (t + 1) (omega arith) in
-    (sym (W-next f b t h), rw (two, seven, fifteen, sixteen) (sym next))
+    (sym (W-next f b t h), sym (grind (arith, W-next f b (t + 1) (omega arith))))
 
 pub rounds-next : (f : Family) (h b : List ℕ) (t : ℕ)
     → rounds_from f h b (t + 1)

@@ -17,7 +17,4 @@ returns g c = λ i h b n ready below near before.
     let second = c.round-2.ensures i (w (t + 1))
     (rw (sums.second i, c.repeated-next_constant.ensures i, k_next, words.1, bits) refl) in
     let next = rounds-next h b in
-    let both : map (g.S.LaneWord.lane i) c.round-2.result ≡ rounds_from h b (t + 1 + 1) =
-    rw (second, first, before, ← next t) (sym (next (t + 1))) in
-    let e : t + 1 + 1 ≡ t + 2 = omega arith in
-    rw e at both
+    grind (arith, second, first, before, next t, next (t + 1))

@@ -16,7 +16,4 @@ returns g c = λ i h b n t ready at below near before.
     let second = c.round-2.ensures i (k (t + 1)) (w (t + 1))
     (rw (sums.second i, c.splat-next_constant.ensures i, c.k-2.ensures, words.1, at) refl) in
     let next = rounds-next family h b in
-    let both : map (g.S.LaneWord.lane i) c.round-2.result ≡ rounds_from family h b (t + 1 + 1) =
-    rw (second, first, before, ← next t) (sym (next (t + 1))) in
-    let e : t + 1 + 1 ≡ t + 2 = omega arith in
-    rw e at both
+    grind (arith, second, first, before, next t, next (t + 1))

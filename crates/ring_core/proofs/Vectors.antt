@@ -5,7 +5,8 @@ use Rattle.std.proofs.Common.{length, slice_index, map, bit_or, refl, sym, arith
 use Rattle.std.proofs.lemmas.List.{get_or-set_other, get_or-set_same}
 use Rattle.std.proofs.lemmas.Nat.{shr_le}
 use Rattle.std.proofs.Math.Facts.{Fits-lt-pow}
-use Rattle.std.proofs.Math.ListN.{replicate}
+use Rattle.std.proofs.lemmas.Simd.{zip2_of_maps, zip2_splat}
+use Rattle.std.proofs.Math.ListN.{get_or-map, replicate}
 use Rattle.std.proofs.Math.Nat.{div-le_self, mod-eq_of_lt}
 use Rattle.std.specs.Int.{Width}
 use Rattle.std.specs.Simd.Lanes.{Each1, zip2}
@@ -22,15 +23,10 @@ at_zip f (x ∷ xs) (y ∷ ys) none same (suc k) = at_zip f xs ys none (omega (a
 at_zip f [] (y ∷ ys) none same k = absurd (omega (arith, same))
 at_zip f (x ∷ xs) [] none same k = absurd (omega (arith, same))
 
--- an operation on a vector and the same number in each lane
-pub at_zip_splat : (f : ℕ → ℕ → ℕ) (x : List ℕ) (lanes n : ℕ) → f 0 n ≡ 0 → length x ≡ lanes
-    → (k : ℕ) → slice_index (zip2 f x (replicate lanes n)) k ≡ f (slice_index x k) n
-at_zip_splat f [] zero n none same k = sym none
-at_zip_splat f (x ∷ xs) (suc lanes) n none same zero = refl
-at_zip_splat f (x ∷ xs) (suc lanes) n none same (suc k) =
-    at_zip_splat f xs lanes n none (omega (arith, same)) k
-at_zip_splat f [] (suc lanes) n none same k = absurd (omega (arith, same))
-at_zip_splat f (x ∷ xs) zero n none same k = absurd (omega (arith, same))
+-- what is computed of each number of a vector, at any place: past its end both are 0
+at_map : (f : ℕ → ℕ) (x : List ℕ) → f 0 ≡ 0 → (k : ℕ)
+    → slice_index (map f x) k ≡ f (slice_index x k)
+at_map f x none k = rw none at (get_or-map f x k 0)
 
 -- each number of a vector fits its type, and so does what is read past its end
 pub at_fits : (w : Width) (x : List ℕ) → Each1 (Fits w) x → (k : ℕ) → slice_index x k < 2 ^ bits w
@@ -56,21 +52,20 @@ pub at_shr : (w : Width) (lanes n : ℕ) (x : List ℕ) → (length x ≡ lanes)
 at_shr w lanes n x known k =
     let fits = at_fits w x known.1 k in
     rw (
-      at_zip_splat (λ a b. a / 2 ^ b) x lanes n (shr-zero n) known.0 k,
+      zip2_splat (λ a b. a / 2 ^ b) x lanes n known.0,
+      at_map (λ a. a / 2 ^ n) x (shr-zero n) k,
       mod-eq_of_lt fits,
     ) (mod-eq_of_lt (omega (arith, fits, shr_le (slice_index x k) n)))
 
 at_or_of_shifts : (w lanes n : ℕ) (x : List ℕ) → length x ≡ lanes → (k : ℕ)
     → slice_index (zip2 bit_or (shifted_right lanes n x) (shifted_left w lanes (w - n) x)) k
     ≡ or_of_shifts w (slice_index x k) n
-at_or_of_shifts w zero n [] same k =
+at_or_of_shifts w lanes n x same k =
     let none : 0 * 2 ^ (w - n) ≡ 0 = omega arith in
-    rw (shr-zero n, none) (sym (mod-eq_of_lt (pow_pos w)))
-at_or_of_shifts w (suc lanes) n (x ∷ xs) same zero = refl
-at_or_of_shifts w (suc lanes) n (x ∷ xs) same (suc k) =
-    at_or_of_shifts w lanes n xs (omega (arith, same)) k
-at_or_of_shifts w (suc lanes) n [] same k = absurd (omega (arith, same))
-at_or_of_shifts w zero n (x ∷ xs) same k = absurd (omega (arith, same))
+    let zero : or_of_shifts w 0 n ≡ 0 = rw (shr-zero n, none) (mod-eq_of_lt (pow_pos w)) in
+    let right = zip2_splat (λ a b. a / 2 ^ b) x lanes n same in
+    let left = zip2_splat (λ a b. a * 2 ^ b % 2 ^ w) x lanes (w - n) same in
+    rw (zip2_of_maps bit_or _ _ x right left) (at_map (λ a. or_of_shifts w a n) x zero k)
 
 -- a vector rotated right
 pub at_rotr : (w : Width) (lanes n : ℕ) (x : List ℕ) → n ≤ bits w

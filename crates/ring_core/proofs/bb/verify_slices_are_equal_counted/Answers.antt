@@ -1,4 +1,4 @@
-use Rattle.std.proofs.Common.{◌≡◌, ℕ, ◌+◌, List, length, take, slice_index_or, refl, sym, ap, ◌∙◌}
+use Rattle.std.proofs.Common.{◌≡◌, ℕ, ◌+◌, List, length, take, slice_index_or, refl}
 use Rattle.std.proofs.Common.{arith}
 use Rattle.std.proofs.lemmas.List.{take-take, get_or-take, take_more_same}
 use Rattle.ring_core.proofs.Bytes.{none_differs}
@@ -9,9 +9,8 @@ use Rattle.ring_core.proofs.bb.verify_slices_are_equal_counted.Goals as goal
 fronts_before : (a b : List ℕ) (i : ℕ) → take (i + 1) a ≡ take (i + 1) b
     → (take i a ≡ take i b) × (slice_index_or a i 0 ≡ slice_index_or b i 0)
 fronts_before a b i e = (
-  sym (take-take i (i + 1) a (omega arith)) ∙ ap (take i) e ∙ take-take i (i + 1) b (omega arith),
-  sym (get_or-take (i + 1) a i 0 (omega arith)) ∙ ap (λ (z : List ℕ). slice_index_or z i 0) e
-      ∙ get_or-take (i + 1) b i 0 (omega arith),
+  cc (take-take i (i + 1) a (omega arith), take-take i (i + 1) b (omega arith)),
+  cc (get_or-take (i + 1) a i 0 (omega arith), get_or-take (i + 1) b i 0 (omega arith)),
 )
 
 pub returns-then-a-b-clause-cost : goal.returns-then-a-b-clause-cost

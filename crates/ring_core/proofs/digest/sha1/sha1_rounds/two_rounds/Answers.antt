@@ -1,5 +1,5 @@
-use Rattle.std.proofs.Common.{◌≡◌, ◌+◌, map, refl, sym, arith}
-use Rattle.ring_core.specs.Sha1.{W, rounds_from}
+use Rattle.std.proofs.Common.{◌+◌, refl, arith}
+use Rattle.ring_core.specs.Sha1.{W}
 use Rattle.ring_core.proofs.Sha1Steps.{rounds-next}
 use Rattle.ring_core.proofs.digest.sha1.sha1_rounds.two_rounds.Goals as goal
 

@@ -1,4 +1,4 @@
-use Rattle.std.proofs.Common.{◌≡◌, length, rules}
+use Rattle.std.proofs.Common.{◌≡◌, arith, length, rules}
 use Rattle.ring_core.proofs.Mapped.{value_read}
 use Rattle.ring_core.proofs.digest.sha2.sha2_rounds.add_state.Goals as goal
 
@@ -7,13 +7,4 @@ returns g c = λ i.
     let f = g.S.LaneWord.lane i in
     let chaining : length c.args.state.now ≡ 8 = search rules in
     let variables : length c.args.v.now ≡ 8 = search rules in
-    rw (
-      c.plus.ensures i,
-      c.plus-2.ensures i,
-      c.plus-3.ensures i,
-      c.plus-4.ensures i,
-      c.plus-5.ensures i,
-      c.plus-6.ensures i,
-      c.plus-7.ensures i,
-      c.plus-8.ensures i,
-    ) (simp (value_read f c.args.state.now 8 chaining, value_read f c.args.v.now 8 variables))
+    grind (arith, value_read f c.args.state.now 8 chaining, value_read f c.args.v.now 8 variables)

@@ -1,5 +1,5 @@
-use Rattle.std.proofs.Common.{◌≡◌, ◌+◌, slice_index, map, refl, sym, arith}
-use Rattle.ring_core.specs.Prelude.{W, rounds_from}
+use Rattle.std.proofs.Common.{◌+◌, slice_index, refl, arith}
+use Rattle.ring_core.specs.Prelude.{W}
 use Rattle.ring_core.proofs.Sha2Steps.{rounds-next}
 use Rattle.ring_core.proofs.digest.sha2.sha2_rounds.two_rounds.Goals as goal
 

@@ -1,4 +1,4 @@
-use Rattle.std.proofs.Common.{◌≡◌, length, rules}
+use Rattle.std.proofs.Common.{◌≡◌, arith, length, rules}
 use Rattle.ring_core.proofs.Vectors.{eight_read}
 use Rattle.ring_core.proofs.Mapped.{value_read}
 use Rattle.ring_core.proofs.digest.states.States.splat.Goals as goal
@@ -8,13 +8,4 @@ returns g c = λ i.
     let value = g.V.One.Word.value in
     let state = c.args.state.now in
     let eight : length state ≡ 8 = search rules in
-    rw (
-      c.splat.ensures i,
-      c.splat-2.ensures i,
-      c.splat-3.ensures i,
-      c.splat-4.ensures i,
-      c.splat-5.ensures i,
-      c.splat-6.ensures i,
-      c.splat-7.ensures i,
-      c.splat-8.ensures i,
-    ) (simp (value_read value state 8 eight) (eight_read value state eight))
+    grind (arith, value_read value state 8 eight, eight_read value state eight)

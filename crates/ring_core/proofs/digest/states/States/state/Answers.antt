@@ -1,4 +1,4 @@
-use Rattle.std.proofs.Common.{◌≡◌, length, rules}
+use Rattle.std.proofs.Common.{◌≡◌, arith, length, rules}
 use Rattle.ring_core.specs.Prelude.{InLanes}
 use Rattle.ring_core.proofs.Vectors.{eight_read}
 use Rattle.ring_core.proofs.Mapped.{value_read}
@@ -9,13 +9,4 @@ returns g c =
     let lane = λ (x : InLanes g.row.V.Denot). g.V.LaneWord.lane c.args.i x.0 in
     let states = c.args.self.now in
     let eight : length states.words ≡ 8 = search rules in
-    rw (
-      c.word.ensures,
-      c.word-2.ensures,
-      c.word-3.ensures,
-      c.word-4.ensures,
-      c.word-5.ensures,
-      c.word-6.ensures,
-      c.word-7.ensures,
-      c.word-8.ensures,
-    ) (simp (value_read lane states.words 8 eight) (eight_read lane states.words eight))
+    grind (arith, value_read lane states.words 8 eight, eight_read lane states.words eight)

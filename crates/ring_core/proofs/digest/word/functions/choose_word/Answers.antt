@@ -1,3 +1,4 @@
+use Rattle.std.proofs.Common.{arith}
 use Rattle.ring_core.proofs.ShortForms.{choose-short}
 use Rattle.ring_core.proofs.digest.word.functions.choose_word.Goals as goal
 
@@ -5,6 +6,8 @@ pub returns : goal.returns
 returns g c = λ i.
     let f = g.W.LaneWord.lane i in
     let fits = g.met.W.LaneWord.fits i in
-    rw (c.bit_xor-2.ensures i, c.bit_and.ensures i, c.bit_xor.ensures i)
-    (choose-short g.W.One.Word.bits (f c.args.x) (f c.args.y) (f c.args.z)
-    (fits c.args.x) (fits c.args.z))
+    grind (
+      arith,
+      choose-short g.W.One.Word.bits (f c.args.x) (f c.args.y) (f c.args.z)
+          (fits c.args.x) (fits c.args.z),
+    )

@@ -1,4 +1,4 @@
-use Rattle.std.proofs.Common.{◌≡◌, length, rules}
+use Rattle.std.proofs.Common.{◌≡◌, arith, length, rules}
 use Rattle.ring_core.proofs.Five.{last_three}
 use Rattle.ring_core.proofs.Mapped.{value_read}
 use Rattle.ring_core.proofs.digest.sha1.sha1_rounds.add_state.Goals as goal
@@ -8,14 +8,12 @@ returns-clause-words g c = λ i.
     let f = g.S.LaneWord.lane i in
     let chaining : length c.args.state.now ≡ 8 = search rules in
     let variables : length c.args.v.now ≡ 5 = search rules in
-    rw (
-      c.plus.ensures i,
-      c.plus-2.ensures i,
-      c.plus-3.ensures i,
-      c.plus-4.ensures i,
-      c.plus-5.ensures i,
+    grind (
+      arith,
+      value_read f c.args.state.now 8 chaining,
+      value_read f c.args.v.now 5 variables,
       g.met.S.ExtendSchedule.bits_are,
-    ) (simp (value_read f c.args.state.now 8 chaining, value_read f c.args.v.now 5 variables))
+    )
 
 pub returns-clause-rest : goal.returns-clause-rest
 returns-clause-rest g c =

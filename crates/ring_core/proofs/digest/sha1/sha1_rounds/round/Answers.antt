@@ -1,4 +1,4 @@
-use Rattle.std.proofs.Common.{◌≡◌, ◌^◌, length, rules}
+use Rattle.std.proofs.Common.{◌≡◌, ◌^◌, arith, length, rules}
 use Rattle.ring_core.specs.Sha1.{round}
 use Rattle.ring_core.proofs.Lanes.{sum_of_pair}
 use Rattle.ring_core.proofs.Mapped.{value_read}
@@ -8,13 +8,5 @@ pub returns : goal.returns
 unfolding round
 returns g c = λ i w are.
     let five : length c.args.v ≡ 5 = search rules in
-    rw (
-      c.plus-temp.ensures i,
-      c.plus-2.ensures i,
-      c.plus.ensures i,
-      c.rotate_left.ensures i,
-      c.rotate_left-2.ensures i,
-      c.round_function.ensures i,
-      are,
-      g.met.S.ExtendSchedule.bits_are,
-    ) (simp (value_read (g.S.LaneWord.lane i) c.args.v 5 five, sum_of_pair (2 ^ 32)))
+    let v = value_read (g.S.LaneWord.lane i) c.args.v 5 five in
+    grind (arith, v, are, sum_of_pair (2 ^ 32), g.met.S.ExtendSchedule.bits_are)

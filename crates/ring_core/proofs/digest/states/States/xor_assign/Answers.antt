@@ -1,4 +1,4 @@
-use Rattle.std.proofs.Common.{◌≡◌, length, map, rules}
+use Rattle.std.proofs.Common.{◌≡◌, arith, length, map, rules}
 use Rattle.std.proofs.Math.ListN.{length-map}
 use Rattle.ring_core.specs.Prelude.{InLanes}
 use Rattle.ring_core.proofs.Vectors.{xor_eight}
@@ -12,15 +12,6 @@ returns g c = λ i.
     let y = c.args.other.now.words in
     let eight_x : length x ≡ 8 = search rules in
     let eight_y : length y ≡ 8 = search rules in
-    rw (
-      c.bit_xor.ensures i,
-      c.bit_xor-2.ensures i,
-      c.bit_xor-3.ensures i,
-      c.bit_xor-4.ensures i,
-      c.bit_xor-5.ensures i,
-      c.bit_xor-6.ensures i,
-      c.bit_xor-7.ensures i,
-      c.bit_xor-8.ensures i,
-    )
-    (simp (value_read lane x 8 eight_x, value_read lane y 8 eight_y)
-    (xor_eight (map lane x) (map lane y) (simp length-map eight_x) (simp length-map eight_y)))
+    let words =
+    xor_eight (map lane x) (map lane y) (simp length-map eight_x) (simp length-map eight_y) in
+    grind (arith, value_read lane x 8 eight_x, value_read lane y 8 eight_y, words)

@@ -21,14 +21,7 @@ unfolding W
 W-next b t h =
     let e : nat_lt t 16 ≡ false = search arith in
     let before = slice_index-listed (next_word b) t in
-    listed_at-next (next_word b) t
-    ∙ rw (
-      e,
-      before (t - 3) (omega arith),
-      before (t - 8) (omega arith),
-      before (t - 14) (omega arith),
-      before (t - 16) (omega arith),
-    ) refl
+    grind (arith, e, before, listed_at-next (next_word b) t)
 
 -- a word and the next, each from the words before it
 pub W-next_two : (b : List ℕ) (t : ℕ) → 16 ≤ t

@@ -24,14 +24,7 @@ unfolding W
 W-next f b t h =
     let e : nat_lt t 16 ≡ false = search arith in
     let before = slice_index-listed (next_word f b) t in
-    listed_at-next (next_word f b) t
-    ∙ rw (
-      e,
-      before (t - 2) (omega arith),
-      before (t - 7) (omega arith),
-      before (t - 15) (omega arith),
-      before (t - 16) (omega arith),
-    ) refl
+    grind (arith, e, before, listed_at-next (next_word f b) t)
 
 -- a word and the next, each from the words before it
 pub W-next_two : (f : Family) (b : List ℕ) (t : ℕ) → 16 ≤ t

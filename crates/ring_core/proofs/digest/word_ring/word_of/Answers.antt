@@ -1,4 +1,4 @@
-use Rattle.std.proofs.Common.{List, ℕ, ◌≡◌, ◌∙◌, arith, length, map, nat_lt, sym, true}
+use Rattle.std.proofs.Common.{List, ℕ, ◌≡◌, ◌∙◌, arith, length, map}
 use Rattle.std.proofs.Math.ListN.{length-map}
 use Rattle.ring_core.proofs.Mapped.{past_front, value_read}
 use Rattle.ring_core.proofs.digest.word_ring.word_of.Goals as goal
@@ -11,7 +11,5 @@ returns-else-t g c = λ i.
     let padding = c.args.padding.now in
     let long : length front ≡ 8 =
     length-map c.args.front.now (g.S.LaneWord.lane i) ∙ c.told-front in
-    let below : nat_lt t 16 ≡ true = search (arith, c.requires.place) in
-    c.splat.ensures i
-    ∙ value_read value padding 16 c.told-padding t _ below
-    ∙ sym (past_front g.row.N t front (map value padding) (omega (arith, long)) (omega arith))
+    let past = past_front g.row.N t front (map value padding) (omega (arith, long)) (omega arith) in
+    grind (arith, value_read value padding 16 c.told-padding, past)

@@ -1,5 +1,4 @@
-use Rattle.std.proofs.Common.{ℕ, ap, arith}
-use Rattle.ring_core.specs.Prelude.{◌⊕◌, shr}
+use Rattle.std.proofs.Common.{arith}
 use Rattle.ring_core.proofs.Rotation.{rotr-two}
 use Rattle.ring_core.proofs.digest.sha2.vector_schedule.small_sigma.Goals as goal
 

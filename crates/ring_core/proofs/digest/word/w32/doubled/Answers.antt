@@ -1,6 +1,5 @@
-use Rattle.std.proofs.Common.{◌≡◌, ℕ, ◌+◌, ◌*◌, ◌/◌, ◌%◌, ◌^◌, List, [], ◌∷◌, slice_index, ap, ◌∙◌}
-use Rattle.ring_core.specs.Prelude.{low_32}
-use Rattle.ring_core.proofs.Lanes.{two_lanes}
+use Rattle.std.proofs.Common.{◌≡◌, ℕ, ◌+◌, ◌*◌, ◌/◌, ◌%◌, ◌^◌, List, [], ◌∷◌, ap, ◌∙◌}
+use Rattle.ring_core.proofs.Lanes.{same_two, two_lanes}
 use Rattle.ring_core.proofs.Halves.{both-bytes, low-first, low-second}
 use Rattle.std.specs.Simd.Lanes.{number_l, digits_l}
 use Rattle.ring_core.proofs.digest.word.w32.doubled.Goals as goal
@@ -14,10 +13,9 @@ returns c = λ a b are.
     let read = λ (l : List ℕ). number_l 256 (digits_l 256 16 (number_l (2 ^ 64) l)) in
     let bytes : read c.args.lanes ≡ n =
     ap read lanes.are ∙ both-bytes x y lanes.first_fits lanes.second_fits in
-    let is : low_32 x ∷ low_32 y ∷ [] ≡ a ∷ b ∷ [] = rw lanes.are at are in
+    let is = same_two (rw lanes.are at are) in
     let third = λ (m : ℕ). m / 2 ^ 32 / 2 ^ 32 % 2 ^ 32 in
-    let first : n % 2 ^ 32 ≡ a = low-first x y ∙ ap (λ (l : List ℕ). slice_index l 0) is in
-    let second : third n ≡ b =
-    low-second x y lanes.first_fits ∙ ap (λ (l : List ℕ). slice_index l 1) is in
+    let first : n % 2 ^ 32 ≡ a = low-first x y ∙ is.0 in
+    let second : third n ≡ b = low-second x y lanes.first_fits ∙ is.1 in
     let four = λ (m : ℕ). m % 2 ^ 32 ∷ m % 2 ^ 32 ∷ third m ∷ third m ∷ [] in
     ap four bytes ∙ (λ i. first i ∷ first i ∷ second i ∷ second i ∷ [])

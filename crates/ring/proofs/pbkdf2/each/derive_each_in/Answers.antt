@@ -4,7 +4,7 @@ use Rattle.std.specs.Int.NonZero.{non_zero_u32_get}
 use Rattle.ring.specs.Prelude.{AreDerived, bytes_at, dk_at, pbkdf2_digest}
 use Rattle.ring.proofs.Rounds.{length-dk}
 use Rattle.ring.proofs.Taking.{taken-all}
-use Rattle.ring.proofs.pbkdf2.each_derived.derive_each_in.Goals as goal
+use Rattle.ring.proofs.pbkdf2.each.derive_each_in.Goals as goal
 
 pub returns-clause-ok : goal.returns-clause-ok
 returns-clause-ok g c =

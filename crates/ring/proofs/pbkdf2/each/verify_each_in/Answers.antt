@@ -4,7 +4,7 @@ use Rattle.ring.specs.Prelude.{AreVerified, CanVerify, IsDerived, bytes_at, pbkd
 use Rattle.ring.proofs.DerivedKeys.{derived-same}
 use Rattle.ring.proofs.Rounds.{length-dk}
 use Rattle.ring.proofs.Taking.{taken-all}
-use Rattle.ring.proofs.pbkdf2.each_verified.verify_each_in.Goals as goal
+use Rattle.ring.proofs.pbkdf2.each.verify_each_in.Goals as goal
 
 pub returns-clause-ok : goal.returns-clause-ok
 returns-clause-ok g c =

@@ -1,5 +1,5 @@
 use Rattle.std.proofs.Common.{◌≡◌, ℕ, ◌<◌, [], get_or, length}
-use Rattle.ring.proofs.pbkdf2.each_derived.clear.Given as goal
+use Rattle.ring.proofs.pbkdf2.each.clear.Given as goal
 
 abbrev pub invariant-places : goal.invariant-places
 invariant-places g l = (k : ℕ) → k < l.i → length (get_or l.out k []) ≡ g.row.N

@@ -3,14 +3,13 @@ use Rattle.std.proofs.Common.{◌≡◌, ◌↔◌, Bool, true, ℕ, ◌+◌, �
 use Rattle.std.proofs.Common.{take, refl, sym, ap, ◌∙◌, arith}
 use Rattle.std.proofs.Common.{take_all}
 use Rattle.std.specs.Borrow.{Bor}
-use Rattle.ring.specs.Prelude.{Algorithm, CanDeriveEach, CanVerify, Counts, IsDerived, Output}
+use Rattle.ring.specs.Prelude.{Algorithm, CanDeriveEach, CanVerify, IsDerived, Output}
 use Rattle.ring.specs.Prelude.{bytes_at, derive_blocks, derive_blocks_at, derive_rounds, dk}
-use Rattle.ring.specs.Prelude.{iterate_blocks, key_blocks, raised, sum_below}
+use Rattle.ring.specs.Prelude.{iterate_blocks, key_blocks, sum_below}
 use Rattle.ring.proofs.Each.{message-read, message_at-part}
 use Rattle.ring.proofs.Places.{items_from, length-items_from, read_at}
 use Rattle.ring.proofs.Rounds.{length-dk}
-use Rattle.ring.proofs.Sums.{raised-both, sum_below-next}
-use Rattle.ring.proofs.Sums.{sum_below-append, sum_below-none, sum_below-same, sum_below-times}
+use Rattle.ring.proofs.Sums.{sum_below-append, sum_below-same, sum_below-times}
 
 -- the blocks of one round at each of the first m places
 abbrev pub each_round_blocks : Algorithm → List (Bor (List ℕ)) → (c m : ℕ) → ℕ
@@ -30,25 +29,8 @@ module _ (a : Algorithm) (salts secrets : List (Bor (List ℕ))) (c n : ℕ) whe
 
   pub blocks-one : derive_blocks a (length (read_at secrets 0)) (length (read_at salts 0)) c n
       ≡ sum_below (derive_blocks_at a salts secrets c n) 1
-  blocks-one =
-      rw (
-        sum_below-next (derive_blocks_at a salts secrets c n) 0,
-        sum_below-none (derive_blocks_at a salts secrets c n),
-        message-read salts 0,
-        message-read secrets 0,
-      ) (omega arith)
-
-  -- the cost of the keys, and of all rounds and of some pairs of bytes
-  pub cost-each : (m : ℕ) (m0 : Counts) {m1 m2 : Counts} (pairs : ℕ)
-      → m1 ≡ raised m0 (sum_below (λ i. key_blocks a (length (bytes_at secrets i))) m) 0
-      → m2 ≡ raised m1 (derive_rounds a n * each_round_blocks a salts c m) pairs
-      → m2 ≡ raised m0 (sum_below (derive_blocks_at a salts secrets c n) m) pairs
-  cost-each m m0 pairs e1 e2 =
-      let none : 0 + pairs ≡ pairs = omega arith in
-      raised-both m0 (sum_below (λ i. key_blocks a (length (bytes_at secrets i))) m) 0
-      (derive_rounds a n * each_round_blocks a salts c m) pairs e1 e2
-      ∙ ap (λ (z : ℕ). raised m0 z (0 + pairs)) (blocks-each m)
-      ∙ ap (λ (z : ℕ). raised m0 (sum_below (derive_blocks_at a salts secrets c n) m) z) none
+  unfolding sum_below
+  blocks-one = rw (message-read salts 0, message-read secrets 0) (omega arith)
 
   -- the blocks at the first m places, and at k more
   pub blocks-part : (m k : ℕ) → sum_below (derive_blocks_at a salts secrets c n) m

@@ -4,9 +4,7 @@ use Rattle.std.proofs.Common.{replicate, refl, sym, ap, ◌∙◌, arith, add-on
 use Rattle.std.proofs.lemmas.List.{length-replicate}
 use Rattle.std.specs.Int.{bytes_high_first}
 use Rattle.ring_core.specs.Prelude.{xor_lists}
-use Rattle.ring.specs.Prelude.{Algorithm, Counts, digest_bytes, hmac_of, iterate, output_len}
-use Rattle.ring.specs.Prelude.{raised, xored}
-use Rattle.ring_core.proofs.Costs.{raised-none, raised-raised}
+use Rattle.ring.specs.Prelude.{Algorithm, digest_bytes, hmac_of, iterate, output_len, xored}
 use Rattle.ring.proofs.Keys.{length-hmac_of}
 use Rattle.ring.proofs.Words.{digest_bytes-xor}
 
@@ -73,19 +71,6 @@ module _ {a : Algorithm} {p s : List ℕ} {i : ℕ} where
             ∙ rw (t.sum, next) (sym (xored-next a p s i j));
       }
 
--- the cost of no iterate but the first, in n lanes
-pub cost_first : (m : Counts) (n : ℕ) → m ≡ raised m (n * (2 * (1 - 1))) 0
-cost_first m n =
-    let none : 0 ≡ n * 0 = grind arith in
-    raised-none m ∙ ap (λ (z : ℕ). raised m z 0) none
-
--- the cost of one more
-pub cost_next : (m0 : Counts) {m1 m2 : Counts} (n j : ℕ) → 1 ≤ j
-    → m1 ≡ raised m0 (n * (2 * (j - 1))) 0
-    → m2 ≡ raised m1 (2 * n) 0 → m2 ≡ raised m0 (n * (2 * (j + 1 - 1))) 0
-cost_next m0 n j some e1 e2 =
-    let q : ℕ = j - 1 in
-    let up : j + 1 - 1 ≡ q + 1 = omega arith in
-    let sum : n * (2 * q) + 2 * n ≡ n * (2 * (q + 1)) = grind arith in
-    e2 ∙ rw e1 (raised-raised m0 (n * (2 * q)) 0 (2 * n) 0)
-    ∙ ap (λ (z : ℕ). raised m0 z 0) (sum ∙ ap (λ (z : ℕ). n * (2 * z)) (sym up))
+-- the blocks of one more in n lanes, after those of the j - 1 past the first
+pub blocks-next : (n j : ℕ) → 1 ≤ j → n * (2 * (j - 1)) + 2 * n ≡ n * (2 * (j + 1 - 1))
+blocks-next n j some = let up : j + 1 - 1 ≡ j - 1 + 1 = omega arith in rw up (grind arith)

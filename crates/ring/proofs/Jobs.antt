@@ -1,16 +1,14 @@
 -- The rounds of jobs, in lanes.
-use Rattle.std.proofs.Common.{◌≡◌, ◌≢◌, ℕ, ◌+◌, ◌-◌, ◌*◌, ◌<◌, IsTrue, List, [], ◌∷◌, get_or}
-use Rattle.std.proofs.Common.{inl, inr, length, refl, rules, set, sym, take, ◌∙◌, ap, arith}
+use Rattle.std.proofs.Common.{◌≡◌, ◌≢◌, ℕ, ◌+◌, ◌*◌, ◌<◌, IsTrue, List, [], ◌∷◌, get_or}
+use Rattle.std.proofs.Common.{inl, inr, length, refl, rules, set, take, ◌∙◌, arith}
 use Rattle.std.proofs.lemmas.Bool.{cases_lt}
 use Rattle.std.proofs.lemmas.List.{get_or-set_other, get_or-set_same, get_or-take}
-use Rattle.ring.specs.Prelude.{Algorithm, AreStarts, BeginsWithRound, CanRun, Counts, DynState}
+use Rattle.ring.specs.Prelude.{Algorithm, AreStarts, BeginsWithRound, CanRun, DynState}
 use Rattle.ring.specs.Prelude.{IsKeyInLane, IsStart, Job, KeyStandsFor, Tag, digest_bytes}
-use Rattle.ring.specs.Prelude.{first_blocks, is_state_of, iterate, job_algorithm, job_blocks}
-use Rattle.ring.specs.Prelude.{output_len, raised, state_word_len, sum_below, tag_algorithm}
+use Rattle.ring.specs.Prelude.{is_state_of, iterate, job_algorithm, output_len, state_word_len}
+use Rattle.ring.specs.Prelude.{tag_algorithm}
 use Rattle.ring.specs.Prelude.{tag_bytes, word_bytes, word_len, words, xored}
-use Rattle.ring.proofs.Each.{raised-then}
 use Rattle.ring.proofs.Lanes.{digest_read, key_in_lane}
-use Rattle.ring.proofs.Sums.{sum_below-more}
 
 -- what a job starts from, with the words that were read of its first iterate's bytes
 pub job-start : (job : Job) (tag : Tag) (bytes : List ℕ) {first : DynState}
@@ -35,19 +33,6 @@ job-start job tag bytes {first} same made read size written =
       first = λ p stands. digest_read a (words first) bytes sized written same read
           ∙ made p stands;
     }
-
--- what holds at each place below i, and of the item put there, holds below the next place
-pub put-next : {X : Type 0} (P : ℕ → X → Type 0) (xs : List X) (i : ℕ) (x : X) → i < length xs
-    → ((k : ℕ) (d : X) → k < i → P k (get_or xs k d)) → P i x
-    → (k : ℕ) (d : X) → k < i + 1 → P k (get_or (set xs i x) k d)
-put-next P xs i x room each here k d below = elim (cases_lt k i) [
-  | inl lt ↦
-      let other : k ≢ i = λ e. omega (arith, e, lt) in
-      rw (get_or-set_other xs i k x d other) (each k d lt)
-  | inr ge ↦
-      let e : k ≡ i = omega (arith, ge, below) in
-      rw (e, get_or-set_same xs i x d room) here
-]
 
 -- a list that isn't empty has an item
 some-item : {X : Type 0} (xs : List X) → 0 < length xs → X
@@ -127,14 +112,3 @@ lane-round {job = job} sums bytes can start same summed written =
           rw can.algorithm (written ∙ summed p job.salt.now job.number
           (rw (same.0, same.1.0) key) (rw same.1.1 first));
     }
-
--- the blocks of n jobs: those of their first iterates, and then as many for each
-pub cost_jobs : (m0 : Counts) {m1 m2 : Counts} (jobs : List Job) (job : Job) (c n : ℕ)
-    → m1 ≡ raised m0 (sum_below (λ i. first_blocks (get_or jobs i job)) n) 0
-    → m2 ≡ raised m1 (n * (2 * (c - 1))) 0
-    → m2 ≡ raised m0 (sum_below (λ i. job_blocks c (get_or jobs i job)) n) 0
-cost_jobs m0 jobs job c n e1 e2 =
-    let firsts : ℕ → ℕ = λ i. first_blocks (get_or jobs i job) in
-    let more : ℕ = 2 * (c - 1) in
-    raised-then m0 (sum_below firsts n) (n * more) e1 e2
-    ∙ ap (λ (z : ℕ). raised m0 z 0) (sym (sum_below-more firsts more n))

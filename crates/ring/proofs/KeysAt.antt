@@ -35,13 +35,13 @@ key_fits a secrets n i within below = rw (message-read secrets i) at (within i b
 
 -- the keys at the first n places are those of the secrets there
 pub keys-all : {a : Algorithm} {keys : List Key} (secrets : List (Bor (List ℕ))) (n : ℕ)
-    → ((d : Key) → HoldsBelow (IsKeyAt a secrets) d n keys) → n ≤ length keys
+    → HoldsBelow (IsKeyAt a secrets) n keys → n ≤ length keys
     → AreKeysOf a (take n keys) (bytes_at secrets)
 keys-all {keys = keys} secrets n have room =
     record {
       each = λ i key below.
           let first : i < n = omega (arith, below, length-take-le n keys room) in
-          rw (get_or-take n keys i key first) ((have key).each i first);
+          rw (get_or-take n keys i key first) (have.each i key first);
     }
 
 -- they are all of one algorithm
@@ -97,11 +97,11 @@ module _ {a : Algorithm} {keys : List Key} {salts : List (Bor (List ℕ))} {numb
 -- at each of m places
 module _ {a : Algorithm} {keys : List Key} {salts : List (Bor (List ℕ))} {number : ℕ}
     {jobs : List Job}
-    (are : (d : Job) → HoldsBelow (IsJobAt keys salts number) d (length keys) jobs)
+    (are : HoldsBelow (IsJobAt keys salts number) (length keys) jobs)
     (all : (i : ℕ) (key : Key) → i < length keys → key_algorithm (get_or keys i key) ≡ a) where
   is-job : (i : ℕ) (d : Job) → i < length keys
       → IsJobAt keys salts number i (get_or (take (length keys) jobs) i d)
-  is-job i d below = rw (get_or-take (length keys) jobs i d below) ((are d).each i below)
+  is-job i d below = rw (get_or-take (length keys) jobs i d below) (are.each i d below)
 
   pub jobs-can : ((i : ℕ) → i < length keys → IsTagWithin a (length (bytes_at salts i) + 4))
       → (i : ℕ) (d : Job) → i < length keys → CanRun a (get_or (take (length keys) jobs) i d)

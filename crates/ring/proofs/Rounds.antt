@@ -1,23 +1,22 @@
 -- A derivation in parts, each of some rounds, one after another.
 use Rattle.std.proofs.Common.{◌≡◌, ℕ, suc, ◌+◌, ◌-◌, ◌*◌, ◌<◌, ◌≤◌, min, List, ◌++◌, length}
-use Rattle.std.proofs.Common.{take, refl, sym, ap, ◌∙◌, arith, add-one, suc-mul, zero-mul}
+use Rattle.std.proofs.Common.{take, refl, sym, ap, ◌∙◌, arith, zero-mul}
 use Rattle.std.proofs.Common.{length-take-le, take_all}
 use Rattle.std.proofs.Math.Seq.{take-append-add}
 use Rattle.std.proofs.Math.Nat.{lt_of_mul-lt-mul_right}
 use Rattle.std.proofs.lemmas.Grind.{div_ceil_times}
 use Rattle.std.proofs.lemmas.List.{take-take}
-use Rattle.ring.specs.Prelude.{Algorithm, Counts, derive_rounds, dk, joined_blocks, key_blocks}
+use Rattle.ring.specs.Prelude.{Algorithm, Counts, derive_rounds, dk, joined_blocks}
 use Rattle.ring.specs.Prelude.{output_len, raised, xored}
-use Rattle.ring_core.proofs.Costs.{raised-none}
 use Rattle.ring.proofs.Iterates.{length-xored}
 use Rattle.ring.proofs.Pieces.{IsEven, joined_blocks-append, joined_blocks-next, joined_blocks-none}
 use Rattle.ring.proofs.Pieces.{length-joined_blocks}
 use Rattle.ring.proofs.Rows.{output_len-positive}
-use Rattle.ring.proofs.Sums.{raised-both}
+use Rattle.ring.proofs.Sums.{raised-sum, raised-zero}
 
 -- one product more
 pub mul-more : (r b : ℕ) → r * b + b ≡ (r + 1) * b
-mul-more r b = rw add-one (sym (suc-mul r b))
+mul-more r b = grind arith
 
 -- r rounds reach k bytes, and no fewer do
 pub rounds-reach : (a : Algorithm) (r k : ℕ) → k ≤ r * output_len a
@@ -119,24 +118,21 @@ pub record HasRun (a : Algorithm) (b n r w pairs : ℕ) (before now : Counts) : 
   pub reached : HasReached a n r w
   pub cost : now ≡ raised before (r * b) pairs
 
-pub run-none : (a : Algorithm) (b n : ℕ) (m : Counts) → HasRun a b n 0 0 0 m m
-run-none a b n m =
-    record {
-      reached = reached-none a n;
-      cost = raised-none m ∙ ap (λ (z : ℕ). raised m z 0) (sym (zero-mul b));
-    }
+pub run-none : {a : Algorithm} {b n pairs : ℕ} {m : Counts} → pairs ≡ 0 → HasRun a b n 0 0 pairs m m
+run-none {a} {b} {n} {m = m} none =
+    record { reached = reached-none a n; cost = raised-zero m (zero-mul b) none }
 
 module _ {a : Algorithm} {b n r w pairs : ℕ} {m0 m1 : Counts} where
-  -- the next part is run
-  pub run-next : {t k : ℕ} {m2 : Counts} (more : ℕ) → HasRun a b n r w pairs m0 m1
-      → IsNext a n w t k → m2 ≡ raised m1 (t * b) more
-      → HasRun a b n (r + t) (w + k) (pairs + more) m0 m2
-  run-next {t = t} more h next em =
-      let sum : r * b + t * b ≡ (r + t) * b = grind arith in
+  -- the next part is run: c blocks, and then `more` pairs of bytes
+  pub run-next : {t k c all : ℕ} {m2 m3 : Counts} (more : ℕ) → HasRun a b n r w pairs m0 m1
+      → IsNext a n w t k → m2 ≡ raised m1 c 0 → m3 ≡ raised m2 0 more → c ≡ t * b
+      → pairs + more ≡ all → HasRun a b n (r + t) (w + k) all m0 m3
+  run-next {t = t} {c = c} {m3 = m3} more h next e1 e2 blocks sum =
+      let two : m3 ≡ raised m1 (t * b) more =
+      raised-sum m1 c 0 0 more e1 e2 (omega arith) (omega arith) in
       record {
         reached = next-reached h.reached next;
-        cost = raised-both m0 (r * b) pairs (t * b) more h.cost em
-            ∙ ap (λ (z : ℕ). raised m0 z (pairs + more)) sum;
+        cost = raised-sum m0 _ _ _ _ h.cost two (grind arith) sum;
       }
 
   -- all bytes are reached
@@ -147,14 +143,6 @@ module _ {a : Algorithm} {b n r w pairs : ℕ} {m0 m1 : Counts} where
       let count : r ≡ derive_rounds a n =
       sym (reached-rounds h.reached) ∙ ap (derive_rounds a) same in
       (same, h.cost ∙ ap (λ (z : ℕ). raised m0 (z * b) pairs) count)
-
--- the cost of a key of p bytes and of b blocks and some pairs of bytes after it
-pub cost_derived : (a : Algorithm) (m0 : Counts) {m1 m2 : Counts} (p b pairs : ℕ)
-    → m1 ≡ raised m0 (key_blocks a p) 0 → m2 ≡ raised m1 b pairs
-    → m2 ≡ raised m0 (key_blocks a p + b) pairs
-cost_derived a m0 p b pairs e1 e2 =
-    let none : 0 + pairs ≡ pairs = omega arith in
-    raised-both m0 (key_blocks a p) 0 b pairs e1 e2 ∙ ap (raised m0 (key_blocks a p + b)) none
 
 -- the first k bytes of what begins with a round are a part of one round
 pub part_of_round : (a : Algorithm) (p s : List ℕ) (c r : ℕ) (bytes : List ℕ) (k : ℕ)

@@ -13,18 +13,11 @@ both_true false k = (λ h. absurd (cc), λ h. absurd (let e : false ≡ true = h
 
 module _ {R : Type 0} {H : R → R → ℕ → List ℕ → Type 0} where
   -- no place takes any
-  pub takes-none : (first m w : ℕ) (r : R) → Takes H first m w (λ i. []) r r
-  takes-none first m w r =
+  pub takes-none : {first m w : ℕ} {f : ℕ → List ℕ} {r : R} → ((i : ℕ) → i < m → f i ≡ [])
+      → Takes H first m w f r r
+  takes-none none =
       record {
-        each = λ start i front below long h. rw append-nil h;
-        others = λ start j front out h. h;
-      }
-
-  -- of no places none takes any
-  pub takes-nowhere : (first w : ℕ) (f : ℕ → List ℕ) (r : R) → Takes H first 0 w f r r
-  takes-nowhere first w f r =
-      record {
-        each = λ start i front below. absurd (omega (arith, below));
+        each = λ start i front below long h. rw (none i below, append-nil) h;
         others = λ start j front out h. h;
       }
 

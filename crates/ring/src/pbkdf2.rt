@@ -91,8 +91,10 @@ pub use crate::pbkdf2::algorithm::{
     Algorithm, PBKDF2_HMAC_SHA1, PBKDF2_HMAC_SHA256, PBKDF2_HMAC_SHA384, PBKDF2_HMAC_SHA512,
     constants_are_based_on_their_digests,
 };
-pub use crate::pbkdf2::each::{derive_each, derive_each_counted, derive_each_in};
-pub use crate::pbkdf2::each::{verify_each, verify_each_counted, verify_each_in};
+pub use crate::pbkdf2::each::{
+    derive_each, derive_each_counted, derive_each_in, verify_each, verify_each_counted,
+    verify_each_in,
+};
 
 /// Derives a key from `secret` and `salt` in `iterations` iterations under `algorithm`, and writes
 /// it to the whole of `out`, as [`derive`] does (RFC 2898, section 5.2), over vectors of `BITS`

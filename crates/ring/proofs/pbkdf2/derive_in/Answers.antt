@@ -1,7 +1,8 @@
-use Rattle.std.proofs.Common.{◌≡◌, ◌*◌, ◌∙◌, arith, length, refl, rules, sym, take_all}
+use Rattle.std.proofs.Common.{◌≡◌, ◌∙◌, arith, length, refl, rules, sym, take_all}
 use Rattle.std.specs.Int.NonZero.{non_zero_u32_get}
 use Rattle.ring.specs.Prelude.{pbkdf2_digest}
-use Rattle.ring.proofs.Rounds.{cost_derived, length-dk}
+use Rattle.ring.proofs.Rounds.{length-dk}
+use Rattle.ring.proofs.Sums.{raised-sum}
 use Rattle.ring.proofs.Taking.{taken-all}
 use Rattle.ring.proofs.pbkdf2.derive_in.Goals as goal
 
@@ -23,5 +24,4 @@ returns-clause-cost g c =
     let same = c.hmac_algorithm-hmac_algorithm.ensures in
     let key = rw same at c.in_ok-key.ensures.cost in
     let rounds = rw (c.in_ok-key.ensures.algorithm ∙ same) at c.derive_under.ensures.cost in
-    let none : 0 * length c.args.out.now ≡ 0 = omega arith in
-    cost_derived _ _ (length c.args.secret.now) _ 0 key (rw none at rounds)
+    raised-sum _ _ _ _ _ key rounds refl (omega arith)

@@ -1,7 +1,7 @@
-use Rattle.std.proofs.Common.{◌≡◌, ◌*◌, ◌∙◌, arith, length, refl, rules}
+use Rattle.std.proofs.Common.{◌∙◌, arith, length, refl, rules}
 use Rattle.ring.specs.Prelude.{CanVerify, pbkdf2_digest}
 use Rattle.ring.proofs.DerivedKeys.{derived-same}
-use Rattle.ring.proofs.Rounds.{cost_derived}
+use Rattle.ring.proofs.Sums.{raised-sum}
 use Rattle.ring.proofs.Taking.{taken-all}
 use Rattle.ring.proofs.pbkdf2.verify_in.Goals as goal
 
@@ -21,6 +21,4 @@ returns-clause-cost g c = λ within.
     let same = c.hmac_algorithm-hmac_algorithm.ensures in
     let key = rw same at c.in_ok-key.ensures.cost in
     let rounds = rw (c.in_ok-key.ensures.algorithm ∙ same) at c.derive_under.ensures.cost in
-    let n = length c.args.previously_derived.now in
-    let pairs : 1 * n ≡ n = omega arith in
-    cost_derived _ _ (length c.args.secret.now) _ n key (rw pairs at rounds)
+    raised-sum _ _ _ _ _ key rounds refl (omega arith)

@@ -1,11 +1,12 @@
-use Rattle.std.proofs.Common.{◌≡◌, arith}
+use Rattle.std.proofs.Common.{◌≡◌, arith, refl}
 use Rattle.std.specs.Int.NonZero.{non_zero_u32_get}
-use Rattle.ring.proofs.Iterates.{cost_first, cost_next, made-first, made-next}
+use Rattle.ring.proofs.Iterates.{blocks-next, made-first, made-next}
+use Rattle.ring.proofs.Sums.{raised-sum, raised-zero}
 use Rattle.ring.proofs.pbkdf2.iterates.xor_iterates.Goals as goal
 
 pub iterates-init : goal.iterates-init
 iterates-init g c =
-    (λ l p s i stands h. made-first h, cost_first c.args.meter.now g.H.LaneStates.LANES)
+    (λ l p s i stands h. made-first h, raised-zero _ (grind arith) refl)
 
 pub iterates-preserved : goal.iterates-preserved
 iterates-preserved g c =
@@ -13,8 +14,8 @@ iterates-preserved g c =
       λ l p s i stands h.
           made-next (made.0 l p s i stands h) (c.replace_by_tag.ensures.ok l p stands)
           (c.xor.ensures l),
-      cost_next c.args.meter.now g.H.LaneStates.LANES c.iterates._made c.iterates.auto._made made.1
-          c.replace_by_tag.ensures.cost,
+      raised-sum _ _ _ _ _ made.1 c.replace_by_tag.ensures.cost
+          (blocks-next g.H.LaneStates.LANES c.iterates._made c.iterates.auto._made) refl,
     )
 
 pub returns : goal.returns

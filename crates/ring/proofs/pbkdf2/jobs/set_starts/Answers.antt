@@ -1,10 +1,9 @@
 use Rattle.std.proofs.Common.{◌≡◌, ◌∙◌, arith, get_or, length, rules}
 use Rattle.std.proofs.Math.ListN.{length-set}
 use Rattle.std.proofs.lemmas.List.{get_or_default}
-use Rattle.ring.specs.Prelude.{Job, first_blocks}
-use Rattle.ring.proofs.Costs.{raised-none}
+use Rattle.ring.specs.Prelude.{Job}
 use Rattle.ring.proofs.Jobs.{job-start, starts-next}
-use Rattle.ring.proofs.Sums.{raised-next, sum_below-none}
+use Rattle.ring.proofs.Places.{risen-next, risen-none}
 use Rattle.ring.proofs.pbkdf2.jobs.set_starts.Goals as goal
 
 pub starts-init : goal.starts-init
@@ -12,8 +11,7 @@ starts-init c =
     record {
       starts = record { each = λ k job s t u below. absurd (omega (arith, below)) };
       lengths = search rules;
-      cost = λ job. rw (sum_below-none (λ k. first_blocks (get_or c.args.jobs.now k job)))
-          (raised-none c.args.meter.now);
+      cost = λ job. risen-none;
     }
 
 pub starts-preserved : goal.starts-preserved
@@ -31,11 +29,11 @@ starts-preserved c =
       starts = starts-next jobs starts.inner starts.outer starts.first i
           (omega arith, (omega arith, omega arith)) is c.starts.invariant.starts made;
       lengths = simp length-set c.starts.invariant.lengths;
-      cost = λ job. raised-next c.args.meter.now first_blocks job jobs i (is job)
-          (c.starts.invariant.cost job) c.first_iterate-tag.ensures.cost;
+      cost = λ job. risen-next (c.starts.invariant.cost job)
+          (rw (is job) at c.first_iterate-tag.ensures.cost);
     }
 
 pub returns-clause-cost : goal.returns-clause-cost
 returns-clause-cost c = λ job.
     let last : c.starts.i ≡ length c.args.jobs.now = omega arith in
-    rw last at (c.starts.invariant.cost job)
+    (rw last at (c.starts.invariant.cost job)).cost

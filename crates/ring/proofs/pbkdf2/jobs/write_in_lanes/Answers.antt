@@ -1,9 +1,11 @@
-use Rattle.std.proofs.Common.{◌<◌, ◌∙◌, ℕ, ap, arith, get_or, length, sym}
+use Rattle.std.proofs.Common.{◌<◌, ◌-◌, ◌*◌, ◌∙◌, ap, arith, get_or, length, refl, sym}
 use Rattle.std.proofs.Math.ListN.{length-set}
 use Rattle.std.specs.Int.NonZero.{non_zero_u32_get}
-use Rattle.ring.specs.Prelude.{BeginsWithRound, Job, Output, digest_bytes, words}
-use Rattle.ring.proofs.Jobs.{cost_jobs, lane-round, put-next, sized-at, start-at, word-size}
+use Rattle.ring.specs.Prelude.{Job, digest_bytes, first_blocks, words}
+use Rattle.ring.proofs.Jobs.{lane-round, sized-at, start-at, word-size}
 use Rattle.ring.proofs.Lanes.{digest_written}
+use Rattle.ring.proofs.Places.{places-next}
+use Rattle.ring.proofs.Sums.{raised-sum, sum_below-more}
 use Rattle.ring.proofs.pbkdf2.jobs.write_in_lanes.Goals as goal
 
 pub new-inner-requires-clause-sized : goal.new-inner-requires-clause-sized
@@ -42,16 +44,14 @@ rounds-preserved g c =
       ),
     ) (c.xor_iterates-sums.ensures.ok i) written in
     record {
-      written = put-next (λ (k : ℕ) (out : Output). (job : Job)
-          → BeginsWithRound (get_or jobs k job) (non_zero_u32_get c.args.iterations) out.0)
-          c.rounds.rounds i output.result (omega arith) c.rounds.invariant.written here;
+      written = places-next _ i c.rounds.invariant.written (omega arith) here;
       count = simp length-set c.rounds.invariant.count;
     }
 
 pub returns-clause-cost : goal.returns-clause-cost
 returns-clause-cost g c = λ job.
     let jobs = c.args.jobs.now in
-    cost_jobs c.args.meter.now {m2 = c.xor_iterates-sums.new.meter} jobs job
-    (non_zero_u32_get c.args.iterations) (length jobs)
-    (c.set_starts.ensures.cost job)
+    raised-sum _ _ _ _ _ (c.set_starts.ensures.cost job)
     (rw (← c.requires.lanes) at c.xor_iterates-sums.ensures.cost)
+    (sum_below-more (λ i. first_blocks (get_or jobs i job))
+    (2 * (non_zero_u32_get c.args.iterations - 1)) (length jobs)) refl

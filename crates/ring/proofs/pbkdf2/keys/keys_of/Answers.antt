@@ -1,6 +1,6 @@
-use Rattle.std.proofs.Common.{◌≡◌, ℕ, add-one, arith, length, refl, rules}
-use Rattle.ring.specs.Prelude.{bytes_at, hmac_digest, key_blocks}
-use Rattle.ring.proofs.KeysAt.{IsKeyAt, cost_key_at, key_at, key_fits, keys-all}
+use Rattle.std.proofs.Common.{◌≡◌, arith, length, refl, rules}
+use Rattle.ring.specs.Prelude.{hmac_digest}
+use Rattle.ring.proofs.KeysAt.{cost_key_at, key_at, key_fits, keys-all}
 use Rattle.ring.proofs.Places.{places-next, risen-next, risen-none}
 use Rattle.ring.proofs.pbkdf2.keys.keys_of.Goals as goal
 
@@ -14,16 +14,15 @@ pub keys-init : goal.keys-init
 keys-init c =
     let a = hmac_digest c.args.algorithm in
     let secrets = c.args.secrets.now in
-    let blocks = λ (i : ℕ). key_blocks a (length (bytes_at secrets i)) in
     let first = c.key_within-first.ensures in
     record {
-      keys = λ d. record {
-        each = λ i below.
+      keys = record {
+        each = λ i d below.
             let zero : i ≡ 0 = omega (arith, below) in
             rw (zero, c.clone.ensures) (key_at secrets 0 first.algorithm first.ok);
       };
       size = refl;
-      cost = risen-next (risen-none blocks c.args.meter.now) (cost_key_at a _ secrets 0 first.cost);
+      cost = risen-next risen-none (cost_key_at a _ secrets 0 first.cost);
     }
 
 pub keys-preserved : goal.keys-preserved
@@ -34,10 +33,10 @@ keys-preserved c =
     let size = c.keys.invariant.size in
     let key = c.key_within.ensures in
     record {
-      keys = λ d. places-next (IsKeyAt a secrets) d i (c.keys.invariant.keys d)
+      keys = places-next _ i c.keys.invariant.keys
           (omega (arith, size, c.requires.most)) (key_at secrets i key.algorithm key.ok);
       size = search (rules, size);
-      cost = rw add-one (risen-next c.keys.invariant.cost (cost_key_at a _ secrets i key.cost));
+      cost = risen-next c.keys.invariant.cost (cost_key_at a _ secrets i key.cost);
     }
 
 pub returns-clause-ok : goal.returns-clause-ok

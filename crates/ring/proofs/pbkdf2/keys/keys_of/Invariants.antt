@@ -1,5 +1,5 @@
 use Rattle.std.proofs.Common.{◌≡◌, length}
-use Rattle.ring.specs.Prelude.{Key, bytes_at, hmac_digest, key_blocks}
+use Rattle.ring.specs.Prelude.{bytes_at, hmac_digest, key_blocks}
 use Rattle.ring.proofs.KeysAt.{IsKeyAt}
 use Rattle.ring.proofs.Places.{HasRisen, HoldsBelow}
 use Rattle.ring.proofs.pbkdf2.keys.keys_of.Given as goal
@@ -9,7 +9,7 @@ abbrev pub invariant-keys : goal.invariant-keys
 invariant-keys l =
     let a = hmac_digest l.algorithm in
     record {
-      keys : (d : Key) → HoldsBelow (IsKeyAt a l.secrets) d l.i l.keys;
+      keys : HoldsBelow (IsKeyAt a l.secrets) l.i l.keys;
       size : length l.keys ≡ 8;
       cost : HasRisen (λ k. key_blocks a (length (bytes_at l.secrets k))) l.i l.fn.meter l.meter;
     }

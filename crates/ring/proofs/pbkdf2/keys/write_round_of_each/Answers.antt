@@ -3,7 +3,7 @@ use Rattle.std.proofs.lemmas.List.{get_or_default, length-take-le}
 use Rattle.std.specs.Int.NonZero.{non_zero_u32_get}
 use Rattle.ring.specs.Prelude.{Algorithm, CanRunTogether, Job, raised}
 use Rattle.ring.proofs.Each.{message-read}
-use Rattle.ring.proofs.KeysAt.{IsJobAt, jobs-blocks, jobs-can, jobs-rounds, some_job}
+use Rattle.ring.proofs.KeysAt.{jobs-blocks, jobs-can, jobs-rounds, some_job}
 use Rattle.ring.proofs.Places.{places-next}
 use Rattle.ring.proofs.pbkdf2.keys.write_round_of_each.Goals as goal
 
@@ -19,7 +19,7 @@ jobs-preserved g c =
     let salts = c.args.salts.now in
     let eight = c.jobs.invariant.0 in (
       search (rules, eight),
-      λ d. places-next (IsJobAt keys salts c.args.number) d i (c.jobs.invariant.1 d)
+      places-next _ i c.jobs.invariant.1
           (grind (arith, eight, c.requires.together))
           (record {
             key = λ k. c.index-keys-i.is

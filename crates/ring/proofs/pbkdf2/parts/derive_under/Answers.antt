@@ -1,24 +1,18 @@
-use Rattle.std.proofs.Common.{◌≡◌, ◌∙◌, ◌+◌, ◌*◌, ◌≤◌, List, ℕ, ap, arith, length, refl}
+use Rattle.std.proofs.Common.{◌≡◌, ◌∙◌, ◌+◌, ◌≤◌, List, ℕ, ap, arith, length, refl}
 use Rattle.std.proofs.Common.{length-take-le}
 use Rattle.ring.specs.Prelude.{dk, key_algorithm, output_len, xored}
 use Rattle.std.specs.Int.NonZero.{non_zero_u32_get}
-use Rattle.ring.proofs.Parts.{round_blocks}
 use Rattle.ring.proofs.Rounds.{IsNext, dk-next, length-dk, run-all, run-next, run-none}
-use Rattle.ring.proofs.Sums.{raised-pairs}
 use Rattle.ring.proofs.Taking.{takes-more, takes-none}
 use Rattle.ring.proofs.pbkdf2.parts.derive_under.Goals as goal
 
 pub parts-init : goal.parts-init
 unfolding dk
 parts-init g c =
-    let a = key_algorithm c.args.key.now in
-    let iterations = non_zero_u32_get c.args.iterations in
-    let b = round_blocks c.args.key.now c.args.salt.now iterations in
-    let none : 0 ≡ g.R.Receiver.pairs * 0 = grind arith in
     record {
-      run = rw (← none) (run-none a b c.args.len c.args.meter.now);
+      run = run-none (grind arith);
       same = (refl, refl);
-      taken = λ p stands. takes-none c.args.place 1 0 c.args.receiver.now;
+      taken = λ p stands. takes-none (λ i below. refl);
     }
 
 pub parts-preserved : goal.parts-preserved
@@ -41,16 +35,12 @@ parts-preserved g c =
     let long : length c.write_rounds_after.new.rounds ≡ t =
     c.write_rounds_after.auto.rounds ∙ length-take-le t _ most in
     let len = c.output_len-output_len.ensures ∙ ap output_len same in
-    let b = round_blocks c.args.key.now c.args.salt.now iterations in
-    let pairs = g.R.Receiver.pairs in
-    let more : pairs * w + pairs * k ≡ pairs * (w + k) = grind arith in
     let all : w ≡ 0 + w = omega arith in
     let rounds = c.write_rounds_after.ensures in
     let took = c.take_rounds_in_order.ensures in
     record {
-      run = rw (← more) (run-next (pairs * k) h.run next
-          (raised-pairs c.parts.meter (t * b) (pairs * k)
-          (rw (← c.write_rounds_after.auto.rounds, long) at rounds.cost) took.cost));
+      run = run-next _ h.run next (rw (← c.write_rounds_after.auto.rounds, long) at rounds.cost)
+          took.cost refl (grind arith);
       same = (took.same.0 ∙ h.same.0, took.same.1 ∙ h.same.1);
       taken = λ p stands.
           let f : ℕ → List ℕ = λ i. xored a p s (c.parts.number + i) iterations in

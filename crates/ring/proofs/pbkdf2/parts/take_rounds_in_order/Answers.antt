@@ -4,7 +4,7 @@ use Rattle.std.proofs.lemmas.List.{length-take, length-take-le, take-take}
 use Rattle.ring.specs.Prelude.{Output, joined_blocks}
 use Rattle.ring.proofs.Pieces.{put-next, put-none}
 use Rattle.ring.proofs.Rounds.{mul-more}
-use Rattle.ring.proofs.Sums.{pairs-more, pairs-none}
+use Rattle.ring.proofs.Sums.{raised-sum, raised-zero}
 use Rattle.ring.proofs.Taking.{takes-more, takes-none}
 use Rattle.ring.proofs.pbkdf2.parts.take_rounds_in_order.Goals as goal
 
@@ -13,9 +13,9 @@ rounds-init g c =
     record {
       reached = omega (arith, zero-mul c.args.output_len);
       same = (refl, refl);
-      cost = pairs-none c.args.meter.now g.R.Receiver.pairs;
+      cost = raised-zero _ refl (grind arith);
       taken = λ f each.
-          (put-none f c.args.len, takes-none c.args.place 1 c.args.from c.args.receiver.now);
+          (put-none f c.args.len, takes-none (λ i below. refl));
     }
 
 pub rounds-preserved : goal.rounds-preserved
@@ -34,8 +34,7 @@ rounds-preserved g c =
     record {
       reached = omega (arith, mul-more i n, h.reached, part);
       same = (c.take.ensures.same.0 ∙ h.same.0, c.take.ensures.same.1 ∙ h.same.1);
-      cost = pairs-more c.args.meter.now g.R.Receiver.pairs w k h.cost
-          (rw size at c.take.ensures.cost);
+      cost = raised-sum _ _ _ _ _ h.cost (rw size at c.take.ensures.cost) refl (grind arith);
       taken = λ f each.
           let round = each i none c.rounds-test.true in
           let is =

@@ -1,25 +1,21 @@
-use Rattle.std.proofs.Common.{◌≡◌, ◌≤◌, ◌+◌, ◌-◌, ◌*◌, ◌∙◌, arith, length, refl, rules}
-use Rattle.std.proofs.Common.{zero-mul}
+use Rattle.std.proofs.Common.{◌≡◌, ◌≤◌, ◌+◌, ◌-◌, ◌∙◌, arith, length, refl, rules}
 use Rattle.std.specs.Int.NonZero.{non_zero_u32_get}
-use Rattle.ring.specs.Prelude.{derive_blocks_at, dk_at, hmac_digest, sum_below}
+use Rattle.ring.specs.Prelude.{hmac_digest, sum_below}
 use Rattle.ring.proofs.DerivedKeys.{blocks-part, can_derive-part}
 use Rattle.ring.proofs.Each.{message_at-part}
 use Rattle.ring.proofs.Places.{items_from, length-items_from}
-use Rattle.ring.proofs.Sums.{pairs-none, raised-both, sum_below-none}
-use Rattle.ring.proofs.Taking.{takes-nowhere, takes-places}
+use Rattle.ring.proofs.Sums.{raised-sum, raised-zero}
+use Rattle.ring.proofs.Taking.{takes-none, takes-places}
 use Rattle.ring.proofs.pbkdf2.several.derive_all.Goals as goal
 
 pub together-init : goal.together-init
+unfolding sum_below
 together-init g c =
-    let blocks = derive_blocks_at (hmac_digest c.args.algorithm) c.args.salts.now
-    c.args.secrets.now (non_zero_u32_get c.args.iterations) c.args.len in
-    let bytes = dk_at (hmac_digest c.args.algorithm) c.args.salts.now c.args.secrets.now
-    (non_zero_u32_get c.args.iterations) c.args.len in
     record {
       within = omega arith;
       same = (refl, refl);
-      cost = rw (sum_below-none blocks, zero-mul) (pairs-none c.args.meter.now g.R.Receiver.pairs);
-      taken = takes-nowhere 0 0 bytes c.args.receiver.now;
+      cost = raised-zero _ refl (grind arith);
+      taken = takes-none (λ i below. absurd (omega (arith, below)));
     }
 
 pub derive_together-requires : goal.derive_together-requires
@@ -51,21 +47,15 @@ together-preserved g c =
     let a = hmac_digest c.args.algorithm in
     let iterations = non_zero_u32_get c.args.iterations in
     let len = c.args.len in
-    let pairs = g.R.Receiver.pairs in
     let size : at + k - at ≡ k = omega arith in
     let room : at + k ≤ length secrets = omega arith in
     let few : length (items_from at k secrets) ≡ k = length-items_from at k secrets room in
     let part = rw (size, few) at c.derive_together.ensures in
-    let all = derive_blocks_at a salts secrets iterations len in
-    let some = derive_blocks_at a (items_from at k salts) (items_from at k secrets) iterations
-    len in
-    let more : pairs * (at * len) + pairs * (k * len) ≡ pairs * ((at + k) * len) = grind arith in
     record {
       within = room;
       same = (part.same.0 ∙ h.same.0, part.same.1 ∙ h.same.1);
-      cost = rw (blocks-part a salts secrets iterations len at k, more) at
-          (raised-both c.args.meter.now (sum_below all at) (pairs * (at * len))
-          (sum_below some k) (pairs * (k * len)) h.cost part.cost);
+      cost = raised-sum _ _ _ _ _ h.cost part.cost
+          (blocks-part a salts secrets iterations len at k) (grind arith);
       taken = takes-places h.taken part.ok (omega arith) (λ j below.
           rw (message_at-part secrets at k j below, message_at-part salts at k j below) refl);
     }

@@ -1,10 +1,10 @@
-use Rattle.std.proofs.Common.{◌≡◌, ◌∙◌, ◌*◌, ◌<◌, arith, length, refl, sym}
+use Rattle.std.proofs.Common.{◌≡◌, ◌∙◌, ◌<◌, arith, length, refl, sym}
 use Rattle.std.specs.Int.NonZero.{non_zero_u32_get}
 use Rattle.ring.specs.Prelude.{hmac_digest}
-use Rattle.ring.proofs.DerivedKeys.{blocks-one, cost-each}
+use Rattle.ring.proofs.DerivedKeys.{blocks-each, blocks-one}
 use Rattle.ring.proofs.Each.{message-read}
 use Rattle.ring.proofs.KeysAt.{keys-algorithm, keys-together}
-use Rattle.ring.proofs.Rounds.{cost_derived}
+use Rattle.ring.proofs.Sums.{raised-sum}
 use Rattle.ring.proofs.Taking.{takes-same}
 use Rattle.ring.proofs.pbkdf2.several.derive_together.Goals as goal
 
@@ -26,14 +26,8 @@ returns-then-secrets-eq1-clause-cost g c =
     let one : length secrets ≡ 1 = omega arith in
     let key = c.key_within-key.ensures in
     let rounds = rw key.algorithm at c.derive_under.ensures.cost in
-    let pairs : 1 * len ≡ len = omega arith in
-    rw (
-      one,
-      pairs,
-      ← blocks-one a c.args.salts.now secrets
-          (non_zero_u32_get c.args.iterations) len,
-    )
-    (cost_derived a c.args.meter.now _ _ (g.R.Receiver.pairs * len) key.cost rounds)
+    rw one (raised-sum _ _ _ _ _ key.cost rounds
+    (blocks-one a c.args.salts.now secrets (non_zero_u32_get c.args.iterations) len) (grind arith))
 
 pub derive_under_each-requires : goal.derive_under_each-requires
 derive_under_each-requires g c =
@@ -65,7 +59,6 @@ returns-clause-cost g c =
     let keys = c.keys_of-keys.ensures in
     let rounds = rw (c.digest_algorithm-digest.ensures, keys.count)
     at c.derive_under_each.ensures.cost in
-    cost-each (hmac_digest c.args.algorithm) c.args.salts.now c.args.secrets.now
-    (non_zero_u32_get c.args.iterations) c.args.len (length c.args.secrets.now)
-    c.args.meter.now (g.R.Receiver.pairs * (length c.args.secrets.now * c.args.len))
-    keys.cost rounds
+    raised-sum _ _ _ _ _ keys.cost rounds
+    (blocks-each (hmac_digest c.args.algorithm) c.args.salts.now c.args.secrets.now
+    (non_zero_u32_get c.args.iterations) c.args.len (length c.args.secrets.now)) (omega arith)

@@ -1,25 +1,20 @@
-use Rattle.std.proofs.Common.{◌≡◌, ◌∙◌, ◌+◌, ◌-◌, ◌*◌, ◌≤◌, ◌++◌, ap, arith, get_or, length, min}
+use Rattle.std.proofs.Common.{◌≡◌, ◌∙◌, ◌+◌, ◌-◌, ◌≤◌, ◌++◌, ap, arith, get_or, length, min}
 use Rattle.std.proofs.Common.{refl, rules, sym}
 use Rattle.std.specs.Int.NonZero.{non_zero_u32_get}
 use Rattle.ring.specs.Prelude.{bytes_at, dk, output_len}
-use Rattle.ring.proofs.DerivedKeys.{each_round_blocks, no_output}
+use Rattle.ring.proofs.DerivedKeys.{no_output}
 use Rattle.ring.proofs.Rounds.{dk-next, length-dk, next-one, part_of_round, run-all, run-next}
 use Rattle.ring.proofs.Rounds.{run-none}
-use Rattle.ring.proofs.Sums.{raised-pairs}
 use Rattle.ring.proofs.Taking.{takes-more, takes-none}
 use Rattle.ring.proofs.pbkdf2.several.derive_under_each.Goals as goal
 
 pub rounds-init : goal.rounds-init
 unfolding dk
 rounds-init g c =
-    let m = length c.args.keys.now in
-    let b = each_round_blocks c.args.algorithm c.args.salts.now
-    (non_zero_u32_get c.args.iterations) m in
-    let none : 0 ≡ g.R.Receiver.pairs * (m * 0) = grind arith in
     record {
-      run = rw (← none) (run-none c.args.algorithm b c.args.len c.args.meter.now);
+      run = run-none (grind arith);
       same = (refl, refl);
-      taken = λ p are. takes-none c.args.first m 0 c.args.receiver.now;
+      taken = λ p are. takes-none (λ i below. refl);
     }
 
 pub rounds-preserved : goal.rounds-preserved
@@ -35,18 +30,12 @@ rounds-preserved g c =
     omega (arith, c.min-part_len.ensures, c.output_len-output_len.ensures) in
     let round = c.write_round_of_each in
     let several : length round.new.rounds ≡ m = search rules in
-    let b : 1 * each_round_blocks a salts iterations m ≡ each_round_blocks a salts iterations m =
-    omega arith in
-    let pairs = g.R.Receiver.pairs in
-    let more : pairs * (m * w) + pairs * (m * k) ≡ pairs * (m * (w + k)) = grind arith in
     let took = rw several at c.take_round_of_each.ensures in
     let all : w ≡ 0 + w = omega arith in
     let fits : k ≤ output_len a = omega (arith, wanted) in
     let next = next-one k c.rounds-test.true wanted in
     record {
-      run = rw (← more) (run-next (pairs * (m * k)) h.run next
-          (rw b (raised-pairs c.rounds.meter (each_round_blocks a salts iterations m)
-          (pairs * (m * k)) round.ensures.cost took.cost)));
+      run = run-next _ h.run next round.ensures.cost took.cost (omega arith) (grind arith);
       same = (took.same.0 ∙ h.same.0, took.same.1 ∙ h.same.1);
       taken = λ p are. takes-more (h.taken p are) (took.ok no_output) all
           (λ i below.

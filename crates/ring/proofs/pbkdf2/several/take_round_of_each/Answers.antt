@@ -1,19 +1,18 @@
-use Rattle.std.proofs.Common.{◌≡◌, ◌+◌, ◌*◌, ◌∙◌, ap, arith, get_or, length, refl, rules}
-use Rattle.std.proofs.Common.{take, zero-mul}
+use Rattle.std.proofs.Common.{◌≡◌, ◌+◌, ◌∙◌, ap, arith, get_or, length, refl, rules}
+use Rattle.std.proofs.Common.{take}
 use Rattle.std.proofs.lemmas.List.{get_or_default}
 use Rattle.ring.specs.Prelude.{Output}
 use Rattle.ring.proofs.DerivedKeys.{no_output}
-use Rattle.ring.proofs.Rounds.{mul-more}
-use Rattle.ring.proofs.Sums.{pairs-more, pairs-none}
-use Rattle.ring.proofs.Taking.{takes-nowhere, takes-places}
+use Rattle.ring.proofs.Sums.{raised-sum, raised-zero}
+use Rattle.ring.proofs.Taking.{takes-none, takes-places}
 use Rattle.ring.proofs.pbkdf2.several.take_round_of_each.Goals as goal
 
 pub places-init : goal.places-init
 places-init g c =
     record {
       same = (refl, refl);
-      cost = rw zero-mul (pairs-none c.args.meter.now g.R.Receiver.pairs);
-      taken = λ room. takes-nowhere c.args.first c.args.from _ c.args.receiver.now;
+      cost = raised-zero _ refl (grind arith);
+      taken = λ room. takes-none (λ i below. absurd (omega (arith, below)));
     }
 
 pub places-preserved : goal.places-preserved
@@ -25,8 +24,7 @@ places-preserved g c =
     let size : length (take len (get_or rounds i no_output).0) ≡ len = search rules in
     record {
       same = (c.take.ensures.same.0 ∙ h.same.0, c.take.ensures.same.1 ∙ h.same.1);
-      cost = rw (mul-more i len) at (pairs-more c.args.meter.now g.R.Receiver.pairs (i * len) len
-          h.cost (rw size at c.take.ensures.cost));
+      cost = raised-sum _ _ _ _ _ h.cost (rw size at c.take.ensures.cost) refl (grind arith);
       taken = λ room. takes-places (h.taken room) c.take.ensures.ok refl
           (λ j below.
           let here : i + j ≡ i = omega (arith, below) in

@@ -1,15 +1,14 @@
--- Keys of several secrets, and the jobs of their rounds of one number.
-use Rattle.std.proofs.Common.{◌≡◌, ℕ, ◌+◌, ◌<◌, ◌≤◌, List, [], length, take, get_or}
-use Rattle.std.proofs.Common.{ap, ◌∙◌, arith, refl, sym}
+-- Keys of several secrets, at their places.
+use Rattle.std.proofs.Common.{◌≡◌, ℕ, ◌<◌, ◌≤◌, List, [], length, take, get_or}
+use Rattle.std.proofs.Common.{◌∙◌, arith, sym}
 use Rattle.std.proofs.lemmas.List.{get_or-take, length-take-le}
 use Rattle.std.specs.Borrow.{Bor}
-use Rattle.ring.specs.Prelude.{Algorithm, AreKeysOf, BeginsWithRound, CanRun, CanRunTogether}
-use Rattle.ring.specs.Prelude.{Counts, IsKeyOf, IsTagWithin, Job, Key, KeyStandsFor, Output}
-use Rattle.ring.specs.Prelude.{bytes_at, iterate_blocks, job_blocks, key_algorithm, key_blocks}
-use Rattle.ring.specs.Prelude.{max_input_len, output_len, raised, sum_below, xored}
+use Rattle.ring.specs.Prelude.{Algorithm, AreKeysOf, CanRunTogether}
+use Rattle.ring.specs.Prelude.{Counts, IsKeyOf, Job, Key, KeyStandsFor}
+use Rattle.ring.specs.Prelude.{bytes_at, key_algorithm, key_blocks}
+use Rattle.ring.specs.Prelude.{max_input_len, raised}
 use Rattle.ring.proofs.Each.{message-read}
 use Rattle.ring.proofs.Places.{HoldsBelow, read_at}
-use Rattle.ring.proofs.Sums.{sum_below-same}
 
 -- the cost of the key of the secret at a place
 pub cost_key_at : (a : Algorithm) (m0 : Counts) {m1 : Counts} (items : List (Bor (List ℕ))) (i : ℕ)
@@ -63,64 +62,3 @@ some_job key =
       salt = record { ref_ptr = (0, 0); now = [] };
       number = 0;
     }
-
--- the job is the round of this number, of the key and the salt at the place i
-pub record IsJobAt (keys : List Key) (salts : List (Bor (List ℕ))) (number i : ℕ) (job : Job)
-    : Type 0 where
-  pub key : (d : Key) → job.key.now ≡ get_or keys i d
-  pub salt : job.salt.now ≡ bytes_at salts i
-  pub round : job.number ≡ number
-
-module _ {a : Algorithm} {keys : List Key} {salts : List (Bor (List ℕ))} {number i : ℕ} {job : Job}
-    (is : IsJobAt keys salts number i job)
-    (all : (key : Key) → key_algorithm (get_or keys i key) ≡ a) where
-  job-algorithm : key_algorithm job.key.now ≡ a
-  job-algorithm = ap (λ (k : Key). key_algorithm k) (is.key job.key.now) ∙ all job.key.now
-
-  -- it can be run, and costs what the salt there does
-  pub job-can : IsTagWithin a (length (bytes_at salts i) + 4) → CanRun a job
-  job-can within =
-      record { algorithm = job-algorithm; within = rw (job-algorithm, is.salt) within }
-
-  pub job-blocks : (c : ℕ) → job_blocks c job ≡ iterate_blocks a (length (bytes_at salts i)) c
-  job-blocks c = rw (job-algorithm, is.salt) refl
-
-  -- and gives the round of the key and the salt there
-  pub job-round : {c : ℕ} {bytes : List ℕ} (p : ℕ → List ℕ) → AreKeysOf a keys p
-      → i < length keys → BeginsWithRound job c bytes
-      → take (output_len a) bytes ≡ xored a (p i) (bytes_at salts i) number c
-  job-round p of below begins =
-      let stands : KeyStandsFor job.key.now (p i) =
-      rw (is.key job.key.now) (of.each i job.key.now below).stands in
-      rw (job-algorithm, is.salt, is.round) at (begins.round (p i) stands)
-
--- at each of m places
-module _ {a : Algorithm} {keys : List Key} {salts : List (Bor (List ℕ))} {number : ℕ}
-    {jobs : List Job}
-    (are : HoldsBelow (IsJobAt keys salts number) (length keys) jobs)
-    (all : (i : ℕ) (key : Key) → i < length keys → key_algorithm (get_or keys i key) ≡ a) where
-  is-job : (i : ℕ) (d : Job) → i < length keys
-      → IsJobAt keys salts number i (get_or (take (length keys) jobs) i d)
-  is-job i d below = rw (get_or-take (length keys) jobs i d below) (are.each i d below)
-
-  pub jobs-can : ((i : ℕ) → i < length keys → IsTagWithin a (length (bytes_at salts i) + 4))
-      → (i : ℕ) (d : Job) → i < length keys → CanRun a (get_or (take (length keys) jobs) i d)
-  jobs-can within i d below =
-      job-can (is-job i d below) (λ key. all i key below) (within i below)
-
-  pub jobs-blocks : (c : ℕ) (d : Job)
-      → sum_below (λ i. job_blocks c (get_or (take (length keys) jobs) i d)) (length keys)
-      ≡ sum_below (λ i. iterate_blocks a (length (bytes_at salts i)) c) (length keys)
-  jobs-blocks c d =
-      sum_below-same (λ i. job_blocks c (get_or (take (length keys) jobs) i d))
-      (λ i. iterate_blocks a (length (bytes_at salts i)) c) (length keys)
-      (λ i below. job-blocks (is-job i d below) (λ key. all i key below) c)
-
-  pub jobs-rounds : (c : ℕ) (rounds : List Output) (d : Job)
-      → ((i : ℕ) (room : Output) → i < length keys
-      → BeginsWithRound (get_or (take (length keys) jobs) i d) c (get_or rounds i room).0)
-      → (p : ℕ → List ℕ) (i : ℕ) (room : Output) → AreKeysOf a keys p → i < length keys
-      → take (output_len a) (get_or rounds i room).0
-      ≡ xored a (p i) (bytes_at salts i) number c
-  jobs-rounds c rounds d begin p i room of below =
-      job-round (is-job i d below) (λ key. all i key below) p of below (begin i room below)

@@ -1,48 +1,53 @@
--- The jobs of the rounds of one key.
-use Rattle.std.proofs.Common.{◌≡◌, ℕ, ◌+◌, ◌*◌, ◌<◌, ◌≤◌, List, length, take, get_or, refl}
-use Rattle.std.proofs.Common.{length-take-le}
+-- The jobs of rounds, each of the key, the salt and the number for its place.
+use Rattle.std.proofs.Common.{◌≡◌, ◌∙◌, ℕ, ◌+◌, ◌<◌, List, ap, get_or, length, refl, take}
 use Rattle.std.proofs.lemmas.List.{get_or-take}
-use Rattle.ring.specs.Prelude.{BeginsWithRound, Job, Key, KeyStandsFor, iterate_blocks, job_blocks}
-use Rattle.ring.specs.Prelude.{key_algorithm, output_len, sum_below, xored}
-use Rattle.ring.proofs.Sums.{sum_below-each}
+use Rattle.ring.specs.Prelude.{Algorithm, BeginsWithRound, CanRun, IsTagWithin, Job, Key}
+use Rattle.ring.specs.Prelude.{KeyStandsFor, iterate_blocks, job_blocks, key_algorithm, output_len}
+use Rattle.ring.specs.Prelude.{sum_below, xored}
+use Rattle.ring.proofs.Places.{HoldsBelow}
+use Rattle.ring.proofs.Sums.{sum_below-same}
 
 -- the blocks of one round of c iterates
 abbrev pub round_blocks : (key : Key) (s : List ℕ) (c : ℕ) → ℕ
 round_blocks key s c = iterate_blocks (key_algorithm key) (length s) c
 
--- the job is of this key, salt and number
-pub record IsJobOf (k : Key) (s : List ℕ) (i : ℕ) (job : Job) : Type 0 where
-  pub key : job.key.now ≡ k
-  pub salt : job.salt.now ≡ s
-  pub number : job.number ≡ i
+-- the job is of the key, the salt and the number for the place i
+pub record IsJobAt (k : ℕ → Key) (s : ℕ → List ℕ) (n : ℕ → ℕ) (i : ℕ) (job : Job) : Type 0 where
+  pub key : job.key.now ≡ k i
+  pub salt : job.salt.now ≡ s i
+  pub number : job.number ≡ n i
 
--- what begins with the job's round
-pub round_of_job : {key : Key} {s : List ℕ} {number c : ℕ} {job : Job} {bytes : List ℕ}
-    → IsJobOf key s number job → BeginsWithRound job c bytes → (p : List ℕ) → KeyStandsFor key p
-    → take (output_len (key_algorithm key)) bytes ≡ xored (key_algorithm key) p s number c
-round_of_job of begins p stands =
-    rw (of.key, of.salt, of.number) at (begins.round p (rw of.key stands))
+-- the first m jobs of a list, with keys of the algorithm a
+module _ {a : Algorithm} {k : ℕ → Key} {s : ℕ → List ℕ} {n : ℕ → ℕ} {m : ℕ} {jobs : List Job}
+    (are : HoldsBelow (IsJobAt k s n) m jobs)
+    (all : (i : ℕ) → i < m → key_algorithm (k i) ≡ a) where
+  is-job : (i : ℕ) (d : Job) → i < m → IsJobAt k s n i (get_or (take m jobs) i d)
+  is-job i d below = rw (get_or-take m jobs i d below) (are.each i d below)
 
--- r jobs of one key and salt, numbered from before + 1 on
-pub record AreJobsAfter (k : Key) (s : List ℕ) (before r : ℕ) (jobs : List Job) : Type 0 where
-  pub size : length jobs ≡ r
-  pub each : (i : ℕ) (job : Job) → i < r → IsJobOf k s (before + (i + 1)) (get_or jobs i job)
+  job-algorithm : (i : ℕ) (d : Job) → i < m
+      → key_algorithm (get_or (take m jobs) i d).key.now ≡ a
+  job-algorithm i d below =
+      ap (λ (key : Key). key_algorithm key) (is-job i d below).key ∙ all i below
 
--- the first r jobs of a list
-pub jobs-front : {k : Key} {s : List ℕ} {before r : ℕ} (jobs : List Job) → r ≤ length jobs
-    → ((i : ℕ) (job : Job) → i < r → IsJobOf k s (before + (i + 1)) (get_or jobs i job))
-    → AreJobsAfter k s before r (take r jobs)
-jobs-front {r = r} jobs room each =
-    record {
-      size = length-take-le r jobs room;
-      each = λ i job below. rw (get_or-take r jobs i job below) (each i job below);
-    }
+  -- they can be run, and cost what their salts do
+  pub jobs-can : ((i : ℕ) → i < m → IsTagWithin a (length (s i) + 4))
+      → (i : ℕ) (d : Job) → i < m → CanRun a (get_or (take m jobs) i d)
+  jobs-can within i d below =
+      let same = job-algorithm i d below in
+      record { algorithm = same; within = rw (same, (is-job i d below).salt) (within i below) }
 
--- they cost as much as r rounds
-pub jobs-cost : {k : Key} {s : List ℕ} {before r : ℕ} {jobs : List Job} (c : ℕ) (job : Job)
-    → AreJobsAfter k s before r jobs
-    → sum_below (λ i. job_blocks c (get_or jobs i job)) (length jobs) ≡ r * round_blocks k s c
-jobs-cost {k = k} {s = s} {r = r} {jobs = jobs} c job are =
-    let same : (i : ℕ) → i < r → job_blocks c (get_or jobs i job) ≡ round_blocks k s c =
-    λ i below. let is = are.each i job below in rw (is.key, is.salt) refl in
-    rw are.size (sum_below-each (λ i. job_blocks c (get_or jobs i job)) _ r same)
+  pub jobs-blocks : (c : ℕ) (d : Job)
+      → sum_below (λ i. job_blocks c (get_or (take m jobs) i d)) m
+      ≡ sum_below (λ i. iterate_blocks a (length (s i)) c) m
+  jobs-blocks c d =
+      sum_below-same (λ i. job_blocks c (get_or (take m jobs) i d))
+      (λ i. iterate_blocks a (length (s i)) c) m
+      (λ i below. rw (job-algorithm i d below, (is-job i d below).salt) refl)
+
+  -- and each gives the round of its key, its salt and its number
+  pub jobs-round : {c : ℕ} {bytes : List ℕ} (i : ℕ) (d : Job) (p : List ℕ) → i < m
+      → BeginsWithRound (get_or (take m jobs) i d) c bytes → KeyStandsFor (k i) p
+      → take (output_len a) bytes ≡ xored a p (s i) (n i) c
+  jobs-round i d p below begins stands =
+      let is = is-job i d below in
+      rw (job-algorithm i d below, is.salt, is.number) at (begins.round p (rw is.key stands))

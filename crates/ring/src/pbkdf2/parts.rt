@@ -3,7 +3,7 @@
 ghost use Rattle.std.specs.Prelude.{◌≡◌, ◌↔◌, ℕ, ◌+◌, ◌-◌, ◌*◌, ◌^◌, ◌<◌, ◌≤◌};
 ghost use Rattle.std.specs.Prelude.{List, get_or, length, min, take, IsTrue};
 ghost use Rattle.std.specs.Int.NonZero.{non_zero_u32_get};
-ghost use Rattle.ring.specs.Prelude.{CanRunTogether, IsTagWithin, Job, KeyStandsFor, Output, Takes};
+ghost use Rattle.ring.specs.Prelude.{CanRunTogether, IsTagWithin, KeyStandsFor, Output, Takes};
 ghost use Rattle.ring.specs.Prelude.{derive_rounds, dk, iterate_blocks, joined_blocks};
 ghost use Rattle.ring.specs.Prelude.{key_algorithm, output_len, raised, xored};
 
@@ -58,26 +58,6 @@ fn next_part<const BITS: usize>(algorithm: digest::Algorithm, left: usize) -> (u
     (rounds, left.min(len))
 }
 
-// The jobs of so many rounds, which come after the first `before`. The array's other jobs aren't
-// run.
-fn jobs_after<'a>(key: &'a Key, salt: &'a [u8], before: u32, rounds: usize) -> [Job<'a>; MAX_LANES]
-    requires room { rounds ≤ 8 }
-    requires some { 0 < rounds }
-    requires numbers { before + rounds < 2 ^ 32 }
-    ensures keys { (i : ℕ) (job : Job) → i < rounds → (get_or result i job).key.now ≡ key.now }
-    ensures salts { (i : ℕ) (job : Job) → i < rounds → (get_or result i job).salt.now ≡ salt.now }
-    ensures numbers { (i : ℕ) (job : Job) → i < rounds
-        → (get_or result i job).number ≡ before + (i + 1) }
-    ensures size { length result ≡ 8 }
-{
-    let number = before + 1;
-    let mut jobs = [Job { key, salt, number }; MAX_LANES];
-    'jobs: for i in 0..rounds {
-        jobs[i].number = number + i as u32;
-    }
-    jobs
-}
-
 // Hands over the front of each round, one after another, until there are `len` bytes.
 fn take_rounds_in_order<R: Receiver>(
     rounds: &[Output],
@@ -130,7 +110,13 @@ fn write_rounds_after<const BITS: usize>(
         0 }
 {
     let algorithm = key.algorithm().digest_algorithm();
-    let jobs = jobs_after(key, salt, before, rounds.len());
+    let number = before;
+    // Those past the rounds aren't run.
+    let mut jobs = [Job { key, salt, number }; MAX_LANES];
+    'jobs: for i in 0..rounds.len() {
+        let number = before + 1 + i as u32;
+        jobs[i] = Job { key, salt, number };
+    }
     run_jobs::<BITS>(algorithm, &jobs[..rounds.len()], iterations, rounds, meter);
 }
 

@@ -3,7 +3,8 @@ use Rattle.std.proofs.lemmas.List.{get_or_default, length-take-le}
 use Rattle.std.specs.Int.NonZero.{non_zero_u32_get}
 use Rattle.ring.specs.Prelude.{Algorithm, CanRunTogether, Job, raised}
 use Rattle.ring.proofs.Each.{message-read}
-use Rattle.ring.proofs.KeysAt.{jobs-blocks, jobs-can, jobs-rounds, some_job}
+use Rattle.ring.proofs.KeysAt.{some_job}
+use Rattle.ring.proofs.Parts.{jobs-blocks, jobs-can, jobs-round}
 use Rattle.ring.proofs.Places.{places-next}
 use Rattle.ring.proofs.pbkdf2.keys.write_round_of_each.Goals as goal
 
@@ -15,17 +16,14 @@ several a {n = n} jobs can eight = length-take-le n jobs (grind (arith, can, eig
 pub jobs-preserved : goal.jobs-preserved
 jobs-preserved g c =
     let i = c.jobs.i in
-    let keys = c.args.keys.now in
-    let salts = c.args.salts.now in
     let eight = c.jobs.invariant.0 in (
       search (rules, eight),
-      places-next _ i c.jobs.invariant.1
-          (grind (arith, eight, c.requires.together))
+      λ d. places-next _ i (c.jobs.invariant.1 d) (grind (arith, eight, c.requires.together))
           (record {
-            key = λ k. c.index-keys-i.is
-                ∙ get_or_default keys i c.index-keys-i.result k c.jobs-test.true;
-            salt = sym (message-read salts i);
-            round = refl;
+            key = c.index-keys-i.is
+                ∙ get_or_default c.args.keys.now i c.index-keys-i.result d c.jobs-test.true;
+            salt = sym (message-read c.args.salts.now i);
+            number = refl;
           }),
     )
 
@@ -33,21 +31,25 @@ pub run_jobs-requires-clause-each : goal.run_jobs-requires-clause-each
 run_jobs-requires-clause-each g c =
     let long = several c.args.algorithm c.jobs.jobs c.requires.together c.jobs-test.array_long in
     let all : c.jobs.i ≡ length c.args.keys.now = omega arith in
-    rw long (jobs-can (rw all at c.jobs.invariant.1) c.requires.keys c.requires.within)
+    let first = c.index-keys-0.result in
+    rw long (jobs-can (rw all at (c.jobs.invariant.1 first))
+    (λ i below. c.requires.keys i first below) c.requires.within)
 
 pub returns-clause-ok : goal.returns-clause-ok
-returns-clause-ok g c =
+returns-clause-ok g c = λ p i room of below.
     let long = several c.args.algorithm c.jobs.jobs c.requires.together c.jobs-test.array_long in
     let all : c.jobs.i ≡ length c.args.keys.now = omega arith in
-    jobs-rounds (rw all at c.jobs.invariant.1) c.requires.keys
-    (non_zero_u32_get c.args.iterations) _ (some_job c.index-keys-0.result)
-    (λ i room below. c.run_jobs.ensures.ok i (some_job c.index-keys-0.result) room (rw long below))
+    let first = c.index-keys-0.result in
+    jobs-round (rw all at (c.jobs.invariant.1 first)) (λ j h. c.requires.keys j first h)
+    i (some_job first) (p i) below (c.run_jobs.ensures.ok i (some_job first) room (rw long below))
+    (of.each i first below).stands
 
 pub returns-clause-cost : goal.returns-clause-cost
 returns-clause-cost g c =
     let long = several c.args.algorithm c.jobs.jobs c.requires.together c.jobs-test.array_long in
     let all : c.jobs.i ≡ length c.args.keys.now = omega arith in
-    rw long at (c.run_jobs.ensures.cost (some_job c.index-keys-0.result))
+    let first = c.index-keys-0.result in
+    rw long at (c.run_jobs.ensures.cost (some_job first))
     ∙ ap (λ (z : ℕ). raised c.args.meter.now z 0)
-    (jobs-blocks (rw all at c.jobs.invariant.1) c.requires.keys
-    (non_zero_u32_get c.args.iterations) (some_job c.index-keys-0.result))
+    (jobs-blocks (rw all at (c.jobs.invariant.1 first)) (λ i below. c.requires.keys i first below)
+    (non_zero_u32_get c.args.iterations) (some_job first))

@@ -46,10 +46,7 @@ sum_below-same f h (suc m) same =
     omega (arith, step, same m (omega arith))
 
 -- m times as much where each place has b
-pub sum_below-each : (f : ℕ → ℕ) (b m : ℕ) → ((i : ℕ) → i < m → f i ≡ b) → sum_below f m ≡ m * b
+pub sum_below-const : (b m : ℕ) → sum_below (λ i. b) m ≡ m * b
 unfolding sum_below
-sum_below-each f b zero same = grind arith
-sum_below-each f b (suc m) same =
-    let step = sum_below-each f b m (λ i below. same i (omega (arith, below))) in
-    let last : f m ≡ b = same m (omega arith) in
-    grind (arith, step, last)
+sum_below-const b zero = grind arith
+sum_below-const b (suc m) = grind (arith, sum_below-const b m)

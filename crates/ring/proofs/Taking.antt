@@ -1,15 +1,10 @@
 -- Bytes that come to places, part by part.
-use Rattle.std.proofs.Common.{◌≡◌, ◌↔◌, ℕ, ◌+◌, ◌-◌, ◌<◌, ◌≤◌, Bool, true, false, ◌&&◌, List, []}
+use Rattle.std.proofs.Common.{◌≡◌, ◌↔◌, ℕ, ◌+◌, ◌-◌, ◌<◌, ◌≤◌, Bool, true, ◌&&◌, List, []}
 use Rattle.std.proofs.Common.{◌++◌, length, take, drop, arith, inl, inr, append-nil, append_assoc}
 use Rattle.std.proofs.Common.{length-append, refl}
-use Rattle.std.proofs.lemmas.Bool.{cases_lt}
+use Rattle.std.proofs.lemmas.Bool.{and_from, and_parts, cases_lt}
 use Rattle.ring.specs.Prelude.{Takes}
 use Rattle.ring.proofs.Pieces.{same_part}
-
--- a conjunction is true exactly where both parts are
-both_true : (m k : Bool) → ((m && k) ≡ true) ↔ ((m ≡ true) × (k ≡ true))
-both_true true k = (λ h. (refl, h), λ h. h.1)
-both_true false k = (λ h. absurd (cc), λ h. absurd (let e : false ≡ true = h.0 in cc))
 
 module _ {R : Type 0} {H : R → R → ℕ → List ℕ → Type 0} where
   -- no place takes any
@@ -94,10 +89,10 @@ compared-part {m = m} {b = b} front part value long room is was =
     let split = rw long at (same_part value front part (omega (arith, long, room))) in
     let had = rw long at was in (
       λ e.
-          let both = (both_true m b).0 e in
+          let both = and_parts m b e in
           let first = had.0 both.0 in
           (first.0, split.1 (first.1, is.0 both.1)),
       λ h.
           let both = split.0 h.1 in
-          (both_true m b).1 (had.1 (h.0, both.0), is.1 both.1),
+          and_from m b (had.1 (h.0, both.0)) (is.1 both.1),
     )

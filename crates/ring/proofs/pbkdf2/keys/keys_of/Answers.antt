@@ -1,18 +1,15 @@
 use Rattle.std.proofs.Common.{◌≡◌, arith, length, refl, rules}
-use Rattle.ring.specs.Prelude.{hmac_digest}
-use Rattle.ring.proofs.KeysAt.{cost_key_at, key_at, key_fits, keys-all}
+use Rattle.ring.proofs.Each.{message-read}
+use Rattle.ring.proofs.KeysAt.{key_at, keys-all}
 use Rattle.ring.proofs.Places.{places-next, risen-next, risen-none}
 use Rattle.ring.proofs.pbkdf2.keys.keys_of.Goals as goal
 
 pub key_within-requires : goal.key_within-requires
 key_within-requires c =
-    let secrets = c.args.secrets.now in
-    key_fits (hmac_digest c.args.algorithm) secrets (length secrets) c.keys.i c.requires.within
-    (omega arith)
+    rw (message-read c.args.secrets.now c.keys.i) at (c.requires.within c.keys.i (omega arith))
 
 pub keys-init : goal.keys-init
 keys-init c =
-    let a = hmac_digest c.args.algorithm in
     let secrets = c.args.secrets.now in
     let first = c.key_within-first.ensures in
     record {
@@ -22,12 +19,11 @@ keys-init c =
             rw (zero, c.clone.ensures) (key_at secrets 0 first.algorithm first.ok);
       };
       size = refl;
-      cost = risen-next risen-none (cost_key_at a _ secrets 0 first.cost);
+      cost = risen-next risen-none (rw (message-read secrets 0) first.cost);
     }
 
 pub keys-preserved : goal.keys-preserved
 keys-preserved c =
-    let a = hmac_digest c.args.algorithm in
     let secrets = c.args.secrets.now in
     let i = c.keys.i in
     let size = c.keys.invariant.size in
@@ -36,7 +32,7 @@ keys-preserved c =
       keys = places-next _ i c.keys.invariant.keys
           (omega (arith, size, c.requires.most)) (key_at secrets i key.algorithm key.ok);
       size = search (rules, size);
-      cost = risen-next c.keys.invariant.cost (cost_key_at a _ secrets i key.cost);
+      cost = risen-next c.keys.invariant.cost (rw (message-read secrets i) key.cost);
     }
 
 pub returns-clause-ok : goal.returns-clause-ok

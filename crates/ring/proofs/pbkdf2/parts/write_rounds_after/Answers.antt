@@ -4,7 +4,7 @@ use Rattle.ring.specs.Prelude.{raised}
 use Rattle.ring.proofs.KeysAt.{some_job}
 use Rattle.ring.proofs.Parts.{jobs-blocks, jobs-can, jobs-round, round_blocks}
 use Rattle.ring.proofs.Places.{places-next}
-use Rattle.ring.proofs.Sums.{sum_below-each}
+use Rattle.ring.proofs.Sums.{sum_below-const}
 use Rattle.ring.proofs.pbkdf2.parts.write_rounds_after.Goals as goal
 
 pub jobs-preserved : goal.jobs-preserved
@@ -38,6 +38,5 @@ returns g c =
           (c.run_jobs.ensures.ok i job room (rw long below)) stands;
       cost = rw long at (c.run_jobs.ensures.cost job) ∙ ap (λ (z : ℕ). raised c.args.meter.now z 0)
           (jobs-blocks are (λ i below. refl) iterations job
-          ∙ sum_below-each _ (round_blocks c.args.key.now c.args.salt.now iterations) r
-          (λ i below. refl));
+          ∙ sum_below-const (round_blocks c.args.key.now c.args.salt.now iterations) r);
     }

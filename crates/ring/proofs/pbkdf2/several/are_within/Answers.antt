@@ -1,5 +1,4 @@
-use Rattle.std.proofs.Common.{arith, inl, inr, length, rules, sym, true≢false}
-use Rattle.std.proofs.lemmas.Bool.{cases_order}
+use Rattle.std.proofs.Common.{below_more, length, rules, sym, true≢false}
 use Rattle.ring.specs.Prelude.{CanDerive, bytes_at}
 use Rattle.ring.proofs.Each.{message-read}
 use Rattle.ring.proofs.pbkdf2.several.are_within.Goals as goal
@@ -25,10 +24,4 @@ places-preserved c =
     (length (bytes_at salts i)) c.args.len =
     rw (message-read secrets i, message-read salts i)
     (search (rules, c.if-not-can_derive.ensures)) in
-    λ k below. elim (cases_order k i) [
-      | inl e ↦ rw e this
-      | inr o ↦ elim o [
-        | inl h ↦ c.places.invariant k h
-        | inr h ↦ absurd (omega (arith, h, below))
-      ]
-    ]
+    below_more _ i c.places.invariant this

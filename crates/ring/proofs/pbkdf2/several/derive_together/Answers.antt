@@ -3,7 +3,6 @@ use Rattle.std.specs.Int.NonZero.{non_zero_u32_get}
 use Rattle.ring.specs.Prelude.{hmac_digest}
 use Rattle.ring.proofs.DerivedKeys.{blocks-each, blocks-one}
 use Rattle.ring.proofs.Each.{message-read}
-use Rattle.ring.proofs.KeysAt.{keys-algorithm, keys-together}
 use Rattle.ring.proofs.Sums.{raised-sum}
 use Rattle.ring.proofs.Taking.{takes-same}
 use Rattle.ring.proofs.pbkdf2.several.derive_together.Goals as goal
@@ -36,8 +35,8 @@ derive_under_each-requires g c =
     let within = c.requires.within in
     let first : 0 < length c.args.secrets.now = grind (arith, c.requires.together) in
     record {
-      together = keys-together digest keys.count c.requires.together;
-      keys = keys-algorithm digest keys.ok;
+      together = rw (digest, keys.count) c.requires.together;
+      keys = λ i key below. (keys.ok.each i key below).algorithm ∙ sym digest;
       count = within.salt_count ∙ sym keys.count;
       within = λ i some below.
           rw digest ((within.each i (omega (arith, keys.count, below))).salt some);

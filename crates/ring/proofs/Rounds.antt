@@ -12,7 +12,7 @@ use Rattle.ring.proofs.Iterates.{length-xored}
 use Rattle.ring.proofs.Pieces.{IsEven, joined_blocks-append, joined_blocks-next, joined_blocks-none}
 use Rattle.ring.proofs.Pieces.{length-joined_blocks}
 use Rattle.ring.proofs.Rows.{output_len-positive}
-use Rattle.ring.proofs.Sums.{raised-sum, raised-zero}
+use Rattle.ring.proofs.Sums.{raised-sum, raised_zero}
 
 -- one product more
 pub mul-more : (r b : ℕ) → r * b + b ≡ (r + 1) * b
@@ -120,7 +120,7 @@ pub record HasRun (a : Algorithm) (b n r w pairs : ℕ) (before now : Counts) : 
 
 pub run-none : {a : Algorithm} {b n pairs : ℕ} {m : Counts} → pairs ≡ 0 → HasRun a b n 0 0 pairs m m
 run-none {a} {b} {n} {m = m} none =
-    record { reached = reached-none a n; cost = raised-zero m (zero-mul b) none }
+    record { reached = reached-none a n; cost = sym (raised_zero m _ _ (zero-mul b) none) }
 
 module _ {a : Algorithm} {b n r w pairs : ℕ} {m0 m1 : Counts} where
   -- the next part is run: c blocks, and then `more` pairs of bytes

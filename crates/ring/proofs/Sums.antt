@@ -1,11 +1,11 @@
 -- Sums over places, and what a meter rises by there.
-use Rattle.std.proofs.Common.{◌≡◌, ℕ, zero, suc, ◌+◌, ◌*◌, ◌<◌, add-one, add-suc, arith, refl}
+use Rattle.std.proofs.Common.{◌≡◌, ℕ, zero, suc, ◌+◌, ◌*◌, ◌<◌, add-one, add-suc, arith, refl, sym}
 use Rattle.ring.specs.Prelude.{Counts, raised, sum_below}
 use Rattle.ring_core.proofs.Costs.{raised-none, raised-raised}
 
 -- a rise by nothing
-pub raised-zero : (m : Counts) {b p : ℕ} → b ≡ 0 → p ≡ 0 → m ≡ raised m b p
-raised-zero m blocks pairs = rw (blocks, pairs) (raised-none m)
+pub raised_zero : (m : Counts) (b p : ℕ) → b ≡ 0 → p ≡ 0 → raised m b p ≡ m
+raised_zero m b p blocks pairs = rw (blocks, pairs) (sym (raised-none m))
 
 -- what two rises make of both counts
 pub raised-sum : (m0 : Counts) {m1 m2 : Counts} (b p c q : ℕ) {s t : ℕ} → m1 ≡ raised m0 b p

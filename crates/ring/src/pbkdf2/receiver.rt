@@ -63,6 +63,7 @@ impl<'a> Receiver for Written<'a> {
 
     ghost none = { λ start place. (refl, refl, λ zero. refl) };
 
+    #[tactic(auto, using(crate::proofs::Sums::raised_zero))]
     fn take(&mut self, _place: usize, from: usize, part: &[u8], _meter: &mut Meter) {
         let out = &mut *self.out;
         out[from..from + part.len()].copy_from_slice(part);
@@ -128,6 +129,7 @@ impl<'a, const N: usize> Receiver for WrittenEach<'a, N> {
 
     ghost none = { λ start place. (refl, refl, refl, refl) };
 
+    #[tactic(auto, using(crate::proofs::Sums::raised_zero))]
     fn take(&mut self, place: usize, from: usize, part: &[u8], _meter: &mut Meter) {
         let out = &mut *self.out;
         put_at(out, place, from, part);

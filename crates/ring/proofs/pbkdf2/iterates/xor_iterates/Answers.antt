@@ -1,12 +1,12 @@
 use Rattle.std.proofs.Common.{◌≡◌, arith, refl}
 use Rattle.std.specs.Int.NonZero.{non_zero_u32_get}
 use Rattle.ring.proofs.Iterates.{blocks-next, made-first, made-next}
-use Rattle.ring.proofs.Sums.{raised-sum, raised-zero}
+use Rattle.ring.proofs.Sums.{raised-sum, raised_zero}
 use Rattle.ring.proofs.pbkdf2.iterates.xor_iterates.Goals as goal
 
 pub iterates-init : goal.iterates-init
 iterates-init g c =
-    (λ l p s i stands h. made-first h, raised-zero _ (grind arith) refl)
+    (λ l p s i stands h. made-first h, grind (arith, raised_zero))
 
 pub iterates-preserved : goal.iterates-preserved
 iterates-preserved g c =

@@ -4,7 +4,7 @@ use Rattle.std.proofs.lemmas.List.{length-take, length-take-le, take-take}
 use Rattle.ring.specs.Prelude.{Output, joined_blocks}
 use Rattle.ring.proofs.Pieces.{put-next, put-none}
 use Rattle.ring.proofs.Rounds.{mul-more}
-use Rattle.ring.proofs.Sums.{raised-sum, raised-zero}
+use Rattle.ring.proofs.Sums.{raised-sum, raised_zero}
 use Rattle.ring.proofs.Taking.{takes-more, takes-none}
 use Rattle.ring.proofs.pbkdf2.parts.take_rounds_in_order.Goals as goal
 
@@ -13,7 +13,7 @@ rounds-init g c =
     record {
       reached = omega (arith, zero-mul c.args.output_len);
       same = (refl, refl);
-      cost = raised-zero _ refl (grind arith);
+      cost = grind (arith, raised_zero);
       taken = λ f each.
           (put-none f c.args.len, takes-none (λ i below. refl));
     }

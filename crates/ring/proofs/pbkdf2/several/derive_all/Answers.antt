@@ -4,7 +4,7 @@ use Rattle.ring.specs.Prelude.{hmac_digest, sum_below}
 use Rattle.ring.proofs.DerivedKeys.{blocks-part, can_derive-part}
 use Rattle.ring.proofs.Each.{message_at-part}
 use Rattle.ring.proofs.Places.{items_from, length-items_from}
-use Rattle.ring.proofs.Sums.{raised-sum, raised-zero}
+use Rattle.ring.proofs.Sums.{raised-sum, raised_zero}
 use Rattle.ring.proofs.Taking.{takes-none, takes-places}
 use Rattle.ring.proofs.pbkdf2.several.derive_all.Goals as goal
 
@@ -14,7 +14,7 @@ together-init g c =
     record {
       within = omega arith;
       same = (refl, refl);
-      cost = raised-zero _ refl (grind arith);
+      cost = grind (arith, raised_zero);
       taken = takes-none (λ i below. absurd (omega (arith, below)));
     }
 

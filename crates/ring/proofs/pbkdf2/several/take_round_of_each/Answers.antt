@@ -3,7 +3,7 @@ use Rattle.std.proofs.Common.{take}
 use Rattle.std.proofs.lemmas.List.{get_or_default}
 use Rattle.ring.specs.Prelude.{Output}
 use Rattle.ring.proofs.DerivedKeys.{no_output}
-use Rattle.ring.proofs.Sums.{raised-sum, raised-zero}
+use Rattle.ring.proofs.Sums.{raised-sum, raised_zero}
 use Rattle.ring.proofs.Taking.{takes-none, takes-places}
 use Rattle.ring.proofs.pbkdf2.several.take_round_of_each.Goals as goal
 
@@ -11,7 +11,7 @@ pub places-init : goal.places-init
 places-init g c =
     record {
       same = (refl, refl);
-      cost = raised-zero _ refl (grind arith);
+      cost = grind (arith, raised_zero);
       taken = λ room. takes-none (λ i below. absurd (omega (arith, below)));
     }
 

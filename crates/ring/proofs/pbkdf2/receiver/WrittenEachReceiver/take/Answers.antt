@@ -1,6 +1,4 @@
 use Rattle.std.proofs.Common.{◌≡◌, ◌≢◌, ◌+◌, ◌++◌, ◌∙◌, ℕ, ap, arith, length, length-append}
-use Rattle.std.proofs.Common.{zero-mul}
-use Rattle.ring_core.proofs.Costs.{raised-none}
 use Rattle.ring.proofs.pbkdf2.receiver.WrittenEachReceiver.take.Goals as goal
 
 pub returns-clause-ok : goal.returns-clause-ok
@@ -26,6 +24,3 @@ returns-clause-ok g c =
           let same = put.others j other in
           (has.0, count ∙ has.1, rw same has.2, rw same has.3);
     }
-
-pub returns-clause-cost : goal.returns-clause-cost
-returns-clause-cost g c = rw zero-mul (raised-none c.args._meter.now)

@@ -1,10 +1,15 @@
 -- Bytes that come to places, part by part.
 use Rattle.std.proofs.Common.{◌≡◌, ◌↔◌, ℕ, ◌+◌, ◌-◌, ◌<◌, ◌≤◌, Bool, true, ◌&&◌, List, []}
-use Rattle.std.proofs.Common.{◌++◌, length, take, drop, arith, inl, inr, append-nil, append_assoc}
+use Rattle.std.proofs.Common.{◌++◌, ◌∙◌, length, take, drop, arith, inl, inr, append-nil, append_assoc}
 use Rattle.std.proofs.Common.{length-append, refl}
 use Rattle.std.proofs.lemmas.Bool.{and_from, and_parts, cases_lt}
-use Rattle.ring.specs.Prelude.{Takes}
+use Rattle.ring.specs.Prelude.{KeepsRoom, Takes}
 use Rattle.ring.proofs.Pieces.{same_part}
+
+-- what is kept twice is kept
+pub keeps-more : {R : Type 0} {places room : R → ℕ} {x y z : R} → KeepsRoom places room x y
+    → KeepsRoom places room y z → KeepsRoom places room x z
+keeps-more s t = record { count = t.count ∙ s.count; bytes = t.bytes ∙ s.bytes }
 
 module _ {R : Type 0} {H : R → R → ℕ → List ℕ → Type 0} where
   -- no place takes any

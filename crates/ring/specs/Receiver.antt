@@ -1,5 +1,5 @@
 -- What takes the bytes of derived keys.
-use Rattle.std.specs.Prelude.{◌≡◌, ◌⊎◌, ℕ, ◌+◌, ◌<◌, ◌≤◌, List, ◌++◌, length}
+use Rattle.std.specs.Prelude.{◌≡◌, ◌⊎◌, ℕ, ◌+◌, ◌^◌, ◌<◌, ◌≤◌, List, ◌++◌, length}
 
 -- of m places from the first one on, each takes some bytes after the w that it took before, and no
 -- other place takes any
@@ -9,3 +9,14 @@ pub record Takes {R : Type 0} (HasCome : R → R → ℕ → List ℕ → Type 0
       → HasCome start old (first + i) front → HasCome start new (first + i) (front ++ bytes i)
   pub others : (start : R) (j : ℕ) (front : List ℕ) → (j < first) ⊎ (first + m ≤ j)
       → HasCome start old j front → HasCome start new j front
+
+-- a receiver with its places and its room at each has m places, and room for n bytes
+pub record HasRoom {R : Type 0} (places room : R → ℕ) (m n : ℕ) (r : R) : Type 0 where
+  pub count : m ≤ places r
+  pub bytes : n ≤ room r
+  pub most : room r < 2 ^ 63
+
+-- it keeps both
+pub record KeepsRoom {R : Type 0} (places room : R → ℕ) (old new : R) : Type 0 where
+  pub count : places new ≡ places old
+  pub bytes : room new ≡ room old

@@ -4,9 +4,9 @@ ghost use Rattle.std.specs.Prelude.{◌≡◌, ◌↔◌, ℕ, ◌+◌, ◌-◌,
 ghost use Rattle.std.specs.Prelude.{get_or, length, take};
 ghost use Rattle.std.specs.Int.NonZero.{non_zero_u32_get};
 ghost use Rattle.ring.specs.Prelude.{AreKeysOf, CanDerive, CanDeriveEach, CanRunTogether};
-ghost use Rattle.ring.specs.Prelude.{IsTagWithin, Key, Output, Takes, bytes_at, derive_each_blocks};
-ghost use Rattle.ring.specs.Prelude.{derive_rounds, dk, dk_at, hmac_digest, iterate_blocks};
-ghost use Rattle.ring.specs.Prelude.{key_algorithm, output_len, raised, sum_below};
+ghost use Rattle.ring.specs.Prelude.{HasRoom, IsTagWithin, KeepsRoom, Key, Output, Takes, bytes_at};
+ghost use Rattle.ring.specs.Prelude.{derive_each_blocks, derive_rounds, dk, dk_at, hmac_digest};
+ghost use Rattle.ring.specs.Prelude.{iterate_blocks, key_algorithm, output_len, raised, sum_below};
 
 use crate::digest::dynstate::Output;
 use crate::digest::vectors::lanes_for;
@@ -49,14 +49,12 @@ fn take_round_of_each<R: Receiver>(
     meter: &mut Meter,
 )
     requires part { len ≤ 64 }
-    requires places { first + length rounds.now ≤ R.places receiver.old }
     requires most { first + length rounds.now < 2 ^ 64 }
-    requires room { from + len ≤ R.room receiver.old }
-    requires size { R.room receiver.old < 2 ^ 63 }
+    requires room { HasRoom R.places R.room (first + length rounds.now) (from + len)
+        receiver.old }
     ensures ok { (room : Output) → Takes R.HasCome first (length rounds.now) from
         (λ i. take len (get_or rounds.now i room).0) receiver.old receiver.new }
-    ensures same { (R.places receiver.new ≡ R.places receiver.old)
-        × (R.room receiver.new ≡ R.room receiver.old) }
+    ensures same { KeepsRoom R.places R.room receiver.old receiver.new }
     ensures cost { meter.new ≡ raised meter.old 0 (R.pairs * (length rounds.now * len)) }
 {
     'places: for i in 0..rounds.len() {
@@ -83,16 +81,13 @@ fn derive_under_each<const BITS: usize, R: Receiver>(
     requires within { (i : ℕ) → 0 < len → i < length keys.now
         → IsTagWithin algorithm (length (bytes_at salts.now i) + 4) }
     requires rounds { len ≤ (2 ^ 32 - 1) * output_len algorithm }
-    requires places { first + length keys.now ≤ R.places receiver.old }
     requires most { first + length keys.now < 2 ^ 64 }
-    requires room { len ≤ R.room receiver.old }
-    requires size { R.room receiver.old < 2 ^ 63 }
+    requires room { HasRoom R.places R.room (first + length keys.now) len receiver.old }
     ensures ok { (p : ℕ → List ℕ) → AreKeysOf algorithm keys.now p
         → Takes R.HasCome first (length keys.now) 0
         (λ i. dk algorithm (p i) (bytes_at salts.now i) (non_zero_u32_get iterations) len)
         receiver.old receiver.new }
-    ensures same { (R.places receiver.new ≡ R.places receiver.old)
-        × (R.room receiver.new ≡ R.room receiver.old) }
+    ensures same { KeepsRoom R.places R.room receiver.old receiver.new }
     ensures cost { meter.new ≡ raised meter.old (derive_rounds algorithm len
         * sum_below (λ i. iterate_blocks algorithm
         (length (bytes_at salts.now i)) (non_zero_u32_get iterations)) (length keys.now))
@@ -126,14 +121,11 @@ fn derive_together<const BITS: usize, R: Receiver>(
     requires together { CanRunTogether BITS (hmac_digest algorithm) (length secrets.now) }
     requires within { CanDeriveEach (hmac_digest algorithm) salts.now secrets.now
         (length secrets.now) len }
-    requires places { first + length secrets.now ≤ R.places receiver.old }
     requires most { first + length secrets.now < 2 ^ 64 }
-    requires room { len ≤ R.room receiver.old }
-    requires size { R.room receiver.old < 2 ^ 63 }
+    requires room { HasRoom R.places R.room (first + length secrets.now) len receiver.old }
     ensures ok { Takes R.HasCome first (length secrets.now) 0 (dk_at (hmac_digest algorithm)
         salts.now secrets.now (non_zero_u32_get iterations) len) receiver.old receiver.new }
-    ensures same { (R.places receiver.new ≡ R.places receiver.old)
-        × (R.room receiver.new ≡ R.room receiver.old) }
+    ensures same { KeepsRoom R.places R.room receiver.old receiver.new }
     ensures cost { meter.new ≡ raised meter.old (derive_each_blocks (hmac_digest algorithm)
         salts.now secrets.now (non_zero_u32_get iterations) len)
         (R.pairs * (length secrets.now * len)) }
@@ -161,9 +153,7 @@ pub(crate) fn derive_all<const BITS: usize, R: Receiver>(
 )
     requires within { CanDeriveEach (hmac_digest algorithm) salts.now secrets.now
         (length secrets.now) len }
-    requires places { length secrets.now ≤ R.places receiver.old }
-    requires room { len ≤ R.room receiver.old }
-    requires size { R.room receiver.old < 2 ^ 63 }
+    requires room { HasRoom R.places R.room (length secrets.now) len receiver.old }
     ensures ok { Takes R.HasCome 0 (length secrets.now) 0 (dk_at (hmac_digest algorithm)
         salts.now secrets.now (non_zero_u32_get iterations) len) receiver.old receiver.new }
     ensures cost { meter.new ≡ raised meter.old (derive_each_blocks (hmac_digest algorithm)

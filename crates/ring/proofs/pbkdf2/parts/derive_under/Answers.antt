@@ -3,7 +3,7 @@ use Rattle.std.proofs.Common.{length-take-le}
 use Rattle.ring.specs.Prelude.{dk, key_algorithm, output_len, xored}
 use Rattle.std.specs.Int.NonZero.{non_zero_u32_get}
 use Rattle.ring.proofs.Rounds.{IsNext, dk-next, length-dk, run-all, run-next, run-none}
-use Rattle.ring.proofs.Taking.{takes-more, takes-none}
+use Rattle.ring.proofs.Taking.{keeps-more, takes-more, takes-none}
 use Rattle.ring.proofs.pbkdf2.parts.derive_under.Goals as goal
 
 pub parts-init : goal.parts-init
@@ -11,7 +11,7 @@ unfolding dk
 parts-init g c =
     record {
       run = run-none (grind arith);
-      same = (refl, refl);
+      same = record { count = refl; bytes = refl };
       taken = λ p stands. takes-none (λ i below. refl);
     }
 
@@ -41,7 +41,7 @@ parts-preserved g c =
     record {
       run = run-next _ h.run next (rw (← c.write_rounds_after.auto.rounds, long) at rounds.cost)
           took.cost refl (grind arith);
-      same = (took.same.0 ∙ h.same.0, took.same.1 ∙ h.same.1);
+      same = keeps-more h.same took.same;
       taken = λ p stands.
           let f : ℕ → List ℕ = λ i. xored a p s (c.parts.number + i) iterations in
           let bytes = rw (len, long) at took.ok f (λ i room below. rounds.ok p i room stands

@@ -5,14 +5,14 @@ use Rattle.ring.specs.Prelude.{Output, joined_blocks}
 use Rattle.ring.proofs.Pieces.{put-next, put-none}
 use Rattle.ring.proofs.Rounds.{mul-more}
 use Rattle.ring.proofs.Sums.{raised-sum, raised_zero}
-use Rattle.ring.proofs.Taking.{takes-more, takes-none}
+use Rattle.ring.proofs.Taking.{keeps-more, takes-more, takes-none}
 use Rattle.ring.proofs.pbkdf2.parts.take_rounds_in_order.Goals as goal
 
 pub rounds-init : goal.rounds-init
 rounds-init g c =
     record {
       reached = omega (arith, zero-mul c.args.output_len);
-      same = (refl, refl);
+      same = record { count = refl; bytes = refl };
       cost = grind (arith, raised_zero);
       taken = λ f each.
           (put-none f c.args.len, takes-none (λ i below. refl));
@@ -33,7 +33,7 @@ rounds-preserved g c =
     let size : length bytes ≡ k = search rules in
     record {
       reached = omega (arith, mul-more i n, h.reached, part);
-      same = (c.take.ensures.same.0 ∙ h.same.0, c.take.ensures.same.1 ∙ h.same.1);
+      same = keeps-more h.same c.take.ensures.same;
       cost = raised-sum _ _ _ _ _ h.cost (rw size at c.take.ensures.cost) refl (grind arith);
       taken = λ f each.
           let round = each i none c.rounds-test.true in

@@ -1,11 +1,11 @@
-use Rattle.std.proofs.Common.{◌≡◌, ◌≤◌, ◌+◌, ◌-◌, ◌∙◌, arith, length, refl, rules}
+use Rattle.std.proofs.Common.{◌≡◌, ◌≤◌, ◌+◌, ◌-◌, arith, length, refl, rules}
 use Rattle.std.specs.Int.NonZero.{non_zero_u32_get}
 use Rattle.ring.specs.Prelude.{hmac_digest, sum_below}
 use Rattle.ring.proofs.DerivedKeys.{blocks-part, can_derive-part}
 use Rattle.ring.proofs.Each.{message_at-part}
 use Rattle.ring.proofs.Places.{items_from, length-items_from}
 use Rattle.ring.proofs.Sums.{raised-sum, raised_zero}
-use Rattle.ring.proofs.Taking.{takes-none, takes-places}
+use Rattle.ring.proofs.Taking.{keeps-more, takes-none, takes-places}
 use Rattle.ring.proofs.pbkdf2.several.derive_all.Goals as goal
 
 pub together-init : goal.together-init
@@ -13,7 +13,7 @@ unfolding sum_below
 together-init g c =
     record {
       within = omega arith;
-      same = (refl, refl);
+      same = record { count = refl; bytes = refl };
       cost = grind (arith, raised_zero);
       taken = takes-none (λ i below. absurd (omega (arith, below)));
     }
@@ -31,10 +31,12 @@ derive_together-requires g c =
       together = rw (size, few, ← c.digest_algorithm-digest.ensures) c.lanes_for.ensures.together;
       within = rw (size, few)
           (can_derive-part c.args.salts.now secrets at k c.requires.within room);
-      places = rw (size, few) (omega (arith, h.same, room, c.requires.places));
       most = rw (size, few) (search rules);
-      room = omega (arith, h.same, c.requires.room);
-      size = omega (arith, h.same, c.requires.size);
+      room = rw (size, few) (record {
+        count = omega (arith, h.same, room, c.requires.room);
+        bytes = omega (arith, h.same, c.requires.room);
+        most = omega (arith, h.same, c.requires.room);
+      });
     }
 
 pub together-preserved : goal.together-preserved
@@ -53,7 +55,7 @@ together-preserved g c =
     let part = rw (size, few) at c.derive_together.ensures in
     record {
       within = room;
-      same = (part.same.0 ∙ h.same.0, part.same.1 ∙ h.same.1);
+      same = keeps-more h.same part.same;
       cost = raised-sum _ _ _ _ _ h.cost part.cost
           (blocks-part a salts secrets iterations len at k) (grind arith);
       taken = takes-places h.taken part.ok (omega arith) (λ j below.

@@ -1,6 +1,6 @@
 use Rattle.std.proofs.Common.{◌≡◌, ◌≤◌, ◌-◌, ◌*◌, length}
 use Rattle.std.specs.Int.NonZero.{non_zero_u32_get}
-use Rattle.ring.specs.Prelude.{Takes, derive_blocks_at, dk_at, hmac_digest, raised, sum_below}
+use Rattle.ring.specs.Prelude.{KeepsRoom, Takes, derive_blocks_at, dk_at, hmac_digest, raised, sum_below}
 use Rattle.ring.proofs.pbkdf2.several.derive_all.Given as goal
 
 abbrev pub invariant-together : goal.invariant-together
@@ -10,8 +10,7 @@ invariant-together g l =
     let iterations = non_zero_u32_get l.iterations in
     record {
       within : l.made ≤ length l.secrets;
-      same : (r.places l.receiver ≡ r.places l.fn.receiver)
-          × (r.room l.receiver ≡ r.room l.fn.receiver);
+      same : KeepsRoom r.places r.room l.fn.receiver l.receiver;
       cost : l.meter ≡ raised l.fn.meter
           (sum_below (derive_blocks_at a l.salts l.secrets iterations l.len) l.made)
           (r.pairs * (l.made * l.len));

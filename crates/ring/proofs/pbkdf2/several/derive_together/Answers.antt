@@ -41,10 +41,8 @@ derive_under_each-requires g c =
       within = λ i some below.
           rw digest ((within.each i (omega (arith, keys.count, below))).salt some);
       rounds = rw digest (within.each 0 first).rounds;
-      places = rw keys.count c.requires.places;
       most = rw keys.count c.requires.most;
-      room = c.requires.room;
-      size = c.requires.size;
+      room = rw keys.count c.requires.room;
     }
 
 pub returns-clause-ok : goal.returns-clause-ok

@@ -5,7 +5,7 @@ use Rattle.ring.specs.Prelude.{bytes_at, dk, output_len}
 use Rattle.ring.proofs.DerivedKeys.{no_output}
 use Rattle.ring.proofs.Rounds.{dk-next, length-dk, next-one, part_of_round, run-all, run-next}
 use Rattle.ring.proofs.Rounds.{run-none}
-use Rattle.ring.proofs.Taking.{takes-more, takes-none}
+use Rattle.ring.proofs.Taking.{keeps-more, takes-more, takes-none}
 use Rattle.ring.proofs.pbkdf2.several.derive_under_each.Goals as goal
 
 pub rounds-init : goal.rounds-init
@@ -13,7 +13,7 @@ unfolding dk
 rounds-init g c =
     record {
       run = run-none (grind arith);
-      same = (refl, refl);
+      same = record { count = refl; bytes = refl };
       taken = λ p are. takes-none (λ i below. refl);
     }
 
@@ -36,7 +36,7 @@ rounds-preserved g c =
     let next = next-one k c.rounds-test.true wanted in
     record {
       run = run-next _ h.run next round.ensures.cost took.cost (omega arith) (grind arith);
-      same = (took.same.0 ∙ h.same.0, took.same.1 ∙ h.same.1);
+      same = keeps-more h.same took.same;
       taken = λ p are. takes-more (h.taken p are) (took.ok no_output) all
           (λ i below.
           let s = bytes_at salts i in (

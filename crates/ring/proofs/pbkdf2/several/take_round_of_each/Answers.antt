@@ -1,16 +1,16 @@
-use Rattle.std.proofs.Common.{◌≡◌, ◌+◌, ◌∙◌, ap, arith, get_or, length, refl, rules}
+use Rattle.std.proofs.Common.{◌≡◌, ◌+◌, ap, arith, get_or, length, refl, rules}
 use Rattle.std.proofs.Common.{take}
 use Rattle.std.proofs.lemmas.List.{get_or_default}
 use Rattle.ring.specs.Prelude.{Output}
 use Rattle.ring.proofs.DerivedKeys.{no_output}
 use Rattle.ring.proofs.Sums.{raised-sum, raised_zero}
-use Rattle.ring.proofs.Taking.{takes-none, takes-places}
+use Rattle.ring.proofs.Taking.{keeps-more, takes-none, takes-places}
 use Rattle.ring.proofs.pbkdf2.several.take_round_of_each.Goals as goal
 
 pub places-init : goal.places-init
 places-init g c =
     record {
-      same = (refl, refl);
+      same = record { count = refl; bytes = refl };
       cost = grind (arith, raised_zero);
       taken = λ room. takes-none (λ i below. absurd (omega (arith, below)));
     }
@@ -23,7 +23,7 @@ places-preserved g c =
     let rounds = c.args.rounds.now in
     let size : length (take len (get_or rounds i no_output).0) ≡ len = search rules in
     record {
-      same = (c.take.ensures.same.0 ∙ h.same.0, c.take.ensures.same.1 ∙ h.same.1);
+      same = keeps-more h.same c.take.ensures.same;
       cost = raised-sum _ _ _ _ _ h.cost (rw size at c.take.ensures.cost) refl (grind arith);
       taken = λ room. takes-places (h.taken room) c.take.ensures.ok refl
           (λ j below.

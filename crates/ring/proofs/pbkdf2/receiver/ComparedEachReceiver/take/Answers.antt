@@ -7,7 +7,7 @@ use Rattle.ring.proofs.pbkdf2.receiver.ComparedEachReceiver.take.Goals as goal
 
 pub has_at-same-requires : goal.has_at-same-requires
 has_at-same-requires g c =
-    (omega (arith, c.requires.size), (omega (arith, c.requires.place), c.requires.room))
+    (omega (arith, c.requires), (omega (arith, c.requires), c.requires.bytes))
 
 pub returns-clause-ok : goal.returns-clause-ok
 returns-clause-ok g c =
@@ -18,9 +18,9 @@ returns-clause-ok g c =
     let matches = c.args.self.now.matches.now in
     let same = c.has_at-same.result in
     let now = get_or matches place false && same in
-    let room : place < length matches = omega (arith, c.requires.place) in
+    let room : place < length matches = omega (arith, c.requires) in
     let size = c.has_at-same.ensures.len in
-    let fits : w ≤ length (get_or values place []) = omega (arith, size, c.requires.room) in
+    let fits : w ≤ length (get_or values place []) = omega (arith, size, c.requires) in
     let count = length-set matches place now in
     record {
       each = λ start i front first long has.

@@ -11,7 +11,7 @@ returns-clause-ok c =
     record {
       each = λ start i front below long has. (
         has.0,
-        λ zero. compared-part front part value long (omega (arith, c.requires.room))
+        λ zero. compared-part front part value long (omega (arith, c.requires))
             (rw k at c.are_same.ensures.ok) (has.1 zero),
       );
       others = λ start j front out has. (has.0, λ zero. absurd (omega (arith, out, zero)));

@@ -1,15 +1,14 @@
 -- Keys derived at several places.
-use Rattle.std.proofs.Common.{◌≡◌, ◌↔◌, Bool, true, ℕ, ◌+◌, ◌*◌, ◌≤◌, List, [], length}
-use Rattle.std.proofs.Common.{take, refl, sym, ap, ◌∙◌, arith}
-use Rattle.std.proofs.Common.{take_all}
+use Rattle.std.proofs.Common.{◌≡◌, ◌↔◌, ℕ, ◌+◌, ◌≤◌, [], ◌∙◌, Bool, List, ap, arith, length}
+use Rattle.std.proofs.Common.{refl, sym, take, take_all, true}
 use Rattle.std.specs.Borrow.{Bor}
-use Rattle.ring.specs.Prelude.{Algorithm, CanDeriveEach, CanVerify, IsDerived, Output}
-use Rattle.ring.specs.Prelude.{bytes_at, derive_blocks, derive_blocks_at, derive_rounds, dk}
-use Rattle.ring.specs.Prelude.{iterate_blocks, key_blocks, sum_below}
+use Rattle.ring.specs.Prelude.{Algorithm, CanDeriveEach, CanVerify, IsDerived, Output, bytes_at}
+use Rattle.ring.specs.Prelude.{derive_blocks, derive_blocks_at, dk, iterate_blocks}
+use Rattle.ring.specs.Prelude.{sum_below}
 use Rattle.ring.proofs.Each.{message-read, message_at-part}
 use Rattle.ring.proofs.Places.{items_from, length-items_from, read_at}
 use Rattle.ring.proofs.Rounds.{length-dk}
-use Rattle.ring.proofs.Sums.{sum_below-append, sum_below-same, sum_below-times}
+use Rattle.ring.proofs.Sums.{sum_below-append, sum_below-same}
 
 -- the blocks of one round at each of the first m places
 abbrev pub each_round_blocks : Algorithm → List (Bor (List ℕ)) → (c m : ℕ) → ℕ
@@ -20,13 +19,6 @@ abbrev pub no_output : Output
 no_output = record { 0 = [] }
 
 module _ (a : Algorithm) (salts secrets : List (Bor (List ℕ))) (c n : ℕ) where
-  pub blocks-each : (m : ℕ) → sum_below (λ i. key_blocks a (length (bytes_at secrets i))) m
-      + derive_rounds a n * each_round_blocks a salts c m
-      ≡ sum_below (derive_blocks_at a salts secrets c n) m
-  blocks-each m =
-      sum_below-times (λ i. key_blocks a (length (bytes_at secrets i)))
-      (λ i. iterate_blocks a (length (bytes_at salts i)) c) (derive_rounds a n) m
-
   pub blocks-one : derive_blocks a (length (read_at secrets 0)) (length (read_at salts 0)) c n
       ≡ sum_below (derive_blocks_at a salts secrets c n) 1
   unfolding sum_below

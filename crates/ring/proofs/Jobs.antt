@@ -1,13 +1,12 @@
 -- The rounds of jobs, in lanes.
-use Rattle.std.proofs.Common.{◌≡◌, ◌≢◌, ℕ, ◌+◌, ◌*◌, ◌<◌, IsTrue, List, [], ◌∷◌, get_or}
-use Rattle.std.proofs.Common.{inl, inr, length, refl, rules, set, take, ◌∙◌, arith}
+use Rattle.std.proofs.Common.{◌≡◌, ◌≢◌, ℕ, ◌+◌, ◌*◌, ◌<◌, [], ◌∷◌, ◌∙◌, IsTrue, List, arith, get_or}
+use Rattle.std.proofs.Common.{inl, inr, length, refl, rules, set, take}
 use Rattle.std.proofs.lemmas.Bool.{cases_lt}
 use Rattle.std.proofs.lemmas.List.{get_or-set_other, get_or-set_same, get_or-take}
-use Rattle.ring.specs.Prelude.{Algorithm, AreStarts, BeginsWithRound, CanRun, DynState}
-use Rattle.ring.specs.Prelude.{IsKeyInLane, IsStart, Job, KeyStandsFor, Tag, digest_bytes}
-use Rattle.ring.specs.Prelude.{is_state_of, iterate, job_algorithm, output_len, state_word_len}
-use Rattle.ring.specs.Prelude.{tag_algorithm}
-use Rattle.ring.specs.Prelude.{tag_bytes, word_bytes, word_len, words, xored}
+use Rattle.ring.specs.Prelude.{Algorithm, AreStarts, BeginsWithRound, CanRun, DynState, IsKeyInLane}
+use Rattle.ring.specs.Prelude.{IsStart, Job, KeyStandsFor, Tag, digest_bytes, is_state_of, iterate}
+use Rattle.ring.specs.Prelude.{job_algorithm, output_len, state_word_len, tag_algorithm, tag_bytes}
+use Rattle.ring.specs.Prelude.{word_bytes, word_len, words, xored}
 use Rattle.ring.proofs.Lanes.{digest_read, key_in_lane}
 
 -- what a job starts from, with the words that were read of its first iterate's bytes

@@ -1,11 +1,9 @@
 -- Keys of several secrets, at their places.
-use Rattle.std.proofs.Common.{◌≡◌, ℕ, ◌<◌, ◌≤◌, List, [], length, take}
-use Rattle.std.proofs.Common.{arith}
+use Rattle.std.proofs.Common.{◌≡◌, ℕ, ◌<◌, ◌≤◌, [], List, arith, length, take}
 use Rattle.std.proofs.lemmas.List.{get_or-take, length-take-le}
 use Rattle.std.specs.Borrow.{Bor}
-use Rattle.ring.specs.Prelude.{Algorithm, AreKeysOf}
-use Rattle.ring.specs.Prelude.{IsKeyOf, Job, Key, KeyStandsFor}
-use Rattle.ring.specs.Prelude.{bytes_at, key_algorithm}
+use Rattle.ring.specs.Prelude.{Algorithm, AreKeysOf, IsKeyOf, Job, Key, KeyStandsFor, bytes_at}
+use Rattle.ring.specs.Prelude.{key_algorithm}
 use Rattle.ring.proofs.Each.{message-read}
 use Rattle.ring.proofs.Places.{HoldsBelow, read_at}
 

@@ -1,6 +1,6 @@
 -- What holds at the places of a list, and what a meter rises by there.
-use Rattle.std.proofs.Common.{◌≡◌, ℕ, ◌+◌, ◌<◌, ◌≤◌, List, [], length, take, drop}
-use Rattle.std.proofs.Common.{get_or, arith, inl, inr, length-drop, refl, slice_set}
+use Rattle.std.proofs.Common.{◌≡◌, ℕ, ◌+◌, ◌<◌, ◌≤◌, [], List, arith, drop, get_or, inl, inr}
+use Rattle.std.proofs.Common.{length, length-drop, refl, slice_set, take}
 use Rattle.std.proofs.lemmas.Bool.{cases_lt}
 use Rattle.std.proofs.lemmas.List.{get_or-set_other, get_or-set_same, length-take-le}
 use Rattle.std.specs.Borrow.{Bor}

@@ -1,13 +1,12 @@
 -- A derivation in parts, each of some rounds, one after another.
-use Rattle.std.proofs.Common.{◌≡◌, ℕ, suc, ◌+◌, ◌-◌, ◌*◌, ◌<◌, ◌≤◌, min, List, ◌++◌, length}
-use Rattle.std.proofs.Common.{take, refl, sym, ap, ◌∙◌, arith, zero-mul}
-use Rattle.std.proofs.Common.{length-take-le, take_all}
+use Rattle.std.proofs.Common.{◌≡◌, ℕ, ◌+◌, ◌-◌, ◌*◌, ◌<◌, ◌≤◌, ◌++◌, ◌∙◌, List, ap, arith, length}
+use Rattle.std.proofs.Common.{length-take-le, min, refl, suc, sym, take, take_all, zero-mul}
 use Rattle.std.proofs.Math.Seq.{take-append-add}
 use Rattle.std.proofs.Math.Nat.{lt_of_mul-lt-mul_right}
 use Rattle.std.proofs.lemmas.Grind.{div_ceil_times}
 use Rattle.std.proofs.lemmas.List.{take-take}
-use Rattle.ring.specs.Prelude.{Algorithm, Counts, derive_rounds, dk, joined_blocks}
-use Rattle.ring.specs.Prelude.{output_len, raised, xored}
+use Rattle.ring.specs.Prelude.{Algorithm, Counts, derive_rounds, dk, joined_blocks, output_len}
+use Rattle.ring.specs.Prelude.{raised, xored}
 use Rattle.ring.proofs.Iterates.{length-xored}
 use Rattle.ring.proofs.Pieces.{IsEven, joined_blocks-append, joined_blocks-next, joined_blocks-none}
 use Rattle.ring.proofs.Pieces.{length-joined_blocks}
@@ -35,12 +34,6 @@ rounds-reach a r k wide needed =
 pub record HasReached (a : Algorithm) (n r w : ℕ) : Type 0 where
   pub place : w ≡ min (r * output_len a) n
   pub needed : r * output_len a < n + output_len a
-
-pub reached-none : (a : Algorithm) (n : ℕ) → HasReached a n 0 0
-reached-none a n = record {
-  place = omega (arith, zero-mul (output_len a));
-  needed = omega (arith, zero-mul (output_len a), output_len-positive a);
-}
 
 -- the next part, where w of n bytes are reached: t rounds, each of them needed, and k bytes of them
 pub record IsNext (a : Algorithm) (n w t k : ℕ) : Type 0 where
@@ -120,7 +113,13 @@ pub record HasRun (a : Algorithm) (b n r w pairs : ℕ) (before now : Counts) : 
 
 pub run-none : {a : Algorithm} {b n pairs : ℕ} {m : Counts} → pairs ≡ 0 → HasRun a b n 0 0 pairs m m
 run-none {a} {b} {n} {m = m} none =
-    record { reached = reached-none a n; cost = sym (raised_zero m _ _ (zero-mul b) none) }
+    record {
+      reached = record {
+        place = omega (arith, zero-mul (output_len a));
+        needed = omega (arith, zero-mul (output_len a), output_len-positive a);
+      };
+      cost = sym (raised_zero m _ _ (zero-mul b) none);
+    }
 
 module _ {a : Algorithm} {b n r w pairs : ℕ} {m0 m1 : Counts} where
   -- the next part is run: c blocks, and then `more` pairs of bytes

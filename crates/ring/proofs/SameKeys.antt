@@ -1,6 +1,6 @@
 -- Keys that make one block and so sign alike.
-use Rattle.std.proofs.Common.{◌≡◌, ℕ, ◌+◌, ◌-◌, ◌<◌, ◌≤◌, List, ◌++◌, length, replicate, refl, ◌∙◌}
-use Rattle.std.proofs.Common.{[], ap, arith, length-append, append_assoc, sym}
+use Rattle.std.proofs.Common.{◌≡◌, ℕ, ◌+◌, ◌-◌, ◌<◌, ◌≤◌, ◌++◌, ◌∙◌, List, [], ap, append_assoc}
+use Rattle.std.proofs.Common.{arith, length, length-append, refl, replicate, sym}
 use Rattle.std.proofs.lemmas.List.{length-replicate, replicate-append-replicate}
 use Rattle.ring.specs.Prelude.{Algorithm, block_len, digest_of, hmac_of, key_block, masked}
 use Rattle.ring.specs.Prelude.{output_len, short_key}

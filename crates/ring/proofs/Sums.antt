@@ -1,5 +1,5 @@
 -- Sums over places, and what a meter rises by there.
-use Rattle.std.proofs.Common.{◌≡◌, ℕ, zero, suc, ◌+◌, ◌*◌, ◌<◌, add-one, add-suc, arith, refl, sym}
+use Rattle.std.proofs.Common.{◌≡◌, ℕ, ◌+◌, ◌*◌, ◌<◌, add-one, add-suc, arith, refl, suc, sym, zero}
 use Rattle.ring.specs.Prelude.{Counts, raised, sum_below}
 use Rattle.ring_core.proofs.Costs.{raised-none, raised-raised}
 

@@ -1,7 +1,7 @@
 -- Bytes that come to places, part by part.
-use Rattle.std.proofs.Common.{◌≡◌, ◌↔◌, ℕ, ◌+◌, ◌-◌, ◌<◌, ◌≤◌, Bool, true, ◌&&◌, List, []}
-use Rattle.std.proofs.Common.{◌++◌, ◌∙◌, length, take, drop, arith, inl, inr, append-nil, append_assoc}
-use Rattle.std.proofs.Common.{length-append, refl}
+use Rattle.std.proofs.Common.{◌≡◌, ◌↔◌, ℕ, ◌+◌, ◌-◌, ◌<◌, ◌≤◌, ◌&&◌, [], ◌++◌, ◌∙◌, Bool, List}
+use Rattle.std.proofs.Common.{append-nil, append_assoc, arith, drop, inl, inr, length}
+use Rattle.std.proofs.Common.{length-append, refl, take, true}
 use Rattle.std.proofs.lemmas.Bool.{and_from, and_parts, cases_lt}
 use Rattle.ring.specs.Prelude.{KeepsRoom, Takes}
 use Rattle.ring.proofs.Pieces.{same_part}

@@ -1,12 +1,11 @@
 //! A derivation under one key, in parts of as many rounds as run side by side.
 
-ghost use Rattle.std.specs.Prelude.{◌≡◌, ◌↔◌, ℕ, ◌+◌, ◌-◌, ◌*◌, ◌^◌, ◌<◌, ◌≤◌};
-ghost use Rattle.std.specs.Prelude.{List, get_or, length, min, take, IsTrue};
+ghost use Rattle.std.specs.Prelude.{◌≡◌, ◌↔◌, ℕ, ◌+◌, ◌-◌, ◌*◌, ◌^◌, ◌<◌, ◌≤◌, IsTrue, List};
+ghost use Rattle.std.specs.Prelude.{get_or, length, min, take};
 ghost use Rattle.std.specs.Int.NonZero.{non_zero_u32_get};
-ghost use Rattle.ring.specs.Prelude.{CanRunTogether, HasRoom, IsTagWithin, KeepsRoom};
-ghost use Rattle.ring.specs.Prelude.{KeyStandsFor, Output, Takes, derive_rounds, dk};
-ghost use Rattle.ring.specs.Prelude.{iterate_blocks, joined_blocks, key_algorithm, output_len};
-ghost use Rattle.ring.specs.Prelude.{raised, xored};
+ghost use Rattle.ring.specs.Prelude.{CanRunTogether, HasRoom, IsTagWithin, KeepsRoom, KeyStandsFor};
+ghost use Rattle.ring.specs.Prelude.{Output, Takes, derive_rounds, dk, iterate_blocks};
+ghost use Rattle.ring.specs.Prelude.{joined_blocks, key_algorithm, output_len, raised, xored};
 
 use crate::digest;
 use crate::digest::dynstate::{OUTPUT_ROOM, Output};

@@ -1,8 +1,8 @@
 //! What takes the bytes of derived keys, part by part: it writes them, or compares them with given
 //! values. So a verification is a derivation whose bytes are compared.
 
-ghost use Rattle.std.specs.Prelude.{◌≡◌, ◌≢◌, ◌↔◌, ℕ, ◌+◌, ◌*◌, ◌^◌, ◌<◌, ◌≤◌, List, [], ◌++◌};
-ghost use Rattle.std.specs.Prelude.{IsTrue, drop, false, get_or, length, min, take, true};
+ghost use Rattle.std.specs.Prelude.{◌≡◌, ◌≢◌, ◌↔◌, ℕ, ◌+◌, ◌*◌, ◌^◌, ◌<◌, ◌≤◌, [], ◌++◌, IsTrue};
+ghost use Rattle.std.specs.Prelude.{List, drop, false, get_or, length, min, take, true};
 ghost use Rattle.std.proofs.Common.{arith, refl};
 ghost use Rattle.ring.specs.Prelude.{HasRoom, KeepsRoom, Takes, raised};
 

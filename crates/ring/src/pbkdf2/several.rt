@@ -1,10 +1,10 @@
 //! Keys of several secrets, derived as many side by side as there are lanes.
 
-ghost use Rattle.std.specs.Prelude.{◌≡◌, ◌↔◌, ℕ, ◌+◌, ◌-◌, ◌*◌, ◌^◌, ◌<◌, ◌≤◌, List, IsTrue};
+ghost use Rattle.std.specs.Prelude.{◌≡◌, ◌↔◌, ℕ, ◌+◌, ◌-◌, ◌*◌, ◌^◌, ◌<◌, ◌≤◌, IsTrue, List};
 ghost use Rattle.std.specs.Prelude.{get_or, length, take};
 ghost use Rattle.std.specs.Int.NonZero.{non_zero_u32_get};
-ghost use Rattle.ring.specs.Prelude.{AreKeysOf, CanDerive, CanDeriveEach, CanRunTogether};
-ghost use Rattle.ring.specs.Prelude.{HasRoom, IsTagWithin, KeepsRoom, Key, Output, Takes, bytes_at};
+ghost use Rattle.ring.specs.Prelude.{AreKeysOf, CanDerive, CanDeriveEach, CanRunTogether, HasRoom};
+ghost use Rattle.ring.specs.Prelude.{IsTagWithin, KeepsRoom, Key, Output, Takes, bytes_at};
 ghost use Rattle.ring.specs.Prelude.{derive_each_blocks, derive_rounds, dk, dk_at, hmac_digest};
 ghost use Rattle.ring.specs.Prelude.{iterate_blocks, key_algorithm, output_len, raised, sum_below};
 

@@ -1,5 +1,5 @@
-use Rattle.std.proofs.Common.{◌≡◌, ◌<◌, ◌∙◌, [], arith, get_or, length, refl, rules, sym}
-use Rattle.std.proofs.Common.{take_all, ℕ}
+use Rattle.std.proofs.Common.{◌≡◌, ◌<◌, ◌∙◌, [], ℕ, arith, get_or, length, refl, rules, sym}
+use Rattle.std.proofs.Common.{take_all}
 use Rattle.std.specs.Int.NonZero.{non_zero_u32_get}
 use Rattle.ring.specs.Prelude.{AreDerived, bytes_at, dk_at, pbkdf2_digest}
 use Rattle.ring.proofs.Rounds.{length-dk}

@@ -1,4 +1,4 @@
-use Rattle.std.proofs.Common.{length, ap, sym, ◌∙◌, ◌++◌}
+use Rattle.std.proofs.Common.{◌∙◌, ◌++◌, ap, length, sym}
 use Rattle.ring.specs.Prelude.{hmac_of, key_algorithm}
 use Rattle.ring.proofs.Iterates.{iterate-first}
 use Rattle.ring.proofs.Lengths.{counted_first, counted_more, counted_tag}

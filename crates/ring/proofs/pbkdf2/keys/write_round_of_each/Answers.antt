@@ -1,4 +1,4 @@
-use Rattle.std.proofs.Common.{◌≡◌, ℕ, List, refl, rules, ◌∙◌, ap, arith, length, sym, take}
+use Rattle.std.proofs.Common.{◌≡◌, ℕ, ◌∙◌, List, ap, arith, length, refl, rules, sym, take}
 use Rattle.std.proofs.lemmas.List.{get_or_default, length-take-le}
 use Rattle.std.specs.Int.NonZero.{non_zero_u32_get}
 use Rattle.ring.specs.Prelude.{Algorithm, CanRunTogether, Job, raised}
@@ -35,21 +35,17 @@ run_jobs-requires-clause-each g c =
     rw long (jobs-can (rw all at (c.jobs.invariant.1 first))
     (λ i below. c.requires.keys i first below) c.requires.within)
 
-pub returns-clause-ok : goal.returns-clause-ok
-returns-clause-ok g c = λ p i room of below.
+pub returns : goal.returns
+returns g c =
     let long = several c.args.algorithm c.jobs.jobs c.requires.together c.jobs-test.array_long in
     let all : c.jobs.i ≡ length c.args.keys.now = omega arith in
     let first = c.index-keys-0.result in
-    jobs-round (rw all at (c.jobs.invariant.1 first)) (λ j h. c.requires.keys j first h)
-    i (some_job first) (p i) below (c.run_jobs.ensures.ok i (some_job first) room (rw long below))
-    (of.each i first below).stands
-
-pub returns-clause-cost : goal.returns-clause-cost
-returns-clause-cost g c =
-    let long = several c.args.algorithm c.jobs.jobs c.requires.together c.jobs-test.array_long in
-    let all : c.jobs.i ≡ length c.args.keys.now = omega arith in
-    let first = c.index-keys-0.result in
-    rw long at (c.run_jobs.ensures.cost (some_job first))
-    ∙ ap (λ (z : ℕ). raised c.args.meter.now z 0)
-    (jobs-blocks (rw all at (c.jobs.invariant.1 first)) (λ i below. c.requires.keys i first below)
-    (non_zero_u32_get c.args.iterations) (some_job first))
+    let job = some_job first in
+    let are = rw all at (c.jobs.invariant.1 first) in
+    record {
+      ok = λ p i room of below. jobs-round are (λ j h. c.requires.keys j first h) i job (p i) below
+          (c.run_jobs.ensures.ok i job room (rw long below)) (of.each i first below).stands;
+      cost = rw long at (c.run_jobs.ensures.cost job)
+          ∙ ap (λ (z : ℕ). raised c.args.meter.now z 0) (jobs-blocks are
+          (λ i below. c.requires.keys i first below) (non_zero_u32_get c.args.iterations) job);
+    }

@@ -1,5 +1,4 @@
-use Rattle.std.proofs.Common.{◌≡◌, ◌∙◌, ◌+◌, ◌≤◌, List, ℕ, ap, arith, length, refl}
-use Rattle.std.proofs.Common.{length-take-le}
+use Rattle.std.proofs.Common.{◌≡◌, ◌∙◌, ◌+◌, ◌≤◌, ℕ, List, ap, arith, length, length-take-le, refl}
 use Rattle.ring.specs.Prelude.{dk, key_algorithm, output_len, xored}
 use Rattle.std.specs.Int.NonZero.{non_zero_u32_get}
 use Rattle.ring.proofs.Rounds.{IsNext, dk-next, length-dk, run-all, run-next, run-none}

@@ -1,4 +1,4 @@
-use Rattle.std.proofs.Common.{◌-◌, ◌*◌, List, ℕ}
+use Rattle.std.proofs.Common.{◌-◌, ◌*◌, ℕ, List}
 use Rattle.std.specs.Int.NonZero.{non_zero_u32_get}
 use Rattle.ring.specs.Prelude.{KeepsRoom, KeyStandsFor, Takes, dk, key_algorithm}
 use Rattle.ring.proofs.Parts.{round_blocks}

@@ -1,32 +1,28 @@
 use Rattle.std.proofs.Common.{◌≡◌, ◌∙◌, ◌<◌, arith, length, refl, sym}
 use Rattle.std.specs.Int.NonZero.{non_zero_u32_get}
 use Rattle.ring.specs.Prelude.{hmac_digest}
-use Rattle.ring.proofs.DerivedKeys.{blocks-each, blocks-one}
+use Rattle.ring.proofs.DerivedKeys.{blocks-one}
 use Rattle.ring.proofs.Each.{message-read}
-use Rattle.ring.proofs.Sums.{raised-sum}
+use Rattle.ring.proofs.Sums.{raised-sum, sum_below-times}
 use Rattle.ring.proofs.Taking.{takes-same}
 use Rattle.ring.proofs.pbkdf2.several.derive_together.Goals as goal
 
-pub returns-then-secrets-eq1-clause-ok : goal.returns-then-secrets-eq1-clause-ok
-returns-then-secrets-eq1-clause-ok g c =
+pub returns-then-secrets-eq1 : goal.returns-then-secrets-eq1
+returns-then-secrets-eq1 g c =
     let secrets = c.args.secrets.now in
     let salts = c.args.salts.now in
     let one : length secrets ≡ 1 = omega arith in
     let key = c.key_within-key.ensures in
-    rw one (takes-same (rw key.algorithm at (c.derive_under.ensures.ok _ key.ok)) (λ i below.
-    let first : i ≡ 0 = omega (arith, below) in
-    rw (first, message-read secrets 0, message-read salts 0) refl))
-
-pub returns-then-secrets-eq1-clause-cost : goal.returns-then-secrets-eq1-clause-cost
-returns-then-secrets-eq1-clause-cost g c =
-    let a = hmac_digest c.args.algorithm in
-    let secrets = c.args.secrets.now in
-    let len = c.args.len in
-    let one : length secrets ≡ 1 = omega arith in
-    let key = c.key_within-key.ensures in
-    let rounds = rw key.algorithm at c.derive_under.ensures.cost in
-    rw one (raised-sum _ _ _ _ _ key.cost rounds
-    (blocks-one a c.args.salts.now secrets (non_zero_u32_get c.args.iterations) len) (grind arith))
+    let derived = c.derive_under.ensures in
+    record {
+      ok = rw one (takes-same (rw key.algorithm at (derived.ok _ key.ok)) (λ i below.
+          let first : i ≡ 0 = omega (arith, below) in
+          rw (first, message-read secrets 0, message-read salts 0) refl));
+      same = derived.same;
+      cost = rw one (raised-sum _ _ _ _ _ key.cost (rw key.algorithm at derived.cost) (blocks-one
+          (hmac_digest c.args.algorithm) salts secrets (non_zero_u32_get c.args.iterations)
+          c.args.len) (grind arith));
+    }
 
 pub derive_under_each-requires : goal.derive_under_each-requires
 derive_under_each-requires g c =
@@ -45,17 +41,13 @@ derive_under_each-requires g c =
       room = rw keys.count c.requires.room;
     }
 
-pub returns-clause-ok : goal.returns-clause-ok
-returns-clause-ok g c =
+pub returns : goal.returns
+returns g c =
     let keys = c.keys_of-keys.ensures in
-    rw (c.digest_algorithm-digest.ensures, keys.count) at
-    (c.derive_under_each.ensures.ok _ (rw (← c.digest_algorithm-digest.ensures) at keys.ok))
-
-pub returns-clause-cost : goal.returns-clause-cost
-returns-clause-cost g c =
-    let keys = c.keys_of-keys.ensures in
-    let rounds = rw (c.digest_algorithm-digest.ensures, keys.count)
-    at c.derive_under_each.ensures.cost in
-    raised-sum _ _ _ _ _ keys.cost rounds
-    (blocks-each (hmac_digest c.args.algorithm) c.args.salts.now c.args.secrets.now
-    (non_zero_u32_get c.args.iterations) c.args.len (length c.args.secrets.now)) (omega arith)
+    let digest = c.digest_algorithm-digest.ensures in
+    let derived = rw (digest, keys.count) at c.derive_under_each.ensures in
+    record {
+      ok = derived.ok _ keys.ok;
+      same = derived.same;
+      cost = raised-sum _ _ _ _ _ keys.cost derived.cost (sum_below-times _ _ _ _) (omega arith);
+    }

@@ -1,4 +1,4 @@
-use Rattle.std.proofs.Common.{◌-◌, ◌*◌, List, length, ℕ}
+use Rattle.std.proofs.Common.{◌-◌, ◌*◌, ℕ, List, length}
 use Rattle.std.specs.Int.NonZero.{non_zero_u32_get}
 use Rattle.ring.specs.Prelude.{AreKeysOf, KeepsRoom, Takes, bytes_at, dk}
 use Rattle.ring.proofs.DerivedKeys.{each_round_blocks}

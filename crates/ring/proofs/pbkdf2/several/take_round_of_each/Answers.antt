@@ -1,5 +1,4 @@
-use Rattle.std.proofs.Common.{◌≡◌, ◌+◌, ap, arith, get_or, length, refl, rules}
-use Rattle.std.proofs.Common.{take}
+use Rattle.std.proofs.Common.{◌≡◌, ◌+◌, ap, arith, get_or, length, refl, rules, take}
 use Rattle.std.proofs.lemmas.List.{get_or_default}
 use Rattle.ring.specs.Prelude.{Output}
 use Rattle.ring.proofs.DerivedKeys.{no_output}

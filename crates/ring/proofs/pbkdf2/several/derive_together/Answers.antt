@@ -7,6 +7,15 @@ use Rattle.ring.proofs.Sums.{raised-sum, sum_below-times}
 use Rattle.ring.proofs.Taking.{takes-same}
 use Rattle.ring.proofs.pbkdf2.several.derive_together.Goals as goal
 
+pub derive_under-requires-clause-salt : goal.derive_under-requires-clause-salt
+derive_under-requires-clause-salt g c = λ some.
+    rw (c.key_within-key.ensures.algorithm, ← message-read c.args.salts.now 0)
+    ((c.requires.within.each 0 (omega arith)).salt some)
+
+pub derive_under-requires-clause-rounds : goal.derive_under-requires-clause-rounds
+derive_under-requires-clause-rounds g c =
+    rw c.key_within-key.ensures.algorithm (c.requires.within.each 0 (omega arith)).rounds
+
 pub returns-then-secrets-eq1 : goal.returns-then-secrets-eq1
 returns-then-secrets-eq1 g c =
     let secrets = c.args.secrets.now in

@@ -80,21 +80,18 @@ module _ {a : Algorithm} {jobs : List Job} {inner outer first : List DynState}
         get_or-take n first i u below,
       ) (starts.each i job s t u below)
 
-  pub sized-at : (s t u : DynState) → i < length jobs
-      → IsTrue (is_state_of a (get_or (take (length jobs) inner) i s))
-      × (IsTrue (is_state_of a (get_or (take (length jobs) outer) i t))
-      × IsTrue (is_state_of a (get_or (take (length jobs) first) i u)))
-  sized-at s t u below =
+  -- they have words of the algorithm's length
+  pub sized-at : (s : DynState) → i < length jobs
+      → (state_word_len (get_or (take (length jobs) inner) i s) ≡ word_len a)
+      × ((state_word_len (get_or (take (length jobs) outer) i s) ≡ word_len a)
+      × (state_word_len (get_or (take (length jobs) first) i s) ≡ word_len a))
+  sized-at s below =
       let job = some-item jobs (omega (arith, below)) in
-      let start = start-at job s t u below in
+      let start = start-at job s s s below in
       let same = (each i job below).algorithm in (
-        rw same at start.inner_sized,
-        (rw same at start.outer_sized, rw same at start.first_sized),
+        search (rules, rw same at start.inner_sized),
+        (search (rules, rw same at start.outer_sized), search (rules, rw same at start.first_sized)),
       )
-
-pub word-size : (a : Algorithm) (s : DynState) → IsTrue (is_state_of a s)
-    → state_word_len s ≡ word_len a
-word-size a s sized = search (rules, sized)
 
 -- a lane's words there, summed, begin with the round
 pub lane-round : {a : Algorithm} {job : Job} {s t u : DynState} {inner outer first : List ℕ}

@@ -2,7 +2,7 @@ use Rattle.std.proofs.Common.{◌<◌, ◌-◌, ◌*◌, ◌∙◌, ap, arith, g
 use Rattle.std.proofs.Math.ListN.{length-set}
 use Rattle.std.specs.Int.NonZero.{non_zero_u32_get}
 use Rattle.ring.specs.Prelude.{Job, digest_bytes, first_blocks, words}
-use Rattle.ring.proofs.Jobs.{lane-round, sized-at, start-at, word-size}
+use Rattle.ring.proofs.Jobs.{lane-round, sized-at, start-at}
 use Rattle.ring.proofs.Lanes.{digest_written}
 use Rattle.ring.proofs.Places.{places-next}
 use Rattle.ring.proofs.Sums.{raised-sum, sum_below-more}
@@ -10,17 +10,17 @@ use Rattle.ring.proofs.pbkdf2.jobs.write_in_lanes.Goals as goal
 
 pub new-inner-requires-clause-sized : goal.new-inner-requires-clause-sized
 new-inner-requires-clause-sized g c = λ i s below.
-    word-size _ _ (sized-at c.requires.each c.set_starts.ensures.starts i s s s
+    (sized-at c.requires.each c.set_starts.ensures.starts i s
     (omega (arith, below, c.requires.lanes))).0 ∙ g.met.H.SideBySide.sized
 
 pub new-outer-requires-clause-sized : goal.new-outer-requires-clause-sized
 new-outer-requires-clause-sized g c = λ i s below.
-    word-size _ _ (sized-at c.requires.each c.set_starts.ensures.starts i s s s
+    (sized-at c.requires.each c.set_starts.ensures.starts i s
     (omega (arith, below, c.requires.lanes))).1.0 ∙ g.met.H.SideBySide.sized
 
 pub new-first-requires-clause-sized : goal.new-first-requires-clause-sized
 new-first-requires-clause-sized g c = λ i s below.
-    word-size _ _ (sized-at c.requires.each c.set_starts.ensures.starts i s s s
+    (sized-at c.requires.each c.set_starts.ensures.starts i s
     (omega (arith, below, c.requires.lanes))).1.1 ∙ g.met.H.SideBySide.sized
 
 pub rounds-preserved : goal.rounds-preserved

@@ -90,7 +90,10 @@ module _ {a : Algorithm} {jobs : List Job} {inner outer first : List DynState}
       let start = start-at job s s s below in
       let same = (each i job below).algorithm in (
         search (rules, rw same at start.inner_sized),
-        (search (rules, rw same at start.outer_sized), search (rules, rw same at start.first_sized)),
+        (
+          search (rules, rw same at start.outer_sized),
+          search (rules, rw same at start.first_sized),
+        ),
       )
 
 -- a lane's words there, summed, begin with the round

@@ -1,6 +1,7 @@
 use Rattle.std.proofs.Common.{◌≡◌, ◌≤◌, ◌-◌, ◌*◌, length}
 use Rattle.std.specs.Int.NonZero.{non_zero_u32_get}
-use Rattle.ring.specs.Prelude.{KeepsRoom, Takes, derive_blocks_at, dk_at, hmac_digest, raised, sum_below}
+use Rattle.ring.specs.Prelude.{KeepsRoom, Takes, derive_blocks_at, dk_at, hmac_digest, raised}
+use Rattle.ring.specs.Prelude.{sum_below}
 use Rattle.ring.proofs.pbkdf2.several.derive_all.Given as goal
 
 abbrev pub invariant-together : goal.invariant-together

@@ -1,10 +1,9 @@
 -- Keys derived at several places.
-use Rattle.std.proofs.Common.{◌≡◌, ◌↔◌, ℕ, ◌+◌, ◌≤◌, [], ◌∙◌, Bool, List, ap, arith, length}
-use Rattle.std.proofs.Common.{refl, sym, take, take_all, true}
+use Rattle.std.proofs.Common.{◌≡◌, ◌↔◌, ℕ, ◌+◌, ◌≤◌, [], ◌∙◌, Bool, List, ap, arith, length, refl}
+use Rattle.std.proofs.Common.{sym, take, take_all, true}
 use Rattle.std.specs.Borrow.{Bor}
 use Rattle.ring.specs.Prelude.{Algorithm, CanDeriveEach, CanVerify, IsDerived, Output, bytes_at}
-use Rattle.ring.specs.Prelude.{derive_blocks, derive_blocks_at, dk, iterate_blocks}
-use Rattle.ring.specs.Prelude.{sum_below}
+use Rattle.ring.specs.Prelude.{derive_blocks, derive_blocks_at, dk, iterate_blocks, sum_below}
 use Rattle.ring.proofs.Each.{message-read, message_at-part}
 use Rattle.ring.proofs.Places.{items_from, length-items_from, read_at}
 use Rattle.ring.proofs.Rounds.{length-dk}

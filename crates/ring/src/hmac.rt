@@ -30,8 +30,8 @@
 //!
 //! The imports of these examples stand in `crates/ring_examples/src/hmac.rt`.
 
-ghost use Rattle.std.specs.Prelude.{◌≡◌, ◌↔◌, ℕ, ◌+◌, ◌<◌};
-ghost use Rattle.std.specs.Prelude.{List, length, IfOk, IsOk, IsErr, OnOk, OnErr};
+ghost use Rattle.std.specs.Prelude.{◌≡◌, ◌↔◌, ℕ, ◌+◌, ◌<◌, List, length, IfOk, IsOk, IsErr, OnOk};
+ghost use Rattle.std.specs.Prelude.{OnErr};
 ghost use Rattle.ring.specs.Prelude.{IsTag, IsTagWithin, KeyStandsFor, block_len, compared_pairs};
 ghost use Rattle.ring.specs.Prelude.{hmac_of, key_algorithm, max_input_len, output_len};
 ghost use Rattle.ring.specs.Prelude.{padded_blocks, raised, tag_algorithm};

@@ -3,8 +3,8 @@
 //! A law without parameters is a fact about the definitions. Its clause is the law, and the call
 //! does nothing: a caller's proof cites it.
 
-ghost use Rattle.std.specs.Prelude.{◌≡◌, ◌↔◌, ℕ, ◌+◌, ◌-◌, ◌^◌, ◌<◌, ◌≤◌, List, [], ◌++◌};
-ghost use Rattle.std.specs.Prelude.{length, replicate, take, IfOk, IsErr, None, OnErr, OnOk, Some};
+ghost use Rattle.std.specs.Prelude.{◌≡◌, ◌↔◌, ℕ, ◌+◌, ◌-◌, ◌^◌, ◌<◌, ◌≤◌, List, [], ◌++◌, length};
+ghost use Rattle.std.specs.Prelude.{replicate, take, IfOk, IsErr, None, OnErr, OnOk, Some};
 ghost use Rattle.ring.specs.Prelude.{Algorithm, CanDerive, IsDigest, IsInfoWithin, IsMessageWithin};
 ghost use Rattle.ring.specs.Prelude.{IsNoContext, IsNoKey, IsNoTagContext, IsOutputWithin, IsTag};
 ghost use Rattle.ring.specs.Prelude.{IsTagWithin, KeyStandsFor, RawContext, RawKey};

@@ -15,8 +15,8 @@
 //!
 //! The imports of this example stand in `crates/ring_examples/src/rand.rt`.
 
-ghost use Rattle.std.specs.Prelude.{◌≡◌, ◌↔◌, ◌≤◌, ◌++◌, ℕ, Bool, false, List, IsTrue};
-ghost use Rattle.std.specs.Prelude.{IfOk, IsErr, OnOk, OnErr, length, refl, replicate};
+ghost use Rattle.std.specs.Prelude.{◌≡◌, ◌↔◌, ◌≤◌, ◌++◌, ℕ, Bool, false, List, IsTrue, IfOk, IsErr};
+ghost use Rattle.std.specs.Prelude.{OnOk, OnErr, length, refl, replicate};
 ghost use Rattle.std.specs.Borrow.{sem, Lends, Array, u8};
 ghost use Rattle.ring.specs.Prelude.{random_value};
 

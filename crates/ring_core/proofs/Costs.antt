@@ -1,6 +1,6 @@
 -- How rises of a meter add up.
-use Rattle.std.proofs.Common.{◌≡◌, ◌≢◌, ℕ, ◌+◌, ◌-◌, ◌^◌, ◌<◌, ◌==◌, false, refl, ap, arith}
-use Rattle.std.proofs.Common.{rules, min}
+use Rattle.std.proofs.Common.{◌≡◌, ◌≢◌, ℕ, ◌+◌, ◌-◌, ◌^◌, ◌<◌, ◌==◌, false, refl, ap, arith, rules}
+use Rattle.std.proofs.Common.{min}
 use Rattle.ring_core.specs.Prelude.{Counts, compared_pairs, raised, raised_count}
 
 raised_count-none : (n : ℕ) → n ≡ raised_count n 0

@@ -1,9 +1,7 @@
 -- The numbers of a list of words, read and written.
-use Rattle.std.proofs.Common.{◌≡◌, ℕ, ◌+◌, ◌-◌, ◌≤◌, List, ◌++◌, drop, length, take}
-use Rattle.std.proofs.Common.{slice_index, map, sym}
-use Rattle.std.proofs.Common.{ap, ◌∙◌, arith, nat_lt, true}
-use Rattle.std.proofs.lemmas.List.{get_or-append_right, get_or-drop, length-take-le}
-use Rattle.std.proofs.lemmas.List.{get_or-map}
+use Rattle.std.proofs.Common.{◌≡◌, ℕ, ◌+◌, ◌-◌, ◌≤◌, List, ◌++◌, drop, length, take, slice_index}
+use Rattle.std.proofs.Common.{map, sym, ap, ◌∙◌, arith, nat_lt, true}
+use Rattle.std.proofs.lemmas.List.{get_or-append_right, get_or-drop, length-take-le, get_or-map}
 use Rattle.std.proofs.lemmas.Bool.{ltb-true}
 use Rattle.std.proofs.Math.ListN.{get_or}
 

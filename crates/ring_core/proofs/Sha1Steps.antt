@@ -1,6 +1,6 @@
 -- The steps of SHA-1's definitions.
-use Rattle.std.proofs.Common.{◌≡◌, ℕ, ◌+◌, ◌-◌, ◌<◌, ◌≤◌, List, length, refl}
-use Rattle.std.proofs.Common.{ap, sym, ◌∙◌, add-one, arith, nat_lt, true, false}
+use Rattle.std.proofs.Common.{◌≡◌, ℕ, ◌+◌, ◌-◌, ◌<◌, ◌≤◌, List, length, refl, ap, sym, ◌∙◌, add-one}
+use Rattle.std.proofs.Common.{arith, nat_lt, true, false}
 use Rattle.ring_core.specs.Prelude.{IsRing, word_at}
 use Rattle.ring_core.specs.Sha1.{W, add_state, block_step, next_word, round, rounds_from, scheduled}
 use Rattle.ring_core.proofs.Schedule.{listed_at-next, ring-same, slice_index-listed}

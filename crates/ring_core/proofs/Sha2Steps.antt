@@ -1,7 +1,6 @@
 -- The steps of SHA-2's definitions.
-use Rattle.std.proofs.Common.{◌≡◌, ◌⊎◌, ℕ, ◌+◌, ◌-◌, ◌*◌, ◌/◌, ◌<◌, ◌≤◌, List, length}
-use Rattle.std.proofs.Common.{slice_index, refl, sym, ap, ◌∙◌, add-one, arith, inl, inr}
-use Rattle.std.proofs.Common.{nat_lt, true, false}
+use Rattle.std.proofs.Common.{◌≡◌, ◌⊎◌, ℕ, ◌+◌, ◌-◌, ◌*◌, ◌/◌, ◌<◌, ◌≤◌, List, length, slice_index}
+use Rattle.std.proofs.Common.{refl, sym, ap, ◌∙◌, add-one, arith, inl, inr, nat_lt, true, false}
 use Rattle.ring_core.specs.Prelude.{Family, IsRing, W, add_state, block_step, family_256}
 use Rattle.ring_core.specs.Prelude.{family_512, next_word, round, rounds_from, scheduled, word_at}
 use Rattle.ring_core.proofs.Schedule.{listed_at-next, ring-same, slice_index-listed}

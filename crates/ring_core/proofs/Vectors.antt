@@ -1,7 +1,7 @@
 -- Vectors, lane by lane, and lists of eight words.
-use Rattle.std.proofs.Common.{◌≡◌, ◌≢◌, ℕ, zero, suc, ◌*◌, ◌-◌, ◌/◌, ◌%◌, ◌^◌, ◌<◌, ◌≤◌}
-use Rattle.std.proofs.Common.{List, [], ◌∷◌, slice_set, ap}
-use Rattle.std.proofs.Common.{length, slice_index, map, bit_or, refl, sym, arith, pow_pos}
+use Rattle.std.proofs.Common.{◌≡◌, ◌≢◌, ℕ, zero, suc, ◌*◌, ◌-◌, ◌/◌, ◌%◌, ◌^◌, ◌<◌, ◌≤◌, List, []}
+use Rattle.std.proofs.Common.{◌∷◌, slice_set, ap, length, slice_index, map, bit_or, refl, sym}
+use Rattle.std.proofs.Common.{arith, pow_pos}
 use Rattle.std.proofs.lemmas.List.{get_or-set_other, get_or-set_same}
 use Rattle.std.proofs.lemmas.Nat.{shr_le}
 use Rattle.std.proofs.Math.Facts.{Fits-lt-pow}

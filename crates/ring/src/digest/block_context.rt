@@ -1,7 +1,7 @@
 //! A context of whole blocks.
 
-ghost use Rattle.std.specs.Prelude.{◌≡◌, ◌↔◌, ℕ, ◌+◌, ◌*◌, ◌/◌, ◌<◌, List, [], ◌++◌};
-ghost use Rattle.std.specs.Prelude.{length, take, drop, IsTrue, IfOk, IsErr, OnOk, OnErr};
+ghost use Rattle.std.specs.Prelude.{◌≡◌, ◌↔◌, ℕ, ◌+◌, ◌*◌, ◌/◌, ◌<◌, List, [], ◌++◌, length, take};
+ghost use Rattle.std.specs.Prelude.{drop, IsTrue, IfOk, IsErr, OnOk, OnErr};
 ghost use Rattle.ring_core.specs.Cost.{raised};
 ghost use Rattle.ring.specs.Algorithm.{block_len, max_input_len, output_len};
 ghost use Rattle.ring.specs.Cost.{padded_blocks, whole_blocks};

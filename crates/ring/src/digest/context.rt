@@ -1,7 +1,7 @@
 //! The digest of a message that arrives in pieces.
 
-ghost use Rattle.std.specs.Prelude.{◌≡◌, ◌↔◌, ℕ, ◌+◌, ◌-◌, ◌%◌, ◌<◌, ◌≤◌, List};
-ghost use Rattle.std.specs.Prelude.{[], ◌++◌, length, IfOk, IsErr, OnOk, OnErr};
+ghost use Rattle.std.specs.Prelude.{◌≡◌, ◌↔◌, ℕ, ◌+◌, ◌-◌, ◌%◌, ◌<◌, ◌≤◌, List, [], ◌++◌, length};
+ghost use Rattle.std.specs.Prelude.{IfOk, IsErr, OnOk, OnErr};
 ghost use Rattle.ring_core.specs.Cost.{raised};
 ghost use Rattle.ring.specs.Algorithm.{block_len, max_input_len};
 ghost use Rattle.ring.specs.Cost.{last_blocks, padded_blocks, whole_blocks};

@@ -1,7 +1,7 @@
 //! The last block or blocks of a message (FIPS 180-4, section 5.1).
 
-ghost use Rattle.std.specs.Prelude.{◌≡◌, ℕ, ◌-◌, ◌*◌, ◌^◌, ◌<◌, ◌≤◌, List};
-ghost use Rattle.std.specs.Prelude.{◌++◌, drop, length, replicate, take};
+ghost use Rattle.std.specs.Prelude.{◌≡◌, ℕ, ◌-◌, ◌*◌, ◌^◌, ◌<◌, ◌≤◌, List, ◌++◌, drop, length};
+ghost use Rattle.std.specs.Prelude.{replicate, take};
 ghost use Rattle.std.specs.Int.{bytes_high_first};
 ghost use Rattle.ring.specs.Prelude.{Algorithm, IsPadded, block_len, length_len, max_input_len};
 ghost use Rattle.ring.specs.Prelude.{padded, padded_blocks, tail_of};

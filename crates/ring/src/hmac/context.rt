@@ -1,11 +1,11 @@
 //! The tag of a message that arrives in pieces.
 
-ghost use Rattle.std.specs.Prelude.{◌≡◌, ◌↔◌, ℕ, ◌+◌, ◌-◌, ◌%◌, ◌<◌, ◌≤◌, List, [], ◌++◌};
-ghost use Rattle.std.specs.Prelude.{Some, codes, length, IfOk, IsErr, OnOk, OnErr};
+ghost use Rattle.std.specs.Prelude.{◌≡◌, ◌↔◌, ℕ, ◌+◌, ◌-◌, ◌%◌, ◌<◌, ◌≤◌, List, [], ◌++◌, Some};
+ghost use Rattle.std.specs.Prelude.{codes, length, IfOk, IsErr, OnOk, OnErr};
 ghost use Rattle.ring_core.specs.Cost.{raised};
 ghost use Rattle.ring.specs.Algorithm.{block_len, max_input_len, name_of};
-ghost use Rattle.ring.specs.Context.{block_algorithm, context_algorithm};
-ghost use Rattle.ring.specs.Context.{counted_bytes, cut_off, message_len};
+ghost use Rattle.ring.specs.Context.{block_algorithm, context_algorithm, counted_bytes, cut_off};
+ghost use Rattle.ring.specs.Context.{message_len};
 ghost use Rattle.ring.specs.Cost.{last_blocks, padded_blocks, whole_blocks};
 
 use crate::digest;

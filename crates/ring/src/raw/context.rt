@@ -1,7 +1,7 @@
 //! The numbers of a digest's context.
 
-ghost use Rattle.std.specs.Prelude.{◌≡◌, ◌↔◌, ℕ, ◌+◌, ◌<◌, List, ◌++◌};
-ghost use Rattle.std.specs.Prelude.{length, IfSome, IsNone, IsSomeAnd, IsTrue, IsFalse, Some};
+ghost use Rattle.std.specs.Prelude.{◌≡◌, ◌↔◌, ℕ, ◌+◌, ◌<◌, List, ◌++◌, length, IfSome, IsNone};
+ghost use Rattle.std.specs.Prelude.{IsSomeAnd, IsTrue, IsFalse, Some};
 ghost use Rattle.ring.specs.Prelude.{Algorithm, IsNoContext, RawStandsFor, StandsFor};
 ghost use Rattle.ring.specs.Prelude.{context_algorithm, digest_named, message_len, named_block_len};
 ghost use Rattle.ring.specs.Prelude.{pending_len, raw_message_len};

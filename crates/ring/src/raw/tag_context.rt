@@ -1,7 +1,7 @@
 //! The numbers of a tag's context.
 
-ghost use Rattle.std.specs.Prelude.{◌≡◌, ◌↔◌, ℕ, ◌+◌, ◌<◌, ◌≤◌, List, ◌++◌};
-ghost use Rattle.std.specs.Prelude.{length, IfSome, IsNone, IsSomeAnd, IsTrue, IsFalse, Some};
+ghost use Rattle.std.specs.Prelude.{◌≡◌, ◌↔◌, ℕ, ◌+◌, ◌<◌, ◌≤◌, List, ◌++◌, length, IfSome, IsNone};
+ghost use Rattle.std.specs.Prelude.{IsSomeAnd, IsTrue, IsFalse, Some};
 ghost use Rattle.ring.specs.Prelude.{Algorithm, IsNoTagContext, RawTagStandsFor, TagStandsFor};
 ghost use Rattle.ring.specs.Prelude.{completed_len, digest_named, named_block_len, raw_message_len};
 ghost use Rattle.ring.specs.Prelude.{signing_algorithm, signing_len, signing_pending};

@@ -1,7 +1,6 @@
 //! The block functions of SHA-2 (FIPS 180-4, 6.2.2 and 6.4.2), written once for both word sizes.
 //! The schedule's step alone has a form for each.
-ghost use Rattle.std.specs.Prelude.{◌≡◌, ℕ, ◌<◌, ◌≤◌};
-ghost use Rattle.std.specs.Prelude.{List, [], get_or, length, map};
+ghost use Rattle.std.specs.Prelude.{◌≡◌, ℕ, ◌<◌, ◌≤◌, List, [], get_or, length, map};
 ghost use Rattle.ring_core.specs.Prelude.{IsBlockOf, block_len, block_step, blocks_from};
 ghost use Rattle.ring_core.specs.Prelude.{chunk_items, chunk_total, family_256, family_512, raised};
 ghost use Rattle.ring_core.specs.Prelude.{words_32, words_64, words_of_lane};

@@ -1,6 +1,6 @@
 //! The last sixteen words of a schedule, in a ring: word `t` stands in slot `t` modulo 16.
-ghost use Rattle.std.specs.Prelude.{◌≡◌, ℕ, ◌+◌, ◌*◌, ◌/◌, ◌%◌, ◌<◌, ◌≤◌, ◌++◌, List};
-ghost use Rattle.std.specs.Prelude.{[], drop, get_or, length, map, slice_index, take};
+ghost use Rattle.std.specs.Prelude.{◌≡◌, ℕ, ◌+◌, ◌*◌, ◌/◌, ◌%◌, ◌<◌, ◌≤◌, ◌++◌, List, [], drop};
+ghost use Rattle.std.specs.Prelude.{get_or, length, map, slice_index, take};
 ghost use Rattle.ring_core.specs.Prelude.{IsBlockOf, IsRing, word_at};
 
 use crate::digest::word::in_lanes::InLanes;

@@ -1,8 +1,8 @@
 //! The rounds of SHA-1 over a block whose words are loaded (FIPS 180-4, 6.1.2, steps 1 to 4).
 ghost use Rattle.std.specs.Prelude.{◌≡◌, ℕ, ◌+◌, ◌*◌, ◌<◌, ◌≤◌, List, map, take, drop};
 ghost use Rattle.ring_core.specs.Prelude.{IsBefore, IsRing, add_words, rotl, word_32, word_at};
-ghost use Rattle.ring_core.specs.Sha1.{W, add_state, block_step, round};
-ghost use Rattle.ring_core.specs.Sha1.{round_constant, round_function, rounds_from};
+ghost use Rattle.ring_core.specs.Sha1.{W, add_state, block_step, round, round_constant};
+ghost use Rattle.ring_core.specs.Sha1.{round_function, rounds_from};
 
 use crate::digest::sha1::sha1_schedule::{ExtendSchedule, extend};
 use crate::digest::word::functions::{choose_word, majority_word};

@@ -1,7 +1,7 @@
 //! The schedule of SHA-1 (FIPS 180-4, 6.1.2, step 1), two words at a time: of one block, or of
 //! several blocks side by side.
-ghost use Rattle.std.specs.Prelude.{◌≡◌, ℕ, ◌+◌, ◌%◌, ◌^◌, ◌<◌, ◌≤◌};
-ghost use Rattle.std.specs.Prelude.{List, [], ◌∷◌, map, slice_index};
+ghost use Rattle.std.specs.Prelude.{◌≡◌, ℕ, ◌+◌, ◌%◌, ◌^◌, ◌<◌, ◌≤◌, List, [], ◌∷◌, map};
+ghost use Rattle.std.specs.Prelude.{slice_index};
 ghost use Rattle.std.proofs.Common.{refl};
 ghost use Rattle.ring_core.specs.Prelude.{IsRing, low_32, word_32};
 ghost use Rattle.ring_core.specs.Sha1.{W, scheduled};

@@ -1,6 +1,6 @@
 //! The traits of words of 32 and of 64 bits (FIPS 180-4, 3.2 and 4.1).
-ghost use Rattle.std.specs.Prelude.{◌≡◌, ℕ, ◌*◌, ◌/◌, ◌^◌, ◌<◌, ◌≤◌, ◌⊎◌};
-ghost use Rattle.std.specs.Prelude.{List, length, slice_index, bit_and, bit_or, bit_xor};
+ghost use Rattle.std.specs.Prelude.{◌≡◌, ℕ, ◌*◌, ◌/◌, ◌^◌, ◌<◌, ◌≤◌, ◌⊎◌, List, length};
+ghost use Rattle.std.specs.Prelude.{slice_index, bit_and, bit_or, bit_xor};
 ghost use Rattle.ring_core.specs.Prelude.{◌⊕◌, Family, add_words, big_endian, complement};
 ghost use Rattle.ring_core.specs.Prelude.{family_256, family_512, rotr, shr, word_at};
 

@@ -1,6 +1,6 @@
 //! The word of 64 bits, that of SHA-384, SHA-512 and SHA-512/256 (FIPS 180-4, 3.2).
-ghost use Rattle.std.specs.Prelude.{◌≡◌, ℕ, ◌-◌, ◌*◌, ◌%◌, ◌^◌, ◌<◌, ◌≤◌, [], ◌∷◌};
-ghost use Rattle.std.specs.Prelude.{map, bit_and, bit_or, bit_xor};
+ghost use Rattle.std.specs.Prelude.{◌≡◌, ℕ, ◌-◌, ◌*◌, ◌%◌, ◌^◌, ◌<◌, ◌≤◌, [], ◌∷◌, map, bit_and};
+ghost use Rattle.std.specs.Prelude.{bit_or, bit_xor};
 ghost use Rattle.std.proofs.Common.{refl, mod-lt, pow_pos};
 ghost use Rattle.ring_core.specs.Prelude.{rotr, words_64};
 

@@ -1,8 +1,8 @@
 use Rattle.std.proofs.Common.{◌≡◌, ℕ, ◌+◌, ◌-◌, ◌*◌, ◌∙◌, [], ap, arith, get_or, length, take}
 use Rattle.std.proofs.lemmas.List.{take_more_set}
 use Rattle.ring.specs.Prelude.{each_blocks, padded_blocks, raised}
-use Rattle.ring.proofs.Each.{blocks-one, digests-more, digests-one, each_blocks-more}
-use Rattle.ring.proofs.Each.{message-read, raised-then}
+use Rattle.ring.proofs.Each.{blocks-one, digests-more, digests-one, each_blocks-more, message-read}
+use Rattle.ring.proofs.Each.{raised-then}
 use Rattle.ring.proofs.digest.together.write_in_lanes.Goals as goal
 
 pub lanes-preserved : goal.lanes-preserved

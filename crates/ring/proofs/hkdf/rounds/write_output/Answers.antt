@@ -2,8 +2,7 @@ use Rattle.std.proofs.Common.{◌≡◌, ◌+◌, ◌-◌, ◌*◌, ◌≤◌, �
 use Rattle.std.proofs.lemmas.Grind.{common_steps}
 use Rattle.ring.specs.Prelude.{joined, key_algorithm, output_len, raised, t_of}
 use Rattle.ring.proofs.Expanding.{cost_first, cost_next, first_round, next_round, round-lt}
-use Rattle.ring.proofs.Expanding.{rounds_at, written-last, written-next}
-use Rattle.ring.proofs.Expanding.{first_blocks, next_blocks}
+use Rattle.ring.proofs.Expanding.{rounds_at, written-last, written-next, first_blocks, next_blocks}
 use Rattle.ring.proofs.Pieces.{joined_blocks-none}
 use Rattle.ring.proofs.hkdf.rounds.write_output.Goals as goal
 

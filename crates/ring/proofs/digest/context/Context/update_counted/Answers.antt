@@ -1,8 +1,8 @@
 use Rattle.std.proofs.Common.{ℕ, ◌≤◌, length, refl, arith, ◌∙◌, ap}
 use Rattle.ring.specs.Prelude.{raised}
 use Rattle.ring.proofs.Rows.{block_len-most}
-use Rattle.ring.proofs.Updating.{moved_none, moved_both, stands_moved, pending_moved}
-use Rattle.ring.proofs.Updating.{cost_moved, ahead_len, stands_blocks}
+use Rattle.ring.proofs.Updating.{moved_none, moved_both, stands_moved, pending_moved, cost_moved}
+use Rattle.ring.proofs.Updating.{ahead_len, stands_blocks}
 use Rattle.ring.proofs.digest.context.Context.update_counted.Goals as goal
 
 pub returns-then-input-room-clause-cost : goal.returns-then-input-room-clause-cost

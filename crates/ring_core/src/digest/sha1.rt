@@ -25,6 +25,21 @@ pub const CHAINING_LEN: usize = 20;
 // The number of these words.
 const CHAINING_WORDS: usize = 5;
 
+// Runs the block function over one block, and counts it. In a function of its own it is faster than
+// in the loop over blocks.
+fn run_block(state: &mut [Word32; 8], block: &[u8], meter: &mut Meter)
+    requires { length block.now ≡ 64 }
+    ensures words { take 5 (map word_32 state.new)
+        ≡ block_step (take 5 (map word_32 state.old)) block.now }
+    ensures rest { drop 5 state.new ≡ drop 5 state.old }
+    ensures cost { meter.new ≡ raised meter.old 1 0 }
+{
+    let mut ring = [0u64; 16];
+    load::<Word32>(&mut ring, block); // step 1, to W(15)
+    run_loaded::<Word32, BYTES>(&mut ring, state);
+    meter.add_block();
+}
+
 /// Runs the block function as [`sha1_block_data_order`] does, and counts each block on `meter`.
 pub fn sha1_block_data_order_counted(
     state: &mut [Wrapping<u32>; 8],
@@ -38,10 +53,7 @@ pub fn sha1_block_data_order_counted(
     ensures cost { meter.new ≡ raised meter.old (chunk_total blocks.entry) 0 }
 {
     'each: for i in 0..blocks.len() {
-        let mut ring = [0u64; 16];
-        load::<Word32>(&mut ring, &blocks[i]); // step 1, to W(15)
-        run_loaded::<Word32, BYTES>(&mut ring, state);
-        meter.add_block();
+        run_block(state, &blocks[i], meter);
     }
 }
 

@@ -14,11 +14,7 @@ each-preserved c =
     let h = take 5 (map word_32 c.args.state.now) in
     let more = fold_chunks-next block_step 64 h c.args.blocks.items.now c.each.i in record {
       words =
-          rw (
-            c.run_loaded.ensures.words 0 _ (c.load.ensures 0),
-            c.each.invariant.words,
-            c.index.ensures,
-          ) (sym more);
-      rest = c.run_loaded.ensures.rest ∙ c.each.invariant.rest;
-      cost = rw (c.add_block.ensures, c.each.invariant.cost, raised-raised) refl;
+          rw (c.run_block.ensures.words, c.each.invariant.words, c.index.ensures) (sym more);
+      rest = c.run_block.ensures.rest ∙ c.each.invariant.rest;
+      cost = rw (c.run_block.ensures.cost, c.each.invariant.cost, raised-raised) refl;
     }

@@ -3,12 +3,12 @@ use Rattle.std.proofs.Common.{◌≡◌, ◌↔◌, ℕ, ◌+◌, ◌-◌, ◌<�
 use Rattle.std.proofs.Common.{append-nil, append_assoc, arith, drop, inl, inr, length}
 use Rattle.std.proofs.Common.{length-append, refl, take, true}
 use Rattle.std.proofs.lemmas.Bool.{and_from, and_parts, cases_lt}
-use Rattle.ring.specs.Prelude.{KeepsRoom, Takes}
+use Rattle.ring.specs.Prelude.{KeepsPlaces, Takes}
 use Rattle.ring.proofs.Pieces.{same_part}
 
 -- what is kept twice is kept
-pub keeps-more : {R : Type 0} {places room : R → ℕ} {x y z : R} → KeepsRoom places room x y
-    → KeepsRoom places room y z → KeepsRoom places room x z
+pub keeps-more : {R : Type 0} {places room : R → ℕ} {x y z : R} → KeepsPlaces places room x y
+    → KeepsPlaces places room y z → KeepsPlaces places room x z
 keeps-more s t = record { count = t.count ∙ s.count; bytes = t.bytes ∙ s.bytes }
 
 module _ {R : Type 0} {H : R → R → ℕ → List ℕ → Type 0} where

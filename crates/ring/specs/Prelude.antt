@@ -26,7 +26,7 @@ pub use Rattle.ring.specs.Context.{HasMoved}
 unfoldable pub use Rattle.ring.specs.Context.{StandsFor}
 pub use Rattle.ring.specs.Pieces.{joined}
 unfoldable pub use Rattle.ring.specs.Pieces.{joined_blocks}
-pub use Rattle.ring.specs.Receiver.{HasRoom, KeepsRoom, Takes}
+pub use Rattle.ring.specs.Receiver.{HasPlaces, KeepsPlaces, Takes}
 pub use Rattle.ring.specs.Each.{message_at, each_blocks, AreDigests, CanDigestEach, HasWords}
 unfoldable pub use Rattle.ring.specs.Each.{words_at}
 pub use Rattle.ring.specs.Source.{random_value}

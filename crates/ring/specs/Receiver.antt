@@ -11,12 +11,12 @@ pub record Takes {R : Type 0} (HasCome : R → R → ℕ → List ℕ → Type 0
       → HasCome start old j front → HasCome start new j front
 
 -- a receiver with its places and its room at each has m places, and room for n bytes
-pub record HasRoom {R : Type 0} (places room : R → ℕ) (m n : ℕ) (r : R) : Type 0 where
+pub record HasPlaces {R : Type 0} (places room : R → ℕ) (m n : ℕ) (r : R) : Type 0 where
   pub count : m ≤ places r
   pub bytes : n ≤ room r
   pub most : room r < 2 ^ 63
 
 -- it keeps both
-pub record KeepsRoom {R : Type 0} (places room : R → ℕ) (old new : R) : Type 0 where
+pub record KeepsPlaces {R : Type 0} (places room : R → ℕ) (old new : R) : Type 0 where
   pub count : places new ≡ places old
   pub bytes : room new ≡ room old

@@ -3,7 +3,7 @@
 ghost use Rattle.std.specs.Prelude.{◌≡◌, ◌↔◌, ℕ, ◌+◌, ◌-◌, ◌*◌, ◌^◌, ◌<◌, ◌≤◌, IsTrue, List};
 ghost use Rattle.std.specs.Prelude.{get_or, length, min, take};
 ghost use Rattle.std.specs.Int.NonZero.{non_zero_u32_get};
-ghost use Rattle.ring.specs.Prelude.{CanRunTogether, HasRoom, IsTagWithin, KeepsRoom, KeyStandsFor};
+ghost use Rattle.ring.specs.Prelude.{CanRunTogether, HasPlaces, IsTagWithin, KeepsPlaces, KeyStandsFor};
 ghost use Rattle.ring.specs.Prelude.{Output, Takes, derive_rounds, dk, iterate_blocks};
 ghost use Rattle.ring.specs.Prelude.{joined_blocks, key_algorithm, output_len, raised, xored};
 
@@ -70,12 +70,12 @@ fn take_rounds_in_order<R: Receiver>(
 )
     requires fits { output_len ≤ 64 }
     requires enough { len ≤ length rounds.now * output_len }
-    requires room { HasRoom R.places R.room (place + 1) (from + len) receiver.old }
+    requires room { HasPlaces R.places R.room (place + 1) (from + len) receiver.old }
     ensures ok { (f : ℕ → List ℕ) → ((i : ℕ) (room : Output) → i < length rounds.now
         → take output_len (get_or rounds.now i room).0 ≡ f (i + 1))
         → Takes R.HasCome place 1 from
         (λ i. take len (joined_blocks f (length rounds.now))) receiver.old receiver.new }
-    ensures same { KeepsRoom R.places R.room receiver.old receiver.new }
+    ensures same { KeepsPlaces R.places R.room receiver.old receiver.new }
     ensures cost { meter.new ≡ raised meter.old 0 (R.pairs * len) }
 {
     let mut taken = 0;
@@ -129,11 +129,11 @@ pub(crate) fn derive_under<const BITS: usize, R: Receiver>(
 )
     requires salt { 0 < len → IsTagWithin (key_algorithm key.now) (length salt.now + 4) }
     requires rounds { len ≤ (2 ^ 32 - 1) * output_len (key_algorithm key.now) }
-    requires room { HasRoom R.places R.room (place + 1) len receiver.old }
+    requires room { HasPlaces R.places R.room (place + 1) len receiver.old }
     ensures ok { (p : List ℕ) → KeyStandsFor key.now p → Takes R.HasCome place 1 0
         (λ i. dk (key_algorithm key.now) p salt.now (non_zero_u32_get iterations) len)
         receiver.old receiver.new }
-    ensures same { KeepsRoom R.places R.room receiver.old receiver.new }
+    ensures same { KeepsPlaces R.places R.room receiver.old receiver.new }
     ensures cost { meter.new ≡ raised meter.old
         (derive_rounds (key_algorithm key.now) len
         * iterate_blocks (key_algorithm key.now) (length salt.now) (non_zero_u32_get iterations))

@@ -4,7 +4,7 @@
 ghost use Rattle.std.specs.Prelude.{◌≡◌, ◌≢◌, ◌↔◌, ℕ, ◌+◌, ◌*◌, ◌^◌, ◌<◌, ◌≤◌, [], ◌++◌, IsTrue};
 ghost use Rattle.std.specs.Prelude.{List, drop, false, get_or, length, min, take, true};
 ghost use Rattle.std.proofs.Common.{arith, refl};
-ghost use Rattle.ring.specs.Prelude.{HasRoom, KeepsRoom, Takes, raised};
+ghost use Rattle.ring.specs.Prelude.{HasPlaces, KeepsPlaces, Takes, raised};
 
 use ring_core::bb::verify_slices_are_equal_counted;
 use ring_core::cost::Meter;
@@ -33,9 +33,9 @@ pub(crate) trait Receiver {
 
     // Takes a part of the key at a place, which begins at the key's byte `from`.
     fn take(&mut self, place: usize, from: usize, part: &[u8], meter: &mut Meter)
-        requires { HasRoom places room (place + 1) (from + length part.now) self.old }
+        requires { HasPlaces places room (place + 1) (from + length part.now) self.old }
         ensures ok { Takes HasCome place 1 from (λ i. part.now) self.old self.new }
-        ensures same { KeepsRoom places room self.old self.new }
+        ensures same { KeepsPlaces places room self.old self.new }
         ensures cost { meter.new ≡ raised meter.old 0 (pairs * length part.now) };
 
     // at the start none were taken

@@ -3,8 +3,8 @@
 ghost use Rattle.std.specs.Prelude.{◌≡◌, ◌↔◌, ℕ, ◌+◌, ◌-◌, ◌*◌, ◌^◌, ◌<◌, ◌≤◌, IsTrue, List};
 ghost use Rattle.std.specs.Prelude.{get_or, length, take};
 ghost use Rattle.std.specs.Int.NonZero.{non_zero_u32_get};
-ghost use Rattle.ring.specs.Prelude.{AreKeysOf, CanDerive, CanDeriveEach, CanRunTogether, HasRoom};
-ghost use Rattle.ring.specs.Prelude.{IsTagWithin, KeepsRoom, Key, Output, Takes, bytes_at};
+ghost use Rattle.ring.specs.Prelude.{AreKeysOf, CanDerive, CanDeriveEach, CanRunTogether, HasPlaces};
+ghost use Rattle.ring.specs.Prelude.{IsTagWithin, KeepsPlaces, Key, Output, Takes, bytes_at};
 ghost use Rattle.ring.specs.Prelude.{derive_each_blocks, derive_rounds, dk, dk_at, hmac_digest};
 ghost use Rattle.ring.specs.Prelude.{iterate_blocks, key_algorithm, output_len, raised, sum_below};
 
@@ -50,11 +50,11 @@ fn take_round_of_each<R: Receiver>(
 )
     requires part { len ≤ 64 }
     requires most { first + length rounds.now < 2 ^ 64 }
-    requires room { HasRoom R.places R.room (first + length rounds.now) (from + len)
+    requires room { HasPlaces R.places R.room (first + length rounds.now) (from + len)
         receiver.old }
     ensures ok { (room : Output) → Takes R.HasCome first (length rounds.now) from
         (λ i. take len (get_or rounds.now i room).0) receiver.old receiver.new }
-    ensures same { KeepsRoom R.places R.room receiver.old receiver.new }
+    ensures same { KeepsPlaces R.places R.room receiver.old receiver.new }
     ensures cost { meter.new ≡ raised meter.old 0 (R.pairs * (length rounds.now * len)) }
 {
     'places: for i in 0..rounds.len() {
@@ -82,12 +82,12 @@ fn derive_under_each<const BITS: usize, R: Receiver>(
         → IsTagWithin algorithm (length (bytes_at salts.now i) + 4) }
     requires rounds { len ≤ (2 ^ 32 - 1) * output_len algorithm }
     requires most { first + length keys.now < 2 ^ 64 }
-    requires room { HasRoom R.places R.room (first + length keys.now) len receiver.old }
+    requires room { HasPlaces R.places R.room (first + length keys.now) len receiver.old }
     ensures ok { (p : ℕ → List ℕ) → AreKeysOf algorithm keys.now p
         → Takes R.HasCome first (length keys.now) 0
         (λ i. dk algorithm (p i) (bytes_at salts.now i) (non_zero_u32_get iterations) len)
         receiver.old receiver.new }
-    ensures same { KeepsRoom R.places R.room receiver.old receiver.new }
+    ensures same { KeepsPlaces R.places R.room receiver.old receiver.new }
     ensures cost { meter.new ≡ raised meter.old (derive_rounds algorithm len
         * sum_below (λ i. iterate_blocks algorithm
         (length (bytes_at salts.now i)) (non_zero_u32_get iterations)) (length keys.now))
@@ -122,10 +122,10 @@ fn derive_together<const BITS: usize, R: Receiver>(
     requires within { CanDeriveEach (hmac_digest algorithm) salts.now secrets.now
         (length secrets.now) len }
     requires most { first + length secrets.now < 2 ^ 64 }
-    requires room { HasRoom R.places R.room (first + length secrets.now) len receiver.old }
+    requires room { HasPlaces R.places R.room (first + length secrets.now) len receiver.old }
     ensures ok { Takes R.HasCome first (length secrets.now) 0 (dk_at (hmac_digest algorithm)
         salts.now secrets.now (non_zero_u32_get iterations) len) receiver.old receiver.new }
-    ensures same { KeepsRoom R.places R.room receiver.old receiver.new }
+    ensures same { KeepsPlaces R.places R.room receiver.old receiver.new }
     ensures cost { meter.new ≡ raised meter.old (derive_each_blocks (hmac_digest algorithm)
         salts.now secrets.now (non_zero_u32_get iterations) len)
         (R.pairs * (length secrets.now * len)) }
@@ -153,7 +153,7 @@ pub(crate) fn derive_all<const BITS: usize, R: Receiver>(
 )
     requires within { CanDeriveEach (hmac_digest algorithm) salts.now secrets.now
         (length secrets.now) len }
-    requires room { HasRoom R.places R.room (length secrets.now) len receiver.old }
+    requires room { HasPlaces R.places R.room (length secrets.now) len receiver.old }
     ensures ok { Takes R.HasCome 0 (length secrets.now) 0 (dk_at (hmac_digest algorithm)
         salts.now secrets.now (non_zero_u32_get iterations) len) receiver.old receiver.new }
     ensures cost { meter.new ≡ raised meter.old (derive_each_blocks (hmac_digest algorithm)

@@ -1,6 +1,6 @@
 use Rattle.std.proofs.Common.{◌-◌, ◌*◌, ℕ, List}
 use Rattle.std.specs.Int.NonZero.{non_zero_u32_get}
-use Rattle.ring.specs.Prelude.{KeepsRoom, KeyStandsFor, Takes, dk, key_algorithm}
+use Rattle.ring.specs.Prelude.{KeepsPlaces, KeyStandsFor, Takes, dk, key_algorithm}
 use Rattle.ring.proofs.Parts.{round_blocks}
 use Rattle.ring.proofs.Rounds.{HasRun}
 use Rattle.ring.proofs.pbkdf2.parts.derive_under.Given as goal
@@ -13,7 +13,7 @@ invariant-parts g l =
     record {
       run : HasRun a (round_blocks l.key l.salt iterations) l.len l.number l.taken
           (r.pairs * l.taken) l.fn.meter l.meter;
-      same : KeepsRoom r.places r.room l.fn.receiver l.receiver;
+      same : KeepsPlaces r.places r.room l.fn.receiver l.receiver;
       taken : (p : List ℕ) → KeyStandsFor l.key p → Takes r.HasCome l.place 1 0
           (λ i. dk a p l.salt iterations l.taken) l.fn.receiver l.receiver;
     }

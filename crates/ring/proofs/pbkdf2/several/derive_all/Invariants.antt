@@ -1,6 +1,6 @@
 use Rattle.std.proofs.Common.{◌≡◌, ◌≤◌, ◌-◌, ◌*◌, length}
 use Rattle.std.specs.Int.NonZero.{non_zero_u32_get}
-use Rattle.ring.specs.Prelude.{KeepsRoom, Takes, derive_blocks_at, dk_at, hmac_digest, raised}
+use Rattle.ring.specs.Prelude.{KeepsPlaces, Takes, derive_blocks_at, dk_at, hmac_digest, raised}
 use Rattle.ring.specs.Prelude.{sum_below}
 use Rattle.ring.proofs.pbkdf2.several.derive_all.Given as goal
 
@@ -11,7 +11,7 @@ invariant-together g l =
     let iterations = non_zero_u32_get l.iterations in
     record {
       within : l.made ≤ length l.secrets;
-      same : KeepsRoom r.places r.room l.fn.receiver l.receiver;
+      same : KeepsPlaces r.places r.room l.fn.receiver l.receiver;
       cost : l.meter ≡ raised l.fn.meter
           (sum_below (derive_blocks_at a l.salts l.secrets iterations l.len) l.made)
           (r.pairs * (l.made * l.len));

@@ -1,6 +1,6 @@
 use Rattle.std.proofs.Common.{◌-◌, ◌*◌, ℕ, List, length}
 use Rattle.std.specs.Int.NonZero.{non_zero_u32_get}
-use Rattle.ring.specs.Prelude.{AreKeysOf, KeepsRoom, Takes, bytes_at, dk}
+use Rattle.ring.specs.Prelude.{AreKeysOf, KeepsPlaces, Takes, bytes_at, dk}
 use Rattle.ring.proofs.DerivedKeys.{each_round_blocks}
 use Rattle.ring.proofs.Rounds.{HasRun}
 use Rattle.ring.proofs.pbkdf2.several.derive_under_each.Given as goal
@@ -13,7 +13,7 @@ invariant-rounds g l =
     record {
       run : HasRun a (each_round_blocks a l.salts iterations (length l.keys)) l.len l.number
           l.taken (r.pairs * (length l.keys * l.taken)) l.fn.meter l.meter;
-      same : KeepsRoom r.places r.room l.fn.receiver l.receiver;
+      same : KeepsPlaces r.places r.room l.fn.receiver l.receiver;
       taken : (p : ℕ → List ℕ) → AreKeysOf a l.keys p
           → Takes r.HasCome l.first (length l.keys) 0
           (λ i. dk a (p i) (bytes_at l.salts i) iterations l.taken) l.fn.receiver l.receiver;

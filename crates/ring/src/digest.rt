@@ -5,8 +5,7 @@
 //!
 //! ```
 //! ghost use Rattle.std.specs.Prelude.{◌↔◌, ◌<◌, ◌++◌, length, IfOk, IsErr};
-//! ghost use Rattle.ring.specs.Algorithm.{max_input_len};
-//! ghost use Rattle.ring.specs.Digest.{IsDigest};
+//! ghost use Rattle.ring.specs.Prelude.{IsDigest, max_input_len};
 //!
 //! use ring::digest::{Context, Digest, SHA256};
 //! use ring::error::Unspecified;

@@ -4,10 +4,8 @@ ghost use Rattle.std.specs.Prelude.{◌≡◌, ◌↔◌, ◌*◌, ◌/◌, ◌%
 ghost use Rattle.std.specs.Prelude.{length, map, IfOk, IsErr, IsTrue};
 ghost use Rattle.std.specs.Int.{div_ceil, to_be_bytes, w128, w64};
 ghost use Rattle.std.specs.Int.NonZero.{non_zero_u64_get};
-ghost use Rattle.ring_core.specs.Bytes.{xor_lists};
-ghost use Rattle.ring_core.specs.Word.{◌⊕◌};
-ghost use Rattle.ring.specs.Algorithm.{max_input_len};
-ghost use Rattle.ring.specs.Cost.{compared_pairs, padded_blocks};
+ghost use Rattle.ring_core.specs.Prelude.{◌⊕◌, xor_lists};
+ghost use Rattle.ring.specs.Prelude.{compared_pairs, max_input_len, padded_blocks};
 
 use ring::bits::{BitLength, FromByteLen};
 use ring::constant_time::{

@@ -2,11 +2,10 @@
 
 ghost use Rattle.std.specs.Prelude.{◌≡◌, ◌↔◌, ◌*◌, ◌<◌, ◌≤◌, ℕ, List, length};
 ghost use Rattle.std.specs.Prelude.{IfOk, IsErr, IsOk, IsTrue, OnErr, OnOk};
-ghost use Rattle.ring.specs.Algorithm.{max_input_len, output_len};
-ghost use Rattle.ring.specs.Hkdf.{PrkStandsFor, SaltStandsFor, okm, prk_algorithm, salt_algorithm};
-ghost use Rattle.ring.specs.Hmac.{IsTag, KeyStandsFor, hmac_of, key_algorithm};
-ghost use Rattle.ring.specs.Limits.{IsInfoWithin, IsOutputWithin, IsTagWithin};
-ghost use Rattle.ring.specs.Pieces.{joined};
+ghost use Rattle.ring.specs.Prelude.{IsInfoWithin, IsOutputWithin, IsTag, IsTagWithin};
+ghost use Rattle.ring.specs.Prelude.{KeyStandsFor, PrkStandsFor, SaltStandsFor, hmac_of, joined};
+ghost use Rattle.ring.specs.Prelude.{key_algorithm, max_input_len, okm, output_len, prk_algorithm};
+ghost use Rattle.ring.specs.Prelude.{salt_algorithm};
 
 use ring::digest::SHA256;
 use ring::error::Unspecified;

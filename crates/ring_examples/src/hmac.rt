@@ -2,10 +2,9 @@
 
 ghost use Rattle.std.specs.Prelude.{◌≡◌, ◌↔◌, ◌⊎◌, ◌+◌, ◌<◌, ◌≤◌, ◌++◌};
 ghost use Rattle.std.specs.Prelude.{ℕ, List, length, IfOk, IsErr, IsOk, OnErr, OnOk};
-ghost use Rattle.ring.specs.Algorithm.{block_len, max_input_len, output_len};
-ghost use Rattle.ring.specs.Cost.{padded_blocks, raised};
-ghost use Rattle.ring.specs.Hmac.{IsTag, KeyStandsFor, hmac_of, key_algorithm};
-ghost use Rattle.ring.specs.Limits.{IsTagWithin};
+ghost use Rattle.ring.specs.Prelude.{IsTag, IsTagWithin, KeyStandsFor, block_len, hmac_of};
+ghost use Rattle.ring.specs.Prelude.{key_algorithm, max_input_len, output_len, padded_blocks};
+ghost use Rattle.ring.specs.Prelude.{raised};
 
 use ring::cost::Meter;
 use ring::digest::SHA256;

@@ -1,9 +1,7 @@
 //! Callers whose proofs use a law: the call of a law gives them its clause.
 
 ghost use Rattle.std.specs.Prelude.{◌≡◌, ◌↔◌, ℕ, List, IfOk, IsTrue, replicate, take};
-ghost use Rattle.ring.specs.Hkdf.{PrkStandsFor};
-ghost use Rattle.ring.specs.Hmac.{hmac_of};
-ghost use Rattle.ring.specs.Limits.{IsOutputWithin};
+ghost use Rattle.ring.specs.Prelude.{IsOutputWithin, PrkStandsFor, hmac_of};
 
 use crate::basics::pairs_of_comparison;
 use crate::hkdf::Length;

@@ -2,8 +2,7 @@
 
 ghost use Rattle.std.specs.Prelude.{◌≡◌, ◌↔◌, ◌≤◌, length, IfOk, IsOk, IsTrue};
 ghost use Rattle.std.specs.Int.NonZero.{non_zero_u32_get};
-ghost use Rattle.ring.specs.Limits.{CanDerive, max_dk_len};
-ghost use Rattle.ring.specs.Pbkdf2.{IsDerived, dk};
+ghost use Rattle.ring.specs.Prelude.{CanDerive, IsDerived, dk, max_dk_len};
 
 use ring::digest::{SHA256, SHA256_OUTPUT_LEN};
 use ring::error::Unspecified;

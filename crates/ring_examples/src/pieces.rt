@@ -2,11 +2,9 @@
 
 ghost use Rattle.std.specs.Prelude.{◌≡◌, ◌↔◌, ◌<◌, ◌++◌, ℕ, List, length, take};
 ghost use Rattle.std.specs.Prelude.{IfOk, IsErr, OnErr, OnOk};
-ghost use Rattle.ring.specs.Algorithm.{block_len, chaining_len, max_input_len, output_len};
-ghost use Rattle.ring.specs.Context.{StandsFor, context_algorithm};
-ghost use Rattle.ring.specs.Cost.{padded_blocks};
-ghost use Rattle.ring.specs.Digest.{IsDigest, digest_of};
-ghost use Rattle.ring.specs.Pieces.{joined};
+ghost use Rattle.ring.specs.Prelude.{IsDigest, StandsFor, block_len, chaining_len};
+ghost use Rattle.ring.specs.Prelude.{context_algorithm, digest_of, joined, max_input_len};
+ghost use Rattle.ring.specs.Prelude.{output_len, padded_blocks};
 ghost use Rattle.ring.specs.declared.digest.algorithm.Algorithm as digest;
 
 use ring::cost::Meter;

@@ -2,8 +2,7 @@
 
 ghost use Rattle.std.specs.Prelude.{◌≡◌, ◌↔◌, ◌⊎◌, ◌+◌, ◌<◌, ◌++◌};
 ghost use Rattle.std.specs.Prelude.{drop, false, length, take, IfOk, IsErr, OnErr, OnOk};
-ghost use Rattle.ring.specs.Algorithm.{max_input_len};
-ghost use Rattle.ring.specs.Hmac.{IsTag};
+ghost use Rattle.ring.specs.Prelude.{IsTag, max_input_len};
 
 use ring::digest::SHA256;
 use ring::error::Unspecified;

@@ -2,10 +2,9 @@
 
 ghost use Rattle.std.specs.Prelude.{◌≡◌, ◌↔◌, ℕ, List, ◌++◌};
 ghost use Rattle.std.specs.Prelude.{IfOk, IfSome, IsFalse, IsNone, IsSomeAnd, IsTrue, None, Some};
-ghost use Rattle.ring.specs.Digest.{IsDigest};
-ghost use Rattle.ring.specs.Hmac.{IsTag, KeyStandsFor, hmac_digest, key_algorithm};
-ghost use Rattle.ring.specs.Raw.{IsNoContext, IsNoTagContext, RawKeyStandsFor, RawStandsFor};
-ghost use Rattle.ring.specs.Raw.{RawTagStandsFor, digest_named};
+ghost use Rattle.ring.specs.Prelude.{IsDigest, IsNoContext, IsNoTagContext, IsTag, KeyStandsFor};
+ghost use Rattle.ring.specs.Prelude.{RawKeyStandsFor, RawStandsFor, RawTagStandsFor, digest_named};
+ghost use Rattle.ring.specs.Prelude.{hmac_digest, key_algorithm};
 ghost use Rattle.ring.specs.declared.digest.algorithm.Algorithm as digest;
 
 use ring::digest::{Algorithm, Context, Digest, digest};

@@ -1,8 +1,8 @@
 //! Chaining words, and the block function over them.
 
 ghost use Rattle.std.specs.Prelude.{◌≡◌, ◌++◌, replicate};
-ghost use Rattle.ring_core.specs.Sha2.{blocks_from, family_256, words_32, words_64};
-ghost use Rattle.ring.specs.State.{word_bytes};
+ghost use Rattle.ring_core.specs.Prelude.{blocks_from, family_256, words_32, words_64};
+ghost use Rattle.ring.specs.Prelude.{word_bytes};
 
 use ring::digest::dynstate::DynState;
 use ring::digest::sha2::{State32, State64, block_data_order_32};

@@ -2,7 +2,7 @@
 
 ghost use Rattle.std.specs.Prelude.{◌≡◌, ◌↔◌, ℕ, List, Ok, Err};
 ghost use Rattle.std.specs.Prelude.{IfOk, IsErrOf, IsOkUnless, IsTrue, OnErr, OnOk};
-ghost use Rattle.ring.specs.Cost.{raised};
+ghost use Rattle.ring.specs.Prelude.{raised};
 ghost use Rattle.ring_store.specs.Store.{admission, verdict, verify_blocks, with_raise};
 ghost use Rattle.ring_store.specs.Text.{IsStore};
 ghost use Rattle.ring_store.specs.Token.{MakerStandsFor, token_of};

@@ -2,10 +2,8 @@
 
 ghost use Rattle.std.specs.Prelude.{◌≡◌, ◌↔◌, IfOk, IsErr, IsOk, length};
 ghost use Rattle.std.specs.Int.NonZero.{non_zero_u32_get};
-ghost use Rattle.ring.specs.DeriveEach.{AreDerived, AreVerified, CanDeriveEach, CanVerifyEach};
-ghost use Rattle.ring.specs.Each.{AreDigests, CanDigestEach};
-ghost use Rattle.ring.specs.Limits.{CanDerive};
-ghost use Rattle.ring.specs.Pbkdf2.{IsDerived, dk};
+ghost use Rattle.ring.specs.Prelude.{AreDerived, AreDigests, AreVerified, CanDerive, CanDeriveEach};
+ghost use Rattle.ring.specs.Prelude.{CanDigestEach, CanVerifyEach, IsDerived, dk};
 
 use ring::cost::Meter;
 use ring::digest::{Algorithm, Digest, SHA256, SHA256_OUTPUT_LEN, digest, digest_each_in};

@@ -1,5 +1,5 @@
 use Rattle.std.proofs.Common.{◌∙◌, ◌≤◌, ℕ, ap, arith, length}
-use Rattle.ring.specs.Cost.{Counts, compared_pairs, raised}
+use Rattle.ring.specs.Prelude.{Counts, compared_pairs, raised}
 use Rattle.ring_examples.proofs.basics.pairs_of_comparison.Goals as goal
 
 compared_pairs-most : (m n : ℕ) → compared_pairs m n ≤ n

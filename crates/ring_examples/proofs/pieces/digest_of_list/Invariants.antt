@@ -1,6 +1,5 @@
 use Rattle.std.proofs.Common.{◌≡◌, take}
-use Rattle.ring.specs.Context.{StandsFor, context_algorithm}
-use Rattle.ring.specs.Pieces.{joined}
+use Rattle.ring.specs.Prelude.{StandsFor, context_algorithm, joined}
 use Rattle.ring_examples.proofs.pieces.digest_of_list.Given as goal
 
 abbrev pub invariant-pieces : goal.invariant-pieces

@@ -40,7 +40,7 @@ length-words_after a p =
 pub length-digest_of : (a : Algorithm) (m : List ℕ) → length (digest_of a m) ≡ output_len a
 unfolding digest_of
 length-digest_of a m =
-    grind (arith, common_steps, length-word_bytes, length-words_after, length-take-le, output_len-most)
+    grind (arith, common_steps, length-word_bytes, length-words_after, output_len-most)
 
 -- the end of a message has the blocks of its pending bytes with their padding
 pub end_last : (a : Algorithm) (n : ℕ) → padded_blocks a (n % block_len a) ≡ last_blocks a n

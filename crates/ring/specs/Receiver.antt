@@ -10,7 +10,8 @@ pub record Takes {R : Type 0} (HasCome : R → R → ℕ → List ℕ → Type 0
   pub others : (start : R) (j : ℕ) (front : List ℕ) → (j < first) ⊎ (first + m ≤ j)
       → HasCome start old j front → HasCome start new j front
 
--- a receiver with its places and its room at each has m places, and room for n bytes
+-- a receiver, by its places and the room at each, has m places with room for n bytes; the room is
+-- below 2 ^ 63 bytes, as that of any slice
 pub record HasPlaces {R : Type 0} (places room : R → ℕ) (m n : ℕ) (r : R) : Type 0 where
   pub count : m ≤ places r
   pub bytes : n ≤ room r

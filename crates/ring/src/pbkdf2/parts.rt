@@ -3,9 +3,10 @@
 ghost use Rattle.std.specs.Prelude.{◌≡◌, ◌↔◌, ℕ, ◌+◌, ◌-◌, ◌*◌, ◌^◌, ◌<◌, ◌≤◌, IsTrue, List};
 ghost use Rattle.std.specs.Prelude.{get_or, length, min, take};
 ghost use Rattle.std.specs.Int.NonZero.{non_zero_u32_get};
-ghost use Rattle.ring.specs.Prelude.{CanRunTogether, HasPlaces, IsTagWithin, KeepsPlaces, KeyStandsFor};
-ghost use Rattle.ring.specs.Prelude.{Output, Takes, derive_rounds, dk, iterate_blocks};
-ghost use Rattle.ring.specs.Prelude.{joined_blocks, key_algorithm, output_len, raised, xored};
+ghost use Rattle.ring.specs.Prelude.{CanRunTogether, HasPlaces, IsTagWithin, KeepsPlaces};
+ghost use Rattle.ring.specs.Prelude.{KeyStandsFor, Output, Takes, derive_rounds, dk};
+ghost use Rattle.ring.specs.Prelude.{iterate_blocks, joined_blocks, key_algorithm, output_len};
+ghost use Rattle.ring.specs.Prelude.{raised, xored};
 
 use crate::digest;
 use crate::digest::dynstate::{OUTPUT_ROOM, Output};

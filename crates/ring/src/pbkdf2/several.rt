@@ -3,10 +3,11 @@
 ghost use Rattle.std.specs.Prelude.{◌≡◌, ◌↔◌, ℕ, ◌+◌, ◌-◌, ◌*◌, ◌^◌, ◌<◌, ◌≤◌, IsTrue, List};
 ghost use Rattle.std.specs.Prelude.{get_or, length, take};
 ghost use Rattle.std.specs.Int.NonZero.{non_zero_u32_get};
-ghost use Rattle.ring.specs.Prelude.{AreKeysOf, CanDerive, CanDeriveEach, CanRunTogether, HasPlaces};
-ghost use Rattle.ring.specs.Prelude.{IsTagWithin, KeepsPlaces, Key, Output, Takes, bytes_at};
-ghost use Rattle.ring.specs.Prelude.{derive_each_blocks, derive_rounds, dk, dk_at, hmac_digest};
-ghost use Rattle.ring.specs.Prelude.{iterate_blocks, key_algorithm, output_len, raised, sum_below};
+ghost use Rattle.ring.specs.Prelude.{AreKeysOf, CanDerive, CanDeriveEach, CanRunTogether};
+ghost use Rattle.ring.specs.Prelude.{HasPlaces, IsTagWithin, KeepsPlaces, Key, Output, Takes};
+ghost use Rattle.ring.specs.Prelude.{bytes_at, derive_each_blocks, derive_rounds, dk, dk_at};
+ghost use Rattle.ring.specs.Prelude.{hmac_digest, iterate_blocks, key_algorithm, output_len};
+ghost use Rattle.ring.specs.Prelude.{raised, sum_below};
 
 use crate::digest::dynstate::Output;
 use crate::digest::vectors::lanes_for;

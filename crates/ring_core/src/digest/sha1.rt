@@ -94,8 +94,9 @@ pub fn sha1_block_data_order_lanes_counted<V: Vector<One = Wrapping<u32>>, const
     meter.add_blocks(V::LANES);
 }
 
-// Runs the block function over the block whose first five words are those of `front`, and whose
-// other words are those of `padding`: over one in each lane, and counts as many.
+// Runs the block function in each lane, over a block whose first five words are those of the lane in
+// `front`, and whose other words are those of `padding`, and counts these blocks. It is inlined, so
+// that the compiler sees a single block's room as a local of its caller.
 #[inline(always)]
 fn run_words<S: ExtendSchedule<One = Wrapping<u32>>>(
     ring: &mut [S::Slot; 16],

@@ -122,8 +122,8 @@ pub fn block_data_order_lanes_counted<V: Vector, const N: usize>(
     meter.add_blocks(V::LANES);
 }
 
-// Runs the block function over the block whose first `N` words are those of `front`, and whose
-// other words are those of `padding`: over one in each lane, and counts as many.
+// Runs the block function in each lane, over a block whose first `N` words are those of the lane in
+// `front`, and whose other words are those of `padding`, and counts these blocks.
 fn run_words<S: ExtendSchedule, const N: usize>(
     ring: &mut [S::Slot; 16],
     state: &mut [S; 8],

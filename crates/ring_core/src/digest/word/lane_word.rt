@@ -26,15 +26,15 @@ pub trait LaneWord: Copy {
         ensures { (i : ℕ) → lane i result ≡ Self.One.value word };
 
     /// The sums of these words and of those of `o`, modulo 2 to the power of the bits (FIPS 180-4,
-    /// 3.2, item 1).
+    /// 3.2, item 2).
     fn plus(self, o: Self) -> Self
         ensures { (i : ℕ) → lane i result ≡ add_words Self.One.bits (lane i self) (lane i o) };
 
-    /// The bits that both these words and those of `o` have (FIPS 180-4, 3.2, item 2).
+    /// The bits that both these words and those of `o` have (FIPS 180-4, 3.2, item 1).
     fn bit_and(self, o: Self) -> Self
         ensures { (i : ℕ) → lane i result ≡ bit_and (lane i self) (lane i o) };
 
-    /// The bits that either these words or those of `o` have (FIPS 180-4, 3.2, item 2).
+    /// The bits that either these words or those of `o` have (FIPS 180-4, 3.2, item 1).
     fn bit_xor(self, o: Self) -> Self
         ensures { (i : ℕ) → lane i result ≡ lane i self ⊕ lane i o };
 

@@ -203,9 +203,10 @@ yz_status yz_hkdf(uint32_t algorithm, const uint8_t *salt, size_t salt_len,
                   const uint8_t *info, size_t info_len,
                   uint8_t *out, size_t out_len) YZ_MUST_CHECK;
 
-/* PBKDF2. `out_len` is at most YZ_PBKDF2_MAX_OUT_LEN of the algorithm's yz_output_len, or the call
- * answers YZ_WRONG_LENGTH. A verification answers YZ_OK exactly where `derived` isn't empty and is
- * what yz_pbkdf2_derive gives for its length, and reads all of it before it answers. */
+/* PBKDF2. `out_len` is at most YZ_PBKDF2_MAX_OUT_LEN of the algorithm's yz_output_len, or
+ * yz_pbkdf2_derive answers YZ_WRONG_LENGTH. A verification answers YZ_OK exactly where `derived`
+ * isn't empty and is what yz_pbkdf2_derive gives for its length, and reads all of it before it
+ * answers. It answers YZ_UNSPECIFIED where `derived` is longer than that, as for a mismatch. */
 yz_status yz_pbkdf2_derive(uint32_t algorithm, uint32_t iterations,
                            const uint8_t *salt, size_t salt_len,
                            const uint8_t *secret, size_t secret_len,

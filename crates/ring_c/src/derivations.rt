@@ -149,8 +149,8 @@ fn verify<const BITS: usize>(
 /// [`yz_pbkdf2_derive`] derives from the same `algorithm`, `iterations`, `salt` and `secret` (RFC
 /// 2898, section 5.2).
 ///
-/// Refused as `UNKNOWN_ALGORITHM`, `WRONG_LENGTH` and `NO_ITERATIONS` as that call is, and else as
-/// `UNSPECIFIED`: a mismatch, an empty value, or a secret or salt that is too long.
+/// Refused as `UNKNOWN_ALGORITHM` and `NO_ITERATIONS` as that call is, and else as `UNSPECIFIED`: a
+/// mismatch, an empty value, or a value, secret or salt that is too long.
 #[unsafe(no_mangle)]
 pub extern "C" fn yz_pbkdf2_verify(
     algorithm: u32,

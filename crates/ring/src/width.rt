@@ -25,4 +25,4 @@
 //!
 //! The imports of this example stand in `crates/ring_examples/src/wide.rt`.
 
-pub use crate::digest::vectors::{AVX2, SSE};
+pub use crate::digest::vectors::{AVX2, SSE, widths_are_in_bits};

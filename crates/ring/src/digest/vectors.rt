@@ -1,6 +1,6 @@
 //! How many messages or rounds run side by side.
 
-ghost use Rattle.std.specs.Prelude.{ℕ, ◌<◌, ◌≤◌};
+ghost use Rattle.std.specs.Prelude.{◌≡◌, ℕ, ◌<◌, ◌≤◌};
 ghost use Rattle.ring.specs.Prelude.{CanRunTogether};
 
 use crate::digest::algorithm::Algorithm;
@@ -14,6 +14,12 @@ pub const SSE: usize = 128;
 
 /// The bits of a vector with AVX2, which a build for x86-64-v3 has.
 pub const AVX2: usize = 256;
+
+/// States the width of each vector in bits. The call does nothing.
+pub fn widths_are_in_bits()
+    ensures sse { SSE ≡ 128 }
+    ensures avx2 { AVX2 ≡ 256 }
+{}
 
 // How many of those that are left run side by side next: as many as a vector has words. Two words
 // of 64 bits are no faster than one after the other.

@@ -92,8 +92,8 @@ enum {
  * YZ_UNKNOWN_CONTEXT is no proof against wrong memory. It is answered exactly where the bytes name
  * no algorithm, as always after yz_clear, where a context has a whole block of pending bytes or
  * more, and where a tag's context counts less than the block of its key. Any other bytes are taken
- * for a context's or a key's, and the call answers as for one: what it writes then is the digest or
- * tag of nothing that is known. */
+ * for a context's or a key's, and the call answers as for one: it writes the digest or the tag that
+ * follows from the words and the pending bytes that are there, and verifies exactly that tag. */
 typedef struct {
     uint32_t algorithm;
     uint32_t num_pending;

@@ -344,6 +344,22 @@ static void pieces(void) {
 }
 
 /* Any bytes in the place of contexts and keys: the sanitizers see that nothing else is touched. */
+/* Under a key of any words the tag that it signs verifies, and neither another one nor a random one. */
+static int signs_what_it_verifies(const yz_hmac_key *key) {
+    size_t len = below(400), size = OUTPUT[key->algorithm];
+    int status = yz_hmac_key_sign(key, message, len, a, size);
+    fill_at_random(b, size);
+    if (status != YZ_OK) {
+        IS(yz_hmac_key_verify(key, message, len, b, size), status);
+        return status;
+    }
+    IS(yz_hmac_key_verify(key, message, len, a, size), YZ_OK);
+    IS(yz_hmac_key_verify(key, message, len, b, size), YZ_UNSPECIFIED);
+    a[below(size)] ^= (uint8_t)(1u << below(8));
+    IS(yz_hmac_key_verify(key, message, len, a, size), YZ_UNSPECIFIED);
+    return status;
+}
+
 static void garbage(void) {
     yz_digest_context context;
     yz_hmac_key key;
@@ -359,11 +375,12 @@ static void garbage(void) {
         seen[yz_digest_update(&context, message, below(4000))]++;
         seen[yz_digest_final(&context, a, 32)]++;
         seen[yz_hmac_key_sign(&key, message, below(400), a, 32)]++;
+        seen[signs_what_it_verifies(&key)]++;
         seen[yz_hmac_update(&tag, message, below(400))]++;
         seen[yz_hmac_final(&tag, a, 32)]++;
     }
     printf("%d calls on garbage: %d done, %d no context, %d wrong length, %d past a limit\n",
-           5 * GARBAGE_TURNS, seen[0], seen[2], seen[3], seen[5]);
+           6 * GARBAGE_TURNS, seen[0], seen[2], seen[3], seen[5]);
     IS(seen[0] > 0 && seen[2] > 0 && seen[3] > 0 && seen[5] > 0, 1);
     IS(seen[1] + seen[4], 0);
 }

@@ -2,7 +2,7 @@
 use Rattle.std.proofs.lemmas.Grind.{common_steps}
 use Rattle.std.proofs.Common.{◌≤◌, ◌≡◌, ℕ, zero, ◌+◌, ◌-◌, ◌*◌, ◌/◌, ◌%◌, ◌<◌, List, [], ◌++◌}
 use Rattle.std.proofs.Common.{length, take, drop, sym, ap, ◌∙◌, arith, add_comm, length-append}
-use Rattle.std.proofs.Common.{length-drop, replicate}
+use Rattle.std.proofs.Common.{append_assoc, length-drop, replicate}
 use Rattle.std.proofs.lemmas.List.{length-take-le, take-append-drop}
 use Rattle.std.proofs.Math.Nat.{mul-div_cancel, div-mul-le_self, add-mul-div_left}
 use Rattle.std.proofs.lemmas.Nat.{div-add-mod', mod-mul-add, div-mul-add}
@@ -38,6 +38,13 @@ whole-add x y b pos hx hy =
     let m = mul_whole (x / b + y / b) b pos in
     (ap (λ (z : ℕ). z % b) e ∙ m.0, ap (λ (z : ℕ). z / b) e ∙ m.1)
 
+-- a multiple and more, divided
+pub whole_div-add : (x y b : ℕ) → zero < b → x % b ≡ 0 → (x + y) / b ≡ x / b + y / b
+whole_div-add x y b pos hx =
+    let ex : x ≡ x / b * b = whole_mul x b hx in
+    let e : x + y ≡ y + b * (x / b) = grind (arith, ex) in
+    ap (λ (z : ℕ). z / b) e ∙ add-mul-div_left y (x / b) pos ∙ add_comm (y / b) (x / b)
+
 pub IsWhole-append : (a : Algorithm) (p x : List ℕ) → IsWhole a p → IsWhole a x
     → IsWhole a (p ++ x)
 IsWhole-append a p x hp hx =
@@ -59,6 +66,16 @@ words_after-append a p x hp hx =
     let e : length (p ++ x) / b ≡ length p / b + length x / b = rw length-append sum.1 in
     let whole : length p ≡ length p / b * b = whole_mul (length p) b hp in
     rw e (fold_chunks-then (block_function a) b (initial_words a) p x _ (length x / b) whole)
+
+-- the words after whole blocks and more
+pub blocks_from-then : (a : Algorithm) (h p x : List ℕ) → IsWhole a p
+    → blocks_from a h (p ++ x) ≡ blocks_from a (blocks_from a h p) x
+blocks_from-then a h p x hp =
+    let b : ℕ = block_len a in
+    let e : length (p ++ x) / b ≡ length p / b + length x / b =
+    rw length-append (whole_div-add (length p) (length x) b (block_len-positive a) hp) in
+    let whole : length p ≡ length p / b * b = whole_mul (length p) b hp in
+    rw e (fold_chunks-then (block_function a) b h p x _ (length x / b) whole)
 
 -- no block taken
 pub HasTaken-nil : (b : BlockContext)
@@ -93,6 +110,20 @@ blocks_from-front a h x =
     rw (blocks-whole_front a x).1
     (sym (fold_chunks-append step (block_len a) h (take size x) (drop size x) k long)
     ∙ ap (λ (z : List ℕ). fold_chunks step (block_len a) h z k) (take-append-drop size x))
+
+-- the words after a list and more, from those after the list's whole blocks
+blocks_from-rest : (a : Algorithm) (h y z : List ℕ)
+    → blocks_from a (blocks_from a h y) (drop (whole_blocks a (length y) * block_len a) y ++ z)
+    ≡ blocks_from a h (y ++ z)
+blocks_from-rest a h y z =
+    let size : ℕ = whole_blocks a (length y) * block_len a in
+    let front = whole_front a y in
+    let split : front ++ (drop size y ++ z) ≡ y ++ z =
+    sym (append_assoc front (drop size y) z)
+    ∙ ap (λ (w : List ℕ). w ++ z) (take-append-drop size y) in
+    rw (← blocks_from-front a h y)
+    (sym (blocks_from-then a h front (drop size y ++ z) (blocks-whole_front a y).0)
+    ∙ ap (λ (w : List ℕ). blocks_from a h w) split)
 
 -- from the block context b to n
 module _ {b n : BlockContext} where
@@ -131,16 +162,10 @@ module _ {b n : BlockContext} where
         rest = el;
         algorithm = ea;
         taken = λ p h. HasTaken-append _ h whole ea front es (omega (arith, ec, done, long));
+        words = λ z. rw (el, ea, ew) (blocks_from-rest a (chaining_words a b.state) y z);
         counted = omega (arith, ec, done);
         cost = em;
       }
-
--- a multiple and more, divided
-pub whole_div-add : (x y b : ℕ) → zero < b → x % b ≡ 0 → (x + y) / b ≡ x / b + y / b
-whole_div-add x y b pos hx =
-    let ex : x ≡ x / b * b = whole_mul x b hx in
-    let e : x + y ≡ y + b * (x / b) = grind (arith, ex) in
-    ap (λ (z : ℕ). z / b) e ∙ add-mul-div_left y (x / b) pos ∙ add_comm (y / b) (x / b)
 
 -- a number below the divisor
 pub short_div : (y b : ℕ) → y < b → y / b ≡ 0

@@ -4,7 +4,7 @@ use Rattle.std.proofs.Common.{◌≡◌, ℕ, ◌+◌, ◌-◌, ◌<◌, ◌≤�
 use Rattle.std.proofs.Common.{nat_le, true, false, Bool, if◌then◌else◌, rules, refl, sym, ap, subst}
 use Rattle.std.proofs.Common.{◌∙◌, arith, length-append, append_assoc}
 use Rattle.std.proofs.lemmas.List.{take_at, replicate-append-replicate, length-replicate}
-use Rattle.std.proofs.lemmas.List.{length-map}
+use Rattle.std.proofs.lemmas.List.{append-nil, length-map}
 use Rattle.ring.specs.Prelude.{Algorithm, BlockContext, Counts, Digest, HasMoved, HasTaken}
 use Rattle.ring.specs.Prelude.{IsDigest, IsTag, StandsFor, Tag, TagStandsFor, block_len, bytes_of}
 use Rattle.ring.specs.Prelude.{counted_bytes, digest_of, hmac_of, inner_block, key_block}
@@ -13,6 +13,9 @@ use Rattle.ring.specs.Prelude.{padded_blocks, raised, short_key, signing_algorit
 use Rattle.ring_core.proofs.Costs.{raised-raised}
 use Rattle.ring.specs.declared.hmac.context.Context.{Context}
 use Rattle.ring.proofs.Blocks.{short_div}
+use Rattle.ring.specs.Prelude.{IsWhole, Key, KeyStandsFor, block_words, digest_after}
+use Rattle.ring.specs.Prelude.{key_algorithm, tag_from, tag_of_inner, tag_under, words_after}
+use Rattle.ring.proofs.Finishing.{digest_of-after, digest_with-is}
 use Rattle.ring.proofs.Lengths.{HasCounted, counted_end, last_past, length-digest_of}
 use Rattle.ring.proofs.Rows.{block_len-most, output_below}
 use Rattle.ring.proofs.Updating.{moved_block}
@@ -130,6 +133,66 @@ pub tag_is : {t : Tag} {v d : Digest} {a : Algorithm} (k m : List ℕ) {x : List
 unfolding hmac_of
 tag_is {a = a} k m e hv ex hd =
     grind (arith, common_steps)
+
+-- the same by the words after a key's blocks, whatever they are
+pub tag_last : {a e : Algorithm} (h x : List ℕ) {v d : List ℕ} {n : ℕ}
+    → v ≡ digest_after e h (x ++ []) n → x ≡ d → e ≡ a → n ≡ block_len a + output_len a
+    → v ≡ tag_of_inner a h d
+tag_last {a = a} {e = e} h x {d = d} {n = n} ev ex ee en =
+    let len : (b : Algorithm) → e ≡ b → n ≡ block_len b + output_len b
+    → digest_after e h (x ++ []) n ≡ tag_of_inner b h d =
+    λ b eb el. rw (append-nil x, ex, eb, el) refl in
+    ev ∙ len a ee en
+
+-- the tag of an inner digest, by the words after the key's outer block
+pub tag_of_inner-is : (a : Algorithm) {outer d : List ℕ} (k m : List ℕ)
+    → IsWhole a (outer_block a k) → outer ≡ words_after a (outer_block a k)
+    → d ≡ digest_of a (inner_block a k ++ m) → tag_of_inner a outer d ≡ hmac_of a k m
+unfolding hmac_of
+tag_of_inner-is a k m whole words is =
+    let d : List ℕ = digest_of a (inner_block a k ++ m) in
+    let long : length (outer_block a k ++ d) ≡ block_len a + output_len a =
+    length-append (outer_block a k) d
+    ∙ omega (arith, length-outer_block a k, length-digest_of a (inner_block a k ++ m)) in
+    rw (is, words) (digest_of-after a (outer_block a k) d _ whole long)
+
+-- the tag under a key's states is that under the key
+pub tag_from-is : (a : Algorithm) {inner outer : List ℕ} (k m : List ℕ)
+    → IsWhole a (inner_block a k) → inner ≡ words_after a (inner_block a k)
+    → IsWhole a (outer_block a k) → outer ≡ words_after a (outer_block a k)
+    → tag_from a inner outer m ≡ hmac_of a k m
+tag_from-is a k m wi ei wo eo =
+    tag_of_inner-is a k m wo eo
+    (rw ei (digest_of-after a (inner_block a k) m _ wi (inner_len a k m)))
+
+-- the words after an outer block, of a block context of the same algorithm
+pub outer_taken : (b : BlockContext) (a : Algorithm) (p : List ℕ) → b.algorithm ≡ a → HasTaken b p
+    → IsWhole a p × (block_words b ≡ words_after a p)
+outer_taken b a p same h =
+    let P : Algorithm → Type 0 = λ z. IsWhole z p × (block_words b ≡ words_after z p) in
+    subst P same (h.whole, h.words)
+
+-- the tag under a key that stands for bytes
+pub tag_under-is : (key : Key) (k m : List ℕ) → KeyStandsFor key k
+    → tag_under key m ≡ hmac_of (key_algorithm key) k m
+tag_under-is key k m h =
+    let outer = outer_taken key.outer (key_algorithm key) _ key.same h.outer in
+    tag_from-is (key_algorithm key) k m h.inner.whole h.inner.words outer.0 outer.1
+
+-- the tag of an inner context's message and of the bytes y after it
+pub tag_with-is : (a : Algorithm) {inner outer : List ℕ} (k m y p x : List ℕ) → IsWhole a p
+    → inner ≡ words_after a p → inner_block a k ++ m ≡ p ++ x
+    → IsWhole a (outer_block a k) → outer ≡ words_after a (outer_block a k)
+    → tag_of_inner a outer (digest_after a inner (x ++ y) (block_len a + length (m ++ y)))
+    ≡ hmac_of a k (m ++ y)
+tag_with-is a {inner} k m y p x wi ei joined wo eo =
+    let all : (inner_block a k ++ m) ++ y ≡ inner_block a k ++ (m ++ y) =
+    append_assoc (inner_block a k) m y in
+    let long : length ((inner_block a k ++ m) ++ y) ≡ block_len a + length (m ++ y) =
+    ap length all ∙ inner_len a k (m ++ y) in
+    let D : ℕ → List ℕ = λ n. digest_after a inner (x ++ y) n in
+    tag_of_inner-is a k (m ++ y) wo eo (ap D (sym long)
+    ∙ digest_with-is a p x (inner_block a k ++ m) y wi ei joined ∙ ap (digest_of a) all)
 
 -- the blocks of a key's digest
 pub key_digest_blocks-short : (a : Algorithm) (n : ℕ) → n ≤ block_len a → key_digest_blocks a n ≡ 0

@@ -54,6 +54,17 @@ bounds_of_id Sha512_256 = (lit< tt, lit≤ tt, lit≤ tt, lit≤ tt, lit< tt, li
 pub output_len-positive : (a : Algorithm) → zero < output_len a
 output_len-positive a = (bounds_of_id a.id).0
 
+word_count_of_id : (i : AlgorithmId) → (row_of i).chaining_len / (row_of i).word_len ≤ 8
+word_count_of_id Sha1 = lit≤ tt
+word_count_of_id Sha256 = lit≤ tt
+word_count_of_id Sha384 = lit≤ tt
+word_count_of_id Sha512 = lit≤ tt
+word_count_of_id Sha512_256 = lit≤ tt
+
+-- no more than eight words chain
+pub word_count-most : (a : Algorithm) → word_count a ≤ 8
+word_count-most a = word_count_of_id a.id
+
 -- a digest is a front of the chaining words
 pub output_len-most : (a : Algorithm) → output_len a ≤ word_len a * word_count a
 output_len-most a = (bounds_of_id a.id).1

@@ -1,18 +1,24 @@
 -- How update keeps what a context stands for, what it counts and what it costs.
 use Rattle.std.proofs.lemmas.Grind.{common_steps}
-use Rattle.std.proofs.Common.{◌≡◌, ℕ, zero, ◌+◌, ◌-◌, ◌*◌, ◌/◌, ◌%◌, ◌<◌, ◌≤◌, List, ◌++◌, length}
-use Rattle.std.proofs.Common.{take, drop, refl, sym, ap, subst, ◌∙◌, arith, length-append}
-use Rattle.std.proofs.Common.{length-drop, length-take-le, append_assoc, take-add, drop-drop}
-use Rattle.std.proofs.lemmas.List.{take_all, take_at, drop_at, append-nil}
+use Rattle.std.proofs.Common.{◌≡◌, ℕ, zero, ◌+◌, ◌-◌, ◌*◌, ◌/◌, ◌%◌, ◌<◌, ◌≤◌, List, [], ◌∷◌, ◌++◌}
+use Rattle.std.proofs.Common.{length, replicate, take, drop, refl, sym, ap, subst, ◌∙◌, arith}
+use Rattle.std.proofs.Common.{length-append, length-drop, length-take-le, append_assoc, take-add}
+use Rattle.std.proofs.Common.{drop-drop}
+use Rattle.std.proofs.lemmas.List.{take_all, take_at, drop_all, drop_at, append-nil}
+use Rattle.std.proofs.lemmas.List.{take-append-drop}
 use Rattle.std.proofs.lemmas.Nat.{div-mul-add, mod-mul-add}
 use Rattle.std.proofs.lemmas.Slice.{take-put_mid}
 use borrow.Rule.Slice.PartMut.{put_mid}
 use Rattle.ring.specs.Prelude.{BlockContext, Context, Counts, HasMoved, HasTaken, IsJoined}
+use Rattle.std.specs.Int.{bytes_high_first}
+use Rattle.ring.specs.Prelude.{block_words, blocks_from, chaining_words, digest_after, digest_with}
+use Rattle.ring.specs.Prelude.{length_len, output_len, tail_of, word_bytes, word_len, zeros_of}
 use Rattle.ring.specs.Prelude.{StandsFor, block_len, pending_bytes, pending_len, raised}
 use Rattle.ring.specs.Prelude.{whole_blocks}
 use Rattle.ring_core.proofs.Costs.{raised-none, raised-raised}
 use Rattle.ring.proofs.Blocks.{mul_whole, whole_div-add, short_div}
 use Rattle.ring.proofs.Rows.{block_len-positive}
+use Rattle.ring.proofs.Tails.{zeros_past}
 
 -- no block moved
 pub moved_none : {n : ℕ} {b : BlockContext} {x left : List ℕ} {m : Counts} → left ≡ x
@@ -25,6 +31,7 @@ moved_none {n} {m = m} e =
       rest = rw none e;
       algorithm = refl;
       taken = λ p h. rw (none, append-nil) h;
+      words = λ y. rw e refl;
       counted = omega arith;
       cost = raised-none m;
     }
@@ -55,18 +62,22 @@ module _ {n : ℕ} {b new : BlockContext} {before after : Counts} where
   -- one whole block y moved, and `left` comes after it
   moved_one : {x y left rest : List ℕ} → HasMoved n b new y rest before after → length rest < n
       → length y ≡ n → x ≡ y ++ left → HasMoved n b new x left before after
-  moved_one {x = x} {y = y} {left = left} j short ly ex =
+  moved_one {x = x} {y = y} {left = left} {rest = rest} j short ly ex =
       let unit : 1 * n ≡ n = omega arith in
       let moved = moved_block j short ly in
       let size : j.blocks * n ≡ n = rw moved.0 unit in
       let front : take (j.blocks * n) x ≡ y = rw (size, ex) (take_at y left n ly) in
       let P : List ℕ → List ℕ → Type 0 = λ p z. HasTaken new (p ++ z) in
+      let none : rest ≡ [] = j.rest ∙ rw size (drop_all n y (omega arith)) in
       record {
         blocks = j.blocks;
         fits = omega (arith, ap length ex, length-append y left);
         rest = sym (rw (size, ex) (drop_at y left n ly));
         algorithm = j.algorithm;
         taken = λ p h. subst (P p) (moved.1 ∙ sym front) (j.taken p h);
+        words = λ z. rw none at (j.words (left ++ z))
+            ∙ ap (blocks_from b.algorithm (block_words b))
+            (sym (append_assoc y left z) ∙ ap (λ (w : List ℕ). w ++ z) (sym ex));
         counted = j.counted;
         cost = j.cost;
       }
@@ -93,6 +104,7 @@ moved_then {n = n} {new = new} {x = x} {rest = rest} {m0 = m0} i j =
       rest = j.rest ∙ ap (drop l) i.rest ∙ drop-drop l k x ∙ ap (λ (z : ℕ). drop z x) (sym sum);
       algorithm = j.algorithm ∙ i.algorithm;
       taken = λ p h. subst P (whole p) (j.taken _ (i.taken p h));
+      words = λ y. j.words y ∙ i.words y;
       counted = omega (arith, i.counted, j.counted, sum);
       cost = j.cost ∙ rw i.cost (raised-raised m0 i.blocks 0 j.blocks 0);
     }
@@ -120,13 +132,78 @@ pub moved_fill : (s : Context) {new : BlockContext} (d : List ℕ) {ys left rest
     → length rest < block_len s.block.algorithm
     → HasMoved (block_len s.block.algorithm) s.block new (pending_bytes s ++ d) left before after
 moved_fill s d {ys = ys} {left = left} k room eys el j short =
-    grind (arith, common_steps, length-take-le, take-put_mid, moved_one)
+    let np : ℕ = s.num_pending in
+    let few : np ≤ k = omega (arith, room.size, s.partial) in
+    let y : List ℕ = take k (put_mid np (k - np) s.pending ys) in
+    let count : length ys ≡ k - np =
+    ap length eys ∙ length-take-le (k - np) d (omega (arith, room.enough)) in
+    let is : y ≡ pending_bytes s ++ ys =
+    take-put_mid np (k - np) s.pending ys k (omega (arith, count, few)) room.fits in
+    let long : length y ≡ block_len s.block.algorithm =
+    omega (
+      arith,
+      ap length is,
+      length-append (pending_bytes s) ys,
+      length-take-le np s.pending room.fits,
+      count,
+      room.size,
+      few,
+    ) in
+    let split : ys ++ left ≡ d = rw (eys, el) (take-append-drop (k - np) d) in
+    let all : pending_bytes s ++ d ≡ y ++ left =
+    ap (λ (z : List ℕ). pending_bytes s ++ z) (sym split)
+    ∙ sym (append_assoc (pending_bytes s) ys left) ∙ ap (λ (z : List ℕ). z ++ left) (sym is) in
+    moved_one j short long all
 
 -- the bytes ahead of an update
 pub ahead_len : (s : Context) (d : List ℕ) → s.num_pending ≤ length s.pending
     → length (pending_bytes s ++ d) ≡ s.num_pending + length d
 ahead_len s d fits =
     grind (arith, common_steps, length-take-le)
+
+-- the digest after an update, whatever bytes y go on: the bytes d come before them
+pub digest_moved : (s n : Context) (d : List ℕ) {left : List ℕ} {before after : Counts}
+    → HasMoved (block_len s.block.algorithm) s.block n.block (pending_bytes s ++ d) left before
+    after → pending_bytes n ≡ left → (y : List ℕ) (m : ℕ)
+    → digest_with n y m ≡ digest_with s (d ++ y) m
+unfolding digest_after
+digest_moved s n d {left = left} j front y m =
+    let a = s.block.algorithm in
+    let x = pending_bytes s ++ d in
+    let b : ℕ = block_len a in
+    let whole : List ℕ = pending_bytes s ++ (d ++ y) in
+    let rest : length left ≡ length x - j.blocks * b =
+    ap length j.rest ∙ length-drop (j.blocks * b) x in
+    let long : length whole ≡ j.blocks * b + length (left ++ y) =
+    omega (
+      arith,
+      rest,
+      j.fits,
+      length-append (pending_bytes s) (d ++ y),
+      length-append d y,
+      length-append left y,
+      length-append (pending_bytes s) d,
+    ) in
+    let zeros : zeros_of a (length whole) ≡ zeros_of a (length (left ++ y)) =
+    ap (zeros_of a) long ∙ zeros_past a (j.blocks * b) (length (left ++ y))
+    (mul_whole j.blocks b (block_len-positive a)).0 in
+    let field : List ℕ = bytes_high_first (length_len a) (8 * m) in
+    let marks : ℕ → List ℕ = λ z. 0x80 ∷ replicate z 0 in
+    let few : ℕ = zeros_of a (length (left ++ y)) in
+    let end : List ℕ = marks few ++ field in
+    let W : List ℕ → List ℕ = λ h. take (output_len a) (word_bytes (word_len a) h) in
+    let F : List ℕ → List ℕ = λ z. blocks_from a (block_words s.block) z in
+    let joined : x ++ (y ++ end) ≡ whole ++ end =
+    sym (append_assoc x y end)
+    ∙ ap (λ (z : List ℕ). z ++ end) (append_assoc (pending_bytes s) d y) in
+    let words = rw j.algorithm at (j.words (y ++ end)) in
+    let N : List ℕ → List ℕ = λ z. blocks_from a (chaining_words a n.block.state) z in
+    let first : blocks_from a (chaining_words a n.block.state) (tail_of a (left ++ y) m)
+    ≡ blocks_from a (block_words s.block) (tail_of a whole m) =
+    ap N (append_assoc (left ++ y) (marks few) field ∙ append_assoc left y end) ∙ words
+    ∙ ap F (joined ∙ sym (append_assoc whole (marks few) field)
+    ∙ ap (λ (z : ℕ). (whole ++ marks z) ++ field) (sym zeros)) in
+    rw (j.algorithm, front) (ap W first)
 
 -- the context s, which has blocks of k bytes, became n by the bytes d
 module _ {k : ℕ} {left : List ℕ} {before after : Counts} where

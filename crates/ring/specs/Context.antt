@@ -3,7 +3,7 @@ use Rattle.std.specs.Prelude.{◌≡◌, ℕ, ◌+◌, ◌-◌, ◌*◌, ◌≤�
 use Rattle.std.specs.Prelude.{replicate}
 use Rattle.ring_core.specs.Cost.{Counts, raised}
 use Rattle.ring.specs.Algorithm.{word_count}
-use Rattle.ring.specs.Digest.{words_after}
+use Rattle.ring.specs.Digest.{blocks_from, digest_after, words_after}
 use Rattle.ring.specs.Padding.{IsWhole}
 use Rattle.ring.specs.State.{chaining_words, spare_words}
 use Rattle.ring.specs.declared.digest.algorithm.Algorithm.{Algorithm}
@@ -21,6 +21,10 @@ block_algorithm b = b.algorithm
 -- the bytes that a block context has counted
 abbrev pub counted_bytes : BlockContext → ℕ
 counted_bytes b = cut_off b.completed_bytes
+
+-- the words that chain from block to block
+abbrev pub block_words : BlockContext → List ℕ
+block_words b = chaining_words b.algorithm b.state
 
 -- the block context has taken in the whole blocks p
 pub record HasTaken (b : BlockContext) (p : List ℕ) : Type 0 where
@@ -45,6 +49,12 @@ pending_len c = c.num_pending
 abbrev pub message_len : Context → ℕ
 message_len c = cut_off (counted_bytes c.block + c.num_pending)
 
+-- the digest of any context after the further bytes y, which bring its count to n bytes: whatever
+-- its words are, also those of no message
+abbrev pub digest_with : Context → List ℕ → ℕ → List ℕ
+digest_with c y n =
+    digest_after (context_algorithm c) (block_words c.block) (pending_bytes c ++ y) n
+
 -- the message m is whole blocks that the context has taken in, and then the pending bytes
 pub record IsJoined (c : Context) (m : List ℕ) : Type 0 where
   pub whole : List ℕ
@@ -64,5 +74,7 @@ pub record HasMoved (n : ℕ) (old new : BlockContext) (bytes left : List ℕ)
   pub rest : left ≡ drop (blocks * n) bytes
   pub algorithm : new.algorithm ≡ old.algorithm
   pub taken : (p : List ℕ) → HasTaken old p → HasTaken new (p ++ take (blocks * n) bytes)
+  pub words : (y : List ℕ) → blocks_from new.algorithm (block_words new) (left ++ y)
+      ≡ blocks_from old.algorithm (block_words old) (bytes ++ y)
   pub counted : counted_bytes new ≡ cut_off (counted_bytes old + blocks * n)
   pub cost : after ≡ raised before blocks 0

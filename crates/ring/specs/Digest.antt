@@ -2,7 +2,7 @@
 use Rattle.std.specs.Prelude.{◌≡◌, ℕ, ◌/◌, List, length, take}
 use Rattle.ring_core.specs.Chunks.{fold_chunks}
 use Rattle.ring.specs.Algorithm.{block_function, block_len, initial_words, output_len, word_len}
-use Rattle.ring.specs.Padding.{padded}
+use Rattle.ring.specs.Padding.{padded, tail_of}
 use Rattle.ring.specs.State.{word_bytes}
 use Rattle.ring.specs.declared.digest.algorithm.Algorithm.{Algorithm}
 use Rattle.ring.specs.declared.digest.value.Digest.{Digest}
@@ -18,6 +18,12 @@ words_after a p = blocks_from a (initial_words a) p
 -- the digest of the message m: the first bytes of the last chaining words
 unfoldable pub digest_of : Algorithm → List ℕ → List ℕ
 digest_of a m = take (output_len a) (word_bytes (word_len a) (words_after a (padded a m)))
+
+-- the digest of a message of n bytes that ends in the bytes x, where h are the words after the
+-- blocks before x
+unfoldable pub digest_after : Algorithm → (h x : List ℕ) → ℕ → List ℕ
+digest_after a h x n =
+    take (output_len a) (word_bytes (word_len a) (blocks_from a h (tail_of a x n)))
 
 -- the algorithm that made a digest
 abbrev pub digest_algorithm : Digest → Algorithm

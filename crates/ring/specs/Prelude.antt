@@ -19,10 +19,10 @@ unfoldable pub use Rattle.ring.specs.Padding.{padded}
 pub use Rattle.ring.specs.Cost.{whole_blocks, last_blocks, key_digest_blocks, key_blocks}
 pub use Rattle.ring.specs.Cost.{fill_rounds, fill_blocks, iterate_blocks, derive_blocks}
 pub use Rattle.ring.specs.Digest.{blocks_from, digest_algorithm, bytes_of, IsDigest}
-unfoldable pub use Rattle.ring.specs.Digest.{words_after, digest_of}
+unfoldable pub use Rattle.ring.specs.Digest.{words_after, digest_of, digest_after}
 pub use Rattle.ring.specs.Context.{cut_off, block_algorithm, counted_bytes, context_algorithm}
 pub use Rattle.ring.specs.Context.{pending_bytes, pending_len, message_len, HasTaken, IsJoined}
-pub use Rattle.ring.specs.Context.{HasMoved}
+pub use Rattle.ring.specs.Context.{HasMoved, block_words, digest_with}
 unfoldable pub use Rattle.ring.specs.Context.{StandsFor}
 pub use Rattle.ring.specs.Pieces.{joined}
 unfoldable pub use Rattle.ring.specs.Pieces.{joined_blocks}
@@ -36,7 +36,8 @@ pub use Rattle.ring.specs.Prepared.{prepared_padding}
 pub use Rattle.ring.specs.Lanes.{digest_bytes, CanRunTogether, IsKeyInLane}
 pub use Rattle.ring.specs.Hmac.{hmac_digest, key_algorithm, signing_algorithm, signing_len}
 pub use Rattle.ring.specs.Hmac.{signing_pending, tag_algorithm, tag_bytes, KeyStandsFor}
-pub use Rattle.ring.specs.Hmac.{TagStandsFor, IsTag}
+pub use Rattle.ring.specs.Hmac.{TagStandsFor, IsTag, tag_of_inner, tag_from, inner_words}
+pub use Rattle.ring.specs.Hmac.{outer_words, tag_under, tag_with}
 unfoldable pub use Rattle.ring.specs.Hmac.{hmac_of}
 pub use Rattle.ring.specs.Hkdf.{hkdf_digest, salt_algorithm, SaltStandsFor, prk_algorithm}
 pub use Rattle.ring.specs.Hkdf.{PrkStandsFor}
@@ -53,7 +54,9 @@ pub use Rattle.ring.specs.Jobs.{job_algorithm, IsJobWithin, first_blocks, job_bl
 pub use Rattle.ring.specs.Jobs.{IsStart, AreStarts, BeginsWithRound}
 pub use Rattle.ring.specs.Raw.{digest_named, joined_halves, completed_len, raw_message_len}
 pub use Rattle.ring.specs.Raw.{IsNoContext, IsNoKey, IsNoTagContext, raw_words, IsRawState}
-pub use Rattle.ring.specs.Raw.{IsRawContext, IsRawKey, IsRawTagContext}
+pub use Rattle.ring.specs.Raw.{IsRawContext, IsRawKey, IsRawTagContext, AreWords, raw_chaining}
+pub use Rattle.ring.specs.Raw.{raw_digest_with, raw_tag_under, raw_tag_with, AreNumbersOf}
+pub use Rattle.ring.specs.Raw.{AreNumbersOfTag, HasAdded, TagHasAdded, HasBegun}
 unfoldable pub use Rattle.ring.specs.Raw.{named_block_len, RawStandsFor, RawKeyStandsFor}
 unfoldable pub use Rattle.ring.specs.Raw.{RawTagStandsFor}
 pub use Rattle.ring.specs.Cut.{IsWithout, IsFirstCut}

@@ -3,13 +3,17 @@ use Rattle.std.specs.Prelude.{◌≡◌, ◌<◌, ◌≤◌, ◌⊎◌, ◌+◌,
 use Rattle.std.specs.Prelude.{map, take, drop, replicate, Option, Some, None, option_map, unwrap_or}
 use Rattle.std.specs.Prelude.{if◌then◌else◌, nat_eq}
 use Rattle.ring.specs.Algorithm.{block_len, word_count, word_len}
-use Rattle.ring.specs.Context.{cut_off}
-use Rattle.ring.specs.Digest.{words_after}
+use Rattle.ring.specs.Context.{context_algorithm, cut_off, digest_with, message_len, pending_len}
+use Rattle.ring.specs.Digest.{digest_after, words_after}
+use Rattle.ring.specs.Hmac.{signing_algorithm, signing_len, signing_pending, tag_from}
+use Rattle.ring.specs.Hmac.{tag_of_inner, tag_with}
 use Rattle.ring.specs.KeyBlocks.{inner_block, outer_block}
 use Rattle.ring.specs.Padding.{IsWhole}
 use Rattle.ring.specs.declared.digest.algorithm.Algorithm.{Algorithm}
 use Rattle.ring.specs.declared.digest.algorithm.TheConstants.{SHA1_FOR_LEGACY_USE_ONLY, SHA256}
 use Rattle.ring.specs.declared.digest.algorithm.TheConstants.{SHA384, SHA512, SHA512_256}
+use Rattle.ring.specs.declared.digest.context.Context.{Context}
+use Rattle.ring.specs.declared.hmac.context.Context.{Context as TagContext}
 use Rattle.ring.specs.declared.raw.context.RawContext.{RawContext}
 use Rattle.ring.specs.declared.raw.key.RawKey.{RawKey}
 use Rattle.ring.specs.declared.raw.tag_context.RawTagContext.{RawTagContext}
@@ -56,6 +60,73 @@ IsNoTagContext raw =
 -- numbers as words of the algorithm's size
 abbrev pub raw_words : Algorithm → List ℕ → List ℕ
 raw_words a numbers = map (λ n. n % 2 ^ (8 * word_len a)) numbers
+
+-- the words that chain from block to block
+abbrev pub raw_chaining : Algorithm → List ℕ → List ℕ
+raw_chaining a numbers = take (word_count a) (raw_words a numbers)
+
+-- the numbers are words of the algorithm's size, with no further bit
+abbrev pub AreWords : Algorithm → List ℕ → Type 0
+AreWords a numbers = raw_words a numbers ≡ numbers
+
+-- the digest of any context's numbers after the further bytes y, which bring their count to n bytes
+abbrev pub raw_digest_with : Algorithm → RawContext → List ℕ → ℕ → List ℕ
+raw_digest_with a raw y n =
+    digest_after a (raw_chaining a raw.words) (take raw.num_pending raw.pending ++ y) n
+
+-- the tag of the message m under the numbers of any key
+abbrev pub raw_tag_under : Algorithm → RawKey → List ℕ → List ℕ
+raw_tag_under a raw m = tag_from a (raw_chaining a raw.inner) (raw_chaining a raw.outer) m
+
+-- the tag of any tag context's numbers after the further bytes y, which bring their count to n
+-- bytes
+abbrev pub raw_tag_with : Algorithm → RawTagContext → List ℕ → ℕ → List ℕ
+raw_tag_with a raw y n =
+    tag_of_inner a (raw_chaining a raw.outer) (raw_digest_with a raw.inner y n)
+
+-- the numbers are those of the context, whatever it holds: they count as it does, and whatever
+-- bytes follow, both end in the same digest
+pub record AreNumbersOf (raw : RawContext) (c : Context) : Type 0 where
+  pub algorithm : digest_named raw.algorithm ≡ Some (context_algorithm c)
+  pub pending : raw.num_pending ≡ pending_len c
+  pub counted : raw_message_len raw ≡ message_len c
+  pub digest : (y : List ℕ) (n : ℕ)
+      → raw_digest_with (context_algorithm c) raw y n ≡ digest_with c y n
+
+-- the same of a tag's context
+pub record AreNumbersOfTag (raw : RawTagContext) (c : TagContext) : Type 0 where
+  pub algorithm : digest_named raw.inner.algorithm ≡ Some (signing_algorithm c)
+  pub pending : raw.inner.num_pending ≡ signing_pending c
+  pub counted : raw_message_len raw.inner ≡ signing_len c
+  pub tag : (y : List ℕ) (n : ℕ) → raw_tag_with (signing_algorithm c) raw y n ≡ tag_with c y n
+
+-- any context's numbers, `old`, became `new` by the bytes x: they count them, and whatever bytes
+-- follow, both end in the same digest
+pub record HasAdded (old new : RawContext) (x : List ℕ) : Type 0 where
+  pub algorithm : digest_named new.algorithm ≡ digest_named old.algorithm
+  pub pending : new.num_pending ≡ (old.num_pending + length x) % named_block_len old.algorithm
+  pub counted : raw_message_len new ≡ cut_off (raw_message_len old + length x)
+  pub digest : (a : Algorithm) → digest_named old.algorithm ≡ Some a → (y : List ℕ) (n : ℕ)
+      → raw_digest_with a new y n ≡ raw_digest_with a old (x ++ y) n
+
+-- the same of a tag context's numbers
+pub record TagHasAdded (old new : RawTagContext) (x : List ℕ) : Type 0 where
+  pub algorithm : digest_named new.inner.algorithm ≡ digest_named old.inner.algorithm
+  pub pending : new.inner.num_pending
+      ≡ (old.inner.num_pending + length x) % named_block_len old.inner.algorithm
+  pub counted : raw_message_len new.inner ≡ cut_off (raw_message_len old.inner + length x)
+  pub tag : (a : Algorithm) → digest_named old.inner.algorithm ≡ Some a → (y : List ℕ) (n : ℕ)
+      → raw_tag_with a new y n ≡ raw_tag_with a old (x ++ y) n
+
+-- the numbers are those of a tag's context that begins under any key's numbers: they count its
+-- block, and whatever bytes follow, they end in the tag under its words
+pub record HasBegun (key : RawKey) (raw : RawTagContext) : Type 0 where
+  pub algorithm : digest_named raw.inner.algorithm ≡ digest_named key.algorithm
+  pub pending : raw.inner.num_pending ≡ 0
+  pub counted : raw_message_len raw.inner ≡ named_block_len key.algorithm
+  pub tag : (a : Algorithm) → digest_named key.algorithm ≡ Some a → (y : List ℕ) (n : ℕ)
+      → raw_tag_with a raw y n
+      ≡ tag_of_inner a (raw_chaining a key.outer) (digest_after a (raw_chaining a key.inner) y n)
 
 -- the numbers are the state after the whole blocks p
 pub record IsRawState (a : Algorithm) (numbers p : List ℕ) : Type 0 where

@@ -34,7 +34,7 @@ ghost use Rattle.std.specs.Prelude.{◌≡◌, ◌↔◌, ℕ, ◌+◌, ◌<◌,
 ghost use Rattle.std.specs.Prelude.{OnErr};
 ghost use Rattle.ring.specs.Prelude.{IsTag, IsTagWithin, KeyStandsFor, block_len, compared_pairs};
 ghost use Rattle.ring.specs.Prelude.{hmac_of, key_algorithm, max_input_len, output_len};
-ghost use Rattle.ring.specs.Prelude.{padded_blocks, raised, tag_algorithm};
+ghost use Rattle.ring.specs.Prelude.{padded_blocks, raised, tag_algorithm, tag_bytes, tag_under};
 
 use crate::limits::is_tag_within;
 use ring_core::bb::verify_slices_are_equal_counted;
@@ -60,6 +60,7 @@ pub use crate::hmac::tag::Tag;
 pub fn sign_counted(key: &Key, message: &[u8], meter: &mut Meter) -> Result<Tag, Unspecified>
     ensures ok { (k : List ℕ) → KeyStandsFor key.now k
         → IfOk result (λ tag. IsTag tag (key_algorithm key.now) k message.now) }
+    ensures any { IfOk result (λ tag. tag_bytes tag ≡ tag_under key.now message.now) }
     ensures refused { IsErr result
         ↔ (max_input_len (key_algorithm key.now)
         < block_len (key_algorithm key.now) + length message.now) }
@@ -84,6 +85,7 @@ pub fn sign_counted(key: &Key, message: &[u8], meter: &mut Meter) -> Result<Tag,
 pub fn sign(key: &Key, message: &[u8]) -> Result<Tag, Unspecified>
     ensures ok { (k : List ℕ) → KeyStandsFor key.now k
         → IfOk result (λ tag. IsTag tag (key_algorithm key.now) k message.now) }
+    ensures any { IfOk result (λ tag. tag_bytes tag ≡ tag_under key.now message.now) }
     ensures refused { IsErr result
         ↔ (max_input_len (key_algorithm key.now)
         < block_len (key_algorithm key.now) + length message.now) }
@@ -104,6 +106,8 @@ pub fn verify_counted(
     ensures ok { (k : List ℕ) → KeyStandsFor key.now k → IsOk result
         ↔ (IsTagWithin (key_algorithm key.now) (length message.now)
         × (tag.now ≡ hmac_of (key_algorithm key.now) k message.now)) }
+    ensures any { IsOk result ↔ (IsTagWithin (key_algorithm key.now) (length message.now)
+        × (tag.now ≡ tag_under key.now message.now)) }
     ensures refused { max_input_len (key_algorithm key.now)
         < block_len (key_algorithm key.now) + length message.now
         → IsErr result }
@@ -128,6 +132,8 @@ pub fn verify(key: &Key, message: &[u8], tag: &[u8]) -> Result<(), Unspecified>
     ensures ok { (k : List ℕ) → KeyStandsFor key.now k → IsOk result
         ↔ (IsTagWithin (key_algorithm key.now) (length message.now)
         × (tag.now ≡ hmac_of (key_algorithm key.now) k message.now)) }
+    ensures any { IsOk result ↔ (IsTagWithin (key_algorithm key.now) (length message.now)
+        × (tag.now ≡ tag_under key.now message.now)) }
     ensures refused { max_input_len (key_algorithm key.now)
         < block_len (key_algorithm key.now) + length message.now
         → IsErr result }

@@ -5,15 +5,20 @@
 
 ghost use Rattle.std.specs.Prelude.{◌≡◌, ◌↔◌, ℕ, ◌+◌, ◌-◌, ◌^◌, ◌<◌, ◌≤◌, List, [], ◌++◌, length};
 ghost use Rattle.std.specs.Prelude.{replicate, take, IfOk, IsErr, None, OnErr, OnOk, Some};
-ghost use Rattle.ring.specs.Prelude.{Algorithm, CanDerive, IsDigest, IsInfoWithin, IsMessageWithin};
-ghost use Rattle.ring.specs.Prelude.{IsNoContext, IsNoKey, IsNoTagContext, IsOutputWithin, IsTag};
-ghost use Rattle.ring.specs.Prelude.{IsTagWithin, KeyStandsFor, RawContext, RawKey};
-ghost use Rattle.ring.specs.Prelude.{RawKeyStandsFor, RawStandsFor, RawTagContext, RawTagStandsFor};
-ghost use Rattle.ring.specs.Prelude.{SHA1_FOR_LEGACY_USE_ONLY, SHA256, SHA384, SHA512, block_len};
-ghost use Rattle.ring.specs.Prelude.{compared_pairs, derive_blocks, digest_named, digest_of, dk};
-ghost use Rattle.ring.specs.Prelude.{hmac_of, joined, key_algorithm, max_input_len};
-ghost use Rattle.ring.specs.Prelude.{named_block_len, okm, output_len, padded_blocks, raised};
-ghost use Rattle.ring.specs.Prelude.{tag_algorithm};
+ghost use Rattle.ring.specs.Prelude.{Algorithm, CanDerive, Context, IsDigest, IsInfoWithin};
+ghost use Rattle.ring.specs.Prelude.{IsMessageWithin, IsNoContext, IsNoKey, IsNoTagContext};
+ghost use Rattle.ring.specs.Prelude.{IsOutputWithin, IsTag, IsTagWithin, Key, KeyStandsFor};
+ghost use Rattle.ring.specs.Prelude.{RawContext, RawKey, RawKeyStandsFor, RawStandsFor};
+ghost use Rattle.ring.specs.Prelude.{RawTagContext, RawTagStandsFor, SHA1_FOR_LEGACY_USE_ONLY};
+ghost use Rattle.ring.specs.Prelude.{SHA256, SHA384, SHA512, StandsFor, TagStandsFor, block_len};
+ghost use Rattle.ring.specs.Prelude.{compared_pairs, context_algorithm, derive_blocks};
+ghost use Rattle.ring.specs.Prelude.{digest_named, digest_of, digest_with, dk, hmac_of, joined};
+ghost use Rattle.ring.specs.Prelude.{key_algorithm, max_input_len, named_block_len, okm};
+ghost use Rattle.ring.specs.Prelude.{output_len};
+ghost use Rattle.ring.specs.Prelude.{padded_blocks, raised, raw_digest_with, raw_tag_under};
+ghost use Rattle.ring.specs.Prelude.{raw_tag_with, signing_algorithm, tag_algorithm, tag_under};
+ghost use Rattle.ring.specs.Prelude.{tag_with};
+ghost use Rattle.ring.specs.declared.hmac.context.Context.{Context as TagContext};
 ghost use Rattle.std.specs.Borrow.{Bor};
 
 use crate::digest::algorithm::is_message_within;
@@ -213,4 +218,23 @@ pub fn blocks_of_numbers()
     ensures named { (n : ℕ) (a : Algorithm) → digest_named n ≡ Some a
         → named_block_len n ≡ block_len a }
     ensures unnamed { (n : ℕ) → digest_named n ≡ None → named_block_len n ≡ 0 }
+{}
+
+/// What the clauses `any` say of every context and key is the standard's digest (FIPS 180-4,
+/// section 6) or tag (RFC 2104, section 2) of one that stands for bytes, and of its numbers.
+pub fn standing_values_give_the_standards_bytes()
+    ensures context { (c : Context) (m y : List ℕ) → StandsFor c m
+        → digest_with c y (length (m ++ y)) ≡ digest_of (context_algorithm c) (m ++ y) }
+    ensures key { (key : Key) (k m : List ℕ) → KeyStandsFor key k
+        → tag_under key m ≡ hmac_of (key_algorithm key) k m }
+    ensures tag_context { (c : TagContext) (k m y : List ℕ) → TagStandsFor c k m
+        → tag_with c y (block_len (signing_algorithm c) + length (m ++ y))
+        ≡ hmac_of (signing_algorithm c) k (m ++ y) }
+    ensures raw_context { (raw : RawContext) (a : Algorithm) (m y : List ℕ) → RawStandsFor raw a m
+        → raw_digest_with a raw y (length (m ++ y)) ≡ digest_of a (m ++ y) }
+    ensures raw_key { (raw : RawKey) (a : Algorithm) (k m : List ℕ) → RawKeyStandsFor raw a k
+        → raw_tag_under a raw m ≡ hmac_of a k m }
+    ensures raw_tag_context { (raw : RawTagContext) (a : Algorithm) (k m y : List ℕ)
+        → RawTagStandsFor raw a k m
+        → raw_tag_with a raw y (block_len a + length (m ++ y)) ≡ hmac_of a k (m ++ y) }
 {}

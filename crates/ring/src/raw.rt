@@ -5,8 +5,8 @@
 //! [`digest`](crate::digest) or [`hmac`](crate::hmac), and that value is made from them again: the
 //! numbers stand for what the value stands for. A caller can write other numbers in their place.
 //! Each call answers for any numbers: `None` exactly where their algorithm and counts are those of
-//! no value (`IsNoContext`, `IsNoKey` and `IsNoTagContext`), and else a value that stands for no
-//! known message or key.
+//! no value (`IsNoContext`, `IsNoKey` and `IsNoTagContext`), and else the value that has these
+//! numbers, whose digest or tag follows from its words and pending bytes (the clauses `any`).
 
 pub(crate) mod context;
 pub(crate) mod key;

@@ -4,7 +4,8 @@ ghost use Rattle.std.specs.Prelude.{◌≡◌, ◌≢◌, ◌↔◌, ◌++◌, [
 ghost use Rattle.ring.specs.Algorithm.{output_len};
 ghost use Rattle.ring.specs.Digest.{digest_of};
 ghost use Rattle.ring.specs.Limits.{IsMessageWithin};
-ghost use Rattle.ring.specs.Raw.{IsNoContext, RawStandsFor, digest_named, raw_message_len};
+ghost use Rattle.ring.specs.Raw.{AreWords, HasAdded, IsNoContext, RawStandsFor, digest_named};
+ghost use Rattle.ring.specs.Raw.{raw_digest_with, raw_message_len};
 ghost use Rattle.ring.specs.declared.digest.algorithm.Algorithm.{Algorithm};
 
 use crate::status::{OK, UNKNOWN_ALGORITHM, UNKNOWN_CONTEXT, UNSPECIFIED, WRONG_LENGTH};
@@ -51,6 +52,8 @@ pub extern "C" fn yz_digest(algorithm: u32, message: &[u8], out: &mut [u8]) -> i
 pub extern "C" fn yz_digest_init(algorithm: u32, context: &mut RawContext) -> i32
     ensures ok { (a : Algorithm) → digest_named algorithm ≡ Some a
         → result ≡ OK × RawStandsFor context.new a [] }
+    ensures sized { (a : Algorithm) → digest_named algorithm ≡ Some a → result ≡ OK
+        → AreWords a context.new.words }
     ensures unknown { result ≡ UNKNOWN_ALGORITHM ↔ digest_named algorithm ≡ None }
     ensures unchanged { result ≢ OK → context.new ≡ context.old }
 {
@@ -69,6 +72,7 @@ pub extern "C" fn yz_digest_init(algorithm: u32, context: &mut RawContext) -> i3
 pub extern "C" fn yz_digest_update(context: &mut RawContext, input: &[u8]) -> i32
     ensures ok { (a : Algorithm) (m : List ℕ) → RawStandsFor context.old a m
         → result ≡ OK × RawStandsFor context.new a (m ++ input.now) }
+    ensures any { result ≡ OK → HasAdded context.old context.new input.now }
     ensures unknown { result ≡ UNKNOWN_CONTEXT ↔ IsNoContext context.old }
     ensures told { result ≢ OK → result ≡ UNKNOWN_CONTEXT }
     ensures unchanged { result ≢ OK → context.new ≡ context.old }
@@ -93,6 +97,8 @@ pub extern "C" fn yz_digest_update(context: &mut RawContext, input: &[u8]) -> i3
 pub extern "C" fn yz_digest_final(context: &RawContext, out: &mut [u8]) -> i32
     ensures ok { (a : Algorithm) (m : List ℕ) → RawStandsFor context.now a m → result ≡ OK
         → out.new ≡ digest_of a m }
+    ensures any { (a : Algorithm) → digest_named context.now.algorithm ≡ Some a → result ≡ OK
+        → out.new ≡ raw_digest_with a context.now [] (raw_message_len context.now) }
     ensures unknown { result ≡ UNKNOWN_CONTEXT ↔ IsNoContext context.now }
     ensures wrong_length { (a : Algorithm) → digest_named context.now.algorithm ≡ Some a
         → result ≢ UNKNOWN_CONTEXT

@@ -2,10 +2,11 @@
 
 ghost use Rattle.std.specs.Prelude.{◌≡◌, ◌≢◌, ◌↔◌, ◌++◌, [], ℕ, List, Some, None, length};
 ghost use Rattle.ring.specs.Algorithm.{output_len};
-ghost use Rattle.ring.specs.Hmac.{KeyStandsFor, hmac_digest, hmac_of, key_algorithm};
+ghost use Rattle.ring.specs.Hmac.{KeyStandsFor, hmac_digest, hmac_of, key_algorithm, tag_under};
 ghost use Rattle.ring.specs.Limits.{IsMessageWithin, IsTagWithin};
-ghost use Rattle.ring.specs.Raw.{IsNoKey, IsNoTagContext, RawKeyStandsFor, RawTagStandsFor};
-ghost use Rattle.ring.specs.Raw.{digest_named, raw_message_len};
+ghost use Rattle.ring.specs.Raw.{AreWords, HasBegun, IsNoKey, IsNoTagContext, RawKeyStandsFor};
+ghost use Rattle.ring.specs.Raw.{RawTagStandsFor, TagHasAdded, digest_named, raw_message_len};
+ghost use Rattle.ring.specs.Raw.{raw_tag_under, raw_tag_with};
 ghost use Rattle.ring.specs.declared.digest.algorithm.Algorithm as digest;
 ghost use Rattle.ring.specs.declared.hmac.algorithm.Algorithm.{Algorithm};
 ghost use Rattle.ring_c.specs.Limits.{CanSign};
@@ -22,6 +23,7 @@ pub(crate) fn write_tag(key: &Key, message: &[u8], out: &mut [u8]) -> i32
     requires { length out.old ≡ output_len (key_algorithm key.now) }
     ensures ok { (k : List ℕ) → KeyStandsFor key.now k → result ≡ OK
         → out.new ≡ hmac_of (key_algorithm key.now) k message.now }
+    ensures any { result ≡ OK → out.new ≡ tag_under key.now message.now }
     ensures refused { result ≡ OK ↔ IsTagWithin (key_algorithm key.now) (length message.now) }
     ensures told { result ≢ OK → result ≡ UNSPECIFIED }
     ensures unchanged { result ≢ OK → out.new ≡ out.old }
@@ -38,6 +40,8 @@ fn verify_tag(key: &Key, message: &[u8], tag: &[u8]) -> i32
     ensures ok { (k : List ℕ) → KeyStandsFor key.now k
         → (result ≡ OK ↔ (IsTagWithin (key_algorithm key.now) (length message.now)
         × (tag.now ≡ hmac_of (key_algorithm key.now) k message.now))) }
+    ensures any { result ≡ OK ↔ (IsTagWithin (key_algorithm key.now) (length message.now)
+        × (tag.now ≡ tag_under key.now message.now)) }
     ensures refused { result ≡ OK → IsTagWithin (key_algorithm key.now) (length message.now) }
     ensures told { result ≢ OK → result ≡ UNSPECIFIED }
 {
@@ -109,6 +113,9 @@ pub extern "C" fn yz_hmac_verify(algorithm: u32, key: &[u8], message: &[u8], tag
 pub extern "C" fn yz_hmac_key_init(algorithm: u32, value: &[u8], key: &mut RawKey) -> i32
     ensures ok { (a : Algorithm) → hmac_named algorithm ≡ Some a → result ≡ OK
         → RawKeyStandsFor key.new (hmac_digest a) value.now }
+    ensures sized { (a : Algorithm) → hmac_named algorithm ≡ Some a → result ≡ OK
+        → AreWords (hmac_digest a) key.new.inner × AreWords (hmac_digest a) key.new.outer }
+    ensures reserved { result ≡ OK → key.new.reserved ≡ 0 }
     ensures unknown { result ≡ UNKNOWN_ALGORITHM ↔ hmac_named algorithm ≡ None }
     ensures refused { (a : Algorithm) → hmac_named algorithm ≡ Some a
         → (result ≡ OK ↔ IsMessageWithin (hmac_digest a) (length value.now)) }
@@ -134,6 +141,8 @@ pub extern "C" fn yz_hmac_key_init(algorithm: u32, value: &[u8], key: &mut RawKe
 pub extern "C" fn yz_hmac_key_sign(key: &RawKey, message: &[u8], out: &mut [u8]) -> i32
     ensures ok { (a : digest.Algorithm) (k : List ℕ) → RawKeyStandsFor key.now a k → result ≡ OK
         → out.new ≡ hmac_of a k message.now }
+    ensures any { (a : digest.Algorithm) → digest_named key.now.algorithm ≡ Some a → result ≡ OK
+        → out.new ≡ raw_tag_under a key.now message.now }
     ensures unknown { result ≡ UNKNOWN_CONTEXT ↔ IsNoKey key.now }
     ensures wrong_length { (a : digest.Algorithm) → digest_named key.now.algorithm ≡ Some a
         → (result ≡ WRONG_LENGTH ↔ length out.old ≢ output_len a) }
@@ -161,6 +170,9 @@ pub extern "C" fn yz_hmac_key_verify(key: &RawKey, message: &[u8], tag: &[u8]) -
     ensures ok { (a : digest.Algorithm) (k : List ℕ) → RawKeyStandsFor key.now a k
         → (result ≡ OK ↔ (IsTagWithin a (length message.now)
         × (tag.now ≡ hmac_of a k message.now))) }
+    ensures any { (a : digest.Algorithm) → digest_named key.now.algorithm ≡ Some a
+        → (result ≡ OK ↔ (IsTagWithin a (length message.now)
+        × (tag.now ≡ raw_tag_under a key.now message.now))) }
     ensures unknown { result ≡ UNKNOWN_CONTEXT ↔ IsNoKey key.now }
     ensures refused { (a : digest.Algorithm) → digest_named key.now.algorithm ≡ Some a
         → result ≡ OK → IsTagWithin a (length message.now) }
@@ -180,6 +192,9 @@ pub extern "C" fn yz_hmac_key_verify(key: &RawKey, message: &[u8], tag: &[u8]) -
 pub extern "C" fn yz_hmac_init(key: &RawKey, context: &mut RawTagContext) -> i32
     ensures ok { (a : digest.Algorithm) (k : List ℕ) → RawKeyStandsFor key.now a k
         → result ≡ OK × RawTagStandsFor context.new a k [] }
+    ensures any { result ≡ OK → HasBegun key.now context.new }
+    ensures sized { (a : digest.Algorithm) → digest_named key.now.algorithm ≡ Some a → result ≡ OK
+        → AreWords a context.new.inner.words × AreWords a context.new.outer }
     ensures unknown { result ≡ UNKNOWN_CONTEXT ↔ IsNoKey key.now }
     ensures told { result ≢ OK → result ≡ UNKNOWN_CONTEXT }
     ensures unchanged { result ≢ OK → context.new ≡ context.old }
@@ -199,6 +214,7 @@ pub extern "C" fn yz_hmac_init(key: &RawKey, context: &mut RawTagContext) -> i32
 pub extern "C" fn yz_hmac_update(context: &mut RawTagContext, input: &[u8]) -> i32
     ensures ok { (a : digest.Algorithm) (k m : List ℕ) → RawTagStandsFor context.old a k m
         → result ≡ OK × RawTagStandsFor context.new a k (m ++ input.now) }
+    ensures any { result ≡ OK → TagHasAdded context.old context.new input.now }
     ensures unknown { result ≡ UNKNOWN_CONTEXT ↔ IsNoTagContext context.old }
     ensures told { result ≢ OK → result ≡ UNKNOWN_CONTEXT }
     ensures unchanged { result ≢ OK → context.new ≡ context.old }
@@ -223,6 +239,9 @@ pub extern "C" fn yz_hmac_update(context: &mut RawTagContext, input: &[u8]) -> i
 pub extern "C" fn yz_hmac_final(context: &RawTagContext, out: &mut [u8]) -> i32
     ensures ok { (a : digest.Algorithm) (k m : List ℕ) → RawTagStandsFor context.now a k m
         → result ≡ OK → out.new ≡ hmac_of a k m }
+    ensures any { (a : digest.Algorithm) → digest_named context.now.inner.algorithm ≡ Some a
+        → result ≡ OK
+        → out.new ≡ raw_tag_with a context.now [] (raw_message_len context.now.inner) }
     ensures unknown { result ≡ UNKNOWN_CONTEXT ↔ IsNoTagContext context.now }
     ensures wrong_length { (a : digest.Algorithm)
         → digest_named context.now.inner.algorithm ≡ Some a → result ≢ UNKNOWN_CONTEXT

@@ -3,11 +3,12 @@
 ghost use Rattle.std.specs.Prelude.{◌≡◌, ◌↔◌, ℕ, ◌+◌, ◌*◌, ◌/◌, ◌<◌, List, [], ◌++◌, length, take};
 ghost use Rattle.std.specs.Prelude.{drop, IsTrue, IfOk, IsErr, OnOk, OnErr};
 ghost use Rattle.ring_core.specs.Cost.{raised};
-ghost use Rattle.ring.specs.Algorithm.{block_len, max_input_len, output_len};
+ghost use Rattle.ring.specs.Algorithm.{block_len, max_input_len, output_len, word_len};
 ghost use Rattle.ring.specs.Cost.{padded_blocks, whole_blocks};
-ghost use Rattle.ring.specs.Digest.{IsDigest, blocks_from, digest_algorithm, digest_of};
+ghost use Rattle.ring.specs.Digest.{IsDigest, blocks_from, bytes_of, digest_after};
+ghost use Rattle.ring.specs.Digest.{digest_algorithm, digest_of};
 ghost use Rattle.ring.specs.Padding.{padded};
-ghost use Rattle.ring.specs.State.{chaining_words, is_state_of, spare_words};
+ghost use Rattle.ring.specs.State.{chaining_words, is_state_of, spare_words, word_bytes};
 ghost use Rattle.ring.specs.declared.digest.algorithm.Algorithm.{Algorithm};
 
 use crate::digest::algorithm::{Algorithm, is_message_within};
@@ -98,7 +99,7 @@ pub(crate) struct BlockContext {
 }
 
 impl BlockContext {
-    ghost use Rattle.ring.specs.Context.{HasMoved, HasTaken, block_algorithm};
+    ghost use Rattle.ring.specs.Context.{HasMoved, HasTaken, block_algorithm, block_words};
     ghost use Rattle.ring.specs.Context.{counted_bytes, cut_off};
 
     pub(crate) fn new(algorithm: &Algorithm) -> Self
@@ -145,6 +146,10 @@ impl BlockContext {
             → p ++ tail.now ≡ padded (block_algorithm self.now) m
             → take (output_len (block_algorithm self.now)) result.0
             ≡ digest_of (block_algorithm self.now) m }
+        ensures any { take (output_len (block_algorithm self.now)) result.0
+            ≡ take (output_len (block_algorithm self.now))
+            (word_bytes (word_len (block_algorithm self.now))
+            (blocks_from (block_algorithm self.now) (block_words self.now) tail.now)) }
         ensures cost { meter.new ≡ raised meter.old
             (whole_blocks (block_algorithm self.now) (length tail.now)) 0 }
     {
@@ -169,6 +174,9 @@ impl BlockContext {
         requires { length pending.now < block_len (block_algorithm self.now) }
         ensures ok { IfOk result (λ digest. (p : List ℕ) → HasTaken self.now p
             → IsDigest digest (block_algorithm self.now) (p ++ pending.now)) }
+        ensures any { IfOk result (λ digest. bytes_of digest
+            ≡ digest_after (block_algorithm self.now) (block_words self.now) pending.now
+            (cut_off (counted_bytes self.now + length pending.now))) }
         ensures refused { IsErr result
             ↔ (max_input_len (block_algorithm self.now)
             < cut_off (counted_bytes self.now + length pending.now)) }

@@ -5,7 +5,7 @@ ghost use Rattle.std.specs.Prelude.{IfOk, IsErr, OnOk, OnErr};
 ghost use Rattle.ring_core.specs.Cost.{raised};
 ghost use Rattle.ring.specs.Algorithm.{block_len, max_input_len};
 ghost use Rattle.ring.specs.Cost.{last_blocks, padded_blocks, whole_blocks};
-ghost use Rattle.ring.specs.Digest.{IsDigest, digest_algorithm};
+ghost use Rattle.ring.specs.Digest.{IsDigest, bytes_of, digest_after, digest_algorithm};
 
 use crate::digest::algorithm::{Algorithm, MAX_BLOCK_LEN};
 use crate::digest::block_context::BlockContext;
@@ -26,6 +26,7 @@ pub struct Context {
 impl Context {
     ghost use Rattle.ring.specs.Context.{HasMoved, HasTaken, StandsFor, block_algorithm};
     ghost use Rattle.ring.specs.Context.{context_algorithm, counted_bytes, cut_off};
+    ghost use Rattle.ring.specs.Context.{block_words, digest_with};
     ghost use Rattle.ring.specs.Context.{message_len, pending_bytes, pending_len};
 
     /// Starts the digest of a message under `algorithm`, with the initial words of FIPS 180-4,
@@ -43,6 +44,8 @@ impl Context {
     #[tactic(auto, unfolding(crate::specs::Context::StandsFor))]
     pub(crate) fn resume(block: BlockContext) -> Self
         ensures stands { (p : List ℕ) → HasTaken block p → StandsFor result p }
+        ensures any { (y : List ℕ) (n : ℕ) → digest_with result y n
+            ≡ digest_after (block_algorithm block) (block_words block) y n }
         ensures algorithm { context_algorithm result ≡ block_algorithm block }
         ensures counted { message_len result ≡ counted_bytes block }
         ensures pending { pending_len result ≡ 0 }
@@ -77,6 +80,8 @@ impl Context {
     #[tactic(auto, unfolding(crate::specs::Context::StandsFor))]
     pub fn update_counted(&mut self, input: &[u8], meter: &mut Meter)
         ensures stands { (m : List ℕ) → StandsFor self.old m → StandsFor self.new (m ++ input.now) }
+        ensures any { (y : List ℕ) (n : ℕ)
+            → digest_with self.new y n ≡ digest_with self.old (input.now ++ y) n }
         ensures cost { meter.new ≡ raised meter.old (whole_blocks
             (context_algorithm self.old) (pending_len self.old + length input.now)) 0 }
         ensures cost_of { (m : List ℕ) → StandsFor self.old m → meter.new ≡ raised meter.old
@@ -142,6 +147,8 @@ impl Context {
     /// This is never refused: where the message is too long, [`Context::finish`] is.
     pub fn update(&mut self, input: &[u8])
         ensures stands { (m : List ℕ) → StandsFor self.old m → StandsFor self.new (m ++ input.now) }
+        ensures any { (y : List ℕ) (n : ℕ)
+            → digest_with self.new y n ≡ digest_with self.old (input.now ++ y) n }
         ensures algorithm { context_algorithm self.new ≡ context_algorithm self.old }
         ensures counted { message_len self.new ≡ cut_off (message_len self.old + length input.now) }
         ensures pending { pending_len self.new ≡
@@ -156,6 +163,8 @@ impl Context {
     pub fn finish_counted(self, meter: &mut Meter) -> Result<Digest, Unspecified>
         ensures ok { (m : List ℕ) → StandsFor self m
             → IfOk result (λ digest. IsDigest digest (context_algorithm self) m) }
+        ensures any { IfOk result (λ digest.
+            bytes_of digest ≡ digest_with self [] (message_len self)) }
         ensures refused { IsErr result
             ↔ (max_input_len (context_algorithm self) < message_len self) }
         ensures refused_of { (m : List ℕ) → StandsFor self m
@@ -178,6 +187,8 @@ impl Context {
     pub fn finish(self) -> Result<Digest, Unspecified>
         ensures ok { (m : List ℕ) → StandsFor self m
             → IfOk result (λ digest. IsDigest digest (context_algorithm self) m) }
+        ensures any { IfOk result (λ digest.
+            bytes_of digest ≡ digest_with self [] (message_len self)) }
         ensures refused { IsErr result
             ↔ (max_input_len (context_algorithm self) < message_len self) }
         ensures refused_of { (m : List ℕ) → StandsFor self m

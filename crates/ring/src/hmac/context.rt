@@ -30,12 +30,17 @@ pub struct Context {
 impl Context {
     ghost use Rattle.ring.specs.Hmac.{IsTag, KeyStandsFor, TagStandsFor};
     ghost use Rattle.ring.specs.Hmac.{key_algorithm, signing_algorithm};
-    ghost use Rattle.ring.specs.Hmac.{signing_len, signing_pending, tag_algorithm};
+    ghost use Rattle.ring.specs.Hmac.{signing_len, signing_pending, tag_algorithm, tag_bytes};
+    ghost use Rattle.ring.specs.Hmac.{inner_words, outer_words, tag_of_inner, tag_with};
+    ghost use Rattle.ring.specs.Digest.{digest_after};
 
     /// Starts the tag of a message under `signing_key` (RFC 2104, section 2). The message is empty
     /// so far. No block is run: the context copies the key's two states.
     pub fn with_key(signing_key: &Key) -> Self
         ensures stands { (k : List ℕ) → KeyStandsFor signing_key.now k → TagStandsFor result k [] }
+        ensures any { (y : List ℕ) (n : ℕ) → tag_with result y n
+            ≡ tag_of_inner (key_algorithm signing_key.now) (outer_words signing_key.now)
+            (digest_after (key_algorithm signing_key.now) (inner_words signing_key.now) y n) }
         ensures algorithm { signing_algorithm result ≡ key_algorithm signing_key.now }
         ensures counted { signing_len result ≡ block_len (key_algorithm signing_key.now) }
         ensures pending { signing_pending result ≡ 0 }
@@ -66,6 +71,8 @@ impl Context {
             - whole_blocks (signing_algorithm self.old) (length m)) 0 }
         ensures stands { (k m : List ℕ) → TagStandsFor self.old k m
             → TagStandsFor self.new k (m ++ input.now) }
+        ensures any { (y : List ℕ) (n : ℕ)
+            → tag_with self.new y n ≡ tag_with self.old (input.now ++ y) n }
         ensures algorithm { signing_algorithm self.new ≡ signing_algorithm self.old }
         ensures counted { signing_len self.new ≡ cut_off (signing_len self.old + length input.now) }
         ensures pending { signing_pending self.new ≡
@@ -80,6 +87,8 @@ impl Context {
     pub fn update(&mut self, input: &[u8])
         ensures stands { (k m : List ℕ) → TagStandsFor self.old k m
             → TagStandsFor self.new k (m ++ input.now) }
+        ensures any { (y : List ℕ) (n : ℕ)
+            → tag_with self.new y n ≡ tag_with self.old (input.now ++ y) n }
         ensures algorithm { signing_algorithm self.new ≡ signing_algorithm self.old }
         ensures counted { signing_len self.new ≡ cut_off (signing_len self.old + length input.now) }
         ensures pending { signing_pending self.new ≡
@@ -93,6 +102,7 @@ impl Context {
     pub fn sign_counted(self, meter: &mut Meter) -> Result<Tag, Unspecified>
         ensures ok { (k m : List ℕ) → TagStandsFor self k m
             → IfOk result (λ tag. IsTag tag (signing_algorithm self) k m) }
+        ensures any { IfOk result (λ tag. tag_bytes tag ≡ tag_with self [] (signing_len self)) }
         ensures refused { IsErr result
             ↔ (max_input_len (signing_algorithm self) < signing_len self) }
         ensures refused_of { (k m : List ℕ) → TagStandsFor self k m → IsErr result
@@ -120,6 +130,7 @@ impl Context {
     pub fn sign(self) -> Result<Tag, Unspecified>
         ensures ok { (k m : List ℕ) → TagStandsFor self k m
             → IfOk result (λ tag. IsTag tag (signing_algorithm self) k m) }
+        ensures any { IfOk result (λ tag. tag_bytes tag ≡ tag_with self [] (signing_len self)) }
         ensures refused { IsErr result
             ↔ (max_input_len (signing_algorithm self) < signing_len self) }
         ensures refused_of { (k m : List ℕ) → TagStandsFor self k m → IsErr result

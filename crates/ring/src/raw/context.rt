@@ -2,9 +2,9 @@
 
 ghost use Rattle.std.specs.Prelude.{◌≡◌, ◌↔◌, ℕ, ◌+◌, ◌<◌, List, ◌++◌, length, IfSome, IsNone};
 ghost use Rattle.std.specs.Prelude.{IsSomeAnd, IsTrue, IsFalse, Some};
-ghost use Rattle.ring.specs.Prelude.{Algorithm, IsNoContext, RawStandsFor, StandsFor};
-ghost use Rattle.ring.specs.Prelude.{context_algorithm, digest_named, message_len, named_block_len};
-ghost use Rattle.ring.specs.Prelude.{pending_len, raw_message_len};
+ghost use Rattle.ring.specs.Prelude.{Algorithm, AreNumbersOf, AreWords, HasAdded, IsNoContext};
+ghost use Rattle.ring.specs.Prelude.{RawStandsFor, StandsFor, context_algorithm, digest_named};
+ghost use Rattle.ring.specs.Prelude.{message_len, named_block_len, pending_len, raw_message_len};
 
 use crate::digest::algorithm::MAX_BLOCK_LEN;
 use crate::digest::context::Context;
@@ -33,8 +33,10 @@ impl RawContext {
     /// The numbers of `context`.
     #[tactic(auto, unfolding(crate::specs::Raw::RawStandsFor))]
     pub fn new(context: &Context) -> Self
-        ensures { (m : List ℕ) → StandsFor context.now m
+        ensures stands { (m : List ℕ) → StandsFor context.now m
             → RawStandsFor result (context_algorithm context.now) m }
+        ensures any { AreNumbersOf result context.now }
+        ensures sized { AreWords (context_algorithm context.now) result.words }
     {
         let (completed_low, completed_high) = halves(context.block.completed_bytes);
         RawContext {
@@ -53,6 +55,8 @@ impl RawContext {
     pub fn keep(&mut self, input: &[u8]) -> bool
         ensures stands { IsTrue result → (a : Algorithm) (m : List ℕ)
             → RawStandsFor self.old a m → RawStandsFor self.new a (m ++ input.now) }
+        ensures any { IsTrue result → HasAdded self.old self.new input.now }
+        ensures words { IsTrue result → self.new.words ≡ self.old.words }
         ensures short { IsTrue result
             ↔ (self.old.num_pending + length input.now < named_block_len self.old.algorithm) }
         ensures unchanged { IsFalse result → self.new ≡ self.old }
@@ -78,6 +82,7 @@ impl RawContext {
         ensures none { IsNone result ↔ IsNoContext self.now }
         ensures stands { (a : Algorithm) (m : List ℕ) → RawStandsFor self.now a m
             → IsSomeAnd result (λ c. StandsFor c m × (context_algorithm c ≡ a)) }
+        ensures any { IfSome result (λ c. AreNumbersOf self.now c) }
         ensures algorithm { IfSome result (λ c.
             digest_named self.now.algorithm ≡ Some (context_algorithm c)) }
         ensures counted { IfSome result (λ c. message_len c ≡ raw_message_len self.now) }

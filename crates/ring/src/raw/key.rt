@@ -1,8 +1,9 @@
 //! The numbers of a key.
 
 ghost use Rattle.std.specs.Prelude.{◌≡◌, ◌↔◌, ℕ, List, IfSome, IsNone, IsSomeAnd, Some};
-ghost use Rattle.ring.specs.Prelude.{Algorithm, IsNoKey, KeyStandsFor, RawKeyStandsFor};
-ghost use Rattle.ring.specs.Prelude.{digest_named, key_algorithm};
+ghost use Rattle.ring.specs.Prelude.{Algorithm, AreWords, IsNoKey, KeyStandsFor, RawKeyStandsFor};
+ghost use Rattle.ring.specs.Prelude.{digest_named, inner_words, key_algorithm, outer_words};
+ghost use Rattle.ring.specs.Prelude.{raw_chaining, raw_tag_under, tag_under};
 
 use crate::hmac::key::Key;
 use crate::raw::number::{digest_of_number, number_of_digest};
@@ -26,8 +27,14 @@ impl RawKey {
     /// The numbers of `key`.
     #[tactic(auto, unfolding(crate::specs::Raw::RawKeyStandsFor))]
     pub fn new(key: &Key) -> Self
-        ensures { (k : List ℕ) → KeyStandsFor key.now k
+        ensures stands { (k : List ℕ) → KeyStandsFor key.now k
             → RawKeyStandsFor result (key_algorithm key.now) k }
+        ensures algorithm { digest_named result.algorithm ≡ Some (key_algorithm key.now) }
+        ensures inner { raw_chaining (key_algorithm key.now) result.inner ≡ inner_words key.now }
+        ensures outer { raw_chaining (key_algorithm key.now) result.outer ≡ outer_words key.now }
+        ensures sized { AreWords (key_algorithm key.now) result.inner
+            × AreWords (key_algorithm key.now) result.outer }
+        ensures reserved { result.reserved ≡ 0 }
     {
         RawKey {
             algorithm: number_of_digest(&key.inner.algorithm),
@@ -45,6 +52,12 @@ impl RawKey {
             → IsSomeAnd result (λ key. KeyStandsFor key k × (key_algorithm key ≡ a)) }
         ensures algorithm { IfSome result (λ key.
             digest_named self.now.algorithm ≡ Some (key_algorithm key)) }
+        ensures inner { IfSome result (λ key.
+            inner_words key ≡ raw_chaining (key_algorithm key) self.now.inner) }
+        ensures outer { IfSome result (λ key.
+            outer_words key ≡ raw_chaining (key_algorithm key) self.now.outer) }
+        ensures any { IfSome result (λ key. (m : List ℕ)
+            → tag_under key m ≡ raw_tag_under (key_algorithm key) self.now m) }
     {
         let Some(algorithm) = digest_of_number(self.algorithm) else {
             return None;

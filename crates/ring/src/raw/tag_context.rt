@@ -2,8 +2,9 @@
 
 ghost use Rattle.std.specs.Prelude.{◌≡◌, ◌↔◌, ℕ, ◌+◌, ◌<◌, ◌≤◌, List, ◌++◌, length, IfSome, IsNone};
 ghost use Rattle.std.specs.Prelude.{IsSomeAnd, IsTrue, IsFalse, Some};
-ghost use Rattle.ring.specs.Prelude.{Algorithm, IsNoTagContext, RawTagStandsFor, TagStandsFor};
-ghost use Rattle.ring.specs.Prelude.{completed_len, digest_named, named_block_len, raw_message_len};
+ghost use Rattle.ring.specs.Prelude.{Algorithm, AreNumbersOfTag, AreWords, IsNoTagContext};
+ghost use Rattle.ring.specs.Prelude.{RawTagStandsFor, TagHasAdded, TagStandsFor, completed_len};
+ghost use Rattle.ring.specs.Prelude.{digest_named, named_block_len, raw_message_len};
 ghost use Rattle.ring.specs.Prelude.{signing_algorithm, signing_len, signing_pending};
 
 use crate::hmac::context::Context;
@@ -25,8 +26,11 @@ impl RawTagContext {
     /// The numbers of `context`.
     #[tactic(auto, unfolding(crate::specs::Raw::RawTagStandsFor))]
     pub fn new(context: &Context) -> Self
-        ensures { (k m : List ℕ) → TagStandsFor context.now k m
+        ensures stands { (k m : List ℕ) → TagStandsFor context.now k m
             → RawTagStandsFor result (signing_algorithm context.now) k m }
+        ensures any { AreNumbersOfTag result context.now }
+        ensures sized { AreWords (signing_algorithm context.now) result.inner.words
+            × AreWords (signing_algorithm context.now) result.outer }
     {
         RawTagContext {
             inner: RawContext::new(&context.inner),
@@ -53,6 +57,9 @@ impl RawTagContext {
     pub fn keep(&mut self, input: &[u8]) -> bool
         ensures stands { IsTrue result → (a : Algorithm) (k m : List ℕ)
             → RawTagStandsFor self.old a k m → RawTagStandsFor self.new a k (m ++ input.now) }
+        ensures any { IsTrue result → TagHasAdded self.old self.new input.now }
+        ensures words { IsTrue result → (self.new.inner.words ≡ self.old.inner.words)
+            × (self.new.outer ≡ self.old.outer) }
         ensures short { IsTrue result
             ↔ ((named_block_len self.old.inner.algorithm ≤ completed_len self.old.inner)
             × (self.old.inner.num_pending + length input.now
@@ -69,6 +76,7 @@ impl RawTagContext {
         ensures none { IsNone result ↔ IsNoTagContext self.now }
         ensures stands { (a : Algorithm) (k m : List ℕ) → RawTagStandsFor self.now a k m
             → IsSomeAnd result (λ c. TagStandsFor c k m × (signing_algorithm c ≡ a)) }
+        ensures any { IfSome result (λ c. AreNumbersOfTag self.now c) }
         ensures algorithm { IfSome result (λ c.
             digest_named self.now.inner.algorithm ≡ Some (signing_algorithm c)) }
         ensures counted { IfSome result (λ c. signing_len c ≡ raw_message_len self.now.inner) }

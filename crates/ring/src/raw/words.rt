@@ -2,8 +2,9 @@
 
 ghost use Rattle.std.specs.Prelude.{◌≡◌, ◌+◌, ◌*◌, ◌%◌, ◌^◌, ℕ, List, IsTrue, length, map};
 ghost use Rattle.ring_core.specs.Prelude.{words_32, words_64};
-ghost use Rattle.ring.specs.Prelude.{HasTaken, IsRawState, block_algorithm, counted_bytes, cut_off};
-ghost use Rattle.ring.specs.Prelude.{is_state_of, joined_halves, raw_words, words};
+ghost use Rattle.ring.specs.Prelude.{AreWords, HasTaken, IsRawState, block_algorithm, block_words};
+ghost use Rattle.ring.specs.Prelude.{counted_bytes, cut_off, is_state_of, joined_halves};
+ghost use Rattle.ring.specs.Prelude.{raw_chaining, raw_words, words};
 
 use crate::digest::algorithm::Algorithm;
 use crate::digest::block_context::BlockContext;
@@ -96,10 +97,12 @@ fn state_of(algorithm: &Algorithm, numbers: &[u64; 8]) -> DynState
 }
 
 // The numbers of the state after whole blocks.
-#[tactic(auto, using(crate::proofs::Numbers::raw_taken))]
+#[tactic(auto, using(crate::proofs::Numbers::raw_taken, crate::proofs::Numbers::raw_cut))]
 pub(crate) fn numbers_of_block(block: &BlockContext) -> [u64; 8]
-    ensures { (p : List ℕ) → HasTaken block.now p
+    ensures stands { (p : List ℕ) → HasTaken block.now p
         → IsRawState (block_algorithm block.now) result p }
+    ensures words { raw_chaining (block_algorithm block.now) result ≡ block_words block.now }
+    ensures sized { AreWords (block_algorithm block.now) result }
 {
     numbers_of(&block.state)
 }
@@ -112,6 +115,7 @@ pub(crate) fn block_of(
 ) -> BlockContext
     ensures stands { (p : List ℕ) → IsRawState algorithm.now numbers.now p
         → completed_bytes ≡ cut_off (length p) → HasTaken result p }
+    ensures words { block_words result ≡ raw_chaining algorithm.now numbers.now }
     ensures algorithm { block_algorithm result ≡ algorithm.now }
     ensures counted { counted_bytes result ≡ completed_bytes }
 {

@@ -1,8 +1,8 @@
 use Rattle.std.proofs.Common.{ℕ, ◌≤◌, length, refl, arith, ◌∙◌, ap}
 use Rattle.ring.specs.Prelude.{raised}
 use Rattle.ring.proofs.Rows.{block_len-most}
-use Rattle.ring.proofs.Updating.{moved_none, moved_both, stands_moved, pending_moved, cost_moved}
-use Rattle.ring.proofs.Updating.{ahead_len, stands_blocks}
+use Rattle.ring.proofs.Updating.{ahead_len, cost_moved, digest_moved, moved_both, moved_none}
+use Rattle.ring.proofs.Updating.{pending_moved, stands_blocks, stands_moved}
 use Rattle.ring.proofs.digest.context.Context.update_counted.Goals as goal
 
 pub returns-then-input-room-clause-cost : goal.returns-then-input-room-clause-cost
@@ -49,3 +49,10 @@ returns-clause-cost_of c = λ m h.
     omega (arith, block_len-most c.args.self.now.block.algorithm) in
     returns-clause-cost c ∙ ap (λ (z : ℕ). raised c.args.meter.now z 0)
     (stands_blocks c.args.self.now m (length c.args.input.now) h fits)
+
+pub returns-clause-any : goal.returns-clause-any
+returns-clause-any c =
+    let completed = c.complete_pending-rest.ensures.moved in
+    let moved = moved_both completed c.update-leftover.ensures.moved c.keep-2.ensures.block in
+    digest_moved c.args.self.now c.keep-2.new.self c.args.input.now moved
+    (c.keep-2.ensures.pending ∙ rw c.complete_pending-rest.ensures.empty refl)

@@ -1,6 +1,8 @@
-use Rattle.std.proofs.Common.{◌+◌, ℕ, ap, ◌∙◌}
-use Rattle.ring.specs.Prelude.{context_algorithm, output_len, raised}
-use Rattle.ring.proofs.Keys.{cost_sign, inner_last, inner_len, tag_is}
+use Rattle.std.proofs.Common.{◌≡◌, ◌+◌, ℕ, List, [], ◌++◌, arith, length, ap, ◌∙◌}
+use Rattle.ring.specs.Prelude.{block_len, block_words, bytes_of, context_algorithm, message_len}
+use Rattle.ring.specs.Prelude.{output_len, raised}
+use Rattle.ring.proofs.Rows.{block_len-most, output_below}
+use Rattle.ring.proofs.Keys.{cost_sign, inner_last, inner_len, tag_is, tag_last}
 use Rattle.ring.proofs.Lengths.{counted_first}
 use Rattle.ring.proofs.hmac.context.Context.sign_counted.Goals as goal
 
@@ -39,3 +41,28 @@ returns-clause-cost_of c = λ k m h.
     let last = inner_last (context_algorithm c.args.self.inner) k m in
     cost_sign _ _ taken (update.algorithm ∙ same) len inner c.in_ok-value.ensures.cost
     ∙ ap (λ (z : ℕ). raised c.args.meter.now (z + 1) 0) last
+
+pub returns-clause-any : goal.returns-clause-any
+returns-clause-any c =
+    let self = c.args.self in
+    let a = context_algorithm self.inner in
+    let resumed = c.resume-last.ensures in
+    let update = c.update_counted.ensures in
+    let n : ℕ = message_len c.update_counted.new.self in
+    let len = c.as_ref.ensures.len ∙ ap output_len c.in_ok-digest.ensures.algorithm in
+    let size = ap block_len self.same in
+    let long : n ≡ block_len a + output_len a =
+    omega (
+      arith,
+      update.counted,
+      resumed.counted,
+      self.outer_block,
+      size,
+      len,
+      block_len-most a,
+      output_below a,
+    ) in
+    let value = ap bytes_of c.new.ensures ∙ c.in_ok-value.ensures.any ∙ update.any [] n
+    ∙ resumed.any (c.as_ref.result.now ++ []) n in
+    tag_last (block_words self.outer) c.as_ref.result.now value
+    (c.as_ref.ensures.bytes ∙ c.in_ok-digest.ensures.any) self.same long

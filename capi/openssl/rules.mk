@@ -9,7 +9,11 @@ PROVIDER_DEB = openssl-provider-yezdopin
 PKG_CONFIG ?= pkg-config
 # OpenSSL's own folder of modules, from which `module = yezdopin.so` is loaded by its name alone.
 MODULESDIR ?= $(shell $(PKG_CONFIG) --variable=modulesdir libcrypto)
+# The folder of the configuration, and the system's own, which it reads first.
+PROVIDER_DATADIR ?= $(PREFIX)/share/$(PROVIDER_DEB)
 PROVIDER_DOCDIR ?= $(PREFIX)/share/doc/$(PROVIDER_DEB)
+SYSTEM_CNF ?= $(or $(shell openssl version -d 2>/dev/null \
+    | sed -n 's/^OPENSSLDIR: "\(.*\)"$$/\1/p'),/etc/ssl)/openssl.cnf
 
 PROVIDER = $(OUT)/openssl/yezdopin.so
 COUNTED = $(OUT)/openssl/counted/yezdopin.so
@@ -67,7 +71,7 @@ $(PROVIDER_TESTS:%=$(OUT)/openssl/sanitized/%): $(OUT)/openssl/sanitized/%: open
 	    $(ARCHIVE) -lcrypto -lpthread -o $@
 
 openssl-check: openssl-agree openssl-orders openssl-memory openssl-wiped openssl-sanitized \
-    openssl-valgrind openssl-programs openssl-exports openssl-installed
+    openssl-valgrind openssl-programs openssl-policy openssl-exports openssl-installed
 
 # Random calls beside the default provider's.
 openssl-agree: $(PROVIDER) $(OUT)/openssl/agree
@@ -100,6 +104,15 @@ openssl-valgrind: $(PROVIDER) $(OUT)/openssl/agree $(OUT)/openssl/orders \
 openssl-programs: $(COUNTED)
 	$(PYTHON) -B openssl/test/programs $(<D)
 
+# What both ways of switching on, as installed, leave of the system's configuration.
+POLICY_ROOT = $(WHOLE_OUT)/openssl/policy
+openssl-policy: $(PROVIDER)
+	rm -rf "$(POLICY_ROOT)"
+	$(MAKE) --no-print-directory $(KEPT) openssl-install DESTDIR= PREFIX="$(POLICY_ROOT)" \
+	    MODULESDIR="$(POLICY_ROOT)/modules" SYSTEM_CNF="$(POLICY_ROOT)/system.cnf" >/dev/null
+	$(PYTHON) -B openssl/test/policy "$(POLICY_ROOT)" \
+	    "$$($(PKG_CONFIG) --variable=modulesdir libcrypto)"
+
 # The module has one name, and needs OpenSSL and these functions of a C library alone.
 openssl-exports: $(PROVIDER)
 	test "$$(nm -D --defined-only $< | awk '{ print $$3 }' | xargs)" = OSSL_provider_init
@@ -116,41 +129,59 @@ openssl-bench: $(PROVIDER) openssl/bench/bench.c
 	@$(OUT)/openssl/bench $(<D)
 	@OPENSSL_ia32cap='~0x1000020000000000:~0x20000020' $(OUT)/openssl/bench $(<D)
 
-# What is installed, by a copy of the configuration beside it.
-PROVIDER_ROOT = $(OUT)/openssl/root
+# What is installed, and by which paths; `openssl-policy` runs it.
+PROVIDER_ROOT = $(WHOLE_OUT)/openssl/a root
+PROVIDER_SHARED = $(PROVIDER_ROOT)/a prefix/share
 openssl-installed: $(PROVIDER)
-	rm -rf $(PROVIDER_ROOT)
-	$(MAKE) --no-print-directory $(KEPT) openssl-install DESTDIR=$(PROVIDER_ROOT) \
-	    MODULESDIR=/modules PROVIDER_DOCDIR=/doc >/dev/null
-	OPENSSL_CONF=$(PROVIDER_ROOT)/doc/yezdopin.cnf OPENSSL_MODULES=$(PROVIDER_ROOT)/modules \
-	    openssl list -providers | grep -q 'name: Yezdopin'
-	$(MAKE) --no-print-directory openssl-uninstall DESTDIR=$(PROVIDER_ROOT) MODULESDIR=/modules \
-	    PROVIDER_DOCDIR=/doc >/dev/null
-	test -z "$$(find $(PROVIDER_ROOT) ! -type d)"
+	rm -rf "$(PROVIDER_ROOT)"
+	$(MAKE) --no-print-directory $(KEPT) openssl-install DESTDIR="$(PROVIDER_ROOT)" \
+	    PREFIX='/a prefix' MODULESDIR='/some modules' SYSTEM_CNF=/etc/ssl/openssl.cnf >/dev/null
+	test "$$(cd "$(PROVIDER_ROOT)" && find . -type f | LC_ALL=C sort)" = "$$(printf './%s\n' \
+	    'a prefix/share/doc/$(PROVIDER_DEB)/LICENSE' \
+	    'a prefix/share/doc/$(PROVIDER_DEB)/README.md' \
+	    'a prefix/share/$(PROVIDER_DEB)/sections.cnf' \
+	    'a prefix/share/$(PROVIDER_DEB)/state.py' \
+	    'a prefix/share/$(PROVIDER_DEB)/yezdopin.cnf' \
+	    'some modules/yezdopin.so' | LC_ALL=C sort)"
+	test "$$(grep '^\.include' "$(PROVIDER_SHARED)/$(PROVIDER_DEB)/yezdopin.cnf" | xargs -d '\n')" = \
+	    '.include /etc/ssl/openssl.cnf .include /a prefix/share/$(PROVIDER_DEB)/sections.cnf'
+	$(MAKE) --no-print-directory openssl-uninstall DESTDIR="$(PROVIDER_ROOT)" \
+	    PREFIX='/a prefix' MODULESDIR='/some modules' >/dev/null
+	test -z "$$(find "$(PROVIDER_ROOT)" ! -type d -o -name $(PROVIDER_DEB))"
 
 openssl-install: $(PROVIDER)
-	$(INSTALL) -d "$(DESTDIR)$(MODULESDIR)" "$(DESTDIR)$(PROVIDER_DOCDIR)"
-	$(INSTALL) -m 644 $(PROVIDER) "$(DESTDIR)$(MODULESDIR)"
-	$(INSTALL) -m 644 openssl/README.md openssl/yezdopin.cnf ../LICENSE \
+	$(INSTALL) -d "$(DESTDIR)$(MODULESDIR)" "$(DESTDIR)$(PROVIDER_DATADIR)" \
 	    "$(DESTDIR)$(PROVIDER_DOCDIR)"
+	$(INSTALL) -m 644 $(PROVIDER) "$(DESTDIR)$(MODULESDIR)"
+	sed 's|@folder@|$(PROVIDER_DATADIR)|; s|@system@|$(SYSTEM_CNF)|' openssl/yezdopin.cnf.in \
+	    >"$(DESTDIR)$(PROVIDER_DATADIR)/yezdopin.cnf"
+	chmod 644 "$(DESTDIR)$(PROVIDER_DATADIR)/yezdopin.cnf"
+	$(INSTALL) -m 644 openssl/sections.cnf openssl/state.py "$(DESTDIR)$(PROVIDER_DATADIR)"
+	$(INSTALL) -m 644 openssl/README.md ../LICENSE "$(DESTDIR)$(PROVIDER_DOCDIR)"
 
 openssl-uninstall:
 	rm -f "$(DESTDIR)$(MODULESDIR)/yezdopin.so"
+	for name in sections.cnf state.py yezdopin.cnf; do \
+	    rm -f "$(DESTDIR)$(PROVIDER_DATADIR)/$$name"; \
+	done
+	[ ! -d "$(DESTDIR)$(PROVIDER_DATADIR)" ] || \
+	    rmdir --ignore-fail-on-non-empty "$(DESTDIR)$(PROVIDER_DATADIR)"
 	rm -rf "$(DESTDIR)$(PROVIDER_DOCDIR)"
 
-# The Debian package, one word of PACKAGES in dist/dist.mk where OpenSSL's headers are. It has the
-# configuration as documentation, and switches nothing on.
+# The Debian package, one word of PACKAGES in dist/dist.mk where OpenSSL's headers are. It switches
+# nothing on.
 PROVIDER_PACKAGE = $(shell echo '\#include <openssl/core_dispatch.h>' | $(CC) -E - >/dev/null 2>&1 \
     && echo deb-$(PROVIDER_DEB))
 dist-deb-$(PROVIDER_DEB): $(PROVIDER)
 	rm -rf "$(WORK)/$(PROVIDER_DEB)"
 	$(MAKE) -s --no-print-directory $(KEPT) openssl-install DESTDIR="$(WORK)/$(PROVIDER_DEB)" \
-	    MODULESDIR=$(DPKG_LIBDIR)/ossl-modules PROVIDER_DOCDIR=/usr/share/doc/$(PROVIDER_DEB)
+	    MODULESDIR=$(DPKG_LIBDIR)/ossl-modules PROVIDER_DATADIR=/usr/share/$(PROVIDER_DEB) \
+	    PROVIDER_DOCDIR=/usr/share/doc/$(PROVIDER_DEB) SYSTEM_CNF=/etc/ssl/openssl.cnf
 	strip --strip-unneeded --remove-section=.comment \
 	    "$(WORK)/$(PROVIDER_DEB)$(DPKG_LIBDIR)/ossl-modules/yezdopin.so"
 	rm "$(WORK)/$(PROVIDER_DEB)/usr/share/doc/$(PROVIDER_DEB)/LICENSE"
 	$(call deb,$(PROVIDER_DEB))
 
 .PHONY: openssl openssl-check openssl-agree openssl-orders openssl-memory openssl-wiped \
-    openssl-sanitized openssl-valgrind openssl-programs openssl-exports openssl-installed openssl-bench \
-    openssl-install openssl-uninstall
+    openssl-sanitized openssl-valgrind openssl-programs openssl-policy openssl-exports \
+    openssl-installed openssl-bench openssl-install openssl-uninstall

@@ -36,10 +36,7 @@ less Less p = refl
 less Equal p = absurd p
 less Greater p = absurd p
 
-lower_test : (o : Ordering) → o ≡ Less → is_lt o ≡ true
-lower_test o e = ap is_lt e
-
-test_lower : (o : Ordering) → is_lt o ≡ true → o ≡ Less
+pub test_lower : (o : Ordering) → is_lt o ≡ true → o ≡ Less
 test_lower Less e = refl
 test_lower Equal e = cc e
 test_lower Greater e = cc e
@@ -80,6 +77,13 @@ module _ {X : Type 0} where
       → table.entries (table.insert m k v) ≡ table.entries m ++ (k, v) ∷ []
   entries-insert_last m k v h =
       table.entries-insert nat_list_cmp_total m k v ∙ put_last k v (table.entries m) h
+
+  -- the same of a table that was given that entry
+  pub entries-put_last : {after : table.FinMap order X} (m : table.FinMap order X) (e : List ℕ × X)
+      → after ≡ table.insert m e.0 e.1 → IsBehind e.0 (table.entries m)
+      → table.entries after ≡ table.entries m ++ e ∷ []
+  entries-put_last m e is behind =
+      ap table.entries is ∙ entries-insert_last m e.0 e.1 behind
 
   no_entry : (es : List (List ℕ × X)) → length es ≡ 0 → es ≡ []
   no_entry [] e = refl
@@ -160,19 +164,16 @@ module _ {X : Type 0} (name : List ℕ) where
   behind_last [] e h = All-head (Behind name) e [] h
   behind_last (x ∷ es) e h = behind_last es e (All-tail (Behind name) x (es ++ e ∷ []) h)
 
-  -- a name stands behind all names where it stands behind the last of them
-  pub IsBehind-last : (all front : List (List ℕ × X)) (e : List ℕ × X) → all ≡ front ++ e ∷ []
-      → T (is_sorted order all)
-      → (is_lt (order e.0 name) ≡ true → IsBehind name all)
-      × (IsBehind name all → is_lt (order e.0 name) ≡ true)
-  IsBehind-last all front e same h =
-      let sorted = sorted_front front e [] (subst (λ l. T (is_sorted order l)) same h) in (
-        λ test.
-            let lower = test_lower (order e.0 name) test in
-            subst (IsBehind name) (sym same)
-            (All-append (Behind name) front (e ∷ []) (behind_front front e sorted lower)
-            (All-cons (Behind name) e [] lower (All-nil (Behind name)))),
-        λ all_lower.
-            lower_test (order e.0 name)
-            (behind_last front e (subst (IsBehind name) same all_lower)),
-      )
+  pub IsBehind-none : IsBehind {X = X} name []
+  IsBehind-none = All-nil (Behind name)
+
+  -- a name stands behind entries and one more where it stands behind that one
+  pub IsBehind-push : (es : List (List ℕ × X)) (e : List ℕ × X) → IsBehind e.0 es
+      → (IsBehind name (es ++ e ∷ []) → order e.0 name ≡ Less)
+      × (order e.0 name ≡ Less → IsBehind name (es ++ e ∷ []))
+  IsBehind-push es e h = (
+    behind_last es e,
+    λ lower.
+        All-append (Behind name) es (e ∷ []) (behind_front es e h lower)
+        (All-cons (Behind name) e [] lower (All-nil (Behind name))),
+  )

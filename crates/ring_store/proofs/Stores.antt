@@ -1,6 +1,6 @@
 -- What a text says of the stores that have it.
-use Rattle.std.proofs.Common.{◌≡◌, ℕ, ◌<◌, List, [], ◌∷◌, ◌++◌, length, All, refl, sym, ap, subst}
-use Rattle.std.proofs.Common.{◌∙◌, arith, append_assoc, append-nil, T}
+use Rattle.std.proofs.Common.{◌≡◌, ℕ, List, [], ◌∷◌, ◌++◌, All, refl, sym, ap}
+use Rattle.std.proofs.Common.{◌∙◌, append-nil}
 use Rattle.std.proofs.Common.{◌≢◌, ◌⊎◌, inl, inr}
 use Rattle.std.specs.Prelude.{Result, Ok, Err, IfOk, IsErrOf}
 use Rattle.ring_store.specs.declared.error.LoadError.{LoadError}
@@ -16,37 +16,15 @@ use Rattle.std.specs.declared.cmp.Ordering.TheVariants.{Less}
 use Rattle.hex.specs.Hex.{encode_with}
 use Rattle.ring_store.specs.Store.{new_store, with_record}
 use Rattle.std.specs.declared.num.NonZeroU32.{NonZeroU32}
-use Rattle.std.proofs.lemmas.List.Elements.{All-head}
-use Rattle.ring_store.specs.Records.{IsBehind}
-use Rattle.ring_store.specs.Text.{IsEntry, IsHead, IsStore, head_then, hex_then, lines_of}
+use Rattle.ring_store.specs.Text.{AreLines, IsEntry, IsHead, IsStore, head_then, hex_then, lines_of}
 use Rattle.ring_store.specs.Text.{record_then}
 use Rattle.ring_store.specs.Text.{text_of}
 use Rattle.ring_store.specs.declared.records.Record.{Record}
 use Rattle.ring_store.specs.declared.store.PasswordStore.{PasswordStore}
-use Rattle.ring_store.proofs.Entries.{entries-empty, sorted_front}
+use Rattle.ring_store.proofs.Entries.{entries-empty}
 use Rattle.ring_store.proofs.Names.{order}
-use Rattle.ring_store.proofs.Texts.{More, head_then-injective, lines_of-append, lines_of-first}
+use Rattle.ring_store.proofs.Texts.{More, head_then-injective, lines_of-first}
 use Rattle.ring_store.proofs.Texts.{no_line}
-use Rattle.ring_store.proofs.Texts.{record_then-append, record_then-grows, record_then-injective}
-
--- the entry that comes next, behind entries es of fs
-pub record Next (es fs : List (List ℕ × Record)) (rest : List ℕ) : Type 0 where
-  pub entry : List ℕ × Record
-  pub others : List (List ℕ × Record)
-  pub whole : fs ≡ es ++ entry ∷ others
-  pub line : rest ≡ record_then entry (lines_of others)
-  pub is : IsEntry entry
-
-next_of : (es fs : List (List ℕ × Record)) (rest : List ℕ) (more : List (List ℕ × Record))
-    → fs ≡ es ++ more → lines_of more ≡ rest → All IsEntry more → 0 < length rest → Next es fs rest
-next_of es fs rest [] whole lines each some = absurd (omega (arith, ap length lines))
-next_of es fs rest (e ∷ more) whole lines each some = record {
-  entry = e;
-  others = more;
-  whole = whole;
-  line = sym lines;
-  is = All-head IsEntry e more each;
-}
 
 -- a store whose text begins with these salt, iterations and lines
 module _ {Z : Type 0} {text : List ℕ} (s : PasswordStore Z) (h : IsStore s) (is : text_of s ≡ text)
@@ -62,51 +40,14 @@ module _ {Z : Type 0} {text : List ℕ} (s : PasswordStore Z) (h : IsStore s) (i
         lines_of-first es (table.entries s.records) rest each h.entries same.2,
       )
 
-  -- where some text is left, it has a further record
-  pub next : 0 < length rest → Next es (table.entries s.records) rest
-  next some =
-      let m = begins.2 in
-      next_of es (table.entries s.records) rest m.more m.whole m.lines m.each some
-
-  -- whose name comes after the others
-  next_behind : (n : Next es (table.entries s.records) rest) → IsBehind n.entry.0 es
-  next_behind n =
-      sorted_front es n.entry n.others
-      (subst (λ l. T (table.is_sorted order l)) n.whole (table.entries_sorted s.records))
-
-  behind_by : (n : Next es (table.entries s.records) rest) (e : List ℕ × Record) (left : List ℕ)
-      → rest ≡ record_then e left → IsEntry e → IsBehind e.0 es
-  behind_by n e left line is_e =
-      let same = record_then-injective e n.entry left (lines_of n.others) is_e n.is
-      (sym line ∙ n.line) in
-      subst (λ (x : List ℕ × Record). IsBehind x.0 es) (sym same.0) (next_behind n)
-
-  -- where a record was read, its name comes after the others
-  pub behind_read : (e : List ℕ × Record) (left : List ℕ) → rest ≡ record_then e left → IsEntry e
-      → IsBehind e.0 es
-  behind_read e left line is_e =
-      let grows = record_then-grows e left in
-      behind_by (next (omega (arith, grows, ap length line))) e left line is_e
-
-  read_by : Next es (table.entries s.records) rest
-      → ((e : List ℕ × Record) (left : List ℕ) → IsEntry e → rest ≢ record_then e left) → ⊥
-  read_by n none = none n.entry (lines_of n.others) n.is n.line
-
-  -- where some text is left, a record can be read
-  pub no_bad_line : 0 < length rest
-      → ((e : List ℕ × Record) (left : List ℕ) → IsEntry e → rest ≢ record_then e left) → ⊥
-  no_bad_line some none = read_by (next some) none
-
--- what was read with one more record
-pub one_more_read : {text : List ℕ} (salt : List ℕ) (c : NonZeroU32)
-    (es es' : List (List ℕ × Record)) (e : List ℕ × Record) (rest left : List ℕ)
-    → es' ≡ es ++ e ∷ [] → rest ≡ record_then e left
-    → text ≡ head_then salt c (lines_of es ++ rest) → text ≡ head_then salt c (lines_of es' ++ left)
-one_more_read salt c es es' e rest left added line whole =
-    whole ∙ ap (head_then salt c) (sym (ap (λ l. lines_of l ++ left) added
-    ∙ ap (λ l. l ++ left) (lines_of-append es (e ∷ []))
-    ∙ append_assoc (lines_of es) (record_then e []) left
-    ∙ ap (λ l. lines_of es ++ l) (record_then-append e [] left ∙ sym line)))
+-- a store whose first line was read has the lines behind it
+pub lines_behind : {Z : Type 0} {text : List ℕ} (s : PasswordStore Z) → IsStore s
+    → text_of s ≡ text → (salt : List ℕ) (c : NonZeroU32) (lines : List ℕ) → IsHead salt c
+    → text ≡ head_then salt c lines → AreLines lines
+lines_behind s h is salt c lines head whole =
+    let same = head_then-injective s.db_salt salt s.iterations c
+    (lines_of (table.entries s.records)) lines h.head head (is ∙ whole) in
+    record { records = s.records; entries = h.entries; whole = same.2 }
 
 no_more : (more : List (List ℕ × Record)) → lines_of more ≡ [] → more ≡ []
 no_more [] e = refl

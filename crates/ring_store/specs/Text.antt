@@ -2,9 +2,11 @@
 -- the order of names.
 use Rattle.std.specs.Prelude.{◌≡◌, ℕ, ◌^◌, ◌<◌, true, List, [], ◌∷◌, ◌++◌, length}
 use Rattle.std.specs.Prelude.{All, codes}
+use Rattle.std.specs.Cmp.Lexicographic.{slice_cmp}
 use Rattle.std.specs.Fmt.{decimal}
 use Rattle.std.specs.FinMap as table
 use Rattle.std.specs.Int.NonZero.{non_zero_u32_get}
+use Rattle.std.specs.Ordering.{nat_cmp}
 use Rattle.std.specs.declared.num.NonZeroU32.{NonZeroU32}
 use Rattle.hex.specs.Hex.{IsBytes, encode_lower}
 use Rattle.ring_store.specs.Store.{is_name}
@@ -59,3 +61,15 @@ pub record IsHead (db_salt : List ℕ) (c : NonZeroU32) : Type 0 where
 pub record IsStore {Z : Type 0} (s : PasswordStore Z) : Type 0 where
   pub head : IsHead s.db_salt s.iterations
   pub entries : All IsEntry (table.entries s.records)
+
+-- a store has the text
+pub record IsText (Z : Type 0) (text : List ℕ) : Type 0 where
+  pub store : PasswordStore Z
+  pub is : IsStore store
+  pub has : text_of store ≡ text
+
+-- the text is a line for each of some records, in the order of names
+pub record AreLines (lines : List ℕ) : Type 0 where
+  pub records : table.FinMap (slice_cmp nat_cmp) Record
+  pub entries : All IsEntry (table.entries records)
+  pub whole : lines_of (table.entries records) ≡ lines

@@ -1,8 +1,7 @@
 //! The lines of a store's text: each part has a call that writes it and one that reads it.
 
 ghost use Rattle.std.specs.Prelude.{◌≡◌, ◌≢◌, ◌↔◌, ℕ, ◌≤◌, List, [], ◌∷◌, ◌++◌, length, IfSome};
-ghost use Rattle.std.specs.Prelude.{IfOk};
-ghost use Rattle.std.specs.Prelude.{IsNone, IsTrue, IsErrOf, OnOk, OnErr, All, true};
+ghost use Rattle.std.specs.Prelude.{IsNone, IsTrue, OnOk, All, true};
 ghost use Rattle.hex.specs.Hex.{IsBytes, encode_lower, hex_digit_value};
 ghost use Rattle.std.specs.Char.{digit_value};
 ghost use Rattle.std.specs.Int.NonZero.{non_zero_u32_get};
@@ -10,16 +9,15 @@ ghost use Rattle.std.specs.Fmt.{decimal};
 ghost use Rattle.std.specs.declared.num.NonZeroU32.{NonZeroU32};
 ghost use Rattle.ring.specs.Cut.{IsFirstCut, IsWithout};
 ghost use Rattle.ring_store.specs.Store.{is_name};
-ghost use Rattle.ring_store.specs.Text.{IsCount, IsEntry, IsHead};
+ghost use Rattle.ring_store.specs.Text.{AreLines, IsCount, IsEntry, IsHead};
 ghost use Rattle.ring_store.specs.Text.{head_then, hex_then, count_then, record_then};
 ghost use Rattle.ring_store.specs.declared.records.Record.{Record};
 
 use crate::credential::{CREDENTIAL_LEN, DB_SALT_LEN, MAX_NAME_LEN};
-use crate::error::LoadError;
 use crate::records::Record;
-use hex::FromHexError;
 use itoa::Buffer;
 use memchr::memchr;
+use ring::polyfill::slice::write_at;
 use std::alloc::{AllocError, Allocator};
 use std::num::NonZeroU32;
 use std::str;
@@ -117,34 +115,21 @@ fn fill(digits: &[u8], out: &mut [u8]) -> bool
     hex::decode_to_slice(digits, &mut *out).is_ok() && is_hex_of(digits, &*out)
 }
 
-// The error for digits that don't decode.
-fn refusal(error: FromHexError) -> LoadError
-    ensures { result ≡ LoadError.BadText → error ≢ FromHexError.OutOfMemory }
-{
-    match error {
-        FromHexError::OutOfMemory => LoadError::Memory,
-        _ => LoadError::BadText,
-    }
-}
-
-// Decodes a name.
-fn name_in<A: Allocator>(alloc: A, digits: &[u8]) -> Result<Vec<u8, A>, LoadError>
-    ensures ok { IfOk result (λ name. (digits.now ≡ encode_lower name.items)
-        × IsBytes name.items × (is_name name.items ≡ true)) }
-    ensures refused { IsErrOf result LoadError.BadText → (name : List ℕ) → IsBytes name
-        → is_name name ≡ true → digits.now ≢ encode_lower name }
+// Decodes a name into `room`.
+fn name_in<'a>(digits: &[u8], room: &'a mut [u8; MAX_NAME_LEN]) -> Option<&'a [u8]>
+    ensures ok { IfSome result (λ name. (digits.now ≡ encode_lower name.now)
+        × IsBytes name.now × (is_name name.now ≡ true)) }
+    ensures refused { IsNone result → (name : List ℕ) → IsBytes name → is_name name ≡ true
+        → digits.now ≢ encode_lower name }
 {
     if digits.is_empty() || digits.len() > 2 * MAX_NAME_LEN {
-        return Err(LoadError::BadText);
+        return None;
     }
-    let name = match hex::decode(alloc, digits) {
-        Ok(name) => name,
-        Err(error) => return Err(refusal(error)),
-    };
-    if !is_hex_of(digits, &name) {
-        return Err(LoadError::BadText);
+    let name = &mut room[..digits.len() / 2];
+    if !fill(digits, &mut *name) {
+        return None;
     }
-    Ok(name)
+    Some(name)
 }
 
 // Reads an iteration count, which has no leading zero.
@@ -183,24 +168,24 @@ fn hex_before<'a>(text: &'a [u8], end: u8, out: &mut [u8]) -> Option<&'a [u8]>
     Some(rest)
 }
 
-// Reads a name and the byte `end`. Returns the name and the text after them.
-fn name_before<A: Allocator>(
-    alloc: A,
-    text: &[u8],
+// Reads a name into `room`, and the byte `end`. Returns the name and the text after them.
+fn name_before<'a, 'b>(
+    text: &'a [u8],
     end: u8,
-) -> Result<(Vec<u8, A>, &[u8]), LoadError>
+    room: &'b mut [u8; MAX_NAME_LEN],
+) -> Option<(&'b [u8], &'a [u8])>
     requires { hex_digit_value end ≡ None }
-    ensures ok { IfOk result (λ found. (text.now ≡ hex_then found.0.items end found.1.now)
-        × IsBytes found.0.items × (is_name found.0.items ≡ true)) }
-    ensures refused { IsErrOf result LoadError.BadText → (name rest : List ℕ) → IsBytes name
+    ensures ok { IfSome result (λ found. (text.now ≡ hex_then found.0.now end found.1.now)
+        × IsBytes found.0.now × (is_name found.0.now ≡ true)) }
+    ensures refused { IsNone result → (name rest : List ℕ) → IsBytes name
         → is_name name ≡ true → text.now ≢ hex_then name end rest }
 {
     let Some((digits, rest)) = cut_at(text, end) else {
-        return Err(LoadError::BadText);
+        return None;
     };
-    match name_in(alloc, digits) {
-        Ok(name) => Ok((name, rest)),
-        Err(error) => Err(error),
+    match name_in(digits, room) {
+        Some(name) => Some((name, rest)),
+        None => None,
     }
 }
 
@@ -241,28 +226,54 @@ pub(crate) fn head_in(text: &[u8]) -> Option<([u8; DB_SALT_LEN], NonZeroU32, &[u
     }
 }
 
-/// Reads the line of a record. Returns the name, the record and the text after it.
-pub(crate) fn record_in<A: Allocator>(
-    alloc: A,
-    text: &[u8],
-) -> Result<(Vec<u8, A>, Record, &[u8]), LoadError>
-    ensures ok { IfOk result (λ found.
-        (text.now ≡ record_then (found.0.items, found.1) found.2.now)
-        × IsEntry (found.0.items, found.1)) }
-    ensures refused { IsErrOf result LoadError.BadText → (e : List ℕ × Record) (rest : List ℕ)
+/// Reads the line of a record, with its name in `room`. Returns the name, the record and the text
+/// after it.
+pub(crate) fn record_in<'a, 'b>(
+    text: &'a [u8],
+    room: &'b mut [u8; MAX_NAME_LEN],
+) -> Option<(&'b [u8], Record, &'a [u8])>
+    ensures ok { IfSome result (λ found.
+        (text.now ≡ record_then (found.0.now, found.1) found.2.now)
+        × IsEntry (found.0.now, found.1)) }
+    ensures refused { IsNone result → (e : List ℕ × Record) (rest : List ℕ)
         → IsEntry e → text.now ≢ record_then e rest }
 {
-    let (name, rest) = name_before(alloc, text, b' ')?;
+    let Some((name, rest)) = name_before(text, b' ', room) else {
+        return None;
+    };
     let Some((iterations, rest)) = count_before(rest, b' ') else {
-        return Err(LoadError::BadText);
+        return None;
     };
     let mut credential = [0; CREDENTIAL_LEN];
     let Some(rest) = hex_before(rest, b'\n', &mut credential) else {
-        return Err(LoadError::BadText);
+        return None;
     };
     let kept = Record {
         iterations,
         credential,
     };
-    Ok((name, kept, rest))
+    Some((name, kept, rest))
+}
+
+/// Whether the text is a line for each of some records, in the order of names.
+pub(crate) fn are_lines(lines: &[u8]) -> bool
+    ensures { IsTrue result ↔ AreLines lines.now }
+{
+    let mut rest = lines;
+    let mut last = [0; MAX_NAME_LEN];
+    // The empty name comes before each other one.
+    let mut last_len = 0;
+    while !rest.is_empty() {
+        let mut room = [0; MAX_NAME_LEN];
+        let Some((name, _, behind)) = record_in(rest, &mut room) else {
+            return false;
+        };
+        if !last[..last_len].cmp(name).is_lt() {
+            return false;
+        }
+        write_at(&mut last, 0, name);
+        last_len = name.len();
+        rest = behind;
+    }
+    true
 }

@@ -1,13 +1,12 @@
 use Rattle.std.proofs.Common.{◌≡◌, ◌++◌, length, All}
 use Rattle.std.specs.FinMap as table
-use Rattle.ring_store.specs.Text.{IsEntry, IsHead, head_then, lines_of}
-use Rattle.ring_store.proofs.store.PasswordStore.from_text.Given as goal
+use Rattle.ring_store.specs.Text.{IsEntry, lines_of}
+use Rattle.ring_store.proofs.saved.records_in.Given as goal
 
--- the text is that of what was read, and then the rest
+-- the lines are those of what was read, and then the rest
 abbrev pub invariant-loop-rest : goal.invariant-loop-rest
 invariant-loop-rest g l = record {
-  whole : l.text ≡ head_then l.db_salt l.iterations (lines_of (table.entries l.records) ++ l.rest);
-  head : IsHead l.db_salt l.iterations;
+  whole : l.lines ≡ lines_of (table.entries l.records) ++ l.rest;
   each : All IsEntry (table.entries l.records);
 }
 

@@ -11,7 +11,7 @@ use Rattle.ring_store.specs.declared.records.Record.{Record}
 use Rattle.ring_store.proofs.Entries.{IsBehind-push, entries-empty, entries-insert_last}
 use Rattle.ring_store.proofs.Entries.{IsBehind-none, sorted_front}
 use Rattle.ring_store.proofs.Names.{order}
-use Rattle.ring_store.proofs.Texts.{lines_of-append, lines_of-first}
+use Rattle.ring_store.proofs.Texts.{lines_of-append, lines_of-cons, lines_of-first}
 use Rattle.ring_store.proofs.Texts.{record_then-append, record_then-grows, record_then-injective}
 
 -- the entry that comes next, behind entries es of fs
@@ -29,7 +29,7 @@ next_of es fs rest (e ∷ more) whole lines each some = record {
   entry = e;
   others = more;
   whole = whole;
-  line = sym lines;
+  line = sym lines ∙ lines_of-cons e more;
   is = All-head IsEntry e more each;
 }
 
@@ -79,6 +79,7 @@ pub one_more_read : {lines : List ℕ} (es es' : List (List ℕ × Record)) (e :
 one_more_read es es' e rest left added line whole =
     whole ∙ sym (ap (λ l. lines_of l ++ left) added
     ∙ ap (λ l. l ++ left) (lines_of-append es (e ∷ []))
+    ∙ ap (λ l. (lines_of es ++ l) ++ left) (append-nil (record_then e []))
     ∙ append_assoc (lines_of es) (record_then e []) left
     ∙ ap (λ l. lines_of es ++ l) (record_then-append e [] left ∙ sym line))
 

@@ -24,7 +24,7 @@ use Rattle.ring_store.specs.declared.store.PasswordStore.{PasswordStore}
 use Rattle.ring_store.proofs.Entries.{entries-empty}
 use Rattle.ring_store.proofs.Names.{order}
 use Rattle.ring_store.proofs.Texts.{More, head_then-injective, lines_of-first}
-use Rattle.ring_store.proofs.Texts.{no_line}
+use Rattle.ring_store.proofs.Texts.{lines_of-cons, no_line}
 
 -- a store whose text begins with these salt, iterations and lines
 module _ {Z : Type 0} {text : List ℕ} (s : PasswordStore Z) (h : IsStore s) (is : text_of s ≡ text)
@@ -51,7 +51,7 @@ lines_behind s h is salt c lines head whole =
 
 no_more : (more : List (List ℕ × Record)) → lines_of more ≡ [] → more ≡ []
 no_more [] e = refl
-no_more (x ∷ more) e = absurd (no_line x (lines_of more) e)
+no_more (x ∷ more) e = absurd (no_line x (lines_of more) (sym (lines_of-cons x more) ∙ e))
 
 -- two stores of one text are equal
 pub text_of-injective : {Z : Type 0} (s t : PasswordStore Z) → IsStore s → IsStore t
@@ -121,4 +121,6 @@ text_of_two Z one two e1 e2 =
     let b : Record = record { iterations = one; credential = range_with_len 224 32 } in
     ap (λ es. head_then (range_with_len 0 16) two (lines_of es))
     (entries_of_two (codes "alice") (codes "bob") a b refl)
+    ∙ ap (head_then (range_with_len 0 16) two) (lines_of-cons (codes "alice", a) ((codes "bob", b) ∷ [])
+    ∙ ap (record_then (codes "alice", a)) (lines_of-cons (codes "bob", b) []))
     ∙ ap (λ n. example n (non_zero_u32_get two)) e1 ∙ ap (example 1) e2 ∙ example_text

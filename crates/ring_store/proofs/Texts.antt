@@ -10,6 +10,7 @@ use Rattle.std.specs.Str.Parse.{AllDigits}
 use Rattle.std.specs.Int.NonZero.{non_zero_u32_get}
 use Rattle.std.specs.declared.num.NonZeroU32.{NonZeroU32}
 use Rattle.std.proofs.lemmas.Bool.{eqb-true, eq-eqb}
+use Rattle.std.proofs.lemmas.Grind.{flat_map-append}
 use Rattle.std.proofs.lemmas.Fmt.{decimal_is_IsNumeral, decimal_injective}
 use Rattle.std.proofs.lemmas.List.Elements.{All-nil, All-cons, All-head, All-tail}
 use denote.Struct.Props.{props}
@@ -183,20 +184,21 @@ pub record_then-append : (e : List ℕ × Record) (s t : List ℕ)
 unfolding record_then
 record_then-append e s t = simp append_assoc
 
+-- the first line, and then the others
+pub lines_of-cons : (e : List ℕ × Record) (es : List (List ℕ × Record))
+    → lines_of (e ∷ es) ≡ record_then e (lines_of es)
+lines_of-cons e es = record_then-append e [] (lines_of es)
+
 pub lines_of-append : (es fs : List (List ℕ × Record))
     → lines_of (es ++ fs) ≡ lines_of es ++ lines_of fs
-lines_of-append [] fs = refl
-lines_of-append (e ∷ es) fs =
-    ap (record_then e) (lines_of-append es fs)
-    ∙ sym (record_then-append e (lines_of es) (lines_of fs))
+lines_of-append es fs = flat_map-append (λ e. record_then e []) es fs
 
 -- what was written with one more line, where the line and those after it were left
 pub one_more_line : {after whole : List ℕ} (out : List ℕ) (e : List ℕ × Record)
     (es : List (List ℕ × Record)) → after ≡ out ++ record_then e []
     → out ++ lines_of (e ∷ es) ≡ whole → after ++ lines_of es ≡ whole
 one_more_line out e es written left =
-    ap (λ l. l ++ lines_of es) written ∙ append_assoc out (record_then e []) (lines_of es)
-    ∙ ap (λ l. out ++ l) (record_then-append e [] (lines_of es)) ∙ left
+    ap (λ l. l ++ lines_of es) written ∙ append_assoc out (record_then e []) (lines_of es) ∙ left
 
 -- records whose lines begin a text of lines are the first of those records
 pub record More (es fs : List (List ℕ × Record)) (rest : List ℕ) : Type 0 where
@@ -210,15 +212,20 @@ no_line e s h =
     let grows = record_then-grows e s in
     absurd (omega (arith, grows, ap length h))
 
+cons_then : (e : List ℕ × Record) (es : List (List ℕ × Record)) (rest : List ℕ)
+    → lines_of (e ∷ es) ++ rest ≡ record_then e (lines_of es ++ rest)
+cons_then e es rest =
+    ap (λ l. l ++ rest) (lines_of-cons e es) ∙ record_then-append e (lines_of es) rest
+
 pub lines_of-first : (es fs : List (List ℕ × Record)) (rest : List ℕ) → All IsEntry es
     → All IsEntry fs → lines_of fs ≡ lines_of es ++ rest → More es fs rest
 lines_of-first [] fs rest he hf same = record { more = fs; whole = refl; lines = same; each = hf }
 lines_of-first (e ∷ es) [] rest he hf same =
-    absurd (no_line e (lines_of es ++ rest) (sym (same ∙ record_then-append e (lines_of es) rest)))
+    absurd (no_line e (lines_of es ++ rest) (sym (same ∙ cons_then e es rest)))
 lines_of-first (e ∷ es) (f ∷ fs) rest he hf same =
     let one = record_then-injective f e (lines_of fs) (lines_of es ++ rest)
     (All-head IsEntry f fs hf) (All-head IsEntry e es he)
-    (same ∙ record_then-append e (lines_of es) rest) in
+    (sym (lines_of-cons f fs) ∙ same ∙ cons_then e es rest) in
     let others = lines_of-first es fs rest (All-tail IsEntry e es he) (All-tail IsEntry f fs hf)
     one.1 in
     record {

@@ -6,6 +6,7 @@ use Rattle.std.specs.Cmp.Lexicographic.{slice_cmp}
 use Rattle.std.specs.Fmt.{decimal}
 use Rattle.std.specs.FinMap as table
 use Rattle.std.specs.Int.NonZero.{non_zero_u32_get}
+use Rattle.std.specs.List.{flat_map}
 use Rattle.std.specs.Ordering.{nat_cmp}
 use Rattle.std.specs.declared.num.NonZeroU32.{NonZeroU32}
 use Rattle.hex.specs.Hex.{IsBytes, encode_lower}
@@ -28,8 +29,7 @@ record_then e rest =
 
 -- a line for each record
 abbrev pub lines_of : List (List ℕ × Record) → List ℕ
-lines_of [] = []
-lines_of (e ∷ es) = record_then e (lines_of es)
+lines_of es = flat_map (λ e. record_then e []) es
 
 -- `ring_store 1 SALT ITERATIONS`, a line feed, and the rest
 unfoldable pub head_then : (db_salt : List ℕ) (c : NonZeroU32) (rest : List ℕ) → List ℕ

@@ -1,15 +1,16 @@
 //! Contexts and keys that are kept as plain numbers between two calls.
 
-ghost use Rattle.std.specs.Prelude.{◌≡◌, ◌↔◌, ℕ, List, ◌++◌};
-ghost use Rattle.std.specs.Prelude.{IfOk, IfSome, IsFalse, IsNone, IsSomeAnd, IsTrue, None, Some};
-ghost use Rattle.ring.specs.Prelude.{IsDigest, IsNoContext, IsNoTagContext, IsTag, KeyStandsFor};
-ghost use Rattle.ring.specs.Prelude.{RawKeyStandsFor, RawStandsFor, RawTagStandsFor, digest_named};
-ghost use Rattle.ring.specs.Prelude.{hmac_digest, key_algorithm};
+ghost use Rattle.std.specs.Prelude.{◌≡◌, ◌↔◌, ℕ, List, ◌++◌, length};
+ghost use Rattle.std.specs.Prelude.{IfOk, IfSome, IsFalse, IsNone, IsOk, IsSomeAnd, IsTrue, None};
+ghost use Rattle.std.specs.Prelude.{Some};
+ghost use Rattle.ring.specs.Prelude.{IsDigest, IsNoContext, IsNoTagContext, IsTag, IsTagWithin};
+ghost use Rattle.ring.specs.Prelude.{KeyStandsFor, RawKeyStandsFor, RawStandsFor, RawTagStandsFor};
+ghost use Rattle.ring.specs.Prelude.{digest_named, hmac_digest, key_algorithm, raw_tag_under};
 ghost use Rattle.ring.specs.declared.digest.algorithm.Algorithm as digest;
 
 use ring::digest::{Algorithm, Context, Digest, digest};
 use ring::error::Unspecified;
-use ring::hmac::{self, Key, Tag, sign};
+use ring::hmac::{self, Key, Tag, sign, verify};
 use ring::raw::{RawContext, RawKey, RawTagContext, digest_of_number, number_of_digest};
 
 /// The numbers of a context that has taken `input`.
@@ -66,6 +67,21 @@ pub fn tag_under_raw(numbers: &RawKey, message: &[u8]) -> Option<Result<Tag, Uns
 {
     let key = numbers.key()?;
     Some(sign(&key, message))
+}
+
+/// Whether `tag` is the tag of a message under the numbers of any key, also those that no call made:
+/// `None` where they are no key's.
+pub fn verify_under_raw(
+    numbers: &RawKey,
+    message: &[u8],
+    tag: &[u8],
+) -> Option<Result<(), Unspecified>>
+    ensures any { (a : digest.Algorithm) → digest_named numbers.now.algorithm ≡ Some a
+        → IsSomeAnd result (λ verified. IsOk verified ↔ (IsTagWithin a (length message.now)
+        × (tag.now ≡ raw_tag_under a numbers.now message.now))) }
+{
+    let key = numbers.key()?;
+    Some(verify(&key, message, tag))
 }
 
 /// The numbers of a tag's context that has taken `input`.

@@ -3,13 +3,13 @@
 ghost use Rattle.std.specs.Prelude.{◌≡◌, ◌≢◌, ◌⊎◌, Ok, false, true};
 ghost use Rattle.std.specs.Prelude.{IfErr, IfOk, IfSome, IsErrOf, IsNone, OnErr, OnOk};
 ghost use Rattle.std.specs.Int.NonZero.{non_zero_u32_get};
-ghost use Rattle.ring_store.specs.Store.{admission, knows, verdict, with_password, without};
+ghost use Rattle.ring_store.specs.Store.{admission, is_name, knows, verdict, with_password, without};
 ghost use Rattle.ring_store.specs.Text.{IsStore, text_of};
 ghost use Rattle.ring_store.specs.declared.store.PasswordStore.{PasswordStore};
 ghost use Rattle.ring_passwords.specs.Change.{told, with_given};
 
 use crate::failure::Failure;
-use ring_store::PasswordStore;
+use ring_store::{MAX_NAME_LEN, PasswordStore};
 use std::alloc::Global;
 use std::num::NonZeroU32;
 
@@ -26,6 +26,18 @@ pub fn iterations_of_new(given: Option<NonZeroU32>) -> NonZeroU32
         Some(iterations) => iterations,
         None => NonZeroU32::new(ADVISED_ITERATIONS).unwrap(),
     }
+}
+
+/// Refuses a name that has no byte, or more than 64.
+pub fn require_name(name: &[u8]) -> Result<(), Failure>
+    ensures ok { OnOk result (is_name name.now ≡ true) }
+    ensures refused { IfErr result (λ failure. (failure ≡ Failure.BadName)
+        × (is_name name.now ≡ false)) }
+{
+    if name.is_empty() || name.len() > MAX_NAME_LEN {
+        return Err(Failure::BadName);
+    }
+    Ok(())
 }
 
 /// Sets the password of a name. Where iterations are given, they are the store's from now on.

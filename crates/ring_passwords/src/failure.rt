@@ -46,6 +46,8 @@ pub enum Failure {
     NoSuchName,
     /// There is no such file.
     NoFile,
+    /// The folder of the file is not there.
+    NoFolder,
     /// The path is not that of a regular file.
     NotAFile,
     /// The file does not have the text of a store.
@@ -107,6 +109,7 @@ impl fmt::Display for Failure {
             Failure::WrongNameOrPassword => write!(f, "wrong name or password"),
             Failure::NoSuchName => write!(f, "no such name"),
             Failure::NoFile => write!(f, "no such file"),
+            Failure::NoFolder => write!(f, "no such folder"),
             Failure::NotAFile => write!(f, "not a regular file"),
             Failure::NotAStore => write!(f, "not a password store"),
             Failure::InUse => write!(f, "another process has locked the file"),

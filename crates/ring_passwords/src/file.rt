@@ -43,8 +43,21 @@ pub fn require_regular<R: Files>(rt: &R, path: &str) -> Result<(), Failure>
     match fs::symlink_metadata(rt, path) {
         Ok(metadata) if metadata.is_file() => Ok(()),
         Ok(_) => Err(Failure::NotAFile),
-        Err(error) if error.kind() == ErrorKind::NotFound => Err(Failure::NoFile),
+        Err(error) if error.kind() == ErrorKind::NotFound => Err(missing(rt, path)),
         Err(error) => Err(Failure::System(Step::ReadFile, error)),
+    }
+}
+
+/// Why a file is not there: it, or its folder. A path that ends in a slash is that of a folder.
+fn missing<R: Files>(rt: &R, path: &str) -> Failure
+    ensures status { status_of result ≡ 2 }
+{
+    if path.is_empty() || path.ends_with('/') {
+        return Failure::NoFolder;
+    }
+    match fs::metadata(rt, folder_of(path)) {
+        Err(error) if error.kind() == ErrorKind::NotFound => Failure::NoFolder,
+        _ => Failure::NoFile,
     }
 }
 

@@ -5,7 +5,7 @@
 //! messages.
 #![tactic(auto)]
 
-ghost use Rattle.std.specs.Prelude.{◌≡◌, IfErr};
+ghost use Rattle.std.specs.Prelude.{◌≡◌, ◌⊎◌, IfErr};
 ghost use Rattle.ring_passwords.specs.Failure.{status_of};
 
 use crate::action::{Action, action_of};
@@ -56,6 +56,15 @@ fn new_store<R: RandomSource + AllocGlobal>(
     Ok(PasswordStore::new(rt.alloc(), salt, iterations))
 }
 
+/// Refuses a name and a file for which no password can be right, before one is read.
+fn look<R: Files + AllocGlobal>(rt: &R, path: &str, name: &[u8]) -> Result<(), Failure>
+    ensures status { IfErr result (λ failure. status_of failure ≡ 2) }
+{
+    change::require_name(name)?;
+    file::load(rt, path)?;
+    Ok(())
+}
+
 /// Sets a name's password in a file, which need not be there.
 fn set<R: Files<File = File> + AllocGlobal + Clock + Input + RandomSource>(
     rt: &R,
@@ -65,6 +74,10 @@ fn set<R: Files<File = File> + AllocGlobal + Clock + Input + RandomSource>(
 ) -> Result<(), Failure>
     ensures status { IfErr result (λ failure. status_of failure ≡ 2) }
 {
+    match look(rt, path, name) {
+        Err(Failure::NoFile) => {}
+        looked => looked?,
+    }
     let password = read_password(rt.alloc(), &mut rt.reader())?;
     let file = LockedFile::new(rt, path)?;
     let mut store = match file.load(rt) {
@@ -76,7 +89,11 @@ fn set<R: Files<File = File> + AllocGlobal + Clock + Input + RandomSource>(
 }
 
 /// Tests a name's password against a file.
-fn verify<R: Files + AllocGlobal + Input>(rt: &R, path: &str, name: &[u8]) -> Result<(), Failure> {
+fn verify<R: Files + AllocGlobal + Input>(rt: &R, path: &str, name: &[u8]) -> Result<(), Failure>
+    ensures status { IfErr result (λ failure. (status_of failure ≡ 2)
+        ⊎ (failure ≡ Failure.WrongNameOrPassword)) }
+{
+    look(rt, path, name)?;
     let password = read_password(rt.alloc(), &mut rt.reader())?;
     let store = file::load(rt, path)?;
     change::verify(&store, name, &password)
@@ -87,7 +104,10 @@ fn remove<R: Files<File = File> + AllocGlobal + Clock>(
     rt: &R,
     path: &str,
     name: &[u8],
-) -> Result<(), Failure> {
+) -> Result<(), Failure>
+    ensures status { IfErr result (λ failure. (status_of failure ≡ 2)
+        ⊎ (failure ≡ Failure.NoSuchName)) }
+{
     file::require_regular(rt, path)?;
     let file = LockedFile::new(rt, path)?;
     let mut store = file.load(rt)?;

@@ -1,6 +1,6 @@
 //! The password, which is one line of standard input.
 
-ghost use Rattle.std.specs.Prelude.{◌≡◌, [], IfErr, IfOk, IfSome, IsErrOf};
+ghost use Rattle.std.specs.Prelude.{◌≡◌, ◌≢◌, [], IfErr, IfOk, IfSome, IsErrOf, OnOk};
 ghost use Rattle.std.specs.Io.BufRead.{first_piece};
 ghost use Rattle.ring_passwords.specs.Failure.{status_of};
 
@@ -18,6 +18,7 @@ const LINE_FEED: u8 = b'\n';
 pub fn read_password<R: BufRead>(alloc: Global, reader: &mut R) -> Result<Vec<u8>, Failure>
     ensures ok { IfOk result (λ password. IfSome (R.remaining reader.old)
         (λ bytes. password.items ≡ first_piece 10 bytes)) }
+    ensures some { OnOk result (IfSome (R.remaining reader.old) (λ bytes. bytes ≢ [])) }
     ensures none { IsErrOf result Failure.NoPassword
         → IfSome (R.remaining reader.old) (λ bytes. bytes ≡ []) }
     ensures status { IfErr result (λ failure. status_of failure ≡ 2) }

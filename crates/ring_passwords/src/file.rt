@@ -8,9 +8,9 @@ ghost use Rattle.ring_passwords.specs.File.{folder_in};
 use crate::change::store_in;
 use crate::failure::{Failure, Step};
 use ring_store::PasswordStore;
-use std::fs::{File, OpenOptions, TryLockError};
+use std::fs::{File, OpenOptions, Permissions, TryLockError};
 use std::io::{ErrorKind, Write};
-use std::os::unix::fs::OpenOptionsExt;
+use std::os::unix::fs::{MetadataExt, OpenOptionsExt, PermissionsExt, fchown};
 use std::path::Path;
 use std::rt::{Clock, Files};
 use std::time::Duration;
@@ -18,6 +18,9 @@ use std::{fs, io, thread};
 
 /// The mode of a new file: its owner alone reads and writes it.
 const OWNER_ONLY: u32 = 0o600;
+
+/// The bits of a mode that say who reads, writes and runs a file.
+const PERMISSION_BITS: u32 = 0o777;
 
 /// How often a lock that another process holds is tried, and the pause after each try: a minute.
 const TRIES: u32 = 3_000;
@@ -157,8 +160,26 @@ fn put<R: Files<File = File>>(rt: &R, new_path: &str, path: &str, text: &[u8]) -
     options.mode(OWNER_ONLY);
     let mut file = options.open(rt, new_path)?;
     file.write_all(text)?;
+    keep_access(rt, path, &file)?;
     file.sync_all()?;
     fs::rename(rt, new_path, path)
+}
+
+/// Gives a new file the owner, the group and the mode of the file that it replaces, if there is one.
+///
+/// The system may refuse the owner or the group. Without the group the mode stays that of a new
+/// file, so that no other group gets what the old one had.
+fn keep_access<R: Files>(rt: &R, path: &str, file: &File) -> io::Result<()> {
+    let old = match fs::symlink_metadata(rt, path) {
+        Ok(old) if old.is_file() => old,
+        Err(error) if error.kind() != ErrorKind::NotFound => return Err(error),
+        _ => return Ok(()),
+    };
+    let group = Some(old.gid());
+    if fchown(file, Some(old.uid()), group).is_err() && fchown(file, None, group).is_err() {
+        return Ok(());
+    }
+    file.set_permissions(Permissions::from_mode(old.mode() & PERMISSION_BITS))
 }
 
 /// Removes a new file that a run left which was ended before its time.

@@ -2,7 +2,7 @@
 use Rattle.std.specs.Prelude.{ℕ, zero, suc, Bool, not, ◌&&◌, ◌==◌, nat_le, if◌then◌else◌}
 use Rattle.std.specs.Prelude.{List, [], ◌∷◌, ◌++◌, Option, Some, None, codes}
 use Rattle.std.specs.List.{flat_map}
-use Rattle.ring_store.specs.Store.{nth_name}
+use Rattle.ring_store.specs.Store.{names_count, nth_name}
 use Rattle.ring_store.specs.declared.store.PasswordStore.{PasswordStore}
 use Rattle.hex.specs.Hex.{encode_lower}
 
@@ -27,3 +27,7 @@ line_if (Some name) = line_of name
 abbrev pub lines_of : {Z : Type 0} → PasswordStore Z → ℕ → List ℕ
 lines_of s zero = []
 lines_of s (suc n) = lines_of s n ++ line_if (nth_name s n)
+
+-- the lines of all names
+abbrev pub listing_of : {Z : Type 0} → PasswordStore Z → List ℕ
+listing_of s = lines_of s (names_count s)

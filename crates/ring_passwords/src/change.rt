@@ -1,21 +1,27 @@
 //! What is done with a store, once it is read.
 
-ghost use Rattle.std.specs.Prelude.{◌≡◌, ◌≢◌, ◌⊎◌, Ok, false, true};
-ghost use Rattle.std.specs.Prelude.{IfErr, IfOk, IfSome, IsErrOf, IsNone, OnErr, OnOk};
+ghost use Rattle.std.specs.Prelude.{◌≡◌, ◌≢◌, ◌⊎◌, ◌↔◌, ◌<◌, Ok, false, true};
+ghost use Rattle.std.specs.Prelude.{IfErr, IfOk, IfSome, IsErrOf, IsNone, IsSome, IsTrue, OnErr, OnOk};
 ghost use Rattle.std.specs.Int.NonZero.{non_zero_u32_get};
-ghost use Rattle.ring_store.specs.Store.{admission, is_name, knows, verdict, with_password, without};
+ghost use Rattle.ring.specs.Cost.{raised};
+ghost use Rattle.ring_store.specs.Store.{admission, is_name, knows, record_blocks, verdict};
+ghost use Rattle.ring_store.specs.Store.{verify_blocks, with_password, without};
 ghost use Rattle.ring_store.specs.Text.{IsStore, text_of};
 ghost use Rattle.ring_store.specs.declared.store.PasswordStore.{PasswordStore};
 ghost use Rattle.ring_passwords.specs.Change.{told, with_given};
 
 use crate::failure::Failure;
-use ring_store::{MAX_NAME_LEN, PasswordStore};
+use ring::cost::Meter;
+use ring_store::{CREDENTIAL_LEN, MAX_NAME_LEN, PasswordStore};
 use std::alloc::Global;
 use std::num::NonZeroU32;
 
 /// The iterations of a new store where none are given: what OWASP advises for PBKDF2 with
 /// HMAC-SHA-256 (Password Storage Cheat Sheet, 2023).
-const ADVISED_ITERATIONS: u32 = 600_000;
+pub const ADVISED_ITERATIONS: u32 = 600_000;
+
+/// The fewest iterations that can be given without a warning.
+pub const FEWEST_ITERATIONS: u32 = 100_000;
 
 /// The iterations of a new store.
 pub fn iterations_of_new(given: Option<NonZeroU32>) -> NonZeroU32
@@ -25,6 +31,17 @@ pub fn iterations_of_new(given: Option<NonZeroU32>) -> NonZeroU32
     match given {
         Some(iterations) => iterations,
         None => NonZeroU32::new(ADVISED_ITERATIONS).unwrap(),
+    }
+}
+
+/// Whether iterations are given, and so few that a guess at a password costs too little.
+pub fn is_few(given: Option<NonZeroU32>) -> bool
+    ensures few { IsTrue result → IsSome given }
+    ensures given { IfSome given (λ c. IsTrue result ↔ (non_zero_u32_get c < 100_000)) }
+{
+    match given {
+        Some(iterations) => iterations.get() < FEWEST_ITERATIONS,
+        None => false,
     }
 }
 
@@ -41,11 +58,13 @@ pub fn require_name(name: &[u8]) -> Result<(), Failure>
 }
 
 /// Sets the password of a name. Where iterations are given, they are the store's from now on.
+/// `meter` counts the blocks.
 pub fn set(
     store: &mut PasswordStore,
     name: &[u8],
     password: &[u8],
     iterations: Option<NonZeroU32>,
+    meter: &mut Meter,
 ) -> Result<(), Failure>
     ensures ok { OnOk result
         (store.new ≡ with_password (with_given store.old iterations) name.now password.now) }
@@ -53,20 +72,36 @@ pub fn set(
         ⊎ IsErrOf result Failure.Memory }
     ensures memory { IsErrOf result Failure.Memory
         → (admission name.now password.now ≡ Ok tt) × (knows store.old name.now ≡ false) }
-    ensures unchanged { OnErr result (store.new ≡ with_given store.old iterations) }
+    ensures unchanged { OnErr result (store.new ≡ store.old) }
+    ensures cost { admission name.now password.now ≡ Ok tt → meter.new ≡ raised meter.old
+        (record_blocks (with_given store.old iterations) name.now password.now) 0 }
+    ensures cost_untested { admission name.now password.now ≢ Ok tt → meter.new ≡ meter.old }
 {
+    let before = store.iterations();
     if let Some(iterations) = iterations {
         store.set_iterations(iterations);
     }
-    store.set_password(name, password)?;
+    if let Err(error) = store.set_password_counted(name, password, meter) {
+        store.set_iterations(before);
+        return Err(Failure::from(error));
+    }
     Ok(())
 }
 
-/// Tests the password of a name.
-pub fn verify(store: &PasswordStore, name: &[u8], password: &[u8]) -> Result<(), Failure>
-    ensures { result ≡ told (verdict store.now name.now password.now) }
+/// Tests the password of a name. `meter` counts the blocks and the compared pairs of bytes: as many
+/// for a name without a record as for a record of the store's iterations.
+pub fn verify(
+    store: &PasswordStore,
+    name: &[u8],
+    password: &[u8],
+    meter: &mut Meter,
+) -> Result<(), Failure>
+    ensures refused { result ≡ told (verdict store.now name.now password.now) }
+    ensures cost { admission name.now password.now ≡ Ok tt → meter.new ≡ raised meter.old
+        (verify_blocks store.now name.now password.now) CREDENTIAL_LEN }
+    ensures cost_untested { admission name.now password.now ≢ Ok tt → meter.new ≡ meter.old }
 {
-    store.check_password(name, password)?;
+    store.check_password_counted(name, password, meter)?;
     Ok(())
 }
 

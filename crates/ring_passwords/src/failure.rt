@@ -4,6 +4,7 @@ ghost use Rattle.std.specs.Prelude.{◌≡◌};
 ghost use Rattle.ring_passwords.specs.Failure.{failure_of, load_failure_of, status_of};
 ghost use Rattle.ring_passwords.specs.declared.failure.Failure.TheVariants.{Memory};
 
+use crate::about::USAGE;
 use ring_store::{LoadError, StoreError};
 use std::alloc::AllocError;
 use std::{fmt, io};
@@ -27,6 +28,8 @@ pub enum Step {
     SyncFolder,
     /// The names on standard output.
     WriteNames,
+    /// What the program tells of itself, on standard output.
+    WriteAbout,
 }
 
 /// Why a run ends without success.
@@ -34,6 +37,8 @@ pub enum Step {
 pub enum Failure {
     /// The arguments ask for nothing that the program does.
     Usage,
+    /// What is given as iterations is no number, or none that a store can have.
+    BadIterations,
     /// Standard input ends before the first byte of a line.
     NoPassword,
     /// The name has no byte, or more than 64.
@@ -66,11 +71,6 @@ pub const NOT_FOUND: u8 = 1;
 /// The exit status of every other failure.
 pub const FAILED: u8 = 2;
 
-const USAGE: &str = "usage: passwords FILE set NAME [--iterations N]
-       passwords FILE verify NAME
-       passwords FILE remove NAME
-       passwords FILE list";
-
 impl Failure {
     /// The exit status of the run.
     pub fn status(&self) -> u8
@@ -94,6 +94,7 @@ impl fmt::Display for Step {
             Step::Replace => write!(f, "cannot replace the file"),
             Step::SyncFolder => write!(f, "replaced the file, but cannot sync its folder"),
             Step::WriteNames => write!(f, "cannot write the names"),
+            Step::WriteAbout => write!(f, "cannot write to standard output"),
         }
     }
 }
@@ -103,6 +104,9 @@ impl fmt::Display for Failure {
     fn fmt<W: fmt::Write>(&self, f: &mut fmt::Formatter<W>) -> fmt::Result {
         match self {
             Failure::Usage => f.write_str(USAGE),
+            Failure::BadIterations => {
+                write!(f, "--iterations takes a number from 1 to 4294967295")
+            }
             Failure::NoPassword => write!(f, "no password on standard input"),
             Failure::BadName => write!(f, "a name has 1 to 64 bytes"),
             Failure::TooLong => write!(f, "the password is too long"),

@@ -1,11 +1,14 @@
 //! The names as lines.
 
-ghost use Rattle.std.specs.Prelude.{◌≡◌, ◌++◌, IfOk, OnOk};
-ghost use Rattle.ring_passwords.specs.Listing.{is_plain, line_of, lines_of, shown};
-ghost use Rattle.ring_store.specs.Store.{names_count};
+ghost use Rattle.std.specs.Prelude.{◌≡◌, ◌++◌, IfErr, IfOk, OnOk};
+ghost use Rattle.std.specs.Io.KnownBytes.{Appends};
+ghost use Rattle.ring_passwords.specs.Failure.{status_of};
+ghost use Rattle.ring_passwords.specs.Listing.{is_plain, line_of, listing_of, shown};
 
+use crate::failure::{Failure, Step};
 use ring_store::PasswordStore;
 use std::alloc::{AllocError, Global};
+use std::io::Write;
 
 /// Ends a line.
 const LINE_FEED: u8 = b'\n';
@@ -46,8 +49,8 @@ fn append_line(out: &mut Vec<u8>, name: &[u8]) -> Result<(), AllocError>
 }
 
 /// A line for each name, in their order.
-pub fn listing_of(alloc: Global, store: &PasswordStore) -> Result<Vec<u8>, AllocError>
-    ensures ok { IfOk result (λ lines. lines.items ≡ lines_of store.now (names_count store.now)) }
+fn listing_of(alloc: Global, store: &PasswordStore) -> Result<Vec<u8>, AllocError>
+    ensures ok { IfOk result (λ lines. lines.items ≡ listing_of store.now) }
 {
     let mut out = Vec::new(alloc);
     for index in 0..store.len() {
@@ -56,4 +59,21 @@ pub fn listing_of(alloc: Global, store: &PasswordStore) -> Result<Vec<u8>, Alloc
         }
     }
     Ok(out)
+}
+
+/// Writes a line for each name, in their order.
+pub fn write_listing<W: Write>(
+    alloc: Global,
+    store: &PasswordStore,
+    writer: &mut W,
+) -> Result<(), Failure>
+    ensures written { OnOk result (Appends (W.contents writer.old) (W.contents writer.new)
+        (listing_of store.now)) }
+    ensures status { IfErr result (λ failure. status_of failure ≡ 2) }
+{
+    let lines = listing_of(alloc, store)?;
+    match writer.write_all(&lines) {
+        Ok(()) => Ok(()),
+        Err(error) => Err(Failure::System(Step::WriteNames, error)),
+    }
 }

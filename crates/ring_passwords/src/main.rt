@@ -1,4 +1,5 @@
-//! Keeps passwords in a file: `FILE set|verify|remove NAME` and `FILE list`.
+//! Keeps passwords in a file: `FILE set|verify|remove NAME` and `FILE list`. `--help` and
+//! `--version` tell of the program.
 //!
 //! A password is one line of standard input. The file has the text of a store, as `ring_store`
 //! writes it, and is replaced whole or not at all. `docs/PASSWORDS.md` has the statuses and the
@@ -8,20 +9,23 @@
 ghost use Rattle.std.specs.Prelude.{◌≡◌, ◌⊎◌, IfErr};
 ghost use Rattle.ring_passwords.specs.Failure.{status_of};
 
-use crate::action::{Action, action_of};
+use crate::about::{About, write_about};
+use crate::action::{Action, about_of, action_of};
+use crate::change::{ADVISED_ITERATIONS, FEWEST_ITERATIONS};
 use crate::failure::{Failure, Step};
 use crate::file::LockedFile;
-use crate::listing::listing_of;
+use crate::listing::write_listing;
 use crate::password::read_password;
+use ring::cost::Meter;
 use ring_store::{DB_SALT_LEN, PasswordStore};
 use std::fs::File;
-use std::io::Write;
 use std::num::NonZeroU32;
 use std::process::ExitCode;
 use std::random::RandomSource;
 use std::rt::{Clock, Env, Files};
 use std::{env, io};
 
+mod about;
 mod action;
 mod change;
 mod failure;
@@ -84,7 +88,7 @@ fn set<R: Files<File = File> + AllocGlobal + Clock + Input + RandomSource>(
         Err(Failure::NoFile) => new_store(rt, iterations)?,
         loaded => loaded?,
     };
-    change::set(&mut store, name, &password, iterations)?;
+    change::set(&mut store, name, &password, iterations, &mut Meter::new())?;
     file.replace(rt, &store)
 }
 
@@ -96,7 +100,7 @@ fn verify<R: Files + AllocGlobal + Input>(rt: &R, path: &str, name: &[u8]) -> Re
     look(rt, path, name)?;
     let password = read_password(rt.alloc(), &mut rt.reader())?;
     let store = file::load(rt, path)?;
-    change::verify(&store, name, &password)
+    change::verify(&store, name, &password, &mut Meter::new())
 }
 
 /// Removes a name from a file.
@@ -120,31 +124,50 @@ fn list<R: Files + AllocGlobal + Print>(rt: &R, path: &str) -> Result<(), Failur
     ensures status { IfErr result (λ failure. status_of failure ≡ 2) }
 {
     let store = file::load(rt, path)?;
-    let lines = listing_of(rt.alloc(), &store)?;
-    match io::writer(rt).write_all(&lines) {
+    write_listing(rt.alloc(), &store, &mut io::writer(rt))
+}
+
+/// Writes what is asked of the program itself.
+fn tell<R: Print>(rt: &R, about: About) -> Result<(), Failure>
+    ensures status { IfErr result (λ failure. status_of failure ≡ 2) }
+{
+    match write_about(about, &mut io::writer(rt)) {
         Ok(()) => Ok(()),
-        Err(error) => Err(Failure::System(Step::WriteNames, error)),
+        Err(error) => Err(Failure::System(Step::WriteAbout, error)),
     }
+}
+
+/// Warns of few iterations. Where standard error fails, the password is set all the same.
+fn warn_of_few<R: Eprint>(rt: &R) {
+    let _ = eprintln!(rt;
+        "passwords: warning: with fewer than {FEWEST_ITERATIONS} iterations, whoever reads the \
+        file can guess at passwords cheaply; {ADVISED_ITERATIONS} are advised"
+    );
 }
 
 /// Does what the arguments ask for.
 fn run<R>(rt: &R) -> Result<(), Failure>
 where
-    R: Files<File = File> + AllocGlobal + Clock + Env + Input + Print + RandomSource,
+    R: Files<File = File> + AllocGlobal + Clock + Env + Eprint + Input + Print + RandomSource,
 {
     let words = arguments(rt)?;
+    if let Some(about) = about_of(&words) {
+        return tell(rt, about);
+    }
     let Some((path, words)) = words.split_first() else {
         return Err(Failure::Usage);
     };
-    let Some(action) = action_of(words) else {
-        return Err(Failure::Usage);
-    };
     let path = path.as_str();
-    let name = words.get(1).map_or("", |name| name.as_str()).as_bytes();
-    match action {
-        Action::Set(iterations) => set(rt, path, name, iterations),
-        Action::Verify => verify(rt, path, name),
-        Action::Remove => remove(rt, path, name),
+    match action_of(words)? {
+        Action::Set(name, iterations) => {
+            set(rt, path, name.as_bytes(), iterations)?;
+            if change::is_few(iterations) {
+                warn_of_few(rt);
+            }
+            Ok(())
+        }
+        Action::Verify(name) => verify(rt, path, name.as_bytes()),
+        Action::Remove(name) => remove(rt, path, name.as_bytes()),
         Action::List => list(rt, path),
     }
 }

@@ -7,6 +7,7 @@
 #include <stdarg.h>
 #include <stdio.h>
 #include <stdlib.h>
+#include <sys/stat.h>
 #include <sys/types.h>
 #include <unistd.h>
 
@@ -91,6 +92,11 @@ int flock(int file, int how) {
 int unlink(const char *path) {
     if (fails("unlink")) return -1;
     return ((int (*)(const char *))dlsym(RTLD_NEXT, "unlink"))(path);
+}
+
+int fchmod(int file, mode_t mode) {
+    if (fails("fchmod")) return -1;
+    return ((int (*)(int, mode_t))dlsym(RTLD_NEXT, "fchmod"))(file, mode);
 }
 
 int rename(const char *from, const char *to) {

@@ -12,12 +12,14 @@ PAIRS = {"{": "}", "(": ")", "[": "]"}
 
 @dataclasses.dataclass(frozen=True)
 class Function:
-    """A function: its type (empty for a free one), its name, its signature and its body."""
+    """A function: its type (empty for a free one), its name, its signature, its body, and where it stands."""
 
     owner: str
     name: str
     signature: str
     body: str
+    start: int
+    end: int
 
 
 def end_of(text, opening):
@@ -63,4 +65,5 @@ def functions(text):
         if body is None:
             continue
         owner = next((name for name, start, end in owners if start < it.start() < end), "")
-        yield Function(owner, it.group(1), text[opening:body], text[body : end_of(text, body)])
+        end = end_of(text, body)
+        yield Function(owner, it.group(1), text[opening:body], text[body:end], it.start(), end)

@@ -1,7 +1,8 @@
 //! What is done with a store, once it is read.
 
 ghost use Rattle.std.specs.Prelude.{◌≡◌, ◌≢◌, ◌⊎◌, ◌↔◌, ◌<◌, Ok, false, true};
-ghost use Rattle.std.specs.Prelude.{IfErr, IfOk, IfSome, IsErrOf, IsNone, IsSome, IsTrue, OnErr, OnOk};
+ghost use Rattle.std.specs.Prelude.{IfErr, IfOk, IfSome, IsErrOf, IsNone, IsSome, IsTrue, OnErr};
+ghost use Rattle.std.specs.Prelude.{OnOk};
 ghost use Rattle.std.specs.Int.NonZero.{non_zero_u32_get};
 ghost use Rattle.ring.specs.Cost.{raised};
 ghost use Rattle.ring_store.specs.Store.{admission, is_name, knows, record_blocks, verdict};

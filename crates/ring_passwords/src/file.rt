@@ -165,7 +165,8 @@ fn put<R: Files<File = File>>(rt: &R, new_path: &str, path: &str, text: &[u8]) -
     fs::rename(rt, new_path, path)
 }
 
-/// Gives a new file the owner, the group and the mode of the file that it replaces, if there is one.
+/// Gives a new file the owner, the group and the mode of the file that it replaces, if there is
+/// one.
 ///
 /// The system may refuse the owner or the group. Without the group the mode stays that of a new
 /// file, so that no other group gets what the old one had.

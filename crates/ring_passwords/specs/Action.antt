@@ -1,10 +1,8 @@
 -- What the arguments ask for.
-use Rattle.std.specs.Prelude.{◌≡◌, ◌≢◌, ◌<◌, ◌^◌, ℕ, List, [], ◌∷◌, Some, None, map, codes}
-use Rattle.std.specs.Prelude.{string_bytes}
+use Rattle.std.specs.Prelude.{◌≢◌, ◌<◌, ◌^◌, ℕ, List, [], ◌∷◌, Some, None, codes}
 use Rattle.std.specs.Fmt.{decimal}
 use Rattle.std.specs.Int.NonZero.{non_zero_u32_get}
 use Rattle.std.specs.declared.num.NonZeroU32.{NonZeroU32}
-use Rattle.std.specs.declared.string.String.{String}
 use Rattle.ring_passwords.specs.declared.about.About.{About}
 use Rattle.ring_passwords.specs.declared.about.About.TheVariants.{Help, Version}
 use Rattle.ring_passwords.specs.declared.action.Action.{Action}

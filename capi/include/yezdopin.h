@@ -126,6 +126,9 @@ static inline bool yz_supported(void) {
     if (!__get_cpuid(1, &a, &b, &c, &d) || (c & wanted) != wanted) return false;
     return __get_cpuid(0x80000001, &a, &b, &c, &d) && (c & bit_LAHF_LM) != 0;
 }
+#elif defined(__aarch64__)
+/* Whether the processor can run the library: each 64-bit ARM processor can. */
+static inline bool yz_supported(void) { return true; }
 #endif
 
 /* The version that the library was built as: a caller compares its upper 16 bits with those of

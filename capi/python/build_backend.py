@@ -29,7 +29,8 @@ PROJECT = tomllib.loads((FOLDER / "pyproject.toml").read_text())["project"]
 STEM = f"{PROJECT['name']}-{PROJECT['version']}"
 EXTENSION = "_native.abi3.so"
 HEADER, ARCHIVE = "yezdopin.h", "libyezdopin.a"
-USUAL = ["/usr/local/lib", "/usr/lib/x86_64-linux-gnu", "/usr/lib64", "/usr/lib"]
+DEBIAN = f"/usr/lib/{os.uname().machine}-linux-gnu"
+USUAL = ["/usr/local/lib", DEBIAN, "/usr/lib64", "/usr/lib"]
 HINT = "build it (`make -C capi`), install it, or name its folder in YEZDOPIN_LIB_DIR"
 
 

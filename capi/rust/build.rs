@@ -7,14 +7,6 @@ use std::process::{exit, Command};
 
 const ARCHIVE: &str = "libyezdopin.a";
 
-// Where archives are installed, where pkg-config doesn't tell.
-const USUAL: [&str; 4] = [
-    "/usr/local/lib",
-    "/usr/lib/x86_64-linux-gnu",
-    "/usr/lib64",
-    "/usr/lib",
-];
-
 // The folder that pkg-config tells.
 fn told() -> Option<PathBuf> {
     let mut asking = Command::new("pkg-config");
@@ -26,24 +18,35 @@ fn told() -> Option<PathBuf> {
     answer.status.success().then(|| folder.trim_end().into())
 }
 
-// The library is machine code of one kind, which a linker for another refuses less clearly.
-fn check_target() {
+// The target's processor. The library is machine code for two of them, and a linker for another
+// refuses it less clearly.
+fn processor() -> &'static str {
     let target = env::var("TARGET").expect("cargo names the target");
-    if !(target.starts_with("x86_64") && target.contains("-linux-")) {
-        eprintln!("libyezdopin is machine code for Linux on x86-64-v2, and not for {target}");
-        exit(1)
+    let known = ["x86_64", "aarch64"].into_iter();
+    let mut named = known.filter(|it| target.starts_with(&format!("{it}-")));
+    match named.next() {
+        Some(it) if target.contains("-linux-") => it,
+        _ => {
+            eprintln!(
+                "libyezdopin is machine code for Linux on x86-64-v2 or aarch64, \
+                 and not for {target}"
+            );
+            exit(1)
+        }
     }
 }
 
 // The folders that are tried, the first one first.
-fn folders() -> Vec<PathBuf> {
+fn folders(processor: &str) -> Vec<PathBuf> {
     if let Some(folder) = env::var_os("YEZDOPIN_LIB_DIR") {
         return vec![folder.into()];
     }
     let package = env::var_os("CARGO_MANIFEST_DIR").expect("cargo names the package's folder");
     let mut folders = vec![PathBuf::from(package).join("prebuilt")];
     folders.extend(told());
-    folders.extend(USUAL.map(PathBuf::from));
+    // Where archives are installed, where pkg-config doesn't tell.
+    let debian = format!("/usr/lib/{processor}-linux-gnu");
+    folders.extend(["/usr/local/lib", &debian, "/usr/lib64", "/usr/lib"].map(PathBuf::from));
     folders
 }
 
@@ -62,8 +65,7 @@ fn found(folders: &[PathBuf]) -> &PathBuf {
 fn main() {
     println!("cargo:rerun-if-env-changed=YEZDOPIN_LIB_DIR");
     println!("cargo:rerun-if-env-changed=PKG_CONFIG_PATH");
-    check_target();
-    let folders = folders();
+    let folders = folders(processor());
     let folder = found(&folders);
     println!("cargo:rerun-if-changed={}", folder.join(ARCHIVE).display());
     println!("cargo:rustc-link-search=native={}", folder.display());

@@ -35,9 +35,18 @@ pub fn library_version() -> u32 {
     unsafe { calls::yz_version() }
 }
 
-/// Whether the processor can run the library, whose code is for x86-64-v2 (SSSE3, SSE4.2, POPCNT).
-/// On an older processor any other call of this crate may end the program by `SIGILL`.
+/// Whether the processor can run the library, whose code is for x86-64-v2 (SSSE3, SSE4.2, POPCNT),
+/// or for any 64-bit ARM processor. On an older x86-64 processor any other call of this crate may
+/// end the program by `SIGILL`.
 pub fn is_supported() -> bool {
+    #[cfg(target_arch = "x86_64")]
+    return is_x86_64_v2();
+    #[cfg(not(target_arch = "x86_64"))]
+    return true;
+}
+
+#[cfg(target_arch = "x86_64")]
+fn is_x86_64_v2() -> bool {
     is_x86_feature_detected!("sse3")
         && is_x86_feature_detected!("ssse3")
         && is_x86_feature_detected!("sse4.1")

@@ -1,18 +1,23 @@
 # Packages of the built library, for users without the Rattle kit, into out/dist with SHA256SUMS:
 #
-#     make dist; make dist-check
+#     make dist; make dist-check; make ARCH=aarch64 dist; make ARCH=aarch64 dist-check
 #
 # The same library, sources and tools give the same bytes: SOURCE_DATE_EPOCH is the time of all
 # files, by default that of the last commit. To add a package, write its word into PACKAGES and a
 # rule dist-WORD that puts it into DIST; for a Debian package a file debian/NAME.control, and a rule
 # that fills WORK/NAME with what is installed, and then calls `deb`.
 
-PACKAGES = tarball deb-libyezdopin$(MAJOR) deb-libyezdopin-dev wheel crate $(PROVIDER_PACKAGE)
+PACKAGES = tarball deb-libyezdopin$(MAJOR) deb-libyezdopin-dev wheel \
+    $(if $(filter x86_64,$(ARCH)),crate) $(PROVIDER_PACKAGE)
 
 DIST = $(WHOLE_OUT)/dist
 WORK = $(DIST).work
-DPKG_LIBDIR = /usr/lib/x86_64-linux-gnu
-TREE = yezdopin-$(VERSION)-linux-x86_64
+# The processor as Debian calls it.
+DPKG_ARCH = $(if $(filter aarch64,$(ARCH)),arm64,amd64)
+DPKG_LIBDIR = /usr/lib/$(ARCH)-linux-gnu
+TREE = yezdopin-$(VERSION)-linux-$(ARCH)
+# The crate has the archives for both processors. This one is built here, or is named.
+ARM_ARCHIVE = out/aarch64/libyezdopin.a
 SOURCE_DATE_EPOCH ?= $(or $(shell git log -1 --format=%ct 2>/dev/null),1767225600)
 # A placeholder: the project has no mail address (SECURITY.md says how faults are reported).
 MAINTAINER ?= The Yezdopin authors <yezdopin@example.org>
@@ -26,7 +31,7 @@ endef
 
 # $(call deb,NAME): the Debian package of WORK/NAME.
 deb = MAINTAINER='$(MAINTAINER)' SOURCE_DATE_EPOCH=$(SOURCE_DATE_EPOCH) \
-    dist/deb "$(WORK)/$(1)" $(VERSION) "$(DIST)"
+    dist/deb "$(WORK)/$(1)" $(VERSION) $(DPKG_ARCH) "$(DIST)"
 
 dist: all
 	rm -rf "$(DIST)" "$(WORK)" && mkdir -p "$(DIST)" "$(WORK)"
@@ -38,6 +43,7 @@ dist-tarball: all
 	$(call install_in,$(WORK)/$(TREE),,/lib)
 	sed -i 's,^prefix=.*,prefix=$${pcfiledir}/../..,' "$(WORK)/$(TREE)/lib/pkgconfig/yezdopin.pc"
 	cp dist/INSTALL dist/install.sh "$(WORK)/$(TREE)"
+	sed -i 's|@processor@|$(ARCH)|' "$(WORK)/$(TREE)/install.sh"
 	chmod -R u=rwX,go=rX "$(WORK)/$(TREE)"
 	LC_ALL=C tar -C "$(WORK)" --sort=name --owner=0 --group=0 --numeric-owner --format=ustar \
 	    --mtime=@$(SOURCE_DATE_EPOCH) -cf - $(TREE) | gzip -9n >"$(DIST)/$(TREE).tar.gz"
@@ -46,14 +52,14 @@ dist-tarball: all
 dist-deb-libyezdopin$(MAJOR): all
 	rm -rf "$(WORK)/libyezdopin$(MAJOR)"
 	mkdir -p "$(WORK)/libyezdopin$(MAJOR)/DEBIAN" "$(WORK)/libyezdopin$(MAJOR)$(DPKG_LIBDIR)"
-	strip --strip-unneeded --remove-section=.comment $(SHARED) \
+	$(STRIP) --strip-unneeded --remove-section=.comment $(SHARED) \
 	    -o "$(WORK)/libyezdopin$(MAJOR)$(DPKG_LIBDIR)/$(notdir $(SHARED))"
 	chmod 644 "$(WORK)/libyezdopin$(MAJOR)$(DPKG_LIBDIR)/$(notdir $(SHARED))"
 	ln -s $(notdir $(SHARED)) "$(WORK)/libyezdopin$(MAJOR)$(DPKG_LIBDIR)/$(SONAME)"
 	cd "$(WORK)/libyezdopin$(MAJOR)/DEBIAN" && echo 'activate-noawait ldconfig' >triggers && \
 	echo 'libyezdopin $(MAJOR) libyezdopin$(MAJOR) (>= $(VERSION))' >shlibs && \
 	echo '$(SONAME) libyezdopin$(MAJOR) #MINVER#' >symbols
-	nm -D --defined-only $(SHARED) | awk '$$2 == "A" { $$3 = $$3 "@" $$3 } \
+	$(NM) -D --defined-only $(SHARED) | awk '$$2 == "A" { $$3 = $$3 "@" $$3 } \
 	    { sub(/@@/, "@", $$3); print " " $$3, "$(VERSION)" }' | LC_ALL=C sort \
 	    >>"$(WORK)/libyezdopin$(MAJOR)/DEBIAN/symbols"
 	$(call deb,libyezdopin$(MAJOR))
@@ -68,16 +74,24 @@ dist-deb-libyezdopin-dev: all
 dist-wheel: all
 	cd python && CC='$(CC)' CFLAGS=-O2 LDFLAGS=-s YEZDOPIN_LIB_DIR="$(WHOLE_OUT)" $(PYTHON) -B -c \
 	    'import build_backend, sys; build_backend.build_wheel(sys.argv[1], {"platform": sys.argv[2]})' \
-	    "$(DIST)" manylinux_2_17_x86_64
+	    "$(DIST)" manylinux_2_17_$(ARCH)
 	rm -rf "$(WORK)/wheel" && mkdir -p "$(WORK)/wheel"
 	cd "$(WORK)/wheel" && $(PYTHON) -m zipfile -e "$(DIST)"/*.whl .
-	dist/manylinux "$(WORK)/wheel/yezdopin/_native.abi3.so"
+	READELF='$(READELF)' OBJDUMP='$(OBJDUMP)' \
+	    dist/manylinux "$(WORK)/wheel/yezdopin/_native.abi3.so"
 
-# The Rust crate with the archive in prebuilt/. `cargo package` also builds what it packed.
-dist-crate: all
-	rm -rf "$(WORK)/rust" && mkdir -p "$(WORK)/rust/prebuilt"
+ifeq ($(ARCH) $(origin ARM_ARCHIVE) $(origin BUILT),x86_64 file file)
+$(ARM_ARCHIVE): FORCE
+	$(MAKE) --no-print-directory ARCH=aarch64 $@
+FORCE:
+endif
+
+# The Rust crate with the archives in prebuilt/. `cargo package` also builds what it packed.
+dist-crate: all $(ARM_ARCHIVE)
+	rm -rf "$(WORK)/rust" && mkdir -p "$(WORK)/rust/prebuilt/x86_64" "$(WORK)/rust/prebuilt/aarch64"
 	cp -R rust/src rust/build.rs rust/Cargo.toml rust/Cargo.lock rust/README.md ../LICENSE "$(WORK)/rust"
-	cp $(ARCHIVE) "$(WORK)/rust/prebuilt"
+	cp $(ARCHIVE) "$(WORK)/rust/prebuilt/x86_64"
+	cp $(ARM_ARCHIVE) "$(WORK)/rust/prebuilt/aarch64"
 	cd "$(WORK)/rust" && unset YEZDOPIN_LIB_DIR && CARGO_TARGET_DIR="$(WORK)/cargo" \
 	    $(CARGO) package --offline --quiet --allow-dirty
 	cp "$(WORK)/cargo/package/yezdopin-$(VERSION).crate" "$(DIST)"
@@ -87,6 +101,6 @@ packages-named:
 
 # Each package in a Debian system of its own, which has neither the kit nor this repository.
 dist-check: dist
-	test/packages "$(DIST)"
+	test/packages "$(DIST)" $(ARCH)
 
 .PHONY: dist dist-check packages-named $(PACKAGES:%=dist-%)

@@ -4,8 +4,10 @@
 #     ./install.sh [PREFIX]
 #     ./install.sh --uninstall [PREFIX]
 #
-# The prefix is an absolute path, by default /usr/local; DESTDIR is put before it.
+# The prefix is an absolute path, by default /usr/local; DESTDIR is put before it. A tree for
+# another kind of processor than this machine's is only put below a DESTDIR.
 set -eu
+processor=@processor@
 action=install
 if [ "${1:-}" = --uninstall ]; then
     action=uninstall
@@ -22,13 +24,24 @@ esac
 root=${DESTDIR:-}$prefix
 cd "$(dirname "$0")"
 
-install() {
+# Refuses a processor that can't run the library.
+test_processor() {
+    if [ "$(uname -m)" != $processor ]; then
+        [ -z "${DESTDIR:-}" ] || return 0
+        echo "install.sh: the library is for $processor, and not for $(uname -m)" >&2
+        exit 1
+    fi
+    [ $processor = x86_64 ] || return 0
     for feature in pni ssse3 cx16 sse4_1 sse4_2 popcnt lahf_lm; do
         if ! grep -qw "$feature" /proc/cpuinfo; then
             echo "install.sh: this processor is older than x86-64-v2 (it lacks $feature)" >&2
             exit 1
         fi
     done
+}
+
+install() {
+    test_processor
     mkdir -p "$root"
     cp -RP include lib share "$root"
 }

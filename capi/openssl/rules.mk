@@ -115,12 +115,12 @@ openssl-policy: $(PROVIDER)
 
 # The module has one name, and needs OpenSSL and these functions of a C library alone.
 openssl-exports: $(PROVIDER)
-	test "$$(nm -D --defined-only $< | awk '{ print $$3 }' | xargs)" = OSSL_provider_init
-	test "$$(readelf -d $< | sed -n 's/.*(NEEDED).*\[\(.*\)\]/\1/p' | sort | xargs)" = \
+	test "$$($(NM) -D --defined-only $< | awk '{ print $$3 }' | xargs)" = OSSL_provider_init
+	test "$$($(READELF) -d $< | sed -n 's/.*(NEEDED).*\[\(.*\)\]/\1/p' | sort | xargs)" = \
 	    'libc.so.6 libcrypto.so.3'
-	test "$$(objdump -T $< | awk '/GLIBC_/ && !/ w / { print $$NF }' | sort | xargs)" = \
+	test "$$($(OBJDUMP) -T $< | awk '/GLIBC_/ && !/ w / { print $$NF }' | sort | xargs)" = \
 	    'memcpy memmove memset strcspn strlen'
-	test "$$(objdump -T $< | grep -o 'OPENSSL_[0-9.]*' | sort -u | xargs)" = OPENSSL_3.0.0
+	test "$$($(OBJDUMP) -T $< | grep -o 'OPENSSL_[0-9.]*' | sort -u | xargs)" = OPENSSL_3.0.0
 
 # The time of each kind of work beside the default provider's, with the instructions that OpenSSL
 # finds, and then without SSSE3, AVX, AVX2 and SHA instructions.
@@ -168,16 +168,17 @@ openssl-uninstall:
 	    rmdir --ignore-fail-on-non-empty "$(DESTDIR)$(PROVIDER_DATADIR)"
 	rm -rf "$(DESTDIR)$(PROVIDER_DOCDIR)"
 
-# The Debian package, one word of PACKAGES in dist/dist.mk where OpenSSL's headers are. It switches
-# nothing on.
-PROVIDER_PACKAGE = $(shell echo '\#include <openssl/core_dispatch.h>' | $(CC) -E - >/dev/null 2>&1 \
+# The Debian package, one word of PACKAGES in dist/dist.mk where OpenSSL's headers are, for the same
+# processor. It switches nothing on.
+HASH := \#
+PROVIDER_PACKAGE = $(shell echo '$(HASH)include <openssl/evp.h>' | $(CC) -E - >/dev/null 2>&1 \
     && echo deb-$(PROVIDER_DEB))
 dist-deb-$(PROVIDER_DEB): $(PROVIDER)
 	rm -rf "$(WORK)/$(PROVIDER_DEB)"
 	$(MAKE) -s --no-print-directory $(KEPT) openssl-install DESTDIR="$(WORK)/$(PROVIDER_DEB)" \
 	    MODULESDIR=$(DPKG_LIBDIR)/ossl-modules PROVIDER_DATADIR=/usr/share/$(PROVIDER_DEB) \
 	    PROVIDER_DOCDIR=/usr/share/doc/$(PROVIDER_DEB) SYSTEM_CNF=/etc/ssl/openssl.cnf
-	strip --strip-unneeded --remove-section=.comment \
+	$(STRIP) --strip-unneeded --remove-section=.comment \
 	    "$(WORK)/$(PROVIDER_DEB)$(DPKG_LIBDIR)/ossl-modules/yezdopin.so"
 	rm "$(WORK)/$(PROVIDER_DEB)/usr/share/doc/$(PROVIDER_DEB)/LICENSE"
 	$(call deb,$(PROVIDER_DEB))

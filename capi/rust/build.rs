@@ -1,5 +1,5 @@
-//! Links libyezdopin.a: that of the folder YEZDOPIN_LIB_DIR, that of the folder prebuilt/, which the
-//! packaged crate has, or where it is installed.
+//! Links libyezdopin.a: that of the folder YEZDOPIN_LIB_DIR, that for the target's processor in the
+//! folder prebuilt/, which the packaged crate has, or where it is installed.
 
 use std::env;
 use std::path::PathBuf;
@@ -42,7 +42,7 @@ fn folders(processor: &str) -> Vec<PathBuf> {
         return vec![folder.into()];
     }
     let package = env::var_os("CARGO_MANIFEST_DIR").expect("cargo names the package's folder");
-    let mut folders = vec![PathBuf::from(package).join("prebuilt")];
+    let mut folders = vec![PathBuf::from(package).join("prebuilt").join(processor)];
     folders.extend(told());
     // Where archives are installed, where pkg-config doesn't tell.
     let debian = format!("/usr/lib/{processor}-linux-gnu");

@@ -1,0 +1,93 @@
+// node lowered.mjs MODULE64 MODULE32 [TURNS]: both modules side by side, by calls at random, on
+// garbage too. After each call the answers and the whole memories must be the same. It ends with
+// status 1 where they aren't.
+
+import { readFileSync } from "node:fs";
+
+const [, , file64, file32, turns = "20000"] = process.argv;
+const both = [file64, file32].map((file) =>
+  new WebAssembly.Instance(new WebAssembly.Module(readFileSync(file))).exports);
+const memories = both.map((it) => new Uint8Array(it.memory.buffer));
+
+let seed = 12345;
+function below(bound) {
+  seed = (Math.imul(seed, 1664525) + 1013904223) >>> 0;
+  return Math.floor(seed / 2 ** 32 * bound);
+}
+
+// Places past the constants: three of inputs, one of outputs, two of contexts, two of keys.
+const BASE = Math.ceil(Number(both[0].__heap_base.value) / 64) * 64;
+const INPUTS = [BASE, BASE + 1024, BASE + 2048];
+const OUTPUT = BASE + 4096;
+const CONTEXTS = [BASE + 8192, BASE + 8200];
+const KEYS = [BASE + 9216, BASE + 9224];
+const END = BASE + 12288;
+
+const oneOf = (list) => list[below(list.length)];
+const input = () => [BigInt(oneOf(INPUTS) + below(8)), BigInt(below(below(2) ? 700 : 70))];
+const algorithm = () => below(20) ? 1 + below(5) : below(8);
+const output = (n) => [
+  BigInt(OUTPUT + below(8)), below(10) ? both[0].yz_output_len(n) : BigInt(below(80)),
+];
+const longOutput = () => [BigInt(OUTPUT + below(8)), BigInt(below(600))];
+const context = () => BigInt(oneOf(CONTEXTS));
+const key = () => BigInt(oneOf(KEYS));
+// The arguments of a call with so many inputs, an algorithm before them and an output behind.
+const withInputs = (count) => (n = algorithm()) =>
+  [n, ...Array.from({ length: count }, input).flat(), ...output(n)];
+
+const CALLS = {
+  yz_digest: withInputs(1),
+  yz_digest_init: () => [algorithm(), context()],
+  yz_digest_update: () => [context(), ...input()],
+  yz_digest_final: () => [context(), ...output(algorithm())],
+  yz_hmac_sign: withInputs(2),
+  yz_hmac_verify: withInputs(2),
+  yz_hmac_key_init: () => [algorithm(), ...input(), key()],
+  yz_hmac_init: () => [key(), context()],
+  yz_hmac_update: () => [context(), ...input()],
+  yz_hmac_final: () => [context(), ...output(algorithm())],
+  yz_hkdf: () => [algorithm(), ...input(), ...input(), ...input(), ...longOutput()],
+  yz_hkdf_extract: withInputs(2),
+  yz_hkdf_expand: () => [algorithm(), ...input(), ...input(), ...longOutput()],
+  yz_pbkdf2_derive: () => [algorithm(), below(4), ...input(), ...input(), ...longOutput()],
+  yz_pbkdf2_verify: () => [algorithm(), below(4), ...input(), ...input(), ...longOutput()],
+  yz_equal: () => {
+    const [at, len] = input();
+    return [at, len, BigInt(oneOf(INPUTS)), below(4) ? len : len + 1n];
+  },
+  yz_output_len: () => [algorithm()],
+  yz_version: () => [],
+};
+
+function fail(what) {
+  console.log(`the modules differ: ${what}`);
+  process.exit(1);
+}
+
+// The same exports, of those that the lowered one kept, which are all that are tried.
+const kept = Object.keys(both[1]).sort().join();
+const tried = [...Object.keys(CALLS), "__heap_base", "memory"].sort().join();
+if (kept !== tried) fail(`exports ${kept} in place of ${tried}`);
+if (both[0].__heap_base.value !== both[1].__heap_base.value) fail("where the constants end");
+if (Buffer.compare(...memories)) fail("the memories before any call");
+
+const names = Object.keys(CALLS), answers = new Map();
+for (let turn = 0; turn < Number(turns); turn++) {
+  if (turn % 50 === 0) {
+    for (let at = BASE; at < END; at++) memories[0][at] = memories[1][at] = below(256);
+  }
+  // What may be a context's or a key's first words.
+  if (turn % 7 === 0) {
+    const words = [1 + turn % 5, 0, 0, 0, turn % 64, 0, 0, 0];
+    for (const it of memories) for (const at of [...CONTEXTS, ...KEYS]) it.set(words, at);
+  }
+  const name = oneOf(names), words = CALLS[name]();
+  const [one, other] = both.map((it) => it[name](...words));
+  if (one !== other) fail(`${name}(${words}) answers ${one} and ${other}`);
+  if (Buffer.compare(...memories)) fail(`${name}(${words}) leaves other memories`);
+  const kind = name.endsWith("_len") || name === "yz_version" ? "a number" : `status ${one}`;
+  answers.set(kind, (answers.get(kind) ?? 0) + 1);
+}
+const counts = [...answers].sort().map(([kind, count]) => `${count} ${kind}`).join(", ");
+console.log(`${turns} calls are the same in both: ${counts}`);

@@ -1,23 +1,30 @@
-# The module for JavaScript, in the folder above's Makefile:
+# The package for JavaScript, in the folder above's Makefile:
 #
-#     make js-lowered    # builds the module, and compares it with the one that it was made from
+#     make js            # builds it, in out/js/package
+#     make js-check      # tests it under Node 20 or later
+#     make dist-npm
 #
 # The crate is built for WebAssembly with 64-bit addresses, the only kind that the kit has, and
 # build/lower.py turns the linked module to 32-bit addresses, since not all engines have the former.
 
 NODE ?= node
+NPM ?= npm
+TSC ?= tsc
 JS = $(OUT)/js
 WASM_BUILT = $(CRATE)/out/libring_c.wasm64.a
 WASM64 = $(JS)/yezdopin64.wasm
 WASM = $(JS)/package/yezdopin.wasm
+JS_FILES = $(wildcard js/package/*)
 KIT = $(patsubst %/bin/,%,$(dir $(realpath $(shell command -v $(RT)))))
-# The calls that the module keeps.
+# What the package calls, and what it asks the module for.
 JS_CALLS = digest digest_final digest_init digest_update equal hkdf hkdf_expand hkdf_extract \
     hmac_final hmac_init hmac_key_init hmac_sign hmac_update hmac_verify output_len pbkdf2_derive \
     pbkdf2_verify version
 JS_EXPORTS = memory __heap_base $(JS_CALLS:%=yz_%)
-# The module's stack, which ends where the constants begin.
+# The module's stack, which ends where the constants begin: package/calls.js has the number too.
 WASM_STACK = 65536
+
+js: $(JS)/package/package.json
 
 # `rt lib` writes to where the build for this machine stands, which is put back.
 $(WASM_BUILT): $(SOURCES) ../crates.txt
@@ -38,6 +45,12 @@ $(WASM): $(WASM64) js/build/lower.py
 	mkdir -p $(@D)
 	$(PYTHON) -B js/build/lower.py $< $@ $(JS_EXPORTS)
 
+$(JS)/package/package.json: $(WASM) $(JS_FILES) js/README.md ../LICENSE
+	rm -f $(@D)/*.js $(@D)/*.ts
+	cp $(JS_FILES) js/README.md ../LICENSE $(@D)
+
+js-check: js-lowered js-test js-traces js-types js-packed dist-npm
+
 # Node 20 wants a flag for the module of 64-bit addresses.
 MEMORY64 = $$($(NODE) -p 'WebAssembly.validate(Uint8Array.of(0, 97, 115, 109, 1, 0, 0, 0, 5, 3, 1, \
     4, 1)) ? "" : "--experimental-wasm-memory64"')
@@ -47,4 +60,29 @@ js-lowered: $(WASM)
 	$(NODE) $(MEMORY64) js/test/lowered.mjs $(WASM64) $(WASM)
 	NODE='$(NODE)' $(PYTHON) -B js/test/wrong_forms.py $(WASM64) $(JS) "$(MEMORY64)" $(JS_EXPORTS)
 
-.PHONY: js-lowered
+js-test: $(JS)/package/package.json
+	PACKAGE="$(WHOLE_OUT)/js/package" VECTORS=../vectors VERSION=$(VERSION) \
+	    $(NODE) --test js/test/package.test.mjs
+
+# What the module tells of its addresses and conditions on other secrets.
+js-traces: $(WASM)
+	$(PYTHON) -B js/test/traced.py $(WASM) $(JS)/traced.wasm $(JS)/planted.wasm
+	$(NODE) js/test/traces.mjs $(JS)/traced.wasm $(JS)/planted.wasm
+
+# The types, by a TypeScript compiler.
+js-types: $(JS)/package/package.json
+	rm -rf $(JS)/types && mkdir -p $(JS)/types/node_modules
+	ln -s ../../package $(JS)/types/node_modules/yezdopin && cp js/test/types.mts $(JS)/types
+	cd $(JS)/types && $(TSC) --strict --noEmit --lib es2022,dom --target es2022 \
+	    --module nodenext types.mts
+
+# The package as npm makes and installs it, the same bytes twice.
+js-packed: $(JS)/package/package.json
+	NPM='$(NPM)' NODE='$(NODE)' js/test/packed $(<D)
+
+# Into the folder of the other packages, which `make dist` empties first.
+dist-npm: $(JS)/package/package.json
+	mkdir -p "$(DIST)"
+	NPM='$(NPM)' js/build/pack $(<D) "$(DIST)"
+
+.PHONY: js js-check js-lowered js-test js-traces js-types js-packed dist-npm

@@ -1,0 +1,406 @@
+// node --test: the package in the folder PACKAGE, over the files of VECTORS.
+
+import assert from "node:assert/strict";
+import crypto from "node:crypto";
+import { once } from "node:events";
+import { createReadStream, readFileSync } from "node:fs";
+import { createRequire } from "node:module";
+import { test } from "node:test";
+import { pathToFileURL } from "node:url";
+import { Worker } from "node:worker_threads";
+import { FILES, hex, run } from "./vectors.mjs";
+
+const { PACKAGE, VECTORS, VERSION } = process.env;
+// The instances of the module, which the package keeps to itself.
+const instances = [];
+const { Instance } = WebAssembly;
+WebAssembly.Instance = class extends Instance {
+  constructor(...words) {
+    super(...words);
+    instances.push(this.exports);
+  }
+};
+const main = pathToFileURL(`${PACKAGE}/node.js`).href;
+const yz = await import(main);
+const NAMES = ["sha1", "sha256", "sha384", "sha512", "sha512-256"];
+const TAGS = NAMES.slice(0, 4);
+const SHA256_OF_ABC = "ba7816bf8f01cfea414140de5dae2223b00361a396177a9cb410ff61f20015ad";
+const memoryNow = () => new Uint8Array(instances.at(-1).memory.buffer);
+const AS_NEW = memoryNow().slice();
+
+const theirs = (name, message) => crypto.createHash(name).update(message).digest("hex");
+
+test("each vector, and WebCrypto's answers", async () => {
+  const texts = FILES.map((it) => readFileSync(`${VECTORS}/${it}.txt`, "utf8"));
+  const { agree, subtleAgrees, faults } = await run(yz, texts, crypto.webcrypto.subtle);
+  console.log(`${agree} vectors agree, ${subtleAgrees} lines with WebCrypto`);
+  assert.deepEqual(faults, []);
+  const answers = texts.join("\n").match(/^#= /gm).length;
+  assert.equal(agree, answers);
+  assert.ok(answers > 300 && subtleAgrees > 200);
+});
+
+test("4,000 turns beside node:crypto", () => {
+  let seed = 1;
+  const below = (bound) => (seed = (Math.imul(seed, 1103515245) + 12345) >>> 0) % bound;
+  for (let turn = 0; turn < 4000; turn++) {
+    const name = NAMES[below(5)];
+    const [a, b, c] = [600, 300, 200].map((len) => crypto.randomBytes(below(len)));
+    assert.equal(hex(yz.digest(name, a)), theirs(name, a));
+    const ours = yz.createHash(name), other = crypto.createHash(name);
+    for (const it of [a, b, c]) ours.update(it), other.update(it);
+    const copy = ours.copy();
+    assert.equal(copy.digest("base64"), other.copy().digest("base64"));
+    assert.equal(ours.copy().digest("base64url"), other.copy().digest("base64url"));
+    assert.equal(ours.update(c).digest("hex"), other.update(c).digest("hex"));
+    if (name === "sha512-256") continue;
+    const tag = crypto.createHmac(name, a).update(b).update(c).digest();
+    assert.equal(hex(yz.hmac(name, a, Buffer.concat([b, c]))), hex(tag));
+    assert.equal(yz.createHmac(name, a).update(b).copy().update(c).digest("hex"), hex(tag));
+    assert.equal(yz.hmacVerify(name, a, Buffer.concat([b, c]), tag), true);
+    tag[below(tag.length)] ^= 1 << below(8);
+    assert.equal(yz.hmacVerify(name, a, Buffer.concat([b, c]), tag), false);
+    const len = 1 + below(300), derived = crypto.pbkdf2Sync(a, b, 3, len, name);
+    assert.equal(hex(yz.pbkdf2(a, b, 3, len, name)), hex(derived));
+    assert.equal(yz.pbkdf2Verify(a, b, 3, derived, name), true);
+    derived[below(len)] ^= 1 << below(8);
+    assert.equal(yz.pbkdf2Verify(a, b, 3, derived, name), false);
+    const okm = Buffer.from(crypto.hkdfSync(name, a, b, c, len));
+    assert.equal(hex(yz.hkdf(name, a, b, c, len)), hex(okm));
+    assert.equal(hex(yz.hkdfExpand(name, yz.hkdfExtract(name, a, b), c, len)), hex(okm));
+  }
+});
+
+test("messages longer than the pieces that are copied in", () => {
+  for (const len of [65535, 65536, 65537, 200000, 3 << 20]) {
+    const message = crypto.randomBytes(len);
+    for (const name of NAMES) {
+      const running = yz.createHash(name);
+      for (let at = 0; at < len; at += 100001) running.update(message.subarray(at, at + 100001));
+      assert.equal(running.digest("hex"), theirs(name, message));
+      assert.equal(hex(yz.digest(name, message)), theirs(name, message));
+    }
+    for (const name of TAGS) {
+      const tag = crypto.createHmac(name, "key").update(message).digest();
+      assert.equal(hex(yz.hmac(name, "key", message)), hex(tag));
+      assert.equal(yz.hmacVerify(name, "key", message, tag), true);
+      assert.equal(yz.hmacVerify(name, "key", message, tag.subarray(1)), false);
+      tag[3] ^= 1;
+      assert.equal(yz.hmacVerify(name, "key", message, tag), false);
+    }
+  }
+});
+
+test("names of algorithms", () => {
+  for (const name of ["sha256", "SHA256", "SHA-256", "sha-256", { name: "SHA-256" }]) {
+    assert.equal(yz.createHash(name).update("abc").digest("hex"), SHA256_OF_ABC);
+  }
+  assert.equal(hex(yz.digest("SHA-512/256", "abc")), theirs("sha512-256", "abc"));
+  assert.deepEqual(yz.getHashes(), NAMES);
+  const none = ["md5", "sha", "sha2-56", "sha--256", "toString", "", 2, null, undefined, {},
+    { name: 2 }, ["sha256"], Symbol("sha256")];
+  for (const name of none) {
+    for (const call of [() => yz.digest(name, ""), () => yz.createHash(name),
+      () => yz.createHmac(name, ""), () => yz.pbkdf2("", "", 1, 1, name)]) {
+      assert.throws(call, TypeError);
+    }
+  }
+});
+
+test("each kind of input", () => {
+  const bytes = new TextEncoder().encode("xabcx"), shared = new SharedArrayBuffer(5);
+  new Uint8Array(shared).set(bytes);
+  const words = new Uint16Array(bytes.slice(0, 4).buffer);
+  const kinds = ["abc", bytes.subarray(1, 4), bytes.slice(1, 4).buffer, Buffer.from("abc"),
+    new DataView(bytes.buffer, 1, 3), new Uint8Array(shared, 1, 3), new DataView(shared, 1, 3)];
+  for (const it of kinds) {
+    assert.equal(hex(yz.digest("sha256", it)), SHA256_OF_ABC);
+    assert.equal(yz.createHash("sha256").update(it).digest("hex"), SHA256_OF_ABC);
+  }
+  assert.equal(hex(yz.digest("sha256", shared)), theirs("sha256", "xabcx"));
+  assert.equal(hex(yz.digest("sha256", words)), theirs("sha256", "xabc"));
+  const text = "\u00e9\ud83d\ude00";
+  assert.equal(hex(yz.digest("sha256", text)), theirs("sha256", text));
+  assert.equal(yz.createHash("sha256").update("abc", "utf8").digest("hex"), SHA256_OF_ABC);
+});
+
+test("what lies of itself is read as it is", () => {
+  class Lying extends Uint8Array {
+    get length() { return 1e6; }
+    get byteLength() { return 1; }
+    get byteOffset() { return 2; }
+    get buffer() { return new ArrayBuffer(7); }
+    get [Symbol.toStringTag]() { return undefined; }
+    subarray() { return this; }
+    slice() { return this; }
+    keys() { throw new Error("asked"); }
+    [Symbol.iterator]() { throw new Error("asked"); }
+  }
+  class LyingView extends DataView {
+    get byteLength() { return 1; }
+    get byteOffset() { return 0; }
+    get buffer() { return new ArrayBuffer(7); }
+  }
+  class LyingBuffer extends ArrayBuffer {
+    get byteLength() { return 1e6; }
+    slice() { return new ArrayBuffer(7); }
+  }
+  const buffer = new LyingBuffer(3);
+  new Uint8Array(buffer).set([97, 98, 99]);
+  const view = new LyingView(Uint8Array.of(0, 97, 98, 99).buffer, 1);
+  for (const it of [Lying.from([97, 98, 99]), view, buffer, new Lying(buffer)]) {
+    assert.equal(hex(yz.digest("sha256", it)), SHA256_OF_ABC);
+  }
+  const key = Lying.from([1, 2, 3]), tag = crypto.createHmac("sha1", Buffer.of(1, 2, 3)).digest();
+  assert.equal(hex(yz.hmac("sha1", key, "")), hex(tag));
+  assert.equal(yz.hmacVerify("sha1", key, "", Lying.from(tag)), true);
+  assert.equal(yz.timingSafeEqual(Lying.from(tag), tag), true);
+});
+
+test("what is no input is refused", () => {
+  const pretenders = [3, null, undefined, {}, [97, 98], { length: 3 }, new Set(), () => {}, 5n,
+    true, Object.create(Uint8Array.prototype), Object.create(DataView.prototype),
+    Object.create(ArrayBuffer.prototype), { __proto__: ArrayBuffer.prototype, byteLength: 3 },
+    new Proxy(new Uint8Array(3), {}), new Proxy(new ArrayBuffer(3), {})];
+  for (const it of pretenders) {
+    for (const call of [() => yz.digest("sha1", it), () => yz.createHmac("sha1", it),
+      () => yz.createHash("sha1").update(it), () => yz.hkdf("sha1", "", it, "", 1),
+      () => yz.pbkdf2(it, "", 1, 1, "sha1"), () => yz.timingSafeEqual(it, new Uint8Array(3))]) {
+      assert.throws(call, TypeError);
+    }
+  }
+  // Text stands for no tag, no derived key and no PRK.
+  assert.throws(() => yz.hmacVerify("sha1", "", "", "a"), TypeError);
+  assert.throws(() => yz.pbkdf2Verify("", "", 1, "a", "sha1"), TypeError);
+  assert.throws(() => yz.hkdfExpand("sha1", "a", "", 1), TypeError);
+  assert.throws(() => yz.timingSafeEqual("a", "a"), TypeError);
+});
+
+test("detached and shrunken buffers are refused", () => {
+  for (const len of [0, 3]) {
+    const buffer = new ArrayBuffer(len), views = [new Uint8Array(buffer), new DataView(buffer)];
+    structuredClone(buffer, { transfer: [buffer] });
+    for (const it of [buffer, ...views]) assert.throws(() => yz.digest("sha1", it), TypeError);
+  }
+  const buffer = new ArrayBuffer(8, { maxByteLength: 16 });
+  assert.equal(buffer.resizable, true);
+  const views = [new Uint8Array(buffer, 2, 6), new DataView(buffer, 2, 6)];
+  buffer.resize(4);
+  for (const it of views) assert.throws(() => yz.digest("sha1", it), TypeError);
+  assert.equal(hex(yz.digest("sha1", new Uint8Array(buffer))), theirs("sha1", Buffer.alloc(4)));
+});
+
+test("each refusal", () => {
+  assert.throws(() => yz.createHmac("sha512-256", ""), TypeError);
+  assert.throws(() => yz.hmac("sha512-256", "", ""), TypeError);
+  assert.throws(() => yz.hkdf("sha512-256", "", "", "", 1), TypeError);
+  assert.throws(() => yz.pbkdf2Verify("", "", 1, new Uint8Array(1), "sha512-256"), TypeError);
+  for (const name of TAGS) {
+    const most = 255 * yz.digest(name, "").length;
+    assert.equal(yz.hkdf(name, "", "", "", most).length, most);
+    assert.throws(() => yz.hkdf(name, "", "", "", most + 1), RangeError);
+    assert.throws(() => yz.hkdfExpand(name, new Uint8Array(0), "", most + 1), RangeError);
+  }
+  for (const len of [-1, 1.5, NaN, "3", undefined, 2 ** 53, 2 ** 31, 2 ** 32 + 8]) {
+    assert.throws(() => yz.hkdf("sha1", "", "", "", len), RangeError);
+    assert.throws(() => yz.pbkdf2("", "", 1, len, "sha1"), RangeError);
+  }
+  for (const iterations of [0, -1, 1.5, 2 ** 32, NaN, "1", undefined]) {
+    assert.throws(() => yz.pbkdf2("", "", iterations, 1, "sha1"), RangeError);
+    assert.throws(() => yz.pbkdf2Verify("", "", iterations, new Uint8Array(1), "sha1"), RangeError);
+  }
+  assert.equal(yz.pbkdf2("", "", 1, 0, "sha1").length, 0);
+  assert.equal(yz.pbkdf2Verify("", "", 1, new Uint8Array(0), "sha1"), false);
+  assert.throws(() => yz.timingSafeEqual(new Uint8Array(1), new Uint8Array(2)), RangeError);
+  assert.equal(yz.timingSafeEqual(Uint8Array.of(1, 2), Uint8Array.of(1, 2)), true);
+  assert.equal(yz.timingSafeEqual(Uint8Array.of(1, 2), Uint8Array.of(1, 3)), false);
+  assert.equal(yz.timingSafeEqual(new Uint8Array(0), new Uint8Array(0)), true);
+});
+
+test("what node:crypto takes and the package does not is refused, not passed over", () => {
+  assert.throws(() => yz.pbkdf2("", "", 1, 1, "sha1", () => {}), TypeError);
+  assert.throws(() => yz.hkdf("sha1", "", "", "", 1, () => {}), TypeError);
+  assert.throws(() => yz.createHash("sha1", { outputLength: 8 }), TypeError);
+  assert.throws(() => yz.createHmac("sha1", "", { encoding: "hex" }), TypeError);
+  assert.throws(() => yz.createHash("sha1").copy({}), TypeError);
+  assert.throws(() => yz.createHash("sha1").update("6162", "hex"), TypeError);
+  const running = yz.createHash("sha256").update("abc");
+  for (const it of ["latin1", "buffer", "HEX", null]) {
+    assert.throws(() => running.digest(it), TypeError);
+  }
+  assert.equal(running.digest("hex"), SHA256_OF_ABC);
+  for (const call of [() => running.digest(), () => running.update(""), () => running.copy()]) {
+    assert.throws(call, /was taken/);
+  }
+});
+
+test("sources: blobs, streams and iterables, with progress", async () => {
+  const message = crypto.randomBytes((9 << 20) + 5), wanted = theirs("sha256", message);
+  const file = new URL(import.meta.url);
+  const told = [], progress = (it) => told.push(it);
+  const running = yz.createHash("sha256");
+  const returned = await running.updateFrom(new Blob([message]), { progress });
+  assert.equal(returned, running);
+  assert.equal(running.copy().digest("hex"), wanted);
+  assert.deepEqual(told, [4 << 20, 8 << 20, message.length]);
+  const pieces = [message.subarray(0, 7), message.subarray(7)];
+  async function* later() { yield* pieces; }
+  for (const source of [new Blob([message]).stream(), pieces, later(), new Blob(pieces)]) {
+    assert.equal((await yz.createHash("sha256").updateFrom(source)).digest("hex"), wanted);
+  }
+  const tag = crypto.createHmac("sha512", "k").update(message).digest("hex");
+  assert.equal((await yz.createHmac("sha512", "k").updateFrom(pieces)).digest("hex"), tag);
+  const read = await yz.createHash("sha1").updateFrom(createReadStream(file));
+  assert.equal(read.digest("hex"), theirs("sha1", readFileSync(file)));
+  const none = await yz.createHash("sha256").updateFrom(new Blob([]));
+  assert.equal(none.digest("hex"), theirs("sha256", ""));
+  for (const source of ["abc", new Uint8Array(3), null, 3, {}]) {
+    await assert.rejects(yz.createHash("sha1").updateFrom(source), TypeError);
+  }
+});
+
+test("a source that fails or is ended closes what read it", async () => {
+  const piece = new Uint8Array(8), isClosed = /a source failed/;
+  let isCancelled = false;
+  const stream = () => new ReadableStream({
+    pull: (it) => it.enqueue(piece), cancel: () => { isCancelled = true; },
+  });
+  async function* failing() { yield piece; throw new Error("no more"); }
+  const wrong = yz.createHash("sha1");
+  await assert.rejects(wrong.updateFrom(failing()), /no more/);
+  assert.throws(() => wrong.digest(), isClosed);
+  const odd = yz.createHash("sha1");
+  await assert.rejects(odd.updateFrom([piece, 3]), TypeError);
+  assert.throws(() => odd.update(""), isClosed);
+  const ended = yz.createHash("sha1"), controller = new AbortController();
+  await assert.rejects(ended.updateFrom(stream(), {
+    signal: controller.signal, progress: (len) => { if (len > 80) controller.abort(); },
+  }), { name: "AbortError" });
+  assert.throws(() => ended.copy(), isClosed);
+  assert.equal(isCancelled, true);
+  const never = yz.createHash("sha1"), signal = AbortSignal.abort();
+  await assert.rejects(never.updateFrom([piece], { signal }), { name: "AbortError" });
+  const busy = yz.createHash("sha1");
+  const reading = busy.updateFrom([piece], {
+    progress: () => {
+      for (const call of [() => busy.update(""), () => busy.digest(), () => busy.copy()]) {
+        assert.throws(call, /is being read/);
+      }
+    },
+  });
+  await assert.rejects(busy.updateFrom([]), /is being read/);
+  await reading;
+  assert.equal(busy.digest("hex"), theirs("sha1", piece));
+});
+
+test("no call leaves a byte in the module's memory", () => {
+  const running = yz.createHash("sha512"), tagged = yz.createHmac("sha384", "a key");
+  const calls = TAGS.flatMap((name) => [
+    () => yz.digest(name, crypto.randomBytes(300)),
+    () => yz.digest(name, crypto.randomBytes(70000)),
+    () => yz.hmac(name, crypto.randomBytes(200), crypto.randomBytes(300)),
+    () => yz.hmac(name, crypto.randomBytes(20), crypto.randomBytes(70000)),
+    () => yz.hmacVerify(name, "key", "message", crypto.randomBytes(20)),
+    () => yz.hmacVerify(name, "key", crypto.randomBytes(70000), crypto.randomBytes(20)),
+    () => yz.hkdf(name, crypto.randomBytes(100), "salt", "info", 1000),
+    () => yz.hkdfExpand(name, yz.hkdfExtract(name, "secret", "salt"), "info", 99),
+    () => yz.pbkdf2("password", "salt", 3, 700, name),
+    () => yz.pbkdf2Verify("password", "salt", 3, crypto.randomBytes(700), name),
+    () => yz.createHash(name).update("abc").copy().digest(),
+    () => yz.createHmac(name, crypto.randomBytes(200)).update("abc").digest(),
+    () => running.update(crypto.randomBytes(200)),
+    () => tagged.update(crypto.randomBytes(200)),
+    () => yz.timingSafeEqual(crypto.randomBytes(9), crypto.randomBytes(9)),
+    // Refused once the inputs were copied in.
+    () => assert.throws(() => yz.hkdf(name, "secret", "salt", "info", 20000), RangeError),
+    () => assert.throws(() => yz.pbkdf2("secret", "salt", 1, 2 ** 31, name), RangeError),
+  ]);
+  const count = instances.length;
+  for (const call of calls) {
+    call();
+    const memory = memoryNow();
+    assert.equal(Buffer.compare(memory.subarray(0, AS_NEW.length), AS_NEW), 0, String(call));
+    assert.ok(memory.subarray(AS_NEW.length).every((it) => it === 0), String(call));
+  }
+  assert.equal(instances.length, count);
+});
+
+test("the module itself leaves secrets on its stack, and that test would see them", () => {
+  const module = new WebAssembly.Module(readFileSync(`${PACKAGE}/yezdopin.wasm`));
+  const { exports } = new Instance(module);
+  const base = BigInt(Math.ceil(Number(exports.__heap_base.value) / 8) * 8);
+  assert.equal(exports.yz_pbkdf2_derive(4, 2, base, 8n, base, 8n, base + 64n, 640n), 0);
+  const memory = new Uint8Array(exports.memory.buffer), end = 64 * 1024;
+  let lowest = 0;
+  while (memory[lowest] === 0) lowest++;
+  console.log(`${end - lowest} bytes of the stack`);
+  assert.ok(lowest < end && lowest >= end - 8 * 1024);
+});
+
+test("a call that is cut off leaves the package and the contexts working", () => {
+  const running = yz.createHash("sha256").update("ab"), tagged = yz.createHmac("sha256", "k");
+  const before = instances.length;
+  let cuts = 0, updates = 0;
+  // Calls at each depth up to where JavaScript's stack ends, so that it ends in some of them.
+  const deep = () => {
+    try {
+      deep();
+    } finally {
+      try {
+        yz.pbkdf2("a", "b", 1, 20, "sha1");
+        tagged.update("c");
+        updates++;
+      } catch (error) {
+        if (!(error instanceof RangeError)) throw error;
+        cuts++;
+      }
+    }
+  };
+  assert.throws(deep, RangeError);
+  console.log(`${cuts} calls cut off, ${instances.length - before} new instances`);
+  assert.ok(cuts > 0 && instances.length > before);
+  assert.equal(running.update("c").digest("hex"), SHA256_OF_ABC);
+  const tag = crypto.createHmac("sha256", "k").update("c".repeat(updates)).digest("hex");
+  assert.equal(tagged.digest("hex"), tag);
+  assert.equal(hex(yz.digest("sha256", "abc")), SHA256_OF_ABC);
+  for (const it of instances.slice(before, -1)) {
+    assert.ok(new Uint8Array(it.memory.buffer).every((byte) => byte === 0), "a byte was left");
+  }
+});
+
+test("a long output, and a large instance is let go", () => {
+  const count = instances.length, len = 20 << 20;
+  const derived = yz.pbkdf2("p", "s", 1, len, "sha512");
+  const wanted = crypto.pbkdf2Sync("p", "s", 1, len, "sha512");
+  assert.equal(theirs("sha256", derived), theirs("sha256", wanted));
+  assert.ok(memoryNow().length > len);
+  yz.digest("sha1", "");
+  assert.equal(instances.length, count + 1);
+  assert.equal(memoryNow().length, AS_NEW.length);
+});
+
+test("the version is the library's, and the package's", async () => {
+  const { version } = await import(pathToFileURL(`${PACKAGE}/calls.js`).href);
+  const [major, minor, patch] = VERSION.split(".").map(Number);
+  assert.equal(version(), major * 0x10000 + minor * 0x100 + patch);
+  assert.equal(JSON.parse(readFileSync(`${PACKAGE}/package.json`, "utf8")).version, VERSION);
+});
+
+test("four workers at once", async () => {
+  const program = `import { parentPort } from "node:worker_threads";
+    import { createHash } from ${JSON.stringify(main)};
+    const running = createHash("sha256");
+    for (let i = 0; i < 1000; i++) running.update(String(i));
+    parentPort.postMessage(running.digest("hex"));`;
+  const url = new URL(`data:text/javascript,${encodeURIComponent(program)}`);
+  const answers = await Promise.all(Array.from({ length: 4 }, async () =>
+    (await once(new Worker(url), "message"))[0]));
+  const wanted = theirs("sha256", Array.from({ length: 1000 }, (_, i) => i).join(""));
+  assert.deepEqual(answers, Array(4).fill(wanted));
+});
+
+const skip = !process.features.require_module && "this Node requires no ES module";
+test("require", { skip }, () => {
+  const required = createRequire(import.meta.url)(`${PACKAGE}/node.js`);
+  assert.equal(hex(required.digest("sha256", "abc")), SHA256_OF_ABC);
+});

@@ -2,6 +2,8 @@
 #
 #     make js            # builds it, in out/js/package
 #     make js-check      # tests it under Node 20 or later
+#     make js-browsers   # the vectors and the demonstration in Chromium and Firefox, where they are
+#     make js-demo       # serves the demonstration to this machine's browser
 #     make dist-npm
 #
 # The crate is built for WebAssembly with 64-bit addresses, the only kind that the kit has, and
@@ -80,9 +82,29 @@ js-types: $(JS)/package/package.json
 js-packed: $(JS)/package/package.json
 	NPM='$(NPM)' NODE='$(NODE)' js/test/packed $(<D)
 
+# The vectors in a page and in a worker, and the demonstration in Chromium, under a content policy.
+js-browsers: $(JS)/package/package.json
+	room=$$(mktemp -d) && trap 'rm -rf "$$room"' EXIT; mkdir "$$room/firefox"; \
+	export PACKAGE="$(WHOLE_OUT)/js/package" VECTORS="$(CURDIR)/../vectors"; \
+	if command -v chromium >/dev/null; then \
+	    $(NODE) js/test/browser.mjs chromium --headless=new --no-sandbox --disable-gpu \
+	        "--user-data-dir=$$room/chromium" '{}' && \
+	    $(NODE) js/test/demo.mjs chromium "$$room" "$(WHOLE_OUT)/js/demo.png" || exit 1; \
+	else echo 'left out: Chromium'; fi; \
+	if command -v firefox-esr >/dev/null; then \
+	    HOME="$$room" $(NODE) js/test/browser.mjs firefox-esr --headless --no-remote \
+	        --profile "$$room/firefox" '{}' || exit 1; \
+	else echo 'left out: Firefox'; fi
+
+# The demonstration, where a browser on this machine can open it.
+js-demo: $(JS)/package/package.json
+	mkdir -p $(JS)/demo && cp js/demo/* $(JS)/demo
+	@echo 'http://127.0.0.1:8000/demo/index.html'
+	$(PYTHON) -m http.server --bind 127.0.0.1 --directory $(JS) 8000
+
 # Into the folder of the other packages, which `make dist` empties first.
 dist-npm: $(JS)/package/package.json
 	mkdir -p "$(DIST)"
 	NPM='$(NPM)' js/build/pack $(<D) "$(DIST)"
 
-.PHONY: js js-check js-lowered js-test js-traces js-types js-packed dist-npm
+.PHONY: js js-check js-lowered js-test js-traces js-types js-packed js-browsers js-demo dist-npm

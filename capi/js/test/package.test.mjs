@@ -176,14 +176,17 @@ test("what is no input is refused", () => {
   assert.throws(() => yz.timingSafeEqual("a", "a"), TypeError);
 });
 
-test("detached and shrunken buffers are refused", () => {
+test("detached buffers are refused", () => {
   for (const len of [0, 3]) {
     const buffer = new ArrayBuffer(len), views = [new Uint8Array(buffer), new DataView(buffer)];
     structuredClone(buffer, { transfer: [buffer] });
     for (const it of [buffer, ...views]) assert.throws(() => yz.digest("sha1", it), TypeError);
   }
+});
+
+const fixed = !("resizable" in ArrayBuffer.prototype) && "this Node has no buffers that shrink";
+test("buffers that have shrunk are refused", { skip: fixed }, () => {
   const buffer = new ArrayBuffer(8, { maxByteLength: 16 });
-  assert.equal(buffer.resizable, true);
   const views = [new Uint8Array(buffer, 2, 6), new DataView(buffer, 2, 6)];
   buffer.resize(4);
   for (const it of views) assert.throws(() => yz.digest("sha1", it), TypeError);

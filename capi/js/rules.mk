@@ -2,7 +2,7 @@
 #
 #     make js            # builds it, in out/js/package
 #     make js-check      # tests it under Node 20 or later
-#     make js-browsers   # the vectors and the demonstration in Chromium and Firefox, where they are
+#     make js-browsers   # in Chromium, Firefox and JavaScriptCore, where they are
 #     make js-demo       # serves the demonstration to this machine's browser
 #     make dist-npm
 #
@@ -82,7 +82,8 @@ js-types: $(JS)/package/package.json
 js-packed: $(JS)/package/package.json
 	NPM='$(NPM)' NODE='$(NODE)' js/test/packed $(<D)
 
-# The vectors in a page and in a worker, and the demonstration in Chromium, under a content policy.
+# The vectors in a page and in a worker, and the demonstration in Chromium, under a content policy;
+# the vectors alone in Safari's engine (Debian: libjavascriptcoregtk-4.0-bin).
 js-browsers: $(JS)/package/package.json
 	room=$$(mktemp -d) && trap 'rm -rf "$$room"' EXIT; mkdir "$$room/firefox"; \
 	export PACKAGE="$(WHOLE_OUT)/js/package" VECTORS="$(CURDIR)/../vectors"; \
@@ -94,7 +95,10 @@ js-browsers: $(JS)/package/package.json
 	if command -v firefox-esr >/dev/null; then \
 	    HOME="$$room" $(NODE) js/test/browser.mjs firefox-esr --headless --no-remote \
 	        --profile "$$room/firefox" '{}' || exit 1; \
-	else echo 'left out: Firefox'; fi
+	else echo 'left out: Firefox'; fi; \
+	if command -v jsc >/dev/null; then \
+	    jsc -m js/test/jsc.mjs -- "$$PACKAGE" "$$VECTORS" || exit 1; \
+	else echo 'left out: JavaScriptCore'; fi
 
 # The demonstration, where a browser on this machine can open it.
 js-demo: $(JS)/package/package.json

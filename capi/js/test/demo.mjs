@@ -89,6 +89,10 @@ const paths = [...contents].map(([name, content]) => {
 });
 const digests = (algorithm) => [...contents].map(([name, content]) =>
   [name, crypto.createHash(algorithm).update(content).digest("hex")]);
+// What the bars of progress show.
+await evaluate(`globalThis.shown = [];
+  new MutationObserver((all) => { for (const it of all) shown.push(it.target.value); })
+    .observe(document.body, { subtree: true, attributeFilter: ["value"] })`);
 await chooseFiles("#files", paths);
 await eventually('document.querySelectorAll("#files-table .done").length === 4');
 const shown = (await evaluate(cells("files-table"))).map(([name, , , it]) => [name, it]);
@@ -96,6 +100,8 @@ assert.deepEqual(shown, digests("sha256"));
 await set("algorithm", "sha512-256");
 await dropFiles("#files-drop", paths.slice(1, 2));
 await eventually('document.querySelectorAll("#files-table .done").length === 5');
+const progress = await evaluate("shown");
+for (const pieces of [1, 2, 3, 4]) assert.ok(progress.includes(pieces * (4 << 20)), String(progress));
 const last = (await evaluate(cells("files-table"))).at(-1);
 assert.deepEqual(last, ["abc.txt", "3 bytes", "SHA-512/256", digests("sha512-256")[1][1]]);
 

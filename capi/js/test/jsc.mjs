@@ -1,0 +1,22 @@
+// jsc -m jsc.mjs -- PACKAGE VECTORS: the vectors under JavaScriptCore, Safari's engine, without a page.
+
+const [folder, vectors] = globalThis.arguments;
+
+// The shell lacks it, and the vectors are no text.
+globalThis.TextEncoder ??= class {
+  encode(text) { return Uint8Array.from(text, (it) => it.charCodeAt(0)); }
+};
+
+try {
+  const { start } = await import(`${folder}/calls.js`);
+  start(new WebAssembly.Module(readFile(`${folder}/yezdopin.wasm`, "binary")));
+  const yz = await import(`${folder}/api.js`);
+  const { FILES, run } = await import("./vectors.mjs");
+  const { agree, faults } = await run(yz, FILES.map((it) => readFile(`${vectors}/${it}.txt`)), null);
+  print(`${agree} vectors agree under JavaScriptCore`);
+  for (const it of faults) print(it);
+  if (faults.length || agree <= 300) quit(1);
+} catch (error) {
+  print(String(error));
+  quit(1);
+}

@@ -15,9 +15,8 @@ these reach. Other bodies become a trap, so that indices stay. Sections of names
 import sys
 
 MAGIC = b"\0asm\1\0\0\0"
-TYPES, FUNCTIONS, MEMORY, GLOBALS, EXPORTS, CODE, DATA, DATA_COUNT = 1, 3, 5, 6, 7, 10, 11, 12
-# The sections in the order of a module. It has no imports, no tables, no elements and no start.
-SECTIONS = [TYPES, FUNCTIONS, MEMORY, GLOBALS, EXPORTS, DATA_COUNT, CODE, DATA]
+# The sections of a module, in their order: no imports, no tables, no elements and no start.
+SECTIONS = TYPES, FUNCTIONS, MEMORY, GLOBALS, EXPORTS, CODE, DATA = 1, 3, 5, 6, 7, 10, 11
 I32, I64 = 0x7F, 0x7E
 NO_RESULT = 0x40
 KIND_FUNCTION, KIND_MEMORY, KIND_GLOBAL = 0, 2, 3
@@ -212,8 +211,8 @@ def sections(data):
         if section in found or section not in SECTIONS:
             refuse(f"section {section}")
         found[section] = content
-    if [*found] not in (SECTIONS, [it for it in SECTIONS if it != DATA_COUNT]):
-        refuse(f"the sections {[*found]} in place of {SECTIONS}")
+    if (*found,) != SECTIONS:
+        refuse(f"the sections {[*found]} in place of {[*SECTIONS]}")
     return found
 
 

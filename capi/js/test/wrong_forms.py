@@ -130,7 +130,7 @@ def refused_modules(module):
         yield name, reason, written({**sections, lower.CODE: content}.items())
     for name, section, content, reason in CONTENTS:
         yield name, reason, written({**sections, section: content}.items())
-    for section in (2, 4, 8, 9, 13, 14):
+    for section in (2, 4, 8, 9, 12, 13, 14):
         reason = f"section {section}"
         yield reason, reason, written([*sections.items(), (section, b"\0")])
     twice = [*sections.items(), (lower.DATA, sections[lower.DATA])]

@@ -101,7 +101,7 @@ await set("algorithm", "sha512-256");
 await dropFiles("#files-drop", paths.slice(1, 2));
 await eventually('document.querySelectorAll("#files-table .done").length === 5');
 const progress = await evaluate("shown");
-for (const pieces of [1, 2, 3, 4]) assert.ok(progress.includes(pieces * (4 << 20)), String(progress));
+for (const it of [1, 2, 3, 4]) assert.ok(progress.includes(it * (4 << 20)), String(progress));
 const last = (await evaluate(cells("files-table"))).at(-1);
 assert.deepEqual(last, ["abc.txt", "3 bytes", "SHA-512/256", digests("sha512-256")[1][1]]);
 

@@ -1,4 +1,5 @@
-// jsc -m jsc.mjs -- PACKAGE VECTORS: the vectors under JavaScriptCore, Safari's engine, without a page.
+// jsc -m jsc.mjs -- PACKAGE VECTORS: the vectors under JavaScriptCore, Safari's engine, without a
+// page.
 
 const [folder, vectors] = globalThis.arguments;
 
@@ -12,7 +13,8 @@ try {
   start(new WebAssembly.Module(readFile(`${folder}/yezdopin.wasm`, "binary")));
   const yz = await import(`${folder}/api.js`);
   const { FILES, run } = await import("./vectors.mjs");
-  const { agree, faults } = await run(yz, FILES.map((it) => readFile(`${vectors}/${it}.txt`)), null);
+  const texts = FILES.map((it) => readFile(`${vectors}/${it}.txt`));
+  const { agree, faults } = await run(yz, texts, null);
   print(`${agree} vectors agree under JavaScriptCore`);
   for (const it of faults) print(it);
   if (faults.length || agree <= 300) quit(1);

@@ -130,7 +130,7 @@ test("what lies of itself is read as it is", () => {
     get byteLength() { return 1; }
     get byteOffset() { return 2; }
     get buffer() { return new ArrayBuffer(7); }
-    get [Symbol.toStringTag]() { return undefined; }
+    get [Symbol.toStringTag]() { return "DataView"; }
     subarray() { return this; }
     slice() { return this; }
     keys() { throw new Error("asked"); }
@@ -140,6 +140,7 @@ test("what lies of itself is read as it is", () => {
     get byteLength() { return 1; }
     get byteOffset() { return 0; }
     get buffer() { return new ArrayBuffer(7); }
+    get [Symbol.toStringTag]() { return "Uint8Array"; }
   }
   class LyingBuffer extends ArrayBuffer {
     get byteLength() { return 1e6; }
@@ -208,7 +209,7 @@ test("each refusal", () => {
     assert.throws(() => yz.hkdf("sha1", "", "", "", len), RangeError);
     assert.throws(() => yz.pbkdf2("", "", 1, len, "sha1"), RangeError);
   }
-  for (const iterations of [0, -1, 1.5, 2 ** 32, NaN, "1", undefined]) {
+  for (const iterations of [0, -1, 1.5, 2 ** 32, 2 ** 32 + 1, NaN, "1", undefined]) {
     assert.throws(() => yz.pbkdf2("", "", iterations, 1, "sha1"), RangeError);
     assert.throws(() => yz.pbkdf2Verify("", "", iterations, new Uint8Array(1), "sha1"), RangeError);
   }
@@ -338,6 +339,47 @@ test("the module itself leaves secrets on its stack, and that test would see the
   while (memory[lowest] === 0) lowest++;
   console.log(`${end - lowest} bytes of the stack`);
   assert.ok(lowest < end && lowest >= end - 8 * 1024);
+});
+
+// Calls a function with a method of all typed arrays in another form.
+function withMethod(name, method, call) {
+  const typedArray = Object.getPrototypeOf(Uint8Array.prototype), usual = typedArray[name];
+  typedArray[name] = function (...words) {
+    return method(() => Reflect.apply(usual, this, words));
+  };
+  try {
+    return call();
+  } finally {
+    typedArray[name] = usual;
+  }
+}
+
+test("contexts are wiped at each step, and where the digest is taken", () => {
+  const contexts = [];
+  const keep = (usual) => {
+    const made = usual();
+    if (made.length > 64) contexts.push(made);
+    return made;
+  };
+  withMethod("slice", keep, () => {
+    for (const it of [yz.createHash("sha256"), yz.createHmac("sha512", "a key")]) {
+      it.update("abc").copy().update("def").digest();
+      it.digest("hex");
+    }
+  });
+  assert.equal(contexts.length, 8);
+  for (const it of contexts) assert.ok(it.every((byte) => byte === 0));
+});
+
+test("a wiping that is cut off is made up for", () => {
+  const cutOff = () => { throw new RangeError("cut off"); };
+  const key = crypto.randomBytes(40), count = instances.length;
+  assert.throws(() => withMethod("fill", cutOff, () => yz.hmac("sha256", key, "abc")), /cut off/);
+  const { buffer } = instances.at(-1).memory;
+  assert.ok(Buffer.from(buffer).includes(key));
+  assert.equal(hex(yz.digest("sha256", "abc")), SHA256_OF_ABC);
+  assert.equal(instances.length, count + 1);
+  assert.ok(new Uint8Array(buffer).every((byte) => byte === 0));
 });
 
 test("a call that is cut off leaves the package and the contexts working", () => {

@@ -4,7 +4,7 @@
 #     make js-check      # tests it under Node 20 or later
 #     make js-browsers   # in Chromium, Firefox and JavaScriptCore, where they are
 #     make js-demo       # serves the demonstration to this machine's browser
-#     make dist-npm
+#     make js-bench; make dist-npm
 #
 # The crate is built for WebAssembly with 64-bit addresses, the only kind that the kit has, and
 # build/lower.py turns the linked module to 32-bit addresses, since not all engines have the former.
@@ -86,7 +86,7 @@ js-packed: $(JS)/package/package.json
 # the vectors alone in Safari's engine (Debian: libjavascriptcoregtk-4.0-bin).
 js-browsers: $(JS)/package/package.json
 	room=$$(mktemp -d) && trap 'rm -rf "$$room"' EXIT; mkdir "$$room/firefox"; \
-	export PACKAGE="$(WHOLE_OUT)/js/package" VECTORS="$(CURDIR)/../vectors"; \
+	export PACKAGE="$(WHOLE_OUT)/js/package" VECTORS="$(CURDIR)/../vectors" QUERY='$(QUERY)'; \
 	if command -v chromium >/dev/null; then \
 	    $(NODE) js/test/browser.mjs chromium --headless=new --no-sandbox --disable-gpu \
 	        "--user-data-dir=$$room/chromium" '{}' && \
@@ -106,9 +106,14 @@ js-demo: $(JS)/package/package.json
 	@echo 'http://127.0.0.1:8000/demo/index.html'
 	$(PYTHON) -m http.server --bind 127.0.0.1 --directory $(JS) 8000
 
+# Times beside others'. In browsers: make js-browsers QUERY='?bench'
+js-bench: $(JS)/package/package.json
+	@$(NODE) js/bench/node.mjs $(<D)
+
 # Into the folder of the other packages, which `make dist` empties first.
 dist-npm: $(JS)/package/package.json
 	mkdir -p "$(DIST)"
 	NPM='$(NPM)' js/build/pack $(<D) "$(DIST)"
 
-.PHONY: js js-check js-lowered js-test js-traces js-types js-packed js-browsers js-demo dist-npm
+.PHONY: js js-check js-lowered js-test js-traces js-types js-packed js-browsers js-demo js-bench \
+    dist-npm

@@ -1,6 +1,6 @@
 // node browser.mjs COMMAND..: opens test/page.html in a browser and prints what it reports; {} in
-// the command is the page's address. It ends with 1 where a vector disagrees, and with 2 where nothing
-// is reported.
+// the command is the page's address. It ends with 1 where a vector disagrees, and with 2 where
+// nothing is reported.
 
 import { spawn } from "node:child_process";
 import { serve } from "./server.mjs";
@@ -8,7 +8,7 @@ import { serve } from "./server.mjs";
 const { PACKAGE, VECTORS, QUERY = "" } = process.env;
 const here = (name) => new URL(`../${name}`, import.meta.url).pathname;
 const [program, ...words] = process.argv.slice(2);
-const SECONDS = 120;
+const SECONDS = QUERY ? 900 : 120;
 
 let browser;
 function end(status) {
@@ -16,8 +16,8 @@ function end(status) {
   setTimeout(() => process.exit(status), 500);
 }
 
-const folders = { package: PACKAGE, vectors: VECTORS, test: here("test") };
-const address = await serve(folders, ({ agent, page, worker, fault }) => {
+const folders = { package: PACKAGE, vectors: VECTORS, test: here("test"), bench: here("bench") };
+const address = await serve(folders, ({ agent, page, worker, bench, fault }) => {
   if (fault) {
     console.log(fault);
     return end(1);
@@ -27,6 +27,7 @@ const address = await serve(folders, ({ agent, page, worker, fault }) => {
     for (const one of it.faults) console.log(one);
   }
   console.log(agent);
+  if (bench) console.log(bench);
   end(page.agree > 300 && page.faults.length + worker.faults.length === 0
     && worker.agree === page.agree ? 0 : 1);
 });

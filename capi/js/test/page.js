@@ -20,6 +20,10 @@ try {
   const yz = await import("/package/browser.js");
   const page = await run(yz, texts, crypto.subtle), worker = await inWorker(texts);
   const said = { agent: navigator.userAgent, page, worker };
+  if (new URL(location).searchParams.has("bench")) {
+    const { party, table, times, web } = await import("/bench/bench.mjs");
+    said.bench = table(await times({ yezdopin: party(yz), WebCrypto: web(crypto.subtle) }));
+  }
   await report(said);
 } catch (error) {
   await report({ fault: String(error?.stack ?? error) });

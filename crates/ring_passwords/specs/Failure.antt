@@ -4,8 +4,6 @@ use Rattle.ring_passwords.specs.declared.failure.Failure.{Failure}
 use Rattle.ring_passwords.specs.declared.failure.Failure.TheVariants as failure
 use Rattle.ring_store.specs.declared.error.StoreError.{StoreError}
 use Rattle.ring_store.specs.declared.error.StoreError.TheVariants as refused
-use Rattle.ring_store.specs.declared.error.LoadError.{LoadError}
-use Rattle.ring_store.specs.declared.error.LoadError.TheVariants as unread
 
 -- the exit status: 1 where the name has no record, or one of another password, and else 2
 abbrev pub status_of : Failure → ℕ
@@ -19,8 +17,3 @@ failure_of refused.BadName = failure.BadName
 failure_of refused.TooLong = failure.TooLong
 failure_of refused.WrongUsernameOrPassword = failure.WrongNameOrPassword
 failure_of refused.Memory = failure.Memory
-
--- why a text is read as no store
-abbrev pub load_failure_of : LoadError → Failure
-load_failure_of unread.BadText = failure.NotAStore
-load_failure_of unread.Memory = failure.Memory

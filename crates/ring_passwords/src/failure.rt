@@ -1,11 +1,11 @@
 //! Why a run ends without success.
 
 ghost use Rattle.std.specs.Prelude.{◌≡◌};
-ghost use Rattle.ring_passwords.specs.Failure.{failure_of, load_failure_of, status_of};
+ghost use Rattle.ring_passwords.specs.Failure.{failure_of, status_of};
 ghost use Rattle.ring_passwords.specs.declared.failure.Failure.TheVariants.{Memory};
 
 use crate::about::USAGE;
-use ring_store::{LoadError, StoreError};
+use ring_store::StoreError;
 use std::alloc::AllocError;
 use std::{fmt, io};
 
@@ -142,18 +142,6 @@ impl From<StoreError> for Failure {
             StoreError::TooLong => Failure::TooLong,
             StoreError::WrongUsernameOrPassword => Failure::WrongNameOrPassword,
             StoreError::Memory => Failure::Memory,
-        }
-    }
-}
-
-/// Why a text is read as no store.
-impl From<LoadError> for Failure {
-    ghost from_gives = { λ error failure. failure ≡ load_failure_of error };
-
-    fn from(error: LoadError) -> Self {
-        match error {
-            LoadError::BadText => Failure::NotAStore,
-            LoadError::Memory => Failure::Memory,
         }
     }
 }

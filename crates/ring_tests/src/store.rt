@@ -4,6 +4,7 @@
 
 mod commands;
 mod full_heaps;
+mod lengths;
 mod many_records;
 mod names;
 mod records;

@@ -1,4 +1,4 @@
-//! A text of many records, and the time that it takes.
+//! A store of many records, its text, and the time that it takes.
 
 use crate::store::names::{iterations, new_store};
 use ring_store::{LoadError, PasswordStore, StoreError};
@@ -7,7 +7,7 @@ use std::io;
 use std::time::{Duration, Instant};
 
 // How many records there are.
-const MANY: u32 = 100_000;
+const MANY: u32 = 320_000;
 
 // Puts the names out of their order: it has no divisor with the number of records.
 const STRIDE: u32 = 7_919;
@@ -30,11 +30,16 @@ fn store_of_many(alloc: Global) -> Result<PasswordStore, StoreError> {
     Ok(store)
 }
 
-// Whether a store has each record that was restored.
+// Whether a store has the record of a number.
+fn has_record(store: &PasswordStore, number: u32) -> bool {
+    let count = iterations(number.saturating_add(1));
+    store.record(&name_of(number)) == Some((count, [number.to_be_bytes()[3]; 32]))
+}
+
+// Whether a store has each record that was restored, and no other.
 fn has_many(store: &PasswordStore) -> bool {
     for number in 0..MANY {
-        let wanted = (iterations(number + 1), [number.to_be_bytes()[3]; 32]);
-        if store.record(&name_of(number)) != Some(wanted) {
+        if !has_record(store, number) {
             return false;
         }
     }
@@ -67,11 +72,20 @@ fn keeps_many(rt: &HostRuntime, store: &PasswordStore) -> io::Result<bool> {
     Ok(has_many(&again) && again.to_text(rt.alloc())? == text)
 }
 
+// Whether a store takes the password of one more name.
+fn sets_one_more(mut store: PasswordStore) -> bool {
+    store.set_iterations(iterations(1));
+    store.set_password(b"one more", b"password").is_ok()
+        && store.check_password(b"one more", b"password").is_ok()
+        && has_record(&store, MANY - 1)
+}
+
 #[test]
-fn many_records_as_text(rt: HostRuntime) {
+fn more_than_300_000_names_have_memory(rt: HostRuntime) {
     let Ok(store) = store_of_many(rt.alloc()) else {
         panic!(rt; "a record was not restored");
     };
     assert!(rt; has_many(&store));
     assert!(rt; matches!(keeps_many(&rt, &store), Ok(true)));
+    assert!(rt; sets_one_more(store));
 }

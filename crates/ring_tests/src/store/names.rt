@@ -50,6 +50,25 @@ fn set_password_succeeds(rt: HostRuntime) {
     assert!(rt; sets_twice(new_store(rt.alloc(), 1)));
 }
 
+// The blocks and the byte pairs of setting a password.
+fn cost_of_set(store: &mut PasswordStore, name: &[u8]) -> (u128, u128) {
+    let mut meter = Meter::new();
+    let _ = store.set_password_counted(name, PASSWORD, &mut meter);
+    (meter.blocks(), meter.byte_pairs())
+}
+
+// Whether a new name costs 2,002 blocks, and the same name once it is known as many.
+fn sets_at_one_cost(mut store: PasswordStore) -> bool {
+    cost_of_set(&mut store, b"alice") == (2002, 0)
+        && cost_of_set(&mut store, b"alice") == (2002, 0)
+        && cost_of_set(&mut store, &LONG_NAME) == (0, 0)
+}
+
+#[test]
+fn set_password_costs_one_derivation(rt: HostRuntime) {
+    assert!(rt; sets_at_one_cost(new_store(rt.alloc(), 1000)));
+}
+
 // How a wrong password is refused, and the blocks and the byte pairs that it cost.
 fn refused_at(store: &mut PasswordStore, name: &[u8]) -> (Reply, u128, u128) {
     let mut meter = Meter::new();

@@ -1,5 +1,6 @@
 //! Tokens of another implementation, and the order in which a check refuses.
 
+use ring::cost::Meter;
 use ring_store::{TokenError, TokenMaker};
 
 // What Python's `hmac` gives.
@@ -76,4 +77,20 @@ fn bad_tokens_are_told_before_expired_ones(rt: HostRuntime) {
     assert!(rt; are_bad(&TOKEN[..31], &longer));
     assert!(rt; check_of(b"u", 100, 100, &TOKEN).is_ok());
     assert!(rt; check_of(b"u", 100, 101, &TOKEN) == Err(TokenError::Expired));
+}
+
+// The blocks of a maker, and the byte pairs that it compares.
+fn cost_of(master: &[u8], salt: &[u8]) -> (u128, u128) {
+    let mut meter = Meter::new();
+    let _ = TokenMaker::new_counted(master, salt, &mut meter);
+    (meter.blocks(), meter.byte_pairs())
+}
+
+// The rows of `docs/COSTS.md`. A salt that is longer than a block is hashed first.
+#[test]
+fn maker_costs_by_its_lengths(rt: HostRuntime) {
+    assert!(rt; cost_of(&[0; 32], &[0; 21]) == (10, 0));
+    assert!(rt; cost_of(&[0; 55], &[0; 21]) == (10, 0));
+    assert!(rt; cost_of(&[0; 56], &[0; 21]) == (11, 0));
+    assert!(rt; cost_of(&[0; 32], &[0; 65]) == (12, 0));
 }

@@ -1,0 +1,60 @@
+//! Names of each length, which get memory wherever there is enough.
+
+use crate::store::names::{LONGEST_NAME, iterations, new_store};
+use ring_store::{LoadError, PasswordStore, StoreError};
+use std::alloc::Global;
+
+// The name of each length, from 1 to 64 bytes.
+fn name_of(len: usize) -> &'static [u8] {
+    LONGEST_NAME.get(..len).unwrap_or(&LONGEST_NAME)
+}
+
+// A store in which the password of each name is set to the name.
+fn store_of_all(alloc: Global) -> Result<PasswordStore, StoreError> {
+    let mut store = new_store(alloc, 1);
+    for len in 1..65 {
+        store.set_password(name_of(len), name_of(len))?;
+    }
+    Ok(store)
+}
+
+// A store with the records of another one.
+fn restored(alloc: Global, from: &PasswordStore) -> Result<PasswordStore, StoreError> {
+    let mut store = new_store(alloc, 1);
+    for len in 1..65 {
+        let Some(record) = from.record(name_of(len)) else {
+            continue;
+        };
+        let credential = record.1;
+        store.restore(name_of(len), record.0, credential)?;
+    }
+    Ok(store)
+}
+
+// Whether a store verifies each name, and has no other.
+fn has_all(store: &PasswordStore) -> bool {
+    for len in 1..65 {
+        if store.check_password(name_of(len), name_of(len)).is_err()
+            || store.iterations_of(name_of(len)) != Some(iterations(1))
+        {
+            return false;
+        }
+    }
+    store.len() == 64
+}
+
+// Whether the text of a store is read with each name.
+fn reads_all(alloc: Global, store: &PasswordStore) -> Result<bool, LoadError> {
+    let text = store.to_text(alloc)?;
+    Ok(has_all(&PasswordStore::from_text(alloc, &text)?))
+}
+
+#[test]
+fn names_of_each_length_have_memory(rt: HostRuntime) {
+    let Ok(store) = store_of_all(rt.alloc()) else {
+        panic!(rt; "a name was not set");
+    };
+    assert!(rt; has_all(&store));
+    assert!(rt; matches!(restored(rt.alloc(), &store), Ok(again) if has_all(&again)));
+    assert!(rt; reads_all(rt.alloc(), &store) == Ok(true));
+}

@@ -69,8 +69,8 @@ pub fn tag_under_raw(numbers: &RawKey, message: &[u8]) -> Option<Result<Tag, Uns
     Some(sign(&key, message))
 }
 
-/// Whether `tag` is the tag of a message under the numbers of any key, also those that no call made:
-/// `None` where they are no key's.
+/// Whether `tag` is the tag of a message under the numbers of any key, also of one that no call
+/// made: `None` where they are no key's.
 pub fn verify_under_raw(
     numbers: &RawKey,
     message: &[u8],

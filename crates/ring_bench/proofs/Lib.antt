@@ -6,3 +6,4 @@ pub mod Numbers
 pub mod Counts
 pub mod Cuts
 pub mod Asked
+pub mod Pairs

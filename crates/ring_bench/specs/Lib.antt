@@ -1,4 +1,5 @@
 pub mod Fault
+pub mod Digits
 pub mod Field
 pub mod Algorithm
 pub mod Pieces

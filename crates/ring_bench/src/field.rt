@@ -7,6 +7,7 @@ ghost use Rattle.ring_bench.specs.Field.{is_word, bytes_of, pieces_of, value_of,
 ghost use Rattle.ring_bench.specs.Field.{len_of, iterations_of};
 ghost use Rattle.ring_bench.specs.Pieces.{pieces_listed};
 
+use crate::digits::decode_digits;
 use crate::fault::Fault;
 use crate::pieces::Pieces;
 use crate::text::cut_at;
@@ -16,6 +17,9 @@ use std::num::NonZeroU32;
 
 /// The greatest LEN.
 const MAX_LEN: u32 = 65_536;
+
+/// From how many digits on a table is made for them.
+const MIN_TABLE_DIGITS: usize = 128;
 
 /// Whether a field is this word.
 #[tactic(auto, unfolding(crate::specs::Field::is_word))]
@@ -85,8 +89,22 @@ fn append_piece<A: Allocator>(
     Ok(())
 }
 
-/// The bytes that hex digits stand for.
+/// The bytes that hex digits stand for. `hex` decodes few digits, and those that the table refuses.
 fn decoded<A: Allocator>(alloc: A, digits: &[u8]) -> Result<Vec<u8, A>, Fault>
+    ensures { Reads (λ bytes. bytes.items) (value_of (decode_of digits.now)) result }
+{
+    if digits.len() < MIN_TABLE_DIGITS || digits.len() % 2 != 0 {
+        return decoded_by_hex(alloc, digits);
+    }
+    let mut bytes = vec![in alloc; 0u8; digits.len() / 2]?;
+    if decode_digits(digits, &mut bytes) || hex::decode_to_slice(digits, &mut bytes).is_ok() {
+        return Ok(bytes);
+    }
+    Err(Fault::Bad)
+}
+
+/// The bytes that hex digits stand for, by `hex` alone.
+fn decoded_by_hex<A: Allocator>(alloc: A, digits: &[u8]) -> Result<Vec<u8, A>, Fault>
     ensures { Reads (λ bytes. bytes.items) (value_of (decode_of digits.now)) result }
 {
     match hex::decode(alloc, digits) {

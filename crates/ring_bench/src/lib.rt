@@ -22,6 +22,7 @@ use std::io::{ErrorKind, Read, Write};
 
 mod algorithm;
 mod answers;
+mod digits;
 mod fault;
 mod field;
 mod line;

@@ -121,6 +121,7 @@ text_of_two Z one two e1 e2 =
     let b : Record = record { iterations = one; credential = range_with_len 224 32 } in
     ap (λ es. head_then (range_with_len 0 16) two (lines_of es))
     (entries_of_two (codes "alice") (codes "bob") a b refl)
-    ∙ ap (head_then (range_with_len 0 16) two) (lines_of-cons (codes "alice", a) ((codes "bob", b) ∷ [])
+    ∙ ap (head_then (range_with_len 0 16) two)
+    (lines_of-cons (codes "alice", a) ((codes "bob", b) ∷ [])
     ∙ ap (record_then (codes "alice", a)) (lines_of-cons (codes "bob", b) []))
     ∙ ap (λ n. example n (non_zero_u32_get two)) e1 ∙ ap (example 1) e2 ∙ example_text

@@ -11,6 +11,6 @@ loop-i-preserved g c =
     } in
     record {
       run = IsRun-more _ next c.loop-i.invariant.run c.follow.ensures.ok;
-      cost = IsCountedRun-more c.args.meter.now c.loop-i.meter _ next c.loop-i.invariant.cost c.follow.ensures.ok
-          c.follow.ensures.cost;
+      cost = IsCountedRun-more c.args.meter.now c.loop-i.meter _ next c.loop-i.invariant.cost
+          c.follow.ensures.ok c.follow.ensures.cost;
     }

@@ -18,7 +18,8 @@ token_key-okm master salt_bytes e = rw e refl
 pub returns-clause-ok : goal.returns-clause-ok
 returns-clause-ok c =
     let salt : salt_algorithm c.in-Ok.salt ≡ SHA256 = c.in-Ok.ensures.algorithm in
-    let keyed = c.key_of-key.ensures.ok _ (c.in-Ok-extract_counted.ensures.ok _ c.in-Ok.ensures.ok) in
+    let extracted = c.in-Ok-extract_counted.ensures.ok _ c.in-Ok.ensures.ok in
+    let keyed = c.key_of-key.ensures.ok _ extracted in
     subst (λ (k : List ℕ). KeyStandsFor c.key_of-key.result k)
     (token_key-okm c.args.master.now c.args.salt.now salt) keyed
 

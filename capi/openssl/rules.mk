@@ -3,7 +3,8 @@
 #     make openssl; make openssl-check; make openssl-bench
 #     make openssl-install DESTDIR= MODULESDIR=; make openssl-uninstall
 #
-# It needs OpenSSL 3's headers (Debian: libssl-dev).
+# It needs OpenSSL 3's headers (Debian: libssl-dev, and for ARCH=aarch64 libssl-dev:arm64 with its
+# library, which qemu-user then runs).
 
 PROVIDER_DEB = openssl-provider-yezdopin
 PKG_CONFIG ?= pkg-config
@@ -53,6 +54,7 @@ SANITIZERS = -fsanitize=address,undefined -fno-sanitize-recover=all
 LEAKS = --leak-check=full --show-leak-kinds=all --errors-for-leak-kinds=all --error-exitcode=9
 # Of 8 threads: some 300,000 calls.
 AGREE_CASES ?= 2900
+LOADS ?= 100
 SANITIZED_CASES ?= 100
 VALGRIND_CASES ?= 20
 VALGRIND_LOADS ?= 20
@@ -70,24 +72,30 @@ $(PROVIDER_TESTS:%=$(OUT)/openssl/sanitized/%): $(OUT)/openssl/sanitized/%: open
 	    $(filter %/$*.c %/$*_digests.c %/$*_tags.c %/$*_derivations.c,$^) \
 	    $(ARCHIVE) -lcrypto -lpthread -o $@
 
+ifeq ($(ARCH),$(HOST))
 openssl-check: openssl-agree openssl-orders openssl-memory openssl-wiped openssl-sanitized \
     openssl-valgrind openssl-programs openssl-policy openssl-exports openssl-installed
+else
+# The others want the other processor's own programs and sanitizers.
+openssl-check: openssl-agree openssl-orders openssl-memory openssl-wiped openssl-exports \
+    openssl-installed
+endif
 
 # Random calls beside the default provider's.
 openssl-agree: $(PROVIDER) $(OUT)/openssl/agree
-	$(OUT)/openssl/agree $(<D) $(AGREE_CASES) 8
+	$(RUN) $(OUT)/openssl/agree $(<D) $(AGREE_CASES) 8
 
 # Wrong orders, missing and wrong parameters, records, loading and unloading.
 openssl-orders: $(PROVIDER) $(OUT)/openssl/orders
-	$(OUT)/openssl/orders $(<D) 100
+	$(RUN) $(OUT)/openssl/orders $(<D) $(LOADS)
 
 # Each allocation refused in turn.
 openssl-memory: $(PROVIDER) $(OUT)/openssl/refused_memory
-	$(OUT)/openssl/refused_memory $(<D)
+	$(RUN) $(OUT)/openssl/refused_memory $(<D)
 
 # No key, no words made of one and no message is left.
 openssl-wiped: $(PROVIDER) $(OUT)/openssl/wiped
-	$(OUT)/openssl/wiped $(<D)
+	$(RUN) $(OUT)/openssl/wiped $(<D)
 
 openssl-sanitized: $(SANITIZED) $(patsubst %,$(OUT)/openssl/sanitized/%,agree orders refused_memory)
 	$(<D)/agree $(<D) $(SANITIZED_CASES) 8

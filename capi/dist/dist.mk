@@ -8,7 +8,7 @@
 # that fills WORK/NAME with what is installed, and then calls `deb`.
 
 PACKAGES = tarball deb-libyezdopin$(MAJOR) deb-libyezdopin-dev wheel \
-    $(if $(filter x86_64,$(ARCH)),crate) $(PROVIDER_PACKAGE)
+    $(PROVIDER_PACKAGE) $(if $(filter x86_64,$(ARCH)),crate $(NPM_PACKAGE))
 
 DIST = $(WHOLE_OUT)/dist
 WORK = $(DIST).work

@@ -4,7 +4,11 @@
 #     make js-check      # tests it under Node 20 or later
 #     make js-browsers   # in Chromium, Firefox and JavaScriptCore, where they are
 #     make js-demo       # serves the demonstration to this machine's browser
-#     make js-bench; make dist-npm
+#     make js-bench
+#     make dist-npm      # the package for npm alone; `make dist` makes it too
+#
+# `make JS_MODULE=yezdopin.wasm` takes a finished module, out/js/package/yezdopin.wasm of another
+# folder, and needs no kit.
 #
 # The crate is built for WebAssembly with 64-bit addresses, the only kind that the kit has, and
 # build/lower.py turns the linked module to 32-bit addresses, since not all engines have the former.
@@ -43,15 +47,21 @@ $(WASM64): $(WASM_BUILT)
 	$(KIT)/bin/rattle-link --target wasm64-unknown-unknown --toolchain $(KIT)/toolchain \
 	    --stack $(WASM_STACK) -o $@ $<
 
+ifeq ($(origin JS_MODULE),command line)
+$(WASM): $(JS_MODULE)
+	mkdir -p $(@D)
+	cp $(JS_MODULE) $@
+else
 $(WASM): $(WASM64) js/build/lower.py
 	mkdir -p $(@D)
 	$(PYTHON) -B js/build/lower.py $< $@ $(JS_EXPORTS)
+endif
 
 $(JS)/package/package.json: $(WASM) $(JS_FILES) js/README.md ../LICENSE
 	rm -f $(@D)/*.js $(@D)/*.ts
 	cp $(JS_FILES) js/README.md ../LICENSE $(@D)
 
-js-check: js-lowered js-test js-traces js-types js-packed dist-npm
+js-check: js-lowered js-test js-traces js-types js-packed
 
 # Node 20 wants a flag for the module of 64-bit addresses.
 MEMORY64 = $$($(NODE) -p 'WebAssembly.validate(Uint8Array.of(0, 97, 115, 109, 1, 0, 0, 0, 5, 3, 1, \
@@ -110,7 +120,10 @@ js-demo: $(JS)/package/package.json
 js-bench: $(JS)/package/package.json
 	@$(NODE) js/bench/node.mjs $(<D)
 
-# Into the folder of the other packages, which `make dist` empties first.
+# A word of PACKAGES in dist/dist.mk where npm is, and the kit or a finished module.
+ifneq ($(origin BUILT) $(origin JS_MODULE),command line undefined)
+NPM_PACKAGE = $(shell command -v $(NPM) >/dev/null && echo npm)
+endif
 dist-npm: $(JS)/package/package.json
 	mkdir -p "$(DIST)"
 	NPM='$(NPM)' js/build/pack $(<D) "$(DIST)"

@@ -41,7 +41,7 @@ class Names(unittest.TestCase):
     def test_as_openssl(self):
         """A name is one of ours where OpenSSL has it for the same hash, and else none."""
         spelled = ["{}", "sha{}", "sha-{}", "sha2-{}", "SHA{}", "SHA-{}", "SHA2-{}", "Sha-{}"]
-        spelled += ["sha_{}", "sha--{}", "s-h-a-{}", "sha{} ", " sha{}", "sha3-{}", "hmac-sha{}"]
+        spelled += ["sha_{}", "sha--{}", "s-h-a-{}", " sha{}", "sha3-{}", "hmac-sha{}"]
         spelled += ["RSA-SHA{}", "sha2_{}", "2.16.840.1.101.3.4.2.{}", "sha{}é"]
         numbers = ["1", "2", "3", "6", "256", "384", "512", "512-256", "512/256", "512_256", ""]
         others = ["SSL3-SHA1", "1.3.14.3.2.26", "", "-", "md5", "shake256", "sha" * 40]
@@ -56,7 +56,8 @@ class Names(unittest.TestCase):
                     yezdopin.new(name)
             else:
                 self.assertEqual(yezdopin.new(name).name, want)
-        for name in ("sha256\0", "\0sha256", "\ud800"):
+        # OpenSSL 3.5 takes the first of these, and earlier ones don't.
+        for name in ("sha256 ", "sha256\0", "\0sha256", "\ud800"):
             with self.assertRaises(ValueError):
                 yezdopin.new(name)
 

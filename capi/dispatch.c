@@ -2,23 +2,45 @@
  * Copyright 2026 the Yezdopin authors.
  *
  * The library has two builds of one proved crate, for x86-64-v2 and for x86-64-v3, which has AVX2.
- * The three calls below run several messages or several rounds of output side by side, and are
- * faster in the build for x86-64-v3. All other calls are those of the build for x86-64-v2, since a
- * single message is no faster in the other. Contexts and keys have the same bytes in both. */
+ * Where the processor has the latter, the calls below go to the build that the table BUILD names.
+ * All other calls, which run no block, are those of the build for x86-64-v2. Contexts and keys have
+ * the same bytes in both, so that one build goes on where the other stopped. */
 #include "yezdopin.h"
 #include <cpuid.h>
 #include <stdatomic.h>
 
-/* The calls of the builds, by the names that the Makefile gives them. Those that end in `_wide` run
- * as many side by side as is fastest with the longer vectors of x86-64-v3. */
-__typeof__(yz_digest_each) v2_yz_digest_each, v3_yz_digest_each_wide;
-__typeof__(yz_pbkdf2_derive) v2_yz_pbkdf2_derive, v3_yz_pbkdf2_derive_wide;
-__typeof__(yz_pbkdf2_verify) v2_yz_pbkdf2_verify, v3_yz_pbkdf2_verify_wide;
+/* What calls do. The table has a row for each. */
+enum work {
+    DIGEST,        /* of one message, whole or in pieces */
+    DIGEST_EACH,   /* of several messages, side by side */
+    HMAC,          /* of one message, whole or in pieces, and keys */
+    HKDF,          /* one step or both */
+    PBKDF2_ROUND,  /* no more output than of one round */
+    PBKDF2_ROUNDS, /* several rounds, side by side */
+    WORKS,
+};
 
 #ifdef FORCED
-/* In an archive for tests one build answers on every processor: FORCED is 2 or 3. */
-static bool takes_v3(void) { return FORCED == 3; }
+/* In an archive for tests one build answers all calls on every processor: FORCED is 2 or 3. */
+static bool takes_v3(enum work work, uint32_t algorithm) {
+    (void)work, (void)algorithm;
+    return FORCED == 3;
+}
 #else
+
+/* The build that answers on a processor with x86-64-v3, by the number of the algorithm: that which
+ * `make bench-builds` finds the faster. README.md has this table too, and `make builds` compares
+ * both. */
+enum { V2 = 2, V3 = 3, ALGORITHMS = YZ_SHA512_256 + 1 };
+static const uint8_t BUILD[WORKS][ALGORITHMS] = {
+    /*              none SHA-1 SHA-256 SHA-384 SHA-512 SHA-512/256 */
+    [DIGEST]        = {V2, V3,   V2,     V2,     V2,     V2},
+    [DIGEST_EACH]   = {V2, V3,   V3,     V3,     V3,     V3},
+    [HMAC]          = {V2, V3,   V2,     V2,     V2,     V2},
+    [HKDF]          = {V2, V3,   V2,     V2,     V2,     V2},
+    [PBKDF2_ROUND]  = {V2, V2,   V2,     V2,     V2,     V2},
+    [PBKDF2_ROUNDS] = {V2, V3,   V3,     V3,     V3,     V3},
+};
 
 /* Whether the system saves the registers of 256 bits. Only a processor with OSXSAVE can tell. */
 static bool saves_vectors(void) {
@@ -38,15 +60,17 @@ static bool has_v3(void) {
     return __get_cpuid(0x80000001, &a, &b, &c, &d) && (c & bit_LZCNT) != 0;
 }
 
-/* Whether the build for x86-64-v3 answers. The first call asks the processor, which takes
- * microseconds on a virtual machine, where each `cpuid` traps, and so more than a short call. The
- * answer is kept in the one byte that the library writes. Threads that ask at once all write the
- * same. */
-static bool takes_v3(void) {
-    enum { UNKNOWN, V2, V3 };
-    static _Atomic uint8_t known = UNKNOWN;
+/* V3 where the processor has it, else V2, once it was asked. It is the one byte that the library
+ * writes. */
+static _Atomic uint8_t known;
+
+/* Whether the build for x86-64-v3 answers. The first call for which the table names it asks the
+ * processor, which takes microseconds on a virtual machine, where each `cpuid` traps, and so more
+ * than a short call. Threads that ask at once all write the same. */
+static bool takes_v3(enum work work, uint32_t algorithm) {
+    if (algorithm >= ALGORITHMS || BUILD[work][algorithm] != V3) return false;
     uint8_t build = atomic_load_explicit(&known, memory_order_relaxed);
-    if (build == UNKNOWN) {
+    if (build == 0) {
         build = has_v3() ? V3 : V2;
         atomic_store_explicit(&known, build, memory_order_relaxed);
     }
@@ -54,30 +78,65 @@ static bool takes_v3(void) {
 }
 #endif
 
-yz_status yz_digest_each(uint32_t algorithm, const yz_message *messages, size_t count,
-                         uint8_t *out, size_t out_len) {
-    if (takes_v3()) return v3_yz_digest_each_wide(algorithm, messages, count, out, out_len);
-    return v2_yz_digest_each(algorithm, messages, count, out, out_len);
+static enum work pbkdf2_work(uint32_t algorithm, size_t out_len) {
+    return out_len <= yz_output_len(algorithm) ? PBKDF2_ROUND : PBKDF2_ROUNDS;
 }
 
-yz_status yz_pbkdf2_derive(uint32_t algorithm, uint32_t iterations,
-                           const uint8_t *salt, size_t salt_len,
-                           const uint8_t *secret, size_t secret_len,
-                           uint8_t *out, size_t out_len) {
-    if (takes_v3())
-        return v3_yz_pbkdf2_derive_wide(algorithm, iterations, salt, salt_len, secret, secret_len,
-                                        out, out_len);
-    return v2_yz_pbkdf2_derive(algorithm, iterations, salt, salt_len, secret, secret_len,
-                               out, out_len);
-}
+/* CALL(NAME, WIDE, WORK, ALGORITHM, (PARAMETERS), (ARGUMENTS)) defines a call that hands its
+ * arguments on. The builds have it by the names that the Makefile gives them, with `v2_` and `v3_`.
+ * WIDE is `_wide` where the one for x86-64-v3 runs as many messages or rounds side by side as is
+ * fastest with its longer vectors. */
+#define CALL(name, wide, work, algorithm, parameters, arguments)                                   \
+    __typeof__(name) v2_##name, v3_##name##wide;                                                   \
+    yz_status name parameters {                                                                    \
+        return takes_v3(work, algorithm) ? v3_##name##wide arguments : v2_##name arguments;        \
+    }
 
-yz_status yz_pbkdf2_verify(uint32_t algorithm, uint32_t iterations,
-                           const uint8_t *salt, size_t salt_len,
-                           const uint8_t *secret, size_t secret_len,
-                           const uint8_t *derived, size_t derived_len) {
-    if (takes_v3())
-        return v3_yz_pbkdf2_verify_wide(algorithm, iterations, salt, salt_len, secret, secret_len,
-                                        derived, derived_len);
-    return v2_yz_pbkdf2_verify(algorithm, iterations, salt, salt_len, secret, secret_len,
-                               derived, derived_len);
-}
+/* Bytes that are read, bytes that are written, and either as an argument. */
+#define IN(name) const uint8_t *name, size_t name##_len
+#define OUT(name) uint8_t *name, size_t name##_len
+#define BYTES(name) name, name##_len
+
+CALL(yz_digest, , DIGEST, algorithm,
+     (uint32_t algorithm, IN(message), OUT(out)), (algorithm, BYTES(message), BYTES(out)))
+CALL(yz_digest_each, _wide, DIGEST_EACH, algorithm,
+     (uint32_t algorithm, const yz_message *messages, size_t count, OUT(out)),
+     (algorithm, messages, count, BYTES(out)))
+CALL(yz_digest_update, , DIGEST, context->algorithm,
+     (yz_digest_context *context, IN(input)), (context, BYTES(input)))
+CALL(yz_digest_final, , DIGEST, context->algorithm,
+     (const yz_digest_context *context, OUT(out)), (context, BYTES(out)))
+
+CALL(yz_hmac_sign, , HMAC, algorithm,
+     (uint32_t algorithm, IN(key), IN(message), OUT(out)),
+     (algorithm, BYTES(key), BYTES(message), BYTES(out)))
+CALL(yz_hmac_verify, , HMAC, algorithm,
+     (uint32_t algorithm, IN(key), IN(message), IN(tag)),
+     (algorithm, BYTES(key), BYTES(message), BYTES(tag)))
+CALL(yz_hmac_key_init, , HMAC, algorithm,
+     (uint32_t algorithm, IN(value), yz_hmac_key *key), (algorithm, BYTES(value), key))
+CALL(yz_hmac_key_sign, , HMAC, key->algorithm,
+     (const yz_hmac_key *key, IN(message), OUT(out)), (key, BYTES(message), BYTES(out)))
+CALL(yz_hmac_key_verify, , HMAC, key->algorithm,
+     (const yz_hmac_key *key, IN(message), IN(tag)), (key, BYTES(message), BYTES(tag)))
+CALL(yz_hmac_update, , HMAC, context->inner.algorithm,
+     (yz_hmac_context *context, IN(input)), (context, BYTES(input)))
+CALL(yz_hmac_final, , HMAC, context->inner.algorithm,
+     (const yz_hmac_context *context, OUT(out)), (context, BYTES(out)))
+
+CALL(yz_hkdf_extract, , HKDF, algorithm,
+     (uint32_t algorithm, IN(salt), IN(secret), OUT(out)),
+     (algorithm, BYTES(salt), BYTES(secret), BYTES(out)))
+CALL(yz_hkdf_expand, , HKDF, algorithm,
+     (uint32_t algorithm, IN(prk), IN(info), OUT(out)),
+     (algorithm, BYTES(prk), BYTES(info), BYTES(out)))
+CALL(yz_hkdf, , HKDF, algorithm,
+     (uint32_t algorithm, IN(salt), IN(secret), IN(info), OUT(out)),
+     (algorithm, BYTES(salt), BYTES(secret), BYTES(info), BYTES(out)))
+
+CALL(yz_pbkdf2_derive, _wide, pbkdf2_work(algorithm, out_len), algorithm,
+     (uint32_t algorithm, uint32_t iterations, IN(salt), IN(secret), OUT(out)),
+     (algorithm, iterations, BYTES(salt), BYTES(secret), BYTES(out)))
+CALL(yz_pbkdf2_verify, _wide, pbkdf2_work(algorithm, derived_len), algorithm,
+     (uint32_t algorithm, uint32_t iterations, IN(salt), IN(secret), IN(derived)),
+     (algorithm, iterations, BYTES(salt), BYTES(secret), BYTES(derived)))

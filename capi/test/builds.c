@@ -1,6 +1,8 @@
 /* The builds for x86-64-v2 and x86-64-v3 are one library. Contexts and keys have the same bytes
- * whichever build made or advanced them, so each step may be taken by either. The calls that run
- * several messages or rounds of output side by side give the same in both, at both widths.
+ * whichever build made or advanced them, so each step may be taken by either: a digest and a tag in
+ * pieces is made by each build and ended by the other, and made again by a build that is drawn for
+ * each step. Garbage in the place of contexts and keys has the same answers in both. The calls that
+ * run several messages or rounds of output side by side give the same in both, at both widths.
  * Messages, pieces and builds are drawn at random, in each run the same. */
 #include "yezdopin.h"
 #include <stdio.h>
@@ -10,6 +12,7 @@
 #define MESSAGES 20000
 #define LISTS 2000
 #define DERIVATIONS 2000
+#define GARBAGE 20000
 #define MOST_MESSAGE 4096
 #define MOST_PIECE 300
 #define MOST_KEY 200
@@ -27,11 +30,16 @@ __typeof__(yz_digest_init) v3_yz_digest_init;
 __typeof__(yz_digest_update) v3_yz_digest_update;
 __typeof__(yz_digest_final) v3_yz_digest_final;
 __typeof__(yz_hmac_sign) v3_yz_hmac_sign;
+__typeof__(yz_hmac_verify) v3_yz_hmac_verify;
 __typeof__(yz_hmac_key_init) v3_yz_hmac_key_init;
+__typeof__(yz_hmac_key_sign) v3_yz_hmac_key_sign;
 __typeof__(yz_hmac_key_verify) v3_yz_hmac_key_verify;
 __typeof__(yz_hmac_init) v3_yz_hmac_init;
 __typeof__(yz_hmac_update) v3_yz_hmac_update;
 __typeof__(yz_hmac_final) v3_yz_hmac_final;
+__typeof__(yz_hkdf_extract) v3_yz_hkdf_extract;
+__typeof__(yz_hkdf_expand) v3_yz_hkdf_expand;
+__typeof__(yz_hkdf) v3_yz_hkdf;
 
 typedef struct {
     __typeof__(yz_digest) *digest;
@@ -39,20 +47,28 @@ typedef struct {
     __typeof__(yz_digest_update) *digest_update;
     __typeof__(yz_digest_final) *digest_final;
     __typeof__(yz_hmac_sign) *hmac_sign;
+    __typeof__(yz_hmac_verify) *hmac_verify;
     __typeof__(yz_hmac_key_init) *hmac_key_init;
+    __typeof__(yz_hmac_key_sign) *hmac_key_sign;
     __typeof__(yz_hmac_key_verify) *hmac_key_verify;
     __typeof__(yz_hmac_init) *hmac_init;
     __typeof__(yz_hmac_update) *hmac_update;
     __typeof__(yz_hmac_final) *hmac_final;
+    __typeof__(yz_hkdf_extract) *hkdf_extract;
+    __typeof__(yz_hkdf_expand) *hkdf_expand;
+    __typeof__(yz_hkdf) *hkdf;
 } build;
 
-enum { V2, V3, BUILDS };
+/* The builds, and what is made by both in turn. */
+enum { V2, V3, BUILDS, MIXED = BUILDS, MAKERS };
 static const build BUILD[BUILDS] = {
-    {yz_digest, yz_digest_init, yz_digest_update, yz_digest_final, yz_hmac_sign, yz_hmac_key_init,
-     yz_hmac_key_verify, yz_hmac_init, yz_hmac_update, yz_hmac_final},
+    {yz_digest, yz_digest_init, yz_digest_update, yz_digest_final, yz_hmac_sign, yz_hmac_verify,
+     yz_hmac_key_init, yz_hmac_key_sign, yz_hmac_key_verify, yz_hmac_init, yz_hmac_update,
+     yz_hmac_final, yz_hkdf_extract, yz_hkdf_expand, yz_hkdf},
     {v3_yz_digest, v3_yz_digest_init, v3_yz_digest_update, v3_yz_digest_final, v3_yz_hmac_sign,
-     v3_yz_hmac_key_init, v3_yz_hmac_key_verify, v3_yz_hmac_init, v3_yz_hmac_update,
-     v3_yz_hmac_final},
+     v3_yz_hmac_verify, v3_yz_hmac_key_init, v3_yz_hmac_key_sign, v3_yz_hmac_key_verify,
+     v3_yz_hmac_init, v3_yz_hmac_update, v3_yz_hmac_final, v3_yz_hkdf_extract, v3_yz_hkdf_expand,
+     v3_yz_hkdf},
 };
 
 /* The calls of both builds that run several side by side, as many as is usual and as are wide. */
@@ -77,6 +93,9 @@ static size_t below(size_t limit) { return (size_t)rand() % limit; }
 
 static const build *either(void) { return &BUILD[below(BUILDS)]; }
 
+/* The build that takes the next step of a maker's. */
+static const build *of(int maker) { return maker == MIXED ? either() : &BUILD[maker]; }
+
 /* The length of the next piece of a message of which so much is left. */
 static size_t piece_of(size_t left) {
     size_t piece = 1 + below(MOST_PIECE);
@@ -84,43 +103,106 @@ static size_t piece_of(size_t left) {
 }
 
 static void digest_in_pieces(uint32_t n, size_t len) {
-    yz_digest_context context[BUILDS];
+    yz_digest_context context[MAKERS];
     uint8_t whole[YZ_MAX_OUTPUT_LEN], pieces[YZ_MAX_OUTPUT_LEN];
     size_t out_len = yz_output_len(n);
-    for (int i = 0; i < BUILDS; i++) {
+    for (int i = 0; i < MAKERS; i++) {
         memset(&context[i], 0xa5, sizeof context[i]);
-        must(BUILD[i].digest_init(n, &context[i]) == YZ_OK, "a context is begun");
+        must(of(i)->digest_init(n, &context[i]) == YZ_OK, "a context is begun");
     }
     must(!memcmp(&context[V2], &context[V3], sizeof *context), "both begin the same context");
     for (size_t at = 0, piece; at < len; at += piece, steps++) {
         piece = piece_of(len - at);
-        for (int i = 0; i < BUILDS; i++)
-            must(BUILD[i].digest_update(&context[i], message + at, piece) == YZ_OK, "an update");
+        for (int i = 0; i < MAKERS; i++)
+            must(of(i)->digest_update(&context[i], message + at, piece) == YZ_OK, "an update");
         must(!memcmp(&context[V2], &context[V3], sizeof *context), "both advance it alike");
+        must(!memcmp(&context[V2], &context[MIXED], sizeof *context), "and so do both in turn");
     }
-    must(either()->digest_final(&context[below(BUILDS)], pieces, out_len) == YZ_OK, "an end");
     must(either()->digest(n, message, len, whole, out_len) == YZ_OK, "a digest");
-    must(!memcmp(whole, pieces, out_len), "the digest in pieces is that of the whole");
+    for (int i = 0; i < MAKERS; i++) {
+        /* What one build began and advanced the other ends. */
+        must(BUILD[i == V2].digest_final(&context[i], pieces, out_len) == YZ_OK, "an end");
+        must(!memcmp(whole, pieces, out_len), "the digest in pieces is that of the whole");
+    }
 }
 
 static void tag_in_pieces(uint32_t n, size_t key_len, size_t len) {
     yz_hmac_key key[BUILDS];
-    yz_hmac_context context;
+    yz_hmac_context context[MAKERS];
     uint8_t whole[YZ_MAX_OUTPUT_LEN], pieces[YZ_MAX_OUTPUT_LEN];
     size_t out_len = yz_output_len(n);
     for (int i = 0; i < BUILDS; i++)
         must(BUILD[i].hmac_key_init(n, message, key_len, &key[i]) == YZ_OK, "a key is made");
     must(!memcmp(&key[V2], &key[V3], sizeof *key), "both make the same key");
-    must(either()->hmac_init(&key[V2], &context) == YZ_OK, "a tag is begun");
+    for (int i = 0; i < MAKERS; i++)
+        must(of(i)->hmac_init(&key[below(BUILDS)], &context[i]) == YZ_OK, "a tag is begun");
     for (size_t at = 0, piece; at < len; at += piece, steps++) {
         piece = piece_of(len - at);
-        must(either()->hmac_update(&context, message + at, piece) == YZ_OK, "an update of a tag");
+        for (int i = 0; i < MAKERS; i++)
+            must(of(i)->hmac_update(&context[i], message + at, piece) == YZ_OK, "a tag's update");
+        must(!memcmp(&context[V2], &context[V3], sizeof *context), "both advance a tag alike");
+        must(!memcmp(&context[V2], &context[MIXED], sizeof *context), "and so do both in turn");
     }
-    must(either()->hmac_final(&context, pieces, out_len) == YZ_OK, "the end of a tag");
     must(either()->hmac_sign(n, message, key_len, message, len, whole, out_len) == YZ_OK, "a tag");
-    must(!memcmp(whole, pieces, out_len), "the tag in pieces is that of the whole");
-    must(either()->hmac_key_verify(&key[V3], message, len, pieces, out_len) == YZ_OK,
-         "a verification");
+    for (int i = 0; i < MAKERS; i++) {
+        must(BUILD[i == V2].hmac_final(&context[i], pieces, out_len) == YZ_OK, "the end of a tag");
+        must(!memcmp(whole, pieces, out_len), "the tag in pieces is that of the whole");
+    }
+    for (int i = 0; i < BUILDS; i++) {
+        must(BUILD[i].hmac_key_sign(&key[!i], message, len, pieces, out_len) == YZ_OK &&
+                 !memcmp(whole, pieces, out_len), "a tag under a key of the other build");
+        must(BUILD[i].hmac_key_verify(&key[!i], message, len, whole, out_len) == YZ_OK &&
+                 BUILD[i].hmac_verify(n, message, key_len, message, len, whole, out_len) == YZ_OK,
+             "a verification");
+    }
+}
+
+/* The steps of HKDF by one build each, and both in one call. */
+static void expansion(uint32_t n, size_t len) {
+    uint8_t prk[YZ_MAX_OUTPUT_LEN], out[BUILDS][MOST_DERIVED], whole[MOST_DERIVED];
+    size_t salt_len = below(MOST_KEY), secret_len = below(MOST_KEY), info_len = below(MOST_KEY);
+    const uint8_t *secret = message + MOST_KEY, *info = secret + MOST_KEY;
+    for (int i = 0; i < BUILDS; i++) {
+        must(BUILD[i].hkdf_extract(n, message, salt_len, secret, secret_len, prk,
+                                   yz_output_len(n)) == YZ_OK, "an extraction");
+        must(BUILD[!i].hkdf_expand(n, prk, yz_output_len(n), info, info_len, out[i], len) == YZ_OK,
+             "an expansion of what the other build extracted");
+        must(BUILD[i].hkdf(n, message, salt_len, secret, secret_len, info, info_len, whole,
+                           len) == YZ_OK, "both steps in one");
+        must(!memcmp(whole, out[0], len) && !memcmp(out[i], out[0], len), "outputs are the same");
+    }
+}
+
+/* Any bytes as contexts and keys. */
+static void garbage(void) {
+    yz_digest_context digest[BUILDS];
+    yz_hmac_context tag[BUILDS];
+    yz_hmac_key key;
+    uint8_t out[BUILDS][4][YZ_MAX_OUTPUT_LEN] = {0};
+    yz_status status[BUILDS][6];
+    for (size_t i = 0; i < sizeof key; i++) ((uint8_t *)&key)[i] = (uint8_t)rand();
+    for (size_t i = 0; i < sizeof *tag; i++) ((uint8_t *)tag)[i] = (uint8_t)rand();
+    key.algorithm = (uint32_t)below(8);
+    tag[0].inner.algorithm = (uint32_t)below(8);
+    tag[0].inner.num_pending = (uint32_t)below(150);
+    if (below(2)) tag[0].inner.completed_high = 0;
+    tag[1] = tag[0];
+    digest[0] = digest[1] = tag[0].inner;
+    size_t len = below(MOST_PIECE), tag_len = yz_output_len(key.algorithm);
+    for (int i = 0; i < BUILDS; i++) {
+        status[i][0] = BUILD[i].digest_update(&digest[i], message, len);
+        status[i][1] = BUILD[i].digest_final(&digest[i], out[i][0],
+                                             yz_output_len(digest->algorithm));
+        status[i][2] = BUILD[i].hmac_update(&tag[i], message, len);
+        status[i][3] = BUILD[i].hmac_final(&tag[i], out[i][1],
+                                           yz_output_len(tag->inner.algorithm));
+        status[i][4] = BUILD[i].hmac_key_sign(&key, message, len, out[i][2], tag_len);
+        status[i][5] = BUILD[i].hmac_key_verify(&key, message, len, out[i][2], tag_len);
+    }
+    must(!memcmp(status[V2], status[V3], sizeof *status), "both answer the same to garbage");
+    must(!memcmp(out[V2], out[V3], sizeof *out), "both write the same for garbage");
+    must(!memcmp(&digest[V2], &digest[V3], sizeof *digest) && !memcmp(&tag[V2], &tag[V3],
+         sizeof *tag), "both advance garbage alike");
 }
 
 static void several(uint32_t n, size_t count) {
@@ -169,6 +251,9 @@ int main(void) {
     for (int turn = 0; turn < DERIVATIONS; turn++)
         derivations(1 + (uint32_t)below(YZ_SHA512), 1 + (uint32_t)below(MOST_ITERATIONS),
                     1 + below(MOST_DERIVED));
-    printf("both builds agree: %d messages in %ld pieces, %d lists of messages, %d derived keys\n",
-           MESSAGES, steps, LISTS, DERIVATIONS);
+    for (int turn = 0; turn < DERIVATIONS; turn++)
+        expansion(1 + (uint32_t)below(YZ_SHA512), 1 + below(MOST_DERIVED));
+    for (int turn = 0; turn < GARBAGE; turn++) garbage();
+    printf("both builds agree: %d messages in %ld pieces, %d lists of messages, %d derived keys of "
+           "each kind, %d times garbage\n", MESSAGES, steps, LISTS, DERIVATIONS, GARBAGE);
 }

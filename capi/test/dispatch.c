@@ -1,32 +1,34 @@
 /* Which build dispatch.c chooses, also on processors that lack a part of x86-64-v3, and that it
- * hands on each argument and the status. The calls of the builds are stand-ins here. */
+ * hands on each argument and the status. The calls of the builds are stand-ins here. With an
+ * argument it prints which build gets which call, as README.md has it. */
 #include "yezdopin.h"
 #include <cpuid.h>
 #include <stdio.h>
+#include <string.h>
+
+#define MOST_ARGUMENTS 9
 
 static int faults;
 
-static void is(const char *what, int got, int want) {
+static void is(const char *what, long got, long want) {
     if (got == want) return;
-    printf("FAILED: %s is %d and not %d\n", what, got, want);
+    fprintf(stderr, "FAILED: %s is %ld and not %ld\n", what, got, want);
     faults++;
 }
 
 #ifdef FORCED
 #include "../dispatch.c"
-
-static int wanted(void) { return FORCED; }
-
-static void each_loss(void) {}
 #else
 
-/* Bits of a leaf that the processor is told to lack. */
+/* Bits of a leaf that the processor is told to lack, and how often it was asked. */
 static struct {
     unsigned leaf, bits;
 } lost;
+static int asked;
 
 static int get(unsigned leaf, unsigned *a, unsigned *b, unsigned *c, unsigned *d) {
     int is_known = __get_cpuid(leaf, a, b, c, d);
+    asked += leaf == 1;
     if (leaf == lost.leaf) *b &= ~lost.bits, *c &= ~lost.bits;
     return is_known;
 }
@@ -41,6 +43,176 @@ static int get_count(unsigned leaf, unsigned part, unsigned *a, unsigned *b, uns
 #define __get_cpuid get
 #define __get_cpuid_count get_count
 #include "../dispatch.c"
+#endif
+
+size_t yz_output_len(uint32_t algorithm) {
+    static const size_t LEN[] = {0, YZ_SHA1_OUTPUT_LEN, YZ_SHA256_OUTPUT_LEN, YZ_SHA384_OUTPUT_LEN,
+                                 YZ_SHA512_OUTPUT_LEN, YZ_SHA512_256_OUTPUT_LEN};
+    return algorithm < sizeof LEN / sizeof *LEN ? LEN[algorithm] : 0;
+}
+
+/* The last stand-in: of which build and which call it is, and its arguments in their order. */
+static int build;
+static const char *called;
+static uintptr_t arguments[MOST_ARGUMENTS];
+
+static yz_status told(int of, const char *name, const uintptr_t *in_order, size_t count) {
+    build = of, called = name;
+    memset(arguments, 0, sizeof arguments);
+    memcpy(arguments, in_order, count * sizeof *in_order);
+    return 1000 * of + (int)count;
+}
+
+/* STAND_INS(NAME, WIDE, (PARAMETERS), A, B, ..): the call in both builds. */
+#define TOLD(of, name, ...)                                                                        \
+    {                                                                                              \
+        const uintptr_t in_order[] = {__VA_ARGS__};                                                \
+        return told(of, name, in_order, sizeof in_order / sizeof *in_order);                       \
+    }
+#define STAND_INS(name, wide, parameters, ...)                                                     \
+    yz_status v2_##name parameters TOLD(2, #name, __VA_ARGS__)                                     \
+    yz_status v3_##name##wide parameters TOLD(3, #name, __VA_ARGS__)
+#define N(name) (uintptr_t)name
+typedef const uint8_t *in;
+typedef uint8_t *out;
+
+STAND_INS(yz_digest, , (uint32_t a, in b, size_t c, out d, size_t e), N(a), N(b), N(c), N(d), N(e))
+STAND_INS(yz_digest_each, _wide, (uint32_t a, const yz_message *b, size_t c, out d, size_t e),
+          N(a), N(b), N(c), N(d), N(e))
+STAND_INS(yz_digest_update, , (yz_digest_context *a, in b, size_t c), N(a), N(b), N(c))
+STAND_INS(yz_digest_final, , (const yz_digest_context *a, out b, size_t c), N(a), N(b), N(c))
+STAND_INS(yz_hmac_sign, , (uint32_t a, in b, size_t c, in d, size_t e, out f, size_t g),
+          N(a), N(b), N(c), N(d), N(e), N(f), N(g))
+STAND_INS(yz_hmac_verify, , (uint32_t a, in b, size_t c, in d, size_t e, in f, size_t g),
+          N(a), N(b), N(c), N(d), N(e), N(f), N(g))
+STAND_INS(yz_hmac_key_init, , (uint32_t a, in b, size_t c, yz_hmac_key *d), N(a), N(b), N(c), N(d))
+STAND_INS(yz_hmac_key_sign, , (const yz_hmac_key *a, in b, size_t c, out d, size_t e),
+          N(a), N(b), N(c), N(d), N(e))
+STAND_INS(yz_hmac_key_verify, , (const yz_hmac_key *a, in b, size_t c, in d, size_t e),
+          N(a), N(b), N(c), N(d), N(e))
+STAND_INS(yz_hmac_update, , (yz_hmac_context *a, in b, size_t c), N(a), N(b), N(c))
+STAND_INS(yz_hmac_final, , (const yz_hmac_context *a, out b, size_t c), N(a), N(b), N(c))
+STAND_INS(yz_hkdf_extract, , (uint32_t a, in b, size_t c, in d, size_t e, out f, size_t g),
+          N(a), N(b), N(c), N(d), N(e), N(f), N(g))
+STAND_INS(yz_hkdf_expand, , (uint32_t a, in b, size_t c, in d, size_t e, out f, size_t g),
+          N(a), N(b), N(c), N(d), N(e), N(f), N(g))
+STAND_INS(yz_hkdf, , (uint32_t a, in b, size_t c, in d, size_t e, in f, size_t g, out h, size_t i),
+          N(a), N(b), N(c), N(d), N(e), N(f), N(g), N(h), N(i))
+STAND_INS(yz_pbkdf2_derive, _wide,
+          (uint32_t a, uint32_t b, in c, size_t d, in e, size_t f, out g, size_t h),
+          N(a), N(b), N(c), N(d), N(e), N(f), N(g), N(h))
+STAND_INS(yz_pbkdf2_verify, _wide,
+          (uint32_t a, uint32_t b, in c, size_t d, in e, size_t f, in g, size_t h),
+          N(a), N(b), N(c), N(d), N(e), N(f), N(g), N(h))
+
+/* The calls, and their arguments in their order: the number of an algorithm, a context or a key
+ * of it, messages, places of some bytes, lengths, and what is counted by itself. */
+static const struct {
+    const char *name, *arguments;
+} CALLS[] = {
+    {"yz_digest", "nplpl"}, {"yz_digest_update", "cpl"}, {"yz_digest_final", "cpl"},
+    {"yz_digest_each", "nmlpl"},
+    {"yz_hmac_sign", "nplplpl"}, {"yz_hmac_verify", "nplplpl"}, {"yz_hmac_key_init", "nplw"},
+    {"yz_hmac_key_sign", "kplpl"}, {"yz_hmac_key_verify", "kplpl"}, {"yz_hmac_update", "tpl"},
+    {"yz_hmac_final", "tpl"},
+    {"yz_hkdf", "nplplplpl"}, {"yz_hkdf_extract", "nplplpl"}, {"yz_hkdf_expand", "nplplpl"},
+    {"yz_pbkdf2_derive", "nlplplpo"}, {"yz_pbkdf2_verify", "nlplplpo"},
+};
+enum { NUM_CALLS = sizeof CALLS / sizeof *CALLS, PBKDF2 = NUM_CALLS - 2 };
+
+static yz_digest_context digest;
+static yz_hmac_context tag;
+static yz_hmac_key key, written;
+static const yz_message messages[1];
+static uint8_t bytes[MOST_ARGUMENTS];
+#define AT(i) (bytes + (i))
+
+/* A call, in which a length is the number of its place. */
+static yz_status call(int which, uint32_t n, size_t out_len) {
+    digest.algorithm = tag.inner.algorithm = key.algorithm = n;
+    switch (which) {
+    case 0: return yz_digest(n, AT(1), 2, AT(3), 4);
+    case 1: return yz_digest_update(&digest, AT(1), 2);
+    case 2: return yz_digest_final(&digest, AT(1), 2);
+    case 3: return yz_digest_each(n, messages, 2, AT(3), 4);
+    case 4: return yz_hmac_sign(n, AT(1), 2, AT(3), 4, AT(5), 6);
+    case 5: return yz_hmac_verify(n, AT(1), 2, AT(3), 4, AT(5), 6);
+    case 6: return yz_hmac_key_init(n, AT(1), 2, &written);
+    case 7: return yz_hmac_key_sign(&key, AT(1), 2, AT(3), 4);
+    case 8: return yz_hmac_key_verify(&key, AT(1), 2, AT(3), 4);
+    case 9: return yz_hmac_update(&tag, AT(1), 2);
+    case 10: return yz_hmac_final(&tag, AT(1), 2);
+    case 11: return yz_hkdf(n, AT(1), 2, AT(3), 4, AT(5), 6, AT(7), 8);
+    case 12: return yz_hkdf_extract(n, AT(1), 2, AT(3), 4, AT(5), 6);
+    case 13: return yz_hkdf_expand(n, AT(1), 2, AT(3), 4, AT(5), 6);
+    case 14: return yz_pbkdf2_derive(n, 1, AT(2), 3, AT(4), 5, AT(6), out_len);
+    default: return yz_pbkdf2_verify(n, 1, AT(2), 3, AT(4), 5, AT(6), out_len);
+    }
+}
+
+static uintptr_t argument(char kind, size_t place, uint32_t n, size_t out_len) {
+    switch (kind) {
+    case 'n': return n;
+    case 'c': return (uintptr_t)&digest;
+    case 't': return (uintptr_t)&tag;
+    case 'k': return (uintptr_t)&key;
+    case 'w': return (uintptr_t)&written;
+    case 'm': return (uintptr_t)messages;
+    case 'p': return (uintptr_t)AT(place);
+    case 'o': return out_len;
+    default: return place;
+    }
+}
+
+/* The build that a call goes to, which is given all arguments and whose status is handed back. */
+static int build_of(int which, uint32_t n, size_t out_len) {
+    const char *name = CALLS[which].name, *kinds = CALLS[which].arguments;
+    size_t count = strlen(kinds);
+    yz_status status = call(which, n, out_len);
+    is(name, strcmp(called, name), 0);
+    is(name, status, 1000 * build + (long)count);
+    for (size_t i = 0; i < count; i++)
+        is(name, arguments[i] == argument(kinds[i], i, n, out_len), true);
+    return build;
+}
+
+#ifdef FORCED
+static void try_all(void) {
+    for (int which = 0; which < NUM_CALLS; which++)
+        for (uint32_t n = 0; n < 9; n++)
+            for (size_t out_len = 0; out_len < 200; out_len++)
+                is(CALLS[which].name, build_of(which, n, out_len), FORCED);
+    if (!faults) printf("all calls are those of x86-64-v%d\n", FORCED);
+}
+
+static void print_table(void) {}
+#else
+
+/* The rows of README.md: some calls, and for which part of their work. */
+static const struct {
+    int first, last;
+    const char *work;
+    size_t more; /* output of PBKDF2 than of one round */
+} ROWS[] = {{0, 2, "", 0}, {3, 3, "", 0}, {4, 10, "", 0}, {11, 13, "", 0},
+            {14, 15, ": one round of output", 0}, {14, 15, ": several rounds of output", 1}};
+
+static void print_table(void) {
+    known = V3;
+    printf("| Calls | SHA-1 | SHA-256 | SHA-384 | SHA-512 | SHA-512/256 |\n");
+    printf("|---|---|---|---|---|---|\n");
+    for (size_t row = 0; row < sizeof ROWS / sizeof *ROWS; row++) {
+        for (int which = ROWS[row].first; which <= ROWS[row].last; which++)
+            printf("%s `%s`", which == ROWS[row].first ? "|" : ",", CALLS[which].name);
+        printf("%s |", ROWS[row].work);
+        for (uint32_t n = YZ_SHA1; n <= YZ_SHA512_256; n++) {
+            int first = build_of(ROWS[row].first, n, yz_output_len(n) + ROWS[row].more);
+            for (int which = ROWS[row].first; which <= ROWS[row].last; which++)
+                is(CALLS[which].name, build_of(which, n, yz_output_len(n) + ROWS[row].more), first);
+            printf(" v%d |", first);
+        }
+        printf("\n");
+    }
+}
 
 /* The build for this processor, by the compiler's own test. Clang's knows no levels. */
 static int wanted(void) {
@@ -62,67 +234,53 @@ static void each_loss(void) {
     }
     lost.bits = 0;
 }
+
+/* Each call under each algorithm, and under numbers of none, at lengths around one round: of a
+ * build that is known, nobody asks again, and a processor without x86-64-v3 gets no call of it. */
+static void each_call(void) {
+    bool is_used[4] = {false};
+    asked = 0;
+    for (known = V2; known <= V3; known++)
+        for (int which = 0; which < NUM_CALLS; which++)
+            for (uint32_t n = 0; n < 9; n++)
+                for (size_t out_len = 0; out_len < 200; out_len++) {
+                    int made = build_of(which, n, out_len);
+                    is_used[made] = true;
+                    if (known == V2 || n < YZ_SHA1 || n > YZ_SHA512_256)
+                        is(CALLS[which].name, made, 2);
+                    else if (which >= PBKDF2 && out_len <= yz_output_len(n))
+                        is(CALLS[which].name, made, BUILD[PBKDF2_ROUND][n]);
+                    else if (which >= PBKDF2)
+                        is(CALLS[which].name, made, BUILD[PBKDF2_ROUNDS][n]);
+                }
+    is("how often the processor is asked", asked, 0);
+    is("both builds are used", is_used[2] && is_used[3], true);
+}
+
+/* The first call that may go to the newer build asks, and no other. */
+static void first_call(int want) {
+    known = 0;
+    asked = 0;
+    for (int turn = 0; turn < 2; turn++)
+        is("yz_digest_each", build_of(3, YZ_SHA256, 0), want);
+    is("how often the processor is asked", asked, 1);
+    is("what is known", known, want);
+}
+
+static void try_all(void) {
+    each_loss();
+    first_call(wanted());
+    lost.leaf = 7, lost.bits = bit_AVX2;
+    first_call(2);
+    lost.bits = 0;
+    each_call();
+    if (!faults) printf("the dispatcher chooses x86-64-v%d where it is the faster\n", wanted());
+}
 #endif
 
-enum { ALGORITHM = 77, ITERATIONS = 78, COUNT = 1, SALT_LEN = 2, SECRET_LEN = 3, OUT_LEN = 4 };
-static const yz_message messages[COUNT];
-static const uint8_t salt[SALT_LEN], secret[SECRET_LEN];
-static uint8_t out[OUT_LEN];
-
-/* What a build answers: its number, or 0 where an argument isn't the caller's. */
-static yz_status each(int build, uint32_t algorithm, const yz_message *these, size_t count,
-                      const uint8_t *to, size_t to_len) {
-    return algorithm == ALGORITHM && these == messages && count == COUNT && to == out &&
-           to_len == OUT_LEN ? build : 0;
-}
-
-static yz_status derived(int build, uint32_t algorithm, uint32_t iterations,
-                         const uint8_t *by, size_t by_len, const uint8_t *from, size_t from_len,
-                         const uint8_t *to, size_t to_len) {
-    return algorithm == ALGORITHM && iterations == ITERATIONS && by == salt &&
-           by_len == SALT_LEN && from == secret && from_len == SECRET_LEN && to == out &&
-           to_len == OUT_LEN ? build : 0;
-}
-
-yz_status v2_yz_digest_each(uint32_t n, const yz_message *m, size_t count, uint8_t *o, size_t len) {
-    return each(2, n, m, count, o, len);
-}
-
-yz_status v3_yz_digest_each_wide(uint32_t n, const yz_message *m, size_t count, uint8_t *o,
-                                 size_t len) {
-    return each(3, n, m, count, o, len);
-}
-
-yz_status v2_yz_pbkdf2_derive(uint32_t n, uint32_t i, const uint8_t *s, size_t s_len,
-                              const uint8_t *p, size_t p_len, uint8_t *o, size_t len) {
-    return derived(2, n, i, s, s_len, p, p_len, o, len);
-}
-
-yz_status v3_yz_pbkdf2_derive_wide(uint32_t n, uint32_t i, const uint8_t *s, size_t s_len,
-                                   const uint8_t *p, size_t p_len, uint8_t *o, size_t len) {
-    return derived(3, n, i, s, s_len, p, p_len, o, len);
-}
-
-yz_status v2_yz_pbkdf2_verify(uint32_t n, uint32_t i, const uint8_t *s, size_t s_len,
-                              const uint8_t *p, size_t p_len, const uint8_t *o, size_t len) {
-    return 10 * derived(2, n, i, s, s_len, p, p_len, o, len);
-}
-
-yz_status v3_yz_pbkdf2_verify_wide(uint32_t n, uint32_t i, const uint8_t *s, size_t s_len,
-                                   const uint8_t *p, size_t p_len, const uint8_t *o, size_t len) {
-    return 10 * derived(3, n, i, s, s_len, p, p_len, o, len);
-}
-
-int main(void) {
-    int build = wanted();
-    each_loss();
-    for (int turn = 0; turn < 2; turn++) { /* at the second the answer is known */
-        is("yz_digest_each", yz_digest_each(ALGORITHM, messages, COUNT, out, OUT_LEN), build);
-        is("yz_pbkdf2_derive", yz_pbkdf2_derive(ALGORITHM, ITERATIONS, salt, SALT_LEN,
-                                                secret, SECRET_LEN, out, OUT_LEN), build);
-        is("yz_pbkdf2_verify", yz_pbkdf2_verify(ALGORITHM, ITERATIONS, salt, SALT_LEN,
-                                                secret, SECRET_LEN, out, OUT_LEN), 10 * build);
-    }
-    if (!faults) printf("the dispatcher chooses x86-64-v%d\n", build);
+int main(int count, char **words) {
+    (void)words;
+    if (count > 1) print_table();
+    else try_all();
     return faults != 0;
 }

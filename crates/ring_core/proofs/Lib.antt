@@ -4,8 +4,10 @@ pub mod Lanes
 pub mod Vectors
 pub mod Halves
 pub mod Mapped
+pub mod FourWords
 pub mod Schedule
 pub mod Sha2Steps
+pub mod Sha2FourWords
 pub mod Sha1Steps
 pub mod Five
 pub mod ChunkLists

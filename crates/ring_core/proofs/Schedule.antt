@@ -1,12 +1,13 @@
 -- Words that each follow from those before them.
-use Rattle.std.proofs.Common.{◌≡◌, ◌≢◌, ℕ, zero, suc, ◌+◌, ◌%◌, ◌<◌, ◌≤◌, List, [], ◌∷◌, length}
+use Rattle.std.proofs.Common.{◌≡◌, ◌≢◌, ℕ, zero, suc, ◌+◌, ◌*◌, ◌%◌, ◌<◌, ◌≤◌, List, [], ◌∷◌}
+use Rattle.std.proofs.Common.{length}
 use Rattle.std.proofs.Common.{slice_index, map, refl, sym, ap, ◌∙◌, arith, inl, inr}
 use Rattle.std.proofs.lemmas.List.{get_or-map, get_or-set_other, get_or-set_same}
 use Rattle.std.proofs.lemmas.List.{get_or_append_left, get_or_push, length-set, length_push}
 use Rattle.std.proofs.lemmas.List.{map-set}
 use Rattle.std.proofs.lemmas.Bool.{cases_lt}
 use Rattle.std.proofs.Math.ListN.{get_or, length-map, set}
-use Rattle.ring_core.specs.Prelude.{IsRing, listed, listed_at}
+use Rattle.ring_core.specs.Prelude.{HoldsSums, IsRing, four, listed, listed_at}
 
 length-listed : (next : List ℕ → ℕ → ℕ) (n : ℕ) → length (listed next n) ≡ n
 unfolding listed
@@ -79,3 +80,57 @@ ring-set {t} f w ring slot x ready place word =
                 rw (last, ← place) (get_or-set_same (map f ring) slot (f x) 0 room ∙ word)
           ];
     })
+
+-- a word read from the sums
+pub sum-read : {X : Type 0} {s : ℕ → ℕ} {n place y : ℕ} (f : X → List ℕ) (sums : List X) (g j : ℕ)
+    (x : X) → HoldsSums s (map f sums) n → (place ≡ g % 4) × (g < n) × (n ≤ g + 4)
+    → y ≡ slice_index (f (get_or sums place x)) j → y ≡ slice_index (four s g) j
+sum-read {place} f sums g j x ready (at, below, near) read =
+    let room : place < length sums = omega (arith, ready.fours, length-map sums f) in
+    let held = sym (get_or-map f sums place x [] room)
+    ∙ ap (λ (p : ℕ). get_or (map f sums) p []) at
+    ∙ ready.held g below near in
+    read ∙ ap (λ (l : List ℕ). slice_index l j) held
+
+-- room for sums before the first four
+pub sums-empty : {X : Type 0} {s : ℕ → ℕ} (f : X → List ℕ) (sums : List X) → length sums ≡ 4
+    → HoldsSums s (map f sums) 0
+sums-empty f sums len = record {
+  fours = length-map sums f ∙ len;
+  held = λ g below near. absurd (omega arith);
+}
+
+-- one four more, at the place of the oldest
+pub sums-set : {X : Type 0} {n : ℕ} (f : X → List ℕ) (s : ℕ → ℕ) (sums : List X) (place : ℕ)
+    (x : X) → HoldsSums s (map f sums) n → place ≡ n % 4 → f x ≡ four s n
+    → HoldsSums s (map f (set sums place x)) (n + 1)
+sums-set {n} f s sums place x ready at four =
+    rw (map-set f sums place x) (record {
+      fours = length-set (map f sums) place (f x) ∙ ready.fours;
+      held =
+          λ g below near. elim (cases_lt g n) [
+            | inl lt ↦
+                let other : g % 4 ≢ place = omega arith in
+                get_or-set_other (map f sums) place (g % 4) (f x) [] other
+                ∙ ready.held g lt (omega arith)
+            | inr ge ↦
+                let last : g ≡ n = omega arith in
+                let room : place < length (map f sums) = omega (arith, ready.fours) in
+                rw (last, ← at) (get_or-set_same (map f sums) place (f x) [] room ∙ four)
+          ];
+    })
+
+-- four steps, of which each is the next
+pub steps-four : {v0 v1 v2 v3 v4 : List ℕ} {after : ℕ → List ℕ} (step : List ℕ → ℕ → List ℕ)
+    → ((t : ℕ) → after (t + 1) ≡ step (after t) t) → (g : ℕ) → v0 ≡ after (4 * g)
+    → v1 ≡ step v0 (4 * g) → v2 ≡ step v1 (4 * g + 1) → v3 ≡ step v2 (4 * g + 2)
+    → v4 ≡ step v3 (4 * g + 3) → v4 ≡ after (4 * (g + 1))
+steps-four {v1} {v2} {v3} {after} step next g e0 e1 e2 e3 e4 =
+    let t = 4 * g in
+    let second : t + 1 + 1 ≡ t + 2 = omega arith in
+    let third : t + 2 + 1 ≡ t + 3 = omega arith in
+    let end : t + 3 + 1 ≡ 4 * (g + 1) = omega arith in
+    let r1 : v1 ≡ after (t + 1) = rw (e1, e0) (sym (next t)) in
+    let r2 : v2 ≡ after (t + 2) = rw (e2, r1, ← second) (sym (next (t + 1))) in
+    let r3 : v3 ≡ after (t + 3) = rw (e3, r2, ← third) (sym (next (t + 2))) in
+    rw (e4, r3, ← end) (sym (next (t + 3)))

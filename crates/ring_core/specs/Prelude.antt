@@ -8,6 +8,7 @@ pub use Rattle.ring_core.specs.Word.{rotl, choose, parity, majority, big_endian,
 pub use Rattle.ring_core.specs.Word.{low_32}
 pub use Rattle.ring_core.specs.Lane.{lane, words_of_lane}
 pub use Rattle.ring_core.specs.Schedule.{IsRing, IsBefore, IsBlockOf}
+pub use Rattle.ring_core.specs.Schedule.{four, window, HoldsSums, IsReady}
 unfoldable pub use Rattle.ring_core.specs.Schedule.{listed, listed_at}
 pub use Rattle.ring_core.specs.Chunks.{chunk_count, chunk_at, chunks}
 unfoldable pub use Rattle.ring_core.specs.Chunks.{fold_chunks}
@@ -18,6 +19,7 @@ pub use Rattle.ring_core.specs.Roots.{is_prime, IsRootFraction}
 unfoldable pub use Rattle.ring_core.specs.Roots.{first_primes}
 pub use Rattle.ring_core.specs.Sha2.{family_256, family_512, three_rotations}
 pub use Rattle.ring_core.specs.Sha2.{two_rotations_and_shift, Σ0, Σ1, σ0, σ1, scheduled}
+pub use Rattle.ring_core.specs.Sha2.{older_sum, ready_sum}
 pub use Rattle.ring_core.specs.Sha2.{scheduled_at, next_word, temp1, temp2, next_variables}
 pub use Rattle.ring_core.specs.Sha2.{add_state, block_len, blocks_from, words_32, words_64, Family}
 unfoldable pub use Rattle.ring_core.specs.Sha2.{constants_256, constants_512, W, round, rounds_from}

@@ -1,6 +1,6 @@
 -- A schedule: words that each follow from those before it.
-use Rattle.std.specs.Prelude.{◌≡◌, ℕ, zero, suc, ◌+◌, ◌%◌, ◌<◌, ◌≤◌, List, [], ◌∷◌, ◌++◌, length}
-use Rattle.std.specs.Prelude.{drop, slice_index, take}
+use Rattle.std.specs.Prelude.{◌≡◌, ℕ, zero, suc, ◌+◌, ◌*◌, ◌%◌, ◌<◌, ◌≤◌, List, [], ◌∷◌, ◌++◌}
+use Rattle.std.specs.Prelude.{drop, get_or, length, slice_index, take}
 use Rattle.ring_core.specs.Word.{word_at}
 
 -- the list made by appending `next ws t` to the words ws before it, for t = 0, .., n - 1
@@ -27,3 +27,21 @@ pub record IsBefore (w : ℕ → ℕ) (rounds : ℕ → List ℕ) (ring v : List
 pub record IsBlockOf (w n : ℕ) (front padding block : List ℕ) : Type 0 where
   pub word : (t : ℕ) → t < 16
       → slice_index (take n front ++ drop n padding) t ≡ word_at w block t
+
+-- words 4 g to 4 g + 3 of w
+abbrev pub four : (ℕ → ℕ) → ℕ → List ℕ
+four w g = w (4 * g) ∷ w (4 * g + 1) ∷ w (4 * g + 2) ∷ w (4 * g + 3) ∷ []
+
+-- words 4 g to 4 g + 15 of w, in fours
+abbrev pub window : (ℕ → ℕ) → ℕ → List (List ℕ)
+window w g = four w g ∷ four w (g + 1) ∷ four w (g + 2) ∷ four w (g + 3) ∷ []
+
+-- sums has the last sixteen of the sums s before sum 4 n, in fours: four g at place g % 4
+pub record HoldsSums (s : ℕ → ℕ) (sums : List (List ℕ)) (n : ℕ) : Type 0 where
+  pub fours : length sums ≡ 4
+  pub held : (g : ℕ) → g < n → n ≤ g + 4 → get_or sums (g % 4) [] ≡ four s g
+
+-- before round 4 g: the sixteen words of w from 4 g on, in fours, and their sums s
+pub record IsReady (w s : ℕ → ℕ) (words sums : List (List ℕ)) (g : ℕ) : Type 0 where
+  pub window : words ≡ window w g
+  pub ready : HoldsSums s sums (g + 4)

@@ -117,6 +117,10 @@ abbrev pub σ1 : Family → ℕ → ℕ
 abbrev pub scheduled : Family → ℕ → ℕ → ℕ → ℕ → ℕ
 scheduled f w2 w7 w15 w16 = sum_words f.bits (σ1 f w2 ∷ w7 ∷ σ0 f w15 ∷ w16 ∷ [])
 
+-- W(t-16) + σ0 W(t-15) + W(t-7): what W t takes from words that stand before W(t-4) too
+abbrev pub older_sum : Family → ℕ → ℕ → ℕ → ℕ
+older_sum f w16 w15 w7 = sum_words f.bits (w16 ∷ σ0 f w15 ∷ w7 ∷ [])
+
 -- the same over the list ws of the words before it
 abbrev pub scheduled_at : Family → List ℕ → ℕ → ℕ
 scheduled_at f ws t =
@@ -130,6 +134,10 @@ next_word f block ws t = if nat_lt t 16 then word_at f.bits block t else schedul
 -- W t of a block (6.2.2, 6.4.2, step 1)
 unfoldable pub W : Family → List ℕ → ℕ → ℕ
 W f block = listed_at (next_word f block)
+
+-- K t + W t (6.2.2, 6.4.2, step 3)
+abbrev pub ready_sum : Family → List ℕ → ℕ → ℕ
+ready_sum f block t = add_words f.bits (slice_index f.constants t) (W f block t)
 
 -- T₁ = h + Σ1 e + Ch e f g + K + W (6.2.2, 6.4.2, step 3)
 abbrev pub temp1 : Family → (e f' g h k w : ℕ) → ℕ

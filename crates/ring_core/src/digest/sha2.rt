@@ -1,5 +1,5 @@
 //! The block functions of SHA-2 (FIPS 180-4, 6.2.2 and 6.4.2), written once for both word sizes.
-//! The schedule's step alone has a form for each.
+//! The schedule's steps alone have a form for each. Blocks of bytes have a kernel of their own.
 ghost use Rattle.std.specs.Prelude.{◌≡◌, ℕ, ◌<◌, ◌≤◌, List, [], get_or, length, map};
 ghost use Rattle.ring_core.specs.Prelude.{IsBlockOf, block_len, block_step, blocks_from};
 ghost use Rattle.ring_core.specs.Prelude.{chunk_items, chunk_total, family_256, family_512, raised};
@@ -7,44 +7,30 @@ ghost use Rattle.ring_core.specs.Prelude.{words_32, words_64, words_of_lane};
 
 mod constants;
 mod sha256;
+mod sha256_four_words;
 mod sha256_schedule;
+mod sha2_blocks;
+mod sha2_four_words;
+mod sha2_round;
 mod sha2_rounds;
 mod sha2_schedule;
 mod sha512;
+mod sha512_four_words;
 mod sha512_schedule;
 mod vector_schedule;
 
 use crate::cost::Meter;
 pub use crate::digest::sha2::constants::constants_are_cube_roots;
+use crate::digest::sha2::sha2_blocks::run_blocks;
 use crate::digest::sha2::sha2_rounds::{BYTES, run_loaded};
 use crate::digest::sha2::sha2_schedule::ExtendSchedule;
 use crate::digest::states::{Ring, States};
 use crate::digest::word::in_lanes::InLanes;
 use crate::digest::word::lane_word::Vector;
-use crate::digest::word_ring::{load, load_blocks, load_words};
+use crate::digest::word_ring::{load_blocks, load_words};
 use crate::polyfill::slice::AsChunks;
 use std::num::Wrapping;
-
-// Runs the block function over each block in order. `ring` is room for the words of a schedule.
-fn run_blocks<S: ExtendSchedule, const N: usize>(
-    ring: &mut [S::Slot; 16],
-    state: &mut [S; 8],
-    blocks: AsChunks<'_, u8, N>,
-    meter: &mut Meter,
-)
-    requires some { 0 < S.LANES }
-    requires whole { N ≡ block_len S.One.family }
-    ensures words { (i : ℕ) → map (S.lane i) state.new
-        ≡ blocks_from S.One.family (map (S.lane i) state.old)
-        (chunk_items blocks.entry) (chunk_total blocks.entry) }
-    ensures cost { meter.new ≡ raised meter.old (chunk_total blocks.entry) 0 }
-{
-    'each: for i in 0..blocks.len() {
-        load::<S>(ring, &blocks[i]); // step 1, to W(15)
-        run_loaded::<S, BYTES>(ring, state);
-        meter.add_block();
-    }
-}
+use std::simd::Simd;
 
 /// The chaining words of SHA-256. SHA-1 uses the first five and leaves the last three 0.
 pub type State32 = [Wrapping<u32>; 8];
@@ -63,7 +49,7 @@ pub fn block_data_order_32_counted(
         (chunk_items blocks.entry) (chunk_total blocks.entry) }
     ensures cost { meter.new ≡ raised meter.old (chunk_total blocks.entry) 0 }
 {
-    run_blocks(&mut [0u64; 16], state, blocks, meter)
+    run_blocks(&mut [Simd::splat(0u32); 4], state, blocks, meter)
 }
 
 /// Runs SHA-256's block function over each of `blocks`, of 64 bytes, in order, and replaces the
@@ -87,7 +73,7 @@ pub fn block_data_order_64_counted(
         (chunk_items blocks.entry) (chunk_total blocks.entry) }
     ensures cost { meter.new ≡ raised meter.old (chunk_total blocks.entry) 0 }
 {
-    run_blocks(&mut [Wrapping(0u64); 16], state, blocks, meter)
+    run_blocks(&mut [Simd::splat(0u64); 4], state, blocks, meter)
 }
 
 /// Runs SHA-512's block function, which SHA-384 and SHA-512/256 share, over each of `blocks`, of

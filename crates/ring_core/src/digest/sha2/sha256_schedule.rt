@@ -12,7 +12,7 @@ use std::simd::{Simd, u64x2};
 // σ0 or σ1 of the word in each slot (4.1.2), by its counts, the rotations nested. A shift of both
 // copies of a word is one operation, a rotation of the word alone three.
 #[inline(always)]
-fn small_sigma(lanes: u64x2, counts: (u32, u32, usize)) -> u64x2
+pub(crate) fn small_sigma_of_slots(lanes: u64x2, counts: (u32, u32, usize)) -> u64x2
     requires first { 1 ≤ counts.0 }
     requires second { counts.0 < counts.1 }
     requires below { counts.1 < 32 }
@@ -34,7 +34,9 @@ impl ExtendSchedule for Wrapping<u32> {
         let seven = to_lanes(&before.seven);
         let two = to_lanes(&before.two);
         // The newest pair is added last, so that the other sums need not wait for it.
-        let newest = small_sigma(two, Self::SMALL_SIGMA_1);
-        from_lanes(newest + (seven + (small_sigma(fifteen, Self::SMALL_SIGMA_0) + sixteen)))
+        let newest = small_sigma_of_slots(two, Self::SMALL_SIGMA_1);
+        from_lanes(
+            newest + (seven + (small_sigma_of_slots(fifteen, Self::SMALL_SIGMA_0) + sixteen)),
+        )
     }
 }

@@ -10,7 +10,7 @@ use crate::digest::word::lane_word::{LaneWord, Vector};
 
 // σ0 or σ1 of each word (4.1.2, 4.1.3), by its counts, the rotations nested.
 #[inline(always)]
-fn small_sigma<S: Vector>(words: S, counts: (u32, u32, usize)) -> S
+pub(crate) fn small_sigma<S: Vector>(words: S, counts: (u32, u32, usize)) -> S
     requires first { 1 ≤ counts.0 }
     requires second { counts.0 < counts.1 }
     requires below { counts.1 < S.One.bits }

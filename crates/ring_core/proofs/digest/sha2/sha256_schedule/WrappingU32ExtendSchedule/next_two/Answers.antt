@@ -7,11 +7,11 @@ use schedule.WrappingU32ExtendSchedule.next_two.Goals as goal
 
 pub returns : goal.returns
 returns c =
-    let sums = sums_low c.small_sigma-newest.result c.to_lanes-seven.result c.small_sigma.result
-    c.to_lanes-sixteen.result
-    (rw c.to_lanes-two.ensures at c.small_sigma-newest.ensures)
+    let sums = sums_low c.small_sigma_of_slots-newest.result c.to_lanes-seven.result
+    c.small_sigma_of_slots.result c.to_lanes-sixteen.result
+    (rw c.to_lanes-two.ensures at c.small_sigma_of_slots-newest.ensures)
     (ap (map low_32) c.to_lanes-seven.ensures)
-    (rw c.to_lanes-fifteen.ensures at c.small_sigma.ensures)
+    (rw c.to_lanes-fifteen.ensures at c.small_sigma_of_slots.ensures)
     (ap (map low_32) c.to_lanes-sixteen.ensures) in
     let are = same_two (ap (map low_32) c.from_lanes.ensures ∙ sums) in
     record { first = λ i. are.0; second = λ i. are.1 }

@@ -1,6 +1,6 @@
 use Rattle.std.proofs.Common.{arith}
 use Rattle.ring_core.proofs.Rotation.{rotr-three}
-use Rattle.ring_core.proofs.digest.sha2.sha2_rounds.big_sigma.Goals as goal
+use Rattle.ring_core.proofs.digest.sha2.sha2_round.big_sigma.Goals as goal
 
 pub returns : goal.returns
 returns g c = λ i.

@@ -2,7 +2,7 @@ use Rattle.std.proofs.Common.{ℕ, ◌^◌, ◌/◌, [], ◌∷◌, map, arith, 
 use Rattle.ring_core.specs.Prelude.{low_32, two_rotations_and_shift}
 use Rattle.ring_core.proofs.Lanes.{two_lanes}
 use Rattle.ring_core.proofs.Rotation.{doubled-three}
-use Rattle.ring_core.proofs.digest.sha2.sha256_schedule.small_sigma.Goals as goal
+use Rattle.ring_core.proofs.digest.sha2.sha256_schedule.small_sigma_of_slots.Goals as goal
 
 pub returns : goal.returns
 returns c =

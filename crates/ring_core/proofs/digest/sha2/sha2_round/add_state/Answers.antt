@@ -1,6 +1,6 @@
 use Rattle.std.proofs.Common.{◌≡◌, arith, length, rules}
 use Rattle.ring_core.proofs.Mapped.{value_read}
-use Rattle.ring_core.proofs.digest.sha2.sha2_rounds.add_state.Goals as goal
+use Rattle.ring_core.proofs.digest.sha2.sha2_round.add_state.Goals as goal
 
 pub returns : goal.returns
 returns g c = λ i.

@@ -2,7 +2,7 @@ use Rattle.std.proofs.Common.{map, refl, sym}
 use Rattle.ring_core.specs.Prelude.{block_len, block_step, fold_chunks}
 use Rattle.ring_core.proofs.ChunkFolds.{fold_chunks-next}
 use Rattle.ring_core.proofs.Costs.{raised-none, raised-raised}
-use Rattle.ring_core.proofs.digest.sha2.run_blocks.Goals as goal
+use Rattle.ring_core.proofs.digest.sha2.sha2_blocks.run_blocks.Goals as goal
 
 pub each-init : goal.each-init
 unfolding fold_chunks
@@ -15,10 +15,10 @@ each-preserved g c =
       words =
           λ i. let h = map (g.S.LaneWord.lane i) c.args.state.now in
           rw (
-            c.run_loaded.ensures i _ (c.load.ensures i),
+            c.run_ahead.ensures i _ c.load-words.ensures,
             c.each.invariant.words i,
             c.index.ensures,
-            c.requires.whole,
+            c.requires,
           ) (sym (fold_chunks-next (block_step family) (block_len family) h blocks c.each.i));
       cost = rw (c.add_block.ensures, c.each.invariant.cost, raised-raised) refl;
     }

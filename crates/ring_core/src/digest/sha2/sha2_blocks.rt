@@ -1,0 +1,145 @@
+//! The block function of SHA-2 over blocks of bytes, one after another (FIPS 180-4, 6.2.2 and
+//! 6.4.2, steps 1 to 4). The schedule of a block is sixteen words ahead of its rounds, which add
+//! ready sums of words and constants.
+ghost use Rattle.std.specs.Prelude.{◌≡◌, ℕ, ◌+◌, ◌*◌, ◌%◌, ◌<◌, ◌≤◌, List, map};
+ghost use Rattle.ring_core.specs.Prelude.{HoldsSums, IsReady, W, block_len, block_step};
+ghost use Rattle.ring_core.specs.Prelude.{blocks_from, chunk_items, chunk_total, raised, ready_sum};
+ghost use Rattle.ring_core.specs.Prelude.{rounds_from};
+
+use crate::cost::Meter;
+use crate::digest::sha2::sha2_four_words::{ExtendByFour, load, put_sums};
+use crate::digest::sha2::sha2_round::{add_state, round};
+use crate::digest::word::Sha2;
+use crate::digest::word::four_words::FourWords;
+use crate::polyfill::slice::AsChunks;
+
+// Each function up to `run_ahead` is always inlined: places are then literals.
+
+// Rounds `4 * g` to `4 * g + 3`, where `place` is g modulo 4.
+#[inline(always)]
+fn four_rounds<S: FourWords>(sums: &[S::Four; 4], v: [S; 8], place: usize) -> [S; 8]
+    requires { place < 4 }
+    ensures { (i : ℕ) (h b : List ℕ) (n g : ℕ)
+        → HoldsSums (ready_sum S.One.family b) (map S.words sums.now) n
+        → place ≡ g % 4 → g < n → n ≤ g + 4
+        → map (S.lane i) v ≡ rounds_from S.One.family h b (4 * g)
+        → map (S.lane i) result ≡ rounds_from S.One.family h b (4 * (g + 1)) }
+{
+    let v = round(v, S::word(&sums[place], 0));
+    let v = round(v, S::word(&sums[place], 1));
+    let v = round(v, S::word(&sums[place], 2));
+    round(v, S::word(&sums[place], 3))
+}
+
+// The same, and between them the step of the schedule to words `16 * turn + 4 * place` and the next
+// three.
+#[inline(always)]
+fn four_rounds_ahead<S: ExtendByFour>(
+    sums: &mut [S::Four; 4],
+    v: [S; 8],
+    words: [S::Four; 4],
+    turn: usize,
+    place: usize,
+) -> ([S; 8], [S::Four; 4])
+    requires place { place < 4 }
+    requires turn { 16 * turn + 16 ≤ S.One.family.rounds }
+    ensures schedule { (b : List ℕ) (g : ℕ) → g + 4 ≡ 4 * turn + place
+        → let f = S.One.family in
+        IsReady (W f b) (ready_sum f b) (map S.words words) (map S.words sums.old) g
+        → IsReady (W f b) (ready_sum f b) (map S.words result.1) (map S.words sums.new) (g + 1) }
+    ensures rounds { (i : ℕ) (h b : List ℕ) (g : ℕ) → g + 4 ≡ 4 * turn + place
+        → HoldsSums (ready_sum S.One.family b) (map S.words sums.old) (g + 4)
+        → map (S.lane i) v ≡ rounds_from S.One.family h b (4 * g)
+        → map (S.lane i) result.0 ≡ rounds_from S.One.family h b (4 * (g + 1)) }
+{
+    let [first, second, third, fourth] = words;
+    let v = round(v, S::word(&sums[place], 0));
+    let older = S::older(first, second, third, fourth);
+    let v = round(v, S::word(&sums[place], 1));
+    let half = S::with_first_two(older, fourth);
+    let v = round(v, S::word(&sums[place], 2));
+    let next = S::with_last_two(half);
+    let v = round(v, S::word(&sums[place], 3));
+    put_sums::<S>(sums, next, turn, place);
+    (v, [second, third, fourth, next])
+}
+
+// Sixteen rounds, and between them the words of turn `turn`, which are those after.
+#[inline(always)]
+fn turn_ahead<S: ExtendByFour>(
+    sums: &mut [S::Four; 4],
+    v: [S; 8],
+    words: [S::Four; 4],
+    turn: usize,
+) -> ([S; 8], [S::Four; 4])
+    requires later { 1 ≤ turn }
+    requires turn { 16 * turn + 16 ≤ S.One.family.rounds }
+    ensures schedule { (b : List ℕ) (g : ℕ) → g + 4 ≡ 4 * turn
+        → let f = S.One.family in
+        IsReady (W f b) (ready_sum f b) (map S.words words) (map S.words sums.old) g
+        → IsReady (W f b) (ready_sum f b) (map S.words result.1) (map S.words sums.new) (g + 4) }
+    ensures rounds { (i : ℕ) (h b : List ℕ) (g : ℕ) → g + 4 ≡ 4 * turn
+        → let f = S.One.family in
+        IsReady (W f b) (ready_sum f b) (map S.words words) (map S.words sums.old) g
+        → map (S.lane i) v ≡ rounds_from f h b (4 * g)
+        → map (S.lane i) result.0 ≡ rounds_from f h b (4 * (g + 4)) }
+{
+    let (v, words) = four_rounds_ahead(sums, v, words, turn, 0);
+    let (v, words) = four_rounds_ahead(sums, v, words, turn, 1);
+    let (v, words) = four_rounds_ahead(sums, v, words, turn, 2);
+    four_rounds_ahead(sums, v, words, turn, 3)
+}
+
+// The last sixteen rounds.
+#[inline(always)]
+fn last_turn<S: FourWords>(sums: &[S::Four; 4], v: [S; 8]) -> [S; 8]
+    ensures { (i : ℕ) (h b : List ℕ) (g : ℕ) → g % 4 ≡ 0
+        → HoldsSums (ready_sum S.One.family b) (map S.words sums.now) (g + 4)
+        → map (S.lane i) v ≡ rounds_from S.One.family h b (4 * g)
+        → map (S.lane i) result ≡ rounds_from S.One.family h b (4 * (g + 4)) }
+{
+    let v = four_rounds(sums, v, 0);
+    let v = four_rounds(sums, v, 1);
+    let v = four_rounds(sums, v, 2);
+    four_rounds(sums, v, 3)
+}
+
+// Runs the block function over a block, from its words and their sums.
+#[inline(always)]
+fn run_ahead<S: ExtendByFour>(sums: &mut [S::Four; 4], state: &mut [S; 8], words: [S::Four; 4])
+    ensures { (i : ℕ) (b : List ℕ)
+        → let f = S.One.family in
+        IsReady (W f b) (ready_sum f b) (map S.words words) (map S.words sums.old) 0
+        → map (S.lane i) state.new ≡ block_step f (map (S.lane i) state.old) b }
+{
+    let mut words = words;
+    let mut variables = *state; // step 2
+    let turns = S::One::ROUNDS / 16;
+    'ahead: for turn in 1..turns {
+        (variables, words) = turn_ahead(sums, variables, words, turn); // steps 1 and 3
+    }
+    let last = last_turn(sums, variables);
+    *state = add_state(state, &last); // step 4
+}
+
+// Runs the block function over each block in order. `sums` is room for sums. Were this inlined,
+// `sums` would be no memory, and each sum would be taken out of its vector.
+#[inline(never)]
+pub(crate) fn run_blocks<S: ExtendByFour, const N: usize>(
+    sums: &mut [S::Four; 4],
+    state: &mut [S; 8],
+    blocks: AsChunks<'_, u8, N>,
+    meter: &mut Meter,
+)
+    requires { N ≡ block_len S.One.family }
+    ensures words { (i : ℕ) → map (S.lane i) state.new
+        ≡ blocks_from S.One.family (map (S.lane i) state.old)
+        (chunk_items blocks.entry) (chunk_total blocks.entry) }
+    ensures cost { meter.new ≡ raised meter.old (chunk_total blocks.entry) 0 }
+{
+    'each: for i in 0..blocks.len() {
+        let words = load::<S>(sums, &blocks[i]); // step 1, to W(15)
+        run_ahead(sums, state, words);
+        meter.add_block();
+    }
+}

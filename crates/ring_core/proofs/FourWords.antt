@@ -4,10 +4,11 @@ use Rattle.std.proofs.Common.{◌∙◌, arith}
 use Rattle.std.proofs.lemmas.List.{get_or-map}
 use Rattle.std.proofs.Math.Facts.{Fits-lt-pow}
 use Rattle.std.proofs.Math.ListN.{get_or, length-map}
-use Rattle.std.proofs.Math.Nat.{add-mod-mod, mod-add-mod, mod-mod}
+use Rattle.std.proofs.Math.Nat.{add-mod-mod, mod-add-mod, mod-eq_of_lt, mod-mod}
 use Rattle.std.specs.Simd.Lanes.{Each1}
 use Rattle.std.specs.Int.{Width}
-use Rattle.ring_core.specs.Prelude.{four, window}
+use Rattle.ring_core.specs.Prelude.{four, low_32, window}
+use mir.Syntax.{w32}
 use mir.Val.{bits, Fits}
 
 -- the four lanes of x, each a number of w bits
@@ -37,6 +38,13 @@ four_lanes (a ∷ b ∷ c ∷ d ∷ []) (len, fits) =
       fourth_fits = Fits-lt-pow fits.1.1.1.0;
     }
 four_lanes _ (len, fits) = absurd (omega arith)
+
+-- lanes of 32 bits as the words that they hold
+pub low-lanes : (x : List ℕ) → (length x ≡ 4) × Each1 (Fits w32) x → map low_32 x ≡ x
+low-lanes x fits =
+    let l = four_lanes {w = w32} x fits in
+    rw l.are (λ i. mod-eq_of_lt l.first_fits i ∷ mod-eq_of_lt l.second_fits i
+    ∷ mod-eq_of_lt l.third_fits i ∷ mod-eq_of_lt l.fourth_fits i ∷ [])
 
 -- the numbers of a list of four
 pub record FourNumbers (x : List ℕ) : Type 0 where
@@ -105,4 +113,34 @@ in_window {X} {w} f g xs are a b c d =
       second = item 1 b (omega arith);
       third = item 2 c (omega arith);
       fourth = item 3 d (omega arith);
+    }
+
+-- the window one four later
+pub next-window : {w : ℕ → ℕ} {g : ℕ} {a b c d e : List ℕ} (n : ℕ) → n ≡ g + 4
+    → AreWindow w g a b c d → e ≡ four w n → AreWindow w (g + 1) b c d e
+next-window {g} n after are next =
+    let e2 : g + 1 + 1 ≡ g + 2 = omega arith in
+    let e3 : g + 1 + 2 ≡ g + 3 = omega arith in
+    let e4 : g + 1 + 3 ≡ n = omega arith in
+    record {
+      first = are.second;
+      second = rw e2 are.third;
+      third = rw e3 are.fourth;
+      fourth = rw e4 next;
+    }
+
+pub are-window : {w : ℕ → ℕ} {g : ℕ} {a b c d : List ℕ} → AreWindow w g a b c d
+    → a ∷ b ∷ c ∷ d ∷ [] ≡ window w g
+are-window are = rw (are.first, are.second, are.third, are.fourth) refl
+
+-- the items of a window of lists of numbers
+pub in_lists : {w : ℕ → ℕ} {g : ℕ} (xs : List (List ℕ)) → xs ≡ window w g
+    → AreWindow w g (get_or xs 0 []) (get_or xs 1 []) (get_or xs 2 []) (get_or xs 3 [])
+in_lists xs are =
+    let item = λ (j : ℕ) (l : List (List ℕ)). get_or l j [] in
+    record {
+      first = ap (item 0) are;
+      second = ap (item 1) are;
+      third = ap (item 2) are;
+      fourth = ap (item 3) are;
     }

@@ -9,6 +9,7 @@ pub mod Schedule
 pub mod Sha2Steps
 pub mod Sha2FourWords
 pub mod Sha1Steps
+pub mod Sha1FourWords
 pub mod Five
 pub mod ChunkLists
 pub mod Bytes

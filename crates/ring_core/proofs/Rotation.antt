@@ -84,7 +84,7 @@ bit_at-rotr w k n i le fits within =
     ])
 
 -- the rotations of two words under exclusive or, one inside the other
-rotr-inside : {x y : ℕ} (w a b : ℕ) → a ≤ b → b ≤ w → x < 2 ^ w → y < 2 ^ w
+pub rotr-inside : {x y : ℕ} (w a b : ℕ) → a ≤ b → b ≤ w → x < 2 ^ w → y < 2 ^ w
     → rotr w a (x ⊕ rotr w (b - a) y) ≡ rotr w a x ⊕ rotr w b y
 rotr-inside {x} {y} w a b ab bw x_fits y_fits =
     let inner = rotr w (b - a) y in

@@ -8,7 +8,7 @@ pub use Rattle.ring_core.specs.Word.{rotl, choose, parity, majority, big_endian,
 pub use Rattle.ring_core.specs.Word.{low_32}
 pub use Rattle.ring_core.specs.Lane.{lane, words_of_lane}
 pub use Rattle.ring_core.specs.Schedule.{IsRing, IsBefore, IsBlockOf}
-pub use Rattle.ring_core.specs.Schedule.{four, window, HoldsSums, IsReady}
+pub use Rattle.ring_core.specs.Schedule.{four, window, HoldsSums, IsReady, IsAhead}
 unfoldable pub use Rattle.ring_core.specs.Schedule.{listed, listed_at}
 pub use Rattle.ring_core.specs.Chunks.{chunk_count, chunk_at, chunks}
 unfoldable pub use Rattle.ring_core.specs.Chunks.{fold_chunks}

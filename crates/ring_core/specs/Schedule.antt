@@ -45,3 +45,9 @@ pub record HoldsSums (s : ℕ → ℕ) (sums : List (List ℕ)) (n : ℕ) : Type
 pub record IsReady (w s : ℕ → ℕ) (words sums : List (List ℕ)) (g : ℕ) : Type 0 where
   pub window : words ≡ window w g
   pub ready : HoldsSums s sums (g + 4)
+
+-- the same, and v are the variables after 4 g rounds
+pub record IsAhead (w s : ℕ → ℕ) (rounds : ℕ → List ℕ) (words sums : List (List ℕ)) (v : List ℕ)
+    (g : ℕ) : Type 0 where
+  pub schedule : IsReady w s words sums g
+  pub variables : v ≡ rounds (4 * g)

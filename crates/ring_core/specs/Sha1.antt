@@ -1,5 +1,6 @@
 -- The block function of SHA-1 (FIPS 180-4, 6.1.2).
-use Rattle.std.specs.Prelude.{ℕ, zero, suc, ◌-◌, List, [], ◌∷◌, slice_index, nat_lt, if◌then◌else◌}
+use Rattle.std.specs.Prelude.{ℕ, zero, suc, ◌-◌, ◌^◌, ◌<◌, List, [], ◌∷◌, slice_index, nat_lt}
+use Rattle.std.specs.Prelude.{if◌then◌else◌}
 use Rattle.ring_core.specs.Schedule.{listed_at}
 use Rattle.ring_core.specs.Chunks.{fold_chunks}
 use Rattle.ring_core.specs.Word.{◌⊕◌, add_words, choose, majority, parity, rotl, sum_words, word_at}
@@ -37,6 +38,14 @@ next_word block ws t = if nat_lt t 16 then word_at 32 block t else scheduled_at 
 -- W t of a block (6.1.2, step 1)
 unfoldable pub W : List ℕ → ℕ → ℕ
 W block = listed_at (next_word block)
+
+-- each word of the block's schedule has 32 bits, as it has where the block's bytes are bytes
+abbrev pub HasWords : List ℕ → Type 0
+HasWords block = (t : ℕ) → W block t < 2 ^ 32
+
+-- K t + W t (6.1.2, step 3)
+abbrev pub ready_sum : List ℕ → ℕ → ℕ
+ready_sum block t = add_words 32 (round_constant t) (W block t)
 
 -- the working variables after round t, from a to e (6.1.2, step 3)
 abbrev pub next_variables : (t a b c d e w : ℕ) → List ℕ

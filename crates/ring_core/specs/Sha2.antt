@@ -117,7 +117,7 @@ abbrev pub σ1 : Family → ℕ → ℕ
 abbrev pub scheduled : Family → ℕ → ℕ → ℕ → ℕ → ℕ
 scheduled f w2 w7 w15 w16 = sum_words f.bits (σ1 f w2 ∷ w7 ∷ σ0 f w15 ∷ w16 ∷ [])
 
--- W(t-16) + σ0 W(t-15) + W(t-7): what W t takes from words that stand before W(t-4) too
+-- W t without its part σ1 W(t-2) (6.2.2, 6.4.2, step 1)
 abbrev pub older_sum : Family → ℕ → ℕ → ℕ → ℕ
 older_sum f w16 w15 w7 = sum_words f.bits (w16 ∷ σ0 f w15 ∷ w7 ∷ [])
 

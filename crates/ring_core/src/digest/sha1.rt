@@ -4,18 +4,23 @@ ghost use Rattle.ring_core.specs.Prelude.{IsBlockOf, chunk_items, chunk_total, r
 ghost use Rattle.ring_core.specs.Prelude.{words_of_lane};
 ghost use Rattle.ring_core.specs.Sha1.{block_step, blocks_from};
 
+mod sha1_blocks;
+mod sha1_four_words;
+mod sha1_round;
 mod sha1_rounds;
 mod sha1_schedule;
 
 use crate::cost::Meter;
+use crate::digest::sha1::sha1_blocks::run_blocks;
 use crate::digest::sha1::sha1_rounds::{BYTES, WORDS, run_loaded};
 use crate::digest::sha1::sha1_schedule::ExtendSchedule;
 use crate::digest::states::{Ring, States};
 use crate::digest::word::in_lanes::InLanes;
 use crate::digest::word::lane_word::Vector;
-use crate::digest::word_ring::{load, load_blocks, load_words};
+use crate::digest::word_ring::{load_blocks, load_words};
 use crate::polyfill::slice::AsChunks;
 use std::num::Wrapping;
+use std::simd::Simd;
 
 pub(crate) type Word32 = Wrapping<u32>;
 
@@ -24,21 +29,6 @@ pub const CHAINING_LEN: usize = 20;
 
 // The number of these words.
 const CHAINING_WORDS: usize = 5;
-
-// Runs the block function over one block, and counts it. In a function of its own it is faster than
-// in the loop over blocks.
-fn run_block(state: &mut [Word32; 8], block: &[u8], meter: &mut Meter)
-    requires { length block.now ≡ 64 }
-    ensures words { take 5 (map word_32 state.new)
-        ≡ block_step (take 5 (map word_32 state.old)) block.now }
-    ensures rest { drop 5 state.new ≡ drop 5 state.old }
-    ensures cost { meter.new ≡ raised meter.old 1 0 }
-{
-    let mut ring = [0u64; 16];
-    load::<Word32>(&mut ring, block); // step 1, to W(15)
-    run_loaded::<Word32, BYTES>(&mut ring, state);
-    meter.add_block();
-}
 
 /// Runs the block function as [`sha1_block_data_order`] does, and counts each block on `meter`.
 pub fn sha1_block_data_order_counted(
@@ -52,9 +42,7 @@ pub fn sha1_block_data_order_counted(
     ensures rest { drop 5 state.new ≡ drop 5 state.old }
     ensures cost { meter.new ≡ raised meter.old (chunk_total blocks.entry) 0 }
 {
-    'each: for i in 0..blocks.len() {
-        run_block(state, &blocks[i], meter);
-    }
+    run_blocks(&mut [Simd::splat(0u32); 4], state, blocks, meter)
 }
 
 /// Runs SHA-1's block function over each of `blocks`, of 64 bytes, in order (6.1.2).
@@ -94,9 +82,9 @@ pub fn sha1_block_data_order_lanes_counted<V: Vector<One = Wrapping<u32>>, const
     meter.add_blocks(V::LANES);
 }
 
-// Runs the block function in each lane, over a block whose first five words are those of the lane in
-// `front`, and whose other words are those of `padding`, and counts these blocks. It is inlined, so
-// that the compiler sees a single block's room as a local of its caller.
+// Runs the block function in each lane, over a block whose first five words are those of the lane
+// in `front`, and whose other words are those of `padding`, and counts these blocks. It is inlined,
+// so that the compiler sees a single block's room as a local of its caller.
 #[inline(always)]
 fn run_words<S: ExtendSchedule<One = Wrapping<u32>>>(
     ring: &mut [S::Slot; 16],

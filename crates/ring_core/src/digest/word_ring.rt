@@ -10,18 +10,6 @@ use crate::digest::word::{Sha2, Word};
 // Each function here is a few instructions of a block function and is always inlined: a slot is
 // then a literal, and words stay in lanes from step to step.
 
-// Fills the ring with the words of the block, the same in each lane.
-#[inline(always)]
-pub(crate) fn load<S: Slots>(ring: &mut [S::Slot; 16], block: &[u8])
-    requires some { 0 < S.LANES }
-    requires whole { length block.now ≡ 16 * (S.One.bits / 8) }
-    ensures { (i : ℕ) → IsRing (word_at S.One.bits block.now) (map (S.slot_lane i) ring.new) 16 }
-{
-    'words: for t in 0..16 {
-        ring[t] = S::splat(S::One::read_word(block, t)).to_slot();
-    }
-}
-
 // Word `j` of each block, each in its block's lane.
 #[inline(always)]
 fn read_words<V: Vector, const N: usize>(blocks: &[[u8; N]], j: usize) -> V

@@ -2,7 +2,7 @@
 //! 6.4.2, steps 1 to 4). The schedule of a block is sixteen words ahead of its rounds, which add
 //! ready sums of words and constants.
 ghost use Rattle.std.specs.Prelude.{◌≡◌, ℕ, ◌+◌, ◌*◌, ◌%◌, ◌<◌, ◌≤◌, List, map};
-ghost use Rattle.ring_core.specs.Prelude.{HoldsSums, IsReady, W, block_len, block_step};
+ghost use Rattle.ring_core.specs.Prelude.{HoldsSums, IsAhead, IsReady, W, block_len, block_step};
 ghost use Rattle.ring_core.specs.Prelude.{blocks_from, chunk_items, chunk_total, raised, ready_sum};
 ghost use Rattle.ring_core.specs.Prelude.{rounds_from};
 
@@ -43,14 +43,12 @@ fn four_rounds_ahead<S: ExtendByFour>(
 ) -> ([S; 8], [S::Four; 4])
     requires place { place < 4 }
     requires turn { 16 * turn + 16 ≤ S.One.family.rounds }
-    ensures schedule { (b : List ℕ) (g : ℕ) → g + 4 ≡ 4 * turn + place
+    ensures { (i : ℕ) (h b : List ℕ) (g : ℕ) → g + 4 ≡ 4 * turn + place
         → let f = S.One.family in
-        IsReady (W f b) (ready_sum f b) (map S.words words) (map S.words sums.old) g
-        → IsReady (W f b) (ready_sum f b) (map S.words result.1) (map S.words sums.new) (g + 1) }
-    ensures rounds { (i : ℕ) (h b : List ℕ) (g : ℕ) → g + 4 ≡ 4 * turn + place
-        → HoldsSums (ready_sum S.One.family b) (map S.words sums.old) (g + 4)
-        → map (S.lane i) v ≡ rounds_from S.One.family h b (4 * g)
-        → map (S.lane i) result.0 ≡ rounds_from S.One.family h b (4 * (g + 1)) }
+        IsAhead (W f b) (ready_sum f b) (rounds_from f h b) (map S.words words)
+        (map S.words sums.old) (map (S.lane i) v) g
+        → IsAhead (W f b) (ready_sum f b) (rounds_from f h b) (map S.words result.1)
+        (map S.words sums.new) (map (S.lane i) result.0) (g + 1) }
 {
     let [first, second, third, fourth] = words;
     let v = round(v, S::word(&sums[place], 0));
@@ -74,15 +72,12 @@ fn turn_ahead<S: ExtendByFour>(
 ) -> ([S; 8], [S::Four; 4])
     requires later { 1 ≤ turn }
     requires turn { 16 * turn + 16 ≤ S.One.family.rounds }
-    ensures schedule { (b : List ℕ) (g : ℕ) → g + 4 ≡ 4 * turn
+    ensures { (i : ℕ) (h b : List ℕ) (g : ℕ) → g + 4 ≡ 4 * turn
         → let f = S.One.family in
-        IsReady (W f b) (ready_sum f b) (map S.words words) (map S.words sums.old) g
-        → IsReady (W f b) (ready_sum f b) (map S.words result.1) (map S.words sums.new) (g + 4) }
-    ensures rounds { (i : ℕ) (h b : List ℕ) (g : ℕ) → g + 4 ≡ 4 * turn
-        → let f = S.One.family in
-        IsReady (W f b) (ready_sum f b) (map S.words words) (map S.words sums.old) g
-        → map (S.lane i) v ≡ rounds_from f h b (4 * g)
-        → map (S.lane i) result.0 ≡ rounds_from f h b (4 * (g + 4)) }
+        IsAhead (W f b) (ready_sum f b) (rounds_from f h b) (map S.words words)
+        (map S.words sums.old) (map (S.lane i) v) g
+        → IsAhead (W f b) (ready_sum f b) (rounds_from f h b) (map S.words result.1)
+        (map S.words sums.new) (map (S.lane i) result.0) (g + 4) }
 {
     let (v, words) = four_rounds_ahead(sums, v, words, turn, 0);
     let (v, words) = four_rounds_ahead(sums, v, words, turn, 1);

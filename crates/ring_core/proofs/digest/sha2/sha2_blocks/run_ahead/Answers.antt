@@ -5,34 +5,17 @@ use Rattle.ring_core.proofs.digest.sha2.sha2_blocks.run_ahead.Goals as goal
 
 pub ahead-init : goal.ahead-init
 unfolding rounds_from
-ahead-init g c = record {
-  schedule =
-      λ b n loaded here.
-      let zero : n ≡ 0 = omega arith in
-      rw zero loaded;
-  rounds =
-      λ i b n loaded here.
-      let zero : n ≡ 0 = omega arith in
-      rw zero refl;
-}
+ahead-init g c = λ i b n loaded here.
+    let zero : n ≡ 0 = omega arith in
+    record { schedule = rw zero loaded; variables = rw zero refl }
 
 pub ahead-preserved : goal.ahead-preserved
-ahead-preserved g c = record {
-  schedule =
-      λ b n loaded here.
-      let before : n - 4 + 4 ≡ 4 * c.ahead.turn = omega arith in
-      let e : n - 4 + 4 ≡ n = omega arith in
-      rw e at (c.turn_ahead.ensures.schedule b (n - 4) before
-      (c.ahead.invariant.schedule b (n - 4) loaded before));
-  rounds =
-      λ i b n loaded here.
-      let h = map (g.S.LaneWord.lane i) c.args.state.now in
-      let before : n - 4 + 4 ≡ 4 * c.ahead.turn = omega arith in
-      let e : n - 4 + 4 ≡ n = omega arith in
-      rw e at (c.turn_ahead.ensures.rounds i h b (n - 4) before
-      (c.ahead.invariant.schedule b (n - 4) loaded before)
-      (c.ahead.invariant.rounds i b (n - 4) loaded before));
-}
+ahead-preserved g c = λ i b n loaded here.
+    let h = map (g.S.LaneWord.lane i) c.args.state.now in
+    let before : n - 4 + 4 ≡ 4 * c.ahead.turn = omega arith in
+    let e : n - 4 + 4 ≡ n = omega arith in
+    rw e at (c.turn_ahead.ensures i h b (n - 4) before
+    (c.ahead.invariant i b (n - 4) loaded before))
 
 pub returns : goal.returns
 returns g c = λ i b loaded.
@@ -46,7 +29,7 @@ returns g c = λ i b loaded.
     omega (arith, whole.0, whole.1, end, c.ahead-test.false, c.ahead.auto.turn-end) in
     let done : 4 * (n + 4) ≡ f.rounds =
     omega (arith, whole.0, whole.1, end, c.ahead-test.false, c.ahead.auto.turn-end) in
-    let ready = (c.ahead.invariant.schedule b n loaded here).ready in
-    let last = c.last_turn-last.ensures i h b n (omega arith) ready
-    (c.ahead.invariant.rounds i b n loaded here) in
+    let before = c.ahead.invariant i b n loaded here in
+    let last = c.last_turn-last.ensures i h b n (omega arith) before.schedule.ready
+    before.variables in
     rw (c.add_state.ensures i, last, done, met.bits_are) (sym (block_step-rounds f h b))

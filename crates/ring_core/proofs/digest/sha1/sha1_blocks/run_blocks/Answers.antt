@@ -3,7 +3,7 @@ use Rattle.ring_core.specs.Prelude.{fold_chunks, word_32}
 use Rattle.ring_core.specs.Sha1.{block_step}
 use Rattle.ring_core.proofs.ChunkFolds.{fold_chunks-next}
 use Rattle.ring_core.proofs.Costs.{raised-none, raised-raised}
-use Rattle.ring_core.proofs.digest.sha1.sha1_block_data_order_counted.Goals as goal
+use Rattle.ring_core.proofs.digest.sha1.sha1_blocks.run_blocks.Goals as goal
 
 pub each-init : goal.each-init
 unfolding fold_chunks
@@ -14,7 +14,11 @@ each-preserved c =
     let h = take 5 (map word_32 c.args.state.now) in
     let more = fold_chunks-next block_step 64 h c.args.blocks.items.now c.each.i in record {
       words =
-          rw (c.run_block.ensures.words, c.each.invariant.words, c.index.ensures) (sym more);
-      rest = c.run_block.ensures.rest ∙ c.each.invariant.rest;
-      cost = rw (c.run_block.ensures.cost, c.each.invariant.cost, raised-raised) refl;
+          rw (
+            c.run_ahead.ensures.words _ c.load-words.ensures.fits c.load-words.ensures.schedule,
+            c.each.invariant.words,
+            c.index.ensures,
+          ) (sym more);
+      rest = c.run_ahead.ensures.rest ∙ c.each.invariant.rest;
+      cost = rw (c.add_block.ensures, c.each.invariant.cost, raised-raised) refl;
     }

@@ -1,0 +1,156 @@
+//! The block function of SHA-1 over blocks of bytes, one after another (FIPS 180-4, 6.1.2, steps 1
+//! to 4). The schedule of a block is sixteen words ahead of its rounds, which add ready sums of
+//! words and constants.
+ghost use Rattle.std.specs.Prelude.{◌≡◌, ℕ, ◌+◌, ◌*◌, ◌<◌, ◌≤◌, List, map, take, drop};
+ghost use Rattle.ring_core.specs.Prelude.{HoldsSums, IsAhead, IsReady, chunk_items, chunk_total};
+ghost use Rattle.ring_core.specs.Prelude.{four, low_32, raised, window, word_32};
+ghost use Rattle.ring_core.specs.Sha1.{HasWords, W, block_step, blocks_from, ready_sum};
+ghost use Rattle.ring_core.specs.Sha1.{rounds_from};
+
+use crate::cost::Meter;
+use crate::digest::sha1::Word32;
+use crate::digest::sha1::sha1_four_words::{later_four, load, next_four, put_sums};
+use crate::digest::sha1::sha1_round::{add_state, round};
+use crate::digest::word::four_words::FourWords;
+use crate::polyfill::slice::AsChunks;
+use std::simd::u32x4;
+
+// Each function up to `run_ahead` is always inlined: places are then literals, and so are the round
+// numbers, by which functions and constants are chosen.
+
+// Rounds `t` to `t + 3`.
+#[inline(always)]
+fn four_rounds(sums: &[u32x4; 4], v: [Word32; 5], t: usize) -> [Word32; 5]
+    requires { t + 4 ≤ 80 }
+    ensures { (h b : List ℕ) (n g : ℕ) → t ≡ 4 * g
+        → HoldsSums (ready_sum b) (map (map low_32) sums.now) n → g < n → n ≤ g + 4
+        → map word_32 v ≡ rounds_from h b (4 * g)
+        → map word_32 result ≡ rounds_from h b (4 * (g + 1)) }
+{
+    let four = &sums[t / 4 % 4];
+    let v = round(v, t, Word32::word(four, 0));
+    let v = round(v, t + 1, Word32::word(four, 1));
+    let v = round(v, t + 2, Word32::word(four, 2));
+    round(v, t + 3, Word32::word(four, 3))
+}
+
+// The same, and then their sums are replaced by those of the words sixteen after, which are given.
+#[inline(always)]
+fn four_rounds_ahead(sums: &mut [u32x4; 4], v: [Word32; 5], words: u32x4, t: usize) -> [Word32; 5]
+    requires { t + 20 ≤ 80 }
+    ensures sums { (b : List ℕ) (n : ℕ) → t + 16 ≡ 4 * n → words ≡ four (W b) n
+        → HoldsSums (ready_sum b) (map (map low_32) sums.old) n
+        → HoldsSums (ready_sum b) (map (map low_32) sums.new) (n + 1) }
+    ensures rounds { (h b : List ℕ) (n g : ℕ) → t ≡ 4 * g → n ≡ g + 4
+        → HoldsSums (ready_sum b) (map (map low_32) sums.old) n
+        → map word_32 v ≡ rounds_from h b (4 * g)
+        → map word_32 result ≡ rounds_from h b (4 * (g + 1)) }
+{
+    let v = four_rounds(sums, v, t);
+    put_sums(sums, words, t + 16);
+    v
+}
+
+// The first sixteen rounds, and between them the sixteen words after those that are given.
+#[inline(always)]
+fn first_turn(sums: &mut [u32x4; 4], variables: &mut [Word32; 5], words: [u32x4; 4]) -> [u32x4; 4]
+    ensures { (h b : List ℕ)
+        → IsAhead (W b) (ready_sum b) (rounds_from h b) words
+        (map (map low_32) sums.old) (map word_32 variables.old) 0
+        → IsAhead (W b) (ready_sum b) (rounds_from h b) result
+        (map (map low_32) sums.new) (map word_32 variables.new) 4 }
+{
+    let [first, second, third, fourth] = words;
+    let fifth = next_four(first, second, third, fourth);
+    let v = four_rounds_ahead(sums, *variables, fifth, 0);
+    let sixth = next_four(second, third, fourth, fifth);
+    let v = four_rounds_ahead(sums, v, sixth, 4);
+    let seventh = next_four(third, fourth, fifth, sixth);
+    let v = four_rounds_ahead(sums, v, seventh, 8);
+    let eighth = next_four(fourth, fifth, sixth, seventh);
+    *variables = four_rounds_ahead(sums, v, eighth, 12);
+    [fifth, sixth, seventh, eighth]
+}
+
+// The sixteen rounds of a later turn, whose words are `newer`, and between them the sixteen words
+// after these, from those and the sixteen before, `older`. The turn is a const argument, so that
+// round numbers are literals.
+#[inline(always)]
+fn later_turn<const TURN: usize>(
+    sums: &mut [u32x4; 4],
+    variables: &mut [Word32; 5],
+    older: [u32x4; 4],
+    newer: [u32x4; 4],
+) -> [u32x4; 4]
+    requires later { 1 ≤ TURN }
+    requires turn { TURN < 4 }
+    ensures { (h b : List ℕ) (g : ℕ) → g + 4 ≡ 4 * TURN → HasWords b → older ≡ window (W b) g
+        → IsAhead (W b) (ready_sum b) (rounds_from h b) newer
+        (map (map low_32) sums.old) (map word_32 variables.old) (g + 4)
+        → IsAhead (W b) (ready_sum b) (rounds_from h b) result
+        (map (map low_32) sums.new) (map word_32 variables.new) (g + 8) }
+{
+    let t = 16 * TURN;
+    let [first, second, third, fourth] = older;
+    let [fifth, sixth, seventh, eighth] = newer;
+    let ninth = later_four(first, second, fifth, seventh, eighth);
+    let v = four_rounds_ahead(sums, *variables, ninth, t);
+    let tenth = later_four(second, third, sixth, eighth, ninth);
+    let v = four_rounds_ahead(sums, v, tenth, t + 4);
+    let eleventh = later_four(third, fourth, seventh, ninth, tenth);
+    let v = four_rounds_ahead(sums, v, eleventh, t + 8);
+    let twelfth = later_four(fourth, fifth, eighth, tenth, eleventh);
+    *variables = four_rounds_ahead(sums, v, twelfth, t + 12);
+    [ninth, tenth, eleventh, twelfth]
+}
+
+// The last sixteen rounds.
+#[inline(always)]
+fn last_turn(sums: &[u32x4; 4], v: [Word32; 5]) -> [Word32; 5]
+    ensures { (h b : List ℕ) → HoldsSums (ready_sum b) (map (map low_32) sums.now) 20
+        → map word_32 v ≡ rounds_from h b 64 → map word_32 result ≡ rounds_from h b 80 }
+{
+    let v = four_rounds(sums, v, 64);
+    let v = four_rounds(sums, v, 68);
+    let v = four_rounds(sums, v, 72);
+    four_rounds(sums, v, 76)
+}
+
+// Runs the block function over a block, from its words and their sums.
+#[inline(always)]
+fn run_ahead(sums: &mut [u32x4; 4], state: &mut [Word32; 8], words: [u32x4; 4])
+    ensures words { (b : List ℕ) → HasWords b
+        → IsReady (W b) (ready_sum b) words (map (map low_32) sums.old) 0
+        → take 5 (map word_32 state.new) ≡ block_step (take 5 (map word_32 state.old)) b }
+    ensures rest { drop 5 state.new ≡ drop 5 state.old }
+{
+    let mut variables = [state[0], state[1], state[2], state[3], state[4]]; // step 2
+    let second = first_turn(sums, &mut variables, words); // steps 1 and 3
+    let third = later_turn::<1>(sums, &mut variables, words, second);
+    let fourth = later_turn::<2>(sums, &mut variables, second, third);
+    let _ = later_turn::<3>(sums, &mut variables, third, fourth);
+    let last = last_turn(sums, variables);
+    *state = add_state(state, &last); // step 4
+}
+
+// Runs the block function over each block in order. `sums` is room for sums. Were this inlined,
+// `sums` would be no memory, and each sum would be taken out of its vector.
+#[inline(never)]
+pub(crate) fn run_blocks(
+    sums: &mut [u32x4; 4],
+    state: &mut [Word32; 8],
+    blocks: AsChunks<'_, u8, 64>,
+    meter: &mut Meter,
+)
+    ensures words { take 5 (map word_32 state.new)
+        ≡ blocks_from (take 5 (map word_32 state.old))
+        (chunk_items blocks.entry) (chunk_total blocks.entry) }
+    ensures rest { drop 5 state.new ≡ drop 5 state.old }
+    ensures cost { meter.new ≡ raised meter.old (chunk_total blocks.entry) 0 }
+{
+    'each: for i in 0..blocks.len() {
+        let words = load(sums, &blocks[i]); // step 1, to W(15)
+        run_ahead(sums, state, words);
+        meter.add_block();
+    }
+}

@@ -4,19 +4,18 @@ use Rattle.std.proofs.Common.{◌≡◌, ℕ, ◌+◌, ◌-◌, ◌<◌, ◌≤�
 use Rattle.std.proofs.Common.{nat_le, true, false, Bool, if◌then◌else◌, rules, refl, sym, ap, subst}
 use Rattle.std.proofs.Common.{◌∙◌, arith, length-append, append_assoc}
 use Rattle.std.proofs.lemmas.List.{take_at, replicate-append-replicate, length-replicate}
-use Rattle.std.proofs.lemmas.List.{append-nil, length-map}
+use Rattle.std.proofs.lemmas.List.{length-map}
 use Rattle.ring.specs.Prelude.{Algorithm, BlockContext, Counts, Digest, HasMoved, HasTaken}
 use Rattle.ring.specs.Prelude.{IsDigest, IsTag, StandsFor, Tag, TagStandsFor, block_len, bytes_of}
 use Rattle.ring.specs.Prelude.{counted_bytes, digest_of, hmac_of, inner_block, key_block}
 use Rattle.ring.specs.Prelude.{key_digest_blocks, last_blocks, length_len, outer_block, output_len}
 use Rattle.ring.specs.Prelude.{padded_blocks, raised, short_key, signing_algorithm}
-use Rattle.ring_core.proofs.Costs.{raised-raised}
 use Rattle.ring.specs.declared.hmac.context.Context.{Context}
 use Rattle.ring.proofs.Blocks.{short_div}
 use Rattle.ring.specs.Prelude.{IsWhole, Key, KeyStandsFor, block_words, digest_after}
 use Rattle.ring.specs.Prelude.{key_algorithm, tag_from, tag_of_inner, tag_under, words_after}
 use Rattle.ring.proofs.Finishing.{digest_of-after, digest_with-is}
-use Rattle.ring.proofs.Lengths.{HasCounted, counted_end, last_past, length-digest_of}
+use Rattle.ring.proofs.Lengths.{last_past, length-digest_of}
 use Rattle.ring.proofs.Rows.{block_len-most, output_below}
 use Rattle.ring.proofs.Updating.{moved_block}
 
@@ -106,15 +105,6 @@ length-inner_block a k = length-map (key_block a k) _ ∙ length-key_block a k (
 pub length-outer_block : (a : Algorithm) (k : List ℕ) → length (outer_block a k) ≡ block_len a
 length-outer_block a k = length-map (key_block a k) _ ∙ length-key_block a k (length-short_key a k)
 
--- the cost of a tag past its updates, where the inner digest's end took n blocks, and the outer
--- digest's algorithm is told as e at its end: one block more
-pub cost_sign : {a e : Algorithm} {q d : ℕ} (n : ℕ) (m0 : Counts) {m1 m2 m3 : Counts}
-    → HasCounted a q d m1 m2
-    → e ≡ a → d ≡ output_len a → m1 ≡ raised m0 n 0 → m3 ≡ raised m2 (padded_blocks e q) 0
-    → m3 ≡ raised m0 (n + 1) 0
-cost_sign {a = a} {d = d} n m0 t ee ed e1 e3 =
-    grind (arith, common_steps, one_block, counted_end, raised-raised)
-
 -- the length of the message inside
 pub inner_len : (a : Algorithm) (k m : List ℕ)
     → length (inner_block a k ++ m) ≡ block_len a + length m
@@ -136,12 +126,12 @@ tag_is {a = a} k m e hv ex hd =
 
 -- the same by the words after a key's blocks, whatever they are
 pub tag_last : {a e : Algorithm} (h x : List ℕ) {v d : List ℕ} {n : ℕ}
-    → v ≡ digest_after e h (x ++ []) n → x ≡ d → e ≡ a → n ≡ block_len a + output_len a
+    → v ≡ digest_after e h x n → x ≡ d → e ≡ a → n ≡ block_len a + output_len a
     → v ≡ tag_of_inner a h d
 tag_last {a = a} {e = e} h x {d = d} {n = n} ev ex ee en =
     let len : (b : Algorithm) → e ≡ b → n ≡ block_len b + output_len b
-    → digest_after e h (x ++ []) n ≡ tag_of_inner b h d =
-    λ b eb el. rw (append-nil x, ex, eb, el) refl in
+    → digest_after e h x n ≡ tag_of_inner b h d =
+    λ b eb el. rw (ex, eb, el) refl in
     ev ∙ len a ee en
 
 -- the tag of an inner digest, by the words after the key's outer block

@@ -1,7 +1,7 @@
 -- The length of a digest, and costs of whole messages.
 use Rattle.std.proofs.lemmas.Grind.{common_steps}
 use Rattle.std.proofs.Common.{◌≡◌, ℕ, ◌+◌, ◌/◌, ◌%◌, inl, inr, List, length, refl, sym, ap, ◌∙◌}
-use Rattle.std.proofs.Common.{arith, length-take-le}
+use Rattle.std.proofs.Common.{arith}
 use Rattle.ring_core.specs.Sha1 as sha1
 use Rattle.ring_core.specs.Sha2 as sha2
 use Rattle.ring.specs.Prelude.{Algorithm, AlgorithmId, Counts, Sha1, Sha256, Sha384, Sha512}

@@ -1,27 +1,31 @@
 -- Numbers in the place of contexts and keys.
 use Rattle.std.proofs.lemmas.Grind.{common_steps}
-use Rattle.std.proofs.Common.{◌≡◌, ℕ, ◌+◌, ◌*◌, ◌%◌, ◌^◌, ◌≤◌, List, [], ◌∷◌, ◌++◌, map, length}
-use Rattle.std.proofs.Common.{take, nat_eq, IsTrue, rules, refl, sym, ap, subst, ◌∙◌, inl, inr}
-use Rattle.std.proofs.Common.{arith}
+use Rattle.std.proofs.Common.{◌≡◌, ◌↔◌, ℕ, ◌+◌, ◌*◌, ◌%◌, ◌^◌, ◌<◌, ◌≤◌, List, [], ◌∷◌, ◌++◌, map}
+use Rattle.std.proofs.Common.{length, take, drop, nat_eq, IsTrue, rules, refl, sym, ap, subst, ◌∙◌}
+use Rattle.std.proofs.Common.{inl, inr, arith, append_assoc}
 use Rattle.std.proofs.Common.{length-append, length-take, length-take-le, Option, Some, option_map}
 use Rattle.std.proofs.Common.{unwrap_or}
 use Rattle.std.proofs.Math.Nat.{mod-mod, mod-eq_of_lt}
 use Rattle.std.proofs.lemmas.Bool.{cases_lt}
+use Rattle.std.proofs.lemmas.List.{take-append-drop}
 use Rattle.std.proofs.lemmas.Option.{same_Some}
 use Rattle.std.specs.declared.num.Wrapping.{Wrapping}
-use Rattle.ring.specs.Prelude.{Algorithm, AlgorithmId, AreNumbersOf, AreNumbersOfTag, As32, As64}
-use Rattle.ring.specs.Prelude.{BlockContext, Context, DynState, HasAdded, HasBegun, HasTaken}
+use Rattle.ring.specs.Prelude.{Algorithm, AlgorithmId, AreNumbersOfTag, As32, As64, BlockContext}
+use Rattle.ring.specs.Prelude.{Counts, DynState, HasAdded, HasBegun, HasMoved, HasTaken, IsNoContext}
+use Rattle.ring.specs.Prelude.{IsNoTagContext}
 use Rattle.ring.specs.Prelude.{IsRawState, Key, KeyStandsFor, RawContext, RawKey, RawStandsFor}
 use Rattle.ring.specs.Prelude.{RawTagContext, RawTagStandsFor, Sha1, Sha256, Sha384, Sha512}
-use Rattle.ring.specs.Prelude.{Sha512_256, TagHasAdded, block_len, completed_len, context_algorithm}
-use Rattle.ring.specs.Prelude.{cut_off, digest_after, digest_named, digest_with, inner_block}
-use Rattle.ring.specs.Prelude.{inner_words, key_algorithm, message_len, named_block_len}
-use Rattle.ring.specs.Prelude.{outer_block, outer_words, pending_len, raw_chaining, raw_digest_with}
-use Rattle.ring.specs.Prelude.{raw_tag_with, raw_words, row_of, signing_algorithm, signing_len}
-use Rattle.ring.specs.Prelude.{signing_pending, state_word_len, tag_of_inner, tag_with, words}
+use Rattle.ring.specs.Prelude.{Sha512_256, block_len, block_words, completed_len, counted_bytes}
+use Rattle.ring.specs.Prelude.{cut_off, digest_after, digest_named, inner_block}
+use Rattle.ring.specs.Prelude.{inner_words, key_algorithm, max_input_len, named_block_len}
+use Rattle.ring.specs.Prelude.{outer_block, outer_words, raw_chaining, raw_digest_with}
+use Rattle.ring.specs.Prelude.{raw_message_len, raw_tag_with, raw_words, row_of, signing_algorithm}
+use Rattle.ring.specs.Prelude.{signing_len, signing_pending, state_word_len, tag_of_inner, tag_with}
+use Rattle.ring.specs.Prelude.{words}
 use Rattle.ring.specs.declared.hmac.context.Context.{Context as TagContext}
 use Rattle.ring.proofs.Keys.{inner_len}
-use Rattle.ring.proofs.Rows.{block_len-most}
+use Rattle.ring.proofs.Rows.{block_len-most, max_input_len-most}
+use Rattle.ring.proofs.Updating.{counted_moved, digest_moved, pending_moved}
 
 -- numbers cut off twice are cut off once
 map_mod : (m : ℕ) (ws : List (Wrapping ℕ))
@@ -62,46 +66,43 @@ pub named_len : (n : ℕ) (a : Algorithm) → digest_named n ≡ Some a → name
 unfolding named_block_len
 named_len n a e = ap (λ (o : Option Algorithm). unwrap_or (option_map block_len o) 0) e
 
--- numbers of a context that was updated with the bytes x
-pub has_added : {old new : RawContext} {c n : Context} (x : List ℕ) → AreNumbersOf old c
-    → context_algorithm n ≡ context_algorithm c
-    → message_len n ≡ cut_off (message_len c + length x)
-    → pending_len n ≡ (pending_len c + length x) % block_len (context_algorithm c)
-    → ((y : List ℕ) (k : ℕ) → digest_with n y k ≡ digest_with c (x ++ y) k)
-    → AreNumbersOf new n → HasAdded old new x
-has_added {old} {new} {c} x i ea el ep ed o =
-    let same = sym i.algorithm in
-    let size = named_len old.algorithm (context_algorithm c) i.algorithm in
+-- the numbers are a context's after the blocks that b has taken in
+pub record AreOfBlock (raw : RawContext) (b : BlockContext) : Type 0 where
+  pub algorithm : digest_named raw.algorithm ≡ Some b.algorithm
+  pub words : raw_chaining b.algorithm raw.words ≡ block_words b
+  pub counted : cut_off (completed_len raw) ≡ counted_bytes b
+  pub partial : raw.num_pending < block_len b.algorithm
+  pub fits : raw.num_pending ≤ length raw.pending
+
+-- numbers of a context that moved on by the bytes x
+pub added_moved : {old new : RawContext} {b n : BlockContext} {m0 m1 : Counts} (x : List ℕ)
+    → AreOfBlock old b → AreOfBlock new n
+    → HasMoved (block_len b.algorithm) b n (take old.num_pending old.pending ++ x)
+    (take new.num_pending new.pending) m0 m1 → HasAdded old new x
+added_moved {old} {new} {b} {n} x i o j =
+    let before : List ℕ = take old.num_pending old.pending in
+    let left : List ℕ = take new.num_pending new.pending in
+    let few : new.num_pending ≡ length left =
+    sym (length-take-le new.num_pending new.pending o.fits) in
+    let short : length left < block_len b.algorithm =
+    omega (arith, few, o.partial, ap block_len j.algorithm) in
+    let size = named_len old.algorithm b.algorithm i.algorithm in
+    let counted = counted_moved old.pending old.num_pending x j i.fits few in
     record {
-      algorithm = o.algorithm ∙ ap Some ea ∙ same;
-      pending = o.pending ∙ ep ∙ rw (size, i.pending) refl;
-      counted = o.counted ∙ el ∙ rw i.counted refl;
+      algorithm = o.algorithm ∙ ap Some j.algorithm ∙ sym i.algorithm;
+      pending = rw size (pending_moved old.pending old.num_pending x j i.fits few short);
+      counted = omega (arith, counted, i.counted, o.counted);
       digest = λ a named y k.
-          let is : context_algorithm c ≡ a = same_Some _ a (same ∙ named) in
+          let is : b.algorithm ≡ a = same_Some _ a (sym i.algorithm ∙ named) in
           let N : Algorithm → List ℕ = λ z. raw_digest_with z new y k in
           let D : Algorithm → Type 0 = λ z. N z ≡ raw_digest_with z old (x ++ y) k in
-          subst D is (ap N (sym ea) ∙ o.digest y k ∙ ed y k ∙ sym (i.digest (x ++ y) k));
-    }
-
--- the same of a tag's context
-pub tag_has_added : {old new : RawTagContext} {c n : TagContext} (x : List ℕ)
-    → AreNumbersOfTag old c → signing_algorithm n ≡ signing_algorithm c
-    → signing_len n ≡ cut_off (signing_len c + length x)
-    → signing_pending n ≡ (signing_pending c + length x) % block_len (signing_algorithm c)
-    → ((y : List ℕ) (k : ℕ) → tag_with n y k ≡ tag_with c (x ++ y) k)
-    → AreNumbersOfTag new n → TagHasAdded old new x
-tag_has_added {old} {new} {c} x i ea el ep ed o =
-    let same = sym i.algorithm in
-    let size = named_len old.inner.algorithm (signing_algorithm c) i.algorithm in
-    record {
-      algorithm = o.algorithm ∙ ap Some ea ∙ same;
-      pending = o.pending ∙ ep ∙ rw (size, i.pending) refl;
-      counted = o.counted ∙ el ∙ rw i.counted refl;
-      tag = λ a named y k.
-          let is : signing_algorithm c ≡ a = same_Some _ a (same ∙ named) in
-          let N : Algorithm → List ℕ = λ z. raw_tag_with z new y k in
-          let T : Algorithm → Type 0 = λ z. N z ≡ raw_tag_with z old (x ++ y) k in
-          subst T is (ap N (sym ea) ∙ o.tag y k ∙ ed y k ∙ sym (i.tag (x ++ y) k));
+          let A : List ℕ → List ℕ → List ℕ = λ h z. digest_after b.algorithm h z k in
+          let last : N n.algorithm ≡ A (block_words b) ((before ++ x) ++ y) =
+          ap (λ (h : List ℕ). digest_after n.algorithm h (left ++ y) k) o.words
+          ∙ digest_moved b n (before ++ x) j y k in
+          subst D is (ap N (sym j.algorithm) ∙ last
+          ∙ ap (A (block_words b)) (append_assoc before x y)
+          ∙ ap (λ (h : List ℕ). A h (before ++ (x ++ y))) (sym i.words));
     }
 
 -- numbers of a tag's context that begins under a key
@@ -127,6 +128,48 @@ has_begun key {raw} {new = new} named inner outer ea el ep et o =
           let T : Algorithm → Type 0 = λ z. N z ≡ tag_of_inner z (raw_chaining z raw.outer) (D z) in
           subst T is (ap N (sym ea) ∙ o.tag y k ∙ et y k ∙ rw (inner, outer) refl);
     }
+
+-- numbers that stand for a message are a context's
+pub is_context : (raw : RawContext) (a : Algorithm) (m : List ℕ) → RawStandsFor raw a m
+    → IsNoContext raw → ⊥
+unfolding RawStandsFor
+is_context raw a m h none =
+    omega (arith, named_len raw.algorithm a h.algorithm, h.partial, none)
+
+-- what numbers count of a message is too long where the message is
+pub refused_raw : (raw : RawContext) (a : Algorithm) (m : List ℕ) → RawStandsFor raw a m
+    → raw.num_pending ≤ length raw.pending
+    → (max_input_len a < raw_message_len raw) ↔ (max_input_len a < length m)
+unfolding RawStandsFor
+refused_raw raw a m h fits =
+    let rest = take raw.num_pending raw.pending in
+    let len : length m ≡ length h.blocks + length rest =
+    ap length h.message ∙ length-append h.blocks rest in
+    let few = length-take-le raw.num_pending raw.pending fits in
+    let most = max_input_len-most a in (
+      λ e. omega (arith, len, few, h.count, most, e),
+      λ e. omega (arith, len, few, h.count, most, e),
+    )
+
+-- a message whose blocks so far are b, where k of the bytes past them and of d are further blocks
+pub moved_message : (b x d : List ℕ) (k : ℕ) {m left : List ℕ} → m ≡ b ++ x
+    → left ≡ drop k (x ++ d) → m ++ d ≡ (b ++ take k (x ++ d)) ++ left
+moved_message b x d k em el =
+    ap (λ (z : List ℕ). z ++ d) em ∙ append_assoc b x d
+    ∙ ap (λ (z : List ℕ). b ++ z) (sym (take-append-drop k (x ++ d)))
+    ∙ sym (append_assoc b (take k (x ++ d)) (drop k (x ++ d)))
+    ∙ ap (λ (z : List ℕ). (b ++ take k (x ++ d)) ++ z) (sym el)
+
+-- the block context of numbers that stand for a message has taken in its blocks p
+pub taken_raw : (raw : RawContext) (a : Algorithm) (p : List ℕ) {b : BlockContext}
+    → digest_named raw.algorithm ≡ Some b.algorithm
+    → ((q : List ℕ) → IsRawState b.algorithm raw.words q → completed_len raw ≡ cut_off (length q)
+    → HasTaken b q) → digest_named raw.algorithm ≡ Some a → IsRawState a raw.words p
+    → completed_len raw ≡ cut_off (length p) → HasTaken b p × (b.algorithm ≡ a)
+taken_raw raw a p {b} own stands named state count =
+    let is : b.algorithm ≡ a = same_Some b.algorithm a (sym own ∙ named) in
+    let P : Algorithm → Type 0 = λ z. IsRawState z raw.words p in
+    (stands p (subst P (sym is) state) count, is)
 
 -- a key by the algorithm of its first state
 pub key_stands : (key : Key) (a : Algorithm) (k : List ℕ) → key.inner.algorithm ≡ a
@@ -156,6 +199,22 @@ key_block_counted raw a k m h =
           absurd (omega arith)
       | inr ge ↦ omega (arith, h.inner.count)
     ]
+
+-- the numbers of a tag's context that stand for a message are one's
+pub is_tag_context : (raw : RawTagContext) (a : Algorithm) (k m : List ℕ)
+    → RawTagStandsFor raw a k m → IsNoTagContext raw → ⊥
+unfolding RawTagStandsFor
+is_tag_context raw a k m h none =
+    elim none [
+      | inl e ↦ is_context raw.inner a _ h.inner e
+      | inr e ↦ omega (arith, key_block_counted raw a k m h, e)
+    ]
+
+-- they name its algorithm
+pub tag_named : (raw : RawTagContext) (a : Algorithm) (k m : List ℕ) → RawTagStandsFor raw a k m
+    → digest_named raw.inner.algorithm ≡ Some a
+unfolding RawTagStandsFor RawStandsFor
+tag_named raw a k m h = h.inner.algorithm
 
 -- bytes written past the first n of a list, with those
 pub kept : (n : ℕ) (p x c r : List ℕ) → n ≤ length p → c ≡ x

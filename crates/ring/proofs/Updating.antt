@@ -11,9 +11,9 @@ use Rattle.std.proofs.lemmas.Slice.{take-put_mid}
 use borrow.Rule.Slice.PartMut.{put_mid}
 use Rattle.ring.specs.Prelude.{BlockContext, Context, Counts, HasMoved, HasTaken, IsJoined}
 use Rattle.std.specs.Int.{bytes_high_first}
-use Rattle.ring.specs.Prelude.{block_words, blocks_from, chaining_words, digest_after, digest_with}
+use Rattle.ring.specs.Prelude.{block_words, blocks_from, chaining_words, digest_after}
 use Rattle.ring.specs.Prelude.{length_len, output_len, tail_of, word_bytes, word_len, zeros_of}
-use Rattle.ring.specs.Prelude.{StandsFor, block_len, pending_bytes, pending_len, raised}
+use Rattle.ring.specs.Prelude.{StandsFor, block_len, counted_bytes, cut_off, pending_bytes, raised}
 use Rattle.ring.specs.Prelude.{whole_blocks}
 use Rattle.ring_core.proofs.Costs.{raised-none, raised-raised}
 use Rattle.ring.proofs.Blocks.{mul_whole, whole_div-add, short_div}
@@ -117,119 +117,110 @@ pub moved_both : {b mid last new : BlockContext} {x rest left : List ℕ} {m0 m1
 moved_both {b} {mid} {last} {x = x} {rest} {left} {m0} {m1} {m2} i j e =
     grind (arith, common_steps, moved_then)
 
--- the bytes d complete the pending block, which has k bytes
-pub record HasRoom (s : Context) (d : List ℕ) (k : ℕ) : Type 0 where
-  pub size : k ≡ block_len s.block.algorithm
-  pub fits : s.num_pending ≤ length s.pending
-  pub enough : k ≤ length d + s.num_pending
+-- n pending bytes, which stand at the front of p, and d fill a block of k bytes of b
+pub record HasRoom (b : BlockContext) (p : List ℕ) (n : ℕ) (d : List ℕ) (k : ℕ) : Type 0 where
+  pub size : k ≡ block_len b.algorithm
+  pub partial : n < k
+  pub fits : n ≤ length p
+  pub enough : k ≤ length d + n
 
 -- the pending block, completed by ys from the front of d, moved
-pub moved_fill : (s : Context) {new : BlockContext} (d : List ℕ) {ys left rest : List ℕ}
-    {before after : Counts} (k : ℕ) → HasRoom s d k
-    → ys ≡ take (k - s.num_pending) d → left ≡ drop (k - s.num_pending) d
-    → HasMoved (block_len s.block.algorithm) s.block new
-    (take k (put_mid s.num_pending (k - s.num_pending) s.pending ys)) rest before after
-    → length rest < block_len s.block.algorithm
-    → HasMoved (block_len s.block.algorithm) s.block new (pending_bytes s ++ d) left before after
-moved_fill s d {ys = ys} {left = left} k room eys el j short =
-    let np : ℕ = s.num_pending in
-    let few : np ≤ k = omega (arith, room.size, s.partial) in
-    let y : List ℕ = take k (put_mid np (k - np) s.pending ys) in
-    let count : length ys ≡ k - np =
-    ap length eys ∙ length-take-le (k - np) d (omega (arith, room.enough)) in
-    let is : y ≡ pending_bytes s ++ ys =
-    take-put_mid np (k - np) s.pending ys k (omega (arith, count, few)) room.fits in
-    let long : length y ≡ block_len s.block.algorithm =
+pub moved_fill : (b : BlockContext) (p : List ℕ) (n : ℕ) {new : BlockContext} (d : List ℕ)
+    {ys left rest : List ℕ} {before after : Counts} (k : ℕ) → HasRoom b p n d k
+    → ys ≡ take (k - n) d → left ≡ drop (k - n) d
+    → HasMoved (block_len b.algorithm) b new (take k (put_mid n (k - n) p ys)) rest before after
+    → length rest < block_len b.algorithm
+    → HasMoved (block_len b.algorithm) b new (take n p ++ d) left before after
+moved_fill b p n d {ys = ys} {left = left} k room eys el j short =
+    let y : List ℕ = take k (put_mid n (k - n) p ys) in
+    let count : length ys ≡ k - n =
+    ap length eys ∙ length-take-le (k - n) d (omega (arith, room.enough)) in
+    let is : y ≡ take n p ++ ys =
+    take-put_mid n (k - n) p ys k (omega (arith, count, room.partial)) room.fits in
+    let long : length y ≡ block_len b.algorithm =
     omega (
       arith,
       ap length is,
-      length-append (pending_bytes s) ys,
-      length-take-le np s.pending room.fits,
+      length-append (take n p) ys,
+      length-take-le n p room.fits,
       count,
       room.size,
-      few,
+      room.partial,
     ) in
-    let split : ys ++ left ≡ d = rw (eys, el) (take-append-drop (k - np) d) in
-    let all : pending_bytes s ++ d ≡ y ++ left =
-    ap (λ (z : List ℕ). pending_bytes s ++ z) (sym split)
-    ∙ sym (append_assoc (pending_bytes s) ys left) ∙ ap (λ (z : List ℕ). z ++ left) (sym is) in
+    let split : ys ++ left ≡ d = rw (eys, el) (take-append-drop (k - n) d) in
+    let all : take n p ++ d ≡ y ++ left =
+    ap (λ (z : List ℕ). take n p ++ z) (sym split)
+    ∙ sym (append_assoc (take n p) ys left) ∙ ap (λ (z : List ℕ). z ++ left) (sym is) in
     moved_one j short long all
 
--- the bytes ahead of an update
-pub ahead_len : (s : Context) (d : List ℕ) → s.num_pending ≤ length s.pending
-    → length (pending_bytes s ++ d) ≡ s.num_pending + length d
-ahead_len s d fits =
-    grind (arith, common_steps, length-take-le)
-
--- the digest after an update, whatever bytes y go on: the bytes d come before them
-pub digest_moved : (s n : Context) (d : List ℕ) {left : List ℕ} {before after : Counts}
-    → HasMoved (block_len s.block.algorithm) s.block n.block (pending_bytes s ++ d) left before
-    after → pending_bytes n ≡ left → (y : List ℕ) (m : ℕ)
-    → digest_with n y m ≡ digest_with s (d ++ y) m
+-- the digest after blocks moved, whatever bytes y go on
+pub digest_moved : (b n : BlockContext) (x : List ℕ) {left : List ℕ} {before after : Counts}
+    → HasMoved (block_len b.algorithm) b n x left before after → (y : List ℕ) (m : ℕ)
+    → digest_after n.algorithm (block_words n) (left ++ y) m
+    ≡ digest_after b.algorithm (block_words b) (x ++ y) m
 unfolding digest_after
-digest_moved s n d {left = left} j front y m =
-    let a = s.block.algorithm in
-    let x = pending_bytes s ++ d in
-    let b : ℕ = block_len a in
-    let whole : List ℕ = pending_bytes s ++ (d ++ y) in
-    let rest : length left ≡ length x - j.blocks * b =
-    ap length j.rest ∙ length-drop (j.blocks * b) x in
-    let long : length whole ≡ j.blocks * b + length (left ++ y) =
-    omega (
-      arith,
-      rest,
-      j.fits,
-      length-append (pending_bytes s) (d ++ y),
-      length-append d y,
-      length-append left y,
-      length-append (pending_bytes s) d,
-    ) in
-    let zeros : zeros_of a (length whole) ≡ zeros_of a (length (left ++ y)) =
-    ap (zeros_of a) long ∙ zeros_past a (j.blocks * b) (length (left ++ y))
-    (mul_whole j.blocks b (block_len-positive a)).0 in
+digest_moved b n x {left = left} j y m =
+    let a = b.algorithm in
+    let k : ℕ = block_len a in
+    let rest : length left ≡ length x - j.blocks * k =
+    ap length j.rest ∙ length-drop (j.blocks * k) x in
+    let long : length (x ++ y) ≡ j.blocks * k + length (left ++ y) =
+    omega (arith, rest, j.fits, length-append left y, length-append x y) in
+    let zeros : zeros_of a (length (x ++ y)) ≡ zeros_of a (length (left ++ y)) =
+    ap (zeros_of a) long ∙ zeros_past a (j.blocks * k) (length (left ++ y))
+    (mul_whole j.blocks k (block_len-positive a)).0 in
     let field : List ℕ = bytes_high_first (length_len a) (8 * m) in
     let marks : ℕ → List ℕ = λ z. 0x80 ∷ replicate z 0 in
-    let few : ℕ = zeros_of a (length (left ++ y)) in
-    let end : List ℕ = marks few ++ field in
+    let end : List ℕ = marks (zeros_of a (length (left ++ y))) ++ field in
     let W : List ℕ → List ℕ = λ h. take (output_len a) (word_bytes (word_len a) h) in
-    let F : List ℕ → List ℕ = λ z. blocks_from a (block_words s.block) z in
-    let joined : x ++ (y ++ end) ≡ whole ++ end =
-    sym (append_assoc x y end)
-    ∙ ap (λ (z : List ℕ). z ++ end) (append_assoc (pending_bytes s) d y) in
+    let F : List ℕ → List ℕ = λ z. blocks_from a (block_words b) z in
+    let N : List ℕ → List ℕ = λ z. blocks_from a (chaining_words a n.state) z in
     let words = rw j.algorithm at (j.words (y ++ end)) in
-    let N : List ℕ → List ℕ = λ z. blocks_from a (chaining_words a n.block.state) z in
-    let first : blocks_from a (chaining_words a n.block.state) (tail_of a (left ++ y) m)
-    ≡ blocks_from a (block_words s.block) (tail_of a whole m) =
-    ap N (append_assoc (left ++ y) (marks few) field ∙ append_assoc left y end) ∙ words
-    ∙ ap F (joined ∙ sym (append_assoc whole (marks few) field)
-    ∙ ap (λ (z : ℕ). (whole ++ marks z) ++ field) (sym zeros)) in
-    rw (j.algorithm, front) (ap W first)
+    let first : blocks_from a (chaining_words a n.state) (tail_of a (left ++ y) m)
+    ≡ blocks_from a (block_words b) (tail_of a (x ++ y) m) =
+    ap N (append_assoc (left ++ y) (marks _) field ∙ append_assoc left y end) ∙ words
+    ∙ ap F (sym (append_assoc x y end) ∙ sym (append_assoc (x ++ y) (marks _) field)
+    ∙ ap (λ (z : ℕ). ((x ++ y) ++ marks z) ++ field) (sym zeros)) in
+    rw j.algorithm (ap W first)
 
--- the context s, which has blocks of k bytes, became n by the bytes d
-module _ {k : ℕ} {left : List ℕ} {before after : Counts} where
-  -- what it stands for after an update
-  pub stands_moved : (s n : Context) (d : List ℕ)
-      → HasMoved k s.block n.block (pending_bytes s ++ d) left before after → pending_bytes n ≡ left
-      → (m : List ℕ) → StandsFor s m → StandsFor n (m ++ d)
-  unfolding StandsFor
-  stands_moved s n d j front m h =
-      grind (arith, common_steps)
+-- what a context s stands for after the bytes d, where what is left is pending
+pub stands_moved : (s n : Context) (d : List ℕ) {k : ℕ} {left : List ℕ} {before after : Counts}
+    → HasMoved k s.block n.block (pending_bytes s ++ d) left before after → pending_bytes n ≡ left
+    → (m : List ℕ) → StandsFor s m → StandsFor n (m ++ d)
+unfolding StandsFor
+stands_moved s n d j front m h =
+    grind (arith, common_steps)
 
-  pub pending_moved : (s n : Context) (d : List ℕ)
-      → HasMoved k s.block n.block (pending_bytes s ++ d) left before after
-      → s.num_pending ≤ length s.pending → n.num_pending ≡ length left → length left < k
-      → pending_len n ≡ (pending_len s + length d) % k
-  pending_moved s n d j fits el short =
-      el ∙ (moved_count j short).1 ∙ ap (λ (z : ℕ). z % k) (ahead_len s d fits)
+-- the bytes ahead of an update: the first q of p, which are pending, and d
+module _ (p : List ℕ) (q : ℕ) (d : List ℕ) where
+  pub ahead_len : q ≤ length p → length (take q p ++ d) ≡ q + length d
+  ahead_len fits =
+      grind (arith, common_steps, length-take-le)
 
-  -- what an update costs
-  pub cost_moved : (s : Context) {n : BlockContext} (d : List ℕ)
-      → HasMoved k s.block n (pending_bytes s ++ d) left before after
-      → s.num_pending ≤ length s.pending → length left < k
-      → after ≡ raised before ((pending_len s + length d) / k) 0
-  cost_moved s d j fits short =
-      let blocks = (moved_count j short).0 ∙ ap (λ (z : ℕ). z / k) (ahead_len s d fits) in
-      j.cost ∙ ap (λ (z : ℕ). raised before z 0) blocks
+  -- the block context b, which has blocks of k bytes, became n by these bytes
+  module _ {k : ℕ} {b n : BlockContext} {left : List ℕ} {before after : Counts} where
+    -- how many bytes are pending then
+    pub pending_moved : {r : ℕ} → HasMoved k b n (take q p ++ d) left before after
+        → q ≤ length p → r ≡ length left → length left < k → r ≡ (q + length d) % k
+    pending_moved j fits el short =
+        el ∙ (moved_count j short).1 ∙ ap (λ (z : ℕ). z % k) (ahead_len fits)
+
+    -- what is counted then
+    pub counted_moved : {r : ℕ} → HasMoved k b n (take q p ++ d) left before after
+        → q ≤ length p → r ≡ length left
+        → cut_off (counted_bytes n + r) ≡ cut_off (cut_off (counted_bytes b + q) + length d)
+    counted_moved j fits el =
+        let rest : length left ≡ length (take q p ++ d) - j.blocks * k =
+        ap length j.rest ∙ length-drop (j.blocks * k) (take q p ++ d) in
+        omega (arith, rest, ahead_len fits, j.fits, j.counted, el)
+
+    -- what an update costs
+    pub cost_moved : HasMoved k b n (take q p ++ d) left before after
+        → q ≤ length p → length left < k
+        → after ≡ raised before ((q + length d) / k) 0
+    cost_moved j fits short =
+        let blocks = (moved_count j short).0 ∙ ap (λ (z : ℕ). z / k) (ahead_len fits) in
+        j.cost ∙ ap (λ (z : ℕ). raised before z 0) blocks
 
 -- the length of a message that a context stands for
 pub stands_len : (s : Context) (m : List ℕ) → (h : IsJoined s m) → s.num_pending ≤ length s.pending

@@ -74,6 +74,7 @@ pub(crate) mod each;
 mod initial;
 mod padded_blocks;
 pub(crate) mod padding;
+pub(crate) mod pending;
 pub(crate) mod side_by_side;
 mod single;
 mod together;

@@ -8,6 +8,7 @@ ghost use Rattle.ring.specs.Raw.{AreWords, HasAdded, IsNoContext, RawStandsFor, 
 ghost use Rattle.ring.specs.Raw.{raw_digest_with, raw_message_len};
 ghost use Rattle.ring.specs.declared.digest.algorithm.Algorithm.{Algorithm};
 
+use crate::lengths::yz_output_len;
 use crate::status::{OK, UNKNOWN_ALGORITHM, UNKNOWN_CONTEXT, UNSPECIFIED, WRONG_LENGTH};
 use ring::digest::{self, Context};
 use ring::raw::{RawContext, digest_of_number};
@@ -77,14 +78,9 @@ pub extern "C" fn yz_digest_update(context: &mut RawContext, input: &[u8]) -> i3
     ensures told { result ≢ OK → result ≡ UNKNOWN_CONTEXT }
     ensures unchanged { result ≢ OK → context.new ≡ context.old }
 {
-    if context.keep(input) {
-        return OK;
-    }
-    let Some(mut running) = context.context() else {
+    if !context.update(input) {
         return UNKNOWN_CONTEXT;
-    };
-    running.update(input);
-    *context = RawContext::new(&running);
+    }
     OK
 }
 
@@ -112,13 +108,13 @@ pub extern "C" fn yz_digest_final(context: &RawContext, out: &mut [u8]) -> i32
         → result ≡ UNSPECIFIED }
     ensures unchanged { result ≢ OK → out.new ≡ out.old }
 {
-    let Some(running) = context.context() else {
+    let Some(finished) = context.finish() else {
         return UNKNOWN_CONTEXT;
     };
-    if out.len() != running.algorithm().output_len() {
+    if out.len() != yz_output_len(context.algorithm) {
         return WRONG_LENGTH;
     }
-    let Ok(made) = running.finish() else {
+    let Ok(made) = finished else {
         return UNSPECIFIED;
     };
     out.copy_from_slice(made.as_ref());

@@ -219,14 +219,9 @@ pub extern "C" fn yz_hmac_update(context: &mut RawTagContext, input: &[u8]) -> i
     ensures told { result ≢ OK → result ≡ UNKNOWN_CONTEXT }
     ensures unchanged { result ≢ OK → context.new ≡ context.old }
 {
-    if context.keep(input) {
-        return OK;
-    }
-    let Some(mut running) = context.context() else {
+    if !context.update(input) {
         return UNKNOWN_CONTEXT;
-    };
-    running.update(input);
-    *context = RawTagContext::new(&running);
+    }
     OK
 }
 
@@ -256,13 +251,13 @@ pub extern "C" fn yz_hmac_final(context: &RawTagContext, out: &mut [u8]) -> i32
         → result ≡ UNSPECIFIED }
     ensures unchanged { result ≢ OK → out.new ≡ out.old }
 {
-    let Some(running) = context.context() else {
+    let Some(finished) = context.finish() else {
         return UNKNOWN_CONTEXT;
     };
     if out.len() != yz_output_len(context.inner.algorithm) {
         return WRONG_LENGTH;
     }
-    let Ok(tag) = running.sign() else {
+    let Ok(tag) = finished else {
         return UNSPECIFIED;
     };
     out.copy_from_slice(tag.as_ref());

@@ -131,6 +131,10 @@ impl BlockContext {
             input.now result.now meter.old meter.new }
         ensures short { length result.now < block_len (block_algorithm self.old) }
     {
+        // A call of the block function that runs no block is worth avoiding.
+        if input.len() < self.algorithm.block_len() {
+            return input;
+        }
         let rest = run_blocks(self.algorithm, &mut self.state, input, meter);
         let completed = (input.len() - rest.len()) as u128;
         self.completed_bytes = self.completed_bytes.saturating_add(completed);

@@ -9,6 +9,7 @@ ghost use Rattle.ring.specs.Digest.{IsDigest, bytes_of, digest_after, digest_alg
 
 use crate::digest::algorithm::{Algorithm, MAX_BLOCK_LEN};
 use crate::digest::block_context::BlockContext;
+use crate::digest::pending::move_on;
 use crate::digest::value::Digest;
 use ring_core::cost::Meter;
 use ring_core::error::Unspecified;
@@ -24,7 +25,7 @@ pub struct Context {
 }
 
 impl Context {
-    ghost use Rattle.ring.specs.Context.{HasMoved, HasTaken, StandsFor, block_algorithm};
+    ghost use Rattle.ring.specs.Context.{HasTaken, StandsFor, block_algorithm};
     ghost use Rattle.ring.specs.Context.{context_algorithm, counted_bytes, cut_off};
     ghost use Rattle.ring.specs.Context.{block_words, digest_with};
     ghost use Rattle.ring.specs.Context.{message_len, pending_bytes, pending_len};
@@ -96,9 +97,9 @@ impl Context {
             self.keep(input);
             return;
         }
-        let rest = self.complete_pending(input, meter);
-        let leftover = self.block.update(rest, meter);
-        self.keep(leftover);
+        let begun = self.num_pending;
+        let left = move_on(&mut self.block, &mut self.pending, begun, input, meter);
+        self.num_pending = left;
     }
 
     // How many bytes the pending block has room for.
@@ -119,27 +120,6 @@ impl Context {
         let end = self.num_pending + bytes.len();
         self.pending[self.num_pending..end].copy_from_slice(bytes);
         self.num_pending = end;
-    }
-
-    // Completes the pending block, if one is begun, runs it, and returns the rest of `input`.
-    fn complete_pending<'i>(&mut self, input: &'i [u8], meter: &mut Meter) -> &'i [u8]
-        requires { block_len (context_algorithm self.old)
-            ≤ pending_len self.old + length input.now }
-        ensures empty { pending_len self.new ≡ 0 }
-        ensures moved { HasMoved (block_len (context_algorithm self.old))
-            self.old.block self.new.block (pending_bytes self.old ++ input.now) result.now
-            meter.old meter.new }
-    {
-        if self.num_pending == 0 {
-            return input;
-        }
-        let block_len = self.block.algorithm.block_len();
-        let (head, rest) = input.split_at(self.room());
-        let mut block = self.pending;
-        block[self.num_pending..block_len].copy_from_slice(head);
-        let _ = self.block.update(&block[..block_len], meter);
-        self.num_pending = 0;
-        rest
     }
 
     /// Adds `input` to the message, and runs each block that is complete (FIPS 180-4, section 6).

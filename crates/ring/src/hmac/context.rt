@@ -117,10 +117,7 @@ impl Context {
     {
         let Context { inner, outer } = self;
         let digest = inner.finish_counted(meter)?;
-        let mut last = digest::Context::resume(outer);
-        last.update_counted(digest.as_ref(), meter);
-        let value = last.finish_counted(meter)?;
-        Ok(Tag::new(value))
+        Ok(Tag::of_inner(&digest, &outer, meter))
     }
 
     /// Returns the tag of the message (RFC 2104, section 2).

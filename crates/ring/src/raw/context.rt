@@ -1,15 +1,25 @@
 //! The numbers of a digest's context.
 
-ghost use Rattle.std.specs.Prelude.{◌≡◌, ◌↔◌, ℕ, ◌+◌, ◌<◌, List, ◌++◌, length, IfSome, IsNone};
-ghost use Rattle.std.specs.Prelude.{IsSomeAnd, IsTrue, IsFalse, Some};
-ghost use Rattle.ring.specs.Prelude.{Algorithm, AreNumbersOf, AreWords, HasAdded, IsNoContext};
-ghost use Rattle.ring.specs.Prelude.{RawStandsFor, StandsFor, context_algorithm, digest_named};
-ghost use Rattle.ring.specs.Prelude.{message_len, named_block_len, pending_len, raw_message_len};
+ghost use Rattle.std.specs.Prelude.{◌≡◌, ◌↔◌, ℕ, ◌+◌, ◌<◌, ◌≤◌, List, [], ◌++◌, length, IfSome};
+ghost use Rattle.std.specs.Prelude.{IfOk, IsErr, IsFalse, IsNone, IsSomeAnd, IsTrue, Some};
+ghost use Rattle.ring.specs.Prelude.{AreNumbersOf, AreWords, HasAdded, HasTaken, IsDigest};
+ghost use Rattle.ring.specs.Prelude.{IsNoContext, IsRawState, RawStandsFor, StandsFor};
+ghost use Rattle.ring.specs.Prelude.{block_algorithm, block_len, block_words, bytes_of};
+ghost use Rattle.ring.specs.Prelude.{completed_len, context_algorithm, counted_bytes, cut_off};
+ghost use Rattle.ring.specs.Prelude.{digest_algorithm, digest_named, max_input_len, message_len};
+ghost use Rattle.ring.specs.Prelude.{named_block_len, pending_len, raw_chaining, raw_digest_with};
+ghost use Rattle.ring.specs.Prelude.{raw_message_len};
+ghost use Rattle.ring.specs.declared.digest.algorithm.Algorithm.{Algorithm};
 
-use crate::digest::algorithm::MAX_BLOCK_LEN;
+use crate::digest::algorithm::{Algorithm, MAX_BLOCK_LEN};
+use crate::digest::block_context::BlockContext;
 use crate::digest::context::Context;
+use crate::digest::pending::move_on;
+use crate::digest::value::Digest;
 use crate::raw::number::{digest_of_number, number_of_digest};
 use crate::raw::words::{block_of, halves, joined, numbers_of_block};
+use ring_core::cost::Meter;
+use ring_core::error::Unspecified;
 
 /// The numbers of a digest's context.
 #[repr(C)]
@@ -75,9 +85,142 @@ impl RawContext {
         true
     }
 
+    /// The digest algorithm of these numbers: `None` if they are no context's. They are none if they
+    /// name no algorithm, or count as many pending bytes as a block has, or more.
+    #[tactic(auto, unfolding(crate::specs::Raw::named_block_len))]
+    pub fn algorithm(&self) -> Option<Algorithm>
+        ensures none { IsNone result ↔ IsNoContext self.now }
+        ensures algorithm { IfSome result (λ a. digest_named self.now.algorithm ≡ Some a) }
+        ensures pending { IfSome result (λ a. self.now.num_pending < block_len a) }
+    {
+        let Some(algorithm) = digest_of_number(self.algorithm) else {
+            return None;
+        };
+        if self.num_pending as usize >= algorithm.block_len() {
+            return None;
+        }
+        Some(algorithm)
+    }
+
+    // The state after the blocks that were run: `None` if the numbers are no context's.
+    fn block(&self) -> Option<BlockContext>
+        ensures none { IsNone result ↔ IsNoContext self.now }
+        ensures stands { IfSome result (λ block. (p : List ℕ)
+            → IsRawState (block_algorithm block) self.now.words p
+            → completed_len self.now ≡ cut_off (length p) → HasTaken block p) }
+        ensures words { IfSome result (λ block.
+            block_words block ≡ raw_chaining (block_algorithm block) self.now.words) }
+        ensures algorithm { IfSome result (λ block.
+            digest_named self.now.algorithm ≡ Some (block_algorithm block)) }
+        ensures counted { IfSome result (λ block. counted_bytes block ≡ completed_len self.now) }
+        ensures pending { IfSome result (λ block.
+            self.now.num_pending < block_len (block_algorithm block)) }
+    {
+        let Some(algorithm) = self.algorithm() else {
+            return None;
+        };
+        let completed_bytes = joined(self.completed_low, self.completed_high);
+        Some(block_of(&algorithm, &self.words, completed_bytes))
+    }
+
+    /// Adds `input` to the message as [`RawContext::update`] does, and counts on `meter` the blocks
+    /// that it completes.
+    #[inline(always)]
+    pub fn update_counted(&mut self, input: &[u8], meter: &mut Meter) -> bool
+        ensures stands { (a : Algorithm) (m : List ℕ) → RawStandsFor self.old a m
+            → IsTrue result × RawStandsFor self.new a (m ++ input.now) }
+        ensures any { IsTrue result → HasAdded self.old self.new input.now }
+        ensures none { IsFalse result ↔ IsNoContext self.old }
+        ensures unchanged { IsFalse result → self.new ≡ self.old }
+    {
+        self.keep(input) || self.run(input, meter)
+    }
+
+    // Adds `input` to the message where that completes a block. This is no part of the call that
+    // keeps a short input, which is then the faster.
+    #[inline(never)]
+    #[tactic(auto, unfolding(crate::specs::Raw::RawStandsFor))]
+    fn run(&mut self, input: &[u8], meter: &mut Meter) -> bool
+        requires { named_block_len self.old.algorithm ≤ self.old.num_pending + length input.now }
+        ensures stands { (a : Algorithm) (m : List ℕ) → RawStandsFor self.old a m
+            → IsTrue result × RawStandsFor self.new a (m ++ input.now) }
+        ensures any { IsTrue result → HasAdded self.old self.new input.now }
+        ensures none { IsFalse result ↔ IsNoContext self.old }
+        ensures unchanged { IsFalse result → self.new ≡ self.old }
+    {
+        let Some(mut block) = self.block() else {
+            return false;
+        };
+        let begun = self.num_pending as usize;
+        let left = move_on(&mut block, &mut self.pending, begun, input, meter);
+        let (completed_low, completed_high) = halves(block.completed_bytes);
+        self.num_pending = left as u32;
+        self.completed_low = completed_low;
+        self.completed_high = completed_high;
+        self.words = numbers_of_block(&block);
+        true
+    }
+
+    /// Adds `input` to the message, and runs each block that is complete. Returns whether the
+    /// numbers are a context's. Otherwise nothing is changed.
+    pub fn update(&mut self, input: &[u8]) -> bool
+        ensures stands { (a : Algorithm) (m : List ℕ) → RawStandsFor self.old a m
+            → IsTrue result × RawStandsFor self.new a (m ++ input.now) }
+        ensures any { IsTrue result → HasAdded self.old self.new input.now }
+        ensures none { IsFalse result ↔ IsNoContext self.old }
+        ensures unchanged { IsFalse result → self.new ≡ self.old }
+    {
+        self.update_counted(input, &mut Meter::new())
+    }
+
+    /// Returns the digest as [`RawContext::finish`] does, and counts the last blocks on `meter`.
+    #[inline(always)]
+    #[tactic(auto, unfolding(crate::specs::Raw::RawStandsFor))]
+    pub fn finish_counted(&self, meter: &mut Meter) -> Option<Result<Digest, Unspecified>>
+        ensures none { IsNone result ↔ IsNoContext self.now }
+        ensures ok { (a : Algorithm) (m : List ℕ) → RawStandsFor self.now a m
+            → IsSomeAnd result (λ made. IfOk made (λ digest. IsDigest digest a m)) }
+        ensures any { IfSome result (λ made. IfOk made (λ digest. (a : Algorithm)
+            → digest_named self.now.algorithm ≡ Some a
+            → bytes_of digest ≡ raw_digest_with a self.now [] (raw_message_len self.now))) }
+        ensures refused { IfSome result (λ made. (a : Algorithm)
+            → digest_named self.now.algorithm ≡ Some a
+            → IsErr made ↔ (max_input_len a < raw_message_len self.now)) }
+        ensures refused_of { (a : Algorithm) (m : List ℕ) → RawStandsFor self.now a m
+            → IsSomeAnd result (λ made. IsErr made ↔ (max_input_len a < length m)) }
+        ensures algorithm { IfSome result (λ made. IfOk made (λ digest.
+            digest_named self.now.algorithm ≡ Some (digest_algorithm digest))) }
+    {
+        let Some(block) = self.block() else {
+            return None;
+        };
+        Some(block.try_finish(&self.pending[..self.num_pending as usize], meter))
+    }
+
+    /// Returns the digest of the message, which goes on: `None` if the numbers are no context's.
+    ///
+    /// Refused where the message is longer than the algorithm's `max_input_len` bytes.
+    pub fn finish(&self) -> Option<Result<Digest, Unspecified>>
+        ensures none { IsNone result ↔ IsNoContext self.now }
+        ensures ok { (a : Algorithm) (m : List ℕ) → RawStandsFor self.now a m
+            → IsSomeAnd result (λ made. IfOk made (λ digest. IsDigest digest a m)) }
+        ensures any { IfSome result (λ made. IfOk made (λ digest. (a : Algorithm)
+            → digest_named self.now.algorithm ≡ Some a
+            → bytes_of digest ≡ raw_digest_with a self.now [] (raw_message_len self.now))) }
+        ensures refused { IfSome result (λ made. (a : Algorithm)
+            → digest_named self.now.algorithm ≡ Some a
+            → IsErr made ↔ (max_input_len a < raw_message_len self.now)) }
+        ensures refused_of { (a : Algorithm) (m : List ℕ) → RawStandsFor self.now a m
+            → IsSomeAnd result (λ made. IsErr made ↔ (max_input_len a < length m)) }
+        ensures algorithm { IfSome result (λ made. IfOk made (λ digest.
+            digest_named self.now.algorithm ≡ Some (digest_algorithm digest))) }
+    {
+        self.finish_counted(&mut Meter::new())
+    }
+
     /// The context of these numbers: `None` if they name no algorithm, or count as many pending
     /// bytes as a block has, or more.
-    #[tactic(auto, unfolding(crate::specs::Raw::RawStandsFor, crate::specs::Raw::named_block_len))]
+    #[tactic(auto, unfolding(crate::specs::Raw::RawStandsFor))]
     pub fn context(&self) -> Option<Context>
         ensures none { IsNone result ↔ IsNoContext self.now }
         ensures stands { (a : Algorithm) (m : List ℕ) → RawStandsFor self.now a m
@@ -88,18 +231,13 @@ impl RawContext {
         ensures counted { IfSome result (λ c. message_len c ≡ raw_message_len self.now) }
         ensures pending { IfSome result (λ c. pending_len c ≡ self.now.num_pending) }
     {
-        let Some(algorithm) = digest_of_number(self.algorithm) else {
+        let Some(block) = self.block() else {
             return None;
         };
-        let num_pending = self.num_pending as usize;
-        if num_pending >= algorithm.block_len() {
-            return None;
-        }
-        let completed_bytes = joined(self.completed_low, self.completed_high);
         Some(Context {
-            block: block_of(&algorithm, &self.words, completed_bytes),
+            block,
             pending: self.pending,
-            num_pending,
+            num_pending: self.num_pending as usize,
         })
     }
 }

@@ -1,16 +1,22 @@
 //! The numbers of a tag's context.
 
-ghost use Rattle.std.specs.Prelude.{◌≡◌, ◌↔◌, ℕ, ◌+◌, ◌<◌, ◌≤◌, List, ◌++◌, length, IfSome, IsNone};
-ghost use Rattle.std.specs.Prelude.{IsSomeAnd, IsTrue, IsFalse, Some};
-ghost use Rattle.ring.specs.Prelude.{Algorithm, AreNumbersOfTag, AreWords, IsNoTagContext};
-ghost use Rattle.ring.specs.Prelude.{RawTagStandsFor, TagHasAdded, TagStandsFor, completed_len};
-ghost use Rattle.ring.specs.Prelude.{digest_named, named_block_len, raw_message_len};
-ghost use Rattle.ring.specs.Prelude.{signing_algorithm, signing_len, signing_pending};
+ghost use Rattle.std.specs.Prelude.{◌≡◌, ◌↔◌, ℕ, ◌+◌, ◌<◌, ◌≤◌, List, [], ◌++◌, length, IfSome};
+ghost use Rattle.std.specs.Prelude.{IfOk, IsErr, IsFalse, IsNone, IsSomeAnd, IsTrue, Some};
+ghost use Rattle.ring.specs.Prelude.{AreNumbersOfTag, AreWords, IsNoTagContext, IsTag};
+ghost use Rattle.ring.specs.Prelude.{RawTagStandsFor, TagHasAdded, TagStandsFor, block_len};
+ghost use Rattle.ring.specs.Prelude.{completed_len, digest_named, max_input_len, named_block_len};
+ghost use Rattle.ring.specs.Prelude.{raw_message_len, raw_tag_with, signing_algorithm, signing_len};
+ghost use Rattle.ring.specs.Prelude.{signing_pending, tag_algorithm, tag_bytes};
+ghost use Rattle.ring.specs.declared.digest.algorithm.Algorithm.{Algorithm};
 
+use crate::digest::algorithm::Algorithm;
 use crate::hmac::context::Context;
+use crate::hmac::tag::Tag;
 use crate::raw::context::RawContext;
 use crate::raw::number::digest_of_number;
 use crate::raw::words::{block_of, joined, numbers_of_block};
+use ring_core::cost::Meter;
+use ring_core::error::Unspecified;
 
 /// The numbers of a tag's context.
 #[repr(C)]
@@ -67,6 +73,97 @@ impl RawTagContext {
         ensures unchanged { IsFalse result → self.new ≡ self.old }
     {
         self.counts_key_block() && self.inner.keep(input)
+    }
+
+    /// The digest algorithm of these numbers: `None` if they are no context's. They are none if the
+    /// inner ones are none, or count less than the key's block.
+    pub fn algorithm(&self) -> Option<Algorithm>
+        ensures none { IsNone result ↔ IsNoTagContext self.now }
+        ensures algorithm { IfSome result (λ a. digest_named self.now.inner.algorithm ≡ Some a) }
+    {
+        if !self.counts_key_block() {
+            return None;
+        }
+        self.inner.algorithm()
+    }
+
+    /// Adds `input` to the message as [`RawTagContext::update`] does, and counts on `meter` the
+    /// blocks that it completes.
+    #[tactic(auto, unfolding(crate::specs::Raw::RawTagStandsFor))]
+    pub fn update_counted(&mut self, input: &[u8], meter: &mut Meter) -> bool
+        ensures stands { (a : Algorithm) (k m : List ℕ) → RawTagStandsFor self.old a k m
+            → IsTrue result × RawTagStandsFor self.new a k (m ++ input.now) }
+        ensures any { IsTrue result → TagHasAdded self.old self.new input.now }
+        ensures none { IsFalse result ↔ IsNoTagContext self.old }
+        ensures unchanged { IsFalse result → self.new ≡ self.old }
+    {
+        self.counts_key_block() && self.inner.update_counted(input, meter)
+    }
+
+    /// Adds `input` to the message, and runs each block that is complete. Returns whether the
+    /// numbers are a context's. Otherwise nothing is changed.
+    pub fn update(&mut self, input: &[u8]) -> bool
+        ensures stands { (a : Algorithm) (k m : List ℕ) → RawTagStandsFor self.old a k m
+            → IsTrue result × RawTagStandsFor self.new a k (m ++ input.now) }
+        ensures any { IsTrue result → TagHasAdded self.old self.new input.now }
+        ensures none { IsFalse result ↔ IsNoTagContext self.old }
+        ensures unchanged { IsFalse result → self.new ≡ self.old }
+    {
+        self.update_counted(input, &mut Meter::new())
+    }
+
+    /// Returns the tag as [`RawTagContext::finish`] does, and counts the last blocks on `meter`.
+    #[tactic(auto, unfolding(crate::specs::Raw::RawTagStandsFor))]
+    pub fn finish_counted(&self, meter: &mut Meter) -> Option<Result<Tag, Unspecified>>
+        ensures none { IsNone result ↔ IsNoTagContext self.now }
+        ensures ok { (a : Algorithm) (k m : List ℕ) → RawTagStandsFor self.now a k m
+            → IsSomeAnd result (λ made. IfOk made (λ tag. IsTag tag a k m)) }
+        ensures any { IfSome result (λ made. IfOk made (λ tag. (a : Algorithm)
+            → digest_named self.now.inner.algorithm ≡ Some a
+            → tag_bytes tag ≡ raw_tag_with a self.now [] (raw_message_len self.now.inner))) }
+        ensures refused { IfSome result (λ made. (a : Algorithm)
+            → digest_named self.now.inner.algorithm ≡ Some a
+            → IsErr made ↔ (max_input_len a < raw_message_len self.now.inner)) }
+        ensures refused_of { (a : Algorithm) (k m : List ℕ) → RawTagStandsFor self.now a k m
+            → IsSomeAnd result (λ made.
+            IsErr made ↔ (max_input_len a < block_len a + length m)) }
+        ensures algorithm { IfSome result (λ made. IfOk made (λ tag.
+            digest_named self.now.inner.algorithm ≡ Some (tag_algorithm tag))) }
+    {
+        let Some(algorithm) = self.algorithm() else {
+            return None;
+        };
+        let Some(finished) = self.inner.finish_counted(meter) else {
+            return None;
+        };
+        let Ok(digest) = finished else {
+            return Some(Err(Unspecified));
+        };
+        let outer = block_of(&algorithm, &self.outer, algorithm.block_len() as u128);
+        Some(Ok(Tag::of_inner(&digest, &outer, meter)))
+    }
+
+    /// Returns the tag of the message, which goes on: `None` if the numbers are no context's.
+    ///
+    /// Refused where one block and the message together are longer than the digest algorithm's
+    /// `max_input_len` bytes.
+    pub fn finish(&self) -> Option<Result<Tag, Unspecified>>
+        ensures none { IsNone result ↔ IsNoTagContext self.now }
+        ensures ok { (a : Algorithm) (k m : List ℕ) → RawTagStandsFor self.now a k m
+            → IsSomeAnd result (λ made. IfOk made (λ tag. IsTag tag a k m)) }
+        ensures any { IfSome result (λ made. IfOk made (λ tag. (a : Algorithm)
+            → digest_named self.now.inner.algorithm ≡ Some a
+            → tag_bytes tag ≡ raw_tag_with a self.now [] (raw_message_len self.now.inner))) }
+        ensures refused { IfSome result (λ made. (a : Algorithm)
+            → digest_named self.now.inner.algorithm ≡ Some a
+            → IsErr made ↔ (max_input_len a < raw_message_len self.now.inner)) }
+        ensures refused_of { (a : Algorithm) (k m : List ℕ) → RawTagStandsFor self.now a k m
+            → IsSomeAnd result (λ made.
+            IsErr made ↔ (max_input_len a < block_len a + length m)) }
+        ensures algorithm { IfSome result (λ made. IfOk made (λ tag.
+            digest_named self.now.inner.algorithm ≡ Some (tag_algorithm tag))) }
+    {
+        self.finish_counted(&mut Meter::new())
     }
 
     /// The context of these numbers: `None` if the inner ones are no context's, or count less than

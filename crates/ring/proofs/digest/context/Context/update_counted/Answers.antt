@@ -1,16 +1,18 @@
-use Rattle.std.proofs.Common.{ℕ, ◌≤◌, length, refl, arith, ◌∙◌, ap}
-use Rattle.ring.specs.Prelude.{raised}
+use Rattle.std.proofs.Common.{ℕ, ◌≤◌, ◌++◌, List, length, refl, arith, ◌∙◌, ap, append_assoc, sym}
+use Rattle.ring.specs.Prelude.{block_words, digest_after, pending_bytes, raised}
 use Rattle.ring.proofs.Rows.{block_len-most}
-use Rattle.ring.proofs.Updating.{ahead_len, cost_moved, digest_moved, moved_both, moved_none}
+use Rattle.ring.proofs.Updating.{ahead_len, cost_moved, counted_moved, digest_moved, moved_none}
 use Rattle.ring.proofs.Updating.{pending_moved, stands_blocks, stands_moved}
 use Rattle.ring.proofs.digest.context.Context.update_counted.Goals as goal
 
 pub returns-then-input-room-clause-cost : goal.returns-then-input-room-clause-cost
 returns-then-input-room-clause-cost c =
-    let fits : c.args.self.now.num_pending ≤ length c.args.self.now.pending =
-    omega (arith, block_len-most c.args.self.now.block.algorithm) in
-    cost_moved c.args.self.now c.args.input.now (moved_none {m = c.args.meter.now} refl)
-    fits (omega (arith, ahead_len c.args.self.now c.args.input.now fits))
+    let self = c.args.self.now in
+    let fits : self.num_pending ≤ length self.pending =
+    omega (arith, block_len-most self.block.algorithm) in
+    cost_moved self.pending self.num_pending c.args.input.now
+    (moved_none {b = self.block} {m = c.args.meter.now} refl) fits
+    (omega (arith, ahead_len self.pending self.num_pending c.args.input.now fits))
 
 pub returns-then-input-room-clause-cost_of : goal.returns-then-input-room-clause-cost_of
 returns-then-input-room-clause-cost_of c = λ m h.
@@ -21,27 +23,29 @@ returns-then-input-room-clause-cost_of c = λ m h.
 
 pub returns-clause-cost : goal.returns-clause-cost
 returns-clause-cost c =
-    let completed = c.complete_pending-rest.ensures.moved in
-    let moved = moved_both completed c.update-leftover.ensures.moved c.keep-2.ensures.block in
-    cost_moved c.args.self.now c.args.input.now moved
-    (omega (arith, block_len-most c.args.self.now.block.algorithm))
-    (rw completed.algorithm at c.update-leftover.ensures.short)
+    let self = c.args.self.now in
+    let on = c.move_on-left.ensures in
+    cost_moved self.pending self.num_pending c.args.input.now on.moved
+    (omega (arith, block_len-most self.block.algorithm)) (omega (arith, on.len, on.short))
 
 pub returns-clause-stands : goal.returns-clause-stands
 returns-clause-stands c =
-    let completed = c.complete_pending-rest.ensures.moved in
-    let moved = moved_both completed c.update-leftover.ensures.moved c.keep-2.ensures.block in
-    stands_moved c.args.self.now _ c.args.input.now moved
-    (c.keep-2.ensures.pending ∙ rw c.complete_pending-rest.ensures.empty refl)
+    stands_moved c.args.self.now _ c.args.input.now c.move_on-left.ensures.moved refl
 
 pub returns-clause-pending : goal.returns-clause-pending
 returns-clause-pending c =
-    let completed = c.complete_pending-rest.ensures.moved in
-    let moved = moved_both completed c.update-leftover.ensures.moved c.keep-2.ensures.block in
-    pending_moved c.args.self.now c.keep-2.new.self c.args.input.now moved
-    (omega (arith, block_len-most c.args.self.now.block.algorithm))
-    (omega (arith, c.complete_pending-rest.ensures.empty, c.keep-2.ensures.count))
-    (rw completed.algorithm at c.update-leftover.ensures.short)
+    let self = c.args.self.now in
+    let on = c.move_on-left.ensures in
+    pending_moved self.pending self.num_pending c.args.input.now on.moved
+    (omega (arith, block_len-most self.block.algorithm)) (sym on.len)
+    (omega (arith, on.len, on.short))
+
+pub returns-clause-counted : goal.returns-clause-counted
+returns-clause-counted c =
+    let self = c.args.self.now in
+    let on = c.move_on-left.ensures in
+    counted_moved self.pending self.num_pending c.args.input.now on.moved
+    (omega (arith, block_len-most self.block.algorithm)) (sym on.len)
 
 pub returns-clause-cost_of : goal.returns-clause-cost_of
 returns-clause-cost_of c = λ m h.
@@ -51,8 +55,10 @@ returns-clause-cost_of c = λ m h.
     (stands_blocks c.args.self.now m (length c.args.input.now) h fits)
 
 pub returns-clause-any : goal.returns-clause-any
-returns-clause-any c =
-    let completed = c.complete_pending-rest.ensures.moved in
-    let moved = moved_both completed c.update-leftover.ensures.moved c.keep-2.ensures.block in
-    digest_moved c.args.self.now c.keep-2.new.self c.args.input.now moved
-    (c.keep-2.ensures.pending ∙ rw c.complete_pending-rest.ensures.empty refl)
+returns-clause-any c = λ y n.
+    let self = c.args.self.now in
+    let b = self.block in
+    let ahead : List ℕ = pending_bytes self ++ c.args.input.now in
+    digest_moved b _ ahead c.move_on-left.ensures.moved y n
+    ∙ ap (λ (z : List ℕ). digest_after b.algorithm (block_words b) z n)
+    (append_assoc (pending_bytes self) c.args.input.now y)

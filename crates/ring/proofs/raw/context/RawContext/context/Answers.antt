@@ -1,15 +1,16 @@
-use Rattle.std.proofs.Common.{sym, subst, ◌∙◌}
-use Rattle.std.proofs.lemmas.Option.{same_Some}
-use Rattle.ring.specs.Prelude.{Algorithm, IsRawState, RawStandsFor, StandsFor}
+use Rattle.std.proofs.Common.{rules}
+use Rattle.ring.specs.Prelude.{RawStandsFor, StandsFor}
+use Rattle.ring.proofs.Numbers.{is_context, taken_raw}
 use Rattle.ring.proofs.raw.context.RawContext.context.Goals as goal
+
+pub returns-in_default-clause-stands : goal.returns-in_default-clause-stands
+returns-in_default-clause-stands c = λ a m h.
+    is_context c.args.self.now a m h (c.in_default.ensures.none.0 (search rules))
 
 pub returns-clause-stands : goal.returns-clause-stands
 unfolding StandsFor RawStandsFor
 returns-clause-stands c = λ a m h.
-    let same = same_Some _ a (sym c.in-Some.is ∙ c.digest_of_number.ensures ∙ h.algorithm) in
-    let P : Algorithm → Type 0 = λ z. IsRawState z c.args.self.now.words h.blocks in
-    let count = c.joined-completed_bytes.ensures ∙ h.count in
-    let taken = c.block_of.ensures.stands h.blocks (subst P (sym same) h.state) count in (
-      record { whole = h.blocks; taken = taken; message = h.message },
-      c.block_of.ensures.algorithm ∙ same,
-    )
+    let own = c.in-Some.ensures in
+    let is =
+    taken_raw c.args.self.now a h.blocks own.algorithm own.stands h.algorithm h.state h.count in
+    (record { whole = h.blocks; taken = is.0; message = h.message }, is.1)

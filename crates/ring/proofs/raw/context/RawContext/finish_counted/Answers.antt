@@ -1,0 +1,72 @@
+use Rattle.std.proofs.Common.{◌≡◌, ◌≤◌, ◌+◌, ◌++◌, ℕ, List, arith, rules, ap, sym, subst, ◌∙◌}
+use Rattle.std.proofs.Common.{[], Some, append-nil, length, length-take-le, refl, take}
+use Rattle.std.proofs.lemmas.Option.{same_Some}
+use Rattle.ring.specs.Prelude.{Algorithm, Digest, HasTaken, IsDigest, RawStandsFor, block_words}
+use Rattle.ring.specs.Prelude.{bytes_of, counted_bytes, cut_off, digest_after, digest_named}
+use Rattle.ring.specs.Prelude.{max_input_len, raw_digest_with, raw_message_len}
+use Rattle.ring.proofs.Numbers.{is_context, refused_raw, taken_raw}
+use Rattle.ring.proofs.Outcomes.{if_ok_map}
+use Rattle.ring.proofs.Rows.{block_len-most}
+use Rattle.ring.proofs.raw.context.RawContext.finish_counted.Goals as goal
+
+pub returns-in_default-clause-ok : goal.returns-in_default-clause-ok
+returns-in_default-clause-ok c = λ a m h.
+    is_context c.args.self.now a m h (c.in_default.ensures.none.0 (search rules))
+
+pub returns-clause-ok : goal.returns-clause-ok
+unfolding RawStandsFor
+returns-clause-ok c = λ a m h.
+    let raw = c.args.self.now in
+    let b = c.in-Some.block in
+    let rest = take raw.num_pending raw.pending in
+    let all : m ≡ h.blocks ++ rest = h.message in
+    let own = c.in-Some.ensures in
+    let is = taken_raw raw a h.blocks own.algorithm own.stands h.algorithm h.state h.count in
+    let P : Digest → Type 0 =
+    λ d. (p : List ℕ) → HasTaken b p → IsDigest d b.algorithm (p ++ rest) in
+    if_ok_map c.try_finish.result {P = P} {Q = λ d. IsDigest d a m}
+    (λ d made. rw (all, ← is.1) (made h.blocks is.0)) c.try_finish.ensures.ok
+
+pub returns-clause-any : goal.returns-clause-any
+returns-clause-any c =
+    let raw = c.args.self.now in
+    let b = c.in-Some.block in
+    let rest = take raw.num_pending raw.pending in
+    let fits : raw.num_pending ≤ length raw.pending =
+    omega (arith, c.in-Some.ensures.pending, block_len-most b.algorithm) in
+    let len = length-take-le raw.num_pending raw.pending fits in
+    let n : raw_message_len raw ≡ cut_off (counted_bytes b + length rest) =
+    omega (arith, len, c.in-Some.ensures.counted) in
+    let P : Digest → Type 0 =
+    λ d. bytes_of d ≡ digest_after b.algorithm (block_words b) rest
+    (cut_off (counted_bytes b + length rest)) in
+    let Q : Digest → Type 0 =
+    λ d. (a : Algorithm) → digest_named raw.algorithm ≡ Some a
+    → bytes_of d ≡ raw_digest_with a raw [] (raw_message_len raw) in
+    if_ok_map c.try_finish.result {P = P} {Q = Q}
+    (λ d is a named.
+    let same : b.algorithm ≡ a = same_Some b.algorithm a (sym c.in-Some.ensures.algorithm ∙ named) in
+    let D : Algorithm → Type 0 =
+    λ z. bytes_of d ≡ raw_digest_with z raw [] (raw_message_len raw) in
+    subst D same (is ∙ rw (n, append-nil rest, c.in-Some.ensures.words) refl))
+    c.try_finish.ensures.any
+
+pub returns-in_default-clause-refused_of : goal.returns-in_default-clause-refused_of
+returns-in_default-clause-refused_of c = λ a m h.
+    is_context c.args.self.now a m h (c.in_default.ensures.none.0 (search rules))
+
+pub returns-clause-refused_of : goal.returns-clause-refused_of
+unfolding RawStandsFor
+returns-clause-refused_of c = λ a m h.
+    let raw = c.args.self.now in
+    let own = c.in-Some.block.algorithm in
+    let is_a : own ≡ a = same_Some own a (sym c.in-Some.ensures.algorithm ∙ h.algorithm) in
+    let fits : raw.num_pending ≤ length raw.pending =
+    omega (arith, c.in-Some.ensures.pending, block_len-most own) in
+    let len = length-take-le raw.num_pending raw.pending fits in
+    let most = ap max_input_len is_a in
+    let by_len = refused_raw raw a m h fits in
+    let told = c.try_finish.ensures.refused in (
+      λ e. by_len.0 (omega (arith, told.0 e, c.in-Some.ensures.counted, len, most)),
+      λ e. told.1 (omega (arith, by_len.1 e, c.in-Some.ensures.counted, len, most)),
+    )

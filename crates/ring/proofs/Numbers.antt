@@ -2,12 +2,13 @@
 use Rattle.std.proofs.lemmas.Grind.{common_steps}
 use Rattle.std.proofs.Common.{◌≡◌, ◌↔◌, ℕ, ◌+◌, ◌*◌, ◌%◌, ◌^◌, ◌<◌, ◌≤◌, List, [], ◌∷◌, ◌++◌, map}
 use Rattle.std.proofs.Common.{length, take, drop, nat_eq, IsTrue, rules, refl, sym, ap, subst, ◌∙◌}
-use Rattle.std.proofs.Common.{inl, inr, arith, append_assoc}
+use Rattle.std.proofs.Common.{◌-◌, ◌/◌, inl, inr, arith, append_assoc}
 use Rattle.std.proofs.Common.{length-append, length-take, length-take-le, Option, Some, option_map}
 use Rattle.std.proofs.Common.{unwrap_or}
 use Rattle.std.proofs.Math.Nat.{mod-mod, mod-eq_of_lt}
 use Rattle.std.proofs.lemmas.Bool.{cases_lt}
 use Rattle.std.proofs.lemmas.List.{take-append-drop}
+use Rattle.std.proofs.lemmas.Nat.{mod-mul-add}
 use Rattle.std.proofs.lemmas.Option.{same_Some}
 use Rattle.std.specs.declared.num.Wrapping.{Wrapping}
 use Rattle.ring.specs.Prelude.{Algorithm, AlgorithmId, AreNumbersOfTag, As32, As64, BlockContext}
@@ -22,10 +23,13 @@ use Rattle.ring.specs.Prelude.{outer_block, outer_words, raw_chaining, raw_diges
 use Rattle.ring.specs.Prelude.{raw_message_len, raw_tag_with, raw_words, row_of, signing_algorithm}
 use Rattle.ring.specs.Prelude.{signing_len, signing_pending, state_word_len, tag_of_inner, tag_with}
 use Rattle.ring.specs.Prelude.{words}
+use Rattle.ring.specs.Prelude.{IsRawContext, last_blocks, padded_blocks, whole_blocks}
 use Rattle.ring.specs.declared.hmac.context.Context.{Context as TagContext}
+use Rattle.ring.proofs.Blocks.{whole_mul}
 use Rattle.ring.proofs.Keys.{inner_len}
+use Rattle.ring.proofs.Lengths.{end_last}
 use Rattle.ring.proofs.Rows.{block_len-most, max_input_len-most}
-use Rattle.ring.proofs.Updating.{counted_moved, digest_moved, pending_moved}
+use Rattle.ring.proofs.Updating.{counted_moved, digest_moved, more_blocks, pending_moved}
 
 -- numbers cut off twice are cut off once
 map_mod : (m : ℕ) (ws : List (Wrapping ℕ))
@@ -136,20 +140,56 @@ unfolding RawStandsFor
 is_context raw a m h none =
     omega (arith, named_len raw.algorithm a h.algorithm, h.partial, none)
 
+-- they name its algorithm
+pub raw_named : (raw : RawContext) (a : Algorithm) (m : List ℕ) → RawStandsFor raw a m
+    → digest_named raw.algorithm ≡ Some a
+unfolding RawStandsFor
+raw_named raw a m h = h.algorithm
+
+-- their pending bytes are less than a block
+pub raw_pending : (raw : RawContext) (a : Algorithm) (m : List ℕ) → RawStandsFor raw a m
+    → raw.num_pending < block_len a
+unfolding RawStandsFor
+raw_pending raw a m h = h.partial
+
+-- the length of a message that numbers stand for
+raw_len : (raw : RawContext) (a : Algorithm) (m : List ℕ) (h : IsRawContext raw a m)
+    → raw.num_pending ≤ length raw.pending → length m ≡ length h.blocks + raw.num_pending
+raw_len raw a m h fits =
+    ap length h.message ∙ length-append h.blocks (take raw.num_pending raw.pending)
+    ∙ ap (λ (z : ℕ). length h.blocks + z) (length-take-le raw.num_pending raw.pending fits)
+
 -- what numbers count of a message is too long where the message is
 pub refused_raw : (raw : RawContext) (a : Algorithm) (m : List ℕ) → RawStandsFor raw a m
     → raw.num_pending ≤ length raw.pending
     → (max_input_len a < raw_message_len raw) ↔ (max_input_len a < length m)
 unfolding RawStandsFor
 refused_raw raw a m h fits =
-    let rest = take raw.num_pending raw.pending in
-    let len : length m ≡ length h.blocks + length rest =
-    ap length h.message ∙ length-append h.blocks rest in
-    let few = length-take-le raw.num_pending raw.pending fits in
-    let most = max_input_len-most a in (
-      λ e. omega (arith, len, few, h.count, most, e),
-      λ e. omega (arith, len, few, h.count, most, e),
-    )
+    let len = raw_len raw a m h fits in
+    let most = max_input_len-most a in
+    (λ e. omega (arith, len, h.count, most, e), λ e. omega (arith, len, h.count, most, e))
+
+-- the end of a message has the blocks of its pending bytes with their padding
+pub raw_last : (raw : RawContext) (a : Algorithm) (m : List ℕ) → RawStandsFor raw a m
+    → raw.num_pending ≤ length raw.pending
+    → padded_blocks a raw.num_pending ≡ last_blocks a (length m)
+unfolding RawStandsFor
+raw_last raw a m h fits =
+    let b : ℕ = block_len a in
+    let q : ℕ = raw.num_pending in
+    let whole = whole_mul (length h.blocks) b h.state.whole in
+    let left : length m % b ≡ q =
+    ap (λ (z : ℕ). z % b) (raw_len raw a m h fits ∙ ap (λ (z : ℕ). z + q) whole)
+    ∙ mod-mul-add (length h.blocks / b) b q h.partial in
+    rw left at (end_last a (length m))
+
+-- the blocks that d bytes more complete
+pub raw_blocks : (raw : RawContext) (a : Algorithm) (m : List ℕ) (d : ℕ) → RawStandsFor raw a m
+    → raw.num_pending ≤ length raw.pending → whole_blocks a (raw.num_pending + d)
+    ≡ whole_blocks a (length m + d) - whole_blocks a (length m)
+unfolding RawStandsFor
+raw_blocks raw a m d h fits =
+    more_blocks a h.blocks m raw.num_pending d h.state.whole (raw_len raw a m h fits) h.partial
 
 -- a message whose blocks so far are b, where k of the bytes past them and of d are further blocks
 pub moved_message : (b x d : List ℕ) (k : ℕ) {m left : List ℕ} → m ≡ b ++ x

@@ -9,7 +9,8 @@ use Rattle.std.proofs.lemmas.List.{take-append-drop}
 use Rattle.std.proofs.lemmas.Nat.{div-mul-add, mod-mul-add}
 use Rattle.std.proofs.lemmas.Slice.{take-put_mid}
 use borrow.Rule.Slice.PartMut.{put_mid}
-use Rattle.ring.specs.Prelude.{BlockContext, Context, Counts, HasMoved, HasTaken, IsJoined}
+use Rattle.ring.specs.Prelude.{Algorithm, BlockContext, Context, Counts, HasMoved, HasTaken}
+use Rattle.ring.specs.Prelude.{IsJoined, IsWhole}
 use Rattle.std.specs.Int.{bytes_high_first}
 use Rattle.ring.specs.Prelude.{block_words, blocks_from, chaining_words, digest_after}
 use Rattle.ring.specs.Prelude.{length_len, output_len, tail_of, word_bytes, word_len, zeros_of}
@@ -228,19 +229,25 @@ pub stands_len : (s : Context) (m : List ℕ) → (h : IsJoined s m) → s.num_p
 stands_len s m h fits =
     grind (arith, common_steps, length-take-le)
 
--- the blocks that d bytes more complete
+-- the blocks that d bytes more complete, after the message m, whose whole blocks are w and whose
+-- last q bytes are pending
+pub more_blocks : (a : Algorithm) (w m : List ℕ) (q d : ℕ) → IsWhole a w
+    → length m ≡ length w + q → q < block_len a
+    → whole_blocks a (q + d) ≡ whole_blocks a (length m + d) - whole_blocks a (length m)
+more_blocks a w m q d whole len partial =
+    let b : ℕ = block_len a in
+    let pos = block_len-positive a in
+    let more : length m + d ≡ length w + (q + d) = omega (arith, len) in
+    let with_more = ap (λ (z : ℕ). z / b) more ∙ whole_div-add (length w) (q + d) b pos whole in
+    let without = ap (λ (z : ℕ). z / b) len ∙ whole_div-add (length w) q b pos whole in
+    omega (arith, with_more, without, short_div q b partial)
+
+-- the same of a context
 pub stands_blocks : (s : Context) (m : List ℕ) (d : ℕ) → StandsFor s m
     → s.num_pending ≤ length s.pending
     → whole_blocks s.block.algorithm (s.num_pending + d)
     ≡ whole_blocks s.block.algorithm (length m + d) - whole_blocks s.block.algorithm (length m)
 unfolding StandsFor
 stands_blocks s m d h fits =
-    let b : ℕ = block_len s.block.algorithm in
-    let pos = block_len-positive s.block.algorithm in
-    let len = stands_len s m h fits in
-    let more : length m + d ≡ length h.whole + (s.num_pending + d) = omega (arith, len) in
-    let with_more = ap (λ (z : ℕ). z / b) more
-    ∙ whole_div-add (length h.whole) (s.num_pending + d) b pos h.taken.whole in
-    let without = ap (λ (z : ℕ). z / b) len
-    ∙ whole_div-add (length h.whole) s.num_pending b pos h.taken.whole in
-    omega (arith, with_more, without, short_div s.num_pending b s.partial)
+    more_blocks s.block.algorithm h.whole m s.num_pending d h.taken.whole (stands_len s m h fits)
+    s.partial

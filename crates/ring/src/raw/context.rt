@@ -1,14 +1,15 @@
 //! The numbers of a digest's context.
 
-ghost use Rattle.std.specs.Prelude.{◌≡◌, ◌↔◌, ℕ, ◌+◌, ◌<◌, ◌≤◌, List, [], ◌++◌, length, IfSome};
-ghost use Rattle.std.specs.Prelude.{IfOk, IsErr, IsFalse, IsNone, IsSomeAnd, IsTrue, Some};
+ghost use Rattle.std.specs.Prelude.{◌≡◌, ◌↔◌, ℕ, ◌+◌, ◌-◌, ◌<◌, ◌≤◌, List, [], ◌++◌, length, IfSome};
+ghost use Rattle.std.specs.Prelude.{IfOk, IsErr, IsFalse, IsNone, IsSomeAnd, IsTrue, OnOk, Some};
 ghost use Rattle.ring.specs.Prelude.{AreNumbersOf, AreWords, HasAdded, HasTaken, IsDigest};
 ghost use Rattle.ring.specs.Prelude.{IsNoContext, IsRawState, RawStandsFor, StandsFor};
 ghost use Rattle.ring.specs.Prelude.{block_algorithm, block_len, block_words, bytes_of};
 ghost use Rattle.ring.specs.Prelude.{completed_len, context_algorithm, counted_bytes, cut_off};
 ghost use Rattle.ring.specs.Prelude.{digest_algorithm, digest_named, max_input_len, message_len};
-ghost use Rattle.ring.specs.Prelude.{named_block_len, pending_len, raw_chaining, raw_digest_with};
-ghost use Rattle.ring.specs.Prelude.{raw_message_len};
+ghost use Rattle.ring.specs.Prelude.{last_blocks, named_block_len, padded_blocks, pending_len};
+ghost use Rattle.ring.specs.Prelude.{raised, raw_chaining, raw_digest_with, raw_message_len};
+ghost use Rattle.ring.specs.Prelude.{whole_blocks};
 ghost use Rattle.ring.specs.declared.digest.algorithm.Algorithm.{Algorithm};
 
 use crate::digest::algorithm::{Algorithm, MAX_BLOCK_LEN};
@@ -124,14 +125,20 @@ impl RawContext {
     }
 
     /// Adds `input` to the message as [`RawContext::update`] does, and counts on `meter` the blocks
-    /// that it completes.
+    /// that it completes. Where the numbers are no context's, `meter` is as it was.
     #[inline(always)]
     pub fn update_counted(&mut self, input: &[u8], meter: &mut Meter) -> bool
         ensures stands { (a : Algorithm) (m : List ℕ) → RawStandsFor self.old a m
             → IsTrue result × RawStandsFor self.new a (m ++ input.now) }
         ensures any { IsTrue result → HasAdded self.old self.new input.now }
         ensures none { IsFalse result ↔ IsNoContext self.old }
-        ensures unchanged { IsFalse result → self.new ≡ self.old }
+        ensures unchanged { IsFalse result → (self.new ≡ self.old) × (meter.new ≡ meter.old) }
+        ensures cost { IsTrue result → (a : Algorithm) → digest_named self.old.algorithm ≡ Some a
+            → meter.new ≡ raised meter.old
+            (whole_blocks a (self.old.num_pending + length input.now)) 0 }
+        ensures cost_of { (a : Algorithm) (m : List ℕ) → RawStandsFor self.old a m
+            → meter.new ≡ raised meter.old (whole_blocks a (length m + length input.now)
+            - whole_blocks a (length m)) 0 }
     {
         self.keep(input) || self.run(input, meter)
     }
@@ -146,7 +153,10 @@ impl RawContext {
             → IsTrue result × RawStandsFor self.new a (m ++ input.now) }
         ensures any { IsTrue result → HasAdded self.old self.new input.now }
         ensures none { IsFalse result ↔ IsNoContext self.old }
-        ensures unchanged { IsFalse result → self.new ≡ self.old }
+        ensures unchanged { IsFalse result → (self.new ≡ self.old) × (meter.new ≡ meter.old) }
+        ensures cost { IsTrue result → (a : Algorithm) → digest_named self.old.algorithm ≡ Some a
+            → meter.new ≡ raised meter.old
+            (whole_blocks a (self.old.num_pending + length input.now)) 0 }
     {
         let Some(mut block) = self.block() else {
             return false;
@@ -173,7 +183,8 @@ impl RawContext {
         self.update_counted(input, &mut Meter::new())
     }
 
-    /// Returns the digest as [`RawContext::finish`] does, and counts the last blocks on `meter`.
+    /// Returns the digest as [`RawContext::finish`] does, and counts the last blocks on `meter`. A
+    /// refusal leaves `meter` as it was, and so do numbers of no context.
     #[inline(always)]
     #[tactic(auto, unfolding(crate::specs::Raw::RawStandsFor))]
     pub fn finish_counted(&self, meter: &mut Meter) -> Option<Result<Digest, Unspecified>>
@@ -188,6 +199,13 @@ impl RawContext {
             → IsErr made ↔ (max_input_len a < raw_message_len self.now)) }
         ensures refused_of { (a : Algorithm) (m : List ℕ) → RawStandsFor self.now a m
             → IsSomeAnd result (λ made. IsErr made ↔ (max_input_len a < length m)) }
+        ensures unchanged { IfSome result (λ made. IsErr made) → meter.new ≡ meter.old }
+        ensures cost { IfSome result (λ made. OnOk made ((a : Algorithm)
+            → digest_named self.now.algorithm ≡ Some a
+            → meter.new ≡ raised meter.old (padded_blocks a self.now.num_pending) 0)) }
+        ensures cost_of { (a : Algorithm) (m : List ℕ) → RawStandsFor self.now a m
+            → IsSomeAnd result (λ made. OnOk made (meter.new
+            ≡ raised meter.old (last_blocks a (length m)) 0)) }
         ensures algorithm { IfSome result (λ made. IfOk made (λ digest.
             digest_named self.now.algorithm ≡ Some (digest_algorithm digest))) }
     {

@@ -1,12 +1,13 @@
 //! The numbers of a tag's context.
 
-ghost use Rattle.std.specs.Prelude.{◌≡◌, ◌↔◌, ℕ, ◌+◌, ◌<◌, ◌≤◌, List, [], ◌++◌, length, IfSome};
-ghost use Rattle.std.specs.Prelude.{IfOk, IsErr, IsFalse, IsNone, IsSomeAnd, IsTrue, Some};
+ghost use Rattle.std.specs.Prelude.{◌≡◌, ◌↔◌, ℕ, ◌+◌, ◌-◌, ◌<◌, ◌≤◌, List, [], ◌++◌, length, IfSome};
+ghost use Rattle.std.specs.Prelude.{IfOk, IsErr, IsFalse, IsNone, IsSomeAnd, IsTrue, OnOk, Some};
 ghost use Rattle.ring.specs.Prelude.{AreNumbersOfTag, AreWords, IsNoTagContext, IsTag};
 ghost use Rattle.ring.specs.Prelude.{RawTagStandsFor, TagHasAdded, TagStandsFor, block_len};
 ghost use Rattle.ring.specs.Prelude.{completed_len, digest_named, max_input_len, named_block_len};
 ghost use Rattle.ring.specs.Prelude.{raw_message_len, raw_tag_with, signing_algorithm, signing_len};
-ghost use Rattle.ring.specs.Prelude.{signing_pending, tag_algorithm, tag_bytes};
+ghost use Rattle.ring.specs.Prelude.{last_blocks, padded_blocks, raised, signing_pending};
+ghost use Rattle.ring.specs.Prelude.{tag_algorithm, tag_bytes, whole_blocks};
 ghost use Rattle.ring.specs.declared.digest.algorithm.Algorithm.{Algorithm};
 
 use crate::digest::algorithm::Algorithm;
@@ -88,14 +89,20 @@ impl RawTagContext {
     }
 
     /// Adds `input` to the message as [`RawTagContext::update`] does, and counts on `meter` the
-    /// blocks that it completes.
+    /// blocks that it completes. Where the numbers are no context's, `meter` is as it was.
     #[tactic(auto, unfolding(crate::specs::Raw::RawTagStandsFor))]
     pub fn update_counted(&mut self, input: &[u8], meter: &mut Meter) -> bool
         ensures stands { (a : Algorithm) (k m : List ℕ) → RawTagStandsFor self.old a k m
             → IsTrue result × RawTagStandsFor self.new a k (m ++ input.now) }
         ensures any { IsTrue result → TagHasAdded self.old self.new input.now }
         ensures none { IsFalse result ↔ IsNoTagContext self.old }
-        ensures unchanged { IsFalse result → self.new ≡ self.old }
+        ensures unchanged { IsFalse result → (self.new ≡ self.old) × (meter.new ≡ meter.old) }
+        ensures cost { IsTrue result → (a : Algorithm)
+            → digest_named self.old.inner.algorithm ≡ Some a → meter.new ≡ raised meter.old
+            (whole_blocks a (self.old.inner.num_pending + length input.now)) 0 }
+        ensures cost_of { (a : Algorithm) (k m : List ℕ) → RawTagStandsFor self.old a k m
+            → meter.new ≡ raised meter.old (whole_blocks a (length m + length input.now)
+            - whole_blocks a (length m)) 0 }
     {
         self.counts_key_block() && self.inner.update_counted(input, meter)
     }
@@ -112,7 +119,8 @@ impl RawTagContext {
         self.update_counted(input, &mut Meter::new())
     }
 
-    /// Returns the tag as [`RawTagContext::finish`] does, and counts the last blocks on `meter`.
+    /// Returns the tag as [`RawTagContext::finish`] does, and counts the last blocks on `meter`. A
+    /// refusal leaves `meter` as it was, and so do numbers of no context.
     #[tactic(auto, unfolding(crate::specs::Raw::RawTagStandsFor))]
     pub fn finish_counted(&self, meter: &mut Meter) -> Option<Result<Tag, Unspecified>>
         ensures none { IsNone result ↔ IsNoTagContext self.now }
@@ -127,6 +135,13 @@ impl RawTagContext {
         ensures refused_of { (a : Algorithm) (k m : List ℕ) → RawTagStandsFor self.now a k m
             → IsSomeAnd result (λ made.
             IsErr made ↔ (max_input_len a < block_len a + length m)) }
+        ensures unchanged { IfSome result (λ made. IsErr made) → meter.new ≡ meter.old }
+        ensures cost { IfSome result (λ made. OnOk made ((a : Algorithm)
+            → digest_named self.now.inner.algorithm ≡ Some a → meter.new
+            ≡ raised meter.old (padded_blocks a self.now.inner.num_pending + 1) 0)) }
+        ensures cost_of { (a : Algorithm) (k m : List ℕ) → RawTagStandsFor self.now a k m
+            → IsSomeAnd result (λ made. OnOk made (meter.new
+            ≡ raised meter.old (last_blocks a (length m) + 1) 0)) }
         ensures algorithm { IfSome result (λ made. IfOk made (λ tag.
             digest_named self.now.inner.algorithm ≡ Some (tag_algorithm tag))) }
     {

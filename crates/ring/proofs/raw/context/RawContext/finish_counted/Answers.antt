@@ -4,8 +4,8 @@ use Rattle.std.proofs.lemmas.Option.{same_Some}
 use Rattle.ring.specs.Prelude.{Algorithm, Digest, HasTaken, IsDigest, RawStandsFor, block_words}
 use Rattle.ring.specs.Prelude.{bytes_of, counted_bytes, cut_off, digest_after, digest_named}
 use Rattle.ring.specs.Prelude.{max_input_len, raw_digest_with, raw_message_len}
-use Rattle.ring.proofs.Numbers.{is_context, refused_raw, taken_raw}
-use Rattle.ring.proofs.Outcomes.{if_ok_map}
+use Rattle.ring.proofs.Numbers.{is_context, raw_last, raw_named, refused_raw, taken_raw}
+use Rattle.ring.proofs.Outcomes.{if_ok_map, on_ok_map}
 use Rattle.ring.proofs.Rows.{block_len-most}
 use Rattle.ring.proofs.raw.context.RawContext.finish_counted.Goals as goal
 
@@ -70,3 +70,19 @@ returns-clause-refused_of c = λ a m h.
       λ e. by_len.0 (omega (arith, told.0 e, c.in-Some.ensures.counted, len, most)),
       λ e. told.1 (omega (arith, by_len.1 e, c.in-Some.ensures.counted, len, most)),
     )
+
+pub returns-in_default-clause-cost_of : goal.returns-in_default-clause-cost_of
+returns-in_default-clause-cost_of c = λ a m h.
+    is_context c.args.self.now a m h (c.in_default.ensures.none.0 (search rules))
+
+pub returns-clause-cost_of : goal.returns-clause-cost_of
+returns-clause-cost_of c = λ a m h.
+    let raw = c.args.self.now in
+    let own = c.in-Some.block.algorithm in
+    let named = raw_named raw a m h in
+    let same : own ≡ a = same_Some own a (sym c.in-Some.ensures.algorithm ∙ named) in
+    let fits : raw.num_pending ≤ length raw.pending =
+    omega (arith, c.in-Some.ensures.pending, block_len-most own) in
+    let len = length-take-le raw.num_pending raw.pending fits in
+    on_ok_map c.try_finish.result
+    (λ cost. cost ∙ rw (len, same, raw_last raw a m h fits) refl) c.try_finish.ensures.cost

@@ -3,7 +3,8 @@ use Rattle.std.proofs.lemmas.Option.{same_Some}
 use Rattle.std.proofs.lemmas.Result.{IfOk-at_ok}
 use Rattle.ring.specs.Prelude.{Algorithm, IsDigest, IsRawState, RawTagStandsFor, block_len, cut_off}
 use Rattle.ring.specs.Prelude.{inner_block, outer_block}
-use Rattle.ring.proofs.Keys.{inner_len, length-outer_block}
+use Rattle.ring_core.proofs.Costs.{raised-raised}
+use Rattle.ring.proofs.Keys.{inner_last, inner_len, length-outer_block}
 use Rattle.ring.proofs.Numbers.{is_tag_context, tag_named}
 use Rattle.ring.proofs.Rows.{block_len-most}
 use Rattle.ring.proofs.raw.tag_context.RawTagContext.finish_counted.Goals as goal
@@ -43,3 +44,19 @@ returns-clause-ok c = λ a k m h.
     let made = IfOk-at_ok (λ digest. IsDigest digest a (inner_block a k ++ m)) c.in-Ok.is
     (c.in-Some-finish_counted.ensures.ok a _ h.inner) in
     c.of_inner.ensures.ok a k m (c.block_of-outer.ensures.algorithm ∙ is_a) made taken
+
+pub returns-in_default-clause-cost_of : goal.returns-in_default-clause-cost_of
+returns-in_default-clause-cost_of c = λ a k m h.
+    is_tag_context c.args.self.now a k m h (c.in_default.ensures.none.0 (search rules))
+
+pub returns-clause-cost : goal.returns-clause-cost
+returns-clause-cost c = λ a named.
+    let inner = (rw c.in-Ok.is at c.in-Some-finish_counted.ensures.cost) a named in
+    c.of_inner.ensures.cost ∙ rw inner (raised-raised c.args.meter.now _ 0 1 0)
+
+pub returns-clause-cost_of : goal.returns-clause-cost_of
+unfolding RawTagStandsFor
+returns-clause-cost_of c = λ a k m h.
+    let inner = rw (inner_last a k m, c.in-Ok.is) at
+    (c.in-Some-finish_counted.ensures.cost_of a _ h.inner) in
+    c.of_inner.ensures.cost ∙ rw inner (raised-raised c.args.meter.now _ 0 1 0)

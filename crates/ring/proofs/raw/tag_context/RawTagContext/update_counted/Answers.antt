@@ -6,3 +6,8 @@ pub returns-else-counts_key_block-clause-stands : goal.returns-else-counts_key_b
 returns-else-counts_key_block-clause-stands c = λ a k m h.
     let counted = key_block_counted c.args.self.now a k m h in
     absurd (search (rules, c.counts_key_block.ensures.1 counted, c.if-counts_key_block.false))
+
+pub returns-else-counts_key_block-clause-cost_of : goal.returns-else-counts_key_block-clause-cost_of
+returns-else-counts_key_block-clause-cost_of c = λ a k m h.
+    let counted = key_block_counted c.args.self.now a k m h in
+    absurd (search (rules, c.counts_key_block.ensures.1 counted, c.if-counts_key_block.false))

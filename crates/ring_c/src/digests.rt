@@ -8,7 +8,6 @@ ghost use Rattle.ring.specs.Raw.{AreWords, HasAdded, IsNoContext, RawStandsFor, 
 ghost use Rattle.ring.specs.Raw.{raw_digest_with, raw_message_len};
 ghost use Rattle.ring.specs.declared.digest.algorithm.Algorithm.{Algorithm};
 
-use crate::lengths::yz_output_len;
 use crate::status::{OK, UNKNOWN_ALGORITHM, UNKNOWN_CONTEXT, UNSPECIFIED, WRONG_LENGTH};
 use ring::digest::{self, Context};
 use ring::raw::{RawContext, digest_of_number};
@@ -108,13 +107,13 @@ pub extern "C" fn yz_digest_final(context: &RawContext, out: &mut [u8]) -> i32
         → result ≡ UNSPECIFIED }
     ensures unchanged { result ≢ OK → out.new ≡ out.old }
 {
-    let Some(finished) = context.finish() else {
+    let Some(named) = context.algorithm() else {
         return UNKNOWN_CONTEXT;
     };
-    if out.len() != yz_output_len(context.algorithm) {
+    if out.len() != named.output_len() {
         return WRONG_LENGTH;
     }
-    let Ok(made) = finished else {
+    let Some(Ok(made)) = context.finish() else {
         return UNSPECIFIED;
     };
     out.copy_from_slice(made.as_ref());

@@ -12,7 +12,6 @@ ghost use Rattle.ring.specs.declared.hmac.algorithm.Algorithm.{Algorithm};
 ghost use Rattle.ring_c.specs.Limits.{CanSign};
 ghost use Rattle.ring_c.specs.Number.{hmac_named};
 
-use crate::lengths::yz_output_len;
 use crate::number::hmac_of_number;
 use crate::status::{OK, UNKNOWN_ALGORITHM, UNKNOWN_CONTEXT, UNSPECIFIED, WRONG_LENGTH};
 use ring::hmac::{self, Context, Key};
@@ -251,13 +250,13 @@ pub extern "C" fn yz_hmac_final(context: &RawTagContext, out: &mut [u8]) -> i32
         → result ≡ UNSPECIFIED }
     ensures unchanged { result ≢ OK → out.new ≡ out.old }
 {
-    let Some(finished) = context.finish() else {
+    let Some(named) = context.algorithm() else {
         return UNKNOWN_CONTEXT;
     };
-    if out.len() != yz_output_len(context.inner.algorithm) {
+    if out.len() != named.output_len() {
         return WRONG_LENGTH;
     }
-    let Ok(tag) = finished else {
+    let Some(Ok(tag)) = context.finish() else {
         return UNSPECIFIED;
     };
     out.copy_from_slice(tag.as_ref());

@@ -88,9 +88,11 @@ impl RawContext {
 
     /// The digest algorithm of these numbers: `None` if they are no context's. They are none if they
     /// name no algorithm, or count as many pending bytes as a block has, or more.
-    #[tactic(auto, unfolding(crate::specs::Raw::named_block_len))]
+    #[tactic(auto, unfolding(crate::specs::Raw::RawStandsFor, crate::specs::Raw::named_block_len))]
     pub fn algorithm(&self) -> Option<Algorithm>
         ensures none { IsNone result ↔ IsNoContext self.now }
+        ensures stands { (a : Algorithm) (m : List ℕ) → RawStandsFor self.now a m
+            → result ≡ Some a }
         ensures algorithm { IfSome result (λ a. digest_named self.now.algorithm ≡ Some a) }
         ensures pending { IfSome result (λ a. self.now.num_pending < block_len a) }
     {

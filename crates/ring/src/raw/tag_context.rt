@@ -78,8 +78,11 @@ impl RawTagContext {
 
     /// The digest algorithm of these numbers: `None` if they are no context's. They are none if the
     /// inner ones are none, or count less than the key's block.
+    #[tactic(auto, unfolding(crate::specs::Raw::RawTagStandsFor))]
     pub fn algorithm(&self) -> Option<Algorithm>
         ensures none { IsNone result ↔ IsNoTagContext self.now }
+        ensures stands { (a : Algorithm) (k m : List ℕ) → RawTagStandsFor self.now a k m
+            → result ≡ Some a }
         ensures algorithm { IfSome result (λ a. digest_named self.now.inner.algorithm ≡ Some a) }
     {
         if !self.counts_key_block() {

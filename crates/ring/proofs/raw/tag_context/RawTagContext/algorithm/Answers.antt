@@ -1,0 +1,9 @@
+use Rattle.std.proofs.Common.{rules}
+use Rattle.ring.proofs.Numbers.{key_block_counted}
+use Rattle.ring.proofs.raw.tag_context.RawTagContext.algorithm.Goals as goal
+
+pub returns-then-not-counts_key_block-clause-stands :
+    goal.returns-then-not-counts_key_block-clause-stands
+returns-then-not-counts_key_block-clause-stands c = λ a k m h.
+    let counted = key_block_counted c.args.self.now a k m h in
+    absurd (search (rules, c.counts_key_block.ensures.1 counted, c.if-not-counts_key_block.true))

@@ -124,16 +124,6 @@ unfolding hmac_of
 tag_is {a = a} k m e hv ex hd =
     grind (arith, common_steps)
 
--- the same by the words after a key's blocks, whatever they are
-pub tag_last : {a e : Algorithm} (h x : List ℕ) {v d : List ℕ} {n : ℕ}
-    → v ≡ digest_after e h x n → x ≡ d → e ≡ a → n ≡ block_len a + output_len a
-    → v ≡ tag_of_inner a h d
-tag_last {a = a} {e = e} h x {d = d} {n = n} ev ex ee en =
-    let len : (b : Algorithm) → e ≡ b → n ≡ block_len b + output_len b
-    → digest_after e h x n ≡ tag_of_inner b h d =
-    λ b eb el. rw (ex, eb, el) refl in
-    ev ∙ len a ee en
-
 -- the tag of an inner digest, by the words after the key's outer block
 pub tag_of_inner-is : (a : Algorithm) {outer d : List ℕ} (k m : List ℕ)
     → IsWhole a (outer_block a k) → outer ≡ words_after a (outer_block a k)

@@ -72,9 +72,11 @@ pub fn sign_counted(key: &Key, message: &[u8], meter: &mut Meter) -> Result<Tag,
     if !is_tag_within(&key.algorithm().digest_algorithm(), message.len() as u128) {
         return Err(Unspecified);
     }
-    let mut context = Context::with_key(key);
-    context.update_counted(message, meter);
-    context.sign_counted(meter)
+    // This needs no `Context`, as `digest_counted` needs none.
+    let mut inner = key.inner.clone();
+    let rest = inner.update(message, meter);
+    let digest = inner.try_finish(rest, meter)?;
+    Ok(Tag::of_inner(&digest, &key.outer, meter))
 }
 
 /// Returns the tag of `message` under `key` (RFC 2104, section 2). It has as many bytes as a digest

@@ -3,7 +3,8 @@ use Rattle.std.proofs.lemmas.Grind.{common_steps}
 use Rattle.std.proofs.Common.{◌≡◌, ℕ, ◌+◌, ◌-◌, ◌*◌, ◌/◌, ◌%◌, ◌<◌, ◌≤◌, List, ◌∷◌, ◌++◌, length}
 use Rattle.std.proofs.Common.{take, drop, replicate, refl, sym, ap, ◌∙◌, arith, append_assoc}
 use Rattle.std.proofs.Common.{length-drop}
-use Rattle.std.proofs.lemmas.List.{drop_at, drop-drop, length-take-le, take-append-drop, take_all}
+use Rattle.std.proofs.lemmas.List.{drop_all, drop_at, drop-drop, length-take-le, take-append-drop}
+use Rattle.std.proofs.lemmas.List.{take_all}
 use Rattle.std.specs.Int.{bytes_high_first}
 use Rattle.ring_core.specs.Prelude.{chunk_at, fold_chunks}
 use Rattle.ring.specs.Prelude.{Algorithm, HasWords, IsWhole, block_function, block_len, blocks_from}
@@ -155,6 +156,17 @@ lane-long {h} {old} {new} a block is has words =
     let row = long_row a.id (sym is) in
     rw row.step_is (lane-sha2 a sha2.family_512 block row.count_is has words)
 
+-- where eight words chain, none is spare
+pub spare-none : {h k old new : List ℕ} (a : Algorithm) → word_count a ≡ 8 → HasWords a h old
+    → HasWords a k new → drop (word_count a) new ≡ drop (word_count a) old
+spare-none {old = old} {new = new} a eight before after =
+    drop_all (word_count a) new (omega (arith, eight, after.count))
+    ∙ sym (drop_all (word_count a) old (omega (arith, eight, before.count)))
+
+pub spare-long : {h k old new : List ℕ} (a : Algorithm) → word_len a ≡ 8 → HasWords a h old
+    → HasWords a k new → drop (word_count a) new ≡ drop (word_count a) old
+spare-long a is before after = spare-none a (long_row a.id (sym is)).count_is before after
+
 -- a state before the first block
 pub words-first : {ws : List ℕ} (a : Algorithm) (m : List ℕ)
     → take (word_count a) ws ≡ initial_words a → length ws ≡ 8 → HasWords a (words_at a m 0) ws
@@ -167,3 +179,25 @@ pub words-next : {n : ℕ} {ws : List ℕ} (a : Algorithm) (m block : List ℕ) 
     → HasWords a (words_at a m (k + 1)) ws
 words-next a m block k e is has =
     record { chaining = has.chaining ∙ sym (words_at-next a m block k e is); count = has.count }
+
+-- the words of a lane after one chunk more
+pub chunks-next : {block ws : List ℕ} (a : Algorithm) (n : ℕ) (h m : List ℕ) (k : ℕ)
+    → block ≡ chunk_at n m k
+    → HasWords a (block_function a (fold_chunks (block_function a) n h m k) block) ws
+    → HasWords a (fold_chunks (block_function a) n h m (k + 1)) ws
+chunks-next a n h m k is has =
+    let step = block_function a in
+    record {
+      chaining = has.chaining ∙ ap (step (fold_chunks step n h m k)) is
+          ∙ sym (fold_chunks-next step n h m k);
+      count = has.count;
+    }
+
+-- and before the first
+pub chunks-first : (a : Algorithm) (n : ℕ) (m ws : List ℕ) → length ws ≡ 8
+    → HasWords a (fold_chunks (block_function a) n (take (word_count a) ws) m 0) ws
+chunks-first a n m ws eight =
+    record {
+      chaining = sym (fold_chunks-none (block_function a) n (take (word_count a) ws) m);
+      count = eight;
+    }

@@ -30,3 +30,5 @@ pub mod Taking
 pub mod Parts
 pub mod Comparing
 pub mod Numbers
+pub mod GoingOn
+pub mod Updates

@@ -22,4 +22,5 @@ pub mod DeriveEach
 pub mod Jobs
 pub mod Raw
 pub mod Cut
+pub mod Updates
 pub mod Prelude

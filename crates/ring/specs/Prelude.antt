@@ -60,6 +60,8 @@ pub use Rattle.ring.specs.Raw.{AreNumbersOfTag, HasAdded, TagHasAdded, HasBegun}
 unfoldable pub use Rattle.ring.specs.Raw.{named_block_len, RawStandsFor, RawKeyStandsFor}
 unfoldable pub use Rattle.ring.specs.Raw.{RawTagStandsFor}
 pub use Rattle.ring.specs.Cut.{IsWithout, IsFirstCut}
+pub use Rattle.ring.specs.Updates.{IsUpdated, AreUpdated, update_blocks, update_each_blocks}
+pub use Rattle.ring.specs.Updates.{IsPartway}
 pub use Rattle.ring_core.specs.Cost.{Counts, compared_pairs}
 unfoldable pub use Rattle.ring_core.specs.Cost.{raised}
 pub use Rattle.ring.specs.declared.digest.algorithm.Algorithm.{Algorithm}

@@ -62,7 +62,30 @@
 //! }
 //! ```
 //!
-//! The imports of the last two examples stand in `pieces.rt` and `several.rt` of
+//! [`update_each`] adds a piece to each of several contexts, of one algorithm or of several. It is
+//! faster than one call for each where four or more of SHA-1 or of SHA-256 follow each other:
+//!
+//! ```
+//! pub fn digests_in_pieces(
+//!     algorithm: &Algorithm,
+//!     other_algorithm: &Algorithm,
+//!     fronts: &[&[u8]; 2],
+//!     rests: &[&[u8]; 2],
+//! ) -> Result<(Digest, Digest), Unspecified>
+//!     ensures first { IfOk result (λ digests.
+//!         IsDigest digests.0 algorithm.now (message_at fronts.now 0 ++ message_at rests.now 0)) }
+//!     ensures second { IfOk result (λ digests. IsDigest digests.1 other_algorithm.now
+//!         (message_at fronts.now 1 ++ message_at rests.now 1)) }
+//! {
+//!     let mut contexts = [Context::new(algorithm), Context::new(other_algorithm)];
+//!     update_each(&mut contexts, fronts)?;
+//!     update_each(&mut contexts, rests)?;
+//!     let [first, second] = contexts;
+//!     Ok((first.finish()?, second.finish()?))
+//! }
+//! ```
+//!
+//! The imports of the last three examples stand in `pieces.rt` and `several.rt` of
 //! `crates/ring_examples/src`.
 
 pub(crate) mod algorithm;
@@ -74,10 +97,13 @@ pub(crate) mod each;
 mod initial;
 mod padded_blocks;
 pub(crate) mod padding;
+mod partway;
 pub(crate) mod pending;
 pub(crate) mod side_by_side;
 mod single;
 mod together;
+mod update_together;
+pub(crate) mod updates;
 pub(crate) mod value;
 pub(crate) mod vectors;
 
@@ -91,5 +117,6 @@ pub use crate::digest::dynstate::Output;
 pub use crate::digest::each::{digest_each, digest_each_counted, digest_each_in};
 pub use crate::digest::padding::padding_is_shortest;
 pub use crate::digest::single::{digest, digest_counted};
+pub use crate::digest::updates::{update_each, update_each_counted, update_each_in};
 pub use crate::digest::value::Digest;
 pub use ring_core::digest::{sha1, sha2, states, word};

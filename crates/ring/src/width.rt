@@ -1,6 +1,7 @@
 //! The width of the vectors over which several messages or rounds run side by side, in bits.
 //!
-//! [`digest::digest_each`](crate::digest::digest_each) and the calls of [`pbkdf2`](crate::pbkdf2)
+//! [`digest::digest_each`](crate::digest::digest_each),
+//! [`digest::update_each`](crate::digest::update_each) and the calls of [`pbkdf2`](crate::pbkdf2)
 //! run over vectors of 128 bits ([`SSE`]), four words of 32 bits. Their forms whose names end in
 //! `_in` take the width as a const argument. Over 256 bits ([`AVX2`]) they run eight words of 32
 //! bits, or four of 64: in a build for processors with AVX2 (`rt lib --cpu=x86-64-v3`) that takes

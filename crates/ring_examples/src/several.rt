@@ -1,11 +1,14 @@
-//! Digests of several messages, and keys from several passwords, at once.
+//! Digests of several messages, whole and in pieces, and keys from several passwords, at once.
 
-ghost use Rattle.std.specs.Prelude.{◌≡◌, ◌↔◌, IfOk, IsOk, length};
+ghost use Rattle.std.specs.Prelude.{◌≡◌, ◌↔◌, ◌++◌, IfOk, IsOk, length};
 ghost use Rattle.std.specs.Int.NonZero.{non_zero_u32_get};
-ghost use Rattle.ring.specs.Prelude.{AreDerived, AreDigests, AreVerified, CanDerive, CanDeriveEach};
-ghost use Rattle.ring.specs.Prelude.{CanDigestEach, CanVerifyEach, IsDigest, dk};
+ghost use Rattle.ring.specs.Prelude.{AreDerived, AreDigests, AreUpdated, AreVerified, CanDerive};
+ghost use Rattle.ring.specs.Prelude.{CanDeriveEach, CanDigestEach, CanVerifyEach, IsDigest, dk};
+ghost use Rattle.ring.specs.Prelude.{message_at};
 
-use ring::digest::{Algorithm, Digest, SHA256, SHA256_OUTPUT_LEN, digest, digest_each};
+use ring::digest::{
+    Algorithm, Context, Digest, SHA256, SHA256_OUTPUT_LEN, digest, digest_each, update_each,
+};
 use ring::error::Unspecified;
 use ring::pbkdf2::{PBKDF2_HMAC_SHA256, derive_each, verify_each};
 use std::num::NonZeroU32;
@@ -31,6 +34,36 @@ pub fn digests_of_both(first: &[u8], second: &[u8]) -> Result<(Digest, Digest), 
     let mut digests = [digest(&SHA256, &[])?; 2];
     digest_each(&SHA256, &[first, second], &mut digests)?;
     Ok((digests[0], digests[1]))
+}
+
+/// Adds a piece to each of four messages whose digests are being made.
+pub fn update_four(contexts: &mut [Context; 4], pieces: &[&[u8]; 4])
+    ensures { AreUpdated contexts.old contexts.new pieces.now }
+{
+    match update_each(contexts, pieces) {
+        Ok(()) => {}
+        // There are as many pieces as contexts.
+        Err(_) => unreachable!(),
+    }
+}
+
+/// The digests of two messages that arrive in two pieces each, under different algorithms.
+pub fn digests_in_pieces(
+    algorithm: &Algorithm,
+    other_algorithm: &Algorithm,
+    fronts: &[&[u8]; 2],
+    rests: &[&[u8]; 2],
+) -> Result<(Digest, Digest), Unspecified>
+    ensures first { IfOk result (λ digests.
+        IsDigest digests.0 algorithm.now (message_at fronts.now 0 ++ message_at rests.now 0)) }
+    ensures second { IfOk result (λ digests. IsDigest digests.1 other_algorithm.now
+        (message_at fronts.now 1 ++ message_at rests.now 1)) }
+{
+    let mut contexts = [Context::new(algorithm), Context::new(other_algorithm)];
+    update_each(&mut contexts, fronts)?;
+    update_each(&mut contexts, rests)?;
+    let [first, second] = contexts;
+    Ok((first.finish()?, second.finish()?))
 }
 
 /// What a login stores of four passwords, derived side by side.

@@ -2,11 +2,13 @@
 
 ghost use Rattle.std.specs.Prelude.{◌≡◌, ◌↔◌, IfOk, IsErr, IsOk, length};
 ghost use Rattle.std.specs.Int.NonZero.{non_zero_u32_get};
-ghost use Rattle.ring.specs.Prelude.{AreDerived, AreDigests, AreVerified, CanDerive, CanDeriveEach};
-ghost use Rattle.ring.specs.Prelude.{CanDigestEach, CanVerifyEach, IsDerived, dk};
+ghost use Rattle.ring.specs.Prelude.{AreDerived, AreDigests, AreUpdated, AreVerified, CanDerive};
+ghost use Rattle.ring.specs.Prelude.{CanDeriveEach, CanDigestEach, CanVerifyEach, IsDerived, dk};
 
 use ring::cost::Meter;
-use ring::digest::{Algorithm, Digest, SHA256, SHA256_OUTPUT_LEN, digest, digest_each_in};
+use ring::digest::{
+    Algorithm, Context, Digest, SHA256, SHA256_OUTPUT_LEN, digest, digest_each_in, update_each_in,
+};
 use ring::error::Unspecified;
 use ring::pbkdf2::{PBKDF2_HMAC_SHA256, derive_each_in, derive_in, verify_each_in, verify_in};
 use ring::width::AVX2;
@@ -23,6 +25,17 @@ pub fn digests_of_eight(
     let mut digests = [digest(algorithm, &[])?; 8];
     digest_each_in::<AVX2>(algorithm, messages, &mut digests, &mut Meter::new())?;
     Ok(digests)
+}
+
+/// Adds a piece to each of eight messages, side by side where they are of one algorithm.
+pub fn update_eight(contexts: &mut [Context; 8], pieces: &[&[u8]; 8])
+    ensures { AreUpdated contexts.old contexts.new pieces.now }
+{
+    match update_each_in::<AVX2>(contexts, pieces, &mut Meter::new()) {
+        Ok(()) => {}
+        // There are as many pieces as contexts.
+        Err(_) => unreachable!(),
+    }
 }
 
 /// The bytes of eight digests of SHA-256.

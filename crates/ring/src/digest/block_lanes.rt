@@ -1,9 +1,9 @@
 //! Block functions over one block in each lane.
 
 ghost use Rattle.std.proofs.Common.{ap};
-ghost use Rattle.std.specs.Prelude.{◌≡◌, ℕ, ◌<◌, List, [], get_or, length};
+ghost use Rattle.std.specs.Prelude.{◌≡◌, ℕ, ◌<◌, List, [], drop, get_or, length};
 ghost use Rattle.ring.specs.Prelude.{Algorithm, HasWords, SHA1_FOR_LEGACY_USE_ONLY, SHA256};
-ghost use Rattle.ring.specs.Prelude.{block_function, raised, word_len};
+ghost use Rattle.ring.specs.Prelude.{block_function, raised, word_count, word_len};
 
 use crate::digest::side_by_side::lane_digests::{Sha1, Sha256};
 use crate::digest::side_by_side::lane_states::LaneStates;
@@ -32,6 +32,10 @@ pub(crate) trait RunBlocks<const N: usize>: LaneStates {
         ensures words { (a : Algorithm) (i : ℕ) (h : List ℕ) → is_of a → i < Self.LANES
             → HasWords a h (Self.lane i states.old)
             → HasWords a (block_function a h (get_or blocks.now i [])) (Self.lane i states.new) }
+        ensures spare { (a : Algorithm) (i : ℕ) (h : List ℕ) → is_of a → i < Self.LANES
+            → HasWords a h (Self.lane i states.old)
+            → drop (word_count a) (Self.lane i states.new)
+            ≡ drop (word_count a) (Self.lane i states.old) }
         ensures cost { meter.new ≡ raised meter.old Self.LANES 0 };
 
     // the algorithm's words have this size

@@ -1,0 +1,29 @@
+use Rattle.std.proofs.Common.{◌∙◌, arith, refl}
+use Rattle.std.proofs.lemmas.List.{take_rest}
+use Rattle.ring.proofs.GoingOn.{HasRun, blocks_fit, updated_rest}
+use Rattle.ring.proofs.digest.context.Context.go_on.Goals as goal
+
+pub returns-clause-updated : goal.returns-clause-updated
+returns-clause-updated c =
+    let size = c.block_len.ensures in
+    let past = c.go_past.ensures in
+    let empty = c.requires.ready (omega arith) in
+    let run : HasRun c.args.self.now c.go_past.new.self c.args.piece.now c.args.count _ =
+    record {
+      size = rw size refl;
+      fits = rw size (blocks_fit _ c.args.count _ c.requires.fits);
+      empty = empty;
+      pending = past.pending ∙ empty;
+      algorithm = past.algorithm;
+      words = rw past.state c.requires.words;
+      spare = rw past.state c.requires.spare;
+      counted = past.count;
+    } in
+    let update = c.update_counted-2.ensures in
+    updated_rest c.args.meter.now run (take_rest c.args.piece.now _) (record {
+      stands = update.stands;
+      any = update.any;
+      algorithm = update.algorithm;
+      counted = update.counted;
+      pending = update.pending;
+    })

@@ -1,7 +1,7 @@
 //! The numbers of a digest's context.
 
-ghost use Rattle.std.specs.Prelude.{◌≡◌, ◌↔◌, ℕ, ◌+◌, ◌-◌, ◌<◌, ◌≤◌, List, [], ◌++◌, length, IfSome};
-ghost use Rattle.std.specs.Prelude.{IfOk, IsErr, IsFalse, IsNone, IsSomeAnd, IsTrue, OnOk, Some};
+ghost use Rattle.std.specs.Prelude.{◌≡◌, ◌↔◌, ℕ, ◌+◌, ◌-◌, ◌<◌, ◌≤◌, List, [], ◌++◌, length, IfOk};
+ghost use Rattle.std.specs.Prelude.{IfSome, IsErr, IsFalse, IsNone, IsSomeAnd, IsTrue, OnOk, Some};
 ghost use Rattle.ring.specs.Prelude.{AreNumbersOf, AreWords, HasAdded, HasTaken, IsDigest};
 ghost use Rattle.ring.specs.Prelude.{IsNoContext, IsRawState, RawStandsFor, StandsFor};
 ghost use Rattle.ring.specs.Prelude.{block_algorithm, block_len, block_words, bytes_of};
@@ -15,10 +15,13 @@ ghost use Rattle.ring.specs.declared.digest.algorithm.Algorithm.{Algorithm};
 use crate::digest::algorithm::{Algorithm, MAX_BLOCK_LEN};
 use crate::digest::block_context::BlockContext;
 use crate::digest::context::Context;
+use crate::digest::dynstate::DynState;
 use crate::digest::pending::move_on;
 use crate::digest::value::Digest;
 use crate::raw::number::{digest_of_number, number_of_digest};
-use crate::raw::words::{block_of, halves, joined, numbers_of_block};
+use crate::raw::words::{
+    block_of, halves, joined, long_block_of, numbers_of_block, short_block_of,
+};
 use ring_core::cost::Meter;
 use ring_core::error::Unspecified;
 
@@ -86,8 +89,8 @@ impl RawContext {
         true
     }
 
-    /// The digest algorithm of these numbers: `None` if they are no context's. They are none if they
-    /// name no algorithm, or count as many pending bytes as a block has, or more.
+    /// The digest algorithm of these numbers: `None` if they are no context's, since they name no
+    /// algorithm, or count as many pending bytes as a block has, or more.
     #[tactic(auto, unfolding(crate::specs::Raw::RawStandsFor, crate::specs::Raw::named_block_len))]
     pub fn algorithm(&self) -> Option<Algorithm>
         ensures none { IsNone result ↔ IsNoContext self.now }
@@ -160,9 +163,43 @@ impl RawContext {
             → meter.new ≡ raised meter.old
             (whole_blocks a (self.old.num_pending + length input.now)) 0 }
     {
-        let Some(mut block) = self.block() else {
+        let Some(algorithm) = self.algorithm() else {
             return false;
         };
+        let completed_bytes = joined(self.completed_low, self.completed_high);
+        // Each word size has its own branch to the end, as in `BlockContext::output_after`.
+        match algorithm.initial_state() {
+            DynState::As64(_) => {
+                let block = long_block_of(&algorithm, &self.words, completed_bytes);
+                self.run_from(block, input, meter);
+            }
+            DynState::As32(_) => {
+                let block = short_block_of(&algorithm, &self.words, completed_bytes);
+                self.run_from(block, input, meter);
+            }
+        }
+        true
+    }
+
+    // The same where `block` is the state after the blocks that were run.
+    #[inline(always)]
+    #[tactic(auto, unfolding(crate::specs::Raw::RawStandsFor))]
+    fn run_from(&mut self, mut block: BlockContext, input: &[u8], meter: &mut Meter)
+        requires stands { (p : List ℕ) → IsRawState (block_algorithm block) self.old.words p
+            → completed_len self.old ≡ cut_off (length p) → HasTaken block p }
+        requires words { block_words block ≡ raw_chaining (block_algorithm block) self.old.words }
+        requires algorithm { digest_named self.old.algorithm ≡ Some (block_algorithm block) }
+        requires counted { counted_bytes block ≡ completed_len self.old }
+        requires pending { self.old.num_pending < block_len (block_algorithm block) }
+        requires enough { block_len (block_algorithm block)
+            ≤ self.old.num_pending + length input.now }
+        ensures stands { (a : Algorithm) (m : List ℕ) → RawStandsFor self.old a m
+            → RawStandsFor self.new a (m ++ input.now) }
+        ensures any { HasAdded self.old self.new input.now }
+        ensures cost { (a : Algorithm) → digest_named self.old.algorithm ≡ Some a
+            → meter.new ≡ raised meter.old
+            (whole_blocks a (self.old.num_pending + length input.now)) 0 }
+    {
         let begun = self.num_pending as usize;
         let left = move_on(&mut block, &mut self.pending, begun, input, meter);
         let (completed_low, completed_high) = halves(block.completed_bytes);
@@ -170,7 +207,6 @@ impl RawContext {
         self.completed_low = completed_low;
         self.completed_high = completed_high;
         self.words = numbers_of_block(&block);
-        true
     }
 
     /// Adds `input` to the message, and runs each block that is complete. Returns whether the

@@ -4,7 +4,7 @@ ghost use Rattle.std.specs.Prelude.{◌≡◌, ◌+◌, ◌*◌, ◌%◌, ◌^�
 ghost use Rattle.ring_core.specs.Prelude.{words_32, words_64};
 ghost use Rattle.ring.specs.Prelude.{AreWords, HasTaken, IsRawState, block_algorithm, block_words};
 ghost use Rattle.ring.specs.Prelude.{counted_bytes, cut_off, is_state_of, joined_halves};
-ghost use Rattle.ring.specs.Prelude.{raw_chaining, raw_words, words};
+ghost use Rattle.ring.specs.Prelude.{raw_chaining, word_len, words};
 
 use crate::digest::algorithm::Algorithm;
 use crate::digest::block_context::BlockContext;
@@ -85,17 +85,6 @@ fn numbers_of(state: &DynState) -> [u64; 8]
     }
 }
 
-// The state of these numbers.
-fn state_of(algorithm: &Algorithm, numbers: &[u64; 8]) -> DynState
-    ensures words { words result ≡ raw_words algorithm.now numbers.now }
-    ensures sized { IsTrue (is_state_of algorithm.now result) }
-{
-    match algorithm.initial_state() {
-        DynState::As64(_) => DynState::As64(words_of_64(numbers)),
-        DynState::As32(_) => DynState::As32(words_of_32(numbers)),
-    }
-}
-
 // The numbers of the state after whole blocks.
 #[tactic(auto, using(crate::proofs::Numbers::raw_taken, crate::proofs::Numbers::raw_cut))]
 pub(crate) fn numbers_of_block(block: &BlockContext) -> [u64; 8]
@@ -105,6 +94,48 @@ pub(crate) fn numbers_of_block(block: &BlockContext) -> [u64; 8]
     ensures sized { AreWords (block_algorithm block.now) result }
 {
     numbers_of(&block.state)
+}
+
+// The block context of numbers of 64 bits.
+#[inline(always)]
+pub(crate) fn long_block_of(
+    algorithm: &Algorithm,
+    numbers: &[u64; 8],
+    completed_bytes: u128,
+) -> BlockContext
+    requires { word_len algorithm.now ≡ 8 }
+    ensures stands { (p : List ℕ) → IsRawState algorithm.now numbers.now p
+        → completed_bytes ≡ cut_off (length p) → HasTaken result p }
+    ensures words { block_words result ≡ raw_chaining algorithm.now numbers.now }
+    ensures algorithm { block_algorithm result ≡ algorithm.now }
+    ensures counted { counted_bytes result ≡ completed_bytes }
+{
+    BlockContext {
+        state: DynState::As64(words_of_64(numbers)),
+        completed_bytes,
+        algorithm: *algorithm,
+    }
+}
+
+// The block context of numbers of 32 bits.
+#[inline(always)]
+pub(crate) fn short_block_of(
+    algorithm: &Algorithm,
+    numbers: &[u64; 8],
+    completed_bytes: u128,
+) -> BlockContext
+    requires { word_len algorithm.now ≡ 4 }
+    ensures stands { (p : List ℕ) → IsRawState algorithm.now numbers.now p
+        → completed_bytes ≡ cut_off (length p) → HasTaken result p }
+    ensures words { block_words result ≡ raw_chaining algorithm.now numbers.now }
+    ensures algorithm { block_algorithm result ≡ algorithm.now }
+    ensures counted { counted_bytes result ≡ completed_bytes }
+{
+    BlockContext {
+        state: DynState::As32(words_of_32(numbers)),
+        completed_bytes,
+        algorithm: *algorithm,
+    }
 }
 
 // The block context of these numbers.
@@ -119,10 +150,9 @@ pub(crate) fn block_of(
     ensures algorithm { block_algorithm result ≡ algorithm.now }
     ensures counted { counted_bytes result ≡ completed_bytes }
 {
-    BlockContext {
-        state: state_of(algorithm, numbers),
-        completed_bytes,
-        algorithm: *algorithm,
+    match algorithm.initial_state() {
+        DynState::As64(_) => long_block_of(algorithm, numbers, completed_bytes),
+        DynState::As32(_) => short_block_of(algorithm, numbers, completed_bytes),
     }
 }
 

@@ -21,20 +21,17 @@ word_bytes_front : (a : Algorithm) (n : ℕ) (s : DynState)
 word_bytes_front a n s =
     grind (arith, common_steps)
 
--- the digest at the front of a state's bytes
-pub digest_from : (out : List ℕ) (s : DynState) (a : Algorithm) (m : List ℕ)
+-- the front of a state's bytes, where its chaining words h are as many as the algorithm has
+front_is : (out : List ℕ) (s : DynState) (a : Algorithm) (h : List ℕ)
     → out ≡ word_bytes (state_word_len s) (words s) ++ replicate (64 - 8 * state_word_len s) 0
-    → IsTrue (is_state_of a s) → chaining_words a s ≡ words_after a (padded a m)
-    → take (output_len a) out ≡ digest_of a m
-unfolding digest_of
-digest_from out s a m ev sized ew =
+    → length (chaining_words a s) ≡ word_count a → IsTrue (is_state_of a s) → chaining_words a s ≡ h
+    → take (output_len a) out ≡ take (output_len a) (word_bytes (word_len a) h)
+front_is out s a h ev count sized ew =
     let w : ℕ = word_len a in
     let size : state_word_len s ≡ w = search (rules, sized) in
     let front : List ℕ = word_bytes w (chaining_words a s) in
     let spare : List ℕ = word_bytes w (spare_words a s) in
     let zeros : List ℕ = replicate (64 - 8 * w) 0 in
-    let count : length (chaining_words a s) ≡ word_count a =
-    ap length ew ∙ length-words_after a (padded a m) in
     let long : length front ≡ w * word_count a =
     length-word_bytes w (chaining_words a s) ∙ ap (λ (z : ℕ). w * z) count in
     let value : out ≡ front ++ (spare ++ zeros) =
@@ -44,27 +41,24 @@ digest_from out s a m ev sized ew =
     rw value (take-append-le (output_len a) front (spare ++ zeros) room
     ∙ ap (λ (z : List ℕ). take (output_len a) (word_bytes w z)) ew)
 
+-- the digest at the front of a state's bytes
+pub digest_from : (out : List ℕ) (s : DynState) (a : Algorithm) (m : List ℕ)
+    → out ≡ word_bytes (state_word_len s) (words s) ++ replicate (64 - 8 * state_word_len s) 0
+    → IsTrue (is_state_of a s) → chaining_words a s ≡ words_after a (padded a m)
+    → take (output_len a) out ≡ digest_of a m
+unfolding digest_of
+digest_from out s a m ev sized ew =
+    front_is out s a (words_after a (padded a m)) ev
+    (ap length ew ∙ length-words_after a (padded a m)) sized ew
+
 -- the front of a state's bytes, whatever its words are
 pub front_of : (out : List ℕ) (s : DynState) (a : Algorithm) (h : List ℕ)
     → out ≡ word_bytes (state_word_len s) (words s) ++ replicate (64 - 8 * state_word_len s) 0
     → length (words s) ≡ 8 → IsTrue (is_state_of a s) → chaining_words a s ≡ h
     → take (output_len a) out ≡ take (output_len a) (word_bytes (word_len a) h)
 front_of out s a h ev eight sized ew =
-    let w : ℕ = word_len a in
-    let size : state_word_len s ≡ w = search (rules, sized) in
-    let front : List ℕ = word_bytes w (chaining_words a s) in
-    let spare : List ℕ = word_bytes w (spare_words a s) in
-    let zeros : List ℕ = replicate (64 - 8 * w) 0 in
-    let count : length (chaining_words a s) ≡ word_count a =
-    length-take-le (word_count a) (words s) (omega (arith, eight, word_count-most a)) in
-    let long : length front ≡ w * word_count a =
-    length-word_bytes w (chaining_words a s) ∙ ap (λ (z : ℕ). w * z) count in
-    let value : out ≡ front ++ (spare ++ zeros) =
-    ev ∙ rw size (ap (λ (z : List ℕ). z ++ zeros) (word_bytes_front a w s))
-    ∙ append_assoc front spare zeros in
-    let room : output_len a ≤ length front = omega (arith, long, output_len-most a) in
-    rw value (take-append-le (output_len a) front (spare ++ zeros) room
-    ∙ ap (λ (z : List ℕ). take (output_len a) (word_bytes w z)) ew)
+    front_is out s a h ev
+    (length-take-le (word_count a) (words s) (omega (arith, eight, word_count-most a))) sized ew
 
 -- the digest of whole blocks and more is that of the rest after their words
 pub digest_of-after : (a : Algorithm) (p x : List ℕ) (n : ℕ) → IsWhole a p → length (p ++ x) ≡ n

@@ -12,8 +12,8 @@ use Rattle.std.proofs.lemmas.Nat.{mod-mul-add}
 use Rattle.std.proofs.lemmas.Option.{same_Some}
 use Rattle.std.specs.declared.num.Wrapping.{Wrapping}
 use Rattle.ring.specs.Prelude.{Algorithm, AlgorithmId, AreNumbersOfTag, As32, As64, BlockContext}
-use Rattle.ring.specs.Prelude.{Counts, DynState, HasAdded, HasBegun, HasMoved, HasTaken, IsNoContext}
-use Rattle.ring.specs.Prelude.{IsNoTagContext}
+use Rattle.ring.specs.Prelude.{Counts, DynState, HasAdded, HasBegun, HasMoved, HasTaken}
+use Rattle.ring.specs.Prelude.{IsNoContext, IsNoTagContext, IsRawContext, last_blocks}
 use Rattle.ring.specs.Prelude.{IsRawState, Key, KeyStandsFor, RawContext, RawKey, RawStandsFor}
 use Rattle.ring.specs.Prelude.{RawTagContext, RawTagStandsFor, Sha1, Sha256, Sha384, Sha512}
 use Rattle.ring.specs.Prelude.{Sha512_256, block_len, block_words, completed_len, counted_bytes}
@@ -22,8 +22,7 @@ use Rattle.ring.specs.Prelude.{inner_words, key_algorithm, max_input_len, named_
 use Rattle.ring.specs.Prelude.{outer_block, outer_words, raw_chaining, raw_digest_with}
 use Rattle.ring.specs.Prelude.{raw_message_len, raw_tag_with, raw_words, row_of, signing_algorithm}
 use Rattle.ring.specs.Prelude.{signing_len, signing_pending, state_word_len, tag_of_inner, tag_with}
-use Rattle.ring.specs.Prelude.{words}
-use Rattle.ring.specs.Prelude.{IsRawContext, last_blocks, padded_blocks, whole_blocks}
+use Rattle.ring.specs.Prelude.{padded_blocks, whole_blocks, words}
 use Rattle.ring.specs.declared.hmac.context.Context.{Context as TagContext}
 use Rattle.ring.proofs.Blocks.{whole_mul}
 use Rattle.ring.proofs.Keys.{inner_len}

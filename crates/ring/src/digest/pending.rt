@@ -43,8 +43,9 @@ fn put_front(pending: &mut [u8; MAX_BLOCK_LEN], bytes: &[u8])
     pending[..bytes.len()].copy_from_slice(bytes);
 }
 
-// Moves the first `num_pending` bytes of `pending` and then `input` to `block`, which runs each block
-// that is complete. What is left stands at the front of `pending`, and the result is its length.
+// Moves the first `num_pending` bytes of `pending` and then `input` to `block`, which runs each
+// block that is complete. What is left stands at the front of `pending`, and the result is its
+// length.
 #[inline(always)]
 pub(crate) fn move_on(
     block: &mut BlockContext,

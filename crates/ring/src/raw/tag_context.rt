@@ -1,7 +1,7 @@
 //! The numbers of a tag's context.
 
-ghost use Rattle.std.specs.Prelude.{◌≡◌, ◌↔◌, ℕ, ◌+◌, ◌-◌, ◌<◌, ◌≤◌, List, [], ◌++◌, length, IfSome};
-ghost use Rattle.std.specs.Prelude.{IfOk, IsErr, IsFalse, IsNone, IsSomeAnd, IsTrue, OnOk, Some};
+ghost use Rattle.std.specs.Prelude.{◌≡◌, ◌↔◌, ℕ, ◌+◌, ◌-◌, ◌<◌, ◌≤◌, List, [], ◌++◌, length, IfOk};
+ghost use Rattle.std.specs.Prelude.{IfSome, IsErr, IsFalse, IsNone, IsSomeAnd, IsTrue, OnOk, Some};
 ghost use Rattle.ring.specs.Prelude.{AreNumbersOfTag, AreWords, IsNoTagContext, IsTag};
 ghost use Rattle.ring.specs.Prelude.{RawTagStandsFor, TagHasAdded, TagStandsFor, block_len};
 ghost use Rattle.ring.specs.Prelude.{completed_len, digest_named, max_input_len, named_block_len};
@@ -76,8 +76,8 @@ impl RawTagContext {
         self.counts_key_block() && self.inner.keep(input)
     }
 
-    /// The digest algorithm of these numbers: `None` if they are no context's. They are none if the
-    /// inner ones are none, or count less than the key's block.
+    /// The digest algorithm of these numbers: `None` if they are no context's, since the inner ones
+    /// are none, or count less than the key's block.
     #[tactic(auto, unfolding(crate::specs::Raw::RawTagStandsFor))]
     pub fn algorithm(&self) -> Option<Algorithm>
         ensures none { IsNone result ↔ IsNoTagContext self.now }

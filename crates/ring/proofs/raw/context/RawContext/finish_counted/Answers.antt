@@ -45,7 +45,8 @@ returns-clause-any c =
     → bytes_of d ≡ raw_digest_with a raw [] (raw_message_len raw) in
     if_ok_map c.try_finish.result {P = P} {Q = Q}
     (λ d is a named.
-    let same : b.algorithm ≡ a = same_Some b.algorithm a (sym c.in-Some.ensures.algorithm ∙ named) in
+    let same : b.algorithm ≡ a =
+    same_Some b.algorithm a (sym c.in-Some.ensures.algorithm ∙ named) in
     let D : Algorithm → Type 0 =
     λ z. bytes_of d ≡ raw_digest_with z raw [] (raw_message_len raw) in
     subst D same (is ∙ rw (n, append-nil rest, c.in-Some.ensures.words) refl))

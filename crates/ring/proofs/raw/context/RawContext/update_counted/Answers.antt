@@ -14,17 +14,17 @@ returns-then-keep-clause-cost c = λ done a named.
     let n : ℕ = raw.num_pending + length c.args.input.now in
     let size = named_len raw.algorithm a named in
     let below : n < block_len a = omega (arith, c.keep.ensures.short.0 done, size) in
-    sym (ap (λ (z : ℕ). raised meter z 0) (short_div n (block_len a) below) ∙ sym (raised-none meter))
+    let none = short_div n (block_len a) below in
+    sym (ap (λ (z : ℕ). raised meter z 0) none ∙ sym (raised-none meter))
 
 pub returns-then-keep-clause-cost_of : goal.returns-then-keep-clause-cost_of
 returns-then-keep-clause-cost_of c = λ a m h.
     let raw = c.args.self.now in
-    let named = raw_named raw a m h in
-    let size = named_len raw.algorithm a named in
+    let n : ℕ = length c.args.input.now in
     let fits : raw.num_pending ≤ length raw.pending =
-    omega (arith, c.keep.ensures.short.0 c.if-keep.true, size, block_len-most a) in
-    returns-then-keep-clause-cost c c.if-keep.true a named
-    ∙ ap (λ (z : ℕ). raised c.args.meter.now z 0) (raw_blocks raw a m (length c.args.input.now) h fits)
+    omega (arith, raw_pending raw a m h, block_len-most a) in
+    returns-then-keep-clause-cost c c.if-keep.true a (raw_named raw a m h)
+    ∙ ap (λ (z : ℕ). raised c.args.meter.now z 0) (raw_blocks raw a m n h fits)
 
 pub returns-else-keep-clause-cost_of : goal.returns-else-keep-clause-cost_of
 returns-else-keep-clause-cost_of c = λ a m h.

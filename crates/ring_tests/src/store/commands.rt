@@ -3,6 +3,7 @@
 use crate::store::names::{
     LONG_NAME, LONGEST_NAME, PASSWORD, WRONG, found, iterations, new_store, told,
 };
+use ring::cost::Meter;
 use ring_store::{Command, PasswordStore, Reply, StoreError};
 use std::alloc::{AllocError, Global};
 
@@ -78,6 +79,15 @@ fn both_reply(alloc: Global, commands: &[Command<'_>], wanted: &[Reply]) -> bool
     replies_alone(alloc, commands, wanted) && replies_to_list(alloc, commands, wanted) == Ok(true)
 }
 
+// The blocks and the pairs of bytes that the commands as one list cost, on a new store of 1,000
+// iterations.
+fn cost_of_list(alloc: Global, commands: &[Command<'_>]) -> Result<(u128, u128), AllocError> {
+    let mut replies = Vec::from_elem(alloc, Reply::Done, commands.len())?;
+    let mut meter = Meter::new();
+    new_store(alloc, 1000).run_counted(commands, &mut replies, &mut meter);
+    Ok((meter.blocks(), meter.byte_pairs()))
+}
+
 #[test]
 fn wrong_password_raises_nothing_and_the_right_one_does(rt: HostRuntime) {
     let commands = [
@@ -138,4 +148,24 @@ fn names_counts_and_passwords_in_order(rt: HostRuntime) {
         found(500),
     ];
     assert!(rt; both_reply(rt.alloc(), &commands, &wanted));
+}
+
+// By docs/COSTS.md a record costs 2 blocks and 2 for each iteration, and under the longest name one
+// more. A password that raises its record costs both records, and a verification 32 pairs.
+#[test]
+fn list_costs_what_its_commands_cost(rt: HostRuntime) {
+    let commands = [
+        SET_NO_NAME,
+        SET_LONGEST_NAME,
+        VERIFY_NOBODY,
+        SET_ALICE,
+        MISTAKE_ALICE,
+        Command::SetIterations(iterations(2000)),
+        VERIFY_ALICE,
+        VERIFY_ALICE,
+        COUNT_OF_ALICE,
+    ];
+    let blocks = 2003 + 2002 + 2002 + 2002 + (2002 + 4002) + 4002;
+    let pairs = 4 * 32;
+    assert_eq!(rt; cost_of_list(rt.alloc(), &commands), Ok((blocks, pairs)));
 }

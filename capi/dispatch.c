@@ -34,11 +34,11 @@ static bool takes_v3(enum work work, uint32_t algorithm) {
 enum { V2 = 2, V3 = 3, ALGORITHMS = YZ_SHA512_256 + 1 };
 static const uint8_t BUILD[WORKS][ALGORITHMS] = {
     /*              none SHA-1 SHA-256 SHA-384 SHA-512 SHA-512/256 */
-    [DIGEST]        = {V2, V3,   V2,     V2,     V2,     V2},
+    [DIGEST]        = {V2, V3,   V3,     V3,     V3,     V3},
     [DIGEST_EACH]   = {V2, V3,   V3,     V3,     V3,     V3},
-    [HMAC]          = {V2, V3,   V2,     V2,     V2,     V2},
-    [HKDF]          = {V2, V3,   V2,     V2,     V2,     V2},
-    [PBKDF2_ROUND]  = {V2, V2,   V2,     V2,     V2,     V2},
+    [HMAC]          = {V2, V3,   V3,     V3,     V3,     V3},
+    [HKDF]          = {V2, V3,   V3,     V3,     V3,     V3},
+    [PBKDF2_ROUND]  = {V2, V3,   V2,     V3,     V3,     V3},
     [PBKDF2_ROUNDS] = {V2, V3,   V3,     V3,     V3,     V3},
 };
 

@@ -38,4 +38,6 @@ mod store;
 #[cfg(test)]
 mod texts;
 #[cfg(test)]
+mod updates;
+#[cfg(test)]
 mod wide_callers;

@@ -10,13 +10,20 @@ use ring::digest::{
 use ring::error::Unspecified;
 use ring::width::AVX2;
 
-const ALGORITHMS: [Algorithm; 5] = [SHA1_FOR_LEGACY_USE_ONLY, SHA256, SHA384, SHA512, SHA512_256];
+/// The five algorithms.
+pub const ALGORITHMS: [Algorithm; 5] = [
+    SHA1_FOR_LEGACY_USE_ONLY,
+    SHA256,
+    SHA384,
+    SHA512,
+    SHA512_256,
+];
 
 // How many lengths there are from 0 to 257.
 const LENS: usize = 258;
 
-// The most messages of a list.
-const MOST: usize = 20;
+/// The most messages of a list.
+pub const MOST: usize = 20;
 
 // The front of the bytes that has this length, counted round.
 fn front(bytes: &[u8; 257], len: usize) -> &[u8] {
@@ -91,8 +98,8 @@ fn agreement_side_by_side(rt: HostRuntime) {
     }
 }
 
-// Messages whose last blocks differ in number and in what they hold.
-fn mixed(bytes: &[u8; 257]) -> [&[u8]; MOST] {
+/// Messages whose last blocks differ in number and in what they hold.
+pub fn mixed(bytes: &[u8; 257]) -> [&[u8]; MOST] {
     [
         front(bytes, 0),
         front(bytes, 200),

@@ -68,6 +68,14 @@ static struct row rows[] = {
         .openssl = openssl_long,
     },
     {
+        .name = "64 KiB by 16 bytes",
+        .steps = 10,
+        .bytes = 65536,
+        .blocks = {1025, 1025, 513},
+        .ours = DIGESTS_OF_PIECES,
+        .openssl = openssl_pieces,
+    },
+    {
         .name = "four of 64 bytes",
         .steps = 2500,
         .blocks = {8, 8, 4},
@@ -87,7 +95,7 @@ static struct row rows[] = {
 };
 
 // The rows of four messages come last, and have a table of their own.
-enum { ROWS = sizeof rows / sizeof rows[0], FOURS = 5 };
+enum { ROWS = sizeof rows / sizeof rows[0], FOURS = 6 };
 
 static int takes_part(const struct row *row, enum contender contender)
 {

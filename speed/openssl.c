@@ -11,7 +11,7 @@
 #include <stdlib.h>
 #include <string.h>
 
-enum { LONG_LEN = 65536, SHORT_LEN = 64, KEY_LEN = 32, SALT_LEN = 16, MAX_BLOCK_LEN = 128 };
+enum { LONG_LEN = 65536, SHORT_LEN = 64, PIECE_LEN = 16, KEY_LEN = 32, SALT_LEN = 16, MAX_BLOCK_LEN = 128 };
 
 static const unsigned char KEY_BYTE = 0x6b, SALT_BYTE = 0x73;
 
@@ -38,9 +38,9 @@ static EVP_MD *fetched(const char *hash)
     return digest;
 }
 
-// Digests of so many messages, one after another, each written over the front of its message: they
-// are alike, and the front of the last is given.
-static uint64_t digests(const char *hash, size_t len, int count, uint32_t steps)
+// Digests of so many messages, one after another, each taken in pieces and written over the front of
+// its message: they are alike, and the front of the last is given.
+static uint64_t digests(const char *hash, size_t len, size_t piece_len, int count, uint32_t steps)
 {
     static unsigned char messages[4][LONG_LEN];
     EVP_MD *digest = fetched(hash);
@@ -51,7 +51,8 @@ static uint64_t digests(const char *hash, size_t len, int count, uint32_t steps)
     for (uint32_t step = 0; step < steps; step++)
         for (int i = 0; i < count; i++) {
             must(EVP_DigestInit_ex2(context, digest, NULL));
-            must(EVP_DigestUpdate(context, messages[i], len));
+            for (size_t at = 0; at < len; at += piece_len)
+                must(EVP_DigestUpdate(context, messages[i] + at, piece_len));
             must(EVP_DigestFinal_ex(context, messages[i], NULL));
         }
     EVP_MD_CTX_free(context);
@@ -61,22 +62,27 @@ static uint64_t digests(const char *hash, size_t len, int count, uint32_t steps)
 
 uint64_t openssl_long(const char *hash, uint32_t steps)
 {
-    return digests(hash, LONG_LEN, 1, steps);
+    return digests(hash, LONG_LEN, LONG_LEN, 1, steps);
 }
 
 uint64_t openssl_short(const char *hash, uint32_t steps)
 {
-    return digests(hash, SHORT_LEN, 1, steps);
+    return digests(hash, SHORT_LEN, SHORT_LEN, 1, steps);
 }
 
 uint64_t openssl_four_long(const char *hash, uint32_t steps)
 {
-    return digests(hash, LONG_LEN, 4, steps);
+    return digests(hash, LONG_LEN, LONG_LEN, 4, steps);
 }
 
 uint64_t openssl_four_short(const char *hash, uint32_t steps)
 {
-    return digests(hash, SHORT_LEN, 4, steps);
+    return digests(hash, SHORT_LEN, SHORT_LEN, 4, steps);
+}
+
+uint64_t openssl_pieces(const char *hash, uint32_t steps)
+{
+    return digests(hash, LONG_LEN, PIECE_LEN, 1, steps);
 }
 
 static EVP_MAC_CTX *signing(const char *hash)

@@ -15,6 +15,7 @@ enum work {
     KIT_LONG_DIGESTS,
     FOUR_SHORT_DIGESTS,
     FOUR_LONG_DIGESTS,
+    DIGESTS_OF_PIECES,
 };
 
 // The hash functions are SHA-1, SHA-256 and SHA-512, from 0.
@@ -30,6 +31,6 @@ uint64_t ring_speed_verify(uint32_t name, uint32_t steps);
 typedef uint64_t openssl_work(const char *hash, uint32_t steps);
 
 openssl_work openssl_blocks, openssl_iterates, openssl_tags, openssl_short, openssl_long;
-openssl_work openssl_four_short, openssl_four_long;
+openssl_work openssl_four_short, openssl_four_long, openssl_pieces;
 
 #endif

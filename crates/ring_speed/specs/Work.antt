@@ -20,6 +20,7 @@ use Rattle.ring_speed.specs.declared.work.Work.TheVariants.{Blocks, Iterates, Ta
 use Rattle.ring_speed.specs.declared.work.Work.TheVariants.{ShortDigests, LongDigests}
 use Rattle.ring_speed.specs.declared.work.Work.TheVariants.{KitShortDigests, KitLongDigests}
 use Rattle.ring_speed.specs.declared.work.Work.TheVariants.{FourShortDigests, FourLongDigests}
+use Rattle.ring_speed.specs.declared.work.Work.TheVariants.{DigestsOfPieces}
 use Rattle.sha1.specs.Sha1.{sha1}
 use Rattle.sha2.specs.Sha256.{sha256}
 use Rattle.sha2.specs.Sha512.{sha512}
@@ -55,6 +56,7 @@ given KitShortDigests h n = front (message_after (kit_digest_of h) SHORT_LEN n)
 given KitLongDigests h n = front (message_after (kit_digest_of h) LONG_LEN n)
 given FourShortDigests h n = front (message_after (digest_of (algorithm_of h)) SHORT_LEN n)
 given FourLongDigests h n = front (message_after (digest_of (algorithm_of h)) LONG_LEN n)
+given DigestsOfPieces h n = front (message_after (digest_of (algorithm_of h)) LONG_LEN n)
 
 -- the hash function of a number
 abbrev pub hash_named : ℕ → Option Hash
@@ -76,6 +78,7 @@ work_named number =
     else if nat_eq number 7 then Some KitLongDigests
     else if nat_eq number 8 then Some FourShortDigests
     else if nat_eq number 9 then Some FourLongDigests
+    else if nat_eq number 10 then Some DigestsOfPieces
     else None
 
 -- what a call gives: 0 where a number names nothing

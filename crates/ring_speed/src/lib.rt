@@ -12,6 +12,7 @@ mod fours;
 mod hash;
 mod kit;
 mod message;
+mod pieces;
 mod tags;
 mod verifications;
 mod work;

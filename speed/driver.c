@@ -92,6 +92,15 @@ static struct row rows[] = {
         .openssl = openssl_four_long,
         .one = &rows[4],
     },
+    {
+        .name = "four updated at once",
+        .steps = 5,
+        .bytes = 4 * 65536,
+        .blocks = {4100, 4100, 2052},
+        .ours = FOUR_CONTEXTS,
+        .openssl = openssl_four_long,
+        .one = &rows[4],
+    },
 };
 
 // The rows of four messages come last, and have a table of their own.

@@ -16,6 +16,7 @@ enum work {
     FOUR_SHORT_DIGESTS,
     FOUR_LONG_DIGESTS,
     DIGESTS_OF_PIECES,
+    FOUR_CONTEXTS,
 };
 
 // The hash functions are SHA-1, SHA-256 and SHA-512, from 0.

@@ -20,7 +20,7 @@ use Rattle.ring_speed.specs.declared.work.Work.TheVariants.{Blocks, Iterates, Ta
 use Rattle.ring_speed.specs.declared.work.Work.TheVariants.{ShortDigests, LongDigests}
 use Rattle.ring_speed.specs.declared.work.Work.TheVariants.{KitShortDigests, KitLongDigests}
 use Rattle.ring_speed.specs.declared.work.Work.TheVariants.{FourShortDigests, FourLongDigests}
-use Rattle.ring_speed.specs.declared.work.Work.TheVariants.{DigestsOfPieces}
+use Rattle.ring_speed.specs.declared.work.Work.TheVariants.{DigestsOfPieces, FourContexts}
 use Rattle.sha1.specs.Sha1.{sha1}
 use Rattle.sha2.specs.Sha256.{sha256}
 use Rattle.sha2.specs.Sha512.{sha512}
@@ -57,6 +57,7 @@ given KitLongDigests h n = front (message_after (kit_digest_of h) LONG_LEN n)
 given FourShortDigests h n = front (message_after (digest_of (algorithm_of h)) SHORT_LEN n)
 given FourLongDigests h n = front (message_after (digest_of (algorithm_of h)) LONG_LEN n)
 given DigestsOfPieces h n = front (message_after (digest_of (algorithm_of h)) LONG_LEN n)
+given FourContexts h n = front (message_after (digest_of (algorithm_of h)) LONG_LEN n)
 
 -- the hash function of a number
 abbrev pub hash_named : ℕ → Option Hash
@@ -79,6 +80,7 @@ work_named number =
     else if nat_eq number 8 then Some FourShortDigests
     else if nat_eq number 9 then Some FourLongDigests
     else if nat_eq number 10 then Some DigestsOfPieces
+    else if nat_eq number 11 then Some FourContexts
     else None
 
 -- what a call gives: 0 where a number names nothing

@@ -6,6 +6,7 @@
 #![tactic(auto)]
 
 mod blocks;
+mod contexts;
 mod derivations;
 mod digests;
 mod fours;

@@ -5,7 +5,7 @@ ghost use Rattle.ring_speed.specs.Work.{answer, given, hash_named, work_named};
 
 use crate::hash::Hash;
 use crate::message::{LONG_LEN, SHORT_LEN};
-use crate::{blocks, derivations, digests, fours, kit, pieces, tags};
+use crate::{blocks, contexts, derivations, digests, fours, kit, pieces, tags};
 
 // A piece of work.
 #[derive(Clone, Copy)]
@@ -20,6 +20,7 @@ pub(crate) enum Work {
     FourShortDigests,
     FourLongDigests,
     DigestsOfPieces,
+    FourContexts,
 }
 
 // The piece of work of a number.
@@ -37,6 +38,7 @@ fn work_of_number(number: u32) -> Option<Work>
         8 => Some(Work::FourShortDigests),
         9 => Some(Work::FourLongDigests),
         10 => Some(Work::DigestsOfPieces),
+        11 => Some(Work::FourContexts),
         _ => None,
     }
 }
@@ -56,6 +58,7 @@ fn done(work: Work, hash: Hash, steps: u32) -> u64
         Work::FourShortDigests => fours::front_after::<SHORT_LEN>(hash, steps),
         Work::FourLongDigests => fours::front_after::<LONG_LEN>(hash, steps),
         Work::DigestsOfPieces => pieces::front_after::<LONG_LEN>(hash, steps),
+        Work::FourContexts => contexts::front_after::<LONG_LEN>(hash, steps),
     }
 }
 
@@ -70,6 +73,7 @@ fn done(work: Work, hash: Hash, steps: u32) -> u64
 /// | 6, 7 | the same by the crates `sha1` and `sha2` |
 /// | 8, 9 | digests of four messages at once, of 64 bytes, and of 64 KiB |
 /// | 10 | a digest of 64 KiB, by a context that takes 16 bytes at a time |
+/// | 11 | digests of four messages of 64 KiB, by contexts that are updated at once |
 ///
 /// | `hash` | |
 /// |---|---|

@@ -1,4 +1,5 @@
 #!/bin/sh
+# SPDX-License-Identifier: ISC
 # Copies the unpacked tree below a prefix, or removes it from there:
 #
 #     ./install.sh [PREFIX]

@@ -1,3 +1,4 @@
+# SPDX-License-Identifier: ISC
 """What pip asks for to install this folder (PEP 517 and 660), with a C compiler and no package.
 
 The extension is compiled from native/, over yezdopin.h and libyezdopin.a, which is linked in.

@@ -1,3 +1,4 @@
+// SPDX-License-Identifier: ISC
 //! Links libyezdopin.a: that of the folder YEZDOPIN_LIB_DIR, that for the target's processor in the
 //! folder prebuilt/, which the packaged crate has, or where it is installed.
 

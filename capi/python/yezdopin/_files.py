@@ -1,3 +1,4 @@
+# SPDX-License-Identifier: ISC
 """Digests of files."""
 
 from __future__ import annotations

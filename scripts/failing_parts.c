@@ -1,3 +1,4 @@
+/* SPDX-License-Identifier: ISC */
 /* Loaded into a program before the C library: requests for memory, reads of standard input and
  * writes of standard output fail by number, as scripts/failing_parts asks in the environment.
  * Calls are counted from 1. */

@@ -1,3 +1,4 @@
+# SPDX-License-Identifier: ISC
 """What the scripts know of a library: its modules, what is public in them, and each item's comment,
 signature and clauses."""
 

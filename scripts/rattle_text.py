@@ -1,3 +1,4 @@
+# SPDX-License-Identifier: ISC
 """What a search knows of the text of a source file: where its brackets close, and its functions."""
 
 import dataclasses

@@ -1,3 +1,4 @@
+/* SPDX-License-Identifier: ISC */
 // Times the work of `crates/ring_speed` beside the same work by OpenSSL, once all agree on what it
 // gives, and prints a table of ratios. All take turns, again and again, and the least times count.
 #include "lines.h"

@@ -1,3 +1,4 @@
+/* SPDX-License-Identifier: ISC */
 // Lines of the bench as texts of random digits, and the time that a program takes over such a text.
 #ifndef LINES_H
 #define LINES_H

@@ -1,3 +1,4 @@
+/* SPDX-License-Identifier: ISC */
 // The work of `crates/ring_speed` by OpenSSL: what it gives is the same.
 #define OPENSSL_SUPPRESS_DEPRECATED // OpenSSL 3 has no other way to a block function alone.
 

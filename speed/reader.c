@@ -1,3 +1,4 @@
+/* SPDX-License-Identifier: ISC */
 // Answers the lines of the bench that speed/lines.c writes, as a plain program over OpenSSL would,
 // and without the number of blocks. Any other line ends it with 1.
 #define _GNU_SOURCE

@@ -1,3 +1,4 @@
+/* SPDX-License-Identifier: ISC */
 // The work that is timed, in so many steps. `crates/ring_speed` says what each gives.
 #ifndef WORK_H
 #define WORK_H

@@ -1,3 +1,4 @@
+/* SPDX-License-Identifier: ISC */
 /* The calls beside OpenSSL's and libsodium's, each where its header was there: our times, and their
  * ratios to theirs. All take turns at all work, on one processor, with the stack in changing places
  * of its page; of each the least processor time of all turns counts. Before, all must give the same

@@ -1,3 +1,4 @@
+/* SPDX-License-Identifier: ISC */
 /* Digests of several messages by one call, over those of as many calls: below 1 the one call is the
  * faster. Both take turns, and of each the least processor time of all turns counts. */
 #include "party.h"

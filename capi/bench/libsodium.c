@@ -1,3 +1,4 @@
+/* SPDX-License-Identifier: ISC */
 /* The work by libsodium, which has no SHA-1, no PBKDF2, and in 1.0.18 no HKDF. */
 #include "party.h"
 

@@ -1,3 +1,4 @@
+/* SPDX-License-Identifier: ISC */
 /* The work by OpenSSL 3, called as its manual advises: what is fetched is fetched once, and where a
  * call takes a context, that is made once for all calls. */
 #include "party.h"

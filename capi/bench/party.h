@@ -1,3 +1,4 @@
+/* SPDX-License-Identifier: ISC */
 /* What each library of the bench has to offer. */
 #ifndef PARTY_H
 #define PARTY_H

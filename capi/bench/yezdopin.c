@@ -1,3 +1,4 @@
+/* SPDX-License-Identifier: ISC */
 /* The work by these calls. */
 #include "yezdopin.h"
 #include "party.h"

@@ -1,3 +1,4 @@
+# SPDX-License-Identifier: ISC
 # Packages of the built library, for users without the Rattle kit, into out/dist with SHA256SUMS:
 #
 #     make dist; make dist-check; make ARCH=aarch64 dist; make ARCH=aarch64 dist-check

@@ -1,4 +1,5 @@
 #!/bin/sh
+# SPDX-License-Identifier: ISC
 # Copies the unpacked tree below a prefix, or removes it from there:
 #
 #     ./install.sh [PREFIX]
@@ -9,6 +10,12 @@
 set -eu
 processor=@processor@
 action=install
+case ${1:-} in
+--help | -h)
+    sed -n '3,/^set /{ s/^# \{0,1\}//p; }' "$0"
+    exit
+    ;;
+esac
 if [ "${1:-}" = --uninstall ]; then
     action=uninstall
     shift
@@ -44,6 +51,7 @@ install() {
     test_processor
     mkdir -p "$root"
     cp -RP include lib share "$root"
+    echo "libyezdopin is installed below $root"
 }
 
 uninstall() {
@@ -53,6 +61,7 @@ uninstall() {
     for folder in lib/cmake/yezdopin share/doc/yezdopin/examples share/doc/yezdopin; do
         [ ! -d "$root/$folder" ] || rmdir "$root/$folder"
     done
+    echo "libyezdopin is removed from $root"
 }
 
 $action

@@ -1,3 +1,4 @@
+/* SPDX-License-Identifier: ISC */
 /* Signs its first argument under its second, and verifies what it signed:
  * cc sign.c $(pkg-config --cflags --libs yezdopin) && ./a.out "a message" "a key"
  * Other users can see arguments: a key that matters comes from elsewhere. */

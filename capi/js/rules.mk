@@ -1,3 +1,4 @@
+# SPDX-License-Identifier: ISC
 # The package for JavaScript, in the folder above's Makefile:
 #
 #     make js            # builds it, in out/js/package

@@ -1,3 +1,4 @@
+# SPDX-License-Identifier: ISC
 # The OpenSSL provider, in the folder above's Makefile:
 #
 #     make openssl; make openssl-check; make openssl-bench

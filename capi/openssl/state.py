@@ -1,3 +1,4 @@
+# SPDX-License-Identifier: ISC
 """What the configuration makes of OpenSSL: `state.py` prints a line such as
 
     TLS 304, level 3, SHA-256 of yezdopin

@@ -1,3 +1,4 @@
+# SPDX-License-Identifier: ISC
 """What pip asks for to install this folder (PEP 517 and 660), with a C compiler and no package.
 
 The extension is compiled from native/, over yezdopin.h and libyezdopin.a, which is linked in.
@@ -103,11 +104,17 @@ def _license() -> bytes:
 
 def _metadata() -> bytes:
     """The package's metadata, for a wheel or an sdist."""
-    return f"""Metadata-Version: 2.1
+    authors = ", ".join(it["name"] for it in PROJECT["authors"])
+    classifiers = "\n".join(f"Classifier: {it}" for it in PROJECT["classifiers"])
+    return f"""Metadata-Version: 2.4
 Name: {PROJECT["name"]}
 Version: {PROJECT["version"]}
 Summary: {PROJECT["description"]}
-License: {PROJECT["license"]}
+Author: {authors}
+License-Expression: {PROJECT["license"]}
+License-File: LICENSE
+Keywords: {",".join(PROJECT["keywords"])}
+{classifiers}
 Requires-Python: {PROJECT["requires-python"]}
 Description-Content-Type: text/markdown
 
@@ -124,7 +131,7 @@ def _write_wheel(directory: str, files: list[tuple[str, bytes]], tag: str) -> st
     """Writes a wheel of some files, and gives its name."""
     info, name = f"{STEM}.dist-info", f"{STEM}-{tag}.whl"
     about = f"Wheel-Version: 1.0\nGenerator: {STEM}\nRoot-Is-Purelib: false\nTag: {tag}\n"
-    files += [(f"{info}/METADATA", _metadata()), (f"{info}/LICENSE", _license())]
+    files += [(f"{info}/METADATA", _metadata()), (f"{info}/licenses/LICENSE", _license())]
     files += [(f"{info}/WHEEL", about.encode())]
     record = ""
     for path, data in files:

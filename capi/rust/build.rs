@@ -1,5 +1,6 @@
+// SPDX-License-Identifier: ISC
 //! Links libyezdopin.a: that of the folder YEZDOPIN_LIB_DIR, that for the target's processor in the
-//! folder prebuilt/, which the packaged crate has, or where it is installed.
+//! folder prebuilt/, which the packaged crate has, what `make -C capi` built, or where it is installed.
 
 use std::env;
 use std::path::PathBuf;
@@ -42,7 +43,15 @@ fn folders(processor: &str) -> Vec<PathBuf> {
         return vec![folder.into()];
     }
     let package = env::var_os("CARGO_MANIFEST_DIR").expect("cargo names the package's folder");
-    let mut folders = vec![PathBuf::from(package).join("prebuilt").join(processor)];
+    let package = PathBuf::from(package);
+    let mut folders = vec![package.join("prebuilt").join(processor)];
+    // The folders above a packaged crate, which has this file, are anyone's.
+    if !package.join("Cargo.toml.orig").is_file() {
+        folders.push(package.join("../out").join(processor));
+        if env::var("HOST").map_or(false, |it| it.starts_with(processor)) {
+            folders.push(package.join("../out"));
+        }
+    }
     folders.extend(told());
     // Where archives are installed, where pkg-config doesn't tell.
     let debian = format!("/usr/lib/{processor}-linux-gnu");

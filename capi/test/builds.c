@@ -1,3 +1,4 @@
+/* SPDX-License-Identifier: ISC */
 /* The builds for x86-64-v2 and x86-64-v3 are one library. Contexts and keys have the same bytes
  * whichever build made or advanced them, so each step may be taken by either: a digest and a tag in
  * pieces is made by each build and ended by the other, and made again by a build that is drawn for

@@ -1,3 +1,4 @@
+/* SPDX-License-Identifier: ISC */
 /* Run under valgrind, with every secret marked as memory that was never written: memcheck then
  * reports each jump and each address that depends on one. What a call answers is made known before
  * it is looked at. The planted bodies, whose jumps or addresses do depend on secrets, must be

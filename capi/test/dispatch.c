@@ -1,3 +1,4 @@
+/* SPDX-License-Identifier: ISC */
 /* Which build dispatch.c chooses, also on processors that lack a part of x86-64-v3, and that it
  * hands on each argument and the status. The calls of the builds are stand-ins here. With an
  * argument it prints which build gets which call, as README.md has it. */

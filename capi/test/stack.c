@@ -1,3 +1,4 @@
+/* SPDX-License-Identifier: ISC */
 /* How much stack the calls take: each is run on a stack of its own that was painted before. */
 #define _GNU_SOURCE
 #include "yezdopin.h"

@@ -1,3 +1,4 @@
+/* SPDX-License-Identifier: ISC */
 /* Each status of each call, NULL at length 0, several messages, messages in pieces, copies in
  * mid-stream, and garbage in the place of contexts and keys. Values come from the standards, named
  * where they stand. */

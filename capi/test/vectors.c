@@ -1,3 +1,4 @@
+/* SPDX-License-Identifier: ISC */
 /* Answers each line of the files that it is given (docs/LINES.md has their format) by these calls,
  * and compares with what stands behind `#= ` below the line, but for the number of blocks. The
  * digests are answered once more, all of an algorithm by one call. */

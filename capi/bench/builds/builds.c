@@ -1,3 +1,4 @@
+/* SPDX-License-Identifier: ISC */
 /* The calls that dispatch.c hands on: their times in the build for x86-64-v2, and those in the one
  * for x86-64-v3 over them, below 1 where that is the faster, which its table should then name. Both
  * take turns, bound to one processor, and of each the least processor time of all turns counts. */

@@ -1,3 +1,4 @@
+// SPDX-License-Identifier: ISC
 // Times of the package beside others', in Node and in browsers. All take turns at each work, and of
 // each the least time of a call counts.
 

@@ -1,3 +1,4 @@
+// SPDX-License-Identifier: ISC
 // node bench/node.mjs PACKAGE: the package beside node:crypto and WebCrypto, and beside sha.js and
 // hash.js where they are found, such as Debian's node-sha.js and node-hash.js by NODE_PATH.
 

@@ -1,3 +1,4 @@
+# SPDX-License-Identifier: ISC
 """Turns a WebAssembly module whose memory has 64-bit addresses into one with 32-bit addresses:
 
     python3 lower.py MODULE64 MODULE32 EXPORT..

@@ -1,3 +1,4 @@
+// SPDX-License-Identifier: ISC
 // The page: what is dropped and typed goes to a worker, and what it answers into the page.
 
 import { baseOf, lineOf, parseList } from "./lists.js";

@@ -1,3 +1,4 @@
+// SPDX-License-Identifier: ISC
 // Lists of checksums, as sha256sum and its like write and read them.
 
 // The algorithms by how many digits a checksum has.

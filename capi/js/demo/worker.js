@@ -1,3 +1,4 @@
+// SPDX-License-Identifier: ISC
 // Digests and keys, beside the page: a digest's progress and each answer are posted to it. It
 // listens before the package is loaded, so that no message is lost.
 

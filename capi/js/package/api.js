@@ -1,3 +1,4 @@
+// SPDX-License-Identifier: ISC
 // What the package exports, in the shape of node:crypto.
 
 import * as calls from "./calls.js";

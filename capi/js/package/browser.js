@@ -1,3 +1,4 @@
+// SPDX-License-Identifier: ISC
 // For browsers: fetches and compiles the module that lies beside this file.
 
 import { start } from "./calls.js";

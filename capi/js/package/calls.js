@@ -1,3 +1,4 @@
+// SPDX-License-Identifier: ISC
 // The calls of the module, over bytes that JavaScript holds. A call copies what it reads into the
 // module's memory and what it writes out of it, and then wipes both and the module's stack. The
 // module keeps nothing between two calls, so that it can be made anew.

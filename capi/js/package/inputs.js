@@ -1,3 +1,4 @@
+// SPDX-License-Identifier: ISC
 // What callers pass, turned to what the calls of the module take. None of it is believed to be of
 // its class: a class derived from Uint8Array may say anything of its length.
 

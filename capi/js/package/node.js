@@ -1,3 +1,4 @@
+// SPDX-License-Identifier: ISC
 // For Node: compiles the module that lies beside this file.
 
 import { readFileSync } from "node:fs";

@@ -1,3 +1,4 @@
+// SPDX-License-Identifier: ISC
 // A message that comes in pieces, from a Blob, a stream or whatever iterates.
 
 const PIECE_LEN = 4 * 1024 * 1024;

@@ -1,3 +1,4 @@
+// SPDX-License-Identifier: ISC
 /** Of HMAC, HKDF and PBKDF2, in letters of either case. SHA-1 is broken: for old data alone. */
 export type HmacAlgorithm = "sha1" | "sha256" | "sha384" | "sha512"
   | "SHA-1" | "SHA-256" | "SHA-384" | "SHA-512" | { name: string };

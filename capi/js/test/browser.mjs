@@ -1,3 +1,4 @@
+// SPDX-License-Identifier: ISC
 // node browser.mjs COMMAND..: opens test/page.html in a browser and prints what it reports; {} in
 // the command is the page's address. It ends with 1 where a vector disagrees, and with 2 where
 // nothing is reported.

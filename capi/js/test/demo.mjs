@@ -1,3 +1,4 @@
+// SPDX-License-Identifier: ISC
 // node demo.mjs BROWSER FOLDER [SCREENSHOT]: uses the demonstration as a person does, in Chromium
 // by its DevTools protocol, and compares what the page shows with node:crypto.
 

@@ -1,3 +1,4 @@
+// SPDX-License-Identifier: ISC
 // jsc -m jsc.mjs -- PACKAGE VECTORS: the vectors under JavaScriptCore, Safari's engine, without a
 // page.
 

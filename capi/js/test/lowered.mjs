@@ -1,3 +1,4 @@
+// SPDX-License-Identifier: ISC
 // node lowered.mjs MODULE64 MODULE32 [TURNS]: both modules side by side, by calls at random, on
 // garbage too. After each call the answers and the whole memories must be the same. It ends with
 // status 1 where they aren't.

@@ -1,3 +1,4 @@
+// SPDX-License-Identifier: ISC
 // node --test: the package in the folder PACKAGE, over the files of VECTORS.
 
 import assert from "node:assert/strict";

@@ -1,3 +1,4 @@
+// SPDX-License-Identifier: ISC
 // Runs the vectors in a browser, in the page and in a worker, and reports to the server.
 
 import { FILES, run } from "./vectors.mjs";

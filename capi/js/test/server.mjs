@@ -1,3 +1,4 @@
+// SPDX-License-Identifier: ISC
 // Serves the package, the pages and the vectors to a browser on this machine, under a content
 // policy as README.md has it.
 

@@ -1,3 +1,4 @@
+# SPDX-License-Identifier: ISC
 """Gives a lowered module an import that each address and each condition is told to, in their order:
 
     python3 traced.py MODULE32 TRACED PLANTED

@@ -1,3 +1,4 @@
+// SPDX-License-Identifier: ISC
 // node traces.mjs TRACED PLANTED: whether an address or a condition of the module depends on a
 // secret. Each call that takes one, at many lengths, must tell the same whatever the secrets are.
 // Each body of the module with leaks must not. It ends with status 1 where that isn't so.

@@ -1,3 +1,4 @@
+// SPDX-License-Identifier: ISC
 // tsc --noEmit: the types of the package. A line with an error must have it.
 
 import {

@@ -1,3 +1,4 @@
+// SPDX-License-Identifier: ISC
 // Answers lines of vectors/ (docs/LINES.md) by the package, and compares with what stands behind
 // `#= `. It runs in Node and in browsers.
 

@@ -1,3 +1,4 @@
+// SPDX-License-Identifier: ISC
 // The vectors in a worker. It listens before the package is loaded, so that no message is lost.
 
 import { run } from "./vectors.mjs";

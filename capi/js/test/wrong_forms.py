@@ -1,3 +1,4 @@
+# SPDX-License-Identifier: ISC
 """That wrong forms of build/lower.py are found, and that it refuses what it doesn't list:
 
     NODE=node python3 wrong_forms.py MODULE64 FOLDER NODE_FLAG EXPORT..

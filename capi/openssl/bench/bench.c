@@ -1,3 +1,4 @@
+/* SPDX-License-Identifier: ISC */
 /* The time of work through OpenSSL's EVP calls by this provider and by the default one. Both take
  * turns, and of each the least processor time counts. For digests of 64 bytes it also measures the
  * library's call alone, without EVP and the provider. bench MODULES */

@@ -1,3 +1,4 @@
+/* SPDX-License-Identifier: ISC */
 /* Compares the provider with OpenSSL's default one over random calls. agree MODULES CASES THREADS
  *
  * The last line tells how many answers were compared, how many of them refuse, and how many

@@ -1,3 +1,4 @@
+/* SPDX-License-Identifier: ISC */
 /* What the files of the random comparison share. Each case makes the same calls of both providers,
  * good and bad, and compares what each call returns and writes. */
 #ifndef YEZDOPIN_AGREE_H

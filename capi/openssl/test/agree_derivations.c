@@ -1,3 +1,4 @@
+/* SPDX-License-Identifier: ISC */
 /* HKDF and PBKDF2 over random parameters, of which some are missing or wrong. */
 #include "agree.h"
 #include <string.h>

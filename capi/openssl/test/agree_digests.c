@@ -1,3 +1,4 @@
+/* SPDX-License-Identifier: ISC */
 /* Digests, in random pieces, begun anew and copied. */
 #include "agree.h"
 #include <string.h>

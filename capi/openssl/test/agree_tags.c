@@ -1,3 +1,4 @@
+/* SPDX-License-Identifier: ISC */
 /* HMAC: random calls in a random order. What both providers refuse may leave each in a state of its
  * own, and OpenSSL's goes on after its final call where ours refuses, so a case ends or passes over
  * a step there. */

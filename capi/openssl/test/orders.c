@@ -1,3 +1,4 @@
+/* SPDX-License-Identifier: ISC */
 /* Calls in wrong orders, and missing and wrong parameters, with and without the default provider
  * beside; records of TLS; loading and unloading in both orders. orders MODULES LOADS */
 #include "single.h"

@@ -1,3 +1,4 @@
+# SPDX-License-Identifier: ISC
 """A Python program as `programs` runs it, with the provider and without.
 
 `peer.py digests` prints what hashlib and hmac answer over all of their digests. `peer.py server ..` and

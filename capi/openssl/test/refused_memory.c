@@ -1,3 +1,4 @@
+/* SPDX-License-Identifier: ISC */
 /* Refuses each allocation of OpenSSL's and the provider's in turn, over calls of every kind: nothing
  * breaks, and what a call writes that says it is done is right. refused_memory MODULES */
 #include "single.h"

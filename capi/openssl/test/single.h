@@ -1,3 +1,4 @@
+/* SPDX-License-Identifier: ISC */
 /* What the tests of one provider share. */
 #ifndef YEZDOPIN_SINGLE_H
 #define YEZDOPIN_SINGLE_H

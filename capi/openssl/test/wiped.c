@@ -1,3 +1,4 @@
+/* SPDX-License-Identifier: ISC */
 /* Searches for keys, for what is made of them, and for messages: in each piece of memory that is
  * freed, and at the end in all writable memory but the stack. The test keeps its secrets masked, so
  * that it doesn't find itself. wiped MODULES */

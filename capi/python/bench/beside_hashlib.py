@@ -1,4 +1,5 @@
 #!/usr/bin/env python3
+# SPDX-License-Identifier: ISC
 """Times the package beside hashlib and hmac, both taking turns, as a table in Markdown.
 
     make -C capi python && PYTHONPATH=capi/out/python python3 capi/python/bench/beside_hashlib.py

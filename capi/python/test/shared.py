@@ -1,3 +1,4 @@
+# SPDX-License-Identifier: ISC
 """What the tests of the package's shape share."""
 
 import hashlib

@@ -1,3 +1,4 @@
+# SPDX-License-Identifier: ISC
 """Agreement with `hashlib` and `hmac`, whose answers are OpenSSL's, and with vectors/."""
 
 import doctest

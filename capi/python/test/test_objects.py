@@ -1,3 +1,4 @@
+# SPDX-License-Identifier: ISC
 """What holds contexts, keys and buffers: copies, pickles, threads, memory."""
 
 import array

@@ -1,3 +1,4 @@
+# SPDX-License-Identifier: ISC
 """What `hashlib` and `hmac` take, answer and raise: names, arguments, hashes, text, files."""
 
 import hashlib

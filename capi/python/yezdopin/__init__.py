@@ -1,3 +1,4 @@
+# SPDX-License-Identifier: ISC
 """Digests, HKDF and PBKDF2 in the shape of `hashlib`, by the proved calls of libyezdopin.
 
     >>> import yezdopin

@@ -1,3 +1,4 @@
+# SPDX-License-Identifier: ISC
 """The exception for what the library refuses."""
 
 from __future__ import annotations

@@ -1,16 +1,33 @@
+# SPDX-License-Identifier: ISC
 """Digests of files."""
 
 from __future__ import annotations
 
-from typing import Any, Callable
+from typing import TYPE_CHECKING, Any, Callable, Protocol, TypeVar, overload
 
-from yezdopin._native import new
+from yezdopin._native import Digest, new
+
+if TYPE_CHECKING:
+    from _typeshed import ReadableBuffer
 
 __all__ = ["file_digest"]
 
 _PIECE_LEN = 2**18
 
 
+class _Running(Protocol):
+    """What file_digest asks of an object of another hash."""
+
+    def update(self, data: ReadableBuffer, /) -> Any: ...
+
+
+_Hash = TypeVar("_Hash", bound=_Running)
+
+
+@overload
+def file_digest(fileobj: Any, digest: str, /, *, _bufsize: int = ...) -> Digest: ...
+@overload
+def file_digest(fileobj: Any, digest: Callable[[], _Hash], /, *, _bufsize: int = ...) -> _Hash: ...
 def file_digest(
     fileobj: Any, digest: str | Callable[[], Any], /, *, _bufsize: int = _PIECE_LEN
 ) -> Any:

@@ -1,3 +1,4 @@
+# SPDX-License-Identifier: ISC
 """The types of the extension, which native/ has in C."""
 
 from typing import Any, Callable, Iterable, Self, final

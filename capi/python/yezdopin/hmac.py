@@ -1,3 +1,4 @@
+# SPDX-License-Identifier: ISC
 """Tags (HMAC, RFC 2104) in the shape of `hmac`, by the proved calls of libyezdopin.
 
     >>> from yezdopin import hmac

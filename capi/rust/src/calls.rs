@@ -1,3 +1,4 @@
+// SPDX-License-Identifier: ISC
 //! The calls as `yezdopin.h` declares them.
 
 #[repr(C)]

@@ -1,3 +1,4 @@
+// SPDX-License-Identifier: ISC
 //! Digests (FIPS 180-4).
 
 use crate::calls::{self, DigestContext, Message};

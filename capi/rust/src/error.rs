@@ -1,3 +1,4 @@
+// SPDX-License-Identifier: ISC
 //! Errors.
 
 use std::array::TryFromSliceError;

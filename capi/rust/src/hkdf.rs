@@ -1,3 +1,4 @@
+// SPDX-License-Identifier: ISC
 //! Keys from secrets: HKDF (RFC 5869).
 //!
 //! A secret is extracted once with a salt, and keys of any lengths are then expanded from what that

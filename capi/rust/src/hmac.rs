@@ -1,3 +1,4 @@
+// SPDX-License-Identifier: ISC
 //! Tags of messages under keys: HMAC (RFC 2104, FIPS 198-1).
 //!
 //! A tag under a random key, and its verification:

@@ -1,3 +1,4 @@
+// SPDX-License-Identifier: ISC
 //! Digests, HMAC, HKDF and PBKDF2 with the names of `ring` 0.17, over the proved library
 //! `libyezdopin`.
 //!

@@ -1,3 +1,4 @@
+// SPDX-License-Identifier: ISC
 //! Keys from passwords: PBKDF2 (RFC 2898, section 5.2).
 //!
 //! ```

@@ -1,3 +1,4 @@
+// SPDX-License-Identifier: ISC
 //! Random bytes from the operating system.
 //!
 //! ```

@@ -1,3 +1,4 @@
+// SPDX-License-Identifier: ISC
 //! What callers of `ring` write beside the calls that vectors/ tries: random keys and values,
 //! errors of their own, sources and contexts in other threads, texts.
 

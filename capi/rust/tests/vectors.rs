@@ -1,3 +1,4 @@
+// SPDX-License-Identifier: ISC
 //! The lines of vectors/, whose answers come from standards and from other implementations, and
 //! what they don't show: copies, keys that are made of outputs, comparison.
 

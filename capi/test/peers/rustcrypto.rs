@@ -1,3 +1,4 @@
+// SPDX-License-Identifier: ISC
 //! RustCrypto's own tests of its traits over the types of `yezdopin_rustcrypto`, and what it builds
 //! over them beside its own hash functions. The script of this name runs it.
 

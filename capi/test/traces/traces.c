@@ -1,3 +1,4 @@
+/* SPDX-License-Identifier: ISC */
 /* A plugin of qemu-user. Between two marks it sums the address of each instruction that runs and
  * each address that is read or written, in their order, and prints a line with the sum. So two runs
  * that differ in secrets alone print the same lines where no jump and no address depends on these.

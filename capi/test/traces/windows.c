@@ -1,3 +1,4 @@
+/* SPDX-License-Identifier: ISC */
 /* Each call that takes a secret, over all algorithms and many lengths, between two marks: a window.
  * The secrets are made from the argument, a number; lengths and all else are the same in each run.
  * The name of each window is printed. Those that are called planted leak; the others must not. */

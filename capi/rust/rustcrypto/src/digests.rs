@@ -1,3 +1,4 @@
+// SPDX-License-Identifier: ISC
 //! Digests (FIPS 180-4).
 
 use digest::consts::{U128, U20, U32, U48, U64};

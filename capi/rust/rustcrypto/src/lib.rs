@@ -1,3 +1,4 @@
+// SPDX-License-Identifier: ISC
 //! RustCrypto's traits of digests and tags (`digest` 0.10) over the proved library of [`yezdopin`].
 //!
 //! A type of this crate stands where code generic over these traits takes one of `sha1`, `sha2`, or

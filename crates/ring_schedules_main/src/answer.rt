@@ -1,7 +1,7 @@
 //! The answer to a line.
 
 use crate::fault::Fault;
-use crate::quic::initial_output;
+use crate::quic::{initial_output, packet_output};
 use crate::stages::{Inputs, stage_output};
 use crate::words::{bytes_in, copy_of, hash_in, room_in};
 use ring_schedules::extract::hkdf_extract;
@@ -16,9 +16,12 @@ pub fn answer(alloc: Global, line: &str) -> Result<Vec<u8>, Fault> {
             is_form(form, "extract")?;
             extracted(alloc, hash, salt, material)
         }
-        [form, version, id, side, output] => {
-            is_form(form, "quic")?;
+        [form, version, id, side, output] if *form == "quic" => {
             initial_output(alloc, [version, id, side], output)
+        }
+        [form, version, hash, secret, output] => {
+            is_form(form, "packet")?;
+            packet_output(alloc, version, [hash, secret], output)
         }
         [form, hash, secret, label, context, len] => {
             is_form(form, "expand-label")?;

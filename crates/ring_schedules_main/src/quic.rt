@@ -1,7 +1,7 @@
 //! What is asked of QUIC's initial secrets.
 
 use crate::fault::Fault;
-use crate::words::{bytes_in, copy_of, room_in};
+use crate::words::{bytes_in, copy_of, hash_in, room_in};
 use ring_schedules::quic::{
     Version, header_key, initial_secrets, next_secret, packet_iv, packet_key,
 };
@@ -28,6 +28,19 @@ pub fn initial_output(alloc: Global, initial: [&str; 3], output: &str) -> Result
         "server" => secret_output(alloc, version, secrets.server, output),
         _ => Err(Fault::BadLine),
     }
+}
+
+/// Of any secret of a hash: the same.
+pub fn packet_output(
+    alloc: Global,
+    version: &str,
+    secret: [&str; 2],
+    output: &str,
+) -> Result<Vec<u8>, Fault> {
+    let hash = hash_in(secret[0])?;
+    let bytes = bytes_in(alloc, secret[1])?;
+    let secret = Secret::new(hash, bytes.as_slice())?;
+    secret_output(alloc, version_in(version)?, secret, output)
 }
 
 /// Of a secret.

@@ -13,9 +13,10 @@ use crate::value::HashValue;
 use ring::error::Unspecified;
 use ring::hmac;
 
-/// HKDF-Extract(salt, IKM) (RFC 5869, section 2.2), of the input keying material `keying_material`.
+/// HKDF-Extract (RFC 5869, section 2.2): the pseudorandom key of `hash` that `salt` extracts from
+/// the input keying material `keying_material`.
 ///
-/// Refused where the salt, or one block and `keying_material` together, is longer than the digest
+/// Refused where the salt, or one block and the keying material together, is longer than the digest
 /// algorithm's `max_input_len` bytes.
 pub fn hkdf_extract(hash: Hash, salt: &[u8], keying_material: &[u8]) -> Result<Secret, Unspecified>
     ensures ok { IfOk result (λ prk. secret_bytes prk ≡ extract hash salt.now keying_material.now) }

@@ -1,14 +1,14 @@
 //! What is asked of a Finished key.
 
+ghost use Rattle.std.specs.Prelude.{◌≡◌};
+ghost use Rattle.ring_schedules.specs.Stages.{finished_hash};
+
 use crate::fault::Fault;
 use crate::words::{bytes_in, copy_of};
 use ring_schedules::hash::Hash;
 use ring_schedules::tls13::FinishedKey;
 use ring_schedules::transcript::{BeforeFinished, TranscriptHash};
 use std::alloc::Global;
-
-ghost use Rattle.std.specs.Prelude.{◌≡◌};
-ghost use Rattle.ring_schedules.specs.Stages.{finished_hash};
 
 /// The key, or the verify_data of a transcript hash, which has to be verified too.
 pub fn finished_output(

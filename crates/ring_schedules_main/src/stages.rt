@@ -115,13 +115,23 @@ fn binder_output(
 }
 
 /// Of a secret of the first stage.
-fn early_output(alloc: Global, inputs: &Inputs, name: &str, output: &str) -> Result<Vec<u8>, Fault> {
+fn early_output(
+    alloc: Global,
+    inputs: &Inputs,
+    name: &str,
+    output: &str,
+) -> Result<Vec<u8>, Fault> {
     let hash = inputs.hash;
     let hello = TranscriptHash::new(ClientHello, hash, inputs.digest.as_slice())?;
     let early = early_of(hash, &inputs.psk)?;
     match name {
         "c-e-traffic" => {
-            traffic_output(alloc, hash, early.client_early_traffic_secret(&hello), output)
+            traffic_output(
+                alloc,
+                hash,
+                early.client_early_traffic_secret(&hello),
+                output,
+            )
         }
         _ => exporter_output(alloc, &early.early_exporter_master_secret(&hello), output),
     }
@@ -172,5 +182,9 @@ fn last_output(alloc: Global, inputs: &Inputs, output: &str) -> Result<Vec<u8>, 
     let hash = inputs.hash;
     let to_client = TranscriptHash::new(ClientFinished, hash, inputs.digest.as_slice())?;
     let master = master_of(hash, &inputs.psk, &inputs.shared)?;
-    resumption_output(alloc, &master.into_resumption_master_secret(&to_client), output)
+    resumption_output(
+        alloc,
+        &master.into_resumption_master_secret(&to_client),
+        output,
+    )
 }

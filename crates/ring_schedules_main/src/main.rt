@@ -1,8 +1,8 @@
 //! Answers lines that ask for one secret or key of a schedule, for `scripts/schedules`.
 //! `docs/SCHEDULES.md` has the forms of the lines.
 //!
-//! An answer is the bytes in hex, `refused` or `bad line`. Empty lines and those with a `#` at their
-//! start have none.
+//! An answer is the bytes in hex, `refused` or `bad line`. Empty lines and those with a `#` at
+//! their start have none.
 #![tactic(auto)]
 
 use crate::answer::answer;

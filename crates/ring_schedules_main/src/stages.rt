@@ -25,8 +25,8 @@ pub struct Inputs {
 }
 
 impl Inputs {
-    /// The inputs of three words: a PSK, an (EC)DHE secret, each `none` where there is none, and the
-    /// hash of a transcript.
+    /// The inputs of three words: a PSK and an (EC)DHE secret, each `none` where there is none, and
+    /// the hash of a transcript.
     pub fn new(alloc: Global, hash: &str, words: [&str; 3]) -> Result<Self, Fault> {
         Ok(Inputs {
             hash: hash_in(hash)?,

@@ -1,0 +1,70 @@
+//! The answer to a line.
+
+use crate::fault::Fault;
+use crate::quic::{initial_output, packet_output};
+use crate::stages::{Inputs, stage_output};
+use crate::words::{bytes_in, copy_of, hash_in, room_in};
+use ring_schedules::extract::hkdf_extract;
+use ring_schedules::label::hkdf_expand_label;
+use std::alloc::Global;
+
+/// The bytes that a line asks for.
+pub fn answer(alloc: Global, line: &str) -> Result<Vec<u8>, Fault> {
+    let words: Vec<&str> = line.split_whitespace().collect(alloc)?;
+    match words.as_slice() {
+        [form, hash, salt, material] => {
+            is_form(form, "extract")?;
+            extracted(alloc, hash, salt, material)
+        }
+        [form, version, id, side, output] if *form == "quic" => {
+            initial_output(alloc, [version, id, side], output)
+        }
+        [form, version, hash, secret, output] => {
+            is_form(form, "packet")?;
+            packet_output(alloc, version, [hash, secret], output)
+        }
+        [form, hash, secret, label, context, len] => {
+            is_form(form, "expand-label")?;
+            expanded(alloc, hash, [secret, label, context], len)
+        }
+        [form, hash, psk, shared, name, transcript, output] => {
+            is_form(form, "tls13")?;
+            let inputs = Inputs::new(alloc, hash, [psk, shared, transcript])?;
+            stage_output(alloc, &inputs, name, output)
+        }
+        _ => Err(Fault::BadLine),
+    }
+}
+
+/// Whether a line of this many words has the form that these have.
+fn is_form(word: &str, form: &str) -> Result<(), Fault> {
+    match word == form {
+        true => Ok(()),
+        false => Err(Fault::BadLine),
+    }
+}
+
+/// HKDF-Extract.
+fn extracted(alloc: Global, hash: &str, salt: &str, material: &str) -> Result<Vec<u8>, Fault> {
+    let salt = bytes_in(alloc, salt)?;
+    let material = bytes_in(alloc, material)?;
+    let secret = hkdf_extract(hash_in(hash)?, salt.as_slice(), material.as_slice())?;
+    copy_of(alloc, secret.as_ref())
+}
+
+/// HKDF-Expand-Label.
+fn expanded(alloc: Global, hash: &str, inputs: [&str; 3], len: &str) -> Result<Vec<u8>, Fault> {
+    let hash = hash_in(hash)?;
+    let secret = bytes_in(alloc, inputs[0])?;
+    let label = bytes_in(alloc, inputs[1])?;
+    let context = bytes_in(alloc, inputs[2])?;
+    let mut out = room_in(alloc, len)?;
+    hkdf_expand_label(
+        hash,
+        secret.as_slice(),
+        label.as_slice(),
+        context.as_slice(),
+        out.as_mut_slice(),
+    )?;
+    Ok(out)
+}

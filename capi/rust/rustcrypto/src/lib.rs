@@ -26,6 +26,6 @@
 mod digests;
 mod tags;
 
-pub use digest;
+pub use digest::{self, Digest};
 pub use digests::{Sha1, Sha256, Sha384, Sha512, Sha512_256};
 pub use tags::{HmacSha1, HmacSha256, HmacSha384, HmacSha512};

@@ -19,7 +19,7 @@ use Rattle.ring.specs.declared.digest.context.Context.{Context}
 use Rattle.ring_sums.specs.Engine.{AreIn, AreLast, AreRight, HasTaken, IsIn, IsRead, IsRight, IsSkipped}
 use Rattle.ring_sums.specs.Lane.{behind_of, front_of, left_of}
 use Rattle.ring_sums.specs.declared.lane.Lane.{Lane}
-use Rattle.ring_sums.specs.declared.lane.Outcome.{Outcome}
+use Rattle.ring_sums.specs.declared.outcome.Outcome.{Outcome}
 use borrow.Author.Count.{below_more}
 
 -- the first i lanes have changed by a step

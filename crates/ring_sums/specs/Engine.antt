@@ -7,8 +7,8 @@ use Rattle.ring.specs.declared.digest.algorithm.Algorithm.{Algorithm}
 use Rattle.ring.specs.declared.digest.context.Context.{Context}
 use Rattle.ring.specs.declared.digest.value.Digest.{Digest}
 use Rattle.ring_sums.specs.declared.lane.Lane.{Lane}
-use Rattle.ring_sums.specs.declared.lane.Outcome.{Outcome}
-use Rattle.ring_sums.specs.declared.lane.Outcome.TheVariants.{Sum, TooLong, Failed}
+use Rattle.ring_sums.specs.declared.outcome.Outcome.{Outcome}
+use Rattle.ring_sums.specs.declared.outcome.Outcome.TheVariants.{Sum, TooLong, Failed}
 use Rattle.ring_sums.specs.Lane.{behind_of, left_of}
 
 -- the digest of an outcome

@@ -22,11 +22,12 @@ pub(crate) struct Console<'a, R, W> {
 /// Appends what is wrong with a call of the system, without the system's number for it.
 pub(crate) fn append_reason(out: &mut Vec<u8>, error: &io::Error) -> Result<(), AllocError> {
     let text = format!(in *out.allocator(); "{error}")?;
-    let reason = match text.as_str().rsplit_once(" (os error ") {
-        Some((reason, _)) => reason,
-        None => text.as_str(),
+    let bytes = text.as_bytes();
+    let len = match memchr::memmem::rfind(bytes, b" (os error ") {
+        Some(place) => place,
+        None => bytes.len(),
     };
-    out.extend_from_slice(reason.as_bytes())?;
+    out.extend_from_slice(&bytes[..len])?;
     Ok(())
 }
 

@@ -127,15 +127,12 @@ fn is_white(byte: u8) -> bool {
     byte == b' ' || byte == b'\t'
 }
 
+/// Bytes without the spaces and tabs at their start.
 fn without_white(bytes: &[u8]) -> &[u8] {
-    let mut rest = bytes;
-    while let Some((first, behind)) = rest.split_first() {
-        if !is_white(*first) {
-            break;
-        }
-        rest = behind;
+    match bytes.iter().position(|byte| !is_white(*byte)) {
+        Some(place) => &bytes[place..],
+        None => &[],
     }
-    rest
 }
 
 /// The algorithm of so many digits.

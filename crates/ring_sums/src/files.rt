@@ -1,7 +1,7 @@
 //! The files whose digests are asked for, each of which is opened when it is first read.
 
-use crate::engine::Sums;
 use crate::outcome::Outcome;
+use crate::sums::Sums;
 use ring::digest::Algorithm;
 use std::alloc::{AllocError, Global};
 use std::io::{ErrorKind, Input, Read};
@@ -97,16 +97,17 @@ impl<'a, R: Files + Input> Outcomes<'a, R> {
     /// read alone, or that one.
     fn begin(&mut self, first: Wanted<'a>) -> Result<(), AllocError> {
         let mut sources = Vec::new(self.alloc);
-        sources.push(Source::Named(self.rt, first.name))?;
-        self.next += 1;
-        let is_first_alone = is_alone(self.rt, first.name);
-        'files: while !is_first_alone && self.next < self.wanted.len() {
-            let file = self.wanted[self.next];
-            if file.algorithm != first.algorithm || is_alone(self.rt, file.name) {
+        let rest = self.wanted.get(self.next..).unwrap_or(&[]);
+        'files: for file in rest {
+            let is_alone = is_alone(self.rt, file.name);
+            if !sources.is_empty() && (is_alone || file.algorithm != first.algorithm) {
                 break;
             }
             sources.push(Source::Named(self.rt, file.name))?;
-            self.next += 1;
+            self.next = self.next.saturating_add(1);
+            if is_alone {
+                break;
+            }
         }
         self.run = Some(Sums::new(self.alloc, &first.algorithm, sources));
         Ok(())
@@ -114,18 +115,24 @@ impl<'a, R: Files + Input> Outcomes<'a, R> {
 
     /// The outcome of the next file.
     pub(crate) fn next<const BITS: usize>(&mut self) -> Result<Option<Outcome>, AllocError> {
-        if let Some(run) = &mut self.run {
-            if let Some(outcome) = run.next_outcome::<BITS>()? {
-                return Ok(Some(outcome));
-            }
+        if let Some(outcome) = self.next_of_run::<BITS>()? {
+            return Ok(Some(outcome));
         }
         let Some(first) = self.wanted.get(self.next) else {
             return Ok(None);
         };
         self.begin(*first)?;
-        match &mut self.run {
-            Some(run) => run.next_outcome::<BITS>(),
-            None => Ok(None),
+        self.next_of_run::<BITS>()
+    }
+
+    /// The outcome of the next file of those that are read side by side.
+    fn next_of_run<const BITS: usize>(&mut self) -> Result<Option<Outcome>, AllocError> {
+        let Some(run) = &mut self.run else {
+            return Ok(None);
+        };
+        match run.next_outcome::<BITS>(self.alloc) {
+            Ok(outcome) => Ok(outcome),
+            Err(_) => Err(AllocError),
         }
     }
 }

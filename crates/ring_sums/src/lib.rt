@@ -4,17 +4,19 @@
 mod about;
 mod check;
 mod console;
-mod engine;
 mod entry;
 mod files;
+mod found;
 mod lane;
+mod lanes;
 mod line;
 mod options;
 mod outcome;
 mod piece;
 mod program;
 mod quote;
+mod sums;
 
-pub use crate::engine::{Sums, digests_of};
 pub use crate::outcome::Outcome;
 pub use crate::program::run;
+pub use crate::sums::Sums;

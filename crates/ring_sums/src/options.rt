@@ -250,31 +250,31 @@ impl<'a> Parser<'a> {
 
     /// Reads the letters behind `-`.
     fn read_letters(&mut self, word: &'a [u8]) -> Step<'a> {
-        let mut rest = word;
-        while let Some((letter, behind)) = rest.split_first() {
-            match flag_of_letter(*letter) {
-                Some(Flag::Algorithm) => {
-                    let value = if behind.is_empty() {
-                        self.take_word()
-                    } else {
-                        Some(behind)
-                    };
-                    return match value {
-                        Some(value) => self.set_algorithm(value),
-                        None => refused(Refusal::LetterLacks(*letter)),
-                    };
-                }
-                Some(flag) => {
-                    let step = self.set(flag);
-                    if let Step::End(_) = step {
-                        return step;
-                    }
-                }
-                None => return refused(Refusal::Invalid(*letter)),
+        for (place, letter) in word.iter().enumerate() {
+            let behind = word.get(place.saturating_add(1)..).unwrap_or(&[]);
+            let step = match flag_of_letter(*letter) {
+                Some(Flag::Algorithm) => return self.read_algorithm(*letter, behind),
+                Some(flag) => self.set(flag),
+                None => refused(Refusal::Invalid(*letter)),
+            };
+            if let Step::End(_) = step {
+                return step;
             }
-            rest = behind;
         }
         Step::GoOn
+    }
+
+    /// Reads the algorithm that stands behind a letter or in the next word.
+    fn read_algorithm(&mut self, letter: u8, behind: &'a [u8]) -> Step<'a> {
+        let value = if behind.is_empty() {
+            self.take_word()
+        } else {
+            Some(behind)
+        };
+        match value {
+            Some(value) => self.set_algorithm(value),
+            None => refused(Refusal::LetterLacks(letter)),
+        }
     }
 
     /// Reads all words.

@@ -1,14 +1,14 @@
-//! How a reader ended.
+//! What is known of a reader once it is read.
 
 use ring::digest::Digest;
 use std::io;
 
-/// How a reader ended.
+/// How the reading of one reader ended.
 #[derive(Drop)]
 pub enum Outcome {
     /// The digest of all its bytes.
     Sum(Digest),
-    /// It has more bytes than the algorithm has a digest for.
+    /// It gave more bytes than the algorithm takes (FIPS 180-4, section 1, figure 1).
     TooLong,
     /// It could not be read to its end.
     Failed(io::Error),

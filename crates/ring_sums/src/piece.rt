@@ -1,24 +1,17 @@
 //! A piece of what a reader gives.
 
-ghost use Rattle.std.specs.Prelude.{◌≡◌, ◌<◌, ◌≤◌, IfOk, length, take};
-ghost use Rattle.std.specs.Io.KnownBytes.{Consumes, IsAtEnd};
 
 use std::io;
 use std::io::{ErrorKind, Read};
 
 /// The bytes of a piece: whole blocks of every algorithm.
-pub const PIECE_LEN: usize = 65_536;
+pub(crate) const PIECE_LEN: usize = 65_536;
 
-/// The bytes of a block of every algorithm: its own or two of them.
-pub(crate) const BLOCK_LEN: usize = 128;
+/// The bytes of the longest block of an algorithm. Each algorithm's blocks fill it.
+pub(crate) const MAX_BLOCK_LEN: usize = 128;
 
 /// Reads until the piece is full or the reader has ended, and returns how many bytes came.
-pub fn fill<R: Read>(reader: &mut R, piece: &mut [u8]) -> io::Result<usize>
-    ensures within { IfOk result (λ count. count ≤ length piece.new) }
-    ensures bytes { IfOk result (λ count.
-        Consumes (R.remaining reader.old) (R.remaining reader.new) (take count piece.new)) }
-    ensures end { IfOk result (λ count.
-        count < length piece.new → IsAtEnd (R.remaining reader.new)) }
+pub(crate) fn fill<R: Read>(reader: &mut R, piece: &mut [u8]) -> io::Result<usize>
 {
     let mut filled = 0;
     'reads: for _ in 0..u64::MAX {

@@ -208,12 +208,13 @@ where
 {
     let alloc = rt.alloc();
     let words = arguments(rt, alloc)?;
-    let (program, words) = match words.split_first() {
-        Some((program, words)) => (program.as_slice(), words),
-        None => (NAME, words.as_slice()),
+    let program = match words.first() {
+        Some(word) => word.to_vec(alloc)?,
+        None => NAME.to_vec(alloc)?,
     };
-    let mut console = Console::new(rt, alloc, program, io::writer(rt));
-    let is_fine = match request_of(alloc, program, words)? {
+    let words = words.get(1..).unwrap_or(&[]);
+    let mut console = Console::new(rt, alloc, &program, io::writer(rt));
+    let is_fine = match request_of(alloc, &program, words)? {
         Request::Help => {
             help(alloc, &mut console)?;
             true

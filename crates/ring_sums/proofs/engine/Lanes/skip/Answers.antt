@@ -1,9 +1,0 @@
-use Rattle.std.proofs.Common.{◌≤◌, arith, length}
-use Rattle.ring_sums.proofs.Going.{skipping-all, stepped-next}
-use Rattle.ring_sums.proofs.engine.Lanes.skip.Goals as goal
-
-pub returns : goal.returns
-returns g c = λ a readers first.
-    let all : length c.args.self.now.lanes.items ≤ c.lanes.i =
-    omega (arith, c.lanes-test.false, c.len-i-end.ensures, c.args.self.now.lanes.ok.0) in
-    rw c.lanes.invariant.contexts (skipping-all c.args.count c.lanes.invariant.stepped all first)

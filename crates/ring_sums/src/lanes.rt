@@ -89,8 +89,7 @@ impl<R: Read + Drop> Lanes<R> {
         let pieces = fronts_of(alloc, &self.lanes, count)?;
         match update_each_in::<BITS>(&mut self.contexts, &pieces, &mut Meter::new()) {
             Ok(()) => Ok(()),
-            // There is a piece a context.
-            Err(_) => unreachable!(),
+            Err(_) => Err(AllocError),
         }
     }
 
@@ -111,7 +110,10 @@ impl<R: Read + Drop> Lanes<R> {
     ) -> Result<(), AllocError>
     {
         let mut i = 0;
-        'lanes: while i < self.lanes.len() {
+        'lanes: for _ in 0..self.lanes.len() {
+            if i >= self.lanes.len() {
+                break;
+            }
             if self.lanes[i].is_over() {
                 let lane = self.lanes.swap_remove(i);
                 let context = self.contexts.swap_remove(i);

@@ -16,6 +16,7 @@ mod piece;
 mod program;
 mod quote;
 mod sums;
+mod tree;
 
 pub use crate::outcome::Outcome;
 pub use crate::program::run;

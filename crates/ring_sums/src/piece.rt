@@ -1,5 +1,7 @@
 //! A piece of what a reader gives.
 
+ghost use Rattle.std.specs.Prelude.{◌≡◌, ◌<◌, ◌≤◌, IfOk, length, take};
+ghost use Rattle.std.specs.Io.KnownBytes.{Consumes, IsAtEnd};
 
 use std::io;
 use std::io::{ErrorKind, Read};
@@ -12,6 +14,11 @@ pub(crate) const MAX_BLOCK_LEN: usize = 128;
 
 /// Reads until the piece is full or the reader has ended, and returns how many bytes came.
 pub(crate) fn fill<R: Read>(reader: &mut R, piece: &mut [u8]) -> io::Result<usize>
+    ensures within { IfOk result (λ count. count ≤ length piece.new) }
+    ensures bytes { IfOk result (λ count.
+        Consumes (R.remaining reader.old) (R.remaining reader.new) (take count piece.new)) }
+    ensures end { IfOk result (λ count.
+        count < length piece.new → IsAtEnd (R.remaining reader.new)) }
 {
     let mut filled = 0;
     'reads: for _ in 0..u64::MAX {

@@ -7,6 +7,7 @@ use crate::files::{Outcomes, Wanted};
 use crate::line::append_file_line;
 use crate::options::{Options, Refusal, Request, names_from, request_of};
 use crate::outcome::Outcome;
+use crate::tree::append_files;
 use ring::digest::SHA256;
 use std::alloc::{AllocError, Global};
 use std::env::FillError;
@@ -176,6 +177,26 @@ fn help<R: Eprint, W: Write>(
     Ok(())
 }
 
+/// Writes a line for each file, also of those below the operands that are directories.
+fn list_trees<const BITS: usize, R, W>(
+    rt: &R,
+    options: &Options,
+    operands: &[&[u8]],
+    console: &mut Console<'_, R, W>,
+) -> Result<bool, AllocError>
+where
+    R: Files + AllocGlobal + Clone + Drop + Eprint + Input,
+    W: Write,
+{
+    let mut files: Vec<Vec<u8>> = Vec::new(rt.alloc());
+    let is_whole = append_files(rt, operands, &mut files, console)?;
+    let mut names: Vec<&[u8]> = Vec::new(rt.alloc());
+    for file in &files {
+        names.push(file)?;
+    }
+    Ok(list::<BITS, R, W>(rt, options, &names, console)? && is_whole)
+}
+
 /// Does what is asked of files.
 fn run_files<const BITS: usize, R, W>(
     rt: &R,
@@ -184,12 +205,15 @@ fn run_files<const BITS: usize, R, W>(
     console: &mut Console<'_, R, W>,
 ) -> Result<bool, AllocError>
 where
-    R: Files + AllocGlobal + Eprint + Input,
+    R: Files + AllocGlobal + Clone + Drop + Eprint + Input,
     W: Write,
 {
     let mut operands = operands;
     if operands.is_empty() {
         operands.push(b"-")?;
+    }
+    if options.is_recursive {
+        return list_trees::<BITS, R, W>(rt, options, &operands, console);
     }
     if !options.does_check {
         return list::<BITS, R, W>(rt, options, &operands, console);
@@ -204,7 +228,7 @@ where
 /// Does what the arguments ask for, and returns whether it went well.
 fn run_words<const BITS: usize, R>(rt: &R) -> Result<bool, AllocError>
 where
-    R: Files + AllocGlobal + Env + Print + Eprint + Input,
+    R: Files + AllocGlobal + Clone + Drop + Env + Print + Eprint + Input,
 {
     let alloc = rt.alloc();
     let words = arguments(rt, alloc)?;
@@ -238,7 +262,7 @@ where
 /// went well, else 1.
 pub fn run<const BITS: usize, R>(rt: &R) -> u8
 where
-    R: Files + AllocGlobal + Env + Print + Eprint + Input,
+    R: Files + AllocGlobal + Clone + Drop + Env + Print + Eprint + Input,
 {
     match run_words::<BITS, R>(rt) {
         Ok(true) => SUCCESS,

@@ -2,7 +2,7 @@
 
 
 use crate::found::take_first;
-use crate::lanes::Lanes;
+use crate::lanes::{LANES, Lanes};
 use crate::outcome::Outcome;
 use ring::digest::Algorithm;
 use std::alloc::{AllocError, Global};
@@ -50,7 +50,10 @@ impl<R: Read + Drop> Sums<R> {
     /// Puts the next readers into the lanes that are free.
     fn begin(&mut self, alloc: Global) -> Result<(), AllocError>
     {
-        'free: while self.can_begin() {
+        'free: for _ in 0..LANES {
+            if !self.can_begin() {
+                break;
+            }
             let place = self.total.saturating_sub(self.waiting.len());
             let Some(reader) = self.waiting.next() else {
                 break;

@@ -1,12 +1,12 @@
 //! The check of a list.
 
 use crate::console::Console;
-use crate::entry::{Entry, Verdict, append_verdict_line, entry_of_line, tag_of, verdict_of};
+use crate::entry::{Entry, Gap, Verdict, append_verdict_line, entry_of_line, tag_of, verdict_of};
 use crate::files::{Outcomes, Wanted, read_all};
 use crate::options::{Amount, Options};
 use crate::outcome::Outcome;
 use std::alloc::{AllocError, Global};
-use std::io::{ErrorKind, Eprint, Input, Write};
+use std::io::{Eprint, ErrorKind, Input, Write};
 use std::rt::Files;
 
 /// What a list has been found to have.
@@ -38,6 +38,7 @@ fn lines_of(
     options: &Options,
     text: &[u8],
     is_standard_input: bool,
+    gap: &mut Gap,
 ) -> Result<Vec<Line>, AllocError> {
     let mut lines = Vec::new(alloc);
     let mut number = 0_u64;
@@ -50,7 +51,7 @@ fn lines_of(
         if line.is_empty() {
             continue;
         }
-        match entry_of_line(alloc, options.algorithm, line)? {
+        match entry_of_line(alloc, options.algorithm, line, gap)? {
             Some(entry) if !is_standard_input || entry.name.as_slice() != b"-".as_slice() => {
                 lines.push(Line::Entry(entry))?;
             }
@@ -134,7 +135,7 @@ fn warn_of_line<R: Eprint, W: Write>(
     options: &Options,
     list: &[u8],
     number: u64,
-    console: &Console<'_, R, W>,
+    console: &mut Console<'_, R, W>,
 ) -> Result<(), AllocError> {
     if options.amount != Amount::Warn {
         return Ok(());
@@ -164,6 +165,8 @@ where
     let wanted = wanted_of(rt.alloc(), lines)?;
     let mut outcomes = Outcomes::new(rt, rt.alloc(), &wanted);
     let mut counts = Counts::default();
+    let total = wanted.len();
+    let mut done = 0_usize;
     for line in lines {
         match line {
             Line::Bad(number) => {
@@ -179,6 +182,8 @@ where
                 } else {
                     counts.count(answer(rt.alloc(), options, entry, &outcome, console)?);
                 }
+                done = done.saturating_add(1);
+                console.show_progress(done, total);
             }
         }
     }
@@ -191,7 +196,7 @@ fn warn<R: Eprint, W: Write>(
     count: u64,
     one: &str,
     several: &str,
-    console: &Console<'_, R, W>,
+    console: &mut Console<'_, R, W>,
 ) -> Result<(), AllocError> {
     if count == 0 {
         return Ok(());
@@ -207,7 +212,7 @@ fn warn_of<R: Eprint, W: Write>(
     options: &Options,
     list: &[u8],
     counts: &Counts,
-    console: &Console<'_, R, W>,
+    console: &mut Console<'_, R, W>,
 ) -> Result<(), AllocError> {
     if counts.entries == 0 {
         return console.tell_of(list, b"no properly formatted checksum lines found");
@@ -256,6 +261,7 @@ pub(crate) fn check_list<const BITS: usize, R, W>(
     rt: &R,
     options: &Options,
     name: &[u8],
+    gap: &mut Gap,
     console: &mut Console<'_, R, W>,
 ) -> Result<bool, AllocError>
 where
@@ -263,7 +269,11 @@ where
     W: Write,
 {
     let is_standard_input = name == b"-".as_slice();
-    let shown: &[u8] = if is_standard_input { b"standard input" } else { name };
+    let shown: &[u8] = if is_standard_input {
+        b"standard input"
+    } else {
+        name
+    };
     let (text, failure) = match read_all(rt, rt.alloc(), name)? {
         Ok(read) => read,
         Err(error) => {
@@ -271,9 +281,10 @@ where
             return Ok(false);
         }
     };
-    let lines = lines_of(rt.alloc(), options, &text, is_standard_input)?;
+    let lines = lines_of(rt.alloc(), options, &text, is_standard_input, gap)?;
     let counts = check_lines::<BITS, R, W>(rt, options, shown, &lines, console)?;
-    if failure.is_some() {
+    if let Some(error) = failure {
+        console.note(&error);
         console.tell_of(shown, b"read error")?;
         return Ok(false);
     }

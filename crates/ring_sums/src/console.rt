@@ -8,6 +8,8 @@ use std::io::{Eprint, Write};
 /// The system's number of the error that a descriptor is not open.
 const BAD_DESCRIPTOR: i32 = 9;
 
+const HUNDRED: usize = 100;
+
 /// Standard output and standard error.
 #[derive(Drop)]
 pub(crate) struct Console<'a, R, W> {
@@ -17,6 +19,11 @@ pub(crate) struct Console<'a, R, W> {
     out: W,
     /// Why a line could not be written. None is written after it.
     failure: Option<io::Error>,
+    /// Whether standard input was asked for and is not open.
+    is_input_closed: bool,
+    shows_progress: bool,
+    /// How many hundredths of the files are shown to be done, where a line on standard error shows it.
+    shown: Option<usize>,
 }
 
 /// Appends what is wrong with a call of the system, without the system's number for it.
@@ -39,6 +46,43 @@ impl<'a, R: Eprint, W: Write> Console<'a, R, W> {
             program,
             out,
             failure: None,
+            is_input_closed: false,
+            shows_progress: false,
+            shown: None,
+        }
+    }
+
+    /// Shows from now on how far a run is.
+    pub(crate) fn start_progress(&mut self) {
+        self.shows_progress = true;
+    }
+
+    /// Shows how many of the files are done, where that is a hundredth more than is shown.
+    pub(crate) fn show_progress(&mut self, done: usize, total: usize) {
+        if !self.shows_progress || total == 0 {
+            return;
+        }
+        let hundredths = done.saturating_mul(HUNDRED) / total;
+        if self.shown != Some(hundredths) {
+            let _ = self
+                .rt
+                .eprint(format_args!("\r{done} of {total} files\x1b[K"));
+            self.shown = Some(hundredths);
+        }
+    }
+
+    /// Takes the line that shows it away.
+    fn hide_progress(&mut self) {
+        if self.shown.is_some() {
+            let _ = self.rt.eprint("\r\x1b[K");
+            self.shown = None;
+        }
+    }
+
+    /// Notes why a file could not be read.
+    pub(crate) fn note(&mut self, error: &io::Error) {
+        if error.raw_os_error() == Some(BAD_DESCRIPTOR) {
+            self.is_input_closed = true;
         }
     }
 
@@ -49,13 +93,14 @@ impl<'a, R: Eprint, W: Write> Console<'a, R, W> {
 
     /// Writes a line, unless one before could not be written.
     pub(crate) fn write(&mut self, line: &[u8]) {
+        self.hide_progress();
         if self.failure.is_none() {
             self.failure = self.out.write_all(line).err();
         }
     }
 
     /// Writes text on standard error, behind the program's name.
-    pub(crate) fn tell(&self, text: &[u8]) -> Result<(), AllocError> {
+    pub(crate) fn tell(&mut self, text: &[u8]) -> Result<(), AllocError> {
         let mut message = self.program.to_vec(self.alloc)?;
         message.extend_from_slice(b": ")?;
         message.extend_from_slice(text)?;
@@ -63,7 +108,8 @@ impl<'a, R: Eprint, W: Write> Console<'a, R, W> {
     }
 
     /// Writes a line on standard error.
-    pub(crate) fn show(&self, line: &[u8]) -> Result<(), AllocError> {
+    pub(crate) fn show(&mut self, line: &[u8]) -> Result<(), AllocError> {
+        self.hide_progress();
         let text = String::from_utf8_lossy(self.alloc, line)?;
         // Where standard error fails too, the status still tells.
         let _ = self.rt.eprintln(&*text);
@@ -71,7 +117,7 @@ impl<'a, R: Eprint, W: Write> Console<'a, R, W> {
     }
 
     /// Tells what is wrong with a file.
-    pub(crate) fn tell_of(&self, name: &[u8], text: &[u8]) -> Result<(), AllocError> {
+    pub(crate) fn tell_of(&mut self, name: &[u8], text: &[u8]) -> Result<(), AllocError> {
         let mut message = Vec::new(self.alloc);
         append_quoted(&mut message, name)?;
         message.extend_from_slice(b": ")?;
@@ -80,21 +126,26 @@ impl<'a, R: Eprint, W: Write> Console<'a, R, W> {
     }
 
     /// Tells why a file could not be read.
-    pub(crate) fn tell_error(&self, name: &[u8], error: &io::Error) -> Result<(), AllocError> {
+    pub(crate) fn tell_error(&mut self, name: &[u8], error: &io::Error) -> Result<(), AllocError> {
+        self.note(error);
         let mut reason = Vec::new(self.alloc);
         append_reason(&mut reason, error)?;
         self.tell_of(name, &reason)
     }
 
-    /// Whether every line could be written, which is told if not.
-    pub(crate) fn end(&self) -> Result<bool, AllocError> {
-        let Some(error) = &self.failure else {
-            return Ok(true);
+    /// Whether standard input could be closed and every line be written. What failed is told.
+    pub(crate) fn end(&mut self) -> Result<bool, AllocError> {
+        self.hide_progress();
+        if self.is_input_closed {
+            self.tell(b"standard input: Bad file descriptor")?;
+        }
+        let Some(error) = self.failure else {
+            return Ok(!self.is_input_closed);
         };
         let mut message = b"write error".to_vec(self.alloc)?;
         if error.raw_os_error() == Some(BAD_DESCRIPTOR) {
             message.extend_from_slice(b": ")?;
-            append_reason(&mut message, error)?;
+            append_reason(&mut message, &error)?;
         }
         self.tell(&message)?;
         Ok(false)

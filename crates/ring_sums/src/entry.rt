@@ -146,12 +146,43 @@ fn algorithm_of_digits(line: &[u8]) -> Option<Algorithm> {
     }
 }
 
+/// How many characters stand between digits and names, which the first line with digits in front shows.
+#[derive(Clone, Copy, PartialEq, Eq)]
+pub enum Gap {
+    Unknown,
+    /// A space, and then the name.
+    One,
+    /// A space, a mark, and then the name.
+    Two,
+}
+
+/// The name behind the digits and a space, or `None` where lines before have another gap.
+fn name_behind<'a>(rest: &'a [u8], gap: &mut Gap) -> Option<&'a [u8]> {
+    let marked = match rest {
+        [b' ' | b'*', _, ..] => Some(&rest[1..]),
+        _ => None,
+    };
+    match (marked, *gap) {
+        (None, Gap::Two) => None,
+        (None, _) => {
+            *gap = Gap::One;
+            Some(rest)
+        }
+        (Some(_), Gap::One) => Some(rest),
+        (Some(name), _) => {
+            *gap = Gap::Two;
+            Some(name)
+        }
+    }
+}
+
 /// The entry of a line that begins with the digest.
 fn plain_entry(
     alloc: Global,
     algorithm: Option<Algorithm>,
     line: &[u8],
     is_escaped: bool,
+    gap: &mut Gap,
 ) -> Result<Option<Entry>, AllocError> {
     let Some(algorithm) = algorithm.or_else(|| algorithm_of_digits(line)) else {
         return Ok(None);
@@ -161,10 +192,13 @@ fn plain_entry(
         return Ok(None);
     }
     let (digits, rest) = line.split_at(len);
-    let [b' ' | b'\t', b' ' | b'*', name @ ..] = rest else {
+    if !is_white(rest[0]) || !digits.iter().all(|byte| byte.is_ascii_hexdigit()) {
         return Ok(None);
-    };
-    entry_with(alloc, algorithm, digits, name, is_escaped)
+    }
+    match name_behind(&rest[1..], gap) {
+        Some(name) => entry_with(alloc, algorithm, digits, name, is_escaped),
+        None => Ok(None),
+    }
 }
 
 /// The algorithm whose tag a line begins with, and what is behind the tag.
@@ -211,6 +245,7 @@ pub fn entry_of_line(
     alloc: Global,
     algorithm: Option<Algorithm>,
     line: &[u8],
+    gap: &mut Gap,
 ) -> Result<Option<Entry>, AllocError> {
     let line = without_white(line);
     let (is_escaped, line) = match line {
@@ -219,6 +254,6 @@ pub fn entry_of_line(
     };
     match tagged(algorithm, line) {
         Some((algorithm, rest)) => tagged_entry(alloc, algorithm, rest, is_escaped),
-        None => plain_entry(alloc, algorithm, line, is_escaped),
+        None => plain_entry(alloc, algorithm, line, is_escaped, gap),
     }
 }

@@ -1,6 +1,5 @@
 //! Outcomes that are found before it is their turn to be given.
 
-
 use crate::outcome::Outcome;
 use std::collections::VecDeque;
 use std::io;
@@ -12,8 +11,7 @@ pub(crate) fn put(
     given: usize,
     place: usize,
     outcome: Outcome,
-)
-{
+) {
     if place < given {
         return;
     }
@@ -24,8 +22,7 @@ pub(crate) fn put(
 }
 
 /// Takes the first outcome out. One that is not found is of a reader that no lane reads any more.
-pub(crate) fn take_first(found: &mut VecDeque<Option<Outcome>>) -> Option<Outcome>
-{
+pub(crate) fn take_first(found: &mut VecDeque<Option<Outcome>>) -> Option<Outcome> {
     let first = found.pop_front()?;
     Some(match first {
         Some(outcome) => outcome,

@@ -1,6 +1,5 @@
 //! A reader in a lane.
 
-
 use crate::outcome::Outcome;
 use crate::piece::{MAX_BLOCK_LEN, PIECE_LEN, fill};
 use ring::digest::Context;
@@ -29,9 +28,7 @@ pub(crate) struct Lane<R> {
 }
 
 impl<R: Read> Lane<R> {
-
-    pub(crate) fn new(place: usize, reader: R, room: Vec<u8>) -> Lane<R>
-    {
+    pub(crate) fn new(place: usize, reader: R, room: Vec<u8>) -> Lane<R> {
         Lane {
             place,
             reader,
@@ -44,8 +41,7 @@ impl<R: Read> Lane<R> {
     }
 
     /// Reads a piece into the room.
-    fn fill_room(&mut self)
-    {
+    fn fill_room(&mut self) {
         self.from = 0;
         match fill(&mut self.reader, &mut self.room) {
             Ok(len) => {
@@ -60,16 +56,14 @@ impl<R: Read> Lane<R> {
     }
 
     /// Reads the next piece, where the last one is taken in.
-    pub(crate) fn read(&mut self)
-    {
+    pub(crate) fn read(&mut self) {
         if !self.has_ended && self.from >= self.len {
             self.fill_room();
         }
     }
 
     /// What was read and is not taken in.
-    pub(crate) fn left(&self) -> &[u8]
-    {
+    pub(crate) fn left(&self) -> &[u8] {
         let piece = if self.len < self.room.len() {
             &self.room[..self.len]
         } else {
@@ -83,8 +77,7 @@ impl<R: Read> Lane<R> {
     }
 
     /// The front of what is not taken in.
-    pub(crate) fn front(&self, count: usize) -> &[u8]
-    {
+    pub(crate) fn front(&self, count: usize) -> &[u8] {
         let left = self.left();
         if count < left.len() {
             &left[..count]
@@ -94,14 +87,12 @@ impl<R: Read> Lane<R> {
     }
 
     /// So many bytes more are taken in.
-    pub(crate) fn skip(&mut self, count: usize)
-    {
+    pub(crate) fn skip(&mut self, count: usize) {
         self.from = self.from.saturating_add(count);
     }
 
     /// Whether it has given all, of which less than a block is left, or failed.
-    pub(crate) fn is_over(&self) -> bool
-    {
+    pub(crate) fn is_over(&self) -> bool {
         self.failure.is_some() || (self.has_ended && self.left().len() < MAX_BLOCK_LEN)
     }
 

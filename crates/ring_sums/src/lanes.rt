@@ -1,6 +1,5 @@
 //! Readers that are read side by side, each in a lane.
 
-
 ghost use Rattle.std.specs.Prelude.{◌≡◌, vec_len};
 
 use crate::found::put;
@@ -27,8 +26,7 @@ pub(crate) struct Lanes<R> {
 }
 
 impl<R: Read + Drop> Lanes<R> {
-    pub(crate) fn new(alloc: Global) -> Lanes<R>
-    {
+    pub(crate) fn new(alloc: Global) -> Lanes<R> {
         Lanes {
             lanes: Vec::new(alloc),
             contexts: Vec::new(alloc),
@@ -52,8 +50,7 @@ impl<R: Read + Drop> Lanes<R> {
         algorithm: &Algorithm,
         place: usize,
         reader: R,
-    ) -> Result<(), AllocError>
-    {
+    ) -> Result<(), AllocError> {
         let room = match self.rooms.pop() {
             Some(room) => room,
             None => new_room(alloc)?,
@@ -67,16 +64,14 @@ impl<R: Read + Drop> Lanes<R> {
     }
 
     /// Reads a piece in each lane whose last one is taken in.
-    pub(crate) fn read(&mut self)
-    {
+    pub(crate) fn read(&mut self) {
         'lanes: for i in 0..self.lanes.len() {
             self.lanes[i].read();
         }
     }
 
     /// Updates the contexts with the whole blocks that all lanes have left.
-    pub(crate) fn update<const BITS: usize>(&mut self, alloc: Global) -> Result<(), AllocError>
-    {
+    pub(crate) fn update<const BITS: usize>(&mut self, alloc: Global) -> Result<(), AllocError> {
         let count = common_len(&self.lanes);
         self.take_in::<BITS>(alloc, count)?;
         self.skip(count);
@@ -84,8 +79,11 @@ impl<R: Read + Drop> Lanes<R> {
     }
 
     /// Updates each context with the first `count` bytes that its lane has left.
-    fn take_in<const BITS: usize>(&mut self, alloc: Global, count: usize) -> Result<(), AllocError>
-    {
+    fn take_in<const BITS: usize>(
+        &mut self,
+        alloc: Global,
+        count: usize,
+    ) -> Result<(), AllocError> {
         let pieces = fronts_of(alloc, &self.lanes, count)?;
         match update_each_in::<BITS>(&mut self.contexts, &pieces, &mut Meter::new()) {
             Ok(()) => Ok(()),
@@ -94,8 +92,7 @@ impl<R: Read + Drop> Lanes<R> {
     }
 
     /// Takes `count` bytes of each lane for taken in.
-    fn skip(&mut self, count: usize)
-    {
+    fn skip(&mut self, count: usize) {
         'lanes: for i in 0..self.lanes.len() {
             self.lanes[i].skip(count);
         }
@@ -107,8 +104,7 @@ impl<R: Read + Drop> Lanes<R> {
         &mut self,
         given: usize,
         found: &mut VecDeque<Option<Outcome>>,
-    ) -> Result<(), AllocError>
-    {
+    ) -> Result<(), AllocError> {
         let mut i = 0;
         'lanes: for _ in 0..self.lanes.len() {
             if i >= self.lanes.len() {
@@ -143,8 +139,7 @@ fn fronts_of<R: Read>(
     alloc: Global,
     lanes: &[Lane<R>],
     count: usize,
-) -> Result<Vec<&[u8]>, AllocError>
-{
+) -> Result<Vec<&[u8]>, AllocError> {
     let mut pieces = Vec::new(alloc);
     'lanes: for lane in lanes {
         pieces.push(lane.front(count))?;

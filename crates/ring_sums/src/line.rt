@@ -58,7 +58,11 @@ pub(crate) fn append_file_line(
     } else {
         out.extend_from_slice(digits.as_bytes())?;
         out.push(b' ')?;
-        out.push(if options.is_binary == Some(true) { b'*' } else { b' ' })?;
+        out.push(if options.is_binary == Some(true) {
+            b'*'
+        } else {
+            b' '
+        })?;
     }
     if is_escaped {
         append_name(out, name)?;

@@ -3,6 +3,7 @@
 use crate::about::{HELP, VERSION};
 use crate::check::check_list;
 use crate::console::Console;
+use crate::entry::Gap;
 use crate::files::{Outcomes, Wanted};
 use crate::line::append_file_line;
 use crate::options::{Options, Refusal, Request, names_from, request_of};
@@ -77,6 +78,7 @@ where
     }
     let mut outcomes = Outcomes::new(rt, rt.alloc(), &wanted);
     let mut is_fine = true;
+    let mut done = 0_usize;
     for file in &wanted {
         let Some(outcome) = outcomes.next::<BITS>()? else {
             break;
@@ -96,6 +98,8 @@ where
                 console.tell_of(file.name, b"too long")?;
             }
         }
+        done = done.saturating_add(1);
+        console.show_progress(done, wanted.len());
     }
     Ok(is_fine)
 }
@@ -104,7 +108,7 @@ where
 fn refuse<R: Eprint, W: Write>(
     alloc: Global,
     refusal: &Refusal<'_>,
-    console: &Console<'_, R, W>,
+    console: &mut Console<'_, R, W>,
 ) -> Result<(), AllocError> {
     let mut text = Vec::new(alloc);
     append_refusal(&mut text, refusal)?;
@@ -133,7 +137,10 @@ fn append_refusal(out: &mut Vec<u8>, refusal: &Refusal<'_>) -> Result<(), AllocE
         }
         Refusal::Invalid(letter) => append_all(out, &[b"invalid option -- '", &[*letter], b"'"]),
         Refusal::LetterLacks(letter) => {
-            append_all(out, &[b"option requires an argument -- '", &[*letter], b"'"])
+            append_all(
+                out,
+                &[b"option requires an argument -- '", &[*letter], b"'"],
+            )
         }
         Refusal::NameLacks(name) => {
             append_all(out, &[b"option '--", name, b"' requires an argument"])
@@ -153,7 +160,10 @@ fn append_refusal(out: &mut Vec<u8>, refusal: &Refusal<'_>) -> Result<(), AllocE
 
 /// Appends that a word is the front of several long options.
 fn append_ambiguous(out: &mut Vec<u8>, word: &[u8]) -> Result<(), AllocError> {
-    append_all(out, &[b"option '--", word, b"' is ambiguous; possibilities:"])?;
+    append_all(
+        out,
+        &[b"option '--", word, b"' is ambiguous; possibilities:"],
+    )?;
     let front = match word.iter().position(|byte| *byte == b'=') {
         Some(place) => &word[..place],
         None => word,
@@ -219,14 +229,15 @@ where
         return list::<BITS, R, W>(rt, options, &operands, console);
     }
     let mut is_fine = true;
+    let mut gap = Gap::Unknown;
     for name in &operands {
-        is_fine = check_list::<BITS, R, W>(rt, options, *name, console)? && is_fine;
+        is_fine = check_list::<BITS, R, W>(rt, options, *name, &mut gap, console)? && is_fine;
     }
     Ok(is_fine)
 }
 
 /// Does what the arguments ask for, and returns whether it went well.
-fn run_words<const BITS: usize, R>(rt: &R) -> Result<bool, AllocError>
+fn run_words<const BITS: usize, R>(rt: &R, is_terminal: bool) -> Result<bool, AllocError>
 where
     R: Files + AllocGlobal + Clone + Drop + Env + Print + Eprint + Input,
 {
@@ -248,23 +259,26 @@ where
             true
         }
         Request::Refused(refusal) => {
-            refuse(alloc, &refusal, &console)?;
+            refuse(alloc, &refusal, &mut console)?;
             false
         }
         Request::Files(options, operands) => {
+            if is_terminal && options.shows_progress {
+                console.start_progress();
+            }
             run_files::<BITS, R, _>(rt, &options, operands, &mut console)?
         }
     };
     Ok(console.end()? && is_fine)
 }
 
-/// Does what the arguments ask for over vectors of so many bits, and returns the status: 0 where all
-/// went well, else 1.
-pub fn run<const BITS: usize, R>(rt: &R) -> u8
+/// Does what the arguments ask for over vectors of `BITS` bits, and returns the status: 0 where all
+/// went well, else 1. `is_terminal` is whether standard error is a terminal.
+pub fn run<const BITS: usize, R>(rt: &R, is_terminal: bool) -> u8
 where
     R: Files + AllocGlobal + Clone + Drop + Env + Print + Eprint + Input,
 {
-    match run_words::<BITS, R>(rt) {
+    match run_words::<BITS, R>(rt, is_terminal) {
         Ok(true) => SUCCESS,
         Ok(false) => FAILURE,
         Err(AllocError) => {

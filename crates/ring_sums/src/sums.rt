@@ -1,6 +1,5 @@
 //! Digests of what several readers give, side by side, in the order of the readers.
 
-
 use crate::found::take_first;
 use crate::lanes::{LANES, Lanes};
 use crate::outcome::Outcome;
@@ -31,8 +30,7 @@ pub struct Sums<R> {
 
 impl<R: Read + Drop> Sums<R> {
     /// The sums of what `readers` will give, under `algorithm`.
-    pub fn new(alloc: Global, algorithm: &Algorithm, readers: Vec<R>) -> Sums<R>
-    {
+    pub fn new(alloc: Global, algorithm: &Algorithm, readers: Vec<R>) -> Sums<R> {
         Sums {
             algorithm: *algorithm,
             total: readers.len(),
@@ -48,8 +46,7 @@ impl<R: Read + Drop> Sums<R> {
     }
 
     /// Puts the next readers into the lanes that are free.
-    fn begin(&mut self, alloc: Global) -> Result<(), AllocError>
-    {
+    fn begin(&mut self, alloc: Global) -> Result<(), AllocError> {
         'free: for _ in 0..LANES {
             if !self.can_begin() {
                 break;
@@ -65,8 +62,7 @@ impl<R: Read + Drop> Sums<R> {
     }
 
     /// Ends the lanes that are over.
-    fn end(&mut self) -> Result<(), AllocError>
-    {
+    fn end(&mut self) -> Result<(), AllocError> {
         let given = self
             .total
             .saturating_sub(self.waiting.len())
@@ -76,8 +72,7 @@ impl<R: Read + Drop> Sums<R> {
 
     /// Reads a piece of each reader that is begun, and updates the contexts once no lane is free for
     /// another.
-    fn run_round<const BITS: usize>(&mut self, alloc: Global) -> Result<(), AllocError>
-    {
+    fn run_round<const BITS: usize>(&mut self, alloc: Global) -> Result<(), AllocError> {
         self.begin(alloc)?;
         self.lanes.read();
         self.end()?;
@@ -88,8 +83,7 @@ impl<R: Read + Drop> Sums<R> {
     }
 
     /// Whether the next outcome can be given: it is found, or no reader is left to be read.
-    fn is_ready(&self) -> bool
-    {
+    fn is_ready(&self) -> bool {
         match self.found.front() {
             Some(first) => first.is_some() || self.lanes.is_empty(),
             None => self.waiting.len() == 0,
@@ -100,8 +94,10 @@ impl<R: Read + Drop> Sums<R> {
     /// vectors of `BITS` bits.
     ///
     /// Refused where memory is wanting. The outcomes that are to come are then lost.
-    pub fn next_outcome<const BITS: usize>(&mut self, alloc: Global) -> io::Result<Option<Outcome>>
-    {
+    pub fn next_outcome<const BITS: usize>(
+        &mut self,
+        alloc: Global,
+    ) -> io::Result<Option<Outcome>> {
         'rounds: for _ in 0..u64::MAX {
             if self.is_ready() {
                 return Ok(take_first(&mut self.found));

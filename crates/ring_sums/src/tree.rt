@@ -3,7 +3,7 @@
 use crate::console::Console;
 use std::alloc::{AllocError, Global};
 use std::fs::DirEntry;
-use std::io::{ErrorKind, Eprint, Write};
+use std::io::{Eprint, ErrorKind, Write};
 use std::path::AsPath;
 use std::rt::Files;
 use std::{fs, io};

@@ -3,8 +3,9 @@
 
 use ring::width::SSE;
 use ring_sums::run;
+use std::io::IsTerminal;
 use std::process::ExitCode;
 
 fn main(rt: HostRuntime) -> ExitCode {
-    ExitCode::from(run::<SSE, _>(&rt))
+    ExitCode::from(run::<SSE, _>(&rt, rt.stderr().is_terminal()))
 }

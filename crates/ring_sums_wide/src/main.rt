@@ -4,8 +4,9 @@
 
 use ring::width::AVX2;
 use ring_sums::run;
+use std::io::IsTerminal;
 use std::process::ExitCode;
 
 fn main(rt: HostRuntime) -> ExitCode {
-    ExitCode::from(run::<AVX2, _>(&rt))
+    ExitCode::from(run::<AVX2, _>(&rt, rt.stderr().is_terminal()))
 }

@@ -23,7 +23,8 @@ pub(crate) struct Wanted<'a> {
 pub(crate) enum Source<'a, R: Files + Input> {
     Named(&'a R, &'a [u8]),
     File(R::File),
-    Input(R::Reader),
+    /// Standard input, whose reader has a large room of its own and is made for each read.
+    Input(&'a R),
 }
 
 /// The path of a name.
@@ -37,7 +38,7 @@ fn path_of(name: &[u8]) -> io::Result<&str> {
 /// Opens a file, or standard input.
 fn open<'a, R: Files + Input>(rt: &'a R, name: &[u8]) -> io::Result<Source<'a, R>> {
     if name == STANDARD_INPUT {
-        return Ok(Source::Input(rt.reader()));
+        return Ok(Source::Input(rt));
     }
     Ok(Source::File(fs::open(rt, path_of(name)?)?))
 }
@@ -49,7 +50,7 @@ impl<R: Files + Input> Read for Source<'_, R> {
         }
         match self {
             Source::File(file) => file.read(buf),
-            Source::Input(input) => input.read(buf),
+            Source::Input(rt) => rt.reader().read(buf),
             Source::Named(_, _) => Ok(0),
         }
     }

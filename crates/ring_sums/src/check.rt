@@ -1,5 +1,7 @@
 //! The check of a list.
 
+ghost use Rattle.std.specs.Prelude.{◌≡◌, ◌↔◌, ◌<◌, IsTrue};
+
 use crate::console::Console;
 use crate::entry::{Entry, Gap, Verdict, append_verdict_line, entry_of_line, tag_of, verdict_of};
 use crate::files::{Outcomes, Wanted, read_all};
@@ -248,7 +250,11 @@ fn warn_of<R: Eprint, W: Write>(
 }
 
 /// Whether a list passes.
-fn passes(options: &Options, counts: &Counts) -> bool {
+fn passes(options: &Options, counts: &Counts) -> bool
+    ensures { IsTrue result ↔ ((0 < counts.now.same) × (counts.now.others ≡ 0)
+        × (counts.now.unread ≡ 0)
+        × (IsTrue options.now.is_strict → counts.now.bad_lines ≡ 0)) }
+{
     counts.same > 0
         && counts.others == 0
         && counts.unread == 0

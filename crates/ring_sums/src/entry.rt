@@ -1,5 +1,8 @@
 //! What a line of a list says.
 
+ghost use Rattle.std.specs.Prelude.{◌≡◌, ◌↔◌};
+ghost use Rattle.ring_sums.specs.Entry.{IsVerified};
+
 use crate::line::{append_name, needs_escape_of_check};
 use crate::outcome::Outcome;
 use ring::digest::{Algorithm, SHA1_FOR_LEGACY_USE_ONLY, SHA256, SHA384, SHA512, SHA512_256};
@@ -25,7 +28,9 @@ pub enum Verdict {
 }
 
 /// The verdict on a listed digest.
-pub fn verdict_of(outcome: &Outcome, listed: &[u8]) -> Verdict {
+pub fn verdict_of(outcome: &Outcome, listed: &[u8]) -> Verdict
+    ensures same { (result ≡ Verdict.Same) ↔ IsVerified outcome.now listed.now }
+{
     match outcome {
         Outcome::Sum(digest) => {
             if digest.as_ref() == listed {

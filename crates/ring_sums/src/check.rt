@@ -261,8 +261,8 @@ fn passes(options: &Options, counts: &Counts) -> bool
         && (counts.bad_lines == 0 || !options.is_strict)
 }
 
-/// Reads a list, says of each of its files whether it has the listed digest, and returns whether the
-/// list passes.
+/// Reads a list, says of each of its files whether it has the listed digest, and returns whether
+/// the list passes.
 pub(crate) fn check_list<const BITS: usize, R, W>(
     rt: &R,
     options: &Options,

@@ -22,7 +22,7 @@ pub(crate) struct Console<'a, R, W> {
     /// Whether standard input was asked for and is not open.
     is_input_closed: bool,
     shows_progress: bool,
-    /// How many hundredths of the files are shown to be done, where a line on standard error shows it.
+    /// How many hundredths of the files are shown to be done, where a line shows it.
     shown: Option<usize>,
 }
 

@@ -151,7 +151,8 @@ fn algorithm_of_digits(line: &[u8]) -> Option<Algorithm> {
     }
 }
 
-/// How many characters stand between digits and names, which the first line with digits in front shows.
+/// How many characters stand between digits and names. The first line with digits in front shows
+/// it.
 #[derive(Clone, Copy, PartialEq, Eq)]
 pub enum Gap {
     Unknown,

@@ -56,8 +56,8 @@ impl<R: Files + Input> Read for Source<'_, R> {
     }
 }
 
-/// Whether a file is read with no other beside it: standard input, which may be asked for twice, and
-/// pipes and devices, since whoever writes to one may wait for another to be read.
+/// Whether a file is read with no other beside it: standard input, which may be asked for twice,
+/// and pipes and devices, since whoever writes to one may wait for another to be read.
 fn is_alone<R: Files>(rt: &R, name: &[u8]) -> bool {
     if name == STANDARD_INPUT {
         return true;
@@ -94,8 +94,8 @@ impl<'a, R: Files + Input> Outcomes<'a, R> {
         }
     }
 
-    /// Begins with the files that are read side by side next: those of one algorithm up to one that is
-    /// read alone, or that one.
+    /// Begins with the files that are read side by side next: those of one algorithm up to one that
+    /// is read alone, or that one.
     fn begin(&mut self, first: Wanted<'a>) -> Result<(), AllocError> {
         let mut sources = Vec::new(self.alloc);
         let rest = self.wanted.get(self.next..).unwrap_or(&[]);

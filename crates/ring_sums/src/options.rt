@@ -150,7 +150,7 @@ pub(crate) fn names_from(alloc: Global, front: &[u8]) -> Result<Vec<&'static [u8
     Ok(names)
 }
 
-/// How many long names begin with some bytes, and the last of them; of the name itself it is the one.
+/// How many long names begin with some bytes, and the last of them. A name itself is the only one.
 fn find_long(front: &[u8]) -> (usize, Option<(&'static [u8], Flag)>) {
     let mut count = 0_usize;
     let mut found = None;

@@ -29,7 +29,7 @@ fn is_plain_in_double_quotes(byte: u8, is_first: bool, is_alone: bool) -> bool {
         b'#' | b'~' => is_first,
         b'{' | b'}' => is_alone,
         b' ' | b'\'' | b'%' | b'+' | b',' | b'-' | b'.' | b'/' | b':' | b']' | b'_' => true,
-        _ => byte.is_ascii_alphanumeric(),
+        _ => byte.is_ascii_alphanumeric() || byte == b'@' || !byte.is_ascii(),
     }
 }
 
@@ -64,7 +64,7 @@ fn suits_double_quotes(name: &[u8]) -> bool {
         }
         is_first = false;
     }
-    name.contains(&b'\'')
+    name.contains(&b'\'') && is_printable(name)
 }
 
 /// How a name is quoted.
@@ -157,17 +157,24 @@ impl Quoted<'_> {
     }
 }
 
-/// Appends a name between single quotes.
-fn append_in_single_quotes(out: &mut Vec<u8>, name: &[u8]) -> Result<(), AllocError> {
-    out.push(b'\'')?;
-    let mut quoted = Quoted {
-        out,
-        is_in_escapes: false,
-    };
+/// Appends the bytes that stand for a name between single quotes, and returns whether the last of
+/// them are escapes.
+fn append_parts(out: &mut Vec<u8>, name: &[u8], is_in_escapes: bool) -> Result<bool, AllocError> {
+    let mut quoted = Quoted { out, is_in_escapes };
     for chunk in name.utf8_chunks() {
         quoted.append(chunk.valid())?;
         quoted.escape(chunk.invalid())?;
     }
+    Ok(quoted.is_in_escapes)
+}
+
+/// Appends a name between single quotes. Coreutils go over a name that has one twice, and the
+/// second time begin as the first one ended.
+fn append_in_single_quotes(out: &mut Vec<u8>, name: &[u8]) -> Result<(), AllocError> {
+    let mut first = Vec::new(*out.allocator());
+    let is_in_escapes = append_parts(&mut first, name, false)?;
+    out.push(b'\'')?;
+    append_parts(out, name, is_in_escapes && name.contains(&b'\''))?;
     out.push(b'\'')?;
     Ok(())
 }

@@ -70,8 +70,8 @@ impl<R: Read + Drop> Sums<R> {
         self.lanes.end(given, &mut self.found)
     }
 
-    /// Reads a piece of each reader that is begun, and updates the contexts once no lane is free for
-    /// another.
+    /// Reads a piece of each reader that is begun, and updates the contexts once no lane is free
+    /// for another.
     fn run_round<const BITS: usize>(&mut self, alloc: Global) -> Result<(), AllocError> {
         self.begin(alloc)?;
         self.lanes.read();

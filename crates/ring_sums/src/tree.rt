@@ -94,8 +94,8 @@ impl Walk {
     }
 }
 
-/// Appends the names of the files in a directory and below it, in the order of their bytes, and returns
-/// whether all could be read. A link that is found is not followed.
+/// Appends the names of the files in a directory and below it, in the order of their bytes, and
+/// returns whether all could be read. A link that is found is not followed.
 fn append_tree<R, W>(
     rt: &R,
     directory: &str,

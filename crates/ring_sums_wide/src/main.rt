@@ -1,5 +1,5 @@
-//! Checksums of files over vectors of 256 bits, for processors with AVX2; `docs/SUMS.md` has the options
-//! and the messages.
+//! Checksums of files over vectors of 256 bits, for processors with AVX2; `docs/SUMS.md` has the
+//! options and the messages.
 #![tactic(auto)]
 
 use ring::width::AVX2;

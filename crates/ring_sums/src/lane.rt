@@ -1,5 +1,8 @@
 //! A reader in a lane.
 
+ghost use Rattle.std.specs.Prelude.{◌≡◌, List, [], IsFalse, IsNone, IsTrue, None, get_or};
+ghost use Rattle.ring.specs.declared.digest.algorithm.Algorithm.{Algorithm};
+
 use crate::outcome::Outcome;
 use crate::piece::{MAX_BLOCK_LEN, PIECE_LEN, fill};
 use ring::digest::Context;
@@ -28,7 +31,16 @@ pub(crate) struct Lane<R> {
 }
 
 impl<R: Read> Lane<R> {
-    pub(crate) fn new(place: usize, reader: R, room: Vec<u8>) -> Lane<R> {
+    ghost use Rattle.ring_sums.specs.Lane.{IsFilled, IsIn, IsRead, IsSkipped, front_of, left_of};
+    ghost use Rattle.ring_sums.specs.Outcome.{IsOutcome};
+
+    pub(crate) fn new(place: usize, reader: R, room: Vec<u8>) -> Lane<R>
+        ensures place { result.place ≡ place }
+        ensures reader { result.reader ≡ reader }
+        ensures failure { result.failure ≡ None }
+        ensures open { IsFalse result.has_ended }
+        ensures left { left_of result ≡ [] }
+    {
         Lane {
             place,
             reader,
@@ -41,7 +53,9 @@ impl<R: Read> Lane<R> {
     }
 
     /// Reads a piece into the room.
-    fn fill_room(&mut self) {
+    fn fill_room(&mut self)
+        ensures { IsFilled R.remaining self.old self.new }
+    {
         self.from = 0;
         match fill(&mut self.reader, &mut self.room) {
             Ok(len) => {
@@ -56,14 +70,18 @@ impl<R: Read> Lane<R> {
     }
 
     /// Reads the next piece, where the last one is taken in.
-    pub(crate) fn read(&mut self) {
+    pub(crate) fn read(&mut self)
+        ensures { IsRead R.remaining self.old self.new }
+    {
         if !self.has_ended && self.from >= self.len {
             self.fill_room();
         }
     }
 
     /// What was read and is not taken in.
-    pub(crate) fn left(&self) -> &[u8] {
+    pub(crate) fn left(&self) -> &[u8]
+        ensures { result.now ≡ left_of self.now }
+    {
         let piece = if self.len < self.room.len() {
             &self.room[..self.len]
         } else {
@@ -77,7 +95,9 @@ impl<R: Read> Lane<R> {
     }
 
     /// The front of what is not taken in.
-    pub(crate) fn front(&self, count: usize) -> &[u8] {
+    pub(crate) fn front(&self, count: usize) -> &[u8]
+        ensures { result.now ≡ front_of count self.now }
+    {
         let left = self.left();
         if count < left.len() {
             &left[..count]
@@ -87,12 +107,16 @@ impl<R: Read> Lane<R> {
     }
 
     /// So many bytes more are taken in.
-    pub(crate) fn skip(&mut self, count: usize) {
+    pub(crate) fn skip(&mut self, count: usize)
+        ensures { IsSkipped count self.old self.new }
+    {
         self.from = self.from.saturating_add(count);
     }
 
     /// Whether it has given all, of which less than a block is left, or failed.
-    pub(crate) fn is_over(&self) -> bool {
+    pub(crate) fn is_over(&self) -> bool
+        ensures { IsTrue result → IsNone self.now.failure → IsTrue self.now.has_ended }
+    {
         self.failure.is_some() || (self.has_ended && self.left().len() < MAX_BLOCK_LEN)
     }
 
@@ -100,6 +124,10 @@ impl<R: Read> Lane<R> {
     pub(crate) fn outcome(self, context: Context) -> (Outcome, Vec<u8>)
     where
         R: Drop,
+        ensures { (a : Algorithm) (readers : List R) (r : R)
+            → IsIn R.remaining a readers (left_of self) self context
+            → (IsNone self.failure → IsTrue self.has_ended)
+            → IsOutcome R.remaining a (get_or readers self.place r) result.0 }
     {
         let mut context = context;
         context.update(self.left());

@@ -1,7 +1,12 @@
 //! Digests of what several readers give, side by side, in the order of the readers.
 
+ghost use Rattle.std.specs.Prelude.{◌≡◌, ◌↔◌, ℕ, List, IfOk, IsTrue, OnOk, length};
+ghost use Rattle.std.specs.Vec.Iter.{into_iter_items};
+ghost use Rattle.ring.specs.declared.digest.algorithm.Algorithm.{Algorithm};
+ghost use Rattle.ring_sums.specs.Sums.{AreAt, IsGiven};
+
 use crate::found::take_first;
-use crate::lanes::{LANES, Lanes};
+use crate::lanes::Lanes;
 use crate::outcome::Outcome;
 use ring::digest::Algorithm;
 use std::alloc::{AllocError, Global};
@@ -30,7 +35,9 @@ pub struct Sums<R> {
 
 impl<R: Read + Drop> Sums<R> {
     /// The sums of what `readers` will give, under `algorithm`.
-    pub fn new(alloc: Global, algorithm: &Algorithm, readers: Vec<R>) -> Sums<R> {
+    pub fn new(alloc: Global, algorithm: &Algorithm, readers: Vec<R>) -> Sums<R>
+        ensures { AreAt R.remaining algorithm.now readers.items 0 result }
+    {
         Sums {
             algorithm: *algorithm,
             total: readers.len(),
@@ -46,11 +53,12 @@ impl<R: Read + Drop> Sums<R> {
     }
 
     /// Puts the next readers into the lanes that are free.
-    fn begin(&mut self, alloc: Global) -> Result<(), AllocError> {
-        'free: for _ in 0..LANES {
-            if !self.can_begin() {
-                break;
-            }
+    fn begin(&mut self, alloc: Global) -> Result<(), AllocError>
+        ensures { OnOk result ((a : Algorithm) (readers : List R) (place : ℕ)
+            → AreAt R.remaining a readers place self.old
+            → AreAt R.remaining a readers place self.new) }
+    {
+        'free: while self.can_begin() {
             let place = self.total.saturating_sub(self.waiting.len());
             let Some(reader) = self.waiting.next() else {
                 break;
@@ -62,28 +70,40 @@ impl<R: Read + Drop> Sums<R> {
     }
 
     /// Ends the lanes that are over.
-    fn end(&mut self) -> Result<(), AllocError> {
+    fn end(&mut self) -> Result<(), AllocError>
+        ensures { OnOk result ((a : Algorithm) (readers : List R) (place : ℕ)
+            → AreAt R.remaining a readers place self.old
+            → AreAt R.remaining a readers place self.new) }
+    {
         let given = self
             .total
             .saturating_sub(self.waiting.len())
             .saturating_sub(self.found.len());
-        self.lanes.end(given, &mut self.found)
+        self.lanes.end(given, &mut self.found)?;
+        Ok(())
     }
 
-    /// Reads a piece of each reader that is begun, and updates the contexts once no lane is free
-    /// for another.
-    fn run_round<const BITS: usize>(&mut self, alloc: Global) -> Result<(), AllocError> {
+    /// Reads a piece of each reader that is begun, and updates the contexts once no lane is free for
+    /// another.
+    fn run_round<const BITS: usize>(&mut self, alloc: Global) -> Result<(), AllocError>
+        ensures { OnOk result ((a : Algorithm) (readers : List R) (place : ℕ)
+            → AreAt R.remaining a readers place self.old
+            → AreAt R.remaining a readers place self.new) }
+    {
         self.begin(alloc)?;
         self.lanes.read();
         self.end()?;
-        if self.can_begin() {
-            return Ok(());
+        if !self.can_begin() {
+            self.lanes.update::<BITS>(alloc)?;
         }
-        self.lanes.update::<BITS>(alloc)
+        Ok(())
     }
 
     /// Whether the next outcome can be given: it is found, or no reader is left to be read.
-    fn is_ready(&self) -> bool {
+    fn is_ready(&self) -> bool
+        ensures { IsTrue result → (length self.now.found.items ≡ 0)
+            → (length (into_iter_items self.now.waiting) ≡ 0) }
+    {
         match self.found.front() {
             Some(first) => first.is_some() || self.lanes.is_empty(),
             None => self.waiting.len() == 0,
@@ -94,10 +114,11 @@ impl<R: Read + Drop> Sums<R> {
     /// vectors of `BITS` bits.
     ///
     /// Refused where memory is wanting. The outcomes that are to come are then lost.
-    pub fn next_outcome<const BITS: usize>(
-        &mut self,
-        alloc: Global,
-    ) -> io::Result<Option<Outcome>> {
+    pub fn next_outcome<const BITS: usize>(&mut self, alloc: Global) -> io::Result<Option<Outcome>>
+        ensures { IfOk result (λ outcome. (a : Algorithm) (readers : List R) (place : ℕ)
+            → AreAt R.remaining a readers place self.old
+            → IsGiven R.remaining a readers place outcome self.new) }
+    {
         'rounds: for _ in 0..u64::MAX {
             if self.is_ready() {
                 return Ok(take_first(&mut self.found));

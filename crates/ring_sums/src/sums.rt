@@ -59,12 +59,14 @@ impl<R: Read + Drop> Sums<R> {
             → AreAt R.remaining a readers place self.new) }
     {
         'free: while self.can_begin() {
+            // A reader without a lane keeps its place: it has failed.
+            self.found.reserve(1)?;
             let place = self.total.saturating_sub(self.waiting.len());
             let Some(reader) = self.waiting.next() else {
                 break;
             };
+            self.found.push_back_reserved(None);
             self.lanes.begin(alloc, &self.algorithm, place, reader)?;
-            self.found.push_back(None)?;
         }
         Ok(())
     }
@@ -113,7 +115,8 @@ impl<R: Read + Drop> Sums<R> {
     /// The outcome of the next reader, or `None` behind the last one. Contexts are updated over
     /// vectors of `BITS` bits.
     ///
-    /// Refused where memory is wanting. The outcomes that are to come are then lost.
+    /// Refused where memory is wanting. A reader that has no lane by then has failed, and the others
+    /// go on with the next call.
     pub fn next_outcome<const BITS: usize>(&mut self, alloc: Global) -> io::Result<Option<Outcome>>
         ensures { IfOk result (λ outcome. (a : Algorithm) (readers : List R) (place : ℕ)
             → AreAt R.remaining a readers place self.old

@@ -1,4 +1,4 @@
-use Rattle.std.proofs.Common.{◌≡◌, arith, length}
+use Rattle.std.proofs.Common.{◌≡◌, arith, drop, length}
 use Rattle.std.proofs.lemmas.List.{take_at}
 use Rattle.ring_sums.proofs.InLanes.{are-taken}
 use Rattle.ring_sums.proofs.lanes.Lanes.take_in.Goals as goal
@@ -9,5 +9,5 @@ returns g c = λ a readers all.
     let new = c.update_each_in.new.contexts in
     let took = rw (c.deref_mut.ensures.value, c.deref-2.ensures.value) at c.in-Ok.ensures.ok in
     let long : length new ≡ contexts.len = omega (arith, took.count, contexts.ok.0) in
-    rw (take_at new _ contexts.len long)
+    rw (take_at new (drop (length new) contexts.items) contexts.len long)
     (are-taken c.args.count all (rw c.deref.ensures.value at c.in_ok-pieces.ensures) took)

@@ -25,8 +25,8 @@ free-preserved g c = λ a readers place at.
     record {
       algorithm = so.algorithm;
       total = so.total;
-      begun = rw c.in_ok-push_back.ensures.items (omega (arith, so.begun, more, one_less));
+      begun = rw (c.push_back_reserved.ensures.items, c.reserve.ensures.items) (omega (arith, so.begun, more, one_less));
       waiting = n.last;
       reading = subst (λ (z : Algorithm). AreIn g.R.Read.remaining z readers left_of c.begin.new.self.lanes.items c.begin.new.self.contexts.items) so.algorithm begun;
-      found = rw c.in_ok-push_back.ensures.items (found-more so.found);
+      found = rw (c.push_back_reserved.ensures.items, c.reserve.ensures.items) (found-more so.found);
     }

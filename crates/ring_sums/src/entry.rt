@@ -3,7 +3,7 @@
 ghost use Rattle.std.specs.Prelude.{◌≡◌, ◌↔◌};
 ghost use Rattle.ring_sums.specs.Entry.{IsVerified};
 
-use crate::line::{append_name, needs_escape_of_check};
+use crate::names::{append_escaped, needs_escape_of_check};
 use crate::outcome::Outcome;
 use ring::digest::{Algorithm, SHA1_FOR_LEGACY_USE_ONLY, SHA256, SHA384, SHA512, SHA512_256};
 use std::alloc::{AllocError, Global};
@@ -66,7 +66,7 @@ pub(crate) fn append_verdict_line(
 ) -> Result<(), AllocError> {
     if needs_escape_of_check(name) {
         out.push(b'\\')?;
-        append_name(out, name)?;
+        append_escaped(out, name)?;
     } else {
         out.extend_from_slice(name)?;
     }

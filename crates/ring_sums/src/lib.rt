@@ -10,6 +10,7 @@ mod found;
 mod lane;
 mod lanes;
 mod line;
+mod names;
 mod options;
 mod outcome;
 mod piece;

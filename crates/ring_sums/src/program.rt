@@ -272,8 +272,8 @@ where
     Ok(console.end()? && is_fine)
 }
 
-/// Does what the arguments ask for over vectors of `BITS` bits, and returns the status: 0 where all
-/// went well, else 1. `is_terminal` is whether standard error is a terminal.
+/// Does what the arguments of `rt` ask for over vectors of `BITS` bits, and returns the status: 0
+/// where all went well, else 1. `is_terminal` is whether standard error is a terminal.
 pub fn run<const BITS: usize, R>(rt: &R, is_terminal: bool) -> u8
 where
     R: Files + AllocGlobal + Clone + Drop + Env + Print + Eprint + Input,

@@ -158,7 +158,12 @@ fn answer(line: &str) -> String {
 fn vectors() {
     let mut seen = 0;
     for entry in std::fs::read_dir(FOLDER).unwrap() {
-        let text = std::fs::read_to_string(entry.unwrap().path()).unwrap();
+        let path = entry.unwrap().path();
+        // The folders in it have lines of other programs.
+        if path.is_dir() {
+            continue;
+        }
+        let text = std::fs::read_to_string(path).unwrap();
         let mut last = "";
         for line in text.lines() {
             if let Some(wanted) = line.strip_prefix("#= ") {

@@ -1,0 +1,262 @@
+-- Lanes and their contexts, as they read, take in and end.
+use Rattle.std.proofs.Common.{◌≡◌, ◌≢◌, ℕ, ◌+◌, ◌-◌, ◌<◌, ◌≤◌, List, [], ◌∷◌, ◌++◌, ◌∙◌, Option}
+use Rattle.std.proofs.Common.{ap, arith, get_or, inl, inr, length, map}
+use Rattle.std.proofs.Common.{IsFalse, length-append, refl, slice_set}
+use Rattle.std.proofs.Common.{append_assoc, subst, sym}
+use Rattle.std.proofs.Math.ListN.{get_or-map}
+use Rattle.std.proofs.lemmas.Bool.{cases_lt, cases_order}
+use Rattle.std.proofs.lemmas.List.{get_or-append_right}
+use Rattle.std.proofs.lemmas.List.{get_or-set_other}
+use Rattle.std.proofs.lemmas.List.{get_or-set_same, get_or_append_left, get_or_default, length-map}
+use Rattle.std.proofs.lemmas.List.{length-set, take-append-drop}
+use Rattle.std.proofs.KnownBytes.{Consumes-nil}
+use Rattle.std.specs.Borrow.{Bor}
+use Rattle.std.specs.Io.KnownBytes.{Consumes, IsAtEnd}
+use Rattle.ring.specs.Prelude.{StandsFor, context_algorithm, message_at}
+use Rattle.ring.specs.Updates.{AreUpdated, IsUpdated}
+use Rattle.ring.specs.declared.digest.algorithm.Algorithm.{Algorithm}
+use Rattle.ring.specs.declared.digest.context.Context.{Context}
+use Rattle.ring_sums.specs.Lane.{IsIn, IsRead, IsSkipped, behind_of, front_of, left_of}
+use Rattle.ring_sums.specs.Lanes.{AreIn}
+use Rattle.ring_sums.specs.declared.lane.Lane.{Lane}
+use borrow.Author.Count.{below_more}
+
+-- the first i lanes have changed by a step
+pub record AreStepped {R : Type 0} (Step : Lane R → Lane R → Type 0) (old now : List (Lane R))
+    (i : ℕ) : Type 0 where
+  pub count : length now ≡ length old
+  pub done : (k : ℕ) → k < i → (l : Lane R) → Step (get_or old k l) (get_or now k l)
+  pub others : (k : ℕ) (l : Lane R) → i ≤ k → get_or now k l ≡ get_or old k l
+
+pub stepped-none : {R : Type 0} (Step : Lane R → Lane R → Type 0) (old : List (Lane R))
+    → AreStepped Step old old 0
+stepped-none Step old =
+    record {
+      count = refl;
+      done = λ k below l. absurd (omega (arith, below));
+      others = λ k l from. refl;
+    }
+
+pub stepped-next : {R : Type 0} {Step : Lane R → Lane R → Type 0} {old now : List (Lane R)} (i : ℕ)
+    (d x : Lane R) → AreStepped Step old now i
+    → i < length old → Step (get_or now i d) x
+    → AreStepped Step old (slice_set now i x) (i + 1)
+stepped-next {R = R} {Step = Step} {old} {now} i d x have below s =
+    record {
+      count = length-set now i x ∙ have.count;
+      done = below_more (λ (k : ℕ). (l : Lane R)
+          → Step (get_or old k l) (get_or (slice_set now i x) k l)) i
+          (λ k h l. rw (get_or-set_other now i k x l (omega (arith, h))) (have.done k h l))
+          (λ l. rw (get_or-set_same now i x l (omega (arith, have.count, below)))
+          (subst (λ z. Step z x)
+          (have.others i d (omega arith) ∙ get_or_default old i d l below) s));
+      others = λ k l from. get_or-set_other now i k x l (omega (arith, from))
+          ∙ have.others k l (omega (arith, from));
+    }
+
+module _ {R : Type 0} {remaining : R → Option (List ℕ)} {a : Algorithm} {readers : List R} where
+  -- a lane that has read
+  pub in-read : {old new : Lane R} {c : Context} → IsIn remaining a readers (left_of old) old c
+      → IsRead remaining old new → IsIn remaining a readers (left_of new) new c
+  in-read {old} {new} {c} i s =
+      record {
+        place = subst (λ (z : ℕ). z < length readers) (sym s.place) i.place;
+        algorithm = i.algorithm;
+        taken = λ none.
+            let t = i.taken (s.failure none) in
+            record {
+              bytes = t.bytes;
+              stands = t.stands;
+              read = λ r. subst (λ (z : ℕ). Consumes (remaining (get_or readers z r))
+                  (remaining new.reader) (t.bytes ++ left_of new)) (sym s.place)
+                  (s.bytes none _ t.bytes (t.read r));
+            };
+        end = λ none over. s.end none i.end over;
+      }
+
+  -- a context that has taken in the first n bytes of what was left
+  pub in-taken : {l : Lane R} {c d : Context} (n : ℕ) → IsIn remaining a readers (left_of l) l c
+      → IsUpdated c d (front_of n l) → IsIn remaining a readers (behind_of n l) l d
+  in-taken {l} n i s =
+      record {
+        place = i.place;
+        algorithm = s.algorithm ∙ i.algorithm;
+        taken = λ none.
+            let t = i.taken none in
+            let all : List ℕ = t.bytes ++ front_of n l in
+            let same : all ++ behind_of n l ≡ t.bytes ++ left_of l =
+            append_assoc t.bytes (front_of n l) (behind_of n l)
+            ∙ ap (λ (z : List ℕ). t.bytes ++ z) (take-append-drop n (left_of l)) in
+            record {
+              bytes = all;
+              stands = s.stands t.bytes t.stands;
+              read = λ r. subst (Consumes (remaining (get_or readers l.place r))
+                  (remaining l.reader)) (sym same) (t.read r);
+            };
+        end = i.end;
+      }
+
+  -- a lane of which they are counted
+  pub in-skipped : {old new : Lane R} {c : Context} (n : ℕ)
+      → IsIn remaining a readers (behind_of n old) old c → IsSkipped n old new
+      → IsIn remaining a readers (left_of new) new c
+  in-skipped {old} {new} {c} n i s =
+      let P : ℕ → R → List ℕ → Type 0 = λ k x bytes. (r : R)
+      → Consumes (remaining (get_or readers k r)) (remaining x) bytes in
+      record {
+        place = subst (λ (z : ℕ). z < length readers) (sym s.place) i.place;
+        algorithm = i.algorithm;
+        taken = λ none.
+            let t = i.taken (s.failure none) in
+            record {
+              bytes = t.bytes;
+              stands = t.stands;
+              read = subst (λ (z : ℕ). P z new.reader (t.bytes ++ left_of new)) (sym s.place)
+                  (subst (λ (z : R). P old.place z (t.bytes ++ left_of new)) (sym s.reader)
+                  (subst (λ (z : List ℕ). P old.place old.reader (t.bytes ++ z)) (sym s.left)
+                  t.read));
+            };
+        end = λ none over. subst (λ (z : R). IsAtEnd (remaining z)) (sym s.reader)
+            (i.end (s.failure none) (s.end over));
+      }
+
+  -- all contexts
+  pub are-taken : {lanes : List (Lane R)} {old new : List Context}
+      {pieces : List (Bor (List ℕ))} (n : ℕ) → AreIn remaining a readers left_of lanes old
+      → map (λ piece. piece.now) pieces ≡ map (front_of n) lanes → AreUpdated old new pieces
+      → AreIn remaining a readers (behind_of n) lanes new
+  are-taken {lanes} {old} {new} {pieces} n all same took =
+      let many : length pieces ≡ length lanes =
+      sym (length-map pieces (λ (piece : Bor (List ℕ)). piece.now)) ∙ ap length same
+      ∙ length-map lanes (front_of n) in
+      record {
+        count = took.count ∙ all.count;
+        each = λ i l c below.
+            let read : message_at pieces i ≡ front_of n (get_or lanes i l) =
+            ap (λ (z : List (List ℕ)). get_or z i []) same
+            ∙ get_or_default (map (front_of n) lanes) i [] (front_of n l)
+            (omega (arith, length-map lanes (front_of {R = R} n), below))
+            ∙ get_or-map (front_of n) lanes i l in
+            let one = took.each i c (omega (arith, many, below)) in
+            in-taken n (all.each i l c below)
+            (subst (IsUpdated (get_or old i c) (get_or new i c)) read one);
+      }
+
+  pub reading-all : {old now : List (Lane R)} {contexts : List Context} {i : ℕ}
+      → AreStepped (IsRead remaining) old now i → length old ≤ i
+      → AreIn remaining a readers left_of old contexts
+      → AreIn remaining a readers left_of now contexts
+  reading-all {old} {now} {contexts} have all first =
+      record {
+        count = first.count ∙ sym have.count;
+        each = λ k l c below.
+            in-read (first.each k l c (omega (arith, have.count, below)))
+            (have.done k (omega (arith, have.count, below, all)) l);
+      }
+
+  pub skipping-all : {old now : List (Lane R)} {contexts : List Context} {i : ℕ} (n : ℕ)
+      → AreStepped (IsSkipped n) old now i → length old ≤ i
+      → AreIn remaining a readers (behind_of n) old contexts
+      → AreIn remaining a readers left_of now contexts
+  skipping-all {old} {now} {contexts} n have all first =
+      record {
+        count = first.count ∙ sym have.count;
+        each = λ k l c below.
+            in-skipped n (first.each k l c (omega (arith, have.count, below)))
+            (have.done k (omega (arith, have.count, below, all)) l);
+      }
+
+-- lanes and contexts without those at place i, where the last ones stand now
+pub record IsSwapped {X : Type 0} (old new : List X) (i : ℕ) : Type 0 where
+  pub len : length new + 1 ≡ length old
+  pub moved : (d : X) → i + 1 < length old → get_or new i d ≡ get_or old (length old - 1) d
+  pub others : (k : ℕ) (d : X) → k ≢ i → k + 1 < length old → get_or new k d ≡ get_or old k d
+
+module _ {R : Type 0} {remaining : R → Option (List ℕ)} {a : Algorithm} {readers : List R} where
+  pub in-swapped : {lanes fewer : List (Lane R)} {contexts less : List Context} (i : ℕ)
+      → AreIn remaining a readers left_of lanes contexts → IsSwapped lanes fewer i
+      → IsSwapped contexts less i → AreIn remaining a readers left_of fewer less
+  in-swapped {lanes} {fewer} {contexts} {less} i all s t =
+      let P : Lane R → Context → Type 0 = λ l c. IsIn remaining a readers (left_of l) l c in
+      record {
+        count = omega (arith, all.count, s.len, t.len);
+        each = λ k l c below. elim (cases_order k i) [
+          | inl e ↦
+              let there : i + 1 < length lanes = omega (arith, e, below, s.len) in
+              let size : length contexts - 1 ≡ length lanes - 1 = omega (arith, all.count) in
+              let at_l : get_or fewer k l ≡ get_or lanes (length lanes - 1) l =
+              ap (λ (z : ℕ). get_or fewer z l) e ∙ s.moved l there in
+              let at_c : get_or less k c ≡ get_or contexts (length lanes - 1) c =
+              ap (λ (z : ℕ). get_or less z c) e ∙ t.moved c (omega (arith, there, all.count))
+              ∙ ap (λ (z : ℕ). get_or contexts z c) size in
+              subst (λ z. P z (get_or less k c)) (sym at_l)
+              (subst (P (get_or lanes (length lanes - 1) l)) (sym at_c)
+              (all.each (length lanes - 1) l c (omega (arith, there))))
+          | inr o ↦
+              let other : k ≢ i = λ e. elim o [
+                | inl h ↦ absurd (omega (arith, h, e))
+                | inr h ↦ absurd (omega (arith, h, e))
+              ] in
+              let there : k + 1 < length lanes = omega (arith, below, s.len) in
+              subst (λ z. P z (get_or less k c)) (sym (s.others k l other there))
+              (subst (P (get_or lanes k l))
+              (sym (t.others k c other (omega (arith, there, all.count))))
+              (all.each k l c (omega (arith, there))))
+        ];
+      }
+
+module _ {R : Type 0} {remaining : R → Option (List ℕ)} {a : Algorithm} {readers : List R} where
+  -- a lane that begins
+  pub in-new : {lane : Lane R} {context : Context} (place : ℕ) → place < length readers
+      → lane.place ≡ place → ((r : R) → get_or readers place r ≡ lane.reader)
+      → IsFalse lane.has_ended → left_of lane ≡ [] → StandsFor context [] → context_algorithm context ≡ a
+      → IsIn remaining a readers (left_of lane) lane context
+  in-new {lane} place below at is shut empty stands of =
+      record {
+        place = subst (λ (z : ℕ). z < length readers) (sym at) below;
+        algorithm = of;
+        taken = λ none.
+            record {
+              bytes = [];
+              stands = stands;
+              read = λ r. subst (λ (z : R). Consumes (remaining z) (remaining lane.reader)
+                  (left_of lane)) (sym (ap (λ (z : ℕ). get_or readers z r) at ∙ is r))
+                  (subst (Consumes (remaining lane.reader) (remaining lane.reader)) (sym empty)
+                  (Consumes-nil (remaining lane.reader)));
+            };
+        end = λ none over. absurd (cc (shut, over));
+      }
+
+  -- and stands behind the others
+  pub in-more : {lanes : List (Lane R)} {contexts : List Context} (lane : Lane R)
+      (context : Context) → AreIn remaining a readers left_of lanes contexts
+      → IsIn remaining a readers (left_of lane) lane context
+      → AreIn remaining a readers left_of (lanes ++ lane ∷ []) (contexts ++ context ∷ [])
+  in-more {lanes} {contexts} lane context all one =
+      let P : Lane R → Context → Type 0 = λ l c. IsIn remaining a readers (left_of l) l c in
+      let more = length-append lanes (lane ∷ []) in
+      record {
+        count = omega (arith, all.count, more, length-append contexts (context ∷ []));
+        each = λ i l c below. elim (cases_lt i (length lanes)) [
+          | inl lt ↦
+              subst (λ z. P z (get_or (contexts ++ context ∷ []) i c))
+              (sym (get_or_append_left lanes (lane ∷ []) l i lt))
+              (subst (P (get_or lanes i l))
+              (sym (get_or_append_left contexts (context ∷ []) c i (omega (arith, all.count, lt))))
+              (all.each i l c lt))
+          | inr ge ↦
+              let at : i - length lanes ≡ 0 = omega (arith, ge, below, more) in
+              let first : get_or (lanes ++ lane ∷ []) i l ≡ lane =
+              get_or-append_right lanes (lane ∷ []) (length lanes) i l refl ge
+              ∙ ap (λ (z : ℕ). get_or (lane ∷ []) z l) at in
+              let second : get_or (contexts ++ context ∷ []) i c ≡ context =
+              get_or-append_right contexts (context ∷ []) (length lanes) i c all.count ge
+              ∙ ap (λ (z : ℕ). get_or (context ∷ []) z c) at in
+              subst (λ z. P z (get_or (contexts ++ context ∷ []) i c)) (sym first)
+              (subst (P lane) (sym second) one)
+        ];
+      }
+
+  -- no lane
+  pub in-none : AreIn remaining a readers left_of [] []
+  in-none = record { count = refl; each = λ i l c below. absurd (omega (arith, below)) }

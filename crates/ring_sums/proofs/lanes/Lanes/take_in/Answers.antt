@@ -1,0 +1,13 @@
+use Rattle.std.proofs.Common.{◌≡◌, arith, drop, length}
+use Rattle.std.proofs.lemmas.List.{take_at}
+use Rattle.ring_sums.proofs.InLanes.{are-taken}
+use Rattle.ring_sums.proofs.lanes.Lanes.take_in.Goals as goal
+
+pub returns : goal.returns
+returns g c = λ a readers all.
+    let contexts = c.args.self.now.contexts in
+    let new = c.update_each_in.new.contexts in
+    let took = rw (c.deref_mut.ensures.value, c.deref-2.ensures.value) at c.in-Ok.ensures.ok in
+    let long : length new ≡ contexts.len = omega (arith, took.count, contexts.ok.0) in
+    rw (take_at new (drop (length new) contexts.items) contexts.len long)
+    (are-taken c.args.count all (rw c.deref.ensures.value at c.in_ok-pieces.ensures) took)

@@ -1,0 +1,33 @@
+-- Outcomes that are found before it is their turn to be given.
+use Rattle.std.specs.Prelude.{◌≡◌, ℕ, ◌+◌, ◌<◌, ◌⊎◌, IfSome, IsNone, IsSomeAnd, List, [], ◌∷◌, Option, None, Some}
+use Rattle.std.specs.Prelude.{get_or, length, ⊤}
+use Rattle.ring.specs.declared.digest.algorithm.Algorithm.{Algorithm}
+use Rattle.ring_sums.specs.Outcome.{IsOutcome}
+use Rattle.ring_sums.specs.declared.outcome.Outcome.{Outcome}
+use Rattle.ring_sums.specs.declared.outcome.Outcome.TheVariants.{Sum, TooLong, Failed}
+
+-- the outcomes that are found of the readers from `place` on are theirs
+pub record AreFound {R : Type 0} (remaining : R → Option (List ℕ)) (a : Algorithm)
+    (readers : List R) (place : ℕ) (found : List (Option Outcome)) : Type 0 where
+  pub each : (k : ℕ) (r : R) (o : Option Outcome) → k < length found
+      → IfSome (get_or found k o) (IsOutcome remaining a (get_or readers (place + k) r))
+
+-- the outcome of the reader at `place` is among those of the readers from `given` on, if it is one
+-- of theirs
+pub record IsPut (given place : ℕ) (outcome : Outcome) (old new : List (Option Outcome))
+    : Type 0 where
+  pub count : length new ≡ length old
+  pub each : (k : ℕ) (o : Option Outcome) → k < length old
+      → ((given + k ≡ place) × (get_or new k o ≡ Some outcome)) ⊎ (get_or new k o ≡ get_or old k o)
+
+-- the outcome of a reader that is not read
+abbrev pub IsFailed : Outcome → Type 0
+IsFailed (Sum digest) = ⊥
+IsFailed TooLong = ⊥
+IsFailed (Failed error) = ⊤
+
+-- the first of the outcomes, which is a failure where it is not found
+abbrev pub IsFirst : List (Option Outcome) → Option Outcome → Type 0
+IsFirst [] outcome = IsNone outcome
+IsFirst (Some first ∷ rest) outcome = outcome ≡ Some first
+IsFirst (None ∷ rest) outcome = IsSomeAnd outcome IsFailed

@@ -1,0 +1,153 @@
+//! Where the program writes: lines on standard output, and messages on standard error.
+
+use crate::quote::append_quoted;
+use std::alloc::{AllocError, Global};
+use std::io;
+use std::io::{Eprint, Write};
+
+/// The system's number of the error that a descriptor is not open.
+const BAD_DESCRIPTOR: i32 = 9;
+
+const HUNDRED: usize = 100;
+
+/// Standard output and standard error.
+#[derive(Drop)]
+pub(crate) struct Console<'a, R, W> {
+    rt: &'a R,
+    alloc: Global,
+    program: &'a [u8],
+    out: W,
+    /// Why a line could not be written. None is written after it.
+    failure: Option<io::Error>,
+    /// Whether standard input was asked for and is not open.
+    is_input_closed: bool,
+    shows_progress: bool,
+    /// How many hundredths of the files are shown to be done, where a line shows it.
+    shown: Option<usize>,
+}
+
+/// Appends what is wrong with a call of the system, without the system's number for it.
+pub(crate) fn append_reason(out: &mut Vec<u8>, error: &io::Error) -> Result<(), AllocError> {
+    let text = format!(in *out.allocator(); "{error}")?;
+    let bytes = text.as_bytes();
+    let len = match memchr::memmem::rfind(bytes, b" (os error ") {
+        Some(place) => place,
+        None => bytes.len(),
+    };
+    out.extend_from_slice(&bytes[..len])?;
+    Ok(())
+}
+
+impl<'a, R: Eprint, W: Write> Console<'a, R, W> {
+    pub(crate) fn new(rt: &'a R, alloc: Global, program: &'a [u8], out: W) -> Console<'a, R, W> {
+        Console {
+            rt,
+            alloc,
+            program,
+            out,
+            failure: None,
+            is_input_closed: false,
+            shows_progress: false,
+            shown: None,
+        }
+    }
+
+    /// Shows from now on how far a run is.
+    pub(crate) fn start_progress(&mut self) {
+        self.shows_progress = true;
+    }
+
+    /// Shows how many of the files are done, where that is a hundredth more than is shown.
+    pub(crate) fn show_progress(&mut self, done: usize, total: usize) {
+        if !self.shows_progress || total == 0 {
+            return;
+        }
+        let hundredths = done.saturating_mul(HUNDRED) / total;
+        if self.shown != Some(hundredths) {
+            let _ = self
+                .rt
+                .eprint(format_args!("\r{done} of {total} files\x1b[K"));
+            self.shown = Some(hundredths);
+        }
+    }
+
+    /// Takes the line that shows it away.
+    fn hide_progress(&mut self) {
+        if self.shown.is_some() {
+            let _ = self.rt.eprint("\r\x1b[K");
+            self.shown = None;
+        }
+    }
+
+    /// Notes why a file could not be read.
+    pub(crate) fn note(&mut self, error: &io::Error) {
+        if error.raw_os_error() == Some(BAD_DESCRIPTOR) {
+            self.is_input_closed = true;
+        }
+    }
+
+    /// The program's name.
+    pub(crate) fn program(&self) -> &'a [u8] {
+        self.program
+    }
+
+    /// Writes a line, unless one before could not be written.
+    pub(crate) fn write(&mut self, line: &[u8]) {
+        self.hide_progress();
+        if self.failure.is_none() {
+            self.failure = self.out.write_all(line).err();
+        }
+    }
+
+    /// Writes text on standard error, behind the program's name.
+    pub(crate) fn tell(&mut self, text: &[u8]) -> Result<(), AllocError> {
+        let mut message = self.program.to_vec(self.alloc)?;
+        message.extend_from_slice(b": ")?;
+        message.extend_from_slice(text)?;
+        self.show(&message)
+    }
+
+    /// Writes a line on standard error.
+    pub(crate) fn show(&mut self, line: &[u8]) -> Result<(), AllocError> {
+        self.hide_progress();
+        let text = String::from_utf8_lossy(self.alloc, line)?;
+        // Where standard error fails too, the status still tells.
+        let _ = self.rt.eprintln(&*text);
+        Ok(())
+    }
+
+    /// Tells what is wrong with a file.
+    pub(crate) fn tell_of(&mut self, name: &[u8], text: &[u8]) -> Result<(), AllocError> {
+        let mut message = Vec::new(self.alloc);
+        append_quoted(&mut message, name)?;
+        message.extend_from_slice(b": ")?;
+        message.extend_from_slice(text)?;
+        self.tell(&message)
+    }
+
+    /// Tells why a file could not be read.
+    pub(crate) fn tell_error(&mut self, name: &[u8], error: &io::Error) -> Result<(), AllocError> {
+        self.note(error);
+        let mut reason = Vec::new(self.alloc);
+        append_reason(&mut reason, error)?;
+        self.tell_of(name, &reason)
+    }
+
+    /// Whether standard input could be closed and every line be written. What failed is told.
+    pub(crate) fn end(&mut self) -> Result<bool, AllocError> {
+        self.hide_progress();
+        if self.is_input_closed {
+            self.tell(b"standard input: Bad file descriptor")?;
+        }
+        let Some(error) = self.failure else {
+            return Ok(!self.is_input_closed);
+        };
+        let mut message = b"write error".to_vec(self.alloc)?;
+        if error.raw_os_error() == Some(BAD_DESCRIPTOR) {
+            message.extend_from_slice(b": ")?;
+            append_reason(&mut message, &error)?;
+        }
+        self.tell(&message)?;
+        Ok(false)
+    }
+}

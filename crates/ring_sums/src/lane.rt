@@ -1,0 +1,143 @@
+//! A reader in a lane.
+
+ghost use Rattle.std.specs.Prelude.{◌≡◌, List, [], IsFalse, IsNone, IsTrue, None, get_or};
+ghost use Rattle.ring.specs.declared.digest.algorithm.Algorithm.{Algorithm};
+
+use crate::outcome::Outcome;
+use crate::piece::{MAX_BLOCK_LEN, PIECE_LEN, fill};
+use ring::digest::Context;
+use std::alloc::{AllocError, Global};
+use std::io;
+use std::io::Read;
+
+/// Room for a piece.
+pub(crate) fn new_room(alloc: Global) -> Result<Vec<u8>, AllocError> {
+    vec![in alloc; 0; PIECE_LEN]
+}
+
+/// A reader that is read, and its place among all.
+#[derive(Drop)]
+pub(crate) struct Lane<R> {
+    pub(crate) place: usize,
+    pub(crate) reader: R,
+    pub(crate) room: Vec<u8>,
+    /// How many bytes of its last piece are taken in.
+    pub(crate) from: usize,
+    /// How many bytes of the room are its last piece.
+    pub(crate) len: usize,
+    /// Whether it has given all.
+    pub(crate) has_ended: bool,
+    pub(crate) failure: Option<io::Error>,
+}
+
+impl<R: Read> Lane<R> {
+    ghost use Rattle.ring_sums.specs.Lane.{IsFilled, IsIn, IsRead, IsSkipped, front_of, left_of};
+    ghost use Rattle.ring_sums.specs.Outcome.{IsOutcome};
+
+    pub(crate) fn new(place: usize, reader: R, room: Vec<u8>) -> Lane<R>
+        ensures place { result.place ≡ place }
+        ensures reader { result.reader ≡ reader }
+        ensures failure { result.failure ≡ None }
+        ensures open { IsFalse result.has_ended }
+        ensures left { left_of result ≡ [] }
+    {
+        Lane {
+            place,
+            reader,
+            room,
+            from: 0,
+            len: 0,
+            has_ended: false,
+            failure: None,
+        }
+    }
+
+    /// Reads a piece into the room.
+    fn fill_room(&mut self)
+        ensures { IsFilled R.remaining self.old self.new }
+    {
+        self.from = 0;
+        match fill(&mut self.reader, &mut self.room) {
+            Ok(len) => {
+                self.len = len;
+                self.has_ended = len < self.room.len();
+            }
+            Err(error) => {
+                self.len = 0;
+                self.failure = Some(error);
+            }
+        }
+    }
+
+    /// Reads the next piece, where the last one is taken in.
+    pub(crate) fn read(&mut self)
+        ensures { IsRead R.remaining self.old self.new }
+    {
+        if !self.has_ended && self.from >= self.len {
+            self.fill_room();
+        }
+    }
+
+    /// What was read and is not taken in.
+    pub(crate) fn left(&self) -> &[u8]
+        ensures { result.now ≡ left_of self.now }
+    {
+        let piece = if self.len < self.room.len() {
+            &self.room[..self.len]
+        } else {
+            &self.room
+        };
+        if self.from < piece.len() {
+            &piece[self.from..]
+        } else {
+            &piece[..0]
+        }
+    }
+
+    /// The front of what is not taken in.
+    pub(crate) fn front(&self, count: usize) -> &[u8]
+        ensures { result.now ≡ front_of count self.now }
+    {
+        let left = self.left();
+        if count < left.len() {
+            &left[..count]
+        } else {
+            left
+        }
+    }
+
+    /// So many bytes more are taken in.
+    pub(crate) fn skip(&mut self, count: usize)
+        ensures { IsSkipped count self.old self.new }
+    {
+        self.from = self.from.saturating_add(count);
+    }
+
+    /// Whether it has given all, of which less than a block is left, or failed.
+    pub(crate) fn is_over(&self) -> bool
+        ensures { IsTrue result → IsNone self.now.failure → IsTrue self.now.has_ended }
+    {
+        self.failure.is_some() || (self.has_ended && self.left().len() < MAX_BLOCK_LEN)
+    }
+
+    /// How it ended, and its room.
+    pub(crate) fn outcome(self, context: Context) -> (Outcome, Vec<u8>)
+    where
+        R: Drop,
+        ensures { (a : Algorithm) (readers : List R) (r : R)
+            → IsIn R.remaining a readers (left_of self) self context
+            → (IsNone self.failure → IsTrue self.has_ended)
+            → IsOutcome R.remaining a (get_or readers self.place r) result.0 }
+    {
+        let mut context = context;
+        context.update(self.left());
+        let outcome = match self.failure {
+            Some(error) => Outcome::Failed(error),
+            None => match context.finish() {
+                Ok(digest) => Outcome::Sum(digest),
+                Err(_) => Outcome::TooLong,
+            },
+        };
+        (outcome, self.room)
+    }
+}

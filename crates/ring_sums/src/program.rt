@@ -1,0 +1,289 @@
+//! The program over any files, arguments and standard streams.
+
+use crate::about::{HELP, VERSION};
+use crate::check::check_list;
+use crate::console::Console;
+use crate::entry::Gap;
+use crate::files::{Outcomes, Wanted};
+use crate::line::append_file_line;
+use crate::options::{Options, Refusal, Request, names_from, request_of};
+use crate::outcome::Outcome;
+use crate::tree::append_files;
+use ring::digest::SHA256;
+use std::alloc::{AllocError, Global};
+use std::env::FillError;
+use std::io;
+use std::io::{Eprint, Input, Print, Write};
+use std::rt::{Env, Files};
+
+/// The name of the program where it is called by none.
+const NAME: &[u8] = b"sums";
+
+/// The status of a run that went well.
+const SUCCESS: u8 = 0;
+
+/// The status of one that did not.
+const FAILURE: u8 = 1;
+
+/// How many bytes an argument is given at first.
+const FIRST_ROOM: usize = 256;
+
+/// An argument, or `None` past the last one.
+fn argument<R: Env>(rt: &R, alloc: Global, place: usize) -> Result<Option<Vec<u8>>, AllocError> {
+    let mut room = FIRST_ROOM;
+    for _ in 0..usize::BITS {
+        let mut bytes = vec![in alloc; 0; room]?;
+        match rt.arg(place, &mut bytes) {
+            Ok(len) => {
+                bytes.truncate(len);
+                return Ok(Some(bytes));
+            }
+            Err(FillError::NotPresent) => return Ok(None),
+            Err(FillError::TooLong) => room = room.saturating_mul(2),
+        }
+    }
+    Err(AllocError)
+}
+
+/// The arguments, the program's name first.
+fn arguments<R: Env>(rt: &R, alloc: Global) -> Result<Vec<Vec<u8>>, AllocError> {
+    let mut words = Vec::new(alloc);
+    for place in 0..usize::MAX {
+        match argument(rt, alloc, place)? {
+            Some(word) => words.push(word)?,
+            None => break,
+        }
+    }
+    Ok(words)
+}
+
+/// Writes a line for each file, and returns whether all could be read.
+fn list<const BITS: usize, R, W>(
+    rt: &R,
+    options: &Options,
+    names: &[&[u8]],
+    console: &mut Console<'_, R, W>,
+) -> Result<bool, AllocError>
+where
+    R: Files + AllocGlobal + Eprint + Input,
+    W: Write,
+{
+    let algorithm = options.algorithm.unwrap_or(SHA256);
+    let mut wanted = Vec::new(rt.alloc());
+    for name in names {
+        wanted.push(Wanted {
+            name: *name,
+            algorithm,
+        })?;
+    }
+    let mut outcomes = Outcomes::new(rt, rt.alloc(), &wanted);
+    let mut is_fine = true;
+    let mut done = 0_usize;
+    for file in &wanted {
+        let Some(outcome) = outcomes.next::<BITS>()? else {
+            break;
+        };
+        match outcome {
+            Outcome::Sum(digest) => {
+                let mut line = Vec::new(rt.alloc());
+                append_file_line(&mut line, options, &digest, file.name)?;
+                console.write(&line);
+            }
+            Outcome::Failed(error) => {
+                is_fine = false;
+                console.tell_error(file.name, &error)?;
+            }
+            Outcome::TooLong => {
+                is_fine = false;
+                console.tell_of(file.name, b"too long")?;
+            }
+        }
+        done = done.saturating_add(1);
+        console.show_progress(done, wanted.len());
+    }
+    Ok(is_fine)
+}
+
+/// Tells why the arguments ask for nothing.
+fn refuse<R: Eprint, W: Write>(
+    alloc: Global,
+    refusal: &Refusal<'_>,
+    console: &mut Console<'_, R, W>,
+) -> Result<(), AllocError> {
+    let mut text = Vec::new(alloc);
+    append_refusal(&mut text, refusal)?;
+    console.tell(&text)?;
+    let mut advice = b"Try '".to_vec(alloc)?;
+    advice.extend_from_slice(console.program())?;
+    advice.extend_from_slice(b" --help' for more information.")?;
+    console.show(&advice)
+}
+
+/// Appends some parts.
+fn append_all(out: &mut Vec<u8>, parts: &[&[u8]]) -> Result<(), AllocError> {
+    for part in parts {
+        out.extend_from_slice(part)?;
+    }
+    Ok(())
+}
+
+/// Appends what is wrong with the arguments.
+fn append_refusal(out: &mut Vec<u8>, refusal: &Refusal<'_>) -> Result<(), AllocError> {
+    match refusal {
+        Refusal::Unrecognized(word) => append_all(out, &[b"unrecognized option '--", word, b"'"]),
+        Refusal::Ambiguous(word) => append_ambiguous(out, word),
+        Refusal::ValueOf(name) => {
+            append_all(out, &[b"option '--", name, b"' doesn't allow an argument"])
+        }
+        Refusal::Invalid(letter) => append_all(out, &[b"invalid option -- '", &[*letter], b"'"]),
+        Refusal::LetterLacks(letter) => {
+            append_all(
+                out,
+                &[b"option requires an argument -- '", &[*letter], b"'"],
+            )
+        }
+        Refusal::NameLacks(name) => {
+            append_all(out, &[b"option '--", name, b"' requires an argument"])
+        }
+        Refusal::NoAlgorithm(name) => append_all(
+            out,
+            &[
+                b"invalid argument '",
+                name,
+                b"' for '--algorithm'\nValid arguments are:\n  - 'sha1'\n  - 'sha256'\n  \
+                - 'sha384'\n  - 'sha512'\n  - 'sha512-256'",
+            ],
+        ),
+        Refusal::Together(text) => append_all(out, &[text.as_bytes()]),
+    }
+}
+
+/// Appends that a word is the front of several long options.
+fn append_ambiguous(out: &mut Vec<u8>, word: &[u8]) -> Result<(), AllocError> {
+    append_all(
+        out,
+        &[b"option '--", word, b"' is ambiguous; possibilities:"],
+    )?;
+    let front = match word.iter().position(|byte| *byte == b'=') {
+        Some(place) => &word[..place],
+        None => word,
+    };
+    for name in &names_from(*out.allocator(), front)? {
+        append_all(out, &[b" '--", name, b"'"])?;
+    }
+    Ok(())
+}
+
+/// Writes the help.
+fn help<R: Eprint, W: Write>(
+    alloc: Global,
+    console: &mut Console<'_, R, W>,
+) -> Result<(), AllocError> {
+    let mut text = b"Usage: ".to_vec(alloc)?;
+    text.extend_from_slice(console.program())?;
+    text.extend_from_slice(b" [OPTION]... [FILE]...\n")?;
+    text.extend_from_slice(HELP.as_bytes())?;
+    console.write(&text);
+    Ok(())
+}
+
+/// Writes a line for each file, also of those below the operands that are directories.
+fn list_trees<const BITS: usize, R, W>(
+    rt: &R,
+    options: &Options,
+    operands: &[&[u8]],
+    console: &mut Console<'_, R, W>,
+) -> Result<bool, AllocError>
+where
+    R: Files + AllocGlobal + Clone + Drop + Eprint + Input,
+    W: Write,
+{
+    let mut files: Vec<Vec<u8>> = Vec::new(rt.alloc());
+    let is_whole = append_files(rt, operands, &mut files, console)?;
+    let mut names: Vec<&[u8]> = Vec::new(rt.alloc());
+    for file in &files {
+        names.push(file)?;
+    }
+    Ok(list::<BITS, R, W>(rt, options, &names, console)? && is_whole)
+}
+
+/// Does what is asked of files.
+fn run_files<const BITS: usize, R, W>(
+    rt: &R,
+    options: &Options,
+    operands: Vec<&[u8]>,
+    console: &mut Console<'_, R, W>,
+) -> Result<bool, AllocError>
+where
+    R: Files + AllocGlobal + Clone + Drop + Eprint + Input,
+    W: Write,
+{
+    let mut operands = operands;
+    if operands.is_empty() {
+        operands.push(b"-")?;
+    }
+    if options.is_recursive {
+        return list_trees::<BITS, R, W>(rt, options, &operands, console);
+    }
+    if !options.does_check {
+        return list::<BITS, R, W>(rt, options, &operands, console);
+    }
+    let mut is_fine = true;
+    let mut gap = Gap::Unknown;
+    for name in &operands {
+        is_fine = check_list::<BITS, R, W>(rt, options, *name, &mut gap, console)? && is_fine;
+    }
+    Ok(is_fine)
+}
+
+/// Does what the arguments ask for, and returns whether it went well.
+fn run_words<const BITS: usize, R>(rt: &R, is_terminal: bool) -> Result<bool, AllocError>
+where
+    R: Files + AllocGlobal + Clone + Drop + Env + Print + Eprint + Input,
+{
+    let alloc = rt.alloc();
+    let words = arguments(rt, alloc)?;
+    let program = match words.first() {
+        Some(word) => word.to_vec(alloc)?,
+        None => NAME.to_vec(alloc)?,
+    };
+    let words = words.get(1..).unwrap_or(&[]);
+    let mut console = Console::new(rt, alloc, &program, io::writer(rt));
+    let is_fine = match request_of(alloc, &program, words)? {
+        Request::Help => {
+            help(alloc, &mut console)?;
+            true
+        }
+        Request::Version => {
+            console.write(VERSION.as_bytes());
+            true
+        }
+        Request::Refused(refusal) => {
+            refuse(alloc, &refusal, &mut console)?;
+            false
+        }
+        Request::Files(options, operands) => {
+            if is_terminal && options.shows_progress {
+                console.start_progress();
+            }
+            run_files::<BITS, R, _>(rt, &options, operands, &mut console)?
+        }
+    };
+    Ok(console.end()? && is_fine)
+}
+
+/// Does what the arguments of `rt` ask for over vectors of `BITS` bits, and returns the status: 0
+/// where all went well, else 1. `is_terminal` is whether standard error is a terminal.
+pub fn run<const BITS: usize, R>(rt: &R, is_terminal: bool) -> u8
+where
+    R: Files + AllocGlobal + Clone + Drop + Env + Print + Eprint + Input,
+{
+    match run_words::<BITS, R>(rt, is_terminal) {
+        Ok(true) => SUCCESS,
+        Ok(false) => FAILURE,
+        Err(AllocError) => {
+            let _ = rt.eprintln("sums: memory exhausted");
+            FAILURE
+        }
+    }
+}

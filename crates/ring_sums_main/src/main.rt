@@ -1,0 +1,11 @@
+//! Checksums of files over vectors of 128 bits; `docs/SUMS.md` has the options and the messages.
+#![tactic(auto)]
+
+use ring::width::SSE;
+use ring_sums::run;
+use std::io::IsTerminal;
+use std::process::ExitCode;
+
+fn main(rt: HostRuntime) -> ExitCode {
+    ExitCode::from(run::<SSE, _>(&rt, rt.stderr().is_terminal()))
+}

@@ -1,0 +1,134 @@
+/* SPDX-License-Identifier: ISC */
+/* Loaded into a program before the C library: the calls that open, read, look at and write files and ask
+ * for memory are counted from 1, and one of them fails, as scripts/sums asks in the environment. A file
+ * can also be cut short or grow behind its first read. */
+#define _GNU_SOURCE
+#include <dlfcn.h>
+#include <errno.h>
+#include <fcntl.h>
+#include <stdarg.h>
+#include <stdio.h>
+#include <stdlib.h>
+#include <sys/stat.h>
+#include <sys/types.h>
+#include <unistd.h>
+
+/* The call that fails, and the request for memory that is refused; 0 is none. */
+static long failed_call, refused_request;
+/* The length that the file CHANGED_FILE gets behind the first read of at least a byte; -1 is none. */
+static long changed_length = -1;
+static const char *changed_file;
+/* At most so many bytes a read; 0 is no limit. */
+static long step;
+/* Where the counts of calls and of requests go at the end. */
+static long report_to = -1;
+
+static long calls, requests;
+static int is_ready;
+
+static void get(const char *name, long *value) {
+    const char *text = getenv(name);
+    if (text) *value = atol(text);
+}
+
+static void prepare(void) {
+    if (is_ready) return;
+    is_ready = 1;
+    get("FAILED_CALL", &failed_call);
+    get("REFUSED_REQUEST", &refused_request);
+    get("CHANGED_LENGTH", &changed_length);
+    get("STEP", &step);
+    get("REPORT_TO", &report_to);
+    changed_file = getenv("CHANGED_FILE");
+}
+
+/* Counts a call, and tells whether it fails. */
+static int fails(int with) {
+    prepare();
+    if (++calls != failed_call) return 0;
+    errno = with;
+    return 1;
+}
+
+static int is_refused(void) {
+    prepare();
+    return ++requests == refused_request;
+}
+
+extern void *__libc_malloc(size_t);
+extern void *__libc_calloc(size_t, size_t);
+extern void *__libc_realloc(void *, size_t);
+
+void *malloc(size_t size) { return is_refused() ? NULL : __libc_malloc(size); }
+void *calloc(size_t count, size_t size) { return is_refused() ? NULL : __libc_calloc(count, size); }
+void *realloc(void *room, size_t size) { return is_refused() ? NULL : __libc_realloc(room, size); }
+
+static int open_by(const char *real, const char *path, int flags, mode_t mode) {
+    if (fails(EACCES)) return -1;
+    return ((int (*)(const char *, int, ...))dlsym(RTLD_NEXT, real))(path, flags, mode);
+}
+
+int open(const char *path, int flags, ...) {
+    va_list rest;
+    va_start(rest, flags);
+    mode_t mode = va_arg(rest, mode_t);
+    va_end(rest);
+    return open_by("open", path, flags, mode);
+}
+
+int open64(const char *path, int flags, ...) {
+    va_list rest;
+    va_start(rest, flags);
+    mode_t mode = va_arg(rest, mode_t);
+    va_end(rest);
+    return open_by("open64", path, flags, mode);
+}
+
+static int openat_by(const char *real, int folder, const char *path, int flags, mode_t mode) {
+    if (fails(EACCES)) return -1;
+    return ((int (*)(int, const char *, int, ...))dlsym(RTLD_NEXT, real))(folder, path, flags, mode);
+}
+
+int openat(int folder, const char *path, int flags, ...) {
+    va_list rest;
+    va_start(rest, flags);
+    mode_t mode = va_arg(rest, mode_t);
+    va_end(rest);
+    return openat_by("openat", folder, path, flags, mode);
+}
+
+int openat64(int folder, const char *path, int flags, ...) {
+    va_list rest;
+    va_start(rest, flags);
+    mode_t mode = va_arg(rest, mode_t);
+    va_end(rest);
+    return openat_by("openat64", folder, path, flags, mode);
+}
+
+int statx(int folder, const char *path, int flags, unsigned mask, struct statx *found) {
+    if (fails(EACCES)) return -1;
+    return ((int (*)(int, const char *, int, unsigned, struct statx *))dlsym(RTLD_NEXT, "statx"))(
+        folder, path, flags, mask, found);
+}
+
+ssize_t read(int file, void *room, size_t len) {
+    if (fails(EIO)) return -1;
+    if (step > 0 && len > (size_t)step) len = step;
+    ssize_t count = ((ssize_t(*)(int, void *, size_t))dlsym(RTLD_NEXT, "read"))(file, room, len);
+    if (count > 0 && changed_length >= 0 && changed_file) {
+        if (truncate(changed_file, changed_length)) _exit(99);
+        changed_length = -1;
+    }
+    return count;
+}
+
+ssize_t write(int file, const void *bytes, size_t len) {
+    ssize_t (*real)(int, const void *, size_t) = dlsym(RTLD_NEXT, "write");
+    if (file == STDERR_FILENO || file == report_to) return real(file, bytes, len);
+    if (fails(ENOSPC)) return -1;
+    return real(file, bytes, len);
+}
+
+__attribute__((destructor)) static void report(void) {
+    if (report_to >= 0) dprintf((int)report_to, "%ld %ld\n", calls, requests);
+}

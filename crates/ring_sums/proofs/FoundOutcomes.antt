@@ -1,6 +1,7 @@
 -- Outcomes that are found, and the readers that wait.
 use Rattle.std.proofs.Common.{◌≡◌, ℕ, ◌+◌, ◌-◌, ◌<◌, List, [], ◌∷◌, ◌++◌, ◌∙◌, Option, None, Some}
-use Rattle.std.proofs.Common.{ap, arith, drop, drop-drop, get_or, inl, inr, length, refl, subst, sym}
+use Rattle.std.proofs.Common.{ap, arith, drop, drop-drop, get_or, inl, inr, length, refl, subst}
+use Rattle.std.proofs.Common.{sym}
 use Rattle.std.proofs.Common.{length-append, length-drop}
 use Rattle.std.specs.Prelude.{◌↔◌, IfSome, IsSome, if◌then◌else◌, is_some}
 use Rattle.std.proofs.lemmas.Bool.{cases_lt}

@@ -209,7 +209,8 @@ module _ {R : Type 0} {remaining : R → Option (List ℕ)} {a : Algorithm} {rea
   -- a lane that begins
   pub in-new : {lane : Lane R} {context : Context} (place : ℕ) → place < length readers
       → lane.place ≡ place → ((r : R) → get_or readers place r ≡ lane.reader)
-      → IsFalse lane.has_ended → left_of lane ≡ [] → StandsFor context [] → context_algorithm context ≡ a
+      → IsFalse lane.has_ended → left_of lane ≡ [] → StandsFor context []
+      → context_algorithm context ≡ a
       → IsIn remaining a readers (left_of lane) lane context
   in-new {lane} place below at is shut empty stands of =
       record {

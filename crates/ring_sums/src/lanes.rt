@@ -127,8 +127,8 @@ impl<R: Read + Drop> Lanes<R> {
         }
     }
 
-    /// Takes out the lanes that have ended, and puts their outcomes among those that are found of the
-    /// readers from `given` on.
+    /// Takes out the lanes that have ended, and puts their outcomes among those that are found of
+    /// the readers from `given` on.
     pub(crate) fn end(
         &mut self,
         given: usize,

@@ -34,8 +34,8 @@ pub struct Sums<R> {
 }
 
 impl<R: Read + Drop> Sums<R> {
-    /// The sums of what `readers` will give, under `algorithm`, with memory of `alloc`. Nothing is read
-    /// yet.
+    /// The sums of what `readers` will give, under `algorithm`, with memory of `alloc`. Nothing is
+    /// read yet.
     pub fn new(alloc: Global, algorithm: &Algorithm, readers: Vec<R>) -> Sums<R>
         ensures { AreAt R.remaining algorithm.now readers.items 0 result }
     {
@@ -86,8 +86,8 @@ impl<R: Read + Drop> Sums<R> {
         Ok(())
     }
 
-    /// Reads a piece of each reader that is begun, and updates the contexts once no lane is free for
-    /// another.
+    /// Reads a piece of each reader that is begun, and updates the contexts once no lane is free
+    /// for another.
     fn run_round<const BITS: usize>(&mut self, alloc: Global) -> Result<(), AllocError>
         ensures { OnOk result ((a : Algorithm) (readers : List R) (place : ℕ)
             → AreAt R.remaining a readers place self.old
@@ -116,8 +116,8 @@ impl<R: Read + Drop> Sums<R> {
     /// The outcome of the next reader, or `None` behind the last one. Contexts are updated over
     /// vectors of `BITS` bits (FIPS 180-4, section 6).
     ///
-    /// Refused where `alloc` has no memory. A reader that has no lane by then has failed, and the others
-    /// go on with the next call.
+    /// Refused where `alloc` has no memory. A reader that has no lane by then has failed, and the
+    /// others go on with the next call.
     pub fn next_outcome<const BITS: usize>(&mut self, alloc: Global) -> io::Result<Option<Outcome>>
         ensures { IfOk result (λ outcome. (a : Algorithm) (readers : List R) (place : ℕ)
             → AreAt R.remaining a readers place self.old

@@ -1,4 +1,5 @@
-use Rattle.std.proofs.Common.{◌≡◌, ◌<◌, IsNone, IsTrue, arith, get_or, length, refl, subst, sym, ◌∙◌}
+use Rattle.std.proofs.Common.{◌≡◌, ◌<◌, ◌∙◌, IsNone, IsTrue, arith, get_or, length, refl, subst}
+use Rattle.std.proofs.Common.{sym}
 use Rattle.std.proofs.lemmas.List.{get_or_default}
 use Rattle.ring_sums.specs.Lane.{IsIn}
 use Rattle.ring_sums.specs.Lane.{left_of}
@@ -32,7 +33,8 @@ lanes-preserved-in-Continue-1 g c =
     } in
     let over : IsNone lane.failure → IsTrue lane.has_ended =
     let same : c.index.result.now ≡ lane =
-    c.index.ensures ∙ get_or_default lanes.items i _ lane (omega (arith, c.lanes-test.true, c.len.ensures, lanes.ok.0))
+    c.index.ensures ∙ get_or_default lanes.items i _ lane
+    (omega (arith, c.lanes-test.true, c.len.ensures, lanes.ok.0))
     ∙ sym taken.value in
     subst (λ (z : Lane _). IsNone z.failure → IsTrue z.has_ended) same
     (c.if-is_over.ensures refl) in
@@ -40,10 +42,12 @@ lanes-preserved-in-Continue-1 g c =
       count = c.put.ensures.count ∙ c.lanes.invariant.count;
       going = λ a readers first found.
           let so = c.lanes.invariant.going a readers first found in
-          let below : i < length lanes.items = omega (arith, c.lanes-test.true, c.len.ensures, lanes.ok.0) in
+          let below : i < length lanes.items =
+          omega (arith, c.lanes-test.true, c.len.ensures, lanes.ok.0) in
           let is : IsIn g.R.Read.remaining a readers (left_of lane) lane context =
           subst (λ z. IsIn g.R.Read.remaining a readers (left_of z) z context) (sym taken.value)
-          (subst (IsIn g.R.Read.remaining a readers (left_of (get_or lanes.items i lane)) (get_or lanes.items i lane))
+          (subst (IsIn g.R.Read.remaining a readers (left_of (get_or lanes.items i lane))
+          (get_or lanes.items i lane))
           (sym given.value) (so.0.each i lane context below)) in (
             in-swapped i so.0 swapped swapped_too,
             found-put so.1 c.put.ensures

@@ -1,4 +1,5 @@
-use Rattle.std.proofs.Common.{◌≡◌, ◌-◌, ◌∷◌, [], None, arith, length, length-append, refl, subst, sym}
+use Rattle.std.proofs.Common.{◌≡◌, ◌-◌, ◌∷◌, [], None, arith, length, length-append, refl, subst}
+use Rattle.std.proofs.Common.{sym}
 use Rattle.std.specs.Vec.Iter.{into_iter_items}
 use Rattle.ring.specs.declared.digest.algorithm.Algorithm.{Algorithm}
 use Rattle.ring_sums.specs.Lane.{left_of}
@@ -14,19 +15,36 @@ free-preserved g c = λ a readers place at.
     let rest = into_iter_items c.next.new.self in
     let waited : AreLast readers (reader ∷ rest) = rw c.in-Some.ensures.items at so.waiting in
     let number = c.saturating_sub-place.result in
-    let one_less : length (into_iter_items c.free.self.waiting) ≡ length (reader ∷ rest) = rw c.in-Some.ensures.items refl in
+    let one_less : length (into_iter_items c.free.self.waiting) ≡ length (reader ∷ rest) =
+    rw c.in-Some.ensures.items refl in
     let from : number ≡ length readers - length (reader ∷ rest) =
-    omega (arith, so.total, c.saturating_sub-place.ensures, c.len.ensures, c.in-Some.ensures.len, c.free.self.waiting.rest.ok, c.next.new.self.rest.ok, one_less) in
+    omega (
+      arith,
+      so.total,
+      c.saturating_sub-place.ensures,
+      c.len.ensures,
+      c.in-Some.ensures.len,
+      c.free.self.waiting.rest.ok,
+      c.next.new.self.rest.ok,
+      one_less,
+    ) in
     let n = last-next reader number waited from in
     let more = length-append c.free.self.found.items (None ∷ []) in
-    let lanes : AreIn g.R.Read.remaining c.free.self.algorithm readers left_of c.free.self.lanes.lanes.items c.free.self.lanes.contexts.items =
-    subst (λ (z : Algorithm). AreIn g.R.Read.remaining z readers left_of c.free.self.lanes.lanes.items c.free.self.lanes.contexts.items) (sym so.algorithm) so.reading in
+    let old = c.free.self.lanes in
+    let new = c.begin.new.self in
+    let lanes : AreIn g.R.Read.remaining c.free.self.algorithm readers left_of old.lanes.items
+    old.contexts.items =
+    subst (λ (z : Algorithm). AreIn g.R.Read.remaining z readers left_of old.lanes.items
+    old.contexts.items) (sym so.algorithm) so.reading in
     let begun = c.in_ok-begin.ensures readers n.below n.read lanes in
     record {
       algorithm = so.algorithm;
       total = so.total;
-      begun = rw (c.push_back_reserved.ensures.items, c.reserve.ensures.items) (omega (arith, so.begun, more, one_less));
+      begun = rw (c.push_back_reserved.ensures.items, c.reserve.ensures.items)
+          (omega (arith, so.begun, more, one_less));
       waiting = n.last;
-      reading = subst (λ (z : Algorithm). AreIn g.R.Read.remaining z readers left_of c.begin.new.self.lanes.items c.begin.new.self.contexts.items) so.algorithm begun;
-      found = rw (c.push_back_reserved.ensures.items, c.reserve.ensures.items) (found-more so.found);
+      reading = subst (λ (z : Algorithm). AreIn g.R.Read.remaining z readers left_of
+          new.lanes.items new.contexts.items) so.algorithm begun;
+      found = rw (c.push_back_reserved.ensures.items, c.reserve.ensures.items)
+          (found-more so.found);
     }

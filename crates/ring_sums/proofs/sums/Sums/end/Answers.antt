@@ -7,16 +7,29 @@ pub returns : goal.returns
 returns g c = λ a readers place at.
     let found = c.args.self.now.found in
     let given = c.saturating_sub-given.result in
-    let waiting : c.len.result ≡ length (into_iter_items c.args.self.now.waiting) = omega (arith, c.len.ensures, c.args.self.now.waiting.rest.ok) in
+    let waiting : c.len.result ≡ length (into_iter_items c.args.self.now.waiting) =
+    omega (arith, c.len.ensures, c.args.self.now.waiting.rest.ok) in
     let many : c.len-2.result ≡ length found.items = omega (arith, c.len-2.ensures, found.ok.0) in
-    let is : given ≡ place = omega (arith, c.saturating_sub-given.ensures, c.saturating_sub.ensures, waiting, many, at.total, at.begun) in
-    let first = subst (λ (z : ℕ). AreFound g.R.Read.remaining a readers z found.items) (sym is) at.found in
+    let is : given ≡ place =
+    omega (
+      arith,
+      c.saturating_sub-given.ensures,
+      c.saturating_sub.ensures,
+      waiting,
+      many,
+      at.total,
+      at.begun,
+    ) in
+    let first = subst (λ (z : ℕ). AreFound g.R.Read.remaining a readers z found.items) (sym is)
+    at.found in
     let ended = c.in_ok-end.ensures.going a readers at.reading first in
     record {
       algorithm = at.algorithm;
       total = at.total;
-      begun = ap (λ (z : ℕ). place + z + length (into_iter_items c.args.self.now.waiting)) c.in_ok-end.ensures.count ∙ at.begun;
+      begun = ap (λ (z : ℕ). place + z + length (into_iter_items c.args.self.now.waiting))
+          c.in_ok-end.ensures.count ∙ at.begun;
       waiting = at.waiting;
       reading = ended.0;
-      found = subst (λ (z : ℕ). AreFound g.R.Read.remaining a readers z c.end.new.found.items) is ended.1;
+      found = subst (λ (z : ℕ). AreFound g.R.Read.remaining a readers z c.end.new.found.items) is
+          ended.1;
     }

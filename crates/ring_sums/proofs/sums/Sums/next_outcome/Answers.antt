@@ -6,7 +6,8 @@ use Rattle.ring_sums.proofs.sums.Sums.next_outcome.Goals as goal
 pub returns-then-is_ready : goal.returns-then-is_ready
 returns-then-is_ready g c = λ a readers place first.
     let at = c.rounds.invariant a readers place first in
-    let n = next-of (length (into_iter_items c.rounds.self.waiting)) c.rounds.self.found.items c.take_first.result
+    let n = next-of (length (into_iter_items c.rounds.self.waiting)) c.rounds.self.found.items
+    c.take_first.result
     c.take_first.ensures.first at.found at.begun (c.is_ready.ensures c.if-is_ready.true) in
     record {
       some = n.some;

@@ -72,13 +72,7 @@ pub(crate) fn front_after<const N: usize>(hash: Hash, steps: u32) -> u64
     let (mut first, mut second, mut third, mut fourth) = ([0; N], [0; N], [0; N], [0; N]);
     #[tactic(auto, using(crate::proofs::Steps::iterate_next))]
     'steps: for _step in 0..steps {
-        replace_fronts(
-            &algorithm,
-            &mut first,
-            &mut second,
-            &mut third,
-            &mut fourth,
-        );
+        replace_fronts(&algorithm, &mut first, &mut second, &mut third, &mut fourth);
     }
     message::front(match steps % 4 {
         0 => &first,

@@ -1,7 +1,7 @@
 -- Lanes and their contexts, as they read, take in and end.
 use Rattle.std.proofs.Common.{◌≡◌, ◌≢◌, ℕ, ◌+◌, ◌-◌, ◌<◌, ◌≤◌, List, [], ◌∷◌, ◌++◌, ◌∙◌, Option}
 use Rattle.std.proofs.Common.{ap, arith, get_or, inl, inr, length, map}
-use Rattle.std.proofs.Common.{IsFalse, length-append, refl, slice_set}
+use Rattle.std.proofs.Common.{Bool, IsFalse, None, Some, length-append, refl, slice_set}
 use Rattle.std.proofs.Common.{append_assoc, subst, sym}
 use Rattle.std.proofs.Math.ListN.{get_or-map}
 use Rattle.std.proofs.lemmas.Bool.{cases_lt, cases_order}
@@ -11,6 +11,8 @@ use Rattle.std.proofs.lemmas.List.{get_or-set_same, get_or_append_left, get_or_d
 use Rattle.std.proofs.lemmas.List.{length-set, take-append-drop}
 use Rattle.std.proofs.KnownBytes.{Consumes-nil}
 use Rattle.std.specs.Borrow.{Bor}
+use Rattle.std.specs.Prelude.{IfSome}
+use Rattle.std.specs.declared.io.Error.{Error}
 use Rattle.std.specs.Io.KnownBytes.{Consumes, IsAtEnd}
 use Rattle.ring.specs.Prelude.{StandsFor, context_algorithm, message_at}
 use Rattle.ring.specs.Updates.{AreUpdated, IsUpdated}
@@ -18,6 +20,7 @@ use Rattle.ring.specs.declared.digest.algorithm.Algorithm.{Algorithm}
 use Rattle.ring.specs.declared.digest.context.Context.{Context}
 use Rattle.ring_sums.specs.Lane.{IsIn, IsRead, IsSkipped, behind_of, front_of, left_of}
 use Rattle.ring_sums.specs.Lanes.{AreIn}
+use Rattle.ring_sums.specs.Outcome.{IsFailure}
 use Rattle.ring_sums.specs.declared.lane.Lane.{Lane}
 use borrow.Author.Count.{below_more}
 
@@ -54,14 +57,27 @@ stepped-next {R = R} {Step = Step} {old} {now} i d x have below s =
           ∙ have.others k l (omega (arith, from));
     }
 
-module _ {R : Type 0} {remaining : R → Option (List ℕ)} {a : Algorithm} {readers : List R} where
+-- a failure of two readers that are alike in whether reads can fail
+failure-of : {R : Type 0} (can_fail : R → Bool) (x y : R) (failure : Option Error)
+    → can_fail x ≡ can_fail y → IfSome failure (IsFailure can_fail y)
+    → IfSome failure (IsFailure can_fail x)
+failure-of can_fail x y None same is = tt
+failure-of can_fail x y (Some error) same is = (same ∙ is.0, is.1)
+
+module _ {R : Type 0} {remaining : R → Option (List ℕ)} {can_fail : R → Bool}
+    {a : Algorithm} {readers : List R} where
   -- a lane that has read
-  pub in-read : {old new : Lane R} {c : Context} → IsIn remaining a readers (left_of old) old c
-      → IsRead remaining old new → IsIn remaining a readers (left_of new) new c
+  pub in-read : {old new : Lane R} {c : Context}
+      → IsIn remaining can_fail a readers (left_of old) old c
+      → IsRead remaining can_fail old new → IsIn remaining can_fail a readers (left_of new) new c
   in-read {old} {new} {c} i s =
       record {
         place = subst (λ (z : ℕ). z < length readers) (sym s.place) i.place;
         algorithm = i.algorithm;
+        same = λ r. subst (λ (z : ℕ). can_fail new.reader ≡ can_fail (get_or readers z r))
+            (sym s.place) (s.same ∙ i.same r);
+        failed = failure-of can_fail new.reader old.reader new.failure s.same
+            (s.failed i.failed);
         taken = λ none.
             let t = i.taken (s.failure none) in
             record {
@@ -75,12 +91,15 @@ module _ {R : Type 0} {remaining : R → Option (List ℕ)} {a : Algorithm} {rea
       }
 
   -- a context that has taken in the first n bytes of what was left
-  pub in-taken : {l : Lane R} {c d : Context} (n : ℕ) → IsIn remaining a readers (left_of l) l c
-      → IsUpdated c d (front_of n l) → IsIn remaining a readers (behind_of n l) l d
+  pub in-taken : {l : Lane R} {c d : Context} (n : ℕ)
+      → IsIn remaining can_fail a readers (left_of l) l c
+      → IsUpdated c d (front_of n l) → IsIn remaining can_fail a readers (behind_of n l) l d
   in-taken {l} n i s =
       record {
         place = i.place;
         algorithm = s.algorithm ∙ i.algorithm;
+        same = i.same;
+        failed = i.failed;
         taken = λ none.
             let t = i.taken none in
             let all : List ℕ = t.bytes ++ front_of n l in
@@ -98,16 +117,19 @@ module _ {R : Type 0} {remaining : R → Option (List ℕ)} {a : Algorithm} {rea
 
   -- a lane of which they are counted
   pub in-skipped : {old new : Lane R} {c : Context} (n : ℕ)
-      → IsIn remaining a readers (behind_of n old) old c → IsSkipped n old new
-      → IsIn remaining a readers (left_of new) new c
+      → IsIn remaining can_fail a readers (behind_of n old) old c → IsSkipped n old new
+      → IsIn remaining can_fail a readers (left_of new) new c
   in-skipped {old} {new} {c} n i s =
       let P : ℕ → R → List ℕ → Type 0 = λ k x bytes. (r : R)
       → Consumes (remaining (get_or readers k r)) (remaining x) bytes in
       record {
         place = subst (λ (z : ℕ). z < length readers) (sym s.place) i.place;
         algorithm = i.algorithm;
+        same = λ r. subst (λ (z : ℕ). can_fail new.reader ≡ can_fail (get_or readers z r))
+            (sym s.place) (ap can_fail s.reader ∙ i.same r);
+        failed = rw (s.failure, s.reader) i.failed;
         taken = λ none.
-            let t = i.taken (s.failure none) in
+            let t = i.taken (rw s.failure at none) in
             record {
               bytes = t.bytes;
               stands = t.stands;
@@ -117,14 +139,14 @@ module _ {R : Type 0} {remaining : R → Option (List ℕ)} {a : Algorithm} {rea
                   t.read));
             };
         end = λ none over. subst (λ (z : R). IsAtEnd (remaining z)) (sym s.reader)
-            (i.end (s.failure none) (s.end over));
+            (i.end (rw s.failure at none) (s.end over));
       }
 
   -- all contexts
   pub are-taken : {lanes : List (Lane R)} {old new : List Context}
-      {pieces : List (Bor (List ℕ))} (n : ℕ) → AreIn remaining a readers left_of lanes old
+      {pieces : List (Bor (List ℕ))} (n : ℕ) → AreIn remaining can_fail a readers left_of lanes old
       → map (λ piece. piece.now) pieces ≡ map (front_of n) lanes → AreUpdated old new pieces
-      → AreIn remaining a readers (behind_of n) lanes new
+      → AreIn remaining can_fail a readers (behind_of n) lanes new
   are-taken {lanes} {old} {new} {pieces} n all same took =
       let many : length pieces ≡ length lanes =
       sym (length-map pieces (λ (piece : Bor (List ℕ)). piece.now)) ∙ ap length same
@@ -143,9 +165,9 @@ module _ {R : Type 0} {remaining : R → Option (List ℕ)} {a : Algorithm} {rea
       }
 
   pub reading-all : {old now : List (Lane R)} {contexts : List Context} {i : ℕ}
-      → AreStepped (IsRead remaining) old now i → length old ≤ i
-      → AreIn remaining a readers left_of old contexts
-      → AreIn remaining a readers left_of now contexts
+      → AreStepped (IsRead remaining can_fail) old now i → length old ≤ i
+      → AreIn remaining can_fail a readers left_of old contexts
+      → AreIn remaining can_fail a readers left_of now contexts
   reading-all {old} {now} {contexts} have all first =
       record {
         count = first.count ∙ sym have.count;
@@ -156,8 +178,8 @@ module _ {R : Type 0} {remaining : R → Option (List ℕ)} {a : Algorithm} {rea
 
   pub skipping-all : {old now : List (Lane R)} {contexts : List Context} {i : ℕ} (n : ℕ)
       → AreStepped (IsSkipped n) old now i → length old ≤ i
-      → AreIn remaining a readers (behind_of n) old contexts
-      → AreIn remaining a readers left_of now contexts
+      → AreIn remaining can_fail a readers (behind_of n) old contexts
+      → AreIn remaining can_fail a readers left_of now contexts
   skipping-all {old} {now} {contexts} n have all first =
       record {
         count = first.count ∙ sym have.count;
@@ -172,12 +194,14 @@ pub record IsSwapped {X : Type 0} (old new : List X) (i : ℕ) : Type 0 where
   pub moved : (d : X) → i + 1 < length old → get_or new i d ≡ get_or old (length old - 1) d
   pub others : (k : ℕ) (d : X) → k ≢ i → k + 1 < length old → get_or new k d ≡ get_or old k d
 
-module _ {R : Type 0} {remaining : R → Option (List ℕ)} {a : Algorithm} {readers : List R} where
+module _ {R : Type 0} {remaining : R → Option (List ℕ)} {can_fail : R → Bool}
+    {a : Algorithm} {readers : List R} where
   pub in-swapped : {lanes fewer : List (Lane R)} {contexts less : List Context} (i : ℕ)
-      → AreIn remaining a readers left_of lanes contexts → IsSwapped lanes fewer i
-      → IsSwapped contexts less i → AreIn remaining a readers left_of fewer less
+      → AreIn remaining can_fail a readers left_of lanes contexts → IsSwapped lanes fewer i
+      → IsSwapped contexts less i → AreIn remaining can_fail a readers left_of fewer less
   in-swapped {lanes} {fewer} {contexts} {less} i all s t =
-      let P : Lane R → Context → Type 0 = λ l c. IsIn remaining a readers (left_of l) l c in
+      let P : Lane R → Context → Type 0 =
+      λ l c. IsIn remaining can_fail a readers (left_of l) l c in
       record {
         count = omega (arith, all.count, s.len, t.len);
         each = λ k l c below. elim (cases_order k i) [
@@ -205,17 +229,20 @@ module _ {R : Type 0} {remaining : R → Option (List ℕ)} {a : Algorithm} {rea
         ];
       }
 
-module _ {R : Type 0} {remaining : R → Option (List ℕ)} {a : Algorithm} {readers : List R} where
+module _ {R : Type 0} {remaining : R → Option (List ℕ)} {can_fail : R → Bool}
+    {a : Algorithm} {readers : List R} where
   -- a lane that begins
   pub in-new : {lane : Lane R} {context : Context} (place : ℕ) → place < length readers
       → lane.place ≡ place → ((r : R) → get_or readers place r ≡ lane.reader)
-      → IsFalse lane.has_ended → left_of lane ≡ [] → StandsFor context []
+      → lane.failure ≡ None → IsFalse lane.has_ended → left_of lane ≡ [] → StandsFor context []
       → context_algorithm context ≡ a
-      → IsIn remaining a readers (left_of lane) lane context
-  in-new {lane} place below at is shut empty stands of =
+      → IsIn remaining can_fail a readers (left_of lane) lane context
+  in-new {lane} place below at is well shut empty stands of =
       record {
         place = subst (λ (z : ℕ). z < length readers) (sym at) below;
         algorithm = of;
+        same = λ r. sym (ap can_fail (ap (λ (z : ℕ). get_or readers z r) at ∙ is r));
+        failed = rw well tt;
         taken = λ none.
             record {
               bytes = [];
@@ -230,11 +257,12 @@ module _ {R : Type 0} {remaining : R → Option (List ℕ)} {a : Algorithm} {rea
 
   -- and stands behind the others
   pub in-more : {lanes : List (Lane R)} {contexts : List Context} (lane : Lane R)
-      (context : Context) → AreIn remaining a readers left_of lanes contexts
-      → IsIn remaining a readers (left_of lane) lane context
-      → AreIn remaining a readers left_of (lanes ++ lane ∷ []) (contexts ++ context ∷ [])
+      (context : Context) → AreIn remaining can_fail a readers left_of lanes contexts
+      → IsIn remaining can_fail a readers (left_of lane) lane context
+      → AreIn remaining can_fail a readers left_of (lanes ++ lane ∷ []) (contexts ++ context ∷ [])
   in-more {lanes} {contexts} lane context all one =
-      let P : Lane R → Context → Type 0 = λ l c. IsIn remaining a readers (left_of l) l c in
+      let P : Lane R → Context → Type 0 =
+      λ l c. IsIn remaining can_fail a readers (left_of l) l c in
       let more = length-append lanes (lane ∷ []) in
       record {
         count = omega (arith, all.count, more, length-append contexts (context ∷ []));
@@ -259,5 +287,5 @@ module _ {R : Type 0} {remaining : R → Option (List ℕ)} {a : Algorithm} {rea
       }
 
   -- no lane
-  pub in-none : AreIn remaining a readers left_of [] []
+  pub in-none : AreIn remaining can_fail a readers left_of [] []
   in-none = record { count = refl; each = λ i l c below. absurd (omega (arith, below)) }

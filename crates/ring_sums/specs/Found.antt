@@ -1,25 +1,38 @@
 -- Outcomes that are found before it is their turn to be given.
-use Rattle.std.specs.Prelude.{◌≡◌, ℕ, ◌+◌, ◌<◌, ◌⊎◌, IfSome, IsNone, IsSomeAnd, List, [], ◌∷◌}
-use Rattle.std.specs.Prelude.{Option, None, Some}
-use Rattle.std.specs.Prelude.{get_or, length, ⊤}
+use Rattle.std.specs.Prelude.{◌≡◌, ◌≢◌, ℕ, ◌+◌, ◌<◌, Bool, IfSome, IsNone, IsSomeAnd, List, []}
+use Rattle.std.specs.Prelude.{◌∷◌, Option, None, Some, get_or, length, ⊤}
 use Rattle.ring.specs.declared.digest.algorithm.Algorithm.{Algorithm}
 use Rattle.ring_sums.specs.Outcome.{IsOutcome}
+use Rattle.ring_sums.specs.declared.lane.Lane.{Lane}
 use Rattle.ring_sums.specs.declared.outcome.Outcome.{Outcome}
 use Rattle.ring_sums.specs.declared.outcome.Outcome.TheVariants.{Sum, TooLong, Failed}
 
 -- the outcomes that are found of the readers from `place` on are theirs
-pub record AreFound {R : Type 0} (remaining : R → Option (List ℕ)) (a : Algorithm)
-    (readers : List R) (place : ℕ) (found : List (Option Outcome)) : Type 0 where
+pub record AreFound {R : Type 0} (remaining : R → Option (List ℕ)) (can_fail : R → Bool)
+    (a : Algorithm) (readers : List R) (place : ℕ) (found : List (Option Outcome)) : Type 0 where
   pub each : (k : ℕ) (r : R) (o : Option Outcome) → k < length found
-      → IfSome (get_or found k o) (IsOutcome remaining a (get_or readers (place + k) r))
+      → IfSome (get_or found k o) (IsOutcome remaining can_fail a (get_or readers (place + k) r))
+
+-- one of the lanes reads the reader at `place`
+pub record HasLane {R : Type 0} (place : ℕ) (lanes : List (Lane R)) : Type 0 where
+  pub lane : ℕ
+  pub below : lane < length lanes
+  pub at : (l : Lane R) → (get_or lanes lane l).place ≡ place
+
+-- of the readers from `place` on, each whose outcome is not found is read in a lane
+pub record ArePending {R : Type 0} (place : ℕ) (found : List (Option Outcome))
+    (lanes : List (Lane R)) : Type 0 where
+  pub each : (k : ℕ) (o : Option Outcome) → k < length found → IsNone (get_or found k o)
+      → HasLane (place + k) lanes
 
 -- the outcome of the reader at `place` is among those of the readers from `given` on, if it is one
 -- of theirs
 pub record IsPut (given place : ℕ) (outcome : Outcome) (old new : List (Option Outcome))
     : Type 0 where
   pub count : length new ≡ length old
-  pub each : (k : ℕ) (o : Option Outcome) → k < length old
-      → ((given + k ≡ place) × (get_or new k o ≡ Some outcome)) ⊎ (get_or new k o ≡ get_or old k o)
+  pub put : (k : ℕ) (o : Option Outcome) → k < length old → given + k ≡ place
+      → get_or new k o ≡ Some outcome
+  pub others : (k : ℕ) (o : Option Outcome) → given + k ≢ place → get_or new k o ≡ get_or old k o
 
 -- the outcome of a reader that is not read
 abbrev pub IsFailed : Outcome → Type 0
@@ -32,3 +45,10 @@ abbrev pub IsFirst : List (Option Outcome) → Option Outcome → Type 0
 IsFirst [] outcome = IsNone outcome
 IsFirst (Some first ∷ rest) outcome = outcome ≡ Some first
 IsFirst (None ∷ rest) outcome = IsSomeAnd outcome IsFailed
+
+-- the first of the outcomes can be given: it is found, or no lane is left to find it; where there
+-- is none, no reader waits
+abbrev pub IsReady : List (Option Outcome) → ℕ → ℕ → Type 0
+IsReady [] lanes waiting = waiting ≡ 0
+IsReady (Some first ∷ rest) lanes waiting = ⊤
+IsReady (None ∷ rest) lanes waiting = lanes ≡ 0

@@ -1,13 +1,26 @@
 -- Readers that are read side by side.
-use Rattle.std.specs.Prelude.{◌≡◌, ℕ, ◌<◌, List, Option, get_or, length}
+use Rattle.std.specs.Prelude.{◌≡◌, ℕ, ◌<◌, Bool, List, [], ◌∷◌, ◌++◌, Option, get_or, length}
 use Rattle.ring.specs.declared.digest.algorithm.Algorithm.{Algorithm}
 use Rattle.ring.specs.declared.digest.context.Context.{Context}
 use Rattle.ring_sums.specs.Lane.{IsIn}
 use Rattle.ring_sums.specs.declared.lane.Lane.{Lane}
 
 -- each lane and its context, where `rest` is what the context has not taken in
-pub record AreIn {R : Type 0} (remaining : R → Option (List ℕ)) (a : Algorithm) (readers : List R)
-    (rest : Lane R → List ℕ) (lanes : List (Lane R)) (contexts : List Context) : Type 0 where
+pub record AreIn {R : Type 0} (remaining : R → Option (List ℕ)) (can_fail : R → Bool)
+    (a : Algorithm) (readers : List R) (rest : Lane R → List ℕ) (lanes : List (Lane R))
+    (contexts : List Context) : Type 0 where
   pub count : length contexts ≡ length lanes
   pub each : (i : ℕ) (l : Lane R) (c : Context) → i < length lanes
-      → IsIn remaining a readers (rest (get_or lanes i l)) (get_or lanes i l) (get_or contexts i c)
+      → IsIn remaining can_fail a readers (rest (get_or lanes i l)) (get_or lanes i l)
+      (get_or contexts i c)
+
+-- a lane more, of the reader at `place`
+pub record IsBegun {R : Type 0} (place : ℕ) (old new : List (Lane R)) : Type 0 where
+  pub lane : Lane R
+  pub at : lane.place ≡ place
+  pub lanes : new ≡ old ++ lane ∷ []
+
+-- as many lanes, of the same readers
+pub record KeepPlaces {R : Type 0} (old new : List (Lane R)) : Type 0 where
+  pub count : length new ≡ length old
+  pub each : (i : ℕ) (l : Lane R) → (get_or new i l).place ≡ (get_or old i l).place

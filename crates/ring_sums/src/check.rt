@@ -1,13 +1,26 @@
 //! The check of a list.
 
-ghost use Rattle.std.specs.Prelude.{◌≡◌, ◌↔◌, ◌<◌, IsTrue};
+ghost use Rattle.std.specs.Prelude.{◌≡◌, ◌↔◌, ◌<◌, ◌-◌, ◌^◌, ◌∷◌, ◌++◌, [], IfOk, IsTrue, List};
+ghost use Rattle.std.specs.Prelude.{OnOk};
+ghost use Rattle.std.specs.Prelude.{Option, Some, length, map, option_map};
+ghost use Rattle.std.specs.IoError.{error_kind};
+ghost use Rattle.ring_sums.specs.declared.entry.Verdict.{Verdict};
+ghost use Rattle.ring_sums.specs.Check.{IsFound, IsLeftOut, is_other, is_same, is_unread};
+ghost use Rattle.ring_sums.specs.Check.{AreFilesOf, IsChecked, entries_of, one_if, said_of};
+ghost use Rattle.ring_sums.specs.Check.{text_of};
+ghost use Rattle.ring_sums.specs.Console.{HasWritten, IsKept};
+ghost use Rattle.ring_sums.specs.Files.{name_of};
 
 use crate::console::Console;
-use crate::entry::{Entry, Gap, Verdict, append_verdict_line, entry_of_line, tag_of, verdict_of};
-use crate::files::{Outcomes, Wanted, read_all};
+use crate::entry::{Entry, Gap, Verdict, append_verdict_line, tag_of, verdict_of};
+use crate::files::{self, read_all, wanted_of};
+use crate::list::{Line, lines_of};
 use crate::options::{Amount, Options};
 use crate::outcome::Outcome;
+use crate::outcomes::{Outcomes, Wanted};
+use crate::source::Source;
 use std::alloc::{AllocError, Global};
+use std::io;
 use std::io::{Eprint, ErrorKind, Input, Write};
 use std::rt::Files;
 
@@ -21,111 +34,151 @@ struct Counts {
     same: u64,
 }
 
-/// A line of a list that is neither empty nor a comment.
-#[derive(Drop)]
-enum Line {
-    Entry(Entry),
-    /// The number of a line that has not the form of one.
-    Bad(u64),
-}
-
-/// A line without its carriage return.
-fn without_return(line: &[u8]) -> &[u8] {
-    line.strip_suffix(b"\r").unwrap_or(line)
-}
-
-/// The lines of a list.
-fn lines_of(
-    alloc: Global,
-    options: &Options,
-    text: &[u8],
-    is_standard_input: bool,
-    gap: &mut Gap,
-) -> Result<Vec<Line>, AllocError> {
-    let mut lines = Vec::new(alloc);
-    let mut number = 0_u64;
-    for line in text.split(|byte| *byte == b'\n') {
-        number = number.saturating_add(1);
-        if line.starts_with(b"#") {
-            continue;
-        }
-        let line = without_return(line);
-        if line.is_empty() {
-            continue;
-        }
-        match entry_of_line(alloc, options.algorithm, line, gap)? {
-            Some(entry) if !is_standard_input || entry.name.as_slice() != b"-".as_slice() => {
-                lines.push(Line::Entry(entry))?;
-            }
-            _ => lines.push(Line::Bad(number))?,
-        }
-    }
-    Ok(lines)
-}
-
 /// The text behind a name, or `None` where nothing is written of the file.
-fn text_of(options: &Options, verdict: Verdict) -> Option<&'static [u8]> {
-    if options.amount == Amount::Status {
-        return None;
+fn text_of(amount: Amount, verdict: Verdict) -> Option<&'static [u8]>
+    ensures { option_map (λ text. text.now) result ≡ text_of amount verdict }
+{
+    match (amount, verdict) {
+        (Amount::Status, _) | (Amount::Quiet, Verdict::Same) => None,
+        (_, Verdict::Same) => Some(b"OK"),
+        (_, Verdict::Other) => Some(b"FAILED"),
+        (_, Verdict::Unread) => Some(b"FAILED open or read"),
     }
-    match verdict {
-        Verdict::Same if options.amount == Amount::Quiet => None,
-        Verdict::Same => Some(b"OK"),
-        Verdict::Other => Some(b"FAILED"),
-        Verdict::Unread => Some(b"FAILED open or read"),
-    }
+}
+
+/// Whether it is found of a file that it has the listed digest.
+fn is_same(found: Option<Verdict>) -> bool
+    ensures { result ≡ is_same found }
+{
+    found == Some(Verdict::Same)
+}
+
+/// Whether it is found of a file that it has another.
+fn is_other(found: Option<Verdict>) -> bool
+    ensures { result ≡ is_other found }
+{
+    found == Some(Verdict::Other)
+}
+
+/// Whether it is found of a file that it could not be read.
+fn is_unread(found: Option<Verdict>) -> bool
+    ensures { result ≡ is_unread found }
+{
+    found == Some(Verdict::Unread)
+}
+
+/// 1 where the condition holds, else 0.
+#[tactic(auto, unfolding(crate::specs::Check::one_if))]
+fn one_if(condition: bool) -> u64
+    ensures { result ≡ one_if condition }
+{
+    if condition { 1 } else { 0 }
 }
 
 impl Counts {
-    fn count(&mut self, verdict: Verdict) {
+    ghost use Rattle.ring_sums.specs.Check.{AreCounted};
+
+    /// Counts what is found of an entry.
+    fn count(&mut self, found: Option<Verdict>)
+        ensures counted { (founds : List (Option Verdict)) → length founds < 2 ^ 64 - 1
+            → AreCounted founds self.old → AreCounted (founds ++ found ∷ []) self.new }
+        ensures bad { self.new.bad_lines ≡ self.old.bad_lines }
+    {
         self.entries = self.entries.saturating_add(1);
-        match verdict {
-            Verdict::Same => self.same = self.same.saturating_add(1),
-            Verdict::Other => self.others = self.others.saturating_add(1),
-            Verdict::Unread => self.unread = self.unread.saturating_add(1),
-        }
+        self.same = self.same.saturating_add(one_if(is_same(found)));
+        self.others = self.others.saturating_add(one_if(is_other(found)));
+        self.unread = self.unread.saturating_add(one_if(is_unread(found)));
     }
 }
 
+/// Whether a file is not there.
+fn is_missing(error: &io::Error) -> bool
+    ensures { IsTrue result ↔ (error_kind error.now ≡ ErrorKind.NotFound) }
+{
+    error.kind() == ErrorKind::NotFound
+}
+
 /// Whether a file is left out, since it is not there.
-fn is_left_out(options: &Options, outcome: &Outcome) -> bool {
+fn is_left_out(options: &Options, outcome: &Outcome) -> bool
+    ensures { IsTrue result ↔ IsLeftOut options.now outcome.now }
+{
     match outcome {
-        Outcome::Failed(error) => options.ignores_missing && error.kind() == ErrorKind::NotFound,
+        Outcome::Failed(error) => options.ignores_missing && is_missing(error),
         _ => false,
     }
 }
 
-/// Says of an entry what is found of its file.
+/// Tells why a file could not be read to its end.
+fn tell_of_outcome<R: Eprint, W: Write>(
+    name: &[u8],
+    outcome: &Outcome,
+    console: &mut Console<'_, R, W>,
+) -> Result<(), AllocError>
+    ensures { IsKept console.old console.new }
+{
+    match outcome {
+        Outcome::Sum(_) => Ok(()),
+        Outcome::TooLong => console.tell_of(name, b"too long"),
+        Outcome::Failed(error) => console.tell_error(name, error),
+    }
+}
+
+/// Writes the line that says what is found of a file, if one is wanted.
+fn write_verdict<R: Eprint, W: Write>(
+    alloc: Global,
+    amount: Amount,
+    name: &[u8],
+    verdict: Verdict,
+    console: &mut Console<'_, R, W>,
+) -> Result<(), AllocError>
+    ensures { OnOk result (HasWritten W.contents (said_of amount name.now (Some verdict))
+        console.old console.new) }
+{
+    let Some(text) = text_of(amount, verdict) else {
+        return Ok(());
+    };
+    let mut line = Vec::new(alloc);
+    append_verdict_line(&mut line, name, text)?;
+    console.write(&line);
+    Ok(())
+}
+
+/// Says of an entry what is found of its file, and returns it; `None` where it is left out.
 fn answer<R: Eprint, W: Write>(
     alloc: Global,
     options: &Options,
     entry: &Entry,
     outcome: &Outcome,
     console: &mut Console<'_, R, W>,
-) -> Result<Verdict, AllocError> {
-    match outcome {
-        Outcome::Sum(_) => {}
-        Outcome::TooLong => console.tell_of(&entry.name, b"too long")?,
-        Outcome::Failed(error) => console.tell_error(&entry.name, error)?,
+) -> Result<Option<Verdict>, AllocError>
+    ensures found { IfOk result (λ found.
+        IsFound options.now entry.now.listed.items outcome.now found) }
+    ensures said { IfOk result (λ found. HasWritten W.contents
+        (said_of options.now.amount entry.now.name.items found) console.old console.new) }
+{
+    if is_left_out(options, outcome) {
+        return Ok(None);
     }
+    tell_of_outcome(&entry.name, outcome, console)?;
     let verdict = verdict_of(outcome, &entry.listed);
-    if let Some(text) = text_of(options, verdict) {
-        let mut line = Vec::new(alloc);
-        append_verdict_line(&mut line, &entry.name, text)?;
-        console.write(&line);
-    }
-    Ok(verdict)
+    write_verdict(alloc, options.amount, &entry.name, verdict, console)?;
+    Ok(Some(verdict))
 }
 
 /// The files of the entries.
-fn wanted_of<'a>(alloc: Global, lines: &'a [Line]) -> Result<Vec<Wanted<'a>>, AllocError> {
-    let mut wanted = Vec::new(alloc);
+fn files_of<'a, R: Files + AllocGlobal + Input>(
+    rt: &'a R,
+    lines: &'a [Line],
+) -> Result<Vec<Wanted<files::Source<'a, R>>>, AllocError>
+    ensures files { IfOk result (λ wanted. AreFilesOf (entries_of lines.now) wanted.items) }
+    ensures names { IfOk result (λ wanted. map (λ file. name_of file.reader) wanted.items
+        ≡ map (λ entry. Some entry.name.items) (entries_of lines.now)) }
+{
+    let mut wanted = Vec::new(rt.alloc());
     for line in lines {
-        if let Line::Entry(entry) = line {
-            wanted.push(Wanted {
-                name: &entry.name,
-                algorithm: entry.algorithm,
-            })?;
+        match line {
+            Line::Entry(entry) => wanted.push(wanted_of(rt, &entry.name, entry.algorithm))?,
+            Line::Bad(_) => {}
         }
     }
     Ok(wanted)
@@ -138,7 +191,9 @@ fn warn_of_line<R: Eprint, W: Write>(
     list: &[u8],
     number: u64,
     console: &mut Console<'_, R, W>,
-) -> Result<(), AllocError> {
+) -> Result<(), AllocError>
+    ensures { IsKept console.old console.new }
+{
     if options.amount != Amount::Warn {
         return Ok(());
     }
@@ -153,39 +208,40 @@ fn warn_of_line<R: Eprint, W: Write>(
 }
 
 /// Says of each line of a list what is found of its file, in their order.
-fn check_lines<const BITS: usize, R, W>(
-    rt: &R,
+fn check_lines<const BITS: usize, S, R, W>(
+    alloc: Global,
     options: &Options,
     list: &[u8],
     lines: &[Line],
+    wanted: Vec<Wanted<S>>,
     console: &mut Console<'_, R, W>,
 ) -> Result<Counts, AllocError>
 where
-    R: Files + AllocGlobal + Eprint + Input,
+    S: Source + Drop,
+    R: Eprint,
     W: Write,
+    ensures { IfOk result (λ counts. AreFilesOf (entries_of lines.now) wanted.items
+        → IsChecked S.remaining S.can_fail W.contents options.now lines.now wanted.items counts
+        console.old console.new) }
 {
-    let wanted = wanted_of(rt.alloc(), lines)?;
-    let mut outcomes = Outcomes::new(rt, rt.alloc(), &wanted);
-    let mut counts = Counts::default();
     let total = wanted.len();
-    let mut done = 0_usize;
+    let mut outcomes = Outcomes::new(alloc, wanted);
+    let mut counts = Counts::default();
     for line in lines {
         match line {
             Line::Bad(number) => {
                 counts.bad_lines = counts.bad_lines.saturating_add(1);
-                warn_of_line(rt.alloc(), options, list, *number, console)?;
+                warn_of_line(alloc, options, list, *number, console)?;
             }
             Line::Entry(entry) => {
-                let Some(outcome) = outcomes.next::<BITS>()? else {
-                    break;
+                let Ok(next) = outcomes.next_outcome::<BITS>() else {
+                    return Err(AllocError);
                 };
-                if is_left_out(options, &outcome) {
-                    counts.entries = counts.entries.saturating_add(1);
-                } else {
-                    counts.count(answer(rt.alloc(), options, entry, &outcome, console)?);
-                }
-                done = done.saturating_add(1);
-                console.show_progress(done, total);
+                let Some(outcome) = next else {
+                    return Ok(counts);
+                };
+                counts.count(answer(alloc, options, entry, &outcome, console)?);
+                console.show_progress(counts.entries as usize, total);
             }
         }
     }
@@ -288,7 +344,8 @@ where
         }
     };
     let lines = lines_of(rt.alloc(), options, &text, is_standard_input, gap)?;
-    let counts = check_lines::<BITS, R, W>(rt, options, shown, &lines, console)?;
+    let wanted = files_of(rt, &lines)?;
+    let counts = check_lines::<BITS, _, R, W>(rt.alloc(), options, shown, &lines, wanted, console)?;
     if let Some(error) = failure {
         console.note(&error);
         console.tell_of(shown, b"read error")?;

@@ -1,5 +1,7 @@
 //! Where the program writes: lines on standard output, and messages on standard error.
 
+ghost use Rattle.std.specs.Prelude.{◌≡◌, ◌↔◌, IfOk, IsFalse, IsNone, IsTrue};
+
 use crate::quote::append_quoted;
 use std::alloc::{AllocError, Global};
 use std::io;
@@ -39,6 +41,8 @@ pub(crate) fn append_reason(out: &mut Vec<u8>, error: &io::Error) -> Result<(), 
 }
 
 impl<'a, R: Eprint, W: Write> Console<'a, R, W> {
+    ghost use Rattle.ring_sums.specs.Console.{HasWritten, IsKept};
+
     pub(crate) fn new(rt: &'a R, alloc: Global, program: &'a [u8], out: W) -> Console<'a, R, W> {
         Console {
             rt,
@@ -53,12 +57,16 @@ impl<'a, R: Eprint, W: Write> Console<'a, R, W> {
     }
 
     /// Shows from now on how far a run is.
-    pub(crate) fn start_progress(&mut self) {
+    pub(crate) fn start_progress(&mut self)
+        ensures { IsKept self.old self.new }
+    {
         self.shows_progress = true;
     }
 
     /// Shows how many of the files are done, where that is a hundredth more than is shown.
-    pub(crate) fn show_progress(&mut self, done: usize, total: usize) {
+    pub(crate) fn show_progress(&mut self, done: usize, total: usize)
+        ensures { IsKept self.old self.new }
+    {
         if !self.shows_progress || total == 0 {
             return;
         }
@@ -72,7 +80,9 @@ impl<'a, R: Eprint, W: Write> Console<'a, R, W> {
     }
 
     /// Takes the line that shows it away.
-    fn hide_progress(&mut self) {
+    fn hide_progress(&mut self)
+        ensures { IsKept self.old self.new }
+    {
         if self.shown.is_some() {
             let _ = self.rt.eprint("\r\x1b[K");
             self.shown = None;
@@ -80,7 +90,9 @@ impl<'a, R: Eprint, W: Write> Console<'a, R, W> {
     }
 
     /// Notes why a file could not be read.
-    pub(crate) fn note(&mut self, error: &io::Error) {
+    pub(crate) fn note(&mut self, error: &io::Error)
+        ensures { IsKept self.old self.new }
+    {
         if error.raw_os_error() == Some(BAD_DESCRIPTOR) {
             self.is_input_closed = true;
         }
@@ -92,7 +104,9 @@ impl<'a, R: Eprint, W: Write> Console<'a, R, W> {
     }
 
     /// Writes a line, unless one before could not be written.
-    pub(crate) fn write(&mut self, line: &[u8]) {
+    pub(crate) fn write(&mut self, line: &[u8])
+        ensures { HasWritten W.contents line.now self.old self.new }
+    {
         self.hide_progress();
         if self.failure.is_none() {
             self.failure = self.out.write_all(line).err();
@@ -100,7 +114,9 @@ impl<'a, R: Eprint, W: Write> Console<'a, R, W> {
     }
 
     /// Writes text on standard error, behind the program's name.
-    pub(crate) fn tell(&mut self, text: &[u8]) -> Result<(), AllocError> {
+    pub(crate) fn tell(&mut self, text: &[u8]) -> Result<(), AllocError>
+        ensures { IsKept self.old self.new }
+    {
         let mut message = self.program.to_vec(self.alloc)?;
         message.extend_from_slice(b": ")?;
         message.extend_from_slice(text)?;
@@ -108,7 +124,9 @@ impl<'a, R: Eprint, W: Write> Console<'a, R, W> {
     }
 
     /// Writes a line on standard error.
-    pub(crate) fn show(&mut self, line: &[u8]) -> Result<(), AllocError> {
+    pub(crate) fn show(&mut self, line: &[u8]) -> Result<(), AllocError>
+        ensures { IsKept self.old self.new }
+    {
         self.hide_progress();
         let text = String::from_utf8_lossy(self.alloc, line)?;
         // Where standard error fails too, the status still tells.
@@ -117,7 +135,9 @@ impl<'a, R: Eprint, W: Write> Console<'a, R, W> {
     }
 
     /// Tells what is wrong with a file.
-    pub(crate) fn tell_of(&mut self, name: &[u8], text: &[u8]) -> Result<(), AllocError> {
+    pub(crate) fn tell_of(&mut self, name: &[u8], text: &[u8]) -> Result<(), AllocError>
+        ensures { IsKept self.old self.new }
+    {
         let mut message = Vec::new(self.alloc);
         append_quoted(&mut message, name)?;
         message.extend_from_slice(b": ")?;
@@ -126,7 +146,9 @@ impl<'a, R: Eprint, W: Write> Console<'a, R, W> {
     }
 
     /// Tells why a file could not be read.
-    pub(crate) fn tell_error(&mut self, name: &[u8], error: &io::Error) -> Result<(), AllocError> {
+    pub(crate) fn tell_error(&mut self, name: &[u8], error: &io::Error) -> Result<(), AllocError>
+        ensures { IsKept self.old self.new }
+    {
         self.note(error);
         let mut reason = Vec::new(self.alloc);
         append_reason(&mut reason, error)?;
@@ -134,13 +156,17 @@ impl<'a, R: Eprint, W: Write> Console<'a, R, W> {
     }
 
     /// Whether standard input could be closed and every line be written. What failed is told.
-    pub(crate) fn end(&mut self) -> Result<bool, AllocError> {
+    pub(crate) fn end(&mut self) -> Result<bool, AllocError>
+        ensures { IfOk result (λ is_fine. IsTrue is_fine
+            ↔ (IsNone self.old.failure × IsFalse self.old.is_input_closed)) }
+    {
+        let is_input_closed = self.is_input_closed;
         self.hide_progress();
-        if self.is_input_closed {
+        if is_input_closed {
             self.tell(b"standard input: Bad file descriptor")?;
         }
         let Some(error) = self.failure else {
-            return Ok(!self.is_input_closed);
+            return Ok(!is_input_closed);
         };
         let mut message = b"write error".to_vec(self.alloc)?;
         if error.raw_os_error() == Some(BAD_DESCRIPTOR) {

@@ -1,10 +1,23 @@
 //! What a line of a list says.
 
-ghost use Rattle.std.specs.Prelude.{◌≡◌, ◌↔◌};
-ghost use Rattle.ring_sums.specs.Entry.{IsVerified};
+ghost use Rattle.std.specs.Prelude.{◌≡◌, ◌↔◌, ◌++◌, IfOk, OnOk, not, option_copied, option_map};
+ghost use Rattle.std.specs.Prelude.{position};
+ghost use Rattle.std.specs.Char.{is_ascii_hexdigit};
+ghost use Rattle.std.specs.List.{list_all};
+ghost use Rattle.ring_sums.specs.Entry.{IsOther, IsUnread, IsVerified, algorithm_of_count};
+ghost use Rattle.ring_sums.specs.Entry.{algorithm_of_digits};
+ghost use Rattle.ring_sums.specs.Entry.{behind, behind_backslash, cut_at_last, digest_read};
+ghost use Rattle.ring_sums.specs.Entry.{entry_in, entry_of, gap_after, gap_in, gap_shown};
+ghost use Rattle.ring_sums.specs.Entry.{is_escaped, is_marked, is_white, listed_by, listed_with};
+ghost use Rattle.ring_sums.specs.Entry.{name_behind, name_read, plain_entry, plain_gap};
+ghost use Rattle.ring_sums.specs.Entry.{plain_parts, tag_of};
+ghost use Rattle.ring_sums.specs.Entry.{tagged, tagged_as, tagged_entry, tagged_parts};
+ghost use Rattle.ring_sums.specs.Entry.{without_white};
+ghost use Rattle.ring_sums.specs.Line.{verdict_line};
 
-use crate::names::{append_escaped, needs_escape_of_check};
+use crate::names::{append_escaped, needs_escape_of_check, unescaped};
 use crate::outcome::Outcome;
+use memchr::memrchr;
 use ring::digest::{Algorithm, SHA1_FOR_LEGACY_USE_ONLY, SHA256, SHA384, SHA512, SHA512_256};
 use std::alloc::{AllocError, Global};
 
@@ -30,6 +43,8 @@ pub enum Verdict {
 /// The verdict on a listed digest.
 pub fn verdict_of(outcome: &Outcome, listed: &[u8]) -> Verdict
     ensures same { (result ≡ Verdict.Same) ↔ IsVerified outcome.now listed.now }
+    ensures other { (result ≡ Verdict.Other) ↔ IsOther outcome.now listed.now }
+    ensures unread { (result ≡ Verdict.Unread) ↔ IsUnread outcome.now }
 {
     match outcome {
         Outcome::Sum(digest) => {
@@ -44,7 +59,9 @@ pub fn verdict_of(outcome: &Outcome, listed: &[u8]) -> Verdict
 }
 
 /// The name of an algorithm in a tagged line.
-pub(crate) fn tag_of(algorithm: &Algorithm) -> &'static str {
+pub(crate) fn tag_of(algorithm: &Algorithm) -> &'static str
+    ensures { result.now ≡ tag_of algorithm.now }
+{
     if *algorithm == SHA1_FOR_LEGACY_USE_ONLY {
         "SHA1"
     } else if *algorithm == SHA256 {
@@ -63,7 +80,9 @@ pub(crate) fn append_verdict_line(
     out: &mut Vec<u8>,
     name: &[u8],
     text: &[u8],
-) -> Result<(), AllocError> {
+) -> Result<(), AllocError>
+    ensures { OnOk result (out.new.items ≡ out.old.items ++ verdict_line name.now text.now) }
+{
     if needs_escape_of_check(name) {
         out.push(b'\\')?;
         append_escaped(out, name)?;
@@ -76,51 +95,53 @@ pub(crate) fn append_verdict_line(
     Ok(())
 }
 
-/// The name whose escapes are these bytes, or `None` where a backslash begins no escape.
-fn unescaped(alloc: Global, bytes: &[u8]) -> Result<Option<Vec<u8>>, AllocError> {
-    let mut name = Vec::new(alloc);
-    let mut after_backslash = false;
-    for byte in bytes {
-        if after_backslash {
-            match *byte {
-                b'\\' => name.push(b'\\')?,
-                b'n' => name.push(b'\n')?,
-                b'r' => name.push(b'\r')?,
-                _ => return Ok(None),
-            }
-            after_backslash = false;
-        } else if *byte == b'\\' {
-            after_backslash = true;
-        } else {
-            name.push(*byte)?;
-        }
+/// A name, as a line with escapes or without them has it.
+#[tactic(auto, unfolding(crate::specs::Entry::name_read))]
+fn name_read(alloc: Global, name: &[u8], is_escaped: bool) -> Result<Option<Vec<u8>>, AllocError>
+    ensures { IfOk result (λ read. option_map (λ v. v.items) read ≡ name_read is_escaped name.now) }
+{
+    if is_escaped {
+        unescaped(alloc, name)
+    } else {
+        Ok(Some(name.to_vec(alloc)?))
     }
-    if after_backslash {
+}
+
+/// The bytes of as many digits as a digest of the algorithm has.
+#[tactic(auto, unfolding(crate::specs::Entry::digest_read))]
+fn digest_read(
+    alloc: Global,
+    algorithm: &Algorithm,
+    digits: &[u8],
+) -> Result<Option<Vec<u8>>, AllocError>
+    ensures { IfOk result (λ read. option_map (λ v. v.items) read
+        ≡ digest_read algorithm.now digits.now) }
+{
+    let mut listed = vec![in alloc; 0; algorithm.output_len()]?;
+    if hex::decode_to_slice(digits, &mut listed).is_err() {
         return Ok(None);
     }
-    Ok(Some(name))
+    Ok(Some(listed))
 }
 
 /// An entry with these digits and this name.
+#[tactic(auto, unfolding(crate::specs::Entry::listed_with))]
 fn entry_with(
     alloc: Global,
     algorithm: Algorithm,
     digits: &[u8],
     name: &[u8],
     is_escaped: bool,
-) -> Result<Option<Entry>, AllocError> {
-    let name = if is_escaped {
-        unescaped(alloc, name)?
-    } else {
-        Some(name.to_vec(alloc)?)
-    };
-    let Some(name) = name else {
+) -> Result<Option<Entry>, AllocError>
+    ensures { IfOk result (λ entry. option_map listed_by entry
+        ≡ listed_with algorithm digits.now name.now is_escaped) }
+{
+    let Some(name) = name_read(alloc, name, is_escaped)? else {
         return Ok(None);
     };
-    let mut listed = vec![in alloc; 0; algorithm.output_len()]?;
-    if hex::decode_to_slice(digits, &mut listed).is_err() {
+    let Some(listed) = digest_read(alloc, &algorithm, digits)? else {
         return Ok(None);
-    }
+    };
     Ok(Some(Entry {
         algorithm,
         listed,
@@ -128,27 +149,72 @@ fn entry_with(
     }))
 }
 
-fn is_white(byte: u8) -> bool {
+fn is_white(byte: u8) -> bool
+    ensures { result ≡ is_white byte }
+{
     byte == b' ' || byte == b'\t'
 }
 
+/// The place of the first byte that is neither a space nor a tab.
+fn place_of_text(bytes: &[u8]) -> Option<usize>
+    ensures { result ≡ position (λ byte. not (is_white byte)) bytes.now }
+{
+    bytes.iter().position(|byte| !is_white(*byte))
+}
+
 /// Bytes without the spaces and tabs at their start.
-fn without_white(bytes: &[u8]) -> &[u8] {
-    match bytes.iter().position(|byte| !is_white(*byte)) {
+fn without_white(bytes: &[u8]) -> &[u8]
+    ensures { result.now ≡ without_white bytes.now }
+{
+    match place_of_text(bytes) {
         Some(place) => &bytes[place..],
         None => &[],
     }
 }
 
-/// The algorithm of so many digits.
-fn algorithm_of_digits(line: &[u8]) -> Option<Algorithm> {
-    match line.iter().position(|byte| !byte.is_ascii_hexdigit()) {
-        Some(40) => Some(SHA1_FOR_LEGACY_USE_ONLY),
-        Some(64) => Some(SHA256),
-        Some(96) => Some(SHA384),
-        Some(128) => Some(SHA512),
+/// What is behind these bytes, where a line begins with them.
+#[tactic(auto, unfolding(crate::specs::Entry::behind))]
+fn behind<'a>(front: &[u8], line: &'a [u8]) -> Option<&'a [u8]>
+    ensures { option_copied result ≡ behind front.now line.now }
+{
+    line.strip_prefix(front)
+}
+
+/// What is before and behind the last such byte.
+fn cut_at_last(byte: u8, line: &[u8]) -> Option<(&[u8], &[u8])>
+    ensures { option_map (λ cut. (cut.0.now, cut.1.now)) result ≡ cut_at_last byte line.now }
+{
+    match memrchr(byte, line) {
+        Some(place) => Some((&line[..place], &line[place + 1..])),
+        None => None,
+    }
+}
+
+/// How many digits a line begins with, if it has more bytes.
+fn digit_count(line: &[u8]) -> Option<usize>
+    ensures { result ≡ position (λ byte. not (is_ascii_hexdigit byte)) line.now }
+{
+    line.iter().position(|byte| !byte.is_ascii_hexdigit())
+}
+
+fn algorithm_of_count(count: usize) -> Option<Algorithm>
+    ensures { result ≡ algorithm_of_count count }
+{
+    match count {
+        40 => Some(SHA1_FOR_LEGACY_USE_ONLY),
+        64 => Some(SHA256),
+        96 => Some(SHA384),
+        128 => Some(SHA512),
         _ => None,
     }
+}
+
+/// The algorithm of so many digits.
+#[tactic(auto, unfolding(crate::specs::Entry::algorithm_of_digits))]
+fn algorithm_of_digits(line: &[u8]) -> Option<Algorithm>
+    ensures { result ≡ algorithm_of_digits line.now }
+{
+    algorithm_of_count(digit_count(line)?)
 }
 
 /// How many characters stand between digits and names. The first line with digits in front shows
@@ -162,104 +228,177 @@ pub enum Gap {
     Two,
 }
 
-/// The name behind the digits and a space, or `None` where lines before have another gap.
-fn name_behind<'a>(rest: &'a [u8], gap: &mut Gap) -> Option<&'a [u8]> {
-    let marked = match rest {
-        [b' ' | b'*', _, ..] => Some(&rest[1..]),
-        _ => None,
-    };
-    match (marked, *gap) {
-        (None, Gap::Two) => None,
-        (None, _) => {
-            *gap = Gap::One;
-            Some(rest)
-        }
-        (Some(_), Gap::One) => Some(rest),
-        (Some(name), _) => {
-            *gap = Gap::Two;
-            Some(name)
-        }
+/// The gap of a list, behind a line whose name has a mark or none.
+fn gap_shown(gap: Gap, is_marked: bool) -> Gap
+    ensures { result ≡ gap_shown gap is_marked }
+{
+    match gap {
+        Gap::Unknown => { if is_marked { Gap::Two } else { Gap::One } }
+        known => known,
     }
 }
 
+/// Whether a mark stands before the name.
+#[tactic(auto, unfolding(crate::specs::Entry::is_marked))]
+fn is_marked(rest: &[u8]) -> bool
+    ensures { result ≡ is_marked rest.now }
+{
+    rest.len() >= 2 && (rest[0] == b' ' || rest[0] == b'*')
+}
+
+/// The name behind the digits and a space, or `None` where lines before have another gap.
+#[tactic(auto, unfolding(crate::specs::Entry::name_behind, crate::specs::Entry::is_marked))]
+fn name_behind<'a>(rest: &'a [u8], gap: &mut Gap) -> Option<&'a [u8]>
+    ensures name { option_copied result ≡ name_behind gap.old rest.now }
+    ensures gap { gap.new ≡ gap_shown gap.old (is_marked rest.now) }
+{
+    let is_marked = is_marked(rest);
+    *gap = gap_shown(*gap, is_marked);
+    match *gap {
+        Gap::One => Some(rest),
+        _ if is_marked => Some(&rest[1..]),
+        _ => None,
+    }
+}
+
+fn are_digits(digits: &[u8]) -> bool
+    ensures { result ≡ list_all is_ascii_hexdigit digits.now }
+{
+    digits.iter().all(|byte| byte.is_ascii_hexdigit())
+}
+
+/// The algorithm of a line that begins with the digest, the digits, and what is behind the space
+/// after them.
+#[tactic(auto, unfolding(crate::specs::Entry::plain_parts))]
+fn plain_parts(asked: Option<Algorithm>, line: &[u8]) -> Option<(Algorithm, &[u8], &[u8])>
+    ensures { option_map (λ parts. (parts.0, parts.1.now, parts.2.now)) result
+        ≡ plain_parts asked line.now }
+{
+    let algorithm = asked.or(algorithm_of_digits(line))?;
+    let len = 2 * algorithm.output_len();
+    if line.len() < len + 2 || !is_white(line[len]) || !are_digits(&line[..len]) {
+        return None;
+    }
+    Some((algorithm, &line[..len], &line[len + 1..]))
+}
+
 /// The entry of a line that begins with the digest.
+#[tactic(auto, unfolding(crate::specs::Entry::plain_entry, crate::specs::Entry::plain_gap))]
 fn plain_entry(
     alloc: Global,
-    algorithm: Option<Algorithm>,
+    asked: Option<Algorithm>,
     line: &[u8],
     is_escaped: bool,
     gap: &mut Gap,
-) -> Result<Option<Entry>, AllocError> {
-    let Some(algorithm) = algorithm.or_else(|| algorithm_of_digits(line)) else {
+) -> Result<Option<Entry>, AllocError>
+    ensures entry { IfOk result (λ entry. option_map listed_by entry
+        ≡ plain_entry asked gap.old line.now is_escaped) }
+    ensures gap { gap.new ≡ plain_gap asked gap.old line.now }
+{
+    let Some((algorithm, digits, rest)) = plain_parts(asked, line) else {
         return Ok(None);
     };
-    let len = 2 * algorithm.output_len();
-    if line.len() < len + 2 {
-        return Ok(None);
-    }
-    let (digits, rest) = line.split_at(len);
-    if !is_white(rest[0]) || !digits.iter().all(|byte| byte.is_ascii_hexdigit()) {
-        return Ok(None);
-    }
-    match name_behind(&rest[1..], gap) {
+    match name_behind(rest, gap) {
         Some(name) => entry_with(alloc, algorithm, digits, name, is_escaped),
         None => Ok(None),
     }
 }
 
-/// The algorithm whose tag a line begins with, and what is behind the tag.
-fn tagged(algorithm: Option<Algorithm>, line: &[u8]) -> Option<(Algorithm, &[u8])> {
-    for known in [SHA1_FOR_LEGACY_USE_ONLY, SHA256, SHA384, SHA512_256, SHA512] {
-        if algorithm.is_none() || algorithm == Some(known) {
-            if let Some(rest) = line.strip_prefix(tag_of(&known).as_bytes()) {
-                return Some((known, rest));
-            }
-        }
-    }
-    None
+/// An algorithm, and what is behind its tag, where a line begins with that.
+#[tactic(auto, unfolding(crate::specs::Entry::tagged_as))]
+fn tagged_as(algorithm: Algorithm, line: &[u8]) -> Option<(Algorithm, &[u8])>
+    ensures { option_map (λ found. (found.0, found.1.now)) result ≡ tagged_as algorithm line.now }
+{
+    let rest = behind(tag_of(&algorithm).as_bytes(), line)?;
+    Some((algorithm, rest))
 }
 
-/// The entry of a line in BSD's style, behind the tag: ` (NAME) = DIGITS`.
+/// The algorithm whose tag a line begins with, and what is behind the tag.
+#[tactic(auto, unfolding(crate::specs::Entry::tagged))]
+fn tagged(asked: Option<Algorithm>, line: &[u8]) -> Option<(Algorithm, &[u8])>
+    ensures { option_map (λ found. (found.0, found.1.now)) result ≡ tagged asked line.now }
+{
+    match asked {
+        Some(algorithm) => tagged_as(algorithm, line),
+        None => tagged_as(SHA1_FOR_LEGACY_USE_ONLY, line)
+            .or(tagged_as(SHA256, line))
+            .or(tagged_as(SHA384, line))
+            .or(tagged_as(SHA512_256, line))
+            .or(tagged_as(SHA512, line)),
+    }
+}
+
+/// The name and the digits of a line in BSD's style, behind the tag: ` (NAME) = DIGITS`.
+#[tactic(auto, unfolding(crate::specs::Entry::tagged_parts))]
+fn tagged_parts(line: &[u8]) -> Option<(&[u8], &[u8])>
+    ensures { option_map (λ parts. (parts.0.now, parts.1.now)) result ≡ tagged_parts line.now }
+{
+    let line = behind(b" ", line).unwrap_or(line);
+    let (name, rest) = cut_at_last(b')', behind(b"(", line)?)?;
+    let digits = behind(b"=", without_white(rest))?;
+    Some((name, without_white(digits)))
+}
+
+/// The entry of a line in BSD's style, behind the tag.
+#[tactic(auto, unfolding(crate::specs::Entry::tagged_entry))]
 fn tagged_entry(
     alloc: Global,
     algorithm: Algorithm,
     line: &[u8],
     is_escaped: bool,
-) -> Result<Option<Entry>, AllocError> {
-    let line = line.strip_prefix(b" ").unwrap_or(line);
-    let Some(line) = line.strip_prefix(b"(") else {
-        return Ok(None);
-    };
-    let Some(place) = line.iter().rposition(|byte| *byte == b')') else {
-        return Ok(None);
-    };
-    let rest = without_white(&line[place + 1..]);
-    let Some(rest) = rest.strip_prefix(b"=") else {
-        return Ok(None);
-    };
-    entry_with(
-        alloc,
-        algorithm,
-        without_white(rest),
-        &line[..place],
-        is_escaped,
-    )
+) -> Result<Option<Entry>, AllocError>
+    ensures { IfOk result (λ entry. option_map listed_by entry
+        ≡ tagged_entry algorithm line.now is_escaped) }
+{
+    match tagged_parts(line) {
+        Some((name, digits)) => entry_with(alloc, algorithm, digits, name, is_escaped),
+        None => Ok(None),
+    }
+}
+
+/// Whether a line begins with a backslash, and what is behind it.
+#[tactic(auto, unfolding(crate::specs::Entry::is_escaped, crate::specs::Entry::behind_backslash))]
+fn behind_backslash(line: &[u8]) -> (bool, &[u8])
+    ensures escaped { result.0 ≡ is_escaped line.now }
+    ensures rest { result.1.now ≡ behind_backslash line.now }
+{
+    match behind(b"\\", line) {
+        Some(rest) => (true, rest),
+        None => (false, line),
+    }
+}
+
+/// The entry of a line behind white space and a backslash.
+#[tactic(auto, unfolding(crate::specs::Entry::entry_in, crate::specs::Entry::gap_in))]
+fn entry_in(
+    alloc: Global,
+    asked: Option<Algorithm>,
+    line: &[u8],
+    is_escaped: bool,
+    gap: &mut Gap,
+) -> Result<Option<Entry>, AllocError>
+    ensures entry { IfOk result (λ entry. option_map listed_by entry
+        ≡ entry_in asked gap.old line.now is_escaped) }
+    ensures gap { gap.new ≡ gap_in asked gap.old line.now }
+{
+    match tagged(asked, line) {
+        Some((algorithm, rest)) => tagged_entry(alloc, algorithm, rest, is_escaped),
+        None => plain_entry(alloc, asked, line, is_escaped, gap),
+    }
 }
 
 /// The entry of a line, which has no line feed, or `None` where it has not the form of one.
+#[tactic(auto, unfolding(crate::specs::Entry::entry_of, crate::specs::Entry::gap_after))]
 pub fn entry_of_line(
     alloc: Global,
-    algorithm: Option<Algorithm>,
+    asked: Option<Algorithm>,
     line: &[u8],
     gap: &mut Gap,
-) -> Result<Option<Entry>, AllocError> {
-    let line = without_white(line);
-    let (is_escaped, line) = match line {
-        [b'\\', rest @ ..] => (true, rest),
-        _ => (false, line),
-    };
-    match tagged(algorithm, line) {
-        Some((algorithm, rest)) => tagged_entry(alloc, algorithm, rest, is_escaped),
-        None => plain_entry(alloc, algorithm, line, is_escaped, gap),
-    }
+) -> Result<Option<Entry>, AllocError>
+    ensures entry { IfOk result (λ entry. option_map listed_by entry
+        ≡ entry_of asked gap.old line.now) }
+    ensures gap { gap.new ≡ gap_after asked gap.old line.now }
+{
+    let (is_escaped, line) = behind_backslash(without_white(line));
+    entry_in(alloc, asked, line, is_escaped, gap)
 }

@@ -1,7 +1,10 @@
 //! The files whose digests are asked for, each of which is opened when it is first read.
 
-use crate::outcome::Outcome;
-use crate::sums::Sums;
+ghost use Rattle.std.specs.Prelude.{◌≡◌, Some, true};
+ghost use Rattle.ring_sums.specs.Files.{name_of};
+
+use crate::outcomes::Wanted;
+use crate::source;
 use ring::digest::Algorithm;
 use std::alloc::{AllocError, Global};
 use std::io::{ErrorKind, Input, Read};
@@ -10,13 +13,6 @@ use std::{fs, io};
 
 /// The name of standard input.
 const STANDARD_INPUT: &[u8] = b"-";
-
-/// A file by its name, and the algorithm of the digest that is asked for.
-#[derive(Clone, Copy)]
-pub(crate) struct Wanted<'a> {
-    pub(crate) name: &'a [u8],
-    pub(crate) algorithm: Algorithm,
-}
 
 /// What a file's bytes are read from. It is opened at the first read.
 #[derive(Drop)]
@@ -56,6 +52,14 @@ impl<R: Files + Input> Read for Source<'_, R> {
     }
 }
 
+impl<R: Files + Input> source::Source for Source<'_, R> {
+    ghost can_fail = { λ _. true };
+
+    fn read_piece(&mut self, buf: &mut [u8]) -> io::Result<usize> {
+        self.read(buf)
+    }
+}
+
 /// Whether a file is read with no other beside it: standard input, which may be asked for twice,
 /// and pipes and devices, since whoever writes to one may wait for another to be read.
 fn is_alone<R: Files>(rt: &R, name: &[u8]) -> bool {
@@ -71,70 +75,19 @@ fn is_alone<R: Files>(rt: &R, name: &[u8]) -> bool {
     }
 }
 
-/// The outcomes of files, in their order.
-#[derive(Drop)]
-pub(crate) struct Outcomes<'a, R: Files + Input> {
+/// A file by its name, of which the digest is asked for.
+pub(crate) fn wanted_of<'a, R: Files + Input>(
     rt: &'a R,
-    alloc: Global,
-    wanted: &'a [Wanted<'a>],
-    /// The place of the first file that is in no run yet.
-    next: usize,
-    /// The files that are read side by side.
-    run: Option<Sums<Source<'a, R>>>,
-}
-
-impl<'a, R: Files + Input> Outcomes<'a, R> {
-    pub(crate) fn new(rt: &'a R, alloc: Global, wanted: &'a [Wanted<'a>]) -> Outcomes<'a, R> {
-        Outcomes {
-            rt,
-            alloc,
-            wanted,
-            next: 0,
-            run: None,
-        }
-    }
-
-    /// Begins with the files that are read side by side next: those of one algorithm up to one that
-    /// is read alone, or that one.
-    fn begin(&mut self, first: Wanted<'a>) -> Result<(), AllocError> {
-        let mut sources = Vec::new(self.alloc);
-        let rest = self.wanted.get(self.next..).unwrap_or(&[]);
-        'files: for file in rest {
-            let is_alone = is_alone(self.rt, file.name);
-            if !sources.is_empty() && (is_alone || file.algorithm != first.algorithm) {
-                break;
-            }
-            sources.push(Source::Named(self.rt, file.name))?;
-            self.next = self.next.saturating_add(1);
-            if is_alone {
-                break;
-            }
-        }
-        self.run = Some(Sums::new(self.alloc, &first.algorithm, sources));
-        Ok(())
-    }
-
-    /// The outcome of the next file.
-    pub(crate) fn next<const BITS: usize>(&mut self) -> Result<Option<Outcome>, AllocError> {
-        if let Some(outcome) = self.next_of_run::<BITS>()? {
-            return Ok(Some(outcome));
-        }
-        let Some(first) = self.wanted.get(self.next) else {
-            return Ok(None);
-        };
-        self.begin(*first)?;
-        self.next_of_run::<BITS>()
-    }
-
-    /// The outcome of the next file of those that are read side by side.
-    fn next_of_run<const BITS: usize>(&mut self) -> Result<Option<Outcome>, AllocError> {
-        let Some(run) = &mut self.run else {
-            return Ok(None);
-        };
-        match run.next_outcome::<BITS>(self.alloc) {
-            Ok(outcome) => Ok(outcome),
-            Err(_) => Err(AllocError),
-        }
+    name: &'a [u8],
+    algorithm: Algorithm,
+) -> Wanted<Source<'a, R>>
+    ensures algorithm { result.algorithm ≡ algorithm }
+    ensures name { name_of result.reader ≡ Some name.now }
+{
+    Wanted {
+        algorithm,
+        reader: Source::Named(rt, name),
+        is_alone: is_alone(rt, name),
     }
 }
 

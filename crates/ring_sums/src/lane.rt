@@ -5,10 +5,10 @@ ghost use Rattle.ring.specs.declared.digest.algorithm.Algorithm.{Algorithm};
 
 use crate::outcome::Outcome;
 use crate::piece::{MAX_BLOCK_LEN, PIECE_LEN, fill};
+use crate::source::Source;
 use ring::digest::Context;
 use std::alloc::{AllocError, Global};
 use std::io;
-use std::io::Read;
 
 /// Room for a piece.
 pub(crate) fn new_room(alloc: Global) -> Result<Vec<u8>, AllocError> {
@@ -30,7 +30,7 @@ pub(crate) struct Lane<R> {
     pub(crate) failure: Option<io::Error>,
 }
 
-impl<R: Read> Lane<R> {
+impl<R: Source> Lane<R> {
     ghost use Rattle.ring_sums.specs.Lane.{IsFilled, IsIn, IsRead, IsSkipped, front_of, left_of};
     ghost use Rattle.ring_sums.specs.Outcome.{IsOutcome};
 
@@ -54,7 +54,7 @@ impl<R: Read> Lane<R> {
 
     /// Reads a piece into the room.
     fn fill_room(&mut self)
-        ensures { IsFilled R.remaining self.old self.new }
+        ensures { IsFilled R.remaining R.can_fail self.old self.new }
     {
         self.from = 0;
         match fill(&mut self.reader, &mut self.room) {
@@ -71,7 +71,7 @@ impl<R: Read> Lane<R> {
 
     /// Reads the next piece, where the last one is taken in.
     pub(crate) fn read(&mut self)
-        ensures { IsRead R.remaining self.old self.new }
+        ensures { IsRead R.remaining R.can_fail self.old self.new }
     {
         if !self.has_ended && self.from >= self.len {
             self.fill_room();
@@ -125,9 +125,9 @@ impl<R: Read> Lane<R> {
     where
         R: Drop,
         ensures { (a : Algorithm) (readers : List R) (r : R)
-            → IsIn R.remaining a readers (left_of self) self context
+            → IsIn R.remaining R.can_fail a readers (left_of self) self context
             → (IsNone self.failure → IsTrue self.has_ended)
-            → IsOutcome R.remaining a (get_or readers self.place r) result.0 }
+            → IsOutcome R.remaining R.can_fail a (get_or readers self.place r) result.0 }
     {
         let mut context = context;
         context.update(self.left());

@@ -1,20 +1,21 @@
 //! Readers that are read side by side, each in a lane.
 
-ghost use Rattle.std.specs.Prelude.{◌≡◌, ◌<◌, List, [], IfOk, OnOk, get_or, length, map, vec_len};
+ghost use Rattle.std.specs.Prelude.{◌≡◌, ◌<◌, List, [], IfOk, IsTrue, OnOk, get_or, length, map};
+ghost use Rattle.std.specs.Prelude.{vec_len};
 ghost use Rattle.ring.specs.declared.digest.algorithm.Algorithm.{Algorithm};
 ghost use Rattle.ring_sums.specs.Lane.{behind_of, front_of, left_of};
-ghost use Rattle.ring_sums.specs.Lanes.{AreIn};
-ghost use Rattle.ring_sums.specs.Found.{AreFound};
+ghost use Rattle.ring_sums.specs.Lanes.{AreIn, IsBegun, KeepPlaces};
+ghost use Rattle.ring_sums.specs.Found.{AreFound, ArePending};
 
 use crate::found::put;
 use crate::lane::{Lane, new_room};
 use crate::outcome::Outcome;
 use crate::piece::MAX_BLOCK_LEN;
+use crate::source::Source;
 use ring::cost::Meter;
 use ring::digest::{Algorithm, Context, update_each_in};
 use std::alloc::{AllocError, Global};
 use std::collections::VecDeque;
-use std::io::Read;
 
 /// How many readers are read side by side.
 pub(crate) const LANES: usize = 8;
@@ -29,7 +30,7 @@ pub(crate) struct Lanes<R> {
     ghost paired: { vec_len contexts ≡ vec_len lanes },
 }
 
-impl<R: Read + Drop> Lanes<R> {
+impl<R: Source + Drop> Lanes<R> {
     pub(crate) fn new(alloc: Global) -> Lanes<R>
         ensures lanes { result.lanes.items ≡ [] }
         ensures contexts { result.contexts.items ≡ [] }
@@ -46,7 +47,9 @@ impl<R: Read + Drop> Lanes<R> {
         self.lanes.len() < LANES
     }
 
-    pub(crate) fn is_empty(&self) -> bool {
+    pub(crate) fn is_empty(&self) -> bool
+        ensures { IsTrue result → length self.now.lanes.items ≡ 0 }
+    {
         self.lanes.is_empty()
     }
 
@@ -58,11 +61,12 @@ impl<R: Read + Drop> Lanes<R> {
         place: usize,
         reader: R,
     ) -> Result<(), AllocError>
-        ensures { OnOk result ((readers : List R) → place < length readers
+        ensures begun { OnOk result (IsBegun place self.old.lanes.items self.new.lanes.items) }
+        ensures going { OnOk result ((readers : List R) → place < length readers
             → ((r : R) → get_or readers place r ≡ reader)
-            → AreIn R.remaining algorithm.now readers left_of self.old.lanes.items
+            → AreIn R.remaining R.can_fail algorithm.now readers left_of self.old.lanes.items
             self.old.contexts.items
-            → AreIn R.remaining algorithm.now readers left_of self.new.lanes.items
+            → AreIn R.remaining R.can_fail algorithm.now readers left_of self.new.lanes.items
             self.new.contexts.items) }
     {
         let room = match self.rooms.pop() {
@@ -79,9 +83,12 @@ impl<R: Read + Drop> Lanes<R> {
 
     /// Reads a piece in each lane whose last one is taken in.
     pub(crate) fn read(&mut self)
-        ensures { (a : Algorithm) (readers : List R)
-            → AreIn R.remaining a readers left_of self.old.lanes.items self.old.contexts.items
-            → AreIn R.remaining a readers left_of self.new.lanes.items self.new.contexts.items }
+        ensures places { KeepPlaces self.old.lanes.items self.new.lanes.items }
+        ensures going { (a : Algorithm) (readers : List R)
+            → AreIn R.remaining R.can_fail a readers left_of self.old.lanes.items
+            self.old.contexts.items
+            → AreIn R.remaining R.can_fail a readers left_of self.new.lanes.items
+            self.new.contexts.items }
     {
         'lanes: for i in 0..self.lanes.len() {
             self.lanes[i].read();
@@ -90,9 +97,12 @@ impl<R: Read + Drop> Lanes<R> {
 
     /// Updates the contexts with the whole blocks that all lanes have left.
     pub(crate) fn update<const BITS: usize>(&mut self, alloc: Global) -> Result<(), AllocError>
-        ensures { OnOk result ((a : Algorithm) (readers : List R)
-            → AreIn R.remaining a readers left_of self.old.lanes.items self.old.contexts.items
-            → AreIn R.remaining a readers left_of self.new.lanes.items self.new.contexts.items) }
+        ensures places { OnOk result (KeepPlaces self.old.lanes.items self.new.lanes.items) }
+        ensures going { OnOk result ((a : Algorithm) (readers : List R)
+            → AreIn R.remaining R.can_fail a readers left_of self.old.lanes.items
+            self.old.contexts.items
+            → AreIn R.remaining R.can_fail a readers left_of self.new.lanes.items
+            self.new.contexts.items) }
     {
         let count = common_len(&self.lanes);
         self.take_in::<BITS>(alloc, count)?;
@@ -102,9 +112,11 @@ impl<R: Read + Drop> Lanes<R> {
 
     /// Updates each context with the first `count` bytes that its lane has left.
     fn take_in<const BITS: usize>(&mut self, alloc: Global, count: usize) -> Result<(), AllocError>
-        ensures { OnOk result ((a : Algorithm) (readers : List R)
-            → AreIn R.remaining a readers left_of self.old.lanes.items self.old.contexts.items
-            → AreIn R.remaining a readers (behind_of count) self.new.lanes.items
+        ensures lanes { self.new.lanes ≡ self.old.lanes }
+        ensures taken { OnOk result ((a : Algorithm) (readers : List R)
+            → AreIn R.remaining R.can_fail a readers left_of self.old.lanes.items
+            self.old.contexts.items
+            → AreIn R.remaining R.can_fail a readers (behind_of count) self.new.lanes.items
             self.new.contexts.items) }
     {
         let pieces = fronts_of(alloc, &self.lanes, count)?;
@@ -117,10 +129,12 @@ impl<R: Read + Drop> Lanes<R> {
 
     /// Takes `count` bytes of each lane for taken in.
     fn skip(&mut self, count: usize)
-        ensures { (a : Algorithm) (readers : List R)
-            → AreIn R.remaining a readers (behind_of count) self.old.lanes.items
+        ensures places { KeepPlaces self.old.lanes.items self.new.lanes.items }
+        ensures going { (a : Algorithm) (readers : List R)
+            → AreIn R.remaining R.can_fail a readers (behind_of count) self.old.lanes.items
             self.old.contexts.items
-            → AreIn R.remaining a readers left_of self.new.lanes.items self.new.contexts.items }
+            → AreIn R.remaining R.can_fail a readers left_of self.new.lanes.items
+            self.new.contexts.items }
     {
         'lanes: for i in 0..self.lanes.len() {
             self.lanes[i].skip(count);
@@ -135,11 +149,15 @@ impl<R: Read + Drop> Lanes<R> {
         found: &mut VecDeque<Option<Outcome>>,
     ) -> Result<(), AllocError>
         ensures count { length found.new.items ≡ length found.old.items }
+        ensures pending { OnOk result (ArePending given found.old.items self.old.lanes.items
+            → ArePending given found.new.items self.new.lanes.items) }
         ensures going { OnOk result ((a : Algorithm) (readers : List R)
-            → AreIn R.remaining a readers left_of self.old.lanes.items self.old.contexts.items
-            → AreFound R.remaining a readers given found.old.items
-            → AreIn R.remaining a readers left_of self.new.lanes.items self.new.contexts.items
-            × AreFound R.remaining a readers given found.new.items) }
+            → AreIn R.remaining R.can_fail a readers left_of self.old.lanes.items
+            self.old.contexts.items
+            → AreFound R.remaining R.can_fail a readers given found.old.items
+            → AreIn R.remaining R.can_fail a readers left_of self.new.lanes.items
+            self.new.contexts.items
+            × AreFound R.remaining R.can_fail a readers given found.new.items) }
     {
         let mut i = 0;
         'lanes: while i < self.lanes.len() {
@@ -159,7 +177,7 @@ impl<R: Read + Drop> Lanes<R> {
 }
 
 /// How many bytes of whole blocks all lanes have left.
-fn common_len<R: Read>(lanes: &[Lane<R>]) -> usize {
+fn common_len<R: Source>(lanes: &[Lane<R>]) -> usize {
     let mut fewest = usize::MAX;
     'lanes: for lane in lanes {
         fewest = fewest.min(lane.left().len());
@@ -168,7 +186,7 @@ fn common_len<R: Read>(lanes: &[Lane<R>]) -> usize {
 }
 
 /// The first `count` bytes that each lane has left.
-fn fronts_of<R: Read>(
+fn fronts_of<R: Source>(
     alloc: Global,
     lanes: &[Lane<R>],
     count: usize,

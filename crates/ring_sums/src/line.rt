@@ -1,8 +1,11 @@
 //! A line of a list: the digest and the name of a file, as coreutils write it.
 
-ghost use Rattle.std.specs.Prelude.{◌≡◌, ◌∷◌, [], ◌++◌, IsFalse, OnOk};
-ghost use Rattle.ring.specs.Prelude.{bytes_of};
-ghost use Rattle.ring_sums.specs.Line.{end_of, head_of, mark_of, named, plain_line, tagged_line};
+ghost use Rattle.std.specs.Prelude.{◌≡◌, ◌∷◌, [], ◌++◌, OnOk};
+ghost use Rattle.hex.specs.Hex.{encode_lower};
+ghost use Rattle.ring.specs.Prelude.{bytes_of, digest_algorithm};
+ghost use Rattle.ring_sums.specs.Entry.{IsDigestOf};
+ghost use Rattle.ring_sums.specs.Line.{end_of, file_line, head_of, mark_of, named, plain_line};
+ghost use Rattle.ring_sums.specs.Line.{tagged_line};
 
 use crate::entry::tag_of;
 use crate::names::{append_escaped, needs_escape};
@@ -41,6 +44,19 @@ fn append_head(out: &mut Vec<u8>, is_zero: bool, name: &[u8]) -> Result<(), Allo
     Ok(())
 }
 
+/// Appends the digits of a digest.
+fn append_digits(out: &mut Vec<u8>, digest: &Digest) -> Result<(), AllocError>
+    ensures ok { OnOk result (out.new.items
+        ≡ out.old.items ++ encode_lower (bytes_of digest.now)) }
+    ensures digest { OnOk result
+        (IsDigestOf (digest_algorithm digest.now) (bytes_of digest.now)) }
+{
+    let alloc: Global = *out.allocator();
+    let bytes = digest.as_ref();
+    out.extend_from_slice(hex::encode(alloc, bytes)?.as_bytes())?;
+    Ok(())
+}
+
 /// Appends the end of a line.
 fn append_end(out: &mut Vec<u8>, is_zero: bool) -> Result<(), AllocError>
     ensures ok { OnOk result (out.new.items ≡ out.old.items ++ end_of is_zero ∷ []) }
@@ -59,10 +75,11 @@ fn append_plain_line(
 ) -> Result<(), AllocError>
     ensures ok { OnOk result (out.new.items
         ≡ out.old.items ++ plain_line is_zero mark (bytes_of digest.now) name.now) }
+    ensures digest { OnOk result
+        (IsDigestOf (digest_algorithm digest.now) (bytes_of digest.now)) }
 {
-    let alloc: Global = *out.allocator();
     append_head(out, is_zero, name)?;
-    out.extend_from_slice(hex::encode(alloc, digest.as_ref())?.as_bytes())?;
+    append_digits(out, digest)?;
     out.push(b' ')?;
     out.push(mark)?;
     append_named(out, is_zero, name)?;
@@ -79,14 +96,15 @@ fn append_tagged_line(
 ) -> Result<(), AllocError>
     ensures ok { OnOk result (out.new.items
         ≡ out.old.items ++ tagged_line is_zero tag.now (bytes_of digest.now) name.now) }
+    ensures digest { OnOk result
+        (IsDigestOf (digest_algorithm digest.now) (bytes_of digest.now)) }
 {
-    let alloc: Global = *out.allocator();
     append_head(out, is_zero, name)?;
     out.extend_from_slice(tag)?;
     out.extend_from_slice(b" (")?;
     append_named(out, is_zero, name)?;
     out.extend_from_slice(b") = ")?;
-    out.extend_from_slice(hex::encode(alloc, digest.as_ref())?.as_bytes())?;
+    append_digits(out, digest)?;
     append_end(out, is_zero)
 }
 
@@ -97,9 +115,10 @@ pub(crate) fn append_file_line(
     digest: &Digest,
     name: &[u8],
 ) -> Result<(), AllocError>
-    ensures plain { IsFalse options.now.is_tagged → OnOk result (out.new.items
-        ≡ out.old.items ++ plain_line options.now.is_zero (mark_of options.now.is_binary)
-        (bytes_of digest.now) name.now) }
+    ensures ok { OnOk result (out.new.items
+        ≡ out.old.items ++ file_line options.now digest.now name.now) }
+    ensures digest { OnOk result
+        (IsDigestOf (digest_algorithm digest.now) (bytes_of digest.now)) }
 {
     if options.is_tagged {
         let tag = tag_of(&digest.algorithm()).as_bytes();

@@ -1,10 +1,11 @@
 //! Names in lists: a backslash, a line feed and a carriage return are escaped, so that each name
 //! stands on one line.
 
-ghost use Rattle.std.specs.Prelude.{◌≡◌, ◌++◌, OnOk};
+ghost use Rattle.std.specs.Prelude.{◌≡◌, ◌++◌, IfOk, OnOk, option_map};
 ghost use Rattle.ring_sums.specs.Names.{escaped, escaped_byte, is_special, needs_escape};
+ghost use Rattle.ring_sums.specs.Names.{needs_escape_of_check, unescaped, unescaped_byte};
 
-use std::alloc::AllocError;
+use std::alloc::{AllocError, Global};
 
 /// Whether a byte of a name is escaped.
 fn is_special(byte: u8) -> bool
@@ -21,7 +22,9 @@ pub(crate) fn needs_escape(name: &[u8]) -> bool
 }
 
 /// Whether a name is escaped where a check says what it found.
-pub(crate) fn needs_escape_of_check(name: &[u8]) -> bool {
+pub(crate) fn needs_escape_of_check(name: &[u8]) -> bool
+    ensures { result ≡ needs_escape_of_check name.now }
+{
     name.contains(&b'\n')
 }
 
@@ -46,4 +49,41 @@ pub(crate) fn append_escaped(out: &mut Vec<u8>, name: &[u8]) -> Result<(), Alloc
         append_byte(out, *byte)?;
     }
     Ok(())
+}
+
+/// The byte whose escape has this letter behind the backslash.
+fn unescaped_byte(letter: u8) -> Option<u8>
+    ensures { result ≡ unescaped_byte letter }
+{
+    match letter {
+        b'\\' => Some(b'\\'),
+        b'n' => Some(b'\n'),
+        b'r' => Some(b'\r'),
+        _ => None,
+    }
+}
+
+/// The name whose escapes are these bytes, or `None` where a backslash begins no escape.
+pub(crate) fn unescaped(alloc: Global, bytes: &[u8]) -> Result<Option<Vec<u8>>, AllocError>
+    ensures ok { IfOk result (λ name. option_map (λ v. v.items) name ≡ unescaped bytes.now) }
+{
+    let mut name = Vec::new(alloc);
+    let mut after_backslash = false;
+    for byte in bytes {
+        if after_backslash {
+            let Some(plain) = unescaped_byte(*byte) else {
+                return Ok(None);
+            };
+            name.push(plain)?;
+            after_backslash = false;
+        } else if *byte == b'\\' {
+            after_backslash = true;
+        } else {
+            name.push(*byte)?;
+        }
+    }
+    if after_backslash {
+        return Ok(None);
+    }
+    Ok(Some(name))
 }

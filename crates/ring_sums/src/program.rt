@@ -1,15 +1,19 @@
 //! The program over any files, arguments and standard streams.
 
+ghost use Rattle.std.specs.Prelude.{◌≡◌, ◌≢◌, ◌↔◌, IfOk, IsFalse, IsNone, IsTrue, Ok, Some};
+ghost use Rattle.std.specs.Prelude.{map, true};
+ghost use Rattle.ring_sums.specs.Files.{name_of};
+
 use crate::about::{HELP, VERSION};
 use crate::check::check_list;
 use crate::console::Console;
 use crate::entry::Gap;
-use crate::files::{Outcomes, Wanted};
-use crate::line::append_file_line;
+use crate::files::{Source, wanted_of};
+use crate::listing::list;
 use crate::options::{Options, Refusal, Request, names_from, request_of};
-use crate::outcome::Outcome;
+use crate::outcomes::Wanted;
 use crate::tree::append_files;
-use ring::digest::SHA256;
+use ring::digest::{Algorithm, SHA256};
 use std::alloc::{AllocError, Global};
 use std::env::FillError;
 use std::io;
@@ -57,8 +61,26 @@ fn arguments<R: Env>(rt: &R, alloc: Global) -> Result<Vec<Vec<u8>>, AllocError> 
     Ok(words)
 }
 
-/// Writes a line for each file, and returns whether all could be read.
-fn list<const BITS: usize, R, W>(
+/// The files of these names, of which digests under `algorithm` are asked for.
+fn files_named<'a, R: Files + AllocGlobal + Input>(
+    rt: &'a R,
+    names: &'a [&'a [u8]],
+    algorithm: Algorithm,
+) -> Result<Vec<Wanted<Source<'a, R>>>, AllocError>
+    ensures algorithm { IfOk result (λ wanted. map (λ file. file.algorithm) wanted.items
+        ≡ map (λ name. algorithm) names.now) }
+    ensures names { IfOk result (λ wanted. map (λ file. name_of file.reader) wanted.items
+        ≡ map (λ name. Some name.now) names.now) }
+{
+    let mut wanted = Vec::new(rt.alloc());
+    for name in names {
+        wanted.push(wanted_of(rt, *name, algorithm))?;
+    }
+    Ok(wanted)
+}
+
+/// Writes the line of each file, and returns whether all could be read.
+fn list_names<const BITS: usize, R, W>(
     rt: &R,
     options: &Options,
     names: &[&[u8]],
@@ -68,40 +90,8 @@ where
     R: Files + AllocGlobal + Eprint + Input,
     W: Write,
 {
-    let algorithm = options.algorithm.unwrap_or(SHA256);
-    let mut wanted = Vec::new(rt.alloc());
-    for name in names {
-        wanted.push(Wanted {
-            name: *name,
-            algorithm,
-        })?;
-    }
-    let mut outcomes = Outcomes::new(rt, rt.alloc(), &wanted);
-    let mut is_fine = true;
-    let mut done = 0_usize;
-    for file in &wanted {
-        let Some(outcome) = outcomes.next::<BITS>()? else {
-            break;
-        };
-        match outcome {
-            Outcome::Sum(digest) => {
-                let mut line = Vec::new(rt.alloc());
-                append_file_line(&mut line, options, &digest, file.name)?;
-                console.write(&line);
-            }
-            Outcome::Failed(error) => {
-                is_fine = false;
-                console.tell_error(file.name, &error)?;
-            }
-            Outcome::TooLong => {
-                is_fine = false;
-                console.tell_of(file.name, b"too long")?;
-            }
-        }
-        done = done.saturating_add(1);
-        console.show_progress(done, wanted.len());
-    }
-    Ok(is_fine)
+    let wanted = files_named(rt, names, options.algorithm.unwrap_or(SHA256))?;
+    list::<BITS, _, R, W>(rt.alloc(), options, names, wanted, console)
 }
 
 /// Tells why the arguments ask for nothing.
@@ -204,7 +194,7 @@ where
     for file in &files {
         names.push(file)?;
     }
-    Ok(list::<BITS, R, W>(rt, options, &names, console)? && is_whole)
+    Ok(list_names::<BITS, R, W>(rt, options, &names, console)? && is_whole)
 }
 
 /// Does what is asked of files.
@@ -226,7 +216,7 @@ where
         return list_trees::<BITS, R, W>(rt, options, &operands, console);
     }
     if !options.does_check {
-        return list::<BITS, R, W>(rt, options, &operands, console);
+        return list_names::<BITS, R, W>(rt, options, &operands, console);
     }
     let mut is_fine = true;
     let mut gap = Gap::Unknown;
@@ -234,6 +224,18 @@ where
         is_fine = check_list::<BITS, R, W>(rt, options, *name, &mut gap, console)? && is_fine;
     }
     Ok(is_fine)
+}
+
+/// Whether a run went well: its files did, each line could be written, and standard input was open
+/// where it was asked for.
+fn end<R: Eprint, W: Write>(
+    console: &mut Console<'_, R, W>,
+    is_fine: bool,
+) -> Result<bool, AllocError>
+    ensures { IfOk result (λ went_well. IsTrue went_well ↔ (IsTrue is_fine
+        × IsNone console.old.failure × IsFalse console.old.is_input_closed)) }
+{
+    Ok(console.end()? && is_fine)
 }
 
 /// Does what the arguments ask for, and returns whether it went well.
@@ -269,7 +271,18 @@ where
             run_files::<BITS, R, _>(rt, &options, operands, &mut console)?
         }
     };
-    Ok(console.end()? && is_fine)
+    end(&mut console, is_fine)
+}
+
+/// The status of a run that went so.
+fn status_of(went_well: &Result<bool, AllocError>) -> u8
+    ensures well { (result ≡ 0) ↔ (went_well.now ≡ Ok true) }
+    ensures other { result ≢ 0 → result ≡ 1 }
+{
+    match went_well {
+        Ok(true) => SUCCESS,
+        _ => FAILURE,
+    }
 }
 
 /// Does what the arguments of `rt` ask for over vectors of `BITS` bits, and returns the status: 0
@@ -278,12 +291,9 @@ pub fn run<const BITS: usize, R>(rt: &R, is_terminal: bool) -> u8
 where
     R: Files + AllocGlobal + Clone + Drop + Env + Print + Eprint + Input,
 {
-    match run_words::<BITS, R>(rt, is_terminal) {
-        Ok(true) => SUCCESS,
-        Ok(false) => FAILURE,
-        Err(AllocError) => {
-            let _ = rt.eprintln("sums: memory exhausted");
-            FAILURE
-        }
+    let went_well = run_words::<BITS, R>(rt, is_terminal);
+    if went_well.is_err() {
+        let _ = rt.eprintln("sums: memory exhausted");
     }
+    status_of(&went_well)
 }

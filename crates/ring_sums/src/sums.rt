@@ -3,16 +3,18 @@
 ghost use Rattle.std.specs.Prelude.{◌≡◌, ◌↔◌, ℕ, List, IfOk, IsTrue, OnOk, length};
 ghost use Rattle.std.specs.Vec.Iter.{into_iter_items};
 ghost use Rattle.ring.specs.declared.digest.algorithm.Algorithm.{Algorithm};
+ghost use Rattle.ring_sums.specs.Found.{IsReady};
 ghost use Rattle.ring_sums.specs.Sums.{AreAt, IsGiven};
 
 use crate::found::take_first;
 use crate::lanes::Lanes;
 use crate::outcome::Outcome;
+use crate::source::Source;
 use ring::digest::Algorithm;
 use std::alloc::{AllocError, Global};
 use std::collections::VecDeque;
 use std::io;
-use std::io::{ErrorKind, Read};
+use std::io::ErrorKind;
 use std::vec::IntoIter;
 
 /// How many readers there are at most between the next to be given and the last one begun. With
@@ -33,11 +35,11 @@ pub struct Sums<R> {
     pub(crate) found: VecDeque<Option<Outcome>>,
 }
 
-impl<R: Read + Drop> Sums<R> {
+impl<R: Source + Drop> Sums<R> {
     /// The sums of what `readers` will give, under `algorithm`, with memory of `alloc`. Nothing is
     /// read yet.
     pub fn new(alloc: Global, algorithm: &Algorithm, readers: Vec<R>) -> Sums<R>
-        ensures { AreAt R.remaining algorithm.now readers.items 0 result }
+        ensures { AreAt R.remaining R.can_fail algorithm.now readers.items 0 result }
     {
         Sums {
             algorithm: *algorithm,
@@ -56,8 +58,8 @@ impl<R: Read + Drop> Sums<R> {
     /// Puts the next readers into the lanes that are free.
     fn begin(&mut self, alloc: Global) -> Result<(), AllocError>
         ensures { OnOk result ((a : Algorithm) (readers : List R) (place : ℕ)
-            → AreAt R.remaining a readers place self.old
-            → AreAt R.remaining a readers place self.new) }
+            → AreAt R.remaining R.can_fail a readers place self.old
+            → AreAt R.remaining R.can_fail a readers place self.new) }
     {
         'free: while self.can_begin() {
             // A reader without a lane keeps its place: it has failed.
@@ -75,8 +77,8 @@ impl<R: Read + Drop> Sums<R> {
     /// Ends the lanes that are over.
     fn end(&mut self) -> Result<(), AllocError>
         ensures { OnOk result ((a : Algorithm) (readers : List R) (place : ℕ)
-            → AreAt R.remaining a readers place self.old
-            → AreAt R.remaining a readers place self.new) }
+            → AreAt R.remaining R.can_fail a readers place self.old
+            → AreAt R.remaining R.can_fail a readers place self.new) }
     {
         let given = self
             .total
@@ -90,8 +92,8 @@ impl<R: Read + Drop> Sums<R> {
     /// for another.
     fn run_round<const BITS: usize>(&mut self, alloc: Global) -> Result<(), AllocError>
         ensures { OnOk result ((a : Algorithm) (readers : List R) (place : ℕ)
-            → AreAt R.remaining a readers place self.old
-            → AreAt R.remaining a readers place self.new) }
+            → AreAt R.remaining R.can_fail a readers place self.old
+            → AreAt R.remaining R.can_fail a readers place self.new) }
     {
         self.begin(alloc)?;
         self.lanes.read();
@@ -104,8 +106,8 @@ impl<R: Read + Drop> Sums<R> {
 
     /// Whether the next outcome can be given: it is found, or no reader is left to be read.
     fn is_ready(&self) -> bool
-        ensures { IsTrue result → (length self.now.found.items ≡ 0)
-            → (length (into_iter_items self.now.waiting) ≡ 0) }
+        ensures { IsTrue result → IsReady self.now.found.items (length self.now.lanes.lanes.items)
+            (length (into_iter_items self.now.waiting)) }
     {
         match self.found.front() {
             Some(first) => first.is_some() || self.lanes.is_empty(),
@@ -120,8 +122,8 @@ impl<R: Read + Drop> Sums<R> {
     /// others go on with the next call.
     pub fn next_outcome<const BITS: usize>(&mut self, alloc: Global) -> io::Result<Option<Outcome>>
         ensures { IfOk result (λ outcome. (a : Algorithm) (readers : List R) (place : ℕ)
-            → AreAt R.remaining a readers place self.old
-            → IsGiven R.remaining a readers place outcome self.new) }
+            → AreAt R.remaining R.can_fail a readers place self.old
+            → IsGiven R.remaining R.can_fail a readers place outcome self.new) }
     {
         'rounds: for _ in 0..u64::MAX {
             if self.is_ready() {

@@ -1,4 +1,5 @@
-use Rattle.std.proofs.Common.{◌≡◌, ◌<◌, ◌++◌, List, ℕ, IsErr, IsNone, length, refl, subst}
+use Rattle.std.proofs.Common.{◌≡◌, ◌<◌, ◌++◌, List, ℕ, IsErr, IsNone, length}
+use Rattle.std.proofs.Common.{refl, subst}
 use Rattle.std.proofs.KnownBytes.{Consumes-whole}
 use Rattle.ring.specs.Prelude.{IsDigest, StandsFor, context_algorithm, max_input_len}
 use Rattle.ring.specs.declared.digest.algorithm.Algorithm.{Algorithm}
@@ -15,7 +16,8 @@ returns g c = λ a readers r is over.
     λ m s. subst (λ (z : List ℕ). StandsFor updated (m ++ z)) c.left.ensures
     (c.update.ensures.stands m s) in
     elim c.match-self.branch [
-      | in-Some w ↦ rw w.outcome-is tt
+      | in-Some w ↦
+          rw (w.outcome-is, ← is.same r) (rw w.in-Some.is at is.failed)
       | in-None+in-Ok w ↦
           let none : IsNone lane.failure = rw w.in-None.is refl in
           let taken = is.taken none in

@@ -1,10 +1,11 @@
 use Rattle.std.proofs.Common.{◌≡◌, ◌<◌, ◌∙◌, IsNone, IsTrue, arith, get_or, length, refl, subst}
 use Rattle.std.proofs.Common.{sym}
 use Rattle.std.proofs.lemmas.List.{get_or_default}
+use Rattle.ring.specs.declared.digest.context.Context.{Context}
 use Rattle.ring_sums.specs.Lane.{IsIn}
 use Rattle.ring_sums.specs.Lane.{left_of}
 use Rattle.ring_sums.specs.declared.lane.Lane.{Lane}
-use Rattle.ring_sums.proofs.FoundOutcomes.{found-put}
+use Rattle.ring_sums.proofs.FoundOutcomes.{found-put, pending-put}
 use Rattle.ring_sums.proofs.InLanes.{IsSwapped, in-swapped}
 use Rattle.ring_sums.proofs.lanes.Lanes.end.Goals as goal
 
@@ -19,6 +20,8 @@ lanes-preserved-in-Continue-1 g c =
     let less = c.swap_remove-context.new.self in
     let taken = c.swap_remove-lane.ensures in
     let given = c.swap_remove-context.ensures in
+    let below : i < length lanes.items =
+    omega (arith, c.lanes-test.true, c.len.ensures, lanes.ok.0) in
     let swapped : IsSwapped lanes.items fewer.items i =
     record {
       len = omega (arith, lanes.ok.0, fewer.ok.0, taken.len);
@@ -34,21 +37,21 @@ lanes-preserved-in-Continue-1 g c =
     let over : IsNone lane.failure → IsTrue lane.has_ended =
     let same : c.index.result.now ≡ lane =
     c.index.ensures ∙ get_or_default lanes.items i _ lane
-    (omega (arith, c.lanes-test.true, c.len.ensures, lanes.ok.0))
-    ∙ sym taken.value in
+    below ∙ sym taken.value in
     subst (λ (z : Lane _). IsNone z.failure → IsTrue z.has_ended) same
     (c.if-is_over.ensures refl) in
     record {
       count = c.put.ensures.count ∙ c.lanes.invariant.count;
+      pending = λ first. pending-put lane (c.lanes.invariant.pending first) c.put.ensures below
+          taken.value swapped;
       going = λ a readers first found.
           let so = c.lanes.invariant.going a readers first found in
-          let below : i < length lanes.items =
-          omega (arith, c.lanes-test.true, c.len.ensures, lanes.ok.0) in
-          let is : IsIn g.R.Read.remaining a readers (left_of lane) lane context =
-          subst (λ z. IsIn g.R.Read.remaining a readers (left_of z) z context) (sym taken.value)
-          (subst (IsIn g.R.Read.remaining a readers (left_of (get_or lanes.items i lane))
-          (get_or lanes.items i lane))
-          (sym given.value) (so.0.each i lane context below)) in (
+          let P : Lane _ → Context → Type 0 = λ l c.
+          IsIn g.R.Read.remaining g.R.Source.can_fail a readers (left_of l) l c in
+          let is : P lane context =
+          subst (λ z. P z context) (sym taken.value)
+          (subst (P (get_or lanes.items i lane)) (sym given.value)
+          (so.0.each i lane context below)) in (
             in-swapped i so.0 swapped swapped_too,
             found-put so.1 c.put.ensures
                 (λ r. c.outcome-outcome.ensures a readers r is over),

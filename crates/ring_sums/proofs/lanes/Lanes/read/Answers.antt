@@ -4,8 +4,8 @@ use Rattle.ring_sums.specs.Lane.{IsRead}
 use Rattle.ring_sums.proofs.InLanes.{reading-all, stepped-next}
 use Rattle.ring_sums.proofs.lanes.Lanes.read.Goals as goal
 
-pub returns : goal.returns
-returns g c = λ a readers first.
+pub returns-clause-going : goal.returns-clause-going
+returns-clause-going g c = λ a readers first.
     let all : length c.args.self.now.lanes.items ≤ c.lanes.i =
     omega (arith, c.lanes-test.false, c.len-i-end.ensures, c.args.self.now.lanes.ok.0) in
     rw c.lanes.invariant.contexts (reading-all c.lanes.invariant.reading all first)
@@ -18,11 +18,12 @@ lanes-preserved g c =
     let have = c.lanes.invariant.reading in
     let below : i < length c.args.self.now.lanes.items =
     omega (arith, c.lanes-test.true, c.len-i-end.ensures, c.args.self.now.lanes.ok.0) in
-    let step : IsRead g.R.Read.remaining (get_or lanes.items i lane) lane =
-    subst (λ z. IsRead g.R.Read.remaining z lane)
+    let step : IsRead g.R.Read.remaining g.R.Source.can_fail (get_or lanes.items i lane) lane =
+    subst (λ z. IsRead g.R.Read.remaining g.R.Source.can_fail z lane)
     (c.index_mut.ensures.value
     ∙ get_or_default lanes.items i _ lane (omega (arith, have.count, below))) c.read.ensures in
     record {
-      reading = stepped-next {Step = IsRead g.R.Read.remaining} i lane lane have below step;
+      reading = stepped-next {Step = IsRead g.R.Read.remaining g.R.Source.can_fail} i lane lane
+          have below step;
       contexts = c.lanes.invariant.contexts;
     }

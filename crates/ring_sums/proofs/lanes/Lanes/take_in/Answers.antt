@@ -3,8 +3,8 @@ use Rattle.std.proofs.lemmas.List.{take_at}
 use Rattle.ring_sums.proofs.InLanes.{are-taken}
 use Rattle.ring_sums.proofs.lanes.Lanes.take_in.Goals as goal
 
-pub returns : goal.returns
-returns g c = λ a readers all.
+pub returns-clause-taken : goal.returns-clause-taken
+returns-clause-taken g c = λ a readers all.
     let contexts = c.args.self.now.contexts in
     let new = c.update_each_in.new.contexts in
     let took = rw (c.deref_mut.ensures.value, c.deref-2.ensures.value) at c.in-Ok.ensures.ok in

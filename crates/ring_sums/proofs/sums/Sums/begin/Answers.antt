@@ -5,7 +5,8 @@ use Rattle.ring.specs.declared.digest.algorithm.Algorithm.{Algorithm}
 use Rattle.ring_sums.specs.Lane.{left_of}
 use Rattle.ring_sums.specs.Lanes.{AreIn}
 use Rattle.ring_sums.specs.Sums.{AreLast}
-use Rattle.ring_sums.proofs.FoundOutcomes.{found-more, last-next}
+use Rattle.ring_sums.specs.declared.lanes.Lanes.{Lanes}
+use Rattle.ring_sums.proofs.FoundOutcomes.{found-more, last-next, pending-more}
 use Rattle.ring_sums.proofs.sums.Sums.begin.Goals as goal
 
 pub free-preserved : goal.free-preserved
@@ -32,19 +33,21 @@ free-preserved g c = λ a readers place at.
     let more = length-append c.free.self.found.items (None ∷ []) in
     let old = c.free.self.lanes in
     let new = c.begin.new.self in
-    let lanes : AreIn g.R.Read.remaining c.free.self.algorithm readers left_of old.lanes.items
-    old.contexts.items =
-    subst (λ (z : Algorithm). AreIn g.R.Read.remaining z readers left_of old.lanes.items
-    old.contexts.items) (sym so.algorithm) so.reading in
-    let begun = c.in_ok-begin.ensures readers n.below n.read lanes in
+    let P : Lanes _ → Algorithm → Type 0 = λ l z.
+    AreIn g.R.Read.remaining g.R.Source.can_fail z readers left_of l.lanes.items
+    l.contexts.items in
+    let lanes : P old c.free.self.algorithm = subst (P old) (sym so.algorithm) so.reading in
+    let begun = c.in_ok-begin.ensures.going readers n.below n.read lanes in
     record {
       algorithm = so.algorithm;
       total = so.total;
       begun = rw (c.push_back_reserved.ensures.items, c.reserve.ensures.items)
           (omega (arith, so.begun, more, one_less));
       waiting = n.last;
-      reading = subst (λ (z : Algorithm). AreIn g.R.Read.remaining z readers left_of
-          new.lanes.items new.contexts.items) so.algorithm begun;
+      reading = subst (P new) so.algorithm begun;
       found = rw (c.push_back_reserved.ensures.items, c.reserve.ensures.items)
           (found-more so.found);
+      pending = rw (c.push_back_reserved.ensures.items, c.reserve.ensures.items)
+          (pending-more so.pending c.in_ok-begin.ensures.begun
+          (omega (arith, from, so.begun, one_less)));
     }

@@ -1,6 +1,8 @@
 use Rattle.std.proofs.Common.{◌≡◌, ◌+◌, ◌∙◌, ℕ, ap, arith, length, subst, sym}
+use Rattle.std.proofs.Common.{List, Option}
 use Rattle.std.specs.Vec.Iter.{into_iter_items}
-use Rattle.ring_sums.specs.Found.{AreFound}
+use Rattle.ring_sums.specs.Found.{AreFound, ArePending}
+use Rattle.ring_sums.specs.declared.outcome.Outcome.{Outcome}
 use Rattle.ring_sums.proofs.sums.Sums.end.Goals as goal
 
 pub returns : goal.returns
@@ -20,8 +22,9 @@ returns g c = λ a readers place at.
       at.total,
       at.begun,
     ) in
-    let first = subst (λ (z : ℕ). AreFound g.R.Read.remaining a readers z found.items) (sym is)
-    at.found in
+    let P : ℕ → List (Option Outcome) → Type 0 = λ z found.
+    AreFound g.R.Read.remaining g.R.Source.can_fail a readers z found in
+    let first = subst (λ z. P z found.items) (sym is) at.found in
     let ended = c.in_ok-end.ensures.going a readers at.reading first in
     record {
       algorithm = at.algorithm;
@@ -30,6 +33,8 @@ returns g c = λ a readers place at.
           c.in_ok-end.ensures.count ∙ at.begun;
       waiting = at.waiting;
       reading = ended.0;
-      found = subst (λ (z : ℕ). AreFound g.R.Read.remaining a readers z c.end.new.found.items) is
-          ended.1;
+      found = subst (λ z. P z c.end.new.found.items) is ended.1;
+      pending = subst (λ (z : ℕ). ArePending z c.end.new.found.items c.end.new.self.lanes.items) is
+          (c.in_ok-end.ensures.pending (subst (λ (z : ℕ). ArePending z found.items
+          c.args.self.now.lanes.lanes.items) (sym is) at.pending));
     }

@@ -8,7 +8,8 @@ returns-then-is_ready g c = λ a readers place first.
     let at = c.rounds.invariant a readers place first in
     let n = next-of (length (into_iter_items c.rounds.self.waiting)) c.rounds.self.found.items
     c.take_first.result
-    c.take_first.ensures.first at.found at.begun (c.is_ready.ensures c.if-is_ready.true) in
+    c.take_first.ensures.first at.found at.pending at.begun
+    (c.is_ready.ensures c.if-is_ready.true) in
     record {
       some = n.some;
       right = n.right;
@@ -19,5 +20,6 @@ returns-then-is_ready g c = λ a readers place first.
         waiting = at.waiting;
         reading = at.reading;
         found = rw c.take_first.ensures.rest n.found;
+        pending = rw c.take_first.ensures.rest n.pending;
       };
     }

@@ -1,3 +1,4 @@
+use Rattle.ring_sums.proofs.FoundOutcomes.{pending-kept}
 use Rattle.ring_sums.proofs.sums.Sums.run_round.Goals as goal
 
 pub returns-in_ok-update : goal.returns-in_ok-update
@@ -8,16 +9,18 @@ returns-in_ok-update g c = λ a readers place at.
       total = begun.total;
       begun = begun.begun;
       waiting = begun.waiting;
-      reading = c.read.ensures a readers begun.reading;
+      reading = c.read.ensures.going a readers begun.reading;
       found = begun.found;
+      pending = pending-kept begun.pending c.read.ensures.places;
     }) in
     record {
       algorithm = ended.algorithm;
       total = ended.total;
       begun = ended.begun;
       waiting = ended.waiting;
-      reading = c.in_ok-update.ensures a readers ended.reading;
+      reading = c.in_ok-update.ensures.going a readers ended.reading;
       found = ended.found;
+      pending = pending-kept ended.pending c.in_ok-update.ensures.places;
     }
 
 pub returns-else-not-can_begin : goal.returns-else-not-can_begin
@@ -28,6 +31,7 @@ returns-else-not-can_begin g c = λ a readers place at.
       total = begun.total;
       begun = begun.begun;
       waiting = begun.waiting;
-      reading = c.read.ensures a readers begun.reading;
+      reading = c.read.ensures.going a readers begun.reading;
       found = begun.found;
+      pending = pending-kept begun.pending c.read.ensures.places;
     })

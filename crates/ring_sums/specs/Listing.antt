@@ -1,0 +1,43 @@
+-- The lines of files, as a run without `--check` writes them.
+use Rattle.std.specs.Prelude.{◌≡◌, ℕ, Bool, true, false, ◌<◌, List, [], ◌∷◌, ◌++◌, Option, get_or}
+use Rattle.std.specs.Prelude.{length}
+use Rattle.std.specs.Borrow.{Bor}
+use Rattle.std.specs.List.{list_all}
+use Rattle.ring_sums.specs.Console.{HasWritten}
+use Rattle.ring_sums.specs.Line.{file_line}
+use Rattle.ring_sums.specs.Outcomes.{IsOutcomeOf}
+use Rattle.ring_sums.specs.declared.console.Console.{Console}
+use Rattle.ring_sums.specs.declared.options.Options.{Options}
+use Rattle.ring_sums.specs.declared.outcome.Outcome.{Outcome}
+use Rattle.ring_sums.specs.declared.outcome.Outcome.TheVariants.{Sum, TooLong, Failed}
+use Rattle.ring_sums.specs.declared.outcomes.Wanted.{Wanted}
+
+-- whether a file could be read to its end
+abbrev pub is_sum : Outcome → Bool
+is_sum (Sum digest) = true
+is_sum TooLong = false
+is_sum (Failed error) = false
+
+-- the line of a file that could be, and nothing of another
+abbrev pub line_of : Options → (name : List ℕ) → Outcome → List ℕ
+line_of options name (Sum digest) = file_line options digest name
+line_of options name TooLong = []
+line_of options name (Failed error) = []
+
+-- the lines of files, one after another
+unfoldable pub lines_of : Options → (names : List (Bor (List ℕ))) → List Outcome → List ℕ
+lines_of options [] outcomes = []
+lines_of options (name ∷ names) [] = []
+lines_of options (name ∷ names) (outcome ∷ outcomes) =
+    line_of options name.now outcome ++ lines_of options names outcomes
+
+-- each file has its outcome, their lines are written, and `is_fine` is whether all have one
+pub record IsListed {S R W : Type 0} (remaining : S → Option (List ℕ)) (can_fail : S → Bool)
+    (contents : W → Option (List ℕ)) (options : Options) (names : List (Bor (List ℕ)))
+    (wanted : List (Wanted S)) (is_fine : Bool) (old new : Console R W) : Type 0 where
+  pub outcomes : List Outcome
+  pub count : length outcomes ≡ length wanted
+  pub each : (k : ℕ) (w : Wanted S) (o : Outcome) → k < length wanted
+      → IsOutcomeOf remaining can_fail (get_or wanted k w) (get_or outcomes k o)
+  pub written : HasWritten contents (lines_of options names outcomes) old new
+  pub fine : is_fine ≡ list_all is_sum outcomes

@@ -1,0 +1,130 @@
+//! A list, line by line.
+
+ghost use Rattle.std.specs.Prelude.{◌≡◌, ◌++◌, IfOk, IfSome, IsNone, OnOk, codes, map};
+ghost use Rattle.std.specs.Str.{bytes_eq};
+ghost use Rattle.ring.specs.Cut.{IsFirstCut, IsWithout};
+ghost use Rattle.ring_sums.specs.Entry.{entry_of, gap_after};
+ghost use Rattle.ring_sums.specs.List.{is_passed_over, line_gap, line_says, lines_gap, lines_in};
+ghost use Rattle.ring_sums.specs.List.{lines_say, said_by, said_of, without_return};
+
+use crate::entry::{Entry, Gap, entry_of_line};
+use crate::options::Options;
+use memchr::memchr;
+use ring::digest::Algorithm;
+use std::alloc::{AllocError, Global};
+
+/// A line of a list that is neither empty nor a comment.
+#[derive(Drop)]
+pub(crate) enum Line {
+    Entry(Entry),
+    /// The number of a line that has not the form of one.
+    Bad(u64),
+}
+
+/// A line without its carriage return.
+#[tactic(auto, unfolding(crate::specs::List::without_return))]
+fn without_return(line: &[u8]) -> &[u8]
+    ensures { result.now ≡ without_return line.now }
+{
+    line.strip_suffix(b"\r").unwrap_or(line)
+}
+
+/// Whether nothing is read of a line.
+#[tactic(auto, unfolding(crate::specs::List::is_passed_over))]
+fn is_passed_over(line: &[u8]) -> bool
+    ensures { result ≡ is_passed_over line.now }
+{
+    line.is_empty() || line[0] == b'#'
+}
+
+/// Whether a name stands for standard input.
+fn is_dash(name: &[u8]) -> bool
+    ensures { result ≡ bytes_eq name.now (codes "-") }
+{
+    *name == *b"-".as_slice()
+}
+
+/// What a line says that is neither empty nor a comment.
+#[tactic(auto, unfolding(crate::specs::List::said_of))]
+fn line_said(
+    alloc: Global,
+    asked: Option<Algorithm>,
+    line: &[u8],
+    number: u64,
+    is_standard_input: bool,
+    gap: &mut Gap,
+) -> Result<Line, AllocError>
+    ensures line { IfOk result (λ said. said_by said
+        ≡ said_of (entry_of asked gap.old line.now) number is_standard_input) }
+    ensures gap { gap.new ≡ gap_after asked gap.old line.now }
+{
+    let Some(entry) = entry_of_line(alloc, asked, line, gap)? else {
+        return Ok(Line::Bad(number));
+    };
+    if is_standard_input && is_dash(&entry.name) {
+        return Ok(Line::Bad(number));
+    }
+    Ok(Line::Entry(entry))
+}
+
+/// Appends what a line says, if it says something.
+#[tactic(auto, unfolding(crate::specs::List::line_says, crate::specs::List::line_gap))]
+fn append_line(
+    lines: &mut Vec<Line>,
+    asked: Option<Algorithm>,
+    line: &[u8],
+    number: u64,
+    is_standard_input: bool,
+    gap: &mut Gap,
+) -> Result<(), AllocError>
+    ensures lines { OnOk result (map said_by lines.new.items ≡ map said_by lines.old.items
+        ++ line_says asked is_standard_input number gap.old line.now) }
+    ensures gap { OnOk result (gap.new ≡ line_gap asked gap.old line.now) }
+{
+    let line = without_return(line);
+    if is_passed_over(line) {
+        return Ok(());
+    }
+    let alloc: Global = *lines.allocator();
+    lines.push(line_said(alloc, asked, line, number, is_standard_input, gap)?)?;
+    Ok(())
+}
+
+/// What is before the first line feed, and behind it.
+fn cut_at_feed(text: &[u8]) -> Option<(&[u8], &[u8])>
+    ensures cut { IfSome result (λ parts. IsFirstCut 10 text.now parts.0.now parts.1.now) }
+    ensures whole { IsNone result → IsWithout 10 text.now }
+{
+    match memchr(b'\n', text) {
+        Some(place) => Some((&text[..place], &text[place + 1..])),
+        None => None,
+    }
+}
+
+/// The lines of a list.
+pub(crate) fn lines_of(
+    alloc: Global,
+    options: &Options,
+    text: &[u8],
+    is_standard_input: bool,
+    gap: &mut Gap,
+) -> Result<Vec<Line>, AllocError>
+    ensures lines { IfOk result (λ lines. map said_by lines.items
+        ≡ lines_say options.now.algorithm is_standard_input 1 gap.old (lines_in text.now)) }
+    ensures gap { OnOk result (gap.new
+        ≡ lines_gap options.now.algorithm gap.old (lines_in text.now)) }
+{
+    let asked = options.algorithm;
+    let mut lines = Vec::new(alloc);
+    let mut number = 0_u64;
+    let mut rest = text;
+    'cuts: while let Some((line, behind)) = cut_at_feed(rest) {
+        number += 1;
+        append_line(&mut lines, asked, line, number, is_standard_input, gap)?;
+        rest = behind;
+    }
+    if !rest.is_empty() {
+        append_line(&mut lines, asked, rest, number + 1, is_standard_input, gap)?;
+    }
+    Ok(lines)
+}

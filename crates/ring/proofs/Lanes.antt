@@ -14,12 +14,12 @@ use Rattle.ring.specs.Prelude.{prepared_padding, raised, word_bytes, word_count,
 use Rattle.ring.specs.Prelude.{words_after}
 use Rattle.ring_core.proofs.ChunkFolds.{fold_chunks-next, fold_chunks-none}
 use Rattle.ring_core.proofs.Costs.{raised-raised}
-use Rattle.ring.proofs.Blocks.{words_after-append}
-use Rattle.ring.proofs.Keys.{length-inner_block, length-outer_block, one_block}
+use Rattle.ring.proofs.lemmas.digest.Blocks.{words_after-append}
+use Rattle.ring.proofs.lemmas.hmac.Keys.{length-inner_block, length-outer_block, one_block}
 use Rattle.ring.proofs.Lengths.{length-words_after}
-use Rattle.ring.proofs.Outputs.{length-bytes_high_first, length-word_bytes}
+use Rattle.ring.proofs.lemmas.digest.Outputs.{length-bytes_high_first, length-word_bytes}
 use Rattle.ring.proofs.Rows.{block_len-positive, eight_words, output_below, output_len-most}
-use Rattle.ring.proofs.Tails.{padded-append}
+use Rattle.ring.proofs.lemmas.digest.Tails.{padded-append}
 
 -- two rises by b blocks each
 pub cost_two : (m0 : Counts) {m1 m2 : Counts} (b : ℕ) → m1 ≡ raised m0 b 0 → m2 ≡ raised m1 b 0

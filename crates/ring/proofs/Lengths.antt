@@ -10,7 +10,7 @@ use Rattle.ring.specs.Prelude.{initial_words_of_id, last_blocks, output_len, pad
 use Rattle.ring.specs.Prelude.{row_of, whole_blocks, word_count, words_after}
 use Rattle.ring_core.proofs.Costs.{raised-none, raised-raised}
 use Rattle.ring_core.proofs.ChunkFolds.{length-fold_chunks}
-use Rattle.ring.proofs.Outputs.{length-word_bytes}
+use Rattle.ring.proofs.lemmas.digest.Outputs.{length-word_bytes}
 use Rattle.ring.proofs.Rows.{output_len-most, sizes_of}
 
 keeps_count : (i : AlgorithmId) (x y : List ℕ)

@@ -1,11 +1,11 @@
 -- Numbered blocks of one length, one after another, and their fronts.
 use Rattle.std.proofs.lemmas.Grind.{common_steps}
-use Rattle.std.proofs.Common.{◌≡◌, ℕ, List, [], ◌++◌, ◌+◌, ◌-◌, ◌*◌, ◌≤◌, ◌<◌, ◌↔◌, length, min}
+use Rattle.std.proofs.Common.{◌≡◌, ℕ, List, [], ◌++◌, ◌+◌, ◌*◌, ◌≤◌, ◌<◌, ◌↔◌, length}
 use Rattle.std.proofs.Common.{take, drop, suc, zero, refl, sym, ap, ◌∙◌, arith, length-append}
 use Rattle.std.proofs.Common.{length-take-le, mul-le-mul_right, suc-mul, append-nil, append_assoc}
-use Rattle.std.proofs.Common.{add-one, slice_index_or, take_all}
+use Rattle.std.proofs.Common.{add-one, slice_index_or}
 use Rattle.std.specs.Borrow.{Bor}
-use Rattle.std.proofs.lemmas.List.{length-take, take_more, take-append-le}
+use Rattle.std.proofs.lemmas.List.{take_more, take-append-le}
 use Rattle.std.proofs.Math.Seq.{drop-append_seam, take-add, take-append-add, take-append_seam}
 use Rattle.ring.specs.Prelude.{joined, joined_blocks}
 
@@ -75,47 +75,6 @@ module _ {f : ℕ → List ℕ} {L : ℕ} where
       let len : length (joined_blocks f r) ≡ w = length-joined_blocks even r ∙ sym e in
       joined_blocks-agree even R (suc r) (w + n) room wide
       ∙ rw (joined_blocks-next f r, ← len) (take-append-add (joined_blocks f r) (f (suc r)) n)
-
--- w of n bytes are those of r blocks: these have no more, but where w is n
-pub record IsPut (f : ℕ → List ℕ) (n r w : ℕ) : Type 0 where
-  pub room : w ≤ length (joined_blocks f r)
-  pub exact : w < n → length (joined_blocks f r) ≡ w
-
-pub put-none : (f : ℕ → List ℕ) (n : ℕ) → IsPut f n 0 0
-put-none f n = record { room = omega arith; exact = λ some. rw joined_blocks-none refl }
-
-module _ {f : ℕ → List ℕ} {n r w : ℕ} where
-  -- a front of the next block comes after them, or nothing
-  put-front : IsPut f n r w → (L k : ℕ) → k ≡ min L (n - w)
-      → take (w + k) (joined_blocks f r ++ f (r + 1))
-      ≡ take w (joined_blocks f r) ++ take k (f (r + 1))
-  put-front h L zero part =
-      let e : w + 0 ≡ w = omega arith in
-      rw (e, append-nil, take-append-le w (joined_blocks f r) (f (r + 1)) h.room) refl
-  put-front h L (suc j) part =
-      let len : length (joined_blocks f r) ≡ w = h.exact (omega (arith, part)) in
-      rw (take_all w (joined_blocks f r) (omega (arith, len)), ← len)
-      (take-append-add (joined_blocks f r) (f (r + 1)) (suc j))
-
-  -- k bytes of a block of no more than L are put after them
-  pub put-next : {k : ℕ} {bytes : List ℕ} (L : ℕ) → IsPut f n r w → k ≡ min L (n - w)
-      → bytes ≡ take k (f (r + 1)) → length bytes ≡ k → length (f (r + 1)) ≤ L
-      → IsPut f n (r + 1) (w + k)
-      × (take (w + k) (joined_blocks f (r + 1)) ≡ take w (joined_blocks f r) ++ bytes)
-  put-next {k = k} L h part is size short =
-      let next : joined_blocks f (r + 1) ≡ joined_blocks f r ++ f (r + 1) =
-      rw add-one (joined_blocks-next f r) in
-      let sum = length-append (joined_blocks f r) (f (r + 1)) in
-      let taken : min k (length (f (r + 1))) ≡ k =
-      sym (length-take k (f (r + 1))) ∙ ap length (sym is) ∙ size in (
-        record {
-          room = rw next (omega (arith, sum, taken, h.room));
-          exact = λ more.
-              let len = h.exact (omega (arith, more)) in
-              rw next (omega (arith, sum, len, taken, short, part, more));
-        },
-        rw (next, is) (put-front h L k part),
-      )
 
 -- one block more is written, after the first r ones
 pub written-more : (f : ℕ → List ℕ) (r : ℕ) {xs block out : List ℕ} (rest : List ℕ)

@@ -12,6 +12,10 @@ pub raised-sum : (m0 : Counts) {m1 m2 : Counts} (b p c q : ℕ) {s t : ℕ} → 
     → m2 ≡ raised m1 c q → b + c ≡ s → p + q ≡ t → m2 ≡ raised m0 s t
 raised-sum m0 b p c q e1 e2 blocks pairs = grind (arith, raised-raised)
 
+pub sum_below-none : (f : ℕ → ℕ) → sum_below f 0 ≡ 0
+unfolding sum_below
+sum_below-none f = refl
+
 -- a sum of one place more
 pub sum_below-next : (f : ℕ → ℕ) (m : ℕ) → sum_below f m + f m ≡ sum_below f (m + 1)
 unfolding sum_below

@@ -67,7 +67,7 @@ StandsFor c m = IsJoined c m
 
 -- the block context `old` became `new` by the blocks, each of n bytes, at the front of `bytes`, and
 -- `left` is what comes after them
-pub record HasMoved (n : ℕ) (old new : BlockContext) (bytes left : List ℕ)
+pub record HasRunBlocks (n : ℕ) (old new : BlockContext) (bytes left : List ℕ)
     (before after : Counts) : Type 0 where
   pub blocks : ℕ
   pub fits : blocks * n ≤ length bytes

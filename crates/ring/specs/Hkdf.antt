@@ -9,14 +9,14 @@ use Rattle.ring.specs.declared.hkdf.salt.Salt.{Salt}
 
 -- T(i): T(0) is empty, T(i) is the tag of T(i - 1), the info and the byte i under the PRK k
 -- (section 2.3)
-unfoldable pub t_of : digest.Algorithm → (k info : List ℕ) → ℕ → List ℕ
-t_of a k info zero = []
-t_of a k info (suc i) = hmac_of a k (t_of a k info i ++ info ++ suc i ∷ [])
+unfoldable pub hkdf_t : digest.Algorithm → (k info : List ℕ) → ℕ → List ℕ
+hkdf_t a k info zero = []
+hkdf_t a k info (suc i) = hmac_of a k (hkdf_t a k info i ++ info ++ suc i ∷ [])
 
 -- OKM: the first n bytes of T(1) || T(2) || .. || T(255), which is all that may be asked for
 -- (section 2.3)
 unfoldable pub okm : digest.Algorithm → (k info : List ℕ) → ℕ → List ℕ
-okm a k info n = take n (joined_blocks (t_of a k info) 255)
+okm a k info n = take n (joined_blocks (hkdf_t a k info) 255)
 
 -- the digest algorithm that an HKDF algorithm is built on (section 2.1)
 abbrev pub hkdf_digest : Algorithm → digest.Algorithm

@@ -19,7 +19,8 @@ pub mod Hkdf
 pub mod Okm
 pub mod Pbkdf2
 pub mod DeriveEach
-pub mod Jobs
+pub mod Gives
+pub mod Rounds
 pub mod Raw
 pub mod Cut
 pub mod Updates

@@ -18,23 +18,23 @@ abbrev pub okm_info_len : {L : Type 0} {g : Ghosts L} → Okm L g → ℕ
 okm_info_len o = length (joined o.info.now)
 
 -- the number of bytes that was asked for
-abbrev pub okm_number : {L : Type 0} {g : Ghosts L} → Okm L g → ℕ
-okm_number o = o.number
+abbrev pub okm_asked_len : {L : Type 0} {g : Ghosts L} → Okm L g → ℕ
+okm_asked_len o = o.asked_len
 
--- the value that told this number
-abbrev pub carried : {L : Type 0} {g : Ghosts L} → Okm L g → L
-carried o = o.len
+-- the value that said so
+abbrev pub asked_for : {L : Type 0} {g : Ghosts L} → Okm L g → L
+asked_for o = o.len
 
 -- it stands for n bytes of output of the PRK k with this info
 pub record OkmStandsFor {L : Type 0} {g : Ghosts L} (o : Okm L g) (k info : List ℕ)
     (n : ℕ) : Type 0 where
   pub prk : PrkStandsFor o.prk.now k
   pub pieces : info ≡ joined o.info.now
-  pub number : n ≡ o.number
+  pub asked_len : n ≡ o.asked_len
 
 -- n bytes are filled: exactly the number that was asked for, and every round is within the limit
-pub record CanFill (a : Algorithm) (info_len number n : ℕ) : Type 0 where
-  pub same_len : n ≡ number
+pub record CanFill (a : Algorithm) (info_len asked_len n : ℕ) : Type 0 where
+  pub same_len : n ≡ asked_len
   pub within : IsInfoWithin a info_len n
 
 -- r is a key, a salt or a PRK of the digest algorithm a, made of as many bytes of output as the

@@ -15,18 +15,18 @@ pbkdf2_digest a = hmac_digest a.0
 
 -- U_1 = PRF (P, S || INT (i)), U_2 = PRF (P, U_1), ..: each is the tag of the one before it, and
 -- S || INT (i) stands before U_1
-unfoldable pub iterate : digest.Algorithm → (p s : List ℕ) → (i : ℕ) → ℕ → List ℕ
-iterate a p s i zero = s ++ bytes_high_first 4 i
-iterate a p s i (suc j) = hmac_of a p (iterate a p s i j)
+unfoldable pub pbkdf2_u : digest.Algorithm → (p s : List ℕ) → (i : ℕ) → ℕ → List ℕ
+pbkdf2_u a p s i zero = s ++ bytes_high_first 4 i
+pbkdf2_u a p s i (suc j) = hmac_of a p (pbkdf2_u a p s i j)
 
 -- T_i = F (P, S, c, i) = U_1 \xor U_2 \xor .. \xor U_c
-unfoldable pub xored : digest.Algorithm → (p s : List ℕ) → (i : ℕ) → ℕ → List ℕ
-xored a p s i zero = replicate (output_len a) 0
-xored a p s i (suc j) = xor_lists (xored a p s i j) (iterate a p s i (suc j))
+unfoldable pub pbkdf2_t : digest.Algorithm → (p s : List ℕ) → (i : ℕ) → ℕ → List ℕ
+pbkdf2_t a p s i zero = replicate (output_len a) 0
+pbkdf2_t a p s i (suc j) = xor_lists (pbkdf2_t a p s i j) (pbkdf2_u a p s i (suc j))
 
 -- DK: the first n bytes of T_1 || T_2 || .. || T_l, where l is n / hLen rounded up
 unfoldable pub dk : digest.Algorithm → (p s : List ℕ) → (c n : ℕ) → List ℕ
-dk a p s c n = take n (joined_blocks (λ i. xored a p s i c) (derive_rounds a n))
+dk a p s c n = take n (joined_blocks (λ i. pbkdf2_t a p s i c) (derive_rounds a n))
 
 -- the value can be verified, and is the derivation of its own length
 pub record IsDerived (a : digest.Algorithm) (p s : List ℕ) (c : ℕ) (value : List ℕ) : Type 0 where

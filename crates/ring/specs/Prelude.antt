@@ -22,11 +22,11 @@ pub use Rattle.ring.specs.Digest.{blocks_from, digest_algorithm, bytes_of, IsDig
 unfoldable pub use Rattle.ring.specs.Digest.{words_after, digest_of, digest_after}
 pub use Rattle.ring.specs.Context.{cut_off, block_algorithm, counted_bytes, context_algorithm}
 pub use Rattle.ring.specs.Context.{pending_bytes, pending_len, message_len, HasTaken, IsJoined}
-pub use Rattle.ring.specs.Context.{HasMoved, block_words, digest_with}
+pub use Rattle.ring.specs.Context.{HasRunBlocks, block_words, digest_with}
 unfoldable pub use Rattle.ring.specs.Context.{StandsFor}
 pub use Rattle.ring.specs.Pieces.{joined}
 unfoldable pub use Rattle.ring.specs.Pieces.{joined_blocks}
-pub use Rattle.ring.specs.Receiver.{HasPlaces, KeepsPlaces, Takes}
+pub use Rattle.ring.specs.Receiver.{HasPlaces, KeepsPlaces, Receives}
 pub use Rattle.ring.specs.Each.{message_at, each_blocks, AreDigests, CanDigestEach, HasWords}
 unfoldable pub use Rattle.ring.specs.Each.{words_at}
 pub use Rattle.ring.specs.Source.{random_value}
@@ -41,17 +41,20 @@ pub use Rattle.ring.specs.Hmac.{outer_words, tag_under, tag_with}
 unfoldable pub use Rattle.ring.specs.Hmac.{hmac_of}
 pub use Rattle.ring.specs.Hkdf.{hkdf_digest, salt_algorithm, SaltStandsFor, prk_algorithm}
 pub use Rattle.ring.specs.Hkdf.{PrkStandsFor}
-unfoldable pub use Rattle.ring.specs.Hkdf.{t_of, okm}
-pub use Rattle.ring.specs.Okm.{okm_algorithm, okm_info_len, okm_number, carried, OkmStandsFor}
+unfoldable pub use Rattle.ring.specs.Hkdf.{hkdf_t, okm}
+pub use Rattle.ring.specs.Okm.{okm_algorithm, okm_asked_len, okm_info_len, asked_for, OkmStandsFor}
 pub use Rattle.ring.specs.Okm.{CanFill, IsMadeOf}
 pub use Rattle.ring.specs.Pbkdf2.{pbkdf2_digest, IsDerived}
-unfoldable pub use Rattle.ring.specs.Pbkdf2.{iterate, xored, dk}
+unfoldable pub use Rattle.ring.specs.Pbkdf2.{pbkdf2_t, pbkdf2_u, dk}
 pub use Rattle.ring.specs.DeriveEach.{bytes_at, dk_at, derive_blocks_at, derive_each_blocks}
 pub use Rattle.ring.specs.DeriveEach.{AreDerived, CanDeriveEach, IsKeyOf, AreKeysOf, AreVerified}
 pub use Rattle.ring.specs.DeriveEach.{CanVerifyEach}
 unfoldable pub use Rattle.ring.specs.DeriveEach.{sum_below}
-pub use Rattle.ring.specs.Jobs.{job_algorithm, IsJobWithin, first_blocks, job_blocks, CanRun}
-pub use Rattle.ring.specs.Jobs.{IsStart, AreStarts, BeginsWithRound}
+pub use Rattle.ring.specs.Gives.{DerivesEach, DerivesKey, VerifiesEach, VerifiesKey}
+pub use Rattle.ring.specs.Rounds.{IsRound, CanRun, AreRounds, IsStart, AreStarts}
+pub use Rattle.ring.specs.Rounds.{BeginsWithRound, bytes_before, first_blocks, front, len_before}
+pub use Rattle.ring.specs.Rounds.{round_blocks}
+unfoldable pub use Rattle.ring.specs.Rounds.{next_round, round_on, rounds_before}
 pub use Rattle.ring.specs.Raw.{digest_named, joined_halves, completed_len, raw_message_len}
 pub use Rattle.ring.specs.Raw.{IsNoContext, IsNoKey, IsNoTagContext, raw_words, IsRawState}
 pub use Rattle.ring.specs.Raw.{IsRawContext, IsRawKey, IsRawTagContext, AreWords, raw_chaining}
@@ -78,7 +81,7 @@ pub use Rattle.ring.specs.declared.digest.context.Context.{Context}
 pub use Rattle.ring.specs.declared.digest.value.Digest.{Digest}
 pub use Rattle.ring.specs.declared.hmac.key.Key.{Key}
 pub use Rattle.ring.specs.declared.hmac.tag.Tag.{Tag}
-pub use Rattle.ring.specs.declared.pbkdf2.jobs.Job.{Job}
+pub use Rattle.ring.specs.declared.pbkdf2.rounds.Round.{Round}
 pub use Rattle.ring.specs.declared.raw.context.RawContext.{RawContext}
 pub use Rattle.ring.specs.declared.raw.key.RawKey.{RawKey}
 pub use Rattle.ring.specs.declared.raw.tag_context.RawTagContext.{RawTagContext}

@@ -3,12 +3,13 @@ use Rattle.std.specs.Prelude.{◌≡◌, ◌⊎◌, ℕ, ◌+◌, ◌^◌, ◌<�
 
 -- of m places from the first one on, each takes some bytes after the w that it took before, and no
 -- other place takes any
-pub record Takes {R : Type 0} (HasCome : R → R → ℕ → List ℕ → Type 0) (first m w : ℕ)
+pub record Receives {R : Type 0} (HasReceived : R → R → ℕ → List ℕ → Type 0) (first m w : ℕ)
     (bytes : ℕ → List ℕ) (old new : R) : Type 0 where
   pub each : (start : R) (i : ℕ) (front : List ℕ) → i < m → length front ≡ w
-      → HasCome start old (first + i) front → HasCome start new (first + i) (front ++ bytes i)
+      → HasReceived start old (first + i) front
+      → HasReceived start new (first + i) (front ++ bytes i)
   pub others : (start : R) (j : ℕ) (front : List ℕ) → (j < first) ⊎ (first + m ≤ j)
-      → HasCome start old j front → HasCome start new j front
+      → HasReceived start old j front → HasReceived start new j front
 
 -- a receiver, by its places and the room at each, has m places with room for n bytes; the room is
 -- below 2 ^ 63 bytes, as that of any slice

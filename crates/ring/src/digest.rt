@@ -90,22 +90,17 @@
 
 pub(crate) mod algorithm;
 pub(crate) mod block_context;
-mod block_lanes;
 pub(crate) mod context;
 pub mod dynstate;
 pub(crate) mod each;
 mod initial;
-mod padded_blocks;
+pub(crate) mod lanes;
 pub(crate) mod padding;
 mod partway;
 pub(crate) mod pending;
-pub(crate) mod side_by_side;
 mod single;
-mod together;
-mod update_together;
 pub(crate) mod updates;
 pub(crate) mod value;
-pub(crate) mod vectors;
 
 pub use crate::digest::algorithm::{
     Algorithm, MAX_BLOCK_LEN, MAX_CHAINING_LEN, MAX_OUTPUT_LEN, SHA1_FOR_LEGACY_USE_ONLY,

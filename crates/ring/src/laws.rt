@@ -28,14 +28,6 @@ use crate::limits::{is_tag_within, joined_len};
 use ring_core::cost::Meter;
 use ring_core::error::Unspecified;
 
-// Each numbered law under a name that says what it is: the same function.
-pub use crate::laws::{
-    law_3 as zeros_after_a_key_change_no_tag, law_4 as long_key_signs_as_its_digest,
-    law_5 as shorter_output_is_a_front, law_6 as info_is_its_joined_bytes,
-    law_7 as empty_salt_extracts_as_zeros, law_8 as shorter_derivation_is_a_front,
-    law_10 as comparison_is_symmetric, law_11 as derivation_cost_is_of_lengths,
-};
-
 /// Returns the digest under `algorithm` of the message that `pieces` join to (FIPS 180-4, section
 /// 6), from a [`Context`] that is updated piece by piece. Its blocks are counted on `meter`: as
 /// many as the joined message has.
@@ -91,48 +83,48 @@ pub fn sign_pieces(key: &Key, pieces: &[&[u8]], meter: &mut Meter) -> Result<Tag
 }
 
 /// Zeros appended to a key, up to the length of a block, change no tag (RFC 2104, section 2).
-#[tactic(auto, using(crate::proofs::SameKeys::key_laws))]
-pub fn law_3()
+#[tactic(auto, using(crate::proofs::lemmas::laws::SameKeys::key_laws))]
+pub fn zeros_after_a_key_change_no_tag()
     ensures { (a : Algorithm) (k m : List ℕ) (z : ℕ) → length k + z ≤ block_len a
         → hmac_of a (k ++ replicate z 0) m ≡ hmac_of a k m }
 {}
 
 /// A key that is longer than a block signs as its digest does (RFC 2104, section 2).
-#[tactic(auto, using(crate::proofs::SameKeys::key_laws))]
-pub fn law_4()
+#[tactic(auto, using(crate::proofs::lemmas::laws::SameKeys::key_laws))]
+pub fn long_key_signs_as_its_digest()
     ensures { (a : Algorithm) (k m : List ℕ) → block_len a < length k
         → hmac_of a k m ≡ hmac_of a (digest_of a k) m }
 {}
 
 /// A shorter output of HKDF is the front of a longer one (RFC 5869, section 2.3).
 #[tactic(auto, unfolding(crate::specs::Hkdf::okm))]
-pub fn law_5()
+pub fn shorter_output_is_a_front()
     ensures { (a : Algorithm) (k info : List ℕ) (m n : ℕ) → m ≤ n
         → okm a k info m ≡ take m (okm a k info n) }
 {}
 
 /// Info pieces that join to the same bytes give the same output of HKDF (RFC 5869, section 2.3).
-pub fn law_6()
+pub fn info_is_its_joined_bytes()
     ensures { (a : Algorithm) (k : List ℕ) (pieces others : List (Bor (List ℕ))) (n : ℕ)
         → joined pieces ≡ joined others → okm a k (joined pieces) n ≡ okm a k (joined others) n }
 {}
 
 /// An empty salt extracts as one of as many zeros as a digest has bytes (RFC 5869, section 2.2).
-#[tactic(auto, using(crate::proofs::SameKeys::key_laws))]
-pub fn law_7()
+#[tactic(auto, using(crate::proofs::lemmas::laws::SameKeys::key_laws))]
+pub fn empty_salt_extracts_as_zeros()
     ensures { (a : Algorithm) (secret : List ℕ)
         → hmac_of a [] secret ≡ hmac_of a (replicate (output_len a) 0) secret }
 {}
 
 /// A shorter output of PBKDF2 is the front of a longer one (RFC 2898, section 5.2).
-pub fn law_8()
+pub fn shorter_derivation_is_a_front()
     ensures { (a : Algorithm) (p s : List ℕ) (c m n : ℕ) → m ≤ n
         → dk a p s c m ≡ take m (dk a p s c n) }
 {}
 
 /// The comparison of two byte slices is symmetric, in its answer and in the number of pairs that it
 /// compares.
-pub fn law_10()
+pub fn comparison_is_symmetric()
     ensures answer { (a b : List ℕ) → (a ≡ b) ↔ (b ≡ a) }
     ensures cost { (a b : List ℕ)
         → compared_pairs (length a) (length b) ≡ compared_pairs (length b) (length a) }
@@ -140,7 +132,7 @@ pub fn law_10()
 
 /// The number of blocks of PBKDF2 follows from the algorithm, the lengths and the iteration count
 /// alone (RFC 2898, section 5.2): it tells nothing about the bytes.
-pub fn law_11()
+pub fn derivation_cost_is_of_lengths()
     ensures { (a : Algorithm) (p q s t out value : List ℕ) (c : ℕ) → length p ≡ length q
         → length s ≡ length t → length out ≡ length value
         → derive_blocks a (length p) (length s) c (length out)

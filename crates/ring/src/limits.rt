@@ -19,7 +19,8 @@ ghost use Rattle.ring.specs.Prelude.{IsTagWithin, hkdf_digest, joined, max_dk_le
 ghost use Rattle.ring.specs.Prelude.{pbkdf2_digest};
 
 use crate::digest::algorithm::{Algorithm, is_message_within};
-use crate::{hkdf, pbkdf2};
+use crate::hkdf::algorithm as hkdf;
+use crate::pbkdf2::algorithm as pbkdf2;
 
 // The largest number of rounds of an output: a round's number is one byte (RFC 5869, section 2.3).
 const MAX_ROUNDS: u128 = 255;

@@ -37,7 +37,8 @@
 //! each round of output. Each secret should have a salt of its own.
 //!
 //! [`derive_each`] derives keys of one length from several secrets, each with its salt. It is
-//! faster than one call for each where there are four or more under SHA-1 or SHA-256:
+//! faster than one call for each where they have four rounds of output or more under SHA-1 or
+//! SHA-256:
 //!
 //! ```
 //! pub fn stored_of_four(
@@ -66,14 +67,14 @@
 
 ghost use Rattle.std.specs.Prelude.{◌≡◌, ◌↔◌, length, IsOk, OnOk, OnErr};
 ghost use Rattle.std.specs.Int.NonZero.{non_zero_u32_get};
-ghost use Rattle.ring.specs.Prelude.{CanDerive, CanVerify, IsDerived, derive_blocks, dk};
-ghost use Rattle.ring.specs.Prelude.{pbkdf2_digest, raised};
+ghost use Rattle.ring.specs.Prelude.{CanDerive, CanVerify, DerivesKey, IsDerived, VerifiesKey, dk};
+ghost use Rattle.ring.specs.Prelude.{pbkdf2_digest};
 
-use crate::digest::vectors::SSE;
 use crate::hmac::Key;
 use crate::limits::{can_derive, can_verify};
-use crate::pbkdf2::parts::derive_under;
 use crate::pbkdf2::receiver::{Compared, Written};
+use crate::pbkdf2::rounds::derive_under;
+use crate::width::SSE;
 use ring_core::cost::Meter;
 use ring_core::error::Unspecified;
 use std::num::NonZeroU32;
@@ -81,11 +82,8 @@ use std::num::NonZeroU32;
 pub(crate) mod algorithm;
 pub(crate) mod each;
 pub(crate) mod iterates;
-pub(crate) mod jobs;
-pub(crate) mod keys;
-pub(crate) mod parts;
 pub(crate) mod receiver;
-pub(crate) mod several;
+pub(crate) mod rounds;
 
 pub use crate::pbkdf2::algorithm::{
     Algorithm, PBKDF2_HMAC_SHA1, PBKDF2_HMAC_SHA256, PBKDF2_HMAC_SHA384, PBKDF2_HMAC_SHA512,
@@ -97,11 +95,11 @@ pub use crate::pbkdf2::each::{
 };
 
 /// Derives a key from `secret` and `salt` in `iterations` iterations under `algorithm`, and writes
-/// it to the whole of `out`, as [`derive`] does (RFC 2898, section 5.2), over vectors of `BITS`
-/// bits. Its blocks are counted on `meter`.
+/// it to the whole of `out`, as [`derive`] does (RFC 2898, section 5.2), over vectors of
+/// `VECTOR_BITS` bits. Its blocks are counted on `meter`.
 ///
 /// Refused as [`derive`] is. `out` and `meter` are then as they were.
-pub fn derive_in<const BITS: usize>(
+pub fn derive_in<const VECTOR_BITS: usize>(
     algorithm: Algorithm,
     iterations: NonZeroU32,
     salt: &[u8],
@@ -109,27 +107,32 @@ pub fn derive_in<const BITS: usize>(
     out: &mut [u8],
     meter: &mut Meter,
 ) -> Result<(), Unspecified>
-    ensures ok { OnOk result (out.new ≡ dk (pbkdf2_digest algorithm)
-        secret.now salt.now (non_zero_u32_get iterations) (length out.old)) }
-    ensures refused { IsOk result ↔ CanDerive (pbkdf2_digest algorithm)
-        (length secret.now) (length salt.now) (length out.old) }
-    ensures unchanged { OnErr result ((out.new ≡ out.old) × (meter.new ≡ meter.old)) }
-    ensures cost { OnOk result (meter.new ≡ raised meter.old
-        (derive_blocks (pbkdf2_digest algorithm) (length secret.now) (length salt.now)
-        (non_zero_u32_get iterations) (length out.old)) 0) }
+    ensures { DerivesKey (pbkdf2_digest algorithm) secret.now salt.now
+        (non_zero_u32_get iterations) out.old out.new meter.old meter.new result }
 {
     let hmac_algorithm = algorithm.hmac_algorithm();
+    let digest = hmac_algorithm.digest_algorithm();
     if !can_derive(
-        &hmac_algorithm.digest_algorithm(),
+        &digest,
         secret.len() as u128,
         salt.len() as u128,
         out.len() as u128,
     ) {
         return Err(Unspecified);
     }
-    let key = Key::new_counted(hmac_algorithm, secret, meter)?;
+    let keys = [Key::new_counted(hmac_algorithm, secret, meter)?];
     let len = out.len();
-    derive_under::<BITS, Written>(&key, iterations, salt, len, 0, &mut Written { out }, meter);
+    let mut written = Written { out };
+    derive_under::<VECTOR_BITS, Written>(
+        digest,
+        &keys,
+        iterations,
+        &[salt],
+        len,
+        0,
+        &mut written,
+        meter,
+    );
     Ok(())
 }
 
@@ -144,14 +147,8 @@ pub fn derive_counted(
     out: &mut [u8],
     meter: &mut Meter,
 ) -> Result<(), Unspecified>
-    ensures ok { OnOk result (out.new ≡ dk (pbkdf2_digest algorithm)
-        secret.now salt.now (non_zero_u32_get iterations) (length out.old)) }
-    ensures refused { IsOk result ↔ CanDerive (pbkdf2_digest algorithm)
-        (length secret.now) (length salt.now) (length out.old) }
-    ensures unchanged { OnErr result ((out.new ≡ out.old) × (meter.new ≡ meter.old)) }
-    ensures cost { OnOk result (meter.new ≡ raised meter.old
-        (derive_blocks (pbkdf2_digest algorithm) (length secret.now) (length salt.now)
-        (non_zero_u32_get iterations) (length out.old)) 0) }
+    ensures { DerivesKey (pbkdf2_digest algorithm) secret.now salt.now
+        (non_zero_u32_get iterations) out.old out.new meter.old meter.new result }
 {
     derive_in::<SSE>(algorithm, iterations, salt, secret, out, meter)
 }
@@ -188,11 +185,11 @@ pub fn derive(
 }
 
 /// Returns Ok exactly if [`verify`] does with the same `algorithm`, `iterations`, `salt`, `secret`
-/// and `previously_derived` (RFC 2898, section 5.2), over vectors of `BITS` bits. The blocks and
-/// the compared pairs of bytes are counted on `meter`.
+/// and `previously_derived` (RFC 2898, section 5.2), over vectors of `VECTOR_BITS` bits. The blocks
+/// and the compared pairs of bytes are counted on `meter`.
 ///
 /// Refused as [`verify`] is. Where a length is refused, `meter` is as it was.
-pub fn verify_in<const BITS: usize>(
+pub fn verify_in<const VECTOR_BITS: usize>(
     algorithm: Algorithm,
     iterations: NonZeroU32,
     salt: &[u8],
@@ -200,34 +197,35 @@ pub fn verify_in<const BITS: usize>(
     previously_derived: &[u8],
     meter: &mut Meter,
 ) -> Result<(), Unspecified>
-    ensures ok { IsOk result ↔ IsDerived (pbkdf2_digest algorithm)
-        secret.now salt.now (non_zero_u32_get iterations) previously_derived.now }
-    ensures unchanged { ¬ (CanVerify (pbkdf2_digest algorithm)
-        (length secret.now) (length salt.now) (length previously_derived.now))
-        → meter.new ≡ meter.old }
-    ensures cost { CanVerify (pbkdf2_digest algorithm)
-        (length secret.now) (length salt.now) (length previously_derived.now)
-        → meter.new ≡ raised meter.old
-        (derive_blocks (pbkdf2_digest algorithm) (length secret.now) (length salt.now)
-        (non_zero_u32_get iterations) (length previously_derived.now))
-        (length previously_derived.now) }
+    ensures { VerifiesKey (pbkdf2_digest algorithm) secret.now salt.now
+        (non_zero_u32_get iterations) previously_derived.now meter.old meter.new result }
 {
     let hmac_algorithm = algorithm.hmac_algorithm();
+    let digest = hmac_algorithm.digest_algorithm();
     if !can_verify(
-        &hmac_algorithm.digest_algorithm(),
+        &digest,
         secret.len() as u128,
         salt.len() as u128,
         previously_derived.len() as u128,
     ) {
         return Err(Unspecified);
     }
-    let key = Key::new_counted(hmac_algorithm, secret, meter)?;
+    let keys = [Key::new_counted(hmac_algorithm, secret, meter)?];
     let len = previously_derived.len();
     let mut compared = Compared {
         value: previously_derived,
         matches: true,
     };
-    derive_under::<BITS, Compared>(&key, iterations, salt, len, 0, &mut compared, meter);
+    derive_under::<VECTOR_BITS, Compared>(
+        digest,
+        &keys,
+        iterations,
+        &[salt],
+        len,
+        0,
+        &mut compared,
+        meter,
+    );
     compared.matches.then_some(()).ok_or(Unspecified)
 }
 
@@ -242,17 +240,8 @@ pub fn verify_counted(
     previously_derived: &[u8],
     meter: &mut Meter,
 ) -> Result<(), Unspecified>
-    ensures ok { IsOk result ↔ IsDerived (pbkdf2_digest algorithm)
-        secret.now salt.now (non_zero_u32_get iterations) previously_derived.now }
-    ensures unchanged { ¬ (CanVerify (pbkdf2_digest algorithm)
-        (length secret.now) (length salt.now) (length previously_derived.now))
-        → meter.new ≡ meter.old }
-    ensures cost { CanVerify (pbkdf2_digest algorithm)
-        (length secret.now) (length salt.now) (length previously_derived.now)
-        → meter.new ≡ raised meter.old
-        (derive_blocks (pbkdf2_digest algorithm) (length secret.now) (length salt.now)
-        (non_zero_u32_get iterations) (length previously_derived.now))
-        (length previously_derived.now) }
+    ensures { VerifiesKey (pbkdf2_digest algorithm) secret.now salt.now
+        (non_zero_u32_get iterations) previously_derived.now meter.old meter.new result }
 {
     verify_in::<SSE>(
         algorithm,

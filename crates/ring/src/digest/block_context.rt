@@ -99,7 +99,7 @@ pub(crate) struct BlockContext {
 }
 
 impl BlockContext {
-    ghost use Rattle.ring.specs.Context.{HasMoved, HasTaken, block_algorithm, block_words};
+    ghost use Rattle.ring.specs.Context.{HasRunBlocks, HasTaken, block_algorithm, block_words};
     ghost use Rattle.ring.specs.Context.{counted_bytes, cut_off};
 
     pub(crate) fn new(algorithm: &Algorithm) -> Self
@@ -125,9 +125,9 @@ impl BlockContext {
     }
 
     // Runs the whole blocks of `input`, and returns the bytes past them.
-    #[tactic(auto, using(crate::proofs::Blocks::moved_front))]
+    #[tactic(auto, using(crate::proofs::lemmas::digest::Blocks::moved_front))]
     pub(crate) fn update<'i>(&mut self, input: &'i [u8], meter: &mut Meter) -> &'i [u8]
-        ensures moved { HasMoved (block_len (block_algorithm self.old)) self.old self.new
+        ensures moved { HasRunBlocks (block_len (block_algorithm self.old)) self.old self.new
             input.now result.now meter.old meter.new }
         ensures short { length result.now < block_len (block_algorithm self.old) }
     {

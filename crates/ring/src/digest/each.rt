@@ -1,18 +1,284 @@
-//! Digests of several messages at once.
+//! Digests of several messages at once, as many side by side as a vector has lanes.
 
-ghost use Rattle.std.specs.Prelude.{◌≡◌, ◌↔◌, ℕ, ◌<◌, IsOk, IsTrue, OnErr, OnOk, length};
-ghost use Rattle.ring.specs.Prelude.{AreDigests, CanDigestEach, IsMessageWithin, each_blocks};
-ghost use Rattle.ring.specs.Prelude.{message_at, raised};
+ghost use Rattle.std.specs.Prelude.{◌≡◌, ◌≢◌, ◌↔◌, ℕ, ◌-◌, ◌*◌, ◌/◌, ◌<◌, ◌≤◌, [], ◌++◌, IsOk};
+ghost use Rattle.std.specs.Prelude.{IsTrue, OnErr, OnOk, get_or, length, replicate};
+ghost use Rattle.ring_core.specs.Prelude.{chunk_at};
+ghost use Rattle.ring.specs.Prelude.{AreDigests, CanDigestEach, CanRunTogether, HasWords, IsDigest};
+ghost use Rattle.ring.specs.Prelude.{IsMessageWithin, block_len, chaining_words, each_blocks};
+ghost use Rattle.ring.specs.Prelude.{is_state_of, message_at, padded, padded_blocks, raised};
+ghost use Rattle.ring.specs.Prelude.{state_word_len, word_bytes, words, words_at};
 
-use crate::digest::algorithm::{Algorithm, is_message_within};
-use crate::digest::together::write_together;
+use crate::digest::algorithm::{Algorithm, AlgorithmId, is_message_within};
+use crate::digest::block_context::run_blocks;
+use crate::digest::dynstate::{DynState, Output, StateWord, long_output, short_output};
+use crate::digest::lanes::algorithms::{RunBlocks, Sha1, Sha256, Sha512, by_lanes};
+use crate::digest::lanes::states::{InVector, LaneStates, MAX_LANES};
+use crate::digest::padding::{MAX_TAIL_LEN, write_tail};
+use crate::digest::single::digest_counted;
 use crate::digest::value::Digest;
-use crate::digest::vectors::{SSE, lanes_for};
+use crate::width::{AVX2, SSE, lanes_for};
 use ring_core::cost::Meter;
 use ring_core::error::Unspecified;
+use std::num::Wrapping;
+use std::simd::{u32x4, u32x8, u64x4};
+
+// Here `N` is the number of bytes in a block of the algorithm: a constant, so that a copy of a
+// block is a few instructions.
+
+// The number of blocks of a padded message.
+fn blocks_of<const N: usize>(algorithm: Algorithm, message: &[u8]) -> usize
+    requires whole { block_len algorithm ≡ N }
+    requires within { IsMessageWithin algorithm (length message.now) }
+    ensures { result ≡ padded_blocks algorithm (length message.now) }
+{
+    (message.len() + algorithm.length_len()) / N + 1
+}
+
+// Writes a block of the padded message past the whole blocks of the message.
+fn put_tail_block<const N: usize>(
+    algorithm: Algorithm,
+    message: &[u8],
+    index: usize,
+    block: &mut [u8; N],
+)
+    requires whole { block_len algorithm ≡ N }
+    requires within { IsMessageWithin algorithm (length message.now) }
+    requires past { length message.now / N ≤ index }
+    requires below { index < padded_blocks algorithm (length message.now) }
+    ensures { block.new ≡ chunk_at N (padded algorithm message.now) index }
+{
+    let whole = message.len() / N;
+    let pending = &message[N * whole..];
+    let mut tail = [0; MAX_TAIL_LEN];
+    let len = write_tail(algorithm, pending, message.len() as u128, &mut tail);
+    let start = N * (index - whole);
+    block.copy_from_slice(&tail[..len][start..start + N]);
+}
+
+// Writes a block of the padded message. It is inlined, since calls take a hundredth of the time of
+// SHA-1's blocks.
+#[inline(always)]
+#[tactic(auto, using(crate::proofs::lemmas::digest::LaneBlocks::chunk_whole))]
+fn put_block<const N: usize>(
+    algorithm: Algorithm,
+    message: &[u8],
+    index: usize,
+    block: &mut [u8; N],
+)
+    requires whole { block_len algorithm ≡ N }
+    requires within { IsMessageWithin algorithm (length message.now) }
+    requires below { index < padded_blocks algorithm (length message.now) }
+    ensures { block.new ≡ chunk_at N (padded algorithm message.now) index }
+{
+    if index >= message.len() / N {
+        return put_tail_block(algorithm, message, index, block);
+    }
+    let start = N * index;
+    block.copy_from_slice(&message[start..start + N]);
+}
+
+// Advances the state over the message's remaining whole blocks, from the first `count` blocks of
+// the padded message on, and returns how many blocks it has then taken in.
+fn run_whole<const N: usize>(
+    algorithm: Algorithm,
+    state: &mut DynState,
+    message: &[u8],
+    count: usize,
+    meter: &mut Meter,
+) -> usize
+    requires whole { block_len algorithm ≡ N }
+    requires sized { IsTrue (is_state_of algorithm state.old) }
+    requires words { chaining_words algorithm state.old ≡ words_at algorithm message.now count }
+    ensures sized { IsTrue (is_state_of algorithm state.new) }
+    ensures words { chaining_words algorithm state.new ≡ words_at algorithm message.now result }
+    ensures from { count ≤ result }
+    ensures below { count ≤ padded_blocks algorithm (length message.now)
+        → result ≤ padded_blocks algorithm (length message.now) }
+    ensures cost { meter.new ≡ raised meter.old (result - count) 0 }
+{
+    let whole = message.len() / N;
+    if whole <= count {
+        return count;
+    }
+    let _ = run_blocks(algorithm, state, &message[N * count..], meter);
+    whole
+}
+
+// The bytes of the state. `N` tells the size of its words, so that the compiler reads those of one
+// size alone, in pieces as large as they were written in.
+#[inline(always)]
+fn output_of<const N: usize>(state: &DynState) -> Output
+    requires short { N ≡ 64 → state_word_len state.now ≡ 4 }
+    requires long { N ≢ 64 → state_word_len state.now ≡ 8 }
+    ensures { result.0 ≡ word_bytes (state_word_len state.now) (words state.now)
+        ++ replicate (64 - 8 * state_word_len state.now) 0 }
+{
+    if N == 64 {
+        short_output(Wrapping::<u32>::words_in(state))
+    } else {
+        long_output(Wrapping::<u64>::words_in(state))
+    }
+}
+
+// The digest of a message from the state after the first `count` blocks of it padded. It is
+// inlined, so that the state isn't copied from where it was just stored.
+#[inline(always)]
+fn finished<const N: usize>(
+    algorithm: Algorithm,
+    state: DynState,
+    message: &[u8],
+    count: usize,
+    meter: &mut Meter,
+) -> Digest
+    requires whole { block_len algorithm ≡ N }
+    requires within { IsMessageWithin algorithm (length message.now) }
+    requires below { count ≤ padded_blocks algorithm (length message.now) }
+    requires sized { IsTrue (is_state_of algorithm state) }
+    requires words { chaining_words algorithm state ≡ words_at algorithm message.now count }
+    ensures ok { IsDigest result algorithm message.now }
+    ensures cost { meter.new
+        ≡ raised meter.old (padded_blocks algorithm (length message.now) - count) 0 }
+{
+    let mut state = state;
+    let done = run_whole::<N>(algorithm, &mut state, message, count, meter);
+    'rest: for index in done..blocks_of::<N>(algorithm, message) {
+        let mut block = [0; N];
+        put_block(algorithm, message, index, &mut block);
+        let _ = run_blocks(algorithm, &mut state, &block, meter);
+    }
+    Digest::new(output_of::<N>(&state), algorithm)
+}
+
+// The smallest number of blocks of the padded messages.
+fn fewest_blocks<const N: usize>(algorithm: Algorithm, messages: &[&[u8]]) -> usize
+    requires whole { block_len algorithm ≡ N }
+    requires within { CanDigestEach algorithm messages.now (length messages.now) }
+    ensures { (i : ℕ) → i < length messages.now
+        → result ≤ padded_blocks algorithm (length (message_at messages.now i)) }
+{
+    let mut fewest = usize::MAX;
+    'messages: for i in 0..messages.len() {
+        fewest = fewest.min(blocks_of::<N>(algorithm, messages[i]));
+    }
+    fewest
+}
+
+// Writes a block of each padded message to its place.
+#[inline(always)]
+fn put_blocks<const N: usize>(
+    algorithm: Algorithm,
+    messages: &[&[u8]],
+    index: usize,
+    blocks: &mut [[u8; N]],
+)
+    requires whole { block_len algorithm ≡ N }
+    requires within { CanDigestEach algorithm messages.now (length blocks.old) }
+    requires below { (i : ℕ) → i < length messages.now
+        → index < padded_blocks algorithm (length (message_at messages.now i)) }
+    ensures { (i : ℕ) → i < length messages.now
+        → get_or blocks.new i []
+        ≡ chunk_at N (padded algorithm (message_at messages.now i)) index }
+{
+    'lanes: for i in 0..messages.len() {
+        put_block::<N>(algorithm, messages[i], index, &mut blocks[i]);
+    }
+}
+
+// The states after the first `count` blocks of the padded messages.
+fn states_after<H: RunBlocks<N>, const N: usize>(
+    algorithm: Algorithm,
+    messages: &[&[u8]],
+    count: usize,
+    meter: &mut Meter,
+) -> H::States
+    requires some { 0 < H.LANES }
+    requires most { H.LANES ≤ 8 }
+    requires same { H.is_of algorithm }
+    requires whole { block_len algorithm ≡ N }
+    requires within { CanDigestEach algorithm messages.now H.LANES }
+    requires below { (i : ℕ) → i < H.LANES
+        → count ≤ padded_blocks algorithm (length (message_at messages.now i)) }
+    ensures words { (i : ℕ) → i < H.LANES → HasWords algorithm
+        (words_at algorithm (message_at messages.now i) count) (H.lane i result) }
+    ensures cost { meter.new ≡ raised meter.old (H.LANES * count) 0 }
+{
+    let mut ring = H::ring();
+    let mut states = H::splat(&algorithm.initial_state());
+    let mut blocks = [[0; N]; MAX_LANES];
+    'blocks: for index in 0..count {
+        put_blocks::<N>(algorithm, messages, index, &mut blocks[..H::LANES]);
+        H::run_blocks(&mut ring, &mut states, &blocks[..H::LANES], meter);
+    }
+    states
+}
+
+// Writes the digests of as many messages as there are lanes: side by side while all have blocks,
+// then each by itself.
+fn digest_in_lanes<H: RunBlocks<N>, const N: usize>(
+    algorithm: Algorithm,
+    messages: &[&[u8]],
+    out: &mut [Digest],
+    meter: &mut Meter,
+)
+    requires some { 0 < H.LANES }
+    requires most { H.LANES ≤ 8 }
+    requires same { H.is_of algorithm }
+    requires whole { block_len algorithm ≡ N }
+    requires lanes { length messages.now ≡ H.LANES }
+    requires within { CanDigestEach algorithm messages.now (length out.old) }
+    ensures ok { AreDigests out.new algorithm messages.now }
+    ensures cost { meter.new ≡ raised meter.old (each_blocks algorithm messages.now) 0 }
+{
+    let count = fewest_blocks::<N>(algorithm, messages);
+    let states = states_after::<H, N>(algorithm, messages, count, meter);
+    'lanes: for i in 0..messages.len() {
+        let state = H::state(&states, i);
+        out[i] = finished::<N>(algorithm, state, messages[i], count, meter);
+    }
+}
+
+// Writes the digest of a message by itself.
+fn digest_alone(algorithm: Algorithm, messages: &[&[u8]], out: &mut [Digest], meter: &mut Meter)
+    requires one { length messages.now ≡ 1 }
+    requires within { CanDigestEach algorithm messages.now (length out.old) }
+    ensures ok { AreDigests out.new algorithm messages.now }
+    ensures cost { meter.new ≡ raised meter.old (each_blocks algorithm messages.now) 0 }
+{
+    let Ok(digest) = digest_counted(&algorithm, messages[0], meter) else {
+        // Each message is within the limit.
+        unreachable!()
+    };
+    out[0] = digest;
+}
+
+// Writes the digests of messages of which so many can run together.
+fn digest_together<const VECTOR_BITS: usize>(
+    algorithm: Algorithm,
+    messages: &[&[u8]],
+    out: &mut [Digest],
+    meter: &mut Meter,
+)
+    requires together { CanRunTogether VECTOR_BITS algorithm (length messages.now) }
+    requires within { CanDigestEach algorithm messages.now (length out.old) }
+    ensures ok { AreDigests out.new algorithm messages.now }
+    ensures cost { meter.new ≡ raised meter.old (each_blocks algorithm messages.now) 0 }
+{
+    macro_rules! digest_in {
+        ($lanes:ty, $block_len:literal) => {
+            digest_in_lanes::<$lanes, $block_len>(algorithm, messages, out, meter)
+        };
+    }
+    by_lanes!(
+        VECTOR_BITS,
+        algorithm,
+        messages.len(),
+        digest_alone(algorithm, messages, out, meter),
+        digest_in
+    )
+}
 
 // Whether each message is within the limit.
-fn are_within(algorithm: &Algorithm, messages: &[&[u8]]) -> bool
+fn are_messages_within(algorithm: &Algorithm, messages: &[&[u8]]) -> bool
     ensures { IsTrue result ↔ ((k : ℕ) → k < length messages.now
         → IsMessageWithin algorithm.now (length (message_at messages.now k))) }
 {
@@ -25,7 +291,7 @@ fn are_within(algorithm: &Algorithm, messages: &[&[u8]]) -> bool
 }
 
 // Writes the digests of the messages to `out`, as many side by side as can be.
-fn write_each<const BITS: usize>(
+fn digest_all<const VECTOR_BITS: usize>(
     algorithm: &Algorithm,
     messages: &[&[u8]],
     out: &mut [Digest],
@@ -37,17 +303,22 @@ fn write_each<const BITS: usize>(
 {
     let mut made = 0;
     'parts: while made < messages.len() {
-        let end = made + lanes_for::<BITS>(*algorithm, messages.len() - made);
-        write_together::<BITS>(*algorithm, &messages[made..end], &mut out[made..end], meter);
+        let end = made + lanes_for::<VECTOR_BITS>(*algorithm, messages.len() - made);
+        digest_together::<VECTOR_BITS>(
+            *algorithm,
+            &messages[made..end],
+            &mut out[made..end],
+            meter,
+        );
         made = end;
     }
 }
 
 /// Writes the digests of `messages` under `algorithm` to `out` as [`digest_each`] does (FIPS 180-4,
-/// section 6), over vectors of `BITS` bits, and counts their blocks on `meter`.
+/// section 6), over vectors of `VECTOR_BITS` bits, and counts their blocks on `meter`.
 ///
 /// Refused as [`digest_each`] is. `out` and `meter` are then as they were.
-pub fn digest_each_in<const BITS: usize>(
+pub fn digest_each_in<const VECTOR_BITS: usize>(
     algorithm: &Algorithm,
     messages: &[&[u8]],
     out: &mut [Digest],
@@ -59,10 +330,10 @@ pub fn digest_each_in<const BITS: usize>(
     ensures cost { OnOk result (meter.new
         ≡ raised meter.old (each_blocks algorithm.now messages.now) 0) }
 {
-    if messages.len() != out.len() || !are_within(algorithm, messages) {
+    if messages.len() != out.len() || !are_messages_within(algorithm, messages) {
         return Err(Unspecified);
     }
-    write_each::<BITS>(algorithm, messages, out, meter);
+    digest_all::<VECTOR_BITS>(algorithm, messages, out, meter);
     Ok(())
 }
 

@@ -1,7 +1,7 @@
 //! The bytes that wait for their block to be complete.
 
 ghost use Rattle.std.specs.Prelude.{◌≡◌, ◌+◌, ◌<◌, ◌≤◌, ◌++◌, length, take};
-ghost use Rattle.ring.specs.Prelude.{HasMoved, block_algorithm, block_len};
+ghost use Rattle.ring.specs.Prelude.{HasRunBlocks, block_algorithm, block_len};
 
 use crate::digest::algorithm::MAX_BLOCK_LEN;
 use crate::digest::block_context::BlockContext;
@@ -19,7 +19,7 @@ fn complete<'i>(
 ) -> &'i [u8]
     requires partial { num_pending < block_len (block_algorithm block.old) }
     requires enough { block_len (block_algorithm block.old) ≤ num_pending + length input.now }
-    ensures { HasMoved (block_len (block_algorithm block.old)) block.old block.new
+    ensures { HasRunBlocks (block_len (block_algorithm block.old)) block.old block.new
         (take num_pending pending.old ++ input.now) result.now meter.old meter.new }
 {
     if num_pending == 0 {
@@ -56,7 +56,7 @@ pub(crate) fn move_on(
 ) -> usize
     requires partial { num_pending < block_len (block_algorithm block.old) }
     requires enough { block_len (block_algorithm block.old) ≤ num_pending + length input.now }
-    ensures moved { HasMoved (block_len (block_algorithm block.old)) block.old block.new
+    ensures moved { HasRunBlocks (block_len (block_algorithm block.old)) block.old block.new
         (take num_pending pending.old ++ input.now) (take result pending.new) meter.old meter.new }
     ensures short { result < block_len (block_algorithm block.old) }
     ensures len { length (take result pending.new) ≡ result }

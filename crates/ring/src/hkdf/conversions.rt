@@ -1,8 +1,8 @@
 //! Keys, salts and PRKs made of output (RFC 5869, section 2.3).
 
-ghost use Rattle.ring.specs.Prelude.{IsMadeOf, KeyStandsFor, PrkStandsFor, SaltStandsFor, carried};
-ghost use Rattle.ring.specs.Prelude.{hkdf_digest, hmac_digest, key_algorithm, prk_algorithm};
-ghost use Rattle.ring.specs.Prelude.{salt_algorithm};
+ghost use Rattle.ring.specs.Prelude.{IsMadeOf, KeyStandsFor, PrkStandsFor, SaltStandsFor};
+ghost use Rattle.ring.specs.Prelude.{asked_for, hkdf_digest, hmac_digest, key_algorithm};
+ghost use Rattle.ring.specs.Prelude.{prk_algorithm, salt_algorithm};
 
 use crate::hkdf::algorithm::Algorithm;
 use crate::hkdf::prk::{Okm, Prk};
@@ -18,7 +18,7 @@ impl TryFrom<Okm<'_, hmac::Algorithm>> for Key {
     type Error = Unspecified;
 
     ghost try_from_gives = { λ output result.
-        IsMadeOf output (hmac_digest (carried output)) key_algorithm KeyStandsFor result };
+        IsMadeOf output (hmac_digest (asked_for output)) key_algorithm KeyStandsFor result };
 
     fn try_from(output: Okm<'_, hmac::Algorithm>) -> Result<Key, Unspecified> {
         let algorithm = *output.len();
@@ -34,7 +34,7 @@ impl TryFrom<Okm<'_, Algorithm>> for Salt {
     type Error = Unspecified;
 
     ghost try_from_gives = { λ output result.
-        IsMadeOf output (hkdf_digest (carried output)) salt_algorithm SaltStandsFor result };
+        IsMadeOf output (hkdf_digest (asked_for output)) salt_algorithm SaltStandsFor result };
 
     fn try_from(output: Okm<'_, Algorithm>) -> Result<Salt, Unspecified> {
         let algorithm = output.len().hmac_algorithm();
@@ -50,7 +50,7 @@ impl TryFrom<Okm<'_, Algorithm>> for Prk {
     type Error = Unspecified;
 
     ghost try_from_gives = { λ output result.
-        IsMadeOf output (hkdf_digest (carried output)) prk_algorithm PrkStandsFor result };
+        IsMadeOf output (hkdf_digest (asked_for output)) prk_algorithm PrkStandsFor result };
 
     fn try_from(output: Okm<'_, Algorithm>) -> Result<Prk, Unspecified> {
         let algorithm = output.len().hmac_algorithm();

@@ -24,8 +24,8 @@ use ring_core::error::Unspecified;
 pub struct Prk(pub(crate) Key);
 
 impl Prk {
-    ghost use Rattle.ring.specs.Okm.{OkmStandsFor, carried, okm_algorithm};
-    ghost use Rattle.ring.specs.Okm.{okm_info_len, okm_number};
+    ghost use Rattle.ring.specs.Okm.{OkmStandsFor, asked_for, okm_algorithm};
+    ghost use Rattle.ring.specs.Okm.{okm_asked_len, okm_info_len};
 
     /// Makes the PRK of `value` as [`Prk::new_less_safe`] does, and counts its blocks on `meter`. A
     /// refusal leaves `meter` as it was.
@@ -78,18 +78,18 @@ impl Prk {
             ↔ (255 * output_len (prk_algorithm self.now) < L.key_len len) }
         ensures algorithm { IfOk result (λ output. okm_algorithm output ≡ prk_algorithm self.now) }
         ensures info_len { IfOk result (λ output. okm_info_len output ≡ length (joined info.now)) }
-        ensures number { IfOk result (λ output. okm_number output ≡ L.key_len len) }
-        ensures carries { IfOk result (λ output. carried output ≡ len) }
+        ensures asked_len { IfOk result (λ output. okm_asked_len output ≡ L.key_len len) }
+        ensures carries { IfOk result (λ output. asked_for output ≡ len) }
     {
-        let number = len.len();
-        if !is_output_within(&self.0.algorithm().digest_algorithm(), number as u128) {
+        let asked_len = len.len();
+        if !is_output_within(&self.0.algorithm().digest_algorithm(), asked_len as u128) {
             return Err(Unspecified);
         }
         Ok(Okm {
             prk: self,
             info,
             len,
-            number,
+            asked_len,
         })
     }
 
@@ -108,18 +108,18 @@ pub struct Okm<'a, L: KeyType> {
     prk: &'a Prk,
     info: &'a [&'a [u8]],
     len: L,
-    number: usize,
-    ghost asked: { number ≡ L.key_len len },
-    ghost within: { IsOutputWithin (prk_algorithm prk.now) number },
+    asked_len: usize,
+    ghost asked: { asked_len ≡ L.key_len len },
+    ghost within: { IsOutputWithin (prk_algorithm prk.now) asked_len },
 }
 
 impl<L: KeyType> Okm<'_, L> {
-    ghost use Rattle.ring.specs.Okm.{CanFill, IsMadeOf, OkmStandsFor, carried};
-    ghost use Rattle.ring.specs.Okm.{okm_algorithm, okm_info_len, okm_number};
+    ghost use Rattle.ring.specs.Okm.{CanFill, IsMadeOf, OkmStandsFor, asked_for};
+    ghost use Rattle.ring.specs.Okm.{okm_algorithm, okm_asked_len, okm_info_len};
 
     /// The value that was passed to [`Prk::expand`] for the length.
     pub fn len(&self) -> &L
-        ensures { result.now ≡ carried self.now }
+        ensures { result.now ≡ asked_for self.now }
     {
         &self.len
     }
@@ -131,13 +131,13 @@ impl<L: KeyType> Okm<'_, L> {
         ensures ok { (k info : List ℕ) (n : ℕ) → OkmStandsFor self.entry k info n
             → OnOk result (out.new ≡ okm (okm_algorithm self.entry) k info n) }
         ensures refused { IsOk result ↔ CanFill (okm_algorithm self.entry)
-            (okm_info_len self.entry) (okm_number self.entry) (length out.old) }
+            (okm_info_len self.entry) (okm_asked_len self.entry) (length out.old) }
         ensures unchanged { OnErr result ((out.new ≡ out.old) × (meter.new ≡ meter.old)) }
         ensures cost { OnOk result (meter.new ≡ raised meter.old (fill_blocks
-            (okm_algorithm self.entry) (okm_info_len self.entry) (okm_number self.entry)) 0) }
+            (okm_algorithm self.entry) (okm_info_len self.entry) (okm_asked_len self.entry)) 0) }
     {
         let algorithm = self.prk.0.algorithm().digest_algorithm();
-        if out.len() != self.number {
+        if out.len() != self.asked_len {
             return Err(Unspecified);
         }
         if !is_info_within(&algorithm, joined_len(self.info), out.len() as u128) {
@@ -157,7 +157,7 @@ impl<L: KeyType> Okm<'_, L> {
         ensures ok { (k info : List ℕ) (n : ℕ) → OkmStandsFor self.entry k info n
             → OnOk result (out.new ≡ okm (okm_algorithm self.entry) k info n) }
         ensures refused { IsOk result ↔ CanFill (okm_algorithm self.entry)
-            (okm_info_len self.entry) (okm_number self.entry) (length out.old) }
+            (okm_info_len self.entry) (okm_asked_len self.entry) (length out.old) }
         ensures unchanged { OnErr result (out.new ≡ out.old) }
     {
         self.fill_counted(out, &mut Meter::new())
@@ -165,7 +165,7 @@ impl<L: KeyType> Okm<'_, L> {
 
     // The key of `algorithm` whose value is the whole output.
     pub(crate) fn into_key(self, algorithm: hmac::Algorithm) -> Result<Key, Unspecified>
-        requires { okm_number self ≡ output_len (hmac_digest algorithm) }
+        requires { okm_asked_len self ≡ output_len (hmac_digest algorithm) }
         ensures { IsMadeOf self.entry (hmac_digest algorithm) key_algorithm KeyStandsFor result }
     {
         let mut value = [0; MAX_OUTPUT_LEN];

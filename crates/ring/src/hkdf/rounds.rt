@@ -9,12 +9,12 @@ use crate::hmac::{Context, Key, Tag};
 use ring_core::cost::Meter;
 use ring_core::polyfill::slice::write_at;
 
-// T(number): the tag of the round before, the info and the number.
-fn round(key: &Key, previous: &[u8], info: &[&[u8]], number: u8, meter: &mut Meter) -> Tag
+// T(index): the tag of the round before, the info and the index.
+fn round(key: &Key, previous: &[u8], info: &[&[u8]], index: u8, meter: &mut Meter) -> Tag
     requires { IsTagWithin
         (key_algorithm key.now) (length previous.now + length (joined info.now) + 1) }
     ensures ok { (k : List ℕ) → KeyStandsFor key.now k → IsTag
-        result (key_algorithm key.now) k (previous.now ++ joined info.now ++ number ∷ []) }
+        result (key_algorithm key.now) k (previous.now ++ joined info.now ++ index ∷ []) }
     ensures cost { meter.new ≡ raised meter.old (padded_blocks
         (key_algorithm key.now) (length previous.now + length (joined info.now) + 1) + 1) 0 }
     ensures algorithm { tag_algorithm result ≡ key_algorithm key.now }
@@ -24,7 +24,7 @@ fn round(key: &Key, previous: &[u8], info: &[&[u8]], number: u8, meter: &mut Met
     for piece in info {
         context.update_counted(piece, meter);
     }
-    context.update_counted(&[number], meter);
+    context.update_counted(&[index], meter);
     match context.sign_counted(meter) {
         Ok(tag) => tag,
         // The caller has tested the lengths.

@@ -4,12 +4,12 @@
 ghost use Rattle.std.specs.Prelude.{◌≡◌, ℕ, ◌*◌, ◌<◌, List};
 ghost use Rattle.ring.specs.Prelude.{IsKeyInLane, digest_bytes, hmac_of, raised};
 
-use crate::digest::side_by_side::lane_digests::SideBySide;
+use crate::digest::lanes::algorithms::DigestBlock;
 use ring_core::cost::Meter;
 
 // Replaces the words of a digest by those of its tag, in each lane under the key of that lane.
 #[inline(always)]
-pub(crate) fn replace_by_tag<H: SideBySide>(
+pub(crate) fn replace_by_tag<H: DigestBlock>(
     ring: &mut H::Ring,
     inner: &H::States,
     outer: &H::States,
@@ -24,8 +24,8 @@ pub(crate) fn replace_by_tag<H: SideBySide>(
     ensures cost { meter.new ≡ raised meter.old (2 * H.LANES) 0 }
 {
     let mut inside = *inner;
-    H::run_digests(ring, &mut inside, digest, meter);
+    H::hash_digests(ring, &mut inside, digest, meter);
     let mut outside = *outer;
-    H::run_digests(ring, &mut outside, &inside, meter);
+    H::hash_digests(ring, &mut outside, &inside, meter);
     *digest = outside;
 }

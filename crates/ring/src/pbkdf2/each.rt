@@ -1,18 +1,130 @@
-//! Keys derived from several secrets at once, as many side by side as there are lanes, and the
-//! verification of several values: derived as several are, and compared.
+//! Keys derived from several secrets at once, whose rounds run as many side by side as there are
+//! lanes, and the verification of several values: derived as several are, and compared.
 
-ghost use Rattle.std.specs.Prelude.{◌≡◌, ◌↔◌, ℕ, ◌*◌, ◌<◌, [], IsOk, OnErr, OnOk, get_or, length};
+ghost use Rattle.std.specs.Prelude.{◌≡◌, ◌↔◌, ℕ, ◌*◌, ◌<◌, ◌≤◌, [], IsOk, IsTrue, OnErr, OnOk};
+ghost use Rattle.std.specs.Prelude.{get_or, length, take};
 ghost use Rattle.std.specs.Int.NonZero.{non_zero_u32_get};
-ghost use Rattle.ring.specs.Prelude.{AreDerived, AreVerified, CanDeriveEach, CanVerifyEach};
-ghost use Rattle.ring.specs.Prelude.{derive_each_blocks, pbkdf2_digest, raised};
+ghost use Rattle.ring.specs.Prelude.{AreDerived, AreKeysOf, AreVerified, CanDerive, CanDeriveEach};
+ghost use Rattle.ring.specs.Prelude.{CanVerifyEach, DerivesEach, HasPlaces, KeyStandsFor, Receives};
+ghost use Rattle.ring.specs.Prelude.{VerifiesEach, bytes_at};
+ghost use Rattle.ring.specs.Prelude.{derive_each_blocks, dk_at, hmac_digest, key_algorithm};
+ghost use Rattle.ring.specs.Prelude.{key_blocks, max_input_len, pbkdf2_digest, raised, sum_below};
 
-use crate::digest::vectors::SSE;
+use crate::digest::lanes::states::MAX_LANES;
+use crate::hmac::Key;
+use crate::limits::can_derive;
 use crate::pbkdf2::algorithm::Algorithm;
-use crate::pbkdf2::receiver::{ComparedEach, WrittenEach};
-use crate::pbkdf2::several::{are_within, derive_all};
+use crate::pbkdf2::receiver::{ComparedEach, Receiver, WrittenEach};
+use crate::pbkdf2::rounds::derive_under;
+use crate::width::SSE;
+use crate::{digest, hmac};
 use ring_core::cost::Meter;
 use ring_core::error::Unspecified;
 use std::num::NonZeroU32;
+
+// Whether a key of `len` bytes can be derived from each secret and the salt at its place.
+fn can_derive_all(
+    algorithm: &digest::Algorithm,
+    salts: &[&[u8]],
+    secrets: &[&[u8]],
+    len: usize,
+) -> bool
+    requires { length salts.now ≡ length secrets.now }
+    ensures { IsTrue result ↔ ((k : ℕ) → k < length secrets.now → CanDerive algorithm.now
+        (length (bytes_at secrets.now k)) (length (bytes_at salts.now k)) len) }
+{
+    'places: for i in 0..secrets.len() {
+        let secret_len = secrets[i].len() as u128;
+        if !can_derive(algorithm, secret_len, salts[i].len() as u128, len as u128) {
+            return false;
+        }
+    }
+    true
+}
+
+// The key of a secret that has one.
+fn key_within(algorithm: hmac::Algorithm, secret: &[u8], meter: &mut Meter) -> Key
+    requires { length secret.now ≤ max_input_len (hmac_digest algorithm) }
+    ensures ok { KeyStandsFor result secret.now }
+    ensures cost { meter.new
+        ≡ raised meter.old (key_blocks (hmac_digest algorithm) (length secret.now)) 0 }
+    ensures algorithm { key_algorithm result ≡ hmac_digest algorithm }
+{
+    match Key::new_counted(algorithm, secret, meter) {
+        Ok(key) => key,
+        // The secret is within the limit.
+        Err(_) => unreachable!(),
+    }
+}
+
+// The keys of the secrets, each at its secret's place, in room for the greatest number of lanes.
+fn keys_of(algorithm: hmac::Algorithm, secrets: &[&[u8]], meter: &mut Meter) -> [Key; MAX_LANES]
+    requires some { 0 < length secrets.now }
+    requires most { length secrets.now ≤ 8 }
+    requires within { (i : ℕ) → i < length secrets.now
+        → length (bytes_at secrets.now i) ≤ max_input_len (hmac_digest algorithm) }
+    ensures ok { AreKeysOf (hmac_digest algorithm)
+        (take (length secrets.now) result) (bytes_at secrets.now) }
+    ensures cost { meter.new ≡ raised meter.old (sum_below (λ i. key_blocks
+        (hmac_digest algorithm) (length (bytes_at secrets.now i))) (length secrets.now)) 0 }
+    ensures count { length (take (length secrets.now) result) ≡ length secrets.now }
+{
+    let first = key_within(algorithm, secrets[0], meter);
+    let mut keys = [
+        first.clone(),
+        first.clone(),
+        first.clone(),
+        first.clone(),
+        first.clone(),
+        first.clone(),
+        first.clone(),
+        first,
+    ];
+    'keys: for i in 1..secrets.len() {
+        keys[i] = key_within(algorithm, secrets[i], meter);
+    }
+    keys
+}
+
+// Derives `len` bytes from the secret and the salt at each place, under as many keys at a time as
+// there can be lanes.
+fn derive_all<const VECTOR_BITS: usize, R: Receiver>(
+    algorithm: hmac::Algorithm,
+    iterations: NonZeroU32,
+    salts: &[&[u8]],
+    secrets: &[&[u8]],
+    len: usize,
+    receiver: &mut R,
+    meter: &mut Meter,
+)
+    requires within { CanDeriveEach (hmac_digest algorithm) salts.now secrets.now
+        (length secrets.now) len }
+    requires room { HasPlaces R.places R.room (length secrets.now) len receiver.old }
+    ensures ok { Receives R.HasReceived 0 (length secrets.now) 0 (dk_at (hmac_digest algorithm)
+        salts.now secrets.now (non_zero_u32_get iterations) len) receiver.old receiver.new }
+    ensures cost { meter.new ≡ raised meter.old (derive_each_blocks (hmac_digest algorithm)
+        salts.now secrets.now (non_zero_u32_get iterations) len)
+        (R.pairs * (length secrets.now * len)) }
+{
+    let digest = algorithm.digest_algorithm();
+    let mut made = 0;
+    'keys: while made < secrets.len() {
+        let count = (secrets.len() - made).min(MAX_LANES);
+        let end = made + count;
+        let keys = keys_of(algorithm, &secrets[made..end], meter);
+        derive_under::<VECTOR_BITS, R>(
+            digest,
+            &keys[..count],
+            iterations,
+            &salts[made..end],
+            len,
+            made,
+            receiver,
+            meter,
+        );
+        made = end;
+    }
+}
 
 // Sets each place to zeros.
 fn clear<const N: usize>(out: &mut [[u8; N]])
@@ -25,10 +137,10 @@ fn clear<const N: usize>(out: &mut [[u8; N]])
 
 /// Derives a key of `N` bytes for each place of `out` from the values of `salts` and `secrets` at
 /// that place, with the same `algorithm` and `iterations`, as [`derive_each`] does (RFC 2898,
-/// section 5.2), over vectors of `BITS` bits. Their blocks are counted on `meter`.
+/// section 5.2), over vectors of `VECTOR_BITS` bits. Their blocks are counted on `meter`.
 ///
 /// Refused as [`derive_each`] is. `out` and `meter` are then as they were.
-pub fn derive_each_in<const BITS: usize, const N: usize>(
+pub fn derive_each_in<const VECTOR_BITS: usize, const N: usize>(
     algorithm: Algorithm,
     iterations: NonZeroU32,
     salts: &[&[u8]],
@@ -36,25 +148,19 @@ pub fn derive_each_in<const BITS: usize, const N: usize>(
     out: &mut [[u8; N]],
     meter: &mut Meter,
 ) -> Result<(), Unspecified>
-    ensures ok { OnOk result (AreDerived out.new (pbkdf2_digest algorithm)
-        salts.now secrets.now (non_zero_u32_get iterations) N) }
-    ensures refused { IsOk result ↔ CanDeriveEach (pbkdf2_digest algorithm)
-        salts.now secrets.now (length out.old) N }
-    ensures unchanged { OnErr result ((out.new ≡ out.old) × (meter.new ≡ meter.old)) }
-    ensures cost { OnOk result (meter.new ≡ raised meter.old
-        (derive_each_blocks (pbkdf2_digest algorithm) salts.now secrets.now
-        (non_zero_u32_get iterations) N) 0) }
+    ensures { DerivesEach (pbkdf2_digest algorithm) salts.now secrets.now
+        (non_zero_u32_get iterations) N out.old out.new meter.old meter.new result }
 {
     let hmac_algorithm = algorithm.hmac_algorithm();
     if salts.len() != out.len() || secrets.len() != out.len() {
         return Err(Unspecified);
     }
-    if !are_within(&hmac_algorithm.digest_algorithm(), salts, secrets, N) {
+    if !can_derive_all(&hmac_algorithm.digest_algorithm(), salts, secrets, N) {
         return Err(Unspecified);
     }
     clear(out);
     let mut written = WrittenEach { out };
-    derive_all::<BITS, WrittenEach<N>>(
+    derive_all::<VECTOR_BITS, WrittenEach<N>>(
         hmac_algorithm,
         iterations,
         salts,
@@ -77,14 +183,8 @@ pub fn derive_each_counted<const N: usize>(
     out: &mut [[u8; N]],
     meter: &mut Meter,
 ) -> Result<(), Unspecified>
-    ensures ok { OnOk result (AreDerived out.new (pbkdf2_digest algorithm)
-        salts.now secrets.now (non_zero_u32_get iterations) N) }
-    ensures refused { IsOk result ↔ CanDeriveEach (pbkdf2_digest algorithm)
-        salts.now secrets.now (length out.old) N }
-    ensures unchanged { OnErr result ((out.new ≡ out.old) × (meter.new ≡ meter.old)) }
-    ensures cost { OnOk result (meter.new ≡ raised meter.old
-        (derive_each_blocks (pbkdf2_digest algorithm) salts.now secrets.now
-        (non_zero_u32_get iterations) N) 0) }
+    ensures { DerivesEach (pbkdf2_digest algorithm) salts.now secrets.now
+        (non_zero_u32_get iterations) N out.old out.new meter.old meter.new result }
 {
     derive_each_in::<SSE, N>(algorithm, iterations, salts, secrets, out, meter)
 }
@@ -93,7 +193,8 @@ pub fn derive_each_counted<const N: usize>(
 /// from the values of `salts` and `secrets` at that place (RFC 2898, section 5.2).
 ///
 /// The keys are those that [`derive`](crate::pbkdf2::derive) writes. Under SHA-1 and SHA-256 four
-/// keys at a time run side by side, which is faster than one after another.
+/// rounds of output at a time run side by side, whichever keys they are of, which is faster than
+/// one after another.
 ///
 /// Refused where there are more or fewer salts or secrets than places in `out`, and where
 /// [`derive`](crate::pbkdf2::derive) refuses a secret and its salt for `N` bytes. `out` is then
@@ -122,11 +223,11 @@ pub fn derive_each<const N: usize>(
 }
 
 /// Sets each place of `matches` as [`verify_each`] does, with the same `algorithm`, `iterations`,
-/// `salts`, `secrets` and `previously_derived` (RFC 2898, section 5.2), over vectors of `BITS`
-/// bits. The blocks and the compared pairs of bytes are counted on `meter`.
+/// `salts`, `secrets` and `previously_derived` (RFC 2898, section 5.2), over vectors of
+/// `VECTOR_BITS` bits. The blocks and the compared pairs of bytes are counted on `meter`.
 ///
 /// Refused as [`verify_each`] is. `matches` and `meter` are then as they were.
-pub fn verify_each_in<const BITS: usize, const N: usize>(
+pub fn verify_each_in<const VECTOR_BITS: usize, const N: usize>(
     algorithm: Algorithm,
     iterations: NonZeroU32,
     salts: &[&[u8]],
@@ -135,14 +236,9 @@ pub fn verify_each_in<const BITS: usize, const N: usize>(
     matches: &mut [bool],
     meter: &mut Meter,
 ) -> Result<(), Unspecified>
-    ensures ok { OnOk result (AreVerified matches.new (pbkdf2_digest algorithm)
-        salts.now secrets.now (non_zero_u32_get iterations) previously_derived.now) }
-    ensures refused { IsOk result ↔ CanVerifyEach (pbkdf2_digest algorithm)
-        salts.now secrets.now previously_derived.now (length matches.old) N }
-    ensures unchanged { OnErr result ((matches.new ≡ matches.old) × (meter.new ≡ meter.old)) }
-    ensures cost { OnOk result (meter.new ≡ raised meter.old
-        (derive_each_blocks (pbkdf2_digest algorithm) salts.now secrets.now
-        (non_zero_u32_get iterations) N) (length previously_derived.now * N)) }
+    ensures { VerifiesEach (pbkdf2_digest algorithm) salts.now secrets.now
+        (non_zero_u32_get iterations) N previously_derived.now
+        matches.old matches.new meter.old meter.new result }
 {
     let hmac_algorithm = algorithm.hmac_algorithm();
     let count = previously_derived.len();
@@ -151,7 +247,7 @@ pub fn verify_each_in<const BITS: usize, const N: usize>(
     }
     // A value of no bytes is never derived.
     let never = count != 0 && N == 0;
-    if never || !are_within(&hmac_algorithm.digest_algorithm(), salts, secrets, N) {
+    if never || !can_derive_all(&hmac_algorithm.digest_algorithm(), salts, secrets, N) {
         return Err(Unspecified);
     }
     matches.fill(true);
@@ -159,7 +255,7 @@ pub fn verify_each_in<const BITS: usize, const N: usize>(
         values: previously_derived,
         matches,
     };
-    derive_all::<BITS, ComparedEach<N>>(
+    derive_all::<VECTOR_BITS, ComparedEach<N>>(
         hmac_algorithm,
         iterations,
         salts,
@@ -183,14 +279,9 @@ pub fn verify_each_counted<const N: usize>(
     matches: &mut [bool],
     meter: &mut Meter,
 ) -> Result<(), Unspecified>
-    ensures ok { OnOk result (AreVerified matches.new (pbkdf2_digest algorithm)
-        salts.now secrets.now (non_zero_u32_get iterations) previously_derived.now) }
-    ensures refused { IsOk result ↔ CanVerifyEach (pbkdf2_digest algorithm)
-        salts.now secrets.now previously_derived.now (length matches.old) N }
-    ensures unchanged { OnErr result ((matches.new ≡ matches.old) × (meter.new ≡ meter.old)) }
-    ensures cost { OnOk result (meter.new ≡ raised meter.old
-        (derive_each_blocks (pbkdf2_digest algorithm) salts.now secrets.now
-        (non_zero_u32_get iterations) N) (length previously_derived.now * N)) }
+    ensures { VerifiesEach (pbkdf2_digest algorithm) salts.now secrets.now
+        (non_zero_u32_get iterations) N previously_derived.now
+        matches.old matches.new meter.old meter.new result }
 {
     verify_each_in::<SSE, N>(
         algorithm,
@@ -207,8 +298,8 @@ pub fn verify_each_counted<const N: usize>(
 /// with the same `algorithm` and `iterations` and with the values of `salts`, `secrets` and
 /// `previously_derived` at that place, of `N` bytes each (RFC 2898, section 5.2).
 ///
-/// Under SHA-1 and SHA-256 four values at a time run side by side, which is faster than one after
-/// another.
+/// Under SHA-1 and SHA-256 four rounds of output at a time run side by side, whichever values they
+/// are of, which is faster than one after another.
 ///
 /// Refused where there are more or fewer salts, secrets or values than places in `matches`, and
 /// where there is a place and `N` is 0 or [`derive`](crate::pbkdf2::derive) refuses the secret and

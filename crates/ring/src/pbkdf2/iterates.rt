@@ -1,32 +1,32 @@
-//! The iterates of a round: the first, of the salt and the round's number, and the tags of tags.
+//! The iterates of a round: the first, of the salt and the round's index, and the tags of tags.
 
 ghost use Rattle.std.specs.Prelude.{◌≡◌, ℕ, ◌+◌, ◌-◌, ◌*◌, ◌<◌, List, length, take};
 ghost use Rattle.std.specs.Int.NonZero.{non_zero_u32_get};
-ghost use Rattle.ring.specs.Prelude.{IsKeyInLane, IsTagWithin, KeyStandsFor, digest_bytes, iterate};
-ghost use Rattle.ring.specs.Prelude.{key_algorithm, output_len, padded_blocks, raised};
-ghost use Rattle.ring.specs.Prelude.{tag_algorithm, tag_bytes, xored};
+ghost use Rattle.ring.specs.Prelude.{IsKeyInLane, IsTagWithin, KeyStandsFor, digest_bytes};
+ghost use Rattle.ring.specs.Prelude.{key_algorithm, output_len, padded_blocks, pbkdf2_t, pbkdf2_u};
+ghost use Rattle.ring.specs.Prelude.{raised, tag_algorithm, tag_bytes};
 
 use crate::digest::dynstate::OUTPUT_ROOM;
-use crate::digest::side_by_side::lane_digests::SideBySide;
+use crate::digest::lanes::algorithms::DigestBlock;
 use crate::hmac::tag_of_digest::replace_by_tag;
 use crate::hmac::{Context, Key, Tag};
 use ring_core::cost::Meter;
 use std::num::NonZeroU32;
 
-// U_1 of a round: the tag of the salt and the round's number.
-pub(crate) fn first_iterate(key: &Key, salt: &[u8], number: u32, meter: &mut Meter) -> Tag
+// U_1 of a round: the tag of the salt and the round's index.
+pub(crate) fn first_iterate(key: &Key, salt: &[u8], index: u32, meter: &mut Meter) -> Tag
     requires within { IsTagWithin (key_algorithm key.now) (length salt.now + 4) }
     ensures ok { (p : List ℕ) → KeyStandsFor key.now p
-        → tag_bytes result ≡ iterate (key_algorithm key.now) p salt.now number 1 }
+        → tag_bytes result ≡ pbkdf2_u (key_algorithm key.now) p salt.now index 1 }
     ensures cost { meter.new
         ≡ raised meter.old (padded_blocks (key_algorithm key.now) (length salt.now + 4) + 1) 0 }
     ensures algorithm { tag_algorithm result ≡ key_algorithm key.now }
 {
     let mut context = Context::with_key(key);
     context.update_counted(salt, meter);
-    context.update_counted(&number.to_be_bytes(), meter);
+    context.update_counted(&index.to_be_bytes(), meter);
     let Ok(tag) = context.sign_counted(meter) else {
-        // The salt and the number are within the limit.
+        // The salt and the index are within the limit.
         unreachable!()
     };
     tag
@@ -45,7 +45,7 @@ pub(crate) fn bytes_of(tag: &Tag) -> [u8; OUTPUT_ROOM]
 // The exclusive or of the first iterate and of those after it, in each lane under its key. It isn't
 // inlined, so that its caller keeps no room for it while first iterates are computed.
 #[inline(never)]
-pub(crate) fn xor_iterates<H: SideBySide>(
+pub(crate) fn xor_iterates<H: DigestBlock>(
     inner: &H::States,
     outer: &H::States,
     first: &H::States,
@@ -55,9 +55,9 @@ pub(crate) fn xor_iterates<H: SideBySide>(
     requires { 0 < H.LANES }
     ensures ok { (l : ℕ) (p s : List ℕ) (i : ℕ)
         → IsKeyInLane H.algorithm (H.lane l inner.now) (H.lane l outer.now) p
-        → digest_bytes H.algorithm (H.lane l first.now) ≡ iterate H.algorithm p s i 1
+        → digest_bytes H.algorithm (H.lane l first.now) ≡ pbkdf2_u H.algorithm p s i 1
         → digest_bytes H.algorithm (H.lane l result)
-        ≡ xored H.algorithm p s i (non_zero_u32_get iterations) }
+        ≡ pbkdf2_t H.algorithm p s i (non_zero_u32_get iterations) }
     ensures cost { meter.new
         ≡ raised meter.old (H.LANES * (2 * (non_zero_u32_get iterations - 1))) 0 }
 {

@@ -4,7 +4,7 @@
 ghost use Rattle.std.specs.Prelude.{◌≡◌, ◌≢◌, ◌↔◌, ℕ, ◌+◌, ◌*◌, ◌^◌, ◌<◌, ◌≤◌, [], ◌++◌, IsTrue};
 ghost use Rattle.std.specs.Prelude.{List, drop, false, get_or, length, min, take, true};
 ghost use Rattle.std.proofs.Common.{arith, refl};
-ghost use Rattle.ring.specs.Prelude.{HasPlaces, KeepsPlaces, Takes, raised};
+ghost use Rattle.ring.specs.Prelude.{HasPlaces, KeepsPlaces, Receives, raised};
 
 use ring_core::bb::verify_slices_are_equal_counted;
 use ring_core::cost::Meter;
@@ -29,17 +29,17 @@ pub(crate) trait Receiver {
     ghost pairs: { ℕ };
 
     // from a start until now, these were the first bytes that the place took
-    ghost HasCome: { (start now : Self) → ℕ → List ℕ → Type 0 };
+    ghost HasReceived: { (start now : Self) → ℕ → List ℕ → Type 0 };
 
     // Takes a part of the key at a place, which begins at the key's byte `from`.
     fn take(&mut self, place: usize, from: usize, part: &[u8], meter: &mut Meter)
         requires { HasPlaces places room (place + 1) (from + length part.now) self.old }
-        ensures ok { Takes HasCome place 1 from (λ i. part.now) self.old self.new }
+        ensures ok { Receives HasReceived place 1 from (λ i. part.now) self.old self.new }
         ensures same { KeepsPlaces places room self.old self.new }
         ensures cost { meter.new ≡ raised meter.old 0 (pairs * length part.now) };
 
     // at the start none were taken
-    ghost none: { (start : Self) (place : ℕ) → HasCome start start place [] };
+    ghost none: { (start : Self) (place : ℕ) → HasReceived start start place [] };
 }
 
 // A key that is written.
@@ -55,7 +55,7 @@ impl<'a> Receiver for Written<'a> {
 
     ghost pairs = { 0 };
 
-    ghost HasCome = { λ start now place front. (now.out.ghost_name ≡ start.out.ghost_name)
+    ghost HasReceived = { λ start now place front. (now.out.ghost_name ≡ start.out.ghost_name)
         × (length now.out.now ≡ length start.out.now)
         × (place ≡ 0 → take (length front) now.out.now ≡ front) };
 
@@ -82,7 +82,7 @@ impl<'a> Receiver for Compared<'a> {
 
     ghost pairs = { 1 };
 
-    ghost HasCome = { λ start now place front. (now.value ≡ start.value)
+    ghost HasReceived = { λ start now place front. (now.value ≡ start.value)
         × (place ≡ 0 → (now.matches ≡ true)
         ↔ ((start.matches ≡ true) × (take (length front) now.value.now ≡ front))) };
 
@@ -120,7 +120,7 @@ impl<'a, const N: usize> Receiver for WrittenEach<'a, N> {
 
     ghost pairs = { 0 };
 
-    ghost HasCome = { λ start now place front. (now.out.ghost_name ≡ start.out.ghost_name)
+    ghost HasReceived = { λ start now place front. (now.out.ghost_name ≡ start.out.ghost_name)
         × (length now.out.now ≡ length start.out.now)
         × (length (get_or now.out.now place []) ≡ length (get_or start.out.now place []))
         × (take (length front) (get_or now.out.now place []) ≡ front) };
@@ -167,7 +167,7 @@ impl<'a, const N: usize> Receiver for ComparedEach<'a, N> {
 
     ghost pairs = { 1 };
 
-    ghost HasCome = { λ start now place front. (now.values ≡ start.values)
+    ghost HasReceived = { λ start now place front. (now.values ≡ start.values)
         × (now.matches.ghost_name ≡ start.matches.ghost_name)
         × (length now.matches.now ≡ length start.matches.now)
         × (0 < length front → length (get_or now.values.now place []) ≡ N)

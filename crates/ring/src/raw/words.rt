@@ -86,7 +86,7 @@ fn numbers_of(state: &DynState) -> [u64; 8]
 }
 
 // The numbers of the state after whole blocks.
-#[tactic(auto, using(crate::proofs::Numbers::raw_taken, crate::proofs::Numbers::raw_cut))]
+#[tactic(auto, using(crate::proofs::lemmas::raw::Numbers::raw_laws))]
 pub(crate) fn numbers_of_block(block: &BlockContext) -> [u64; 8]
     ensures stands { (p : List ℕ) → HasTaken block.now p
         → IsRawState (block_algorithm block.now) result p }

@@ -4,7 +4,7 @@ use Rattle.ring.specs.Prelude.{cut_off, digest_after, key_algorithm}
 use Rattle.ring_core.proofs.Costs.{raised-raised}
 use Rattle.ring.proofs.Lengths.{HasCounted, counted_end}
 use Rattle.ring.proofs.Rows.{block_len-most}
-use Rattle.ring.proofs.Updating.{counted_moved, digest_moved, moved_count}
+use Rattle.ring.proofs.lemmas.digest.Updating.{counted_moved, digest_moved, moved_count}
 use Rattle.ring.proofs.hmac.sign_counted.Goals as goal
 
 pub returns-clause-cost : goal.returns-clause-cost

@@ -1,6 +1,6 @@
 use Rattle.std.proofs.Common.{length, ap, ◌∙◌}
 use Rattle.ring.specs.Prelude.{output_len}
-use Rattle.ring.proofs.Comparing.{cost_compared}
+use Rattle.ring.proofs.lemmas.hmac.Comparing.{cost_compared}
 use Rattle.ring.proofs.hmac.verify_counted.Goals as goal
 
 pub returns-clause-cost : goal.returns-clause-cost

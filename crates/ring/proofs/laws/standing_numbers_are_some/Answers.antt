@@ -1,6 +1,6 @@
 use Rattle.std.proofs.Common.{arith, inl, inr, rules}
 use Rattle.ring.specs.Prelude.{RawKeyStandsFor, RawStandsFor, RawTagStandsFor}
-use Rattle.ring.proofs.Numbers.{key_block_counted, named_len}
+use Rattle.ring.proofs.lemmas.raw.Numbers.{key_block_counted, named_len}
 use Rattle.ring.proofs.laws.standing_numbers_are_some.Goals as goal
 
 pub returns-clause-context : goal.returns-clause-context

@@ -1,7 +1,7 @@
 use Rattle.ring.specs.Prelude.{RawKeyStandsFor, RawStandsFor, RawTagStandsFor, StandsFor}
 use Rattle.ring.specs.Prelude.{context_algorithm, pending_bytes, signing_algorithm}
-use Rattle.ring.proofs.Finishing.{digest_with-is}
-use Rattle.ring.proofs.Keys.{outer_taken, tag_from-is, tag_under-is, tag_with-is}
+use Rattle.ring.proofs.lemmas.digest.Finishing.{digest_with-is}
+use Rattle.ring.proofs.lemmas.hmac.Keys.{outer_taken, tag_from-is, tag_under-is, tag_with-is}
 use Rattle.ring.proofs.laws.standing_values_give_the_standards_bytes.Goals as goal
 
 pub returns-clause-context : goal.returns-clause-context

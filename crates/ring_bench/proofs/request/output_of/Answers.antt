@@ -22,7 +22,7 @@ returns-in-Ok-fill_counted g c = λ k h.
     ≡ okm (okm_algorithm c.in-Ok.output) k (joined c.args.info.now) c.args.len =
     rw room (kept ∙ end.ok k _ _ (asked.ok k h)) in
     let (fits, count) =
-    filled asked.algorithm asked.info_len asked.number {m1 = c.fill_counted.new.meter}
+    filled asked.algorithm asked.info_len asked.asked_len {m1 = c.fill_counted.new.meter}
     c.args.meter.now (λ over. true≢false (sym (asked.refused.1 over))) (end.refused.0 refl)
     (omega arith) end.cost in
     let shown = c.blocks-in-Ok-fill_counted.ensures in
@@ -37,6 +37,6 @@ returns-in-Err g c = λ k h.
     let info = joined c.args.info.now in
     let fails_here : can_expand (prk_algorithm c.args.prk.now) (length info) c.args.len ≡ false =
     false_from_ne_true (can_expand (prk_algorithm c.args.prk.now) (length info) c.args.len) (λ e.
-    let can = can_fill asked.algorithm asked.info_len asked.number size e in
+    let can = can_fill asked.algorithm asked.info_len asked.asked_len size e in
     true≢false (sym (c.in-Err.ensures.refused.1 can))) in
     rw fails_here refl

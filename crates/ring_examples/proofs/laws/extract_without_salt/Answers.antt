@@ -4,6 +4,9 @@ use Rattle.ring_examples.proofs.laws.extract_without_salt.Goals as goal
 
 pub returns : goal.returns
 returns c = record {
-  ok = rw (c.in_ok-new.ensures.algorithm, c.law_7.ensures SHA256 c.args.secret.now) at
+  ok = rw (
+    c.in_ok-new.ensures.algorithm,
+    c.empty_salt_extracts_as_zeros.ensures SHA256 c.args.secret.now,
+  ) at
       (c.extract.ensures.ok [] c.in_ok-new.ensures.ok);
 }

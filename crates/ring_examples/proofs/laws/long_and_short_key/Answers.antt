@@ -4,5 +4,5 @@ use Rattle.ring_examples.proofs.laws.long_and_short_key.Goals as goal
 pub returns : goal.returns
 returns c = record {
   front = rw (c.in_ok-derive-2.ensures.ok, c.in_ok-derive.ensures.ok)
-      (c.law_8.ensures _ _ _ _ 32 64 (omega arith));
+      (c.shorter_derivation_is_a_front.ensures _ _ _ _ 32 64 (omega arith));
 }

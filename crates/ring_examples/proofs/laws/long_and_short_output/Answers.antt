@@ -7,5 +7,5 @@ returns c = record {
       let long = c.in_ok-fill.ensures.ok k _ _ (c.in_ok-expand.ensures.ok k stands) in
       let short = c.in_ok-fill-2.ensures.ok k _ _ (c.in_ok-expand-2.ensures.ok k stands) in
       rw (short, long, c.in_ok-expand.ensures.algorithm, c.in_ok-expand-2.ensures.algorithm)
-      (c.law_5.ensures _ k _ 32 64 (omega arith));
+      (c.shorter_output_is_a_front.ensures _ k _ 32 64 (omega arith));
 }

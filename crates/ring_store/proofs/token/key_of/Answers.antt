@@ -2,7 +2,7 @@ use Rattle.std.proofs.Common.{rules, ◌≡◌, ℕ, List, length, codes, subst,
 use Rattle.ring.specs.Cost.{fill_blocks, key_blocks, raised}
 use Rattle.ring.specs.Hkdf.{okm}
 use Rattle.ring.specs.Hmac.{KeyStandsFor}
-use Rattle.ring.specs.Okm.{okm_algorithm, okm_info_len, okm_number}
+use Rattle.ring.specs.Okm.{okm_algorithm, okm_asked_len, okm_info_len}
 use Rattle.ring.specs.declared.digest.algorithm.Algorithm.{Algorithm}
 use Rattle.ring.specs.declared.digest.algorithm.TheConstants.{SHA256}
 use Rattle.ring.proofs.Costs.{raised-raised}
@@ -22,12 +22,12 @@ returns-clause-cost c =
     let output = c.in-Ok.ensures in
     let algorithm : okm_algorithm c.in-Ok.output ≡ SHA256 = output.algorithm ∙ c.requires in
     let before = c.args.meter.now in
-    let number = okm_number c.in-Ok.output in
+    let number = okm_asked_len c.in-Ok.output in
     let filled = c.in-Ok-fill_counted.ensures.cost
     ∙ ap (λ (a : Algorithm). raised before (fill_blocks a (okm_info_len c.in-Ok.output) number) 0)
     algorithm
     ∙ ap (λ n. raised before (fill_blocks SHA256 n number) 0) output.info_len
-    ∙ ap (λ n. raised before (fill_blocks SHA256 5 n) 0) output.number in
+    ∙ ap (λ n. raised before (fill_blocks SHA256 5 n) 0) output.asked_len in
     let len : length c.fill_counted.new.out ≡ 32 = search rules in
     c.in-Ok-new_counted.ensures.cost
     ∙ ap (λ n. raised c.fill_counted.new.meter (key_blocks SHA256 n) 0) len

@@ -2,7 +2,7 @@ use Rattle.std.proofs.Common.{◌≡◌, ◌∙◌, refl, ap, rules}
 use Rattle.std.proofs.lemmas.List.{length-map}
 use Rattle.ring.specs.Prelude.{Algorithm, AlgorithmId, As32, SHA1_FOR_LEGACY_USE_ONLY, Sha1}
 use Rattle.ring.specs.Prelude.{word_len}
-use Rattle.ring.proofs.Runs.{sha1_row, short_row, words_run, words_run_all}
+use Rattle.ring.proofs.lemmas.digest.Runs.{sha1_row, short_row, words_run, words_run_all}
 use Rattle.ring.proofs.digest.block_context.run_blocks_32.Goals as goal
 
 pub returns-then-is_sha1-clause-words : goal.returns-then-is_sha1-clause-words

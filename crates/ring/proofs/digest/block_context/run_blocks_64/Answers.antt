@@ -1,7 +1,7 @@
 use Rattle.std.proofs.Common.{◌≡◌, ◌∙◌, rules}
 use Rattle.std.proofs.lemmas.List.{length-map}
 use Rattle.ring.specs.Prelude.{As64, word_len}
-use Rattle.ring.proofs.Runs.{long_row, words_run_all}
+use Rattle.ring.proofs.lemmas.digest.Runs.{long_row, words_run_all}
 use Rattle.ring.proofs.digest.block_context.run_blocks_64.Goals as goal
 
 pub returns-clause-words : goal.returns-clause-words

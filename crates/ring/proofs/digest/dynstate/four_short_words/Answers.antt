@@ -2,7 +2,7 @@ use Rattle.std.proofs.Common.{◌+◌, ◌*◌, ◌<◌, ◌≤◌, ◌^◌, ◌
 use Rattle.std.proofs.Math.Nat.{mod-eq_of_lt}
 use Rattle.std.specs.Simd.Lanes.{Each1}
 use Rattle.ring.specs.Prelude.{word_bytes}
-use Rattle.ring.proofs.Outputs.{lane_bytes}
+use Rattle.ring.proofs.lemmas.digest.Outputs.{lane_bytes}
 use Rattle.ring.proofs.digest.dynstate.four_short_words.Goals as goal
 
 pub returns : goal.returns

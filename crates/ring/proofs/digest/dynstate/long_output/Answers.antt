@@ -2,7 +2,7 @@ use Rattle.std.proofs.Common.{◌≡◌, ◌+◌, ◌*◌, length, arith, rules,
 use Rattle.std.proofs.lemmas.List.{length-map}
 use Rattle.ring_core.specs.Prelude.{words_64}
 use Rattle.ring.specs.Prelude.{word_bytes}
-use Rattle.ring.proofs.Outputs.{two_words, output_more}
+use Rattle.ring.proofs.lemmas.digest.Outputs.{two_words, output_more}
 use Rattle.ring.proofs.digest.dynstate.long_output.Goals as goal
 
 pub pairs-preserved : goal.pairs-preserved

@@ -2,7 +2,7 @@ use Rattle.std.proofs.Common.{◌≡◌, ◌+◌, ◌*◌, length, arith, rules,
 use Rattle.std.proofs.lemmas.List.{length-map}
 use Rattle.ring_core.specs.Prelude.{words_32}
 use Rattle.ring.specs.Prelude.{word_bytes}
-use Rattle.ring.proofs.Outputs.{four_words, output_more}
+use Rattle.ring.proofs.lemmas.digest.Outputs.{four_words, output_more}
 use Rattle.ring.proofs.digest.dynstate.short_output.Goals as goal
 
 pub fours-preserved : goal.fours-preserved

@@ -1,4 +1,4 @@
-use Rattle.ring.proofs.Padding.{padded_is_padded}
+use Rattle.ring.proofs.lemmas.digest.Padding.{padded_is_padded}
 use Rattle.ring.proofs.digest.padding.padding_is_shortest.Goals as goal
 
 pub returns : goal.returns

@@ -2,7 +2,7 @@ use Rattle.std.proofs.Common.{◌≡◌, ◌∙◌, ℕ, ◌*◌, ap, List, arit
 use Rattle.std.specs.Int.{bytes_high_first}
 use Rattle.ring.specs.Prelude.{length_len}
 use Rattle.ring.proofs.Rows.{short_field}
-use Rattle.ring.proofs.Tails.{length_put}
+use Rattle.ring.proofs.lemmas.digest.Tails.{length_put}
 use Rattle.ring.proofs.digest.padding.put_length.Goals as goal
 
 pub returns-then-length_len-eq-LONG_LENGTH_LEN : goal.returns-then-length_len-eq-LONG_LENGTH_LEN

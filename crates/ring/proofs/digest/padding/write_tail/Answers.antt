@@ -1,5 +1,5 @@
 use Rattle.std.proofs.Common.{◌+◌, ◌/◌, ◌*◌, length, refl}
-use Rattle.ring.proofs.Tails.{tail_written}
+use Rattle.ring.proofs.lemmas.digest.Tails.{tail_written}
 use Rattle.ring.proofs.digest.padding.write_tail.Goals as goal
 
 pub returns-clause-bytes : goal.returns-clause-bytes

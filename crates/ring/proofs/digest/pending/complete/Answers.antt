@@ -1,6 +1,6 @@
 use Rattle.std.proofs.Common.{refl, arith, ◌∙◌}
 use Rattle.ring.proofs.Rows.{block_len-most}
-use Rattle.ring.proofs.Updating.{HasRoom, moved_fill, moved_none}
+use Rattle.ring.proofs.lemmas.digest.Updating.{HasRoom, moved_fill, moved_none}
 use Rattle.ring.proofs.digest.pending.complete.Goals as goal
 
 pub returns-then-num_pending-eq0 : goal.returns-then-num_pending-eq0

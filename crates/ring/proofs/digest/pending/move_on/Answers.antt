@@ -1,5 +1,5 @@
 use Rattle.std.proofs.Common.{refl}
-use Rattle.ring.proofs.Updating.{moved_both}
+use Rattle.ring.proofs.lemmas.digest.Updating.{moved_both}
 use Rattle.ring.proofs.digest.pending.move_on.Goals as goal
 
 pub returns-clause-moved : goal.returns-clause-moved

@@ -5,7 +5,7 @@ use Rattle.ring.specs.Prelude.{raised}
 use Rattle.ring.specs.Prelude.{update_each_blocks}
 use Rattle.ring.proofs.Costs.{raised-none}
 use Rattle.ring.proofs.Each.{message_at-part, raised-then}
-use Rattle.ring.proofs.Updates.{blocks-more, changed-none, changed-part}
+use Rattle.ring.proofs.lemmas.digest.Updates.{blocks-more, changed-none, changed-part}
 use Rattle.ring.proofs.digest.updates.update_all.Goals as goal
 
 pub parts-init : goal.parts-init

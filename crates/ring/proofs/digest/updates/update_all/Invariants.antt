@@ -1,6 +1,6 @@
 use Rattle.std.proofs.Common.{◌≡◌, ◌-◌, ◌≤◌, length, take}
 use Rattle.ring.specs.Prelude.{raised, update_each_blocks}
-use Rattle.ring.proofs.Updates.{HaveChanged, IsUpdatedAt}
+use Rattle.ring.proofs.lemmas.digest.Updates.{HaveChanged, IsUpdatedAt}
 use Rattle.ring.proofs.digest.updates.update_all.Given as goal
 
 abbrev pub decreases-parts : goal.decreases-parts

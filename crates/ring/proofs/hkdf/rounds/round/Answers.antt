@@ -27,14 +27,14 @@ returns-clause-cost c =
     let all = take_all c.loop-piece.piece-index c.args.info.now (omega arith) in
     let before = rw all at c.loop-piece.invariant in
     let bytes = c.args.previous.now ++ joined c.args.info.now in
-    let number = c.args.number ∷ [] in
+    let index = c.args.index ∷ [] in
     let whole =
-    fed_tag-more number before more.algorithm more.counted more.pending more.stands more.cost in
-    let len : length (bytes ++ number)
+    fed_tag-more index before more.algorithm more.counted more.pending more.stands more.cost in
+    let len : length (bytes ++ index)
     ≡ length c.args.previous.now + length (joined c.args.info.now) + 1 =
     omega (
       arith,
-      length-append bytes number,
+      length-append bytes index,
       length-append c.args.previous.now (joined c.args.info.now),
     ) in
     counted_tag whole.algorithm whole.taken c.in-Ok.ensures.cost

@@ -1,8 +1,10 @@
 use Rattle.std.proofs.Common.{◌≡◌, ◌+◌, ◌-◌, ◌*◌, ◌≤◌, ℕ, length, sym, ap, ◌∙◌, arith}
 use Rattle.std.proofs.lemmas.Grind.{common_steps}
-use Rattle.ring.specs.Prelude.{joined, key_algorithm, output_len, raised, t_of}
-use Rattle.ring.proofs.Expanding.{cost_first, cost_next, first_round, next_round, round-lt}
-use Rattle.ring.proofs.Expanding.{rounds_at, written-last, written-next, first_blocks, next_blocks}
+use Rattle.ring.specs.Prelude.{joined, key_algorithm, output_len, raised, hkdf_t}
+use Rattle.ring.proofs.lemmas.hkdf.Expanding.{cost_first, cost_next, first_round, next_round}
+use Rattle.ring.proofs.lemmas.hkdf.Expanding.{round-lt}
+use Rattle.ring.proofs.lemmas.hkdf.Expanding.{rounds_at, written-last, written-next, first_blocks}
+use Rattle.ring.proofs.lemmas.hkdf.Expanding.{next_blocks}
 use Rattle.ring.proofs.Pieces.{joined_blocks-none}
 use Rattle.ring.proofs.hkdf.rounds.write_output.Goals as goal
 
@@ -18,7 +20,7 @@ loop-out-init c =
       needed = λ h. omega arith;
       algorithm = round.algorithm;
       next = λ k h. first_round a k info (round.ok k h).bytes;
-      done = λ k h. sym (joined_blocks-none (t_of a k info));
+      done = λ k h. sym (joined_blocks-none (hkdf_t a k info));
       cost = cost_first a _ (length info) _ round.cost;
     }
 

@@ -1,6 +1,6 @@
 use Rattle.std.proofs.Common.{◌-◌, length}
 use Rattle.ring.specs.Prelude.{joined}
-use Rattle.ring.proofs.Expanding.{IsWritten}
+use Rattle.ring.proofs.lemmas.hkdf.Expanding.{IsWritten}
 use Rattle.ring.proofs.hkdf.rounds.write_output.Given as goal
 
 abbrev pub invariant-loop-out : goal.invariant-loop-out

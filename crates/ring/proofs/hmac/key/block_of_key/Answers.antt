@@ -1,5 +1,5 @@
 use Rattle.std.proofs.Common.{length, arith, ◌∙◌}
-use Rattle.ring.proofs.Keys.{key_block-short, key_block-long, key_digest_blocks-short}
+use Rattle.ring.proofs.lemmas.hmac.Keys.{key_block-short, key_block-long, key_digest_blocks-short}
 use Rattle.ring_core.proofs.Costs.{raised-none}
 use Rattle.ring.proofs.hmac.key.block_of_key.Goals as goal
 

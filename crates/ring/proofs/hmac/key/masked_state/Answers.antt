@@ -2,7 +2,7 @@ use Rattle.std.proofs.Common.{◌≡◌, length, take, arith, ap, ◌∙◌, len
 use Rattle.std.proofs.lemmas.List.{length-map, take-map}
 use Rattle.ring_core.specs.Prelude.{◌⊕◌}
 use Rattle.ring.specs.Prelude.{block_len, masked}
-use Rattle.ring.proofs.Keys.{taken_block}
+use Rattle.ring.proofs.lemmas.hmac.Keys.{taken_block}
 use Rattle.ring.proofs.Rows.{block_len-most}
 use Rattle.ring.proofs.hmac.key.masked_state.Goals as goal
 

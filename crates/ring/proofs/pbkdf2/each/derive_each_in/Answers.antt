@@ -2,12 +2,12 @@ use Rattle.std.proofs.Common.{◌≡◌, ◌<◌, ◌∙◌, [], ℕ, arith, get
 use Rattle.std.proofs.Common.{take_all}
 use Rattle.std.specs.Int.NonZero.{non_zero_u32_get}
 use Rattle.ring.specs.Prelude.{AreDerived, bytes_at, dk_at, pbkdf2_digest}
-use Rattle.ring.proofs.Rounds.{length-dk}
-use Rattle.ring.proofs.Taking.{taken-all}
+use Rattle.ring.proofs.lemmas.pbkdf2.Rounds.{length-dk}
+use Rattle.ring.proofs.lemmas.pbkdf2.Taking.{taken-all}
 use Rattle.ring.proofs.pbkdf2.each.derive_each_in.Goals as goal
 
-pub returns-clause-ok : goal.returns-clause-ok
-returns-clause-ok g c =
+pub returns : goal.returns
+returns g c =
     let same = c.hmac_algorithm-hmac_algorithm.ensures in
     let secrets = c.args.secrets.now in
     let made = rw same at c.derive_all.ensures.ok in
@@ -27,4 +27,9 @@ returns-clause-ok g c =
       count = omega (arith, rest.1, c.clear.auto.out, c.if-secrets-out.false);
       each = keys;
     } in
-    search (rules, rest.0, all)
+    record {
+      ok = search (rules, rest.0, all);
+      refused = search rules;
+      unchanged = search rules;
+      cost = search rules;
+    }

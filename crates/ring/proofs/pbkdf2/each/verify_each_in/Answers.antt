@@ -1,13 +1,13 @@
 use Rattle.std.proofs.Common.{◌≡◌, ◌↔◌, ◌<◌, [], ℕ, arith, false, get_or, length, refl, rules, true}
 use Rattle.std.specs.Int.NonZero.{non_zero_u32_get}
 use Rattle.ring.specs.Prelude.{AreVerified, CanVerify, IsDerived, bytes_at, pbkdf2_digest}
-use Rattle.ring.proofs.DerivedKeys.{derived-same}
-use Rattle.ring.proofs.Rounds.{length-dk}
-use Rattle.ring.proofs.Taking.{taken-all}
+use Rattle.ring.proofs.lemmas.pbkdf2.DerivedKeys.{derived-same}
+use Rattle.ring.proofs.lemmas.pbkdf2.Rounds.{length-dk}
+use Rattle.ring.proofs.lemmas.pbkdf2.Taking.{taken-all}
 use Rattle.ring.proofs.pbkdf2.each.verify_each_in.Goals as goal
 
-pub returns-clause-ok : goal.returns-clause-ok
-returns-clause-ok g c =
+pub returns : goal.returns
+returns g c =
     let same = c.hmac_algorithm-hmac_algorithm.ensures in
     let a = pbkdf2_digest c.args.algorithm in
     let iterations = non_zero_u32_get c.args.iterations in
@@ -39,4 +39,9 @@ returns-clause-ok g c =
       count = omega (arith, rest.2, c.fill.auto.self, c.if-matches-count.false);
       each = answers;
     } in
-    search (rules, rest.1, all)
+    record {
+      ok = search (rules, rest.1, all);
+      refused = search rules;
+      unchanged = search rules;
+      cost = search rules;
+    }

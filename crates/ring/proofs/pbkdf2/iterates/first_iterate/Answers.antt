@@ -1,6 +1,6 @@
 use Rattle.std.proofs.Common.{◌∙◌, ◌++◌, ap, length, sym}
 use Rattle.ring.specs.Prelude.{hmac_of, key_algorithm}
-use Rattle.ring.proofs.Iterates.{iterate-first}
+use Rattle.ring.proofs.lemmas.pbkdf2.Iterates.{pbkdf2_u-first}
 use Rattle.ring.proofs.Lengths.{counted_first, counted_more, counted_tag}
 use Rattle.ring.proofs.pbkdf2.iterates.first_iterate.Goals as goal
 
@@ -16,7 +16,7 @@ returns-clause-ok c = λ p h.
     (c.in-Ok.ensures.ok p _ stands).bytes
     ∙ ap (λ z. hmac_of z p (salt ++ c.to_be_bytes.result)) same
     ∙ ap (λ bytes. hmac_of a p (salt ++ bytes)) c.to_be_bytes.ensures
-    ∙ sym (iterate-first a p salt c.args.number)
+    ∙ sym (pbkdf2_u-first a p salt c.args.index)
 
 pub returns-clause-cost : goal.returns-clause-cost
 returns-clause-cost c =

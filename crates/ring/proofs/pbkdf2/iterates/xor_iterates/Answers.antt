@@ -1,6 +1,6 @@
 use Rattle.std.proofs.Common.{◌≡◌, arith, refl}
 use Rattle.std.specs.Int.NonZero.{non_zero_u32_get}
-use Rattle.ring.proofs.Iterates.{blocks-next, made-first, made-next}
+use Rattle.ring.proofs.lemmas.pbkdf2.Iterates.{blocks-next, made-first, made-next}
 use Rattle.ring.proofs.Sums.{raised-sum, raised_zero}
 use Rattle.ring.proofs.pbkdf2.iterates.xor_iterates.Goals as goal
 

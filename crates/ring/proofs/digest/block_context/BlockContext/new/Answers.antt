@@ -1,5 +1,5 @@
 use Rattle.std.proofs.Common.{refl}
-use Rattle.ring.proofs.Blocks.{HasTaken-nil}
+use Rattle.ring.proofs.lemmas.digest.Blocks.{HasTaken-nil}
 use Rattle.ring.proofs.digest.block_context.BlockContext.new.Goals as goal
 
 pub returns-clause-stands : goal.returns-clause-stands

@@ -1,8 +1,8 @@
 use Rattle.std.proofs.Common.{IsTrue, ◌≡◌, ◌∙◌}
 use Rattle.std.proofs.lemmas.List.{length-map}
 use Rattle.ring.specs.Prelude.{As32, As64, blocks_from, chaining_words, is_state_of}
-use Rattle.ring.proofs.Finishing.{digest_from, front_of}
-use Rattle.ring.proofs.Tails.{words_after-padded}
+use Rattle.ring.proofs.lemmas.digest.Finishing.{digest_from, front_of}
+use Rattle.ring.proofs.lemmas.digest.Tails.{words_after-padded}
 use Rattle.ring.proofs.digest.block_context.BlockContext.output_after.Goals as goal
 
 pub returns-in-As64-clause-ok : goal.returns-in-As64-clause-ok

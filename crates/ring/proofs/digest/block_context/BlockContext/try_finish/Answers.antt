@@ -1,8 +1,8 @@
 use Rattle.std.proofs.Common.{◌≡◌, ◌++◌, ◌+◌, ℕ, List, take, arith, sym, ◌∙◌, ap, length}
 use Rattle.ring.specs.Prelude.{Digest, block_words, blocks_from, bytes_of, counted_bytes, cut_off}
 use Rattle.ring.specs.Prelude.{digest_after, output_len, tail_of, word_bytes, word_len}
-use Rattle.ring.proofs.Finishing.{taken_len}
-use Rattle.ring.proofs.Tails.{padded-append}
+use Rattle.ring.proofs.lemmas.digest.Finishing.{taken_len}
+use Rattle.ring.proofs.lemmas.digest.Tails.{padded-append}
 use Rattle.ring.proofs.digest.block_context.BlockContext.try_finish.Goals as goal
 
 pub returns-clause-ok : goal.returns-clause-ok

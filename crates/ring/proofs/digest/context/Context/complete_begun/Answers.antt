@@ -1,7 +1,7 @@
 use Rattle.std.proofs.Common.{arith, sym}
 use Rattle.std.proofs.lemmas.List.{take-append-drop}
 use Rattle.ring.specs.Prelude.{IsUpdated}
-use Rattle.ring.proofs.GoingOn.{partway}
+use Rattle.ring.proofs.lemmas.digest.GoingOn.{partway}
 use Rattle.ring.proofs.Sums.{raised_zero}
 use Rattle.ring.proofs.digest.context.Context.complete_begun.Goals as goal
 

@@ -1,6 +1,6 @@
 use Rattle.std.proofs.Common.{◌∙◌, arith, refl}
 use Rattle.std.proofs.lemmas.List.{take_rest}
-use Rattle.ring.proofs.GoingOn.{HasRun, blocks_fit, updated_rest}
+use Rattle.ring.proofs.lemmas.digest.GoingOn.{HasRun, blocks_fit, updated_rest}
 use Rattle.ring.proofs.digest.context.Context.go_on.Goals as goal
 
 pub returns-clause-updated : goal.returns-clause-updated

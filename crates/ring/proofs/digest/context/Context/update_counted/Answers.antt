@@ -1,8 +1,9 @@
 use Rattle.std.proofs.Common.{ℕ, ◌≤◌, ◌++◌, List, length, refl, arith, ◌∙◌, ap, append_assoc, sym}
 use Rattle.ring.specs.Prelude.{block_words, digest_after, pending_bytes, raised}
 use Rattle.ring.proofs.Rows.{block_len-most}
-use Rattle.ring.proofs.Updating.{ahead_len, cost_moved, counted_moved, digest_moved, moved_none}
-use Rattle.ring.proofs.Updating.{pending_moved, stands_blocks, stands_moved}
+use Rattle.ring.proofs.lemmas.digest.Updating.{ahead_len, cost_moved, counted_moved, digest_moved}
+use Rattle.ring.proofs.lemmas.digest.Updating.{moved_none}
+use Rattle.ring.proofs.lemmas.digest.Updating.{pending_moved, stands_blocks, stands_moved}
 use Rattle.ring.proofs.digest.context.Context.update_counted.Goals as goal
 
 pub returns-then-input-room-clause-cost : goal.returns-then-input-room-clause-cost

@@ -2,7 +2,7 @@ use Rattle.std.proofs.Common.{◌≡◌, ◌+◌, ◌≤◌, ℕ, length, ap, �
 use Rattle.ring.specs.Prelude.{Algorithm, Counts, block_len, key_blocks, output_len, padded_blocks}
 use Rattle.ring.specs.Prelude.{raised}
 use Rattle.ring_core.proofs.Costs.{raised-raised}
-use Rattle.ring.proofs.Keys.{key_digest_blocks-short}
+use Rattle.ring.proofs.lemmas.hmac.Keys.{key_digest_blocks-short}
 use Rattle.ring.proofs.Rows.{output_below}
 use Rattle.ring.proofs.hkdf.salt.Salt.extract_counted.Goals as goal
 

@@ -1,7 +1,7 @@
 use Rattle.std.proofs.Common.{◌+◌, ℕ, ap, ◌∙◌}
 use Rattle.ring.specs.Prelude.{context_algorithm, raised}
 use Rattle.ring_core.proofs.Costs.{raised-raised}
-use Rattle.ring.proofs.Keys.{inner_last}
+use Rattle.ring.proofs.lemmas.hmac.Keys.{inner_last}
 use Rattle.ring.proofs.hmac.context.Context.sign_counted.Goals as goal
 
 pub returns-clause-cost : goal.returns-clause-cost

@@ -1,5 +1,5 @@
 use Rattle.std.proofs.Common.{refl}
-use Rattle.ring.proofs.Keys.{tag_is}
+use Rattle.ring.proofs.lemmas.hmac.Keys.{tag_is}
 use Rattle.ring.proofs.hmac.tag.Tag.of_inner.Goals as goal
 
 pub returns-clause-ok : goal.returns-clause-ok

@@ -1,5 +1,5 @@
 use Rattle.std.proofs.Common.{◌≡◌, ◌+◌, ◌-◌, arith, length}
-use Rattle.ring.proofs.Taking.{compared-part}
+use Rattle.ring.proofs.lemmas.pbkdf2.Taking.{compared-part}
 use Rattle.ring.proofs.pbkdf2.receiver.ComparedReceiver.take.Goals as goal
 
 pub returns-clause-ok : goal.returns-clause-ok

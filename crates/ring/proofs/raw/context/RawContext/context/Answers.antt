@@ -1,6 +1,6 @@
 use Rattle.std.proofs.Common.{rules}
 use Rattle.ring.specs.Prelude.{RawStandsFor, StandsFor}
-use Rattle.ring.proofs.Numbers.{is_context, taken_raw}
+use Rattle.ring.proofs.lemmas.raw.Numbers.{is_context, taken_raw}
 use Rattle.ring.proofs.raw.context.RawContext.context.Goals as goal
 
 pub returns-in_default-clause-stands : goal.returns-in_default-clause-stands

@@ -4,7 +4,7 @@ use Rattle.std.proofs.lemmas.Option.{same_Some}
 use Rattle.ring.specs.Prelude.{Algorithm, Digest, HasTaken, IsDigest, RawStandsFor, block_words}
 use Rattle.ring.specs.Prelude.{bytes_of, counted_bytes, cut_off, digest_after, digest_named}
 use Rattle.ring.specs.Prelude.{max_input_len, raw_digest_with, raw_message_len}
-use Rattle.ring.proofs.Numbers.{is_context, raw_last, raw_named, refused_raw, taken_raw}
+use Rattle.ring.proofs.lemmas.raw.Numbers.{is_context, raw_last, raw_named, refused_raw, taken_raw}
 use Rattle.ring.proofs.Outcomes.{if_ok_map, on_ok_map}
 use Rattle.ring.proofs.Rows.{block_len-most}
 use Rattle.ring.proofs.raw.context.RawContext.finish_counted.Goals as goal

@@ -3,7 +3,7 @@ use Rattle.std.proofs.Common.{append_assoc}
 use Rattle.std.proofs.Math.Nat.{mod-eq_of_lt}
 use Rattle.std.proofs.lemmas.Option.{same_Some}
 use Rattle.ring.specs.Prelude.{RawStandsFor, block_len, digest_after, raw_chaining}
-use Rattle.ring.proofs.Numbers.{kept, named_len}
+use Rattle.ring.proofs.lemmas.raw.Numbers.{kept, named_len}
 use Rattle.ring.proofs.Rows.{block_len-most}
 use Rattle.ring.proofs.raw.context.RawContext.keep.Goals as goal
 

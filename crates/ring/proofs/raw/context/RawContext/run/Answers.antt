@@ -1,6 +1,6 @@
 use Rattle.std.proofs.Common.{ap, arith, rules}
 use Rattle.ring.specs.Prelude.{block_len}
-use Rattle.ring.proofs.Numbers.{is_context, named_len}
+use Rattle.ring.proofs.lemmas.raw.Numbers.{is_context, named_len}
 use Rattle.ring.proofs.raw.context.RawContext.run.Goals as goal
 
 pub returns-in_default-clause-stands : goal.returns-in_default-clause-stands

@@ -1,9 +1,9 @@
 use Rattle.std.proofs.Common.{◌≡◌, ◌*◌, ◌++◌, Some, ap, arith, subst, sym, take, ◌∙◌}
 use Rattle.std.proofs.lemmas.Option.{same_Some}
 use Rattle.ring.specs.Prelude.{Algorithm, IsRawState, RawStandsFor, block_len}
-use Rattle.ring.proofs.Numbers.{AreOfBlock, added_moved, moved_message, taken_raw}
+use Rattle.ring.proofs.lemmas.raw.Numbers.{AreOfBlock, added_moved, moved_message, taken_raw}
 use Rattle.ring.proofs.Rows.{block_len-most}
-use Rattle.ring.proofs.Updating.{cost_moved}
+use Rattle.ring.proofs.lemmas.digest.Updating.{cost_moved}
 use Rattle.ring.proofs.raw.context.RawContext.run_from.Goals as goal
 
 pub returns-clause-stands : goal.returns-clause-stands

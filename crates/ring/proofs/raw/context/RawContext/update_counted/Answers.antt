@@ -2,8 +2,8 @@ use Rattle.std.proofs.Common.{◌≡◌, ◌≤◌, ◌+◌, ◌<◌, ℕ, Some,
 use Rattle.ring.specs.Prelude.{RawContext, RawStandsFor, block_len, digest_named, raised}
 use Rattle.ring.specs.Prelude.{whole_blocks}
 use Rattle.ring_core.proofs.Costs.{raised-none}
-use Rattle.ring.proofs.Blocks.{short_div}
-use Rattle.ring.proofs.Numbers.{named_len, raw_blocks, raw_named, raw_pending}
+use Rattle.ring.proofs.lemmas.digest.Blocks.{short_div}
+use Rattle.ring.proofs.lemmas.raw.Numbers.{named_len, raw_blocks, raw_named, raw_pending}
 use Rattle.ring.proofs.Rows.{block_len-most}
 use Rattle.ring.proofs.raw.context.RawContext.update_counted.Goals as goal
 

@@ -2,8 +2,8 @@ use Rattle.std.proofs.Common.{◌≡◌, sym, ap, subst, ◌∙◌, arith, lengt
 use Rattle.std.proofs.lemmas.Option.{same_Some}
 use Rattle.ring.specs.Prelude.{Algorithm, IsRawState, RawKeyStandsFor, block_len, cut_off}
 use Rattle.ring.specs.Prelude.{inner_block, outer_block}
-use Rattle.ring.proofs.Keys.{length-inner_block, length-outer_block}
-use Rattle.ring.proofs.Numbers.{key_stands}
+use Rattle.ring.proofs.lemmas.hmac.Keys.{length-inner_block, length-outer_block}
+use Rattle.ring.proofs.lemmas.raw.Numbers.{key_stands}
 use Rattle.ring.proofs.Rows.{block_len-most}
 use Rattle.ring.proofs.raw.key.RawKey.key.Goals as goal
 

@@ -1,8 +1,8 @@
 use Rattle.std.proofs.Common.{◌≡◌, ◌≤◌, rules, sym, ap, subst, ◌∙◌, arith, length}
 use Rattle.ring.specs.Prelude.{Algorithm, IsRawState, RawTagStandsFor, block_len, context_algorithm}
 use Rattle.ring.specs.Prelude.{cut_off, message_len, outer_block}
-use Rattle.ring.proofs.Keys.{length-outer_block, tag_stands}
-use Rattle.ring.proofs.Numbers.{key_block_counted, named_len}
+use Rattle.ring.proofs.lemmas.hmac.Keys.{length-outer_block, tag_stands}
+use Rattle.ring.proofs.lemmas.raw.Numbers.{key_block_counted, named_len}
 use Rattle.ring.proofs.Rows.{block_len-most}
 use Rattle.ring.proofs.raw.tag_context.RawTagContext.context.Goals as goal
 

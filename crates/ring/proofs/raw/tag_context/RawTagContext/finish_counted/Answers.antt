@@ -4,8 +4,8 @@ use Rattle.std.proofs.lemmas.Result.{IfOk-at_ok}
 use Rattle.ring.specs.Prelude.{Algorithm, IsDigest, IsRawState, RawTagStandsFor, block_len, cut_off}
 use Rattle.ring.specs.Prelude.{inner_block, outer_block}
 use Rattle.ring_core.proofs.Costs.{raised-raised}
-use Rattle.ring.proofs.Keys.{inner_last, inner_len, length-outer_block}
-use Rattle.ring.proofs.Numbers.{is_tag_context, tag_named}
+use Rattle.ring.proofs.lemmas.hmac.Keys.{inner_last, inner_len, length-outer_block}
+use Rattle.ring.proofs.lemmas.raw.Numbers.{is_tag_context, tag_named}
 use Rattle.ring.proofs.Rows.{block_len-most}
 use Rattle.ring.proofs.raw.tag_context.RawTagContext.finish_counted.Goals as goal
 

@@ -1,5 +1,5 @@
 use Rattle.std.proofs.Common.{rules}
-use Rattle.ring.proofs.Numbers.{key_block_counted}
+use Rattle.ring.proofs.lemmas.raw.Numbers.{key_block_counted}
 use Rattle.ring.proofs.raw.tag_context.RawTagContext.update_counted.Goals as goal
 
 pub returns-else-counts_key_block-clause-stands : goal.returns-else-counts_key_block-clause-stands

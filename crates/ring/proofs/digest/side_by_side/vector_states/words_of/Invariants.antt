@@ -1,8 +1,0 @@
-use Rattle.std.proofs.Common.{◌≡◌, ℕ, ◌<◌, [], get_or, length, map}
-use Rattle.ring.specs.Prelude.{DynState, words}
-use Rattle.ring.proofs.digest.side_by_side.vector_states.words_of.Given as goal
-
--- the words of the first i states are there
-abbrev pub invariant-lanes : goal.invariant-lanes
-invariant-lanes g l = (length l.all ≡ 8) × ((k : ℕ) (s : DynState) → k < l.i
-    → map g.W.Word.value (get_or l.all k []) ≡ words (get_or l.fn.states k s))

@@ -1,6 +1,0 @@
-use Rattle.std.proofs.Common.{ℕ, ◌/◌, ◌<◌, ◌≤◌, length}
-use Rattle.ring.specs.Prelude.{message_at}
-use Rattle.ring.proofs.digest.update_together.fewest_whole.Given as goal
-
-abbrev pub invariant-pieces : goal.invariant-pieces
-invariant-pieces g l = (k : ℕ) → k < l.i → l.fewest ≤ length (message_at l.pieces k) / g.row.N

@@ -1,0 +1,244 @@
+-- Bytes of words: which words they write, and what an exclusive or of words does to them.
+use Rattle.std.proofs.lemmas.Grind.{common_steps}
+use Rattle.std.proofs.Common.{◌≡◌, ℕ, zero, suc, ◌+◌, ◌*◌, ◌/◌, ◌%◌, ◌^◌, ◌<◌, ◌≤◌, List, [], ◌∷◌}
+use Rattle.std.proofs.Common.{◌++◌, length, map, take, drop, slice_index, refl, sym, ap, ◌∙◌, arith}
+use Rattle.std.proofs.Common.{length-append, length-drop, length-take-le, mod-lt, pow_pos, suc-mul}
+use Rattle.std.proofs.Common.{zero-mul}
+use Rattle.std.proofs.lemmas.List.{length-map, take-append-drop, take_at}
+use Rattle.std.specs.declared.num.Wrapping.{Wrapping}
+use Rattle.std.proofs.lemmas.Bool.{cases_lt}
+use Rattle.std.proofs.lemmas.List.Concat.{flat_map-append}
+use Rattle.std.proofs.lemmas.Nat.{be_bytes_4, be_bytes_8, mod-pow-add, pow-add, xor_mod, xor_shr}
+use Rattle.std.proofs.Math.Nat.{mod-eq_of_lt, pow-suc}
+use Rattle.std.proofs.Math.Seq.{drop-append-add}
+use Rattle.std.specs.Int.{byte_at, bytes_high_first}
+use Rattle.std.specs.Int.Digits.{number_from_digits_after}
+use Rattle.ring_core.specs.Prelude.{◌⊕◌, IsBlockOf, big_endian, word_at, xor_lists}
+use Rattle.ring.specs.Prelude.{Algorithm, digest_bytes, output_len, prepared_padding, word_bytes}
+use Rattle.ring.specs.Prelude.{word_len}
+use Rattle.ring_core.proofs.Bytes.{xor_lists-none, xor_lists-take}
+use Rattle.ring_core.proofs.Mapped.{past_front}
+use Rattle.ring.proofs.lemmas.digest.Outputs.{byte_is, length-bytes_high_first, length-word_bytes}
+
+-- one byte more
+more_bits : (i : ℕ) → 2 ^ (8 * suc i) ≡ 256 * 2 ^ (8 * i)
+more_bits i =
+    let turn : 8 * suc i ≡ 8 + 8 * i = omega arith in
+    ap (λ (z : ℕ). 2 ^ z) turn ∙ pow-add 2 8 (8 * i)
+
+pow_256 : (i : ℕ) → 256 ^ i ≡ 2 ^ (8 * i)
+pow_256 zero = refl
+pow_256 (suc i) = pow-suc 256 i ∙ omega (arith, pow_256 i, more_bits i)
+
+-- byte i of a number, by shifts
+byte-shifted : (i x : ℕ) → byte_at i x ≡ x / 2 ^ (8 * i) % 2 ^ 8
+byte-shifted i x = sym (byte_is i x) ∙ ap (λ (z : ℕ). x / z % 256) (pow_256 i)
+
+byte-xor : (i x y : ℕ) → byte_at i (x ⊕ y) ≡ byte_at i x ⊕ byte_at i y
+byte-xor i x y =
+    byte-shifted i (x ⊕ y) ∙ ap (λ (z : ℕ). z % 2 ^ 8) (xor_shr x y (8 * i))
+    ∙ xor_mod (x / 2 ^ (8 * i)) (y / 2 ^ (8 * i)) 8
+    ∙ ap (λ (z : ℕ). z ⊕ y / 2 ^ (8 * i) % 2 ^ 8) (sym (byte-shifted i x))
+    ∙ ap (λ (z : ℕ). byte_at i x ⊕ z) (sym (byte-shifted i y))
+
+bytes-xor : (n x y : ℕ)
+    → bytes_high_first n (x ⊕ y) ≡ xor_lists (bytes_high_first n x) (bytes_high_first n y)
+bytes-xor zero x y = refl
+bytes-xor (suc n) x y =
+    let first = byte-xor n x y in
+    let rest = bytes-xor n x y in
+    (λ t. first t ∷ rest t)
+
+xor-append : (xs us ys vs : List ℕ) → length xs ≡ length us
+    → xor_lists (xs ++ ys) (us ++ vs) ≡ xor_lists xs us ++ xor_lists ys vs
+xor-append [] [] ys vs same = refl
+xor-append [] (u ∷ us) ys vs same = absurd (omega arith)
+xor-append (x ∷ xs) [] ys vs same = absurd (omega arith)
+xor-append (x ∷ xs) (u ∷ us) ys vs same =
+    ap (λ zs. (x ⊕ u) ∷ zs) (xor-append xs us ys vs (omega arith))
+
+word_bytes-xor : (n : ℕ) (ws vs : List ℕ)
+    → word_bytes n (xor_lists ws vs) ≡ xor_lists (word_bytes n ws) (word_bytes n vs)
+word_bytes-xor n [] vs = refl
+word_bytes-xor n (w ∷ ws) [] = sym (xor_lists-none (word_bytes n (w ∷ ws)))
+word_bytes-xor n (w ∷ ws) (v ∷ vs) =
+    let same : length (bytes_high_first n w) ≡ length (bytes_high_first n v) =
+    length-bytes_high_first n w ∙ sym (length-bytes_high_first n v) in
+    ap (λ z. z ++ word_bytes n (xor_lists ws vs)) (bytes-xor n w v)
+    ∙ ap (λ z. xor_lists (bytes_high_first n w) (bytes_high_first n v) ++ z)
+    (word_bytes-xor n ws vs)
+    ∙ sym (xor-append (bytes_high_first n w) (bytes_high_first n v) (word_bytes n ws)
+    (word_bytes n vs) same)
+
+-- a front of an exclusive or is that of the front
+take-xor_lists : (n : ℕ) (xs ys : List ℕ) → take n (xor_lists xs ys) ≡ xor_lists (take n xs) ys
+take-xor_lists zero xs ys = refl
+take-xor_lists (suc n) [] ys = refl
+take-xor_lists (suc n) (x ∷ xs) [] = refl
+take-xor_lists (suc n) (x ∷ xs) (y ∷ ys) = ap (λ zs. (x ⊕ y) ∷ zs) (take-xor_lists n xs ys)
+
+take-short : (n : ℕ) (xs : List ℕ) → length (take n xs) ≤ n
+take-short zero xs = omega arith
+take-short (suc n) [] = omega arith
+take-short (suc n) (x ∷ xs) = omega (arith, take-short n xs)
+
+-- the digest of the exclusive or of words
+pub digest_bytes-xor : (a : Algorithm) (ws vs : List ℕ)
+    → digest_bytes a (xor_lists ws vs) ≡ xor_lists (digest_bytes a ws) (digest_bytes a vs)
+digest_bytes-xor a ws vs =
+    grind (arith, common_steps, take-short, word_bytes-xor, take-xor_lists, xor_lists-take)
+
+-- the number that its bytes write, after others
+number-bytes : (n x high : ℕ)
+    → number_from_digits_after 256 high (bytes_high_first n x)
+    ≡ high * 2 ^ (8 * n) + x % 2 ^ (8 * n)
+number-bytes zero x high = omega arith
+number-bytes (suc n) x high =
+    let p : ℕ = 2 ^ (8 * n) in
+    let turn : 8 + 8 * n ≡ 8 * suc n = omega arith in
+    let split : x % 2 ^ (8 * suc n) ≡ byte_at n x * p + x % p =
+    ap (λ (z : ℕ). x % 2 ^ z) (sym turn) ∙ mod-pow-add x 8 (8 * n)
+    ∙ ap (λ (z : ℕ). z * p + x % p) (sym (byte-shifted n x)) in
+    let more : 2 ^ (8 * suc n) ≡ 256 * p = more_bits n in
+    number-bytes n x (high * 256 + byte_at n x)
+    ∙ rw (split, more) (grind arith)
+
+word-number : (n x : ℕ) → x < 2 ^ (8 * n) → big_endian (bytes_high_first n x) ≡ x
+word-number n x fits = number-bytes n x 0 ∙ omega (arith, mod-eq_of_lt fits)
+
+-- the bytes of word j
+word_at-bytes : (n : ℕ) (ws : List ℕ) (j : ℕ) → j < length ws
+    → take n (drop (j * n) (word_bytes n ws)) ≡ bytes_high_first n (slice_index ws j)
+word_at-bytes n [] j below = absurd (omega arith)
+word_at-bytes n (w ∷ ws) zero below =
+    rw (zero-mul n)
+    (take_at (bytes_high_first n w) (word_bytes n ws) n (length-bytes_high_first n w))
+word_at-bytes n (w ∷ ws) (suc j) below =
+    let bytes : List ℕ = bytes_high_first n w in
+    let turn : suc j * n ≡ length bytes + j * n =
+    suc-mul j n ∙ omega (arith, length-bytes_high_first n w) in
+    ap (λ (z : ℕ). take n (drop z (bytes ++ word_bytes n ws))) turn
+    ∙ ap (take n) (drop-append-add bytes (word_bytes n ws) (j * n))
+    ∙ word_at-bytes n ws j (omega arith)
+
+-- each number of the list is below m
+abbrev pub AllBelow : ℕ → List ℕ → Type 0
+AllBelow m xs = (t : ℕ) → slice_index xs t < m
+
+pub map-below : {X : Type 0} (f : X → ℕ) (m : ℕ) (xs : List X) → 0 < m → ((x : X) → f x < m)
+    → AllBelow m (map f xs)
+map-below f m [] some each t = some
+map-below f m (x ∷ xs) some each zero = each x
+map-below f m (x ∷ xs) some each (suc t) = map-below f m xs some each t
+
+front-below : (m n : ℕ) (xs ys : List ℕ) → n ≤ length xs → AllBelow m xs → AllBelow m ys
+    → AllBelow m (take n xs ++ drop n ys)
+front-below m n xs ys room hx hy t =
+    grind (arith, common_steps, cases_lt, length-take-le, past_front)
+
+-- the words of w bits whose bytes these are
+block-words : (w n : ℕ) (ws : List ℕ) (t : ℕ) → w / 8 ≡ n → t < length ws
+    → AllBelow (2 ^ (8 * n)) ws → slice_index ws t ≡ word_at w (word_bytes n ws) t
+block-words w n ws t size below fits =
+    grind (arith, common_steps, word_at-bytes, word-number)
+
+-- a front of the bytes of words
+take-word_bytes : (n k : ℕ) (ws : List ℕ) → k ≤ length ws
+    → take (k * n) (word_bytes n ws) ≡ word_bytes n (take k ws)
+take-word_bytes n k ws room =
+    let front : List ℕ = word_bytes n (take k ws) in
+    let turn : n * k ≡ k * n = grind arith in
+    let long : length front ≡ k * n =
+    length-word_bytes n (take k ws) ∙ ap (λ (z : ℕ). n * z) (length-take-le k ws room) ∙ turn in
+    ap (λ z. take (k * n) (word_bytes n z)) (sym (take-append-drop k ws))
+    ∙ ap (take (k * n)) (flat_map-append (bytes_high_first n) (take k ws) (drop k ws))
+    ∙ take_at front (word_bytes n (drop k ws)) (k * n) long
+
+-- the numbers that words of w bits stand for
+abbrev pub values : (w : ℕ) → List (Wrapping ℕ) → List ℕ
+values w words = map (λ x. x.0 % 2 ^ w) words
+
+-- what is known of the words of w bits that pad a digest of k words
+pub record ArePadding (a : Algorithm) (w k : ℕ) (padding : List (Wrapping ℕ)) : Type 0 where
+  pub bits : w ≡ 8 * word_len a
+  pub digest : output_len a ≡ k * word_len a
+  pub room : k ≤ 8
+  pub sixteen : length padding ≡ 16
+  pub bytes : word_bytes (word_len a) (drop k (values w padding)) ≡ prepared_padding a
+
+-- with them, the words of a lane make a block
+pub padded-words : {X : Type 0} {a : Algorithm} {w k : ℕ} {padding : List (Wrapping ℕ)}
+    {f : X → ℕ} (xs : List X) → ArePadding a w k padding → length (map f xs) ≡ 8
+    → ((x : X) → f x < 2 ^ w)
+    → IsBlockOf w k (map f xs) (values w padding)
+    (digest_bytes a (map f xs) ++ prepared_padding a)
+padded-words {a = a} {w = w} {k = k} {padding = padding} {f} xs t eight each =
+    let n : ℕ = word_len a in
+    let ws : List ℕ = map f xs in
+    let vs : List ℕ = values w padding in
+    let all : List ℕ = take k ws ++ drop k vs in
+    let sixteen : length vs ≡ 16 = length-map padding _ ∙ t.sixteen in
+    let room : k ≤ length ws = omega (arith, t.room, eight) in
+    let long : length all ≡ 16 =
+    length-append (take k ws) (drop k vs)
+    ∙ omega (arith, length-take-le k ws room, length-drop k vs, sixteen, t.room) in
+    let below : AllBelow (2 ^ w) all =
+    front-below (2 ^ w) k ws vs room (map-below f (2 ^ w) xs (pow_pos w) each)
+    (map-below (λ (x : Wrapping ℕ). x.0 % 2 ^ w) (2 ^ w) padding (pow_pos w)
+    (λ x. mod-lt _ (pow_pos w))) in
+    let fits : AllBelow (2 ^ (8 * n)) all = λ (j : ℕ). rw (← t.bits) (below j) in
+    let front : word_bytes n (take k ws) ≡ digest_bytes a ws =
+    sym (take-word_bytes n k ws room) ∙ ap (λ (z : ℕ). take z (word_bytes n ws)) (sym t.digest) in
+    let block : word_bytes n all ≡ digest_bytes a ws ++ prepared_padding a =
+    flat_map-append (bytes_high_first n) (take k ws) (drop k vs)
+    ∙ ap (λ z. z ++ word_bytes n (drop k vs)) front
+    ∙ ap (λ z. digest_bytes a ws ++ z) t.bytes in
+    let size : w / 8 ≡ n = omega (arith, t.bits) in
+    record {
+      word = λ j below. block-words w n all j size (omega (arith, long)) fits
+          ∙ ap (λ z. word_at w z j) block;
+    }
+
+part-below : (n k : ℕ) (xs : List ℕ) → AllBelow 256 xs → AllBelow 256 (take n (drop k xs))
+part-below n k xs small t =
+    grind (arith, common_steps, cases_lt, take-short)
+
+short_back : (n : ℕ) (bs : List ℕ) → length bs ≡ 4 → AllBelow 256 bs → n ≡ big_endian bs
+    → bytes_high_first 4 (n % 2 ^ 32) ≡ bs
+short_back n (a ∷ b ∷ c ∷ d ∷ []) four small e =
+    be_bytes_4 (a ∷ b ∷ c ∷ d ∷ []) (n % 2 ^ 32) refl small
+    (omega (arith, e, small 0, small 1, small 2, small 3))
+short_back n _ four small e = absurd (omega arith)
+
+long_back : (n : ℕ) (bs : List ℕ) → length bs ≡ 8 → AllBelow 256 bs → n ≡ big_endian bs
+    → bytes_high_first 8 (n % 2 ^ 64) ≡ bs
+long_back n (a ∷ b ∷ c ∷ d ∷ f ∷ g ∷ h ∷ i ∷ []) eight small e =
+    be_bytes_8 (a ∷ b ∷ c ∷ d ∷ f ∷ g ∷ h ∷ i ∷ []) (n % 2 ^ 64) refl small
+    (omega (
+      arith,
+      e,
+      small 0,
+      small 1,
+      small 2,
+      small 3,
+      small 4,
+      small 5,
+      small 6,
+      small 7,
+    ))
+long_back n _ eight small e = absurd (omega arith)
+
+-- the bytes of a word that was read
+pub short_bytes : {n : ℕ} (k : ℕ) (xs : List ℕ) → length xs ≡ 64 → k + 4 ≤ 64 → AllBelow 256 xs
+    → n ≡ big_endian (take 4 (drop k xs)) → bytes_high_first 4 (n % 2 ^ 32) ≡ take 4 (drop k xs)
+short_bytes {n} k xs long room small e =
+    let len : length (take 4 (drop k xs)) ≡ 4 =
+    length-take-le 4 (drop k xs) (omega (arith, length-drop k xs)) in
+    short_back n (take 4 (drop k xs)) len (part-below 4 k xs small) e
+
+pub long_bytes : {n : ℕ} (k : ℕ) (xs : List ℕ) → length xs ≡ 64 → k + 8 ≤ 64 → AllBelow 256 xs
+    → n ≡ big_endian (take 8 (drop k xs)) → bytes_high_first 8 (n % 2 ^ 64) ≡ take 8 (drop k xs)
+long_bytes {n} k xs long room small e =
+    let len : length (take 8 (drop k xs)) ≡ 8 =
+    length-take-le 8 (drop k xs) (omega (arith, length-drop k xs)) in
+    long_back n (take 8 (drop k xs)) len (part-below 8 k xs small) e

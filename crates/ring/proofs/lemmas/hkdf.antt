@@ -1,0 +1,2 @@
+-- Lemmas of `hkdf`.
+pub mod Expanding

@@ -1,0 +1,3 @@
+-- Lemmas of `hmac`.
+pub mod Keys
+pub mod Comparing

@@ -1,0 +1,8 @@
+-- Lemmas of `pbkdf2`.
+pub mod Iterates
+pub mod Starts
+pub mod Rounds
+pub mod Places
+pub mod KeysAt
+pub mod DerivedKeys
+pub mod Taking

@@ -1,0 +1,64 @@
+-- Keys derived at several places.
+use Rattle.std.proofs.Common.{◌≡◌, ◌↔◌, ℕ, ◌+◌, ◌≤◌, [], ◌∷◌, ◌∙◌, Bool, List, ap, arith, length}
+use Rattle.std.proofs.Common.{refl, sym, take, take_all, true}
+use Rattle.std.specs.Borrow.{Bor}
+use Rattle.ring.specs.Prelude.{Algorithm, CanDeriveEach, CanVerify, IsDerived, Output}
+use Rattle.ring.specs.Prelude.{derive_blocks_at, dk, key_algorithm, sum_below}
+use Rattle.ring.specs.Prelude.{AreKeysOf, Key, KeyStandsFor}
+use Rattle.ring.proofs.Each.{message_at-part}
+use Rattle.ring.proofs.lemmas.pbkdf2.Places.{items_from, length-items_from}
+use Rattle.ring.proofs.lemmas.pbkdf2.Rounds.{length-dk}
+use Rattle.ring.proofs.Sums.{sum_below-append, sum_below-same}
+
+-- an output, of which lemmas speak past the end of a list
+abbrev pub no_output : Output
+no_output = record { 0 = [] }
+
+-- a key that is alone
+pub key-alone : {a : Algorithm} {key : Key} {p : List ℕ} → key_algorithm key ≡ a
+    → KeyStandsFor key p → AreKeysOf a (key ∷ []) (λ i. p)
+key-alone same stands =
+    record {
+      each = λ i d below.
+          let zero : i ≡ 0 = omega (arith, below) in
+          rw zero (record { algorithm = same; stands = stands });
+    }
+
+module _ (a : Algorithm) (salts secrets : List (Bor (List ℕ))) (c n : ℕ) where
+  -- the blocks at the first m places, and at k more
+  pub blocks-part : (m k : ℕ) → sum_below (derive_blocks_at a salts secrets c n) m
+      + sum_below (derive_blocks_at a (items_from m k salts) (items_from m k secrets) c n) k
+      ≡ sum_below (derive_blocks_at a salts secrets c n) (m + k)
+  blocks-part m k =
+      let all = derive_blocks_at a salts secrets c n in
+      let some = derive_blocks_at a (items_from m k salts) (items_from m k secrets) c n in
+      let same : sum_below some k ≡ sum_below (λ j. all (m + j)) k =
+      sum_below-same some (λ j. all (m + j)) k
+      (λ j h. rw (message_at-part secrets m k j h, message_at-part salts m k j h) refl) in
+      ap (λ (z : ℕ). sum_below all m + z) same ∙ sum_below-append all m k
+
+-- some of the keys can be derived where all can
+pub can_derive-part : {a : Algorithm} {m n : ℕ} (salts secrets : List (Bor (List ℕ))) (i k : ℕ)
+    → CanDeriveEach a salts secrets m n → i + k ≤ m
+    → CanDeriveEach a (items_from i k salts) (items_from i k secrets) k n
+can_derive-part salts secrets i k can fits =
+    record {
+      salt_count = length-items_from i k salts (omega (arith, can.salt_count, fits));
+      secret_count = length-items_from i k secrets (omega (arith, can.secret_count, fits));
+      each = λ j below. rw (message_at-part secrets i k j below, message_at-part salts i k j below)
+          (can.each (i + j) (omega (arith, fits, below)));
+    }
+
+-- a value within its limits is a derivation exactly where it begins with the derivation of its
+-- length
+pub derived-same : {a : Algorithm} {p s value : List ℕ} {c n : ℕ} {b start : Bool}
+    → CanVerify a (length p) (length s) n → length value ≡ n → start ≡ true
+    → (b ≡ true) ↔ ((start ≡ true) × (take (length (dk a p s c n)) value ≡ dk a p s c n))
+    → (b ≡ true) ↔ IsDerived a p s c value
+derived-same {a} {p} {s} {value} {c} {n} within long begun told =
+    let size = length-dk a p s c n in
+    let all : take (length (dk a p s c n)) value ≡ value =
+    take_all _ value (omega (arith, long, size)) in (
+      λ e. record { within = rw long within; same = rw long (sym all ∙ (told.0 e).1) },
+      λ e. told.1 (begun, all ∙ rw long at e.same),
+    )

@@ -1,0 +1,2 @@
+-- Lemmas of `raw`.
+pub mod Numbers

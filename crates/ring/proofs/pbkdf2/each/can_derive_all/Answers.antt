@@ -1,0 +1,27 @@
+use Rattle.std.proofs.Common.{below_more, length, rules, sym, true≢false}
+use Rattle.ring.specs.Prelude.{CanDerive, bytes_at}
+use Rattle.ring.proofs.Each.{message-read}
+use Rattle.ring.proofs.pbkdf2.each.can_derive_all.Goals as goal
+
+pub returns-then-not-can_derive : goal.returns-then-not-can_derive
+returns-then-not-can_derive c =
+    let i = c.places.i in
+    let secrets = c.args.secrets.now in
+    let salts = c.args.salts.now in (
+      λ told. absurd (true≢false (sym told)),
+      λ all. let within : CanDerive c.args.algorithm.now (length (bytes_at secrets i))
+          (length (bytes_at salts i)) c.args.len = all i c.places-test.true in
+          let read = rw (message-read secrets i, message-read salts i) at within in
+          search (rules, c.can_derive.ensures.1 read, c.if-not-can_derive.true),
+    )
+
+pub places-preserved : goal.places-preserved
+places-preserved c =
+    let i = c.places.i in
+    let secrets = c.args.secrets.now in
+    let salts = c.args.salts.now in
+    let this : CanDerive c.args.algorithm.now (length (bytes_at secrets i))
+    (length (bytes_at salts i)) c.args.len =
+    rw (message-read secrets i, message-read salts i)
+    (search (rules, c.if-not-can_derive.ensures)) in
+    below_more _ i c.places.invariant this

@@ -1,0 +1,17 @@
+use Rattle.std.proofs.Common.{◌≡◌, ℕ, ◌-◌, ◌<◌, ◌≤◌}
+use Rattle.ring.specs.Prelude.{IsRound, round_on}
+use Rattle.ring.proofs.pbkdf2.rounds.rounds_from.Given as goal
+
+-- so many rounds are counted, and this is the next
+abbrev pub invariant-rounds : goal.invariant-rounds
+invariant-rounds l =
+    let on = round_on l.algorithm l.len l.fn.first in
+    record {
+      places : (i : ℕ) → i < l.count → (on i).place < l.keys;
+      most : l.count ≤ 8;
+      here : l.round ≡ on l.count;
+      round : IsRound l.algorithm l.len l.round;
+    }
+
+abbrev pub decreases-rounds : goal.decreases-rounds
+decreases-rounds l = 8 - l.count

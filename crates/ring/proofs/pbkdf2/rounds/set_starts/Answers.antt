@@ -1,0 +1,47 @@
+use Rattle.std.proofs.Common.{◌≡◌, ◌∙◌, ap, arith, get_or, rules, sym}
+use Rattle.std.proofs.Math.ListN.{length-set}
+use Rattle.std.proofs.lemmas.List.{get_or_default}
+use Rattle.ring.specs.Prelude.{Key, key_algorithm}
+use Rattle.ring.proofs.Each.{message-read}
+use Rattle.ring.proofs.lemmas.pbkdf2.Places.{risen-next, risen-none}
+use Rattle.ring.proofs.lemmas.pbkdf2.Rounds.{is_round-next, round_on-next, round_on-none}
+use Rattle.ring.proofs.lemmas.pbkdf2.Starts.{start-made, starts-next}
+use Rattle.ring.proofs.pbkdf2.rounds.set_starts.Goals as goal
+
+pub starts-init : goal.starts-init
+starts-init c =
+    record {
+      here = sym (round_on-none c.args.algorithm c.args.len c.args.first);
+      round = c.requires.rounds.first;
+      starts = record { each = λ k key s t u below. absurd (omega (arith, below)) };
+      lengths = search rules;
+      cost = risen-none;
+    }
+
+pub starts-preserved : goal.starts-preserved
+starts-preserved c =
+    let a = c.args.algorithm in
+    let keys = c.args.keys.now in
+    let salts = c.args.salts.now in
+    let h = c.starts.invariant in
+    let i = c.starts.i in
+    let q = c.starts.round in
+    let can = rw (← h.here) at (c.requires.rounds.each i (omega arith)) in
+    let found = c.index-keys-round.result in
+    let is : (key : Key) → found ≡ get_or keys q.place key =
+    λ key. c.index-keys-round.is ∙ get_or_default keys q.place found key can.place in
+    let same = ap (λ (key : Key). key_algorithm key) (is found) ∙ can.algorithm found in
+    let tag = c.first_iterate-tag.ensures in
+    let made = start-made a found _ q.index c.first_iterate-tag.result c.bytes_of.result same
+    tag.algorithm tag.ok c.bytes_of.ensures c.with_bytes.ensures.sized c.with_bytes.ensures.bytes in
+    let starts = c.starts.starts in
+    record {
+      here = c.round_after-round.ensures
+          ∙ rw h.here (sym (round_on-next a c.args.len c.args.first i));
+      round = rw c.round_after-round.ensures (is_round-next h.round);
+      starts = starts-next starts.inner starts.outer starts.first i
+          (omega arith, (omega arith, omega arith)) h.starts
+          (λ key. rw (← h.here, ← is key, message-read salts q.place) made);
+      lengths = simp length-set h.lengths;
+      cost = risen-next h.cost (rw (← h.here, message-read salts q.place) (rw same at tag.cost));
+    }

@@ -1,0 +1,60 @@
+use Rattle.std.proofs.Common.{◌<◌, ◌-◌, ◌*◌, ◌∙◌, ap, arith, length, refl, sym}
+use Rattle.std.proofs.Math.ListN.{length-set}
+use Rattle.std.specs.Int.NonZero.{non_zero_u32_get}
+use Rattle.ring.specs.Prelude.{digest_bytes, first_blocks, round_on, words}
+use Rattle.ring.proofs.Lanes.{digest_written}
+use Rattle.ring.proofs.lemmas.pbkdf2.Places.{places-next}
+use Rattle.ring.proofs.lemmas.pbkdf2.Starts.{lane-round, sized-at, some-item, start-at}
+use Rattle.ring.proofs.Sums.{raised-sum, sum_below-more}
+use Rattle.ring.proofs.pbkdf2.rounds.write_rounds_in_lanes.Goals as goal
+
+pub new-inner-requires-clause-sized : goal.new-inner-requires-clause-sized
+new-inner-requires-clause-sized g c = λ i s below.
+    let place = (c.requires.rounds.each 0 (omega arith)).place in
+    let key = some-item c.args.keys.now (omega (arith, place)) in
+    (sized-at c.set_starts.ensures.starts i key s (omega (arith, below, c.requires.lanes))).0
+    ∙ rw c.requires.same at g.met.H.DigestBlock.sized
+
+pub new-outer-requires-clause-sized : goal.new-outer-requires-clause-sized
+new-outer-requires-clause-sized g c = λ i s below.
+    let place = (c.requires.rounds.each 0 (omega arith)).place in
+    let key = some-item c.args.keys.now (omega (arith, place)) in
+    (sized-at c.set_starts.ensures.starts i key s (omega (arith, below, c.requires.lanes))).1.0
+    ∙ rw c.requires.same at g.met.H.DigestBlock.sized
+
+pub new-first-requires-clause-sized : goal.new-first-requires-clause-sized
+new-first-requires-clause-sized g c = λ i s below.
+    let place = (c.requires.rounds.each 0 (omega arith)).place in
+    let key = some-item c.args.keys.now (omega (arith, place)) in
+    (sized-at c.set_starts.ensures.starts i key s (omega (arith, below, c.requires.lanes))).1.1
+    ∙ rw c.requires.same at g.met.H.DigestBlock.sized
+
+pub outputs-preserved : goal.outputs-preserved
+outputs-preserved g c =
+    let a = c.args.algorithm in
+    let i = c.outputs.i in
+    let state = c.state.result in
+    let output = c.format_output in
+    let lane : i < g.H.LaneStates.LANES = omega arith in
+    let below : i < length c.args.outputs.now = omega arith in
+    let sized = c.state.ensures.sized ∙ sym (rw c.requires.same at g.met.H.DigestBlock.sized) in
+    let written = digest_written a (words state) _ sized
+    output.ensures.count output.ensures.bytes ∙ ap (digest_bytes a) c.state.ensures.words in
+    let sums = rw c.requires.same at (c.xor_iterates-sums.ensures.ok i) in
+    let here = lane-round _ _
+    (λ key. start-at c.set_starts.ensures.starts i key state state state below) (
+      c.new-inner.ensures i state lane,
+      (c.new-outer.ensures i state lane, c.new-first.ensures i state lane),
+    ) sums written in
+    record {
+      written = places-next _ i c.outputs.invariant.written (omega arith) here;
+      count = simp length-set c.outputs.invariant.count;
+    }
+
+pub returns-clause-cost : goal.returns-clause-cost
+returns-clause-cost g c =
+    let a = c.args.algorithm in
+    raised-sum _ _ _ _ _ (rw c.requires.lanes at c.set_starts.ensures.cost)
+    c.xor_iterates-sums.ensures.cost
+    (sum_below-more (λ i. first_blocks a c.args.salts.now (round_on a c.args.len c.args.first i))
+    (2 * (non_zero_u32_get c.args.iterations - 1)) g.H.LaneStates.LANES) refl

@@ -1,0 +1,98 @@
+-- The rounds of keys of one length: all of one key before those of the next.
+use Rattle.std.specs.Prelude.{◌≡◌, ℕ, zero, suc, ◌+◌, ◌-◌, ◌*◌, ◌<◌, ◌≤◌, List, IsTrue}
+use Rattle.std.specs.Prelude.{get_or, if◌then◌else◌, length, min, nat_lt, take}
+use Rattle.std.specs.Borrow.{Bor}
+use Rattle.ring.specs.Algorithm.{output_len}
+use Rattle.ring.specs.Cost.{iterate_blocks, padded_blocks}
+use Rattle.ring.specs.DeriveEach.{bytes_at}
+use Rattle.ring.specs.Hmac.{KeyStandsFor, key_algorithm}
+use Rattle.ring.specs.Lanes.{IsKeyInLane, digest_bytes}
+use Rattle.ring.specs.Limits.{IsTagWithin, derive_rounds, max_dk_len}
+use Rattle.ring.specs.Pbkdf2.{pbkdf2_t, pbkdf2_u}
+use Rattle.ring.specs.Pieces.{joined_blocks}
+use Rattle.ring.specs.State.{is_state_of, words}
+use Rattle.ring.specs.declared.digest.algorithm.Algorithm.{Algorithm}
+use Rattle.ring.specs.declared.digest.dynstate.DynState.{DynState}
+use Rattle.ring.specs.declared.hmac.key.Key.{Key}
+use Rattle.ring.specs.declared.pbkdf2.rounds.Round.{Round}
+
+-- a round of a key of n bytes: it begins within the key, where the rounds of lower indices end
+pub record IsRound (a : Algorithm) (n : ℕ) (r : Round) : Type 0 where
+  pub some : 0 < r.index
+  pub begins : r.from + output_len a ≡ r.index * output_len a
+  pub within : r.from < n
+
+-- the round after r: the next of its key, or the first of the next one
+unfoldable pub next_round : Algorithm → ℕ → Round → Round
+next_round a n r =
+    if nat_lt (r.from + output_len a) n
+    then record { place = r.place; index = r.index + 1; from = r.from + output_len a }
+    else record { place = r.place + 1; index = 1; from = 0 }
+
+-- the k-th round after r
+unfoldable pub round_on : Algorithm → ℕ → Round → ℕ → Round
+round_on a n r zero = r
+round_on a n r (suc k) = next_round a n (round_on a n r k)
+
+-- the number of rounds before r at the place i
+unfoldable pub rounds_before : Algorithm → ℕ → Round → ℕ → ℕ
+rounds_before a n r i =
+    if nat_lt i r.place then derive_rounds a n else if nat_lt r.place i then 0 else r.index - 1
+
+-- of n bytes, those in the first k blocks of L bytes
+abbrev pub front : (L n : ℕ) → (ℕ → List ℕ) → ℕ → List ℕ
+front L n f k = take (min n (k * L)) (joined_blocks f k)
+
+-- what the key at the place i has of the rounds before r, where f i j is its round j
+abbrev pub bytes_before : Algorithm → ℕ → (ℕ → ℕ → List ℕ) → Round → ℕ → List ℕ
+bytes_before a n f r i = front (output_len a) n (f i) (rounds_before a n r i)
+
+-- the bytes of the rounds before r
+abbrev pub len_before : ℕ → Round → ℕ
+len_before n r = r.place * n + r.from
+
+-- the round has a key of the algorithm a at its place, and a salt within the limit of tags
+pub record CanRun (a : Algorithm) (keys : List Key) (salts : List (Bor (List ℕ))) (r : Round)
+    : Type 0 where
+  pub place : r.place < length keys
+  pub algorithm : (key : Key) → key_algorithm (get_or keys r.place key) ≡ a
+  pub within : IsTagWithin a (length (bytes_at salts r.place) + 4)
+
+-- the first m rounds from r on can be run, of keys of n bytes
+pub record AreRounds (a : Algorithm) (keys : List Key) (salts : List (Bor (List ℕ))) (n : ℕ)
+    (r : Round) (m : ℕ) : Type 0 where
+  pub first : IsRound a n r
+  pub numbers : n ≤ max_dk_len a
+  pub count : length salts ≡ length keys
+  pub each : (i : ℕ) → i < m → CanRun a keys salts (round_on a n r i)
+
+-- the states s, t and u are what the round starts from: its key's two, and the words of U_1
+pub record IsStart (a : Algorithm) (k : Key) (salt : List ℕ) (index : ℕ) (s t u : DynState)
+    : Type 0 where
+  pub inner_sized : IsTrue (is_state_of a s)
+  pub outer_sized : IsTrue (is_state_of a t)
+  pub first_sized : IsTrue (is_state_of a u)
+  pub key : (p : List ℕ) → KeyStandsFor k p → IsKeyInLane a (words s) (words t) p
+  pub first : (p : List ℕ) → KeyStandsFor k p
+      → digest_bytes a (words u) ≡ pbkdf2_u a p salt index 1
+
+-- the three lists have the states that each of the first m rounds from r on starts from
+pub record AreStarts (a : Algorithm) (keys : List Key) (salts : List (Bor (List ℕ))) (n : ℕ)
+    (r : Round) (inner outer first : List DynState) (m : ℕ) : Type 0 where
+  pub each : (i : ℕ) (key : Key) (s t u : DynState) → i < m
+      → IsStart a (get_or keys (round_on a n r i).place key)
+      (bytes_at salts (round_on a n r i).place) (round_on a n r i).index
+      (get_or inner i s) (get_or outer i t) (get_or first i u)
+
+-- the bytes begin with the round, after c iterations
+pub record BeginsWithRound (a : Algorithm) (keys : List Key) (salts : List (Bor (List ℕ)))
+    (r : Round) (c : ℕ) (bytes : List ℕ) : Type 0 where
+  pub round : (key : Key) (p : List ℕ) → KeyStandsFor (get_or keys r.place key) p
+      → take (output_len a) bytes ≡ pbkdf2_t a p (bytes_at salts r.place) r.index c
+
+-- the blocks of the round's first iterate, and of all c
+abbrev pub first_blocks : Algorithm → List (Bor (List ℕ)) → Round → ℕ
+first_blocks a salts r = padded_blocks a (length (bytes_at salts r.place) + 4) + 1
+
+abbrev pub round_blocks : Algorithm → List (Bor (List ℕ)) → (c : ℕ) → Round → ℕ
+round_blocks a salts c r = iterate_blocks a (length (bytes_at salts r.place)) c

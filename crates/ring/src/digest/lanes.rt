@@ -1,0 +1,4 @@
+//! Chaining states of one algorithm side by side, one in each lane.
+
+pub(crate) mod algorithms;
+pub(crate) mod states;

@@ -130,6 +130,9 @@ CALL(yz_hkdf_extract, , HKDF, algorithm,
 CALL(yz_hkdf_expand, , HKDF, algorithm,
      (uint32_t algorithm, IN(prk), IN(info), OUT(out)),
      (algorithm, BYTES(prk), BYTES(info), BYTES(out)))
+CALL(yz_hkdf_expand_label, , HKDF, algorithm,
+     (uint32_t algorithm, IN(secret), IN(label), IN(context), OUT(out)),
+     (algorithm, BYTES(secret), BYTES(label), BYTES(context), BYTES(out)))
 CALL(yz_hkdf, , HKDF, algorithm,
      (uint32_t algorithm, IN(salt), IN(secret), IN(info), OUT(out)),
      (algorithm, BYTES(salt), BYTES(secret), BYTES(info), BYTES(out)))

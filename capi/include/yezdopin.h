@@ -1,16 +1,17 @@
 /* SPDX-License-Identifier: ISC
  * Copyright 2026 the Yezdopin authors.
  *
- * Digests (FIPS 180-4), tags (HMAC, RFC 2104) and derived keys (HKDF, RFC 5869, and PBKDF2,
- * RFC 2898), each call proved to give the standard's bytes. What is proved and what is not stands
- * in README.md, which is installed as share/doc/yezdopin/README.md.
+ * Digests (FIPS 180-4), tags (HMAC, RFC 2104) and derived keys (HKDF, RFC 5869, also by the labels
+ * of TLS 1.3, RFC 8446; PBKDF2, RFC 2898), each call proved to give the standard's bytes. What is
+ * proved and what is not stands in README.md, which is installed as
+ * share/doc/yezdopin/README.md.
  *
  * Each call returns whatever it is given. It takes no memory from the system, keeps no state but a
  * byte that remembers what the processor has, and sets no errno, so that calls may run in any
  * threads at once, as long as no two share memory that one of them writes: one thread a context,
  * while one key serves all threads.
  *
- * The caller sees to it, and nothing tests, that
+ * The caller must ensure, unchecked, that
  * - a pointer with a length behind it is that of so many bytes, which may be read, or written where
  *   it is no pointer to const; where the length is 0 it may be NULL, but for that in a yz_message;
  * - what a call writes overlaps nothing else that it is given;
@@ -64,7 +65,7 @@ enum {
     YZ_UNKNOWN_CONTEXT = 2,   /* the bytes can be no context's or key's: see their types */
     YZ_WRONG_LENGTH = 3,      /* of what is to be written */
     YZ_NO_ITERATIONS = 4,     /* the number of iterations is 0 */
-    YZ_UNSPECIFIED = 5,       /* an input past its limit, or what was verified is something else */
+    YZ_UNSPECIFIED = 5,       /* an input out of limits, or what was verified is something else */
 };
 
 /* Bytes of a digest or a tag, and of a block. */
@@ -205,6 +206,17 @@ yz_status yz_hkdf(uint32_t algorithm, const uint8_t *salt, size_t salt_len,
                   const uint8_t *secret, size_t secret_len,
                   const uint8_t *info, size_t info_len,
                   uint8_t *out, size_t out_len) YZ_MUST_CHECK;
+
+/* HKDF-Expand-Label of TLS 1.3 and QUIC (RFC 8446, 7.1): expand, under the limit of its output, for
+ * the info that is made of `out_len`, the label behind the prefix "tls13 ", which the caller leaves
+ * out, and the context. A label has 1 to YZ_MAX_LABEL_LEN bytes and a context at most
+ * YZ_MAX_CONTEXT_LEN, or the call answers YZ_UNSPECIFIED. */
+#define YZ_MAX_LABEL_LEN 249
+#define YZ_MAX_CONTEXT_LEN 255
+yz_status yz_hkdf_expand_label(uint32_t algorithm, const uint8_t *secret, size_t secret_len,
+                               const uint8_t *label, size_t label_len,
+                               const uint8_t *context, size_t context_len,
+                               uint8_t *out, size_t out_len) YZ_MUST_CHECK;
 
 /* PBKDF2. `out_len` is at most YZ_PBKDF2_MAX_OUT_LEN of the algorithm's yz_output_len, or
  * yz_pbkdf2_derive answers YZ_WRONG_LENGTH. A verification answers YZ_OK exactly where `derived`

@@ -40,6 +40,7 @@ __typeof__(yz_hmac_update) v3_yz_hmac_update;
 __typeof__(yz_hmac_final) v3_yz_hmac_final;
 __typeof__(yz_hkdf_extract) v3_yz_hkdf_extract;
 __typeof__(yz_hkdf_expand) v3_yz_hkdf_expand;
+__typeof__(yz_hkdf_expand_label) v3_yz_hkdf_expand_label;
 __typeof__(yz_hkdf) v3_yz_hkdf;
 
 typedef struct {
@@ -57,6 +58,7 @@ typedef struct {
     __typeof__(yz_hmac_final) *hmac_final;
     __typeof__(yz_hkdf_extract) *hkdf_extract;
     __typeof__(yz_hkdf_expand) *hkdf_expand;
+    __typeof__(yz_hkdf_expand_label) *hkdf_expand_label;
     __typeof__(yz_hkdf) *hkdf;
 } build;
 
@@ -65,11 +67,11 @@ enum { V2, V3, BUILDS, MIXED = BUILDS, MAKERS };
 static const build BUILD[BUILDS] = {
     {yz_digest, yz_digest_init, yz_digest_update, yz_digest_final, yz_hmac_sign, yz_hmac_verify,
      yz_hmac_key_init, yz_hmac_key_sign, yz_hmac_key_verify, yz_hmac_init, yz_hmac_update,
-     yz_hmac_final, yz_hkdf_extract, yz_hkdf_expand, yz_hkdf},
+     yz_hmac_final, yz_hkdf_extract, yz_hkdf_expand, yz_hkdf_expand_label, yz_hkdf},
     {v3_yz_digest, v3_yz_digest_init, v3_yz_digest_update, v3_yz_digest_final, v3_yz_hmac_sign,
      v3_yz_hmac_verify, v3_yz_hmac_key_init, v3_yz_hmac_key_sign, v3_yz_hmac_key_verify,
      v3_yz_hmac_init, v3_yz_hmac_update, v3_yz_hmac_final, v3_yz_hkdf_extract, v3_yz_hkdf_expand,
-     v3_yz_hkdf},
+     v3_yz_hkdf_expand_label, v3_yz_hkdf},
 };
 
 /* The calls of both builds that run several side by side, as many as is usual and as are wide. */
@@ -172,6 +174,10 @@ static void expansion(uint32_t n, size_t len) {
                            len) == YZ_OK, "both steps in one");
         must(!memcmp(whole, out[0], len) && !memcmp(out[i], out[0], len), "outputs are the same");
     }
+    for (int i = 0; i < BUILDS; i++)
+        must(BUILD[i].hkdf_expand_label(n, secret, secret_len, message, salt_len + 1, info,
+                                        info_len, out[i], len) == YZ_OK, "an expansion by a label");
+    must(!memcmp(out[V2], out[V3], len), "and its outputs are");
 }
 
 /* Any bytes as contexts and keys. */

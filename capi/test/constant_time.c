@@ -136,9 +136,11 @@ static void expansions(uint32_t n) {
         hide_all();
         is(yz_hkdf_extract(n, key, LEN[i], message, other(i), tag, len), YZ_OK);
         is(yz_hkdf_expand(n, tag, len, key, other(i), out, LEN[i]), YZ_OK);
+        is(yz_hkdf_expand_label(n, tag, len, key, 1 + other(i) % YZ_MAX_LABEL_LEN, message,
+                                LEN[i] % YZ_MAX_CONTEXT_LEN, out, LEN[i]), YZ_OK);
         is(yz_hkdf(n, key, LEN[i], message, other(i), message, 9, out, 2 * LEN[i]), YZ_OK);
     }
-    end("HKDF of salt, secret, PRK and info", n, false);
+    end("HKDF of salt, secret, PRK, info, label and context", n, false);
 }
 
 static void derivations(uint32_t n) {

@@ -97,6 +97,9 @@ STAND_INS(yz_hkdf_extract, , (uint32_t a, in b, size_t c, in d, size_t e, out f,
           N(a), N(b), N(c), N(d), N(e), N(f), N(g))
 STAND_INS(yz_hkdf_expand, , (uint32_t a, in b, size_t c, in d, size_t e, out f, size_t g),
           N(a), N(b), N(c), N(d), N(e), N(f), N(g))
+STAND_INS(yz_hkdf_expand_label, ,
+          (uint32_t a, in b, size_t c, in d, size_t e, in f, size_t g, out h, size_t i),
+          N(a), N(b), N(c), N(d), N(e), N(f), N(g), N(h), N(i))
 STAND_INS(yz_hkdf, , (uint32_t a, in b, size_t c, in d, size_t e, in f, size_t g, out h, size_t i),
           N(a), N(b), N(c), N(d), N(e), N(f), N(g), N(h), N(i))
 STAND_INS(yz_pbkdf2_derive, _wide,
@@ -117,6 +120,7 @@ static const struct {
     {"yz_hmac_key_sign", "kplpl"}, {"yz_hmac_key_verify", "kplpl"}, {"yz_hmac_update", "tpl"},
     {"yz_hmac_final", "tpl"},
     {"yz_hkdf", "nplplplpl"}, {"yz_hkdf_extract", "nplplpl"}, {"yz_hkdf_expand", "nplplpl"},
+    {"yz_hkdf_expand_label", "nplplplpl"},
     {"yz_pbkdf2_derive", "nlplplpo"}, {"yz_pbkdf2_verify", "nlplplpo"},
 };
 enum { NUM_CALLS = sizeof CALLS / sizeof *CALLS, PBKDF2 = NUM_CALLS - 2 };
@@ -146,7 +150,8 @@ static yz_status call(int which, uint32_t n, size_t out_len) {
     case 11: return yz_hkdf(n, AT(1), 2, AT(3), 4, AT(5), 6, AT(7), 8);
     case 12: return yz_hkdf_extract(n, AT(1), 2, AT(3), 4, AT(5), 6);
     case 13: return yz_hkdf_expand(n, AT(1), 2, AT(3), 4, AT(5), 6);
-    case 14: return yz_pbkdf2_derive(n, 1, AT(2), 3, AT(4), 5, AT(6), out_len);
+    case 14: return yz_hkdf_expand_label(n, AT(1), 2, AT(3), 4, AT(5), 6, AT(7), 8);
+    case 15: return yz_pbkdf2_derive(n, 1, AT(2), 3, AT(4), 5, AT(6), out_len);
     default: return yz_pbkdf2_verify(n, 1, AT(2), 3, AT(4), 5, AT(6), out_len);
     }
 }
@@ -194,8 +199,8 @@ static const struct {
     int first, last;
     const char *work;
     size_t more; /* output of PBKDF2 than of one round */
-} ROWS[] = {{0, 2, "", 0}, {3, 3, "", 0}, {4, 10, "", 0}, {11, 13, "", 0},
-            {14, 15, ": one round of output", 0}, {14, 15, ": several rounds of output", 1}};
+} ROWS[] = {{0, 2, "", 0}, {3, 3, "", 0}, {4, 10, "", 0}, {11, 14, "", 0},
+            {15, 16, ": one round of output", 0}, {15, 16, ": several rounds of output", 1}};
 
 static void print_table(void) {
     known = V3;

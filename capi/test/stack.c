@@ -45,6 +45,9 @@ static void run(void) {
     case 15: status = yz_pbkdf2_derive(n, 3, bytes, 300, bytes, 400, out, sizeof out); break;
     case 16: status = yz_pbkdf2_verify(n, 3, bytes, 300, bytes, 400, out, sizeof out); break;
     case 17: status = yz_digest_each(n, messages, COUNT, out, COUNT * len); break;
+    case 18:
+        status = yz_hkdf_expand_label(n, bytes, 300, bytes, 249, bytes, 255, out, 400);
+        break;
     }
     if (status != YZ_OK) printf("call %d of algorithm %u answers %d\n", call, n, status);
 }
@@ -52,7 +55,7 @@ static void run(void) {
 int main(void) {
     static size_t most;
     for (n = YZ_SHA1; n <= YZ_SHA512; n++)
-        for (call = 0; call <= 17; call++) {
+        for (call = 0; call <= 18; call++) {
             static ucontext_t back, there;
             memset(stack, PAINT, ROOM);
             if (getcontext(&there)) return 2;

@@ -60,7 +60,8 @@ static void fill_at_random(void *memory, size_t len) {
 static void known_values(void) {
     static const uint8_t ABC[] = {0xba, 0x78, 0x16, 0xbf}, TAG[] = {0x5b, 0xdc, 0xc1, 0x46},
                          PRK[] = {0x07, 0x77, 0x09, 0x36}, OKM[] = {0x3c, 0xb2, 0x5f, 0x25},
-                         DK[] = {0xea, 0x6c, 0x01, 0x4d};
+                         DK[] = {0xea, 0x6c, 0x01, 0x4d}, DERIVED[] = {0x6f, 0x26, 0x15, 0xa1},
+                         zeros[32] = {0};
     uint8_t secret[22], salt[13], info[10], prk[32], out[42];
     /* FIPS 180-4's example. */
     IS(yz_digest(YZ_SHA256, text("abc"), 3, a, 32), YZ_OK);
@@ -84,6 +85,11 @@ static void known_values(void) {
     IS(memcmp(out, OKM, 4), 0);
     IS(yz_hkdf(YZ_SHA256, salt, 13, secret, 22, info, 10, out, 42), YZ_OK);
     IS(memcmp(out, OKM, 4), 0);
+    /* RFC 8448, 3: the secret "derived" of the early secret, for the hash of no message. */
+    IS(yz_hkdf_extract(YZ_SHA256, NULL, 0, zeros, 32, prk, 32), YZ_OK);
+    IS(yz_digest(YZ_SHA256, NULL, 0, a, 32), YZ_OK);
+    IS(yz_hkdf_expand_label(YZ_SHA256, prk, 32, text("derived"), 7, a, 32, out, 32), YZ_OK);
+    IS(memcmp(out, DERIVED, 4), 0);
     /* RFC 6070, 2. */
     IS(yz_pbkdf2_derive(YZ_SHA1, 2, text("salt"), 4, text("password"), 8, out, 20), YZ_OK);
     IS(memcmp(out, DK, 4), 0);
@@ -126,6 +132,8 @@ static void statuses(void) {
         IS(yz_hkdf_extract(n, NULL, 0, NULL, 0, a, len + 1), misfit);
         IS(yz_hkdf_extract(n, NULL, 0, NULL, 0, b, len), tagged);
         IS(yz_hkdf_expand(n, NULL, 0, NULL, 0, NULL, 0), tagged);
+        IS(yz_hkdf_expand_label(n, NULL, 0, b, 1, NULL, 0, NULL, 0), tagged);
+        IS(yz_hkdf_expand_label(n, NULL, 0, NULL, 0, NULL, 0, a, 1), other);
         IS(yz_hkdf(n, NULL, 0, NULL, 0, NULL, 0, NULL, 0), tagged);
         IS(yz_pbkdf2_derive(n, 0, NULL, 0, NULL, 0, a, 70), none);
         IS(yz_pbkdf2_derive(n, 1, NULL, 0, NULL, 0, NULL, 0), tagged);
@@ -193,11 +201,53 @@ static void longest_outputs(void) {
         size_t most = YZ_HKDF_MAX_OUT_LEN(OUTPUT[n]);
         IS(yz_hkdf(n, NULL, 0, NULL, 0, NULL, 0, out, most), YZ_OK);
         IS(yz_hkdf_expand(n, NULL, 0, NULL, 0, out, most), YZ_OK);
+        IS(yz_hkdf_expand_label(n, NULL, 0, b, 1, NULL, 0, out, most), YZ_OK);
         memset(out, 7, sizeof out);
         IS(yz_hkdf(n, NULL, 0, NULL, 0, NULL, 0, out, most + 1), YZ_WRONG_LENGTH);
         IS(yz_hkdf_expand(n, NULL, 0, NULL, 0, out, most + 1), YZ_WRONG_LENGTH);
+        IS(yz_hkdf_expand_label(n, NULL, 0, b, 1, NULL, 0, out, most + 1), YZ_WRONG_LENGTH);
+        IS(yz_hkdf_expand_label(n, NULL, 0, NULL, 0, NULL, 0, out, most + 1), YZ_WRONG_LENGTH);
         for (size_t i = 0; i < sizeof out; i++) IS(out[i], 7);
     }
+}
+
+/* HKDF-Expand-Label is HKDF's second step for this info (RFC 8446, 7.1): Length in two bytes, and
+ * the label behind its prefix and the context, each behind its length in one byte. */
+static void labels(void) {
+    static const size_t LABELS[] = {1, 7, 48, 49, 248, YZ_MAX_LABEL_LEN},
+                        CONTEXTS[] = {0, 1, 32, 64, 254, YZ_MAX_CONTEXT_LEN}, LENS[] = {0, 12, 700};
+    uint8_t info[2 + 1 + 255 + 1 + 255], want[700], out[700];
+    fill_at_random(message, 1000);
+    for (uint32_t n = YZ_SHA1; n <= YZ_SHA512; n++)
+        for (size_t i = 0; i < 6; i++)
+            for (size_t j = 0; j < 6; j++)
+                for (size_t k = 0; k < 3; k++) {
+                    size_t label_len = LABELS[i], context_len = CONTEXTS[j], len = LENS[k];
+                    const uint8_t *label = message + i, *context = message + 300 + j;
+                    uint8_t *at = info;
+                    *at++ = (uint8_t)(len >> 8), *at++ = (uint8_t)len;
+                    *at++ = (uint8_t)(6 + label_len), memcpy(at, "tls13 ", 6), at += 6;
+                    memcpy(at, label, label_len), at += label_len;
+                    *at++ = (uint8_t)context_len, memcpy(at, context, context_len);
+                    at += context_len;
+                    IS(yz_hkdf_expand(n, message, 40, info, (size_t)(at - info), want, len), YZ_OK);
+                    IS(yz_hkdf_expand_label(n, message, 40, label, label_len, context, context_len,
+                                            out, len), YZ_OK);
+                    IS(memcmp(out, want, len), 0);
+                }
+}
+
+/* A label of no byte or of more than 249, and a context of more than 255, write nothing. */
+static void refused_labels(void) {
+    memset(a, 7, sizeof a);
+    for (uint32_t n = YZ_SHA1; n <= YZ_SHA512; n++) {
+        IS(yz_hkdf_expand_label(n, message, 40, message, 0, NULL, 0, a, 32), YZ_UNSPECIFIED);
+        IS(yz_hkdf_expand_label(n, message, 40, message, 250, NULL, 0, a, 32), YZ_UNSPECIFIED);
+        IS(yz_hkdf_expand_label(n, message, 40, message, SIZE_MAX, NULL, 0, a, 32),
+           YZ_UNSPECIFIED);
+        IS(yz_hkdf_expand_label(n, message, 40, message, 1, message, 256, a, 32), YZ_UNSPECIFIED);
+    }
+    for (size_t i = 0; i < sizeof a; i++) IS(a[i], 7);
 }
 
 /* An output of PBKDF2 a byte past its limit is of a wrong length, before the iterations are looked
@@ -403,6 +453,7 @@ int main(void) {
     IS(yz_version(), YZ_VERSION);
     known_values(), statuses(), several_messages();
     longest_outputs(), past_the_longest_derived();
+    labels(), refused_labels();
     contexts(), bytes_of_no_context(), past_the_limit();
     pieces(), garbage(), equality_and_clearing();
     if (failures) printf("%d failures\n", failures);

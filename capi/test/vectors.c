@@ -1,7 +1,8 @@
 /* SPDX-License-Identifier: ISC */
-/* Answers each line of the files that it is given (docs/LINES.md has their format) by these calls,
- * and compares with what stands behind `#= ` below the line, but for the number of blocks. The
- * digests are answered once more, all of an algorithm by one call. */
+/* Answers each line of the files that it is given (docs/LINES.md and docs/SCHEDULES.md have their
+ * formats) by these calls, and compares with what stands behind `#= ` below the line, but for the
+ * number of blocks. Lines of whole key schedules are passed over. The digests are answered once
+ * more, all of an algorithm by one call. */
 #include "yezdopin.h"
 #include <stdio.h>
 #include <stdlib.h>
@@ -143,6 +144,13 @@ static void answer(char **field, int count, char *text) {
         a = bytes_of(field[2]), b = bytes_of(field[3]), c = joined(field[4]);
         len = length_of(field[5]);
         status = expand(n, a, b, c, out, len);
+    } else if (!strcmp(field[0], "extract") && count == 4) {
+        a = bytes_of(field[2]), b = bytes_of(field[3]);
+        status = yz_hkdf_extract(n, a.bytes, a.len, b.bytes, b.len, out, len);
+    } else if (!strcmp(field[0], "expand-label") && count == 6) {
+        a = bytes_of(field[2]), b = bytes_of(field[3]), c = bytes_of(field[4]);
+        len = length_of(field[5]);
+        status = yz_hkdf_expand_label(n, a.bytes, a.len, b.bytes, b.len, c.bytes, c.len, out, len);
     } else if (!strcmp(field[0], "pbkdf2") && count == 6) {
         a = bytes_of(field[3]), b = bytes_of(field[4]), len = length_of(field[5]);
         status = yz_pbkdf2_derive(n, iterations, b.bytes, b.len, a.bytes, a.len, out, len);
@@ -161,6 +169,14 @@ static void answer(char **field, int count, char *text) {
     }
     strcpy(text, len ? "" : "-");
     for (size_t i = 0; i < len; i++) sprintf(text + 2 * i, "%02x", out[i]);
+}
+
+/* Whether a line is of a whole key schedule, for which there is no call. */
+static bool is_of_schedule(const char *line) {
+    static const char *const WORDS[] = {"tls13 ", "quic ", "packet "};
+    for (size_t i = 0; i < sizeof WORDS / sizeof *WORDS; i++)
+        if (!strncmp(line, WORDS[i], strlen(WORDS[i]))) return true;
+    return false;
 }
 
 /* Whether the answer to a line is the wanted one. */
@@ -218,6 +234,7 @@ int main(int count, char **names) {
         while (fgets(line, sizeof line, file)) {
             line[strcspn(line, "\n")] = 0;
             if (!strncmp(line, "#= ", 3)) {
+                if (is_of_schedule(last)) continue;
                 if (agrees(last, line + 3)) agree++;
                 else differ++;
                 keep(last, line + 3);

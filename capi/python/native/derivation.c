@@ -104,6 +104,34 @@ static PyObject *hkdf_expand(PyObject *Py_UNUSED(module), PyObject *const *args,
     return made(out, status);
 }
 
+static PyObject *hkdf_expand_label(PyObject *Py_UNUSED(module), PyObject *const *args,
+                                   Py_ssize_t args_len, PyObject *keywords)
+{
+    static const signature takes = {
+        "hkdf_expand_label", 5, 5, 5, {"hash_name", "secret", "label", "context", "length"}};
+    PyObject *values[5];
+    Py_buffer views[3];
+    uint32_t algorithm;
+    size_t len;
+    uint8_t *bytes = NULL;
+    if (!gather(&takes, args, args_len, keywords, values)) return NULL;
+    if (!algorithm_of_name(values[0], &algorithm) || !hkdf_len(values[4], algorithm, &len)) {
+        return NULL;
+    }
+    if (!borrow_all(values + 1, 3, views)) return NULL;
+    PyObject *out = new_bytes(len, &bytes);
+    yz_status status = YZ_OK;
+    if (out != NULL) {
+        PyThreadState *saved = let_others_run(len_of(&views[0]));
+        status = yz_hkdf_expand_label(algorithm, bytes_of(&views[0]), len_of(&views[0]),
+                                      bytes_of(&views[1]), len_of(&views[1]), bytes_of(&views[2]),
+                                      len_of(&views[2]), bytes, len);
+        go_on(saved);
+    }
+    give_back(views, 3);
+    return made(out, status);
+}
+
 /* The number of iterations. A number below 1 is refused as 0 is. */
 static bool iterations_of(PyObject *object, uint32_t *iterations)
 {
@@ -202,6 +230,10 @@ PyMethodDef derivation_functions[] = {
     {"hkdf_expand", METHOD(hkdf_expand), FAST,
      PyDoc_STR("hkdf_expand($module, /, hash_name, prk, info, length)\n--\n\n"
                "`length` bytes of output of a pseudorandom key for `info` (RFC 5869, 2.3).")},
+    {"hkdf_expand_label", METHOD(hkdf_expand_label), FAST,
+     PyDoc_STR("hkdf_expand_label($module, /, hash_name, secret, label, context, length)\n--\n\n"
+               "`length` bytes of HKDF-Expand-Label (RFC 8446, 7.1). The label is without its "
+               "prefix.")},
     {"pbkdf2_hmac", METHOD(pbkdf2_hmac), FAST,
      PyDoc_STR("pbkdf2_hmac($module, /, hash_name, password, salt, iterations, dklen=None)\n--\n\n"
                "The key derived from a password (RFC 2898), as `hashlib.pbkdf2_hmac`.")},

@@ -98,6 +98,16 @@ class Keys(unittest.TestCase):
             self.assertEqual(yezdopin.hkdf_expand(name, prk, info, len(want)), want)
             self.assertEqual(yezdopin.hkdf(name, secret, salt, info, len(want)), want)
 
+    def test_labels(self):
+        """HKDF-Expand-Label is HKDF's second step for the info of RFC 8446, 7.1."""
+        for _ in range(TIMES):
+            name, prk, context = one_of(SIGNING), some(300), some(256)
+            label, length = some(249) + b"x", below(600)
+            info = length.to_bytes(2, "big") + bytes([6 + len(label)]) + b"tls13 " + label
+            want = yezdopin.hkdf_expand(name, prk, info + bytes([len(context)]) + context, length)
+            got = yezdopin.hkdf_expand_label(name, prk, label, context, length)
+            self.assertEqual(got, want)
+
     def test_pbkdf2(self):
         for _ in range(TIMES):
             name, times, length = one_of(SIGNING), below(20) + 1, below(300) + 1
@@ -141,6 +151,12 @@ def answer(line):
     if word == "hkdf":
         salt, secret, info = map(whole, fields[:3])
         return yezdopin.hkdf(name, secret, salt, info, int(fields[3])).hex() or "-"
+    if word == "extract":
+        salt, secret = map(whole, fields)
+        return yezdopin.hkdf_extract(name, secret, salt).hex()
+    if word == "expand-label":
+        secret, label, context = map(whole, fields[:3])
+        return yezdopin.hkdf_expand_label(name, secret, label, context, int(fields[3])).hex() or "-"
     secret, salt = map(whole, fields[1:3])
     if word == "pbkdf2" and fields[3] == "0":
         return "-"  # as hashlib, the package refuses a key without bytes
@@ -161,9 +177,11 @@ def in_pieces(running, pieces):
 class Vectors(unittest.TestCase):
     def test_lines(self):
         seen, last = 0, ""
-        for path in sorted(VECTORS.glob("*.txt")):
+        for path in sorted([*VECTORS.glob("*.txt"), *VECTORS.glob("schedules/*.txt")]):
             for line in path.read_text().splitlines():
-                if line.startswith("#= "):
+                if line.startswith("#= ") and last.startswith(("tls13 ", "quic ", "packet ")):
+                    pass  # whole key schedules, for which there is no call
+                elif line.startswith("#= "):
                     want = line[3:].split(" ")[0]
                     try:
                         got = answer(last)

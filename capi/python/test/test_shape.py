@@ -108,6 +108,7 @@ class Arguments(unittest.TestCase):
             lambda: yezdopin.pbkdf2_hmac("sha1", b"", b"", 1.5),
             lambda: yezdopin.hkdf("sha256", b"", b"", b""),
             lambda: yezdopin.hkdf("sha256", b"", b"", b"", "8"),
+            lambda: yezdopin.hkdf_expand_label("sha256", b"", "derived", b"", 8),
             lambda: tags.Key("text", "sha256"),
             lambda: tags.Key(b"", 7),
             lambda: tags.Key(b""),
@@ -140,6 +141,7 @@ class Arguments(unittest.TestCase):
         self.is_refused(1, tags.new, b"", b"", yezdopin.sha512_256)
         self.is_refused(1, tags.digest, b"", b"", "sha512_256")
         self.is_refused(1, yezdopin.hkdf, "sha512_256", b"", b"", b"", 4)
+        self.is_refused(1, yezdopin.hkdf_expand_label, "sha512_256", b"", b"x", b"", 4)
         self.is_refused(1, yezdopin.pbkdf2_hmac, "sha512_256", b"", b"", 1)
         self.is_refused(4, yezdopin.pbkdf2_hmac, "sha256", b"", b"", 0, 4)
         self.is_refused(4, yezdopin.pbkdf2_hmac_verify, "sha256", b"", b"", 0, b"1234")
@@ -148,6 +150,12 @@ class Arguments(unittest.TestCase):
             self.assertEqual(len(yezdopin.hkdf(name, b"", b"", b"", most)), most)
             self.is_refused(3, yezdopin.hkdf, name, b"", b"", b"", most + 1)
             self.is_refused(3, yezdopin.hkdf_expand, name, b"", b"", 2**62)
+            label = yezdopin.hkdf_expand_label
+            self.assertEqual(len(label(name, b"", b"x" * 249, b"x" * 255, most)), most)
+            self.is_refused(3, label, name, b"", b"x", b"", most + 1)
+            self.is_refused(5, label, name, b"", b"", b"", 4)
+            self.is_refused(5, label, name, b"", b"x" * 250, b"", 4)
+            self.is_refused(5, label, name, b"", b"x", b"x" * 256, 4)
         with self.assertRaisesRegex(ValueError, "unsupported hash type md5"):
             yezdopin.new("md5")
 

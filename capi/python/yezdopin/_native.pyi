@@ -108,6 +108,13 @@ def hkdf_extract(
 def hkdf_expand(
     hash_name: str, prk: ReadableBuffer, info: ReadableBuffer, length: int
 ) -> bytes: ...
+def hkdf_expand_label(
+    hash_name: str,
+    secret: ReadableBuffer,
+    label: ReadableBuffer,
+    context: ReadableBuffer,
+    length: int,
+) -> bytes: ...
 def pbkdf2_hmac(
     hash_name: str,
     password: ReadableBuffer,

@@ -154,6 +154,17 @@ extern "C" {
         out: *mut u8,
         out_len: usize,
     ) -> i32;
+    pub fn yz_hkdf_expand_label(
+        algorithm: u32,
+        secret: *const u8,
+        secret_len: usize,
+        label: *const u8,
+        label_len: usize,
+        context: *const u8,
+        context_len: usize,
+        out: *mut u8,
+        out_len: usize,
+    ) -> i32;
     pub fn yz_pbkdf2_derive(
         algorithm: u32,
         iterations: u32,

@@ -217,7 +217,7 @@ impl Context {
     ///
     /// # Panics
     ///
-    /// Where the message is past the limit of [`digest`].
+    /// Where the message is longer than the limit of [`digest`].
     pub fn finish(self) -> Digest {
         // SAFETY: `raw` is ours, and `out` has room for `len` bytes.
         Digest::written(self.algorithm, |out, len| unsafe {

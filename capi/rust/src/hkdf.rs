@@ -194,6 +194,42 @@ impl Prk {
     }
 }
 
+impl Prk {
+    /// Fills `out` with HKDF-Expand-Label of TLS 1.3 and QUIC (RFC 8446, section 7.1). `ring` has
+    /// no such call.
+    ///
+    /// | Parameter           | RFC 8446, section 7.1              |
+    /// |---------------------|------------------------------------|
+    /// | the PRK             | Secret                             |
+    /// | `label`             | Label, without the prefix `tls13 ` |
+    /// | `context`           | Context                            |
+    /// | the length of `out` | Length                             |
+    ///
+    /// Refused where the label has not 1 to 249 bytes, the context has more than 255 bytes or `out`
+    /// more than 255 digests, with `out` unchanged.
+    pub fn expand_label(
+        &self,
+        label: &[u8],
+        context: &[u8],
+        out: &mut [u8],
+    ) -> Result<(), Unspecified> {
+        // SAFETY: all are lent for the call, `out` for writing.
+        done(unsafe {
+            calls::yz_hkdf_expand_label(
+                self.algorithm.number(),
+                self.value.0.as_ptr(),
+                self.value.0.len(),
+                label.as_ptr(),
+                label.len(),
+                context.as_ptr(),
+                context.len(),
+                out.as_mut_ptr(),
+                out.len(),
+            )
+        })
+    }
+}
+
 impl fmt::Debug for Prk {
     fn fmt(&self, f: &mut fmt::Formatter<'_>) -> fmt::Result {
         f.debug_tuple("Prk")

@@ -199,7 +199,7 @@ impl Context {
     ///
     /// # Panics
     ///
-    /// Where the message is past the limit of [`sign`].
+    /// Where the message is longer than the limit of [`sign`].
     pub fn sign(self) -> Tag {
         // SAFETY: `raw` is ours, and `out` has room for `len` bytes.
         let made = Digest::written(self.algorithm.0, |out, len| unsafe {

@@ -111,6 +111,14 @@ fn output_of(name: &str, salt: &str, secret: &str, info: &str, len: &str) -> Str
     hex(&out)
 }
 
+fn labelled_of(name: &str, secret: &str, label: &str, context: &str, len: &str) -> String {
+    let prk = hkdf::Prk::new_less_safe(hkdf_named(name), &bytes(secret));
+    let mut out = vec![0; len.parse().unwrap()];
+    prk.expand_label(&bytes(label), &bytes(context), &mut out)
+        .unwrap();
+    hex(&out)
+}
+
 fn derived_of(name: &str, iterations: &str, secret: &str, salt: &str, len: &str) -> String {
     let iterations: NonZeroU32 = iterations.parse().unwrap();
     let mut out = vec![0; len.parse().unwrap()];
@@ -146,6 +154,9 @@ fn answer(line: &str) -> String {
             verdict(hmac::verify(&key_named(name, key), &message, &bytes(tag)))
         }
         ["hkdf", name, salt, secret, info, len] => output_of(name, salt, secret, info, len),
+        ["expand-label", name, secret, label, context, len] => {
+            labelled_of(name, secret, label, context, len)
+        }
         ["pbkdf2", name, times, secret, salt, len] => derived_of(name, times, secret, salt, len),
         ["pbkdf2-verify", name, times, secret, salt, value] => {
             derived_is(name, times, secret, salt, value)
@@ -154,31 +165,43 @@ fn answer(line: &str) -> String {
     }
 }
 
-#[test]
-fn vectors() {
-    let mut seen = 0;
-    for entry in std::fs::read_dir(FOLDER).unwrap() {
-        let path = entry.unwrap().path();
-        // The folders in it have lines of other programs.
-        if path.is_dir() {
-            continue;
-        }
-        let text = std::fs::read_to_string(path).unwrap();
-        let mut last = "";
-        for line in text.lines() {
-            if let Some(wanted) = line.strip_prefix("#= ") {
-                let wanted = wanted.split(' ').next().unwrap();
-                let got = answer(last);
-                // A verification doesn't tell its cause.
-                let is_refused = got == "mismatch" && wanted == "refused";
-                assert!(got == wanted || is_refused, "{last}: {got}");
-                seen += 1;
-            } else if !line.is_empty() && !line.starts_with('#') {
-                last = line;
-            }
+// Whether a line is of a call that the crate has: those of whole key schedules are not.
+fn has_call(line: &str) -> bool {
+    let others = ["extract ", "packet ", "quic ", "tls13 "];
+    !others.iter().any(|word| line.starts_with(word))
+}
+
+// The answers that agree in a file.
+fn agreeing(text: &str) -> usize {
+    let (mut seen, mut last) = (0, "");
+    for line in text.lines() {
+        if let Some(wanted) = line.strip_prefix("#= ").filter(|_| has_call(last)) {
+            let wanted = wanted.split(' ').next().unwrap();
+            let got = answer(last);
+            // A verification doesn't tell its cause.
+            let is_refused = got == "mismatch" && wanted == "refused";
+            assert!(got == wanted || is_refused, "{last}: {got}");
+            seen += 1;
+        } else if !line.is_empty() && !line.starts_with('#') {
+            last = line;
         }
     }
-    assert!(seen > 0);
+    seen
+}
+
+#[test]
+fn vectors() {
+    for folder in [FOLDER.to_string(), format!("{FOLDER}/schedules")] {
+        let mut seen = 0;
+        for entry in std::fs::read_dir(folder).unwrap() {
+            let path = entry.unwrap().path();
+            // Other folders have lines of other programs.
+            if path.is_file() {
+                seen += agreeing(&std::fs::read_to_string(path).unwrap());
+            }
+        }
+        assert!(seen > 0);
+    }
 }
 
 #[test]
@@ -217,6 +240,28 @@ fn digests_of_several_messages() {
     for count in [0, 1, 3] {
         assert!(digest::digest_each(sha1, &three[..count], &mut two).is_err());
         assert!(two.iter().all(|made| made.as_ref()[0] == 0xba));
+    }
+}
+
+#[test]
+fn labels_within_their_limits() {
+    for name in ["SHA1", "SHA256", "SHA384", "SHA512"] {
+        let prk = hkdf::Prk::new_less_safe(hkdf_named(name), b"some bytes");
+        let most = 255 * hkdf::KeyType::len(&hkdf_named(name));
+        let (label, context, mut out) = (vec![7; 250], vec![7; 256], vec![7; most + 1]);
+        for (label, context, len) in [
+            (&label[..0], &context[..0], 32),
+            (&label[..250], &context[..0], 32),
+            (&label[..1], &context[..256], 32),
+            (&label[..1], &context[..0], most + 1),
+        ] {
+            assert!(prk.expand_label(label, context, &mut out[..len]).is_err());
+            assert!(out.iter().all(|byte| *byte == 7));
+        }
+        let (longest_label, longest_context) = (&label[..249], &context[..255]);
+        prk.expand_label(longest_label, longest_context, &mut out[..most])
+            .unwrap();
+        assert!(out.iter().any(|byte| *byte != 7));
     }
 }
 

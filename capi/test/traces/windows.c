@@ -99,6 +99,9 @@ static void derivations(uint32_t n, size_t l, size_t m) {
     WINDOW("HKDF's first step", YZ_OK, status = yz_hkdf_extract(n, a, l, b, m, tag, len));
     WINDOW("HKDF's second step", YZ_OK,
            status = yz_hkdf_expand(n, tag, len, a, m, out, 3 * len));
+    WINDOW("HKDF-Expand-Label", YZ_OK,
+           status = yz_hkdf_expand_label(n, tag, len, a, 1 + m % YZ_MAX_LABEL_LEN, b,
+                                         l % YZ_MAX_CONTEXT_LEN, out, 3 * len));
     WINDOW("PBKDF2", YZ_OK, status = yz_pbkdf2_derive(n, 3, a, l, b, m, out, 9 * len + 1));
     WINDOW("a right derived key", YZ_OK,
            status = yz_pbkdf2_verify(n, 3, a, l, b, m, out, 9 * len + 1));

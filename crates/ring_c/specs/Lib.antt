@@ -1,3 +1,6 @@
 pub mod Number
 pub mod Limits
 pub mod Each
+pub mod Label
+pub mod Verified
+pub mod Status

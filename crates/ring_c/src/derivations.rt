@@ -1,10 +1,12 @@
 //! Keys derived from passwords: PBKDF2 (RFC 2898, section 5.2).
 
-ghost use Rattle.std.specs.Prelude.{◌≡◌, ◌≢◌, ◌↔◌, ◌<◌, ◌≤◌, Some, None, length};
-ghost use Rattle.ring.specs.Limits.{CanDerive, max_dk_len};
-ghost use Rattle.ring.specs.Pbkdf2.{IsDerived, dk, pbkdf2_digest};
+ghost use Rattle.std.specs.Prelude.{◌≡◌, ◌≢◌, ◌==◌, Some, length, nat_lt, not};
+ghost use Rattle.ring.specs.Limits.{can_derive, max_dk_len};
+ghost use Rattle.ring.specs.Pbkdf2.{dk, pbkdf2_digest};
 ghost use Rattle.ring.specs.declared.pbkdf2.algorithm.Algorithm.{Algorithm};
 ghost use Rattle.ring_c.specs.Number.{pbkdf2_named};
+ghost use Rattle.ring_c.specs.Status.{no_cause, status_of};
+ghost use Rattle.ring_c.specs.Verified.{is_derived};
 
 use crate::number::pbkdf2_of_number;
 use crate::status::{NO_ITERATIONS, OK, UNKNOWN_ALGORITHM, UNSPECIFIED, WRONG_LENGTH};
@@ -24,17 +26,13 @@ fn derive<const BITS: usize>(
 ) -> i32
     ensures ok { (a : Algorithm) → pbkdf2_named algorithm ≡ Some a → result ≡ OK
         → out.new ≡ dk (pbkdf2_digest a) secret.now salt.now iterations (length out.old) }
-    ensures unknown { result ≡ UNKNOWN_ALGORITHM ↔ pbkdf2_named algorithm ≡ None }
-    ensures wrong_length { (a : Algorithm) → pbkdf2_named algorithm ≡ Some a
-        → (result ≡ WRONG_LENGTH ↔ max_dk_len (pbkdf2_digest a) < length out.old) }
-    ensures no_iterations { (a : Algorithm) → pbkdf2_named algorithm ≡ Some a
-        → length out.old ≤ max_dk_len (pbkdf2_digest a)
-        → (result ≡ NO_ITERATIONS ↔ iterations ≡ 0) }
-    ensures refused { (a : Algorithm) → pbkdf2_named algorithm ≡ Some a → 0 < iterations
-        → (result ≡ OK ↔ CanDerive (pbkdf2_digest a)
-        (length secret.now) (length salt.now) (length out.old)) }
-    ensures told { (a : Algorithm) → pbkdf2_named algorithm ≡ Some a → 0 < iterations
-        → length out.old ≤ max_dk_len (pbkdf2_digest a) → result ≢ OK → result ≡ UNSPECIFIED }
+    ensures status { result ≡ status_of UNKNOWN_ALGORITHM (pbkdf2_named algorithm) (λ a.
+        record no_cause {
+          wrong_length = nat_lt (max_dk_len (pbkdf2_digest a)) (length out.old);
+          no_iterations = iterations == 0;
+          unspecified = not (can_derive (pbkdf2_digest a)
+              (length secret.now) (length salt.now) (length out.old));
+        }) }
     ensures unchanged { result ≢ OK → out.new ≡ out.old }
 {
     let Some(algorithm) = pbkdf2_of_number(algorithm) else {
@@ -69,17 +67,13 @@ pub extern "C" fn yz_pbkdf2_derive(
 ) -> i32
     ensures ok { (a : Algorithm) → pbkdf2_named algorithm ≡ Some a → result ≡ OK
         → out.new ≡ dk (pbkdf2_digest a) secret.now salt.now iterations (length out.old) }
-    ensures unknown { result ≡ UNKNOWN_ALGORITHM ↔ pbkdf2_named algorithm ≡ None }
-    ensures wrong_length { (a : Algorithm) → pbkdf2_named algorithm ≡ Some a
-        → (result ≡ WRONG_LENGTH ↔ max_dk_len (pbkdf2_digest a) < length out.old) }
-    ensures no_iterations { (a : Algorithm) → pbkdf2_named algorithm ≡ Some a
-        → length out.old ≤ max_dk_len (pbkdf2_digest a)
-        → (result ≡ NO_ITERATIONS ↔ iterations ≡ 0) }
-    ensures refused { (a : Algorithm) → pbkdf2_named algorithm ≡ Some a → 0 < iterations
-        → (result ≡ OK ↔ CanDerive (pbkdf2_digest a)
-        (length secret.now) (length salt.now) (length out.old)) }
-    ensures told { (a : Algorithm) → pbkdf2_named algorithm ≡ Some a → 0 < iterations
-        → length out.old ≤ max_dk_len (pbkdf2_digest a) → result ≢ OK → result ≡ UNSPECIFIED }
+    ensures status { result ≡ status_of UNKNOWN_ALGORITHM (pbkdf2_named algorithm) (λ a.
+        record no_cause {
+          wrong_length = nat_lt (max_dk_len (pbkdf2_digest a)) (length out.old);
+          no_iterations = iterations == 0;
+          unspecified = not (can_derive (pbkdf2_digest a)
+              (length secret.now) (length salt.now) (length out.old));
+        }) }
     ensures unchanged { result ≢ OK → out.new ≡ out.old }
 {
     derive::<SSE>(algorithm, iterations, salt, secret, out)
@@ -99,17 +93,13 @@ pub extern "C" fn yz_pbkdf2_derive_wide(
 ) -> i32
     ensures ok { (a : Algorithm) → pbkdf2_named algorithm ≡ Some a → result ≡ OK
         → out.new ≡ dk (pbkdf2_digest a) secret.now salt.now iterations (length out.old) }
-    ensures unknown { result ≡ UNKNOWN_ALGORITHM ↔ pbkdf2_named algorithm ≡ None }
-    ensures wrong_length { (a : Algorithm) → pbkdf2_named algorithm ≡ Some a
-        → (result ≡ WRONG_LENGTH ↔ max_dk_len (pbkdf2_digest a) < length out.old) }
-    ensures no_iterations { (a : Algorithm) → pbkdf2_named algorithm ≡ Some a
-        → length out.old ≤ max_dk_len (pbkdf2_digest a)
-        → (result ≡ NO_ITERATIONS ↔ iterations ≡ 0) }
-    ensures refused { (a : Algorithm) → pbkdf2_named algorithm ≡ Some a → 0 < iterations
-        → (result ≡ OK ↔ CanDerive (pbkdf2_digest a)
-        (length secret.now) (length salt.now) (length out.old)) }
-    ensures told { (a : Algorithm) → pbkdf2_named algorithm ≡ Some a → 0 < iterations
-        → length out.old ≤ max_dk_len (pbkdf2_digest a) → result ≢ OK → result ≡ UNSPECIFIED }
+    ensures status { result ≡ status_of UNKNOWN_ALGORITHM (pbkdf2_named algorithm) (λ a.
+        record no_cause {
+          wrong_length = nat_lt (max_dk_len (pbkdf2_digest a)) (length out.old);
+          no_iterations = iterations == 0;
+          unspecified = not (can_derive (pbkdf2_digest a)
+              (length secret.now) (length salt.now) (length out.old));
+        }) }
     ensures unchanged { result ≢ OK → out.new ≡ out.old }
 {
     derive::<AVX2>(algorithm, iterations, salt, secret, out)
@@ -123,14 +113,12 @@ fn verify<const BITS: usize>(
     secret: &[u8],
     derived: &[u8],
 ) -> i32
-    ensures ok { (a : Algorithm) → pbkdf2_named algorithm ≡ Some a → 0 < iterations
-        → (result ≡ OK ↔ IsDerived (pbkdf2_digest a)
-        secret.now salt.now iterations derived.now) }
-    ensures unknown { result ≡ UNKNOWN_ALGORITHM ↔ pbkdf2_named algorithm ≡ None }
-    ensures no_iterations { (a : Algorithm) → pbkdf2_named algorithm ≡ Some a
-        → (result ≡ NO_ITERATIONS ↔ iterations ≡ 0) }
-    ensures told { (a : Algorithm) → pbkdf2_named algorithm ≡ Some a → 0 < iterations
-        → result ≢ OK → result ≡ UNSPECIFIED }
+    ensures { result ≡ status_of UNKNOWN_ALGORITHM (pbkdf2_named algorithm) (λ a.
+        record no_cause {
+          no_iterations = iterations == 0;
+          unspecified = not (is_derived (pbkdf2_digest a)
+              secret.now salt.now iterations derived.now);
+        }) }
 {
     let Some(algorithm) = pbkdf2_of_number(algorithm) else {
         return UNKNOWN_ALGORITHM;
@@ -159,14 +147,12 @@ pub extern "C" fn yz_pbkdf2_verify(
     secret: &[u8],
     derived: &[u8],
 ) -> i32
-    ensures ok { (a : Algorithm) → pbkdf2_named algorithm ≡ Some a → 0 < iterations
-        → (result ≡ OK ↔ IsDerived (pbkdf2_digest a)
-        secret.now salt.now iterations derived.now) }
-    ensures unknown { result ≡ UNKNOWN_ALGORITHM ↔ pbkdf2_named algorithm ≡ None }
-    ensures no_iterations { (a : Algorithm) → pbkdf2_named algorithm ≡ Some a
-        → (result ≡ NO_ITERATIONS ↔ iterations ≡ 0) }
-    ensures told { (a : Algorithm) → pbkdf2_named algorithm ≡ Some a → 0 < iterations
-        → result ≢ OK → result ≡ UNSPECIFIED }
+    ensures { result ≡ status_of UNKNOWN_ALGORITHM (pbkdf2_named algorithm) (λ a.
+        record no_cause {
+          no_iterations = iterations == 0;
+          unspecified = not (is_derived (pbkdf2_digest a)
+              secret.now salt.now iterations derived.now);
+        }) }
 {
     verify::<SSE>(algorithm, iterations, salt, secret, derived)
 }
@@ -183,14 +169,12 @@ pub extern "C" fn yz_pbkdf2_verify_wide(
     secret: &[u8],
     derived: &[u8],
 ) -> i32
-    ensures ok { (a : Algorithm) → pbkdf2_named algorithm ≡ Some a → 0 < iterations
-        → (result ≡ OK ↔ IsDerived (pbkdf2_digest a)
-        secret.now salt.now iterations derived.now) }
-    ensures unknown { result ≡ UNKNOWN_ALGORITHM ↔ pbkdf2_named algorithm ≡ None }
-    ensures no_iterations { (a : Algorithm) → pbkdf2_named algorithm ≡ Some a
-        → (result ≡ NO_ITERATIONS ↔ iterations ≡ 0) }
-    ensures told { (a : Algorithm) → pbkdf2_named algorithm ≡ Some a → 0 < iterations
-        → result ≢ OK → result ≡ UNSPECIFIED }
+    ensures { result ≡ status_of UNKNOWN_ALGORITHM (pbkdf2_named algorithm) (λ a.
+        record no_cause {
+          no_iterations = iterations == 0;
+          unspecified = not (is_derived (pbkdf2_digest a)
+              secret.now salt.now iterations derived.now);
+        }) }
 {
     verify::<AVX2>(algorithm, iterations, salt, secret, derived)
 }

@@ -1,12 +1,14 @@
 //! Digests (FIPS 180-4).
 
-ghost use Rattle.std.specs.Prelude.{◌≡◌, ◌≢◌, ◌↔◌, ◌++◌, [], ℕ, List, Some, None, length};
+ghost use Rattle.std.specs.Prelude.{◌≡◌, ◌≢◌, ◌↔◌, ◌++◌, [], ℕ, List, Some, length, ◌==◌, not};
 ghost use Rattle.ring.specs.Algorithm.{output_len};
 ghost use Rattle.ring.specs.Digest.{digest_of};
-ghost use Rattle.ring.specs.Limits.{IsMessageWithin};
-ghost use Rattle.ring.specs.Raw.{AreWords, HasAdded, IsNoContext, RawStandsFor, digest_named};
+ghost use Rattle.ring.specs.Limits.{IsMessageWithin, fits};
+ghost use Rattle.ring.specs.Raw.{AreWords, HasAdded, RawStandsFor, digest_named};
 ghost use Rattle.ring.specs.Raw.{raw_digest_with, raw_message_len};
 ghost use Rattle.ring.specs.declared.digest.algorithm.Algorithm.{Algorithm};
+ghost use Rattle.ring_c.specs.Limits.{is_no_context};
+ghost use Rattle.ring_c.specs.Status.{no_cause, status_of};
 
 use crate::status::{OK, UNKNOWN_ALGORITHM, UNKNOWN_CONTEXT, UNSPECIFIED, WRONG_LENGTH};
 use ring::digest::{self, Context};
@@ -21,14 +23,11 @@ use ring::raw::{RawContext, digest_of_number};
 pub extern "C" fn yz_digest(algorithm: u32, message: &[u8], out: &mut [u8]) -> i32
     ensures ok { (a : Algorithm) → digest_named algorithm ≡ Some a → result ≡ OK
         → out.new ≡ digest_of a message.now }
-    ensures unknown { result ≡ UNKNOWN_ALGORITHM ↔ digest_named algorithm ≡ None }
-    ensures wrong_length { (a : Algorithm) → digest_named algorithm ≡ Some a
-        → (result ≡ WRONG_LENGTH ↔ length out.old ≢ output_len a) }
-    ensures refused { (a : Algorithm) → digest_named algorithm ≡ Some a
-        → length out.old ≡ output_len a
-        → (result ≡ OK ↔ IsMessageWithin a (length message.now)) }
-    ensures told { (a : Algorithm) → digest_named algorithm ≡ Some a
-        → length out.old ≡ output_len a → result ≢ OK → result ≡ UNSPECIFIED }
+    ensures status { result ≡ status_of UNKNOWN_ALGORITHM (digest_named algorithm) (λ a.
+        record no_cause {
+          wrong_length = not (length out.old == output_len a);
+          unspecified = not (fits a (length message.now));
+        }) }
     ensures unchanged { result ≢ OK → out.new ≡ out.old }
 {
     let Some(algorithm) = digest_of_number(algorithm) else {
@@ -51,10 +50,11 @@ pub extern "C" fn yz_digest(algorithm: u32, message: &[u8], out: &mut [u8]) -> i
 #[unsafe(no_mangle)]
 pub extern "C" fn yz_digest_init(algorithm: u32, context: &mut RawContext) -> i32
     ensures ok { (a : Algorithm) → digest_named algorithm ≡ Some a
-        → result ≡ OK × RawStandsFor context.new a [] }
+        → RawStandsFor context.new a [] }
     ensures sized { (a : Algorithm) → digest_named algorithm ≡ Some a → result ≡ OK
         → AreWords a context.new.words }
-    ensures unknown { result ≡ UNKNOWN_ALGORITHM ↔ digest_named algorithm ≡ None }
+    ensures status { result
+        ≡ status_of UNKNOWN_ALGORITHM (digest_named algorithm) (λ a. no_cause) }
     ensures unchanged { result ≢ OK → context.new ≡ context.old }
 {
     let Some(algorithm) = digest_of_number(algorithm) else {
@@ -73,8 +73,8 @@ pub extern "C" fn yz_digest_update(context: &mut RawContext, input: &[u8]) -> i3
     ensures ok { (a : Algorithm) (m : List ℕ) → RawStandsFor context.old a m
         → result ≡ OK × RawStandsFor context.new a (m ++ input.now) }
     ensures any { result ≡ OK → HasAdded context.old context.new input.now }
-    ensures unknown { result ≡ UNKNOWN_CONTEXT ↔ IsNoContext context.old }
-    ensures told { result ≢ OK → result ≡ UNKNOWN_CONTEXT }
+    ensures status { result ≡ status_of UNKNOWN_CONTEXT (digest_named context.old.algorithm) (λ a.
+        record no_cause { unknown_context = is_no_context context.old }) }
     ensures unchanged { result ≢ OK → context.new ≡ context.old }
 {
     if !context.update(input) {
@@ -94,17 +94,14 @@ pub extern "C" fn yz_digest_final(context: &RawContext, out: &mut [u8]) -> i32
         → out.new ≡ digest_of a m }
     ensures any { (a : Algorithm) → digest_named context.now.algorithm ≡ Some a → result ≡ OK
         → out.new ≡ raw_digest_with a context.now [] (raw_message_len context.now) }
-    ensures unknown { result ≡ UNKNOWN_CONTEXT ↔ IsNoContext context.now }
-    ensures wrong_length { (a : Algorithm) → digest_named context.now.algorithm ≡ Some a
-        → result ≢ UNKNOWN_CONTEXT
-        → (result ≡ WRONG_LENGTH ↔ length out.old ≢ output_len a) }
-    ensures refused { (a : Algorithm) → digest_named context.now.algorithm ≡ Some a
-        → result ≢ UNKNOWN_CONTEXT → length out.old ≡ output_len a
-        → (result ≡ OK ↔ IsMessageWithin a (raw_message_len context.now)) }
+    ensures status { result ≡ status_of UNKNOWN_CONTEXT (digest_named context.now.algorithm) (λ a.
+        record no_cause {
+          unknown_context = is_no_context context.now;
+          wrong_length = not (length out.old == output_len a);
+          unspecified = not (fits a (raw_message_len context.now));
+        }) }
     ensures refused_of { (a : Algorithm) (m : List ℕ) → RawStandsFor context.now a m
         → length out.old ≡ output_len a → (result ≡ OK ↔ IsMessageWithin a (length m)) }
-    ensures told { result ≢ OK → result ≢ UNKNOWN_CONTEXT → result ≢ WRONG_LENGTH
-        → result ≡ UNSPECIFIED }
     ensures unchanged { result ≢ OK → out.new ≡ out.old }
 {
     let Some(named) = context.algorithm() else {

@@ -1,12 +1,14 @@
 //! Digests of several messages at once.
 
-ghost use Rattle.std.specs.Prelude.{◌≡◌, ◌≢◌, ◌↔◌, ◌++◌, ◌+◌, ◌*◌, ◌≤◌, Some, None};
-ghost use Rattle.std.specs.Prelude.{length, take, drop};
+ghost use Rattle.std.specs.Prelude.{◌≡◌, ◌≢◌, ◌==◌, ◌++◌, ◌+◌, ◌*◌, ◌≤◌, Some, length, take};
+ghost use Rattle.std.specs.Prelude.{not};
 ghost use Rattle.ring.specs.Algorithm.{output_len};
 ghost use Rattle.ring.specs.Each.{CanDigestEach};
 ghost use Rattle.ring.specs.Raw.{digest_named};
 ghost use Rattle.ring.specs.declared.digest.algorithm.Algorithm.{Algorithm};
 ghost use Rattle.ring_c.specs.Each.{bytes_of_each, digests_of};
+ghost use Rattle.ring_c.specs.Limits.{can_digest_each};
+ghost use Rattle.ring_c.specs.Status.{first_of, no_cause, status_of};
 
 use crate::status::{OK, UNKNOWN_ALGORITHM, UNSPECIFIED, WRONG_LENGTH};
 use ring::cost::Meter;
@@ -21,11 +23,12 @@ const GROUP: usize = 16;
 // Why the lengths are refused, if they are. One loop makes both tests: the compiler would turn a
 // loop that only adds up the output's length into a multiplication, and the library has none.
 fn status_of_lengths(algorithm: &Algorithm, messages: &[&[u8]], out_len: usize) -> i32
-    ensures wrong_length { result ≡ WRONG_LENGTH
-        ↔ out_len ≢ length messages.now * output_len algorithm.now }
-    ensures refused { out_len ≡ length messages.now * output_len algorithm.now
-        → (result ≡ OK ↔ CanDigestEach algorithm.now messages.now (length messages.now)) }
-    ensures told { result ≢ OK → result ≢ WRONG_LENGTH → result ≡ UNSPECIFIED }
+    ensures ok { result ≡ OK → (out_len ≡ length messages.now * output_len algorithm.now)
+        × CanDigestEach algorithm.now messages.now (length messages.now) }
+    ensures status { result ≡ first_of record no_cause {
+      wrong_length = not (out_len == length messages.now * output_len algorithm.now);
+      unspecified = not (can_digest_each algorithm.now messages.now);
+    } }
 {
     let output_len = algorithm.output_len();
     let max_input_len = algorithm.max_input_len();
@@ -97,16 +100,11 @@ fn write_each<const BITS: usize>(algorithm: &Algorithm, messages: &[&[u8]], out:
 fn digest_each<const BITS: usize>(algorithm: u32, messages: &[&[u8]], out: &mut [u8]) -> i32
     ensures ok { (a : Algorithm) → digest_named algorithm ≡ Some a → result ≡ OK
         → out.new ≡ digests_of a messages.now }
-    ensures unknown { result ≡ UNKNOWN_ALGORITHM ↔ digest_named algorithm ≡ None }
-    ensures wrong_length { (a : Algorithm) → digest_named algorithm ≡ Some a
-        → (result ≡ WRONG_LENGTH
-        ↔ length out.old ≢ length messages.now * output_len a) }
-    ensures refused { (a : Algorithm) → digest_named algorithm ≡ Some a
-        → length out.old ≡ length messages.now * output_len a
-        → (result ≡ OK ↔ CanDigestEach a messages.now (length messages.now)) }
-    ensures told { (a : Algorithm) → digest_named algorithm ≡ Some a
-        → length out.old ≡ length messages.now * output_len a → result ≢ OK
-        → result ≡ UNSPECIFIED }
+    ensures status { result ≡ status_of UNKNOWN_ALGORITHM (digest_named algorithm) (λ a.
+        record no_cause {
+          wrong_length = not (length out.old == length messages.now * output_len a);
+          unspecified = not (can_digest_each a messages.now);
+        }) }
     ensures unchanged { result ≢ OK → out.new ≡ out.old }
 {
     let Some(algorithm) = digest_of_number(algorithm) else {
@@ -128,16 +126,11 @@ fn digest_each<const BITS: usize>(algorithm: u32, messages: &[&[u8]], out: &mut 
 pub extern "C" fn yz_digest_each(algorithm: u32, messages: &[&[u8]], out: &mut [u8]) -> i32
     ensures ok { (a : Algorithm) → digest_named algorithm ≡ Some a → result ≡ OK
         → out.new ≡ digests_of a messages.now }
-    ensures unknown { result ≡ UNKNOWN_ALGORITHM ↔ digest_named algorithm ≡ None }
-    ensures wrong_length { (a : Algorithm) → digest_named algorithm ≡ Some a
-        → (result ≡ WRONG_LENGTH
-        ↔ length out.old ≢ length messages.now * output_len a) }
-    ensures refused { (a : Algorithm) → digest_named algorithm ≡ Some a
-        → length out.old ≡ length messages.now * output_len a
-        → (result ≡ OK ↔ CanDigestEach a messages.now (length messages.now)) }
-    ensures told { (a : Algorithm) → digest_named algorithm ≡ Some a
-        → length out.old ≡ length messages.now * output_len a → result ≢ OK
-        → result ≡ UNSPECIFIED }
+    ensures status { result ≡ status_of UNKNOWN_ALGORITHM (digest_named algorithm) (λ a.
+        record no_cause {
+          wrong_length = not (length out.old == length messages.now * output_len a);
+          unspecified = not (can_digest_each a messages.now);
+        }) }
     ensures unchanged { result ≢ OK → out.new ≡ out.old }
 {
     digest_each::<SSE>(algorithm, messages, out)
@@ -151,16 +144,11 @@ pub extern "C" fn yz_digest_each(algorithm: u32, messages: &[&[u8]], out: &mut [
 pub extern "C" fn yz_digest_each_wide(algorithm: u32, messages: &[&[u8]], out: &mut [u8]) -> i32
     ensures ok { (a : Algorithm) → digest_named algorithm ≡ Some a → result ≡ OK
         → out.new ≡ digests_of a messages.now }
-    ensures unknown { result ≡ UNKNOWN_ALGORITHM ↔ digest_named algorithm ≡ None }
-    ensures wrong_length { (a : Algorithm) → digest_named algorithm ≡ Some a
-        → (result ≡ WRONG_LENGTH
-        ↔ length out.old ≢ length messages.now * output_len a) }
-    ensures refused { (a : Algorithm) → digest_named algorithm ≡ Some a
-        → length out.old ≡ length messages.now * output_len a
-        → (result ≡ OK ↔ CanDigestEach a messages.now (length messages.now)) }
-    ensures told { (a : Algorithm) → digest_named algorithm ≡ Some a
-        → length out.old ≡ length messages.now * output_len a → result ≢ OK
-        → result ≡ UNSPECIFIED }
+    ensures status { result ≡ status_of UNKNOWN_ALGORITHM (digest_named algorithm) (λ a.
+        record no_cause {
+          wrong_length = not (length out.old == length messages.now * output_len a);
+          unspecified = not (can_digest_each a messages.now);
+        }) }
     ensures unchanged { result ≢ OK → out.new ≡ out.old }
 {
     digest_each::<AVX2>(algorithm, messages, out)

@@ -1,14 +1,16 @@
 //! Keys derived from secrets: HKDF (RFC 5869).
 
-ghost use Rattle.std.specs.Prelude.{◌≡◌, ◌≢◌, ◌↔◌, ℕ, ◌≤◌, ◌<◌};
-ghost use Rattle.std.specs.Prelude.{List, Some, None, length, IsTrue};
+ghost use Rattle.std.specs.Prelude.{◌≡◌, ◌≢◌, ◌↔◌, ◌==◌, ◌&&◌, ℕ, List, Some, length, IsTrue};
+ghost use Rattle.std.specs.Prelude.{nat_lt, not};
 ghost use Rattle.ring.specs.Algorithm.{output_len};
 ghost use Rattle.ring.specs.Hkdf.{PrkStandsFor, hkdf_digest, okm, prk_algorithm};
 ghost use Rattle.ring.specs.Hmac.{hmac_of};
-ghost use Rattle.ring.specs.Limits.{IsInfoWithin, IsOutputWithin, max_okm_len};
+ghost use Rattle.ring.specs.Limits.{IsOutputWithin, can_expand, fits, max_okm_len};
+ghost use Rattle.ring.specs.Pieces.{joined};
 ghost use Rattle.ring.specs.declared.hkdf.algorithm.Algorithm.{Algorithm};
-ghost use Rattle.ring_c.specs.Limits.{CanExpand, CanMake, CanSign};
+ghost use Rattle.ring_c.specs.Limits.{can_make, can_sign};
 ghost use Rattle.ring_c.specs.Number.{hkdf_named};
+ghost use Rattle.ring_c.specs.Status.{first_of, no_cause, status_of};
 
 use crate::number::hkdf_of_number;
 use crate::status::{OK, UNKNOWN_ALGORITHM, UNSPECIFIED, WRONG_LENGTH};
@@ -30,7 +32,7 @@ impl KeyType for Length {
 }
 
 // Whether so many bytes may be asked for.
-fn is_output_within(algorithm: &hkdf::Algorithm, len: usize) -> bool
+pub(crate) fn is_output_within(algorithm: &hkdf::Algorithm, len: usize) -> bool
     ensures { IsTrue result ↔ IsOutputWithin (hkdf_digest algorithm.now) len }
 {
     len as u128 <= max_okm_len(algorithm)
@@ -45,14 +47,11 @@ fn is_output_within(algorithm: &hkdf::Algorithm, len: usize) -> bool
 pub extern "C" fn yz_hkdf_extract(algorithm: u32, salt: &[u8], secret: &[u8], out: &mut [u8]) -> i32
     ensures ok { (a : Algorithm) → hkdf_named algorithm ≡ Some a → result ≡ OK
         → out.new ≡ hmac_of (hkdf_digest a) salt.now secret.now }
-    ensures unknown { result ≡ UNKNOWN_ALGORITHM ↔ hkdf_named algorithm ≡ None }
-    ensures wrong_length { (a : Algorithm) → hkdf_named algorithm ≡ Some a
-        → (result ≡ WRONG_LENGTH ↔ length out.old ≢ output_len (hkdf_digest a)) }
-    ensures refused { (a : Algorithm) → hkdf_named algorithm ≡ Some a
-        → length out.old ≡ output_len (hkdf_digest a)
-        → (result ≡ OK ↔ CanSign (hkdf_digest a) (length salt.now) (length secret.now)) }
-    ensures told { (a : Algorithm) → hkdf_named algorithm ≡ Some a
-        → length out.old ≡ output_len (hkdf_digest a) → result ≢ OK → result ≡ UNSPECIFIED }
+    ensures status { result ≡ status_of UNKNOWN_ALGORITHM (hkdf_named algorithm) (λ a.
+        record no_cause {
+          wrong_length = not (length out.old == output_len (hkdf_digest a));
+          unspecified = not (can_sign (hkdf_digest a) (length salt.now) (length secret.now));
+        }) }
     ensures unchanged { result ≢ OK → out.new ≡ out.old }
 {
     let Some(algorithm) = hkdf_of_number(algorithm) else {
@@ -77,15 +76,12 @@ pub extern "C" fn yz_hkdf_extract(algorithm: u32, salt: &[u8], secret: &[u8], ou
 pub extern "C" fn yz_hkdf_expand(algorithm: u32, prk: &[u8], info: &[u8], out: &mut [u8]) -> i32
     ensures ok { (a : Algorithm) → hkdf_named algorithm ≡ Some a → result ≡ OK
         → out.new ≡ okm (hkdf_digest a) prk.now info.now (length out.old) }
-    ensures unknown { result ≡ UNKNOWN_ALGORITHM ↔ hkdf_named algorithm ≡ None }
-    ensures wrong_length { (a : Algorithm) → hkdf_named algorithm ≡ Some a
-        → (result ≡ WRONG_LENGTH ↔ max_okm_len (hkdf_digest a) < length out.old) }
-    ensures refused { (a : Algorithm) → hkdf_named algorithm ≡ Some a
-        → IsOutputWithin (hkdf_digest a) (length out.old)
-        → (result ≡ OK
-        ↔ CanExpand (hkdf_digest a) (length prk.now) (length info.now) (length out.old)) }
-    ensures told { (a : Algorithm) → hkdf_named algorithm ≡ Some a
-        → IsOutputWithin (hkdf_digest a) (length out.old) → result ≢ OK → result ≡ UNSPECIFIED }
+    ensures status { result ≡ status_of UNKNOWN_ALGORITHM (hkdf_named algorithm) (λ a.
+        record no_cause {
+          wrong_length = nat_lt (max_okm_len (hkdf_digest a)) (length out.old);
+          unspecified = not (fits (hkdf_digest a) (length prk.now)
+              && can_expand (hkdf_digest a) (length info.now) (length out.old));
+        }) }
     ensures unchanged { result ≢ OK → out.new ≡ out.old }
 {
     let Some(algorithm) = hkdf_of_number(algorithm) else {
@@ -97,7 +93,7 @@ pub extern "C" fn yz_hkdf_expand(algorithm: u32, prk: &[u8], info: &[u8], out: &
     let Ok(prk) = Prk::new_less_safe(algorithm, prk) else {
         return UNSPECIFIED;
     };
-    fill(&prk, info, out)
+    fill(&prk, &[info], out)
 }
 
 /// Fills `out` with the output for `info` of the PRK that is extracted from `secret` with `salt`,
@@ -116,15 +112,12 @@ pub extern "C" fn yz_hkdf(
     ensures ok { (a : Algorithm) → hkdf_named algorithm ≡ Some a → result ≡ OK
         → out.new ≡ okm (hkdf_digest a)
         (hmac_of (hkdf_digest a) salt.now secret.now) info.now (length out.old) }
-    ensures unknown { result ≡ UNKNOWN_ALGORITHM ↔ hkdf_named algorithm ≡ None }
-    ensures wrong_length { (a : Algorithm) → hkdf_named algorithm ≡ Some a
-        → (result ≡ WRONG_LENGTH ↔ max_okm_len (hkdf_digest a) < length out.old) }
-    ensures refused { (a : Algorithm) → hkdf_named algorithm ≡ Some a
-        → IsOutputWithin (hkdf_digest a) (length out.old)
-        → (result ≡ OK ↔ CanMake (hkdf_digest a)
-        (length salt.now) (length secret.now) (length info.now) (length out.old)) }
-    ensures told { (a : Algorithm) → hkdf_named algorithm ≡ Some a
-        → IsOutputWithin (hkdf_digest a) (length out.old) → result ≢ OK → result ≡ UNSPECIFIED }
+    ensures status { result ≡ status_of UNKNOWN_ALGORITHM (hkdf_named algorithm) (λ a.
+        record no_cause {
+          wrong_length = nat_lt (max_okm_len (hkdf_digest a)) (length out.old);
+          unspecified = not (can_make (hkdf_digest a)
+              (length salt.now) (length secret.now) (length info.now) (length out.old));
+        }) }
     ensures unchanged { result ≢ OK → out.new ≡ out.old }
 {
     let Some(algorithm) = hkdf_of_number(algorithm) else {
@@ -139,21 +132,21 @@ pub extern "C" fn yz_hkdf(
     let Ok(prk) = salt.extract(secret) else {
         return UNSPECIFIED;
     };
-    fill(&prk, info, out)
+    fill(&prk, &[info], out)
 }
 
 // Fills `out` with the PRK's output for `info`.
-fn fill(prk: &Prk, info: &[u8], out: &mut [u8]) -> i32
+pub(crate) fn fill(prk: &Prk, info: &[&[u8]], out: &mut [u8]) -> i32
     requires { IsOutputWithin (prk_algorithm prk.now) (length out.old) }
     ensures ok { (k : List ℕ) → PrkStandsFor prk.now k → result ≡ OK
-        → out.new ≡ okm (prk_algorithm prk.now) k info.now (length out.old) }
-    ensures refused { result ≡ OK
-        ↔ IsInfoWithin (prk_algorithm prk.now) (length info.now) (length out.old) }
-    ensures told { result ≢ OK → result ≡ UNSPECIFIED }
+        → out.new ≡ okm (prk_algorithm prk.now) k (joined info.now) (length out.old) }
+    ensures status { result ≡ first_of record no_cause {
+      unspecified = not (can_expand (prk_algorithm prk.now)
+          (length (joined info.now)) (length out.old));
+    } }
     ensures unchanged { result ≢ OK → out.new ≡ out.old }
 {
-    let pieces = [info];
-    let Ok(output) = prk.expand(&pieces, Length(out.len())) else {
+    let Ok(output) = prk.expand(info, Length(out.len())) else {
         // The length was tested.
         unreachable!()
     };

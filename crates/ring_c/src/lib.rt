@@ -15,6 +15,7 @@ mod derivations;
 mod digests;
 mod each;
 mod expansions;
+mod labels;
 mod lengths;
 mod number;
 mod status;

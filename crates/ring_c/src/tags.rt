@@ -1,16 +1,18 @@
 //! Tags: HMAC (RFC 2104).
 
-ghost use Rattle.std.specs.Prelude.{◌≡◌, ◌≢◌, ◌↔◌, ◌++◌, [], ℕ, List, Some, None, length};
+ghost use Rattle.std.specs.Prelude.{◌≡◌, ◌≢◌, ◌↔◌, ◌++◌, [], ℕ, List, Some, length, ◌==◌, not};
 ghost use Rattle.ring.specs.Algorithm.{output_len};
 ghost use Rattle.ring.specs.Hmac.{KeyStandsFor, hmac_digest, hmac_of, key_algorithm, tag_under};
-ghost use Rattle.ring.specs.Limits.{IsMessageWithin, IsTagWithin};
-ghost use Rattle.ring.specs.Raw.{AreWords, HasBegun, IsNoKey, IsNoTagContext, RawKeyStandsFor};
+ghost use Rattle.ring.specs.Limits.{IsTagWithin, fits};
+ghost use Rattle.ring.specs.Raw.{AreWords, HasBegun, RawKeyStandsFor};
 ghost use Rattle.ring.specs.Raw.{RawTagStandsFor, TagHasAdded, digest_named, raw_message_len};
 ghost use Rattle.ring.specs.Raw.{raw_tag_under, raw_tag_with};
 ghost use Rattle.ring.specs.declared.digest.algorithm.Algorithm as digest;
 ghost use Rattle.ring.specs.declared.hmac.algorithm.Algorithm.{Algorithm};
-ghost use Rattle.ring_c.specs.Limits.{CanSign};
+ghost use Rattle.ring_c.specs.Limits.{can_sign, can_tag, is_no_tag_context};
 ghost use Rattle.ring_c.specs.Number.{hmac_named};
+ghost use Rattle.ring_c.specs.Status.{first_of, no_cause, status_of};
+ghost use Rattle.ring_c.specs.Verified.{is_raw_tag, is_tag};
 
 use crate::number::hmac_of_number;
 use crate::status::{OK, UNKNOWN_ALGORITHM, UNKNOWN_CONTEXT, UNSPECIFIED, WRONG_LENGTH};
@@ -23,8 +25,9 @@ pub(crate) fn write_tag(key: &Key, message: &[u8], out: &mut [u8]) -> i32
     ensures ok { (k : List ℕ) → KeyStandsFor key.now k → result ≡ OK
         → out.new ≡ hmac_of (key_algorithm key.now) k message.now }
     ensures any { result ≡ OK → out.new ≡ tag_under key.now message.now }
-    ensures refused { result ≡ OK ↔ IsTagWithin (key_algorithm key.now) (length message.now) }
-    ensures told { result ≢ OK → result ≡ UNSPECIFIED }
+    ensures status { result ≡ first_of record no_cause {
+      unspecified = not (can_tag (key_algorithm key.now) (length message.now));
+    } }
     ensures unchanged { result ≢ OK → out.new ≡ out.old }
 {
     let Ok(tag) = hmac::sign(key, message) else {
@@ -41,8 +44,7 @@ fn verify_tag(key: &Key, message: &[u8], tag: &[u8]) -> i32
         × (tag.now ≡ hmac_of (key_algorithm key.now) k message.now))) }
     ensures any { result ≡ OK ↔ (IsTagWithin (key_algorithm key.now) (length message.now)
         × (tag.now ≡ tag_under key.now message.now)) }
-    ensures refused { result ≡ OK → IsTagWithin (key_algorithm key.now) (length message.now) }
-    ensures told { result ≢ OK → result ≡ UNSPECIFIED }
+    ensures status { result ≢ OK → result ≡ UNSPECIFIED }
 {
     match hmac::verify(key, message, tag) {
         Ok(()) => OK,
@@ -59,14 +61,11 @@ fn verify_tag(key: &Key, message: &[u8], tag: &[u8]) -> i32
 pub extern "C" fn yz_hmac_sign(algorithm: u32, key: &[u8], message: &[u8], out: &mut [u8]) -> i32
     ensures ok { (a : Algorithm) → hmac_named algorithm ≡ Some a → result ≡ OK
         → out.new ≡ hmac_of (hmac_digest a) key.now message.now }
-    ensures unknown { result ≡ UNKNOWN_ALGORITHM ↔ hmac_named algorithm ≡ None }
-    ensures wrong_length { (a : Algorithm) → hmac_named algorithm ≡ Some a
-        → (result ≡ WRONG_LENGTH ↔ length out.old ≢ output_len (hmac_digest a)) }
-    ensures refused { (a : Algorithm) → hmac_named algorithm ≡ Some a
-        → length out.old ≡ output_len (hmac_digest a)
-        → (result ≡ OK ↔ CanSign (hmac_digest a) (length key.now) (length message.now)) }
-    ensures told { (a : Algorithm) → hmac_named algorithm ≡ Some a
-        → length out.old ≡ output_len (hmac_digest a) → result ≢ OK → result ≡ UNSPECIFIED }
+    ensures status { result ≡ status_of UNKNOWN_ALGORITHM (hmac_named algorithm) (λ a.
+        record no_cause {
+          wrong_length = not (length out.old == output_len (hmac_digest a));
+          unspecified = not (can_sign (hmac_digest a) (length key.now) (length message.now));
+        }) }
     ensures unchanged { result ≢ OK → out.new ≡ out.old }
 {
     let Some(algorithm) = hmac_of_number(algorithm) else {
@@ -88,11 +87,10 @@ pub extern "C" fn yz_hmac_sign(algorithm: u32, key: &[u8], message: &[u8], out: 
 /// is too long.
 #[unsafe(no_mangle)]
 pub extern "C" fn yz_hmac_verify(algorithm: u32, key: &[u8], message: &[u8], tag: &[u8]) -> i32
-    ensures ok { (a : Algorithm) → hmac_named algorithm ≡ Some a
-        → (result ≡ OK ↔ (CanSign (hmac_digest a) (length key.now) (length message.now)
-        × (tag.now ≡ hmac_of (hmac_digest a) key.now message.now))) }
-    ensures unknown { result ≡ UNKNOWN_ALGORITHM ↔ hmac_named algorithm ≡ None }
-    ensures told { result ≢ UNKNOWN_ALGORITHM → result ≢ OK → result ≡ UNSPECIFIED }
+    ensures { result ≡ status_of UNKNOWN_ALGORITHM (hmac_named algorithm) (λ a.
+        record no_cause {
+          unspecified = not (is_tag (hmac_digest a) key.now message.now tag.now);
+        }) }
 {
     let Some(algorithm) = hmac_of_number(algorithm) else {
         return UNKNOWN_ALGORITHM;
@@ -115,10 +113,8 @@ pub extern "C" fn yz_hmac_key_init(algorithm: u32, value: &[u8], key: &mut RawKe
     ensures sized { (a : Algorithm) → hmac_named algorithm ≡ Some a → result ≡ OK
         → AreWords (hmac_digest a) key.new.inner × AreWords (hmac_digest a) key.new.outer }
     ensures reserved { result ≡ OK → key.new.reserved ≡ 0 }
-    ensures unknown { result ≡ UNKNOWN_ALGORITHM ↔ hmac_named algorithm ≡ None }
-    ensures refused { (a : Algorithm) → hmac_named algorithm ≡ Some a
-        → (result ≡ OK ↔ IsMessageWithin (hmac_digest a) (length value.now)) }
-    ensures told { result ≢ UNKNOWN_ALGORITHM → result ≢ OK → result ≡ UNSPECIFIED }
+    ensures status { result ≡ status_of UNKNOWN_ALGORITHM (hmac_named algorithm) (λ a.
+        record no_cause { unspecified = not (fits (hmac_digest a) (length value.now)) }) }
     ensures unchanged { result ≢ OK → key.new ≡ key.old }
 {
     let Some(algorithm) = hmac_of_number(algorithm) else {
@@ -142,13 +138,11 @@ pub extern "C" fn yz_hmac_key_sign(key: &RawKey, message: &[u8], out: &mut [u8])
         → out.new ≡ hmac_of a k message.now }
     ensures any { (a : digest.Algorithm) → digest_named key.now.algorithm ≡ Some a → result ≡ OK
         → out.new ≡ raw_tag_under a key.now message.now }
-    ensures unknown { result ≡ UNKNOWN_CONTEXT ↔ IsNoKey key.now }
-    ensures wrong_length { (a : digest.Algorithm) → digest_named key.now.algorithm ≡ Some a
-        → (result ≡ WRONG_LENGTH ↔ length out.old ≢ output_len a) }
-    ensures refused { (a : digest.Algorithm) → digest_named key.now.algorithm ≡ Some a
-        → length out.old ≡ output_len a → (result ≡ OK ↔ IsTagWithin a (length message.now)) }
-    ensures told { result ≢ OK → result ≢ UNKNOWN_CONTEXT → result ≢ WRONG_LENGTH
-        → result ≡ UNSPECIFIED }
+    ensures status { result ≡ status_of UNKNOWN_CONTEXT (digest_named key.now.algorithm) (λ a.
+        record no_cause {
+          wrong_length = not (length out.old == output_len a);
+          unspecified = not (can_tag a (length message.now));
+        }) }
     ensures unchanged { result ≢ OK → out.new ≡ out.old }
 {
     let Some(key) = key.key() else {
@@ -169,13 +163,8 @@ pub extern "C" fn yz_hmac_key_verify(key: &RawKey, message: &[u8], tag: &[u8]) -
     ensures ok { (a : digest.Algorithm) (k : List ℕ) → RawKeyStandsFor key.now a k
         → (result ≡ OK ↔ (IsTagWithin a (length message.now)
         × (tag.now ≡ hmac_of a k message.now))) }
-    ensures any { (a : digest.Algorithm) → digest_named key.now.algorithm ≡ Some a
-        → (result ≡ OK ↔ (IsTagWithin a (length message.now)
-        × (tag.now ≡ raw_tag_under a key.now message.now))) }
-    ensures unknown { result ≡ UNKNOWN_CONTEXT ↔ IsNoKey key.now }
-    ensures refused { (a : digest.Algorithm) → digest_named key.now.algorithm ≡ Some a
-        → result ≡ OK → IsTagWithin a (length message.now) }
-    ensures told { result ≢ OK → result ≢ UNKNOWN_CONTEXT → result ≡ UNSPECIFIED }
+    ensures status { result ≡ status_of UNKNOWN_CONTEXT (digest_named key.now.algorithm) (λ a.
+        record no_cause { unspecified = not (is_raw_tag a key.now message.now tag.now) }) }
 {
     match key.key() {
         Some(key) => verify_tag(&key, message, tag),
@@ -194,8 +183,8 @@ pub extern "C" fn yz_hmac_init(key: &RawKey, context: &mut RawTagContext) -> i32
     ensures any { result ≡ OK → HasBegun key.now context.new }
     ensures sized { (a : digest.Algorithm) → digest_named key.now.algorithm ≡ Some a → result ≡ OK
         → AreWords a context.new.inner.words × AreWords a context.new.outer }
-    ensures unknown { result ≡ UNKNOWN_CONTEXT ↔ IsNoKey key.now }
-    ensures told { result ≢ OK → result ≡ UNKNOWN_CONTEXT }
+    ensures status { result
+        ≡ status_of UNKNOWN_CONTEXT (digest_named key.now.algorithm) (λ a. no_cause) }
     ensures unchanged { result ≢ OK → context.new ≡ context.old }
 {
     let Some(signing_key) = key.key() else {
@@ -214,8 +203,9 @@ pub extern "C" fn yz_hmac_update(context: &mut RawTagContext, input: &[u8]) -> i
     ensures ok { (a : digest.Algorithm) (k m : List ℕ) → RawTagStandsFor context.old a k m
         → result ≡ OK × RawTagStandsFor context.new a k (m ++ input.now) }
     ensures any { result ≡ OK → TagHasAdded context.old context.new input.now }
-    ensures unknown { result ≡ UNKNOWN_CONTEXT ↔ IsNoTagContext context.old }
-    ensures told { result ≢ OK → result ≡ UNKNOWN_CONTEXT }
+    ensures status { result
+        ≡ status_of UNKNOWN_CONTEXT (digest_named context.old.inner.algorithm) (λ a.
+        record no_cause { unknown_context = is_no_tag_context context.old }) }
     ensures unchanged { result ≢ OK → context.new ≡ context.old }
 {
     if !context.update(input) {
@@ -236,18 +226,16 @@ pub extern "C" fn yz_hmac_final(context: &RawTagContext, out: &mut [u8]) -> i32
     ensures any { (a : digest.Algorithm) → digest_named context.now.inner.algorithm ≡ Some a
         → result ≡ OK
         → out.new ≡ raw_tag_with a context.now [] (raw_message_len context.now.inner) }
-    ensures unknown { result ≡ UNKNOWN_CONTEXT ↔ IsNoTagContext context.now }
-    ensures wrong_length { (a : digest.Algorithm)
-        → digest_named context.now.inner.algorithm ≡ Some a → result ≢ UNKNOWN_CONTEXT
-        → (result ≡ WRONG_LENGTH ↔ length out.old ≢ output_len a) }
-    ensures refused { (a : digest.Algorithm) → digest_named context.now.inner.algorithm ≡ Some a
-        → result ≢ UNKNOWN_CONTEXT → length out.old ≡ output_len a
-        → (result ≡ OK ↔ IsMessageWithin a (raw_message_len context.now.inner)) }
+    ensures status { result
+        ≡ status_of UNKNOWN_CONTEXT (digest_named context.now.inner.algorithm) (λ a.
+        record no_cause {
+          unknown_context = is_no_tag_context context.now;
+          wrong_length = not (length out.old == output_len a);
+          unspecified = not (fits a (raw_message_len context.now.inner));
+        }) }
     ensures refused_of { (a : digest.Algorithm) (k m : List ℕ)
         → RawTagStandsFor context.now a k m → length out.old ≡ output_len a
         → (result ≡ OK ↔ IsTagWithin a (length m)) }
-    ensures told { result ≢ OK → result ≢ UNKNOWN_CONTEXT → result ≢ WRONG_LENGTH
-        → result ≡ UNSPECIFIED }
     ensures unchanged { result ≢ OK → out.new ≡ out.old }
 {
     let Some(named) = context.algorithm() else {

@@ -1,4 +1,4 @@
-use Rattle.ring.proofs.Numbers.{has_begun}
+use Rattle.ring.proofs.lemmas.raw.Numbers.{has_begun}
 use Rattle.ring_c.proofs.tags.yz_hmac_init.Goals as goal
 
 pub returns-clause-any : goal.returns-clause-any

@@ -1,0 +1,36 @@
+-- Which status a call returns: OK, or the first cause that holds, in the order of their numbers.
+use Rattle.std.specs.Prelude.{ℤ, Bool, false, Option, Some, None, if◌then◌else◌}
+use Rattle.ring_c.specs.declared.status.TheConstants.{NO_ITERATIONS, OK, UNKNOWN_CONTEXT}
+use Rattle.ring_c.specs.declared.status.TheConstants.{UNSPECIFIED, WRONG_LENGTH}
+
+-- whether each cause of a refusal holds, past a number that names no algorithm
+pub record Causes : Type 0 where
+  pub unknown_context : Bool
+  pub wrong_length : Bool
+  pub no_iterations : Bool
+  pub unspecified : Bool
+
+-- none holds: a call names those that it can have
+abbrev pub no_cause : Causes
+no_cause =
+    record {
+      unknown_context = false;
+      wrong_length = false;
+      no_iterations = false;
+      unspecified = false;
+    }
+
+-- the status by the causes
+abbrev pub first_of : Causes → ℤ
+first_of c =
+    if c.unknown_context then UNKNOWN_CONTEXT
+    else if c.wrong_length then WRONG_LENGTH
+    else if c.no_iterations then NO_ITERATIONS
+    else if c.unspecified then UNSPECIFIED
+    else OK
+
+-- the status by the algorithm that a number names, or `unknown` where it names none, and by the
+-- causes under the algorithm
+abbrev pub status_of : {A : Type 0} → (unknown : ℤ) → Option A → (A → Causes) → ℤ
+status_of unknown None causes = unknown
+status_of unknown (Some a) causes = first_of (causes a)

@@ -1,0 +1,83 @@
+-- What a field's text says of its bytes.
+use Rattle.std.proofs.Common.{◌≡◌, ℕ, refl, List, ◌∷◌, sym, ap, ◌∙◌}
+use Rattle.hex.specs.Hex.{IsBytes}
+use Rattle.hex.proofs.HexLemmas.{decode_of-encode_lower, decode_of-same}
+use Rattle.hex.specs.Hex.{decode_of as hex_decode_of}
+use Rattle.base64.specs.Engines.{standard, standard_no_pad}
+use Rattle.base64.specs.GeneralPurpose.{decode_of}
+use Rattle.base64.specs.declared.engine.general_purpose.GeneralPurpose.{GeneralPurpose}
+use Rattle.std.proofs.Common.{false, []}
+use Rattle.base64.specs.Decode.{decoded_bytes}
+use Rattle.base64.specs.declared.engine.DecodePaddingMode.TheVariants.{RequireNone}
+use Rattle.base64.proofs.RoundTrip.{decode-encode}
+use Rattle.ring_password_hash.specs.Field.{adapted_symbols}
+use Rattle.base64.proofs.EngineFacts.{decode_of-encode_of}
+use Rattle.base64.specs.GeneralPurpose.{IsConsistent, encode_of}
+use Rattle.ring_password_hash.specs.Field.{field_then, written}
+use Rattle.ring_password_hash.specs.Scram.{IsEnd}
+use Rattle.ring_password_hash.specs.declared.field.Encoding.{Encoding}
+use Rattle.ring_password_hash.specs.declared.field.Encoding.TheVariants.{Plain, Hex, Base64}
+use Rattle.ring_password_hash.specs.declared.field.Encoding.TheVariants.{Base64NoPad, Adapted}
+use Rattle.ring_password_hash.proofs.Symbols.{IsWithout-base64}
+use Rattle.ring_password_hash.proofs.Texts.{cut_same}
+
+encode_of-injective : (e : GeneralPurpose) → IsConsistent e → (xs ys : List ℕ) → IsBytes xs
+    → IsBytes ys → encode_of e xs ≡ encode_of e ys → xs ≡ ys
+encode_of-injective e consistent xs ys hx hy same =
+    let both = sym (decode_of-encode_of e xs consistent hx) ∙ ap (decode_of e) same
+    ∙ decode_of-encode_of e ys consistent hy in
+    cc both
+
+-- the value of each symbol of adapted base64
+adapted_values : List ℕ
+adapted_values =
+    255 ∷ 255 ∷ 255 ∷ 255 ∷ 255 ∷ 255 ∷ 255 ∷ 255 ∷ 255 ∷ 255 ∷ 255 ∷ 255 ∷ 255 ∷ 255 ∷ 255 ∷ 255
+    ∷ 255 ∷ 255 ∷ 255 ∷ 255 ∷ 255 ∷ 255 ∷ 255 ∷ 255 ∷ 255 ∷ 255 ∷ 255 ∷ 255 ∷ 255 ∷ 255 ∷ 255 ∷ 255
+    ∷ 255 ∷ 255 ∷ 255 ∷ 255 ∷ 255 ∷ 255 ∷ 255 ∷ 255 ∷ 255 ∷ 255 ∷ 255 ∷ 255 ∷ 255 ∷ 255 ∷ 62 ∷ 63
+    ∷ 52 ∷ 53 ∷ 54 ∷ 55 ∷ 56 ∷ 57 ∷ 58 ∷ 59 ∷ 60 ∷ 61 ∷ 255 ∷ 255 ∷ 255 ∷ 255 ∷ 255 ∷ 255
+    ∷ 255 ∷ 0 ∷ 1 ∷ 2 ∷ 3 ∷ 4 ∷ 5 ∷ 6 ∷ 7 ∷ 8 ∷ 9 ∷ 10 ∷ 11 ∷ 12 ∷ 13 ∷ 14
+    ∷ 15 ∷ 16 ∷ 17 ∷ 18 ∷ 19 ∷ 20 ∷ 21 ∷ 22 ∷ 23 ∷ 24 ∷ 25 ∷ 255 ∷ 255 ∷ 255 ∷ 255 ∷ 255
+    ∷ 255 ∷ 26 ∷ 27 ∷ 28 ∷ 29 ∷ 30 ∷ 31 ∷ 32 ∷ 33 ∷ 34 ∷ 35 ∷ 36 ∷ 37 ∷ 38 ∷ 39 ∷ 40
+    ∷ 41 ∷ 42 ∷ 43 ∷ 44 ∷ 45 ∷ 46 ∷ 47 ∷ 48 ∷ 49 ∷ 50 ∷ 51 ∷ 255 ∷ 255 ∷ 255 ∷ 255 ∷ 255
+    ∷ 255 ∷ 255 ∷ 255 ∷ 255 ∷ 255 ∷ 255 ∷ 255 ∷ 255 ∷ 255 ∷ 255 ∷ 255 ∷ 255 ∷ 255 ∷ 255 ∷ 255 ∷ 255
+    ∷ 255 ∷ 255 ∷ 255 ∷ 255 ∷ 255 ∷ 255 ∷ 255 ∷ 255 ∷ 255 ∷ 255 ∷ 255 ∷ 255 ∷ 255 ∷ 255 ∷ 255 ∷ 255
+    ∷ 255 ∷ 255 ∷ 255 ∷ 255 ∷ 255 ∷ 255 ∷ 255 ∷ 255 ∷ 255 ∷ 255 ∷ 255 ∷ 255 ∷ 255 ∷ 255 ∷ 255 ∷ 255
+    ∷ 255 ∷ 255 ∷ 255 ∷ 255 ∷ 255 ∷ 255 ∷ 255 ∷ 255 ∷ 255 ∷ 255 ∷ 255 ∷ 255 ∷ 255 ∷ 255 ∷ 255 ∷ 255
+    ∷ 255 ∷ 255 ∷ 255 ∷ 255 ∷ 255 ∷ 255 ∷ 255 ∷ 255 ∷ 255 ∷ 255 ∷ 255 ∷ 255 ∷ 255 ∷ 255 ∷ 255 ∷ 255
+    ∷ 255 ∷ 255 ∷ 255 ∷ 255 ∷ 255 ∷ 255 ∷ 255 ∷ 255 ∷ 255 ∷ 255 ∷ 255 ∷ 255 ∷ 255 ∷ 255 ∷ 255 ∷ 255
+    ∷ 255 ∷ 255 ∷ 255 ∷ 255 ∷ 255 ∷ 255 ∷ 255 ∷ 255 ∷ 255 ∷ 255 ∷ 255 ∷ 255 ∷ 255 ∷ 255 ∷ 255 ∷ 255
+    ∷ 255 ∷ 255 ∷ 255 ∷ 255 ∷ 255 ∷ 255 ∷ 255 ∷ 255 ∷ 255 ∷ 255 ∷ 255 ∷ 255
+    ∷ 255 ∷ 255 ∷ 255 ∷ 255 ∷ []
+
+adapted-injective : (xs ys : List ℕ) → IsBytes xs → IsBytes ys
+    → written Adapted xs ≡ written Adapted ys → xs ≡ ys
+unfolding adapted_values
+adapted-injective xs ys hx hy same =
+    let one = decode-encode adapted_symbols adapted_values xs 61 false RequireNone false refl hx
+    refl in
+    let two = decode-encode adapted_symbols adapted_values ys 61 false RequireNone false refl hy
+    refl in
+    sym one.1 ∙ ap (decoded_bytes adapted_values 61) same ∙ two.1
+
+-- one text is of one list of bytes
+pub written-injective : (encoding : Encoding) (xs ys : List ℕ) → IsBytes xs → IsBytes ys
+    → written encoding xs ≡ written encoding ys → xs ≡ ys
+written-injective Plain xs ys hx hy e = e
+written-injective Hex xs ys hx hy e =
+    decode_of-same (written Hex ys) xs ys
+    (ap hex_decode_of (sym e) ∙ decode_of-encode_lower xs hx) (decode_of-encode_lower ys hy)
+written-injective Base64 xs ys hx hy e = encode_of-injective standard refl xs ys hx hy e
+written-injective Base64NoPad xs ys hx hy e =
+    encode_of-injective standard_no_pad refl xs ys hx hy e
+written-injective Adapted xs ys hx hy e = adapted-injective xs ys hx hy e
+
+pub base64-injective : (xs ys : List ℕ) → IsBytes xs → IsBytes ys
+    → written Base64 xs ≡ written Base64 ys → xs ≡ ys
+base64-injective = written-injective Base64
+
+pub base64_then-injective : (end : ℕ) → IsEnd end → (xs ys s t : List ℕ) → IsBytes xs → IsBytes ys
+    → field_then Base64 xs end s ≡ field_then Base64 ys end t → (xs ≡ ys) × (s ≡ t)
+base64_then-injective end is xs ys s t hx hy e =
+    let cut = cut_same end (written Base64 xs) (written Base64 ys) s t
+    (IsWithout-base64 end is xs hx) (IsWithout-base64 end is ys hy) e in
+    (base64-injective xs ys hx hy cut.0, cut.1)

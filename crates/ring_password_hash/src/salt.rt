@@ -1,0 +1,69 @@
+//! New salts, from a source of random bytes.
+
+ghost use Rattle.std.specs.Prelude.{◌≡◌, ◌↔◌, false, IfOk, IsErr, OnErr};
+ghost use Rattle.ring_password_hash.specs.Hash.{IsSalt};
+ghost use Rattle.ring_password_hash.specs.Salt.{IsNext, letters, salt_bytes};
+
+use crate::kind::Kind;
+use ring::error::Unspecified;
+use ring::rand::{SecureRandom, generate};
+
+/// The bytes that a salt takes from its source.
+pub const RANDOM_LEN: usize = 16;
+
+/// The letters and digits of a salt that is written as it is: as many as 16 bytes need.
+pub const TEXT_SALT_LEN: usize = 22;
+
+// The letters and digits of such a salt.
+const SYMBOLS: &[u8; 62] = b"abcdefghijklmnopqrstuvwxyzABCDEFGHIJKLMNOPQRSTUVWXYZ0123456789";
+
+/// A salt. [`Salt::as_ref`] has its bytes.
+#[derive(Drop)]
+pub enum Salt {
+    /// Letters and digits, for a kind that writes a salt as it is: Django's and Werkzeug's.
+    Text([u8; TEXT_SALT_LEN]),
+    /// Bytes, for any other kind.
+    Bytes([u8; RANDOM_LEN]),
+}
+
+impl Salt {
+    /// The bytes of the salt.
+    pub fn as_ref(&self) -> &[u8]
+        ensures { result.now ≡ salt_bytes self.now }
+    {
+        match self {
+            Salt::Text(symbols) => &symbols[..],
+            Salt::Bytes(bytes) => &bytes[..],
+        }
+    }
+}
+
+// The lowest digits of the number to the base 62, the lowest first.
+fn letters(number: u128) -> [u8; TEXT_SALT_LEN]
+    ensures { result ≡ letters TEXT_SALT_LEN number }
+{
+    let mut salt = [0; TEXT_SALT_LEN];
+    let mut rest = number;
+    'places: for i in 0..TEXT_SALT_LEN {
+        salt[i] = SYMBOLS[(rest % 62) as usize];
+        rest /= 62;
+    }
+    salt
+}
+
+/// A salt for a new hash of `kind`, made of the next 16 bytes of `rng`: 22 letters and digits for
+/// Django and Werkzeug, the bytes themselves for the other kinds and for a verifier.
+///
+/// Refused exactly if `rng` is not ready for 16 bytes. It then keeps all of its bytes.
+pub fn new_salt(kind: Kind, rng: &mut dyn SecureRandom) -> Result<Salt, Unspecified>
+    ensures ok { IfOk result (λ salt. IsNext kind (left rng.old) (left rng.new) (salt_bytes salt)) }
+    ensures usable { IfOk result (λ salt. IsSalt kind (salt_bytes salt)) }
+    ensures refused { IsErr result ↔ (ready rng.old RANDOM_LEN ≡ false) }
+    ensures unchanged { OnErr result (left rng.new ≡ left rng.old) }
+{
+    let bytes = generate::<[u8; RANDOM_LEN]>(rng)?.expose();
+    if kind.has_text_salt() {
+        return Ok(Salt::Text(letters(u128::from_be_bytes(bytes))));
+    }
+    Ok(Salt::Bytes(bytes))
+}

@@ -1,0 +1,35 @@
+//! Why a line gets no answer.
+
+use hex::FromHexError;
+use ring_password_hash::HashError;
+use std::alloc::AllocError;
+
+/// Why a line gets no answer.
+#[derive(Debug, Drop)]
+pub enum Fault {
+    /// The line has no form that is known.
+    BadLine,
+    /// A call refused it.
+    Refused(HashError),
+}
+
+impl From<HashError> for Fault {
+    fn from(error: HashError) -> Self {
+        Fault::Refused(error)
+    }
+}
+
+impl From<AllocError> for Fault {
+    fn from(_error: AllocError) -> Self {
+        Fault::Refused(HashError::Memory)
+    }
+}
+
+impl From<FromHexError> for Fault {
+    fn from(error: FromHexError) -> Self {
+        match error {
+            FromHexError::OutOfMemory => Fault::Refused(HashError::Memory),
+            _ => Fault::BadLine,
+        }
+    }
+}

@@ -1,0 +1,39 @@
+//! Answers lines that read, verify and make password hashes, for `scripts/password_hashes`.
+//! `docs/PASSWORD_HASHES.md` has the forms of the lines.
+//!
+//! An answer is what the line asks for, the line of the error that refused it, or `bad line`. Empty
+//! lines and those with a `#` at their start have none.
+#![tactic(auto)]
+
+use crate::answer::answer;
+use crate::fault::Fault;
+use std::alloc::{AllocError, Global};
+use std::io;
+use std::io::{BufRead, BufReader};
+
+mod answer;
+mod fault;
+mod scram;
+mod words;
+
+/// The text of an answer.
+fn text_of(alloc: Global, answer: Result<String, Fault>) -> Result<String, AllocError> {
+    match answer {
+        Ok(text) => Ok(text),
+        Err(Fault::BadLine) => String::from_str(alloc, "bad line"),
+        Err(Fault::Refused(error)) => format!(in alloc; "{error}"),
+    }
+}
+
+fn main(rt: HostRuntime) -> io::Result<()> {
+    for line in BufReader::new(rt.alloc(), rt.reader())?.lines(rt.alloc()) {
+        let line = line?;
+        if line.is_empty() || line.starts_with('#') {
+            continue;
+        }
+        let answered = answer(rt.alloc(), line.as_str());
+        let text = text_of(rt.alloc(), answered)?;
+        println!(rt; "{text}")?;
+    }
+    Ok(())
+}

@@ -7,6 +7,7 @@ pub mod basics;
 pub mod digest;
 pub mod hkdf;
 pub mod hmac;
+pub mod hotp;
 pub mod laws;
 pub mod pbkdf2;
 pub mod pieces;

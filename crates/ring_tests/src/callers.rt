@@ -19,6 +19,7 @@ use ring_examples::hkdf::{
 use ring_examples::hmac::{
     key_for_both, tag_counted, tag_len, tag_of_two, tags_of_front_and_whole, verify_tag,
 };
+use ring_examples::hotp::hotp;
 use ring_examples::pbkdf2::{can_derive_len, derive_and_verify, stored_of, verify_stored};
 use ring_examples::pieces::{
     digest_again, digest_and_blocks, digest_of_list, digest_of_whole, digests_of_front_and_whole,
@@ -211,6 +212,19 @@ fn outputs(rt: HostRuntime) -> Result<(), Unspecified> {
     assert!(rt; can_ask(8_160) && !can_ask(8_161));
     let tag = tag_under_output(&SALT, &[0x0b; 22], &[&INFO], b"hello, world")?;
     assert!(rt; is_hex_of(TAG_UNDER_OUTPUT, tag.as_ref()));
+    Ok(())
+}
+
+// RFC 4226, appendix D: the passwords of the counters from 0 on.
+const ONE_TIME_PASSWORDS: [u32; 10] = [
+    755_224, 287_082, 359_152, 969_429, 338_314, 254_676, 287_922, 162_583, 399_871, 520_489,
+];
+
+#[test]
+fn one_time_passwords(rt: HostRuntime) -> Result<(), Unspecified> {
+    for counter in 0..ONE_TIME_PASSWORDS.len() {
+        assert!(rt; hotp(b"12345678901234567890", counter as u64)? == ONE_TIME_PASSWORDS[counter]);
+    }
     Ok(())
 }
 

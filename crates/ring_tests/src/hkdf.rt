@@ -171,7 +171,8 @@ fn debug_texts(rt: HostRuntime) -> Result<(), Fail> {
     let salt = Salt::new(HKDF_SHA256, &[1])?;
     let prk = salt.extract(&[2])?;
     let output = prk.expand(&[], Length(7))?;
-    let text = "Okm { prk: Prk(Key { algorithm: SHA256 }), info: [], len: Length(7), asked_len: 7 }";
+    let text =
+        "Okm { prk: Prk(Key { algorithm: SHA256 }), info: [], len: Length(7), asked_len: 7 }";
     assert!(rt;
         prints(rt.alloc(), &salt, "Salt(Key { algorithm: SHA256 })")?
             && prints(rt.alloc(), &output, text)?

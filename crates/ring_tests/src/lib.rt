@@ -32,6 +32,8 @@ mod pbkdf2_each;
 #[cfg(test)]
 mod rand;
 #[cfg(test)]
+mod schedules;
+#[cfg(test)]
 mod several;
 #[cfg(test)]
 mod store;

@@ -5,4 +5,5 @@ pub mod Heads
 pub mod Hashes
 pub mod KindsApart
 pub mod Written
+pub mod Arrays
 pub mod Salts

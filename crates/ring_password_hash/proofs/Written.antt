@@ -28,7 +28,7 @@ two_parts : (d s b : List ℕ) (y : ℕ) → ((([] ++ d) ++ s) ++ y ∷ []) ++ b
 two_parts d s b y = simp append_assoc
 
 -- what follows a head can be appended to it
-append-head_then : (k : Kind) (p : Parameters) (c : NonZeroU32) (n : ℕ) (rest : List ℕ)
+pub append-head_then : (k : Kind) (p : Parameters) (c : NonZeroU32) (n : ℕ) (rest : List ℕ)
     → head_then k p c n [] ++ rest ≡ head_then k p c n rest
 unfolding parameters_then
 append-head_then k Count c n rest = simp append_assoc

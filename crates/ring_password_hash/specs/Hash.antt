@@ -1,10 +1,15 @@
 -- Hashes of PBKDF2 as text.
-use Rattle.std.specs.Prelude.{◌≡◌, ◌≢◌, ℕ, ◌≤◌, Bool, true, false, List, [], length}
+use Rattle.std.specs.Prelude.{◌≡◌, ◌≢◌, ℕ, ◌≤◌, Bool, true, false, ◌&&◌, List, [], length, nat_lt}
+use Rattle.std.specs.Prelude.{if◌then◌else◌, Option, Some, None, Result, Ok, Err}
+use Rattle.std.specs.Str.{bytes_eq}
 use Rattle.std.specs.Int.NonZero.{non_zero_u32_get}
 use Rattle.std.specs.declared.num.NonZeroU32.{NonZeroU32}
 use Rattle.hex.specs.Hex.{IsBytes}
 use Rattle.ring.specs.Cut.{IsWithout}
-use Rattle.ring.specs.Prelude.{CanDerive, IsDerived, derive_blocks}
+use Rattle.ring.specs.Prelude.{CanDerive, IsDerived, can_verify, derive_blocks, dk}
+use Rattle.ring_password_hash.specs.declared.error.HashError.{HashError}
+use Rattle.ring_password_hash.specs.declared.error.HashError.TheVariants.{BadFormat, WrongPassword}
+use Rattle.ring_password_hash.specs.declared.error.HashError.TheVariants.{TooManyIterations}
 use Rattle.ring_password_hash.specs.Field.{IsCount, field_then, written}
 use Rattle.ring_password_hash.specs.Head.{IsLen, head_then}
 use Rattle.ring_password_hash.specs.Kind.{algorithm_of, hash_encoding_of, hash_len_of, names_len}
@@ -104,3 +109,49 @@ pub record IsTextWhere {Z : Type 0} (text : List ℕ) (P : PasswordHash Z → Ty
 -- the iterations of a hash are at most these
 abbrev pub IsWithin : {Z : Type 0} → PasswordHash Z → NonZeroU32 → Type 0
 IsWithin h most = non_zero_u32_get (iterations_of h) ≤ non_zero_u32_get most
+
+-- ---- what a text is read as
+
+-- the parts of a hash
+pub record Parts : Type 0 where
+  pub kind : Kind
+  pub parameters : Parameters
+  pub iterations : NonZeroU32
+  pub salt : List ℕ
+  pub hash : List ℕ
+
+-- the text is that of a hash of these parts
+pub record IsTextOf (h : Parts) (text : List ℕ) : Type 0 where
+  pub is : IsParts h.kind h.parameters h.iterations h.salt h.hash
+  pub has : hash_text h.kind h.parameters h.iterations h.salt h.hash ≡ text
+
+-- the text is that of the hash, or of none
+abbrev pub IsReading : (text : List ℕ) → Option Parts → Type 0
+IsReading text (Some h) = IsTextOf h text
+IsReading text None = (h : Parts) → IsTextOf h text → ⊥
+
+-- P holds of what the text is read as, which is one
+-- (`laws::one_text_is_of_one_hash`)
+pub record IsReadWhere (text : List ℕ) (P : Option Parts → Type 0) : Type 0 where
+  pub found : Option Parts
+  pub reads : IsReading text found
+  pub holds : P found
+
+-- whether it is the hash of the password p
+abbrev pub is_hash_of : Parts → (p : List ℕ) → Bool
+is_hash_of h p =
+    can_verify (algorithm_of h.kind) (length p) (length h.salt) (length h.hash)
+    && bytes_eq h.hash (dk (algorithm_of h.kind) p h.salt (non_zero_u32_get h.iterations)
+    (length h.hash))
+
+-- what a test of the password p against a hash answers, under a limit of iterations
+abbrev pub answer_for : Parts → (p : List ℕ) → (most : ℕ) → Result (Unit {0}) HashError
+answer_for h p most =
+    if nat_lt most (non_zero_u32_get h.iterations) then Err TooManyIterations
+    else if is_hash_of h p then Ok tt
+    else Err WrongPassword
+
+-- the same against a text, by what it is read as
+abbrev pub answer_of : Option Parts → (p : List ℕ) → (most : ℕ) → Result (Unit {0}) HashError
+answer_of (Some h) p most = answer_for h p most
+answer_of None p most = Err BadFormat

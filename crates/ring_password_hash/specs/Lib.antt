@@ -5,3 +5,4 @@ pub mod Head
 pub mod Scram
 pub mod Hash
 pub mod Salt
+pub mod InPlace

@@ -44,8 +44,8 @@ pub enum Encoding {
 // The symbols of adapted base64.
 const ADAPTED_SYMBOLS: &str = "ABCDEFGHIJKLMNOPQRSTUVWXYZabcdefghijklmnopqrstuvwxyz0123456789./";
 
-// The engine of adapted base64.
-fn adapted() -> GeneralPurpose
+/// The engine of adapted base64.
+pub(crate) fn adapted() -> GeneralPurpose
     ensures strict { IsStrict result }
     ensures written { (m : List ℕ) → encode_of result m ≡ encode adapted_symbols 61 false m }
 {
@@ -210,8 +210,8 @@ pub(crate) fn decode<A: Allocator + Copy>(
     }
 }
 
-// The text before the first `byte` and the text after it, or `None` if there is none.
-fn cut_at(text: &[u8], byte: u8) -> Option<(&[u8], &[u8])>
+/// The text before the first `byte` and the text after it, or `None` if there is none.
+pub(crate) fn cut_at(text: &[u8], byte: u8) -> Option<(&[u8], &[u8])>
     ensures cut { IfSome result (λ parts. IsFirstCut byte text.now parts.0.now parts.1.now) }
     ensures none { IsNone result → IsWithout byte text.now }
 {

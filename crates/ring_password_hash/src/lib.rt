@@ -5,17 +5,21 @@
 //! are derived by PBKDF2 (RFC 2898, section 5.2).
 #![tactic(auto)]
 
+mod decoded;
 mod error;
 mod field;
 mod head;
+mod in_place;
 mod kind;
 pub mod laws;
 mod password_hash;
 pub mod salt;
 pub mod scram;
 
+pub use crate::decoded::MAX_TEXT_LEN;
 pub use crate::error::HashError;
 pub use crate::head::{MAX_NAMED_LEN, MIN_NAMED_LEN, Parameters};
+pub use crate::in_place::verify_in_place;
 pub use crate::kind::{KINDS, Kind};
 pub use crate::password_hash::{PasswordHash, verify, verify_counted};
 pub use crate::salt::new_salt;

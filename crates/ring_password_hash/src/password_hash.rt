@@ -44,7 +44,7 @@ pub struct PasswordHash<A: Allocator> {
 
 // Whether hashes of the kind can have the salt: one byte or more, and where it is written as it is,
 // no byte that ends it.
-fn is_salt(kind: Kind, salt: &[u8]) -> bool
+pub(crate) fn is_salt(kind: Kind, salt: &[u8]) -> bool
     ensures { IsTrue result ↔ IsSalt kind salt.now }
 {
     !salt.is_empty() && (kind.salt_encoding() != Encoding::Plain || memchr(b'$', salt).is_none())

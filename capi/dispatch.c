@@ -3,7 +3,8 @@
  *
  * The library has two builds of one proved crate, for x86-64-v2 and for x86-64-v3, which has AVX2.
  * Where the processor has the latter, the calls below go to the build that the table BUILD names.
- * All other calls, which run no block, are those of the build for x86-64-v2. Contexts and keys have
+ * All other calls are those of the build for x86-64-v2: they run no block, but for that of password
+ * hashes, whose text alone says by which algorithm. Contexts and keys have
  * the same bytes in both, so that one build goes on where the other stopped. */
 #include "yezdopin.h"
 #include <cpuid.h>

@@ -63,9 +63,11 @@ enum {
     YZ_OK = 0,
     YZ_UNKNOWN_ALGORITHM = 1, /* the number names no algorithm of this call */
     YZ_UNKNOWN_CONTEXT = 2,   /* the bytes can be no context's or key's: see their types */
-    YZ_WRONG_LENGTH = 3,      /* of what is to be written */
+    YZ_WRONG_LENGTH = 3,      /* of what is to be written, or of a text */
     YZ_NO_ITERATIONS = 4,     /* the number of iterations is 0 */
     YZ_UNSPECIFIED = 5,       /* an input out of limits, or what was verified is something else */
+    YZ_BAD_FORMAT = 6,        /* the text is not one of a password hash */
+    YZ_TOO_MANY_ITERATIONS = 7, /* a text names more than the caller takes */
 };
 
 /* Bytes of a digest or a tag, and of a block. */
@@ -230,6 +232,19 @@ yz_status yz_pbkdf2_verify(uint32_t algorithm, uint32_t iterations,
                            const uint8_t *salt, size_t salt_len,
                            const uint8_t *secret, size_t secret_len,
                            const uint8_t *derived, size_t derived_len) YZ_MUST_CHECK;
+
+/* Tests a password against the text of a hash by PBKDF2, as Django, Werkzeug, RustCrypto's PHC
+ * strings, Mosquitto and passlib have it. Answers YZ_OK exactly where the hash is the password's.
+ *
+ * A text of more than YZ_MAX_PASSWORD_HASH_LEN bytes is answered by YZ_WRONG_LENGTH. One that is no
+ * hash's is answered by YZ_BAD_FORMAT, and one that names more than `max_iterations` by
+ * YZ_TOO_MANY_ITERATIONS, both before the password is read. Another password, and one that is too
+ * long, is answered by YZ_UNSPECIFIED. The text of a hash is no secret to this call; the password
+ * is. */
+#define YZ_MAX_PASSWORD_HASH_LEN 1024
+yz_status yz_password_hash_verify(const char *text, size_t text_len,
+                                  const uint8_t *password, size_t password_len,
+                                  uint32_t max_iterations) YZ_MUST_CHECK;
 
 /* Whether both are equal. Where the lengths agree it reads all of both. */
 bool yz_equal(const uint8_t *a, size_t a_len, const uint8_t *b, size_t b_len) YZ_MUST_CHECK;

@@ -21,6 +21,9 @@ static yz_hmac_key key;
 static yz_hmac_context tag;
 static uint32_t n;
 static int call;
+static const char hash[] = "$7$101$AAECAwQFBgcICQoL$cJ75j/0MokIxIQCU/t1k7JBGVfwD3W1st+OyLYF0EzgR"
+                           "LNjRyexylNuHrNThmUCWBWt20yys3R1zS31q5smg/w==";
+static const char password[] = "correct horse battery staple";
 
 /* Runs one call on long inputs: a key past a block, several blocks, several rounds. */
 static void run(void) {
@@ -48,6 +51,10 @@ static void run(void) {
     case 18:
         status = yz_hkdf_expand_label(n, bytes, 300, bytes, 249, bytes, 255, out, 400);
         break;
+    case 19:
+        status = yz_password_hash_verify(hash, sizeof hash - 1, (const uint8_t *)password,
+                                         sizeof password - 1, 101);
+        break;
     }
     if (status != YZ_OK) printf("call %d of algorithm %u answers %d\n", call, n, status);
 }
@@ -55,7 +62,7 @@ static void run(void) {
 int main(void) {
     static size_t most;
     for (n = YZ_SHA1; n <= YZ_SHA512; n++)
-        for (call = 0; call <= 18; call++) {
+        for (call = 0; call <= 19; call++) {
             static ucontext_t back, there;
             memset(stack, PAINT, ROOM);
             if (getcontext(&there)) return 2;

@@ -1,4 +1,5 @@
-//! The digests, tags and derived keys of `ring` for callers in C: `capi/include/yezdopin.h`
+//! The digests, tags and derived keys of `ring`, and the password hashes of `ring_password_hash`,
+//! for callers in C: `capi/include/yezdopin.h`
 //! declares each call, but for those whose names end in `_wide`. These promise what the calls of
 //! the shorter names do, and are for `capi/dispatch.c` alone: in the build for x86-64-v3 they are
 //! the faster ones.
@@ -18,6 +19,7 @@ mod expansions;
 mod labels;
 mod lengths;
 mod number;
+mod password_hashes;
 mod status;
 mod tags;
 mod version;

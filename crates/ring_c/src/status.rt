@@ -1,11 +1,14 @@
-//! The status that a call returns: the first of these causes that holds, in the order of their
-//! numbers.
+//! The status that a call returns: the first of these causes that holds, in the order in which they
+//! stand here.
 
 /// Success.
 pub(crate) const OK: i32 = 0;
 
 /// The number names no algorithm of this call.
 pub(crate) const UNKNOWN_ALGORITHM: i32 = 1;
+
+/// The text is not one of a password hash.
+pub(crate) const BAD_FORMAT: i32 = 6;
 
 /// The memory in place of a context or a key holds numbers that none has.
 pub(crate) const UNKNOWN_CONTEXT: i32 = 2;
@@ -15,6 +18,9 @@ pub(crate) const WRONG_LENGTH: i32 = 3;
 
 /// The number of iterations is 0.
 pub(crate) const NO_ITERATIONS: i32 = 4;
+
+/// The iteration count of a text is above the caller's limit.
+pub(crate) const TOO_MANY_ITERATIONS: i32 = 7;
 
 /// An input is too long, or a verification found a mismatch: the status doesn't say which.
 pub(crate) const UNSPECIFIED: i32 = 5;

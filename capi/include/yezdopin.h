@@ -61,12 +61,12 @@ enum {
 typedef int32_t yz_status;
 enum {
     YZ_OK = 0,
-    YZ_UNKNOWN_ALGORITHM = 1, /* the number names no algorithm of this call */
-    YZ_UNKNOWN_CONTEXT = 2,   /* the bytes can be no context's or key's: see their types */
-    YZ_WRONG_LENGTH = 3,      /* of what is to be written, or of a text */
-    YZ_NO_ITERATIONS = 4,     /* the number of iterations is 0 */
-    YZ_UNSPECIFIED = 5,       /* an input out of limits, or what was verified is something else */
-    YZ_BAD_FORMAT = 6,        /* the text is not one of a password hash */
+    YZ_UNKNOWN_ALGORITHM = 1,   /* the number names no algorithm of this call */
+    YZ_UNKNOWN_CONTEXT = 2,     /* the bytes can be no context's or key's: see their types */
+    YZ_WRONG_LENGTH = 3,        /* of what is to be written, or of a text */
+    YZ_NO_ITERATIONS = 4,       /* the number of iterations is 0 */
+    YZ_UNSPECIFIED = 5,         /* an input out of limits, or what was verified is something else */
+    YZ_BAD_FORMAT = 6,          /* the text is not one of a password hash */
     YZ_TOO_MANY_ITERATIONS = 7, /* a text names more than the caller takes */
 };
 

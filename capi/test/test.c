@@ -448,6 +448,77 @@ static void equality_and_clearing(void) {
     IS(a[69], 9);
 }
 
+static const char PASSWORD[] = "correct horse battery staple";
+
+static yz_status verify_hash(const char *hash, const char *password, uint32_t most) {
+    return yz_password_hash_verify(hash, strlen(hash), text(password), strlen(password), most);
+}
+
+/* Hashes of Django 3.2.25, Werkzeug 2.2.2 and passlib 1.7.4, of the form of RustCrypto's, and of
+ * Mosquitto's, as ../vectors/password_hashes has them. Each is tested under the least limit. */
+static void password_hashes(void) {
+    static const struct {
+        const char *text;
+        uint32_t iterations;
+    } HASHES[] = {
+        {"pbkdf2_sha256$1000$kXq0Wz3vT9bYh2LrE8mNpA$6jlqr5CFEJ6yV5h1RjyoxC5WzlE3x9jGX4aMqvJOfqk=",
+         1000},
+        {"pbkdf2_sha1$1000$kXq0Wz3vT9bYh2LrE8mNpA$2U/l/68EaoUIrkh0GedCmjQYvmg=", 1000},
+        {"pbkdf2:sha256:1000$kXq0Wz3vT9bYh2LrE8mNpA$"
+         "ea396aaf9085109eb2579875463ca8c42e56ce5137c7d8c65f868caaf24e7ea9", 1000},
+        {"pbkdf2:sha512:1000$kXq0Wz3vT9bYh2LrE8mNpA$"
+         "8bc0bb5e5c69fc6e546be3770e4011754f928f59b83699b54b2de3c2ca140816"
+         "419757b79f141a4f9788e89ada0c29f885b6de2e0d44ab6c24f45d15dacebeb9", 1000},
+        {"$pbkdf2-sha256$i=1000,l=32$AAECAwQFBgcICQoLDA0ODw$"
+         "ppsXnjrdPB4KryJ6DrOqKqhkWrhv7PbKAMF1Eml8cZ4", 1000},
+        {"$pbkdf2-sha256$l=10,i=1000$AAECAwQFBgcICQoLDA0ODw$ppsXnjrdPB4Krw", 1000},
+        {"$pbkdf2-sha512$i=1000$AAECAwQFBgcICQoLDA0ODw$"
+         "A6AmFIti7CKlYdoPiV9jf1d9llp37o27Wms8Zx8fwMI", 1000},
+        {"$7$101$AAECAwQFBgcICQoL$cJ75j/0MokIxIQCU/t1k7JBGVfwD3W1st+OyLYF0EzgR"
+         "LNjRyexylNuHrNThmUCWBWt20yys3R1zS31q5smg/w==", 101},
+        {"$pbkdf2$1000$./..AAECAwQFBgcICQoLDA$x9mOzc2oaa91b.MGCYdeGLTzuIU", 1000},
+        {"$pbkdf2-sha256$1000$./..AAECAwQFBgcICQoLDA$6.45owsAIR6Zdtpa2ERA2n2GU7xlI61CT5Fo1Q4KE8w",
+         1000},
+        {"$pbkdf2-sha512$1000$./..AAECAwQFBgcICQoLDA$JpldqPFByVduRMobu1DJCqFJmg9odUa3GZLsuEPw1VwF"
+         "yjPQyO3woJ4vUXw4Zcv9Us0DO8UATXLh9qrLPl/oxQ", 1000},
+    };
+    for (size_t i = 0; i < sizeof HASHES / sizeof *HASHES; i++) {
+        const char *hash = HASHES[i].text;
+        IS(verify_hash(hash, PASSWORD, HASHES[i].iterations), YZ_OK);
+        IS(verify_hash(hash, PASSWORD, UINT32_MAX), YZ_OK);
+        IS(verify_hash(hash, PASSWORD, HASHES[i].iterations - 1), YZ_TOO_MANY_ITERATIONS);
+        IS(verify_hash(hash, "correct horse battery stapler", UINT32_MAX), YZ_UNSPECIFIED);
+        IS(verify_hash(hash, "", UINT32_MAX), YZ_UNSPECIFIED);
+        size_t len = strlen(hash), password_len = strlen(PASSWORD);
+        for (size_t cut = 0; cut < len; cut++)
+            IS(yz_password_hash_verify(hash, cut, text(PASSWORD), password_len, 1000) == YZ_OK, 0);
+    }
+}
+
+/* What no hash has as its text, and what is longer than a text may be. */
+static void no_password_hashes(void) {
+    static const char *const NONE[] = {
+        "",
+        "$pbkdf2-sha256$i=1000,l=9$AAECAwQFBgcICQoLDA0ODw$ppsXnjrdPB4K",
+        "$pbkdf2-sha256$i=01000,l=32$AAECAwQFBgcICQoLDA0ODw$"
+        "ppsXnjrdPB4KryJ6DrOqKqhkWrhv7PbKAMF1Eml8cZ4",
+        "pbkdf2:sha256:1000$kXq0Wz3vT9bYh2LrE8mNpA$"
+        "EA396aaf9085109eb2579875463ca8c42e56ce5137c7d8c65f868caaf24e7ea9",
+        "pbkdf2_sha256$0$kXq0Wz3vT9bYh2LrE8mNpA$6jlqr5CFEJ6yV5h1RjyoxC5WzlE3x9jGX4aMqvJOfqk=",
+    };
+    for (size_t i = 0; i < sizeof NONE / sizeof *NONE; i++)
+        IS(verify_hash(NONE[i], PASSWORD, UINT32_MAX), YZ_BAD_FORMAT);
+    IS(yz_password_hash_verify(NULL, 0, NULL, 0, 1), YZ_BAD_FORMAT);
+    static char longest[YZ_MAX_PASSWORD_HASH_LEN + 1];
+    memset(longest, 'a', sizeof longest);
+    IS(yz_password_hash_verify(longest, sizeof longest - 1, NULL, 0, 1), YZ_BAD_FORMAT);
+    IS(yz_password_hash_verify(longest, sizeof longest, NULL, 0, 1), YZ_WRONG_LENGTH);
+    memcpy(longest, "pbkdf2_sha1$4294967295$", 23);
+    memcpy(longest + sizeof longest - 30, "$2U/l/68EaoUIrkh0GedCmjQYvmg=", 29);
+    IS(yz_password_hash_verify(longest, sizeof longest - 1, NULL, 0, 1), YZ_TOO_MANY_ITERATIONS);
+    IS(yz_password_hash_verify(longest, sizeof longest, NULL, 0, 1), YZ_WRONG_LENGTH);
+}
+
 int main(void) {
     IS(yz_supported(), true);
     IS(yz_version(), YZ_VERSION);
@@ -456,6 +527,7 @@ int main(void) {
     labels(), refused_labels();
     contexts(), bytes_of_no_context(), past_the_limit();
     pieces(), garbage(), equality_and_clearing();
+    password_hashes(), no_password_hashes();
     if (failures) printf("%d failures\n", failures);
     return failures != 0;
 }

@@ -220,6 +220,25 @@ static PyObject *pbkdf2_hmac_verify(PyObject *Py_UNUSED(module), PyObject *const
     return verdict(status);
 }
 
+static PyObject *password_hash_verify(PyObject *Py_UNUSED(module), PyObject *const *args,
+                                      Py_ssize_t args_len, PyObject *keywords)
+{
+    static const signature takes = {"password_hash_verify", 3, 3, 3,
+                                    {"text", "password", "max_iterations"}};
+    PyObject *values[3];
+    Py_buffer views[2];
+    uint32_t most;
+    if (!gather(&takes, args, args_len, keywords, values)) return NULL;
+    if (!iterations_of(values[2], &most) || !borrow_all(values, 2, views)) return NULL;
+    PyThreadState *saved = PyEval_SaveThread();
+    yz_status status = yz_password_hash_verify((const char *)bytes_of(&views[0]),
+                                               len_of(&views[0]), bytes_of(&views[1]),
+                                               len_of(&views[1]), most);
+    PyEval_RestoreThread(saved);
+    give_back(views, 2);
+    return verdict(status);
+}
+
 PyMethodDef derivation_functions[] = {
     {"hkdf", METHOD(hkdf), FAST,
      PyDoc_STR("hkdf($module, /, hash_name, secret, salt, info, length)\n--\n\n"
@@ -241,5 +260,8 @@ PyMethodDef derivation_functions[] = {
      PyDoc_STR("pbkdf2_hmac_verify($module, /, hash_name, password, salt, iterations, derived)\n"
                "--\n\nWhether `derived` isn't empty, and is what `pbkdf2_hmac` gives for its "
                "length.")},
+    {"password_hash_verify", METHOD(password_hash_verify), FAST,
+     PyDoc_STR("password_hash_verify($module, /, text, password, max_iterations)\n--\n\n"
+               "Whether the hash of this text is the password's.")},
     {NULL, NULL, 0, NULL},
 };

@@ -8,9 +8,11 @@ __all__ = ["Error"]
 _REASONS = {
     1: "unsupported hash type",
     2: "no context or key",
-    3: "wrong length of the output",
+    3: "wrong length of the output, or of a text",
     4: "there must be at least one iteration",
     5: "an input is too long",
+    6: "no password hash has this text",
+    7: "the text names too many iterations",
 }
 
 

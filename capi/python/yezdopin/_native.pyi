@@ -129,3 +129,6 @@ def pbkdf2_hmac_verify(
     iterations: int,
     derived: ReadableBuffer,
 ) -> bool: ...
+def password_hash_verify(
+    text: ReadableBuffer, password: ReadableBuffer, max_iterations: int
+) -> bool: ...

@@ -185,6 +185,13 @@ extern "C" {
         derived: *const u8,
         derived_len: usize,
     ) -> i32;
+    pub fn yz_password_hash_verify(
+        text: *const u8,
+        text_len: usize,
+        password: *const u8,
+        password_len: usize,
+        max_iterations: u32,
+    ) -> i32;
     pub fn yz_equal(a: *const u8, a_len: usize, b: *const u8, b_len: usize) -> bool;
     fn yz_clear(bytes: *mut u8, bytes_len: usize);
 }

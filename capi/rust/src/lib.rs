@@ -26,6 +26,7 @@ pub mod digest;
 pub mod error;
 pub mod hkdf;
 pub mod hmac;
+pub mod password_hash;
 pub mod pbkdf2;
 pub mod rand;
 

@@ -127,3 +127,25 @@ fn pbkdf2_over_our_tags() {
     pbkdf2_agrees!(HmacSha384, Hmac<sha2::Sha384>, PBKDF2_HMAC_SHA384);
     pbkdf2_agrees!(SimpleHmac<Sha512>, Hmac<sha2::Sha512>, PBKDF2_HMAC_SHA512);
 }
+
+#[test]
+fn password_hashes_of_pbkdf2() {
+    use password_hash::{Error, Ident, PasswordHasher, PasswordVerifier, Salt};
+
+    let salt = Salt::new("AAECAwQFBgcICQoLDA0ODw").unwrap();
+    for algorithm in ["pbkdf2-sha256", "pbkdf2-sha512"] {
+        for output_length in [10, 20, 32, 63, 64] {
+            let params = pbkdf2::Params { rounds: 1000, output_length };
+            let name = Some(Ident::new(algorithm).unwrap());
+            let hash = pbkdf2::Pbkdf2
+                .hash_password_customized(b"password", name, None, params, salt)
+                .unwrap();
+            let verify = |max_iterations, password| {
+                yezdopin_rustcrypto::Pbkdf2 { max_iterations }.verify_password(password, &hash)
+            };
+            assert_eq!(verify(1000, b"password"), Ok(()));
+            assert_eq!(verify(1000, b"passwore"), Err(Error::Password));
+            assert!(matches!(verify(999, b"password"), Err(Error::ParamValueInvalid(_))));
+        }
+    }
+}

@@ -1,5 +1,5 @@
 // SPDX-License-Identifier: ISC
-//! RustCrypto's traits of digests and tags (`digest` 0.10) over the proved library of [`yezdopin`].
+//! RustCrypto's traits of digests, tags (`digest` 0.10) and password hashes over the proved library of [`yezdopin`].
 //!
 //! A type of this crate stands where code generic over these traits takes one of `sha1`, `sha2`, or
 //! `hmac::Hmac` over them: `hmac::SimpleHmac<Sha256>`, `hkdf::SimpleHkdf<Sha256>` and
@@ -18,14 +18,32 @@
 //! # Ok::<(), digest::InvalidLength>(())
 //! ```
 //!
+//! [`Pbkdf2`] tests passwords against PHC strings, by `PasswordVerifier` of `password-hash` 0.4:
+//!
+//! ```
+//! use yezdopin_rustcrypto::password_hash::PasswordHash;
+//! use yezdopin_rustcrypto::{PasswordVerifier, Pbkdf2};
+//!
+//! let kept = "$pbkdf2-sha256$i=1000,l=32$AAECAwQFBgcICQoLDA0ODw\
+//!             $ppsXnjrdPB4KryJ6DrOqKqhkWrhv7PbKAMF1Eml8cZ4";
+//! let verifier = Pbkdf2 { max_iterations: 2_000_000 };
+//! let hash = PasswordHash::new(kept)?;
+//! verifier.verify_password(b"correct horse battery staple", &hash)?;
+//! assert!(verifier.verify_password(b"another", &hash).is_err());
+//! # Ok::<(), yezdopin_rustcrypto::password_hash::Error>(())
+//! ```
+//!
 //! As the types of `yezdopin` below them, they panic on a message past the standard's limit, of
 //! about `2^61` bytes or more, and are wiped when they are dropped.
 #![deny(missing_docs)]
 #![forbid(unsafe_code)]
 
 mod digests;
+mod passwords;
 mod tags;
 
 pub use digest::{self, Digest};
 pub use digests::{Sha1, Sha256, Sha384, Sha512, Sha512_256};
+pub use password_hash::{self, PasswordVerifier};
+pub use passwords::Pbkdf2;
 pub use tags::{HmacSha1, HmacSha256, HmacSha384, HmacSha512};

@@ -92,8 +92,8 @@ returns-then-hash_len-len-clause-refused c = λ _ h same e.
     (take c.in_ok-hash_len.hash_len c.decode_into.new.out) h.hash hash_bytes at.0.hash_bytes
     (sym hashed ∙ two.1
     ∙ ap (λ (x : Encoding). written x h.hash) (sym c.hash_encoding.ensures)) in
-    let len : length (take c.in_ok-hash_len.hash_len c.decode_into.new.out)
-    ≡ c.in_ok-hash_len.hash_len = length-take-le c.in_ok-hash_len.hash_len c.decode_into.new.out (omega (arith, c.in_ok-hash_len.ensures.within)) in
+    let len = length-take-le c.in_ok-hash_len.hash_len c.decode_into.new.out
+    (omega (arith, c.in_ok-hash_len.ensures.within)) in
     c.if-hash_len-len.true (sym len ∙ ap length three ∙ sym behind.0)
 
 pub returns-clause-ok : goal.returns-clause-ok
@@ -112,8 +112,8 @@ returns-clause-ok c =
     ∙ ap (λ (x : Encoding). field_then x salt 36 c.in_ok-salt_len.rest.now) c.salt_encoding.ensures
     ∙ ap (field_then (salt_encoding_of k) salt 36) last in
     let is = c.is_salt.ensures.0 c.if-not-is_salt.false in
-    let whole : length hash ≡ c.in_ok-hash_len.hash_len
-    = length-take-le c.in_ok-hash_len.hash_len c.decode_into.new.out (omega (arith, c.in_ok-hash_len.ensures.within)) in
+    let whole = length-take-le c.in_ok-hash_len.hash_len c.decode_into.new.out
+    (omega (arith, c.in_ok-hash_len.ensures.within)) in
     let len : length hash ≡ c.in_ok-parameters.len = whole ∙ c.if-hash_len-len.false in
     record {
       is = record {

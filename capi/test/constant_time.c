@@ -157,6 +157,18 @@ static void derivations(uint32_t n) {
     end("PBKDF2 of salt, secret and value", n, false);
 }
 
+/* Passwords alone: the text of a hash, and so its length and its count, is no secret. */
+static void password_hashes(void) {
+    static const char hash[] = "$7$3$AAECAwQFBgcICQoL$cJ75j/0MokIxIQCU/t1k7JBGVfwD3W1st+OyLYF0EzgR"
+                               "LNjRyexylNuHrNThmUCWBWt20yys3R1zS31q5smg/w==";
+    begin();
+    for (size_t i = 0; i < LENGTHS; i++) {
+        hide_all();
+        is(yz_password_hash_verify(hash, sizeof hash - 1, key, LEN[i], 3), YZ_UNSPECIFIED);
+    }
+    end("password against a hash", 0, false);
+}
+
 /* That what is made of a secret counts as one, without which nothing above would say anything. */
 static void outputs_are_secret(uint32_t n) {
     begin();
@@ -195,6 +207,7 @@ int main(void) {
         digests(n), digests_of_several(n), outputs_are_secret(n);
     for (uint32_t n = YZ_SHA1; n <= YZ_SHA512; n++)
         tags(n), verified_tags(n), expansions(n), derivations(n);
+    password_hashes();
     planted();
     return faults != 0;
 }

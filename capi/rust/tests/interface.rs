@@ -104,3 +104,31 @@ fn values_cross_threads() {
     may_cross_threads::<SystemRandom>();
     may_cross_threads::<Unspecified>();
 }
+
+// A hash of Django 3.2.25.
+const KEPT: &str = "pbkdf2_sha1$1000$kXq0Wz3vT9bYh2LrE8mNpA$2U/l/68EaoUIrkh0GedCmjQYvmg=";
+
+#[test]
+fn refused_password_hashes() {
+    use yezdopin::password_hash::{verify, HashError, MAX_TEXT_LEN};
+
+    let password = b"correct horse battery staple";
+    assert_eq!(verify(KEPT, password, 1000), Ok(()));
+    assert_eq!(
+        verify(KEPT, password, 999),
+        Err(HashError::TooManyIterations)
+    );
+    assert_eq!(verify(KEPT, b"", 1000), Err(HashError::WrongPassword));
+    assert_eq!(
+        verify(&KEPT[1..], password, 1000),
+        Err(HashError::BadFormat)
+    );
+    let longest = "a".repeat(MAX_TEXT_LEN);
+    assert_eq!(verify(&longest, password, 1000), Err(HashError::BadFormat));
+    assert_eq!(
+        verify(&(longest + "a"), password, 1000),
+        Err(HashError::TextTooLong)
+    );
+    prints(&HashError::WrongPassword, "WrongPassword");
+    assert_eq!(HashError::BadFormat.to_string(), "not a password hash");
+}

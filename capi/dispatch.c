@@ -84,11 +84,11 @@ static enum work pbkdf2_work(uint32_t algorithm, size_t out_len) {
 }
 
 /* CALL(NAME, WIDE, WORK, ALGORITHM, (PARAMETERS), (ARGUMENTS)) defines a call that hands its
- * arguments on. The builds have it by the names that the Makefile gives them, with `v2_` and `v3_`.
- * WIDE is `_wide` where the one for x86-64-v3 runs as many messages or rounds side by side as is
- * fastest with its longer vectors. */
+ * arguments on. The builds have it by names with `v2_` and `v3_`, which no library shows. WIDE is
+ * `_wide` where the one for x86-64-v3 runs as many messages or rounds side by side as is fastest
+ * with its longer vectors. */
 #define CALL(name, wide, work, algorithm, parameters, arguments)                                   \
-    __typeof__(name) v2_##name, v3_##name##wide;                                                   \
+    __attribute__((visibility("hidden"))) __typeof__(name) v2_##name, v3_##name##wide;             \
     yz_status name parameters {                                                                    \
         return takes_v3(work, algorithm) ? v3_##name##wide arguments : v2_##name arguments;        \
     }

@@ -26,7 +26,7 @@ MAINTAINER ?= The Yezdopin authors <yezdopin@example.org>
 # $(call install_in,FOLDER,PREFIX,LIBDIR): what `make install` installs, in an empty folder.
 define install_in
 	rm -rf "$(1)"
-	$(MAKE) -s --no-print-directory $(KEPT) install DESTDIR="$(1)" PREFIX=$(2) LIBDIR=$(3) \
+	$(MAKE) -s --no-print-directory install DESTDIR="$(1)" PREFIX=$(2) LIBDIR=$(3) \
 	    INCLUDEDIR=$(2)/include DOCDIR=$(2)/share/doc/yezdopin MANDIR=$(2)/share/man
 endef
 
@@ -36,7 +36,7 @@ deb = MAINTAINER='$(MAINTAINER)' SOURCE_DATE_EPOCH=$(SOURCE_DATE_EPOCH) \
 
 dist: all
 	rm -rf "$(DIST)" "$(WORK)" && mkdir -p "$(DIST)" "$(WORK)"
-	$(MAKE) --no-print-directory $(KEPT) $(PACKAGES:%=dist-%)
+	$(MAKE) --no-print-directory $(PACKAGES:%=dist-%)
 	cd "$(DIST)" && sha256sum * >../SHA256SUMS && mv ../SHA256SUMS . && cat SHA256SUMS
 
 # A tree that works wherever it is unpacked, and install.sh, which copies it.

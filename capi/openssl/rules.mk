@@ -117,7 +117,7 @@ openssl-programs: $(COUNTED)
 POLICY_ROOT = $(WHOLE_OUT)/openssl/policy
 openssl-policy: $(PROVIDER)
 	rm -rf "$(POLICY_ROOT)"
-	$(MAKE) --no-print-directory $(KEPT) openssl-install DESTDIR= PREFIX="$(POLICY_ROOT)" \
+	$(MAKE) --no-print-directory openssl-install DESTDIR= PREFIX="$(POLICY_ROOT)" \
 	    MODULESDIR="$(POLICY_ROOT)/modules" SYSTEM_CNF="$(POLICY_ROOT)/system.cnf" >/dev/null
 	$(PYTHON) -B openssl/test/policy "$(POLICY_ROOT)" \
 	    "$$($(PKG_CONFIG) --variable=modulesdir libcrypto)"
@@ -143,7 +143,7 @@ PROVIDER_ROOT = $(WHOLE_OUT)/openssl/a root
 PROVIDER_SHARED = $(PROVIDER_ROOT)/a prefix/share
 openssl-installed: $(PROVIDER)
 	rm -rf "$(PROVIDER_ROOT)"
-	$(MAKE) --no-print-directory $(KEPT) openssl-install DESTDIR="$(PROVIDER_ROOT)" \
+	$(MAKE) --no-print-directory openssl-install DESTDIR="$(PROVIDER_ROOT)" \
 	    PREFIX='/a prefix' MODULESDIR='/some modules' SYSTEM_CNF=/etc/ssl/openssl.cnf >/dev/null
 	test "$$(cd "$(PROVIDER_ROOT)" && find . -type f | LC_ALL=C sort)" = "$$(printf './%s\n' \
 	    'a prefix/share/doc/$(PROVIDER_DEB)/LICENSE' \
@@ -184,7 +184,7 @@ PROVIDER_PACKAGE = $(shell echo '$(HASH)include <openssl/evp.h>' | $(CC) -E - >/
     && echo deb-$(PROVIDER_DEB))
 dist-deb-$(PROVIDER_DEB): $(PROVIDER)
 	rm -rf "$(WORK)/$(PROVIDER_DEB)"
-	$(MAKE) -s --no-print-directory $(KEPT) openssl-install DESTDIR="$(WORK)/$(PROVIDER_DEB)" \
+	$(MAKE) -s --no-print-directory openssl-install DESTDIR="$(WORK)/$(PROVIDER_DEB)" \
 	    MODULESDIR=$(DPKG_LIBDIR)/ossl-modules PROVIDER_DATADIR=/usr/share/$(PROVIDER_DEB) \
 	    PROVIDER_DOCDIR=/usr/share/doc/$(PROVIDER_DEB) SYSTEM_CNF=/etc/ssl/openssl.cnf
 	$(STRIP) --strip-unneeded --remove-section=.comment \

@@ -1,7 +1,8 @@
 # SPDX-License-Identifier: ISC
 """What pip asks for to install this folder (PEP 517 and 660), with a C compiler and no package.
 
-The extension is compiled from native/, over yezdopin.h and libyezdopin.a, which is linked in.
+The extension is compiled from native/, over yezdopin.h and libyezdopin.a, which is linked in. In a
+clone of the repository `make` builds the latter first, where that is needed.
 `python3 build_backend.py FOLDER` puts the package and its extension into a folder.
 """
 
@@ -33,6 +34,7 @@ HEADER, ARCHIVE = "yezdopin.h", "libyezdopin.a"
 DEBIAN = f"/usr/lib/{os.uname().machine}-linux-gnu"
 USUAL = ["/usr/local/lib", DEBIAN, "/usr/lib64", "/usr/lib"]
 HINT = "build it (`make -C capi`), install it, or name its folder in YEZDOPIN_LIB_DIR"
+MAKE = ["make", "-s", "-C", str(FOLDER.parent), f"out/{ARCHIVE}"]
 
 
 def _pkg_config(variable: str) -> list[pathlib.Path]:
@@ -54,10 +56,22 @@ def _found(name: str, folders: Iterable[pathlib.Path], hint: str) -> pathlib.Pat
     raise SystemExit(f"{name} isn't in any of {', '.join(map(str, tried))}: {hint}")
 
 
+def _make() -> None:
+    """Brings the library of this repository up to date. Where that fails, an older or an installed
+    one may serve."""
+    environment = {name: it for name, it in os.environ.items() if name != "MAKEFLAGS"}
+    try:
+        subprocess.run(MAKE, check=True, env=environment)
+    except (OSError, subprocess.CalledProcessError) as error:
+        print(f"the library was not built: {error}", file=sys.stderr)
+
+
 def _library() -> tuple[pathlib.Path, pathlib.Path]:
     """The header and the archive: of YEZDOPIN_LIB_DIR, of this repository, or installed."""
     given = os.environ.get("YEZDOPIN_LIB_DIR")
     beside = [] if IS_SDIST else [FOLDER.parent / "out"]
+    if not given and not IS_SDIST:
+        _make()
     usual = [*beside, *_pkg_config("libdir"), *map(pathlib.Path, USUAL)]
     archive = _found(ARCHIVE, [pathlib.Path(given)] if given else usual, HINT)
     near = [folder / "include" for folder in archive.resolve().parents[1:3]]

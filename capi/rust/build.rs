@@ -1,9 +1,10 @@
 // SPDX-License-Identifier: ISC
 //! Links libyezdopin.a: that of the folder YEZDOPIN_LIB_DIR, that for the target's processor in the
-//! folder prebuilt/, which the packaged crate has, what `make -C capi` built, or where it is installed.
+//! folder prebuilt/, which the packaged crate has, what `make -C capi` builds, which is called here,
+//! or where it is installed.
 
 use std::env;
-use std::path::PathBuf;
+use std::path::{Path, PathBuf};
 use std::process::{exit, Command};
 
 const ARCHIVE: &str = "libyezdopin.a";
@@ -37,6 +38,26 @@ fn processor() -> &'static str {
     }
 }
 
+// The folder in which `make` builds the library for a processor, in a clone of the repository, from the
+// assembly text there. Where that fails, an older or an installed library may serve.
+fn made(capi: &Path, processor: &str) -> PathBuf {
+    for name in ["generated", "dispatch.c", "include/yezdopin.h"] {
+        println!("cargo:rerun-if-changed={}", capi.join(name).display());
+    }
+    let host = env::var("HOST").expect("cargo names the host");
+    let out = match host.starts_with(processor) {
+        true => "out".into(),
+        false => format!("out/{processor}"),
+    };
+    let mut making = Command::new("make");
+    making.args(["-s", &format!("ARCH={processor}"), &format!("{out}/{ARCHIVE}")]);
+    let status = making.current_dir(capi).env_remove("MAKEFLAGS").status();
+    if !matches!(status, Ok(it) if it.success()) {
+        eprintln!("the library was not built: {making:?}: {status:?}");
+    }
+    capi.join(out)
+}
+
 // The folders that are tried, the first one first.
 fn folders(processor: &str) -> Vec<PathBuf> {
     if let Some(folder) = env::var_os("YEZDOPIN_LIB_DIR") {
@@ -47,10 +68,7 @@ fn folders(processor: &str) -> Vec<PathBuf> {
     let mut folders = vec![package.join("prebuilt").join(processor)];
     // The folders above a packaged crate, which has this file, are anyone's.
     if !package.join("Cargo.toml.orig").is_file() {
-        folders.push(package.join("../out").join(processor));
-        if env::var("HOST").map_or(false, |it| it.starts_with(processor)) {
-            folders.push(package.join("../out"));
-        }
+        folders.push(made(&package.join(".."), processor));
     }
     folders.extend(told());
     // Where archives are installed, where pkg-config doesn't tell.

@@ -1,0 +1,139 @@
+# SPDX-License-Identifier: ISC
+# The crate crates/ring_c proved and built by the kit, in the folder above's Makefile:
+#
+#     make generated         # renews the assembly text of all builds in this folder
+#     make generated-check   # whether the text for ARCH is what the kit makes
+#     make builds-agree      # whether both builds for x86-64 are one library
+#
+# The kit runs on x86-64 alone. The text for aarch64 also wants gcc-aarch64-linux-gnu.
+
+# The crate, and those that it stands on.
+CRATES = ring_core ring ring_c
+CRATE = ../crates/ring_c
+SOURCES = $(shell find $(wildcard $(CRATES:%=../crates/%)) \
+    -mindepth 1 -maxdepth 1 \( -name src -o -name specs -o -name proofs \) -exec find {} + )
+KIT_OUT = $(OUT)/kit
+KIT_ARCHIVE = $(KIT_OUT)/libyezdopin.a
+PLANTED = $(OUT)/libplant.a
+# The crate as `rt lib` builds it, where no finished archive is named.
+ifneq ($(origin BUILT),command line)
+BUILT = $(CRATE)/out/libring_c.$(if $(BUILT_V3),v2,$(ARCH)).a
+endif
+BUILT_V3 = $(if $(filter x86_64,$(ARCH)),$(CRATE)/out/libring_c.v3.a)
+# What a make that is called by a make doesn't build again.
+KEPT = -o $(BUILT) $(BUILT_V3:%=-o %)
+
+define need_kit
+@command -v $(RT) >/dev/null || { echo 'make: $(RT) is missing: this needs the Rattle kit, which' \
+    'proves and builds crates/ring_c' >&2; exit 1; }
+endef
+
+# $(call build,FLAGS,FILE): the crate by some flags. `rt lib` proves before it builds. It is asked
+# only where a source is newer. Each time it writes the same file, which then gets a name of its own.
+define build
+	$(need_kit)
+	mkdir -p $(OUT)
+	@echo 'Proving and building ring_c: some ten minutes the first time. $(OUT)/rt.log has what rt says.'
+	../scripts/progress $(OUT)/rt.log ring_c $(RT) lib $(1) $(RT_FLAGS) \
+	    || { cat $(OUT)/rt.log; exit 1; }
+	mv $(CRATE)/out/libring_c.a $(2)
+	touch $(2)
+endef
+
+ifneq ($(origin BUILT),command line)
+ifneq ($(ARCH),x86_64)
+$(BUILT): $(SOURCES) ../crates.txt
+	$(call build,--target=$(ARCH)-unknown-linux-gnu,$@)
+
+KIT_PARTS = $(BUILT)
+$(KIT_OUT)/yezdopin_$(ARCH).calls: $(OUT)/names
+	mkdir -p $(@D)
+	cp $< $@
+$(KIT_OUT)/yezdopin_$(ARCH).o: $(BUILT) $(KIT_OUT)/yezdopin_$(ARCH).calls
+	$(take_calls)
+else
+$(BUILT) $(BUILT_V3) &: $(SOURCES) ../crates.txt
+	$(call build,--cpu=x86-64-v3,$(BUILT_V3))
+	$(call build,,$(BUILT))
+
+# The builds, whose calls get the names that dispatch.c calls them by: those that it asks for where
+# one build is forced. That for x86-64-v3 keeps no other name.
+KIT_PARTS = $(KIT_OUT)/ring_c.v2.a $(KIT_OUT)/ring_c.v3.a
+$(KIT_OUT)/v2.renamed $(KIT_OUT)/v3.renamed: $(KIT_OUT)/%.renamed: $(OUT)/%/dispatch.o
+	mkdir -p $(@D)
+	$(NM) -u $< | sed -n 's/^ *U $*_\(.*\)/\1 $*_\1/p' >$@
+$(KIT_OUT)/ring_c.v2.a: $(BUILT) $(KIT_OUT)/v2.renamed
+	$(OBJCOPY) --redefine-syms=$(KIT_OUT)/v2.renamed $(BUILT) $@
+$(KIT_OUT)/ring_c.v3.a: $(BUILT_V3) $(KIT_OUT)/yezdopin_x86_64_v3.calls
+	$(OBJCOPY) --redefine-syms=$(KIT_OUT)/v3.renamed \
+	    --keep-global-symbols=$(KIT_OUT)/yezdopin_x86_64_v3.calls $(BUILT_V3) $@
+
+# What the library takes of each: of that for x86-64-v3 only what dispatch.c calls.
+$(KIT_OUT)/yezdopin_x86_64_v2.calls: $(KIT_OUT)/v2.renamed $(OUT)/names
+	awk 'NR == FNR { name[$$1] = $$2; next } { print $$1 in name ? name[$$1] : $$1 }' $^ >$@
+$(KIT_OUT)/yezdopin_x86_64_v3.calls: $(KIT_OUT)/v3.renamed
+	awk '{ print $$2 }' $< >$@
+$(KIT_OUT)/yezdopin_x86_64_v2.o $(KIT_OUT)/yezdopin_x86_64_v3.o: \
+    $(KIT_OUT)/yezdopin_x86_64_%.o: $(KIT_OUT)/ring_c.%.a $(KIT_OUT)/yezdopin_x86_64_%.calls
+	$(take_calls)
+endif
+
+# $(take_calls): one object of what some calls of a build reach.
+define take_calls
+	$(LD) -r --gc-sections $$(sed 's/^/--undefined=/' $(@:.o=.calls)) -o $@ --whole-archive $<
+endef
+
+# The library as the kit's own builds make it.
+$(KIT_ARCHIVE): $(if $(BUILT_V3),$(OUT)/dispatch.o) $(KIT_PARTS) $(OUT)/names
+	mkdir -p $(@D)
+	$(NM) -g --defined-only $(BUILT) | awk '$$2 == "T" && $$3 !~ /_wide$$/ { print $$3 }' | sort \
+	    | diff $(OUT)/names -
+	$(call archive,$(filter %.o,$^) --whole-archive $(filter %.a,$^))
+
+# The text of the builds for ARCH. Its head has the crates as the last commit has them.
+trees = $$(for it in $(CRATES); do echo "$$it $$(git rev-parse --short=12 HEAD:crates/$$it)"; done \
+    | xargs)$$(git diff --quiet HEAD -- $(CRATES:%=../crates/%) || echo ', and changes since')
+generated-$(ARCH): $(TEXTS:generated/%.S=$(KIT_OUT)/%.o)
+	for it in $(TEXTS:generated/%.S=%); do \
+	    $(PYTHON) -B generated/assembly.py $(KIT_OUT)/$$it.o $(KIT_OUT)/$$it.S \
+	        'SPDX-License-Identifier: ISC' '' \
+	        'Written by `make -C capi generated` from the proved crate ring_c: do not edit.' \
+	        "Kit: $$($(RT) version)" "Git trees: $(trees)" \
+	        && mv $(KIT_OUT)/$$it.S generated || exit 1; \
+	done
+
+# The kit is asked for all, even where no source is newer.
+generated:
+	$(MAKE) --no-print-directory -B generated-$(HOST)
+	$(MAKE) --no-print-directory -B ARCH=aarch64 generated-aarch64
+
+# What both link to, to the byte: the library of the text that stands here, and the kit's own.
+generated-check: $(ARCHIVE) $(KIT_ARCHIVE)
+	for it in $(ARCHIVE) $(KIT_ARCHIVE); do \
+	    $(LD) -s -shared --whole-archive $$it -o $(KIT_OUT)/$$(basename $${it%/*}).so || exit 1; \
+	done
+	cmp $(KIT_OUT)/$(notdir $(OUT)).so $(KIT_OUT)/kit.so || { echo 'make: generated/ is not what the' \
+	    'kit makes of crates/ring_c: renew it by `make -C capi generated`' >&2; exit 1; }
+endif
+
+# Both builds for x86-64 by all their calls, which have names of their own in that for x86-64-v3.
+builds-agree: $(BUILT)
+	mkdir -p $(KIT_OUT)
+	$(NM) -g --defined-only $(BUILT_V3) | awk '$$2 == "T" { print $$3, "v3_" $$3 }' >$(KIT_OUT)/all
+	$(OBJCOPY) --redefine-syms=$(KIT_OUT)/all $(BUILT_V3) $(KIT_OUT)/ring_c.all.a
+	$(CC) $(CFLAGS) $(STRICT) test/builds.c $(BUILT) $(KIT_OUT)/ring_c.all.a -o $(OUT)/builds
+	! $(has_avx2) || $(OUT)/builds
+
+# The planted crate stands outside of crates/, since its bodies are proved and leak all the same. It
+# is proved and built in a copy outside of the repository, over what was kept of the crates below.
+$(PLANTED): $(BUILT) test/planted.rattle
+	$(need_kit)
+	mkdir -p $(OUT)
+	room=$$(mktemp -d) && trap 'rm -rf "$$room"' EXIT && mkdir -p "$$room/crates/plant/src" && \
+	cp -a ../crates/ring_core ../crates/ring "$$room/crates" && cp ../HANDLES "$$room" && \
+	cp test/planted.rattle "$$room/crates/plant/src/lib.rt" && \
+	printf '%s\n' 'ring_core:' 'ring: ring_core' 'plant staticlib: ring' >"$$room/crates.txt" && \
+	(cd "$$room/crates/plant" && $(RT) lib $(RT_FLAGS) >../log 2>&1 || { cat ../log; exit 1; }) && \
+	cp "$$room/crates/plant/out/libplant.a" $@
+
+.PHONY: generated generated-$(ARCH) generated-check builds-agree

@@ -62,11 +62,11 @@ uint32_t algorithm_of_constructor(PyObject *object)
     return 0;
 }
 
-#define TAKES "($module, /, data=b'', *, usedforsecurity=True)\n--\n\n"
+#define TAKES "($module, /, data=b'', *, usedforsecurity=True, string=...)\n--\n\n"
 
 PyMethodDef digest_functions[] = {
     {"new", METHOD(native_new), FAST,
-     PyDoc_STR("new($module, /, name, data=b'', *, usedforsecurity=True)\n--\n\n"
+     PyDoc_STR("new($module, /, name, data=b'', *, usedforsecurity=True, string=...)\n--\n\n"
                "A digest under the algorithm of a name, as `hashlib.new`.")},
     {"sha1", METHOD(sha1), FAST,
      PyDoc_STR("sha1" TAKES

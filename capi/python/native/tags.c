@@ -150,6 +150,7 @@ static PyGetSetDef key_members[] = {
 };
 
 static PyType_Slot key_slots[] = {
+    {Py_tp_doc, "Key(key, digestmod)\n--\n\nA key, which signs and verifies messages."},
     SLOT(Py_tp_new, key_new),
     SLOT(Py_tp_dealloc, key_dealloc),
     {Py_tp_methods, key_methods},

@@ -64,7 +64,7 @@ class Names(unittest.TestCase):
 
     def test_signatures(self):
         said = str(inspect.signature(yezdopin.sha256))
-        self.assertEqual(said, "(data=b'', *, usedforsecurity=True)")
+        self.assertEqual(said, "(data=b'', *, usedforsecurity=True, string=Ellipsis)")
         for name in yezdopin.__all__:
             it = getattr(yezdopin, name)
             if callable(it) and it not in (yezdopin.Digest, yezdopin.Error):

@@ -3,31 +3,33 @@
 
 from __future__ import annotations
 
-from typing import TYPE_CHECKING, Any, Callable, Protocol, TypeVar, overload
+import typing
+from typing import TYPE_CHECKING, Any, Callable, TypeVar, overload
 
 from yezdopin._native import Digest, new
 
 if TYPE_CHECKING:
-    from _typeshed import ReadableBuffer
+    from _typeshed import ReadableBuffer as _Buffer
 
 __all__ = ["file_digest"]
 
 _PIECE_LEN = 2**18
 
 
-class _Running(Protocol):
+class _Running(typing.Protocol):
     """What file_digest asks of an object of another hash."""
 
-    def update(self, data: ReadableBuffer, /) -> Any: ...
+    def update(self, data: _Buffer, /) -> Any: ...
 
 
 _Hash = TypeVar("_Hash", bound=_Running)
 
 
+# The underscores say the same as the slash below, to tools that don't read it in overloads.
 @overload
-def file_digest(fileobj: Any, digest: str, /, *, _bufsize: int = ...) -> Digest: ...
+def file_digest(__fileobj: Any, __digest: str, *, _bufsize: int = ...) -> Digest: ...
 @overload
-def file_digest(fileobj: Any, digest: Callable[[], _Hash], /, *, _bufsize: int = ...) -> _Hash: ...
+def file_digest(__fileobj: Any, __digest: Callable[[], _Hash], *, _bufsize: int = ...) -> _Hash: ...
 def file_digest(
     fileobj: Any, digest: str | Callable[[], Any], /, *, _bufsize: int = _PIECE_LEN
 ) -> Any:

@@ -23,7 +23,7 @@ from yezdopin import _native
 from yezdopin._native import compare_digest
 
 if TYPE_CHECKING:
-    from _typeshed import ReadableBuffer
+    from _typeshed import ReadableBuffer as _Buffer
 
 __all__ = ["HMAC", "Key", "compare_digest", "digest", "new", "verify"]
 
@@ -59,11 +59,11 @@ class Key(_native.Key):
 
     __slots__ = ()
 
-    def __new__(cls, key: ReadableBuffer, digestmod: Any) -> Key:
+    def __new__(cls, key: _Buffer, digestmod: Any) -> Key:
         known = _native_hash(digestmod)
         return super().__new__(cls, key, digestmod if known is None else known)
 
-    def new(self, msg: ReadableBuffer | None = None) -> HMAC:
+    def new(self, msg: _Buffer | None = None) -> HMAC:
         """The tag of a message in pieces."""
         made = HMAC.__new__(HMAC)
         made._hold(self._begin(msg))
@@ -84,7 +84,7 @@ class HMAC:
     digest_size: int
 
     def __init__(
-        self, key: ReadableBuffer, msg: ReadableBuffer | None = None, digestmod: Any = ""
+        self, key: _Buffer, msg: _Buffer | None = None, digestmod: Any = ""
     ) -> None:
         if not digestmod:
             raise TypeError("missing required argument 'digestmod'")
@@ -94,7 +94,7 @@ class HMAC:
         else:
             self._init_hmac(key, msg, known)
 
-    def _init_hmac(self, key: ReadableBuffer, msg: ReadableBuffer | None, digestmod: Any) -> None:
+    def _init_hmac(self, key: _Buffer, msg: _Buffer | None, digestmod: Any) -> None:
         self._hold(_native.hmac_new(key, msg, digestmod))
 
     def _hold(self, tag: _native.Tag) -> None:
@@ -103,7 +103,7 @@ class HMAC:
         self.digest_size = tag.digest_size
         self.block_size = tag.block_size
 
-    def _init_old(self, key: ReadableBuffer, msg: ReadableBuffer | None, digestmod: Any) -> None:
+    def _init_old(self, key: _Buffer, msg: _Buffer | None, digestmod: Any) -> None:
         """RFC 2104 over objects of any hash."""
         begin = _constructor(digestmod)
         self._hmac, self._inner, self._outer = None, begin(), begin()
@@ -132,7 +132,7 @@ class HMAC:
         """The hash, as 'hmac-sha256'."""
         return self._hmac.name if self._hmac is not None else f"hmac-{self._inner.name}"
 
-    def update(self, msg: ReadableBuffer) -> None:
+    def update(self, msg: _Buffer) -> None:
         """Adds bytes to the message."""
         running = self._inner if self._hmac is None else self._hmac
         running.update(msg)
@@ -172,12 +172,12 @@ class HMAC:
         raise TypeError("cannot pickle 'HMAC' object")
 
 
-def new(key: ReadableBuffer, msg: ReadableBuffer | None = None, digestmod: Any = "") -> HMAC:
+def new(key: _Buffer, msg: _Buffer | None = None, digestmod: Any = "") -> HMAC:
     """The tag of a message in pieces, as `hmac.new`."""
     return HMAC(key, msg, digestmod)
 
 
-def digest(key: ReadableBuffer, msg: ReadableBuffer, digest: Any) -> bytes:
+def digest(key: _Buffer, msg: _Buffer, digest: Any) -> bytes:
     """The tag of a message, as `hmac.digest`."""
     known = _native_hash(digest)
     if known is None:
@@ -185,7 +185,7 @@ def digest(key: ReadableBuffer, msg: ReadableBuffer, digest: Any) -> bytes:
     return _native.hmac_digest(key, msg, known)
 
 
-def verify(key: ReadableBuffer, msg: ReadableBuffer, tag: ReadableBuffer, digest: Any) -> bool:
+def verify(key: _Buffer, msg: _Buffer, tag: _Buffer, digest: Any) -> bool:
     """Whether `tag` is the whole tag of a message."""
     known = _native_hash(digest)
     if known is None:

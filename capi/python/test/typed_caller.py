@@ -1,0 +1,25 @@
+# SPDX-License-Identifier: ISC
+"""A caller of the package, which `make python-types` holds to its types by `mypy --strict`."""
+
+import hashlib
+import io
+
+import yezdopin
+from yezdopin import hmac
+
+
+def digests_of(path: str) -> list[str]:
+    """Digests of a file and of buffers, by each kind of what `file_digest` takes."""
+    with open(path, "rb") as file:
+        first = yezdopin.file_digest(file, "sha256")
+    second = yezdopin.file_digest(io.BytesIO(b"abc"), yezdopin.sha1)
+    third = yezdopin.file_digest(io.BytesIO(b"abc"), hashlib.sha256)
+    fourth = yezdopin.file_digest(io.BytesIO(b"abc"), lambda: yezdopin.new("sha512"))
+    return [first.hexdigest(), second.copy().hexdigest(), third.hexdigest(), fourth.name]
+
+
+def signs(message: bytes) -> bool:
+    """A tag by two calls."""
+    key = hmac.Key(b"a key", "sha256")
+    tag: bytes = hmac.new(b"a key", message, yezdopin.sha256).digest()
+    return key.verify(message, tag) and hmac.compare_digest(tag, key.sign(message))

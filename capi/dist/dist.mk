@@ -1,5 +1,6 @@
 # SPDX-License-Identifier: ISC
-# Packages of the built library, for users without the Rattle kit, into out/dist with SHA256SUMS:
+# Packages of the built library, for users without the Rattle kit, into out/dist with SHA256SUMS,
+# PROVENANCE, which says what they come from, and a software bill of materials in SPDX's format:
 #
 #     make dist; make dist-check; make ARCH=aarch64 dist; make ARCH=aarch64 dist-check
 #
@@ -27,7 +28,7 @@ MAINTAINER ?= The Yezdopin authors <yezdopin@example.org>
 define install_in
 	rm -rf "$(1)"
 	$(MAKE) -s --no-print-directory install DESTDIR="$(1)" PREFIX=$(2) LIBDIR=$(3) \
-	    INCLUDEDIR=$(2)/include DOCDIR=$(2)/share/doc/yezdopin MANDIR=$(2)/share/man
+	    INCLUDEDIR=$(2)/include DOCDIR=$(2)/share/doc/yezdopin MANDIR=$(2)/share/man >/dev/null
 endef
 
 # $(call deb,NAME): the Debian package of WORK/NAME.
@@ -37,6 +38,8 @@ deb = MAINTAINER='$(MAINTAINER)' SOURCE_DATE_EPOCH=$(SOURCE_DATE_EPOCH) \
 dist: all
 	rm -rf "$(DIST)" "$(WORK)" && mkdir -p "$(DIST)" "$(WORK)"
 	$(MAKE) --no-print-directory $(PACKAGES:%=dist-%)
+	$(PYTHON) -B dist/origin "$(DIST)" $(VERSION) $(ARCH) $(SOURCE_DATE_EPOCH) \
+	    "$$($(CC) --version | head -n 1)" $(TEXTS)
 	cd "$(DIST)" && sha256sum * >../SHA256SUMS && mv ../SHA256SUMS . && cat SHA256SUMS
 
 # A tree that works wherever it is unpacked, and install.sh, which copies it.
@@ -59,7 +62,8 @@ dist-deb-libyezdopin$(MAJOR): all
 	ln -s $(notdir $(SHARED)) "$(WORK)/libyezdopin$(MAJOR)$(DPKG_LIBDIR)/$(SONAME)"
 	cd "$(WORK)/libyezdopin$(MAJOR)/DEBIAN" && echo 'activate-noawait ldconfig' >triggers && \
 	echo 'libyezdopin $(MAJOR) libyezdopin$(MAJOR) (>= $(VERSION))' >shlibs && \
-	echo '$(SONAME) libyezdopin$(MAJOR) #MINVER#' >symbols
+	printf '%s\n' '$(SONAME) libyezdopin$(MAJOR) #MINVER#' \
+	    '* Build-Depends-Package: libyezdopin-dev' >symbols
 	$(NM) -D --defined-only $(SHARED) | awk '$$2 == "A" { $$3 = $$3 "@" $$3 } \
 	    { sub(/@@/, "@", $$3); print " " $$3, "$(VERSION)" }' | LC_ALL=C sort \
 	    >>"$(WORK)/libyezdopin$(MAJOR)/DEBIAN/symbols"
@@ -68,7 +72,8 @@ dist-deb-libyezdopin$(MAJOR): all
 dist-deb-libyezdopin-dev: all
 	$(call install_in,$(WORK)/libyezdopin-dev,/usr,$(DPKG_LIBDIR))
 	cd "$(WORK)/libyezdopin-dev/usr" && rm lib/*/libyezdopin.so.* share/doc/yezdopin/LICENSE && \
-	mv share/doc/yezdopin share/doc/libyezdopin-dev && gzip -9n share/man/man3/*
+	mv share/doc/yezdopin share/doc/libyezdopin-dev && gzip -9n share/man/man3/* && \
+	$(OBJCOPY) --enable-deterministic-archives --remove-section=.comment lib/*/libyezdopin.a
 	$(call deb,libyezdopin-dev)
 
 # The Python package with its extension, which has the archive in it.

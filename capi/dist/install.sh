@@ -58,9 +58,17 @@ uninstall() {
     find include lib share ! -type d | while IFS= read -r file; do
         rm -f "$root/$file"
     done
-    for folder in lib/cmake/yezdopin share/doc/yezdopin/examples share/doc/yezdopin; do
-        [ ! -d "$root/$folder" ] || rmdir "$root/$folder"
+    # The folders that are empty now, but for those that every system has.
+    find include lib share -depth -type d | while IFS= read -r folder; do
+        case $prefix:$folder in
+        /usr:* | /usr/local:include | /usr/local:lib | /usr/local:share | /usr/local:share/man) ;;
+        *) rmdir "$root/$folder" 2>/dev/null || true ;;
+        esac
     done
+    case $prefix in
+    /usr | /usr/local) ;;
+    *) rmdir "$root" 2>/dev/null || true ;;
+    esac
     echo "libyezdopin is removed from $root"
 }
 

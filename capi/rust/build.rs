@@ -50,7 +50,11 @@ fn made(capi: &Path, processor: &str) -> PathBuf {
         false => format!("out/{processor}"),
     };
     let mut making = Command::new("make");
-    making.args(["-s", &format!("ARCH={processor}"), &format!("{out}/{ARCHIVE}")]);
+    making.args([
+        "-s",
+        &format!("ARCH={processor}"),
+        &format!("{out}/{ARCHIVE}"),
+    ]);
     let status = making.current_dir(capi).env_remove("MAKEFLAGS").status();
     if !matches!(status, Ok(it) if it.success()) {
         eprintln!("the library was not built: {making:?}: {status:?}");

@@ -70,10 +70,10 @@ impl HmacContext {
 pub unsafe trait Plain {}
 
 // The sizes of yezdopin.h, which are those of the members.
-const _: () = assert!(std::mem::size_of::<DigestContext>() == 216);
-const _: () = assert!(std::mem::size_of::<HmacKey>() == 136);
-const _: () = assert!(std::mem::size_of::<HmacContext>() == 280);
-const _: () = assert!(std::mem::size_of::<Message>() == 16);
+const _: () = assert!(core::mem::size_of::<DigestContext>() == 216);
+const _: () = assert!(core::mem::size_of::<HmacKey>() == 136);
+const _: () = assert!(core::mem::size_of::<HmacContext>() == 280);
+const _: () = assert!(core::mem::size_of::<Message>() == 16);
 
 // SAFETY: they are numbers without gaps between them.
 unsafe impl Plain for DigestContext {}
@@ -84,7 +84,7 @@ unsafe impl Plain for HmacContext {}
 pub fn clear<T: Plain>(value: &mut T) {
     let bytes: *mut T = value;
     // SAFETY: the value is lent for writing, and zeros are a value of it.
-    unsafe { yz_clear(bytes.cast(), std::mem::size_of::<T>()) }
+    unsafe { yz_clear(bytes.cast(), core::mem::size_of::<T>()) }
 }
 
 /// The same of bytes.

@@ -4,7 +4,9 @@
 use crate::calls::{self, DigestContext, Message};
 use crate::done;
 use crate::error::Unspecified;
-use std::fmt;
+use alloc::vec;
+use alloc::vec::Vec;
+use core::fmt;
 
 /// The bytes of the longest block (FIPS 180-4, figure 1).
 pub const MAX_BLOCK_LEN: usize = 128;

@@ -1,8 +1,8 @@
 // SPDX-License-Identifier: ISC
 //! Errors.
 
-use std::array::TryFromSliceError;
-use std::{error, fmt};
+use core::array::TryFromSliceError;
+use core::fmt;
 
 /// An error that tells no cause. A caller's own error takes it by `From<Unspecified>`, so that `?`
 /// turns one into the other.
@@ -15,7 +15,8 @@ impl fmt::Display for Unspecified {
     }
 }
 
-impl error::Error for Unspecified {}
+#[cfg(feature = "std")]
+impl std::error::Error for Unspecified {}
 
 impl From<TryFromSliceError> for Unspecified {
     fn from(_: TryFromSliceError) -> Self {

@@ -27,7 +27,9 @@ use crate::calls;
 use crate::digest::Digest;
 use crate::error::Unspecified;
 use crate::{done, hmac};
-use std::fmt;
+use alloc::vec;
+use alloc::vec::Vec;
+use core::fmt;
 
 // The most digests of an output (RFC 5869, section 2.3).
 const MAX_ROUNDS: usize = 255;

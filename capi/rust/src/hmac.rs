@@ -38,7 +38,7 @@ use crate::calls::{self, HmacContext, HmacKey};
 use crate::digest::{self, Digest};
 use crate::error::Unspecified;
 use crate::{done, hkdf, rand};
-use std::fmt;
+use core::fmt;
 
 /// An algorithm: one of the four statics of this module, HMAC over a digest algorithm.
 #[derive(Clone, Copy, Debug, PartialEq, Eq)]

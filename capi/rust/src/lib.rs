@@ -18,7 +18,15 @@
 //!
 //! As in `ring`, a call without a `Result` panics on an input past the standard's limit, of about
 //! `2^61` bytes or more.
+//!
+//! Without the feature `std`, which is on by default, the crate needs `alloc` in place of the
+//! standard library, and [`error::Unspecified`] is no `std::error::Error`.
+#![no_std]
 #![deny(missing_docs, unsafe_op_in_unsafe_fn)]
+
+extern crate alloc;
+#[cfg(feature = "std")]
+extern crate std;
 
 mod calls;
 pub mod constant_time;
@@ -49,11 +57,12 @@ pub fn is_supported() -> bool {
 
 #[cfg(target_arch = "x86_64")]
 fn is_x86_64_v2() -> bool {
-    is_x86_feature_detected!("sse3")
-        && is_x86_feature_detected!("ssse3")
-        && is_x86_feature_detected!("sse4.1")
-        && is_x86_feature_detected!("sse4.2")
-        && is_x86_feature_detected!("popcnt")
+    // SSE3, SSSE3, SSE4.1, SSE4.2 and POPCNT.
+    const WANTED: u32 = 1 | 1 << 9 | 1 << 19 | 1 << 20 | 1 << 23;
+    // SAFETY: every x86-64 processor has `cpuid` and its leaf 1.
+    #[allow(unused_unsafe)] // later compilers call it safe
+    let found = unsafe { core::arch::x86_64::__cpuid(1) };
+    found.ecx & WANTED == WANTED
 }
 
 // What a status says.

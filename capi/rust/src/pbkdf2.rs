@@ -14,7 +14,7 @@
 
 use crate::error::Unspecified;
 use crate::{calls, digest, done};
-use std::num::NonZeroU32;
+use core::num::NonZeroU32;
 
 /// An algorithm: one of the four statics of this module, PBKDF2 over an HMAC algorithm.
 #[derive(Clone, Copy, Debug, PartialEq, Eq)]

@@ -12,9 +12,7 @@
 //! ```
 
 use crate::error::Unspecified;
-use std::ffi::c_void;
-use std::io;
-use std::os::raw::c_uint;
+use core::ffi::c_void;
 
 /// A secure source of random bytes. It is sealed: [`SystemRandom`] is the only one.
 ///
@@ -107,18 +105,22 @@ fn some_random(dest: &mut [u8]) -> Result<usize, Unspecified> {
 
 // Whether the last call of the system ended since a signal came.
 fn was_interrupted() -> bool {
-    io::Error::last_os_error().kind() == io::ErrorKind::Interrupted
+    const EINTR: i32 = 4;
+    // SAFETY: the C library gives the place of this thread's number.
+    unsafe { *__errno_location() == EINTR }
 }
 
 extern "C" {
-    // As <sys/random.h> declares it, which the standard library is linked with.
-    fn getrandom(buf: *mut c_void, buflen: usize, flags: c_uint) -> isize;
+    // As <sys/random.h> declares it.
+    fn getrandom(buf: *mut c_void, buflen: usize, flags: u32) -> isize;
+    // As <errno.h> of glibc and of musl has it.
+    fn __errno_location() -> *mut i32;
 }
 
 // What no other crate can name, so that none has a source or a value of its own.
 mod sealed {
     use crate::error::Unspecified;
-    use std::fmt;
+    use core::fmt;
 
     pub trait SecureRandom: fmt::Debug {
         fn fill_impl(&self, dest: &mut [u8]) -> Result<(), Unspecified>;

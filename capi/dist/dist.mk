@@ -10,7 +10,8 @@
 # that fills WORK/NAME with what is installed, and then calls `deb`.
 
 PACKAGES = tarball deb-libyezdopin$(MAJOR) deb-libyezdopin-dev wheel \
-    $(PROVIDER_PACKAGE) $(if $(filter x86_64,$(ARCH)),crate $(NPM_PACKAGE))
+    $(PROVIDER_PACKAGE) $(TOOLS_PACKAGE) \
+    $(if $(filter x86_64,$(ARCH)),crate rustcrypto $(NPM_PACKAGE))
 
 DIST = $(WHOLE_OUT)/dist
 WORK = $(DIST).work
@@ -35,6 +36,13 @@ endef
 deb = MAINTAINER='$(MAINTAINER)' SOURCE_DATE_EPOCH=$(SOURCE_DATE_EPOCH) \
     dist/deb "$(WORK)/$(1)" $(VERSION) $(DPKG_ARCH) "$(DIST)"
 
+# $(call pack,FOLDER,FILE): a folder of WORK, packed into a file of DIST.
+define pack
+	chmod -R u=rwX,go=rX "$(WORK)/$(1)"
+	LC_ALL=C tar -C "$(WORK)" --sort=name --owner=0 --group=0 --numeric-owner --format=ustar \
+	    --mtime=@$(SOURCE_DATE_EPOCH) -cf - $(1) | gzip -9n >"$(DIST)/$(2)"
+endef
+
 dist: all
 	rm -rf "$(DIST)" "$(WORK)" && mkdir -p "$(DIST)" "$(WORK)"
 	$(MAKE) --no-print-directory $(PACKAGES:%=dist-%)
@@ -48,9 +56,7 @@ dist-tarball: all
 	sed -i 's,^prefix=.*,prefix=$${pcfiledir}/../..,' "$(WORK)/$(TREE)/lib/pkgconfig/yezdopin.pc"
 	cp dist/INSTALL dist/install.sh "$(WORK)/$(TREE)"
 	sed -i 's|@processor@|$(ARCH)|' "$(WORK)/$(TREE)/install.sh"
-	chmod -R u=rwX,go=rX "$(WORK)/$(TREE)"
-	LC_ALL=C tar -C "$(WORK)" --sort=name --owner=0 --group=0 --numeric-owner --format=ustar \
-	    --mtime=@$(SOURCE_DATE_EPOCH) -cf - $(TREE) | gzip -9n >"$(DIST)/$(TREE).tar.gz"
+	$(call pack,$(TREE),$(TREE).tar.gz)
 
 # The shared library, with what dpkg-shlibdeps reads for packages that use it.
 dist-deb-libyezdopin$(MAJOR): all
@@ -101,6 +107,17 @@ dist-crate: all $(ARM_ARCHIVE)
 	cd "$(WORK)/rust" && unset YEZDOPIN_LIB_DIR && CARGO_TARGET_DIR="$(WORK)/cargo" \
 	    $(CARGO) package --offline --quiet --allow-dirty
 	cp "$(WORK)/cargo/package/yezdopin-$(VERSION).crate" "$(DIST)"
+
+# The crate with RustCrypto's traits, which finds the one above beside it where both are unpacked.
+RUSTCRYPTO = yezdopin-rustcrypto-$(VERSION)
+dist-rustcrypto:
+	rm -rf "$(WORK)/$(RUSTCRYPTO)" && mkdir -p "$(WORK)/$(RUSTCRYPTO)"
+	cp -R rust/rustcrypto/src ../LICENSE "$(WORK)/$(RUSTCRYPTO)"
+	sed 's|path = "\.\."|version = "$(VERSION)", path = "../yezdopin-$(VERSION)"|' \
+	    rust/rustcrypto/Cargo.toml >"$(WORK)/$(RUSTCRYPTO)/Cargo.toml"
+	sed 's/\[\([^][]*\)\](\([^):]*\))/\1/g; s|path = "YEZDOPIN/.*"|path = "$(RUSTCRYPTO)"|' \
+	    rust/rustcrypto/README.md >"$(WORK)/$(RUSTCRYPTO)/README.md"
+	$(call pack,$(RUSTCRYPTO),$(RUSTCRYPTO).crate)
 
 packages-named:
 	@echo $(PACKAGES)

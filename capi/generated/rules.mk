@@ -7,9 +7,10 @@
 #
 # The kit runs on x86-64 alone. The text for aarch64 also wants gcc-aarch64-linux-gnu.
 
-# The crate, and those that it stands on.
-CRATES = ring_core ring ring_c
+# The crate, and those that it stands on, as crates.txt has them, lowest first.
 CRATE = ../crates/ring_c
+CRATES := $(shell tac ../crates.txt 2>/dev/null | tr -d : | awk '$$1 == "ring_c" || $$1 in used \
+    { print $$1; for (i = 2; i <= NF; i++) used[$$i] }' | tac)
 SOURCES = $(shell find $(wildcard $(CRATES:%=../crates/%)) \
     -mindepth 1 -maxdepth 1 \( -name src -o -name specs -o -name proofs \) -exec find {} + )
 KIT_OUT = $(OUT)/kit
@@ -29,7 +30,7 @@ define need_kit
 endef
 
 # $(call build,FLAGS,FILE): the crate by some flags. `rt lib` proves before it builds. It is asked
-# only where a source is newer. Each time it writes the same file, which then gets a name of its own.
+# only where a source is newer. It always writes the same file, which then gets a name of its own.
 define build
 	$(need_kit)
 	mkdir -p $(OUT)

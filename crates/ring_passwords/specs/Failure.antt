@@ -3,12 +3,16 @@ use Rattle.std.specs.Prelude.{ℕ}
 use Rattle.ring_passwords.specs.declared.failure.Failure.{Failure}
 use Rattle.ring_passwords.specs.declared.failure.Failure.TheVariants as failure
 use Rattle.ring_store.specs.declared.error.StoreError.{StoreError}
+use Rattle.ring_password_hash.specs.declared.error.HashError.{HashError}
+use Rattle.ring_password_hash.specs.declared.error.HashError.TheVariants as hash
 use Rattle.ring_store.specs.declared.error.StoreError.TheVariants as refused
 
--- the exit status: 1 where the name has no record, or one of another password, and else 2
+-- the exit status: 1 where the name has no record, or it or the text is of another password, and
+-- else 2
 abbrev pub status_of : Failure → ℕ
 status_of failure.WrongNameOrPassword = 1
 status_of failure.NoSuchName = 1
+status_of failure.WrongPassword = 1
 status_of _ = 2
 
 -- a store's refusal
@@ -17,3 +21,12 @@ failure_of refused.BadName = failure.BadName
 failure_of refused.TooLong = failure.TooLong
 failure_of refused.WrongUsernameOrPassword = failure.WrongNameOrPassword
 failure_of refused.Memory = failure.Memory
+
+-- a hash's or a verifier's refusal
+abbrev pub hash_failure_of : HashError → Failure
+hash_failure_of hash.BadFormat = failure.NotAText
+hash_failure_of hash.TooManyIterations = failure.TooManyIterations
+hash_failure_of hash.BadSalt = failure.BadSalt
+hash_failure_of hash.TooLong = failure.TooLong
+hash_failure_of hash.WrongPassword = failure.WrongPassword
+hash_failure_of hash.Memory = failure.Memory

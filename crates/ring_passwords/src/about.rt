@@ -21,6 +21,8 @@ pub const USAGE: &str = "usage: passwords FILE set NAME [--iterations N]
        passwords FILE verify NAME
        passwords FILE remove NAME
        passwords FILE list
+       passwords encode KIND [--iterations N]
+       passwords check [--max-iterations N]
        passwords --help
        passwords --version";
 
@@ -28,9 +30,13 @@ pub const USAGE: &str = "usage: passwords FILE set NAME [--iterations N]
 const STATUSES: &str = "
 
 A password is one line of standard input. N is 1 to 4294967295; a new file has 600000.
+encode writes the text that another system keeps of a password, and check tests the password on the
+second line against the text on the first one, of at most 10000000 iterations unless given. KIND is
+django-sha256, django-sha1, werkzeug-sha256, werkzeug-sha512, phc-sha256, phc-sha512, mosquitto,
+passlib-sha1, passlib-sha256, passlib-sha512 or postgresql.
 
-status: 0  the password is set or right, the name is removed, the names are written
-        1  verify: wrong name or password; remove: no such name
+status: 0  the password is set or right, the name is removed, the names or the text are written
+        1  verify: wrong name or password; remove: no such name; check: wrong password
         2  any other failure; standard error has the reason
 ";
 

@@ -131,7 +131,7 @@ fn action_with_option<'a>(
 
 /// The iterations that a word writes in decimal, without a sign or a leading zero: 1 to
 /// 4,294,967,295.
-fn iterations_of(word: &str) -> Option<NonZeroU32>
+pub fn iterations_of(word: &str) -> Option<NonZeroU32>
     ensures ok { IfSome result (λ c. (word.now ≡ decimal (non_zero_u32_get c))
         × (non_zero_u32_get c < 2 ^ 32)) }
     ensures refused { IsNone result → IsNoCount word.now }

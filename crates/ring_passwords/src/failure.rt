@@ -1,10 +1,11 @@
 //! Why a run ends without success.
 
 ghost use Rattle.std.specs.Prelude.{◌≡◌};
-ghost use Rattle.ring_passwords.specs.Failure.{failure_of, status_of};
+ghost use Rattle.ring_passwords.specs.Failure.{failure_of, hash_failure_of, status_of};
 ghost use Rattle.ring_passwords.specs.declared.failure.Failure.TheVariants.{Memory};
 
 use crate::about::USAGE;
+use ring_password_hash::HashError;
 use ring_store::StoreError;
 use std::alloc::AllocError;
 use std::{fmt, io};
@@ -16,11 +17,13 @@ pub enum Step {
     Arguments,
     /// The line of the password.
     ReadPassword,
+    /// The line of the text.
+    ReadText,
     /// The file as it is.
     ReadFile,
     /// The lock.
     Lock,
-    /// The salt of a new store.
+    /// The salt of a new store or a new text.
     Salt,
     /// The new file, in the place of the old one.
     Replace,
@@ -28,6 +31,8 @@ pub enum Step {
     SyncFolder,
     /// The names on standard output.
     WriteNames,
+    /// The text of a password on standard output.
+    WriteText,
     /// What the program tells of itself, on standard output.
     WriteAbout,
 }
@@ -39,12 +44,28 @@ pub enum Failure {
     Usage,
     /// What is given as iterations is no number, or none that a store can have.
     BadIterations,
+    /// What is given as the most iterations is no number, or none that a text can have.
+    BadMaxIterations,
     /// Standard input ends before the first byte of a line.
     NoPassword,
+    /// Standard input ends before the first byte of the text.
+    NoText,
     /// The name has no byte, or more than 64.
     BadName,
-    /// The password is longer than HMAC-SHA-256 admits.
+    /// The password is longer than HMAC admits.
     TooLong,
+    /// The source of random bytes is not ready.
+    NoRandom,
+    /// The password is for PostgreSQL, and has a byte past ASCII.
+    NeedsPreparation,
+    /// The line is not the text of a password.
+    NotAText,
+    /// The text has more iterations than are admitted.
+    TooManyIterations,
+    /// The format cannot write the salt.
+    BadSalt,
+    /// The text is of another password.
+    WrongPassword,
     /// The name has no record, or one of another password.
     WrongNameOrPassword,
     /// The name has no record.
@@ -65,7 +86,7 @@ pub enum Failure {
     System(Step, io::Error),
 }
 
-/// The exit status of a name without a record, or with one of another password.
+/// The exit status of a name without a record, and of one or a text of another password.
 pub const NOT_FOUND: u8 = 1;
 
 /// The exit status of every other failure.
@@ -78,6 +99,7 @@ impl Failure {
     {
         match self {
             Failure::WrongNameOrPassword | Failure::NoSuchName => NOT_FOUND,
+            Failure::WrongPassword => NOT_FOUND,
             _ => FAILED,
         }
     }
@@ -88,12 +110,14 @@ impl fmt::Display for Step {
         match self {
             Step::Arguments => write!(f, "cannot read the arguments"),
             Step::ReadPassword => write!(f, "cannot read the password"),
+            Step::ReadText => write!(f, "cannot read the text"),
             Step::ReadFile => write!(f, "cannot read the file"),
             Step::Lock => write!(f, "cannot lock the file"),
             Step::Salt => write!(f, "cannot get random bytes"),
             Step::Replace => write!(f, "cannot replace the file"),
             Step::SyncFolder => write!(f, "replaced the file, but cannot sync its folder"),
             Step::WriteNames => write!(f, "cannot write the names"),
+            Step::WriteText => write!(f, "cannot write the text"),
             Step::WriteAbout => write!(f, "cannot write to standard output"),
         }
     }
@@ -107,9 +131,24 @@ impl fmt::Display for Failure {
             Failure::BadIterations => {
                 write!(f, "--iterations takes a number from 1 to 4294967295")
             }
+            Failure::BadMaxIterations => {
+                write!(f, "--max-iterations takes a number from 1 to 4294967295")
+            }
             Failure::NoPassword => write!(f, "no password on standard input"),
+            Failure::NoText => write!(f, "no text on standard input"),
             Failure::BadName => write!(f, "a name has 1 to 64 bytes"),
             Failure::TooLong => write!(f, "the password is too long"),
+            Failure::NoRandom => write!(f, "cannot get random bytes"),
+            Failure::NeedsPreparation => {
+                write!(
+                    f,
+                    "a password for PostgreSQL has to be ASCII: no SASLprep here"
+                )
+            }
+            Failure::NotAText => write!(f, "not the text of a password"),
+            Failure::TooManyIterations => write!(f, "the text has too many iterations"),
+            Failure::BadSalt => write!(f, "the format cannot write the salt"),
+            Failure::WrongPassword => write!(f, "wrong password"),
             Failure::WrongNameOrPassword => write!(f, "wrong name or password"),
             Failure::NoSuchName => write!(f, "no such name"),
             Failure::NoFile => write!(f, "no such file"),
@@ -142,6 +181,22 @@ impl From<StoreError> for Failure {
             StoreError::TooLong => Failure::TooLong,
             StoreError::WrongUsernameOrPassword => Failure::WrongNameOrPassword,
             StoreError::Memory => Failure::Memory,
+        }
+    }
+}
+
+/// A hash's or a verifier's refusal.
+impl From<HashError> for Failure {
+    ghost from_gives = { λ error failure. failure ≡ hash_failure_of error };
+
+    fn from(error: HashError) -> Self {
+        match error {
+            HashError::BadFormat => Failure::NotAText,
+            HashError::TooManyIterations => Failure::TooManyIterations,
+            HashError::BadSalt => Failure::BadSalt,
+            HashError::TooLong => Failure::TooLong,
+            HashError::WrongPassword => Failure::WrongPassword,
+            HashError::Memory => Failure::Memory,
         }
     }
 }

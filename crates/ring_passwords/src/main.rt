@@ -1,5 +1,5 @@
-//! Keeps passwords in a file: `FILE set|verify|remove NAME` and `FILE list`. `--help` and
-//! `--version` tell of the program.
+//! Keeps passwords in a file: `FILE set|verify|remove NAME` and `FILE list`. `encode KIND` and
+//! `check` write and test the texts of other systems. `--help` and `--version` tell of the program.
 //!
 //! A password is one line of standard input. The file has the text of a store, as `ring_store`
 //! writes it, and is replaced whole or not at all. `docs/PASSWORDS.md` has the statuses and the
@@ -12,11 +12,17 @@ ghost use Rattle.ring_passwords.specs.Failure.{status_of};
 use crate::about::{About, write_about};
 use crate::action::{Action, about_of, action_of};
 use crate::change::{ADVISED_ITERATIONS, FEWEST_ITERATIONS};
+use crate::check::check;
+use crate::conversion::{Conversion, conversion_of, max_iterations};
+use crate::drawn::Drawn;
 use crate::failure::{Failure, Step};
 use crate::file::LockedFile;
+use crate::format::Format;
 use crate::listing::write_listing;
 use crate::password::read_password;
+use crate::stored::Stored;
 use ring::cost::Meter;
+use ring_password_hash::salt::RANDOM_LEN;
 use ring_store::{DB_SALT_LEN, PasswordStore};
 use std::fs::File;
 use std::num::NonZeroU32;
@@ -28,10 +34,15 @@ use std::{env, io};
 mod about;
 mod action;
 mod change;
+mod check;
+mod conversion;
+mod drawn;
 mod failure;
 mod file;
+mod format;
 mod listing;
 mod password;
+mod stored;
 
 /// The program's arguments, without its own name.
 fn arguments<R: Env + AllocGlobal>(rt: &R) -> Result<Vec<String>, Failure>
@@ -127,6 +138,38 @@ fn list<R: Files + AllocGlobal + Print>(rt: &R, path: &str) -> Result<(), Failur
     write_listing(rt.alloc(), &store, &mut io::writer(rt))
 }
 
+/// Writes the text of a password, under a random salt.
+fn encode<R: AllocGlobal + Input + Print + RandomSource>(
+    rt: &R,
+    format: Format,
+    iterations: NonZeroU32,
+) -> Result<(), Failure>
+    ensures status { IfErr result (λ failure. status_of failure ≡ 2) }
+{
+    let password = read_password(rt.alloc(), &mut rt.reader())?;
+    let mut random = [0; RANDOM_LEN];
+    if let Err(error) = rt.fill_bytes(&mut random) {
+        return Err(Failure::System(Step::Salt, error));
+    }
+    let mut source = Drawn { left: &random };
+    let stored = Stored::new(rt.alloc(), format, &password, iterations, &mut source)?;
+    stored.write(rt.alloc(), &mut io::writer(rt))
+}
+
+/// Does what is asked of the text of a password.
+fn convert<R: AllocGlobal + Input + Print + RandomSource>(
+    rt: &R,
+    asked: Conversion,
+) -> Result<(), Failure>
+    ensures status { IfErr result (λ failure. (status_of failure ≡ 2)
+        ⊎ (failure ≡ Failure.WrongPassword)) }
+{
+    match asked {
+        Conversion::Encode(format, given) => encode(rt, format, format.iterations(given)),
+        Conversion::Check(given) => check(rt.alloc(), &mut rt.reader(), max_iterations(given)),
+    }
+}
+
 /// Writes what is asked of the program itself.
 fn tell<R: Print>(rt: &R, about: About) -> Result<(), Failure>
     ensures status { IfErr result (λ failure. status_of failure ≡ 2) }
@@ -153,6 +196,9 @@ where
     let words = arguments(rt)?;
     if let Some(about) = about_of(&words) {
         return tell(rt, about);
+    }
+    if let Some(asked) = conversion_of(&words)? {
+        return convert(rt, asked);
     }
     let Some((path, words)) = words.split_first() else {
         return Err(Failure::Usage);

@@ -9,6 +9,7 @@ pub mod hkdf;
 pub mod hmac;
 pub mod hotp;
 pub mod laws;
+pub mod migration;
 pub mod pbkdf2;
 pub mod pieces;
 pub mod rand;

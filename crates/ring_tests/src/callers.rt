@@ -20,6 +20,7 @@ use ring_examples::hmac::{
     key_for_both, tag_counted, tag_len, tag_of_two, tags_of_front_and_whole, verify_tag,
 };
 use ring_examples::hotp::hotp;
+use ring_examples::migration::{MoveError, move_at_login};
 use ring_examples::pbkdf2::{can_derive_len, derive_and_verify, stored_of, verify_stored};
 use ring_examples::pieces::{
     digest_again, digest_and_blocks, digest_of_list, digest_of_whole, digests_of_front_and_whole,
@@ -30,7 +31,8 @@ use ring_examples::several::{
     digests_of_both, digests_of_four, stored_of_both, stored_of_four, verify_four,
 };
 use ring_examples::store::log_in;
-use ring_store::{PasswordStore, TokenMaker};
+use ring_password_hash::HashError;
+use ring_store::{PasswordStore, StoreError, TokenMaker};
 use std::num::NonZeroU32;
 use std::test::Fail;
 
@@ -306,5 +308,28 @@ fn logins(rt: HostRuntime) -> Result<(), Fail> {
     let token = log_in(&mut store, &maker, b"alice", b"correct horse", 100)?;
     maker.check(b"alice", 100, 100, &token)?;
     assert!(rt; log_in(&mut store, &maker, b"alice", b"battery staple", 100).is_err());
+    Ok(())
+}
+
+// What Django 3.2.25 keeps of `correct horse battery staple`, at 1,000 iterations.
+const BY_DJANGO: &[u8] =
+    b"pbkdf2_sha256$1000$kXq0Wz3vT9bYh2LrE8mNpA$6jlqr5CFEJ6yV5h1RjyoxC5WzlE3x9jGX4aMqvJOfqk=";
+
+#[test]
+fn moves(rt: HostRuntime) -> Result<(), Fail> {
+    let password = b"correct horse battery staple";
+    let most = NonZeroU32::new(1_000).unwrap();
+    let mut store = PasswordStore::new(rt.alloc(), [7; 16], NonZeroU32::MIN);
+    let wrong = move_at_login(rt.alloc(), &mut store, b"alice", b"battery", BY_DJANGO, most);
+    assert!(rt; wrong == Err(MoveError::Text(HashError::WrongPassword)));
+    let fewer = NonZeroU32::new(999).unwrap();
+    let many = move_at_login(rt.alloc(), &mut store, b"alice", password, BY_DJANGO, fewer);
+    assert!(rt; many == Err(MoveError::Text(HashError::TooManyIterations)));
+    let nameless = move_at_login(rt.alloc(), &mut store, b"", password, BY_DJANGO, most);
+    assert!(rt; nameless == Err(MoveError::Store(StoreError::BadName)) && store.is_empty());
+    let right = move_at_login(rt.alloc(), &mut store, b"alice", password, BY_DJANGO, most);
+    assert!(rt; right.is_ok() && store.len() == 1);
+    store.check_password(b"alice", password)?;
+    assert!(rt; store.check_password(b"alice", b"battery").is_err());
     Ok(())
 }

@@ -59,6 +59,7 @@ pub fn read_password<R: BufRead>(alloc: Global, reader: &mut R) -> Result<Vec<u8
 pub fn read_text<R: BufRead>(alloc: Global, reader: &mut R) -> Result<Vec<u8>, Failure>
     ensures ok { IfOk result (λ text. IfSome (R.remaining reader.old)
         (λ bytes. text.items ≡ first_piece 10 bytes)) }
+    ensures some { OnOk result (IfSome (R.remaining reader.old) (λ bytes. bytes ≢ [])) }
     ensures none { IsErrOf result Failure.NoText
         → IfSome (R.remaining reader.old) (λ bytes. bytes ≡ []) }
     ensures rest { OnOk result

@@ -202,7 +202,7 @@ def modules(library, path=()):
     source = ROOT / "crates" / library / "src"
     file = source.joinpath(*path).with_suffix(".rt") if path else source / "lib.rt"
     text = file.read_text()
-    page = comment_lines(re.match(r"(?://!.*\n)*", text).group(), "//!")
+    page = comment_lines(re.match(r"(?:// SPDX.*\n)?((?://!.*\n)*)", text).group(1), "//!")
     module = Module(library, path, file, page, [], {}, [])
     module.items = list(items(module, text, 0, len(text)))
     for it in module.items:

@@ -1,3 +1,4 @@
+-- SPDX-License-Identifier: ISC
 -- Lists of messages and of their digests.
 use Rattle.std.proofs.lemmas.Grind.{common_steps}
 use Rattle.std.proofs.Common.{◌≡◌, ℕ, ◌+◌, ◌<◌, ◌≤◌, List, [], ◌∷◌, ◌++◌, length, take, drop}

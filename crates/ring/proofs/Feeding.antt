@@ -1,3 +1,4 @@
+-- SPDX-License-Identifier: ISC
 -- A context that takes a message piece by piece: what it stands for, what it counts and what that
 -- costs.
 use Rattle.std.proofs.lemmas.Grind.{common_steps}

@@ -1,3 +1,4 @@
+-- SPDX-License-Identifier: ISC
 -- Messages of a digest's length in lanes, signed by one block after each masked block of the key.
 use Rattle.std.proofs.lemmas.Grind.{common_steps}
 use Rattle.std.proofs.Common.{◌≡◌, ℕ, ◌*◌, ◌/◌, ◌≤◌, List, ◌++◌, length, take, drop, sym, ap, ◌∙◌}

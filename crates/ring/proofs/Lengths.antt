@@ -1,3 +1,4 @@
+-- SPDX-License-Identifier: ISC
 -- The length of a digest, and costs of whole messages.
 use Rattle.std.proofs.lemmas.Grind.{common_steps}
 use Rattle.std.proofs.Common.{◌≡◌, ℕ, ◌+◌, ◌/◌, ◌%◌, inl, inr, List, length, refl, sym, ap, ◌∙◌}

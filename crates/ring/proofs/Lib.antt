@@ -1,3 +1,4 @@
+-- SPDX-License-Identifier: ISC
 pub mod Costs
 pub mod Rows
 pub mod Each

@@ -1,3 +1,4 @@
+-- SPDX-License-Identifier: ISC
 -- Clauses of one variant of a result.
 use Rattle.std.proofs.Common.{Result, Ok, Err}
 use Rattle.std.specs.Prelude.{IfOk, OnOk}

@@ -1,3 +1,4 @@
+-- SPDX-License-Identifier: ISC
 -- Numbered blocks of one length, one after another, and their fronts.
 use Rattle.std.proofs.lemmas.Grind.{common_steps}
 use Rattle.std.proofs.Common.{◌≡◌, ℕ, List, [], ◌++◌, ◌+◌, ◌*◌, ◌≤◌, ◌<◌, ◌↔◌, length}

@@ -1,3 +1,4 @@
+-- SPDX-License-Identifier: ISC
 -- What the rows have in common.
 use Rattle.std.proofs.lemmas.Grind.{common_steps}
 use Rattle.std.proofs.Common.{arith, ◌≡◌, ℕ, zero, ◌<◌, ◌≤◌, ◌-◌, ◌*◌, ◌^◌, ◌⊎◌, refl, inl, inr}

@@ -1,3 +1,4 @@
+-- SPDX-License-Identifier: ISC
 -- Sums over places, and what a meter rises by there.
 use Rattle.std.proofs.Common.{◌≡◌, ℕ, ◌+◌, ◌*◌, ◌<◌, add-one, add-suc, arith, refl, suc, sym, zero}
 use Rattle.ring.specs.Prelude.{Counts, raised, sum_below}

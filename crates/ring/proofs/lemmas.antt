@@ -1,3 +1,4 @@
+-- SPDX-License-Identifier: ISC
 -- Lemmas that serve one module, in folders named as these.
 pub mod digest
 pub mod hmac

@@ -1,3 +1,4 @@
+-- SPDX-License-Identifier: ISC
 -- The algorithms of the code, each with its row of the standard's table, its first words and its
 -- block function.
 use Rattle.std.specs.Prelude.{ℕ, ◌/◌, List, codes}

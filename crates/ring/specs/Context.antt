@@ -1,3 +1,4 @@
+-- SPDX-License-Identifier: ISC
 -- What contexts stand for, and what they count.
 use Rattle.std.specs.Prelude.{◌≡◌, ℕ, ◌+◌, ◌-◌, ◌*◌, ◌≤◌, ◌^◌, min, List, ◌++◌, length, take, drop}
 use Rattle.std.specs.Prelude.{replicate}

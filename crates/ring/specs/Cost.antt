@@ -1,3 +1,4 @@
+-- SPDX-License-Identifier: ISC
 -- Numbers of blocks, from lengths in bytes.
 use Rattle.std.specs.Prelude.{ℕ, ◌+◌, ◌-◌, ◌*◌, ◌/◌, max, nat_le, if◌then◌else◌}
 use Rattle.std.specs.Int.{div_ceil}

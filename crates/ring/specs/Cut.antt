@@ -1,3 +1,4 @@
+-- SPDX-License-Identifier: ISC
 -- A text cut at a byte, of which the texts of the crates above speak.
 use Rattle.std.specs.Prelude.{◌≡◌, ◌==◌, ℕ, false, List, ◌∷◌, ◌++◌, All}
 

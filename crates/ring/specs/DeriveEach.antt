@@ -1,3 +1,4 @@
+-- SPDX-License-Identifier: ISC
 -- Keys derived from several secrets at once.
 use Rattle.std.specs.Prelude.{◌≡◌, ◌↔◌, ℕ, zero, suc, ◌+◌, ◌<◌, Bool, false, IsTrue, List, []}
 use Rattle.std.specs.Prelude.{get_or, length}

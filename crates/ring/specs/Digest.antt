@@ -1,3 +1,4 @@
+-- SPDX-License-Identifier: ISC
 -- Digests (FIPS 180-4, sections 6.1 to 6.7).
 use Rattle.std.specs.Prelude.{◌≡◌, ℕ, ◌/◌, List, length, take}
 use Rattle.ring_core.specs.Chunks.{fold_chunks}

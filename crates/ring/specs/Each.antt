@@ -1,3 +1,4 @@
+-- SPDX-License-Identifier: ISC
 -- Digests of several messages at once.
 use Rattle.std.specs.Prelude.{◌≡◌, ℕ, ◌<◌, List, [], get_or, length, map, sum_by, take}
 use Rattle.std.specs.Borrow.{Bor}

@@ -1,3 +1,4 @@
+-- SPDX-License-Identifier: ISC
 -- What the calls that derive keys and verify values give, refuse and cost: each stands here once
 -- for its counted form and its form over vectors of any width.
 use Rattle.std.specs.Prelude.{◌≡◌, ◌↔◌, ℕ, ◌*◌, Bool, List, Result, IsOk, OnErr, OnOk, length}

@@ -1,3 +1,4 @@
+-- SPDX-License-Identifier: ISC
 -- HKDF (RFC 5869).
 use Rattle.std.specs.Prelude.{ℕ, zero, suc, List, [], ◌∷◌, ◌++◌, take}
 use Rattle.ring.specs.Hmac.{KeyStandsFor, hmac_digest, hmac_of, key_algorithm}

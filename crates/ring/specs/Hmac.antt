@@ -1,3 +1,4 @@
+-- SPDX-License-Identifier: ISC
 -- HMAC (RFC 2104).
 use Rattle.std.specs.Prelude.{◌≡◌, ℕ, ◌+◌, List, ◌++◌, length}
 use Rattle.ring.specs.Algorithm.{block_len, output_len}

@@ -1,3 +1,4 @@
+-- SPDX-License-Identifier: ISC
 -- Where initial words come from (FIPS 180-4, sections 5.3.3, 5.3.4 and 5.3.5).
 use Rattle.std.specs.Prelude.{ℕ, ◌<◌, List, drop, slice_index}
 use Rattle.ring_core.specs.Roots.{IsRootFraction, first_primes}

@@ -1,3 +1,4 @@
+-- SPDX-License-Identifier: ISC
 -- A key made one block, and masked (RFC 2104, section 2).
 use Rattle.std.specs.Prelude.{ℕ, ◌-◌, List, ◌++◌, length, map, replicate, nat_le, if◌then◌else◌}
 use Rattle.ring_core.specs.Word.{◌⊕◌}

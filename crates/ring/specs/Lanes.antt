@@ -1,3 +1,4 @@
+-- SPDX-License-Identifier: ISC
 -- Digests and keys as the words of states.
 use Rattle.std.specs.Prelude.{◌≡◌, ◌⊎◌, ℕ, ◌*◌, ◌≤◌, List, take}
 use Rattle.ring.specs.Algorithm.{output_len, word_count, word_len}

@@ -1,3 +1,4 @@
+-- SPDX-License-Identifier: ISC
 pub mod Table
 pub mod Algorithm
 pub mod Initial

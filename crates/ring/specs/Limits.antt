@@ -1,3 +1,4 @@
+-- SPDX-License-Identifier: ISC
 -- The limits of lengths, in bytes. What is limited and by what number stands here once: as lengths,
 -- as limits of these, and as tests of the limits.
 use Rattle.std.specs.Prelude.{ℕ, ◌+◌, ◌-◌, ◌*◌, ◌^◌, ◌<◌, ◌≤◌, Bool, nat_le, ◌==◌, ◌&&◌, ◌||◌}

@@ -1,3 +1,4 @@
+-- SPDX-License-Identifier: ISC
 -- Outputs that were asked for and not yet given.
 use Rattle.std.specs.Prelude.{◌≡◌, ◌↔◌, ℕ, List, Result, length, IfOk, IsOk}
 use Rattle.ring_core.specs.declared.error.Unspecified.{Unspecified}

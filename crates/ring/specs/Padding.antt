@@ -1,3 +1,4 @@
+-- SPDX-License-Identifier: ISC
 -- Padding (FIPS 180-4, section 5.1).
 use Rattle.std.specs.Prelude.{◌≡◌, ℕ, ◌+◌, ◌-◌, ◌*◌, ◌/◌, ◌%◌, ◌≤◌, List, ◌∷◌, ◌++◌, length}
 use Rattle.std.specs.Prelude.{replicate}

@@ -1,3 +1,4 @@
+-- SPDX-License-Identifier: ISC
 -- PBKDF2 (RFC 2898, section 5.2): the password p, the salt s, the iteration count c.
 use Rattle.std.specs.Prelude.{◌≡◌, ℕ, zero, suc, List, ◌++◌, length, replicate, take}
 use Rattle.std.specs.Int.{bytes_high_first}

@@ -1,3 +1,4 @@
+-- SPDX-License-Identifier: ISC
 -- Lists of pieces, and lists of numbered blocks, as the bytes that they join to.
 use Rattle.std.specs.Prelude.{ℕ, zero, suc, List, [], ◌++◌}
 use Rattle.std.specs.Borrow.{Bor}

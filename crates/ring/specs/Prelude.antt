@@ -1,3 +1,4 @@
+-- SPDX-License-Identifier: ISC
 -- The words that most contracts and proofs cite, and the types that they speak of, passed on from
 -- one place.
 pub use Rattle.ring.specs.Table.{sha1_row, sha256_row, sha384_row, sha512_row, sha512_256_row}

@@ -1,3 +1,4 @@
+-- SPDX-License-Identifier: ISC
 -- Messages of one digest's length: after the key's block each of them is one block with its padding
 -- (RFC 2104, section 2).
 use Rattle.std.specs.Prelude.{ℕ, ◌+◌, ◌*◌, List, ◌∷◌, ◌++◌, replicate}

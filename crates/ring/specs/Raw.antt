@@ -1,3 +1,4 @@
+-- SPDX-License-Identifier: ISC
 -- Contexts and keys as plain numbers.
 use Rattle.std.specs.Prelude.{◌≡◌, ◌<◌, ◌≤◌, ◌⊎◌, ◌+◌, ◌-◌, ◌*◌, ◌%◌, ◌^◌, ℕ, List, ◌++◌, length}
 use Rattle.std.specs.Prelude.{map, take, drop, replicate, Option, Some, None, option_map, unwrap_or}

@@ -1,3 +1,4 @@
+-- SPDX-License-Identifier: ISC
 -- What takes the bytes of derived keys.
 use Rattle.std.specs.Prelude.{◌≡◌, ◌⊎◌, ℕ, ◌+◌, ◌^◌, ◌<◌, ◌≤◌, List, ◌++◌, length}
 

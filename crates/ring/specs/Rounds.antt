@@ -1,3 +1,4 @@
+-- SPDX-License-Identifier: ISC
 -- The rounds of keys of one length: all of one key before those of the next.
 use Rattle.std.specs.Prelude.{◌≡◌, ℕ, zero, suc, ◌+◌, ◌-◌, ◌*◌, ◌<◌, ◌≤◌, List, IsTrue}
 use Rattle.std.specs.Prelude.{get_or, if◌then◌else◌, length, min, nat_lt, take}

@@ -1,3 +1,4 @@
+-- SPDX-License-Identifier: ISC
 -- Values made of a source's bytes.
 use Rattle.ring.specs.declared.rand.Random.{Random}
 

@@ -1,3 +1,4 @@
+-- SPDX-License-Identifier: ISC
 -- What a contract sees of a state: chaining words of one of two sizes.
 use Rattle.std.specs.Prelude.{ℕ, Bool, nat_eq, List, drop, take}
 use Rattle.std.specs.Int.{bytes_high_first}

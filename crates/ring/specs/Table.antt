@@ -1,3 +1,4 @@
+-- SPDX-License-Identifier: ISC
 -- The table of the algorithms (FIPS 180-4, section 1, figure 1, and section 5.3), with no word of
 -- the code.
 use Rattle.std.specs.Prelude.{ℕ, ◌-◌, ◌^◌, List, [], ◌∷◌}

@@ -1,3 +1,4 @@
+-- SPDX-License-Identifier: ISC
 -- Several contexts, each updated with a piece.
 use Rattle.std.specs.Prelude.{◌≡◌, ℕ, ◌+◌, ◌%◌, ◌<◌, ◌≤◌, List, ◌++◌, get_or, length, sum_by}
 use Rattle.std.specs.Borrow.{Bor}

@@ -1,3 +1,4 @@
+// SPDX-License-Identifier: ISC
 //! Digests of messages (FIPS 180-4).
 //!
 //! [`digest`] computes the digest of one message. A [`Context`] computes that of a message that

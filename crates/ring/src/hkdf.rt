@@ -1,3 +1,4 @@
+// SPDX-License-Identifier: ISC
 //! Keys derived from secrets: HKDF (RFC 5869).
 //!
 //! A [`Salt`] extracts a pseudorandom key, a [`Prk`], from a secret. The PRK is expanded to output,
@@ -25,8 +26,8 @@
 //!     }
 //! }
 //!
-//! /// Fills the whole of `out` with output for what `info` tells. Where that is refused, `out` is
-//! /// as it was.
+//! /// Fills the whole of `out` with output for the purpose that `info` names. Where that is
+//! /// refused, `out` is as it was.
 //! pub fn expand_secret(
 //!     salt: &[u8],
 //!     secret: &[u8],

@@ -1,3 +1,4 @@
+// SPDX-License-Identifier: ISC
 //! Message authentication: HMAC (RFC 2104).
 //!
 //! A [`Key`] is made once, and then signs and verifies any number of messages. [`sign`] computes

@@ -1,3 +1,4 @@
+// SPDX-License-Identifier: ISC
 //! Laws: facts that relate several calls.
 //!
 //! A law without parameters is a fact about the definitions. Its clause is the law, and the call

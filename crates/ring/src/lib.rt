@@ -1,3 +1,4 @@
+// SPDX-License-Identifier: ISC
 //! Digests, HMAC, HKDF and PBKDF2, with the names and the behaviour of the Rust crate `ring`
 //! 0.17.14.
 //!

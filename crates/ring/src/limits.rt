@@ -1,3 +1,4 @@
+// SPDX-License-Identifier: ISC
 //! The limits of lengths, but for a digest's own
 //! ([`max_input_len`](crate::digest::Algorithm::max_input_len)).
 //!

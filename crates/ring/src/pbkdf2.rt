@@ -1,3 +1,4 @@
+// SPDX-License-Identifier: ISC
 //! Keys derived from passwords: PBKDF2 (RFC 2898, section 5.2).
 //!
 //! [`derive`] computes a key, or the value that a login stores in place of a password, from a

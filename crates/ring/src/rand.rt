@@ -1,3 +1,4 @@
+// SPDX-License-Identifier: ISC
 //! Byte sources, and values made of their bytes.
 //!
 //! The library has no source of its own: the caller implements [`SecureRandom`] and answers for the

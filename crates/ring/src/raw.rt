@@ -1,3 +1,4 @@
+// SPDX-License-Identifier: ISC
 //! Contexts and keys as plain numbers, for callers that keep them in memory of their own, as those
 //! in C do.
 //!

@@ -1,3 +1,4 @@
+-- SPDX-License-Identifier: ISC
 -- The numbers of blocks of lines.
 use Rattle.std.proofs.Common.{◌≡◌, ℕ, ◌+◌, ◌-◌, ◌*◌, ◌^◌, ◌<◌, ◌≤◌, nat_le, if◌then◌else◌, true}
 use Rattle.std.proofs.Common.{false, inl, inr, refl, ap, ◌∙◌, arith, mul-le-mul_right}

@@ -1,3 +1,4 @@
+-- SPDX-License-Identifier: ISC
 -- Lemmas on the tests of limits, and on how a call that was refused is known by its blocks.
 use Rattle.std.proofs.Common.{◌≡◌, ℕ, ◌+◌, ◌-◌, ◌^◌, ◌<◌, ◌≤◌, nat_le, true≢false, Bool}
 use Rattle.std.proofs.Common.{true, false, List, refl, sym, ap, ◌∙◌, arith, rules}

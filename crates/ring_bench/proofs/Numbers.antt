@@ -1,3 +1,4 @@
+-- SPDX-License-Identifier: ISC
 -- Lemmas on numbers in decimal.
 use Rattle.std.proofs.Common.{◌≡◌, ℕ, ◌+◌, ◌-◌, ◌*◌, ◌<◌, ◌⊎◌, inl, inr, nat_eq, true, false, cond}
 use Rattle.std.proofs.Common.{None, List, [], ◌∷◌, length, get_or, drop, refl, sym, ap, ◌∙◌, arith}

@@ -1,3 +1,4 @@
+-- SPDX-License-Identifier: ISC
 -- Lemmas on pairs of hex digits, and on lists as they are filled.
 use Rattle.std.proofs.Common.{◌≡◌, ◌≢◌, ℕ, suc, ◌+◌, ◌*◌, ◌<◌, List, [], ◌∷◌, length, slice_index}
 use Rattle.std.proofs.Common.{Option, Some, None, Ok, unwrap_or, inl, inr, refl, ap, arith}

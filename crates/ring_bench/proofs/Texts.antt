@@ -1,3 +1,4 @@
+-- SPDX-License-Identifier: ISC
 -- Lemmas on a text, its lines, and what ends them.
 use Rattle.std.proofs.Common.{◌≡◌, ◌==◌, ℕ, zero, suc, ◌+◌, ◌-◌, ◌<◌, ◌≤◌, Bool, true, false, cond}
 use Rattle.std.proofs.Common.{List, [], ◌∷◌, ◌++◌, length, map, take, All, refl, sym, ap, ◌∙◌}

@@ -1,3 +1,4 @@
+-- SPDX-License-Identifier: ISC
 -- The algorithm that a field ALG names.
 use Rattle.std.specs.Prelude.{ℕ, List, Option, None, Some, if◌then◌else◌, codes}
 use Rattle.std.specs.Option.{option_and_then}

@@ -1,3 +1,4 @@
+-- SPDX-License-Identifier: ISC
 -- What the table of hex digits has for each byte.
 use Rattle.std.specs.Prelude.{ℕ, unwrap_or}
 use Rattle.hex.specs.Hex.{hex_digit_value}

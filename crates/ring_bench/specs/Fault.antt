@@ -1,3 +1,4 @@
+-- SPDX-License-Identifier: ISC
 -- What was read, and why nothing was.
 use Rattle.std.specs.Prelude.{◌≡◌, Option, None, Some, Result, Ok, Err, ⊤}
 use Rattle.ring_bench.specs.declared.fault.Fault.{Fault}

@@ -1,3 +1,4 @@
+-- SPDX-License-Identifier: ISC
 -- What one field of a line says.
 use Rattle.std.specs.Prelude.{◌==◌, ◌+◌, ◌-◌, ◌*◌, ℕ, Bool, List, [], ◌∷◌, Option, None, Some}
 use Rattle.std.specs.Prelude.{Result, Ok, Err, if◌then◌else◌, length, nat_le, codes}

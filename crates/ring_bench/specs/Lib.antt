@@ -1,3 +1,4 @@
+-- SPDX-License-Identifier: ISC
 pub mod Fault
 pub mod Digits
 pub mod Field

@@ -1,3 +1,4 @@
+-- SPDX-License-Identifier: ISC
 -- What one line says.
 use Rattle.std.specs.Prelude.{◌==◌, ℕ, Bool, List, [], ◌∷◌, Option, None, Some, if◌then◌else◌}
 use Rattle.std.specs.Prelude.{length, slice_index, codes}

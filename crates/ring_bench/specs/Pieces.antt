@@ -1,3 +1,4 @@
+-- SPDX-License-Identifier: ISC
 -- Pieces that are kept in one run.
 use Rattle.std.specs.Prelude.{ℕ, List, [], ◌∷◌, take, drop}
 use Rattle.ring_bench.specs.declared.pieces.Pieces.{Pieces}

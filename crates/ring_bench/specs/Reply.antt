@@ -1,3 +1,4 @@
+-- SPDX-License-Identifier: ISC
 -- The reply to a line.
 use Rattle.std.specs.Prelude.{◌++◌, ℕ, Bool, true, false, List, [], ◌∷◌, codes}
 use Rattle.std.specs.Fmt.{decimal}

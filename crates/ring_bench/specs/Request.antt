@@ -1,3 +1,4 @@
+-- SPDX-License-Identifier: ISC
 -- What a request is answered.
 use Rattle.std.specs.Prelude.{ℕ, ◌+◌, Bool, List, length}
 use Rattle.std.specs.Prelude.{if◌then◌else◌}

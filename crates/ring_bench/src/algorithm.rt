@@ -1,3 +1,4 @@
+// SPDX-License-Identifier: ISC
 //! The algorithm that a field ALG names.
 
 ghost use Rattle.ring_bench.specs.Algorithm.{algorithm_of, digest_algorithm_of, hkdf_algorithm_of};

@@ -1,4 +1,5 @@
-//! The answer to a line: what it says, what it is told, and the line feed behind it.
+// SPDX-License-Identifier: ISC
+//! Parses a line, runs it and formats the answer.
 ghost use Rattle.std.specs.Prelude.{◌≡◌, ◌++◌, OnOk, IfOk, IfErr, OnErr};
 ghost use Rattle.ring_bench.specs.declared.status.BenchError.TheVariants.{Memory};
 ghost use Rattle.ring_bench.specs.Line.{asked};

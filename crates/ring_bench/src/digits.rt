@@ -1,3 +1,4 @@
+// SPDX-License-Identifier: ISC
 //! Hex digits by a table of their values, which `hex` gives.
 //!
 //! `hex` branches on each digit, and a processor cannot foretell digits. A lookup does not.

@@ -1,3 +1,4 @@
+// SPDX-License-Identifier: ISC
 //! Why a field or a line has no request.
 
 ghost use Rattle.std.specs.Prelude.{◌≡◌};
@@ -8,9 +9,9 @@ use std::alloc::AllocError;
 /// Why nothing was read.
 #[derive(Clone, Copy, Debug, PartialEq, Eq)]
 pub enum Fault {
-    /// What stands there is of another form.
+    /// The field is malformed.
     Bad,
-    /// A growth was refused.
+    /// Out of memory.
     Memory,
 }
 

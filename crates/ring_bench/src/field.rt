@@ -1,3 +1,4 @@
+// SPDX-License-Identifier: ISC
 //! What one field of a line says.
 ghost use Rattle.std.specs.Prelude.{◌≡◌, ◌++◌, [], ◌∷◌, List, ℕ, Some, None, IsErrOf, OnOk, length};
 ghost use Rattle.std.specs.Int.NonZero.{non_zero_u32_get};

@@ -1,3 +1,4 @@
+// SPDX-License-Identifier: ISC
 //! Lines of test vectors for `ring`, and the answers to them.
 //!
 //! `docs/LINES.md` describes the lines, the answers and how a program over these calls ends. The

@@ -1,3 +1,4 @@
+// SPDX-License-Identifier: ISC
 //! What a line says: from its bytes to a request, and nothing else.
 //!
 //! A further call of `ring` is a variant of `Call` with its word in `call_in`, a variant of

@@ -1,3 +1,4 @@
+// SPDX-License-Identifier: ISC
 //! The pieces of a field, kept in one run: a list of lists would take several times the memory.
 ghost use Rattle.std.specs.Prelude.{◌≡◌, length};
 ghost use Rattle.std.specs.List.{sum};

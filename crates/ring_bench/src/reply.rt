@@ -1,3 +1,4 @@
+// SPDX-License-Identifier: ISC
 //! The reply to a request as text.
 ghost use Rattle.std.specs.Prelude.{◌≡◌, ◌++◌, IfOk};
 ghost use Rattle.std.specs.String.{string_bytes};

@@ -1,3 +1,4 @@
+// SPDX-License-Identifier: ISC
 //! What a request is answered: the only module that calls `ring`.
 ghost use Rattle.std.specs.Prelude.{◌≡◌, ◌<◌, ◌^◌, ℕ, IfOk, List, length};
 ghost use Rattle.std.specs.Int.NonZero.{non_zero_u32_get};
@@ -31,7 +32,7 @@ pub enum Answer<A: Allocator> {
     Refused,
 }
 
-/// What the request is answered.
+/// The answer to a request.
 #[tactic(auto, unfolding(crate::specs::Request::answer_of))]
 pub fn respond<A: Allocator + Copy>(alloc: A, request: &Request<A>) -> Result<Answer<A>, AllocError>
     ensures { IfOk result (λ answer. response answer ≡ answer_of (asked request.now)) }

@@ -1,3 +1,4 @@
+// SPDX-License-Identifier: ISC
 //! A run between two reads.
 ghost use Rattle.std.specs.Prelude.{◌≡◌, ◌≢◌, ◌++◌, [], ◌∷◌, ◌<◌, length, OnOk, IfOk, IfErr};
 ghost use Rattle.std.specs.Prelude.{IsErrOf};

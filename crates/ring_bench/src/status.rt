@@ -1,3 +1,4 @@
+// SPDX-License-Identifier: ISC
 //! How a run ends, well or not.
 ghost use Rattle.std.specs.Prelude.{◌≡◌};
 ghost use Rattle.ring_bench.specs.declared.status.BenchError.TheVariants.{Memory};
@@ -16,7 +17,7 @@ pub enum Status {
 /// Why a run stopped.
 #[derive(Clone, Copy, Debug, PartialEq, Eq)]
 pub enum BenchError {
-    /// A growth was refused.
+    /// Out of memory.
     Memory,
     /// A read failed.
     Read,

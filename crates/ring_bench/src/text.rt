@@ -1,3 +1,4 @@
+// SPDX-License-Identifier: ISC
 //! A text, and the bytes at which it is cut.
 ghost use Rattle.std.specs.Prelude.{◌≡◌, ◌==◌, IfOk, IfSome, IsNone, map, take};
 ghost use Rattle.std.specs.List.{slice_split};

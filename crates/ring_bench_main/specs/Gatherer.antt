@@ -1,3 +1,4 @@
+-- SPDX-License-Identifier: ISC
 -- A writer and the bytes that wait for it.
 use Rattle.std.specs.Prelude.{◌≡◌, ℕ, Bool, List, [], Option}
 use Rattle.std.specs.Io.KnownBytes.{Appends, append_known}

@@ -1,3 +1,4 @@
+-- SPDX-License-Identifier: ISC
 -- Room for bytes that wait to be written.
 use Rattle.std.specs.Prelude.{ℕ, List, take}
 use Rattle.ring_bench_main.specs.declared.room.Room.{Room}

@@ -1,3 +1,4 @@
+// SPDX-License-Identifier: ISC
 //! Bytes that wait to be written, so that many answers are one write.
 ghost use Rattle.std.specs.Prelude.{◌≡◌, ◌↔◌, [], IsTrue, IsFalse, IsErr, OnOk, IfErr};
 ghost use Rattle.std.specs.Io.{ReadsAtMost};
@@ -33,7 +34,7 @@ impl<W: Write> Gatherer<W> {
         }
     }
 
-    /// Takes bytes behind those that wait. Where there is no room for them, what waits is written.
+    /// Buffers `bytes`, and flushes first if they do not fit.
     pub fn gather(&mut self, bytes: &[u8]) -> Result<(), BenchError>
         ensures ok { OnOk result
             (Appends (all_of W.contents self.old) (all_of W.contents self.new) bytes.now) }
@@ -65,7 +66,7 @@ impl<W: Write> Gatherer<W> {
         self.read_on(reader, buf)
     }
 
-    /// Writes what waits, and tells how the run ended: where a write failed, that.
+    /// Flushes, and returns the result of the run, or `Write` if a write failed.
     pub fn end(&mut self, result_of_run: Result<Status, BenchError>) -> Result<Status, BenchError>
         ensures told { IsFalse (has_failed self.new) → result ≡ result_of_run }
         ensures written { IsFalse (has_failed self.new)

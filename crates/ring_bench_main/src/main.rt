@@ -1,3 +1,4 @@
+// SPDX-License-Identifier: ISC
 //! Answers the lines of standard input on standard output, as the library `ring_bench` says.
 //!
 //! Answers are written together: where their room is full, before more of the text is read, and at

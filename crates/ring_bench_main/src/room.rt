@@ -1,3 +1,4 @@
+// SPDX-License-Identifier: ISC
 //! Room for bytes that wait to be written.
 ghost use Rattle.std.specs.Prelude.{◌≡◌, ◌≤◌, ◌+◌, ◌-◌, ◌++◌, length};
 ghost use Rattle.ring_bench_main.specs.declared.room.TheConstants.{ROOM};
@@ -40,7 +41,7 @@ impl Room {
         &self.bytes[..self.len]
     }
 
-    /// Lets bytes wait behind the others.
+    /// Appends `bytes`.
     pub fn append(&mut self, bytes: &[u8])
         requires room { held self.old + length bytes.now ≤ ROOM }
         ensures { waits self.new ≡ waits self.old ++ bytes.now }

@@ -1,3 +1,4 @@
+// SPDX-License-Identifier: ISC
 //! A reader and a writer over one gatherer, as a run wants two.
 ghost use Rattle.std.specs.Prelude.{◌↔◌, IsErr};
 
@@ -7,7 +8,7 @@ use std::cell::RefCell;
 use std::io;
 use std::io::{ErrorKind, Read, Stdin, Stdout, Write};
 
-/// Standard input, behind the answers to what it gave before.
+/// Standard input; each read first flushes the answers.
 #[derive(Drop)]
 pub struct Input<'a> {
     stdin: Stdin,

@@ -1,3 +1,4 @@
+-- SPDX-License-Identifier: ISC
 -- The status of a context whose numbers are one's.
 use Rattle.std.proofs.Common.{◌≡◌, ℕ, ◌<◌, Bool, false, Option, Some, None, option_map, unwrap_or}
 use Rattle.std.proofs.Common.{arith, inl, refl}

@@ -1,3 +1,4 @@
+-- SPDX-License-Identifier: ISC
 mod Within
 mod Contexts
 mod Written

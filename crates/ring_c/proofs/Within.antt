@@ -1,3 +1,4 @@
+-- SPDX-License-Identifier: ISC
 -- Messages whose lengths are within the limit.
 use Rattle.std.proofs.Common.{◌≡◌, ℕ, ◌<◌, List, true, [], ◌∷◌, arith, length, refl}
 use Rattle.std.proofs.Common.{suc, zero}

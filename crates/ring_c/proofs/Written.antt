@@ -1,3 +1,4 @@
+-- SPDX-License-Identifier: ISC
 -- Digests that are written one after another.
 use Rattle.std.proofs.Common.{◌≡◌, ℕ, ◌+◌, ◌*◌, ◌<◌, ◌≤◌, List, [], ◌∷◌, ◌++◌, length, take, drop}
 use Rattle.std.proofs.Common.{ap, append-nil, append_assoc, arith, get_or, length-append}

@@ -1,3 +1,4 @@
+-- SPDX-License-Identifier: ISC
 -- Digests of several messages, one after another.
 use Rattle.std.specs.Prelude.{ℕ, List}
 use Rattle.std.specs.Borrow.{Bor}

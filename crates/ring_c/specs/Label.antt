@@ -1,3 +1,4 @@
+-- SPDX-License-Identifier: ISC
 -- HKDF-Expand-Label (RFC 8446, section 7.1).
 use Rattle.std.specs.Prelude.{ℕ, ◌+◌, List, ◌++◌, ◌∷◌, [], length, codes, Bool, ◌&&◌, nat_le}
 use Rattle.std.specs.Int.{bytes_high_first}

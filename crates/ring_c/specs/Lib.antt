@@ -1,3 +1,4 @@
+-- SPDX-License-Identifier: ISC
 pub mod Number
 pub mod Limits
 pub mod Each

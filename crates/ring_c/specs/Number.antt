@@ -1,3 +1,4 @@
+-- SPDX-License-Identifier: ISC
 -- The numbers by which C names algorithms, beside those of digests.
 use Rattle.std.specs.Prelude.{ℕ, Option, Some, None, if◌then◌else◌, nat_eq}
 use Rattle.ring.specs.declared.hkdf.algorithm.Algorithm as hkdf

@@ -1,3 +1,4 @@
+-- SPDX-License-Identifier: ISC
 -- Which status a call returns: OK, or the first cause that holds, in the order of `Causes`.
 use Rattle.std.specs.Prelude.{ℤ, Bool, false, Option, Some, None, if◌then◌else◌, Result, Ok, Err}
 use Rattle.ring_password_hash.specs.declared.error.HashError.{HashError}

@@ -1,3 +1,4 @@
+-- SPDX-License-Identifier: ISC
 -- Which values a verification takes, as tests.
 use Rattle.std.specs.Prelude.{ℕ, List, Bool, ◌&&◌, length}
 use Rattle.std.specs.Str.{bytes_eq}

@@ -1,3 +1,4 @@
+// SPDX-License-Identifier: ISC
 //! Memory that is overwritten with zeros.
 
 ghost use Rattle.std.specs.Prelude.{◌≡◌, length, replicate};

@@ -1,3 +1,4 @@
+// SPDX-License-Identifier: ISC
 //! Comparison that reads every pair of bytes.
 
 ghost use Rattle.std.specs.Prelude.{◌≡◌, ◌↔◌, IsTrue};

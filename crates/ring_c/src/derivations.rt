@@ -1,3 +1,4 @@
+// SPDX-License-Identifier: ISC
 //! Keys derived from passwords: PBKDF2 (RFC 2898, section 5.2).
 
 ghost use Rattle.std.specs.Prelude.{◌≡◌, ◌≢◌, ◌==◌, Some, length, nat_lt, not};
@@ -16,8 +17,8 @@ use ring::pbkdf2;
 use ring::width::{AVX2, SSE};
 use std::num::NonZeroU32;
 
-// What `yz_pbkdf2_derive` and `yz_pbkdf2_derive_wide` promise, over vectors of so many bits.
-fn derive<const BITS: usize>(
+// What `yz_pbkdf2_derive` and `yz_pbkdf2_derive_wide` promise, with vectors of `VECTOR_BITS` bits.
+fn derive<const VECTOR_BITS: usize>(
     algorithm: u32,
     iterations: u32,
     salt: &[u8],
@@ -45,7 +46,7 @@ fn derive<const BITS: usize>(
         return NO_ITERATIONS;
     };
     let mut meter = Meter::new();
-    match pbkdf2::derive_in::<BITS>(algorithm, iterations, salt, secret, out, &mut meter) {
+    match pbkdf2::derive_in::<VECTOR_BITS>(algorithm, iterations, salt, secret, out, &mut meter) {
         Ok(()) => OK,
         Err(_) => UNSPECIFIED,
     }
@@ -105,8 +106,8 @@ pub extern "C" fn yz_pbkdf2_derive_wide(
     derive::<AVX2>(algorithm, iterations, salt, secret, out)
 }
 
-// What `yz_pbkdf2_verify` and `yz_pbkdf2_verify_wide` promise, over vectors of so many bits.
-fn verify<const BITS: usize>(
+// What `yz_pbkdf2_verify` and `yz_pbkdf2_verify_wide` promise, with vectors of `VECTOR_BITS` bits.
+fn verify<const VECTOR_BITS: usize>(
     algorithm: u32,
     iterations: u32,
     salt: &[u8],
@@ -127,7 +128,9 @@ fn verify<const BITS: usize>(
         return NO_ITERATIONS;
     };
     let mut meter = Meter::new();
-    match pbkdf2::verify_in::<BITS>(algorithm, iterations, salt, secret, derived, &mut meter) {
+    match pbkdf2::verify_in::<VECTOR_BITS>(
+        algorithm, iterations, salt, secret, derived, &mut meter,
+    ) {
         Ok(()) => OK,
         Err(_) => UNSPECIFIED,
     }

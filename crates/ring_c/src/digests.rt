@@ -1,3 +1,4 @@
+// SPDX-License-Identifier: ISC
 //! Digests (FIPS 180-4).
 
 ghost use Rattle.std.specs.Prelude.{◌≡◌, ◌≢◌, ◌↔◌, ◌++◌, [], ℕ, List, Some, length, ◌==◌, not};

@@ -1,3 +1,4 @@
+// SPDX-License-Identifier: ISC
 //! Digests of several messages at once.
 
 ghost use Rattle.std.specs.Prelude.{◌≡◌, ◌≢◌, ◌==◌, ◌++◌, ◌+◌, ◌*◌, ◌≤◌, Some, length, take};
@@ -74,7 +75,7 @@ fn write_digests(digests: &[Digest], out: &mut [u8], at: usize) -> usize
 }
 
 // Writes the digests of the messages to `out`, a group at a time.
-fn write_each<const BITS: usize>(algorithm: &Algorithm, messages: &[&[u8]], out: &mut [u8])
+fn write_each<const VECTOR_BITS: usize>(algorithm: &Algorithm, messages: &[&[u8]], out: &mut [u8])
     requires within { CanDigestEach algorithm.now messages.now (length messages.now) }
     requires room { length out.old ≡ length messages.now * output_len algorithm.now }
     ensures { out.new ≡ digests_of algorithm.now messages.now }
@@ -86,7 +87,12 @@ fn write_each<const BITS: usize>(algorithm: &Algorithm, messages: &[&[u8]], out:
         let count = GROUP.min(messages.len() - made);
         let digests = &mut group[..count];
         let messages = &messages[made..made + count];
-        match digest::digest_each_in::<BITS>(algorithm, messages, digests, &mut Meter::new()) {
+        match digest::digest_each_in::<VECTOR_BITS>(
+            algorithm,
+            messages,
+            digests,
+            &mut Meter::new(),
+        ) {
             Ok(()) => {}
             // There is a place a message, and each is within the limit.
             Err(_) => unreachable!(),
@@ -96,8 +102,8 @@ fn write_each<const BITS: usize>(algorithm: &Algorithm, messages: &[&[u8]], out:
     }
 }
 
-// What `yz_digest_each` and `yz_digest_each_wide` promise, over vectors of so many bits.
-fn digest_each<const BITS: usize>(algorithm: u32, messages: &[&[u8]], out: &mut [u8]) -> i32
+// What `yz_digest_each` and `yz_digest_each_wide` promise, with vectors of `VECTOR_BITS` bits.
+fn digest_each<const VECTOR_BITS: usize>(algorithm: u32, messages: &[&[u8]], out: &mut [u8]) -> i32
     ensures ok { (a : Algorithm) → digest_named algorithm ≡ Some a → result ≡ OK
         → out.new ≡ digests_of a messages.now }
     ensures status { result ≡ status_of UNKNOWN_ALGORITHM (digest_named algorithm) (λ a.
@@ -112,7 +118,7 @@ fn digest_each<const BITS: usize>(algorithm: u32, messages: &[&[u8]], out: &mut 
     };
     let status = status_of_lengths(&algorithm, messages, out.len());
     if status == OK {
-        write_each::<BITS>(&algorithm, messages, out);
+        write_each::<VECTOR_BITS>(&algorithm, messages, out);
     }
     status
 }

@@ -1,3 +1,4 @@
+// SPDX-License-Identifier: ISC
 //! Keys derived from secrets: HKDF (RFC 5869).
 
 ghost use Rattle.std.specs.Prelude.{◌≡◌, ◌≢◌, ◌↔◌, ◌==◌, ◌&&◌, ℕ, List, Some, length, IsTrue};

@@ -1,3 +1,4 @@
+// SPDX-License-Identifier: ISC
 //! Keys expanded by labels: HKDF-Expand-Label (RFC 8446, section 7.1).
 
 ghost use Rattle.std.specs.Prelude.{◌≡◌, ◌≢◌, ◌&&◌, ℕ, List, Some, length, IsTrue, nat_lt, not};

@@ -1,3 +1,4 @@
+// SPDX-License-Identifier: ISC
 //! Lengths that a caller needs to know.
 
 ghost use Rattle.std.specs.Prelude.{◌≡◌, ◌↔◌, Some, None};

@@ -1,3 +1,4 @@
+// SPDX-License-Identifier: ISC
 //! The digests, tags and derived keys of `ring`, and the password hashes of `ring_password_hash`,
 //! for callers in C: `capi/include/yezdopin.h`
 //! declares each call, but for those whose names end in `_wide`. These promise what the calls of

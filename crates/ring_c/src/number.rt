@@ -1,3 +1,4 @@
+// SPDX-License-Identifier: ISC
 //! Algorithms by their numbers, which are those of the digest algorithms below them.
 
 ghost use Rattle.std.specs.Prelude.{◌≡◌};

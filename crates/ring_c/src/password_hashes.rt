@@ -1,3 +1,4 @@
+// SPDX-License-Identifier: ISC
 //! Passwords, tested against hashes as other systems keep them.
 
 ghost use Rattle.std.specs.Prelude.{◌≡◌, ◌↔◌, ◌<◌, ◌≤◌, length, nat_lt, not};

@@ -1,3 +1,4 @@
+// SPDX-License-Identifier: ISC
 //! The status that a call returns: the first of these causes that holds, in the order in which they
 //! stand here.
 

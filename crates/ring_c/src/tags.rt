@@ -1,3 +1,4 @@
+// SPDX-License-Identifier: ISC
 //! Tags: HMAC (RFC 2104).
 
 ghost use Rattle.std.specs.Prelude.{◌≡◌, ◌≢◌, ◌↔◌, ◌++◌, [], ℕ, List, Some, length, ◌==◌, not};

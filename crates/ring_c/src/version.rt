@@ -1,3 +1,4 @@
+// SPDX-License-Identifier: ISC
 //! The version of the calls and of the layout of contexts and keys.
 
 ghost use Rattle.std.specs.Prelude.{◌≡◌};

@@ -1,3 +1,4 @@
+-- SPDX-License-Identifier: ISC
 -- Exclusive ors of bytes, one by one and in lists.
 use Rattle.std.proofs.Common.{◌≡◌, ◌↔◌, ℕ, zero, suc, ◌<◌, ◌≤◌, List, [], ◌∷◌, ◌++◌, length}
 use Rattle.std.proofs.Common.{slice_index_or, slice_set, map, take, drop, bit_or, refl, sym, ap}

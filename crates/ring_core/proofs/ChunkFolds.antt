@@ -1,3 +1,4 @@
+-- SPDX-License-Identifier: ISC
 -- How the words after chunks follow a list as it grows.
 use Rattle.std.proofs.Common.{◌≡◌, ℕ, zero, suc, ◌+◌, ◌*◌, ◌≤◌, List, ◌++◌, length, take, drop}
 use Rattle.std.proofs.Common.{refl, arith, length-drop, add-zero, add-one}

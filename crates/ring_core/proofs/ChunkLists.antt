@@ -1,3 +1,4 @@
+-- SPDX-License-Identifier: ISC
 -- The chunks of a list, one after the other.
 use Rattle.std.proofs.Common.{◌≡◌, ℕ, suc, ◌+◌, ◌/◌, ◌<◌, List, ◌∷◌, length, take, drop, refl, sym}
 use Rattle.std.proofs.Common.{ap, ◌∙◌, add-one}

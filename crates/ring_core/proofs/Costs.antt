@@ -1,3 +1,4 @@
+-- SPDX-License-Identifier: ISC
 -- How rises of a meter add up.
 use Rattle.std.proofs.Common.{◌≡◌, ◌≢◌, ℕ, ◌+◌, ◌-◌, ◌^◌, ◌<◌, ◌==◌, false, refl, ap, arith, rules}
 use Rattle.std.proofs.Common.{min}

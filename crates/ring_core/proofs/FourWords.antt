@@ -1,3 +1,4 @@
+-- SPDX-License-Identifier: ISC
 -- Vectors of four words, and lists of such.
 use Rattle.std.proofs.Common.{◌≡◌, ℕ, ◌+◌, ◌%◌, ◌^◌, ◌<◌, List, [], ◌∷◌, length, map, refl, sym, ap}
 use Rattle.std.proofs.Common.{◌∙◌, arith}
@@ -7,7 +8,7 @@ use Rattle.std.proofs.Math.ListN.{get_or, length-map}
 use Rattle.std.proofs.Math.Nat.{add-mod-mod, mod-add-mod, mod-eq_of_lt, mod-mod}
 use Rattle.std.specs.Simd.Lanes.{Each1}
 use Rattle.std.specs.Int.{Width}
-use Rattle.ring_core.specs.Prelude.{four, low_32, window}
+use Rattle.ring_core.specs.Prelude.{four, low_32, sixteen}
 use mir.Syntax.{w32}
 use mir.Val.{bits, Fits}
 
@@ -93,19 +94,19 @@ sum_of_none n a =
     rw plain (mod-mod a n)
 
 -- lists a to d are fours g to g + 3 of w
-pub record AreWindow (w : ℕ → ℕ) (g : ℕ) (a b c d : List ℕ) : Type 0 where
+pub record AreSixteen (w : ℕ → ℕ) (g : ℕ) (a b c d : List ℕ) : Type 0 where
   pub first : a ≡ four w g
   pub second : b ≡ four w (g + 1)
   pub third : c ≡ four w (g + 2)
   pub fourth : d ≡ four w (g + 3)
 
--- the items of a window
-pub in_window : {X : Type 0} {w : ℕ → ℕ} (f : X → List ℕ) (g : ℕ) (xs : List X)
-    → map f xs ≡ window w g → (a b c d : X)
-    → AreWindow w g (f (get_or xs 0 a)) (f (get_or xs 1 b)) (f (get_or xs 2 c)) (f (get_or xs 3 d))
-in_window {X} {w} f g xs are a b c d =
+-- the items of a sixteen
+pub in_sixteen : {X : Type 0} {w : ℕ → ℕ} (f : X → List ℕ) (g : ℕ) (xs : List X)
+    → map f xs ≡ sixteen w g → (a b c d : X)
+    → AreSixteen w g (f (get_or xs 0 a)) (f (get_or xs 1 b)) (f (get_or xs 2 c)) (f (get_or xs 3 d))
+in_sixteen {X} {w} f g xs are a b c d =
     let len : length xs ≡ 4 = sym (length-map xs f) ∙ ap length are in
-    let item : (j : ℕ) (x : X) → j < 4 → f (get_or xs j x) ≡ get_or (window w g) j [] =
+    let item : (j : ℕ) (x : X) → j < 4 → f (get_or xs j x) ≡ get_or (sixteen w g) j [] =
     λ j x below. sym (get_or-map f xs j x [] (omega (arith, len)))
     ∙ ap (λ (l : List (List ℕ)). get_or l j []) are in
     record {
@@ -115,10 +116,10 @@ in_window {X} {w} f g xs are a b c d =
       fourth = item 3 d (omega arith);
     }
 
--- the window one four later
-pub next-window : {w : ℕ → ℕ} {g : ℕ} {a b c d e : List ℕ} (n : ℕ) → n ≡ g + 4
-    → AreWindow w g a b c d → e ≡ four w n → AreWindow w (g + 1) b c d e
-next-window {g} n after are next =
+-- the sixteen one four later
+pub next-sixteen : {w : ℕ → ℕ} {g : ℕ} {a b c d e : List ℕ} (n : ℕ) → n ≡ g + 4
+    → AreSixteen w g a b c d → e ≡ four w n → AreSixteen w (g + 1) b c d e
+next-sixteen {g} n after are next =
     let e2 : g + 1 + 1 ≡ g + 2 = omega arith in
     let e3 : g + 1 + 2 ≡ g + 3 = omega arith in
     let e4 : g + 1 + 3 ≡ n = omega arith in
@@ -129,13 +130,13 @@ next-window {g} n after are next =
       fourth = rw e4 next;
     }
 
-pub are-window : {w : ℕ → ℕ} {g : ℕ} {a b c d : List ℕ} → AreWindow w g a b c d
-    → a ∷ b ∷ c ∷ d ∷ [] ≡ window w g
-are-window are = rw (are.first, are.second, are.third, are.fourth) refl
+pub are-sixteen : {w : ℕ → ℕ} {g : ℕ} {a b c d : List ℕ} → AreSixteen w g a b c d
+    → a ∷ b ∷ c ∷ d ∷ [] ≡ sixteen w g
+are-sixteen are = rw (are.first, are.second, are.third, are.fourth) refl
 
--- the items of a window of lists of numbers
-pub in_lists : {w : ℕ → ℕ} {g : ℕ} (xs : List (List ℕ)) → xs ≡ window w g
-    → AreWindow w g (get_or xs 0 []) (get_or xs 1 []) (get_or xs 2 []) (get_or xs 3 [])
+-- the items of a sixteen of lists of numbers
+pub in_lists : {w : ℕ → ℕ} {g : ℕ} (xs : List (List ℕ)) → xs ≡ sixteen w g
+    → AreSixteen w g (get_or xs 0 []) (get_or xs 1 []) (get_or xs 2 []) (get_or xs 3 [])
 in_lists xs are =
     let item = λ (j : ℕ) (l : List (List ℕ)). get_or l j [] in
     record {

@@ -1,3 +1,4 @@
+-- SPDX-License-Identifier: ISC
 -- Numbers of 64 bits as halves of 32, by their bytes.
 use Rattle.std.proofs.Common.{◌≡◌, ℕ, zero, suc, ◌+◌, ◌*◌, ◌/◌, ◌%◌, ◌^◌, ◌<◌, List, [], ◌∷◌}
 use Rattle.std.proofs.Common.{length, map, sym, ap, ◌∙◌, arith}

@@ -1,3 +1,4 @@
+-- SPDX-License-Identifier: ISC
 -- Vectors of two lanes, and the order of sums in them.
 use Rattle.std.proofs.Common.{◌≡◌, ℕ, ◌+◌, ◌%◌, ◌^◌, ◌<◌, List, [], ◌∷◌, length, slice_index, refl}
 use Rattle.std.proofs.Common.{ap, arith}

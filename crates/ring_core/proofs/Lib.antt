@@ -1,3 +1,4 @@
+-- SPDX-License-Identifier: ISC
 pub mod Rotation
 pub mod ShortForms
 pub mod Lanes

@@ -1,3 +1,4 @@
+-- SPDX-License-Identifier: ISC
 -- The numbers of a list of words, read and written.
 use Rattle.std.proofs.Common.{◌≡◌, ℕ, ◌+◌, ◌-◌, ◌≤◌, List, ◌++◌, drop, length, take, slice_index}
 use Rattle.std.proofs.Common.{map, sym, ap, ◌∙◌, arith, nat_lt, true}

@@ -1,3 +1,4 @@
+-- SPDX-License-Identifier: ISC
 -- A table of roots, tested by computing.
 use Rattle.std.proofs.Common.{◌≡◌, ℕ, zero, suc, ◌+◌, ◌*◌, ◌^◌, ◌<◌, ◌&&◌, nat_le, nat_lt, Bool}
 use Rattle.std.proofs.Common.{true, false, if◌then◌else◌, List, [], ◌∷◌, length, slice_index, refl}

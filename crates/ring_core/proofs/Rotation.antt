@@ -1,3 +1,4 @@
+-- SPDX-License-Identifier: ISC
 -- Rotations, at each width: two shifts or'ed are the standard's, and so are two or three of them
 -- under exclusive or, one inside the other.
 use Rattle.std.proofs.Common.{◌≡◌, ℕ, suc, ◌+◌, ◌-◌, ◌*◌, ◌/◌, ◌%◌, ◌^◌, ◌<◌, ◌≤◌, inl, inr, bit_or}

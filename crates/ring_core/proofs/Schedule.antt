@@ -1,3 +1,4 @@
+-- SPDX-License-Identifier: ISC
 -- Words that each follow from those before them.
 use Rattle.std.proofs.Common.{◌≡◌, ◌≢◌, ℕ, zero, suc, ◌+◌, ◌*◌, ◌%◌, ◌<◌, ◌≤◌, List, [], ◌∷◌}
 use Rattle.std.proofs.Common.{length}
@@ -7,7 +8,7 @@ use Rattle.std.proofs.lemmas.List.{get_or_append_left, get_or_push, length-set, 
 use Rattle.std.proofs.lemmas.List.{map-set}
 use Rattle.std.proofs.lemmas.Bool.{cases_lt}
 use Rattle.std.proofs.Math.ListN.{get_or, length-map, set}
-use Rattle.ring_core.specs.Prelude.{HoldsSums, IsRing, four, listed, listed_at}
+use Rattle.ring_core.specs.Prelude.{HoldsSums, IsWindow, four, listed, listed_at}
 
 length-listed : (next : List ℕ → ℕ → ℕ) (n : ℕ) → length (listed next n) ≡ n
 unfolding listed
@@ -36,48 +37,49 @@ unfolding listed listed_at
 listed_at-next next t =
     get_or_push (listed next t) (next (listed next t) t) 0 t (length-listed next t)
 
--- a ring holds what equals its words
-pub ring-same : (w x : ℕ → ℕ) (ring : List ℕ) (t : ℕ) → IsRing w ring t
-    → ((k : ℕ) → k < t → w k ≡ x k) → IsRing x ring t
-ring-same w x ring t ready same = record {
+-- a window holds what equals its words
+pub window-same : (w x : ℕ → ℕ) (window : List ℕ) (t : ℕ) → IsWindow w window t
+    → ((k : ℕ) → k < t → w k ≡ x k) → IsWindow x window t
+window-same w x window t ready same = record {
   sixteen = ready.sixteen;
   held = λ k below near. ready.held k below near ∙ same k below;
 }
 
 -- the word in a slot
-pub ring-read : {X : Type 0} {w : ℕ → ℕ} {n slot : ℕ} (f : X → ℕ) (ring : List X) (t : ℕ) (x : X)
-    → IsRing w (map f ring) n → slot ≡ t % 16 → t < n → n ≤ t + 16
-    → f (get_or ring slot x) ≡ w t
-ring-read {slot} f ring t x ready place below near =
-    let room : slot < length ring = omega (arith, ready.sixteen, length-map ring f) in
-    sym (get_or-map f ring slot x 0 room) ∙ ap (slice_index (map f ring)) place
+pub window-read : {X : Type 0} {w : ℕ → ℕ} {n slot : ℕ} (f : X → ℕ) (window : List X) (t : ℕ)
+    (x : X)
+    → IsWindow w (map f window) n → slot ≡ t % 16 → t < n → n ≤ t + 16
+    → f (get_or window slot x) ≡ w t
+window-read {slot} f window t x ready place below near =
+    let room : slot < length window = omega (arith, ready.sixteen, length-map window f) in
+    sym (get_or-map f window slot x 0 room) ∙ ap (slice_index (map f window)) place
     ∙ ready.held t below near
 
--- a ring before the first word
-pub ring-empty : {X : Type 0} {w : ℕ → ℕ} (f : X → ℕ) (ring : List X) → length ring ≡ 16
-    → IsRing w (map f ring) 0
-ring-empty f ring sixteen = record {
-  sixteen = length-map ring f ∙ sixteen;
+-- a window before the first word
+pub window-empty : {X : Type 0} {w : ℕ → ℕ} (f : X → ℕ) (window : List X) → length window ≡ 16
+    → IsWindow w (map f window) 0
+window-empty f window sixteen = record {
+  sixteen = length-map window f ∙ sixteen;
   held = λ k below near. absurd (omega arith);
 }
 
 -- one word more, in the slot of the oldest
-pub ring-set : {X : Type 0} {t : ℕ} (f : X → ℕ) (w : ℕ → ℕ) (ring : List X) (slot : ℕ) (x : X)
-    → IsRing w (map f ring) t → slot ≡ t % 16 → f x ≡ w t
-    → IsRing w (map f (set ring slot x)) (t + 1)
-ring-set {t} f w ring slot x ready place word =
-    rw (map-set f ring slot x) (record {
-      sixteen = length-set (map f ring) slot (f x) ∙ ready.sixteen;
+pub window-set : {X : Type 0} {t : ℕ} (f : X → ℕ) (w : ℕ → ℕ) (window : List X) (slot : ℕ) (x : X)
+    → IsWindow w (map f window) t → slot ≡ t % 16 → f x ≡ w t
+    → IsWindow w (map f (set window slot x)) (t + 1)
+window-set {t} f w window slot x ready place word =
+    rw (map-set f window slot x) (record {
+      sixteen = length-set (map f window) slot (f x) ∙ ready.sixteen;
       held =
           λ k below near. elim (cases_lt k t) [
             | inl lt ↦
                 let other : k % 16 ≢ slot = omega arith in
-                get_or-set_other (map f ring) slot (k % 16) (f x) 0 other
+                get_or-set_other (map f window) slot (k % 16) (f x) 0 other
                 ∙ ready.held k lt (omega arith)
             | inr ge ↦
                 let last : k ≡ t = omega arith in
-                let room : slot < length (map f ring) = omega (arith, ready.sixteen) in
-                rw (last, ← place) (get_or-set_same (map f ring) slot (f x) 0 room ∙ word)
+                let room : slot < length (map f window) = omega (arith, ready.sixteen) in
+                rw (last, ← place) (get_or-set_same (map f window) slot (f x) 0 room ∙ word)
           ];
     })
 

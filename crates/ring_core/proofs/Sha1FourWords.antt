@@ -1,3 +1,4 @@
+-- SPDX-License-Identifier: ISC
 -- SHA-1's schedule, four words at a time: from the thirty-third word on, from the words 6, 16, 28
 -- and 32 before.
 use Rattle.std.proofs.Common.{◌≡◌, ℕ, zero, suc, ◌+◌, ◌-◌, ◌*◌, ◌/◌, ◌%◌, ◌^◌, ◌<◌, ◌≤◌, List, []}
@@ -7,9 +8,9 @@ use Rattle.std.proofs.lemmas.Bool.{cases_lt}
 use Rattle.std.proofs.lemmas.Nat.{xor_comm, xor_lt}
 use Rattle.std.proofs.lemmas.Nat.Bits.{bit_at_xor, same_from_bits}
 use Rattle.std.specs.Int.Bits.{xor_assoc, xor_zero_l}
-use Rattle.ring_core.specs.Prelude.{◌⊕◌, four, low_32, rotl, rotr, window, word_at}
+use Rattle.ring_core.specs.Prelude.{◌⊕◌, four, low_32, rotl, rotr, sixteen, word_at}
 use Rattle.ring_core.specs.Sha1.{HasWords, W, scheduled}
-use Rattle.ring_core.proofs.FourWords.{AreWindow, next-window}
+use Rattle.ring_core.proofs.FourWords.{AreSixteen, next-sixteen}
 use Rattle.ring_core.proofs.Rotation.{rotr-inside, rotr-lt}
 use Rattle.ring_core.proofs.Sha1Steps.{W-first, W-next}
 
@@ -108,7 +109,7 @@ IsLater first second fifth seventh eighth next =
 
 W-later_four : {g m : ℕ} {first second third fourth fifth sixth seventh eighth : List ℕ}
     {next : List ℕ} (b : List ℕ) (n : ℕ) → HasWords b → (m ≡ g + 4) × (n ≡ g + 8)
-    → AreWindow (W b) g first second third fourth → AreWindow (W b) m fifth sixth seventh eighth
+    → AreSixteen (W b) g first second third fourth → AreSixteen (W b) m fifth sixth seventh eighth
     → IsLater first second fifth seventh eighth next → next ≡ four (W b) n
 W-later_four {g} {m} b n fits (em, en) older newer are =
     let t = 4 * n in
@@ -131,23 +132,23 @@ W-later_four {g} {m} b n fits (em, en) older newer are =
 
 -- the sixteen words after thirty-two
 pub W-later_turn : {n : ℕ} {w1 w2 w3 w4 w5 w6 w7 w8 w9 w10 w11 w12 : List ℕ} (b : List ℕ)
-    → HasWords b → AreWindow (W b) n w1 w2 w3 w4 → AreWindow (W b) (n + 4) w5 w6 w7 w8
+    → HasWords b → AreSixteen (W b) n w1 w2 w3 w4 → AreSixteen (W b) (n + 4) w5 w6 w7 w8
     → IsLater w1 w2 w5 w7 w8 w9 → IsLater w2 w3 w6 w8 w9 w10 → IsLater w3 w4 w7 w9 w10 w11
-    → IsLater w4 w5 w8 w10 w11 w12 → AreWindow (W b) (n + 8) w9 w10 w11 w12
+    → IsLater w4 w5 w8 w10 w11 w12 → AreSixteen (W b) (n + 8) w9 w10 w11 w12
 W-later_turn {n} {w9} {w10} {w11} {w12} b fits o0 m0 l9 l10 l11 l12 =
     let w = W b in
     let r9 : w9 ≡ four w (n + 8) =
     W-later_four b (n + 8) fits (refl, refl) o0 m0 l9 in
-    let o1 = next-window (n + 4) refl o0 m0.first in
-    let m1 = next-window (n + 8) (omega arith) m0 r9 in
+    let o1 = next-sixteen (n + 4) refl o0 m0.first in
+    let m1 = next-sixteen (n + 8) (omega arith) m0 r9 in
     let r10 : w10 ≡ four w (n + 8 + 1) =
     W-later_four b (n + 8 + 1) fits (omega arith, omega arith) o1 m1 l10 in
-    let o2 = next-window (n + 4 + 1) (omega arith) o1 m1.first in
-    let m2 = next-window (n + 8 + 1) (omega arith) m1 r10 in
+    let o2 = next-sixteen (n + 4 + 1) (omega arith) o1 m1.first in
+    let m2 = next-sixteen (n + 8 + 1) (omega arith) m1 r10 in
     let r11 : w11 ≡ four w (n + 8 + 2) =
     W-later_four b (n + 8 + 2) fits (omega arith, omega arith) o2 m2 l11 in
-    let o3 = next-window (n + 4 + 1 + 1) (omega arith) o2 m2.first in
-    let m3 = next-window (n + 8 + 2) (omega arith) m2 r11 in
+    let o3 = next-sixteen (n + 4 + 1 + 1) (omega arith) o2 m2.first in
+    let m3 = next-sixteen (n + 8 + 2) (omega arith) m2 r11 in
     let r12 : w12 ≡ four w (n + 8 + 3) =
     W-later_four b (n + 8 + 3) fits (omega arith, omega arith) o3 m3 l12 in
     record { first = r9; second = r10; third = r11; fourth = r12 }
@@ -165,7 +166,7 @@ W-next_at b t w3 w8 w14 w16 (e3, e8, e14, e16) =
 
 -- the four words after sixteen
 pub W-next_four : {first second third fourth next : List ℕ} (block : List ℕ) (g : ℕ)
-    → AreWindow (W block) g first second third fourth
+    → AreSixteen (W block) g first second third fourth
     → (let a = slice_index first in
     let b = slice_index second in
     let c = slice_index third in
@@ -174,7 +175,7 @@ pub W-next_four : {first second third fourth next : List ℕ} (block : List ℕ)
     next ≡ w ∷ scheduled (d 2) (c 1) (a 3) (a 1) ∷ scheduled (d 3) (c 2) (b 0) (a 2)
     ∷ scheduled w (c 3) (b 1) (a 3) ∷ [])
     → next ≡ four (W block) (g + 4)
-W-next_four block g window are =
+W-next_four block g sixteen are =
     let t = 4 * (g + 4) in
     let x = W block in
     let after = λ (i j k l : ℕ). scheduled (x i) (x j) (x k) (x l) in
@@ -190,7 +191,7 @@ W-next_four block g window are =
     let w3 : after t (4 * (g + 2) + 3) (4 * (g + 1) + 1) (4 * g + 3) ≡ x (t + 3) =
     W-next_at block (t + 3) t (4 * (g + 2) + 3) (4 * (g + 1) + 1) (4 * g + 3)
     (omega arith, omega arith, omega arith, omega arith) in
-    rw (are, window.first, window.second, window.third, window.fourth, w0)
+    rw (are, sixteen.first, sixteen.second, sixteen.third, sixteen.fourth, w0)
     (λ i. x t ∷ w1 i ∷ w2 i ∷ w3 i ∷ [])
 
 -- a word of which the word three before it is added last
@@ -241,7 +242,7 @@ four-fits w g a e (suc (suc (suc (suc j)))) below = absurd (omega arith)
 
 -- a block whose first words are those of lanes
 pub words-of-lanes : (first second third fourth b : List ℕ)
-    → AreWindow (W b) 0 (map low_32 first) (map low_32 second) (map low_32 third)
+    → AreSixteen (W b) 0 (map low_32 first) (map low_32 second) (map low_32 third)
     (map low_32 fourth) → HasWords b
 words-of-lanes first second third fourth b are t =
     let w = W b in

@@ -1,9 +1,10 @@
+-- SPDX-License-Identifier: ISC
 -- The steps of SHA-1's definitions.
 use Rattle.std.proofs.Common.{◌≡◌, ℕ, ◌+◌, ◌-◌, ◌<◌, ◌≤◌, List, length, refl, ap, sym, ◌∙◌, add-one}
 use Rattle.std.proofs.Common.{arith, nat_lt, true, false}
-use Rattle.ring_core.specs.Prelude.{IsRing, word_at}
+use Rattle.ring_core.specs.Prelude.{IsWindow, word_at}
 use Rattle.ring_core.specs.Sha1.{W, add_state, block_step, next_word, round, rounds_from, scheduled}
-use Rattle.ring_core.proofs.Schedule.{listed_at-next, ring-same, slice_index-listed}
+use Rattle.ring_core.proofs.Schedule.{listed_at-next, window-same, slice_index-listed}
 
 pub W-first : (b : List ℕ) (t : ℕ) → t < 16 → W b t ≡ word_at 32 b t
 unfolding W
@@ -11,9 +12,10 @@ W-first b t h =
     let e : nat_lt t 16 ≡ true = search arith in listed_at-next (next_word b) t ∙ rw e refl
 
 -- the words of a block are the first sixteen of its schedule
-pub ring-loaded : (b ring : List ℕ) → IsRing (word_at 32 b) ring 16 → IsRing (W b) ring 16
-ring-loaded b ring loaded =
-    ring-same (word_at 32 b) (W b) ring 16 loaded (λ k below. sym (W-first b k below))
+pub window-loaded : (b window : List ℕ) → IsWindow (word_at 32 b) window 16
+    → IsWindow (W b) window 16
+window-loaded b window loaded =
+    window-same (word_at 32 b) (W b) window 16 loaded (λ k below. sym (W-first b k below))
 
 pub W-next : (b : List ℕ) (t : ℕ) → 16 ≤ t
     → W b t ≡ scheduled (W b (t - 3)) (W b (t - 8)) (W b (t - 14)) (W b (t - 16))

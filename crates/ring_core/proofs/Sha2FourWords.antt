@@ -1,9 +1,10 @@
+-- SPDX-License-Identifier: ISC
 -- SHA-2's schedule, four words at a time.
 use Rattle.std.proofs.Common.{◌≡◌, ℕ, ◌+◌, ◌-◌, ◌*◌, ◌%◌, ◌^◌, ◌<◌, List, [], ◌∷◌, slice_index}
 use Rattle.std.proofs.Common.{refl, sym, ap, ◌∙◌, arith}
 use Rattle.std.proofs.Math.Nat.{mod-add-mod}
 use Rattle.ring_core.specs.Prelude.{Family, W, add_words, four, older_sum, word_at, σ0, σ1}
-use Rattle.ring_core.proofs.FourWords.{AreWindow}
+use Rattle.ring_core.proofs.FourWords.{AreSixteen}
 use Rattle.ring_core.proofs.Sha2Steps.{W-first, W-next}
 
 -- the words of a block are the first of its schedule
@@ -38,7 +39,7 @@ W-older f b t w16 w15 w7 w2 (e16, e15, e7, e2) =
 
 -- the next four words, from the sixteen before them, in three parts
 pub W-next_four : {first second third fourth older half next : List ℕ} (f : Family) (b : List ℕ)
-    (g : ℕ) → AreWindow (W f b) g first second third fourth
+    (g : ℕ) → AreSixteen (W f b) g first second third fourth
     → (let w = slice_index first in
     let w' = slice_index third in
     let o = older_sum f in

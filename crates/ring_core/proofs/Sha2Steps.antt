@@ -1,9 +1,10 @@
+-- SPDX-License-Identifier: ISC
 -- The steps of SHA-2's definitions.
 use Rattle.std.proofs.Common.{◌≡◌, ◌⊎◌, ℕ, ◌+◌, ◌-◌, ◌*◌, ◌/◌, ◌<◌, ◌≤◌, List, length, slice_index}
 use Rattle.std.proofs.Common.{refl, sym, ap, ◌∙◌, add-one, arith, inl, inr, nat_lt, true, false}
-use Rattle.ring_core.specs.Prelude.{Family, IsRing, W, add_state, block_step, family_256}
+use Rattle.ring_core.specs.Prelude.{Family, IsWindow, W, add_state, block_step, family_256}
 use Rattle.ring_core.specs.Prelude.{family_512, next_word, round, rounds_from, scheduled, word_at}
-use Rattle.ring_core.proofs.Schedule.{listed_at-next, ring-same, slice_index-listed}
+use Rattle.ring_core.proofs.Schedule.{listed_at-next, window-same, slice_index-listed}
 
 pub W-first : (f : Family) (b : List ℕ) (t : ℕ) → t < 16 → W f b t ≡ word_at f.bits b t
 unfolding W
@@ -11,10 +12,10 @@ W-first f b t h =
     let e : nat_lt t 16 ≡ true = search arith in listed_at-next (next_word f b) t ∙ rw e refl
 
 -- the words of a block are the first sixteen of its schedule
-pub ring-loaded : (f : Family) (bits : ℕ) (b ring : List ℕ) → bits ≡ f.bits
-    → IsRing (word_at bits b) ring 16 → IsRing (W f b) ring 16
-ring-loaded f bits b ring same loaded =
-    ring-same (word_at f.bits b) (W f b) ring 16 (rw same at loaded)
+pub window-loaded : (f : Family) (bits : ℕ) (b window : List ℕ) → bits ≡ f.bits
+    → IsWindow (word_at bits b) window 16 → IsWindow (W f b) window 16
+window-loaded f bits b window same loaded =
+    window-same (word_at f.bits b) (W f b) window 16 (rw same at loaded)
     (λ k below. sym (W-first f b k below))
 
 pub W-next : (f : Family) (b : List ℕ) (t : ℕ) → 16 ≤ t

@@ -1,3 +1,4 @@
+-- SPDX-License-Identifier: ISC
 -- Ch and Maj in fewer operations, by the laws of and and exclusive or.
 use Rattle.std.proofs.Common.{◌≡◌, ℕ, ◌+◌, ◌%◌, ◌^◌, ◌<◌, bit_and, refl, sym, ap, ◌∙◌, arith, min}
 use Rattle.std.proofs.lemmas.Nat.{and-not, and_assoc, and_comm, xor_comm}

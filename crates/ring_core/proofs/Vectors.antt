@@ -1,3 +1,4 @@
+-- SPDX-License-Identifier: ISC
 -- Vectors, lane by lane, and lists of eight words.
 use Rattle.std.proofs.Common.{◌≡◌, ◌≢◌, ℕ, zero, suc, ◌*◌, ◌-◌, ◌/◌, ◌%◌, ◌^◌, ◌<◌, ◌≤◌, List, []}
 use Rattle.std.proofs.Common.{◌∷◌, slice_set, ap, length, slice_index, map, bit_or, refl, sym}

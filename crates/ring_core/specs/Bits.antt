@@ -1,3 +1,4 @@
+-- SPDX-License-Identifier: ISC
 -- Lengths in bits.
 use Rattle.std.specs.Prelude.{◌≡◌, ℕ, ◌*◌, ◌^◌, ◌≤◌, ◌↔◌, Result, IfErr, IfOk, IsErr}
 use Rattle.std.specs.Int.NonZero.{non_zero_u64_get}

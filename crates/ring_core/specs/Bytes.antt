@@ -1,3 +1,4 @@
+-- SPDX-License-Identifier: ISC
 -- Lists of bytes.
 use Rattle.std.specs.Prelude.{ℕ, List, [], ◌∷◌}
 use Rattle.ring_core.specs.Word.{◌⊕◌}

@@ -1,3 +1,4 @@
+-- SPDX-License-Identifier: ISC
 -- A list cut into chunks of one length.
 use Rattle.std.specs.Prelude.{ℕ, zero, suc, List, ◌*◌, ◌/◌, length, take, drop}
 use Rattle.std.specs.Simd.{first_chunks}

@@ -1,3 +1,4 @@
+-- SPDX-License-Identifier: ISC
 -- What a contract sees of a meter.
 use Rattle.std.specs.Prelude.{ℕ, ◌+◌, ◌-◌, ◌^◌, ◌==◌, if◌then◌else◌, min}
 

@@ -1,3 +1,4 @@
+-- SPDX-License-Identifier: ISC
 -- What an error tells.
 use Rattle.ring_core.specs.declared.error.InputTooLongError.{InputTooLongError}
 

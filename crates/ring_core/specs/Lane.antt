@@ -1,3 +1,4 @@
+-- SPDX-License-Identifier: ISC
 -- Words side by side, each the word of a lane.
 use Rattle.std.specs.Prelude.{ℕ, ◌%◌, ◌^◌, List, map, slice_index}
 use Rattle.ring_core.specs.declared.digest.states.States.{States}

@@ -1,3 +1,4 @@
+-- SPDX-License-Identifier: ISC
 -- The words that most contracts and proofs cite, passed on from one place. SHA-1 names its words as
 -- SHA-2 does: those of SHA-1 stand in `Sha1` alone.
 pub use Rattle.ring_core.specs.Error.{refused_length}
@@ -7,8 +8,8 @@ pub use Rattle.ring_core.specs.Word.{add_words, more_words, sum_words, ◌⊕◌
 pub use Rattle.ring_core.specs.Word.{rotl, choose, parity, majority, big_endian, word_at, word_32}
 pub use Rattle.ring_core.specs.Word.{low_32}
 pub use Rattle.ring_core.specs.Lane.{lane, words_of_lane}
-pub use Rattle.ring_core.specs.Schedule.{IsRing, IsBefore, IsBlockOf}
-pub use Rattle.ring_core.specs.Schedule.{four, window, HoldsSums, IsReady, IsAhead}
+pub use Rattle.ring_core.specs.Schedule.{IsWindow, IsBefore, IsBlockOf}
+pub use Rattle.ring_core.specs.Schedule.{four, sixteen, HoldsSums, IsReady, IsAhead}
 unfoldable pub use Rattle.ring_core.specs.Schedule.{listed, listed_at}
 pub use Rattle.ring_core.specs.Chunks.{chunk_count, chunk_at, chunks}
 unfoldable pub use Rattle.ring_core.specs.Chunks.{fold_chunks}

@@ -1,3 +1,4 @@
+-- SPDX-License-Identifier: ISC
 -- Where the tables of the standard come from: the roots of the first primes (4.2.2, 4.2.3, 5.3).
 use Rattle.std.specs.Prelude.{ℕ, ◌+◌, ◌-◌, ◌*◌, ◌%◌, ◌^◌, ◌<◌, ◌≤◌, ◌==◌, ◌&&◌, Bool, not, List}
 use Rattle.std.specs.Prelude.{nat_lt}

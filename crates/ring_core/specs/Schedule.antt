@@ -1,3 +1,4 @@
+-- SPDX-License-Identifier: ISC
 -- A schedule: words that each follow from those before it.
 use Rattle.std.specs.Prelude.{◌≡◌, ℕ, zero, suc, ◌+◌, ◌*◌, ◌%◌, ◌<◌, ◌≤◌, List, [], ◌∷◌, ◌++◌}
 use Rattle.std.specs.Prelude.{drop, get_or, length, slice_index, take}
@@ -12,14 +13,14 @@ listed next (suc n) = listed next n ++ next (listed next n) n ∷ []
 unfoldable pub listed_at : (List ℕ → ℕ → ℕ) → ℕ → ℕ
 listed_at next t = slice_index (listed next (suc t)) t
 
--- a ring holds the last sixteen of the words w before word t, word k in slot k % 16
-pub record IsRing (w : ℕ → ℕ) (ring : List ℕ) (t : ℕ) : Type 0 where
-  pub sixteen : length ring ≡ 16
-  pub held : (k : ℕ) → k < t → t ≤ k + 16 → slice_index ring (k % 16) ≡ w k
+-- a window holds the last sixteen of the words w before word t, word k in slot k % 16
+pub record IsWindow (w : ℕ → ℕ) (window : List ℕ) (t : ℕ) : Type 0 where
+  pub sixteen : length window ≡ 16
+  pub held : (k : ℕ) → k < t → t ≤ k + 16 → slice_index window (k % 16) ≡ w k
 
--- before round t: the ring holds the words w before word t, and v are the variables after t rounds
-pub record IsBefore (w : ℕ → ℕ) (rounds : ℕ → List ℕ) (ring v : List ℕ) (t : ℕ) : Type 0 where
-  pub words : IsRing w ring t
+-- before round t: the window holds the words w before word t, and v the variables after t rounds
+pub record IsBefore (w : ℕ → ℕ) (rounds : ℕ → List ℕ) (window v : List ℕ) (t : ℕ) : Type 0 where
+  pub words : IsWindow w window t
   pub variables : v ≡ rounds t
 
 -- the words of the block, each of w bits, are the first n of front and those of padding past them
@@ -33,8 +34,8 @@ abbrev pub four : (ℕ → ℕ) → ℕ → List ℕ
 four w g = w (4 * g) ∷ w (4 * g + 1) ∷ w (4 * g + 2) ∷ w (4 * g + 3) ∷ []
 
 -- words 4 g to 4 g + 15 of w, in fours
-abbrev pub window : (ℕ → ℕ) → ℕ → List (List ℕ)
-window w g = four w g ∷ four w (g + 1) ∷ four w (g + 2) ∷ four w (g + 3) ∷ []
+abbrev pub sixteen : (ℕ → ℕ) → ℕ → List (List ℕ)
+sixteen w g = four w g ∷ four w (g + 1) ∷ four w (g + 2) ∷ four w (g + 3) ∷ []
 
 -- sums has the last sixteen of the sums s before sum 4 n, in fours: four g at place g % 4
 pub record HoldsSums (s : ℕ → ℕ) (sums : List (List ℕ)) (n : ℕ) : Type 0 where
@@ -43,7 +44,7 @@ pub record HoldsSums (s : ℕ → ℕ) (sums : List (List ℕ)) (n : ℕ) : Type
 
 -- before round 4 g: the sixteen words of w from 4 g on, in fours, and their sums s
 pub record IsReady (w s : ℕ → ℕ) (words sums : List (List ℕ)) (g : ℕ) : Type 0 where
-  pub window : words ≡ window w g
+  pub sixteen : words ≡ sixteen w g
   pub ready : HoldsSums s sums (g + 4)
 
 -- the same, and v are the variables after 4 g rounds

@@ -1,3 +1,4 @@
+-- SPDX-License-Identifier: ISC
 -- The block function of SHA-1 (FIPS 180-4, 6.1.2).
 use Rattle.std.specs.Prelude.{ℕ, zero, suc, ◌-◌, ◌^◌, ◌<◌, List, [], ◌∷◌, slice_index, nat_lt}
 use Rattle.std.specs.Prelude.{if◌then◌else◌}

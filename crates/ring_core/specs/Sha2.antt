@@ -1,3 +1,4 @@
+-- SPDX-License-Identifier: ISC
 -- The block function of SHA-2 over the numbers of a family (FIPS 180-4, 6.2.2 and 6.4.2).
 use Rattle.std.specs.Prelude.{ℕ, zero, suc, ◌-◌, ◌*◌, ◌/◌, ◌%◌, ◌^◌, List, [], ◌∷◌, slice_index}
 use Rattle.std.specs.Prelude.{nat_lt, if◌then◌else◌, map}

@@ -1,3 +1,4 @@
+-- SPDX-License-Identifier: ISC
 -- What a view of a slice as chunks shows.
 use Rattle.std.specs.Prelude.{ℕ, List, length}
 use Rattle.ring_core.specs.declared.polyfill.slice.view.AsChunks.{AsChunks}

@@ -1,3 +1,4 @@
+-- SPDX-License-Identifier: ISC
 -- Words of w bits as numbers below 2 ^ w, and their operations (FIPS 180-4, 3.2 and 4.1).
 use Rattle.std.specs.Prelude.{ℕ, ◌+◌, ◌-◌, ◌*◌, ◌/◌, ◌%◌, ◌^◌, List, [], ◌∷◌, bit_and, bit_xor}
 use Rattle.std.specs.Prelude.{take, drop}

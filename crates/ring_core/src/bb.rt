@@ -1,3 +1,4 @@
+// SPDX-License-Identifier: ISC
 //! Comparison and exclusive or of byte slices. No loop branches on a byte.
 //!
 //! ```

@@ -1,3 +1,4 @@
+// SPDX-License-Identifier: ISC
 //! Lengths in bits, made from lengths in bytes.
 //!
 //! ```

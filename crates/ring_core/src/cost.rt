@@ -1,3 +1,4 @@
+// SPDX-License-Identifier: ISC
 //! The meter, which counts the work of the block functions and of the comparison.
 //!
 //! A call whose name ends in `_counted` takes a `&mut Meter`, and its clause `cost` says by how
@@ -71,7 +72,7 @@ impl Meter {
         self.blocks = self.blocks.saturating_add(1);
     }
 
-    // So many blocks more.
+    // Adds `count` blocks.
     #[tactic(auto, unfolding(crate::specs::Cost::raised))]
     pub(crate) fn add_blocks(&mut self, count: usize)
         ensures { self.new ≡ raised self.old count 0 }

@@ -1,3 +1,4 @@
+// SPDX-License-Identifier: ISC
 //! The errors: one without a cause, and one for an input that is too long.
 ghost use Rattle.std.specs.Prelude.{◌≡◌};
 ghost use Rattle.ring_core.specs.Prelude.{refused_length};

@@ -1,3 +1,4 @@
+// SPDX-License-Identifier: ISC
 //! What the crate `ring` is built on.
 //!
 //! - [`digest`]: the block functions of SHA-1 and SHA-2 (FIPS 180-4).

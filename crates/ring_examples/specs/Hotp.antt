@@ -1,3 +1,4 @@
+-- SPDX-License-Identifier: ISC
 -- HOTP: one-time passwords by HMAC (RFC 4226).
 use Rattle.std.specs.Prelude.{ℕ, List, ◌%◌, ◌^◌, take, drop, get_or}
 use Rattle.std.specs.Int.{bytes_high_first, from_be_bytes, w32}

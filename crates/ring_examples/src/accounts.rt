@@ -1,3 +1,4 @@
+// SPDX-License-Identifier: ISC
 //! The accounts of a service: registering, asking for more iterations, and lists of calls.
 
 ghost use Rattle.std.specs.Prelude.{◌≡◌, ◌↔◌, ◌⊎◌, [], ◌∷◌, Ok, true, false};

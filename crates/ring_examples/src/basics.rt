@@ -1,3 +1,4 @@
+// SPDX-License-Identifier: ISC
 //! What stands below digests: comparison, exclusive or, lengths in bits, the meter, chunks.
 
 ghost use Rattle.std.specs.Prelude.{◌≡◌, ◌↔◌, ◌*◌, ◌/◌, ◌%◌, ◌^◌, ◌<◌, ◌≤◌};

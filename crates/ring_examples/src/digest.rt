@@ -1,3 +1,4 @@
+// SPDX-License-Identifier: ISC
 //! Digests.
 
 ghost use Rattle.std.specs.Prelude.{◌↔◌, ◌<◌, ◌++◌, length, IfOk, IsErr};

@@ -1,3 +1,4 @@
+// SPDX-License-Identifier: ISC
 //! Keys from secrets.
 
 ghost use Rattle.std.specs.Prelude.{◌≡◌, ◌↔◌, ◌*◌, ◌<◌, ◌≤◌, ℕ, List, length};
@@ -25,8 +26,8 @@ impl KeyType for Length {
     }
 }
 
-/// Fills the whole of `out` with output for what `info` tells. Where that is refused, `out` is
-/// as it was.
+/// Fills the whole of `out` with output for the purpose that `info` names. Where that is
+/// refused, `out` is as it was.
 pub fn expand_secret(
     salt: &[u8],
     secret: &[u8],
@@ -45,7 +46,7 @@ pub fn expand_secret(
     prk.expand(info, Length(out.len()))?.fill(out)
 }
 
-/// The tag of a message under a key that is made of output: 32 bytes for what `info` tells.
+/// The tag of a message under a key that is made of output: 32 bytes for the purpose of `info`.
 pub fn tag_under_output(
     salt: &[u8],
     secret: &[u8],
@@ -100,7 +101,7 @@ pub fn next_salt(current: &Prk, info: &[&[u8]]) -> Result<Salt, Unspecified>
     Salt::try_from(current.expand(info, HKDF_SHA256)?)
 }
 
-/// A key for tags by the salt's own algorithm, made of output for what `info` tells.
+/// A key for tags by the salt's own algorithm, made of output for the purpose of `info`.
 pub fn key_under_salt(salt: &Salt, secret: &[u8], info: &[&[u8]]) -> Result<Key, Unspecified>
     ensures ok { (s : List ℕ) → SaltStandsFor salt.now s → IfOk result (λ key.
         KeyStandsFor key (okm (salt_algorithm salt.now)

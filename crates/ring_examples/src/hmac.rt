@@ -1,3 +1,4 @@
+// SPDX-License-Identifier: ISC
 //! Tags and their verification.
 
 ghost use Rattle.std.specs.Prelude.{◌≡◌, ◌↔◌, ◌⊎◌, ◌+◌, ◌<◌, ◌≤◌, ◌++◌};

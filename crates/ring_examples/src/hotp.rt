@@ -1,3 +1,4 @@
+// SPDX-License-Identifier: ISC
 //! HOTP: one-time passwords by HMAC (RFC 4226).
 
 ghost use Rattle.std.specs.Prelude.{◌≡◌, ◌↔◌, ◌<◌, length, IfOk, IsErr};

@@ -1,3 +1,4 @@
+// SPDX-License-Identifier: ISC
 //! Callers whose proofs use a law: the call of a law gives them its clause.
 
 ghost use Rattle.std.specs.Prelude.{◌≡◌, ◌↔◌, ℕ, List, IfOk, IsTrue, replicate, take};

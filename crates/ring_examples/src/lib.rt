@@ -1,3 +1,4 @@
+// SPDX-License-Identifier: ISC
 //! Callers of `ring` and `ring_store`, one small function a call, each proved from the contracts
 //! alone. README's first use and the examples of the libraries' pages are taken from here.
 #![tactic(auto)]

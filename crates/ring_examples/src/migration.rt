@@ -1,3 +1,4 @@
+// SPDX-License-Identifier: ISC
 //! A database of Django moves into a store, each password at its next login.
 
 ghost use Rattle.std.specs.Prelude.{◌≡◌, ◌≢◌, ◌⊎◌, Ok, IfErr, IsErrOf, IsOk, OnErr, OnOk};

@@ -1,3 +1,4 @@
+// SPDX-License-Identifier: ISC
 //! Keys from passwords.
 
 ghost use Rattle.std.specs.Prelude.{◌≡◌, ◌↔◌, ◌≤◌, length, IfOk, IsOk, IsTrue};

@@ -1,3 +1,4 @@
+// SPDX-License-Identifier: ISC
 //! Digests of messages that are whole, or come in more than two pieces.
 
 ghost use Rattle.std.specs.Prelude.{◌≡◌, ◌↔◌, ◌<◌, ◌++◌, ℕ, List, length, take};

@@ -1,3 +1,4 @@
+// SPDX-License-Identifier: ISC
 //! Keys and values of a source's bytes.
 
 ghost use Rattle.std.specs.Prelude.{◌≡◌, ◌↔◌, ◌⊎◌, ◌+◌, ◌<◌, ◌++◌};

@@ -1,3 +1,4 @@
+// SPDX-License-Identifier: ISC
 //! Contexts and keys that are kept as plain numbers between two calls.
 
 ghost use Rattle.std.specs.Prelude.{◌≡◌, ◌↔◌, ℕ, List, ◌++◌, length};

@@ -1,3 +1,4 @@
+// SPDX-License-Identifier: ISC
 //! Digests of several messages, whole and in pieces, and keys from several passwords, at once.
 
 ghost use Rattle.std.specs.Prelude.{◌≡◌, ◌↔◌, ◌++◌, IfOk, IsOk, length};

@@ -1,3 +1,4 @@
+// SPDX-License-Identifier: ISC
 //! Chaining words, and the block function over them.
 
 ghost use Rattle.std.specs.Prelude.{◌≡◌, ◌++◌, replicate};

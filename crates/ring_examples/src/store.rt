@@ -1,3 +1,4 @@
+// SPDX-License-Identifier: ISC
 //! A password store: a first use, a login, a restart, and the cost of a check.
 
 ghost use Rattle.std.specs.Prelude.{◌≡◌, ◌↔◌, ℕ, List, Ok, Err};

@@ -1,3 +1,4 @@
+// SPDX-License-Identifier: ISC
 //! Tokens: two makers during a change of keys, and what a token costs.
 
 ghost use Rattle.std.specs.Prelude.{◌≡◌, ◌↔◌, ◌⊎◌, ℕ, ◌≤◌, List, length, Ok, IfOk, IsOk};

@@ -1,3 +1,4 @@
+// SPDX-License-Identifier: ISC
 //! Several digests and keys at once, over vectors of 256 bits.
 
 ghost use Rattle.std.specs.Prelude.{◌≡◌, ◌↔◌, IfOk, IsErr, IsOk, length};

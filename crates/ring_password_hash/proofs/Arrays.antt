@@ -1,3 +1,4 @@
+-- SPDX-License-Identifier: ISC
 -- What was decoded to an array.
 use Rattle.std.proofs.Common.{◌≡◌, ℕ, ◌/◌, ◌≤◌, List, [], drop, length, take}
 use Rattle.std.proofs.Common.{ap, arith, subst, sym, ◌∙◌}

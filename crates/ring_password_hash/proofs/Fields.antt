@@ -1,3 +1,4 @@
+-- SPDX-License-Identifier: ISC
 -- What a field's text says of its bytes.
 use Rattle.std.proofs.Common.{◌≡◌, ℕ, refl, List, ◌∷◌, sym, ap, ◌∙◌}
 use Rattle.hex.specs.Hex.{IsBytes}

@@ -1,3 +1,4 @@
+-- SPDX-License-Identifier: ISC
 -- A hash's text is read in one way.
 use Rattle.std.proofs.Common.{◌≡◌, ℕ, refl, List, ap, sym, subst, ◌∙◌, inl, length}
 use Rattle.std.specs.declared.num.NonZeroU32.{NonZeroU32}

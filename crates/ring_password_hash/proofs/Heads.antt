@@ -1,3 +1,4 @@
+-- SPDX-License-Identifier: ISC
 -- The parameters of a hash's text are read in one way.
 use Rattle.std.proofs.Common.{◌≡◌, ◌≢◌, ℕ, ◌<◌, ◌≤◌, List, ◌++◌, refl, ap, sym, ◌∙◌, arith}
 use Rattle.std.proofs.Common.{Bool, codes, false, true≢false}

@@ -1,3 +1,4 @@
+-- SPDX-License-Identifier: ISC
 -- Which kind a text is of: its first bytes tell.
 use Rattle.std.proofs.Common.{◌≡◌, ◌==◌, ℕ, ◌<◌, Bool, true, false, List, [], ◌∷◌, ◌++◌}
 use Rattle.std.proofs.Common.{slice_index_or, refl, ap, sym, ◌∙◌, arith, drop, length}

@@ -1,3 +1,4 @@
+-- SPDX-License-Identifier: ISC
 pub mod Texts
 pub mod Symbols
 pub mod Fields

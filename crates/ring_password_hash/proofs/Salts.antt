@@ -1,3 +1,4 @@
+-- SPDX-License-Identifier: ISC
 -- The symbols of a salt, and that a kind can write them.
 use Rattle.std.proofs.Common.{◌≡◌, ◌==◌, ◌<◌, ◌+◌, ◌-◌, ◌%◌, ◌/◌, ℕ, zero, suc, Bool, false}
 use Rattle.std.proofs.Common.{List, [], ◌∷◌, ◌++◌, append_assoc, ap, arith, length, refl, sym, take}

@@ -1,3 +1,4 @@
+-- SPDX-License-Identifier: ISC
 -- No byte that ends a field stands in the base64 of bytes.
 use Rattle.std.proofs.Common.{◌≡◌, ◌==◌, ℕ, suc, ◌/◌, ◌%◌, ◌+◌, ◌*◌, ◌<◌, true, false, Bool}
 use Rattle.std.proofs.Common.{List, [], ◌∷◌, length, replicate, refl, sym, ap, ◌∙◌, inl, inr}

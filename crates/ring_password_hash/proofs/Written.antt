@@ -1,3 +1,4 @@
+-- SPDX-License-Identifier: ISC
 -- What was appended piece by piece is the whole text.
 use Rattle.std.proofs.Common.{◌≡◌, ℕ, List, [], ◌∷◌, ◌++◌, append_assoc, length, ◌∙◌}
 use Rattle.std.specs.declared.num.NonZeroU32.{NonZeroU32}

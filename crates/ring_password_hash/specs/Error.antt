@@ -1,3 +1,4 @@
+-- SPDX-License-Identifier: ISC
 -- Errors: the line that `{}` prints of each, and which ones a call gives.
 use Rattle.std.specs.Prelude.{◌≡◌, ◌⊎◌, ℕ, List, codes}
 use Rattle.ring_password_hash.specs.declared.error.HashError.{HashError}

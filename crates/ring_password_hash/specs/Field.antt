@@ -1,3 +1,4 @@
+-- SPDX-License-Identifier: ISC
 -- The fields of a hash's text.
 use Rattle.std.specs.Prelude.{ℕ, ◌^◌, ◌<◌, List, ◌∷◌, ◌++◌, codes, false}
 use Rattle.std.specs.Fmt.{decimal}

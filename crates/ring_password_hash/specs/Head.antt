@@ -1,3 +1,4 @@
+-- SPDX-License-Identifier: ISC
 -- What stands before the salt in a hash's text: the kind's prefix and the parameters.
 use Rattle.std.specs.Prelude.{◌≡◌, ℕ, ◌≤◌, true, List, ◌++◌, codes}
 use Rattle.std.specs.declared.num.NonZeroU32.{NonZeroU32}

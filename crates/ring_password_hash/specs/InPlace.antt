@@ -1,3 +1,4 @@
+-- SPDX-License-Identifier: ISC
 -- What is read of a text to arrays.
 use Rattle.std.specs.Prelude.{ℕ, List, take}
 use Rattle.ring_password_hash.specs.Hash.{Parts}

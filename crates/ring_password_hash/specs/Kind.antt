@@ -1,3 +1,4 @@
+-- SPDX-License-Identifier: ISC
 -- The kinds of hashes: what a text begins with, how its fields are written, and what derives the
 -- hash.
 use Rattle.std.specs.Prelude.{ℕ, Bool, true, false, List, [], codes}

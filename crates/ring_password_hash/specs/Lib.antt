@@ -1,3 +1,4 @@
+-- SPDX-License-Identifier: ISC
 pub mod Error
 pub mod Field
 pub mod Kind

@@ -1,3 +1,4 @@
+-- SPDX-License-Identifier: ISC
 -- A new salt, made of 16 bytes of a source.
 use Rattle.std.specs.Prelude.{◌≡◌, ℕ, zero, suc, ◌%◌, ◌/◌, List, [], ◌∷◌, ◌++◌, length, slice_index}
 use Rattle.std.specs.Prelude.{Bool, true, false, codes}

@@ -1,3 +1,4 @@
+-- SPDX-License-Identifier: ISC
 -- What PostgreSQL keeps for a role under SCRAM-SHA-256 (RFC 5802, section 3, and RFC 7677).
 use Rattle.std.specs.Prelude.{◌≡◌, ◌≢◌, ℕ, ◌+◌, ◌≤◌, ◌⊎◌, List, [], ◌++◌, length, codes}
 use Rattle.std.specs.Int.NonZero.{non_zero_u32_get}

@@ -1,3 +1,4 @@
+// SPDX-License-Identifier: ISC
 //! The fields of a hash's text, decoded to slices of the caller: no memory is taken.
 
 ghost use Rattle.std.specs.Prelude.{◌≡◌, ◌≢◌, ◌↔◌, ◌≤◌, ◌*◌, ◌∷◌, ◌++◌, ℕ, List, length, take};

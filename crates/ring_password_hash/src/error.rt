@@ -1,3 +1,4 @@
+// SPDX-License-Identifier: ISC
 //! Why a call is refused.
 
 ghost use Rattle.std.specs.Prelude.{◌≡◌, Some};

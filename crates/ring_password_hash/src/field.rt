@@ -1,3 +1,4 @@
+// SPDX-License-Identifier: ISC
 //! The fields of a hash's text: each has a call that writes it and one that reads it.
 
 ghost use Rattle.std.specs.Prelude.{◌≡◌, ◌≢◌, ℕ, ◌≤◌, List, [], ◌∷◌, ◌++◌, IfSome};

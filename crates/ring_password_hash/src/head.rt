@@ -1,3 +1,4 @@
+// SPDX-License-Identifier: ISC
 //! What stands before the salt in a hash's text: the kind's prefix and the parameters.
 
 ghost use Rattle.std.specs.Prelude.{◌≡◌, ◌≢◌, ◌↔◌, ◌≤◌, ℕ, List, [], ◌++◌, IfSome, IsNone, IsTrue};

@@ -1,3 +1,4 @@
+// SPDX-License-Identifier: ISC
 //! Hashes that are read and tested with no memory but the call's own.
 
 ghost use Rattle.std.specs.Prelude.{◌≡◌, ◌≤◌, ℕ, List, Some, length, take, IfSome, IsNone};

@@ -1,3 +1,4 @@
+// SPDX-License-Identifier: ISC
 //! The kinds of hashes: a row of the table for each.
 
 ghost use Rattle.std.specs.Prelude.{◌≡◌};

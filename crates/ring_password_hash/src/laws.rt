@@ -1,3 +1,4 @@
+// SPDX-License-Identifier: ISC
 //! Laws of texts.
 //!
 //! A law holds of the definitions alone: its clause is the law, and the call does nothing.

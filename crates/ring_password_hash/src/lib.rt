@@ -1,3 +1,4 @@
+// SPDX-License-Identifier: ISC
 //! Password hashes as other systems keep them: read, verified and written, over `ring`.
 //!
 //! A [`PasswordHash`] is one of Django, Werkzeug, Mosquitto, passlib, and the PHC form of

@@ -1,3 +1,4 @@
+// SPDX-License-Identifier: ISC
 //! Hashes of PBKDF2 (RFC 2898, section 5.2), of each kind of [`Kind`].
 //!
 //! [`verify`] tests a password against a text of a database, of whichever kind:

@@ -1,3 +1,4 @@
+// SPDX-License-Identifier: ISC
 //! New salts, from a source of random bytes.
 
 ghost use Rattle.std.specs.Prelude.{◌≡◌, ◌↔◌, false, IfOk, IsErr, OnErr};

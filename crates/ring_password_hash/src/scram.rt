@@ -1,3 +1,4 @@
+// SPDX-License-Identifier: ISC
 //! What PostgreSQL keeps for a role under SCRAM-SHA-256 (RFC 5802, section 3, and RFC 7677).
 //!
 //! The RFC prepares a password by SASLprep (RFC 4013) before it derives. A password of ASCII bytes

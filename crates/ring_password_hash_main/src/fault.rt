@@ -1,3 +1,4 @@
+// SPDX-License-Identifier: ISC
 //! Why a line gets no answer.
 
 use hex::FromHexError;

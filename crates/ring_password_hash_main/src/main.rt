@@ -1,3 +1,4 @@
+// SPDX-License-Identifier: ISC
 //! Answers lines that read, verify and make password hashes, for `scripts/password_hashes`.
 //! `docs/PASSWORD_HASHES.md` has the forms of the lines.
 //!

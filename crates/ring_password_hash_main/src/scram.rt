@@ -1,3 +1,4 @@
+// SPDX-License-Identifier: ISC
 //! The answer to a line on PostgreSQL's verifiers.
 
 use crate::fault::Fault;

@@ -1,3 +1,4 @@
+// SPDX-License-Identifier: ISC
 //! The words of a line.
 
 use crate::fault::Fault;

@@ -1,3 +1,4 @@
+-- SPDX-License-Identifier: ISC
 -- What the arguments ask for.
 use Rattle.std.specs.Prelude.{◌≢◌, ◌<◌, ◌^◌, ℕ, List, [], ◌∷◌, Some, None, codes}
 use Rattle.std.specs.Fmt.{decimal}

@@ -1,3 +1,4 @@
+-- SPDX-License-Identifier: ISC
 -- What is done with a store.
 use Rattle.std.specs.Prelude.{Option, Some, None, Result, Ok, Err}
 use Rattle.std.specs.declared.num.NonZeroU32.{NonZeroU32}

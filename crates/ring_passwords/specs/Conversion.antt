@@ -1,3 +1,4 @@
+-- SPDX-License-Identifier: ISC
 -- What the arguments ask for of a password's text.
 use Rattle.std.specs.Prelude.{ℕ, List, [], ◌∷◌, Some, None, codes}
 use Rattle.std.specs.Fmt.{decimal}

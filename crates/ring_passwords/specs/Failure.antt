@@ -1,3 +1,4 @@
+-- SPDX-License-Identifier: ISC
 -- Why a run ends without success.
 use Rattle.std.specs.Prelude.{ℕ}
 use Rattle.ring_passwords.specs.declared.failure.Failure.{Failure}

@@ -1,3 +1,4 @@
+-- SPDX-License-Identifier: ISC
 -- The file of a store.
 use Rattle.std.specs.Prelude.{ℕ, List, [], ◌∷◌, Option, Some, None, codes}
 use Rattle.std.specs.Path.{path_parent}

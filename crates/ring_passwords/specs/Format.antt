@@ -1,3 +1,4 @@
+-- SPDX-License-Identifier: ISC
 -- The formats of a password's text.
 use Rattle.std.specs.Prelude.{ℕ, List, codes}
 use Rattle.ring_password_hash.specs.declared.kind.Kind.TheVariants as kind

@@ -1,3 +1,4 @@
+-- SPDX-License-Identifier: ISC
 pub mod Action
 pub mod Change
 pub mod Conversion

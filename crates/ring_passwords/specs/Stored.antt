@@ -1,3 +1,4 @@
+-- SPDX-License-Identifier: ISC
 -- The text of a password in the form of another system.
 use Rattle.std.specs.Prelude.{◌≡◌, ℕ, ◌≤◌, List}
 use Rattle.std.specs.Str.{IsAscii}

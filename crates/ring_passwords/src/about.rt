@@ -1,3 +1,4 @@
+// SPDX-License-Identifier: ISC
 //! What the program tells of itself.
 
 ghost use Rattle.std.specs.Prelude.{◌≡◌, OnOk};

@@ -1,3 +1,4 @@
+// SPDX-License-Identifier: ISC
 //! What the arguments ask for.
 
 ghost use Rattle.std.specs.Prelude.{◌≡◌, ◌≢◌, ◌⊎◌, ◌<◌, ◌^◌, ℕ, List, [], ◌∷◌, codes, map};

@@ -1,3 +1,4 @@
+// SPDX-License-Identifier: ISC
 //! What is done with a store, once it is read.
 
 ghost use Rattle.std.specs.Prelude.{◌≡◌, ◌≢◌, ◌⊎◌, ◌↔◌, ◌<◌, Ok, false, true};

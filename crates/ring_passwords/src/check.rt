@@ -1,3 +1,4 @@
+// SPDX-License-Identifier: ISC
 //! A password is tested against a text: both are lines of standard input.
 
 ghost use Rattle.std.specs.Prelude.{◌≡◌, ◌≢◌, ◌⊎◌, IfErr, IfOk, IfSome, IsErrOf, IsOk};

@@ -1,3 +1,4 @@
+// SPDX-License-Identifier: ISC
 //! What the arguments ask for of a password's text, without a file.
 
 ghost use Rattle.std.specs.Prelude.{◌≡◌, ◌≢◌, ◌⊎◌, ℕ, List, [], ◌∷◌, codes, map};

@@ -1,3 +1,4 @@
+// SPDX-License-Identifier: ISC
 //! Bytes that the system has drawn, as a source of `ring`'s.
 
 ghost use Rattle.std.specs.Prelude.{length, nat_le};

@@ -1,3 +1,4 @@
+// SPDX-License-Identifier: ISC
 //! Why a run ends without success.
 
 ghost use Rattle.std.specs.Prelude.{◌≡◌};
@@ -162,7 +163,7 @@ impl fmt::Display for Failure {
     }
 }
 
-/// Only memory is refused so.
+/// An allocation failure.
 impl From<AllocError> for Failure {
     ghost from_gives = { λ _ failure. failure ≡ Memory };
 

@@ -1,3 +1,4 @@
+// SPDX-License-Identifier: ISC
 //! The file of a store: read whole, and replaced whole under a lock.
 
 ghost use Rattle.std.specs.Prelude.{◌≡◌, IfErr, IfOk};
@@ -183,7 +184,7 @@ fn keep_access<R: Files>(rt: &R, path: &str, file: &File) -> io::Result<()> {
     file.set_permissions(Permissions::from_mode(old.mode() & PERMISSION_BITS))
 }
 
-/// Removes a new file that a run left which was ended before its time.
+/// Removes the temporary file of an interrupted run.
 fn remove_left_over<R: Files>(rt: &R, new_path: &str) -> io::Result<()> {
     match fs::remove_file(rt, new_path) {
         Err(error) if error.kind() != ErrorKind::NotFound => Err(error),

@@ -1,3 +1,4 @@
+// SPDX-License-Identifier: ISC
 //! The formats of a password's text, and the word that names each.
 
 ghost use Rattle.std.specs.Prelude.{◌≡◌, ◌≢◌, IfSome, IsNone};

@@ -1,3 +1,4 @@
+// SPDX-License-Identifier: ISC
 //! The names as lines.
 
 ghost use Rattle.std.specs.Prelude.{◌≡◌, ◌++◌, IfErr, IfOk, OnOk};

@@ -1,3 +1,4 @@
+// SPDX-License-Identifier: ISC
 //! Keeps passwords in a file: `FILE set|verify|remove NAME` and `FILE list`. `encode KIND` and
 //! `check` write and test the texts of other systems. `--help` and `--version` tell of the program.
 //!

@@ -1,3 +1,4 @@
+// SPDX-License-Identifier: ISC
 //! The lines of standard input: the password, and the text that it is tested against.
 
 ghost use Rattle.std.specs.Prelude.{◌≡◌, ◌≢◌, [], IfErr, IfOk, IfSome, IsErrOf, IsNone, OnOk};

@@ -1,3 +1,4 @@
+// SPDX-License-Identifier: ISC
 //! The text of a password in the form of another system: made, read, tested and written.
 
 ghost use Rattle.std.specs.Prelude.{◌≡◌, ◌≢◌, ◌↔◌, ◌⊎◌, ℕ, List, [], ◌∷◌, ◌++◌, length};

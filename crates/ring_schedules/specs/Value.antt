@@ -1,3 +1,4 @@
+-- SPDX-License-Identifier: ISC
 -- Values of as many bytes as a hash has.
 use Rattle.std.specs.Prelude.{ℕ, List, take}
 use Rattle.ring_schedules.specs.Hash.{hash_len}

@@ -1,3 +1,4 @@
+// SPDX-License-Identifier: ISC
 //! A caller of the schedule of TLS 1.3, proved from the contracts of its calls.
 
 ghost use Rattle.std.specs.Prelude.{◌≡◌, ◌↔◌, codes, length, IfOk, IsOk};

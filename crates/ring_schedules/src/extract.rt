@@ -1,3 +1,4 @@
+// SPDX-License-Identifier: ISC
 //! HKDF-Extract (RFC 5869, section 2.2).
 
 ghost use Rattle.std.specs.Prelude.{◌≡◌, ◌↔◌, ◌≤◌, length, IfOk, IsOk};

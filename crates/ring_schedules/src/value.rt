@@ -1,3 +1,4 @@
+// SPDX-License-Identifier: ISC
 //! Values of as many bytes as a hash has.
 
 ghost use Rattle.std.specs.Prelude.{◌≡◌, ◌↔◌, length, IfOk, IsOk};

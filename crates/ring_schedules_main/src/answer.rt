@@ -1,3 +1,4 @@
+// SPDX-License-Identifier: ISC
 //! The answer to a line.
 
 use crate::fault::Fault;

@@ -1,3 +1,4 @@
+// SPDX-License-Identifier: ISC
 //! Why a line gets no bytes.
 
 use hex::FromHexError;

@@ -1,3 +1,4 @@
+// SPDX-License-Identifier: ISC
 //! What is asked of a Finished key.
 
 ghost use Rattle.std.specs.Prelude.{◌≡◌};

@@ -1,3 +1,4 @@
+// SPDX-License-Identifier: ISC
 //! Answers lines that ask for one secret or key of a schedule, for `scripts/schedules`.
 //! `docs/SCHEDULES.md` has the forms of the lines.
 //!

@@ -1,3 +1,4 @@
+// SPDX-License-Identifier: ISC
 //! What is asked of QUIC's initial secrets.
 
 use crate::fault::Fault;

@@ -1,3 +1,4 @@
+// SPDX-License-Identifier: ISC
 //! What is asked of the stages of TLS 1.3.
 
 ghost use Rattle.std.specs.Prelude.{◌≡◌, IfOk};

@@ -1,3 +1,4 @@
+// SPDX-License-Identifier: ISC
 //! What is asked of a traffic secret, an exporter's secret and a resumption's.
 
 ghost use Rattle.std.specs.Prelude.{◌≡◌};

@@ -1,3 +1,4 @@
+-- SPDX-License-Identifier: ISC
 -- Digests of several messages, each over the front of its message.
 use Rattle.std.proofs.Common.{◌≡◌, ℕ, ◌<◌, List, ◌++◌, ap, drop, get_or, length, ◌∙◌}
 use Rattle.std.specs.Borrow.{Bor}

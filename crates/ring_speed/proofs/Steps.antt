@@ -1,3 +1,4 @@
+-- SPDX-License-Identifier: ISC
 -- One step more.
 use Rattle.std.proofs.Common.{◌≡◌, ℕ, zero, suc, ◌+◌, ◌/◌, ◌<◌, List, length, refl, add-one}
 use Rattle.std.proofs.Math.Nat.{div_self, zero-mul}

@@ -1,3 +1,4 @@
+-- SPDX-License-Identifier: ISC
 -- Work that is done again and again, each time on what the time before gave.
 use Rattle.std.specs.Prelude.{ℕ, zero, suc, ◌-◌, List, ◌++◌, drop, length, replicate, take}
 use Rattle.std.specs.Fn.{iterate}

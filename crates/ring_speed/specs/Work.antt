@@ -1,3 +1,4 @@
+-- SPDX-License-Identifier: ISC
 -- What each piece of work gives.
 use Rattle.std.specs.Prelude.{ℕ, List, Option, Some, None, if◌then◌else◌, max, nat_eq}
 use Rattle.std.specs.Prelude.{replicate, slice_index}

@@ -1,3 +1,4 @@
+// SPDX-License-Identifier: ISC
 //! The block functions alone: two runs a step, over a block that holds the step's number.
 
 ghost use Rattle.std.specs.Prelude.{◌≡◌, ◌%◌, ◌^◌, ◌≤◌, map, slice_index, take};

@@ -1,3 +1,4 @@
+// SPDX-License-Identifier: ISC
 //! Digests by four contexts that are updated at once, each written over the front of its message
 //! before.
 

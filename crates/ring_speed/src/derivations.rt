@@ -1,3 +1,4 @@
+// SPDX-License-Identifier: ISC
 //! One round of output of PBKDF2 after many iterations.
 
 ghost use Rattle.std.specs.Prelude.{◌≡◌, ◌≤◌, max};

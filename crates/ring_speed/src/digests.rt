@@ -1,3 +1,4 @@
+// SPDX-License-Identifier: ISC
 //! Digests, each written over the front of the message before.
 
 ghost use Rattle.std.specs.Prelude.{◌≡◌, ◌≤◌, length};

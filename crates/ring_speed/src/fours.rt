@@ -1,3 +1,4 @@
+// SPDX-License-Identifier: ISC
 //! Digests of four messages at once, each written over the front of its message before.
 
 ghost use Rattle.std.specs.Prelude.{◌≡◌, ◌≤◌};

@@ -1,3 +1,4 @@
+// SPDX-License-Identifier: ISC
 //! The hash functions whose work is timed, and the algorithms over each.
 
 ghost use Rattle.std.specs.Prelude.{◌≡◌};

@@ -1,3 +1,4 @@
+// SPDX-License-Identifier: ISC
 //! The digests of the crates `sha1` and `sha2`, each written over the front of the message before.
 
 ghost use Rattle.std.specs.Prelude.{◌≡◌, ◌≤◌, length};

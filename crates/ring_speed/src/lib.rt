@@ -1,3 +1,4 @@
+// SPDX-License-Identifier: ISC
 //! What speed is measured by: calls for C, which `speed/driver.c` times.
 //!
 //! - `ring_speed_run` does one piece of work so many times, each time on what the time before gave,

@@ -1,3 +1,4 @@
+// SPDX-License-Identifier: ISC
 //! Messages whose first bytes change.
 
 ghost use Rattle.std.specs.Prelude.{◌≡◌, ◌≤◌, ◌++◌, drop, length};

@@ -1,3 +1,4 @@
+// SPDX-License-Identifier: ISC
 //! Digests of messages that a context takes in pieces, each written over the front of the message
 //! before.
 

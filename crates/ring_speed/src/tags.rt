@@ -1,3 +1,4 @@
+// SPDX-License-Identifier: ISC
 //! Tags under one key, each written over the front of the message before.
 
 ghost use Rattle.std.specs.Prelude.{◌≡◌, ◌≤◌, ℕ, List, length};

@@ -1,3 +1,4 @@
+// SPDX-License-Identifier: ISC
 //! A verification of a password, in a store whose one name was set before.
 
 ghost use Rattle.std.specs.Prelude.{◌≡◌, ◌≢◌, ◌⊎◌};

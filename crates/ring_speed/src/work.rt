@@ -1,3 +1,4 @@
+// SPDX-License-Identifier: ISC
 //! The work that is timed, by its number.
 
 ghost use Rattle.std.specs.Prelude.{◌≡◌};

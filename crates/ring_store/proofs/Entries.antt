@@ -1,3 +1,4 @@
+-- SPDX-License-Identifier: ISC
 -- The entries of tables, in the order of their names.
 use Rattle.std.proofs.Common.{◌≡◌, ℕ, Bool, true, false, ◌&&◌, List, [], ◌∷◌, ◌++◌, map, length}
 use Rattle.std.proofs.Common.{refl, sym, ap, subst, ◌∙◌, arith, T}

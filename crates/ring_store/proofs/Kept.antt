@@ -1,3 +1,4 @@
+-- SPDX-License-Identifier: ISC
 -- What holds of each entry of a table, after a record is put or removed.
 use Rattle.std.proofs.Common.{◌≡◌, Bool, true, false, cond, ℕ, List, [], ◌∷◌, All, refl, sym, ap}
 use Rattle.std.proofs.Common.{subst, ◌∙◌, T}

@@ -1,3 +1,4 @@
+-- SPDX-License-Identifier: ISC
 -- What a text says of the stores that have it.
 use Rattle.std.proofs.Common.{◌≡◌, ℕ, List, [], ◌∷◌, ◌++◌, All, refl, sym, ap}
 use Rattle.std.proofs.Common.{◌∙◌, append-nil}

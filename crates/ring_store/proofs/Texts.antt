@@ -1,3 +1,4 @@
+-- SPDX-License-Identifier: ISC
 -- Lines of a store's text: each is read in one way.
 use Rattle.std.proofs.Common.{◌≡◌, ◌≢◌, ◌==◌, ℕ, suc, ◌/◌, ◌%◌, ◌<◌, ◌≤◌, true, false}
 use Rattle.std.proofs.Common.{List, [], ◌∷◌, ◌++◌, length, drop, All, refl, sym, ap, subst, ◌∙◌}

@@ -1,3 +1,4 @@
+-- SPDX-License-Identifier: ISC
 -- The line that `{}` prints of an error.
 use Rattle.std.specs.Prelude.{ℕ, List, codes}
 use Rattle.ring_store.specs.declared.error.LoadError.{LoadError}

@@ -1,3 +1,4 @@
+-- SPDX-License-Identifier: ISC
 -- A store as text: a line for its salt and its iteration count, and then a line for each record, in
 -- the order of names.
 use Rattle.std.specs.Prelude.{◌≡◌, ℕ, ◌^◌, ◌<◌, true, List, [], ◌∷◌, ◌++◌, length}

@@ -1,3 +1,4 @@
+// SPDX-License-Identifier: ISC
 //! The records of a password store, one by one.
 
 ghost use Rattle.std.specs.Prelude.{◌≡◌, ◌↔◌, ◌⊎◌, [], IsErrOf, IsTrue, OnOk, OnErr, false};

@@ -1,3 +1,4 @@
+// SPDX-License-Identifier: ISC
 //! A password store as text, written and read back.
 
 ghost use Rattle.std.specs.Prelude.{◌≡◌, ◌≢◌, All, IfOk, IsErrOf};

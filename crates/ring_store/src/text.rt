@@ -1,3 +1,4 @@
+// SPDX-License-Identifier: ISC
 //! The lines of a store's text: each part has a call that writes it and one that reads it.
 
 ghost use Rattle.std.specs.Prelude.{◌≡◌, ◌≢◌, ◌↔◌, ℕ, ◌≤◌, List, [], ◌∷◌, ◌++◌, length, IfSome};

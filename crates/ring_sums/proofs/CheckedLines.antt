@@ -1,3 +1,4 @@
+-- SPDX-License-Identifier: ISC
 -- Lines of a list that are checked, one after another.
 use Rattle.std.proofs.Common.{◌≡◌, ℕ, suc, Bool, ◌+◌, ◌-◌, ◌<◌, ◌≤◌, List, [], ◌∷◌, ◌++◌, ◌∙◌}
 use Rattle.std.proofs.Common.{Option, None, Some, ap, append_assoc, append-nil, arith, get_or, inl}

@@ -1,3 +1,4 @@
+-- SPDX-License-Identifier: ISC
 -- What is found of files, counted.
 use Rattle.std.proofs.Common.{◌≡◌, Bool, false, true, ◌+◌, ◌≤◌, List, [], ◌∷◌, ◌++◌, Option}
 use Rattle.std.proofs.Common.{arith, length}

@@ -1,3 +1,4 @@
+-- SPDX-License-Identifier: ISC
 -- Names that are read back from their escapes.
 use Rattle.std.proofs.Common.{◌≡◌, ℕ, Bool, true, false, eqb, if◌then◌else◌, List, [], ◌∷◌, ◌++◌}
 use Rattle.std.proofs.Common.{Option, Some, None, refl, sym, ap, ◌∙◌, append_assoc, inl, inr}

@@ -1,3 +1,4 @@
+-- SPDX-License-Identifier: ISC
 -- Outcomes that are found, and the readers that wait.
 use Rattle.std.proofs.Common.{◌≡◌, ◌≢◌, ℕ, ◌+◌, ◌-◌, ◌<◌, List, [], ◌∷◌, ◌++◌, ◌∙◌, IsNone, Option}
 use Rattle.std.proofs.Common.{None, Some, ap, arith, drop, drop-drop, get_or, inl, inr, length}

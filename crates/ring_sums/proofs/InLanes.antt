@@ -1,3 +1,4 @@
+-- SPDX-License-Identifier: ISC
 -- Lanes and their contexts, as they read, take in and end.
 use Rattle.std.proofs.Common.{◌≡◌, ◌≢◌, ℕ, ◌+◌, ◌-◌, ◌<◌, ◌≤◌, List, [], ◌∷◌, ◌++◌, ◌∙◌, Option}
 use Rattle.std.proofs.Common.{ap, arith, get_or, inl, inr, length, map}

@@ -1,3 +1,4 @@
+-- SPDX-License-Identifier: ISC
 -- Parts of written lines, as they are read.
 use Rattle.std.proofs.Common.{◌≡◌, ℕ, ◌<◌, ◌≤◌, eqb, Bool, true, false, not, ◌||◌}
 use Rattle.std.proofs.Common.{if◌then◌else◌, List, [], ◌∷◌, ◌++◌, length, get_or, Option, Some}

@@ -1,3 +1,4 @@
+-- SPDX-License-Identifier: ISC
 -- The lines of files, one after another.
 use Rattle.std.proofs.Common.{◌≡◌, ℕ, Bool, ◌+◌, ◌-◌, ◌<◌, ◌&&◌, List, [], ◌∷◌, ◌++◌, ◌∙◌, Bor}
 use Rattle.std.proofs.Common.{Option, None, Some, ap, append_assoc, append-nil, arith, false}

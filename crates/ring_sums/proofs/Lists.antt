@@ -1,3 +1,4 @@
+-- SPDX-License-Identifier: ISC
 -- Lists, line by line.
 use Rattle.std.proofs.Common.{◌≡◌, ℕ, ◌+◌, ◌<◌, eqb, Bool, List, [], ◌∷◌, ◌++◌, length, refl, sym}
 use Rattle.std.proofs.Common.{◌∙◌, Option, append_assoc, arith, length-append}

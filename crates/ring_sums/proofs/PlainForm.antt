@@ -1,3 +1,4 @@
+-- SPDX-License-Identifier: ISC
 -- The form of lines that begin with the digits.
 use Rattle.std.proofs.Common.{◌≡◌, ℕ, ◌+◌, ◌*◌, ◌<◌, ◌≤◌, ◌&&◌, leb, if◌then◌else◌, List, ◌∷◌}
 use Rattle.std.proofs.Common.{◌++◌, length, take, drop, get_or, Option, Some, None, sym, ap, arith}

@@ -1,3 +1,4 @@
+-- SPDX-License-Identifier: ISC
 -- The form of lines with a tag.
 use Rattle.std.proofs.Common.{◌≡◌, ℕ, eqb, true, false, if◌then◌else◌, codes, List, [], ◌∷◌}
 use Rattle.std.proofs.Common.{◌++◌, length, take, drop, get_or, Option, Some, None, refl, sym, ap}

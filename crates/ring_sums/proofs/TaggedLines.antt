@@ -1,3 +1,4 @@
+-- SPDX-License-Identifier: ISC
 -- Written lines in BSD's style read back.
 use Rattle.std.proofs.Common.{◌≡◌, ℕ, eqb, false, List, [], ◌∷◌, ◌++◌, Option, Some, None}
 use Rattle.std.proofs.Common.{refl, sym, ◌∙◌, append_assoc}

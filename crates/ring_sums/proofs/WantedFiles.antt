@@ -1,3 +1,4 @@
+-- SPDX-License-Identifier: ISC
 -- Files of which the outcomes are to come.
 use Rattle.std.proofs.Common.{◌≡◌, ℕ, Bool, ◌+◌, ◌-◌, ◌<◌, List, [], ◌∷◌, ◌++◌, ◌∙◌, ap}
 use Rattle.std.proofs.Common.{arith, drop, drop-drop, get_or, inl, inr, length, length-append}

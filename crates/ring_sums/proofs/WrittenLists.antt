@@ -1,3 +1,4 @@
+-- SPDX-License-Identifier: ISC
 -- Lists that are written read back.
 use Rattle.std.proofs.Common.{◌≡◌, ℕ, ◌+◌, ◌-◌, ◌<◌, eqb, Bool, true, false, not, ◌&&◌, ◌||◌}
 use Rattle.std.proofs.Common.{codes, List, [], ◌∷◌, ◌++◌, length, map, drop}

@@ -1,3 +1,4 @@
+-- SPDX-License-Identifier: ISC
 -- What a check finds of the files that a list has, and says of them.
 use Rattle.std.specs.Prelude.{◌≡◌, ℕ, Bool, true, false, ◌<◌, List, [], ◌∷◌, ◌++◌, Option, None}
 use Rattle.std.specs.Prelude.{Some}

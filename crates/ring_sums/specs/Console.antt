@@ -1,3 +1,4 @@
+-- SPDX-License-Identifier: ISC
 -- What is written on standard output.
 use Rattle.std.specs.Prelude.{◌≡◌, ℕ, IsNone, List, Option}
 use Rattle.std.specs.Io.KnownBytes.{Appends}

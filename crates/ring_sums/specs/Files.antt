@@ -1,3 +1,4 @@
+-- SPDX-License-Identifier: ISC
 -- The files that names stand for.
 use Rattle.std.specs.Prelude.{ℕ, List, Option, None, Some}
 use Rattle.ring_sums.specs.declared.files.Source.{Source}

@@ -1,3 +1,4 @@
+-- SPDX-License-Identifier: ISC
 -- Outcomes that are found before it is their turn to be given.
 use Rattle.std.specs.Prelude.{◌≡◌, ◌≢◌, ℕ, ◌+◌, ◌<◌, Bool, IfSome, IsNone, IsSomeAnd, List, []}
 use Rattle.std.specs.Prelude.{◌∷◌, Option, None, Some, get_or, length, ⊤}

@@ -1,3 +1,4 @@
+-- SPDX-License-Identifier: ISC
 -- Readers in lanes.
 use Rattle.std.specs.Prelude.{◌≡◌, ℕ, ◌<◌, Bool, List, ◌++◌, IfSome, IsNone, IsTrue, Option, drop}
 use Rattle.std.specs.Prelude.{get_or, length, take}

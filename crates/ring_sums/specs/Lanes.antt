@@ -1,3 +1,4 @@
+-- SPDX-License-Identifier: ISC
 -- Readers that are read side by side.
 use Rattle.std.specs.Prelude.{◌≡◌, ℕ, ◌<◌, Bool, List, [], ◌∷◌, ◌++◌, Option, get_or, length}
 use Rattle.ring.specs.declared.digest.algorithm.Algorithm.{Algorithm}

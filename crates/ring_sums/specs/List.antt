@@ -1,3 +1,4 @@
+-- SPDX-License-Identifier: ISC
 -- What a list says, line by line.
 use Rattle.std.specs.Prelude.{◌==◌, ◌+◌, ◌-◌, ◌&&◌, ◌||◌, ℕ, Bool, List, [], ◌∷◌, ◌++◌}
 use Rattle.std.specs.Prelude.{Option, None, Some, codes, drop, fold, if◌then◌else◌, length}

@@ -1,3 +1,4 @@
+-- SPDX-License-Identifier: ISC
 -- The lines of files, as a run without `--check` writes them.
 use Rattle.std.specs.Prelude.{◌≡◌, ℕ, Bool, true, false, ◌<◌, List, [], ◌∷◌, ◌++◌, Option, get_or}
 use Rattle.std.specs.Prelude.{length}

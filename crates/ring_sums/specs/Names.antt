@@ -1,3 +1,4 @@
+-- SPDX-License-Identifier: ISC
 -- Names with their escapes.
 use Rattle.std.specs.Prelude.{ℕ, Bool, List, [], ◌∷◌, ◌==◌, ◌||◌, if◌then◌else◌}
 use Rattle.std.specs.Prelude.{Option, None, Some, option_and_then, option_map}

@@ -1,3 +1,4 @@
+-- SPDX-License-Identifier: ISC
 -- What the outcome of a reader says.
 use Rattle.std.specs.Prelude.{◌≢◌, ℕ, ◌<◌, Bool, IfSome, IsTrue, List, Option, length}
 use Rattle.std.specs.IoError.{error_kind}

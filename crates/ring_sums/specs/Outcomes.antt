@@ -1,3 +1,4 @@
+-- SPDX-License-Identifier: ISC
 -- Outcomes of several files in their order.
 use Rattle.std.specs.Prelude.{◌≡◌, ℕ, Bool, ◌+◌, ◌<◌, ◌≤◌, ◌↔◌, ◌∷◌, IfSome, IsSome, List}
 use Rattle.std.specs.Prelude.{Option, drop, get_or, if◌then◌else◌, is_some, length}

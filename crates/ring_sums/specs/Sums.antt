@@ -1,3 +1,4 @@
+-- SPDX-License-Identifier: ISC
 -- The sums of several readers, in their order.
 use Rattle.std.specs.Prelude.{◌≡◌, ℕ, ◌+◌, ◌-◌, ◌<◌, ◌≤◌, ◌↔◌, Bool, IfSome, IsSome, List, Option}
 use Rattle.std.specs.Prelude.{drop, get_or, if◌then◌else◌, is_some, length}

@@ -1,3 +1,4 @@
+// SPDX-License-Identifier: ISC
 //! What the program tells of itself.
 
 /// The help behind the line that names the program.

@@ -1,3 +1,4 @@
+// SPDX-License-Identifier: ISC
 //! The check of a list.
 
 ghost use Rattle.std.specs.Prelude.{◌≡◌, ◌↔◌, ◌<◌, ◌-◌, ◌^◌, ◌∷◌, ◌++◌, [], IfOk, IsTrue, List};

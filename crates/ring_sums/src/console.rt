@@ -1,3 +1,4 @@
+// SPDX-License-Identifier: ISC
 //! Where the program writes: lines on standard output, and messages on standard error.
 
 ghost use Rattle.std.specs.Prelude.{◌≡◌, ◌↔◌, IfOk, IsFalse, IsNone, IsTrue};

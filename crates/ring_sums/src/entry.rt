@@ -1,3 +1,4 @@
+// SPDX-License-Identifier: ISC
 //! What a line of a list says.
 
 ghost use Rattle.std.specs.Prelude.{◌≡◌, ◌↔◌, ◌++◌, IfOk, OnOk, not, option_copied, option_map};

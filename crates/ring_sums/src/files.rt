@@ -1,3 +1,4 @@
+// SPDX-License-Identifier: ISC
 //! The files whose digests are asked for, each of which is opened when it is first read.
 
 ghost use Rattle.std.specs.Prelude.{◌≡◌, Some, true};

@@ -1,3 +1,4 @@
+// SPDX-License-Identifier: ISC
 //! Outcomes that are found before it is their turn to be given.
 
 ghost use Rattle.std.specs.Prelude.{◌≡◌, drop};

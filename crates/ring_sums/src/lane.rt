@@ -1,3 +1,4 @@
+// SPDX-License-Identifier: ISC
 //! A reader in a lane.
 
 ghost use Rattle.std.specs.Prelude.{◌≡◌, List, [], IsFalse, IsNone, IsTrue, None, get_or};

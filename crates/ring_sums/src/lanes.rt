@@ -1,3 +1,4 @@
+// SPDX-License-Identifier: ISC
 //! Readers that are read side by side, each in a lane.
 
 ghost use Rattle.std.specs.Prelude.{◌≡◌, ◌<◌, List, [], IfOk, IsTrue, OnOk, get_or, length, map};

@@ -1,3 +1,4 @@
+// SPDX-License-Identifier: ISC
 //! Laws: facts about what is written and read.
 //!
 //! A law holds of the definitions alone: its clause is the law, and the call does nothing.

@@ -1,3 +1,4 @@
+// SPDX-License-Identifier: ISC
 //! Checksums of files: digests of what readers give, side by side, and the lines that list them.
 #![tactic(auto)]
 

@@ -1,3 +1,4 @@
+// SPDX-License-Identifier: ISC
 //! A line of a list: the digest and the name of a file, as coreutils write it.
 
 ghost use Rattle.std.specs.Prelude.{◌≡◌, ◌∷◌, [], ◌++◌, OnOk};

@@ -1,3 +1,4 @@
+// SPDX-License-Identifier: ISC
 //! A list, line by line.
 
 ghost use Rattle.std.specs.Prelude.{◌≡◌, ◌++◌, IfOk, IfSome, IsNone, OnOk, codes, map};

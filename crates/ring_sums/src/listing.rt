@@ -1,3 +1,4 @@
+// SPDX-License-Identifier: ISC
 //! The lines of files, as a run without `--check` writes them.
 
 ghost use Rattle.std.specs.Prelude.{◌≡◌, IfOk, OnOk, length};

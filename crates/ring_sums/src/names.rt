@@ -1,3 +1,4 @@
+// SPDX-License-Identifier: ISC
 //! Names in lists: a backslash, a line feed and a carriage return are escaped, so that each name
 //! stands on one line.
 

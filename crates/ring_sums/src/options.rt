@@ -1,3 +1,4 @@
+// SPDX-License-Identifier: ISC
 //! What the arguments ask for.
 
 use ring::digest::{Algorithm, SHA1_FOR_LEGACY_USE_ONLY, SHA256, SHA384, SHA512, SHA512_256};

@@ -1,3 +1,4 @@
+// SPDX-License-Identifier: ISC
 //! What is known of a reader once it is read.
 
 use ring::digest::Digest;

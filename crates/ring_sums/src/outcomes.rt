@@ -1,3 +1,4 @@
+// SPDX-License-Identifier: ISC
 //! The outcomes of several files, in their order: those of one algorithm are read side by side.
 
 ghost use Rattle.std.specs.Prelude.{◌≡◌, ◌≤◌, ◌∷◌, ℕ, List, IfOk, IsTrue, MatchOption, OnOk, drop};

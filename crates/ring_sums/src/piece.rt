@@ -1,3 +1,4 @@
+// SPDX-License-Identifier: ISC
 //! A piece of what a reader gives.
 
 ghost use Rattle.std.specs.Prelude.{◌≡◌, ◌<◌, ◌≤◌, IfErr, IfOk, length, take};

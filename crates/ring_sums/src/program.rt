@@ -1,3 +1,4 @@
+// SPDX-License-Identifier: ISC
 //! The program over any files, arguments and standard streams.
 
 ghost use Rattle.std.specs.Prelude.{◌≡◌, ◌≢◌, ◌↔◌, IfOk, IsFalse, IsNone, IsTrue, Ok, Some};

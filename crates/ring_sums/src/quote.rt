@@ -1,3 +1,4 @@
+// SPDX-License-Identifier: ISC
 //! A name as a message has it: in quotes where a shell would read it otherwise.
 
 use std::alloc::AllocError;

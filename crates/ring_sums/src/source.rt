@@ -1,3 +1,4 @@
+// SPDX-License-Identifier: ISC
 //! Readers of which it is known whether a read can fail.
 
 ghost use Rattle.std.specs.Prelude.{◌≡◌, Bool, IsErr, IsTrue, false, true};

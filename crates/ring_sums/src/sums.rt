@@ -1,3 +1,4 @@
+// SPDX-License-Identifier: ISC
 //! Digests of what several readers give, side by side, in the order of the readers.
 
 ghost use Rattle.std.specs.Prelude.{◌≡◌, ◌↔◌, ℕ, List, IfOk, IsTrue, OnOk, length};

@@ -1,3 +1,4 @@
+// SPDX-License-Identifier: ISC
 //! The files in a directory and below it.
 
 use crate::console::Console;

@@ -1,3 +1,4 @@
+// SPDX-License-Identifier: ISC
 //! Checksums of files over vectors of 256 bits, for processors with AVX2; `docs/SUMS.md` has the
 //! options and the messages.
 #![tactic(auto)]

@@ -1,3 +1,4 @@
+// SPDX-License-Identifier: ISC
 //! Tests of `ring_bench` that need a reader, a writer or a heap of their own: what no contract says
 //! of a run. Lines whose answers are all that counts stand in `vectors/`.
 

@@ -1,3 +1,4 @@
+// SPDX-License-Identifier: ISC
 //! Each caller of `ring_examples` once, against a value from outside.
 
 use crate::rand::ready_for_all;

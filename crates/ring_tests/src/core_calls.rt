@@ -1,3 +1,4 @@
+// SPDX-License-Identifier: ISC
 //! The public calls of `ring_core`, by the paths under which `ring` gives them again: each once on
 //! its happy path, and the limits of bit lengths.
 

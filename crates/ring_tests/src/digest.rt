@@ -1,3 +1,4 @@
+// SPDX-License-Identifier: ISC
 //! Digests: agreement with other implementations, in whatever pieces, and the texts of Debug.
 
 use crate::messages::{counting_bytes, padded_blocks, takes_all};

@@ -1,3 +1,4 @@
+// SPDX-License-Identifier: ISC
 //! Algorithms are equal only to themselves.
 
 use ring::digest::{self, SHA1_FOR_LEGACY_USE_ONLY, SHA256, SHA384, SHA512, SHA512_256};

@@ -1,3 +1,4 @@
+// SPDX-License-Identifier: ISC
 //! Outputs of HKDF: lengths, refusals that leave buffers and meters, and what is made of an output.
 
 use crate::texts::{is_hex_of, prints};

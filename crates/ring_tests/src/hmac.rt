@@ -1,3 +1,4 @@
+// SPDX-License-Identifier: ISC
 //! Tags: messages in whatever pieces, what keys cost, and the texts of Debug.
 
 use crate::messages::{counting_bytes, padded_blocks, takes_all};

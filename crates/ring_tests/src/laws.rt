@@ -1,3 +1,4 @@
+// SPDX-License-Identifier: ISC
 //! Digests and tags of pieces.
 
 use ring::cost::Meter;

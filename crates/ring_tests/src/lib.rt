@@ -1,3 +1,4 @@
+// SPDX-License-Identifier: ISC
 //! Tests of what no contract says, over the public calls alone: messages cut in many ways, other
 //! implementations of the same functions, texts that Debug prints, readers, writers and heaps that
 //! fail, and each call once.

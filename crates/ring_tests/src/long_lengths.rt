@@ -1,3 +1,4 @@
+// SPDX-License-Identifier: ISC
 //! Lengths of 128 bits, at the limit and past it. No message of a test reaches these counts, so
 //! that they are written as a context's numbers.
 

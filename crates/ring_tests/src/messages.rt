@@ -1,3 +1,4 @@
+// SPDX-License-Identifier: ISC
 //! Messages of tests, the blocks that they have, and how a context takes them in pieces.
 
 use ring::cost::Meter;

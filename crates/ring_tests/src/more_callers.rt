@@ -1,3 +1,4 @@
+// SPDX-License-Identifier: ISC
 //! The callers of `ring_examples` over plain numbers, chaining words, laws and accounts, each
 //! against a value from outside.
 

@@ -1,3 +1,4 @@
+// SPDX-License-Identifier: ISC
 //! Keys derived from passwords: values that are verified, and what that costs.
 
 use crate::texts::is_hex_of;

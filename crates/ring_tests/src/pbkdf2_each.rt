@@ -1,3 +1,4 @@
+// SPDX-License-Identifier: ISC
 //! Keys derived from several secrets at once: the values of other implementations, in every place.
 
 ghost use Rattle.std.specs.Prelude.{◌<◌};

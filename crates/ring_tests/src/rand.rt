@@ -1,3 +1,4 @@
+// SPDX-License-Identifier: ISC
 //! Values and keys of a source's bytes: which bytes are taken, and that a refusal takes none.
 
 ghost use Rattle.std.specs.Prelude.{nat_le, min, length};

@@ -1,3 +1,4 @@
+// SPDX-License-Identifier: ISC
 //! Key schedules, against the RFCs' own values. scripts/schedules has the other traces and peers.
 
 use crate::texts::is_hex_of;

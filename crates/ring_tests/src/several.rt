@@ -1,3 +1,4 @@
+// SPDX-License-Identifier: ISC
 //! Digests of several messages at once: agreement with other implementations, in every place.
 
 use crate::digest::is_of_others;

@@ -1,3 +1,4 @@
+// SPDX-License-Identifier: ISC
 //! Tests of `ring_store` over its public calls: rows of commands with their replies, tokens of
 //! another implementation, records one by one and as text, many names beside a plain list, and
 //! heaps that refuse each request.

@@ -1,3 +1,4 @@
+// SPDX-License-Identifier: ISC
 //! What Debug prints, and digits of bytes.
 
 use std::alloc::Global;

@@ -1,3 +1,4 @@
+// SPDX-License-Identifier: ISC
 //! Contexts of several messages updated at once: agreement with other implementations, in every
 //! place.
 

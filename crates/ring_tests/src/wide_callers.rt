@@ -1,3 +1,4 @@
+// SPDX-License-Identifier: ISC
 //! The callers of `ring_examples` over vectors of 256 bits, each against a value from outside.
 
 use crate::texts::is_hex_of;

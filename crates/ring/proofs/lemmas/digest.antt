@@ -1,3 +1,4 @@
+-- SPDX-License-Identifier: ISC
 -- Lemmas of `digest`.
 pub mod Outputs
 pub mod Padding

@@ -1,2 +1,3 @@
+-- SPDX-License-Identifier: ISC
 -- Lemmas of `hkdf`.
 pub mod Expanding

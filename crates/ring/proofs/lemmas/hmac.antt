@@ -1,3 +1,4 @@
+-- SPDX-License-Identifier: ISC
 -- Lemmas of `hmac`.
 pub mod Keys
 pub mod Comparing

@@ -1,3 +1,4 @@
+-- SPDX-License-Identifier: ISC
 -- Lemmas of `pbkdf2`.
 pub mod Iterates
 pub mod Starts

@@ -1,2 +1,3 @@
+-- SPDX-License-Identifier: ISC
 -- Lemmas of `raw`.
 pub mod Numbers

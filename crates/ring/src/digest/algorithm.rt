@@ -1,3 +1,4 @@
+// SPDX-License-Identifier: ISC
 //! The five algorithms and their lengths.
 
 ghost use Rattle.std.specs.Prelude.{◌≡◌, ◌↔◌, ◌≤◌, ◌-◌, IsTrue, Some, length, replicate};

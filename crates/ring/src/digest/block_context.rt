@@ -1,3 +1,4 @@
+// SPDX-License-Identifier: ISC
 //! A context of whole blocks.
 
 ghost use Rattle.std.specs.Prelude.{◌≡◌, ◌↔◌, ℕ, ◌+◌, ◌*◌, ◌/◌, ◌<◌, List, [], ◌++◌, length, take};

@@ -1,3 +1,4 @@
+// SPDX-License-Identifier: ISC
 //! The digest of a message that arrives in pieces.
 
 ghost use Rattle.std.specs.Prelude.{◌≡◌, ◌↔◌, ℕ, ◌+◌, ◌-◌, ◌%◌, ◌<◌, ◌≤◌, List, [], ◌++◌, length};

@@ -1,3 +1,4 @@
+// SPDX-License-Identifier: ISC
 //! Digests of several messages at once, as many side by side as a vector has lanes.
 
 ghost use Rattle.std.specs.Prelude.{◌≡◌, ◌≢◌, ◌↔◌, ℕ, ◌-◌, ◌*◌, ◌/◌, ◌<◌, ◌≤◌, [], ◌++◌, IsOk};
@@ -202,12 +203,12 @@ fn states_after<H: RunBlocks<N>, const N: usize>(
         (words_at algorithm (message_at messages.now i) count) (H.lane i result) }
     ensures cost { meter.new ≡ raised meter.old (H.LANES * count) 0 }
 {
-    let mut ring = H::ring();
+    let mut window = H::window();
     let mut states = H::splat(&algorithm.initial_state());
     let mut blocks = [[0; N]; MAX_LANES];
     'blocks: for index in 0..count {
         put_blocks::<N>(algorithm, messages, index, &mut blocks[..H::LANES]);
-        H::run_blocks(&mut ring, &mut states, &blocks[..H::LANES], meter);
+        H::run_blocks(&mut window, &mut states, &blocks[..H::LANES], meter);
     }
     states
 }
@@ -251,7 +252,7 @@ fn digest_alone(algorithm: Algorithm, messages: &[&[u8]], out: &mut [Digest], me
     out[0] = digest;
 }
 
-// Writes the digests of messages of which so many can run together.
+// Writes the digests of a group of messages that fits the lanes.
 fn digest_together<const VECTOR_BITS: usize>(
     algorithm: Algorithm,
     messages: &[&[u8]],

@@ -1,3 +1,4 @@
+// SPDX-License-Identifier: ISC
 //! The words before the first block (FIPS 180-4, sections 5.3.1, 5.3.3, 5.3.4, 5.3.5 and 5.3.6.2).
 
 use ring_core::digest::sha2::{State32, State64};

@@ -1,3 +1,4 @@
+// SPDX-License-Identifier: ISC
 //! Chaining states of one algorithm side by side, one in each lane.
 
 pub(crate) mod algorithms;

@@ -1,3 +1,4 @@
+// SPDX-License-Identifier: ISC
 //! The last block or blocks of a message (FIPS 180-4, section 5.1).
 
 ghost use Rattle.std.specs.Prelude.{◌≡◌, ℕ, ◌-◌, ◌*◌, ◌^◌, ◌<◌, ◌≤◌, List, ◌++◌, drop, length};

@@ -1,3 +1,4 @@
+// SPDX-License-Identifier: ISC
 //! A context in the midst of an update, some blocks of which run in a lane.
 
 ghost use Rattle.std.specs.Prelude.{◌≡◌, ◌+◌, ◌-◌, ◌/◌, ◌<◌, ◌≤◌, length, IsTrue};

@@ -1,3 +1,4 @@
+// SPDX-License-Identifier: ISC
 //! The bytes that wait for their block to be complete.
 
 ghost use Rattle.std.specs.Prelude.{◌≡◌, ◌+◌, ◌<◌, ◌≤◌, ◌++◌, length, take};

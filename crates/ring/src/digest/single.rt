@@ -1,3 +1,4 @@
+// SPDX-License-Identifier: ISC
 //! The digest of one message.
 
 ghost use Rattle.std.specs.Prelude.{◌≡◌, ◌↔◌, length, ◌<◌, IfOk, IsErr, OnOk, OnErr};

@@ -1,3 +1,4 @@
+// SPDX-License-Identifier: ISC
 //! Several contexts, each updated with a piece, as many side by side as a vector has lanes.
 
 ghost use Rattle.std.specs.Prelude.{◌≡◌, ◌↔◌, ℕ, ◌-◌, ◌*◌, ◌/◌, ◌<◌, ◌≤◌, [], IsOk, OnErr, OnOk};
@@ -84,12 +85,12 @@ fn states_past<H: RunBlocks<N>, const N: usize>(
         → drop (word_count a) (H.lane i result) ≡ spare_words a (get_or states.now i s) }
     ensures cost { meter.new ≡ raised meter.old (H.LANES * count) 0 }
 {
-    let mut ring = H::ring();
+    let mut window = H::window();
     let mut lanes = H::new(states);
     let mut blocks = [[0; N]; MAX_LANES];
     'blocks: for index in 0..count {
         put_whole_blocks::<N>(pieces, index, &mut blocks[..H::LANES]);
-        H::run_blocks(&mut ring, &mut lanes, &blocks[..H::LANES], meter);
+        H::run_blocks(&mut window, &mut lanes, &blocks[..H::LANES], meter);
     }
     lanes
 }

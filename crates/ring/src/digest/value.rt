@@ -1,3 +1,4 @@
+// SPDX-License-Identifier: ISC
 //! The digest that a call returns.
 
 ghost use Rattle.std.specs.Prelude.{◌≡◌, length};

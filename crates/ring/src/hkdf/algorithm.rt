@@ -1,3 +1,4 @@
+// SPDX-License-Identifier: ISC
 //! The four HKDF algorithms.
 
 ghost use Rattle.std.specs.Prelude.{◌≡◌};

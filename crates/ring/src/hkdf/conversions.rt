@@ -1,3 +1,4 @@
+// SPDX-License-Identifier: ISC
 //! Keys, salts and PRKs made of output (RFC 5869, section 2.3).
 
 ghost use Rattle.ring.specs.Prelude.{IsMadeOf, KeyStandsFor, PrkStandsFor, SaltStandsFor};

@@ -1,3 +1,4 @@
+// SPDX-License-Identifier: ISC
 //! The lengths of outputs: values that tell a number of bytes.
 
 ghost use Rattle.std.specs.Prelude.{◌≡◌, ℕ};

@@ -1,3 +1,4 @@
+// SPDX-License-Identifier: ISC
 //! Pseudorandom keys, and the output that they are expanded to (RFC 5869, section 2.3).
 
 ghost use Rattle.std.specs.Prelude.{◌≡◌, ◌↔◌, ◌*◌, ◌<◌, ℕ, List, length, IfOk, IsErr, IsOk, OnErr};
@@ -61,8 +62,8 @@ impl Prk {
         Prk::new_less_safe_counted(algorithm, value, &mut Meter::new())
     }
 
-    /// Asks for output of as many bytes as `len` says, for what `info` tells (RFC 5869, section
-    /// 2.3). The output is computed by [`Okm::fill`]: no block is run here.
+    /// Asks for output of as many bytes as `len` says, for the purpose that `info` names (RFC 5869,
+    /// section 2.3). The output is computed by [`Okm::fill`]: no block is run here.
     ///
     /// The pieces of `info` are joined: how it is cut makes no difference.
     ///

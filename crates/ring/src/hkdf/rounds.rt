@@ -1,3 +1,4 @@
+// SPDX-License-Identifier: ISC
 //! The rounds of an output (RFC 5869, section 2.3).
 
 ghost use Rattle.std.specs.Prelude.{◌≡◌, ◌+◌, ℕ, List, [], ◌∷◌, ◌++◌, length};

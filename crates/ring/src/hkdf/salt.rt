@@ -1,3 +1,4 @@
+// SPDX-License-Identifier: ISC
 //! Salts, and the extract of a PRK (RFC 5869, section 2.2).
 
 ghost use Rattle.std.specs.Prelude.{◌≡◌, ◌↔◌, ◌+◌, ◌<◌, ℕ, List, length, IfOk, IsErr, OnErr, OnOk};

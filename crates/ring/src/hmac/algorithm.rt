@@ -1,3 +1,4 @@
+// SPDX-License-Identifier: ISC
 //! The four HMAC algorithms.
 
 ghost use Rattle.std.specs.Prelude.{◌≡◌, ◌++◌, Some, codes};

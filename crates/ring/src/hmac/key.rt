@@ -1,3 +1,4 @@
+// SPDX-License-Identifier: ISC
 //! Keys: the two states of HMAC after the key's blocks.
 
 ghost use Rattle.std.specs.Prelude.{◌≡◌, ◌↔◌, ◌-◌, ◌<◌, ◌≤◌, ◌++◌, Some, codes, drop, false};

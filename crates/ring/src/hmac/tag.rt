@@ -1,3 +1,4 @@
+// SPDX-License-Identifier: ISC
 //! The tag that a call returns.
 
 ghost use Rattle.std.specs.Prelude.{◌≡◌, ℕ, List, ◌++◌, length};

@@ -1,3 +1,4 @@
+// SPDX-License-Identifier: ISC
 //! Tags of messages as long as a digest, side by side: such a message is the words that the block
 //! function ended with, and its padding after a key's block is the same for all.
 
@@ -10,7 +11,7 @@ use ring_core::cost::Meter;
 // Replaces the words of a digest by those of its tag, in each lane under the key of that lane.
 #[inline(always)]
 pub(crate) fn replace_by_tag<H: DigestBlock>(
-    ring: &mut H::Ring,
+    window: &mut H::Window,
     inner: &H::States,
     outer: &H::States,
     digest: &mut H::States,
@@ -24,8 +25,8 @@ pub(crate) fn replace_by_tag<H: DigestBlock>(
     ensures cost { meter.new ≡ raised meter.old (2 * H.LANES) 0 }
 {
     let mut inside = *inner;
-    H::hash_digests(ring, &mut inside, digest, meter);
+    H::hash_digests(window, &mut inside, digest, meter);
     let mut outside = *outer;
-    H::hash_digests(ring, &mut outside, &inside, meter);
+    H::hash_digests(window, &mut outside, &inside, meter);
     *digest = outside;
 }

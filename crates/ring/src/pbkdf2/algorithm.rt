@@ -1,3 +1,4 @@
+// SPDX-License-Identifier: ISC
 //! The four PBKDF2 algorithms.
 
 ghost use Rattle.std.specs.Prelude.{◌≡◌};

@@ -1,3 +1,4 @@
+// SPDX-License-Identifier: ISC
 //! Keys derived from several secrets at once, whose rounds run as many side by side as there are
 //! lanes, and the verification of several values: derived as several are, and compared.
 
@@ -42,7 +43,7 @@ fn can_derive_all(
     true
 }
 
-// The key of a secret that has one.
+// The key of a secret within the limit.
 fn key_within(algorithm: hmac::Algorithm, secret: &[u8], meter: &mut Meter) -> Key
     requires { length secret.now ≤ max_input_len (hmac_digest algorithm) }
     ensures ok { KeyStandsFor result secret.now }

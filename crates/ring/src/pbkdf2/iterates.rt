@@ -1,3 +1,4 @@
+// SPDX-License-Identifier: ISC
 //! The iterates of a round: the first, of the salt and the round's index, and the tags of tags.
 
 ghost use Rattle.std.specs.Prelude.{◌≡◌, ℕ, ◌+◌, ◌-◌, ◌*◌, ◌<◌, List, length, take};
@@ -61,11 +62,11 @@ pub(crate) fn xor_iterates<H: DigestBlock>(
     ensures cost { meter.new
         ≡ raised meter.old (H.LANES * (2 * (non_zero_u32_get iterations - 1))) 0 }
 {
-    let mut ring = H::ring();
+    let mut window = H::window();
     let mut sum = *first;
     let mut iterate = *first;
     'iterates: for _made in 1..iterations.get() {
-        replace_by_tag::<H>(&mut ring, inner, outer, &mut iterate, meter);
+        replace_by_tag::<H>(&mut window, inner, outer, &mut iterate, meter);
         H::xor(&mut sum, &iterate);
     }
     sum

@@ -1,3 +1,4 @@
+// SPDX-License-Identifier: ISC
 //! What takes the bytes of derived keys, part by part: it writes them, or compares them with given
 //! values. So a verification is a derivation whose bytes are compared.
 
@@ -9,7 +10,7 @@ ghost use Rattle.ring.specs.Prelude.{HasPlaces, KeepsPlaces, Receives, raised};
 use ring_core::bb::verify_slices_are_equal_counted;
 use ring_core::cost::Meter;
 
-// Whether the bytes are those that were derived, of which there are as many.
+// Compares `given` with `derived`, which has the same length.
 fn are_same(derived: &[u8], given: &[u8], meter: &mut Meter) -> bool
     requires { length derived.now ≡ length given.now }
     ensures ok { IsTrue result ↔ (given.now ≡ derived.now) }

@@ -1,3 +1,4 @@
+// SPDX-License-Identifier: ISC
 //! The rounds of output, as many side by side as there are lanes. A derived key is its rounds T_1,
 //! T_2, .., one after another, of which the last may be cut off. A round is the exclusive or of its
 //! iterates (RFC 2898, section 5.2).

@@ -1,3 +1,4 @@
+// SPDX-License-Identifier: ISC
 //! The numbers of a digest's context.
 
 ghost use Rattle.std.specs.Prelude.{◌≡◌, ◌↔◌, ℕ, ◌+◌, ◌-◌, ◌<◌, ◌≤◌, List, [], ◌++◌, length, IfOk};

@@ -1,3 +1,4 @@
+// SPDX-License-Identifier: ISC
 //! The numbers of a key.
 
 ghost use Rattle.std.specs.Prelude.{◌≡◌, ◌↔◌, ℕ, List, IfSome, IsNone, IsSomeAnd, Some};

@@ -1,3 +1,4 @@
+// SPDX-License-Identifier: ISC
 //! Algorithms by their numbers.
 
 ghost use Rattle.std.specs.Prelude.{◌≡◌, Some};

@@ -1,3 +1,4 @@
+// SPDX-License-Identifier: ISC
 //! States and counts as plain numbers.
 
 ghost use Rattle.std.specs.Prelude.{◌≡◌, ◌+◌, ◌*◌, ◌%◌, ◌^◌, ℕ, List, IsTrue, length, map};

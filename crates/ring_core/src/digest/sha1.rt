@@ -1,3 +1,4 @@
+// SPDX-License-Identifier: ISC
 //! The block function of SHA-1 (FIPS 180-4, 6.1.2).
 ghost use Rattle.std.specs.Prelude.{◌≡◌, ℕ, ◌<◌, List, [], get_or, length, map, take, drop};
 ghost use Rattle.ring_core.specs.Prelude.{IsBlockOf, chunk_items, chunk_total, raised, word_32};
@@ -14,10 +15,10 @@ use crate::cost::Meter;
 use crate::digest::sha1::sha1_blocks::run_blocks;
 use crate::digest::sha1::sha1_rounds::{BYTES, WORDS, run_loaded};
 use crate::digest::sha1::sha1_schedule::ExtendSchedule;
-use crate::digest::states::{Ring, States};
+use crate::digest::states::{States, Window};
+use crate::digest::window::{load_blocks, load_words};
 use crate::digest::word::in_lanes::InLanes;
 use crate::digest::word::lane_word::Vector;
-use crate::digest::word_ring::{load_blocks, load_words};
 use crate::polyfill::slice::AsChunks;
 use std::num::Wrapping;
 use std::simd::Simd;
@@ -58,12 +59,12 @@ pub fn sha1_block_data_order(state: &mut [Wrapping<u32>; 8], blocks: AsChunks<'_
 }
 
 /// Runs SHA-1's block function in each lane (6.1.2): over the state in lane i of `states` and block
-/// i of `blocks`, of 64 bytes. `ring` is room for a schedule.
+/// i of `blocks`, of 64 bytes. `window` is room for a schedule.
 ///
 /// In each lane the first five words are replaced, and the last three stay. The blocks are counted
 /// on `meter`, as many as there are lanes.
 pub fn sha1_block_data_order_lanes_counted<V: Vector<One = Wrapping<u32>>, const N: usize>(
-    ring: &mut Ring<V>,
+    window: &mut Window<V>,
     states: &mut States<V>,
     blocks: &[[u8; N]],
     meter: &mut Meter,
@@ -77,8 +78,8 @@ pub fn sha1_block_data_order_lanes_counted<V: Vector<One = Wrapping<u32>>, const
         ≡ drop 5 (words_of_lane (V.lane i) states.old) }
     ensures cost { meter.new ≡ raised meter.old V.LANES 0 }
 {
-    load_blocks::<V, N>(ring, blocks); // step 1, to W(15)
-    run_loaded::<InLanes<V>, BYTES>(ring, &mut states.words);
+    load_blocks::<V, N>(window, blocks); // step 1, to W(15)
+    run_loaded::<InLanes<V>, BYTES>(window, &mut states.words);
     meter.add_blocks(V::LANES);
 }
 
@@ -87,7 +88,7 @@ pub fn sha1_block_data_order_lanes_counted<V: Vector<One = Wrapping<u32>>, const
 // so that the compiler sees a single block's room as a local of its caller.
 #[inline(always)]
 fn run_words<S: ExtendSchedule<One = Wrapping<u32>>>(
-    ring: &mut [S::Slot; 16],
+    window: &mut [S::Slot; 16],
     state: &mut [S; 8],
     front: &[S; 8],
     padding: &[Word32; 16],
@@ -101,8 +102,8 @@ fn run_words<S: ExtendSchedule<One = Wrapping<u32>>>(
     ensures cost { meter.new ≡ raised meter.old S.LANES 0 }
     ensures eight { length front.now ≡ 8 }
 {
-    load_words::<S, CHAINING_WORDS>(ring, front, padding); // step 1, to W(15)
-    run_loaded::<S, WORDS>(ring, state);
+    load_words::<S, CHAINING_WORDS>(window, front, padding); // step 1, to W(15)
+    run_loaded::<S, WORDS>(window, state);
     meter.add_blocks(S::LANES);
 }
 
@@ -129,12 +130,12 @@ pub fn sha1_block_of_words_counted(
 
 /// Runs SHA-1's block function in each lane, over one block that is given as words (6.1.2): the
 /// first five words of the lane in `fronts`, and then those of `padding` from the sixth on, the
-/// same in all lanes. `ring` is room for a schedule.
+/// same in all lanes. `window` is room for a schedule.
 ///
 /// In each lane of `states` the first five words are replaced, and the last three stay. The blocks
 /// are counted on `meter`, as many as there are lanes.
 pub fn sha1_block_of_words_lanes_counted<V: Vector<One = Wrapping<u32>>>(
-    ring: &mut Ring<V>,
+    window: &mut Window<V>,
     states: &mut States<V>,
     fronts: &States<V>,
     padding: &[Wrapping<u32>; 16],
@@ -150,5 +151,5 @@ pub fn sha1_block_of_words_lanes_counted<V: Vector<One = Wrapping<u32>>>(
     ensures cost { meter.new ≡ raised meter.old V.LANES 0 }
     ensures eight { (i : ℕ) → length (words_of_lane (V.lane i) fronts.now) ≡ 8 }
 {
-    run_words::<InLanes<V>>(ring, &mut states.words, &fronts.words, padding, meter)
+    run_words::<InLanes<V>>(window, &mut states.words, &fronts.words, padding, meter)
 }

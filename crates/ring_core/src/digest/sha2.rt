@@ -1,3 +1,4 @@
+// SPDX-License-Identifier: ISC
 //! The block functions of SHA-2 (FIPS 180-4, 6.2.2 and 6.4.2), written once for both word sizes.
 //! The schedule's steps alone have a form for each. Blocks of bytes have a kernel of their own.
 ghost use Rattle.std.specs.Prelude.{◌≡◌, ℕ, ◌<◌, ◌≤◌, List, [], get_or, length, map};
@@ -24,10 +25,10 @@ pub use crate::digest::sha2::constants::constants_are_cube_roots;
 use crate::digest::sha2::sha2_blocks::run_blocks;
 use crate::digest::sha2::sha2_rounds::{BYTES, run_loaded};
 use crate::digest::sha2::sha2_schedule::ExtendSchedule;
-use crate::digest::states::{Ring, States};
+use crate::digest::states::{States, Window};
+use crate::digest::window::{load_blocks, load_words};
 use crate::digest::word::in_lanes::InLanes;
 use crate::digest::word::lane_word::Vector;
-use crate::digest::word_ring::{load_blocks, load_words};
 use crate::polyfill::slice::AsChunks;
 use std::num::Wrapping;
 use std::simd::Simd;
@@ -88,10 +89,10 @@ pub fn block_data_order_64(state: &mut State64, blocks: AsChunks<'_, u8, 128>)
 
 /// Runs SHA-256's or SHA-512's block function in each lane (6.2.2, 6.4.2): over the state in lane i
 /// of `states`, which is replaced, and block i of `blocks`, of 64 bytes where words have 32 bits
-/// and of 128 where they have 64. `ring` is room for a schedule. The blocks are counted on `meter`,
-/// as many as there are lanes.
+/// and of 128 where they have 64. `window` is room for a schedule. The blocks are counted on
+/// `meter`, as many as there are lanes.
 pub fn block_data_order_lanes_counted<V: Vector, const N: usize>(
-    ring: &mut Ring<V>,
+    window: &mut Window<V>,
     states: &mut States<V>,
     blocks: &[[u8; N]],
     meter: &mut Meter,
@@ -103,15 +104,15 @@ pub fn block_data_order_lanes_counted<V: Vector, const N: usize>(
         ≡ block_step V.One.family (words_of_lane (V.lane i) states.old) (get_or blocks.now i []) }
     ensures cost { meter.new ≡ raised meter.old V.LANES 0 }
 {
-    load_blocks::<V, N>(ring, blocks); // step 1, to W(15)
-    run_loaded::<InLanes<V>, BYTES>(ring, &mut states.words);
+    load_blocks::<V, N>(window, blocks); // step 1, to W(15)
+    run_loaded::<InLanes<V>, BYTES>(window, &mut states.words);
     meter.add_blocks(V::LANES);
 }
 
 // Runs the block function in each lane, over a block whose first `N` words are those of the lane in
 // `front`, and whose other words are those of `padding`, and counts these blocks.
 fn run_words<S: ExtendSchedule, const N: usize>(
-    ring: &mut [S::Slot; 16],
+    window: &mut [S::Slot; 16],
     state: &mut [S; 8],
     front: &[S; 8],
     padding: &[S::One; 16],
@@ -125,8 +126,8 @@ fn run_words<S: ExtendSchedule, const N: usize>(
     ensures cost { meter.new ≡ raised meter.old S.LANES 0 }
     ensures eight { (length state.old ≡ 8) × (length front.now ≡ 8) }
 {
-    load_words::<S, N>(ring, front, padding); // step 1, to W(15)
-    run_loaded::<S, N>(ring, state);
+    load_words::<S, N>(window, front, padding); // step 1, to W(15)
+    run_loaded::<S, N>(window, state);
     meter.add_blocks(S::LANES);
 }
 
@@ -166,9 +167,9 @@ pub fn block_of_words_64_counted<const N: usize>(
 /// Runs SHA-256's or SHA-512's block function in each lane, over one block that is given as words
 /// (6.2.2, 6.4.2): the first `N` words of the lane in `fronts`, at most eight, and then those of
 /// `padding` past them, the same in all lanes. The states in the lanes of `states` are replaced.
-/// `ring` is room for a schedule. The blocks are counted on `meter`, as many as there are lanes.
+/// `window` is room for a schedule. The blocks are counted on `meter`, as many as there are lanes.
 pub fn block_of_words_lanes_counted<V: Vector, const N: usize>(
-    ring: &mut Ring<V>,
+    window: &mut Window<V>,
     states: &mut States<V>,
     fronts: &States<V>,
     padding: &[V::One; 16],
@@ -185,5 +186,5 @@ pub fn block_of_words_lanes_counted<V: Vector, const N: usize>(
     ensures eight { (i : ℕ) → (length (words_of_lane (V.lane i) states.old) ≡ 8)
         × (length (words_of_lane (V.lane i) fronts.now) ≡ 8) }
 {
-    run_words::<InLanes<V>, N>(ring, &mut states.words, &fronts.words, padding, meter)
+    run_words::<InLanes<V>, N>(window, &mut states.words, &fronts.words, padding, meter)
 }

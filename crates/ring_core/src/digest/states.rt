@@ -1,3 +1,4 @@
+// SPDX-License-Identifier: ISC
 //! Chaining states side by side (FIPS 180-4, 6.1 and 6.2), for several messages at a time.
 ghost use Rattle.std.specs.Prelude.{◌≡◌, ℕ, ⊤, ◌<◌, [], get_or, length, map, slice_index};
 ghost use Rattle.ring_core.specs.Prelude.{words_of_lane, xor_lists};
@@ -24,9 +25,9 @@ impl<V: Copy> Clone for States<V> {
 
 impl<V: Copy> Copy for States<V> {}
 
-/// Room for the last sixteen words of a schedule in each lane. A caller that knows the vector's
-/// type makes it: of a type parameter the check doesn't know that sixteen fit in memory.
-pub type Ring<V> = [InLanes<V>; 16];
+/// The last sixteen words of a schedule in each lane. A caller that knows the vector's type makes
+/// it: of a type parameter the check doesn't know that sixteen fit in memory.
+pub type Window<V> = [InLanes<V>; 16];
 
 // The words at place `at` of several states, the first state's in lane 0.
 #[inline(always)]

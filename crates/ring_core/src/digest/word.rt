@@ -1,3 +1,4 @@
+// SPDX-License-Identifier: ISC
 //! The words of the block functions and their operations (FIPS 180-4, 3.2 and 4.1), for both sizes.
 
 pub(crate) mod four_words;

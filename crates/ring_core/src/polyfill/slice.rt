@@ -1,3 +1,4 @@
+// SPDX-License-Identifier: ISC
 //! Slices seen as whole chunks of one length, and bytes written into a slice.
 //!
 //! ```

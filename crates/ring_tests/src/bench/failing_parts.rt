@@ -1,3 +1,4 @@
+// SPDX-License-Identifier: ISC
 //! Runs over readers and writers that fail.
 
 use crate::bench::lines::{ANSWERS, TEXT};

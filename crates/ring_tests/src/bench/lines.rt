@@ -1,3 +1,4 @@
+// SPDX-License-Identifier: ISC
 //! Lines and their answers, for several tests.
 
 use std::alloc::{AllocError, Global};

@@ -1,3 +1,4 @@
+// SPDX-License-Identifier: ISC
 //! Readers and writers that fail, that give or take little, and that tell what was done.
 
 use std::alloc::Global;

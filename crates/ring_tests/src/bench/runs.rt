@@ -1,3 +1,4 @@
+// SPDX-License-Identifier: ISC
 //! Runs over readers that give much or little, and answers with ample memory.
 
 use crate::bench::lines::{ANSWERS, HELLO, OF_HELLO, TEXT, repeated};

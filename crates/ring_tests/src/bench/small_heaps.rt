@@ -1,3 +1,4 @@
+// SPDX-License-Identifier: ISC
 //! Runs and answers over heaps of fixed sizes.
 
 use crate::bench::lines::{ANSWERS, HELLO, OF_HELLO, OF_NOTHING, TAG, TEXT, repeated};

@@ -1,3 +1,4 @@
+// SPDX-License-Identifier: ISC
 //! Commands one by one and as one list.
 
 use crate::store::names::{

@@ -1,3 +1,4 @@
+// SPDX-License-Identifier: ISC
 //! Heaps of every size: a store is filled until memory is wanting, and then asked for every name.
 
 ghost use Rattle.std.specs.Prelude.{◌<◌};

@@ -1,3 +1,4 @@
+// SPDX-License-Identifier: ISC
 //! Names of each length, which get memory wherever there is enough.
 
 use crate::store::names::{LONGEST_NAME, iterations, new_store};

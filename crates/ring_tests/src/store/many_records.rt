@@ -1,3 +1,4 @@
+// SPDX-License-Identifier: ISC
 //! A store of many records, its text, and the time that it takes.
 
 use crate::store::names::{iterations, new_store};

@@ -1,3 +1,4 @@
+// SPDX-License-Identifier: ISC
 //! Rows of names and passwords, and many names beside a plain list.
 
 use ring::cost::Meter;

@@ -1,3 +1,4 @@
+// SPDX-License-Identifier: ISC
 //! Records one by one and as text, beside what Python's `hashlib` derives.
 
 use crate::store::names::{LONGEST_NAME, PASSWORD, WRONG, iterations, new_store, told};

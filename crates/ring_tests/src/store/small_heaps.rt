@@ -1,3 +1,4 @@
+// SPDX-License-Identifier: ISC
 //! Heaps that refuse each request for memory in turn.
 
 use crate::store::names::{DB_SALT, WRONG, found, iterations, told};

@@ -1,3 +1,4 @@
+// SPDX-License-Identifier: ISC
 //! Tokens of another implementation, and the order in which a check refuses.
 
 use ring::cost::Meter;

@@ -1,3 +1,4 @@
+-- SPDX-License-Identifier: ISC
 use Rattle.std.proofs.Common.{◌≡◌, ◌+◌, ℕ, List, [], ap, append-nil, arith, length, refl, ◌∙◌}
 use Rattle.ring.specs.Prelude.{BlockContext, block_len, block_words, bytes_of, counted_bytes}
 use Rattle.ring.specs.Prelude.{cut_off, digest_after, key_algorithm}

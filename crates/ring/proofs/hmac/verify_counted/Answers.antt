@@ -1,3 +1,4 @@
+-- SPDX-License-Identifier: ISC
 use Rattle.std.proofs.Common.{length, ap, ◌∙◌}
 use Rattle.ring.specs.Prelude.{output_len}
 use Rattle.ring.proofs.lemmas.hmac.Comparing.{cost_compared}

@@ -1,3 +1,4 @@
+-- SPDX-License-Identifier: ISC
 use Rattle.std.proofs.Common.{[], arith}
 use Rattle.std.proofs.lemmas.List.{take_all}
 use Rattle.ring.proofs.Feeding.{fed_more, fed_none, fed_piece}

@@ -1,3 +1,4 @@
+-- SPDX-License-Identifier: ISC
 use Rattle.std.proofs.Common.{take}
 use Rattle.ring.specs.Prelude.{joined}
 use Rattle.ring.proofs.Feeding.{HasFedTag}

@@ -1,3 +1,4 @@
+-- SPDX-License-Identifier: ISC
 use Rattle.std.proofs.Common.{arith, inl, inr, rules}
 use Rattle.ring.specs.Prelude.{RawKeyStandsFor, RawStandsFor, RawTagStandsFor}
 use Rattle.ring.proofs.lemmas.raw.Numbers.{key_block_counted, named_len}

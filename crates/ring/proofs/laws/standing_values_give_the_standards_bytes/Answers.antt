@@ -1,3 +1,4 @@
+-- SPDX-License-Identifier: ISC
 use Rattle.ring.specs.Prelude.{RawKeyStandsFor, RawStandsFor, RawTagStandsFor, StandsFor}
 use Rattle.ring.specs.Prelude.{context_algorithm, pending_bytes, signing_algorithm}
 use Rattle.ring.proofs.lemmas.digest.Finishing.{digest_with-is}

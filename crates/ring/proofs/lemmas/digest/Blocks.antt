@@ -1,3 +1,4 @@
+-- SPDX-License-Identifier: ISC
 -- How the words after blocks follow a list of whole blocks as it grows.
 use Rattle.std.proofs.lemmas.Grind.{common_steps}
 use Rattle.std.proofs.Common.{◌≤◌, ◌≡◌, ℕ, zero, ◌+◌, ◌-◌, ◌*◌, ◌/◌, ◌%◌, ◌<◌, List, [], ◌++◌}

@@ -1,3 +1,4 @@
+-- SPDX-License-Identifier: ISC
 -- How the last blocks make up the padding.
 use Rattle.std.proofs.lemmas.Grind.{common_steps}
 use Rattle.std.proofs.Common.{◌≡◌, ℕ, ◌+◌, ◌-◌, ◌*◌, ◌^◌, ◌≤◌, IsTrue, List, ◌++◌, length}

@@ -1,3 +1,4 @@
+-- SPDX-License-Identifier: ISC
 -- A context that goes on after a piece's front, and after blocks that ran in a lane.
 use Rattle.std.proofs.Common.{◌≡◌, ℕ, ◌+◌, ◌-◌, ◌*◌, ◌/◌, ◌%◌, ◌<◌, ◌≤◌, List, [], ◌++◌, length}
 use Rattle.std.proofs.Common.{take, drop, refl, sym, ap, subst, ◌∙◌, arith, append_assoc, rules}

@@ -1,3 +1,4 @@
+-- SPDX-License-Identifier: ISC
 -- The padding is the shortest list of its form.
 use Rattle.std.proofs.lemmas.Grind.{common_steps}
 use Rattle.std.proofs.Common.{◌≡◌, ℕ, ◌+◌, ◌-◌, ◌*◌, ◌/◌, ◌%◌, ◌≤◌, List, length, arith}

@@ -1,3 +1,4 @@
+-- SPDX-License-Identifier: ISC
 -- The paddings as words are the standard's, each behind a digest of its algorithm; and what a run
 -- over such a block makes of a state.
 use Rattle.std.proofs.lemmas.Grind.{common_steps}

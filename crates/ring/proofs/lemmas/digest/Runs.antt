@@ -1,3 +1,4 @@
+-- SPDX-License-Identifier: ISC
 -- How block functions over the chunks of a list make the words after its whole blocks.
 use Rattle.std.proofs.lemmas.Grind.{common_steps}
 use Rattle.std.proofs.Common.{◌≡◌, ℕ, ◌*◌, ◌/◌, ◌<◌, List, length, take, drop, refl, sym, ap, ◌∙◌}

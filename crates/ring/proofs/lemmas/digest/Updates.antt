@@ -1,3 +1,4 @@
+-- SPDX-License-Identifier: ISC
 -- Contexts at places, of which the first have changed, and the blocks of their pieces.
 use Rattle.std.proofs.lemmas.Grind.{common_steps, drop_more_same}
 use Rattle.std.proofs.Common.{◌≡◌, ℕ, ◌+◌, ◌-◌, ◌<◌, ◌≤◌, List, [], ◌∷◌, ◌++◌, ◌∙◌, ap, arith}

@@ -1,3 +1,4 @@
+-- SPDX-License-Identifier: ISC
 -- How update keeps what a context stands for, what it counts and what it costs.
 use Rattle.std.proofs.lemmas.Grind.{common_steps}
 use Rattle.std.proofs.Common.{◌≡◌, ℕ, zero, ◌+◌, ◌-◌, ◌*◌, ◌/◌, ◌%◌, ◌<◌, ◌≤◌, List, [], ◌∷◌, ◌++◌}

@@ -1,3 +1,4 @@
+-- SPDX-License-Identifier: ISC
 -- Bytes of words: which words they write, and what an exclusive or of words does to them.
 use Rattle.std.proofs.lemmas.Grind.{common_steps}
 use Rattle.std.proofs.Common.{◌≡◌, ℕ, zero, suc, ◌+◌, ◌*◌, ◌/◌, ◌%◌, ◌^◌, ◌<◌, ◌≤◌, List, [], ◌∷◌}

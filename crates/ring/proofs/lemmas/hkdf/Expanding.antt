@@ -1,3 +1,4 @@
+-- SPDX-License-Identifier: ISC
 -- An output, round by round, and what its rounds cost.
 use Rattle.std.proofs.lemmas.Grind.{common_steps}
 use Rattle.std.proofs.Common.{◌≡◌, ℕ, suc, ◌+◌, ◌-◌, ◌*◌, ◌<◌, ◌≤◌, List, [], ◌∷◌, ◌++◌, length}

@@ -1,3 +1,4 @@
+-- SPDX-License-Identifier: ISC
 -- What a comparison costs, after blocks were run for what it compares.
 use Rattle.std.proofs.Common.{◌≡◌, ℕ, arith}
 use Rattle.ring.specs.Prelude.{Counts, compared_pairs, raised}

@@ -1,3 +1,4 @@
+-- SPDX-License-Identifier: ISC
 -- How a key is made one block, and what keys and tags cost.
 use Rattle.std.proofs.lemmas.Grind.{common_steps}
 use Rattle.std.proofs.Common.{◌≡◌, ℕ, ◌+◌, ◌-◌, ◌<◌, ◌≤◌, List, [], ◌++◌, length, take, replicate}

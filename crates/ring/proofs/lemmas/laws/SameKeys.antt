@@ -1,3 +1,4 @@
+-- SPDX-License-Identifier: ISC
 -- Keys that make one block and so sign alike.
 use Rattle.std.proofs.Common.{◌≡◌, ℕ, ◌+◌, ◌-◌, ◌<◌, ◌≤◌, ◌++◌, ◌∙◌, List, [], ap, append_assoc}
 use Rattle.std.proofs.Common.{arith, length, length-append, refl, replicate, sym}

@@ -1,3 +1,4 @@
+-- SPDX-License-Identifier: ISC
 -- Keys derived at several places.
 use Rattle.std.proofs.Common.{◌≡◌, ◌↔◌, ℕ, ◌+◌, ◌≤◌, [], ◌∷◌, ◌∙◌, Bool, List, ap, arith, length}
 use Rattle.std.proofs.Common.{refl, sym, take, take_all, true}

@@ -1,3 +1,4 @@
+-- SPDX-License-Identifier: ISC
 -- Iterates of a tag, and their exclusive or.
 use Rattle.std.proofs.Common.{◌≡◌, ℕ, ◌+◌, ◌-◌, ◌*◌, ◌≤◌, [], ◌∷◌, ◌++◌, ◌∙◌, List, add-one, ap}
 use Rattle.std.proofs.Common.{arith, length, refl, replicate, suc, sym, zero}

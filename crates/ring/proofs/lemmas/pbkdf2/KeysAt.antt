@@ -1,3 +1,4 @@
+-- SPDX-License-Identifier: ISC
 -- Keys of several secrets, at their places.
 use Rattle.std.proofs.Common.{◌≡◌, ℕ, ◌<◌, ◌≤◌, List, arith, length, take}
 use Rattle.std.proofs.lemmas.List.{get_or-take, length-take-le}

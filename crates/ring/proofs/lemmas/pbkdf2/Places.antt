@@ -1,3 +1,4 @@
+-- SPDX-License-Identifier: ISC
 -- What holds at the places of a list, and what a meter rises by there.
 use Rattle.std.proofs.Common.{◌≡◌, ℕ, ◌+◌, ◌<◌, ◌≤◌, [], List, arith, drop, get_or, inl, inr}
 use Rattle.std.proofs.Common.{length, length-drop, refl, slice_set, take}

@@ -1,3 +1,4 @@
+-- SPDX-License-Identifier: ISC
 -- The rounds of keys of one length, and what has come of those before one.
 use Rattle.std.proofs.Common.{◌≡◌, ◌≢◌, ◌∙◌, ℕ, ◌+◌, ◌-◌, ◌*◌, ◌<◌, ◌≤◌, ◌++◌, [], List, ap}
 use Rattle.std.proofs.Common.{add-one, arith, inl, inr, length}

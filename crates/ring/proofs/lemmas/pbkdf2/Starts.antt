@@ -1,3 +1,4 @@
+-- SPDX-License-Identifier: ISC
 -- What rounds start from, and what they give, in lanes.
 use Rattle.std.proofs.Common.{◌≡◌, ◌≢◌, ℕ, ◌+◌, ◌*◌, ◌<◌, [], ◌∷◌, ◌∙◌, IsTrue, List, arith}
 use Rattle.std.proofs.Common.{get_or, inl, inr, length, refl, rules, set, take}

@@ -1,3 +1,4 @@
+-- SPDX-License-Identifier: ISC
 -- Bytes that come to places, part by part.
 use Rattle.std.proofs.Common.{◌≡◌, ◌≢◌, ◌↔◌, ℕ, ◌+◌, ◌-◌, ◌<◌, ◌≤◌, ◌&&◌, [], ◌++◌, ◌∙◌, Bool, List}
 use Rattle.std.proofs.Common.{append-nil, append_assoc, arith, drop, inl, inr, length}

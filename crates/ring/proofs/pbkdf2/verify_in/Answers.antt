@@ -1,3 +1,4 @@
+-- SPDX-License-Identifier: ISC
 use Rattle.std.proofs.Common.{◌≡◌, ◌∙◌, arith, length, refl, rules, sym}
 use Rattle.ring.specs.Prelude.{CanVerify, pbkdf2_digest, sum_below}
 use Rattle.ring.proofs.lemmas.pbkdf2.DerivedKeys.{derived-same, key-alone}

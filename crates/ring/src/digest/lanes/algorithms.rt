@@ -1,3 +1,4 @@
+// SPDX-License-Identifier: ISC
 //! What a digest algorithm does over states in lanes.
 
 ghost use Rattle.std.proofs.Common.{ap, refl};
@@ -18,7 +19,7 @@ use ring_core::digest::sha2::{
     State32, State64, block_data_order_lanes_counted, block_of_words_32_counted,
     block_of_words_64_counted, block_of_words_lanes_counted,
 };
-use ring_core::digest::states::{Ring, States};
+use ring_core::digest::states::{States, Window};
 use ring_core::digest::word::lane_word::{LaneWord, Vector};
 use std::num::Wrapping;
 
@@ -41,7 +42,7 @@ pub(crate) trait DigestBlock: LaneStates {
     // Advances `states` over one block in each lane, which ends a message of one block and a
     // digest: the digest that the words of `digests` write, and the padding.
     fn hash_digests(
-        ring: &mut Self::Ring,
+        window: &mut Self::Window,
         states: &mut Self::States,
         digests: &Self::States,
         meter: &mut Meter,
@@ -148,12 +149,12 @@ impl<V: Vector<One = Wrapping<u32>>> DigestBlock for InVector<V, Sha1> {
 
     #[inline(always)]
     fn hash_digests(
-        ring: &mut Ring<V>,
+        window: &mut Window<V>,
         states: &mut States<V>,
         digests: &States<V>,
         meter: &mut Meter,
     ) {
-        sha1_block_of_words_lanes_counted(ring, states, digests, &SHA1_PADDING, meter)
+        sha1_block_of_words_lanes_counted(window, states, digests, &SHA1_PADDING, meter)
     }
 
     ghost sized = { refl };
@@ -164,12 +165,12 @@ impl<V: Vector<One = Wrapping<u32>>> DigestBlock for InVector<V, Sha256> {
 
     #[inline(always)]
     fn hash_digests(
-        ring: &mut Ring<V>,
+        window: &mut Window<V>,
         states: &mut States<V>,
         digests: &States<V>,
         meter: &mut Meter,
     ) {
-        block_of_words_lanes_counted::<V, 8>(ring, states, digests, &SHA256_PADDING, meter)
+        block_of_words_lanes_counted::<V, 8>(window, states, digests, &SHA256_PADDING, meter)
     }
 
     ghost sized = { refl };
@@ -180,12 +181,12 @@ impl<V: Vector<One = Wrapping<u64>>> DigestBlock for InVector<V, Sha384> {
 
     #[inline(always)]
     fn hash_digests(
-        ring: &mut Ring<V>,
+        window: &mut Window<V>,
         states: &mut States<V>,
         digests: &States<V>,
         meter: &mut Meter,
     ) {
-        block_of_words_lanes_counted::<V, 6>(ring, states, digests, &SHA384_PADDING, meter)
+        block_of_words_lanes_counted::<V, 6>(window, states, digests, &SHA384_PADDING, meter)
     }
 
     ghost sized = { refl };
@@ -196,12 +197,12 @@ impl<V: Vector<One = Wrapping<u64>>> DigestBlock for InVector<V, Sha512> {
 
     #[inline(always)]
     fn hash_digests(
-        ring: &mut Ring<V>,
+        window: &mut Window<V>,
         states: &mut States<V>,
         digests: &States<V>,
         meter: &mut Meter,
     ) {
-        block_of_words_lanes_counted::<V, 8>(ring, states, digests, &SHA512_PADDING, meter)
+        block_of_words_lanes_counted::<V, 8>(window, states, digests, &SHA512_PADDING, meter)
     }
 
     ghost sized = { refl };
@@ -212,12 +213,12 @@ impl<V: Vector<One = Wrapping<u64>>> DigestBlock for InVector<V, Sha512_256> {
 
     #[inline(always)]
     fn hash_digests(
-        ring: &mut Ring<V>,
+        window: &mut Window<V>,
         states: &mut States<V>,
         digests: &States<V>,
         meter: &mut Meter,
     ) {
-        block_of_words_lanes_counted::<V, 4>(ring, states, digests, &SHA512_256_PADDING, meter)
+        block_of_words_lanes_counted::<V, 4>(window, states, digests, &SHA512_256_PADDING, meter)
     }
 
     ghost sized = { refl };
@@ -230,7 +231,7 @@ pub(crate) trait RunBlocks<const N: usize>: LaneStates {
 
     // Advances the state in each lane over the block at its place.
     fn run_blocks(
-        ring: &mut Self::Ring,
+        window: &mut Self::Window,
         states: &mut Self::States,
         blocks: &[[u8; N]],
         meter: &mut Meter,
@@ -255,12 +256,12 @@ impl<V: Vector<One = Wrapping<u32>>> RunBlocks<64> for InVector<V, Sha1> {
 
     #[inline(always)]
     fn run_blocks(
-        ring: &mut Ring<V>,
+        window: &mut Window<V>,
         states: &mut States<V>,
         blocks: &[[u8; 64]],
         meter: &mut Meter,
     ) {
-        sha1_block_data_order_lanes_counted(ring, states, blocks, meter)
+        sha1_block_data_order_lanes_counted(window, states, blocks, meter)
     }
 
     ghost sized = { λ a is. ap word_len is };
@@ -271,12 +272,12 @@ impl<V: Vector<One = Wrapping<u32>>> RunBlocks<64> for InVector<V, Sha256> {
 
     #[inline(always)]
     fn run_blocks(
-        ring: &mut Ring<V>,
+        window: &mut Window<V>,
         states: &mut States<V>,
         blocks: &[[u8; 64]],
         meter: &mut Meter,
     ) {
-        block_data_order_lanes_counted(ring, states, blocks, meter)
+        block_data_order_lanes_counted(window, states, blocks, meter)
     }
 
     ghost sized = { λ a is. ap word_len is };
@@ -288,12 +289,12 @@ impl<V: Vector<One = Wrapping<u64>>, A> RunBlocks<128> for InVector<V, A> {
 
     #[inline(always)]
     fn run_blocks(
-        ring: &mut Ring<V>,
+        window: &mut Window<V>,
         states: &mut States<V>,
         blocks: &[[u8; 128]],
         meter: &mut Meter,
     ) {
-        block_data_order_lanes_counted(ring, states, blocks, meter)
+        block_data_order_lanes_counted(window, states, blocks, meter)
     }
 
     ghost sized = { λ a is. is };

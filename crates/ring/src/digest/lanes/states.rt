@@ -1,3 +1,4 @@
+// SPDX-License-Identifier: ISC
 //! Chaining states in lanes, of words of one size: one alone, or as many as a vector has words.
 
 ghost use Rattle.std.specs.Prelude.{◌≡◌, ℕ, ◌<◌, ◌≤◌, List, [], get_or, length, map};
@@ -5,7 +6,7 @@ ghost use Rattle.ring_core.specs.Prelude.{words_of_lane, xor_lists};
 ghost use Rattle.ring.specs.Prelude.{DynState, state_word_len, words};
 
 use crate::digest::dynstate::{DynState, StateWord};
-use ring_core::digest::states::{Ring, States};
+use ring_core::digest::states::{States, Window};
 use ring_core::digest::word::Word;
 use ring_core::digest::word::in_lanes::InLanes;
 use ring_core::digest::word::lane_word::{LaneWord, Vector};
@@ -19,7 +20,7 @@ pub(crate) trait LaneStates {
     type States: Copy;
 
     // room for a schedule in each lane
-    type Ring: Copy;
+    type Window: Copy;
 
     // the number of lanes
     const LANES: usize;
@@ -33,7 +34,7 @@ pub(crate) trait LaneStates {
     ghost lane: { ℕ → Self.States → List ℕ };
 
     // Room that holds zeros.
-    fn ring() -> Self::Ring
+    fn window() -> Self::Window
         requires { 0 < LANES };
 
     // The states, the first in lane 0.
@@ -89,7 +90,7 @@ pub(crate) struct OneLane<W, A>(W, A);
 impl<W: StateWord, A> LaneStates for OneLane<W, A> {
     type States = [W; 8];
 
-    type Ring = ();
+    type Window = ();
 
     const LANES: usize = 1;
 
@@ -99,7 +100,7 @@ impl<W: StateWord, A> LaneStates for OneLane<W, A> {
 
     ghost lane = { λ i state. map W.value state };
 
-    fn ring() -> () {}
+    fn window() -> () {}
 
     fn new(states: &[DynState]) -> [W; 8] {
         *W::words_in(&states[0])
@@ -140,7 +141,7 @@ pub(crate) struct InVector<V, A>(V, A);
 impl<V: Vector<One = W>, W: StateWord, A> LaneStates for InVector<V, A> {
     type States = States<V>;
 
-    type Ring = Ring<V>;
+    type Window = Window<V>;
 
     const LANES: usize = V::LANES;
 
@@ -150,7 +151,7 @@ impl<V: Vector<One = W>, W: StateWord, A> LaneStates for InVector<V, A> {
 
     ghost lane = { λ i states. words_of_lane (V.lane i) states };
 
-    fn ring() -> Ring<V> {
+    fn window() -> Window<V> {
         [InLanes::splat(W::ZERO); 16]
     }
 

@@ -1,3 +1,4 @@
+-- SPDX-License-Identifier: ISC
 use Rattle.std.proofs.Common.{◌≡◌, ◌*◌, length}
 use Rattle.ring_bench.proofs.Pairs.{Firsts, IsPair}
 use Rattle.ring_bench.proofs.digits.decode_digits.Given as goal

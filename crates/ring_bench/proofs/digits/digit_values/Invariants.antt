@@ -1,3 +1,4 @@
+-- SPDX-License-Identifier: ISC
 use Rattle.std.proofs.Common.{◌≡◌, ◌%◌, length}
 use Rattle.ring_bench.specs.Digits.{value_in_table}
 use Rattle.ring_bench.proofs.Pairs.{Firsts}

@@ -1,3 +1,4 @@
+-- SPDX-License-Identifier: ISC
 use Rattle.std.proofs.Common.{◌≡◌, true, get_or, arith, rules}
 use Rattle.std.specs.Char.{is_ascii_digit}
 use Rattle.ring_bench.proofs.Numbers.{too_large_at}

@@ -1,3 +1,4 @@
+-- SPDX-License-Identifier: ISC
 use Rattle.std.proofs.Common.{◌≡◌, ◌≤◌, drop}
 use Rattle.ring_bench.specs.Field.{digits_value}
 use Rattle.ring_bench.proofs.field.decimal_in.Given as goal

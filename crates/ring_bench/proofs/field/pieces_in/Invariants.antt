@@ -1,3 +1,4 @@
+-- SPDX-License-Identifier: ISC
 use Rattle.std.proofs.Common.{◌≡◌, length}
 use Rattle.std.specs.List.{slice_split, sum}
 use Rattle.ring_bench.specs.Field.{is_comma, parts_bytes}

@@ -1,3 +1,4 @@
+-- SPDX-License-Identifier: ISC
 use Rattle.std.proofs.Common.{arith, rules, length-append}
 use Rattle.ring_bench.proofs.Counts.{whole_more, whole_none}
 use Rattle.ring_bench.proofs.Cuts.{walk-end, walk-more}

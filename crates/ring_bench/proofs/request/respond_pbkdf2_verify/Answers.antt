@@ -1,3 +1,4 @@
+-- SPDX-License-Identifier: ISC
 use Rattle.std.proofs.Common.{◌≡◌, sym, rules, ◌∙◌, true, refl}
 use Rattle.std.specs.Int.NonZero.{non_zero_u32_get}
 use Rattle.ring_bench.specs.Request.{pbkdf2_verify_answer}

@@ -1,3 +1,4 @@
+-- SPDX-License-Identifier: ISC
 use Rattle.std.proofs.Common.{◌≡◌, ◌<◌, ◌+◌, length, arith, sym, true≢false, nat_le, true}
 use Rattle.std.proofs.lemmas.Grind.{common_steps}
 use Rattle.ring.specs.Algorithm.{block_len, max_input_len}

@@ -1,3 +1,4 @@
+-- SPDX-License-Identifier: ISC
 use Rattle.std.proofs.Common.{◌≡◌, arith, sym, ◌∙◌, length, nat_le, true, false, ◌+◌, refl}
 use Rattle.ring.specs.Hmac.{key_algorithm}
 use Rattle.ring.specs.Algorithm.{block_len, max_input_len}

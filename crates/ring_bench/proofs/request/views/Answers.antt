@@ -1,3 +1,4 @@
+-- SPDX-License-Identifier: ISC
 use Rattle.std.proofs.Common.{◌≡◌, ◌+◌, slice_index_or, arith, ◌∙◌, refl}
 use Rattle.ring_bench.proofs.Cuts.{joined-push, walk-end, walk-more}
 use Rattle.ring_bench.proofs.request.views.Goals as goal

@@ -1,3 +1,4 @@
+-- SPDX-License-Identifier: ISC
 use Rattle.std.proofs.Common.{arith, rules, length, map, length-append}
 use Rattle.std.proofs.lemmas.List.{map-append}
 use Rattle.ring_bench.proofs.Texts.{parts-next, parts-last}

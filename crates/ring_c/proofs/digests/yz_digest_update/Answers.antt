@@ -1,3 +1,4 @@
+-- SPDX-License-Identifier: ISC
 use Rattle.std.proofs.Common.{rules, sym}
 use Rattle.ring_c.proofs.Contexts.{status-context}
 use Rattle.ring_c.proofs.digests.yz_digest_update.Goals as goal

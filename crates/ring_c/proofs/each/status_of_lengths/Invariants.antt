@@ -1,3 +1,4 @@
+-- SPDX-License-Identifier: ISC
 use Rattle.std.proofs.Common.{◌≡◌, ◌+◌, ◌*◌, take}
 use Rattle.ring_c.specs.Limits.{can_digest_each}
 use Rattle.ring_c.proofs.each.status_of_lengths.Given as goal

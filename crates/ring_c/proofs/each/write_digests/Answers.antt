@@ -1,3 +1,4 @@
+-- SPDX-License-Identifier: ISC
 use Rattle.std.proofs.Common.{◌≡◌, append-nil, arith, length, sym}
 use Rattle.ring_c.proofs.Written.{bytes-all, bytes-room, bytes-written}
 use Rattle.ring_c.proofs.each.write_digests.Goals as goal

@@ -1,3 +1,4 @@
+-- SPDX-License-Identifier: ISC
 use Rattle.ring_c.proofs.Written.{AreBytes}
 use Rattle.ring_c.proofs.each.write_digests.Given as goal
 

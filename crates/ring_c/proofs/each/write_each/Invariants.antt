@@ -1,3 +1,4 @@
+-- SPDX-License-Identifier: ISC
 use Rattle.std.proofs.Common.{length, ◌-◌}
 use Rattle.ring_c.proofs.Written.{AreWritten}
 use Rattle.ring_c.proofs.each.write_each.Given as goal

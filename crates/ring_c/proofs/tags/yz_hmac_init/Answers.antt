@@ -1,3 +1,4 @@
+-- SPDX-License-Identifier: ISC
 use Rattle.ring.proofs.lemmas.raw.Numbers.{has_begun}
 use Rattle.ring_c.proofs.tags.yz_hmac_init.Goals as goal
 

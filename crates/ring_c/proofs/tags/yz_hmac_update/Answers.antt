@@ -1,3 +1,4 @@
+-- SPDX-License-Identifier: ISC
 use Rattle.std.proofs.Common.{rules, sym}
 use Rattle.ring_c.proofs.Contexts.{status-tag_context}
 use Rattle.ring_c.proofs.tags.yz_hmac_update.Goals as goal

@@ -1,3 +1,4 @@
+-- SPDX-License-Identifier: ISC
 use Rattle.std.proofs.Common.{◌≡◌, ℕ, ◌+◌, List, length, take, slice_index_or, refl, arith}
 use Rattle.std.proofs.lemmas.List.{take-take, get_or-take, take_more_same}
 use Rattle.ring_core.proofs.Bytes.{none_differs}

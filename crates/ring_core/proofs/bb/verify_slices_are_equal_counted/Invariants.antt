@@ -1,3 +1,4 @@
+-- SPDX-License-Identifier: ISC
 use Rattle.std.proofs.Common.{◌≡◌, ◌↔◌, take}
 use Rattle.ring_core.specs.Prelude.{raised}
 use Rattle.ring_core.proofs.bb.verify_slices_are_equal_counted.Given as goal

@@ -1,3 +1,4 @@
+-- SPDX-License-Identifier: ISC
 use Rattle.std.proofs.Common.{add-one}
 use Rattle.ring_core.proofs.Bytes.{map-step}
 use Rattle.ring_core.specs.Prelude.{◌⊕◌}

@@ -1,3 +1,4 @@
+-- SPDX-License-Identifier: ISC
 use Rattle.std.proofs.Common.{◌≡◌, ◌++◌, map, take, drop}
 use Rattle.ring_core.specs.Prelude.{◌⊕◌}
 use Rattle.ring_core.proofs.bb.xor_assign.Given as goal

@@ -1,3 +1,4 @@
+-- SPDX-License-Identifier: ISC
 use Rattle.std.proofs.Common.{add-one, arith, sym, ◌∙◌}
 use Rattle.ring_core.proofs.Bytes.{xor_lists-none, xor_lists-step, xor_lists-take}
 use Rattle.ring_core.proofs.bb.xor_assign_at_start.Goals as goal

@@ -1,9 +1,10 @@
+// SPDX-License-Identifier: ISC
 //! The block function of SHA-1 over blocks of bytes, one after another (FIPS 180-4, 6.1.2, steps 1
 //! to 4). The schedule of a block is sixteen words ahead of its rounds, which add ready sums of
 //! words and constants.
 ghost use Rattle.std.specs.Prelude.{◌≡◌, ℕ, ◌+◌, ◌*◌, ◌<◌, ◌≤◌, List, map, take, drop};
 ghost use Rattle.ring_core.specs.Prelude.{HoldsSums, IsAhead, IsReady, chunk_items, chunk_total};
-ghost use Rattle.ring_core.specs.Prelude.{four, low_32, raised, window, word_32};
+ghost use Rattle.ring_core.specs.Prelude.{four, low_32, raised, sixteen, word_32};
 ghost use Rattle.ring_core.specs.Sha1.{HasWords, W, block_step, blocks_from, ready_sum};
 ghost use Rattle.ring_core.specs.Sha1.{rounds_from};
 
@@ -84,7 +85,7 @@ fn later_turn<const TURN: usize>(
 ) -> [u32x4; 4]
     requires later { 1 ≤ TURN }
     requires turn { TURN < 4 }
-    ensures { (h b : List ℕ) (g : ℕ) → g + 4 ≡ 4 * TURN → HasWords b → older ≡ window (W b) g
+    ensures { (h b : List ℕ) (g : ℕ) → g + 4 ≡ 4 * TURN → HasWords b → older ≡ sixteen (W b) g
         → IsAhead (W b) (ready_sum b) (rounds_from h b) newer
         (map (map low_32) sums.old) (map word_32 variables.old) (g + 4)
         → IsAhead (W b) (ready_sum b) (rounds_from h b) result

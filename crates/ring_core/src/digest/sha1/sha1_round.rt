@@ -1,3 +1,4 @@
+// SPDX-License-Identifier: ISC
 //! One round of SHA-1 (FIPS 180-4, 6.1.2, step 3), and the sums after the last (step 4).
 ghost use Rattle.std.specs.Prelude.{◌≡◌, ℕ, ◌<◌, ◌≤◌, map, take, drop};
 ghost use Rattle.ring_core.specs.Prelude.{add_words, rotl, word_32};

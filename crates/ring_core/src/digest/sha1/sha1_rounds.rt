@@ -1,11 +1,12 @@
+// SPDX-License-Identifier: ISC
 //! The rounds of SHA-1 over a block whose words are loaded (FIPS 180-4, 6.1.2, steps 1 to 4).
 ghost use Rattle.std.specs.Prelude.{◌≡◌, ℕ, ◌+◌, ◌*◌, ◌<◌, ◌≤◌, List, map, take, drop};
-ghost use Rattle.ring_core.specs.Prelude.{IsBefore, IsRing, word_at};
+ghost use Rattle.ring_core.specs.Prelude.{IsBefore, IsWindow, word_at};
 ghost use Rattle.ring_core.specs.Sha1.{W, block_step, rounds_from};
 
 use crate::digest::sha1::sha1_round::{add_state, round, round_constant};
 use crate::digest::sha1::sha1_schedule::{ExtendSchedule, extend};
-use crate::digest::word_ring::pair;
+use crate::digest::window::pair;
 
 // Where the block function reads its block from. The rounds take this as a const argument, so that
 // each form has its own copy of them: the compiler inlines rounds that have one caller. With two
@@ -19,14 +20,14 @@ pub(crate) const WORDS: usize = 1;
 
 // Rounds `t` and `t + 1`.
 #[inline(always)]
-fn two_rounds<S: ExtendSchedule>(ring: &[S::Slot; 16], v: [S; 5], t: usize) -> [S; 5]
+fn two_rounds<S: ExtendSchedule>(window: &[S::Slot; 16], v: [S; 5], t: usize) -> [S; 5]
     requires some { 0 < S.LANES }
     requires rounds { t + 2 ≤ 80 }
-    ensures { (i : ℕ) (h b : List ℕ) (n : ℕ) → IsRing (W b) (map (S.slot_lane i) ring.now) n
+    ensures { (i : ℕ) (h b : List ℕ) (n : ℕ) → IsWindow (W b) (map (S.slot_lane i) window.now) n
         → t + 2 ≤ n → n ≤ t + 16 → map (S.lane i) v ≡ rounds_from h b t
         → map (S.lane i) result ≡ rounds_from h b (t + 2) }
 {
-    let (word, next_word) = pair(ring, t % 16);
+    let (word, next_word) = pair(window, t % 16);
     let constant = S::repeated(round_constant(t));
     let next_constant = S::repeated(round_constant(t + 1));
     let (first, second) = S::add_pairs(constant, next_constant, word, next_word);
@@ -35,91 +36,92 @@ fn two_rounds<S: ExtendSchedule>(ring: &[S::Slot; 16], v: [S; 5], t: usize) -> [
 
 // The same from round 16 on, where the words are computed first.
 #[inline(always)]
-fn next_two_rounds<S: ExtendSchedule>(ring: &mut [S::Slot; 16], v: [S; 5], t: usize) -> [S; 5]
+fn next_two_rounds<S: ExtendSchedule>(window: &mut [S::Slot; 16], v: [S; 5], t: usize) -> [S; 5]
     requires some { 0 < S.LANES }
     requires from { 16 ≤ t }
     requires below { t + 2 ≤ 80 }
     ensures { (i : ℕ) (h b : List ℕ)
-        → IsBefore (W b) (rounds_from h b) (map (S.slot_lane i) ring.old) (map (S.lane i) v) t
-        → IsBefore (W b) (rounds_from h b) (map (S.slot_lane i) ring.new) (map (S.lane i) result)
+        → IsBefore (W b) (rounds_from h b) (map (S.slot_lane i) window.old) (map (S.lane i) v) t
+        → IsBefore (W b) (rounds_from h b) (map (S.slot_lane i) window.new) (map (S.lane i) result)
         (t + 2) }
 {
-    extend::<S>(ring, t);
-    two_rounds(ring, v, t)
+    extend::<S>(window, t);
+    two_rounds(window, v, t)
 }
 
 // Four rounds in one body. A body of sixteen is so large that the compiler no longer inlines its
 // calls, though they ask for it, and the block function takes twice the time.
 #[inline(always)]
-fn next_four_rounds<S: ExtendSchedule>(ring: &mut [S::Slot; 16], v: [S; 5], t: usize) -> [S; 5]
+fn next_four_rounds<S: ExtendSchedule>(window: &mut [S::Slot; 16], v: [S; 5], t: usize) -> [S; 5]
     requires some { 0 < S.LANES }
     requires from { 16 ≤ t }
     requires below { t + 4 ≤ 80 }
     ensures { (i : ℕ) (h b : List ℕ)
-        → IsBefore (W b) (rounds_from h b) (map (S.slot_lane i) ring.old) (map (S.lane i) v) t
-        → IsBefore (W b) (rounds_from h b) (map (S.slot_lane i) ring.new) (map (S.lane i) result)
+        → IsBefore (W b) (rounds_from h b) (map (S.slot_lane i) window.old) (map (S.lane i) v) t
+        → IsBefore (W b) (rounds_from h b) (map (S.slot_lane i) window.new) (map (S.lane i) result)
         (t + 4) }
 {
-    let v = next_two_rounds(ring, v, t);
-    next_two_rounds(ring, v, t + 2)
+    let v = next_two_rounds(window, v, t);
+    next_two_rounds(window, v, t + 2)
 }
 
 // The first sixteen rounds, from the block's own words.
 #[inline(always)]
-fn first_turn<S: ExtendSchedule, const CALLER: usize>(ring: &[S::Slot; 16], v: [S; 5]) -> [S; 5]
+fn first_turn<S: ExtendSchedule, const COPY: usize>(window: &[S::Slot; 16], v: [S; 5]) -> [S; 5]
     requires some { 0 < S.LANES }
-    ensures { (i : ℕ) (b : List ℕ) → IsRing (W b) (map (S.slot_lane i) ring.now) 16
+    ensures { (i : ℕ) (b : List ℕ) → IsWindow (W b) (map (S.slot_lane i) window.now) 16
         → map (S.lane i) result ≡ rounds_from (map (S.lane i) v) b 16 }
 {
-    let v = two_rounds(ring, v, 0);
-    let v = two_rounds(ring, v, 2);
-    let v = two_rounds(ring, v, 4);
-    let v = two_rounds(ring, v, 6);
-    let v = two_rounds(ring, v, 8);
-    let v = two_rounds(ring, v, 10);
-    let v = two_rounds(ring, v, 12);
-    two_rounds(ring, v, 14)
+    let v = two_rounds(window, v, 0);
+    let v = two_rounds(window, v, 2);
+    let v = two_rounds(window, v, 4);
+    let v = two_rounds(window, v, 6);
+    let v = two_rounds(window, v, 8);
+    let v = two_rounds(window, v, 10);
+    let v = two_rounds(window, v, 12);
+    two_rounds(window, v, 14)
 }
 
 // The sixteen rounds of a later turn. The turn is a const argument: with one body for all turns the
 // compiler inlines few calls, and slots and round numbers are no literals.
 #[inline(always)]
-fn later_turn<S: ExtendSchedule, const CALLER: usize, const TURN: usize>(
-    ring: &mut [S::Slot; 16],
+fn later_turn<S: ExtendSchedule, const COPY: usize, const TURN: usize>(
+    window: &mut [S::Slot; 16],
     v: [S; 5],
 ) -> [S; 5]
     requires some { 0 < S.LANES }
     requires later { 1 ≤ TURN }
     requires turn { TURN < 5 }
     ensures { (i : ℕ) (h b : List ℕ)
-        → IsBefore (W b) (rounds_from h b) (map (S.slot_lane i) ring.old) (map (S.lane i) v)
+        → IsBefore (W b) (rounds_from h b) (map (S.slot_lane i) window.old) (map (S.lane i) v)
         (16 * TURN)
-        → IsBefore (W b) (rounds_from h b) (map (S.slot_lane i) ring.new) (map (S.lane i) result)
+        → IsBefore (W b) (rounds_from h b) (map (S.slot_lane i) window.new) (map (S.lane i) result)
         (16 * TURN + 16) }
 {
     let t = 16 * TURN;
-    let v = next_four_rounds(ring, v, t);
-    let v = next_four_rounds(ring, v, t + 4);
-    let v = next_four_rounds(ring, v, t + 8);
-    next_four_rounds(ring, v, t + 12)
+    let v = next_four_rounds(window, v, t);
+    let v = next_four_rounds(window, v, t + 4);
+    let v = next_four_rounds(window, v, t + 8);
+    next_four_rounds(window, v, t + 12)
 }
 
-// Runs the block function in each lane, over the block whose words the ring holds there.
+// Runs the block function in each lane, over the block whose words the window holds there.
 #[inline(always)]
-pub(crate) fn run_loaded<S: ExtendSchedule, const CALLER: usize>(
-    ring: &mut [S::Slot; 16],
+pub(crate) fn run_loaded<S: ExtendSchedule, const COPY: usize>(
+    window: &mut [S::Slot; 16],
     state: &mut [S; 8],
 )
     requires some { 0 < S.LANES }
-    ensures words { (i : ℕ) (b : List ℕ) → IsRing (word_at 32 b) (map (S.slot_lane i) ring.old) 16
+    ensures words { (i : ℕ) (b : List ℕ)
+        → IsWindow (word_at 32 b) (map (S.slot_lane i) window.old) 16
         → take 5 (map (S.lane i) state.new) ≡ block_step (take 5 (map (S.lane i) state.old)) b }
     ensures rest { drop 5 state.new ≡ drop 5 state.old }
 {
     let chaining = [state[0], state[1], state[2], state[3], state[4]]; // step 2
-    let v = first_turn::<S, CALLER>(ring, chaining); // step 3
-    let v = later_turn::<S, CALLER, 1>(ring, v); // steps 1 and 3
-    let v = later_turn::<S, CALLER, 2>(ring, v);
-    let v = later_turn::<S, CALLER, 3>(ring, v);
-    let last = later_turn::<S, CALLER, 4>(ring, v);
+    let v = first_turn::<S, COPY>(window, chaining); // step 3
+    let v = later_turn::<S, COPY, 1>(window, v); // steps 1 and 3
+    let v = later_turn::<S, COPY, 2>(window, v);
+    let v = later_turn::<S, COPY, 3>(window, v);
+    let last = later_turn::<S, COPY, 4>(window, v);
     *state = add_state(state, &last); // step 4
 }

@@ -1,15 +1,16 @@
+// SPDX-License-Identifier: ISC
 //! The schedule of SHA-1 (FIPS 180-4, 6.1.2, step 1), two words at a time: of one block, or of
 //! several blocks side by side.
 ghost use Rattle.std.specs.Prelude.{◌≡◌, ℕ, ◌+◌, ◌%◌, ◌^◌, ◌<◌, ◌≤◌, List, [], ◌∷◌, map};
 ghost use Rattle.std.specs.Prelude.{slice_index};
 ghost use Rattle.std.proofs.Common.{refl};
-ghost use Rattle.ring_core.specs.Prelude.{IsRing, low_32, word_32};
+ghost use Rattle.ring_core.specs.Prelude.{IsWindow, low_32, word_32};
 ghost use Rattle.ring_core.specs.Sha1.{W, scheduled};
 
+use crate::digest::window::{pair, set_pair};
 use crate::digest::word::in_lanes::InLanes;
 use crate::digest::word::lane_word::{LaneWord, Slots, Vector};
 use crate::digest::word::w32::{from_lanes, rotate_lanes, to_lanes};
-use crate::digest::word_ring::{pair, set_pair};
 use std::num::Wrapping;
 use std::simd::u64x2;
 
@@ -43,23 +44,23 @@ pub(crate) trait ExtendSchedule: Slots {
 
 // Fills the slots of words `t` and `t + 1`.
 #[inline(always)]
-pub(crate) fn extend<S: ExtendSchedule>(ring: &mut [S::Slot; 16], t: usize)
+pub(crate) fn extend<S: ExtendSchedule>(window: &mut [S::Slot; 16], t: usize)
     requires from { 16 ≤ t }
     requires below { t + 2 ≤ 80 }
-    ensures { (i : ℕ) (b : List ℕ) → IsRing (W b) (map (S.slot_lane i) ring.old) t
-        → IsRing (W b) (map (S.slot_lane i) ring.new) (t + 2) }
+    ensures { (i : ℕ) (b : List ℕ) → IsWindow (W b) (map (S.slot_lane i) window.old) t
+        → IsWindow (W b) (map (S.slot_lane i) window.new) (t + 2) }
 {
-    let sixteen = pair(ring, t % 16);
-    let fourteen = pair(ring, (t + 2) % 16);
-    let eight = pair(ring, (t + 8) % 16);
-    let three = pair(ring, (t + 13) % 16);
+    let sixteen = pair(window, t % 16);
+    let fourteen = pair(window, (t + 2) % 16);
+    let eight = pair(window, (t + 8) % 16);
+    let three = pair(window, (t + 13) % 16);
     let before = Before {
         sixteen,
         fourteen,
         eight,
         three,
     };
-    set_pair(ring, t % 16, S::next_two(&before));
+    set_pair(window, t % 16, S::next_two(&before));
 }
 
 impl ExtendSchedule for Wrapping<u32> {

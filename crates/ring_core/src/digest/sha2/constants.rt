@@ -1,3 +1,4 @@
+// SPDX-License-Identifier: ISC
 //! The round constants of SHA-2 (FIPS 180-4, 4.2.2 and 4.2.3).
 
 ghost use Rattle.std.specs.Prelude.{ℕ, ◌<◌, slice_index};

@@ -1,3 +1,4 @@
+// SPDX-License-Identifier: ISC
 //! What SHA-256 asks of a word of 32 bits, and its numbers (FIPS 180-4, 4.1.2 and 4.2.2).
 ghost use Rattle.std.specs.Prelude.{◌≡◌, ◌*◌, ◌%◌, ◌^◌, ◌<◌, length, slice_index};
 ghost use Rattle.std.proofs.Common.{refl, inl};

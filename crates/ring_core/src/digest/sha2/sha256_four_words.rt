@@ -1,3 +1,4 @@
+// SPDX-License-Identifier: ISC
 //! Four words of 32 bits at a time: the schedule of SHA-256 within one block (FIPS 180-4, 6.2.2,
 //! step 1).
 ghost use Rattle.std.specs.Prelude.{◌≡◌, ℕ, [], ◌∷◌, map, slice_index};

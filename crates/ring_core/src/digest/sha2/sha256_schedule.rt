@@ -1,3 +1,4 @@
+// SPDX-License-Identifier: ISC
 //! Two words of 32 bits at a time: the schedule of SHA-256
 //! (FIPS 180-4, 6.2.2, step 1).
 ghost use Rattle.std.specs.Prelude.{◌≡◌, ℕ, ◌<◌, ◌≤◌, map};

@@ -1,3 +1,4 @@
+// SPDX-License-Identifier: ISC
 //! The block function of SHA-2 over blocks of bytes, one after another (FIPS 180-4, 6.2.2 and
 //! 6.4.2, steps 1 to 4). The schedule of a block is sixteen words ahead of its rounds, which add
 //! ready sums of words and constants.

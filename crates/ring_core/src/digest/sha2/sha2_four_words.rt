@@ -1,3 +1,4 @@
+// SPDX-License-Identifier: ISC
 //! The schedule of SHA-2 within one block (FIPS 180-4, 6.2.2 and 6.4.2, step 1), four words at a
 //! time, and the sums of its words and their constants, which the rounds add.
 ghost use Rattle.std.specs.Prelude.{◌≡◌, ℕ, ◌+◌, ◌*◌, ◌/◌, ◌<◌, ◌≤◌, List, [], ◌∷◌, length, map};

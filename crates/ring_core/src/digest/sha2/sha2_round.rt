@@ -1,3 +1,4 @@
+// SPDX-License-Identifier: ISC
 //! One round of SHA-2 (FIPS 180-4, 6.2.2 and 6.4.2, step 3), and the sums after the last (step 4),
 //! written once for both word sizes.
 ghost use Rattle.std.specs.Prelude.{◌≡◌, ℕ, ◌<◌, ◌≤◌, map};

@@ -1,13 +1,14 @@
+// SPDX-License-Identifier: ISC
 //! The rounds of SHA-2 over a block whose words are loaded (FIPS 180-4, 6.2.2 and 6.4.2, steps 1 to
 //! 4), written once for both word sizes.
 ghost use Rattle.std.specs.Prelude.{◌≡◌, ℕ, ◌+◌, ◌*◌, ◌<◌, ◌≤◌, List, map};
-ghost use Rattle.ring_core.specs.Prelude.{IsBefore, IsRing, W, block_step, rounds_from, word_at};
+ghost use Rattle.ring_core.specs.Prelude.{IsBefore, IsWindow, W, block_step, rounds_from, word_at};
 
 use crate::digest::sha2::sha2_round::{add_state, round};
 use crate::digest::sha2::sha2_schedule::{ExtendSchedule, extend};
+use crate::digest::window::pair;
 use crate::digest::word::Sha2;
 use crate::digest::word::lane_word::LaneWord;
-use crate::digest::word_ring::pair;
 
 // The rounds take as a const argument how many words of a block come from a state, and this where
 // the block is read from bytes, so that each form has its own copy of them: the compiler inlines
@@ -21,7 +22,7 @@ pub(crate) const BYTES: usize = 0;
 // Rounds `16 * turn + place` and the next, from the words at `place`.
 #[inline(always)]
 fn two_rounds<S: ExtendSchedule>(
-    ring: &[S::Slot; 16],
+    window: &[S::Slot; 16],
     v: [S; 8],
     turn: usize,
     place: usize,
@@ -30,13 +31,13 @@ fn two_rounds<S: ExtendSchedule>(
     requires place { place + 2 ≤ 16 }
     requires turn { 16 * turn + 16 ≤ S.One.family.rounds }
     ensures { (i : ℕ) (h b : List ℕ) (n t : ℕ)
-        → IsRing (W S.One.family b) (map (S.slot_lane i) ring.now) n
+        → IsWindow (W S.One.family b) (map (S.slot_lane i) window.now) n
         → t ≡ 16 * turn + place → t + 2 ≤ n → n ≤ t + 16
         → map (S.lane i) v ≡ rounds_from S.One.family h b t
         → map (S.lane i) result ≡ rounds_from S.One.family h b (t + 2) }
 {
     let t = 16 * turn + place;
-    let (word, next_word) = pair(ring, place);
+    let (word, next_word) = pair(window, place);
     let constant = S::splat(S::One::k(t));
     let next_constant = S::splat(S::One::k(t + 1));
     let (first, second) = S::add_pairs(constant, next_constant, word, next_word);
@@ -46,7 +47,7 @@ fn two_rounds<S: ExtendSchedule>(
 // The same after the first turn, where the words are computed first.
 #[inline(always)]
 fn next_two_rounds<S: ExtendSchedule>(
-    ring: &mut [S::Slot; 16],
+    window: &mut [S::Slot; 16],
     v: [S; 8],
     turn: usize,
     place: usize,
@@ -57,35 +58,35 @@ fn next_two_rounds<S: ExtendSchedule>(
     requires turn { 16 * turn + 16 ≤ S.One.family.rounds }
     ensures { (i : ℕ) (h b : List ℕ) (t : ℕ) → t ≡ 16 * turn + place
         → IsBefore (W S.One.family b) (rounds_from S.One.family h b)
-        (map (S.slot_lane i) ring.old) (map (S.lane i) v) t
+        (map (S.slot_lane i) window.old) (map (S.lane i) v) t
         → IsBefore (W S.One.family b) (rounds_from S.One.family h b)
-        (map (S.slot_lane i) ring.new) (map (S.lane i) result) (t + 2) }
+        (map (S.slot_lane i) window.new) (map (S.lane i) result) (t + 2) }
 {
-    extend::<S>(ring, place);
-    two_rounds(ring, v, turn, place)
+    extend::<S>(window, place);
+    two_rounds(window, v, turn, place)
 }
 
 // The first sixteen rounds, from the block's own words.
 #[inline(always)]
-fn first_turn<S: ExtendSchedule, const CALLER: usize>(ring: &[S::Slot; 16], v: [S; 8]) -> [S; 8]
+fn first_turn<S: ExtendSchedule, const COPY: usize>(window: &[S::Slot; 16], v: [S; 8]) -> [S; 8]
     requires some { 0 < S.LANES }
-    ensures { (i : ℕ) (b : List ℕ) → IsRing (W S.One.family b) (map (S.slot_lane i) ring.now) 16
+    ensures { (i : ℕ) (b : List ℕ) → IsWindow (W S.One.family b) (map (S.slot_lane i) window.now) 16
         → map (S.lane i) result ≡ rounds_from S.One.family (map (S.lane i) v) b 16 }
 {
-    let v = two_rounds(ring, v, 0, 0);
-    let v = two_rounds(ring, v, 0, 2);
-    let v = two_rounds(ring, v, 0, 4);
-    let v = two_rounds(ring, v, 0, 6);
-    let v = two_rounds(ring, v, 0, 8);
-    let v = two_rounds(ring, v, 0, 10);
-    let v = two_rounds(ring, v, 0, 12);
-    two_rounds(ring, v, 0, 14)
+    let v = two_rounds(window, v, 0, 0);
+    let v = two_rounds(window, v, 0, 2);
+    let v = two_rounds(window, v, 0, 4);
+    let v = two_rounds(window, v, 0, 6);
+    let v = two_rounds(window, v, 0, 8);
+    let v = two_rounds(window, v, 0, 10);
+    let v = two_rounds(window, v, 0, 12);
+    two_rounds(window, v, 0, 14)
 }
 
 // The sixteen rounds of a later turn, each with its slot as a literal.
 #[inline(always)]
-fn later_turn<S: ExtendSchedule, const CALLER: usize>(
-    ring: &mut [S::Slot; 16],
+fn later_turn<S: ExtendSchedule, const COPY: usize>(
+    window: &mut [S::Slot; 16],
     v: [S; 8],
     turn: usize,
 ) -> [S; 8]
@@ -94,35 +95,35 @@ fn later_turn<S: ExtendSchedule, const CALLER: usize>(
     requires turn { 16 * turn + 16 ≤ S.One.family.rounds }
     ensures { (i : ℕ) (h b : List ℕ)
         → IsBefore (W S.One.family b) (rounds_from S.One.family h b)
-        (map (S.slot_lane i) ring.old) (map (S.lane i) v) (16 * turn)
+        (map (S.slot_lane i) window.old) (map (S.lane i) v) (16 * turn)
         → IsBefore (W S.One.family b) (rounds_from S.One.family h b)
-        (map (S.slot_lane i) ring.new) (map (S.lane i) result) (16 * (turn + 1)) }
+        (map (S.slot_lane i) window.new) (map (S.lane i) result) (16 * (turn + 1)) }
 {
-    let v = next_two_rounds(ring, v, turn, 0);
-    let v = next_two_rounds(ring, v, turn, 2);
-    let v = next_two_rounds(ring, v, turn, 4);
-    let v = next_two_rounds(ring, v, turn, 6);
-    let v = next_two_rounds(ring, v, turn, 8);
-    let v = next_two_rounds(ring, v, turn, 10);
-    let v = next_two_rounds(ring, v, turn, 12);
-    next_two_rounds(ring, v, turn, 14)
+    let v = next_two_rounds(window, v, turn, 0);
+    let v = next_two_rounds(window, v, turn, 2);
+    let v = next_two_rounds(window, v, turn, 4);
+    let v = next_two_rounds(window, v, turn, 6);
+    let v = next_two_rounds(window, v, turn, 8);
+    let v = next_two_rounds(window, v, turn, 10);
+    let v = next_two_rounds(window, v, turn, 12);
+    next_two_rounds(window, v, turn, 14)
 }
 
-// Runs the block function in each lane, over the block whose words the ring holds there.
+// Runs the block function in each lane, over the block whose words the window holds there.
 #[inline(always)]
-pub(crate) fn run_loaded<S: ExtendSchedule, const CALLER: usize>(
-    ring: &mut [S::Slot; 16],
+pub(crate) fn run_loaded<S: ExtendSchedule, const COPY: usize>(
+    window: &mut [S::Slot; 16],
     state: &mut [S; 8],
 )
     requires some { 0 < S.LANES }
     ensures { (i : ℕ) (b : List ℕ)
-        → IsRing (word_at S.One.bits b) (map (S.slot_lane i) ring.old) 16
+        → IsWindow (word_at S.One.bits b) (map (S.slot_lane i) window.old) 16
         → map (S.lane i) state.new ≡ block_step S.One.family (map (S.lane i) state.old) b }
 {
-    let mut variables = first_turn::<S, CALLER>(ring, *state); // steps 2 and 3
+    let mut variables = first_turn::<S, COPY>(window, *state); // steps 2 and 3
     let turns = S::One::ROUNDS / 16;
     'later: for turn in 1..turns {
-        variables = later_turn::<S, CALLER>(ring, variables, turn); // steps 1 and 3
+        variables = later_turn::<S, COPY>(window, variables, turn); // steps 1 and 3
     }
     *state = add_state(state, &variables); // step 4
 }

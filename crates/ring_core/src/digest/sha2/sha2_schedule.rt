@@ -1,9 +1,10 @@
+// SPDX-License-Identifier: ISC
 //! The schedule of SHA-2 (FIPS 180-4, 6.2.2 and 6.4.2, step 1), two words at a time.
 ghost use Rattle.std.specs.Prelude.{◌≡◌, ℕ, ◌+◌, ◌%◌, ◌≤◌, List, map};
-ghost use Rattle.ring_core.specs.Prelude.{IsRing, W, scheduled};
+ghost use Rattle.ring_core.specs.Prelude.{IsWindow, W, scheduled};
 
+use crate::digest::window::{pair, set_pair};
 use crate::digest::word::lane_word::Slots;
-use crate::digest::word_ring::{pair, set_pair};
 
 // The pairs of words that begin 16, 15, 7 and 2 words before the next pair.
 #[derive(Drop)]
@@ -29,21 +30,21 @@ pub(crate) trait ExtendSchedule: Slots {
 
 // Replaces the words in slot `place` and the next by those sixteen later.
 #[inline(always)]
-pub(crate) fn extend<S: ExtendSchedule>(ring: &mut [S::Slot; 16], place: usize)
+pub(crate) fn extend<S: ExtendSchedule>(window: &mut [S::Slot; 16], place: usize)
     requires { place + 2 ≤ 16 }
     ensures { (i : ℕ) (b : List ℕ) (t : ℕ) → 16 ≤ t → place ≡ t % 16
-        → IsRing (W S.One.family b) (map (S.slot_lane i) ring.old) t
-        → IsRing (W S.One.family b) (map (S.slot_lane i) ring.new) (t + 2) }
+        → IsWindow (W S.One.family b) (map (S.slot_lane i) window.old) t
+        → IsWindow (W S.One.family b) (map (S.slot_lane i) window.new) (t + 2) }
 {
-    let sixteen = pair(ring, place);
-    let fifteen = pair(ring, place + 1);
-    let seven = pair(ring, (place + 9) % 16);
-    let two = pair(ring, (place + 14) % 16);
+    let sixteen = pair(window, place);
+    let fifteen = pair(window, place + 1);
+    let seven = pair(window, (place + 9) % 16);
+    let two = pair(window, (place + 14) % 16);
     let before = Before {
         sixteen,
         fifteen,
         seven,
         two,
     };
-    set_pair(ring, place, S::next_two(&before));
+    set_pair(window, place, S::next_two(&before));
 }

@@ -1,3 +1,4 @@
+// SPDX-License-Identifier: ISC
 //! What SHA-384, SHA-512 and SHA-512/256 ask of a word of 64 bits, and their numbers (FIPS 180-4,
 //! 4.1.3 and 4.2.3).
 ghost use Rattle.std.specs.Prelude.{◌≡◌, ◌*◌, ◌%◌, ◌^◌, ◌<◌, length, slice_index};

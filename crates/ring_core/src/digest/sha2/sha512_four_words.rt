@@ -1,3 +1,4 @@
+// SPDX-License-Identifier: ISC
 //! Four words of 64 bits at a time: the schedule of SHA-384, SHA-512 and SHA-512/256 within one
 //! block (FIPS 180-4, 6.4.2, step 1).
 

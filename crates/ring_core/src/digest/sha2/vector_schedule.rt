@@ -1,3 +1,4 @@
+// SPDX-License-Identifier: ISC
 //! Several blocks at a time: the schedule of SHA-2 in lanes, each that of a block of its own
 //! (FIPS 180-4, 6.2.2 and 6.4.2, step 1).
 ghost use Rattle.std.specs.Prelude.{◌≡◌, ℕ, ◌<◌, ◌≤◌};

@@ -1,3 +1,4 @@
+// SPDX-License-Identifier: ISC
 //! Four words in a row in a vector, as a schedule of one block is computed four words at a time.
 ghost use Rattle.std.specs.Prelude.{◌≡◌, ℕ, ◌*◌, ◌/◌, ◌%◌, ◌^◌, ◌<◌, List, [], ◌∷◌, length, map};
 ghost use Rattle.std.specs.Prelude.{slice_index};

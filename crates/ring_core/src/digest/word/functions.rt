@@ -1,3 +1,4 @@
+// SPDX-License-Identifier: ISC
 //! Ch and Maj of words (FIPS 180-4, 4.1).
 ghost use Rattle.std.specs.Prelude.{◌≡◌, ℕ};
 ghost use Rattle.ring_core.specs.Prelude.{choose, majority};

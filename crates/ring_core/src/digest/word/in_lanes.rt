@@ -1,10 +1,11 @@
+// SPDX-License-Identifier: ISC
 //! A vector of words as what the block functions run over.
 ghost use Rattle.std.specs.Prelude.{◌≡◌};
 
 use crate::digest::word::lane_word::{LaneWord, Slots, Vector};
 
-/// A vector of words. The check has rules for arrays and pairs of a struct of any type, and none
-/// for those of a vector of any number of lanes.
+/// A vector of words. The checker supports arrays of a struct, but not of a vector with a generic
+/// lane count.
 #[derive(Clone, Copy)]
 pub struct InLanes<V: Copy>(pub(crate) V);
 

@@ -1,3 +1,4 @@
+// SPDX-License-Identifier: ISC
 //! Words of one size side by side, one in each lane: a word alone, or a vector of them.
 ghost use Rattle.std.specs.Prelude.{◌≡◌, ◌≢◌, ℕ, ◌^◌, ◌<◌, ◌≤◌, bit_and};
 ghost use Rattle.std.proofs.Common.{rules};
@@ -17,7 +18,7 @@ pub trait LaneWord: Copy {
 
     ghost LANES: { ℕ };
 
-    // the number of the word in a lane; lanes are counted round
+    // the number of the word in a lane; lane numbers wrap around
     ghost lane: { ℕ → Self → ℕ };
 
     /// The word `word` in each lane.

@@ -1,3 +1,4 @@
+// SPDX-License-Identifier: ISC
 //! The traits of words of 32 and of 64 bits (FIPS 180-4, 3.2 and 4.1).
 ghost use Rattle.std.specs.Prelude.{◌≡◌, ℕ, ◌*◌, ◌/◌, ◌^◌, ◌<◌, ◌≤◌, ◌⊎◌, List, length};
 ghost use Rattle.std.specs.Prelude.{slice_index, bit_and, bit_or, bit_xor};

@@ -1,3 +1,4 @@
+// SPDX-License-Identifier: ISC
 //! Words of 32 or of 64 bits, one in each lane of a vector: the same operations on each
 //! (FIPS 180-4, 3.2).
 ghost use Rattle.std.specs.Prelude.{◌%◌};

@@ -1,3 +1,4 @@
+// SPDX-License-Identifier: ISC
 //! The word of 32 bits, that of SHA-1 and SHA-256 (FIPS 180-4, 3.2).
 ghost use Rattle.std.specs.Prelude.{◌≡◌, ℕ, ◌-◌, ◌+◌, ◌*◌, ◌%◌, ◌^◌, ◌<◌, ◌≤◌, [], ◌∷◌, map};
 ghost use Rattle.std.specs.Prelude.{bit_and, bit_or, bit_xor};

@@ -1,3 +1,4 @@
+// SPDX-License-Identifier: ISC
 //! The word of 64 bits, that of SHA-384, SHA-512 and SHA-512/256 (FIPS 180-4, 3.2).
 ghost use Rattle.std.specs.Prelude.{◌≡◌, ℕ, ◌-◌, ◌*◌, ◌%◌, ◌^◌, ◌<◌, ◌≤◌, [], ◌∷◌, map, bit_and};
 ghost use Rattle.std.specs.Prelude.{bit_or, bit_xor};

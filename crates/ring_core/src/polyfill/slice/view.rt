@@ -1,3 +1,4 @@
+// SPDX-License-Identifier: ISC
 //! The view of a slice as whole chunks, and the iterator over them.
 ghost use Rattle.std.specs.Prelude.{◌≡◌, IfSome, ◌*◌, ◌<◌, IsTrue, ⊤, ◌↔◌, length, take, drop};
 ghost use Rattle.std.specs.Iterator.{UpTo, YieldsFirstRef, at_most};

@@ -1,3 +1,4 @@
+-- SPDX-License-Identifier: ISC
 use Rattle.std.proofs.Common.{◌∙◌, arith}
 use Rattle.ring.proofs.Costs.{counted_new}
 use Rattle.ring_examples.proofs.basics.blocks_of_digest.Goals as goal

@@ -1,3 +1,4 @@
+-- SPDX-License-Identifier: ISC
 use Rattle.std.proofs.Common.{◌∙◌, ◌≤◌, ℕ, ap, arith, length}
 use Rattle.ring.specs.Prelude.{Counts, compared_pairs, raised}
 use Rattle.ring_examples.proofs.basics.pairs_of_comparison.Goals as goal

@@ -1,3 +1,4 @@
+-- SPDX-License-Identifier: ISC
 use Rattle.ring_examples.proofs.hkdf.key_under_salt.Goals as goal
 
 pub returns-clause-ok : goal.returns-clause-ok

@@ -1,3 +1,4 @@
+-- SPDX-License-Identifier: ISC
 use Rattle.ring_examples.proofs.hkdf.next_key.Goals as goal
 
 pub returns-clause-ok : goal.returns-clause-ok

@@ -1,3 +1,4 @@
+-- SPDX-License-Identifier: ISC
 use Rattle.ring_examples.proofs.hkdf.next_salt.Goals as goal
 
 pub returns : goal.returns

@@ -1,3 +1,4 @@
+-- SPDX-License-Identifier: ISC
 use Rattle.std.proofs.Common.{arith}
 use Rattle.ring_examples.proofs.laws.long_and_short_key.Goals as goal
 

@@ -1,3 +1,4 @@
+-- SPDX-License-Identifier: ISC
 use Rattle.std.proofs.Common.{◌∙◌, arith}
 use Rattle.ring.proofs.Costs.{counted_new}
 use Rattle.ring_examples.proofs.pieces.digest_and_blocks.Goals as goal

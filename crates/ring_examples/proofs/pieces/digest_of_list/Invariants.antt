@@ -1,3 +1,4 @@
+-- SPDX-License-Identifier: ISC
 use Rattle.std.proofs.Common.{◌≡◌, take}
 use Rattle.ring.specs.Prelude.{StandsFor, context_algorithm, joined}
 use Rattle.ring_examples.proofs.pieces.digest_of_list.Given as goal

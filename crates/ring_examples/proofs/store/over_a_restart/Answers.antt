@@ -1,3 +1,4 @@
+-- SPDX-License-Identifier: ISC
 use Rattle.std.proofs.Common.{◌∙◌}
 use Rattle.ring_store.proofs.Stores.{same_store}
 use Rattle.ring_examples.proofs.store.over_a_restart.Goals as goal

@@ -1,3 +1,4 @@
+-- SPDX-License-Identifier: ISC
 use Rattle.std.proofs.Common.{refl, sym, take, ◌∙◌}
 use Rattle.ring_password_hash.proofs.decoded.decode_adapted_into.Goals as goal
 

@@ -1,3 +1,4 @@
+-- SPDX-License-Identifier: ISC
 use Rattle.std.proofs.Common.{refl}
 use Rattle.ring_password_hash.specs.Field.{written}
 use Rattle.ring_password_hash.proofs.Texts.{field_cut, not_cut}

@@ -1,3 +1,4 @@
+-- SPDX-License-Identifier: ISC
 use Rattle.std.proofs.Common.{ℕ, Bool, List, ap, ◌∙◌}
 use Rattle.base64.specs.GeneralPurpose.{config_padding, engine_config, engine_padding}
 use Rattle.base64.specs.Rfc4648.{encode}

@@ -1,3 +1,4 @@
+-- SPDX-License-Identifier: ISC
 use Rattle.std.proofs.Common.{◌≡◌, ◌≢◌, ℕ, List, sym, refl, ◌∙◌}
 use Rattle.std.specs.Prelude.{Ok}
 use Rattle.base64.specs.GeneralPurpose.{IsDecodeFailure, decode_of}

@@ -1,3 +1,4 @@
+-- SPDX-License-Identifier: ISC
 use Rattle.std.proofs.Common.{◌∙◌}
 use Rattle.ring_password_hash.proofs.field.encode_adapted.Goals as goal
 

@@ -1,3 +1,4 @@
+-- SPDX-License-Identifier: ISC
 use Rattle.std.proofs.Common.{ℕ, ◌++◌, ◌≤◌, ap, codes, refl, subst, sym, ◌∙◌}
 use Rattle.ring_password_hash.specs.Field.{count_then, number_then}
 use Rattle.ring_password_hash.specs.Head.{parameters_then}

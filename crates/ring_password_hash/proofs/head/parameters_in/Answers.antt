@@ -1,3 +1,4 @@
+-- SPDX-License-Identifier: ISC
 use Rattle.std.proofs.Common.{List, ℕ, ◌++◌, ap, refl, sym, ◌∙◌}
 use Rattle.ring_password_hash.specs.Field.{count_then}
 use Rattle.ring_password_hash.specs.Head.{parameters_then}

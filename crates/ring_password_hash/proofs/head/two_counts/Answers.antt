@@ -1,3 +1,4 @@
+-- SPDX-License-Identifier: ISC
 use Rattle.std.proofs.Common.{refl, sym, ◌∙◌, ◌++◌}
 use Rattle.std.proofs.lemmas.List.{append_cancel_left}
 use Rattle.ring_password_hash.specs.Field.{count_then}

@@ -1,3 +1,4 @@
+-- SPDX-License-Identifier: ISC
 use Rattle.std.proofs.Common.{◌≡◌, ◌<◌, arith, refl}
 use Rattle.ring_password_hash.proofs.KindsApart.{kind_at-position, position, position_below}
 use Rattle.ring_password_hash.proofs.in_place.read.Goals as goal

@@ -1,3 +1,4 @@
+-- SPDX-License-Identifier: ISC
 use Rattle.std.proofs.Common.{refl}
 use Rattle.std.specs.Prelude.{Some}
 use Rattle.ring_password_hash.specs.InPlace.{parts_of}

@@ -1,3 +1,4 @@
+-- SPDX-License-Identifier: ISC
 use Rattle.std.proofs.Common.{◌≡◌, ap, subst, sym, ◌∙◌}
 use Rattle.ring_password_hash.specs.Hash.{IsParts, hash_text}
 use Rattle.ring_password_hash.specs.declared.kind.Kind.{Kind}

@@ -1,3 +1,4 @@
+-- SPDX-License-Identifier: ISC
 use Rattle.std.proofs.Common.{ap, sym, ◌∙◌}
 use Rattle.ring_password_hash.specs.Hash.{parameters_where}
 use Rattle.ring_password_hash.proofs.password_hash.usual_parameters.Goals as goal

@@ -1,3 +1,4 @@
+-- SPDX-License-Identifier: ISC
 use Rattle.std.proofs.Common.{rules, ◌≡◌, arith, refl}
 use Rattle.ring_password_hash.proofs.Salts.{letters_all, letters_more}
 use Rattle.ring_password_hash.proofs.salt.letters.Goals as goal

@@ -1,3 +1,4 @@
+-- SPDX-License-Identifier: ISC
 use Rattle.std.proofs.Common.{◌≡◌, ◌-◌, ◌++◌, length, take}
 use Rattle.ring_password_hash.specs.Salt.{letters}
 use Rattle.ring_password_hash.proofs.salt.letters.Given as goal

@@ -1,3 +1,4 @@
+-- SPDX-License-Identifier: ISC
 use Rattle.std.proofs.Common.{rules, ◌≡◌, ap, arith, length, sym, subst, ◌∙◌}
 use Rattle.std.specs.Int.{from_be_bytes, w128}
 use Rattle.std.specs.Prelude.{Bool}

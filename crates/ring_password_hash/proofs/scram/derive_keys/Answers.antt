@@ -1,3 +1,4 @@
+-- SPDX-License-Identifier: ISC
 use Rattle.std.proofs.Common.{ap, ◌∙◌}
 use Rattle.ring.proofs.Each.{raised-then}
 use Rattle.ring_password_hash.specs.Scram.{keys_blocks, salted_password, server_key_of}

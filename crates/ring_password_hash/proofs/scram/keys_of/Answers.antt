@@ -1,3 +1,4 @@
+-- SPDX-License-Identifier: ISC
 use Rattle.std.proofs.Common.{rules, ◌≡◌, ◌+◌, ap, ◌∙◌, ℕ, codes, length}
 use Rattle.ring.specs.Algorithm.{output_len}
 use Rattle.ring.specs.Cost.{key_blocks, padded_blocks, raised}

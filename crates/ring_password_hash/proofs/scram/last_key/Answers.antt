@@ -1,3 +1,4 @@
+-- SPDX-License-Identifier: ISC
 use Rattle.std.proofs.Common.{ap, refl, sym, ◌∙◌, length}
 use Rattle.ring_password_hash.proofs.Fields.{base64-injective}
 use Rattle.ring_password_hash.proofs.scram.last_key.Goals as goal

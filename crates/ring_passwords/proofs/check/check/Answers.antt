@@ -1,3 +1,4 @@
+-- SPDX-License-Identifier: ISC
 use Rattle.std.proofs.Common.{◌≡◌, ℕ, List, subst, ◌∙◌}
 use Rattle.std.specs.Prelude.{Option, Some, None, IfSome}
 use Rattle.std.specs.Io.BufRead.{DropsThrough, drop_through, first_piece}
@@ -23,7 +24,8 @@ returns-clause-ok g c = λ ok.
     let new = g.R.Read.remaining c.read_stored.new.reader in
     let stored = c.in_ok-stored.stored in
     let text = c.in_ok-stored.ensures.text in
-    let lines = two_lines old new _ _ text c.in_ok-stored.ensures.rest c.in_ok-password.ensures.ok in
+    let lines = two_lines old new _ _ text c.in_ok-stored.ensures.rest
+    c.in_ok-password.ensures.ok in
     IfSome_then old lines (λ bytes both. record {
       stored = stored;
       is = c.in_ok-stored.ensures.ok.0;
@@ -40,7 +42,8 @@ returns-clause-wrong g c = λ told.
     let new = g.R.Read.remaining c.read_stored.new.reader in
     let stored = c.in_ok-stored.stored in
     let text = c.in_ok-stored.ensures.text in
-    let lines = two_lines old new _ _ text c.in_ok-stored.ensures.rest c.in_ok-password.ensures.ok in
+    let lines = two_lines old new _ _ text c.in_ok-stored.ensures.rest
+    c.in_ok-password.ensures.ok in
     IfSome_then old lines (λ bytes both. record {
       stored = stored;
       is = c.in_ok-stored.ensures.ok.0;

@@ -1,3 +1,4 @@
+-- SPDX-License-Identifier: ISC
 use Rattle.std.proofs.Common.{◌∙◌, sym, true≢false}
 use Rattle.std.proofs.lemmas.Option.{IfSome_then}
 use Rattle.ring_passwords.proofs.check.read_stored.Goals as goal

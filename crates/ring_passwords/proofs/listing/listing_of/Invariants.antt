@@ -1,3 +1,4 @@
+-- SPDX-License-Identifier: ISC
 use Rattle.std.proofs.Common.{◌≡◌}
 use Rattle.ring_passwords.specs.Listing.{lines_of}
 use Rattle.ring_passwords.proofs.listing.listing_of.Given as goal

@@ -1,3 +1,4 @@
+-- SPDX-License-Identifier: ISC
 use Rattle.std.proofs.Common.{◌≡◌, map, take}
 use Rattle.ring_core.specs.Sha1 as sha1
 use Rattle.ring_core.specs.Word.{word_32}

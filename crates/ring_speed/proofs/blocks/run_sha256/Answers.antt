@@ -1,3 +1,4 @@
+-- SPDX-License-Identifier: ISC
 use Rattle.std.proofs.Common.{◌≡◌, ◌<◌, length, refl, arith, rules}
 use Rattle.ring_speed.proofs.Steps.{fold_chunks-one, words_next}
 use Rattle.ring_speed.proofs.blocks.run_sha256.Goals as goal

@@ -1,3 +1,4 @@
+-- SPDX-License-Identifier: ISC
 use Rattle.std.proofs.Common.{◌≡◌}
 use Rattle.ring_core.specs.Sha2.{block_step, family_512, words_64}
 use Rattle.ring_speed.specs.Repeats.{words_after_steps}

@@ -1,3 +1,4 @@
+-- SPDX-License-Identifier: ISC
 use Rattle.std.proofs.Common.{◌≡◌, ℕ, List}
 use Rattle.ring.specs.Digest.{digest_of}
 use Rattle.ring_speed.specs.Repeats.{message_after}

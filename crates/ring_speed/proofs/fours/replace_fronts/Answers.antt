@@ -1,3 +1,4 @@
+-- SPDX-License-Identifier: ISC
 use Rattle.std.proofs.Common.{arith}
 use Rattle.ring_speed.proofs.Fronts.{front-replaced}
 use Rattle.ring_speed.proofs.fours.replace_fronts.Goals as goal

@@ -1,3 +1,4 @@
+-- SPDX-License-Identifier: ISC
 use Rattle.std.proofs.Common.{◌≡◌}
 use Rattle.std.specs.Fn.{iterate}
 use Rattle.ring_speed.specs.Repeats.{replaced_front}

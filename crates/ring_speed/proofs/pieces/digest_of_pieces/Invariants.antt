@@ -1,3 +1,4 @@
+-- SPDX-License-Identifier: ISC
 use Rattle.std.proofs.Common.{◌≡◌, ◌*◌, take}
 use Rattle.ring.specs.Context.{StandsFor, context_algorithm}
 use Rattle.ring_speed.proofs.pieces.digest_of_pieces.Given as goal

@@ -1,3 +1,4 @@
+-- SPDX-License-Identifier: ISC
 use Rattle.std.proofs.Common.{refl}
 use Rattle.ring_speed.proofs.Steps.{iterate_next}
 use Rattle.ring_speed.proofs.tags.replace_front_by_tags.Goals as goal

@@ -1,3 +1,4 @@
+-- SPDX-License-Identifier: ISC
 use Rattle.std.proofs.Common.{◌≡◌, ℕ, List}
 use Rattle.std.specs.Fn.{iterate}
 use Rattle.ring.specs.Hmac.{KeyStandsFor, hmac_of, key_algorithm}

@@ -1,3 +1,4 @@
+-- SPDX-License-Identifier: ISC
 use Rattle.std.proofs.Common.{◌≡◌, ◌≢◌, false, List, ℕ, refl, sym, ◌∙◌, rules}
 use Rattle.std.specs.Prelude.{Result, Ok, Err, OnOk, is_err, is_ok}
 use Rattle.std.specs.FinMap as table

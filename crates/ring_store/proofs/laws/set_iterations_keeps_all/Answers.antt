@@ -1,3 +1,4 @@
+-- SPDX-License-Identifier: ISC
 use Rattle.std.proofs.Common.{refl}
 use Rattle.ring_store.proofs.Verdicts.{verdict-with_iterations}
 use Rattle.ring_store.proofs.laws.set_iterations_keeps_all.Goals as goal

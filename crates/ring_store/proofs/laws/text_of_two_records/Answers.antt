@@ -1,3 +1,4 @@
+-- SPDX-License-Identifier: ISC
 use Rattle.ring_store.proofs.Stores.{text_of_two}
 use Rattle.ring_store.proofs.laws.text_of_two_records.Goals as goal
 

@@ -1,3 +1,4 @@
+-- SPDX-License-Identifier: ISC
 use Rattle.std.proofs.Common.{append_assoc}
 use Rattle.ring_store.specs.Text.{head_then}
 use Rattle.ring_store.proofs.text.append_head.Goals as goal

@@ -1,3 +1,4 @@
+-- SPDX-License-Identifier: ISC
 use Rattle.std.proofs.Common.{◌≤◌, length, take}
 use Rattle.ring_store.proofs.Lines.{ReadUpTo}
 use Rattle.ring_store.proofs.text.are_lines.Given as goal

@@ -1,3 +1,4 @@
+-- SPDX-License-Identifier: ISC
 use Rattle.std.proofs.Common.{◌≡◌, sym, ap, subst, ◌∙◌, ℕ, arith, ◌<◌, true≢false}
 use Rattle.std.specs.Prelude.{Option, Some, None, IsNone, MatchOption, not}
 use Rattle.std.specs.declared.num.NonZeroU32.{NonZeroU32}

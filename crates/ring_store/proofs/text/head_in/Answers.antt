@@ -1,3 +1,4 @@
+-- SPDX-License-Identifier: ISC
 use Rattle.std.proofs.Common.{◌++◌, List, ℕ, drop, ap, refl, sym, ◌∙◌, rules}
 use Rattle.std.specs.Prelude.{codes, None, Some}
 use Rattle.std.proofs.lemmas.Bool.{eqb-true, eq-eqb}

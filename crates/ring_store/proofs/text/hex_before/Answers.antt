@@ -1,3 +1,4 @@
+-- SPDX-License-Identifier: ISC
 use Rattle.ring_store.proofs.Texts.{hex_cut}
 use Rattle.ring_store.proofs.text.hex_before.Goals as goal
 

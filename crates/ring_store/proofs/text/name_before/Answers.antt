@@ -1,3 +1,4 @@
+-- SPDX-License-Identifier: ISC
 use Rattle.std.proofs.Common.{refl}
 use Rattle.hex.specs.Hex.{encode_lower}
 use Rattle.ring_store.proofs.Texts.{hex_cut, not_cut}

@@ -1,3 +1,4 @@
+-- SPDX-License-Identifier: ISC
 use Rattle.std.proofs.Common.{ap, refl, sym, ◌∙◌, rules}
 use Rattle.ring_store.specs.Text.{count_then, hex_then, record_then}
 use Rattle.ring_store.proofs.Texts.{count_then-injective, hex_then-injective, not_digit}

@@ -1,3 +1,4 @@
+-- SPDX-License-Identifier: ISC
 use Rattle.std.proofs.Common.{rules, ◌≡◌, ℕ, List, length, codes, subst, ap, ◌∙◌}
 use Rattle.ring.specs.Cost.{fill_blocks, key_blocks, raised}
 use Rattle.ring.specs.Hkdf.{okm}

@@ -1,3 +1,4 @@
+-- SPDX-License-Identifier: ISC
 use Rattle.ring_sums.proofs.Listed.{written-none}
 use Rattle.ring_sums.proofs.check.answer.Goals as goal
 

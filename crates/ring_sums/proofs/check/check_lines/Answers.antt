@@ -1,3 +1,4 @@
+-- SPDX-License-Identifier: ISC
 use Rattle.std.proofs.Common.{◌∙◌, ◌<◌, ◌^◌, arith, length, refl, sym}
 use Rattle.ring_sums.specs.Check.{count_of}
 use Rattle.ring_sums.proofs.CheckedLines.{checked-all, checked-bad, checked-entry, checked-first}

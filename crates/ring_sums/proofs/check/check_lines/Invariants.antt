@@ -1,3 +1,4 @@
+-- SPDX-License-Identifier: ISC
 use Rattle.ring_sums.specs.Check.{AreFilesOf, entries_of}
 use Rattle.ring_sums.proofs.CheckedLines.{AreChecked}
 use Rattle.ring_sums.proofs.check.check_lines.Given as goal

@@ -1,3 +1,4 @@
+-- SPDX-License-Identifier: ISC
 use Rattle.std.proofs.Common.{◌≡◌, Some, ap, map, refl, take, ◌∙◌, arith, subst, sym}
 use Rattle.ring_sums.specs.Check.{AreFilesOf, entries_of}
 use Rattle.ring_sums.proofs.CheckedLines.{entries-bad, entries-entry, entries-none, files-more}

@@ -1,3 +1,4 @@
+-- SPDX-License-Identifier: ISC
 use Rattle.std.proofs.Common.{◌≡◌, Some, map, take}
 use Rattle.ring_sums.specs.Check.{AreFilesOf, entries_of}
 use Rattle.ring_sums.specs.Files.{name_of}

@@ -1,3 +1,4 @@
+-- SPDX-License-Identifier: ISC
 use Rattle.std.specs.IoError.{os_error_kind}
 use Rattle.ring_sums.proofs.check.is_left_out.Goals as goal
 

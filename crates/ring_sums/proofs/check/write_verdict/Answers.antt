@@ -1,3 +1,4 @@
+-- SPDX-License-Identifier: ISC
 use Rattle.std.proofs.Common.{sym}
 use Rattle.ring_sums.proofs.Listed.{written-none}
 use Rattle.ring_sums.proofs.check.write_verdict.Goals as goal

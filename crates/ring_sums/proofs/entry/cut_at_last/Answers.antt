@@ -1,3 +1,4 @@
+-- SPDX-License-Identifier: ISC
 use Rattle.std.proofs.Common.{◌+◌, sym}
 use Rattle.ring_sums.proofs.Entries.{cut_at_last-nowhere, cut_at_last-place, rest-slice}
 use Rattle.ring_sums.proofs.entry.cut_at_last.Goals as goal

@@ -1,3 +1,4 @@
+-- SPDX-License-Identifier: ISC
 use Rattle.std.proofs.Common.{ℕ, drop, not, ap, sym}
 use Rattle.ring_sums.specs.Entry.{is_white, without_white}
 use Rattle.ring_sums.proofs.Entries.{first-place, no-place, rest-slice}

@@ -1,3 +1,4 @@
+-- SPDX-License-Identifier: ISC
 use Rattle.std.proofs.Common.{◌≡◌, map, take}
 use Rattle.ring_sums.specs.Lane.{front_of}
 use Rattle.ring_sums.proofs.lanes.fronts_of.Given as goal

@@ -1,3 +1,4 @@
+-- SPDX-License-Identifier: ISC
 use Rattle.ring_sums.proofs.WrittenLists.{lists-back}
 use Rattle.ring_sums.proofs.laws.lists_read_back.Goals as goal
 

@@ -1,3 +1,4 @@
+-- SPDX-License-Identifier: ISC
 use Rattle.ring_sums.proofs.Escapes.{unescaped-escaped}
 use Rattle.ring_sums.proofs.laws.names_read_back.Goals as goal
 

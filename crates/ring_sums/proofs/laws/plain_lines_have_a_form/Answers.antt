@@ -1,3 +1,4 @@
+-- SPDX-License-Identifier: ISC
 use Rattle.ring_sums.proofs.PlainForm.{plain-form-of, plain-parts-of}
 use Rattle.ring_sums.proofs.laws.plain_lines_have_a_form.Goals as goal
 

@@ -1,3 +1,4 @@
+-- SPDX-License-Identifier: ISC
 use Rattle.std.proofs.Common.{◌∷◌, None, Some, refl}
 use Rattle.ring_sums.specs.Names.{escaped}
 use Rattle.ring_sums.specs.Line.{mark_of}

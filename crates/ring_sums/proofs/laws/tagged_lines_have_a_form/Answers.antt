@@ -1,3 +1,4 @@
+-- SPDX-License-Identifier: ISC
 use Rattle.ring_sums.proofs.TaggedForm.{form-of, parts-of}
 use Rattle.ring_sums.proofs.laws.tagged_lines_have_a_form.Goals as goal
 

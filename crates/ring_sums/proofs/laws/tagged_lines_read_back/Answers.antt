@@ -1,3 +1,4 @@
+-- SPDX-License-Identifier: ISC
 use Rattle.std.proofs.Common.{None, Some}
 use Rattle.ring_sums.proofs.TaggedLines.{behind_tag, entry_of-tagged, gap_after-tagged}
 use Rattle.ring_sums.proofs.TaggedLines.{tagged-asked, tagged-unasked}

@@ -1,3 +1,4 @@
+-- SPDX-License-Identifier: ISC
 use Rattle.std.proofs.Common.{◌+◌, ◌≤◌, length, map}
 use Rattle.ring_sums.specs.List.{lines_gap, lines_in, lines_say, said_by}
 use Rattle.ring_sums.proofs.Lists.{IsSaidTo}

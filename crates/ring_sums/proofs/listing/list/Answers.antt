@@ -1,3 +1,4 @@
+-- SPDX-License-Identifier: ISC
 use Rattle.std.proofs.Common.{◌≡◌, ◌&&◌, ◌∙◌, [], arith, false, length, refl, sym}
 use Rattle.ring_sums.specs.Listing.{is_sum}
 use Rattle.ring_sums.proofs.Listed.{lines-none, told-more, told-none, written-kept, written-none}

@@ -1,3 +1,4 @@
+-- SPDX-License-Identifier: ISC
 use Rattle.std.proofs.Common.{◌≡◌, length}
 use Rattle.ring_sums.proofs.Listed.{AreTold}
 use Rattle.ring_sums.proofs.listing.list.Given as goal

@@ -1,3 +1,4 @@
+-- SPDX-License-Identifier: ISC
 use Rattle.std.proofs.Common.{◌≡◌, ◌++◌, take}
 use Rattle.ring_sums.specs.Names.{escaped}
 use Rattle.ring_sums.proofs.names.append_escaped.Given as goal

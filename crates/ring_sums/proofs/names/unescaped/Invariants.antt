@@ -1,3 +1,4 @@
+-- SPDX-License-Identifier: ISC
 use Rattle.std.proofs.Common.{drop}
 use Rattle.ring_sums.proofs.Escapes.{IsReadTo}
 use Rattle.ring_sums.proofs.names.unescaped.Given as goal

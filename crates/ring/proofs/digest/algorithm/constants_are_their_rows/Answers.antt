@@ -1,3 +1,4 @@
+-- SPDX-License-Identifier: ISC
 use Rattle.std.proofs.Common.{drop, refl}
 use Rattle.ring_core.specs.Prelude.{first_primes}
 use Rattle.ring.specs.Prelude.{Sha256, Sha384, Sha512, initial_words_of_id}

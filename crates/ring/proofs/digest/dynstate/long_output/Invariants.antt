@@ -1,3 +1,4 @@
+-- SPDX-License-Identifier: ISC
 use Rattle.std.proofs.Common.{◌≡◌, ◌-◌, ◌*◌, ◌++◌, take, replicate}
 use Rattle.ring_core.specs.Prelude.{words_64}
 use Rattle.ring.specs.Prelude.{word_bytes}

@@ -1,3 +1,4 @@
+-- SPDX-License-Identifier: ISC
 use Rattle.std.proofs.Common.{◌≡◌, ◌*◌, length, map, take}
 use Rattle.ring.specs.Prelude.{word_bytes}
 use Rattle.ring.proofs.digest.dynstate.words_from.Given as goal

@@ -1,3 +1,4 @@
+-- SPDX-License-Identifier: ISC
 use Rattle.std.proofs.Common.{arith, inl, inr, length, rules, sym, true≢false}
 use Rattle.std.proofs.lemmas.Bool.{cases_order}
 use Rattle.ring.specs.Prelude.{IsMessageWithin, message_at}

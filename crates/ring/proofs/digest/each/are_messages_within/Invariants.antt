@@ -1,3 +1,4 @@
+-- SPDX-License-Identifier: ISC
 use Rattle.std.proofs.Common.{ℕ, ◌<◌, length}
 use Rattle.ring.specs.Prelude.{IsMessageWithin, message_at}
 use Rattle.ring.proofs.digest.each.are_messages_within.Given as goal

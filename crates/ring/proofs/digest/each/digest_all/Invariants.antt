@@ -1,3 +1,4 @@
+-- SPDX-License-Identifier: ISC
 use Rattle.std.proofs.Common.{◌-◌, ◌≤◌, length}
 use Rattle.ring.proofs.Each.{HaveDigests}
 use Rattle.ring.proofs.digest.each.digest_all.Given as goal

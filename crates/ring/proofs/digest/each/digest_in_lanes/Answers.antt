@@ -1,3 +1,4 @@
+-- SPDX-License-Identifier: ISC
 use Rattle.std.proofs.Common.{◌≡◌, ℕ, ◌+◌, ◌-◌, ◌*◌, ◌∙◌, [], ap, arith, get_or, length, take}
 use Rattle.std.proofs.lemmas.List.{take_more_set}
 use Rattle.ring.specs.Prelude.{each_blocks, padded_blocks, raised}

@@ -1,3 +1,4 @@
+-- SPDX-License-Identifier: ISC
 use Rattle.std.proofs.Common.{◌≡◌, ◌+◌, ◌-◌, ◌*◌, length, take}
 use Rattle.ring.specs.Prelude.{AreDigests, each_blocks, raised}
 use Rattle.ring.proofs.digest.each.digest_in_lanes.Given as goal

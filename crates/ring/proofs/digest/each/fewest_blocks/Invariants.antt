@@ -1,3 +1,4 @@
+-- SPDX-License-Identifier: ISC
 use Rattle.std.proofs.Common.{ℕ, ◌<◌, ◌≤◌, length}
 use Rattle.ring.specs.Prelude.{message_at, padded_blocks}
 use Rattle.ring.proofs.digest.each.fewest_blocks.Given as goal

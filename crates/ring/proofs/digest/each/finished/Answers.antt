@@ -1,3 +1,4 @@
+-- SPDX-License-Identifier: ISC
 use Rattle.std.proofs.Common.{◌≡◌, ◌+◌, ◌-◌, ◌/◌, ◌∙◌, ℕ, ap, arith, length, rules, sym}
 use Rattle.std.proofs.Math.Nat.{div_self}
 use Rattle.ring.specs.Prelude.{Digest, block_function, block_len, bytes_of, padded_blocks, raised}

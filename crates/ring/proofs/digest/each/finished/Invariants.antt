@@ -1,3 +1,4 @@
+-- SPDX-License-Identifier: ISC
 use Rattle.std.proofs.Common.{◌≡◌, ◌-◌, IsTrue}
 use Rattle.ring.specs.Prelude.{chaining_words, is_state_of, raised, words_at}
 use Rattle.ring.proofs.digest.each.finished.Given as goal

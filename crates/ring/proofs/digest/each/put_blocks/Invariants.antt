@@ -1,3 +1,4 @@
+-- SPDX-License-Identifier: ISC
 use Rattle.std.proofs.Common.{◌≡◌, ℕ, ◌<◌, [], get_or}
 use Rattle.ring_core.specs.Prelude.{chunk_at}
 use Rattle.ring.specs.Prelude.{message_at, padded}

@@ -1,3 +1,4 @@
+-- SPDX-License-Identifier: ISC
 use Rattle.std.proofs.Common.{◌≡◌, ◌-◌, ◌*◌, ◌∙◌, ℕ, ap, arith}
 use Rattle.std.proofs.lemmas.List.{take_rest}
 use Rattle.ring.specs.Prelude.{raised}

@@ -1,3 +1,4 @@
+-- SPDX-License-Identifier: ISC
 use Rattle.std.proofs.Common.{◌≡◌, ℕ, ◌*◌, ◌<◌}
 use Rattle.ring.specs.Prelude.{HasWords, message_at, raised, words_at}
 use Rattle.ring.proofs.digest.each.states_after.Given as goal

@@ -1,3 +1,4 @@
+-- SPDX-License-Identifier: ISC
 use Rattle.ring.proofs.lemmas.digest.Padding.{padded_is_padded}
 use Rattle.ring.proofs.digest.padding.padding_is_shortest.Goals as goal
 

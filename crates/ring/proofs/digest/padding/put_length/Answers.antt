@@ -1,3 +1,4 @@
+-- SPDX-License-Identifier: ISC
 use Rattle.std.proofs.Common.{◌≡◌, ◌∙◌, ℕ, ◌*◌, ap, List, arith, drop, refl, rules, sym, take}
 use Rattle.std.specs.Int.{bytes_high_first}
 use Rattle.ring.specs.Prelude.{length_len}

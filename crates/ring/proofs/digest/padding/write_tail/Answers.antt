@@ -1,3 +1,4 @@
+-- SPDX-License-Identifier: ISC
 use Rattle.std.proofs.Common.{◌+◌, ◌/◌, ◌*◌, length, refl}
 use Rattle.ring.proofs.lemmas.digest.Tails.{tail_written}
 use Rattle.ring.proofs.digest.padding.write_tail.Goals as goal

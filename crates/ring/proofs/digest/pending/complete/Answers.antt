@@ -1,3 +1,4 @@
+-- SPDX-License-Identifier: ISC
 use Rattle.std.proofs.Common.{refl, arith, ◌∙◌}
 use Rattle.ring.proofs.Rows.{block_len-most}
 use Rattle.ring.proofs.lemmas.digest.Updating.{HasRoom, moved_fill, moved_none}

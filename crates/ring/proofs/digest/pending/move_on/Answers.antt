@@ -1,3 +1,4 @@
+-- SPDX-License-Identifier: ISC
 use Rattle.std.proofs.Common.{refl}
 use Rattle.ring.proofs.lemmas.digest.Updating.{moved_both}
 use Rattle.ring.proofs.digest.pending.move_on.Goals as goal

@@ -1,3 +1,4 @@
+-- SPDX-License-Identifier: ISC
 use Rattle.std.proofs.Common.{length, ◌∙◌}
 use Rattle.ring.proofs.Lengths.{HasCounted, counted_end}
 use Rattle.ring.proofs.Outcomes.{on_ok_map}

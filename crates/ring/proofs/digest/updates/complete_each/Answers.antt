@@ -1,3 +1,4 @@
+-- SPDX-License-Identifier: ISC
 use Rattle.std.proofs.Common.{◌≡◌, ◌+◌, ◌-◌, ◌<◌, ◌∙◌, ℕ, ap, arith, get_or, length, refl}
 use Rattle.std.proofs.Common.{slice_set, sym, take}
 use Rattle.std.proofs.lemmas.List.{length-set}

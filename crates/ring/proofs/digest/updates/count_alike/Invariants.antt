@@ -1,3 +1,4 @@
+-- SPDX-License-Identifier: ISC
 use Rattle.std.proofs.Common.{◌≡◌, ℕ, ◌<◌, get_or}
 use Rattle.ring.specs.Prelude.{Context, context_algorithm}
 use Rattle.ring.proofs.digest.updates.count_alike.Given as goal

@@ -1,3 +1,4 @@
+-- SPDX-License-Identifier: ISC
 use Rattle.std.proofs.Common.{ℕ, ◌/◌, ◌≤◌, arith, length}
 use borrow.Author.Count.{below_more}
 use Rattle.ring.specs.Prelude.{message_at}

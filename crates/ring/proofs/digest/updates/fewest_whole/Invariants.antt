@@ -1,3 +1,4 @@
+-- SPDX-License-Identifier: ISC
 use Rattle.std.proofs.Common.{ℕ, ◌/◌, ◌<◌, ◌≤◌, length}
 use Rattle.ring.specs.Prelude.{message_at}
 use Rattle.ring.proofs.digest.updates.fewest_whole.Given as goal

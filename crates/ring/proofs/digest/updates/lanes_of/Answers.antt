@@ -1,3 +1,4 @@
+-- SPDX-License-Identifier: ISC
 use Rattle.std.proofs.Common.{◌≡◌, ◌∙◌, ap, arith, length, length-take-le, sym, take}
 use Rattle.std.proofs.lemmas.List.{get_or-take}
 use Rattle.ring.specs.Prelude.{context_algorithm}

@@ -1,3 +1,4 @@
+-- SPDX-License-Identifier: ISC
 use Rattle.std.proofs.Common.{◌≡◌, ◌<◌, ℕ, List, [], ◌∙◌, ap, arith, get_or, length, slice_set, sym}
 use Rattle.std.proofs.lemmas.List.{get_or-set_other, get_or-set_same}
 use borrow.Author.Count.{below_more}

@@ -1,3 +1,4 @@
+-- SPDX-License-Identifier: ISC
 use Rattle.std.proofs.Common.{◌≡◌, ℕ, ◌+◌, ◌-◌, ◌*◌, ◌<◌, ◌≤◌, ◌∙◌, ap, arith, get_or}
 use Rattle.std.proofs.Common.{length, rules, sym, take}
 use Rattle.std.proofs.lemmas.Nat.{le-div}

@@ -1,3 +1,4 @@
+-- SPDX-License-Identifier: ISC
 use Rattle.std.proofs.Common.{◌≡◌, ◌+◌, ◌-◌, ◌*◌, length, take}
 use Rattle.ring.specs.Prelude.{raised, update_each_blocks}
 use Rattle.ring.proofs.lemmas.digest.Updates.{HaveChanged, IsUpdatedAt}

@@ -1,3 +1,4 @@
+-- SPDX-License-Identifier: ISC
 use Rattle.std.proofs.Common.{◌≡◌, ℕ, ◌<◌, get_or, length}
 use Rattle.ring.specs.Prelude.{Context, DynState, state_word_len, word_len, words}
 use Rattle.ring.proofs.digest.updates.states_of.Given as goal

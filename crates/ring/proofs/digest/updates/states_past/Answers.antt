@@ -1,3 +1,4 @@
+-- SPDX-License-Identifier: ISC
 use Rattle.std.proofs.Common.{◌≡◌, ◌<◌, ℕ, ◌+◌, ◌*◌, ◌++◌, ◌∙◌, List, [], ap, arith, drop}
 use Rattle.std.proofs.Common.{get_or, length, refl, take}
 use Rattle.std.proofs.lemmas.List.{get_or-take, get_or_append_left}

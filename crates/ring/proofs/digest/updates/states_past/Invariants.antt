@@ -1,3 +1,4 @@
+-- SPDX-License-Identifier: ISC
 use Rattle.std.proofs.Common.{◌≡◌, ℕ, ◌*◌, ◌<◌, drop, get_or}
 use Rattle.ring_core.specs.Prelude.{fold_chunks}
 use Rattle.ring.specs.Prelude.{Algorithm, DynState, HasWords, block_function, chaining_words}

@@ -1,3 +1,4 @@
+-- SPDX-License-Identifier: ISC
 use Rattle.std.proofs.Common.{◌≡◌, ◌+◌, ◌++◌, ◌∷◌, [], length, ap, ◌∙◌, arith, length-append}
 use Rattle.std.proofs.lemmas.List.{take_all}
 use Rattle.ring.specs.Prelude.{joined, key_algorithm, padded_blocks, raised}

@@ -1,3 +1,4 @@
+-- SPDX-License-Identifier: ISC
 use Rattle.std.proofs.Common.{◌≡◌, ◌+◌, ◌-◌, ◌*◌, ◌≤◌, ℕ, length, sym, ap, ◌∙◌, arith}
 use Rattle.std.proofs.lemmas.Grind.{common_steps}
 use Rattle.ring.specs.Prelude.{joined, key_algorithm, output_len, raised, hkdf_t}

@@ -1,3 +1,4 @@
+-- SPDX-License-Identifier: ISC
 use Rattle.std.proofs.Common.{◌-◌, length}
 use Rattle.ring.specs.Prelude.{joined}
 use Rattle.ring.proofs.lemmas.hkdf.Expanding.{IsWritten}

@@ -1,3 +1,4 @@
+-- SPDX-License-Identifier: ISC
 use Rattle.std.proofs.Common.{length, arith, ◌∙◌}
 use Rattle.ring.proofs.lemmas.hmac.Keys.{key_block-short, key_block-long, key_digest_blocks-short}
 use Rattle.ring_core.proofs.Costs.{raised-none}

@@ -1,3 +1,4 @@
+-- SPDX-License-Identifier: ISC
 use Rattle.std.proofs.Common.{◌≡◌, length, take, arith, ap, ◌∙◌, length-take-le}
 use Rattle.std.proofs.lemmas.List.{length-map, take-map}
 use Rattle.ring_core.specs.Prelude.{◌⊕◌}

@@ -1,3 +1,4 @@
+-- SPDX-License-Identifier: ISC
 use Rattle.ring.proofs.Lanes.{cost_two, signed-tag}
 use Rattle.ring.proofs.hmac.tag_of_digest.replace_by_tag.Goals as goal
 

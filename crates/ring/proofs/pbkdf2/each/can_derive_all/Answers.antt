@@ -1,3 +1,4 @@
+-- SPDX-License-Identifier: ISC
 use Rattle.std.proofs.Common.{below_more, length, rules, sym, true≢false}
 use Rattle.ring.specs.Prelude.{CanDerive, bytes_at}
 use Rattle.ring.proofs.Each.{message-read}

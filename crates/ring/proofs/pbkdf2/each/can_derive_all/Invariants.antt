@@ -1,3 +1,4 @@
+-- SPDX-License-Identifier: ISC
 use Rattle.std.proofs.Common.{ℕ, ◌<◌, length}
 use Rattle.ring.specs.Prelude.{CanDerive, bytes_at}
 use Rattle.ring.proofs.pbkdf2.each.can_derive_all.Given as goal

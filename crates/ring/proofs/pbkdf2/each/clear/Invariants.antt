@@ -1,3 +1,4 @@
+-- SPDX-License-Identifier: ISC
 use Rattle.std.proofs.Common.{◌≡◌, ℕ, ◌<◌, [], get_or, length}
 use Rattle.ring.proofs.pbkdf2.each.clear.Given as goal
 

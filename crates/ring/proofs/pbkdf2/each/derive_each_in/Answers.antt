@@ -1,3 +1,4 @@
+-- SPDX-License-Identifier: ISC
 use Rattle.std.proofs.Common.{◌≡◌, ◌<◌, ◌∙◌, [], ℕ, arith, get_or, length, refl, rules, sym}
 use Rattle.std.proofs.Common.{take_all}
 use Rattle.std.specs.Int.NonZero.{non_zero_u32_get}

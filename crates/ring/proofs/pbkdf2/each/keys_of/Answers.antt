@@ -1,3 +1,4 @@
+-- SPDX-License-Identifier: ISC
 use Rattle.std.proofs.Common.{◌≡◌, arith, length, refl, rules}
 use Rattle.ring.proofs.Each.{message-read}
 use Rattle.ring.proofs.lemmas.pbkdf2.KeysAt.{key_at, keys-all}

@@ -1,3 +1,4 @@
+-- SPDX-License-Identifier: ISC
 use Rattle.std.proofs.Common.{◌≡◌, length}
 use Rattle.ring.specs.Prelude.{bytes_at, hmac_digest, key_blocks}
 use Rattle.ring.proofs.lemmas.pbkdf2.KeysAt.{IsKeyAt}

@@ -1,3 +1,4 @@
+-- SPDX-License-Identifier: ISC
 use Rattle.std.proofs.Common.{◌≡◌, ◌↔◌, ◌<◌, [], ℕ, arith, false, get_or, length, refl, rules, true}
 use Rattle.std.specs.Int.NonZero.{non_zero_u32_get}
 use Rattle.ring.specs.Prelude.{AreVerified, CanVerify, IsDerived, bytes_at, pbkdf2_digest}

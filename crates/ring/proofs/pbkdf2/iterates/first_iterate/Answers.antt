@@ -1,3 +1,4 @@
+-- SPDX-License-Identifier: ISC
 use Rattle.std.proofs.Common.{◌∙◌, ◌++◌, ap, length, sym}
 use Rattle.ring.specs.Prelude.{hmac_of, key_algorithm}
 use Rattle.ring.proofs.lemmas.pbkdf2.Iterates.{pbkdf2_u-first}

@@ -1,3 +1,4 @@
+-- SPDX-License-Identifier: ISC
 use Rattle.std.proofs.Common.{◌≡◌, arith, refl}
 use Rattle.std.specs.Int.NonZero.{non_zero_u32_get}
 use Rattle.ring.proofs.lemmas.pbkdf2.Iterates.{blocks-next, made-first, made-next}

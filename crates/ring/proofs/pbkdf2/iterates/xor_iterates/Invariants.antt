@@ -1,3 +1,4 @@
+-- SPDX-License-Identifier: ISC
 use Rattle.std.proofs.Common.{◌≡◌, ℕ, ◌-◌, ◌*◌, List}
 use Rattle.ring.specs.Prelude.{IsKeyInLane, digest_bytes, pbkdf2_u, raised}
 use Rattle.ring.proofs.lemmas.pbkdf2.Iterates.{IsMade}

@@ -1,3 +1,4 @@
+-- SPDX-License-Identifier: ISC
 use Rattle.std.proofs.Common.{◌∙◌, ◌-◌, ◌<◌, ◌≤◌, ℕ, arith, length, length-take-le, refl, sym}
 use Rattle.std.specs.Int.NonZero.{non_zero_u32_get}
 use Rattle.ring.specs.Prelude.{bytes_at, iterate_blocks, len_before, round_on}

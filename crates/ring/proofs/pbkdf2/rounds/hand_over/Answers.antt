@@ -1,3 +1,4 @@
+-- SPDX-License-Identifier: ISC
 use Rattle.std.proofs.Common.{◌≡◌, ◌-◌, ◌*◌, ◌≤◌, arith, get_or, length, min, refl, rules}
 use Rattle.std.proofs.Common.{sym, take}
 use Rattle.std.proofs.lemmas.List.{length-take, take-take}
@@ -60,6 +61,7 @@ rounds-preserved g c =
           (rw (← wanted, ← made) (sym (take-take k (output_len a) output.0 fits)))
           c.take.ensures.ok);
       cost = raised-sum _ 0 (g.R.Receiver.pairs * before) 0 _ {t = g.R.Receiver.pairs * after}
-          h.cost (rw size at c.take.ensures.cost) (omega arith) (mul-sum g.R.Receiver.pairs before k after
+          h.cost (rw size at c.take.ensures.cost) (omega arith)
+          (mul-sum g.R.Receiver.pairs before k after
           (rw (next, ← len-next h.round, ← wanted) (omega (arith, h.more))));
     }

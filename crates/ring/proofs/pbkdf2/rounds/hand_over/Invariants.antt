@@ -1,3 +1,4 @@
+-- SPDX-License-Identifier: ISC
 use Rattle.std.proofs.Common.{◌≡◌, ◌-◌, ◌*◌, ◌<◌, ◌≤◌, ℕ, List, get_or, length, take}
 use Rattle.ring.specs.Prelude.{IsRound, KeepsPlaces, Output, Receives, bytes_before, len_before}
 use Rattle.ring.specs.Prelude.{output_len, pbkdf2_t, raised, round_on}

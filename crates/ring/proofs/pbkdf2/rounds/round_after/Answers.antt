@@ -1,3 +1,4 @@
+-- SPDX-License-Identifier: ISC
 use Rattle.std.proofs.Common.{◌<◌, ◌≤◌, ◌+◌, arith, refl}
 use Rattle.ring.specs.Prelude.{output_len}
 use Rattle.ring.proofs.lemmas.pbkdf2.Rounds.{next-new, next-same}

@@ -1,3 +1,4 @@
+-- SPDX-License-Identifier: ISC
 use Rattle.std.proofs.Common.{◌≡◌, ℕ, ◌-◌, ◌<◌, ◌≤◌}
 use Rattle.ring.specs.Prelude.{IsRound, round_on}
 use Rattle.ring.proofs.pbkdf2.rounds.rounds_from.Given as goal

@@ -1,3 +1,4 @@
+-- SPDX-License-Identifier: ISC
 use Rattle.std.proofs.Common.{◌≡◌, length}
 use Rattle.ring.specs.Prelude.{AreStarts, IsRound, first_blocks, round_on}
 use Rattle.ring.proofs.lemmas.pbkdf2.Places.{HasRisen}

@@ -1,3 +1,4 @@
+-- SPDX-License-Identifier: ISC
 use Rattle.std.proofs.Common.{◌≡◌, ℕ, length}
 use Rattle.std.specs.Int.NonZero.{non_zero_u32_get}
 use Rattle.ring.specs.Prelude.{BeginsWithRound, Output, round_on}

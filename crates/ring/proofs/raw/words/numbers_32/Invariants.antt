@@ -1,3 +1,4 @@
+-- SPDX-License-Identifier: ISC
 use Rattle.std.proofs.Common.{◌≡◌, length, take}
 use Rattle.ring_core.specs.Prelude.{words_32}
 use Rattle.ring.proofs.raw.words.numbers_32.Given as goal

@@ -1,3 +1,4 @@
+-- SPDX-License-Identifier: ISC
 use Rattle.std.proofs.Common.{◌≡◌, length, take}
 use Rattle.ring_core.specs.Prelude.{words_64}
 use Rattle.ring.proofs.raw.words.numbers_64.Given as goal

@@ -1,3 +1,4 @@
+-- SPDX-License-Identifier: ISC
 use Rattle.std.proofs.Common.{◌≡◌, ◌%◌, ◌^◌, length, map, take}
 use Rattle.ring_core.specs.Prelude.{words_32}
 use Rattle.ring.proofs.raw.words.words_of_32.Given as goal

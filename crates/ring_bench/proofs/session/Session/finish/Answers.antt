@@ -1,3 +1,4 @@
+-- SPDX-License-Identifier: ISC
 use Rattle.std.proofs.Common.{◌≡◌, ◌<◌, length, rules}
 use Rattle.ring_bench.proofs.FedTexts.{open-answered, open-status, none-answered, none-status}
 use Rattle.ring_bench.proofs.session.Session.finish.Goals as goal

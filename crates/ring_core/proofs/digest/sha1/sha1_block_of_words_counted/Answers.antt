@@ -1,3 +1,4 @@
+-- SPDX-License-Identifier: ISC
 use Rattle.ring_core.proofs.digest.sha1.sha1_block_of_words_counted.Goals as goal
 
 pub returns-clause-words : goal.returns-clause-words

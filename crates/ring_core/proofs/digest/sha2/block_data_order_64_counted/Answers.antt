@@ -1,3 +1,4 @@
+-- SPDX-License-Identifier: ISC
 use Rattle.ring_core.proofs.digest.sha2.block_data_order_64_counted.Goals as goal
 
 pub returns-clause-words : goal.returns-clause-words

@@ -1,3 +1,4 @@
+-- SPDX-License-Identifier: ISC
 use Rattle.std.proofs.Common.{[]}
 use Rattle.std.proofs.Math.ListN.{get_or}
 use Rattle.ring_core.proofs.digest.sha2.block_data_order_lanes_counted.Goals as goal

@@ -1,3 +1,4 @@
+-- SPDX-License-Identifier: ISC
 use Rattle.ring_core.proofs.digest.sha2.run_words.Goals as goal
 
 pub returns-clause-words : goal.returns-clause-words

@@ -1,3 +1,4 @@
+-- SPDX-License-Identifier: ISC
 use Rattle.std.proofs.Common.{◌≡◌, ℕ, ◌<◌, [], length, slice_index, map}
 use Rattle.std.proofs.Math.ListN.{get_or}
 use Rattle.ring_core.proofs.digest.states.words_at.Given as goal

@@ -1,3 +1,4 @@
+-- SPDX-License-Identifier: ISC
 use Rattle.std.proofs.Common.{◌≡◌, ◌<◌, ap, arith}
 use Rattle.std.specs.Prelude.{Err}
 use Rattle.ring_password_hash.specs.Hash.{kind_of}

@@ -1,3 +1,4 @@
+-- SPDX-License-Identifier: ISC
 use Rattle.std.proofs.Common.{◌≢◌, ◌<◌}
 use Rattle.ring_password_hash.specs.Hash.{IsHash, kind_of, text_of}
 use Rattle.ring_password_hash.specs.declared.password_hash.PasswordHash.{PasswordHash}

@@ -1,3 +1,4 @@
+-- SPDX-License-Identifier: ISC
 use Rattle.std.proofs.Common.{rules, ◌≡◌, length}
 use Rattle.ring_password_hash.specs.Hash.{hash_of, hash_text, iterations_of, kind_of}
 use Rattle.ring_password_hash.specs.Hash.{parameters_of, salt_of}

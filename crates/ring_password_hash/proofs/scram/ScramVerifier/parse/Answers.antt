@@ -1,3 +1,4 @@
+-- SPDX-License-Identifier: ISC
 use Rattle.std.proofs.Common.{◌≡◌, ℕ, List, ◌++◌, length, ap, refl, sym, ◌∙◌, inl, inr, codes}
 use Rattle.std.proofs.Common.{rules, true≢false}
 use Rattle.std.specs.Prelude.{Err}

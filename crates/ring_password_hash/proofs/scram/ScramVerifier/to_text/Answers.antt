@@ -1,3 +1,4 @@
+-- SPDX-License-Identifier: ISC
 use Rattle.std.proofs.Common.{codes}
 use Rattle.ring_password_hash.specs.Scram.{scram_text}
 use Rattle.ring_password_hash.proofs.Written.{scram_written}

@@ -1,3 +1,4 @@
+-- SPDX-License-Identifier: ISC
 use Rattle.std.proofs.Common.{rules, ◌≡◌, ◌+◌, ℕ, ap, arith, length, refl, ◌∙◌}
 use Rattle.ring.specs.Prelude.{Counts, compared_pairs, raised}
 use Rattle.ring_password_hash.specs.Scram.{iterations_of, verifier_blocks}

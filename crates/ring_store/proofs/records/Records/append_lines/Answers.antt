@@ -1,3 +1,4 @@
+-- SPDX-License-Identifier: ISC
 use Rattle.std.proofs.Common.{◌++◌, [], sym, ap, ◌∙◌, append-nil}
 use Rattle.ring_store.specs.Records.{named}
 use Rattle.ring_store.specs.Text.{lines_of, record_then}

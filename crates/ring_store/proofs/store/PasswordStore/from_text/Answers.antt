@@ -1,3 +1,4 @@
+-- SPDX-License-Identifier: ISC
 use Rattle.std.proofs.Common.{sym, ap, ◌∙◌}
 use Rattle.ring_store.specs.Text.{head_then}
 use Rattle.ring_store.proofs.Stores.{lines_behind}

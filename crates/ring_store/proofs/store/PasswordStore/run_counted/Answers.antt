@@ -1,3 +1,4 @@
+-- SPDX-License-Identifier: ISC
 use Rattle.std.proofs.Common.{arith}
 use Rattle.ring_store.proofs.Runs.{IsCountedRun-more, IsRun-more, NextCommand}
 use Rattle.ring_store.proofs.store.PasswordStore.run_counted.Goals as goal

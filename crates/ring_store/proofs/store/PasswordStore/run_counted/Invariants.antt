@@ -1,3 +1,4 @@
+-- SPDX-License-Identifier: ISC
 use Rattle.std.proofs.Common.{take}
 use Rattle.ring_store.specs.Command.{IsCountedRun, IsRun}
 use Rattle.ring_store.proofs.store.PasswordStore.run_counted.Given as goal

@@ -1,3 +1,4 @@
+-- SPDX-License-Identifier: ISC
 use Rattle.std.specs.FinMap as table
 use Rattle.ring_store.specs.Text.{lines_of}
 use Rattle.ring_store.proofs.Texts.{text_written}

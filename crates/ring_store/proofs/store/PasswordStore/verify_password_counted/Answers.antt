@@ -1,3 +1,4 @@
+-- SPDX-License-Identifier: ISC
 use Rattle.std.proofs.Common.{rules, ◌≡◌, ℕ, ◌+◌, ap, ◌∙◌}
 use Rattle.ring.specs.Cost.{Counts, raised}
 use Rattle.ring.proofs.Costs.{raised-raised}

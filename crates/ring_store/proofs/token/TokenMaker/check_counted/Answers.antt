@@ -1,3 +1,4 @@
+-- SPDX-License-Identifier: ISC
 use Rattle.std.proofs.Common.{rules, ◌≡◌, ℕ, ◌+◌, length, ap, ◌∙◌, add-zero, zero-add}
 use Rattle.ring.specs.Cost.{Counts, compared_pairs, raised}
 use Rattle.ring.proofs.Costs.{raised-raised}

@@ -1,3 +1,4 @@
+-- SPDX-License-Identifier: ISC
 use Rattle.std.proofs.Common.{rules, ◌≡◌, ℕ, ◌+◌, List, [], ◌++◌, length, length-append, ap, ◌∙◌}
 use Rattle.std.specs.Int.{bytes_high_first}
 use Rattle.ring.specs.Cost.{padded_blocks, raised}

@@ -1,3 +1,4 @@
+-- SPDX-License-Identifier: ISC
 use Rattle.std.proofs.Common.{◌≡◌, ℕ, List, length, refl, subst, ap, ◌∙◌}
 use Rattle.std.proofs.Common.{◌+◌, codes}
 use Rattle.ring.specs.Cost.{Counts, key_blocks, padded_blocks, raised}

@@ -1,3 +1,4 @@
+-- SPDX-License-Identifier: ISC
 use Rattle.std.proofs.Common.{◌∷◌, [], arith, length-append}
 use Rattle.ring_sums.specs.Check.{is_other, is_same, is_unread}
 use Rattle.ring_sums.proofs.Counted.{count-below, count-more, one_if-below}

@@ -1,3 +1,4 @@
+-- SPDX-License-Identifier: ISC
 use Rattle.std.proofs.Common.{◌∙◌, sym}
 use Rattle.ring_sums.proofs.InLanes.{in-more, in-new}
 use Rattle.ring_sums.proofs.lanes.Lanes.begin.Goals as goal

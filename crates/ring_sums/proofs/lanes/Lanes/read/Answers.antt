@@ -1,3 +1,4 @@
+-- SPDX-License-Identifier: ISC
 use Rattle.std.proofs.Common.{◌<◌, ◌≤◌, ◌∙◌, arith, get_or, length, subst}
 use Rattle.std.proofs.lemmas.List.{get_or_default}
 use Rattle.ring_sums.specs.Lane.{IsRead}

@@ -1,3 +1,4 @@
+-- SPDX-License-Identifier: ISC
 use Rattle.std.proofs.Common.{◌≡◌}
 use Rattle.ring_sums.proofs.InLanes.{AreStepped}
 use Rattle.ring_sums.specs.Lane.{IsRead}

@@ -1,3 +1,4 @@
+-- SPDX-License-Identifier: ISC
 use Rattle.std.proofs.Common.{◌≤◌, arith, length}
 use Rattle.ring_sums.proofs.InLanes.{skipping-all}
 use Rattle.ring_sums.proofs.lanes.Lanes.skip.Goals as goal

@@ -1,3 +1,4 @@
+-- SPDX-License-Identifier: ISC
 use Rattle.std.proofs.Common.{◌≡◌, arith, drop, length}
 use Rattle.std.proofs.lemmas.List.{take_at}
 use Rattle.ring_sums.proofs.InLanes.{are-taken}

@@ -1,3 +1,4 @@
+-- SPDX-License-Identifier: ISC
 use Rattle.ring_sums.proofs.lanes.Lanes.update.Goals as goal
 
 pub returns-clause-going : goal.returns-clause-going

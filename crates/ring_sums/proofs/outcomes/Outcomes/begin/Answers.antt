@@ -1,3 +1,4 @@
+-- SPDX-License-Identifier: ISC
 use Rattle.std.proofs.Common.{◌<◌, arith, length}
 use Rattle.ring_sums.specs.Outcomes.{AreOf}
 use Rattle.ring_sums.proofs.WantedFiles.{of-first}

@@ -1,3 +1,4 @@
+-- SPDX-License-Identifier: ISC
 use Rattle.std.proofs.Common.{◌∷◌, [], arith, length-append, sym}
 use Rattle.ring_sums.proofs.WantedFiles.{of-more}
 use Rattle.ring_sums.proofs.outcomes.Outcomes.gather.Goals as goal

@@ -1,3 +1,4 @@
+-- SPDX-License-Identifier: ISC
 use Rattle.std.proofs.Common.{◌∙◌, ap, arith, drop, refl, sym}
 use Rattle.ring.proofs.Outcomes.{if_ok_map}
 use Rattle.ring_sums.proofs.WantedFiles.{all-given, answered}

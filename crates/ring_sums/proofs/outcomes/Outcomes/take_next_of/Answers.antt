@@ -1,3 +1,4 @@
+-- SPDX-License-Identifier: ISC
 use Rattle.std.proofs.Common.{refl}
 use Rattle.ring_sums.proofs.outcomes.Outcomes.take_next_of.Goals as goal
 

@@ -1,3 +1,4 @@
+-- SPDX-License-Identifier: ISC
 use Rattle.std.proofs.Common.{◌≡◌, ◌-◌, ◌∷◌, [], None, arith, length, length-append, refl, subst}
 use Rattle.std.proofs.Common.{sym}
 use Rattle.std.specs.Vec.Iter.{into_iter_items}

@@ -1,3 +1,4 @@
+-- SPDX-License-Identifier: ISC
 use Rattle.std.proofs.Common.{◌≡◌, ◌+◌, ◌∙◌, ℕ, ap, arith, length, subst, sym}
 use Rattle.std.proofs.Common.{List, Option}
 use Rattle.std.specs.Vec.Iter.{into_iter_items}

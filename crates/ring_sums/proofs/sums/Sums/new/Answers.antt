@@ -1,3 +1,4 @@
+-- SPDX-License-Identifier: ISC
 use Rattle.std.proofs.Common.{◌≡◌, ◌-◌, ℕ, ap, arith, drop, length, refl, sym}
 use Rattle.ring_sums.proofs.InLanes.{in-none}
 use Rattle.ring_sums.proofs.sums.Sums.new.Goals as goal

@@ -1,3 +1,4 @@
+-- SPDX-License-Identifier: ISC
 use Rattle.ring_sums.proofs.FoundOutcomes.{pending-kept}
 use Rattle.ring_sums.proofs.sums.Sums.run_round.Goals as goal
 

@@ -1,3 +1,4 @@
+-- SPDX-License-Identifier: ISC
 use Rattle.std.proofs.Common.{refl}
 use Rattle.ring.proofs.lemmas.digest.Blocks.{HasTaken-nil}
 use Rattle.ring.proofs.digest.block_context.BlockContext.new.Goals as goal

@@ -1,3 +1,4 @@
+-- SPDX-License-Identifier: ISC
 use Rattle.std.proofs.Common.{◌≡◌, ◌++◌, ◌+◌, ℕ, List, take, arith, sym, ◌∙◌, ap, length}
 use Rattle.ring.specs.Prelude.{Digest, block_words, blocks_from, bytes_of, counted_bytes, cut_off}
 use Rattle.ring.specs.Prelude.{digest_after, output_len, tail_of, word_bytes, word_len}

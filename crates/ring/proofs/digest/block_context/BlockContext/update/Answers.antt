@@ -1,3 +1,4 @@
+-- SPDX-License-Identifier: ISC
 use Rattle.std.proofs.Common.{refl}
 use Rattle.ring.proofs.lemmas.digest.Updating.{moved_none}
 use Rattle.ring.proofs.digest.block_context.BlockContext.update.Goals as goal

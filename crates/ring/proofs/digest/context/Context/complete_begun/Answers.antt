@@ -1,3 +1,4 @@
+-- SPDX-License-Identifier: ISC
 use Rattle.std.proofs.Common.{arith, sym}
 use Rattle.std.proofs.lemmas.List.{take-append-drop}
 use Rattle.ring.specs.Prelude.{IsUpdated}

@@ -1,3 +1,4 @@
+-- SPDX-License-Identifier: ISC
 use Rattle.std.proofs.Common.{◌∙◌, arith, refl}
 use Rattle.std.proofs.lemmas.List.{take_rest}
 use Rattle.ring.proofs.lemmas.digest.GoingOn.{HasRun, blocks_fit, updated_rest}

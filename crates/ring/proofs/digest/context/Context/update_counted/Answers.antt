@@ -1,3 +1,4 @@
+-- SPDX-License-Identifier: ISC
 use Rattle.std.proofs.Common.{ℕ, ◌≤◌, ◌++◌, List, length, refl, arith, ◌∙◌, ap, append_assoc, sym}
 use Rattle.ring.specs.Prelude.{block_words, digest_after, pending_bytes, raised}
 use Rattle.ring.proofs.Rows.{block_len-most}

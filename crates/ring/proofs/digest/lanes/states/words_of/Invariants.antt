@@ -1,3 +1,4 @@
+-- SPDX-License-Identifier: ISC
 use Rattle.std.proofs.Common.{◌≡◌, ℕ, ◌<◌, [], get_or, length, map}
 use Rattle.ring.specs.Prelude.{DynState, words}
 use Rattle.ring.proofs.digest.lanes.states.words_of.Given as goal

@@ -1,3 +1,4 @@
+-- SPDX-License-Identifier: ISC
 use Rattle.std.proofs.Common.{◌≡◌, length, map, rules}
 use Rattle.std.proofs.Math.ListN.{length-map}
 use Rattle.ring_core.proofs.Vectors.{xor_eight}

@@ -1,3 +1,4 @@
+-- SPDX-License-Identifier: ISC
 use Rattle.std.proofs.Common.{refl}
 use Rattle.ring.proofs.hkdf.conversions.PrkTryFromOkmAlgorithm.try_from.Goals as goal
 

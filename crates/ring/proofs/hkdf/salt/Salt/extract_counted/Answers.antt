@@ -1,3 +1,4 @@
+-- SPDX-License-Identifier: ISC
 use Rattle.std.proofs.Common.{◌≡◌, ◌+◌, ◌≤◌, ℕ, length, ap, ◌∙◌, arith}
 use Rattle.ring.specs.Prelude.{Algorithm, Counts, block_len, key_blocks, output_len, padded_blocks}
 use Rattle.ring.specs.Prelude.{raised}

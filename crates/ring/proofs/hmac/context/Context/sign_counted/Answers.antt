@@ -1,3 +1,4 @@
+-- SPDX-License-Identifier: ISC
 use Rattle.std.proofs.Common.{◌+◌, ℕ, ap, ◌∙◌}
 use Rattle.ring.specs.Prelude.{context_algorithm, raised}
 use Rattle.ring_core.proofs.Costs.{raised-raised}

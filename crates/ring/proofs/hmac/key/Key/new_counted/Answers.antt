@@ -1,3 +1,4 @@
+-- SPDX-License-Identifier: ISC
 use Rattle.std.proofs.Common.{length, ◌∙◌}
 use Rattle.ring.specs.Prelude.{hmac_digest, key_digest_blocks, raised}
 use Rattle.ring_core.proofs.Costs.{raised-raised}

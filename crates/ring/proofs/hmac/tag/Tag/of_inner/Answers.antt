@@ -1,3 +1,4 @@
+-- SPDX-License-Identifier: ISC
 use Rattle.std.proofs.Common.{refl}
 use Rattle.ring.proofs.lemmas.hmac.Keys.{tag_is}
 use Rattle.ring.proofs.hmac.tag.Tag.of_inner.Goals as goal

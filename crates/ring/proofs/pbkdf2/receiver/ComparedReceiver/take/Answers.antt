@@ -1,3 +1,4 @@
+-- SPDX-License-Identifier: ISC
 use Rattle.std.proofs.Common.{◌≡◌, ◌+◌, ◌-◌, arith, length}
 use Rattle.ring.proofs.lemmas.pbkdf2.Taking.{compared-part}
 use Rattle.ring.proofs.pbkdf2.receiver.ComparedReceiver.take.Goals as goal

@@ -1,3 +1,4 @@
+-- SPDX-License-Identifier: ISC
 use Rattle.std.proofs.Common.{◌≡◌, ◌≢◌, ◌+◌, ◌++◌, ◌∙◌, ℕ, ap, arith, length, length-append}
 use Rattle.ring.proofs.pbkdf2.receiver.WrittenEachReceiver.take.Goals as goal
 

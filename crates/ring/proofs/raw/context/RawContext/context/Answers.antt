@@ -1,3 +1,4 @@
+-- SPDX-License-Identifier: ISC
 use Rattle.std.proofs.Common.{rules}
 use Rattle.ring.specs.Prelude.{RawStandsFor, StandsFor}
 use Rattle.ring.proofs.lemmas.raw.Numbers.{is_context, taken_raw}

@@ -1,3 +1,4 @@
+-- SPDX-License-Identifier: ISC
 use Rattle.std.proofs.Common.{◌≡◌, ◌≤◌, ◌+◌, ◌++◌, ℕ, List, arith, rules, ap, sym, subst, ◌∙◌}
 use Rattle.std.proofs.Common.{[], Some, append-nil, length, length-take-le, refl, take}
 use Rattle.std.proofs.lemmas.Option.{same_Some}

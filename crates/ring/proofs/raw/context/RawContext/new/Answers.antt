@@ -1,3 +1,4 @@
+-- SPDX-License-Identifier: ISC
 use Rattle.std.proofs.Common.{◌∙◌}
 use Rattle.ring.specs.Prelude.{RawStandsFor, StandsFor}
 use Rattle.ring.proofs.raw.context.RawContext.new.Goals as goal

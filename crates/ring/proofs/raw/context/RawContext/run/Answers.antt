@@ -1,3 +1,4 @@
+-- SPDX-License-Identifier: ISC
 use Rattle.std.proofs.Common.{ap, arith, rules}
 use Rattle.ring.specs.Prelude.{block_len}
 use Rattle.ring.proofs.lemmas.raw.Numbers.{is_context, named_len}

@@ -1,3 +1,4 @@
+-- SPDX-License-Identifier: ISC
 use Rattle.std.proofs.Common.{◌≡◌, ◌*◌, ◌++◌, Some, ap, arith, subst, sym, take, ◌∙◌}
 use Rattle.std.proofs.lemmas.Option.{same_Some}
 use Rattle.ring.specs.Prelude.{Algorithm, IsRawState, RawStandsFor, block_len}

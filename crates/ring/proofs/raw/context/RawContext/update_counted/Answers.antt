@@ -1,3 +1,4 @@
+-- SPDX-License-Identifier: ISC
 use Rattle.std.proofs.Common.{◌≡◌, ◌≤◌, ◌+◌, ◌<◌, ℕ, Some, ap, arith, length, subst, sym, ◌∙◌}
 use Rattle.ring.specs.Prelude.{RawContext, RawStandsFor, block_len, digest_named, raised}
 use Rattle.ring.specs.Prelude.{whole_blocks}

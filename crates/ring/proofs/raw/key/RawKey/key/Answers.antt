@@ -1,3 +1,4 @@
+-- SPDX-License-Identifier: ISC
 use Rattle.std.proofs.Common.{◌≡◌, sym, ap, subst, ◌∙◌, arith, length}
 use Rattle.std.proofs.lemmas.Option.{same_Some}
 use Rattle.ring.specs.Prelude.{Algorithm, IsRawState, RawKeyStandsFor, block_len, cut_off}

@@ -1,3 +1,4 @@
+-- SPDX-License-Identifier: ISC
 use Rattle.std.proofs.Common.{◌≡◌, ◌≤◌, rules, sym, ap, subst, ◌∙◌, arith, length}
 use Rattle.ring.specs.Prelude.{Algorithm, IsRawState, RawTagStandsFor, block_len, context_algorithm}
 use Rattle.ring.specs.Prelude.{cut_off, message_len, outer_block}

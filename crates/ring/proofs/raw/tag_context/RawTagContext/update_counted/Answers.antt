@@ -1,3 +1,4 @@
+-- SPDX-License-Identifier: ISC
 use Rattle.std.proofs.Common.{rules}
 use Rattle.ring.proofs.lemmas.raw.Numbers.{key_block_counted}
 use Rattle.ring.proofs.raw.tag_context.RawTagContext.update_counted.Goals as goal

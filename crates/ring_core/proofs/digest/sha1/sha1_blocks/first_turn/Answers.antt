@@ -1,23 +1,24 @@
+-- SPDX-License-Identifier: ISC
 use Rattle.std.proofs.Common.{◌≡◌, refl}
 use Rattle.ring_core.specs.Prelude.{four}
 use Rattle.ring_core.specs.Sha1.{W}
-use Rattle.ring_core.proofs.FourWords.{are-window, in_lists, next-window}
+use Rattle.ring_core.proofs.FourWords.{are-sixteen, in_lists, next-sixteen}
 use Rattle.ring_core.proofs.Sha1FourWords.{W-next_four}
 use Rattle.ring_core.proofs.digest.sha1.sha1_blocks.first_turn.Goals as goal
 
 pub returns : goal.returns
 returns c = λ h b before.
     let w = W b in
-    let words0 = in_lists c.args.words before.schedule.window in
+    let words0 = in_lists c.args.words before.schedule.sixteen in
     let fifth : c.next_four-fifth.result ≡ four w 4 =
     W-next_four b 0 words0 c.next_four-fifth.ensures in
-    let words1 = next-window 4 refl words0 fifth in
+    let words1 = next-sixteen 4 refl words0 fifth in
     let sixth : c.next_four-sixth.result ≡ four w 5 =
     W-next_four b 1 words1 c.next_four-sixth.ensures in
-    let words2 = next-window 5 refl words1 sixth in
+    let words2 = next-sixteen 5 refl words1 sixth in
     let seventh : c.next_four-seventh.result ≡ four w 6 =
     W-next_four b 2 words2 c.next_four-seventh.ensures in
-    let words3 = next-window 6 refl words2 seventh in
+    let words3 = next-sixteen 6 refl words2 seventh in
     let eighth : c.next_four-eighth.result ≡ four w 7 =
     W-next_four b 3 words3 c.next_four-eighth.ensures in
     let s0 = before.schedule.ready in
@@ -29,7 +30,7 @@ returns c = λ h b before.
     let r3 = c.four_rounds_ahead-v-3.ensures.rounds h b 6 2 refl refl s2 r2 in
     record {
       schedule = record {
-        window = are-window (next-window 7 refl words3 eighth);
+        sixteen = are-sixteen (next-sixteen 7 refl words3 eighth);
         ready = c.four_rounds_ahead.ensures.sums b 7 refl eighth s3;
       };
       variables = c.four_rounds_ahead.ensures.rounds h b 7 3 refl refl s3 r3;

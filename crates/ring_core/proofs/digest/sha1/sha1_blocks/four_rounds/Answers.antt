@@ -1,3 +1,4 @@
+-- SPDX-License-Identifier: ISC
 use Rattle.std.proofs.Common.{◌≡◌, ◌+◌, ◌*◌, ◌/◌, ◌%◌, ◌<◌, ◌≤◌, map, arith}
 use Rattle.ring_core.specs.Prelude.{low_32}
 use Rattle.ring_core.specs.Sha1.{W, round}

@@ -1,3 +1,4 @@
+-- SPDX-License-Identifier: ISC
 use Rattle.std.proofs.Common.{arith}
 use Rattle.ring_core.proofs.digest.sha1.sha1_blocks.four_rounds_ahead.Goals as goal
 

@@ -1,3 +1,4 @@
+-- SPDX-License-Identifier: ISC
 use Rattle.std.proofs.Common.{refl, arith}
 use Rattle.ring_core.proofs.digest.sha1.sha1_blocks.last_turn.Goals as goal
 

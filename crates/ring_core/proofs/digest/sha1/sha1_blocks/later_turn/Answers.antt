@@ -1,12 +1,13 @@
+-- SPDX-License-Identifier: ISC
 use Rattle.std.proofs.Common.{◌≡◌, ◌+◌, arith}
-use Rattle.ring_core.proofs.FourWords.{are-window, in_lists}
+use Rattle.ring_core.proofs.FourWords.{are-sixteen, in_lists}
 use Rattle.ring_core.proofs.Sha1FourWords.{W-later_turn}
 use Rattle.ring_core.proofs.digest.sha1.sha1_blocks.later_turn.Goals as goal
 
 pub returns : goal.returns
 returns g c = λ h b n here fits older before.
     let next = W-later_turn b fits (in_lists c.args.older older)
-    (in_lists c.args.newer before.schedule.window) c.later_four-ninth.ensures
+    (in_lists c.args.newer before.schedule.sixteen) c.later_four-ninth.ensures
     c.later_four-tenth.ensures c.later_four-eleventh.ensures c.later_four-twelfth.ensures in
     let e0 : n + 4 + 4 ≡ n + 8 = omega arith in
     let e2 : n + 8 + 1 + 1 ≡ n + 8 + 2 = omega arith in
@@ -27,7 +28,7 @@ returns g c = λ h b n here fits older before.
     let r4 = fourth.rounds h b (n + 8 + 3) (n + 4 + 1 + 1 + 1) (omega arith) (omega arith) s3 r3 in
     record {
       schedule = record {
-        window = are-window next;
+        sixteen = are-sixteen next;
         ready = rw e4 at (fourth.sums b (n + 8 + 3) (omega arith) next.fourth s3);
       };
       variables = rw end at r4;

@@ -1,3 +1,4 @@
+-- SPDX-License-Identifier: ISC
 use Rattle.std.proofs.Common.{◌≡◌, ◌≤◌, length, map, refl, rules, sym, take, arith}
 use Rattle.std.proofs.Math.ListN.{length-map}
 use Rattle.ring_core.specs.Prelude.{word_32}
@@ -19,9 +20,9 @@ returns-clause-words c = λ b fits ready.
       variables =
           rw (first_five (map word_32 state) enough) (simp (value_read word_32 state 8 long) refl);
     }) in
-    let turn2 = c.later_turn-third.ensures h b 0 refl fits ready.window turn1 in
-    let turn3 = c.later_turn-fourth.ensures h b 4 refl fits turn1.schedule.window turn2 in
-    let turn4 = c.later_turn.ensures h b 8 refl fits turn2.schedule.window turn3 in
+    let turn2 = c.later_turn-third.ensures h b 0 refl fits ready.sixteen turn1 in
+    let turn3 = c.later_turn-fourth.ensures h b 4 refl fits turn1.schedule.sixteen turn2 in
+    let turn4 = c.later_turn.ensures h b 8 refl fits turn2.schedule.sixteen turn3 in
     let done = c.last_turn-last.ensures h b turn4.schedule.ready turn4.variables in
     let last = rounds_from h b 80 in
     let first : add_state h last ≡ add_state (map word_32 state) last =

@@ -1,3 +1,4 @@
+-- SPDX-License-Identifier: ISC
 use Rattle.std.proofs.Common.{map, take, refl, sym, ◌∙◌}
 use Rattle.ring_core.specs.Prelude.{fold_chunks, word_32}
 use Rattle.ring_core.specs.Sha1.{block_step}

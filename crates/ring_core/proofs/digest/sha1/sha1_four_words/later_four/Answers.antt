@@ -1,3 +1,4 @@
+-- SPDX-License-Identifier: ISC
 use Rattle.std.proofs.Common.{ℕ, [], ◌∷◌}
 use Rattle.ring_core.specs.Prelude.{◌⊕◌, rotl}
 use Rattle.ring_core.proofs.FourWords.{four_lanes}

@@ -1,7 +1,8 @@
+-- SPDX-License-Identifier: ISC
 use Rattle.std.proofs.Common.{◌≡◌, length, map, refl, arith, rules}
 use Rattle.ring_core.specs.Prelude.{four, low_32}
 use Rattle.ring_core.specs.Sha1.{W}
-use Rattle.ring_core.proofs.FourWords.{AreWindow, low-lanes}
+use Rattle.ring_core.proofs.FourWords.{AreSixteen, low-lanes}
 use Rattle.ring_core.proofs.Schedule.{sums-empty}
 use Rattle.ring_core.proofs.Sha1FourWords.{four-loaded, words-of-lanes}
 use Rattle.ring_core.proofs.digest.sha1.sha1_four_words.load.Goals as goal
@@ -27,14 +28,14 @@ returns-clause-schedule c =
     let s2 = c.put_sums-2.ensures b 1 refl second s1 in
     let s3 = c.put_sums-3.ensures b 2 refl third s2 in
     record {
-      window = rw (first, second, third, fourth) refl;
+      sixteen = rw (first, second, third, fourth) refl;
       ready = c.put_sums-4.ensures b 3 refl fourth s3;
     }
 
 pub returns-clause-fits : goal.returns-clause-fits
 returns-clause-fits c =
     let b = c.args.block.now in
-    let are : AreWindow (W b) 0 (map low_32 c.read_four-first.result)
+    let are : AreSixteen (W b) 0 (map low_32 c.read_four-first.result)
     (map low_32 c.read_four-second.result) (map low_32 c.read_four-third.result)
     (map low_32 c.read_four-fourth.result) = record {
       first = rw c.read_four-first.ensures (four-loaded b 0 (omega arith));

@@ -1,3 +1,4 @@
+-- SPDX-License-Identifier: ISC
 use Rattle.std.proofs.Common.{map, refl, arith}
 use Rattle.ring_core.specs.Prelude.{low_32}
 use Rattle.ring_core.specs.Sha1.{ready_sum}

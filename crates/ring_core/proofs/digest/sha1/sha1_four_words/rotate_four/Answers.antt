@@ -1,3 +1,4 @@
+-- SPDX-License-Identifier: ISC
 use Rattle.std.proofs.Common.{arith, refl}
 use Rattle.ring_core.proofs.FourWords.{four_lanes}
 use Rattle.ring_core.proofs.Rotation.{or_of_shifts-rotr}

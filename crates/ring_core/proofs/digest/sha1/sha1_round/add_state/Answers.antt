@@ -1,3 +1,4 @@
+-- SPDX-License-Identifier: ISC
 use Rattle.std.proofs.Common.{◌≡◌, arith, length, rules}
 use Rattle.ring_core.proofs.Five.{last_three}
 use Rattle.ring_core.proofs.Mapped.{value_read}

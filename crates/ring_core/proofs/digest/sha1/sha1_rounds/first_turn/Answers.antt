@@ -1,3 +1,4 @@
+-- SPDX-License-Identifier: ISC
 use Rattle.std.proofs.Common.{map, refl, arith}
 use Rattle.ring_core.specs.Sha1.{rounds_from}
 use Rattle.ring_core.proofs.digest.sha1.sha1_rounds.first_turn.Goals as goal

@@ -1,3 +1,4 @@
+-- SPDX-License-Identifier: ISC
 use Rattle.std.proofs.Common.{◌≡◌, ◌+◌, arith}
 use Rattle.ring_core.proofs.digest.sha1.sha1_rounds.next_four_rounds.Goals as goal
 

@@ -1,10 +1,11 @@
+-- SPDX-License-Identifier: ISC
 use Rattle.std.proofs.Common.{◌≡◌, ◌≤◌, length, map, take, sym, arith, rules}
 use Rattle.std.proofs.Math.ListN.{length-map}
 use Rattle.ring_core.specs.Prelude.{IsBefore}
 use Rattle.ring_core.specs.Sha1.{W, add_state, rounds_from}
 use Rattle.ring_core.proofs.Five.{first_five, add_state-take}
 use Rattle.ring_core.proofs.Mapped.{value_read}
-use Rattle.ring_core.proofs.Sha1Steps.{block_step-rounds, ring-loaded}
+use Rattle.ring_core.proofs.Sha1Steps.{block_step-rounds, window-loaded}
 use Rattle.ring_core.proofs.digest.sha1.sha1_rounds.run_loaded.Goals as goal
 
 pub returns-clause-words : goal.returns-clause-words
@@ -14,9 +15,9 @@ returns-clause-words g c = λ i block loaded.
     let h = take 5 (map f state) in
     let long : length state ≡ 8 = search rules in
     let enough : 5 ≤ length (map f state) = simp length-map (omega arith) in
-    let ring = map (g.S.Slots.slot_lane i) c.args.ring.now in
-    let ready = ring-loaded block ring loaded in
-    let r16 : IsBefore (W block) (rounds_from h block) ring (map f c.first_turn-v.result) 16 =
+    let window = map (g.S.Slots.slot_lane i) c.args.window.now in
+    let ready = window-loaded block window loaded in
+    let r16 : IsBefore (W block) (rounds_from h block) window (map f c.first_turn-v.result) 16 =
     record {
       words = ready;
       variables =

@@ -1,3 +1,4 @@
+-- SPDX-License-Identifier: ISC
 use Rattle.std.proofs.Common.{◌-◌, refl, arith}
 use Rattle.ring_core.specs.Sha1.{W}
 use Rattle.ring_core.proofs.Sha1Steps.{W-next_two}

@@ -1,3 +1,4 @@
+-- SPDX-License-Identifier: ISC
 use Rattle.std.proofs.Common.{refl}
 use Rattle.ring_core.specs.Prelude.{constants_256, constants_512, first_primes}
 use Rattle.ring_core.proofs.Roots.{fraction_at}

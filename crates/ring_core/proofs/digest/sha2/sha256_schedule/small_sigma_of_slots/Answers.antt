@@ -1,3 +1,4 @@
+-- SPDX-License-Identifier: ISC
 use Rattle.std.proofs.Common.{ℕ, ◌^◌, ◌/◌, [], ◌∷◌, map, arith, refl, sym, ap, ◌∙◌, mod-lt, pow_pos}
 use Rattle.ring_core.specs.Prelude.{low_32, two_rotations_and_shift}
 use Rattle.ring_core.proofs.Lanes.{two_lanes}

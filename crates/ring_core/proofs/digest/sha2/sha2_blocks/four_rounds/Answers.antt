@@ -1,3 +1,4 @@
+-- SPDX-License-Identifier: ISC
 use Rattle.std.proofs.Common.{◌≡◌, ◌+◌, ◌*◌, ◌%◌, ◌<◌, ◌≤◌, slice_index}
 use Rattle.ring_core.specs.Prelude.{W, round}
 use Rattle.ring_core.proofs.Schedule.{steps-four, sum-read}

@@ -1,6 +1,7 @@
+-- SPDX-License-Identifier: ISC
 use Rattle.std.proofs.Common.{◌≡◌, ◌+◌, ◌*◌, ◌%◌, ◌<◌, ◌≤◌, slice_index, arith, refl}
 use Rattle.ring_core.specs.Prelude.{W, four, round}
-use Rattle.ring_core.proofs.FourWords.{are-window, in_window, next-window}
+use Rattle.ring_core.proofs.FourWords.{are-sixteen, in_sixteen, next-sixteen}
 use Rattle.ring_core.proofs.Schedule.{steps-four, sum-read}
 use Rattle.ring_core.proofs.Sha2FourWords.{W-next_four}
 use Rattle.ring_core.proofs.Sha2Steps.{rounds-next}
@@ -15,7 +16,7 @@ returns g c = λ i h b n here before.
     let words = g.S.FourWords.words in
     let sums = c.args.sums.now in
     let ready = before.schedule.ready in
-    let held = in_window words n c.args.words before.schedule.window c.index-words-0.result
+    let held = in_sixteen words n c.args.words before.schedule.sixteen c.index-words-0.result
     c.index-words-1.result c.index-words-2.result c.index-words-3.result in
     let next : words c.with_last_two-next.result ≡ four w (n + 4) =
     W-next_four f b n held c.older-older.ensures c.with_first_two-half.ensures
@@ -25,7 +26,7 @@ returns g c = λ i h b n here before.
     (omega arith, omega arith, omega arith) in
     record {
       schedule = record {
-        window = are-window (next-window (n + 4) refl held next);
+        sixteen = are-sixteen (next-sixteen (n + 4) refl held next);
         ready = rw after at (c.put_sums.ensures b (n + 4) here next ready);
       };
       variables =

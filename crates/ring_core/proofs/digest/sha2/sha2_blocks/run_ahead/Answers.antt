@@ -1,3 +1,4 @@
+-- SPDX-License-Identifier: ISC
 use Rattle.std.proofs.Common.{◌≡◌, ◌+◌, ◌-◌, ◌*◌, ◌∙◌, map, refl, sym, arith}
 use Rattle.ring_core.specs.Prelude.{rounds_from}
 use Rattle.ring_core.proofs.Sha2Steps.{block_step-rounds, rounds-turns}

@@ -1,3 +1,4 @@
+-- SPDX-License-Identifier: ISC
 use Rattle.std.proofs.Common.{◌≡◌, ℕ, ◌+◌, ◌*◌, List, map}
 use Rattle.ring_core.specs.Prelude.{IsAhead, IsReady, W, ready_sum, rounds_from}
 use Rattle.ring_core.proofs.digest.sha2.sha2_blocks.run_ahead.Given as goal

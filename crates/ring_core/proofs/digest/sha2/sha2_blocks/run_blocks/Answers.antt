@@ -1,3 +1,4 @@
+-- SPDX-License-Identifier: ISC
 use Rattle.std.proofs.Common.{map, refl, sym}
 use Rattle.ring_core.specs.Prelude.{block_len, block_step, fold_chunks}
 use Rattle.ring_core.proofs.ChunkFolds.{fold_chunks-next}

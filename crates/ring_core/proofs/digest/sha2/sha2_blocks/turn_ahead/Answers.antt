@@ -1,3 +1,4 @@
+-- SPDX-License-Identifier: ISC
 use Rattle.std.proofs.Common.{◌≡◌, ◌+◌, arith}
 use Rattle.ring_core.proofs.digest.sha2.sha2_blocks.turn_ahead.Goals as goal
 

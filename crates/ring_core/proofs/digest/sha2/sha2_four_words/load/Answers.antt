@@ -1,3 +1,4 @@
+-- SPDX-License-Identifier: ISC
 use Rattle.std.proofs.Common.{◌≡◌, refl, arith, length, rules}
 use Rattle.ring_core.specs.Prelude.{W, four}
 use Rattle.ring_core.proofs.Schedule.{sums-empty}
@@ -24,6 +25,6 @@ returns g c =
     let s2 = c.put_sums-2.ensures b 1 refl second s1 in
     let s3 = c.put_sums-3.ensures b 2 refl third s2 in
     record {
-      window = rw (first, second, third, fourth) refl;
+      sixteen = rw (first, second, third, fourth) refl;
       ready = c.put_sums-4.ensures b 3 refl fourth s3;
     }

@@ -1,3 +1,4 @@
+-- SPDX-License-Identifier: ISC
 use Rattle.std.proofs.Common.{◌≡◌, ◌+◌, ◌*◌, refl, arith}
 use Rattle.ring_core.specs.Prelude.{ready_sum}
 use Rattle.ring_core.proofs.Schedule.{sums-set}

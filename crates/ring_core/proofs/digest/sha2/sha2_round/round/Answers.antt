@@ -1,3 +1,4 @@
+-- SPDX-License-Identifier: ISC
 use Rattle.std.proofs.Common.{◌≡◌, ◌^◌, arith, length, rules}
 use Rattle.ring_core.specs.Prelude.{round}
 use Rattle.ring_core.proofs.Lanes.{sum_of_pair}

@@ -1,3 +1,4 @@
+-- SPDX-License-Identifier: ISC
 use Rattle.std.proofs.Common.{map, refl, arith}
 use Rattle.ring_core.specs.Prelude.{rounds_from}
 use Rattle.ring_core.proofs.digest.sha2.sha2_rounds.first_turn.Goals as goal

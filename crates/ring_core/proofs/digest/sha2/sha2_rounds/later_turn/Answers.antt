@@ -1,3 +1,4 @@
+-- SPDX-License-Identifier: ISC
 use Rattle.std.proofs.Common.{◌≡◌, ◌+◌, ◌*◌, arith}
 use Rattle.ring_core.proofs.digest.sha2.sha2_rounds.later_turn.Goals as goal
 

@@ -1,5 +1,6 @@
+-- SPDX-License-Identifier: ISC
 use Rattle.std.proofs.Common.{◌≡◌, ◌*◌, map, sym, ◌∙◌, arith}
-use Rattle.ring_core.proofs.Sha2Steps.{block_step-rounds, ring-loaded, rounds-turns}
+use Rattle.ring_core.proofs.Sha2Steps.{block_step-rounds, window-loaded, rounds-turns}
 use Rattle.ring_core.proofs.digest.sha2.sha2_rounds.run_loaded.Goals as goal
 
 pub later-preserved : goal.later-preserved
@@ -11,8 +12,8 @@ pub returns : goal.returns
 returns g c = λ i b loaded.
     let f = g.S.One.Sha2.family in
     let met = g.met.S.One.Sha2 in
-    let ring = map (g.S.Slots.slot_lane i) c.args.ring.now in
-    let ready = ring-loaded f g.S.One.Word.bits b ring met.bits_are loaded in
+    let window = map (g.S.Slots.slot_lane i) c.args.window.now in
+    let ready = window-loaded f g.S.One.Word.bits b window met.bits_are loaded in
     let h = map (g.S.LaneWord.lane i) c.args.state.now in
     let whole = rounds-turns f met.which in
     let end : c.ROUNDS-turns.result ≡ f.rounds = c.ROUNDS-turns.ensures ∙ met.rounds_are in

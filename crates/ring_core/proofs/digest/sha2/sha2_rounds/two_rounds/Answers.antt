@@ -1,3 +1,4 @@
+-- SPDX-License-Identifier: ISC
 use Rattle.std.proofs.Common.{◌+◌, slice_index, arith}
 use Rattle.ring_core.specs.Prelude.{W}
 use Rattle.ring_core.proofs.Sha2Steps.{rounds-next}

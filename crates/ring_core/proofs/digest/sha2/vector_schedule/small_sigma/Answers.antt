@@ -1,3 +1,4 @@
+-- SPDX-License-Identifier: ISC
 use Rattle.std.proofs.Common.{arith}
 use Rattle.ring_core.proofs.Rotation.{rotr-two}
 use Rattle.ring_core.proofs.digest.sha2.vector_schedule.small_sigma.Goals as goal

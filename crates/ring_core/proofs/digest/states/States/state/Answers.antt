@@ -1,3 +1,4 @@
+-- SPDX-License-Identifier: ISC
 use Rattle.std.proofs.Common.{◌≡◌, arith, length, rules}
 use Rattle.ring_core.specs.Prelude.{InLanes}
 use Rattle.ring_core.proofs.Vectors.{eight_read}

@@ -1,3 +1,4 @@
+-- SPDX-License-Identifier: ISC
 use Rattle.std.proofs.Common.{arith}
 use Rattle.ring_core.proofs.ShortForms.{choose-short}
 use Rattle.ring_core.proofs.digest.word.functions.choose_word.Goals as goal

@@ -1,3 +1,4 @@
+-- SPDX-License-Identifier: ISC
 use Rattle.std.proofs.Common.{◌≡◌, ℕ, ◌+◌, ◌*◌, ◌/◌, ◌%◌, ◌^◌, List, [], ◌∷◌, ap, ◌∙◌}
 use Rattle.ring_core.proofs.Lanes.{same_two, two_lanes}
 use Rattle.ring_core.proofs.Halves.{both-bytes, low-first, low-second}

@@ -1,3 +1,4 @@
+-- SPDX-License-Identifier: ISC
 use Rattle.std.proofs.Common.{[], ◌∷◌, map, arith, sym, ap, ◌∙◌, mod-lt, pow_pos}
 use Rattle.ring_core.specs.Prelude.{low_32, rotr}
 use Rattle.ring_core.proofs.Lanes.{two_lanes}

@@ -1,3 +1,4 @@
+-- SPDX-License-Identifier: ISC
 use Rattle.ring.proofs.lemmas.digest.LaneBlocks.{lane-long, spare-long}
 use Rattle.ring.proofs.digest.lanes.algorithms.InVectorRunBlocks128.run_blocks.Goals as goal
 

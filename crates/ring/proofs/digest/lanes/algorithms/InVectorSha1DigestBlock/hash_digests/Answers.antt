@@ -1,3 +1,4 @@
+-- SPDX-License-Identifier: ISC
 use Rattle.ring.proofs.lemmas.digest.Paddings.{sha1_padding}
 use Rattle.ring.proofs.lemmas.digest.Words.{padded-words}
 use Rattle.ring.proofs.digest.lanes.algorithms as lanes

@@ -1,3 +1,4 @@
+-- SPDX-License-Identifier: ISC
 use Rattle.ring_core.specs.Prelude.{family_256}
 use Rattle.ring.proofs.lemmas.digest.Paddings.{lane_run, sha256_padding}
 use Rattle.ring.proofs.digest.lanes.algorithms as lanes

@@ -1,3 +1,4 @@
+-- SPDX-License-Identifier: ISC
 use Rattle.std.proofs.Common.{refl}
 use Rattle.ring_core.specs.Prelude.{family_256}
 use Rattle.ring.specs.Prelude.{SHA256}

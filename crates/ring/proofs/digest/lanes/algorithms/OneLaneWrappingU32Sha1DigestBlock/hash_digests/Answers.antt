@@ -1,3 +1,4 @@
+-- SPDX-License-Identifier: ISC
 use Rattle.std.proofs.Common.{◌∙◌, mod-lt, pow_pos}
 use Rattle.std.proofs.lemmas.List.{length-map}
 use Rattle.ring.proofs.lemmas.digest.Paddings.{sha1_padding}

@@ -1,3 +1,4 @@
+-- SPDX-License-Identifier: ISC
 use Rattle.std.proofs.Common.{◌≡◌, ◌^◌, [], ◌∷◌, rules}
 use Rattle.ring_core.specs.Prelude.{family_256, low_32, σ0}
 use Rattle.ring_core.proofs.FourWords.{four_lanes, four_numbers, sum_of_three}

@@ -1,3 +1,4 @@
+-- SPDX-License-Identifier: ISC
 use Rattle.std.proofs.Common.{◌^◌, ℕ, List, [], ◌∷◌, ◌++◌, ap}
 use Rattle.std.proofs.Math.ListN.{get_or}
 use Rattle.ring_core.specs.Prelude.{low_32, two_rotations_and_shift}

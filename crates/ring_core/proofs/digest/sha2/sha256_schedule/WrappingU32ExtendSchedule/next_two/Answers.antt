@@ -1,3 +1,4 @@
+-- SPDX-License-Identifier: ISC
 use Rattle.std.proofs.Common.{◌∙◌, ap, map}
 use Rattle.ring_core.specs.Prelude.{low_32}
 use Rattle.ring_core.proofs.Halves.{sums_low}

@@ -1,3 +1,4 @@
+-- SPDX-License-Identifier: ISC
 use Rattle.std.proofs.Common.{◌≡◌, ◌%◌, ◌^◌, ℕ, [], ◌∷◌, rules}
 use Rattle.ring_core.specs.Prelude.{family_512, σ1}
 use Rattle.ring_core.proofs.FourWords.{four_lanes, sum_of_known, sum_of_none, two_numbers}

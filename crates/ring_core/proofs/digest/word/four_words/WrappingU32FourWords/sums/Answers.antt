@@ -1,3 +1,4 @@
+-- SPDX-License-Identifier: ISC
 use Rattle.std.proofs.Common.{◌^◌, [], ◌∷◌}
 use Rattle.ring_core.proofs.FourWords.{four_lanes, sum_of_two}
 use Rattle.ring_core.proofs.digest.word.four_words as four

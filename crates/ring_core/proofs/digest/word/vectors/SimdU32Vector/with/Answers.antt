@@ -1,3 +1,4 @@
+-- SPDX-License-Identifier: ISC
 use Rattle.ring_core.proofs.Vectors.{at_set_other, at_set_same}
 use Rattle.ring_core.proofs.digest.word.vectors.SimdU32Vector.with.Goals as goal
 

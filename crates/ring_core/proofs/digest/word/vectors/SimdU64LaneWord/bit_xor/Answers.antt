@@ -1,3 +1,4 @@
+-- SPDX-License-Identifier: ISC
 use Rattle.std.proofs.Common.{bit_xor, refl, sym, ◌∙◌, ◌%◌}
 use Rattle.std.proofs.lemmas.Nat.{xor_mod}
 use Rattle.ring_core.proofs.Vectors.{at_zip}

@@ -1,3 +1,4 @@
+-- SPDX-License-Identifier: ISC
 use Rattle.std.proofs.Common.{◌%◌, w64}
 use Rattle.std.proofs.lemmas.Simd.{shifts_fit_splat}
 use Rattle.ring_core.proofs.Vectors.{at_shr}

@@ -1,7 +1,8 @@
+-- SPDX-License-Identifier: ISC
 use Rattle.std.proofs.Common.{◌≡◌, ℕ, ◌<◌, []}
 use Rattle.std.proofs.Math.ListN.{get_or}
 use Rattle.ring_core.specs.Prelude.{word_at}
-use Rattle.ring_core.proofs.digest.word_ring.read_words.Given as goal
+use Rattle.ring_core.proofs.digest.window.read_words.Given as goal
 
 abbrev pub invariant-lanes : goal.invariant-lanes
 invariant-lanes g l = (k : ℕ) → k < l.i

@@ -1,7 +1,8 @@
-//! The last sixteen words of a schedule, in a ring: word `t` stands in slot `t` modulo 16.
+// SPDX-License-Identifier: ISC
+//! The window of a schedule: its last sixteen words, of which word `t` is in slot `t` modulo 16.
 ghost use Rattle.std.specs.Prelude.{◌≡◌, ℕ, ◌+◌, ◌*◌, ◌/◌, ◌%◌, ◌<◌, ◌≤◌, ◌++◌, List, [], drop};
 ghost use Rattle.std.specs.Prelude.{get_or, length, map, slice_index, take};
-ghost use Rattle.ring_core.specs.Prelude.{IsBlockOf, IsRing, word_at};
+ghost use Rattle.ring_core.specs.Prelude.{IsBlockOf, IsWindow, word_at};
 
 use crate::digest::word::in_lanes::InLanes;
 use crate::digest::word::lane_word::{LaneWord, Slots, Vector};
@@ -27,20 +28,20 @@ fn read_words<V: Vector, const N: usize>(blocks: &[[u8; N]], j: usize) -> V
     words
 }
 
-// Fills the ring with the words of the blocks, each block's in its own lane.
+// Fills the window with the words of the blocks, each block's in its own lane.
 #[inline(always)]
 pub(crate) fn load_blocks<V: Vector, const N: usize>(
-    ring: &mut [InLanes<V>; 16],
+    window: &mut [InLanes<V>; 16],
     blocks: &[[u8; N]],
 )
     requires some { 0 < V.LANES }
     requires lanes { length blocks.now ≡ V.LANES }
     requires whole { N ≡ 16 * (V.One.bits / 8) }
-    ensures { (i : ℕ) → i < V.LANES → IsRing (word_at V.One.bits (get_or blocks.now i []))
-        (map (λ x. V.lane i x.0) ring.new) 16 }
+    ensures { (i : ℕ) → i < V.LANES → IsWindow (word_at V.One.bits (get_or blocks.now i []))
+        (map (λ x. V.lane i x.0) window.new) 16 }
 {
     'words: for t in 0..16 {
-        ring[t] = InLanes(read_words::<V, N>(blocks, t));
+        window[t] = InLanes(read_words::<V, N>(blocks, t));
     }
 }
 
@@ -61,10 +62,10 @@ fn word_of<S: Slots, const N: usize>(front: &[S; 8], padding: &[S::One; 16], t: 
     }
 }
 
-// Fills the ring with the words of such a block.
+// Fills the window with the words of such a block.
 #[inline(always)]
 pub(crate) fn load_words<S: Slots, const N: usize>(
-    ring: &mut [S::Slot; 16],
+    window: &mut [S::Slot; 16],
     front: &[S; 8],
     padding: &[S::One; 16],
 )
@@ -72,32 +73,32 @@ pub(crate) fn load_words<S: Slots, const N: usize>(
     requires front { N ≤ 8 }
     ensures { (i : ℕ) (b : List ℕ)
         → IsBlockOf S.One.bits N (map (S.lane i) front.now) (map S.One.value padding.now) b
-        → IsRing (word_at S.One.bits b) (map (S.slot_lane i) ring.new) 16 }
+        → IsWindow (word_at S.One.bits b) (map (S.slot_lane i) window.new) 16 }
 {
     'words: for t in 0..16 {
-        ring[t] = word_of::<S, N>(front, padding, t).to_slot();
+        window[t] = word_of::<S, N>(front, padding, t).to_slot();
     }
 }
 
 // The words in `slot` and in the slot after it.
 #[inline(always)]
-pub(crate) fn pair<T: Copy>(ring: &[T; 16], slot: usize) -> (T, T)
+pub(crate) fn pair<T: Copy>(window: &[T; 16], slot: usize) -> (T, T)
     requires { slot < 16 }
-    ensures { (value : T → ℕ) (w : ℕ → ℕ) (n t : ℕ) → IsRing w (map value ring.now) n
+    ensures { (value : T → ℕ) (w : ℕ → ℕ) (n t : ℕ) → IsWindow w (map value window.now) n
         → slot ≡ t % 16 → t + 2 ≤ n → n ≤ t + 16
         → (value result.0 ≡ w t) × (value result.1 ≡ w (t + 1)) }
 {
-    (ring[slot], ring[(slot + 1) % 16])
+    (window[slot], window[(slot + 1) % 16])
 }
 
 // Replaces the oldest two words, in `slot` and the slot after it, by the next two.
 #[inline(always)]
-pub(crate) fn set_pair<T: Copy>(ring: &mut [T; 16], slot: usize, words: (T, T))
+pub(crate) fn set_pair<T: Copy>(window: &mut [T; 16], slot: usize, words: (T, T))
     requires { slot < 16 }
-    ensures { (value : T → ℕ) (w : ℕ → ℕ) (t : ℕ) → IsRing w (map value ring.old) t
+    ensures { (value : T → ℕ) (w : ℕ → ℕ) (t : ℕ) → IsWindow w (map value window.old) t
         → slot ≡ t % 16 → value words.0 ≡ w t → value words.1 ≡ w (t + 1)
-        → IsRing w (map value ring.new) (t + 2) }
+        → IsWindow w (map value window.new) (t + 2) }
 {
-    ring[slot] = words.0;
-    ring[(slot + 1) % 16] = words.1;
+    window[slot] = words.0;
+    window[(slot + 1) % 16] = words.1;
 }

@@ -1,9 +1,0 @@
-use Rattle.std.proofs.Common.{ℕ, ◌<◌, [], map}
-use Rattle.std.proofs.Math.ListN.{get_or}
-use Rattle.ring_core.specs.Prelude.{IsRing, word_at}
-use Rattle.ring_core.proofs.digest.word_ring.load_blocks.Given as goal
-
-abbrev pub invariant-words : goal.invariant-words
-invariant-words g l = (i : ℕ) → i < g.V.LaneWord.LANES
-    → IsRing (word_at g.V.One.Word.bits (get_or l.blocks i []))
-    (map (λ x. g.V.LaneWord.lane i x.0) l.ring) l.t

@@ -7,13 +7,15 @@
 #[cfg(test)]
 mod bench;
 #[cfg(test)]
-mod callers;
-#[cfg(test)]
-mod core_calls;
-#[cfg(test)]
 mod digest;
 #[cfg(test)]
 mod equality;
+#[cfg(test)]
+mod examples;
+#[cfg(test)]
+mod examples_in_wide_vectors;
+#[cfg(test)]
+mod examples_of_numbers;
 #[cfg(test)]
 mod hkdf;
 #[cfg(test)]
@@ -25,13 +27,13 @@ mod long_lengths;
 #[cfg(test)]
 mod messages;
 #[cfg(test)]
-mod more_callers;
-#[cfg(test)]
 mod pbkdf2;
 #[cfg(test)]
 mod pbkdf2_each;
 #[cfg(test)]
 mod rand;
+#[cfg(test)]
+mod ring_core_calls;
 #[cfg(test)]
 mod schedules;
 #[cfg(test)]
@@ -42,5 +44,3 @@ mod store;
 mod texts;
 #[cfg(test)]
 mod updates;
-#[cfg(test)]
-mod wide_callers;

@@ -321,7 +321,14 @@ fn moves(rt: HostRuntime) -> Result<(), Fail> {
     let password = b"correct horse battery staple";
     let most = NonZeroU32::new(1_000).unwrap();
     let mut store = PasswordStore::new(rt.alloc(), [7; 16], NonZeroU32::MIN);
-    let wrong = move_at_login(rt.alloc(), &mut store, b"alice", b"battery", BY_DJANGO, most);
+    let wrong = move_at_login(
+        rt.alloc(),
+        &mut store,
+        b"alice",
+        b"battery",
+        BY_DJANGO,
+        most,
+    );
     assert!(rt; wrong == Err(MoveError::Text(HashError::WrongPassword)));
     let fewer = NonZeroU32::new(999).unwrap();
     let many = move_at_login(rt.alloc(), &mut store, b"alice", password, BY_DJANGO, fewer);

@@ -8,17 +8,10 @@ ghost use Rattle.ring_core.specs.Prelude.{words_32, words_64, words_of_lane};
 
 mod constants;
 mod sha256;
-mod sha256_four_words;
-mod sha256_schedule;
 mod sha2_blocks;
-mod sha2_four_words;
-mod sha2_round;
 mod sha2_rounds;
 mod sha2_schedule;
 mod sha512;
-mod sha512_four_words;
-mod sha512_schedule;
-mod vector_schedule;
 
 use crate::cost::Meter;
 pub use crate::digest::sha2::constants::constants_are_cube_roots;

@@ -2,7 +2,6 @@
 //! The words of the block functions and their operations (FIPS 180-4, 3.2 and 4.1), for both sizes.
 
 pub(crate) mod four_words;
-pub(crate) mod functions;
 pub mod in_lanes;
 pub mod lane_word;
 mod traits;

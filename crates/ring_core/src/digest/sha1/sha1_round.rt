@@ -5,7 +5,7 @@ ghost use Rattle.ring_core.specs.Prelude.{add_words, rotl, word_32};
 ghost use Rattle.ring_core.specs.Sha1.{add_state, round, round_constant, round_function};
 
 use crate::digest::sha1::sha1_schedule::ExtendSchedule;
-use crate::digest::word::functions::{choose_word, majority_word};
+use crate::digest::word::lane_word::{choose_word, majority_word};
 use std::num::Wrapping;
 
 // ROTL (3.2, item 5)

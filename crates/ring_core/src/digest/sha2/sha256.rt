@@ -1,12 +1,18 @@
 // SPDX-License-Identifier: ISC
-//! What SHA-256 asks of a word of 32 bits, and its numbers (FIPS 180-4, 4.1.2 and 4.2.2).
-ghost use Rattle.std.specs.Prelude.{◌≡◌, ◌*◌, ◌%◌, ◌^◌, ◌<◌, length, slice_index};
-ghost use Rattle.std.proofs.Common.{refl, inl};
-ghost use Rattle.ring_core.specs.Prelude.{constants_256, family_256, shr, word_at};
+//! SHA-256 over words of 32 bits: its numbers (FIPS 180-4, 4.1.2 and 4.2.2), and its schedule, two
+//! and four words at a time (6.2.2, step 1).
+ghost use Rattle.std.specs.Prelude.{◌≡◌, ℕ, ◌*◌, ◌%◌, ◌^◌, ◌<◌, ◌≤◌, [], ◌∷◌, length, map};
+ghost use Rattle.std.specs.Prelude.{slice_index};
+ghost use Rattle.std.proofs.Common.{inl, refl};
+ghost use Rattle.ring_core.specs.Prelude.{constants_256, family_256, low_32, shr};
+ghost use Rattle.ring_core.specs.Prelude.{two_rotations_and_shift, word_at};
 
 use crate::digest::sha2::constants::K_256;
+use crate::digest::sha2::sha2_schedule::{Before, ExtendByFour, ExtendSchedule, small_sigma};
+use crate::digest::word::w32::{doubled, from_lanes, joined, to_lanes};
 use crate::digest::word::{Sha2, Word};
 use std::num::Wrapping;
+use std::simd::{Simd, u32x4, u64x2};
 
 // These functions take plain numbers, since a proof knows of these that they fit their type, and
 // not of numbers inside a struct.
@@ -87,4 +93,67 @@ impl Sha2 for Wrapping<u32> {
     ghost small_1_is = { refl };
 
     ghost rounds_are = { refl };
+}
+
+// σ0 or σ1 of the word in each slot (4.1.2), by its counts, the rotations nested. A shift of both
+// copies of a word is one operation, a rotation of the word alone three.
+#[inline(always)]
+pub(crate) fn small_sigma_of_slots(lanes: u64x2, counts: (u32, u32, usize)) -> u64x2
+    requires first { 1 ≤ counts.0 }
+    requires second { counts.0 < counts.1 }
+    requires below { counts.1 < 32 }
+    requires shift { counts.2 < 32 }
+    ensures { map low_32 result ≡ map (two_rotations_and_shift 32 counts) (map low_32 lanes) }
+{
+    let (first, second, shift) = counts;
+    let copies = doubled(lanes);
+    let twice = joined(copies);
+    let inner = twice ^ (twice >> Simd::splat((second - first) as u64));
+    (inner >> Simd::splat(first as u64)) ^ joined(copies >> Simd::splat(shift as u32))
+}
+
+impl ExtendSchedule for Wrapping<u32> {
+    #[inline(always)]
+    fn next_two(before: &Before<u64>) -> (u64, u64) {
+        let sixteen = to_lanes(&before.sixteen);
+        let fifteen = to_lanes(&before.fifteen);
+        let seven = to_lanes(&before.seven);
+        let two = to_lanes(&before.two);
+        // The newest pair is added last, so that the other sums need not wait for it.
+        let newest = small_sigma_of_slots(two, Self::SMALL_SIGMA_1);
+        from_lanes(
+            newest + (seven + (small_sigma_of_slots(fifteen, Self::SMALL_SIGMA_0) + sixteen)),
+        )
+    }
+}
+
+// σ1 of two words, each given and given back twice: as in slots, one shift rotates both copies.
+#[inline(always)]
+fn small_sigma_1(copies: u32x4) -> u32x4
+    ensures { (a b c d : ℕ) → copies ≡ a ∷ b ∷ c ∷ d ∷ []
+        → let σ = λ (n : ℕ). two_rotations_and_shift 32 (17, 19, 10) (low_32 n) in
+        result ≡ σ a ∷ σ a ∷ σ c ∷ σ c ∷ [] }
+{
+    doubled(small_sigma_of_slots(joined(copies), Wrapping::<u32>::SMALL_SIGMA_1))
+}
+
+impl ExtendByFour for Wrapping<u32> {
+    #[inline(always)]
+    fn older(first: u32x4, second: u32x4, third: u32x4, fourth: u32x4) -> u32x4 {
+        let fifteen = first.shuffle(second, [1, 2, 3, 4]);
+        let seven = third.shuffle(fourth, [1, 2, 3, 4]);
+        first + small_sigma(fifteen, Self::SMALL_SIGMA_0) + seven
+    }
+
+    #[inline(always)]
+    fn with_first_two(older: u32x4, fourth: u32x4) -> u32x4 {
+        let sigma = small_sigma_1(fourth.swizzle([2, 2, 3, 3]));
+        older + sigma.shuffle(u32x4::splat(0), [0, 2, 4, 4])
+    }
+
+    #[inline(always)]
+    fn with_last_two(half: u32x4) -> u32x4 {
+        let sigma = small_sigma_1(half.swizzle([0, 0, 1, 1]));
+        half + sigma.shuffle(u32x4::splat(0), [4, 4, 0, 2])
+    }
 }

@@ -8,8 +8,8 @@ ghost use Rattle.ring_core.specs.Prelude.{blocks_from, chunk_items, chunk_total,
 ghost use Rattle.ring_core.specs.Prelude.{rounds_from};
 
 use crate::cost::Meter;
-use crate::digest::sha2::sha2_four_words::{ExtendByFour, load, put_sums};
-use crate::digest::sha2::sha2_round::{add_state, round};
+use crate::digest::sha2::sha2_rounds::{add_state, round};
+use crate::digest::sha2::sha2_schedule::{ExtendByFour, load, put_sums};
 use crate::digest::word::Sha2;
 use crate::digest::word::four_words::FourWords;
 use crate::polyfill::slice::AsChunks;

@@ -1,14 +1,14 @@
 // SPDX-License-Identifier: ISC
-//! The rounds of SHA-2 over a block whose words are loaded (FIPS 180-4, 6.2.2 and 6.4.2, steps 1 to
-//! 4), written once for both word sizes.
+//! The rounds of SHA-2 over a window of its schedule (FIPS 180-4, 6.2.2 and 6.4.2, steps 2 to 4),
+//! written once for both word sizes.
 ghost use Rattle.std.specs.Prelude.{◌≡◌, ℕ, ◌+◌, ◌*◌, ◌<◌, ◌≤◌, List, map};
-ghost use Rattle.ring_core.specs.Prelude.{IsBefore, IsWindow, W, block_step, rounds_from, word_at};
+ghost use Rattle.ring_core.specs.Prelude.{IsBefore, IsWindow, W, add_state, add_words, block_step};
+ghost use Rattle.ring_core.specs.Prelude.{round, rounds_from, three_rotations, word_at};
 
-use crate::digest::sha2::sha2_round::{add_state, round};
 use crate::digest::sha2::sha2_schedule::{ExtendSchedule, extend};
 use crate::digest::window::pair;
 use crate::digest::word::Sha2;
-use crate::digest::word::lane_word::LaneWord;
+use crate::digest::word::lane_word::{LaneWord, choose_word, majority_word};
 
 // The rounds take as a const argument how many words of a block come from a state, and this where
 // the block is read from bytes, so that each form has its own copy of them: the compiler inlines
@@ -126,4 +126,54 @@ pub(crate) fn run_loaded<S: ExtendSchedule, const COPY: usize>(
         variables = later_turn::<S, COPY>(window, variables, turn); // steps 1 and 3
     }
     *state = add_state(state, &variables); // step 4
+}
+
+// Σ0 or Σ1 (4.1.2, 4.1.3), by its counts. The rotations are nested: each waits for the one inside
+// it, but three independent rotations need two more copies of the word, which takes longer.
+#[inline(always)]
+fn big_sigma<S: LaneWord>(x: S, counts: (u32, u32, u32)) -> S
+    requires first { 1 ≤ counts.0 }
+    requires second { counts.0 < counts.1 }
+    requires third { counts.1 < counts.2 }
+    requires below { counts.2 < S.One.bits }
+    ensures { (i : ℕ) → S.lane i result ≡ three_rotations S.One.bits counts (S.lane i x) }
+{
+    let (first, second, third) = counts;
+    let inner = x.bit_xor(x.rotr(third - second));
+    let outer = x.bit_xor(inner.rotr(second - first));
+    outer.rotr(first)
+}
+
+// One round (step 3), from the sum of its constant and its word.
+#[inline(always)]
+pub(crate) fn round<S: LaneWord>(v: [S; 8], sum: S) -> [S; 8]
+    ensures { (i k w : ℕ) → S.lane i sum ≡ add_words S.One.bits k w
+        → map (S.lane i) result ≡ round S.One.family (map (S.lane i) v) k w }
+{
+    let [a, b, c, d, e, f, g, h] = v;
+    let temp1 = h
+        .plus(big_sigma(e, S::One::BIG_SIGMA_1))
+        .plus(choose_word(e, f, g))
+        .plus(sum);
+    let temp2 = big_sigma(a, S::One::BIG_SIGMA_0).plus(majority_word(a, b, c));
+    [temp1.plus(temp2), a, b, c, d.plus(temp1), e, f, g]
+}
+
+// Each word of `state` with its variable of `v` added (step 4).
+pub(crate) fn add_state<S: LaneWord>(state: &[S; 8], v: &[S; 8]) -> [S; 8]
+    ensures { (i : ℕ) → map (S.lane i) result
+        ≡ add_state S.One.bits (map (S.lane i) state.now) (map (S.lane i) v.now) }
+{
+    let [a, b, c, d, e, f, g, h] = *state;
+    let [i, j, k, l, m, n, o, p] = *v;
+    [
+        a.plus(i),
+        b.plus(j),
+        c.plus(k),
+        d.plus(l),
+        e.plus(m),
+        f.plus(n),
+        g.plus(o),
+        h.plus(p),
+    ]
 }

@@ -1,8 +1,9 @@
 // SPDX-License-Identifier: ISC
-//! Words of one size side by side, one in each lane: a word alone, or a vector of them.
+//! Words of one size side by side, one in each lane: a word alone, or a vector of them; and Ch and
+//! Maj of them (FIPS 180-4, 4.1).
 ghost use Rattle.std.specs.Prelude.{◌≡◌, ◌≢◌, ℕ, ◌^◌, ◌<◌, ◌≤◌, bit_and};
 ghost use Rattle.std.proofs.Common.{rules};
-ghost use Rattle.ring_core.specs.Prelude.{◌⊕◌, add_words, rotr, shr};
+ghost use Rattle.ring_core.specs.Prelude.{◌⊕◌, add_words, choose, majority, rotr, shr};
 
 use crate::digest::word::traits::{Sha2, Word};
 use std::num::Wrapping;
@@ -127,4 +128,24 @@ pub(crate) trait Slots: LaneWord {
             ≡ add_words Self.One.bits (Self.lane i x) (slot_lane i s) }
         ensures second { (i : ℕ) → Self.lane i result.1
             ≡ add_words Self.One.bits (Self.lane i y) (slot_lane i t) };
+}
+
+// Ch(x, y, z), in three operations instead of the standard's four
+#[inline(always)]
+pub(crate) fn choose_word<W: LaneWord>(x: W, y: W, z: W) -> W
+    ensures { (i : ℕ) → W.lane i result
+        ≡ choose W.One.bits (W.lane i x) (W.lane i y) (W.lane i z) }
+{
+    z.bit_xor(x.bit_and(y.bit_xor(z)))
+}
+
+// Maj(x, y, z), in four operations instead of the standard's five: `x ⊕ y` of a round is `y ⊕ z` of
+// the next
+#[inline(always)]
+#[tactic(auto, using(crate::proofs::ShortForms::short_forms))]
+pub(crate) fn majority_word<W: LaneWord>(x: W, y: W, z: W) -> W
+    ensures { (i : ℕ) → W.lane i result
+        ≡ majority (W.lane i x) (W.lane i y) (W.lane i z) }
+{
+    y.bit_xor(x.bit_xor(y).bit_and(y.bit_xor(z)))
 }

@@ -7,9 +7,9 @@
 //! |---|---|---|
 //! | `Word` | `Wrapping<u32>`, `Wrapping<u64>` | the operations on one word (3.2) |
 //! | `Sha2` | the same | the numbers of SHA-2: rotations, constants, rounds |
-//! | `LaneWord` | a word, or a vector of words | what the rounds run over: one block, or one in each lane |
+//! | `LaneWord` | a word, or a vector of words | what rounds run over: one block, or several |
 //! | `Vector` | a vector of words | what a vector has besides: one lane read or set, and shifts |
-//! | `Slots` | a word, or a vector of words | the form in which a window of the schedule keeps words |
+//! | `Slots` | a word, or a vector of words | the form in which a window keeps words |
 //! | `ExtendSchedule` of each family | the same | the next two words of the schedule |
 //! | `FourWords` | a word | how four words of one block stand in a vector |
 //! | `ExtendByFour` | words of SHA-2 | the next four words of the schedule |

@@ -2,8 +2,8 @@
 //! The callers of `ring_examples` over plain numbers, chaining words, laws and accounts, each
 //! against a value from outside.
 
-use crate::core_calls::SHA256_WORDS;
 use crate::examples::{LONG_REST, OF_LONG, OF_SHORT, SHORT, TAG};
+use crate::ring_core_calls::SHA256_WORDS;
 use crate::texts::is_hex_of;
 use ring::digest::{SHA1_FOR_LEGACY_USE_ONLY, SHA256, digest};
 use ring::error::Unspecified;

@@ -18,12 +18,12 @@ from typing import TYPE_CHECKING
 from yezdopin import _native
 
 if TYPE_CHECKING:
-    from _typeshed import ReadableBuffer
+    from _typeshed import ReadableBuffer as _Buffer
 
 __all__ = ["verify"]
 
 
-def verify(text: str | ReadableBuffer, password: ReadableBuffer, *, max_iterations: int) -> bool:
+def verify(text: str | _Buffer, password: _Buffer, *, max_iterations: int) -> bool:
     """Whether the hash of this text is the password's.
 
     `Error` is raised where no hash has this text (status 6), where the text names more than

@@ -12,7 +12,7 @@
 //! ```
 
 use crate::calls;
-use std::{error, fmt};
+use core::fmt;
 
 /// The most bytes of a text.
 pub const MAX_TEXT_LEN: usize = 1024;
@@ -42,7 +42,8 @@ impl fmt::Display for HashError {
     }
 }
 
-impl error::Error for HashError {}
+#[cfg(feature = "std")]
+impl std::error::Error for HashError {}
 
 /// Ok exactly where the hash of `text` is that of `password`, and names at most `max_iterations`.
 ///

@@ -1,5 +1,6 @@
 -- SPDX-License-Identifier: ISC
-use Rattle.std.proofs.Common.{◌∙◌, sym, true≢false}
+use Rattle.std.proofs.Common.{◌∙◌}
+use Rattle.std.proofs.lemmas.Bool.{false≢true}
 use Rattle.std.proofs.lemmas.Option.{IfSome_then}
 use Rattle.ring_passwords.proofs.check.read_stored.Goals as goal
 
@@ -12,5 +13,5 @@ returns-in_err-require_iterations-clause-too_many g c = λ _.
       stored = c.in_ok-stored.stored;
       is = parsed.0;
       has = parsed.1 ∙ c.deref.ensures.value ∙ line;
-      holds = λ within. true≢false (sym (c.in_err-require_iterations.ensures.ok.1 within));
+      holds = λ within. false≢true (c.in_err-require_iterations.ensures.ok.1 within);
     })

@@ -10,7 +10,8 @@ bits.
 
 This program is trusted, so it refuses what it doesn't list: each section, instruction, type and
 export. Lengths are read to the last byte. The module keeps the named exports and the bodies that
-these reach. Other bodies become a trap, so that indices stay. Sections of names are dropped.
+these reach. Other bodies are not read, and become a trap, so that indices stay. Sections of names
+are dropped.
 """
 
 import sys
@@ -272,21 +273,21 @@ def lowered_exports(content, wanted):
 
 
 def lowered_code(content, counts, roots):
-    """The bodies that the roots reach, and a trap in place of each other."""
+    """The bodies that the roots reach, and in place of each other, which is not read, a trap."""
     reader = Reader(content)
-    bodies = [Body(reader.name(), counts[index]) for index in reader.counted()]
-    if len(bodies) != len(counts):
+    sources = [reader.name() for _ in reader.counted()]
+    if len(sources) != len(counts):
         refuse("functions without bodies")
-    reached, left = set(), [*roots]
+    bodies, left = {}, [*roots]
     while left:
         index = left.pop()
-        if index not in reached:
-            reached.add(index)
+        if index not in bodies:
+            bodies[index] = Body(sources[index], counts[index])
             left += bodies[index].calls
     trap = number(0) + op(UNREACHABLE) + op(END)
     return vector([
-        sized(body.bytes() if index in reached else trap) for index, body in enumerate(bodies)
-    ]), len(reached)
+        sized(bodies[index].bytes() if index in bodies else trap) for index in range(len(sources))
+    ]), len(bodies)
 
 
 def lowered_data(content):

@@ -95,10 +95,13 @@ CODES = [
     ("a number that does not end", b"\x20" + b"\xff" * 11, "a number of over 64 bits"),
     ("a constant that does not end", b"\x42" + b"\xff" * 11, "a constant of over 64 bits"),
 ]
+# Bodies that are refused in place of the first one.
+BODIES = [
+    ("a body without an end", b"\0\x41\0", "a body without an end"),
+    ("a local of a vector's type", b"\1\1\x7b\x0b", "type 0x7b"),
+]
 # Sections that are refused in place of the right ones.
 CONTENTS = [
-    ("a body without an end", lower.CODE, b"\1\3\0\x41\0", "a body without an end"),
-    ("a local of a vector's type", lower.CODE, b"\1\4\1\1\x7b\x0b", "type 0x7b"),
     ("too few bodies", lower.CODE, b"\0", "functions without bodies"),
     ("bytes past the end", lower.MEMORY, b"\1\4\2\0", "bytes past the end of a section"),
     ("a memory of 32-bit addresses", lower.MEMORY, b"\1\0\2", "a memory without 64-bit"),
@@ -126,8 +129,9 @@ def refused_modules(module):
     bodies = lower.Reader(sections[lower.CODE])
     count, _ = bodies.number(), bodies.name()
     rest = bodies.data[bodies.at:]
-    for name, code, reason in CODES:
-        content = lower.number(count) + lower.sized(b"\0" + code + b"\x0b") + rest
+    wrong_codes = [(name, b"\0" + code + b"\x0b", reason) for name, code, reason in CODES]
+    for name, body, reason in [*wrong_codes, *BODIES]:
+        content = lower.number(count) + lower.sized(body) + rest
         yield name, reason, written({**sections, lower.CODE: content}.items())
     for name, section, content, reason in CONTENTS:
         yield name, reason, written({**sections, section: content}.items())

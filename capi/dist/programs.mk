@@ -19,7 +19,7 @@ ENDED_ring_passwords = -- data/passwords.txt list
 ifneq ($(origin PROGRAMS),command line)
 $(TOOLS:%=out/programs/%): out/programs/%: FORCE_TOOLS
 	mkdir -p $(@D)
-	cp "$$(../scripts/built $* $(RT) run $(ENDED_$*))" $@
+	cp "$$(../tools/built $* $(RT) run $(ENDED_$*))" $@
 FORCE_TOOLS:
 TOOLS_BUILT = $(TOOLS:%=out/programs/%)
 endif
@@ -29,10 +29,10 @@ define launcher
 	{ printf '%s\n' '#!/bin/bash' '# SPDX-License-Identifier: ISC' '# $(1)(1) describes the program.' \
 	    'set -euo pipefail' && \
 	sed '1,/^set -euo pipefail$$/d; /^root=/d; /^# With --version/d; /^ *processor=/d' ../$(1) \
-	    | sed 's|^program=.*/scripts/built" "\{0,1\}\([a-z_$$]*\).*|program=/usr/lib/yezdopin/\1|'; } \
+	    | sed 's|^program=.*/tools/built" "\{0,1\}\([a-z_$$]*\).*|program=/usr/lib/yezdopin/\1|'; } \
 	    >"$(WORK)/$(TOOLS_DEB)/usr/bin/$(1)"
 	chmod 755 "$(WORK)/$(TOOLS_DEB)/usr/bin/$(1)"
-	! grep -E 'scripts/|\broot\b' "$(WORK)/$(TOOLS_DEB)/usr/bin/$(1)"
+	! grep -E 'tools/|\broot\b' "$(WORK)/$(TOOLS_DEB)/usr/bin/$(1)"
 	sed 's|@version@|$(VERSION)|' man/$(1).1 | gzip -9n >"$(WORK)/$(TOOLS_DEB)/usr/share/man/man1/$(1).1.gz"
 endef
 

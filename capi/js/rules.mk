@@ -39,7 +39,7 @@ $(WASM_BUILT): $(SOURCES) ../crates.txt
 	mkdir -p $(JS)
 	@echo 'Proving and building ring_c for WebAssembly. $(JS)/rt.log has what rt says.'
 	built=$(CRATE)/out/libring_c.a; ! test -e $$built || mv $$built $$built.kept; \
-	../scripts/progress $(JS)/rt.log ring_c $(RT) lib --target=wasm64-unknown-unknown $(RT_FLAGS) \
+	../tools/progress.py $(JS)/rt.log ring_c $(RT) lib --target=wasm64-unknown-unknown $(RT_FLAGS) \
 	    && mv $$built $@ || { cat $(JS)/rt.log; status=1; }; \
 	! test -e $$built.kept || mv $$built.kept $$built; exit $${status:-0}
 

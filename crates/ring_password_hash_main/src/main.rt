@@ -1,5 +1,5 @@
 // SPDX-License-Identifier: ISC
-//! Answers lines that read, verify and make password hashes, for `scripts/password_hashes`.
+//! Answers lines that read, verify and make password hashes, for `tests/password_hashes.py`.
 //! `docs/PASSWORD_HASHES.md` has the forms of the lines.
 //!
 //! An answer is what the line asks for, the line of the error that refused it, or `bad line`. Empty

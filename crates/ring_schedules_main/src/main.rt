@@ -1,5 +1,5 @@
 // SPDX-License-Identifier: ISC
-//! Answers lines that ask for one secret or key of a schedule, for `scripts/schedules`.
+//! Answers lines that ask for one secret or key of a schedule, for `tests/schedules.py`.
 //! `docs/SCHEDULES.md` has the forms of the lines.
 //!
 //! An answer is the bytes in hex, `refused` or `bad line`. Empty lines and those with a `#` at

@@ -1,5 +1,5 @@
 // SPDX-License-Identifier: ISC
-//! Key schedules, against the RFCs' own values. scripts/schedules has the other traces and peers.
+//! Key schedules, against the RFCs' own values. tests/schedules.py has the other traces and peers.
 
 use crate::texts::is_hex_of;
 use ring::error::Unspecified;

@@ -3,7 +3,7 @@
 """What ./passwords does with its file, its arguments and its input: each status and each message.
 
 Runs the built program in folders of its own: over broken files, with a full disk and with a folder that
-can't be written, with several processes at once, and with processes that are killed. passwords.c is loaded
+can't be written, with several processes at once, and with processes that are killed. calls.c is loaded
 into it so that each system call that changes a file fails in turn, and is the last in turn. The
 launcher is run on terminals, with a shell and without one.
 
@@ -13,7 +13,6 @@ With names of cases as arguments it tries these alone. The last line is 'N passe
 
 import concurrent.futures
 import contextlib
-import importlib.machinery
 import itertools
 import os
 import pathlib
@@ -30,12 +29,13 @@ import tempfile
 import termios
 import time
 
-ROOT = pathlib.Path(__file__).resolve().parent.parent
+ROOT = pathlib.Path(__file__).resolve().parents[2]
 LAUNCHER = ROOT / "passwords"
 PROGRAM = ROOT / "crates/ring_passwords/out/ring_passwords"
 sys.dont_write_bytecode = True
+sys.path.append(str(ROOT / "tests"))
 # What is read and written by hashlib alone, and how other systems are asked.
-HASHES = importlib.machinery.SourceFileLoader("hashes", str(ROOT / "scripts/password_hashes")).load_module()
+import password_hashes as HASHES
 
 USAGE = """usage: passwords FILE set NAME [--iterations N]
        passwords FILE verify NAME
@@ -1260,17 +1260,17 @@ def tells_that_it_cannot_build():
     """A launcher that can't build the program ends with status 3, and says why."""
     with tempfile.TemporaryDirectory(prefix="passwords.") as path:
         room = pathlib.Path(path)
-        (room / "scripts").mkdir()
+        (room / "tools").mkdir()
         (room / "crates/ring_passwords").mkdir(parents=True)
         (room / "crates.txt").write_text("ring_passwords:\n")
         shutil.copy(LAUNCHER, room)
-        for name in ("built", "progress"):
-            shutil.copy(ROOT / "scripts" / name, room / "scripts")
-        tools = room / "tools"
-        tools.mkdir()
-        (tools / "rt").write_text("#!/bin/sh\necho the reason\nexit 1\n")
-        (tools / "rt").chmod(0o755)
-        environment = {**os.environ, "PATH": f"{tools}:{os.environ['PATH']}"}
+        for name in ("built", "progress.py"):
+            shutil.copy(ROOT / "tools" / name, room / "tools")
+        kit = room / "kit"
+        kit.mkdir()
+        (kit / "rt").write_text("#!/bin/sh\necho the reason\nexit 1\n")
+        (kit / "rt").chmod(0o755)
+        environment = {**os.environ, "PATH": f"{kit}:{os.environ['PATH']}"}
         ended = subprocess.run(
             [room / "passwords", "store", "list"], env=environment, capture_output=True, timeout=60)
         found = (ended.returncode, ended.stderr.splitlines()[-1:], ended.stdout)
@@ -1285,7 +1285,7 @@ class Calls:
         if not compiler:
             raise Skipped("no C compiler")
         self.library = pathlib.Path(folder) / "passwords.so"
-        source = pathlib.Path(__file__).with_suffix(".c")
+        source = pathlib.Path(__file__).with_name("calls.c")
         subprocess.run([compiler, "-O1", "-shared", "-fPIC", "-o", self.library, source, "-ldl"], check=True)
 
     def run(self, folder, *words, **asked):
@@ -1418,7 +1418,7 @@ def digest_of(kind):
 
 
 def salt_in(kind, text):
-    """The salt of a text, by the reader of scripts/password_hashes."""
+    """The salt of a text, by the reader of tests/password_hashes.py."""
     if kind == "postgresql":
         return HASHES.decoded(HASHES.base64.b64encode, text.split(b":")[1].split(b"$")[0])
     prefix, _, _, form, _ = HASHES.KINDS[kind]

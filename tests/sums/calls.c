@@ -1,6 +1,6 @@
 /* SPDX-License-Identifier: ISC */
 /* Loaded into a program before the C library: the calls that open, read, look at and write files and ask
- * for memory are counted from 1, and one of them fails, as scripts/sums asks in the environment. A file
+ * for memory are counted from 1, and one of them fails, as tests/sums asks in the environment. A file
  * can also be cut short or grow behind its first read. */
 #define _GNU_SOURCE
 #include <dlfcn.h>

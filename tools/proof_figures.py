@@ -5,8 +5,8 @@ with more than eight explicit arguments, runs of three and more placeholders, an
 share six lines and more to the letter, where imports, comments, attributes and lone brackets don't
 count. A pair of two crates is counted in both their rows, and once in the last.
 
-    scripts/proof_figures              a row for each crate
-    scripts/proof_figures NAME..       these crates alone, each place with its line
+    tools/proof_figures.py            a row for each crate
+    tools/proof_figures.py NAME..     these crates alone, each place with its line
 """
 
 import collections

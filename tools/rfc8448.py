@@ -1,6 +1,6 @@
 """Reads the traces of RFC 8448: each of its sections as lines for the program of `ring_schedules`.
 
-`python3 scripts/rfc8448.py rfc8448.txt` writes vectors/schedules/rfc8448_section*.txt anew. Each line asks
+`python3 tools/rfc8448.py rfc8448.txt` writes vectors/schedules/rfc8448_section*.txt anew. Each line asks
 for what one step of the RFC computes, and the RFC's value stands behind `#= `. The hash that a Finished
 covers is not in the text: it is computed of the messages, as it is of those whose hash the text has.
 """
@@ -176,7 +176,7 @@ def vectors_of(text):
         trace = Trace()
         for step in steps_of(text)[section]:
             trace.take(step)
-        head = f"# RFC 8448, section {section}: {title}; SHA-256. Made by scripts/rfc8448.py.\n"
+        head = f"# RFC 8448, section {section}: {title}; SHA-256. Made by tools/rfc8448.py.\n"
         made[section] = head + "\n".join(trace.lines) + "\n"
     return made
 

@@ -5,11 +5,11 @@
 Generated cases run each build and coreutils' `sha1sum`, `sha256sum`, `sha384sum` or `sha512sum` in one folder,
 under one name and with the same words: files with all kinds of names, lists that are whole and lists that are
 broken, and options in all orders. Standard output, standard error and status are to be the same byte for byte.
-Further tests have no second source but `hashlib`. sums.c is loaded into the program so that each system call
+Further tests have no second source but `hashlib`. calls.c is loaded into the program so that each system call
 fails in turn, and so that a file changes while it is read.
 
-    scripts/sums [TEST..]      all tests, or those named
-    scripts/sums --speed       the table of docs/SUMS.md: seconds of processor
+    python3 tests/sums [TEST..]      all tests, or those named
+    python3 tests/sums --speed       the table of docs/SUMS.md: seconds of processor
 
 The last line is 'N passed, M failed', with ', K skipped' behind it where a tool is missing. Each generated
 case counts as one.
@@ -32,7 +32,7 @@ import threading
 import time
 import unittest
 
-ROOT = pathlib.Path(__file__).resolve().parent.parent
+ROOT = pathlib.Path(__file__).resolve().parents[2]
 LAUNCHER = ROOT / "sums"
 NARROW = ROOT / "crates/ring_sums_main/out/ring_sums_main"
 WIDE = ROOT / "crates/ring_sums_wide/out/ring_sums_wide"
@@ -559,7 +559,7 @@ class Failing(unittest.TestCase):
         self.addCleanup(self.room.cleanup)
         self.path = pathlib.Path(self.room.name)
         self.library = self.path / "sums.so"
-        subprocess.run(["cc", "-shared", "-fPIC", "-O1", "-o", self.library, ROOT / "scripts/sums.c", "-ldl"], check=True)
+        subprocess.run(["cc", "-shared", "-fPIC", "-O1", "-o", self.library, ROOT / "tests/sums/calls.c", "-ldl"], check=True)
         for name in self.NAMES:
             (self.path / name).write_bytes(name.encode() * 40_000)
         self.lines = [
@@ -759,7 +759,7 @@ class Result(unittest.TextTestResult):
 
 def is_built():
     """Builds both programs, where they are missing or older than a source."""
-    built = ROOT / "scripts/built"
+    built = ROOT / "tools/built"
     commands = [[built, "ring_sums_main", "rt", "run", "--", "--version"]]
     commands += [[built, "ring_sums_wide", "rt", "run", "--cpu=x86-64-v3", "--", "--version"]] if WIDE in BUILDS else []
     return all(subprocess.run(it, stdout=subprocess.DEVNULL, timeout=3600).returncode == 0 for it in commands)

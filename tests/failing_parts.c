@@ -1,6 +1,6 @@
 /* SPDX-License-Identifier: ISC */
 /* Loaded into a program before the C library: requests for memory, reads of standard input and
- * writes of standard output fail by number, as scripts/failing_parts asks in the environment.
+ * writes of standard output fail by number, as tests/failing_parts.py asks in the environment.
  * Calls are counted from 1. */
 #define _GNU_SOURCE
 #include <dlfcn.h>

@@ -2,7 +2,7 @@
 # SPDX-License-Identifier: ISC
 """Proves and builds a crate and what it stands on, and shows on standard error how far that is.
 
-    scripts/progress LOG CRATE COMMAND..
+    tools/progress.py LOG CRATE COMMAND..
 
 runs `rt lib` in each library below the crate, lowest first, and then the command in the crate's folder.
 All that these say goes to the file LOG. On a terminal one line is rewritten: the crate, how many of its

@@ -1,5 +1,5 @@
 # SPDX-License-Identifier: ISC
-"""What the scripts know of a library: its modules, what is public in them, and each item's comment,
+"""What tests and tools know of a library: its modules, what is public in them, and each item's comment,
 signature and clauses."""
 
 import dataclasses

@@ -20,10 +20,12 @@ So a call without parameters, such as `output_len`, needs a comment and nothing 
 'N passed, M failed'.
 """
 
+import pathlib
 import re
 import sys
 
 sys.dont_write_bytecode = True
+sys.path.append(str(pathlib.Path(__file__).resolve().parent.parent / "tools"))
 import rattle_items
 import signatures
 
@@ -123,7 +125,7 @@ def main():
         passed += 1
     else:
         failed += 1
-        print("FAILED: docs/API.md has other signatures: run `python3 scripts/signatures.py`")
+        print("FAILED: docs/API.md has other signatures: run `python3 tools/signatures.py`")
     print(f"{passed} passed, {failed} failed")
     return failed != 0 or not passed
 

@@ -20,6 +20,7 @@ import re
 import sys
 
 sys.dont_write_bytecode = True
+sys.path.append(str(pathlib.Path(__file__).resolve().parent.parent / "tools"))
 import rattle_text
 
 # As many files are read again as bodies are planted.

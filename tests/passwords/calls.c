@@ -1,6 +1,6 @@
 /* SPDX-License-Identifier: ISC */
 /* Loaded into a program before the C library: the system calls that open, write and replace files are
- * counted from 1, and one of them fails or is the last, as scripts/passwords asks in the environment. */
+ * counted from 1, and one of them fails or is the last, as tests/passwords asks in the environment. */
 #define _GNU_SOURCE
 #include <dlfcn.h>
 #include <errno.h>

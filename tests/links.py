@@ -6,7 +6,8 @@
 - each heading that is cited in double quotes, as in '[`capi`](../README.md), "Speed"', '("Speed")' or
   'as "Tests" says': in the page whose link or path stands before it in the same line, or else in its
   own page, or in one that the line names;
-- each page and each script that is named in backquotes, as `docs/API.md` or `scripts/links`.
+- each page, and each program of tests/ and tools/, that is named in backquotes, as `docs/API.md` or
+  `tests/links.py`.
 
 Text in double quotes that begins with a capital letter is taken for a heading, so other quotations
 stand in backquotes. Then it reads pages with a planted fault each, and fails where one isn't found. The
@@ -22,7 +23,7 @@ ROOT = pathlib.Path(__file__).resolve().parent.parent
 LINK = re.compile(r"(?<!!)\[(?P<text>(?:[^\[\]]|\[[^\]]*\])*)\]\((?P<target>[^)\s]+)\)")
 HTML = re.compile(r'<(?:a href|img src)="(?P<target>[^"]+)"')
 CITED = re.compile(r'"(?P<heading>[A-Z][^"]*)"')
-NAMED = re.compile(r"`(?P<path>(?:[\w./-]+/)?[\w-]+\.md|scripts/[\w-]+)`")
+NAMED = re.compile(r"`(?P<path>(?:[\w./-]+/)?[\w-]+\.md|(?:tests|tools)/[\w.-]+)`")
 ELSEWHERE = re.compile(r"[a-z]+:")
 # Pages that a script makes, and names of pages that stand in another folder than the one named.
 MADE = ("docs/reference/",)
@@ -36,7 +37,7 @@ PLANTED = (
     'as "Part two" says',
     '[calls](docs/API.md), "Part one"',
     "as `docs/NONE.md` says",
-    "`scripts/none` tests it",
+    "`tests/none.py` tests it",
 )
 
 

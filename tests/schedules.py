@@ -23,6 +23,8 @@ import sys
 import tempfile
 import time
 
+sys.dont_write_bytecode = True
+sys.path.append(str(pathlib.Path(__file__).resolve().parent.parent / "tools"))
 import rfc8448
 
 ROOT = pathlib.Path(__file__).resolve().parent.parent
@@ -36,7 +38,7 @@ TEXTS = {name: pathlib.Path(f"/usr/share/doc/RFC/{name}.txt.gz") for name in NAM
 
 def answers(lines):
     """The program's answers."""
-    built = subprocess.run([ROOT / "scripts/built", "ring_schedules_main", "rt", "run"], stdout=subprocess.PIPE)
+    built = subprocess.run([ROOT / "tools/built", "ring_schedules_main", "rt", "run"], stdout=subprocess.PIPE)
     text = "".join(f"{line}\n" for line in lines).encode()
     run = subprocess.run([built.stdout.decode().strip()], input=text, stdout=subprocess.PIPE, timeout=600)
     return run.stdout.decode().split("\n")[:-1]
@@ -476,7 +478,7 @@ def text_of(name):
 
 
 def traces_are_of_the_text():
-    """The vectors of RFC 8448 are what scripts/rfc8448.py makes of the RFC's text."""
+    """The vectors of RFC 8448 are what tools/rfc8448.py makes of the RFC's text."""
     made = rfc8448.vectors_of(text_of("informational/rfc8448"))
     other = [rfc8448.file_of(section) for section in made if rfc8448.file_of(section).read_text() != made[section]]
     return [(file.name, "another text") for file in other]

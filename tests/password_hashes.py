@@ -33,7 +33,7 @@ PASSWORDS = ["x", "", "correct horse battery staple", "p" * 63, "p" * 64, "p" * 
 
 def answers(lines):
     """The program's answers."""
-    built = subprocess.run([ROOT / "scripts/built", "ring_password_hash_main", "rt", "run"], stdout=subprocess.PIPE)
+    built = subprocess.run([ROOT / "tools/built", "ring_password_hash_main", "rt", "run"], stdout=subprocess.PIPE)
     text = "".join(f"{line}\n" for line in lines).encode()
     run = subprocess.run([built.stdout.decode().strip()], input=text, stdout=subprocess.PIPE, timeout=600)
     return run.stdout.decode().split("\n")[:-1]
@@ -307,7 +307,7 @@ def asked_rustcrypto(folder, lines):
     source = f'[source.crates-io]\nreplace-with = "debian"\n[source.debian]\ndirectory = "{REGISTRY}"\n'
     for name, text in (("config.toml", source), ("Cargo.toml", PEER)):
         (folder / name).write_text(text)
-    shutil.copy(ROOT / "scripts/password_hashes.rs", folder / "main.rs")
+    shutil.copy(ROOT / "tests/password_hashes.rs", folder / "main.rs")
     command = ["cargo", "run", "--offline", "--quiet", "--release"]
     environment = {**os.environ, "CARGO_HOME": str(folder), "CARGO_TARGET_DIR": str(folder / "target")}
     text = "".join(f"{line}\n" for line in lines).encode()

@@ -1,6 +1,6 @@
 """Writes the signatures of docs/API.md, from the line "## Signatures" on, as the sources have them.
 
-`python3 scripts/signatures.py` writes them anew; scripts/comments compares them.
+`python3 tools/signatures.py` writes them anew; tests/comments.py compares them.
 """
 
 import re

@@ -13,11 +13,13 @@ a dot where it is a method, and behind its type where it is one without a receiv
 passed, M failed'.
 """
 
+import pathlib
 import re
 import sys
 import textwrap
 
 sys.dont_write_bytecode = True
+sys.path.append(str(pathlib.Path(__file__).resolve().parent.parent / "tools"))
 import rattle_items
 
 ROOT = rattle_items.ROOT

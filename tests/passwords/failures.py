@@ -1,0 +1,231 @@
+# SPDX-License-Identifier: ISC
+"""What ./passwords does where the system refuses it something: room, memory, or a call."""
+
+import contextlib
+import os
+import pathlib
+import resource
+import signal
+import subprocess
+
+from harness import (
+    DONE, FEW, IS_FOLDER, NO_MEMORY, NO_SPACE, PROGRAM, Case, Folder, limit, memory_limit, text_of,
+    told,
+)
+
+
+class Room(Case):
+    """Too little room for a file, for memory, and for what is written."""
+
+    def test_a_file_that_is_too_large(self):
+        """Where the new file may not be as large as it must, the old one stays."""
+
+        def limited():
+            signal.signal(signal.SIGXFSZ, signal.SIG_IGN)
+            limit(resource.RLIMIT_FSIZE, 100)()
+
+        it = self.new_folder()
+        it.set("a", b"x")
+        text = it.file.read_bytes()
+        wanted = (2, "cannot replace the file: File too large (os error 27)")
+        it.ends(wanted, "set", "b", *FEW, password=b"x", preexec_fn=limited)
+        it.holds(text)
+        it.set("b", b"x")
+
+    def test_a_full_disk(self):
+        """On a full disk nothing changes, and once there is room again everything does."""
+        it = Folder(self, self.small_disk())
+        it.set("a", b"x")
+        text = it.file.read_bytes()
+        filler = it.path / "filler"
+        with contextlib.suppress(OSError), open(filler, "wb", buffering=0) as full:
+            while True:
+                full.write(bytes(4096))
+        wanted = (2, f"cannot replace the file: {NO_SPACE}")
+        it.ends(wanted, "set", "b", *FEW, password=b"x")
+        it.ends(wanted, "remove", "a")
+        filler.unlink()
+        it.holds(text)
+        it.set("b", b"x")
+        it.lists(b"a", b"b")
+
+    def small_disk(self):
+        """A folder on a disk of 64 KiB."""
+        path = self.new_path()
+        mount = ["mount", "-t", "tmpfs", "-o", "size=64k", "none", path]
+        if os.geteuid() != 0 or subprocess.run(mount, capture_output=True).returncode != 0:
+            self.skipTest("no right to mount a small disk")
+        self.addCleanup(subprocess.run, ["umount", path], check=True)
+        return path
+
+    def test_a_full_device(self):
+        """Where the names can't be written, the status says so."""
+        it = self.new_folder()
+        it.set("a", b"x")
+        settings = {"stdout": self.full_device(), "stderr": subprocess.PIPE, "timeout": 60}
+        ended = subprocess.run([PROGRAM, it.file, "list"], **settings)
+        wanted = (2, f"cannot write the names: {NO_SPACE}")
+        self.assertEqual((ended.returncode, told(ended.stderr)), wanted)
+
+    def test_a_folder_as_input(self):
+        """A folder as standard input holds no password."""
+        it = self.new_folder()
+        source = os.open(it.path, os.O_RDONLY)
+        self.addCleanup(os.close, source)
+        settings = {"stdin": source, "capture_output": True, "timeout": 60}
+        ended = subprocess.run([PROGRAM, it.file, "set", "a"], **settings)
+        wanted = (2, f"cannot read the password: {IS_FOLDER}")
+        self.assertEqual((ended.returncode, told(ended.stderr)), wanted)
+        it.is_empty()
+
+    def test_little_memory_for_a_password(self):
+        """Where memory is wanting for a password the file stays as it is."""
+        it = self.new_folder()
+        it.set("a", b"x")
+        text = it.file.read_bytes()
+        settings = {"password": b"x" * (128 << 20), "preexec_fn": memory_limit(64 << 20)}
+        it.ends((2, f"cannot read the password: {NO_MEMORY}"), "set", "a", **settings)
+        it.holds(text)
+
+    def test_little_memory_for_a_store(self):
+        """Where memory is wanting for the names of a store the file stays as it is."""
+        it = self.new_folder()
+        text = text_of(f"name {number:05}".encode() for number in range(50_000))
+        it.file.write_bytes(text)
+        messages, ended = set(), None
+        for megabytes in range(4, 60, 2):
+            ended, _ = it.run("remove", "name 00000", preexec_fn=memory_limit(megabytes << 20))
+            if ended == DONE:
+                break
+            messages.add(ended[1])
+            it.holds(text)
+        wanting = {NO_MEMORY, f"cannot read the file: {NO_MEMORY}"}
+        self.assertEqual({message for message in messages if "memory" in message}, wanting)
+        self.assertEqual(ended, DONE)
+
+
+def library_of(case):
+    """Compiles calls.c, the library that fails or ends a run at a system call."""
+    compiler = case.tool("cc", "gcc", "clang")
+    library = case.new_path() / "calls.so"
+    source = pathlib.Path(__file__).with_name("calls.c")
+    flags = ["-O1", "-shared", "-fPIC"]
+    subprocess.run([compiler, *flags, "-o", library, source, "-ldl"], check=True)
+    return library
+
+
+NEW_FILE = [
+    "open", "flock", "getentropy", "open", "unlink", "open", "write", "fsync", "rename", "fsync",
+]
+REMOVAL = [
+    "open", "flock", "open", "open", "unlink", "open", "write", "fchmod", "fsync", "rename",
+    "fsync",
+]
+# The file is read before the password is, and again once it is locked.
+CHANGE = ["open", *REMOVAL]
+# The names that are known before a run, its words, the calls that it makes, and the names after it.
+ROWS = [
+    ([], ("set", "b", *FEW), NEW_FILE, [b"b"]),
+    (["a"], ("set", "b", *FEW), CHANGE, [b"a", b"b"]),
+    (["a", "b"], ("remove", "b"), REMOVAL, [b"a"]),
+]
+
+
+def refused_step(names, number):
+    """What cannot be done where this call fails, counted from 1."""
+    name, lock = names[number - 1], names.index("flock") + 1
+    if number == len(names):
+        return "replaced the file, but cannot sync its folder"
+    if name == "open" and (number < lock - 1 or number == lock + 1):
+        return "cannot read the file"
+    if number in (lock - 1, lock):
+        return "cannot lock the file"
+    return "cannot get random bytes" if name == "getentropy" else "cannot replace the file"
+
+
+class Calls(Case):
+    """For a new file, a change and a removal: each call fails, or is the last."""
+
+    def setUp(self):
+        self.library = library_of(self)
+
+    def in_turn(self, holds, only=None):
+        """Tries what a test says for each call of each run, or for those of one name."""
+        for known, words, names, after in ROWS:
+            for number, name in enumerate(names, 1):
+                if only not in (None, name):
+                    continue
+                with self.subTest(words=words, number=number, name=name):
+                    it = self.new_folder()
+                    for one in known:
+                        it.set(one, b"x")
+                    holds(it, words, names, number, after)
+
+    def run_with(self, folder, *words, **asked):
+        """How a run with the library ends, and the calls that it made."""
+        source, sink = os.pipe()
+        environment = {"LD_PRELOAD": str(self.library), "REPORT_TO": str(sink)}
+        environment |= {name: str(value) for name, value in asked.items()}
+        ended, _ = folder.run(*words, password=b"y", pass_fds=[sink], env=environment)
+        os.close(sink)
+        with os.fdopen(source) as report:
+            return ended, report.read().split()
+
+    def assert_old_or_new(self, it, text, after, is_replaced):
+        """The file is the old one byte for byte, or none; or it has the names of the new one."""
+        if is_replaced:
+            self.assertEqual(it.names(), after)
+        else:
+            self.assertEqual(text_in(it), text)
+
+    def assert_goes_on(self, it):
+        """The next run works, and leaves nothing beside the file."""
+        it.set("b", b"z")
+        it.verifies("b", b"z")
+        self.assertEqual(it.beside(), set())
+
+    def test_each_call_fails(self):
+        """Each call fails in turn: the file is the old one, unless it was replaced."""
+
+        def holds(it, words, names, number, after):
+            text = text_in(it)
+            ended, made = self.run_with(it, *words, FAILED_CALL=number)
+            self.assertEqual(ended, (2, f"{refused_step(names, number)}: {NO_SPACE}"))
+            self.assertEqual(made[:number], names[:number])
+            self.assertEqual(it.beside(), set())
+            self.assert_old_or_new(it, text, after, number == len(names))
+            self.assert_goes_on(it)
+
+        self.in_turn(holds)
+
+    def test_each_call_is_the_last(self):
+        """A process is killed before each call in turn: the old file or the new one."""
+
+        def holds(it, words, names, number, after):
+            text = text_in(it)
+            ended, made = self.run_with(it, *words, KILLED_CALL=number)
+            self.assertEqual(ended[0], -signal.SIGKILL)
+            self.assertEqual(made, names[:number])
+            self.assert_old_or_new(it, text, after, number == len(names))
+            self.assertTrue(text is None or it.names() is not None)
+            self.assert_goes_on(it)
+
+        self.in_turn(holds)
+
+    def test_a_torn_write_is_the_last(self):
+        """A process is killed when half of the new file is written: the old file stays."""
+
+        def holds(it, words, names, number, after):
+            text = text_in(it)
+            ended, _ = self.run_with(it, *words, TORN_CALL=number)
+            self.assertEqual(ended[0], -signal.SIGKILL)
+            self.assertGreater((it.path / "store.new").stat().st_size, 0)
+            self.assert_old_or_new(it, text, after, False)
+            self.assert_goes_on(it)
+
+        self.in_turn(holds, "write")
+
+
+def text_in(folder):
+    """The text of a folder's file, if there is one."""
+    return folder.file.read_bytes() if folder.file.exists() else None

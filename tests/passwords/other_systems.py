@@ -1,0 +1,46 @@
+# SPDX-License-Identifier: ISC
+"""Texts of `encode` and `check` beside Django, Werkzeug, passlib and PostgreSQL."""
+
+import password_hashes as hashes
+from harness import Case, bare
+from texts import KINDS, OTHER_PASSWORD, VERIFIED, check
+
+
+class OtherSystems(Case):
+    """Each system verifies what `encode` writes, and `check` takes what it makes."""
+
+    def test_modules_of_python(self):
+        """Django, Werkzeug and passlib, those that are here."""
+        modules = [module for module in hashes.PEERS if hashes.python_with(module)]
+        if not modules:
+            self.skipTest("no module")
+        for kind in KINDS:
+            module = kind.split("-")[0]
+            if module in modules:
+                with self.subTest(kind=kind):
+                    self.assert_both_ways(module, kind)
+
+    def assert_both_ways(self, module, kind):
+        """A module and this program take each other's texts."""
+        written = bare("encode", kind, "--iterations", "1000", line=b"correct horse")[2]
+        ours = written.strip().decode()
+        questions = [("verify", kind, word, ours) for word in ("correct horse", "correct hors")]
+        theirs, *found = hashes.asked(module, [("make", kind, "correct horse"), *questions])
+        self.assertEqual(found, [True, False], ours)
+        self.assertEqual(check(theirs.encode(), b"correct horse"), VERIFIED, theirs)
+        self.assertEqual(check(theirs.encode(), b"correct hors"), OTHER_PASSWORD, theirs)
+
+    def test_postgresql(self):
+        """PostgreSQL keeps our text and lets its password log in; `check` takes PostgreSQL's."""
+        if not hashes.postgres_bin():
+            self.skipTest("no server")
+        server = hashes.Server(str(self.new_path()))
+        self.addCleanup(server.stop)
+        words = ("encode", "postgresql", "--iterations", "5000")
+        ours = bare(*words, line=b"correct horse")[2].strip().decode()
+        self.assertEqual(server.create("ours", ours), ours)
+        for password, answer in (("correct horse", "1"), ("correct hors", None)):
+            self.assertEqual(server.ask("ours", password, "SELECT 1"), answer)
+        theirs = server.create("theirs", "correct horse").encode()
+        self.assertEqual(check(theirs, b"correct horse"), VERIFIED)
+        self.assertEqual(check(theirs, b"correct hors"), OTHER_PASSWORD)

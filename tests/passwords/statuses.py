@@ -1,0 +1,301 @@
+# SPDX-License-Identifier: ISC
+"""What ./passwords makes of its arguments and of standard input."""
+
+import itertools
+import os
+import resource
+import signal
+import subprocess
+
+from harness import (
+    BAD_COUNT, BAD_NAME, DONE, FEW, GREATEST_COUNT, NO_NAME, NO_PASSWORD, NO_SPACE, PROGRAM, USAGE,
+    WARNED, Case, bare, exit_status, head_line, limit, text_of,
+)
+
+
+class Iterations(Case):
+    """The option of `set`."""
+
+    def test_iterations_of_a_store_and_its_records(self):
+        """A new file has 600,000 or those that are given; an option changes what comes after."""
+        it, few = self.new_folder(), self.new_folder()
+        it.ends(DONE, "set", "a", password=b"x")
+        head, record = it.lines()
+        self.assertEqual((head.split()[3], record.split()[1]), (b"600000", b"600000"))
+        few.set("a", b"x", "--iterations", "3")
+        few.ends(DONE, "set", "b", password=b"x")
+        few.set("c", b"x", "--iterations", "5")
+        head, *records = few.lines()
+        counts = [head.split()[3], *(record.split()[1] for record in records)]
+        self.assertEqual(counts, [b"5", b"3", b"3", b"5"])
+        for name in "abc":
+            few.verifies(name, b"x")
+
+    def test_each_count_is_taken(self):
+        """Each count that is given is the store's and the record's."""
+        counts = (1, 2, 9, 10, 255, 256, 65_536, 99_999, 100_000, 600_001, 1_000_001)
+        for count in counts:
+            with self.subTest(count=count):
+                it = self.new_folder()
+                it.ends(DONE, "set", "a", "--iterations", str(count), password=b"x")
+                head, record = it.lines()
+                self.assertEqual((int(head.split()[3]), int(record.split()[1])), (count, count))
+        it, greatest = self.new_folder(), str(GREATEST_COUNT)
+        text = head_line(iterations=greatest.encode())
+        it.file.write_bytes(text)
+        it.ends(BAD_NAME, "set", "", "--iterations", greatest, password=b"x")
+        it.lists()
+        it.holds(text)
+
+    def test_no_other_count_is_taken(self):
+        """`--iterations` is 1 to 4,294,967,295 in decimal, without a sign or a leading zero."""
+        counts = [
+            "", "0", "00", "-1", "+5", "007", "01", " 5", "5 ", "1e3", "0x10", "1,000", "1.0", "x",
+            "4294967296", "9" * 100, "٥",
+        ]
+        it = self.new_folder()
+        for count in counts:
+            with self.subTest(count=count):
+                it.ends((2, BAD_COUNT), "set", "a", "--iterations", count, password=b"x")
+        it.is_empty()
+
+    def test_few_iterations_are_warned_of(self):
+        """A `set` by fewer than 100,000 iterations warns when it succeeds; no other run does."""
+        it = self.new_folder()
+        rows = [(1, WARNED), (99_999, WARNED), (100_000, DONE), (100_001, DONE), (1, WARNED)]
+        for count, wanted in rows:
+            found = it.run("set", "a", "--iterations", str(count), password=b"x")
+            self.assertEqual(found, (wanted, b""), count)
+        for action in ("set", "verify"):
+            it.ends(DONE, action, "a", password=b"x")
+        it.ends(BAD_NAME, "set", "", *FEW, password=b"x")
+        command = [PROGRAM, it.file, "set", "a", *FEW]
+        untold = subprocess.run(command, input=b"y", stderr=self.full_device(), timeout=60)
+        self.assertEqual(untold.returncode, 0, "a full device")
+        it.verifies("a", b"y")
+
+
+class LongDerivation(Case):
+    """A run that takes ten seconds of processor."""
+
+    def test_greatest_count_is_derived_by(self):
+        """With the greatest count a run still derives after ten seconds: no lower one stands in."""
+        it = self.new_folder()
+        words = ("set", "a", "--iterations", str(GREATEST_COUNT))
+        (status, _), _ = it.run(*words, password=b"x", preexec_fn=limit(resource.RLIMIT_CPU, 10))
+        self.assertEqual(status, -signal.SIGKILL)
+        self.assertFalse(it.file.exists())
+
+
+class Salts(Case):
+    """What differs from file to file, and what does not tell names apart."""
+
+    def test_new_files_have_other_salts(self):
+        """New files have other salts, each of 16 bytes, and so other credentials of a password."""
+        salts, credentials = [], set()
+        for _ in range(24):
+            it = self.new_folder()
+            it.set("a", b"x")
+            head, record = it.lines()
+            salts.append(bytes.fromhex(head.split()[2].decode()))
+            credentials.add(record.split()[2])
+        self.assertEqual({len(salt) for salt in salts}, {16})
+        self.assertEqual((len(set(salts)), len(credentials)), (24, 24))
+        self.assertEqual([at for at in range(16) if len({salt[at] for salt in salts}) == 1], [])
+        self.assertEqual(list(copied_bytes(salts)), [])
+
+    def test_unknown_names_take_the_time_of_known_ones(self):
+        """`verify` and `set` of an unknown name take the time of a known one: one derivation."""
+        it = self.new_folder()
+        it.set("known", b"right", "--iterations", "300000")
+        text = it.file.read_bytes()
+        runs = list(itertools.product(("verify", "set"), ("known", "unknown")))
+        times = {words: [] for words in runs}
+        for words in runs * 5:
+            it.file.write_bytes(text)
+            times[words].append(processor_time(it, *words, password=b"wrong"))
+        least = {words: min(each) for words, each in times.items()}
+        for words, time in least.items():
+            self.assertTrue(0.6 < time / least["verify", "known"] < 1.5, (words, least))
+
+
+def copied_bytes(salts):
+    """The pairs of bytes of a salt that differ alike in all salts."""
+    for one, other in itertools.combinations(range(16), 2):
+        if len({(salt[one] - salt[other]) % 256 for salt in salts}) == 1:
+            yield one, other
+
+
+def processor_time(folder, *words, password):
+    """The seconds of processor time that a run takes."""
+    running = folder.start(*words)
+    running.stdin.write(password)
+    running.stdin.close()
+    _, status, used = os.wait4(running.pid, 0)
+    running.returncode = exit_status(status)
+    return used.ru_utime + used.ru_stime
+
+
+class Words(Case):
+    """Which arguments there are."""
+
+    ROWS = [
+        (), ("",), ("set",), ("verify",), ("remove",), ("lists",), ("list", "a"), ("SET", "a"),
+        ("set", "a", "b"), ("set", "a", "--iterations"), ("set", "a", "--iteration", "1"),
+        ("set", "a", *FEW, "x"), ("set", *FEW), ("set", "a", "--iterations=1"),
+        ("verify", "a", *FEW), ("remove", "a", *FEW), ("--help",), ("set", "a", "--help"),
+        ("set", "a", "--help", "1"), ("encode", "mosquitto"), ("check", "--max-iterations", "1"),
+    ]
+
+    def test_usage_of_other_arguments(self):
+        """Arguments that ask for nothing: the usage, before the file is touched."""
+        self.assertEqual(bare(), (2, USAGE, b""))
+        it = self.new_folder()
+        for words in self.ROWS:
+            with self.subTest(words=words):
+                it.ends((2, USAGE), *words, password=b"x")
+        it.is_empty()
+
+    def test_help_and_version(self):
+        """`--help` and `--version`, alone, write on standard output and end with status 0."""
+        *ended, text = bare("--help")
+        text = text.decode()
+        self.assertEqual(ended, [*DONE])
+        self.assertTrue(text.startswith(USAGE + "\n"))
+        statuses = [line[len("status: "):].split(" ")[0] for line in text.splitlines()[-3:]]
+        self.assertEqual(statuses, ["0", "1", "2"])
+        self.assertEqual(bare("--version"), (*DONE, b"passwords 0.1.0\n"))
+        for word in ("--help", "--version"):
+            wanted = (2, f"cannot write to standard output: {NO_SPACE}")
+            self.assertEqual(bare(word, stdout=self.full_device())[:2], wanted, word)
+
+
+class Passwords(Case):
+    """What a password is, and which one is a name's."""
+
+    # Lines, each of which is the password before it.
+    SAME = [
+        (b"a\n", b"a"), (b"a", b"a\n"), (b"a\nb\n", b"a"), (b"\n", b"\n\n"), (b"a\r\n", b"a\r"),
+        (b" a ", b" a \n"), (b"a", b"a\x00"), (b"a", b"a" + bytes(63)),
+        (b"\x00\xff\xfe\n", b"\x00\xff\xfe"), ("Größe".encode(), "Größe".encode()),
+        (b"x" * 100_000, b"x" * 100_000 + b"\n"),
+    ]
+    OTHERS = [
+        (b"a\n", b"a\r\n"), (b"a", b"a "), (b"a\nb", b"a b"), (b"a", b"A"), (b"\n", b" "),
+        (b"a", b"a" + bytes(64)), (b"a", b"\x00a"),
+    ]
+
+    def test_a_password_is_set_and_verified(self):
+        """A password that was set is verified; another one is not, nor is an unknown name."""
+        it = self.new_folder()
+        it.ends(DONE, "set", "alice", password=b"correct horse\n")
+        it.verifies("alice", b"correct horse")
+        it.refuses("alice", b"correct hors")
+        it.refuses("alice", b"correct horses")
+        it.refuses("bob", b"correct horse")
+        it.ends(DONE, "set", "alice", password=b"battery")
+        it.refuses("alice", b"correct horse")
+        it.verifies("alice", b"battery")
+
+    def test_a_password_is_one_line(self):
+        """A password is one line: without its line feed, and whatever its other bytes are."""
+        it = self.new_folder()
+        for one, same in self.SAME:
+            with self.subTest(one=one[:20], same=same[:20]):
+                it.set("n", one)
+                it.verifies("n", same)
+        for one, other in self.OTHERS:
+            with self.subTest(one=one, other=other):
+                it.set("n", one)
+                it.refuses("n", other)
+
+    def test_an_empty_line_and_none(self):
+        """An empty line is the empty password; no line at all is none, and changes nothing."""
+        it = self.new_folder()
+        it.ends(NO_PASSWORD, "set", "a")
+        it.is_empty()
+        it.set("a", b"\n")
+        it.verifies("a", b"\n")
+        it.ends(NO_PASSWORD, "verify", "a")
+        it.refuses("a", b"x\n")
+
+    def test_what_follows_is_left(self):
+        """What follows the line is left on standard input, in a file and in a pipe."""
+        it = self.new_folder()
+        script = '"$1" "$2" set a --iterations 1; "$1" "$2" verify a; echo $?; cat'
+        command = ["bash", "-c", script, "bash", PROGRAM, it.file]
+        settings = {"capture_output": True, "timeout": 60}
+        piped = subprocess.run(command, input=b"one\none\nrest", **settings)
+        (it.path / "input").write_bytes(b"one\none\nrest")
+        with open(it.path / "input", "rb") as source:
+            read = subprocess.run(command, stdin=source, **settings)
+        self.assertEqual((piped.stdout, read.stdout), (b"0\nrest", b"0\nrest"))
+
+
+class Names(Case):
+    """Which names there are, how they are listed, and how they go."""
+
+    def test_names_of_each_kind(self):
+        """Names of 1 to 64 bytes, with spaces, signs and bytes past ASCII; no others."""
+        names = ["a", "n" * 64, "a b", " ", "--iterations", "set", "Zoë Müller", "名前", "é" * 32]
+        names += ["a\tb", "a\nb", "a\\b", "'\"$`"]
+        it = self.new_folder()
+        for name in names:
+            it.set(name, name.encode())
+        for name in names:
+            it.verifies(name, name.split("\n")[0].encode())
+        text = it.file.read_bytes()
+        for name, action in itertools.product(("", "n" * 65, "é" * 33), ("set", "verify")):
+            it.ends(BAD_NAME, action, name, password=b"x")
+        for name in ("", "n" * 65, "A"):
+            it.ends(NO_NAME, "remove", name)
+        not_text = it.run("set", b"\xff", password=b"x")[0]
+        self.assertEqual(not_text, (2, "cannot read the arguments: invalid data"))
+        it.holds(text)
+
+    def test_names_of_each_length(self):
+        """Names of each length from 1 to 64 bytes are set, verified, listed and removed."""
+        it, names = self.new_folder(), ["n" * count for count in range(1, 65)]
+        for name in names:
+            it.set(name, name.encode())
+        for name in names:
+            it.verifies(name, name.encode())
+        it.lists(*(name.encode() for name in names))
+        for name in names:
+            it.ends(DONE, "remove", name)
+        it.lists()
+
+    def test_names_are_listed_in_order(self):
+        """Names come by their bytes, a line each; control characters and backslashes as digits."""
+        names = ["b", "a", "B", "aa", "é", "z", "a b", "a\nb", "\x7f", "\\", "名"]
+        lines = ["B", "\\x5c", "a", "a\\x0ab", "a b", "aa", "b", "z", "\\x7f", "é", "名"]
+        it = self.new_folder()
+        for name in names:
+            it.set(name, b"x")
+        it.lists(*(line.encode() for line in lines))
+
+    def test_thousands_of_names(self):
+        """Each of 5,000 names is listed, and the last of 250,000 is found."""
+        names = [f"name {number:06}".encode() for number in range(250_000)]
+        it = self.new_folder()
+        it.file.write_bytes(text_of(names[:5_000]))
+        it.lists(*names[:5_000])
+        it.file.write_bytes(text_of(names))
+        it.ends(DONE, "remove", names[-1].decode())
+        it.holds(text_of(names[:-1]))
+
+    def test_a_name_is_removed(self):
+        """A name that is removed is gone, and the others stay; the last leaves a store of none."""
+        it = self.new_folder()
+        it.set("a", b"x")
+        it.set("b", b"y")
+        it.ends(DONE, "remove", "a")
+        it.lists(b"b")
+        it.refuses("a", b"x")
+        it.verifies("b", b"y")
+        it.ends(NO_NAME, "remove", "a")
+        it.ends(DONE, "remove", "b")
+        it.lists()
+        it.set("a", b"z")
+        it.lists(b"a")
+        it.verifies("a", b"z")

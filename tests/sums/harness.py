@@ -1,0 +1,103 @@
+# SPDX-License-Identifier: ISC
+"""How the builds of ./sums run, the lines that they write, and the files that they read."""
+
+import hashlib
+import os
+import pathlib
+import random
+import subprocess
+
+ROOT = pathlib.Path(__file__).resolve().parents[2]
+LAUNCHER = ROOT / "sums"
+NARROW = ROOT / "crates/ring_sums_main/out/ring_sums_main"
+WIDE = ROOT / "crates/ring_sums_wide/out/ring_sums_wide"
+# Without which the wide build does not run.
+FEATURES = {"avx", "avx2", "bmi1", "bmi2", "f16c", "fma", "abm", "movbe", "xsave"}
+VERSION = "9.1"
+ENVIRONMENT = {"LC_ALL": "C.UTF-8", "PATH": "/usr/bin:/bin"}
+TIMEOUT = 120
+
+# The program's name, coreutils' name, the name of an option, and `hashlib`'s.
+ALGORITHMS = ("sha1", "sha256", "sha384", "sha512")
+TAGS = {
+    "sha1": "SHA1", "sha256": "SHA256", "sha384": "SHA384", "sha512": "SHA512",
+    "sha512-256": "SHA512/256",
+}
+
+NAMES = [
+    b"a", b"b.txt", b"with space", b"two  spaces", b" leading", b"trailing ", b"*star", b"-dash",
+    b"--", b"--tag", b"it's", b"it's $5", b'"quoted"', b"back\\slash", b"line\nfeed", b"re\rturn",
+    b"both\\and\n", b"all\r\\\n", b"tab\there", b"bell\x07", b"esc\x1b[31m", b"del\x7f",
+    "é".encode(), "日本".encode(), "é's".encode(), b"#hash", b"a#hash", b"~home", b"a~home", b"{",
+    b"}", b"{a", b"a}", b"[x]", b"a=b", b"a;b", b"a:b", b"a|b", b"a&b", b"a<b>c", b"a?b", b"a!b",
+    b"a^b", b"a`b", b"a$b", b"(a)", b"a) = b", b"SHA256 (x) = y", b"a,b%c+d@e", b"endslash\\",
+    b"\\n", b"\\", b"\nfirst", b"last\n", b"=", b"%", b"x" * 200, "\u0085next".encode(), b"'",
+    b"''", b"'\n'", b"a'b\x01",
+]
+LENGTHS = [
+    0, 1, 3, 55, 56, 63, 64, 65, 111, 112, 119, 120, 127, 128, 129, 1000, 65535, 65536, 65537,
+    200_000,
+]
+
+
+def has_avx2():
+    """Whether the processor runs the wide build."""
+    lines = pathlib.Path("/proc/cpuinfo").read_text().splitlines()
+    flags = next((line for line in lines if line.startswith("flags")), "")
+    return FEATURES <= set(flags.split())
+
+
+BUILDS = [NARROW] + ([WIDE] if has_avx2() else [])
+
+
+def run(program, words, folder, name="sums", given=b"", environment=(), **settings):
+    """How a run under a name ends: its status, its output and its messages."""
+    environment = {**ENVIRONMENT, **dict(environment)}
+    streams = {"stdout": subprocess.PIPE, "stderr": subprocess.PIPE}
+    if "stdin" not in settings:
+        streams["input"] = given
+    settings = {"timeout": TIMEOUT, **streams, **settings}
+    settings |= {"executable": program, "cwd": folder, "env": environment}
+    ended = subprocess.run([name, *words], **settings)
+    return ended.returncode, ended.stdout, ended.stderr
+
+
+class Files:
+    """A folder with files that have all kinds of names, one of which cannot be read."""
+
+    def __init__(self, path, seed):
+        self.path = pathlib.Path(path)
+        self.contents = {}
+        draw = random.Random(seed)
+        for place, name in enumerate(NAMES):
+            self.write(name, draw.randbytes(LENGTHS[place % len(LENGTHS)]))
+        (self.path / "folder").mkdir()
+        os.symlink("a", self.path / "link")
+        os.symlink("nothing", self.path / "dangling")
+
+    def write(self, name, content):
+        (self.path / os.fsdecode(name)).write_bytes(content)
+        self.contents[name] = content
+
+    def digest(self, algorithm, name):
+        return hashlib.new(algorithm.replace("-", "_"), self.contents[name]).hexdigest().encode()
+
+
+def escaped(name):
+    """A name with its escapes, and the backslash that then begins the line."""
+    if not set(name) & set(b"\\\n\r"):
+        return b"", name
+    return b"\\", name.replace(b"\\", b"\\\\").replace(b"\n", b"\\n").replace(b"\r", b"\\r")
+
+
+def line_of(style, algorithm, digits, name):
+    """A line of a list, as coreutils write it."""
+    mark, shown = escaped(name)
+    if style == "tag":
+        return mark + TAGS[algorithm].encode() + b" (" + shown + b") = " + digits + b"\n"
+    between = {"text": b"  ", "binary": b" *", "reversed": b" "}[style]
+    return mark + digits + between + shown + b"\n"
+
+
+def digest_of(algorithm, content):
+    return hashlib.new(algorithm.replace("-", "_"), content).hexdigest().encode()

@@ -1,11 +1,12 @@
 # SPDX-License-Identifier: ISC
 # The crate crates/ring_c proved and built by the kit, in the folder above's Makefile:
 #
-#     make generated         # renews the assembly text of all builds in this folder
+#     make generated         # renews the text of all builds in this folder, and of js/'s module
 #     make generated-check   # whether the text for ARCH is what the kit makes
 #     make builds-agree      # whether both builds for x86-64 are one library
 #
-# The kit runs on x86-64 alone. The text for aarch64 also wants gcc-aarch64-linux-gnu.
+# The kit runs on x86-64 alone. The text for aarch64 also wants gcc-aarch64-linux-gnu, and that of
+# the module Node.
 
 # The crate, and those that it stands on, as crates.txt has them, lowest first.
 CRATE = ../crates/ring_c
@@ -91,15 +92,17 @@ $(KIT_ARCHIVE): $(if $(BUILT_V3),$(OUT)/dispatch.o) $(KIT_PARTS) $(OUT)/names
 	    | diff $(OUT)/names -
 	$(call archive,$(filter %.o,$^) --whole-archive $(filter %.a,$^))
 
-# The text of the builds for ARCH. Its head has the crates as the last commit has them.
+# The head of each text. It has the crates as the last commit has them.
+NOTES = 'SPDX-License-Identifier: ISC' '' \
+    'Written by `make -C capi generated` from the proved crate ring_c: do not edit.' \
+    "Kit: $$($(RT) version)" "Git trees: $(trees)"
 trees = $$(for it in $(CRATES); do echo "$$it $$(git rev-parse --short=12 HEAD:crates/$$it)"; done \
     | xargs)$$(git diff --quiet HEAD -- $(CRATES:%=../crates/%) || echo ', and changes since')
+
+# The text of the builds for ARCH.
 generated-$(ARCH): $(TEXTS:generated/%.S=$(KIT_OUT)/%.o)
 	for it in $(TEXTS:generated/%.S=%); do \
-	    $(PYTHON) -B generated/assembly.py $(KIT_OUT)/$$it.o $(KIT_OUT)/$$it.S \
-	        'SPDX-License-Identifier: ISC' '' \
-	        'Written by `make -C capi generated` from the proved crate ring_c: do not edit.' \
-	        "Kit: $$($(RT) version)" "Git trees: $(trees)" \
+	    $(PYTHON) -B generated/assembly.py $(KIT_OUT)/$$it.o $(KIT_OUT)/$$it.S $(NOTES) \
 	        && mv $(KIT_OUT)/$$it.S generated || exit 1; \
 	done
 
@@ -107,6 +110,7 @@ generated-$(ARCH): $(TEXTS:generated/%.S=$(KIT_OUT)/%.o)
 generated:
 	$(MAKE) --no-print-directory -B generated-$(HOST)
 	$(MAKE) --no-print-directory -B ARCH=aarch64 generated-aarch64
+	$(MAKE) --no-print-directory -B generated-wasm
 
 # What both link to, to the byte: the library of the text that stands here, and the kit's own.
 generated-check: $(ARCHIVE) $(KIT_ARCHIVE)

@@ -8,10 +8,8 @@
 #     make js-bench
 #     make dist-npm      # the package for npm alone; `make dist` makes it too
 #
-# `make JS_MODULE=yezdopin.wasm` takes a finished module, out/js/package/yezdopin.wasm of another
-# folder, and needs no kit.
-#
-# The crate is built for WebAssembly with 64-bit addresses, the only kind that the kit has, and
+# The module is made of its text, generated/yezdopin_wasm.hex, which `make generated-wasm` renews by
+# the kit. The kit builds the crate for WebAssembly with 64-bit addresses, its only kind, and
 # build/lower.py turns the linked module to 32-bit addresses, since not all engines have the former.
 
 NODE ?= node
@@ -21,7 +19,9 @@ JS = $(OUT)/js
 WASM_BUILT = $(CRATE)/out/libring_c.wasm64.a
 WASM64 = $(JS)/yezdopin64.wasm
 WASM = $(JS)/package/yezdopin.wasm
-JS_FILES = $(wildcard js/package/*)
+WASM_TEXT = generated/yezdopin_wasm.hex
+KIT_WASM = $(JS)/kit.wasm
+JS_FILES = $(wildcard js/package/*.js js/package/*.ts js/package/package.json)
 KIT = $(patsubst %/bin/,%,$(dir $(realpath $(shell command -v $(RT)))))
 # What the package calls, and what it asks the module for.
 JS_CALLS = digest digest_final digest_init digest_update equal hkdf hkdf_expand hkdf_extract \
@@ -48,28 +48,34 @@ $(WASM64): $(WASM_BUILT)
 	$(KIT)/bin/rattle-link --target wasm64-unknown-unknown --toolchain $(KIT)/toolchain \
 	    --stack $(WASM_STACK) -o $@ $<
 
-ifeq ($(origin JS_MODULE),command line)
-$(WASM): $(JS_MODULE)
-	mkdir -p $(@D)
-	cp $(JS_MODULE) $@
-else
-$(WASM): $(WASM64) js/build/lower.py
-	mkdir -p $(@D)
+$(KIT_WASM): $(WASM64) js/build/lower.py
 	$(PYTHON) -B js/build/lower.py $< $@ $(JS_EXPORTS)
-endif
+
+$(WASM): $(WASM_TEXT) js/build/text.mjs
+	mkdir -p $(@D)
+	$(NODE) js/build/text.mjs read $< $@
+
+# The text of the module, under the head that the assembly text has.
+generated-wasm: $(KIT_WASM)
+	$(NODE) js/build/text.mjs write $< $(WASM64) $(WASM_TEXT) $(NOTES)
 
 $(JS)/package/package.json: $(WASM) $(JS_FILES) js/README.md ../LICENSE
 	rm -f $(@D)/*.js $(@D)/*.ts
 	cp $(JS_FILES) js/README.md ../LICENSE $(@D)
 
-js-check: js-lowered js-test js-traces js-types js-packed
+js-check: js-generated js-lowered js-test js-traces js-types js-packed
+
+# Whether the text is that of the module that the kit makes.
+js-generated: $(WASM) $(KIT_WASM)
+	cmp $^ || { echo 'make: $(WASM_TEXT) is not what the kit makes of crates/ring_c: renew it by' \
+	    '`make -C capi generated`' >&2; exit 1; }
 
 # Node 20 wants a flag for the module of 64-bit addresses.
 MEMORY64 = $$($(NODE) -p 'WebAssembly.validate(Uint8Array.of(0, 97, 115, 109, 1, 0, 0, 0, 5, 3, 1, \
     4, 1)) ? "" : "--experimental-wasm-memory64"')
 
 # Both modules beside each other, then that wrong forms of build/lower.py are found.
-js-lowered: $(WASM)
+js-lowered: $(WASM) $(WASM64)
 	$(NODE) $(MEMORY64) js/test/lowered.mjs $(WASM64) $(WASM)
 	NODE='$(NODE)' $(PYTHON) -B js/test/wrong_forms.py $(WASM64) $(JS) "$(MEMORY64)" $(JS_EXPORTS)
 
@@ -89,7 +95,7 @@ js-types: $(JS)/package/package.json
 	cd $(JS)/types && $(TSC) --strict --noEmit --lib es2022,dom --target es2022 \
 	    --module nodenext types.mts
 
-# The package as npm makes and installs it, the same bytes twice.
+# The package as npm makes and installs it, the same bytes twice, and as npm installs this folder.
 js-packed: $(JS)/package/package.json
 	NPM='$(NPM)' NODE='$(NODE)' js/test/packed $(<D)
 
@@ -121,13 +127,11 @@ js-demo: $(JS)/package/package.json
 js-bench: $(JS)/package/package.json
 	@$(NODE) js/bench/node.mjs $(<D)
 
-# A word of PACKAGES in dist/dist.mk where npm is, and the kit or a finished module.
-ifneq ($(origin BUILT) $(origin JS_MODULE),command line undefined)
+# A word of PACKAGES in dist/dist.mk where npm is.
 NPM_PACKAGE = $(shell command -v $(NPM) >/dev/null && echo npm)
-endif
 dist-npm: $(JS)/package/package.json
 	mkdir -p "$(DIST)"
 	NPM='$(NPM)' js/build/pack $(<D) "$(DIST)"
 
-.PHONY: js js-check js-lowered js-test js-traces js-types js-packed js-browsers js-demo js-bench \
+.PHONY: js js-check generated-wasm js-generated js-lowered js-test js-traces js-types js-packed js-browsers js-demo js-bench \
     dist-npm

@@ -2,8 +2,7 @@
 # SPDX-License-Identifier: ISC
 """Runs the lines of README.md's section "Half a minute for each door" as they stand.
 
-Each block marked `sh` is run by bash in one fresh copy of the repository's files, one after another, with
-the module for JavaScript where that is built. It must end with 0, and write the text behind `# `, the
+Each block marked `sh` is run by bash in one fresh copy of the repository's files, one after another. It must end with 0, and write the text behind `# `, the
 last line of the block. A block whose tools are missing is left out, and counted as skipped. The last line is
 'N passed, M failed', or 'N passed, M failed, K skipped'.
 """
@@ -23,7 +22,7 @@ NEEDED = {
     "pip install": ["cc", "make", "python3"],
     "cargo": ["cc", "make", "cargo"],
     "openssl": ["cc", "make", "openssl"],
-    "npm": ["rt", "make", "node", "npm"],
+    "npm": ["node", "npm"],
     "./passwords": ["rt"],
 }
 
@@ -36,19 +35,14 @@ def blocks(text):
 
 
 def fresh_copy(folder):
-    """Copies the repository's files, and what was built of the module, to a folder."""
+    """Copies the repository's files to a folder."""
     listed = subprocess.run(
         ["git", "ls-files", "-z", "--cached", "--others", "--exclude-standard"],
         cwd=ROOT, capture_output=True, text=True, check=True,
     ).stdout.split("\0")
-    built = [*ROOT.glob("capi/out/js/**/*"), *ROOT.glob("crates/ring_c/out/libring_c.wasm64.a")]
-    names = [*filter(None, listed), *(str(it.relative_to(ROOT)) for it in built)]
-    for name in (it for it in names if (ROOT / it).is_file()):
+    for name in (it for it in listed if (ROOT / it).is_file()):
         (folder / name).parent.mkdir(parents=True, exist_ok=True)
         shutil.copy2(ROOT / name, folder / name, follow_symlinks=False)
-    # The copied folders are new, and make would prove again what is older than they.
-    for archive in folder.glob("crates/ring_c/out/*.a"):
-        archive.touch()
 
 
 def missing_tools(lines):

@@ -2,8 +2,8 @@
 # SPDX-License-Identifier: ISC
 """The package for JavaScript: a shorter form of `make -C capi js-check`, under Node.
 
-The module is built first, which proves `ring_c`. Each part is a target of capi/js/rules.mk. A part
-whose tools are missing is left out, and counted as skipped. `make -C capi js-browsers` runs the
+The module is made of its text first. Each part is a target of capi/js/rules.mk, of which two prove
+`ring_c`. A part whose tools are missing is left out, and counted as skipped. `make -C capi js-browsers` runs the
 package in browsers, by hand. The last line is 'N passed, M failed', or 'N passed, M failed,
 K skipped'.
 """
@@ -23,7 +23,8 @@ NEEDED = ["make", "python3", "node"]
 
 # What make's targets are called by, and what each needs beside the above.
 PARTS = [
-    ("js-lowered", [], "the lowered module beside its source, and wrong forms of the lowering"),
+    ("js-generated", ["rt"], "the text of the module is what the kit makes"),
+    ("js-lowered", ["rt"], "the lowered module beside its source, and wrong forms of the lowering"),
     ("js-test", [], "vectors/, node:crypto, refusals, hostile inputs, wiped memory, cut calls"),
     ("js-traces", [], "no address and no condition by a secret, with planted leaks"),
     ("js-types", ["tsc"], "the types"),
@@ -53,7 +54,6 @@ def make(*arguments):
 def main():
     """Tries each part, and counts."""
     tools = {tool: is_there(tool) for _, needed, _ in PARTS for tool in [*NEEDED, *needed]}
-    # `rt` is asked even where make finds nothing newer.
     unbuilt = make("-B", "js") if all(tools[it] for it in NEEDED) else None
     passed, failed, skipped = 0, 0, 0
     for name, needed, what in PARTS:
@@ -62,7 +62,8 @@ def main():
             print(f"left out: {name} ({what}), without {', '.join(missing)}")
             skipped += 1
             continue
-        fault = unbuilt or make("-o", BUILT, name)
+        # `rt` is asked once, even where make finds nothing newer.
+        fault = unbuilt or (make("-B", name) if name == PARTS[0][0] else make("-o", BUILT, name))
         print(f"FAILED: {name}:\n{fault}" if fault else f"ok: {name}: {what}")
         failed += fault is not None
         passed += fault is None

@@ -1,6 +1,7 @@
 -- SPDX-License-Identifier: ISC
 -- The text of a password in the form of another system.
-use Rattle.std.specs.Prelude.{◌≡◌, ℕ, ◌≤◌, List}
+use Rattle.std.specs.Prelude.{◌≡◌, ℕ, ◌≤◌, List, Option, IfSome}
+use Rattle.std.specs.Io.BufRead.{drop_through, first_piece}
 use Rattle.std.specs.Str.{IsAscii}
 use Rattle.std.specs.Int.NonZero.{non_zero_u32_get}
 use Rattle.std.specs.declared.num.NonZeroU32.{NonZeroU32}
@@ -75,3 +76,10 @@ pub record IsTextWhere (text : List ℕ) (P : Stored → Type 0) : Type 0 where
   pub is : IsStored stored
   pub has : text_of stored ≡ text
   pub holds : P stored
+
+-- what remains has two lines: the text of a stored value within the limit, and a password, of which
+-- P holds
+abbrev pub HasTextAndPassword : Option (List ℕ) → NonZeroU32
+    → (P : Stored → (password : List ℕ) → Type 0) → Type 0
+HasTextAndPassword remaining most P = IfSome remaining (λ bytes. IsTextWhere (first_piece 10 bytes)
+    (λ stored. IsWithin stored most × P stored (first_piece 10 (drop_through 10 bytes))))

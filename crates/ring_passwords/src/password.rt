@@ -3,7 +3,7 @@
 
 ghost use Rattle.std.specs.Prelude.{◌≡◌, ◌≢◌, [], IfErr, IfOk, IfSome, IsErrOf, IsNone, OnOk};
 ghost use Rattle.std.specs.Io.BufRead.{DropsThrough, first_piece};
-ghost use Rattle.ring_passwords.specs.Failure.{status_of};
+ghost use Rattle.ring_passwords.specs.Failure.{IsNoPassword, IsNoText};
 
 use crate::failure::{Failure, Step};
 use std::alloc::Global;
@@ -45,9 +45,7 @@ pub fn read_password<R: BufRead>(alloc: Global, reader: &mut R) -> Result<Vec<u8
     ensures some { OnOk result (IfSome (R.remaining reader.old) (λ bytes. bytes ≢ [])) }
     ensures none { IsErrOf result Failure.NoPassword
         → IfSome (R.remaining reader.old) (λ bytes. bytes ≡ []) }
-    ensures unread { ¬ (IsErrOf result Failure.NotAText)
-        × ¬ (IsErrOf result Failure.TooManyIterations) }
-    ensures status { IfErr result (λ failure. status_of failure ≡ 2) }
+    ensures failure { IfErr result IsNoPassword }
 {
     match read_line(alloc, reader) {
         Ok(Some(password)) => Ok(password),
@@ -65,9 +63,7 @@ pub fn read_text<R: BufRead>(alloc: Global, reader: &mut R) -> Result<Vec<u8>, F
         → IfSome (R.remaining reader.old) (λ bytes. bytes ≡ []) }
     ensures rest { OnOk result
         (DropsThrough (R.remaining reader.old) (R.remaining reader.new) 10) }
-    ensures unread { ¬ (IsErrOf result Failure.NotAText)
-        × ¬ (IsErrOf result Failure.TooManyIterations) }
-    ensures status { IfErr result (λ failure. status_of failure ≡ 2) }
+    ensures failure { IfErr result IsNoText }
 {
     match read_line(alloc, reader) {
         Ok(Some(text)) => Ok(text),

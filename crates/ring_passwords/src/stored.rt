@@ -6,7 +6,7 @@ ghost use Rattle.std.specs.Prelude.{IfErr, IfOk, IsErrOf, IsOk, IsTrue, OnOk, fa
 ghost use Rattle.std.specs.Io.KnownBytes.{Appends};
 ghost use Rattle.ring_password_hash.specs.Hash.{IsSalt};
 ghost use Rattle.ring_password_hash.specs.Salt.{IsNext};
-ghost use Rattle.ring_passwords.specs.Failure.{status_of};
+ghost use Rattle.ring_passwords.specs.Failure.{IsNotRight, status_of};
 ghost use Rattle.ring_passwords.specs.Stored.{CanMake, CanTest, IsOf, IsPrepared, IsStored};
 ghost use Rattle.ring_passwords.specs.Stored.{IsUsual, IsWithin, format_of, iterations_of};
 ghost use Rattle.ring_passwords.specs.Stored.{salt_kind, salt_of, text_of};
@@ -66,6 +66,7 @@ fn keep(
     ensures ok { IfOk result (λ stored. IsStored stored × IsOf stored password.now) }
     ensures stands { IfOk result (λ stored. (format_of stored ≡ format) × IsUsual stored
         × (iterations_of stored ≡ iterations) × (salt_of stored ≡ salt.now)) }
+    ensures within { OnOk result (CanMake format (length password.now) (length salt.now)) }
     ensures too_long { IsErrOf result Failure.TooLong
         → ¬ (CanMake format (length password.now) (length salt.now)) }
     ensures bad_salt { IsErrOf result Failure.BadSalt → ¬ (IsSalt (salt_kind format) salt.now) }
@@ -96,6 +97,8 @@ impl Stored {
         ensures ok { IfOk result (λ stored. IsStored stored × IsOf stored password.now) }
         ensures stands { IfOk result (λ stored. (format_of stored ≡ format) × IsUsual stored
             × (iterations_of stored ≡ iterations)) }
+        ensures within { IfOk result (λ stored.
+            CanMake format (length password.now) (length (salt_of stored))) }
         ensures salt { IfOk result (λ stored. IsNext (salt_kind format) (left rng.old)
             (left rng.new) (salt_of stored)) }
         ensures unprepared { IsErrOf result Failure.NeedsPreparation
@@ -171,8 +174,7 @@ impl Stored {
         ensures wrong { IsErrOf result Failure.WrongPassword
             ↔ (IsPrepared (format_of self.now) password.now
             × CanTest self.now (length password.now) × ¬ (IsOf self.now password.now)) }
-        ensures failure { IfErr result (λ failure. (failure ≡ Failure.NeedsPreparation)
-            ⊎ (failure ≡ Failure.TooLong) ⊎ (failure ≡ Failure.WrongPassword)) }
+        ensures failure { IfErr result IsNotRight }
     {
         let tested = match self {
             Stored::Hash(hash) => hash.verify(password),

@@ -10,7 +10,7 @@ import rattle_text
 
 ROOT = pathlib.Path(__file__).resolve().parent.parent
 # Lowest first.
-LIBRARIES = ("ring_core", "ring", "ring_store", "ring_password_hash", "ring_schedules", "ring_sums", "ring_bench")
+LIBRARIES = ("ring_core", "ring", "ring_text", "ring_store", "ring_password_hash", "ring_schedules", "ring_sums", "ring_bench")
 
 HEAD = re.compile(
     r'(?P<public>pub (?!\()|pub\([a-z]+\) )?(?:(?:const|extern "C") (?=fn\b))*'

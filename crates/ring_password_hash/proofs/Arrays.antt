@@ -1,32 +1,16 @@
 -- SPDX-License-Identifier: ISC
 -- What was decoded to an array.
-use Rattle.std.proofs.Common.{◌≡◌, ℕ, ◌/◌, ◌≤◌, List, [], drop, length, take}
+use Rattle.std.proofs.Common.{◌≡◌, ℕ, ◌≤◌, List, [], drop, length, take}
 use Rattle.std.proofs.Common.{ap, arith, subst, sym, ◌∙◌}
-use Rattle.std.specs.Prelude.{MatchResult, Result, Ok, Err}
 use Rattle.std.proofs.lemmas.List.{length-append, take-append-drop}
 use Rattle.base64.proofs.EngineFacts.{front_bytes}
 use Rattle.std.specs.declared.num.NonZeroU32.{NonZeroU32}
-use Rattle.hex.specs.Hex.{IsBytes, decode_sized, encode_lower, lower_digits}
-use Rattle.hex.specs.declared.error.FromHexError.{FromHexError}
-use Rattle.hex.proofs.HexLemmas.{decode_sized-encode_lower, length-encode_with}
+use Rattle.hex.specs.Hex.{IsBytes}
 use Rattle.ring_password_hash.specs.Hash.{IsParts, IsTextOf, Parts, hash_text}
 use Rattle.ring_password_hash.specs.Head.{head_then}
 use Rattle.ring_password_hash.specs.declared.head.Parameters.{Parameters}
 use Rattle.ring_password_hash.specs.declared.kind.Kind.{Kind}
 use Rattle.ring_password_hash.proofs.Written.{append-head_then}
-
--- digits in lower case decode to half as many bytes
-pub hex_read : (text bytes new : List ℕ) (n : ℕ) (r : Result Unit FromHexError)
-    → MatchResult (decode_sized text n) (λ b. (r ≡ Ok tt) × (new ≡ b)) (λ e. r ≡ Err e)
-    → n ≡ length text / 2 → IsBytes bytes → text ≡ encode_lower bytes
-    → (r ≡ Ok tt) × (new ≡ bytes)
-hex_read text bytes new n r told half h e =
-    let twice = length-encode_with lower_digits bytes in
-    let len : length bytes ≡ n = omega (arith, half, twice, ap length e) in
-    let read : decode_sized text n ≡ Ok bytes =
-    ap (λ (t : List ℕ). decode_sized t n) e ∙ decode_sized-encode_lower bytes n len h in
-    subst (λ (x : Result (List ℕ) FromHexError). MatchResult x (λ b. (r ≡ Ok tt) × (new ≡ b))
-    (λ e. r ≡ Err e)) read told
 
 -- what follows a head is no longer than the whole
 pub rest_within : (k : Kind) (p : Parameters) (c : NonZeroU32) (n : ℕ) (rest text : List ℕ)

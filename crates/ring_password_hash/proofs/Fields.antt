@@ -2,8 +2,6 @@
 -- What a field's text says of its bytes.
 use Rattle.std.proofs.Common.{◌≡◌, ℕ, refl, List, ◌∷◌, sym, ap, ◌∙◌}
 use Rattle.hex.specs.Hex.{IsBytes}
-use Rattle.hex.proofs.HexLemmas.{decode_of-encode_lower, decode_of-same}
-use Rattle.hex.specs.Hex.{decode_of as hex_decode_of}
 use Rattle.base64.specs.Engines.{standard, standard_no_pad}
 use Rattle.base64.specs.GeneralPurpose.{decode_of}
 use Rattle.base64.specs.declared.engine.general_purpose.GeneralPurpose.{GeneralPurpose}
@@ -11,6 +9,8 @@ use Rattle.std.proofs.Common.{false, []}
 use Rattle.base64.specs.Decode.{decoded_bytes}
 use Rattle.base64.specs.declared.engine.DecodePaddingMode.TheVariants.{RequireNone}
 use Rattle.base64.proofs.RoundTrip.{decode-encode}
+use Rattle.ring_text.proofs.Cuts.{cut_same}
+use Rattle.ring_text.proofs.LowerHex.{encode_lower-injective}
 use Rattle.ring_password_hash.specs.Field.{adapted_symbols}
 use Rattle.base64.proofs.EngineFacts.{decode_of-encode_of}
 use Rattle.base64.specs.GeneralPurpose.{IsConsistent, encode_of}
@@ -20,7 +20,6 @@ use Rattle.ring_password_hash.specs.declared.field.Encoding.{Encoding}
 use Rattle.ring_password_hash.specs.declared.field.Encoding.TheVariants.{Plain, Hex, Base64}
 use Rattle.ring_password_hash.specs.declared.field.Encoding.TheVariants.{Base64NoPad, Adapted}
 use Rattle.ring_password_hash.proofs.Symbols.{IsWithout-base64}
-use Rattle.ring_password_hash.proofs.Texts.{cut_same}
 
 encode_of-injective : (e : GeneralPurpose) → IsConsistent e → (xs ys : List ℕ) → IsBytes xs
     → IsBytes ys → encode_of e xs ≡ encode_of e ys → xs ≡ ys
@@ -64,9 +63,7 @@ adapted-injective xs ys hx hy same =
 pub written-injective : (encoding : Encoding) (xs ys : List ℕ) → IsBytes xs → IsBytes ys
     → written encoding xs ≡ written encoding ys → xs ≡ ys
 written-injective Plain xs ys hx hy e = e
-written-injective Hex xs ys hx hy e =
-    decode_of-same (written Hex ys) xs ys
-    (ap hex_decode_of (sym e) ∙ decode_of-encode_lower xs hx) (decode_of-encode_lower ys hy)
+written-injective Hex xs ys hx hy e = encode_lower-injective xs ys hx hy e
 written-injective Base64 xs ys hx hy e = encode_of-injective standard refl xs ys hx hy e
 written-injective Base64NoPad xs ys hx hy e =
     encode_of-injective standard_no_pad refl xs ys hx hy e

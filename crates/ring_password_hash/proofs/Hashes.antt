@@ -4,6 +4,8 @@ use Rattle.std.proofs.Common.{◌≡◌, ℕ, refl, List, ap, sym, subst, ◌∙
 use Rattle.std.specs.declared.num.NonZeroU32.{NonZeroU32}
 use Rattle.hex.specs.Hex.{IsBytes}
 use Rattle.ring.specs.Cut.{IsWithout}
+use Rattle.ring_text.proofs.Cuts.{cut_same}
+use Rattle.ring_text.proofs.LowerHex.{IsWithout-hex}
 use Rattle.ring_password_hash.specs.Field.{IsCount, field_then, written}
 use Rattle.ring_password_hash.specs.Hash.{IsHash, IsParts, IsPlain, IsSalt, hash_of, hash_text}
 use Rattle.ring_password_hash.specs.Hash.{iterations_of, kind_of, parameters_of, salt_of, text_of}
@@ -18,8 +20,7 @@ use Rattle.ring_password_hash.specs.declared.password_hash.PasswordHash.{Passwor
 use Rattle.ring_password_hash.proofs.Fields.{written-injective}
 use Rattle.ring_password_hash.proofs.Heads.{head_then-injective}
 use Rattle.ring_password_hash.proofs.Symbols.{IsWithout-adapted, IsWithout-base64}
-use Rattle.ring_password_hash.proofs.Symbols.{IsWithout-base64_no_pad, IsWithout-hex}
-use Rattle.ring_password_hash.proofs.Texts.{cut_same}
+use Rattle.ring_password_hash.proofs.Symbols.{IsWithout-base64_no_pad}
 
 plain_apart : (encoding : Encoding) (s : List ℕ) → IsPlain encoding s → IsBytes s
     → IsWithout 36 (written encoding s)

@@ -6,6 +6,8 @@ use Rattle.std.specs.Int.NonZero.{non_zero_u32_get}
 use Rattle.std.specs.Prelude.{◌^◌}
 use Rattle.std.specs.declared.num.NonZeroU32.{NonZeroU32}
 use Rattle.std.proofs.lemmas.List.{append_cancel_left}
+use Rattle.ring_text.proofs.Cuts.{first_of_list}
+use Rattle.ring_text.proofs.Numbers.{count_same, number_same}
 use Rattle.ring_password_hash.specs.Field.{IsCount, count_then}
 use Rattle.ring_password_hash.specs.Hash.{usual_parameters}
 use Rattle.ring_password_hash.specs.Head.{IsLen, IsNamed, head_then, parameters_then}
@@ -21,8 +23,7 @@ use Rattle.ring_password_hash.specs.declared.kind.Kind.TheVariants.{WerkzeugSha5
 use Rattle.ring_password_hash.specs.declared.kind.Kind.TheVariants.{PhcSha512, Mosquitto}
 use Rattle.ring_password_hash.specs.declared.kind.Kind.TheVariants.{PasslibSha1, PasslibSha256}
 use Rattle.ring_password_hash.specs.declared.kind.Kind.TheVariants.{PasslibSha512}
-use Rattle.ring_password_hash.proofs.Texts.{count_same, first_of_list, not_comma, not_dollar}
-use Rattle.ring_password_hash.proofs.Texts.{number_same}
+use Rattle.ring_password_hash.proofs.Texts.{not_comma, not_dollar}
 
 -- 1 to 64 bytes
 abbrev IsFew : ℕ → Type 0

@@ -11,6 +11,8 @@ use Rattle.std.specs.Fmt.{decimal}
 use Rattle.std.specs.Int.NonZero.{non_zero_u32_get}
 use Rattle.std.specs.Prelude.{◌≢◌, All, nat_lt}
 use Rattle.std.specs.declared.num.NonZeroU32.{NonZeroU32}
+use Rattle.ring_text.proofs.Cuts.{first_of_list}
+use Rattle.ring_text.proofs.Numbers.{All-decimal, IsDigit}
 use Rattle.ring_password_hash.specs.Field.{IsCount}
 use Rattle.ring_password_hash.specs.Head.{IsLen, head_then, parameters_then}
 use Rattle.ring_password_hash.specs.Hash.{IsParts, hash_text}
@@ -26,7 +28,6 @@ use Rattle.ring_password_hash.specs.declared.kind.Kind.TheVariants.{WerkzeugSha5
 use Rattle.ring_password_hash.specs.declared.kind.Kind.TheVariants.{PhcSha512, Mosquitto}
 use Rattle.ring_password_hash.specs.declared.kind.Kind.TheVariants.{PasslibSha1, PasslibSha256}
 use Rattle.ring_password_hash.specs.declared.kind.Kind.TheVariants.{PasslibSha512}
-use Rattle.ring_password_hash.proofs.Texts.{All-decimal, IsDigit, first_of_list}
 
 -- the byte at a place, or 0 behind the end
 abbrev byte_at : ℕ → List ℕ → ℕ

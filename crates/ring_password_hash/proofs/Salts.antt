@@ -14,7 +14,7 @@ use Rattle.ring_password_hash.specs.Salt.{is_text, letters, symbols}
 use Rattle.ring_password_hash.specs.declared.field.Encoding.{Encoding}
 use Rattle.ring_password_hash.specs.declared.field.Encoding.TheVariants.{Plain, Hex, Base64}
 use Rattle.ring_password_hash.specs.declared.field.Encoding.TheVariants.{Base64NoPad, Adapted}
-use Rattle.ring_password_hash.proofs.Texts.{NotAt}
+use Rattle.ring_text.proofs.Cuts.{NotAt}
 
 abbrev is_apart : ℕ → Bool
 is_apart k = not (slice_index symbols k == 36)

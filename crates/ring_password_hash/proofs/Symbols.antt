@@ -1,26 +1,23 @@
 -- SPDX-License-Identifier: ISC
 -- No byte that ends a field stands in the base64 of bytes.
-use Rattle.std.proofs.Common.{◌≡◌, ◌==◌, ℕ, suc, ◌/◌, ◌%◌, ◌+◌, ◌*◌, ◌<◌, true, false, Bool}
-use Rattle.std.proofs.Common.{List, [], ◌∷◌, length, replicate, refl, sym, ap, ◌∙◌, inl, inr}
+use Rattle.std.proofs.Common.{◌≡◌, ◌==◌, ℕ, suc, ◌/◌, ◌%◌, ◌+◌, ◌*◌, ◌<◌, true, Bool}
+use Rattle.std.proofs.Common.{List, [], ◌∷◌, length, replicate, refl, inl, inr}
 use Rattle.std.proofs.Common.{arith}
 use Rattle.std.specs.Prelude.{slice_index, not}
 use Rattle.std.proofs.lemmas.Bool.{not-true}
 use Rattle.std.proofs.lemmas.List.Elements.{All-nil, All-cons, All-append, All-replicate}
-use Rattle.std.specs.Prelude.{◌≢◌, Some, None}
-use Rattle.std.proofs.lemmas.Bool.{eqb-true}
-use Rattle.hex.specs.Hex.{IsBytes, encode_lower, encode_with, hex_digit_value, lower_digits}
-use Rattle.hex.proofs.HexLemmas.{IsDigits-lower_digits}
+use Rattle.hex.specs.Hex.{IsBytes}
 use Rattle.base64.specs.Rfc4648.{encode_symbols, padding_len}
 use Rattle.base64.specs.Engines.{standard}
 use Rattle.base64.specs.GeneralPurpose.{engine_symbols}
 use Rattle.base64.specs.Tables.{all_below}
 use Rattle.base64.proofs.Tables.{all_below_at}
 use Rattle.ring.specs.Cut.{IsWithout}
+use Rattle.ring_text.proofs.Cuts.{NotAt}
 use Rattle.ring_password_hash.specs.Field.{adapted_symbols, written}
 use Rattle.ring_password_hash.specs.declared.field.Encoding.TheVariants.{Adapted}
 use Rattle.ring_password_hash.specs.Scram.{IsEnd}
 use Rattle.ring_password_hash.specs.declared.field.Encoding.TheVariants.{Base64, Base64NoPad}
-use Rattle.ring_password_hash.proofs.Texts.{NotAt}
 
 -- no symbol of the table is the byte
 abbrev is_apart : List ℕ → ℕ → ℕ → Bool
@@ -101,32 +98,3 @@ pub IsWithout-adapted : (end : ℕ) → IsEnd end → (xs : List ℕ) → IsByte
 IsWithout-adapted end is xs h =
     All-append (NotAt end) (encode_symbols adapted_symbols xs) []
     (IsWithout-symbols adapted_symbols end (no_adapted end is) xs h) (All-nil (NotAt end))
-
--- ---- hex
-
-no_value : (v : ℕ) → Some v ≢ None
-no_value v e = cc e
-
-digit_apart : (end k : ℕ) → hex_digit_value end ≡ None → k < 16
-    → NotAt end (slice_index lower_digits k)
-digit_apart end k none below =
-    elim (slice_index lower_digits k == end)
-    as (λ b. (slice_index lower_digits k == end) ≡ b → b ≡ false) [
-      | true ↦ λ is.
-          (let same = eqb-true (slice_index lower_digits k) end is in
-          absurd (no_value k
-          (sym (IsDigits-lower_digits k below) ∙ ap hex_digit_value same ∙ none)))
-      | false ↦ λ _. refl
-    ] refl
-
-pub IsWithout-hex : (end : ℕ) → hex_digit_value end ≡ None → (xs : List ℕ) → IsBytes xs
-    → IsWithout end (encode_lower xs)
-unfolding encode_with
-IsWithout-hex end none [] h = All-nil (NotAt end)
-IsWithout-hex end none (b ∷ rest) h =
-    let byte : b < 256 = h 0 in
-    let low = slice_index lower_digits (b % 16) in
-    All-cons (NotAt end) (slice_index lower_digits (b / 16)) (low ∷ encode_lower rest)
-    (digit_apart end (b / 16) none (omega arith))
-    (All-cons (NotAt end) low (encode_lower rest) (digit_apart end (b % 16) none (omega arith))
-    (IsWithout-hex end none rest (λ k. h (suc k))))

@@ -1,15 +1,15 @@
 // SPDX-License-Identifier: ISC
 //! The fields of a hash's text, decoded to slices of the caller: no memory is taken.
 
-ghost use Rattle.std.specs.Prelude.{◌≡◌, ◌≢◌, ◌↔◌, ◌≤◌, ◌*◌, ◌∷◌, ◌++◌, ℕ, List, length, take};
-ghost use Rattle.std.specs.Prelude.{IfSome, IsNone, IsTrue};
-ghost use Rattle.hex.specs.Hex.{IsBytes, encode_lower};
+ghost use Rattle.std.specs.Prelude.{◌≡◌, ◌≢◌, ◌≤◌, ℕ, List, length, take, IfSome, IsNone};
+ghost use Rattle.hex.specs.Hex.{IsBytes};
 ghost use Rattle.base64.specs.GeneralPurpose.{IsStrict, encode_of};
 ghost use Rattle.ring.specs.Cut.{IsWithout};
 ghost use Rattle.ring_password_hash.specs.Field.{field_then, written};
 
-use crate::field::{Encoding, adapted, cut_at};
+use crate::field::{Encoding, adapted};
 use base64::engine::general_purpose::{GeneralPurpose, STANDARD, STANDARD_NO_PAD};
+use ring_text::{cut_at, fill_from_hex};
 
 /// The most bytes of a text that is read with no memory but the call's own.
 pub const MAX_TEXT_LEN: usize = 1024;
@@ -24,19 +24,6 @@ fn copy_into(text: &[u8], out: &mut [u8])
     out[..text.len()].copy_from_slice(text);
 }
 
-// Whether the text is that of the bytes in hex, in lower case.
-fn is_hex_of(text: &[u8], bytes: &[u8]) -> bool
-    requires { 2 * length bytes.now ≤ MAX_TEXT_LEN }
-    ensures { IsTrue result ↔ (text.now ≡ encode_lower bytes.now) }
-{
-    let mut digits = [0; MAX_TEXT_LEN];
-    let digits = &mut digits[..2 * bytes.len()];
-    let Ok(()) = hex::encode_to_slice(bytes, digits) else {
-        unreachable!() // There is room for two digits a byte.
-    };
-    &digits[..] == text
-}
-
 // Decodes digits in lower case to the start of `out`. Returns how many bytes they are.
 fn decode_hex_into(text: &[u8], out: &mut [u8]) -> Option<usize>
     requires text { length text.now ≤ MAX_TEXT_LEN }
@@ -48,10 +35,7 @@ fn decode_hex_into(text: &[u8], out: &mut [u8]) -> Option<usize>
         → text.now ≢ written Encoding.Hex bytes }
 {
     let len = text.len() / 2;
-    let Ok(()) = hex::decode_to_slice(text, &mut out[..len]) else {
-        return None;
-    };
-    if !is_hex_of(text, &out[..len]) {
+    if !fill_from_hex(text, &mut out[..len]) {
         return None;
     }
     Some(len)

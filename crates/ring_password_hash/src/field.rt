@@ -1,31 +1,22 @@
 // SPDX-License-Identifier: ISC
 //! The fields of a hash's text: each has a call that writes it and one that reads it.
 
-ghost use Rattle.std.specs.Prelude.{◌≡◌, ◌≢◌, ℕ, ◌≤◌, List, [], ◌∷◌, ◌++◌, IfSome};
-ghost use Rattle.std.specs.Prelude.{IfErr, IfOk, IsNone, IsErrOf, OnOk, false};
+ghost use Rattle.std.specs.Prelude.{◌≡◌, ◌≢◌, ℕ, List, ◌++◌, IfErr, IfOk, IsErrOf, OnOk, false};
 ghost use Rattle.hex.specs.Hex.{IsBytes};
-ghost use Rattle.std.specs.Char.{digit_value};
-ghost use Rattle.std.specs.Int.NonZero.{non_zero_u32_get};
-ghost use Rattle.std.specs.Fmt.{decimal};
-ghost use Rattle.std.specs.declared.num.NonZeroU32.{NonZeroU32};
-ghost use Rattle.ring.specs.Cut.{IsFirstCut, IsWithout};
+ghost use Rattle.ring.specs.Cut.{IsWithout};
 ghost use Rattle.std.specs.String.{string_bytes};
 ghost use Rattle.base64.specs.GeneralPurpose.{IsStrict, encode_of};
 ghost use Rattle.base64.specs.Rfc4648.{encode};
 ghost use Rattle.ring_password_hash.specs.Error.{IsReadError};
-ghost use Rattle.ring_password_hash.specs.Field.{IsCount, adapted_symbols, count_then, field_then};
-ghost use Rattle.ring_password_hash.specs.Field.{number_then, written};
+ghost use Rattle.ring_password_hash.specs.Field.{adapted_symbols, field_then, written};
 
 use crate::error::HashError;
 use base64::DecodeAllocError;
 use base64::alphabet::Alphabet;
 use base64::engine::general_purpose::{GeneralPurpose, NO_PAD, STANDARD, STANDARD_NO_PAD};
 use hex::FromHexError;
-use itoa::Buffer;
-use memchr::memchr;
+use ring_text::cut_at;
 use std::alloc::{AllocError, Allocator};
-use std::num::NonZeroU32;
-use std::str;
 
 /// How a field writes its bytes.
 #[derive(Clone, Copy, PartialEq, Eq)]
@@ -82,30 +73,6 @@ pub(crate) fn append<A: Allocator + Copy>(
         }
         Encoding::Adapted => out.extend_from_slice(encode_adapted(alloc, bytes)?.as_bytes()),
     }
-}
-
-/// Appends a number in decimal, and then the byte `end`.
-pub(crate) fn append_number<A: Allocator>(
-    out: &mut Vec<u8, A>,
-    number: usize,
-    end: u8,
-) -> Result<(), AllocError>
-    ensures { OnOk result (out.new.items ≡ out.old.items ++ number_then number end []) }
-{
-    out.extend_from_slice(Buffer::new().format(number).as_bytes())?;
-    out.push(end)?;
-    Ok(())
-}
-
-/// Appends an iteration count in decimal, and then the byte `end`.
-pub(crate) fn append_count<A: Allocator>(
-    out: &mut Vec<u8, A>,
-    iterations: NonZeroU32,
-    end: u8,
-) -> Result<(), AllocError>
-    ensures { OnOk result (out.new.items ≡ out.old.items ++ count_then iterations end []) }
-{
-    append_number(out, iterations.get() as usize, end)
 }
 
 // The error for digits that don't decode.
@@ -211,25 +178,6 @@ pub(crate) fn decode<A: Allocator + Copy>(
     }
 }
 
-/// The text before the first `byte` and the text after it, or `None` if there is none.
-pub(crate) fn cut_at(text: &[u8], byte: u8) -> Option<(&[u8], &[u8])>
-    ensures cut { IfSome result (λ parts. IsFirstCut byte text.now parts.0.now parts.1.now) }
-    ensures none { IsNone result → IsWithout byte text.now }
-{
-    match memchr(byte, text) {
-        Some(at) => Some((&text[..at], &text[at + 1..])),
-        None => None,
-    }
-}
-
-/// The text after `prefix`, or `None` if the text does not begin with it.
-pub(crate) fn after<'a>(text: &'a [u8], prefix: &[u8]) -> Option<&'a [u8]>
-    ensures ok { IfSome result (λ rest. text.now ≡ prefix.now ++ rest.now) }
-    ensures refused { IsNone result → (rest : List ℕ) → text.now ≢ prefix.now ++ rest }
-{
-    text.strip_prefix(prefix)
-}
-
 /// Reads a field and the byte `end`. Returns its bytes and the text after them.
 pub(crate) fn field_before<A: Allocator + Copy>(
     alloc: A,
@@ -250,40 +198,5 @@ pub(crate) fn field_before<A: Allocator + Copy>(
     match decode(alloc, encoding, field) {
         Ok(bytes) => Ok((bytes, rest)),
         Err(error) => Err(error),
-    }
-}
-
-// Reads an iteration count, which has no leading zero.
-fn count_in(digits: &[u8]) -> Option<NonZeroU32>
-    ensures ok { IfSome result (λ c. (digits.now ≡ decimal (non_zero_u32_get c)) × IsCount c) }
-    ensures refused { IsNone result → (c : NonZeroU32) → IsCount c
-        → digits.now ≢ decimal (non_zero_u32_get c) }
-{
-    let Ok(text) = str::from_utf8(digits) else {
-        return None;
-    };
-    let Ok(count) = text.parse::<u32>() else {
-        return None;
-    };
-    if Buffer::new().format(count).as_bytes() != digits {
-        return None;
-    }
-    NonZeroU32::new(count)
-}
-
-/// Reads an iteration count and the byte `end`. Returns the count and the text after them.
-pub(crate) fn count_before(text: &[u8], end: u8) -> Option<(NonZeroU32, &[u8])>
-    requires { 10 ≤ digit_value end }
-    ensures ok { IfSome result (λ found. (text.now ≡ count_then found.0 end found.1.now)
-        × IsCount found.0) }
-    ensures refused { IsNone result → (c : NonZeroU32) (rest : List ℕ) → IsCount c
-        → text.now ≢ count_then c end rest }
-{
-    let Some((digits, rest)) = cut_at(text, end) else {
-        return None;
-    };
-    match count_in(digits) {
-        Some(iterations) => Some((iterations, rest)),
-        None => None,
     }
 }

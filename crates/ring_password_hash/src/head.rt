@@ -9,8 +9,8 @@ ghost use Rattle.ring_password_hash.specs.Field.{IsCount, count_then};
 ghost use Rattle.ring_password_hash.specs.Head.{IsLen, IsNamed, head_then, parameters_then};
 ghost use Rattle.ring_password_hash.specs.Kind.{names_len};
 
-use crate::field::{after, append_count, append_number, count_before};
 use crate::kind::Kind;
+use ring_text::{after, append_count, append_number, count_before};
 use std::alloc::{AllocError, Allocator};
 use std::num::NonZeroU32;
 

@@ -21,13 +21,14 @@ ghost use Rattle.ring_password_hash.specs.Scram.{salted_password, server_key_of,
 ghost use Rattle.ring_password_hash.specs.Scram.{test_blocks, text_of, verifier_blocks};
 
 use crate::error::HashError;
-use crate::field::{Encoding, after, append, append_count, count_before, decode, field_before};
+use crate::field::{Encoding, append, decode, field_before};
 use ring::bb::verify_slices_are_equal_counted;
 use ring::cost::Meter;
 use ring::digest::{SHA256, digest_counted};
 use ring::error::Unspecified;
 use ring::hmac::{HMAC_SHA256, Key, sign_counted};
 use ring::pbkdf2::{self, PBKDF2_HMAC_SHA256};
+use ring_text::{after, append_count, count_before};
 use std::alloc::{AllocError, Allocator};
 use std::num::NonZeroU32;
 

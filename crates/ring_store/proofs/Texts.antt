@@ -1,105 +1,25 @@
 -- SPDX-License-Identifier: ISC
 -- Lines of a store's text: each is read in one way.
-use Rattle.std.proofs.Common.{◌≡◌, ◌≢◌, ◌==◌, ℕ, suc, ◌/◌, ◌%◌, ◌<◌, ◌≤◌, true, false}
-use Rattle.std.proofs.Common.{List, [], ◌∷◌, ◌++◌, length, drop, All, refl, sym, ap, subst, ◌∙◌}
-use Rattle.std.proofs.Common.{arith}
+use Rattle.std.proofs.Common.{◌≡◌, ◌≢◌, ℕ, ◌<◌, ◌≤◌, true, List, [], ◌∷◌, ◌++◌, length, drop, All}
+use Rattle.std.proofs.Common.{refl, sym, ap, ◌∙◌, arith}
 use Rattle.std.proofs.Common.{length-append, append_assoc}
-use Rattle.std.specs.Prelude.{Some, None, slice_index, Result, Ok, Err, MatchResult, nat_le}
-use Rattle.std.specs.Char.{digit_value}
-use Rattle.std.specs.Fmt.{decimal}
-use Rattle.std.specs.Str.Parse.{AllDigits}
-use Rattle.std.specs.Int.NonZero.{non_zero_u32_get}
+use Rattle.std.specs.Prelude.{None, nat_le}
 use Rattle.std.specs.declared.num.NonZeroU32.{NonZeroU32}
-use Rattle.std.proofs.lemmas.Bool.{eqb-true, eq-eqb}
-use Rattle.std.proofs.lemmas.Grind.{flat_map-append}
-use Rattle.std.proofs.lemmas.Fmt.{decimal_is_IsNumeral, decimal_injective}
-use Rattle.std.proofs.lemmas.List.Elements.{All-nil, All-cons, All-head, All-tail}
-use denote.Struct.Props.{props}
-use mathlib.Core.HLevel.{Σ_prop_path}
-use Rattle.hex.specs.Hex.{IsBytes, decode_of, encode_lower, encode_with, hex_digit_value}
-use Rattle.hex.specs.Hex.{lower_digits, decode_sized}
-use Rattle.hex.specs.declared.error.FromHexError.{FromHexError}
-use Rattle.hex.proofs.HexLemmas.{IsDigits-lower_digits, decode_of-encode_lower, length-encode_with}
-use Rattle.hex.proofs.HexLemmas.{decode_of-same, decode_sized-encode_lower}
-use Rattle.ring.specs.Cut.{IsFirstCut, IsWithout}
-use Rattle.ring_store.specs.Store.{is_name}
 use Rattle.std.proofs.lemmas.Bool.{and_parts}
 use Rattle.std.proofs.lemmas.Bool.Decides.{nat_tests}
-use Rattle.ring_store.specs.Text.{IsCount, IsEntry, IsHead, count_then}
-use Rattle.ring_store.specs.Text.{head_then, hex_then, lines_of, record_then}
+use Rattle.std.proofs.lemmas.Grind.{flat_map-append}
+use Rattle.std.proofs.lemmas.List.Elements.{All-head, All-tail}
+use Rattle.hex.specs.Hex.{IsBytes, encode_lower, hex_digit_value, lower_digits}
+use Rattle.hex.proofs.HexLemmas.{length-encode_with}
+use Rattle.ring.specs.Cut.{IsFirstCut}
+use Rattle.ring_text.proofs.Cuts.{cut_same, first_cut}
+use Rattle.ring_text.proofs.LowerHex.{IsWithout-hex, encode_lower-injective}
+use Rattle.ring_text.proofs.Numbers.{IsDigit, count_then-injective}
+use Rattle.ring_store.specs.Store.{is_name}
+use Rattle.ring_store.specs.Text.{IsEntry, IsHead, head_then, hex_then, lines_of, record_then}
 use Rattle.ring_store.specs.declared.records.Record.{Record}
 
--- ---- cuts
-
-abbrev pub NotAt : ℕ → ℕ → Type 0
-NotAt byte b = (b == byte) ≡ false
-
-apart : (byte : ℕ) → NotAt byte byte → ⊥
-apart byte h = cc (h, eq-eqb byte byte refl)
-
-abbrev first_of_list : ℕ → List ℕ → ℕ
-first_of_list d [] = d
-first_of_list d (x ∷ xs) = x
-
--- what stands before the first such byte, and behind it, is known from the whole
-pub cut_same : (byte : ℕ) (f g s t : List ℕ) → IsWithout byte f → IsWithout byte g
-    → f ++ byte ∷ s ≡ g ++ byte ∷ t → (f ≡ g) × (s ≡ t)
-cut_same byte [] [] s t hf hg e = (refl, ap (drop 1) e)
-cut_same byte [] (y ∷ g) s t hf hg e =
-    let same : byte ≡ y = ap (first_of_list 0) e in
-    absurd (apart byte (rw same (subst (λ b. NotAt b y) same (All-head (NotAt byte) y g hg))))
-cut_same byte (x ∷ f) [] s t hf hg e =
-    let same : x ≡ byte = ap (first_of_list 0) e in
-    absurd (apart byte (subst (NotAt byte) same (All-head (NotAt byte) x f hf)))
-cut_same byte (x ∷ f) (y ∷ g) s t hf hg e =
-    let same : x ≡ y = ap (first_of_list 0) e in
-    let rest = cut_same byte f g s t (All-tail (NotAt byte) x f hf) (All-tail (NotAt byte) y g hg)
-    (ap (drop 1) e) in
-    ((λ i. same i ∷ rest.0 i), rest.1)
-
--- a text without the byte is not cut at it
-pub not_cut : (byte : ℕ) (f t text : List ℕ) → IsWithout byte text → text ≢ f ++ byte ∷ t
-not_cut byte f t text h e = missing byte f t (subst (IsWithout byte) e h)
-  where
-    missing : (byte : ℕ) (f t : List ℕ) → IsWithout byte (f ++ byte ∷ t) → ⊥
-    missing byte [] t h = apart byte (All-head (NotAt byte) byte t h)
-    missing byte (x ∷ f) t h =
-        missing byte f t (All-tail (NotAt byte) x (f ++ byte ∷ t) h)
-
 -- ---- bytes in hex
-
-no_value : (v : ℕ) → Some v ≢ None
-no_value v e = cc e
-
-digit_apart : (end k : ℕ) → hex_digit_value end ≡ None → k < 16
-    → NotAt end (slice_index lower_digits k)
-digit_apart end k none below =
-    elim (slice_index lower_digits k == end)
-    as (λ b. (slice_index lower_digits k == end) ≡ b → b ≡ false) [
-      | true ↦ λ is.
-          (let same = eqb-true (slice_index lower_digits k) end is in
-          absurd (no_value k
-          (sym (IsDigits-lower_digits k below) ∙ ap hex_digit_value same ∙ none)))
-      | false ↦ λ _. refl
-    ] refl
-
-pub IsWithout-hex : (end : ℕ) → hex_digit_value end ≡ None → (xs : List ℕ) → IsBytes xs
-    → IsWithout end (encode_lower xs)
-unfolding encode_with
-IsWithout-hex end none [] h = All-nil (NotAt end)
-IsWithout-hex end none (b ∷ rest) h =
-    let byte : b < 256 = h 0 in
-    let low = slice_index lower_digits (b % 16) in
-    All-cons (NotAt end) (slice_index lower_digits (b / 16)) (low ∷ encode_lower rest)
-    (digit_apart end (b / 16) none (omega arith))
-    (All-cons (NotAt end) low (encode_lower rest) (digit_apart end (b % 16) none (omega arith))
-    (IsWithout-hex end none rest (λ k. h (suc k))))
-
-pub encode_lower-injective : (xs ys : List ℕ) → IsBytes xs → IsBytes ys
-    → encode_lower xs ≡ encode_lower ys → xs ≡ ys
-encode_lower-injective xs ys hx hy e =
-    decode_of-same (encode_lower ys) xs ys
-    (ap decode_of (sym e) ∙ decode_of-encode_lower xs hx) (decode_of-encode_lower ys hy)
 
 pub hex_then-injective : (end : ℕ) → hex_digit_value end ≡ None → (xs ys s t : List ℕ)
     → IsBytes xs → IsBytes ys → hex_then xs end s ≡ hex_then ys end t → (xs ≡ ys) × (s ≡ t)
@@ -108,51 +28,12 @@ hex_then-injective end none xs ys s t hx hy e =
     (IsWithout-hex end none ys hy) e in
     (encode_lower-injective xs ys hx hy cut.0, cut.1)
 
--- ---- iterations in decimal
-
-IsWithout-digits : (end : ℕ) → (digit_value end < 10 → ⊥) → (ds : List ℕ) → AllDigits 10 ds
-    → IsWithout end ds
-IsWithout-digits end none [] h = All-nil (NotAt end)
-IsWithout-digits end none (d ∷ ds) h =
-    let here : NotAt end d =
-    elim (d == end) as (λ b. (d == end) ≡ b → b ≡ false) [
-      | true ↦ λ is. absurd (none (subst (λ x. digit_value x < 10) (eqb-true d end is) h.0))
-      | false ↦ λ _. refl
-    ] refl in
-    All-cons (NotAt end) d ds here (IsWithout-digits end none ds h.1)
-
-pub IsWithout-decimal : (end : ℕ) → (digit_value end < 10 → ⊥) → (c : NonZeroU32) → IsCount c
-    → IsWithout end (decimal (non_zero_u32_get c))
-IsWithout-decimal end none c h =
-    let numeral = decimal_is_IsNumeral (non_zero_u32_get c) (omega arith) in
-    IsWithout-digits end none _ numeral.0.1
-
-pos_prop : (n : ℕ) → IsProp (0 < n)
-pos_prop n = hlevel props
-
--- iterations are known from their number
-pub same_count : (c d : NonZeroU32) → non_zero_u32_get c ≡ non_zero_u32_get d → c ≡ d
-same_count c d e =
-    let pairs : ◌≡◌ {A = (n : ℕ) × (0 < n)} (c.value, c.ok) (d.value, d.ok) =
-    Σ_prop_path pos_prop e in
-    λ i. record { value = (pairs i).0; ok = (pairs i).1 }
-
-pub count_then-injective : (end : ℕ) → (digit_value end < 10 → ⊥) → (c d : NonZeroU32)
-    → (s t : List ℕ) → IsCount c → IsCount d → count_then c end s ≡ count_then d end t
-    → (c ≡ d) × (s ≡ t)
-count_then-injective end none c d s t hc hd e =
-    let cut = cut_same end (decimal (non_zero_u32_get c)) (decimal (non_zero_u32_get d)) s t
-    (IsWithout-decimal end none c hc) (IsWithout-decimal end none d hd) e in
-    let same = decimal_injective (non_zero_u32_get c) (non_zero_u32_get d) (omega arith)
-    (omega arith) cut.0 in
-    (same_count c d same, cut.1)
-
 -- ---- lines
 
-pub not_digit : digit_value 32 < 10 → ⊥
+pub not_digit : IsDigit 32 → ⊥
 not_digit h = omega arith
 
-not_digit_end : digit_value 10 < 10 → ⊥
+not_digit_end : IsDigit 10 → ⊥
 not_digit_end h = omega arith
 
 pub record_then-injective : (e f : List ℕ × Record) (s t : List ℕ) → IsEntry e → IsEntry f
@@ -238,16 +119,6 @@ lines_of-first (e ∷ es) (f ∷ fs) rest he hf same =
 
 -- ---- what a text that was written gives when it is read
 
--- digits that were written fill their bytes
-pub filled : {r : Result (Unit {0}) FromHexError} {out : List ℕ} (digits bytes : List ℕ) (n : ℕ)
-    → digits ≡ encode_lower bytes → length bytes ≡ n → IsBytes bytes
-    → MatchResult (decode_sized digits n) (λ b. (r ≡ Ok tt) × (out ≡ b)) (λ e. r ≡ Err e)
-    → (r ≡ Ok tt) × (out ≡ bytes)
-filled digits bytes n e len h read =
-    let is : decode_sized digits n ≡ Ok bytes =
-    ap (λ ds. decode_sized ds n) e ∙ decode_sized-encode_lower bytes n len h in
-    rw is at read
-
 -- a name has 2 to 128 digits
 pub name_digits : (digits name : List ℕ) → is_name name ≡ true → digits ≡ encode_lower name
     → (0 < length digits) × (length digits ≤ 128)
@@ -263,22 +134,12 @@ pub is_name-from_length : (name : List ℕ) → 1 ≤ length name → length nam
     → is_name name ≡ true
 is_name-from_length name low high = grind (arith, nat_tests)
 
--- ---- cuts of what was written
-
-module _ {end : ℕ} {text before behind : List ℕ} (cut : IsFirstCut end text before behind) where
-  -- bytes were written, and what followed
-  pub hex_cut : hex_digit_value end ≡ None → (bytes rest : List ℕ) → IsBytes bytes
-      → text ≡ hex_then bytes end rest → (before ≡ encode_lower bytes) × (behind ≡ rest)
-  hex_cut none bytes rest h e =
-      cut_same end before (encode_lower bytes) behind rest cut.first
-      (IsWithout-hex end none bytes h) (sym cut.whole ∙ e)
-
-  pub count_cut : 10 ≤ digit_value end → (c : NonZeroU32) (rest : List ℕ) → IsCount c
-      → text ≡ count_then c end rest
-      → (before ≡ decimal (non_zero_u32_get c)) × (behind ≡ rest)
-  count_cut none c rest h e =
-      cut_same end before (decimal (non_zero_u32_get c)) behind rest cut.first
-      (IsWithout-decimal end (λ small. omega arith) c h) (sym cut.whole ∙ e)
+-- bytes were written, and what followed
+pub hex_cut : {end : ℕ} {text before behind : List ℕ} → IsFirstCut end text before behind
+    → hex_digit_value end ≡ None → (bytes rest : List ℕ) → IsBytes bytes
+    → text ≡ hex_then bytes end rest → (before ≡ encode_lower bytes) × (behind ≡ rest)
+hex_cut {end} cut none bytes rest h e =
+    first_cut cut (encode_lower bytes) rest (IsWithout-hex end none bytes h) e
 
 pub head_then-append : (x : List ℕ) (c : NonZeroU32) (s t : List ℕ)
     → head_then x c s ++ t ≡ head_then x c (s ++ t)

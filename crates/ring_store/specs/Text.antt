@@ -1,16 +1,15 @@
 -- SPDX-License-Identifier: ISC
 -- A store as text: a line for its salt and its iteration count, and then a line for each record, in
 -- the order of names.
-use Rattle.std.specs.Prelude.{◌≡◌, ℕ, ◌^◌, ◌<◌, true, List, [], ◌∷◌, ◌++◌, length}
+use Rattle.std.specs.Prelude.{◌≡◌, ℕ, true, List, [], ◌∷◌, ◌++◌, length}
 use Rattle.std.specs.Prelude.{All, codes}
 use Rattle.std.specs.Cmp.Lexicographic.{slice_cmp}
-use Rattle.std.specs.Fmt.{decimal}
 use Rattle.std.specs.FinMap as table
-use Rattle.std.specs.Int.NonZero.{non_zero_u32_get}
 use Rattle.std.specs.List.{flat_map}
 use Rattle.std.specs.Ordering.{nat_cmp}
 use Rattle.std.specs.declared.num.NonZeroU32.{NonZeroU32}
 use Rattle.hex.specs.Hex.{IsBytes, encode_lower}
+use Rattle.ring_text.specs.Field.{IsCount, count_then}
 use Rattle.ring_store.specs.Store.{is_name}
 use Rattle.ring_store.specs.declared.records.Record.{Record}
 use Rattle.ring_store.specs.declared.store.PasswordStore.{PasswordStore}
@@ -18,10 +17,6 @@ use Rattle.ring_store.specs.declared.store.PasswordStore.{PasswordStore}
 -- bytes in lower-case hex, the byte that ends them, and the rest
 abbrev pub hex_then : (bytes : List ℕ) (end : ℕ) (rest : List ℕ) → List ℕ
 hex_then bytes end rest = encode_lower bytes ++ end ∷ rest
-
--- an iteration count in decimal, the byte that ends it, and the rest
-abbrev pub count_then : (c : NonZeroU32) (end : ℕ) (rest : List ℕ) → List ℕ
-count_then c end rest = decimal (non_zero_u32_get c) ++ end ∷ rest
 
 -- `NAME ITERATIONS CREDENTIAL`, a line feed, and the rest
 unfoldable pub record_then : List ℕ × Record → (rest : List ℕ) → List ℕ
@@ -39,10 +34,6 @@ head_then db_salt c rest = codes "ring_store 1 " ++ hex_then db_salt 32 (count_t
 -- the text of a store
 abbrev pub text_of : {Z : Type 0} → PasswordStore Z → List ℕ
 text_of s = head_then s.db_salt s.iterations (lines_of (table.entries s.records))
-
--- an iteration count fits 32 bits
-abbrev pub IsCount : NonZeroU32 → Type 0
-IsCount c = non_zero_u32_get c < 2 ^ 32
 
 -- a name of 1 to 64 bytes, and a credential of 32
 pub record IsEntry (e : List ℕ × Record) : Type 0 where

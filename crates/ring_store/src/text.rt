@@ -1,27 +1,21 @@
 // SPDX-License-Identifier: ISC
 //! The lines of a store's text: each part has a call that writes it and one that reads it.
 
-ghost use Rattle.std.specs.Prelude.{◌≡◌, ◌≢◌, ◌↔◌, ℕ, ◌≤◌, List, [], ◌∷◌, ◌++◌, length, IfSome};
-ghost use Rattle.std.specs.Prelude.{IsNone, IsTrue, OnOk, All, true};
+ghost use Rattle.std.specs.Prelude.{◌≡◌, ◌≢◌, ◌↔◌, ℕ, List, [], ◌++◌, length, IfSome, IsNone};
+ghost use Rattle.std.specs.Prelude.{IsTrue, OnOk, true};
 ghost use Rattle.hex.specs.Hex.{IsBytes, encode_lower, hex_digit_value};
-ghost use Rattle.std.specs.Char.{digit_value};
-ghost use Rattle.std.specs.Int.NonZero.{non_zero_u32_get};
-ghost use Rattle.std.specs.Fmt.{decimal};
 ghost use Rattle.std.specs.declared.num.NonZeroU32.{NonZeroU32};
-ghost use Rattle.ring.specs.Cut.{IsFirstCut, IsWithout};
 ghost use Rattle.ring_store.specs.Store.{is_name};
-ghost use Rattle.ring_store.specs.Text.{AreLines, IsCount, IsEntry, IsHead};
-ghost use Rattle.ring_store.specs.Text.{head_then, hex_then, count_then, record_then};
+ghost use Rattle.ring_store.specs.Text.{AreLines, IsEntry, IsHead};
+ghost use Rattle.ring_store.specs.Text.{head_then, hex_then, record_then};
 ghost use Rattle.ring_store.specs.declared.records.Record.{Record};
 
 use crate::credential::{CREDENTIAL_LEN, DB_SALT_LEN, MAX_NAME_LEN};
 use crate::records::Record;
-use itoa::Buffer;
-use memchr::memchr;
 use ring::polyfill::slice::write_at;
+use ring_text::{after, append_count, count_before, cut_at, fill_from_hex};
 use std::alloc::{AllocError, Allocator};
 use std::num::NonZeroU32;
-use std::str;
 
 // The start of every text: the name of the format and its version.
 const MARK: &[u8] = b"ring_store 1 ";
@@ -36,19 +30,6 @@ fn append_hex<A: Allocator + Copy>(
     ensures { OnOk result (out.new.items ≡ out.old.items ++ hex_then bytes.now end []) }
 {
     out.extend_from_slice(hex::encode(alloc, bytes)?.as_bytes())?;
-    out.push(end)?;
-    Ok(())
-}
-
-// Appends an iteration count in decimal, and then the byte `end`.
-fn append_count<A: Allocator>(
-    out: &mut Vec<u8, A>,
-    iterations: NonZeroU32,
-    end: u8,
-) -> Result<(), AllocError>
-    ensures { OnOk result (out.new.items ≡ out.old.items ++ count_then iterations end []) }
-{
-    out.extend_from_slice(Buffer::new().format(iterations.get()).as_bytes())?;
     out.push(end)?;
     Ok(())
 }
@@ -85,37 +66,6 @@ pub(crate) fn append_record<A: Allocator + Copy>(
     Ok(())
 }
 
-// The text before the first `byte` and the text after it, or `None` if there is none.
-fn cut_at(text: &[u8], byte: u8) -> Option<(&[u8], &[u8])>
-    ensures cut { IfSome result (λ parts. IsFirstCut byte text.now parts.0.now parts.1.now) }
-    ensures none { IsNone result → IsWithout byte text.now }
-{
-    match memchr(byte, text) {
-        Some(at) => Some((&text[..at], &text[at + 1..])),
-        None => None,
-    }
-}
-
-// Whether these are the digits of `bytes`, in lower case.
-fn is_hex_of(digits: &[u8], bytes: &[u8]) -> bool
-    requires { length bytes.now ≤ MAX_NAME_LEN }
-    ensures { IsTrue result ↔ (digits.now ≡ encode_lower bytes.now) }
-{
-    let mut again = [0; 2 * MAX_NAME_LEN];
-    let again = &mut again[..2 * bytes.len()];
-    hex::encode_to_slice(bytes, &mut *again).is_ok() && *again == *digits
-}
-
-// Decodes as many bytes as `out` has.
-fn fill(digits: &[u8], out: &mut [u8]) -> bool
-    requires { length out.old ≤ MAX_NAME_LEN }
-    ensures ok { IsTrue result → (digits.now ≡ encode_lower out.new) × IsBytes out.new }
-    ensures refused { ¬ (IsTrue result) → (bytes : List ℕ) → IsBytes bytes
-        → length bytes ≡ length out.old → digits.now ≢ encode_lower bytes }
-{
-    hex::decode_to_slice(digits, &mut *out).is_ok() && is_hex_of(digits, &*out)
-}
-
 // Decodes a name into `room`.
 fn name_in<'a>(digits: &[u8], room: &'a mut [u8; MAX_NAME_LEN]) -> Option<&'a [u8]>
     ensures ok { IfSome result (λ name. (digits.now ≡ encode_lower name.now)
@@ -127,34 +77,15 @@ fn name_in<'a>(digits: &[u8], room: &'a mut [u8; MAX_NAME_LEN]) -> Option<&'a [u
         return None;
     }
     let name = &mut room[..digits.len() / 2];
-    if !fill(digits, &mut *name) {
+    if !fill_from_hex(digits, &mut *name) {
         return None;
     }
     Some(name)
 }
 
-// Reads an iteration count, which has no leading zero.
-fn count_in(digits: &[u8]) -> Option<NonZeroU32>
-    ensures ok { IfSome result (λ c. (digits.now ≡ decimal (non_zero_u32_get c)) × IsCount c) }
-    ensures refused { IsNone result → (c : NonZeroU32) → IsCount c
-        → digits.now ≢ decimal (non_zero_u32_get c) }
-{
-    let Ok(text) = str::from_utf8(digits) else {
-        return None;
-    };
-    let Ok(count) = text.parse::<u32>() else {
-        return None;
-    };
-    if Buffer::new().format(count).as_bytes() != digits {
-        return None;
-    }
-    NonZeroU32::new(count)
-}
-
 // Reads as many bytes as `out` has, and the byte `end`. Returns the text after it.
 fn hex_before<'a>(text: &'a [u8], end: u8, out: &mut [u8]) -> Option<&'a [u8]>
-    requires end { hex_digit_value end ≡ None }
-    requires room { length out.old ≤ MAX_NAME_LEN }
+    requires { hex_digit_value end ≡ None }
     ensures ok { IfSome result (λ rest. (text.now ≡ hex_then out.new end rest.now)
         × IsBytes out.new) }
     ensures refused { IsNone result → (bytes rest : List ℕ) → IsBytes bytes
@@ -163,7 +94,7 @@ fn hex_before<'a>(text: &'a [u8], end: u8, out: &mut [u8]) -> Option<&'a [u8]>
     let Some((digits, rest)) = cut_at(text, end) else {
         return None;
     };
-    if !fill(digits, out) {
+    if !fill_from_hex(digits, out) {
         return None;
     }
     Some(rest)
@@ -190,23 +121,6 @@ fn name_before<'a, 'b>(
     }
 }
 
-// Reads an iteration count and the byte `end`. Returns the count and the text after them.
-fn count_before(text: &[u8], end: u8) -> Option<(NonZeroU32, &[u8])>
-    requires { 10 ≤ digit_value end }
-    ensures ok { IfSome result (λ found. (text.now ≡ count_then found.0 end found.1.now)
-        × IsCount found.0) }
-    ensures refused { IsNone result → (c : NonZeroU32) (rest : List ℕ) → IsCount c
-        → text.now ≢ count_then c end rest }
-{
-    let Some((digits, rest)) = cut_at(text, end) else {
-        return None;
-    };
-    match count_in(digits) {
-        Some(iterations) => Some((iterations, rest)),
-        None => None,
-    }
-}
-
 /// Reads the first line of a text. Returns the salt, the iteration count and the text after it.
 pub(crate) fn head_in(text: &[u8]) -> Option<([u8; DB_SALT_LEN], NonZeroU32, &[u8])>
     ensures ok { IfSome result (λ head. (text.now ≡ head_then head.0 head.1 head.2.now)
@@ -214,7 +128,7 @@ pub(crate) fn head_in(text: &[u8]) -> Option<([u8; DB_SALT_LEN], NonZeroU32, &[u
     ensures refused { IsNone result → (db_salt : List ℕ) (c : NonZeroU32) (rest : List ℕ)
         → IsHead db_salt c → text.now ≢ head_then db_salt c rest }
 {
-    let Some(rest) = text.strip_prefix(MARK) else {
+    let Some(rest) = after(text, MARK) else {
         return None;
     };
     let mut db_salt = [0; DB_SALT_LEN];

@@ -1,8 +1,9 @@
 -- SPDX-License-Identifier: ISC
 use Rattle.std.proofs.Common.{refl, sym, ◌∙◌, ◌++◌}
 use Rattle.std.proofs.lemmas.List.{append_cancel_left}
+use Rattle.ring_text.proofs.Numbers.{count_then-injective}
 use Rattle.ring_password_hash.specs.Field.{count_then}
-use Rattle.ring_password_hash.proofs.Texts.{count_then-injective, not_comma}
+use Rattle.ring_password_hash.proofs.Texts.{not_comma}
 use Rattle.ring_password_hash.proofs.head.two_counts.Goals as goal
 
 pub returns-in_default-count_before-clause-refused :

@@ -1,7 +1,9 @@
 -- SPDX-License-Identifier: ISC
 use Rattle.std.proofs.Common.{ap, refl, sym, ◌∙◌, rules}
-use Rattle.ring_store.specs.Text.{count_then, hex_then, record_then}
-use Rattle.ring_store.proofs.Texts.{count_then-injective, hex_then-injective, not_digit}
+use Rattle.ring_text.specs.Field.{count_then}
+use Rattle.ring_text.proofs.Numbers.{count_then-injective}
+use Rattle.ring_store.specs.Text.{hex_then, record_then}
+use Rattle.ring_store.proofs.Texts.{hex_then-injective, not_digit}
 use Rattle.ring_store.proofs.text.record_in.Goals as goal
 
 pub returns-in_default-clause-refused : goal.returns-in_default-clause-refused

@@ -5,13 +5,14 @@ use Rattle.std.specs.Prelude.{Err}
 use Rattle.std.proofs.lemmas.Bool.{eqb-true, eq-eqb}
 use Rattle.std.proofs.lemmas.List.{append_cancel_left}
 use Rattle.std.proofs.lemmas.Result.{err_from_is_err_and}
+use Rattle.ring_text.proofs.Numbers.{count_then-injective}
 use Rattle.ring_password_hash.specs.Field.{count_then, field_then, written}
 use Rattle.ring_password_hash.specs.Scram.{scram_text}
 use Rattle.ring_password_hash.specs.declared.error.HashError.TheVariants.{BadFormat}
 use Rattle.ring_password_hash.specs.declared.field.Encoding.TheVariants.{Base64}
 use Rattle.ring_password_hash.proofs.Fields.{base64_then-injective}
 use Rattle.ring_password_hash.proofs.Symbols.{IsWithout-base64}
-use Rattle.ring_password_hash.proofs.Texts.{count_then-injective, empty_of, not_colon}
+use Rattle.ring_password_hash.proofs.Texts.{empty_of, not_colon}
 use Rattle.ring_password_hash.proofs.scram.ScramVerifier.parse.Goals as goal
 
 pub returns-in_default-clause-bad_format : goal.returns-in_default-clause-bad_format

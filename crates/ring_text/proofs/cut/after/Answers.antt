@@ -1,8 +1,8 @@
 -- SPDX-License-Identifier: ISC
 use Rattle.std.proofs.lemmas.Bool.{eqb-true, eq-eqb}
 use Rattle.std.proofs.lemmas.Slice.Eq.{strip_prefix_is}
-use Rattle.ring_password_hash.proofs.Texts.{if_some, if_none}
-use Rattle.ring_password_hash.proofs.field.after.Goals as goal
+use Rattle.ring_text.proofs.Cuts.{if_some, if_none}
+use Rattle.ring_text.proofs.cut.after.Goals as goal
 
 pub returns-clause-ok : goal.returns-clause-ok
 returns-clause-ok c =

@@ -8,7 +8,7 @@ use Rattle.std.specs.Str.{IsAscii}
 use Rattle.std.specs.Int.NonZero.{non_zero_u32_get}
 use Rattle.std.proofs.lemmas.Fmt.{IsAscii-decimal, parse-decimal}
 use Rattle.std.proofs.lemmas.Str.{IsUtf8-from_ascii}
-use Rattle.ring_store.proofs.text.count_in.Goals as goal
+use Rattle.ring_text.proofs.count.count_in.Goals as goal
 
 zero_of : (o : Option NonZeroU32) (n : ℕ) → IsNone o
     → MatchOption o (n ≡ 0) (λ x. non_zero_u32_get x ≡ n) → n ≡ 0

@@ -1,0 +1,4 @@
+-- SPDX-License-Identifier: ISC
+pub mod Cuts
+pub mod Numbers
+pub mod LowerHex

@@ -5,8 +5,8 @@
 The program over them answers the lines of vectors/password_hashes, whose answers stand there behind `#= `. It
 makes hashes at random as Python's hashlib does, and reads 2,000 texts, each one byte away from a good one, as a
 reader of this script does. Django, Werkzeug, passlib, RustCrypto, mosquitto_passwd and PostgreSQL make hashes that it
-verifies, and verify those that it makes; PostgreSQL is a server of the test's own on a socket. The last line is
-'N passed, M failed', and ', K skipped' where a system is missing.
+verifies, and verify those that it makes; PostgreSQL is a server of the test's own on a socket. Each request for memory
+is refused in turn. The last line is 'N passed, M failed', and ', K skipped' where a system is missing.
 """
 
 import base64
@@ -14,6 +14,7 @@ import contextlib
 import functools
 import hashlib
 import hmac
+import itertools
 import json
 import os
 import pathlib
@@ -27,16 +28,23 @@ import sys
 import tempfile
 
 ROOT = pathlib.Path(__file__).resolve().parent.parent
+VECTORS = ROOT / "vectors/password_hashes"
 REFUSED = "not a password hash of this format"
 PASSWORDS = ["x", "", "correct horse battery staple", "p" * 63, "p" * 64, "p" * 65, "q" * 300, "quo'te$\\", "Ünïcödé ☃"]
 
 
-def answers(lines):
-    """The program's answers."""
+def run_over(lines, **settings):
+    """A run of the program over lines, and its answers."""
     built = subprocess.run([ROOT / "tools/built", "ring_password_hash_main", "rt", "run"], stdout=subprocess.PIPE)
     text = "".join(f"{line}\n" for line in lines).encode()
-    run = subprocess.run([built.stdout.decode().strip()], input=text, stdout=subprocess.PIPE, timeout=600)
-    return run.stdout.decode().split("\n")[:-1]
+    program = built.stdout.decode().strip()
+    run = subprocess.run([program], input=text, stdout=subprocess.PIPE, timeout=600, **settings)
+    return run, run.stdout.decode().split("\n")[:-1]
+
+
+def answers(lines):
+    """The program's answers."""
+    return run_over(lines)[1]
 
 
 def differing(wanted):
@@ -45,6 +53,12 @@ def differing(wanted):
     if not wanted or len(found) != len(wanted):
         return [("", f"{len(found)} answers to {len(wanted)} lines")]
     return [(line, answer) for (line, want), answer in zip(wanted, found) if want != answer]
+
+
+def rows_of(file):
+    """The lines of a file of vectors, each with its answer."""
+    lines = [it for it in file.read_text().split("\n") if it and not it.startswith("# ")]
+    return [(line, answer.partition("#= ")[2]) for line, answer in zip(lines[::2], lines[1::2])]
 
 
 def digits(data):
@@ -216,6 +230,53 @@ def proof_and_signature():
     signature = base64.b64encode(hmac.new(server, message, "sha256").digest()).decode()
     right = hashlib.sha256(key).digest() == stored and signature == "6rriTRBi23WpRR/wtup+mMhUZUn/dB5nLTJRsjl95G4="
     return [] if right else [("RFC 7677, section 3", answer)]
+
+
+# --- requests for memory, of which tests/failing_parts.c refuses one ---
+
+NO_MEMORY = "out of memory"
+
+
+def run_short_of_memory(library, lines, request):
+    """A run in which a request is refused: its status, its answers, and whether there was one."""
+    with tempfile.TemporaryFile() as report:
+        env = {"LD_PRELOAD": str(library), "REFUSED_REQUEST": str(request)}
+        env |= {"REPORT_TO": str(report.fileno()), "PATH": os.environ["PATH"]}
+        run, found = run_over(lines, env=env, pass_fds=[report.fileno()], stderr=subprocess.DEVNULL)
+        report.seek(0)
+        _, refusals, *_ = map(int, report.read().split())
+    return run.returncode, found, refusals != 0
+
+
+def fault_of(status, found, wanted):
+    """What is wrong with a run that is short of memory once, or None."""
+    others = [it for it in zip(found, wanted) if it[0] not in (it[1], NO_MEMORY)]
+    # The program's own requests end it, behind right answers; those of a call are of its line alone.
+    ended = status != 0 and len(found) < len(wanted) and NO_MEMORY not in found
+    whole = status == 0 and len(found) == len(wanted) and found.count(NO_MEMORY) <= 1
+    return None if not others and (ended or whole) else f"{status}, {found}"
+
+
+def each_request_is_refused():
+    """each request for memory refused in turn: its line is answered so, and the others as ever"""
+    rows = [row for file in ("django", "scram") for row in rows_of(VECTORS / f"{file}.txt")][:12]
+    lines, wanted = zip(*rows)
+    with tempfile.TemporaryDirectory() as folder:
+        library = pathlib.Path(folder) / "failing_parts.so"
+        source = ROOT / "tests/failing_parts.c"
+        command = ["cc", "-O1", "-shared", "-fPIC", "-o", library, source, "-ldl"]
+        subprocess.run(command, check=True)
+        wrong, told = [], set()
+        for request in itertools.count(1):
+            status, found, is_refused = run_short_of_memory(library, lines, request)
+            if not is_refused:
+                break
+            told |= {at for at, answer in enumerate(found) if answer == NO_MEMORY}
+            fault = fault_of(status, found, wanted)
+            wrong += [(f"request {request}", fault)] if fault else []
+    untold = [(lines[at], "no request was refused") for at in range(len(lines)) if at not in told]
+    return wrong + untold + differing(rows)
+
 
 
 # --- other systems ---
@@ -424,8 +485,7 @@ def file_case(file):
     """A file of vectors."""
 
     def run():
-        rows = [line for line in file.read_text().split("\n") if line and not line.startswith("# ")]
-        return differing([(line, answer.partition("#= ")[2]) for line, answer in zip(rows[::2], rows[1::2])])
+        return differing(rows_of(file))
 
     run.__doc__ = f"the lines of vectors/password_hashes/{file.name}"
     return run
@@ -433,8 +493,9 @@ def file_case(file):
 
 def main():
     passed = failed = skipped = 0
-    cases = [(file_case(file), True) for file in sorted((ROOT / "vectors/password_hashes").glob("*.txt"))]
+    cases = [(file_case(file), True) for file in sorted(VECTORS.glob("*.txt"))]
     cases += [(proof_and_signature, True), (are_as_hashlib, True), (are_read_exactly, True)]
+    cases += [(each_request_is_refused, shutil.which("cc"))]
     cases += [(with_module(module), python_with(module)) for module in PEERS]
     cases += [(with_rustcrypto, has_rustcrypto())]
     cases += [(with_mosquitto, shutil.which("mosquitto_passwd")), (with_postgres, postgres_bin())]

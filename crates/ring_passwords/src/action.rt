@@ -11,7 +11,7 @@ ghost use Rattle.ring_passwords.specs.declared.action.Action.{Action};
 
 use crate::about::About;
 use crate::failure::Failure;
-use itoa::Buffer;
+use ring_text::count_in;
 use std::num::NonZeroU32;
 
 /// What is done with a file.
@@ -137,11 +137,5 @@ pub fn iterations_of(word: &str) -> Option<NonZeroU32>
         × (non_zero_u32_get c < 2 ^ 32)) }
     ensures refused { IsNone result → IsNoCount word.now }
 {
-    let Ok(count) = word.parse::<u32>() else {
-        return None;
-    };
-    if Buffer::new().format(count) != word {
-        return None;
-    }
-    NonZeroU32::new(count)
+    count_in(word.as_bytes())
 }

@@ -39,8 +39,9 @@ pub fn append_count<A: Allocator>(
     append_number(out, iterations.get() as usize, end)
 }
 
-// Reads an iteration count, which has no leading zero.
-fn count_in(digits: &[u8]) -> Option<NonZeroU32>
+/// The iteration count that `digits` write in decimal, without a sign or a leading zero: 1 to
+/// 4,294,967,295. `None` if they write none.
+pub fn count_in(digits: &[u8]) -> Option<NonZeroU32>
     ensures ok { IfSome result (λ c. (digits.now ≡ decimal (non_zero_u32_get c)) × IsCount c) }
     ensures refused { IsNone result → (c : NonZeroU32) → IsCount c
         → digits.now ≢ decimal (non_zero_u32_get c) }

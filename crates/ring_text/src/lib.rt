@@ -10,6 +10,6 @@ mod count;
 mod cut;
 mod lower_hex;
 
-pub use crate::count::{append_count, append_number, count_before};
+pub use crate::count::{append_count, append_number, count_before, count_in};
 pub use crate::cut::{after, cut_at};
 pub use crate::lower_hex::fill_from_hex;

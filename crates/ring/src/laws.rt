@@ -29,6 +29,14 @@ use crate::limits::{is_tag_within, joined_len};
 use ring_core::cost::Meter;
 use ring_core::error::Unspecified;
 
+// The names under which callers have known these laws: the same function under both.
+pub use crate::laws::{
+    comparison_is_symmetric as law_10, derivation_cost_is_of_lengths as law_11,
+    empty_salt_extracts_as_zeros as law_7, info_is_its_joined_bytes as law_6,
+    long_key_signs_as_its_digest as law_4, shorter_derivation_is_a_front as law_8,
+    shorter_output_is_a_front as law_5, zeros_after_a_key_change_no_tag as law_3,
+};
+
 /// Returns the digest under `algorithm` of the message that `pieces` join to (FIPS 180-4, section
 /// 6), from a [`Context`] that is updated piece by piece. Its blocks are counted on `meter`: as
 /// many as the joined message has.

@@ -11,7 +11,7 @@ pub use Rattle.ring_core.specs.Lane.{lane, words_of_lane}
 pub use Rattle.ring_core.specs.Schedule.{IsWindow, IsBefore, IsBlockOf}
 pub use Rattle.ring_core.specs.Schedule.{four, sixteen, HoldsSums, IsReady, IsAhead}
 unfoldable pub use Rattle.ring_core.specs.Schedule.{listed, listed_at}
-pub use Rattle.ring_core.specs.Chunks.{chunk_count, chunk_at, chunks}
+pub use Rattle.ring_core.specs.Chunks.{chunk_count, chunk_at, chunks, array_at}
 unfoldable pub use Rattle.ring_core.specs.Chunks.{fold_chunks}
 pub use Rattle.ring_core.specs.Views.{chunk_items, chunk_total, items_left, chunks_left}
 pub use Rattle.ring_core.specs.Cost.{raised_count, compared_pairs, Counts}

@@ -1,7 +1,8 @@
 -- SPDX-License-Identifier: ISC
 -- A schedule: words that each follow from those before it.
 use Rattle.std.specs.Prelude.{◌≡◌, ℕ, zero, suc, ◌+◌, ◌*◌, ◌%◌, ◌<◌, ◌≤◌, List, [], ◌∷◌, ◌++◌}
-use Rattle.std.specs.Prelude.{drop, get_or, length, slice_index, take}
+use Rattle.std.specs.Prelude.{drop, length, slice_index, take}
+use Rattle.ring_core.specs.Chunks.{array_at}
 use Rattle.ring_core.specs.Word.{word_at}
 
 -- the list made by appending `next ws t` to the words ws before it, for t = 0, .., n - 1
@@ -40,7 +41,7 @@ sixteen w g = four w g ∷ four w (g + 1) ∷ four w (g + 2) ∷ four w (g + 3) 
 -- sums has the last sixteen of the sums s before sum 4 n, in fours: four g at place g % 4
 pub record HoldsSums (s : ℕ → ℕ) (sums : List (List ℕ)) (n : ℕ) : Type 0 where
   pub fours : length sums ≡ 4
-  pub held : (g : ℕ) → g < n → n ≤ g + 4 → get_or sums (g % 4) [] ≡ four s g
+  pub held : (g : ℕ) → g < n → n ≤ g + 4 → array_at sums (g % 4) ≡ four s g
 
 -- before round 4 g: the sixteen words of w from 4 g on, in fours, and their sums s
 pub record IsReady (w s : ℕ → ℕ) (words sums : List (List ℕ)) (g : ℕ) : Type 0 where

@@ -1,8 +1,8 @@
 // SPDX-License-Identifier: ISC
 //! The block function of SHA-1 (FIPS 180-4, 6.1.2).
-ghost use Rattle.std.specs.Prelude.{◌≡◌, ℕ, ◌<◌, List, [], get_or, length, map, take, drop};
-ghost use Rattle.ring_core.specs.Prelude.{IsBlockOf, chunk_items, chunk_total, raised, word_32};
-ghost use Rattle.ring_core.specs.Prelude.{words_of_lane};
+ghost use Rattle.std.specs.Prelude.{◌≡◌, ℕ, ◌<◌, List, length, map, take, drop};
+ghost use Rattle.ring_core.specs.Prelude.{IsBlockOf, array_at, chunk_items, chunk_total, raised};
+ghost use Rattle.ring_core.specs.Prelude.{word_32, words_of_lane};
 ghost use Rattle.ring_core.specs.Sha1.{block_step, blocks_from};
 
 mod sha1_blocks;
@@ -73,7 +73,7 @@ pub fn sha1_block_data_order_lanes_counted<V: Vector<One = Wrapping<u32>>, const
     requires lanes { length blocks.now ≡ V.LANES }
     requires whole { N ≡ 64 }
     ensures words { (i : ℕ) → i < V.LANES → take 5 (words_of_lane (V.lane i) states.new)
-        ≡ block_step (take 5 (words_of_lane (V.lane i) states.old)) (get_or blocks.now i []) }
+        ≡ block_step (take 5 (words_of_lane (V.lane i) states.old)) (array_at blocks.now i) }
     ensures rest { (i : ℕ) → drop 5 (words_of_lane (V.lane i) states.new)
         ≡ drop 5 (words_of_lane (V.lane i) states.old) }
     ensures cost { meter.new ≡ raised meter.old V.LANES 0 }

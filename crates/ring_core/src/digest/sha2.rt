@@ -1,8 +1,8 @@
 // SPDX-License-Identifier: ISC
 //! The block functions of SHA-2 (FIPS 180-4, 6.2.2 and 6.4.2), written once for both word sizes.
 //! The schedule's steps alone have a form for each. Blocks of bytes have a kernel of their own.
-ghost use Rattle.std.specs.Prelude.{◌≡◌, ℕ, ◌<◌, ◌≤◌, List, [], get_or, length, map};
-ghost use Rattle.ring_core.specs.Prelude.{IsBlockOf, block_len, block_step, blocks_from};
+ghost use Rattle.std.specs.Prelude.{◌≡◌, ℕ, ◌<◌, ◌≤◌, List, length, map};
+ghost use Rattle.ring_core.specs.Prelude.{IsBlockOf, array_at, block_len, block_step, blocks_from};
 ghost use Rattle.ring_core.specs.Prelude.{chunk_items, chunk_total, family_256, family_512, raised};
 ghost use Rattle.ring_core.specs.Prelude.{words_32, words_64, words_of_lane};
 
@@ -94,7 +94,7 @@ pub fn block_data_order_lanes_counted<V: Vector, const N: usize>(
     requires lanes { length blocks.now ≡ V.LANES }
     requires whole { N ≡ block_len V.One.family }
     ensures words { (i : ℕ) → i < V.LANES → words_of_lane (V.lane i) states.new
-        ≡ block_step V.One.family (words_of_lane (V.lane i) states.old) (get_or blocks.now i []) }
+        ≡ block_step V.One.family (words_of_lane (V.lane i) states.old) (array_at blocks.now i) }
     ensures cost { meter.new ≡ raised meter.old V.LANES 0 }
 {
     load_blocks::<V, N>(window, blocks); // step 1, to W(15)

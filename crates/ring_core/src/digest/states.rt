@@ -1,7 +1,7 @@
 // SPDX-License-Identifier: ISC
 //! Chaining states side by side (FIPS 180-4, 6.1 and 6.2), for several messages at a time.
-ghost use Rattle.std.specs.Prelude.{◌≡◌, ℕ, ⊤, ◌<◌, [], get_or, length, map, slice_index};
-ghost use Rattle.ring_core.specs.Prelude.{words_of_lane, xor_lists};
+ghost use Rattle.std.specs.Prelude.{◌≡◌, ℕ, ⊤, ◌<◌, length, map, slice_index};
+ghost use Rattle.ring_core.specs.Prelude.{array_at, words_of_lane, xor_lists};
 
 use crate::digest::word::Word;
 use crate::digest::word::in_lanes::InLanes;
@@ -36,8 +36,8 @@ fn words_at<V: Vector>(states: &[[V::One; 8]], at: usize) -> InLanes<V>
     requires lanes { length states.now ≡ V.LANES }
     requires place { at < 8 }
     ensures words { (i : ℕ) → i < V.LANES
-        → V.lane i result.0 ≡ slice_index (map V.One.value (get_or states.now i [])) at }
-    ensures eight { (i : ℕ) → i < V.LANES → length (get_or states.now i []) ≡ 8 }
+        → V.lane i result.0 ≡ slice_index (map V.One.value (array_at states.now i)) at }
+    ensures eight { (i : ℕ) → i < V.LANES → length (array_at states.now i) ≡ 8 }
 {
     let mut words = V::splat(V::One::ZERO);
     'lanes: for i in 0..V::LANES {
@@ -53,7 +53,7 @@ impl<V: Vector> States<V> {
         requires some { 0 < V.LANES }
         requires lanes { length states.now ≡ V.LANES }
         ensures { (i : ℕ) → i < V.LANES
-            → words_of_lane (V.lane i) result ≡ map V.One.value (get_or states.now i []) }
+            → words_of_lane (V.lane i) result ≡ map V.One.value (array_at states.now i) }
     {
         States {
             words: [

@@ -1,8 +1,8 @@
 // SPDX-License-Identifier: ISC
 //! The window of a schedule: its last sixteen words, of which word `t` is in slot `t` modulo 16.
-ghost use Rattle.std.specs.Prelude.{◌≡◌, ℕ, ◌+◌, ◌*◌, ◌/◌, ◌%◌, ◌<◌, ◌≤◌, ◌++◌, List, [], drop};
-ghost use Rattle.std.specs.Prelude.{get_or, length, map, slice_index, take};
-ghost use Rattle.ring_core.specs.Prelude.{IsBlockOf, IsWindow, word_at};
+ghost use Rattle.std.specs.Prelude.{◌≡◌, ℕ, ◌+◌, ◌*◌, ◌/◌, ◌%◌, ◌<◌, ◌≤◌, ◌++◌, List, drop};
+ghost use Rattle.std.specs.Prelude.{length, map, slice_index, take};
+ghost use Rattle.ring_core.specs.Prelude.{IsBlockOf, IsWindow, array_at, word_at};
 
 use crate::digest::word::in_lanes::InLanes;
 use crate::digest::word::lane_word::{LaneWord, Slots, Vector};
@@ -19,7 +19,7 @@ fn read_words<V: Vector, const N: usize>(blocks: &[[u8; N]], j: usize) -> V
     requires whole { N ≡ 16 * (V.One.bits / 8) }
     requires place { j < 16 }
     ensures { (i : ℕ) → i < V.LANES
-        → V.lane i result ≡ word_at V.One.bits (get_or blocks.now i []) j }
+        → V.lane i result ≡ word_at V.One.bits (array_at blocks.now i) j }
 {
     let mut words = V::splat(V::One::ZERO);
     'lanes: for i in 0..V::LANES {
@@ -37,7 +37,7 @@ pub(crate) fn load_blocks<V: Vector, const N: usize>(
     requires some { 0 < V.LANES }
     requires lanes { length blocks.now ≡ V.LANES }
     requires whole { N ≡ 16 * (V.One.bits / 8) }
-    ensures { (i : ℕ) → i < V.LANES → IsWindow (word_at V.One.bits (get_or blocks.now i []))
+    ensures { (i : ℕ) → i < V.LANES → IsWindow (word_at V.One.bits (array_at blocks.now i))
         (map (λ x. V.lane i x.0) window.new) 16 }
 {
     'words: for t in 0..16 {

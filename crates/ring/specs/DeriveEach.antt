@@ -3,6 +3,7 @@
 use Rattle.std.specs.Prelude.{◌≡◌, ◌↔◌, ℕ, zero, suc, ◌+◌, ◌<◌, Bool, false, IsTrue, List, []}
 use Rattle.std.specs.Prelude.{get_or, length}
 use Rattle.std.specs.Borrow.{Bor}
+use Rattle.std.specs.List.{slice_index_or}
 use Rattle.ring.specs.Cost.{derive_blocks}
 use Rattle.ring.specs.Each.{message_at}
 use Rattle.ring.specs.Hmac.{KeyStandsFor, key_algorithm}
@@ -14,6 +15,10 @@ use Rattle.ring.specs.declared.hmac.key.Key.{Key}
 -- the secret, or the salt, at a place of a list
 abbrev pub bytes_at : List (Bor (List ℕ)) → ℕ → List ℕ
 bytes_at = message_at
+
+-- the answer at a place of a list
+abbrev pub answer_at : List Bool → ℕ → Bool
+answer_at answers k = slice_index_or answers k false
 
 -- the key of n bytes at a place, after c iterations
 abbrev pub dk_at : (a : Algorithm) (salts secrets : List (Bor (List ℕ))) (c n k : ℕ) → List ℕ

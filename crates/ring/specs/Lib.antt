@@ -8,6 +8,7 @@ pub mod Padding
 pub mod Cost
 pub mod Digest
 pub mod Context
+pub mod Items
 pub mod Pieces
 pub mod Receiver
 pub mod Each

@@ -25,6 +25,7 @@ pub use Rattle.ring.specs.Context.{cut_off, block_algorithm, counted_bytes, cont
 pub use Rattle.ring.specs.Context.{pending_bytes, pending_len, message_len, HasTaken, IsJoined}
 pub use Rattle.ring.specs.Context.{HasRunBlocks, block_words, digest_with}
 unfoldable pub use Rattle.ring.specs.Context.{StandsFor}
+pub use Rattle.ring.specs.Items.{EachItem, EachChange}
 pub use Rattle.ring.specs.Pieces.{joined}
 unfoldable pub use Rattle.ring.specs.Pieces.{joined_blocks}
 pub use Rattle.ring.specs.Receiver.{HasPlaces, KeepsPlaces, Receives}
@@ -49,7 +50,7 @@ pub use Rattle.ring.specs.Pbkdf2.{pbkdf2_digest, IsDerived}
 unfoldable pub use Rattle.ring.specs.Pbkdf2.{pbkdf2_t, pbkdf2_u, dk}
 pub use Rattle.ring.specs.DeriveEach.{bytes_at, dk_at, derive_blocks_at, derive_each_blocks}
 pub use Rattle.ring.specs.DeriveEach.{AreDerived, CanDeriveEach, IsKeyOf, AreKeysOf, AreVerified}
-pub use Rattle.ring.specs.DeriveEach.{CanVerifyEach}
+pub use Rattle.ring.specs.DeriveEach.{CanVerifyEach, answer_at}
 unfoldable pub use Rattle.ring.specs.DeriveEach.{sum_below}
 pub use Rattle.ring.specs.Gives.{DerivesEach, DerivesKey, VerifiesEach, VerifiesKey}
 pub use Rattle.ring.specs.Rounds.{IsRound, CanRun, AreRounds, IsStart, AreStarts}
@@ -65,7 +66,7 @@ unfoldable pub use Rattle.ring.specs.Raw.{named_block_len, RawStandsFor, RawKeyS
 unfoldable pub use Rattle.ring.specs.Raw.{RawTagStandsFor}
 pub use Rattle.ring.specs.Cut.{IsWithout, IsFirstCut}
 pub use Rattle.ring.specs.Updates.{IsUpdated, AreUpdated, update_blocks, update_each_blocks}
-pub use Rattle.ring.specs.Updates.{IsPartway}
+pub use Rattle.ring.specs.Updates.{IsPartway, AreAlike}
 pub use Rattle.ring_core.specs.Cost.{Counts, compared_pairs}
 unfoldable pub use Rattle.ring_core.specs.Cost.{raised}
 pub use Rattle.ring.specs.declared.digest.algorithm.Algorithm.{Algorithm}

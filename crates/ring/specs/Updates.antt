@@ -2,7 +2,7 @@
 -- Several contexts, each updated with a piece.
 use Rattle.std.specs.Prelude.{◌≡◌, ℕ, ◌+◌, ◌%◌, ◌<◌, ◌≤◌, List, ◌++◌, get_or, length, sum_by}
 use Rattle.std.specs.Borrow.{Bor}
-use Rattle.std.specs.List.{zip}
+use Rattle.std.specs.List.{slice_index_or, zip}
 use Rattle.ring.specs.Algorithm.{block_len}
 use Rattle.ring.specs.Context.{StandsFor, context_algorithm, cut_off, digest_with, message_len}
 use Rattle.ring.specs.Context.{pending_len}
@@ -24,6 +24,12 @@ pub record AreUpdated (old new : List Context) (pieces : List (Bor (List ℕ))) 
   pub count : length new ≡ length old
   pub each : (k : ℕ) (c : Context) → k < length pieces
       → IsUpdated (get_or old k c) (get_or new k c) (message_at pieces k)
+
+-- the first n contexts are of the first one's algorithm
+abbrev pub AreAlike : List Context → ℕ → Type 0
+AreAlike contexts n =
+    (i : ℕ) (c : Context) → i < n → context_algorithm (slice_index_or contexts i c)
+    ≡ context_algorithm (slice_index_or contexts 0 c)
 
 -- the blocks that n bytes more complete in a context
 abbrev pub update_blocks : Context → ℕ → ℕ

@@ -1,9 +1,9 @@
 // SPDX-License-Identifier: ISC
 //! Digests of several messages at once, as many side by side as a vector has lanes.
 
-ghost use Rattle.std.specs.Prelude.{◌≡◌, ◌≢◌, ◌↔◌, ℕ, ◌-◌, ◌*◌, ◌/◌, ◌<◌, ◌≤◌, [], ◌++◌, IsOk};
-ghost use Rattle.std.specs.Prelude.{IsTrue, OnErr, OnOk, get_or, length, replicate};
-ghost use Rattle.ring_core.specs.Prelude.{chunk_at};
+ghost use Rattle.std.specs.Prelude.{◌≡◌, ◌≢◌, ◌↔◌, ℕ, ◌-◌, ◌*◌, ◌/◌, ◌<◌, ◌≤◌, ◌++◌, IsOk};
+ghost use Rattle.std.specs.Prelude.{IsTrue, OnErr, OnOk, length, replicate};
+ghost use Rattle.ring_core.specs.Prelude.{array_at, chunk_at};
 ghost use Rattle.ring.specs.Prelude.{AreDigests, CanDigestEach, CanRunTogether, HasWords, IsDigest};
 ghost use Rattle.ring.specs.Prelude.{IsMessageWithin, block_len, chaining_words, each_blocks};
 ghost use Rattle.ring.specs.Prelude.{is_state_of, message_at, padded, padded_blocks, raised};
@@ -177,7 +177,7 @@ fn put_blocks<const N: usize>(
     requires below { (i : ℕ) → i < length messages.now
         → index < padded_blocks algorithm (length (message_at messages.now i)) }
     ensures { (i : ℕ) → i < length messages.now
-        → get_or blocks.new i []
+        → array_at blocks.new i
         ≡ chunk_at N (padded algorithm (message_at messages.now i)) index }
 {
     'lanes: for i in 0..messages.len() {

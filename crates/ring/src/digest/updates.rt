@@ -1,14 +1,15 @@
 // SPDX-License-Identifier: ISC
 //! Several contexts, each updated with a piece, as many side by side as a vector has lanes.
 
-ghost use Rattle.std.specs.Prelude.{◌≡◌, ◌↔◌, ℕ, ◌-◌, ◌*◌, ◌/◌, ◌<◌, ◌≤◌, [], IsOk, OnErr, OnOk};
-ghost use Rattle.std.specs.Prelude.{drop, get_or, length};
-ghost use Rattle.ring_core.specs.Prelude.{chunk_at, fold_chunks};
-ghost use Rattle.ring.specs.Prelude.{Algorithm, AreUpdated, CanRunTogether, Context, DynState};
-ghost use Rattle.ring.specs.Prelude.{HasWords, IsPartway, block_function, block_len};
-ghost use Rattle.ring.specs.Prelude.{chaining_words, context_algorithm, message_at, pending_len};
-ghost use Rattle.ring.specs.Prelude.{raised, spare_words, state_word_len, update_each_blocks};
-ghost use Rattle.ring.specs.Prelude.{word_count, word_len, words};
+ghost use Rattle.std.specs.Prelude.{◌≡◌, ◌↔◌, ℕ, ◌-◌, ◌*◌, ◌/◌, ◌<◌, ◌≤◌, All, IsOk, OnErr};
+ghost use Rattle.std.specs.Prelude.{OnOk, Some, drop, length, slice_get};
+ghost use Rattle.std.specs.List.{HoldsAt};
+ghost use Rattle.ring_core.specs.Prelude.{array_at, chunk_at, fold_chunks};
+ghost use Rattle.ring.specs.Prelude.{Algorithm, AreAlike, AreUpdated, CanRunTogether};
+ghost use Rattle.ring.specs.Prelude.{EachChange, EachItem, HasWords, IsPartway, block_function};
+ghost use Rattle.ring.specs.Prelude.{block_len, chaining_words, context_algorithm, message_at};
+ghost use Rattle.ring.specs.Prelude.{pending_len, raised, spare_words, state_word_len};
+ghost use Rattle.ring.specs.Prelude.{update_each_blocks, word_count, word_len, words};
 
 use crate::digest::algorithm::{Algorithm, AlgorithmId};
 use crate::digest::context::Context;
@@ -52,7 +53,7 @@ fn put_whole_blocks<const N: usize>(pieces: &[&[u8]], index: usize, blocks: &mut
     requires below { (i : ℕ) → i < length pieces.now
         → index < length (message_at pieces.now i) / N }
     ensures { (i : ℕ) → i < length pieces.now
-        → get_or blocks.new i [] ≡ chunk_at N (message_at pieces.now i) index }
+        → array_at blocks.new i ≡ chunk_at N (message_at pieces.now i) index }
 {
     'lanes: for i in 0..pieces.len() {
         put_whole::<N>(pieces[i], index, &mut blocks[i]);
@@ -72,17 +73,14 @@ fn states_past<H: RunBlocks<N>, const N: usize>(
     requires small { N ≤ 128 }
     requires lanes { length states.now ≡ H.LANES }
     requires pieces { length pieces.now ≡ H.LANES }
-    requires sized { (i : ℕ) (s : DynState) → i < H.LANES
-        → state_word_len (get_or states.now i s) ≡ H.word_len }
-    requires eight { (i : ℕ) (s : DynState) → i < H.LANES
-        → length (words (get_or states.now i s)) ≡ 8 }
+    requires sized { All (λ state. state_word_len state ≡ H.word_len) states.now }
+    requires eight { All (λ state. length (words state) ≡ 8) states.now }
     requires below { (i : ℕ) → i < H.LANES → count ≤ length (message_at pieces.now i) / N }
-    ensures words { (a : Algorithm) (i : ℕ) (s : DynState) → H.is_of a → i < H.LANES
-        → HasWords a (fold_chunks (block_function a) N
-        (chaining_words a (get_or states.now i s)) (message_at pieces.now i) count)
-        (H.lane i result) }
-    ensures spare { (a : Algorithm) (i : ℕ) (s : DynState) → H.is_of a → i < H.LANES
-        → drop (word_count a) (H.lane i result) ≡ spare_words a (get_or states.now i s) }
+    ensures words { (a : Algorithm) → H.is_of a → EachItem states.now (λ i state.
+        HasWords a (fold_chunks (block_function a) N (chaining_words a state)
+        (message_at pieces.now i) count) (H.lane i result)) }
+    ensures spare { (a : Algorithm) → H.is_of a → EachItem states.now (λ i state.
+        drop (word_count a) (H.lane i result) ≡ spare_words a state) }
     ensures cost { meter.new ≡ raised meter.old (H.LANES * count) 0 }
 {
     let mut window = H::window();
@@ -98,14 +96,11 @@ fn states_past<H: RunBlocks<N>, const N: usize>(
 // The states of the contexts, in room for the greatest number of lanes.
 fn states_of(algorithm: Algorithm, contexts: &[Context]) -> [DynState; MAX_LANES]
     requires most { length contexts.now ≤ 8 }
-    requires algorithm { (i : ℕ) (c : Context) → i < length contexts.now
-        → context_algorithm (get_or contexts.now i c) ≡ algorithm }
-    ensures state { (i : ℕ) (s : DynState) (c : Context) → i < length contexts.now
-        → get_or result i s ≡ (get_or contexts.now i c).block.state }
-    ensures eight { (i : ℕ) (s : DynState) → i < length contexts.now
-        → length (words (get_or result i s)) ≡ 8 }
-    ensures sized { (i : ℕ) (s : DynState) → i < length contexts.now
-        → state_word_len (get_or result i s) ≡ word_len algorithm }
+    requires algorithm { All (λ context. context_algorithm context ≡ algorithm) contexts.now }
+    ensures state { EachItem contexts.now (λ i context.
+        slice_get result i ≡ Some context.block.state) }
+    ensures eight { All (λ state. length (words state) ≡ 8) result }
+    ensures sized { All (λ state. state_word_len state ≡ word_len algorithm) result }
 {
     let mut states = [algorithm.initial_state(); MAX_LANES];
     'contexts: for i in 0..contexts.len() {
@@ -124,11 +119,10 @@ fn complete_each<'p>(
     requires most { length contexts.old ≤ 8 }
     requires pieces { length pieces.now ≡ length contexts.old }
     ensures count { length contexts.new ≡ length contexts.old }
-    ensures partway { (i : ℕ) (c : Context) → i < length contexts.old
-        → IsPartway (get_or contexts.old i c) (get_or contexts.new i c) (message_at pieces.now i)
-        (message_at result i) }
-    ensures ready { (i : ℕ) (c : Context) → i < length contexts.old
-        → 0 < length (message_at result i) → pending_len (get_or contexts.new i c) ≡ 0 }
+    ensures partway { EachChange contexts.old contexts.new (λ i old new.
+        IsPartway old new (message_at pieces.now i) (message_at result i)) }
+    ensures ready { EachItem contexts.new (λ i context.
+        0 < length (message_at result i) → pending_len context ≡ 0) }
     ensures within { update_each_blocks contexts.new result
         ≤ update_each_blocks contexts.old pieces.now }
     ensures cost { meter.new ≡ raised meter.old (update_each_blocks contexts.old pieces.now
@@ -155,10 +149,9 @@ fn run_in_lanes<H: RunBlocks<N>, const N: usize>(
     requires whole { block_len algorithm ≡ N }
     requires lanes { length contexts.old ≡ H.LANES }
     requires pieces { length pieces.now ≡ H.LANES }
-    requires algorithm { (i : ℕ) (c : Context) → i < H.LANES
-        → context_algorithm (get_or contexts.old i c) ≡ algorithm }
-    requires ready { (i : ℕ) (c : Context) → i < H.LANES
-        → 0 < length (message_at pieces.now i) → pending_len (get_or contexts.old i c) ≡ 0 }
+    requires algorithm { All (λ context. context_algorithm context ≡ algorithm) contexts.old }
+    requires ready { EachItem contexts.old (λ i context.
+        0 < length (message_at pieces.now i) → pending_len context ≡ 0) }
     ensures ok { AreUpdated contexts.old contexts.new pieces.now }
     ensures cost { meter.new
         ≡ raised meter.old (update_each_blocks contexts.old pieces.now) 0 }
@@ -185,8 +178,7 @@ fn update_in_lanes<H: RunBlocks<N>, const N: usize>(
     requires whole { block_len algorithm ≡ N }
     requires lanes { length contexts.old ≡ H.LANES }
     requires pieces { length pieces.now ≡ H.LANES }
-    requires algorithm { (i : ℕ) (c : Context) → i < H.LANES
-        → context_algorithm (get_or contexts.old i c) ≡ algorithm }
+    requires algorithm { All (λ context. context_algorithm context ≡ algorithm) contexts.old }
     ensures ok { AreUpdated contexts.old contexts.new pieces.now }
     ensures cost { meter.new
         ≡ raised meter.old (update_each_blocks contexts.old pieces.now) 0 }
@@ -203,11 +195,9 @@ fn update_together<const VECTOR_BITS: usize>(
 )
     requires some { 0 < length contexts.old }
     requires pieces { length pieces.now ≡ length contexts.old }
-    requires together { (c : Context) → CanRunTogether VECTOR_BITS
-        (context_algorithm (get_or contexts.old 0 c)) (length contexts.old) }
-    requires alike { (i : ℕ) (c : Context) → i < length contexts.old
-        → context_algorithm (get_or contexts.old i c)
-        ≡ context_algorithm (get_or contexts.old 0 c) }
+    requires together { HoldsAt (λ context. CanRunTogether VECTOR_BITS
+        (context_algorithm context) (length contexts.old)) contexts.old 0 }
+    requires alike { AreAlike contexts.old (length contexts.old) }
     ensures ok { AreUpdated contexts.old contexts.new pieces.now }
     ensures cost { meter.new
         ≡ raised meter.old (update_each_blocks contexts.old pieces.now) 0 }
@@ -232,9 +222,7 @@ fn count_alike(contexts: &[Context]) -> usize
     requires { 0 < length contexts.now }
     ensures some { 0 < result }
     ensures within { result ≤ length contexts.now }
-    ensures alike { (i : ℕ) (c : Context) → i < result
-        → context_algorithm (get_or contexts.now i c)
-        ≡ context_algorithm (get_or contexts.now 0 c) }
+    ensures alike { AreAlike contexts.now result }
 {
     let algorithm = contexts[0].algorithm();
     'contexts: for i in 1..contexts.len() {
@@ -250,11 +238,9 @@ fn lanes_of<const VECTOR_BITS: usize>(contexts: &[Context]) -> usize
     requires { 0 < length contexts.now }
     ensures some { 0 < result }
     ensures within { result ≤ length contexts.now }
-    ensures together { (c : Context)
-        → CanRunTogether VECTOR_BITS (context_algorithm (get_or contexts.now 0 c)) result }
-    ensures alike { (i : ℕ) (c : Context) → i < result
-        → context_algorithm (get_or contexts.now i c)
-        ≡ context_algorithm (get_or contexts.now 0 c) }
+    ensures together { HoldsAt (λ context.
+        CanRunTogether VECTOR_BITS (context_algorithm context) result) contexts.now 0 }
+    ensures alike { AreAlike contexts.now result }
 {
     let next = &contexts[..contexts.len().min(MAX_LANES)];
     lanes_for::<VECTOR_BITS>(contexts[0].algorithm(), count_alike(next))

@@ -2,8 +2,8 @@
 //! Keys derived from several secrets at once, whose rounds run as many side by side as there are
 //! lanes, and the verification of several values: derived as several are, and compared.
 
-ghost use Rattle.std.specs.Prelude.{◌≡◌, ◌↔◌, ℕ, ◌*◌, ◌<◌, ◌≤◌, [], IsOk, IsTrue, OnErr, OnOk};
-ghost use Rattle.std.specs.Prelude.{get_or, length, take};
+ghost use Rattle.std.specs.Prelude.{◌≡◌, ◌↔◌, ℕ, ◌*◌, ◌<◌, ◌≤◌, All, IsOk, IsTrue, OnErr, OnOk};
+ghost use Rattle.std.specs.Prelude.{length, take};
 ghost use Rattle.std.specs.Int.NonZero.{non_zero_u32_get};
 ghost use Rattle.ring.specs.Prelude.{AreDerived, AreKeysOf, AreVerified, CanDerive, CanDeriveEach};
 ghost use Rattle.ring.specs.Prelude.{CanVerifyEach, DerivesEach, HasPlaces, KeyStandsFor, Receives};
@@ -129,7 +129,7 @@ fn derive_all<const VECTOR_BITS: usize, R: Receiver>(
 
 // Sets each place to zeros.
 fn clear<const N: usize>(out: &mut [[u8; N]])
-    ensures { (i : ℕ) → i < length out.old → length (get_or out.new i []) ≡ N }
+    ensures { All (λ place. length place ≡ N) out.new }
 {
     'places: for i in 0..out.len() {
         out[i] = [0; N];

@@ -3,9 +3,10 @@
 //! values. So a verification is a derivation whose bytes are compared.
 
 ghost use Rattle.std.specs.Prelude.{◌≡◌, ◌≢◌, ◌↔◌, ℕ, ◌+◌, ◌*◌, ◌^◌, ◌<◌, ◌≤◌, [], ◌++◌, IsTrue};
-ghost use Rattle.std.specs.Prelude.{List, drop, false, get_or, length, min, take, true};
+ghost use Rattle.std.specs.Prelude.{List, drop, length, min, take, true};
 ghost use Rattle.std.proofs.Common.{arith, refl};
-ghost use Rattle.ring.specs.Prelude.{HasPlaces, KeepsPlaces, Receives, raised};
+ghost use Rattle.ring_core.specs.Prelude.{array_at};
+ghost use Rattle.ring.specs.Prelude.{HasPlaces, KeepsPlaces, Receives, answer_at, raised};
 
 use ring_core::bb::verify_slices_are_equal_counted;
 use ring_core::cost::Meter;
@@ -100,10 +101,10 @@ impl<'a> Receiver for Compared<'a> {
 fn put_at<const N: usize>(out: &mut [[u8; N]], place: usize, from: usize, part: &[u8])
     requires place { place < length out.old }
     requires room { from + length part.now ≤ N }
-    ensures bytes { take (from + length part.now) (get_or out.new place [])
-        ≡ take from (get_or out.old place []) ++ part.now }
-    ensures len { length (get_or out.new place []) ≡ length (get_or out.old place []) }
-    ensures others { (j : ℕ) → j ≢ place → get_or out.new j [] ≡ get_or out.old j [] }
+    ensures bytes { take (from + length part.now) (array_at out.new place)
+        ≡ take from (array_at out.old place) ++ part.now }
+    ensures len { length (array_at out.new place) ≡ length (array_at out.old place) }
+    ensures others { (j : ℕ) → j ≢ place → array_at out.new j ≡ array_at out.old j }
 {
     out[place][from..from + part.len()].copy_from_slice(part);
 }
@@ -123,8 +124,8 @@ impl<'a, const N: usize> Receiver for WrittenEach<'a, N> {
 
     ghost HasReceived = { λ start now place front. (now.out.ghost_name ≡ start.out.ghost_name)
         × (length now.out.now ≡ length start.out.now)
-        × (length (get_or now.out.now place []) ≡ length (get_or start.out.now place []))
-        × (take (length front) (get_or now.out.now place []) ≡ front) };
+        × (length (array_at now.out.now place) ≡ length (array_at start.out.now place))
+        × (take (length front) (array_at now.out.now place) ≡ front) };
 
     ghost none = { λ start place. (refl, refl, refl, refl) };
 
@@ -146,9 +147,9 @@ fn has_at<const N: usize>(
     requires place { place < length values.now }
     requires room { from + length part.now ≤ N }
     ensures ok { IsTrue result
-        ↔ (take (length part.now) (drop from (get_or values.now place [])) ≡ part.now) }
+        ↔ (take (length part.now) (drop from (array_at values.now place)) ≡ part.now) }
     ensures cost { meter.new ≡ raised meter.old 0 (length part.now) }
-    ensures len { length (get_or values.now place []) ≡ N }
+    ensures len { length (array_at values.now place) ≡ N }
 {
     let value: &[u8] = &values[place];
     are_same(part, &value[from..from + part.len()], meter)
@@ -171,10 +172,10 @@ impl<'a, const N: usize> Receiver for ComparedEach<'a, N> {
     ghost HasReceived = { λ start now place front. (now.values ≡ start.values)
         × (now.matches.ghost_name ≡ start.matches.ghost_name)
         × (length now.matches.now ≡ length start.matches.now)
-        × (0 < length front → length (get_or now.values.now place []) ≡ N)
-        × ((get_or now.matches.now place false ≡ true)
-        ↔ ((get_or start.matches.now place false ≡ true)
-        × (take (length front) (get_or now.values.now place []) ≡ front))) };
+        × (0 < length front → length (array_at now.values.now place) ≡ N)
+        × ((answer_at now.matches.now place ≡ true)
+        ↔ ((answer_at start.matches.now place ≡ true)
+        × (take (length front) (array_at now.values.now place) ≡ front))) };
 
     ghost none = { λ start place. (
       refl,

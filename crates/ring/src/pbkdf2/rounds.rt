@@ -3,12 +3,12 @@
 //! T_2, .., one after another, of which the last may be cut off. A round is the exclusive or of its
 //! iterates (RFC 2898, section 5.2).
 
-ghost use Rattle.std.specs.Prelude.{◌≡◌, ℕ, ◌+◌, ◌-◌, ◌*◌, ◌^◌, ◌<◌, ◌≤◌, List, get_or, length};
+ghost use Rattle.std.specs.Prelude.{◌≡◌, ℕ, ◌+◌, ◌-◌, ◌*◌, ◌^◌, ◌<◌, ◌≤◌, All, List, length};
 ghost use Rattle.std.specs.Prelude.{take};
 ghost use Rattle.std.specs.Int.NonZero.{non_zero_u32_get};
 ghost use Rattle.ring.specs.Prelude.{AreKeysOf, AreRounds, AreStarts, BeginsWithRound};
-ghost use Rattle.ring.specs.Prelude.{CanRunTogether, HasPlaces, IsRound, IsTagWithin, KeepsPlaces};
-ghost use Rattle.ring.specs.Prelude.{Key, Output, Receives, bytes_at, bytes_before, derive_rounds};
+ghost use Rattle.ring.specs.Prelude.{CanRunTogether, EachItem, HasPlaces, IsRound, IsTagWithin};
+ghost use Rattle.ring.specs.Prelude.{KeepsPlaces, Receives, bytes_at, bytes_before, derive_rounds};
 ghost use Rattle.ring.specs.Prelude.{dk, first_blocks, iterate_blocks, key_algorithm, len_before};
 ghost use Rattle.ring.specs.Prelude.{max_dk_len, next_round, output_len, pbkdf2_t, raised};
 ghost use Rattle.ring.specs.Prelude.{round_blocks, round_on, sum_below};
@@ -138,9 +138,8 @@ fn write_rounds_in_lanes<H: DigestBlock>(
     requires same { H.algorithm ≡ algorithm }
     requires lanes { length outputs.old ≡ H.LANES }
     requires rounds { AreRounds algorithm keys.now salts.now len first H.LANES }
-    ensures ok { (i : ℕ) (room : Output) → i < H.LANES → BeginsWithRound algorithm keys.now
-        salts.now (round_on algorithm len first i) (non_zero_u32_get iterations)
-        (get_or outputs.new i room).0 }
+    ensures ok { EachItem outputs.new (λ i output. BeginsWithRound algorithm keys.now salts.now
+        (round_on algorithm len first i) (non_zero_u32_get iterations) output.0) }
     ensures cost { meter.new ≡ raised meter.old (sum_below (λ i. round_blocks algorithm salts.now
         (non_zero_u32_get iterations) (round_on algorithm len first i)) H.LANES) 0 }
 {
@@ -182,9 +181,8 @@ fn write_rounds<const VECTOR_BITS: usize>(
 )
     requires together { CanRunTogether VECTOR_BITS algorithm (length outputs.old) }
     requires rounds { AreRounds algorithm keys.now salts.now len first (length outputs.old) }
-    ensures ok { (i : ℕ) (room : Output) → i < length outputs.old → BeginsWithRound algorithm
-        keys.now salts.now (round_on algorithm len first i) (non_zero_u32_get iterations)
-        (get_or outputs.new i room).0 }
+    ensures ok { EachItem outputs.new (λ i output. BeginsWithRound algorithm keys.now salts.now
+        (round_on algorithm len first i) (non_zero_u32_get iterations) output.0) }
     ensures cost { meter.new ≡ raised meter.old (sum_below (λ i. round_blocks algorithm salts.now
         (non_zero_u32_get iterations) (round_on algorithm len first i)) (length outputs.old)) 0 }
 {
@@ -232,8 +230,7 @@ fn hand_over<R: Receiver>(
     ensures next { result ≡ round_on algorithm len first (length outputs.now) }
     ensures ok { (start : R) (p s : ℕ → List ℕ) (c m : ℕ)
         → ((i : ℕ) → i < length outputs.now → (round_on algorithm len first i).place < m)
-        → ((i : ℕ) (room : Output) → i < length outputs.now
-        → take (output_len algorithm) (get_or outputs.now i room).0
+        → EachItem outputs.now (λ i output. take (output_len algorithm) output.0
         ≡ pbkdf2_t algorithm (p (round_on algorithm len first i).place)
         (s (round_on algorithm len first i).place) (round_on algorithm len first i).index c)
         → Receives R.HasReceived place m 0
@@ -269,8 +266,7 @@ pub(crate) fn derive_under<const VECTOR_BITS: usize, R: Receiver>(
     receiver: &mut R,
     meter: &mut Meter,
 )
-    requires keys { (i : ℕ) (key : Key) → i < length keys.now
-        → key_algorithm (get_or keys.now i key) ≡ algorithm }
+    requires keys { All (λ key. key_algorithm key ≡ algorithm) keys.now }
     requires count { length salts.now ≡ length keys.now }
     requires within { (i : ℕ) → 0 < len → i < length keys.now
         → IsTagWithin algorithm (length (bytes_at salts.now i) + 4) }

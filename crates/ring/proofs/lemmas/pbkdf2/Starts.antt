@@ -1,9 +1,10 @@
 -- SPDX-License-Identifier: ISC
 -- What rounds start from, and what they give, in lanes.
-use Rattle.std.proofs.Common.{◌≡◌, ◌≢◌, ℕ, ◌+◌, ◌*◌, ◌<◌, [], ◌∷◌, ◌∙◌, IsTrue, List, arith}
+use Rattle.std.proofs.Common.{◌≡◌, ◌≢◌, ℕ, ◌+◌, ◌*◌, ◌<◌, ◌≤◌, [], ◌∷◌, ◌∙◌, IsTrue, List, arith}
 use Rattle.std.proofs.Common.{get_or, inl, inr, length, refl, rules, set, take}
 use Rattle.std.proofs.lemmas.Bool.{cases_lt}
 use Rattle.std.proofs.lemmas.List.{get_or-set_other, get_or-set_same, get_or-take}
+use Rattle.std.proofs.lemmas.List.{length-take-le}
 use Rattle.std.specs.Borrow.{Bor}
 use Rattle.ring.specs.Prelude.{Algorithm, AreStarts, BeginsWithRound, DynState, IsKeyInLane}
 use Rattle.ring.specs.Prelude.{IsStart, Key, KeyStandsFor, Round, Tag, bytes_at, digest_bytes}
@@ -17,6 +18,12 @@ use Rattle.ring.proofs.Lanes.{digest_read, key_in_lane}
 pub some-item : {X : Type 0} (xs : List X) → 0 < length xs → X
 some-item [] some = absurd (omega (arith, some))
 some-item (x ∷ xs) some = x
+
+-- a lane has one of eight states
+pub in_lanes : {X : Type 0} {i m : ℕ} (xs : List X) → length xs ≡ 8 → m ≤ 8 → i < m
+    → i < length (take m xs)
+in_lanes {m = m} xs eight most below =
+    omega (arith, below, length-take-le m xs (omega (arith, eight, most)))
 
 -- what a round starts from, with the words that were read of its first iterate's bytes
 pub start-made : (a : Algorithm) (key : Key) (salt : List ℕ) (index : ℕ) (tag : Tag)

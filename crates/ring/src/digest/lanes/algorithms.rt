@@ -2,8 +2,9 @@
 //! What a digest algorithm does over states in lanes.
 
 ghost use Rattle.std.proofs.Common.{ap, refl};
-ghost use Rattle.std.specs.Prelude.{◌≡◌, ℕ, ◌<◌, ◌++◌, List, [], drop, get_or};
+ghost use Rattle.std.specs.Prelude.{◌≡◌, ℕ, ◌<◌, ◌++◌, List, drop};
 ghost use Rattle.std.specs.Prelude.{length, take};
+ghost use Rattle.ring_core.specs.Prelude.{array_at};
 ghost use Rattle.ring.specs.Prelude.{Algorithm, HasWords, SHA1_FOR_LEGACY_USE_ONLY, SHA256, SHA384};
 ghost use Rattle.ring.specs.Prelude.{SHA512, SHA512_256, block_function, digest_bytes};
 ghost use Rattle.ring.specs.Prelude.{prepared_padding, raised, word_count, word_len};
@@ -240,7 +241,7 @@ pub(crate) trait RunBlocks<const N: usize>: LaneStates {
         requires lanes { length blocks.now ≡ Self.LANES }
         ensures words { (a : Algorithm) (i : ℕ) (h : List ℕ) → is_of a → i < Self.LANES
             → HasWords a h (Self.lane i states.old)
-            → HasWords a (block_function a h (get_or blocks.now i [])) (Self.lane i states.new) }
+            → HasWords a (block_function a h (array_at blocks.now i)) (Self.lane i states.new) }
         ensures spare { (a : Algorithm) (i : ℕ) (h : List ℕ) → is_of a → i < Self.LANES
             → HasWords a h (Self.lane i states.old)
             → drop (word_count a) (Self.lane i states.new)

@@ -1,9 +1,9 @@
 // SPDX-License-Identifier: ISC
 //! Chaining states in lanes, of words of one size: one alone, or as many as a vector has words.
 
-ghost use Rattle.std.specs.Prelude.{◌≡◌, ℕ, ◌<◌, ◌≤◌, List, [], get_or, length, map};
-ghost use Rattle.ring_core.specs.Prelude.{words_of_lane, xor_lists};
-ghost use Rattle.ring.specs.Prelude.{DynState, state_word_len, words};
+ghost use Rattle.std.specs.Prelude.{◌≡◌, ℕ, ◌<◌, ◌≤◌, All, List, length, map};
+ghost use Rattle.ring_core.specs.Prelude.{array_at, words_of_lane, xor_lists};
+ghost use Rattle.ring.specs.Prelude.{EachItem, state_word_len, words};
 
 use crate::digest::dynstate::{DynState, StateWord};
 use ring_core::digest::states::{States, Window};
@@ -42,10 +42,8 @@ pub(crate) trait LaneStates {
         requires some { 0 < LANES }
         requires most { LANES ≤ 8 }
         requires lanes { length states.now ≡ LANES }
-        requires sized { (i : ℕ) (s : DynState) → i < LANES
-            → state_word_len (get_or states.now i s) ≡ word_len }
-        ensures { (i : ℕ) (s : DynState) → i < LANES
-            → lane i result ≡ words (get_or states.now i s) };
+        requires sized { All (λ state. state_word_len state ≡ word_len) states.now }
+        ensures { EachItem states.now (λ i state. lane i result ≡ words state) };
 
     // The same state in each lane.
     fn splat(state: &DynState) -> Self::States
@@ -123,10 +121,9 @@ impl<W: StateWord, A> LaneStates for OneLane<W, A> {
 // The words of the states, in room for the greatest number of lanes.
 fn words_of<W: StateWord>(states: &[DynState]) -> [[W; 8]; MAX_LANES]
     requires most { length states.now ≤ 8 }
-    requires sized { (i : ℕ) (s : DynState) → i < length states.now
-        → state_word_len (get_or states.now i s) ≡ W.len }
-    ensures { (i : ℕ) (s : DynState) → i < length states.now
-        → map W.value (get_or result i []) ≡ words (get_or states.now i s) }
+    requires sized { All (λ state. state_word_len state ≡ W.len) states.now }
+    ensures { EachItem states.now (λ i state.
+        map W.value (array_at result i) ≡ words state) }
 {
     let mut all = [[W::ZERO; 8]; MAX_LANES];
     'lanes: for i in 0..states.len() {

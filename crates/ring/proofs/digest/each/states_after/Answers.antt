@@ -1,8 +1,8 @@
 -- SPDX-License-Identifier: ISC
-use Rattle.std.proofs.Common.{◌≡◌, ◌<◌, ℕ, ◌+◌, ◌*◌, ◌++◌, ◌∙◌, [], ap, arith, drop, get_or, length}
+use Rattle.std.proofs.Common.{◌≡◌, ◌<◌, ℕ, ◌+◌, ◌*◌, ◌++◌, ◌∙◌, [], ap, arith, drop, length}
 use Rattle.std.proofs.Common.{take}
 use Rattle.std.proofs.lemmas.List.{get_or-take, get_or_append_left}
-use Rattle.ring_core.specs.Prelude.{chunk_at}
+use Rattle.ring_core.specs.Prelude.{array_at, chunk_at}
 use Rattle.ring.specs.Prelude.{message_at, padded, raised, words_at}
 use Rattle.ring.proofs.lemmas.digest.LaneBlocks.{words-first, words-next}
 use Rattle.ring.proofs.Costs.{raised-none}
@@ -33,9 +33,9 @@ blocks-2-preserved g c =
     omega (arith, c.put_blocks.auto.blocks, c.LANES.ensures, c.requires.most) in
     let blocks = take count (put ++ rest) in
     let is : (i : ℕ) → i < lanes
-    → get_or blocks i [] ≡ chunk_at g.row.N (padded a (message_at messages i)) k =
+    → array_at blocks i ≡ chunk_at g.row.N (padded a (message_at messages i)) k =
     λ i below.
-    let read : get_or blocks i [] ≡ get_or put i [] =
+    let read : array_at blocks i ≡ array_at put i =
     get_or-take count (put ++ rest) i [] (omega (arith, c.LANES-in-blocks-2.ensures, below))
     ∙ get_or_append_left put rest [] i (omega (arith, long, below)) in
     rw read (c.put_blocks.ensures i (omega (arith, c.requires.within.count, below))) in

@@ -62,6 +62,12 @@ contexts-preserved c =
           ∙ ap (λ (z : ℕ). raised c.args.meter.now z 0) sum;
     }
 
+pub returns-clause-ready : goal.returns-clause-ready
+returns-clause-ready c = λ i context below.
+    let end = c.contexts.auto.i-end in
+    (c.contexts.invariant.changed.each i context
+    (omega (arith, below, end, c.contexts-test.false))).ready
+
 pub returns-clause-within : goal.returns-clause-within
 returns-clause-within c =
     let count = c.contexts.invariant.changed.count in

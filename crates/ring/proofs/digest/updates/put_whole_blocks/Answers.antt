@@ -1,8 +1,8 @@
 -- SPDX-License-Identifier: ISC
-use Rattle.std.proofs.Common.{◌≡◌, ◌<◌, ℕ, List, [], ◌∙◌, ap, arith, get_or, length, slice_set, sym}
+use Rattle.std.proofs.Common.{◌≡◌, ◌<◌, ℕ, List, [], ◌∙◌, ap, arith, length, slice_set, sym}
 use Rattle.std.proofs.lemmas.List.{get_or-set_other, get_or-set_same}
 use borrow.Author.Count.{below_more}
-use Rattle.ring_core.specs.Prelude.{chunk_at}
+use Rattle.ring_core.specs.Prelude.{array_at, chunk_at}
 use Rattle.ring.specs.Prelude.{message_at}
 use Rattle.ring.proofs.Each.{message-read}
 use Rattle.ring.proofs.digest.updates.put_whole_blocks.Goals as goal
@@ -23,7 +23,7 @@ lanes-preserved g c =
     let at = λ (k : ℕ). message_at c.args.pieces.now k in
     let room : i < length blocks =
     omega (arith, c.lanes.auto.blocks, c.requires.lanes, c.lanes-test.true) in
-    below_more (λ (k : ℕ). get_or (slice_set blocks i block) k [] ≡ chunk (at k)) i
+    below_more (λ (k : ℕ). array_at (slice_set blocks i block) k ≡ chunk (at k)) i
     (λ k h. get_or-set_other blocks i k block [] (omega arith) ∙ c.lanes.invariant k h)
     (get_or-set_same blocks i block [] room ∙ c.put_whole.ensures
     ∙ ap chunk (sym (message-read c.args.pieces.now i)))

@@ -1,10 +1,10 @@
 -- SPDX-License-Identifier: ISC
-use Rattle.std.proofs.Common.{◌≡◌, ℕ, ◌<◌, [], get_or}
-use Rattle.ring_core.specs.Prelude.{chunk_at}
+use Rattle.std.proofs.Common.{◌≡◌, ℕ, ◌<◌}
+use Rattle.ring_core.specs.Prelude.{array_at, chunk_at}
 use Rattle.ring.specs.Prelude.{message_at}
 use Rattle.ring.proofs.digest.updates.put_whole_blocks.Given as goal
 
 -- the blocks of the first i pieces are there
 abbrev pub invariant-lanes : goal.invariant-lanes
 invariant-lanes g l = (k : ℕ) → k < l.i
-    → get_or l.blocks k [] ≡ chunk_at g.row.N (message_at l.pieces k) l.index
+    → array_at l.blocks k ≡ chunk_at g.row.N (message_at l.pieces k) l.index

@@ -1,5 +1,5 @@
 -- SPDX-License-Identifier: ISC
-use Rattle.std.proofs.Common.{◌≡◌, ℕ, ◌<◌, get_or, length}
+use Rattle.std.proofs.Common.{◌≡◌, ℕ, ◌<◌, All, get_or, length}
 use Rattle.ring.specs.Prelude.{Context, DynState, state_word_len, word_len, words}
 use Rattle.ring.proofs.digest.updates.states_of.Given as goal
 
@@ -10,7 +10,6 @@ invariant-contexts l =
       room : length l.states ≡ 8;
       state : (k : ℕ) (s : DynState) (c : Context) → k < l.i
           → get_or l.states k s ≡ (get_or l.contexts k c).block.state;
-      eight : (k : ℕ) (s : DynState) → k < l.i → length (words (get_or l.states k s)) ≡ 8;
-      sized : (k : ℕ) (s : DynState) → k < l.i
-          → state_word_len (get_or l.states k s) ≡ word_len l.fn.algorithm;
+      eight : All (λ state. length (words state) ≡ 8) l.states;
+      sized : All (λ state. state_word_len state ≡ word_len l.fn.algorithm) l.states;
     }

@@ -2,7 +2,7 @@
 use Rattle.std.proofs.Common.{◌≡◌, ◌<◌, ℕ, ◌+◌, ◌*◌, ◌++◌, ◌∙◌, List, [], ap, arith, drop}
 use Rattle.std.proofs.Common.{get_or, length, refl, take}
 use Rattle.std.proofs.lemmas.List.{get_or-take, get_or_append_left}
-use Rattle.ring_core.specs.Prelude.{chunk_at, fold_chunks}
+use Rattle.ring_core.specs.Prelude.{array_at, chunk_at, fold_chunks}
 use Rattle.ring.specs.Prelude.{Algorithm, DynState, block_function, chaining_words, message_at}
 use Rattle.ring.specs.Prelude.{raised}
 use Rattle.ring.proofs.lemmas.digest.LaneBlocks.{chunks-first, chunks-next}
@@ -14,9 +14,9 @@ pub blocks-2-init : goal.blocks-2-init
 blocks-2-init g c =
     let none : g.H.LaneStates.LANES * 0 ≡ 0 = omega arith in
     record {
-      words = λ a i s is below. rw (c.new-lanes.ensures i s below)
+      words = λ a is i s below. rw (c.new-lanes.ensures i s below)
           (chunks-first a _ _ _ (c.requires.eight i s below));
-      spare = λ a i s is below. rw (c.new-lanes.ensures i s below) refl;
+      spare = λ a is i s below. rw (c.new-lanes.ensures i s below) refl;
       cost = rw none (raised-none c.args.meter.now);
     }
 
@@ -33,9 +33,9 @@ blocks-2-preserved g c =
     omega (arith, c.put_whole_blocks.auto.blocks, c.LANES.ensures, c.requires.most) in
     let blocks = take count (put ++ rest) in
     let is : (i : ℕ) → i < lanes
-    → get_or blocks i [] ≡ chunk_at g.row.N (message_at pieces i) k =
+    → array_at blocks i ≡ chunk_at g.row.N (message_at pieces i) k =
     λ i below.
-    let read : get_or blocks i [] ≡ get_or put i [] =
+    let read : array_at blocks i ≡ array_at put i =
     get_or-take count (put ++ rest) i [] (omega (arith, c.LANES-in-blocks-2.ensures, below))
     ∙ get_or_append_left put rest [] i (omega (arith, long, below)) in
     rw read (c.put_whole_blocks.ensures i (omega (arith, c.requires.pieces, below))) in
@@ -45,18 +45,20 @@ blocks-2-preserved g c =
     let now : Algorithm → ℕ → DynState → List ℕ =
     λ a i s. fold_chunks (block_function a) g.row.N (first a i s) (message_at pieces i) k in
     record {
-      words = λ a i s of below. chunks-next a g.row.N (first a i s) (message_at pieces i) k
-          (is i below)
-          (run.words a i (now a i s) of below (c.blocks-2.invariant.words a i s of below));
-      spare = λ a i s of below.
-          run.spare a i (now a i s) of below (c.blocks-2.invariant.words a i s of below)
-          ∙ c.blocks-2.invariant.spare a i s of below;
+      words = λ a of i s below.
+          let lane : i < lanes = omega (arith, below, c.requires.lanes) in
+          chunks-next a g.row.N (first a i s) (message_at pieces i) k (is i lane)
+          (run.words a i (now a i s) of lane (c.blocks-2.invariant.words a of i s below));
+      spare = λ a of i s below.
+          let lane : i < lanes = omega (arith, below, c.requires.lanes) in
+          run.spare a i (now a i s) of lane (c.blocks-2.invariant.words a of i s below)
+          ∙ c.blocks-2.invariant.spare a of i s below;
       cost = raised-then c.args.meter.now (lanes * k) lanes c.blocks-2.invariant.cost run.cost
           ∙ ap (λ (n : ℕ). raised c.args.meter.now n 0) sum;
     }
 
 pub returns-clause-words : goal.returns-clause-words
-returns-clause-words g c = λ a i s is below.
+returns-clause-words g c = λ a is i s below.
     let end : c.blocks-2.index ≡ c.args.count =
     omega (arith, c.blocks-2.auto.index-end, c.blocks-2-test.false) in
-    rw end at (c.blocks-2.invariant.words a i s is below)
+    rw end at (c.blocks-2.invariant.words a is i s below)

@@ -8,9 +8,10 @@ use Rattle.ring.proofs.digest.updates.update_in_lanes.Goals as goal
 
 pub run_in_lanes-requires-clause-ready : goal.run_in_lanes-requires-clause-ready
 run_in_lanes-requires-clause-ready g c = λ i d below.
+    let first = c.complete_each-rests.ensures in
     rw (message_at-take c.complete_each-rests.result c.LANES.result i
-    (omega (arith, below, c.LANES.ensures)))
-    (c.complete_each-rests.ensures.ready i d (omega (arith, below, c.requires.lanes)))
+    (omega (arith, below, first.count, c.requires.lanes, c.LANES.ensures)))
+    (c.complete_each-rests.ensures.ready i d below)
 
 pub returns-clause-ok : goal.returns-clause-ok
 returns-clause-ok g c =

@@ -1,7 +1,8 @@
 -- SPDX-License-Identifier: ISC
-use Rattle.std.proofs.Common.{◌≡◌, ◌<◌, ◌∙◌, [], ℕ, arith, get_or, length, refl, rules, sym}
+use Rattle.std.proofs.Common.{◌≡◌, ◌<◌, ◌∙◌, [], ℕ, arith, length, refl, rules, sym}
 use Rattle.std.proofs.Common.{take_all}
 use Rattle.std.specs.Int.NonZero.{non_zero_u32_get}
+use Rattle.ring_core.specs.Prelude.{array_at}
 use Rattle.ring.specs.Prelude.{AreDerived, bytes_at, dk_at, pbkdf2_digest}
 use Rattle.ring.proofs.lemmas.pbkdf2.Rounds.{length-dk}
 use Rattle.ring.proofs.lemmas.pbkdf2.Taking.{taken-all}
@@ -15,14 +16,14 @@ returns g c =
     let out = c.derive_all.new.receiver.out.now in
     let took = taken-all made (λ place. (refl, refl, refl, refl)) in
     let rest = took.0 in
-    let keys : (k : ℕ) → k < length secrets → get_or out k [] ≡ dk_at
+    let keys : (k : ℕ) → k < length secrets → array_at out k ≡ dk_at
     (pbkdf2_digest c.args.algorithm) c.args.salts.now secrets
     (non_zero_u32_get c.args.iterations) g.row.N k = λ k below.
     let has = took.1 k k below (omega arith) in
-    let zeros = c.clear.ensures k (omega (arith, below, c.if-secrets-out.false)) in
+    let zeros = c.clear.ensures k [] (omega (arith, below, c.if-secrets-out.false)) in
     let size = length-dk (pbkdf2_digest c.args.algorithm) (bytes_at secrets k)
     (bytes_at c.args.salts.now k) (non_zero_u32_get c.args.iterations) g.row.N in
-    sym (take_all _ (get_or out k []) (omega (arith, has.2, zeros, size))) ∙ has.3 in
+    sym (take_all _ (array_at out k) (omega (arith, has.2, zeros, size))) ∙ has.3 in
     let all : AreDerived out (pbkdf2_digest c.args.algorithm) c.args.salts.now secrets
     (non_zero_u32_get c.args.iterations) g.row.N = record {
       count = omega (arith, rest.1, c.clear.auto.out, c.if-secrets-out.false);

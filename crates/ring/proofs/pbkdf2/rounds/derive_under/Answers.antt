@@ -98,7 +98,7 @@ rounds-preserved g c =
           let lane : i < t = omega (arith, below, size) in
           let place = places i lane in
           let key = some-item c.args.keys.now (omega (arith, place)) in
-          (c.write_rounds.ensures.ok i room (rw (length-take-le t _ most) lane)).round key _
+          (c.write_rounds.ensures.ok i room below).round key _
           (are.each _ key place).stands)
           (h.taken p are);
       cost = raised-sum _ reached _ 0 _ (raised-on h.round blocks t _ _ h.cost

@@ -1,6 +1,6 @@
 -- SPDX-License-Identifier: ISC
-use Rattle.std.proofs.Common.{◌≡◌, ◌-◌, ◌*◌, ◌<◌, ◌≤◌, ℕ, List, get_or, length, take}
-use Rattle.ring.specs.Prelude.{IsRound, KeepsPlaces, Output, Receives, bytes_before, len_before}
+use Rattle.std.proofs.Common.{◌≡◌, ◌-◌, ◌*◌, ◌<◌, ◌≤◌, ℕ, List, length, take}
+use Rattle.ring.specs.Prelude.{EachItem, IsRound, KeepsPlaces, Receives, bytes_before, len_before}
 use Rattle.ring.specs.Prelude.{output_len, pbkdf2_t, raised, round_on}
 use Rattle.ring.proofs.pbkdf2.rounds.hand_over.Given as goal
 
@@ -16,8 +16,7 @@ invariant-rounds g l =
       same : KeepsPlaces r.places r.room l.fn.receiver l.receiver;
       taken : (start : _) (p s : ℕ → List ℕ) (c m : ℕ)
           → ((i : ℕ) → i < length l.outputs → (round_on a l.len l.fn.first i).place < m)
-          → ((i : ℕ) (room : Output) → i < length l.outputs
-          → take (output_len a) (get_or l.outputs i room).0
+          → EachItem l.outputs (λ i output. take (output_len a) output.0
           ≡ pbkdf2_t a (p (round_on a l.len l.fn.first i).place)
           (s (round_on a l.len l.fn.first i).place) (round_on a l.len l.fn.first i).index c)
           → Receives r.HasReceived l.place m 0

@@ -1,11 +1,11 @@
 -- SPDX-License-Identifier: ISC
-use Rattle.std.proofs.Common.{◌<◌, ◌-◌, ◌*◌, ◌∙◌, ap, arith, length, refl, sym}
+use Rattle.std.proofs.Common.{◌<◌, ◌≤◌, ◌-◌, ◌*◌, ◌∙◌, ap, arith, length, refl, sym}
 use Rattle.std.proofs.Math.ListN.{length-set}
 use Rattle.std.specs.Int.NonZero.{non_zero_u32_get}
 use Rattle.ring.specs.Prelude.{digest_bytes, first_blocks, round_on, words}
 use Rattle.ring.proofs.Lanes.{digest_written}
 use Rattle.ring.proofs.lemmas.pbkdf2.Places.{places-next}
-use Rattle.ring.proofs.lemmas.pbkdf2.Starts.{lane-round, sized-at, some-item, start-at}
+use Rattle.ring.proofs.lemmas.pbkdf2.Starts.{in_lanes, lane-round, sized-at, some-item, start-at}
 use Rattle.ring.proofs.Sums.{raised-sum, sum_below-more}
 use Rattle.ring.proofs.pbkdf2.rounds.write_rounds_in_lanes.Goals as goal
 
@@ -41,16 +41,26 @@ outputs-preserved g c =
     let sized = c.state.ensures.sized ∙ sym (rw c.requires.same at g.met.H.DigestBlock.sized) in
     let written = digest_written a (words state) _ sized
     output.ensures.count output.ensures.bytes ∙ ap (digest_bytes a) c.state.ensures.words in
+    let lengths = c.set_starts.ensures.lengths in
+    let most : length c.args.outputs.now ≤ 8 = omega (arith, c.requires.most, c.requires.lanes) in
     let sums = rw c.requires.same at (c.xor_iterates-sums.ensures.ok i) in
     let here = lane-round _ _
     (λ key. start-at c.set_starts.ensures.starts i key state state state below) (
-      c.new-inner.ensures i state lane,
-      (c.new-outer.ensures i state lane, c.new-first.ensures i state lane),
+      c.new-inner.ensures i state (in_lanes _ lengths.0 most below),
+      (
+        c.new-outer.ensures i state (in_lanes _ lengths.1 most below),
+        c.new-first.ensures i state (in_lanes _ lengths.2 most below),
+      ),
     ) sums written in
     record {
       written = places-next _ i c.outputs.invariant.written (omega arith) here;
       count = simp length-set c.outputs.invariant.count;
     }
+
+pub returns-clause-ok : goal.returns-clause-ok
+returns-clause-ok g c = λ i output below.
+    c.outputs.invariant.written.each i output
+    (omega (arith, below, c.outputs.auto.i-end, c.outputs-test.false, c.outputs.invariant.count))
 
 pub returns-clause-cost : goal.returns-clause-cost
 returns-clause-cost g c =

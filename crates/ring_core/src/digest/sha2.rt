@@ -1,12 +1,12 @@
 // SPDX-License-Identifier: ISC
 //! The block functions of SHA-2 (FIPS 180-4, 6.2.2 and 6.4.2), written once for both word sizes.
 //! The schedule's steps alone have a form for each. Blocks of bytes have a kernel of their own.
-ghost use Rattle.std.specs.Prelude.{◌≡◌, ℕ, ◌<◌, ◌≤◌, List, length, map};
-ghost use Rattle.ring_core.specs.Prelude.{IsBlockOf, array_at, block_len, block_step, blocks_from};
-ghost use Rattle.ring_core.specs.Prelude.{chunk_items, chunk_total, family_256, family_512, raised};
-ghost use Rattle.ring_core.specs.Prelude.{words_32, words_64, words_of_lane};
+ghost use Rattle.std.specs.Prelude.{◌≡◌, ℕ, ◌<◌, ◌≤◌, List, length, map, slice_index};
+ghost use Rattle.ring_core.specs.Prelude.{IsBlockOf, IsRootFraction, array_at, block_len};
+ghost use Rattle.ring_core.specs.Prelude.{block_step, blocks_from, chunk_items, chunk_total};
+ghost use Rattle.ring_core.specs.Prelude.{constants_256, constants_512, family_256, family_512};
+ghost use Rattle.ring_core.specs.Prelude.{first_primes, raised, words_32, words_64, words_of_lane};
 
-mod constants;
 mod sha256;
 mod sha2_blocks;
 mod sha2_rounds;
@@ -14,7 +14,6 @@ mod sha2_schedule;
 mod sha512;
 
 use crate::cost::Meter;
-pub use crate::digest::sha2::constants::constants_are_cube_roots;
 use crate::digest::sha2::sha2_blocks::run_blocks;
 use crate::digest::sha2::sha2_rounds::{BYTES, run_loaded};
 use crate::digest::sha2::sha2_schedule::ExtendSchedule;
@@ -181,3 +180,13 @@ pub fn block_of_words_lanes_counted<V: Vector, const N: usize>(
 {
     run_words::<InLanes<V>, N>(window, &mut states.words, &fronts.words, padding, meter)
 }
+
+/// States that K of round t is the first bits of the fractional part of the cube root of a prime,
+/// the one with t primes before it, and as many bits as a word has (FIPS 180-4, sections 4.2.2 and
+/// 4.2.3). The call does nothing.
+pub fn constants_are_cube_roots()
+    ensures words_of_32_bits { (t : ℕ) → t < 64
+        → IsRootFraction 3 32 (slice_index first_primes t) (slice_index constants_256 t) }
+    ensures words_of_64_bits { (t : ℕ) → t < 80
+        → IsRootFraction 3 64 (slice_index first_primes t) (slice_index constants_512 t) }
+{}

@@ -2,7 +2,7 @@
 use Rattle.std.proofs.Common.{refl}
 use Rattle.ring_core.specs.Prelude.{constants_256, constants_512, first_primes}
 use Rattle.ring_core.proofs.Roots.{fraction_at}
-use Rattle.ring_core.proofs.digest.sha2.constants.constants_are_cube_roots.Goals as goal
+use Rattle.ring_core.proofs.digest.sha2.constants_are_cube_roots.Goals as goal
 
 pub returns : goal.returns
 unfolding first_primes constants_256 constants_512

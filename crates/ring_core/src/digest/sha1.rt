@@ -7,7 +7,6 @@ ghost use Rattle.ring_core.specs.Sha1.{block_step, blocks_from};
 
 mod sha1_blocks;
 mod sha1_four_words;
-mod sha1_round;
 mod sha1_rounds;
 mod sha1_schedule;
 

@@ -11,7 +11,7 @@ ghost use Rattle.ring_core.specs.Sha1.{rounds_from};
 use crate::cost::Meter;
 use crate::digest::sha1::Word32;
 use crate::digest::sha1::sha1_four_words::{later_four, load, next_four, put_sums};
-use crate::digest::sha1::sha1_round::{add_state, round};
+use crate::digest::sha1::sha1_rounds::{add_state, round};
 use crate::digest::word::four_words::FourWords;
 use crate::polyfill::slice::AsChunks;
 use std::simd::u32x4;

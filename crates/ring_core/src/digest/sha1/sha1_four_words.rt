@@ -7,7 +7,7 @@ ghost use Rattle.ring_core.specs.Prelude.{◌⊕◌, HoldsSums, IsReady, four, l
 ghost use Rattle.ring_core.specs.Sha1.{HasWords, W, ready_sum, scheduled};
 
 use crate::digest::sha1::Word32;
-use crate::digest::sha1::sha1_round::round_constant;
+use crate::digest::sha1::sha1_rounds::round_constant;
 use crate::digest::word::four_words::{FourWords, read_four};
 use std::simd::{Simd, u32x4};
 

@@ -3,7 +3,7 @@ use Rattle.std.proofs.Common.{◌≡◌, ◌^◌, arith, length, rules}
 use Rattle.ring_core.specs.Sha1.{round}
 use Rattle.ring_core.proofs.Lanes.{sum_of_pair}
 use Rattle.ring_core.proofs.Mapped.{value_read}
-use Rattle.ring_core.proofs.digest.sha1.sha1_round.round.Goals as goal
+use Rattle.ring_core.proofs.digest.sha1.sha1_rounds.round.Goals as goal
 
 pub returns : goal.returns
 unfolding round

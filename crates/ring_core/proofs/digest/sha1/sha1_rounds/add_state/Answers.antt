@@ -2,7 +2,7 @@
 use Rattle.std.proofs.Common.{◌≡◌, arith, length, rules}
 use Rattle.ring_core.proofs.Five.{last_three}
 use Rattle.ring_core.proofs.Mapped.{value_read}
-use Rattle.ring_core.proofs.digest.sha1.sha1_round.add_state.Goals as goal
+use Rattle.ring_core.proofs.digest.sha1.sha1_rounds.add_state.Goals as goal
 
 pub returns-clause-words : goal.returns-clause-words
 returns-clause-words g c = λ i.

@@ -41,12 +41,14 @@ RUNS = "run_ahead|run_loaded"
 FAMILIES = 2
 # The imports that may have another name: of modules, since a call is found without its module.
 RENAMED = re.compile(r"self as (?:digest|hmac)|algorithm as (?:hkdf|hmac|pbkdf2)|bb as constant_time")
+# And of laws, by their numbers, under which no code here calls them.
+NUMBERED = re.compile(r"\w+ as law_\d+")
 # Bodies that the prover lets through, planted in turn, and the rule that finds each: the file, a text and
 # what stands in its place, and so on for further texts.
 STORE = "crates/ring_store/src/"
 ONE_CALL = "a plain form is the one call of its counted form"
 NO_OTHER_METER = "no function that takes a meter calls what runs blocks under another"
-NO_OTHER_NAME = "no import has another name, but those of some modules"
+NO_OTHER_NAME = "no import has another name, but those of some modules and of laws that no code calls"
 NO_VALUE = "what runs blocks under a meter of its own is called where it is named"
 NO_ALIAS = "no alias names a type with such functions"
 NO_MACRO = "no macro names such a function"
@@ -317,6 +319,8 @@ def is_renamed(path, names):
     """Whether an import has another name that may hide one of these functions."""
     last = path.rpartition("::")[2]
     what, renamed, _ = last.partition(" as ")
+    if NUMBERED.fullmatch(last):
+        return False
     return bool(renamed) and (not RENAMED.fullmatch(last) or what in {name for _, name in names})
 
 
@@ -394,6 +398,7 @@ def rules_of_names(codes, own):
         aliases = re.findall(rf"\btype \w+[^=;]*=[^;]*\b(?:{types})\b[^;]*;", code)
         macros = [it for it in macros_of(code) if re.search(rf"\b(?:{functions_or_meter})\b", it)]
         renamed += [f"{path}: {it}" for it in all_imports(code) if is_renamed(it, own[crate])]
+        renamed += [f"{path}: {it}" for it in re.findall(r"\blaw_\d+\s*\(", code)]
         valued += [f"{path}: {it}" for it in values(crate, code, own[crate])]
         aliased += [f"{path}: {it}" for it in aliases]
         in_macros += [f"{path}: {it}" for it in macros]

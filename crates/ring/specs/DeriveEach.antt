@@ -1,12 +1,14 @@
 -- SPDX-License-Identifier: ISC
 -- Keys derived from several secrets at once.
-use Rattle.std.specs.Prelude.{◌≡◌, ◌↔◌, ℕ, zero, suc, ◌+◌, ◌<◌, Bool, false, IsTrue, List, []}
-use Rattle.std.specs.Prelude.{get_or, length}
+use Rattle.std.specs.Prelude.{◌≡◌, ◌↔◌, ℕ, zero, suc, ◌+◌, ◌<◌, Bool, false, IsTrue, List}
+use Rattle.std.specs.Prelude.{length}
 use Rattle.std.specs.Borrow.{Bor}
 use Rattle.std.specs.List.{slice_index_or}
+use Rattle.ring_core.specs.Chunks.{array_at}
 use Rattle.ring.specs.Cost.{derive_blocks}
 use Rattle.ring.specs.Each.{message_at}
 use Rattle.ring.specs.Hmac.{KeyStandsFor, key_algorithm}
+use Rattle.ring.specs.Items.{EachItem}
 use Rattle.ring.specs.Limits.{CanDerive, CanVerify}
 use Rattle.ring.specs.Pbkdf2.{IsDerived, dk}
 use Rattle.ring.specs.declared.digest.algorithm.Algorithm.{Algorithm}
@@ -30,7 +32,7 @@ pub record AreDerived (keys : List (List ℕ)) (a : Algorithm) (salts secrets : 
     (c n : ℕ) : Type 0 where
   pub count : length keys ≡ length secrets
   pub each : (k : ℕ) → k < length secrets
-      → get_or keys k [] ≡ dk a (bytes_at secrets k) (bytes_at salts k) c n
+      → array_at keys k ≡ dk a (bytes_at secrets k) (bytes_at salts k) c n
 
 -- m keys of n bytes can be derived: from as many salts and secrets, and each from the two at its
 -- place
@@ -63,15 +65,15 @@ pub record IsKeyOf (a : Algorithm) (key : Key) (p : List ℕ) : Type 0 where
 
 -- the key at each place i is that of the bytes p i
 pub record AreKeysOf (a : Algorithm) (keys : List Key) (p : ℕ → List ℕ) : Type 0 where
-  pub each : (i : ℕ) (key : Key) → i < length keys → IsKeyOf a (get_or keys i key) (p i)
+  pub each : EachItem keys (λ i key. IsKeyOf a key (p i))
 
 -- there are as many answers as values, and each says whether the value at its place is derived from
 -- the secret and the salt there, after c iterations
 pub record AreVerified (matches : List Bool) (a : Algorithm) (salts secrets : List (Bor (List ℕ)))
     (c : ℕ) (values : List (List ℕ)) : Type 0 where
   pub count : length matches ≡ length values
-  pub each : (k : ℕ) → k < length values → IsTrue (get_or matches k false)
-      ↔ IsDerived a (bytes_at secrets k) (bytes_at salts k) c (get_or values k [])
+  pub each : (k : ℕ) → k < length values → IsTrue (answer_at matches k)
+      ↔ IsDerived a (bytes_at secrets k) (bytes_at salts k) c (array_at values k)
 
 -- m values of n bytes can be verified: of as many salts and secrets, and each with the two at its
 -- place

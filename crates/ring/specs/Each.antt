@@ -1,10 +1,11 @@
 -- SPDX-License-Identifier: ISC
 -- Digests of several messages at once.
-use Rattle.std.specs.Prelude.{◌≡◌, ℕ, ◌<◌, List, [], get_or, length, map, sum_by, take}
+use Rattle.std.specs.Prelude.{◌≡◌, ℕ, ◌<◌, List, length, map, sum_by, take}
 use Rattle.std.specs.Borrow.{Bor}
-use Rattle.ring_core.specs.Chunks.{fold_chunks}
+use Rattle.ring_core.specs.Chunks.{array_at, fold_chunks}
 use Rattle.ring.specs.Algorithm.{block_function, block_len, initial_words, word_count}
 use Rattle.ring.specs.Digest.{IsDigest}
+use Rattle.ring.specs.Items.{EachItem}
 use Rattle.ring.specs.Limits.{IsMessageWithin}
 use Rattle.ring.specs.Padding.{padded, padded_blocks}
 use Rattle.ring.specs.declared.digest.algorithm.Algorithm.{Algorithm}
@@ -12,14 +13,13 @@ use Rattle.ring.specs.declared.digest.value.Digest.{Digest}
 
 -- the message at a place of a list
 abbrev pub message_at : List (Bor (List ℕ)) → ℕ → List ℕ
-message_at messages k = get_or (map (λ message. message.now) messages) k []
+message_at messages k = array_at (map (λ message. message.now) messages) k
 
 -- there are as many digests as messages, and each is that of the message at its place
 pub record AreDigests (digests : List Digest) (a : Algorithm) (messages : List (Bor (List ℕ)))
     : Type 0 where
   pub count : length digests ≡ length messages
-  pub each : (k : ℕ) (d : Digest) → k < length messages
-      → IsDigest (get_or digests k d) a (message_at messages k)
+  pub each : EachItem digests (λ k digest. IsDigest digest a (message_at messages k))
 
 -- n digests can be made of the messages: one of each, and each is within the limit
 pub record CanDigestEach (a : Algorithm) (messages : List (Bor (List ℕ))) (n : ℕ) : Type 0 where

@@ -1,8 +1,9 @@
 -- SPDX-License-Identifier: ISC
 -- The rounds of keys of one length: all of one key before those of the next.
 use Rattle.std.specs.Prelude.{◌≡◌, ℕ, zero, suc, ◌+◌, ◌-◌, ◌*◌, ◌<◌, ◌≤◌, List, IsTrue}
-use Rattle.std.specs.Prelude.{get_or, if◌then◌else◌, length, min, nat_lt, take}
+use Rattle.std.specs.Prelude.{if◌then◌else◌, length, min, nat_lt, take}
 use Rattle.std.specs.Borrow.{Bor}
+use Rattle.std.specs.List.{HoldsAt}
 use Rattle.ring.specs.Algorithm.{output_len}
 use Rattle.ring.specs.Cost.{iterate_blocks, padded_blocks}
 use Rattle.ring.specs.DeriveEach.{bytes_at}
@@ -56,7 +57,7 @@ len_before n r = r.place * n + r.from
 pub record CanRun (a : Algorithm) (keys : List Key) (salts : List (Bor (List ℕ))) (r : Round)
     : Type 0 where
   pub place : r.place < length keys
-  pub algorithm : (key : Key) → key_algorithm (get_or keys r.place key) ≡ a
+  pub algorithm : HoldsAt (λ key. key_algorithm key ≡ a) keys r.place
   pub within : IsTagWithin a (length (bytes_at salts r.place) + 4)
 
 -- the first m rounds from r on can be run, of keys of n bytes
@@ -80,16 +81,15 @@ pub record IsStart (a : Algorithm) (k : Key) (salt : List ℕ) (index : ℕ) (s 
 -- the three lists have the states that each of the first m rounds from r on starts from
 pub record AreStarts (a : Algorithm) (keys : List Key) (salts : List (Bor (List ℕ))) (n : ℕ)
     (r : Round) (inner outer first : List DynState) (m : ℕ) : Type 0 where
-  pub each : (i : ℕ) (key : Key) (s t u : DynState) → i < m
-      → IsStart a (get_or keys (round_on a n r i).place key)
-      (bytes_at salts (round_on a n r i).place) (round_on a n r i).index
-      (get_or inner i s) (get_or outer i t) (get_or first i u)
+  pub each : (i : ℕ) → i < m → HoldsAt (λ key. HoldsAt (λ s. HoldsAt (λ t. HoldsAt (λ u.
+      IsStart a key (bytes_at salts (round_on a n r i).place) (round_on a n r i).index s t u)
+      first i) outer i) inner i) keys (round_on a n r i).place
 
 -- the bytes begin with the round, after c iterations
 pub record BeginsWithRound (a : Algorithm) (keys : List Key) (salts : List (Bor (List ℕ)))
     (r : Round) (c : ℕ) (bytes : List ℕ) : Type 0 where
-  pub round : (key : Key) (p : List ℕ) → KeyStandsFor (get_or keys r.place key) p
-      → take (output_len a) bytes ≡ pbkdf2_t a p (bytes_at salts r.place) r.index c
+  pub round : HoldsAt (λ key. (p : List ℕ) → KeyStandsFor key p
+      → take (output_len a) bytes ≡ pbkdf2_t a p (bytes_at salts r.place) r.index c) keys r.place
 
 -- the blocks of the round's first iterate, and of all c
 abbrev pub first_blocks : Algorithm → List (Bor (List ℕ)) → Round → ℕ

@@ -1,6 +1,6 @@
 -- SPDX-License-Identifier: ISC
 -- Several contexts, each updated with a piece.
-use Rattle.std.specs.Prelude.{◌≡◌, ℕ, ◌+◌, ◌%◌, ◌<◌, ◌≤◌, List, ◌++◌, get_or, length, sum_by}
+use Rattle.std.specs.Prelude.{◌≡◌, ℕ, ◌+◌, ◌%◌, ◌<◌, ◌≤◌, List, ◌++◌, length, sum_by}
 use Rattle.std.specs.Borrow.{Bor}
 use Rattle.std.specs.List.{slice_index_or, zip}
 use Rattle.ring.specs.Algorithm.{block_len}
@@ -8,6 +8,7 @@ use Rattle.ring.specs.Context.{StandsFor, context_algorithm, cut_off, digest_wit
 use Rattle.ring.specs.Context.{pending_len}
 use Rattle.ring.specs.Cost.{whole_blocks}
 use Rattle.ring.specs.Each.{message_at}
+use Rattle.ring.specs.Items.{EachChange}
 use Rattle.ring.specs.declared.digest.context.Context.{Context}
 
 -- the context `new` is `old` after the piece
@@ -22,8 +23,8 @@ pub record IsUpdated (old new : Context) (piece : List ℕ) : Type 0 where
 -- there are as many contexts as before, and each is updated with the piece at its place
 pub record AreUpdated (old new : List Context) (pieces : List (Bor (List ℕ))) : Type 0 where
   pub count : length new ≡ length old
-  pub each : (k : ℕ) (c : Context) → k < length pieces
-      → IsUpdated (get_or old k c) (get_or new k c) (message_at pieces k)
+  pub each : EachChange old new (λ k before after.
+      IsUpdated before after (message_at pieces k))
 
 -- the first n contexts are of the first one's algorithm
 abbrev pub AreAlike : List Context → ℕ → Type 0

@@ -149,9 +149,6 @@ module _ {R : Type 0} {remaining : R → Option (List ℕ)} {can_fail : R → Bo
       → map (λ piece. piece.now) pieces ≡ map (front_of n) lanes → AreUpdated old new pieces
       → AreIn remaining can_fail a readers (behind_of n) lanes new
   are-taken {lanes} {old} {new} {pieces} n all same took =
-      let many : length pieces ≡ length lanes =
-      sym (length-map pieces (λ (piece : Bor (List ℕ)). piece.now)) ∙ ap length same
-      ∙ length-map lanes (front_of n) in
       record {
         count = took.count ∙ all.count;
         each = λ i l c below.
@@ -160,7 +157,7 @@ module _ {R : Type 0} {remaining : R → Option (List ℕ)} {can_fail : R → Bo
             ∙ get_or_default (map (front_of n) lanes) i [] (front_of n l)
             (omega (arith, length-map lanes (front_of {R = R} n), below))
             ∙ get_or-map (front_of n) lanes i l in
-            let one = took.each i c (omega (arith, many, below)) in
+            let one = took.each i c (omega (arith, all.count, below)) in
             in-taken n (all.each i l c below)
             (subst (IsUpdated (get_or old i c) (get_or new i c)) read one);
       }

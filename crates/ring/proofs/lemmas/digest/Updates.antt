@@ -237,6 +237,6 @@ begun-next {old} {now} {pieces} {rests} {i} x d r have below room partway ready 
 
 -- all contexts are updated
 pub updated-all : {old now : List Context} {pieces : List (Bor (List ℕ))} {n : ℕ}
-    → HaveChanged (IsUpdatedAt pieces) old now n → length pieces ≤ n → AreUpdated old now pieces
+    → HaveChanged (IsUpdatedAt pieces) old now n → length old ≤ n → AreUpdated old now pieces
 updated-all have all =
     record { count = have.count; each = λ k c below. have.each k c (omega (arith, all, below)) }

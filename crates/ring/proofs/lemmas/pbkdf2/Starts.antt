@@ -59,14 +59,14 @@ module _ {a : Algorithm} {keys : List Key} {salts : List (Bor (List ℕ))} {n : 
       → AreStarts a keys salts n r (set inner i x) (set outer i y) (set first i z) (i + 1)
   starts-next inner outer first i {x} {y} {z} room starts here =
       record {
-        each = λ k key s t u below. elim (cases_lt k i) [
+        each = λ k below key s t u. elim (cases_lt k i) [
           | inl lt ↦
               let other : k ≢ i = λ e. omega (arith, e, lt) in
               rw (
                 get_or-set_other inner i k x s other,
                 get_or-set_other outer i k y t other,
                 get_or-set_other first i k z u other,
-              ) (starts.each k key s t u lt)
+              ) (starts.each k lt key s t u)
           | inr ge ↦
               let e : k ≡ i = omega (arith, ge, below) in
               rw (
@@ -89,7 +89,7 @@ module _ {a : Algorithm} {keys : List Key} {salts : List (Bor (List ℕ))} {n : 
           get_or-take m inner i s below,
           get_or-take m outer i t below,
           get_or-take m first i u below,
-        ) (starts.each i key s t u below)
+        ) (starts.each i below key s t u)
 
     -- they have words of the algorithm's length
     pub sized-at : (key : Key) (s : DynState) → i < m

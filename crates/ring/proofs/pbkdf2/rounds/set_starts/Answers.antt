@@ -14,7 +14,7 @@ starts-init c =
     record {
       here = sym (round_on-none c.args.algorithm c.args.len c.args.first);
       round = c.requires.rounds.first;
-      starts = record { each = λ k key s t u below. absurd (omega (arith, below)) };
+      starts = record { each = λ k below key s t u. absurd (omega (arith, below)) };
       lengths = search rules;
       cost = risen-none;
     }
@@ -46,3 +46,8 @@ starts-preserved c =
       lengths = simp length-set h.lengths;
       cost = risen-next h.cost (rw (← h.here, message-read salts q.place) (rw same at tag.cost));
     }
+
+pub returns-clause-starts : goal.returns-clause-starts
+returns-clause-starts c =
+    let end : c.starts.i ≡ c.args.lanes = omega (arith, c.starts.auto.i-end, c.starts-test.false) in
+    rw end at c.starts.invariant.starts

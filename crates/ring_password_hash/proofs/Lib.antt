@@ -7,4 +7,6 @@ pub mod Hashes
 pub mod KindsApart
 pub mod Written
 pub mod Arrays
+pub mod Pieces
+pub mod NewTexts
 pub mod Salts

@@ -2,8 +2,10 @@
 pub mod Error
 pub mod Field
 pub mod Kind
+pub mod Encoded
 pub mod Head
 pub mod Scram
 pub mod Hash
 pub mod Salt
 pub mod InPlace
+pub mod New

@@ -7,12 +7,14 @@
 #![tactic(auto)]
 
 mod decoded;
+mod encoded;
 mod error;
 mod field;
 mod head;
 mod in_place;
 mod kind;
 pub mod laws;
+mod made_in_place;
 mod password_hash;
 pub mod salt;
 pub mod scram;
@@ -22,6 +24,7 @@ pub use crate::error::HashError;
 pub use crate::head::{MAX_NAMED_LEN, MIN_NAMED_LEN, Parameters};
 pub use crate::in_place::verify_in_place;
 pub use crate::kind::{KINDS, Kind};
+pub use crate::made_in_place::{NewError, new_in_place, new_in_place_counted};
 pub use crate::password_hash::{PasswordHash, verify, verify_counted};
 pub use crate::salt::new_salt;
 pub use crate::scram::{ScramVerifier, needs_preparation};

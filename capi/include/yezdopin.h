@@ -68,6 +68,7 @@ enum {
     YZ_UNSPECIFIED = 5,         /* an input out of limits, or what was verified is something else */
     YZ_BAD_FORMAT = 6,          /* the text is not one of a password hash */
     YZ_TOO_MANY_ITERATIONS = 7, /* a text names more than the caller takes */
+    YZ_BAD_SALT = 8,            /* a password hash can't have the salt */
 };
 
 /* Bytes of a digest or a tag, and of a block. */
@@ -245,6 +246,33 @@ yz_status yz_pbkdf2_verify(uint32_t algorithm, uint32_t iterations,
 yz_status yz_password_hash_verify(const char *text, size_t text_len,
                                   const uint8_t *password, size_t password_len,
                                   uint32_t max_iterations) YZ_MUST_CHECK;
+
+/* The kinds of such hashes, for `uint32_t kind`. */
+enum {
+    YZ_DJANGO_SHA256 = 1,
+    YZ_DJANGO_SHA1 = 2,
+    YZ_WERKZEUG_SHA256 = 3,
+    YZ_WERKZEUG_SHA512 = 4,
+    YZ_PHC_SHA256 = 5,
+    YZ_PHC_SHA512 = 6,
+    YZ_MOSQUITTO = 7,
+    YZ_PASSLIB_SHA1 = 8,
+    YZ_PASSLIB_SHA256 = 9,
+    YZ_PASSLIB_SHA512 = 10,
+};
+
+/* Writes the hash of a password to the start of `text`, which has `text_room` bytes, and to
+ * `text_len` how many bytes it has. No zero follows it, and the rest of `text` is unchanged.
+ *
+ * The salt should be random, and of this hash alone: Django and Werkzeug take 22 letters and digits,
+ * and the others 16 bytes. An empty one is answered by YZ_BAD_SALT, and so is one with a dollar sign
+ * for Django and Werkzeug, which write it as it is. A number that names no kind is answered by
+ * YZ_UNKNOWN_ALGORITHM, and a text that is longer than `text_room` or than YZ_MAX_PASSWORD_HASH_LEN
+ * by YZ_WRONG_LENGTH. The text is no secret to this call; the password is. */
+yz_status yz_password_hash_new(uint32_t kind, uint32_t iterations,
+                               const uint8_t *salt, size_t salt_len,
+                               const uint8_t *password, size_t password_len,
+                               char *text, size_t text_room, size_t *text_len) YZ_MUST_CHECK;
 
 /* Whether both are equal. Where the lengths agree it reads all of both. */
 bool yz_equal(const uint8_t *a, size_t a_len, const uint8_t *b, size_t b_len) YZ_MUST_CHECK;

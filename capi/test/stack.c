@@ -23,11 +23,12 @@ static uint32_t n;
 static int call;
 static const char hash[] = "$7$101$AAECAwQFBgcICQoL$cJ75j/0MokIxIQCU/t1k7JBGVfwD3W1st+OyLYF0EzgR"
                            "LNjRyexylNuHrNThmUCWBWt20yys3R1zS31q5smg/w==";
+static char text[YZ_MAX_PASSWORD_HASH_LEN];
 static const char password[] = "correct horse battery staple";
 
 /* Runs one call on long inputs: a key past a block, several blocks, several rounds. */
 static void run(void) {
-    size_t len = yz_output_len(n);
+    size_t len = yz_output_len(n), text_len;
     yz_status status = YZ_OK;
     switch (call) {
     case 0: status = yz_digest(n, bytes, 400, out, len); break;
@@ -55,6 +56,10 @@ static void run(void) {
         status = yz_password_hash_verify(hash, sizeof hash - 1, (const uint8_t *)password,
                                          sizeof password - 1, 101);
         break;
+    case 20:
+        status = yz_password_hash_new(YZ_MOSQUITTO, 3, bytes, 300, bytes, 400, text, sizeof text,
+                                      &text_len);
+        break;
     }
     if (status != YZ_OK) printf("call %d of algorithm %u answers %d\n", call, n, status);
 }
@@ -62,7 +67,7 @@ static void run(void) {
 int main(void) {
     static size_t most;
     for (n = YZ_SHA1; n <= YZ_SHA512; n++)
-        for (call = 0; call <= 19; call++) {
+        for (call = 0; call <= 20; call++) {
             static ucontext_t back, there;
             memset(stack, PAINT, ROOM);
             if (getcontext(&there)) return 2;

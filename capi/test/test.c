@@ -519,6 +519,97 @@ static void no_password_hashes(void) {
     IS(yz_password_hash_verify(longest, sizeof longest, NULL, 0, 1), YZ_WRONG_LENGTH);
 }
 
+/* Bytes whose base64 has both a plus sign and a slash. */
+#define BYTES_SALT "\373\377\277\000\001\002\003\004\005\006\007\010\011\012\013\014"
+
+/* New hashes by the kinds' own salts. The texts are put together of what Python's
+ * hashlib.pbkdf2_hmac derives. */
+static const struct {
+    uint32_t kind, iterations;
+    const char *salt;
+    size_t salt_len;
+    const char *text;
+} NEW_HASHES[] = {
+    {YZ_DJANGO_SHA256, 1000, "kXq0Wz3vT9bYh2LrE8mNpA", 22,
+     "pbkdf2_sha256$1000$kXq0Wz3vT9bYh2LrE8mNpA$6jlqr5CFEJ6yV5h1RjyoxC5WzlE3x9jGX4"
+     "aMqvJOfqk="},
+    {YZ_DJANGO_SHA1, 999, "kXq0Wz3vT9bYh2LrE8mNpA", 22,
+     "pbkdf2_sha1$999$kXq0Wz3vT9bYh2LrE8mNpA$cOCPovmNoCOJDb8KJ+NC4V3gM9U="},
+    {YZ_WERKZEUG_SHA256, 1, "kXq0Wz3vT9bYh2LrE8mNpA", 22,
+     "pbkdf2:sha256:1$kXq0Wz3vT9bYh2LrE8mNpA$31bdb18960de7d81347a1dcf26d6ce92c9c2c"
+     "1f69214444d81b42036a7209cde"},
+    {YZ_WERKZEUG_SHA512, 1000, "kXq0Wz3vT9bYh2LrE8mNpA", 22,
+     "pbkdf2:sha512:1000$kXq0Wz3vT9bYh2LrE8mNpA$8bc0bb5e5c69fc6e546be3770e4011754f"
+     "928f59b83699b54b2de3c2ca140816419757b79f141a4f9788e89ada0c29f885b6de2e0d44ab"
+     "6c24f45d15dacebeb9"},
+    {YZ_PHC_SHA256, 1000, BYTES_SALT, 16,
+     "$pbkdf2-sha256$i=1000,l=32$+/+/AAECAwQFBgcICQoLDA$jXXlTIwt0FnpqfYJWmUEbb/kA/"
+     "U99Zbi8XcLCfCwY2Y"},
+    {YZ_PHC_SHA512, 12345, BYTES_SALT, 16,
+     "$pbkdf2-sha512$i=12345,l=32$+/+/AAECAwQFBgcICQoLDA$/ABx22tSzgs2oZhR9svR9Tpka"
+     "Faf+AJoo6fn3jYVaeg"},
+    {YZ_MOSQUITTO, 101, BYTES_SALT, 12,
+     "$7$101$+/+/AAECAwQFBgcI$7oZRGZVj3TFKdX3QuUXiiSnVea89W9osnItp85TvbmkcqvoHLnrx"
+     "b/MzyjFDPq3VVJFXBvXxNg+Ulhf8mqCGFA=="},
+    {YZ_PASSLIB_SHA1, 1000, BYTES_SALT, 16,
+     "$pbkdf2$1000$././AAECAwQFBgcICQoLDA$wwrvgpyKdmxiCg81IqEB5eeVUi4"},
+    {YZ_PASSLIB_SHA256, 1000, BYTES_SALT, 16,
+     "$pbkdf2-sha256$1000$././AAECAwQFBgcICQoLDA$jXXlTIwt0FnpqfYJWmUEbb/kA/U99Zbi8"
+     "XcLCfCwY2Y"},
+    {YZ_PASSLIB_SHA512, 1000, BYTES_SALT, 16,
+     "$pbkdf2-sha512$1000$././AAECAwQFBgcICQoLDA$nyIE9QXKQzTDNqlO/lL3M7LSU6RcIRsRe"
+     "wNRQlXk8dF7WNgQ5ofqTiLdIEDoa.MynGtZ.yI5qMSMLnwD0OAKgQ"},
+};
+
+static void new_password_hashes(void) {
+    char out[YZ_MAX_PASSWORD_HASH_LEN];
+    size_t password_len = strlen(PASSWORD);
+    for (size_t i = 0; i < sizeof NEW_HASHES / sizeof *NEW_HASHES; i++) {
+        const uint8_t *salt = text(NEW_HASHES[i].salt);
+        size_t salt_len = NEW_HASHES[i].salt_len, want = strlen(NEW_HASHES[i].text), len = 0;
+        for (size_t room = want - 1; room <= want + 1; room++) {
+            memset(out, 7, sizeof out);
+            len = 9;
+            yz_status status = yz_password_hash_new(NEW_HASHES[i].kind, NEW_HASHES[i].iterations,
+                                                    salt, salt_len, text(PASSWORD), password_len,
+                                                    out, room, &len);
+            IS(status, room < want ? YZ_WRONG_LENGTH : YZ_OK);
+            IS(len == (room < want ? 9 : want), 1);
+            if (room >= want) IS(memcmp(out, NEW_HASHES[i].text, want), 0);
+            for (size_t k = room < want ? 0 : want; k < sizeof out; k++) IS(out[k], 7);
+        }
+        IS(yz_password_hash_verify(out, len, text(PASSWORD), password_len,
+                                   NEW_HASHES[i].iterations), YZ_OK);
+    }
+}
+
+static yz_status new_hash(uint32_t kind, uint32_t iterations, size_t salt_len, size_t room) {
+    static char out[YZ_MAX_PASSWORD_HASH_LEN + 1];
+    static uint8_t salt[YZ_MAX_PASSWORD_HASH_LEN];
+    size_t len = 0;
+    memset(salt, 'a', sizeof salt);
+    return yz_password_hash_new(kind, iterations, salt, salt_len, text(PASSWORD),
+                                strlen(PASSWORD), out, room, &len);
+}
+
+/* Each status, in the order of the causes. */
+static void refused_new_hashes(void) {
+    static const uint8_t dollar[] = "a$b";
+    char out[200];
+    size_t len = 0;
+    IS(new_hash(0, 0, 0, 0), YZ_UNKNOWN_ALGORITHM);
+    IS(new_hash(YZ_PASSLIB_SHA512 + 1, 0, 0, 0), YZ_UNKNOWN_ALGORITHM);
+    IS(new_hash(YZ_MOSQUITTO, 0, 0, 0), YZ_NO_ITERATIONS);
+    IS(new_hash(YZ_MOSQUITTO, 1, 0, 0), YZ_WRONG_LENGTH);
+    IS(new_hash(YZ_MOSQUITTO, 1, 0, 200), YZ_BAD_SALT);
+    /* "pbkdf2_sha256$1$", the salt, "$" and 44 bytes: 1024 and one more. */
+    IS(new_hash(YZ_DJANGO_SHA256, 1, 963, YZ_MAX_PASSWORD_HASH_LEN + 1), YZ_OK);
+    IS(new_hash(YZ_DJANGO_SHA256, 1, 964, YZ_MAX_PASSWORD_HASH_LEN + 1), YZ_WRONG_LENGTH);
+    for (uint32_t kind = YZ_DJANGO_SHA256; kind <= YZ_PASSLIB_SHA512; kind++)
+        IS(yz_password_hash_new(kind, 1, dollar, 3, NULL, 0, out, sizeof out, &len),
+           kind <= YZ_WERKZEUG_SHA512 ? YZ_BAD_SALT : YZ_OK);
+}
+
 int main(void) {
     IS(yz_supported(), true);
     IS(yz_version(), YZ_VERSION);
@@ -528,6 +619,7 @@ int main(void) {
     contexts(), bytes_of_no_context(), past_the_limit();
     pieces(), garbage(), equality_and_clearing();
     password_hashes(), no_password_hashes();
+    new_password_hashes(), refused_new_hashes();
     if (failures) printf("%d failures\n", failures);
     return failures != 0;
 }

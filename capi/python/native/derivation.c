@@ -239,6 +239,58 @@ static PyObject *password_hash_verify(PyObject *Py_UNUSED(module), PyObject *con
     return verdict(status);
 }
 
+/* The kinds of password hashes, by their names in Python. */
+static bool kind_of_name(PyObject *name, uint32_t *kind)
+{
+    static const char *const NAMES[] = {
+        [YZ_DJANGO_SHA256] = "django_pbkdf2_sha256",
+        [YZ_DJANGO_SHA1] = "django_pbkdf2_sha1",
+        [YZ_WERKZEUG_SHA256] = "werkzeug_sha256",
+        [YZ_WERKZEUG_SHA512] = "werkzeug_sha512",
+        [YZ_PHC_SHA256] = "phc_sha256",
+        [YZ_PHC_SHA512] = "phc_sha512",
+        [YZ_MOSQUITTO] = "mosquitto",
+        [YZ_PASSLIB_SHA1] = "passlib_sha1",
+        [YZ_PASSLIB_SHA256] = "passlib_sha256",
+        [YZ_PASSLIB_SHA512] = "passlib_sha512",
+    };
+    if (!PyUnicode_Check(name)) {
+        PyErr_SetString(PyExc_TypeError, "the kind of a password hash must be a str");
+        return false;
+    }
+    for (uint32_t it = YZ_DJANGO_SHA256; it <= YZ_PASSLIB_SHA512; it++) {
+        if (PyUnicode_CompareWithASCIIString(name, NAMES[it]) == 0) {
+            *kind = it;
+            return true;
+        }
+    }
+    PyErr_Format(PyExc_ValueError, "%R is no kind of password hashes", name);
+    return false;
+}
+
+static PyObject *password_hash_new(PyObject *Py_UNUSED(module), PyObject *const *args,
+                                   Py_ssize_t args_len, PyObject *keywords)
+{
+    static const signature takes = {"password_hash_new", 4, 4, 4,
+                                    {"kind", "password", "salt", "iterations"}};
+    PyObject *values[4];
+    Py_buffer views[2];
+    uint32_t kind, iterations;
+    char text[YZ_MAX_PASSWORD_HASH_LEN];
+    size_t len = 0;
+    if (!gather(&takes, args, args_len, keywords, values)) return NULL;
+    if (!kind_of_name(values[0], &kind) || !iterations_of(values[3], &iterations)) return NULL;
+    if (!borrow_all(values + 1, 2, views)) return NULL;
+    PyThreadState *saved = PyEval_SaveThread();
+    yz_status status = yz_password_hash_new(kind, iterations, bytes_of(&views[1]),
+                                            len_of(&views[1]), bytes_of(&views[0]),
+                                            len_of(&views[0]), text, sizeof text, &len);
+    PyEval_RestoreThread(saved);
+    give_back(views, 2);
+    if (status != YZ_OK) return refuse(status);
+    return PyUnicode_DecodeUTF8(text, (Py_ssize_t)len, NULL);
+}
+
 PyMethodDef derivation_functions[] = {
     {"hkdf", METHOD(hkdf), FAST,
      PyDoc_STR("hkdf($module, /, hash_name, secret, salt, info, length)\n--\n\n"
@@ -263,5 +315,8 @@ PyMethodDef derivation_functions[] = {
     {"password_hash_verify", METHOD(password_hash_verify), FAST,
      PyDoc_STR("password_hash_verify($module, /, text, password, max_iterations)\n--\n\n"
                "Whether the hash of this text is the password's.")},
+    {"password_hash_new", METHOD(password_hash_new), FAST,
+     PyDoc_STR("password_hash_new($module, /, kind, password, salt, iterations)\n--\n\n"
+               "The text of the hash of a password.")},
     {NULL, NULL, 0, NULL},
 };

@@ -1,6 +1,8 @@
 # SPDX-License-Identifier: ISC
 """Password hashes of other systems: the texts of ../vectors/password_hashes, and what is refused."""
 
+import base64
+import hashlib
 import pathlib
 import unittest
 
@@ -36,6 +38,143 @@ class Vectors(unittest.TestCase):
         self.assertGreaterEqual(answers["ok"], 10)
         self.assertGreaterEqual(answers["wrong password"], 10)
         self.assertGreaterEqual(answers["too many iterations"], 10)
+
+
+def base64_of(data):
+    return base64.b64encode(data).decode()
+
+
+def unpadded(data):
+    return base64_of(data).rstrip("=")
+
+
+def adapted(data):
+    return unpadded(data).replace("+", ".")
+
+
+# What a text begins with, what ends its count, and how it has its salt and its hash, by hashlib.
+FORMATS = {
+    "django_pbkdf2_sha256": ("sha256", 32, "pbkdf2_sha256$", "$", bytes.decode, base64_of),
+    "django_pbkdf2_sha1": ("sha1", 20, "pbkdf2_sha1$", "$", bytes.decode, base64_of),
+    "werkzeug_sha256": ("sha256", 32, "pbkdf2:sha256:", "$", bytes.decode, bytes.hex),
+    "werkzeug_sha512": ("sha512", 64, "pbkdf2:sha512:", "$", bytes.decode, bytes.hex),
+    "phc_sha256": ("sha256", 32, "$pbkdf2-sha256$i=", ",l=32$", unpadded, unpadded),
+    "phc_sha512": ("sha512", 32, "$pbkdf2-sha512$i=", ",l=32$", unpadded, unpadded),
+    "mosquitto": ("sha512", 64, "$7$", "$", base64_of, base64_of),
+    "passlib_sha1": ("sha1", 20, "$pbkdf2$", "$", adapted, adapted),
+    "passlib_sha256": ("sha256", 32, "$pbkdf2-sha256$", "$", adapted, adapted),
+    "passlib_sha512": ("sha512", 64, "$pbkdf2-sha512$", "$", adapted, adapted),
+}
+
+
+def text_by_hashlib(kind, password, salt, iterations):
+    hash_name, length, begin, end, salt_text, hash_text = FORMATS[kind]
+    derived = hashlib.pbkdf2_hmac(hash_name, password, salt, iterations, length)
+    return f"{begin}{iterations}{end}{salt_text(salt)}${hash_text(derived)}"
+
+
+class New(unittest.TestCase):
+    def test_beside_hashlib(self):
+        self.assertEqual(list(FORMATS), list(password_hash.KINDS))
+        letters = "kXq0Wz3vT9bYh2LrE8mNpA+/.é".encode()
+        for kind in password_hash.KINDS:
+            plain = kind.startswith(("django", "werkzeug"))
+            for length in (1, 2, 3, 12, 16, 25, 27):
+                salt = letters[:length] if plain else bytes(range(250, 256)) + bytes(length)
+                if plain and length == 25:
+                    continue  # half of a letter
+                for iterations in (1, 9, 10, 1001):
+                    for password in (b"", PASSWORD, b"\x00\xff" * 100):
+                        got = password_hash.new(kind, password, iterations=iterations, salt=salt)
+                        self.assertEqual(got, text_by_hashlib(kind, password, salt, iterations))
+                        self.assertIs(
+                            password_hash.verify(got, password, max_iterations=iterations), True
+                        )
+
+    def test_new_salts(self):
+        for kind in password_hash.KINDS:
+            texts = {password_hash.new(kind, PASSWORD, iterations=2) for _ in range(20)}
+            self.assertEqual(len(texts), 20)
+            for text in texts:
+                self.assertIs(password_hash.verify(text, PASSWORD, max_iterations=2), True)
+                salt = text.split("$")[-2]
+                plain = kind.startswith(("django", "werkzeug"))
+                self.assertEqual(len(salt), 22 if plain or kind != "mosquitto" else 24)
+                if plain:
+                    self.assertTrue(salt.isalnum() and salt.isascii())
+
+    def test_beside_passlib(self):
+        try:
+            from passlib import hash as schemes
+        except ImportError:
+            self.skipTest("passlib is not here")
+        for kind, scheme in (
+            ("django_pbkdf2_sha256", schemes.django_pbkdf2_sha256),
+            ("django_pbkdf2_sha1", schemes.django_pbkdf2_sha1),
+            ("passlib_sha1", schemes.pbkdf2_sha1),
+            ("passlib_sha256", schemes.pbkdf2_sha256),
+            ("passlib_sha512", schemes.pbkdf2_sha512),
+        ):
+            text = password_hash.new(kind, PASSWORD, iterations=1000)
+            self.assertTrue(scheme.verify(PASSWORD, text), kind)
+            self.assertFalse(scheme.verify(b"another", text), kind)
+
+    def test_beside_django(self):
+        try:
+            from django.conf import settings
+            from django.contrib.auth import hashers
+        except ImportError:
+            self.skipTest("Django is not here")
+        names = ("PBKDF2PasswordHasher", "PBKDF2SHA1PasswordHasher")
+        settings.configure(PASSWORD_HASHERS=[f"{hashers.__name__}.{name}" for name in names])
+        for kind in password_hash.KINDS[:2]:
+            text = password_hash.new(kind, PASSWORD, iterations=1000)
+            self.assertTrue(hashers.check_password(PASSWORD.decode(), text), kind)
+            self.assertFalse(hashers.check_password("another", text), kind)
+
+    def test_beside_werkzeug(self):
+        try:
+            from werkzeug.security import check_password_hash
+        except ImportError:
+            self.skipTest("Werkzeug is not here")
+        for kind in password_hash.KINDS[2:4]:
+            text = password_hash.new(kind, PASSWORD, iterations=1000)
+            self.assertTrue(check_password_hash(text, PASSWORD.decode()), kind)
+            self.assertFalse(check_password_hash(text, "another"), kind)
+
+    def is_refused(self, status, kind, salt, iterations=1):
+        with self.assertRaises(yezdopin.Error) as caught:
+            password_hash.new(kind, PASSWORD, iterations=iterations, salt=salt)
+        self.assertEqual(caught.exception.status, status)
+
+    def test_refusals(self):
+        for kind in password_hash.KINDS:
+            self.is_refused(4, kind, b"salt", 0)
+            self.is_refused(8, kind, b"")
+            self.is_refused(3, kind, b"a" * 1024)
+            if kind.startswith(("django", "werkzeug")):
+                self.is_refused(8, kind, b"sa$lt")
+                with self.assertRaises(UnicodeDecodeError):
+                    password_hash.new(kind, PASSWORD, iterations=1, salt=b"\xff")
+        # `pbkdf2_sha256$1$`, the salt, `$` and 44 bytes
+        longest = password_hash.new("django_pbkdf2_sha256", b"", iterations=1, salt=b"a" * 963)
+        self.assertEqual(len(longest), 1024)
+        self.is_refused(3, "django_pbkdf2_sha256", b"a" * 964)
+
+    def test_wrong_calls(self):
+        for call in (
+            lambda: password_hash.new("mosquitto", PASSWORD),
+            lambda: password_hash.new("mosquitto", PASSWORD, 1000),
+            lambda: password_hash.new("mosquitto", "text", iterations=1),
+            lambda: password_hash.new("mosquitto", PASSWORD, iterations=1, salt="text"),
+            lambda: password_hash.new(b"mosquitto", PASSWORD, iterations=1, salt=b"salt"),
+        ):
+            self.assertRaises(TypeError, call)
+        for kind in ("", "sha256", "mosquitto\0", "Mosquitto"):
+            with self.assertRaises(ValueError):
+                password_hash.new(kind, PASSWORD, iterations=1)
+        with self.assertRaises(OverflowError):
+            password_hash.new("mosquitto", PASSWORD, iterations=2**32)
 
 
 class Arguments(unittest.TestCase):

@@ -5,7 +5,7 @@ import hashlib
 import io
 
 import yezdopin
-from yezdopin import hmac
+from yezdopin import hmac, password_hash
 
 
 def digests_of(path: str) -> list[str]:
@@ -23,3 +23,10 @@ def signs(message: bytes) -> bool:
     key = hmac.Key(b"a key", "sha256")
     tag: bytes = hmac.new(b"a key", message, yezdopin.sha256).digest()
     return key.verify(message, tag) and hmac.compare_digest(tag, key.sign(message))
+
+
+def keeps(password: bytes) -> bool:
+    """A new hash of a password, tested."""
+    kept: str = password_hash.new("phc_sha256", bytearray(password), iterations=1000)
+    again: str = password_hash.new(password_hash.KINDS[0], password, iterations=1, salt=b"salt")
+    return password_hash.verify(kept, password, max_iterations=1000) and kept != again

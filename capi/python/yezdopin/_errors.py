@@ -13,6 +13,7 @@ _REASONS = {
     5: "an input is too long",
     6: "no password hash has this text",
     7: "the text names too many iterations",
+    8: "a password hash of this kind cannot have this salt",
 }
 
 

@@ -132,3 +132,6 @@ def pbkdf2_hmac_verify(
 def password_hash_verify(
     text: ReadableBuffer, password: ReadableBuffer, max_iterations: int
 ) -> bool: ...
+def password_hash_new(
+    kind: str, password: ReadableBuffer, salt: ReadableBuffer, iterations: int
+) -> str: ...

@@ -7,12 +7,17 @@
     True
     >>> password_hash.verify(kept, b"another", max_iterations=2_000_000)
     False
+    >>> password_hash.new(
+    ...     "django_pbkdf2_sha1", b"correct horse battery staple",
+    ...     iterations=1000, salt=b"kXq0Wz3vT9bYh2LrE8mNpA") == kept
+    True
 
 The texts are those of Django, Werkzeug, RustCrypto's PHC strings, Mosquitto and passlib.
 """
 
 from __future__ import annotations
 
+import os
 from typing import TYPE_CHECKING
 
 from yezdopin import _native
@@ -20,7 +25,50 @@ from yezdopin import _native
 if TYPE_CHECKING:
     from _typeshed import ReadableBuffer as _Buffer
 
-__all__ = ["verify"]
+__all__ = ["KINDS", "new", "verify"]
+
+KINDS = (
+    "django_pbkdf2_sha256",
+    "django_pbkdf2_sha1",
+    "werkzeug_sha256",
+    "werkzeug_sha512",
+    "phc_sha256",
+    "phc_sha512",
+    "mosquitto",
+    "passlib_sha1",
+    "passlib_sha256",
+    "passlib_sha512",
+)
+"""The kinds of `new`."""
+
+_SYMBOLS = "abcdefghijklmnopqrstuvwxyzABCDEFGHIJKLMNOPQRSTUVWXYZ0123456789"
+
+
+def _new_salt(kind: str) -> bytes:
+    """16 random bytes, as 22 letters and digits where the kind writes a salt as it is."""
+    random = os.urandom(16)
+    if not kind.startswith(("django", "werkzeug")):
+        return random
+    number, letters = int.from_bytes(random, "big"), ""
+    for _ in range(22):
+        number, digit = divmod(number, len(_SYMBOLS))
+        letters += _SYMBOLS[digit]
+    return letters.encode()
+
+
+def new(kind: str, password: _Buffer, *, iterations: int, salt: _Buffer | None = None) -> str:
+    """The text of the hash of a password, of one of `KINDS`, which `verify` takes.
+
+    A salt is made of `os.urandom` where none is given; a given one should be random, and of this
+    hash alone. How many iterations a system takes changes each year, so there is no default.
+    `ValueError` is raised for another kind and for a text that is not UTF-8, as its salt may make
+    it, and `Error` for no iterations (status 4), for an empty
+    salt and for one with a dollar sign where the kind writes it as it is, as those of Django and
+    Werkzeug do (status 8), and where the text would have more than 1024 bytes (status 3).
+    """
+    if salt is None:
+        salt = _new_salt(kind)
+    return _native.password_hash_new(kind, password, salt, iterations)
 
 
 def verify(text: str | _Buffer, password: _Buffer, *, max_iterations: int) -> bool:

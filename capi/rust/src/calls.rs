@@ -192,6 +192,17 @@ extern "C" {
         password_len: usize,
         max_iterations: u32,
     ) -> i32;
+    pub fn yz_password_hash_new(
+        kind: u32,
+        iterations: u32,
+        salt: *const u8,
+        salt_len: usize,
+        password: *const u8,
+        password_len: usize,
+        text: *mut u8,
+        text_room: usize,
+        text_len: *mut usize,
+    ) -> i32;
     pub fn yz_equal(a: *const u8, a_len: usize, b: *const u8, b_len: usize) -> bool;
     fn yz_clear(bytes: *mut u8, bytes_len: usize);
 }

@@ -10,9 +10,22 @@
 //! assert_eq!(verify(kept, b"another", 2_000_000), Err(HashError::WrongPassword));
 //! # Ok::<(), HashError>(())
 //! ```
+//!
+//! ```
+//! use core::num::NonZeroU32;
+//! use yezdopin::password_hash::{new, Kind, MAX_TEXT_LEN};
+//!
+//! let mut text = [0; MAX_TEXT_LEN];
+//! let iterations = NonZeroU32::new(1000).unwrap();
+//! let salt = b"kXq0Wz3vT9bYh2LrE8mNpA"; // of a generator of random numbers
+//! let kept = new(Kind::DjangoSha1, b"correct horse battery staple", salt, iterations, &mut text)?;
+//! assert_eq!(kept, b"pbkdf2_sha1$1000$kXq0Wz3vT9bYh2LrE8mNpA$2U/l/68EaoUIrkh0GedCmjQYvmg=");
+//! # Ok::<(), yezdopin::password_hash::NewError>(())
+//! ```
 
 use crate::calls;
 use core::fmt;
+use core::num::NonZeroU32;
 
 /// The most bytes of a text.
 pub const MAX_TEXT_LEN: usize = 1024;
@@ -66,5 +79,91 @@ pub fn verify(text: &str, password: &[u8], max_iterations: u32) -> Result<(), Ha
         6 => Err(HashError::BadFormat),
         7 => Err(HashError::TooManyIterations),
         _ => Err(HashError::WrongPassword),
+    }
+}
+
+/// Whose hash it is, and its digest algorithm. The number is that of C's `yz_password_hash_new`.
+#[derive(Clone, Copy, Debug, PartialEq, Eq)]
+#[non_exhaustive]
+pub enum Kind {
+    /// Django's `PBKDF2PasswordHasher`.
+    DjangoSha256 = 1,
+    /// Django's `PBKDF2SHA1PasswordHasher`.
+    DjangoSha1 = 2,
+    /// Werkzeug's `pbkdf2:sha256`.
+    WerkzeugSha256 = 3,
+    /// Werkzeug's `pbkdf2:sha512`.
+    WerkzeugSha512 = 4,
+    /// A PHC string, `$pbkdf2-sha256$i=..,l=32`.
+    PhcSha256 = 5,
+    /// A PHC string, `$pbkdf2-sha512$i=..,l=32`.
+    PhcSha512 = 6,
+    /// Mosquitto's, by SHA-512.
+    Mosquitto = 7,
+    /// passlib's `pbkdf2_sha1`.
+    PasslibSha1 = 8,
+    /// passlib's `pbkdf2_sha256`.
+    PasslibSha256 = 9,
+    /// passlib's `pbkdf2_sha512`.
+    PasslibSha512 = 10,
+}
+
+/// Why [`new`] refuses.
+#[derive(Clone, Copy, Debug, PartialEq, Eq)]
+#[non_exhaustive]
+pub enum NewError {
+    /// The text is longer than the buffer, or than [`MAX_TEXT_LEN`] bytes.
+    NoRoom,
+    /// The salt is empty, or has a dollar sign where the kind writes it as it is.
+    BadSalt,
+    /// The password or the salt is longer than PBKDF2 admits.
+    TooLong,
+}
+
+impl fmt::Display for NewError {
+    fn fmt(&self, f: &mut fmt::Formatter<'_>) -> fmt::Result {
+        f.write_str(match self {
+            NewError::NoRoom => "no room for the text",
+            NewError::BadSalt => "a password hash of this kind cannot have this salt",
+            NewError::TooLong => "the password or the salt is too long",
+        })
+    }
+}
+
+#[cfg(feature = "std")]
+impl std::error::Error for NewError {}
+
+/// Writes the text of the hash of `password` to the start of `out`, and returns it. The rest of
+/// `out` is unchanged, and after a refusal all of it is.
+///
+/// `salt` should be random, and of this hash alone: Django and Werkzeug take 22 letters and digits,
+/// and the others 16 bytes. The text has the bytes of a salt that the kind writes as it is.
+pub fn new<'a>(
+    kind: Kind,
+    password: &[u8],
+    salt: &[u8],
+    iterations: NonZeroU32,
+    out: &'a mut [u8],
+) -> Result<&'a [u8], NewError> {
+    let mut len = 0;
+    // SAFETY: all are lent for the call.
+    let status = unsafe {
+        calls::yz_password_hash_new(
+            kind as u32,
+            iterations.get(),
+            salt.as_ptr(),
+            salt.len(),
+            password.as_ptr(),
+            password.len(),
+            out.as_mut_ptr(),
+            out.len(),
+            &mut len,
+        )
+    };
+    match status {
+        0 => Ok(&out[..len]),
+        3 => Err(NewError::NoRoom),
+        8 => Err(NewError::BadSalt),
+        _ => Err(NewError::TooLong),
     }
 }

@@ -132,3 +132,56 @@ fn refused_password_hashes() {
     prints(&HashError::WrongPassword, "WrongPassword");
     assert_eq!(HashError::BadFormat.to_string(), "not a password hash");
 }
+
+#[test]
+fn new_password_hashes() {
+    use std::num::NonZeroU32;
+    use yezdopin::password_hash::{new, verify, Kind, NewError, MAX_TEXT_LEN};
+
+    const KINDS: [Kind; 10] = [
+        Kind::DjangoSha256,
+        Kind::DjangoSha1,
+        Kind::WerkzeugSha256,
+        Kind::WerkzeugSha512,
+        Kind::PhcSha256,
+        Kind::PhcSha512,
+        Kind::Mosquitto,
+        Kind::PasslibSha1,
+        Kind::PasslibSha256,
+        Kind::PasslibSha512,
+    ];
+    let password = b"correct horse battery staple";
+    let iterations = NonZeroU32::new(1000).unwrap();
+    for kind in KINDS {
+        let mut text = [7; MAX_TEXT_LEN];
+        let len = new(kind, password, b"a salt", iterations, &mut text)
+            .unwrap()
+            .len();
+        assert!(text[len..].iter().all(|&byte| byte == 7));
+        let kept = std::str::from_utf8(&text[..len]).unwrap();
+        assert_eq!(verify(kept, password, 1000), Ok(()));
+        let mut room = vec![7; len - 1];
+        assert_eq!(
+            new(kind, password, b"a salt", iterations, &mut room),
+            Err(NewError::NoRoom)
+        );
+        assert!(room.iter().all(|&byte| byte == 7));
+        assert_eq!(
+            new(kind, password, b"", iterations, &mut text),
+            Err(NewError::BadSalt)
+        );
+    }
+    // Django's own, as ../../../vectors/password_hashes has it.
+    let mut text = [0; MAX_TEXT_LEN];
+    let salt = b"kXq0Wz3vT9bYh2LrE8mNpA";
+    assert_eq!(
+        new(Kind::DjangoSha1, password, salt, iterations, &mut text),
+        Ok(KEPT.as_bytes())
+    );
+    assert_eq!(
+        new(Kind::DjangoSha1, password, b"a$b", iterations, &mut text),
+        Err(NewError::BadSalt)
+    );
+    prints(&NewError::NoRoom, "NoRoom");
+    assert_eq!(NewError::NoRoom.to_string(), "no room for the text");
+}

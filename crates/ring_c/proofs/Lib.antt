@@ -2,3 +2,4 @@
 mod Within
 mod Contexts
 mod Written
+mod Counts

@@ -5,3 +5,4 @@ pub mod Each
 pub mod Label
 pub mod Verified
 pub mod Status
+pub mod NewHash

@@ -1,6 +1,6 @@
 -- SPDX-License-Identifier: ISC
--- The numbers by which C names algorithms, beside those of digests.
-use Rattle.std.specs.Prelude.{ℕ, Option, Some, None, if◌then◌else◌, nat_eq}
+-- The numbers by which C names algorithms, beside those of digests, and kinds of password hashes.
+use Rattle.std.specs.Prelude.{ℕ, zero, suc, Option, Some, None, if◌then◌else◌, nat_eq}
 use Rattle.ring.specs.declared.hkdf.algorithm.Algorithm as hkdf
 use Rattle.ring.specs.declared.hkdf.algorithm.TheConstants.{HKDF_SHA1_FOR_LEGACY_USE_ONLY}
 use Rattle.ring.specs.declared.hkdf.algorithm.TheConstants.{HKDF_SHA256, HKDF_SHA384, HKDF_SHA512}
@@ -11,6 +11,14 @@ use Rattle.ring.specs.declared.pbkdf2.algorithm.Algorithm as pbkdf2
 use Rattle.ring.specs.declared.pbkdf2.algorithm.TheConstants.{PBKDF2_HMAC_SHA1, PBKDF2_HMAC_SHA256}
 use Rattle.ring.specs.declared.pbkdf2.algorithm.TheConstants.{PBKDF2_HMAC_SHA384}
 use Rattle.ring.specs.declared.pbkdf2.algorithm.TheConstants.{PBKDF2_HMAC_SHA512}
+use native.Mathlib.Nat.{zero-lt-suc}
+use Rattle.std.specs.declared.num.NonZeroU32.{NonZeroU32}
+use Rattle.ring_password_hash.specs.declared.kind.Kind.{Kind}
+use Rattle.ring_password_hash.specs.declared.kind.Kind.TheVariants.{DjangoSha256, DjangoSha1}
+use Rattle.ring_password_hash.specs.declared.kind.Kind.TheVariants.{WerkzeugSha256, WerkzeugSha512}
+use Rattle.ring_password_hash.specs.declared.kind.Kind.TheVariants.{PhcSha256, PhcSha512, Mosquitto}
+use Rattle.ring_password_hash.specs.declared.kind.Kind.TheVariants.{PasslibSha1, PasslibSha256}
+use Rattle.ring_password_hash.specs.declared.kind.Kind.TheVariants.{PasslibSha512}
 
 -- what the first four numbers name, of four values
 abbrev pub named : {A : Type 0} → (sha1 sha256 sha384 sha512 : A) → ℕ → Option A
@@ -32,3 +40,23 @@ hkdf_named = named HKDF_SHA1_FOR_LEGACY_USE_ONLY HKDF_SHA256 HKDF_SHA384 HKDF_SH
 -- the PBKDF2 algorithm over the digest algorithm of a number
 abbrev pub pbkdf2_named : ℕ → Option pbkdf2.Algorithm
 pbkdf2_named = named PBKDF2_HMAC_SHA1 PBKDF2_HMAC_SHA256 PBKDF2_HMAC_SHA384 PBKDF2_HMAC_SHA512
+
+-- the kind of password hashes of a number
+abbrev pub kind_named : ℕ → Option Kind
+kind_named number =
+    if nat_eq number 1 then Some DjangoSha256
+    else if nat_eq number 2 then Some DjangoSha1
+    else if nat_eq number 3 then Some WerkzeugSha256
+    else if nat_eq number 4 then Some WerkzeugSha512
+    else if nat_eq number 5 then Some PhcSha256
+    else if nat_eq number 6 then Some PhcSha512
+    else if nat_eq number 7 then Some Mosquitto
+    else if nat_eq number 8 then Some PasslibSha1
+    else if nat_eq number 9 then Some PasslibSha256
+    else if nat_eq number 10 then Some PasslibSha512
+    else None
+
+-- an iteration count: any number but 0
+abbrev pub count_named : ℕ → Option NonZeroU32
+count_named zero = None
+count_named (suc n) = Some (record { value = suc n; ok = zero-lt-suc n })

@@ -4,7 +4,7 @@ use Rattle.std.specs.Prelude.{ℤ, Bool, false, Option, Some, None, if◌then◌
 use Rattle.ring_password_hash.specs.declared.error.HashError.{HashError}
 use Rattle.ring_password_hash.specs.declared.error.HashError.TheVariants as hash
 use Rattle.ring_c.specs.declared.status.TheConstants.{NO_ITERATIONS, OK, UNKNOWN_CONTEXT}
-use Rattle.ring_c.specs.declared.status.TheConstants.{BAD_FORMAT, TOO_MANY_ITERATIONS}
+use Rattle.ring_c.specs.declared.status.TheConstants.{BAD_FORMAT, BAD_SALT, TOO_MANY_ITERATIONS}
 use Rattle.ring_c.specs.declared.status.TheConstants.{UNSPECIFIED, WRONG_LENGTH}
 
 -- whether each cause of a refusal holds, past a number that names no algorithm
@@ -13,6 +13,7 @@ pub record Causes : Type 0 where
   pub wrong_length : Bool
   pub no_iterations : Bool
   pub too_many_iterations : Bool
+  pub bad_salt : Bool
   pub unspecified : Bool
 
 -- none holds: a call names those that it can have
@@ -23,6 +24,7 @@ no_cause =
       wrong_length = false;
       no_iterations = false;
       too_many_iterations = false;
+      bad_salt = false;
       unspecified = false;
     }
 
@@ -33,6 +35,7 @@ first_of c =
     else if c.wrong_length then WRONG_LENGTH
     else if c.no_iterations then NO_ITERATIONS
     else if c.too_many_iterations then TOO_MANY_ITERATIONS
+    else if c.bad_salt then BAD_SALT
     else if c.unspecified then UNSPECIFIED
     else OK
 

@@ -1,10 +1,14 @@
 // SPDX-License-Identifier: ISC
-//! Algorithms by their numbers, which are those of the digest algorithms below them.
+//! Algorithms by their numbers, which are those of the digest algorithms below them, and kinds of
+//! password hashes by theirs.
 
 ghost use Rattle.std.specs.Prelude.{◌≡◌};
-ghost use Rattle.ring_c.specs.Number.{hkdf_named, hmac_named, pbkdf2_named};
+ghost use Rattle.ring_c.specs.Number.{count_named, hkdf_named, hmac_named, kind_named};
+ghost use Rattle.ring_c.specs.Number.{pbkdf2_named};
 
 use ring::{hkdf, hmac, pbkdf2};
+use ring_password_hash::Kind;
+use std::num::NonZeroU32;
 
 // The HMAC algorithm of a number.
 pub(crate) fn hmac_of_number(number: u32) -> Option<hmac::Algorithm>
@@ -43,4 +47,30 @@ pub(crate) fn pbkdf2_of_number(number: u32) -> Option<pbkdf2::Algorithm>
         4 => Some(pbkdf2::PBKDF2_HMAC_SHA512),
         _ => None,
     }
+}
+
+// The kind of password hashes of a number.
+pub(crate) fn kind_of_number(number: u32) -> Option<Kind>
+    ensures { result ≡ kind_named number }
+{
+    match number {
+        1 => Some(Kind::DjangoSha256),
+        2 => Some(Kind::DjangoSha1),
+        3 => Some(Kind::WerkzeugSha256),
+        4 => Some(Kind::WerkzeugSha512),
+        5 => Some(Kind::PhcSha256),
+        6 => Some(Kind::PhcSha512),
+        7 => Some(Kind::Mosquitto),
+        8 => Some(Kind::PasslibSha1),
+        9 => Some(Kind::PasslibSha256),
+        10 => Some(Kind::PasslibSha512),
+        _ => None,
+    }
+}
+
+// The number as an iteration count.
+pub(crate) fn count_of_number(number: u32) -> Option<NonZeroU32>
+    ensures { result ≡ count_named number }
+{
+    NonZeroU32::new(number)
 }

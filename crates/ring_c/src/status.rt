@@ -23,5 +23,8 @@ pub(crate) const NO_ITERATIONS: i32 = 4;
 /// The iteration count of a text is above the caller's limit.
 pub(crate) const TOO_MANY_ITERATIONS: i32 = 7;
 
+/// A password hash can't have the salt.
+pub(crate) const BAD_SALT: i32 = 8;
+
 /// An input is too long, or a verification found a mismatch: the status doesn't say which.
 pub(crate) const UNSPECIFIED: i32 = 5;

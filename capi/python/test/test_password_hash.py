@@ -83,7 +83,7 @@ class New(unittest.TestCase):
                 salt = letters[:length] if plain else bytes(range(250, 256)) + bytes(length)
                 if plain and length == 25:
                     continue  # half of a letter
-                for iterations in (1, 9, 10, 1001):
+                for iterations in (1, 9, 10, 101):
                     for password in (b"", PASSWORD, b"\x00\xff" * 100):
                         got = password_hash.new(kind, password, iterations=iterations, salt=salt)
                         self.assertEqual(got, text_by_hashlib(kind, password, salt, iterations))

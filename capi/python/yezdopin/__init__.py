@@ -13,8 +13,8 @@
     >>> digests[2].hex()[:8], digests[0] == digests[2]
     ('ba7816bf', True)
 
-`yezdopin.hmac` has tags in the shape of `hmac`, and `yezdopin.password_hash` tests passwords
-against the hashes of other systems. Buffers are anything with bytes in one piece: `bytes`,
+`yezdopin.hmac` has tags in the shape of `hmac`, and `yezdopin.password_hash` writes and tests the
+password hashes of other systems. Buffers are anything with bytes in one piece: `bytes`,
 `bytearray`, `memoryview`, arrays. What the library refuses raises `Error`, a `ValueError`.
 """
 

@@ -1,6 +1,7 @@
 -- SPDX-License-Identifier: ISC
 -- The text of a new hash: which salts it can have, and its length.
-use Rattle.std.proofs.Common.{◌≡◌, ◌==◌, ◌+◌, ◌<◌, ◌≤◌, ℕ, Bool, true, false, List, [], ◌∷◌, ◌++◌, length, take}
+use Rattle.std.proofs.Common.{◌≡◌, ◌==◌, ◌+◌, ◌<◌, ◌≤◌, ℕ, Bool, true, false, List, [], ◌∷◌, ◌++◌}
+use Rattle.std.proofs.Common.{length, take}
 use Rattle.std.proofs.Common.{ap, append_assoc, arith, inl, inr, refl, subst, sym, ◌∙◌}
 use Rattle.std.proofs.Common.{true≢false}
 use Rattle.std.specs.Prelude.{◌↔◌, ◌⊎◌, ◌&&◌, ◌||◌, IsTrue, Ok, nat_lt, not}
@@ -31,7 +32,7 @@ use Rattle.ring_password_hash.specs.declared.field.Encoding.TheVariants.{Base64N
 use Rattle.ring_password_hash.specs.declared.kind.Kind.{Kind}
 use Rattle.ring_password_hash.specs.declared.decoded.TheConstants.{MAX_TEXT_LEN}
 use Rattle.ring_password_hash.proofs.Heads.{usual_len}
-use Rattle.ring_password_hash.proofs.Texts.{NotAt}
+use Rattle.ring_text.proofs.Cuts.{NotAt}
 use Rattle.ring_password_hash.proofs.Written.{append-head_then}
 
 both : (a b : Bool) → (a && b) ≡ true → (a ≡ true) × (b ≡ true)

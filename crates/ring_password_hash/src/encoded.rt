@@ -121,7 +121,8 @@ fn put_two(
     iterations: NonZeroU32,
     len: usize,
 ) -> Option<usize>
-    ensures { IsPut at (codes "i=" ++ count_then iterations 44 (codes "l=" ++ number_then len 36 []))
+    ensures { IsPut at
+        (codes "i=" ++ count_then iterations 44 (codes "l=" ++ number_then len 36 []))
         out.old out.new result }
 {
     let at = put(out, at, b"i=")?;

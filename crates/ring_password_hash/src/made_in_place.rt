@@ -179,9 +179,9 @@ pub fn new_in_place_counted(
     Ok(len)
 }
 
-/// Writes to the start of `out` the text of the hash of `password` under `salt` and `iterations`, of
-/// the `kind`, with no memory but two arrays of its own, and returns how many bytes it has. It is
-/// the text of the hash that [`PasswordHash::new`](crate::PasswordHash::new) makes. The rest of
+/// Writes to the start of `out` the text of the hash of `password` under `salt` and `iterations`,
+/// of the `kind`, with no memory but two arrays of its own, and returns how many bytes it has. It
+/// is the text of the hash that [`PasswordHash::new`](crate::PasswordHash::new) makes. The rest of
 /// `out` is unchanged.
 ///
 /// `salt` should be random, and of this hash alone: [`new_salt`](crate::salt::new_salt) makes one.

@@ -42,6 +42,7 @@ pub returns-clause-state : goal.returns-clause-state
 returns-clause-state c = λ i context below.
     let states = c.contexts.states in
     let first = context.block.state in
-    slice_get-get_or states i first (omega (arith, below, c.contexts.invariant.room, c.requires.most))
+    slice_get-get_or states i first
+    (omega (arith, below, c.contexts.invariant.room, c.requires.most))
     ∙ ap Some (c.contexts.invariant.state i first context
     (omega (arith, below, c.contexts.auto.i-end, c.contexts-test.false)))

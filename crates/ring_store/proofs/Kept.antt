@@ -1,8 +1,7 @@
 -- SPDX-License-Identifier: ISC
 -- What holds of each entry of a table, after a record is put or removed.
-use Rattle.std.proofs.Common.{◌≡◌, Bool, true, false, cond, ℕ, List, [], ◌∷◌, All, refl, sym, ap}
+use Rattle.std.proofs.Common.{◌≡◌, true, false, cond, ℕ, List, [], ◌∷◌, All, refl, sym, ap}
 use Rattle.std.proofs.Common.{subst, ◌∙◌, T}
-use Rattle.std.proofs.Common.{◌&&◌}
 use Rattle.std.specs.Prelude.{Some, None}
 use Rattle.std.specs.Ordering.{eq_by_cmp, is_eq, is_lt}
 use Rattle.std.specs.declared.cmp.Ordering.{Ordering}
@@ -11,15 +10,8 @@ use Rattle.std.specs.Cmp.Lexicographic.{nat_list_cmp_total}
 use Rattle.std.specs.FinMap as table
 use Rattle.std.specs.FinMap.Entries.{below_all, is_sorted}
 use Rattle.std.proofs.lemmas.List.Elements.{All-nil, All-cons, All-head, All-tail}
+use Rattle.ring_store.proofs.Entries.{first, second}
 use Rattle.ring_store.proofs.Names.{order, tied, ties}
-
-both_first : (a b : Bool) → T (a && b) → T a
-both_first true b p = tt
-both_first false b p = p
-
-both_second : (a b : Bool) → T (a && b) → T b
-both_second true b p = p
-both_second false b p = absurd p
 
 not_equal : (o : Ordering) → T (is_lt o) → is_eq o ≡ false
 not_equal Less p = refl
@@ -43,9 +35,9 @@ module _ {X : Type 0} (P : List ℕ × X → Type 0) where
   below_find k [] h = refl
   below_find k (e ∷ es) h =
       let here = not_equal (order k e.0)
-      (both_first (is_lt (order k e.0)) (below_all order k es) h) in
+      (first (is_lt (order k e.0)) (below_all order k es) h) in
       ap (λ b. cond b (Some e.1) (table.find order k es)) here
-      ∙ below_find k es (both_second (is_lt (order k e.0)) (below_all order k es) h)
+      ∙ below_find k es (second (is_lt (order k e.0)) (below_all order k es) h)
 
   -- what holds of each entry holds of what is found
   found : (es : List (List ℕ × X)) (q : List ℕ) (v : X) → All P es → table.find order q es ≡ Some v
@@ -65,10 +57,10 @@ module _ {X : Type 0} (P : List ℕ × X → Type 0) where
       → ((q : List ℕ) (v : X) → table.find order q es ≡ Some v → P (q, v)) → All P es
   each [] sorted h = All-nil P
   each (e ∷ es) sorted h =
-      let below = both_first (below_all order e.0 es) (is_sorted order es) sorted in
+      let below = first (below_all order e.0 es) (is_sorted order es) sorted in
       let here = ap (λ b. cond b (Some e.1) (table.find order e.0 es)) (ties e.0 e.0 refl) in
       All-cons P e es (h e.0 e.1 here)
-      (each es (both_second (below_all order e.0 es) (is_sorted order es) sorted) (λ q v is.
+      (each es (second (below_all order e.0 es) (is_sorted order es) sorted) (λ q v is.
       (elim (eq_by_cmp order q e.0) as (λ b. eq_by_cmp order q e.0 ≡ b → P (q, v)) [
         | true ↦ λ same.
             absurd (nothing v (sym (below_find e.0 es below)

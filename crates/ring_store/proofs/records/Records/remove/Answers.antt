@@ -1,8 +1,8 @@
 -- SPDX-License-Identifier: ISC
-use Rattle.std.proofs.Common.{sym, ap, ◌∙◌}
+use Rattle.std.proofs.Common.{sym, ap, refl, ◌∙◌}
 use Rattle.std.specs.Prelude.{is_some}
 use Rattle.std.specs.FinMap as table
-use Rattle.ring_store.proofs.Names.{from_entries-remove_entry, get-named}
+use Rattle.ring_store.proofs.Names.{get-named, shows_remove}
 use Rattle.ring_store.proofs.records.Records.remove.Goals as goal
 
 pub returns-clause-found : goal.returns-clause-found
@@ -14,7 +14,7 @@ returns-clause-found g c =
 
 pub returns-clause-removed : goal.returns-clause-removed
 returns-clause-removed g c =
-    from_entries-remove_entry c.args.name.now c.self.inside.by_name.entries
-    c.remove.new.self.entries
-    c.remove.ensures.updates.1 c.remove.ensures.entries
+    let updated = c.remove.ensures.updates in
+    shows_remove c.args.name.now _ c.self.inside.by_name.entries c.remove.new.self.entries updated.1
+    updated.2 refl
     ∙ ap (λ t. table.remove t c.args.name.now) c.self.view_is

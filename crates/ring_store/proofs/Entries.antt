@@ -1,7 +1,7 @@
 -- SPDX-License-Identifier: ISC
 -- The entries of tables, in the order of their names.
-use Rattle.std.proofs.Common.{◌≡◌, ℕ, Bool, true, false, ◌&&◌, List, [], ◌∷◌, ◌++◌, map, length}
-use Rattle.std.proofs.Common.{refl, sym, ap, subst, ◌∙◌, arith, T}
+use Rattle.std.proofs.Common.{◌≡◌, ℕ, Bool, true, false, ◌&&◌, List, [], ◌∷◌, ◌++◌, map}
+use Rattle.std.proofs.Common.{refl, sym, ap, subst, ◌∙◌, T}
 use Rattle.std.specs.Ordering.{is_lt, ordering_reverse}
 use Rattle.std.specs.declared.cmp.Ordering.{Ordering}
 use Rattle.std.specs.declared.cmp.Ordering.TheVariants.{Less, Equal, Greater}
@@ -20,7 +20,9 @@ use Rattle.std.specs.Borrow.{Bor}
 use Rattle.std.proofs.lemmas.Iterator.Consumers.{nth_from_yields_List, YieldsList-from_rest}
 use Rattle.std.proofs.lemmas.Option.{slice_get-map}
 use Rattle.std.specs.declared.vec.Vec.{Vec}
-use Rattle.std.proofs.lemmas.List.Elements.{All-nil, All-cons, All-head, All-tail, All-append}
+use Rattle.std.proofs.lemmas.List.{nil_from_length}
+use Rattle.std.proofs.lemmas.List.Elements.{All-nil, All-cons, All-head, All-tail, All-push}
+use Rattle.std.proofs.lemmas.List.Elements.{All-weaker}
 use Rattle.ring_store.specs.Records.{IsBehind, named}
 use Rattle.ring_store.proofs.Names.{order, key_order}
 
@@ -86,13 +88,9 @@ module _ {X : Type 0} where
   entries-put_last m e is behind =
       ap table.entries is ∙ entries-insert_last m e.0 e.1 behind
 
-  no_entry : (es : List (List ℕ × X)) → length es ≡ 0 → es ≡ []
-  no_entry [] e = refl
-  no_entry (x ∷ es) e = absurd (omega arith)
-
   pub entries-empty : table.entries (table.empty {X = X} {R = order}) ≡ []
   entries-empty =
-      no_entry (table.entries table.empty)
+      nil_from_length (table.entries table.empty)
       (sym (table.len-entries table.empty) ∙ table.len-empty order X)
 
   put_first : (k : List ℕ) (v : X) (es : List (List ℕ × X)) → T (below_all order k es)
@@ -152,14 +150,6 @@ module _ {X A : Type 0} {m : table.FinMap order X} (es : List (Vec ℕ A × X))
       (sym (ap (map (λ e. e.0)) (entries-shown es shows sorted) ∙ names-named es))
 
 module _ {X : Type 0} (name : List ℕ) where
-  behind_front : (es : List (List ℕ × X)) (e : List ℕ × X) → IsBehind e.0 es
-      → order e.0 name ≡ Less → IsBehind name es
-  behind_front [] e h lower = All-nil (Behind name)
-  behind_front (x ∷ es) e h lower =
-      All-cons (Behind name) x es
-      (nat_list_cmp_total.trans x.0 e.0 name (All-head (Behind e.0) x es h) lower)
-      (behind_front es e (All-tail (Behind e.0) x es h) lower)
-
   behind_last : (es : List (List ℕ × X)) (e : List ℕ × X) → IsBehind name (es ++ e ∷ [])
       → order e.0 name ≡ Less
   behind_last [] e h = All-head (Behind name) e [] h
@@ -175,6 +165,7 @@ module _ {X : Type 0} (name : List ℕ) where
   IsBehind-push es e h = (
     behind_last es e,
     λ lower.
-        All-append (Behind name) es (e ∷ []) (behind_front es e h lower)
-        (All-cons (Behind name) e [] lower (All-nil (Behind name))),
+        All-push (Behind name) es e
+        (All-weaker (Behind e.0) (Behind name)
+        (λ x before. nat_list_cmp_total.trans x.0 e.0 name before lower) es h) lower,
   )

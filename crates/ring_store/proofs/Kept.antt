@@ -2,7 +2,7 @@
 -- What holds of each entry of a table, after a record is put or removed.
 use Rattle.std.proofs.Common.{◌≡◌, true, false, cond, ℕ, List, [], ◌∷◌, All, refl, sym, ap}
 use Rattle.std.proofs.Common.{subst, ◌∙◌, T}
-use Rattle.std.specs.Prelude.{Some, None}
+use Rattle.std.specs.Prelude.{Option, Some, None}
 use Rattle.std.specs.Ordering.{eq_by_cmp, is_eq, is_lt}
 use Rattle.std.specs.declared.cmp.Ordering.{Ordering}
 use Rattle.std.specs.declared.cmp.Ordering.TheVariants.{Less, Equal, Greater}
@@ -69,28 +69,29 @@ module _ {X : Type 0} (P : List ℕ × X → Type 0) where
             h q v (ap (λ b. cond b (Some e.1) (table.find order q es)) away ∙ is)
       ]) refl))
 
+  -- where the table n has w at the name k, or nothing, and else what m has
+  updated : (m n : table.FinMap order X) (k : List ℕ) (w : Option X)
+      → ((q : List ℕ) → table.get n q ≡ cond (eq_by_cmp order q k) w (table.get m q))
+      → All P (table.entries m) → ((v : X) → w ≡ Some v → P (k, v)) → All P (table.entries n)
+  updated m n k w after h put =
+      each (table.entries n) (table.entries_sorted n) (λ q v is.
+      (elim (eq_by_cmp order q k) as (λ b. eq_by_cmp order q k ≡ b
+      → cond b w (table.get m q) ≡ Some v → P (q, v)) [
+        | true ↦ λ same one.
+            subst (λ (x : List ℕ). P (x, v)) (sym (tied q k same)) (put v one)
+        | false ↦ λ _ stays. found (table.entries m) q v h (sym (table.get-entries m q) ∙ stays)
+      ]) refl (sym (after q) ∙ table.get-entries n q ∙ is))
+
   -- a record that is put
   pub All-insert : (m : table.FinMap order X) (k : List ℕ) (v : X) → All P (table.entries m)
       → P (k, v) → All P (table.entries (table.insert m k v))
   All-insert m k v h one =
-      each (table.entries (table.insert m k v))
-      (table.entries_sorted (table.insert m k v)) (λ q w is.
-      (elim (eq_by_cmp order q k) as (λ b. eq_by_cmp order q k ≡ b
-      → cond b (Some v) (table.get m q) ≡ Some w → P (q, w)) [
-        | true ↦ λ same put.
-            (let pair : (k, v) ≡ (q, w) = pair_path (sym (tied q k same)) (same_value v w put) in
-            subst P pair one)
-        | false ↦ λ _ kept. found (table.entries m) q w h (sym (table.get-entries m q) ∙ kept)
-      ]) refl (sym (table.get-insert nat_list_cmp_total m k v q)
-      ∙ table.get-entries (table.insert m k v) q ∙ is))
+      updated m (table.insert m k v) k (Some v) (table.get-insert nat_list_cmp_total m k v) h
+      (λ w is. subst (λ (x : X). P (k, x)) (same_value v w is) one)
 
   -- a record that is removed
   pub All-remove : (m : table.FinMap order X) (k : List ℕ) → All P (table.entries m)
       → All P (table.entries (table.remove m k))
   All-remove m k h =
-      each (table.entries (table.remove m k)) (table.entries_sorted (table.remove m k)) (λ q w is.
-      (elim (eq_by_cmp order q k) as (λ b. cond b None (table.get m q) ≡ Some w → P (q, w)) [
-        | true ↦ λ none. absurd (nothing w none)
-        | false ↦ λ kept. found (table.entries m) q w h (sym (table.get-entries m q) ∙ kept)
-      ]) (sym (table.get-remove nat_list_cmp_total m k q)
-      ∙ table.get-entries (table.remove m k) q ∙ is))
+      updated m (table.remove m k) k None (table.get-remove nat_list_cmp_total m k) h
+      (λ w none. absurd (nothing w none))

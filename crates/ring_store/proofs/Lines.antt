@@ -1,9 +1,10 @@
 -- SPDX-License-Identifier: ISC
 -- Lines of records, read from the front.
-use Rattle.std.proofs.Common.{◌≡◌, ◌≢◌, ℕ, ◌<◌, List, [], ◌∷◌, ◌++◌, length, All, refl, sym, ap}
+use Rattle.std.proofs.Common.{◌≡◌, ◌≢◌, ℕ, ◌<◌, List, [], ◌∷◌, ◌++◌, length, All, sym, ap}
 use Rattle.std.proofs.Common.{subst, ◌∙◌, arith, append_assoc, append-nil, true, T}
 use Rattle.std.specs.FinMap as table
 use Rattle.std.specs.declared.cmp.Ordering.TheVariants.{Less}
+use Rattle.std.proofs.lemmas.List.{nil_from_length}
 use Rattle.std.proofs.lemmas.List.Elements.{All-head, All-nil, All-push}
 use Rattle.ring_store.specs.Records.{IsBehind}
 use Rattle.ring_store.specs.Store.{is_name}
@@ -125,16 +126,12 @@ read_more {rest} e left so_far line is lower =
           (IsBehind-push name es e behind);
     }
 
-no_rest : (rest : List ℕ) → length rest ≡ 0 → rest ≡ []
-no_rest [] e = refl
-no_rest (x ∷ rest) e = absurd (omega arith)
-
 pub read_all : {last lines rest : List ℕ} → ReadUpTo last lines rest → length rest ≡ 0
     → AreLines lines
 read_all {rest} so_far none = record {
   records = so_far.records;
   entries = so_far.each;
   whole = sym (so_far.whole
-      ∙ ap (λ l. lines_of (table.entries so_far.records) ++ l) (no_rest rest none)
+      ∙ ap (λ l. lines_of (table.entries so_far.records) ++ l) (nil_from_length rest none)
       ∙ append-nil (lines_of (table.entries so_far.records)));
 }

@@ -1,6 +1,6 @@
 -- SPDX-License-Identifier: ISC
 -- A number as an iteration count.
-use Rattle.std.proofs.Common.{◌≡◌, ℕ, zero, suc, ap, arith, refl, sym, ◌∙◌}
+use Rattle.std.proofs.Common.{◌≡◌, ℕ, zero, suc, ap, arith, refl}
 use Rattle.std.specs.Prelude.{MatchOption, Option, Some, None}
 use Rattle.std.specs.Int.NonZero.{non_zero_u32_get}
 use Rattle.std.specs.declared.num.NonZeroU32.{NonZeroU32}

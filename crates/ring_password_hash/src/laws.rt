@@ -3,14 +3,21 @@
 //!
 //! A law holds of the definitions alone: its clause is the law, and the call does nothing.
 
-ghost use Rattle.std.specs.Prelude.{◌≡◌, ◌≢◌, ℕ, List};
+ghost use Rattle.std.specs.Prelude.{◌≡◌, ◌≢◌, ℕ, List, length};
 ghost use Rattle.std.specs.declared.num.NonZeroU32.{NonZeroU32};
 ghost use Rattle.ring.specs.Prelude.{dk};
 ghost use Rattle.ring.specs.declared.digest.algorithm.TheConstants.{SHA256};
-ghost use Rattle.ring_password_hash.specs.Hash.{IsParts, hash_text};
+ghost use Rattle.ring_password_hash.specs.Hash.{IsOf, IsParts, hash_of, hash_text, iterations_of};
+ghost use Rattle.ring_password_hash.specs.Hash.{kind_of, parameters_of, salt_of, text_of};
+ghost use Rattle.ring_password_hash.specs.Hash.{usual_parameters};
+ghost use Rattle.ring_password_hash.specs.Kind.{hash_len_of};
+ghost use Rattle.ring_password_hash.specs.New.{new_text};
 ghost use Rattle.ring_password_hash.specs.Scram.{salted_password, scram_text};
 ghost use Rattle.ring_password_hash.specs.declared.head.Parameters.{Parameters};
 ghost use Rattle.ring_password_hash.specs.declared.kind.Kind.{Kind};
+
+use crate::password_hash::PasswordHash;
+use std::alloc::Allocator;
 
 /// A text is of one kind, and of one hash: no text of one kind is one of another.
 pub fn one_text_is_of_one_hash()
@@ -23,6 +30,15 @@ pub fn one_text_is_of_one_hash()
 pub fn no_text_is_of_both()
     ensures { (k : Kind) (p : Parameters) (c d : NonZeroU32) (s h t stored server : List ℕ)
         → scram_text c t stored server ≢ hash_text k p d s h }
+{}
+
+/// The text that [`new_in_place`](crate::new_in_place) writes is that of the hash that
+/// [`PasswordHash::new`] makes of the same password, salt and iterations.
+pub fn new_text_is_of_the_new_hash<A: Allocator>()
+    ensures { (h : PasswordHash A) (p : List ℕ) → IsOf h p
+        → parameters_of h ≡ usual_parameters (kind_of h)
+        → length (hash_of h) ≡ hash_len_of (kind_of h)
+        → text_of h ≡ new_text (kind_of h) p (salt_of h) (iterations_of h) }
 {}
 
 /// A salted password is what PBKDF2 with HMAC-SHA-256 derives to 32 bytes. So is a record of such a

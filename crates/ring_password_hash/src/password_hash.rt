@@ -226,6 +226,7 @@ impl<A: Allocator + Copy> PasswordHash<A> {
         ensures stands { IfOk result (λ h. (kind_of h ≡ kind)
             × (parameters_of h ≡ usual_parameters kind) × (iterations_of h ≡ iterations)
             × (salt_of h ≡ salt.now)) }
+        ensures len { IfOk result (λ h. length (hash_of h) ≡ hash_len_of kind) }
         ensures bad_salt { IsErrOf result HashError.BadSalt ↔ ¬ (IsSalt kind salt.now) }
         ensures too_long { IsErrOf result HashError.TooLong ↔ (IsSalt kind salt.now
             × ¬ (CanHash kind (length password.now) (length salt.now))) }
@@ -272,6 +273,7 @@ impl<A: Allocator + Copy> PasswordHash<A> {
         ensures stands { IfOk result (λ h. (kind_of h ≡ kind)
             × (parameters_of h ≡ usual_parameters kind) × (iterations_of h ≡ iterations)
             × (salt_of h ≡ salt.now)) }
+        ensures len { IfOk result (λ h. length (hash_of h) ≡ hash_len_of kind) }
         ensures bad_salt { IsErrOf result HashError.BadSalt ↔ ¬ (IsSalt kind salt.now) }
         ensures too_long { IsErrOf result HashError.TooLong ↔ (IsSalt kind salt.now
             × ¬ (CanHash kind (length password.now) (length salt.now))) }

@@ -4,7 +4,7 @@ use Rattle.std.proofs.Common.{◌≡◌, ℕ, zero, suc, ap, arith, refl}
 use Rattle.std.specs.Prelude.{MatchOption, Option, Some, None}
 use Rattle.std.specs.Int.NonZero.{non_zero_u32_get}
 use Rattle.std.specs.declared.num.NonZeroU32.{NonZeroU32}
-use Rattle.ring_password_hash.proofs.Texts.{same_count}
+use Rattle.ring_text.proofs.Numbers.{same_count}
 use Rattle.ring_c.specs.Number.{count_named}
 
 pub named_count : (n : ℕ) (count : Option NonZeroU32)

@@ -7,7 +7,8 @@ use Rattle.ring_store.proofs.text.name_before.Goals as goal
 
 pub returns-in_default-clause-refused : goal.returns-in_default-clause-refused
 returns-in_default-clause-refused c = λ _ name rest h is e.
-    not_cut c.args.end (encode_lower name) rest c.args.text.now (c.in_default.ensures.refused refl) e
+    not_cut c.args.end (encode_lower name) rest c.args.text.now
+    (c.in_default.ensures.refused refl) e
 
 pub returns-in-None-clause-refused : goal.returns-in-None-clause-refused
 returns-in-None-clause-refused c = λ _ name rest h is e.

@@ -21,14 +21,16 @@ returns-then-is_empty-clause-refused c = λ _ name h is e.
       | then-is_empty-via-else-is_empty+then-digits w ↦ absurd (omega arith)
     ]
 
-pub returns-then-not-fill_from_hex-clause-refused : goal.returns-then-not-fill_from_hex-clause-refused
+pub returns-then-not-fill_from_hex-clause-refused
+    : goal.returns-then-not-fill_from_hex-clause-refused
 returns-then-not-fill_from_hex-clause-refused c = λ _ name h is e.
     let digits = ap length e ∙ length-encode_with lower_digits name in
     let half : length name ≡ length c.args.digits.now / 2 = omega arith in
     let room : length (take (length c.args.digits.now / 2) c.args.room.now)
     ≡ length c.args.digits.now / 2 =
     length-take-le (length c.args.digits.now / 2) c.args.room.now (search rules) in
-    c.fill_from_hex.ensures.refused (λ read. cc (read, c.if-not-fill_from_hex.true)) name h (half ∙ sym room) e
+    c.fill_from_hex.ensures.refused (λ read. cc (read, c.if-not-fill_from_hex.true)) name h
+    (half ∙ sym room) e
 
 pub returns-clause-ok : goal.returns-clause-ok
 returns-clause-ok c =

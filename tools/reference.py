@@ -1,8 +1,10 @@
 #!/usr/bin/env python3
 # SPDX-License-Identifier: ISC
-"""Writes docs/reference/: the public items of the libraries, as HTML pages that link to each other.
+"""Writes the public items of the libraries as HTML pages that link to each other:
 
-A page for each public module has its `//!` page and its items, each with its comment, its signature and
+    reference.py [FOLDER]
+
+The pages stand in the folder, by default docs/reference/. A page for each public module has its `//!` page and its items, each with its comment, its signature and
 its contract; index.html lists the modules, and items.html all items. The pages need no network and no
 script. Debian has what this script needs as `python3-markdown` and `python3-pygments`.
 """
@@ -25,7 +27,7 @@ except ImportError as error:
     NEEDED = "apt-get install python3-markdown python3-pygments, then /usr/bin/python3"
     sys.exit(f"there is no `{error.name}`: {NEEDED} {sys.argv[0]}")
 
-OUT = rattle_items.ROOT / "docs" / "reference"
+OUT = pathlib.Path(*sys.argv[1:2] or [rattle_items.ROOT / "docs" / "reference"])
 STYLE = pathlib.Path(__file__).with_name("reference.css")
 # The headings of a page, and the kinds of items below each.
 SECTIONS = {
@@ -285,7 +287,7 @@ def main():
     reference.write_lists()
     (OUT / STYLE.name).write_text(STYLE.read_text())
     pages, shown = len(reference.sources.pages), len(reference.sources.shown)
-    print(f"docs/reference/index.html: {pages} modules, {shown} items")
+    print(f"{OUT / 'index.html'}: {pages} modules, {shown} items")
 
 
 if __name__ == "__main__":

@@ -50,9 +50,22 @@ dist: all
 	    "$$($(CC) --version | head -n 1)" $(TEXTS)
 	cd "$(DIST)" && sha256sum * >../SHA256SUMS && mv ../SHA256SUMS . && cat SHA256SUMS
 
+# The reference of the proved crates as HTML pages, where Debian's python3-markdown and
+# python3-pygments are. `make dist REFERENCE=FOLDER` takes finished pages instead.
+ifneq ($(origin REFERENCE),command line)
+REFERENCE_PYTHON = /usr/bin/python3
+REFERENCE = $(shell $(REFERENCE_PYTHON) -c 'import markdown, pygments' 2>/dev/null \
+    && echo out/reference)
+REFERENCE_MADE = $(REFERENCE)
+out/reference: FORCE_REFERENCE
+	$(REFERENCE_PYTHON) -B ../tools/reference.py $@
+FORCE_REFERENCE:
+endif
+
 # A tree that works wherever it is unpacked, and install.sh, which copies it.
-dist-tarball: all
+dist-tarball: all $(REFERENCE_MADE)
 	$(call install_in,$(WORK)/$(TREE),,/lib)
+	test -z "$(REFERENCE)" || cp -R "$(REFERENCE)" "$(WORK)/$(TREE)/share/doc/yezdopin/reference"
 	sed -i 's,^prefix=.*,prefix=$${pcfiledir}/../..,' "$(WORK)/$(TREE)/lib/pkgconfig/yezdopin.pc"
 	cp dist/INSTALL dist/install.sh "$(WORK)/$(TREE)"
 	sed -i 's|@processor@|$(ARCH)|' "$(WORK)/$(TREE)/install.sh"

@@ -111,12 +111,15 @@ class Salts(Case):
         text = it.file.read_bytes()
         runs = list(itertools.product(("verify", "set"), ("known", "unknown")))
         times = {words: [] for words in runs}
-        for words in runs * 5:
-            it.file.write_bytes(text)
-            times[words].append(processor_time(it, *words, password=b"wrong"))
-        least = {words: min(each) for words, each in times.items()}
-        for words, time in least.items():
-            self.assertTrue(0.6 < time / least["verify", "known"] < 1.5, (words, least))
+        for _ in range(4):  # other work on the machine moves them
+            for words in runs * 5:
+                it.file.write_bytes(text)
+                times[words].append(processor_time(it, *words, password=b"wrong"))
+            least = {words: min(each) for words, each in times.items()}
+            ratios = {words: time / least["verify", "known"] for words, time in least.items()}
+            if all(0.6 < ratio < 1.5 for ratio in ratios.values()):
+                return
+        self.fail(ratios)
 
 
 def copied_bytes(salts):

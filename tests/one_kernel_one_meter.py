@@ -3,14 +3,14 @@
 """What no contract sees: that no block is run outside the meter that a call was handed.
 
 Searches the code of the libraries and of `ring_passwords`, outside tests, examples, comments and
-contracts, and tries these rules: a plain form is the one call of its counted form; few places make a
-meter, none of them in a function that takes one; a function that takes a meter calls nothing that runs
-blocks under another; a block is run once for each block counted, and four side by side for each four;
-and the rounds of SHA-2 and of SHA-1 stand once. Since it finds a call by the function's name, and a
-method's by the type's too, it refuses what hides these: imports under another name, functions as
-values, aliases of types, and macros that call. It then searches as many times again, each time with
-one body planted that the prover lets through, and which a rule has to find. The last line is
-'N passed, M failed'.
+contracts, and tries these rules: a plain form is the one call of its counted form; few places make
+a meter, none of them in a function that takes one; a function that takes a meter calls nothing that
+runs blocks under another; a block is run once for each block counted, and four side by side for
+each four; and the rounds of SHA-2 and of SHA-1 stand once. Since it finds a call by the function's
+name, and a method's by the type's too, it refuses what hides these: imports under another name,
+functions as values, aliases of types, and macros that call. It then searches as many times again,
+each time with one body planted that the prover lets through, and which a rule has to find. The last
+line is 'N passed, M failed'.
 """
 
 import dataclasses
@@ -27,35 +27,50 @@ import rattle_text
 functions = functools.cache(lambda code: tuple(rattle_text.functions(code)))
 
 ROOT = pathlib.Path(__file__).resolve().parent.parent
-# The crates, lowest first, and how many places of each make a meter at most: one a plain form; of the
-# calls for C those that name a width, which have no plain form; of the program `set` and `verify`.
+# The crates, lowest first, and how many places of each make a meter at most: one a plain form; of
+# the calls for C those that name a width, which have no plain form; of the program `set` and
+# `verify`.
 METERS = {"ring_core": 4, "ring": 22, "ring_store": 7, "ring_passwords": 2, "ring_c": 3}
-# What may call a plain form of `ring_core` and `ring` there, beside plain forms: each makes a key, for
-# which no meter is handed in.
+# What may call a plain form of `ring_core` and `ring` there, beside plain forms: each makes a key,
+# for which no meter is handed in.
 MAY_CALL_PLAIN = {("Key", "generate"), ("Okm", "into_key")}
 # What loads the words of blocks and what counts these: that it counts as many is its contract. Each
-# family has one place that loads by each, and that runs the rounds and counts there: blocks of bytes
-# by the kernel with the schedule ahead, the others by the kernel over a window.
-COUNTS = {"load": "add_block()", "load_blocks": "add_blocks(V::LANES)", "load_words": "add_blocks(S::LANES)"}
+# family has one place that loads by each, and that runs the rounds and counts there: blocks of
+# bytes by the kernel with the schedule ahead, the others by the kernel over a window.
+COUNTS = {
+    "load": "add_block()",
+    "load_blocks": "add_blocks(V::LANES)",
+    "load_words": "add_blocks(S::LANES)",
+}
 RUNS = "run_ahead|run_loaded"
 FAMILIES = 2
 # The imports that may have another name: of modules, since a call is found without its module.
-RENAMED = re.compile(r"self as (?:digest|hmac)|algorithm as (?:hkdf|hmac|pbkdf2)|bb as constant_time")
+RENAMED = re.compile(
+    r"self as (?:digest|hmac)|algorithm as (?:hkdf|hmac|pbkdf2)|bb as constant_time"
+)
 # And of laws, by their numbers, under which no code here calls them.
 NUMBERED = re.compile(r"\w+ as law_\d+")
-# Bodies that the prover lets through, planted in turn, and the rule that finds each: the file, a text and
-# what stands in its place, and so on for further texts.
+# Bodies that the prover lets through, planted in turn, and the rule that finds each: the file, a
+# text and what stands in its place, and so on for further texts.
 STORE = "crates/ring_store/src/"
 ONE_CALL = "a plain form is the one call of its counted form"
 NO_OTHER_METER = "no function that takes a meter calls what runs blocks under another"
-NO_OTHER_NAME = "no import has another name, but those of some modules and of laws that no code calls"
+NO_OTHER_NAME = (
+    "no import has another name, but those of some modules and of laws that no code calls"
+)
 NO_VALUE = "what runs blocks under a meter of its own is called where it is named"
 NO_ALIAS = "no alias names a type with such functions"
 NO_MACRO = "no macro names such a function"
 NO_SECOND = "no function that takes a `&mut Meter` makes another"
+NONE_BELOW = (
+    "plain forms are called in `ring` by none but themselves, `Key::generate` and conversions"
+)
+COUNTED_ONCE = "blocks are loaded and run once beside their count, and nothing else counts one"
 ARGUMENTS = "PBKDF2_HMAC_SHA256, iterations, salt, password, credential"
 SALT = "use std::num::NonZeroU32;\n"
 CONTEXT = SALT, f"use ring::digest::Context;\n{SALT}"
+KEY = SALT, f"use ring::hmac::Key;\n{SALT}"
+OTHER_KEY = "let _ = Other::new(ring::hmac::HMAC_SHA256, password);"
 
 
 def in_matches(rule, body, *texts):
@@ -133,7 +148,8 @@ PLANTED = {
         NO_SECOND, "let _ = derive(db_salt, name, password, iterations, &mut Meter::new());"
     ),
     "`matches` derives once more under a meter that a function in a local makes": in_matches(
-        NO_SECOND, f"let make = Meter::new; let _ = pbkdf2::verify_counted({ARGUMENTS}, &mut make());"
+        NO_SECOND,
+        f"let make = Meter::new; let _ = pbkdf2::verify_counted({ARGUMENTS}, &mut make());",
     ),
     "`matches` derives once more under a meter whose type it writes in angle brackets": in_matches(
         NO_SECOND, f"let _ = pbkdf2::verify_counted({ARGUMENTS}, &mut <Meter>::new());"
@@ -148,23 +164,25 @@ PLANTED = {
         NO_OTHER_METER, "let _ = <ring::hmac::Key>::new(ring::hmac::HMAC_SHA256, password);"
     ),
     "`matches` makes a key by `try_into`": in_matches(
-        NO_OTHER_METER, "let _: Result<Key, _> = okm.try_into();", SALT, f"use ring::hmac::Key;\n{SALT}"
+        NO_OTHER_METER, "let _: Result<Key, _> = okm.try_into();", *KEY
     ),
     "`matches` hands a conversion over": in_matches(
-        NO_VALUE, "let _: Option<Result<Key, _>> = okm.map(TryInto::try_into);", SALT, f"use ring::hmac::Key;\n{SALT}"
+        NO_VALUE, "let _: Option<Result<Key, _>> = okm.map(TryInto::try_into);", *KEY
     ),
     "`matches` derives once more by an import under another name": in_matches(
-        NO_OTHER_NAME, f"let _ = another({ARGUMENTS});", SALT, f"use ring::pbkdf2::verify as another;\n{SALT}"
+        NO_OTHER_NAME, f"let _ = another({ARGUMENTS});",
+        SALT, f"use ring::pbkdf2::verify as another;\n{SALT}",
     ),
     "`matches` derives once more by one of several imports under another name": in_matches(
         NO_OTHER_NAME, f"let _ = another({ARGUMENTS});",
-        "pbkdf2::{self, PBKDF2_HMAC_SHA256};", "pbkdf2::{self, PBKDF2_HMAC_SHA256, verify as another};",
+        "pbkdf2::{self, PBKDF2_HMAC_SHA256};",
+        "pbkdf2::{self, PBKDF2_HMAC_SHA256, verify as another};",
     ),
     "`matches` derives once more by an import of its own under another name": in_matches(
         NO_OTHER_NAME, f"use ring::pbkdf2::verify as another; let _ = another({ARGUMENTS});"
     ),
     "`matches` imports a type under another name": in_matches(
-        NO_OTHER_NAME, "use ring::hmac::Key as Other; let _ = Other::new(ring::hmac::HMAC_SHA256, password);"
+        NO_OTHER_NAME, f"use ring::hmac::Key as Other; {OTHER_KEY}"
     ),
     "`ring` gives `verify` under another name": (
         NO_OTHER_NAME,
@@ -179,10 +197,12 @@ PLANTED = {
         NO_VALUE, f"use ring::pbkdf2::verify; let another = verify; let _ = another({ARGUMENTS});"
     ),
     "`matches` hands a method over": in_matches(
-        NO_VALUE, "let _ = Some(Context::new(&ring::digest::SHA256)).map(Context::finish);", *CONTEXT
+        NO_VALUE,
+        "let _ = Some(Context::new(&ring::digest::SHA256)).map(Context::finish);",
+        *CONTEXT,
     ),
     "`matches` makes a key by an alias of its type": in_matches(
-        NO_ALIAS, "type Other = ring::hmac::Key; let _ = Other::new(ring::hmac::HMAC_SHA256, password);"
+        NO_ALIAS, f"type Other = ring::hmac::Key; {OTHER_KEY}"
     ),
     "`matches` derives once more by a macro": in_matches(
         NO_MACRO, f"let _ = another!({ARGUMENTS});", SALT,
@@ -261,8 +281,10 @@ def calls(function, names):
         path = rf"\b(?:{owner}|Self)(?:(?:::)?<[^()]*>)?>?::|\bas [^()]*>::"
         receiver = rf"(?:\b\w*\.|\.|{path})" if owner else r"(?<![.\w])"
         for it in re.finditer(rf"{receiver}{name}{GENERIC}\(", function.body):
-            arguments = function.body[it.end() - 1 : rattle_text.end_of(function.body, it.end() - 1)]
-            if not a_meter.search(arguments) and not NO_PLAIN_FORM.search(function.body[: it.end()]):
+            opening = it.end() - 1
+            arguments = function.body[opening : rattle_text.end_of(function.body, opening)]
+            before = function.body[: it.end()]
+            if not a_meter.search(arguments) and not NO_PLAIN_FORM.search(before):
                 yield it.group()
 
 
@@ -279,18 +301,20 @@ def split(text):
 
 
 def is_one_call(function):
-    """Whether a plain form is the one call of its counted form, with its own parameters and a new meter."""
+    """Whether a plain form is the one call of its counted form, with its own parameters and a new
+    meter."""
     parameters = split(function.signature[1 : rattle_text.end_of(function.signature, 0) - 1])
     named = [it.removeprefix("mut ").split(":")[0] for it in parameters if ":" in it]
-    receiver = r"self\." if len(named) < len(parameters) else rf"(?:(?:{function.owner or '-'}|Self)::)?"
+    of_type = rf"(?:(?:{function.owner or '-'}|Self)::)?"
+    receiver = r"self\." if len(named) < len(parameters) else of_type
     body = " ".join(function.body[1:-1].split()).removesuffix(";")
     call = re.fullmatch(rf"{receiver}{function.name}_counted\((.*)\)", body)
     return bool(call) and split(call.group(1)) == [*named, "&mut Meter::new()"]
 
 
 def unmetered(places, plain):
-    """The names, by crate, of the functions there and below that run blocks under a meter of their own:
-    plain forms, what makes a meter, and what takes none and calls one of these."""
+    """The names, by crate, of the functions there and below that run blocks under a meter of their
+    own: plain forms, what makes a meter, and what takes none and calls one of these."""
     found, by_crate = set(), {}
     for crate in METERS:
         own = [it for it in places if it.crate == crate]
@@ -312,7 +336,8 @@ def imports(path):
 
 def all_imports(code):
     """The paths that a file's `use` items bring, those in functions too."""
-    return [it for use in re.findall(r"\buse ([^;]*);", code) for it in imports("".join(split(use + ",")))]
+    uses = ("".join(split(it + ",")) for it in re.findall(r"\buse ([^;]*);", code))
+    return [it for use in uses for it in imports(use)]
 
 
 def is_renamed(path, names):
@@ -331,7 +356,7 @@ def is_module(crate, path):
 
 
 def in_scope(crate, code, names):
-    """Those of some free functions that a file names without a path: its own, and those that it imports."""
+    """Those of some free functions that a file names without a path: its own and imported ones."""
     brought = {it.rpartition("::")[2] for it in all_imports(code) if not is_module(crate, it)}
     own = {it.name for it in functions(code) if not it.owner}
     return names if "*" in brought else names & (brought | own)
@@ -359,16 +384,19 @@ def macros_of(code):
 
 def loop_around(body, at):
     """The text of the innermost braces around a place in a body."""
-    opening = max(it.start() for it in re.finditer(r"\{", body[:at]) if rattle_text.end_of(body, it.start()) > at)
+    braces = (it.start() for it in re.finditer(r"\{", body[:at]))
+    opening = max(it for it in braces if rattle_text.end_of(body, it) > at)
     return body[opening : rattle_text.end_of(body, opening)]
 
 
 def uncounted_runs(places):
-    """The places that load blocks, run their rounds, or count them, and not all three once in one loop."""
+    """The places that load blocks, run their rounds, or count them, and not all three once in one
+    loop."""
     for place in places:
         body = place.function.body
         loads = [it for name in COUNTS for it in re.finditer(rf"\b({name}){GENERIC}\(", body)]
-        runs, counts = (list(re.finditer(it, body)) for it in (rf"\b(?:{RUNS}){GENERIC}\(", r"\.add_blocks?\("))
+        runs = list(re.finditer(rf"\b(?:{RUNS}){GENERIC}\(", body))
+        counts = list(re.finditer(r"\.add_blocks?\(", body))
         if not loads and not runs and not counts:
             continue
         loop = loop_around(body, runs[0].start()) if runs else ""
@@ -409,21 +437,28 @@ def rules_of_names(codes, own):
 
 
 def rules_of_meters(places, plain, own):
-    """The rules of who makes and who is handed a meter: each with whether it holds, and what breaks it."""
-    names = {it.name for it in plain}
+    """The rules of who makes and who is handed a meter: each with whether it holds, and what breaks
+    it."""
     takes = [it for it in places if meters_of(it.function)[0]]
-    lower = [it for it in places if it.crate in ("ring_core", "ring") and it not in plain and it.name not in MAY_CALL_PLAIN]
     longer = [str(it) for it in plain if not is_one_call(it.function)]
     yield ONE_CALL, not longer, longer
     for crate, most in METERS.items():
-        makes = [str(it) for it in places if it.crate == crate for _ in MAKES.findall(it.function.body)]
+        own_places = [it for it in places if it.crate == crate]
+        makes = [str(it) for it in own_places for _ in MAKES.findall(it.function.body)]
         yield f"at most {most} places of {crate} make a meter", len(makes) <= most, makes
     second = naming(takes, MAKES)
     yield NO_SECOND, not second, second
     hidden = [f"{it} calls {call}" for it in takes for call in calls(it.function, own[it.crate])]
     yield NO_OTHER_METER, not hidden, hidden
+
+
+def rules_of_plain_forms(places, plain):
+    """The rules of who calls a plain form: each with whether it holds, and what breaks it."""
+    names = {it.name for it in plain}
+    others = [it for it in places if it not in plain and it.name not in MAY_CALL_PLAIN]
+    lower = [it for it in others if it.crate in ("ring_core", "ring")]
     below = [f"{it} calls {call}" for it in lower for call in calls(it.function, names)]
-    yield "plain forms are called in `ring` by none but themselves, `Key::generate` and conversions", not below, below
+    yield NONE_BELOW, not below, below
     program = [it for it in places if it.crate == "ring_passwords"]
     of_store = {it for it in names if it[0] == "PasswordStore"}
     derived = [f"{it} calls {call}" for it in program for call in calls(it.function, of_store)]
@@ -436,7 +471,7 @@ def rules_of_blocks(places):
         found = naming(places, rf"\b{load}{GENERIC}\(")
         yield f"each family calls `{load}` in one place", len(found) == FAMILIES, found
     uncounted = list(uncounted_runs(places))
-    yield "blocks are loaded and run once beside their count, and nothing else counts one", not uncounted, uncounted
+    yield COUNTED_ONCE, not uncounted, uncounted
     rounds = naming(places, r"::BIG_SIGMA_1\b")
     yield "BIG_SIGMA_1 is read in one function", len(rounds) == 1, rounds
 
@@ -444,11 +479,18 @@ def rules_of_blocks(places):
 def rules(files):
     """All rules over these files: each with whether it holds, and what breaks it."""
     codes = {path: (crate, without_clauses(text)) for path, (crate, text) in files.items()}
-    places = [Place(crate, path, it) for path, (crate, code) in codes.items() for it in functions(code)]
-    constants = [path for path, (_, code) in codes.items() for _ in re.findall(r"0x5a82_?7999", code)]
+    places = [
+        Place(crate, path, it)
+        for path, (crate, code) in codes.items()
+        for it in functions(code)
+    ]
+    constants = [
+        path for path, (_, code) in codes.items() for _ in re.findall(r"0x5a82_?7999", code)
+    ]
     plain = plain_forms(places)
     own = unmetered(places, plain)
     yield from rules_of_meters(places, plain, own)
+    yield from rules_of_plain_forms(places, plain)
     yield from rules_of_names(codes, own)
     yield from rules_of_blocks([it for it in places if it.crate != "ring_passwords"])
     yield "0x5a827999 stands in one place", len(constants) == 1, constants
@@ -468,7 +510,8 @@ def is_found(files, rule, path, *texts):
 def main():
     files = sources()
     found = list(rules(files))
-    found += [(f"planted and found: {name}", is_found(files, *body), []) for name, body in PLANTED.items()]
+    for name, body in PLANTED.items():
+        found.append((f"planted and found: {name}", is_found(files, *body), []))
     for rule, holds, places in found:
         print(f"{'ok' if holds else 'FAILED'}: {rule}")
         if not holds:

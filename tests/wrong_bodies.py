@@ -2,15 +2,16 @@
 # SPDX-License-Identifier: ISC
 """The edits of must-fail/ and wrong/: wrong bodies, which a clause of their function must refuse.
 
-Without arguments, as in the gate: reads each edit of must-fail/ and of wrong/, whose `old` texts must
-stand once in their file. With names of crates: tries their edits of wrong/ as `rt ci` tries those of
-must-fail/, in a copy of the repository. An edit passes where a clause refuses it, and not where it only
-takes away a name that a proof file cites.
+Without arguments, as in the gate: reads each edit of must-fail/ and of wrong/, whose `old` texts
+must stand once in their file. With names of crates: tries their edits of wrong/ as `rt ci` tries
+those of must-fail/, in a copy of the repository. An edit passes where a clause refuses it, and not
+where it only takes away a name that a proof file cites.
 
-With --together before the names: tries the edits of both folders, one in each function at once, by as
-many checks of the crate as a function has edits. Contracts are all that a proof knows of other functions,
-so an edit passes where the check refuses a goal of its own function, and none of a function without an
-edit. One that is not refused there, or that changes more than a function, is tried alone as above.
+With --together before the names: tries the edits of both folders, one in each function at once, by
+as many checks of the crate as a function has edits. Contracts are all that a proof knows of other
+functions, so an edit passes where the check refuses a goal of its own function, and none of a
+function without an edit. One that is not refused there, or that changes more than a function, is
+tried alone as above.
 
 The last line is 'N passed, M failed'.
 """
@@ -32,8 +33,8 @@ import rattle_text
 ROOT = pathlib.Path(__file__).resolve().parent.parent
 TRIED = re.compile(r"^(?:rt: )?must-fail (\S+)\.edit: (.*)$", re.M)
 REFUSED = re.compile(r"refused, as it must be(?! \(only because)")
-# What a check prints: of each function, of one with a goal that is open, of an answer in a proof file that
-# is refused, and at the end where all functions were judged.
+# What a check prints: of each function, of one with a goal that is open, of an answer in a proof
+# file that is refused, and at the end where all functions were judged.
 OF_FUNCTION = re.compile(r"^fn (\S+): ", re.M)
 OPEN = re.compile(r"^fn (\S+): no proof: expected answers in \S+; `search` did not prove ", re.M)
 ANSWER = re.compile(r"^(?:\./)?proofs/(\S+)/\w+\.antt:\d+:\d+: error: (.*)$", re.M)
@@ -44,8 +45,8 @@ NAME_ONLY = re.compile(r"has no field|is not in scope|has no `|was not admitted"
 
 @dataclasses.dataclass(frozen=True)
 class Edit:
-    """An edit of one function: its path, the file, the function, its name in a check below the crate's, and
-    its new text."""
+    """An edit of one function: its path, the file, the function, its name in a check below the
+    crate's, and its new text."""
 
     path: pathlib.Path
     file: str
@@ -79,7 +80,7 @@ def fault_of(edit):
 
 def read_all():
     """A row for each folder of edits: its name, and what is wrong with its edits."""
-    for folder in sorted(it for part in ("must-fail", "wrong") for it in ROOT.glob(f"crates/*/{part}")):
+    for folder in sorted([*ROOT.glob("crates/*/must-fail"), *ROOT.glob("crates/*/wrong")]):
         edits = sorted(folder.iterdir())
         faults = [f"{it.name}: {fault}" for it in edits if (fault := fault_of(it))]
         yield f"{folder.relative_to(ROOT)}: {len(edits)} edits", faults
@@ -92,15 +93,20 @@ def copy_to(room):
         shutil.copy(ROOT / file, room)
 
 
+def output_of(words, folder):
+    """A command run to its end in a folder, with what it prints."""
+    return subprocess.run(words, cwd=folder, capture_output=True, text=True, check=False)
+
+
 def try_alone(name, room, edits):
-    """A row for each of these edits of a crate: its name, and what `rt must-fail` says where no clause
-    refuses it."""
+    """A row for each of these edits of a crate: its name, and what `rt must-fail` says where no
+    clause refuses it."""
     folder = room / "crates" / name / "must-fail"
     shutil.rmtree(folder, ignore_errors=True)
     folder.mkdir()
     for edit in edits:
         shutil.copy(edit, folder)
-    run = subprocess.run(["rt", "must-fail", name], cwd=room, capture_output=True, text=True, check=False)
+    run = output_of(["rt", "must-fail", name], room)
     tried = dict(TRIED.findall(run.stdout))
     for edit in edits:
         said = tried.get(f"{name}/{edit.stem}", "not tried: " + run.stderr[-200:])
@@ -108,8 +114,8 @@ def try_alone(name, room, edits):
 
 
 def words_of(block):
-    """The type and then the trait in the head of an `impl` or `trait` block, as a check spells them in
-    the block's name: without marks and type parameters."""
+    """The type and then the trait in the head of an `impl` or `trait` block, as a check spells them
+    in the block's name: without marks and type parameters."""
     head = re.sub(r"\bwhere\b.*", "", re.sub(r"^(?:pub )?(?:impl|trait)\s*", "", block), flags=re.S)
     behind = rattle_items.behind_generics(head) if head.startswith("<") else head
     own = rattle_items.split_commas(head[1 : len(head) - len(behind) - 1]) if behind != head else []
@@ -119,32 +125,44 @@ def words_of(block):
     return "".join(it for it in words if it not in parameters).lower()
 
 
+def methods_of(module, head, name, names):
+    """Those of `names` that may be the method of this name in the block with this head. A method
+    has its type's module, which may be another than that of its file."""
+    same_name = (it.split("::") for it in names if it.endswith(f"::{name}"))
+    methods = [it for it in same_name if len(it) > 2]
+    words = words_of(head)
+    found = [it for it in methods if re.sub(r"\W", "", it[-2]).lower() == words]
+    if len(found) != 1:
+        found = [it for it in found or methods if "::".join(it[:-2]) == module]
+    return ["::".join(it) for it in found]
+
+
 def name_of(module, text, function, names):
-    """The name of a function in a check, one of `names`; None where it can't be told. A method has its
-    type's module, which may be another than that of its file."""
+    """The name of a function in a check, one of `names`; None where it can't be told."""
     heads = (text[start : text.index("{", start)] for _, start, end in rattle_text.blocks(text)
              if start < function.start < end)
     if (head := next(heads, None)) is None:
         found = [it for it in names if it == f"{module}::{function.name}"]
     else:
-        steps = {it: it.split("::") for it in names if it.endswith(f"::{function.name}") and it.count("::") > 1}
-        found = [it for it, (*_, block, _) in steps.items() if re.sub(r"\W", "", block).lower() == words_of(head)]
-        found = found if len(found) == 1 else [it for it in found or steps if "::".join(steps[it][:-2]) == module]
+        found = methods_of(module, head, function.name, names)
     return found[0] if len(found) == 1 else None
 
 
 def edit_of_function(path, names):
-    """The edit of a file; None where it changes more than a function, or one whose name can't be told."""
+    """The edit of a file; None where it changes more than a function, or one whose name can't be
+    told."""
     file, pairs = read(path)
     text = edited = (path.parent.parent / file).read_text()
     for old, new in pairs:
         edited = edited.replace(old, new)
     steps = pathlib.Path(file).with_suffix("").parts[1:]
-    module = "::".join([path.parent.parent.name, *(it for it in steps if it not in ("lib", "main"))])
+    modules = (it for it in steps if it not in ("lib", "main"))
+    module = "::".join([path.parent.parent.name, *modules])
     for it in rattle_text.functions(text) if file.startswith("src/") else []:
         before, after = text[: it.start], text[it.end :]
         if edited.startswith(before) and edited.endswith(after):
-            name, new = name_of(module, text, it, names), edited[it.start : len(edited) - len(after)]
+            name = name_of(module, text, it, names)
+            new = edited[it.start : len(edited) - len(after)]
             return name and Edit(path, file, it, name.partition("::")[2], new)
     return None
 
@@ -159,9 +177,10 @@ def rounds_of(edits):
 
 
 def check(crate):
-    """A check of a crate that goes on past what it refuses. Its status is 0 where it refuses nothing."""
+    """A check of a crate that goes on past what it refuses. Its status is 0 where it refuses
+    nothing."""
     words = ["rt", "check", "--allow-holes", "--jobs", "2"]
-    return subprocess.run(words, cwd=crate, capture_output=True, text=True, check=False)
+    return output_of(words, crate)
 
 
 def check_with(crate, edits):
@@ -181,24 +200,26 @@ def check_with(crate, edits):
 
 def refused_in(said):
     """The functions of which a check refuses a goal, and not only a name that their proof cites."""
-    answers = {it.replace("/", "::") for it, why in ANSWER.findall(said) if not NAME_ONLY.search(why)}
+    refused = (it for it, why in ANSWER.findall(said) if not NAME_ONLY.search(why))
+    answers = {it.replace("/", "::") for it in refused}
     return answers | {it.partition("::")[2] for it in OPEN.findall(said)}
 
 
 def refused_together(crate, edits):
-    """Those of some edits, each of another function, that are refused. Halves them where the check judges
-    none, since one does not compile, and where it refuses what none of them changes."""
+    """Those of some edits, each of another function, that are refused. Halves them where the check
+    judges none, since one does not compile, and where it refuses what none of them changes."""
     said = check_with(crate, edits)
     refused = refused_in(said)
     if JUDGED.search(said) and refused <= {it.name for it in edits}:
         return [it for it in edits if it.name in refused]
     half = len(edits) // 2
-    return [it for part in (edits[:half], edits[half:]) if half for it in refused_together(crate, part)]
+    parts = (edits[:half], edits[half:]) if half else ()
+    return [it for part in parts for it in refused_together(crate, part)]
 
 
 def try_together(name, room):
-    """A row for each edit of a crate, tried with those of other functions, and alone where that refuses
-    no goal of its own function."""
+    """A row for each edit of a crate, tried with those of other functions, and alone where that
+    refuses no goal of its own function."""
     crate = room / "crates" / name
     base = check(crate)
     if base.returncode:
@@ -218,7 +239,8 @@ def try_together(name, room):
 
 def rows_of(arguments):
     """The rows of some crates, or of all edits as they are read."""
-    is_together, names = arguments[:1] == ["--together"], [it for it in arguments if it != "--together"]
+    is_together = arguments[:1] == ["--together"]
+    names = [it for it in arguments if it != "--together"]
     if not names:
         yield from read_all()
     for name in names:
@@ -228,7 +250,8 @@ def rows_of(arguments):
             if is_together:
                 yield from try_together(name, room)
             else:
-                yield from try_alone(name, room, sorted((ROOT / "crates" / name / "wrong").iterdir()))
+                edits = sorted((ROOT / "crates" / name / "wrong").iterdir())
+                yield from try_alone(name, room, edits)
 
 
 def main():

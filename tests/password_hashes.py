@@ -2,11 +2,12 @@
 # SPDX-License-Identifier: ISC
 """Holds the password hashes of crates/ring_password_hash to what others read and write.
 
-The program over them answers the lines of vectors/password_hashes, whose answers stand there behind `#= `. It
-makes hashes at random as Python's hashlib does, and reads 2,000 texts, each one byte away from a good one, as a
-reader of this script does. Django, Werkzeug, passlib, RustCrypto, mosquitto_passwd and PostgreSQL make hashes that it
-verifies, and verify those that it makes; PostgreSQL is a server of the test's own on a socket. Each request for memory
-is refused in turn. The last line is 'N passed, M failed', and ', K skipped' where a system is missing.
+The program over them answers the lines of vectors/password_hashes, whose answers stand there behind
+`#= `. It makes hashes at random as Python's hashlib does, and reads 2,000 texts, each one byte away
+from a good one, as a reader of this script does. Django, Werkzeug, passlib, RustCrypto,
+mosquitto_passwd and PostgreSQL make hashes that it verifies, and verify those that it makes;
+PostgreSQL is a server of the test's own on a socket. Each request for memory is refused in turn.
+The last line is 'N passed, M failed', and ', K skipped' where a system is missing.
 """
 
 import base64
@@ -30,12 +31,18 @@ import tempfile
 ROOT = pathlib.Path(__file__).resolve().parent.parent
 VECTORS = ROOT / "vectors/password_hashes"
 REFUSED = "not a password hash of this format"
-PASSWORDS = ["x", "", "correct horse battery staple", "p" * 63, "p" * 64, "p" * 65, "q" * 300, "quo'te$\\", "Ünïcödé ☃"]
+PASSWORDS = [
+    "x", "", "correct horse battery staple", "p" * 63, "p" * 64, "p" * 65, "q" * 300,
+    "quo'te$\\", "Ünïcödé ☃",
+]
+# More iterations than any hash of another system here has.
+AMPLE_LIMIT = 1_000_000
 
 
 def run_over(lines, **settings):
     """A run of the program over lines, and its answers."""
-    built = subprocess.run([ROOT / "tools/built", "ring_password_hash_main", "rt", "run"], stdout=subprocess.PIPE)
+    command = [ROOT / "tools/built", "ring_password_hash_main", "rt", "run"]
+    built = subprocess.run(command, stdout=subprocess.PIPE)
     text = "".join(f"{line}\n" for line in lines).encode()
     program = built.stdout.decode().strip()
     run = subprocess.run([program], input=text, stdout=subprocess.PIPE, timeout=600, **settings)
@@ -66,6 +73,14 @@ def digits(data):
     return (data.encode() if isinstance(data, str) else data).hex() or "-"
 
 
+def verdicts(text, password, other, limit=AMPLE_LIMIT, call="verify"):
+    """Lines that verify a password and another one under a limit, with their answers."""
+    return [
+        (f"{call} {text} {digits(password)} {limit}", "ok"),
+        (f"{call} {text} {digits(other)} {limit}", "wrong password"),
+    ]
+
+
 # --- a reader and a writer of texts, over hashlib alone ---
 
 
@@ -85,7 +100,8 @@ def plain(data):
     return data
 
 
-# Each kind: its prefix, its digest, the bytes of its hash, and how its salt and its hash are written.
+# Each kind: its prefix, its digest, the bytes of its hash, and how its salt and its hash are
+# written.
 KINDS = {
     "django-sha256": (b"pbkdf2_sha256$", "sha256", 32, plain, base64.b64encode),
     "django-sha1": (b"pbkdf2_sha1$", "sha1", 20, plain, base64.b64encode),
@@ -164,8 +180,10 @@ def shown(text):
 def verifier(count, salt, password):
     """PostgreSQL's text (RFC 5802, section 3, and RFC 7677)."""
     salted = hashlib.pbkdf2_hmac("sha256", password, salt, count)
-    client, server = (hmac.new(salted, key, "sha256").digest() for key in (b"Client Key", b"Server Key"))
-    fields = [base64.b64encode(data).decode() for data in (salt, hashlib.sha256(client).digest(), server)]
+    names = (b"Client Key", b"Server Key")
+    client, server = (hmac.new(salted, name, "sha256").digest() for name in names)
+    stored = hashlib.sha256(client).digest()
+    fields = [base64.b64encode(data).decode() for data in (salt, stored, server)]
     return f"SCRAM-SHA-256${count}:{fields[0]}${fields[1]}:{fields[2]}"
 
 
@@ -174,28 +192,42 @@ def verifier(count, salt, password):
 
 def random_salt(rng, kind):
     if KINDS[kind][3] is plain:
-        return "".join(rng.choice(string.ascii_letters + string.digits) for _ in range(rng.choice([1, 8, 22]))).encode()
+        symbols, length = string.ascii_letters + string.digits, rng.choice([1, 8, 22])
+        return "".join(rng.choice(symbols) for _ in range(length)).encode()
     return rng.randbytes(rng.choice([1, 2, 3, 12, 16, 64]))
 
 
+def lines_at_random(rng, kind):
+    """Lines of a hash of the kind at random, with their answers."""
+    salt, password = random_salt(rng, kind), rng.randbytes(rng.randrange(150))
+    count = rng.randrange(1, 200)
+    text = made(kind, count, salt, password).decode()
+    lower_limit = max(count - 1, 1)
+    answer = "ok" if count <= lower_limit else "too many iterations"
+    return [
+        (f"make {kind} {count} {digits(salt)} {digits(password)}", text),
+        (f"read {text}", f"{kind} {count} {text}"),
+        *verdicts(text, password, password + b"!", count),
+        (f"verify {text} {digits(password)} {lower_limit}", answer),
+    ]
+
+
+def scram_lines_at_random(rng):
+    """Lines of a verifier for PostgreSQL at random, with their answers."""
+    salt, password = rng.randbytes(rng.randrange(1, 40)), rng.randbytes(rng.randrange(150))
+    count = rng.randrange(1, 200)
+    text = verifier(count, salt, password)
+    return [
+        (f"scram-make {count} {digits(salt)} {digits(password)}", text),
+        *verdicts(text, password, password + b"!", count, "scram-verify"),
+    ]
+
+
 def are_as_hashlib():
-    """Hashes at random are made and verified as Python's hashlib makes them, of each kind and for PostgreSQL."""
-    rng, wanted = random.Random(8018), []
-    for kind in KINDS:
-        for _ in range(8):
-            salt, password, count = random_salt(rng, kind), rng.randbytes(rng.randrange(150)), rng.randrange(1, 200)
-            text = made(kind, count, salt, password).decode()
-            wanted.append((f"make {kind} {count} {digits(salt)} {digits(password)}", text))
-            wanted.append((f"read {text}", f"{kind} {count} {text}"))
-            wanted.append((f"verify {text} {digits(password)} {count}", "ok"))
-            wanted.append((f"verify {text} {digits(password + b'!')} {count}", "wrong password"))
-            wanted.append((f"verify {text} {digits(password)} {max(count - 1, 1)}", "too many iterations" if count > 1 else "ok"))
-    for _ in range(20):
-        salt, password, count = rng.randbytes(rng.randrange(1, 40)), rng.randbytes(rng.randrange(150)), rng.randrange(1, 200)
-        text = verifier(count, salt, password)
-        wanted.append((f"scram-make {count} {digits(salt)} {digits(password)}", text))
-        wanted.append((f"scram-verify {text} {digits(password)} {count}", "ok"))
-        wanted.append((f"scram-verify {text} {digits(password + b'!')} {count}", "wrong password"))
+    """Hashes at random, of each kind and for PostgreSQL, are made and verified as by hashlib."""
+    rng = random.Random(8018)
+    wanted = [row for kind in KINDS for _ in range(8) for row in lines_at_random(rng, kind)]
+    wanted += [row for _ in range(20) for row in scram_lines_at_random(rng)]
     return differing(wanted)
 
 
@@ -203,17 +235,18 @@ def broken(rng, text):
     """The text with one byte changed, put in or left out."""
     at = rng.randrange(len(text))
     byte = bytes([rng.choice([rng.randrange(33, 127), rng.randrange(256), *b"$:,=+./0Aa"])])
-    return rng.choice([text[:at] + byte + text[at + 1 :], text[:at] + byte + text[at:], text[:at] + text[at + 1 :]])
+    before, after = text[:at], text[at + 1 :]
+    return rng.choice([before + byte + after, before + byte + text[at:], before + after])
 
 
 def are_read_exactly():
-    """2000 texts, each one byte away from a good one, are read as this script's reader reads them."""
+    """2000 texts, each one byte away from a good one, are read as this script's reader does."""
     rng, wanted = random.Random(2898), []
     for i in range(2000):
         kind = list(KINDS)[i % len(KINDS)]
-        named = "phc" in kind
-        text = made(kind, rng.choice([1, 90, 1000]), random_salt(rng, kind), b"x", rng.randrange(3) if named else 1)
-        other = broken(rng, text)
+        count, salt = rng.choice([1, 90, 1000]), random_salt(rng, kind)
+        parameters = rng.randrange(3) if "phc" in kind else 1
+        other = broken(rng, made(kind, count, salt, b"x", parameters))
         wanted.append((f"read hex:{digits(other)}", reading(other)))
     return differing(wanted)
 
@@ -224,12 +257,15 @@ def proof_and_signature():
     answer = answers([f"scram-make 4096 {digits(salt)} {digits('pencil')}"])[0]
     stored, server = (base64.b64decode(key) for key in answer.split("$")[2].split(":"))
     nonce = "rOprNGfwEbeRWgbNEkqO%hvYDpWUa2RaTCAfuxFIlj)hNlF$k0"
-    message = f"n=user,r=rOprNGfwEbeRWgbNEkqO,r={nonce},s=W22ZaJ0SNY7soEsUEjb6gQ==,i=4096,c=biws,r={nonce}".encode()
+    client_first = "n=user,r=rOprNGfwEbeRWgbNEkqO"
+    server_first = f"r={nonce},s=W22ZaJ0SNY7soEsUEjb6gQ==,i=4096"
+    message = f"{client_first},{server_first},c=biws,r={nonce}".encode()
     proof = base64.b64decode("dHzbZapWIk4jUhN+Ute9ytag9zjfMHgsqmmiz7AndVQ=")
     key = bytes(a ^ b for a, b in zip(proof, hmac.new(stored, message, "sha256").digest()))
     signature = base64.b64encode(hmac.new(server, message, "sha256").digest()).decode()
-    right = hashlib.sha256(key).digest() == stored and signature == "6rriTRBi23WpRR/wtup+mMhUZUn/dB5nLTJRsjl95G4="
-    return [] if right else [("RFC 7677, section 3", answer)]
+    is_proof = hashlib.sha256(key).digest() == stored
+    is_signature = signature == "6rriTRBi23WpRR/wtup+mMhUZUn/dB5nLTJRsjl95G4="
+    return [] if is_proof and is_signature else [("RFC 7677, section 3", answer)]
 
 
 # --- requests for memory, of which tests/failing_parts.c refuses one ---
@@ -251,7 +287,8 @@ def run_short_of_memory(library, lines, request):
 def fault_of(status, found, wanted):
     """What is wrong with a run that is short of memory once, or None."""
     others = [it for it in zip(found, wanted) if it[0] not in (it[1], NO_MEMORY)]
-    # The program's own requests end it, behind right answers; those of a call are of its line alone.
+    # The program's own requests end it, behind right answers; those of a call are of its line
+    # alone.
     ended = status != 0 and len(found) < len(wanted) and NO_MEMORY not in found
     whole = status == 0 and len(found) == len(wanted) and found.count(NO_MEMORY) <= 1
     return None if not others and (ended or whole) else f"{status}, {found}"
@@ -278,22 +315,24 @@ def each_request_is_refused():
     return wrong + untold + differing(rows)
 
 
-
 # --- other systems ---
 
-# What each module of Python does with a list of questions: it makes a text of a kind and a password, or verifies one.
+# What each module of Python does with a list of questions: it makes a text of a kind and a
+# password, or verifies one.
 PEERS = {
     "django": """
 from django.conf import settings
-hashers = "django.contrib.auth.hashers."
-settings.configure(PASSWORD_HASHERS=[hashers + "PBKDF2PasswordHasher", hashers + "PBKDF2SHA1PasswordHasher"])
+prefix = "django.contrib.auth.hashers.PBKDF2"
+hashers = [prefix + "PasswordHasher", prefix + "SHA1PasswordHasher"]
+settings.configure(PASSWORD_HASHERS=hashers)
 from django.contrib.auth.hashers import check_password, make_password
 def make(kind, password): return make_password(password, hasher="pbkdf2_" + kind.split("-")[1])
 def verify(kind, password, text): return check_password(password, text)
 """,
     "werkzeug": """
 from werkzeug.security import check_password_hash, generate_password_hash
-def make(kind, password): return generate_password_hash(password, "pbkdf2:%s:1000" % kind.split("-")[1])
+def make(kind, password):
+    return generate_password_hash(password, "pbkdf2:%s:1000" % kind.split("-")[1])
 def verify(kind, password, text): return check_password_hash(text, password)
 """,
     "passlib": """
@@ -303,6 +342,10 @@ def make(kind, password): return hashes[kind.split("-")[1]].using(rounds=1000).h
 def verify(kind, password, text): return hashes[kind.split("-")[1]].verify(password, text)
 """,
 }
+ANSWER_ALL = """
+import json, sys
+print(json.dumps([globals()[q[0]](*q[1:]) for q in json.load(sys.stdin)]))
+"""
 
 
 @functools.lru_cache(None)
@@ -317,8 +360,9 @@ def python_with(module):
 
 def asked(module, questions):
     """What the module answers."""
-    code = PEERS[module] + "import json, sys\nprint(json.dumps([globals()[q[0]](*q[1:]) for q in json.load(sys.stdin)]))"
-    run = subprocess.run([python_with(module), "-c", code], input=json.dumps(questions).encode(), stdout=subprocess.PIPE)
+    command = [python_with(module), "-c", PEERS[module] + ANSWER_ALL]
+    text = json.dumps(questions).encode()
+    run = subprocess.run(command, input=text, stdout=subprocess.PIPE)
     return json.loads(run.stdout)
 
 
@@ -328,16 +372,22 @@ def with_module(module):
     def run():
         rng, kinds = random.Random(module), [kind for kind in KINDS if kind.startswith(module)]
         pairs = [(kind, password) for kind in kinds for password in PASSWORDS]
+        theirs = asked(module, [("make", *pair) for pair in pairs])
         wanted = []
-        for (kind, password), text in zip(pairs, asked(module, [("make", *pair) for pair in pairs])):
-            wanted.append((f"verify {text} {digits(password)} 1000000", "ok"))
-            wanted.append((f"verify {text} {digits(password + 'y')} 1000000", "wrong password"))
-        lines = [f"make {kind} 1000 {digits(random_salt(rng, kind))} {digits(password)}" for kind, password in pairs]
+        for (_, password), text in zip(pairs, theirs):
+            wanted += verdicts(text, password, password + "y")
+        salts = [digits(random_salt(rng, kind)) for kind, _ in pairs]
+        lines = [
+            f"make {kind} 1000 {salt} {digits(password)}"
+            for (kind, password), salt in zip(pairs, salts)
+        ]
         questions = []
         for (kind, password), text in zip(pairs, answers(lines)):
             questions += [("verify", kind, password, text), ("verify", kind, password + "y", text)]
         found = asked(module, questions)
-        wrong = [(str(q), str(a)) for i, (q, a) in enumerate(zip(questions, found)) if a != (i % 2 == 0)]
+        should_be = [True, False] * len(pairs)
+        rows = zip(questions, found, should_be)
+        wrong = [(str(question), str(answer)) for question, answer, want in rows if answer != want]
         return differing(wanted) + wrong
 
     run.__doc__ = f"{module}: its hashes are verified, and it verifies ours"
@@ -356,23 +406,31 @@ pbkdf2 = { version = ">=0.11, <0.13", features = ["simple"] }
 name = "peer"
 path = "main.rs"
 """
+CARGO_CONFIG = f"""
+[source.crates-io]
+replace-with = "debian"
+[source.debian]
+directory = "{REGISTRY}"
+"""
 
 
 def has_rustcrypto():
     """Whether cargo and Debian's librust-pbkdf2-dev and librust-password-hash-dev are here."""
-    return shutil.which("cargo") and any(REGISTRY.glob("pbkdf2-*")) and any(REGISTRY.glob("password-hash-*"))
+    crates = ("pbkdf2-*", "password-hash-*")
+    return shutil.which("cargo") and all(any(REGISTRY.glob(crate)) for crate in crates)
 
 
 def asked_rustcrypto(folder, lines):
-    """What RustCrypto answers to lines, by a program of Debian's crates that is built without a network."""
-    source = f'[source.crates-io]\nreplace-with = "debian"\n[source.debian]\ndirectory = "{REGISTRY}"\n'
-    for name, text in (("config.toml", source), ("Cargo.toml", PEER)):
+    """What RustCrypto answers to lines, by a program of Debian's crates that is built without a
+    network."""
+    for name, text in (("config.toml", CARGO_CONFIG), ("Cargo.toml", PEER)):
         (folder / name).write_text(text)
     shutil.copy(ROOT / "tests/password_hashes.rs", folder / "main.rs")
     command = ["cargo", "run", "--offline", "--quiet", "--release"]
-    environment = {**os.environ, "CARGO_HOME": str(folder), "CARGO_TARGET_DIR": str(folder / "target")}
+    folders = {"CARGO_HOME": str(folder), "CARGO_TARGET_DIR": str(folder / "target")}
+    settings = {"cwd": folder, "env": {**os.environ, **folders}, "check": True}
     text = "".join(f"{line}\n" for line in lines).encode()
-    run = subprocess.run(command, cwd=folder, env=environment, input=text, stdout=subprocess.PIPE, check=True)
+    run = subprocess.run(command, input=text, stdout=subprocess.PIPE, **settings)
     return run.stdout.decode().split("\n")[:-1]
 
 
@@ -383,14 +441,19 @@ def with_rustcrypto():
     with tempfile.TemporaryDirectory(prefix="password_hashes.") as name:
         folder = pathlib.Path(name)
         salts = [no_pad(rng.randbytes(16)).decode() for _ in pairs]
-        lines = [f"make pbkdf2-{name} {salt} {digits(word)}" for (name, word), salt in zip(pairs, salts)]
+        lines = [
+            f"make pbkdf2-{name} {salt} {digits(password)}"
+            for (name, password), salt in zip(pairs, salts)
+        ]
         for (_, password), text in zip(pairs, asked_rustcrypto(folder, lines)):
-            wanted.append((f"verify {text} {digits(password)} 1000000", "ok"))
-            wanted.append((f"verify {text} {digits(password + 'y')} 1000000", "wrong password"))
-        lines = [f"make phc-{name} 1000 {rng.randbytes(16).hex()} {digits(password)}" for name, password in pairs]
+            wanted += verdicts(text, password, password + "y")
+        lines = [
+            f"make phc-{name} 1000 {rng.randbytes(16).hex()} {digits(password)}"
+            for name, password in pairs
+        ]
         questions = []
         for (_, password), text in zip(pairs, answers(lines)):
-            questions += [f"verify {text} {digits(password)}", f"verify {text} {digits(password + 'y')}"]
+            questions += [f"verify {text} {digits(it)}" for it in (password, password + "y")]
         found = asked_rustcrypto(folder, questions)
     should_be = ["true", "false"] * len(pairs)
     wrong = [pair for pair, answer in zip(zip(questions, found), should_be) if pair[1] != answer]
@@ -403,10 +466,9 @@ def with_mosquitto():
     with tempfile.TemporaryDirectory(prefix="password_hashes.") as folder:
         for password in [password for password in PASSWORDS if password]:
             command = ["mosquitto_passwd", "-c", "-b", f"{folder}/file", "user", password]
-            subprocess.run(command, check=True, stdout=subprocess.DEVNULL, stderr=subprocess.DEVNULL)
+            subprocess.run(command, check=True, capture_output=True)
             text = pathlib.Path(folder, "file").read_text().strip().partition(":")[2]
-            wanted.append((f"verify {text} {digits(password)} 1000000", "ok"))
-            wanted.append((f"verify {text} {digits(password + 'y')} 1000000", "wrong password"))
+            wanted += verdicts(text, password, password + "y")
     return differing(wanted)
 
 
@@ -414,7 +476,8 @@ def postgres_bin():
     """The folder of PostgreSQL's programs."""
     found = sorted(pathlib.Path("/usr/lib/postgresql").glob("*/bin/initdb"))
     initdb = found[-1] if found else shutil.which("initdb")
-    return pathlib.Path(initdb).parent if initdb and shutil.which("psql") and (os.getuid() or has_user()) else None
+    can_run = initdb and shutil.which("psql") and (os.getuid() or has_user())
+    return pathlib.Path(initdb).parent if can_run else None
 
 
 def has_user():
@@ -433,9 +496,11 @@ class Server:
         secret = self.folder / "secret"
         secret.write_text("super\n")
         secret.chmod(0o644)
-        self.run("initdb", "-D", f"{folder}/data", "-A", "scram-sha-256", "-U", "super", "--pwfile", str(secret), "-N")
+        data = ("-D", f"{folder}/data")
+        login = ("-A", "scram-sha-256", "-U", "super", "--pwfile", str(secret))
+        self.run("initdb", *data, *login, "-N")
         options = f"-c listen_addresses='' -c unix_socket_directories={folder} -c fsync=off"
-        self.run("pg_ctl", "-D", f"{folder}/data", "-l", f"{folder}/log", "-w", "-o", options, "start")
+        self.run("pg_ctl", *data, "-l", f"{folder}/log", "-w", "-o", options, "start")
 
     def run(self, program, *words):
         command = [*self.user, postgres_bin() / program, *words]
@@ -455,7 +520,33 @@ class Server:
         """Makes a role, and gives what is kept of its password."""
         quoted = "E'" + password.replace("\\", "\\\\").replace("'", "\\'") + "'"
         self.ask("super", "super", f"CREATE ROLE {role} LOGIN PASSWORD {quoted}")
-        return self.ask("super", "super", f"SELECT rolpassword FROM pg_authid WHERE rolname = '{role}'")
+        kept = f"SELECT rolpassword FROM pg_authid WHERE rolname = '{role}'"
+        return self.ask("super", "super", kept)
+
+
+def lines_of_theirs(server, passwords):
+    """Lines that verify passwords by the server's verifiers, with their answers."""
+    wanted = []
+    for i, password in enumerate(passwords):
+        text = server.create(f"theirs{i}", password)
+        wanted += verdicts(text, password, password + "y", 4096, "scram-verify")
+    return wanted
+
+
+def refused_of_ours(server, passwords):
+    """Our verifiers that the server does not keep, or by which not the password alone logs in."""
+    lines = [
+        f"scram-make {4096 + i} {digits(os.urandom(1 + 5 * i))} {digits(password)}"
+        for i, password in enumerate(passwords)
+    ]
+    wrong = []
+    for i, (password, text) in enumerate(zip(passwords, answers(lines))):
+        role = f"ours{i}"
+        kept = server.create(role, text)
+        logged_in = [server.ask(role, word, "SELECT 1") for word in (password, password + "y")]
+        if kept != text or logged_in != ["1", None]:
+            wrong.append((text, f"{kept}, {logged_in}"))
+    return wrong
 
 
 def with_postgres():
@@ -464,19 +555,8 @@ def with_postgres():
     with tempfile.TemporaryDirectory(prefix="password_hashes.") as folder:
         server = Server(folder)
         try:
-            wanted = []
-            for i, password in enumerate(passwords):
-                text = server.create(f"theirs{i}", password)
-                wanted.append((f"scram-verify {text} {digits(password)} 4096", "ok"))
-                wanted.append((f"scram-verify {text} {digits(password + 'y')} 4096", "wrong password"))
-            lines = [f"scram-make {4096 + i} {digits(os.urandom(1 + 5 * i))} {digits(p)}" for i, p in enumerate(passwords)]
-            wrong = []
-            for i, (password, text) in enumerate(zip(passwords, answers(lines))):
-                kept = server.create(f"ours{i}", text)
-                logged_in = [server.ask(f"ours{i}", word, "SELECT 1") for word in (password, password + "y")]
-                if kept != text or logged_in != ["1", None]:
-                    wrong.append((text, f"{kept}, {logged_in}"))
-            return differing(wanted) + wrong
+            wanted = lines_of_theirs(server, passwords)
+            return refused_of_ours(server, passwords) + differing(wanted)
         finally:
             server.stop()
 

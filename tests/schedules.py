@@ -2,11 +2,12 @@
 # SPDX-License-Identifier: ISC
 """Holds the key schedules of crates/ring_schedules to what others compute.
 
-The program over them answers the lines of vectors/schedules, whose answers stand there behind `#= `. It
-answers lines at random as a reading of the RFCs over Python's `hmac` does, and as `openssl kdf TLS13-KDF`
-does. From handshakes of OpenSSL's s_server and s_client on loopback, with both hashes, it gives the secrets
-of their key logs, the Finished messages, the binder, the exported bytes and the PSK of the ticket. The last
-line is 'N passed, M failed', and ', K skipped' where OpenSSL or the texts of the RFCs are missing.
+The program over them answers the lines of vectors/schedules, whose answers stand there behind
+`#= `. It answers lines at random as a reading of the RFCs over Python's `hmac` does, and as
+`openssl kdf TLS13-KDF` does. From handshakes of OpenSSL's s_server and s_client on loopback, with
+both hashes, it gives the secrets of their key logs, the Finished messages, the binder, the exported
+bytes and the PSK of the ticket. The last line is 'N passed, M failed', and ', K skipped' where
+OpenSSL or the texts of the RFCs are missing.
 """
 
 import contextlib
@@ -38,9 +39,11 @@ TEXTS = {name: pathlib.Path(f"/usr/share/doc/RFC/{name}.txt.gz") for name in NAM
 
 def answers(lines):
     """The program's answers."""
-    built = subprocess.run([ROOT / "tools/built", "ring_schedules_main", "rt", "run"], stdout=subprocess.PIPE)
+    command = [ROOT / "tools/built", "ring_schedules_main", "rt", "run"]
+    built = subprocess.run(command, stdout=subprocess.PIPE)
     text = "".join(f"{line}\n" for line in lines).encode()
-    run = subprocess.run([built.stdout.decode().strip()], input=text, stdout=subprocess.PIPE, timeout=600)
+    program = built.stdout.decode().strip()
+    run = subprocess.run([program], input=text, stdout=subprocess.PIPE, timeout=600)
     return run.stdout.decode().split("\n")[:-1]
 
 
@@ -133,7 +136,8 @@ def output(name, secret, kind, word):
         return derive(name, secret, b"resumption", unword(rest))
     label, context, length = rest.split(":")
     inner = derive(name, secret, unword(label), digest(name, b""))
-    return inner and expand_label(name, inner, b"exporter", digest(name, unword(context)), int(length))
+    hashed = digest(name, unword(context))
+    return inner and expand_label(name, inner, b"exporter", hashed, int(length))
 
 
 def unword(word):
@@ -167,10 +171,12 @@ def random_output(rng, secret, name):
     if secret == "res-master":
         return rng.choice(["secret", f"psk:{digits(rng.randbytes(rng.choice([0, 1, 8, 255])))}"])
     if secret.endswith("exp-master"):
-        label, context = rng.randbytes(rng.choice([0, 1, 20, 249, 250])), rng.randbytes(rng.randrange(300))
-        return rng.choice(["secret", f"export:{digits(label)}:{digits(context)}:{rng.randrange(200)}"])
-    transcript = rng.randbytes(size(name)).hex()
-    return rng.choice(["secret", "iv", "next", "finished", f"finished:{transcript}", f"key:{rng.choice([0, 16, 32])}"])
+        label = digits(rng.randbytes(rng.choice([0, 1, 20, 249, 250])))
+        context = digits(rng.randbytes(rng.randrange(300)))
+        return rng.choice(["secret", f"export:{label}:{context}:{rng.randrange(200)}"])
+    transcript, key_len = rng.randbytes(size(name)).hex(), rng.choice([0, 16, 32])
+    plain = ["secret", "iv", "next", "finished"]
+    return rng.choice([*plain, f"finished:{transcript}", f"key:{key_len}"])
 
 
 def random_tls13(rng):
@@ -179,11 +185,12 @@ def random_tls13(rng):
     transcript, word = rng.randbytes(size(name)), random_output(rng, secret, name)
     words = ("none" if psk is None else digits(psk), "none" if shared is None else digits(shared))
     line = f"tls13 {name} {' '.join(words)} {secret} {transcript.hex()} {word}"
-    made = stages(name, psk, shared)
     if secret in BINDERS:
-        return line, output(name, derive(name, made[0], BINDERS[secret], digest(name, b"")), secret, word)
-    stage, label = SECRETS[secret]
-    return line, output(name, derive(name, made[stage], label, transcript), secret, word)
+        stage, label, hashed = 0, BINDERS[secret], digest(name, b"")
+    else:
+        (stage, label), hashed = SECRETS[secret], transcript
+    made = derive(name, stages(name, psk, shared)[stage], label, hashed)
+    return line, output(name, made, secret, word)
 
 
 def random_packet(rng):
@@ -196,7 +203,7 @@ def random_packet(rng):
 
 
 def are_as_hmac():
-    """2000 lines at random are answered as a reading of the RFCs over Python's hmac answers them."""
+    """2000 lines at random are answered as a reading of the RFCs over Python's hmac does."""
     rng, wanted = random.Random(8446), []
     for _ in range(500):
         for make in (random_extract, random_expand, random_tls13, random_packet):
@@ -213,26 +220,41 @@ def kdf(name, mode, length, **options):
     given = [f"{key}:{value}" for key, value in options.items() if value]
     given += [f"digest:{name[:3]}2-{name[3:]}", f"mode:{mode}", "prefix:tls13 "]
     words = [word for option in given for word in ("-kdfopt", option)]
-    run = subprocess.run(["openssl", "kdf", "-keylen", str(length), *words, "TLS13-KDF"], stdout=subprocess.PIPE)
+    command = ["openssl", "kdf", "-keylen", str(length), *words, "TLS13-KDF"]
+    run = subprocess.run(command, stdout=subprocess.PIPE)
     return run.stdout.decode().replace(":", "").strip().lower()
 
 
+def kdf_stages(name, psk, shared):
+    """Early Secret, Handshake Secret and Master Secret by OpenSSL."""
+    length = size(name)
+    made = [kdf(name, "EXTRACT_ONLY", length, hexkey=psk)]
+    for material in (shared, ""):
+        options = {"hexsalt": made[-1], "hexkey": material, "label": "derived"}
+        made.append(kdf(name, "EXTRACT_ONLY", length, **options))
+    return made
+
+
+def kdf_lines(name, secret, made, line):
+    """Lines of a secret, its key and its IV, with OpenSSL's answers."""
+    yield f"{line} secret", made
+    if secret.endswith("traffic"):
+        yield f"{line} key:16", kdf(name, "EXPAND_ONLY", 16, hexkey=made, label="key")
+        yield f"{line} iv", kdf(name, "EXPAND_ONLY", 12, hexkey=made, label="iv")
+
+
 def are_as_openssl_kdf():
-    """Schedules at random are answered as OpenSSL's TLS13-KDF answers them: each secret, its key and its IV."""
+    """Secrets at random, their keys and their IVs are those of OpenSSL's TLS13-KDF."""
     rng, wanted = random.Random(8448), []
     for name in [*HASHES] * 2:
         length, psk, shared = size(name), rng.randbytes(32).hex(), rng.randbytes(32).hex()
-        secrets = [kdf(name, "EXTRACT_ONLY", length, hexkey=psk)]
-        for material in (shared, ""):
-            secrets.append(kdf(name, "EXTRACT_ONLY", length, hexsalt=secrets[-1], hexkey=material, label="derived"))
+        stage_secrets = kdf_stages(name, psk, shared)
         for secret, (stage, label) in SECRETS.items():
             transcript = rng.randbytes(length).hex()
+            options = {"hexkey": stage_secrets[stage], "label": label.decode()}
+            made = kdf(name, "EXPAND_ONLY", length, **options, hexdata=transcript)
             line = f"tls13 {name} {psk} {shared} {secret} {transcript}"
-            made = kdf(name, "EXPAND_ONLY", length, hexkey=secrets[stage], label=label.decode(), hexdata=transcript)
-            wanted.append((f"{line} secret", made))
-            if secret.endswith("traffic"):
-                wanted.append((f"{line} key:16", kdf(name, "EXPAND_ONLY", 16, hexkey=made, label="key")))
-                wanted.append((f"{line} iv", kdf(name, "EXPAND_ONLY", 12, hexkey=made, label="iv")))
+            wanted += kdf_lines(name, secret, made, line)
     return differing(wanted)
 
 
@@ -279,12 +301,14 @@ def log_of(file):
 
 @contextlib.contextmanager
 def server(folder, name, *options):
-    """An s_server on a free port, which is given: with the hash's suite, a key log and its messages in a file."""
+    """An s_server with the hash's suite on a free port, which is given. It writes a key log, and
+    its messages to a file."""
     with socket.socket() as probe:
         probe.bind(("127.0.0.1", 0))
         port = probe.getsockname()[1]
-    command = ["openssl", "s_server", "-accept", f"127.0.0.1:{port}", "-cert", "cert.pem", "-key", "key.pem", "-tls1_3"]
-    command += ["-ciphersuites", SUITES[name], "-keylogfile", "server.log", "-msg", *options]
+    command = ["openssl", "s_server", "-accept", f"127.0.0.1:{port}", "-tls1_3"]
+    command += ["-cert", "cert.pem", "-key", "key.pem", "-ciphersuites", SUITES[name]]
+    command += ["-keylogfile", "server.log", "-msg", *options]
     with open(folder / "server.txt", "wb") as out:
         run = subprocess.Popen(command, cwd=folder, stdin=subprocess.PIPE, stdout=out, stderr=out)
         try:
@@ -305,12 +329,12 @@ def wait_for(holds):
 
 def client(folder, port, *options):
     """The text of an s_client that ends once it has a ticket: it is given longer until it has."""
-    command = ["openssl", "s_client", "-connect", f"127.0.0.1:{port}", "-tls1_3", "-keylogfile", "client.log", "-msg"]
+    command = ["openssl", "s_client", "-connect", f"127.0.0.1:{port}", "-tls1_3"]
+    command += ["-keylogfile", "client.log", "-msg"]
     command += ["-keymatexport", EXPORTED[0], "-keymatexportlen", str(EXPORTED[1]), *options]
+    pipes = {"stdin": subprocess.PIPE, "stdout": subprocess.PIPE, "stderr": subprocess.DEVNULL}
     for pause in (0.3, 1, 3, 9):
-        run = subprocess.Popen(
-            command, cwd=folder, stdin=subprocess.PIPE, stdout=subprocess.PIPE, stderr=subprocess.DEVNULL
-        )
+        run = subprocess.Popen(command, cwd=folder, **pipes)
         time.sleep(pause)
         text = run.communicate(b"Q\n", timeout=20)[0].decode(errors="replace")
         if "Resumption PSK" in text.rpartition("NewSessionTicket")[2]:
@@ -324,7 +348,8 @@ def line_of(name, psk, shared, secret, messages, word):
 
 
 def psk_handshake(folder, name):
-    """A PSK, which is that of a ticket of a handshake before, and the text of a handshake under it alone."""
+    """A PSK, which is that of a ticket of a handshake before, and the text of a handshake under it
+    alone."""
     with server(folder, name, "-early_data") as port:
         client(folder, port, "-sess_out", "session.pem")
     command = ["openssl", "sess_id", "-in", "session.pem", "-noout", "-text"]
@@ -332,7 +357,8 @@ def psk_handshake(folder, name):
     (folder / "early").write_text("early data\n")
     # Without a group in common there is no (EC)DHE.
     common = ["-psk_session", "session.pem", "-allow_no_dhe_kex"]
-    with server(folder, name, *common, "-groups", "P-256", "-early_data", "-no_anti_replay") as port:
+    early = ["-early_data", "-no_anti_replay"]
+    with server(folder, name, *common, "-groups", "P-256", *early) as port:
         text = client(folder, port, *common, "-groups", "X25519", "-early_data", "early")
     return shown(session, "Resumption PSK"), text
 
@@ -343,9 +369,9 @@ def shown(text, title):
 
 
 def peer_under_psk(folder, name):
-    """OpenSSL's secrets, Finished messages, binder, exported bytes and PSK of a handshake under a PSK."""
+    """OpenSSL's handshake under a PSK: secrets, Finished messages, binder, exported bytes, PSK."""
     psk, text = psk_handshake(folder, name)
-    shake, hello_end = Handshake(text), 3 + size(name)  # behind the ClientHello's part that a binder covers
+    shake = Handshake(text)
 
     def line(secret, messages, word="secret"):
         return line_of(name, psk, "none", secret, messages, word)
@@ -353,19 +379,22 @@ def peer_under_psk(folder, name):
     def finished(secret, base, messages):
         return line(secret, base, f"finished:{digest(name, messages).hex()}")
 
-    hello, hellos, ticket = shake.to("ClientHello"), shake.to("ServerHello"), shake.all("NewSessionTicket")[0]
+    hello, hellos = shake.to("ClientHello"), shake.to("ServerHello")
+    binders_len = 3 + size(name)  # behind the ClientHello's part that a binder covers
+    ticket = shake.all("NewSessionTicket")[0]
     nonce = ticket[13 : 13 + ticket[12]]
     export = f"export:{EXPORTED[0].encode().hex()}:-:{EXPORTED[1]}"
     ticket_psk = shown(text.partition("NewSessionTicket")[2], "Resumption PSK")
     wanted = [
-        (finished("ext-binder", b"", hello[:-hello_end]), hello[-size(name) :].hex()),
+        (finished("ext-binder", b"", hello[:-binders_len]), hello[-size(name) :].hex()),
         (finished("s-hs-traffic", hellos, shake.before("Finished")), shake.verify_data(0)),
         (finished("c-hs-traffic", hellos, shake.before("Finished", 1)), shake.verify_data(1)),
         (line("exp-master", shake.to("Finished"), export), shown(text, "Keying material")),
         (line("res-master", shake.to("Finished", 1), f"psk:{nonce.hex()}"), ticket_psk),
     ]
     for log in (log_of(folder / "client.log"), log_of(folder / "server.log")):
-        wanted += [(line(secret, shake.to(last)), log[key]) for key, (secret, last) in LOGGED.items()]
+        for label, (secret, last) in LOGGED.items():
+            wanted.append((line(secret, shake.to(last)), log[label]))
     return differing(wanted)
 
 
@@ -388,7 +417,8 @@ PRIVATE_KEY = bytes(range(32))
 
 def x25519(scalar, u):
     k = int.from_bytes(scalar, "little") & ~7 & ~(1 << 255) | 1 << 254
-    x1, x2, z2, x3, z3 = int.from_bytes(u, "little") % 2**255, 1, 0, int.from_bytes(u, "little") % 2**255, 1
+    x1 = int.from_bytes(u, "little") % 2**255
+    x2, z2, x3, z3 = 1, 0, x1, 1
     for t in reversed(range(255)):
         if k >> t & 1:
             x2, z2, x3, z3 = x3, z3, x2, z2
@@ -407,7 +437,7 @@ def vector(length_bytes, data):
 
 
 def client_hello(name):
-    """A ClientHello with one suite and the key share of the private key (RFC 8446, section 4.1.2)."""
+    """A ClientHello with one suite and the private key's key share (RFC 8446, section 4.1.2)."""
     share = x25519(PRIVATE_KEY, (9).to_bytes(32, "little"))
     extensions = [
         (43, vector(1, b"\x03\x04")),
@@ -417,8 +447,15 @@ def client_hello(name):
     ]
     joined = b"".join(kind.to_bytes(2, "big") + vector(2, data) for kind, data in extensions)
     suite = {"SHA256": b"\x13\x01", "SHA384": b"\x13\x02"}[name]
-    body = b"\x03\x03" + bytes(range(32)) + vector(1, b"") + vector(2, suite) + vector(1, b"\x00") + vector(2, joined)
+    version_and_random = b"\x03\x03" + bytes(range(32))
+    vectors = [vector(1, b""), vector(2, suite), vector(1, b"\x00"), vector(2, joined)]
+    body = version_and_random + b"".join(vectors)
     return b"\x01" + vector(3, body)
+
+
+def share_of(hello):
+    """The key share of a ServerHello with X25519."""
+    return re.search(rb"\x00\x33\x00\x24\x00\x1d\x00\x20(.{32})", hello, re.DOTALL).group(1)
 
 
 def has_finished(file, name):
@@ -428,15 +465,15 @@ def has_finished(file, name):
 
 
 def peer_with_x25519(folder, name):
-    """OpenSSL's secrets and Finished message of a handshake with X25519, whose client has a fixed key."""
+    """OpenSSL's handshake with X25519 and a client with a fixed key: secrets, Finished message."""
     messages, log = folder / "server.txt", folder / "server.log"
-    with server(folder, name) as port, socket.create_connection(("127.0.0.1", port), timeout=10) as peer:
-        peer.sendall(b"\x16\x03\x01" + vector(2, client_hello(name)))
-        wait_for(lambda: log.exists() and "SERVER_TRAFFIC_SECRET_0" in log.read_text())
-        wait_for(lambda: has_finished(messages, name))
+    with server(folder, name) as port:
+        with socket.create_connection(("127.0.0.1", port), timeout=10) as peer:
+            peer.sendall(b"\x16\x03\x01" + vector(2, client_hello(name)))
+            wait_for(lambda: log.exists() and "SERVER_TRAFFIC_SECRET_0" in log.read_text())
+            wait_for(lambda: has_finished(messages, name))
     shake, secrets = Handshake(messages.read_text(errors="replace")), log_of(log)
-    share = re.search(rb"\x00\x33\x00\x24\x00\x1d\x00\x20(.{32})", shake.all("ServerHello")[0], re.DOTALL).group(1)
-    shared = x25519(PRIVATE_KEY, share).hex()
+    shared = x25519(PRIVATE_KEY, share_of(shake.all("ServerHello")[0])).hex()
 
     def line(secret, last, word="secret"):
         return line_of(name, "none", shared, secret, shake.to(last), word)
@@ -453,8 +490,9 @@ def with_peer(case, name):
 
     def run():
         with tempfile.TemporaryDirectory(prefix="schedules.") as folder:
-            command = ["openssl", "req", "-x509", "-newkey", "ec", "-pkeyopt", "ec_paramgen_curve:P-256", "-nodes"]
-            command += ["-keyout", "key.pem", "-out", "cert.pem", "-days", "2", "-subj", "/CN=localhost"]
+            command = ["openssl", "req", "-x509", "-days", "2", "-subj", "/CN=localhost", "-nodes"]
+            command += ["-newkey", "ec", "-pkeyopt", "ec_paramgen_curve:P-256"]
+            command += ["-keyout", "key.pem", "-out", "cert.pem"]
             subprocess.run(command, cwd=folder, check=True, stderr=subprocess.DEVNULL)
             return case(pathlib.Path(folder), name)
 
@@ -466,8 +504,9 @@ def file_case(file):
     """A file of vectors."""
 
     def run():
-        rows = [line for line in file.read_text().split("\n") if line and not line.startswith("# ")]
-        return differing([(line, answer.partition("#= ")[2]) for line, answer in zip(rows[::2], rows[1::2])])
+        rows = [it for it in file.read_text().split("\n") if it and not it.startswith("# ")]
+        pairs = zip(rows[::2], rows[1::2])
+        return differing([(line, answer.partition("#= ")[2]) for line, answer in pairs])
 
     run.__doc__ = f"the lines of vectors/schedules/{file.name}"
     return run
@@ -480,7 +519,8 @@ def text_of(name):
 def traces_are_of_the_text():
     """The vectors of RFC 8448 are what tools/rfc8448.py makes of the RFC's text."""
     made = rfc8448.vectors_of(text_of("informational/rfc8448"))
-    other = [rfc8448.file_of(section) for section in made if rfc8448.file_of(section).read_text() != made[section]]
+    texts = {rfc8448.file_of(section): text for section, text in made.items()}
+    other = [file for file, text in texts.items() if file.read_text() != text]
     return [(file.name, "another text") for file in other]
 
 
@@ -492,8 +532,9 @@ def packets_are_of_the_text():
 
 
 def example_stands():
-    """The caller of docs/SCHEDULES.md stands in crates/ring_schedules/src/example.rt letter by letter."""
-    shown = re.search(r"```rust\n(.*?)```", (ROOT / "docs/SCHEDULES.md").read_text(), re.DOTALL).group(1)
+    """The caller of docs/SCHEDULES.md stands in ring_schedules/src/example.rt letter by letter."""
+    page = (ROOT / "docs/SCHEDULES.md").read_text()
+    shown = re.search(r"```rust\n(.*?)```", page, re.DOTALL).group(1)
     kept = (ROOT / "crates/ring_schedules/src/example.rt").read_text()
     return [] if shown in kept else [("docs/SCHEDULES.md", "another text")]
 
@@ -501,12 +542,14 @@ def example_stands():
 def cases():
     """Each case, and the file that it needs besides Python."""
     openssl = pathlib.Path(shutil.which("openssl") or "openssl")
-    yield from ((file_case(file), ROOT) for file in sorted((ROOT / "vectors/schedules").glob("*.txt")))
+    files = sorted((ROOT / "vectors/schedules").glob("*.txt"))
+    yield from ((file_case(file), ROOT) for file in files)
     yield traces_are_of_the_text, TEXTS["informational/rfc8448"]
     yield packets_are_of_the_text, TEXTS["proposed-standard/rfc9001"]
     yield from ((case, ROOT) for case in (example_stands, are_as_hmac))
     yield are_as_openssl_kdf, openssl
-    yield from ((with_peer(case, name), openssl) for case in (peer_under_psk, peer_with_x25519) for name in HASHES)
+    for case in (peer_under_psk, peer_with_x25519):
+        yield from ((with_peer(case, name), openssl) for name in HASHES)
 
 
 def main():

@@ -3,10 +3,10 @@
 """The C library and its callers in C, Python and Rust: `make -C capi check exports constant-time`
 and `traces`; and for 64-bit ARM the library and its callers in C and Rust, under qemu-user.
 
-The library is built first, from the assembly text of capi/generated. The first part proves and builds
-`ring_c` by the kit, and compares both libraries byte by byte; each other part is then tried by itself.
-A part whose tools are missing is left out, and counted as skipped. The last line is 'N passed, M
-failed', or 'N passed, M failed, K skipped'.
+The library is built first, from the assembly text of capi/generated. The first part proves and
+builds `ring_c` by the kit, and compares both libraries byte by byte; each other part is then tried
+by itself. A part whose tools are missing is left out, and counted as skipped. The last line is
+'N passed, M failed', or 'N passed, M failed, K skipped'.
 """
 
 import os
@@ -30,7 +30,8 @@ BUILT = {
 GENERATED = "generated-check"
 PARTS = [
     (GENERATED, ["rt", "cc"], "that the assembly text is what the kit makes of the proved crate"),
-    ("test", ["cc"], "each status, each vector, pieces, copies, garbage, the stack, of both builds"),
+    ("test", ["cc"],
+     "each status, each vector, pieces, copies, garbage, the stack, of both builds"),
     ("builds", ["cc", "objdump"], "the choice of a build, and that both give the same"),
     ("sanitized", ["cc", "sanitizers"], "the same under ASan and UBSan"),
     ("header", ["cc", "c++", "python3"], "the header as C99 and C++11, and its manual page"),

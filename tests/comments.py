@@ -5,19 +5,20 @@
 An item is public where a caller can name it: through public modules and what `pub use` gives again.
 These are the rules:
 
-- Each public item has a `///` comment: functions, types with their public fields and their variants,
-  traits with their members, constants, and each `impl` of a trait that has a function, but for `Clone`.
+- Each public item has a `///` comment: functions, types with their public fields and their
+  variants, traits with their members, constants, and each `impl` of a trait that has a function,
+  but for `Clone`.
 - A call names each parameter in backquotes.
 - A call that returns a `Result` says when it is refused, by that word.
 - A call that computes something of a standard names the standard and its section, as in
-  '(FIPS 180-4, section 6)' or '(6.2.2)' where the module's page names the standard. These are the calls
-  of the modules of STANDARDS that take parameters or return a `Result`, but for those of
+  '(FIPS 180-4, section 6)' or '(6.2.2)' where the module's page names the standard. These are the
+  calls of the modules of STANDARDS that take parameters or return a `Result`, but for those of
   HOLD_VALUES, which store values or hand them back.
 - A counted form may link to its plain form instead, as in '[`Context::update`]', and then names
   `meter` alone.
 
-So a call without parameters, such as `output_len`, needs a comment and nothing more. The last line is
-'N passed, M failed'.
+So a call without parameters, such as `output_len`, needs a comment and nothing more. The last line
+is 'N passed, M failed'.
 """
 
 import pathlib
@@ -92,7 +93,7 @@ def needs_comment(impl):
 
 
 def public_items(sources, page):
-    """The name and the item of all that a page has: its items, their members, their `impl` blocks."""
+    """The name and the item of all that a page has: its items, their members and `impl` blocks."""
     for item in sources.shown_at(page):
         yield item.name, item
         if item.kind not in ("struct", "enum", "trait"):

@@ -2,9 +2,10 @@
 # SPDX-License-Identifier: ISC
 """Runs the lines of README.md's section "Half a minute for each door" as they stand.
 
-Each block marked `sh` is run by bash in one fresh copy of the repository's files, one after another. It must end with 0, and write the text behind `# `, the
-last line of the block. A block whose tools are missing is left out, and counted as skipped. The last line is
-'N passed, M failed', or 'N passed, M failed, K skipped'.
+Each block marked `sh` is run by bash in one fresh copy of the repository's files, one after
+another. It must end with 0, and write the text behind `# `, the last line of the block. A block
+whose tools are missing is left out, and counted as skipped. The last line is 'N passed, M failed',
+or 'N passed, M failed, K skipped'.
 """
 
 import pathlib

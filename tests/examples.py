@@ -1,16 +1,17 @@
 #!/usr/bin/env python3
 # SPDX-License-Identifier: ISC
-"""Compares the examples of README.md, docs/USING.md and the libraries' pages with proved callers, and looks
-for a caller of each call.
+"""Compares the examples of README.md, docs/USING.md and the libraries' pages with proved callers,
+and looks for a caller of each call.
 
 An example is a block of Rattle code: in Markdown one that is marked `rust`, in the `//!` lines of a
-source file one that has no mark; a program of the reader's is none. Its lines must stand one after another, letter by letter but for the
-indentation of the whole, in a file of CALLERS, which the gate proves.
+source file one that has no mark; a program of the reader's is none. Its lines must stand one after
+another, letter by letter but for the indentation of the whole, in a file of CALLERS, which the gate
+proves.
 
-The calls are the public functions and methods of `ring`, and of what `ring` gives again of `ring_core`,
-but for NOT_CALLED. The name of each, or of its form with `_counted`, must stand in CALLERS as a call: behind
-a dot where it is a method, and behind its type where it is one without a receiver. The last line is 'N
-passed, M failed'.
+The calls are the public functions and methods of `ring`, and of what `ring` gives again of
+`ring_core`, but for NOT_CALLED. The name of each, or of its form with `_counted`, must stand in
+CALLERS as a call: behind a dot where it is a method, and behind its type where it is one without a
+receiver. The last line is 'N passed, M failed'.
 """
 
 import pathlib
@@ -26,7 +27,8 @@ ROOT = rattle_items.ROOT
 CALLERS = sorted(ROOT.glob("crates/ring_examples/src/*.rt"))
 LIBRARIES = ("ring_core", "ring", "ring_store")
 PAGES = [path for name in LIBRARIES for path in sorted(ROOT.glob(f"crates/{name}/src/**/*.rt"))]
-# Modules that need no caller: the block functions and their words, and what errors and views of slices have.
+# Modules that need no caller: the block functions and their words, and what errors and views of
+# slices have.
 NOT_CALLED = ("ring_core::digest", "ring_core::error", "ring_core::polyfill")
 # What is no call: comments, and the lines that a contract begins with.
 NO_CODE = re.compile(r"^\s*(?://|ghost use|ensures|requires).*$", re.M)
@@ -55,8 +57,8 @@ def stands_in(example, text):
 
 
 def calls(sources):
-    """Each call: its module and name, and what a caller of it matches. A law without parameters is a fact
-    about the definitions, and no call."""
+    """Each call: its module and name, and what a caller of it matches. A law without parameters is
+    a fact about the definitions, and no call."""
     for page in sources.pages:
         if page.name.startswith(NOT_CALLED):
             continue
@@ -78,13 +80,15 @@ def caller_of(front, call):
 def main():
     callers = [path.read_text() for path in CALLERS]
     pages = [ROOT / name for name in ("README.md", "docs/USING.md")]
-    found = [(page, *it) for page in pages for it in examples(page.read_text(), "rust") if "fn main(" not in it[1]]
+    marked = [(page, *it) for page in pages for it in examples(page.read_text(), "rust")]
+    found = [it for it in marked if "fn main(" not in it[2]]
     found += [(path, *it) for path in PAGES for it in examples(page_of(path.read_text()), "")]
     failed = 0
     for path, line, example in found:
         is_caller = bool(example.strip()) and any(stands_in(example, text) for text in callers)
         failed += not is_caller
-        print("ok" if is_caller else "FAILED: not a proved caller", f"{path.relative_to(ROOT)}:{line}", sep=": ")
+        verdict = "ok" if is_caller else "FAILED: not a proved caller"
+        print(f"{verdict}: {path.relative_to(ROOT)}:{line}")
     code = NO_CODE.sub("", "\n".join(callers))
     called = list(calls(rattle_items.Sources(("ring_core", "ring"))))
     for name, pattern in called:

@@ -55,7 +55,7 @@ MOST_REQUESTS = 1000
 
 
 class Run:
-    """A run of the program with the library loaded: its end, its output and the counts of its calls."""
+    """A run of the program with the library loaded: its end, its output and its calls' counts."""
 
     def __init__(self, library, text, **failing):
         source, sink = os.pipe()

@@ -3,9 +3,9 @@
 """The package for JavaScript: a shorter form of `make -C capi js-check`, under Node.
 
 The module is made of its text first. Each part is a target of capi/js/rules.mk, of which two prove
-`ring_c`. A part whose tools are missing is left out, and counted as skipped. `make -C capi js-browsers` runs the
-package in browsers, by hand. The last line is 'N passed, M failed', or 'N passed, M failed,
-K skipped'.
+`ring_c`. A part whose tools are missing is left out, and counted as skipped.
+`make -C capi js-browsers` runs the package in browsers, by hand. The last line is
+'N passed, M failed', or 'N passed, M failed, K skipped'.
 """
 
 import os

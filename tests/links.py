@@ -3,15 +3,15 @@
 """Tests that what the Markdown pages point to is there:
 
 - each relative link: its file, and behind `#` a heading of that page;
-- each heading that is cited in double quotes, as in '[`capi`](../README.md), "Speed"', '("Speed")' or
-  'as "Tests" says': in the page whose link or path stands before it in the same line, or else in its
-  own page, or in one that the line names;
+- each heading that is cited in double quotes, as in '[`capi`](../README.md), "Speed"', '("Speed")'
+  or 'as "Tests" says': in the page whose link or path stands before it in the same line, or else in
+  its own page, or in one that the line names;
 - each page, and each program of tests/ and tools/, that is named in backquotes, as `docs/API.md` or
   `tests/links.py`.
 
 Text in double quotes that begins with a capital letter is taken for a heading, so other quotations
-stand in backquotes. Then it reads pages with a planted fault each, and fails where one isn't found. The
-last line is 'N passed, M failed'.
+stand in backquotes. Then it reads pages with a planted fault each, and fails where one isn't found.
+The last line is 'N passed, M failed'.
 """
 
 import pathlib

@@ -3,9 +3,9 @@
 """The OpenSSL provider: a shorter form of `make -C capi openssl-check`, and for 64-bit ARM under
 qemu-user of `make -C capi ARCH=aarch64 openssl-check`.
 
-Each part is a target of capi/openssl/rules.mk, some with fewer calls. A part whose tools are missing
-is left out, and counted as skipped: all of them where OpenSSL's headers are. The last line is
-'N passed, M failed', or 'N passed, M failed, K skipped'.
+Each part is a target of capi/openssl/rules.mk, some with fewer calls. A part whose tools are
+missing is left out, and counted as skipped: all of them where OpenSSL's headers are. The last line
+is 'N passed, M failed', or 'N passed, M failed, K skipped'.
 """
 
 import os
@@ -31,7 +31,8 @@ PARTS = [
     ("openssl-sanitized", ["sanitizers"], ["SANITIZED_CASES=20"], "the same under ASan and UBSan"),
     ("openssl-valgrind", ["valgrind"], ["VALGRIND_CASES=4", "VALGRIND_LOADS=4"],
      "no leak and no bad read under valgrind"),
-    ("openssl-programs", ["openssl", "python3"], [], "OpenSSL's commands, Python, TLS, with counts"),
+    ("openssl-programs", ["openssl", "python3"], [],
+     "OpenSSL's commands, Python, TLS, with counts"),
     ("openssl-policy", ["openssl", "pkg-config", "python3"], [],
      "the system's TLS policy and providers stay"),
     ("openssl-exports", ["nm", "objdump", "readelf"], [], "the module's names and what it needs"),

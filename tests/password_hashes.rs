@@ -1,6 +1,7 @@
 // SPDX-License-Identifier: ISC
-// RustCrypto's `pbkdf2` as a peer of tests/password_hashes.py, which builds it with Debian's packages. A line
-// is `make HASH SALT PASSWORD` with the salt as base64, or `verify TEXT PASSWORD`; passwords are hex digits.
+// RustCrypto's `pbkdf2` as a peer of tests/password_hashes.py, which builds it with Debian's
+// packages. A line is `make HASH SALT PASSWORD` with the salt as base64, or `verify TEXT PASSWORD`;
+// passwords are hex digits.
 use pbkdf2::password_hash::{Ident, PasswordHash, PasswordHasher, PasswordVerifier, Salt};
 use pbkdf2::{Params, Pbkdf2};
 use std::io::stdin;

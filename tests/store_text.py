@@ -2,9 +2,10 @@
 # SPDX-License-Identifier: ISC
 """Reads the text of a password store over `hashlib` alone, and holds ./passwords to it.
 
-`Store` below is the reader. It verifies each password that the program set, in the text that the program
-wrote, and refuses others; what it writes of the records is that text byte for byte. The other way round, the
-program verifies the passwords in a text that is made here. The last line is 'N passed, M failed'.
+`Store` below is the reader. It verifies each password that the program set, in the text that the
+program wrote, and refuses others; what it writes of the records is that text byte for byte. The
+other way round, the program verifies the passwords in a text that is made here. The last line is
+'N passed, M failed'.
 """
 
 import hashlib
@@ -30,7 +31,10 @@ class Store:
         salt, self.iterations = HEAD.fullmatch(head).groups()
         self.salt = bytes.fromhex(salt.decode())
         rows = [RECORD.fullmatch(line).groups() for line in lines]
-        self.records = {bytes.fromhex(name.decode()): (int(count), credential) for name, count, credential in rows}
+        self.records = {
+            bytes.fromhex(name.decode()): (int(count), credential)
+            for name, count, credential in rows
+        }
         if end or list(self.records) != sorted(self.records) or len(self.records) != len(rows):
             raise ValueError("not the text of a store")
 
@@ -47,7 +51,10 @@ def credential_of(salt, name, password, count):
 
 def text_of(salt, iterations, records):
     """The text of a store."""
-    rows = [f"{name.hex()} {count} {credential.decode()}\n" for name, (count, credential) in sorted(records.items())]
+    rows = [
+        f"{name.hex()} {count} {credential.decode()}\n"
+        for name, (count, credential) in sorted(records.items())
+    ]
     return f"ring_store 1 {salt.hex()} {iterations}\n{''.join(rows)}".encode()
 
 
@@ -67,24 +74,31 @@ ROWS = [
 def runs(file, action, name, password, *options):
     """The status of a run of the program."""
     command = [PASSWORDS, file, action, name, *options]
-    return subprocess.run(command, input=password + b"\n", stderr=subprocess.DEVNULL, timeout=3600).returncode
+    settings = {"stderr": subprocess.DEVNULL, "timeout": 3600}
+    return subprocess.run(command, input=password + b"\n", **settings).returncode
 
 
 def written(folder):
     """The text that the program writes of the rows."""
     file = pathlib.Path(folder) / "written"
-    statuses = [runs(file, "set", name, password, "--iterations", str(count)) for name, password, count in ROWS]
+    statuses = [
+        runs(file, "set", name, password, "--iterations", str(count))
+        for name, password, count in ROWS
+    ]
     return file.read_bytes() if set(statuses) == {0} else b""
 
 
 def is_verified(text):
-    """The reader verifies each password in the program's text, with the iterations that were asked for."""
+    """The reader verifies each password in the program's text, with the iterations asked for."""
     store = Store(text)
-    return all(store.verify(name, password) and store.records[name][0] == count for name, password, count in ROWS)
+    return all(
+        store.verify(name, password) and store.records[name][0] == count
+        for name, password, count in ROWS
+    )
 
 
 def refuses_others(text):
-    """The reader refuses every other password, another case, one byte more or less, and unknown names."""
+    """The reader refuses other passwords, another case, a byte more or less, and unknown names."""
     store = Store(text)
     others = [(name, password + b"x") for name, password, _ in ROWS]
     others += [(name, password[:-1] + b"y") for name, password, _ in ROWS]
@@ -96,11 +110,12 @@ def refuses_others(text):
 def is_written_again(text):
     """What the reader found is written again byte for byte."""
     store = Store(text)
-    return text_of(store.salt, store.iterations.decode(), store.records) == text and len(store.records) == len(ROWS)
+    again = text_of(store.salt, store.iterations.decode(), store.records)
+    return again == text and len(store.records) == len(ROWS)
 
 
 def program_verifies(folder):
-    """The program verifies the passwords in a text of the reader's, and no others, and leaves it as it is."""
+    """The program verifies the reader's passwords and no others, and leaves its text as it is."""
     salt, file = os.urandom(16), pathlib.Path(folder) / "made"
     text = text_of(salt, 7, {row[0]: (row[2], credential_of(salt, *row)) for row in ROWS})
     file.write_bytes(text)
@@ -114,7 +129,8 @@ def program_writes_back(folder):
     salt, file = os.urandom(16), pathlib.Path(folder) / "changed"
     text = text_of(salt, 9, {row[0]: (row[2], credential_of(salt, *row)) for row in ROWS})
     file.write_bytes(text)
-    added = runs(file, "set", b"bobby", b"x") == 0 and Store(file.read_bytes()).verify(b"bobby", b"x")
+    is_set = runs(file, "set", b"bobby", b"x") == 0
+    added = is_set and Store(file.read_bytes()).verify(b"bobby", b"x")
     return added and runs(file, "remove", b"bobby", b"") == 0 and file.read_bytes() == text
 
 

@@ -1,6 +1,7 @@
 /* SPDX-License-Identifier: ISC */
-/* Loaded into a program before the C library: the system calls that open, write and replace files are
- * counted from 1, and one of them fails or is the last, as tests/passwords asks in the environment. */
+/* Loaded into a program before the C library: the system calls that open, write and replace files
+ * are counted from 1, and one of them fails or is the last, as tests/passwords asks in the
+ * environment. */
 #define _GNU_SOURCE
 #include <dlfcn.h>
 #include <errno.h>
@@ -12,8 +13,8 @@
 #include <sys/types.h>
 #include <unistd.h>
 
-/* The call that fails, the one before which the process is killed, and the write that takes half of its
- * bytes and is the last; 0 is none. */
+/* The call that fails, the one before which the process is killed, and the write that takes half of
+ * its bytes and is the last; 0 is none. */
 static long failed_call, killed_call, torn_call;
 /* Where the calls' names go. */
 static long report_to = -1;

@@ -1,7 +1,7 @@
 /* SPDX-License-Identifier: ISC */
-/* Loaded into a program before the C library: the calls that open, read, look at and write files and ask
- * for memory are counted from 1, and one of them fails, as tests/sums asks in the environment. A file
- * can also be cut short or grow behind its first read. */
+/* Loaded into a program before the C library: the calls that open, read, look at and write files
+ * and ask for memory are counted from 1, and one of them fails, as tests/sums asks in the
+ * environment. A file can also be cut short or grow behind its first read. */
 #define _GNU_SOURCE
 #include <dlfcn.h>
 #include <errno.h>
@@ -15,7 +15,8 @@
 
 /* The call that fails, and the request for memory that is refused; 0 is none. */
 static long failed_call, refused_request;
-/* The length that the file CHANGED_FILE gets behind the first read of at least a byte; -1 is none. */
+/* The length that the file CHANGED_FILE gets behind the first read of at least a byte; -1 is
+ * none. */
 static long changed_length = -1;
 static const char *changed_file;
 /* At most so many bytes a read; 0 is no limit. */
@@ -86,7 +87,8 @@ int open64(const char *path, int flags, ...) {
 
 static int openat_by(const char *real, int folder, const char *path, int flags, mode_t mode) {
     if (fails(EACCES)) return -1;
-    return ((int (*)(int, const char *, int, ...))dlsym(RTLD_NEXT, real))(folder, path, flags, mode);
+    return ((int (*)(int, const char *, int, ...))dlsym(RTLD_NEXT, real))(
+        folder, path, flags, mode);
 }
 
 int openat(int folder, const char *path, int flags, ...) {

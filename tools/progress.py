@@ -4,10 +4,10 @@
 
     tools/progress.py LOG CRATE COMMAND..
 
-runs `rt lib` in each library below the crate, lowest first, and then the command in the crate's folder.
-All that these say goes to the file LOG. On a terminal one line is rewritten: the crate, how many of its
-functions are done, and the minutes gone; elsewhere a crate has a line once it is done. The status is
-that of the first command that fails, and else 0.
+runs `rt lib` in each library below the crate, lowest first, and then the command in the crate's
+folder. All that these say goes to the file LOG. On a terminal one line is rewritten: the crate, how
+many of its functions are done, and the minutes gone; elsewhere a crate has a line once it is done.
+The status is that of the first command that fails, and else 0.
 """
 
 import pathlib
@@ -23,7 +23,10 @@ DONE = re.compile(r"so far: (\d+) of (\d+) functions|^logic=proved functions=(\d
 def below(crate):
     """The repository's crates that a crate stands on, lowest first."""
     lines = [line.split("#")[0] for line in (ROOT / "crates.txt").read_text().splitlines()]
-    uses = {line.split()[0].rstrip(":"): line.split(":")[1].split() for line in lines if ":" in line}
+    uses = {
+        line.split()[0].rstrip(":"): line.split(":")[1].split()
+        for line in lines if ":" in line
+    }
     found = []
     for name in (it for it in uses[crate] if it in uses):
         found += [it for it in [*below(name), name] if it not in found]

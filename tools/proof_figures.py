@@ -1,9 +1,9 @@
 #!/usr/bin/env python3
 # SPDX-License-Identifier: ISC
 """Prints what makes code and proofs hard to read, crate by crate: lines over 100 columns, lemmas
-with more than eight explicit arguments, runs of three and more placeholders, and pairs of places that
-share six lines and more to the letter, where imports, comments, attributes and lone brackets don't
-count. A pair of two crates is counted in both their rows, and once in the last.
+with more than eight explicit arguments, runs of three and more placeholders, and pairs of places
+that share six lines and more to the letter, where imports, comments, attributes and lone brackets
+don't count. A pair of two crates is counted in both their rows, and once in the last.
 
     tools/proof_figures.py            a row for each crate
     tools/proof_figures.py NAME..     these crates alone, each place with its line
@@ -138,7 +138,7 @@ def weighed_lines(path):
 
 
 def shared_places(crates):
-    """Each pair of places that share lines, as longest runs: two paths with a line, and how many."""
+    """Each pair of places that share lines, as longest runs: two paths with a line, and a count."""
     texts = {path: list(weighed_lines(path)) for crate in crates for path in files(crate)}
     starts = collections.defaultdict(list)
     for path, lines in texts.items():
@@ -149,9 +149,10 @@ def shared_places(crates):
     for (one, at), (other, there) in sorted(pairs):
         if ((one, at - 1), (other, there - 1)) in pairs:
             continue
-        count = SHARED_LINES
-        while ((one, at + count - SHARED_LINES + 1), (other, there + count - SHARED_LINES + 1)) in pairs:
-            count += 1
+        starts_after = 0
+        while ((one, at + starts_after + 1), (other, there + starts_after + 1)) in pairs:
+            starts_after += 1
+        count = SHARED_LINES + starts_after
         yield one, texts[one][at][0], other, texts[other][there][0], count
 
 
@@ -189,7 +190,8 @@ def main(names):
         total, long_lines, many, runs = figures(crate)
         own = os.path.join(CRATES, crate, "")
         pairs = ["%s:%d and %s:%d: %d lines" % (place_of(one), at, place_of(other), there, count)
-                 for one, at, other, there, count in shared if own in (one[:len(own)], other[:len(own)])]
+                 for one, at, other, there, count in shared
+                 if own in (one[:len(own)], other[:len(own)])]
         counts = [total, len(long_lines), len(many), len(runs)]
         sums = [one + other for one, other in zip(sums, counts)]
         print(row % (crate, *counts, len(pairs)))

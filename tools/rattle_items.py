@@ -1,6 +1,6 @@
 # SPDX-License-Identifier: ISC
-"""What tests and tools know of a library: its modules, what is public in them, and each item's comment,
-signature and clauses."""
+"""What tests and tools know of a library: its modules, what is public in them, and each item's
+comment, signature and clauses."""
 
 import dataclasses
 import pathlib
@@ -10,7 +10,10 @@ import rattle_text
 
 ROOT = pathlib.Path(__file__).resolve().parent.parent
 # Lowest first.
-LIBRARIES = ("ring_core", "ring", "ring_text", "ring_store", "ring_password_hash", "ring_schedules", "ring_sums", "ring_bench")
+LIBRARIES = (
+    "ring_core", "ring", "ring_text", "ring_store", "ring_password_hash", "ring_schedules",
+    "ring_sums", "ring_bench",
+)
 
 HEAD = re.compile(
     r'(?P<public>pub (?!\()|pub\([a-z]+\) )?(?:(?:const|extern "C") (?=fn\b))*'
@@ -222,7 +225,9 @@ class Sources:
 
     def __init__(self, libraries=LIBRARIES):
         self.libraries = libraries
-        self.modules = {(name, *path): it for name in libraries for path, it in modules(name).items()}
+        self.modules = {
+            (name, *path): it for name in libraries for path, it in modules(name).items()
+        }
         self.pages = [it for name in libraries for it in self.public_modules((name,))]
         self.impls = [it for m in self.modules.values() for it in m.items if it.kind == "impl"]
         self.shown = {}
@@ -239,7 +244,7 @@ class Sources:
                 yield from self.public_modules((*path, it.name))
 
     def given(self, page):
-        """What a public module gives: each name with its item or module, in the order of the file."""
+        """What a public module gives: each name with its item or module, in the file's order."""
         for it in page.items:
             if it.is_public and it.kind not in ("use", "mod", "impl", "ghost"):
                 yield it.name, it
@@ -294,8 +299,11 @@ class Sources:
                 yield impl
 
     def members(self, item):
-        """The members of an item that are public: its own, and those of its `impl` without a trait."""
-        own = [it for it in item.members if it.is_public or it.kind == "ghost" and item.kind == "trait"]
+        """The public members of an item: its own, and those of its `impl` without a trait."""
+        own = [
+            it for it in item.members
+            if it.is_public or it.kind == "ghost" and item.kind == "trait"
+        ]
         plain = (it for it in self.impls_of(item) if not self.parts_of_impl(it)[0])
         return own + [it for block in plain for it in block.members if it.is_public]
 

@@ -13,7 +13,8 @@ PAIRS = {"{": "}", "(": ")", "[": "]"}
 
 @dataclasses.dataclass(frozen=True)
 class Function:
-    """A function: its type (empty for a free one), its name, its signature, its body, and where it stands."""
+    """A function: its type (empty for a free one), its name, its signature, its body, and where it
+    stands."""
 
     owner: str
     name: str
@@ -40,7 +41,7 @@ def end_of(text, opening):
 
 
 def body_of(text, at):
-    """Where the body opens of a function whose parameters end at `at`; none where it has no body."""
+    """Where the body opens of a function whose parameters end at `at`; None where it has none."""
     start = at
     while at < len(text) and text[at] != ";":
         if text[at] == "{" and not CLAUSE.search(text, start, at):

@@ -4,9 +4,10 @@
 
     reference.py [FOLDER]
 
-The pages stand in the folder, by default docs/reference/. A page for each public module has its `//!` page and its items, each with its comment, its signature and
-its contract; index.html lists the modules, and items.html all items. The pages need no network and no
-script. Debian has what this script needs as `python3-markdown` and `python3-pygments`.
+The pages stand in the folder, by default docs/reference/. A page for each public module has its
+`//!` page and its items, each with its comment, its signature and its contract; index.html lists
+the modules, and items.html all items. The pages need no network and no script. Debian has what this
+script needs as `python3-markdown` and `python3-pygments`.
 """
 
 import html
@@ -154,8 +155,9 @@ class Reference:
         return PATH_IN_CODE.sub(link, colored(text))
 
     def signature(self, item):
-        """The signature of an item, without private fields; of a constant a value that is a number."""
-        text = outdented(item.signature) if item.kind != "impl" else " ".join(item.signature.split())
+        """An item's signature, without private fields; of a constant a value that is a number."""
+        is_impl = item.kind == "impl"
+        text = " ".join(item.signature.split()) if is_impl else outdented(item.signature)
         if item.kind == "const" and not re.search(r"= \d+$", text):
             text = text.partition(" =")[0]
         if item.kind == "struct":
@@ -209,7 +211,8 @@ class Reference:
             if isinstance(it, rattle_items.Module):
                 url, is_here = file_of(it) if it in self.sources.pages else None, False
             else:
-                url, is_here = self.places.get(id(it)), id(it) in map(id, self.sources.shown_at(page))
+                url = self.places.get(id(it))
+                is_here = any(it is shown for shown in self.sources.shown_at(page))
             if url and not (is_here and name == it.name):
                 yield f'<a href="{url}"><code>{name}</code></a>', self.summary(it)
 

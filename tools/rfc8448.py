@@ -1,8 +1,9 @@
 """Reads the traces of RFC 8448: each of its sections as lines for the program of `ring_schedules`.
 
-`python3 tools/rfc8448.py rfc8448.txt` writes vectors/schedules/rfc8448_section*.txt anew. Each line asks
-for what one step of the RFC computes, and the RFC's value stands behind `#= `. The hash that a Finished
-covers is not in the text: it is computed of the messages, as it is of those whose hash the text has.
+`python3 tools/rfc8448.py rfc8448.txt` writes vectors/schedules/rfc8448_section*.txt anew. Each line
+asks for what one step of the RFC computes, and the RFC's value stands behind `#= `. The hash that a
+Finished covers is not in the text: it is computed of the messages, as it is of those whose hash the
+text has.
 """
 
 import dataclasses
@@ -21,7 +22,10 @@ TITLES = {
 }
 ZEROS = bytes(32)
 EARLY = ("c e traffic", "e exp master")
-STAGED = (*EARLY, "c hs traffic", "s hs traffic", "c ap traffic", "s ap traffic", "exp master", "res master")
+STAGED = (
+    *EARLY, "c hs traffic", "s hs traffic", "c ap traffic", "s ap traffic", "exp master",
+    "res master",
+)
 HELLO_RETRY_REQUEST = hashlib.sha256(b"HelloRetryRequest").digest()
 
 
@@ -82,7 +86,8 @@ class Trace:
             self.lines.append(f"{line}\n#= {value.hex()}")
 
     def transcript(self):
-        """The hash of the messages (RFC 8446, 4.4.1): before a HelloRetryRequest stands the hash of one."""
+        """The hash of the messages (RFC 8446, 4.4.1): before a HelloRetryRequest stands the hash of
+        one."""
         messages = list(self.messages)
         if len(messages) > 1 and messages[1][6:38] == HELLO_RETRY_REQUEST:
             messages[0] = bytes([254, 0, 0, 32]) + sha256(messages[0])
@@ -92,7 +97,9 @@ class Trace:
         label, transcript = self.secrets[secret]
         psk = "none" if self.psk is None else word(self.psk)
         shared = "none" if label in (*EARLY, "res binder") else word(self.shared)
-        self.ask(f"tls13 SHA256 {psk} {shared} {label.replace(' ', '-')} {word(transcript)} {output}", value)
+        secret_word = label.replace(" ", "-")
+        words = f"{psk} {shared} {secret_word} {word(transcript)} {output}"
+        self.ask(f"tls13 SHA256 {words}", value)
 
     def ask_label(self, secret, label, context, value):
         words = (word(data) for data in (secret, label.encode(), context))
@@ -144,7 +151,7 @@ class Trace:
             self.messages.append(message)
 
     def send(self, step):
-        """A ClientHello is sent with the binders, which its message as it was made does not have."""
+        """A ClientHello is sent with the binders, which the message as it was made lacks."""
         if len(self.messages) == 1 and step.party == "client":
             self.messages = [bytes_in(step, "payload")]
 

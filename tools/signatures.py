@@ -13,13 +13,17 @@ import rattle_items
 PAGE = rattle_items.ROOT / "docs/API.md"
 HEAD = "## Signatures\n"
 LIBRARIES = ("ring", "ring_store", "ring_password_hash")
-ABOUT = "A form that ends in `_counted` stands here where there is no other; else it takes a `&mut Meter` last."
+ABOUT = (
+    "A form that ends in `_counted` stands here where there is no other; else it takes a "
+    "`&mut Meter` last."
+)
 # Facts for proofs, and what no caller of `ring` names.
 LEFT_OUT = ("ring::laws", "ring_core::digest", "ring_core::error", "ring_core::polyfill")
 
 
 def signature(item):
-    """One item's, without what is private: of a constant its type, and its value where that is a number."""
+    """One item's, without what is private: of a constant its type, and its value where that is a
+    number."""
     first, *others = item.signature.split("\n")
     text = "\n".join([first, *textwrap.dedent("\n".join(others)).split("\n")]) if others else first
     if item.kind == "const":
@@ -27,11 +31,16 @@ def signature(item):
     return re.sub(r"\((?!pub ).*", "", text, flags=re.DOTALL) if item.kind == "struct" else text
 
 
+def is_shown(name, plain):
+    """Whether a name is that of a plain form, or of a counted form without one among those."""
+    return not name.endswith("_counted") or name.removesuffix("_counted") not in plain
+
+
 def called(found):
     """The functions among items that a caller names."""
     calls = [item for item in found if item.kind == "fn" and (item.parameters or item.result)]
     plain = {item.name for item in calls}
-    return [item for item in calls if item.name.removesuffix("_counted") == item.name or item.name[:-8] not in plain]
+    return [item for item in calls if is_shown(item.name, plain)]
 
 
 def lines_of_page(sources, page):

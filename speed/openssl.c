@@ -12,7 +12,8 @@
 #include <stdlib.h>
 #include <string.h>
 
-enum { LONG_LEN = 65536, SHORT_LEN = 64, PIECE_LEN = 16, KEY_LEN = 32, SALT_LEN = 16, MAX_BLOCK_LEN = 128 };
+enum { LONG_LEN = 65536, SHORT_LEN = 64, PIECE_LEN = 16 };
+enum { KEY_LEN = 32, SALT_LEN = 16, MAX_BLOCK_LEN = 128 };
 
 static const unsigned char KEY_BYTE = 0x6b, SALT_BYTE = 0x73;
 
@@ -39,8 +40,8 @@ static EVP_MD *fetched(const char *hash)
     return digest;
 }
 
-// Digests of so many messages, one after another, each taken in pieces and written over the front of
-// its message: they are alike, and the front of the last is given.
+// Digests of so many messages, one after another, each taken in pieces and written over the front
+// of its message: they are alike, and the front of the last is given.
 static uint64_t digests(const char *hash, size_t len, size_t piece_len, int count, uint32_t steps)
 {
     static unsigned char messages[4][LONG_LEN];

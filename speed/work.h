@@ -23,8 +23,8 @@ enum work {
 // The hash functions are SHA-1, SHA-256 and SHA-512, from 0.
 uint64_t ring_speed_run(uint32_t work, uint32_t hash, uint32_t steps);
 
-// A password is set with so many iterations, and then a name verified that has no record, or has one,
-// or none at all.
+// A password is set with so many iterations, and then a name verified that has no record, or has
+// one, or none at all.
 enum name { UNKNOWN_NAME, KNOWN_NAME, NO_NAME };
 
 uint64_t ring_speed_verify(uint32_t name, uint32_t steps);

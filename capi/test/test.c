@@ -394,8 +394,8 @@ static void pieces(void) {
     }
 }
 
-/* Any bytes in the place of contexts and keys: the sanitizers see that nothing else is touched. */
-/* Under a key of any words the tag that it signs verifies, and neither another one nor a random one. */
+/* Under a key of any words the tag that it signs verifies, and neither another one nor a random
+ * one. */
 static int signs_what_it_verifies(const yz_hmac_key *key) {
     size_t len = below(400), size = OUTPUT[key->algorithm];
     int status = yz_hmac_key_sign(key, message, len, a, size);
@@ -411,6 +411,7 @@ static int signs_what_it_verifies(const yz_hmac_key *key) {
     return status;
 }
 
+/* Any bytes in the place of contexts and keys: the sanitizers see that nothing else is touched. */
 static void garbage(void) {
     yz_digest_context context;
     yz_hmac_key key;

@@ -98,7 +98,7 @@ dist-deb-libyezdopin-dev: all
 # The Python package with its extension, which has the archive in it.
 dist-wheel: all
 	cd python && CC='$(CC)' CFLAGS=-O2 LDFLAGS=-s YEZDOPIN_LIB_DIR="$(WHOLE_OUT)" $(PYTHON) -B -c \
-	    'import build_backend, sys; build_backend.build_wheel(sys.argv[1], {"platform": sys.argv[2]})' \
+	    'import build_backend as it, sys; it.build_wheel(sys.argv[1], {"platform": sys.argv[2]})' \
 	    "$(DIST)" manylinux_2_17_$(ARCH)
 	rm -rf "$(WORK)/wheel" && mkdir -p "$(WORK)/wheel"
 	cd "$(WORK)/wheel" && $(PYTHON) -m zipfile -e "$(DIST)"/*.whl .
@@ -114,7 +114,8 @@ endif
 # The Rust crate with the archives in prebuilt/. `cargo package` also builds what it packed.
 dist-crate: all $(ARM_ARCHIVE)
 	rm -rf "$(WORK)/rust" && mkdir -p "$(WORK)/rust/prebuilt/x86_64" "$(WORK)/rust/prebuilt/aarch64"
-	cp -R rust/src rust/build.rs rust/Cargo.toml rust/Cargo.lock rust/README.md ../LICENSE "$(WORK)/rust"
+	cp -R rust/src rust/build.rs rust/Cargo.toml rust/Cargo.lock rust/README.md ../LICENSE \
+	    "$(WORK)/rust"
 	cp $(ARCHIVE) "$(WORK)/rust/prebuilt/x86_64"
 	cp $(ARM_ARCHIVE) "$(WORK)/rust/prebuilt/aarch64"
 	cd "$(WORK)/rust" && unset YEZDOPIN_LIB_DIR && CARGO_TARGET_DIR="$(WORK)/cargo" \

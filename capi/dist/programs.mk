@@ -1,6 +1,7 @@
 # SPDX-License-Identifier: ISC
-# The Debian package of the programs `sums` and `passwords`, one word of PACKAGES in dist.mk where the
-# kit is, which proves and builds them. `make dist PROGRAMS=FOLDER` takes finished programs instead.
+# The Debian package of the programs `sums` and `passwords`, one word of PACKAGES in dist.mk where
+# the kit is, which proves and builds them. `make dist PROGRAMS=FOLDER` takes finished programs
+# instead.
 
 TOOLS_DEB = yezdopin-tools
 TOOLS = ring_sums_main ring_sums_wide ring_passwords
@@ -24,7 +25,8 @@ FORCE_TOOLS:
 TOOLS_BUILT = $(TOOLS:%=out/programs/%)
 endif
 
-# $(call launcher,NAME): a launcher of the repository that runs the installed program and builds none.
+# $(call launcher,NAME): a launcher of the repository that runs the installed program, and builds
+# none.
 define launcher
 	{ printf '%s\n' '#!/bin/bash' '# SPDX-License-Identifier: ISC' '# $(1)(1) describes the program.' \
 	    'set -euo pipefail' && \
@@ -33,7 +35,8 @@ define launcher
 	    >"$(WORK)/$(TOOLS_DEB)/usr/bin/$(1)"
 	chmod 755 "$(WORK)/$(TOOLS_DEB)/usr/bin/$(1)"
 	! grep -E 'tools/|\broot\b' "$(WORK)/$(TOOLS_DEB)/usr/bin/$(1)"
-	sed 's|@version@|$(VERSION)|' man/$(1).1 | gzip -9n >"$(WORK)/$(TOOLS_DEB)/usr/share/man/man1/$(1).1.gz"
+	sed 's|@version@|$(VERSION)|' man/$(1).1 | gzip -9n \
+	    >"$(WORK)/$(TOOLS_DEB)/usr/share/man/man1/$(1).1.gz"
 endef
 
 dist-deb-$(TOOLS_DEB): $(TOOLS_BUILT)

@@ -264,11 +264,12 @@ enum {
 /* Writes the hash of a password to the start of `text`, which has `text_room` bytes, and to
  * `text_len` how many bytes it has. No zero follows it, and the rest of `text` is unchanged.
  *
- * The salt should be random, and of this hash alone: Django and Werkzeug take 22 letters and digits,
- * and the others 16 bytes. An empty one is answered by YZ_BAD_SALT, and so is one with a dollar sign
- * for Django and Werkzeug, which write it as it is. A number that names no kind is answered by
- * YZ_UNKNOWN_ALGORITHM, and a text that is longer than `text_room` or than YZ_MAX_PASSWORD_HASH_LEN
- * by YZ_WRONG_LENGTH. The text is no secret to this call; the password is. */
+ * The salt should be random, and of this hash alone: Django and Werkzeug take 22 letters and
+ * digits, and the others 16 bytes. An empty one is answered by YZ_BAD_SALT, and so is one with a
+ * dollar sign for Django and Werkzeug, which write it as it is. A number that names no kind is
+ * answered by YZ_UNKNOWN_ALGORITHM, and a text that is longer than `text_room` or than
+ * YZ_MAX_PASSWORD_HASH_LEN by YZ_WRONG_LENGTH. The text is no secret to this call; the password
+ * is. */
 yz_status yz_password_hash_new(uint32_t kind, uint32_t iterations,
                                const uint8_t *salt, size_t salt_len,
                                const uint8_t *password, size_t password_len,

@@ -133,5 +133,5 @@ dist-npm: $(JS)/package/package.json
 	mkdir -p "$(DIST)"
 	NPM='$(NPM)' js/build/pack $(<D) "$(DIST)"
 
-.PHONY: js js-check generated-wasm js-generated js-lowered js-test js-traces js-types js-packed js-browsers js-demo js-bench \
-    dist-npm
+.PHONY: js js-check generated-wasm js-generated js-lowered js-test js-traces js-types js-packed \
+    js-browsers js-demo js-bench dist-npm

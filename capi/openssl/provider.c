@@ -98,8 +98,8 @@ static provider *make_provider(const OSSL_CORE_HANDLE *core, const OSSL_DISPATCH
     return NULL;
 }
 
-/* OpenSSL calls this when it loads the module. On a processor for which the library isn't compiled it
- * refuses, which leaves the application with the other providers. */
+/* OpenSSL calls this when it loads the module. On a processor for which the library isn't compiled
+ * it refuses, which leaves the application with the other providers. */
 OSSL_provider_init_fn OSSL_provider_init;
 int OSSL_provider_init(const OSSL_CORE_HANDLE *core, const OSSL_DISPATCH *in,
                        const OSSL_DISPATCH **out, void **self)

@@ -1,7 +1,7 @@
 // SPDX-License-Identifier: ISC
 //! Links libyezdopin.a: that of the folder YEZDOPIN_LIB_DIR, that for the target's processor in the
-//! folder prebuilt/, which the packaged crate has, what `make -C capi` builds, which is called here,
-//! or where it is installed.
+//! folder prebuilt/, which the packaged crate has, what `make -C capi` builds, which is called
+//! here, or where it is installed.
 
 use std::env;
 use std::path::{Path, PathBuf};
@@ -38,8 +38,8 @@ fn processor() -> &'static str {
     }
 }
 
-// The folder in which `make` builds the library for a processor, in a clone of the repository, from the
-// assembly text there. Where that fails, an older or an installed library may serve.
+// The folder in which `make` builds the library for a processor, in a clone of the repository, from
+// the assembly text there. Where that fails, an older or an installed library may serve.
 fn made(capi: &Path, processor: &str) -> PathBuf {
     for name in ["generated", "dispatch.c", "include/yezdopin.h"] {
         println!("cargo:rerun-if-changed={}", capi.join(name).display());

@@ -1,8 +1,8 @@
 /* SPDX-License-Identifier: ISC */
-/* Counts the library's calls, for a build of the provider that is linked with `--wrap`, so that a test
- * sees which programs use it. When the module is unloaded or the program ends, the destructor appends
- * a line to the file that the variable YEZDOPIN_COUNTS names: the program, its process, and each
- * call that was made, with its number. */
+/* Counts the library's calls, for a build of the provider that is linked with `--wrap`, so that a
+ * test sees which programs use it. When the module is unloaded or the program ends, the destructor
+ * appends a line to the file that the variable YEZDOPIN_COUNTS names: the program, its process, and
+ * each call that was made, with its number. */
 #include "yezdopin.h"
 #include <stdatomic.h>
 #include <stdio.h>

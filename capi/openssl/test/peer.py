@@ -1,9 +1,9 @@
 # SPDX-License-Identifier: ISC
 """A Python program as `programs` runs it, with the provider and without.
 
-`peer.py digests` prints what hashlib and hmac answer over all of their digests. `peer.py server ..` and
-`peer.py client .. PORT` are the two ends of a connection over TLS, with a version, the ciphers and
-whether a record is encrypted before its tag is made.
+`peer.py digests` prints what hashlib and hmac answer over all of their digests. `peer.py server ..`
+and `peer.py client .. PORT` are the two ends of a connection over TLS, with a version, the ciphers
+and whether a record is encrypted before its tag is made.
 """
 
 import hashlib

@@ -1,6 +1,6 @@
 /* SPDX-License-Identifier: ISC */
-/* Refuses each allocation of OpenSSL's and the provider's in turn, over calls of every kind: nothing
- * breaks, and what a call writes that says it is done is right. refused_memory MODULES */
+/* Refuses each allocation of OpenSSL's and the provider's in turn, over calls of every kind:
+ * nothing breaks, and what a call writes that says it is done is right. refused_memory MODULES */
 #include "single.h"
 #include <openssl/crypto.h>
 #include <stdlib.h>
@@ -151,7 +151,7 @@ int main(int argc, char **argv)
     EVP_KDF_free(hkdf);
     EVP_KDF_free(pbkdf2);
     CHECK(OSSL_PROVIDER_unload(ours) && OSSL_PROVIDER_unload(theirs));
-    printf("allocations refused in turn: %ld under SHA-256, %ld under SHA-224: %d failures\n", by_library,
-           by_other, failures);
+    printf("allocations refused in turn: %ld under SHA-256, %ld under SHA-224: %d failures\n",
+           by_library, by_other, failures);
     return failures != 0 || by_library == 0 || by_other == 0;
 }

@@ -1,5 +1,5 @@
 # SPDX-License-Identifier: ISC
-"""Password hashes of other systems: the texts of ../vectors/password_hashes, and what is refused."""
+"""Password hashes of other systems: texts of ../vectors/password_hashes, and what is refused."""
 
 import base64
 import hashlib

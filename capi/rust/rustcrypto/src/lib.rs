@@ -1,5 +1,6 @@
 // SPDX-License-Identifier: ISC
-//! RustCrypto's traits of digests, tags (`digest` 0.10) and password hashes over the proved library of [`yezdopin`].
+//! RustCrypto's traits of digests, tags (`digest` 0.10) and password hashes over the proved library
+//! of [`yezdopin`].
 //!
 //! A type of this crate stands where code generic over these traits takes one of `sha1`, `sha2`, or
 //! `hmac::Hmac` over them: `hmac::SimpleHmac<Sha256>`, `hkdf::SimpleHkdf<Sha256>` and

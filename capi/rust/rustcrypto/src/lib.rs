@@ -19,7 +19,8 @@
 //! # Ok::<(), digest::InvalidLength>(())
 //! ```
 //!
-//! [`Pbkdf2`] tests passwords against PHC strings, by `PasswordVerifier` of `password-hash` 0.4:
+//! [`Pbkdf2`] tests passwords against PHC strings, by `PasswordVerifier` of `password-hash`, 0.4 or
+//! 0.5:
 //!
 //! ```
 //! use yezdopin_rustcrypto::password_hash::PasswordHash;

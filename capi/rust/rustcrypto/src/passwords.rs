@@ -9,7 +9,7 @@ use yezdopin::password_hash::{verify, HashError};
 /// so many iterations.
 ///
 /// A string without a count of iterations, for which RustCrypto's `pbkdf2` has a default, is
-/// refused.
+/// refused, by `Error::Algorithm` as each that the library doesn't read.
 #[derive(Clone, Copy, Debug, PartialEq, Eq)]
 pub struct Pbkdf2 {
     /// The most iterations of a string that is tested: whoever wrote it chose the time of a test.
@@ -21,7 +21,7 @@ impl PasswordVerifier for Pbkdf2 {
         verify(&hash.to_string(), password, self.max_iterations).map_err(|error| match error {
             HashError::WrongPassword => Error::Password,
             HashError::TooManyIterations => Error::ParamValueInvalid(InvalidValue::TooLong),
-            _ => Error::PhcStringInvalid,
+            _ => Error::Algorithm,
         })
     }
 }

@@ -8,7 +8,7 @@ use Rattle.std.specs.Prelude.{◌↔◌, ◌⊎◌, ◌&&◌, ◌||◌, IsTrue, 
 use Rattle.std.specs.List.{list_all}
 use Rattle.std.specs.Int.NonZero.{non_zero_u32_get}
 use Rattle.std.specs.declared.num.NonZeroU32.{NonZeroU32}
-use Rattle.std.proofs.lemmas.Bool.{not-true}
+use Rattle.std.proofs.lemmas.Bool.{and_from, and_parts, not-true}
 use Rattle.std.proofs.lemmas.Bool.Decides.{nat_tests}
 use Rattle.std.proofs.lemmas.List.{length-append}
 use Rattle.std.proofs.lemmas.List.Elements.{All-cons, All-head, All-nil, All-tail}
@@ -35,19 +35,12 @@ use Rattle.ring_password_hash.proofs.Heads.{usual_len}
 use Rattle.ring_text.proofs.Cuts.{NotAt}
 use Rattle.ring_password_hash.proofs.Written.{append-head_then}
 
-both : (a b : Bool) → (a && b) ≡ true → (a ≡ true) × (b ≡ true)
-both true b e = (refl, e)
-both false b e = absurd (true≢false (sym e))
-
-joined : (a b : Bool) → a ≡ true → b ≡ true → (a && b) ≡ true
-joined a b x y = rw (x, y) refl
-
 -- a test of each byte, and what it says
 without_from : (s : List ℕ) → list_all (λ b. not (b == 36)) s ≡ true → IsWithout 36 s
 without_from [] all = All-nil (NotAt 36)
 without_from (b ∷ s) all =
-    All-cons (NotAt 36) b s (not-true (b == 36) (both _ _ all).0)
-    (without_from s (both _ _ all).1)
+    All-cons (NotAt 36) b s (not-true (b == 36) (and_parts _ _ all).0)
+    (without_from s (and_parts _ _ all).1)
 
 without_to : (s : List ℕ) → IsWithout 36 s → list_all (λ b. not (b == 36)) s ≡ true
 without_to [] all = refl
@@ -73,13 +66,13 @@ plain_to Adapted s all = refl
 
 salt_from : (k : Kind) (s : List ℕ) → is_salt k s ≡ true → IsSalt k s
 salt_from k [] is = absurd (true≢false (sym is))
-salt_from k (b ∷ s) is = (λ e. cc e, plain_from (salt_encoding_of k) (b ∷ s) (both _ _ is).1)
+salt_from k (b ∷ s) is = (λ e. cc e, plain_from (salt_encoding_of k) (b ∷ s) (and_parts _ _ is).1)
 
 salt_to : (k : Kind) (s : List ℕ) → IsSalt k s → is_salt k s ≡ true
 salt_to k [] is = absurd (is.0 refl)
 salt_to k (b ∷ s) is =
     let some : nat_lt 0 (length (b ∷ s)) ≡ true = grind (arith, nat_tests) in
-    joined _ _ some (plain_to (salt_encoding_of k) (b ∷ s) is.1)
+    and_from _ _ some (plain_to (salt_encoding_of k) (b ∷ s) is.1)
 
 same_test : (a b : Bool) → (IsTrue a → b ≡ true) → (b ≡ true → IsTrue a) → a ≡ b
 same_test true b to from = sym (to refl)

@@ -31,8 +31,8 @@ pub(crate) fn put(out: &mut [u8; MAX_TEXT_LEN], at: usize, bytes: &[u8]) -> Opti
     Some(end)
 }
 
-#[tactic(auto, using(crate::proofs::Pieces::two_digits_each))]
 // Writes digits in lower case.
+#[tactic(auto, using(crate::proofs::Pieces::two_digits_each))]
 fn put_hex(out: &mut [u8; MAX_TEXT_LEN], at: usize, bytes: &[u8]) -> Option<usize>
     ensures { IsPut at (encode_lower bytes.now) out.old out.new result }
 {
@@ -131,8 +131,8 @@ fn put_two(
     put_number(out, at, len, b'$')
 }
 
-#[tactic(auto, unfolding(crate::specs::Head::parameters_then))]
 /// Writes what stands before the salt of a hash of `len` bytes, as the kind's own system has it.
+#[tactic(auto, unfolding(crate::specs::Head::parameters_then))]
 pub(crate) fn put_head(
     out: &mut [u8; MAX_TEXT_LEN],
     kind: Kind,

@@ -131,8 +131,8 @@ pub(crate) fn head_in(kind: Kind, text: &[u8]) -> Option<(Parameters, NonZeroU32
     parameters_in(kind, rest)
 }
 
-#[tactic(auto, unfolding(crate::specs::Head::parameters_then))]
 /// Appends what stands before the salt of a hash of `len` bytes.
+#[tactic(auto, unfolding(crate::specs::Head::parameters_then))]
 pub(crate) fn append_head<A: Allocator>(
     out: &mut Vec<u8, A>,
     kind: Kind,

@@ -58,8 +58,8 @@ fn can_have(kind: Kind, salt: &[u8]) -> bool
     is_salt(kind, salt)
 }
 
-#[tactic(auto, using(crate::proofs::Pieces::hash_written_len))]
 // The bytes of a hash in a text of the kind.
+#[tactic(auto, using(crate::proofs::Pieces::hash_written_len))]
 fn hash_text_len(kind: Kind) -> usize
     ensures len { (hash : List ℕ) → length hash ≡ hash_len_of kind
         → result ≡ length (written (hash_encoding_of kind) hash) }

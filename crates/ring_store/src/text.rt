@@ -34,8 +34,8 @@ fn append_hex<A: Allocator + Copy>(
     Ok(())
 }
 
-#[tactic(auto, unfolding(crate::specs::Text::head_then))]
 /// Appends the first line of a text.
+#[tactic(auto, unfolding(crate::specs::Text::head_then))]
 pub(crate) fn append_head<A: Allocator + Copy>(
     alloc: A,
     out: &mut Vec<u8, A>,
@@ -50,8 +50,8 @@ pub(crate) fn append_head<A: Allocator + Copy>(
     Ok(())
 }
 
-#[tactic(auto, unfolding(crate::specs::Text::record_then))]
 /// Appends the line of a record.
+#[tactic(auto, unfolding(crate::specs::Text::record_then))]
 pub(crate) fn append_record<A: Allocator + Copy>(
     alloc: A,
     out: &mut Vec<u8, A>,

@@ -234,9 +234,3 @@ begun-next {old} {now} {pieces} {rests} {i} x d r have below room partway ready 
       partway = rw (here, ← changed-at d c have below) partway;
       ready = rw here ready;
     })
-
--- all contexts are updated
-pub updated-all : {old now : List Context} {pieces : List (Bor (List ℕ))} {n : ℕ}
-    → HaveChanged (IsUpdatedAt pieces) old now n → length old ≤ n → AreUpdated old now pieces
-updated-all have all =
-    record { count = have.count; each = λ k c below. have.each k c (omega (arith, all, below)) }

@@ -1,5 +1,5 @@
 # SPDX-License-Identifier: ISC
-"""Runs the `unittest` cases of a program, and counts them for the gate.
+"""Runs the cases of a test, by `unittest` or by answers to lines, and counts them for the gate.
 
 The last line is 'N passed, M failed', and ', K skipped' where something is missing. A test counts
 once, however many of its subtests fail.
@@ -44,6 +44,25 @@ def run_beside(beside, tests):
         waited = waiting.result()
     print(said.getvalue(), flush=True)
     return [sum(each) for each in zip(result.counts(), waited.counts())]
+
+
+def run_answered(cases):
+    """Runs cases that give the lines that were answered wrongly, with their answers; the counts.
+
+    Each case stands with the name of what is missing for it, which is empty where nothing is.
+    """
+    passed = failed = skipped = 0
+    for case, missing in cases:
+        if missing:
+            print(f"skipped, without {missing}: {case.__doc__}", flush=True)
+            skipped += 1
+            continue
+        found = case()
+        for line, answer in found[:3]:
+            print(f"    {line[:300]}\n    was answered {answer[:300]}")
+        print(f"{'FAILED' if found else 'ok'}: {case.__doc__}", flush=True)
+        passed, failed = passed + (not found), failed + bool(found)
+    return passed, failed, skipped
 
 
 def report(passed, failed, skipped):

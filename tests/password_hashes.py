@@ -28,6 +28,9 @@ import subprocess
 import sys
 import tempfile
 
+sys.dont_write_bytecode = True
+import counted
+
 ROOT = pathlib.Path(__file__).resolve().parent.parent
 VECTORS = ROOT / "vectors/password_hashes"
 REFUSED = "not a password hash of this format"
@@ -571,26 +574,21 @@ def file_case(file):
     return run
 
 
+def cases():
+    """Each case, and what is missing for it on this machine."""
+    files = sorted(VECTORS.glob("*.txt"))
+    yield from ((file_case(file), "") for file in files)
+    yield from ((case, "") for case in (proof_and_signature, are_as_hashlib, are_read_exactly))
+    yield each_request_is_refused, "" if shutil.which("cc") else "cc"
+    for module in PEERS:
+        yield with_module(module), "" if python_with(module) else module
+    yield with_rustcrypto, "" if has_rustcrypto() else "RustCrypto's crates"
+    yield with_mosquitto, "" if shutil.which("mosquitto_passwd") else "mosquitto_passwd"
+    yield with_postgres, "" if postgres_bin() else "PostgreSQL"
+
+
 def main():
-    passed = failed = skipped = 0
-    cases = [(file_case(file), True) for file in sorted(VECTORS.glob("*.txt"))]
-    cases += [(proof_and_signature, True), (are_as_hashlib, True), (are_read_exactly, True)]
-    cases += [(each_request_is_refused, shutil.which("cc"))]
-    cases += [(with_module(module), python_with(module)) for module in PEERS]
-    cases += [(with_rustcrypto, has_rustcrypto())]
-    cases += [(with_mosquitto, shutil.which("mosquitto_passwd")), (with_postgres, postgres_bin())]
-    for case, there in cases:
-        if not there:
-            print(f"skipped, since it is not here: {case.__doc__}", flush=True)
-            skipped += 1
-            continue
-        found = case()
-        for line, answer in found[:3]:
-            print(f"    {line[:300]}\n    was answered {answer[:300]}")
-        print(f"{'FAILED' if found else 'ok'}: {case.__doc__}", flush=True)
-        passed, failed = passed + (not found), failed + bool(found)
-    print(f"{passed} passed, {failed} failed" + (f", {skipped} skipped" if skipped else ""))
-    return failed != 0
+    return counted.report(*counted.run_answered(cases()))
 
 
 if __name__ == "__main__":

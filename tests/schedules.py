@@ -26,6 +26,7 @@ import time
 
 sys.dont_write_bytecode = True
 sys.path.append(str(pathlib.Path(__file__).resolve().parent.parent / "tools"))
+import counted
 import rfc8448
 
 ROOT = pathlib.Path(__file__).resolve().parent.parent
@@ -553,19 +554,8 @@ def cases():
 
 
 def main():
-    passed = failed = skipped = 0
-    for case, needed in cases():
-        if not needed.exists():
-            print(f"skipped, without {needed}: {case.__doc__}", flush=True)
-            skipped += 1
-            continue
-        found = case()
-        for line, answer in found[:3]:
-            print(f"    {line[:300]}\n    was answered {answer[:300]}")
-        print(f"{'FAILED' if found else 'ok'}: {case.__doc__}", flush=True)
-        passed, failed = passed + (not found), failed + bool(found)
-    print(f"{passed} passed, {failed} failed" + (f", {skipped} skipped" if skipped else ""))
-    return failed != 0
+    tried = ((case, "" if needed.exists() else needed) for case, needed in cases())
+    return counted.report(*counted.run_answered(tried))
 
 
 if __name__ == "__main__":

@@ -1,16 +1,13 @@
 -- SPDX-License-Identifier: ISC
 -- Exclusive ors of bytes, one by one and in lists.
-use Rattle.std.proofs.Common.{◌≡◌, ◌↔◌, ℕ, zero, suc, ◌<◌, ◌≤◌, List, [], ◌∷◌, ◌++◌, length}
-use Rattle.std.proofs.Common.{slice_index_or, slice_set, map, take, drop, bit_or, refl, sym, ap}
-use Rattle.std.proofs.Common.{◌∙◌, arith, min}
-use Rattle.std.specs.Int.Bits.{xor_assoc, xor_self, xor_zero_l, xor_zero_r}
-use Rattle.std.proofs.lemmas.Nat.{le_or_l, le_or_r}
+use Rattle.std.proofs.Common.{◌≡◌, ◌↔◌, ℕ, zero, suc, ◌<◌, ◌≤◌, List, [], ◌∷◌, length}
+use Rattle.std.proofs.Common.{slice_index_or, slice_set, take, bit_or, refl, sym, ap, arith, min}
+use Rattle.std.specs.Int.Bits.{xor_add_and, xor_self}
+use Rattle.std.proofs.lemmas.Nat.{and_le_l, and_le_r, le_or_l, le_or_r}
 use Rattle.ring_core.specs.Prelude.{◌⊕◌, xor_lists}
 
 ⊕-zero : (x y : ℕ) → x ⊕ y ≡ 0 → x ≡ y
-⊕-zero x y none =
-    sym (xor_zero_r x) ∙ ap (λ (z : ℕ). x ⊕ z) (sym (xor_self y)) ∙ sym (xor_assoc x y y)
-    ∙ ap (λ (z : ℕ). z ⊕ y) none ∙ xor_zero_l y
+⊕-zero x y none = omega (arith, xor_add_and x y, and_le_l x y, and_le_r x y)
 
 -- nothing differs where nothing differed before and this pair is equal
 pub none_differs : (d x y : ℕ) → (bit_or d (x ⊕ y) ≡ 0) ↔ ((d ≡ 0) × (x ≡ y))
@@ -18,15 +15,6 @@ none_differs d x y = (
   λ none. (omega (arith, le_or_l d (x ⊕ y)), ⊕-zero x y (omega (arith, le_or_r d (x ⊕ y)))),
   λ both. rw (both.0, both.1, xor_self) refl,
 )
-
--- one item more is as its own
-pub map-step : (f : ℕ → ℕ) (xs : List ℕ) (i : ℕ) → i < length xs → (ys : List ℕ)
-    → ys ≡ map f (take i xs) ++ drop i xs
-    → slice_set ys i (f (slice_index_or ys i 0)) ≡ map f (take (suc i) xs) ++ drop (suc i) xs
-map-step f [] i in_xs ys e = absurd (omega arith)
-map-step f (x ∷ xs) zero in_xs ys e = rw e refl
-map-step f (x ∷ xs) (suc i) in_xs ys e =
-    rw e (ap (λ zs. f x ∷ zs) (map-step f xs i (omega arith) _ refl))
 
 pub xor_lists-none : (xs : List ℕ) → xor_lists xs [] ≡ xs
 xor_lists-none [] = refl
@@ -53,3 +41,5 @@ xor_lists-take (x ∷ xs) [] (suc n) enough = refl
 xor_lists-take (x ∷ xs) (y ∷ ys) zero enough = absurd (omega arith)
 xor_lists-take (x ∷ xs) (y ∷ ys) (suc n) enough =
     ap (λ zs. (x ⊕ y) ∷ zs) (xor_lists-take xs ys n (omega arith))
+
+pub ruleset xors = (xor_lists-none, xor_lists-take)

@@ -1,8 +1,10 @@
 -- SPDX-License-Identifier: ISC
--- How the words after chunks follow a list as it grows.
-use Rattle.std.proofs.Common.{◌≡◌, ℕ, zero, suc, ◌+◌, ◌*◌, ◌≤◌, List, ◌++◌, length, take, drop}
-use Rattle.std.proofs.Common.{refl, arith, length-drop, add-zero, add-one}
+-- The chunks of a list, and how the words after them follow the list as it grows.
+use Rattle.std.proofs.Common.{◌≡◌, ℕ, zero, suc, ◌+◌, ◌*◌, ◌/◌, ◌<◌, ◌≤◌, List, ◌∷◌, ◌++◌, length}
+use Rattle.std.proofs.Common.{take, drop, refl, arith, length-drop, add-zero, add-one}
 use Rattle.std.proofs.lemmas.List.{take-append-le, drop-append-le, drop_at, drop-drop}
+use Rattle.std.proofs.Math.Nat.{add-div_right}
+use Rattle.std.specs.Simd.{first_chunks}
 use Rattle.ring_core.specs.Prelude.{chunk_at, fold_chunks}
 
 -- no chunk
@@ -16,6 +18,8 @@ pub fold_chunks-next : (step : List ℕ → List ℕ → List ℕ) (n : ℕ) (h 
     → fold_chunks step n h p (k + 1) ≡ step (fold_chunks step n h p k) (chunk_at n p k)
 unfolding fold_chunks
 fold_chunks-next step n h p k = rw add-one refl
+
+pub ruleset folds = (fold_chunks-none)
 
 -- only the chunks that are counted matter
 pub fold_chunks-append : (step : List ℕ → List ℕ → List ℕ) (n : ℕ) (h p x : List ℕ) (k : ℕ)
@@ -52,3 +56,13 @@ unfolding fold_chunks
 length-fold_chunks step n w zero h p keeps len = len
 length-fold_chunks step n w (suc k) h p keeps len =
     keeps _ _ (length-fold_chunks step n w k h p keeps len)
+
+-- the chunks of a list, one and then the others
+pub chunks_step : {X : Type 0} (n : ℕ) (all : List X) → 0 < n → n ≤ length all
+    → first_chunks n (length all / n) all
+    ≡ take n all ∷ first_chunks n (length (drop n all) / n) (drop n all)
+chunks_step n all pos room =
+    let left = length (drop n all) in
+    let more : length all / n ≡ suc (left / n) =
+    grind (arith, length-drop n all, add-div_right left pos) in
+    rw more refl

@@ -51,6 +51,8 @@ counted_new m0 m1 blocks pairs none e fits =
 pub compared_pairs-none : (m n : ℕ) → m ≢ n → compared_pairs m n ≡ 0
 compared_pairs-none m n differ = let e : (m == n) ≡ false = search (rules, differ) in rw e refl
 
+pub ruleset rises = (raised-none, raised-raised, compared_pairs-none)
+
 -- of a count that a meter can show, the rise is the sum cut off at 2 ^ 128 - 1
 pub raised_count-cut_off : (count n : ℕ) → count < 2 ^ 128
     → raised_count count n ≡ min (count + n) (2 ^ 128 - 1)

@@ -1,7 +1,7 @@
 -- SPDX-License-Identifier: ISC
 -- Numbers of 64 bits as halves of 32, by their bytes.
 use Rattle.std.proofs.Common.{◌≡◌, ℕ, zero, suc, ◌+◌, ◌*◌, ◌/◌, ◌%◌, ◌^◌, ◌<◌, List, [], ◌∷◌}
-use Rattle.std.proofs.Common.{length, map, sym, ap, ◌∙◌, arith}
+use Rattle.std.proofs.Common.{length, map, refl, sym, ap, arith}
 use Rattle.std.proofs.Math.Nat.{mod-eq_of_lt, mod-one, pow-suc, one-le-pow}
 use Rattle.std.proofs.lemmas.Nat.{xor_mod}
 use Rattle.std.specs.Simd.Lanes.{number_l, digits_l, zip2}
@@ -12,32 +12,16 @@ use lib.Arith.{mod-mul}
 pub number-bytes : (n x : ℕ) → number_l 256 (digits_l 256 n x) ≡ x % 256 ^ n
 number-bytes zero x = sym (mod-one x)
 number-bytes (suc n) x =
-    let rest : number_l 256 (digits_l 256 n (x / 256)) ≡ x / 256 % 256 ^ n =
-    number-bytes n (x / 256) in
     let positive : 0 < 256 ^ n = omega (arith, one-le-pow n 256 (omega arith)) in
-    let parts : x % (256 ^ n * 256) ≡ x / 256 % 256 ^ n * 256 + x % 256 =
-    mod-mul x {m = 256 ^ n} {c = 256} positive (omega arith) in
-    ap (λ (m : ℕ). x % 256 + 256 * m) rest
-    ∙ omega (arith, parts)
-    ∙ ap (λ (m : ℕ). x % m) (sym (pow-suc 256 n))
+    let parts = mod-mul x {m = 256 ^ n} {c = 256} positive (omega arith) in
+    rw (number-bytes n (x / 256), pow-suc 256 n, parts) (omega arith)
 
 -- two numbers of 64 bits, from the lanes to the bytes and back to one number
 pub both-bytes : (a b : ℕ) → a < 2 ^ 64 → b < 2 ^ 64
     → number_l 256 (digits_l 256 16 (number_l (2 ^ 64) (a ∷ b ∷ []))) ≡ a + 2 ^ 64 * b
 both-bytes a b af bf =
     let whole : number_l (2 ^ 64) (a ∷ b ∷ []) ≡ a + 2 ^ 64 * b = omega arith in
-    ap (λ (n : ℕ). number_l 256 (digits_l 256 16 n)) whole
-    ∙ number-bytes 16 (a + 2 ^ 64 * b)
-    ∙ mod-eq_of_lt (omega arith)
-
--- the first four bytes of that number are the low half of the first
-pub low-first : (a b : ℕ) → (a + 2 ^ 64 * b) % 2 ^ 32 ≡ a % 2 ^ 32
-low-first a b = omega arith
-
--- and the third four that of the second
-pub low-second : (a b : ℕ) → a < 2 ^ 64
-    → (a + 2 ^ 64 * b) / 2 ^ 32 / 2 ^ 32 % 2 ^ 32 ≡ b % 2 ^ 32
-low-second a b fits = omega arith
+    rw (whole, number-bytes 16 (a + 2 ^ 64 * b)) (mod-eq_of_lt (omega arith))
 
 -- two slots added
 abbrev plus : ℕ → ℕ → ℕ
@@ -66,6 +50,4 @@ sums_low _ _ _ _ ps qs rs ss =
 -- the word of an exclusive or of four slots
 pub xors_low : (a b c d : ℕ)
     → low_32 (a ⊕ b ⊕ c ⊕ d) ≡ low_32 a ⊕ low_32 b ⊕ low_32 c ⊕ low_32 d
-xors_low a b c d =
-    let three = xor_mod (a ⊕ b) c 32 ∙ ap (λ (m : ℕ). m ⊕ low_32 c) (xor_mod a b 32) in
-    xor_mod (a ⊕ b ⊕ c) d 32 ∙ ap (λ (m : ℕ). m ⊕ low_32 d) three
+xors_low a b c d = rw (xor_mod (a ⊕ b ⊕ c) d 32, xor_mod (a ⊕ b) c 32, xor_mod a b 32) refl

@@ -1,7 +1,6 @@
 -- SPDX-License-Identifier: ISC
 pub mod Rotation
 pub mod ShortForms
-pub mod Lanes
 pub mod Vectors
 pub mod Halves
 pub mod Mapped
@@ -11,8 +10,6 @@ pub mod Sha2Steps
 pub mod Sha2FourWords
 pub mod Sha1Steps
 pub mod Sha1FourWords
-pub mod Five
-pub mod ChunkLists
 pub mod Bytes
 pub mod Costs
 pub mod Roots

@@ -1,11 +1,10 @@
 -- SPDX-License-Identifier: ISC
 -- Words that each follow from those before them.
-use Rattle.std.proofs.Common.{◌≡◌, ◌≢◌, ℕ, zero, suc, ◌+◌, ◌*◌, ◌%◌, ◌<◌, ◌≤◌, List, [], ◌∷◌}
-use Rattle.std.proofs.Common.{length}
-use Rattle.std.proofs.Common.{slice_index, map, refl, sym, ap, ◌∙◌, arith, inl, inr}
-use Rattle.std.proofs.lemmas.List.{get_or-map, get_or-set_other, get_or-set_same}
-use Rattle.std.proofs.lemmas.List.{get_or_append_left, get_or_push, length-set, length_push}
-use Rattle.std.proofs.lemmas.List.{map-set}
+use Rattle.std.proofs.Common.{◌≡◌, ℕ, zero, suc, ◌+◌, ◌*◌, ◌%◌, ◌<◌, ◌≤◌, List, [], ◌∷◌}
+use Rattle.std.proofs.Common.{length, slice_index, map, refl, ◌∙◌, arith, inl, inr}
+use Rattle.std.proofs.lemmas.List.{get_or-map, get_or_append_left, get_or_push, length-set}
+use Rattle.std.proofs.lemmas.List.{length_push, map-set}
+use Rattle.std.proofs.lemmas.Grind.{common_steps}
 use Rattle.std.proofs.lemmas.Bool.{cases_lt}
 use Rattle.std.proofs.Math.ListN.{get_or, length-map, set}
 use Rattle.ring_core.specs.Prelude.{HoldsSums, IsWindow, four, listed, listed_at}
@@ -45,24 +44,6 @@ window-same w x window t ready same = record {
   held = λ k below near. ready.held k below near ∙ same k below;
 }
 
--- the word in a slot
-pub window-read : {X : Type 0} {w : ℕ → ℕ} {n slot : ℕ} (f : X → ℕ) (window : List X) (t : ℕ)
-    (x : X)
-    → IsWindow w (map f window) n → slot ≡ t % 16 → t < n → n ≤ t + 16
-    → f (get_or window slot x) ≡ w t
-window-read {slot} f window t x ready place below near =
-    let room : slot < length window = omega (arith, ready.sixteen, length-map window f) in
-    sym (get_or-map f window slot x 0 room) ∙ ap (slice_index (map f window)) place
-    ∙ ready.held t below near
-
--- a window before the first word
-pub window-empty : {X : Type 0} {w : ℕ → ℕ} (f : X → ℕ) (window : List X) → length window ≡ 16
-    → IsWindow w (map f window) 0
-window-empty f window sixteen = record {
-  sixteen = length-map window f ∙ sixteen;
-  held = λ k below near. absurd (omega arith);
-}
-
 -- one word more, in the slot of the oldest
 pub window-set : {X : Type 0} {t : ℕ} (f : X → ℕ) (w : ℕ → ℕ) (window : List X) (slot : ℕ) (x : X)
     → IsWindow w (map f window) t → slot ≡ t % 16 → f x ≡ w t
@@ -70,29 +51,16 @@ pub window-set : {X : Type 0} {t : ℕ} (f : X → ℕ) (w : ℕ → ℕ) (windo
 window-set {t} f w window slot x ready place word =
     rw (map-set f window slot x) (record {
       sixteen = length-set (map f window) slot (f x) ∙ ready.sixteen;
-      held =
-          λ k below near. elim (cases_lt k t) [
-            | inl lt ↦
-                let other : k % 16 ≢ slot = omega arith in
-                get_or-set_other (map f window) slot (k % 16) (f x) 0 other
-                ∙ ready.held k lt (omega arith)
-            | inr ge ↦
-                let last : k ≡ t = omega arith in
-                let room : slot < length (map f window) = omega (arith, ready.sixteen) in
-                rw (last, ← place) (get_or-set_same (map f window) slot (f x) 0 room ∙ word)
-          ];
+      held = λ k below near. grind (arith, common_steps, ready.sixteen, ready.held k, word, place);
     })
 
 -- a word read from the sums
 pub sum-read : {X : Type 0} {s : ℕ → ℕ} {n place y : ℕ} (f : X → List ℕ) (sums : List X) (g j : ℕ)
     (x : X) → HoldsSums s (map f sums) n → (place ≡ g % 4) × (g < n) × (n ≤ g + 4)
     → y ≡ slice_index (f (get_or sums place x)) j → y ≡ slice_index (four s g) j
-sum-read {place} f sums g j x ready (at, below, near) read =
-    let room : place < length sums = omega (arith, ready.fours, length-map sums f) in
-    let held = sym (get_or-map f sums place x [] room)
-    ∙ ap (λ (p : ℕ). get_or (map f sums) p []) at
-    ∙ ready.held g below near in
-    read ∙ ap (λ (l : List ℕ). slice_index l j) held
+sum-read f sums g j x ready at read =
+    let item = get_or-map f sums (g % 4) x [] (omega (arith, ready.fours, length-map sums f)) in
+    cc (read, at.0, item, ready.held g at.1 at.2)
 
 -- room for sums before the first four
 pub sums-empty : {X : Type 0} {s : ℕ → ℕ} (f : X → List ℕ) (sums : List X) → length sums ≡ 4
@@ -109,17 +77,7 @@ pub sums-set : {X : Type 0} {n : ℕ} (f : X → List ℕ) (s : ℕ → ℕ) (su
 sums-set {n} f s sums place x ready at four =
     rw (map-set f sums place x) (record {
       fours = length-set (map f sums) place (f x) ∙ ready.fours;
-      held =
-          λ g below near. elim (cases_lt g n) [
-            | inl lt ↦
-                let other : g % 4 ≢ place = omega arith in
-                get_or-set_other (map f sums) place (g % 4) (f x) [] other
-                ∙ ready.held g lt (omega arith)
-            | inr ge ↦
-                let last : g ≡ n = omega arith in
-                let room : place < length (map f sums) = omega (arith, ready.fours) in
-                rw (last, ← at) (get_or-set_same (map f sums) place (f x) [] room ∙ four)
-          ];
+      held = λ g below near. grind (arith, common_steps, ready.fours, ready.held g, four, at);
     })
 
 -- four steps, of which each is the next
@@ -127,12 +85,6 @@ pub steps-four : {v0 v1 v2 v3 v4 : List ℕ} {after : ℕ → List ℕ} (step : 
     → ((t : ℕ) → after (t + 1) ≡ step (after t) t) → (g : ℕ) → v0 ≡ after (4 * g)
     → v1 ≡ step v0 (4 * g) → v2 ≡ step v1 (4 * g + 1) → v3 ≡ step v2 (4 * g + 2)
     → v4 ≡ step v3 (4 * g + 3) → v4 ≡ after (4 * (g + 1))
-steps-four {v1} {v2} {v3} {after} step next g e0 e1 e2 e3 e4 =
+steps-four step next g e0 e1 e2 e3 e4 =
     let t = 4 * g in
-    let second : t + 1 + 1 ≡ t + 2 = omega arith in
-    let third : t + 2 + 1 ≡ t + 3 = omega arith in
-    let end : t + 3 + 1 ≡ 4 * (g + 1) = omega arith in
-    let r1 : v1 ≡ after (t + 1) = rw (e1, e0) (sym (next t)) in
-    let r2 : v2 ≡ after (t + 2) = rw (e2, r1, ← second) (sym (next (t + 1))) in
-    let r3 : v3 ≡ after (t + 3) = rw (e3, r2, ← third) (sym (next (t + 2))) in
-    rw (e4, r3, ← end) (sym (next (t + 3)))
+    grind (arith, e0, e1, e2, e3, e4, next t, next (t + 1), next (t + 2), next (t + 3))

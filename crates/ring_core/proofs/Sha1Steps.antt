@@ -17,13 +17,13 @@ pub window-loaded : (b window : List ℕ) → IsWindow (word_at 32 b) window 16
 window-loaded b window loaded =
     window-same (word_at 32 b) (W b) window 16 loaded (λ k below. sym (W-first b k below))
 
-pub W-next : (b : List ℕ) (t : ℕ) → 16 ≤ t
-    → W b t ≡ scheduled (W b (t - 3)) (W b (t - 8)) (W b (t - 14)) (W b (t - 16))
+pub W-next : (b : List ℕ) (t : ℕ)
+    → W b (t + 16) ≡ scheduled (W b (t + 13)) (W b (t + 8)) (W b (t + 2)) (W b t)
 unfolding W
-W-next b t h =
-    let e : nat_lt t 16 ≡ false = search arith in
-    let before = slice_index-listed (next_word b) t in
-    grind (arith, e, before, listed_at-next (next_word b) t)
+W-next b t =
+    let e : nat_lt (t + 16) 16 ≡ false = search arith in
+    let before = slice_index-listed (next_word b) (t + 16) in
+    grind (arith, e, before, listed_at-next (next_word b) (t + 16))
 
 -- a word and the next, each from the words before it
 pub W-next_two : (b : List ℕ) (t : ℕ) → 16 ≤ t
@@ -31,7 +31,7 @@ pub W-next_two : (b : List ℕ) (t : ℕ) → 16 ≤ t
     × (scheduled (W b (t - 3 + 1)) (W b (t - 8 + 1)) (W b (t - 14 + 1)) (W b (t - 16 + 1))
     ≡ W b (t + 1))
 W-next_two b t h =
-    (sym (W-next b t h), sym (grind (arith, W-next b (t + 1) (omega arith))))
+    (sym (grind (arith, W-next b (t - 16))), sym (grind (arith, W-next b (t - 15))))
 
 pub rounds-next : (h b : List ℕ) (t : ℕ)
     → rounds_from h b (t + 1) ≡ round (rounds_from h b t) t (W b t)

@@ -18,13 +18,28 @@ window-loaded f bits b window same loaded =
     window-same (word_at f.bits b) (W f b) window 16 (rw same at loaded)
     (λ k below. sym (W-first f b k below))
 
-pub W-next : (f : Family) (b : List ℕ) (t : ℕ) → 16 ≤ t
-    → W f b t ≡ scheduled f (W f b (t - 2)) (W f b (t - 7)) (W f b (t - 15)) (W f b (t - 16))
+pub W-next : (f : Family) (b : List ℕ) (t : ℕ) → let w = W f b in
+    w (t + 16) ≡ scheduled f (w (t + 14)) (w (t + 9)) (w (t + 1)) (w t)
 unfolding W
-W-next f b t h =
-    let e : nat_lt t 16 ≡ false = search arith in
-    let before = slice_index-listed (next_word f b) t in
-    grind (arith, e, before, listed_at-next (next_word f b) t)
+W-next f b t =
+    let e : nat_lt (t + 16) 16 ≡ false = search arith in
+    let before = slice_index-listed (next_word f b) (t + 16) in
+    let two : t + 16 - 2 ≡ t + 14 = omega arith in
+    let seven : t + 16 - 7 ≡ t + 9 = omega arith in
+    let fifteen : t + 16 - 15 ≡ t + 1 = omega arith in
+    let sixteen : t + 16 - 16 ≡ t = omega arith in
+    listed_at-next (next_word f b) (t + 16)
+    ∙ rw (
+      e,
+      two,
+      seven,
+      fifteen,
+      sixteen,
+      before (t + 14) (omega arith),
+      before (t + 9) (omega arith),
+      before (t + 1) (omega arith),
+      before t (omega arith),
+    ) refl
 
 -- a word and the next, each from the words before it
 pub W-next_two : (f : Family) (b : List ℕ) (t : ℕ) → 16 ≤ t
@@ -32,7 +47,7 @@ pub W-next_two : (f : Family) (b : List ℕ) (t : ℕ) → 16 ≤ t
     × (scheduled f (W f b (t - 2 + 1)) (W f b (t - 7 + 1)) (W f b (t - 15 + 1))
     (W f b (t - 16 + 1)) ≡ W f b (t + 1))
 W-next_two f b t h =
-    (sym (W-next f b t h), sym (grind (arith, W-next f b (t + 1) (omega arith))))
+    (sym (grind (arith, W-next f b (t - 16))), sym (grind (arith, W-next f b (t - 15))))
 
 pub rounds-next : (f : Family) (h b : List ℕ) (t : ℕ)
     → rounds_from f h b (t + 1)

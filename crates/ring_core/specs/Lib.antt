@@ -11,4 +11,5 @@ pub mod Cost
 pub mod Roots
 pub mod Sha2
 pub mod Sha1
+pub mod FourWords
 pub mod Prelude

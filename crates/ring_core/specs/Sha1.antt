@@ -26,7 +26,7 @@ round_constant t =
 abbrev pub scheduled : ℕ → ℕ → ℕ → ℕ → ℕ
 scheduled w3 w8 w14 w16 = rotl 32 1 (w3 ⊕ w8 ⊕ w14 ⊕ w16)
 
--- the same over the list ws of the words before it
+-- a word over the list ws of the words before it
 abbrev pub scheduled_at : List ℕ → ℕ → ℕ
 scheduled_at ws t =
     let w = slice_index ws in

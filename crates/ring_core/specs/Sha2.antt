@@ -1,7 +1,7 @@
 -- SPDX-License-Identifier: ISC
 -- The block function of SHA-2 over the numbers of a family (FIPS 180-4, 6.2.2 and 6.4.2).
-use Rattle.std.specs.Prelude.{ℕ, zero, suc, ◌-◌, ◌*◌, ◌/◌, ◌%◌, ◌^◌, List, [], ◌∷◌, slice_index}
-use Rattle.std.specs.Prelude.{nat_lt, if◌then◌else◌, map}
+use Rattle.std.specs.Prelude.{◌≡◌, ◌⊎◌, ℕ, zero, suc, ◌-◌, ◌*◌, ◌/◌, ◌%◌, ◌^◌, List, [], ◌∷◌}
+use Rattle.std.specs.Prelude.{slice_index, nat_lt, if◌then◌else◌, map}
 use Rattle.std.specs.declared.num.Wrapping.{Wrapping}
 use Rattle.ring_core.specs.Schedule.{listed_at}
 use Rattle.ring_core.specs.Chunks.{fold_chunks}
@@ -90,6 +90,17 @@ family_512 = record {
   constants = constants_512;
 }
 
+-- the numbers of a type of words are those of a family
+pub record AreNumbersOf (f : Family) (bits rounds : ℕ) (big_0 big_1 small_0 small_1 : ℕ × ℕ × ℕ)
+    : Type 0 where
+  pub which : (f ≡ family_256) ⊎ (f ≡ family_512)
+  pub bits_are : bits ≡ f.bits
+  pub big_0_is : big_0 ≡ f.big_0
+  pub big_1_is : big_1 ≡ f.big_1
+  pub small_0_is : small_0 ≡ f.small_0
+  pub small_1_is : small_1 ≡ f.small_1
+  pub rounds_are : rounds ≡ f.rounds
+
 -- ROTR n_0 x ⊕ ROTR n_1 x ⊕ ROTR n_2 x
 abbrev pub three_rotations : ℕ → ℕ × ℕ × ℕ → ℕ → ℕ
 three_rotations w n x = rotr w n.0 x ⊕ rotr w n.1 x ⊕ rotr w n.2 x
@@ -118,11 +129,7 @@ abbrev pub σ1 : Family → ℕ → ℕ
 abbrev pub scheduled : Family → ℕ → ℕ → ℕ → ℕ → ℕ
 scheduled f w2 w7 w15 w16 = sum_words f.bits (σ1 f w2 ∷ w7 ∷ σ0 f w15 ∷ w16 ∷ [])
 
--- W t without its part σ1 W(t-2) (6.2.2, 6.4.2, step 1)
-abbrev pub older_sum : Family → ℕ → ℕ → ℕ → ℕ
-older_sum f w16 w15 w7 = sum_words f.bits (w16 ∷ σ0 f w15 ∷ w7 ∷ [])
-
--- the same over the list ws of the words before it
+-- a word over the list ws of the words before it
 abbrev pub scheduled_at : Family → List ℕ → ℕ → ℕ
 scheduled_at f ws t =
     let w = slice_index ws in

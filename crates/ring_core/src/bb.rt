@@ -20,6 +20,7 @@ use crate::error::Unspecified;
 /// Compares `a` and `b` as [`verify_slices_are_equal`] does, and counts the compared pairs of bytes
 /// on `meter`: as many as `a` has bytes where the lengths agree, equal or not, and none where the
 /// lengths differ.
+#[tactic(auto, using(crate::proofs::Costs::rises))]
 pub fn verify_slices_are_equal_counted(
     a: &[u8],
     b: &[u8],
@@ -64,6 +65,7 @@ pub fn xor_assign(a: &mut [u8], b: u8)
 
 /// Replaces the bytes at the start of `a` by their exclusive or with those of `b`, up to the end of
 /// the shorter slice.
+#[tactic(auto, using(crate::proofs::Bytes::xors))]
 pub fn xor_assign_at_start(a: &mut [u8], b: &[u8])
     ensures { a.new ≡ xor_lists a.old b.now }
 {

@@ -4,8 +4,8 @@ ghost use Rattle.std.specs.Prelude.{◌≡◌, ℕ, ◌+◌, ◌*◌, ◌/◌, �
 ghost use Rattle.std.specs.Prelude.{length, map, slice_index, take};
 ghost use Rattle.ring_core.specs.Prelude.{IsBlockOf, IsWindow, array_at, word_at};
 
-use crate::digest::word::in_lanes::InLanes;
 use crate::digest::word::lane_word::{LaneWord, Slots, Vector};
+use crate::digest::word::vectors::InLanes;
 use crate::digest::word::{Sha2, Word};
 
 // Each function here is a few instructions of a block function and is always inlined: a slot is

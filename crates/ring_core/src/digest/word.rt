@@ -1,11 +1,9 @@
 // SPDX-License-Identifier: ISC
 //! The words of the block functions and their operations (FIPS 180-4, 3.2 and 4.1), for both sizes.
 
-pub(crate) mod four_words;
-pub mod in_lanes;
 pub mod lane_word;
 mod traits;
-mod vectors;
+pub mod vectors;
 pub(crate) mod w32;
 pub(crate) mod w64;
 

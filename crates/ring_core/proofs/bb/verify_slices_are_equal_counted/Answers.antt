@@ -1,8 +1,8 @@
 -- SPDX-License-Identifier: ISC
-use Rattle.std.proofs.Common.{◌≡◌, ℕ, ◌+◌, List, length, take, slice_index_or, refl, arith}
+use Rattle.std.proofs.Common.{◌≡◌, ℕ, ◌+◌, List, take, slice_index_or, refl, arith}
 use Rattle.std.proofs.lemmas.List.{take-take, get_or-take, take_more_same}
 use Rattle.ring_core.proofs.Bytes.{none_differs}
-use Rattle.ring_core.proofs.Costs.{compared_pairs-none, raised-none, raised-raised}
+use Rattle.ring_core.proofs.Costs.{raised-raised}
 use Rattle.ring_core.proofs.bb.verify_slices_are_equal_counted.Goals as goal
 
 -- longer fronts are equal only where the shorter ones and the next items are
@@ -12,14 +12,6 @@ fronts_before a b i e = (
   cc (take-take i (i + 1) a (omega arith), take-take i (i + 1) b (omega arith)),
   cc (get_or-take (i + 1) a i 0 (omega arith), get_or-take (i + 1) b i 0 (omega arith)),
 )
-
-pub returns-then-a-b-clause-cost : goal.returns-then-a-b-clause-cost
-returns-then-a-b-clause-cost c =
-    rw (compared_pairs-none (length c.args.a.now) (length c.args.b.now) c.if-a-b.true)
-    (raised-none _)
-
-pub pairs-init : goal.pairs-init
-pairs-init c = record { equal = (λ _. refl, λ _. refl); cost = raised-none _ }
 
 pub pairs-preserved : goal.pairs-preserved
 pairs-preserved c =

@@ -12,7 +12,7 @@ use crate::cost::Meter;
 use crate::digest::sha1::Word32;
 use crate::digest::sha1::sha1_four_words::{later_four, load, next_four, put_sums};
 use crate::digest::sha1::sha1_rounds::{add_state, round};
-use crate::digest::word::four_words::FourWords;
+use crate::digest::word::lane_word::FourWords;
 use crate::polyfill::slice::AsChunks;
 use std::simd::u32x4;
 
@@ -137,6 +137,7 @@ fn run_ahead(sums: &mut [u32x4; 4], state: &mut [Word32; 8], words: [u32x4; 4])
 // Runs the block function over each block in order. `sums` is room for sums. Were this inlined,
 // `sums` would be no memory, and each sum would be taken out of its vector.
 #[inline(never)]
+#[tactic(auto, using(crate::proofs::Costs::rises, crate::proofs::ChunkFolds::folds))]
 pub(crate) fn run_blocks(
     sums: &mut [u32x4; 4],
     state: &mut [Word32; 8],

@@ -1,14 +1,14 @@
 // SPDX-License-Identifier: ISC
 //! The schedule of SHA-1 within one block (FIPS 180-4, 6.1.2, step 1), four words at a time, and
 //! the sums of its words and their constants, which the rounds add.
-ghost use Rattle.std.specs.Prelude.{◌≡◌, ℕ, ◌+◌, ◌*◌, ◌<◌, ◌≤◌, List, [], ◌∷◌, length, map};
-ghost use Rattle.std.specs.Prelude.{slice_index};
-ghost use Rattle.ring_core.specs.Prelude.{◌⊕◌, HoldsSums, IsReady, four, low_32, rotl, rotr};
-ghost use Rattle.ring_core.specs.Sha1.{HasWords, W, ready_sum, scheduled};
+ghost use Rattle.std.specs.Prelude.{◌≡◌, ℕ, ◌+◌, ◌*◌, ◌<◌, ◌≤◌, List, length, map};
+ghost use Rattle.ring_core.specs.Prelude.{HoldsSums, IsReady, four, low_32, rotr};
+ghost use Rattle.ring_core.specs.FourWords.{later_four, next_four};
+ghost use Rattle.ring_core.specs.Sha1.{HasWords, W, ready_sum};
 
 use crate::digest::sha1::Word32;
 use crate::digest::sha1::sha1_rounds::round_constant;
-use crate::digest::word::four_words::{FourWords, read_four};
+use crate::digest::word::lane_word::{FourWords, read_four};
 use std::simd::{Simd, u32x4};
 
 // ROTR of each word (3.2, item 4)
@@ -24,13 +24,7 @@ fn rotate_four(words: u32x4, count: u32) -> u32x4
 // The four words after sixteen. The last of them needs the first, which is put in afterwards.
 #[inline(always)]
 pub(crate) fn next_four(first: u32x4, second: u32x4, third: u32x4, fourth: u32x4) -> u32x4
-    ensures { let a = slice_index first in
-        let b = slice_index second in
-        let c = slice_index third in
-        let d = slice_index fourth in
-        let w = scheduled (d 1) (c 0) (a 2) (a 0) in
-        result ≡ w ∷ scheduled (d 2) (c 1) (a 3) (a 1) ∷ scheduled (d 3) (c 2) (b 0) (a 2)
-        ∷ scheduled w (c 3) (b 1) (a 3) ∷ [] }
+    ensures { result ≡ next_four first second third fourth }
 {
     let zero = u32x4::splat(0);
     let three = fourth.shuffle(zero, [1, 2, 3, 4]);
@@ -49,13 +43,7 @@ pub(crate) fn later_four(
     seventh: u32x4,
     eighth: u32x4,
 ) -> u32x4
-    ensures { let a = slice_index first in
-        let b = slice_index second in
-        let e = slice_index fifth in
-        let g = slice_index seventh in
-        let h = slice_index eighth in
-        result ≡ rotl 32 2 (g 2 ⊕ e 0 ⊕ b 0 ⊕ a 0) ∷ rotl 32 2 (g 3 ⊕ e 1 ⊕ b 1 ⊕ a 1)
-        ∷ rotl 32 2 (h 0 ⊕ e 2 ⊕ b 2 ⊕ a 2) ∷ rotl 32 2 (h 1 ⊕ e 3 ⊕ b 3 ⊕ a 3) ∷ [] }
+    ensures { result ≡ later_four first second fifth seventh eighth }
 {
     let six = seventh.shuffle(eighth, [2, 3, 4, 5]);
     rotate_four(six ^ fifth ^ second ^ first, 30)

@@ -78,7 +78,7 @@ pub(crate) fn round<S: ExtendSchedule>(v: [S; 5], t: usize, sum: S) -> [S; 5]
 #[inline(always)]
 pub(crate) fn add_state<S: ExtendSchedule>(state: &[S; 8], v: &[S; 5]) -> [S; 8]
     ensures words { (i : ℕ) → take 5 (map (S.lane i) result)
-        ≡ add_state (map (S.lane i) state.now) (map (S.lane i) v.now) }
+        ≡ add_state (take 5 (map (S.lane i) state.now)) (map (S.lane i) v.now) }
     ensures rest { drop 5 result ≡ drop 5 state.now }
 {
     [

@@ -8,8 +8,8 @@ ghost use Rattle.ring_core.specs.Prelude.{IsWindow, low_32, word_32};
 ghost use Rattle.ring_core.specs.Sha1.{W, scheduled};
 
 use crate::digest::window::{pair, set_pair};
-use crate::digest::word::in_lanes::InLanes;
 use crate::digest::word::lane_word::{LaneWord, Slots, Vector};
+use crate::digest::word::vectors::InLanes;
 use crate::digest::word::w32::{from_lanes, rotate_lanes, to_lanes};
 use std::num::Wrapping;
 use std::simd::u64x2;

@@ -3,9 +3,9 @@
 //! and four words at a time (6.2.2, step 1).
 ghost use Rattle.std.specs.Prelude.{◌≡◌, ℕ, ◌*◌, ◌%◌, ◌^◌, ◌<◌, ◌≤◌, [], ◌∷◌, length, map};
 ghost use Rattle.std.specs.Prelude.{slice_index};
-ghost use Rattle.std.proofs.Common.{inl, refl};
+ghost use Rattle.std.proofs.Common.{rules};
 ghost use Rattle.ring_core.specs.Prelude.{constants_256, family_256, low_32, shr};
-ghost use Rattle.ring_core.specs.Prelude.{two_rotations_and_shift, word_at};
+ghost use Rattle.ring_core.specs.Prelude.{two_rotations_and_shift, word_at, σ1};
 
 use crate::digest::sha2::sha2_schedule::{Before, ExtendByFour, ExtendSchedule, small_sigma};
 use crate::digest::word::w32::{doubled, from_lanes, joined, to_lanes};
@@ -91,19 +91,7 @@ impl Sha2 for Wrapping<u32> {
         Wrapping(read(block, j))
     }
 
-    ghost which = { inl refl };
-
-    ghost bits_are = { refl };
-
-    ghost big_0_is = { refl };
-
-    ghost big_1_is = { refl };
-
-    ghost small_0_is = { refl };
-
-    ghost small_1_is = { refl };
-
-    ghost rounds_are = { refl };
+    ghost numbers = { Prim.search rules };
 }
 
 // σ0 or σ1 of the word in each slot (4.1.2), by its counts, the rotations nested. A shift of both
@@ -141,9 +129,8 @@ impl ExtendSchedule for Wrapping<u32> {
 // σ1 of two words, each given and given back twice: as in slots, one shift rotates both copies.
 #[inline(always)]
 fn small_sigma_1(copies: u32x4) -> u32x4
-    ensures { (a b c d : ℕ) → copies ≡ a ∷ b ∷ c ∷ d ∷ []
-        → let σ = λ (n : ℕ). two_rotations_and_shift 32 (17, 19, 10) (low_32 n) in
-        result ≡ σ a ∷ σ a ∷ σ c ∷ σ c ∷ [] }
+    ensures { let σ = λ (i : ℕ). σ1 family_256 (low_32 (slice_index copies i)) in
+        result ≡ σ 0 ∷ σ 0 ∷ σ 2 ∷ σ 2 ∷ [] }
 {
     doubled(small_sigma_of_slots(joined(copies), Wrapping::<u32>::SMALL_SIGMA_1))
 }

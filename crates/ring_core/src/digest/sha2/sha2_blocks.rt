@@ -11,7 +11,7 @@ use crate::cost::Meter;
 use crate::digest::sha2::sha2_rounds::{add_state, round};
 use crate::digest::sha2::sha2_schedule::{ExtendByFour, load, put_sums};
 use crate::digest::word::Sha2;
-use crate::digest::word::four_words::FourWords;
+use crate::digest::word::lane_word::FourWords;
 use crate::polyfill::slice::AsChunks;
 
 // Each function up to `run_ahead` is always inlined: places are then literals.
@@ -121,6 +121,7 @@ fn run_ahead<S: ExtendByFour>(sums: &mut [S::Four; 4], state: &mut [S; 8], words
 // Runs the block function over each block in order. `sums` is room for sums. Were this inlined,
 // `sums` would be no memory, and each sum would be taken out of its vector.
 #[inline(never)]
+#[tactic(auto, using(crate::proofs::Costs::rises, crate::proofs::ChunkFolds::folds))]
 pub(crate) fn run_blocks<S: ExtendByFour, const N: usize>(
     sums: &mut [S::Four; 4],
     state: &mut [S; 8],

@@ -2,17 +2,15 @@
 //! The schedule of SHA-2 (FIPS 180-4, 6.2.2 and 6.4.2, step 1): two words at a time, also in lanes,
 //! each that of a block of its own; and within one block four at a time, with the sums of its words
 //! and their constants, which the rounds add.
-ghost use Rattle.std.specs.Prelude.{◌≡◌, ℕ, ◌+◌, ◌*◌, ◌/◌, ◌%◌, ◌<◌, ◌≤◌, List, [], ◌∷◌, length};
-ghost use Rattle.std.specs.Prelude.{map, slice_index};
-ghost use Rattle.ring_core.specs.Prelude.{HoldsSums, IsReady, IsWindow, W, add_words, four};
-ghost use Rattle.ring_core.specs.Prelude.{older_sum, ready_sum, scheduled, two_rotations_and_shift};
-ghost use Rattle.ring_core.specs.Prelude.{σ1};
+ghost use Rattle.std.specs.Prelude.{◌≡◌, ℕ, ◌+◌, ◌*◌, ◌/◌, ◌%◌, ◌<◌, ◌≤◌, List, length, map};
+ghost use Rattle.ring_core.specs.Prelude.{HoldsSums, IsReady, IsWindow, W, four, older_four};
+ghost use Rattle.ring_core.specs.Prelude.{ready_sum, scheduled, two_rotations_and_shift};
+ghost use Rattle.ring_core.specs.Prelude.{with_first_two, with_last_two};
 
 use crate::digest::window::{pair, set_pair};
 use crate::digest::word::Sha2;
-use crate::digest::word::four_words::{FourWords, read_four};
-use crate::digest::word::in_lanes::InLanes;
-use crate::digest::word::lane_word::{LaneWord, Slots, Vector};
+use crate::digest::word::lane_word::{FourWords, LaneWord, Slots, Vector, read_four};
+use crate::digest::word::vectors::InLanes;
 
 // The pairs of words that begin 16, 15, 7 and 2 words before the next pair.
 #[derive(Drop)]
@@ -111,28 +109,17 @@ pub(crate) trait ExtendByFour: FourWords {
         third: Self::Four,
         fourth: Self::Four,
     ) -> Self::Four
-        ensures { let w = slice_index (Self.words first) in
-            let w' = slice_index (Self.words third) in
-            let o = older_sum Self.One.family in
-            Self.words result ≡ o (w 0) (w 1) (w' 1) ∷ o (w 1) (w 2) (w' 2)
-            ∷ o (w 2) (w 3) (w' 3)
-            ∷ o (w 3) (slice_index (Self.words second) 0) (slice_index (Self.words fourth) 0)
-            ∷ [] };
+        ensures { Self.words result ≡ older_four Self.One.family
+            (Self.words first) (Self.words second) (Self.words third) (Self.words fourth) };
 
     // The first two words, from what `older` gave and the four words before them.
     fn with_first_two(older: Self::Four, fourth: Self::Four) -> Self::Four
-        ensures { let p = slice_index (Self.words older) in
-            let w = slice_index (Self.words fourth) in
-            let f = Self.One.family in
-            Self.words result ≡ add_words f.bits (p 0) (σ1 f (w 2))
-            ∷ add_words f.bits (p 1) (σ1 f (w 3)) ∷ p 2 ∷ p 3 ∷ [] };
+        ensures { Self.words result
+            ≡ with_first_two Self.One.family (Self.words older) (Self.words fourth) };
 
     // The last two words, from what `with_first_two` gave.
     fn with_last_two(half: Self::Four) -> Self::Four
-        ensures { let p = slice_index (Self.words half) in
-            let f = Self.One.family in
-            Self.words result ≡ p 0 ∷ p 1 ∷ add_words f.bits (p 2) (σ1 f (p 0))
-            ∷ add_words f.bits (p 3) (σ1 f (p 1)) ∷ [] };
+        ensures { Self.words result ≡ with_last_two Self.One.family (Self.words half) };
 }
 
 // Replaces the oldest four sums by those of words `16 * turn + 4 * place` and the next three. They

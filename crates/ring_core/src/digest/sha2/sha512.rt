@@ -2,7 +2,7 @@
 //! SHA-384, SHA-512 and SHA-512/256 over words of 64 bits: their numbers (FIPS 180-4, 4.1.3 and
 //! 4.2.3), and their schedule, two and four words at a time (6.4.2, step 1).
 ghost use Rattle.std.specs.Prelude.{◌≡◌, ℕ, ◌*◌, ◌%◌, ◌^◌, ◌<◌, ◌≤◌, length, map, slice_index};
-ghost use Rattle.std.proofs.Common.{inr, refl};
+ghost use Rattle.std.proofs.Common.{rules};
 ghost use Rattle.ring_core.specs.Prelude.{constants_512, family_512, shr, two_rotations_and_shift};
 ghost use Rattle.ring_core.specs.Prelude.{word_at};
 
@@ -103,19 +103,7 @@ impl Sha2 for Wrapping<u64> {
         Wrapping(read(block, j))
     }
 
-    ghost which = { inr refl };
-
-    ghost bits_are = { refl };
-
-    ghost big_0_is = { refl };
-
-    ghost big_1_is = { refl };
-
-    ghost small_0_is = { refl };
-
-    ghost small_1_is = { refl };
-
-    ghost rounds_are = { refl };
+    ghost numbers = { Prim.search rules };
 }
 
 // σ0 or σ1 of each lane (4.1.3), by its counts. The rotations are nested: two independent rotations

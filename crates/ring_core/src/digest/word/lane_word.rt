@@ -1,9 +1,11 @@
 // SPDX-License-Identifier: ISC
-//! Words of one size side by side, one in each lane: a word alone, or a vector of them; and Ch and
-//! Maj of them (FIPS 180-4, 4.1).
-ghost use Rattle.std.specs.Prelude.{◌≡◌, ◌≢◌, ℕ, ◌^◌, ◌<◌, ◌≤◌, bit_and};
+//! Words of one size side by side, one in each lane: a word alone, or a vector of them; Ch and Maj
+//! of them (FIPS 180-4, 4.1); and four words in a row of one block.
+ghost use Rattle.std.specs.Prelude.{◌≡◌, ◌≢◌, ℕ, ◌*◌, ◌/◌, ◌^◌, ◌<◌, ◌≤◌, List, [], ◌∷◌, bit_and};
+ghost use Rattle.std.specs.Prelude.{length, slice_index};
 ghost use Rattle.std.proofs.Common.{rules};
-ghost use Rattle.ring_core.specs.Prelude.{◌⊕◌, add_words, choose, majority, rotr, shr};
+ghost use Rattle.ring_core.specs.Prelude.{◌⊕◌, add_words, choose, four, majority, rotr, shr};
+ghost use Rattle.ring_core.specs.Prelude.{word_at};
 
 use crate::digest::word::traits::{Sha2, Word};
 use std::num::Wrapping;
@@ -128,6 +130,47 @@ pub(crate) trait Slots: LaneWord {
             ≡ add_words Self.One.bits (Self.lane i x) (slot_lane i s) }
         ensures second { (i : ℕ) → Self.lane i result.1
             ≡ add_words Self.One.bits (Self.lane i y) (slot_lane i t) };
+}
+
+// A word of which four in a row stand in a vector.
+pub(crate) trait FourWords: LaneWord {
+    // four words in a row
+    type Four: Copy;
+
+    // their numbers, in order
+    ghost words: { Self.Four → List ℕ };
+
+    // These four words.
+    fn four(a: Self::One, b: Self::One, c: Self::One, d: Self::One) -> Self::Four
+        ensures { words result ≡ Self.One.value a ∷ Self.One.value b ∷ Self.One.value c
+            ∷ Self.One.value d ∷ [] };
+
+    // Word `i` of the four.
+    fn word(four: &Self::Four, i: usize) -> Self
+        requires { i < 4 }
+        ensures { (lane : ℕ) → Self.lane lane result ≡ slice_index (words four.now) i };
+
+    // Each word of `x` and the word of `y` at its place, added.
+    fn sums(x: Self::Four, y: Self::Four) -> Self::Four
+        ensures { let sum = λ (i : ℕ). add_words Self.One.bits
+            (slice_index (words x) i) (slice_index (words y) i) in
+            words result ≡ sum 0 ∷ sum 1 ∷ sum 2 ∷ sum 3 ∷ [] };
+}
+
+// Words `4 * j` to `4 * j + 3` of a block.
+#[inline(always)]
+pub(crate) fn read_four<S: FourWords>(block: &[u8], j: usize) -> S::Four
+    requires place { j < 4 }
+    requires whole { length block.now ≡ 16 * (S.One.bits / 8) }
+    ensures { S.words result ≡ four (word_at S.One.bits block.now) j }
+{
+    let t = 4 * j;
+    S::four(
+        S::One::read_word(block, t),
+        S::One::read_word(block, t + 1),
+        S::One::read_word(block, t + 2),
+        S::One::read_word(block, t + 3),
+    )
 }
 
 // Ch(x, y, z), in three operations instead of the standard's four

@@ -1,9 +1,9 @@
 // SPDX-License-Identifier: ISC
 //! The traits of words of 32 and of 64 bits (FIPS 180-4, 3.2 and 4.1).
-ghost use Rattle.std.specs.Prelude.{◌≡◌, ℕ, ◌*◌, ◌/◌, ◌^◌, ◌<◌, ◌≤◌, ◌⊎◌, List, length};
+ghost use Rattle.std.specs.Prelude.{◌≡◌, ℕ, ◌*◌, ◌/◌, ◌^◌, ◌<◌, ◌≤◌, List, length};
 ghost use Rattle.std.specs.Prelude.{slice_index, bit_and, bit_or, bit_xor};
-ghost use Rattle.ring_core.specs.Prelude.{◌⊕◌, Family, add_words, big_endian, complement};
-ghost use Rattle.ring_core.specs.Prelude.{family_256, family_512, rotr, shr, word_at};
+ghost use Rattle.ring_core.specs.Prelude.{◌⊕◌, AreNumbersOf, Family, add_words, big_endian};
+ghost use Rattle.ring_core.specs.Prelude.{complement, rotr, shr, word_at};
 
 /// A word of 32 or 64 bits, with the operations of FIPS 180-4, 2.2.2 and 3.2.
 pub trait Word: Copy {
@@ -107,19 +107,7 @@ pub trait Sha2: Word {
         requires whole { length block.now ≡ 16 * (Self.bits / 8) }
         ensures { Self.value result ≡ word_at Self.bits block.now j };
 
-    // it is one of the two families
-    ghost which: { (family ≡ family_256) ⊎ (family ≡ family_512) };
-
-    // each number is that of the family
-    ghost bits_are: { Self.bits ≡ family.bits };
-
-    ghost big_0_is: { BIG_SIGMA_0 ≡ family.big_0 };
-
-    ghost big_1_is: { BIG_SIGMA_1 ≡ family.big_1 };
-
-    ghost small_0_is: { SMALL_SIGMA_0 ≡ family.small_0 };
-
-    ghost small_1_is: { SMALL_SIGMA_1 ≡ family.small_1 };
-
-    ghost rounds_are: { ROUNDS ≡ family.rounds };
+    // each number is that of one of the two families
+    ghost numbers: { AreNumbersOf family Self.bits ROUNDS
+        BIG_SIGMA_0 BIG_SIGMA_1 SMALL_SIGMA_0 SMALL_SIGMA_1 };
 }

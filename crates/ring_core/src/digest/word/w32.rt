@@ -1,11 +1,11 @@
 // SPDX-License-Identifier: ISC
 //! The word of 32 bits, that of SHA-1 and SHA-256 (FIPS 180-4, 3.2).
 ghost use Rattle.std.specs.Prelude.{◌≡◌, ℕ, ◌-◌, ◌+◌, ◌*◌, ◌%◌, ◌^◌, ◌<◌, ◌≤◌, [], ◌∷◌, map};
-ghost use Rattle.std.specs.Prelude.{bit_and, bit_or, bit_xor};
+ghost use Rattle.std.specs.Prelude.{bit_and, bit_or, bit_xor, slice_index};
 ghost use Rattle.std.proofs.Common.{refl, mod-lt, pow_pos};
 ghost use Rattle.ring_core.specs.Prelude.{add_words, low_32, rotr, word_32};
 
-use crate::digest::word::lane_word::Slots;
+use crate::digest::word::lane_word::{FourWords, Slots};
 use crate::digest::word::traits::Word;
 use std::num::Wrapping;
 use std::simd::{Simd, u32x4, u64x2};
@@ -59,8 +59,8 @@ pub(crate) fn doubled(lanes: u64x2) -> u32x4
 // Two lanes as one, the first as its low half.
 #[inline(always)]
 pub(crate) fn joined(lanes: u32x4) -> u64x2
-    ensures { (a b c d : ℕ) → lanes ≡ a ∷ b ∷ c ∷ d ∷ []
-        → result ≡ (b * 2 ^ 32 + a) ∷ (d * 2 ^ 32 + c) ∷ [] }
+    ensures { let x = slice_index lanes in
+        result ≡ (x 1 * 2 ^ 32 + x 0) ∷ (x 3 * 2 ^ 32 + x 2) ∷ [] }
 {
     u64x2::from_le_bytes(lanes.to_le_bytes())
 }
@@ -153,5 +153,26 @@ impl Slots for Wrapping<u32> {
         t: u64,
     ) -> (Wrapping<u32>, Wrapping<u32>) {
         add_slots(x.0, y.0, s, t)
+    }
+}
+
+impl FourWords for Wrapping<u32> {
+    type Four = u32x4;
+
+    ghost words = { λ x. map low_32 x };
+
+    #[inline(always)]
+    fn four(a: Wrapping<u32>, b: Wrapping<u32>, c: Wrapping<u32>, d: Wrapping<u32>) -> u32x4 {
+        Simd::from_array([a.0, b.0, c.0, d.0])
+    }
+
+    #[inline(always)]
+    fn word(four: &u32x4, i: usize) -> Wrapping<u32> {
+        Wrapping(four.as_array()[i])
+    }
+
+    #[inline(always)]
+    fn sums(x: u32x4, y: u32x4) -> u32x4 {
+        x + y
     }
 }

@@ -5,10 +5,10 @@ ghost use Rattle.std.specs.Prelude.{bit_or, bit_xor};
 ghost use Rattle.std.proofs.Common.{refl, mod-lt, pow_pos};
 ghost use Rattle.ring_core.specs.Prelude.{rotr, words_64};
 
-use crate::digest::word::lane_word::Slots;
+use crate::digest::word::lane_word::{FourWords, Slots};
 use crate::digest::word::traits::Word;
 use std::num::Wrapping;
-use std::simd::{Simd, u64x2};
+use std::simd::{Simd, u64x2, u64x4};
 
 // These functions take plain numbers, since a proof knows of these that they fit their type, and
 // not of numbers inside a struct.
@@ -123,5 +123,26 @@ impl Slots for Wrapping<u64> {
         t: Wrapping<u64>,
     ) -> (Wrapping<u64>, Wrapping<u64>) {
         (Word::plus(x, s), Word::plus(y, t))
+    }
+}
+
+impl FourWords for Wrapping<u64> {
+    type Four = u64x4;
+
+    ghost words = { λ x. map (λ n. n % 2 ^ 64) x };
+
+    #[inline(always)]
+    fn four(a: Wrapping<u64>, b: Wrapping<u64>, c: Wrapping<u64>, d: Wrapping<u64>) -> u64x4 {
+        Simd::from_array([a.0, b.0, c.0, d.0])
+    }
+
+    #[inline(always)]
+    fn word(four: &u64x4, i: usize) -> Wrapping<u64> {
+        Wrapping(four.as_array()[i])
+    }
+
+    #[inline(always)]
+    fn sums(x: u64x4, y: u64x4) -> u64x4 {
+        x + y
     }
 }

@@ -102,6 +102,7 @@ impl<'a, T, const N: usize> Iterator for AsChunksIter<'a, T, N> {
 
     ghost remaining = { λ s. at_most (chunks_left s) };
 
+    #[tactic(auto, using(crate::proofs::ChunkFolds::chunks_step))]
     fn next(&mut self) -> Option<&'a [T; N]> {
         if N == 0 {
             return None;

@@ -2,25 +2,21 @@
 use Rattle.std.proofs.Common.{◌≡◌, refl}
 use Rattle.ring_core.specs.Prelude.{four}
 use Rattle.ring_core.specs.Sha1.{W}
-use Rattle.ring_core.proofs.FourWords.{are-sixteen, in_lists, next-sixteen}
 use Rattle.ring_core.proofs.Sha1FourWords.{W-next_four}
 use Rattle.ring_core.proofs.digest.sha1.sha1_blocks.first_turn.Goals as goal
 
 pub returns : goal.returns
 returns c = λ h b before.
-    let w = W b in
-    let words0 = in_lists c.args.words before.schedule.sixteen in
-    let fifth : c.next_four-fifth.result ≡ four w 4 =
-    W-next_four b 0 words0 c.next_four-fifth.ensures in
-    let words1 = next-sixteen 4 refl words0 fifth in
-    let sixth : c.next_four-sixth.result ≡ four w 5 =
-    W-next_four b 1 words1 c.next_four-sixth.ensures in
-    let words2 = next-sixteen 5 refl words1 sixth in
-    let seventh : c.next_four-seventh.result ≡ four w 6 =
-    W-next_four b 2 words2 c.next_four-seventh.ensures in
-    let words3 = next-sixteen 6 refl words2 seventh in
-    let eighth : c.next_four-eighth.result ≡ four w 7 =
-    W-next_four b 3 words3 c.next_four-eighth.ensures in
+    let w = four (W b) in
+    let words = before.schedule.sixteen in
+    let fifth : c.next_four-fifth.result ≡ w 4 =
+    rw (c.next_four-fifth.ensures, words) (W-next_four b 0) in
+    let sixth : c.next_four-sixth.result ≡ w 5 =
+    rw (c.next_four-sixth.ensures, words, fifth) (W-next_four b 1) in
+    let seventh : c.next_four-seventh.result ≡ w 6 =
+    rw (c.next_four-seventh.ensures, words, fifth, sixth) (W-next_four b 2) in
+    let eighth : c.next_four-eighth.result ≡ w 7 =
+    rw (c.next_four-eighth.ensures, words, fifth, sixth, seventh) (W-next_four b 3) in
     let s0 = before.schedule.ready in
     let s1 = c.four_rounds_ahead-v.ensures.sums b 4 refl fifth s0 in
     let s2 = c.four_rounds_ahead-v-2.ensures.sums b 5 refl sixth s1 in
@@ -30,7 +26,7 @@ returns c = λ h b before.
     let r3 = c.four_rounds_ahead-v-3.ensures.rounds h b 6 2 refl refl s2 r2 in
     record {
       schedule = record {
-        sixteen = are-sixteen (next-sixteen 7 refl words3 eighth);
+        sixteen = rw (fifth, sixth, seventh, eighth) refl;
         ready = c.four_rounds_ahead.ensures.sums b 7 refl eighth s3;
       };
       variables = c.four_rounds_ahead.ensures.rounds h b 7 3 refl refl s3 r3;

@@ -1,10 +1,8 @@
 -- SPDX-License-Identifier: ISC
-use Rattle.std.proofs.Common.{◌≡◌, ◌≤◌, length, map, refl, rules, sym, take, arith}
-use Rattle.std.proofs.Math.ListN.{length-map}
+use Rattle.std.proofs.Common.{map, refl, rules, sym, take}
 use Rattle.ring_core.specs.Prelude.{word_32}
-use Rattle.ring_core.specs.Sha1.{add_state, rounds_from}
-use Rattle.ring_core.proofs.Five.{add_state-take, first_five}
-use Rattle.ring_core.proofs.Mapped.{value_read}
+use Rattle.ring_core.specs.Sha1.{rounds_from}
+use Rattle.ring_core.proofs.Mapped.{first_five}
 use Rattle.ring_core.proofs.Sha1Steps.{block_step-rounds}
 use Rattle.ring_core.proofs.digest.sha1.sha1_blocks.run_ahead.Goals as goal
 
@@ -13,18 +11,12 @@ unfolding rounds_from
 returns-clause-words c = λ b fits ready.
     let state = c.args.state.now in
     let h = take 5 (map word_32 state) in
-    let long : length state ≡ 8 = search rules in
-    let enough : 5 ≤ length (map word_32 state) = simp length-map (omega arith) in
     let turn1 = c.first_turn-second.ensures h b (record {
       schedule = ready;
-      variables =
-          rw (first_five (map word_32 state) enough) (simp (value_read word_32 state 8 long) refl);
+      variables = first_five word_32 state (search rules) _ _ _ _ _;
     }) in
     let turn2 = c.later_turn-third.ensures h b 0 refl fits ready.sixteen turn1 in
     let turn3 = c.later_turn-fourth.ensures h b 4 refl fits turn1.schedule.sixteen turn2 in
     let turn4 = c.later_turn.ensures h b 8 refl fits turn2.schedule.sixteen turn3 in
     let done = c.last_turn-last.ensures h b turn4.schedule.ready turn4.variables in
-    let last = rounds_from h b 80 in
-    let first : add_state h last ≡ add_state (map word_32 state) last =
-    add_state-take (map word_32 state) last enough in
-    rw (c.add_state.ensures.words 0, done, ← first) (sym (block_step-rounds h b))
+    rw (c.add_state.ensures.words 0, done) (sym (block_step-rounds h b))

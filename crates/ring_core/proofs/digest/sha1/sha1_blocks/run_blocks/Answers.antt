@@ -1,14 +1,10 @@
 -- SPDX-License-Identifier: ISC
 use Rattle.std.proofs.Common.{map, take, refl, sym, ◌∙◌}
-use Rattle.ring_core.specs.Prelude.{fold_chunks, word_32}
+use Rattle.ring_core.specs.Prelude.{word_32}
 use Rattle.ring_core.specs.Sha1.{block_step}
 use Rattle.ring_core.proofs.ChunkFolds.{fold_chunks-next}
-use Rattle.ring_core.proofs.Costs.{raised-none, raised-raised}
+use Rattle.ring_core.proofs.Costs.{raised-raised}
 use Rattle.ring_core.proofs.digest.sha1.sha1_blocks.run_blocks.Goals as goal
-
-pub each-init : goal.each-init
-unfolding fold_chunks
-each-init c = record { words = refl; rest = refl; cost = raised-none _ }
 
 pub each-preserved : goal.each-preserved
 each-preserved c =

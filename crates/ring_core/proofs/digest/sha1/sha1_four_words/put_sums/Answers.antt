@@ -16,7 +16,7 @@ returns c = λ b n at words ready.
       c.round_constant-2.ensures,
       c.round_constant-3.ensures,
       c.round_constant-4.ensures,
-      low-lanes c.args.words c.fits-words,
+      low-lanes c.args.words c.fits-words.1,
       words,
       at,
     ) refl)

@@ -9,7 +9,7 @@ pub returns : goal.returns
 returns g c = λ i h b n m ready place below near before.
     let at : (c.args.place ≡ m % 4) × (m < n) × (n ≤ m + 4) = (place, below, near) in
     let f = g.S.One.Sha2.family in
-    let bits = g.met.S.One.Sha2.bits_are in
+    let bits = g.met.S.One.Sha2.numbers.bits_are in
     let k = slice_index f.constants in
     let w = W f b in
     let words = g.S.FourWords.words in

@@ -1,7 +1,8 @@
 -- SPDX-License-Identifier: ISC
 use Rattle.std.proofs.Common.{◌≡◌, ◌+◌, ◌*◌, ◌%◌, ◌<◌, ◌≤◌, slice_index, arith, refl}
+use Rattle.std.proofs.Math.Nat.{add_assoc}
 use Rattle.ring_core.specs.Prelude.{W, four, round}
-use Rattle.ring_core.proofs.FourWords.{are-sixteen, in_sixteen, next-sixteen}
+use Rattle.ring_core.proofs.FourWords.{in_sixteen}
 use Rattle.ring_core.proofs.Schedule.{steps-four, sum-read}
 use Rattle.ring_core.proofs.Sha2FourWords.{W-next_four}
 use Rattle.ring_core.proofs.Sha2Steps.{rounds-next}
@@ -10,23 +11,33 @@ use Rattle.ring_core.proofs.digest.sha2.sha2_blocks.four_rounds_ahead.Goals as g
 pub returns : goal.returns
 returns g c = λ i h b n here before.
     let f = g.S.One.Sha2.family in
-    let bits = g.met.S.One.Sha2.bits_are in
+    let bits = g.met.S.One.Sha2.numbers.bits_are in
     let k = slice_index f.constants in
     let w = W f b in
     let words = g.S.FourWords.words in
     let sums = c.args.sums.now in
     let ready = before.schedule.ready in
-    let held = in_sixteen words n c.args.words before.schedule.sixteen c.index-words-0.result
-    c.index-words-1.result c.index-words-2.result c.index-words-3.result in
+    let held = in_sixteen w words n c.args.words before.schedule.sixteen in
+    let first = held 0 c.index-words-0.result (omega arith) in
+    let second = held 1 c.index-words-1.result (omega arith) in
+    let third = held 2 c.index-words-2.result (omega arith) in
+    let fourth = held 3 c.index-words-3.result (omega arith) in
     let next : words c.with_last_two-next.result ≡ four w (n + 4) =
-    W-next_four f b n held c.older-older.ensures c.with_first_two-half.ensures
-    c.with_last_two-next.ensures in
+    rw (
+      c.with_last_two-next.ensures,
+      c.with_first_two-half.ensures,
+      c.older-older.ensures,
+      first,
+      second,
+      third,
+      fourth,
+    ) (W-next_four f b n) in
     let after : n + 4 + 1 ≡ n + 1 + 4 = omega arith in
     let at : (c.args.place ≡ n % 4) × (n < n + 4) × (n + 4 ≤ n + 4) =
     (omega arith, omega arith, omega arith) in
     record {
       schedule = record {
-        sixteen = are-sixteen (next-sixteen (n + 4) refl held next);
+        sixteen = simp add_assoc (rw (second, third, fourth, next) refl);
         ready = rw after at (c.put_sums.ensures b (n + 4) here next ready);
       };
       variables =

@@ -21,7 +21,7 @@ ahead-preserved g c = λ i b n loaded here.
 pub returns : goal.returns
 returns g c = λ i b loaded.
     let f = g.S.One.Sha2.family in
-    let met = g.met.S.One.Sha2 in
+    let met = g.met.S.One.Sha2.numbers in
     let h = map (g.S.LaneWord.lane i) c.args.state.now in
     let whole = rounds-turns f met.which in
     let end : c.ROUNDS-turns.result ≡ f.rounds = c.ROUNDS-turns.ensures ∙ met.rounds_are in

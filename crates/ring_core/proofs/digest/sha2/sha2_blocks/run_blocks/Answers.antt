@@ -1,13 +1,9 @@
 -- SPDX-License-Identifier: ISC
 use Rattle.std.proofs.Common.{map, refl, sym}
-use Rattle.ring_core.specs.Prelude.{block_len, block_step, fold_chunks}
+use Rattle.ring_core.specs.Prelude.{block_len, block_step}
 use Rattle.ring_core.proofs.ChunkFolds.{fold_chunks-next}
-use Rattle.ring_core.proofs.Costs.{raised-none, raised-raised}
+use Rattle.ring_core.proofs.Costs.{raised-raised}
 use Rattle.ring_core.proofs.digest.sha2.sha2_blocks.run_blocks.Goals as goal
-
-pub each-init : goal.each-init
-unfolding fold_chunks
-each-init g c = record { words = λ i. refl; cost = raised-none _ }
 
 pub each-preserved : goal.each-preserved
 each-preserved g c =

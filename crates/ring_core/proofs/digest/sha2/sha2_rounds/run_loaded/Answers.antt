@@ -11,7 +11,7 @@ later-preserved g c = λ i b ready.
 pub returns : goal.returns
 returns g c = λ i b loaded.
     let f = g.S.One.Sha2.family in
-    let met = g.met.S.One.Sha2 in
+    let met = g.met.S.One.Sha2.numbers in
     let window = map (g.S.Slots.slot_lane i) c.args.window.now in
     let ready = window-loaded f g.S.One.Word.bits b window met.bits_are loaded in
     let h = map (g.S.LaneWord.lane i) c.args.state.now in

@@ -10,7 +10,7 @@ returns g c =
     let f = g.S.One.Sha2.family in
     let b = c.args.block.now in
     let n = g.S.One.Word.bits in
-    let bits = g.met.S.One.Sha2.bits_are in
+    let bits = g.met.S.One.Sha2.numbers.bits_are in
     let words = g.S.FourWords.words in
     let first : words c.read_four-first.result ≡ four (W f b) 0 =
     rw c.read_four-first.ensures (four-loaded f n b 0 bits (omega arith)) in

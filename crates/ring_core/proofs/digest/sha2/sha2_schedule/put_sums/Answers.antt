@@ -7,7 +7,7 @@ use Rattle.ring_core.proofs.digest.sha2.sha2_schedule.put_sums.Goals as goal
 pub returns : goal.returns
 returns g c = λ b n at words ready.
     let f = g.S.One.Sha2.family in
-    let met = g.met.S.One.Sha2 in
+    let met = g.met.S.One.Sha2.numbers in
     let e : 16 * c.args.turn + 4 * c.args.place ≡ 4 * n = omega arith in
     sums-set g.S.FourWords.words (ready_sum f b) c.args.sums.now c.args.place c.sums.result ready
     (omega arith)

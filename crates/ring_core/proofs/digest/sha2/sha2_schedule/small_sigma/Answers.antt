@@ -1,11 +1,10 @@
 -- SPDX-License-Identifier: ISC
 use Rattle.std.proofs.Common.{arith}
-use Rattle.ring_core.proofs.Rotation.{rotr-two}
+use Rattle.ring_core.proofs.Rotation.{rotr-inside}
 use Rattle.ring_core.proofs.digest.sha2.sha2_schedule.small_sigma.Goals as goal
 
 pub returns : goal.returns
 returns g c = λ i.
     let n = c.args.counts in
-    let x = g.S.LaneWord.lane i c.args.words in
     let fits = g.met.S.LaneWord.fits i c.args.words in
-    grind (arith, rotr-two g.S.One.Word.bits n.0 n.1 x (omega arith) (omega arith) fits)
+    grind (arith, rotr-inside g.S.One.Word.bits n.0 n.1 (omega arith) (omega arith) fits fits)

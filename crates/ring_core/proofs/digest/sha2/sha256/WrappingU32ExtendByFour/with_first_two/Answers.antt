@@ -1,20 +1,16 @@
 -- SPDX-License-Identifier: ISC
-use Rattle.std.proofs.Common.{◌^◌, ℕ, List, [], ◌∷◌, ◌++◌, ap}
-use Rattle.std.proofs.Math.ListN.{get_or}
-use Rattle.ring_core.specs.Prelude.{low_32, two_rotations_and_shift}
-use Rattle.ring_core.proofs.FourWords.{four_lanes, sum_of_none, sum_of_whole}
-use Rattle.ring_core.proofs.digest.sha2.sha256 as four
-use four.WrappingU32ExtendByFour.with_first_two.Goals as goal
+use Rattle.std.proofs.Common.{◌^◌, ℕ, [], ◌∷◌, slice_index}
+use Rattle.std.proofs.Math.Nat.{add-mod-mod}
+use Rattle.ring_core.specs.Prelude.{family_256, low_32, with_first_two}
+use Rattle.ring_core.proofs.FourWords.{four_read, plus-none, plus-words}
+use Rattle.ring_core.proofs.digest.sha2.sha256.WrappingU32ExtendByFour.with_first_two.Goals as goal
 
 pub returns : goal.returns
 returns c =
-    let p = four_lanes c.args.older c.fits-older in
-    let n = four_lanes c.args.fourth c.fits-fourth in
-    let σ = λ (x : ℕ). two_rotations_and_shift 32 (17, 19, 10) (low_32 x) in
-    let pick = λ (l : List ℕ). get_or (l ++ l) 2 0 ∷ get_or (l ++ l) 2 0 ∷ get_or (l ++ l) 3 0
-    ∷ get_or (l ++ l) 3 0 ∷ [] in
-    let s = c.small_sigma_1-sigma.ensures n.third n.third n.fourth n.fourth (ap pick n.are) in
-    let sum = sum_of_whole (2 ^ 32) in
-    let same = sum_of_none (2 ^ 32) in
-    rw (n.are, p.are, s) (λ i. sum p.first (σ n.third) i ∷ sum p.second (σ n.fourth) i
-    ∷ same p.third i ∷ same p.fourth i ∷ [])
+    let older = four_read c.args.older c.fits-older.0 in
+    let fourth = four_read c.args.fourth c.fits-fourth.0 in
+    let p = λ (i : ℕ). low_32 (slice_index c.args.older i) in
+    let w = λ (i : ℕ). low_32 (slice_index c.args.fourth i) in
+    rw (plus-words (2 ^ 32), c.small_sigma_1-sigma.ensures, fourth, older)
+    (simp (add-mod-mod, plus-none) (λ _. with_first_two family_256
+    (p 0 ∷ p 1 ∷ p 2 ∷ p 3 ∷ []) (w 0 ∷ w 1 ∷ w 2 ∷ w 3 ∷ [])))

@@ -2,9 +2,8 @@
 use Rattle.std.proofs.Common.{◌∙◌, ap, map}
 use Rattle.ring_core.specs.Prelude.{low_32}
 use Rattle.ring_core.proofs.Halves.{sums_low}
-use Rattle.ring_core.proofs.Lanes.{same_two}
-use Rattle.ring_core.proofs.digest.sha2.sha256 as schedule
-use schedule.WrappingU32ExtendSchedule.next_two.Goals as goal
+use Rattle.ring_core.proofs.Mapped.{same_two}
+use Rattle.ring_core.proofs.digest.sha2.sha256.WrappingU32ExtendSchedule.next_two.Goals as goal
 
 pub returns : goal.returns
 returns c =

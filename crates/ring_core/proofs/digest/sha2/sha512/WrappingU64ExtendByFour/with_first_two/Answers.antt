@@ -1,19 +1,17 @@
 -- SPDX-License-Identifier: ISC
-use Rattle.std.proofs.Common.{◌≡◌, ◌%◌, ◌^◌, ℕ, [], ◌∷◌, rules}
-use Rattle.ring_core.specs.Prelude.{family_512, σ1}
-use Rattle.ring_core.proofs.FourWords.{four_lanes, sum_of_known, sum_of_none, two_numbers}
-use Rattle.ring_core.proofs.digest.sha2.sha512 as four
-use four.WrappingU64ExtendByFour.with_first_two.Goals as goal
+use Rattle.std.proofs.Common.{ℕ, ◌^◌, rules, slice_index}
+use Rattle.ring_core.specs.Prelude.{lane}
+use Rattle.ring_core.proofs.FourWords.{four_read, plus-none, plus-words}
+use Rattle.ring_core.proofs.Mapped.{two_read}
+use Rattle.ring_core.proofs.digest.sha2.sha512.WrappingU64ExtendByFour.with_first_two.Goals as goal
 
 pub returns : goal.returns
+unfolding lane
 returns c =
-    let s = two_numbers c.small_sigma.result (search rules) in
-    let p = four_lanes c.args.older c.fits-older in
-    let n = four_lanes c.args.fourth c.fits-fourth in
-    let sigma = λ (n : ℕ). σ1 family_512 (n % 2 ^ 64) in
-    let s1 : s.first % 2 ^ 64 ≡ sigma n.third = rw (s.are, n.are) at (c.small_sigma.ensures 0) in
-    let s2 : s.second % 2 ^ 64 ≡ sigma n.fourth = rw (s.are, n.are) at (c.small_sigma.ensures 1) in
-    let same = sum_of_none (2 ^ 64) in
-    rw (s.are, n.are, p.are) (λ i. sum_of_known (2 ^ 64) p.first s.first s1 i
-    ∷ sum_of_known (2 ^ 64) p.second s.second s2 i
-    ∷ same p.third i ∷ same p.fourth i ∷ [])
+    let sigma = two_read c.small_sigma.result (search rules) in
+    let older = four_read c.args.older c.fits-older.0 in
+    let fourth = four_read c.args.fourth c.fits-fourth.0 in
+    let are = rw (sigma, fourth) at c.small_sigma.ensures in
+    let none = λ (i : ℕ). plus-none (2 ^ 64) (slice_index c.args.older i) in
+    rw (plus-words (2 ^ 64), sigma, fourth, older)
+    (cc (are 0, are 1, none 2, none 3))

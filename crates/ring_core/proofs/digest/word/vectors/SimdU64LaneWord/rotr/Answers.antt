@@ -1,16 +1,7 @@
 -- SPDX-License-Identifier: ISC
-use Rattle.std.proofs.Common.{◌-◌, ◌%◌, arith, w64}
-use Rattle.std.proofs.lemmas.Simd.{shifts_fit_splat}
+use Rattle.std.proofs.Common.{arith, ◌%◌, w64}
 use Rattle.ring_core.proofs.Vectors.{at_rotr}
 use Rattle.ring_core.proofs.digest.word.vectors.SimdU64LaneWord.rotr.Goals as goal
-
-pub overflow_shr-result : goal.overflow_shr-result
-overflow_shr-result g c =
-    shifts_fit_splat 64 c.args.self g.row.L c.args.count c.requires.below
-
-pub overflow_shl-result : goal.overflow_shl-result
-overflow_shl-result g c =
-    shifts_fit_splat 64 c.args.self g.row.L (64 - c.args.count) (omega arith)
 
 pub returns : goal.returns
 returns g c = λ i.

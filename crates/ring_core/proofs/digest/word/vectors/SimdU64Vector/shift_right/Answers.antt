@@ -1,11 +1,7 @@
 -- SPDX-License-Identifier: ISC
 use Rattle.std.proofs.Common.{◌%◌, w64}
-use Rattle.std.proofs.lemmas.Simd.{shifts_fit_splat}
 use Rattle.ring_core.proofs.Vectors.{at_shr}
 use Rattle.ring_core.proofs.digest.word.vectors.SimdU64Vector.shift_right.Goals as goal
-
-pub overflow_shr-result : goal.overflow_shr-result
-overflow_shr-result g c = shifts_fit_splat 64 c.args.self g.row.L c.args.count c.requires
 
 pub returns : goal.returns
 returns g c = λ i. at_shr w64 g.row.L c.args.count c.args.self c.fits-self (i % g.row.L)

@@ -1,11 +1,12 @@
 -- SPDX-License-Identifier: ISC
 -- Lists of messages and of their digests.
 use Rattle.std.proofs.lemmas.Grind.{common_steps}
-use Rattle.std.proofs.Common.{◌≡◌, ℕ, ◌+◌, ◌<◌, ◌≤◌, List, [], ◌∷◌, ◌++◌, length, take, drop}
-use Rattle.std.proofs.Common.{get_or, map, ap, ◌∙◌, arith}
+use Rattle.std.proofs.Common.{◌≡◌, ℕ, ◌+◌, ◌-◌, ◌*◌, ◌<◌, ◌≤◌, List, [], ◌∷◌, ◌++◌, length}
+use Rattle.std.proofs.Common.{take, drop, get_or, map, slice_set, ap, ◌∙◌, arith}
 use Rattle.std.proofs.Math.ListN.{get_or-map}
 use Rattle.std.proofs.Math.Seq.{take-add}
-use Rattle.std.proofs.lemmas.List.{drop_more, length-take-le, map-append}
+use Rattle.std.proofs.lemmas.List.{drop_more, get_or-set_other, get_or-set_same, length-take-le}
+use Rattle.std.proofs.lemmas.List.{map-append}
 use Rattle.std.proofs.lemmas.List.Sums.{sum_by-append}
 use Rattle.std.specs.Borrow.{Bor}
 use Rattle.ring.specs.Prelude.{Algorithm, AreDigests, CanDigestEach, Counts, Digest, IsDigest}
@@ -18,12 +19,34 @@ pub message-read : (messages : List (Bor (List ℕ))) (k : ℕ)
 message-read messages k =
     get_or-map (λ message. message.now) messages k record { ref_ptr = (0, 0); now = [] }
 
+-- what holds of the first items of a list, and of one that is put to the next place
+pub set-more : {X : Type 0} {i : ℕ} (P : ℕ → X → Type 0) (xs : List X) (x d : X) → i < length xs
+    → ((k : ℕ) → k < i → P k (get_or xs k d)) → P i x
+    → (k : ℕ) → k < i + 1 → P k (get_or (slice_set xs i x) k d)
+set-more {i = i} P xs x d room have here =
+    grind (arith, common_steps, get_or-set_other, get_or-set_same)
+
 -- what a rise and then another make
 pub raised-then : (m0 : Counts) {m1 m2 : Counts} (a b : ℕ) → m1 ≡ raised m0 a 0 → m2 ≡ raised m1 b 0
     → m2 ≡ raised m0 (a + b) 0
 raised-then m0 a b e1 e2 = e2 ∙ rw e1 (raised-raised m0 a 0 b 0)
 
-message_at-append : (ms ns : List (Bor (List ℕ))) (k : ℕ)
+-- where they are c together
+pub raised-sum : (m0 : Counts) {m1 m2 : Counts} (a b c : ℕ) → m1 ≡ raised m0 a 0
+    → m2 ≡ raised m1 b 0 → a + b ≡ c → m2 ≡ raised m0 c 0
+raised-sum m0 a b c e1 e2 sum =
+    raised-then m0 a b e1 e2 ∙ ap (λ (z : ℕ). raised m0 z 0) sum
+
+-- of n messages whose first k blocks ran in lanes, one more is done: `made` became `next`
+pub raised-lane : (m0 : Counts) {m1 m2 : Counts} (made b next n i k : ℕ)
+    → m1 ≡ raised m0 (made + (n - i) * k) 0 → m2 ≡ raised m1 (b - k) 0 → i < n → k ≤ b
+    → made + b ≡ next → m2 ≡ raised m0 (next + (n - (i + 1)) * k) 0
+raised-lane m0 made b next n i k e1 e2 below fits sum =
+    let turn : n - i ≡ n - (i + 1) + 1 = omega arith in
+    let left : (n - i) * k ≡ (n - (i + 1)) * k + k = rw turn (grind arith) in
+    raised-sum m0 (made + (n - i) * k) (b - k) _ e1 e2 (omega (arith, left, fits, sum))
+
+pub message_at-append : (ms ns : List (Bor (List ℕ))) (k : ℕ)
     → message_at (ms ++ ns) k ≡ get_or (map (λ m. m.now) ms ++ map (λ n. n.now) ns) k []
 message_at-append ms ns k = ap (λ (xs : List (List ℕ)). get_or xs k []) (map-append _ ms ns)
 
@@ -67,8 +90,8 @@ pub digests-next : {a : Algorithm} {messages : List (Bor (List ℕ))} {before no
 digests-next {a} {messages} {before} n k have put are cost =
     record {
       digests = digests-more a messages n k have.digests put are;
-      cost = raised-then before (each_blocks a (take n messages)) _ have.cost cost
-          ∙ ap (λ (z : ℕ). raised before z 0) (each_blocks-more a messages n k);
+      cost = raised-sum before (each_blocks a (take n messages)) _ _ have.cost cost
+          (each_blocks-more a messages n k);
     }
 
 -- the message at a place of some of the messages

@@ -1,16 +1,12 @@
 -- SPDX-License-Identifier: ISC
 -- Messages of a digest's length in lanes, signed by one block after each masked block of the key.
 use Rattle.std.proofs.lemmas.Grind.{common_steps}
-use Rattle.std.proofs.Common.{◌≡◌, ℕ, ◌*◌, ◌/◌, ◌≤◌, List, ◌++◌, length, take, drop, sym, ap, ◌∙◌}
+use Rattle.std.proofs.Common.{◌≡◌, ℕ, ◌*◌, ◌/◌, ◌≤◌, List, ◌++◌, length, take, drop, ap, ◌∙◌}
 use Rattle.std.proofs.Common.{arith, length-take-le, take_all, zero-mul}
-use Rattle.std.proofs.lemmas.List.{take-append-drop, take-append-le}
-use Rattle.std.proofs.lemmas.List.Concat.{flat_map-append}
 use Rattle.std.proofs.Math.Nat.{div_self, mod_self}
-use Rattle.std.specs.Int.{bytes_high_first}
-use Rattle.ring_core.specs.Prelude.{fold_chunks}
 use Rattle.ring.specs.Prelude.{Algorithm, Counts, DynState, IsKeyInLane, IsWhole, Key, KeyStandsFor}
 use Rattle.ring.specs.Prelude.{block_function, block_len, blocks_from, digest_bytes, digest_of}
-use Rattle.ring.specs.Prelude.{hmac_of, inner_block, key_algorithm, outer_block, output_len, padded}
+use Rattle.ring.specs.Prelude.{hmac_of, key_algorithm, output_len, padded}
 use Rattle.ring.specs.Prelude.{prepared_padding, raised, word_bytes, word_count, word_len, words}
 use Rattle.ring.specs.Prelude.{words_after}
 use Rattle.ring_core.proofs.ChunkFolds.{fold_chunks-next, fold_chunks-none}
@@ -19,7 +15,10 @@ use Rattle.ring.proofs.lemmas.digest.Blocks.{words_after-append}
 use Rattle.ring.proofs.lemmas.hmac.Keys.{length-inner_block, length-outer_block, one_block}
 use Rattle.ring.proofs.Lengths.{length-words_after}
 use Rattle.ring.proofs.lemmas.digest.Outputs.{length-bytes_high_first, length-word_bytes}
-use Rattle.ring.proofs.Rows.{block_len-positive, eight_words, output_below, output_len-most}
+use Rattle.ring.proofs.Rows.{block_len-positive, eight_words, output_below}
+use Rattle.ring.proofs.lemmas.digest.Finishing.{front-word_bytes}
+use Rattle.std.proofs.lemmas.List.{append-nil}
+use Rattle.std.proofs.Common.{[]}
 use Rattle.ring.proofs.lemmas.digest.Tails.{padded-append}
 
 -- two rises by b blocks each
@@ -45,11 +44,10 @@ pub one_chained : (a : Algorithm) (h x : List ℕ) → length x ≡ block_len a
     → blocks_from a h x ≡ block_function a h x
 one_chained a h x lx =
     let b : ℕ = block_len a in
-    let step : List ℕ → List ℕ → List ℕ = block_function a in
+    let step = block_function a in
     let one : length x / b ≡ 1 = rw lx (div_self (block_len-positive a)) in
     let front : take b (drop (0 * b) x) ≡ x = rw (zero-mul b) (take_all b x (omega (arith, lx))) in
-    ap (fold_chunks step b h x) one ∙ fold_chunks-next step b h x 0
-    ∙ ap (λ z. step z (take b (drop (0 * b) x))) (fold_chunks-none step b h x) ∙ ap (step h) front
+    cc (one, front, fold_chunks-next step b h x 0, fold_chunks-none step b h x)
 
 -- the words after that block write the digest
 block-digest : (a : Algorithm) (p m ws : List ℕ) → length p ≡ block_len a
@@ -58,27 +56,18 @@ block-digest : (a : Algorithm) (p m ws : List ℕ) → length p ≡ block_len a
     → digest_bytes a ws ≡ digest_of a (p ++ m)
 unfolding digest_of
 block-digest a p m ws lp lm ew =
-    let n : ℕ = word_len a in
-    let wc : ℕ = word_count a in
     let x : List ℕ = m ++ prepared_padding a in
     let lx : length x ≡ block_len a = length-padded a m lm in
-    let hp : IsWhole a p = rw lp (mod_self (block_len a)) in
-    let hx : IsWhole a x = rw lx (mod_self (block_len a)) in
-    let ends : take wc ws ≡ words_after a (padded a (p ++ m)) =
-    ew ∙ sym (one_chained a (words_after a p) x lx) ∙ sym (words_after-append a p x hp hx)
-    ∙ ap (words_after a) (padded-message a p m lp lm) in
-    let front : List ℕ = word_bytes n (take wc ws) in
-    let spare : List ℕ = word_bytes n (drop wc ws) in
-    let count : length (take wc ws) ≡ wc =
-    ap length ends ∙ length-words_after a (padded a (p ++ m)) in
-    let long : length front ≡ n * wc =
-    length-word_bytes n (take wc ws) ∙ ap (λ (z : ℕ). n * z) count in
-    let room : output_len a ≤ length front = omega (arith, long, output_len-most a) in
-    let parts : word_bytes n ws ≡ front ++ spare =
-    ap (word_bytes n) (sym (take-append-drop wc ws))
-    ∙ flat_map-append (bytes_high_first n) (take wc ws) (drop wc ws) in
-    ap (take (output_len a)) parts ∙ take-append-le (output_len a) front spare room
-    ∙ ap (λ z. take (output_len a) (word_bytes n z)) ends
+    let whole : IsWhole a p = rw lp (mod_self (block_len a)) in
+    let ends : take (word_count a) ws ≡ words_after a (padded a (p ++ m)) =
+    cc (
+      ew,
+      one_chained a (words_after a p) x lx,
+      words_after-append a p x whole,
+      padded-message a p m lp lm,
+    ) in
+    let count = ap length ends ∙ length-words_after a (padded a (p ++ m)) in
+    cc (ends, front-word_bytes a ws [] count, append-nil (word_bytes (word_len a) ws))
 
 -- a digest has its length
 length-digest_bytes : (a : Algorithm) (ws : List ℕ) → output_len a ≤ word_len a * length ws
@@ -101,20 +90,15 @@ pub signed-tag : {a : Algorithm} {inner outer old middle new : List ℕ} (k : Li
     → digest_bytes a new ≡ hmac_of a k (digest_bytes a old)
 unfolding hmac_of
 signed-tag {a} {inner} {outer} {old} {middle} {new} k t stands =
-    let fits : output_len a ≤ word_len a * 8 = eight_words a in
-    let len : length (digest_bytes a old) ≡ output_len a =
-    length-digest_bytes a old (rw t.eight fits) in
-    let len_middle : length (digest_bytes a middle) ≡ output_len a =
-    length-digest_bytes a middle (rw t.eight_middle fits) in
-    let inside = block-digest a (inner_block a k) (digest_bytes a old) middle
-    (length-inner_block a k) len
-    (t.inside
-    ∙ ap (λ h. block_function a h (digest_bytes a old ++ prepared_padding a)) stands.inside) in
-    let outside = block-digest a (outer_block a k) (digest_bytes a middle) new
-    (length-outer_block a k) len_middle
-    (t.outside
-    ∙ ap (λ h. block_function a h (digest_bytes a middle ++ prepared_padding a)) stands.outside) in
-    outside ∙ ap (λ z. digest_of a (outer_block a k ++ z)) inside
+    grind (
+      arith,
+      common_steps,
+      block-digest,
+      eight_words,
+      length-digest_bytes,
+      length-inner_block,
+      length-outer_block,
+    )
 
 -- what a key stands for is so in the words of its states
 pub key_in_lane : (key : Key) {s t : DynState} (p : List ℕ) → key.inner.state ≡ s

@@ -1,8 +1,7 @@
 -- SPDX-License-Identifier: ISC
 -- The length of a digest, and costs of whole messages.
 use Rattle.std.proofs.lemmas.Grind.{common_steps}
-use Rattle.std.proofs.Common.{◌≡◌, ℕ, ◌+◌, ◌/◌, ◌%◌, inl, inr, List, length, refl, sym, ap, ◌∙◌}
-use Rattle.std.proofs.Common.{arith}
+use Rattle.std.proofs.Common.{◌≡◌, ℕ, ◌+◌, ◌/◌, ◌%◌, List, length, refl, arith}
 use Rattle.ring_core.specs.Sha1 as sha1
 use Rattle.ring_core.specs.Sha2 as sha2
 use Rattle.ring.specs.Prelude.{Algorithm, AlgorithmId, Counts, Sha1, Sha256, Sha384, Sha512}
@@ -65,11 +64,7 @@ pub record HasCounted (a : Algorithm) (q n : ℕ) (before now : Counts) : Type 0
 
 -- no byte makes no block, and leaves none pending
 pub counted_none : (a : Algorithm) {q : ℕ} {m : Counts} → q ≡ 0 → HasCounted a q 0 m m
-counted_none a {m = m} e =
-    record { pending = e ∙ sym (none a).1; cost = rw (none a).0 (raised-none m) }
-  where
-    none : (a : Algorithm) → (whole_blocks a 0 ≡ 0) × (0 % block_len a ≡ 0)
-    none a = elim (sizes_of a) [ inl e ↦ rw e.0 (refl, refl) | inr e ↦ rw e.0 (refl, refl) ]
+counted_none a {m = m} e = grind (arith, common_steps, sizes_of, raised-none m)
 
 -- a context of the algorithm a, which it tells as b, before and after it takes in more bytes
 module _ {a b : Algorithm} {q n : ℕ} {m0 m1 m2 : Counts} where
@@ -77,36 +72,18 @@ module _ {a b : Algorithm} {q n : ℕ} {m0 m1 m2 : Counts} where
   pub counted_more : {p : ℕ} (d : ℕ) → b ≡ a → HasCounted a p n m0 m1 → q ≡ (p + d) % block_len b
       → m2 ≡ raised m1 (whole_blocks b (p + d)) 0 → HasCounted a q (n + d) m0 m2
   counted_more d eb t eq em =
-      let cost : m2 ≡ raised m1 (whole_blocks a (n % block_len a + d)) 0 =
-      rw (eb, t.pending) at em in
-      record {
-        pending = (rw (eb, t.pending) at eq) ∙ left a;
-        cost = cost ∙ rw t.cost (raised-raised m0 _ 0 _ 0) ∙ ap (λ (z : ℕ). raised m0 z 0) (sum a);
-      }
-    where
-      left : (a : Algorithm) → (n % block_len a + d) % block_len a ≡ (n + d) % block_len a
-      left a = elim (sizes_of a) [ inl e ↦ rw e.0 (omega arith) | inr e ↦ rw e.0 (omega arith) ]
-
-      sum : (a : Algorithm)
-          → whole_blocks a n + whole_blocks a (n % block_len a + d) ≡ whole_blocks a (n + d)
-      sum a = elim (sizes_of a) [ inl e ↦ rw e.0 (omega arith) | inr e ↦ rw e.0 (omega arith) ]
+      grind (arith, common_steps, sizes_of a, t.pending, t.cost, raised-raised)
 
   -- the end of the message, and x blocks more
   counted_end_and : (x : ℕ) → b ≡ a → HasCounted a q n m0 m1
       → m2 ≡ raised m1 (padded_blocks b q + x) 0 → m2 ≡ raised m0 (padded_blocks a n + x) 0
   counted_end_and x eb t em =
-      let cost : m2 ≡ raised m1 (last_blocks a n + x) 0 = rw (eb, t.pending, end_last a n) at em in
-      let sum : whole_blocks a n + (last_blocks a n + x) ≡ padded_blocks a n + x =
-      omega (arith, whole_last a n) in
-      cost ∙ rw t.cost (raised-raised m0 _ 0 _ 0) ∙ ap (λ (z : ℕ). raised m0 z 0) sum
+      grind (arith, common_steps, end_last a n, whole_last a n, t.pending, t.cost, raised-raised)
 
   -- the end of a digest's message
   pub counted_end : b ≡ a → HasCounted a q n m0 m1 → m2 ≡ raised m1 (padded_blocks b q) 0
       → m2 ≡ raised m0 (padded_blocks a n) 0
-  counted_end eb t em =
-      let bare : (z : ℕ) → z + 0 ≡ z = λ (z : ℕ). omega arith in
-      let end = counted_end_and 0 eb t (rw bare em) in
-      rw bare at end
+  counted_end eb t em = grind (arith, common_steps, counted_end_and 0 eb t)
 
   -- the end of a tag's message, and the block of the digest outside
   pub counted_tag : b ≡ a → HasCounted a q n m0 m1 → m2 ≡ raised m1 (padded_blocks b q + 1) 0

@@ -1,12 +1,11 @@
 -- SPDX-License-Identifier: ISC
 -- Numbered blocks of one length, one after another, and their fronts.
 use Rattle.std.proofs.lemmas.Grind.{common_steps}
-use Rattle.std.proofs.Common.{◌≡◌, ℕ, List, [], ◌++◌, ◌+◌, ◌*◌, ◌≤◌, ◌<◌, ◌↔◌, length}
-use Rattle.std.proofs.Common.{take, drop, suc, zero, refl, sym, ap, ◌∙◌, arith, length-append}
-use Rattle.std.proofs.Common.{length-take-le, mul-le-mul_right, suc-mul, append-nil, append_assoc}
-use Rattle.std.proofs.Common.{add-one, slice_index_or}
+use Rattle.std.proofs.Common.{◌≡◌, ℕ, List, [], ◌++◌, ◌+◌, ◌*◌, ◌≤◌, ◌<◌, ◌↔◌, length, take, drop}
+use Rattle.std.proofs.Common.{suc, zero, refl, sym, ap, ◌∙◌, arith, length-append, length-take-le}
+use Rattle.std.proofs.Common.{mul-le-mul_right, suc-mul, append_assoc, slice_index_or}
 use Rattle.std.specs.Borrow.{Bor}
-use Rattle.std.proofs.lemmas.List.{take_more, take-append-le}
+use Rattle.std.proofs.lemmas.List.{take_more}
 use Rattle.std.proofs.Math.Seq.{drop-append_seam, take-add, take-append-add, take-append_seam}
 use Rattle.ring.specs.Prelude.{joined, joined_blocks}
 
@@ -29,9 +28,7 @@ joined_blocks-next f r = refl
 pub joined_blocks-append : (f : ℕ → List ℕ) (r k : ℕ)
     → joined_blocks f (r + k) ≡ joined_blocks f r ++ joined_blocks (λ i. f (r + i)) k
 unfolding joined_blocks
-joined_blocks-append f r zero =
-    let e : r + 0 ≡ r = omega arith in
-    rw (e, append-nil) refl
+joined_blocks-append f r zero = grind (arith, common_steps)
 joined_blocks-append f r (suc k) =
     let e : r + suc k ≡ suc (r + k) = omega arith in
     rw (e, joined_blocks-append f r k)
@@ -45,8 +42,8 @@ module _ {f : ℕ → List ℕ} {L : ℕ} where
   pub length-joined_blocks : IsEven f L → (r : ℕ) → length (joined_blocks f r) ≡ r * L
   length-joined_blocks even zero = rw (joined_blocks-none f) (grind arith)
   length-joined_blocks even (suc r) =
-      let sum = length-append (joined_blocks f r) (f (suc r)) in
-      rw (joined_blocks-next f r) (grind (arith, sum, length-joined_blocks even r, even.each r))
+      rw (joined_blocks-next f r)
+      (grind (arith, common_steps, length-joined_blocks even r, even.each r))
 
   -- a front of the first r blocks is one of d blocks more
   joined_blocks-front : IsEven f L → (r d R n : ℕ) → R ≡ d + r → n ≤ r * L
@@ -54,12 +51,10 @@ module _ {f : ℕ → List ℕ} {L : ℕ} where
   joined_blocks-front even r zero R n e fits = let same : R ≡ r = omega arith in rw same refl
   joined_blocks-front even r (suc d) R n e fits =
       let more : R ≡ suc (d + r) = omega arith in
-      let le : r ≤ d + r = omega arith in
-      let wide : r * L ≤ (d + r) * L = mul-le-mul_right L le in
-      let before : List ℕ = joined_blocks f (d + r) in
-      let room : n ≤ length before = rw (length-joined_blocks even (d + r)) (omega arith) in
-      rw (more, joined_blocks-next f (d + r), take-append-le n before (f (suc (d + r))) room)
-      (joined_blocks-front even r d (d + r) n refl fits)
+      let wide : r * L ≤ (d + r) * L = mul-le-mul_right L (omega arith) in
+      let front = joined_blocks-front even r d (d + r) n refl fits in
+      rw (more, joined_blocks-next f (d + r))
+      (grind (arith, common_steps, length-joined_blocks even (d + r)))
 
   -- fronts of enough blocks agree
   pub joined_blocks-agree : IsEven f L → (r s n : ℕ) → n ≤ r * L → n ≤ s * L
@@ -73,17 +68,16 @@ module _ {f : ℕ → List ℕ} {L : ℕ} where
       → take (w + n) (joined_blocks f R) ≡ joined_blocks f r ++ take n (f (suc r))
   joined_blocks-part even r w n R e fits room =
       let wide : w + n ≤ suc r * L = rw (suc-mul r L) (omega (arith, e)) in
-      let len : length (joined_blocks f r) ≡ w = length-joined_blocks even r ∙ sym e in
-      joined_blocks-agree even R (suc r) (w + n) room wide
-      ∙ rw (joined_blocks-next f r, ← len) (take-append-add (joined_blocks f r) (f (suc r)) n)
+      let agree = joined_blocks-agree even R (suc r) (w + n) room wide in
+      let part = take-append-add (joined_blocks f r) (f (suc r)) n in
+      grind (arith, common_steps, length-joined_blocks even r, joined_blocks-next f r)
 
 -- one block more is written, after the first r ones
 pub written-more : (f : ℕ → List ℕ) (r : ℕ) {xs block out : List ℕ} (rest : List ℕ)
     → xs ≡ joined_blocks f r → block ≡ f (suc r) → out ≡ xs ++ block ++ rest
     → take (length xs + length block) out ≡ joined_blocks f (r + 1)
 written-more f r {xs = xs} {block = block} rest front e eo =
-    rw (add-one r, joined_blocks-next f r, ← front, ← e, eo, ← length-append xs block)
-    (take-append_seam (xs ++ block) rest)
+    grind (arith, common_steps, joined_blocks-next f r)
 
 -- a list begins with a front and a part exactly where it begins with the front, and has the part
 -- after it
@@ -95,15 +89,9 @@ same_part xs front part below =
     let n : ℕ = length part in
     let split : take (length (front ++ part)) xs ≡ take w xs ++ take n (drop w xs) =
     ap (λ (m : ℕ). take m xs) (length-append front part) ∙ take-add w n xs in
-    let short : length (take w xs) ≡ w = length-take-le w xs below in (
-      λ h.
-          let joint = sym split ∙ h in
-          let first : take w xs ≡ front =
-          sym (take-append_seam (take w xs) (take n (drop w xs)))
-          ∙ rw (short, joint) (take-append_seam front part) in
-          let second : take n (drop w xs) ≡ part =
-          sym (drop-append_seam (take w xs) (take n (drop w xs)))
-          ∙ rw (short, joint) (drop-append_seam front part) in
-          (first, second),
-      λ h. split ∙ rw (h.0, h.1) refl,
-    )
+    let short : length (take w xs) ≡ w = length-take-le w xs below in
+    let before = rw short at (take-append_seam (take w xs) (take n (drop w xs))) in
+    let after = rw short at (drop-append_seam (take w xs) (take n (drop w xs))) in
+    let first = take-append_seam front part in
+    let second = drop-append_seam front part in
+    (λ h. (cc, cc), λ h. cc)

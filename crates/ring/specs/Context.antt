@@ -1,7 +1,6 @@
 -- SPDX-License-Identifier: ISC
 -- What contexts stand for, and what they count.
-use Rattle.std.specs.Prelude.{◌≡◌, ℕ, ◌+◌, ◌-◌, ◌*◌, ◌≤◌, ◌^◌, min, List, ◌++◌, length, take, drop}
-use Rattle.std.specs.Prelude.{replicate}
+use Rattle.std.specs.Prelude.{◌≡◌, ℕ, ◌+◌, ◌-◌, ◌*◌, ◌^◌, min, List, ◌++◌, length, take, replicate}
 use Rattle.ring_core.specs.Cost.{Counts, raised}
 use Rattle.ring.specs.Algorithm.{word_count}
 use Rattle.ring.specs.Digest.{blocks_from, digest_after, words_after}
@@ -70,12 +69,13 @@ StandsFor c m = IsJoined c m
 -- `left` is what comes after them
 pub record HasRunBlocks (n : ℕ) (old new : BlockContext) (bytes left : List ℕ)
     (before after : Counts) : Type 0 where
+  pub front : List ℕ
   pub blocks : ℕ
-  pub fits : blocks * n ≤ length bytes
-  pub rest : left ≡ drop (blocks * n) bytes
+  pub size : length front ≡ blocks * n
+  pub parts : front ++ left ≡ bytes
   pub algorithm : new.algorithm ≡ old.algorithm
-  pub taken : (p : List ℕ) → HasTaken old p → HasTaken new (p ++ take (blocks * n) bytes)
-  pub words : (y : List ℕ) → blocks_from new.algorithm (block_words new) (left ++ y)
-      ≡ blocks_from old.algorithm (block_words old) (bytes ++ y)
-  pub counted : counted_bytes new ≡ cut_off (counted_bytes old + blocks * n)
+  pub taken : (p : List ℕ) → HasTaken old p → HasTaken new (p ++ front)
+  pub words : (y : List ℕ) → blocks_from new.algorithm (block_words new) y
+      ≡ blocks_from old.algorithm (block_words old) (front ++ y)
+  pub counted : counted_bytes new ≡ cut_off (counted_bytes old + length front)
   pub cost : after ≡ raised before blocks 0

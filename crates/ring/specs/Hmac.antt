@@ -10,7 +10,7 @@ use Rattle.ring.specs.declared.digest.algorithm.Algorithm as digest
 use Rattle.ring.specs.declared.hmac.algorithm.Algorithm.{Algorithm}
 use Rattle.ring.specs.declared.hmac.context.Context.{Context}
 use Rattle.ring.specs.declared.hmac.key.Key.{Key}
-use Rattle.ring.specs.declared.hmac.tag.Tag.{Tag}
+use Rattle.ring.specs.declared.hmac.context.Tag.{Tag}
 
 -- the tag of the message m under the key k: H(K xor opad, H(K xor ipad, m)) (section 2)
 unfoldable pub hmac_of : digest.Algorithm → List ℕ → List ℕ → List ℕ

@@ -24,6 +24,5 @@ pub mod DeriveEach
 pub mod Gives
 pub mod Rounds
 pub mod Raw
-pub mod Cut
 pub mod Updates
 pub mod Prelude

@@ -28,7 +28,7 @@ unfoldable pub use Rattle.ring.specs.Context.{StandsFor}
 pub use Rattle.ring.specs.Items.{EachItem, EachChange}
 pub use Rattle.ring.specs.Pieces.{joined}
 unfoldable pub use Rattle.ring.specs.Pieces.{joined_blocks}
-pub use Rattle.ring.specs.Receiver.{HasPlaces, KeepsPlaces, Receives}
+pub use Rattle.ring.specs.Receiver.{HasPlaces, KeepsPlaces, Receives, Takes}
 pub use Rattle.ring.specs.Each.{message_at, each_blocks, AreDigests, CanDigestEach, HasWords}
 unfoldable pub use Rattle.ring.specs.Each.{words_at}
 pub use Rattle.ring.specs.Source.{random_value}
@@ -53,18 +53,18 @@ pub use Rattle.ring.specs.DeriveEach.{AreDerived, CanDeriveEach, IsKeyOf, AreKey
 pub use Rattle.ring.specs.DeriveEach.{CanVerifyEach, answer_at}
 unfoldable pub use Rattle.ring.specs.DeriveEach.{sum_below}
 pub use Rattle.ring.specs.Gives.{DerivesEach, DerivesKey, VerifiesEach, VerifiesKey}
-pub use Rattle.ring.specs.Rounds.{IsRound, CanRun, AreRounds, IsStart, AreStarts}
-pub use Rattle.ring.specs.Rounds.{BeginsWithRound, bytes_before, first_blocks, front, len_before}
-pub use Rattle.ring.specs.Rounds.{round_blocks}
+pub use Rattle.ring.specs.Rounds.{IsRound, AreOfKeys, AreRounds, CanDeriveUnder, IsStart}
+pub use Rattle.ring.specs.Rounds.{AreOutputs, AreStarts, IsOutput, bytes_before, first_blocks}
+pub use Rattle.ring.specs.Rounds.{front, len_before, round_at, round_blocks}
 unfoldable pub use Rattle.ring.specs.Rounds.{next_round, round_on, rounds_before}
 pub use Rattle.ring.specs.Raw.{digest_named, joined_halves, completed_len, raw_message_len}
 pub use Rattle.ring.specs.Raw.{IsNoContext, IsNoKey, IsNoTagContext, raw_words, IsRawState}
 pub use Rattle.ring.specs.Raw.{IsRawContext, IsRawKey, IsRawTagContext, AreWords, raw_chaining}
 pub use Rattle.ring.specs.Raw.{raw_digest_with, raw_tag_under, raw_tag_with, AreNumbersOf}
-pub use Rattle.ring.specs.Raw.{AreNumbersOfTag, HasAdded, TagHasAdded, HasBegun}
+pub use Rattle.ring.specs.Raw.{AreNumbersOfTag, HasAdded, HasNumbers, TagHasAdded}
+pub use Rattle.ring.specs.Raw.{HasBegun}
 unfoldable pub use Rattle.ring.specs.Raw.{named_block_len, RawStandsFor, RawKeyStandsFor}
 unfoldable pub use Rattle.ring.specs.Raw.{RawTagStandsFor}
-pub use Rattle.ring.specs.Cut.{IsWithout, IsFirstCut}
 pub use Rattle.ring.specs.Updates.{IsUpdated, AreUpdated, update_blocks, update_each_blocks}
 pub use Rattle.ring.specs.Updates.{IsPartway, AreAlike}
 pub use Rattle.ring_core.specs.Cost.{Counts, compared_pairs}
@@ -82,7 +82,7 @@ pub use Rattle.ring.specs.declared.digest.block_context.BlockContext.{BlockConte
 pub use Rattle.ring.specs.declared.digest.context.Context.{Context}
 pub use Rattle.ring.specs.declared.digest.value.Digest.{Digest}
 pub use Rattle.ring.specs.declared.hmac.key.Key.{Key}
-pub use Rattle.ring.specs.declared.hmac.tag.Tag.{Tag}
+pub use Rattle.ring.specs.declared.hmac.context.Tag.{Tag}
 pub use Rattle.ring.specs.declared.pbkdf2.rounds.Round.{Round}
 pub use Rattle.ring.specs.declared.raw.context.RawContext.{RawContext}
 pub use Rattle.ring.specs.declared.raw.key.RawKey.{RawKey}

@@ -4,7 +4,8 @@ use Rattle.std.specs.Prelude.{◌≡◌, ◌<◌, ◌≤◌, ◌⊎◌, ◌+◌,
 use Rattle.std.specs.Prelude.{map, take, drop, replicate, Option, Some, None, option_map, unwrap_or}
 use Rattle.std.specs.Prelude.{if◌then◌else◌, nat_eq}
 use Rattle.ring.specs.Algorithm.{block_len, word_count, word_len}
-use Rattle.ring.specs.Context.{context_algorithm, cut_off, digest_with, message_len, pending_len}
+use Rattle.ring.specs.Context.{HasTaken, block_algorithm, block_words, context_algorithm}
+use Rattle.ring.specs.Context.{counted_bytes, cut_off, digest_with, message_len, pending_len}
 use Rattle.ring.specs.Digest.{digest_after, words_after}
 use Rattle.ring.specs.Hmac.{signing_algorithm, signing_len, signing_pending, tag_from}
 use Rattle.ring.specs.Hmac.{tag_of_inner, tag_with}
@@ -13,6 +14,7 @@ use Rattle.ring.specs.Padding.{IsWhole}
 use Rattle.ring.specs.declared.digest.algorithm.Algorithm.{Algorithm}
 use Rattle.ring.specs.declared.digest.algorithm.TheConstants.{SHA1_FOR_LEGACY_USE_ONLY, SHA256}
 use Rattle.ring.specs.declared.digest.algorithm.TheConstants.{SHA384, SHA512, SHA512_256}
+use Rattle.ring.specs.declared.digest.block_context.BlockContext.{BlockContext}
 use Rattle.ring.specs.declared.digest.context.Context.{Context}
 use Rattle.ring.specs.declared.hmac.context.Context.{Context as TagContext}
 use Rattle.ring.specs.declared.raw.context.RawContext.{RawContext}
@@ -134,6 +136,13 @@ pub record IsRawState (a : Algorithm) (numbers p : List ℕ) : Type 0 where
   pub whole : IsWhole a p
   pub words : take (word_count a) (raw_words a numbers) ≡ words_after a p
   pub spare : drop (word_count a) (raw_words a numbers) ≡ replicate (8 - word_count a) 0
+
+-- a block context has these numbers' words, and counts n bytes
+pub record HasNumbers (a : Algorithm) (numbers : List ℕ) (n : ℕ) (b : BlockContext) : Type 0 where
+  pub stands : (p : List ℕ) → IsRawState a numbers p → n ≡ cut_off (length p) → HasTaken b p
+  pub words : block_words b ≡ raw_chaining a numbers
+  pub algorithm : block_algorithm b ≡ a
+  pub counted : counted_bytes b ≡ n
 
 -- the numbers are those of a context of the message m under the algorithm a
 pub record IsRawContext (raw : RawContext) (a : Algorithm) (m : List ℕ) : Type 0 where

@@ -1,6 +1,6 @@
 -- SPDX-License-Identifier: ISC
 -- The rounds of keys of one length: all of one key before those of the next.
-use Rattle.std.specs.Prelude.{◌≡◌, ℕ, zero, suc, ◌+◌, ◌-◌, ◌*◌, ◌<◌, ◌≤◌, List, IsTrue}
+use Rattle.std.specs.Prelude.{◌≡◌, ℕ, zero, suc, ◌+◌, ◌-◌, ◌*◌, ◌<◌, ◌≤◌, All, List, IsTrue}
 use Rattle.std.specs.Prelude.{if◌then◌else◌, length, min, nat_lt, take}
 use Rattle.std.specs.Borrow.{Bor}
 use Rattle.std.specs.List.{HoldsAt}
@@ -8,6 +8,7 @@ use Rattle.ring.specs.Algorithm.{output_len}
 use Rattle.ring.specs.Cost.{iterate_blocks, padded_blocks}
 use Rattle.ring.specs.DeriveEach.{bytes_at}
 use Rattle.ring.specs.Hmac.{KeyStandsFor, key_algorithm}
+use Rattle.ring.specs.Items.{EachItem}
 use Rattle.ring.specs.Lanes.{IsKeyInLane, digest_bytes}
 use Rattle.ring.specs.Limits.{IsTagWithin, derive_rounds, max_dk_len}
 use Rattle.ring.specs.Pbkdf2.{pbkdf2_t, pbkdf2_u}
@@ -15,6 +16,7 @@ use Rattle.ring.specs.Pieces.{joined_blocks}
 use Rattle.ring.specs.State.{is_state_of, words}
 use Rattle.ring.specs.declared.digest.algorithm.Algorithm.{Algorithm}
 use Rattle.ring.specs.declared.digest.dynstate.DynState.{DynState}
+use Rattle.ring.specs.declared.digest.dynstate.Output.{Output}
 use Rattle.ring.specs.declared.hmac.key.Key.{Key}
 use Rattle.ring.specs.declared.pbkdf2.rounds.Round.{Round}
 
@@ -53,20 +55,24 @@ bytes_before a n f r i = front (output_len a) n (f i) (rounds_before a n r i)
 abbrev pub len_before : ℕ → Round → ℕ
 len_before n r = r.place * n + r.from
 
--- the round has a key of the algorithm a at its place, and a salt within the limit of tags
-pub record CanRun (a : Algorithm) (keys : List Key) (salts : List (Bor (List ℕ))) (r : Round)
+-- n bytes can be derived under each of the keys, of the algorithm a, from the salt at its place
+pub record CanDeriveUnder (a : Algorithm) (keys : List Key) (salts : List (Bor (List ℕ))) (n : ℕ)
     : Type 0 where
-  pub place : r.place < length keys
-  pub algorithm : HoldsAt (λ key. key_algorithm key ≡ a) keys r.place
-  pub within : IsTagWithin a (length (bytes_at salts r.place) + 4)
+  pub algorithm : All (λ key. key_algorithm key ≡ a) keys
+  pub count : length salts ≡ length keys
+  pub within : (i : ℕ) → 0 < n → i < length keys → IsTagWithin a (length (bytes_at salts i) + 4)
+  pub numbers : n ≤ max_dk_len a
 
--- the first m rounds from r on can be run, of keys of n bytes
+-- the first m rounds from r on are those of the first k keys, of n bytes each
+pub record AreOfKeys (a : Algorithm) (n : ℕ) (r : Round) (m k : ℕ) : Type 0 where
+  pub each : (i : ℕ) → i < m → (round_on a n r i).place < k
+
+-- the first m rounds from r on can be run
 pub record AreRounds (a : Algorithm) (keys : List Key) (salts : List (Bor (List ℕ))) (n : ℕ)
     (r : Round) (m : ℕ) : Type 0 where
   pub first : IsRound a n r
-  pub numbers : n ≤ max_dk_len a
-  pub count : length salts ≡ length keys
-  pub each : (i : ℕ) → i < m → CanRun a keys salts (round_on a n r i)
+  pub under : CanDeriveUnder a keys salts n
+  pub places : AreOfKeys a n r m (length keys)
 
 -- the states s, t and u are what the round starts from: its key's two, and the words of U_1
 pub record IsStart (a : Algorithm) (k : Key) (salt : List ℕ) (index : ℕ) (s t u : DynState)
@@ -85,11 +91,21 @@ pub record AreStarts (a : Algorithm) (keys : List Key) (salts : List (Bor (List 
       IsStart a key (bytes_at salts (round_on a n r i).place) (round_on a n r i).index s t u)
       first i) outer i) inner i) keys (round_on a n r i).place
 
--- the bytes begin with the round, after c iterations
-pub record BeginsWithRound (a : Algorithm) (keys : List Key) (salts : List (Bor (List ℕ)))
-    (r : Round) (c : ℕ) (bytes : List ℕ) : Type 0 where
-  pub round : HoldsAt (λ key. (p : List ℕ) → KeyStandsFor key p
-      → take (output_len a) bytes ≡ pbkdf2_t a p (bytes_at salts r.place) r.index c) keys r.place
+-- T_j of the key at the place i, of the password p i, after c iterations
+abbrev pub round_at : Algorithm → (ℕ → List ℕ) → List (Bor (List ℕ)) → (c i j : ℕ) → List ℕ
+round_at a p salts c i j = pbkdf2_t a (p i) (bytes_at salts i) j c
+
+-- the output begins with the k-th round after r, where f i j is T_j of the key at the place i
+abbrev pub IsOutput : Algorithm → ℕ → (ℕ → ℕ → List ℕ) → Round → ℕ → Output → Type 0
+IsOutput a n f r k output =
+    take (output_len a) output.0 ≡ f (round_on a n r k).place (round_on a n r k).index
+
+-- the outputs begin with the rounds from r on, which are those of the first m keys
+pub record AreOutputs (a : Algorithm) (n : ℕ) (f : ℕ → ℕ → List ℕ) (m : ℕ) (r : Round)
+    (outputs : List Output) : Type 0 where
+  pub size : (i j : ℕ) → length (f i (suc j)) ≡ output_len a
+  pub places : AreOfKeys a n r (length outputs) m
+  pub each : EachItem outputs (IsOutput a n f r)
 
 -- the blocks of the round's first iterate, and of all c
 abbrev pub first_blocks : Algorithm → List (Bor (List ℕ)) → Round → ℕ

@@ -45,16 +45,13 @@ use ring_core::error::Unspecified;
 pub(crate) mod algorithm;
 pub(crate) mod context;
 pub(crate) mod key;
-pub(crate) mod tag;
-pub(crate) mod tag_of_digest;
 
 pub use crate::hmac::algorithm::{
     Algorithm, HMAC_SHA1_FOR_LEGACY_USE_ONLY, HMAC_SHA256, HMAC_SHA384, HMAC_SHA512,
     constants_are_based_on_their_digests,
 };
-pub use crate::hmac::context::Context;
+pub use crate::hmac::context::{Context, Tag};
 pub use crate::hmac::key::Key;
-pub use crate::hmac::tag::Tag;
 
 /// Computes the tag of `message` under `key` as [`sign`] does, and counts its blocks on `meter`. A
 /// refusal leaves `meter` as it was.

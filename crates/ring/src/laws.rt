@@ -15,10 +15,9 @@ ghost use Rattle.ring.specs.Prelude.{SHA256, SHA384, SHA512, StandsFor, TagStand
 ghost use Rattle.ring.specs.Prelude.{compared_pairs, context_algorithm, derive_blocks};
 ghost use Rattle.ring.specs.Prelude.{digest_named, digest_of, digest_with, dk, hmac_of, joined};
 ghost use Rattle.ring.specs.Prelude.{key_algorithm, max_input_len, named_block_len, okm};
-ghost use Rattle.ring.specs.Prelude.{output_len};
-ghost use Rattle.ring.specs.Prelude.{padded_blocks, raised, raw_digest_with, raw_tag_under};
-ghost use Rattle.ring.specs.Prelude.{raw_tag_with, signing_algorithm, tag_algorithm, tag_under};
-ghost use Rattle.ring.specs.Prelude.{tag_with};
+ghost use Rattle.ring.specs.Prelude.{output_len, padded_blocks, raised, raw_digest_with};
+ghost use Rattle.ring.specs.Prelude.{raw_tag_under, raw_tag_with, signing_algorithm, tag_algorithm};
+ghost use Rattle.ring.specs.Prelude.{tag_under, tag_with};
 ghost use Rattle.ring.specs.declared.hmac.context.Context.{Context as TagContext};
 ghost use Rattle.std.specs.Borrow.{Bor};
 

@@ -1,12 +1,12 @@
 -- SPDX-License-Identifier: ISC
 -- A text cut at a byte, or behind a prefix, is cut in one way.
 use Rattle.std.proofs.Common.{◌≡◌, ◌≢◌, ◌==◌, ℕ, false, List, [], ◌∷◌, ◌++◌, drop}
-use Rattle.std.proofs.Common.{refl, sym, ap, subst, ◌∙◌}
+use Rattle.std.proofs.Common.{arith, refl, sym, ap, subst, ◌∙◌}
 use Rattle.std.proofs.Common.{Bor}
 use Rattle.std.specs.Prelude.{Some, None, Option, IfSome, IsNone, MatchOption, All}
 use Rattle.std.proofs.lemmas.Bool.{eq-eqb}
 use Rattle.std.proofs.lemmas.List.Elements.{All-head, All-tail}
-use Rattle.ring.specs.Cut.{IsFirstCut, IsWithout}
+use Rattle.ring_text.specs.Cut.{IsFirstCut, IsWithout}
 
 abbrev pub NotAt : ℕ → ℕ → Type 0
 NotAt byte b = (b == byte) ≡ false
@@ -23,15 +23,10 @@ first_of_list d (x ∷ xs) = x
 pub run_same : (P : ℕ → Type 0) (x y : ℕ) → (P x → ⊥) → (P y → ⊥) → (f g s t : List ℕ) → All P f
     → All P g → f ++ x ∷ s ≡ g ++ y ∷ t → (f ≡ g) × (x ≡ y) × (s ≡ t)
 run_same P x y nx ny [] [] s t hf hg e = (refl, ap (first_of_list 0) e, ap (drop 1) e)
-run_same P x y nx ny [] (b ∷ g) s t hf hg e =
-    absurd (nx (subst P (sym (ap (first_of_list 0) e)) (All-head P b g hg)))
-run_same P x y nx ny (a ∷ f) [] s t hf hg e =
-    absurd (ny (subst P (ap (first_of_list 0) e) (All-head P a f hf)))
+run_same P x y nx ny [] (b ∷ g) s t hf hg e = grind (arith, All-head P b g hg, nx)
+run_same P x y nx ny (a ∷ f) [] s t hf hg e = grind (arith, All-head P a f hf, ny)
 run_same P x y nx ny (a ∷ f) (b ∷ g) s t hf hg e =
-    let same : a ≡ b = ap (first_of_list 0) e in
-    let rest = run_same P x y nx ny f g s t (All-tail P a f hf) (All-tail P b g hg)
-    (ap (drop 1) e) in
-    ((λ i. same i ∷ rest.0 i), rest.1, rest.2)
+    grind (arith, run_same P x y nx ny f g s t (All-tail P a f hf) (All-tail P b g hg))
 
 -- what stands before the first such byte, and behind it, is known from the whole
 pub cut_same : (byte : ℕ) (f g s t : List ℕ) → IsWithout byte f → IsWithout byte g
@@ -56,18 +51,10 @@ pub first_cut : {end : ℕ} {text before behind : List ℕ} → IsFirstCut end t
 first_cut {end} {text} {before} {behind} cut field rest h e =
     cut_same end before field behind rest cut.first h (sym cut.whole ∙ e)
 
--- ---- what a strip of a prefix says, by cases
-
-abbrev Stripped : (text prefix : List ℕ) → Option (Bor (List ℕ)) → Type 0
-Stripped text prefix r =
-    MatchOption r ((rest : List ℕ) → text ≢ prefix ++ rest) (λ x. text ≡ prefix ++ x.now)
-
-pub if_some : (r : Option (Bor (List ℕ))) (text prefix : List ℕ) → Stripped text prefix r
+-- what a strip of a prefix says, by cases
+pub stripped : (r : Option (Bor (List ℕ))) (text prefix : List ℕ)
+    → MatchOption r ((rest : List ℕ) → text ≢ prefix ++ rest) (λ x. text ≡ prefix ++ x.now)
     → IfSome r (λ rest. text ≡ prefix ++ rest.now)
-if_some None text prefix h = tt
-if_some (Some x) text prefix h = h
-
-pub if_none : (r : Option (Bor (List ℕ))) (text prefix : List ℕ) → Stripped text prefix r
-    → IsNone r → (rest : List ℕ) → text ≢ prefix ++ rest
-if_none None text prefix h none = h
-if_none (Some x) text prefix h none = cc none
+    × (IsNone r → (rest : List ℕ) → text ≢ prefix ++ rest)
+stripped None text prefix h = (tt, λ _. h)
+stripped (Some x) text prefix h = (h, λ none. cc none)

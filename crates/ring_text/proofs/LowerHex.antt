@@ -6,7 +6,7 @@ use Rattle.std.specs.Char.{is_ascii_uppercase}
 use Rattle.std.specs.List.{list_all}
 use Rattle.std.specs.Option.{unwrap_or}
 use Rattle.std.specs.Prelude.{None, not, nat_lt, slice_index, Result, Ok, Err, MatchResult, is_ok}
-use Rattle.std.proofs.lemmas.Bool.{agree_below_at, and_parts, eqb-true, ne_eqb}
+use Rattle.std.proofs.lemmas.Bool.{agree_below_at, and_from, and_parts, eqb-true, ne_eqb}
 use Rattle.std.proofs.lemmas.Bool.Decides.{nat_tests}
 use Rattle.std.proofs.lemmas.List.Elements.{All-nil, All-cons, All-head, All-tail}
 use Rattle.std.proofs.lemmas.List.Sums.{AllPass-from_list_all, list_all-from_AllPass}
@@ -16,7 +16,7 @@ use Rattle.hex.specs.declared.error.FromHexError.{FromHexError}
 use Rattle.hex.proofs.HexLemmas.{IsDigits-lower_digits, IsOk-decode_sized, IsOk-written}
 use Rattle.hex.proofs.HexLemmas.{decode_of-encode_lower, decode_of-same}
 use Rattle.hex.proofs.HexLemmas.{decode_sized-encode_lower, length-encode_with}
-use Rattle.ring.specs.Cut.{IsWithout}
+use Rattle.ring_text.specs.Cut.{IsWithout}
 use Rattle.ring_text.proofs.Cuts.{NotAt}
 
 -- what holds of each digit holds of all in the hex of bytes
@@ -71,10 +71,12 @@ is_lower c = is_hex_digit c && is_not_upper c
 abbrev reads_back : ℕ → Bool
 reads_back c = nat_lt (value_of c) 16 && (slice_index lower_digits (value_of c) == c)
 
-lower_digit : (c : ℕ) → is_hex_digit c ≡ true → is_not_upper c ≡ true → Digit c
-lower_digit c hex low =
-    let small : c < 128 = grind (arith, hex) in
-    let is : is_lower c ≡ true = rw (hex, low) refl in
+abbrev IsLower : ℕ → Type 0
+IsLower c = is_lower c ≡ true
+
+lower_digit : (c : ℕ) → IsLower c → Digit c
+lower_digit c is =
+    let small : c < 128 = grind (arith, is) in
     let agrees = agree_below_at (λ c. is_lower c && reads_back c) is_lower 128 c refl small in
     let parts = and_parts (is_lower c) (reads_back c) (agrees ∙ is) in
     let back = and_parts (nat_lt (value_of c) 16) (slice_index lower_digits (value_of c) == c)
@@ -95,25 +97,16 @@ IsBytes-cons : (b : ℕ) (rest : List ℕ) → b < 256 → IsBytes rest → IsBy
 IsBytes-cons b rest h hs zero = h
 IsBytes-cons b rest h hs (suc i) = hs i
 
-abbrev IsHex : ℕ → Type 0
-IsHex c = is_hex_digit c ≡ true
-
-abbrev IsNotUpper : ℕ → Type 0
-IsNotUpper c = is_not_upper c ≡ true
-
 -- pairs of digits with none in upper case are the hex of bytes
-hex_of : (s : List ℕ) (n : ℕ) → length s ≡ 2 * n → All IsHex s → All IsNotUpper s → HexOf s
+hex_of : (s : List ℕ) (n : ℕ) → length s ≡ 2 * n → All IsLower s → HexOf s
 unfolding encode_with
-hex_of [] n len hex low = record { bytes = []; are = λ i. omega arith; text = refl }
-hex_of (h ∷ []) n len hex low = absurd (omega arith)
-hex_of (h ∷ l ∷ rest) n len hex low =
-    let hexes = All-tail IsHex h (l ∷ rest) hex in
-    let lows = All-tail IsNotUpper h (l ∷ rest) low in
-    let high = lower_digit h (All-head IsHex h (l ∷ rest) hex)
-    (All-head IsNotUpper h (l ∷ rest) low) in
-    let other = lower_digit l (All-head IsHex l rest hexes) (All-head IsNotUpper l rest lows) in
-    let more = hex_of rest (n - 1) (omega arith) (All-tail IsHex l rest hexes)
-    (All-tail IsNotUpper l rest lows) in
+hex_of [] n len low = record { bytes = []; are = λ i. omega arith; text = refl }
+hex_of (h ∷ []) n len low = absurd (omega arith)
+hex_of (h ∷ l ∷ rest) n len low =
+    let lows = All-tail IsLower h (l ∷ rest) low in
+    let high = lower_digit h (All-head IsLower h (l ∷ rest) low) in
+    let other = lower_digit l (All-head IsLower l rest lows) in
+    let more = hex_of rest (n - 1) (omega arith) (All-tail IsLower l rest lows) in
     let byte = high.value * 16 + other.value in
     let high_below = high.below in
     let other_below = other.below in
@@ -143,17 +136,19 @@ module _ (s : List ℕ) (n : ℕ) (answer : Result (Unit {0}) FromHexError) (out
   hex_read low ok =
       let digits = (IsOk-decode_sized s n).0
       ((IsOk-written (decode_sized s n) answer out decoded).0 ok) in
-      let of = hex_of s n digits.0 digits.1 (AllPass-from_list_all is_not_upper s low) in
+      let lows = AllPass-from_list_all is_not_upper s low in
+      let of = hex_of s n digits.0
+      (λ k d below. and_from _ _ (digits.1 k d below) (lows k d below)) in
       let twice = length-encode_with lower_digits of.bytes in
       let half : length of.bytes ≡ n = omega (arith, twice, ap length of.text, digits.0) in
       let same = (hex_written of.bytes of.are half of.text).1 in
       (of.text ∙ ap encode_lower (sym same), subst IsBytes (sym same) of.are)
 
-not_upper : (k : ℕ) → k < 16 → IsNotUpper (slice_index lower_digits k)
-not_upper k = agree_below_at (λ k. is_not_upper (slice_index lower_digits k)) (λ k. true) 16 k refl
-
 -- no letter in the hex of bytes is in upper case
 pub hex_not_upper : (bytes : List ℕ) → IsBytes bytes
     → list_all is_not_upper (encode_lower bytes) ≡ true
 hex_not_upper bytes h =
-    list_all-from_AllPass is_not_upper (encode_lower bytes) (All-hex IsNotUpper not_upper bytes h)
+    list_all-from_AllPass is_not_upper (encode_lower bytes)
+    (All-hex (λ c. is_not_upper c ≡ true)
+    (λ k. agree_below_at (λ k. is_not_upper (slice_index lower_digits k)) (λ k. true) 16 k refl)
+    bytes h)

@@ -13,7 +13,7 @@ use Rattle.std.proofs.lemmas.Fmt.{decimal_is_IsNumeral, decimal_injective}
 use Rattle.std.proofs.lemmas.List.Elements.{All-nil, All-cons, All-weaker}
 use denote.Struct.Props.{props}
 use mathlib.Core.HLevel.{Σ_prop_path}
-use Rattle.ring.specs.Cut.{IsFirstCut, IsWithout}
+use Rattle.ring_text.specs.Cut.{IsFirstCut, IsWithout}
 use Rattle.ring_text.specs.Field.{IsCount, count_then, number_then}
 use Rattle.ring_text.proofs.Cuts.{NotAt, first_cut, run_same}
 

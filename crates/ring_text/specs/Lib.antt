@@ -1,2 +1,3 @@
 -- SPDX-License-Identifier: ISC
+pub mod Cut
 pub mod Field

@@ -2,7 +2,7 @@
 //! A text, cut at a byte or behind a prefix.
 
 ghost use Rattle.std.specs.Prelude.{◌≡◌, ◌≢◌, ℕ, List, ◌++◌, IfSome, IsNone};
-ghost use Rattle.ring.specs.Cut.{IsFirstCut, IsWithout};
+ghost use Rattle.ring_text.specs.Cut.{IsFirstCut, IsWithout};
 
 use memchr::memchr;
 

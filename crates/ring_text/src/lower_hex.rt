@@ -15,6 +15,7 @@ fn lacks_upper_case(text: &[u8]) -> bool
 
 /// Decodes `digits` to `out`. Returns whether they are the hex, in lower case, of as many bytes as
 /// `out` has. If not, `out` may have any bytes.
+#[tactic(auto, using(crate::proofs::LowerHex::hex_not_upper))]
 pub fn fill_from_hex(digits: &[u8], out: &mut [u8]) -> bool
     ensures ok { IsTrue result → (digits.now ≡ encode_lower out.new) × IsBytes out.new }
     ensures refused { ¬ (IsTrue result) → (bytes : List ℕ) → IsBytes bytes

@@ -1,4 +1,3 @@
 -- SPDX-License-Identifier: ISC
 -- Lemmas of `hmac`.
 pub mod Keys
-pub mod Comparing

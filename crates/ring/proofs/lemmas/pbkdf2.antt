@@ -4,6 +4,5 @@ pub mod Iterates
 pub mod Starts
 pub mod Rounds
 pub mod Places
-pub mod KeysAt
 pub mod DerivedKeys
 pub mod Taking

@@ -1,18 +1,17 @@
 // SPDX-License-Identifier: ISC
 //! A context of whole blocks.
 
-ghost use Rattle.std.specs.Prelude.{◌≡◌, ◌↔◌, ℕ, ◌+◌, ◌*◌, ◌/◌, ◌<◌, List, [], ◌++◌, length, take};
-ghost use Rattle.std.specs.Prelude.{drop, IsTrue, IfOk, IsErr, OnOk, OnErr};
+ghost use Rattle.std.specs.Prelude.{◌≡◌, ◌↔◌, ℕ, ◌+◌, ◌*◌, ◌/◌, ◌<◌, ◌≤◌, List, [], ◌++◌, length};
+ghost use Rattle.std.specs.Prelude.{take, drop, IsTrue, IfOk, IsErr, OnOk, OnErr};
 ghost use Rattle.ring_core.specs.Cost.{raised};
 ghost use Rattle.ring.specs.Algorithm.{block_len, max_input_len, output_len, word_len};
 ghost use Rattle.ring.specs.Cost.{padded_blocks, whole_blocks};
 ghost use Rattle.ring.specs.Digest.{IsDigest, blocks_from, bytes_of, digest_after};
-ghost use Rattle.ring.specs.Digest.{digest_algorithm, digest_of};
-ghost use Rattle.ring.specs.Padding.{padded};
+ghost use Rattle.ring.specs.Digest.{digest_algorithm};
 ghost use Rattle.ring.specs.State.{chaining_words, is_state_of, spare_words, word_bytes};
 ghost use Rattle.ring.specs.declared.digest.algorithm.Algorithm.{Algorithm};
 
-use crate::digest::algorithm::{Algorithm, is_message_within};
+use crate::digest::algorithm::{Algorithm, MAX_BLOCK_LEN, is_message_within};
 use crate::digest::dynstate::{DynState, Output, long_output, short_output};
 use crate::digest::padding::{MAX_TAIL_LEN, write_tail};
 use crate::digest::value::Digest;
@@ -89,6 +88,17 @@ pub(crate) fn run_blocks<'i>(
     }
 }
 
+// Puts `bytes` at the front of the pending ones: nothing is called where there are none.
+fn put_front(pending: &mut [u8; MAX_BLOCK_LEN], bytes: &[u8])
+    requires { length bytes.now ≤ MAX_BLOCK_LEN }
+    ensures { take (length bytes.now) pending.new ≡ bytes.now }
+{
+    if bytes.is_empty() {
+        return;
+    }
+    pending[..bytes.len()].copy_from_slice(bytes);
+}
+
 // The number of bytes in the whole blocks so far, at most `u128::MAX`, and the state after these
 // blocks. The count comes first, so that its alignment leaves no gap.
 #[derive(Drop)]
@@ -142,16 +152,62 @@ impl BlockContext {
         rest
     }
 
+    // Completes the pending block, if one is begun, runs it where it stands, and returns the rest
+    // of `input`.
+    #[inline(always)]
+    fn complete<'i>(
+        &mut self,
+        pending: &mut [u8; MAX_BLOCK_LEN],
+        num_pending: usize,
+        input: &'i [u8],
+        meter: &mut Meter,
+    ) -> &'i [u8]
+        requires partial { num_pending < block_len (block_algorithm self.old) }
+        requires enough { block_len (block_algorithm self.old) ≤ num_pending + length input.now }
+        ensures { HasRunBlocks (block_len (block_algorithm self.old)) self.old self.new
+            (take num_pending pending.old ++ input.now) result.now meter.old meter.new }
+    {
+        if num_pending == 0 {
+            return input;
+        }
+        let block_len = self.algorithm.block_len();
+        let (head, rest) = input.split_at(block_len - num_pending);
+        pending[num_pending..block_len].copy_from_slice(head);
+        let _ = self.update(&pending[..block_len], meter);
+        rest
+    }
+
+    // Takes in the first `num_pending` bytes of `pending` and then `input`, and runs each block
+    // that is complete. What is left stands at the front of `pending`, and the result is its
+    // length.
+    #[inline(always)]
+    pub(crate) fn move_on(
+        &mut self,
+        pending: &mut [u8; MAX_BLOCK_LEN],
+        num_pending: usize,
+        input: &[u8],
+        meter: &mut Meter,
+    ) -> usize
+        requires partial { num_pending < block_len (block_algorithm self.old) }
+        requires enough { block_len (block_algorithm self.old) ≤ num_pending + length input.now }
+        ensures moved { HasRunBlocks (block_len (block_algorithm self.old)) self.old self.new
+            (take num_pending pending.old ++ input.now) (take result pending.new)
+            meter.old meter.new }
+        ensures short { result < block_len (block_algorithm self.old) }
+        ensures len { length (take result pending.new) ≡ result }
+    {
+        let rest = self.complete(pending, num_pending, input, meter);
+        let leftover = self.update(rest, meter);
+        put_front(pending, leftover);
+        leftover.len()
+    }
+
     // The output after the blocks so far and those of `tail`, which ends a padded message. Each
     // word size has its own branch to the end: in a common one the compiler merges their reads,
     // which defeats store forwarding of what the block function wrote.
     #[inline(never)]
     pub(crate) fn output_after(&self, tail: &[u8], meter: &mut Meter) -> Output
-        ensures ok { (p m : List ℕ) → HasTaken self.now p
-            → p ++ tail.now ≡ padded (block_algorithm self.now) m
-            → take (output_len (block_algorithm self.now)) result.0
-            ≡ digest_of (block_algorithm self.now) m }
-        ensures any { take (output_len (block_algorithm self.now)) result.0
+        ensures bytes { take (output_len (block_algorithm self.now)) result.0
             ≡ take (output_len (block_algorithm self.now))
             (word_bytes (word_len (block_algorithm self.now))
             (blocks_from (block_algorithm self.now) (block_words self.now) tail.now)) }

@@ -10,7 +10,6 @@ ghost use Rattle.ring.specs.Digest.{IsDigest, bytes_of, digest_after, digest_alg
 
 use crate::digest::algorithm::{Algorithm, MAX_BLOCK_LEN};
 use crate::digest::block_context::BlockContext;
-use crate::digest::pending::move_on;
 use crate::digest::value::Digest;
 use ring_core::cost::Meter;
 use ring_core::error::Unspecified;
@@ -30,6 +29,7 @@ impl Context {
     ghost use Rattle.ring.specs.Context.{context_algorithm, counted_bytes, cut_off};
     ghost use Rattle.ring.specs.Context.{block_words, digest_with};
     ghost use Rattle.ring.specs.Context.{message_len, pending_bytes, pending_len};
+    ghost use Rattle.ring.specs.Updates.{IsUpdated, update_blocks};
 
     /// Starts the digest of a message under `algorithm`, with the initial words of FIPS 180-4,
     /// section 5.3. The message is empty so far.
@@ -79,7 +79,6 @@ impl Context {
 
     /// Adds `input` to the message as [`Context::update`] does, and counts on `meter` the blocks
     /// that it completes.
-    #[tactic(auto, unfolding(crate::specs::Context::StandsFor))]
     pub fn update_counted(&mut self, input: &[u8], meter: &mut Meter)
         ensures stands { (m : List ℕ) → StandsFor self.old m → StandsFor self.new (m ++ input.now) }
         ensures any { (y : List ℕ) (n : ℕ)
@@ -94,12 +93,22 @@ impl Context {
         ensures pending { pending_len self.new ≡
             (pending_len self.old + length input.now) % block_len (context_algorithm self.old) }
     {
+        self.add(input, meter)
+    }
+
+    // Adds `input` to the message, and runs each block that is complete.
+    #[inline(always)]
+    pub(crate) fn add(&mut self, input: &[u8], meter: &mut Meter)
+        ensures updated { IsUpdated self.old self.new input.now }
+        ensures cost { meter.new
+            ≡ raised meter.old (update_blocks self.old (length input.now)) 0 }
+    {
         if input.len() < self.room() {
             self.keep(input);
             return;
         }
         let begun = self.num_pending;
-        let left = move_on(&mut self.block, &mut self.pending, begun, input, meter);
+        let left = self.block.move_on(&mut self.pending, begun, input, meter);
         self.num_pending = left;
     }
 

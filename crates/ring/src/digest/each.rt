@@ -13,8 +13,8 @@ use crate::digest::algorithm::{Algorithm, AlgorithmId, is_message_within};
 use crate::digest::block_context::run_blocks;
 use crate::digest::dynstate::{DynState, Output, StateWord, long_output, short_output};
 use crate::digest::lanes::algorithms::{RunBlocks, Sha1, Sha256, Sha512, by_lanes};
-use crate::digest::lanes::states::{InVector, LaneStates, MAX_LANES};
-use crate::digest::padding::{MAX_TAIL_LEN, write_tail};
+use crate::digest::lanes::blocks::{Blocks, Padded, fewest_blocks, run_lanes};
+use crate::digest::lanes::states::{InVector, LaneStates};
 use crate::digest::single::digest_counted;
 use crate::digest::value::Digest;
 use crate::width::{AVX2, SSE, lanes_for};
@@ -23,60 +23,7 @@ use ring_core::error::Unspecified;
 use std::num::Wrapping;
 use std::simd::{u32x4, u32x8, u64x4};
 
-// Here `N` is the number of bytes in a block of the algorithm: a constant, so that a copy of a
-// block is a few instructions.
-
-// The number of blocks of a padded message.
-fn blocks_of<const N: usize>(algorithm: Algorithm, message: &[u8]) -> usize
-    requires whole { block_len algorithm ≡ N }
-    requires within { IsMessageWithin algorithm (length message.now) }
-    ensures { result ≡ padded_blocks algorithm (length message.now) }
-{
-    (message.len() + algorithm.length_len()) / N + 1
-}
-
-// Writes a block of the padded message past the whole blocks of the message.
-fn put_tail_block<const N: usize>(
-    algorithm: Algorithm,
-    message: &[u8],
-    index: usize,
-    block: &mut [u8; N],
-)
-    requires whole { block_len algorithm ≡ N }
-    requires within { IsMessageWithin algorithm (length message.now) }
-    requires past { length message.now / N ≤ index }
-    requires below { index < padded_blocks algorithm (length message.now) }
-    ensures { block.new ≡ chunk_at N (padded algorithm message.now) index }
-{
-    let whole = message.len() / N;
-    let pending = &message[N * whole..];
-    let mut tail = [0; MAX_TAIL_LEN];
-    let len = write_tail(algorithm, pending, message.len() as u128, &mut tail);
-    let start = N * (index - whole);
-    block.copy_from_slice(&tail[..len][start..start + N]);
-}
-
-// Writes a block of the padded message. It is inlined, since calls take a hundredth of the time of
-// SHA-1's blocks.
-#[inline(always)]
-#[tactic(auto, using(crate::proofs::lemmas::digest::LaneBlocks::chunk_whole))]
-fn put_block<const N: usize>(
-    algorithm: Algorithm,
-    message: &[u8],
-    index: usize,
-    block: &mut [u8; N],
-)
-    requires whole { block_len algorithm ≡ N }
-    requires within { IsMessageWithin algorithm (length message.now) }
-    requires below { index < padded_blocks algorithm (length message.now) }
-    ensures { block.new ≡ chunk_at N (padded algorithm message.now) index }
-{
-    if index >= message.len() / N {
-        return put_tail_block(algorithm, message, index, block);
-    }
-    let start = N * index;
-    block.copy_from_slice(&message[start..start + N]);
-}
+// Here `N` is the number of bytes in a block of the algorithm.
 
 // Advances the state over the message's remaining whole blocks, from the first `count` blocks of
 // the padded message on, and returns how many blocks it has then taken in.
@@ -111,8 +58,9 @@ fn run_whole<const N: usize>(
 fn output_of<const N: usize>(state: &DynState) -> Output
     requires short { N ≡ 64 → state_word_len state.now ≡ 4 }
     requires long { N ≢ 64 → state_word_len state.now ≡ 8 }
-    ensures { result.0 ≡ word_bytes (state_word_len state.now) (words state.now)
+    ensures bytes { result.0 ≡ word_bytes (state_word_len state.now) (words state.now)
         ++ replicate (64 - 8 * state_word_len state.now) 0 }
+    ensures count { length (words state.now) ≡ 8 }
 {
     if N == 64 {
         short_output(Wrapping::<u32>::words_in(state))
@@ -142,75 +90,12 @@ fn finished<const N: usize>(
 {
     let mut state = state;
     let done = run_whole::<N>(algorithm, &mut state, message, count, meter);
-    'rest: for index in done..blocks_of::<N>(algorithm, message) {
+    'rest: for index in done..<Padded as Blocks<N>>::blocks_of(algorithm, message) {
         let mut block = [0; N];
-        put_block(algorithm, message, index, &mut block);
+        Padded::put_block(algorithm, message, index, &mut block);
         let _ = run_blocks(algorithm, &mut state, &block, meter);
     }
     Digest::new(output_of::<N>(&state), algorithm)
-}
-
-// The smallest number of blocks of the padded messages.
-fn fewest_blocks<const N: usize>(algorithm: Algorithm, messages: &[&[u8]]) -> usize
-    requires whole { block_len algorithm ≡ N }
-    requires within { CanDigestEach algorithm messages.now (length messages.now) }
-    ensures { (i : ℕ) → i < length messages.now
-        → result ≤ padded_blocks algorithm (length (message_at messages.now i)) }
-{
-    let mut fewest = usize::MAX;
-    'messages: for i in 0..messages.len() {
-        fewest = fewest.min(blocks_of::<N>(algorithm, messages[i]));
-    }
-    fewest
-}
-
-// Writes a block of each padded message to its place.
-#[inline(always)]
-fn put_blocks<const N: usize>(
-    algorithm: Algorithm,
-    messages: &[&[u8]],
-    index: usize,
-    blocks: &mut [[u8; N]],
-)
-    requires whole { block_len algorithm ≡ N }
-    requires within { CanDigestEach algorithm messages.now (length blocks.old) }
-    requires below { (i : ℕ) → i < length messages.now
-        → index < padded_blocks algorithm (length (message_at messages.now i)) }
-    ensures { (i : ℕ) → i < length messages.now
-        → array_at blocks.new i
-        ≡ chunk_at N (padded algorithm (message_at messages.now i)) index }
-{
-    'lanes: for i in 0..messages.len() {
-        put_block::<N>(algorithm, messages[i], index, &mut blocks[i]);
-    }
-}
-
-// The states after the first `count` blocks of the padded messages.
-fn states_after<H: RunBlocks<N>, const N: usize>(
-    algorithm: Algorithm,
-    messages: &[&[u8]],
-    count: usize,
-    meter: &mut Meter,
-) -> H::States
-    requires some { 0 < H.LANES }
-    requires most { H.LANES ≤ 8 }
-    requires same { H.is_of algorithm }
-    requires whole { block_len algorithm ≡ N }
-    requires within { CanDigestEach algorithm messages.now H.LANES }
-    requires below { (i : ℕ) → i < H.LANES
-        → count ≤ padded_blocks algorithm (length (message_at messages.now i)) }
-    ensures words { (i : ℕ) → i < H.LANES → HasWords algorithm
-        (words_at algorithm (message_at messages.now i) count) (H.lane i result) }
-    ensures cost { meter.new ≡ raised meter.old (H.LANES * count) 0 }
-{
-    let mut window = H::window();
-    let mut states = H::splat(&algorithm.initial_state());
-    let mut blocks = [[0; N]; MAX_LANES];
-    'blocks: for index in 0..count {
-        put_blocks::<N>(algorithm, messages, index, &mut blocks[..H::LANES]);
-        H::run_blocks(&mut window, &mut states, &blocks[..H::LANES], meter);
-    }
-    states
 }
 
 // Writes the digests of as many messages as there are lanes: side by side while all have blocks,
@@ -230,8 +115,9 @@ fn digest_in_lanes<H: RunBlocks<N>, const N: usize>(
     ensures ok { AreDigests out.new algorithm messages.now }
     ensures cost { meter.new ≡ raised meter.old (each_blocks algorithm messages.now) 0 }
 {
-    let count = fewest_blocks::<N>(algorithm, messages);
-    let states = states_after::<H, N>(algorithm, messages, count, meter);
+    let count = fewest_blocks::<Padded, N>(algorithm, messages);
+    let mut states = H::splat(&algorithm.initial_state());
+    run_lanes::<H, Padded, N>(algorithm, &mut states, messages, count, meter);
     'lanes: for i in 0..messages.len() {
         let state = H::state(&states, i);
         out[i] = finished::<N>(algorithm, state, messages[i], count, meter);

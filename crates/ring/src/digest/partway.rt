@@ -44,7 +44,7 @@ impl Context {
         }
         let room = self.algorithm().block_len() - self.num_pending;
         let (front, rest) = piece.split_at(room.min(piece.len()));
-        self.update_counted(front, meter);
+        self.add(front, meter);
         rest
     }
 
@@ -77,10 +77,10 @@ impl Context {
             (update_blocks self.old (length piece.now) - count) 0 }
     {
         if count == 0 {
-            return self.update_counted(piece, meter);
+            return self.add(piece, meter);
         }
         let done = count * self.block.algorithm.block_len();
         self.go_past(state, done);
-        self.update_counted(&piece[done..], meter);
+        self.add(&piece[done..], meter);
     }
 }

@@ -15,83 +15,12 @@ use crate::digest::algorithm::{Algorithm, AlgorithmId};
 use crate::digest::context::Context;
 use crate::digest::dynstate::DynState;
 use crate::digest::lanes::algorithms::{RunBlocks, Sha1, Sha256, Sha512, by_lanes};
+use crate::digest::lanes::blocks::{Whole, fewest_blocks, run_lanes};
 use crate::digest::lanes::states::{InVector, LaneStates, MAX_LANES};
 use crate::width::{AVX2, SSE, lanes_for};
 use ring_core::cost::Meter;
 use ring_core::error::Unspecified;
 use std::simd::{u32x4, u32x8, u64x4};
-
-// The smallest number of whole blocks of the pieces.
-fn fewest_whole<const N: usize>(pieces: &[&[u8]]) -> usize
-    requires { 0 < N }
-    ensures { (i : ℕ) → i < length pieces.now → result ≤ length (message_at pieces.now i) / N }
-{
-    let mut fewest = usize::MAX;
-    'pieces: for i in 0..pieces.len() {
-        fewest = fewest.min(pieces[i].len() / N);
-    }
-    fewest
-}
-
-// Writes a whole block of a piece.
-#[inline(always)]
-fn put_whole<const N: usize>(piece: &[u8], index: usize, block: &mut [u8; N])
-    requires some { 0 < N }
-    requires below { index < length piece.now / N }
-    ensures { block.new ≡ chunk_at N piece.now index }
-{
-    let start = N * index;
-    block.copy_from_slice(&piece[start..start + N]);
-}
-
-// Writes a whole block of each piece to its place.
-#[inline(always)]
-fn put_whole_blocks<const N: usize>(pieces: &[&[u8]], index: usize, blocks: &mut [[u8; N]])
-    requires some { 0 < N }
-    requires small { N ≤ 128 }
-    requires lanes { length pieces.now ≡ length blocks.old }
-    requires below { (i : ℕ) → i < length pieces.now
-        → index < length (message_at pieces.now i) / N }
-    ensures { (i : ℕ) → i < length pieces.now
-        → array_at blocks.new i ≡ chunk_at N (message_at pieces.now i) index }
-{
-    'lanes: for i in 0..pieces.len() {
-        put_whole::<N>(pieces[i], index, &mut blocks[i]);
-    }
-}
-
-// The states after the first `count` blocks of the pieces, each after those at its place.
-fn states_past<H: RunBlocks<N>, const N: usize>(
-    states: &[DynState],
-    pieces: &[&[u8]],
-    count: usize,
-    meter: &mut Meter,
-) -> H::States
-    requires some { 0 < H.LANES }
-    requires most { H.LANES ≤ 8 }
-    requires positive { 0 < N }
-    requires small { N ≤ 128 }
-    requires lanes { length states.now ≡ H.LANES }
-    requires pieces { length pieces.now ≡ H.LANES }
-    requires sized { All (λ state. state_word_len state ≡ H.word_len) states.now }
-    requires eight { All (λ state. length (words state) ≡ 8) states.now }
-    requires below { (i : ℕ) → i < H.LANES → count ≤ length (message_at pieces.now i) / N }
-    ensures words { (a : Algorithm) → H.is_of a → EachItem states.now (λ i state.
-        HasWords a (fold_chunks (block_function a) N (chaining_words a state)
-        (message_at pieces.now i) count) (H.lane i result)) }
-    ensures spare { (a : Algorithm) → H.is_of a → EachItem states.now (λ i state.
-        drop (word_count a) (H.lane i result) ≡ spare_words a state) }
-    ensures cost { meter.new ≡ raised meter.old (H.LANES * count) 0 }
-{
-    let mut window = H::window();
-    let mut lanes = H::new(states);
-    let mut blocks = [[0; N]; MAX_LANES];
-    'blocks: for index in 0..count {
-        put_whole_blocks::<N>(pieces, index, &mut blocks[..H::LANES]);
-        H::run_blocks(&mut window, &mut lanes, &blocks[..H::LANES], meter);
-    }
-    lanes
-}
 
 // The states of the contexts, in room for the greatest number of lanes.
 fn states_of(algorithm: Algorithm, contexts: &[Context]) -> [DynState; MAX_LANES]
@@ -135,37 +64,8 @@ fn complete_each<'p>(
     rests
 }
 
-// Updates as many contexts as there are lanes: side by side while all pieces have whole blocks,
-// then each by itself. A context with a begun block has no piece.
-fn run_in_lanes<H: RunBlocks<N>, const N: usize>(
-    algorithm: Algorithm,
-    contexts: &mut [Context],
-    pieces: &[&[u8]],
-    meter: &mut Meter,
-)
-    requires some { 0 < H.LANES }
-    requires most { H.LANES ≤ 8 }
-    requires same { H.is_of algorithm }
-    requires whole { block_len algorithm ≡ N }
-    requires lanes { length contexts.old ≡ H.LANES }
-    requires pieces { length pieces.now ≡ H.LANES }
-    requires algorithm { All (λ context. context_algorithm context ≡ algorithm) contexts.old }
-    requires ready { EachItem contexts.old (λ i context.
-        0 < length (message_at pieces.now i) → pending_len context ≡ 0) }
-    ensures ok { AreUpdated contexts.old contexts.new pieces.now }
-    ensures cost { meter.new
-        ≡ raised meter.old (update_each_blocks contexts.old pieces.now) 0 }
-{
-    let count = fewest_whole::<N>(pieces);
-    let states = states_of(algorithm, contexts);
-    let lanes = states_past::<H, N>(&states[..H::LANES], pieces, count, meter);
-    'lanes: for i in 0..contexts.len() {
-        let state = H::state(&lanes, i);
-        contexts[i].go_on(state, pieces[i], count, meter);
-    }
-}
-
-// Updates as many contexts as there are lanes, after it has completed their begun blocks.
+// Updates as many contexts as there are lanes: completes their begun blocks, runs them side by side
+// while all pieces have whole blocks, and then each by itself.
 fn update_in_lanes<H: RunBlocks<N>, const N: usize>(
     algorithm: Algorithm,
     contexts: &mut [Context],
@@ -183,8 +83,16 @@ fn update_in_lanes<H: RunBlocks<N>, const N: usize>(
     ensures cost { meter.new
         ≡ raised meter.old (update_each_blocks contexts.old pieces.now) 0 }
 {
-    let rests = complete_each(contexts, pieces, meter);
-    run_in_lanes::<H, N>(algorithm, contexts, &rests[..H::LANES], meter);
+    let all = complete_each(contexts, pieces, meter);
+    let rests = &all[..H::LANES];
+    let count = fewest_blocks::<Whole, N>(algorithm, rests);
+    let states = states_of(algorithm, contexts);
+    let mut lanes = H::new(&states[..H::LANES]);
+    run_lanes::<H, Whole, N>(algorithm, &mut lanes, rests, count, meter);
+    'lanes: for i in 0..contexts.len() {
+        let state = H::state(&lanes, i);
+        contexts[i].go_on(state, rests[i], count, meter);
+    }
 }
 
 // Updates contexts of one algorithm, of which so many can run together.

@@ -1,21 +1,61 @@
 // SPDX-License-Identifier: ISC
-//! The tag of a message that arrives in pieces.
+//! Tags, and the tag of a message that arrives in pieces.
 
 ghost use Rattle.std.specs.Prelude.{◌≡◌, ◌↔◌, ℕ, ◌+◌, ◌-◌, ◌%◌, ◌<◌, ◌≤◌, List, [], ◌++◌, Some};
 ghost use Rattle.std.specs.Prelude.{codes, length, IfOk, IsErr, OnOk, OnErr};
 ghost use Rattle.ring_core.specs.Cost.{raised};
-ghost use Rattle.ring.specs.Algorithm.{block_len, max_input_len, name_of};
+ghost use Rattle.ring.specs.Algorithm.{block_len, max_input_len, name_of, output_len};
 ghost use Rattle.ring.specs.Context.{block_algorithm, context_algorithm, counted_bytes, cut_off};
 ghost use Rattle.ring.specs.Context.{message_len};
 ghost use Rattle.ring.specs.Cost.{last_blocks, padded_blocks, whole_blocks};
 
 use crate::digest;
+use crate::digest::Digest;
 use crate::digest::block_context::BlockContext;
 use crate::hmac::key::Key;
-use crate::hmac::tag::Tag;
 use ring_core::cost::Meter;
 use ring_core::error::Unspecified;
 use std::fmt;
+
+/// A tag, and the algorithm that computed it.
+#[derive(Clone, Copy, Debug)]
+pub struct Tag(Digest);
+
+impl Tag {
+    ghost use Rattle.ring.specs.Context.{HasTaken, block_words};
+    ghost use Rattle.ring.specs.Digest.{IsDigest, bytes_of, digest_algorithm};
+    ghost use Rattle.ring.specs.Hmac.{IsTag, tag_algorithm, tag_bytes, tag_of_inner};
+    ghost use Rattle.ring.specs.KeyBlocks.{inner_block, outer_block};
+    ghost use Rattle.ring.specs.declared.digest.algorithm.Algorithm.{Algorithm};
+
+    // The tag of the inner digest `digest`, where `outer` is the state after the key's outer block
+    // (RFC 2104, section 2).
+    pub(crate) fn of_inner(digest: &Digest, outer: &BlockContext, meter: &mut Meter) -> Self
+        requires same { digest_algorithm digest.now ≡ block_algorithm outer.now }
+        requires counted { counted_bytes outer.now ≡ block_len (block_algorithm outer.now) }
+        ensures ok { (a : Algorithm) (k m : List ℕ) → block_algorithm outer.now ≡ a
+            → IsDigest digest.now a (inner_block a k ++ m) → HasTaken outer.now (outer_block a k)
+            → IsTag result a k m }
+        ensures any { tag_bytes result ≡ tag_of_inner (block_algorithm outer.now)
+            (block_words outer.now) (bytes_of digest.now) }
+        ensures cost { meter.new ≡ raised meter.old 1 0 }
+        ensures algorithm { tag_algorithm result ≡ block_algorithm outer.now }
+    {
+        match outer.try_finish(digest.as_ref(), meter) {
+            Ok(value) => Tag(value),
+            // A block and a digest are within each limit.
+            Err(_) => unreachable!(),
+        }
+    }
+
+    /// The bytes of the tag, as many as a digest of its algorithm has.
+    pub fn as_ref(&self) -> &[u8]
+        ensures bytes { result.now ≡ tag_bytes self.now }
+        ensures len { length result.now ≡ output_len (tag_algorithm self.now) }
+    {
+        self.0.as_ref()
+    }
+}
 
 /// The tag of a message that arrives in pieces. A context stands for a key and for the pieces so
 /// far, joined.

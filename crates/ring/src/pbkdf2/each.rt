@@ -101,7 +101,7 @@ fn derive_all<const VECTOR_BITS: usize, R: Receiver>(
     requires within { CanDeriveEach (hmac_digest algorithm) salts.now secrets.now
         (length secrets.now) len }
     requires room { HasPlaces R.places R.room (length secrets.now) len receiver.old }
-    ensures ok { Receives R.HasReceived 0 (length secrets.now) 0 (dk_at (hmac_digest algorithm)
+    ensures ok { Receives R.HasReceived 0 (length secrets.now) (dk_at (hmac_digest algorithm)
         salts.now secrets.now (non_zero_u32_get iterations) len) receiver.old receiver.new }
     ensures cost { meter.new ≡ raised meter.old (derive_each_blocks (hmac_digest algorithm)
         salts.now secrets.now (non_zero_u32_get iterations) len)

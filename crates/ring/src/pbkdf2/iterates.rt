@@ -3,13 +3,12 @@
 
 ghost use Rattle.std.specs.Prelude.{◌≡◌, ℕ, ◌+◌, ◌-◌, ◌*◌, ◌<◌, List, length, take};
 ghost use Rattle.std.specs.Int.NonZero.{non_zero_u32_get};
-ghost use Rattle.ring.specs.Prelude.{IsKeyInLane, IsTagWithin, KeyStandsFor, digest_bytes};
+ghost use Rattle.ring.specs.Prelude.{IsKeyInLane, IsTagWithin, KeyStandsFor, digest_bytes, hmac_of};
 ghost use Rattle.ring.specs.Prelude.{key_algorithm, output_len, padded_blocks, pbkdf2_t, pbkdf2_u};
 ghost use Rattle.ring.specs.Prelude.{raised, tag_algorithm, tag_bytes};
 
 use crate::digest::dynstate::OUTPUT_ROOM;
 use crate::digest::lanes::algorithms::DigestBlock;
-use crate::hmac::tag_of_digest::replace_by_tag;
 use crate::hmac::{Context, Key, Tag};
 use ring_core::cost::Meter;
 use std::num::NonZeroU32;
@@ -41,6 +40,31 @@ pub(crate) fn bytes_of(tag: &Tag) -> [u8; OUTPUT_ROOM]
     let value = tag.as_ref();
     bytes[..value.len()].copy_from_slice(value);
     bytes
+}
+
+// Replaces the words of a digest by those of its tag, in each lane under the key of that lane. A
+// message as long as a digest is the words that the block function ended with, and its padding
+// after a key's block is the same for all.
+#[inline(always)]
+fn replace_by_tag<H: DigestBlock>(
+    window: &mut H::Window,
+    inner: &H::States,
+    outer: &H::States,
+    digest: &mut H::States,
+    meter: &mut Meter,
+)
+    requires { 0 < H.LANES }
+    ensures ok { (i : ℕ) (k : List ℕ)
+        → IsKeyInLane H.algorithm (H.lane i inner.now) (H.lane i outer.now) k
+        → digest_bytes H.algorithm (H.lane i digest.new)
+        ≡ hmac_of H.algorithm k (digest_bytes H.algorithm (H.lane i digest.old)) }
+    ensures cost { meter.new ≡ raised meter.old (2 * H.LANES) 0 }
+{
+    let mut inside = *inner;
+    H::hash_digests(window, &mut inside, digest, meter);
+    let mut outside = *outer;
+    H::hash_digests(window, &mut outside, &inside, meter);
+    *digest = outside;
 }
 
 // The exclusive or of the first iterate and of those after it, in each lane under its key. It isn't

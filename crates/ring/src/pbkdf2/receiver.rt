@@ -6,7 +6,7 @@ ghost use Rattle.std.specs.Prelude.{◌≡◌, ◌≢◌, ◌↔◌, ℕ, ◌+�
 ghost use Rattle.std.specs.Prelude.{List, drop, length, min, take, true};
 ghost use Rattle.std.proofs.Common.{arith, refl};
 ghost use Rattle.ring_core.specs.Prelude.{array_at};
-ghost use Rattle.ring.specs.Prelude.{HasPlaces, KeepsPlaces, Receives, answer_at, raised};
+ghost use Rattle.ring.specs.Prelude.{HasPlaces, KeepsPlaces, Takes, answer_at, raised};
 
 use ring_core::bb::verify_slices_are_equal_counted;
 use ring_core::cost::Meter;
@@ -36,7 +36,7 @@ pub(crate) trait Receiver {
     // Takes a part of the key at a place, which begins at the key's byte `from`.
     fn take(&mut self, place: usize, from: usize, part: &[u8], meter: &mut Meter)
         requires { HasPlaces places room (place + 1) (from + length part.now) self.old }
-        ensures ok { Receives HasReceived place 1 from (λ i. part.now) self.old self.new }
+        ensures ok { Takes HasReceived place from part.now self.old self.new }
         ensures same { KeepsPlaces places room self.old self.new }
         ensures cost { meter.new ≡ raised meter.old 0 (pairs * length part.now) };
 

@@ -3,15 +3,14 @@
 //! T_2, .., one after another, of which the last may be cut off. A round is the exclusive or of its
 //! iterates (RFC 2898, section 5.2).
 
-ghost use Rattle.std.specs.Prelude.{◌≡◌, ℕ, ◌+◌, ◌-◌, ◌*◌, ◌^◌, ◌<◌, ◌≤◌, All, List, length};
-ghost use Rattle.std.specs.Prelude.{take};
+ghost use Rattle.std.specs.Prelude.{◌≡◌, ℕ, ◌+◌, ◌-◌, ◌*◌, ◌^◌, ◌<◌, ◌≤◌, List, length};
 ghost use Rattle.std.specs.Int.NonZero.{non_zero_u32_get};
-ghost use Rattle.ring.specs.Prelude.{AreKeysOf, AreRounds, AreStarts, BeginsWithRound};
-ghost use Rattle.ring.specs.Prelude.{CanRunTogether, EachItem, HasPlaces, IsRound, IsTagWithin};
+ghost use Rattle.ring.specs.Prelude.{AreKeysOf, AreOfKeys, AreOutputs, AreRounds, AreStarts};
+ghost use Rattle.ring.specs.Prelude.{CanDeriveUnder, CanRunTogether, HasPlaces, IsRound};
 ghost use Rattle.ring.specs.Prelude.{KeepsPlaces, Receives, bytes_at, bytes_before, derive_rounds};
-ghost use Rattle.ring.specs.Prelude.{dk, first_blocks, iterate_blocks, key_algorithm, len_before};
-ghost use Rattle.ring.specs.Prelude.{max_dk_len, next_round, output_len, pbkdf2_t, raised};
-ghost use Rattle.ring.specs.Prelude.{round_blocks, round_on, sum_below};
+ghost use Rattle.ring.specs.Prelude.{dk, first_blocks, iterate_blocks, len_before, max_dk_len};
+ghost use Rattle.ring.specs.Prelude.{next_round, raised, round_at, round_blocks, round_on};
+ghost use Rattle.ring.specs.Prelude.{sum_below};
 
 use crate::digest::algorithm::{Algorithm, AlgorithmId};
 use crate::digest::dynstate::{DynState, OUTPUT_ROOM, Output};
@@ -37,6 +36,7 @@ pub(crate) struct Round {
 }
 
 // The round after this one, of keys of `len` bytes: the next of its key, or the first of the next.
+#[tactic(auto, unfolding(crate::specs::Rounds::next_round))]
 fn round_after(algorithm: Algorithm, len: usize, round: Round) -> Round
     requires round { IsRound algorithm len round }
     requires numbers { len ≤ max_dk_len algorithm }
@@ -65,7 +65,7 @@ fn rounds_from(algorithm: Algorithm, keys: usize, len: usize, first: Round) -> u
     requires round { IsRound algorithm len first }
     requires place { first.place < keys }
     requires numbers { len ≤ max_dk_len algorithm }
-    ensures places { (i : ℕ) → i < result → (round_on algorithm len first i).place < keys }
+    ensures places { AreOfKeys algorithm len first result keys }
     ensures some { 0 < result }
     ensures most { result ≤ 8 }
 {
@@ -138,8 +138,9 @@ fn write_rounds_in_lanes<H: DigestBlock>(
     requires same { H.algorithm ≡ algorithm }
     requires lanes { length outputs.old ≡ H.LANES }
     requires rounds { AreRounds algorithm keys.now salts.now len first H.LANES }
-    ensures ok { EachItem outputs.new (λ i output. BeginsWithRound algorithm keys.now salts.now
-        (round_on algorithm len first i) (non_zero_u32_get iterations) output.0) }
+    ensures ok { (p : ℕ → List ℕ) → AreKeysOf algorithm keys.now p → AreOutputs algorithm len
+        (round_at algorithm p salts.now (non_zero_u32_get iterations)) (length keys.now) first
+        outputs.new }
     ensures cost { meter.new ≡ raised meter.old (sum_below (λ i. round_blocks algorithm salts.now
         (non_zero_u32_get iterations) (round_on algorithm len first i)) H.LANES) 0 }
 {
@@ -181,8 +182,9 @@ fn write_rounds<const VECTOR_BITS: usize>(
 )
     requires together { CanRunTogether VECTOR_BITS algorithm (length outputs.old) }
     requires rounds { AreRounds algorithm keys.now salts.now len first (length outputs.old) }
-    ensures ok { EachItem outputs.new (λ i output. BeginsWithRound algorithm keys.now salts.now
-        (round_on algorithm len first i) (non_zero_u32_get iterations) output.0) }
+    ensures ok { (p : ℕ → List ℕ) → AreKeysOf algorithm keys.now p → AreOutputs algorithm len
+        (round_at algorithm p salts.now (non_zero_u32_get iterations)) (length keys.now) first
+        outputs.new }
     ensures cost { meter.new ≡ raised meter.old (sum_below (λ i. round_blocks algorithm salts.now
         (non_zero_u32_get iterations) (round_on algorithm len first i)) (length outputs.old)) 0 }
 {
@@ -223,22 +225,13 @@ fn hand_over<R: Receiver>(
 ) -> Round
     requires round { IsRound algorithm len first }
     requires numbers { len ≤ max_dk_len algorithm }
-    requires most { (i : ℕ) → i < length outputs.now
-        → place + (round_on algorithm len first i).place + 1 < 2 ^ 64 }
     requires room { (i : ℕ) → i < length outputs.now → HasPlaces R.places R.room
         (place + (round_on algorithm len first i).place + 1) len receiver.old }
     ensures next { result ≡ round_on algorithm len first (length outputs.now) }
-    ensures ok { (start : R) (p s : ℕ → List ℕ) (c m : ℕ)
-        → ((i : ℕ) → i < length outputs.now → (round_on algorithm len first i).place < m)
-        → EachItem outputs.now (λ i output. take (output_len algorithm) output.0
-        ≡ pbkdf2_t algorithm (p (round_on algorithm len first i).place)
-        (s (round_on algorithm len first i).place) (round_on algorithm len first i).index c)
-        → Receives R.HasReceived place m 0
-        (bytes_before algorithm len (λ i j. pbkdf2_t algorithm (p i) (s i) j c) first)
-        start receiver.old
-        → Receives R.HasReceived place m 0
-        (bytes_before algorithm len (λ i j. pbkdf2_t algorithm (p i) (s i) j c) result)
-        start receiver.new }
+    ensures ok { (start : R) (f : ℕ → ℕ → List ℕ) (m : ℕ)
+        → AreOutputs algorithm len f m first outputs.now
+        → Receives R.HasReceived place m (bytes_before algorithm len f first) start receiver.old
+        → Receives R.HasReceived place m (bytes_before algorithm len f result) start receiver.new }
     ensures same { KeepsPlaces R.places R.room receiver.old receiver.new }
     ensures cost { meter.new ≡ raised meter.old 0
         (R.pairs * (len_before len result - len_before len first)) }
@@ -266,15 +259,10 @@ pub(crate) fn derive_under<const VECTOR_BITS: usize, R: Receiver>(
     receiver: &mut R,
     meter: &mut Meter,
 )
-    requires keys { All (λ key. key_algorithm key ≡ algorithm) keys.now }
-    requires count { length salts.now ≡ length keys.now }
-    requires within { (i : ℕ) → 0 < len → i < length keys.now
-        → IsTagWithin algorithm (length (bytes_at salts.now i) + 4) }
-    requires numbers { len ≤ max_dk_len algorithm }
-    requires most { first + length keys.now < 2 ^ 64 }
+    requires under { CanDeriveUnder algorithm keys.now salts.now len }
     requires room { HasPlaces R.places R.room (first + length keys.now) len receiver.old }
     ensures ok { (p : ℕ → List ℕ) → AreKeysOf algorithm keys.now p
-        → Receives R.HasReceived first (length keys.now) 0
+        → Receives R.HasReceived first (length keys.now)
         (λ i. dk algorithm (p i) (bytes_at salts.now i) (non_zero_u32_get iterations) len)
         receiver.old receiver.new }
     ensures same { KeepsPlaces R.places R.room receiver.old receiver.new }

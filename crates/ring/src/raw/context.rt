@@ -1,9 +1,11 @@
 // SPDX-License-Identifier: ISC
 //! The numbers of a digest's context.
 
+#![tactic(auto, unfolding(crate::specs::Raw::RawStandsFor, crate::specs::Raw::named_block_len))]
+
 ghost use Rattle.std.specs.Prelude.{◌≡◌, ◌↔◌, ℕ, ◌+◌, ◌-◌, ◌<◌, ◌≤◌, List, [], ◌++◌, length, IfOk};
 ghost use Rattle.std.specs.Prelude.{IfSome, IsErr, IsFalse, IsNone, IsSomeAnd, IsTrue, OnOk, Some};
-ghost use Rattle.ring.specs.Prelude.{AreNumbersOf, AreWords, HasAdded, HasTaken, IsDigest};
+ghost use Rattle.ring.specs.Prelude.{AreNumbersOf, AreWords, HasAdded, HasNumbers, IsDigest};
 ghost use Rattle.ring.specs.Prelude.{IsNoContext, IsRawState, RawStandsFor, StandsFor};
 ghost use Rattle.ring.specs.Prelude.{block_algorithm, block_len, block_words, bytes_of};
 ghost use Rattle.ring.specs.Prelude.{completed_len, context_algorithm, counted_bytes, cut_off};
@@ -17,7 +19,6 @@ use crate::digest::algorithm::{Algorithm, MAX_BLOCK_LEN};
 use crate::digest::block_context::BlockContext;
 use crate::digest::context::Context;
 use crate::digest::dynstate::DynState;
-use crate::digest::pending::move_on;
 use crate::digest::value::Digest;
 use crate::raw::number::{digest_of_number, number_of_digest};
 use crate::raw::words::{
@@ -46,7 +47,6 @@ pub struct RawContext {
 
 impl RawContext {
     /// The numbers of `context`.
-    #[tactic(auto, unfolding(crate::specs::Raw::RawStandsFor))]
     pub fn new(context: &Context) -> Self
         ensures stands { (m : List ℕ) → StandsFor context.now m
             → RawStandsFor result (context_algorithm context.now) m }
@@ -66,7 +66,6 @@ impl RawContext {
 
     /// Adds `input` to the message if that completes no block, and returns whether it did. This is
     /// faster than making a context and its numbers again. Otherwise nothing is changed.
-    #[tactic(auto, unfolding(crate::specs::Raw::named_block_len))]
     pub fn keep(&mut self, input: &[u8]) -> bool
         ensures stands { IsTrue result → (a : Algorithm) (m : List ℕ)
             → RawStandsFor self.old a m → RawStandsFor self.new a (m ++ input.now) }
@@ -92,7 +91,6 @@ impl RawContext {
 
     /// The digest algorithm of these numbers: `None` if they are no context's, since they name no
     /// algorithm, or count as many pending bytes as a block has, or more.
-    #[tactic(auto, unfolding(crate::specs::Raw::RawStandsFor, crate::specs::Raw::named_block_len))]
     pub fn algorithm(&self) -> Option<Algorithm>
         ensures none { IsNone result ↔ IsNoContext self.now }
         ensures stands { (a : Algorithm) (m : List ℕ) → RawStandsFor self.now a m
@@ -112,14 +110,10 @@ impl RawContext {
     // The state after the blocks that were run: `None` if the numbers are no context's.
     fn block(&self) -> Option<BlockContext>
         ensures none { IsNone result ↔ IsNoContext self.now }
-        ensures stands { IfSome result (λ block. (p : List ℕ)
-            → IsRawState (block_algorithm block) self.now.words p
-            → completed_len self.now ≡ cut_off (length p) → HasTaken block p) }
-        ensures words { IfSome result (λ block.
-            block_words block ≡ raw_chaining (block_algorithm block) self.now.words) }
+        ensures numbers { IfSome result (λ block. HasNumbers
+            (block_algorithm block) self.now.words (completed_len self.now) block) }
         ensures algorithm { IfSome result (λ block.
             digest_named self.now.algorithm ≡ Some (block_algorithm block)) }
-        ensures counted { IfSome result (λ block. counted_bytes block ≡ completed_len self.now) }
         ensures pending { IfSome result (λ block.
             self.now.num_pending < block_len (block_algorithm block)) }
     {
@@ -152,7 +146,6 @@ impl RawContext {
     // Adds `input` to the message where that completes a block. This is no part of the call that
     // keeps a short input, which is then the faster.
     #[inline(never)]
-    #[tactic(auto, unfolding(crate::specs::Raw::RawStandsFor))]
     fn run(&mut self, input: &[u8], meter: &mut Meter) -> bool
         requires { named_block_len self.old.algorithm ≤ self.old.num_pending + length input.now }
         ensures stands { (a : Algorithm) (m : List ℕ) → RawStandsFor self.old a m
@@ -184,13 +177,10 @@ impl RawContext {
 
     // The same where `block` is the state after the blocks that were run.
     #[inline(always)]
-    #[tactic(auto, unfolding(crate::specs::Raw::RawStandsFor))]
     fn run_from(&mut self, mut block: BlockContext, input: &[u8], meter: &mut Meter)
-        requires stands { (p : List ℕ) → IsRawState (block_algorithm block) self.old.words p
-            → completed_len self.old ≡ cut_off (length p) → HasTaken block p }
-        requires words { block_words block ≡ raw_chaining (block_algorithm block) self.old.words }
+        requires numbers { HasNumbers
+            (block_algorithm block) self.old.words (completed_len self.old) block }
         requires algorithm { digest_named self.old.algorithm ≡ Some (block_algorithm block) }
-        requires counted { counted_bytes block ≡ completed_len self.old }
         requires pending { self.old.num_pending < block_len (block_algorithm block) }
         requires enough { block_len (block_algorithm block)
             ≤ self.old.num_pending + length input.now }
@@ -202,7 +192,7 @@ impl RawContext {
             (whole_blocks a (self.old.num_pending + length input.now)) 0 }
     {
         let begun = self.num_pending as usize;
-        let left = move_on(&mut block, &mut self.pending, begun, input, meter);
+        let left = block.move_on(&mut self.pending, begun, input, meter);
         let (completed_low, completed_high) = halves(block.completed_bytes);
         self.num_pending = left as u32;
         self.completed_low = completed_low;
@@ -225,7 +215,6 @@ impl RawContext {
     /// Returns the digest as [`RawContext::finish`] does, and counts the last blocks on `meter`. A
     /// refusal leaves `meter` as it was, and so do numbers of no context.
     #[inline(always)]
-    #[tactic(auto, unfolding(crate::specs::Raw::RawStandsFor))]
     pub fn finish_counted(&self, meter: &mut Meter) -> Option<Result<Digest, Unspecified>>
         ensures none { IsNone result ↔ IsNoContext self.now }
         ensures ok { (a : Algorithm) (m : List ℕ) → RawStandsFor self.now a m
@@ -277,7 +266,6 @@ impl RawContext {
 
     /// The context of these numbers: `None` if they name no algorithm, or count as many pending
     /// bytes as a block has, or more.
-    #[tactic(auto, unfolding(crate::specs::Raw::RawStandsFor))]
     pub fn context(&self) -> Option<Context>
         ensures none { IsNone result ↔ IsNoContext self.now }
         ensures stands { (a : Algorithm) (m : List ℕ) → RawStandsFor self.now a m

@@ -1,6 +1,8 @@
 // SPDX-License-Identifier: ISC
 //! The numbers of a key.
 
+#![tactic(auto, unfolding(crate::specs::Raw::RawKeyStandsFor))]
+
 ghost use Rattle.std.specs.Prelude.{◌≡◌, ◌↔◌, ℕ, List, IfSome, IsNone, IsSomeAnd, Some};
 ghost use Rattle.ring.specs.Prelude.{Algorithm, AreWords, IsNoKey, KeyStandsFor, RawKeyStandsFor};
 ghost use Rattle.ring.specs.Prelude.{digest_named, inner_words, key_algorithm, outer_words};
@@ -26,7 +28,6 @@ pub struct RawKey {
 
 impl RawKey {
     /// The numbers of `key`.
-    #[tactic(auto, unfolding(crate::specs::Raw::RawKeyStandsFor))]
     pub fn new(key: &Key) -> Self
         ensures stands { (k : List ℕ) → KeyStandsFor key.now k
             → RawKeyStandsFor result (key_algorithm key.now) k }
@@ -46,7 +47,6 @@ impl RawKey {
     }
 
     /// The key of these numbers: `None` if they name no algorithm.
-    #[tactic(auto, unfolding(crate::specs::Raw::RawKeyStandsFor))]
     pub fn key(&self) -> Option<Key>
         ensures none { IsNone result ↔ IsNoKey self.now }
         ensures stands { (a : Algorithm) (k : List ℕ) → RawKeyStandsFor self.now a k

@@ -1,6 +1,8 @@
 // SPDX-License-Identifier: ISC
 //! The numbers of a tag's context.
 
+#![tactic(auto, unfolding(crate::specs::Raw::RawTagStandsFor, crate::specs::Raw::named_block_len))]
+
 ghost use Rattle.std.specs.Prelude.{◌≡◌, ◌↔◌, ℕ, ◌+◌, ◌-◌, ◌<◌, ◌≤◌, List, [], ◌++◌, length, IfOk};
 ghost use Rattle.std.specs.Prelude.{IfSome, IsErr, IsFalse, IsNone, IsSomeAnd, IsTrue, OnOk, Some};
 ghost use Rattle.ring.specs.Prelude.{AreNumbersOfTag, AreWords, IsNoTagContext, IsTag};
@@ -12,8 +14,7 @@ ghost use Rattle.ring.specs.Prelude.{tag_algorithm, tag_bytes, whole_blocks};
 ghost use Rattle.ring.specs.declared.digest.algorithm.Algorithm.{Algorithm};
 
 use crate::digest::algorithm::Algorithm;
-use crate::hmac::context::Context;
-use crate::hmac::tag::Tag;
+use crate::hmac::context::{Context, Tag};
 use crate::raw::context::RawContext;
 use crate::raw::number::digest_of_number;
 use crate::raw::words::{block_of, joined, numbers_of_block};
@@ -32,7 +33,6 @@ pub struct RawTagContext {
 
 impl RawTagContext {
     /// The numbers of `context`.
-    #[tactic(auto, unfolding(crate::specs::Raw::RawTagStandsFor))]
     pub fn new(context: &Context) -> Self
         ensures stands { (k m : List ℕ) → TagStandsFor context.now k m
             → RawTagStandsFor result (signing_algorithm context.now) k m }
@@ -47,7 +47,6 @@ impl RawTagContext {
     }
 
     // Whether the inner numbers count the key's block, which comes before the message.
-    #[tactic(auto, unfolding(crate::specs::Raw::named_block_len))]
     fn counts_key_block(&self) -> bool
         ensures { IsTrue result
             ↔ (named_block_len self.now.inner.algorithm ≤ completed_len self.now.inner) }
@@ -61,7 +60,6 @@ impl RawTagContext {
 
     /// Adds `input` to the message if that completes no block, as [`RawContext::keep`] does.
     /// Numbers that count less than the key's block are unchanged.
-    #[tactic(auto, unfolding(crate::specs::Raw::RawTagStandsFor))]
     pub fn keep(&mut self, input: &[u8]) -> bool
         ensures stands { IsTrue result → (a : Algorithm) (k m : List ℕ)
             → RawTagStandsFor self.old a k m → RawTagStandsFor self.new a k (m ++ input.now) }
@@ -79,7 +77,6 @@ impl RawTagContext {
 
     /// The digest algorithm of these numbers: `None` if they are no context's, since the inner ones
     /// are none, or count less than the key's block.
-    #[tactic(auto, unfolding(crate::specs::Raw::RawTagStandsFor))]
     pub fn algorithm(&self) -> Option<Algorithm>
         ensures none { IsNone result ↔ IsNoTagContext self.now }
         ensures stands { (a : Algorithm) (k m : List ℕ) → RawTagStandsFor self.now a k m
@@ -94,7 +91,6 @@ impl RawTagContext {
 
     /// Adds `input` to the message as [`RawTagContext::update`] does, and counts on `meter` the
     /// blocks that it completes. Where the numbers are no context's, `meter` is as it was.
-    #[tactic(auto, unfolding(crate::specs::Raw::RawTagStandsFor))]
     pub fn update_counted(&mut self, input: &[u8], meter: &mut Meter) -> bool
         ensures stands { (a : Algorithm) (k m : List ℕ) → RawTagStandsFor self.old a k m
             → IsTrue result × RawTagStandsFor self.new a k (m ++ input.now) }
@@ -125,7 +121,6 @@ impl RawTagContext {
 
     /// Returns the tag as [`RawTagContext::finish`] does, and counts the last blocks on `meter`. A
     /// refusal leaves `meter` as it was, and so do numbers of no context.
-    #[tactic(auto, unfolding(crate::specs::Raw::RawTagStandsFor))]
     pub fn finish_counted(&self, meter: &mut Meter) -> Option<Result<Tag, Unspecified>>
         ensures none { IsNone result ↔ IsNoTagContext self.now }
         ensures ok { (a : Algorithm) (k m : List ℕ) → RawTagStandsFor self.now a k m
@@ -187,7 +182,6 @@ impl RawTagContext {
 
     /// The context of these numbers: `None` if the inner ones are no context's, or count less than
     /// the key's block.
-    #[tactic(auto, unfolding(crate::specs::Raw::RawTagStandsFor))]
     pub fn context(&self) -> Option<Context>
         ensures none { IsNone result ↔ IsNoTagContext self.now }
         ensures stands { (a : Algorithm) (k m : List ℕ) → RawTagStandsFor self.now a k m

@@ -3,8 +3,8 @@
 
 ghost use Rattle.std.specs.Prelude.{◌≡◌, ◌+◌, ◌*◌, ◌%◌, ◌^◌, ℕ, List, IsTrue, length, map};
 ghost use Rattle.ring_core.specs.Prelude.{words_32, words_64};
-ghost use Rattle.ring.specs.Prelude.{AreWords, HasTaken, IsRawState, block_algorithm, block_words};
-ghost use Rattle.ring.specs.Prelude.{counted_bytes, cut_off, is_state_of, joined_halves};
+ghost use Rattle.ring.specs.Prelude.{AreWords, HasNumbers, HasTaken, IsRawState, block_algorithm};
+ghost use Rattle.ring.specs.Prelude.{block_words, is_state_of, joined_halves};
 ghost use Rattle.ring.specs.Prelude.{raw_chaining, word_len, words};
 
 use crate::digest::algorithm::Algorithm;
@@ -105,11 +105,7 @@ pub(crate) fn long_block_of(
     completed_bytes: u128,
 ) -> BlockContext
     requires { word_len algorithm.now ≡ 8 }
-    ensures stands { (p : List ℕ) → IsRawState algorithm.now numbers.now p
-        → completed_bytes ≡ cut_off (length p) → HasTaken result p }
-    ensures words { block_words result ≡ raw_chaining algorithm.now numbers.now }
-    ensures algorithm { block_algorithm result ≡ algorithm.now }
-    ensures counted { counted_bytes result ≡ completed_bytes }
+    ensures { HasNumbers algorithm.now numbers.now completed_bytes result }
 {
     BlockContext {
         state: DynState::As64(words_of_64(numbers)),
@@ -126,11 +122,7 @@ pub(crate) fn short_block_of(
     completed_bytes: u128,
 ) -> BlockContext
     requires { word_len algorithm.now ≡ 4 }
-    ensures stands { (p : List ℕ) → IsRawState algorithm.now numbers.now p
-        → completed_bytes ≡ cut_off (length p) → HasTaken result p }
-    ensures words { block_words result ≡ raw_chaining algorithm.now numbers.now }
-    ensures algorithm { block_algorithm result ≡ algorithm.now }
-    ensures counted { counted_bytes result ≡ completed_bytes }
+    ensures { HasNumbers algorithm.now numbers.now completed_bytes result }
 {
     BlockContext {
         state: DynState::As32(words_of_32(numbers)),
@@ -145,11 +137,7 @@ pub(crate) fn block_of(
     numbers: &[u64; 8],
     completed_bytes: u128,
 ) -> BlockContext
-    ensures stands { (p : List ℕ) → IsRawState algorithm.now numbers.now p
-        → completed_bytes ≡ cut_off (length p) → HasTaken result p }
-    ensures words { block_words result ≡ raw_chaining algorithm.now numbers.now }
-    ensures algorithm { block_algorithm result ≡ algorithm.now }
-    ensures counted { counted_bytes result ≡ completed_bytes }
+    ensures { HasNumbers algorithm.now numbers.now completed_bytes result }
 {
     match algorithm.initial_state() {
         DynState::As64(_) => long_block_of(algorithm, numbers, completed_bytes),

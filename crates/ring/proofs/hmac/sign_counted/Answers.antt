@@ -1,8 +1,9 @@
 -- SPDX-License-Identifier: ISC
-use Rattle.std.proofs.Common.{◌≡◌, ◌+◌, ℕ, List, [], ap, append-nil, arith, length, refl, ◌∙◌}
-use Rattle.ring.specs.Prelude.{BlockContext, block_len, block_words, bytes_of, counted_bytes}
-use Rattle.ring.specs.Prelude.{cut_off, digest_after, key_algorithm}
+use Rattle.std.proofs.Common.{◌≡◌, ◌+◌, ℕ, [], ap, append-nil, append_assoc, arith, length}
+use Rattle.std.proofs.Common.{refl, ◌∙◌}
+use Rattle.std.proofs.lemmas.Grind.{common_steps}
 use Rattle.ring_core.proofs.Costs.{raised-raised}
+use Rattle.ring.specs.Prelude.{BlockContext, block_len, counted_bytes, cut_off, key_algorithm}
 use Rattle.ring.proofs.Lengths.{HasCounted, counted_end}
 use Rattle.ring.proofs.Rows.{block_len-most}
 use Rattle.ring.proofs.lemmas.digest.Updating.{counted_moved, digest_moved, moved_count}
@@ -15,12 +16,13 @@ returns-clause-cost c =
     let same = ap (λ (b : BlockContext). b.algorithm) c.clone-inner.ensures in
     let update = c.update-rest.ensures in
     let count = moved_count update.moved update.short in
-    let blocks = rw (count.0, same) at update.moved.cost in
-    let left = rw same at count.1 in
     let taken : HasCounted a (length c.update-rest.result.now) n c.args.meter.now _ =
-    record { pending = left; cost = blocks } in
+    record { pending = rw same at count.1; cost = rw (count.0, same) at update.moved.cost } in
     let inner = counted_end (update.moved.algorithm ∙ same) taken c.in_ok-digest.ensures.cost in
-    c.of_inner.ensures.cost ∙ rw inner (raised-raised c.args.meter.now _ 0 1 0)
+    grind (arith, raised-raised)
+
+pub returns-clause-ok : goal.returns-clause-ok
+returns-clause-ok c = λ k stands. grind (arith, append_assoc)
 
 pub returns-clause-any : goal.returns-clause-any
 returns-clause-any c =
@@ -32,16 +34,8 @@ returns-clause-any c =
     let rest = c.update-rest.result.now in
     let moved = c.update-rest.ensures.moved in
     let whole : ℕ = block_len a + length m in
+    let counted = counted_moved [] 0 m moved (omega arith) refl in
     let len : cut_off (counted_bytes n + length rest) ≡ whole =
-    omega (
-      arith,
-      counted_moved [] 0 m moved (omega arith) refl,
-      ap counted_bytes c.clone-inner.ensures,
-      key.inner_block,
-      block_len-most a,
-    ) in
-    let D : BlockContext → List ℕ = λ z. digest_after z.algorithm (block_words z) m whole in
+    grind (arith, counted, key.inner_block, block_len-most a) in
     let after = rw (append-nil rest, append-nil m) at (digest_moved b n m moved [] whole) in
-    let inner : bytes_of c.in_ok-digest.digest ≡ D key.inner =
-    c.in_ok-digest.ensures.any ∙ rw len after ∙ ap D c.clone-inner.ensures in
-    c.of_inner.ensures.any ∙ rw (key.same, inner) refl
+    grind (arith, common_steps, key.same)

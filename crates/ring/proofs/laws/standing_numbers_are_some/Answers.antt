@@ -1,5 +1,6 @@
 -- SPDX-License-Identifier: ISC
-use Rattle.std.proofs.Common.{arith, inl, inr, rules}
+use Rattle.std.proofs.Common.{arith, rules}
+use Rattle.std.proofs.lemmas.Grind.{common_steps}
 use Rattle.ring.specs.Prelude.{RawKeyStandsFor, RawStandsFor, RawTagStandsFor}
 use Rattle.ring.proofs.lemmas.raw.Numbers.{key_block_counted, named_len}
 use Rattle.ring.proofs.laws.standing_numbers_are_some.Goals as goal
@@ -7,8 +8,7 @@ use Rattle.ring.proofs.laws.standing_numbers_are_some.Goals as goal
 pub returns-clause-context : goal.returns-clause-context
 unfolding RawStandsFor
 returns-clause-context c = λ raw a m h.
-    let size = named_len raw.algorithm a h.algorithm in
-    let below = h.partial in (h.algorithm, λ none. omega (arith, none))
+    let size = named_len raw.algorithm a h.algorithm in grind (arith, h)
 
 pub returns-clause-key : goal.returns-clause-key
 unfolding RawKeyStandsFor
@@ -18,11 +18,4 @@ pub returns-clause-tag_context : goal.returns-clause-tag_context
 unfolding RawTagStandsFor RawStandsFor
 returns-clause-tag_context c = λ raw a k m h.
     let size = named_len raw.inner.algorithm a h.inner.algorithm in
-    let below = h.inner.partial in
-    let counted = key_block_counted raw a k m h in (
-      h.inner.algorithm,
-      λ none. elim none [
-        | inl full ↦ omega (arith, full)
-        | inr few ↦ omega (arith, few)
-      ],
-    )
+    grind (arith, common_steps, h.inner.algorithm, h.inner.partial, key_block_counted raw a k m h)

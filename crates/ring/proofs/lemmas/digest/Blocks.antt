@@ -3,9 +3,9 @@
 use Rattle.std.proofs.lemmas.Grind.{common_steps}
 use Rattle.std.proofs.Common.{◌≤◌, ◌≡◌, ℕ, zero, ◌+◌, ◌-◌, ◌*◌, ◌/◌, ◌%◌, ◌<◌, List, [], ◌++◌}
 use Rattle.std.proofs.Common.{length, take, drop, sym, ap, ◌∙◌, arith, add_comm, length-append}
-use Rattle.std.proofs.Common.{append_assoc, length-drop, replicate}
+use Rattle.std.proofs.Common.{replicate}
 use Rattle.std.proofs.lemmas.List.{length-take-le, take-append-drop}
-use Rattle.std.proofs.Math.Nat.{mul-div_cancel, div-mul-le_self, add-mul-div_left}
+use Rattle.std.proofs.Math.Nat.{mul-div_cancel, div-mul-le_self, add-mul-div_left, mod-add-mod}
 use Rattle.std.proofs.lemmas.Nat.{div-add-mod', mod-mul-add, div-mul-add}
 use Rattle.ring_core.specs.Prelude.{fold_chunks}
 use Rattle.ring.specs.Prelude.{Algorithm, BlockContext, Counts, HasRunBlocks, HasTaken, IsWhole}
@@ -29,16 +29,6 @@ zero_whole b pos =
 pub whole_mul : (x b : ℕ) → x % b ≡ 0 → x ≡ x / b * b
 whole_mul x b h = let e = div-add-mod' x b in omega (arith, e)
 
--- two multiples added
-pub whole-add : (x y b : ℕ) → zero < b → x % b ≡ 0 → y % b ≡ 0
-    → ((x + y) % b ≡ 0) × ((x + y) / b ≡ x / b + y / b)
-whole-add x y b pos hx hy =
-    let ex : x ≡ x / b * b = whole_mul x b hx in
-    let ey : y ≡ y / b * b = whole_mul y b hy in
-    let e : x + y ≡ (x / b + y / b) * b = grind (arith, ex, ey) in
-    let m = mul_whole (x / b + y / b) b pos in
-    (ap (λ (z : ℕ). z % b) e ∙ m.0, ap (λ (z : ℕ). z / b) e ∙ m.1)
-
 -- a multiple and more, divided
 pub whole_div-add : (x y b : ℕ) → zero < b → x % b ≡ 0 → (x + y) / b ≡ x / b + y / b
 whole_div-add x y b pos hx =
@@ -49,7 +39,7 @@ whole_div-add x y b pos hx =
 pub IsWhole-append : (a : Algorithm) (p x : List ℕ) → IsWhole a p → IsWhole a x
     → IsWhole a (p ++ x)
 IsWhole-append a p x hp hx =
-    rw length-append (whole-add (length p) (length x) (block_len a) (block_len-positive a) hp hx).0
+    grind (arith, common_steps, length-append, mod-add-mod)
 
 -- after no block
 pub words_after-nil : (a : Algorithm) → words_after a [] ≡ initial_words a
@@ -57,26 +47,25 @@ unfolding words_after
 words_after-nil a =
     grind (arith, common_steps, zero_whole, block_len-positive, fold_chunks-none)
 
--- after a longer list
-pub words_after-append : (a : Algorithm) (p x : List ℕ) → IsWhole a p → IsWhole a x
-    → words_after a (p ++ x) ≡ blocks_from a (words_after a p) x
-unfolding words_after
-words_after-append a p x hp hx =
-    let b : ℕ = block_len a in
-    let sum = whole-add (length p) (length x) b (block_len-positive a) hp hx in
-    let e : length (p ++ x) / b ≡ length p / b + length x / b = rw length-append sum.1 in
-    let whole : length p ≡ length p / b * b = whole_mul (length p) b hp in
-    rw e (fold_chunks-then (block_function a) b (initial_words a) p x _ (length x / b) whole)
-
 -- the words after whole blocks and more
 pub blocks_from-then : (a : Algorithm) (h p x : List ℕ) → IsWhole a p
     → blocks_from a h (p ++ x) ≡ blocks_from a (blocks_from a h p) x
 blocks_from-then a h p x hp =
-    let b : ℕ = block_len a in
-    let e : length (p ++ x) / b ≡ length p / b + length x / b =
-    rw length-append (whole_div-add (length p) (length x) b (block_len-positive a) hp) in
-    let whole : length p ≡ length p / b * b = whole_mul (length p) b hp in
-    rw e (fold_chunks-then (block_function a) b h p x _ (length x / b) whole)
+    grind (
+      arith,
+      common_steps,
+      block_len-positive,
+      fold_chunks-then,
+      length-append,
+      whole_div-add,
+      whole_mul,
+    )
+
+-- after a longer list
+pub words_after-append : (a : Algorithm) (p x : List ℕ) → IsWhole a p
+    → words_after a (p ++ x) ≡ blocks_from a (words_after a p) x
+unfolding words_after
+words_after-append a p x whole = blocks_from-then a (initial_words a) p x whole
 
 -- no block taken
 pub HasTaken-nil : (b : BlockContext)
@@ -112,20 +101,6 @@ blocks_from-front a h x =
     (sym (fold_chunks-append step (block_len a) h (take size x) (drop size x) k long)
     ∙ ap (λ (z : List ℕ). fold_chunks step (block_len a) h z k) (take-append-drop size x))
 
--- the words after a list and more, from those after the list's whole blocks
-blocks_from-rest : (a : Algorithm) (h y z : List ℕ)
-    → blocks_from a (blocks_from a h y) (drop (whole_blocks a (length y) * block_len a) y ++ z)
-    ≡ blocks_from a h (y ++ z)
-blocks_from-rest a h y z =
-    let size : ℕ = whole_blocks a (length y) * block_len a in
-    let front = whole_front a y in
-    let split : front ++ (drop size y ++ z) ≡ y ++ z =
-    sym (append_assoc front (drop size y) z)
-    ∙ ap (λ (w : List ℕ). w ++ z) (take-append-drop size y) in
-    rw (← blocks_from-front a h y)
-    (sym (blocks_from-then a h front (drop size y ++ z) (blocks-whole_front a y).0)
-    ∙ ap (λ (w : List ℕ). blocks_from a h w) split)
-
 -- from the block context b to n
 module _ {b n : BlockContext} where
   -- whole blocks more
@@ -149,21 +124,21 @@ module _ {b n : BlockContext} where
       → HasRunBlocks (block_len b.algorithm) b n y left before after
   moved_front {y = y} {left = left} ea el ew es ec em =
       let a : Algorithm = b.algorithm in
-      let k : ℕ = whole_blocks a (length y) in
-      let fits : k * block_len a ≤ length y = div-mul-le_self (length y) (block_len a) in
-      let long : length (whole_front a y) ≡ k * block_len a = length-whole_front a y in
-      let rest : length left ≡ length y - k * block_len a =
-      ap length el ∙ length-drop (k * block_len a) y in
-      let done : length y - length left ≡ k * block_len a = omega (arith, rest, fits) in
-      let front = ew ∙ sym (blocks_from-front a (chaining_words a b.state) y) in
+      let old = chaining_words a b.state in
+      let front = whole_front a y in
+      let parts : front ++ left ≡ y = rw el (take-append-drop _ y) in
+      let done : length y - length left ≡ length front =
+      omega (arith, ap length parts, length-append front left) in
+      let words = ew ∙ sym (blocks_from-front a old y) in
       let whole = (blocks-whole_front a y).0 in
       record {
-        blocks = k;
-        fits = fits;
-        rest = el;
+        front = front;
+        blocks = whole_blocks a (length y);
+        size = length-whole_front a y;
+        parts = parts;
         algorithm = ea;
-        taken = λ p h. HasTaken-append _ h whole ea front es (omega (arith, ec, done, long));
-        words = λ z. rw (el, ea, ew) (blocks_from-rest a (chaining_words a b.state) y z);
+        taken = λ p h. HasTaken-append _ h whole ea words es (omega (arith, ec, done));
+        words = λ z. rw (ea, words) (sym (blocks_from-then a old front z whole));
         counted = omega (arith, ec, done);
         cost = em;
       }

@@ -25,12 +25,6 @@ use Rattle.ring.proofs.lemmas.digest.Tails.{padded-append}
 by_size : (P : ℕ → Type 0) (a : Algorithm) {n : ℕ} → block_len a ≡ n → P 64 → P 128 → P n
 by_size P a e short long = rw (← e) (by_sizes (λ b l. P b) a short long)
 
--- no block
-pub words_at-none : (a : Algorithm) (m : List ℕ) → words_at a m 0 ≡ initial_words a
-unfolding words_at
-words_at-none a m =
-    fold_chunks-none (block_function a) (block_len a) (initial_words a) (padded a m)
-
 -- one block more
 pub words_at-next : {n : ℕ} (a : Algorithm) (m block : List ℕ) (k : ℕ) → block_len a ≡ n
     → block ≡ chunk_at n (padded a m) k
@@ -100,15 +94,16 @@ words_at-whole {n} {old} {rest = rest} a m k e fits er is run =
     let lr : length rest ≡ length m - n * k = ap length er ∙ length-drop (n * k) m in
     let joined : p ++ rest ≡ m = ap (λ z. p ++ z) er ∙ take-append-drop (n * k) m in
     let sum : k + length rest / n ≡ length m / n = rw lr parts.sum in
-    let front : old ≡ fold_chunks step n h p k =
-    is ∙ words_at-front a m k e parts.front ∙ ap (λ z. fold_chunks step n h z k) (sym joined)
-    ∙ fold_chunks-append step n h p rest k (omega (arith, lp)) in
-    run ∙ rw e (
-    ap (λ z. fold_chunks step n z rest (length rest / n)) front
-    ∙ sym (fold_chunks-then step n h p rest k (length rest / n) lp)
-    ∙ ap (λ z. fold_chunks step n h z (k + length rest / n)) joined
-    ∙ ap (fold_chunks step n h m) sum
-    ∙ sym (words_at-front a m (length m / n) e parts.last)
+    cc (
+      run,
+      is,
+      e,
+      joined,
+      sum,
+      words_at-front a m k e parts.front,
+      fold_chunks-append step n h p rest k (omega (arith, lp)),
+      fold_chunks-then step n h p rest k (length rest / n) lp,
+      words_at-front a m (length m / n) e parts.last,
     )
 
 -- the bytes of w whole blocks, and those up to block k
@@ -130,9 +125,7 @@ chunk_tail {n} {w} {x} a m k e ew past ex =
     let lp : length p ≡ n * w = length-take-le (n * w) m (parted a w (length m) e front).front in
     let whole : IsWhole a p = rw (e, lp) places.whole in
     let joined : p ++ x ≡ m = ap (λ z. p ++ z) ex ∙ take-append-drop (n * w) m in
-    let split : padded a m ≡ p ++ t =
-    ap (padded a) (sym joined) ∙ padded-append a p x whole
-    ∙ ap (λ (z : List ℕ). p ++ tail_of a x (length z)) joined in
+    let split : padded a m ≡ p ++ t = cc (joined, padded-append a p x whole) in
     rw (split, places.at, ← drop-drop (n * (k - w)) (n * w) (p ++ t), drop_at p t (n * w) lp) refl
 
 -- the words of a lane after a block of SHA-2
@@ -144,8 +137,7 @@ lane-sha2 {h} {old} {new} a f block eight has words =
     sym (take_all (word_count a) old (omega (arith, eight, has.count))) ∙ has.chaining in
     let long : length new ≡ 8 = ap length words ∙ sha2_steps.length-block_step f old block in
     record {
-      chaining = take_all (word_count a) new (omega (arith, eight, long)) ∙ words
-          ∙ ap (λ z. sha2.block_step f z block) all;
+      chaining = cc (take_all (word_count a) new (omega (arith, eight, long)), words, all);
       count = long;
     }
 
@@ -168,37 +160,23 @@ pub spare-long : {h k old new : List ℕ} (a : Algorithm) → word_len a ≡ 8 �
     → HasWords a k new → drop (word_count a) new ≡ drop (word_count a) old
 spare-long a is before after = spare-none a (long_row a.id (sym is)).count_is before after
 
--- a state before the first block
-pub words-first : {ws : List ℕ} (a : Algorithm) (m : List ℕ)
-    → take (word_count a) ws ≡ initial_words a → length ws ≡ 8 → HasWords a (words_at a m 0) ws
-words-first a m e long = record { chaining = e ∙ sym (words_at-none a m); count = long }
-
--- and after one block more
-pub words-next : {n : ℕ} {ws : List ℕ} (a : Algorithm) (m block : List ℕ) (k : ℕ)
-    → block_len a ≡ n → block ≡ chunk_at n (padded a m) k
-    → HasWords a (block_function a (words_at a m k) block) ws
-    → HasWords a (words_at a m (k + 1)) ws
-words-next a m block k e is has =
-    record { chaining = has.chaining ∙ sym (words_at-next a m block k e is); count = has.count }
-
 -- the words of a lane after one chunk more
 pub chunks-next : {block ws : List ℕ} (a : Algorithm) (n : ℕ) (h m : List ℕ) (k : ℕ)
     → block ≡ chunk_at n m k
     → HasWords a (block_function a (fold_chunks (block_function a) n h m k) block) ws
     → HasWords a (fold_chunks (block_function a) n h m (k + 1)) ws
 chunks-next a n h m k is has =
-    let step = block_function a in
-    record {
-      chaining = has.chaining ∙ ap (step (fold_chunks step n h m k)) is
-          ∙ sym (fold_chunks-next step n h m k);
-      count = has.count;
-    }
+    grind (arith, common_steps, fold_chunks-next)
 
 -- and before the first
-pub chunks-first : (a : Algorithm) (n : ℕ) (m ws : List ℕ) → length ws ≡ 8
-    → HasWords a (fold_chunks (block_function a) n (take (word_count a) ws) m 0) ws
-chunks-first a n m ws eight =
-    record {
-      chaining = sym (fold_chunks-none (block_function a) n (take (word_count a) ws) m);
-      count = eight;
-    }
+pub chunks-first : {h ws : List ℕ} (a : Algorithm) (n : ℕ) (m : List ℕ) → HasWords a h ws
+    → HasWords a (fold_chunks (block_function a) n h m 0) ws
+chunks-first {h} a n m has =
+    grind (arith, common_steps, fold_chunks-none)
+
+-- after chunks of a padded message, from the initial words on
+pub words_at-chunks : {n : ℕ} {ws : List ℕ} (a : Algorithm) (m : List ℕ) (k : ℕ) → block_len a ≡ n
+    → HasWords a (fold_chunks (block_function a) n (initial_words a) (padded a m) k) ws
+    → take (word_count a) ws ≡ words_at a m k
+unfolding words_at
+words_at-chunks a m k e has = rw e has.chaining

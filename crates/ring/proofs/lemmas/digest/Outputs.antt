@@ -47,27 +47,16 @@ pub output_more : {out ys : List ℕ} {j at k : ℕ} (n : ℕ) (ws : List ℕ) (
     → i ≤ length ws → IsPart n i m j at k → ys ≡ word_bytes n (take m (drop i ws))
     → put_mid at k out ys ≡ word_bytes n (take j ws) ++ replicate (64 - n * j) 0
 output_more {out} n ws i m e h part ey =
-    let front : List ℕ = word_bytes n (take i ws) in
-    let zeros : List ℕ = replicate (64 - n * i) 0 in
-    let len : length front ≡ n * i =
-    length-word_bytes n (take i ws) ∙ ap (λ (z : ℕ). n * z) (length-take-le i ws h) in
-    let turn : n * (i + m) ≡ n * i + n * m = grind arith in
-    let fits = part.fits in
-    let left : 64 - n * (i + m) ≡ 64 - n * i - n * m = omega (arith, turn) in
-    let head : take (n * i) out ≡ front = rw e (take_at front zeros (n * i) len) in
-    let tail : drop (n * i) out ≡ zeros = rw e (drop_at front zeros (n * i) len) in
-    rw (
-      part.words,
-      part.place,
-      part.bytes,
-      head,
-      tail,
-      drop-replicate {X = ℕ} (n * m) (64 - n * i) 0,
-      left,
-      word_bytes-more n ws i m,
-      ey,
-    ) (sym (append_assoc front (word_bytes n (take m (drop i ws)))
-    (replicate (64 - n * i - n * m) 0)))
+    grind (
+      arith,
+      append_assoc,
+      drop-replicate,
+      drop_at,
+      length-take-le,
+      length-word_bytes,
+      take_at,
+      word_bytes-more,
+    )
 
 -- the number of a word of w bits in a list
 word_at : (w : ℕ) (ws : List (Wrapping ℕ)) (i : ℕ) (d : Wrapping ℕ) → i < length ws

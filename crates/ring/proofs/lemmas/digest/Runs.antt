@@ -1,7 +1,7 @@
 -- SPDX-License-Identifier: ISC
 -- How block functions over the chunks of a list make the words after its whole blocks.
 use Rattle.std.proofs.lemmas.Grind.{common_steps}
-use Rattle.std.proofs.Common.{◌≡◌, ℕ, ◌*◌, ◌/◌, ◌<◌, List, length, take, drop, refl, sym, ap, ◌∙◌}
+use Rattle.std.proofs.Common.{◌≡◌, ℕ, ◌*◌, ◌/◌, ◌<◌, List, length, take, drop, refl, ap, ◌∙◌}
 use Rattle.std.proofs.Common.{arith}
 use Rattle.std.proofs.lemmas.List.{length-take-le, take-append-drop, take_all}
 use Rattle.std.proofs.Math.Nat.{mul-div_cancel, div-mul-le_self}
@@ -52,9 +52,12 @@ fold_chunks-front step n h y items pos e =
     let long : length front ≡ k * n = length-take-le (k * n) y (div-mul-le_self (length y) n) in
     let count : length items / n ≡ k =
     ap (λ (x : List ℕ). length x / n) e ∙ ap (λ (x : ℕ). x / n) long ∙ mul-div_cancel k pos in
-    let left : List ℕ = drop (k * n) y in
-    rw (count, e) (sym (fold_chunks-append step n h front left k (omega (arith, long)))
-    ∙ ap (λ (x : List ℕ). fold_chunks step n h x k) (take-append-drop (k * n) y))
+    cc (
+      e,
+      count,
+      take-append-drop (k * n) y,
+      fold_chunks-append step n h front (drop (k * n) y) k (omega (arith, long)),
+    )
 
 -- the chaining words after the whole blocks of a list, of which there is a view
 pub words_run : {step : List ℕ → List ℕ → List ℕ} {n count : ℕ} {old new items : List ℕ}

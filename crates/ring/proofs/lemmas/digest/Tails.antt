@@ -2,17 +2,15 @@
 -- What follows the whole blocks of a padded message.
 use Rattle.std.proofs.lemmas.Grind.{common_steps}
 use Rattle.std.proofs.Common.{◌≡◌, ℕ, suc, ◌+◌, ◌-◌, ◌*◌, ◌%◌, ◌<◌, ◌≤◌, List, ◌∷◌, ◌++◌, length}
-use Rattle.std.proofs.Common.{take, drop, replicate, slice_set, sym, ap, ◌∙◌, arith, refl}
+use Rattle.std.proofs.Common.{take, drop, replicate, slice_set, sym, ap, ◌∙◌, arith}
 use Rattle.std.proofs.lemmas.List.{drop-replicate, take-replicate, take_at}
 use Rattle.std.proofs.Math.Seq.{set-append_seam, take-append-add}
 use Rattle.std.specs.Int.{bytes_high_first}
 use borrow.Rule.Slice.PartMut.{put_mid}
-use Rattle.ring.specs.Prelude.{Algorithm, BlockContext, DynState, HasTaken, IsWhole, block_len}
-use Rattle.ring.specs.Prelude.{blocks_from, chaining_words, length_len, padded, padded_blocks}
-use Rattle.ring.specs.Prelude.{tail_of, words_after, zeros_of}
-use Rattle.ring.proofs.lemmas.digest.Blocks.{words_after-append}
+use Rattle.ring.specs.Prelude.{Algorithm, IsWhole, block_len}
+use Rattle.ring.specs.Prelude.{length_len, padded, padded_blocks}
+use Rattle.ring.specs.Prelude.{tail_of, zeros_of}
 use Rattle.ring.proofs.lemmas.digest.Outputs.{length-bytes_high_first}
-use Rattle.ring.proofs.lemmas.digest.Padding.{padded_is_padded}
 use Rattle.ring.proofs.Rows.{by_sizes}
 
 -- the tail has room for all that is written, and no more than two blocks
@@ -27,6 +25,12 @@ pub zeros_past : (a : Algorithm) (n r : ℕ) → n % block_len a ≡ 0
     → zeros_of a (n + r) ≡ zeros_of a r
 zeros_past a n r =
     grind (arith, common_steps, by_sizes)
+
+-- whole blocks before a tail
+pub tail_of-append : (a : Algorithm) (p x : List ℕ) (n : ℕ) → IsWhole a p
+    → tail_of a (p ++ x) n ≡ p ++ tail_of a x n
+tail_of-append a p x n whole =
+    grind (arith, common_steps, zeros_past)
 
 -- the padded message is its whole blocks and the tail
 pub padded-append : (a : Algorithm) (p x : List ℕ) → IsWhole a p
@@ -83,21 +87,3 @@ tail_written a x n t below et =
     let kept : take (t - length_len a) (marked x) ++ field ≡ tail_of a x n =
     rw front (ap (λ (zs : List ℕ). zs ++ field) (take-marked x z fits)) in
     rw kept (take_at (tail_of a x n) (drop t (marked x)) t (length-tail_of a x n ∙ sym size))
-
--- what follows whole blocks in whole blocks is whole blocks
-whole-rest : (a : Algorithm) (p x : List ℕ) → IsWhole a p → IsWhole a (p ++ x) → IsWhole a x
-whole-rest a p x hp h =
-    grind (arith, common_steps, by_sizes)
-
--- the words after the blocks that end a padded message
-pub words_after-padded : (b : BlockContext) (p m tail : List ℕ) (s : DynState) → HasTaken b p
-    → p ++ tail ≡ padded b.algorithm m
-    → chaining_words b.algorithm s
-    ≡ blocks_from b.algorithm (chaining_words b.algorithm b.state) tail
-    → chaining_words b.algorithm s ≡ words_after b.algorithm (padded b.algorithm m)
-words_after-padded b p m tail s h e ew =
-    let a : Algorithm = b.algorithm in
-    let after : chaining_words a s ≡ blocks_from a (words_after a p) tail = ew ∙ rw h.words refl in
-    let whole : IsWhole a (p ++ tail) = rw e (padded_is_padded a m).whole in
-    after ∙ sym (words_after-append a p tail h.whole (whole-rest a p tail h.whole whole))
-    ∙ ap (words_after a) e

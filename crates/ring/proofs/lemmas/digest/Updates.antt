@@ -1,24 +1,18 @@
 -- SPDX-License-Identifier: ISC
 -- Contexts at places, of which the first have changed, and the blocks of their pieces.
 use Rattle.std.proofs.lemmas.Grind.{common_steps, drop_more_same}
-use Rattle.std.proofs.Common.{◌≡◌, ℕ, ◌+◌, ◌-◌, ◌<◌, ◌≤◌, List, [], ◌∷◌, ◌++◌, ◌∙◌, ap, arith}
-use Rattle.std.proofs.Common.{drop, get_or, inl, inr, length, length-drop, refl, slice_set, subst}
-use Rattle.std.proofs.Common.{sum_by, sym, take}
-use Rattle.std.proofs.Math.Seq.{take-add}
-use Rattle.std.proofs.lemmas.Bool.{cases_lt}
-use Rattle.std.proofs.lemmas.List.{drop-drop, drop-set-lt, get_or-drop, get_or-set_other}
-use Rattle.std.proofs.lemmas.List.{get_or-set_same}
-use Rattle.std.proofs.lemmas.List.{get_or-take, get_or_default, length-set, length-take-le}
-use Rattle.std.proofs.lemmas.List.{take_all, take_more, take_more_set}
+use Rattle.std.proofs.Common.{◌≢◌, ◌≡◌, ℕ, ◌+◌, ◌-◌, ◌<◌, ◌≤◌, List, [], ◌∷◌, ◌++◌, ◌∙◌, ap, arith}
+use Rattle.std.proofs.Common.{drop, get_or, length, length-append, refl, slice_set}
+use Rattle.std.proofs.Common.{subst, sum_by, sym, take}
+use Rattle.std.proofs.Math.Seq.{get_or-append_right, take-add}
+use Rattle.std.proofs.lemmas.List.{drop-set-lt, get_or-drop, get_or_append_left, get_or_default}
+use Rattle.std.proofs.lemmas.List.{length-set, length-take-le, take_all, take_more, take_more_set}
 use Rattle.std.proofs.lemmas.List.Sums.{sum_by-append}
-use Rattle.std.proofs.lemmas.Slice.{between-put_mid, drop-put_mid, take-put_mid_below}
 use Rattle.std.specs.Borrow.{Bor}
 use Rattle.std.specs.List.{zip}
-use borrow.Author.Count.{below_more}
-use borrow.Rule.Slice.PartMut.{put_mid, same_len_mid}
 use Rattle.ring.specs.Prelude.{AreUpdated, Context, IsPartway, IsUpdated, message_at, pending_len}
 use Rattle.ring.specs.Prelude.{update_blocks, update_each_blocks}
-use Rattle.ring.proofs.Each.{message-read}
+use Rattle.ring.proofs.Each.{message-read, message_at-append, set-more}
 
 -- two lists of pairs, one after the other
 zip-append : {A B : Type 0} (xs us : List A) (ys vs : List B) → length xs ≡ length ys
@@ -61,8 +55,7 @@ pub blocks-more : (contexts : List Context) (pieces : List (Bor (List ℕ))) (n 
     + update_each_blocks (take k (drop n contexts)) (take k (drop n pieces))
     ≡ update_each_blocks (take (n + k) contexts) (take (n + k) pieces)
 blocks-more contexts pieces n k fits enough =
-    rw (take-add n k contexts, take-add n k pieces) (sym (blocks-append (take n contexts) _
-    (take n pieces) _ (length-take-le n contexts fits ∙ sym (length-take-le n pieces enough))))
+    grind (arith, common_steps, blocks-append, length-take-le, take-add)
 
 -- and of one context more
 pub blocks-next : (contexts : List Context) (pieces : List (Bor (List ℕ))) (i : ℕ) (c : Context)
@@ -71,14 +64,7 @@ pub blocks-next : (contexts : List Context) (pieces : List (Bor (List ℕ))) (i 
     + update_blocks (get_or contexts i c) (length (message_at pieces i))
     ≡ update_each_blocks (take (i + 1) contexts) (take (i + 1) pieces)
 blocks-next contexts pieces i c below there =
-    let none : Bor (List ℕ) = record { ref_ptr = (0, 0); now = [] } in
-    let as_many : length (take i contexts) ≡ length (take i pieces) =
-    length-take-le i contexts (omega (arith, below))
-    ∙ sym (length-take-le i pieces (omega (arith, there))) in
-    let both = blocks-append (take i contexts) (get_or contexts i c ∷ []) (take i pieces)
-    (get_or pieces i none ∷ []) as_many in
-    rw (message-read pieces i, take_more contexts i c below, take_more pieces i none there)
-    (omega (arith, both))
+    grind (arith, common_steps, blocks-append, length-take-le, message-read, take_more)
 
 -- where a context and a piece are put there
 pub blocks-put : (contexts : List Context) (pieces : List (Bor (List ℕ))) (i : ℕ) (x : Context)
@@ -87,19 +73,13 @@ pub blocks-put : (contexts : List Context) (pieces : List (Bor (List ℕ))) (i :
     (take (i + 1) (slice_set pieces i p))
     ≡ update_each_blocks (take i contexts) (take i pieces) + update_blocks x (length p.now)
 blocks-put contexts pieces i x p below there =
-    rw (take_more_set contexts i x below, take_more_set pieces i p there)
-    (blocks-append (take i contexts) _ (take i pieces) _
-    (length-take-le i contexts (omega (arith, below))
-    ∙ sym (length-take-le i pieces (omega (arith, there)))) ∙ omega arith)
+    grind (arith, common_steps, blocks-append, length-take-le, take_more_set)
 
 -- the message at a place of the first n
 pub message_at-take : (messages : List (Bor (List ℕ))) (n i : ℕ) → i < n
     → message_at (take n messages) i ≡ message_at messages i
 message_at-take messages n i below =
-    let none : Bor (List ℕ) = record { ref_ptr = (0, 0); now = [] } in
-    message-read (take n messages) i
-    ∙ ap (λ (z : Bor (List ℕ)). z.now) (get_or-take n messages i none below)
-    ∙ sym (message-read messages i)
+    grind (arith, common_steps, message-read)
 
 -- the first i contexts have changed so that R holds at each place, and the others are as they were
 pub record HaveChanged (R : ℕ → Context → Context → Type 0) (old now : List Context) (i : ℕ)
@@ -111,11 +91,7 @@ pub record HaveChanged (R : ℕ → Context → Context → Type 0) (old now : L
 pub changed-none : (R : ℕ → Context → Context → Type 0) (old : List Context)
     → HaveChanged R old old 0
 changed-none R old =
-    record {
-      count = refl;
-      each = λ k c below. absurd (omega (arith, below));
-      others = refl;
-    }
+    grind (arith, common_steps)
 
 module _ {R : ℕ → Context → Context → Type 0} {old now : List Context} {i : ℕ} where
   -- a context that is as it was
@@ -137,68 +113,27 @@ module _ {R : ℕ → Context → Context → Type 0} {old now : List Context} {
   pub changed-next : (x : Context) → HaveChanged R old now i → i < length old
       → ((c : Context) → R i (get_or old i c) x) → HaveChanged R old (slice_set now i x) (i + 1)
   changed-next x have below is =
-      record {
-        count = length-set now i x ∙ have.count;
-        each = λ k c h. below_more (λ (k : ℕ). (c : Context)
-            → R k (get_or old k c) (get_or (slice_set now i x) k c)) i
-            (λ k h c. rw (get_or-set_other now i k x c (omega (arith, h))) (have.each k c h))
-            (λ c. rw (get_or-set_same now i x c (omega (arith, have.count, below))) (is c)) k h c;
-        others = drop-set-lt (i + 1) now i x (omega arith) ∙ drop_more_same now old i have.others;
-      }
+      grind (arith, common_steps, drop-set-lt, drop_more_same, length-set, set-more)
 
   -- of which another relation follows
   pub changed-with : (Q : ℕ → Context → Context → Type 0) → HaveChanged R old now i
       → ((k : ℕ) (c d : Context) → k < i → R k c d → Q k c d) → HaveChanged Q old now i
   changed-with Q have follows =
-      record {
-        count = have.count;
-        each = λ k c below. follows k _ _ below (have.each k c below);
-        others = have.others;
-      }
+      grind (arith, common_steps)
 
--- places of a list that has others in the place of n of its elements, from the a-th on
-module _ {X : Type 0} (a n : ℕ) (xs ys : List X) (d : X) where
-  before_part : (k : ℕ) → k < a → a ≤ length xs
-      → get_or (put_mid a n xs ys) k d ≡ get_or xs k d
-  before_part k below fits =
-      sym (get_or-take a (put_mid a n xs ys) k d below)
-      ∙ ap (λ (z : List X). get_or z k d) (take-put_mid_below a n xs ys a (omega arith) fits)
-      ∙ get_or-take a xs k d below
+-- the message at a place of two lists, one after the other
+message_at-both : (ps qs : List (Bor (List ℕ))) (k : ℕ)
+    → (k < length ps → message_at (ps ++ qs) k ≡ message_at ps k)
+    × (length ps ≤ k → message_at (ps ++ qs) k ≡ message_at qs (k - length ps))
+message_at-both ps qs k =
+    grind (arith, common_steps, message_at-append)
 
-  in_part : (j : ℕ) → j < n → a ≤ length xs → length ys ≡ n
-      → get_or (put_mid a n xs ys) (a + j) d ≡ get_or ys j d
-  in_part j below fits long =
-      let size : a + n - a ≡ n = omega arith in
-      let part : take n (drop a (put_mid a n xs ys)) ≡ ys =
-      rw size at (between-put_mid a n xs ys (a + n) fits (omega (arith, long))) in
-      sym (get_or-drop a (put_mid a n xs ys) j d)
-      ∙ sym (get_or-take n (drop a (put_mid a n xs ys)) j d below)
-      ∙ ap (λ (z : List X). get_or z j d) part
-
--- the next n contexts have changed
-pub changed-part : {R : ℕ → Context → Context → Type 0} {old now : List Context} (i n : ℕ)
-    (part : List Context)
-    → HaveChanged R old now i → i + n ≤ length now → length part ≡ n
-    → ((j : ℕ) (c : Context) → j < n → R (i + j) (get_or old (i + j) c) (get_or part j c))
-    → HaveChanged R old (put_mid i n now part) (i + n)
-changed-part {R} {old} {now} i n part have fits long is =
-    let within : i ≤ length now = omega (arith, fits) in
-    let there : length (take n (drop i now)) ≡ n =
-    length-take-le n (drop i now) (omega (arith, length-drop i now, fits)) in
-    let rest : drop (i + n) now ≡ drop (i + n) old =
-    sym (drop-drop n i now) ∙ ap (drop n) have.others ∙ drop-drop n i old in
-    record {
-      count = same_len_mid i n now part (long ∙ sym there) ∙ have.count;
-      each = λ k c below. elim (cases_lt k i) [
-        | inl lt ↦ rw (before_part i n now part c k lt within) (have.each k c lt)
-        | inr ge ↦
-            let at : i + (k - i) ≡ k = omega (arith, ge) in
-            let less : k - i < n = omega (arith, ge, below) in
-            let Q : ℕ → Type 0 = λ z. R z (get_or old z c) (get_or (put_mid i n now part) z c) in
-            subst Q at (rw (in_part i n now part c (k - i) less within long) (is (k - i) c less))
-      ];
-      others = drop-put_mid i n now part (i + n) (omega arith) within long ∙ rest;
-    }
+-- the contexts of two lists, one after the other
+pub updated-append : {old new olds news : List Context} (ps qs : List (Bor (List ℕ)))
+    → length ps ≡ length old → AreUpdated old new ps → AreUpdated olds news qs
+    → AreUpdated (old ++ olds) (new ++ news) (ps ++ qs)
+updated-append {old} {new} {olds} {news} ps qs as_many first second =
+    grind (arith, get_or-append_right, get_or_append_left, length-append, message_at-both)
 
 -- the context at a place is updated with the piece there
 abbrev pub IsUpdatedAt : List (Bor (List ℕ)) → ℕ → Context → Context → Type 0
@@ -209,6 +144,13 @@ pub record IsBegun (pieces rests : List (Bor (List ℕ))) (k : ℕ) (old mid : C
   pub partway : IsPartway old mid (message_at pieces k) (message_at rests k)
   pub ready : 0 < length (message_at rests k) → pending_len mid ≡ 0
 
+-- the message at a place, where one is put to the place i
+message_at-put : (messages : List (Bor (List ℕ))) (i : ℕ) (m : Bor (List ℕ)) (k : ℕ)
+    → (k ≢ i → message_at (slice_set messages i m) k ≡ message_at messages k)
+    × (k ≡ i → i < length messages → message_at (slice_set messages i m) k ≡ m.now)
+message_at-put messages i m k =
+    grind (arith, common_steps, message-read)
+
 -- one more has no begun block
 pub begun-next : {old now : List Context} {pieces rests : List (Bor (List ℕ))} {i : ℕ}
     (x d : Context) (r : Bor (List ℕ)) → HaveChanged (IsBegun pieces rests) old now i
@@ -217,20 +159,13 @@ pub begun-next : {old now : List Context} {pieces rests : List (Bor (List ℕ))}
     → (0 < length r.now → pending_len x ≡ 0)
     → HaveChanged (IsBegun pieces (slice_set rests i r)) old (slice_set now i x) (i + 1)
 begun-next {old} {now} {pieces} {rests} {i} x d r have below room partway ready =
-    let none : Bor (List ℕ) = record { ref_ptr = (0, 0); now = [] } in
-    let here : message_at (slice_set rests i r) i ≡ r.now =
-    message-read (slice_set rests i r) i
-    ∙ ap (λ (z : Bor (List ℕ)). z.now) (get_or-set_same rests i r none room) in
-    let before : (k : ℕ) → k < i → message_at (slice_set rests i r) k ≡ message_at rests k =
-    λ k h. message-read (slice_set rests i r) k
-    ∙ ap (λ (z : Bor (List ℕ)). z.now) (get_or-set_other rests i k r none (omega (arith, h)))
-    ∙ sym (message-read rests k) in
+    let put = message_at-put rests i r in
     changed-next x (changed-with (IsBegun pieces (slice_set rests i r)) have (λ k c e h is.
     record {
-      partway = rw (before k h) is.partway;
-      ready = rw (before k h) is.ready;
+      partway = rw ((put k).0 (omega (arith, h))) is.partway;
+      ready = rw ((put k).0 (omega (arith, h))) is.ready;
     })) below (λ c.
     record {
-      partway = rw (here, ← changed-at d c have below) partway;
-      ready = rw here ready;
+      partway = rw ((put i).1 refl room, ← changed-at d c have below) partway;
+      ready = rw ((put i).1 refl room) ready;
     })

@@ -5,7 +5,7 @@ use Rattle.std.proofs.Common.{◌≡◌, ℕ, zero, suc, ◌+◌, ◌*◌, ◌/�
 use Rattle.std.proofs.Common.{◌++◌, length, map, take, drop, slice_index, refl, sym, ap, ◌∙◌, arith}
 use Rattle.std.proofs.Common.{length-append, length-drop, length-take-le, mod-lt, pow_pos, suc-mul}
 use Rattle.std.proofs.Common.{zero-mul}
-use Rattle.std.proofs.lemmas.List.{length-map, take-append-drop, take_at}
+use Rattle.std.proofs.lemmas.List.{length-map, length-take, take-append-drop, take_at}
 use Rattle.std.specs.declared.num.Wrapping.{Wrapping}
 use Rattle.std.proofs.lemmas.Bool.{cases_lt}
 use Rattle.std.proofs.lemmas.List.Concat.{flat_map-append}
@@ -37,10 +37,8 @@ byte-shifted i x = sym (byte_is i x) ∙ ap (λ (z : ℕ). x / z % 256) (pow_256
 
 byte-xor : (i x y : ℕ) → byte_at i (x ⊕ y) ≡ byte_at i x ⊕ byte_at i y
 byte-xor i x y =
-    byte-shifted i (x ⊕ y) ∙ ap (λ (z : ℕ). z % 2 ^ 8) (xor_shr x y (8 * i))
-    ∙ xor_mod (x / 2 ^ (8 * i)) (y / 2 ^ (8 * i)) 8
-    ∙ ap (λ (z : ℕ). z ⊕ y / 2 ^ (8 * i) % 2 ^ 8) (sym (byte-shifted i x))
-    ∙ ap (λ (z : ℕ). byte_at i x ⊕ z) (sym (byte-shifted i y))
+    rw (byte-shifted i (x ⊕ y), byte-shifted i x, byte-shifted i y, xor_shr x y (8 * i))
+    (xor_mod (x / 2 ^ (8 * i)) (y / 2 ^ (8 * i)) 8)
 
 bytes-xor : (n x y : ℕ)
     → bytes_high_first n (x ⊕ y) ≡ xor_lists (bytes_high_first n x) (bytes_high_first n y)
@@ -65,11 +63,8 @@ word_bytes-xor n (w ∷ ws) [] = sym (xor_lists-none (word_bytes n (w ∷ ws)))
 word_bytes-xor n (w ∷ ws) (v ∷ vs) =
     let same : length (bytes_high_first n w) ≡ length (bytes_high_first n v) =
     length-bytes_high_first n w ∙ sym (length-bytes_high_first n v) in
-    ap (λ z. z ++ word_bytes n (xor_lists ws vs)) (bytes-xor n w v)
-    ∙ ap (λ z. xor_lists (bytes_high_first n w) (bytes_high_first n v) ++ z)
-    (word_bytes-xor n ws vs)
-    ∙ sym (xor-append (bytes_high_first n w) (bytes_high_first n v) (word_bytes n ws)
-    (word_bytes n vs) same)
+    rw (bytes-xor n w v, word_bytes-xor n ws vs) (sym (xor-append (bytes_high_first n w)
+    (bytes_high_first n v) (word_bytes n ws) (word_bytes n vs) same))
 
 -- a front of an exclusive or is that of the front
 take-xor_lists : (n : ℕ) (xs ys : List ℕ) → take n (xor_lists xs ys) ≡ xor_lists (take n xs) ys
@@ -78,16 +73,11 @@ take-xor_lists (suc n) [] ys = refl
 take-xor_lists (suc n) (x ∷ xs) [] = refl
 take-xor_lists (suc n) (x ∷ xs) (y ∷ ys) = ap (λ zs. (x ⊕ y) ∷ zs) (take-xor_lists n xs ys)
 
-take-short : (n : ℕ) (xs : List ℕ) → length (take n xs) ≤ n
-take-short zero xs = omega arith
-take-short (suc n) [] = omega arith
-take-short (suc n) (x ∷ xs) = omega (arith, take-short n xs)
-
 -- the digest of the exclusive or of words
 pub digest_bytes-xor : (a : Algorithm) (ws vs : List ℕ)
     → digest_bytes a (xor_lists ws vs) ≡ xor_lists (digest_bytes a ws) (digest_bytes a vs)
 digest_bytes-xor a ws vs =
-    grind (arith, common_steps, take-short, word_bytes-xor, take-xor_lists, xor_lists-take)
+    grind (arith, common_steps, length-take, word_bytes-xor, take-xor_lists, xor_lists-take)
 
 -- the number that its bytes write, after others
 number-bytes : (n x high : ℕ)
@@ -188,12 +178,13 @@ padded-words {a = a} {w = w} {k = k} {padding = padding} {f} xs t eight each =
     (map-below (λ (x : Wrapping ℕ). x.0 % 2 ^ w) (2 ^ w) padding (pow_pos w)
     (λ x. mod-lt _ (pow_pos w))) in
     let fits : AllBelow (2 ^ (8 * n)) all = λ (j : ℕ). rw (← t.bits) (below j) in
-    let front : word_bytes n (take k ws) ≡ digest_bytes a ws =
-    sym (take-word_bytes n k ws room) ∙ ap (λ (z : ℕ). take z (word_bytes n ws)) (sym t.digest) in
     let block : word_bytes n all ≡ digest_bytes a ws ++ prepared_padding a =
-    flat_map-append (bytes_high_first n) (take k ws) (drop k vs)
-    ∙ ap (λ z. z ++ word_bytes n (drop k vs)) front
-    ∙ ap (λ z. digest_bytes a ws ++ z) t.bytes in
+    cc (
+      flat_map-append (bytes_high_first n) (take k ws) (drop k vs),
+      t.digest,
+      t.bytes,
+      take-word_bytes n k ws room,
+    ) in
     let size : w / 8 ≡ n = omega (arith, t.bits) in
     record {
       word = λ j below. block-words w n all j size (omega (arith, long)) fits
@@ -202,7 +193,7 @@ padded-words {a = a} {w = w} {k = k} {padding = padding} {f} xs t eight each =
 
 part-below : (n k : ℕ) (xs : List ℕ) → AllBelow 256 xs → AllBelow 256 (take n (drop k xs))
 part-below n k xs small t =
-    grind (arith, common_steps, cases_lt, take-short)
+    grind (arith, common_steps, cases_lt, length-take)
 
 short_back : (n : ℕ) (bs : List ℕ) → length bs ≡ 4 → AllBelow 256 bs → n ≡ big_endian bs
     → bytes_high_first 4 (n % 2 ^ 32) ≡ bs

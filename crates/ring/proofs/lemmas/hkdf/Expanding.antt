@@ -2,10 +2,8 @@
 -- An output, round by round, and what its rounds cost.
 use Rattle.std.proofs.lemmas.Grind.{common_steps}
 use Rattle.std.proofs.Common.{◌≡◌, ℕ, suc, ◌+◌, ◌-◌, ◌*◌, ◌<◌, ◌≤◌, List, [], ◌∷◌, ◌++◌, length}
-use Rattle.std.proofs.Common.{take, drop, refl, sym, ap, ◌∙◌, arith, add-one, append-nil}
-use Rattle.std.proofs.Common.{length-take-le, zero-mul}
+use Rattle.std.proofs.Common.{take, drop, refl, sym, ◌∙◌, arith, add-one, length-take-le, zero-mul}
 use Rattle.std.proofs.Math.Nat.{lt_of_mul-lt-mul_right}
-use Rattle.std.proofs.lemmas.List.{at_drop_all}
 use Rattle.std.proofs.lemmas.Bool.{cases_lt}
 use Rattle.ring.specs.Prelude.{Algorithm, Counts, Key, KeyStandsFor, Tag, fill_rounds, hmac_of}
 use Rattle.ring.specs.Prelude.{joined_blocks, key_algorithm, okm, output_len, padded_blocks, raised}
@@ -98,13 +96,8 @@ module _ {key : Key} {info : List ℕ} {r w : ℕ} {tag : Tag} {out : List ℕ} 
       let a : Algorithm = key_algorithm key in
       let even : IsEven (hkdf_t a k info) (output_len a) =
       record { each = length-hkdf_t a k info } in
-      let e : bytes ≡ hkdf_t a k info (suc r) = eb ∙ t.next k stands in
-      let len : length (take n bytes) ≡ n =
-      length-take-le n bytes (rw (e, length-hkdf_t a k info r) fits) in
-      let none : drop (w + length (take n bytes)) out ≡ [] =
-      rw (len, ← whole) (at_drop_all (λ zs. zs) out (length out) (omega arith)) in
       let part = joined_blocks-part even r w n 255 t.place fits (omega arith) in
-      rw (eo, none, append-nil, t.done k stands, e, whole) (sym part)
+      rw (whole, part) (grind (arith, common_steps, t.next k, t.done k, length-hkdf_t a k info r))
 
   -- the cost of one round more, after a tag of n bytes
   pub cost_next : {n : ℕ} {m2 : Counts} → IsWritten key info r w tag out m0 m1
@@ -112,13 +105,8 @@ module _ {key : Key} {info : List ℕ} {r w : ℕ} {tag : Tag} {out : List ℕ} 
       → m2 ≡ raised m1 (padded_blocks (key_algorithm key) (n + length info + 1) + 1) 0
       → m2 ≡ raised m0 (first_blocks (key_algorithm key) (length info)
       + (r + 1) * next_blocks (key_algorithm key) (length info)) 0
-  cost_next t en em = turn _ _ r t.cost (rw en at em)
-    where
-      turn : (x y r : ℕ) {m1 m2 : Counts} → m1 ≡ raised m0 (x + r * y) 0 → m2 ≡ raised m1 y 0
-          → m2 ≡ raised m0 (x + (r + 1) * y) 0
-      turn x y r e1 e2 =
-          let sum : x + r * y + y ≡ x + (r + 1) * y = omega arith in
-          e2 ∙ rw e1 (raised-raised m0 _ 0 y 0) ∙ ap (λ (z : ℕ). raised m0 z 0) sum
+  cost_next t en em =
+      grind (arith, common_steps, t.cost, raised-raised, mul-more r)
 
 -- the cost of the first round, before which there is no tag
 pub cost_first : (a : Algorithm) (y i : ℕ) (m0 : Counts) {m1 : Counts}

@@ -1,10 +1,11 @@
 -- SPDX-License-Identifier: ISC
 -- Keys that make one block and so sign alike.
-use Rattle.std.proofs.Common.{◌≡◌, ℕ, ◌+◌, ◌-◌, ◌<◌, ◌≤◌, ◌++◌, ◌∙◌, List, [], ap, append_assoc}
-use Rattle.std.proofs.Common.{arith, length, length-append, refl, replicate, sym}
-use Rattle.std.proofs.lemmas.List.{length-replicate, replicate-append-replicate}
+use Rattle.std.proofs.Common.{◌≡◌, ℕ, ◌+◌, ◌-◌, ◌<◌, ◌≤◌, ◌++◌, List, [], ap}
+use Rattle.std.proofs.Common.{arith, length, replicate, sym}
+use Rattle.std.proofs.lemmas.List.{replicate-append-replicate}
+use Rattle.std.proofs.lemmas.Grind.{common_steps}
 use Rattle.ring.specs.Prelude.{Algorithm, block_len, digest_of, hmac_of, key_block, masked}
-use Rattle.ring.specs.Prelude.{output_len, short_key}
+use Rattle.ring.specs.Prelude.{output_len}
 use Rattle.ring.proofs.lemmas.hmac.Keys.{short_key-long, short_key-short}
 use Rattle.ring.proofs.Rows.{output_below}
 use Rattle.ring.proofs.Lengths.{length-digest_of}
@@ -21,26 +22,15 @@ key_block-zeros : (a : Algorithm) (k : List ℕ) (z : ℕ) → length k + z ≤ 
     → key_block a (k ++ replicate z 0) ≡ key_block a k
 unfolding key_block
 key_block-zeros a k z fits =
-    let zeros : List ℕ = replicate z 0 in
     let more : ℕ = block_len a - (length k + z) in
-    let long : length (k ++ zeros) ≡ length k + z =
-    length-append k zeros ∙ omega (arith, length-replicate {A = ℕ} z 0) in
-    let whole : short_key a (k ++ zeros) ≡ k ++ zeros =
-    short_key-short a (k ++ zeros) (omega (arith, long)) in
-    let bare : short_key a k ≡ k = short_key-short a k (omega arith) in
     let rest : z + more ≡ block_len a - length k = omega arith in
-    rw (whole, bare, long)
-    (append_assoc k zeros (replicate more 0)
-    ∙ ap (λ (zs : List ℕ). k ++ zs) (replicate-append-replicate {A = ℕ} z more 0)
-    ∙ ap (λ (n : ℕ). k ++ replicate n 0) rest)
+    grind (arith, common_steps, short_key-short, replicate-append-replicate {A = ℕ} z more 0)
 
 key_block-digest : (a : Algorithm) (k : List ℕ) → block_len a < length k
     → key_block a k ≡ key_block a (digest_of a k)
 unfolding key_block
 key_block-digest a k long =
-    let fits : length (digest_of a k) ≤ block_len a =
-    omega (arith, length-digest_of a k, output_below a) in
-    rw (short_key-long a k long, short_key-short a (digest_of a k) fits) refl
+    grind (arith, common_steps, length-digest_of, output_below, short_key-long, short_key-short)
 
 -- zeros more
 pub hmac_of-zeros : (a : Algorithm) (k m : List ℕ) (z : ℕ) → length k + z ≤ block_len a

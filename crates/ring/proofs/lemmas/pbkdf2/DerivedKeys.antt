@@ -1,13 +1,14 @@
 -- SPDX-License-Identifier: ISC
 -- Keys derived at several places.
-use Rattle.std.proofs.Common.{◌≡◌, ◌↔◌, ℕ, ◌+◌, ◌≤◌, [], ◌∷◌, ◌∙◌, Bool, List, ap, arith, length}
-use Rattle.std.proofs.Common.{refl, sym, take, take_all, true}
+use Rattle.std.proofs.Common.{◌≡◌, ◌↔◌, ℕ, ◌+◌, ◌<◌, ◌≤◌, [], ◌∷◌, ◌∙◌, Bool, List, ap, arith}
+use Rattle.std.proofs.Common.{length, refl, take, true}
+use Rattle.std.proofs.lemmas.Grind.{common_steps}
 use Rattle.std.specs.Borrow.{Bor}
-use Rattle.ring.specs.Prelude.{Algorithm, CanDeriveEach, CanVerify, IsDerived, Output}
+use Rattle.ring.specs.Prelude.{Algorithm, CanDerive, CanDeriveEach, CanDeriveUnder, CanVerify}
+use Rattle.ring.specs.Prelude.{AreKeysOf, IsDerived, Key, KeyStandsFor, Output}
 use Rattle.ring.specs.Prelude.{derive_blocks_at, dk, key_algorithm, sum_below}
-use Rattle.ring.specs.Prelude.{AreKeysOf, Key, KeyStandsFor}
 use Rattle.ring.proofs.Each.{message_at-part}
-use Rattle.ring.proofs.lemmas.pbkdf2.Places.{items_from, length-items_from}
+use Rattle.ring.proofs.lemmas.pbkdf2.Places.{items_from}
 use Rattle.ring.proofs.lemmas.pbkdf2.Rounds.{length-dk}
 use Rattle.ring.proofs.Sums.{sum_below-append, sum_below-same}
 
@@ -15,14 +16,19 @@ use Rattle.ring.proofs.Sums.{sum_below-append, sum_below-same}
 abbrev pub no_output : Output
 no_output = record { 0 = [] }
 
--- a key that is alone
+-- n bytes can be derived under a key that is alone
+pub can_derive-alone : {a : Algorithm} {key : Key} {secret_len n : ℕ} {salt : Bor (List ℕ)}
+    → CanDerive a secret_len (length salt.now) n → key_algorithm key ≡ a
+    → CanDeriveUnder a (key ∷ []) (salt ∷ []) n
+can_derive-alone {a} {n = n} {salt = salt} can same =
+    grind (arith, common_steps, can.salt)
+
+-- and that key
 pub key-alone : {a : Algorithm} {key : Key} {p : List ℕ} → key_algorithm key ≡ a
     → KeyStandsFor key p → AreKeysOf a (key ∷ []) (λ i. p)
 key-alone same stands =
     record {
-      each = λ i d below.
-          let zero : i ≡ 0 = omega (arith, below) in
-          rw zero (record { algorithm = same; stands = stands });
+      each = λ i d below. grind (arith, common_steps, same, stands);
     }
 
 module _ (a : Algorithm) (salts secrets : List (Bor (List ℕ))) (c n : ℕ) where
@@ -44,11 +50,18 @@ pub can_derive-part : {a : Algorithm} {m n : ℕ} (salts secrets : List (Bor (Li
     → CanDeriveEach a (items_from i k salts) (items_from i k secrets) k n
 can_derive-part salts secrets i k can fits =
     record {
-      salt_count = length-items_from i k salts (omega (arith, can.salt_count, fits));
-      secret_count = length-items_from i k secrets (omega (arith, can.secret_count, fits));
+      salt_count = grind (arith, common_steps, can.salt_count);
+      secret_count = grind (arith, common_steps, can.secret_count);
       each = λ j below. rw (message_at-part secrets i k j below, message_at-part salts i k j below)
           (can.each (i + j) (omega (arith, fits, below)));
     }
+
+-- and under keys of all secrets
+pub can_derive-under : {a : Algorithm} {m n : ℕ} {salts secrets : List (Bor (List ℕ))}
+    {keys : List Key} {p : ℕ → List ℕ} → CanDeriveEach a salts secrets m n → 0 < m
+    → length keys ≡ m → AreKeysOf a keys p → CanDeriveUnder a keys salts n
+can_derive-under can some count are =
+    grind (arith, common_steps, can.each, are.each)
 
 -- a value within its limits is a derivation exactly where it begins with the derivation of its
 -- length
@@ -57,9 +70,4 @@ pub derived-same : {a : Algorithm} {p s value : List ℕ} {c n : ℕ} {b start :
     → (b ≡ true) ↔ ((start ≡ true) × (take (length (dk a p s c n)) value ≡ dk a p s c n))
     → (b ≡ true) ↔ IsDerived a p s c value
 derived-same {a} {p} {s} {value} {c} {n} within long begun told =
-    let size = length-dk a p s c n in
-    let all : take (length (dk a p s c n)) value ≡ value =
-    take_all _ value (omega (arith, long, size)) in (
-      λ e. record { within = rw long within; same = rw long (sym all ∙ (told.0 e).1) },
-      λ e. told.1 (begun, all ∙ rw long at e.same),
-    )
+    grind (arith, common_steps, length-dk a p s c n)

@@ -1,6 +1,7 @@
 -- SPDX-License-Identifier: ISC
 -- Iterates of a tag, and their exclusive or.
-use Rattle.std.proofs.Common.{◌≡◌, ℕ, ◌+◌, ◌-◌, ◌*◌, ◌≤◌, [], ◌∷◌, ◌++◌, ◌∙◌, List, add-one, ap}
+use Rattle.std.proofs.lemmas.Grind.{common_steps}
+use Rattle.std.proofs.Common.{◌≡◌, ℕ, ◌+◌, ◌-◌, ◌*◌, ◌≤◌, [], ◌∷◌, ◌++◌, ◌∙◌, List, ap}
 use Rattle.std.proofs.Common.{arith, length, refl, replicate, suc, sym, zero}
 use Rattle.std.proofs.lemmas.List.{length-replicate}
 use Rattle.std.specs.Int.{bytes_high_first}
@@ -64,13 +65,8 @@ module _ {a : Algorithm} {p s : List ℕ} {i : ℕ} where
       → digest_bytes a last' ≡ hmac_of a p (digest_bytes a last) → sum' ≡ xor_lists sum last'
       → IsMade a p s i (j + 1) last' sum'
   made-next {j = j} {sum = sum} {last' = last'} t h e =
-      let next : digest_bytes a last' ≡ pbkdf2_u a p s i (suc j) =
-      h ∙ ap (λ m. hmac_of a p m) t.last ∙ sym (pbkdf2_u-next a p s i j) in
-      rw add-one record {
-        last = next;
-        sum = ap (digest_bytes a) e ∙ digest_bytes-xor a sum last'
-            ∙ rw (t.sum, next) (sym (pbkdf2_t-next a p s i j));
-      }
+      let u = pbkdf2_u-next a p s i j in
+      grind (arith, common_steps, pbkdf2_t-next a p s i j, digest_bytes-xor a sum last')
 
 -- the blocks of one more in n lanes, after those of the j - 1 past the first
 pub blocks-next : (n j : ℕ) → 1 ≤ j → n * (2 * (j - 1)) + 2 * n ≡ n * (2 * (j + 1 - 1))

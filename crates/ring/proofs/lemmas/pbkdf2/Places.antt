@@ -1,9 +1,9 @@
 -- SPDX-License-Identifier: ISC
 -- What holds at the places of a list, and what a meter rises by there.
-use Rattle.std.proofs.Common.{◌≡◌, ℕ, ◌+◌, ◌<◌, ◌≤◌, [], List, arith, drop, get_or, inl, inr}
-use Rattle.std.proofs.Common.{length, length-drop, refl, slice_set, take}
-use Rattle.std.proofs.lemmas.Bool.{cases_lt}
-use Rattle.std.proofs.lemmas.List.{get_or-set_other, get_or-set_same, length-take-le}
+use Rattle.std.proofs.Common.{◌≡◌, ℕ, ◌+◌, ◌<◌, [], List, arith, drop, get_or}
+use Rattle.std.proofs.Common.{length, refl, slice_set, take}
+use Rattle.std.proofs.lemmas.Grind.{common_steps}
+use Rattle.std.proofs.lemmas.List.{get_or-set_other}
 use Rattle.std.specs.Borrow.{Bor}
 use Rattle.ring.specs.Prelude.{Counts, raised, sum_below}
 use Rattle.ring_core.proofs.Costs.{raised-none}
@@ -17,11 +17,6 @@ read_at items k = (get_or items k record { ref_ptr = (0, 0); now = [] }).now
 abbrev pub items_from : {X : Type 0} (i k : ℕ) → List X → List X
 items_from i k items = take k (drop i items)
 
-pub length-items_from : {X : Type 0} (i k : ℕ) (items : List X) → i + k ≤ length items
-    → length (items_from i k items) ≡ k
-length-items_from i k items room =
-    length-take-le k (drop i items) (omega (arith, length-drop i items, room))
-
 -- P holds of the items at the first m places
 pub record HoldsBelow {X : Type 0} (P : ℕ → X → Type 0) (m : ℕ) (xs : List X) : Type 0 where
   pub each : (i : ℕ) (d : X) → i < m → P i (get_or xs i d)
@@ -31,12 +26,7 @@ pub places-next : {X : Type 0} (P : ℕ → X → Type 0) {xs : List X} {x : X} 
     → HoldsBelow P m xs → m < length xs → P m x → HoldsBelow P (m + 1) (slice_set xs m x)
 places-next P {xs} {x} m have room is =
     record {
-      each = λ i d below. elim (cases_lt i m) [
-        | inl h ↦ rw (get_or-set_other xs m i x d (omega (arith, h))) (have.each i d h)
-        | inr h ↦
-            let e : i ≡ m = omega (arith, h, below) in
-            rw (e, get_or-set_same xs m x d room) is
-      ];
+      each = λ i d below. grind (arith, common_steps, have.each i d, get_or-set_other);
     }
 
 -- a meter has risen by what belongs to the first m places

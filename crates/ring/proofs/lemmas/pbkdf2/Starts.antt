@@ -1,18 +1,19 @@
 -- SPDX-License-Identifier: ISC
 -- What rounds start from, and what they give, in lanes.
-use Rattle.std.proofs.Common.{◌≡◌, ◌≢◌, ℕ, ◌+◌, ◌*◌, ◌<◌, ◌≤◌, [], ◌∷◌, ◌∙◌, IsTrue, List, arith}
+use Rattle.std.proofs.lemmas.Grind.{common_steps}
+use Rattle.std.proofs.Common.{◌≡◌, ℕ, ◌+◌, ◌*◌, ◌<◌, ◌≤◌, [], ◌∷◌, ◌∙◌, List, arith, ap}
 use Rattle.std.proofs.Common.{get_or, inl, inr, length, refl, rules, set, take}
-use Rattle.std.proofs.lemmas.Bool.{cases_lt}
-use Rattle.std.proofs.lemmas.List.{get_or-set_other, get_or-set_same, get_or-take}
-use Rattle.std.proofs.lemmas.List.{length-take-le}
+use Rattle.std.proofs.lemmas.Bool.{cases_eq}
+use Rattle.std.proofs.lemmas.List.{get_or-set_other, get_or-set_same, get_or-take, length-take-le}
 use Rattle.std.specs.Borrow.{Bor}
-use Rattle.ring.specs.Prelude.{Algorithm, AreStarts, BeginsWithRound, DynState, IsKeyInLane}
-use Rattle.ring.specs.Prelude.{IsStart, Key, KeyStandsFor, Round, Tag, bytes_at, digest_bytes}
-use Rattle.ring.specs.Prelude.{is_state_of, key_algorithm, output_len, pbkdf2_u, round_on}
-use Rattle.ring.specs.Prelude.{state_word_len, tag_algorithm, tag_bytes, word_bytes, word_len}
-use Rattle.ring.specs.Prelude.{words}
-use Rattle.ring.specs.Prelude.{pbkdf2_t}
+use Rattle.ring.specs.Prelude.{Algorithm, AreKeysOf, AreRounds, AreStarts, DynState, IsKeyInLane}
+use Rattle.ring.specs.Prelude.{IsTagWithin, IsStart, Key, KeyStandsFor, Round, Tag, bytes_at}
+use Rattle.ring.specs.Prelude.{digest_bytes, key_algorithm, output_len, pbkdf2_t}
+use Rattle.ring.specs.Prelude.{pbkdf2_u, round_at, round_on, state_word_len, tag_algorithm}
+use Rattle.ring.specs.Prelude.{tag_bytes, word_bytes, word_len, words}
+use Rattle.ring.proofs.Each.{message-read}
 use Rattle.ring.proofs.Lanes.{digest_read, key_in_lane}
+use Rattle.ring.proofs.lemmas.pbkdf2.Places.{read_at}
 
 -- a list that isn't empty has an item
 pub some-item : {X : Type 0} (xs : List X) → 0 < length xs → X
@@ -24,6 +25,18 @@ pub in_lanes : {X : Type 0} {i m : ℕ} (xs : List X) → length xs ≡ 8 → m 
     → i < length (take m xs)
 in_lanes {m = m} xs eight most below =
     omega (arith, below, length-take-le m xs (omega (arith, eight, most)))
+
+-- the key of a round and its salt, as they are read
+pub read-within : {a : Algorithm} {keys : List Key} {salts : List (Bor (List ℕ))} {n m i : ℕ}
+    {r q : Round} {key : Key} → AreRounds a keys salts n r m → i < m → q ≡ round_on a n r i
+    → key ≡ get_or keys q.place key → (q.place < length keys) × ((key_algorithm key ≡ a)
+    × IsTagWithin (key_algorithm key) (length (read_at salts q.place) + 4))
+read-within {salts = salts} {n} {q = q} {key = key} rounds below here is =
+    let place = rw (← here) at (rounds.places.each _ below) in
+    let same = ap key_algorithm is ∙ rounds.under.algorithm q.place key place in
+    let some : 0 < n = omega (arith, rounds.first.within) in
+    let within = rw (message-read salts q.place) at (rounds.under.within q.place some place) in
+    (place, (same, rw same within))
 
 -- what a round starts from, with the words that were read of its first iterate's bytes
 pub start-made : (a : Algorithm) (key : Key) (salt : List ℕ) (index : ℕ) (tag : Tag)
@@ -37,12 +50,10 @@ pub start-made : (a : Algorithm) (key : Key) (salt : List ℕ) (index : ℕ) (ta
     → IsStart a key salt index key.inner.state key.outer.state first
 start-made a key salt index tag bytes {first} of same made read size written =
     let b : Algorithm = key_algorithm key in
-    let inner : IsTrue (is_state_of b key.inner.state) = key.inner.sized in
-    let outer : IsTrue (is_state_of b key.outer.state) = rw key.same at key.outer.sized in
-    let sized : state_word_len first ≡ word_len b = search (rules, inner, size) in
+    let sized : state_word_len first ≡ word_len b = search (rules, key.inner.sized, size) in
     rw (← of) (record {
-      inner_sized = inner;
-      outer_sized = outer;
+      inner_sized = key.inner.sized;
+      outer_sized = rw key.same at key.outer.sized;
       first_sized = search (rules, sized);
       key = λ p stands. key_in_lane key p refl refl stands;
       first = λ p stands. digest_read b (words first) bytes sized written same read ∙ made p stands;
@@ -59,22 +70,10 @@ module _ {a : Algorithm} {keys : List Key} {salts : List (Bor (List ℕ))} {n : 
       → AreStarts a keys salts n r (set inner i x) (set outer i y) (set first i z) (i + 1)
   starts-next inner outer first i {x} {y} {z} room starts here =
       record {
-        each = λ k below key s t u. elim (cases_lt k i) [
-          | inl lt ↦
-              let other : k ≢ i = λ e. omega (arith, e, lt) in
-              rw (
-                get_or-set_other inner i k x s other,
-                get_or-set_other outer i k y t other,
-                get_or-set_other first i k z u other,
-              ) (starts.each k lt key s t u)
-          | inr ge ↦
-              let e : k ≡ i = omega (arith, ge, below) in
-              rw (
-                e,
-                get_or-set_same inner i x s room.0,
-                get_or-set_same outer i y t room.1.0,
-                get_or-set_same first i z u room.1.1,
-              ) (here key)
+        each = λ k below key s t u. elim (cases_eq k i) [
+          | inl e ↦ rw e (simp (get_or-set_same, room.0, room.1.0, room.1.1) (here key))
+          | inr other ↦ simp (get_or-set_other, other)
+              (starts.each k (omega (arith, below, other)) key s t u)
         ];
       }
 
@@ -92,27 +91,28 @@ module _ {a : Algorithm} {keys : List Key} {salts : List (Bor (List ℕ))} {n : 
         ) (starts.each i below key s t u)
 
     -- they have words of the algorithm's length
-    pub sized-at : (key : Key) (s : DynState) → i < m
+    pub sized-at : {k : ℕ} → AreRounds a keys salts n r k → 0 < k → (s : DynState) → i < m
         → (state_word_len (get_or (take m inner) i s) ≡ word_len a)
         × ((state_word_len (get_or (take m outer) i s) ≡ word_len a)
         × (state_word_len (get_or (take m first) i s) ≡ word_len a))
-    sized-at key s below =
+    sized-at rounds some s below =
+        let key = some-item keys (omega (arith, rounds.places.each 0 some)) in
         let start = start-at key s s s below in (
           search (rules, start.inner_sized),
           (search (rules, start.outer_sized), search (rules, start.first_sized)),
         )
 
 -- a lane's words there, summed, begin with the round
-pub lane-round : {a : Algorithm} {keys : List Key} {salts : List (Bor (List ℕ))} {r : Round}
-    {s t u : DynState} {inner outer first : List ℕ} (sums bytes : List ℕ) {c : ℕ}
+pub lane-round : {a : Algorithm} {keys : List Key} {p : ℕ → List ℕ} {s t u : DynState}
+    {inner outer first : List ℕ} (salts : List (Bor (List ℕ))) (c : ℕ) (r : Round)
+    (sums bytes : List ℕ) → AreKeysOf a keys p → r.place < length keys
     → ((key : Key) → IsStart a (get_or keys r.place key) (bytes_at salts r.place) r.index s t u)
     → (inner ≡ words s) × ((outer ≡ words t) × (first ≡ words u))
     → ((p salt : List ℕ) (i : ℕ) → IsKeyInLane a inner outer p
     → digest_bytes a first ≡ pbkdf2_u a p salt i 1 → digest_bytes a sums ≡ pbkdf2_t a p salt i c)
-    → take (output_len a) bytes ≡ digest_bytes a sums → BeginsWithRound a keys salts r c bytes
-lane-round {salts = salts} {r = r} sums bytes start same summed written =
-    record {
-      round = λ key p stands. written ∙ summed p (bytes_at salts r.place) r.index
-          (rw (same.0, same.1.0) ((start key).key p stands))
-          (rw same.1.1 ((start key).first p stands));
-    }
+    → take (output_len a) bytes ≡ digest_bytes a sums
+    → take (output_len a) bytes ≡ round_at a p salts c r.place r.index
+lane-round {keys = keys} salts c r sums bytes are place start same summed written =
+    let key = some-item keys (omega (arith, place)) in
+    let stands = (are.each r.place key place).stands in
+    grind (arith, common_steps, (start key).key _ stands, (start key).first _ stands, summed)

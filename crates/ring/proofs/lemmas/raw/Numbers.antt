@@ -2,28 +2,22 @@
 -- Numbers in the place of contexts and keys.
 use Rattle.std.proofs.lemmas.Grind.{common_steps}
 use Rattle.std.proofs.Common.{◌≡◌, ◌↔◌, ℕ, ◌+◌, ◌*◌, ◌%◌, ◌^◌, ◌<◌, ◌≤◌, List, [], ◌∷◌, ◌++◌, map}
-use Rattle.std.proofs.Common.{length, take, drop, nat_eq, IsTrue, rules, refl, sym, ap, subst, ◌∙◌}
-use Rattle.std.proofs.Common.{◌-◌, ◌/◌, inl, inr, arith, append_assoc}
-use Rattle.std.proofs.Common.{length-append, length-take, length-take-le, Option, Some, option_map}
-use Rattle.std.proofs.Common.{unwrap_or}
+use Rattle.std.proofs.Common.{length, take, nat_eq, IsTrue, rules, refl, sym, ap, ◌∙◌, ◌-◌}
+use Rattle.std.proofs.Common.{arith, length-take-le, Option, Some, option_map, unwrap_or}
 use Rattle.std.proofs.Math.Nat.{mod-mod, mod-eq_of_lt}
-use Rattle.std.proofs.lemmas.Bool.{cases_lt}
-use Rattle.std.proofs.lemmas.List.{take-append-drop}
 use Rattle.std.proofs.lemmas.Nat.{mod-mul-add}
 use Rattle.std.proofs.lemmas.Option.{same_Some}
 use Rattle.std.specs.declared.num.Wrapping.{Wrapping}
 use Rattle.ring.specs.Prelude.{Algorithm, AlgorithmId, AreNumbersOfTag, As32, As64, BlockContext}
-use Rattle.ring.specs.Prelude.{Counts, DynState, HasAdded, HasBegun, HasRunBlocks, HasTaken}
-use Rattle.ring.specs.Prelude.{IsNoContext, IsNoTagContext, IsRawContext, last_blocks}
-use Rattle.ring.specs.Prelude.{IsRawState, Key, KeyStandsFor, RawContext, RawKey, RawStandsFor}
-use Rattle.ring.specs.Prelude.{RawTagContext, RawTagStandsFor, Sha1, Sha256, Sha384, Sha512}
-use Rattle.ring.specs.Prelude.{Sha512_256, block_len, block_words, completed_len, counted_bytes}
-use Rattle.ring.specs.Prelude.{cut_off, digest_after, digest_named, inner_block}
+use Rattle.ring.specs.Prelude.{Counts, DynState, HasAdded, HasNumbers, HasBegun, HasRunBlocks}
+use Rattle.ring.specs.Prelude.{HasTaken, IsRawContext, last_blocks, IsRawState, Key}
+use Rattle.ring.specs.Prelude.{RawContext, RawKey, RawStandsFor, RawTagContext, RawTagStandsFor}
+use Rattle.ring.specs.Prelude.{Sha1, Sha256, Sha384, Sha512, Sha512_256, block_len, block_words}
+use Rattle.ring.specs.Prelude.{completed_len, counted_bytes, cut_off, digest_after, digest_named}
 use Rattle.ring.specs.Prelude.{inner_words, key_algorithm, max_input_len, named_block_len}
-use Rattle.ring.specs.Prelude.{outer_block, outer_words, raw_chaining, raw_digest_with}
-use Rattle.ring.specs.Prelude.{raw_message_len, raw_tag_with, raw_words, row_of, signing_algorithm}
-use Rattle.ring.specs.Prelude.{signing_len, signing_pending, state_word_len, tag_of_inner, tag_with}
-use Rattle.ring.specs.Prelude.{padded_blocks, whole_blocks, words}
+use Rattle.ring.specs.Prelude.{outer_words, raw_chaining, raw_message_len, raw_words, row_of}
+use Rattle.ring.specs.Prelude.{signing_algorithm, signing_len, signing_pending, state_word_len}
+use Rattle.ring.specs.Prelude.{tag_of_inner, tag_with, padded_blocks, whole_blocks, words}
 use Rattle.ring.specs.declared.hmac.context.Context.{Context as TagContext}
 use Rattle.ring.proofs.lemmas.digest.Blocks.{whole_mul}
 use Rattle.ring.proofs.lemmas.hmac.Keys.{inner_len}
@@ -89,27 +83,17 @@ pub added_moved : {old new : RawContext} {b n : BlockContext} {m0 m1 : Counts} (
 added_moved {old} {new} {b} {n} x i o j =
     let before : List ℕ = take old.num_pending old.pending in
     let left : List ℕ = take new.num_pending new.pending in
-    let few : new.num_pending ≡ length left =
-    sym (length-take-le new.num_pending new.pending o.fits) in
-    let short : length left < block_len b.algorithm =
-    omega (arith, few, o.partial, ap block_len j.algorithm) in
+    let few : new.num_pending ≡ length left = grind (arith, common_steps, o.fits) in
+    let short : length left < block_len b.algorithm = grind (arith, few, o.partial, j.algorithm) in
     let size = named_len old.algorithm b.algorithm i.algorithm in
     let counted = counted_moved old.pending old.num_pending x j i.fits few in
     record {
-      algorithm = o.algorithm ∙ ap Some j.algorithm ∙ sym i.algorithm;
+      algorithm = grind (arith, o.algorithm, j.algorithm, i.algorithm);
       pending = rw size (pending_moved old.pending old.num_pending x j i.fits few short);
       counted = omega (arith, counted, i.counted, o.counted);
       digest = λ a named y k.
           let is : b.algorithm ≡ a = same_Some _ a (sym i.algorithm ∙ named) in
-          let N : Algorithm → List ℕ = λ z. raw_digest_with z new y k in
-          let D : Algorithm → Type 0 = λ z. N z ≡ raw_digest_with z old (x ++ y) k in
-          let A : List ℕ → List ℕ → List ℕ = λ h z. digest_after b.algorithm h z k in
-          let last : N n.algorithm ≡ A (block_words b) ((before ++ x) ++ y) =
-          ap (λ (h : List ℕ). digest_after n.algorithm h (left ++ y) k) o.words
-          ∙ digest_moved b n (before ++ x) j y k in
-          subst D is (ap N (sym j.algorithm) ∙ last
-          ∙ ap (A (block_words b)) (append_assoc before x y)
-          ∙ ap (λ (h : List ℕ). A h (before ++ (x ++ y))) (sym i.words));
+          grind (arith, common_steps, digest_moved b n (before ++ x) j y k);
     }
 
 -- numbers of a tag's context that begins under a key
@@ -125,25 +109,15 @@ pub has_begun : (key : Key) {raw : RawKey} {n : TagContext} {new : RawTagContext
 has_begun key {raw} {new = new} named inner outer ea el ep et o =
     let same = sym named in
     record {
-      algorithm = o.algorithm ∙ ap Some ea ∙ same;
-      pending = o.pending ∙ ep;
-      counted = o.counted ∙ el ∙ sym (named_len raw.algorithm (key_algorithm key) named);
+      algorithm = cc;
+      pending = cc;
+      counted = cc (named_len raw.algorithm (key_algorithm key) named);
       tag = λ a is_named y k.
           let is : key_algorithm key ≡ a = same_Some _ a (same ∙ is_named) in
-          let N : Algorithm → List ℕ = λ z. raw_tag_with z new y k in
-          let D : Algorithm → List ℕ = λ z. digest_after z (raw_chaining z raw.inner) y k in
-          let T : Algorithm → Type 0 = λ z. N z ≡ tag_of_inner z (raw_chaining z raw.outer) (D z) in
-          subst T is (ap N (sym ea) ∙ o.tag y k ∙ et y k ∙ rw (inner, outer) refl);
+          grind (arith, common_steps, o.tag y k, et y k);
     }
 
--- numbers that stand for a message are a context's
-pub is_context : (raw : RawContext) (a : Algorithm) (m : List ℕ) → RawStandsFor raw a m
-    → IsNoContext raw → ⊥
-unfolding RawStandsFor
-is_context raw a m h none =
-    omega (arith, named_len raw.algorithm a h.algorithm, h.partial, none)
-
--- they name its algorithm
+-- numbers that stand for a message name its algorithm
 pub raw_named : (raw : RawContext) (a : Algorithm) (m : List ℕ) → RawStandsFor raw a m
     → digest_named raw.algorithm ≡ Some a
 unfolding RawStandsFor
@@ -158,9 +132,7 @@ raw_pending raw a m h = h.partial
 -- the length of a message that numbers stand for
 raw_len : (raw : RawContext) (a : Algorithm) (m : List ℕ) (h : IsRawContext raw a m)
     → raw.num_pending ≤ length raw.pending → length m ≡ length h.blocks + raw.num_pending
-raw_len raw a m h fits =
-    ap length h.message ∙ length-append h.blocks (take raw.num_pending raw.pending)
-    ∙ ap (λ (z : ℕ). length h.blocks + z) (length-take-le raw.num_pending raw.pending fits)
+raw_len raw a m h fits = grind (arith, common_steps, h.message)
 
 -- what numbers count of a message is too long where the message is
 pub refused_raw : (raw : RawContext) (a : Algorithm) (m : List ℕ) → RawStandsFor raw a m
@@ -168,9 +140,7 @@ pub refused_raw : (raw : RawContext) (a : Algorithm) (m : List ℕ) → RawStand
     → (max_input_len a < raw_message_len raw) ↔ (max_input_len a < length m)
 unfolding RawStandsFor
 refused_raw raw a m h fits =
-    let len = raw_len raw a m h fits in
-    let most = max_input_len-most a in
-    (λ e. omega (arith, len, h.count, most, e), λ e. omega (arith, len, h.count, most, e))
+    grind (arith, common_steps, raw_len raw a m h fits, h.count, max_input_len-most a)
 
 -- the end of a message has the blocks of its pending bytes with their padding
 pub raw_last : (raw : RawContext) (a : Algorithm) (m : List ℕ) → RawStandsFor raw a m
@@ -178,13 +148,8 @@ pub raw_last : (raw : RawContext) (a : Algorithm) (m : List ℕ) → RawStandsFo
     → padded_blocks a raw.num_pending ≡ last_blocks a (length m)
 unfolding RawStandsFor
 raw_last raw a m h fits =
-    let b : ℕ = block_len a in
-    let q : ℕ = raw.num_pending in
-    let whole = whole_mul (length h.blocks) b h.state.whole in
-    let left : length m % b ≡ q =
-    ap (λ (z : ℕ). z % b) (raw_len raw a m h fits ∙ ap (λ (z : ℕ). z + q) whole)
-    ∙ mod-mul-add (length h.blocks / b) b q h.partial in
-    rw left at (end_last a (length m))
+    let len = raw_len raw a m h fits in
+    grind (arith, common_steps, whole_mul, mod-mul-add, end_last a (length m))
 
 -- the blocks that d bytes more complete
 pub raw_blocks : (raw : RawContext) (a : Algorithm) (m : List ℕ) (d : ℕ) → RawStandsFor raw a m
@@ -194,66 +159,24 @@ unfolding RawStandsFor
 raw_blocks raw a m d h fits =
     more_blocks a h.blocks m raw.num_pending d h.state.whole (raw_len raw a m h fits) h.partial
 
--- a message whose blocks so far are b, where k of the bytes past them and of d are further blocks
-pub moved_message : (b x d : List ℕ) (k : ℕ) {m left : List ℕ} → m ≡ b ++ x
-    → left ≡ drop k (x ++ d) → m ++ d ≡ (b ++ take k (x ++ d)) ++ left
-moved_message b x d k em el =
-    ap (λ (z : List ℕ). z ++ d) em ∙ append_assoc b x d
-    ∙ ap (λ (z : List ℕ). b ++ z) (sym (take-append-drop k (x ++ d)))
-    ∙ sym (append_assoc b (take k (x ++ d)) (drop k (x ++ d)))
-    ∙ ap (λ (z : List ℕ). (b ++ take k (x ++ d)) ++ z) (sym el)
-
 -- the block context of numbers that stand for a message has taken in its blocks p
 pub taken_raw : (raw : RawContext) (a : Algorithm) (p : List ℕ) {b : BlockContext}
     → digest_named raw.algorithm ≡ Some b.algorithm
-    → ((q : List ℕ) → IsRawState b.algorithm raw.words q → completed_len raw ≡ cut_off (length q)
-    → HasTaken b q) → digest_named raw.algorithm ≡ Some a → IsRawState a raw.words p
+    → HasNumbers b.algorithm raw.words (completed_len raw) b
+    → digest_named raw.algorithm ≡ Some a → IsRawState a raw.words p
     → completed_len raw ≡ cut_off (length p) → HasTaken b p × (b.algorithm ≡ a)
-taken_raw raw a p {b} own stands named state count =
-    let is : b.algorithm ≡ a = same_Some b.algorithm a (sym own ∙ named) in
-    let P : Algorithm → Type 0 = λ z. IsRawState z raw.words p in
-    (stands p (subst P (sym is) state) count, is)
-
--- a key by the algorithm of its first state
-pub key_stands : (key : Key) (a : Algorithm) (k : List ℕ) → key.inner.algorithm ≡ a
-    → HasTaken key.inner (inner_block a k) → HasTaken key.outer (outer_block a k)
-    → KeyStandsFor key k
-key_stands key a k e i o =
-    grind (arith, common_steps)
+taken_raw raw a p own numbers named state count =
+    grind (arith, common_steps, same_Some, numbers.stands p)
 
 -- the numbers of a tag's context count the key's block
 pub key_block_counted : (raw : RawTagContext) (a : Algorithm) (k m : List ℕ)
     → RawTagStandsFor raw a k m → named_block_len raw.inner.algorithm ≤ completed_len raw.inner
 unfolding RawTagStandsFor RawStandsFor
 key_block_counted raw a k m h =
-    let blocks = h.inner.blocks in
-    let rest = take raw.inner.num_pending raw.inner.pending in
-    let len : length (inner_block a k ++ m) ≡ length blocks + length rest =
-    ap length h.inner.message ∙ length-append blocks rest in
-    let few : length rest ≤ raw.inner.num_pending =
-    omega (arith, length-take raw.inner.num_pending raw.inner.pending) in
-    let long = inner_len a k m in
-    let below = h.inner.partial in
-    let most = block_len-most a in
     let size = named_len raw.inner.algorithm a h.inner.algorithm in
-    elim (cases_lt (length blocks) (block_len a)) [
-      | inl lt ↦
-          let none : length blocks ≡ 0 = sym (mod-eq_of_lt lt) ∙ h.inner.state.whole in
-          absurd (omega arith)
-      | inr ge ↦ omega (arith, h.inner.count)
-    ]
+    grind (arith, common_steps, inner_len a k m, block_len-most a, mod-eq_of_lt)
 
--- the numbers of a tag's context that stand for a message are one's
-pub is_tag_context : (raw : RawTagContext) (a : Algorithm) (k m : List ℕ)
-    → RawTagStandsFor raw a k m → IsNoTagContext raw → ⊥
-unfolding RawTagStandsFor
-is_tag_context raw a k m h none =
-    elim none [
-      | inl e ↦ is_context raw.inner a _ h.inner e
-      | inr e ↦ omega (arith, key_block_counted raw a k m h, e)
-    ]
-
--- they name its algorithm
+-- the numbers of a tag's context that stand for a message name its algorithm
 pub tag_named : (raw : RawTagContext) (a : Algorithm) (k m : List ℕ) → RawTagStandsFor raw a k m
     → digest_named raw.inner.algorithm ≡ Some a
 unfolding RawTagStandsFor RawStandsFor

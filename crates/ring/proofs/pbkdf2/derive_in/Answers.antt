@@ -2,25 +2,19 @@
 use Rattle.std.proofs.Common.{◌≡◌, ◌∙◌, arith, length, refl, rules, sym, take_all}
 use Rattle.std.specs.Int.NonZero.{non_zero_u32_get}
 use Rattle.ring.specs.Prelude.{CanDerive, pbkdf2_digest, sum_below}
-use Rattle.ring.proofs.lemmas.pbkdf2.DerivedKeys.{key-alone}
+use Rattle.ring.proofs.lemmas.pbkdf2.DerivedKeys.{can_derive-alone, key-alone}
 use Rattle.ring.proofs.lemmas.pbkdf2.Rounds.{length-dk}
 use Rattle.ring.proofs.Sums.{raised-sum}
 use Rattle.ring.proofs.lemmas.pbkdf2.Taking.{taken-all}
 use Rattle.ring.proofs.pbkdf2.derive_in.Goals as goal
 
-pub derive_under-requires-clause-keys : goal.derive_under-requires-clause-keys
-derive_under-requires-clause-keys g c = λ i d below.
-    let key = c.in_ok-new_counted.ensures in
-    ((key-alone key.algorithm key.ok).each i d below).algorithm
-    ∙ sym c.digest_algorithm-digest.ensures
-
-pub derive_under-requires-clause-within : goal.derive_under-requires-clause-within
-derive_under-requires-clause-within g c = λ i some below.
+pub derive_under-requires-clause-under : goal.derive_under-requires-clause-under
+derive_under-requires-clause-under g c =
     let can : CanDerive (pbkdf2_digest c.args.algorithm) (length c.args.secret.now)
     (length c.args.salt.now) (length c.args.out.now) = search rules in
-    let first : i ≡ 0 = omega (arith, below) in
-    rw (first, c.digest_algorithm-digest.ensures, c.hmac_algorithm-hmac_algorithm.ensures)
-    (can.salt some)
+    let own = rw c.hmac_algorithm-hmac_algorithm.ensures at c.in_ok-new_counted.ensures.algorithm in
+    rw (c.digest_algorithm-digest.ensures, c.hmac_algorithm-hmac_algorithm.ensures)
+    (can_derive-alone can own)
 
 pub returns : goal.returns
 unfolding sum_below

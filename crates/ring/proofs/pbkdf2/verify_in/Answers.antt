@@ -1,24 +1,18 @@
 -- SPDX-License-Identifier: ISC
-use Rattle.std.proofs.Common.{◌≡◌, ◌∙◌, arith, length, refl, rules, sym}
+use Rattle.std.proofs.Common.{◌∙◌, arith, length, refl, rules, sym}
 use Rattle.ring.specs.Prelude.{CanVerify, pbkdf2_digest, sum_below}
-use Rattle.ring.proofs.lemmas.pbkdf2.DerivedKeys.{derived-same, key-alone}
+use Rattle.ring.proofs.lemmas.pbkdf2.DerivedKeys.{can_derive-alone, derived-same, key-alone}
 use Rattle.ring.proofs.Sums.{raised-sum}
 use Rattle.ring.proofs.lemmas.pbkdf2.Taking.{taken-all}
 use Rattle.ring.proofs.pbkdf2.verify_in.Goals as goal
 
-pub derive_under-requires-clause-keys : goal.derive_under-requires-clause-keys
-derive_under-requires-clause-keys g c = λ i d below.
-    let key = c.in_ok-new_counted.ensures in
-    ((key-alone key.algorithm key.ok).each i d below).algorithm
-    ∙ sym c.digest_algorithm-digest.ensures
-
-pub derive_under-requires-clause-within : goal.derive_under-requires-clause-within
-derive_under-requires-clause-within g c = λ i some below.
+pub derive_under-requires-clause-under : goal.derive_under-requires-clause-under
+derive_under-requires-clause-under g c =
     let can : CanVerify (pbkdf2_digest c.args.algorithm) (length c.args.secret.now)
     (length c.args.salt.now) (length c.args.previously_derived.now) = search rules in
-    let first : i ≡ 0 = omega (arith, below) in
-    rw (first, c.digest_algorithm-digest.ensures, c.hmac_algorithm-hmac_algorithm.ensures)
-    (can.within.salt some)
+    let own = rw c.hmac_algorithm-hmac_algorithm.ensures at c.in_ok-new_counted.ensures.algorithm in
+    rw (c.digest_algorithm-digest.ensures, c.hmac_algorithm-hmac_algorithm.ensures)
+    (can_derive-alone can.within own)
 
 pub returns : goal.returns
 unfolding sum_below

@@ -9,7 +9,7 @@ ghost use Rattle.ring.specs.Prelude.{Algorithm, HasWords, SHA1_FOR_LEGACY_USE_ON
 ghost use Rattle.ring.specs.Prelude.{SHA512, SHA512_256, block_function, digest_bytes};
 ghost use Rattle.ring.specs.Prelude.{prepared_padding, raised, word_count, word_len};
 
-use crate::digest::initial::words;
+use crate::digest::algorithm::words;
 use crate::digest::lanes::states::{InVector, LaneStates, OneLane};
 use ring_core::cost::Meter;
 use ring_core::digest::sha1::{

@@ -8,8 +8,8 @@ ghost use Rattle.ring.specs.Prelude.{EachItem, state_word_len, words};
 use crate::digest::dynstate::{DynState, StateWord};
 use ring_core::digest::states::{States, Window};
 use ring_core::digest::word::Word;
-use ring_core::digest::word::in_lanes::InLanes;
 use ring_core::digest::word::lane_word::{LaneWord, Vector};
+use ring_core::digest::word::vectors::InLanes;
 
 // The greatest number of lanes.
 pub(crate) const MAX_LANES: usize = 8;

@@ -1,8 +1,7 @@
 -- SPDX-License-Identifier: ISC
 use Rattle.std.proofs.Common.{ap, length, sym, ◌∙◌}
 use Rattle.std.specs.Prelude.{is_ok}
-use Rattle.std.specs.List.{list_all}
-use Rattle.ring_text.proofs.LowerHex.{hex_not_upper, hex_read, hex_written, is_not_upper}
+use Rattle.ring_text.proofs.LowerHex.{hex_read, hex_written}
 use Rattle.ring_text.proofs.lower_hex.fill_from_hex.Goals as goal
 
 pub returns-then-lacks_upper_case-clause-ok : goal.returns-then-lacks_upper_case-clause-ok
@@ -17,8 +16,3 @@ returns-then-lacks_upper_case-clause-refused c = λ bad bytes h len e.
     let read = hex_written c.args.digits.now (length c.args.out.now) _ _
     c.decode_to_slice.ensures.value bytes h len e in
     bad (c.is_ok.ensures.value ∙ ap is_ok read.0)
-
-pub returns-else-lacks_upper_case-clause-refused
-    : goal.returns-else-lacks_upper_case-clause-refused
-returns-else-lacks_upper_case-clause-refused c = λ bad bytes h len e.
-    bad (c.lacks_upper_case.ensures ∙ ap (list_all is_not_upper) e ∙ hex_not_upper bytes h)

@@ -1,7 +1,7 @@
 -- SPDX-License-Identifier: ISC
-use Rattle.std.proofs.Common.{◌≡◌, ◌-◌, ◌*◌, ◌∙◌, ℕ, ap, arith}
+use Rattle.std.proofs.lemmas.Grind.{common_steps}
+use Rattle.std.proofs.Common.{◌≡◌, ◌-◌, ◌*◌, arith}
 use Rattle.std.proofs.lemmas.List.{take_rest}
-use Rattle.ring.specs.Prelude.{raised}
 use Rattle.ring.proofs.lemmas.digest.LaneBlocks.{blocks_left, words_at-whole}
 use Rattle.ring.proofs.Costs.{raised-none}
 use Rattle.ring.proofs.digest.each.run_whole.Goals as goal
@@ -19,7 +19,4 @@ returns-clause-words g c =
 
 pub returns-clause-cost : goal.returns-clause-cost
 returns-clause-cost g c =
-    c.run_blocks.ensures.cost ∙ ap (λ (n : ℕ). raised c.args.meter.now n 0)
-    (blocks_left c.args.algorithm c.args.message.now c.args.count c.requires.whole
-    (omega (arith, c.if-whole-count.false))
-    (take_rest c.args.message.now (g.row.N * c.args.count)))
+    grind (arith, common_steps, blocks_left, take_rest)

@@ -1,7 +1,8 @@
 -- SPDX-License-Identifier: ISC
-use Rattle.std.proofs.Common.{◌≡◌, ◌+◌, ◌++◌, ◌∷◌, [], length, ap, ◌∙◌, arith, length-append}
+use Rattle.std.proofs.Common.{◌++◌, ◌∷◌, [], ◌∙◌, arith}
+use Rattle.std.proofs.lemmas.Grind.{common_steps}
 use Rattle.std.proofs.lemmas.List.{take_all}
-use Rattle.ring.specs.Prelude.{joined, key_algorithm, padded_blocks, raised}
+use Rattle.ring.specs.Prelude.{joined}
 use Rattle.ring.proofs.Feeding.{fed_piece, fed_tag-more}
 use Rattle.ring.proofs.Lengths.{counted_tag}
 use Rattle.ring.proofs.hkdf.rounds.round.Goals as goal
@@ -31,12 +32,4 @@ returns-clause-cost c =
     let index = c.args.index ∷ [] in
     let whole =
     fed_tag-more index before more.algorithm more.counted more.pending more.stands more.cost in
-    let len : length (bytes ++ index)
-    ≡ length c.args.previous.now + length (joined c.args.info.now) + 1 =
-    omega (
-      arith,
-      length-append bytes index,
-      length-append c.args.previous.now (joined c.args.info.now),
-    ) in
-    counted_tag whole.algorithm whole.taken c.in-Ok.ensures.cost
-    ∙ ap (λ z. raised c.args.meter.now (padded_blocks (key_algorithm c.args.key.now) z + 1) 0) len
+    grind (arith, common_steps, counted_tag whole.algorithm whole.taken c.in-Ok.ensures.cost)

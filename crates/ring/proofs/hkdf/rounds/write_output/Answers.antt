@@ -1,11 +1,9 @@
 -- SPDX-License-Identifier: ISC
-use Rattle.std.proofs.Common.{◌≡◌, ◌+◌, ◌-◌, ◌*◌, ◌≤◌, ℕ, length, sym, ap, ◌∙◌, arith}
+use Rattle.std.proofs.Common.{◌≡◌, ◌+◌, ◌-◌, ◌*◌, ◌≤◌, length, sym, ap, ◌∙◌, arith}
 use Rattle.std.proofs.lemmas.Grind.{common_steps}
-use Rattle.ring.specs.Prelude.{joined, key_algorithm, output_len, raised, hkdf_t}
+use Rattle.ring.specs.Prelude.{joined, key_algorithm, output_len, hkdf_t}
 use Rattle.ring.proofs.lemmas.hkdf.Expanding.{cost_first, cost_next, first_round, next_round}
-use Rattle.ring.proofs.lemmas.hkdf.Expanding.{round-lt}
-use Rattle.ring.proofs.lemmas.hkdf.Expanding.{rounds_at, written-last, written-next, first_blocks}
-use Rattle.ring.proofs.lemmas.hkdf.Expanding.{next_blocks}
+use Rattle.ring.proofs.lemmas.hkdf.Expanding.{round-lt, rounds_at, written-last, written-next}
 use Rattle.ring.proofs.Pieces.{joined_blocks-none}
 use Rattle.ring.proofs.hkdf.rounds.write_output.Goals as goal
 
@@ -33,16 +31,14 @@ loop-out-preserved c =
     let round = c.round-tag-in-loop-out.ensures in
     let tag = c.as_ref-in-loop-out.ensures in
     let end = c.loop-out.written + c.output_len-output_len.result in
-    let len : c.output_len-output_len.result ≡ output_len a =
-    c.output_len-output_len.ensures
-    ∙ ap output_len (c.digest_algorithm.ensures ∙ c.algorithm.ensures) in
+    let len : c.output_len-output_len.result ≡ output_len a = cc in
     let place : end ≡ (c.loop-out.rounds + 1) * output_len a = omega (arith, len, before.place) in
     let few = round-lt (output_len a) _ end (length c.loop-out.out) place in
     record {
       place = place;
       few = few (omega arith) (omega arith);
-      in_out = grind (arith, common_steps, c.loop-out-test.true);
-      needed = λ h. grind (arith, common_steps, c.loop-out-test.true);
+      in_out = grind (arith, common_steps);
+      needed = λ h. grind (arith, common_steps);
       algorithm = round.algorithm;
       next = λ k h.
           let previous = tag.bytes ∙ before.next k h in
@@ -55,9 +51,7 @@ pub returns-clause-ok : goal.returns-clause-ok
 returns-clause-ok c k h =
     let a = key_algorithm c.args.key.now in
     let before = c.loop-out.invariant in
-    let len : c.output_len-output_len.result ≡ output_len a =
-    c.output_len-output_len.ensures
-    ∙ ap output_len (c.digest_algorithm.ensures ∙ c.algorithm.ensures) in
+    let len : c.output_len-output_len.result ≡ output_len a = cc in
     let left = length c.loop-out.out - c.loop-out.written in
     let short : left ≤ output_len a = omega arith in
     let whole : length c.loop-out.out ≡ c.loop-out.written + left = omega (arith, before.in_out) in
@@ -69,12 +63,7 @@ returns-clause-cost c =
     let a = key_algorithm c.args.key.now in
     let i = length (joined c.args.info.now) in
     let before = c.loop-out.invariant in
-    let len : c.output_len-output_len.result ≡ output_len a =
-    c.output_len-output_len.ensures
-    ∙ ap output_len (c.digest_algorithm.ensures ∙ c.algorithm.ensures) in
+    let len : c.output_len-output_len.result ≡ output_len a = cc in
     let number = c.loop-out.rounds in
     let at_end = rounds_at a number c.loop-out.written (length c.args.out.now) before.place in
-    let rounds =
-    at_end (omega arith) (omega arith) (λ h. (let more = before.needed h in omega arith)) in
-    let blocks : ℕ → ℕ = λ (z : ℕ). first_blocks a i + z * next_blocks a i in
-    before.cost ∙ ap (λ (z : ℕ). raised c.args.meter.now (blocks z) 0) (sym rounds)
+    grind (arith, common_steps, at_end, before.needed, before.cost)

@@ -1,6 +1,7 @@
 -- SPDX-License-Identifier: ISC
-use Rattle.std.proofs.Common.{◌≡◌, length, take, arith, ap, ◌∙◌, length-take-le}
-use Rattle.std.proofs.lemmas.List.{length-map, take-map}
+use Rattle.std.proofs.Common.{◌≡◌, length, take, arith}
+use Rattle.std.proofs.lemmas.Grind.{common_steps}
+use Rattle.std.proofs.lemmas.List.{take-map}
 use Rattle.ring_core.specs.Prelude.{◌⊕◌}
 use Rattle.ring.specs.Prelude.{block_len, masked}
 use Rattle.ring.proofs.lemmas.hmac.Keys.{taken_block}
@@ -18,13 +19,7 @@ returns c =
     rw (c.xor_assign.ensures, c.block_len-block_len.ensures)
     (take-map (λ x. x ⊕ c.args.mask) (block_len a) key_block) in
     let size : length (take c.block_len-block_len.result c.xor_assign.new.a) ≡ block_len a =
-    ap length bytes ∙ length-map (take (block_len a) key_block) _
-    ∙ length-take-le (block_len a) key_block (omega (arith, block_len-most a)) in
+    grind (arith, common_steps, block_len-most a) in
     let t =
     taken_block update.moved update.short new.algorithm size bytes new.stands new.counted in
-    record {
-      cost = t.2;
-      stands = t.0;
-      algorithm = update.moved.algorithm ∙ new.algorithm;
-      counted = t.1;
-    }
+    grind (arith, t, update.moved.algorithm, new.algorithm)

@@ -6,13 +6,11 @@ use Rattle.ring.proofs.pbkdf2.each.can_derive_all.Goals as goal
 
 pub returns-then-not-can_derive : goal.returns-then-not-can_derive
 returns-then-not-can_derive c =
-    let i = c.places.i in
-    let secrets = c.args.secrets.now in
-    let salts = c.args.salts.now in (
+    let i = c.places.i in (
       λ told. absurd (true≢false (sym told)),
-      λ all. let within : CanDerive c.args.algorithm.now (length (bytes_at secrets i))
-          (length (bytes_at salts i)) c.args.len = all i c.places-test.true in
-          let read = rw (message-read secrets i, message-read salts i) at within in
+      λ all.
+          let read = rw (message-read c.args.secrets.now i, message-read c.args.salts.now i) at
+          (all i c.places-test.true) in
           search (rules, c.can_derive.ensures.1 read, c.if-not-can_derive.true),
     )
 

@@ -1,12 +1,12 @@
 -- SPDX-License-Identifier: ISC
-use Rattle.std.proofs.Common.{◌≡◌, ◌≤◌, ◌+◌, ◌-◌, ◌*◌, arith, length, refl, rules}
+use Rattle.std.proofs.Common.{◌≡◌, ◌≤◌, ◌+◌, ◌-◌, ◌*◌, arith, length, refl}
 use Rattle.std.specs.Int.NonZero.{non_zero_u32_get}
 use Rattle.ring.specs.Prelude.{derive_blocks_at, hmac_digest, raised, sum_below}
-use Rattle.ring.proofs.lemmas.pbkdf2.DerivedKeys.{blocks-part, can_derive-part}
+use Rattle.ring.proofs.lemmas.pbkdf2.DerivedKeys.{blocks-part, can_derive-part, can_derive-under}
 use Rattle.ring.proofs.Each.{message_at-part}
 use Rattle.ring.proofs.lemmas.pbkdf2.Places.{items_from}
 use Rattle.ring.proofs.Sums.{raised-sum, raised_zero, sum_below-times}
-use Rattle.ring.proofs.lemmas.pbkdf2.Taking.{keeps-more, takes-none, takes-places}
+use Rattle.ring.proofs.lemmas.pbkdf2.Taking.{keeps-more, places-kept, takes-none, takes-places}
 use Rattle.ring.proofs.pbkdf2.each.derive_all.Goals as goal
 
 pub keys-init : goal.keys-init
@@ -14,9 +14,9 @@ unfolding sum_below
 keys-init g c =
     record {
       within = omega arith;
-      same = record { count = refl; bytes = refl };
+      same = grind arith;
       cost = grind (arith, raised_zero);
-      taken = takes-none (λ i below. absurd (omega (arith, below)));
+      taken = takes-none (λ i below. grind arith);
     }
 
 pub keys_of-keys-requires : goal.keys_of-keys-requires
@@ -44,16 +44,8 @@ derive_under-requires g c =
     let can = can_derive-part c.args.salts.now secrets at k c.requires.within room in
     let keys = rw (size, can.secret_count) at c.keys_of-keys.ensures in
     rw (size, keys.count, c.digest_algorithm-digest.ensures) (record {
-      keys = λ i key below. (keys.ok.each i key (rw keys.count below)).algorithm;
-      count = can.salt_count;
-      within = λ i some below. (can.each i below).salt some;
-      numbers = (can.each 0 (omega arith)).rounds;
-      most = search (rules, room);
-      room = record {
-        count = omega (arith, h.same, room, c.requires.room);
-        bytes = omega (arith, h.same, c.requires.room);
-        most = omega (arith, h.same, c.requires.room);
-      };
+      under = can_derive-under can (omega arith) keys.count keys.ok;
+      room = places-kept h.same c.requires.room room (omega arith);
     })
 
 pub keys-preserved : goal.keys-preserved

@@ -16,7 +16,7 @@ invariant-keys g l =
       cost : l.meter ≡ raised l.fn.meter
           (sum_below (derive_blocks_at a l.salts l.secrets iterations l.len) l.made)
           (r.pairs * (l.made * l.len));
-      taken : Receives r.HasReceived 0 l.made 0 (dk_at a l.salts l.secrets iterations l.len)
+      taken : Receives r.HasReceived 0 l.made (dk_at a l.salts l.secrets iterations l.len)
           l.fn.receiver l.receiver;
     }
 

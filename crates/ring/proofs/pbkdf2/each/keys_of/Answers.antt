@@ -1,7 +1,8 @@
 -- SPDX-License-Identifier: ISC
+use Rattle.std.proofs.lemmas.List.{get_or-take}
+use Rattle.std.proofs.lemmas.Grind.{common_steps}
 use Rattle.std.proofs.Common.{◌≡◌, arith, length, refl, rules}
 use Rattle.ring.proofs.Each.{message-read}
-use Rattle.ring.proofs.lemmas.pbkdf2.KeysAt.{key_at, keys-all}
 use Rattle.ring.proofs.lemmas.pbkdf2.Places.{places-next, risen-next, risen-none}
 use Rattle.ring.proofs.pbkdf2.each.keys_of.Goals as goal
 
@@ -15,9 +16,7 @@ keys-init c =
     let first = c.key_within-first.ensures in
     record {
       keys = record {
-        each = λ i d below.
-            let zero : i ≡ 0 = omega (arith, below) in
-            rw (zero, c.clone.ensures) (key_at secrets 0 first.algorithm first.ok);
+        each = λ i d below. grind (arith, common_steps, message-read secrets 0, first);
       };
       size = refl;
       cost = risen-next risen-none (rw (message-read secrets 0) first.cost);
@@ -31,7 +30,8 @@ keys-preserved c =
     let key = c.key_within.ensures in
     record {
       keys = places-next _ i c.keys.invariant.keys
-          (omega (arith, size, c.requires.most)) (key_at secrets i key.algorithm key.ok);
+          (omega (arith, size, c.requires.most)) (rw (message-read secrets i)
+          record { algorithm = key.algorithm; stands = key.ok });
       size = search (rules, size);
       cost = risen-next c.keys.invariant.cost (rw (message-read secrets i) key.cost);
     }
@@ -40,5 +40,8 @@ pub returns-clause-ok : goal.returns-clause-ok
 returns-clause-ok c =
     let secrets = c.args.secrets.now in
     let last : c.keys.i ≡ length secrets = omega (arith, c.requires.some) in
-    keys-all secrets (length secrets) (rw last at c.keys.invariant.keys)
-    (omega (arith, c.keys.invariant.size, c.requires.most))
+    let size = c.keys.invariant.size in
+    record {
+      each = λ i key below.
+          grind (arith, common_steps, c.keys.invariant.keys.each i key, get_or-take);
+    }

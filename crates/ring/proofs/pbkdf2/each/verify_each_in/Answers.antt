@@ -1,7 +1,7 @@
 -- SPDX-License-Identifier: ISC
-use Rattle.std.proofs.Common.{◌≡◌, ◌↔◌, ◌<◌, [], ℕ, arith, false, get_or, length, refl, rules, true}
+use Rattle.std.proofs.Common.{◌≡◌, ◌<◌, ℕ, arith, false, get_or, length, refl, rules, true}
 use Rattle.std.specs.Int.NonZero.{non_zero_u32_get}
-use Rattle.ring.specs.Prelude.{AreVerified, CanVerify, IsDerived, bytes_at, pbkdf2_digest}
+use Rattle.ring.specs.Prelude.{AreVerified, CanVerify, bytes_at, pbkdf2_digest}
 use Rattle.ring.proofs.lemmas.pbkdf2.DerivedKeys.{derived-same}
 use Rattle.ring.proofs.lemmas.pbkdf2.Rounds.{length-dk}
 use Rattle.ring.proofs.lemmas.pbkdf2.Taking.{taken-all}
@@ -21,24 +21,18 @@ returns g c =
     (refl, refl, refl, λ some. absurd (omega (arith, some)), (λ e. (e, refl), λ h. h.0))) in
     let rest = took.0 in
     let within : (k : ℕ) → k < length values → CanVerify a (length (bytes_at secrets k))
-    (length (bytes_at salts k)) g.row.N = λ k below. record {
-      nonempty = search rules;
-      within = search rules;
-    } in
-    let answers : (k : ℕ) → k < length values → (get_or matches k false ≡ true)
-    ↔ IsDerived a (bytes_at secrets k) (bytes_at salts k) iterations (get_or values k []) =
-    λ k below.
-    let has = took.1 k k (omega (arith, below, c.if-secrets-count.false)) (omega arith) in
-    let size = length-dk a (bytes_at secrets k) (bytes_at salts k) iterations g.row.N in
-    let can = within k below in
-    let begun : get_or c.fill.new.self k false ≡ true =
-    c.fill.ensures.clones k false (omega (arith, c.if-matches-count.false, below)) refl in
-    let told = rw has.0 at has.4 in
-    let long = rw has.0 at (has.3 (omega (arith, size, can.nonempty))) in
-    derived-same can long begun told in
+    (length (bytes_at salts k)) g.row.N =
+    λ k below. record { nonempty = search rules; within = search rules } in
     let all : AreVerified matches a salts secrets iterations values = record {
-      count = omega (arith, rest.2, c.fill.auto.self, c.if-matches-count.false);
-      each = answers;
+      count = omega (arith, rest.2);
+      each = λ k below.
+          let has = took.1 k k (omega (arith, below)) (omega arith) in
+          let size = length-dk a (bytes_at secrets k) (bytes_at salts k) iterations g.row.N in
+          let can = within k below in
+          let begun : get_or c.fill.new.self k false ≡ true =
+          c.fill.ensures.clones k false (omega (arith, below)) refl in
+          let long = rw has.0 at (has.3 (omega (arith, size, can.nonempty))) in
+          derived-same can long begun (rw has.0 at has.4);
     } in
     record {
       ok = search (rules, rest.1, all);

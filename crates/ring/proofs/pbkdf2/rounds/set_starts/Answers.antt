@@ -1,12 +1,13 @@
 -- SPDX-License-Identifier: ISC
-use Rattle.std.proofs.Common.{◌≡◌, ◌∙◌, ap, arith, get_or, rules, sym}
+use Rattle.std.proofs.Common.{◌≡◌, ◌∙◌, arith, get_or, rules, sym}
+use Rattle.std.proofs.lemmas.Grind.{common_steps}
 use Rattle.std.proofs.Math.ListN.{length-set}
 use Rattle.std.proofs.lemmas.List.{get_or_default}
-use Rattle.ring.specs.Prelude.{Key, key_algorithm}
+use Rattle.ring.specs.Prelude.{Key}
 use Rattle.ring.proofs.Each.{message-read}
 use Rattle.ring.proofs.lemmas.pbkdf2.Places.{risen-next, risen-none}
 use Rattle.ring.proofs.lemmas.pbkdf2.Rounds.{is_round-next, round_on-next, round_on-none}
-use Rattle.ring.proofs.lemmas.pbkdf2.Starts.{start-made, starts-next}
+use Rattle.ring.proofs.lemmas.pbkdf2.Starts.{read-within, start-made, starts-next}
 use Rattle.ring.proofs.pbkdf2.rounds.set_starts.Goals as goal
 
 pub starts-init : goal.starts-init
@@ -19,6 +20,12 @@ starts-init c =
       cost = risen-none;
     }
 
+pub first_iterate-tag-requires : goal.first_iterate-tag-requires
+first_iterate-tag-requires c = record {
+  within = (read-within c.requires.rounds c.starts-test.true c.starts.invariant.here
+      c.index-keys-round.is).1.1;
+}
+
 pub starts-preserved : goal.starts-preserved
 starts-preserved c =
     let a = c.args.algorithm in
@@ -27,18 +34,17 @@ starts-preserved c =
     let h = c.starts.invariant in
     let i = c.starts.i in
     let q = c.starts.round in
-    let can = rw (← h.here) at (c.requires.rounds.each i (omega arith)) in
+    let read = read-within c.requires.rounds c.starts-test.true h.here c.index-keys-round.is in
     let found = c.index-keys-round.result in
     let is : (key : Key) → found ≡ get_or keys q.place key =
-    λ key. c.index-keys-round.is ∙ get_or_default keys q.place found key can.place in
-    let same = ap (λ (key : Key). key_algorithm key) (is found) ∙ can.algorithm found in
+    λ key. c.index-keys-round.is ∙ get_or_default keys q.place found key read.0 in
+    let same = read.1.0 in
     let tag = c.first_iterate-tag.ensures in
     let made = start-made a found _ q.index c.first_iterate-tag.result c.bytes_of.result same
     tag.algorithm tag.ok c.bytes_of.ensures c.with_bytes.ensures.sized c.with_bytes.ensures.bytes in
     let starts = c.starts.starts in
     record {
-      here = c.round_after-round.ensures
-          ∙ rw h.here (sym (round_on-next a c.args.len c.args.first i));
+      here = grind (arith, common_steps, h.here, round_on-next a c.args.len c.args.first i);
       round = rw c.round_after-round.ensures (is_round-next h.round);
       starts = starts-next starts.inner starts.outer starts.first i
           (omega arith, (omega arith, omega arith)) h.starts

@@ -4,30 +4,28 @@ use Rattle.std.proofs.Math.ListN.{length-set}
 use Rattle.std.specs.Int.NonZero.{non_zero_u32_get}
 use Rattle.ring.specs.Prelude.{digest_bytes, first_blocks, round_on, words}
 use Rattle.ring.proofs.Lanes.{digest_written}
+use Rattle.ring.proofs.lemmas.pbkdf2.Iterates.{length-pbkdf2_t}
 use Rattle.ring.proofs.lemmas.pbkdf2.Places.{places-next}
-use Rattle.ring.proofs.lemmas.pbkdf2.Starts.{in_lanes, lane-round, sized-at, some-item, start-at}
+use Rattle.ring.proofs.lemmas.pbkdf2.Starts.{in_lanes, lane-round, sized-at, start-at}
 use Rattle.ring.proofs.Sums.{raised-sum, sum_below-more}
 use Rattle.ring.proofs.pbkdf2.rounds.write_rounds_in_lanes.Goals as goal
 
 pub new-inner-requires-clause-sized : goal.new-inner-requires-clause-sized
 new-inner-requires-clause-sized g c = λ i s below.
-    let place = (c.requires.rounds.each 0 (omega arith)).place in
-    let key = some-item c.args.keys.now (omega (arith, place)) in
-    (sized-at c.set_starts.ensures.starts i key s (omega (arith, below, c.requires.lanes))).0
+    (sized-at c.set_starts.ensures.starts i c.requires.rounds c.requires.some s
+    (omega (arith, below, c.requires.lanes))).0
     ∙ rw c.requires.same at g.met.H.DigestBlock.sized
 
 pub new-outer-requires-clause-sized : goal.new-outer-requires-clause-sized
 new-outer-requires-clause-sized g c = λ i s below.
-    let place = (c.requires.rounds.each 0 (omega arith)).place in
-    let key = some-item c.args.keys.now (omega (arith, place)) in
-    (sized-at c.set_starts.ensures.starts i key s (omega (arith, below, c.requires.lanes))).1.0
+    (sized-at c.set_starts.ensures.starts i c.requires.rounds c.requires.some s
+    (omega (arith, below, c.requires.lanes))).1.0
     ∙ rw c.requires.same at g.met.H.DigestBlock.sized
 
 pub new-first-requires-clause-sized : goal.new-first-requires-clause-sized
 new-first-requires-clause-sized g c = λ i s below.
-    let place = (c.requires.rounds.each 0 (omega arith)).place in
-    let key = some-item c.args.keys.now (omega (arith, place)) in
-    (sized-at c.set_starts.ensures.starts i key s (omega (arith, below, c.requires.lanes))).1.1
+    (sized-at c.set_starts.ensures.starts i c.requires.rounds c.requires.some s
+    (omega (arith, below, c.requires.lanes))).1.1
     ∙ rw c.requires.same at g.met.H.DigestBlock.sized
 
 pub outputs-preserved : goal.outputs-preserved
@@ -44,23 +42,28 @@ outputs-preserved g c =
     let lengths = c.set_starts.ensures.lengths in
     let most : length c.args.outputs.now ≤ 8 = omega (arith, c.requires.most, c.requires.lanes) in
     let sums = rw c.requires.same at (c.xor_iterates-sums.ensures.ok i) in
-    let here = lane-round _ _
-    (λ key. start-at c.set_starts.ensures.starts i key state state state below) (
-      c.new-inner.ensures i state (in_lanes _ lengths.0 most below),
-      (
-        c.new-outer.ensures i state (in_lanes _ lengths.1 most below),
-        c.new-first.ensures i state (in_lanes _ lengths.2 most below),
-      ),
-    ) sums written in
     record {
-      written = places-next _ i c.outputs.invariant.written (omega arith) here;
+      written = λ p are. places-next _ i (c.outputs.invariant.written p are) (omega arith)
+          (lane-round c.args.salts.now _ (round_on a c.args.len c.args.first i) _ _ are
+          (c.requires.rounds.places.each i lane)
+          (λ key. start-at c.set_starts.ensures.starts i key state state state below) (
+            c.new-inner.ensures i state (in_lanes _ lengths.0 most below),
+            (
+              c.new-outer.ensures i state (in_lanes _ lengths.1 most below),
+              c.new-first.ensures i state (in_lanes _ lengths.2 most below),
+            ),
+          ) sums written);
       count = simp length-set c.outputs.invariant.count;
     }
 
 pub returns-clause-ok : goal.returns-clause-ok
-returns-clause-ok g c = λ i output below.
-    c.outputs.invariant.written.each i output
-    (omega (arith, below, c.outputs.auto.i-end, c.outputs-test.false, c.outputs.invariant.count))
+returns-clause-ok g c = λ p are.
+    record {
+      size = λ i j. length-pbkdf2_t _ _ _ _ _;
+      places = rw (← c.outputs.invariant.count) at c.requires.rounds.places;
+      each = λ i output below.
+          (c.outputs.invariant.written p are).each i output (omega (arith, below));
+    }
 
 pub returns-clause-cost : goal.returns-clause-cost
 returns-clause-cost g c =

@@ -1,7 +1,6 @@
 -- SPDX-License-Identifier: ISC
 use Rattle.std.proofs.Common.{arith, sym}
 use Rattle.std.proofs.lemmas.List.{take-append-drop}
-use Rattle.ring.specs.Prelude.{IsUpdated}
 use Rattle.ring.proofs.lemmas.digest.GoingOn.{partway}
 use Rattle.ring.proofs.Sums.{raised_zero}
 use Rattle.ring.proofs.digest.context.Context.complete_begun.Goals as goal
@@ -11,14 +10,5 @@ returns-then-self-eq0-clause-cost c = sym (raised_zero _ _ 0 (omega arith) (omeg
 
 pub returns-clause-partway : goal.returns-clause-partway
 returns-clause-partway c =
-    let update = c.update_counted.ensures in
-    let updated : IsUpdated c.args.self.now c.update_counted.new.self c.split_at.result.0.now =
-    record {
-      stands = update.stands;
-      any = update.any;
-      algorithm = update.algorithm;
-      counted = update.counted;
-      pending = update.pending;
-    } in
     partway c.split_at.result.0.now c.split_at.result.1.now
-    (grind (arith, take-append-drop)) updated
+    (grind (arith, take-append-drop)) c.add.ensures.updated

@@ -1,7 +1,9 @@
 -- SPDX-License-Identifier: ISC
 use Rattle.std.proofs.Common.{◌∙◌, arith, refl}
 use Rattle.std.proofs.lemmas.List.{take_rest}
-use Rattle.ring.proofs.lemmas.digest.GoingOn.{HasRun, blocks_fit, updated_rest}
+use Rattle.std.proofs.Math.Nat.{le-div_iff_mul-le}
+use Rattle.ring.proofs.Rows.{block_len-positive}
+use Rattle.ring.proofs.lemmas.digest.GoingOn.{HasRun, updated_rest}
 use Rattle.ring.proofs.digest.context.Context.go_on.Goals as goal
 
 pub returns-clause-updated : goal.returns-clause-updated
@@ -12,7 +14,7 @@ returns-clause-updated c =
     let run : HasRun c.args.self.now c.go_past.new.self c.args.piece.now c.args.count _ =
     record {
       size = rw size refl;
-      fits = rw size (blocks_fit _ c.args.count _ c.requires.fits);
+      fits = rw size ((le-div_iff_mul-le (block_len-positive _)).0 c.requires.fits);
       empty = empty;
       pending = past.pending ∙ empty;
       algorithm = past.algorithm;
@@ -20,11 +22,4 @@ returns-clause-updated c =
       spare = rw past.state c.requires.spare;
       counted = past.count;
     } in
-    let update = c.update_counted-2.ensures in
-    updated_rest c.args.meter.now run (take_rest c.args.piece.now _) (record {
-      stands = update.stands;
-      any = update.any;
-      algorithm = update.algorithm;
-      counted = update.counted;
-      pending = update.pending;
-    })
+    updated_rest c.args.meter.now run (take_rest c.args.piece.now _) c.add-2.ensures.updated

@@ -1,5 +1,5 @@
 -- SPDX-License-Identifier: ISC
-use Rattle.std.proofs.Common.{◌≡◌, ◌≢◌, ◌+◌, ◌≤◌, ◌<◌, ◌&&◌, ◌∙◌, [], arith, false, get_or, length}
+use Rattle.std.proofs.Common.{◌≤◌, ◌<◌, ◌&&◌, [], arith, false, get_or, length}
 use Rattle.std.proofs.Math.ListN.{length-set}
 use Rattle.std.proofs.lemmas.List.{get_or-set_other, get_or-set_same}
 use Rattle.ring.proofs.lemmas.pbkdf2.Taking.{compared-part}
@@ -23,24 +23,10 @@ returns-clause-ok g c =
     let fits : w ≤ length (get_or values place []) = omega (arith, size, c.requires) in
     let count = length-set matches place now in
     record {
-      each = λ start i front first long has.
-          let here : place + i ≡ place = omega (arith, first) in
-          let before = rw here at has in
-          rw here (
-            before.0,
-            before.1,
-            count ∙ before.2,
-            λ some. size,
-            rw (get_or-set_same matches place now false room)
-                (compared-part front part (get_or values place []) long fits
-                c.has_at-same.ensures.ok before.4),
-          );
-      others = λ start j front out has.
-          let other : j ≢ place = λ e. omega (arith, e, out) in (
-            has.0,
-            has.1,
-            count ∙ has.2,
-            has.3,
-            rw (get_or-set_other matches place j now false other) has.4,
-          );
+      here = λ start front long has.
+          let value = get_or values place [] in
+          let same = compared-part front part value long fits c.has_at-same.ensures.ok has.4 in
+          grind (arith, count, has, size, get_or-set_same matches place now false room);
+      others = λ start j front other has.
+          grind (arith, count, has, get_or-set_other matches place j now false other);
     }

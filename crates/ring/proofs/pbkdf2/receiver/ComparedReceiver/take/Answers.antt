@@ -10,10 +10,13 @@ returns-clause-ok c =
     let value = c.args.self.now.value.now in
     let k : w + length part - w ≡ length part = omega arith in
     record {
-      each = λ start i front below long has. (
+      here = λ start front long has. (
         has.0,
         λ zero. compared-part front part value long (omega (arith, c.requires))
             (rw k at c.are_same.ensures.ok) (has.1 zero),
       );
-      others = λ start j front out has. (has.0, λ zero. absurd (omega (arith, out, zero)));
+      others = λ start j front other has. (
+        has.0,
+        λ zero. absurd (other (omega (arith, zero, c.requires))),
+      );
     }

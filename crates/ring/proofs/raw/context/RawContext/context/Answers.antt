@@ -1,17 +1,12 @@
 -- SPDX-License-Identifier: ISC
-use Rattle.std.proofs.Common.{rules}
 use Rattle.ring.specs.Prelude.{RawStandsFor, StandsFor}
-use Rattle.ring.proofs.lemmas.raw.Numbers.{is_context, taken_raw}
+use Rattle.ring.proofs.lemmas.raw.Numbers.{taken_raw}
 use Rattle.ring.proofs.raw.context.RawContext.context.Goals as goal
-
-pub returns-in_default-clause-stands : goal.returns-in_default-clause-stands
-returns-in_default-clause-stands c = λ a m h.
-    is_context c.args.self.now a m h (c.in_default.ensures.none.0 (search rules))
 
 pub returns-clause-stands : goal.returns-clause-stands
 unfolding StandsFor RawStandsFor
 returns-clause-stands c = λ a m h.
     let own = c.in-Some.ensures in
     let is =
-    taken_raw c.args.self.now a h.blocks own.algorithm own.stands h.algorithm h.state h.count in
+    taken_raw c.args.self.now a h.blocks own.algorithm own.numbers h.algorithm h.state h.count in
     (record { whole = h.blocks; taken = is.0; message = h.message }, is.1)

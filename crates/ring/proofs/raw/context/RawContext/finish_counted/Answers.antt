@@ -1,18 +1,15 @@
 -- SPDX-License-Identifier: ISC
-use Rattle.std.proofs.Common.{◌≡◌, ◌≤◌, ◌+◌, ◌++◌, ℕ, List, arith, rules, ap, sym, subst, ◌∙◌}
-use Rattle.std.proofs.Common.{[], Some, append-nil, length, length-take-le, refl, take}
+use Rattle.std.proofs.Common.{◌≡◌, ◌≤◌, ◌+◌, ◌++◌, ℕ, List, arith, sym, ◌∙◌}
+use Rattle.std.proofs.Common.{[], Some, length, length-take-le, take}
+use Rattle.std.proofs.lemmas.Grind.{common_steps}
 use Rattle.std.proofs.lemmas.Option.{same_Some}
 use Rattle.ring.specs.Prelude.{Algorithm, Digest, HasTaken, IsDigest, RawStandsFor, block_words}
 use Rattle.ring.specs.Prelude.{bytes_of, counted_bytes, cut_off, digest_after, digest_named}
-use Rattle.ring.specs.Prelude.{max_input_len, raw_digest_with, raw_message_len}
-use Rattle.ring.proofs.lemmas.raw.Numbers.{is_context, raw_last, raw_named, refused_raw, taken_raw}
+use Rattle.ring.specs.Prelude.{raw_digest_with, raw_message_len}
+use Rattle.ring.proofs.lemmas.raw.Numbers.{raw_last, raw_named, refused_raw, taken_raw}
 use Rattle.ring.proofs.Outcomes.{if_ok_map, on_ok_map}
 use Rattle.ring.proofs.Rows.{block_len-most}
 use Rattle.ring.proofs.raw.context.RawContext.finish_counted.Goals as goal
-
-pub returns-in_default-clause-ok : goal.returns-in_default-clause-ok
-returns-in_default-clause-ok c = λ a m h.
-    is_context c.args.self.now a m h (c.in_default.ensures.none.0 (search rules))
 
 pub returns-clause-ok : goal.returns-clause-ok
 unfolding RawStandsFor
@@ -22,7 +19,7 @@ returns-clause-ok c = λ a m h.
     let rest = take raw.num_pending raw.pending in
     let all : m ≡ h.blocks ++ rest = h.message in
     let own = c.in-Some.ensures in
-    let is = taken_raw raw a h.blocks own.algorithm own.stands h.algorithm h.state h.count in
+    let is = taken_raw raw a h.blocks own.algorithm own.numbers h.algorithm h.state h.count in
     let P : Digest → Type 0 =
     λ d. (p : List ℕ) → HasTaken b p → IsDigest d b.algorithm (p ++ rest) in
     if_ok_map c.try_finish.result {P = P} {Q = λ d. IsDigest d a m}
@@ -37,25 +34,16 @@ returns-clause-any c =
     omega (arith, c.in-Some.ensures.pending, block_len-most b.algorithm) in
     let len = length-take-le raw.num_pending raw.pending fits in
     let n : raw_message_len raw ≡ cut_off (counted_bytes b + length rest) =
-    omega (arith, len, c.in-Some.ensures.counted) in
+    omega (arith, len, c.in-Some.ensures.numbers.counted) in
     let P : Digest → Type 0 =
     λ d. bytes_of d ≡ digest_after b.algorithm (block_words b) rest
     (cut_off (counted_bytes b + length rest)) in
     let Q : Digest → Type 0 =
     λ d. (a : Algorithm) → digest_named raw.algorithm ≡ Some a
     → bytes_of d ≡ raw_digest_with a raw [] (raw_message_len raw) in
-    if_ok_map c.try_finish.result {P = P} {Q = Q}
-    (λ d is a named.
-    let same : b.algorithm ≡ a =
-    same_Some b.algorithm a (sym c.in-Some.ensures.algorithm ∙ named) in
-    let D : Algorithm → Type 0 =
-    λ z. bytes_of d ≡ raw_digest_with z raw [] (raw_message_len raw) in
-    subst D same (is ∙ rw (n, append-nil rest, c.in-Some.ensures.words) refl))
-    c.try_finish.ensures.any
-
-pub returns-in_default-clause-refused_of : goal.returns-in_default-clause-refused_of
-returns-in_default-clause-refused_of c = λ a m h.
-    is_context c.args.self.now a m h (c.in_default.ensures.none.0 (search rules))
+    if_ok_map c.try_finish.result {P = P} {Q = Q} (λ d is a named.
+    let same = same_Some b.algorithm a (sym c.in-Some.ensures.algorithm ∙ named) in
+    grind (arith, common_steps, c.in-Some.ensures.numbers.words)) c.try_finish.ensures.any
 
 pub returns-clause-refused_of : goal.returns-clause-refused_of
 unfolding RawStandsFor
@@ -65,17 +53,7 @@ returns-clause-refused_of c = λ a m h.
     let is_a : own ≡ a = same_Some own a (sym c.in-Some.ensures.algorithm ∙ h.algorithm) in
     let fits : raw.num_pending ≤ length raw.pending =
     omega (arith, c.in-Some.ensures.pending, block_len-most own) in
-    let len = length-take-le raw.num_pending raw.pending fits in
-    let most = ap max_input_len is_a in
-    let by_len = refused_raw raw a m h fits in
-    let told = c.try_finish.ensures.refused in (
-      λ e. by_len.0 (omega (arith, told.0 e, c.in-Some.ensures.counted, len, most)),
-      λ e. told.1 (omega (arith, by_len.1 e, c.in-Some.ensures.counted, len, most)),
-    )
-
-pub returns-in_default-clause-cost_of : goal.returns-in_default-clause-cost_of
-returns-in_default-clause-cost_of c = λ a m h.
-    is_context c.args.self.now a m h (c.in_default.ensures.none.0 (search rules))
+    grind (arith, common_steps, c.in-Some.ensures.numbers.counted, is_a, refused_raw raw a m h fits)
 
 pub returns-clause-cost_of : goal.returns-clause-cost_of
 returns-clause-cost_of c = λ a m h.
@@ -85,6 +63,5 @@ returns-clause-cost_of c = λ a m h.
     let same : own ≡ a = same_Some own a (sym c.in-Some.ensures.algorithm ∙ named) in
     let fits : raw.num_pending ≤ length raw.pending =
     omega (arith, c.in-Some.ensures.pending, block_len-most own) in
-    let len = length-take-le raw.num_pending raw.pending fits in
-    on_ok_map c.try_finish.result
-    (λ cost. cost ∙ rw (len, same, raw_last raw a m h fits) refl) c.try_finish.ensures.cost
+    let last = raw_last raw a m h fits in
+    on_ok_map c.try_finish.result (λ cost. grind (arith, common_steps)) c.try_finish.ensures.cost

@@ -1,22 +1,14 @@
 -- SPDX-License-Identifier: ISC
-use Rattle.std.proofs.Common.{◌≡◌, arith, rules, ap, sym, subst, ◌∙◌, length, ◌++◌}
+use Rattle.std.proofs.Common.{◌≡◌, arith, sym, ◌∙◌, ◌++◌}
 use Rattle.std.proofs.lemmas.Option.{same_Some}
 use Rattle.std.proofs.lemmas.Result.{IfOk-at_ok}
-use Rattle.ring.specs.Prelude.{Algorithm, IsDigest, IsRawState, RawTagStandsFor, block_len, cut_off}
-use Rattle.ring.specs.Prelude.{inner_block, outer_block}
+use Rattle.std.proofs.lemmas.Grind.{common_steps}
+use Rattle.ring.specs.Prelude.{IsDigest, RawTagStandsFor, inner_block, outer_block}
 use Rattle.ring_core.proofs.Costs.{raised-raised}
 use Rattle.ring.proofs.lemmas.hmac.Keys.{inner_last, inner_len, length-outer_block}
-use Rattle.ring.proofs.lemmas.raw.Numbers.{is_tag_context, tag_named}
+use Rattle.ring.proofs.lemmas.raw.Numbers.{tag_named}
 use Rattle.ring.proofs.Rows.{block_len-most}
 use Rattle.ring.proofs.raw.tag_context.RawTagContext.finish_counted.Goals as goal
-
-pub returns-in_default-clause-ok : goal.returns-in_default-clause-ok
-returns-in_default-clause-ok c = λ a k m h.
-    is_tag_context c.args.self.now a k m h (c.in_default.ensures.none.0 (search rules))
-
-pub returns-in_default-clause-refused_of : goal.returns-in_default-clause-refused_of
-returns-in_default-clause-refused_of c = λ a k m h.
-    is_tag_context c.args.self.now a k m h (c.in_default.ensures.none.0 (search rules))
 
 pub returns-in_default-finished-clause-refused_of :
     goal.returns-in_default-finished-clause-refused_of
@@ -37,18 +29,11 @@ returns-clause-ok c = λ a k m h.
     let own = c.in-Some.algorithm in
     let named = tag_named c.args.self.now a k m h in
     let is_a : own ≡ a = same_Some own a (sym c.in-Some.ensures.algorithm ∙ named) in
-    let size : c.block_len.result ≡ block_len a = c.block_len.ensures ∙ ap block_len is_a in
-    let len : c.block_len.result ≡ cut_off (length (outer_block a k)) =
-    omega (arith, length-outer_block a k, block_len-most a) in
-    let P : Algorithm → Type 0 = λ z. IsRawState z c.args.self.now.outer (outer_block a k) in
-    let taken = c.block_of-outer.ensures.stands _ (subst P (sym is_a) h.outer) len in
     let made = IfOk-at_ok (λ digest. IsDigest digest a (inner_block a k ++ m)) c.in-Ok.is
     (c.in-Some-finish_counted.ensures.ok a _ h.inner) in
-    c.of_inner.ensures.ok a k m (c.block_of-outer.ensures.algorithm ∙ is_a) made taken
-
-pub returns-in_default-clause-cost_of : goal.returns-in_default-clause-cost_of
-returns-in_default-clause-cost_of c = λ a k m h.
-    is_tag_context c.args.self.now a k m h (c.in_default.ensures.none.0 (search rules))
+    let outer = c.block_of-outer.ensures.stands (outer_block a k) in
+    let tag = c.of_inner.ensures.ok a k m in
+    grind (arith, common_steps, block_len-most a, length-outer_block a k)
 
 pub returns-clause-cost : goal.returns-clause-cost
 returns-clause-cost c = λ a named.

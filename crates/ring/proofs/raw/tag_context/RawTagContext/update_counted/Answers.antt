@@ -1,14 +1,12 @@
 -- SPDX-License-Identifier: ISC
-use Rattle.std.proofs.Common.{rules}
+use Rattle.std.proofs.Common.{arith, arith}
 use Rattle.ring.proofs.lemmas.raw.Numbers.{key_block_counted}
 use Rattle.ring.proofs.raw.tag_context.RawTagContext.update_counted.Goals as goal
 
 pub returns-else-counts_key_block-clause-stands : goal.returns-else-counts_key_block-clause-stands
 returns-else-counts_key_block-clause-stands c = λ a k m h.
-    let counted = key_block_counted c.args.self.now a k m h in
-    absurd (search (rules, c.counts_key_block.ensures.1 counted, c.if-counts_key_block.false))
+    grind (arith, key_block_counted c.args.self.now a k m h)
 
 pub returns-else-counts_key_block-clause-cost_of : goal.returns-else-counts_key_block-clause-cost_of
 returns-else-counts_key_block-clause-cost_of c = λ a k m h.
-    let counted = key_block_counted c.args.self.now a k m h in
-    absurd (search (rules, c.counts_key_block.ensures.1 counted, c.if-counts_key_block.false))
+    grind (arith, key_block_counted c.args.self.now a k m h)

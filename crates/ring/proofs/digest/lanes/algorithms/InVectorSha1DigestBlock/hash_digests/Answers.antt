@@ -1,8 +1,7 @@
 -- SPDX-License-Identifier: ISC
 use Rattle.ring.proofs.lemmas.digest.Paddings.{sha1_padding}
 use Rattle.ring.proofs.lemmas.digest.Words.{padded-words}
-use Rattle.ring.proofs.digest.lanes.algorithms as lanes
-use lanes.InVectorSha1DigestBlock.hash_digests.Goals as goal
+use Rattle.ring.proofs.digest.lanes.algorithms.InVectorSha1DigestBlock.hash_digests.Goals as goal
 
 pub returns-clause-ok : goal.returns-clause-ok
 returns-clause-ok g c = λ i.

@@ -1,8 +1,7 @@
 -- SPDX-License-Identifier: ISC
 use Rattle.ring_core.specs.Prelude.{family_512}
 use Rattle.ring.proofs.lemmas.digest.Paddings.{lane_run, sha512_padding}
-use Rattle.ring.proofs.digest.lanes.algorithms as lanes
-use lanes.InVectorSha512DigestBlock.hash_digests.Goals as goal
+use Rattle.ring.proofs.digest.lanes.algorithms.InVectorSha512DigestBlock.hash_digests.Goals as goal
 
 pub returns-clause-ok : goal.returns-clause-ok
 returns-clause-ok g c = λ i.

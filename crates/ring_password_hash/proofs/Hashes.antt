@@ -3,7 +3,7 @@
 use Rattle.std.proofs.Common.{◌≡◌, ℕ, refl, List, ap, sym, subst, ◌∙◌, inl, length}
 use Rattle.std.specs.declared.num.NonZeroU32.{NonZeroU32}
 use Rattle.hex.specs.Hex.{IsBytes}
-use Rattle.ring.specs.Cut.{IsWithout}
+use Rattle.ring_text.specs.Cut.{IsWithout}
 use Rattle.ring_text.proofs.Cuts.{cut_same}
 use Rattle.ring_text.proofs.LowerHex.{IsWithout-hex}
 use Rattle.ring_password_hash.specs.Field.{IsCount, field_then, written}

@@ -4,22 +4,25 @@ use Rattle.std.proofs.Common.{◌≡◌, ◌==◌, ◌+◌, ◌<◌, ◌≤◌, 
 use Rattle.std.proofs.Common.{length, take}
 use Rattle.std.proofs.Common.{ap, append_assoc, arith, inl, inr, refl, subst, sym, ◌∙◌}
 use Rattle.std.proofs.Common.{true≢false}
-use Rattle.std.specs.Prelude.{◌↔◌, ◌⊎◌, ◌&&◌, ◌||◌, IsTrue, Ok, nat_lt, not}
+use Rattle.std.specs.Prelude.{◌↔◌, ◌⊎◌, ◌||◌, IsTrue, Err, Ok, Some, nat_le, nat_lt}
+use Rattle.std.specs.Prelude.{if◌then◌else◌, not}
 use Rattle.std.specs.List.{list_all}
 use Rattle.std.specs.Int.NonZero.{non_zero_u32_get}
 use Rattle.std.specs.declared.num.NonZeroU32.{NonZeroU32}
 use Rattle.std.proofs.lemmas.Bool.{and_from, and_parts, not-true}
 use Rattle.std.proofs.lemmas.Bool.Decides.{nat_tests}
+use Rattle.std.proofs.Math.Seq.{take-append_seam}
 use Rattle.std.proofs.lemmas.List.{length-append}
+use Rattle.std.proofs.lemmas.Slice.Eq.{bytes_eq-Decides}
 use Rattle.std.proofs.lemmas.List.Elements.{All-cons, All-head, All-nil, All-tail}
 use Rattle.hex.specs.Hex.{IsBytes}
-use Rattle.ring.specs.Cut.{IsWithout}
+use Rattle.ring_text.specs.Cut.{IsWithout}
 use Rattle.ring.specs.Prelude.{dk}
 use Rattle.ring.proofs.lemmas.pbkdf2.Rounds.{length-dk}
 use Rattle.ring_password_hash.specs.Encoded.{IsPutTo}
 use Rattle.ring_password_hash.specs.Field.{IsCount, field_then, written}
 use Rattle.ring_password_hash.specs.Hash.{IsPlain, IsSalt, IsTextOf, hash_text}
-use Rattle.ring_password_hash.specs.Hash.{usual_parameters}
+use Rattle.ring_password_hash.specs.Hash.{IsReadWhere, answer_of, is_hash_of, usual_parameters}
 use Rattle.ring_password_hash.specs.Head.{IsLen, head_then}
 use Rattle.ring_password_hash.specs.Kind.{algorithm_of, hash_encoding_of, hash_len_of}
 use Rattle.ring_password_hash.specs.Kind.{salt_encoding_of}
@@ -30,6 +33,13 @@ use Rattle.ring_password_hash.specs.declared.field.Encoding.{Encoding}
 use Rattle.ring_password_hash.specs.declared.field.Encoding.TheVariants.{Plain, Hex, Base64}
 use Rattle.ring_password_hash.specs.declared.field.Encoding.TheVariants.{Base64NoPad, Adapted}
 use Rattle.ring_password_hash.specs.declared.kind.Kind.{Kind}
+use Rattle.ring_password_hash.specs.declared.made_in_place.NewError.TheVariants.{BadSalt, NoRoom}
+use Rattle.ring_password_hash.specs.declared.made_in_place.NewError.TheVariants.{TooLong}
+use Rattle.ring_password_hash.specs.declared.kind.Kind.TheVariants.{DjangoSha256, DjangoSha1}
+use Rattle.ring_password_hash.specs.declared.kind.Kind.TheVariants.{WerkzeugSha256, WerkzeugSha512}
+use Rattle.ring_password_hash.specs.declared.kind.Kind.TheVariants.{PhcSha256, PhcSha512, Mosquitto}
+use Rattle.ring_password_hash.specs.declared.kind.Kind.TheVariants.{PasslibSha1, PasslibSha256}
+use Rattle.ring_password_hash.specs.declared.kind.Kind.TheVariants.{PasslibSha512}
 use Rattle.ring_password_hash.specs.declared.decoded.TheConstants.{MAX_TEXT_LEN}
 use Rattle.ring_password_hash.proofs.Heads.{usual_len}
 use Rattle.ring_text.proofs.Cuts.{NotAt}
@@ -178,4 +188,53 @@ text_stands k p s h c count salt bytes hash_bytes hashed =
         hash_bytes = subst IsBytes hashed hash_bytes;
       };
       has = refl;
+    }
+
+-- which is the password's
+some_bytes : (k : Kind) → nat_le 1 (hash_len_of k) ≡ true
+some_bytes DjangoSha256 = refl
+some_bytes DjangoSha1 = refl
+some_bytes WerkzeugSha256 = refl
+some_bytes WerkzeugSha512 = refl
+some_bytes PhcSha256 = refl
+some_bytes PhcSha512 = refl
+some_bytes Mosquitto = refl
+some_bytes PasslibSha1 = refl
+some_bytes PasslibSha256 = refl
+some_bytes PasslibSha512 = refl
+
+is_hash_of-new : (k : Kind) (p s : List ℕ) (c : NonZeroU32) → can_hash k p s ≡ true
+    → is_hash_of (new_parts k p s c) p ≡ true
+is_hash_of-new k p s c can =
+    let n = hash_len_of k in
+    let h = dk (algorithm_of k) p s (non_zero_u32_get c) n in
+    let long : length h ≡ n = length-dk (algorithm_of k) p s (non_zero_u32_get c) n in
+    rw (long, some_bytes k, can) ((bytes_eq-Decides h h).1 refl)
+
+-- where a length is answered, nothing is refused
+answered : (past salt can : Bool) (m n : ℕ)
+    → Ok n ≡ (if past then Err NoRoom else if not salt then Err BadSalt
+    else if not can then Err TooLong else Ok m)
+    → (n ≡ m) × (can ≡ true)
+answered true salt can m n e = absurd cc
+answered false false can m n e = absurd cc
+answered false true false m n e = absurd cc
+answered false true true m n e = (cc e, refl)
+
+-- whoever reads it finds that the password is right
+pub right_text : (room : ℕ) (k : Kind) (p s : List ℕ) (c : NonZeroU32) {n : ℕ} {out : List ℕ}
+    (rest : List ℕ) → Ok n ≡ new_answer room k p s c
+    → IsTextOf (new_parts k p s c) (new_text k p s c) → out ≡ new_text k p s c ++ rest → (most : ℕ) → non_zero_u32_get c ≤ most
+    → IsReadWhere (take n out) (λ found. answer_of found p most ≡ Ok tt)
+right_text room k p s c {n} {out} rest told stands is most within =
+    let text = new_text k p s c in
+    let made =
+    answered (is_past room k p s c) (is_salt k s) (can_hash k p s) (length text) n told in
+    let front : take n out ≡ text =
+    ap (take n) is ∙ ap (λ m. take m (text ++ rest)) made.0 ∙ take-append_seam text rest in
+    let fewer : nat_lt most (non_zero_u32_get c) ≡ false = grind (arith, nat_tests, within) in
+    record {
+      found = Some (new_parts k p s c);
+      reads = subst (IsTextOf (new_parts k p s c)) (sym front) stands;
+      holds = rw (fewer, is_hash_of-new k p s c made.1) refl;
     }

@@ -8,7 +8,7 @@ use Rattle.std.proofs.lemmas.Bool.{not-true}
 use Rattle.std.proofs.lemmas.List.{append-nil, take_all, take_more_set}
 use Rattle.std.proofs.lemmas.List.Elements.{All-cons, All-nil}
 use Rattle.base64.proofs.Tables.{all_below_at}
-use Rattle.ring.specs.Cut.{IsWithout}
+use Rattle.ring_text.specs.Cut.{IsWithout}
 use Rattle.ring_password_hash.specs.Hash.{IsPlain}
 use Rattle.ring_password_hash.specs.Salt.{is_text, letters, symbols}
 use Rattle.ring_password_hash.specs.declared.field.Encoding.{Encoding}

@@ -12,7 +12,7 @@ use Rattle.base64.specs.Engines.{standard}
 use Rattle.base64.specs.GeneralPurpose.{engine_symbols}
 use Rattle.base64.specs.Tables.{all_below}
 use Rattle.base64.proofs.Tables.{all_below_at}
-use Rattle.ring.specs.Cut.{IsWithout}
+use Rattle.ring_text.specs.Cut.{IsWithout}
 use Rattle.ring_text.proofs.Cuts.{NotAt}
 use Rattle.ring_password_hash.specs.Field.{adapted_symbols, written}
 use Rattle.ring_password_hash.specs.declared.field.Encoding.TheVariants.{Adapted}

@@ -2,7 +2,7 @@
 -- Fields of a text, and the bytes that end them.
 use Rattle.std.proofs.Common.{◌≡◌, ℕ, true, false, List, [], ◌∷◌, length, refl, arith}
 use Rattle.std.specs.Prelude.{Bool, not}
-use Rattle.ring.specs.Cut.{IsFirstCut, IsWithout}
+use Rattle.ring_text.specs.Cut.{IsFirstCut, IsWithout}
 use Rattle.ring_text.proofs.Cuts.{first_cut}
 use Rattle.ring_text.proofs.Numbers.{IsDigit}
 use Rattle.ring_password_hash.specs.Field.{field_then, written}

@@ -6,7 +6,7 @@ use Rattle.std.specs.Str.{bytes_eq}
 use Rattle.std.specs.Int.NonZero.{non_zero_u32_get}
 use Rattle.std.specs.declared.num.NonZeroU32.{NonZeroU32}
 use Rattle.hex.specs.Hex.{IsBytes}
-use Rattle.ring.specs.Cut.{IsWithout}
+use Rattle.ring_text.specs.Cut.{IsWithout}
 use Rattle.ring.specs.Prelude.{CanDerive, IsDerived, can_verify, derive_blocks, dk}
 use Rattle.ring_password_hash.specs.declared.error.HashError.{HashError}
 use Rattle.ring_password_hash.specs.declared.error.HashError.TheVariants.{BadFormat, WrongPassword}

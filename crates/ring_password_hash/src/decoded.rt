@@ -4,7 +4,7 @@
 ghost use Rattle.std.specs.Prelude.{◌≡◌, ◌≢◌, ◌≤◌, ℕ, List, length, take, IfSome, IsNone};
 ghost use Rattle.hex.specs.Hex.{IsBytes};
 ghost use Rattle.base64.specs.GeneralPurpose.{IsStrict, encode_of};
-ghost use Rattle.ring.specs.Cut.{IsWithout};
+ghost use Rattle.ring_text.specs.Cut.{IsWithout};
 ghost use Rattle.ring_password_hash.specs.Field.{field_then, written};
 
 use crate::field::{Encoding, adapted};

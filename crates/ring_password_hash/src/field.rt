@@ -3,7 +3,7 @@
 
 ghost use Rattle.std.specs.Prelude.{◌≡◌, ◌≢◌, ℕ, List, ◌++◌, IfErr, IfOk, IsErrOf, OnOk, false};
 ghost use Rattle.hex.specs.Hex.{IsBytes};
-ghost use Rattle.ring.specs.Cut.{IsWithout};
+ghost use Rattle.ring_text.specs.Cut.{IsWithout};
 ghost use Rattle.std.specs.String.{string_bytes};
 ghost use Rattle.base64.specs.GeneralPurpose.{IsStrict, encode_of};
 ghost use Rattle.base64.specs.Rfc4648.{encode};

@@ -1,13 +1,13 @@
 // SPDX-License-Identifier: ISC
 //! New hashes as text, written to a buffer of the caller with no memory but the call's own.
 
-ghost use Rattle.std.specs.Prelude.{◌≡◌, ◌≤◌, ◌++◌, ℕ, List, drop, length, take, false, true, Some};
-ghost use Rattle.std.specs.Prelude.{IfOk, IfSome, IsNone, OnErr, OnOk};
+ghost use Rattle.std.specs.Prelude.{◌≡◌, ◌≤◌, ◌++◌, ℕ, List, drop, length, take, false, true, Ok};
+ghost use Rattle.std.specs.Prelude.{IfOk, IfSome, IsNone, OnErr, OnOk, Some};
 ghost use Rattle.std.specs.Int.NonZero.{non_zero_u32_get};
 ghost use Rattle.ring.specs.Prelude.{derive_blocks, raised};
 ghost use Rattle.ring_password_hash.specs.Encoded.{IsPut};
 ghost use Rattle.ring_password_hash.specs.Field.{written};
-ghost use Rattle.ring_password_hash.specs.Hash.{IsTextOf};
+ghost use Rattle.ring_password_hash.specs.Hash.{IsReadWhere, IsTextOf, answer_of};
 ghost use Rattle.ring_password_hash.specs.Kind.{algorithm_of, hash_encoding_of, hash_len_of};
 ghost use Rattle.ring_password_hash.specs.New.{can_hash, front_of, is_past, is_salt, new_answer};
 ghost use Rattle.ring_password_hash.specs.New.{new_error_text, new_parts, new_text};
@@ -167,6 +167,8 @@ pub fn new_in_place_counted(
         ++ drop (length (new_text kind password.now salt.now iterations)) out.old) }
     ensures stands { OnOk result (IsTextOf (new_parts kind password.now salt.now iterations)
         (new_text kind password.now salt.now iterations)) }
+    ensures right { (most : ℕ) → non_zero_u32_get iterations ≤ most → IfOk result (λ len.
+        IsReadWhere (take len out.new) (λ found. answer_of found password.now most ≡ Ok tt)) }
     ensures unchanged { OnErr result ((out.new ≡ out.old) × (meter.new ≡ meter.old)) }
     ensures cost { OnOk result (meter.new ≡ raised meter.old (derive_blocks (algorithm_of kind)
         (length password.now) (length salt.now) (non_zero_u32_get iterations)
@@ -204,6 +206,8 @@ pub fn new_in_place(
         ++ drop (length (new_text kind password.now salt.now iterations)) out.old) }
     ensures stands { OnOk result (IsTextOf (new_parts kind password.now salt.now iterations)
         (new_text kind password.now salt.now iterations)) }
+    ensures right { (most : ℕ) → non_zero_u32_get iterations ≤ most → IfOk result (λ len.
+        IsReadWhere (take len out.new) (λ found. answer_of found password.now most ≡ Ok tt)) }
     ensures unchanged { OnErr result (out.new ≡ out.old) }
 {
     new_in_place_counted(kind, password, salt, iterations, out, &mut Meter::new())

@@ -1,137 +1,132 @@
 -- SPDX-License-Identifier: ISC
 -- Lines of records, read from the front.
-use Rattle.std.proofs.Common.{◌≡◌, ◌≢◌, ℕ, ◌<◌, List, [], ◌∷◌, ◌++◌, length, All, sym, ap}
-use Rattle.std.proofs.Common.{subst, ◌∙◌, arith, append_assoc, append-nil, true, T}
+use Rattle.std.proofs.Common.{◌≡◌, ◌≢◌, ℕ, ◌<◌, List, [], ◌∷◌, ◌++◌, length, All, refl, sym, ap}
+use Rattle.std.proofs.Common.{subst, ◌∙◌, arith, append_assoc, append-nil, true}
+use Rattle.std.specs.Cmp.Lexicographic.{nat_list_cmp_total}
 use Rattle.std.specs.FinMap as table
+use Rattle.std.specs.FinMap.Entries.{below_all, is_sorted}
 use Rattle.std.specs.declared.cmp.Ordering.TheVariants.{Less}
+use Rattle.std.proofs.lemmas.Bool.{and_parts}
 use Rattle.std.proofs.lemmas.List.{nil_from_length}
-use Rattle.std.proofs.lemmas.List.Elements.{All-head, All-nil, All-push}
-use Rattle.ring_store.specs.Records.{IsBehind}
-use Rattle.ring_store.specs.Store.{is_name}
+use Rattle.std.proofs.lemmas.List.Elements.{All-cons, All-head, All-nil, All-tail}
 use Rattle.ring_store.specs.Text.{AreLines, IsEntry, lines_of, record_then}
 use Rattle.ring_store.specs.declared.records.Record.{Record}
-use Rattle.ring_store.proofs.Entries.{IsBehind-push, entries-empty, entries-insert_last}
-use Rattle.ring_store.proofs.Entries.{IsBehind-none, sorted_front}
+use Rattle.ring_store.proofs.Entries.{entries-empty, entries-insert_last, lower}
 use Rattle.ring_store.proofs.Names.{order}
-use Rattle.ring_store.proofs.Texts.{lines_of-append, lines_of-cons, lines_of-first}
-use Rattle.ring_store.proofs.Texts.{record_then-append, record_then-grows, record_then-injective}
+use Rattle.ring_store.proofs.Texts.{lines_of-cons, lines_of-injective, no_line, record_then-grows}
+use Rattle.ring_store.proofs.Texts.{record_then-injective}
 
--- the entry that comes next, behind entries es of fs
-pub record Next (es fs : List (List ℕ × Record)) (rest : List ℕ) : Type 0 where
-  pub entry : List ℕ × Record
-  pub others : List (List ℕ × Record)
-  pub whole : fs ≡ es ++ entry ∷ others
-  pub line : rest ≡ record_then entry (lines_of others)
-  pub is : IsEntry entry
+-- lines that begin with that of an entry
+pub record Line (last : List ℕ) (e : List ℕ × Record) (rest : List ℕ)
+    (es : List (List ℕ × Record)) : Type 0 where
+  pub lower : order last e.0 ≡ Less
+  pub left : AreLines e.0 rest
+  pub is : es ≡ e ∷ left.records
 
-next_of : (es fs : List (List ℕ × Record)) (rest : List ℕ) (more : List (List ℕ × Record))
-    → fs ≡ es ++ more → lines_of more ≡ rest → All IsEntry more → 0 < length rest → Next es fs rest
-next_of es fs rest [] whole lines each some = absurd (omega (arith, ap length lines))
-next_of es fs rest (e ∷ more) whole lines each some = record {
-  entry = e;
-  others = more;
-  whole = whole;
-  line = sym lines ∙ lines_of-cons e more;
-  is = All-head IsEntry e more each;
+line_of : {last rest : List ℕ} (e : List ℕ × Record) (es : List (List ℕ × Record)) → IsEntry e
+    → All IsEntry es → below_all order last es ≡ true → is_sorted order es ≡ true
+    → lines_of es ≡ record_then e rest → Line last e rest es
+line_of {rest} e [] is each after rise whole = absurd (no_line e rest (sym whole))
+line_of {last} {rest} e (f ∷ es) is each after rise whole =
+    let same = record_then-injective f e (lines_of es) rest (All-head IsEntry f es each) is
+    (sym (lines_of-cons f es) ∙ whole) in
+    let rises = and_parts (below_all order f.0 es) (is_sorted order es) rise in
+    subst (λ (x : List ℕ × Record). Line last x rest (f ∷ es)) same.0 (record {
+      lower = lower (order last f.0) (and_parts _ (below_all order last es) after).0;
+      left = record {
+        records = es;
+        entries = All-tail IsEntry f es each;
+        after = rises.0;
+        rise = rises.1;
+        whole = same.1;
+      };
+      is = refl;
+    })
+
+pub first_line : {last lines rest : List ℕ} (are : AreLines last lines) (e : List ℕ × Record)
+    → lines ≡ record_then e rest → IsEntry e → Line last e rest are.records
+first_line are e line is =
+    line_of e are.records is are.entries are.after are.rise (are.whole ∙ line)
+
+below_lower : (x y : List ℕ) → order x y ≡ Less → (es : List (List ℕ × Record))
+    → below_all order y es ≡ true → below_all order x es ≡ true
+below_lower x y less [] h = refl
+below_lower x y less (e ∷ es) h =
+    grind (arith, lower, nat_list_cmp_total.trans x y e.0 less, below_lower x y less es)
+
+-- a line before others whose names come after it
+pub more_lines : {last rest : List ℕ} (e : List ℕ × Record) → IsEntry e → order last e.0 ≡ Less
+    → AreLines e.0 rest → AreLines last (record_then e rest)
+more_lines {last} e is less are = record {
+  records = e ∷ are.records;
+  entries = All-cons IsEntry e are.records is are.entries;
+  after = rw (less, below_lower last e.0 less are.records are.after) refl;
+  rise = rw (are.after, are.rise) refl;
+  whole = lines_of-cons e are.records ∙ ap (record_then e) are.whole;
 }
 
--- lines of records that begin with the lines of es
-module _ {lines : List ℕ} (are : AreLines lines) (es : List (List ℕ × Record)) (rest : List ℕ)
-    (each : All IsEntry es) (whole : lines ≡ lines_of es ++ rest) where
-  -- where some text is left, there is a further record
-  next : 0 < length rest → Next es (table.entries are.records) rest
-  next some =
-      let m = lines_of-first es (table.entries are.records) rest each are.entries
-      (are.whole ∙ whole) in
-      next_of es (table.entries are.records) rest m.more m.whole m.lines m.each some
+no_bad_line_in : (es : List (List ℕ × Record)) (lines : List ℕ) → All IsEntry es
+    → lines_of es ≡ lines → 0 < length lines
+    → ((e : List ℕ × Record) (rest : List ℕ) → IsEntry e → lines ≢ record_then e rest) → ⊥
+no_bad_line_in [] lines each whole some none = absurd (omega (arith, ap length whole))
+no_bad_line_in (e ∷ es) lines each whole some none =
+    none e (lines_of es) (All-head IsEntry e es each) (sym whole ∙ lines_of-cons e es)
 
-  -- whose name comes after the others
-  next_behind : (n : Next es (table.entries are.records) rest) → IsBehind n.entry.0 es
-  next_behind n =
-      sorted_front es n.entry n.others
-      (subst (λ l. T (table.is_sorted order l)) n.whole (table.entries_sorted are.records))
+-- where there is a line, a record can be read
+pub no_bad_line : {last lines : List ℕ} → AreLines last lines → 0 < length lines
+    → ((e : List ℕ × Record) (rest : List ℕ) → IsEntry e → lines ≢ record_then e rest) → ⊥
+no_bad_line {lines = lines} are = no_bad_line_in are.records lines are.entries are.whole
 
-  behind_by : (n : Next es (table.entries are.records) rest) (e : List ℕ × Record)
-      (left : List ℕ) → rest ≡ record_then e left → IsEntry e → IsBehind e.0 es
-  behind_by n e left line is_e =
-      let same = record_then-injective e n.entry left (lines_of n.others) is_e n.is
-      (sym line ∙ n.line) in
-      subst (λ (x : List ℕ × Record). IsBehind x.0 es) (sym same.0) (next_behind n)
+-- each name comes after the empty one
+pub after_none : (es : List (List ℕ × Record)) → All IsEntry es → below_all order [] es ≡ true
+after_none [] h = refl
+after_none ((x ∷ name, r) ∷ es) h = after_none es (All-tail IsEntry (x ∷ name, r) es h)
+after_none (([], r) ∷ es) h = cc (All-head IsEntry ([], r) es h).name
 
-  -- where a record was read, its name comes after the others
-  pub behind_read : (e : List ℕ × Record) (left : List ℕ) → rest ≡ record_then e left → IsEntry e
-      → IsBehind e.0 es
-  behind_read e left line is_e =
-      let grows = record_then-grows e left in
-      behind_by (next (omega (arith, grows, ap length line))) e left line is_e
+-- ---- lines that are read into a table
 
-  read_by : Next es (table.entries are.records) rest
-      → ((e : List ℕ × Record) (left : List ℕ) → IsEntry e → rest ≢ record_then e left) → ⊥
-  read_by n none = none n.entry (lines_of n.others) n.is n.line
+-- what was read, and the lines that are left
+pub record IsReadInto (records : table.FinMap order Record) (lines rest : List ℕ) : Type 0 where
+  pub last : List ℕ
+  pub all : AreLines [] lines
+  pub left : AreLines last rest
+  pub whole : table.entries records ++ left.records ≡ all.records
 
-  -- where some text is left, a record can be read
-  pub no_bad_line : 0 < length rest
-      → ((e : List ℕ × Record) (left : List ℕ) → IsEntry e → rest ≢ record_then e left) → ⊥
-  no_bad_line some none = read_by (next some) none
-
--- what was read with one more record
-pub one_more_read : {lines : List ℕ} (es es' : List (List ℕ × Record)) (e : List ℕ × Record)
-    (rest left : List ℕ) → es' ≡ es ++ e ∷ [] → rest ≡ record_then e left
-    → lines ≡ lines_of es ++ rest → lines ≡ lines_of es' ++ left
-one_more_read es es' e rest left added line whole =
-    whole ∙ sym (ap (λ l. lines_of l ++ left) added
-    ∙ ap (λ l. l ++ left) (lines_of-append es (e ∷ []))
-    ∙ ap (λ l. (lines_of es ++ l) ++ left) (append-nil (record_then e []))
-    ∙ append_assoc (lines_of es) (record_then e []) left
-    ∙ ap (λ l. lines_of es ++ l) (record_then-append e [] left ∙ sym line))
-
--- lines whose front was read, up to the name `last`; before the first line, that is the empty one
-pub record ReadUpTo (last lines rest : List ℕ) : Type 0 where
-  pub records : table.FinMap order Record
-  pub each : All IsEntry (table.entries records)
-  pub whole : lines ≡ lines_of (table.entries records) ++ rest
-  pub behind : (name : List ℕ) → is_name name ≡ true
-      → (IsBehind name (table.entries records) → order last name ≡ Less)
-      × (order last name ≡ Less → IsBehind name (table.entries records))
-
-first_name : (last name : List ℕ) → last ≡ [] → is_name name ≡ true → order last name ≡ Less
-first_name last [] none is = cc is
-first_name last (x ∷ name) none is = ap (λ l. order l (x ∷ name)) none
-
-pub read_none : (last lines : List ℕ) → last ≡ [] → ReadUpTo last lines lines
-read_none last lines none = record {
-  records = table.empty;
-  each = subst (All IsEntry) (sym entries-empty) (All-nil IsEntry);
-  whole = ap (λ es. lines_of es ++ lines) (sym entries-empty);
-  behind = λ name is. (
-    λ _. first_name last name none is,
-    λ _. subst (IsBehind name) (sym entries-empty) (IsBehind-none name),
-  );
+pub read_none : {records : table.FinMap order Record} {lines : List ℕ} → records ≡ table.empty
+    → AreLines [] lines → IsReadInto records lines lines
+read_none none are = record {
+  last = [];
+  all = are;
+  left = are;
+  whole = ap (λ es. es ++ are.records) (ap table.entries none ∙ entries-empty);
 }
 
-pub read_more : {last lines rest : List ℕ} (e : List ℕ × Record) (left : List ℕ)
-    → ReadUpTo last lines rest → rest ≡ record_then e left → IsEntry e → order last e.0 ≡ Less
-    → ReadUpTo e.0 lines left
-read_more {rest} e left so_far line is lower =
-    let es = table.entries so_far.records in
-    let behind = (so_far.behind e.0 is.name).1 lower in
-    let added = entries-insert_last so_far.records e.0 e.1 behind in
+pub read_more : {records after : table.FinMap order Record} {lines rest behind : List ℕ}
+    → IsReadInto records lines rest → (e : List ℕ × Record) → rest ≡ record_then e behind
+    → IsEntry e → after ≡ table.insert records e.0 e.1 → IsReadInto after lines behind
+read_more {records} read e line is put =
+    let first = first_line read.left e line is in
+    let es = table.entries records in
+    let whole = ap (λ l. es ++ l) (sym first.is) ∙ read.whole in
     record {
-      records = table.insert so_far.records e.0 e.1;
-      each = subst (All IsEntry) (sym added) (All-push IsEntry es e so_far.each is);
-      whole = one_more_read es (table.entries (table.insert so_far.records e.0 e.1)) e rest left
-          added line so_far.whole;
-      behind = λ name _. subst (λ l. (IsBehind name l → order e.0 name ≡ Less)
-          × (order e.0 name ≡ Less → IsBehind name l)) (sym added)
-          (IsBehind-push name es e behind);
+      last = e.0;
+      all = read.all;
+      left = first.left;
+      whole = ap (λ l. l ++ first.left.records)
+          (entries-insert_last records e first.left.records put
+          (ap (is_sorted order) whole ∙ read.all.rise))
+          ∙ append_assoc es (e ∷ []) first.left.records ∙ whole;
     }
 
-pub read_all : {last lines rest : List ℕ} → ReadUpTo last lines rest → length rest ≡ 0
-    → AreLines lines
-read_all {rest} so_far none = record {
-  records = so_far.records;
-  entries = so_far.each;
-  whole = sym (so_far.whole
-      ∙ ap (λ l. lines_of (table.entries so_far.records) ++ l) (nil_from_length rest none)
-      ∙ append-nil (lines_of (table.entries so_far.records)));
-}
+-- the entries of a table with these lines
+pub read_all : {records : table.FinMap order Record} {lines rest : List ℕ}
+    → IsReadInto records lines rest → length rest ≡ 0
+    → (lines_of (table.entries records) ≡ lines) × All IsEntry (table.entries records)
+read_all {records} {rest = rest} read none =
+    let same = sym (append-nil (table.entries records))
+    ∙ ap (λ l. table.entries records ++ l)
+    (sym (lines_of-injective read.left.records [] read.left.entries (All-nil IsEntry)
+    (read.left.whole ∙ nil_from_length rest none))) ∙ read.whole in
+    (ap lines_of same ∙ read.all.whole, subst (All IsEntry) (sym same) read.all.entries)
+
+pub ruleset lines = (record_then-grows, no_bad_line, read_none)

@@ -1,21 +1,17 @@
 -- SPDX-License-Identifier: ISC
 -- Lines of a store's text: each is read in one way.
-use Rattle.std.proofs.Common.{◌≡◌, ◌≢◌, ℕ, ◌<◌, ◌≤◌, true, List, [], ◌∷◌, ◌++◌, length, drop, All}
+use Rattle.std.proofs.Common.{◌≡◌, ◌≢◌, ℕ, ◌<◌, List, [], ◌∷◌, ◌++◌, length, drop, All}
 use Rattle.std.proofs.Common.{refl, sym, ap, ◌∙◌, arith}
 use Rattle.std.proofs.Common.{length-append, append_assoc}
-use Rattle.std.specs.Prelude.{None, nat_le}
+use Rattle.std.specs.Prelude.{None}
 use Rattle.std.specs.declared.num.NonZeroU32.{NonZeroU32}
-use Rattle.std.proofs.lemmas.Bool.{and_parts}
-use Rattle.std.proofs.lemmas.Bool.Decides.{nat_tests}
-use Rattle.std.proofs.lemmas.Grind.{flat_map-append}
 use Rattle.std.proofs.lemmas.List.Elements.{All-head, All-tail}
-use Rattle.hex.specs.Hex.{IsBytes, encode_lower, hex_digit_value, lower_digits}
+use Rattle.hex.specs.Hex.{IsBytes, encode_lower, hex_digit_value}
 use Rattle.hex.proofs.HexLemmas.{length-encode_with}
-use Rattle.ring.specs.Cut.{IsFirstCut}
+use Rattle.ring_text.specs.Cut.{IsFirstCut}
 use Rattle.ring_text.proofs.Cuts.{cut_same, first_cut}
 use Rattle.ring_text.proofs.LowerHex.{IsWithout-hex, encode_lower-injective}
 use Rattle.ring_text.proofs.Numbers.{IsDigit, count_then-injective}
-use Rattle.ring_store.specs.Store.{is_name}
 use Rattle.ring_store.specs.Text.{IsEntry, IsHead, head_then, hex_then, lines_of, record_then}
 use Rattle.ring_store.specs.declared.records.Record.{Record}
 
@@ -33,7 +29,7 @@ hex_then-injective end none xs ys s t hx hy e =
 pub not_digit : IsDigit 32 → ⊥
 not_digit h = omega arith
 
-not_digit_end : IsDigit 10 → ⊥
+pub not_digit_end : IsDigit 10 → ⊥
 not_digit_end h = omega arith
 
 pub record_then-injective : (e f : List ℕ × Record) (s t : List ℕ) → IsEntry e → IsEntry f
@@ -71,68 +67,24 @@ pub lines_of-cons : (e : List ℕ × Record) (es : List (List ℕ × Record))
     → lines_of (e ∷ es) ≡ record_then e (lines_of es)
 lines_of-cons e es = record_then-append e [] (lines_of es)
 
-pub lines_of-append : (es fs : List (List ℕ × Record))
-    → lines_of (es ++ fs) ≡ lines_of es ++ lines_of fs
-lines_of-append es fs = flat_map-append (λ e. record_then e []) es fs
-
--- what was written with one more line, where the line and those after it were left
-pub one_more_line : {after whole : List ℕ} (out : List ℕ) (e : List ℕ × Record)
-    (es : List (List ℕ × Record)) → after ≡ out ++ record_then e []
-    → out ++ lines_of (e ∷ es) ≡ whole → after ++ lines_of es ≡ whole
-one_more_line out e es written left =
-    ap (λ l. l ++ lines_of es) written ∙ append_assoc out (record_then e []) (lines_of es) ∙ left
-
--- records whose lines begin a text of lines are the first of those records
-pub record More (es fs : List (List ℕ × Record)) (rest : List ℕ) : Type 0 where
-  pub more : List (List ℕ × Record)
-  pub whole : fs ≡ es ++ more
-  pub lines : lines_of more ≡ rest
-  pub each : All IsEntry more
-
 pub no_line : (e : List ℕ × Record) (s : List ℕ) → record_then e s ≢ []
 no_line e s h =
     let grows = record_then-grows e s in
     absurd (omega (arith, grows, ap length h))
 
-cons_then : (e : List ℕ × Record) (es : List (List ℕ × Record)) (rest : List ℕ)
-    → lines_of (e ∷ es) ++ rest ≡ record_then e (lines_of es ++ rest)
-cons_then e es rest =
-    ap (λ l. l ++ rest) (lines_of-cons e es) ∙ record_then-append e (lines_of es) rest
-
-pub lines_of-first : (es fs : List (List ℕ × Record)) (rest : List ℕ) → All IsEntry es
-    → All IsEntry fs → lines_of fs ≡ lines_of es ++ rest → More es fs rest
-lines_of-first [] fs rest he hf same = record { more = fs; whole = refl; lines = same; each = hf }
-lines_of-first (e ∷ es) [] rest he hf same =
-    absurd (no_line e (lines_of es ++ rest) (sym (same ∙ cons_then e es rest)))
-lines_of-first (e ∷ es) (f ∷ fs) rest he hf same =
-    let one = record_then-injective f e (lines_of fs) (lines_of es ++ rest)
-    (All-head IsEntry f fs hf) (All-head IsEntry e es he)
-    (sym (lines_of-cons f fs) ∙ same ∙ cons_then e es rest) in
-    let others = lines_of-first es fs rest (All-tail IsEntry e es he) (All-tail IsEntry f fs hf)
+pub lines_of-injective : (es fs : List (List ℕ × Record)) → All IsEntry es → All IsEntry fs
+    → lines_of es ≡ lines_of fs → es ≡ fs
+lines_of-injective [] [] he hf same = refl
+lines_of-injective [] (f ∷ fs) he hf same = grind (arith, no_line, lines_of-cons)
+lines_of-injective (e ∷ es) [] he hf same = grind (arith, no_line, lines_of-cons)
+lines_of-injective (e ∷ es) (f ∷ fs) he hf same =
+    let one = record_then-injective e f (lines_of es) (lines_of fs) (All-head IsEntry e es he)
+    (All-head IsEntry f fs hf) (sym (lines_of-cons e es) ∙ same ∙ lines_of-cons f fs) in
+    let others = lines_of-injective es fs (All-tail IsEntry e es he) (All-tail IsEntry f fs hf)
     one.1 in
-    record {
-      more = others.more;
-      whole = λ i. one.0 i ∷ others.whole i;
-      lines = others.lines;
-      each = others.each;
-    }
+    λ i. one.0 i ∷ others i
 
 -- ---- what a text that was written gives when it is read
-
--- a name has 2 to 128 digits
-pub name_digits : (digits name : List ℕ) → is_name name ≡ true → digits ≡ encode_lower name
-    → (0 < length digits) × (length digits ≤ 128)
-name_digits digits name h e =
-    let len = length-encode_with lower_digits name in
-    let same = ap length e in
-    let parts = and_parts (nat_le 1 (length name)) (nat_le (length name) 64) h in
-    let low : 1 ≤ length name = grind (arith, nat_tests, parts.0) in
-    let high : length name ≤ 64 = grind (arith, nat_tests, parts.1) in
-    (omega arith, omega arith)
-
-pub is_name-from_length : (name : List ℕ) → 1 ≤ length name → length name ≤ 64
-    → is_name name ≡ true
-is_name-from_length name low high = grind (arith, nat_tests)
 
 -- bytes were written, and what followed
 pub hex_cut : {end : ℕ} {text before behind : List ℕ} → IsFirstCut end text before behind
@@ -141,15 +93,5 @@ pub hex_cut : {end : ℕ} {text before behind : List ℕ} → IsFirstCut end tex
 hex_cut {end} cut none bytes rest h e =
     first_cut cut (encode_lower bytes) rest (IsWithout-hex end none bytes h) e
 
-pub head_then-append : (x : List ℕ) (c : NonZeroU32) (s t : List ℕ)
-    → head_then x c s ++ t ≡ head_then x c (s ++ t)
-unfolding head_then
-head_then-append x c s t = simp append_assoc
-
--- a head that was appended to nothing, and then lines
-pub text_written : {start one two : List ℕ} (salt : List ℕ) (c : NonZeroU32) (lines : List ℕ)
-    → start ≡ [] → one ≡ start ++ head_then salt c [] → two ≡ one ++ lines
-    → two ≡ head_then salt c lines
-text_written salt c lines empty head rest =
-    rest ∙ ap (λ l. l ++ lines) (head ∙ ap (λ l. l ++ head_then salt c []) empty)
-    ∙ head_then-append salt c [] lines
+-- how many digits some bytes have
+pub ruleset hex_lengths = (length-encode_with)

@@ -5,6 +5,7 @@ use Rattle.std.specs.Prelude.{◌≡◌, ℕ, true, List, [], ◌∷◌, ◌++�
 use Rattle.std.specs.Prelude.{All, codes}
 use Rattle.std.specs.Cmp.Lexicographic.{slice_cmp}
 use Rattle.std.specs.FinMap as table
+use Rattle.std.specs.FinMap.Entries.{below_all, is_sorted}
 use Rattle.std.specs.List.{flat_map}
 use Rattle.std.specs.Ordering.{nat_cmp}
 use Rattle.std.specs.declared.num.NonZeroU32.{NonZeroU32}
@@ -60,8 +61,10 @@ pub record IsText (Z : Type 0) (text : List ℕ) : Type 0 where
   pub is : IsStore store
   pub has : text_of store ≡ text
 
--- the text is a line for each of some records, in the order of names
-pub record AreLines (lines : List ℕ) : Type 0 where
-  pub records : table.FinMap (slice_cmp nat_cmp) Record
-  pub entries : All IsEntry (table.entries records)
-  pub whole : lines_of (table.entries records) ≡ lines
+-- the lines are one for each of some records, whose names rise and come after `last`
+pub record AreLines (last lines : List ℕ) : Type 0 where
+  pub records : List (List ℕ × Record)
+  pub entries : All IsEntry records
+  pub after : below_all (slice_cmp nat_cmp) last records ≡ true
+  pub rise : is_sorted (slice_cmp nat_cmp) records ≡ true
+  pub whole : lines_of records ≡ lines

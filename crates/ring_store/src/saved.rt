@@ -1,7 +1,7 @@
 // SPDX-License-Identifier: ISC
 //! A password store as text, written and read back.
 
-ghost use Rattle.std.specs.Prelude.{◌≡◌, ◌≢◌, All, IfOk, IsErrOf};
+ghost use Rattle.std.specs.Prelude.{◌≡◌, ◌≢◌, [], All, IfOk, IsErrOf};
 ghost use Rattle.std.specs.FinMap as table;
 ghost use Rattle.ring_store.specs.Text.{AreLines, IsEntry, IsStore, IsText, lines_of, text_of};
 
@@ -13,8 +13,9 @@ use crate::text::{append_head, are_lines, head_in, record_in};
 use std::alloc::{AllocError, Allocator};
 
 // The records of these lines. Refused only if there is no memory for them.
+#[tactic(auto, using(crate::proofs::Lines::lines))]
 fn records_in<A: Allocator + Copy>(alloc: A, lines: &[u8]) -> Result<Records<A>, AllocError>
-    requires { AreLines lines.now }
+    requires { AreLines [] lines.now }
     ensures { IfOk result (λ records. (lines_of (table.entries records) ≡ lines.now)
         × All IsEntry (table.entries records)) }
 {

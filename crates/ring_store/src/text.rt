@@ -67,6 +67,7 @@ pub(crate) fn append_record<A: Allocator + Copy>(
 }
 
 // Decodes a name into `room`.
+#[tactic(auto, using(crate::proofs::Texts::hex_lengths))]
 fn name_in<'a>(digits: &[u8], room: &'a mut [u8; MAX_NAME_LEN]) -> Option<&'a [u8]>
     ensures ok { IfSome result (λ name. (digits.now ≡ encode_lower name.now)
         × IsBytes name.now × (is_name name.now ≡ true)) }
@@ -122,6 +123,7 @@ fn name_before<'a, 'b>(
 }
 
 /// Reads the first line of a text. Returns the salt, the iteration count and the text after it.
+#[tactic(auto, unfolding(crate::specs::Text::head_then))]
 pub(crate) fn head_in(text: &[u8]) -> Option<([u8; DB_SALT_LEN], NonZeroU32, &[u8])>
     ensures ok { IfSome result (λ head. (text.now ≡ head_then head.0 head.1 head.2.now)
         × IsHead head.0 head.1) }
@@ -143,6 +145,7 @@ pub(crate) fn head_in(text: &[u8]) -> Option<([u8; DB_SALT_LEN], NonZeroU32, &[u
 
 /// Reads the line of a record, with its name in `room`. Returns the name, the record and the text
 /// after it.
+#[tactic(auto, unfolding(crate::specs::Text::record_then))]
 pub(crate) fn record_in<'a, 'b>(
     text: &'a [u8],
     room: &'b mut [u8; MAX_NAME_LEN],
@@ -171,8 +174,9 @@ pub(crate) fn record_in<'a, 'b>(
 }
 
 /// Whether the text is a line for each of some records, in the order of names.
+#[tactic(auto, using(crate::proofs::Lines::lines))]
 pub(crate) fn are_lines(lines: &[u8]) -> bool
-    ensures { IsTrue result ↔ AreLines lines.now }
+    ensures { IsTrue result ↔ AreLines [] lines.now }
 {
     let mut rest = lines;
     let mut last = [0; MAX_NAME_LEN];

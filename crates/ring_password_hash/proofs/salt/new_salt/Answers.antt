@@ -2,7 +2,7 @@
 use Rattle.std.proofs.Common.{rules, ◌≡◌, ap, arith, length, sym, subst, ◌∙◌}
 use Rattle.std.specs.Int.{from_be_bytes, w128}
 use Rattle.std.specs.Prelude.{Bool}
-use Rattle.ring.specs.Cut.{IsWithout}
+use Rattle.ring_text.specs.Cut.{IsWithout}
 use Rattle.ring_password_hash.specs.Kind.{salt_encoding_of}
 use Rattle.ring_password_hash.specs.Salt.{letters, salt_from}
 use Rattle.ring_password_hash.proofs.Salts.{letters_apart, plain_bytes, plain_text}

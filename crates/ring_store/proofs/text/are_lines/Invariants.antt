@@ -1,12 +1,13 @@
 -- SPDX-License-Identifier: ISC
-use Rattle.std.proofs.Common.{◌≤◌, length, take}
-use Rattle.ring_store.proofs.Lines.{ReadUpTo}
+use Rattle.std.proofs.Common.{[], ◌≤◌, length, take}
+use Rattle.std.specs.Prelude.{◌↔◌}
+use Rattle.ring_store.specs.Text.{AreLines}
 use Rattle.ring_store.proofs.text.are_lines.Given as goal
 
 abbrev pub invariant-loop-rest : goal.invariant-loop-rest
 invariant-loop-rest l = record {
   short : l.last_len ≤ length l.last;
-  read : ReadUpTo (take l.last_len l.last) l.lines l.rest;
+  read : AreLines [] l.lines ↔ AreLines (take l.last_len l.last) l.rest;
 }
 
 abbrev pub decreases-loop-rest : goal.decreases-loop-rest

@@ -8,11 +8,13 @@ use Rattle.ring_store.proofs.records.Records.name_at.Goals as goal
 pub returns : goal.returns
 returns g c =
     ap Some c.deref.ensures.value
-    ∙ nth_name-shown c.self.inside.by_name.entries c.self.view_is c.keys.ensures.ordered
-    c.args.index c.nth.result c.nth.new.self c.keys.ensures.rest c.nth.ensures.ran c.in_ok-nth.was
+    ∙ (rw c.in_ok-nth.was at (nth_name-shown c.self.inside.by_name.entries c.self.view_is
+    c.keys.ensures.ordered c.args.index c.nth.result c.nth.new.self c.keys.ensures.rest
+    c.nth.ensures.ran))
 
 pub returns-in_err-nth : goal.returns-in_err-nth
 returns-in_err-nth g c =
     ap option_copied c.from_residual.ensures
-    ∙ nth_name-shown c.self.inside.by_name.entries c.self.view_is c.keys.ensures.ordered
-    c.args.index c.nth.result c.nth.new.self c.keys.ensures.rest c.nth.ensures.ran c.in_err-nth.was
+    ∙ (rw c.in_err-nth.was at (nth_name-shown c.self.inside.by_name.entries c.self.view_is
+    c.keys.ensures.ordered c.args.index c.nth.result c.nth.new.self c.keys.ensures.rest
+    c.nth.ensures.ran))

@@ -1,6 +1,8 @@
 -- SPDX-License-Identifier: ISC
-use Rattle.std.proofs.Common.{sym, ap, ◌∙◌}
-use Rattle.ring_store.specs.Text.{head_then}
+use Rattle.std.proofs.Common.{All, sym, ap, subst, ◌∙◌, T}
+use Rattle.std.specs.FinMap as table
+use Rattle.ring_store.specs.Text.{IsEntry, head_then, lines_of}
+use Rattle.ring_store.proofs.Names.{order}
 use Rattle.ring_store.proofs.Stores.{lines_behind}
 use Rattle.ring_store.proofs.store.PasswordStore.from_text.Goals as goal
 
@@ -12,19 +14,18 @@ returns-then-not-are_lines-clause-refused g c = λ _ s h is.
     let told = c.are_lines.ensures.1 are in
     cc (told, c.if-not-are_lines.true)
 
-pub records_in-requires : goal.records_in-requires
-records_in-requires g c = c.are_lines.ensures.0 c.if-not-are_lines.false
-
 pub returns-in_err-records-clause-memory : goal.returns-in_err-records-clause-memory
 returns-in_err-records-clause-memory g c = λ _.
     let head = c.in-Some.ensures.ok in
     let are = c.are_lines.ensures.0 c.if-not-are_lines.false in
+    let entries = table.entries-from_sorted order are.records (subst T (sym are.rise) tt) in
     record {
       store = record {
         db_salt = c.in-Some.head.0;
         iterations = c.in-Some.head.1;
-        records = are.records;
+        records = table.from_sorted are.records;
       };
-      is = record { head = head.1; entries = are.entries };
-      has = ap (head_then c.in-Some.head.0 c.in-Some.head.1) are.whole ∙ sym head.0;
+      is = record { head = head.1; entries = subst (All IsEntry) (sym entries) are.entries };
+      has = ap (head_then c.in-Some.head.0 c.in-Some.head.1) (ap lines_of entries ∙ are.whole)
+          ∙ sym head.0;
     }

@@ -1,6 +1,6 @@
 -- SPDX-License-Identifier: ISC
 use Rattle.std.proofs.Common.{arith}
-use Rattle.ring_store.proofs.Runs.{IsCountedRun-more, IsRun-more, NextCommand}
+use Rattle.ring_store.proofs.Runs.{IsCountedRun-more, NextCommand}
 use Rattle.ring_store.proofs.store.PasswordStore.run_counted.Goals as goal
 
 pub loop-i-preserved : goal.loop-i-preserved
@@ -10,8 +10,6 @@ loop-i-preserved g c =
       room = omega arith;
       is = c.index-commands-i.is;
     } in
-    record {
-      run = IsRun-more _ next c.loop-i.invariant.run c.follow.ensures.ok;
-      cost = IsCountedRun-more c.args.meter.now c.loop-i.meter _ next c.loop-i.invariant.cost
-          c.follow.ensures.ok c.follow.ensures.cost;
-    }
+    let more = IsCountedRun-more c.args.meter.now c.loop-i.meter _ next c.loop-i.invariant.cost
+    c.follow.ensures.ok c.follow.ensures.cost in
+    record { run = more.0; cost = more.1 }

@@ -13,7 +13,7 @@ use Rattle.std.proofs.lemmas.List.Splits.{slice_split_none}
 use Rattle.std.proofs.Math.ListN.{drop_of_length-le}
 use Rattle.std.proofs.Math.Seq.{take-add, take-length}
 use Rattle.hex.specs.Hex.{decode_of}
-use Rattle.ring.specs.Cut.{IsFirstCut, IsWithout}
+use Rattle.ring_text.specs.Cut.{IsFirstCut, IsWithout}
 use Rattle.ring.specs.Pieces.{joined}
 use Rattle.ring_bench.specs.Field.{is_comma, parts_bytes, value_of}
 use Rattle.ring_bench.specs.Pieces.{cut_into, pieces_listed}

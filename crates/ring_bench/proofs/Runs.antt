@@ -6,7 +6,7 @@ use Rattle.std.proofs.Common.{append_assoc, append-nil, length-append, arith}
 use Rattle.std.specs.Io.KnownBytes.{Appends, Consumes, Keeps, IsAtEnd}
 use Rattle.std.proofs.KnownBytes.{Consumes-trans, Consumes-kept}
 use Rattle.std.proofs.lemmas.Option.{IfSome_then}
-use Rattle.ring.specs.Cut.{IsFirstCut}
+use Rattle.ring_text.specs.Cut.{IsFirstCut}
 use Rattle.ring_bench.specs.declared.status.Status.{Status}
 use Rattle.ring_bench.specs.declared.status.BenchError.{BenchError}
 use Rattle.ring_bench.specs.declared.status.Status.TheVariants.{Clean}

@@ -8,7 +8,7 @@ use Rattle.std.proofs.lemmas.List.Splits.{slice_split_at, slice_split_none, leng
 use Rattle.std.proofs.lemmas.List.Elements.{All-head, All-tail, All-append}
 use Rattle.std.proofs.lemmas.List.Concat.{flat_map-append}
 use Rattle.std.proofs.lemmas.Bool.{eq-eqb}
-use Rattle.ring.specs.Cut.{IsFirstCut, IsWithout}
+use Rattle.ring_text.specs.Cut.{IsFirstCut, IsWithout}
 use Rattle.ring_bench.specs.Text.{is_line_feed, without_return, lines}
 use Rattle.ring_bench.specs.Text.{lines_of_cuts, ended_lines}
 use Rattle.ring_bench.specs.Reply.{ended}

@@ -1,16 +1,16 @@
 // SPDX-License-Identifier: ISC
 //! Parses a line, runs it and formats the answer.
 ghost use Rattle.std.specs.Prelude.{◌≡◌, ◌++◌, OnOk, IfOk, IfErr, OnErr};
+ghost use Rattle.std.specs.String.{string_bytes};
 ghost use Rattle.ring_bench.specs.declared.status.BenchError.TheVariants.{Memory};
 ghost use Rattle.ring_bench.specs.Line.{asked};
-ghost use Rattle.ring_bench.specs.Reply.{ended, kind, reply, text_of};
-ghost use Rattle.ring_bench.specs.Request.{answer_of};
+ghost use Rattle.ring_bench.specs.Reply.{counted, ended, hex_of, kind, reply, text_of};
+ghost use Rattle.ring_bench.specs.Request.{answer_of, response};
 
 use crate::line::{self, Line, Request};
-use crate::reply::written;
-use crate::request;
+use crate::request::{self, Answer};
 use crate::status::BenchError;
-use std::alloc::Allocator;
+use std::alloc::{AllocError, Allocator};
 
 /// What a line was.
 #[derive(Clone, Copy, Debug, PartialEq, Eq)]
@@ -74,4 +74,41 @@ fn append_ended<B: Allocator>(out: &mut Vec<u8, B>, text: &[u8]) -> Result<(), B
     out.extend_from_slice(text)?;
     out.push_reserved(b'\n');
     Ok(())
+}
+
+/// An answer as text.
+fn written<A: Allocator + Copy>(alloc: A, answer: &Answer<A>) -> Result<String<A>, AllocError>
+    ensures { IfOk result (λ text. string_bytes text ≡ text_of (response answer.now)) }
+{
+    match answer {
+        Answer::Given(bytes, blocks) => with_count(alloc, hex_text(alloc, bytes)?, *blocks),
+        Answer::Verified(same, blocks) => {
+            let verdict = if *same { "match" } else { "mismatch" };
+            with_count(alloc, String::from_str(alloc, verdict)?, *blocks)
+        }
+        Answer::Refused => String::from_str(alloc, "refused"),
+    }
+}
+
+/// Bytes in lower case hex, or `-` for none.
+fn hex_text<A: Allocator>(alloc: A, bytes: &[u8]) -> Result<String<A>, AllocError>
+    ensures { IfOk result (λ text. string_bytes text ≡ hex_of bytes.now) }
+{
+    if bytes.is_empty() {
+        return String::from_str(alloc, "-");
+    }
+    hex::encode(alloc, bytes)
+}
+
+/// The text, a space, and the number of blocks in decimal.
+fn with_count<A: Allocator + Copy>(
+    alloc: A,
+    mut text: String<A>,
+    blocks: u128,
+) -> Result<String<A>, AllocError>
+    ensures { IfOk result (λ line. string_bytes line ≡ string_bytes text ++ counted blocks) }
+{
+    text.push(' ')?;
+    text.push_str(blocks.to_string(alloc)?.as_str())?;
+    Ok(text)
 }

@@ -11,8 +11,8 @@ ghost use Rattle.ring_bench.specs.Pieces.{pieces_listed};
 use crate::digits::decode_digits;
 use crate::fault::Fault;
 use crate::pieces::Pieces;
-use crate::text::cut_at;
 use hex::FromHexError;
+use ring_text::cut_at;
 use std::alloc::Allocator;
 use std::num::NonZeroU32;
 

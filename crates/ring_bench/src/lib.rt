@@ -28,11 +28,9 @@ mod fault;
 mod field;
 mod line;
 mod pieces;
-mod reply;
 mod request;
 mod session;
 mod status;
-mod text;
 
 pub use crate::answers::{LineKind, answer_in};
 use crate::session::Session;

@@ -3,7 +3,8 @@
 //!
 //! A further call of `ring` is a variant of `Call` with its word in `call_in`, a variant of
 //! `Request`, and a function over its operands.
-ghost use Rattle.std.specs.Prelude.{◌≡◌, IfOk, map};
+ghost use Rattle.std.specs.Prelude.{◌≡◌, ◌==◌, IfOk, map, take};
+ghost use Rattle.std.specs.List.{slice_split};
 ghost use Rattle.ring_bench.specs.Fault.{Reads, ReadsAlone};
 ghost use Rattle.ring_bench.specs.Line.{line_of, asked_of, asked_by, call_of, digest_line};
 ghost use Rattle.ring_bench.specs.Line.{hmac_line, hmac_verify_line, hkdf_line, pbkdf2_line};
@@ -15,8 +16,8 @@ use crate::algorithm::{
 use crate::fault::Fault;
 use crate::field::{bytes_in, is_word, iterations_in, len_in, pieces_in};
 use crate::pieces::Pieces;
-use crate::text::parts_between;
 use ring::{digest, hkdf, hmac, pbkdf2};
+use ring_text::cut_at;
 use std::alloc::{AllocError, Allocator};
 use std::num::NonZeroU32;
 
@@ -58,6 +59,29 @@ enum Call {
     Hkdf,
     Pbkdf2,
     Pbkdf2Verify,
+}
+
+/// The first parts of a text between such bytes: `most` of them, or all where there are fewer.
+fn parts_between<A: Allocator>(
+    alloc: A,
+    text: &[u8],
+    byte: u8,
+    most: usize,
+) -> Result<Vec<&[u8], A>, AllocError>
+    ensures { IfOk result (λ parts. map (λ part. part.now) parts.items
+        ≡ take most (slice_split (λ b. b == byte) text.now)) }
+{
+    let mut parts = Vec::new(alloc);
+    let mut rest = text;
+    'cuts: while parts.len() < most {
+        let Some((part, behind)) = cut_at(rest, byte) else {
+            parts.push(rest)?;
+            return Ok(parts);
+        };
+        parts.push(part)?;
+        rest = behind;
+    }
+    Ok(parts)
 }
 
 /// What the line says.

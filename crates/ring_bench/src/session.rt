@@ -9,9 +9,19 @@ ghost use Rattle.ring_bench.specs.Session.{HasNoLineFeed, Fed, Stopped, status_a
 
 use crate::answers::{LineKind, answer_in};
 use crate::status::{BenchError, Status};
-use crate::text::{cut_at, strip_return};
+use ring_text::cut_at;
 use std::alloc::Allocator;
 use std::io::Write;
+
+/// The line without the one carriage return that may stand at its end.
+fn strip_return(line: &[u8]) -> &[u8]
+    ensures { result.now ≡ without_return line.now }
+{
+    match line {
+        [front @ .., b'\r'] => front,
+        _ => line,
+    }
+}
 
 /// What a run keeps between two reads.
 #[derive(Drop)]

@@ -1,7 +1,7 @@
 -- SPDX-License-Identifier: ISC
 -- Room for bytes that wait to be written.
 use Rattle.std.specs.Prelude.{ℕ, List, take}
-use Rattle.ring_bench_main.specs.declared.room.Room.{Room}
+use Rattle.ring_bench_main.specs.declared.gatherer.Room.{Room}
 
 -- how many bytes wait
 abbrev pub held : Room → ℕ

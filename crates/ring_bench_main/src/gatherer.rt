@@ -1,15 +1,70 @@
 // SPDX-License-Identifier: ISC
 //! Bytes that wait to be written, so that many answers are one write.
-ghost use Rattle.std.specs.Prelude.{◌≡◌, ◌↔◌, [], IsTrue, IsFalse, IsErr, OnOk, IfErr};
+ghost use Rattle.std.specs.Prelude.{◌≡◌, ◌↔◌, ◌≤◌, ◌+◌, ◌-◌, [], ◌++◌, IsTrue, IsFalse, IsErr};
+ghost use Rattle.std.specs.Prelude.{OnOk, IfErr, length};
 ghost use Rattle.std.specs.Io.{ReadsAtMost};
 ghost use Rattle.std.specs.Io.KnownBytes.{Appends, ReadConsumes};
-ghost use Rattle.ring_bench_main.specs.Gatherer.{IsWrittenOut, all_of, has_failed};
-ghost use Rattle.ring_bench_main.specs.Gatherer.{held_back, waiting, writer_of};
+ghost use Rattle.ring_bench_main.specs.declared.gatherer.TheConstants.{ROOM};
 
-use crate::room::{ROOM, Room};
 use ring_bench::{BenchError, Status};
 use std::io;
 use std::io::{ErrorKind, Read, Write};
+
+/// How many bytes wait at most: the answers to the short lines of one read mostly fit.
+pub const ROOM: usize = 32_768;
+
+/// The bytes that wait: the first `len`.
+#[derive(Drop)]
+pub struct Room {
+    bytes: [u8; ROOM],
+    len: usize,
+    ghost within: { len ≤ ROOM },
+}
+
+impl Room {
+    ghost use Rattle.ring_bench_main.specs.Room.{held, waits};
+
+    /// Room in which nothing waits.
+    pub fn new() -> Room
+        ensures { held result ≡ 0 }
+    {
+        Room {
+            bytes: [0; ROOM],
+            len: 0,
+        }
+    }
+
+    /// How many bytes more there is room for.
+    pub fn left(&self) -> usize
+        ensures { result ≡ ROOM - held self.now }
+    {
+        ROOM - self.len
+    }
+
+    /// The bytes that wait.
+    pub fn as_slice(&self) -> &[u8]
+        ensures { result.now ≡ waits self.now }
+    {
+        &self.bytes[..self.len]
+    }
+
+    /// Appends `bytes`.
+    pub fn append(&mut self, bytes: &[u8])
+        requires room { held self.old + length bytes.now ≤ ROOM }
+        ensures { waits self.new ≡ waits self.old ++ bytes.now }
+    {
+        let end = self.len + bytes.len();
+        self.bytes[self.len..end].copy_from_slice(bytes);
+        self.len = end;
+    }
+
+    /// Nothing waits any more.
+    pub fn clear(&mut self)
+        ensures { held self.new ≡ 0 }
+    {
+        self.len = 0;
+    }
+}
 
 /// A writer, and the bytes that wait for it.
 #[derive(Drop)]
@@ -21,6 +76,9 @@ pub struct Gatherer<W> {
 }
 
 impl<W: Write> Gatherer<W> {
+    ghost use Rattle.ring_bench_main.specs.Gatherer.{IsWrittenOut, all_of, has_failed};
+    ghost use Rattle.ring_bench_main.specs.Gatherer.{held_back, waiting, writer_of};
+
     /// A gatherer for which nothing waits.
     pub fn new(writer: W) -> Gatherer<W>
         ensures writer { writer_of result ≡ writer }

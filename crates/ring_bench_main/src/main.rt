@@ -17,7 +17,6 @@ use std::io::{Stdin, Stdout};
 use std::process::ExitCode;
 
 mod gatherer;
-mod room;
 mod streams;
 
 /// As `run`, over standard input and standard output.

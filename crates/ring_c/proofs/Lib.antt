@@ -1,5 +1,2 @@
 -- SPDX-License-Identifier: ISC
-mod Within
-mod Contexts
 mod Written
-mod Counts

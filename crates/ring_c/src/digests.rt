@@ -70,6 +70,7 @@ pub extern "C" fn yz_digest_init(algorithm: u32, context: &mut RawContext) -> i3
 /// Refused as `UNKNOWN_CONTEXT` where the numbers are no context's, which are then unchanged. Where
 /// the message is too long, [`yz_digest_final`] is refused.
 #[unsafe(no_mangle)]
+#[tactic(auto, unfolding(ring::specs::Raw::named_block_len))]
 pub extern "C" fn yz_digest_update(context: &mut RawContext, input: &[u8]) -> i32
     ensures ok { (a : Algorithm) (m : List ℕ) → RawStandsFor context.old a m
         → result ≡ OK × RawStandsFor context.new a (m ++ input.now) }

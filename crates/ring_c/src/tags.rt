@@ -178,6 +178,7 @@ pub extern "C" fn yz_hmac_key_verify(key: &RawKey, message: &[u8], tag: &[u8]) -
 ///
 /// Refused as `UNKNOWN_CONTEXT` where the numbers are no key's. `context` is then unchanged.
 #[unsafe(no_mangle)]
+#[tactic(auto, using(ring::proofs::lemmas::raw::Numbers::has_begun))]
 pub extern "C" fn yz_hmac_init(key: &RawKey, context: &mut RawTagContext) -> i32
     ensures ok { (a : digest.Algorithm) (k : List ℕ) → RawKeyStandsFor key.now a k
         → result ≡ OK × RawTagStandsFor context.new a k [] }
@@ -200,6 +201,7 @@ pub extern "C" fn yz_hmac_init(key: &RawKey, context: &mut RawTagContext) -> i32
 /// Refused as `UNKNOWN_CONTEXT` where the numbers are no context's, which are then unchanged. Where
 /// the message is too long, [`yz_hmac_final`] is refused.
 #[unsafe(no_mangle)]
+#[tactic(auto, unfolding(ring::specs::Raw::named_block_len))]
 pub extern "C" fn yz_hmac_update(context: &mut RawTagContext, input: &[u8]) -> i32
     ensures ok { (a : digest.Algorithm) (k m : List ℕ) → RawTagStandsFor context.old a k m
         → result ≡ OK × RawTagStandsFor context.new a k (m ++ input.now) }

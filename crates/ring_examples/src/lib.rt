@@ -15,6 +15,7 @@ pub mod pbkdf2;
 pub mod pieces;
 pub mod rand;
 pub mod raw;
+pub mod rows;
 pub mod several;
 pub mod states;
 pub mod store;

@@ -32,15 +32,6 @@ pub record AreStepped {R : Type 0} (Step : Lane R → Lane R → Type 0) (old no
   pub done : (k : ℕ) → k < i → (l : Lane R) → Step (get_or old k l) (get_or now k l)
   pub others : (k : ℕ) (l : Lane R) → i ≤ k → get_or now k l ≡ get_or old k l
 
-pub stepped-none : {R : Type 0} (Step : Lane R → Lane R → Type 0) (old : List (Lane R))
-    → AreStepped Step old old 0
-stepped-none Step old =
-    record {
-      count = refl;
-      done = λ k below l. absurd (omega (arith, below));
-      others = λ k l from. refl;
-    }
-
 pub stepped-next : {R : Type 0} {Step : Lane R → Lane R → Type 0} {old now : List (Lane R)} (i : ℕ)
     (d x : Lane R) → AreStepped Step old now i
     → i < length old → Step (get_or now i d) x

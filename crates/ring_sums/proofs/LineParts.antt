@@ -11,7 +11,7 @@ use Rattle.std.specs.Char.{is_ascii_hexdigit}
 use Rattle.std.specs.List.{list_all, position, position_or_len}
 use Rattle.hex.specs.Hex.{IsBytes, encode_lower, encode_with, lower_digits}
 use Rattle.hex.proofs.HexLemmas.{decode_sized-encode_lower}
-use Rattle.ring.specs.Cut.{IsWithout}
+use Rattle.ring_text.specs.Cut.{IsWithout}
 use Rattle.ring.specs.Prelude.{output_len}
 use Rattle.ring.specs.declared.digest.algorithm.Algorithm.{Algorithm}
 use Rattle.ring.specs.declared.digest.algorithm.AlgorithmId.{AlgorithmId}

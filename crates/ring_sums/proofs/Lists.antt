@@ -4,7 +4,7 @@ use Rattle.std.proofs.Common.{◌≡◌, ℕ, ◌+◌, ◌<◌, eqb, Bool, List,
 use Rattle.std.proofs.Common.{◌∙◌, Option, append_assoc, arith, length-append}
 use Rattle.std.proofs.lemmas.List.{append-nil}
 use Rattle.std.proofs.lemmas.List.Splits.{slice_split_at, slice_split_none}
-use Rattle.ring.specs.Cut.{IsFirstCut, IsWithout}
+use Rattle.ring_text.specs.Cut.{IsFirstCut, IsWithout}
 use Rattle.ring.specs.declared.digest.algorithm.Algorithm.{Algorithm}
 use Rattle.ring_sums.specs.List.{Said, is_passed_over, line_gap, line_says, lines_gap, lines_in}
 use Rattle.ring_sums.specs.List.{lines_say, without_return}

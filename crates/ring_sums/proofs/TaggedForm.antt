@@ -12,7 +12,7 @@ use Rattle.std.proofs.lemmas.Slice.Eq.{bytes_eq-Decides}
 use Rattle.std.specs.List.{All}
 use Rattle.std.specs.Option.{option_and_then, option_map, option_or, unwrap_or}
 use Rattle.std.specs.Str.{bytes_eq}
-use Rattle.ring.specs.Cut.{IsWithout}
+use Rattle.ring_text.specs.Cut.{IsWithout}
 use Rattle.ring_sums.specs.Entry.{HasTaggedForm, behind, cut_at_last, is_white, tagged_parts}
 use Rattle.ring_sums.specs.Entry.{without_white}
 use Rattle.ring_sums.proofs.Entries.{cut_at_last-at}

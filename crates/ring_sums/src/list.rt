@@ -1,17 +1,16 @@
 // SPDX-License-Identifier: ISC
 //! A list, line by line.
 
-ghost use Rattle.std.specs.Prelude.{◌≡◌, ◌++◌, IfOk, IfSome, IsNone, OnOk, codes, map};
+ghost use Rattle.std.specs.Prelude.{◌≡◌, ◌++◌, IfOk, OnOk, codes, map};
 ghost use Rattle.std.specs.Str.{bytes_eq};
-ghost use Rattle.ring.specs.Cut.{IsFirstCut, IsWithout};
 ghost use Rattle.ring_sums.specs.Entry.{entry_of, gap_after};
 ghost use Rattle.ring_sums.specs.List.{is_passed_over, line_gap, line_says, lines_gap, lines_in};
 ghost use Rattle.ring_sums.specs.List.{lines_say, said_by, said_of, without_return};
 
 use crate::entry::{Entry, Gap, entry_of_line};
 use crate::options::Options;
-use memchr::memchr;
 use ring::digest::Algorithm;
+use ring_text::cut_at;
 use std::alloc::{AllocError, Global};
 
 /// A line of a list that is neither empty nor a comment.
@@ -91,17 +90,6 @@ fn append_line(
     Ok(())
 }
 
-/// What is before the first line feed, and behind it.
-fn cut_at_feed(text: &[u8]) -> Option<(&[u8], &[u8])>
-    ensures cut { IfSome result (λ parts. IsFirstCut 10 text.now parts.0.now parts.1.now) }
-    ensures whole { IsNone result → IsWithout 10 text.now }
-{
-    match memchr(b'\n', text) {
-        Some(place) => Some((&text[..place], &text[place + 1..])),
-        None => None,
-    }
-}
-
 /// The lines of a list.
 pub(crate) fn lines_of(
     alloc: Global,
@@ -119,7 +107,7 @@ pub(crate) fn lines_of(
     let mut lines = Vec::new(alloc);
     let mut number = 0_u64;
     let mut rest = text;
-    'cuts: while let Some((line, behind)) = cut_at_feed(rest) {
+    'cuts: while let Some((line, behind)) = cut_at(rest, b'\n') {
         number += 1;
         append_line(&mut lines, asked, line, number, is_standard_input, gap)?;
         rest = behind;

@@ -28,11 +28,12 @@ use ring_examples::pieces::{
     finish_into, lengths_of,
 };
 use ring_examples::rand::{nonce, tag_under_generated};
+use ring_examples::rows::fill_row;
 use ring_examples::several::{
     digests_of_both, digests_of_four, stored_of_both, stored_of_four, verify_four,
 };
 use ring_examples::store::log_in;
-use ring_password_hash::HashError;
+use ring_password_hash::{HashError, MAX_TEXT_LEN, NewError};
 use ring_store::{PasswordStore, StoreError, TokenMaker};
 use std::num::NonZeroU32;
 use std::test::Fail;
@@ -340,4 +341,16 @@ fn moves(rt: HostRuntime) -> Result<(), Fail> {
     store.check_password(b"alice", password)?;
     assert!(rt; store.check_password(b"alice", b"battery").is_err());
     Ok(())
+}
+
+// The text of Python's `hashlib` and `base64`, in the form of Django's `pbkdf2_sha256`.
+#[test]
+fn fills_a_row(rt: HostRuntime) {
+    let expected = b"pbkdf2_sha256$1000$saltsalt$E196ZhRPzw+wA84EjzHwJO1cv/MFJdO6C/sxmUeTYqY=";
+    let iterations = NonZeroU32::new(1_000).unwrap();
+    let mut row = [0xff; MAX_TEXT_LEN];
+    let refused = fill_row(b"password", b"salt$", iterations, &mut row);
+    assert!(rt; refused == Err(NewError::BadSalt) && row == [0xff; MAX_TEXT_LEN]);
+    let len = fill_row(b"password", b"saltsalt", iterations, &mut row).unwrap();
+    assert!(rt; row[..len] == expected[..] && row[len] == 0xff);
 }

@@ -12,7 +12,7 @@ returns-in_err-append_piece g c =
     let lens = c.parts.lens.items in
     let bytes = c.parts.bytes.items in
     let none = λ (bad : value_of (decode_of c.in-Some.part.now) ≡ None).
-    c.parts.invariant.same ∙ none-next lens bytes c.in-Some.ensures.cut bad in
+    c.parts.invariant.same ∙ none-next lens bytes c.in-Some.ensures.ok bad in
     grind (arith, common_steps, none)
 
 pub parts-preserved : goal.parts-preserved
@@ -23,13 +23,13 @@ parts-preserved g c =
     let more = c.in_ok-append_piece.ensures.added in
     rw (more.2, more.3) (record {
       whole = sum-push lens bytes _ so_far.whole;
-      same = so_far.same ∙ pieces-next lens bytes c.in-Some.ensures.cut so_far.whole more.1;
+      same = so_far.same ∙ pieces-next lens bytes c.in-Some.ensures.ok so_far.whole more.1;
     })
 
 pub returns-in_err-append_piece-2 : goal.returns-in_err-append_piece-2
 unfolding pieces_of
 returns-in_err-append_piece-2 g c =
-    let without = c.in_default.ensures.whole (search rules) in
+    let without = c.in_default.ensures.refused (search rules) in
     let lens = c.parts.lens.items in
     let bytes = c.parts.bytes.items in
     let none = λ (bad : value_of (decode_of c.parts.rest.now) ≡ None).
@@ -39,7 +39,7 @@ returns-in_err-append_piece-2 g c =
 pub returns : goal.returns
 unfolding pieces_of
 returns g c =
-    let without = c.in_default.ensures.whole (search rules) in
+    let without = c.in_default.ensures.refused (search rules) in
     let lens = c.parts.lens.items in
     let bytes = c.parts.bytes.items in
     let so_far = c.parts.invariant in

@@ -16,7 +16,7 @@ cuts-init c = rw c.new-lines.ensures.items (record {
 
 pub cuts-preserved : goal.cuts-preserved
 cuts-preserved c =
-    let cut = c.in-Some.ensures.cut in
+    let cut = c.in-Some.ensures.ok in
     let shorter = length-cut cut in
     let more = c.in_ok-append_line.ensures in
     record {
@@ -27,7 +27,7 @@ cuts-preserved c =
 pub returns-clause-lines : goal.returns-clause-lines
 returns-clause-lines c =
     let so_far = c.cuts.invariant.said in
-    let none = c.in_default.ensures.whole (grind arith) in
+    let none = c.in_default.ensures.refused (grind arith) in
     elim c.if-not-is_empty.branch [
       | then-not-is_empty+in_ok-append_line-2 w ↦
           let more = w.in_ok-append_line-2.ensures in
@@ -42,7 +42,7 @@ returns-clause-lines c =
 pub returns-clause-gap : goal.returns-clause-gap
 returns-clause-gap c =
     let so_far = c.cuts.invariant.said in
-    let none = c.in_default.ensures.whole (grind arith) in
+    let none = c.in_default.ensures.refused (grind arith) in
     elim c.if-not-is_empty.branch [
       | then-not-is_empty+in_ok-append_line-2 w ↦
           let more = w.in_ok-append_line-2.ensures in

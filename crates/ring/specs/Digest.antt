@@ -6,7 +6,7 @@ use Rattle.ring.specs.Algorithm.{block_function, block_len, initial_words, outpu
 use Rattle.ring.specs.Padding.{padded, tail_of}
 use Rattle.ring.specs.State.{word_bytes}
 use Rattle.ring.specs.declared.digest.algorithm.Algorithm.{Algorithm}
-use Rattle.ring.specs.declared.digest.value.Digest.{Digest}
+use Rattle.ring.specs.declared.digest.block_context.Digest.{Digest}
 
 -- the words after the whole blocks of p, from the words h: one block function a block
 abbrev pub blocks_from : Algorithm → (h p : List ℕ) → List ℕ

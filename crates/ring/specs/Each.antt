@@ -9,7 +9,7 @@ use Rattle.ring.specs.Items.{EachItem}
 use Rattle.ring.specs.Limits.{IsMessageWithin}
 use Rattle.ring.specs.Padding.{padded, padded_blocks}
 use Rattle.ring.specs.declared.digest.algorithm.Algorithm.{Algorithm}
-use Rattle.ring.specs.declared.digest.value.Digest.{Digest}
+use Rattle.ring.specs.declared.digest.block_context.Digest.{Digest}
 
 -- the message at a place of a list
 abbrev pub message_at : List (Bor (List ℕ)) → ℕ → List ℕ

@@ -7,7 +7,7 @@ use Rattle.ring.specs.Context.{message_len, pending_len}
 use Rattle.ring.specs.Digest.{bytes_of, digest_after, digest_algorithm, digest_of}
 use Rattle.ring.specs.KeyBlocks.{inner_block, outer_block}
 use Rattle.ring.specs.declared.digest.algorithm.Algorithm as digest
-use Rattle.ring.specs.declared.hmac.algorithm.Algorithm.{Algorithm}
+use Rattle.ring.specs.declared.hmac.key.Algorithm.{Algorithm}
 use Rattle.ring.specs.declared.hmac.context.Context.{Context}
 use Rattle.ring.specs.declared.hmac.key.Key.{Key}
 use Rattle.ring.specs.declared.hmac.context.Tag.{Tag}

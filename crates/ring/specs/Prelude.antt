@@ -80,7 +80,7 @@ pub use Rattle.ring.specs.declared.digest.dynstate.DynState.TheVariants.{As32, A
 pub use Rattle.ring.specs.declared.digest.dynstate.Output.{Output}
 pub use Rattle.ring.specs.declared.digest.block_context.BlockContext.{BlockContext}
 pub use Rattle.ring.specs.declared.digest.context.Context.{Context}
-pub use Rattle.ring.specs.declared.digest.value.Digest.{Digest}
+pub use Rattle.ring.specs.declared.digest.block_context.Digest.{Digest}
 pub use Rattle.ring.specs.declared.hmac.key.Key.{Key}
 pub use Rattle.ring.specs.declared.hmac.context.Tag.{Tag}
 pub use Rattle.ring.specs.declared.pbkdf2.rounds.Round.{Round}

@@ -99,7 +99,6 @@ pub(crate) mod padding;
 mod partway;
 mod single;
 pub(crate) mod updates;
-pub(crate) mod value;
 
 pub use crate::digest::algorithm::{
     Algorithm, MAX_BLOCK_LEN, MAX_CHAINING_LEN, MAX_OUTPUT_LEN, SHA1_FOR_LEGACY_USE_ONLY,
@@ -112,5 +111,5 @@ pub use crate::digest::each::{digest_each, digest_each_counted, digest_each_in};
 pub use crate::digest::padding::padding_is_shortest;
 pub use crate::digest::single::{digest, digest_counted};
 pub use crate::digest::updates::{update_each, update_each_counted, update_each_in};
-pub use crate::digest::value::Digest;
+pub use crate::digest::block_context::Digest;
 pub use ring_core::digest::{sha1, sha2, states, word};

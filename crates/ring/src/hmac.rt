@@ -34,6 +34,7 @@
 ghost use Rattle.std.specs.Prelude.{◌≡◌, ◌↔◌, ℕ, ◌+◌, ◌<◌, List, length, IfOk, IsOk, IsErr, OnOk};
 ghost use Rattle.std.specs.Prelude.{OnErr};
 ghost use Rattle.ring.specs.Prelude.{IsTag, IsTagWithin, KeyStandsFor, block_len, compared_pairs};
+ghost use Rattle.ring.specs.Prelude.{SHA1_FOR_LEGACY_USE_ONLY, SHA256, SHA384, SHA512, hmac_digest};
 ghost use Rattle.ring.specs.Prelude.{hmac_of, key_algorithm, max_input_len, output_len};
 ghost use Rattle.ring.specs.Prelude.{padded_blocks, raised, tag_algorithm, tag_bytes, tag_under};
 
@@ -42,16 +43,21 @@ use ring_core::bb::verify_slices_are_equal_counted;
 use ring_core::cost::Meter;
 use ring_core::error::Unspecified;
 
-pub(crate) mod algorithm;
 pub(crate) mod context;
 pub(crate) mod key;
 
-pub use crate::hmac::algorithm::{
-    Algorithm, HMAC_SHA1_FOR_LEGACY_USE_ONLY, HMAC_SHA256, HMAC_SHA384, HMAC_SHA512,
-    constants_are_based_on_their_digests,
-};
 pub use crate::hmac::context::{Context, Tag};
-pub use crate::hmac::key::Key;
+pub use crate::hmac::key::{
+    Algorithm, HMAC_SHA1_FOR_LEGACY_USE_ONLY, HMAC_SHA256, HMAC_SHA384, HMAC_SHA512, Key,
+};
+
+/// States that each constant is HMAC over the digest algorithm of its name. The call does nothing.
+pub fn constants_are_based_on_their_digests()
+    ensures sha1 { hmac_digest HMAC_SHA1_FOR_LEGACY_USE_ONLY ≡ SHA1_FOR_LEGACY_USE_ONLY }
+    ensures sha256 { hmac_digest HMAC_SHA256 ≡ SHA256 }
+    ensures sha384 { hmac_digest HMAC_SHA384 ≡ SHA384 }
+    ensures sha512 { hmac_digest HMAC_SHA512 ≡ SHA512 }
+{}
 
 /// Computes the tag of `message` under `key` as [`sign`] does, and counts its blocks on `meter`. A
 /// refusal leaves `meter` as it was.

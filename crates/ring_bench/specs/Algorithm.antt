@@ -5,9 +5,9 @@ use Rattle.std.specs.Option.{option_and_then}
 use Rattle.ring.specs.declared.digest.algorithm.Algorithm as digest
 use Rattle.ring.specs.declared.digest.algorithm.TheConstants.{SHA1_FOR_LEGACY_USE_ONLY, SHA256}
 use Rattle.ring.specs.declared.digest.algorithm.TheConstants.{SHA384, SHA512, SHA512_256}
-use Rattle.ring.specs.declared.hmac.algorithm.Algorithm as hmac
-use Rattle.ring.specs.declared.hmac.algorithm.TheConstants.{HMAC_SHA1_FOR_LEGACY_USE_ONLY}
-use Rattle.ring.specs.declared.hmac.algorithm.TheConstants.{HMAC_SHA256, HMAC_SHA384, HMAC_SHA512}
+use Rattle.ring.specs.declared.hmac.key.Algorithm as hmac
+use Rattle.ring.specs.declared.hmac.key.TheConstants.{HMAC_SHA1_FOR_LEGACY_USE_ONLY}
+use Rattle.ring.specs.declared.hmac.key.TheConstants.{HMAC_SHA256, HMAC_SHA384, HMAC_SHA512}
 use Rattle.ring.specs.declared.hkdf.algorithm.Algorithm as hkdf
 use Rattle.ring.specs.declared.hkdf.algorithm.TheConstants.{HKDF_SHA1_FOR_LEGACY_USE_ONLY}
 use Rattle.ring.specs.declared.hkdf.algorithm.TheConstants.{HKDF_SHA256, HKDF_SHA384, HKDF_SHA512}

@@ -6,7 +6,7 @@ use Rattle.std.specs.Option.{option_and_then}
 use Rattle.std.specs.List.{slice_split}
 use Rattle.std.specs.Int.NonZero.{non_zero_u32_get}
 use Rattle.ring.specs.declared.digest.algorithm.Algorithm.{Algorithm as DigestAlgorithm}
-use Rattle.ring.specs.declared.hmac.algorithm.Algorithm.{Algorithm as HmacAlgorithm}
+use Rattle.ring.specs.declared.hmac.key.Algorithm.{Algorithm as HmacAlgorithm}
 use Rattle.ring.specs.declared.hkdf.algorithm.Algorithm.{Algorithm as HkdfAlgorithm}
 use Rattle.ring.specs.declared.pbkdf2.algorithm.Algorithm.{Algorithm as Pbkdf2Algorithm}
 use Rattle.ring_bench.specs.declared.line.Call.{Call}

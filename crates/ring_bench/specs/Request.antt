@@ -11,7 +11,7 @@ use Rattle.ring.specs.Hmac.{hmac_digest, hmac_of}
 use Rattle.ring.specs.Limits.{can_derive, can_expand, can_verify, fits, tag_input_len}
 use Rattle.ring.specs.Pbkdf2.{dk, pbkdf2_digest}
 use Rattle.ring.specs.declared.digest.algorithm.Algorithm.{Algorithm as DigestAlgorithm}
-use Rattle.ring.specs.declared.hmac.algorithm.Algorithm.{Algorithm as HmacAlgorithm}
+use Rattle.ring.specs.declared.hmac.key.Algorithm.{Algorithm as HmacAlgorithm}
 use Rattle.ring.specs.declared.hkdf.algorithm.Algorithm.{Algorithm as HkdfAlgorithm}
 use Rattle.ring.specs.declared.pbkdf2.algorithm.Algorithm.{Algorithm as Pbkdf2Algorithm}
 use Rattle.ring_bench.specs.declared.request.Answer.{Answer}

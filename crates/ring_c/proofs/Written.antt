@@ -13,7 +13,7 @@ use Rattle.ring.specs.Algorithm.{output_len}
 use Rattle.ring.specs.Digest.{bytes_of, digest_of}
 use Rattle.ring.specs.Each.{AreDigests}
 use Rattle.ring.specs.declared.digest.algorithm.Algorithm.{Algorithm}
-use Rattle.ring.specs.declared.digest.value.Digest.{Digest}
+use Rattle.ring.specs.declared.digest.block_context.Digest.{Digest}
 use Rattle.ring.proofs.Lengths.{length-digest_of}
 use Rattle.ring_c.specs.Each.{bytes_of_each, digests_of}
 

@@ -5,7 +5,7 @@ use Rattle.std.specs.Borrow.{Bor}
 use Rattle.std.specs.List.{flat_map}
 use Rattle.ring.specs.Digest.{bytes_of, digest_of}
 use Rattle.ring.specs.declared.digest.algorithm.Algorithm.{Algorithm}
-use Rattle.ring.specs.declared.digest.value.Digest.{Digest}
+use Rattle.ring.specs.declared.digest.block_context.Digest.{Digest}
 
 -- the digests of the messages, one after another
 abbrev pub digests_of : Algorithm → List (Bor (List ℕ)) → List ℕ

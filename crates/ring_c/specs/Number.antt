@@ -4,9 +4,9 @@ use Rattle.std.specs.Prelude.{ℕ, zero, suc, Option, Some, None, if◌then◌el
 use Rattle.ring.specs.declared.hkdf.algorithm.Algorithm as hkdf
 use Rattle.ring.specs.declared.hkdf.algorithm.TheConstants.{HKDF_SHA1_FOR_LEGACY_USE_ONLY}
 use Rattle.ring.specs.declared.hkdf.algorithm.TheConstants.{HKDF_SHA256, HKDF_SHA384, HKDF_SHA512}
-use Rattle.ring.specs.declared.hmac.algorithm.Algorithm as hmac
-use Rattle.ring.specs.declared.hmac.algorithm.TheConstants.{HMAC_SHA1_FOR_LEGACY_USE_ONLY}
-use Rattle.ring.specs.declared.hmac.algorithm.TheConstants.{HMAC_SHA256, HMAC_SHA384, HMAC_SHA512}
+use Rattle.ring.specs.declared.hmac.key.Algorithm as hmac
+use Rattle.ring.specs.declared.hmac.key.TheConstants.{HMAC_SHA1_FOR_LEGACY_USE_ONLY}
+use Rattle.ring.specs.declared.hmac.key.TheConstants.{HMAC_SHA256, HMAC_SHA384, HMAC_SHA512}
 use Rattle.ring.specs.declared.pbkdf2.algorithm.Algorithm as pbkdf2
 use Rattle.ring.specs.declared.pbkdf2.algorithm.TheConstants.{PBKDF2_HMAC_SHA1, PBKDF2_HMAC_SHA256}
 use Rattle.ring.specs.declared.pbkdf2.algorithm.TheConstants.{PBKDF2_HMAC_SHA384}

@@ -9,7 +9,7 @@ ghost use Rattle.ring.specs.Raw.{AreWords, HasBegun, RawKeyStandsFor};
 ghost use Rattle.ring.specs.Raw.{RawTagStandsFor, TagHasAdded, digest_named, raw_message_len};
 ghost use Rattle.ring.specs.Raw.{raw_tag_under, raw_tag_with};
 ghost use Rattle.ring.specs.declared.digest.algorithm.Algorithm as digest;
-ghost use Rattle.ring.specs.declared.hmac.algorithm.Algorithm.{Algorithm};
+ghost use Rattle.ring.specs.declared.hmac.key.Algorithm.{Algorithm};
 ghost use Rattle.ring_c.specs.Limits.{can_sign, can_tag, is_no_tag_context};
 ghost use Rattle.ring_c.specs.Number.{hmac_named};
 ghost use Rattle.ring_c.specs.Status.{first_of, no_cause, status_of};

@@ -5,7 +5,7 @@ use Rattle.std.specs.Borrow.{Bor}
 use Rattle.ring.specs.Digest.{bytes_of, digest_of}
 use Rattle.ring.specs.Each.{AreDigests, message_at}
 use Rattle.ring.specs.declared.digest.algorithm.Algorithm.{Algorithm}
-use Rattle.ring.specs.declared.digest.value.Digest.{Digest}
+use Rattle.ring.specs.declared.digest.block_context.Digest.{Digest}
 use Rattle.ring_speed.specs.Repeats.{replaced_front}
 
 -- the k-th digest written over the front of the k-th message

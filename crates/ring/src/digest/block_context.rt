@@ -1,5 +1,5 @@
 // SPDX-License-Identifier: ISC
-//! A context of whole blocks.
+//! A context of whole blocks, and the digest that it gives.
 
 ghost use Rattle.std.specs.Prelude.{◌≡◌, ◌↔◌, ℕ, ◌+◌, ◌*◌, ◌/◌, ◌<◌, ◌≤◌, List, [], ◌++◌, length};
 ghost use Rattle.std.specs.Prelude.{take, drop, IsTrue, IfOk, IsErr, OnOk, OnErr};
@@ -14,7 +14,6 @@ ghost use Rattle.ring.specs.declared.digest.algorithm.Algorithm.{Algorithm};
 use crate::digest::algorithm::{Algorithm, MAX_BLOCK_LEN, is_message_within};
 use crate::digest::dynstate::{DynState, Output, long_output, short_output};
 use crate::digest::padding::{MAX_TAIL_LEN, write_tail};
-use crate::digest::value::Digest;
 use ring_core::cost::Meter;
 use ring_core::digest::sha1::sha1_block_data_order_counted;
 use ring_core::digest::sha2::{
@@ -22,6 +21,7 @@ use ring_core::digest::sha2::{
 };
 use ring_core::error::Unspecified;
 use ring_core::polyfill::slice::as_chunks;
+use std::fmt;
 
 // Advances `words`, of an algorithm of 64-bit words, over the whole blocks of `input`, and returns
 // the bytes past them.
@@ -255,5 +255,49 @@ impl BlockContext {
         let len = write_tail(self.algorithm, pending, message_len, &mut tail);
         let output = self.output_after(&tail[..len], meter);
         Ok(Digest::new(output, self.algorithm))
+    }
+}
+
+/// A digest, and the algorithm that computed it.
+#[derive(Clone, Copy)]
+pub struct Digest {
+    value: Output,
+    algorithm: Algorithm,
+}
+
+impl Digest {
+    // The digest that is the front of `value`.
+    pub(crate) fn new(value: Output, algorithm: Algorithm) -> Self
+        ensures { result ≡ record { value = value; algorithm = algorithm } }
+    {
+        Digest { value, algorithm }
+    }
+
+    /// The algorithm that computed it.
+    pub fn algorithm(&self) -> Algorithm
+        ensures { result ≡ digest_algorithm self.now }
+    {
+        self.algorithm
+    }
+
+    /// The bytes of the digest: the first `output_len` bytes of the last chaining words, high byte
+    /// first.
+    pub fn as_ref(&self) -> &[u8]
+        ensures bytes { result.now ≡ bytes_of self.now }
+        ensures len { length result.now ≡ output_len (digest_algorithm self.now) }
+    {
+        &self.value.0[..self.algorithm.output_len()]
+    }
+}
+
+/// Writes the algorithm's name, a colon, and the bytes in lower case hex.
+impl fmt::Debug for Digest {
+    fn fmt<W: fmt::Write>(&self, f: &mut fmt::Formatter<W>) -> fmt::Result {
+        let algorithm = self.algorithm;
+        write!(f, "{algorithm:?}:")?;
+        for byte in self.as_ref() {
+            write!(f, "{byte:02x}")?;
+        }
+        Ok(())
     }
 }

@@ -10,7 +10,7 @@ ghost use Rattle.ring.specs.Digest.{IsDigest, bytes_of, digest_after, digest_alg
 
 use crate::digest::algorithm::{Algorithm, MAX_BLOCK_LEN};
 use crate::digest::block_context::BlockContext;
-use crate::digest::value::Digest;
+use crate::digest::block_context::Digest;
 use ring_core::cost::Meter;
 use ring_core::error::Unspecified;
 

@@ -16,7 +16,7 @@ use crate::digest::lanes::algorithms::{RunBlocks, Sha1, Sha256, Sha512, by_lanes
 use crate::digest::lanes::blocks::{Blocks, Padded, fewest_blocks, run_lanes};
 use crate::digest::lanes::states::{InVector, LaneStates};
 use crate::digest::single::digest_counted;
-use crate::digest::value::Digest;
+use crate::digest::block_context::Digest;
 use crate::width::{AVX2, SSE, lanes_for};
 use ring_core::cost::Meter;
 use ring_core::error::Unspecified;

@@ -6,7 +6,7 @@ ghost use Rattle.ring.specs.Prelude.{IsDigest, max_input_len, padded_blocks, rai
 
 use crate::digest::algorithm::{Algorithm, is_message_within};
 use crate::digest::block_context::BlockContext;
-use crate::digest::value::Digest;
+use crate::digest::block_context::Digest;
 use ring_core::cost::Meter;
 use ring_core::error::Unspecified;
 

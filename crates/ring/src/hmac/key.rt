@@ -1,5 +1,5 @@
 // SPDX-License-Identifier: ISC
-//! Keys: the two states of HMAC after the key's blocks.
+//! The four HMAC algorithms, and keys: the two states of HMAC after the key's blocks.
 
 ghost use Rattle.std.specs.Prelude.{◌≡◌, ◌↔◌, ◌-◌, ◌<◌, ◌≤◌, ◌++◌, Some, codes, drop, false};
 ghost use Rattle.std.specs.Prelude.{length, replicate, take, IfOk, IsErr, OnOk, OnErr};
@@ -9,15 +9,63 @@ ghost use Rattle.ring.specs.Context.{HasTaken, block_algorithm, counted_bytes};
 ghost use Rattle.ring.specs.Cost.{key_blocks, key_digest_blocks};
 ghost use Rattle.ring.specs.KeyBlocks.{key_block, masked};
 
-use crate::digest::algorithm::{MAX_BLOCK_LEN, MAX_OUTPUT_LEN};
+use crate::digest::algorithm::{
+    MAX_BLOCK_LEN, MAX_OUTPUT_LEN, SHA1_FOR_LEGACY_USE_ONLY, SHA256, SHA384, SHA512,
+};
 use crate::digest::block_context::BlockContext;
 use crate::digest::{self, digest_counted};
-use crate::hmac::algorithm::Algorithm;
 use crate::rand::SecureRandom;
 use ring_core::bb::xor_assign;
 use ring_core::cost::Meter;
 use ring_core::error::Unspecified;
 use std::fmt;
+
+/// An HMAC algorithm: one of the four constants of this module, each HMAC over a digest algorithm.
+#[derive(Clone, Copy, PartialEq, Eq)]
+pub struct Algorithm(digest::Algorithm);
+
+/// HMAC over SHA-1: use it only for old data.
+pub const HMAC_SHA1_FOR_LEGACY_USE_ONLY: Algorithm = Algorithm(SHA1_FOR_LEGACY_USE_ONLY);
+
+/// HMAC over SHA-256.
+pub const HMAC_SHA256: Algorithm = Algorithm(SHA256);
+
+/// HMAC over SHA-384.
+pub const HMAC_SHA384: Algorithm = Algorithm(SHA384);
+
+/// HMAC over SHA-512.
+pub const HMAC_SHA512: Algorithm = Algorithm(SHA512);
+
+impl Algorithm {
+    ghost use Rattle.ring.specs.Hmac.{hmac_digest};
+
+    // HMAC over `digest_algorithm`.
+    pub(crate) fn over(digest_algorithm: digest::Algorithm) -> Self
+        ensures { hmac_digest result ≡ digest_algorithm }
+    {
+        Algorithm(digest_algorithm)
+    }
+
+    /// The digest algorithm that HMAC runs. A tag has its `output_len` bytes, a block its
+    /// `block_len` bytes.
+    pub fn digest_algorithm(&self) -> digest::Algorithm
+        ensures { result ≡ hmac_digest self.now }
+    {
+        self.0
+    }
+}
+
+/// Writes the name of the digest algorithm, as in `Algorithm(SHA256)`.
+impl fmt::Debug for Algorithm {
+    ghost use Rattle.ring.specs.Hmac.{hmac_digest};
+
+    ghost debug_output = { λ a. Some (codes "Algorithm(" ++ name_of (hmac_digest a) ++ codes ")") };
+
+    fn fmt<W: fmt::Write>(&self, f: &mut fmt::Formatter<W>) -> fmt::Result {
+        let algorithm = self.0;
+        write!(f, "Algorithm({algorithm:?})")
+    }
+}
 
 // The mask of the key's block before the message (RFC 2104, section 2).
 const IPAD: u8 = 0x36;

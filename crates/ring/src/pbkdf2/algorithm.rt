@@ -5,7 +5,7 @@ ghost use Rattle.std.specs.Prelude.{◌≡◌};
 ghost use Rattle.ring.specs.Prelude.{hmac_digest, pbkdf2_digest};
 
 use crate::digest::algorithm::{SHA1_FOR_LEGACY_USE_ONLY, SHA256, SHA384, SHA512};
-use crate::hmac::algorithm::{
+use crate::hmac::key::{
     self as hmac, HMAC_SHA1_FOR_LEGACY_USE_ONLY, HMAC_SHA256, HMAC_SHA384, HMAC_SHA512,
 };
 

@@ -19,7 +19,7 @@ use crate::digest::algorithm::{Algorithm, MAX_BLOCK_LEN};
 use crate::digest::block_context::BlockContext;
 use crate::digest::context::Context;
 use crate::digest::dynstate::DynState;
-use crate::digest::value::Digest;
+use crate::digest::block_context::Digest;
 use crate::raw::number::{digest_of_number, number_of_digest};
 use crate::raw::words::{
     block_of, halves, joined, long_block_of, numbers_of_block, short_block_of,

@@ -6,14 +6,11 @@ ghost use Rattle.ring_core.specs.Prelude.{word_32, words_of_lane};
 ghost use Rattle.ring_core.specs.Sha1.{block_step, blocks_from};
 
 mod sha1_blocks;
-mod sha1_four_words;
 mod sha1_rounds;
-mod sha1_schedule;
 
 use crate::cost::Meter;
 use crate::digest::sha1::sha1_blocks::run_blocks;
-use crate::digest::sha1::sha1_rounds::{BYTES, WORDS, run_loaded};
-use crate::digest::sha1::sha1_schedule::ExtendSchedule;
+use crate::digest::sha1::sha1_rounds::{BYTES, ExtendSchedule, WORDS, run_loaded};
 use crate::digest::states::{States, Window};
 use crate::digest::window::{load_blocks, load_words};
 use crate::digest::word::lane_word::Vector;

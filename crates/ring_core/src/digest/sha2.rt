@@ -10,13 +10,11 @@ ghost use Rattle.ring_core.specs.Prelude.{first_primes, raised, words_32, words_
 mod sha256;
 mod sha2_blocks;
 mod sha2_rounds;
-mod sha2_schedule;
 mod sha512;
 
 use crate::cost::Meter;
 use crate::digest::sha2::sha2_blocks::run_blocks;
-use crate::digest::sha2::sha2_rounds::{BYTES, run_loaded};
-use crate::digest::sha2::sha2_schedule::ExtendSchedule;
+use crate::digest::sha2::sha2_rounds::{BYTES, ExtendSchedule, run_loaded};
 use crate::digest::states::{States, Window};
 use crate::digest::window::{load_blocks, load_words};
 use crate::digest::word::lane_word::Vector;

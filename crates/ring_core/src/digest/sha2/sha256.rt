@@ -7,7 +7,8 @@ ghost use Rattle.std.proofs.Common.{rules};
 ghost use Rattle.ring_core.specs.Prelude.{constants_256, family_256, low_32, shr};
 ghost use Rattle.ring_core.specs.Prelude.{two_rotations_and_shift, word_at, σ1};
 
-use crate::digest::sha2::sha2_schedule::{Before, ExtendByFour, ExtendSchedule, small_sigma};
+use crate::digest::sha2::sha2_blocks::ExtendByFour;
+use crate::digest::sha2::sha2_rounds::{Before, ExtendSchedule, small_sigma};
 use crate::digest::word::w32::{doubled, from_lanes, joined, to_lanes};
 use crate::digest::word::{Sha2, Word};
 use std::num::Wrapping;

@@ -2,17 +2,88 @@
 //! The block function of SHA-2 over blocks of bytes, one after another (FIPS 180-4, 6.2.2 and
 //! 6.4.2, steps 1 to 4). The schedule of a block is sixteen words ahead of its rounds, which add
 //! ready sums of words and constants.
-ghost use Rattle.std.specs.Prelude.{◌≡◌, ℕ, ◌+◌, ◌*◌, ◌%◌, ◌<◌, ◌≤◌, List, map};
+ghost use Rattle.std.specs.Prelude.{◌≡◌, ℕ, ◌+◌, ◌*◌, ◌/◌, ◌%◌, ◌<◌, ◌≤◌, List, length, map};
 ghost use Rattle.ring_core.specs.Prelude.{HoldsSums, IsAhead, IsReady, W, block_len, block_step};
-ghost use Rattle.ring_core.specs.Prelude.{blocks_from, chunk_items, chunk_total, raised, ready_sum};
-ghost use Rattle.ring_core.specs.Prelude.{rounds_from};
+ghost use Rattle.ring_core.specs.Prelude.{blocks_from, chunk_items, chunk_total, four, older_four};
+ghost use Rattle.ring_core.specs.Prelude.{raised, ready_sum, rounds_from, with_first_two};
+ghost use Rattle.ring_core.specs.Prelude.{with_last_two};
 
 use crate::cost::Meter;
 use crate::digest::sha2::sha2_rounds::{add_state, round};
-use crate::digest::sha2::sha2_schedule::{ExtendByFour, load, put_sums};
 use crate::digest::word::Sha2;
-use crate::digest::word::lane_word::FourWords;
+use crate::digest::word::lane_word::{FourWords, read_four};
 use crate::polyfill::slice::AsChunks;
+
+// Words of SHA-2, and the step of their schedule from sixteen words to the next four. It has three
+// parts, so that it can be run between rounds: the last two of the four words wait for the first
+// two.
+pub(crate) trait ExtendByFour: FourWords {
+    // What each of the four words takes from the words 16, 15 and 7 before it, by the sixteen words
+    // before the four.
+    fn older(
+        first: Self::Four,
+        second: Self::Four,
+        third: Self::Four,
+        fourth: Self::Four,
+    ) -> Self::Four
+        ensures { Self.words result ≡ older_four Self.One.family
+            (Self.words first) (Self.words second) (Self.words third) (Self.words fourth) };
+
+    // The first two words, from what `older` gave and the four words before them.
+    fn with_first_two(older: Self::Four, fourth: Self::Four) -> Self::Four
+        ensures { Self.words result
+            ≡ with_first_two Self.One.family (Self.words older) (Self.words fourth) };
+
+    // The last two words, from what `with_first_two` gave.
+    fn with_last_two(half: Self::Four) -> Self::Four
+        ensures { Self.words result ≡ with_last_two Self.One.family (Self.words half) };
+}
+
+// Replaces the oldest four sums by those of words `16 * turn + 4 * place` and the next three. They
+// are stored as one vector: of four stores the compiler forwards each to its round.
+#[inline(always)]
+pub(crate) fn put_sums<S: FourWords>(
+    sums: &mut [S::Four; 4],
+    words: S::Four,
+    turn: usize,
+    place: usize,
+)
+    requires place { place < 4 }
+    requires turn { 16 * turn + 16 ≤ S.One.family.rounds }
+    ensures { (b : List ℕ) (g : ℕ) → g ≡ 4 * turn + place
+        → S.words words ≡ four (W S.One.family b) g
+        → HoldsSums (ready_sum S.One.family b) (map S.words sums.old) g
+        → HoldsSums (ready_sum S.One.family b) (map S.words sums.new) (g + 1) }
+{
+    let t = 16 * turn + 4 * place;
+    let constants = S::four(
+        S::One::k(t),
+        S::One::k(t + 1),
+        S::One::k(t + 2),
+        S::One::k(t + 3),
+    );
+    sums[place] = S::sums(constants, words);
+}
+
+// The words of a block, and their sums.
+#[inline(always)]
+pub(crate) fn load<S: FourWords>(sums: &mut [S::Four; 4], block: &[u8]) -> [S::Four; 4]
+    requires whole { length block.now ≡ 16 * (S.One.bits / 8) }
+    requires rounds { 16 ≤ S.One.family.rounds }
+    ensures { let f = S.One.family in
+        IsReady (W f block.now) (ready_sum f block.now) (map S.words result)
+        (map S.words sums.new) 0 }
+{
+    let first = read_four::<S>(block, 0);
+    let second = read_four::<S>(block, 1);
+    let third = read_four::<S>(block, 2);
+    let fourth = read_four::<S>(block, 3);
+    put_sums::<S>(sums, first, 0, 0);
+    put_sums::<S>(sums, second, 0, 1);
+    put_sums::<S>(sums, third, 0, 2);
+    put_sums::<S>(sums, fourth, 0, 3);
+    [first, second, third, fourth]
+}
 
 // Each function up to `run_ahead` is always inlined: places are then literals.
 

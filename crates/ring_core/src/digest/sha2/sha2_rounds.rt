@@ -1,14 +1,101 @@
 // SPDX-License-Identifier: ISC
-//! The rounds of SHA-2 over a window of its schedule (FIPS 180-4, 6.2.2 and 6.4.2, steps 2 to 4),
-//! written once for both word sizes.
-ghost use Rattle.std.specs.Prelude.{◌≡◌, ℕ, ◌+◌, ◌*◌, ◌<◌, ◌≤◌, List, map};
+//! The block function of SHA-2 over a window of the schedule (FIPS 180-4, 6.2.2 and 6.4.2, steps 1
+//! to 4), written once for both word sizes: of one block, or in lanes, each that of a block of its
+//! own.
+ghost use Rattle.std.specs.Prelude.{◌≡◌, ℕ, ◌+◌, ◌*◌, ◌%◌, ◌<◌, ◌≤◌, List, map};
 ghost use Rattle.ring_core.specs.Prelude.{IsBefore, IsWindow, W, add_state, add_words, block_step};
-ghost use Rattle.ring_core.specs.Prelude.{round, rounds_from, three_rotations, word_at};
+ghost use Rattle.ring_core.specs.Prelude.{round, rounds_from, scheduled, three_rotations};
+ghost use Rattle.ring_core.specs.Prelude.{two_rotations_and_shift, word_at};
 
-use crate::digest::sha2::sha2_schedule::{ExtendSchedule, extend};
-use crate::digest::window::pair;
+use crate::digest::window::{pair, set_pair};
 use crate::digest::word::Sha2;
-use crate::digest::word::lane_word::{LaneWord, choose_word, majority_word};
+use crate::digest::word::lane_word::{LaneWord, Slots, Vector, choose_word, majority_word};
+use crate::digest::word::vectors::InLanes;
+
+// The pairs of words that begin 16, 15, 7 and 2 words before the next pair.
+#[derive(Drop)]
+pub(crate) struct Before<T: Copy> {
+    pub(crate) sixteen: (T, T),
+    pub(crate) fifteen: (T, T),
+    pub(crate) seven: (T, T),
+    pub(crate) two: (T, T),
+}
+
+// A word whose schedule is computed in lanes. The library's vectors are of `u32` or of `u64`, not
+// of any word, so each size has its own step.
+pub(crate) trait ExtendSchedule: Slots {
+    // The pair of words after those in `before`.
+    fn next_two(before: &Before<Self::Slot>) -> (Self::Slot, Self::Slot)
+        ensures first { (i : ℕ) → Self.slot_lane i result.0 ≡ scheduled Self.One.family
+            (Self.slot_lane i before.now.two.0) (Self.slot_lane i before.now.seven.0)
+            (Self.slot_lane i before.now.fifteen.0) (Self.slot_lane i before.now.sixteen.0) }
+        ensures second { (i : ℕ) → Self.slot_lane i result.1 ≡ scheduled Self.One.family
+            (Self.slot_lane i before.now.two.1) (Self.slot_lane i before.now.seven.1)
+            (Self.slot_lane i before.now.fifteen.1) (Self.slot_lane i before.now.sixteen.1) };
+}
+
+// Replaces the words in slot `place` and the next by those sixteen later.
+#[inline(always)]
+pub(crate) fn extend<S: ExtendSchedule>(window: &mut [S::Slot; 16], place: usize)
+    requires { place + 2 ≤ 16 }
+    ensures { (i : ℕ) (b : List ℕ) (t : ℕ) → 16 ≤ t → place ≡ t % 16
+        → IsWindow (W S.One.family b) (map (S.slot_lane i) window.old) t
+        → IsWindow (W S.One.family b) (map (S.slot_lane i) window.new) (t + 2) }
+{
+    let sixteen = pair(window, place);
+    let fifteen = pair(window, place + 1);
+    let seven = pair(window, (place + 9) % 16);
+    let two = pair(window, (place + 14) % 16);
+    let before = Before {
+        sixteen,
+        fifteen,
+        seven,
+        two,
+    };
+    set_pair(window, place, S::next_two(&before));
+}
+
+// σ0 or σ1 of each word (4.1.2, 4.1.3), by its counts, the rotations nested.
+#[inline(always)]
+pub(crate) fn small_sigma<S: Vector>(words: S, counts: (u32, u32, usize)) -> S
+    requires first { 1 ≤ counts.0 }
+    requires second { counts.0 < counts.1 }
+    requires below { counts.1 < S.One.bits }
+    requires shift { counts.2 < S.One.bits }
+    ensures { (i : ℕ) → S.lane i result
+        ≡ two_rotations_and_shift S.One.bits counts (S.lane i words) }
+{
+    let (first, second, shift) = counts;
+    let inner = words.bit_xor(words.rotr(second - first));
+    inner.rotr(first).bit_xor(words.shift_right(shift as u32))
+}
+
+// The next word of each lane, by those 2, 7, 15 and 16 words before it.
+#[inline(always)]
+fn next_word<S: Vector>(two: S, seven: S, fifteen: S, sixteen: S) -> S
+    ensures { (i : ℕ) → S.lane i result ≡ scheduled S.One.family
+        (S.lane i two) (S.lane i seven) (S.lane i fifteen) (S.lane i sixteen) }
+{
+    small_sigma(two, S::One::SMALL_SIGMA_1)
+        .plus(seven)
+        .plus(small_sigma(fifteen, S::One::SMALL_SIGMA_0))
+        .plus(sixteen)
+}
+
+impl<V: Vector> ExtendSchedule for InLanes<V> {
+    #[inline(always)]
+    fn next_two(before: &Before<InLanes<V>>) -> (InLanes<V>, InLanes<V>) {
+        let Before {
+            sixteen,
+            fifteen,
+            seven,
+            two,
+        } = before;
+        let first = next_word(two.0.0, seven.0.0, fifteen.0.0, sixteen.0.0);
+        let second = next_word(two.1.0, seven.1.0, fifteen.1.0, sixteen.1.0);
+        (InLanes(first), InLanes(second))
+    }
+}
 
 // The rounds take as a const argument how many words of a block come from a state, and this where
 // the block is read from bytes, so that each form has its own copy of them: the compiler inlines

@@ -6,7 +6,8 @@ ghost use Rattle.std.proofs.Common.{rules};
 ghost use Rattle.ring_core.specs.Prelude.{constants_512, family_512, shr, two_rotations_and_shift};
 ghost use Rattle.ring_core.specs.Prelude.{word_at};
 
-use crate::digest::sha2::sha2_schedule::{Before, ExtendByFour, ExtendSchedule, small_sigma};
+use crate::digest::sha2::sha2_blocks::ExtendByFour;
+use crate::digest::sha2::sha2_rounds::{Before, ExtendSchedule, small_sigma};
 use crate::digest::word::w64::{from_lanes, rotate_lanes, to_lanes};
 use crate::digest::word::{Sha2, Word};
 use std::num::Wrapping;

@@ -2,7 +2,7 @@
 use Rattle.std.proofs.Common.{◌-◌, arith}
 use Rattle.ring_core.specs.Prelude.{W}
 use Rattle.ring_core.proofs.Sha2Steps.{W-next_two}
-use Rattle.ring_core.proofs.digest.sha2.sha2_schedule.extend.Goals as goal
+use Rattle.ring_core.proofs.digest.sha2.sha2_rounds.extend.Goals as goal
 
 pub returns : goal.returns
 returns g c = λ i b t from place ready.

@@ -5,7 +5,7 @@ use Rattle.ring_core.specs.Sha1.{scheduled}
 use Rattle.ring_core.proofs.FourWords.{four_read}
 use Rattle.ring_core.proofs.Sha1FourWords.{scheduled-last, scheduled-lt}
 use Rattle.ring_core.proofs.Vectors.{at_fits}
-use Rattle.ring_core.proofs.digest.sha1.sha1_four_words.next_four.Goals as goal
+use Rattle.ring_core.proofs.digest.sha1.sha1_blocks.next_four.Goals as goal
 
 pub returns : goal.returns
 returns c =

@@ -3,7 +3,7 @@ use Rattle.std.proofs.Common.{◌≡◌, refl, arith, length, rules}
 use Rattle.ring_core.specs.Prelude.{W, four}
 use Rattle.ring_core.proofs.Schedule.{sums-empty}
 use Rattle.ring_core.proofs.Sha2FourWords.{four-loaded}
-use Rattle.ring_core.proofs.digest.sha2.sha2_schedule.load.Goals as goal
+use Rattle.ring_core.proofs.digest.sha2.sha2_blocks.load.Goals as goal
 
 pub returns : goal.returns
 returns g c =

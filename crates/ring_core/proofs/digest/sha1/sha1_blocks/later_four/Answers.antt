@@ -1,7 +1,7 @@
 -- SPDX-License-Identifier: ISC
 use Rattle.std.proofs.Common.{refl}
 use Rattle.ring_core.proofs.FourWords.{four_read}
-use Rattle.ring_core.proofs.digest.sha1.sha1_four_words.later_four.Goals as goal
+use Rattle.ring_core.proofs.digest.sha1.sha1_blocks.later_four.Goals as goal
 
 pub returns : goal.returns
 returns c =

@@ -4,7 +4,7 @@ use Rattle.ring_core.specs.Prelude.{low_32}
 use Rattle.ring_core.specs.Sha1.{ready_sum}
 use Rattle.ring_core.proofs.FourWords.{low-lanes}
 use Rattle.ring_core.proofs.Schedule.{sums-set}
-use Rattle.ring_core.proofs.digest.sha1.sha1_four_words.put_sums.Goals as goal
+use Rattle.ring_core.proofs.digest.sha1.sha1_blocks.put_sums.Goals as goal
 
 pub returns : goal.returns
 returns c = λ b n at words ready.

@@ -2,7 +2,7 @@
 use Rattle.std.proofs.Common.{◌≡◌, ◌+◌, ◌*◌, refl, arith}
 use Rattle.ring_core.specs.Prelude.{ready_sum}
 use Rattle.ring_core.proofs.Schedule.{sums-set}
-use Rattle.ring_core.proofs.digest.sha2.sha2_schedule.put_sums.Goals as goal
+use Rattle.ring_core.proofs.digest.sha2.sha2_blocks.put_sums.Goals as goal
 
 pub returns : goal.returns
 returns g c = λ b n at words ready.

@@ -3,8 +3,8 @@ use Rattle.std.proofs.Common.{◌∙◌, ap, map}
 use Rattle.ring_core.specs.Prelude.{low_32}
 use Rattle.ring_core.proofs.Halves.{xors_low}
 use Rattle.ring_core.proofs.Mapped.{same_two}
-use Rattle.ring_core.proofs.digest.sha1.sha1_schedule as schedule
-use schedule.WrappingU32ExtendSchedule.next_two.Goals as goal
+use Rattle.ring_core.proofs.digest.sha1.sha1_rounds as rounds
+use rounds.WrappingU32ExtendSchedule.next_two.Goals as goal
 
 pub returns : goal.returns
 returns c =

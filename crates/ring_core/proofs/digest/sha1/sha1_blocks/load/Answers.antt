@@ -3,7 +3,7 @@ use Rattle.std.proofs.Common.{◌≡◌, length, map, refl, arith, rules}
 use Rattle.ring_core.specs.Prelude.{low_32}
 use Rattle.ring_core.proofs.Schedule.{sums-empty}
 use Rattle.ring_core.proofs.Sha1FourWords.{lanes-loaded, words-of-bytes}
-use Rattle.ring_core.proofs.digest.sha1.sha1_four_words.load.Goals as goal
+use Rattle.ring_core.proofs.digest.sha1.sha1_blocks.load.Goals as goal
 
 pub returns-clause-schedule : goal.returns-clause-schedule
 returns-clause-schedule c =

@@ -2,7 +2,7 @@
 use Rattle.std.proofs.Common.{◌-◌, refl, arith}
 use Rattle.ring_core.specs.Sha1.{W}
 use Rattle.ring_core.proofs.Sha1Steps.{W-next_two}
-use Rattle.ring_core.proofs.digest.sha1.sha1_schedule.extend.Goals as goal
+use Rattle.ring_core.proofs.digest.sha1.sha1_rounds.extend.Goals as goal
 
 pub returns : goal.returns
 returns g c = λ i b ready.

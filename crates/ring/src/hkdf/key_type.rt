@@ -7,7 +7,7 @@ ghost use Rattle.ring.specs.Hkdf.{hkdf_digest};
 ghost use Rattle.ring.specs.Hmac.{hmac_digest};
 
 use crate::hkdf::algorithm::Algorithm;
-use crate::hmac::key as hmac;
+use crate::hmac;
 
 /// The length of an output.
 ///

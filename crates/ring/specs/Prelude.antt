@@ -54,8 +54,8 @@ pub use Rattle.ring.specs.DeriveEach.{CanVerifyEach, answer_at}
 unfoldable pub use Rattle.ring.specs.DeriveEach.{sum_below}
 pub use Rattle.ring.specs.Gives.{DerivesEach, DerivesKey, VerifiesEach, VerifiesKey}
 pub use Rattle.ring.specs.Rounds.{IsRound, AreOfKeys, AreRounds, CanDeriveUnder, IsStart}
-pub use Rattle.ring.specs.Rounds.{AreOutputs, AreStarts, IsOutput, bytes_before, first_blocks}
-pub use Rattle.ring.specs.Rounds.{front, len_before, round_at, round_blocks}
+pub use Rattle.ring.specs.Rounds.{AreOutputs, AreStarts, IsOutput, blocks_at, bytes_before}
+pub use Rattle.ring.specs.Rounds.{first_blocks, front, len_before, nth_round, round_at}
 unfoldable pub use Rattle.ring.specs.Rounds.{next_round, round_on, rounds_before}
 pub use Rattle.ring.specs.Raw.{digest_named, joined_halves, completed_len, raw_message_len}
 pub use Rattle.ring.specs.Raw.{IsNoContext, IsNoKey, IsNoTagContext, raw_words, IsRawState}
@@ -83,6 +83,7 @@ pub use Rattle.ring.specs.declared.digest.context.Context.{Context}
 pub use Rattle.ring.specs.declared.digest.block_context.Digest.{Digest}
 pub use Rattle.ring.specs.declared.hmac.key.Key.{Key}
 pub use Rattle.ring.specs.declared.hmac.context.Tag.{Tag}
+pub use Rattle.ring.specs.declared.pbkdf2.rounds.Derivation.{Derivation}
 pub use Rattle.ring.specs.declared.pbkdf2.rounds.Round.{Round}
 pub use Rattle.ring.specs.declared.raw.context.RawContext.{RawContext}
 pub use Rattle.ring.specs.declared.raw.key.RawKey.{RawKey}

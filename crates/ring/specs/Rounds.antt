@@ -2,7 +2,7 @@
 -- The rounds of keys of one length: all of one key before those of the next.
 use Rattle.std.specs.Prelude.{◌≡◌, ℕ, zero, suc, ◌+◌, ◌-◌, ◌*◌, ◌<◌, ◌≤◌, All, List, IsTrue}
 use Rattle.std.specs.Prelude.{if◌then◌else◌, length, min, nat_lt, take}
-use Rattle.std.specs.Borrow.{Bor}
+use Rattle.std.specs.Int.NonZero.{non_zero_u32_get}
 use Rattle.std.specs.List.{HoldsAt}
 use Rattle.ring.specs.Algorithm.{output_len}
 use Rattle.ring.specs.Cost.{iterate_blocks, padded_blocks}
@@ -18,6 +18,7 @@ use Rattle.ring.specs.declared.digest.algorithm.Algorithm.{Algorithm}
 use Rattle.ring.specs.declared.digest.dynstate.DynState.{DynState}
 use Rattle.ring.specs.declared.digest.dynstate.Output.{Output}
 use Rattle.ring.specs.declared.hmac.key.Key.{Key}
+use Rattle.ring.specs.declared.pbkdf2.rounds.Derivation.{Derivation}
 use Rattle.ring.specs.declared.pbkdf2.rounds.Round.{Round}
 
 -- a round of a key of n bytes: it begins within the key, where the rounds of lower indices end
@@ -55,24 +56,23 @@ bytes_before a n f r i = front (output_len a) n (f i) (rounds_before a n r i)
 abbrev pub len_before : ℕ → Round → ℕ
 len_before n r = r.place * n + r.from
 
--- n bytes can be derived under each of the keys, of the algorithm a, from the salt at its place
-pub record CanDeriveUnder (a : Algorithm) (keys : List Key) (salts : List (Bor (List ℕ))) (n : ℕ)
-    : Type 0 where
-  pub algorithm : All (λ key. key_algorithm key ≡ a) keys
-  pub count : length salts ≡ length keys
-  pub within : (i : ℕ) → 0 < n → i < length keys → IsTagWithin a (length (bytes_at salts i) + 4)
-  pub numbers : n ≤ max_dk_len a
+-- the keys can be derived: HMAC's keys are of the algorithm, and each has a salt within the limit
+pub record CanDeriveUnder (d : Derivation) : Type 0 where
+  pub algorithm : All (λ key. key_algorithm key ≡ d.algorithm) d.keys.now
+  pub count : length d.salts.now ≡ length d.keys.now
+  pub within : (i : ℕ) → 0 < d.len → i < length d.keys.now
+      → IsTagWithin d.algorithm (length (bytes_at d.salts.now i) + 4)
+  pub numbers : d.len ≤ max_dk_len d.algorithm
 
 -- the first m rounds from r on are those of the first k keys, of n bytes each
 pub record AreOfKeys (a : Algorithm) (n : ℕ) (r : Round) (m k : ℕ) : Type 0 where
   pub each : (i : ℕ) → i < m → (round_on a n r i).place < k
 
 -- the first m rounds from r on can be run
-pub record AreRounds (a : Algorithm) (keys : List Key) (salts : List (Bor (List ℕ))) (n : ℕ)
-    (r : Round) (m : ℕ) : Type 0 where
-  pub first : IsRound a n r
-  pub under : CanDeriveUnder a keys salts n
-  pub places : AreOfKeys a n r m (length keys)
+pub record AreRounds (d : Derivation) (r : Round) (m : ℕ) : Type 0 where
+  pub first : IsRound d.algorithm d.len r
+  pub under : CanDeriveUnder d
+  pub places : AreOfKeys d.algorithm d.len r m (length d.keys.now)
 
 -- the states s, t and u are what the round starts from: its key's two, and the words of U_1
 pub record IsStart (a : Algorithm) (k : Key) (salt : List ℕ) (index : ℕ) (s t u : DynState)
@@ -84,16 +84,21 @@ pub record IsStart (a : Algorithm) (k : Key) (salt : List ℕ) (index : ℕ) (s 
   pub first : (p : List ℕ) → KeyStandsFor k p
       → digest_bytes a (words u) ≡ pbkdf2_u a p salt index 1
 
--- the three lists have the states that each of the first m rounds from r on starts from
-pub record AreStarts (a : Algorithm) (keys : List Key) (salts : List (Bor (List ℕ))) (n : ℕ)
-    (r : Round) (inner outer first : List DynState) (m : ℕ) : Type 0 where
-  pub each : (i : ℕ) → i < m → HoldsAt (λ key. HoldsAt (λ s. HoldsAt (λ t. HoldsAt (λ u.
-      IsStart a key (bytes_at salts (round_on a n r i).place) (round_on a n r i).index s t u)
-      first i) outer i) inner i) keys (round_on a n r i).place
+-- the k-th round after r
+abbrev pub nth_round : Derivation → Round → ℕ → Round
+nth_round d r k = round_on d.algorithm d.len r k
 
--- T_j of the key at the place i, of the password p i, after c iterations
-abbrev pub round_at : Algorithm → (ℕ → List ℕ) → List (Bor (List ℕ)) → (c i j : ℕ) → List ℕ
-round_at a p salts c i j = pbkdf2_t a (p i) (bytes_at salts i) j c
+-- the three lists have the states that each of the first m rounds from r on starts from
+pub record AreStarts (d : Derivation) (r : Round) (inner outer first : List DynState) (m : ℕ)
+    : Type 0 where
+  pub each : (i : ℕ) → i < m → HoldsAt (λ key. HoldsAt (λ s. HoldsAt (λ t. HoldsAt (λ u.
+      IsStart d.algorithm key (bytes_at d.salts.now (nth_round d r i).place)
+      (nth_round d r i).index s t u) first i) outer i) inner i) d.keys.now (nth_round d r i).place
+
+-- T_j of the key at the place i, of the password p i
+abbrev pub round_at : Derivation → (ℕ → List ℕ) → (i j : ℕ) → List ℕ
+round_at d p i j =
+    pbkdf2_t d.algorithm (p i) (bytes_at d.salts.now i) j (non_zero_u32_get d.iterations)
 
 -- the output begins with the k-th round after r, where f i j is T_j of the key at the place i
 abbrev pub IsOutput : Algorithm → ℕ → (ℕ → ℕ → List ℕ) → Round → ℕ → Output → Type 0
@@ -107,9 +112,12 @@ pub record AreOutputs (a : Algorithm) (n : ℕ) (f : ℕ → ℕ → List ℕ) (
   pub places : AreOfKeys a n r (length outputs) m
   pub each : EachItem outputs (IsOutput a n f r)
 
--- the blocks of the round's first iterate, and of all c
-abbrev pub first_blocks : Algorithm → List (Bor (List ℕ)) → Round → ℕ
-first_blocks a salts r = padded_blocks a (length (bytes_at salts r.place) + 4) + 1
+-- the blocks of the first iterate of the k-th round after r, and of all its iterates
+abbrev pub first_blocks : Derivation → Round → ℕ → ℕ
+first_blocks d r k =
+    padded_blocks d.algorithm (length (bytes_at d.salts.now (nth_round d r k).place) + 4) + 1
 
-abbrev pub round_blocks : Algorithm → List (Bor (List ℕ)) → (c : ℕ) → Round → ℕ
-round_blocks a salts c r = iterate_blocks a (length (bytes_at salts r.place)) c
+-- the blocks of all iterates of a round of the key at the place i
+abbrev pub blocks_at : Derivation → ℕ → ℕ
+blocks_at d i =
+    iterate_blocks d.algorithm (length (bytes_at d.salts.now i)) (non_zero_u32_get d.iterations)

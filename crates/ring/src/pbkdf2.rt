@@ -74,7 +74,7 @@ ghost use Rattle.ring.specs.Prelude.{pbkdf2_digest};
 use crate::hmac::Key;
 use crate::limits::{can_derive, can_verify};
 use crate::pbkdf2::receiver::{Compared, Written};
-use crate::pbkdf2::rounds::derive_under;
+use crate::pbkdf2::rounds::{Derivation, derive_under};
 use crate::width::SSE;
 use ring_core::cost::Meter;
 use ring_core::error::Unspecified;
@@ -122,18 +122,15 @@ pub fn derive_in<const VECTOR_BITS: usize>(
         return Err(Unspecified);
     }
     let keys = [Key::new_counted(hmac_algorithm, secret, meter)?];
-    let len = out.len();
-    let mut written = Written { out };
-    derive_under::<VECTOR_BITS, Written>(
-        digest,
-        &keys,
+    let derivation = Derivation {
+        algorithm: digest,
+        keys: &keys,
+        salts: &[salt],
         iterations,
-        &[salt],
-        len,
-        0,
-        &mut written,
-        meter,
-    );
+        len: out.len(),
+    };
+    let mut written = Written { out };
+    derive_under::<VECTOR_BITS, Written>(&derivation, 0, &mut written, meter);
     Ok(())
 }
 
@@ -212,21 +209,18 @@ pub fn verify_in<const VECTOR_BITS: usize>(
         return Err(Unspecified);
     }
     let keys = [Key::new_counted(hmac_algorithm, secret, meter)?];
-    let len = previously_derived.len();
+    let derivation = Derivation {
+        algorithm: digest,
+        keys: &keys,
+        salts: &[salt],
+        iterations,
+        len: previously_derived.len(),
+    };
     let mut compared = Compared {
         value: previously_derived,
         matches: true,
     };
-    derive_under::<VECTOR_BITS, Compared>(
-        digest,
-        &keys,
-        iterations,
-        &[salt],
-        len,
-        0,
-        &mut compared,
-        meter,
-    );
+    derive_under::<VECTOR_BITS, Compared>(&derivation, 0, &mut compared, meter);
     compared.matches.then_some(()).ok_or(Unspecified)
 }
 

@@ -16,7 +16,7 @@ use crate::hmac::Key;
 use crate::limits::can_derive;
 use crate::pbkdf2::algorithm::Algorithm;
 use crate::pbkdf2::receiver::{ComparedEach, Receiver, WrittenEach};
-use crate::pbkdf2::rounds::derive_under;
+use crate::pbkdf2::rounds::{Derivation, derive_under};
 use crate::width::SSE;
 use crate::{digest, hmac};
 use ring_core::cost::Meter;
@@ -113,16 +113,14 @@ fn derive_all<const VECTOR_BITS: usize, R: Receiver>(
         let count = (secrets.len() - made).min(MAX_LANES);
         let end = made + count;
         let keys = keys_of(algorithm, &secrets[made..end], meter);
-        derive_under::<VECTOR_BITS, R>(
-            digest,
-            &keys[..count],
+        let derivation = Derivation {
+            algorithm: digest,
+            keys: &keys[..count],
+            salts: &salts[made..end],
             iterations,
-            &salts[made..end],
             len,
-            made,
-            receiver,
-            meter,
-        );
+        };
+        derive_under::<VECTOR_BITS, R>(&derivation, made, receiver, meter);
         made = end;
     }
 }

@@ -5,7 +5,7 @@ use Rattle.std.proofs.Common.{length, refl, take, true}
 use Rattle.std.proofs.lemmas.Grind.{common_steps}
 use Rattle.std.specs.Borrow.{Bor}
 use Rattle.ring.specs.Prelude.{Algorithm, CanDerive, CanDeriveEach, CanDeriveUnder, CanVerify}
-use Rattle.ring.specs.Prelude.{AreKeysOf, IsDerived, Key, KeyStandsFor, Output}
+use Rattle.ring.specs.Prelude.{AreKeysOf, Derivation, IsDerived, Key, KeyStandsFor, Output}
 use Rattle.ring.specs.Prelude.{derive_blocks_at, dk, key_algorithm, sum_below}
 use Rattle.ring.proofs.Each.{message_at-part}
 use Rattle.ring.proofs.lemmas.pbkdf2.Places.{items_from}
@@ -16,11 +16,11 @@ use Rattle.ring.proofs.Sums.{sum_below-append, sum_below-same}
 abbrev pub no_output : Output
 no_output = record { 0 = [] }
 
--- n bytes can be derived under a key that is alone
-pub can_derive-alone : {a : Algorithm} {key : Key} {secret_len n : ℕ} {salt : Bor (List ℕ)}
-    → CanDerive a secret_len (length salt.now) n → key_algorithm key ≡ a
-    → CanDeriveUnder a (key ∷ []) (salt ∷ []) n
-can_derive-alone {a} {n = n} {salt = salt} can same =
+-- a key can be derived that is alone
+pub can_derive-alone : {d : Derivation} {key : Key} {secret_len : ℕ} {salt : Bor (List ℕ)}
+    → d.keys.now ≡ key ∷ [] → d.salts.now ≡ salt ∷ [] → key_algorithm key ≡ d.algorithm
+    → CanDerive d.algorithm secret_len (length salt.now) d.len → CanDeriveUnder d
+can_derive-alone {d} {salt = salt} key_alone salt_alone same can =
     grind (arith, common_steps, can.salt)
 
 -- and that key
@@ -57,9 +57,9 @@ can_derive-part salts secrets i k can fits =
     }
 
 -- and under keys of all secrets
-pub can_derive-under : {a : Algorithm} {m n : ℕ} {salts secrets : List (Bor (List ℕ))}
-    {keys : List Key} {p : ℕ → List ℕ} → CanDeriveEach a salts secrets m n → 0 < m
-    → length keys ≡ m → AreKeysOf a keys p → CanDeriveUnder a keys salts n
+pub can_derive-under : {d : Derivation} {m : ℕ} {secrets : List (Bor (List ℕ))} {p : ℕ → List ℕ}
+    → CanDeriveEach d.algorithm d.salts.now secrets m d.len → 0 < m → length d.keys.now ≡ m
+    → AreKeysOf d.algorithm d.keys.now p → CanDeriveUnder d
 can_derive-under can some count are =
     grind (arith, common_steps, can.each, are.each)
 

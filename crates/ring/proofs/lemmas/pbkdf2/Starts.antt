@@ -5,11 +5,11 @@ use Rattle.std.proofs.Common.{◌≡◌, ℕ, ◌+◌, ◌*◌, ◌<◌, ◌≤�
 use Rattle.std.proofs.Common.{get_or, inl, inr, length, refl, rules, set, take}
 use Rattle.std.proofs.lemmas.Bool.{cases_eq}
 use Rattle.std.proofs.lemmas.List.{get_or-set_other, get_or-set_same, get_or-take, length-take-le}
-use Rattle.std.specs.Borrow.{Bor}
-use Rattle.ring.specs.Prelude.{Algorithm, AreKeysOf, AreRounds, AreStarts, DynState, IsKeyInLane}
-use Rattle.ring.specs.Prelude.{IsTagWithin, IsStart, Key, KeyStandsFor, Round, Tag, bytes_at}
-use Rattle.ring.specs.Prelude.{digest_bytes, key_algorithm, output_len, pbkdf2_t}
-use Rattle.ring.specs.Prelude.{pbkdf2_u, round_at, round_on, state_word_len, tag_algorithm}
+use Rattle.std.specs.Int.NonZero.{non_zero_u32_get}
+use Rattle.ring.specs.Prelude.{Algorithm, AreKeysOf, AreRounds, AreStarts, Derivation, DynState}
+use Rattle.ring.specs.Prelude.{IsKeyInLane, IsStart, IsTagWithin, Key, KeyStandsFor, Round, Tag}
+use Rattle.ring.specs.Prelude.{bytes_at, digest_bytes, key_algorithm, nth_round, output_len}
+use Rattle.ring.specs.Prelude.{pbkdf2_t, pbkdf2_u, round_at, state_word_len, tag_algorithm}
 use Rattle.ring.specs.Prelude.{tag_bytes, word_bytes, word_len, words}
 use Rattle.ring.proofs.Each.{message-read}
 use Rattle.ring.proofs.Lanes.{digest_read, key_in_lane}
@@ -27,15 +27,16 @@ in_lanes {m = m} xs eight most below =
     omega (arith, below, length-take-le m xs (omega (arith, eight, most)))
 
 -- the key of a round and its salt, as they are read
-pub read-within : {a : Algorithm} {keys : List Key} {salts : List (Bor (List ℕ))} {n m i : ℕ}
-    {r q : Round} {key : Key} → AreRounds a keys salts n r m → i < m → q ≡ round_on a n r i
-    → key ≡ get_or keys q.place key → (q.place < length keys) × ((key_algorithm key ≡ a)
-    × IsTagWithin (key_algorithm key) (length (read_at salts q.place) + 4))
-read-within {salts = salts} {n} {q = q} {key = key} rounds below here is =
+pub read-within : {d : Derivation} {m i : ℕ} {r q : Round} {key : Key} → AreRounds d r m → i < m
+    → q ≡ nth_round d r i → key ≡ get_or d.keys.now q.place key
+    → (q.place < length d.keys.now) × ((key_algorithm key ≡ d.algorithm)
+    × IsTagWithin (key_algorithm key) (length (read_at d.salts.now q.place) + 4))
+read-within {d} {q = q} {key} rounds below here is =
     let place = rw (← here) at (rounds.places.each _ below) in
     let same = ap key_algorithm is ∙ rounds.under.algorithm q.place key place in
-    let some : 0 < n = omega (arith, rounds.first.within) in
-    let within = rw (message-read salts q.place) at (rounds.under.within q.place some place) in
+    let some : 0 < d.len = omega (arith, rounds.first.within) in
+    let within = rw (message-read d.salts.now q.place) at
+    (rounds.under.within q.place some place) in
     (place, (same, rw same within))
 
 -- what a round starts from, with the words that were read of its first iterate's bytes
@@ -60,14 +61,14 @@ start-made a key salt index tag bytes {first} of same made read size written =
     })
 
 -- the rounds of keys, and the three lists of states
-module _ {a : Algorithm} {keys : List Key} {salts : List (Bor (List ℕ))} {n : ℕ} {r : Round} where
+module _ {d : Derivation} {r : Round} where
   -- the states of one round more
   pub starts-next : (inner outer first : List DynState) (i : ℕ) {x y z : DynState}
       → (i < length inner) × ((i < length outer) × (i < length first))
-      → AreStarts a keys salts n r inner outer first i
-      → ((key : Key) → IsStart a (get_or keys (round_on a n r i).place key)
-      (bytes_at salts (round_on a n r i).place) (round_on a n r i).index x y z)
-      → AreStarts a keys salts n r (set inner i x) (set outer i y) (set first i z) (i + 1)
+      → AreStarts d r inner outer first i
+      → ((key : Key) → IsStart d.algorithm (get_or d.keys.now (nth_round d r i).place key)
+      (bytes_at d.salts.now (nth_round d r i).place) (nth_round d r i).index x y z)
+      → AreStarts d r (set inner i x) (set outer i y) (set first i z) (i + 1)
   starts-next inner outer first i {x} {y} {z} room starts here =
       record {
         each = λ k below key s t u. elim (cases_eq k i) [
@@ -78,10 +79,10 @@ module _ {a : Algorithm} {keys : List Key} {salts : List (Bor (List ℕ))} {n : 
       }
 
   module _ {inner outer first : List DynState} {m : ℕ}
-      (starts : AreStarts a keys salts n r inner outer first m) (i : ℕ) where
+      (starts : AreStarts d r inner outer first m) (i : ℕ) where
     pub start-at : (key : Key) (s t u : DynState) → i < m
-        → IsStart a (get_or keys (round_on a n r i).place key)
-        (bytes_at salts (round_on a n r i).place) (round_on a n r i).index
+        → IsStart d.algorithm (get_or d.keys.now (nth_round d r i).place key)
+        (bytes_at d.salts.now (nth_round d r i).place) (nth_round d r i).index
         (get_or (take m inner) i s) (get_or (take m outer) i t) (get_or (take m first) i u)
     start-at key s t u below =
         rw (
@@ -91,28 +92,31 @@ module _ {a : Algorithm} {keys : List Key} {salts : List (Bor (List ℕ))} {n : 
         ) (starts.each i below key s t u)
 
     -- they have words of the algorithm's length
-    pub sized-at : {k : ℕ} → AreRounds a keys salts n r k → 0 < k → (s : DynState) → i < m
-        → (state_word_len (get_or (take m inner) i s) ≡ word_len a)
-        × ((state_word_len (get_or (take m outer) i s) ≡ word_len a)
-        × (state_word_len (get_or (take m first) i s) ≡ word_len a))
+    pub sized-at : {k : ℕ} → AreRounds d r k → 0 < k → (s : DynState) → i < m
+        → (state_word_len (get_or (take m inner) i s) ≡ word_len d.algorithm)
+        × ((state_word_len (get_or (take m outer) i s) ≡ word_len d.algorithm)
+        × (state_word_len (get_or (take m first) i s) ≡ word_len d.algorithm))
     sized-at rounds some s below =
-        let key = some-item keys (omega (arith, rounds.places.each 0 some)) in
+        let key = some-item d.keys.now (omega (arith, rounds.places.each 0 some)) in
         let start = start-at key s s s below in (
           search (rules, start.inner_sized),
           (search (rules, start.outer_sized), search (rules, start.first_sized)),
         )
 
 -- a lane's words there, summed, begin with the round
-pub lane-round : {a : Algorithm} {keys : List Key} {p : ℕ → List ℕ} {s t u : DynState}
-    {inner outer first : List ℕ} (salts : List (Bor (List ℕ))) (c : ℕ) (r : Round)
-    (sums bytes : List ℕ) → AreKeysOf a keys p → r.place < length keys
-    → ((key : Key) → IsStart a (get_or keys r.place key) (bytes_at salts r.place) r.index s t u)
+pub lane-round : (d : Derivation) {p : ℕ → List ℕ} {s t u : DynState} {inner outer first : List ℕ}
+    (r : Round) (sums bytes : List ℕ) → AreKeysOf d.algorithm d.keys.now p
+    → r.place < length d.keys.now
+    → ((key : Key) → IsStart d.algorithm (get_or d.keys.now r.place key)
+    (bytes_at d.salts.now r.place) r.index s t u)
     → (inner ≡ words s) × ((outer ≡ words t) × (first ≡ words u))
-    → ((p salt : List ℕ) (i : ℕ) → IsKeyInLane a inner outer p
-    → digest_bytes a first ≡ pbkdf2_u a p salt i 1 → digest_bytes a sums ≡ pbkdf2_t a p salt i c)
-    → take (output_len a) bytes ≡ digest_bytes a sums
-    → take (output_len a) bytes ≡ round_at a p salts c r.place r.index
-lane-round {keys = keys} salts c r sums bytes are place start same summed written =
-    let key = some-item keys (omega (arith, place)) in
+    → ((p salt : List ℕ) (i : ℕ) → IsKeyInLane d.algorithm inner outer p
+    → digest_bytes d.algorithm first ≡ pbkdf2_u d.algorithm p salt i 1
+    → digest_bytes d.algorithm sums
+    ≡ pbkdf2_t d.algorithm p salt i (non_zero_u32_get d.iterations))
+    → take (output_len d.algorithm) bytes ≡ digest_bytes d.algorithm sums
+    → take (output_len d.algorithm) bytes ≡ round_at d p r.place r.index
+lane-round d r sums bytes are place start same summed written =
+    let key = some-item d.keys.now (omega (arith, place)) in
     let stands = (are.each r.place key place).stands in
     grind (arith, common_steps, (start key).key _ stands, (start key).first _ stands, summed)

@@ -11,8 +11,9 @@ derive_under-requires-clause-under g c =
     let can : CanVerify (pbkdf2_digest c.args.algorithm) (length c.args.secret.now)
     (length c.args.salt.now) (length c.args.previously_derived.now) = search rules in
     let own = rw c.hmac_algorithm-hmac_algorithm.ensures at c.in_ok-new_counted.ensures.algorithm in
-    rw (c.digest_algorithm-digest.ensures, c.hmac_algorithm-hmac_algorithm.ensures)
-    (can_derive-alone can.within own)
+    let same = c.digest_algorithm-digest.ensures ∙ c.hmac_algorithm-hmac_algorithm.ensures in
+    can_derive-alone {secret_len = length c.args.secret.now} refl refl (own ∙ sym same)
+    (rw same can.within)
 
 pub returns : goal.returns
 unfolding sum_below

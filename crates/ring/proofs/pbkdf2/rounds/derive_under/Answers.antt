@@ -1,7 +1,7 @@
 -- SPDX-License-Identifier: ISC
 use Rattle.std.proofs.Common.{◌≡◌, ◌∙◌, ◌+◌, ◌-◌, ℕ, arith, length, length-take, sym}
 use Rattle.std.specs.Int.NonZero.{non_zero_u32_get}
-use Rattle.ring.specs.Prelude.{Output, bytes_at, iterate_blocks, len_before, round_on}
+use Rattle.ring.specs.Prelude.{Output, blocks_at, bytes_at, len_before, nth_round}
 use Rattle.ring.proofs.Sums.{raised-sum, raised_zero}
 use Rattle.ring.proofs.lemmas.pbkdf2.Rounds.{blocks-first, blocks_before, derived-none}
 use Rattle.ring.proofs.lemmas.pbkdf2.Rounds.{fewer_rounds, is_round-first, is_round-on, len-most}
@@ -10,19 +10,21 @@ use Rattle.ring.proofs.lemmas.pbkdf2.Rounds.{taken-derived, taken-first, up_to-f
 use Rattle.ring.proofs.lemmas.pbkdf2.Taking.{keeps-more, places-kept}
 use Rattle.ring.proofs.pbkdf2.rounds.derive_under.Goals as goal
 
-pub returns-then-len-eq0-clause-ok : goal.returns-then-len-eq0-clause-ok
-returns-then-len-eq0-clause-ok g c = λ p are.
-    rw c.if-len-eq0.true (derived-none c.args.algorithm p (bytes_at c.args.salts.now)
-    (non_zero_u32_get c.args.iterations))
+pub returns-then-derivation-eq0-clause-ok : goal.returns-then-derivation-eq0-clause-ok
+returns-then-derivation-eq0-clause-ok g c = λ p are.
+    let d = c.args.derivation.now in
+    rw c.if-derivation-eq0.true (derived-none d.algorithm p (bytes_at d.salts.now)
+    (non_zero_u32_get d.iterations))
 
-pub returns-then-len-eq0-clause-cost : goal.returns-then-len-eq0-clause-cost
-returns-then-len-eq0-clause-cost g c =
-    rw c.if-len-eq0.true (sym (raised_zero _ _ _ (no_rounds c.args.algorithm _) (grind arith)))
+pub returns-then-derivation-eq0-clause-cost : goal.returns-then-derivation-eq0-clause-cost
+returns-then-derivation-eq0-clause-cost g c =
+    rw c.if-derivation-eq0.true
+    (sym (raised_zero _ _ _ (no_rounds c.args.derivation.now.algorithm _) (grind arith)))
 
 pub rounds-init : goal.rounds-init
 rounds-init g c =
     record {
-      round = is_round-first (omega (arith, c.if-len-eq0.false));
+      round = is_round-first (omega (arith, c.if-derivation-eq0.false));
       up_to = up_to-first _;
       same = grind arith;
       taken = λ p are. taken-first _ _ _;
@@ -43,26 +45,25 @@ hand_over-round-requires-clause-room g c = λ i below.
     let place = c.rounds_from-left.ensures.places.each i
     (omega (arith, below, length-take {A = Output})) in
     places-kept c.rounds.invariant.same
-    {k = c.args.first + (round_on c.args.algorithm c.args.len c.rounds.round i).place + 1}
+    {k = c.args.first + (nth_round c.args.derivation.now c.rounds.round i).place + 1}
     c.requires.room (omega (arith, place)) (omega arith)
 
 pub rounds-preserved : goal.rounds-preserved
 rounds-preserved g c =
-    let a = c.args.algorithm in
-    let len = c.args.len in
-    let salts = c.args.salts.now in
-    let iterations = non_zero_u32_get c.args.iterations in
+    let d = c.args.derivation.now in
+    let a = d.algorithm in
+    let len = d.len in
     let h = c.rounds.invariant in
     let handed = c.hand_over-round.ensures in
     let t = c.lanes_for-lanes.result in
     let size : length c.write_rounds.new.outputs ≡ t = omega (arith, length-take {A = Output}) in
     let next = rw size at handed.next in
-    let keys = length c.args.keys.now in
+    let keys = length d.keys.now in
     let places = fewer_rounds t c.rounds_from-left.ensures.places (omega arith) in
-    let blocks : ℕ → ℕ = λ j. iterate_blocks a (length (bytes_at salts j)) iterations in
+    let blocks = blocks_at d in
     let had = len_before len c.rounds.round in
     let has = len_before len c.hand_over-round.result in
-    let reached : ℕ = blocks_before a blocks len (round_on a len c.rounds.round t) in
+    let reached : ℕ = blocks_before a blocks len (nth_round d c.rounds.round t) in
     record {
       round = rw next (is_round-on h.round t);
       up_to = rw next (up_to-on h.round h.up_to t places);
@@ -81,12 +82,13 @@ rounds-smaller g c =
     let t = c.lanes_for-lanes.result in
     let size : length c.write_rounds.new.outputs ≡ t = omega (arith, length-take {A = Output}) in
     let next = rw size at c.hand_over-round.ensures.next in
-    let place = rw (round_on-none c.args.algorithm c.args.len c.rounds.round) at
+    let d = c.args.derivation.now in
+    let place = rw (round_on-none d.algorithm d.len c.rounds.round) at
     (c.rounds_from-left.ensures.places.each 0 c.rounds_from-left.ensures.some) in
     rw next (omega (arith, len-on h.round t, len-most h.round place))
 
 pub returns-clause-ok : goal.returns-clause-ok
 returns-clause-ok g c = λ p are.
     let h = c.rounds.invariant in
-    taken-derived _ _ p (bytes_at c.args.salts.now) _ _ {y = c.rounds.receiver}
+    taken-derived _ _ p (bytes_at c.args.derivation.now.salts.now) _ _ {y = c.rounds.receiver}
     (omega (arith, h.up_to.place)) (h.taken p are)

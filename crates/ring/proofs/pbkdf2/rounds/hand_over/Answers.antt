@@ -33,8 +33,9 @@ take-requires g c =
 
 pub rounds-preserved : goal.rounds-preserved
 rounds-preserved g c =
-    let a = c.args.algorithm in
-    let len = c.args.len in
+    let d = c.args.derivation.now in
+    let a = d.algorithm in
+    let len = d.len in
     let h = c.rounds.invariant in
     let i = c.rounds.i in
     let output = get_or c.args.outputs.now i no_output in

@@ -1,5 +1,5 @@
 -- SPDX-License-Identifier: ISC
-use Rattle.std.proofs.Common.{◌≡◌, ◌∙◌, arith, get_or, rules, sym}
+use Rattle.std.proofs.Common.{◌≡◌, arith, get_or, rules, sym}
 use Rattle.std.proofs.lemmas.Grind.{common_steps}
 use Rattle.std.proofs.Math.ListN.{length-set}
 use Rattle.std.proofs.lemmas.List.{get_or_default}
@@ -12,8 +12,9 @@ use Rattle.ring.proofs.pbkdf2.rounds.set_starts.Goals as goal
 
 pub starts-init : goal.starts-init
 starts-init c =
+    let d = c.args.derivation.now in
     record {
-      here = sym (round_on-none c.args.algorithm c.args.len c.args.first);
+      here = sym (round_on-none d.algorithm d.len c.args.first);
       round = c.requires.rounds.first;
       starts = record { each = λ k below key s t u. absurd (omega (arith, below)) };
       lengths = search rules;
@@ -22,29 +23,30 @@ starts-init c =
 
 pub first_iterate-tag-requires : goal.first_iterate-tag-requires
 first_iterate-tag-requires c = record {
-  within = (read-within c.requires.rounds c.starts-test.true c.starts.invariant.here
-      c.index-keys-round.is).1.1;
+  within = rw c.index-derivation-round.is at (read-within c.requires.rounds c.starts-test.true
+      c.starts.invariant.here c.index-derivation-round.is).1.1;
 }
 
 pub starts-preserved : goal.starts-preserved
 starts-preserved c =
-    let a = c.args.algorithm in
-    let keys = c.args.keys.now in
-    let salts = c.args.salts.now in
+    let d = c.args.derivation.now in
+    let a = d.algorithm in
+    let keys = d.keys.now in
+    let salts = d.salts.now in
     let h = c.starts.invariant in
     let i = c.starts.i in
     let q = c.starts.round in
-    let read = read-within c.requires.rounds c.starts-test.true h.here c.index-keys-round.is in
-    let found = c.index-keys-round.result in
+    let read = read-within c.requires.rounds c.starts-test.true h.here c.index-derivation-round.is in
+    let found = get_or keys q.place c.index-derivation-round.result in
     let is : (key : Key) → found ≡ get_or keys q.place key =
-    λ key. c.index-keys-round.is ∙ get_or_default keys q.place found key read.0 in
-    let same = read.1.0 in
+    λ key. get_or_default keys q.place _ key read.0 in
+    let same = rw c.index-derivation-round.is at read.1.0 in
     let tag = c.first_iterate-tag.ensures in
     let made = start-made a found _ q.index c.first_iterate-tag.result c.bytes_of.result same
     tag.algorithm tag.ok c.bytes_of.ensures c.with_bytes.ensures.sized c.with_bytes.ensures.bytes in
     let starts = c.starts.starts in
     record {
-      here = grind (arith, common_steps, h.here, round_on-next a c.args.len c.args.first i);
+      here = grind (arith, common_steps, h.here, round_on-next a d.len c.args.first i);
       round = rw c.round_after-round.ensures (is_round-next h.round);
       starts = starts-next starts.inner starts.outer starts.first i
           (omega arith, (omega arith, omega arith)) h.starts

@@ -2,7 +2,7 @@
 use Rattle.std.proofs.Common.{◌<◌, ◌≤◌, ◌-◌, ◌*◌, ◌∙◌, ap, arith, length, refl, sym}
 use Rattle.std.proofs.Math.ListN.{length-set}
 use Rattle.std.specs.Int.NonZero.{non_zero_u32_get}
-use Rattle.ring.specs.Prelude.{digest_bytes, first_blocks, round_on, words}
+use Rattle.ring.specs.Prelude.{digest_bytes, first_blocks, nth_round, sum_below, words}
 use Rattle.ring.proofs.Lanes.{digest_written}
 use Rattle.ring.proofs.lemmas.pbkdf2.Iterates.{length-pbkdf2_t}
 use Rattle.ring.proofs.lemmas.pbkdf2.Places.{places-next}
@@ -30,7 +30,8 @@ new-first-requires-clause-sized g c = λ i s below.
 
 pub outputs-preserved : goal.outputs-preserved
 outputs-preserved g c =
-    let a = c.args.algorithm in
+    let d = c.args.derivation.now in
+    let a = d.algorithm in
     let i = c.outputs.i in
     let state = c.state.result in
     let output = c.format_output in
@@ -44,7 +45,7 @@ outputs-preserved g c =
     let sums = rw c.requires.same at (c.xor_iterates-sums.ensures.ok i) in
     record {
       written = λ p are. places-next _ i (c.outputs.invariant.written p are) (omega arith)
-          (lane-round c.args.salts.now _ (round_on a c.args.len c.args.first i) _ _ are
+          (lane-round d (nth_round d c.args.first i) _ _ are
           (c.requires.rounds.places.each i lane)
           (λ key. start-at c.set_starts.ensures.starts i key state state state below) (
             c.new-inner.ensures i state (in_lanes _ lengths.0 most below),
@@ -67,8 +68,10 @@ returns-clause-ok g c = λ p are.
 
 pub returns-clause-cost : goal.returns-clause-cost
 returns-clause-cost g c =
-    let a = c.args.algorithm in
-    raised-sum _ _ _ _ _ (rw c.requires.lanes at c.set_starts.ensures.cost)
-    c.xor_iterates-sums.ensures.cost
-    (sum_below-more (λ i. first_blocks a c.args.salts.now (round_on a c.args.len c.args.first i))
-    (2 * (non_zero_u32_get c.args.iterations - 1)) g.H.LaneStates.LANES) refl
+    let d = c.args.derivation.now in
+    let lanes = g.H.LaneStates.LANES in
+    let later = 2 * (non_zero_u32_get d.iterations - 1) in
+    let firsts = first_blocks d c.args.first in
+    raised-sum c.args.meter.now (sum_below firsts lanes) 0 (lanes * later) 0
+    (rw c.requires.lanes at c.set_starts.ensures.cost) c.xor_iterates-sums.ensures.cost
+    (sum_below-more firsts later lanes) refl

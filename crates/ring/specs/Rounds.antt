@@ -56,7 +56,7 @@ bytes_before a n f r i = front (output_len a) n (f i) (rounds_before a n r i)
 abbrev pub len_before : ℕ → Round → ℕ
 len_before n r = r.place * n + r.from
 
--- the keys can be derived: HMAC's keys are of the algorithm, and each has a salt within the limit
+-- it can be run: HMAC's keys are of its algorithm, each has a salt, and lengths are within limits
 pub record CanDeriveUnder (d : Derivation) : Type 0 where
   pub algorithm : All (λ key. key_algorithm key ≡ d.algorithm) d.keys.now
   pub count : length d.salts.now ≡ length d.keys.now
@@ -84,7 +84,7 @@ pub record IsStart (a : Algorithm) (k : Key) (salt : List ℕ) (index : ℕ) (s 
   pub first : (p : List ℕ) → KeyStandsFor k p
       → digest_bytes a (words u) ≡ pbkdf2_u a p salt index 1
 
--- the k-th round after r
+-- the k-th round after r, of a derivation's keys
 abbrev pub nth_round : Derivation → Round → ℕ → Round
 nth_round d r k = round_on d.algorithm d.len r k
 

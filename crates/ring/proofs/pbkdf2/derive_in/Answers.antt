@@ -14,7 +14,8 @@ derive_under-requires-clause-under g c =
     (length c.args.salt.now) (length c.args.out.now) = search rules in
     let own = rw c.hmac_algorithm-hmac_algorithm.ensures at c.in_ok-new_counted.ensures.algorithm in
     let same = c.digest_algorithm-digest.ensures ∙ c.hmac_algorithm-hmac_algorithm.ensures in
-    can_derive-alone {secret_len = length c.args.secret.now} refl refl (own ∙ sym same) (rw same can)
+    can_derive-alone {secret_len = length c.args.secret.now} refl refl (own ∙ sym same)
+    (rw same can)
 
 pub returns : goal.returns
 unfolding sum_below

@@ -22,10 +22,10 @@ starts-init c =
     }
 
 pub first_iterate-tag-requires : goal.first_iterate-tag-requires
-first_iterate-tag-requires c = record {
-  within = rw c.index-derivation-round.is at (read-within c.requires.rounds c.starts-test.true
-      c.starts.invariant.here c.index-derivation-round.is).1.1;
-}
+first_iterate-tag-requires c =
+    let found = c.index-derivation-round in
+    let read = read-within c.requires.rounds c.starts-test.true c.starts.invariant.here found.is in
+    record { within = rw found.is at read.1.1 }
 
 pub starts-preserved : goal.starts-preserved
 starts-preserved c =
@@ -36,13 +36,14 @@ starts-preserved c =
     let h = c.starts.invariant in
     let i = c.starts.i in
     let q = c.starts.round in
-    let read = read-within c.requires.rounds c.starts-test.true h.here c.index-derivation-round.is in
-    let found = get_or keys q.place c.index-derivation-round.result in
-    let is : (key : Key) → found ≡ get_or keys q.place key =
-    λ key. get_or_default keys q.place _ key read.0 in
-    let same = rw c.index-derivation-round.is at read.1.0 in
+    let found = c.index-derivation-round in
+    let read = read-within c.requires.rounds c.starts-test.true h.here found.is in
+    let key = get_or keys q.place found.result in
+    let is : (other : Key) → key ≡ get_or keys q.place other =
+    λ other. get_or_default keys q.place _ other read.0 in
+    let same = rw found.is at read.1.0 in
     let tag = c.first_iterate-tag.ensures in
-    let made = start-made a found _ q.index c.first_iterate-tag.result c.bytes_of.result same
+    let made = start-made a key _ q.index c.first_iterate-tag.result c.bytes_of.result same
     tag.algorithm tag.ok c.bytes_of.ensures c.with_bytes.ensures.sized c.with_bytes.ensures.bytes in
     let starts = c.starts.starts in
     record {
@@ -50,7 +51,7 @@ starts-preserved c =
       round = rw c.round_after-round.ensures (is_round-next h.round);
       starts = starts-next starts.inner starts.outer starts.first i
           (omega arith, (omega arith, omega arith)) h.starts
-          (λ key. rw (← h.here, ← is key, message-read salts q.place) made);
+          (λ other. rw (← h.here, ← is other, message-read salts q.place) made);
       lengths = simp length-set h.lengths;
       cost = risen-next h.cost (rw (← h.here, message-read salts q.place) (rw same at tag.cost));
     }

@@ -351,6 +351,7 @@ fn fills_a_row(rt: HostRuntime) {
     let mut row = [0xff; MAX_TEXT_LEN];
     let refused = fill_row(b"password", b"salt$", iterations, &mut row);
     assert!(rt; refused == Err(NewError::BadSalt) && row == [0xff; MAX_TEXT_LEN]);
-    let len = fill_row(b"password", b"saltsalt", iterations, &mut row).unwrap();
-    assert!(rt; row[..len] == expected[..] && row[len] == 0xff);
+    let filled = fill_row(b"password", b"saltsalt", iterations, &mut row);
+    assert!(rt; filled == Ok(expected.len()));
+    assert!(rt; row.starts_with(expected) && row[expected.len()] == 0xff);
 }

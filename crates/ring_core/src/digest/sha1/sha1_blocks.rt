@@ -28,7 +28,7 @@ fn rotate_four(words: u32x4, count: u32) -> u32x4
 
 // The four words after sixteen. The last of them needs the first, which is put in afterwards.
 #[inline(always)]
-pub(crate) fn next_four(first: u32x4, second: u32x4, third: u32x4, fourth: u32x4) -> u32x4
+fn next_four(first: u32x4, second: u32x4, third: u32x4, fourth: u32x4) -> u32x4
     ensures { result ≡ next_four first second third fourth }
 {
     let zero = u32x4::splat(0);
@@ -41,7 +41,7 @@ pub(crate) fn next_four(first: u32x4, second: u32x4, third: u32x4, fourth: u32x4
 // The four words after thirty-two, each from those 6, 16, 28 and 32 before it, so that none of the
 // four needs another.
 #[inline(always)]
-pub(crate) fn later_four(
+fn later_four(
     first: u32x4,
     second: u32x4,
     fifth: u32x4,
@@ -56,7 +56,7 @@ pub(crate) fn later_four(
 
 // Replaces the oldest four sums by those of words `t` to `t + 3`.
 #[inline(always)]
-pub(crate) fn put_sums(sums: &mut [u32x4; 4], words: u32x4, t: usize)
+fn put_sums(sums: &mut [u32x4; 4], words: u32x4, t: usize)
     requires { t + 4 ≤ 80 }
     ensures { (b : List ℕ) (g : ℕ) → t ≡ 4 * g → words ≡ four (W b) g
         → HoldsSums (ready_sum b) (map (map low_32) sums.old) g
@@ -73,7 +73,7 @@ pub(crate) fn put_sums(sums: &mut [u32x4; 4], words: u32x4, t: usize)
 
 // The words of a block, and their sums.
 #[inline(always)]
-pub(crate) fn load(sums: &mut [u32x4; 4], block: &[u8]) -> [u32x4; 4]
+fn load(sums: &mut [u32x4; 4], block: &[u8]) -> [u32x4; 4]
     requires { length block.now ≡ 64 }
     ensures schedule { IsReady (W block.now) (ready_sum block.now) result
         (map (map low_32) sums.new) 0 }

@@ -46,7 +46,7 @@ pub(crate) trait ExtendSchedule: Slots {
 
 // Fills the slots of words `t` and `t + 1`.
 #[inline(always)]
-pub(crate) fn extend<S: ExtendSchedule>(window: &mut [S::Slot; 16], t: usize)
+fn extend<S: ExtendSchedule>(window: &mut [S::Slot; 16], t: usize)
     requires from { 16 ≤ t }
     requires below { t + 2 ≤ 80 }
     ensures { (i : ℕ) (b : List ℕ) → IsWindow (W b) (map (S.slot_lane i) window.old) t

@@ -42,7 +42,7 @@ pub(crate) trait ExtendByFour: FourWords {
 // Replaces the oldest four sums by those of words `16 * turn + 4 * place` and the next three. They
 // are stored as one vector: of four stores the compiler forwards each to its round.
 #[inline(always)]
-pub(crate) fn put_sums<S: FourWords>(
+fn put_sums<S: FourWords>(
     sums: &mut [S::Four; 4],
     words: S::Four,
     turn: usize,
@@ -67,7 +67,7 @@ pub(crate) fn put_sums<S: FourWords>(
 
 // The words of a block, and their sums.
 #[inline(always)]
-pub(crate) fn load<S: FourWords>(sums: &mut [S::Four; 4], block: &[u8]) -> [S::Four; 4]
+fn load<S: FourWords>(sums: &mut [S::Four; 4], block: &[u8]) -> [S::Four; 4]
     requires whole { length block.now ≡ 16 * (S.One.bits / 8) }
     requires rounds { 16 ≤ S.One.family.rounds }
     ensures { let f = S.One.family in

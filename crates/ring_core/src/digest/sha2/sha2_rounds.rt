@@ -36,7 +36,7 @@ pub(crate) trait ExtendSchedule: Slots {
 
 // Replaces the words in slot `place` and the next by those sixteen later.
 #[inline(always)]
-pub(crate) fn extend<S: ExtendSchedule>(window: &mut [S::Slot; 16], place: usize)
+fn extend<S: ExtendSchedule>(window: &mut [S::Slot; 16], place: usize)
     requires { place + 2 ≤ 16 }
     ensures { (i : ℕ) (b : List ℕ) (t : ℕ) → 16 ≤ t → place ≡ t % 16
         → IsWindow (W S.One.family b) (map (S.slot_lane i) window.old) t

@@ -9,8 +9,7 @@ ghost use Rattle.ring.specs.Cost.{last_blocks, padded_blocks, whole_blocks};
 ghost use Rattle.ring.specs.Digest.{IsDigest, bytes_of, digest_after, digest_algorithm};
 
 use crate::digest::algorithm::{Algorithm, MAX_BLOCK_LEN};
-use crate::digest::block_context::BlockContext;
-use crate::digest::block_context::Digest;
+use crate::digest::block_context::{BlockContext, Digest};
 use ring_core::cost::Meter;
 use ring_core::error::Unspecified;
 

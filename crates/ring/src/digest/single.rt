@@ -5,8 +5,7 @@ ghost use Rattle.std.specs.Prelude.{◌≡◌, ◌↔◌, length, ◌<◌, IfOk,
 ghost use Rattle.ring.specs.Prelude.{IsDigest, max_input_len, padded_blocks, raised};
 
 use crate::digest::algorithm::{Algorithm, is_message_within};
-use crate::digest::block_context::BlockContext;
-use crate::digest::block_context::Digest;
+use crate::digest::block_context::{BlockContext, Digest};
 use ring_core::cost::Meter;
 use ring_core::error::Unspecified;
 

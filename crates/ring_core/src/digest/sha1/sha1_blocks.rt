@@ -41,13 +41,7 @@ fn next_four(first: u32x4, second: u32x4, third: u32x4, fourth: u32x4) -> u32x4
 // The four words after thirty-two, each from those 6, 16, 28 and 32 before it, so that none of the
 // four needs another.
 #[inline(always)]
-fn later_four(
-    first: u32x4,
-    second: u32x4,
-    fifth: u32x4,
-    seventh: u32x4,
-    eighth: u32x4,
-) -> u32x4
+fn later_four(first: u32x4, second: u32x4, fifth: u32x4, seventh: u32x4, eighth: u32x4) -> u32x4
     ensures { result ≡ later_four first second fifth seventh eighth }
 {
     let six = seventh.shuffle(eighth, [2, 3, 4, 5]);

@@ -42,12 +42,7 @@ pub(crate) trait ExtendByFour: FourWords {
 // Replaces the oldest four sums by those of words `16 * turn + 4 * place` and the next three. They
 // are stored as one vector: of four stores the compiler forwards each to its round.
 #[inline(always)]
-fn put_sums<S: FourWords>(
-    sums: &mut [S::Four; 4],
-    words: S::Four,
-    turn: usize,
-    place: usize,
-)
+fn put_sums<S: FourWords>(sums: &mut [S::Four; 4], words: S::Four, turn: usize, place: usize)
     requires place { place < 4 }
     requires turn { 16 * turn + 16 ≤ S.One.family.rounds }
     ensures { (b : List ℕ) (g : ℕ) → g ≡ 4 * turn + place

@@ -97,7 +97,6 @@ pub(crate) mod each;
 pub(crate) mod lanes;
 pub(crate) mod padding;
 mod partway;
-mod single;
 pub(crate) mod updates;
 
 pub use crate::digest::algorithm::{
@@ -106,10 +105,9 @@ pub use crate::digest::algorithm::{
     SHA512_256_OUTPUT_LEN, SHA512_OUTPUT_LEN, constants_are_their_rows,
 };
 pub use crate::digest::block_context::Digest;
-pub use crate::digest::context::Context;
+pub use crate::digest::context::{Context, digest, digest_counted};
 pub use crate::digest::dynstate::Output;
 pub use crate::digest::each::{digest_each, digest_each_counted, digest_each_in};
 pub use crate::digest::padding::padding_is_shortest;
-pub use crate::digest::single::{digest, digest_counted};
 pub use crate::digest::updates::{update_each, update_each_counted, update_each_in};
 pub use ring_core::digest::{sha1, sha2, states, word};

@@ -1,5 +1,5 @@
 // SPDX-License-Identifier: ISC
-//! The digest of a message that arrives in pieces.
+//! The digest of a message that arrives in pieces, and that of one which is there at once.
 
 ghost use Rattle.std.specs.Prelude.{◌≡◌, ◌↔◌, ℕ, ◌+◌, ◌-◌, ◌%◌, ◌<◌, ◌≤◌, List, [], ◌++◌, length};
 ghost use Rattle.std.specs.Prelude.{IfOk, IsErr, OnOk, OnErr};
@@ -8,7 +8,7 @@ ghost use Rattle.ring.specs.Algorithm.{block_len, max_input_len};
 ghost use Rattle.ring.specs.Cost.{last_blocks, padded_blocks, whole_blocks};
 ghost use Rattle.ring.specs.Digest.{IsDigest, bytes_of, digest_after, digest_algorithm};
 
-use crate::digest::algorithm::{Algorithm, MAX_BLOCK_LEN};
+use crate::digest::algorithm::{Algorithm, MAX_BLOCK_LEN, is_message_within};
 use crate::digest::block_context::{BlockContext, Digest};
 use ring_core::cost::Meter;
 use ring_core::error::Unspecified;
@@ -187,4 +187,36 @@ impl Context {
     {
         self.finish_counted(&mut Meter::new())
     }
+}
+
+/// Computes the digest of `message` as [`digest`] does, and counts its blocks on `meter`. A refusal
+/// leaves `meter` as it was.
+pub fn digest_counted(
+    algorithm: &Algorithm,
+    message: &[u8],
+    meter: &mut Meter,
+) -> Result<Digest, Unspecified>
+    ensures ok { IfOk result (λ digest. IsDigest digest algorithm.now message.now) }
+    ensures refused { IsErr result ↔ (max_input_len algorithm.now < length message.now) }
+    ensures unchanged { OnErr result (meter.new ≡ meter.old) }
+    ensures cost { OnOk result (meter.new
+        ≡ raised meter.old (padded_blocks algorithm.now (length message.now)) 0) }
+{
+    if !is_message_within(algorithm, message.len() as u128) {
+        return Err(Unspecified);
+    }
+    // This needs no `Context`: the bytes past the whole blocks are padded straight from `message`.
+    let mut blocks = BlockContext::new(algorithm);
+    let rest = blocks.update(message, meter);
+    blocks.try_finish(rest, meter)
+}
+
+/// Returns the digest of `message` under `algorithm` (FIPS 180-4, section 6).
+///
+/// Refused where the message is longer than the algorithm's `max_input_len` bytes.
+pub fn digest(algorithm: &Algorithm, message: &[u8]) -> Result<Digest, Unspecified>
+    ensures ok { IfOk result (λ digest. IsDigest digest algorithm.now message.now) }
+    ensures refused { IsErr result ↔ (max_input_len algorithm.now < length message.now) }
+{
+    digest_counted(algorithm, message, &mut Meter::new())
 }

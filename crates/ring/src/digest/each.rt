@@ -11,11 +11,11 @@ ghost use Rattle.ring.specs.Prelude.{state_word_len, word_bytes, words, words_at
 
 use crate::digest::algorithm::{Algorithm, AlgorithmId, is_message_within};
 use crate::digest::block_context::{Digest, run_blocks};
+use crate::digest::context::digest_counted;
 use crate::digest::dynstate::{DynState, Output, StateWord, long_output, short_output};
 use crate::digest::lanes::algorithms::{RunBlocks, Sha1, Sha256, Sha512, by_lanes};
 use crate::digest::lanes::blocks::{Blocks, Padded, fewest_blocks, run_lanes};
 use crate::digest::lanes::states::{InVector, LaneStates};
-use crate::digest::single::digest_counted;
 use crate::width::{AVX2, SSE, lanes_for};
 use ring_core::cost::Meter;
 use ring_core::error::Unspecified;

@@ -3,7 +3,7 @@ use Rattle.std.proofs.Common.{length, ◌∙◌}
 use Rattle.ring.proofs.Lengths.{HasCounted, counted_end}
 use Rattle.ring.proofs.Outcomes.{on_ok_map}
 use Rattle.ring.proofs.lemmas.digest.Updating.{moved_count}
-use Rattle.ring.proofs.digest.single.digest_counted.Goals as goal
+use Rattle.ring.proofs.digest.context.digest_counted.Goals as goal
 
 pub returns-clause-cost : goal.returns-clause-cost
 returns-clause-cost c =

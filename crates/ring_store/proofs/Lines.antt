@@ -1,17 +1,17 @@
 -- SPDX-License-Identifier: ISC
 -- Lines of records, read from the front.
-use Rattle.std.proofs.Common.{◌≡◌, ◌≢◌, ℕ, ◌<◌, List, [], ◌∷◌, ◌++◌, length, All, refl, sym, ap}
-use Rattle.std.proofs.Common.{subst, ◌∙◌, arith, append_assoc, append-nil, true}
+use Rattle.std.proofs.Common.{◌≡◌, ◌≢◌, ℕ, ◌<◌, List, [], ◌∷◌, length, All, refl, sym, ap}
+use Rattle.std.proofs.Common.{subst, ◌∙◌, arith, true}
 use Rattle.std.specs.Cmp.Lexicographic.{nat_list_cmp_total}
 use Rattle.std.specs.FinMap as table
 use Rattle.std.specs.FinMap.Entries.{below_all, is_sorted}
 use Rattle.std.specs.declared.cmp.Ordering.TheVariants.{Less}
 use Rattle.std.proofs.lemmas.Bool.{and_parts}
 use Rattle.std.proofs.lemmas.List.{nil_from_length}
-use Rattle.std.proofs.lemmas.List.Elements.{All-cons, All-head, All-nil, All-tail}
+use Rattle.std.proofs.lemmas.List.Elements.{All-cons, All-head, All-nil, All-same, All-tail}
 use Rattle.ring_store.specs.Text.{AreLines, IsEntry, lines_of, record_then}
 use Rattle.ring_store.specs.declared.records.Record.{Record}
-use Rattle.ring_store.proofs.Entries.{entries-empty, entries-insert_last, lower}
+use Rattle.ring_store.proofs.Entries.{entries-filled, filled, lower}
 use Rattle.ring_store.proofs.Names.{order}
 use Rattle.ring_store.proofs.Texts.{lines_of-cons, lines_of-injective, no_line, record_then-grows}
 use Rattle.ring_store.proofs.Texts.{record_then-injective}
@@ -90,7 +90,7 @@ pub record IsReadInto (records : table.FinMap order Record) (lines rest : List �
   pub last : List ℕ
   pub all : AreLines [] lines
   pub left : AreLines last rest
-  pub whole : table.entries records ++ left.records ≡ all.records
+  pub whole : filled records left.records ≡ filled table.empty all.records
 
 pub read_none : {records : table.FinMap order Record} {lines : List ℕ} → records ≡ table.empty
     → AreLines [] lines → IsReadInto records lines lines
@@ -98,7 +98,7 @@ read_none none are = record {
   last = [];
   all = are;
   left = are;
-  whole = ap (λ es. es ++ are.records) (ap table.entries none ∙ entries-empty);
+  whole = ap (λ m. filled m are.records) none;
 }
 
 pub read_more : {records after : table.FinMap order Record} {lines rest behind : List ℕ}
@@ -106,16 +106,12 @@ pub read_more : {records after : table.FinMap order Record} {lines rest behind :
     → IsEntry e → after ≡ table.insert records e.0 e.1 → IsReadInto after lines behind
 read_more {records} read e line is put =
     let first = first_line read.left e line is in
-    let es = table.entries records in
-    let whole = ap (λ l. es ++ l) (sym first.is) ∙ read.whole in
     record {
       last = e.0;
       all = read.all;
       left = first.left;
-      whole = ap (λ l. l ++ first.left.records)
-          (entries-insert_last records e first.left.records put
-          (ap (is_sorted order) whole ∙ read.all.rise))
-          ∙ append_assoc es (e ∷ []) first.left.records ∙ whole;
+      whole = ap (λ m. filled m first.left.records) put ∙ ap (filled records) (sym first.is)
+          ∙ read.whole;
     }
 
 -- the entries of a table with these lines
@@ -123,10 +119,10 @@ pub read_all : {records : table.FinMap order Record} {lines rest : List ℕ}
     → IsReadInto records lines rest → length rest ≡ 0
     → (lines_of (table.entries records) ≡ lines) × All IsEntry (table.entries records)
 read_all {records} {rest = rest} read none =
-    let same = sym (append-nil (table.entries records))
-    ∙ ap (λ l. table.entries records ++ l)
-    (sym (lines_of-injective read.left.records [] read.left.entries (All-nil IsEntry)
-    (read.left.whole ∙ nil_from_length rest none))) ∙ read.whole in
-    (ap lines_of same ∙ read.all.whole, subst (All IsEntry) (sym same) read.all.entries)
+    let left = lines_of-injective read.left.records [] read.left.entries (All-nil IsEntry)
+    (read.left.whole ∙ nil_from_length rest none) in
+    let same = ap table.entries (ap (filled records) (sym left) ∙ read.whole)
+    ∙ entries-filled read.all.records read.all.rise in
+    (ap lines_of same ∙ read.all.whole, All-same IsEntry _ _ same read.all.entries)
 
 pub ruleset lines = (record_then-grows, no_bad_line, read_none)

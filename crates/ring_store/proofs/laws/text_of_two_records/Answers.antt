@@ -1,5 +1,5 @@
 -- SPDX-License-Identifier: ISC
-use Rattle.std.proofs.Common.{◌≡◌, List, ℕ, [], ◌∷◌, refl, sym, subst, true, T}
+use Rattle.std.proofs.Common.{◌≡◌, List, ℕ, [], ◌∷◌, refl, true}
 use Rattle.std.specs.FinMap as table
 use Rattle.std.specs.FinMap.Entries.{is_sorted}
 use Rattle.std.specs.Fmt.{digits}
@@ -17,7 +17,7 @@ entries_of_two : (first second : List ℕ) (a b : Record)
     → table.entries (table.insert (table.insert (table.empty {R = order}) second b) first a)
     ≡ (first, a) ∷ (second, b) ∷ []
 entries_of_two first second a b rise =
-    entries-found _ ((first, a) ∷ (second, b) ∷ []) (subst T (sym rise) tt) (λ q. simp table.gets)
+    entries-found _ ((first, a) ∷ (second, b) ∷ []) rise (λ q. simp table.gets)
 
 pub returns : goal.returns
 unfolding head_then record_then encode_with digits

@@ -1,52 +1,44 @@
 -- SPDX-License-Identifier: ISC
 -- The entries of tables, in the order of their names.
-use Rattle.std.proofs.Common.{◌≡◌, ℕ, Bool, true, false, List, [], ◌∷◌, All, not}
-use Rattle.std.proofs.Common.{arith, refl, sym, ap, subst, ◌∙◌, T}
-use Rattle.std.specs.Prelude.{Option, None}
-use Rattle.std.specs.Borrow.{Bor}
-use Rattle.std.specs.Ordering.{eq_by_cmp, is_lt}
-use Rattle.std.specs.declared.cmp.Ordering.{Ordering}
-use Rattle.std.specs.declared.cmp.Ordering.TheVariants.{Less, Equal, Greater}
-use Rattle.std.specs.declared.vec.Vec.{Vec}
+use Rattle.std.proofs.Common.{◌≡◌, ℕ, Bool, true, not, T, List, [], ◌∷◌, All, fold, slice_get, Vec}
+use Rattle.std.proofs.Common.{Bor, Option, None, option_map, Ordering, Less, Equal, Greater, is_lt}
+use Rattle.std.proofs.Common.{arith, refl, sym, ap, subst, ◌∙◌}
+use Rattle.std.specs.Ordering.{eq_by_cmp}
 use Rattle.std.specs.Cmp.Lexicographic.{nat_list_cmp_total}
 use Rattle.std.specs.FinMap as table
 use Rattle.std.specs.FinMap.Entries.{below_all, by_order, find-where_key, is_sorted}
-use Rattle.std.specs.FinMap.Entries.{is_sorted-where_key, put, same_entries, where_key}
+use Rattle.std.specs.FinMap.Entries.{is_sorted-where_key, put, same_entries}
 use Rattle.std.specs.Iterator.{SkipsThenYields}
-use Rattle.std.specs.List.{AllByRecursion, fold, slice_get}
+use Rattle.std.specs.List.{AllByRecursion}
 use Rattle.std.specs.List.Sorted.{IsStrictlySortedBy}
 use Rattle.std.specs.Map.{keys_of}
 use Rattle.std.specs.Map.Iter.{TakesFirst, deref}
-use Rattle.std.specs.Option.{option_map, option_or}
+use Rattle.std.specs.Option.{option_or}
 use Rattle.std.proofs.lemmas.Iterator.Consumers.{nth_from_yields_List, YieldsList-from_rest}
-use Rattle.std.proofs.lemmas.List.Elements.{All-filter, All-from_recursion, All-same, recursion_from_All}
 use Rattle.std.proofs.lemmas.List.{length-map}
+use Rattle.std.proofs.lemmas.List.Elements.{All-filter, All-from_recursion, All-same}
+use Rattle.std.proofs.lemmas.List.Elements.{recursion_from_All}
 use Rattle.std.proofs.lemmas.Map.Lookups.{exact_bytes}
+use Rattle.std.proofs.lemmas.Map.Views.{tells_apart}
 use Rattle.std.proofs.lemmas.Option.{slice_get-map}
 use Rattle.std.proofs.lemmas.Simd.{map-map}
 use Rattle.ring_store.specs.Records.{named}
-use Rattle.ring_store.proofs.Names.{order, key_order, tied}
-
-pub is_true : (b : Bool) → T b → b ≡ true
-is_true true h = refl
-is_true false h = absurd h
+use Rattle.ring_store.proofs.Names.{order, key_order}
 
 pub lower : (o : Ordering) → is_lt o ≡ true → o ≡ Less
-lower Less e = refl
-lower Equal e = cc e
-lower Greater e = cc e
+lower o e = grind arith
 
 module _ {X : Type 0} where
   -- a table that finds what sorted entries have has these entries
   pub entries-found : (m : table.FinMap order X) (es : List (List ℕ × X))
-      → is_sorted order es ≡ true → ((q : List ℕ) → table.get m q ≡ table.find order q es)
+      → T (is_sorted order es) → ((q : List ℕ) → table.get m q ≡ table.find order q es)
       → table.entries m ≡ es
   entries-found m es sorted found =
       same_entries order nat_list_cmp_total exact_bytes (table.entries m) es
-      (table.entries_sorted m) (rw sorted tt) (λ q. sym (table.get-entries m q) ∙ found q)
+      (table.entries_sorted m) sorted (λ q. sym (table.get-entries m q) ∙ found q)
 
   pub entries-empty : table.entries (table.empty {X = X} {R = order}) ≡ []
-  entries-empty = entries-found table.empty [] refl (table.get-empty order)
+  entries-empty = entries-found table.empty [] tt (table.get-empty order)
 
   find_below : (q : List ℕ) (es : List (List ℕ × X)) → below_all order q es ≡ true
       → table.find order q es ≡ None
@@ -62,17 +54,14 @@ module _ {X : Type 0} where
       → table.get (filled m es) q ≡ option_or (table.find order q es) (table.get m q)
   get-filled m [] q sorted = refl
   get-filled m (e ∷ es) q sorted =
-      grind (
-        arith,
-        get-filled (table.insert m e.0 e.1) es q,
-        table.gets,
-        find_below q es,
-        tied q e.0,
-      )
+      let more = get-filled (table.insert m e.0 e.1) es q in
+      let same = tells_apart exact_bytes q e.0 in
+      grind (arith, more, table.gets, find_below q es, same)
 
   pub entries-filled : (es : List (List ℕ × X)) → is_sorted order es ≡ true
       → table.entries (filled table.empty es) ≡ es
-  entries-filled es sorted = entries-found (filled table.empty es) es sorted (λ q.
+  entries-filled es sorted =
+      entries-found (filled table.empty es) es (rw sorted tt) (λ q.
       grind (arith, get-filled table.empty es q, table.gets))
 
 -- ---- what holds of each entry, after a record is put or removed
@@ -99,24 +88,22 @@ module _ {X : Type 0} (P : List ℕ × X → Type 0) where
       → All P (table.entries (table.remove m k))
   All-remove m k h =
       let others : List ℕ → Bool = λ q. not (eq_by_cmp order q k) in
-      let es = table.entries m in
-      All-same P _ _ (entries-found (table.remove m k) (where_key order others es)
-      (is_true _ (is_sorted-where_key order others es (table.entries_sorted m))) (λ q.
+      All-same P _ _ (entries-found (table.remove m k) _
+      (is_sorted-where_key order others _ (table.entries_sorted m)) (λ q.
       let found = find-where_key order others q
-      (λ x same. ap others (sym (exact_bytes q x same))) es in
+      (λ x same. ap others (sym (exact_bytes q x same))) (table.entries m) in
       grind (arith, table.gets, table.get-entries, found)))
-      (All-filter (λ e. others e.0) P es h)
+      (All-filter (λ e. others e.0) P (table.entries m) h)
 
 -- ---- the entries of a map, by name
 
-module _ {X A : Type 0} where
-  entries-named : (es : List (Vec ℕ A × X)) → IsStrictlySortedBy key_order (keys_of es)
-      → table.entries (table.from_entries {R = order} (named es)) ≡ named es
-  unfolding IsStrictlySortedBy
-  entries-named [] h = entries-empty
-  entries-named (e ∷ []) h = rw (table.entries-insert nat_list_cmp_total, entries-empty) refl
-  entries-named (e ∷ f ∷ es) h =
-      rw (table.entries-insert nat_list_cmp_total, entries-named (f ∷ es) h.1, h.0.0) refl
+entries-named : {X A : Type 0} (es : List (Vec ℕ A × X)) → IsStrictlySortedBy key_order (keys_of es)
+    → table.entries (table.from_entries {R = order} (named es)) ≡ named es
+unfolding IsStrictlySortedBy
+entries-named [] h = entries-empty
+entries-named (e ∷ []) h = rw (table.entries-insert nat_list_cmp_total, entries-empty)
+entries-named (e ∷ f ∷ es) h =
+    rw (table.entries-insert nat_list_cmp_total, entries-named (f ∷ es) h.1, h.0.0)
 
 module _ {X A : Type 0} {m : table.FinMap order X} (es : List (Vec ℕ A × X))
     (shows : table.from_entries {R = order} (named es) ≡ m)
@@ -126,14 +113,13 @@ module _ {X A : Type 0} {m : table.FinMap order X} (es : List (Vec ℕ A × X))
   entries-shown = ap table.entries (sym shows) ∙ entries-named es sorted
 
   -- the name at an index, as the keys of the map are walked
-  pub nth_name-shown : {start : List (Vec ℕ A)} (index : ℕ) (found : Option (Bor (Vec ℕ A)))
-      (end : List (Vec ℕ A)) → start ≡ keys_of es
+  pub nth_name-shown : {start : List (Vec ℕ A)} (end : List (Vec ℕ A)) (index : ℕ)
+      (found : Option (Bor (Vec ℕ A))) → start ≡ keys_of es
       → SkipsThenYields (TakesFirst deref) start index found end
       → option_map (λ (k : Vec ℕ A). k.items) (option_map deref found)
       ≡ slice_get (table.keys m) index
-  nth_name-shown index found end rest ran =
-      ap (option_map (λ (k : Vec ℕ A). k.items))
-      (nth_from_yields_List found end index ran (YieldsList-from_rest (keys_of es) rest))
-      ∙ rw entries-shown (simp (← slice_get-map, map-map))
+  nth_name-shown end index found rest ran =
+      let nth = nth_from_yields_List found end index ran (YieldsList-from_rest (keys_of es) rest) in
+      rw (nth, entries-shown) (simp (← slice_get-map, map-map))
 
 pub ruleset entries = (entries-shown, table.len-entries, length-map)

@@ -28,7 +28,7 @@ line_of : {last rest : List ℕ} (e : List ℕ × Record) (es : List (List ℕ �
     → lines_of es ≡ record_then e rest → Line last e rest es
 line_of {rest} e [] is each after rise whole = absurd (no_line e rest (sym whole))
 line_of {last} {rest} e (f ∷ es) is each after rise whole =
-    let same = record_then-injective f e (lines_of es) rest (All-head IsEntry f es each) is
+    let same = record_then-injective (All-head IsEntry f es each) is
     (sym (lines_of-cons f es) ∙ whole) in
     let rises = and_parts (below_all order f.0 es) (is_sorted order es) rise in
     subst (λ (x : List ℕ × Record). Line last x rest (f ∷ es)) same.0 (record {

@@ -1,6 +1,6 @@
 -- SPDX-License-Identifier: ISC
 -- Lines of a store's text: each is read in one way.
-use Rattle.std.proofs.Common.{◌≡◌, ◌≢◌, ℕ, ◌<◌, List, [], ◌∷◌, ◌++◌, length, drop, All}
+use Rattle.std.proofs.Common.{◌≡◌, ◌≢◌, ℕ, ◌<◌, List, [], ◌∷◌, length, drop, All}
 use Rattle.std.proofs.Common.{refl, sym, ap, ◌∙◌, arith}
 use Rattle.std.proofs.Common.{length-append, append_assoc}
 use Rattle.std.specs.Prelude.{None}
@@ -11,66 +11,53 @@ use Rattle.hex.proofs.HexLemmas.{length-encode_with}
 use Rattle.ring_text.specs.Cut.{IsFirstCut}
 use Rattle.ring_text.proofs.Cuts.{cut_same, first_cut}
 use Rattle.ring_text.proofs.LowerHex.{IsWithout-hex, encode_lower-injective}
-use Rattle.ring_text.proofs.Numbers.{IsDigit, count_then-injective}
+use Rattle.ring_text.proofs.Numbers.{count_then-injective}
 use Rattle.ring_store.specs.Text.{IsEntry, IsHead, head_then, hex_then, lines_of, record_then}
 use Rattle.ring_store.specs.declared.records.Record.{Record}
 
 -- ---- bytes in hex
 
-pub hex_then-injective : (end : ℕ) → hex_digit_value end ≡ None → (xs ys s t : List ℕ)
+pub hex_then-injective : (end : ℕ) → hex_digit_value end ≡ None → {xs ys s t : List ℕ}
     → IsBytes xs → IsBytes ys → hex_then xs end s ≡ hex_then ys end t → (xs ≡ ys) × (s ≡ t)
-hex_then-injective end none xs ys s t hx hy e =
-    let cut = cut_same end (encode_lower xs) (encode_lower ys) s t (IsWithout-hex end none xs hx)
+hex_then-injective end none {xs} {ys} hx hy e =
+    let cut = cut_same end _ _ _ _ (IsWithout-hex end none xs hx)
     (IsWithout-hex end none ys hy) e in
     (encode_lower-injective xs ys hx hy cut.0, cut.1)
 
 -- ---- lines
 
-pub not_digit : IsDigit 32 → ⊥
-not_digit h = omega arith
-
-pub not_digit_end : IsDigit 10 → ⊥
-not_digit_end h = omega arith
-
-pub record_then-injective : (e f : List ℕ × Record) (s t : List ℕ) → IsEntry e → IsEntry f
+pub record_then-injective : {e f : List ℕ × Record} {s t : List ℕ} → IsEntry e → IsEntry f
     → record_then e s ≡ record_then f t → (e ≡ f) × (s ≡ t)
 unfolding record_then
-record_then-injective e f s t he hf same =
-    let name = hex_then-injective 32 refl e.0 f.0 _ _ he.name_bytes hf.name_bytes same in
-    let count = count_then-injective 32 not_digit e.1.iterations f.1.iterations _ _ he.iterations
-    hf.iterations name.1 in
-    let last = hex_then-injective 10 refl e.1.credential f.1.credential s t he.credential_bytes
-    hf.credential_bytes count.1 in
+record_then-injective {e} {f} he hf same =
+    let name = hex_then-injective 32 refl he.name_bytes hf.name_bytes same in
+    let count = count_then-injective 32 (λ h. omega arith) e.1.iterations f.1.iterations _ _
+    he.iterations hf.iterations name.1 in
+    let last = hex_then-injective 10 refl he.credential_bytes hf.credential_bytes count.1 in
     ((λ i. (name.0 i, record { iterations = count.0 i; credential = last.0 i })), last.1)
 
-pub head_then-injective : (x y : List ℕ) (c d : NonZeroU32) (s t : List ℕ) → IsHead x c
+pub head_then-injective : {x y : List ℕ} {c d : NonZeroU32} {s t : List ℕ} → IsHead x c
     → IsHead y d → head_then x c s ≡ head_then y d t → (x ≡ y) × (c ≡ d) × (s ≡ t)
 unfolding head_then
-head_then-injective x y c d s t hx hy same =
-    let salt = hex_then-injective 32 refl x y _ _ hx.salt_bytes hy.salt_bytes (ap (drop 13) same) in
-    let count = count_then-injective 10 not_digit_end c d s t hx.iterations hy.iterations salt.1 in
+head_then-injective {c} {d} hx hy same =
+    let salt = hex_then-injective 32 refl hx.salt_bytes hy.salt_bytes (ap (drop 13) same) in
+    let count = count_then-injective 10 (λ h. omega arith) c d _ _ hx.iterations hy.iterations
+    salt.1 in
     (salt.0, count.0, count.1)
 
 -- a line is some bytes, and then what follows
 pub record_then-grows : (e : List ℕ × Record) (s : List ℕ) → length s < length (record_then e s)
 unfolding record_then
-record_then-grows e s =
-    simp length-append (omega arith)
-
-pub record_then-append : (e : List ℕ × Record) (s t : List ℕ)
-    → record_then e s ++ t ≡ record_then e (s ++ t)
-unfolding record_then
-record_then-append e s t = simp append_assoc
+record_then-grows e s = simp length-append (omega arith)
 
 -- the first line, and then the others
 pub lines_of-cons : (e : List ℕ × Record) (es : List (List ℕ × Record))
     → lines_of (e ∷ es) ≡ record_then e (lines_of es)
-lines_of-cons e es = record_then-append e [] (lines_of es)
+unfolding record_then
+lines_of-cons e es = simp append_assoc
 
 pub no_line : (e : List ℕ × Record) (s : List ℕ) → record_then e s ≢ []
-no_line e s h =
-    let grows = record_then-grows e s in
-    absurd (omega (arith, grows, ap length h))
+no_line e s h = omega (arith, record_then-grows e s, ap length h)
 
 pub lines_of-injective : (es fs : List (List ℕ × Record)) → All IsEntry es → All IsEntry fs
     → lines_of es ≡ lines_of fs → es ≡ fs
@@ -78,8 +65,8 @@ lines_of-injective [] [] he hf same = refl
 lines_of-injective [] (f ∷ fs) he hf same = grind (arith, no_line, lines_of-cons)
 lines_of-injective (e ∷ es) [] he hf same = grind (arith, no_line, lines_of-cons)
 lines_of-injective (e ∷ es) (f ∷ fs) he hf same =
-    let one = record_then-injective e f (lines_of es) (lines_of fs) (All-head IsEntry e es he)
-    (All-head IsEntry f fs hf) (sym (lines_of-cons e es) ∙ same ∙ lines_of-cons f fs) in
+    let one = record_then-injective (All-head IsEntry e es he) (All-head IsEntry f fs hf)
+    (sym (lines_of-cons e es) ∙ same ∙ lines_of-cons f fs) in
     let others = lines_of-injective es fs (All-tail IsEntry e es he) (All-tail IsEntry f fs hf)
     one.1 in
     λ i. one.0 i ∷ others i

@@ -17,7 +17,7 @@ entries_of_two : (first second : List ℕ) (a b : Record)
     → table.entries (table.insert (table.insert (table.empty {R = order}) second b) first a)
     ≡ (first, a) ∷ (second, b) ∷ []
 entries_of_two first second a b rise =
-    entries-found _ ((first, a) ∷ (second, b) ∷ []) rise (λ q. simp table.gets)
+    entries-found _ ((first, a) ∷ (second, b) ∷ []) (rw rise tt) (λ q. simp table.gets)
 
 pub returns : goal.returns
 unfolding head_then record_then encode_with digits

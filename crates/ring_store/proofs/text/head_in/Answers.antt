@@ -15,5 +15,5 @@ unfolding head_then
 returns-in-None-clause-refused c = λ _ salt d rest h e.
     let read = c.in-Some-hex_before.ensures.ok in
     let behind = sym read.0 ∙ ap (drop 13) (sym c.in-Some.ensures.ok ∙ e) in
-    let same = hex_then-injective 32 refl _ salt _ _ read.1 h.salt_bytes behind in
+    let same = hex_then-injective 32 refl read.1 h.salt_bytes behind in
     c.in-None.ensures.refused refl d rest h.iterations same.1

@@ -9,12 +9,10 @@ pub returns : goal.returns
 returns g c =
     ap Some c.deref.ensures.value
     ∙ (rw c.in_ok-nth.was at (nth_name-shown c.self.inside.by_name.entries c.self.view_is
-    c.keys.ensures.ordered c.args.index c.nth.result c.nth.new.self c.keys.ensures.rest
-    c.nth.ensures.ran))
+    c.keys.ensures.ordered _ _ _ c.keys.ensures.rest c.nth.ensures.ran))
 
 pub returns-in_err-nth : goal.returns-in_err-nth
 returns-in_err-nth g c =
     ap option_copied c.from_residual.ensures
     ∙ (rw c.in_err-nth.was at (nth_name-shown c.self.inside.by_name.entries c.self.view_is
-    c.keys.ensures.ordered c.args.index c.nth.result c.nth.new.self c.keys.ensures.rest
-    c.nth.ensures.ran))
+    c.keys.ensures.ordered _ _ _ c.keys.ensures.rest c.nth.ensures.ran))

@@ -224,7 +224,8 @@ answered false true true m n e = (cc e, refl)
 -- whoever reads it finds that the password is right
 pub right_text : (room : ℕ) (k : Kind) (p s : List ℕ) (c : NonZeroU32) {n : ℕ} {out : List ℕ}
     (rest : List ℕ) → Ok n ≡ new_answer room k p s c
-    → IsTextOf (new_parts k p s c) (new_text k p s c) → out ≡ new_text k p s c ++ rest → (most : ℕ) → non_zero_u32_get c ≤ most
+    → IsTextOf (new_parts k p s c) (new_text k p s c) → out ≡ new_text k p s c ++ rest
+    → (most : ℕ) → non_zero_u32_get c ≤ most
     → IsReadWhere (take n out) (λ found. answer_of found p most ≡ Ok tt)
 right_text room k p s c {n} {out} rest told stands is most within =
     let text = new_text k p s c in

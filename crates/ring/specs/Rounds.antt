@@ -56,7 +56,8 @@ bytes_before a n f r i = front (output_len a) n (f i) (rounds_before a n r i)
 abbrev pub len_before : ℕ → Round → ℕ
 len_before n r = r.place * n + r.from
 
--- it can be run: HMAC's keys are of its algorithm, each has a salt, and lengths are within limits
+-- a derivation can be run: HMAC's keys are of its algorithm, each has a salt, and the lengths are
+-- within the limits
 pub record CanDeriveUnder (d : Derivation) : Type 0 where
   pub algorithm : All (λ key. key_algorithm key ≡ d.algorithm) d.keys.now
   pub count : length d.salts.now ≡ length d.keys.now
@@ -112,7 +113,7 @@ pub record AreOutputs (a : Algorithm) (n : ℕ) (f : ℕ → ℕ → List ℕ) (
   pub places : AreOfKeys a n r (length outputs) m
   pub each : EachItem outputs (IsOutput a n f r)
 
--- the blocks of the first iterate of the k-th round after r, and of all its iterates
+-- the blocks of the first iterate of the k-th round after r
 abbrev pub first_blocks : Derivation → Round → ℕ → ℕ
 first_blocks d r k =
     padded_blocks d.algorithm (length (bytes_at d.salts.now (nth_round d r k).place) + 4) + 1

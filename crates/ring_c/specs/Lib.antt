@@ -6,3 +6,4 @@ pub mod Label
 pub mod Verified
 pub mod Status
 pub mod NewHash
+pub mod Version

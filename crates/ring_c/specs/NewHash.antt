@@ -6,8 +6,8 @@ use Rattle.ring_password_hash.specs.New.{can_hash, is_past, is_salt}
 use Rattle.ring_password_hash.specs.declared.kind.Kind.{Kind}
 use Rattle.ring_c.specs.Status.{Causes, no_cause}
 
--- the causes for the password p, the salt s and an iteration count: without a count there is no
--- text, and so none that is too long for `room` bytes
+-- the causes for the password p, the salt s and an iteration count. Without a count there is no
+-- text, and that is the first cause
 abbrev pub new_causes : (room : ℕ) → (p s : List ℕ) → Option NonZeroU32 → Kind → Causes
 new_causes room p s None k = record no_cause { no_iterations = true }
 new_causes room p s (Some c) k =

@@ -6,7 +6,7 @@ ghost use Rattle.ring.specs.Limits.{can_derive, max_dk_len};
 ghost use Rattle.ring.specs.Pbkdf2.{dk, pbkdf2_digest};
 ghost use Rattle.ring.specs.declared.pbkdf2.algorithm.Algorithm.{Algorithm};
 ghost use Rattle.ring_c.specs.Number.{pbkdf2_named};
-ghost use Rattle.ring_c.specs.Status.{no_cause, status_of};
+ghost use Rattle.ring_c.specs.Status.{YZ_OK, YZ_UNKNOWN_ALGORITHM, no_cause, status_of};
 ghost use Rattle.ring_c.specs.Verified.{is_derived};
 
 use crate::number::pbkdf2_of_number;
@@ -25,26 +25,26 @@ fn derive<const VECTOR_BITS: usize>(
     secret: &[u8],
     out: &mut [u8],
 ) -> i32
-    ensures ok { (a : Algorithm) → pbkdf2_named algorithm ≡ Some a → result ≡ OK
+    ensures ok { (a : Algorithm) → pbkdf2_named algorithm ≡ Some a → result ≡ YZ_OK
         → out.new ≡ dk (pbkdf2_digest a) secret.now salt.now iterations (length out.old) }
-    ensures status { result ≡ status_of UNKNOWN_ALGORITHM (pbkdf2_named algorithm) (λ a.
+    ensures status { result ≡ status_of YZ_UNKNOWN_ALGORITHM (pbkdf2_named algorithm) (λ a.
         record no_cause {
-          wrong_length = nat_lt (max_dk_len (pbkdf2_digest a)) (length out.old);
           no_iterations = iterations == 0;
+          wrong_length = nat_lt (max_dk_len (pbkdf2_digest a)) (length out.old);
           unspecified = not (can_derive (pbkdf2_digest a)
               (length secret.now) (length salt.now) (length out.old));
         }) }
-    ensures unchanged { result ≢ OK → out.new ≡ out.old }
+    ensures unchanged { result ≢ YZ_OK → out.new ≡ out.old }
 {
     let Some(algorithm) = pbkdf2_of_number(algorithm) else {
         return UNKNOWN_ALGORITHM;
     };
-    if out.len() as u128 > max_dk_len(&algorithm) {
-        return WRONG_LENGTH;
-    }
     let Some(iterations) = NonZeroU32::new(iterations) else {
         return NO_ITERATIONS;
     };
+    if out.len() as u128 > max_dk_len(&algorithm) {
+        return WRONG_LENGTH;
+    }
     let mut meter = Meter::new();
     match pbkdf2::derive_in::<VECTOR_BITS>(algorithm, iterations, salt, secret, out, &mut meter) {
         Ok(()) => OK,
@@ -55,8 +55,8 @@ fn derive<const VECTOR_BITS: usize>(
 /// Fills `out` with the key that is derived from `secret` and `salt` in so many `iterations`, by
 /// the PBKDF2 algorithm of the number `algorithm` (RFC 2898, section 5.2).
 ///
-/// Refused as `UNKNOWN_ALGORITHM`, as `WRONG_LENGTH` where `out` is longer than `2^32 - 1` digests,
-/// as `NO_ITERATIONS`, and as `UNSPECIFIED` where the secret or the salt is too long. `out` is then
+/// Refused as `UNKNOWN_ALGORITHM`, as `NO_ITERATIONS`, as `WRONG_LENGTH` where `out` is longer than
+/// `2^32 - 1` digests, and as `UNSPECIFIED` where the secret or the salt is too long. `out` is then
 /// unchanged.
 #[unsafe(no_mangle)]
 pub extern "C" fn yz_pbkdf2_derive(
@@ -66,16 +66,16 @@ pub extern "C" fn yz_pbkdf2_derive(
     secret: &[u8],
     out: &mut [u8],
 ) -> i32
-    ensures ok { (a : Algorithm) → pbkdf2_named algorithm ≡ Some a → result ≡ OK
+    ensures ok { (a : Algorithm) → pbkdf2_named algorithm ≡ Some a → result ≡ YZ_OK
         → out.new ≡ dk (pbkdf2_digest a) secret.now salt.now iterations (length out.old) }
-    ensures status { result ≡ status_of UNKNOWN_ALGORITHM (pbkdf2_named algorithm) (λ a.
+    ensures status { result ≡ status_of YZ_UNKNOWN_ALGORITHM (pbkdf2_named algorithm) (λ a.
         record no_cause {
-          wrong_length = nat_lt (max_dk_len (pbkdf2_digest a)) (length out.old);
           no_iterations = iterations == 0;
+          wrong_length = nat_lt (max_dk_len (pbkdf2_digest a)) (length out.old);
           unspecified = not (can_derive (pbkdf2_digest a)
               (length secret.now) (length salt.now) (length out.old));
         }) }
-    ensures unchanged { result ≢ OK → out.new ≡ out.old }
+    ensures unchanged { result ≢ YZ_OK → out.new ≡ out.old }
 {
     derive::<SSE>(algorithm, iterations, salt, secret, out)
 }
@@ -92,16 +92,16 @@ pub extern "C" fn yz_pbkdf2_derive_wide(
     secret: &[u8],
     out: &mut [u8],
 ) -> i32
-    ensures ok { (a : Algorithm) → pbkdf2_named algorithm ≡ Some a → result ≡ OK
+    ensures ok { (a : Algorithm) → pbkdf2_named algorithm ≡ Some a → result ≡ YZ_OK
         → out.new ≡ dk (pbkdf2_digest a) secret.now salt.now iterations (length out.old) }
-    ensures status { result ≡ status_of UNKNOWN_ALGORITHM (pbkdf2_named algorithm) (λ a.
+    ensures status { result ≡ status_of YZ_UNKNOWN_ALGORITHM (pbkdf2_named algorithm) (λ a.
         record no_cause {
-          wrong_length = nat_lt (max_dk_len (pbkdf2_digest a)) (length out.old);
           no_iterations = iterations == 0;
+          wrong_length = nat_lt (max_dk_len (pbkdf2_digest a)) (length out.old);
           unspecified = not (can_derive (pbkdf2_digest a)
               (length secret.now) (length salt.now) (length out.old));
         }) }
-    ensures unchanged { result ≢ OK → out.new ≡ out.old }
+    ensures unchanged { result ≢ YZ_OK → out.new ≡ out.old }
 {
     derive::<AVX2>(algorithm, iterations, salt, secret, out)
 }
@@ -114,7 +114,7 @@ fn verify<const VECTOR_BITS: usize>(
     secret: &[u8],
     derived: &[u8],
 ) -> i32
-    ensures { result ≡ status_of UNKNOWN_ALGORITHM (pbkdf2_named algorithm) (λ a.
+    ensures { result ≡ status_of YZ_UNKNOWN_ALGORITHM (pbkdf2_named algorithm) (λ a.
         record no_cause {
           no_iterations = iterations == 0;
           unspecified = not (is_derived (pbkdf2_digest a)
@@ -150,7 +150,7 @@ pub extern "C" fn yz_pbkdf2_verify(
     secret: &[u8],
     derived: &[u8],
 ) -> i32
-    ensures { result ≡ status_of UNKNOWN_ALGORITHM (pbkdf2_named algorithm) (λ a.
+    ensures { result ≡ status_of YZ_UNKNOWN_ALGORITHM (pbkdf2_named algorithm) (λ a.
         record no_cause {
           no_iterations = iterations == 0;
           unspecified = not (is_derived (pbkdf2_digest a)
@@ -172,7 +172,7 @@ pub extern "C" fn yz_pbkdf2_verify_wide(
     secret: &[u8],
     derived: &[u8],
 ) -> i32
-    ensures { result ≡ status_of UNKNOWN_ALGORITHM (pbkdf2_named algorithm) (λ a.
+    ensures { result ≡ status_of YZ_UNKNOWN_ALGORITHM (pbkdf2_named algorithm) (λ a.
         record no_cause {
           no_iterations = iterations == 0;
           unspecified = not (is_derived (pbkdf2_digest a)

@@ -9,7 +9,8 @@ ghost use Rattle.ring.specs.Raw.{AreWords, HasAdded, RawStandsFor, digest_named}
 ghost use Rattle.ring.specs.Raw.{raw_digest_with, raw_message_len};
 ghost use Rattle.ring.specs.declared.digest.algorithm.Algorithm.{Algorithm};
 ghost use Rattle.ring_c.specs.Limits.{is_no_context};
-ghost use Rattle.ring_c.specs.Status.{no_cause, status_of};
+ghost use Rattle.ring_c.specs.Status.{YZ_OK, YZ_UNKNOWN_ALGORITHM, YZ_UNKNOWN_CONTEXT, no_cause};
+ghost use Rattle.ring_c.specs.Status.{status_of};
 
 use crate::status::{OK, UNKNOWN_ALGORITHM, UNKNOWN_CONTEXT, UNSPECIFIED, WRONG_LENGTH};
 use ring::digest::{self, Context};
@@ -22,14 +23,14 @@ use ring::raw::{RawContext, digest_of_number};
 /// and as `UNSPECIFIED` where the message is too long. `out` is then unchanged.
 #[unsafe(no_mangle)]
 pub extern "C" fn yz_digest(algorithm: u32, message: &[u8], out: &mut [u8]) -> i32
-    ensures ok { (a : Algorithm) → digest_named algorithm ≡ Some a → result ≡ OK
+    ensures ok { (a : Algorithm) → digest_named algorithm ≡ Some a → result ≡ YZ_OK
         → out.new ≡ digest_of a message.now }
-    ensures status { result ≡ status_of UNKNOWN_ALGORITHM (digest_named algorithm) (λ a.
+    ensures status { result ≡ status_of YZ_UNKNOWN_ALGORITHM (digest_named algorithm) (λ a.
         record no_cause {
           wrong_length = not (length out.old == output_len a);
           unspecified = not (fits a (length message.now));
         }) }
-    ensures unchanged { result ≢ OK → out.new ≡ out.old }
+    ensures unchanged { result ≢ YZ_OK → out.new ≡ out.old }
 {
     let Some(algorithm) = digest_of_number(algorithm) else {
         return UNKNOWN_ALGORITHM;
@@ -52,11 +53,11 @@ pub extern "C" fn yz_digest(algorithm: u32, message: &[u8], out: &mut [u8]) -> i
 pub extern "C" fn yz_digest_init(algorithm: u32, context: &mut RawContext) -> i32
     ensures ok { (a : Algorithm) → digest_named algorithm ≡ Some a
         → RawStandsFor context.new a [] }
-    ensures sized { (a : Algorithm) → digest_named algorithm ≡ Some a → result ≡ OK
+    ensures sized { (a : Algorithm) → digest_named algorithm ≡ Some a → result ≡ YZ_OK
         → AreWords a context.new.words }
     ensures status { result
-        ≡ status_of UNKNOWN_ALGORITHM (digest_named algorithm) (λ a. no_cause) }
-    ensures unchanged { result ≢ OK → context.new ≡ context.old }
+        ≡ status_of YZ_UNKNOWN_ALGORITHM (digest_named algorithm) (λ a. no_cause) }
+    ensures unchanged { result ≢ YZ_OK → context.new ≡ context.old }
 {
     let Some(algorithm) = digest_of_number(algorithm) else {
         return UNKNOWN_ALGORITHM;
@@ -73,11 +74,12 @@ pub extern "C" fn yz_digest_init(algorithm: u32, context: &mut RawContext) -> i3
 #[tactic(auto, unfolding(ring::specs::Raw::named_block_len))]
 pub extern "C" fn yz_digest_update(context: &mut RawContext, input: &[u8]) -> i32
     ensures ok { (a : Algorithm) (m : List ℕ) → RawStandsFor context.old a m
-        → result ≡ OK × RawStandsFor context.new a (m ++ input.now) }
-    ensures any { result ≡ OK → HasAdded context.old context.new input.now }
-    ensures status { result ≡ status_of UNKNOWN_CONTEXT (digest_named context.old.algorithm) (λ a.
+        → result ≡ YZ_OK × RawStandsFor context.new a (m ++ input.now) }
+    ensures any { result ≡ YZ_OK → HasAdded context.old context.new input.now }
+    ensures status { result
+        ≡ status_of YZ_UNKNOWN_CONTEXT (digest_named context.old.algorithm) (λ a.
         record no_cause { unknown_context = is_no_context context.old }) }
-    ensures unchanged { result ≢ OK → context.new ≡ context.old }
+    ensures unchanged { result ≢ YZ_OK → context.new ≡ context.old }
 {
     if !context.update(input) {
         return UNKNOWN_CONTEXT;
@@ -92,19 +94,20 @@ pub extern "C" fn yz_digest_update(context: &mut RawContext, input: &[u8]) -> i3
 /// as `UNSPECIFIED` where the message is too long. `out` is then unchanged.
 #[unsafe(no_mangle)]
 pub extern "C" fn yz_digest_final(context: &RawContext, out: &mut [u8]) -> i32
-    ensures ok { (a : Algorithm) (m : List ℕ) → RawStandsFor context.now a m → result ≡ OK
+    ensures ok { (a : Algorithm) (m : List ℕ) → RawStandsFor context.now a m → result ≡ YZ_OK
         → out.new ≡ digest_of a m }
-    ensures any { (a : Algorithm) → digest_named context.now.algorithm ≡ Some a → result ≡ OK
+    ensures any { (a : Algorithm) → digest_named context.now.algorithm ≡ Some a → result ≡ YZ_OK
         → out.new ≡ raw_digest_with a context.now [] (raw_message_len context.now) }
-    ensures status { result ≡ status_of UNKNOWN_CONTEXT (digest_named context.now.algorithm) (λ a.
+    ensures status { result
+        ≡ status_of YZ_UNKNOWN_CONTEXT (digest_named context.now.algorithm) (λ a.
         record no_cause {
           unknown_context = is_no_context context.now;
           wrong_length = not (length out.old == output_len a);
           unspecified = not (fits a (raw_message_len context.now));
         }) }
     ensures refused_of { (a : Algorithm) (m : List ℕ) → RawStandsFor context.now a m
-        → length out.old ≡ output_len a → (result ≡ OK ↔ IsMessageWithin a (length m)) }
-    ensures unchanged { result ≢ OK → out.new ≡ out.old }
+        → length out.old ≡ output_len a → (result ≡ YZ_OK ↔ IsMessageWithin a (length m)) }
+    ensures unchanged { result ≢ YZ_OK → out.new ≡ out.old }
 {
     let Some(named) = context.algorithm() else {
         return UNKNOWN_CONTEXT;

@@ -9,7 +9,7 @@ ghost use Rattle.ring.specs.Raw.{digest_named};
 ghost use Rattle.ring.specs.declared.digest.algorithm.Algorithm.{Algorithm};
 ghost use Rattle.ring_c.specs.Each.{bytes_of_each, digests_of};
 ghost use Rattle.ring_c.specs.Limits.{can_digest_each};
-ghost use Rattle.ring_c.specs.Status.{first_of, no_cause, status_of};
+ghost use Rattle.ring_c.specs.Status.{YZ_OK, YZ_UNKNOWN_ALGORITHM, first_of, no_cause, status_of};
 
 use crate::status::{OK, UNKNOWN_ALGORITHM, UNSPECIFIED, WRONG_LENGTH};
 use ring::cost::Meter;
@@ -24,7 +24,7 @@ const GROUP: usize = 16;
 // Why the lengths are refused, if they are. One loop makes both tests: the compiler would turn a
 // loop that only adds up the output's length into a multiplication, and the library has none.
 fn status_of_lengths(algorithm: &Algorithm, messages: &[&[u8]], out_len: usize) -> i32
-    ensures ok { result ≡ OK → (out_len ≡ length messages.now * output_len algorithm.now)
+    ensures ok { result ≡ YZ_OK → (out_len ≡ length messages.now * output_len algorithm.now)
         × CanDigestEach algorithm.now messages.now (length messages.now) }
     ensures status { result ≡ first_of record no_cause {
       wrong_length = not (out_len == length messages.now * output_len algorithm.now);
@@ -104,14 +104,14 @@ fn write_each<const VECTOR_BITS: usize>(algorithm: &Algorithm, messages: &[&[u8]
 
 // What `yz_digest_each` and `yz_digest_each_wide` promise, with vectors of `VECTOR_BITS` bits.
 fn digest_each<const VECTOR_BITS: usize>(algorithm: u32, messages: &[&[u8]], out: &mut [u8]) -> i32
-    ensures ok { (a : Algorithm) → digest_named algorithm ≡ Some a → result ≡ OK
+    ensures ok { (a : Algorithm) → digest_named algorithm ≡ Some a → result ≡ YZ_OK
         → out.new ≡ digests_of a messages.now }
-    ensures status { result ≡ status_of UNKNOWN_ALGORITHM (digest_named algorithm) (λ a.
+    ensures status { result ≡ status_of YZ_UNKNOWN_ALGORITHM (digest_named algorithm) (λ a.
         record no_cause {
           wrong_length = not (length out.old == length messages.now * output_len a);
           unspecified = not (can_digest_each a messages.now);
         }) }
-    ensures unchanged { result ≢ OK → out.new ≡ out.old }
+    ensures unchanged { result ≢ YZ_OK → out.new ≡ out.old }
 {
     let Some(algorithm) = digest_of_number(algorithm) else {
         return UNKNOWN_ALGORITHM;
@@ -130,14 +130,14 @@ fn digest_each<const VECTOR_BITS: usize>(algorithm: u32, messages: &[&[u8]], out
 /// together, and as `UNSPECIFIED` where a message is too long. `out` is then unchanged.
 #[unsafe(no_mangle)]
 pub extern "C" fn yz_digest_each(algorithm: u32, messages: &[&[u8]], out: &mut [u8]) -> i32
-    ensures ok { (a : Algorithm) → digest_named algorithm ≡ Some a → result ≡ OK
+    ensures ok { (a : Algorithm) → digest_named algorithm ≡ Some a → result ≡ YZ_OK
         → out.new ≡ digests_of a messages.now }
-    ensures status { result ≡ status_of UNKNOWN_ALGORITHM (digest_named algorithm) (λ a.
+    ensures status { result ≡ status_of YZ_UNKNOWN_ALGORITHM (digest_named algorithm) (λ a.
         record no_cause {
           wrong_length = not (length out.old == length messages.now * output_len a);
           unspecified = not (can_digest_each a messages.now);
         }) }
-    ensures unchanged { result ≢ OK → out.new ≡ out.old }
+    ensures unchanged { result ≢ YZ_OK → out.new ≡ out.old }
 {
     digest_each::<SSE>(algorithm, messages, out)
 }
@@ -148,14 +148,14 @@ pub extern "C" fn yz_digest_each(algorithm: u32, messages: &[&[u8]], out: &mut [
 /// Refused as that call is, with `out` unchanged.
 #[unsafe(no_mangle)]
 pub extern "C" fn yz_digest_each_wide(algorithm: u32, messages: &[&[u8]], out: &mut [u8]) -> i32
-    ensures ok { (a : Algorithm) → digest_named algorithm ≡ Some a → result ≡ OK
+    ensures ok { (a : Algorithm) → digest_named algorithm ≡ Some a → result ≡ YZ_OK
         → out.new ≡ digests_of a messages.now }
-    ensures status { result ≡ status_of UNKNOWN_ALGORITHM (digest_named algorithm) (λ a.
+    ensures status { result ≡ status_of YZ_UNKNOWN_ALGORITHM (digest_named algorithm) (λ a.
         record no_cause {
           wrong_length = not (length out.old == length messages.now * output_len a);
           unspecified = not (can_digest_each a messages.now);
         }) }
-    ensures unchanged { result ≢ OK → out.new ≡ out.old }
+    ensures unchanged { result ≢ YZ_OK → out.new ≡ out.old }
 {
     digest_each::<AVX2>(algorithm, messages, out)
 }

@@ -11,7 +11,7 @@ ghost use Rattle.ring.specs.Pieces.{joined};
 ghost use Rattle.ring.specs.declared.hkdf.algorithm.Algorithm.{Algorithm};
 ghost use Rattle.ring_c.specs.Limits.{can_make, can_sign};
 ghost use Rattle.ring_c.specs.Number.{hkdf_named};
-ghost use Rattle.ring_c.specs.Status.{first_of, no_cause, status_of};
+ghost use Rattle.ring_c.specs.Status.{YZ_OK, YZ_UNKNOWN_ALGORITHM, first_of, no_cause, status_of};
 
 use crate::number::hkdf_of_number;
 use crate::status::{OK, UNKNOWN_ALGORITHM, UNSPECIFIED, WRONG_LENGTH};
@@ -46,14 +46,14 @@ pub(crate) fn is_output_within(algorithm: &hkdf::Algorithm, len: usize) -> bool
 /// and as `UNSPECIFIED` where the salt or the secret is too long. `out` is then unchanged.
 #[unsafe(no_mangle)]
 pub extern "C" fn yz_hkdf_extract(algorithm: u32, salt: &[u8], secret: &[u8], out: &mut [u8]) -> i32
-    ensures ok { (a : Algorithm) → hkdf_named algorithm ≡ Some a → result ≡ OK
+    ensures ok { (a : Algorithm) → hkdf_named algorithm ≡ Some a → result ≡ YZ_OK
         → out.new ≡ hmac_of (hkdf_digest a) salt.now secret.now }
-    ensures status { result ≡ status_of UNKNOWN_ALGORITHM (hkdf_named algorithm) (λ a.
+    ensures status { result ≡ status_of YZ_UNKNOWN_ALGORITHM (hkdf_named algorithm) (λ a.
         record no_cause {
           wrong_length = not (length out.old == output_len (hkdf_digest a));
           unspecified = not (can_sign (hkdf_digest a) (length salt.now) (length secret.now));
         }) }
-    ensures unchanged { result ≢ OK → out.new ≡ out.old }
+    ensures unchanged { result ≢ YZ_OK → out.new ≡ out.old }
 {
     let Some(algorithm) = hkdf_of_number(algorithm) else {
         return UNKNOWN_ALGORITHM;
@@ -75,15 +75,15 @@ pub extern "C" fn yz_hkdf_extract(algorithm: u32, salt: &[u8], secret: &[u8], ou
 /// `UNSPECIFIED` where the PRK or the info is too long. `out` is then unchanged.
 #[unsafe(no_mangle)]
 pub extern "C" fn yz_hkdf_expand(algorithm: u32, prk: &[u8], info: &[u8], out: &mut [u8]) -> i32
-    ensures ok { (a : Algorithm) → hkdf_named algorithm ≡ Some a → result ≡ OK
+    ensures ok { (a : Algorithm) → hkdf_named algorithm ≡ Some a → result ≡ YZ_OK
         → out.new ≡ okm (hkdf_digest a) prk.now info.now (length out.old) }
-    ensures status { result ≡ status_of UNKNOWN_ALGORITHM (hkdf_named algorithm) (λ a.
+    ensures status { result ≡ status_of YZ_UNKNOWN_ALGORITHM (hkdf_named algorithm) (λ a.
         record no_cause {
           wrong_length = nat_lt (max_okm_len (hkdf_digest a)) (length out.old);
           unspecified = not (fits (hkdf_digest a) (length prk.now)
               && can_expand (hkdf_digest a) (length info.now) (length out.old));
         }) }
-    ensures unchanged { result ≢ OK → out.new ≡ out.old }
+    ensures unchanged { result ≢ YZ_OK → out.new ≡ out.old }
 {
     let Some(algorithm) = hkdf_of_number(algorithm) else {
         return UNKNOWN_ALGORITHM;
@@ -110,16 +110,16 @@ pub extern "C" fn yz_hkdf(
     info: &[u8],
     out: &mut [u8],
 ) -> i32
-    ensures ok { (a : Algorithm) → hkdf_named algorithm ≡ Some a → result ≡ OK
+    ensures ok { (a : Algorithm) → hkdf_named algorithm ≡ Some a → result ≡ YZ_OK
         → out.new ≡ okm (hkdf_digest a)
         (hmac_of (hkdf_digest a) salt.now secret.now) info.now (length out.old) }
-    ensures status { result ≡ status_of UNKNOWN_ALGORITHM (hkdf_named algorithm) (λ a.
+    ensures status { result ≡ status_of YZ_UNKNOWN_ALGORITHM (hkdf_named algorithm) (λ a.
         record no_cause {
           wrong_length = nat_lt (max_okm_len (hkdf_digest a)) (length out.old);
           unspecified = not (can_make (hkdf_digest a)
               (length salt.now) (length secret.now) (length info.now) (length out.old));
         }) }
-    ensures unchanged { result ≢ OK → out.new ≡ out.old }
+    ensures unchanged { result ≢ YZ_OK → out.new ≡ out.old }
 {
     let Some(algorithm) = hkdf_of_number(algorithm) else {
         return UNKNOWN_ALGORITHM;
@@ -139,13 +139,13 @@ pub extern "C" fn yz_hkdf(
 // Fills `out` with the PRK's output for `info`.
 pub(crate) fn fill(prk: &Prk, info: &[&[u8]], out: &mut [u8]) -> i32
     requires { IsOutputWithin (prk_algorithm prk.now) (length out.old) }
-    ensures ok { (k : List ℕ) → PrkStandsFor prk.now k → result ≡ OK
+    ensures ok { (k : List ℕ) → PrkStandsFor prk.now k → result ≡ YZ_OK
         → out.new ≡ okm (prk_algorithm prk.now) k (joined info.now) (length out.old) }
     ensures status { result ≡ first_of record no_cause {
       unspecified = not (can_expand (prk_algorithm prk.now)
           (length (joined info.now)) (length out.old));
     } }
-    ensures unchanged { result ≢ OK → out.new ≡ out.old }
+    ensures unchanged { result ≢ YZ_OK → out.new ≡ out.old }
 {
     let Ok(output) = prk.expand(info, Length(out.len())) else {
         // The length was tested.

@@ -7,7 +7,7 @@ ghost use Rattle.ring.specs.Limits.{IsOutputWithin, fits, max_okm_len};
 ghost use Rattle.ring.specs.declared.hkdf.algorithm.Algorithm.{Algorithm};
 ghost use Rattle.ring_c.specs.Label.{expand_label, is_label_within};
 ghost use Rattle.ring_c.specs.Number.{hkdf_named};
-ghost use Rattle.ring_c.specs.Status.{no_cause, status_of};
+ghost use Rattle.ring_c.specs.Status.{YZ_OK, YZ_UNKNOWN_ALGORITHM, no_cause, status_of};
 
 use crate::expansions::{fill, is_output_within};
 use crate::number::hkdf_of_number;
@@ -42,7 +42,7 @@ fn fill_by_label(prk: &Prk, label: &[u8], context: &[u8], out: &mut [u8]) -> i32
     ensures ok { (secret : List ℕ) → PrkStandsFor prk.now secret
         → out.new ≡ expand_label (prk_algorithm prk.now)
         secret label.now context.now (length out.old) }
-    ensures status { result ≡ OK }
+    ensures status { result ≡ YZ_OK }
 {
     let len = (out.len() as u16).to_be_bytes();
     let label_len = [PREFIX_LEN + label.len() as u8];
@@ -65,16 +65,16 @@ pub extern "C" fn yz_hkdf_expand_label(
     context: &[u8],
     out: &mut [u8],
 ) -> i32
-    ensures ok { (a : Algorithm) → hkdf_named algorithm ≡ Some a → result ≡ OK
+    ensures ok { (a : Algorithm) → hkdf_named algorithm ≡ Some a → result ≡ YZ_OK
         → out.new ≡ expand_label (hkdf_digest a)
         secret.now label.now context.now (length out.old) }
-    ensures status { result ≡ status_of UNKNOWN_ALGORITHM (hkdf_named algorithm) (λ a.
+    ensures status { result ≡ status_of YZ_UNKNOWN_ALGORITHM (hkdf_named algorithm) (λ a.
         record no_cause {
           wrong_length = nat_lt (max_okm_len (hkdf_digest a)) (length out.old);
           unspecified = not (fits (hkdf_digest a) (length secret.now)
               && is_label_within (length label.now) (length context.now));
         }) }
-    ensures unchanged { result ≢ OK → out.new ≡ out.old }
+    ensures unchanged { result ≢ YZ_OK → out.new ≡ out.old }
 {
     let Some(algorithm) = hkdf_of_number(algorithm) else {
         return UNKNOWN_ALGORITHM;

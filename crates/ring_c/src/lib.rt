@@ -5,8 +5,8 @@
 //! the shorter names do, and are for `capi/dispatch.c` alone: in the build for x86-64-v3 they are
 //! the faster ones.
 //!
-//! A call that can be refused returns a number of [`status`]: 0 on success, and else the first
-//! cause that holds. On failure nothing is written. The contracts also say which status a call
+//! A call that can be refused returns a number of [`status`]: 0 on success, and else the least one
+//! whose cause holds. On failure nothing is written. The contracts also say which status a call
 //! returns for a context or a key that no call made. No call has a `requires`, allocates memory or
 //! keeps anything between two calls.
 #![tactic(auto)]

@@ -12,7 +12,8 @@ ghost use Rattle.ring.specs.declared.digest.algorithm.Algorithm as digest;
 ghost use Rattle.ring.specs.declared.hmac.key.Algorithm.{Algorithm};
 ghost use Rattle.ring_c.specs.Limits.{can_sign, can_tag, is_no_tag_context};
 ghost use Rattle.ring_c.specs.Number.{hmac_named};
-ghost use Rattle.ring_c.specs.Status.{first_of, no_cause, status_of};
+ghost use Rattle.ring_c.specs.Status.{YZ_OK, YZ_UNKNOWN_ALGORITHM, YZ_UNKNOWN_CONTEXT};
+ghost use Rattle.ring_c.specs.Status.{YZ_UNSPECIFIED, first_of, no_cause, status_of};
 ghost use Rattle.ring_c.specs.Verified.{is_raw_tag, is_tag};
 
 use crate::number::hmac_of_number;
@@ -23,13 +24,13 @@ use ring::raw::{RawKey, RawTagContext};
 // Writes the tag of a message to `out`.
 pub(crate) fn write_tag(key: &Key, message: &[u8], out: &mut [u8]) -> i32
     requires { length out.old ≡ output_len (key_algorithm key.now) }
-    ensures ok { (k : List ℕ) → KeyStandsFor key.now k → result ≡ OK
+    ensures ok { (k : List ℕ) → KeyStandsFor key.now k → result ≡ YZ_OK
         → out.new ≡ hmac_of (key_algorithm key.now) k message.now }
-    ensures any { result ≡ OK → out.new ≡ tag_under key.now message.now }
+    ensures any { result ≡ YZ_OK → out.new ≡ tag_under key.now message.now }
     ensures status { result ≡ first_of record no_cause {
       unspecified = not (can_tag (key_algorithm key.now) (length message.now));
     } }
-    ensures unchanged { result ≢ OK → out.new ≡ out.old }
+    ensures unchanged { result ≢ YZ_OK → out.new ≡ out.old }
 {
     let Ok(tag) = hmac::sign(key, message) else {
         return UNSPECIFIED;
@@ -41,11 +42,11 @@ pub(crate) fn write_tag(key: &Key, message: &[u8], out: &mut [u8]) -> i32
 // Verifies the tag of a message.
 fn verify_tag(key: &Key, message: &[u8], tag: &[u8]) -> i32
     ensures ok { (k : List ℕ) → KeyStandsFor key.now k
-        → (result ≡ OK ↔ (IsTagWithin (key_algorithm key.now) (length message.now)
+        → (result ≡ YZ_OK ↔ (IsTagWithin (key_algorithm key.now) (length message.now)
         × (tag.now ≡ hmac_of (key_algorithm key.now) k message.now))) }
-    ensures any { result ≡ OK ↔ (IsTagWithin (key_algorithm key.now) (length message.now)
+    ensures any { result ≡ YZ_OK ↔ (IsTagWithin (key_algorithm key.now) (length message.now)
         × (tag.now ≡ tag_under key.now message.now)) }
-    ensures status { result ≢ OK → result ≡ UNSPECIFIED }
+    ensures status { result ≢ YZ_OK → result ≡ YZ_UNSPECIFIED }
 {
     match hmac::verify(key, message, tag) {
         Ok(()) => OK,
@@ -60,14 +61,14 @@ fn verify_tag(key: &Key, message: &[u8], tag: &[u8]) -> i32
 /// as `UNSPECIFIED` where the key or the message is too long. `out` is then unchanged.
 #[unsafe(no_mangle)]
 pub extern "C" fn yz_hmac_sign(algorithm: u32, key: &[u8], message: &[u8], out: &mut [u8]) -> i32
-    ensures ok { (a : Algorithm) → hmac_named algorithm ≡ Some a → result ≡ OK
+    ensures ok { (a : Algorithm) → hmac_named algorithm ≡ Some a → result ≡ YZ_OK
         → out.new ≡ hmac_of (hmac_digest a) key.now message.now }
-    ensures status { result ≡ status_of UNKNOWN_ALGORITHM (hmac_named algorithm) (λ a.
+    ensures status { result ≡ status_of YZ_UNKNOWN_ALGORITHM (hmac_named algorithm) (λ a.
         record no_cause {
           wrong_length = not (length out.old == output_len (hmac_digest a));
           unspecified = not (can_sign (hmac_digest a) (length key.now) (length message.now));
         }) }
-    ensures unchanged { result ≢ OK → out.new ≡ out.old }
+    ensures unchanged { result ≢ YZ_OK → out.new ≡ out.old }
 {
     let Some(algorithm) = hmac_of_number(algorithm) else {
         return UNKNOWN_ALGORITHM;
@@ -88,7 +89,7 @@ pub extern "C" fn yz_hmac_sign(algorithm: u32, key: &[u8], message: &[u8], out: 
 /// is too long.
 #[unsafe(no_mangle)]
 pub extern "C" fn yz_hmac_verify(algorithm: u32, key: &[u8], message: &[u8], tag: &[u8]) -> i32
-    ensures { result ≡ status_of UNKNOWN_ALGORITHM (hmac_named algorithm) (λ a.
+    ensures { result ≡ status_of YZ_UNKNOWN_ALGORITHM (hmac_named algorithm) (λ a.
         record no_cause {
           unspecified = not (is_tag (hmac_digest a) key.now message.now tag.now);
         }) }
@@ -109,14 +110,14 @@ pub extern "C" fn yz_hmac_verify(algorithm: u32, key: &[u8], message: &[u8], tag
 /// unchanged.
 #[unsafe(no_mangle)]
 pub extern "C" fn yz_hmac_key_init(algorithm: u32, value: &[u8], key: &mut RawKey) -> i32
-    ensures ok { (a : Algorithm) → hmac_named algorithm ≡ Some a → result ≡ OK
+    ensures ok { (a : Algorithm) → hmac_named algorithm ≡ Some a → result ≡ YZ_OK
         → RawKeyStandsFor key.new (hmac_digest a) value.now }
-    ensures sized { (a : Algorithm) → hmac_named algorithm ≡ Some a → result ≡ OK
+    ensures sized { (a : Algorithm) → hmac_named algorithm ≡ Some a → result ≡ YZ_OK
         → AreWords (hmac_digest a) key.new.inner × AreWords (hmac_digest a) key.new.outer }
-    ensures reserved { result ≡ OK → key.new.reserved ≡ 0 }
-    ensures status { result ≡ status_of UNKNOWN_ALGORITHM (hmac_named algorithm) (λ a.
+    ensures reserved { result ≡ YZ_OK → key.new.reserved ≡ 0 }
+    ensures status { result ≡ status_of YZ_UNKNOWN_ALGORITHM (hmac_named algorithm) (λ a.
         record no_cause { unspecified = not (fits (hmac_digest a) (length value.now)) }) }
-    ensures unchanged { result ≢ OK → key.new ≡ key.old }
+    ensures unchanged { result ≢ YZ_OK → key.new ≡ key.old }
 {
     let Some(algorithm) = hmac_of_number(algorithm) else {
         return UNKNOWN_ALGORITHM;
@@ -135,16 +136,16 @@ pub extern "C" fn yz_hmac_key_init(algorithm: u32, value: &[u8], key: &mut RawKe
 /// unchanged.
 #[unsafe(no_mangle)]
 pub extern "C" fn yz_hmac_key_sign(key: &RawKey, message: &[u8], out: &mut [u8]) -> i32
-    ensures ok { (a : digest.Algorithm) (k : List ℕ) → RawKeyStandsFor key.now a k → result ≡ OK
+    ensures ok { (a : digest.Algorithm) (k : List ℕ) → RawKeyStandsFor key.now a k → result ≡ YZ_OK
         → out.new ≡ hmac_of a k message.now }
-    ensures any { (a : digest.Algorithm) → digest_named key.now.algorithm ≡ Some a → result ≡ OK
+    ensures any { (a : digest.Algorithm) → digest_named key.now.algorithm ≡ Some a → result ≡ YZ_OK
         → out.new ≡ raw_tag_under a key.now message.now }
-    ensures status { result ≡ status_of UNKNOWN_CONTEXT (digest_named key.now.algorithm) (λ a.
+    ensures status { result ≡ status_of YZ_UNKNOWN_CONTEXT (digest_named key.now.algorithm) (λ a.
         record no_cause {
           wrong_length = not (length out.old == output_len a);
           unspecified = not (can_tag a (length message.now));
         }) }
-    ensures unchanged { result ≢ OK → out.new ≡ out.old }
+    ensures unchanged { result ≢ YZ_OK → out.new ≡ out.old }
 {
     let Some(key) = key.key() else {
         return UNKNOWN_CONTEXT;
@@ -162,9 +163,9 @@ pub extern "C" fn yz_hmac_key_sign(key: &RawKey, message: &[u8], out: &mut [u8])
 #[unsafe(no_mangle)]
 pub extern "C" fn yz_hmac_key_verify(key: &RawKey, message: &[u8], tag: &[u8]) -> i32
     ensures ok { (a : digest.Algorithm) (k : List ℕ) → RawKeyStandsFor key.now a k
-        → (result ≡ OK ↔ (IsTagWithin a (length message.now)
+        → (result ≡ YZ_OK ↔ (IsTagWithin a (length message.now)
         × (tag.now ≡ hmac_of a k message.now))) }
-    ensures status { result ≡ status_of UNKNOWN_CONTEXT (digest_named key.now.algorithm) (λ a.
+    ensures status { result ≡ status_of YZ_UNKNOWN_CONTEXT (digest_named key.now.algorithm) (λ a.
         record no_cause { unspecified = not (is_raw_tag a key.now message.now tag.now) }) }
 {
     match key.key() {
@@ -181,13 +182,13 @@ pub extern "C" fn yz_hmac_key_verify(key: &RawKey, message: &[u8], tag: &[u8]) -
 #[tactic(auto, using(ring::proofs::lemmas::raw::Numbers::has_begun))]
 pub extern "C" fn yz_hmac_init(key: &RawKey, context: &mut RawTagContext) -> i32
     ensures ok { (a : digest.Algorithm) (k : List ℕ) → RawKeyStandsFor key.now a k
-        → result ≡ OK × RawTagStandsFor context.new a k [] }
-    ensures any { result ≡ OK → HasBegun key.now context.new }
-    ensures sized { (a : digest.Algorithm) → digest_named key.now.algorithm ≡ Some a → result ≡ OK
-        → AreWords a context.new.inner.words × AreWords a context.new.outer }
+        → result ≡ YZ_OK × RawTagStandsFor context.new a k [] }
+    ensures any { result ≡ YZ_OK → HasBegun key.now context.new }
+    ensures sized { (a : digest.Algorithm) → digest_named key.now.algorithm ≡ Some a
+        → result ≡ YZ_OK → AreWords a context.new.inner.words × AreWords a context.new.outer }
     ensures status { result
-        ≡ status_of UNKNOWN_CONTEXT (digest_named key.now.algorithm) (λ a. no_cause) }
-    ensures unchanged { result ≢ OK → context.new ≡ context.old }
+        ≡ status_of YZ_UNKNOWN_CONTEXT (digest_named key.now.algorithm) (λ a. no_cause) }
+    ensures unchanged { result ≢ YZ_OK → context.new ≡ context.old }
 {
     let Some(signing_key) = key.key() else {
         return UNKNOWN_CONTEXT;
@@ -204,12 +205,12 @@ pub extern "C" fn yz_hmac_init(key: &RawKey, context: &mut RawTagContext) -> i32
 #[tactic(auto, unfolding(ring::specs::Raw::named_block_len))]
 pub extern "C" fn yz_hmac_update(context: &mut RawTagContext, input: &[u8]) -> i32
     ensures ok { (a : digest.Algorithm) (k m : List ℕ) → RawTagStandsFor context.old a k m
-        → result ≡ OK × RawTagStandsFor context.new a k (m ++ input.now) }
-    ensures any { result ≡ OK → TagHasAdded context.old context.new input.now }
+        → result ≡ YZ_OK × RawTagStandsFor context.new a k (m ++ input.now) }
+    ensures any { result ≡ YZ_OK → TagHasAdded context.old context.new input.now }
     ensures status { result
-        ≡ status_of UNKNOWN_CONTEXT (digest_named context.old.inner.algorithm) (λ a.
+        ≡ status_of YZ_UNKNOWN_CONTEXT (digest_named context.old.inner.algorithm) (λ a.
         record no_cause { unknown_context = is_no_tag_context context.old }) }
-    ensures unchanged { result ≢ OK → context.new ≡ context.old }
+    ensures unchanged { result ≢ YZ_OK → context.new ≡ context.old }
 {
     if !context.update(input) {
         return UNKNOWN_CONTEXT;
@@ -225,12 +226,12 @@ pub extern "C" fn yz_hmac_update(context: &mut RawTagContext, input: &[u8]) -> i
 #[unsafe(no_mangle)]
 pub extern "C" fn yz_hmac_final(context: &RawTagContext, out: &mut [u8]) -> i32
     ensures ok { (a : digest.Algorithm) (k m : List ℕ) → RawTagStandsFor context.now a k m
-        → result ≡ OK → out.new ≡ hmac_of a k m }
+        → result ≡ YZ_OK → out.new ≡ hmac_of a k m }
     ensures any { (a : digest.Algorithm) → digest_named context.now.inner.algorithm ≡ Some a
-        → result ≡ OK
+        → result ≡ YZ_OK
         → out.new ≡ raw_tag_with a context.now [] (raw_message_len context.now.inner) }
     ensures status { result
-        ≡ status_of UNKNOWN_CONTEXT (digest_named context.now.inner.algorithm) (λ a.
+        ≡ status_of YZ_UNKNOWN_CONTEXT (digest_named context.now.inner.algorithm) (λ a.
         record no_cause {
           unknown_context = is_no_tag_context context.now;
           wrong_length = not (length out.old == output_len a);
@@ -238,8 +239,8 @@ pub extern "C" fn yz_hmac_final(context: &RawTagContext, out: &mut [u8]) -> i32
         }) }
     ensures refused_of { (a : digest.Algorithm) (k m : List ℕ)
         → RawTagStandsFor context.now a k m → length out.old ≡ output_len a
-        → (result ≡ OK ↔ IsTagWithin a (length m)) }
-    ensures unchanged { result ≢ OK → out.new ≡ out.old }
+        → (result ≡ YZ_OK ↔ IsTagWithin a (length m)) }
+    ensures unchanged { result ≢ YZ_OK → out.new ≡ out.old }
 {
     let Some(named) = context.algorithm() else {
         return UNKNOWN_CONTEXT;

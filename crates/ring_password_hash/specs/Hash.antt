@@ -7,7 +7,8 @@ use Rattle.std.specs.Int.NonZero.{non_zero_u32_get}
 use Rattle.std.specs.declared.num.NonZeroU32.{NonZeroU32}
 use Rattle.hex.specs.Hex.{IsBytes}
 use Rattle.ring_text.specs.Cut.{IsWithout}
-use Rattle.ring.specs.Prelude.{CanDerive, IsDerived, can_verify, derive_blocks, dk}
+use Rattle.ring.specs.Prelude.{CanDerive, Counts, IsDerived, can_verify, derive_blocks, dk}
+use Rattle.ring.specs.Prelude.{raised}
 use Rattle.ring_password_hash.specs.declared.error.HashError.{HashError}
 use Rattle.ring_password_hash.specs.declared.error.HashError.TheVariants.{BadFormat, WrongPassword}
 use Rattle.ring_password_hash.specs.declared.error.HashError.TheVariants.{TooManyIterations}
@@ -156,3 +157,17 @@ answer_for h p most =
 abbrev pub answer_of : Option Parts → (p : List ℕ) → (most : ℕ) → Result (Unit {0}) HashError
 answer_of (Some h) p most = answer_for h p most
 answer_of None p most = Err BadFormat
+
+-- a meter after such a test: it costs nothing above the limit, and where the lengths are refused
+abbrev pub raised_for : Parts → (p : List ℕ) → (most : ℕ) → Counts → Counts
+raised_for h p most before =
+    if nat_lt most (non_zero_u32_get h.iterations) then before
+    else if can_verify (algorithm_of h.kind) (length p) (length h.salt) (length h.hash) then raised
+    before (derive_blocks (algorithm_of h.kind) (length p) (length h.salt)
+    (non_zero_u32_get h.iterations) (length h.hash)) (length h.hash)
+    else before
+
+-- the same against a text, by what it is read as
+abbrev pub raised_of : Option Parts → (p : List ℕ) → (most : ℕ) → Counts → Counts
+raised_of (Some h) p most before = raised_for h p most before
+raised_of None p most before = before

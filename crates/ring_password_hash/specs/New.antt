@@ -11,7 +11,6 @@ use Rattle.ring_password_hash.specs.Head.{head_then}
 use Rattle.ring_password_hash.specs.Hash.{Parts, hash_text, usual_parameters}
 use Rattle.ring_password_hash.specs.Kind.{algorithm_of, hash_len_of, salt_encoding_of}
 use Rattle.ring_password_hash.specs.Salt.{is_text}
-use Rattle.ring_password_hash.specs.declared.decoded.TheConstants.{MAX_TEXT_LEN}
 use Rattle.ring_password_hash.specs.declared.kind.Kind.{Kind}
 use Rattle.ring_password_hash.specs.declared.made_in_place.NewError.{NewError}
 use Rattle.ring_password_hash.specs.declared.made_in_place.NewError.TheVariants as new
@@ -48,10 +47,14 @@ abbrev pub front_of : Kind → (c : NonZeroU32) → (s : List ℕ) → List ℕ
 front_of k c s = head_then k (usual_parameters k) c (hash_len_of k) []
     ++ field_then (salt_encoding_of k) s 36 []
 
--- whether its text is longer than a buffer, or than any text that is read with no memory
+-- the most bytes of a text that is read or written with no memory
+abbrev pub max_text_len : ℕ
+max_text_len = 1024
+
+-- whether its text is longer than a buffer, or than any such text
 abbrev pub is_past : (room : ℕ) → Kind → (p s : List ℕ) → NonZeroU32 → Bool
 is_past room k p s c =
-    nat_lt room (length (new_text k p s c)) || nat_lt MAX_TEXT_LEN (length (new_text k p s c))
+    nat_lt room (length (new_text k p s c)) || nat_lt max_text_len (length (new_text k p s c))
 
 -- whether it can be derived
 abbrev pub can_hash : Kind → (p s : List ℕ) → Bool

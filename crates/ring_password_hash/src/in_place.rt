@@ -1,10 +1,11 @@
 // SPDX-License-Identifier: ISC
 //! Hashes that are read and tested with no memory but the call's own.
 
-ghost use Rattle.std.specs.Prelude.{◌≡◌, ◌≤◌, ℕ, List, Some, length, take, IfSome, IsNone};
+ghost use Rattle.std.specs.Prelude.{◌≡◌, ◌≤◌, ◌⊎◌, ℕ, List, Some, length, take, IfSome, IsErrOf};
+ghost use Rattle.std.specs.Prelude.{IsNone};
 ghost use Rattle.std.specs.Int.NonZero.{non_zero_u32_get};
 ghost use Rattle.ring_password_hash.specs.Hash.{IsReadWhere, IsTextOf, Parts, answer_for};
-ghost use Rattle.ring_password_hash.specs.Hash.{answer_of, is_hash_of};
+ghost use Rattle.ring_password_hash.specs.Hash.{answer_of, is_hash_of, raised_for, raised_of};
 ghost use Rattle.ring_password_hash.specs.InPlace.{parts_of};
 
 use crate::decoded::{MAX_TEXT_LEN, decode_into, field_into};
@@ -12,6 +13,7 @@ use crate::error::HashError;
 use crate::head::{Parameters, head_in};
 use crate::kind::{KINDS, Kind};
 use crate::password_hash::is_salt;
+use ring::cost::Meter;
 use ring::pbkdf2;
 use std::num::NonZeroU32;
 
@@ -76,19 +78,56 @@ fn test(
     hash: &[u8],
     password: &[u8],
     max_iterations: u32,
+    meter: &mut Meter,
 ) -> Result<(), HashError>
-    ensures { (h : Parts) → h.kind ≡ reading.now.kind → h.iterations ≡ reading.now.iterations
+    ensures answer { (h : Parts) → h.kind ≡ reading.now.kind → h.iterations ≡ reading.now.iterations
         → h.salt ≡ salt.now → h.hash ≡ hash.now
         → result ≡ answer_for h password.now max_iterations }
+    ensures refused { ¬ (IsErrOf result HashError.BadFormat) }
+    ensures unchanged { IsErrOf result HashError.TooManyIterations → meter.new ≡ meter.old }
+    ensures cost { (h : Parts) → h.kind ≡ reading.now.kind → h.iterations ≡ reading.now.iterations
+        → h.salt ≡ salt.now → h.hash ≡ hash.now
+        → meter.new ≡ raised_for h password.now max_iterations meter.old }
 {
     if reading.iterations.get() > max_iterations {
         return Err(HashError::TooManyIterations);
     }
     let algorithm = reading.kind.algorithm();
-    match pbkdf2::verify(algorithm, reading.iterations, salt, password, hash) {
+    match pbkdf2::verify_counted(algorithm, reading.iterations, salt, password, hash, meter) {
         Ok(()) => Ok(()),
         Err(_) => Err(HashError::WrongPassword),
     }
+}
+
+/// Tests a password as [`verify_in_place`] does. `meter` counts the blocks and the compared pairs of
+/// bytes: none where the text, its iteration count or the length of `password` is refused.
+pub fn verify_in_place_counted(
+    password: &[u8],
+    text: &[u8],
+    max_iterations: u32,
+    meter: &mut Meter,
+) -> Result<(), HashError>
+    requires { length text.now ≤ MAX_TEXT_LEN }
+    ensures answer { IsReadWhere text.now (λ found.
+        result ≡ answer_of found password.now max_iterations) }
+    ensures unchanged { IsErrOf result HashError.BadFormat
+        ⊎ IsErrOf result HashError.TooManyIterations → meter.new ≡ meter.old }
+    ensures cost { IsReadWhere text.now (λ found.
+        meter.new ≡ raised_of found password.now max_iterations meter.old) }
+{
+    let mut salt = [0; MAX_TEXT_LEN];
+    let mut hash = [0; MAX_TEXT_LEN];
+    let Some(reading) = read(text, &mut salt, &mut hash) else {
+        return Err(HashError::BadFormat);
+    };
+    test(
+        &reading,
+        &salt[..reading.salt_len],
+        &hash[..reading.hash_len],
+        password,
+        max_iterations,
+        meter,
+    )
 }
 
 /// Tests a password against `text` as [`verify`](crate::verify) does, with no memory but two arrays
@@ -102,16 +141,5 @@ pub fn verify_in_place(password: &[u8], text: &[u8], max_iterations: u32) -> Res
     ensures { IsReadWhere text.now (λ found.
         result ≡ answer_of found password.now max_iterations) }
 {
-    let mut salt = [0; MAX_TEXT_LEN];
-    let mut hash = [0; MAX_TEXT_LEN];
-    let Some(reading) = read(text, &mut salt, &mut hash) else {
-        return Err(HashError::BadFormat);
-    };
-    test(
-        &reading,
-        &salt[..reading.salt_len],
-        &hash[..reading.hash_len],
-        password,
-        max_iterations,
-    )
+    verify_in_place_counted(password, text, max_iterations, &mut Meter::new())
 }

@@ -12,7 +12,7 @@ ghost use Rattle.ring_password_hash.specs.Hash.{kind_of, parameters_of, salt_of,
 ghost use Rattle.ring_password_hash.specs.Hash.{usual_parameters};
 ghost use Rattle.ring_password_hash.specs.Kind.{hash_len_of};
 ghost use Rattle.ring_password_hash.specs.New.{new_text};
-ghost use Rattle.ring_password_hash.specs.Scram.{salted_password, scram_text};
+ghost use Rattle.ring_password_hash.specs.Scram.{IsScram, salted_password, scram_text};
 ghost use Rattle.ring_password_hash.specs.declared.head.Parameters.{Parameters};
 ghost use Rattle.ring_password_hash.specs.declared.kind.Kind.{Kind};
 
@@ -24,6 +24,14 @@ pub fn one_text_is_of_one_hash()
     ensures { (k l : Kind) (p q : Parameters) (c d : NonZeroU32) (s t h g : List ℕ)
         → IsParts k p c s h → IsParts l q d t g → hash_text k p c s h ≡ hash_text l q d t g
         → (k ≡ l) × (p ≡ q) × (c ≡ d) × (s ≡ t) × (h ≡ g) }
+{}
+
+/// A text is of one verifier.
+pub fn one_text_is_of_one_verifier()
+    ensures { (c d : NonZeroU32) (s t stored other_stored server other_server : List ℕ)
+        → IsScram c s stored server → IsScram d t other_stored other_server
+        → scram_text c s stored server ≡ scram_text d t other_stored other_server
+        → (c ≡ d) × (s ≡ t) × (stored ≡ other_stored) × (server ≡ other_server) }
 {}
 
 /// No text of a hash is one of a verifier.

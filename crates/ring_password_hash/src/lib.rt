@@ -22,7 +22,7 @@ pub mod scram;
 pub use crate::decoded::MAX_TEXT_LEN;
 pub use crate::error::HashError;
 pub use crate::head::{MAX_NAMED_LEN, MIN_NAMED_LEN, Parameters};
-pub use crate::in_place::verify_in_place;
+pub use crate::in_place::{verify_in_place, verify_in_place_counted};
 pub use crate::kind::{KINDS, Kind};
 pub use crate::made_in_place::{NewError, new_in_place, new_in_place_counted};
 pub use crate::password_hash::{PasswordHash, verify, verify_counted};

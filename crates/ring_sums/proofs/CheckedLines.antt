@@ -8,6 +8,7 @@ use Rattle.std.proofs.Math.Seq.{take-suc}
 use Rattle.std.proofs.lemmas.Bool.{cases_lt}
 use Rattle.std.proofs.lemmas.List.{get_or-append_right, get_or_append_left, take-append-drop}
 use Rattle.std.proofs.lemmas.List.{length-take-le, map-append, take_all}
+use Rattle.std.specs.declared.io.Error.{Error}
 use Rattle.ring_sums.specs.Check.{AreCounted, AreFilesOf, IsChecked, IsFound, all_said}
 use Rattle.ring_sums.specs.Check.{bad_lines_of, entries_of, said_of}
 use Rattle.ring_sums.specs.Console.{HasWritten, IsKept}
@@ -75,17 +76,18 @@ said-more amount (e ∷ entries) (f ∷ founds) found entry below =
     ∙ sym (append_assoc (said_of amount e.name.items f) (all_said amount entries founds) _)
 
 -- the first n lines are checked
-pub record AreChecked {S R W : Type 0} (remaining : S → Option (List ℕ)) (can_fail : S → Bool)
-    (contents : W → Option (List ℕ)) (options : Options) (lines : List Line) (n : ℕ)
+pub record AreChecked {S R W : Type 0} (remaining : S → Option (List ℕ))
+    (fails_with : S → Error → Bool) (contents : W → Option (List ℕ)) (options : Options)
+    (lines : List Line) (n : ℕ)
     (wanted : List (Wanted S)) (state : Outcomes S) (counts : Counts) (old new : Console R W)
     : Type 0 where
   pub outcomes : List Outcome
   pub founds : List (Option Verdict)
   pub count : length founds ≡ length (entries_of (take n lines))
   pub as_many : length outcomes ≡ length founds
-  pub rest : AreToCome remaining can_fail wanted (length founds) state
+  pub rest : AreToCome remaining fails_with wanted (length founds) state
   pub read : (k : ℕ) (w : Wanted S) (o : Outcome) → k < length founds
-      → IsOutcomeOf remaining can_fail (get_or wanted k w) (get_or outcomes k o)
+      → IsOutcomeOf remaining fails_with (get_or wanted k w) (get_or outcomes k o)
   pub found : (k : ℕ) (e : Entry) (o : Outcome) (f : Option Verdict) → k < length founds
       → IsFound options (get_or (entries_of lines) k e).listed.items (get_or outcomes k o)
       (get_or founds k f)
@@ -217,13 +219,13 @@ names-more {R} {F} {D} {I} entries wanted entry file are same =
     ∙ ap (λ (z : Option (List ℕ)). map (λ entry. Some entry.name.items) entries ++ z ∷ []) same
     ∙ sym (map-append (λ (z : Entry). Some z.name.items) entries (entry ∷ []))
 
-module _ {S R W : Type 0} {remaining : S → Option (List ℕ)} {can_fail : S → Bool}
+module _ {S R W : Type 0} {remaining : S → Option (List ℕ)} {fails_with : S → Error → Bool}
     {contents : W → Option (List ℕ)} {options : Options} {lines : List Line}
     {wanted : List (Wanted S)} where
   -- no line is checked yet
   pub checked-first : {state : Outcomes S} {counts : Counts} (console : Console R W)
-      → AreToCome remaining can_fail wanted 0 state → AreCounted [] counts → counts.bad_lines ≡ 0
-      → AreChecked remaining can_fail contents options lines 0 wanted state counts console console
+      → AreToCome remaining fails_with wanted 0 state → AreCounted [] counts → counts.bad_lines ≡ 0
+      → AreChecked remaining fails_with contents options lines 0 wanted state counts console console
   unfolding entries_of bad_lines_of
   checked-first console rest counted bad =
       record {
@@ -242,7 +244,7 @@ module _ {S R W : Type 0} {remaining : S → Option (List ℕ)} {can_fail : S �
 
   -- there are fewer lines of them than all
   pub bad-few : {n : ℕ} {state : Outcomes S} {counts : Counts} {old new : Console R W}
-      → AreChecked remaining can_fail contents options lines n wanted state counts old new
+      → AreChecked remaining fails_with contents options lines n wanted state counts old new
       → n < length lines → counts.bad_lines < length lines
   bad-few {n} is below =
       omega (
@@ -257,10 +259,10 @@ module _ {S R W : Type 0} {remaining : S → Option (List ℕ)} {can_fail : S �
   pub checked-bad : {n number : ℕ} {state : Outcomes S} {counts after : Counts}
       {old mid new : Console R W} (l : Line) → n < length lines
       → get_or lines n l ≡ line.Bad number
-      → AreChecked remaining can_fail contents options lines n wanted state counts old mid
+      → AreChecked remaining fails_with contents options lines n wanted state counts old mid
       → IsKept mid new → after.bad_lines ≡ counts.bad_lines + 1 → after.entries ≡ counts.entries
       → after.same ≡ counts.same → after.others ≡ counts.others → after.unread ≡ counts.unread
-      → AreChecked remaining can_fail contents options lines (n + 1) wanted state after old new
+      → AreChecked remaining fails_with contents options lines (n + 1) wanted state after old new
   checked-bad {n} {number} l below e is kept bad entries same others unread =
       let here = bad-here lines n number l below e in
       record {
@@ -287,14 +289,14 @@ module _ {S R W : Type 0} {remaining : S → Option (List ℕ)} {can_fail : S �
       (found : Option Verdict) → n < length lines → length lines < 2 ^ 64
       → length (entries_of lines) ≡ length wanted
       → get_or lines n l ≡ line.Entry entry
-      → (is : AreChecked remaining can_fail contents options lines n wanted before counts old mid)
-      → IsAnswered remaining can_fail wanted (length is.founds) (Some outcome) state
+      → (is : AreChecked remaining fails_with contents options lines n wanted before counts old mid)
+      → IsAnswered remaining fails_with wanted (length is.founds) (Some outcome) state
       → IsFound options entry.listed.items outcome found
       → HasWritten contents (said_of options.amount entry.name.items found) mid new
       → ((founds : List (Option Verdict)) → length founds < 2 ^ 64 - 1
       → AreCounted founds counts → AreCounted (founds ++ found ∷ []) after)
       → after.bad_lines ≡ counts.bad_lines
-      → AreChecked remaining can_fail contents options lines (n + 1) wanted state after old new
+      → AreChecked remaining fails_with contents options lines (n + 1) wanted state after old new
   checked-entry {n} {before} {state} {counts} {after} {old} {mid} {new} l entry outcome found below
       few same e is answer has line counted bad =
       let here = entry-here lines n entry l below e in
@@ -307,11 +309,11 @@ module _ {S R W : Type 0} {remaining : S → Option (List ℕ)} {can_fail : S �
         founds = is.founds ++ found ∷ [];
         count = omega (arith, more, is.count, here.more);
         as_many = omega (arith, more, many, is.as_many);
-        rest = subst (λ (z : ℕ). AreToCome remaining can_fail wanted z state) (sym more)
+        rest = subst (λ (z : ℕ). AreToCome remaining fails_with wanted z state) (sym more)
             answer.rest;
         read = λ k w o lt. elim (cases_lt k (length is.founds)) [
           | inl ahead ↦
-              subst (IsOutcomeOf remaining can_fail (get_or wanted k w))
+              subst (IsOutcomeOf remaining fails_with (get_or wanted k w))
               (sym (get_or_append_left is.outcomes (outcome ∷ []) o k
               (omega (arith, ahead, is.as_many)))) (is.read k w o ahead)
           | inr behind ↦
@@ -351,9 +353,9 @@ module _ {S R W : Type 0} {remaining : S → Option (List ℕ)} {can_fail : S �
   pub checked-none : {n : ℕ} {before state : Outcomes S} {counts : Counts} {old new : Console R W}
       (l : Line) (entry : Entry) → n < length lines → get_or lines n l ≡ line.Entry entry
       → length (entries_of lines) ≡ length wanted
-      → (is : AreChecked remaining can_fail contents options lines n wanted before counts old new)
-      → IsAnswered remaining can_fail wanted (length is.founds) None state
-      → IsChecked remaining can_fail contents options lines wanted counts old new
+      → (is : AreChecked remaining fails_with contents options lines n wanted before counts old new)
+      → IsAnswered remaining fails_with wanted (length is.founds) None state
+      → IsChecked remaining fails_with contents options lines wanted counts old new
   checked-none {n} l entry below e same is answer =
       let here = entry-here lines n entry l below e in
       absurd (cc (answer.some.1 (omega (arith, is.count, here.below, same))))
@@ -361,8 +363,8 @@ module _ {S R W : Type 0} {remaining : S → Option (List ℕ)} {can_fail : S �
   -- all lines are checked
   pub checked-all : {n : ℕ} {state : Outcomes S} {counts : Counts} {old new : Console R W}
       → n ≡ length lines → length (entries_of lines) ≡ length wanted
-      → AreChecked remaining can_fail contents options lines n wanted state counts old new
-      → IsChecked remaining can_fail contents options lines wanted counts old new
+      → AreChecked remaining fails_with contents options lines n wanted state counts old new
+      → IsChecked remaining fails_with contents options lines wanted counts old new
   checked-all {n} all same is =
       let whole : take n lines ≡ lines = take_all n lines (omega (arith, all)) in
       let many : length is.founds ≡ length wanted =

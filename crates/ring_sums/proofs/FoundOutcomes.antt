@@ -7,6 +7,7 @@ use Rattle.std.proofs.Common.{length-append, length-drop}
 use Rattle.std.specs.Prelude.{◌↔◌, Bool, IfSome, IsSome, if◌then◌else◌, is_some}
 use Rattle.std.proofs.lemmas.Bool.{cases_eq, cases_lt}
 use Rattle.std.proofs.lemmas.List.{get_or-append_right, get_or-drop, get_or_append_left}
+use Rattle.std.specs.declared.io.Error.{Error}
 use Rattle.ring.specs.declared.digest.algorithm.Algorithm.{Algorithm}
 use Rattle.ring_sums.specs.Found.{AreFound, ArePending, IsFirst, IsPut, IsReady}
 use Rattle.ring_sums.specs.Lanes.{IsBegun, KeepPlaces}
@@ -42,23 +43,23 @@ last-next {R = R} {readers} {rest} reader place have e =
       };
     }
 
-module _ {R : Type 0} {remaining : R → Option (List ℕ)} {can_fail : R → Bool}
+module _ {R : Type 0} {remaining : R → Option (List ℕ)} {fails_with : R → Error → Bool}
     {a : Algorithm} {readers : List R} where
   -- an outcome at its place
   pub found-put : {given place : ℕ} {outcome : Outcome} {old new : List (Option Outcome)}
-      → AreFound remaining can_fail a readers given old → IsPut given place outcome old new
-      → ((r : R) → IsOutcome remaining can_fail a (get_or readers place r) outcome)
-      → AreFound remaining can_fail a readers given new
+      → AreFound remaining fails_with a readers given old → IsPut given place outcome old new
+      → ((r : R) → IsOutcome remaining fails_with a (get_or readers place r) outcome)
+      → AreFound remaining fails_with a readers given new
   found-put {given} {place} {outcome} {old} {new} all put is =
       record {
         each = λ k r o below.
             let P : Option Outcome → Type 0 =
-            λ z. IfSome z (IsOutcome remaining can_fail a (get_or readers (given + k) r)) in
+            λ z. IfSome z (IsOutcome remaining fails_with a (get_or readers (given + k) r)) in
             let there : k < length old = omega (arith, put.count, below) in
             elim (cases_eq (given + k) place) [
               | inl here ↦
                   subst P (sym (put.put k o there here))
-                  (subst (λ (z : ℕ). IsOutcome remaining can_fail a (get_or readers z r) outcome)
+                  (subst (λ (z : ℕ). IsOutcome remaining fails_with a (get_or readers z r) outcome)
                   (sym here) (is r))
               | inr other ↦
                   subst P (sym (put.others k o other)) (all.each k r o there)
@@ -67,15 +68,15 @@ module _ {R : Type 0} {remaining : R → Option (List ℕ)} {can_fail : R → Bo
 
   -- a place more, of which nothing is found
   pub found-more : {given : ℕ} {found : List (Option Outcome)}
-      → AreFound remaining can_fail a readers given found
-      → AreFound remaining can_fail a readers given (found ++ None ∷ [])
+      → AreFound remaining fails_with a readers given found
+      → AreFound remaining fails_with a readers given (found ++ None ∷ [])
   found-more {given} {found} all =
       let more = length-append found (None ∷ []) in
       record {
         each = λ k r o below. elim (cases_lt k (length found)) [
           | inl lt ↦
               subst (λ (z : Option Outcome).
-              IfSome z (IsOutcome remaining can_fail a (get_or readers (given + k) r)))
+              IfSome z (IsOutcome remaining fails_with a (get_or readers (given + k) r)))
               (sym (get_or_append_left found (None ∷ []) o k lt)) (all.each k r o lt)
           | inr ge ↦
               let at : k - length found ≡ 0 = omega (arith, ge, below, more) in
@@ -83,15 +84,15 @@ module _ {R : Type 0} {remaining : R → Option (List ℕ)} {can_fail : R → Bo
               get_or-append_right found (None ∷ []) (length found) k o refl ge
               ∙ ap (λ (z : ℕ). get_or (None ∷ []) z o) at in
               subst (λ (z : Option Outcome).
-              IfSome z (IsOutcome remaining can_fail a (get_or readers (given + k) r)))
+              IfSome z (IsOutcome remaining fails_with a (get_or readers (given + k) r)))
               (sym none) tt
         ];
       }
 
   -- the outcomes behind the first
   pub found-rest : {given : ℕ} {found : List (Option Outcome)}
-      → AreFound remaining can_fail a readers given found
-      → AreFound remaining can_fail a readers (given + 1) (drop 1 found)
+      → AreFound remaining fails_with a readers given found
+      → AreFound remaining fails_with a readers (given + 1) (drop 1 found)
   found-rest {given} {found} all =
       record {
         each = λ k r o below.
@@ -99,9 +100,9 @@ module _ {R : Type 0} {remaining : R → Option (List ℕ)} {can_fail : R → Bo
             let same : get_or (drop 1 found) k o ≡ get_or found (1 + k) o =
             get_or-drop 1 found k o in
             subst (λ (z : Option Outcome).
-            IfSome z (IsOutcome remaining can_fail a (get_or readers (given + 1 + k) r))) (sym same)
-            (subst (λ (z : ℕ). IfSome (get_or found (1 + k) o)
-            (IsOutcome remaining can_fail a (get_or readers z r))) (omega arith)
+            IfSome z (IsOutcome remaining fails_with a (get_or readers (given + 1 + k) r)))
+            (sym same) (subst (λ (z : ℕ). IfSome (get_or found (1 + k) o)
+            (IsOutcome remaining fails_with a (get_or readers z r))) (omega arith)
             (all.each (1 + k) r o (omega (arith, there))));
       }
 
@@ -209,25 +210,25 @@ module _ {R : Type 0} where
       }
 
 -- what is known once the first outcome is taken out, with w readers that wait
-pub record IsNextOf {R : Type 0} (remaining : R → Option (List ℕ)) (can_fail : R → Bool)
+pub record IsNextOf {R : Type 0} (remaining : R → Option (List ℕ)) (fails_with : R → Error → Bool)
     (a : Algorithm) (readers : List R) (place w : ℕ) (old : List (Option Outcome))
     (lanes : List (Lane R)) (outcome : Option Outcome) : Type 0 where
   pub some : IsSome outcome ↔ (place < length readers)
-  pub right : (r : R) → IfSome outcome (IsOutcome remaining can_fail a (get_or readers place r))
+  pub right : (r : R) → IfSome outcome (IsOutcome remaining fails_with a (get_or readers place r))
   pub begun : (if is_some outcome then place + 1 else place) + length (drop 1 old) + w
       ≡ length readers
-  pub found : AreFound remaining can_fail a readers (if is_some outcome then place + 1 else place)
+  pub found : AreFound remaining fails_with a readers (if is_some outcome then place + 1 else place)
       (drop 1 old)
   pub pending : ArePending (if is_some outcome then place + 1 else place) (drop 1 old) lanes
 
-module _ {R : Type 0} {remaining : R → Option (List ℕ)} {can_fail : R → Bool}
+module _ {R : Type 0} {remaining : R → Option (List ℕ)} {fails_with : R → Error → Bool}
     {a : Algorithm} {readers : List R} {lanes : List (Lane R)} where
   -- the first outcome is given where it can be
   pub next-of : {place : ℕ} (w : ℕ) (old : List (Option Outcome)) (outcome : Option Outcome)
-      → IsFirst old outcome → AreFound remaining can_fail a readers place old
+      → IsFirst old outcome → AreFound remaining fails_with a readers place old
       → ArePending place old lanes → place + length old + w ≡ length readers
       → IsReady old (length lanes) w
-      → IsNextOf remaining can_fail a readers place w old lanes outcome
+      → IsNextOf remaining fails_with a readers place w old lanes outcome
   next-of {place} w [] (Some x) is all pending begun ready = absurd (cc is)
   next-of {place} w [] None is all pending begun ready =
       record {
@@ -242,9 +243,9 @@ module _ {R : Type 0} {remaining : R → Option (List ℕ)} {can_fail : R → Bo
       record {
         some = (λ h. omega (arith, begun), λ below. refl);
         right = λ r. subst (λ (z : Option Outcome).
-            IfSome z (IsOutcome remaining can_fail a (get_or readers place r))) (sym is)
-            (subst (λ (z : ℕ). IsOutcome remaining can_fail a (get_or readers z r) f) (omega arith)
-            (all.each 0 r None (omega arith)));
+            IfSome z (IsOutcome remaining fails_with a (get_or readers place r))) (sym is)
+            (subst (λ (z : ℕ). IsOutcome remaining fails_with a (get_or readers z r) f)
+            (omega arith) (all.each 0 r None (omega arith)));
         begun = omega (arith, begun);
         found = found-rest all;
         pending = pending-rest pending;

@@ -49,26 +49,28 @@ stepped-next {R = R} {Step = Step} {old} {now} i d x have below s =
           ∙ have.others k l (omega (arith, from));
     }
 
--- a failure of two readers that are alike in whether reads can fail
-failure-of : {R : Type 0} (can_fail : R → Bool) (x y : R) (failure : Option Error)
-    → can_fail x ≡ can_fail y → IfSome failure (IsFailure can_fail y)
-    → IfSome failure (IsFailure can_fail x)
-failure-of can_fail x y None same is = tt
-failure-of can_fail x y (Some error) same is = (same ∙ is.0, is.1)
+-- a failure of two readers whose reads can fail with the same errors
+failure-of : {R : Type 0} (fails_with : R → Error → Bool) (x y : R) (failure : Option Error)
+    → fails_with x ≡ fails_with y → IfSome failure (IsFailure fails_with y)
+    → IfSome failure (IsFailure fails_with x)
+failure-of fails_with x y None same is = tt
+failure-of fails_with x y (Some error) same is =
+    (ap (λ (f : Error → Bool). f error) same ∙ is.0, is.1)
 
-module _ {R : Type 0} {remaining : R → Option (List ℕ)} {can_fail : R → Bool}
+module _ {R : Type 0} {remaining : R → Option (List ℕ)} {fails_with : R → Error → Bool}
     {a : Algorithm} {readers : List R} where
   -- a lane that has read
   pub in-read : {old new : Lane R} {c : Context}
-      → IsIn remaining can_fail a readers (left_of old) old c
-      → IsRead remaining can_fail old new → IsIn remaining can_fail a readers (left_of new) new c
+      → IsIn remaining fails_with a readers (left_of old) old c
+      → IsRead remaining fails_with old new
+      → IsIn remaining fails_with a readers (left_of new) new c
   in-read {old} {new} {c} i s =
       record {
         place = subst (λ (z : ℕ). z < length readers) (sym s.place) i.place;
         algorithm = i.algorithm;
-        same = λ r. subst (λ (z : ℕ). can_fail new.reader ≡ can_fail (get_or readers z r))
+        same = λ r. subst (λ (z : ℕ). fails_with new.reader ≡ fails_with (get_or readers z r))
             (sym s.place) (s.same ∙ i.same r);
-        failed = failure-of can_fail new.reader old.reader new.failure s.same
+        failed = failure-of fails_with new.reader old.reader new.failure s.same
             (s.failed i.failed);
         taken = λ none.
             let t = i.taken (s.failure none) in
@@ -84,8 +86,8 @@ module _ {R : Type 0} {remaining : R → Option (List ℕ)} {can_fail : R → Bo
 
   -- a context that has taken in the first n bytes of what was left
   pub in-taken : {l : Lane R} {c d : Context} (n : ℕ)
-      → IsIn remaining can_fail a readers (left_of l) l c
-      → IsUpdated c d (front_of n l) → IsIn remaining can_fail a readers (behind_of n l) l d
+      → IsIn remaining fails_with a readers (left_of l) l c
+      → IsUpdated c d (front_of n l) → IsIn remaining fails_with a readers (behind_of n l) l d
   in-taken {l} n i s =
       record {
         place = i.place;
@@ -109,16 +111,16 @@ module _ {R : Type 0} {remaining : R → Option (List ℕ)} {can_fail : R → Bo
 
   -- a lane of which they are counted
   pub in-skipped : {old new : Lane R} {c : Context} (n : ℕ)
-      → IsIn remaining can_fail a readers (behind_of n old) old c → IsSkipped n old new
-      → IsIn remaining can_fail a readers (left_of new) new c
+      → IsIn remaining fails_with a readers (behind_of n old) old c → IsSkipped n old new
+      → IsIn remaining fails_with a readers (left_of new) new c
   in-skipped {old} {new} {c} n i s =
       let P : ℕ → R → List ℕ → Type 0 = λ k x bytes. (r : R)
       → Consumes (remaining (get_or readers k r)) (remaining x) bytes in
       record {
         place = subst (λ (z : ℕ). z < length readers) (sym s.place) i.place;
         algorithm = i.algorithm;
-        same = λ r. subst (λ (z : ℕ). can_fail new.reader ≡ can_fail (get_or readers z r))
-            (sym s.place) (ap can_fail s.reader ∙ i.same r);
+        same = λ r. subst (λ (z : ℕ). fails_with new.reader ≡ fails_with (get_or readers z r))
+            (sym s.place) (ap fails_with s.reader ∙ i.same r);
         failed = rw (s.failure, s.reader) i.failed;
         taken = λ none.
             let t = i.taken (rw s.failure at none) in
@@ -136,9 +138,10 @@ module _ {R : Type 0} {remaining : R → Option (List ℕ)} {can_fail : R → Bo
 
   -- all contexts
   pub are-taken : {lanes : List (Lane R)} {old new : List Context}
-      {pieces : List (Bor (List ℕ))} (n : ℕ) → AreIn remaining can_fail a readers left_of lanes old
+      {pieces : List (Bor (List ℕ))} (n : ℕ)
+      → AreIn remaining fails_with a readers left_of lanes old
       → map (λ piece. piece.now) pieces ≡ map (front_of n) lanes → AreUpdated old new pieces
-      → AreIn remaining can_fail a readers (behind_of n) lanes new
+      → AreIn remaining fails_with a readers (behind_of n) lanes new
   are-taken {lanes} {old} {new} {pieces} n all same took =
       record {
         count = took.count ∙ all.count;
@@ -154,9 +157,9 @@ module _ {R : Type 0} {remaining : R → Option (List ℕ)} {can_fail : R → Bo
       }
 
   pub reading-all : {old now : List (Lane R)} {contexts : List Context} {i : ℕ}
-      → AreStepped (IsRead remaining can_fail) old now i → length old ≤ i
-      → AreIn remaining can_fail a readers left_of old contexts
-      → AreIn remaining can_fail a readers left_of now contexts
+      → AreStepped (IsRead remaining fails_with) old now i → length old ≤ i
+      → AreIn remaining fails_with a readers left_of old contexts
+      → AreIn remaining fails_with a readers left_of now contexts
   reading-all {old} {now} {contexts} have all first =
       record {
         count = first.count ∙ sym have.count;
@@ -167,8 +170,8 @@ module _ {R : Type 0} {remaining : R → Option (List ℕ)} {can_fail : R → Bo
 
   pub skipping-all : {old now : List (Lane R)} {contexts : List Context} {i : ℕ} (n : ℕ)
       → AreStepped (IsSkipped n) old now i → length old ≤ i
-      → AreIn remaining can_fail a readers (behind_of n) old contexts
-      → AreIn remaining can_fail a readers left_of now contexts
+      → AreIn remaining fails_with a readers (behind_of n) old contexts
+      → AreIn remaining fails_with a readers left_of now contexts
   skipping-all {old} {now} {contexts} n have all first =
       record {
         count = first.count ∙ sym have.count;
@@ -183,14 +186,14 @@ pub record IsSwapped {X : Type 0} (old new : List X) (i : ℕ) : Type 0 where
   pub moved : (d : X) → i + 1 < length old → get_or new i d ≡ get_or old (length old - 1) d
   pub others : (k : ℕ) (d : X) → k ≢ i → k + 1 < length old → get_or new k d ≡ get_or old k d
 
-module _ {R : Type 0} {remaining : R → Option (List ℕ)} {can_fail : R → Bool}
+module _ {R : Type 0} {remaining : R → Option (List ℕ)} {fails_with : R → Error → Bool}
     {a : Algorithm} {readers : List R} where
   pub in-swapped : {lanes fewer : List (Lane R)} {contexts less : List Context} (i : ℕ)
-      → AreIn remaining can_fail a readers left_of lanes contexts → IsSwapped lanes fewer i
-      → IsSwapped contexts less i → AreIn remaining can_fail a readers left_of fewer less
+      → AreIn remaining fails_with a readers left_of lanes contexts → IsSwapped lanes fewer i
+      → IsSwapped contexts less i → AreIn remaining fails_with a readers left_of fewer less
   in-swapped {lanes} {fewer} {contexts} {less} i all s t =
       let P : Lane R → Context → Type 0 =
-      λ l c. IsIn remaining can_fail a readers (left_of l) l c in
+      λ l c. IsIn remaining fails_with a readers (left_of l) l c in
       record {
         count = omega (arith, all.count, s.len, t.len);
         each = λ k l c below. elim (cases_order k i) [
@@ -218,19 +221,19 @@ module _ {R : Type 0} {remaining : R → Option (List ℕ)} {can_fail : R → Bo
         ];
       }
 
-module _ {R : Type 0} {remaining : R → Option (List ℕ)} {can_fail : R → Bool}
+module _ {R : Type 0} {remaining : R → Option (List ℕ)} {fails_with : R → Error → Bool}
     {a : Algorithm} {readers : List R} where
   -- a lane that begins
   pub in-new : {lane : Lane R} {context : Context} (place : ℕ) → place < length readers
       → lane.place ≡ place → ((r : R) → get_or readers place r ≡ lane.reader)
       → lane.failure ≡ None → IsFalse lane.has_ended → left_of lane ≡ [] → StandsFor context []
       → context_algorithm context ≡ a
-      → IsIn remaining can_fail a readers (left_of lane) lane context
+      → IsIn remaining fails_with a readers (left_of lane) lane context
   in-new {lane} place below at is well shut empty stands of =
       record {
         place = subst (λ (z : ℕ). z < length readers) (sym at) below;
         algorithm = of;
-        same = λ r. sym (ap can_fail (ap (λ (z : ℕ). get_or readers z r) at ∙ is r));
+        same = λ r. sym (ap fails_with (ap (λ (z : ℕ). get_or readers z r) at ∙ is r));
         failed = rw well tt;
         taken = λ none.
             record {
@@ -246,12 +249,12 @@ module _ {R : Type 0} {remaining : R → Option (List ℕ)} {can_fail : R → Bo
 
   -- and stands behind the others
   pub in-more : {lanes : List (Lane R)} {contexts : List Context} (lane : Lane R)
-      (context : Context) → AreIn remaining can_fail a readers left_of lanes contexts
-      → IsIn remaining can_fail a readers (left_of lane) lane context
-      → AreIn remaining can_fail a readers left_of (lanes ++ lane ∷ []) (contexts ++ context ∷ [])
+      (context : Context) → AreIn remaining fails_with a readers left_of lanes contexts
+      → IsIn remaining fails_with a readers (left_of lane) lane context
+      → AreIn remaining fails_with a readers left_of (lanes ++ lane ∷ []) (contexts ++ context ∷ [])
   in-more {lanes} {contexts} lane context all one =
       let P : Lane R → Context → Type 0 =
-      λ l c. IsIn remaining can_fail a readers (left_of l) l c in
+      λ l c. IsIn remaining fails_with a readers (left_of l) l c in
       let more = length-append lanes (lane ∷ []) in
       record {
         count = omega (arith, all.count, more, length-append contexts (context ∷ []));
@@ -276,5 +279,5 @@ module _ {R : Type 0} {remaining : R → Option (List ℕ)} {can_fail : R → Bo
       }
 
   -- no lane
-  pub in-none : AreIn remaining can_fail a readers left_of [] []
+  pub in-none : AreIn remaining fails_with a readers left_of [] []
   in-none = record { count = refl; each = λ i l c below. absurd (omega (arith, below)) }

@@ -9,6 +9,7 @@ use Rattle.std.proofs.lemmas.Bool.{cases_lt}
 use Rattle.std.proofs.lemmas.List.{get_or-append_right, get_or_append_left}
 use Rattle.std.proofs.lemmas.List.Folds.{list_all-append}
 use Rattle.std.specs.List.{list_all}
+use Rattle.std.specs.declared.io.Error.{Error}
 use Rattle.ring_sums.specs.Console.{HasWritten, IsKept}
 use Rattle.ring_sums.specs.Listing.{IsListed, is_sum, line_of, lines_of}
 use Rattle.ring_sums.specs.Outcomes.{AreToCome, IsAnswered, IsOutcomeOf}
@@ -73,29 +74,29 @@ module _ {R W : Type 0} {contents : W → Option (List ℕ)} where
       }
 
 -- the outcomes of the first `place` files are told
-pub record AreTold {S R W : Type 0} (remaining : S → Option (List ℕ)) (can_fail : S → Bool)
-    (contents : W → Option (List ℕ)) (options : Options) (names : List (Bor (List ℕ)))
-    (wanted : List (Wanted S)) (place : ℕ) (is_fine : Bool) (state : Outcomes S)
-    (old new : Console R W) : Type 0 where
+pub record AreTold {S R W : Type 0} (remaining : S → Option (List ℕ))
+    (fails_with : S → Error → Bool) (contents : W → Option (List ℕ)) (options : Options)
+    (names : List (Bor (List ℕ))) (wanted : List (Wanted S)) (place : ℕ) (is_fine : Bool)
+    (state : Outcomes S) (old new : Console R W) : Type 0 where
   pub outcomes : List Outcome
   pub count : length outcomes ≡ place
-  pub rest : AreToCome remaining can_fail wanted place state
+  pub rest : AreToCome remaining fails_with wanted place state
   pub each : (k : ℕ) (w : Wanted S) (o : Outcome) → k < place
-      → IsOutcomeOf remaining can_fail (get_or wanted k w) (get_or outcomes k o)
+      → IsOutcomeOf remaining fails_with (get_or wanted k w) (get_or outcomes k o)
   pub written : HasWritten contents (lines_of options names outcomes) old new
   pub fine : is_fine ≡ list_all is_sum outcomes
 
-module _ {S R W : Type 0} {remaining : S → Option (List ℕ)} {can_fail : S → Bool}
+module _ {S R W : Type 0} {remaining : S → Option (List ℕ)} {fails_with : S → Error → Bool}
     {contents : W → Option (List ℕ)}
     {options : Options} {names : List (Bor (List ℕ))} {wanted : List (Wanted S)} where
   -- one outcome more
   pub told-more : {place : ℕ} {is_fine : Bool} {before after : Outcomes S}
       {old mid new : Console R W} (name : Bor (List ℕ)) (outcome : Outcome)
       → place < length names
-      → AreTold remaining can_fail contents options names wanted place is_fine before old mid
-      → IsAnswered remaining can_fail wanted place (Some outcome) after
+      → AreTold remaining fails_with contents options names wanted place is_fine before old mid
+      → IsAnswered remaining fails_with wanted place (Some outcome) after
       → HasWritten contents (line_of options (get_or names place name).now outcome) mid new
-      → AreTold remaining can_fail contents options names wanted (place + 1)
+      → AreTold remaining fails_with contents options names wanted (place + 1)
       (is_sum outcome && is_fine) after old new
   told-more {place} {is_fine} {before} {after} {old} {mid} {new} name outcome below told is line =
       let more = length-append told.outcomes (outcome ∷ []) in
@@ -105,7 +106,7 @@ module _ {S R W : Type 0} {remaining : S → Option (List ℕ)} {can_fail : S �
         rest = is.rest;
         each = λ k w o lt. elim (cases_lt k place) [
           | inl before ↦
-              subst (IsOutcomeOf remaining can_fail (get_or wanted k w))
+              subst (IsOutcomeOf remaining fails_with (get_or wanted k w))
               (sym (get_or_append_left told.outcomes (outcome ∷ []) o k
               (omega (arith, before, told.count)))) (told.each k w o before)
           | inr behind ↦
@@ -130,7 +131,7 @@ module _ {S R W : Type 0} {remaining : S → Option (List ℕ)} {can_fail : S �
   -- an outcome is missing of no file
   pub told-none : {place : ℕ} {is_fine : Bool} {before after : Outcomes S} {old new : Console R W}
       (result : Bool)
-      → AreTold remaining can_fail contents options names wanted place is_fine before old new
-      → IsAnswered remaining can_fail wanted place None after → place < length wanted
-      → IsListed remaining can_fail contents options names wanted result old new
+      → AreTold remaining fails_with contents options names wanted place is_fine before old new
+      → IsAnswered remaining fails_with wanted place None after → place < length wanted
+      → IsListed remaining fails_with contents options names wanted result old new
   told-none result told is below = absurd (cc (is.some.1 below))

@@ -8,6 +8,7 @@ use Rattle.std.proofs.lemmas.Bool.{cases_lt}
 use Rattle.std.proofs.lemmas.List.{get_or-append_right, get_or-drop, get_or_append_left}
 use Rattle.ring.specs.declared.digest.algorithm.Algorithm.{Algorithm}
 use Rattle.std.specs.Prelude.{Option, None, Some}
+use Rattle.std.specs.declared.io.Error.{Error}
 use Rattle.ring_sums.specs.Outcomes.{AreOf, IsAnswered}
 use Rattle.ring_sums.specs.Sums.{AreAt, IsGiven}
 use Rattle.ring_sums.specs.declared.outcome.Outcome.{Outcome}
@@ -74,16 +75,16 @@ of-first {start = start} {wanted} {rest} first e =
     }) e refl
 
 -- the outcome of the file at `place`, of which the run has the reader
-pub answered : {R : Type 0} {remaining : R → Option (List ℕ)} {can_fail : R → Bool}
+pub answered : {R : Type 0} {remaining : R → Option (List ℕ)} {fails_with : R → Error → Bool}
     {a : Algorithm} {readers : List R}
     {wanted : List (Wanted R)} {start given : ℕ} {new : Outcomes R} (place : ℕ)
     (outcome : Option Outcome) → place ≡ start + given → given < length readers
-    → IsGiven remaining can_fail a readers given outcome new.run
+    → IsGiven remaining fails_with a readers given outcome new.run
     → AreOf a readers start wanted new.waiting.items
-    → IsAnswered remaining can_fail wanted place outcome new
+    → IsAnswered remaining fails_with wanted place outcome new
 answered place None at lt is of = absurd (cc (is.some.1 lt))
-answered {R = R} {remaining} {can_fail} {a} {readers} {wanted} {start} {given} {new} place (Some x)
-    at lt is of =
+answered {R = R} {remaining} {fails_with} {a} {readers} {wanted} {start} {given} {new} place
+    (Some x) at lt is of =
     record {
       some = (λ h. omega (arith, at, lt, of.fits), λ below. refl);
       right = λ w.
@@ -102,10 +103,10 @@ answered {R = R} {remaining} {can_fail} {a} {readers} {wanted} {start} {given} {
     }
 
 -- a run that gives no outcome has given all
-pub all-given : {R : Type 0} {remaining : R → Option (List ℕ)} {can_fail : R → Bool}
+pub all-given : {R : Type 0} {remaining : R → Option (List ℕ)} {fails_with : R → Error → Bool}
     {a : Algorithm} {readers : List R}
-    {given : ℕ} {old new : Sums R} → AreAt remaining can_fail a readers given old
-    → IsGiven remaining can_fail a readers given None new → given ≡ length readers
+    {given : ℕ} {old new : Sums R} → AreAt remaining fails_with a readers given old
+    → IsGiven remaining fails_with a readers given None new → given ≡ length readers
 all-given {readers = readers} {given} at is =
     elim (cases_lt given (length readers)) [
       | inl lt ↦ absurd (cc (is.some.1 lt))

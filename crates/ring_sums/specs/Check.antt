@@ -4,6 +4,7 @@ use Rattle.std.specs.Prelude.{◌≡◌, ℕ, Bool, true, false, ◌<◌, List, 
 use Rattle.std.specs.Prelude.{Some}
 use Rattle.std.specs.Prelude.{◌+◌, IsTrue, codes, get_or, if◌then◌else◌, length, pos}
 use Rattle.std.specs.IoError.{error_kind, os_error_kind}
+use Rattle.std.specs.declared.io.Error.{Error}
 use Rattle.ring_sums.specs.Console.{HasWritten}
 use Rattle.ring_sums.specs.Entry.{IsOther, IsUnread, IsVerified}
 use Rattle.ring_sums.specs.Line.{verdict_line}
@@ -99,6 +100,13 @@ pub record AreCounted (founds : List (Option Verdict)) (counts : Counts) : Type 
   pub others : counts.others ≡ count_of is_other founds
   pub unread : counts.unread ≡ count_of is_unread founds
 
+-- a list passes that was read to its end: it lists a file that has the listed digest, none that has
+-- not or could not be read, and under `--strict` no line has another form
+abbrev pub Passes : Options → Counts → Type 0
+Passes options counts =
+    (0 < counts.same) × (counts.others ≡ 0) × (counts.unread ≡ 0)
+    × (IsTrue options.is_strict → counts.bad_lines ≡ 0)
+
 -- the files that lines list, and the lines that list none
 unfoldable pub entries_of : List Line → List Entry
 entries_of [] = []
@@ -125,14 +133,15 @@ pub record AreFilesOf {S : Type 0} (entries : List Entry) (wanted : List (Wanted
 
 -- each file that a list has is read and its digest found beside the listed one, what is found of
 -- each is said, in their order, and counted, and so are the lines that have not the form of one
-pub record IsChecked {S R W : Type 0} (remaining : S → Option (List ℕ)) (can_fail : S → Bool)
-    (contents : W → Option (List ℕ)) (options : Options) (lines : List Line)
-    (wanted : List (Wanted S)) (counts : Counts) (old new : Console R W) : Type 0 where
+pub record IsChecked {S R W : Type 0} (remaining : S → Option (List ℕ))
+    (fails_with : S → Error → Bool) (contents : W → Option (List ℕ)) (options : Options)
+    (lines : List Line) (wanted : List (Wanted S)) (counts : Counts) (old new : Console R W)
+    : Type 0 where
   pub outcomes : List Outcome
   pub founds : List (Option Verdict)
   pub count : length founds ≡ length wanted
   pub read : (k : ℕ) (w : Wanted S) (o : Outcome) → k < length wanted
-      → IsOutcomeOf remaining can_fail (get_or wanted k w) (get_or outcomes k o)
+      → IsOutcomeOf remaining fails_with (get_or wanted k w) (get_or outcomes k o)
   pub found : (k : ℕ) (e : Entry) (o : Outcome) (f : Option Verdict) → k < length wanted
       → IsFound options (get_or (entries_of lines) k e).listed.items (get_or outcomes k o)
       (get_or founds k f)

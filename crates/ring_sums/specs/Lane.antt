@@ -3,6 +3,7 @@
 use Rattle.std.specs.Prelude.{◌≡◌, ℕ, ◌<◌, Bool, List, ◌++◌, IfSome, IsNone, IsTrue, Option, drop}
 use Rattle.std.specs.Prelude.{get_or, length, take}
 use Rattle.std.specs.Io.KnownBytes.{Consumes, IsAtEnd}
+use Rattle.std.specs.declared.io.Error.{Error}
 use Rattle.ring.specs.Prelude.{StandsFor, context_algorithm}
 use Rattle.ring.specs.declared.digest.algorithm.Algorithm.{Algorithm}
 use Rattle.ring.specs.declared.digest.context.Context.{Context}
@@ -29,23 +30,23 @@ pub record HasTaken {R : Type 0} (remaining : R → Option (List ℕ)) (readers 
       (bytes ++ rest)
 
 -- a lane and its context, of one of the readers
-pub record IsIn {R : Type 0} (remaining : R → Option (List ℕ)) (can_fail : R → Bool)
+pub record IsIn {R : Type 0} (remaining : R → Option (List ℕ)) (fails_with : R → Error → Bool)
     (a : Algorithm) (readers : List R) (rest : List ℕ) (lane : Lane R) (context : Context)
     : Type 0 where
   pub place : lane.place < length readers
   pub algorithm : context_algorithm context ≡ a
-  pub same : (r : R) → can_fail lane.reader ≡ can_fail (get_or readers lane.place r)
-  pub failed : IfSome lane.failure (IsFailure can_fail lane.reader)
+  pub same : (r : R) → fails_with lane.reader ≡ fails_with (get_or readers lane.place r)
+  pub failed : IfSome lane.failure (IsFailure fails_with lane.reader)
   pub taken : IsNone lane.failure → HasTaken remaining readers rest lane context
   pub end : IsNone lane.failure → IsTrue lane.has_ended → IsAtEnd (remaining lane.reader)
 
 -- a lane has read, if nothing was left
-pub record IsRead {R : Type 0} (remaining : R → Option (List ℕ)) (can_fail : R → Bool)
+pub record IsRead {R : Type 0} (remaining : R → Option (List ℕ)) (fails_with : R → Error → Bool)
     (old new : Lane R) : Type 0 where
   pub place : new.place ≡ old.place
-  pub same : can_fail new.reader ≡ can_fail old.reader
-  pub failed : IfSome old.failure (IsFailure can_fail old.reader)
-      → IfSome new.failure (IsFailure can_fail old.reader)
+  pub same : fails_with new.reader ≡ fails_with old.reader
+  pub failed : IfSome old.failure (IsFailure fails_with old.reader)
+      → IfSome new.failure (IsFailure fails_with old.reader)
   pub failure : IsNone new.failure → IsNone old.failure
   pub bytes : IsNone new.failure → (all : Option (List ℕ)) (bytes : List ℕ)
       → Consumes all (remaining old.reader) (bytes ++ left_of old)
@@ -53,18 +54,6 @@ pub record IsRead {R : Type 0} (remaining : R → Option (List ℕ)) (can_fail :
   pub end : IsNone new.failure
       → (IsNone old.failure → IsTrue old.has_ended → IsAtEnd (remaining old.reader))
       → IsTrue new.has_ended → IsAtEnd (remaining new.reader)
-
--- a lane read a piece into its room
-pub record IsFilled {R : Type 0} (remaining : R → Option (List ℕ)) (can_fail : R → Bool)
-    (old new : Lane R) : Type 0 where
-  pub place : new.place ≡ old.place
-  pub same : can_fail new.reader ≡ can_fail old.reader
-  pub failed : IfSome old.failure (IsFailure can_fail old.reader)
-      → IfSome new.failure (IsFailure can_fail old.reader)
-  pub failure : IsNone new.failure → IsNone old.failure
-  pub bytes : IsNone new.failure
-      → Consumes (remaining old.reader) (remaining new.reader) (left_of new)
-  pub end : IsNone new.failure → IsTrue new.has_ended → IsAtEnd (remaining new.reader)
 
 -- n bytes more of a lane are taken in
 pub record IsSkipped {R : Type 0} (n : ℕ) (old new : Lane R) : Type 0 where

@@ -1,18 +1,19 @@
 -- SPDX-License-Identifier: ISC
 -- Readers that are read side by side.
 use Rattle.std.specs.Prelude.{◌≡◌, ℕ, ◌<◌, Bool, List, [], ◌∷◌, ◌++◌, Option, get_or, length}
+use Rattle.std.specs.declared.io.Error.{Error}
 use Rattle.ring.specs.declared.digest.algorithm.Algorithm.{Algorithm}
 use Rattle.ring.specs.declared.digest.context.Context.{Context}
 use Rattle.ring_sums.specs.Lane.{IsIn}
 use Rattle.ring_sums.specs.declared.lane.Lane.{Lane}
 
 -- each lane and its context, where `rest` is what the context has not taken in
-pub record AreIn {R : Type 0} (remaining : R → Option (List ℕ)) (can_fail : R → Bool)
+pub record AreIn {R : Type 0} (remaining : R → Option (List ℕ)) (fails_with : R → Error → Bool)
     (a : Algorithm) (readers : List R) (rest : Lane R → List ℕ) (lanes : List (Lane R))
     (contexts : List Context) : Type 0 where
   pub count : length contexts ≡ length lanes
   pub each : (i : ℕ) (l : Lane R) (c : Context) → i < length lanes
-      → IsIn remaining can_fail a readers (rest (get_or lanes i l)) (get_or lanes i l)
+      → IsIn remaining fails_with a readers (rest (get_or lanes i l)) (get_or lanes i l)
       (get_or contexts i c)
 
 -- a lane more, of the reader at `place`

@@ -4,6 +4,7 @@ use Rattle.std.specs.Prelude.{◌≡◌, ℕ, Bool, true, false, ◌<◌, List, 
 use Rattle.std.specs.Prelude.{length}
 use Rattle.std.specs.Borrow.{Bor}
 use Rattle.std.specs.List.{list_all}
+use Rattle.std.specs.declared.io.Error.{Error}
 use Rattle.ring_sums.specs.Console.{HasWritten}
 use Rattle.ring_sums.specs.Line.{file_line}
 use Rattle.ring_sums.specs.Outcomes.{IsOutcomeOf}
@@ -33,12 +34,13 @@ lines_of options (name ∷ names) (outcome ∷ outcomes) =
     line_of options name.now outcome ++ lines_of options names outcomes
 
 -- each file has its outcome, their lines are written, and `is_fine` is whether all have one
-pub record IsListed {S R W : Type 0} (remaining : S → Option (List ℕ)) (can_fail : S → Bool)
-    (contents : W → Option (List ℕ)) (options : Options) (names : List (Bor (List ℕ)))
-    (wanted : List (Wanted S)) (is_fine : Bool) (old new : Console R W) : Type 0 where
+pub record IsListed {S R W : Type 0} (remaining : S → Option (List ℕ))
+    (fails_with : S → Error → Bool) (contents : W → Option (List ℕ)) (options : Options)
+    (names : List (Bor (List ℕ))) (wanted : List (Wanted S)) (is_fine : Bool)
+    (old new : Console R W) : Type 0 where
   pub outcomes : List Outcome
   pub count : length outcomes ≡ length wanted
   pub each : (k : ℕ) (w : Wanted S) (o : Outcome) → k < length wanted
-      → IsOutcomeOf remaining can_fail (get_or wanted k w) (get_or outcomes k o)
+      → IsOutcomeOf remaining fails_with (get_or wanted k w) (get_or outcomes k o)
   pub written : HasWritten contents (lines_of options names outcomes) old new
   pub fine : is_fine ≡ list_all is_sum outcomes

@@ -2,13 +2,13 @@
 //! The check of a list.
 
 ghost use Rattle.std.specs.Prelude.{◌≡◌, ◌↔◌, ◌<◌, ◌-◌, ◌^◌, ◌∷◌, ◌++◌, [], IfOk, IsTrue, List};
-ghost use Rattle.std.specs.Prelude.{OnOk};
+ghost use Rattle.std.specs.Prelude.{IsNone, OnOk};
 ghost use Rattle.std.specs.Prelude.{Option, Some, length, map, option_map};
 ghost use Rattle.std.specs.IoError.{error_kind};
 ghost use Rattle.ring_sums.specs.declared.entry.Verdict.{Verdict};
 ghost use Rattle.ring_sums.specs.Check.{IsFound, IsLeftOut, is_other, is_same, is_unread};
 ghost use Rattle.ring_sums.specs.Check.{AreFilesOf, IsChecked, entries_of, one_if, said_of};
-ghost use Rattle.ring_sums.specs.Check.{text_of};
+ghost use Rattle.ring_sums.specs.Check.{Passes, text_of};
 ghost use Rattle.ring_sums.specs.Console.{HasWritten, IsKept};
 ghost use Rattle.ring_sums.specs.Files.{name_of};
 
@@ -222,7 +222,7 @@ where
     R: Eprint,
     W: Write,
     ensures { IfOk result (λ counts. AreFilesOf (entries_of lines.now) wanted.items
-        → IsChecked S.remaining S.can_fail W.contents options.now lines.now wanted.items counts
+        → IsChecked S.remaining S.fails_with W.contents options.now lines.now wanted.items counts
         console.old console.new) }
 {
     let total = wanted.len();
@@ -306,16 +306,36 @@ fn warn_of<R: Eprint, W: Write>(
     Ok(())
 }
 
-/// Whether a list passes.
+/// Whether a list passes that was read to its end.
 fn passes(options: &Options, counts: &Counts) -> bool
-    ensures { IsTrue result ↔ ((0 < counts.now.same) × (counts.now.others ≡ 0)
-        × (counts.now.unread ≡ 0)
-        × (IsTrue options.now.is_strict → counts.now.bad_lines ≡ 0)) }
+    ensures { IsTrue result ↔ Passes options.now counts.now }
 {
     counts.same > 0
         && counts.others == 0
         && counts.unread == 0
         && (counts.bad_lines == 0 || !options.is_strict)
+}
+
+/// Tells of a list why it could not be read to its end, or what it was found to have, and returns
+/// whether it passes.
+fn conclude<R: Eprint, W: Write>(
+    alloc: Global,
+    options: &Options,
+    list: &[u8],
+    failure: &Option<io::Error>,
+    counts: &Counts,
+    console: &mut Console<'_, R, W>,
+) -> Result<bool, AllocError>
+    ensures { IfOk result (λ is_fine. IsTrue is_fine
+        ↔ (IsNone failure.now × Passes options.now counts.now)) }
+{
+    if let Some(error) = failure {
+        console.note(error);
+        console.tell_of(list, b"read error")?;
+        return Ok(false);
+    }
+    warn_of(alloc, options, list, counts, console)?;
+    Ok(passes(options, counts))
 }
 
 /// Reads a list, says of each of its files whether it has the listed digest, and returns whether
@@ -347,11 +367,5 @@ where
     let lines = lines_of(rt.alloc(), options, &text, is_standard_input, gap)?;
     let wanted = files_of(rt, &lines)?;
     let counts = check_lines::<BITS, _, R, W>(rt.alloc(), options, shown, &lines, wanted, console)?;
-    if let Some(error) = failure {
-        console.note(&error);
-        console.tell_of(shown, b"read error")?;
-        return Ok(false);
-    }
-    warn_of(rt.alloc(), options, shown, &counts, console)?;
-    Ok(passes(options, &counts))
+    conclude(rt.alloc(), options, shown, &failure, &counts, console)
 }

@@ -54,7 +54,7 @@ impl<R: Files + Input> Read for Source<'_, R> {
 }
 
 impl<R: Files + Input> source::Source for Source<'_, R> {
-    ghost can_fail = { λ _. true };
+    ghost fails_with = { λ _ _. true };
 
     fn read_piece(&mut self, buf: &mut [u8]) -> io::Result<usize> {
         self.read(buf)

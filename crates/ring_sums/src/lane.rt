@@ -1,7 +1,7 @@
 // SPDX-License-Identifier: ISC
 //! A reader in a lane.
 
-ghost use Rattle.std.specs.Prelude.{◌≡◌, List, [], IsFalse, IsNone, IsTrue, None, get_or};
+ghost use Rattle.std.specs.Prelude.{◌≡◌, ◌≤◌, List, [], IsFalse, IsNone, IsTrue, None, get_or};
 ghost use Rattle.ring.specs.declared.digest.algorithm.Algorithm.{Algorithm};
 
 use crate::outcome::Outcome;
@@ -32,7 +32,7 @@ pub(crate) struct Lane<R> {
 }
 
 impl<R: Source> Lane<R> {
-    ghost use Rattle.ring_sums.specs.Lane.{IsFilled, IsIn, IsRead, IsSkipped, front_of, left_of};
+    ghost use Rattle.ring_sums.specs.Lane.{IsIn, IsRead, IsSkipped, front_of, left_of};
     ghost use Rattle.ring_sums.specs.Outcome.{IsOutcome};
 
     pub(crate) fn new(place: usize, reader: R, room: Vec<u8>) -> Lane<R>
@@ -53,28 +53,41 @@ impl<R: Source> Lane<R> {
         }
     }
 
-    /// Reads a piece into the room.
-    fn fill_room(&mut self)
-        ensures { IsFilled R.remaining R.can_fail self.old self.new }
+    /// Makes room for the next piece, where the last one is taken in.
+    fn clear(&mut self)
+        ensures kept { IsSkipped 0 self.old self.new }
+        ensures within { self.new.from ≤ self.new.len }
     {
-        self.from = 0;
-        match fill(&mut self.reader, &mut self.room) {
-            Ok(len) => {
-                self.len = len;
-                self.has_ended = len < self.room.len();
-            }
-            Err(error) => {
-                self.len = 0;
-                self.failure = Some(error);
-            }
+        if self.from >= self.len {
+            self.from = 0;
+            self.len = 0;
         }
     }
 
-    /// Reads the next piece, where the last one is taken in.
-    pub(crate) fn read(&mut self)
-        ensures { IsRead R.remaining R.can_fail self.old self.new }
+    /// Reads on where the room is not full.
+    fn fill_room(&mut self)
+        requires { self.old.from ≤ self.old.len }
+        ensures { IsRead R.remaining R.fails_with self.old self.new }
     {
-        if !self.has_ended && self.from >= self.len {
+        if self.len >= self.room.len() {
+            return;
+        }
+        match fill(&mut self.reader, &mut self.room[self.len..]) {
+            Ok(filled) => {
+                self.len += filled.len;
+                self.has_ended = filled.has_ended;
+            }
+            Err(error) => self.failure = Some(error),
+        }
+    }
+
+    /// Reads the next piece, where the last one is taken in, or the rest of one whose reading was
+    /// interrupted.
+    pub(crate) fn read(&mut self)
+        ensures { IsRead R.remaining R.fails_with self.old self.new }
+    {
+        if !self.has_ended {
+            self.clear();
             self.fill_room();
         }
     }
@@ -126,9 +139,9 @@ impl<R: Source> Lane<R> {
     where
         R: Drop,
         ensures { (a : Algorithm) (readers : List R) (r : R)
-            → IsIn R.remaining R.can_fail a readers (left_of self) self context
+            → IsIn R.remaining R.fails_with a readers (left_of self) self context
             → (IsNone self.failure → IsTrue self.has_ended)
-            → IsOutcome R.remaining R.can_fail a (get_or readers self.place r) result.0 }
+            → IsOutcome R.remaining R.fails_with a (get_or readers self.place r) result.0 }
     {
         let mut context = context;
         context.update(self.left());

@@ -65,9 +65,9 @@ impl<R: Source + Drop> Lanes<R> {
         ensures begun { OnOk result (IsBegun place self.old.lanes.items self.new.lanes.items) }
         ensures going { OnOk result ((readers : List R) → place < length readers
             → ((r : R) → get_or readers place r ≡ reader)
-            → AreIn R.remaining R.can_fail algorithm.now readers left_of self.old.lanes.items
+            → AreIn R.remaining R.fails_with algorithm.now readers left_of self.old.lanes.items
             self.old.contexts.items
-            → AreIn R.remaining R.can_fail algorithm.now readers left_of self.new.lanes.items
+            → AreIn R.remaining R.fails_with algorithm.now readers left_of self.new.lanes.items
             self.new.contexts.items) }
     {
         let room = match self.rooms.pop() {
@@ -86,9 +86,9 @@ impl<R: Source + Drop> Lanes<R> {
     pub(crate) fn read(&mut self)
         ensures places { KeepPlaces self.old.lanes.items self.new.lanes.items }
         ensures going { (a : Algorithm) (readers : List R)
-            → AreIn R.remaining R.can_fail a readers left_of self.old.lanes.items
+            → AreIn R.remaining R.fails_with a readers left_of self.old.lanes.items
             self.old.contexts.items
-            → AreIn R.remaining R.can_fail a readers left_of self.new.lanes.items
+            → AreIn R.remaining R.fails_with a readers left_of self.new.lanes.items
             self.new.contexts.items }
     {
         'lanes: for i in 0..self.lanes.len() {
@@ -100,9 +100,9 @@ impl<R: Source + Drop> Lanes<R> {
     pub(crate) fn update<const BITS: usize>(&mut self, alloc: Global) -> Result<(), AllocError>
         ensures places { OnOk result (KeepPlaces self.old.lanes.items self.new.lanes.items) }
         ensures going { OnOk result ((a : Algorithm) (readers : List R)
-            → AreIn R.remaining R.can_fail a readers left_of self.old.lanes.items
+            → AreIn R.remaining R.fails_with a readers left_of self.old.lanes.items
             self.old.contexts.items
-            → AreIn R.remaining R.can_fail a readers left_of self.new.lanes.items
+            → AreIn R.remaining R.fails_with a readers left_of self.new.lanes.items
             self.new.contexts.items) }
     {
         let count = common_len(&self.lanes);
@@ -115,9 +115,9 @@ impl<R: Source + Drop> Lanes<R> {
     fn take_in<const BITS: usize>(&mut self, alloc: Global, count: usize) -> Result<(), AllocError>
         ensures lanes { self.new.lanes ≡ self.old.lanes }
         ensures taken { OnOk result ((a : Algorithm) (readers : List R)
-            → AreIn R.remaining R.can_fail a readers left_of self.old.lanes.items
+            → AreIn R.remaining R.fails_with a readers left_of self.old.lanes.items
             self.old.contexts.items
-            → AreIn R.remaining R.can_fail a readers (behind_of count) self.new.lanes.items
+            → AreIn R.remaining R.fails_with a readers (behind_of count) self.new.lanes.items
             self.new.contexts.items) }
     {
         let pieces = fronts_of(alloc, &self.lanes, count)?;
@@ -132,9 +132,9 @@ impl<R: Source + Drop> Lanes<R> {
     fn skip(&mut self, count: usize)
         ensures places { KeepPlaces self.old.lanes.items self.new.lanes.items }
         ensures going { (a : Algorithm) (readers : List R)
-            → AreIn R.remaining R.can_fail a readers (behind_of count) self.old.lanes.items
+            → AreIn R.remaining R.fails_with a readers (behind_of count) self.old.lanes.items
             self.old.contexts.items
-            → AreIn R.remaining R.can_fail a readers left_of self.new.lanes.items
+            → AreIn R.remaining R.fails_with a readers left_of self.new.lanes.items
             self.new.contexts.items }
     {
         'lanes: for i in 0..self.lanes.len() {
@@ -153,12 +153,12 @@ impl<R: Source + Drop> Lanes<R> {
         ensures pending { OnOk result (ArePending given found.old.items self.old.lanes.items
             → ArePending given found.new.items self.new.lanes.items) }
         ensures going { OnOk result ((a : Algorithm) (readers : List R)
-            → AreIn R.remaining R.can_fail a readers left_of self.old.lanes.items
+            → AreIn R.remaining R.fails_with a readers left_of self.old.lanes.items
             self.old.contexts.items
-            → AreFound R.remaining R.can_fail a readers given found.old.items
-            → AreIn R.remaining R.can_fail a readers left_of self.new.lanes.items
+            → AreFound R.remaining R.fails_with a readers given found.old.items
+            → AreIn R.remaining R.fails_with a readers left_of self.new.lanes.items
             self.new.contexts.items
-            × AreFound R.remaining R.can_fail a readers given found.new.items) }
+            × AreFound R.remaining R.fails_with a readers given found.new.items) }
     {
         let mut i = 0;
         'lanes: while i < self.lanes.len() {

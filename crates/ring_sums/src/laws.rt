@@ -78,6 +78,6 @@ pub fn plain_lines_have_a_form()
 /// An outcome of bytes in memory is their digest, or they are too long: no read of them fails.
 pub fn bytes_in_memory_do_not_fail()
     ensures { (a : Algorithm) (bytes : Bor (List ℕ)) (outcome : Outcome)
-        → IsOutcome ⟦<&'static [u8] as Read>⟧.remaining ⟦<&'static [u8] as Source>⟧.can_fail a bytes
-        outcome → IsOutcomeOfBytes a bytes.now outcome }
+        → IsOutcome ⟦<&'static [u8] as Read>⟧.remaining ⟦<&'static [u8] as Source>⟧.fails_with a
+        bytes outcome → IsOutcomeOfBytes a bytes.now outcome }
 {}

@@ -61,7 +61,7 @@ where
     R: Eprint,
     W: Write,
     ensures { IfOk result (λ is_fine. length names.now ≡ length wanted.items
-        → IsListed S.remaining S.can_fail W.contents options.now names.now wanted.items is_fine
+        → IsListed S.remaining S.fails_with W.contents options.now names.now wanted.items is_fine
         console.old console.new) }
 {
     let mut outcomes = Outcomes::new(alloc, wanted);

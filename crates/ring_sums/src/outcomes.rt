@@ -39,7 +39,7 @@ pub struct Outcomes<R> {
 impl<R: Source + Drop> Outcomes<R> {
     /// The outcomes of the files `wanted`, with memory of `alloc`. Nothing is read yet.
     pub fn new(alloc: Global, wanted: Vec<Wanted<R>>) -> Outcomes<R>
-        ensures { AreToCome R.remaining R.can_fail wanted.items 0 result }
+        ensures { AreToCome R.remaining R.fails_with wanted.items 0 result }
     {
         Outcomes {
             alloc,
@@ -86,7 +86,7 @@ impl<R: Source + Drop> Outcomes<R> {
     fn begin(&mut self, first: Wanted<R>) -> Result<(), AllocError>
         ensures { OnOk result ((wanted : List (Wanted R)) (start : ℕ)
             → drop start wanted ≡ first ∷ self.old.waiting.items
-            → HasBegun R.remaining R.can_fail wanted start self.new) }
+            → HasBegun R.remaining R.fails_with wanted start self.new) }
     {
         let algorithm = first.algorithm;
         let is_alone = first.is_alone;
@@ -105,8 +105,8 @@ impl<R: Source + Drop> Outcomes<R> {
     /// Refused where there is no memory.
     pub fn next_outcome<const BITS: usize>(&mut self) -> io::Result<Option<Outcome>>
         ensures { IfOk result (λ outcome. (wanted : List (Wanted R)) (place : ℕ)
-            → AreToCome R.remaining R.can_fail wanted place self.old
-            → IsAnswered R.remaining R.can_fail wanted place outcome self.new) }
+            → AreToCome R.remaining R.fails_with wanted place self.old
+            → IsAnswered R.remaining R.fails_with wanted place outcome self.new) }
     {
         if let Some(outcome) = self.run.next_outcome::<BITS>(self.alloc)? {
             return Ok(Some(outcome));

@@ -1,9 +1,9 @@
 // SPDX-License-Identifier: ISC
 //! A piece of what a reader gives.
 
-ghost use Rattle.std.specs.Prelude.{◌≡◌, ◌<◌, ◌≤◌, IfErr, IfOk, length, take};
+ghost use Rattle.std.specs.Prelude.{◌≡◌, ◌<◌, ◌≤◌, IfErr, IfOk, IsFalse, IsTrue, length, take};
 ghost use Rattle.std.specs.Io.KnownBytes.{Consumes, IsAtEnd};
-ghost use Rattle.ring_sums.specs.Outcome.{IsFailure};
+ghost use Rattle.ring_sums.specs.Outcome.{CanBeInterrupted, IsFailure};
 
 use crate::source::Source;
 use std::io;
@@ -15,30 +15,48 @@ pub(crate) const PIECE_LEN: usize = 65_536;
 /// The bytes of the longest block of an algorithm. Each algorithm's blocks fill it.
 pub(crate) const MAX_BLOCK_LEN: usize = 128;
 
-/// Reads until the piece is full or the reader has ended, and returns how many bytes came.
-pub(crate) fn fill<R: Source>(reader: &mut R, piece: &mut [u8]) -> io::Result<usize>
-    ensures within { IfOk result (λ count. count ≤ length piece.new) }
-    ensures bytes { IfOk result (λ count.
-        Consumes (R.remaining reader.old) (R.remaining reader.new) (take count piece.new)) }
-    ensures end { IfOk result (λ count.
-        count < length piece.new → IsAtEnd (R.remaining reader.new)) }
-    ensures failed { IfErr result (IsFailure R.can_fail reader.old) }
-    ensures same { R.can_fail reader.new ≡ R.can_fail reader.old }
+/// How far a piece was read.
+#[derive(Clone, Copy)]
+pub(crate) struct Filled {
+    /// How many bytes came.
+    pub(crate) len: usize,
+    /// Whether the reader has ended.
+    pub(crate) has_ended: bool,
+}
+
+/// Reads until the piece is full, the reader has ended or a read is interrupted.
+pub(crate) fn fill<R: Source>(reader: &mut R, piece: &mut [u8]) -> io::Result<Filled>
+    ensures within { IfOk result (λ filled. filled.len ≤ length piece.new) }
+    ensures bytes { IfOk result (λ filled.
+        Consumes (R.remaining reader.old) (R.remaining reader.new) (take filled.len piece.new)) }
+    ensures end { IfOk result (λ filled.
+        IsTrue filled.has_ended → IsAtEnd (R.remaining reader.new)) }
+    ensures short { IfOk result (λ filled. IsFalse filled.has_ended
+        → filled.len < length piece.new → CanBeInterrupted R.fails_with reader.old) }
+    ensures failed { IfErr result (IsFailure R.fails_with reader.old) }
+    ensures same { R.fails_with reader.new ≡ R.fails_with reader.old }
 {
-    let mut filled = 0;
-    'reads: for _ in 0..u64::MAX {
-        if filled == piece.len() {
-            return Ok(filled);
-        }
-        match reader.read_piece(&mut piece[filled..]) {
-            Ok(0) => return Ok(filled),
-            Ok(count) => filled += count,
+    let mut len = 0;
+    'reads: while len < piece.len() {
+        match reader.read_piece(&mut piece[len..]) {
+            Ok(0) => return Ok(Filled {
+                len,
+                has_ended: true,
+            }),
+            Ok(count) => len += count,
             Err(error) => {
                 if error.kind() != ErrorKind::Interrupted {
                     return Err(error);
                 }
+                return Ok(Filled {
+                    len,
+                    has_ended: false,
+                });
             }
         }
     }
-    Err(io::Error::from(ErrorKind::Other))
+    Ok(Filled {
+        len,
+        has_ended: false,
+    })
 }

@@ -291,6 +291,7 @@ fn status_of(went_well: &Result<bool, AllocError>) -> u8
 pub fn run<const BITS: usize, R>(rt: &R, is_terminal: bool) -> u8
 where
     R: Files + AllocGlobal + Clone + Drop + Env + Print + Eprint + Input,
+    ensures status { result ≢ 0 → result ≡ 1 }
 {
     let went_well = run_words::<BITS, R>(rt, is_terminal);
     if went_well.is_err() {

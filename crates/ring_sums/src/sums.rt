@@ -40,7 +40,7 @@ impl<R: Source + Drop> Sums<R> {
     /// The sums of what `readers` will give, under `algorithm`, with memory of `alloc`. Nothing is
     /// read yet.
     pub fn new(alloc: Global, algorithm: &Algorithm, readers: Vec<R>) -> Sums<R>
-        ensures { AreAt R.remaining R.can_fail algorithm.now readers.items 0 result }
+        ensures { AreAt R.remaining R.fails_with algorithm.now readers.items 0 result }
     {
         Sums {
             algorithm: *algorithm,
@@ -59,8 +59,8 @@ impl<R: Source + Drop> Sums<R> {
     /// Puts the next readers into the lanes that are free.
     fn begin(&mut self, alloc: Global) -> Result<(), AllocError>
         ensures { OnOk result ((a : Algorithm) (readers : List R) (place : ℕ)
-            → AreAt R.remaining R.can_fail a readers place self.old
-            → AreAt R.remaining R.can_fail a readers place self.new) }
+            → AreAt R.remaining R.fails_with a readers place self.old
+            → AreAt R.remaining R.fails_with a readers place self.new) }
     {
         'free: while self.can_begin() {
             // A reader without a lane keeps its place: it has failed.
@@ -78,8 +78,8 @@ impl<R: Source + Drop> Sums<R> {
     /// Ends the lanes that are over.
     fn end(&mut self) -> Result<(), AllocError>
         ensures { OnOk result ((a : Algorithm) (readers : List R) (place : ℕ)
-            → AreAt R.remaining R.can_fail a readers place self.old
-            → AreAt R.remaining R.can_fail a readers place self.new) }
+            → AreAt R.remaining R.fails_with a readers place self.old
+            → AreAt R.remaining R.fails_with a readers place self.new) }
     {
         let given = self
             .total
@@ -93,8 +93,8 @@ impl<R: Source + Drop> Sums<R> {
     /// for another.
     fn run_round<const BITS: usize>(&mut self, alloc: Global) -> Result<(), AllocError>
         ensures { OnOk result ((a : Algorithm) (readers : List R) (place : ℕ)
-            → AreAt R.remaining R.can_fail a readers place self.old
-            → AreAt R.remaining R.can_fail a readers place self.new) }
+            → AreAt R.remaining R.fails_with a readers place self.old
+            → AreAt R.remaining R.fails_with a readers place self.new) }
     {
         self.begin(alloc)?;
         self.lanes.read();
@@ -123,8 +123,8 @@ impl<R: Source + Drop> Sums<R> {
     /// others go on with the next call.
     pub fn next_outcome<const BITS: usize>(&mut self, alloc: Global) -> io::Result<Option<Outcome>>
         ensures { IfOk result (λ outcome. (a : Algorithm) (readers : List R) (place : ℕ)
-            → AreAt R.remaining R.can_fail a readers place self.old
-            → IsGiven R.remaining R.can_fail a readers place outcome self.new) }
+            → AreAt R.remaining R.fails_with a readers place self.old
+            → IsGiven R.remaining R.fails_with a readers place outcome self.new) }
     {
         'rounds: for _ in 0..u64::MAX {
             if self.is_ready() {

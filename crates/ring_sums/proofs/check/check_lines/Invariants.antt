@@ -7,5 +7,5 @@ use Rattle.ring_sums.proofs.check.check_lines.Given as goal
 abbrev pub invariant-loop-line : goal.invariant-loop-line
 invariant-loop-line g l =
     AreFilesOf (entries_of l.fn.lines) l.fn.wanted.items
-    → AreChecked g.S.Read.remaining g.S.Source.can_fail g.W.Write.contents l.options l.lines
+    → AreChecked g.S.Read.remaining g.S.Source.fails_with g.W.Write.contents l.options l.lines
     l.line-index l.fn.wanted.items l.outcomes l.counts l.fn.console l.console

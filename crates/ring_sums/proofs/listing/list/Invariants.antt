@@ -7,5 +7,5 @@ use Rattle.ring_sums.proofs.listing.list.Given as goal
 abbrev pub invariant-loop-name : goal.invariant-loop-name
 invariant-loop-name g l =
     length l.fn.names ≡ length l.fn.wanted.items
-    → AreTold g.S.Read.remaining g.S.Source.can_fail g.W.Write.contents l.options l.names
+    → AreTold g.S.Read.remaining g.S.Source.fails_with g.W.Write.contents l.options l.names
     l.fn.wanted.items l.name-index l.is_fine l.outcomes l.fn.console l.console

@@ -17,7 +17,7 @@ returns-clause-going g c = λ readers below is all.
     let context = c.new.result in
     let made = c.new-2.ensures in
     let one = in-new {remaining = g.R.Read.remaining}
-    {can_fail = g.R.Source.can_fail} {a = c.args.algorithm.now} {readers = readers}
+    {fails_with = g.R.Source.fails_with} {a = c.args.algorithm.now} {readers = readers}
     {lane = lane} {context = context} c.args.place below made.place (λ r. is r ∙ sym made.reader)
     made.failure made.open made.left c.new.ensures.stands c.new.ensures.algorithm in
     let pushed = rw c.if-is_err.ensures.negation at c.push-2.ensures.items in

@@ -48,7 +48,7 @@ lanes-preserved-in-Continue-1 g c =
       going = λ a readers first found.
           let so = c.lanes.invariant.going a readers first found in
           let P : Lane _ → Context → Type 0 = λ l c.
-          IsIn g.R.Read.remaining g.R.Source.can_fail a readers (left_of l) l c in
+          IsIn g.R.Read.remaining g.R.Source.fails_with a readers (left_of l) l c in
           let is : P lane context =
           subst (λ z. P z context) (sym taken.value)
           (subst (P (get_or lanes.items i lane)) (sym given.value)

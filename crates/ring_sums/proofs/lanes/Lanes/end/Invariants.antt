@@ -18,10 +18,10 @@ invariant-lanes g l =
       pending : ArePending l.given l.fn.found.items l.fn.self.lanes.items
           → ArePending l.given l.found.items l.self.lanes.items;
       going : (a : Algorithm) (readers : List g.row.R.Denot)
-          → AreIn g.R.Read.remaining g.R.Source.can_fail a readers left_of l.fn.self.lanes.items
+          → AreIn g.R.Read.remaining g.R.Source.fails_with a readers left_of l.fn.self.lanes.items
           l.fn.self.contexts.items
-          → AreFound g.R.Read.remaining g.R.Source.can_fail a readers l.given l.fn.found.items
-          → AreIn g.R.Read.remaining g.R.Source.can_fail a readers left_of l.self.lanes.items
+          → AreFound g.R.Read.remaining g.R.Source.fails_with a readers l.given l.fn.found.items
+          → AreIn g.R.Read.remaining g.R.Source.fails_with a readers left_of l.self.lanes.items
           l.self.contexts.items
-          × AreFound g.R.Read.remaining g.R.Source.can_fail a readers l.given l.found.items;
+          × AreFound g.R.Read.remaining g.R.Source.fails_with a readers l.given l.found.items;
     }

@@ -19,12 +19,12 @@ lanes-preserved g c =
     let have = c.lanes.invariant.reading in
     let below : i < length c.args.self.now.lanes.items =
     omega (arith, c.lanes-test.true, c.len-i-end.ensures, c.args.self.now.lanes.ok.0) in
-    let step : IsRead g.R.Read.remaining g.R.Source.can_fail (get_or lanes.items i lane) lane =
-    subst (λ z. IsRead g.R.Read.remaining g.R.Source.can_fail z lane)
+    let step : IsRead g.R.Read.remaining g.R.Source.fails_with (get_or lanes.items i lane) lane =
+    subst (λ z. IsRead g.R.Read.remaining g.R.Source.fails_with z lane)
     (c.index_mut.ensures.value
     ∙ get_or_default lanes.items i _ lane (omega (arith, have.count, below))) c.read.ensures in
     record {
-      reading = stepped-next {Step = IsRead g.R.Read.remaining g.R.Source.can_fail} i lane lane
+      reading = stepped-next {Step = IsRead g.R.Read.remaining g.R.Source.fails_with} i lane lane
           have below step;
       contexts = c.lanes.invariant.contexts;
     }

@@ -8,7 +8,7 @@ use Rattle.ring_sums.proofs.lanes.Lanes.read.Given as goal
 abbrev pub invariant-lanes : goal.invariant-lanes
 invariant-lanes g l =
     record {
-      reading : AreStepped (IsRead g.R.Read.remaining g.R.Source.can_fail) l.fn.self.lanes.items
+      reading : AreStepped (IsRead g.R.Read.remaining g.R.Source.fails_with) l.fn.self.lanes.items
           l.self.lanes.items l.i;
       contexts : l.self.contexts.items ≡ l.fn.self.contexts.items;
     }

@@ -35,7 +35,7 @@ free-preserved g c = λ a readers place at.
     let old = c.free.self.lanes in
     let new = c.begin.new.self in
     let P : Lanes _ → Algorithm → Type 0 = λ l z.
-    AreIn g.R.Read.remaining g.R.Source.can_fail z readers left_of l.lanes.items
+    AreIn g.R.Read.remaining g.R.Source.fails_with z readers left_of l.lanes.items
     l.contexts.items in
     let lanes : P old c.free.self.algorithm = subst (P old) (sym so.algorithm) so.reading in
     let begun = c.in_ok-begin.ensures.going readers n.below n.read lanes in

@@ -12,5 +12,5 @@ decreases-free g l = length (into_iter_items l.self.waiting)
 abbrev pub invariant-free : goal.invariant-free
 invariant-free g l =
     (a : Algorithm) (readers : List g.row.R.Denot) (place : ℕ)
-    → AreAt g.R.Read.remaining g.R.Source.can_fail a readers place l.fn.self
-    → AreAt g.R.Read.remaining g.R.Source.can_fail a readers place l.self
+    → AreAt g.R.Read.remaining g.R.Source.fails_with a readers place l.fn.self
+    → AreAt g.R.Read.remaining g.R.Source.fails_with a readers place l.self

@@ -24,7 +24,7 @@ returns g c = λ a readers place at.
       at.begun,
     ) in
     let P : ℕ → List (Option Outcome) → Type 0 = λ z found.
-    AreFound g.R.Read.remaining g.R.Source.can_fail a readers z found in
+    AreFound g.R.Read.remaining g.R.Source.fails_with a readers z found in
     let first = subst (λ z. P z found.items) (sym is) at.found in
     let ended = c.in_ok-end.ensures.going a readers at.reading first in
     record {

@@ -8,5 +8,5 @@ use Rattle.ring_sums.proofs.sums.Sums.next_outcome.Given as goal
 abbrev pub invariant-rounds : goal.invariant-rounds
 invariant-rounds g l =
     (a : Algorithm) (readers : List g.row.R.Denot) (place : ℕ)
-    → AreAt g.R.Read.remaining g.R.Source.can_fail a readers place l.fn.self
-    → AreAt g.R.Read.remaining g.R.Source.can_fail a readers place l.self
+    → AreAt g.R.Read.remaining g.R.Source.fails_with a readers place l.fn.self
+    → AreAt g.R.Read.remaining g.R.Source.fails_with a readers place l.self

@@ -1,6 +1,6 @@
 // SPDX-License-Identifier: ISC
-//! Callers of `ring` and `ring_store`, one small function a call, each proved from the contracts
-//! alone. README's first use and the examples of the libraries' pages are taken from here.
+//! Callers of `ring` and of crates above it, one small function a call, each proved from the
+//! contracts alone. README's first use and the examples of the libraries' pages are from here.
 #![tactic(auto)]
 
 pub mod accounts;
@@ -19,5 +19,7 @@ pub mod rows;
 pub mod several;
 pub mod states;
 pub mod store;
+pub mod sums;
 pub mod token;
+pub mod verifiers;
 pub mod wide;

@@ -33,6 +33,7 @@ use ring_examples::several::{
     digests_of_both, digests_of_four, stored_of_both, stored_of_four, verify_four,
 };
 use ring_examples::store::log_in;
+use ring_examples::sums::{list_of_image, plain_line, tagged_line};
 use ring_password_hash::{HashError, MAX_TEXT_LEN, NewError};
 use ring_store::{PasswordStore, StoreError, TokenMaker};
 use std::num::NonZeroU32;
@@ -354,4 +355,21 @@ fn fills_a_row(rt: HostRuntime) {
     let filled = fill_row(b"password", b"saltsalt", iterations, &mut row);
     assert!(rt; filled == Ok(expected.len()));
     assert!(rt; row.starts_with(expected) && row[expected.len()] == 0xff);
+}
+
+// What `sha256sum` of coreutils 9.1 writes of a file with the short message, with `--tag` and
+// without it.
+#[test]
+fn lines_of_checksums(rt: HostRuntime) -> Result<(), Fail> {
+    let listed: &[u8] =
+        b"ba7816bf8f01cfea414140de5dae2223b00361a396177a9cb410ff61f20015ad  image.bin\n";
+    let tagged: &[u8] =
+        b"SHA256 (image.bin) = ba7816bf8f01cfea414140de5dae2223b00361a396177a9cb410ff61f20015ad";
+    let digest = digest_of_two(b"a", b"bc")?;
+    assert!(rt; list_of_image(rt.alloc(), &digest)?.as_slice() == listed);
+    let mut line = plain_line(rt.alloc(), &digest)?;
+    line.push(b'\n')?;
+    assert!(rt; line.as_slice() == listed);
+    assert!(rt; tagged_line(rt.alloc(), &digest)?.as_slice() == tagged);
+    Ok(())
 }

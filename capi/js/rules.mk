@@ -1,12 +1,12 @@
 # SPDX-License-Identifier: ISC
 # The package for JavaScript, in the folder above's Makefile:
 #
-#     make js            # builds it, in out/js/package
-#     make js-check      # tests it under Node 20 or later
-#     make js-browsers   # in Chromium, Firefox and JavaScriptCore, where they are
-#     make js-demo       # serves the demonstration to this machine's browser
+#     make js                   # builds it, in out/js/package
+#     make js-check             # tests it under Node 20 or later
+#     make js-browsers          # in Chromium, Firefox and JavaScriptCore, where they are
+#     make js-demo              # serves the demonstration to this machine's browser
 #     make js-bench
-#     make dist-npm      # the package for npm alone; `make dist` makes it too
+#     make dist-npm             # the package for npm alone; `make dist` makes it too
 #
 # The module is made of its text, generated/yezdopin_wasm.hex, which `make generated-wasm` renews by
 # the kit. The kit builds the crate for WebAssembly with 64-bit addresses, its only kind, and
@@ -51,8 +51,9 @@ $(WASM64): $(WASM_BUILT)
 $(KIT_WASM): $(WASM64) js/build/lower.py
 	$(PYTHON) -B js/build/lower.py $< $@ $(JS_EXPORTS)
 
-$(WASM): $(WASM_TEXT) js/build/text.mjs
+$(WASM): $(WASM_TEXT) js/build/text.mjs js/build/version.cjs
 	mkdir -p $(@D)
+	$(NODE) js/build/version.cjs $(@D)
 	$(NODE) js/build/text.mjs read $< $@
 
 # The text of the module, under the head that the assembly text has.
@@ -63,7 +64,14 @@ $(JS)/package/package.json: $(WASM) $(JS_FILES) js/README.md ../LICENSE
 	rm -f $(@D)/*.js $(@D)/*.ts
 	cp $(JS_FILES) js/README.md ../LICENSE $(@D)
 
-js-check: js-generated js-lowered js-test js-traces js-types js-packed
+# What lacks the kit, a TypeScript compiler or npm is left out.
+JS_KIT = $(if $(shell command -v $(RT) 2>/dev/null),js-generated js-lowered)
+JS_TYPES = $(if $(shell command -v $(TSC) 2>/dev/null),js-types)
+JS_PACKED = $(if $(shell command -v $(NPM) 2>/dev/null),js-packed)
+js-check: js-test js-traces
+	$(if $(JS_KIT),$(MAKE) $(JS_KIT),@echo 'left out: js-generated js-lowered, without $(RT)')
+	$(if $(JS_TYPES),$(MAKE) $(JS_TYPES),@echo 'left out: js-types, without $(TSC)')
+	$(if $(JS_PACKED),$(MAKE) $(JS_PACKED),@echo 'left out: js-packed, without $(NPM)')
 
 # Whether the text is that of the module that the kit makes.
 js-generated: $(WASM) $(KIT_WASM)
@@ -127,8 +135,6 @@ js-demo: $(JS)/package/package.json
 js-bench: $(JS)/package/package.json
 	@$(NODE) js/bench/node.mjs $(<D)
 
-# A word of PACKAGES in dist/dist.mk where npm is.
-NPM_PACKAGE = $(shell command -v $(NPM) >/dev/null && echo npm)
 dist-npm: $(JS)/package/package.json
 	mkdir -p "$(DIST)"
 	NPM='$(NPM)' js/build/pack $(<D) "$(DIST)"

@@ -6,8 +6,13 @@ clone of the repository `make` builds the latter first, where that is needed.
 `python3 build_backend.py FOLDER` puts the package and its extension into a folder.
 """
 
-from __future__ import annotations
+import sys
 
+if sys.version_info < (3, 11):  # what follows needs it, as pyproject.toml says too
+    VERSION = ".".join(map(str, sys.version_info[:2]))
+    sys.exit(f"yezdopin needs CPython 3.11 or later with its headers, and this is {VERSION}")
+
+import atexit
 import base64
 import hashlib
 import io
@@ -16,7 +21,6 @@ import pathlib
 import shlex
 import shutil
 import subprocess
-import sys
 import sysconfig
 import tarfile
 import tempfile
@@ -28,13 +32,13 @@ FOLDER = pathlib.Path(__file__).resolve().parent
 # The folders above an unpacked sdist aren't this repository's, and may be anyone's.
 IS_SDIST = (FOLDER / "PKG-INFO").is_file()
 PROJECT = tomllib.loads((FOLDER / "pyproject.toml").read_text())["project"]
+PACKAGE = FOLDER / "src" / "yezdopin"  # not beside this file: Python takes a package there first
 STEM = f"{PROJECT['name']}-{PROJECT['version']}"
 EXTENSION = "_native.abi3.so"
 HEADER, ARCHIVE = "yezdopin.h", "libyezdopin.a"
 DEBIAN = f"/usr/lib/{os.uname().machine}-linux-gnu"
 USUAL = ["/usr/local/lib", DEBIAN, "/usr/lib64", "/usr/lib"]
 HINT = "build it (`make -C capi`), install it, or name its folder in YEZDOPIN_LIB_DIR"
-MAKE = ["make", "-s", "-C", str(FOLDER.parent), f"out/{ARCHIVE}"]
 
 
 def _pkg_config(variable: str) -> list[pathlib.Path]:
@@ -56,22 +60,34 @@ def _found(name: str, folders: Iterable[pathlib.Path], hint: str) -> pathlib.Pat
     raise SystemExit(f"{name} isn't in any of {', '.join(map(str, tried))}: {hint}")
 
 
-def _make() -> None:
-    """Brings the library of this repository up to date. Where that fails, an older or an installed
-    one may serve."""
+def _out() -> str:
+    """The folder in which `make` builds the library: in this repository, or where that can't be
+    written, one that is removed at the end."""
+    capi = FOLDER.parent
+    if os.access(capi, os.W_OK) or (capi / "out" / ARCHIVE).is_file():
+        return "out"
+    room = tempfile.mkdtemp()
+    atexit.register(shutil.rmtree, room, ignore_errors=True)
+    return room
+
+
+def _make() -> pathlib.Path:
+    """Brings the library of this repository up to date, and gives its folder. Where that fails, an
+    older or an installed one may serve."""
     environment = {name: it for name, it in os.environ.items() if name != "MAKEFLAGS"}
+    out = _out()
+    command = ["make", "-s", "-C", str(FOLDER.parent), f"OUT={out}", f"{out}/{ARCHIVE}"]
     try:
-        subprocess.run(MAKE, check=True, env=environment)
+        subprocess.run(command, check=True, env=environment)
     except (OSError, subprocess.CalledProcessError) as error:
         print(f"the library was not built: {error}", file=sys.stderr)
+    return FOLDER.parent / out
 
 
 def _library() -> tuple[pathlib.Path, pathlib.Path]:
     """The header and the archive: of YEZDOPIN_LIB_DIR, of this repository, or installed."""
     given = os.environ.get("YEZDOPIN_LIB_DIR")
-    beside = [] if IS_SDIST else [FOLDER.parent / "out"]
-    if not given and not IS_SDIST:
-        _make()
+    beside = [] if given or IS_SDIST else [_make()]
     usual = [*beside, *_pkg_config("libdir"), *map(pathlib.Path, USUAL)]
     archive = _found(ARCHIVE, [pathlib.Path(given)] if given else usual, HINT)
     near = [folder / "include" for folder in archive.resolve().parents[1:3]]
@@ -105,7 +121,7 @@ def _compile(folder: pathlib.Path) -> None:
 
 def _texts() -> Iterator[pathlib.Path]:
     """The files of the package but for the extension."""
-    for path in sorted((FOLDER / "yezdopin").iterdir()):
+    for path in sorted(PACKAGE.iterdir()):
         if path.suffix in {".py", ".pyi", ".typed"}:
             yield path
 
@@ -175,8 +191,8 @@ def build_editable(
     wheel_directory: str, config_settings: Any = None, metadata_directory: Any = None
 ) -> str:
     """Writes a wheel that refers to this folder, and compiles the extension in place."""
-    _compile(FOLDER / "yezdopin")
-    files = [("yezdopin.pth", f"{FOLDER}\n".encode())]
+    _compile(PACKAGE)
+    files = [("yezdopin.pth", f"{PACKAGE.parent}\n".encode())]
     return _write_wheel(wheel_directory, files, _tag(config_settings))
 
 

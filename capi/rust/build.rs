@@ -1,9 +1,10 @@
 // SPDX-License-Identifier: ISC
 //! Links libyezdopin.a: that of the folder YEZDOPIN_LIB_DIR, that for the target's processor in the
-//! folder prebuilt/, which the packaged crate has, what `make -C capi` builds, which is called
-//! here, or where it is installed.
+//! folder prebuilt/, which the packaged crate has, in a clone what `make -C capi` builds, which is
+//! called here, or where it is installed.
 
 use std::env;
+use std::fs;
 use std::path::{Path, PathBuf};
 use std::process::{exit, Command};
 
@@ -38,10 +39,19 @@ fn processor() -> &'static str {
     }
 }
 
+// The folder above, if it is the repository's: it has the assembly text and what chooses a build.
+// The folder above a packaged or vendored crate is anyone's.
+fn clone_above(package: &Path) -> Option<PathBuf> {
+    let capi = package.join("..");
+    let is_clone = capi.join("generated/rules.mk").is_file() && capi.join("dispatch.c").is_file();
+    is_clone.then_some(capi)
+}
+
 // The folder in which `make` builds the library for a processor, in a clone of the repository, from
-// the assembly text there. Where that fails, an older or an installed library may serve.
+// the assembly text there; where the clone can't be written, cargo's own. Where `make` fails, an
+// older or an installed library may serve.
 fn made(capi: &Path, processor: &str) -> PathBuf {
-    for name in ["generated", "dispatch.c", "include/yezdopin.h"] {
+    for name in ["generated", "dispatch.c", "status.c", "include/yezdopin.h"] {
         println!("cargo:rerun-if-changed={}", capi.join(name).display());
     }
     let host = env::var("HOST").expect("cargo names the host");
@@ -49,10 +59,15 @@ fn made(capi: &Path, processor: &str) -> PathBuf {
         true => "out".into(),
         false => format!("out/{processor}"),
     };
+    let out = match has_room(&capi.join(&out)) {
+        true => out,
+        false => env::var("OUT_DIR").expect("cargo names a folder"),
+    };
     let mut making = Command::new("make");
     making.args([
         "-s",
         &format!("ARCH={processor}"),
+        &format!("OUT={out}"),
         &format!("{out}/{ARCHIVE}"),
     ]);
     let status = making.current_dir(capi).env_remove("MAKEFLAGS").status();
@@ -62,6 +77,14 @@ fn made(capi: &Path, processor: &str) -> PathBuf {
     capi.join(out)
 }
 
+// Whether the archive is in a folder, or can be built there.
+fn has_room(folder: &Path) -> bool {
+    let probe = folder.join("probe");
+    let is_writable = fs::create_dir_all(folder).and_then(|()| fs::write(&probe, ""));
+    let _ = fs::remove_file(&probe);
+    is_writable.is_ok() || folder.join(ARCHIVE).is_file()
+}
+
 // The folders that are tried, the first one first.
 fn folders(processor: &str) -> Vec<PathBuf> {
     if let Some(folder) = env::var_os("YEZDOPIN_LIB_DIR") {
@@ -69,11 +92,12 @@ fn folders(processor: &str) -> Vec<PathBuf> {
     }
     let package = env::var_os("CARGO_MANIFEST_DIR").expect("cargo names the package's folder");
     let package = PathBuf::from(package);
-    let mut folders = vec![package.join("prebuilt").join(processor)];
-    // The folders above a packaged crate, which has this file, are anyone's.
-    if !package.join("Cargo.toml.orig").is_file() {
-        folders.push(made(&package.join(".."), processor));
+    let prebuilt = package.join("prebuilt").join(processor);
+    if prebuilt.join(ARCHIVE).is_file() {
+        return vec![prebuilt];
     }
+    let mut folders = vec![prebuilt];
+    folders.extend(clone_above(&package).map(|capi| made(&capi, processor)));
     folders.extend(told());
     // Where archives are installed, where pkg-config doesn't tell.
     let debian = format!("/usr/lib/{processor}-linux-gnu");

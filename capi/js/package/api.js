@@ -51,8 +51,9 @@ class Running {
   }
 
   async updateFrom(source, { progress, signal } = {}) {
-    this.#ready();
+    // This runs getters of the source, which may begin to read another one.
     const pieces = piecesOf(source);
+    this.#ready();
     this.#isReading = true;
     let isRead = false, len = 0;
     try {

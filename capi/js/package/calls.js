@@ -6,8 +6,9 @@
 const OK = 0;
 const UNKNOWN_ALGORITHM = 1;
 const UNKNOWN_CONTEXT = 2;
-const WRONG_LENGTH = 3;
-const NO_ITERATIONS = 4;
+const NO_ITERATIONS = 3;
+const WRONG_LENGTH = 4;
+const UNSPECIFIED = 8;
 
 const DIGEST_CONTEXT_LEN = 216;
 const HMAC_KEY_LEN = 136;
@@ -36,8 +37,14 @@ export function start(compiled) {
   restart();
 }
 
+// Takes a view of its own, since a call may be cut off between `grow` and the view behind it, and
+// `memory` is then detached.
+function wipeAll() {
+  new Uint8Array(exports.memory.buffer).fill(0);
+}
+
 function restart() {
-  memory?.fill(0);
+  if (exports !== undefined) wipeAll();
   exports = new WebAssembly.Instance(module).exports;
   memory = new Uint8Array(exports.memory.buffer);
   // The constants end here.
@@ -67,7 +74,7 @@ function run(call) {
     answer = call();
   } catch (error) {
     if (!(error instanceof Refusal)) {
-      memory.fill(0);
+      wipeAll();
       throw error;
     }
     cause = error.cause;
@@ -87,8 +94,8 @@ function errorOf(status) {
   switch (status) {
     case UNKNOWN_ALGORITHM: return new TypeError("yezdopin: the call does not have this algorithm");
     case UNKNOWN_CONTEXT: return new TypeError("yezdopin: no context and no key");
-    case WRONG_LENGTH: return new RangeError("yezdopin: the output cannot have this length");
     case NO_ITERATIONS: return new RangeError("yezdopin: no iterations");
+    case WRONG_LENGTH: return new RangeError("yezdopin: the output cannot have this length");
     default: return new RangeError("yezdopin: an input is too long");
   }
 }
@@ -100,7 +107,7 @@ function test(status) {
 // The answer of a verification. What it verifies is wrong, or an input is past its limit, where no
 // other cause is told.
 function verdict(status) {
-  if (status >= UNKNOWN_ALGORITHM && status <= NO_ITERATIONS) test(status);
+  if (status !== UNSPECIFIED) test(status);
   return status === OK;
 }
 

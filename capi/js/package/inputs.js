@@ -47,7 +47,8 @@ function isOf(getter, it) {
   }
 }
 
-/** The bytes of a buffer or of a view of one, where they are. */
+/** The bytes of a buffer or of a view of one, where they are. Their length stays: without one, a
+ * view grows with a shared buffer that another thread grows. */
 export function bytesOf(data) {
   if (ArrayBuffer.isView(data)) {
     const isArray = typeOf(data) !== undefined;
@@ -56,7 +57,9 @@ export function bytesOf(data) {
     if (isArray && len === 0) keysOf(data);
     return new Uint8Array(buffer, offset, len);
   }
-  if (isOf(lenOfBuffer, data) || isOf(lenOfShared, data)) return new Uint8Array(data);
+  for (const lenOf of [lenOfBuffer, lenOfShared]) {
+    if (isOf(lenOf, data)) return new Uint8Array(data, 0, lenOf(data));
+  }
   throw new TypeError("yezdopin: bytes are an ArrayBuffer, a SharedArrayBuffer or a view of one");
 }
 

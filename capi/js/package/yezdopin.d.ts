@@ -46,8 +46,8 @@ export function hmac(algorithm: HmacAlgorithm, key: Input, message: Input): Uint
 export function hmacVerify(
   algorithm: HmacAlgorithm, key: Input, message: Input, tag: Bytes): boolean;
 /**
- * HKDF, with the arguments of node:crypto's `hkdfSync`. Throws a RangeError past 255 times the
- * algorithm's output.
+ * HKDF, with the arguments of node:crypto's `hkdfSync`: the secret comes before the salt, and in C
+ * behind it. Throws a RangeError past 255 times the algorithm's output.
  */
 export function hkdf(
   algorithm: HmacAlgorithm, secret: Input, salt: Input, info: Input, length: number): Uint8Array;

@@ -29,6 +29,13 @@ const SHA256_OF_ABC = "ba7816bf8f01cfea414140de5dae2223b00361a396177a9cb410ff61f
 const memoryNow = () => new Uint8Array(instances.at(-1).memory.buffer);
 const AS_NEW = memoryNow().slice();
 
+// Whether the module's memory is as a new one's.
+function isWiped() {
+  const wanted = Buffer.alloc(memoryNow().length);
+  wanted.set(AS_NEW);
+  return wanted.equals(memoryNow());
+}
+
 const theirs = (name, message) => crypto.createHash(name).update(message).digest("hex");
 
 test("each vector, and WebCrypto's answers", async () => {
@@ -298,6 +305,23 @@ test("a source that fails or is ended closes what read it", async () => {
   assert.equal(busy.digest("hex"), theirs("sha1", piece));
 });
 
+test("a source whose getter begins to read another one is refused", async () => {
+  const running = yz.createHash("sha256");
+  async function* later() { yield "a"; await null; yield "bc"; }
+  let inner;
+  const source = {
+    get [Symbol.asyncIterator]() {
+      inner ??= running.updateFrom(later());
+      return later;
+    },
+  };
+  const outer = running.updateFrom(source);
+  assert.throws(() => running.digest(), /is being read/);
+  await assert.rejects(outer, /is being read/);
+  await inner;
+  assert.equal(running.digest("hex"), SHA256_OF_ABC);
+});
+
 test("no call leaves a byte in the module's memory", () => {
   const running = yz.createHash("sha512"), tagged = yz.createHmac("sha384", "a key");
   const calls = TAGS.flatMap((name) => [
@@ -323,9 +347,7 @@ test("no call leaves a byte in the module's memory", () => {
   const count = instances.length;
   for (const call of calls) {
     call();
-    const memory = memoryNow();
-    assert.equal(Buffer.compare(memory.subarray(0, AS_NEW.length), AS_NEW), 0, String(call));
-    assert.ok(memory.subarray(AS_NEW.length).every((it) => it === 0), String(call));
+    assert.ok(isWiped(), String(call));
   }
   assert.equal(instances.length, count);
 });
@@ -372,6 +394,63 @@ test("contexts are wiped at each step, and where the digest is taken", () => {
   for (const it of contexts) assert.ok(it.every((byte) => byte === 0));
 });
 
+const still = !("growable" in SharedArrayBuffer.prototype) && "this Node has no buffers that grow";
+test("a shared buffer that grows in a call is read as it was before", { skip: still }, () => {
+  for (const method of ["set", "subarray"]) {
+    for (const len of [100, 70000]) {
+      const wanted = theirs("sha256", Buffer.alloc(len, 0xaa));
+      for (const call of [(it) => yz.digest("sha256", it),
+        (it) => yz.createHash("sha256").update(it).digest()]) {
+        const shared = new SharedArrayBuffer(len, { maxByteLength: 1 << 20 });
+        const grow = (usual) => {
+          shared.grow(shared.byteLength + 5000);
+          return usual();
+        };
+        new Uint8Array(shared).fill(0xaa);
+        assert.equal(hex(withMethod(method, grow, () => call(shared))), wanted);
+        assert.ok(isWiped());
+      }
+    }
+  }
+});
+
+test("shared buffers that another thread grows", { skip: still }, async (t) => {
+  const MOST = 64000, begin = new Int32Array(new SharedArrayBuffer(4));
+  const buffers = Array.from({ length: 300 },
+    () => new SharedArrayBuffer(100, { maxByteLength: MOST }));
+  const program = `import { parentPort, workerData } from "node:worker_threads";
+    parentPort.postMessage("waits");
+    Atomics.wait(workerData.begin, 0, 0);
+    for (const it of workerData.buffers) {
+      const bytes = new Uint8Array(it);
+      for (let len = it.byteLength; len < ${MOST}; len = it.byteLength) {
+        it.grow(Math.min(len + 8, ${MOST}));
+        bytes.fill(0xaa, len);
+      }
+    }`;
+  const url = new URL(`data:text/javascript,${encodeURIComponent(program)}`);
+  const worker = new Worker(url, { workerData: { begin, buffers } });
+  t.after(() => worker.terminate());
+  await once(worker, "message");
+  const lengths = new Set(), deadline = performance.now() + 3000;
+  Atomics.store(begin, 0, 1);
+  Atomics.notify(begin, 0);
+  for (const it of buffers) {
+    while (it.byteLength < MOST && performance.now() < deadline) {
+      lengths.add(it.byteLength);
+      yz.digest("sha1", it);
+      try {
+        yz.timingSafeEqual(it, it);
+      } catch (error) {
+        assert.match(error.message, /the lengths differ/);
+      }
+      assert.ok(isWiped(), "a byte was left");
+    }
+  }
+  console.log(`${lengths.size} lengths of buffers that grew`);
+  assert.ok(lengths.size > 1);
+});
+
 test("a wiping that is cut off is made up for", () => {
   const cutOff = () => { throw new RangeError("cut off"); };
   const key = crypto.randomBytes(40), count = instances.length;
@@ -411,6 +490,61 @@ test("a call that is cut off leaves the package and the contexts working", () =>
   assert.equal(hex(yz.digest("sha256", "abc")), SHA256_OF_ABC);
   for (const it of instances.slice(before, -1)) {
     assert.ok(new Uint8Array(it.memory.buffer).every((byte) => byte === 0), "a byte was left");
+  }
+});
+
+test("a call that is cut off where the memory has grown leaves the package working", () => {
+  const key = crypto.randomBytes(100), usual = Uint8Array;
+  let grown = null;
+  // Cuts off the view that `room` takes of the grown memory.
+  globalThis.Uint8Array = class extends usual {
+    constructor(...words) {
+      const { buffer } = instances.at(-1).memory;
+      if (words[0] === buffer && buffer.byteLength > AS_NEW.length && grown === null) {
+        grown = buffer;
+        throw new RangeError("cut off");
+      }
+      super(...words);
+    }
+  };
+  try {
+    yz.digest("sha1", "");
+    assert.throws(() => yz.hkdf("sha256", key, new usual(300000), "", 32), /cut off/);
+  } finally {
+    globalThis.Uint8Array = usual;
+  }
+  assert.equal(hex(yz.digest("sha256", "abc")), SHA256_OF_ABC);
+  assert.ok(grown !== null && new Uint8Array(grown).every((byte) => byte === 0));
+});
+
+test("descents to the end of a worker's stack leave the package working there", async () => {
+  // The counts of arguments move the end of the stack, in a call, from one place to another.
+  const program = `import { parentPort, workerData } from "node:worker_threads";
+    import { digest, hkdf } from ${JSON.stringify(main)};
+    const secret = new Uint8Array(300 * 1024), faults = [];
+    const paddings = Array.from({ length: 8 }, (_, len) => Array(len).fill(0));
+    let cuts = 0, answered = 0;
+    function padded(...more) { return hkdf("sha256", secret, "", "", 32); }
+    function descend(...more) {
+      try { descend(...more); } catch {}
+      if (answered > 3 * paddings.length) return;
+      try {
+        for (const padding of paddings) {
+          try { padded(...padding); answered++; } catch { cuts++; }
+        }
+      } catch {}
+    }
+    for (let count = workerData; count < workerData + 3; count++) {
+      answered = 0;
+      try { descend(...Array(count).fill(0)); } catch {}
+      try { digest("sha256", "abc"); } catch (error) { faults.push(error.message); }
+    }
+    parentPort.postMessage({ cuts, faults });`;
+  const url = new URL(`data:text/javascript,${encodeURIComponent(program)}`);
+  for (const first of [0, 3]) {
+    const [{ cuts, faults }] = await once(new Worker(url, { workerData: first }), "message");
+    assert.deepEqual(faults, []);
+    assert.ok(cuts > 100);
   }
 });
 

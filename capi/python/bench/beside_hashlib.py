@@ -2,7 +2,7 @@
 # SPDX-License-Identifier: ISC
 """Times the package beside hashlib and hmac, both taking turns, as a table in Markdown.
 
-    make -C capi python && PYTHONPATH=capi/out/python python3 capi/python/bench/beside_hashlib.py
+    make -C capi python-bench
 
 Each time is one call's, the least processor time of many turns. Below 1 ours is the faster.
 """

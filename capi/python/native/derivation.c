@@ -44,7 +44,8 @@ static PyObject *hkdf(PyObject *Py_UNUSED(module), PyObject *const *args, Py_ssi
     PyObject *out = new_bytes(len, &bytes);
     yz_status status = YZ_OK;
     if (out != NULL) {
-        PyThreadState *saved = let_others_run(len_of(&views[0]) + len_of(&views[1]));
+        PyThreadState *saved =
+            let_others_run(len_of(&views[0]) + len_of(&views[1]) + len_of(&views[2]));
         status = yz_hkdf(algorithm, bytes_of(&views[1]), len_of(&views[1]), bytes_of(&views[0]),
                          len_of(&views[0]), bytes_of(&views[2]), len_of(&views[2]), bytes, len);
         go_on(saved);
@@ -95,13 +96,27 @@ static PyObject *hkdf_expand(PyObject *Py_UNUSED(module), PyObject *const *args,
     PyObject *out = new_bytes(len, &bytes);
     yz_status status = YZ_OK;
     if (out != NULL) {
-        PyThreadState *saved = let_others_run(len_of(&views[1]));
+        PyThreadState *saved = let_others_run(len_of(&views[0]) + len_of(&views[1]));
         status = yz_hkdf_expand(algorithm, bytes_of(&views[0]), len_of(&views[0]),
                                 bytes_of(&views[1]), len_of(&views[1]), bytes, len);
         go_on(saved);
     }
     give_back(views, 2);
     return made(out, status);
+}
+
+/* Raises the status of HKDF-Expand-Label, and says which input is out of its limits. */
+static PyObject *refuse_label(yz_status status, size_t label_len, size_t context_len)
+{
+    if (status == YZ_UNSPECIFIED && (label_len < 1 || label_len > YZ_MAX_LABEL_LEN)) {
+        return refuse_for(status, "a label has 1 to %d bytes, and this one has %zu",
+                          YZ_MAX_LABEL_LEN, label_len);
+    }
+    if (status == YZ_UNSPECIFIED && context_len > YZ_MAX_CONTEXT_LEN) {
+        return refuse_for(status, "a context has at most %d bytes, and this one has %zu",
+                          YZ_MAX_CONTEXT_LEN, context_len);
+    }
+    return refuse(status);
 }
 
 static PyObject *hkdf_expand_label(PyObject *Py_UNUSED(module), PyObject *const *args,
@@ -128,23 +143,48 @@ static PyObject *hkdf_expand_label(PyObject *Py_UNUSED(module), PyObject *const 
                                       len_of(&views[2]), bytes, len);
         go_on(saved);
     }
+    size_t label_len = len_of(&views[1]), context_len = len_of(&views[2]);
     give_back(views, 3);
-    return made(out, status);
+    if (out == NULL || status == YZ_OK) return out;
+    Py_DECREF(out);
+    return refuse_label(status, label_len, context_len);
 }
 
-/* The number of iterations. A number below 1 is refused as 0 is. */
-static bool iterations_of(PyObject *object, uint32_t *iterations)
+/* The most iterations that hashlib's PBKDF2 takes, and so this one: what it makes, that makes. */
+#define MAX_ITERATIONS INT32_MAX
+
+/* A number of iterations, from 1 to `most`. As in hashlib 0 is a ValueError, and one that is too
+ * great an OverflowError. */
+static bool iterations_of(PyObject *object, uint32_t most, uint32_t *iterations)
 {
     int overflow;
     long long wanted = PyLong_AsLongLongAndOverflow(object, &overflow);
     if (wanted == -1 && overflow == 0 && PyErr_Occurred()) return false;
-    if (overflow > 0 || wanted > (long long)UINT32_MAX) {
-        PyErr_SetString(PyExc_OverflowError, "the number of iterations must be below 2**32");
+    if (overflow != 0 || wanted > (long long)most) {
+        PyErr_Format(PyExc_OverflowError, "iterations must be from 1 to %u", most);
         return false;
     }
-    *iterations = overflow < 0 || wanted < 0 ? 0 : (uint32_t)wanted;
-    if (*iterations == 0) refuse(YZ_NO_ITERATIONS);
-    return *iterations != 0;
+    if (wanted < 1) {
+        refuse_for(YZ_NO_ITERATIONS, "iterations must be from 1 to %u", most);
+        return false;
+    }
+    *iterations = (uint32_t)wanted;
+    return true;
+}
+
+/* The limit of a verification, which is at least 1. No text can name more than UINT32_MAX
+ * iterations, so that a greater limit says no more than that one. */
+static bool limit_of(PyObject *object, uint32_t *limit)
+{
+    int overflow;
+    long long wanted = PyLong_AsLongLongAndOverflow(object, &overflow);
+    if (wanted == -1 && overflow == 0 && PyErr_Occurred()) return false;
+    if (overflow < 0 || (overflow == 0 && wanted < 1)) {
+        refuse_for(YZ_NO_ITERATIONS, "max_iterations must be at least 1");
+        return false;
+    }
+    *limit = overflow > 0 || wanted > (long long)UINT32_MAX ? UINT32_MAX : (uint32_t)wanted;
+    return true;
 }
 
 /* The length of a derived key, a digest's where the object is NULL or None. */
@@ -192,7 +232,8 @@ static PyObject *pbkdf2_hmac(PyObject *Py_UNUSED(module), PyObject *const *args,
     if (!gather(&takes, args, args_len, keywords, values)) return NULL;
     if (!algorithm_of_name(values[0], &algorithm) || !borrow_all(values + 1, 2, views)) return NULL;
     PyObject *out = NULL;
-    if (iterations_of(values[3], &iterations) && derived_len(values[4], algorithm, &len)) {
+    if (iterations_of(values[3], MAX_ITERATIONS, &iterations)
+        && derived_len(values[4], algorithm, &len)) {
         out = derived(algorithm, iterations, views, len);
     }
     give_back(views, 2);
@@ -210,7 +251,8 @@ static PyObject *pbkdf2_hmac_verify(PyObject *Py_UNUSED(module), PyObject *const
     if (!gather(&takes, args, args_len, keywords, values)) return NULL;
     PyObject *lent[] = {values[1], values[2], values[4]};
     if (!algorithm_of_name(values[0], &algorithm)) return NULL;
-    if (!iterations_of(values[3], &iterations) || !borrow_all(lent, 3, views)) return NULL;
+    if (!iterations_of(values[3], MAX_ITERATIONS, &iterations)) return NULL;
+    if (!borrow_all(lent, 3, views)) return NULL;
     PyThreadState *saved = PyEval_SaveThread();
     yz_status status = yz_pbkdf2_verify(algorithm, iterations, bytes_of(&views[1]),
                                         len_of(&views[1]), bytes_of(&views[0]), len_of(&views[0]),
@@ -229,7 +271,7 @@ static PyObject *password_hash_verify(PyObject *Py_UNUSED(module), PyObject *con
     Py_buffer views[2];
     uint32_t most;
     if (!gather(&takes, args, args_len, keywords, values)) return NULL;
-    if (!iterations_of(values[2], &most) || !borrow_all(values, 2, views)) return NULL;
+    if (!limit_of(values[2], &most) || !borrow_all(values, 2, views)) return NULL;
     PyThreadState *saved = PyEval_SaveThread();
     yz_status status = yz_password_hash_verify((const char *)bytes_of(&views[0]),
                                                len_of(&views[0]), bytes_of(&views[1]),
@@ -279,7 +321,8 @@ static PyObject *password_hash_new(PyObject *Py_UNUSED(module), PyObject *const 
     char text[YZ_MAX_PASSWORD_HASH_LEN];
     size_t len = 0;
     if (!gather(&takes, args, args_len, keywords, values)) return NULL;
-    if (!kind_of_name(values[0], &kind) || !iterations_of(values[3], &iterations)) return NULL;
+    if (!kind_of_name(values[0], &kind)) return NULL;
+    if (!iterations_of(values[3], UINT32_MAX, &iterations)) return NULL;
     if (!borrow_all(values + 1, 2, views)) return NULL;
     PyThreadState *saved = PyEval_SaveThread();
     yz_status status = yz_password_hash_new(kind, iterations, bytes_of(&views[1]),
@@ -294,10 +337,11 @@ static PyObject *password_hash_new(PyObject *Py_UNUSED(module), PyObject *const 
 PyMethodDef derivation_functions[] = {
     {"hkdf", METHOD(hkdf), FAST,
      PyDoc_STR("hkdf($module, /, hash_name, secret, salt, info, length)\n--\n\n"
-               "`length` bytes of output for `info` (RFC 5869): extract, and then expand.")},
+               "`length` bytes of output for `info` (RFC 5869): extract, and then expand. "
+               "The secret comes before the salt, and in C behind it.")},
     {"hkdf_extract", METHOD(hkdf_extract), FAST,
      PyDoc_STR("hkdf_extract($module, /, hash_name, secret, salt=b'')\n--\n\n"
-               "The pseudorandom key of a secret (RFC 5869, 2.2).")},
+               "The pseudorandom key of a secret (RFC 5869, 2.2). In C the salt comes first.")},
     {"hkdf_expand", METHOD(hkdf_expand), FAST,
      PyDoc_STR("hkdf_expand($module, /, hash_name, prk, info, length)\n--\n\n"
                "`length` bytes of output of a pseudorandom key for `info` (RFC 5869, 2.3).")},
@@ -307,7 +351,8 @@ PyMethodDef derivation_functions[] = {
                "prefix.")},
     {"pbkdf2_hmac", METHOD(pbkdf2_hmac), FAST,
      PyDoc_STR("pbkdf2_hmac($module, /, hash_name, password, salt, iterations, dklen=None)\n--\n\n"
-               "The key derived from a password (RFC 2898), as `hashlib.pbkdf2_hmac`.")},
+               "The key derived from a password (RFC 2898), as `hashlib.pbkdf2_hmac`. "
+               "In C the order is iterations, salt, password.")},
     {"pbkdf2_hmac_verify", METHOD(pbkdf2_hmac_verify), FAST,
      PyDoc_STR("pbkdf2_hmac_verify($module, /, hash_name, password, salt, iterations, derived)\n"
                "--\n\nWhether `derived` isn't empty, and is what `pbkdf2_hmac` gives for its "

@@ -67,11 +67,21 @@ PyObject *refuse(yz_status status)
     return raise(status, NULL);
 }
 
+/* Raises a status for a reason that says more than the status's own, as PyUnicode_FromFormat has
+ * it. */
+PyObject *refuse_for(yz_status status, const char *reason, ...)
+{
+    va_list arguments;
+    va_start(arguments, reason);
+    PyObject *text = PyUnicode_FromFormatV(reason, arguments);
+    va_end(arguments);
+    return text == NULL ? NULL : raise(status, text);
+}
+
 /* Raises `yezdopin.Error` for a hash that the library doesn't have for this call. */
 PyObject *refuse_hash(PyObject *hash)
 {
-    PyObject *reason = PyUnicode_FromFormat("unsupported hash type %S", hash);
-    return reason == NULL ? NULL : raise(YZ_UNKNOWN_ALGORITHM, reason);
+    return refuse_for(YZ_UNKNOWN_ALGORITHM, "unsupported hash type %S", hash);
 }
 
 /* The result of a verification. */

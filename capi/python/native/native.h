@@ -41,6 +41,7 @@ typedef struct {
 bool gather(const signature *takes, PyObject *const *args, Py_ssize_t args_len, PyObject *keywords,
             PyObject **values);
 PyObject *refuse(yz_status status);
+PyObject *refuse_for(yz_status status, const char *reason, ...);
 PyObject *refuse_hash(PyObject *hash);
 PyObject *verdict(yz_status status);
 PyObject *cannot_pickle(PyObject *self, PyObject *protocol);

@@ -28,7 +28,9 @@ static bool make(uint32_t algorithm, PyObject *value, yz_hmac_key *key)
 {
     Py_buffer view;
     if (!borrow(value, &view)) return false;
+    PyThreadState *saved = let_others_run(len_of(&view));
     yz_status status = yz_hmac_key_init(algorithm, bytes_of(&view), len_of(&view), key);
+    go_on(saved);
     PyBuffer_Release(&view);
     if (status != YZ_OK) refuse(status);
     return status == YZ_OK;
@@ -39,17 +41,20 @@ static PyObject *key_new(PyTypeObject *type, PyObject *args, PyObject *keywords)
     static char *names[] = {"key", "digestmod", NULL};
     PyObject *value, *digestmod;
     uint32_t algorithm;
+    yz_hmac_key key;
     if (!PyArg_ParseTupleAndKeywords(args, keywords, "OO:Key", names, &value, &digestmod)) {
         return NULL;
     }
-    if (!algorithm_of_tags(digestmod, &algorithm)) return NULL;
+    /* The key is made first: others can find an object through the garbage collector. */
+    if (!algorithm_of_tags(digestmod, &algorithm) || !make(algorithm, value, &key)) return NULL;
     allocfunc allocate = __extension__(allocfunc)PyType_GetSlot(type, Py_tp_alloc);
     PyObject *self = allocate(type, 0);
-    if (self == NULL) return NULL;
-    key_of(self)->algorithm = algorithm;
-    if (make(algorithm, value, &key_of(self)->key)) return self;
-    Py_DECREF(self);
-    return NULL;
+    if (self != NULL) {
+        key_of(self)->algorithm = algorithm;
+        key_of(self)->key = key;
+    }
+    yz_clear(&key, sizeof key);
+    return self;
 }
 
 static void key_dealloc(PyObject *self)
@@ -224,6 +229,14 @@ static PyObject *hmac_verify(PyObject *Py_UNUSED(module), PyObject *const *args,
     return verdict(status);
 }
 
+static PyObject *are_equal(const uint8_t *a, size_t a_len, const uint8_t *b, size_t b_len)
+{
+    PyThreadState *saved = let_others_run(a_len);
+    bool answer = yz_equal(a, a_len, b, b_len);
+    go_on(saved);
+    return PyBool_FromLong(answer);
+}
+
 /* Compares two texts, each of which must be ASCII. */
 static PyObject *compare_text(PyObject *a, PyObject *b)
 {
@@ -235,8 +248,8 @@ static PyObject *compare_text(PyObject *a, PyObject *b)
         PyErr_SetString(PyExc_TypeError, "text that is not ASCII can't be compared");
         return NULL;
     }
-    return PyBool_FromLong(yz_equal((const uint8_t *)a_text, (size_t)a_len,
-                                    (const uint8_t *)b_text, (size_t)b_len));
+    return are_equal((const uint8_t *)a_text, (size_t)a_len, (const uint8_t *)b_text,
+                     (size_t)b_len);
 }
 
 static PyObject *compare_digest(PyObject *Py_UNUSED(module), PyObject *const *args,
@@ -253,10 +266,10 @@ static PyObject *compare_digest(PyObject *Py_UNUSED(module), PyObject *const *ar
         return NULL;
     }
     if (!borrow_all(args, 2, views)) return NULL;
-    bool are_equal = yz_equal(bytes_of(&views[0]), len_of(&views[0]), bytes_of(&views[1]),
-                              len_of(&views[1]));
+    PyObject *answer = are_equal(bytes_of(&views[0]), len_of(&views[0]), bytes_of(&views[1]),
+                                 len_of(&views[1]));
     give_back(views, 2);
-    return PyBool_FromLong(are_equal);
+    return answer;
 }
 
 PyMethodDef tag_functions[] = {

@@ -215,7 +215,7 @@ class Vectors(unittest.TestCase):
 
 class Documentation(unittest.TestCase):
     def test_examples(self):
-        for module in (yezdopin, tags):
+        for module in (yezdopin, tags, yezdopin.password_hash):
             result = doctest.testmod(module)
             self.assertEqual(result.failed, 0)
             self.assertGreater(result.attempted, 0)

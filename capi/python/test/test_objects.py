@@ -6,6 +6,7 @@ import copy
 import gc
 import hashlib
 import hmac
+import inspect
 import io
 import mmap
 import os
@@ -114,7 +115,7 @@ class Threads(unittest.TestCase):
 
     def test_others_run(self):
         """A long call lets other threads run."""
-        data, key = bytes(30_000_000), tags.Key(b"key", "sha256")
+        data, text, key = bytes(30_000_000), "x" * 30_000_000, tags.Key(b"key", "sha256")
         turns, is_over = [], threading.Event()
 
         def count():
@@ -133,13 +134,29 @@ class Threads(unittest.TestCase):
             for call in (
                 lambda: yezdopin.sha1(data),
                 lambda: tags.new(b"key", data, "sha1"),
+                lambda: tags.new(data, digestmod="sha1"),
+                lambda: tags.Key(data, "sha1"),
                 lambda: key.sign(data),
+                lambda: key.verify(data, b"tag"),
                 lambda: tags.digest(b"key", data, "sha256"),
+                lambda: tags.digest(data, b"", "sha256"),
+                lambda: tags.verify(b"key", data, b"tag", "sha256"),
+                lambda: tags.verify(data, b"", b"tag", "sha256"),
+                lambda: tags.compare_digest(data, data),
+                lambda: tags.compare_digest(text, text),
                 lambda: yezdopin.digest_each("sha256", [data[:5_000_000]] * 4),
+                lambda: yezdopin.hkdf("sha256", data, b"", b"", 32),
+                lambda: yezdopin.hkdf("sha256", b"", data, b"", 32),
+                lambda: yezdopin.hkdf("sha256", b"", b"", data, 32),
                 lambda: yezdopin.hkdf_extract("sha256", data),
+                lambda: yezdopin.hkdf_extract("sha256", b"", data),
+                lambda: yezdopin.hkdf_expand("sha256", data, b"", 32),
+                lambda: yezdopin.hkdf_expand("sha256", bytes(32), data, 32),
+                lambda: yezdopin.hkdf_expand_label("sha256", data, b"label", b"", 32),
                 lambda: yezdopin.pbkdf2_hmac("sha256", b"", b"", 200_000),
             ):
-                self.assertTrue(any(turns_during(call) for _ in range(20)))
+                with self.subTest(inspect.getsource(call).strip()):
+                    self.assertTrue(any(turns_during(call) for _ in range(20)))
             self.assertEqual(turns_during(lambda: yezdopin.sha1(data[:2047])), 0)
         finally:
             sys.setswitchinterval(usual)

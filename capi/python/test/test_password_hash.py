@@ -10,7 +10,7 @@ import yezdopin
 from yezdopin import password_hash
 
 VECTORS = pathlib.Path(__file__).resolve().parents[3] / "vectors" / "password_hashes"
-STATUS = {"not a password hash of this format": 6, "too many iterations": 7}
+STATUS = {"not a password hash of this format": 5, "too many iterations": 6}
 KEPT = "pbkdf2_sha1$1000$kXq0Wz3vT9bYh2LrE8mNpA$2U/l/68EaoUIrkh0GedCmjQYvmg="
 PASSWORD = b"correct horse battery staple"
 
@@ -149,17 +149,17 @@ class New(unittest.TestCase):
 
     def test_refusals(self):
         for kind in password_hash.KINDS:
-            self.is_refused(4, kind, b"salt", 0)
-            self.is_refused(8, kind, b"")
-            self.is_refused(3, kind, b"a" * 1024)
+            self.is_refused(3, kind, b"salt", 0)
+            self.is_refused(7, kind, b"")
+            self.is_refused(4, kind, b"a" * 1024)
             if kind.startswith(("django", "werkzeug")):
-                self.is_refused(8, kind, b"sa$lt")
+                self.is_refused(7, kind, b"sa$lt")
                 with self.assertRaises(UnicodeDecodeError):
                     password_hash.new(kind, PASSWORD, iterations=1, salt=b"\xff")
         # `pbkdf2_sha256$1$`, the salt, `$` and 44 bytes
         longest = password_hash.new("django_pbkdf2_sha256", b"", iterations=1, salt=b"a" * 963)
         self.assertEqual(len(longest), 1024)
-        self.is_refused(3, "django_pbkdf2_sha256", b"a" * 964)
+        self.is_refused(4, "django_pbkdf2_sha256", b"a" * 964)
 
     def test_wrong_calls(self):
         for call in (
@@ -173,8 +173,9 @@ class New(unittest.TestCase):
         for kind in ("", "sha256", "mosquitto\0", "Mosquitto"):
             with self.assertRaises(ValueError):
                 password_hash.new(kind, PASSWORD, iterations=1)
-        with self.assertRaises(OverflowError):
-            password_hash.new("mosquitto", PASSWORD, iterations=2**32)
+        for iterations in (2**32, 10**10, 2**80):
+            with self.assertRaisesRegex(OverflowError, "iterations must be from 1 to 4294967295"):
+                password_hash.new("mosquitto", PASSWORD, iterations=iterations)
 
 
 class Arguments(unittest.TestCase):
@@ -189,13 +190,24 @@ class Arguments(unittest.TestCase):
             self.assertIs(password_hash.verify(text, b"", max_iterations=1000), False)
 
     def test_refusals(self):
-        self.is_refused(6, "")
-        self.is_refused(6, KEPT[:-1])
-        self.is_refused(6, KEPT + "é")
-        self.is_refused(6, "a" * 1024)
-        self.is_refused(3, "a" * 1025)
-        self.is_refused(7, KEPT, 999)
-        self.is_refused(4, KEPT, 0)
+        self.is_refused(5, "")
+        self.is_refused(5, KEPT[:-1])
+        self.is_refused(5, KEPT + "é")
+        self.is_refused(5, "a" * 1024)
+        self.is_refused(4, "a" * 1025)
+        self.is_refused(6, KEPT, 999)
+
+    def test_limits(self):
+        """A limit is at least 1, and one that no text can reach refuses none."""
+        for most in (0, -1, -(2**80)):
+            self.is_refused(3, KEPT, most)
+            with self.assertRaisesRegex(ValueError, "max_iterations must be at least 1"):
+                password_hash.verify(KEPT, PASSWORD, max_iterations=most)
+        longest = KEPT.replace("$1000$", "$4294967295$")
+        self.is_refused(6, longest, 2**32 - 2)
+        for most in (2**32 - 1, 2**32, 10**10, 2**63, 2**80):
+            self.assertIs(password_hash.verify(KEPT, PASSWORD, max_iterations=most), True)
+            self.is_refused(5, longest.replace("95$", "96$"), most)
 
     def test_wrong_calls(self):
         for call in (
@@ -203,10 +215,9 @@ class Arguments(unittest.TestCase):
             lambda: password_hash.verify(KEPT, PASSWORD, 1000),
             lambda: password_hash.verify(KEPT, PASSWORD.decode(), max_iterations=1000),
             lambda: password_hash.verify(None, PASSWORD, max_iterations=1000),
+            lambda: password_hash.verify(KEPT, PASSWORD, max_iterations=1e10),
         ):
             self.assertRaises(TypeError, call)
-        with self.assertRaises(OverflowError):
-            password_hash.verify(KEPT, PASSWORD, max_iterations=2**32)
 
 
 if __name__ == "__main__":

@@ -10,6 +10,8 @@ import pathlib
 import pickle
 import re
 import ssl
+import subprocess
+import sys
 import tempfile
 import types
 import unittest
@@ -27,8 +29,23 @@ class Names(unittest.TestCase):
     def test_sets(self):
         self.assertEqual(yezdopin.algorithms_guaranteed, set(NAMES))
         self.assertLessEqual(yezdopin.algorithms_guaranteed, yezdopin.algorithms_available)
+        self.assertIsNot(yezdopin.algorithms_guaranteed, yezdopin.algorithms_available)
+        for name in ("algorithms_guaranteed", "algorithms_available"):
+            self.assertIs(type(getattr(yezdopin, name)), type(getattr(hashlib, name)))
         said = re.search('^version = "(.*)"$', PYPROJECT.read_text(), re.M).group(1)
         self.assertEqual(yezdopin.__version__, said)
+
+    def test_modules(self):
+        """Their modules come with the package, and hmac's has the names of `hmac`."""
+        code = "import yezdopin; print(yezdopin.hmac.__name__, yezdopin.password_hash.__name__)"
+        command = [sys.executable, "-c", code]
+        done = subprocess.run(command, capture_output=True, text=True, check=True)
+        self.assertEqual(done.stdout.split(), ["yezdopin.hmac", "yezdopin.password_hash"])
+        theirs = [it for it in vars(hmac) if not it.startswith("_")]
+        self.assertIn("trans_5C", theirs)
+        self.assertEqual([it for it in theirs if it not in tags.__all__], [])
+        for name in ("trans_5C", "trans_36", "digest_size"):
+            self.assertEqual(getattr(tags, name), getattr(hmac, name))
 
     def test_sizes(self):
         for name in NAMES:
@@ -143,36 +160,52 @@ class Arguments(unittest.TestCase):
         self.is_refused(1, yezdopin.hkdf, "sha512_256", b"", b"", b"", 4)
         self.is_refused(1, yezdopin.hkdf_expand_label, "sha512_256", b"", b"x", b"", 4)
         self.is_refused(1, yezdopin.pbkdf2_hmac, "sha512_256", b"", b"", 1)
-        self.is_refused(4, yezdopin.pbkdf2_hmac, "sha256", b"", b"", 0, 4)
-        self.is_refused(4, yezdopin.pbkdf2_hmac_verify, "sha256", b"", b"", 0, b"1234")
+        self.is_refused(3, yezdopin.pbkdf2_hmac, "sha256", b"", b"", 0, 4)
+        self.is_refused(3, yezdopin.pbkdf2_hmac_verify, "sha256", b"", b"", 0, b"1234")
         for name in SIGNING:
             most = 255 * yezdopin.new(name).digest_size
             self.assertEqual(len(yezdopin.hkdf(name, b"", b"", b"", most)), most)
-            self.is_refused(3, yezdopin.hkdf, name, b"", b"", b"", most + 1)
-            self.is_refused(3, yezdopin.hkdf_expand, name, b"", b"", 2**62)
+            self.is_refused(4, yezdopin.hkdf, name, b"", b"", b"", most + 1)
+            self.is_refused(4, yezdopin.hkdf_expand, name, b"", b"", 2**62)
             label = yezdopin.hkdf_expand_label
             self.assertEqual(len(label(name, b"", b"x" * 249, b"x" * 255, most)), most)
-            self.is_refused(3, label, name, b"", b"x", b"", most + 1)
-            self.is_refused(5, label, name, b"", b"", b"", 4)
-            self.is_refused(5, label, name, b"", b"x" * 250, b"", 4)
-            self.is_refused(5, label, name, b"", b"x", b"x" * 256, 4)
+            self.is_refused(4, label, name, b"", b"x", b"", most + 1)
+            self.is_refused(8, label, name, b"", b"", b"", 4)
+            self.is_refused(8, label, name, b"", b"x" * 250, b"", 4)
+            self.is_refused(8, label, name, b"", b"x", b"x" * 256, 4)
+            self.is_refused(4, label, name, b"", b"", b"", most + 1)
         with self.assertRaisesRegex(ValueError, "unsupported hash type md5"):
             yezdopin.new("md5")
 
+    def test_reasons(self):
+        """The error says which input of a label is out of its limits, and which limits it has."""
+        for label, context, reason in (
+            (0, 0, "a label has 1 to 249 bytes, and this one has 0"),
+            (250, 256, "a label has 1 to 249 bytes, and this one has 250"),
+            (1, 256, "a context has at most 255 bytes, and this one has 256"),
+        ):
+            with self.assertRaises(yezdopin.Error) as caught:
+                yezdopin.hkdf_expand_label("sha256", b"", b"x" * label, b"x" * context, 4)
+            self.assertEqual(str(caught.exception), reason)
+
     def test_numbers(self):
-        """As hashlib: what is below 1 is a ValueError, and what is too great an OverflowError."""
-        for iterations in (0, -1, -(2**80)):
-            with self.assertRaises(ValueError):
-                yezdopin.pbkdf2_hmac("sha256", b"", b"", iterations, 4)
+        """What hashlib's PBKDF2 refuses is refused, by the same class of exceptions."""
+        given = ("sha256", b"", b"")
+        for iterations in (0, -1, -(2**80), 2**31, 2**32 - 1, 2**32, 2**63, 2**80, 1.5, "1"):
+            with self.assertRaises(Exception) as theirs:
+                hashlib.pbkdf2_hmac(*given, iterations, 4)
+            for call in (yezdopin.pbkdf2_hmac, yezdopin.pbkdf2_hmac_verify):
+                with self.assertRaises(type(theirs.exception)) as ours:
+                    call(*given, iterations, 4 if call is yezdopin.pbkdf2_hmac else b"1234")
+                if isinstance(iterations, int):
+                    said = "iterations must be from 1 to 2147483647"
+                    self.assertEqual(str(ours.exception), said)
         for length in (0, -1):
             with self.assertRaises(ValueError):
-                yezdopin.pbkdf2_hmac("sha256", b"", b"", 1, length)
-        for iterations in (2**32, 2**80):
-            with self.assertRaises(OverflowError):
-                yezdopin.pbkdf2_hmac("sha256", b"", b"", iterations, 4)
+                yezdopin.pbkdf2_hmac(*given, 1, length)
         for length in (2**32 * 32, 2**80):
             with self.assertRaises(OverflowError):
-                yezdopin.pbkdf2_hmac("sha256", b"", b"", 1, length)
+                yezdopin.pbkdf2_hmac(*given, 1, length)
         with self.assertRaises(ValueError):
             yezdopin.hkdf("sha256", b"", b"", b"", -1)
         self.assertEqual(yezdopin.hkdf("sha256", b"", b"", b"", 0), b"")

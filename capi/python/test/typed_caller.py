@@ -5,7 +5,7 @@ import hashlib
 import io
 
 import yezdopin
-from yezdopin import hmac, password_hash
+from yezdopin import hmac
 
 
 def digests_of(path: str) -> list[str]:
@@ -27,6 +27,14 @@ def signs(message: bytes) -> bool:
 
 def keeps(password: bytes) -> bool:
     """A new hash of a password, tested."""
-    kept: str = password_hash.new("phc_sha256", bytearray(password), iterations=1000)
-    again: str = password_hash.new(password_hash.KINDS[0], password, iterations=1, salt=b"salt")
-    return password_hash.verify(kept, password, max_iterations=1000) and kept != again
+    hashes = yezdopin.password_hash
+    kept: str = hashes.new("phc_sha256", bytearray(password), iterations=1000)
+    again: str = hashes.new(hashes.KINDS[0], password, iterations=1, salt=b"salt")
+    return hashes.verify(kept, password, max_iterations=1000) and kept != again
+
+
+def names() -> set[str]:
+    """The names of `hashlib` and `hmac` that are no calls."""
+    pads: bytes = yezdopin.hmac.trans_36 + yezdopin.hmac.trans_5C
+    size: None = yezdopin.hmac.digest_size
+    return yezdopin.algorithms_available | {str(size), pads.hex()}

@@ -1,5 +1,11 @@
 // SPDX-License-Identifier: ISC
-//! The calls as `yezdopin.h` declares them.
+//! The calls as `yezdopin.h` declares them, and those statuses that are told apart.
+
+pub const YZ_OK: i32 = 0;
+pub const YZ_WRONG_LENGTH: i32 = 4;
+pub const YZ_BAD_FORMAT: i32 = 5;
+pub const YZ_TOO_MANY_ITERATIONS: i32 = 6;
+pub const YZ_BAD_SALT: i32 = 7;
 
 #[repr(C)]
 #[derive(Clone, Copy)]

@@ -57,18 +57,22 @@ pub fn is_supported() -> bool {
 
 #[cfg(target_arch = "x86_64")]
 fn is_x86_64_v2() -> bool {
-    // SSE3, SSSE3, SSE4.1, SSE4.2 and POPCNT.
-    const WANTED: u32 = 1 | 1 << 9 | 1 << 19 | 1 << 20 | 1 << 23;
-    // SAFETY: every x86-64 processor has `cpuid` and its leaf 1.
+    // SSE3, SSSE3, CMPXCHG16B, SSE4.1, SSE4.2 and POPCNT, then LAHF, as `yz_supported` asks in C.
+    const WANTED: u32 = 1 | 1 << 9 | 1 << 13 | 1 << 19 | 1 << 20 | 1 << 23;
+    const LAHF: u32 = 1;
+    // SAFETY: every x86-64 processor has `cpuid` and both leaves.
     #[allow(unused_unsafe)] // later compilers call it safe
-    let found = unsafe { core::arch::x86_64::__cpuid(1) };
-    found.ecx & WANTED == WANTED
+    let (found, further) = unsafe {
+        use core::arch::x86_64::__cpuid;
+        (__cpuid(1).ecx, __cpuid(0x8000_0001).ecx)
+    };
+    found & WANTED == WANTED && further & LAHF == LAHF
 }
 
 // What a status says.
 fn done(status: i32) -> Result<(), error::Unspecified> {
     match status {
-        0 => Ok(()),
+        calls::YZ_OK => Ok(()),
         _ => Err(error::Unspecified),
     }
 }

@@ -19,13 +19,14 @@
 //! let iterations = NonZeroU32::new(1000).unwrap();
 //! let salt = b"kXq0Wz3vT9bYh2LrE8mNpA"; // of a generator of random numbers
 //! let kept = new(Kind::DjangoSha1, b"correct horse battery staple", salt, iterations, &mut text)?;
-//! assert_eq!(kept, b"pbkdf2_sha1$1000$kXq0Wz3vT9bYh2LrE8mNpA$2U/l/68EaoUIrkh0GedCmjQYvmg=");
+//! assert_eq!(kept, "pbkdf2_sha1$1000$kXq0Wz3vT9bYh2LrE8mNpA$2U/l/68EaoUIrkh0GedCmjQYvmg=");
 //! # Ok::<(), yezdopin::password_hash::NewError>(())
 //! ```
 
 use crate::calls;
 use core::fmt;
 use core::num::NonZeroU32;
+use core::str;
 
 /// The most bytes of a text.
 pub const MAX_TEXT_LEN: usize = 1024;
@@ -74,10 +75,10 @@ pub fn verify(text: &str, password: &[u8], max_iterations: u32) -> Result<(), Ha
         )
     };
     match status {
-        0 => Ok(()),
-        3 => Err(HashError::TextTooLong),
-        6 => Err(HashError::BadFormat),
-        7 => Err(HashError::TooManyIterations),
+        calls::YZ_OK => Ok(()),
+        calls::YZ_WRONG_LENGTH => Err(HashError::TextTooLong),
+        calls::YZ_BAD_FORMAT => Err(HashError::BadFormat),
+        calls::YZ_TOO_MANY_ITERATIONS => Err(HashError::TooManyIterations),
         _ => Err(HashError::WrongPassword),
     }
 }
@@ -108,13 +109,24 @@ pub enum Kind {
     PasslibSha512 = 10,
 }
 
+impl Kind {
+    /// Whether its text has the salt as it is.
+    fn writes_salt(self) -> bool {
+        use Kind::*;
+        matches!(
+            self,
+            DjangoSha256 | DjangoSha1 | WerkzeugSha256 | WerkzeugSha512
+        )
+    }
+}
+
 /// Why [`new`] refuses.
 #[derive(Clone, Copy, Debug, PartialEq, Eq)]
 #[non_exhaustive]
 pub enum NewError {
     /// The text is longer than the buffer, or than [`MAX_TEXT_LEN`] bytes.
     NoRoom,
-    /// The salt is empty, or has a dollar sign where the kind writes it as it is.
+    /// The salt is empty, or where the kind writes it as it is, has a dollar sign or is no UTF-8.
     BadSalt,
     /// The password or the salt is longer than PBKDF2 admits.
     TooLong,
@@ -137,14 +149,17 @@ impl std::error::Error for NewError {}
 /// `out` is unchanged, and after a refusal all of it is.
 ///
 /// `salt` should be random, and of this hash alone: Django and Werkzeug take 22 letters and digits,
-/// and the others 16 bytes. The text has the bytes of a salt that the kind writes as it is.
+/// and the others 16 bytes.
 pub fn new<'a>(
     kind: Kind,
     password: &[u8],
     salt: &[u8],
     iterations: NonZeroU32,
     out: &'a mut [u8],
-) -> Result<&'a [u8], NewError> {
+) -> Result<&'a str, NewError> {
+    if kind.writes_salt() && str::from_utf8(salt).is_err() {
+        return Err(NewError::BadSalt);
+    }
     let mut len = 0;
     // SAFETY: all are lent for the call.
     let status = unsafe {
@@ -161,9 +176,9 @@ pub fn new<'a>(
         )
     };
     match status {
-        0 => Ok(&out[..len]),
-        3 => Err(NewError::NoRoom),
-        8 => Err(NewError::BadSalt),
+        calls::YZ_OK => str::from_utf8(&out[..len]).map_err(|_| NewError::BadSalt),
+        calls::YZ_WRONG_LENGTH => Err(NewError::NoRoom),
+        calls::YZ_BAD_SALT => Err(NewError::BadSalt),
         _ => Err(NewError::TooLong),
     }
 }

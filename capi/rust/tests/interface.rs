@@ -154,12 +154,10 @@ fn new_password_hashes() {
     let iterations = NonZeroU32::new(1000).unwrap();
     for kind in KINDS {
         let mut text = [7; MAX_TEXT_LEN];
-        let len = new(kind, password, b"a salt", iterations, &mut text)
-            .unwrap()
-            .len();
-        assert!(text[len..].iter().all(|&byte| byte == 7));
-        let kept = std::str::from_utf8(&text[..len]).unwrap();
+        let kept: &str = new(kind, password, b"a salt", iterations, &mut text).unwrap();
         assert_eq!(verify(kept, password, 1000), Ok(()));
+        let len = kept.len();
+        assert!(text[len..].iter().all(|&byte| byte == 7));
         let mut room = vec![7; len - 1];
         assert_eq!(
             new(kind, password, b"a salt", iterations, &mut room),
@@ -176,8 +174,19 @@ fn new_password_hashes() {
     let salt = b"kXq0Wz3vT9bYh2LrE8mNpA";
     assert_eq!(
         new(Kind::DjangoSha1, password, salt, iterations, &mut text),
-        Ok(KEPT.as_bytes())
+        Ok(KEPT)
     );
+    // Not UTF-8: a text has it in base64, or not at all.
+    let mut text = [7; MAX_TEXT_LEN];
+    assert!(new(Kind::Mosquitto, password, b"\xff", iterations, &mut text).is_ok());
+    for kind in &KINDS[..4] {
+        let mut text = [7; MAX_TEXT_LEN];
+        assert_eq!(
+            new(*kind, password, b"\xff", iterations, &mut text),
+            Err(NewError::BadSalt)
+        );
+        assert_eq!(text, [7; MAX_TEXT_LEN]);
+    }
     assert_eq!(
         new(Kind::DjangoSha1, password, b"a$b", iterations, &mut text),
         Err(NewError::BadSalt)

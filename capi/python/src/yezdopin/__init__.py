@@ -14,8 +14,9 @@
     ('ba7816bf', True)
 
 `yezdopin.hmac` has tags in the shape of `hmac`, and `yezdopin.password_hash` writes and tests the
-password hashes of other systems. Buffers are anything with bytes in one piece: `bytes`,
-`bytearray`, `memoryview`, arrays. What the library refuses raises `Error`, a `ValueError`.
+password hashes of other systems; `import yezdopin` gives both. Buffers are anything with bytes in
+one piece: `bytes`, `bytearray`, `memoryview`, arrays. What the library refuses raises `Error`, a
+`ValueError`.
 """
 
 from __future__ import annotations
@@ -41,6 +42,10 @@ from yezdopin._native import (
     sha512_256,
 )
 
+# After the extension, so that where that can't be imported the error says so.
+from yezdopin import hmac as hmac
+from yezdopin import password_hash as password_hash
+
 __all__ = [
     "Digest",
     "Error",
@@ -64,5 +69,5 @@ __all__ = [
     "sha512_256",
 ]
 
-algorithms_guaranteed = frozenset({"sha1", "sha256", "sha384", "sha512", "sha512_256"})
-algorithms_available = algorithms_guaranteed
+algorithms_guaranteed = {"sha1", "sha256", "sha384", "sha512", "sha512_256"}
+algorithms_available = set(algorithms_guaranteed)

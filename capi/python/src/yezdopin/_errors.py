@@ -6,14 +6,14 @@ from __future__ import annotations
 __all__ = ["Error"]
 
 _REASONS = {
-    1: "unsupported hash type",
-    2: "no context or key",
-    3: "wrong length of the output, or of a text",
-    4: "there must be at least one iteration",
-    5: "an input is too long",
-    6: "no password hash has this text",
-    7: "the text names too many iterations",
-    8: "a password hash of this kind cannot have this salt",
+    1: "unsupported hash type",  # YZ_UNKNOWN_ALGORITHM
+    2: "no context or key",  # YZ_UNKNOWN_CONTEXT
+    3: "there must be at least one iteration",  # YZ_NO_ITERATIONS
+    4: "wrong length of the output, or of a text",  # YZ_WRONG_LENGTH
+    5: "no password hash has this text",  # YZ_BAD_FORMAT
+    6: "the text names too many iterations",  # YZ_TOO_MANY_ITERATIONS
+    7: "a password hash of this kind cannot have this salt",  # YZ_BAD_SALT
+    8: "an input is too long",  # YZ_UNSPECIFIED
 }
 
 

@@ -25,7 +25,23 @@ from yezdopin._native import compare_digest
 if TYPE_CHECKING:
     from _typeshed import ReadableBuffer as _Buffer
 
-__all__ = ["HMAC", "Key", "compare_digest", "digest", "new", "verify"]
+__all__ = [
+    "HMAC",
+    "Key",
+    "compare_digest",
+    "digest",
+    "digest_size",
+    "new",
+    "trans_36",
+    "trans_5C",
+    "verify",
+]
+
+# As in `hmac`: each byte exclusive or that of the inner and of the outer pad, and no size, which is
+# the hash's.
+trans_36 = bytes(byte ^ 0x36 for byte in range(256))
+trans_5C = bytes(byte ^ 0x5C for byte in range(256))
+digest_size = None
 
 # The constructors that stand for the library's hashes, each with what the extension takes for it.
 _KNOWN: list[tuple[Any, Any]] = [
@@ -33,8 +49,6 @@ _KNOWN: list[tuple[Any, Any]] = [
     (_native.sha512_256, _native.sha512_256),
     *((getattr(hashlib, name), name) for name in ("sha1", "sha256", "sha384", "sha512")),
 ]
-_INNER = bytes(byte ^ 0x36 for byte in range(256))
-_OUTER = bytes(byte ^ 0x5C for byte in range(256))
 _LEAST_BLOCK = 16
 
 
@@ -113,8 +127,8 @@ class HMAC:
         if len(block) > self.block_size:
             block = begin(block).digest()
         block = block.ljust(self.block_size, b"\0")
-        self._inner.update(block.translate(_INNER))
-        self._outer.update(block.translate(_OUTER))
+        self._inner.update(block.translate(trans_36))
+        self._outer.update(block.translate(trans_5C))
         if msg is not None:
             self._inner.update(msg)
 

@@ -62,9 +62,11 @@ def new(kind: str, password: _Buffer, *, iterations: int, salt: _Buffer | None =
     A salt is made of `os.urandom` where none is given; a given one should be random, and of this
     hash alone. How many iterations a system takes changes each year, so there is no default.
     `ValueError` is raised for another kind and for a text that is not UTF-8, as its salt may make
-    it, and `Error` for no iterations (status 4), for an empty
-    salt and for one with a dollar sign where the kind writes it as it is, as those of Django and
-    Werkzeug do (status 8), and where the text would have more than 1024 bytes (status 3).
+    it, and `Error` for no iterations (status 3, `YZ_NO_ITERATIONS`), where the text would have more
+    than 1024 bytes (status 4, `YZ_WRONG_LENGTH`), and for an empty salt and for one with a dollar
+    sign where the kind writes it as it is, as those of Django and Werkzeug do (status 7,
+    `YZ_BAD_SALT`). `OverflowError` is raised for more than 2**32 - 1 iterations, which no text
+    names.
     """
     if salt is None:
         salt = _new_salt(kind)
@@ -74,10 +76,12 @@ def new(kind: str, password: _Buffer, *, iterations: int, salt: _Buffer | None =
 def verify(text: str | _Buffer, password: _Buffer, *, max_iterations: int) -> bool:
     """Whether the hash of this text is the password's.
 
-    `Error` is raised where no hash has this text (status 6), where the text names more than
-    `max_iterations`, before the password is read (status 7), and where the text has more than
-    1024 bytes (status 3). Whoever wrote the text chose its iterations, and so the time of a test:
-    the limit is the caller's.
+    `Error` is raised for a limit below 1 (status 3, `YZ_NO_ITERATIONS`), where the text has more
+    than 1024 bytes (status 4, `YZ_WRONG_LENGTH`), where no hash has it (status 5,
+    `YZ_BAD_FORMAT`), and where it names more than `max_iterations`, before the password is read
+    (status 6, `YZ_TOO_MANY_ITERATIONS`). Whoever wrote the text chose its iterations, and so the
+    time of a test: the limit is the caller's. A text names at most 2**32 - 1 iterations, so that
+    this limit and any above it, such as 10**10, refuse none.
     """
     if isinstance(text, str):
         text = text.encode("utf-8", "surrogatepass")

@@ -150,7 +150,7 @@ const OSSL_ALGORITHM digest_algorithms[] = {
 };
 
 /* Whether a name is one of a list that is separated by colons. */
-static int is_among(const char *name, const char *names)
+int is_among(const char *name, const char *names)
 {
     for (;;) {
         size_t len = strcspn(names, ":");

@@ -17,7 +17,7 @@
  * - PBKDF2 of 2^32 iterations or more, which the library's 32 bits don't count.
  *
  * Another provider is any that isn't this one (`provider!=yezdopin`). If none serves, the call is
- * refused. */
+ * refused, and so it is where the configuration of this module says `hand_on = no`. */
 #include "provider.h"
 
 #define NOT_OURS "provider!=yezdopin"
@@ -56,26 +56,42 @@ static int find_digest(const provider *reporter, chosen_digest *digest)
     return 1;
 }
 
-/* Chooses the digest that parameters name, if they name one. */
-int choose_digest(const provider *reporter, chosen_digest *digest, const OSSL_PARAM params[])
+/* Finds out which digest the name and the properties say. */
+static int resolve(const provider *reporter, chosen_digest *digest)
 {
-    uint32_t algorithm;
-    if (OSSL_PARAM_locate_const(params, OSSL_ALG_PARAM_DIGEST) == NULL) return 1;
-    forget(&digest->properties);
-    if (!keep_word(reporter, &digest->name, params, OSSL_ALG_PARAM_DIGEST)
-        || !keep_word(reporter, &digest->properties, params, OSSL_ALG_PARAM_PROPERTIES)) {
-        forget(&digest->name);
-        return 0;
-    }
-    algorithm = algorithm_of_name((const char *)digest->name.bytes);
-    if (digest->properties.len == 0 && algorithm != 0) {
+    uint32_t algorithm = algorithm_of_name((const char *)digest->name.bytes);
+    if (algorithm == 0 || digest->properties.len != 0) {
+        if (!find_digest(reporter, digest)) return 0;
+    } else {
         digest->algorithm = algorithm == YZ_SHA512_256 ? 0 : algorithm;
         digest->output_len = yz_output_len(algorithm);
         digest->block_len = yz_block_len(algorithm);
+    }
+    return digest->algorithm != 0 || reporter->hands_on
+           || refuse(reporter, PROV_R_INVALID_DIGEST);
+}
+
+/* Whether properties, which mean nothing without a digest, are a word where they are given. */
+int has_right_properties(const provider *reporter, const OSSL_PARAM params[])
+{
+    const OSSL_PARAM *it = OSSL_PARAM_locate_const(params, OSSL_ALG_PARAM_PROPERTIES);
+    return it == NULL || it->data_type == OSSL_PARAM_UTF8_STRING
+           || refuse(reporter, PROV_R_FAILED_TO_GET_PARAMETER);
+}
+
+/* Reads the digest that parameters name into copies, if they name one, as `read_word` does. */
+int read_digest(const provider *reporter, chosen_digest *digest, const OSSL_PARAM params[])
+{
+    chosen_digest read = {0};
+    if (!has_right_properties(reporter, params)) return 0;
+    if (OSSL_PARAM_locate_const(params, OSSL_ALG_PARAM_DIGEST) == NULL) return 1;
+    if (read_word(reporter, &read.name, params, OSSL_ALG_PARAM_DIGEST)
+        && read_word(reporter, &read.properties, params, OSSL_ALG_PARAM_PROPERTIES)
+        && resolve(reporter, &read)) {
+        *digest = read;
         return 1;
     }
-    if (find_digest(reporter, digest)) return 1;
-    forget(&digest->name);
+    forget_digest(&read);
     return 0;
 }
 
@@ -94,6 +110,13 @@ void forget_digest(chosen_digest *digest)
     forget(&digest->name);
     forget(&digest->properties);
     *digest = (chosen_digest){0};
+}
+
+/* As `drop_one`. */
+void drop_one_digest(chosen_digest *now, chosen_digest *next, int is_taken)
+{
+    drop_one(&now->name, &next->name, is_taken);
+    drop_one(&now->properties, &next->properties, is_taken);
 }
 
 /* Puts what was kept into a list of parameters; where the list goes on. */
@@ -122,8 +145,14 @@ EVP_MAC_CTX *begin_other_tag(const provider *reporter, const chosen_digest *dige
                              const kept *key, size_t record_len)
 {
     OSSL_PARAM params[MOST_DIGEST_PARAMS + 2], *next = put_digest(digest, params);
-    EVP_MAC *hmac = EVP_MAC_fetch(reporter->library_context, "HMAC", NOT_OURS);
-    EVP_MAC_CTX *made = hmac == NULL ? NULL : EVP_MAC_CTX_new(hmac);
+    EVP_MAC *hmac;
+    EVP_MAC_CTX *made;
+    if (!reporter->hands_on) {
+        (void)refuse(reporter, PROV_R_NOT_SUPPORTED);
+        return NULL;
+    }
+    hmac = EVP_MAC_fetch(reporter->library_context, "HMAC", NOT_OURS);
+    made = hmac == NULL ? NULL : EVP_MAC_CTX_new(hmac);
     EVP_MAC_free(hmac);
     if (made == NULL) {
         (void)refuse(reporter, PROV_R_INVALID_DIGEST);
@@ -136,15 +165,41 @@ EVP_MAC_CTX *begin_other_tag(const provider *reporter, const chosen_digest *dige
     return NULL;
 }
 
+/* A context of another provider's KDF; NULL if none serves. */
+static EVP_KDF_CTX *new_other_kdf(const provider *reporter, const char *kdf)
+{
+    EVP_KDF *other;
+    EVP_KDF_CTX *made;
+    if (!reporter->hands_on) {
+        (void)refuse(reporter, PROV_R_NOT_SUPPORTED);
+        return NULL;
+    }
+    other = EVP_KDF_fetch(reporter->library_context, kdf, NOT_OURS);
+    made = EVP_KDF_CTX_new(other);
+    EVP_KDF_free(other);
+    if (made == NULL) (void)refuse(reporter, PROV_R_INVALID_DIGEST);
+    return made;
+}
+
+/* Whether another provider's KDF takes a digest that the library lacks. OpenSSL 3.5's refuses
+ * SHAKE when it is set, and 3.0's when it derives. */
+int other_takes_digest(const provider *reporter, const char *kdf, const chosen_digest *digest)
+{
+    OSSL_PARAM params[MOST_DIGEST_PARAMS + 1];
+    EVP_KDF_CTX *context = new_other_kdf(reporter, kdf);
+    int is_taken;
+    *put_digest(digest, params) = OSSL_PARAM_construct_end();
+    is_taken = context != NULL && EVP_KDF_CTX_set_params(context, params);
+    EVP_KDF_CTX_free(context);
+    return is_taken;
+}
+
 /* Derives a key by another provider's KDF. It takes the parameters that it knows. */
 int derive_by_other(const provider *reporter, const char *kdf, const OSSL_PARAM params[],
                     unsigned char *out, size_t out_len)
 {
-    EVP_KDF *other = EVP_KDF_fetch(reporter->library_context, kdf, NOT_OURS);
-    EVP_KDF_CTX *context = EVP_KDF_CTX_new(other);
-    int is_done = context == NULL ? refuse(reporter, PROV_R_INVALID_DIGEST)
-                                  : EVP_KDF_derive(context, out, out_len, params);
+    EVP_KDF_CTX *context = new_other_kdf(reporter, kdf);
+    int is_done = context != NULL && EVP_KDF_derive(context, out, out_len, params);
     EVP_KDF_CTX_free(context);
-    EVP_KDF_free(other);
     return is_done;
 }

@@ -53,43 +53,67 @@ int copy_kept(kept *to, const kept *from)
     return from->bytes == NULL || append(to, from->bytes, from->len);
 }
 
-/* Keeps what one parameter has. */
-static int keep_one(const provider *reporter, kept *what, const OSSL_PARAM *it, unsigned int type)
+/* Wipes and frees the one of two copies that isn't kept, where they are two: `next` is `now` but
+ * for what a call reads, which is taken over or dropped. */
+void drop_one(kept *now, kept *next, int is_taken)
 {
-    if (it->data_type == type && (it->data != NULL || it->data_size == 0)
-        && append(what, it->data, it->data_size)) {
-        return 1;
-    }
-    return refuse(reporter, PROV_R_FAILED_TO_GET_PARAMETER);
+    if (now->bytes != next->bytes) forget(is_taken ? now : next);
 }
 
-/* Keeps what the first parameter of the name has. Where there is none, what was kept stays. */
-static int keep(const provider *reporter, kept *what, const OSSL_PARAM params[], const char *name,
-                unsigned int type)
+/* The length of a word: up to its 0, and at most the parameter's size, within which no 0 need be.
+ * Where the size is 0 the word ends at its 0, as each does for OpenSSL's own code: callers write
+ * OSSL_PARAM_utf8_string(name, word, 0). */
+size_t word_len(const OSSL_PARAM *it)
+{
+    return it->data_size == 0 ? strlen(it->data) : strnlen(it->data, it->data_size);
+}
+
+/* Appends what one parameter has. */
+static int append_one(const provider *reporter, kept *what, const OSSL_PARAM *it, unsigned int type)
+{
+    size_t len = it->data_size;
+    if (it->data_type != type || (it->data == NULL && len != 0)) {
+        return refuse(reporter, PROV_R_FAILED_TO_GET_PARAMETER);
+    }
+    if (type == OSSL_PARAM_UTF8_STRING && it->data != NULL) len = word_len(it);
+    return append(what, it->data, len) || refuse(reporter, PROV_R_FAILED_TO_GET_PARAMETER);
+}
+
+/* Reads the first parameter of the name into a copy. Where there is none, `what` stays. What it had
+ * is not freed: it is the context's until the whole call is done. */
+static int read_first(const provider *reporter, kept *what, const OSSL_PARAM params[],
+                      const char *name, unsigned int type)
 {
     const OSSL_PARAM *it = OSSL_PARAM_locate_const(params, name);
+    kept copy = {NULL, 0};
     if (it == NULL) return 1;
-    forget(what);
-    return keep_one(reporter, what, it, type);
+    if (!append_one(reporter, &copy, it, type)) return 0;
+    *what = copy;
+    return 1;
 }
 
-int keep_word(const provider *reporter, kept *what, const OSSL_PARAM params[], const char *name)
+int read_word(const provider *reporter, kept *what, const OSSL_PARAM params[], const char *name)
 {
-    return keep(reporter, what, params, name, OSSL_PARAM_UTF8_STRING);
+    return read_first(reporter, what, params, name, OSSL_PARAM_UTF8_STRING);
 }
 
-int keep_bytes(const provider *reporter, kept *what, const OSSL_PARAM params[], const char *name)
+int read_bytes(const provider *reporter, kept *what, const OSSL_PARAM params[], const char *name)
 {
-    return keep(reporter, what, params, name, OSSL_PARAM_OCTET_STRING);
+    return read_first(reporter, what, params, name, OSSL_PARAM_OCTET_STRING);
 }
 
-/* Keeps what all parameters of the name have, one after another. */
-int keep_all(const provider *reporter, kept *what, const OSSL_PARAM params[], const char *name)
+/* Reads all parameters of the name, one after another, as `read_first` reads one. */
+int read_all(const provider *reporter, kept *what, const OSSL_PARAM params[], const char *name)
 {
     const OSSL_PARAM *it = OSSL_PARAM_locate_const(params, name);
-    if (it != NULL) forget(what);
+    kept copy = {NULL, 0};
+    if (it == NULL) return 1;
     for (; it != NULL; it = OSSL_PARAM_locate_const(it + 1, name)) {
-        if (!keep_one(reporter, what, it, OSSL_PARAM_OCTET_STRING)) return 0;
+        if (!append_one(reporter, &copy, it, OSSL_PARAM_OCTET_STRING)) {
+            forget(&copy);
+            return 0;
+        }
     }
+    *what = copy;
     return 1;
 }

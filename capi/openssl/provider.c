@@ -78,6 +78,15 @@ static void tear_down(void *self)
     OPENSSL_free(ending);
 }
 
+/* Whether the module's section of the configuration lets work be handed on. Where it has the
+ * setting, any word but these says no. */
+static int may_hand_on(const OSSL_CORE_HANDLE *core, OSSL_FUNC_core_get_params_fn *get)
+{
+    char *word = NULL;
+    OSSL_PARAM asked[] = {OSSL_PARAM_utf8_ptr("hand_on", &word, 0), OSSL_PARAM_END};
+    return get(core, asked) && (word == NULL || is_among(word, "yes:on:true:1"));
+}
+
 static provider *make_provider(const OSSL_CORE_HANDLE *core, const OSSL_DISPATCH *in)
 {
     provider *made = OPENSSL_zalloc(sizeof *made);
@@ -88,6 +97,8 @@ static provider *make_provider(const OSSL_CORE_HANDLE *core, const OSSL_DISPATCH
             made->new_error = OSSL_FUNC_core_new_error(it);
         } else if (it->function_id == OSSL_FUNC_CORE_VSET_ERROR) {
             made->vset_error = OSSL_FUNC_core_vset_error(it);
+        } else if (it->function_id == OSSL_FUNC_CORE_GET_PARAMS) {
+            made->hands_on = may_hand_on(core, OSSL_FUNC_core_get_params(it));
         }
     }
     made->library_context = OSSL_LIB_CTX_new_child(core, in);

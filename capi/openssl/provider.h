@@ -25,6 +25,7 @@ typedef struct {
     OSSL_FUNC_core_new_error_fn *new_error;
     OSSL_FUNC_core_vset_error_fn *vset_error;
     OSSL_LIB_CTX *library_context;
+    int hands_on; /* whether other providers do what the library has no call for */
 } provider;
 
 /* provider.c */
@@ -43,12 +44,15 @@ int same_word(const char *a, size_t a_len, const char *b);
 void forget(kept *what);
 int append(kept *what, const void *bytes, size_t len);
 int copy_kept(kept *to, const kept *from);
-int keep_word(const provider *reporter, kept *what, const OSSL_PARAM params[], const char *name);
-int keep_bytes(const provider *reporter, kept *what, const OSSL_PARAM params[], const char *name);
-int keep_all(const provider *reporter, kept *what, const OSSL_PARAM params[], const char *name);
+void drop_one(kept *now, kept *next, int is_taken);
+size_t word_len(const OSSL_PARAM *it);
+int read_word(const provider *reporter, kept *what, const OSSL_PARAM params[], const char *name);
+int read_bytes(const provider *reporter, kept *what, const OSSL_PARAM params[], const char *name);
+int read_all(const provider *reporter, kept *what, const OSSL_PARAM params[], const char *name);
 
 /* digests.c */
 extern const OSSL_ALGORITHM digest_algorithms[];
+int is_among(const char *name, const char *names);
 uint32_t algorithm_of_name(const char *name);
 
 /* A digest under HMAC, HKDF or PBKDF2. No name is chosen yet where `name` is NULL. */
@@ -61,8 +65,10 @@ typedef struct {
 } chosen_digest;
 
 /* handed_on.c */
-int choose_digest(const provider *reporter, chosen_digest *digest, const OSSL_PARAM params[]);
+int has_right_properties(const provider *reporter, const OSSL_PARAM params[]);
+int read_digest(const provider *reporter, chosen_digest *digest, const OSSL_PARAM params[]);
 int copy_digest(chosen_digest *to, const chosen_digest *from);
+void drop_one_digest(chosen_digest *now, chosen_digest *next, int is_taken);
 void forget_digest(chosen_digest *digest);
 int library_signs(const chosen_digest *digest, size_t record_len);
 int library_derives(const chosen_digest *digest, uint64_t iterations);
@@ -71,6 +77,7 @@ EVP_MAC_CTX *begin_other_tag(const provider *reporter, const chosen_digest *dige
 #define MOST_DIGEST_PARAMS 2
 OSSL_PARAM *put_digest(const chosen_digest *digest, OSSL_PARAM *params);
 OSSL_PARAM *put_bytes(const kept *what, const char *name, OSSL_PARAM *params);
+int other_takes_digest(const provider *reporter, const char *kdf, const chosen_digest *digest);
 int derive_by_other(const provider *reporter, const char *kdf, const OSSL_PARAM params[],
                     unsigned char *out, size_t out_len);
 

@@ -1,8 +1,11 @@
 # SPDX-License-Identifier: ISC
 # The OpenSSL provider, in the folder above's Makefile:
 #
-#     make openssl; make openssl-check; make openssl-bench
-#     make openssl-install DESTDIR= MODULESDIR=; make openssl-uninstall
+#     make openssl              # builds the provider, out/openssl/yezdopin.so
+#     make openssl-check        # tests it beside OpenSSL's own
+#     make openssl-bench
+#     make openssl-install      # into MODULESDIR=, OpenSSL's folder of modules, in DESTDIR=
+#     make openssl-uninstall
 #
 # It needs OpenSSL 3's headers (Debian: libssl-dev, and for ARCH=aarch64 libssl-dev:arm64 with its
 # library, which qemu-user then runs).
@@ -47,7 +50,7 @@ $(SANITIZED): $(PROVIDER_NEEDS)
 	    $(filter-out -Wl$(COMMA)--no-undefined,$(PROVIDER_LINKS)) -o $@
 
 # The tests, each of which takes the folder of the module.
-PROVIDER_TESTS = agree orders refused_memory wiped
+PROVIDER_TESTS = agree orders refused_calls words properties refused_memory wiped
 PROVIDER_TEST_HEADERS = openssl/test/agree.h openssl/test/single.h
 COMMA = ,
 SANITIZERS = -fsanitize=address,undefined -fno-sanitize-recover=all
@@ -74,12 +77,13 @@ $(PROVIDER_TESTS:%=$(OUT)/openssl/sanitized/%): $(OUT)/openssl/sanitized/%: open
 	    $(ARCHIVE) -lcrypto -lpthread -o $@
 
 ifeq ($(ARCH),$(HOST))
-openssl-check: openssl-agree openssl-orders openssl-memory openssl-wiped openssl-sanitized \
-    openssl-valgrind openssl-programs openssl-policy openssl-exports openssl-installed
+openssl-check: openssl-agree openssl-orders openssl-refused openssl-words openssl-properties \
+    openssl-memory openssl-wiped openssl-sanitized openssl-valgrind openssl-programs \
+    openssl-policy openssl-exports openssl-installed
 else
 # The others want the other processor's own programs and sanitizers.
-openssl-check: openssl-agree openssl-orders openssl-memory openssl-wiped openssl-exports \
-    openssl-installed
+openssl-check: openssl-agree openssl-orders openssl-refused openssl-words openssl-properties \
+    openssl-memory openssl-wiped openssl-exports openssl-installed
 endif
 
 # Random calls beside the default provider's.
@@ -90,6 +94,18 @@ openssl-agree: $(PROVIDER) $(OUT)/openssl/agree
 openssl-orders: $(PROVIDER) $(OUT)/openssl/orders
 	$(RUN) $(OUT)/openssl/orders $(<D) $(LOADS)
 
+# What a context answers after a refused call.
+openssl-refused: $(PROVIDER) $(OUT)/openssl/refused_calls
+	$(RUN) $(OUT)/openssl/refused_calls $(<D)
+
+# Where words end.
+openssl-words: $(PROVIDER) $(OUT)/openssl/words
+	$(RUN) $(OUT)/openssl/words $(<D)
+
+# Which digest properties name.
+openssl-properties: $(PROVIDER) $(OUT)/openssl/properties
+	$(RUN) $(OUT)/openssl/properties $(<D)
+
 # Each allocation refused in turn.
 openssl-memory: $(PROVIDER) $(OUT)/openssl/refused_memory
 	$(RUN) $(OUT)/openssl/refused_memory $(<D)
@@ -98,15 +114,21 @@ openssl-memory: $(PROVIDER) $(OUT)/openssl/refused_memory
 openssl-wiped: $(PROVIDER) $(OUT)/openssl/wiped
 	$(RUN) $(OUT)/openssl/wiped $(<D)
 
-openssl-sanitized: $(SANITIZED) $(patsubst %,$(OUT)/openssl/sanitized/%,agree orders refused_memory)
+openssl-sanitized: $(SANITIZED) $(patsubst %,$(OUT)/openssl/sanitized/%,agree orders \
+    refused_calls words properties refused_memory)
 	$(<D)/agree $(<D) $(SANITIZED_CASES) 8
 	$(<D)/orders $(<D) 20
+	$(<D)/refused_calls $(<D)
+	$(<D)/words $(<D)
+	$(<D)/properties $(<D)
 	$(<D)/refused_memory $(<D)
 
 openssl-valgrind: $(PROVIDER) $(OUT)/openssl/agree $(OUT)/openssl/orders \
-    $(OUT)/openssl/refused_memory
+    $(OUT)/openssl/words $(OUT)/openssl/properties $(OUT)/openssl/refused_memory
 	$(VALGRIND) -q $(LEAKS) $(OUT)/openssl/agree $(<D) $(VALGRIND_CASES) 4
 	$(VALGRIND) -q $(LEAKS) $(OUT)/openssl/orders $(<D) $(VALGRIND_LOADS)
+	$(VALGRIND) -q $(LEAKS) $(OUT)/openssl/words $(<D)
+	$(VALGRIND) -q $(LEAKS) $(OUT)/openssl/properties $(<D)
 	$(VALGRIND) -q --error-exitcode=9 $(OUT)/openssl/refused_memory $(<D)
 
 # OpenSSL's commands, Python's hashlib, hmac and ssl, and TLS over the counting build.
@@ -128,7 +150,7 @@ openssl-exports: $(PROVIDER)
 	test "$$($(READELF) -d $< | sed -n 's/.*(NEEDED).*\[\(.*\)\]/\1/p' | sort | xargs)" = \
 	    'libc.so.6 libcrypto.so.3'
 	test "$$($(OBJDUMP) -T $< | awk '/GLIBC_/ && !/ w / { print $$NF }' | sort | xargs)" = \
-	    'memcpy memmove memset strcspn strlen'
+	    'memcpy memmove memset strcspn strlen strnlen'
 	test "$$($(OBJDUMP) -T $< | grep -o 'OPENSSL_[0-9.]*' | sort -u | xargs)" = OPENSSL_3.0.0
 
 # The time of each kind of work beside the default provider's, with the instructions that OpenSSL
@@ -192,6 +214,7 @@ dist-deb-$(PROVIDER_DEB): $(PROVIDER)
 	rm "$(WORK)/$(PROVIDER_DEB)/usr/share/doc/$(PROVIDER_DEB)/LICENSE"
 	$(call deb,$(PROVIDER_DEB))
 
-.PHONY: openssl openssl-check openssl-agree openssl-orders openssl-memory openssl-wiped \
-    openssl-sanitized openssl-valgrind openssl-programs openssl-policy openssl-exports \
-    openssl-installed openssl-bench openssl-install openssl-uninstall
+.PHONY: openssl openssl-check openssl-agree openssl-orders openssl-refused openssl-words \
+    openssl-properties openssl-memory openssl-wiped openssl-sanitized openssl-valgrind \
+    openssl-programs openssl-policy openssl-exports openssl-installed openssl-bench \
+    openssl-install openssl-uninstall

@@ -7,6 +7,9 @@
 #define MOST_KEPT 8000
 #define NUM_MODES 4
 
+/* The steps. Those up to SET write nothing; each number from DERIVE on derives. */
+enum { RESET, COPY, SET, INFO, SIZE, DERIVE, NUM_STEPS = 12 };
+
 /* Parameters, and what they point to. */
 typedef struct {
     OSSL_PARAM params[MOST_PARAMS];
@@ -61,7 +64,8 @@ static void add_pbkdf2(request *it, random_numbers *numbers)
     if (below(numbers, 12)) add_bytes(it, numbers, "pass", 0);
     if (below(numbers, 12)) add_bytes(it, numbers, "salt", 0);
     if (below(numbers, 8)) {
-        it->iterations = below(numbers, below(numbers, 40) ? 30 : 1100);
+        /* 1000 is the lower bound where `pkcs5` is 0. */
+        it->iterations = below(numbers, 40) ? below(numbers, 30) : 996 + below(numbers, 8);
         *it->next++ = OSSL_PARAM_construct_uint64("iter", &it->iterations);
     }
     if (below(numbers, 8) == 0) {
@@ -83,28 +87,51 @@ static void choose(request *it, random_numbers *numbers, int is_hkdf)
     *it->next = OSSL_PARAM_construct_end();
 }
 
-/* A length to derive: often that of a digest, and now and then one at HKDF's limit. */
+/* A length to derive: often that of a digest, and now and then one at the limit: HKDF's upper one,
+ * and PBKDF2's lower one where `pkcs5` is 0. */
 static size_t choose_len(random_numbers *numbers, int is_hkdf)
 {
     static const size_t digest_lens[] = {20, 32, 48, 64};
     size_t digest_len = digest_lens[below(numbers, 4)];
-    if (is_hkdf && below(numbers, 20) == 0) return 255 * digest_len + below(numbers, 2);
+    if (below(numbers, 20) == 0) {
+        return is_hkdf ? 255 * digest_len + below(numbers, 2) : 12 + below(numbers, 4);
+    }
     return below(numbers, 2) ? digest_len : below(numbers, 200);
 }
 
-static int run(EVP_KDF_CTX *context, const request *it, size_t what, unsigned char *out,
+static int replace_by_copy(EVP_KDF_CTX **context)
+{
+    EVP_KDF_CTX *copy = EVP_KDF_CTX_dup(*context);
+    if (copy == NULL) return 0;
+    EVP_KDF_CTX_free(*context);
+    *context = copy;
+    return 1;
+}
+
+static int get_info(EVP_KDF_CTX *context, unsigned char *out, size_t *out_len)
+{
+    OSSL_PARAM asked[] = {OSSL_PARAM_construct_octet_string("info", out, MOST_OUT),
+                          OSSL_PARAM_construct_end()};
+    int returned = EVP_KDF_CTX_get_params(context, asked);
+    *out_len = asked[0].return_size;
+    return returned;
+}
+
+static int run(EVP_KDF_CTX **context, const request *it, size_t what, unsigned char *out,
                size_t *out_len)
 {
     size_t size;
     switch (what) {
-    case 0: EVP_KDF_CTX_reset(context); return 1;
-    case 1: return EVP_KDF_CTX_set_params(context, it->params);
-    case 2:
-        size = EVP_KDF_CTX_get_kdf_size(context);
+    case RESET: EVP_KDF_CTX_reset(*context); return 1;
+    case COPY: return replace_by_copy(context);
+    case SET: return EVP_KDF_CTX_set_params(*context, it->params);
+    case INFO: return get_info(*context, out, out_len);
+    case SIZE:
+        size = EVP_KDF_CTX_get_kdf_size(*context);
         memcpy(out, &size, sizeof size);
         *out_len = sizeof size;
         return 1;
-    default: return EVP_KDF_derive(context, out, *out_len, it->params);
+    default: return EVP_KDF_derive(*context, out, *out_len, it->params);
     }
 }
 
@@ -121,16 +148,18 @@ void compare_derivations(uint64_t seed, const char *kdf_name)
         EVP_KDF_free(kdf);
     }
     /* After a refusal each may be in a state of its own. */
-    for (size_t steps = 1 + below(&numbers, 4); steps > 0 && returned[1] > 0; steps--) {
-        size_t what = below(&numbers, 10), len = choose_len(&numbers, is_hkdf);
+    for (size_t steps = 1 + below(&numbers, 5); steps > 0 && returned[1] > 0; steps--) {
+        size_t what = below(&numbers, NUM_STEPS), len = choose_len(&numbers, is_hkdf);
         size_t lens[SIDES] = {len, len};
         choose(&next, &numbers, is_hkdf);
-        if (next.next == next.params) what = 3;
+        if (next.next == next.params) what = DERIVE;
+        if (!is_hkdf && what == INFO) what = SIZE;
         for (int side = 0; side < SIDES; side++) {
-            returned[side] = run(contexts[side], &next, what, out[side], &lens[side]);
+            returned[side] = run(&contexts[side], &next, what, out[side], &lens[side]);
         }
-        /* The two calls that derive nothing write nothing. */
-        compare(kdf_name, seed, returned, what < 2 ? NULL : (const outputs *)&out, lens);
+        /* OpenSSL 3.0 copies no derivation, and 3.5 none with an empty key: theirs goes on then. */
+        if (what == COPY) returned[1] = 1;
+        compare(kdf_name, seed, returned, what <= SET ? NULL : (const outputs *)&out, lens);
     }
     for (int side = 0; side < SIDES; side++) EVP_KDF_CTX_free(contexts[side]);
 }

@@ -3,6 +3,7 @@
  * own, and OpenSSL's goes on after its final call where ours refuses, so a case ends or passes over
  * a step there. */
 #include "agree.h"
+#include <string.h>
 
 /* The steps. Each number below NUM_STEPS is as likely as another. */
 enum {
@@ -33,11 +34,18 @@ static int replace_by_copy(EVP_MAC_CTX **context)
     return 1;
 }
 
-/* The final call, and whether it wrote as many bytes as it says that it writes. */
+/* The final call, and whether it wrote as many bytes as it says that it writes. Behind the tag
+ * stands the length of a block. */
 static int end(EVP_MAC_CTX *context, unsigned char *out, size_t *out_len, size_t out_size)
 {
-    return EVP_MAC_final(context, out, out_len, out_size)
-           && *out_len == EVP_MAC_CTX_get_mac_size(context);
+    size_t block_len = EVP_MAC_CTX_get_block_size(context);
+    if (!EVP_MAC_final(context, out, out_len, out_size)
+        || *out_len != EVP_MAC_CTX_get_mac_size(context)) {
+        return 0;
+    }
+    memcpy(out + *out_len, &block_len, sizeof block_len);
+    *out_len += sizeof block_len;
+    return 1;
 }
 
 static int run(const step *it, EVP_MAC_CTX **context, unsigned char *out, size_t *out_len)
@@ -46,8 +54,9 @@ static int run(const step *it, EVP_MAC_CTX **context, unsigned char *out, size_t
     if (it->digest != NULL) {
         *next++ = OSSL_PARAM_construct_utf8_string("digest", (char *)it->digest, 0);
     }
-    if (it->what == INIT_BY_PARAMETERS) {
-        *next++ = OSSL_PARAM_construct_octet_string("key", it->input, it->input_len);
+    /* Where a key is passed too, that one counts. */
+    if (it->what == INIT_BY_PARAMETERS || it->what == INIT_TOO) {
+        *next++ = OSSL_PARAM_construct_octet_string("key", it->input, it->input_len / 2);
     }
     if (it->what == SET_WRONG_TYPE) {
         *next++ = OSSL_PARAM_construct_octet_string("digest", it->input, 3);
@@ -99,6 +108,7 @@ static step choose(random_numbers *numbers, const state *now, unsigned char *inp
     int is_named = what <= INIT_BY_PARAMETERS || (what == SET_DIGEST && !now->has_key);
     step chosen = {what, is_named ? names[number] : NULL, input, 0, 64};
     chosen.input_len = below(numbers, below(numbers, 3) ? 300 : MOST_INPUT);
+    if (below(numbers, 10) == 0) chosen.input_len = 0; /* often an empty key */
     if (below(numbers, 6) == 0) chosen.out_size = below(numbers, 64);
     fill(numbers, input, chosen.input_len < 3 ? 3 : chosen.input_len);
     return chosen;

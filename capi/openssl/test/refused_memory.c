@@ -1,6 +1,7 @@
 /* SPDX-License-Identifier: ISC */
 /* Refuses each allocation of OpenSSL's and the provider's in turn, over calls of every kind:
- * nothing breaks, and what a call writes that says it is done is right. refused_memory MODULES */
+ * nothing breaks, what a call writes that says it is done is right, and a call that changes
+ * parameters changes all or none. refused_memory MODULES */
 #include "single.h"
 #include <openssl/crypto.h>
 #include <stdlib.h>
@@ -9,11 +10,13 @@
 #define NUM_CALLS 5
 #define ALL_DONE ((1 << NUM_CALLS) - 1)
 #define OUT_LEN 40
+#define NO_CHANGE -2
 
 typedef unsigned char outputs[NUM_CALLS][64];
 
 /* How many allocations still succeed before one is refused; below 0 none is refused. */
 static long left = -1;
+static int was_refused;
 static EVP_MD *digest;
 
 static int is_refused(void)
@@ -60,8 +63,11 @@ static int make_tags(EVP_MAC *mac, const OSSL_PARAM *params, unsigned char *out,
     int is_done = 0;
     if (it != NULL && EVP_MAC_init(it, (const unsigned char *)"k", 1, params)
         && EVP_MAC_update(it, (const unsigned char *)"abc", 3)
-        && (copy = EVP_MAC_CTX_dup(it)) != NULL && EVP_MAC_final(copy, out, &len, 64)) {
-        is_done |= 1;
+        && (copy = EVP_MAC_CTX_dup(it)) != NULL) {
+        /* A copy that is made although an allocation was refused lacks nothing. */
+        int must_end = left < 0;
+        is_done = EVP_MAC_final(copy, out, &len, 64);
+        CHECK(is_done || !must_end);
     }
     if (it != NULL && EVP_MAC_init(it, NULL, 0, NULL) && EVP_MAC_final(it, out_again, &len, 64)) {
         is_done |= 2;
@@ -106,6 +112,99 @@ static int make_calls(outputs out, const char *name)
     return done;
 }
 
+/* Changes parameters in the midst of a message, or where there are none begins it again, while one
+ * allocation is refused, then ends it; whether that was done. For NULL nothing is done. */
+static int change_tag(const OSSL_PARAM *old, const OSSL_PARAM *changes, long count,
+                      unsigned char *out)
+{
+    EVP_MAC_CTX *it = EVP_MAC_CTX_new(mac);
+    size_t len;
+    int is_done;
+    CHECK(EVP_MAC_init(it, (const unsigned char *)"k", 1, old)
+          && EVP_MAC_update(it, (const unsigned char *)"abc", 3));
+    left = count;
+    if (changes == NULL) {
+        is_done = 0;
+    } else {
+        is_done = changes->key == NULL ? EVP_MAC_init(it, NULL, 0, NULL)
+                                       : EVP_MAC_CTX_set_params(it, changes);
+    }
+    was_refused = left < 0;
+    left = -1;
+    CHECK(EVP_MAC_final(it, out, &len, 64));
+    EVP_MAC_CTX_free(it);
+    return is_done;
+}
+
+/* The same before a key is derived. */
+static int change_derivation(EVP_KDF *kdf, const OSSL_PARAM *old, const OSSL_PARAM *changes,
+                             long count, unsigned char *out)
+{
+    EVP_KDF_CTX *it = EVP_KDF_CTX_new(kdf);
+    int is_done;
+    CHECK(EVP_KDF_CTX_set_params(it, old));
+    left = count;
+    is_done = changes != NULL && EVP_KDF_CTX_set_params(it, changes);
+    was_refused = left < 0;
+    left = -1;
+    CHECK(EVP_KDF_derive(it, out, OUT_LEN, NULL));
+    EVP_KDF_CTX_free(it);
+    return is_done;
+}
+
+/* Of HMAC where `kdf` is NULL. Where `to` is NULL its message begins again. */
+static int change(EVP_KDF *kdf, const char *from, const char *to, long count, unsigned char *out)
+{
+    uint64_t few = 3, more = 4;
+    const OSSL_PARAM old[] = {word("digest", from), octets("key", "some key", 8),
+                              octets("pass", "some key", 8), octets("salt", "salt", 4),
+                              octets("info", "info", 4), OSSL_PARAM_construct_uint64("iter", &few),
+                              OSSL_PARAM_construct_end()};
+    const OSSL_PARAM changes[] = {word("digest", to), octets("key", "other", 5),
+                                  octets("pass", "other", 5), octets("salt", "pepper", 6),
+                                  octets("info", "in", 2), octets("info", "formation", 9),
+                                  OSSL_PARAM_construct_uint64("iter", &more),
+                                  OSSL_PARAM_construct_end()};
+    const OSSL_PARAM again[] = {OSSL_PARAM_construct_end()};
+    const OSSL_PARAM *given = to == NULL ? again : changes;
+    if (count == NO_CHANGE) given = NULL;
+    if (kdf == NULL) return change_tag(old, given, count, out);
+    return change_derivation(kdf, old, given, count, out);
+}
+
+/* From one digest to another; how many runs had a refusal. */
+static long change_each(EVP_KDF *kdf, const char *from, const char *to)
+{
+    unsigned char right[2][64] = {{0}, {0}};
+    CHECK(change(kdf, from, to, NO_CHANGE, right[0]) == 0);
+    CHECK(change(kdf, from, to, -1, right[1]) == 1);
+    CHECK(memcmp(right[0], right[1], sizeof right[0]) != 0);
+    for (long count = 0; count < MOST_ALLOCATIONS; count++) {
+        unsigned char out[64] = {0};
+        int is_done = change(kdf, from, to, count, out);
+        CHECK(memcmp(out, right[is_done], sizeof out) == 0);
+        if (!was_refused) return count;
+    }
+    CHECK(!"the call takes no end of memory");
+    return 0;
+}
+
+/* Of each algorithm, within the library, to another provider and back, and a message that another
+ * provider begins again; in how many runs. */
+static long change_all(void)
+{
+    static const char *const digests[][2] = {
+        {"SHA256", "SHA512"}, {"SHA256", "SHA224"}, {"SHA224", "SHA512"}};
+    EVP_KDF *const kdfs[] = {NULL, hkdf, pbkdf2};
+    long runs = change_each(NULL, "SHA224", NULL);
+    CHECK(runs != 0);
+    for (int i = 0; i < 9; i++) {
+        runs += change_each(kdfs[i / 3], digests[i % 3][0], digests[i % 3][1]);
+    }
+    ERR_clear_error();
+    return runs;
+}
+
 /* Under one digest; how many runs had a refusal. */
 static long refuse_each(const char *name)
 {
@@ -135,7 +234,7 @@ static long refuse_each(const char *name)
 int main(int argc, char **argv)
 {
     OSSL_PROVIDER *theirs, *ours;
-    long by_library, by_other;
+    long by_library, by_other, of_changes;
     if (argc != 2 || !CRYPTO_set_mem_functions(allocate, allocate_again, release)) return 2;
     OSSL_PROVIDER_set_default_search_path(NULL, argv[1]);
     theirs = OSSL_PROVIDER_load(NULL, "default");
@@ -146,12 +245,13 @@ int main(int argc, char **argv)
     pbkdf2 = EVP_KDF_fetch(NULL, "PBKDF2", OURS);
     by_library = refuse_each("SHA256");
     by_other = refuse_each("SHA224");
+    of_changes = change_all();
     EVP_MD_free(digest);
     EVP_MAC_free(mac);
     EVP_KDF_free(hkdf);
     EVP_KDF_free(pbkdf2);
     CHECK(OSSL_PROVIDER_unload(ours) && OSSL_PROVIDER_unload(theirs));
-    printf("allocations refused in turn: %ld under SHA-256, %ld under SHA-224: %d failures\n",
-           by_library, by_other, failures);
-    return failures != 0 || by_library == 0 || by_other == 0;
+    printf("allocations refused in turn: %ld under SHA-256, %ld under SHA-224, %ld of changes: "
+           "%d failures\n", by_library, by_other, of_changes, failures);
+    return failures != 0 || by_library == 0 || by_other == 0 || of_changes == 0;
 }

@@ -36,12 +36,18 @@ static inline EVP_MAC_CTX *new_hmac(OSSL_LIB_CTX *context, const char *propertie
     return made;
 }
 
-static inline EVP_KDF_CTX *new_kdf(OSSL_LIB_CTX *context, const char *name)
+static inline EVP_KDF_CTX *new_kdf_of(OSSL_LIB_CTX *context, const char *name,
+                                      const char *properties)
 {
-    EVP_KDF *kdf = EVP_KDF_fetch(context, name, OURS);
+    EVP_KDF *kdf = EVP_KDF_fetch(context, name, properties);
     EVP_KDF_CTX *made = EVP_KDF_CTX_new(kdf);
     EVP_KDF_free(kdf);
     return made;
+}
+
+static inline EVP_KDF_CTX *new_kdf(OSSL_LIB_CTX *context, const char *name)
+{
+    return new_kdf_of(context, name, OURS);
 }
 
 static inline OSSL_PARAM word(const char *name, const char *value)

@@ -190,6 +190,42 @@ static bool begun_anew(scene_of_secrets *scene)
     return is_done;
 }
 
+/* What a call has read before it is refused. */
+static bool refused(scene_of_secrets *scene)
+{
+    unsigned char *secret = OPENSSL_memdup(scene->secret, SECRET_LEN);
+    EVP_MAC *mac = EVP_MAC_fetch(NULL, "HMAC", OURS);
+    EVP_KDF *hkdf = EVP_KDF_fetch(NULL, "HKDF", OURS);
+    EVP_KDF *pbkdf2 = EVP_KDF_fetch(NULL, "PBKDF2", OURS);
+    EVP_MAC_CTX *tag = EVP_MAC_CTX_new(mac);
+    EVP_KDF_CTX *by_hkdf = EVP_KDF_CTX_new(hkdf), *by_pbkdf2 = EVP_KDF_CTX_new(pbkdf2);
+    OSSL_PARAM params[] = {scene->digest[0],
+                           OSSL_PARAM_construct_octet_string("key", secret, SECRET_LEN),
+                           OSSL_PARAM_construct_octet_string("pass", secret, SECRET_LEN),
+                           OSSL_PARAM_construct_octet_string("info", secret, SECRET_LEN),
+                           OSSL_PARAM_construct_utf8_string("info", (char *)"a word", 6),
+                           OSSL_PARAM_construct_utf8_string("salt", (char *)"a word", 6),
+                           OSSL_PARAM_construct_utf8_string("tls-data-size", (char *)"1", 1),
+                           OSSL_PARAM_construct_end()};
+    bool is_done = EVP_MAC_init(tag, (const unsigned char *)"key", 3, scene->digest);
+    hold(scene);
+    is_done = is_done && EVP_MAC_CTX_set_params(tag, params) == 0
+              && EVP_MAC_init(tag, secret, SECRET_LEN, params) == 0
+              && EVP_KDF_CTX_set_params(by_hkdf, params) == 0
+              && EVP_KDF_CTX_set_params(by_pbkdf2, params) == 0;
+    params[5] = params[4]; /* HKDF then reads its infos */
+    is_done = is_done && EVP_KDF_CTX_set_params(by_hkdf, params) == 0;
+    OPENSSL_clear_free(secret, SECRET_LEN);
+    is_done = is_done && found_in_memory() == 0;
+    EVP_MAC_CTX_free(tag);
+    EVP_KDF_CTX_free(by_hkdf);
+    EVP_KDF_CTX_free(by_pbkdf2);
+    EVP_MAC_free(mac);
+    EVP_KDF_free(hkdf);
+    EVP_KDF_free(pbkdf2);
+    return is_done;
+}
+
 static bool derive(scene_of_secrets *scene, const char *name, const char *mode)
 {
     unsigned char out[64], *secret = (unsigned char *)scene->secret;
@@ -283,6 +319,7 @@ int main(int argc, char **argv)
     is_right = is_wiped("contexts begun anew", begun_anew, "SHA256") && is_right;
     is_right = is_wiped("HMAC", hmac, "SHA256") && is_right;
     is_right = is_wiped("HMAC", hmac, "MD5") && is_right; /* handed on */
+    is_right = is_wiped("calls that are refused", refused, "SHA256") && is_right;
     is_right = is_wiped("HKDF", hkdf, "SHA256") && is_right;
     is_right = is_wiped("HKDF", hkdf, "SHA3-256") && is_right;
     is_right = is_wiped("PBKDF2", pbkdf2, "SHA256") && is_right;

@@ -7,7 +7,9 @@
  * hashes, whose text alone says by which algorithm. Contexts and keys have
  * the same bytes in both, so that one build goes on where the other stopped. */
 #include "yezdopin.h"
+#ifndef bit_AVX2 /* test/dispatch.c has included it, which gcc before 11 can't do twice */
 #include <cpuid.h>
+#endif
 #include <stdatomic.h>
 
 /* What calls do. The table has a row for each. */

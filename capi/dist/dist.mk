@@ -2,16 +2,31 @@
 # Packages of the built library, for users without the Rattle kit, into out/dist with SHA256SUMS,
 # PROVENANCE, which says what they come from, and a software bill of materials in SPDX's format:
 #
-#     make dist; make dist-check; make ARCH=aarch64 dist; make ARCH=aarch64 dist-check
+#     make dist                 # those that this machine has the tools for
+#     make dist PACKAGES=       # some: the words of WORDS below
+#     make dist-check           # each in a Debian system of its own, as root and with a network
+#
+# With ARCH=aarch64 they are those for 64-bit ARM.
 #
 # The same library, sources and tools give the same bytes: SOURCE_DATE_EPOCH is the time of all
-# files, by default that of the last commit. To add a package, write its word into PACKAGES and a
+# files, by default that of the last commit. To add a package, write its word into WORDS and a
 # rule dist-WORD that puts it into DIST; for a Debian package a file debian/NAME.control, and a rule
 # that fills WORK/NAME with what is installed, and then calls `deb`.
 
-PACKAGES = tarball deb-libyezdopin$(MAJOR) deb-libyezdopin-dev wheel \
-    $(PROVIDER_PACKAGE) $(TOOLS_PACKAGE) \
-    $(if $(filter x86_64,$(ARCH)),crate rustcrypto $(NPM_PACKAGE))
+WORDS = tarball deb-libyezdopin$(MAJOR) deb-libyezdopin-dev wheel deb-$(PROVIDER_DEB) \
+    $(if $(filter x86_64,$(ARCH)),deb-$(TOOLS_DEB) crate rustcrypto npm)
+# Those that lack nothing here, in LACKS_WORD.
+PACKAGES = $(foreach it,$(WORDS),$(if $(strip $(LACKS_$(it))),,$(it)))
+missing = $(foreach it,$(1),$(if $(shell command -v $(it) 2>/dev/null),,$(it)))
+LACKS_deb-libyezdopin$(MAJOR) = $(call missing,dpkg-deb)
+LACKS_deb-libyezdopin-dev = $(call missing,dpkg-deb)
+LACKS_wheel = $(if $(wildcard $(shell $(PYTHON) -c \
+    'import sysconfig; print(sysconfig.get_paths()["include"])' 2>/dev/null)/Python.h),,Python.h)
+LACKS_deb-$(PROVIDER_DEB) = $(if $(PROVIDER_PACKAGE),,libssl-dev) $(call missing,dpkg-deb)
+LACKS_deb-$(TOOLS_DEB) = $(if $(TOOLS_PACKAGE),,$(RT)) $(call missing,dpkg-deb)
+LACKS_crate = $(call missing,$(CARGO) $(if $(filter file,$(origin ARM_ARCHIVE)), \
+    $(or $(CROSS),aarch64-linux-gnu-)gcc))
+LACKS_npm = $(call missing,$(NPM) $(NODE))
 
 DIST = $(WHOLE_OUT)/dist
 WORK = $(DIST).work
@@ -20,7 +35,7 @@ DPKG_ARCH = $(if $(filter aarch64,$(ARCH)),arm64,amd64)
 DPKG_LIBDIR = /usr/lib/$(ARCH)-linux-gnu
 TREE = yezdopin-$(VERSION)-linux-$(ARCH)
 # The crate has the archives for both processors. This one is built here, or is named.
-ARM_ARCHIVE = out/aarch64/libyezdopin.a
+ARM_ARCHIVE = $(OUT)/aarch64/libyezdopin.a
 SOURCE_DATE_EPOCH ?= $(or $(shell git log -1 --format=%ct 2>/dev/null),1767225600)
 # A placeholder: the project has no mail address (SECURITY.md says how faults are reported).
 MAINTAINER ?= The Yezdopin authors <yezdopin@example.org>
@@ -45,9 +60,11 @@ endef
 
 dist: all
 	rm -rf "$(DIST)" "$(WORK)" && mkdir -p "$(DIST)" "$(WORK)"
+	@:$(if $(filter file,$(origin PACKAGES)),$(foreach it,$(filter-out $(PACKAGES),$(WORDS)),; \
+	    echo 'left out: $(it), without $(strip $(LACKS_$(it)))'))
 	$(MAKE) --no-print-directory $(PACKAGES:%=dist-%)
 	$(PYTHON) -B dist/origin "$(DIST)" $(VERSION) $(ARCH) $(SOURCE_DATE_EPOCH) \
-	    "$$($(CC) --version | head -n 1)" $(TEXTS)
+	    "$$($(CC) --version | head -n 1)" $(wildcard generated/*.S generated/*.hex)
 	cd "$(DIST)" && sha256sum * >../SHA256SUMS && mv ../SHA256SUMS . && cat SHA256SUMS
 
 # The reference of the proved crates as HTML pages, where Debian's python3-markdown and
@@ -55,9 +72,9 @@ dist: all
 ifneq ($(origin REFERENCE),command line)
 REFERENCE_PYTHON = /usr/bin/python3
 REFERENCE = $(shell $(REFERENCE_PYTHON) -c 'import markdown, pygments' 2>/dev/null \
-    && echo out/reference)
+    && echo $(OUT)/reference)
 REFERENCE_MADE = $(REFERENCE)
-out/reference: FORCE_REFERENCE
+$(OUT)/reference: FORCE_REFERENCE
 	$(REFERENCE_PYTHON) -B ../tools/reference.py $@
 FORCE_REFERENCE:
 endif
@@ -68,6 +85,7 @@ dist-tarball: all $(REFERENCE_MADE)
 	test -z "$(REFERENCE)" || cp -R "$(REFERENCE)" "$(WORK)/$(TREE)/share/doc/yezdopin/reference"
 	sed -i 's,^prefix=.*,prefix=$${pcfiledir}/../..,' "$(WORK)/$(TREE)/lib/pkgconfig/yezdopin.pc"
 	cp dist/INSTALL dist/install.sh "$(WORK)/$(TREE)"
+	test -n "$(REFERENCE)" || sed -i '/doc\/yezdopin\/reference/d' "$(WORK)/$(TREE)/INSTALL"
 	sed -i 's|@processor@|$(ARCH)|' "$(WORK)/$(TREE)/install.sh"
 	$(call pack,$(TREE),$(TREE).tar.gz)
 
@@ -107,7 +125,7 @@ dist-wheel: all
 
 ifeq ($(ARCH) $(origin ARM_ARCHIVE) $(origin BUILT),x86_64 file file)
 $(ARM_ARCHIVE): FORCE
-	$(MAKE) --no-print-directory ARCH=aarch64 $@
+	$(MAKE) --no-print-directory ARCH=aarch64 OUT=$(@D) $@
 FORCE:
 endif
 
@@ -140,4 +158,4 @@ packages-named:
 dist-check: dist
 	test/packages "$(DIST)" $(ARCH)
 
-.PHONY: dist dist-check packages-named $(PACKAGES:%=dist-%)
+.PHONY: dist dist-check packages-named $(WORDS:%=dist-%)

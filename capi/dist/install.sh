@@ -29,7 +29,7 @@ case $prefix in
     ;;
 esac
 root=${DESTDIR:-}$prefix
-cd "$(dirname "$0")"
+CDPATH='' cd "$(dirname "$0")"
 
 # Refuses a processor that can't run the library.
 test_processor() {
@@ -47,10 +47,20 @@ test_processor() {
     done
 }
 
+# All may read what is installed, whatever the umask is, and was where the tree was unpacked. The
+# folders that are there stay as they are.
 install() {
     test_processor
+    umask 022
     mkdir -p "$root"
-    cp -RP include lib share "$root"
+    find include lib share -type d | while IFS= read -r folder; do
+        [ -d "$root/$folder" ] || mkdir "$root/$folder"
+    done
+    find include lib share ! -type d | while IFS= read -r file; do
+        rm -f "$root/$file"
+        cp -P "$file" "$root/$file"
+        [ -h "$root/$file" ] || chmod u=rwX,go=rX "$root/$file"
+    done
     echo "libyezdopin is installed below $root"
 }
 

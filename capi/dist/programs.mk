@@ -18,11 +18,11 @@ ENDED_ring_sums_main = -- --version
 ENDED_ring_sums_wide = --cpu=x86-64-v3 -- --version
 ENDED_ring_passwords = -- data/passwords.txt list
 ifneq ($(origin PROGRAMS),command line)
-$(TOOLS:%=out/programs/%): out/programs/%: FORCE_TOOLS
+$(TOOLS:%=$(OUT)/programs/%): $(OUT)/programs/%: FORCE_TOOLS
 	mkdir -p $(@D)
 	cp "$$(../tools/built $* $(RT) run $(ENDED_$*))" $@
 FORCE_TOOLS:
-TOOLS_BUILT = $(TOOLS:%=out/programs/%)
+TOOLS_BUILT = $(TOOLS:%=$(OUT)/programs/%)
 endif
 
 # $(call launcher,NAME): a launcher of the repository that runs the installed program, and builds

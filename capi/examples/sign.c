@@ -7,15 +7,22 @@
 #include <yezdopin.h>
 
 int main(int count, char **words) {
-    if (count != 3) return 2;
+    if (count != 3) {
+        fprintf(stderr, "usage: %s MESSAGE KEY\n", count > 0 ? words[0] : "sign");
+        return 2;
+    }
     const uint8_t *message = (const uint8_t *)words[1], *value = (const uint8_t *)words[2];
+    size_t message_len = strlen(words[1]);
     uint8_t tag[YZ_SHA256_OUTPUT_LEN];
     yz_hmac_key key;
-    if (yz_hmac_key_init(YZ_SHA256, value, strlen(words[2]), &key) != YZ_OK) return 1;
-    yz_status signing = yz_hmac_key_sign(&key, message, strlen(words[1]), tag, sizeof tag);
-    yz_status verdict = yz_hmac_key_verify(&key, message, strlen(words[1]), tag, sizeof tag);
+    yz_status status = yz_hmac_key_init(YZ_SHA256, value, strlen(words[2]), &key);
+    if (status == YZ_OK) status = yz_hmac_key_sign(&key, message, message_len, tag, sizeof tag);
+    if (status == YZ_OK) status = yz_hmac_key_verify(&key, message, message_len, tag, sizeof tag);
     yz_clear(&key, sizeof key);
-    if (signing != YZ_OK || verdict != YZ_OK) return 1;
+    if (status != YZ_OK) {
+        fprintf(stderr, "%s: %s\n", words[0], yz_status_text(status));
+        return 1;
+    }
     for (size_t i = 0; i < sizeof tag; i++) printf("%02x", tag[i]);
     putchar('\n');
     return 0;

@@ -1,9 +1,9 @@
 # SPDX-License-Identifier: ISC
 # The crate crates/ring_c proved and built by the kit, in the folder above's Makefile:
 #
-#     make generated         # renews the text of all builds in this folder, and of js/'s module
-#     make generated-check   # whether the text for ARCH is what the kit makes
-#     make builds-agree      # whether both builds for x86-64 are one library
+#     make generated            # renews the text of all builds in this folder, and of js/'s module
+#     make generated-check      # whether the text for ARCH is what the kit makes
+#     make builds-agree         # whether both builds for x86-64 are one library
 #
 # The kit runs on x86-64 alone. The text for aarch64 also wants gcc-aarch64-linux-gnu, and that of
 # the module Node.
@@ -48,8 +48,7 @@ $(BUILT): $(SOURCES) ../crates.txt
 	$(call build,--target=$(ARCH)-unknown-linux-gnu,$@)
 
 KIT_PARTS = $(BUILT)
-$(KIT_OUT)/yezdopin_$(ARCH).calls: $(OUT)/names
-	mkdir -p $(@D)
+$(KIT_OUT)/yezdopin_$(ARCH).calls: $(KIT_OUT)/names
 	cp $< $@
 $(KIT_OUT)/yezdopin_$(ARCH).o: $(BUILT) $(KIT_OUT)/yezdopin_$(ARCH).calls
 	$(take_calls)
@@ -71,7 +70,7 @@ $(KIT_OUT)/ring_c.v3.a: $(BUILT_V3) $(KIT_OUT)/yezdopin_x86_64_v3.calls
 	    --keep-global-symbols=$(KIT_OUT)/yezdopin_x86_64_v3.calls $(BUILT_V3) $@
 
 # What the library takes of each: of that for x86-64-v3 only what dispatch.c calls.
-$(KIT_OUT)/yezdopin_x86_64_v2.calls: $(KIT_OUT)/v2.renamed $(OUT)/names
+$(KIT_OUT)/yezdopin_x86_64_v2.calls: $(KIT_OUT)/v2.renamed $(KIT_OUT)/names
 	awk 'NR == FNR { name[$$1] = $$2; next } { print $$1 in name ? name[$$1] : $$1 }' $^ >$@
 $(KIT_OUT)/yezdopin_x86_64_v3.calls: $(KIT_OUT)/v3.renamed
 	awk '{ print $$2 }' $< >$@
@@ -80,16 +79,22 @@ $(KIT_OUT)/yezdopin_x86_64_v2.o $(KIT_OUT)/yezdopin_x86_64_v3.o: \
 	$(take_calls)
 endif
 
+# The crate's calls: those of the header without what status.c has.
+$(KIT_OUT)/names: $(OUT)/status.o $(OUT)/names
+	mkdir -p $(@D)
+	$(NM) -g --defined-only $< | awk '{ print $$3 }' | grep -vxFf - $(OUT)/names >$@
+
 # $(take_calls): one object of what some calls of a build reach.
 define take_calls
 	$(LD) -r --gc-sections $$(sed 's/^/--undefined=/' $(@:.o=.calls)) -o $@ --whole-archive $<
 endef
 
 # The library as the kit's own builds make it.
-$(KIT_ARCHIVE): $(if $(BUILT_V3),$(OUT)/dispatch.o) $(KIT_PARTS) $(OUT)/names
+$(KIT_ARCHIVE): $(if $(BUILT_V3),$(OUT)/dispatch.o) $(OUT)/status.o $(KIT_PARTS) $(KIT_OUT)/names \
+    $(OUT)/names
 	mkdir -p $(@D)
 	$(NM) -g --defined-only $(BUILT) | awk '$$2 == "T" && $$3 !~ /_wide$$/ { print $$3 }' | sort \
-	    | diff $(OUT)/names -
+	    | diff $(KIT_OUT)/names -
 	$(call archive,$(filter %.o,$^) --whole-archive $(filter %.a,$^))
 
 # The head of each text. It has the crates as the last commit has them.
@@ -130,12 +135,18 @@ builds-agree: $(BUILT)
 	! $(has_avx2) || $(OUT)/builds
 
 # The planted crate stands outside of crates/, since its bodies are proved and leak all the same. It
-# is proved and built in a copy outside of the repository, over what was kept of the crates below.
+# is proved and built in a copy outside of the repository, over links to the libraries below, of
+# which `rt` replaces files and changes none.
 $(PLANTED): $(BUILT) test/planted.rattle
 	$(need_kit)
 	mkdir -p $(OUT)
 	room=$$(mktemp -d) && trap 'rm -rf "$$room"' EXIT && mkdir -p "$$room/crates/plant/src" && \
-	cp -a ../crates/ring_core ../crates/ring "$$room/crates" && cp ../HANDLES "$$room" && \
+	for crate in ring_core ring; do \
+	    (cd ../crates/$$crate && mkdir -p "$$room/crates/$$crate/out" && \
+	    cp -R src specs proofs "$$room/crates/$$crate" && \
+	    { cp -al out/rlib "$$room/crates/$$crate/out" 2>/dev/null || \
+	    cp -a out/rlib "$$room/crates/$$crate/out"; }) || exit 1; \
+	done && cp ../HANDLES "$$room" && \
 	cp test/planted.rattle "$$room/crates/plant/src/lib.rt" && \
 	printf '%s\n' 'ring_core:' 'ring: ring_core' 'plant staticlib: ring' >"$$room/crates.txt" && \
 	(cd "$$room/crates/plant" && $(RT) lib $(RT_FLAGS) >../log 2>&1 || { cat ../log; exit 1; }) && \

@@ -3,7 +3,7 @@
  *
  * Written by `make -C capi generated` from the proved crate ring_c: do not edit.
  * Kit: rattle-kit-13f logic dac8208d650f15bf
- * Git trees: ring_core 846b219ca886 ring 23314adf3981 ring_text 291804c52d5c ring_password_hash 4d5ecb8a6e37 ring_c da37826aa037
+ * Git trees: ring_core 3e5e8141998d ring 70e6fbe76ce7 ring_text f44fa7e2866b ring_password_hash fe7cd90db49a ring_c e49704d357fb
  */
 
 #if defined(__aarch64__) && defined(__ELF__)
@@ -8359,7 +8359,7 @@ ring_c.expansions.fill:
 	cmp x12, x9
 	sbcs xzr, x13, x10
 	b.cs .L24_2
-	mov w0, #0x5
+	mov w0, #0x8
 	b .L24_10
 .L24_2:
 	ldr x24, [x11, x8, lsl #3]
@@ -22424,7 +22424,7 @@ yz_digest:
 	strb w8, [sp, #64]
 	stp q1, q0, [sp]
 	cbz w9, .L109_2
-	mov w0, #0x5
+	mov w0, #0x8
 	ldp x20, x19, [sp, #224]
 	ldp x22, x21, [sp, #208]
 	ldp x29, x30, [sp, #192]
@@ -22438,7 +22438,7 @@ yz_digest:
 	add sp, sp, #0xf0
 	ret
 .L109_1:
-	mov w0, #0x3
+	mov w0, #0x4
 	ldp x20, x19, [sp, #224]
 	ldp x22, x21, [sp, #208]
 	ldp x29, x30, [sp, #192]
@@ -22536,10 +22536,10 @@ yz_digest_each:
 	and w11, w14, w11
 	cbnz x13, .L111_3
 	cmp x4, x9
-	mov w10, #0x5
+	mov w10, #0x8
 	cset w8, eq
 	and w9, w8, w11
-	mov w8, #0x3
+	mov w8, #0x4
 	csel w8, w10, w8, eq
 	tbnz w9, #0, .L111_7
 	mov w15, w8
@@ -22553,7 +22553,7 @@ yz_digest_each:
 .L111_5:
 	cbz x4, .L111_7
 .L111_6:
-	mov w15, #0x3
+	mov w15, #0x4
 	b .L111_31
 .L111_7:
 	movi v0.2d, #0x0
@@ -23081,7 +23081,7 @@ yz_digest_final:
 	ldp x29, x30, [sp], #64
 	ret
 .L113_1:
-	mov w0, #0x3
+	mov w0, #0x4
 	add sp, sp, #0x200
 	ldp x20, x19, [sp, #48]
 	ldr x28, [sp, #16]
@@ -23167,7 +23167,7 @@ yz_digest_final:
 	str w9, [sp, #196]
 	b.cs .L113_10
 .L113_9:
-	mov w0, #0x5
+	mov w0, #0x8
 	add sp, sp, #0x200
 	ldp x20, x19, [sp, #48]
 	ldr x28, [sp, #16]
@@ -23689,7 +23689,7 @@ yz_hkdf:
 	ldr x10, [x10, w8, uxtw #3]
 	cmp x10, x19
 	b.cs .L119_1
-	mov w0, #0x3
+	mov w0, #0x4
 	b .L119_3
 .L119_0:
 	mov w0, #0x1
@@ -23800,7 +23800,7 @@ yz_hkdf:
 	ldrb w8, [sp, #1088]
 	cbz w8, .L119_4
 .L119_2:
-	mov w0, #0x5
+	mov w0, #0x8
 .L119_3:
 	add sp, sp, #0x5c0
 	ldp x20, x19, [sp, #80]
@@ -23968,7 +23968,7 @@ yz_hkdf_expand:
 	ldr x10, [x10, w8, uxtw #3]
 	cmp x10, x6
 	b.cs .L121_1
-	mov w0, #0x3
+	mov w0, #0x4
 	b .L121_3
 .L121_0:
 	mov w0, #0x1
@@ -23996,7 +23996,7 @@ yz_hkdf_expand:
 	bl ring.hmac.key.Key.new_counted
 	ldurb w8, [x29, #-208]
 	cbz w8, .L121_2
-	mov w0, #0x5
+	mov w0, #0x8
 	b .L121_3
 .L121_2:
 	ldp q0, q1, [x29, #-64]
@@ -24111,7 +24111,7 @@ yz_hkdf_expand_label:
 	ldr x10, [x10, w8, uxtw #3]
 	cmp x10, x19
 	b.cs .L123_2
-	mov w0, #0x3
+	mov w0, #0x4
 	b .L123_1
 .L123_0:
 	mov w0, #0x1
@@ -24126,7 +24126,7 @@ yz_hkdf_expand_label:
 	ret
 .L123_2:
 	sub x10, x4, #0x1
-	mov w0, #0x5
+	mov w0, #0x8
 	cmp x10, #0xf8
 	b.hi .L123_1
 	cmp x6, #0xff
@@ -24155,7 +24155,7 @@ yz_hkdf_expand_label:
 	bl ring.hmac.key.Key.new_counted
 	ldurb w8, [x29, #-240]
 	cbz w8, .L123_3
-	mov w0, #0x5
+	mov w0, #0x8
 	b .L123_1
 .L123_3:
 	ldp q0, q1, [x29, #-96]
@@ -24359,13 +24359,13 @@ yz_hkdf_extract:
 	stp q1, q0, [x29, #-192]
 	cbz w9, .L125_4
 .L125_0:
-	mov w0, #0x5
+	mov w0, #0x8
 	b .L125_3
 .L125_1:
 	mov w0, #0x1
 	b .L125_3
 .L125_2:
-	mov w0, #0x3
+	mov w0, #0x4
 .L125_3:
 	add sp, sp, #0x260
 	ldp x20, x19, [sp, #64]
@@ -24484,7 +24484,7 @@ yz_hmac_final:
 	ldp x29, x30, [sp], #96
 	ret
 .L127_4:
-	mov w0, #0x3
+	mov w0, #0x4
 	b .L127_3
 .L127_5:
 	cmp w10, #0x1
@@ -24592,7 +24592,7 @@ yz_hmac_final:
 	strb w20, [sp, #504]
 	b.cs .L127_18
 .L127_17:
-	mov w0, #0x5
+	mov w0, #0x8
 	b .L127_3
 .L127_18:
 	movi v0.2d, #0x0
@@ -24834,7 +24834,7 @@ yz_hmac_key_init:
 	bl ring.hmac.key.Key.new_counted
 	ldrb w8, [sp, #32]
 	cbz w8, .L130_1
-	mov w0, #0x5
+	mov w0, #0x8
 	ldp x20, x19, [sp, #272]
 	ldp x28, x21, [sp, #256]
 	ldp x29, x30, [sp, #240]
@@ -25048,7 +25048,7 @@ yz_hmac_key_sign:
 	sturb w8, [x29, #-128]
 	stp q1, q0, [x29, #-192]
 	cbz w9, .L132_8
-	mov w0, #0x5
+	mov w0, #0x8
 .L132_6:
 	add sp, sp, #0x1e0
 	ldp x20, x19, [sp, #48]
@@ -25057,7 +25057,7 @@ yz_hmac_key_sign:
 	ldp x29, x30, [sp], #64
 	ret
 .L132_7:
-	mov w0, #0x3
+	mov w0, #0x4
 	add sp, sp, #0x1e0
 	ldp x20, x19, [sp, #48]
 	ldr x28, [sp, #16]
@@ -25212,7 +25212,7 @@ yz_hmac_key_verify:
 	bl ring.hmac.sign_counted
 	ldurb w8, [x29, #-160]
 	cbz w8, .L134_7
-	mov w0, #0x5
+	mov w0, #0x8
 .L134_6:
 	add sp, sp, #0x1e0
 	ldp x20, x19, [sp, #32]
@@ -25241,7 +25241,7 @@ yz_hmac_key_verify:
 	mov x8, xzr
 	b .L134_14
 .L134_8:
-	mov w0, #0x5
+	mov w0, #0x8
 	add sp, sp, #0x1e0
 	ldp x20, x19, [sp, #32]
 	ldp x28, x21, [sp, #16]
@@ -25324,7 +25324,7 @@ yz_hmac_key_verify:
 	b.ne .L134_15
 .L134_16:
 	tst w9, #0xff
-	mov w8, #0x5
+	mov w8, #0x8
 	csel w0, wzr, w8, eq
 	add sp, sp, #0x1e0
 	ldp x20, x19, [sp, #32]
@@ -25442,13 +25442,13 @@ yz_hmac_sign:
 	stp q1, q0, [x29, #-192]
 	cbz w9, .L136_4
 .L136_0:
-	mov w0, #0x5
+	mov w0, #0x8
 	b .L136_3
 .L136_1:
 	mov w0, #0x1
 	b .L136_3
 .L136_2:
-	mov w0, #0x3
+	mov w0, #0x4
 .L136_3:
 	add sp, sp, #0x260
 	ldp x20, x19, [sp, #64]
@@ -25741,7 +25741,7 @@ yz_hmac_verify:
 	mov w0, #0x1
 	b .L140_2
 .L140_1:
-	mov w0, #0x5
+	mov w0, #0x8
 .L140_2:
 	add sp, sp, #0x260
 	ldp x20, x19, [sp, #64]
@@ -25827,7 +25827,7 @@ yz_hmac_verify:
 	b.ne .L140_9
 .L140_10:
 	tst w10, #0xff
-	mov w8, #0x5
+	mov w8, #0x8
 	csel w0, wzr, w8, eq
 	b .L140_2
 	.size yz_hmac_verify, 776
@@ -25949,7 +25949,7 @@ yz_password_hash_new:
 	mov w0, #0x1
 	b .L144_10
 .L144_2:
-	mov w0, #0x4
+	mov w0, #0x3
 	b .L144_10
 .L144_3:
 	mov w26, #0xf
@@ -26021,10 +26021,10 @@ yz_password_hash_new:
 	cmp w8, #0x1
 	b.ne .L144_11
 .L144_8:
-	mov w0, #0x8
+	mov w0, #0x7
 	b .L144_10
 .L144_9:
-	mov w0, #0x3
+	mov w0, #0x4
 .L144_10:
 	add sp, sp, #0x4a0
 	ldp x20, x19, [sp, #80]
@@ -26055,7 +26055,7 @@ yz_password_hash_new:
 	bl ring.pbkdf2.derive_in.128
 	and w8, w0, #0xff
 	tbz w8, #0, .L144_12
-	mov w0, #0x5
+	mov w0, #0x8
 	b .L144_10
 .L144_12:
 	adrp x8, .Lswitch.table.yz_password_hash_verify.181
@@ -26095,37 +26095,38 @@ yz_password_hash_verify:
 	stp x24, x23, [sp, #48]
 	stp x22, x21, [sp, #64]
 	stp x20, x19, [sp, #80]
-	sub sp, sp, #0x8b0
+	sub sp, sp, #0x8d0
 	mov w8, #0x1000
 	cmp x0, #0x0
 	str xzr, [sp]
-	csel x28, x8, xzr, eq
+	csel x19, x8, xzr, eq
 	cmp x2, #0x0
 	csel x8, x8, xzr, eq
 	cmp x1, #0x400
 	b.ls .L146_0
-	mov w0, #0x3
+	mov w0, #0x4
 	b .L146_11
 .L146_0:
+	movi v0.2d, #0x0
 	mov x20, x1
 	mov x21, x0
-	stp x8, x2, [sp, #16]
-	add x0, sp, #0x438
+	stp x8, x2, [sp, #8]
+	add x0, sp, #0x458
 	mov w1, wzr
 	mov w2, #0x400
-	str w4, [sp, #40]
-	sub x19, x29, #0x50
-	str x3, [sp, #32]
+	str w4, [sp, #36]
+	str x3, [sp, #24]
+	stp q0, q0, [sp, #48]
 	bl memset
-	add x0, sp, #0x38
+	add x0, sp, #0x58
 	mov w1, wzr
 	mov w2, #0x400
 	bl memset
-	mov x23, xzr
+	mov x28, xzr
 	b .L146_2
 .L146_1:
-	add x23, x23, #0x1
-	cmp x23, #0xa
+	add x28, x28, #0x1
+	cmp x28, #0xa
 	b.eq .L146_10
 .L146_2:
 	adrp x8, .L154_18
@@ -26134,16 +26135,16 @@ yz_password_hash_verify:
 	ldr d0, [x8, :lo12:.L154_18]
 	sturh w9, [x29, #-112]
 	sub x8, x29, #0x78
-	add x1, x21, x28
+	add x1, x21, x19
 	mov x2, x20
 	stur d0, [x29, #-120]
-	ldrb w26, [x8, x23]
+	ldrb w23, [x8, x28]
 	adrp x8, .Lswitch.table.yz_password_hash_verify
 	add x8, x8, :lo12:.Lswitch.table.yz_password_hash_verify
-	ldr x4, [x8, w26, uxtw #3]
+	ldr x4, [x8, w23, uxtw #3]
 	adrp x8, .Lswitch.table.yz_password_hash_verify.178.rel
 	add x8, x8, :lo12:.Lswitch.table.yz_password_hash_verify.178.rel
-	ldrsw x9, [x8, w26, uxtw #2]
+	ldrsw x9, [x8, w23, uxtw #2]
 	add x3, x8, x9
 	bl ring_text.cut.after
 	ldurb w8, [x29, #-104]
@@ -26151,7 +26152,7 @@ yz_password_hash_verify:
 	b.ne .L146_1
 	movi v0.2d, #0x0
 	ldp x22, x24, [x29, #-96]
-	and w25, w26, #0xfe
+	and w25, w23, #0xfe
 	adrp x8, .Lstatic.3
 	add x8, x8, :lo12:.Lstatic.3
 	adrp x9, .Lstatic.14
@@ -26163,7 +26164,7 @@ yz_password_hash_verify:
 	csel x4, x10, xzr, eq
 	csel x3, x9, x8, eq
 	mov x2, x24
-	stp q0, q0, [x19, #32]
+	stp q0, q0, [x29, #-48]
 	bl ring_text.cut.after
 	ldurb w8, [x29, #-80]
 	cmp w8, #0x1
@@ -26175,13 +26176,12 @@ yz_password_hash_verify:
 	ldurb w8, [x29, #-48]
 	cmp w8, #0x1
 	b.ne .L146_5
-	ldur w8, [x29, #-40]
-	ldp x24, x25, [x29, #-32]
-	str w8, [sp, #44]
 	adrp x8, .Lswitch.table.yz_password_hash_verify.179
 	add x8, x8, :lo12:.Lswitch.table.yz_password_hash_verify.179
-	ldr x8, [x8, w26, uxtw #3]
-	str x8, [sp, #48]
+	ldur w22, [x29, #-40]
+	ldp x24, x25, [x29, #-32]
+	ldr x8, [x8, w23, uxtw #3]
+	str x8, [sp, #40]
 .L146_3:
 	mov w0, #0x24
 	mov x1, x24
@@ -26193,22 +26193,22 @@ yz_password_hash_verify:
 	adrp x8, .Lswitch.table.yz_password_hash_verify.180
 	add x8, x8, :lo12:.Lswitch.table.yz_password_hash_verify.180
 	mov x27, x1
-	ldrb w0, [x8, w26, uxtw]
-	add x3, sp, #0x438
+	ldrb w0, [x8, w23, uxtw]
+	add x3, sp, #0x458
 	mov x1, x24
 	mov x2, x27
 	bl ring_password_hash.decoded.decode_into
 	and w8, w0, #0xff
 	cmp w8, #0x1
 	b.ne .L146_1
-	mov x22, x1
+	mov x26, x1
 	cbz x1, .L146_1
-	sub w8, w26, #0x4
+	sub w8, w23, #0x4
 	cmp w8, #0x6
 	b.cc .L146_4
-	add x1, sp, #0x438
+	add x1, sp, #0x458
 	mov w0, #0x24
-	mov x2, x22
+	mov x2, x26
 	bl memchr.bytes.memchr
 	and w8, w0, #0xff
 	cmp w8, #0x1
@@ -26217,13 +26217,13 @@ yz_password_hash_verify:
 	adrp x9, .Lswitch.table.yz_password_hash_verify.181
 	add x9, x9, :lo12:.Lswitch.table.yz_password_hash_verify.181
 	add x8, x27, #0x1
-	ldrb w0, [x9, w26, uxtw]
+	ldrb w0, [x9, w23, uxtw]
 	sub x2, x25, x8
 	add x1, x24, x8
-	add x3, sp, #0x38
+	add x3, sp, #0x58
 	bl ring_password_hash.decoded.decode_into
 	tbz w0, #0, .L146_1
-	ldr x8, [sp, #48]
+	ldr x8, [sp, #40]
 	cmp x1, x8
 	b.ne .L146_1
 	b .L146_12
@@ -26232,7 +26232,7 @@ yz_password_hash_verify:
 	b.ne .L146_1
 	movi v0.2d, #0x0
 	cmp x24, #0x1
-	stp q0, q0, [x19]
+	stp q0, q0, [x29, #-80]
 	b.ls .L146_1
 	ldrb w8, [x22]
 	cmp w8, #0x69
@@ -26252,13 +26252,13 @@ yz_password_hash_verify:
 	ldp x8, x9, [x29, #-64]
 	ldur w25, [x29, #-72]
 	subs x2, x9, #0x2
-	stp q0, q0, [x19, #32]
+	stp q0, q0, [x29, #-48]
 	b.cs .L146_8
 .L146_6:
 	movi v0.2d, #0x0
 .L146_7:
 	ldrb w8, [x22]
-	stp q0, q0, [x19]
+	stp q0, q0, [x29, #-80]
 	cmp w8, #0x6c
 	b.ne .L146_1
 	ldrb w8, [x22, #1]
@@ -26276,7 +26276,7 @@ yz_password_hash_verify:
 	ldp x8, x9, [x29, #-64]
 	ldur w22, [x29, #-72]
 	subs x2, x9, #0x2
-	stp q0, q0, [x19, #32]
+	stp q0, q0, [x29, #-48]
 	b.cc .L146_1
 	ldrb w9, [x8]
 	cmp w9, #0x69
@@ -26294,8 +26294,8 @@ yz_password_hash_verify:
 	sub x8, x22, #0xa
 	cmp x8, #0x37
 	b.cs .L146_1
-	ldur w8, [x29, #-40]
-	str w8, [sp, #44]
+	str x22, [sp, #40]
+	ldur w22, [x29, #-40]
 	b .L146_9
 .L146_8:
 	ldrb w9, [x8]
@@ -26311,19 +26311,19 @@ yz_password_hash_verify:
 	ldurb w8, [x29, #-48]
 	cmp w8, #0x1
 	b.ne .L146_6
-	ldur w22, [x29, #-40]
-	sub x8, x22, #0xa
+	ldur w9, [x29, #-40]
+	sub x8, x9, #0xa
 	cmp x8, #0x37
 	b.cs .L146_1
-	str w25, [sp, #44]
+	mov w22, w25
+	str x9, [sp, #40]
 .L146_9:
 	ldp x24, x25, [x29, #-32]
-	str x22, [sp, #48]
 	b .L146_3
 .L146_10:
-	mov w0, #0x6
+	mov w0, #0x5
 .L146_11:
-	add sp, sp, #0x8b0
+	add sp, sp, #0x8d0
 	ldp x20, x19, [sp, #80]
 	ldp x22, x21, [sp, #64]
 	ldp x24, x23, [sp, #48]
@@ -26332,32 +26332,30 @@ yz_password_hash_verify:
 	ldp x29, x30, [sp], #96
 	ret
 .L146_12:
-	ldp w8, w1, [sp, #40]
-	cmp w8, w1
+	ldr w8, [sp, #36]
+	cmp w8, w22
 	b.cs .L146_13
-	mov w0, #0x7
+	mov w0, #0x6
 	b .L146_11
 .L146_13:
 	adrp x8, .Lswitch.table.yz_password_hash_verify.182
 	add x8, x8, :lo12:.Lswitch.table.yz_password_hash_verify.182
-	movi v0.2d, #0x0
-	ldrb w0, [x8, w26, uxtw]
-	ldp x10, x8, [sp, #16]
-	ldr x5, [sp, #32]
-	ldr x7, [sp, #48]
-	sub x9, x29, #0x30
-	add x2, sp, #0x438
-	add x6, sp, #0x38
-	mov x3, x22
+	ldr x5, [sp, #24]
+	ldrb w0, [x8, w23, uxtw]
+	ldp x10, x8, [sp, #8]
+	ldr x7, [sp, #40]
+	add x9, sp, #0x30
+	add x2, sp, #0x458
+	add x6, sp, #0x58
+	mov w1, w22
+	mov x3, x26
 	add x4, x8, x10
-	stp q0, q0, [x19, #32]
 	str x9, [sp]
 	bl ring.pbkdf2.verify_in.128
-	mov w8, #0x5
-	tst w0, #0xff
-	csel w0, w8, wzr, ne
+	and w8, w0, #0xff
+	lsl w0, w8, #3
 	b .L146_11
-	.size yz_password_hash_verify, 1020
+	.size yz_password_hash_verify, 1012
 
 	.section .text.yz_pbkdf2_derive,"ax",%progbits
 	.p2align 2
@@ -26374,18 +26372,21 @@ yz_pbkdf2_derive:
 	csel x10, x10, xzr, eq
 	cmp w0, #0x3
 	b.hi .L148_0
+	cbz w1, .L148_1
 	adrp x11, .L184_2
 	add x11, x11, :lo12:.L184_2
 	ldr x11, [x11, w0, uxtw #3]
 	cmp x11, x7
-	b.cs .L148_1
-	mov w0, #0x3
+	b.cs .L148_2
+	mov w0, #0x4
 	ret
 .L148_0:
 	mov w0, #0x1
 	ret
 .L148_1:
-	cbz w1, .L148_2
+	mov w0, #0x3
+	ret
+.L148_2:
 	sub sp, sp, #0x40
 	movi v0.2d, #0x0
 	add x11, sp, #0x10
@@ -26398,15 +26399,11 @@ yz_pbkdf2_derive:
 	stp q0, q0, [sp, #16]
 	bl ring.pbkdf2.derive_in.128
 	ldp x29, x30, [sp, #48]
-	mov w8, #0x5
-	tst w0, #0xff
-	csel w0, w8, wzr, ne
+	and w8, w0, #0xff
+	lsl w0, w8, #3
 	add sp, sp, #0x40
 	ret
-.L148_2:
-	mov w0, #0x4
-	ret
-	.size yz_pbkdf2_derive, 156
+	.size yz_pbkdf2_derive, 152
 
 	.section .text.yz_pbkdf2_verify,"ax",%progbits
 	.p2align 2
@@ -26436,18 +26433,17 @@ yz_pbkdf2_verify:
 	stp q0, q0, [sp, #16]
 	bl ring.pbkdf2.verify_in.128
 	ldp x29, x30, [sp, #48]
-	mov w8, #0x5
-	tst w0, #0xff
-	csel w0, w8, wzr, ne
+	and w8, w0, #0xff
+	lsl w0, w8, #3
 	add sp, sp, #0x40
 	ret
 .L150_0:
 	mov w0, #0x1
 	ret
 .L150_1:
-	mov w0, #0x4
+	mov w0, #0x3
 	ret
-	.size yz_pbkdf2_verify, 128
+	.size yz_pbkdf2_verify, 124
 
 	.section .text.yz_version,"ax",%progbits
 	.p2align 2

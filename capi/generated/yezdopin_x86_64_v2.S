@@ -3,7 +3,7 @@
  *
  * Written by `make -C capi generated` from the proved crate ring_c: do not edit.
  * Kit: rattle-kit-13f logic dac8208d650f15bf
- * Git trees: ring_core 846b219ca886 ring 23314adf3981 ring_text 291804c52d5c ring_password_hash 4d5ecb8a6e37 ring_c da37826aa037
+ * Git trees: ring_core 3e5e8141998d ring 70e6fbe76ce7 ring_text f44fa7e2866b ring_password_hash fe7cd90db49a ring_c e49704d357fb
  */
 
 #if defined(__x86_64__) && defined(__LP64__) && defined(__ELF__)
@@ -10392,7 +10392,7 @@ ring_c.expansions.fill:
 	cmova %rdi,%r8
 	sub %r8,%r11
 	sbb $0x0,%r9
-	mov $0x5,%eax
+	mov $0x8,%eax
 	cmp %rcx,%r11
 	sbb %rdx,%r9
 	jb .L25_9
@@ -27891,7 +27891,7 @@ v2_yz_digest:
 	ja .L111_0
 	mov %edi,%r11d
 	lea .Lswitch.table.yz_output_len(%rip),%r14
-	mov $0x3,%eax
+	mov $0x4,%eax
 	cmp (%r14,%r11,8),%r8
 	jne .L111_0
 	mov %r10b,%r9b
@@ -27927,7 +27927,7 @@ v2_yz_digest:
 	movzbl 0x41(%rsp),%eax
 	mov %al,0x90(%rsp)
 	cmpb $0x0,(%rsp)
-	mov $0x5,%eax
+	mov $0x8,%eax
 	jne .L111_0
 	mov %r15,%rdi
 	mov %bpl,%bl
@@ -28038,10 +28038,10 @@ v2_yz_digest_each:
 	test %cl,%dl
 	jne .L113_10
 	mov %dl,%al
-	lea 0x3(,%rax,2),%eax
+	lea 0x4(,%rax,4),%eax
 	jmp .L113_39
 .L113_7:
-	mov $0x3,%eax
+	mov $0x4,%eax
 	jmp .L113_39
 .L113_8:
 	mov $0x20,%eax
@@ -28054,7 +28054,7 @@ v2_yz_digest_each:
 	test %rdi,%rdi
 	jne .L113_5
 .L113_9:
-	mov $0x3,%eax
+	mov $0x4,%eax
 	test %r8,%r8
 	jne .L113_39
 .L113_10:
@@ -28650,7 +28650,7 @@ v2_yz_digest_final:
 	cmp %rdx,(%rbx,%r11,8)
 	jbe .L115_10
 	lea .Lswitch.table.yz_output_len(%rip),%r13
-	mov $0x3,%eax
+	mov $0x4,%eax
 	cmp 0x0(%r13,%r11,8),%rcx
 	jne .L115_10
 	movaps %xmm0,0xf0(%rsp)
@@ -28747,7 +28747,7 @@ v2_yz_digest_final:
 	sbb %r8,%rax
 	jae .L115_9
 .L115_8:
-	mov $0x5,%eax
+	mov $0x8,%eax
 	jmp .L115_10
 .L115_9:
 	mov %r10b,%r9b
@@ -29243,7 +29243,7 @@ v2_yz_hkdf:
 	mov 0x620(%rsp),%r14
 	mov %esi,%r13d
 	lea .Lswitch.table.yz_hkdf_expand_label(%rip),%rbx
-	mov $0x3,%eax
+	mov $0x4,%eax
 	cmp %r14,(%rbx,%r13,8)
 	mov %r15d,%r13d
 	mov $0x0,%r15d
@@ -29315,7 +29315,7 @@ v2_yz_hkdf:
 	cmpb $0x0,0x40(%rsp)
 	je .L122_2
 .L122_0:
-	mov $0x5,%eax
+	mov $0x8,%eax
 .L122_1:
 	add $0x5d8,%rsp
 	pop %rbx
@@ -29431,7 +29431,7 @@ v2_yz_hkdf_expand:
 	mov 0x210(%rsp),%r10
 	mov %esi,%ebx
 	lea .Lswitch.table.yz_hkdf_expand_label(%rip),%r13
-	mov $0x3,%eax
+	mov $0x4,%eax
 	cmp %r10,0x0(%r13,%rbx,8)
 	jb .L124_1
 	mov %rdx,%r10
@@ -29464,7 +29464,7 @@ v2_yz_hkdf_expand:
 	call ring.hmac.key.Key.new_counted
 	cmpb $0x0,0x30(%rsp)
 	je .L124_0
-	mov $0x5,%eax
+	mov $0x8,%eax
 	jmp .L124_1
 .L124_0:
 	mov %r12b,%r14b
@@ -29542,7 +29542,7 @@ v2_yz_hkdf_expand_label:
 	mov 0x270(%rsp),%r15
 	mov %edi,%r14d
 	lea .Lswitch.table.yz_hkdf_expand_label(%rip),%rbp
-	mov $0x3,%eax
+	mov $0x4,%eax
 	cmp %r15,0x0(%rbp,%r14,8)
 	jb .L126_1
 	mov 0x260(%rsp),%r15
@@ -29551,7 +29551,7 @@ v2_yz_hkdf_expand_label:
 	setae %bpl
 	cmp $0x100,%r15
 	setae %r14b
-	mov $0x5,%eax
+	mov $0x8,%eax
 	or %bpl,%r14b
 	jne .L126_1
 	mov %rcx,0x8(%rsp)
@@ -29583,7 +29583,7 @@ v2_yz_hkdf_expand_label:
 	call ring.hmac.key.Key.new_counted
 	cmpb $0x0,0x80(%rsp)
 	je .L126_0
-	mov $0x5,%eax
+	mov $0x8,%eax
 	jmp .L126_1
 .L126_0:
 	movzbl 0x1(%rsp),%eax
@@ -29685,7 +29685,7 @@ v2_yz_hkdf_extract:
 	mov 0x2b0(%rsp),%rbx
 	mov %edi,%ebp
 	lea .Lswitch.table.yz_pbkdf2_verify_wide.185(%rip),%r14
-	mov $0x3,%eax
+	mov $0x4,%eax
 	cmp (%r14,%rbp,8),%rbx
 	jne .L128_0
 	mov %r11b,%r10b
@@ -29726,7 +29726,7 @@ v2_yz_hkdf_extract:
 	mov $0xc0,%edx
 	lea 0xe0(%rsp),%rsi
 	call memcpy
-	mov $0x5,%eax
+	mov $0x8,%eax
 	test %r14b,%r14b
 	jne .L128_0
 	mov %rbx,%r8
@@ -29764,7 +29764,7 @@ v2_yz_hkdf_extract:
 	movzbl 0x51(%rsp),%eax
 	mov %al,0xa0(%rsp)
 	cmpb $0x0,0x10(%rsp)
-	mov $0x5,%eax
+	mov $0x8,%eax
 	jne .L128_0
 	movzbl 0xf(%rsp),%eax
 	mov %al,%r12b
@@ -29837,7 +29837,7 @@ v2_yz_hmac_final:
 	jbe .L130_15
 	movzbl %r11b,%r15d
 	lea .Lswitch.table.yz_output_len(%rip),%r12
-	mov $0x3,%eax
+	mov $0x4,%eax
 	cmp (%r12,%r15,8),%r14
 	jne .L130_15
 	movaps %xmm0,0x2a0(%rsp)
@@ -29975,7 +29975,7 @@ v2_yz_hmac_final:
 	sbb %r8,%rax
 	jae .L130_16
 .L130_14:
-	mov $0x5,%eax
+	mov $0x8,%eax
 .L130_15:
 	add $0x348,%rsp
 	pop %rbx
@@ -30275,7 +30275,7 @@ v2_yz_hmac_key_init:
 	mov %r9d,%esi
 	call ring.hmac.key.Key.new_counted
 	cmpb $0x0,0x20(%rsp)
-	mov $0x5,%eax
+	mov $0x8,%eax
 	jne .L134_4
 	mov 0x48(%rsp),%rcx
 	mov 0x50(%rsp),%rdi
@@ -30501,7 +30501,7 @@ v2_yz_hmac_key_sign:
 	movl $0x0,0x1bc(%rsp)
 	movzbl %al,%edi
 	lea .Lswitch.table.yz_output_len(%rip),%r14
-	mov $0x3,%eax
+	mov $0x4,%eax
 	cmp (%r14,%rdi,8),%r8
 	jne .L136_9
 	mov %rcx,%r15
@@ -30532,7 +30532,7 @@ v2_yz_hmac_key_sign:
 	movzbl 0x41(%rsp),%eax
 	mov %al,0xf0(%rsp)
 	cmpb $0x0,(%rsp)
-	mov $0x5,%eax
+	mov $0x8,%eax
 	jne .L136_9
 	mov %bpl,%bl
 	shl $0xc,%ebx
@@ -30697,7 +30697,7 @@ v2_yz_hmac_key_verify:
 	lea 0x100(%rsp),%rsi
 	lea 0x1c0(%rsp),%r8
 	call ring.hmac.sign_counted
-	mov $0x5,%eax
+	mov $0x8,%eax
 	cmpb $0x0,0x60(%rsp)
 	jne .L138_17
 	movdqu 0x61(%rsp),%xmm0
@@ -30802,7 +30802,7 @@ v2_yz_hmac_key_verify:
 	xor %eax,%eax
 	test %dl,%dl
 	setne %al
-	lea (%rax,%rax,4),%eax
+	shl $0x3,%eax
 .L138_17:
 	add $0x1e8,%rsp
 	pop %rbx
@@ -30840,7 +30840,7 @@ v2_yz_hmac_sign:
 	mov 0x2b0(%rsp),%rbx
 	mov %edi,%ebp
 	lea .Lswitch.table.yz_pbkdf2_verify_wide.185(%rip),%r14
-	mov $0x3,%eax
+	mov $0x4,%eax
 	cmp (%r14,%rbp,8),%rbx
 	jne .L140_0
 	mov %r11b,%r10b
@@ -30881,7 +30881,7 @@ v2_yz_hmac_sign:
 	mov $0xc0,%edx
 	lea 0xe0(%rsp),%rsi
 	call memcpy
-	mov $0x5,%eax
+	mov $0x8,%eax
 	test %r14b,%r14b
 	jne .L140_0
 	mov %rbx,%r8
@@ -30919,7 +30919,7 @@ v2_yz_hmac_sign:
 	movzbl 0x51(%rsp),%eax
 	mov %al,0xa0(%rsp)
 	cmpb $0x0,0x10(%rsp)
-	mov $0x5,%eax
+	mov $0x8,%eax
 	jne .L140_0
 	movzbl 0xf(%rsp),%eax
 	mov %al,%r12b
@@ -31173,7 +31173,7 @@ v2_yz_hmac_verify:
 	mov $0xc0,%edx
 	mov %r13,%rsi
 	call memcpy
-	mov $0x5,%eax
+	mov $0x8,%eax
 	test %r12b,%r12b
 	mov $0x0,%r12d
 	jne .L144_8
@@ -31199,7 +31199,7 @@ v2_yz_hmac_verify:
 	mov %r15,%rdx
 	mov 0x8(%rsp),%rcx
 	call ring.hmac.sign_counted
-	mov $0x5,%eax
+	mov $0x8,%eax
 	cmpb $0x0,0x10(%rsp)
 	jne .L144_8
 	mov 0x2b0(%rsp),%rcx
@@ -31302,7 +31302,7 @@ v2_yz_hmac_verify:
 	xor %eax,%eax
 	test %sil,%sil
 	setne %al
-	lea (%rax,%rax,4),%eax
+	shl $0x3,%eax
 .L144_8:
 	add $0x278,%rsp
 	pop %rbx
@@ -31386,7 +31386,7 @@ yz_password_hash_new:
 	lea .Lstatic.12(%rip),%rax
 	jmp .L148_3
 .L148_1:
-	mov $0x4,%eax
+	mov $0x3,%eax
 	jmp .L148_17
 .L148_2:
 	lea .Lstatic.13(%rip),%rax
@@ -31517,10 +31517,10 @@ yz_password_hash_new:
 	cmp $0x1,%al
 	jne .L148_18
 .L148_15:
-	mov $0x8,%eax
+	mov $0x7,%eax
 	jmp .L148_17
 .L148_16:
-	mov $0x3,%eax
+	mov $0x4,%eax
 .L148_17:
 	add $0x4a8,%rsp
 	pop %rbx
@@ -31558,7 +31558,7 @@ yz_password_hash_new:
 	call ring.pbkdf2.derive_in.128
 	test %al,%al
 	je .L148_19
-	mov $0x5,%eax
+	mov $0x8,%eax
 	jmp .L148_17
 .L148_19:
 	lea .Lswitch.table.yz_password_hash_verify.182(%rip),%rax
@@ -31598,7 +31598,7 @@ yz_password_hash_verify:
 	push %r13
 	push %r12
 	push %rbx
-	sub $0x8b8,%rsp
+	sub $0x8e8,%rsp
 	mov %rdi,%r15
 	xor %edi,%edi
 	test %r15,%r15
@@ -31606,52 +31606,55 @@ yz_password_hash_verify:
 	xor %r11d,%r11d
 	test %rdx,%rdx
 	sete %r9b
-	mov $0x3,%eax
-	mov %rsi,0x98(%rsp)
+	mov $0x4,%eax
+	mov %rsi,0xa0(%rsp)
 	cmp $0x400,%rsi
 	ja .L150_10
-	mov %r8d,0x6c(%rsp)
-	mov %rcx,0x90(%rsp)
+	mov %r8d,0x74(%rsp)
+	mov %rcx,0x98(%rsp)
 	mov %r10b,%dil
 	shl $0xc,%edi
 	add %rdi,%r15
 	mov %r9b,%r11b
 	shl $0xc,%r11d
 	add %r11,%rdx
-	mov %rdx,0x88(%rsp)
-	lea 0xb8(%rsp),%rdi
+	mov %rdx,0x90(%rsp)
+	xorps %xmm0,%xmm0
+	movaps %xmm0,0xd0(%rsp)
+	movaps %xmm0,0xc0(%rsp)
+	lea 0xe8(%rsp),%rdi
 	xor %r12d,%r12d
 	mov $0x400,%edx
 	xor %esi,%esi
 	call memset
-	lea 0x4b8(%rsp),%rdi
+	lea 0x4e8(%rsp),%rdi
 	mov $0x400,%edx
 	xor %esi,%esi
 	call memset
 	jmp .L150_1
-	.byte 0x66, 0x2e, 0x0f, 0x1f, 0x84, 0x00, 0x00, 0x00, 0x00, 0x00 /* cs nopw 0x0(%rax,%rax,1) */
+	{disp32} nopl 0x0(%rax)
 .L150_0:
 	inc %r12
 	cmp $0xa,%r12
 	je .L150_9
 .L150_1:
 	movabs $0x706050403020100,%rax
-	mov %rax,0x70(%rsp)
-	movw $0x908,0x78(%rsp)
-	movzbl 0x70(%rsp,%r12,1),%r14d
+	mov %rax,0x78(%rsp)
+	movw $0x908,0x80(%rsp)
+	movzbl 0x78(%rsp,%r12,1),%r14d
 	lea .Lswitch.table.yz_password_hash_verify(%rip),%rax
 	mov (%rax,%r14,8),%r8
 	lea .Lswitch.table.yz_password_hash_verify.179.rel(%rip),%rax
 	movslq (%rax,%r14,4),%rcx
 	add %rax,%rcx
-	lea 0xa0(%rsp),%rdi
+	lea 0xa8(%rsp),%rdi
 	mov %r15,%rsi
-	mov 0x98(%rsp),%rdx
+	mov 0xa0(%rsp),%rdx
 	call ring_text.cut.after
-	cmpb $0x1,0xa0(%rsp)
+	cmpb $0x1,0xa8(%rsp)
 	jne .L150_0
-	mov 0xa8(%rsp),%r13
-	mov 0xb0(%rsp),%rbx
+	mov 0xb0(%rsp),%r13
+	mov 0xb8(%rsp),%rbx
 	mov %r14d,%ebp
 	and $0xfe,%bpl
 	xor %r8d,%r8d
@@ -31662,29 +31665,29 @@ yz_password_hash_verify:
 	cmove %rax,%rcx
 	add %r8d,%r8d
 	xorps %xmm0,%xmm0
-	movaps %xmm0,0x20(%rsp)
-	movaps %xmm0,0x30(%rsp)
-	lea 0x40(%rsp),%rdi
+	movaps %xmm0,0x40(%rsp)
+	movaps %xmm0,0x50(%rsp)
+	lea 0x20(%rsp),%rdi
 	mov %r13,%rsi
 	mov %rbx,%rdx
 	call ring_text.cut.after
-	cmpb $0x1,0x40(%rsp)
-	jne .L150_4
-	mov 0x48(%rsp),%rsi
-	mov 0x50(%rsp),%rdx
-	lea 0x20(%rsp),%rdi
-	mov $0x24,%ecx
-	call ring_text.count.count_before
 	cmpb $0x1,0x20(%rsp)
 	jne .L150_4
-	mov 0x28(%rsp),%eax
+	mov 0x28(%rsp),%rsi
+	mov 0x30(%rsp),%rdx
+	lea 0x40(%rsp),%rdi
+	mov $0x24,%ecx
+	call ring_text.count.count_before
+	cmpb $0x1,0x40(%rsp)
+	jne .L150_4
+	mov 0x48(%rsp),%eax
 	mov %eax,0x1c(%rsp)
-	mov 0x30(%rsp),%r13
-	mov 0x38(%rsp),%rbx
+	mov 0x50(%rsp),%r13
+	mov 0x58(%rsp),%rbx
 	lea .Lswitch.table.yz_password_hash_verify.180(%rip),%rax
 	mov (%rax,%r14,8),%rax
 .L150_2:
-	mov %rax,0x60(%rsp)
+	mov %rax,0x68(%rsp)
 	mov $0x24,%edi
 	mov %r13,%rsi
 	mov %rbx,%rdx
@@ -31694,7 +31697,7 @@ yz_password_hash_verify:
 	mov %rdx,%rbp
 	lea .Lswitch.table.yz_password_hash_verify.181(%rip),%rax
 	movzbl (%r14,%rax,1),%edi
-	lea 0xb8(%rsp),%rcx
+	lea 0xe8(%rsp),%rcx
 	mov %r13,%rsi
 	call ring_password_hash.decoded.decode_into
 	cmp $0x1,%al
@@ -31707,12 +31710,12 @@ yz_password_hash_verify:
 	lea -0x4(%r14),%eax
 	cmp $0x6,%al
 	jb .L150_3
-	lea 0xb8(%rsp),%rsi
+	lea 0xe8(%rsp),%rsi
 	mov $0x24,%edi
 	mov %r8,%rdx
-	mov %r8,0x80(%rsp)
+	mov %r8,0x88(%rsp)
 	call memchr.bytes.memchr
-	mov 0x80(%rsp),%r8
+	mov 0x88(%rsp),%r8
 	cmp $0x1,%al
 	je .L150_0
 .L150_3:
@@ -31722,23 +31725,23 @@ yz_password_hash_verify:
 	sub %rbp,%rbx
 	lea .Lswitch.table.yz_password_hash_verify.182(%rip),%rax
 	movzbl (%r14,%rax,1),%edi
-	lea 0x4b8(%rsp),%r13
+	lea 0x4e8(%rsp),%r13
 	mov %rbx,%rdx
 	mov %r13,%rcx
 	mov %r8,%rbx
 	call ring_password_hash.decoded.decode_into
 	cmp $0x1,%al
 	jne .L150_0
-	cmp 0x60(%rsp),%rdx
+	cmp 0x68(%rsp),%rdx
 	jne .L150_0
 	jmp .L150_11
-	.byte 0x66, 0x2e, 0x0f, 0x1f, 0x84, 0x00, 0x00, 0x00, 0x00, 0x00 /* cs nopw 0x0(%rax,%rax,1) */
+	{disp32} nopl 0x0(%rax)
 .L150_4:
 	cmp $0x4,%bpl
 	jne .L150_0
 	xorps %xmm0,%xmm0
-	movaps %xmm0,0x50(%rsp)
-	movaps %xmm0,0x40(%rsp)
+	movaps %xmm0,0x30(%rsp)
+	movaps %xmm0,0x20(%rsp)
 	cmp $0x1,%rbx
 	jbe .L150_0
 	cmpb $0x69,0x0(%r13)
@@ -31747,43 +31750,43 @@ yz_password_hash_verify:
 	jne .L150_6
 	lea -0x2(%rbx),%rdx
 	lea 0x2(%r13),%rsi
-	lea 0x40(%rsp),%rdi
+	lea 0x20(%rsp),%rdi
 	mov $0x2c,%ecx
 	call ring_text.count.count_before
-	cmpb $0x1,0x40(%rsp)
+	cmpb $0x1,0x20(%rsp)
 	jne .L150_5
-	mov 0x48(%rsp),%ebp
-	mov 0x50(%rsp),%rsi
-	mov 0x58(%rsp),%rdx
+	mov 0x28(%rsp),%ebp
+	mov 0x30(%rsp),%rsi
+	mov 0x38(%rsp),%rdx
 	xorps %xmm0,%xmm0
-	movaps %xmm0,0x30(%rsp)
-	movaps %xmm0,0x20(%rsp)
+	movaps %xmm0,0x50(%rsp)
+	movaps %xmm0,0x40(%rsp)
 	cmp $0x2,%rdx
 	jae .L150_7
 .L150_5:
 	xorps %xmm0,%xmm0
 .L150_6:
-	movaps %xmm0,0x50(%rsp)
-	movaps %xmm0,0x40(%rsp)
+	movaps %xmm0,0x30(%rsp)
+	movaps %xmm0,0x20(%rsp)
 	cmpb $0x6c,0x0(%r13)
 	jne .L150_0
 	cmpb $0x3d,0x1(%r13)
 	jne .L150_0
 	add $0xfffffffffffffffe,%rbx
 	add $0x2,%r13
-	lea 0x40(%rsp),%rdi
+	lea 0x20(%rsp),%rdi
 	mov %r13,%rsi
 	mov %rbx,%rdx
 	mov $0x2c,%ecx
 	call ring_text.count.count_before
-	cmpb $0x1,0x40(%rsp)
+	cmpb $0x1,0x20(%rsp)
 	jne .L150_0
-	mov 0x48(%rsp),%ebp
-	mov 0x50(%rsp),%rsi
-	mov 0x58(%rsp),%rdx
+	mov 0x28(%rsp),%ebp
+	mov 0x30(%rsp),%rsi
+	mov 0x38(%rsp),%rdx
 	xorps %xmm0,%xmm0
-	movaps %xmm0,0x30(%rsp)
-	movaps %xmm0,0x20(%rsp)
+	movaps %xmm0,0x50(%rsp)
+	movaps %xmm0,0x40(%rsp)
 	cmp $0x2,%rdx
 	jb .L150_0
 	cmpb $0x69,(%rsi)
@@ -31792,15 +31795,15 @@ yz_password_hash_verify:
 	jne .L150_0
 	add $0xfffffffffffffffe,%rdx
 	add $0x2,%rsi
-	lea 0x20(%rsp),%rdi
+	lea 0x40(%rsp),%rdi
 	mov $0x24,%ecx
 	call ring_text.count.count_before
-	cmpb $0x1,0x20(%rsp)
+	cmpb $0x1,0x40(%rsp)
 	jne .L150_0
 	lea -0xa(%rbp),%eax
 	cmp $0x37,%eax
 	jae .L150_0
-	mov 0x28(%rsp),%eax
+	mov 0x48(%rsp),%eax
 	mov %eax,0x1c(%rsp)
 	jmp .L150_8
 .L150_7:
@@ -31810,25 +31813,25 @@ yz_password_hash_verify:
 	jne .L150_5
 	add $0xfffffffffffffffe,%rdx
 	add $0x2,%rsi
-	lea 0x20(%rsp),%rdi
+	lea 0x40(%rsp),%rdi
 	mov $0x24,%ecx
 	call ring_text.count.count_before
-	cmpb $0x1,0x20(%rsp)
+	cmpb $0x1,0x40(%rsp)
 	jne .L150_5
 	mov %ebp,0x1c(%rsp)
-	mov 0x28(%rsp),%ebp
+	mov 0x48(%rsp),%ebp
 	lea -0xa(%rbp),%eax
 	cmp $0x37,%eax
 	jae .L150_0
 .L150_8:
-	mov 0x30(%rsp),%r13
-	mov 0x38(%rsp),%rbx
+	mov 0x50(%rsp),%r13
+	mov 0x58(%rsp),%rbx
 	mov %ebp,%eax
 	jmp .L150_2
 .L150_9:
-	mov $0x6,%eax
+	mov $0x5,%eax
 .L150_10:
-	add $0x8b8,%rsp
+	add $0x8e8,%rsp
 	pop %rbx
 	pop %r12
 	pop %r13
@@ -31838,30 +31841,27 @@ yz_password_hash_verify:
 	ret
 .L150_11:
 	mov 0x1c(%rsp),%esi
-	cmp %esi,0x6c(%rsp)
+	cmp %esi,0x74(%rsp)
 	jae .L150_12
-	mov $0x7,%eax
+	mov $0x6,%eax
 	jmp .L150_10
 .L150_12:
 	lea .Lswitch.table.yz_password_hash_verify.183(%rip),%rax
-	xorps %xmm0,%xmm0
-	movaps %xmm0,0x30(%rsp)
-	movaps %xmm0,0x20(%rsp)
-	lea 0x20(%rsp),%rcx
+	lea 0xc0(%rsp),%rcx
 	mov %rcx,0x10(%rsp)
-	mov 0x60(%rsp),%rcx
+	mov 0x68(%rsp),%rcx
 	mov %rcx,0x8(%rsp)
 	mov %r13,(%rsp)
 	movzbl (%r14,%rax,1),%edi
-	lea 0xb8(%rsp),%rdx
+	lea 0xe8(%rsp),%rdx
 	mov %rbx,%rcx
-	mov 0x88(%rsp),%r8
-	mov 0x90(%rsp),%r9
+	mov 0x90(%rsp),%r8
+	mov 0x98(%rsp),%r9
 	call ring.pbkdf2.verify_in.128
+	shl $0x3,%al
 	movzbl %al,%eax
-	lea (%rax,%rax,4),%eax
 	jmp .L150_10
-	.size yz_password_hash_verify, 1160
+	.size yz_password_hash_verify, 1166
 
 	.section .text.yz_pbkdf2_derive,"ax",%progbits
 	.p2align 4
@@ -31874,55 +31874,65 @@ v2_yz_pbkdf2_derive:
 	push %r13
 	push %r12
 	push %rbx
-	sub $0x48,%rsp
-	mov 0x80(%rsp),%r10
+	sub $0x58,%rsp
+	mov 0x90(%rsp),%r10
 	xor %r15d,%r15d
 	test %rdx,%rdx
 	sete %r13b
+	xor %ebx,%ebx
 	test %r8,%r8
 	sete %r12b
+	xor %r11d,%r11d
 	test %r10,%r10
 	sete %bpl
 	dec %edi
 	mov $0x1,%eax
 	cmp $0x3,%edi
 	ja .L152_1
-	mov %edi,%ebx
-	mov $0x3,%eax
-	mov 0x88(%rsp),%r11
-	lea .Lswitch.table.yz_pbkdf2_verify_wide(%rip),%r14
-	cmp %r11,(%r14,%rbx,8)
-	mov $0x0,%r14d
-	mov $0x0,%r11d
-	mov 0x88(%rsp),%rbx
-	jb .L152_1
 	test %esi,%esi
 	je .L152_0
+	mov %r9,0x20(%rsp)
+	mov %rcx,0x28(%rsp)
+	mov %edi,%r9d
+	mov $0x4,%eax
+	mov %r13d,%ecx
+	mov %r12d,%r13d
+	mov %ebp,%r12d
+	mov 0x98(%rsp),%rbp
+	lea .Lswitch.table.yz_pbkdf2_verify_wide(%rip),%r14
+	cmp %rbp,(%r14,%r9,8)
+	mov %r12d,%ebp
+	mov %r13d,%r12d
+	mov %ecx,%r13d
+	mov 0x98(%rsp),%r14
+	mov 0x28(%rsp),%rcx
+	mov 0x20(%rsp),%r9
+	jb .L152_1
 	mov %r13b,%r15b
 	shl $0xc,%r15d
 	add %r15,%rdx
-	mov %r12b,%r14b
-	shl $0xc,%r14d
-	add %r14,%r8
+	mov %r12b,%bl
+	shl $0xc,%ebx
+	add %rbx,%r8
 	mov %bpl,%r11b
 	shl $0xc,%r11d
 	add %r11,%r10
 	xorps %xmm0,%xmm0
+	movaps %xmm0,0x40(%rsp)
 	movaps %xmm0,0x30(%rsp)
-	movaps %xmm0,0x20(%rsp)
-	lea 0x20(%rsp),%rax
+	lea 0x30(%rsp),%rax
 	mov %rax,0x10(%rsp)
-	mov %rbx,0x8(%rsp)
+	mov %r14,0x8(%rsp)
 	mov %r10,(%rsp)
 	movzbl %dil,%edi
 	call ring.pbkdf2.derive_in.128
+	shl $0x3,%al
 	movzbl %al,%eax
-	lea (%rax,%rax,4),%eax
 	jmp .L152_1
 .L152_0:
-	mov $0x4,%eax
+	mov $0x3,%eax
 .L152_1:
-	add $0x48,%rsp
+	add $0x58,%rsp
 	pop %rbx
 	pop %r12
 	pop %r13
@@ -31930,7 +31940,7 @@ v2_yz_pbkdf2_derive:
 	pop %r15
 	pop %rbp
 	ret
-	.size v2_yz_pbkdf2_derive, 213
+	.size v2_yz_pbkdf2_derive, 248
 
 	.section .text.yz_pbkdf2_verify,"ax",%progbits
 	.p2align 4
@@ -31977,11 +31987,11 @@ v2_yz_pbkdf2_verify:
 	mov %rax,0x8(%rsp)
 	mov %r10,(%rsp)
 	call ring.pbkdf2.verify_in.128
+	shl $0x3,%al
 	movzbl %al,%eax
-	lea (%rax,%rax,4),%eax
 	jmp .L154_1
 .L154_0:
-	mov $0x4,%eax
+	mov $0x3,%eax
 .L154_1:
 	add $0x40,%rsp
 	pop %rbx

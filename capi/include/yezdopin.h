@@ -18,17 +18,14 @@
  * - a pointer to a context or a key is aligned as its type, and not NULL;
  * - the thread has 8 KiB of stack left.
  *
- * A call that can be refused answers YZ_OK or the first cause in the order of yz_status. Past YZ_OK
- * it has written nothing. */
+ * A call that can be refused answers YZ_OK, or the first cause that holds in the order of yz_status,
+ * which is the one with the least number. Past YZ_OK it has written nothing. */
 #ifndef YEZDOPIN_H
 #define YEZDOPIN_H
 
 #include <stdbool.h>
 #include <stddef.h>
 #include <stdint.h>
-#if defined(__x86_64__) && (defined(__GNUC__) || defined(__clang__))
-#include <cpuid.h>
-#endif
 
 /* The version of this header. The major number is that of the shared library's name, and rises
  * where a caller must be compiled again: with a call or the layout of a context or a key.
@@ -57,18 +54,18 @@ enum {
     YZ_SHA512_256 = 5, /* digests alone */
 };
 
-/* What a call answers. */
+/* What a call answers, in the words of yz_status_text. */
 typedef int32_t yz_status;
 enum {
-    YZ_OK = 0,
-    YZ_UNKNOWN_ALGORITHM = 1,   /* the number names no algorithm of this call */
-    YZ_UNKNOWN_CONTEXT = 2,     /* the bytes can be no context's or key's: see their types */
-    YZ_WRONG_LENGTH = 3,        /* of what is to be written, or of a text */
-    YZ_NO_ITERATIONS = 4,       /* the number of iterations is 0 */
-    YZ_UNSPECIFIED = 5,         /* an input out of limits, or what was verified is something else */
-    YZ_BAD_FORMAT = 6,          /* the text is not one of a password hash */
-    YZ_TOO_MANY_ITERATIONS = 7, /* a text names more than the caller takes */
-    YZ_BAD_SALT = 8,            /* a password hash can't have the salt */
+    YZ_OK = 0,                  /* success */
+    YZ_UNKNOWN_ALGORITHM = 1,   /* the number names no algorithm or kind of this call */
+    YZ_UNKNOWN_CONTEXT = 2,     /* the bytes can be no context or key */
+    YZ_NO_ITERATIONS = 3,       /* the number of iterations is 0 */
+    YZ_WRONG_LENGTH = 4,        /* the output or a text has a wrong length */
+    YZ_BAD_FORMAT = 5,          /* no password hash has the text */
+    YZ_TOO_MANY_ITERATIONS = 6, /* the text has more iterations than the caller takes */
+    YZ_BAD_SALT = 7,            /* a new password hash can't have the salt */
+    YZ_UNSPECIFIED = 8,         /* an input is out of its limits, or the verification failed */
 };
 
 /* Bytes of a digest or a tag, and of a block. */
@@ -124,11 +121,14 @@ typedef struct {
  * 2009 on, AMD's from 2011 on. On an older one a call may end the program by SIGILL. This function
  * is compiled into the caller, since no code of the library is sure to run there. */
 static inline bool yz_supported(void) {
-    const unsigned wanted =
-        bit_SSE3 | bit_SSSE3 | bit_CMPXCHG16B | bit_SSE4_1 | bit_SSE4_2 | bit_POPCNT;
-    unsigned a, b, c, d;
-    if (!__get_cpuid(1, &a, &b, &c, &d) || (c & wanted) != wanted) return false;
-    return __get_cpuid(0x80000001, &a, &b, &c, &d) && (c & bit_LAHF_LM) != 0;
+    /* SSE3, SSSE3, CMPXCHG16B, SSE4.1, SSE4.2 and POPCNT, then LAHF. Every x86-64 processor has both
+     * leaves. <cpuid.h> isn't included, since gcc before 11 fails where it is included twice. */
+    const unsigned wanted = 1u | 1u << 9 | 1u << 13 | 1u << 19 | 1u << 20 | 1u << 23, lahf = 1;
+    unsigned a = 1, b, c, d, found;
+    __asm__ volatile("cpuid" : "+a"(a), "=b"(b), "=c"(found), "=d"(d));
+    a = 0x80000001;
+    __asm__ volatile("cpuid" : "+a"(a), "=b"(b), "=c"(c), "=d"(d));
+    return (found & wanted) == wanted && (c & lahf) != 0;
 }
 #elif defined(__aarch64__)
 /* Whether the processor can run the library: each 64-bit ARM processor can. */
@@ -138,6 +138,10 @@ static inline bool yz_supported(void) { return true; }
 /* The version that the library was built as: a caller compares its upper 16 bits with those of
  * YZ_VERSION where it loads the library by itself. */
 uint32_t yz_version(void);
+
+/* The text of a status, as the list above has it, or "unknown status" for any other number. It is
+ * static: neither change it nor free it. */
+const char *yz_status_text(yz_status status);
 
 /* The bytes of a digest or a tag, and of a block; 0 for a number that names no algorithm. */
 size_t yz_output_len(uint32_t algorithm);
@@ -198,7 +202,8 @@ yz_status yz_hmac_final(const yz_hmac_context *context,
 
 /* HKDF: extract, of which `out_len` is yz_output_len of the algorithm; expand, of which it is at
  * most YZ_HKDF_MAX_OUT_LEN of that, or the call answers YZ_WRONG_LENGTH; and one after the other,
- * with the limit of expand. */
+ * with the limit of expand. The salt comes before the secret, as in the RFC; in the packages for
+ * Python and JavaScript the secret comes first. */
 yz_status yz_hkdf_extract(uint32_t algorithm, const uint8_t *salt, size_t salt_len,
                           const uint8_t *secret, size_t secret_len,
                           uint8_t *out, size_t out_len) YZ_MUST_CHECK;
@@ -224,7 +229,10 @@ yz_status yz_hkdf_expand_label(uint32_t algorithm, const uint8_t *secret, size_t
 /* PBKDF2. `out_len` is at most YZ_PBKDF2_MAX_OUT_LEN of the algorithm's yz_output_len, or
  * yz_pbkdf2_derive answers YZ_WRONG_LENGTH. A verification answers YZ_OK exactly where `derived`
  * isn't empty and is what yz_pbkdf2_derive gives for its length, and reads all of it before it
- * answers. It answers YZ_UNSPECIFIED where `derived` is longer than that, as for a mismatch. */
+ * answers. It answers YZ_UNSPECIFIED where `derived` is longer than that, as for a mismatch.
+ *
+ * The order is iterations, salt, secret; in the packages for Python and JavaScript, as in hashlib
+ * and node:crypto, it is password, salt, iterations. */
 yz_status yz_pbkdf2_derive(uint32_t algorithm, uint32_t iterations,
                            const uint8_t *salt, size_t salt_len,
                            const uint8_t *secret, size_t secret_len,
@@ -269,7 +277,8 @@ enum {
  * dollar sign for Django and Werkzeug, which write it as it is. A number that names no kind is
  * answered by YZ_UNKNOWN_ALGORITHM, and a text that is longer than `text_room` or than
  * YZ_MAX_PASSWORD_HASH_LEN by YZ_WRONG_LENGTH. The text is no secret to this call; the password
- * is. */
+ * is. The order is iterations, salt, password, as of PBKDF2; a test has the text and then the
+ * password. */
 yz_status yz_password_hash_new(uint32_t kind, uint32_t iterations,
                                const uint8_t *salt, size_t salt_len,
                                const uint8_t *password, size_t password_len,

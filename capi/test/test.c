@@ -257,7 +257,7 @@ static void past_the_longest_derived(void) {
     for (uint32_t n = YZ_SHA1; n <= YZ_SHA512; n++) {
         size_t more = YZ_PBKDF2_MAX_OUT_LEN(OUTPUT[n]) + 1;
         IS(yz_pbkdf2_derive(n, 1, NULL, 0, NULL, 0, a, more), YZ_WRONG_LENGTH);
-        IS(yz_pbkdf2_derive(n, 0, NULL, 0, NULL, 0, a, more), YZ_WRONG_LENGTH);
+        IS(yz_pbkdf2_derive(n, 0, NULL, 0, NULL, 0, a, more), YZ_NO_ITERATIONS);
         IS(yz_pbkdf2_verify(n, 1, NULL, 0, NULL, 0, a, more), YZ_UNSPECIFIED);
     }
     for (size_t i = 0; i < sizeof a; i++) IS(a[i], 7);
@@ -416,7 +416,7 @@ static void garbage(void) {
     yz_digest_context context;
     yz_hmac_key key;
     yz_hmac_context tag;
-    int seen[6] = {0};
+    int seen[YZ_UNSPECIFIED + 1] = {0};
     for (int turn = 0; turn < GARBAGE_TURNS; turn++) {
         fill_at_random(&context, sizeof context);
         fill_at_random(&key, sizeof key);
@@ -431,10 +431,12 @@ static void garbage(void) {
         seen[yz_hmac_update(&tag, message, below(400))]++;
         seen[yz_hmac_final(&tag, a, 32)]++;
     }
+    int done = seen[YZ_OK], none = seen[YZ_UNKNOWN_CONTEXT], misfit = seen[YZ_WRONG_LENGTH];
+    int past = seen[YZ_UNSPECIFIED];
     printf("%d calls on garbage: %d done, %d no context, %d wrong length, %d past a limit\n",
-           6 * GARBAGE_TURNS, seen[0], seen[2], seen[3], seen[5]);
-    IS(seen[0] > 0 && seen[2] > 0 && seen[3] > 0 && seen[5] > 0, 1);
-    IS(seen[1] + seen[4], 0);
+           6 * GARBAGE_TURNS, done, none, misfit, past);
+    IS(done > 0 && none > 0 && misfit > 0 && past > 0, 1);
+    IS(done + none + misfit + past, 6 * GARBAGE_TURNS);
 }
 
 static void equality_and_clearing(void) {
@@ -611,16 +613,62 @@ static void refused_new_hashes(void) {
            kind <= YZ_WERKZEUG_SHA512 ? YZ_BAD_SALT : YZ_OK);
 }
 
+/* Where several causes hold, the one with the least number is answered. An input of 2^61 bytes is
+ * above the limit, so that no byte of it is read. */
+static void first_causes(void) {
+    static const char HASH[] = "pbkdf2_sha1$1000$salt$2U/l/68EaoUIrkh0GedCmjQYvmg=";
+    static char longer[YZ_MAX_PASSWORD_HASH_LEN + 1], out[200];
+    const size_t past = (size_t)1 << 61;
+    yz_digest_context context = {.algorithm = 0, .completed_low = past};
+    yz_hmac_key key = {.algorithm = 0};
+    size_t len = 0;
+    IS(yz_digest(0, a, past, a, 33), YZ_UNKNOWN_ALGORITHM);
+    IS(yz_digest(YZ_SHA256, a, past, a, 33), YZ_WRONG_LENGTH);
+    IS(yz_digest_final(&context, a, 33), YZ_UNKNOWN_CONTEXT);
+    IS(yz_hmac_sign(YZ_SHA256, a, past, a, past, a, 33), YZ_WRONG_LENGTH);
+    IS(yz_hmac_key_sign(&key, a, past, a, 33), YZ_UNKNOWN_CONTEXT);
+    IS(yz_hkdf(YZ_SHA256, a, past, a, past, a, past, a, 255 * 32 + 1), YZ_WRONG_LENGTH);
+    IS(yz_pbkdf2_derive(0, 0, a, past, a, past, a, past), YZ_UNKNOWN_ALGORITHM);
+    IS(yz_pbkdf2_derive(YZ_SHA256, 0, a, past, a, past, a, past), YZ_NO_ITERATIONS);
+    IS(yz_pbkdf2_derive(YZ_SHA256, 1, a, past, a, past, a, past), YZ_WRONG_LENGTH);
+    IS(yz_pbkdf2_verify(YZ_SHA256, 0, a, past, a, past, a, past), YZ_NO_ITERATIONS);
+    IS(yz_password_hash_verify(longer, sizeof longer, a, past, 0), YZ_WRONG_LENGTH);
+    IS(yz_password_hash_verify(longer, sizeof longer - 1, a, past, 0), YZ_BAD_FORMAT);
+    IS(yz_password_hash_verify(HASH, sizeof HASH - 1, a, past, 999), YZ_TOO_MANY_ITERATIONS);
+    IS(yz_password_hash_verify(HASH, sizeof HASH - 1, a, past, 1000), YZ_UNSPECIFIED);
+    IS(yz_password_hash_new(0, 0, a, 0, a, past, out, 0, &len), YZ_UNKNOWN_ALGORITHM);
+    IS(yz_password_hash_new(YZ_PHC_SHA256, 0, a, 0, a, past, out, 0, &len), YZ_NO_ITERATIONS);
+    IS(yz_password_hash_new(YZ_PHC_SHA256, 1, a, 0, a, past, out, 0, &len), YZ_WRONG_LENGTH);
+    IS(yz_password_hash_new(YZ_PHC_SHA256, 1, a, 0, a, past, out, 200, &len), YZ_BAD_SALT);
+    IS(yz_password_hash_new(YZ_PHC_SHA256, 1, a, 1, a, past, out, 200, &len), YZ_UNSPECIFIED);
+}
+
+/* tests/statuses.py compares the texts with the header's. */
+static void texts_of_statuses(void) {
+    const yz_status others[] = {-1, YZ_UNSPECIFIED + 1, 256, INT32_MIN, INT32_MAX};
+    for (yz_status i = YZ_OK; i <= YZ_UNSPECIFIED; i++) {
+        IS(strlen(yz_status_text(i)) > 0, true);
+        IS(strcmp(yz_status_text(i), "unknown status") != 0, true);
+        for (yz_status j = YZ_OK; j < i; j++)
+            IS(strcmp(yz_status_text(i), yz_status_text(j)) != 0, true);
+    }
+    for (size_t i = 0; i < sizeof others / sizeof *others; i++)
+        IS(strcmp(yz_status_text(others[i]), "unknown status"), 0);
+    IS(strcmp(yz_status_text(YZ_OK), "success"), 0);
+    IS(strcmp(yz_status_text(YZ_NO_ITERATIONS), "the number of iterations is 0"), 0);
+}
+
 int main(void) {
     IS(yz_supported(), true);
     IS(yz_version(), YZ_VERSION);
+    texts_of_statuses();
     known_values(), statuses(), several_messages();
     longest_outputs(), past_the_longest_derived();
     labels(), refused_labels();
     contexts(), bytes_of_no_context(), past_the_limit();
     pieces(), garbage(), equality_and_clearing();
     password_hashes(), no_password_hashes();
-    new_password_hashes(), refused_new_hashes();
+    new_password_hashes(), refused_new_hashes(), first_causes();
     if (failures) printf("%d failures\n", failures);
     return failures != 0;
 }

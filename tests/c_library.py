@@ -42,7 +42,7 @@ PARTS = [
     ("python-types", ["cc", "python3", "Python.h", "mypy", "stubtest"],
      "the types of the Python package, beside the extension and over a caller"),
     ("wheel", ["cc", "python3", "Python.h", "pip"], "the Python package as pip installs it"),
-    ("rust", ["cc", "cargo"], "the Rust crate over vectors/"),
+    ("rust", ["cc", "cargo"], "the Rust crate over vectors/, and vendored beside a Makefile"),
     ("constant-time", ["rt", "valgrind", "valgrind/memcheck.h"], "no jump or address by a secret"),
     ("traces", ["cc", "nm", "qemu-x86_64 with plugins"], "the same from traces under qemu-user"),
 ]
@@ -97,12 +97,13 @@ def is_there(tool):
             for it in ("--version", "-h")
         )
         return re.search(r"version [1-8]\.", said) is not None and "-plugin" in said
-    name = {"cc": os.environ.get("CC", tool), "c++": os.environ.get("CXX", tool)}.get(tool, tool)
+    name = os.environ.get({"cc": "CC", "c++": "CXX", "rt": "RT"}.get(tool, ""), tool)
     return shutil.which(name) is not None
 
 
 def make(arch, *arguments):
-    """What make says, where it failed. The compilers that are named are for x86-64."""
+    """What make says, where it failed, and the lines by which it leaves out a part of a target. The
+    compilers that are named are for x86-64."""
     environment = {**os.environ}
     if arch != "x86_64":
         environment = {name: it for name, it in environment.items() if name not in ("CC", "CXX")}
@@ -110,14 +111,15 @@ def make(arch, *arguments):
         ["make", "-s", "-C", FOLDER, f"ARCH={arch}", *arguments],
         capture_output=True, text=True, check=False, env=environment,
     )
-    return run.stdout + run.stderr if run.returncode else None
+    said = run.stdout + run.stderr
+    return said if run.returncode else None, re.findall(r"^left out: .*, without .*", said, re.M)
 
 
 def try_parts(arch, always, parts):
     """Builds the library for a kind of processor, and tries its parts; how many passed, failed and
     were left out."""
     tools = {tool: is_there(tool) for _, needed, _ in parts for tool in [*always, *needed]}
-    unbuilt = make(arch, "-B", "all") if all(tools[tool] for tool in always) else None
+    unbuilt = make(arch, "-B", "all")[0] if all(tools[tool] for tool in always) else None
     kept = [word for it in BUILT[arch] for word in ("-o", it)]
     passed, failed, skipped = 0, 0, 0
     for name, needed, what in parts:
@@ -126,7 +128,11 @@ def try_parts(arch, always, parts):
             print(f"left out: {arch}: {name} ({what}), without {', '.join(missing)}")
             skipped += 1
             continue
-        fault = unbuilt or make(arch, *(["-B"] if name == GENERATED else kept), name)
+        how = ["-B"] if name == GENERATED else kept
+        fault, left_out = (unbuilt, []) if unbuilt else make(arch, *how, name)
+        for line in left_out:
+            print(line)
+        skipped += len(left_out)
         print(f"FAILED: {arch}: {name}:\n{fault}" if fault else f"ok: {arch}: {name}: {what}")
         failed += fault is not None
         passed += fault is None

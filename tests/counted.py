@@ -7,8 +7,13 @@ once, however many of its subtests fail.
 
 import concurrent.futures
 import io
+import os
+import pathlib
+import subprocess
 import sys
 import unittest
+
+ROOT = pathlib.Path(__file__).resolve().parent.parent
 
 
 class Result(unittest.TextTestResult):
@@ -32,7 +37,11 @@ def suite(cases, names):
 
 def run(tests, stream):
     """Runs tests, and says on a stream how each went."""
-    return unittest.TextTestRunner(stream, verbosity=2, resultclass=Result).run(tests)
+    result = unittest.TextTestRunner(stream, verbosity=2, resultclass=Result).run(tests)
+    for test, reason in result.skipped:
+        what = test.shortDescription() or test.id()
+        print(f"left out: {what.rstrip('.')}, without {reason}", file=stream)
+    return result
 
 
 def run_beside(beside, tests):
@@ -54,7 +63,7 @@ def run_answered(cases):
     passed = failed = skipped = 0
     for case, missing in cases:
         if missing:
-            print(f"skipped, without {missing}: {case.__doc__}", flush=True)
+            print(f"left out: {case.__doc__.rstrip('.')}, without {missing}", flush=True)
             skipped += 1
             continue
         found = case()
@@ -63,6 +72,22 @@ def run_answered(cases):
         print(f"{'FAILED' if found else 'ok'}: {case.__doc__}", flush=True)
         passed, failed = passed + (not found), failed + bool(found)
     return passed, failed, skipped
+
+
+def built(crate, *command):
+    """The path of a crate's program, which the command builds where it is missing or older than a
+    source. Where it can't be built, the test ends."""
+    run = subprocess.run([ROOT / "tools/built", crate, *command], stdout=subprocess.PIPE, text=True)
+    if run.returncode:
+        end_unbuilt()
+    return run.stdout.strip()
+
+
+def end_unbuilt():
+    """Ends a test whose program could not be built."""
+    sys.stdout.flush()
+    unbuilt, name = ROOT / "tests/unbuilt", pathlib.Path(sys.argv[0]).resolve()
+    os.execv(unbuilt, [unbuilt, name.relative_to(ROOT)])
 
 
 def report(passed, failed, skipped):

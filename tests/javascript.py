@@ -19,7 +19,8 @@ FOLDER = pathlib.Path(__file__).resolve().parent.parent / "capi"
 BUILT = "../crates/ring_c/out/libring_c.wasm64.a"
 # The first whose own tests are `node --test`, and which has modules of 64-bit addresses.
 NODE_MAJOR = 20
-NEEDED = ["make", "python3", "node"]
+NODE = f"node {NODE_MAJOR}"
+NEEDED = ["make", "python3", NODE]
 
 # What make's targets are called by, and what each needs beside the above.
 PARTS = [
@@ -34,11 +35,12 @@ PARTS = [
 
 def is_there(tool):
     """Whether a tool is on this machine, and Node late enough."""
-    if shutil.which(tool) is None:
+    name = {NODE: "node", "rt": os.environ.get("RT", tool)}.get(tool, tool)
+    if shutil.which(name) is None:
         return False
-    if tool != "node":
+    if tool != NODE:
         return True
-    run = subprocess.run([tool, "--version"], capture_output=True, text=True, check=False)
+    run = subprocess.run([name, "--version"], capture_output=True, text=True, check=False)
     version = re.match(r"v(\d+)\.", run.stdout)
     return version is not None and int(version[1]) >= NODE_MAJOR
 

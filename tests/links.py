@@ -7,13 +7,20 @@
   or 'as "Tests" says': in the page whose link or path stands before it in the same line, or else in
   its own page, or in one that the line names;
 - each page, and each program of tests/ and tools/, that is named in backquotes, as `docs/API.md` or
-  `tests/links.py`.
+  `tests/links.py`;
+- each path in backquotes whose first step is a crate, a module or a type of crates/, as
+  `laws::sign_pieces` or `digest::{Context::new, update}`: each step is declared in the one before
+  it. A path that begins otherwise, as `std::simd`, is another project's; and so is each in
+  capi/rust and in the first column of docs/DIFFERENCES.md, which are about crates of Rust;
+- each name in capitals in backquotes, as `MAX_TEXT_LEN`: a word of a file that is no page, or a
+  page.
 
 Text in double quotes that begins with a capital letter is taken for a heading, so other quotations
 stand in backquotes. Then it reads pages with a planted fault each, and fails where one isn't found.
 The last line is 'N passed, M failed'.
 """
 
+import functools
 import pathlib
 import re
 import subprocess
@@ -25,11 +32,25 @@ HTML = re.compile(r'<(?:a href|img src)="(?P<target>[^"]+)"')
 CITED = re.compile(r'"(?P<heading>[A-Z][^"]*)"')
 NAMED = re.compile(r"`(?P<path>(?:[\w./-]+/)?[\w-]+\.md|(?:tests|tools)/[\w.-]+)`")
 ELSEWHERE = re.compile(r"[a-z]+:")
+ITEM = re.compile(r"`(?P<front>(?:\w+::)+)(?P<last>\w+|\{[^{}`]*\})`")
+# An item or a variant, and what a module passes on from others.
+DECLARED = re.compile(
+    r"^ *(?:pub(?:\(\w+\))? )?(?:const |extern \"C\" )*"
+    r"(?:fn|struct|enum|trait|type|const|mod) (\w+)|^ +([A-Z]\w*)(?:[,(]| \{|$)", re.M,
+)
+CAPITALS = re.compile(r"`(?P<name>[A-Z][A-Z0-9_]+)`")
+PASSED_ON = re.compile(r"^pub use ([^;]*);", re.M)
 # Pages that a script makes, and names of pages that stand in another folder than the one named.
 MADE = ("docs/reference/",)
 
 # A page at the top that is without fault, and lines that each add one to it.
-SOUND = "# Page\n\n## Part one\n\nSee [`docs/API.md`](docs/API.md), \"Calls\", and \"Part one\".\n"
+SOUND = """# Page
+
+## Part one
+
+See [`docs/API.md`](docs/API.md), "Calls", and "Part one", `ring::laws`, `std::none`,
+`hmac::{sign, Key::new}`, `MAX_TEXT_LEN` and `PROVED`.
+"""
 PLANTED = (
     "[a page](docs/NONE.md)",
     "[a part](#part-two)",
@@ -38,16 +59,34 @@ PLANTED = (
     '[calls](docs/API.md), "Part one"',
     "as `docs/NONE.md` says",
     "`tests/none.py` tests it",
+    "`NO_SUCH_CONSTANT`",
+    "`digest::no_such_module`",
+    "`ring::no_such_module`",
+    "`hmac::{sign, Key::no_such_call}`",
 )
+
+
+def files(*patterns):
+    """The files of the repository, of these patterns where there are any."""
+    listed = subprocess.run(
+        ["git", "ls-files", "--cached", "--others", "--exclude-standard", "--", *patterns],
+        cwd=ROOT, capture_output=True, text=True, check=True,
+    )
+    return [name for name in listed.stdout.splitlines() if (ROOT / name).is_file()]
 
 
 def pages():
     """The Markdown pages of the repository, each with its text."""
-    listed = subprocess.run(
-        ["git", "ls-files", "--cached", "--others", "--exclude-standard", "*.md"],
-        cwd=ROOT, capture_output=True, text=True, check=True,
-    )
-    return {name: (ROOT / name).read_text() for name in listed.stdout.splitlines()}
+    return {name: (ROOT / name).read_text() for name in files("*.md")}
+
+
+@functools.lru_cache(None)
+def names_in_capitals():
+    """The names in capitals in all files but pages, and the pages' own names."""
+    others = files(":!*.md", ":!capi/generated/*", ":!tests/links.py")
+    texts = ((ROOT / name).read_text(errors="replace") for name in others)
+    found = {name for text in texts for name in re.findall(r"\b[A-Z][A-Z0-9_]+\b", text)}
+    return found.union(pathlib.PurePath(name).stem for name in files("*.md"))
 
 
 def without_code(text):
@@ -126,13 +165,61 @@ def named_fault(texts, page, path):
     return None if is_there or is_name else f"names {path}, which isn't there"
 
 
+@functools.lru_cache(None)
+def sources():
+    """The modules of crates/ by their paths: what each declares or passes on, and its words."""
+    found = {}
+    for file in ROOT.glob("crates/*/src/**/*.rt"):
+        crate, _, *path = file.relative_to(ROOT / "crates").with_suffix("").parts
+        text = file.read_text()
+        passed_on = re.findall(r"\w+", " ".join(PASSED_ON.findall(text)))
+        names = {name for pair in DECLARED.findall(text) for name in pair}
+        found[(crate, *path)] = names.union(passed_on), set(re.findall(r"\w+", text))
+    return found
+
+
+def places_of(step, among):
+    """Of some modules, those of a crate or below a module, or those that name a type."""
+    below = [place for place in among if step in place]
+    named = [place for place in among if step[0].isupper() and step in sources()[place][1]]
+    return below or named
+
+
+def item_fault(steps):
+    """What is wrong with a path of a module or an item, or None."""
+    places = places_of(steps[0], sources())
+    is_type = any(steps[0] in sources()[place][0] for place in places)
+    if not places or (steps[0][0].isupper() and not is_type):
+        return None
+    for step, name in zip(steps, steps[1:]):
+        places = places_of(step, places) or places_of(step, sources())
+        if not any(name in sources()[place][0] for place in places):
+            return f"names {'::'.join(steps)}, and {step} has no {name}"
+    return None
+
+
+def items_of(page, line):
+    """The paths of modules and items in a line, each as its steps."""
+    if page.startswith("capi/rust/"):
+        return
+    if page == "docs/DIFFERENCES.md":
+        line = re.sub(r"^\|[^|]*", "", line)
+    for match in ITEM.finditer(line):
+        for last in match["last"].strip("{}").split(","):
+            yield (match["front"] + last.strip(" +")).split("::")
+
+
 def faults_of_line(texts, page, line):
-    """What each link, cited heading and named file of a line lacks: None where it is there."""
+    """What each link, heading, file, item and name of a line lacks: None where it is there."""
     for match in [*LINK.finditer(line), *HTML.finditer(line)]:
         if not ELSEWHERE.match(match["target"]):
             yield link_fault(texts, page, match["target"])
     for match in NAMED.finditer(line):
         yield named_fault(texts, page, match["path"])
+    yield from map(item_fault, items_of(page, line))
+    for match in CAPITALS.finditer(line):
+        is_there = match["name"] in names_in_capitals()
+        yield None if is_there else f"names {match['name']}, which stands nowhere else"
     bare = re.sub(r"`[^`]*`", lambda it: it[0].replace('"', " "), line)
     for match in CITED.finditer(bare):
         yield cited_fault(texts, page, line, match)

@@ -2,17 +2,19 @@
 # SPDX-License-Identifier: ISC
 """What no contract sees: that no block is run outside the meter that a call was handed.
 
-Searches the code of the libraries and of `ring_passwords`, outside tests, examples, comments and
-contracts, and tries these rules: a plain form is the one call of its counted form; few places make
-a meter, none of them in a function that takes one; a function that takes a meter calls nothing that
-runs blocks under another; a block is run once for each block counted, and four side by side for
-each four; and the rounds of SHA-2 and of SHA-1 stand once. Since it finds a call by the function's
-name, and a method's by the type's too, it refuses what hides these: imports under another name,
-functions as values, aliases of types, and macros that call. It then searches as many times again,
-each time with one body planted that the prover lets through, and which a rule has to find. The last
-line is 'N passed, M failed'.
+Searches the code of every crate but `ring_tests`, outside tests, examples, comments and contracts,
+and tries these rules: a plain form is the one call of its counted form; few places make a meter,
+none of them in a function that takes one; a function that takes a meter calls nothing that runs
+blocks under another; the calls for C and `ring_passwords`, which are handed no meter, call what
+runs blocks once, and the calls for C derive in one place each; a block is run once for each block
+counted, and four side by side for each four; and the rounds of SHA-2 and of SHA-1 stand once. Since
+it finds a call by the function's name, and a method's by the type's too, it refuses what hides
+these: imports under another name, functions as values, aliases of types, and macros that call. It
+then searches as many times again, each time with one body planted that keeps its contract, and that
+a rule has to find. The last line is 'N passed, M failed'.
 """
 
+import collections
 import dataclasses
 import functools
 import pathlib
@@ -27,13 +29,30 @@ import rattle_text
 functions = functools.cache(lambda code: tuple(rattle_text.functions(code)))
 
 ROOT = pathlib.Path(__file__).resolve().parent.parent
-# The crates, lowest first, and how many places of each make a meter at most: one a plain form; of
-# the calls for C those that name a width, which have no plain form; of the program `set` and
-# `verify`.
-METERS = {"ring_core": 4, "ring": 22, "ring_store": 7, "ring_passwords": 2, "ring_c": 3}
-# What may call a plain form of `ring_core` and `ring` there, beside plain forms: each makes a key,
-# for which no meter is handed in.
+# How many places of a crate make a meter at most, where there are any: one a plain form; of the
+# bench one for each request that runs blocks; of the program `set` and `verify`; of `ring_sums` and
+# the calls for C those that name a width, which have no plain form; and callers.
+METERS = {
+    "ring_core": 4,
+    "ring": 22,
+    "ring_bench": 6,
+    "ring_store": 7,
+    "ring_password_hash": 8,
+    "ring_passwords": 2,
+    "ring_schedules": 2,
+    "ring_sums": 1,
+    "ring_examples": 10,
+    "ring_c": 3,
+}
+# The crate of the tests.
+NOT_SEARCHED = {"ring_tests"}
+# The libraries whose functions take a meter or are plain forms, where they run blocks, and what may
+# call a plain form there beside these: each makes a key, for which no meter is handed in.
+METERED = ("ring_core", "ring", "ring_store", "ring_password_hash")
 MAY_CALL_PLAIN = {("Key", "generate"), ("Okm", "into_key")}
+# The crates whose bodies call what runs blocks once, and the calls for C that derive a key.
+CALLED_ONCE = ("ring_passwords", "ring_c")
+DERIVES = ("derive_in", "verify_in", "new_in_place", "verify_in_place")
 # What loads the words of blocks and what counts these: that it counts as many is its contract. Each
 # family has one place that loads by each, and that runs the rounds and counts there: blocks of
 # bytes by the kernel with the schedule ahead, the others by the kernel over a window.
@@ -50,7 +69,7 @@ RENAMED = re.compile(
 )
 # And of laws, by their numbers, under which no code here calls them.
 NUMBERED = re.compile(r"\w+ as law_\d+")
-# Bodies that the prover lets through, planted in turn, and the rule that finds each: the file, a
+# Bodies that keep their contracts, planted in turn, and the rule that finds each: the file, a
 # text and what stands in its place, and so on for further texts.
 STORE = "crates/ring_store/src/"
 ONE_CALL = "a plain form is the one call of its counted form"
@@ -63,20 +82,37 @@ NO_ALIAS = "no alias names a type with such functions"
 NO_MACRO = "no macro names such a function"
 NO_SECOND = "no function that takes a `&mut Meter` makes another"
 NONE_BELOW = (
-    "plain forms are called in `ring` by none but themselves, `Key::generate` and conversions"
+    "plain forms are called in libraries with meters by none but themselves, `Key::generate` and "
+    "conversions"
 )
+ONCE = "a body of `ring_passwords` and of `ring_c` calls what runs blocks once"
+ONE_DERIVATION = "each call that derives stands in one place of `ring_c`, and in no loop"
 COUNTED_ONCE = "blocks are loaded and run once beside their count, and nothing else counts one"
 ARGUMENTS = "PBKDF2_HMAC_SHA256, iterations, salt, password, credential"
 SALT = "use std::num::NonZeroU32;\n"
 CONTEXT = SALT, f"use ring::digest::Context;\n{SALT}"
 KEY = SALT, f"use ring::hmac::Key;\n{SALT}"
 OTHER_KEY = "let _ = Other::new(ring::hmac::HMAC_SHA256, password);"
+HASHES = "crates/ring_password_hash/src/"
+C_VERIFY = "verify_in_place(password, text, max_iterations)"
+C_VERIFY_FIRST = "verify_in_place(password, text, u32::MAX)"
+C_PASSWORDS = "crates/ring_c/src/password_hashes.rt", C_VERIFY
+PUT_NEW = (
+    "put_new(&mut [0; MAX_TEXT_LEN], kind, password, salt, iterations, MAX_TEXT_LEN, &mut "
+    "Meter::new())"
+)
+FINISHED = "crates/ring_schedules/src/tls13/traffic.rt"
+
+
+def before(rule, path, line, body):
+    """A body planted before a line of a file."""
+    return rule, path, line, f"{re.match(' *', line).group()}{body}\n{line}"
 
 
 def in_matches(rule, body, *texts):
     """A body planted in `matches` of the store, before what it calls."""
     call = "    pbkdf2::verify_counted(\n"
-    return rule, f"{STORE}credential.rt", call, f"    {body}\n{call}", *texts
+    return *before(rule, f"{STORE}credential.rt", call, body), *texts
 
 
 PLANTED = {
@@ -140,6 +176,102 @@ PLANTED = {
         "    change::verify(&store, name, &password, &mut Meter::new())\n",
         "    let _ = change::verify(&store, name, &password, &mut Meter::new());\n"
         "    change::verify(&store, name, &password, &mut Meter::new())\n",
+    ),
+    "`verify` of a text tests it with no limit first": before(
+        ONE_CALL,
+        f"{HASHES}password_hash.rt",
+        "    verify_counted(alloc, password, text, max_iterations, &mut Meter::new())\n",
+        "let _ = verify_counted(alloc, password, text, NonZeroU32::MAX, &mut Meter::new());",
+    ),
+    "`PasswordHash::new` derives before it refuses": before(
+        ONE_CALL,
+        f"{HASHES}password_hash.rt",
+        "        PasswordHash::new_counted(alloc, kind, password, salt, iterations, &mut "
+        "Meter::new())\n",
+        "let _ = pbkdf2::derive(kind.algorithm(), iterations, salt, password, &mut [0; 64]);",
+    ),
+    "`new_in_place` derives before it refuses": before(
+        ONE_CALL,
+        f"{HASHES}made_in_place.rt",
+        "    new_in_place_counted(kind, password, salt, iterations, out, &mut Meter::new())\n",
+        f"let _ = {PUT_NEW};",
+    ),
+    "`new_in_place_counted` derives before it refuses, under another meter": before(
+        NO_SECOND,
+        f"{HASHES}made_in_place.rt",
+        "    let len = put_new(&mut text, kind, password, salt, iterations, room, meter)?;\n",
+        f"let _ = {PUT_NEW};",
+    ),
+    "`verify_in_place` tests a text with no limit first": before(
+        ONE_CALL,
+        f"{HASHES}in_place.rt",
+        "    verify_in_place_counted(password, text, max_iterations, &mut Meter::new())\n",
+        "let _ = verify_in_place_counted(password, text, u32::MAX, &mut Meter::new());",
+    ),
+    "`test` of `verify_in_place_counted` derives before the limit, by a plain form": before(
+        NO_OTHER_METER,
+        f"{HASHES}in_place.rt",
+        "    if reading.iterations.get() > max_iterations {\n",
+        "let _ = pbkdf2::verify(reading.kind.algorithm(), reading.iterations, salt, password, "
+        "hash);",
+    ),
+    "`verify_counted` of a text derives before the limit, by a plain form": before(
+        NO_OTHER_METER,
+        f"{HASHES}password_hash.rt",
+        "    if hash.iterations().get() > max_iterations.get() {\n",
+        "let _ = hash.verify(password);",
+    ),
+    "`parse` of a verifier derives": before(
+        NONE_BELOW,
+        f"{HASHES}scram.rt",
+        "        let server_key = last_key(alloc, rest)?;\n",
+        "let _ = pbkdf2::verify(PBKDF2_HMAC_SHA256, iterations, &salt, rest, &stored_key);",
+    ),
+    "`yz_password_hash_verify` tests a text with no limit first": (
+        ONCE, *C_PASSWORDS, f"{{ let _ = {C_VERIFY_FIRST}; {C_VERIFY} }}"
+    ),
+    "`yz_password_hash_verify` tests a text with no limit first, by another function": (
+        ONE_DERIVATION, *C_PASSWORDS, f"{{ early(password, text); {C_VERIFY} }}", SALT,
+        f"{SALT}fn early(password: &[u8], text: &[u8]) {{ let _ = {C_VERIFY_FIRST}; }}\n",
+    ),
+    "`yz_password_hash_verify` tests a text twice, in a loop": (
+        ONE_DERIVATION, *C_PASSWORDS,
+        f"{{ let mut it = Ok(()); for _ in 0..2 {{ it = {C_VERIFY}; }} it }}",
+    ),
+    "`verify` of the program's texts derives twice": before(
+        ONCE,
+        "crates/ring_passwords/src/stored.rt",
+        "                verifier.verify_prepared(password)\n",
+        "let _ = verifier.verify_prepared(password);",
+    ),
+    "`verify` of a Finished ends at the first byte that differs": (
+        ONE_CALL,
+        FINISHED,
+        "        self.verify_counted(transcript, verify_data, &mut Meter::new())\n",
+        "        if self.verify_data(transcript).as_ref() == verify_data {\n"
+        "            Ok(())\n"
+        "        } else {\n"
+        "            Err(Unspecified)\n"
+        "        }\n",
+    ),
+    "`verify_counted` of a Finished signs once more by a plain form": before(
+        NO_OTHER_METER,
+        FINISHED,
+        "        verify_slices_are_equal_counted(tag.as_ref(), verify_data, meter)\n",
+        "let _ = self.verify_data(transcript);",
+    ),
+    "`take_in` of checksums runs blocks under a further meter": before(
+        "at most 1 places of ring_sums make a meter",
+        "crates/ring_sums/src/lanes.rt",
+        "        match update_each_in::<BITS>(&mut self.contexts, &pieces, &mut Meter::new()) {\n",
+        "let _ = ring::digest::digest_counted(&ring::digest::SHA256, &[], &mut Meter::new());",
+    ),
+    "the program over key schedules runs a block under a meter of its own": before(
+        "no other crate makes a meter",
+        "crates/ring_schedules_main/src/main.rt",
+        "        let answered = answer(rt.alloc(), line.as_str());\n",
+        "let _ = ring::digest::digest_counted(&ring::digest::SHA256, &[], &mut "
+        "ring::cost::Meter::new());",
     ),
     "`matches` derives once more than it counts": in_matches(
         NO_OTHER_METER, f"let _ = pbkdf2::verify({ARGUMENTS});"
@@ -251,16 +383,25 @@ def without_clauses(text):
     return "".join(kept) + text[at:]
 
 
+@functools.cache
+def crates():
+    """The crates, lowest first, each with the crates that it stands on."""
+    lines = (it.partition(":") for it in (ROOT / "crates.txt").read_text().splitlines())
+    found = {front.split()[0]: rest.split() for front, mark, rest in lines if front[0] != "#"}
+    return {it: found[it] for it in found if it not in NOT_SEARCHED}
+
+
 def sources():
     """The crate and the text of each source file that is no test and no example, by its path."""
     found = {}
-    for crate in METERS:
+    for crate in crates():
         for path in sorted((ROOT / "crates" / crate / "src").rglob("*.rt")):
             if not {"tests", "tests.rt", "examples.rt"} & set(path.parts):
                 found[str(path.relative_to(ROOT))] = crate, path.read_text()
     return found
 
 
+@functools.cache
 def meters_of(function):
     """The names of the meters that a function takes, by their type, and of those that it makes."""
     taken = re.findall(r"(\w+): &mut (?:\w+::)*Meter\b", function.signature)
@@ -273,19 +414,40 @@ def with_other_names(names):
     return names | {(owner, OTHER_NAME[name]) for owner, name in names if name in OTHER_NAME}
 
 
+@functools.cache
+def calls_to(function, owner, name):
+    """The calls in a body of a function, each a match that ends with what opens its arguments."""
+    path = rf"\b(?:{owner}|Self)(?:(?:::)?<[^()]*>)?>?::|\bas [^()]*>::"
+    receiver = rf"(?:\b\w*\.|\.|{path})" if owner else r"(?<![.\w])"
+    return tuple(re.finditer(rf"{receiver}{name}{GENERIC}\(", function.body))
+
+
+def all_calls(function, names):
+    """The calls in a body of functions of these names, each with the name."""
+    named = sorted(it for it in with_other_names(names) if it[1] in function.body)
+    return [(name, it) for owner, name in named for it in calls_to(function, owner, name)]
+
+
+@functools.cache
 def calls(function, names):
     """The calls in a body of functions of these names that are handed no meter."""
     taken, made = meters_of(function)
     a_meter = re.compile("|".join([r"\bMeter::new\(\)", *(rf"\b{it}\b" for it in taken | made)]))
-    for owner, name in sorted(it for it in with_other_names(names) if it[1] in function.body):
-        path = rf"\b(?:{owner}|Self)(?:(?:::)?<[^()]*>)?>?::|\bas [^()]*>::"
-        receiver = rf"(?:\b\w*\.|\.|{path})" if owner else r"(?<![.\w])"
-        for it in re.finditer(rf"{receiver}{name}{GENERIC}\(", function.body):
-            opening = it.end() - 1
-            arguments = function.body[opening : rattle_text.end_of(function.body, opening)]
-            before = function.body[: it.end()]
-            if not a_meter.search(arguments) and not NO_PLAIN_FORM.search(before):
-                yield it.group()
+    found = []
+    for _, it in all_calls(function, names):
+        opening = it.end() - 1
+        arguments = function.body[opening : rattle_text.end_of(function.body, opening)]
+        before = function.body[: it.end()]
+        if not a_meter.search(arguments) and not NO_PLAIN_FORM.search(before):
+            found.append(it.group())
+    return found
+
+
+def repeated(function, names):
+    """Those of these names of functions that a body calls in two places."""
+    called = {(name, it.end()) for name, it in all_calls(function, names)}
+    count = collections.Counter(name for name, _ in called)
+    return [name for name in count if count[name] > 1]
 
 
 def split(text):
@@ -315,12 +477,13 @@ def is_one_call(function):
 def unmetered(places, plain):
     """The names, by crate, of the functions there and below that run blocks under a meter of their
     own: plain forms, what makes a meter, and what takes none and calls one of these."""
-    found, by_crate = set(), {}
-    for crate in METERS:
+    by_crate = {}
+    for crate, libraries in crates().items():
         own = [it for it in places if it.crate == crate]
+        found = set().union(*(by_crate[it] for it in libraries if it in by_crate))
         found |= {it.name for it in own if it in plain or MAKES.search(it.function.body)}
         without = [it for it in own if not meters_of(it.function)[0]]
-        while more := {it.name for it in without if any(calls(it.function, found))} - found:
+        while more := {it.name for it in without if calls(it.function, frozenset(found))} - found:
             found |= more
         by_crate[crate] = frozenset(found)
     return by_crate
@@ -367,13 +530,29 @@ def one_of(names):
     return "|".join(sorted(names)) or "$^"
 
 
+def is_local(text, name, at):
+    """Whether a name at a place of a file is that of a parameter, or of a local that was bound
+    before in the same braces or in braces around these."""
+    inside = next((it for it in functions(text) if it.start < at < it.end), None)
+    if not inside:
+        return False
+    body, place = inside.body, at - (inside.end - len(inside.body))
+    bound = re.finditer(rf"\blet (?:mut )?{name}\b[^;]*;", body[: max(place, 0)])
+    return bool(re.search(rf"\b{name}: ", inside.signature)) or any(
+        place < end_of_braces(body, it.start()) for it in bound
+    )
+
+
+@functools.cache
 def values(crate, code, names):
     """The functions of these that a file names and does not call."""
-    text = re.sub(r"\buse [^;]*;|#!?\[[^\]]*\]", "", code)
+    text = re.sub(r"\buse [^;]*;|\bmod \w+;|#!?\[[^\]]*\]", "", code)
+    text = rattle_text.SKIPPED.sub('""', text)
     behind_a_path = one_of({name for _, name in with_other_names(names)})
     alone = one_of(in_scope(crate, code, {name for owner, name in names if not owner}))
-    named = rf"(?:::(?:{behind_a_path})|(?<!fn )(?<![.\w:])(?:{alone}))\b"
-    return [it.group() for it in re.finditer(rf"{named}(?!{GENERIC}\(|::\w|: )", text)]
+    named = rf"::(?:{behind_a_path})\b|(?<!fn )(?<!let )(?<!let mut )(?<![.\w:])(?:{alone})\b"
+    found = re.finditer(rf"(?:{named})(?!{GENERIC}\(|::\w|: )", text)
+    return [it.group() for it in found if not is_local(text, it.group(), it.start())]
 
 
 def macros_of(code):
@@ -382,11 +561,26 @@ def macros_of(code):
     return [code[it.start() : rattle_text.end_of(code, it.end() - 1)] for it in heads]
 
 
+def braces_around(body, at):
+    """Where the innermost braces around a place in a body open."""
+    braces = (it.start() for it in re.finditer(r"\{", body[:at]))
+    return max(it for it in braces if rattle_text.end_of(body, it) > at)
+
+
+def end_of_braces(body, at):
+    """Where the innermost braces around a place in a body end."""
+    return rattle_text.end_of(body, braces_around(body, at))
+
+
 def loop_around(body, at):
     """The text of the innermost braces around a place in a body."""
-    braces = (it.start() for it in re.finditer(r"\{", body[:at]))
-    opening = max(it for it in braces if rattle_text.end_of(body, it) > at)
-    return body[opening : rattle_text.end_of(body, opening)]
+    return body[braces_around(body, at) : end_of_braces(body, at)]
+
+
+def is_in_loop(body, at):
+    """Whether a place in a body is in a loop."""
+    heads = re.finditer(r"\b(?:for|while|loop)\b[^{};]*\{", body[:at])
+    return any(rattle_text.end_of(body, it.end() - 1) > at for it in heads)
 
 
 def uncounted_runs(places):
@@ -442,10 +636,12 @@ def rules_of_meters(places, plain, own):
     takes = [it for it in places if meters_of(it.function)[0]]
     longer = [str(it) for it in plain if not is_one_call(it.function)]
     yield ONE_CALL, not longer, longer
+    makes = [it for it in places for _ in MAKES.findall(it.function.body)]
     for crate, most in METERS.items():
-        own_places = [it for it in places if it.crate == crate]
-        makes = [str(it) for it in own_places for _ in MAKES.findall(it.function.body)]
-        yield f"at most {most} places of {crate} make a meter", len(makes) <= most, makes
+        own_places = [str(it) for it in makes if it.crate == crate]
+        yield f"at most {most} places of {crate} make a meter", len(own_places) <= most, own_places
+    elsewhere = [str(it) for it in makes if it.crate not in METERS]
+    yield "no other crate makes a meter", not elsewhere, elsewhere
     second = naming(takes, MAKES)
     yield NO_SECOND, not second, second
     hidden = [f"{it} calls {call}" for it in takes for call in calls(it.function, own[it.crate])]
@@ -454,15 +650,31 @@ def rules_of_meters(places, plain, own):
 
 def rules_of_plain_forms(places, plain):
     """The rules of who calls a plain form: each with whether it holds, and what breaks it."""
-    names = {it.name for it in plain}
+    names = frozenset(it.name for it in plain)
     others = [it for it in places if it not in plain and it.name not in MAY_CALL_PLAIN]
-    lower = [it for it in others if it.crate in ("ring_core", "ring")]
+    lower = [it for it in others if it.crate in METERED]
     below = [f"{it} calls {call}" for it in lower for call in calls(it.function, names)]
     yield NONE_BELOW, not below, below
     program = [it for it in places if it.crate == "ring_passwords"]
-    of_store = {it for it in names if it[0] == "PasswordStore"}
+    of_store = frozenset(it for it in names if it[0] == "PasswordStore")
     derived = [f"{it} calls {call}" for it in program for call in calls(it.function, of_store)]
     yield "no plain form of a store is called in `ring_passwords`", not derived, derived
+
+
+def rules_without_meters(places, own):
+    """The rules of bodies that are handed no meter: each with whether it holds, and what breaks
+    it."""
+    metered = {it.name for it in places if meters_of(it.function)[0]}
+    once = [it for it in places if it.crate in CALLED_ONCE]
+    twice = [f"{it} calls {name} twice" for it in once
+             for name in repeated(it.function, own[it.crate] | metered)]
+    yield ONCE, not twice, twice
+    found = [(name, it, call) for it in once if it.crate == "ring_c"
+             for name, call in all_calls(it.function, {("", name) for name in DERIVES})]
+    count = collections.Counter(name for name, _, _ in found)
+    bad = [f"{it} calls {name}" for name, it, call in found
+           if count[name] > 1 or is_in_loop(it.function.body, call.start())]
+    yield ONE_DERIVATION, not bad, bad
 
 
 def rules_of_blocks(places):
@@ -491,6 +703,7 @@ def rules(files):
     own = unmetered(places, plain)
     yield from rules_of_meters(places, plain, own)
     yield from rules_of_plain_forms(places, plain)
+    yield from rules_without_meters(places, own)
     yield from rules_of_names(codes, own)
     yield from rules_of_blocks([it for it in places if it.crate != "ring_passwords"])
     yield "0x5a827999 stands in one place", len(constants) == 1, constants

@@ -3,11 +3,12 @@
 """Holds the password hashes of crates/ring_password_hash to what others read and write.
 
 The program over them answers the lines of vectors/password_hashes, whose answers stand there behind
-`#= `. It makes hashes at random as Python's hashlib does, and reads 2,000 texts, each one byte away
-from a good one, as a reader of this script does. Django, Werkzeug, passlib, RustCrypto,
-mosquitto_passwd and PostgreSQL make hashes that it verifies, and verify those that it makes;
-PostgreSQL is a server of the test's own on a socket. Each request for memory is refused in turn.
-The last line is 'N passed, M failed', and ', K skipped' where a system is missing.
+`#= `. It makes hashes at random as Python's hashlib does, and reads and verifies thousands of
+broken texts of each kind, verifiers of PostgreSQL among them, as a reader of this script does.
+Django, Werkzeug, passlib, RustCrypto, mosquitto_passwd and PostgreSQL make hashes that it verifies,
+and verify those that it makes; PostgreSQL is a server of the test's own on a socket. Each request
+for memory is refused in turn. The last line is 'N passed, M failed', and ', K skipped' where a
+system is missing.
 """
 
 import base64
@@ -34,6 +35,7 @@ import counted
 ROOT = pathlib.Path(__file__).resolve().parent.parent
 VECTORS = ROOT / "vectors/password_hashes"
 REFUSED = "not a password hash of this format"
+TOO_MANY = "too many iterations"
 PASSWORDS = [
     "x", "", "correct horse battery staple", "p" * 63, "p" * 64, "p" * 65, "q" * 300,
     "quo'te$\\", "Ünïcödé ☃",
@@ -44,10 +46,8 @@ AMPLE_LIMIT = 1_000_000
 
 def run_over(lines, **settings):
     """A run of the program over lines, and its answers."""
-    command = [ROOT / "tools/built", "ring_password_hash_main", "rt", "run"]
-    built = subprocess.run(command, stdout=subprocess.PIPE)
+    program = counted.built("ring_password_hash_main", "rt", "run")
     text = "".join(f"{line}\n" for line in lines).encode()
-    program = built.stdout.decode().strip()
     run = subprocess.run([program], input=text, stdout=subprocess.PIPE, timeout=600, **settings)
     return run, run.stdout.decode().split("\n")[:-1]
 
@@ -159,8 +159,8 @@ def count_and_length(kind, word, usual):
     return None
 
 
-def reading(text):
-    """The answer to `read`: the kind of the text and its count, and the text again."""
+def parsed(text):
+    """The kind of a text and its count, salt and hash; None if it is of no hash."""
     for kind, (prefix, _, usual, salt_form, hash_form) in KINDS.items():
         fields = text[len(prefix) :].split(b"$", 2)
         if not text.startswith(prefix) or len(fields) != 3:
@@ -168,8 +168,26 @@ def reading(text):
         named = count_and_length(kind, fields[0], usual)
         salt, value = decoded(salt_form, fields[1]), decoded(hash_form, fields[2])
         if named and salt and value and len(value) == named[1]:
-            return f"{kind} {named[0].decode()} {shown(text)}"
-    return REFUSED
+            return kind, int(named[0]), salt, value
+    return None
+
+
+def read_answer(text):
+    """The answer to `read`: the kind of the text and its count, and the text again."""
+    found = parsed(text)
+    return f"{found[0]} {found[1]} {shown(text)}" if found else REFUSED
+
+
+def verify_answer(text, password, limit):
+    """The answer to `verify`."""
+    found = parsed(text)
+    if found is None:
+        return REFUSED
+    kind, count, salt, value = found
+    if count > limit:
+        return TOO_MANY
+    derived = hashlib.pbkdf2_hmac(KINDS[kind][1], password, salt, count, len(value))
+    return "ok" if derived == value else "wrong password"
 
 
 def shown(text):
@@ -180,14 +198,50 @@ def shown(text):
         return f"hex:{text.hex()}"
 
 
-def verifier(count, salt, password):
-    """PostgreSQL's text (RFC 5802, section 3, and RFC 7677)."""
+def keys_of(count, salt, password):
+    """A verifier's two keys (RFC 5802, section 3, and RFC 7677)."""
     salted = hashlib.pbkdf2_hmac("sha256", password, salt, count)
     names = (b"Client Key", b"Server Key")
     client, server = (hmac.new(salted, name, "sha256").digest() for name in names)
-    stored = hashlib.sha256(client).digest()
-    fields = [base64.b64encode(data).decode() for data in (salt, stored, server)]
+    return hashlib.sha256(client).digest(), server
+
+
+def verifier(count, salt, password):
+    """PostgreSQL's text."""
+    data = (salt, *keys_of(count, salt, password))
+    fields = [base64.b64encode(it).decode() for it in data]
     return f"SCRAM-SHA-256${count}:{fields[0]}${fields[1]}:{fields[2]}"
+
+
+SCRAM_PREFIX = b"SCRAM-SHA-256$"
+VERIFIER = re.compile(re.escape(SCRAM_PREFIX) + rb"([^:]*):([^$]*)\$([^:]*):(.*)", re.DOTALL)
+
+
+def parsed_verifier(text):
+    """The count of a verifier's text, its salt and its two keys; None if it is of no verifier."""
+    match = VERIFIER.fullmatch(text)
+    if match is None or not is_count(match[1]):
+        return None
+    salt, *keys = (decoded(base64.b64encode, field) for field in match.groups()[1:])
+    are_keys = all(key is not None and len(key) == 32 for key in keys)
+    return (int(match[1]), salt, tuple(keys)) if salt and are_keys else None
+
+
+def scram_read_answer(text):
+    """The answer to `scram-read`."""
+    found = parsed_verifier(text)
+    return f"{found[0]} {shown(text)}" if found else REFUSED
+
+
+def scram_verify_answer(text, password, limit):
+    """The answer to `scram-verify`."""
+    found = parsed_verifier(text)
+    if found is None:
+        return REFUSED
+    count, salt, keys = found
+    if count > limit:
+        return TOO_MANY
+    return "ok" if keys == keys_of(count, salt, password) else "wrong password"
 
 
 # --- at random, from a seed, so that a failure can be repeated ---
@@ -206,7 +260,7 @@ def lines_at_random(rng, kind):
     count = rng.randrange(1, 200)
     text = made(kind, count, salt, password).decode()
     lower_limit = max(count - 1, 1)
-    answer = "ok" if count <= lower_limit else "too many iterations"
+    answer = "ok" if count <= lower_limit else TOO_MANY
     return [
         (f"make {kind} {count} {digits(salt)} {digits(password)}", text),
         (f"read {text}", f"{kind} {count} {text}"),
@@ -234,24 +288,120 @@ def are_as_hashlib():
     return differing(wanted)
 
 
-def broken(rng, text):
-    """The text with one byte changed, put in or left out."""
-    at = rng.randrange(len(text))
-    byte = bytes([rng.choice([rng.randrange(33, 127), rng.randrange(256), *b"$:,=+./0Aa"])])
-    before, after = text[:at], text[at + 1 :]
-    return rng.choice([before + byte + after, before + byte + text[at:], before + after])
+# --- broken texts ---
+
+# The kind of verifiers, beside KINDS.
+SCRAM = "scram"
+# Of the whole texts, and the limit of the verifications.
+COUNT, PASSWORD, LIMIT = 12, b"x", 20
+# What each byte is changed to. A line feed would end a line of the answers.
+OTHER_BYTES = b"$:,=+./-_09AZaz \0\x7f\x80\xff"
+COUNTS = [
+    *("", "0", "00", "01", "012", "-1", "+1", " 1", "1 ", "1_0", "1.0", "1e1", "0x1", "\u0661"),
+    *("1", "20", "21", "2147483648", "4294967295", "4294967296", "4294967297", "42949672950"),
+    *("18446744073709551617", "9" * 40),
+]
+LENGTHS = [0, 1, 2, 3, 9, 10, 11, 15, 16, 19, 20, 21, 31, 32, 33, 47, 48, 63, 64, 65, 96, 700]
+PARAMETERS_OF_NONE = ["i=12,l=32,", ",i=12", "l=32", "i=12,i=12", "i=12;l=32", "i=", "i"]
 
 
-def are_read_exactly():
-    """2000 texts, each one byte away from a good one, are read as this script's reader does."""
-    rng, wanted = random.Random(2898), []
-    for i in range(2000):
-        kind = list(KINDS)[i % len(KINDS)]
-        count, salt = rng.choice([1, 90, 1000]), random_salt(rng, kind)
-        parameters = rng.randrange(3) if "phc" in kind else 1
-        other = broken(rng, made(kind, count, salt, b"x", parameters))
-        wanted.append((f"read hex:{digits(other)}", reading(other)))
-    return differing(wanted)
+def upper(data):
+    return data.hex().upper().encode()
+
+
+def never_padded(data):
+    return base64.urlsafe_b64encode(data).rstrip(b"=")
+
+
+def padded_twice(data):
+    return base64.b64encode(data) + b"="
+
+
+# The forms of the fields, and others.
+FORMS = (
+    plain, text_symbols, upper, base64.b64encode, base64.urlsafe_b64encode, no_pad, adapted,
+    never_padded, padded_twice,
+)
+
+
+def broken_at(rng, text, at):
+    """The texts that differ from this one at a place: with another byte there, with one more, with
+    one or all of those on a side left out, and with two exchanged."""
+    before, byte, after = text[:at], text[at], text[at + 1 :]
+    near = {(byte + 1) % 256, (byte - 1) % 256, byte ^ 0x20, *rng.sample(range(256), 4)}
+    others = [bytes([it]) for it in sorted({*OTHER_BYTES, *near} - {byte, ord("\n")})]
+    more = [bytes([it]) for it in (byte, *rng.sample(OTHER_BYTES, 4))]
+    changed = [before + it + after for it in others] + [before + it + text[at:] for it in more]
+    exchanged = before + after[:1] + text[at : at + 1] + after[1:]
+    return [*changed, before + after, before, text[at:], exchanged]
+
+
+def heads(kind):
+    """Other texts of the count, and of the length where the kind has one."""
+    if "phc" not in kind:
+        return [it.encode() for it in (*COUNTS, *PARAMETERS_OF_NONE)]
+    named = [(count, 32) for count in COUNTS] + [(COUNT, length) for length in (*LENGTHS, "032")]
+    forms = [form.format(c=count, n=length) for form in PARAMETERS for count, length in named]
+    return [it.encode() for it in (*forms, *PARAMETERS_OF_NONE)]
+
+
+def parts_of(kind, text):
+    """The prefix of a text, its count, and then each end of a field and the next field."""
+    prefix = SCRAM_PREFIX if kind == SCRAM else KINDS[kind][0]
+    return [prefix, *re.split(rb"([:$])", text[len(prefix) :])]
+
+
+def other_parts(rng, kind, place):
+    """What is put in the place of a part."""
+    if place == 0:
+        return [SCRAM_PREFIX, *(prefix for prefix, *_ in KINDS.values())]
+    if place == 1:
+        return heads(kind)
+    if place % 2 == 0:
+        return [b"", b"$", b":", b"$$"]
+    data = [form(rng.randbytes(length)) for form in FORMS for length in LENGTHS]
+    return [it for it in data if b"\n" not in it]
+
+
+def with_other_parts(rng, kind, parts):
+    """The texts that differ in one part."""
+    for place in range(len(parts)):
+        before, after = parts[:place], parts[place + 1 :]
+        yield from (b"".join([*before, it, *after]) for it in other_parts(rng, kind, place))
+
+
+def whole_texts(rng, kind):
+    """Texts of a kind, one for each way to name its parameters."""
+    if kind == SCRAM:
+        return [verifier(COUNT, rng.randbytes(16), PASSWORD).encode()]
+    ways = range(len(PARAMETERS)) if "phc" in kind else [0]
+    return [made(kind, COUNT, random_salt(rng, kind), PASSWORD, way) for way in ways]
+
+
+def broken_texts(rng, kind):
+    """Broken texts of a kind, and some that are whole and have another count, salt or hash."""
+    for text in whole_texts(rng, kind):
+        yield from (it for at in range(len(text)) for it in broken_at(rng, text, at))
+        yield from with_other_parts(rng, kind, parts_of(kind, text))
+
+
+def broken_case(kind):
+    """A case with broken texts of a kind."""
+
+    def run():
+        rest, wanted = f"{digits(PASSWORD)} {LIMIT}", []
+        for text in broken_texts(random.Random(kind), kind):
+            word = f"hex:{digits(text)}"
+            wanted += [
+                (f"read {word}", read_answer(text)),
+                (f"verify {word} {rest}", verify_answer(text, PASSWORD, LIMIT)),
+                (f"scram-read {word}", scram_read_answer(text)),
+                (f"scram-verify {word} {rest}", scram_verify_answer(text, PASSWORD, LIMIT)),
+            ]
+        return differing(wanted)
+
+    run.__doc__ = f"broken texts of {kind} are read and verified as by this script's reader"
+    return run
 
 
 def proof_and_signature():
@@ -341,9 +491,15 @@ def verify(kind, password, text): return check_password_hash(text, password)
     "passlib": """
 from passlib.hash import pbkdf2_sha1, pbkdf2_sha256, pbkdf2_sha512
 hashes = {"sha1": pbkdf2_sha1, "sha256": pbkdf2_sha256, "sha512": pbkdf2_sha512}
-def make(kind, password): return hashes[kind.split("-")[1]].using(rounds=1000).hash(password)
+def make(kind, password, salt_size=16):
+    return hashes[kind.split("-")[1]].using(rounds=1000, salt_size=salt_size).hash(password)
 def verify(kind, password, text): return hashes[kind.split("-")[1]].verify(password, text)
 """,
+}
+# What a module is asked for texts that it writes too, and that no hash of a kind has.
+UNREAD = {
+    "werkzeug": [(f"werkzeug-{it}", "x") for it in ("sha1", "sha224", "sha384", "md5", "SHA256")],
+    "passlib": [(f"passlib-{it}", "x", 0) for it in ("sha1", "sha256", "sha512")],
 }
 ANSWER_ALL = """
 import json, sys
@@ -395,6 +551,24 @@ def with_module(module):
 
     run.__doc__ = f"{module}: its hashes are verified, and it verifies ours"
     return run
+
+
+def unread_of(module):
+    """A case with texts of a module that are refused."""
+
+    def run():
+        theirs = asked(module, [("make", *question) for question in UNREAD[module]])
+        return differing([(f"read {text}", REFUSED) for text in theirs])
+
+    run.__doc__ = f"{module}: what docs/PASSWORD_HASHES.md says that it writes too is refused"
+    return run
+
+
+def with_longest_salts():
+    """passlib: its hashes with its longest salts are verified"""
+    questions = [("make", kind, "x", 1024) for kind in KINDS if kind.startswith("passlib")]
+    texts = asked("passlib", questions)
+    return differing([row for text in texts for row in verdicts(text, "x", "y")])
 
 
 REGISTRY = pathlib.Path("/usr/share/cargo/registry")
@@ -578,10 +752,15 @@ def cases():
     """Each case, and what is missing for it on this machine."""
     files = sorted(VECTORS.glob("*.txt"))
     yield from ((file_case(file), "") for file in files)
-    yield from ((case, "") for case in (proof_and_signature, are_as_hashlib, are_read_exactly))
+    yield from ((case, "") for case in (proof_and_signature, are_as_hashlib))
+    yield from ((broken_case(kind), "") for kind in (*KINDS, SCRAM))
     yield each_request_is_refused, "" if shutil.which("cc") else "cc"
     for module in PEERS:
-        yield with_module(module), "" if python_with(module) else module
+        missing = "" if python_with(module) else module
+        yield with_module(module), missing
+        if module in UNREAD:
+            yield unread_of(module), missing
+    yield with_longest_salts, "" if python_with("passlib") else "passlib"
     yield with_rustcrypto, "" if has_rustcrypto() else "RustCrypto's crates"
     yield with_mosquitto, "" if shutil.which("mosquitto_passwd") else "mosquitto_passwd"
     yield with_postgres, "" if postgres_bin() else "PostgreSQL"

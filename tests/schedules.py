@@ -34,16 +34,14 @@ HASHES = {"SHA256": "sha256", "SHA384": "sha384"}
 SUITES = {"SHA256": "TLS_AES_128_GCM_SHA256", "SHA384": "TLS_AES_256_GCM_SHA384"}
 EXPORTED = ("EXPORTER-test", 40)
 # The texts of the RFCs, of Debian's packages doc-rfc-informational and doc-rfc-std-proposed.
-NAMES = ("informational/rfc8448", "proposed-standard/rfc9001")
+NAMES = ("informational/rfc8448", "proposed-standard/rfc9001", "proposed-standard/rfc9369")
 TEXTS = {name: pathlib.Path(f"/usr/share/doc/RFC/{name}.txt.gz") for name in NAMES}
 
 
 def answers(lines):
     """The program's answers."""
-    command = [ROOT / "tools/built", "ring_schedules_main", "rt", "run"]
-    built = subprocess.run(command, stdout=subprocess.PIPE)
+    program = counted.built("ring_schedules_main", "rt", "run")
     text = "".join(f"{line}\n" for line in lines).encode()
-    program = built.stdout.decode().strip()
     run = subprocess.run([program], input=text, stdout=subprocess.PIPE, timeout=600)
     return run.stdout.decode().split("\n")[:-1]
 
@@ -194,20 +192,49 @@ def random_tls13(rng):
     return line, output(name, made, secret, word)
 
 
+# What RFC 9369, section 3.3, says otherwise than RFC 9001, sections 5.2, 5.4 and 6.1: the salt of
+# the initial secret, and the beginning of the labels. The salts of both versions stand so in
+# aioquic and quic-go too.
+SALTS = {
+    1: bytes.fromhex("38762cf7f55934b34d179ae6a4c80cadccbb7f0a"),
+    2: bytes.fromhex("0dede3def700a6db819381be6e269dcbf9bd2ed9"),
+}
+PREFIXES = {1: b"quic ", 2: b"quicv2 "}
+LABELS = {"key:16": (b"key", 16), "iv": (b"iv", 12), "hp:32": (b"hp", 32), "next": (b"ku", 0)}
+
+
+def packet_output(name, secret, version, word):
+    """What a line asks of a secret of QUIC: the word that ends it, and its bytes."""
+    if word == "secret":
+        return secret
+    label, length = LABELS[word]
+    return expand_label(name, secret, PREFIXES[version] + label, b"", length or size(name))
+
+
 def random_packet(rng):
-    name, version = rng.choice(list(HASHES)), rng.choice([1, 2])
-    secret, prefix = rng.randbytes(size(name)), {1: b"quic ", 2: b"quicv2 "}[version]
-    words = [("key:16", b"key", 16), ("iv", b"iv", 12), ("hp:32", b"hp", 32), ("next", b"ku", 0)]
-    word, label, length = rng.choice(words)
+    name, version, word = rng.choice(list(HASHES)), rng.choice([1, 2]), rng.choice([*LABELS])
+    secret = rng.randbytes(size(name))
     line = f"packet {version} {name} {secret.hex()} {word}"
-    return line, expand_label(name, secret, prefix + label, b"", length or size(name))
+    return line, packet_output(name, secret, version, word)
+
+
+def random_initial(rng):
+    version, side = rng.choice([1, 2]), rng.choice(["client", "server"])
+    word = rng.choice(["secret", *LABELS])
+    # A connection ID has up to 20 bytes (RFC 9000, section 17.2).
+    connection_id = rng.randbytes(rng.randrange(21))
+    initial = extract("SHA256", SALTS[version], connection_id)
+    secret = derive("SHA256", initial, f"{side} in".encode(), b"")
+    line = f"quic {version} {digits(connection_id)} {side} {word}"
+    return line, packet_output("SHA256", secret, version, word)
 
 
 def are_as_hmac():
     """2000 lines at random are answered as a reading of the RFCs over Python's hmac does."""
     rng, wanted = random.Random(8446), []
-    for _ in range(500):
-        for make in (random_extract, random_expand, random_tls13, random_packet):
+    makers = (random_extract, random_expand, random_tls13, random_packet, random_initial)
+    for _ in range(400):
+        for make in makers:
             line, bytes_wanted = make(rng)
             wanted.append((line, "refused" if bytes_wanted is None else digits(bytes_wanted)))
     return differing(wanted)
@@ -525,11 +552,16 @@ def traces_are_of_the_text():
     return [(file.name, "another text") for file in other]
 
 
-def packets_are_of_the_text():
-    """Each value of vectors/schedules/rfc9001.txt stands in the RFC's text."""
-    text = re.sub(r"\s", "", text_of("proposed-standard/rfc9001"))
-    values = re.findall("#= (.*)", (ROOT / "vectors/schedules/rfc9001.txt").read_text())
-    return [(value, "not in the text") for value in values if value not in text]
+def packets_case(name):
+    """The vectors of an RFC on QUIC beside its text."""
+
+    def run():
+        text = re.sub(r"\s", "", text_of(f"proposed-standard/{name}"))
+        values = re.findall("#= (.*)", (ROOT / f"vectors/schedules/{name}.txt").read_text())
+        return [(value, "not in the text") for value in values if value not in text]
+
+    run.__doc__ = f"Each value of vectors/schedules/{name}.txt stands in the RFC's text."
+    return run
 
 
 def example_stands():
@@ -546,7 +578,8 @@ def cases():
     files = sorted((ROOT / "vectors/schedules").glob("*.txt"))
     yield from ((file_case(file), ROOT) for file in files)
     yield traces_are_of_the_text, TEXTS["informational/rfc8448"]
-    yield packets_are_of_the_text, TEXTS["proposed-standard/rfc9001"]
+    for name in ("rfc9001", "rfc9369"):
+        yield packets_case(name), TEXTS[f"proposed-standard/{name}"]
     yield from ((case, ROOT) for case in (example_stands, are_as_hmac))
     yield are_as_openssl_kdf, openssl
     for case in (peer_under_psk, peer_with_x25519):

@@ -16,6 +16,9 @@ import subprocess
 import sys
 import tempfile
 
+sys.dont_write_bytecode = True
+import counted
+
 ROOT = pathlib.Path(__file__).resolve().parent.parent
 PASSWORDS = ROOT / "passwords"
 
@@ -135,6 +138,9 @@ def program_writes_back(folder):
 
 
 def main():
+    # Over no words the program says how it is used.
+    if subprocess.run([PASSWORDS], stderr=subprocess.DEVNULL, timeout=3600).returncode != 2:
+        counted.end_unbuilt()
     passed = failed = 0
     with tempfile.TemporaryDirectory(prefix="store_text.") as folder:
         text = written(folder)

@@ -48,8 +48,7 @@ def is_built():
 
 def main():
     if not is_built():
-        print("The program is not built.")
-        return counted.report(0, 1, 0)
+        counted.end_unbuilt()
     asked = sys.argv[1:]
     beside, tests = (counted.suite(cases, asked) for cases in (BESIDE, CASES))
     return counted.report(*counted.run_beside(beside, tests))

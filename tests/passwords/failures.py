@@ -54,7 +54,7 @@ class Room(Case):
         path = self.new_path()
         mount = ["mount", "-t", "tmpfs", "-o", "size=64k", "none", path]
         if os.geteuid() != 0 or subprocess.run(mount, capture_output=True).returncode != 0:
-            self.skipTest("no right to mount a small disk")
+            self.skipTest("the right to mount a small disk")
         self.addCleanup(subprocess.run, ["umount", path], check=True)
         return path
 

@@ -166,7 +166,7 @@ class Kept(Case):
     def test_owner_and_group_stay(self):
         """A file that is replaced keeps its owner and its group where the system lets it."""
         if os.geteuid() != 0:
-            self.skipTest("not root")
+            self.skipTest("root")
         nobody, room, group = as_nobody(self), self.new_path(), NOBODY - 1
         program = program_for_nobody(room)
         (room / "folder").mkdir()

@@ -65,7 +65,7 @@ class Case(unittest.TestCase):
     def tool(self, *names):
         """The path of the first of these tools that is here; else the test is skipped."""
         found = next(filter(None, map(shutil.which, names)), None)
-        return found or self.skipTest(f"no {names[0]}")
+        return found or self.skipTest(names[0])
 
     def full_device(self):
         """A file that can't be written."""

@@ -9,16 +9,27 @@ from texts import KINDS, OTHER_PASSWORD, VERIFIED, check
 class OtherSystems(Case):
     """Each system verifies what `encode` writes, and `check` takes what it makes."""
 
-    def test_modules_of_python(self):
-        """Django, Werkzeug and passlib, those that are here."""
-        modules = [module for module in hashes.PEERS if hashes.python_with(module)]
-        if not modules:
-            self.skipTest("no module")
-        for kind in KINDS:
-            module = kind.split("-")[0]
-            if module in modules:
-                with self.subTest(kind=kind):
-                    self.assert_both_ways(module, kind)
+    def test_django(self):
+        """Django."""
+        self.assert_kinds_of("django")
+
+    def test_werkzeug(self):
+        """Werkzeug."""
+        self.assert_kinds_of("werkzeug")
+
+    def test_passlib(self):
+        """passlib."""
+        self.assert_kinds_of("passlib")
+
+    def assert_kinds_of(self, module):
+        """A module and this program take each other's texts, of each kind that is the module's."""
+        if not hashes.python_with(module):
+            self.skipTest(module)
+        kinds = [kind for kind in KINDS if kind.startswith(f"{module}-")]
+        self.assertTrue(kinds)
+        for kind in kinds:
+            with self.subTest(kind=kind):
+                self.assert_both_ways(module, kind)
 
     def assert_both_ways(self, module, kind):
         """A module and this program take each other's texts."""
@@ -33,7 +44,7 @@ class OtherSystems(Case):
     def test_postgresql(self):
         """PostgreSQL keeps our text and lets its password log in; `check` takes PostgreSQL's."""
         if not hashes.postgres_bin():
-            self.skipTest("no server")
+            self.skipTest("PostgreSQL")
         server = hashes.Server(str(self.new_path()))
         self.addCleanup(server.stop)
         words = ("encode", "postgresql", "--iterations", "5000")

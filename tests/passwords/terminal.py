@@ -32,7 +32,7 @@ class Terminal:
         try:
             self.pid, self.end = pty.fork()
         except OSError:
-            case.skipTest("no pseudo-terminal")
+            case.skipTest("a pseudo-terminal")
         if self.pid == 0:
             try:
                 # A script in the background ignores the first two, and Python the third.

@@ -158,7 +158,7 @@ class Alone(unittest.TestCase):
     def test_tree_that_cannot_be_read(self):
         """A folder that cannot be opened is told, and the others are read."""
         if os.geteuid() == 0:
-            self.skipTest("root can open every folder")
+            self.skipTest("a user other than root")
         self.write("t/a", b"1")
         self.write("t/shut/b", b"1")
         os.chmod(self.path / "t/shut", 0)

@@ -1,7 +1,8 @@
 /* SPDX-License-Identifier: ISC */
 /* Loaded into a program before the C library: the calls that open, read, look at and write files
  * and ask for memory are counted from 1, and one of them fails, as tests/sums asks in the
- * environment. A file can also be cut short or grow behind its first read. */
+ * environment. A folder can also be shut, and a file can be cut short or grow behind its first
+ * read. */
 #define _GNU_SOURCE
 #include <dlfcn.h>
 #include <errno.h>
@@ -9,22 +10,28 @@
 #include <stdarg.h>
 #include <stdio.h>
 #include <stdlib.h>
+#include <string.h>
 #include <sys/stat.h>
 #include <sys/types.h>
 #include <unistd.h>
 
-/* The call that fails, and the request for memory that is refused; 0 is none. */
-static long failed_call, refused_request;
+/* The call that fails, the read that fails, the read that is interrupted, and the request for
+ * memory that is refused; 0 is none. */
+static long failed_call, failed_read, interrupted_read, refused_request;
+/* Whether the first read is interrupted, and then every other one. */
+static long interrupts_reads;
+/* The path that cannot be opened. */
+static const char *shut_path;
 /* The length that the file CHANGED_FILE gets behind the first read of at least a byte; -1 is
  * none. */
 static long changed_length = -1;
 static const char *changed_file;
 /* At most so many bytes a read; 0 is no limit. */
 static long step;
-/* Where the counts of calls and of requests go at the end. */
+/* Where the counts of calls, of reads and of requests go at the end. */
 static long report_to = -1;
 
-static long calls, requests;
+static long calls, reads, requests;
 static int is_ready;
 
 static void get(const char *name, long *value) {
@@ -36,19 +43,45 @@ static void prepare(void) {
     if (is_ready) return;
     is_ready = 1;
     get("FAILED_CALL", &failed_call);
+    get("FAILED_READ", &failed_read);
+    get("INTERRUPTED_READ", &interrupted_read);
+    get("INTERRUPTS_READS", &interrupts_reads);
     get("REFUSED_REQUEST", &refused_request);
     get("CHANGED_LENGTH", &changed_length);
     get("STEP", &step);
     get("REPORT_TO", &report_to);
     changed_file = getenv("CHANGED_FILE");
+    shut_path = getenv("SHUT_PATH");
+}
+
+static int fail(int with) {
+    errno = with;
+    return 1;
 }
 
 /* Counts a call, and tells whether it fails. */
 static int fails(int with) {
     prepare();
-    if (++calls != failed_call) return 0;
-    errno = with;
-    return 1;
+    return ++calls == failed_call ? fail(with) : 0;
+}
+
+/* Whether the path is that one, be it with a slash behind it. */
+static int is_shut(const char *path) {
+    size_t len = shut_path ? strlen(shut_path) : 0;
+    if (len == 0 || strncmp(path, shut_path, len) != 0) return 0;
+    return strcmp(path + len, "") == 0 || strcmp(path + len, "/") == 0;
+}
+
+static int fails_to_open(const char *path) {
+    if (fails(EACCES)) return 1;
+    return is_shut(path) ? fail(EACCES) : 0;
+}
+
+static int fails_to_read(void) {
+    if (fails(EIO)) return 1;
+    reads++;
+    if (reads == failed_read) return fail(EIO);
+    return reads == interrupted_read || (interrupts_reads && reads % 2 == 1) ? fail(EINTR) : 0;
 }
 
 static int is_refused(void) {
@@ -65,7 +98,7 @@ void *calloc(size_t count, size_t size) { return is_refused() ? NULL : __libc_ca
 void *realloc(void *room, size_t size) { return is_refused() ? NULL : __libc_realloc(room, size); }
 
 static int open_by(const char *real, const char *path, int flags, mode_t mode) {
-    if (fails(EACCES)) return -1;
+    if (fails_to_open(path)) return -1;
     return ((int (*)(const char *, int, ...))dlsym(RTLD_NEXT, real))(path, flags, mode);
 }
 
@@ -86,7 +119,7 @@ int open64(const char *path, int flags, ...) {
 }
 
 static int openat_by(const char *real, int folder, const char *path, int flags, mode_t mode) {
-    if (fails(EACCES)) return -1;
+    if (fails_to_open(path)) return -1;
     return ((int (*)(int, const char *, int, ...))dlsym(RTLD_NEXT, real))(
         folder, path, flags, mode);
 }
@@ -113,8 +146,13 @@ int statx(int folder, const char *path, int flags, unsigned mask, struct statx *
         folder, path, flags, mask, found);
 }
 
-ssize_t read(int file, void *room, size_t len) {
+ssize_t getdents64(int folder, void *room, size_t len) {
     if (fails(EIO)) return -1;
+    return ((ssize_t(*)(int, void *, size_t))dlsym(RTLD_NEXT, "getdents64"))(folder, room, len);
+}
+
+ssize_t read(int file, void *room, size_t len) {
+    if (fails_to_read()) return -1;
     if (step > 0 && len > (size_t)step) len = step;
     ssize_t count = ((ssize_t(*)(int, void *, size_t))dlsym(RTLD_NEXT, "read"))(file, room, len);
     if (count > 0 && changed_length >= 0 && changed_file) {
@@ -132,5 +170,5 @@ ssize_t write(int file, const void *bytes, size_t len) {
 }
 
 __attribute__((destructor)) static void report(void) {
-    if (report_to >= 0) dprintf((int)report_to, "%ld %ld\n", calls, requests);
+    if (report_to >= 0) dprintf((int)report_to, "%ld %ld %ld\n", calls, reads, requests);
 }

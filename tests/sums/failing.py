@@ -10,6 +10,8 @@ import unittest
 
 from harness import BUILDS, digest_of, run
 
+# What calls.c counts, by the word that has one of them fail.
+COUNTED = ("FAILED_CALL", "FAILED_READ", "REFUSED_REQUEST")
 # What is said where a run ends at once.
 AT_ONCE = (b"sums: memory exhausted\n", b"sums: write error\n")
 
@@ -22,7 +24,7 @@ class Failing(unittest.TestCase):
 
     def setUp(self):
         if shutil.which("cc") is None:
-            self.skipTest("no C compiler")
+            self.skipTest("a C compiler")
         self.room = tempfile.TemporaryDirectory()
         self.addCleanup(self.room.cleanup)
         self.path = pathlib.Path(self.room.name)
@@ -38,22 +40,24 @@ class Failing(unittest.TestCase):
         (self.path / "list").write_bytes(b"".join(self.lines))
 
     def run_with(self, build, words, **failing):
-        """A run with the library loaded: how it ends, and how many calls and requests it had."""
+        """A run with the library loaded: how it ends, and its calls, reads and requests."""
         source, sink = os.pipe()
         environment = {"LD_PRELOAD": str(self.library), "REPORT_TO": str(sink)}
         environment |= {name: str(value) for name, value in failing.items()}
         found = run(build, words, self.path, pass_fds=[sink], environment=environment)
         os.close(sink)
         with os.fdopen(source) as report:
-            counts = [int(it) for it in report.read().split()] or [0, 0]
-        return found, counts
+            counts = [int(it) for it in report.read().split()]
+        self.assertEqual(len(counts), len(COUNTED), f"{self.library} is not loaded: {found}")
+        return found, dict(zip(COUNTED, counts))
 
     def in_turn(self, which, words, holds):
-        """Fails each call or request in turn, until a run ends with none that failed."""
+        """Fails each call or request in turn: a run is whole, or honest with status 1."""
         for build in BUILDS:
             whole, counts = self.run_with(build, words)
             self.assertEqual(whole[0], 0, whole)
-            for number in range(1, counts[which == "REFUSED_REQUEST"] + 1):
+            self.assertGreater(counts[which], 0)
+            for number in range(1, counts[which] + 1):
                 found, _ = self.run_with(build, words, **{which: number})
                 with self.subTest(words=words, number=number):
                     is_told = found[0] == 1 and found[2] and holds(found)
@@ -67,6 +71,17 @@ class Failing(unittest.TestCase):
         is_ordered = all(line in kept for line in lines)
         pairs = zip(self.NAMES, self.lines)
         told = all(line in lines or quoted(name) in error for name, line in pairs)
+        return is_ordered and (told or error in AT_ONCE)
+
+    def is_honest_tree(self, found):
+        """The same of a tree, where it may be told of a folder instead."""
+        _, output, error = found
+        lines = output.splitlines(keepends=True)
+        kept = iter(self.tree)
+        is_ordered = all(line in kept for line in lines)
+        told = all(
+            line in lines or any(b"sums: " + path + b": " in error for path in paths_to(line))
+            for line in self.tree)
         return is_ordered and (told or error in AT_ONCE)
 
     def is_honest_check(self, found):
@@ -87,15 +102,78 @@ class Failing(unittest.TestCase):
         """The same of a check."""
         self.in_turn("FAILED_CALL", ["-c", "list"], self.is_honest_check)
 
+    def write_trees(self):
+        """Writes two trees, of which `self.tree` has the lines."""
+        self.tree = []
+        for name in (b"t/a", b"t/b/c", b"t/b/d/e", b"t/f", b"u/g"):
+            path = self.path / os.fsdecode(name)
+            path.parent.mkdir(parents=True, exist_ok=True)
+            path.write_bytes(name)
+            self.tree.append(digest_of("sha256", name) + b"  " + name + b"\n")
+
+    def test_each_call_of_trees(self):
+        """The same of a run with `-r`."""
+        self.write_trees()
+        self.in_turn("FAILED_CALL", ["-r", "t", "u"], self.is_honest_tree)
+
+    def test_trees_that_cannot_be_opened(self):
+        """A tree that cannot be opened makes the status 1, wherever it stands."""
+        self.write_trees()
+        first, *_, fourth, last = self.tree
+        rows = [
+            (["-r", "t/b", "u"], [last]), (["-r", "u", "t/b"], [last]),
+            (["-r", "t/b", "t/f"], [fourth]), (["-r", "t", "u"], [first, fourth, last]),
+            (["-r", "t/b"], []),
+        ]
+        for build in BUILDS:
+            for words, lines in rows:
+                found, _ = self.run_with(build, words, SHUT_PATH="t/b")
+                wanted = (1, b"".join(lines), b"sums: t/b: Permission denied\n")
+                self.assertEqual(found, wanted, (words, found))
+
+    def test_interruptions(self):
+        """A run whose reads are interrupted is a whole one: each in turn, and every other one."""
+        self.write_trees()
+        for build in BUILDS:
+            for words in (["x", "long name", "z"], ["-c", "list"], ["-r", "t", "u"]):
+                whole, counts = self.run_with(build, words)
+                self.assertEqual(whole[0], 0, whole)
+                self.assertGreater(counts["FAILED_READ"], len(words))
+                for number in range(1, counts["FAILED_READ"] + 1):
+                    found, _ = self.run_with(build, words, INTERRUPTED_READ=number)
+                    self.assertEqual(found, whole, (words, number))
+                for step in (1, 997, 65_536):
+                    found, _ = self.run_with(build, words, INTERRUPTS_READS=1, STEP=step)
+                    self.assertEqual(found, whole, (words, step))
+
+    def test_reads_of_a_long_list(self):
+        """A list of 200,000 bytes whose reading fails makes the status 1, at each of its reads."""
+        line = digest_of("sha256", b"1") + b"  s\n"
+        text = line * (200_000 // len(line) + 1)
+        (self.path / "s").write_bytes(b"1")
+        (self.path / "long").write_bytes(text)
+        for build in BUILDS:
+            whole, counts = self.run_with(build, ["-c", "long"])
+            self.assertEqual(whole, (0, b"s: OK\n" * text.count(b"\n"), b""))
+            # All in parts of 65,536 bytes, and the end: then the listed files are read.
+            for number in range(1, 6):
+                found, _ = self.run_with(build, ["-c", "long"], FAILED_READ=number)
+                whole_lines = text[:65_536 * (number - 1)].count(b"\n")
+                wanted = (1, b"s: OK\n" * whole_lines, b"sums: long: read error\n")
+                self.assertEqual(found, wanted, number)
+            found, _ = self.run_with(build, ["-c", "long"], FAILED_READ=6)
+            self.assertEqual(found[0], 1)
+            self.assertIn(b"s: FAILED open or read\n", found[1])
+
     def test_each_request_for_memory(self):
         """Each request for memory is refused in turn."""
         self.in_turn("REFUSED_REQUEST", ["x", "long name", "z"], self.is_honest_listing)
         self.in_turn("REFUSED_REQUEST", ["-c", "list"], self.is_honest_check)
 
     def test_short_reads(self):
-        """Reads of 1, 63 and 1,000 bytes at most."""
+        """Reads of at most 1, 63, 997, 4,096 and 65,535 bytes."""
         for build in BUILDS:
-            for step in (997, 4096, 65_535):
+            for step in (1, 63, 997, 4096, 65_535):
                 found, _ = self.run_with(build, ["x", "long name", "z"], STEP=step)
                 self.assertEqual(found, (0, b"".join(self.lines), b""))
 
@@ -109,6 +187,12 @@ class Failing(unittest.TestCase):
                 found, _ = self.run_with(build, ["changing"], **changed)
                 read = before[:length] + bytes(max(length - len(before), 0))
                 self.assertEqual(found, (0, digest_of("sha256", read) + b"  changing\n", b""))
+
+
+def paths_to(line):
+    """The paths of the file that a line lists, and of the folders above it."""
+    parts = line.rstrip(b"\n").split(b"  ", 1)[1].split(b"/")
+    return [b"/".join(parts[:count]) for count in range(1, len(parts) + 1)]
 
 
 def quoted(name):

@@ -134,7 +134,7 @@ class BesideCoreutils(unittest.TestCase):
         if shutil.which("sha256sum") is None or f" {VERSION}\n" not in subprocess.run(
             ["sha256sum", "--version"], capture_output=True, text=True, env=ENVIRONMENT
         ).stdout:
-            raise unittest.SkipTest(f"no coreutils {VERSION}")
+            raise unittest.SkipTest(f"coreutils {VERSION}")
         cls.room = tempfile.TemporaryDirectory()
         cls.files = Files(cls.room.name, 1)
         cls.folder = cls.room.name
@@ -188,8 +188,17 @@ class BesideCoreutils(unittest.TestCase):
                 words = draw.choices(ODD_WORDS, k=draw.choice([1, 1, 2, 2, 3, 4]))
                 self.same("sha256", words, b"abc")
 
+    def test_long_arguments(self):
+        """Arguments longer than the program's first room for one, as names and as options."""
+        for length in (255, 256, 257, 300, 511, 512, 513, 1025, 4000, 5000):
+            name = b"./" * ((length - 1) // 2) + (b"/a" if length % 2 == 0 else b"a")
+            for words in ([name], [b"a", name, b"b.txt"], [b"--" + name, b"a"], [b"-c", name]):
+                with self.subTest(length=length, words=len(words)):
+                    self.same("sha256", words)
+
     def test_standard_streams(self):
         """Closed and full streams, and standard input that is asked for twice."""
+        self.same("sha256", [b"-", b"-"], random.Random(7).randbytes(200_000))
         for words in ([b"a"], [b"a", b"missing"], [b"-", b"-"], [b"-", b"a", b"-"], [b"-c", b"-"]):
             self.same("sha256", words, b"abc")
         rows = [

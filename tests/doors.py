@@ -60,7 +60,11 @@ NEEDED = {
 }
 # What is not run, and why. Packages are tried by `make -C capi dist-check`, in systems of its own,
 # and what `make` installs by its targets `installed`, `moved` and `openssl-policy`.
-NOT_RUN = {"sudo ": "which changes the system", "make check-all": "which runs this test"}
+NOT_RUN = {
+    "sudo ": "which changes the system",
+    "make check-all": "which runs this test",
+    "debootstrap ": "which fetches a system",
+}
 # Stands before the status of each block in what the shell writes.
 MARK = "-- the end of a block --"
 

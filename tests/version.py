@@ -1,0 +1,137 @@
+#!/usr/bin/env python3
+# SPDX-License-Identifier: ISC
+"""The version, which stands in capi/include/yezdopin.h, and in every other place must be the same.
+
+PLACES are the files that have to state it. Beside them a package or a program with a version behind
+its name, as in `NAME-1.2.3.crate`, and the shared library with its major number are looked for in
+all files and their names, but for the pages of HISTORY, which speak of other versions too. Then
+another version is planted wherever this one stands, in any file, and must be found there, so that
+no place is left out. The last line is 'N passed, M failed'.
+"""
+
+import pathlib
+import re
+import subprocess
+import sys
+
+ROOT = pathlib.Path(__file__).resolve().parent.parent
+HEADER = "capi/include/yezdopin.h"
+HISTORY = ("CHANGELOG.md", "docs/VERSIONS.md")
+# What states no version: other projects' outputs, machine code as text, and this test.
+NOT_READ = (":!vectors", ":!capi/generated", ":!tests/version.py")
+
+# The files that must state the version, and how: the first that the pattern finds is read.
+PLACES = (
+    (r'^version = "(.+)"$', "capi/python/pyproject.toml", "capi/rust/Cargo.toml",
+     "capi/rust/Cargo.lock", "capi/rust/rustcrypto/Cargo.toml"),
+    (r'^  "version": "(.+)",$', "capi/js/package.json", "capi/js/package/package.json"),
+    (r"^    version: (.+)$", "capi/openssl/README.md"),
+    (r"^## (.+) - \d{4}-\d\d-\d\d$", "CHANGELOG.md"),
+    (r"^YZ_VERSION = (\d+) \* 2 \^ 16 \+ (\d+) \* 2 \^ 8 \+ (\d+)$",
+     "crates/ring_c/specs/Version.antt"),
+    (r"^pub\(crate\) const VERSION: u32 = 0x(\w+);$", "crates/ring_c/src/version.rt"),
+    (r"library_version\(\), 0x(\w+)\)", "capi/test/packages"),
+)
+ANYWHERE = (
+    r"(?:yezdopin|passwords|sums)[\w()-]*?[-_ ]\(?(?:>= )?(\d+\.\d+(?:\.\d+)?)",
+    r"(?:libyezdopin(?:\.so\.)?|YEZDOPIN_)(\d+)",
+)
+# Beside these, places whose number is planted one higher.
+RAISED = (
+    (HEADER, r"#define YZ_VERSION_MINOR (\d+)"),
+    ("crates/ring_c/specs/Version.antt", r"\+ (\d+) \* 2 \^ 8 \+"),
+    ("crates/ring_c/src/version.rt", r"VERSION: u32 = 0x(\w+)"),
+    ("capi/test/packages", r"library_version\(\), 0x(\d+)"),
+    ("capi/test/packages", r"find_package\(yezdopin \d+\.(\d+)"),
+    ("capi/exports.map", r"YEZDOPIN_(\d+)"),
+    ("capi/README.md", r"libyezdopin\.so\.(\d+)"),
+)
+
+
+def texts_of_repository():
+    """The files that git knows, each with its text."""
+    listed = subprocess.run(
+        ["git", "ls-files", "--cached", "--others", "--exclude-standard", "--", ".", *NOT_READ],
+        cwd=ROOT, capture_output=True, text=True, check=True,
+    )
+    files = (name for name in listed.stdout.splitlines() if (ROOT / name).is_file())
+    return {name: (ROOT / name).read_text(errors="replace") for name in files}
+
+
+def numbers(match, pattern):
+    """The major number, the minor one and the patch, or as many of them as stand there."""
+    if "0x" in pattern:
+        number = int(match[1].replace("_", ""), 16)
+        return number >> 16, number >> 8 & 0xFF, number & 0xFF
+    return tuple(map(int, ".".join(match.groups()).split(".")))
+
+
+def version_of(texts):
+    """The header's version."""
+    parts = (re.search(rf"^#define YZ_VERSION_{it} (\d+)$", texts[HEADER], re.M)
+             for it in ("MAJOR", "MINOR", "PATCH"))
+    return tuple(int(it[1]) for it in parts)
+
+
+def places(texts):
+    """Each place with the version that stands there, which is None where it is missing."""
+    for pattern, *files in PLACES:
+        for name in files:
+            match = re.search(pattern, texts[name], re.M)
+            yield name, match and numbers(match, pattern)
+    for name, text in texts.items():
+        read = f"{name}\n{text}" if name not in HISTORY else ""
+        for pattern in ANYWHERE:
+            yield from ((name, numbers(it, pattern)) for it in re.finditer(pattern, read))
+
+
+def outcomes(texts):
+    """Of each place None, or what is wrong with it."""
+    version = version_of(texts)
+    for name, found in places(texts):
+        right = found is not None and found == version[: len(found)]
+        yield None if right else f"{name}: the version is {found}, and in {HEADER} {version}"
+
+
+def with_other(text, span, other):
+    """A text with another one in the place of a part."""
+    return text[: span[0]] + other + text[span[1] :]
+
+
+def planted(texts):
+    """Another version in each place where this one stands, none in PLACES, and those of RAISED."""
+    version = version_of(texts)
+    literal = re.compile(rf"(?<![\d.]){re.escape('.'.join(map(str, version)))}(?!\.?\d)")
+    other = ".".join(map(str, (*version[:-1], version[-1] + 1)))
+    for name, text in texts.items():
+        for match in literal.finditer(text):
+            yield name, with_other(text, match.span(), other)
+    for pattern, *files in PLACES:
+        for name in files:
+            match = re.search(pattern, texts[name], re.M)
+            yield name, with_other(texts[name], match.span() if match else (0, 0), "")
+    for name, pattern in RAISED:
+        match = re.search(pattern, texts[name])
+        raised = str(int(match[1]) + 1) if match else ""
+        yield name, with_other(texts[name], match.span(1) if match else (0, 0), raised)
+
+
+def missed_faults(texts, faults):
+    """The planted faults that are not found."""
+    for name, text in faults:
+        if text == texts[name] or not any(outcomes({**texts, name: text})):
+            yield f"planted in {name}, and no pattern reads it"
+
+
+def main():
+    texts = texts_of_repository()
+    found, faults = list(outcomes(texts)), list(planted(texts))
+    failed = [it for it in found if it] + list(missed_faults(texts, faults))
+    for it in failed:
+        print(f"FAILED: {it}")
+    print(f"{len(found) + len(faults) - len(failed)} passed, {len(failed)} failed")
+    return bool(failed)
+
+
+if __name__ == "__main__":
+    sys.exit(main())

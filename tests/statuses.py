@@ -1,17 +1,17 @@
 #!/usr/bin/env python3
 # SPDX-License-Identifier: ISC
-"""Tests that the statuses of the calls for C, the version and the longest text are the same in each
-place that has them.
+"""Tests that the statuses of the calls for C and the longest text are the same in each place that
+has them.
 
 The definitions in `crates/ring_c/specs/Status.antt`, of which the contracts speak, number the
 statuses from 0 on, and name the causes in that order. Compared with them: the header, the manual
 page and the table of capi/README.md, which list all statuses in their order; the constants of the
 Rust crate, which has no other numbers beside them; Python's reasons and what its docstrings say of
-statuses; the constants of the package for JavaScript and of its tests. The header's version and
-its longest text are those of the specs too, and the Rust crate's and the page's longest text that
-of the header. The header's comments are the statuses' texts, which `capi/status.c` gives to callers
-and the table of capi/README.md has. Then each place is read again with a planted fault, which must
-be found. The last line is 'N passed, M failed'.
+statuses; the constants of the package for JavaScript and of its tests. The longest text of the
+header, the Rust crate and the manual page is that of the specs. The header's comments are the
+statuses' texts, which `capi/status.c` gives to callers and the table of capi/README.md has. Then
+each place is read again with a planted fault, which must be found. The last line is 'N passed, M
+failed'.
 """
 
 import pathlib
@@ -20,7 +20,6 @@ import sys
 
 ROOT = pathlib.Path(__file__).resolve().parent.parent
 STATUS = "crates/ring_c/specs/Status.antt"
-VERSION = "crates/ring_c/specs/Version.antt"
 NEW_HASH = "crates/ring_password_hash/specs/New.antt"
 HEADER = "capi/include/yezdopin.h"
 PAGE = "capi/man/yezdopin.3"
@@ -45,7 +44,6 @@ PLANTED = (
     (TEXTS, '[YZ_OK] = "success"', '[YZ_OK] = "failure"'),
     (TEXTS, "[YZ_BAD_FORMAT] =", "[YZ_BAD_SALT] ="),
     (README, "| the number of iterations is 0 |", "| the number of iterations is 1 |"),
-    (HEADER, "#define YZ_VERSION_MINOR 1", "#define YZ_VERSION_MINOR 2"),
     (HEADER, "#define YZ_MAX_PASSWORD_HASH_LEN 1024", "#define YZ_MAX_PASSWORD_HASH_LEN 1023"),
     (PAGE, '.BR YZ_UNSPECIFIED " (8)"', '.BR YZ_UNSPECIFIED " (5)"'),
     (PAGE, ".BR YZ_MAX_PASSWORD_HASH_LEN ,\n1024,", ".BR YZ_MAX_PASSWORD_HASH_LEN ,\n1025,"),
@@ -62,7 +60,7 @@ PLANTED = (
 
 def texts_of_repository():
     """The files that tell of statuses, each with its text."""
-    names = {STATUS, VERSION, NEW_HASH, HEADER, PAGE, README, TEXTS}
+    names = {STATUS, NEW_HASH, HEADER, PAGE, README, TEXTS}
     for folder, pattern in FOLDERS.items():
         names |= {str(it.relative_to(ROOT)) for it in (ROOT / folder).glob(pattern)}
     return {name: (ROOT / name).read_text() for name in sorted(names)}
@@ -154,7 +152,7 @@ def rust_faults(texts):
 
 
 def length_faults(texts):
-    """The longest text and the version."""
+    """The longest text."""
     longest = numbers(texts[NEW_HASH], r"^max_text_len = (\d+)$")
     for place, pattern in (
         (HEADER, r"^#define YZ_MAX_PASSWORD_HASH_LEN (\d+)$"),
@@ -163,11 +161,6 @@ def length_faults(texts):
     ):
         found = numbers(texts[place], pattern)
         yield None if found == longest != [] else f"{place}: the longest text has {found} bytes"
-    found = re.search(r"^YZ_VERSION = (\d+) \* 2 \^ 16 \+ (\d+) \* 2 \^ 8 \+ (\d+)$",
-                      texts[VERSION], re.M)
-    version = numbers(texts[HEADER], r"^#define YZ_VERSION_(?:MAJOR|MINOR|PATCH) (\d+)$")
-    right = found and [int(it) for it in found.groups()] == version
-    yield None if right else f"{HEADER}: the version is {version}"
 
 
 def outcomes(texts):

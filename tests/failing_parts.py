@@ -1,6 +1,6 @@
 #!/usr/bin/env python3
 # SPDX-License-Identifier: ISC
-"""What no contract sees of a program: how it ends where the system refuses it something.
+"""How ./bench ends where the system refuses it something, which no contract sees.
 
 Loads failing_parts.c into the built program. Over one text of all kinds of lines each request for
 memory is refused in turn, until a run ends with none refused, and each read and each write fails in

@@ -1,6 +1,7 @@
 #!/usr/bin/env python3
 # SPDX-License-Identifier: ISC
-"""Tests that what the Markdown pages point to is there:
+"""Tests that what the Markdown pages point to is there: links, headings, pages, programs, items of
+the crates and constants.
 
 - each relative link: its file, and behind `#` a heading of that page;
 - each heading that is cited in double quotes, as in '[`capi`](../README.md), "Speed"', '("Speed")'

@@ -6,8 +6,9 @@ The program over them answers the lines of vectors/schedules, whose answers stan
 `#= `. It answers lines at random as a reading of the RFCs over Python's `hmac` does, and as
 `openssl kdf TLS13-KDF` does. From handshakes of OpenSSL's s_server and s_client on loopback, with
 both hashes, it gives the secrets of their key logs, the Finished messages, the binder, the exported
-bytes and the PSK of the ticket. The last line is 'N passed, M failed', and ', K skipped' where
-OpenSSL or the texts of the RFCs are missing.
+bytes and the PSK of the ticket. The vectors are compared with the RFCs' texts in /usr/share/doc/RFC
+(Debian's doc-rfc-*), of which tools/rfc8448.py makes those of RFC 8448 anew. The last line is
+'N passed, M failed', and ', K skipped' where OpenSSL or the texts are missing.
 """
 
 import contextlib

@@ -10,8 +10,8 @@ Rust crate, which has no other numbers beside them; Python's reasons and what it
 statuses; the constants of the package for JavaScript and of its tests. The longest text of the
 header, the Rust crate and the manual page is that of the specs. The header's comments are the
 statuses' texts, which `capi/status.c` gives to callers and the table of capi/README.md has. Then
-each place is read again with a planted fault, which must be found. The last line is 'N passed, M
-failed'.
+each place is read again with a planted fault, which must be found. The last line is
+'N passed, M failed'.
 """
 
 import pathlib

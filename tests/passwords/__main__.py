@@ -5,7 +5,8 @@
 Runs the built program in folders of its own: over broken files, with a full disk, in a folder that
 can't be written, with several processes at once, and with some that are killed. calls.c is
 loaded into it so that each system call that changes a file fails in turn, and is the last in turn.
-The launcher is run on terminals, with a shell and without one.
+The launcher is run on terminals, with a shell and without one. `encode` and `check` are held beside
+hashlib, Django, Werkzeug, passlib and PostgreSQL.
 
     python3 tests/passwords [WORD..]      all tests, or those with one of these words in their names
 

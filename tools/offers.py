@@ -1,0 +1,110 @@
+# SPDX-License-Identifier: ISC
+"""What each package offers its callers by the names in its sources, for README's table of packages.
+
+A row of docs/figures.json has a cell for each package: a list of names that the package has to
+offer, for yes, or a pattern that none of its names may match in any case of letters, for no. A
+comment offers nothing. The names are written as callers write them: `yz_digest`, `hmac.Key` in
+Python, `hkdf::Salt::extract` in Rust, `ring::hkdf::Salt::extract` in Rattle, and in JavaScript
+`digest` and `Running.copy`. Of the provider for OpenSSL they are the words of its code, in which
+stand the names of algorithms and modes.
+"""
+
+import ast
+import re
+
+import rattle_items
+
+ROOT = rattle_items.ROOT
+SLASHES = re.compile(r"/\*.*?\*/|//[^\n]*", re.S)
+# An `impl` for a type, or what is public.
+RUST = re.compile(
+    r"^impl(?:<[^>]*>)? (?:[^{;]*? for )?(?P<type>\w+)"
+    r"|^(?P<inside> *)pub (?:const |unsafe )*(?:fn|struct|enum|trait|const|static) (?P<name>\w+)",
+    re.M,
+)
+
+
+def of_c(texts):
+    """The functions and types that the header declares."""
+    header = SLASHES.sub("", texts["capi/include/yezdopin.h"])
+    return set(re.findall(r"^(?:(?:\w+ )+\*?|\} )(yz_\w+)(?=[(;])", header, re.M))
+
+
+def of_python(texts):
+    """What `__all__` lists in the public modules, each with its module but for the package's."""
+    for path, text in texts.items():
+        lists = [it.value for it in ast.parse(text).body if isinstance(it, ast.Assign)
+                 and getattr(it.targets[0], "id", "") == "__all__"]
+        module = path.rpartition("/")[2].removesuffix(".py")
+        front = "" if module == "__init__" else f"{module}."
+        yield from (front + name for it in lists for name in ast.literal_eval(it))
+
+
+def of_rust(texts):
+    """What is public in the crate's public modules: functions, types, and methods behind types."""
+    public = re.findall(r"^pub mod (\w+);", texts["capi/rust/src/lib.rs"], re.M)
+    for module in public:
+        subject = ""
+        for it in RUST.finditer(SLASHES.sub("", texts[f"capi/rust/src/{module}.rs"])):
+            subject = it["type"] or subject
+            if it["name"]:
+                yield "::".join([module, *([subject] if it["inside"] else []), it["name"]])
+
+
+def of_javascript(texts):
+    """The functions that the types export, and the members of `Running`."""
+    text = SLASHES.sub("", texts["capi/js/package/yezdopin.d.ts"])
+    running = re.search(r"^export interface Running \{(.*?)^\}", text, re.M | re.S).group(1)
+    members = {f"Running.{it}" for it in re.findall(r"^  (\w+)\(", running, re.M)}
+    return members.union(re.findall(r"^export function (\w+)", text, re.M))
+
+
+def of_openssl(texts):
+    """The words of the provider's code."""
+    return {word for text in texts.values() for word in re.findall(r"\w+", SLASHES.sub("", text))}
+
+
+def of_rattle(_texts):
+    """The public items of the libraries, and their public members."""
+    sources = rattle_items.Sources()
+    for page, item in sources.shown.values():
+        yield f"{page.name}::{item.name}"
+        yield from (f"{page.name}::{item.name}::{it.name}" for it in sources.members(item))
+
+
+# Where each package's names stand, and what reads them there.
+PACKAGES = {
+    "C": (of_c, ["capi/include/yezdopin.h"]),
+    "Python": (of_python, [f"capi/python/src/yezdopin/{it}.py" for it in ("__init__", "[a-z]*")]),
+    "Rust": (of_rust, ["capi/rust/src/*.rs"]),
+    "JavaScript": (of_javascript, ["capi/js/package/yezdopin.d.ts"]),
+    "OpenSSL": (of_openssl, ["capi/openssl/*.c", "capi/openssl/*.h"]),
+    "Rattle": (of_rattle, []),
+}
+
+
+def texts_of(package):
+    """The files that a package's names stand in, each with its text."""
+    paths = [path for pattern in PACKAGES[package][1] for path in sorted(ROOT.glob(pattern))]
+    return {str(path.relative_to(ROOT)): path.read_text() for path in paths}
+
+
+def names_of(package, texts=None):
+    """The names that a package offers, by its files or by other texts for them."""
+    return set(PACKAGES[package][0](texts_of(package) if texts is None else texts))
+
+
+def fault_of(cell, names):
+    """What a cell says against the names that its package offers, or None."""
+    if isinstance(cell, list):
+        missing = [it for it in cell if it not in names]
+        return f"yes, without {', '.join(missing)}" if missing else None
+    found = sorted(it for it in names if re.search(cell, it, re.I))
+    return f"no, but there is {', '.join(found)}" if found else None
+
+
+def faults(rows, names):
+    """The cells of the table that are wrong by the names that each package offers."""
+    cells = ((row, package) for row in rows for package in PACKAGES)
+    told = ((row, package, fault_of(row[package], names[package])) for row, package in cells)
+    return [f"{row['what']}: {package}: {fault}" for row, package, fault in told if fault]

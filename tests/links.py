@@ -29,7 +29,7 @@ import sys
 
 ROOT = pathlib.Path(__file__).resolve().parent.parent
 LINK = re.compile(r"(?<!!)\[(?P<text>(?:[^\[\]]|\[[^\]]*\])*)\]\((?P<target>[^)\s]+)\)")
-HTML = re.compile(r'<(?:a href|img src)="(?P<target>[^"]+)"')
+HTML = re.compile(r'<(?:a href|img src|source media="[^"]*" srcset)="(?P<target>[^"]+)"')
 CITED = re.compile(r'"(?P<heading>[A-Z][^"]*)"')
 NAMED = re.compile(r"`(?P<path>(?:[\w./-]+/)?[\w-]+\.md|(?:tests|tools)/[\w.-]+)`")
 ELSEWHERE = re.compile(r"[a-z]+:")
@@ -54,6 +54,7 @@ See [`docs/API.md`](docs/API.md), "Calls", and "Part one", `ring::laws`, `std::n
 """
 PLANTED = (
     "[a page](docs/NONE.md)",
+    '<source media="(max-width: 9px)" srcset="docs/none.svg">',
     "[a part](#part-two)",
     "[a part](docs/API.md#no-such-part)",
     'as "Part two" says',

@@ -30,6 +30,11 @@ except ImportError as error:
 
 OUT = pathlib.Path(*sys.argv[1:2] or [rattle_items.ROOT / "docs" / "reference"])
 STYLE = pathlib.Path(__file__).with_name("reference.css")
+# The pictures of the first page, with what they show.
+PICTURES = {
+    "layers": "the layers of the library: what is proved, tested and trusted",
+    "proof": "how a call is proved: a definition, a contract, and the code that keeps it",
+}
 # The headings of a page, and the kinds of items below each.
 SECTIONS = {
     "Functions": ("fn",),
@@ -259,6 +264,7 @@ class Reference:
     def write_lists(self):
         """The list of modules, and the list of all items."""
         body = "<p>The libraries' public items, each with its comment, signature and contract.</p>"
+        body += "".join(picture(name, words) for name, words in PICTURES.items())
         for library in self.sources.libraries:
             pages = [it for it in self.sources.pages if it.library == library]
             links = (f'<a href="{file_of(it)}"><code>{it.name}</code></a>' for it in pages)
@@ -278,6 +284,16 @@ def table(heading, rows):
     cells = "".join(f"<tr><td>{name}</td><td>{text}</td></tr>" for name, text in rows)
     title = f"<h2>{heading}</h2>" if heading else ""
     return f'{title}<table class="list">{cells}</table>' if rows else ""
+
+
+def picture(name, words):
+    """A picture of docs/pictures, which it copies, as wide as the page has room for."""
+    for file in (f"{name}.svg", f"{name}_narrow.svg"):
+        (OUT / file).write_text((rattle_items.ROOT / "docs" / "pictures" / file).read_text())
+    return (
+        f'<p><picture><source media="(max-width: 600px)" srcset="{name}_narrow.svg">'
+        f'<img src="{name}.svg" alt="{words}"></picture></p>'
+    )
 
 
 def main():

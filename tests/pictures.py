@@ -1,6 +1,6 @@
 #!/usr/bin/env python3
 # SPDX-License-Identifier: ISC
-"""Tests the pictures and tables that tools/pictures.py makes of docs/figures.json:
+"""Tests the pictures and tables that tools/pictures.py makes of docs/figures.json.
 
 - each stands in the repository as it is made, and README has no figure of speed beside them;
 - each measurement has its command, date and processor, and a figure or null for each place;

@@ -1,15 +1,18 @@
 #!/usr/bin/env python3
 # SPDX-License-Identifier: ISC
-"""How ./bench, ./sums and ./passwords build their programs, by tools/built.
+"""How ./bench, ./sums and ./passwords build their programs, by tools/built, and what they tell of
+themselves.
 
 Each test has a copy of the launchers with crates that hold a word, and an `rt` of its own, which
-"builds" a program that prints the word. The last line is 'N passed, M failed'.
+says what the kit's says, and "builds" a program that prints the word. The last line is
+'N passed, M failed'.
 
     tests/launchers.py [WORD..]     all tests, or those with one of these words in their names
 """
 
 import os
 import pathlib
+import re
 import shutil
 import subprocess
 import sys
@@ -21,7 +24,13 @@ sys.dont_write_bytecode = True
 import counted
 
 ROOT = pathlib.Path(__file__).resolve().parent.parent
-COPIED = ["bench", "sums", "passwords", "tools/built", "tools/progress.py"]
+COPIED = [
+    "bench", "sums", "passwords", "tools/about", "tools/built", "tools/progress.py",
+    "crates/ring_sums/src/about.rt", "crates/ring_passwords/src/about.rt",
+]
+# The library's.
+HEADER = (ROOT / "capi/include/yezdopin.h").read_text()
+VERSION = r"\.".join(re.findall(r"#define YZ_VERSION_(?:MAJOR|MINOR|PATCH) (\d+)", HEADER))
 # The crates of a launcher's programs.
 CRATES = {
     "bench": ["ring_bench_main"],
@@ -30,14 +39,23 @@ CRATES = {
 }
 TIMEOUT = 60
 
-# Reads the word, notes that it has, waits as long as `wait` is there, and writes the program.
+# Reads the word, notes that it has, waits as long as the crate has a `wait`, and writes the
+# program, or once the library.
 RT = """#!/bin/sh
+crate=$(basename "$PWD")
+[ "$1" = run ] || [ ! -e out/rlib ] || exit 0
 word=$(cat src/main.rt)
-echo "$word" >>../../begun
-while [ -e ../../wait ]; do sleep 0.01; done
+[ "$1" != run ] || echo "$word" >>../../begun
+[ ! -e ../../says ] || cat ../../says >&2
+echo "rt: chose --jobs 1 for $crate"
+echo 'so far: 0 of 8 functions checked; the verdict comes last'
+while [ -e wait ]; do sleep 0.01; done
 [ "$word" != fails ] || { echo 'the reason'; exit 1; }
+echo "fn $crate::count::count_in: proved"
+echo 'logic=proved functions=8 sum=dac8208d native=nat,char,string logic-built=trusted'
 mkdir -p out
-program=out/$(basename "$PWD")
+program=out/$crate
+[ "$1" = run ] || program=out/rlib
 printf '#!/bin/sh\\necho %s\\n' "$word" >"$program"
 chmod +x "$program"
 """
@@ -62,10 +80,11 @@ class Launchers(unittest.TestCase):
             (folder / path).parent.mkdir(parents=True, exist_ok=True)
             shutil.copy(ROOT / path, folder / path)
         crates = [crate for of in CRATES.values() for crate in of]
-        (folder / "crates.txt").write_text("".join(f"{crate}:\n" for crate in crates))
-        for crate in crates:
+        (folder / "crates.txt").write_text(
+            "ring_core:\nring: ring_core\n" + "".join(f"{crate}: ring\n" for crate in crates))
+        for crate in ["ring_core", "ring", *crates]:
             for part in ("src", "specs", "proofs"):
-                (folder / "crates" / crate / part).mkdir(parents=True)
+                (folder / "crates" / crate / part).mkdir(parents=True, exist_ok=True)
         self.edit(folder, word)
         return folder
 
@@ -74,17 +93,19 @@ class Launchers(unittest.TestCase):
         for crate in (folder / "crates").iterdir():
             (crate / "src/main.rt").write_text(word + "\n")
 
-    def begin(self, launcher, folder, path=None, **environment):
+    def begin(
+        self, launcher, folder, words=(), path=None, stdout=subprocess.PIPE,
+        stderr=subprocess.PIPE, **environment,
+    ):
         """A launcher that runs, with `rt` on its path or another path."""
         path = path or f"{self.tools}:{os.environ['PATH']}"
         return subprocess.Popen(
-            [folder / launcher], cwd=self.room, stdin=subprocess.DEVNULL, stdout=subprocess.PIPE,
-            stderr=subprocess.PIPE, text=True,
-            env={**os.environ, "RT": "rt", "PATH": path, **environment})
+            [folder / launcher, *words], cwd=self.room, stdin=subprocess.DEVNULL, stdout=stdout,
+            stderr=stderr, text=True, env={**os.environ, "RT": "rt", "PATH": path, **environment})
 
-    def run_of(self, launcher, folder, **settings):
+    def run_of(self, launcher, folder, *words, **settings):
         """How a run of a launcher ends: its status, its output and its messages."""
-        running = self.begin(launcher, folder, **settings)
+        running = self.begin(launcher, folder, words, **settings)
         output, error = running.communicate(timeout=TIMEOUT)
         return running.returncode, output, error
 
@@ -92,6 +113,17 @@ class Launchers(unittest.TestCase):
         """The words that were built."""
         begun = folder / "begun"
         return begun.read_text().split() if begun.exists() else []
+
+    def until(self, holds):
+        """Waits until something holds."""
+        end = time.monotonic() + TIMEOUT
+        while not holds():
+            self.assertLess(time.monotonic(), end)
+            time.sleep(0.01)
+
+
+class Building(Launchers):
+    """When they build, and what comes of it."""
 
     def test_built_once(self):
         """What is built is not built again, until a source is edited."""
@@ -109,13 +141,14 @@ class Launchers(unittest.TestCase):
         for launcher in CRATES:
             with self.subTest(launcher=launcher):
                 folder = self.clone(launcher, "one")
-                (folder / "wait").touch()
+                waits = [folder / "crates" / crate / "wait" for crate in CRATES[launcher]]
+                for it in waits:
+                    it.touch()
                 running = self.begin(launcher, folder)
-                end = time.monotonic() + TIMEOUT
-                while not self.builds(folder) and time.monotonic() < end:
-                    time.sleep(0.01)
+                self.until(lambda: self.builds(folder))
                 self.edit(folder, "two")
-                (folder / "wait").unlink()
+                for it in waits:
+                    it.unlink()
                 self.assertEqual(running.communicate(timeout=TIMEOUT)[0], "one\n")
                 self.assertEqual(self.run_of(launcher, folder)[:2], (0, "two\n"))
                 self.assertEqual(self.builds(folder), ["one", "two"])
@@ -150,6 +183,7 @@ class Launchers(unittest.TestCase):
             folder = self.clone(name, "own")
             for launcher in CRATES:
                 with self.subTest(launcher=launcher, name=name):
+                    self.assertEqual(self.run_of(launcher, folder, "--version")[::2], (0, ""))
                     self.assertEqual(self.run_of(launcher, folder)[:2], (0, "own\n"))
                     link = self.room / f"{launcher} link"
                     link.symlink_to(folder / launcher)
@@ -157,8 +191,71 @@ class Launchers(unittest.TestCase):
                     link.unlink()
 
 
+class About(Launchers):
+    """What they tell of themselves."""
+
+    def test_nothing_is_built_for_it(self):
+        """`--help` and `--version`, alone, build nothing, with the kit and without it."""
+        for launcher in CRATES:
+            folder = self.clone(launcher, "one")
+            for path in (None, "/usr/bin:/bin"):
+                with self.subTest(launcher=launcher, path=path):
+                    status, output, error = self.run_of(launcher, folder, "--help", path=path)
+                    self.assertEqual((status, error), (0, ""))
+                    self.assertRegex(output, rf"\A[Uu]sage: \S*{launcher} (?s:.+)\n\Z")
+                    status, output, error = self.run_of(launcher, folder, "--version", path=path)
+                    self.assertEqual((status, error), (0, ""))
+                    self.assertRegex(output, rf"\A{launcher}( \(yezdopin\))? {VERSION}\n\Z")
+            self.assertEqual((self.builds(folder), list(folder.rglob("out"))), ([], []))
+
+    def test_other_words_go_to_the_program(self):
+        """With a word beside them they are the program's, as is each other word."""
+        for launcher in CRATES:
+            folder = self.clone(launcher, "one")
+            rows = [
+                ("--help", "x"), ("--version", "--help"), ("", "--help"), ("--helps",), ("--he",),
+                ("--help --version",),
+            ]
+            for words in rows:
+                with self.subTest(launcher=launcher, words=words):
+                    self.assertEqual(self.run_of(launcher, folder, *words)[:2], (0, "one\n"))
+
+    def test_it_cannot_be_written(self):
+        """On a full device the status and the message are those of the page."""
+        rows = {
+            "bench": (2, "ring_bench: write failed\n"),
+            "sums": (1, f"{self.room}/sums/sums: write error: No space left on device\n"),
+            "passwords": (
+                2, "passwords: cannot write to standard output: No space left on device\n"),
+        }
+        for launcher, wanted in rows.items():
+            folder = self.clone(launcher, "one")
+            for word in ("--help", "--version"):
+                with self.subTest(launcher=launcher, word=word), open("/dev/full", "wb") as full:
+                    status, _, error = self.run_of(launcher, folder, word, stdout=full)
+                    self.assertEqual((status, error), wanted)
+
+    def test_escapes(self):
+        """A text is that of the source's constants, each with its escapes undone."""
+        source = self.room / "about.rt"
+        source.write_text(
+            '// "A"\npub(crate) const A: &str = "\\\n    a \\"b\\" \\\\n %s\\n\\\n\n\t  c\\\\\";\n'
+            'const B: &[u8] =\n    b"d\ne\";\nconst C: &str = "\\x41\";\n')
+        rows = [
+            (("A",), 0, 'a "b" \\n %s\nc\\', ""), (("B", "B"), 0, "d\ned\ne", ""),
+            (("C",), 3, "", "an unknown escape in C"), (("D",), 3, "", "no constant D"),
+        ]
+        for names, status, output, error in rows:
+            command = [ROOT / "tools/about", "told", source, *names]
+            ended = subprocess.run(command, capture_output=True, text=True, timeout=TIMEOUT)
+            self.assertEqual((ended.returncode, ended.stdout), (status, output), names)
+            wanted = f"tools/about: {error} in {source}\n" if error else ""
+            self.assertEqual(ended.stderr, wanted, names)
+
+
 def main():
-    result = counted.run(counted.suite([Launchers], sys.argv[1:]), sys.stdout)
+    cases = [Building, About]
+    result = counted.run(counted.suite(cases, sys.argv[1:]), sys.stdout)
     return counted.report(*result.counts())
 
 

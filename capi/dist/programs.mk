@@ -30,7 +30,8 @@ endif
 define launcher
 	{ printf '%s\n' '#!/bin/bash' '# SPDX-License-Identifier: ISC' '# $(1)(1) describes the program.' \
 	    'set -euo pipefail' && \
-	sed '1,/^set -euo pipefail$$/d; /^root=/d; /^# With --version/d; /^ *processor=/d' ../$(1) \
+	sed -e '1,/^set -euo pipefail$$/d; /^root=/d; /^# about /,/^esac$$/d' \
+	        -e '/^# With --version/d; /^ *processor=/d' ../$(1) \
 	    | sed 's|^program=.*/tools/built" "\{0,1\}\([a-z_$$]*\).*|program=/usr/lib/yezdopin/\1|'; } \
 	    >"$(WORK)/$(TOOLS_DEB)/usr/bin/$(1)"
 	chmod 755 "$(WORK)/$(TOOLS_DEB)/usr/bin/$(1)"

@@ -8,7 +8,7 @@ import shutil
 import subprocess
 import time
 
-from harness import DONE, LAUNCHER, PROGRAM, ROOT, USAGE, WRONG, Case, told
+from harness import DONE, LAUNCHER, PROGRAM, ROOT, USAGE, WRONG, Case, bare, told
 
 
 class Launcher(Case):
@@ -32,6 +32,13 @@ class Launcher(Case):
         is_program = becomes(waiting, PROGRAM)
         waiting.communicate(b"\n")
         self.assertEqual((is_program, waiting.returncode), (True, 0))
+
+    def test_it_tells_what_the_program_tells(self):
+        """`--help` and `--version`, alone, for which it builds nothing, are answered alike."""
+        for word in ("--help", "--version"):
+            ended = subprocess.run([LAUNCHER, word], capture_output=True, timeout=60)
+            found = ended.returncode, told(ended.stderr), ended.stdout
+            self.assertEqual(found, bare(word))
 
     def test_it_tells_that_it_cannot_build(self):
         """A launcher that can't build the program ends with status 3, and says why."""

@@ -27,9 +27,10 @@ import counted
 import failing
 import generated
 import harness
+import launcher
 import speed
 
-CASES = [generated.BesideCoreutils, alone.Alone, failing.Failing]
+CASES = [generated.BesideCoreutils, alone.Alone, failing.Failing, launcher.Launcher]
 
 
 def is_built():

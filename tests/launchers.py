@@ -1,7 +1,7 @@
 #!/usr/bin/env python3
 # SPDX-License-Identifier: ISC
 """How ./bench, ./sums and ./passwords build their programs, by tools/built, and what they tell of
-themselves.
+themselves and of the build.
 
 Each test has a copy of the launchers with crates that hold a word, and an `rt` of its own, which
 says what the kit's says, and "builds" a program that prints the word. The last line is
@@ -10,13 +10,16 @@ says what the kit's says, and "builds" a program that prints the word. The last 
     tests/launchers.py [WORD..]     all tests, or those with one of these words in their names
 """
 
+import fcntl
 import os
 import pathlib
 import re
 import shutil
+import struct
 import subprocess
 import sys
 import tempfile
+import termios
 import time
 import unittest
 
@@ -253,8 +256,103 @@ class About(Launchers):
             self.assertEqual(ended.stderr, wanted, names)
 
 
+class Progress(Launchers):
+    """What they show of a build."""
+
+    PLACES = ["ring_core (1 of 3)", "ring (2 of 3)", "ring_passwords (3 of 3)"]
+
+    def shown(self, error):
+        """The lines behind the first, which says how long it takes, as of the first minute."""
+        first, *lines = re.sub(r"\d+ min\b", "0 min", error).split("\n")[:-1]
+        self.assertRegex(first, r"\Aring_\w+: proving and building .* nine to twelve minutes ")
+        return lines
+
+    def test_a_line_for_each_crate(self):
+        """Off a terminal a crate that is proved has a line, and what is proved has none."""
+        folder = self.clone("passwords", "one")
+        error = self.run_of("passwords", folder)[2]
+        self.assertEqual(self.shown(error), [f"{it}: proving, 0 min" for it in self.PLACES])
+        self.assertEqual(self.run_of("passwords", folder)[2], "")
+        self.edit(folder, "two")
+        error = self.run_of("passwords", folder)[2]
+        self.assertEqual(self.shown(error), [f"{self.PLACES[2]}: proving, 0 min"])
+
+    def test_on_a_terminal(self):
+        """On a terminal a line is rewritten: the crate, and how many functions are done."""
+        counts = ("proving", "0 of 8 functions proved", "8 functions proved")
+        for columns in (0, 30, 100):
+            with self.subTest(columns=columns):
+                folder = self.clone(f"clone {columns}", "one")
+                error = self.on_terminal("passwords", folder, columns)
+                width = (columns or 80) - 1
+                # A line that took long stands there several times.
+                found = [list(dict.fromkeys(it.split("\r"))) for it in self.shown(error)]
+                self.assertEqual(found, [
+                    ["", *(f"{f'{it}: {count}, 0 min':<{width}.{width}}" for count in counts)]
+                    for it in self.PLACES])
+
+    def on_terminal(self, launcher, folder, columns):
+        """The messages of a launcher on a terminal with so many columns, or with no size."""
+        ours, theirs = os.openpty()
+        fcntl.ioctl(theirs, termios.TIOCSWINSZ, struct.pack("4H", 0, columns, 0, 0))
+        self.assertEqual(self.run_of(launcher, folder, stderr=theirs)[:2], (0, "one\n"))
+        os.close(theirs)
+        error = os.read(ours, 100_000).decode().replace("\r\n", "\n")
+        os.close(ours)
+        return error
+
+    def test_one_that_waits(self):
+        """One that waits for another shows what that one does, whichever program it builds."""
+        folder = self.clone("clone", "one")
+        waits = [folder / f"crates/{it}/wait" for it in ("ring_core", "ring", "ring_passwords")]
+        for it in waits:
+            it.touch()
+        first = self.begin("passwords", folder)
+        state = folder / "out/building"
+        self.until(lambda: state.exists() and "ring_core (1 of 3)" in state.read_text())
+        seen = self.room / "seen"
+        with open(seen, "wb") as error:
+            second = self.begin("bench", folder, stderr=error)
+        third = self.begin("passwords", folder)
+        for it, place in zip(waits, self.PLACES):
+            line = f"another ./passwords is proving {place}, 0 min\n"
+            self.until(lambda: line in seen.read_text())
+            it.unlink()
+        for it in (first, second, third):
+            self.assertEqual(it.communicate(timeout=TIMEOUT)[0], "one\n")
+        self.assertEqual(self.shown(seen.read_text()), [
+            *(f"another ./passwords is proving {it}, 0 min" for it in self.PLACES),
+            "ring_bench_main (3 of 3): proving, 0 min",
+        ])
+        # The third one found it built.
+        self.assertEqual(self.builds(folder), ["one", "one"])
+
+    def test_no_place_for_the_lock(self):
+        """Where the lock cannot be made, the program is built all the same."""
+        folder = self.clone("clone", "one")
+        (folder / "out").touch()
+        self.assertEqual(self.run_of("passwords", folder)[:2], (0, "one\n"))
+
+    def test_waits_of_rt(self):
+        """What `rt` waits for is shown with the crate."""
+        rows = [
+            ("rt: waiting for another rt to finish in {}/crates/ring_core", "another rt"),
+            ("rt: ring_core: another copy of the repository is building this library; waiting for"
+             " it, at most half an hour, to use its work", "another copy of the repository"),
+        ]
+        for number, (says, whom) in enumerate(rows):
+            folder = self.clone(f"clone {number}", "one")
+            (folder / "says").write_text(says.format(folder) + "\n")
+            error = self.run_of("bench", folder)[2]
+            self.assertEqual(self.shown(error)[:3], [
+                f"waiting for {whom} at {self.PLACES[0]}, 0 min",
+                f"{self.PLACES[0]}: proving, 0 min",
+                f"waiting for {whom} at {self.PLACES[1]}, 0 min",
+            ])
+
+
 def main():
-    cases = [Building, About]
+    cases = [Building, About, Progress]
     result = counted.run(counted.suite(cases, sys.argv[1:]), sys.stdout)
     return counted.report(*result.counts())
 

@@ -11,14 +11,14 @@ use Rattle.base64.specs.declared.engine.DecodePaddingMode.TheVariants.{RequireNo
 use Rattle.base64.proofs.RoundTrip.{decode-encode}
 use Rattle.ring_text.proofs.Cuts.{cut_same}
 use Rattle.ring_text.proofs.LowerHex.{encode_lower-injective}
-use Rattle.ring_password_hash.specs.Field.{adapted_symbols}
+use Rattle.ring_password_hash.specs.Text.{adapted_symbols}
 use Rattle.base64.proofs.EngineFacts.{decode_of-encode_of}
 use Rattle.base64.specs.GeneralPurpose.{IsConsistent, encode_of}
-use Rattle.ring_password_hash.specs.Field.{field_then, written}
-use Rattle.ring_password_hash.specs.Scram.{IsEnd}
-use Rattle.ring_password_hash.specs.declared.field.Encoding.{Encoding}
-use Rattle.ring_password_hash.specs.declared.field.Encoding.TheVariants.{Plain, Hex, Base64}
-use Rattle.ring_password_hash.specs.declared.field.Encoding.TheVariants.{Base64NoPad, Adapted}
+use Rattle.ring_password_hash.specs.Text.{field_then, written}
+use Rattle.ring_password_hash.specs.Text.{IsEnd}
+use Rattle.ring_password_hash.specs.declared.scheme.Encoding.{Encoding}
+use Rattle.ring_password_hash.specs.declared.scheme.Encoding.TheVariants.{Plain, Hex, Base64}
+use Rattle.ring_password_hash.specs.declared.scheme.Encoding.TheVariants.{Base64NoPad, Adapted}
 use Rattle.ring_password_hash.proofs.Symbols.{IsWithout-base64}
 
 encode_of-injective : (e : GeneralPurpose) → IsConsistent e → (xs ys : List ℕ) → IsBytes xs

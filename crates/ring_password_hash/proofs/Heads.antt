@@ -1,95 +1,122 @@
 -- SPDX-License-Identifier: ISC
 -- The parameters of a hash's text are read in one way.
 use Rattle.std.proofs.Common.{◌≡◌, ◌≢◌, ℕ, ◌<◌, ◌≤◌, List, ◌++◌, refl, ap, sym, ◌∙◌, arith}
-use Rattle.std.proofs.Common.{Bool, codes, false, true≢false}
+use Rattle.std.proofs.Common.{Bool, ◌==◌, codes, false, true, true≢false}
+use Rattle.std.specs.Prelude.{◌&&◌, ◌||◌, nat_le, not}
+use Rattle.std.proofs.lemmas.Bool.Decides.{nat_tests}
 use Rattle.std.specs.Int.NonZero.{non_zero_u32_get}
 use Rattle.std.specs.Prelude.{◌^◌}
 use Rattle.std.specs.declared.num.NonZeroU32.{NonZeroU32}
-use Rattle.std.proofs.lemmas.List.{append_cancel_left}
+use Rattle.std.proofs.Common.{[], append_assoc, length}
+use Rattle.std.proofs.lemmas.List.{append_cancel_left, length-append}
 use Rattle.ring_text.proofs.Cuts.{first_of_list}
-use Rattle.ring_text.proofs.Numbers.{count_same, number_same}
-use Rattle.ring_password_hash.specs.Field.{IsCount, count_then}
-use Rattle.ring_password_hash.specs.Hash.{usual_parameters}
-use Rattle.ring_password_hash.specs.Head.{IsLen, IsNamed, head_then, parameters_then}
-use Rattle.ring_password_hash.specs.Kind.{count_mark, count_mark_of, hash_len_of, names_len}
-use Rattle.ring_password_hash.specs.Kind.{prefix_of}
-use Rattle.ring_password_hash.specs.declared.head.Parameters.{Parameters}
-use Rattle.ring_password_hash.specs.declared.head.Parameters.TheVariants.{Count, CountThenLen}
-use Rattle.ring_password_hash.specs.declared.head.Parameters.TheVariants.{LenThenCount}
-use Rattle.ring_password_hash.specs.declared.kind.Kind.{Kind}
-use Rattle.ring_password_hash.specs.declared.kind.Kind.TheVariants.{DjangoSha256, DjangoSha1}
-use Rattle.ring_password_hash.specs.declared.kind.Kind.TheVariants.{WerkzeugSha256}
-use Rattle.ring_password_hash.specs.declared.kind.Kind.TheVariants.{WerkzeugSha512, PhcSha256}
-use Rattle.ring_password_hash.specs.declared.kind.Kind.TheVariants.{PhcSha512, Mosquitto}
-use Rattle.ring_password_hash.specs.declared.kind.Kind.TheVariants.{PasslibSha1, PasslibSha256}
-use Rattle.ring_password_hash.specs.declared.kind.Kind.TheVariants.{PasslibSha512}
-use Rattle.ring_password_hash.proofs.Texts.{not_comma, not_dollar}
+use Rattle.ring_text.proofs.Numbers.{IsDigit, count_same, number_same}
+use Rattle.ring_password_hash.specs.Stored.{parameters_where}
+use Rattle.ring_password_hash.specs.Text.{IsCount, count_then}
+use Rattle.ring_password_hash.specs.Text.{IsLen, IsNamed, head_then, parameters_then}
+use Rattle.ring_password_hash.specs.declared.scheme.Row as code
+use Rattle.ring_password_hash.specs.Scheme.{IsRow, Row, count_end, count_end_of, count_mark, count_mark_of}
+use Rattle.ring_password_hash.specs.Scheme.{keeps_keys, kept_len_of, names_len, row_of}
+use Rattle.ring_password_hash.specs.Scheme.{prefix_of}
+use Rattle.ring_password_hash.specs.declared.text.Parameters.{Parameters}
+use Rattle.ring_password_hash.specs.declared.text.Parameters.TheVariants.{Count, CountThenLen}
+use Rattle.ring_password_hash.specs.declared.text.Parameters.TheVariants.{LenThenCount}
+use Rattle.ring_password_hash.specs.declared.scheme.Scheme.{Scheme}
+use Rattle.ring_password_hash.specs.declared.scheme.Scheme.TheVariants.{DjangoSha256, DjangoSha1}
+use Rattle.ring_password_hash.specs.declared.scheme.Scheme.TheVariants.{WerkzeugSha256, WerkzeugSha512}
+use Rattle.ring_password_hash.specs.declared.scheme.Scheme.TheVariants.{PhcSha256, PhcSha512, Mosquitto}
+use Rattle.ring_password_hash.specs.declared.scheme.Scheme.TheVariants.{PasslibSha1, PasslibSha256}
+use Rattle.ring_password_hash.specs.declared.scheme.Scheme.TheVariants.{PasslibSha512, ScramSha256}
+use Rattle.ring_password_hash.proofs.Texts.{not_colon, not_comma, not_dollar}
 
--- 1 to 64 bytes
-abbrev IsFew : ℕ → Type 0
-IsFew n = (0 < n) × (n ≤ 64)
+-- a row of the table keeps 1 to 64 bytes: 10 and more where a text can name it, 64 where it is keys
+abbrev is_row : Row → Bool
+is_row r =
+    nat_le 1 r.kept_len && nat_le r.kept_len 64 && (not r.names_len || nat_le 10 r.kept_len)
+    && (not r.keeps_keys || (r.kept_len == 64 && not r.names_len))
 
-few_bytes : (k : Kind) → IsFew (hash_len_of k)
-few_bytes DjangoSha256 = (omega arith, omega arith)
-few_bytes DjangoSha1 = (omega arith, omega arith)
-few_bytes WerkzeugSha256 = (omega arith, omega arith)
-few_bytes WerkzeugSha512 = (omega arith, omega arith)
-few_bytes PhcSha256 = (omega arith, omega arith)
-few_bytes PhcSha512 = (omega arith, omega arith)
-few_bytes Mosquitto = (omega arith, omega arith)
-few_bytes PasslibSha1 = (omega arith, omega arith)
-few_bytes PasslibSha256 = (omega arith, omega arith)
-few_bytes PasslibSha512 = (omega arith, omega arith)
+each_row : (k : Scheme) → is_row (row_of k) ≡ true
+each_row DjangoSha256 = refl
+each_row DjangoSha1 = refl
+each_row WerkzeugSha256 = refl
+each_row WerkzeugSha512 = refl
+each_row PhcSha256 = refl
+each_row PhcSha512 = refl
+each_row Mosquitto = refl
+each_row PasslibSha1 = refl
+each_row PasslibSha256 = refl
+each_row PasslibSha512 = refl
+each_row ScramSha256 = refl
 
--- a hash has 1 to 64 bytes
-pub len_few : (k : Kind) (p : Parameters) (n : ℕ) → IsLen k p n → (0 < n) × (n ≤ 64)
-len_few k Count n h = let few = few_bytes k in (omega (arith, few.0, h), omega (arith, few.1, h))
+-- a text keeps 1 to 64 bytes
+pub len_few : (k : Scheme) (p : Parameters) (n : ℕ) → IsLen k p n → (0 < n) × (n ≤ 64)
+len_few k Count n h =
+    let is = each_row k in (grind (arith, nat_tests, is, h), grind (arith, nat_tests, is, h))
 len_few k CountThenLen n h = let least = h.least in (omega arith, h.most)
 len_few k LenThenCount n h = let least = h.least in (omega arith, h.most)
 
--- a hash with the parameters that its own system writes has the kind's length
-pub usual_len : (k : Kind) → IsLen k (usual_parameters k) (hash_len_of k)
-usual_len DjangoSha256 = refl
-usual_len DjangoSha1 = refl
-usual_len WerkzeugSha256 = refl
-usual_len WerkzeugSha512 = refl
-usual_len PhcSha256 = record { named = refl; least = omega arith; most = omega arith }
-usual_len PhcSha512 = record { named = refl; least = omega arith; most = omega arith }
-usual_len Mosquitto = refl
-usual_len PasslibSha1 = refl
-usual_len PasslibSha256 = refl
-usual_len PasslibSha512 = refl
+-- keys are 64 bytes
+pub keys_len : (k : Scheme) (p : Parameters) (n : ℕ) → IsLen k p n → keeps_keys k ≡ true → n ≡ 64
+keys_len k Count n h keys = let is = each_row k in grind (arith, nat_tests, is, h, keys)
+keys_len k CountThenLen n h keys =
+    let is = each_row k in let named = h.named in absurd (grind (arith, nat_tests, is, named, keys))
+keys_len k LenThenCount n h keys =
+    let is = each_row k in let named = h.named in absurd (grind (arith, nat_tests, is, named, keys))
+
+-- with the parameters that its own system writes a text keeps as many bytes as the row says
+usual_at : (named : Bool) (k : Scheme) → names_len k ≡ named
+    → IsLen k (parameters_where named) (kept_len_of k)
+usual_at false k e = refl
+usual_at true k e =
+    let is = each_row k in record {
+      named = e;
+      least = grind (arith, nat_tests, is, e);
+      most = grind (arith, nat_tests, is, e);
+    }
+
+pub usual_len : (k : Scheme) → IsLen k (parameters_where (names_len k)) (kept_len_of k)
+usual_len k = usual_at (names_len k) k refl
+
+-- no digit ends a count, and no comma ends one that stands alone
+pub not_end : (keys : Bool) → IsDigit (count_end keys) → ⊥
+not_end true = not_colon
+not_end false = not_dollar
+
+end_apart : (keys : Bool) → count_end keys ≢ 44
+end_apart true e = omega (arith, e)
+end_apart false e = omega (arith, e)
 
 -- where parameters are named, the count alone is none that a length follows
-lone_apart : (k : Kind) (c d : NonZeroU32) (s t : List ℕ) (n : ℕ) → IsNamed k n → IsCount c
-    → IsCount d → count_mark_of k ++ count_then c 36 s ≢ codes "i=" ++ count_then d 44 t
+lone_apart : (k : Scheme) (c d : NonZeroU32) (s t : List ℕ) (n : ℕ) → IsNamed k n → IsCount c
+    → IsCount d → count_mark_of k ++ count_then c (count_end_of k) s ≢ codes "i=" ++ count_then d 44 t
 lone_apart k c d s t n is hc hd e =
-    let moved = sym (ap (λ (b : Bool). count_mark b ++ count_then c 36 s) is.named) ∙ e in
+    let moved = sym (ap (λ (b : Bool). count_mark b ++ count_then c (count_end_of k) s) is.named) ∙ e in
     let behind = append_cancel_left (codes "i=") _ _ moved in
-    let read = count_same c d 36 44 s t hc hd not_dollar not_comma behind in
-    omega (arith, read.1)
+    let read = count_same c d (count_end_of k) 44 s t hc hd (not_end (keeps_keys k)) not_comma behind in
+    end_apart (keeps_keys k) read.1
 
 letter_apart : (s t : List ℕ) → codes "i=" ++ s ≢ codes "l=" ++ t
 letter_apart s t e = let same : 105 ≡ 108 = ap (first_of_list 0) e in omega (arith, same)
 
-lone_apart_len : (k : Kind) (c : NonZeroU32) (s t : List ℕ) (n : ℕ) → IsNamed k n
-    → count_mark_of k ++ count_then c 36 s ≢ codes "l=" ++ t
+lone_apart_len : (k : Scheme) (c : NonZeroU32) (s t : List ℕ) (n : ℕ) → IsNamed k n
+    → count_mark_of k ++ count_then c (count_end_of k) s ≢ codes "l=" ++ t
 lone_apart_len k c s t n is e =
-    letter_apart (count_then c 36 s) t
-    (sym (ap (λ (b : Bool). count_mark b ++ count_then c 36 s) is.named) ∙ e)
+    letter_apart (count_then c (count_end_of k) s) t
+    (sym (ap (λ (b : Bool). count_mark b ++ count_then c (count_end_of k) s) is.named) ∙ e)
 
 -- what is read of a text before its salt
 abbrev pub SameHead : (p q : Parameters) (c d : NonZeroU32) (m n : ℕ) (s t : List ℕ) → Type 0
 SameHead p q c d m n s t = (p ≡ q) × (c ≡ d) × (m ≡ n) × (s ≡ t)
 
-module _ (k : Kind) (c d : NonZeroU32) (m n : ℕ) (s t : List ℕ) (hc : IsCount c)
+module _ (k : Scheme) (c d : NonZeroU32) (m n : ℕ) (s t : List ℕ) (hc : IsCount c)
     (hd : IsCount d) where
   pub parameters_then-injective : (p q : Parameters) → IsLen k p m → IsLen k q n
       → parameters_then k p c m s ≡ parameters_then k q d n t → SameHead p q c d m n s t
   unfolding parameters_then
   parameters_then-injective Count Count hm hn e =
       let behind = append_cancel_left (count_mark_of k) _ _ e in
-      let read = count_same c d 36 36 s t hc hd not_dollar not_dollar behind in
+      let end = not_end (keeps_keys k) in
+      let read = count_same c d _ _ s t hc hd end end behind in
       (refl, read.0, hm ∙ sym hn, read.2)
   parameters_then-injective Count CountThenLen hm hn e =
       absurd (lone_apart k c d s _ n hn hc hd e)
@@ -129,7 +156,7 @@ abbrev count_of : (n : ℕ) → 0 < n → NonZeroU32
 count_of n some = record { value = n; ok = some }
 
 -- a length that was read after the count is that of the text
-pub len_second : (k : Kind) (p : Parameters) (c : NonZeroU32) (n : ℕ) (rest : List ℕ)
+pub len_second : (k : Scheme) (p : Parameters) (c : NonZeroU32) (n : ℕ) (rest : List ℕ)
     → (d l : NonZeroU32) (behind : List ℕ) → p ≢ Count → IsCount c → IsNamed k n → IsCount d
     → IsCount l
     → codes "i=" ++ count_then d 44 (codes "l=" ++ count_then l 36 behind)
@@ -146,7 +173,7 @@ len_second k CountThenLen c n rest d l behind other hc is hd hl e =
 len_second k LenThenCount c n rest d l behind other hc is hd hl e = absurd (letter_apart _ _ e)
 
 -- a length that was read before the count is that of the text
-pub len_first : (k : Kind) (p : Parameters) (c : NonZeroU32) (n : ℕ) (rest : List ℕ)
+pub len_first : (k : Scheme) (p : Parameters) (c : NonZeroU32) (n : ℕ) (rest : List ℕ)
     → (l d : NonZeroU32) (behind : List ℕ) → p ≢ Count → IsCount c → IsNamed k n → IsCount l
     → IsCount d
     → codes "l=" ++ count_then l 44 (codes "i=" ++ count_then d 36 behind)
@@ -167,7 +194,7 @@ module _ (text : List ℕ) where
       → text ≢ codes "i=" ++ count_then c 44 (codes "l=" ++ count_then d 36 rest))
       → ((c d : NonZeroU32) (rest : List ℕ) → IsCount c → IsCount d
       → text ≢ codes "l=" ++ count_then c 44 (codes "i=" ++ count_then d 36 rest))
-      → (k : Kind) (p : Parameters) (c : NonZeroU32) (n : ℕ) (rest : List ℕ) → p ≢ Count
+      → (k : Scheme) (p : Parameters) (c : NonZeroU32) (n : ℕ) (rest : List ℕ) → p ≢ Count
       → IsCount c → IsNamed k n → text ≢ parameters_then k p c n rest
   unfolding parameters_then
   none_named second first k Count c n rest other hc is e = other refl
@@ -182,19 +209,27 @@ module _ (text : List ℕ) where
       let small : n < 2 ^ 32 = omega arith in
       first (count_of n (omega arith)) c rest small hc e
 
+-- a lone count, as the code's row has its mark and its end
+pub lone_as : (k : Scheme) {r : code.Row} {mark : List ℕ} {end : ℕ} → IsRow r (row_of k)
+    → mark ≡ count_mark r.names_len → end ≡ count_end r.keeps_keys
+    → (c : NonZeroU32) (rest : List ℕ)
+    → mark ++ count_then c end rest ≡ count_mark_of k ++ count_then c (count_end_of k) rest
+lone_as k is em ee c rest =
+    rw (em, ee, is.names_len, is.keeps_keys) refl
+
 -- a text that names no length has the count alone
-pub lone_alone : (k : Kind) (p : Parameters) (c : NonZeroU32) (n : ℕ) (rest : List ℕ)
+pub lone_alone : (k : Scheme) (p : Parameters) (c : NonZeroU32) (n : ℕ) (rest : List ℕ)
     → names_len k ≡ false → IsLen k p n
-    → parameters_then k p c n rest ≡ count_mark_of k ++ count_then c 36 rest
+    → parameters_then k p c n rest ≡ count_mark_of k ++ count_then c (count_end_of k) rest
 unfolding parameters_then
 lone_alone k Count c n rest none len = refl
 lone_alone k CountThenLen c n rest none len = absurd (true≢false (sym len.named ∙ none))
 lone_alone k LenThenCount c n rest none len = absurd (true≢false (sym len.named ∙ none))
 
 -- a text with no count alone, and with no length, has no parameters
-pub no_parameters : (k : Kind) (text : List ℕ)
+pub no_parameters : (k : Scheme) (text : List ℕ)
     → ((c : NonZeroU32) (rest : List ℕ) → IsCount c
-    → text ≢ count_mark_of k ++ count_then c 36 rest)
+    → text ≢ count_mark_of k ++ count_then c (count_end_of k) rest)
     → ((p : Parameters) (c : NonZeroU32) (n : ℕ) (rest : List ℕ) → p ≢ Count → IsCount c
     → IsNamed k n → text ≢ parameters_then k p c n rest)
     → (p : Parameters) (c : NonZeroU32) (n : ℕ) (rest : List ℕ) → IsCount c → IsLen k p n
@@ -205,3 +240,19 @@ no_parameters k text lone named CountThenLen c n rest hc len e =
     named CountThenLen c n rest (λ same. cc same) hc len e
 no_parameters k text lone named LenThenCount c n rest hc len e =
     named LenThenCount c n rest (λ same. cc same) hc len e
+
+-- what follows a head can be appended to it
+pub append-head_then : (k : Scheme) (p : Parameters) (c : NonZeroU32) (n : ℕ) (rest : List ℕ)
+    → head_then k p c n [] ++ rest ≡ head_then k p c n rest
+unfolding parameters_then
+append-head_then k Count c n rest = simp append_assoc
+append-head_then k CountThenLen c n rest = simp append_assoc
+append-head_then k LenThenCount c n rest = simp append_assoc
+
+-- so it is no longer than the whole
+pub rest_within : (k : Scheme) (p : Parameters) (c : NonZeroU32) (n : ℕ) (rest : List ℕ)
+    {text : List ℕ} → text ≡ head_then k p c n rest → length rest ≤ length text
+rest_within k p c n rest e =
+    let whole = ap length (e ∙ sym (append-head_then k p c n rest)) in
+    let parts = length-append (head_then k p c n []) rest in
+    omega (arith, whole, parts)

@@ -1,7 +1,7 @@
 -- SPDX-License-Identifier: ISC
 -- The lengths of pieces, and what a call that writes one says of its room.
 use Rattle.std.proofs.Common.{◌≡◌, ℕ, ◌+◌, ◌*◌, ◌<◌, ◌≤◌, List, [], ◌++◌, length, take}
-use Rattle.std.proofs.Common.{Bool, true, false, ap, append_assoc, arith, inl, inr, ◌∙◌}
+use Rattle.std.proofs.Common.{Bool, true, false, ap, append_assoc, arith, inl, inr, sym, ◌∙◌}
 use Rattle.std.specs.Prelude.{Result, Ok, Err}
 use borrow.Rule.Slice.PartMut.{post_of, put_mid}
 use Rattle.std.proofs.lemmas.Bool.{cases_lt}
@@ -13,17 +13,10 @@ use Rattle.base64.specs.Rfc4648.{encode, encode_symbols, encoded_size, padding_l
 use Rattle.base64.specs.declared.engine.general_purpose.GeneralPurpose.{GeneralPurpose}
 use Rattle.base64.specs.Engines.{standard, standard_no_pad}
 use Rattle.base64.proofs.RoundTrip.{length-encode_symbols}
-use Rattle.ring_password_hash.specs.Field.{adapted_symbols, written}
-use Rattle.ring_password_hash.specs.Kind.{hash_encoding_of, hash_len_of}
-use Rattle.ring_password_hash.specs.declared.field.Encoding.TheVariants.{Hex, Base64}
-use Rattle.ring_password_hash.specs.declared.field.Encoding.TheVariants.{Base64NoPad, Adapted}
-use Rattle.ring_password_hash.specs.declared.kind.Kind.{Kind}
-use Rattle.ring_password_hash.specs.declared.kind.Kind.TheVariants.{DjangoSha256, DjangoSha1}
-use Rattle.ring_password_hash.specs.declared.kind.Kind.TheVariants.{WerkzeugSha256}
-use Rattle.ring_password_hash.specs.declared.kind.Kind.TheVariants.{WerkzeugSha512, PhcSha256}
-use Rattle.ring_password_hash.specs.declared.kind.Kind.TheVariants.{PhcSha512, Mosquitto}
-use Rattle.ring_password_hash.specs.declared.kind.Kind.TheVariants.{PasslibSha1, PasslibSha256}
-use Rattle.ring_password_hash.specs.declared.kind.Kind.TheVariants.{PasslibSha512}
+use Rattle.ring_password_hash.specs.Text.{adapted_symbols, written}
+use Rattle.ring_password_hash.specs.declared.scheme.Encoding.{Encoding}
+use Rattle.ring_password_hash.specs.declared.scheme.Encoding.TheVariants.{Plain, Hex, Base64}
+use Rattle.ring_password_hash.specs.declared.scheme.Encoding.TheVariants.{Base64NoPad, Adapted}
 
 length-encode : (t m : List ℕ) (pad : ℕ) (padding : Bool)
     → length (encode t pad padding m) ≡ encoded_size (length m) padding
@@ -71,43 +64,24 @@ take-put at len k xs ys piece rest put long fits =
     omega (arith, length-append (take at xs) piece, length-take-le at xs fits, long) in
     ap (take (at + len)) whole ∙ take_at front behind (at + len) end
 
--- the bytes of a hash in a text of the kind
-abbrev pub hash_size : Kind → ℕ
-hash_size DjangoSha256 = 44
-hash_size DjangoSha1 = 28
-hash_size WerkzeugSha256 = 64
-hash_size WerkzeugSha512 = 128
-hash_size PhcSha256 = 43
-hash_size PhcSha512 = 43
-hash_size Mosquitto = 88
-hash_size PasslibSha1 = 27
-hash_size PasslibSha256 = 43
-hash_size PasslibSha512 = 86
+-- the length of a field follows from that of its bytes
+pub length-written : (x : Encoding) (a b : List ℕ) → length a ≡ length b
+    → length (written x a) ≡ length (written x b)
+length-written Plain a b e = e
+length-written Hex a b e = omega (arith, two_digits_each a, two_digits_each b, e)
+length-written Base64 a b e =
+    length-encode_of standard a ∙ ap (λ n. encoded_size n true) e ∙ sym (length-encode_of standard b)
+length-written Base64NoPad a b e =
+    length-encode_of standard_no_pad a ∙ ap (λ n. encoded_size n false) e
+    ∙ sym (length-encode_of standard_no_pad b)
+length-written Adapted a b e =
+    length-encode adapted_symbols a 61 false ∙ ap (λ n. encoded_size n false) e
+    ∙ sym (length-encode adapted_symbols b 61 false)
 
-padded : (h : List ℕ) (n : ℕ) → length h ≡ n
-    → length (written Base64 h) ≡ encoded_size n true
-padded h n e = length-encode_of standard h ∙ ap (λ m. encoded_size m true) e
-
-unpadded : (h : List ℕ) (n : ℕ) → length h ≡ n
-    → length (written Base64NoPad h) ≡ encoded_size n false
-unpadded h n e = length-encode_of standard_no_pad h ∙ ap (λ m. encoded_size m false) e
-
-adapted : (h : List ℕ) (n : ℕ) → length h ≡ n
-    → length (written Adapted h) ≡ encoded_size n false
-adapted h n e = length-encode adapted_symbols h 61 false ∙ ap (λ m. encoded_size m false) e
-
-digits : (h : List ℕ) (n : ℕ) → length h ≡ n → length (written Hex h) ≡ 2 * n
-digits h n e = two_digits_each h ∙ ap (λ m. 2 * m) e
-
-pub hash_written_len : (k : Kind) (h : List ℕ) → length h ≡ hash_len_of k
-    → length (written (hash_encoding_of k) h) ≡ hash_size k
-hash_written_len DjangoSha256 h e = padded h 32 e
-hash_written_len DjangoSha1 h e = padded h 20 e
-hash_written_len WerkzeugSha256 h e = digits h 32 e
-hash_written_len WerkzeugSha512 h e = digits h 64 e
-hash_written_len PhcSha256 h e = unpadded h 32 e
-hash_written_len PhcSha512 h e = unpadded h 32 e
-hash_written_len Mosquitto h e = padded h 64 e
-hash_written_len PasslibSha1 h e = adapted h 20 e
-hash_written_len PasslibSha256 h e = adapted h 32 e
-hash_written_len PasslibSha512 h e = adapted h 64 e
+-- no field is shorter than its bytes
+pub shorter : (x : Encoding) (a : List ℕ) → length a ≤ length (written x a)
+shorter Plain a = omega arith
+shorter Hex a = omega (arith, two_digits_each a)
+shorter Base64 a = omega (arith, length-encode_of standard a)
+shorter Base64NoPad a = omega (arith, length-encode_of standard_no_pad a)
+shorter Adapted a = omega (arith, length-encode adapted_symbols a 61 false)

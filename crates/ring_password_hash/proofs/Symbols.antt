@@ -14,10 +14,10 @@ use Rattle.base64.specs.Tables.{all_below}
 use Rattle.base64.proofs.Tables.{all_below_at}
 use Rattle.ring_text.specs.Cut.{IsWithout}
 use Rattle.ring_text.proofs.Cuts.{NotAt}
-use Rattle.ring_password_hash.specs.Field.{adapted_symbols, written}
-use Rattle.ring_password_hash.specs.declared.field.Encoding.TheVariants.{Adapted}
-use Rattle.ring_password_hash.specs.Scram.{IsEnd}
-use Rattle.ring_password_hash.specs.declared.field.Encoding.TheVariants.{Base64, Base64NoPad}
+use Rattle.ring_password_hash.specs.Text.{adapted_symbols, written}
+use Rattle.ring_password_hash.specs.declared.scheme.Encoding.TheVariants.{Adapted}
+use Rattle.ring_password_hash.specs.Text.{IsEnd}
+use Rattle.ring_password_hash.specs.declared.scheme.Encoding.TheVariants.{Base64, Base64NoPad}
 
 -- no symbol of the table is the byte
 abbrev is_apart : List ℕ → ℕ → ℕ → Bool

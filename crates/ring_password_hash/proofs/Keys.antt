@@ -1,0 +1,69 @@
+-- SPDX-License-Identifier: ISC
+-- SCRAM's two keys as one list of bytes.
+use Rattle.std.proofs.Common.{◌≡◌, ◌+◌, ◌<◌, ℕ, List, ◌++◌, ap, arith, drop, length, take}
+use Rattle.std.proofs.Common.{refl, subst, sym, inr, ◌∙◌}
+use Rattle.std.proofs.lemmas.List.{drop_at, get_or-drop, length-take-le}
+use Rattle.std.proofs.lemmas.List.{take-append-drop, take_at}
+use Rattle.std.proofs.Common.{[], append-nil, false, true, Bool}
+use Rattle.ring_password_hash.proofs.Pieces.{take-put}
+use borrow.Rule.Slice.PartMut.{put_mid}
+use Rattle.hex.specs.Hex.{IsBytes}
+use Rattle.ring_text.specs.Cut.{IsWithout}
+use Rattle.base64.proofs.EngineFacts.{front_bytes}
+use Rattle.ring_password_hash.specs.Scheme.{IsRow, kept_encoding_of, row_of}
+use Rattle.ring_password_hash.specs.Text.{field_then, kept_by, kept_text, written}
+use Rattle.ring_password_hash.specs.declared.scheme.Encoding.{Encoding}
+use Rattle.ring_password_hash.specs.declared.scheme.Row as code
+use Rattle.ring_password_hash.specs.declared.scheme.Scheme.{Scheme}
+use Rattle.ring_password_hash.specs.declared.scheme.Encoding.TheVariants.{Base64}
+use Rattle.ring_password_hash.proofs.Fields.{base64_then-injective}
+use Rattle.ring_password_hash.proofs.Symbols.{IsWithout-base64}
+
+-- the front of bytes is bytes, and so is the rest
+pub bytes_front : (n : ℕ) (xs : List ℕ) → IsBytes xs → IsBytes (take n xs)
+bytes_front n xs h =
+    front_bytes (take n xs) (drop n xs) (subst IsBytes (sym (take-append-drop n xs)) h)
+
+pub bytes_behind : (n : ℕ) (xs : List ℕ) → IsBytes xs → IsBytes (drop n xs)
+bytes_behind n xs h i = subst (λ (b : ℕ). b < 256) (sym (get_or-drop n xs i 0)) (h (n + i))
+
+-- the first key has no colon
+pub first_apart : (xs : List ℕ) → IsBytes xs → IsWithout 58 (written Base64 (take 32 xs))
+first_apart xs h = IsWithout-base64 58 (inr refl) (take 32 xs) (bytes_front 32 xs h)
+
+-- what is read of a text that two keys have is theirs
+pub keys_read : (a xs rest : List ℕ) {text : List ℕ} → IsBytes a → IsBytes xs
+    → text ≡ field_then Base64 a 58 rest → text ≡ kept_by true Base64 xs
+    → (a ≡ take 32 xs) × (rest ≡ written Base64 (drop 32 xs))
+keys_read a xs rest ha hx read e =
+    base64_then-injective 58 (inr refl) a (take 32 xs) rest _ ha (bytes_front 32 xs hx)
+    (sym read ∙ e)
+
+-- the second key was copied behind the first one
+module _ (out key piece : List ℕ) {text rest : List ℕ} (room : length out ≡ 1024)
+    (room_key : length key ≡ 1024) (copied : piece ≡ take 32 key)
+    (read : text ≡ field_then Base64 (take 32 out) 58 rest)
+    (last : rest ≡ written Base64 (take 32 key)) where
+  both : take 64 (put_mid 32 32 out piece) ≡ take 32 out ++ take 32 key
+  both =
+      let len = length-take-le 32 key (omega arith) in
+      take-put 32 32 32 out piece (take 32 key) [] (copied ∙ sym (append-nil (take 32 key))) (sym len)
+      (omega arith)
+
+  pub keys_copied : text ≡ kept_by true Base64 (take 64 (put_mid 32 32 out piece))
+  keys_copied =
+      let len = length-take-le 32 out (omega arith) in
+      rw (both, take_at (take 32 out) (take 32 key) 32 len, drop_at (take 32 out) (take 32 key) 32 len)
+      (read ∙ ap (field_then Base64 (take 32 out) 58) last)
+
+-- what is kept where it is no keys
+pub kept_as : (k : Scheme) {r : code.Row} → IsRow r (row_of k) → r.keeps_keys ≡ false
+    → (kept : List ℕ) → kept_text k kept ≡ written r.kept kept
+kept_as k is none kept =
+    ap (λ (keys : Bool). kept_by keys (kept_encoding_of k) kept) (sym is.keeps_keys ∙ none)
+    ∙ ap (λ (x : Encoding). written x kept) (sym is.kept)
+
+pub keys_as : (k : Scheme) {r : code.Row} → IsRow r (row_of k) → r.keeps_keys ≡ true
+    → (kept : List ℕ) → kept_text k kept ≡ kept_by true Base64 kept
+keys_as k is keys kept =
+    ap (λ (keys : Bool). kept_by keys (kept_encoding_of k) kept) (sym is.keeps_keys ∙ keys)

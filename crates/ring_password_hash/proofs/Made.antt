@@ -1,0 +1,118 @@
+-- SPDX-License-Identifier: ISC
+-- A new value.
+use Rattle.std.proofs.Common.{◌≡◌, ◌≤◌, ℕ, Bool, true, false, List, ap, arith, length, refl, subst, sym, take}
+use Rattle.std.proofs.Common.{◌∙◌}
+use Rattle.std.specs.Int.NonZero.{non_zero_u32_get}
+use Rattle.std.specs.declared.num.NonZeroU32.{NonZeroU32}
+use Rattle.std.proofs.lemmas.Bool.Decides.{nat_tests}
+use Rattle.std.proofs.lemmas.List.{length-append}
+use Rattle.hex.specs.Hex.{IsBytes}
+use Rattle.ring.specs.Prelude.{dk}
+use Rattle.ring.specs.declared.digest.algorithm.TheConstants.{SHA256}
+use Rattle.ring.proofs.Lengths.{length-digest_of}
+use Rattle.ring.proofs.lemmas.hmac.Keys.{length-hmac_of}
+use Rattle.ring.proofs.lemmas.pbkdf2.Rounds.{length-dk}
+use Rattle.ring_password_hash.specs.Scheme.{algorithm_of, keeps_keys, kept_len_of, names_len}
+use Rattle.ring_password_hash.specs.Stored.{IsStored, derived_by, derived_of, is_past, is_salt, keys_of, new_parts, new_text}
+use Rattle.ring_password_hash.specs.Stored.{Derives, Keeps, Makes, parts_of, parts_text, text_of}
+use Rattle.ring_core.specs.Cost.{Counts}
+use Rattle.std.specs.Prelude.{Ok}
+use Rattle.ring_password_hash.specs.Stored.{parameters_where, server_key_of, stored_key_of}
+use Rattle.ring_password_hash.specs.Text.{IsCount, IsLen}
+use Rattle.ring_password_hash.specs.declared.scheme.Scheme.{Scheme}
+use Rattle.ring_password_hash.specs.declared.stored.Stored.{Stored}
+use Rattle.ring_password_hash.specs.declared.text.Parameters.TheVariants.{Count}
+use Rattle.ring_password_hash.proofs.Heads.{keys_len, len_few, usual_len}
+
+-- the length of what is kept
+length-keys_of : (salted : List ℕ) → length (keys_of salted) ≡ 64
+unfolding stored_key_of server_key_of
+length-keys_of salted =
+    let one : length (stored_key_of salted) ≡ 32 = length-digest_of SHA256 _ in
+    let two : length (server_key_of salted) ≡ 32 = length-hmac_of SHA256 salted _ in
+    length-append (stored_key_of salted) (server_key_of salted) ∙ omega (arith, one, two)
+
+length-derived_by : (keys : Bool) (k : Scheme) (p s : List ℕ) (c n : ℕ) → (keys ≡ true → n ≡ 64)
+    → length (derived_by keys k p s c n) ≡ n
+length-derived_by false k p s c n is = length-dk (algorithm_of k) p s c n
+length-derived_by true k p s c n is =
+    length-keys_of (dk (algorithm_of k) p s c 32) ∙ sym (is refl)
+
+pub length-derived_of : (k : Scheme) (p s : List ℕ) (c : ℕ)
+    → length (derived_of k p s c (kept_len_of k)) ≡ kept_len_of k
+length-derived_of k p s c =
+    length-derived_by (keeps_keys k) k p s c (kept_len_of k)
+    (keys_len k Count (kept_len_of k) refl)
+
+-- what is kept of a new value
+pub kept_new : (room : ℕ) (k : Scheme) (p s : List ℕ) (c : NonZeroU32) {n : ℕ} {new : List ℕ}
+    {before after : Counts} → n ≡ kept_len_of k → is_salt k s ≡ true
+    → is_past room (text_of (new_parts k p s c)) ≡ false → length s ≤ 1024
+    → Derives k p s (non_zero_u32_get c) n new before after (Ok tt)
+    → Keeps room k p s c new before after (Ok tt)
+kept_new room k p s c {new = new} {before = before} {after = after} len salt past few derives =
+    let d : Derives k p s (non_zero_u32_get c) (kept_len_of k) new before after (Ok tt) =
+    subst (λ (n : ℕ). Derives k p s (non_zero_u32_get c) n new before after (Ok tt)) len derives in
+    record {
+      status = rw (past, salt, d.can) refl;
+      kept = d.ok;
+      salt = salt;
+      within = past;
+      few = few;
+      cost = d.cost;
+    }
+
+-- a new value has a text
+pub new_stands : (v : Stored) (most : ℕ) (s h : List ℕ) → take v.salt_len v.salt ≡ s
+    → take v.kept_len v.kept ≡ h → v.parameters ≡ parameters_where (names_len v.scheme)
+    → IsCount v.iterations → v.salt_len ≤ 1024 → v.kept_len ≡ kept_len_of v.scheme
+    → is_salt v.scheme s ≡ true → IsBytes s → IsBytes h → length h ≡ kept_len_of v.scheme
+    → is_past most (new_text v.scheme s v.iterations h) ≡ false → IsStored v
+new_stands v most s h es eh usual count few len salt bytes kept_bytes long fits =
+    let p = v.parameters in
+    let k = v.scheme in
+    let kept_few = len_few k Count v.kept_len len in
+    let is : IsLen k p (length h) =
+    rw usual (subst (IsLen k (parameters_where (names_len k))) (sym long) (usual_len k)) in
+    let text : is_past most (parts_text k p v.iterations s h) ≡ false = rw usual fits in
+    record {
+      filled = record {
+        salt = few;
+        kept = (let most = kept_few.1 in omega (arith, most));
+        keys = keys_len k Count v.kept_len len;
+      };
+      text = record {
+        is = record {
+          iterations = count;
+          salt = rw es salt;
+          salt_bytes = rw es bytes;
+          kept = rw eh is;
+          kept_bytes = rw eh kept_bytes;
+        };
+        has = refl;
+        within = rw (es, eh) (grind (arith, nat_tests, text));
+      };
+    }
+
+pub new_made : (v : Stored) (room : ℕ) (p s : List ℕ) {new : List ℕ} {before after : Counts}
+    → Keeps room v.scheme p s v.iterations new before after (Ok tt)
+    → take v.salt_len v.salt ≡ s → take v.kept_len v.kept ≡ new
+    → v.parameters ≡ parameters_where (names_len v.scheme) → IsCount v.iterations
+    → v.salt_len ≡ length s → v.kept_len ≡ kept_len_of v.scheme → IsBytes s → IsBytes new
+    → Makes room v.scheme p s v.iterations before after (Ok v)
+new_made v room p s {new = new} keeps es eh usual count few len bytes kept_bytes =
+    let k = v.scheme in
+    let long : length new ≡ kept_len_of k = ap length keeps.kept ∙ length-derived_of k p s _ in
+    let fits : is_past room (new_text k s v.iterations new) ≡ false = rw keeps.kept keeps.within in
+    let most = keeps.few in
+    let stored = new_stands v room s new es eh usual count (omega (arith, few, most)) len keeps.salt
+    bytes kept_bytes long fits in
+    let whole = eh ∙ keeps.kept in
+    let same : parts_of v ≡ new_parts k p s v.iterations = λ i. record {
+      scheme = k;
+      parameters = usual i;
+      iterations = v.iterations;
+      salt = es i;
+      kept = whole i;
+    } in
+    record { answer = (sym keeps.status, same, stored); cost = keeps.cost }

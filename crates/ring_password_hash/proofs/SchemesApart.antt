@@ -1,0 +1,147 @@
+-- SPDX-License-Identifier: ISC
+-- Which scheme a text is of: its first bytes tell.
+use Rattle.std.proofs.Common.{◌≡◌, ◌==◌, ℕ, ◌<◌, Bool, true, false, List, [], ◌∷◌, ◌++◌}
+use Rattle.std.proofs.Common.{slice_index_or, refl, ap, sym, ◌∙◌, arith, drop, length}
+use Rattle.std.proofs.Common.{true≢false}
+use Rattle.std.proofs.lemmas.Bool.Decides.{nat_tests}
+use Rattle.std.proofs.lemmas.List.Elements.{All-head}
+use Rattle.std.proofs.lemmas.Fmt.{decimal_is_IsNumeral}
+use Rattle.std.specs.Char.{digit_value}
+use Rattle.std.specs.Fmt.{decimal}
+use Rattle.std.specs.Int.NonZero.{non_zero_u32_get}
+use Rattle.std.specs.Prelude.{All, nat_lt}
+use Rattle.std.specs.declared.num.NonZeroU32.{NonZeroU32}
+use Rattle.ring_text.proofs.Cuts.{first_of_list}
+use Rattle.ring_text.proofs.Numbers.{All-decimal, IsDigit}
+use Rattle.ring_password_hash.specs.Stored.{IsParts, parts_text}
+use Rattle.ring_password_hash.specs.Text.{IsCount, IsLen, head_then, parameters_then}
+use Rattle.ring_password_hash.specs.declared.scheme.Scheme.{Scheme}
+use Rattle.ring_password_hash.specs.declared.scheme.Scheme.TheVariants.{DjangoSha256, DjangoSha1}
+use Rattle.ring_password_hash.specs.declared.scheme.Scheme.TheVariants.{WerkzeugSha256, WerkzeugSha512}
+use Rattle.ring_password_hash.specs.declared.scheme.Scheme.TheVariants.{PhcSha256, PhcSha512, Mosquitto}
+use Rattle.ring_password_hash.specs.declared.scheme.Scheme.TheVariants.{PasslibSha1, PasslibSha256}
+use Rattle.ring_password_hash.specs.declared.scheme.Scheme.TheVariants.{PasslibSha512, ScramSha256}
+use Rattle.ring_password_hash.specs.declared.scheme.TheConstants.{SCHEMES}
+use Rattle.ring_password_hash.specs.declared.text.Parameters.{Parameters}
+use Rattle.ring_password_hash.specs.declared.text.Parameters.TheVariants.{Count, CountThenLen}
+use Rattle.ring_password_hash.specs.declared.text.Parameters.TheVariants.{LenThenCount}
+
+-- the byte at a place, or 0 behind the end
+abbrev byte_at : ℕ → List ℕ → ℕ
+byte_at i text = first_of_list 0 (drop i text)
+
+abbrev is_digit : ℕ → Bool
+is_digit byte = nat_lt (digit_value byte) 10
+
+abbrev pick : Bool → Scheme → Scheme → Scheme
+pick true a b = a
+pick false a b = b
+
+-- a text behind `$pbkdf2-sha`: passlib's has a digit where a PHC string names a parameter
+abbrev behind_dollar : List ℕ → Scheme
+behind_dollar text =
+    pick (byte_at 11 text == 50) (pick (is_digit (byte_at 15 text)) PasslibSha256 PhcSha256)
+    (pick (is_digit (byte_at 15 text)) PasslibSha512 PhcSha512)
+
+-- the scheme of a text that has one
+abbrev scheme_from : List ℕ → Scheme
+scheme_from text =
+    pick (byte_at 0 text == 36)
+    (pick (byte_at 1 text == 55) Mosquitto
+    (pick (byte_at 7 text == 36) PasslibSha1 (behind_dollar text)))
+    (pick (byte_at 0 text == 83) ScramSha256
+    (pick (byte_at 6 text == 95) (pick (byte_at 10 text == 50) DjangoSha256 DjangoSha1)
+    (pick (byte_at 10 text == 50) WerkzeugSha256 WerkzeugSha512)))
+
+-- a number begins with a digit
+first_digit : (ds t : List ℕ) → 0 < length ds → All IsDigit ds
+    → is_digit (first_of_list 0 (ds ++ t)) ≡ true
+first_digit [] t some digits = let none : 0 < 0 = some in absurd (omega (arith, none))
+first_digit (d ∷ ds) t some digits =
+    let digit : digit_value d < 10 = All-head IsDigit d ds digits in grind (arith, nat_tests, digit)
+
+count_digit : (c : NonZeroU32) (t : List ℕ) → IsCount c
+    → is_digit (first_of_list 0 (decimal (non_zero_u32_get c) ++ t)) ≡ true
+count_digit c t small =
+    let n = non_zero_u32_get c in
+    first_digit (decimal n) t (decimal_is_IsNumeral n (omega arith)).0.0 (All-decimal n small)
+
+-- the first bytes of a scheme's text tell the scheme
+scheme_from-head : (k : Scheme) (p : Parameters) (c : NonZeroU32) (n : ℕ) (t : List ℕ) → IsCount c
+    → IsLen k p n → scheme_from (head_then k p c n t) ≡ k
+unfolding parameters_then
+scheme_from-head DjangoSha256 p c n t hc h = refl
+scheme_from-head DjangoSha1 p c n t hc h = refl
+scheme_from-head WerkzeugSha256 p c n t hc h = refl
+scheme_from-head WerkzeugSha512 p c n t hc h = refl
+scheme_from-head PhcSha256 Count c n t hc h = refl
+scheme_from-head PhcSha256 CountThenLen c n t hc h = refl
+scheme_from-head PhcSha256 LenThenCount c n t hc h = refl
+scheme_from-head PhcSha512 Count c n t hc h = refl
+scheme_from-head PhcSha512 CountThenLen c n t hc h = refl
+scheme_from-head PhcSha512 LenThenCount c n t hc h = refl
+scheme_from-head Mosquitto p c n t hc h = refl
+scheme_from-head PasslibSha1 p c n t hc h = refl
+scheme_from-head ScramSha256 Count c n t hc h = refl
+scheme_from-head ScramSha256 CountThenLen c n t hc h = refl
+scheme_from-head ScramSha256 LenThenCount c n t hc h = refl
+scheme_from-head PasslibSha256 Count c n t hc h =
+    ap (λ (b : Bool). pick b PasslibSha256 PhcSha256) (count_digit c (36 ∷ t) hc)
+scheme_from-head PasslibSha256 CountThenLen c n t hc h = absurd (true≢false (sym h.named))
+scheme_from-head PasslibSha256 LenThenCount c n t hc h = absurd (true≢false (sym h.named))
+scheme_from-head PasslibSha512 Count c n t hc h =
+    ap (λ (b : Bool). pick b PasslibSha512 PhcSha512) (count_digit c (36 ∷ t) hc)
+scheme_from-head PasslibSha512 CountThenLen c n t hc h = absurd (true≢false (sym h.named))
+scheme_from-head PasslibSha512 LenThenCount c n t hc h = absurd (true≢false (sym h.named))
+
+-- one text is of one scheme
+pub parts_text-scheme : (k l : Scheme) (p q : Parameters) (c d : NonZeroU32) (s t h g : List ℕ)
+    → IsParts k p c s h → IsParts l q d t g → parts_text k p c s h ≡ parts_text l q d t g → k ≡ l
+unfolding parts_text
+parts_text-scheme k l p q c d s t h g one two e =
+    sym (scheme_from-head k p c (length h) _ one.iterations one.kept) ∙ ap scheme_from e
+    ∙ scheme_from-head l q d (length g) _ two.iterations two.kept
+
+-- where a scheme stands among all
+pub position : Scheme → ℕ
+position DjangoSha256 = 0
+position DjangoSha1 = 1
+position WerkzeugSha256 = 2
+position WerkzeugSha512 = 3
+position PhcSha256 = 4
+position PhcSha512 = 5
+position Mosquitto = 6
+position PasslibSha1 = 7
+position PasslibSha256 = 8
+position PasslibSha512 = 9
+position ScramSha256 = 10
+
+pub position_below : (k : Scheme) → position k < 11
+unfolding position
+position_below DjangoSha256 = omega arith
+position_below DjangoSha1 = omega arith
+position_below WerkzeugSha256 = omega arith
+position_below WerkzeugSha512 = omega arith
+position_below PhcSha256 = omega arith
+position_below PhcSha512 = omega arith
+position_below Mosquitto = omega arith
+position_below PasslibSha1 = omega arith
+position_below PasslibSha256 = omega arith
+position_below PasslibSha512 = omega arith
+position_below ScramSha256 = omega arith
+
+-- each scheme stands at its place
+pub scheme_at-position : (k : Scheme) {i : ℕ} → position k ≡ i → (d : Scheme)
+    → k ≡ slice_index_or SCHEMES i d
+unfolding position
+scheme_at-position DjangoSha256 e d = ap (λ (i : ℕ). slice_index_or SCHEMES i d) e
+scheme_at-position DjangoSha1 e d = ap (λ (i : ℕ). slice_index_or SCHEMES i d) e
+scheme_at-position WerkzeugSha256 e d = ap (λ (i : ℕ). slice_index_or SCHEMES i d) e
+scheme_at-position WerkzeugSha512 e d = ap (λ (i : ℕ). slice_index_or SCHEMES i d) e
+scheme_at-position PhcSha256 e d = ap (λ (i : ℕ). slice_index_or SCHEMES i d) e
+scheme_at-position PhcSha512 e d = ap (λ (i : ℕ). slice_index_or SCHEMES i d) e
+scheme_at-position Mosquitto e d = ap (λ (i : ℕ). slice_index_or SCHEMES i d) e
+scheme_at-position PasslibSha1 e d = ap (λ (i : ℕ). slice_index_or SCHEMES i d) e
+scheme_at-position PasslibSha256 e d = ap (λ (i : ℕ). slice_index_or SCHEMES i d) e
+scheme_at-position PasslibSha512 e d = ap (λ (i : ℕ). slice_index_or SCHEMES i d) e
+scheme_at-position ScramSha256 e d = ap (λ (i : ℕ). slice_index_or SCHEMES i d) e

@@ -1,0 +1,123 @@
+-- SPDX-License-Identifier: ISC
+-- A text is read in one way.
+use Rattle.std.proofs.Common.{◌≡◌, ◌==◌, ℕ, Bool, true, false, List, [], ◌∷◌, ◌++◌, ap, sym, subst, ◌∙◌}
+use Rattle.std.proofs.Common.{inl, refl, length, take, drop}
+use Rattle.std.specs.Prelude.{◌||◌, not}
+use Rattle.std.specs.List.{list_all}
+use Rattle.std.specs.declared.num.NonZeroU32.{NonZeroU32}
+use Rattle.std.proofs.lemmas.Bool.{and_parts, not-true}
+use Rattle.std.proofs.lemmas.List.{take-append-drop}
+use Rattle.std.proofs.lemmas.List.Elements.{All-cons, All-nil}
+use Rattle.hex.specs.Hex.{IsBytes}
+use Rattle.ring_text.specs.Cut.{IsWithout}
+use Rattle.ring_text.proofs.Cuts.{NotAt, cut_same}
+use Rattle.ring_text.proofs.LowerHex.{IsWithout-hex}
+use Rattle.ring_password_hash.specs.Scheme.{keeps_keys, kept_encoding_of, salt_encoding_of}
+use Rattle.ring_password_hash.specs.Stored.{IsParts, IsTextOf, Parts, is_salt, is_text, parts_text}
+use Rattle.ring_password_hash.specs.Stored.{text_of}
+use Rattle.ring_password_hash.specs.Text.{IsCount, IsLen, field_then, head_then, kept_by, kept_text}
+use Rattle.ring_password_hash.specs.Text.{written}
+use Rattle.ring_password_hash.specs.declared.scheme.Encoding.{Encoding}
+use Rattle.ring_password_hash.specs.declared.scheme.Encoding.TheVariants.{Plain, Hex, Base64}
+use Rattle.ring_password_hash.specs.declared.scheme.Encoding.TheVariants.{Base64NoPad, Adapted}
+use Rattle.ring_password_hash.specs.declared.scheme.Scheme.{Scheme}
+use Rattle.ring_password_hash.specs.declared.text.Parameters.{Parameters}
+use Rattle.ring_password_hash.proofs.Fields.{base64-injective, written-injective}
+use Rattle.ring_password_hash.proofs.Heads.{head_then-injective}
+use Rattle.ring_password_hash.proofs.Keys.{bytes_behind, bytes_front, keys_read}
+use Rattle.ring_password_hash.proofs.Symbols.{IsWithout-adapted, IsWithout-base64}
+use Rattle.ring_password_hash.proofs.Symbols.{IsWithout-base64_no_pad}
+
+-- a test of each byte, and what it says
+without_from : (s : List ℕ) → list_all (λ b. not (b == 36)) s ≡ true → IsWithout 36 s
+without_from [] all = All-nil (NotAt 36)
+without_from (b ∷ s) all =
+    All-cons (NotAt 36) b s (not-true (b == 36) (and_parts _ _ all).0)
+    (without_from s (and_parts _ _ all).1)
+
+plain_apart : (x : Encoding) (s : List ℕ)
+    → (not (is_text x) || list_all (λ b. not (b == 36)) s) ≡ true → IsBytes s
+    → IsWithout 36 (written x s)
+plain_apart Plain s plain h = without_from s plain
+plain_apart Hex s plain h = IsWithout-hex 36 refl s h
+plain_apart Base64 s plain h = IsWithout-base64 36 (inl refl) s h
+plain_apart Base64NoPad s plain h = IsWithout-base64_no_pad 36 (inl refl) s h
+plain_apart Adapted s plain h = IsWithout-adapted 36 (inl refl) s h
+
+-- the byte that ends a salt is not in it
+salt_apart : (k : Scheme) (s : List ℕ) → is_salt k s ≡ true → IsBytes s
+    → IsWithout 36 (written (salt_encoding_of k) s)
+salt_apart k s is h = plain_apart (salt_encoding_of k) s (and_parts _ _ is).1 h
+
+field_then-injective : (x : Encoding) (end : ℕ) (xs ys s t : List ℕ) → IsBytes xs → IsBytes ys
+    → IsWithout end (written x xs) → IsWithout end (written x ys)
+    → field_then x xs end s ≡ field_then x ys end t → (xs ≡ ys) × (s ≡ t)
+field_then-injective x end xs ys s t hx hy ax ay e =
+    let cut = cut_same end (written x xs) (written x ys) s t ax ay e in
+    (written-injective x xs ys hx hy cut.0, cut.1)
+
+kept_by-injective : (keys : Bool) (x : Encoding) (g h : List ℕ) → IsBytes g → IsBytes h
+    → kept_by keys x g ≡ kept_by keys x h → g ≡ h
+kept_by-injective false x g h hg hh e = written-injective x g h hg hh e
+kept_by-injective true x g h hg hh e =
+    let read = keys_read (take 32 g) h _ (bytes_front 32 g hg) hh refl e in
+    let behind = base64-injective (drop 32 g) (drop 32 h) (bytes_behind 32 g hg)
+    (bytes_behind 32 h hh) read.1 in
+    sym (take-append-drop 32 g) ∙ ap (λ l. l ++ drop 32 g) read.0
+    ∙ ap (λ l. take 32 h ++ l) behind ∙ take-append-drop 32 h
+
+-- one text is of one value of a scheme
+pub parts_text-injective : (k : Scheme) (p q : Parameters) (c d : NonZeroU32) (s t h g : List ℕ)
+    → IsParts k p c s h → IsParts k q d t g → parts_text k p c s h ≡ parts_text k q d t g
+    → (p ≡ q) × (c ≡ d) × (s ≡ t) × (h ≡ g)
+unfolding parts_text
+parts_text-injective k p q c d s t h g one two e =
+    let head = head_then-injective k c d (length h) (length g) _ _ one.iterations two.iterations
+    p q one.kept two.kept e in
+    let salt = field_then-injective (salt_encoding_of k) 36 s t _ _ one.salt_bytes two.salt_bytes
+    (salt_apart k s one.salt one.salt_bytes) (salt_apart k t two.salt two.salt_bytes) head.3 in (
+      head.0,
+      head.1,
+      salt.0,
+      kept_by-injective (keeps_keys k) (kept_encoding_of k) h g one.kept_bytes two.kept_bytes salt.1,
+    )
+
+-- the parts and the text of a value of a scheme
+pub parts_at : {k : Scheme} {text : List ℕ} (h : Parts) → h.scheme ≡ k → IsTextOf h text
+    → IsParts k h.parameters h.iterations h.salt h.kept
+    × (text ≡ parts_text k h.parameters h.iterations h.salt h.kept)
+parts_at h same of = (
+  subst (λ (k : Scheme). IsParts k h.parameters h.iterations h.salt h.kept) same of.is,
+  sym of.has ∙ ap (λ (k : Scheme). parts_text k h.parameters h.iterations h.salt h.kept) same,
+)
+
+pub own_text : (h : Parts) {text : List ℕ} → IsTextOf h text → IsTextOf h (text_of h)
+own_text h of = subst (IsTextOf h) (sym of.has) of
+
+-- what is read of a text that a value has is the value's
+module _ {k : Scheme} {p : Parameters} {c : NonZeroU32} {s h text : List ℕ}
+    (parts : IsParts k p c s h) (whole : text ≡ parts_text k p c s h) where
+  pub head_read : (q : Parameters) (d : NonZeroU32) (n : ℕ) (rest : List ℕ)
+      → text ≡ head_then k q d n rest → IsCount d → IsLen k q n
+      → (n ≡ length h) × (rest ≡ field_then (salt_encoding_of k) s 36 (kept_text k h))
+  unfolding parts_text
+  head_read q d n rest read small len =
+      let both = head_then-injective k d c n (length h) rest
+      (field_then (salt_encoding_of k) s 36 (kept_text k h)) small parts.iterations
+      q p len parts.kept (sym read ∙ whole) in
+      (both.2, both.3)
+
+  -- the same, where the salt is read by an encoding that is the scheme's
+  pub salt_apart_by : {x : Encoding} → x ≡ salt_encoding_of k → IsWithout 36 (written x s)
+  salt_apart_by is =
+      subst (λ (y : Encoding). IsWithout 36 (written y s)) (sym is)
+      (salt_apart k s parts.salt parts.salt_bytes)
+
+  pub salt_read : {x : Encoding} → x ≡ salt_encoding_of k → (rest salt behind : List ℕ)
+      → rest ≡ field_then (salt_encoding_of k) s 36 (kept_text k h)
+      → rest ≡ field_then x salt 36 behind → IsBytes salt → IsWithout 36 (written x salt)
+      → (salt ≡ s) × (behind ≡ kept_text k h)
+  salt_read {x} is rest salt behind head read bytes apart =
+      field_then-injective x 36 salt s behind (kept_text k h) bytes
+      parts.salt_bytes apart (salt_apart_by is)
+      (sym read ∙ head ∙ ap (λ (y : Encoding). field_then y s 36 (kept_text k h)) (sym is))

@@ -1,0 +1,12 @@
+-- SPDX-License-Identifier: ISC
+use Rattle.std.proofs.Common.{ap, refl, rules, ◌∙◌}
+use Rattle.ring_password_hash.specs.Stored.{parameters_where}
+use Rattle.ring_password_hash.proofs.Made.{new_made}
+use Rattle.ring_password_hash.proofs.stored.Stored.new_counted.Goals as goal
+
+pub returns : goal.returns
+returns c =
+    let row = c.row-row.ensures in
+    new_made _ c.args.room c.args.password.now c.args.salt.now c.in_ok-keep.ensures (search rules)
+    (search rules) (c.usual_parameters.ensures ∙ ap parameters_where row.names_len) (search rules)
+    refl row.kept_len (search rules) (search rules)

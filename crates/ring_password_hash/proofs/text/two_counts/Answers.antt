@@ -1,0 +1,22 @@
+-- SPDX-License-Identifier: ISC
+use Rattle.std.proofs.Common.{refl, sym, ◌∙◌, ◌++◌}
+use Rattle.std.proofs.lemmas.List.{append_cancel_left}
+use Rattle.ring_text.proofs.Numbers.{count_then-injective}
+use Rattle.ring_password_hash.specs.Text.{count_then}
+use Rattle.ring_password_hash.proofs.Texts.{not_comma}
+use Rattle.ring_password_hash.proofs.text.two_counts.Goals as goal
+
+pub returns-in_default-count_before-clause-refused :
+    goal.returns-in_default-count_before-clause-refused
+returns-in_default-count_before-clause-refused c = λ _ d d' rest small small' e.
+    c.in_default-count_before.ensures.refused refl d (c.args.second.now ++ count_then d' 36 rest)
+    small (append_cancel_left c.args.first.now _ _ (sym c.in-Some.ensures.ok ∙ e))
+
+pub returns-in-None-clause-refused : goal.returns-in-None-clause-refused
+returns-in-None-clause-refused c = λ _ d d' rest small small' e.
+    let behind = append_cancel_left c.args.first.now _ _ (sym c.in-Some.ensures.ok ∙ e) in
+    let read = c.in-Some-count_before.ensures.ok in
+    let same = count_then-injective 44 not_comma c.in-Some-count_before.one d
+    c.in-Some-count_before.rest.now (c.args.second.now ++ count_then d' 36 rest) read.1 small
+    (sym read.0 ∙ behind) in
+    c.in-None.ensures.refused refl d' rest small' same.1

@@ -102,8 +102,24 @@ pub(crate) fn is_info_within(algorithm: &Algorithm, info_len: u128, len: u128) -
     }
 }
 
+/// Whether PBKDF2 by `algorithm` derives a key of `dk_len` bytes from a secret and a salt of these
+/// lengths in bytes: exactly then [`derive`](crate::pbkdf2::derive) is not refused (RFC 2898,
+/// section 5.2; FIPS 180-4, section 1).
+pub fn can_derive(
+    algorithm: &pbkdf2::Algorithm,
+    secret_len: u128,
+    salt_len: u128,
+    dk_len: u128,
+) -> bool
+    ensures { IsTrue result
+        ↔ CanDerive (pbkdf2_digest algorithm.now) secret_len salt_len dk_len }
+{
+    let digest = algorithm.hmac_algorithm().digest_algorithm();
+    can_derive_by(&digest, secret_len, salt_len, dk_len)
+}
+
 // Whether `out_len` bytes can be derived from a secret and a salt of these lengths.
-pub(crate) fn can_derive(
+pub(crate) fn can_derive_by(
     algorithm: &Algorithm,
     secret_len: u128,
     salt_len: u128,
@@ -127,5 +143,5 @@ pub(crate) fn can_verify(
 ) -> bool
     ensures { IsTrue result ↔ CanVerify algorithm.now secret_len salt_len value_len }
 {
-    value_len != 0 && can_derive(algorithm, secret_len, salt_len, value_len)
+    value_len != 0 && can_derive_by(algorithm, secret_len, salt_len, value_len)
 }

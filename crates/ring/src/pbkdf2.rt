@@ -72,7 +72,7 @@ ghost use Rattle.ring.specs.Prelude.{CanDerive, CanVerify, DerivesKey, IsDerived
 ghost use Rattle.ring.specs.Prelude.{pbkdf2_digest};
 
 use crate::hmac::Key;
-use crate::limits::{can_derive, can_verify};
+use crate::limits::{can_derive_by, can_verify};
 use crate::pbkdf2::receiver::{Compared, Written};
 use crate::pbkdf2::rounds::{Derivation, derive_under};
 use crate::width::SSE;
@@ -113,7 +113,7 @@ pub fn derive_in<const VECTOR_BITS: usize>(
 {
     let hmac_algorithm = algorithm.hmac_algorithm();
     let digest = hmac_algorithm.digest_algorithm();
-    if !can_derive(
+    if !can_derive_by(
         &digest,
         secret.len() as u128,
         salt.len() as u128,

@@ -13,7 +13,7 @@ ghost use Rattle.ring.specs.Prelude.{key_blocks, max_input_len, pbkdf2_digest, r
 
 use crate::digest::lanes::states::MAX_LANES;
 use crate::hmac::Key;
-use crate::limits::can_derive;
+use crate::limits::can_derive_by;
 use crate::pbkdf2::algorithm::Algorithm;
 use crate::pbkdf2::receiver::{ComparedEach, Receiver, WrittenEach};
 use crate::pbkdf2::rounds::{Derivation, derive_under};
@@ -36,7 +36,7 @@ fn can_derive_all(
 {
     'places: for i in 0..secrets.len() {
         let secret_len = secrets[i].len() as u128;
-        if !can_derive(algorithm, secret_len, salts[i].len() as u128, len as u128) {
+        if !can_derive_by(algorithm, secret_len, salts[i].len() as u128, len as u128) {
             return false;
         }
     }

@@ -4,14 +4,14 @@ use Rattle.ring.specs.Prelude.{CanDerive, bytes_at}
 use Rattle.ring.proofs.Each.{message-read}
 use Rattle.ring.proofs.pbkdf2.each.can_derive_all.Goals as goal
 
-pub returns-then-not-can_derive : goal.returns-then-not-can_derive
-returns-then-not-can_derive c =
+pub returns-then-not-can_derive_by : goal.returns-then-not-can_derive_by
+returns-then-not-can_derive_by c =
     let i = c.places.i in (
       λ told. absurd (true≢false (sym told)),
       λ all.
           let read = rw (message-read c.args.secrets.now i, message-read c.args.salts.now i) at
           (all i c.places-test.true) in
-          search (rules, c.can_derive.ensures.1 read, c.if-not-can_derive.true),
+          search (rules, c.can_derive_by.ensures.1 read, c.if-not-can_derive_by.true),
     )
 
 pub places-preserved : goal.places-preserved
@@ -22,5 +22,5 @@ places-preserved c =
     let this : CanDerive c.args.algorithm.now (length (bytes_at secrets i))
     (length (bytes_at salts i)) c.args.len =
     rw (message-read secrets i, message-read salts i)
-    (search (rules, c.if-not-can_derive.ensures)) in
+    (search (rules, c.if-not-can_derive_by.ensures)) in
     below_more _ i c.places.invariant this

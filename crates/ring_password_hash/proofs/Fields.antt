@@ -1,21 +1,17 @@
 -- SPDX-License-Identifier: ISC
 -- What a field's text says of its bytes.
-use Rattle.std.proofs.Common.{◌≡◌, ℕ, refl, List, ◌∷◌, sym, ap, ◌∙◌}
+use Rattle.std.proofs.Common.{◌≡◌, ◌∷◌, ◌∙◌, ℕ, false, List, [], ap, refl, sym}
 use Rattle.hex.specs.Hex.{IsBytes}
-use Rattle.base64.specs.Engines.{standard, standard_no_pad}
-use Rattle.base64.specs.GeneralPurpose.{decode_of}
-use Rattle.base64.specs.declared.engine.general_purpose.GeneralPurpose.{GeneralPurpose}
-use Rattle.std.proofs.Common.{false, []}
-use Rattle.base64.specs.Decode.{decoded_bytes}
-use Rattle.base64.specs.declared.engine.DecodePaddingMode.TheVariants.{RequireNone}
+use Rattle.base64.proofs.EngineFacts.{decode_of-encode_of}
 use Rattle.base64.proofs.RoundTrip.{decode-encode}
+use Rattle.base64.specs.Decode.{decoded_bytes}
+use Rattle.base64.specs.Engines.{standard, standard_no_pad}
+use Rattle.base64.specs.GeneralPurpose.{IsConsistent, decode_of, encode_of}
+use Rattle.base64.specs.declared.engine.DecodePaddingMode.TheVariants.{RequireNone}
+use Rattle.base64.specs.declared.engine.general_purpose.GeneralPurpose.{GeneralPurpose}
 use Rattle.ring_text.proofs.Cuts.{cut_same}
 use Rattle.ring_text.proofs.LowerHex.{encode_lower-injective}
-use Rattle.ring_password_hash.specs.Text.{adapted_symbols}
-use Rattle.base64.proofs.EngineFacts.{decode_of-encode_of}
-use Rattle.base64.specs.GeneralPurpose.{IsConsistent, encode_of}
-use Rattle.ring_password_hash.specs.Text.{field_then, written}
-use Rattle.ring_password_hash.specs.Text.{IsEnd}
+use Rattle.ring_password_hash.specs.Text.{IsEnd, adapted_symbols, field_then, written}
 use Rattle.ring_password_hash.specs.declared.scheme.Encoding.{Encoding}
 use Rattle.ring_password_hash.specs.declared.scheme.Encoding.TheVariants.{Plain, Hex, Base64}
 use Rattle.ring_password_hash.specs.declared.scheme.Encoding.TheVariants.{Base64NoPad, Adapted}

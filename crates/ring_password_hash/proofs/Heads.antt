@@ -1,32 +1,25 @@
 -- SPDX-License-Identifier: ISC
 -- The parameters of a hash's text are read in one way.
-use Rattle.std.proofs.Common.{◌≡◌, ◌≢◌, ℕ, ◌<◌, ◌≤◌, List, ◌++◌, refl, ap, sym, ◌∙◌, arith}
-use Rattle.std.proofs.Common.{Bool, ◌==◌, codes, false, true, true≢false}
-use Rattle.std.specs.Prelude.{◌&&◌, ◌||◌, nat_le, not}
+use Rattle.std.proofs.Common.{◌≡◌, ◌≢◌, ◌≤◌, ◌<◌, ◌==◌, ◌++◌, ◌∙◌, ℕ, Bool, true, false, List, []}
+use Rattle.std.proofs.Common.{ap, append_assoc, arith, codes, length, refl, sym, true≢false}
+use Rattle.std.specs.Prelude.{◌^◌, ◌&&◌, ◌||◌, nat_le, not}
 use Rattle.std.proofs.lemmas.Bool.Decides.{nat_tests}
-use Rattle.std.specs.Int.NonZero.{non_zero_u32_get}
-use Rattle.std.specs.Prelude.{◌^◌}
-use Rattle.std.specs.declared.num.NonZeroU32.{NonZeroU32}
-use Rattle.std.proofs.Common.{[], append_assoc, length}
 use Rattle.std.proofs.lemmas.List.{append_cancel_left, length-append}
+use Rattle.std.specs.declared.num.NonZeroU32.{NonZeroU32}
 use Rattle.ring_text.proofs.Cuts.{first_of_list}
-use Rattle.ring_text.proofs.Numbers.{IsDigit, count_same, number_same}
+use Rattle.ring_text.proofs.Numbers.{IsDigit, count_same, number_same, same_count}
+use Rattle.ring_password_hash.specs.Scheme.{IsRow, Row, count_end, count_end_of, count_mark}
+use Rattle.ring_password_hash.specs.Scheme.{count_mark_of, keeps_keys, kept_len_of, names_len}
+use Rattle.ring_password_hash.specs.Scheme.{prefix_of, row_of}
 use Rattle.ring_password_hash.specs.Stored.{parameters_where}
-use Rattle.ring_password_hash.specs.Text.{IsCount, count_then}
-use Rattle.ring_password_hash.specs.Text.{IsLen, IsNamed, head_then, parameters_then}
+use Rattle.ring_password_hash.specs.Text.{IsCount, IsLen, IsNamed, count_then, head_then}
+use Rattle.ring_password_hash.specs.Text.{number_then, parameters_then}
 use Rattle.ring_password_hash.specs.declared.scheme.Row as code
-use Rattle.ring_password_hash.specs.Scheme.{IsRow, Row, count_end, count_end_of, count_mark, count_mark_of}
-use Rattle.ring_password_hash.specs.Scheme.{keeps_keys, kept_len_of, names_len, row_of}
-use Rattle.ring_password_hash.specs.Scheme.{prefix_of}
+use Rattle.ring_password_hash.specs.declared.scheme.Scheme.{Scheme}
 use Rattle.ring_password_hash.specs.declared.text.Parameters.{Parameters}
 use Rattle.ring_password_hash.specs.declared.text.Parameters.TheVariants.{Count, CountThenLen}
 use Rattle.ring_password_hash.specs.declared.text.Parameters.TheVariants.{LenThenCount}
-use Rattle.ring_password_hash.specs.declared.scheme.Scheme.{Scheme}
-use Rattle.ring_password_hash.specs.declared.scheme.Scheme.TheVariants.{DjangoSha256, DjangoSha1}
-use Rattle.ring_password_hash.specs.declared.scheme.Scheme.TheVariants.{WerkzeugSha256, WerkzeugSha512}
-use Rattle.ring_password_hash.specs.declared.scheme.Scheme.TheVariants.{PhcSha256, PhcSha512, Mosquitto}
-use Rattle.ring_password_hash.specs.declared.scheme.Scheme.TheVariants.{PasslibSha1, PasslibSha256}
-use Rattle.ring_password_hash.specs.declared.scheme.Scheme.TheVariants.{PasslibSha512, ScramSha256}
+use Rattle.ring_password_hash.proofs.Schemes.{each_row}
 use Rattle.ring_password_hash.proofs.Texts.{not_colon, not_comma, not_dollar}
 
 -- a row of the table keeps 1 to 64 bytes: 10 and more where a text can name it, 64 where it is keys
@@ -35,40 +28,40 @@ is_row r =
     nat_le 1 r.kept_len && nat_le r.kept_len 64 && (not r.names_len || nat_le 10 r.kept_len)
     && (not r.keeps_keys || (r.kept_len == 64 && not r.names_len))
 
-each_row : (k : Scheme) → is_row (row_of k) ≡ true
-each_row DjangoSha256 = refl
-each_row DjangoSha1 = refl
-each_row WerkzeugSha256 = refl
-each_row WerkzeugSha512 = refl
-each_row PhcSha256 = refl
-each_row PhcSha512 = refl
-each_row Mosquitto = refl
-each_row PasslibSha1 = refl
-each_row PasslibSha256 = refl
-each_row PasslibSha512 = refl
-each_row ScramSha256 = refl
+all_rows : (k : Scheme) → is_row (row_of k) ≡ true
+all_rows = each_row is_row refl
 
 -- a text keeps 1 to 64 bytes
 pub len_few : (k : Scheme) (p : Parameters) (n : ℕ) → IsLen k p n → (0 < n) × (n ≤ 64)
 len_few k Count n h =
-    let is = each_row k in (grind (arith, nat_tests, is, h), grind (arith, nat_tests, is, h))
+    let is = all_rows k in (grind (arith, nat_tests, is, h), grind (arith, nat_tests, is, h))
 len_few k CountThenLen n h = let least = h.least in (omega arith, h.most)
 len_few k LenThenCount n h = let least = h.least in (omega arith, h.most)
 
 -- keys are 64 bytes
 pub keys_len : (k : Scheme) (p : Parameters) (n : ℕ) → IsLen k p n → keeps_keys k ≡ true → n ≡ 64
-keys_len k Count n h keys = let is = each_row k in grind (arith, nat_tests, is, h, keys)
+keys_len k Count n h keys = let is = all_rows k in grind (arith, nat_tests, is, h, keys)
 keys_len k CountThenLen n h keys =
-    let is = each_row k in let named = h.named in absurd (grind (arith, nat_tests, is, named, keys))
+    let is = all_rows k in let named = h.named in absurd (grind (arith, nat_tests, is, named, keys))
 keys_len k LenThenCount n h keys =
-    let is = each_row k in let named = h.named in absurd (grind (arith, nat_tests, is, named, keys))
+    let is = all_rows k in let named = h.named in absurd (grind (arith, nat_tests, is, named, keys))
+
+-- parameters that name a length
+pub count_then_len : CountThenLen ≢ Count
+count_then_len e = cc e
+
+pub len_then_count : LenThenCount ≢ Count
+len_then_count e = cc e
+
+pub named_small : {k : Scheme} {n : ℕ} → IsNamed k n → n < 2 ^ 32
+named_small is = let most = is.most in omega arith
 
 -- with the parameters that its own system writes a text keeps as many bytes as the row says
 usual_at : (named : Bool) (k : Scheme) → names_len k ≡ named
     → IsLen k (parameters_where named) (kept_len_of k)
 usual_at false k e = refl
 usual_at true k e =
-    let is = each_row k in record {
+    let is = all_rows k in record {
       named = e;
       least = grind (arith, nat_tests, is, e);
       most = grind (arith, nat_tests, is, e);
@@ -88,11 +81,13 @@ end_apart false e = omega (arith, e)
 
 -- where parameters are named, the count alone is none that a length follows
 lone_apart : (k : Scheme) (c d : NonZeroU32) (s t : List ℕ) (n : ℕ) → IsNamed k n → IsCount c
-    → IsCount d → count_mark_of k ++ count_then c (count_end_of k) s ≢ codes "i=" ++ count_then d 44 t
+    → IsCount d
+    → count_mark_of k ++ count_then c (count_end_of k) s ≢ codes "i=" ++ count_then d 44 t
 lone_apart k c d s t n is hc hd e =
-    let moved = sym (ap (λ (b : Bool). count_mark b ++ count_then c (count_end_of k) s) is.named) ∙ e in
+    let end = count_end_of k in
+    let moved = sym (ap (λ (b : Bool). count_mark b ++ count_then c end s) is.named) ∙ e in
     let behind = append_cancel_left (codes "i=") _ _ moved in
-    let read = count_same c d (count_end_of k) 44 s t hc hd (not_end (keeps_keys k)) not_comma behind in
+    let read = count_same c d end 44 s t hc hd (not_end (keeps_keys k)) not_comma behind in
     end_apart (keeps_keys k) read.1
 
 letter_apart : (s t : List ℕ) → codes "i=" ++ s ≢ codes "l=" ++ t
@@ -104,13 +99,43 @@ lone_apart_len k c s t n is e =
     letter_apart (count_then c (count_end_of k) s) t
     (sym (ap (λ (b : Bool). count_mark b ++ count_then c (count_end_of k) s) is.named) ∙ e)
 
+-- two numbers, each behind its mark, are read in one way
+module _ {a b x y : ℕ} {s t : List ℕ} (ha : a < 2 ^ 32) (hb : b < 2 ^ 32) (hx : x < 2 ^ 32)
+    (hy : y < 2 ^ 32) where
+  two_same : (first second : List ℕ)
+      → first ++ number_then a 44 (second ++ number_then b 36 s)
+      ≡ first ++ number_then x 44 (second ++ number_then y 36 t)
+      → (a ≡ x) × (b ≡ y) × (s ≡ t)
+  two_same first second e =
+      let one = number_same a x 44 44 _ _ ha hx not_comma not_comma
+      (append_cancel_left first _ _ e) in
+      let two = number_same b y 36 36 s t hb hy not_dollar not_dollar
+      (append_cancel_left second _ _ one.2) in
+      (one.0, two.0, two.2)
+
 -- what is read of a text before its salt
 abbrev pub SameHead : (p q : Parameters) (c d : NonZeroU32) (m n : ℕ) (s t : List ℕ) → Type 0
 SameHead p q c d m n s t = (p ≡ q) × (c ≡ d) × (m ≡ n) × (s ≡ t)
 
-module _ (k : Scheme) (c d : NonZeroU32) (m n : ℕ) (s t : List ℕ) (hc : IsCount c)
+module _ (k : Scheme) {c d : NonZeroU32} {m n : ℕ} {s t : List ℕ} (hc : IsCount c)
     (hd : IsCount d) where
-  pub parameters_then-injective : (p q : Parameters) → IsLen k p m → IsLen k q n
+  -- parameters with a length are read in one way
+  pub named_same : (p q : Parameters) → p ≢ Count → q ≢ Count → m < 2 ^ 32 → n < 2 ^ 32
+      → parameters_then k p c m s ≡ parameters_then k q d n t → SameHead p q c d m n s t
+  unfolding parameters_then
+  named_same Count q hp hq hm hn e = absurd (hp refl)
+  named_same CountThenLen Count hp hq hm hn e = absurd (hq refl)
+  named_same LenThenCount Count hp hq hm hn e = absurd (hq refl)
+  named_same CountThenLen CountThenLen hp hq hm hn e =
+      let read = two_same hc hm hd hn (codes "i=") (codes "l=") e in
+      (refl, same_count c d read.0, read.1, read.2)
+  named_same CountThenLen LenThenCount hp hq hm hn e = absurd (letter_apart _ _ e)
+  named_same LenThenCount CountThenLen hp hq hm hn e = absurd (letter_apart _ _ (sym e))
+  named_same LenThenCount LenThenCount hp hq hm hn e =
+      let read = two_same hm hc hn hd (codes "l=") (codes "i=") e in
+      (refl, same_count c d read.1, read.0, read.2)
+
+  parameters_then-injective : (p q : Parameters) → IsLen k p m → IsLen k q n
       → parameters_then k p c m s ≡ parameters_then k q d n t → SameHead p q c d m n s t
   unfolding parameters_then
   parameters_then-injective Count Count hm hn e =
@@ -124,27 +149,16 @@ module _ (k : Scheme) (c d : NonZeroU32) (m n : ℕ) (s t : List ℕ) (hc : IsCo
       absurd (lone_apart_len k c s _ n hn e)
   parameters_then-injective CountThenLen Count hm hn e =
       absurd (lone_apart k d c t _ m hm hd hc (sym e))
-  parameters_then-injective CountThenLen CountThenLen hm hn e =
-      let few = len_few k CountThenLen m hm in
-      let few' = len_few k CountThenLen n hn in
-      let first = count_same c d 44 44 _ _ hc hd not_comma not_comma
-      (append_cancel_left (codes "i=") _ _ e) in
-      let second = number_same m n 36 36 s t (omega (arith, few.1)) (omega (arith, few'.1))
-      not_dollar not_dollar (append_cancel_left (codes "l=") _ _ first.2) in
-      (refl, first.0, second.0, second.2)
-  parameters_then-injective CountThenLen LenThenCount hm hn e = absurd (letter_apart _ _ e)
   parameters_then-injective LenThenCount Count hm hn e =
       absurd (lone_apart_len k d t _ m hm (sym e))
-  parameters_then-injective LenThenCount CountThenLen hm hn e =
-      absurd (letter_apart _ _ (sym e))
+  parameters_then-injective CountThenLen CountThenLen hm hn e =
+      named_same CountThenLen CountThenLen count_then_len count_then_len (named_small hm)
+      (named_small hn) e
+  parameters_then-injective CountThenLen LenThenCount hm hn e = absurd (letter_apart _ _ e)
+  parameters_then-injective LenThenCount CountThenLen hm hn e = absurd (letter_apart _ _ (sym e))
   parameters_then-injective LenThenCount LenThenCount hm hn e =
-      let few = len_few k LenThenCount m hm in
-      let few' = len_few k LenThenCount n hn in
-      let first = number_same m n 44 44 _ _ (omega (arith, few.1)) (omega (arith, few'.1))
-      not_comma not_comma (append_cancel_left (codes "l=") _ _ e) in
-      let second = count_same c d 36 36 s t hc hd not_dollar not_dollar
-      (append_cancel_left (codes "i=") _ _ first.2) in
-      (refl, second.0, first.0, second.2)
+      named_same LenThenCount LenThenCount len_then_count len_then_count (named_small hm)
+      (named_small hn) e
 
   pub head_then-injective : (p q : Parameters) → IsLen k p m → IsLen k q n
       → head_then k p c m s ≡ head_then k q d n t → SameHead p q c d m n s t
@@ -154,39 +168,6 @@ module _ (k : Scheme) (c d : NonZeroU32) (m n : ℕ) (s t : List ℕ) (hc : IsCo
 -- a number above zero, as a count
 abbrev count_of : (n : ℕ) → 0 < n → NonZeroU32
 count_of n some = record { value = n; ok = some }
-
--- a length that was read after the count is that of the text
-pub len_second : (k : Scheme) (p : Parameters) (c : NonZeroU32) (n : ℕ) (rest : List ℕ)
-    → (d l : NonZeroU32) (behind : List ℕ) → p ≢ Count → IsCount c → IsNamed k n → IsCount d
-    → IsCount l
-    → codes "i=" ++ count_then d 44 (codes "l=" ++ count_then l 36 behind)
-    ≡ parameters_then k p c n rest → non_zero_u32_get l ≡ n
-unfolding parameters_then
-len_second k Count c n rest d l behind other hc is hd hl e = absurd (other refl)
-len_second k CountThenLen c n rest d l behind other hc is hd hl e =
-    let most = is.most in
-    let first = count_same d c 44 44 _ _ hd hc not_comma not_comma
-    (append_cancel_left (codes "i=") _ _ e) in
-    let second = number_same (non_zero_u32_get l) n 36 36 behind rest hl (omega arith) not_dollar
-    not_dollar (append_cancel_left (codes "l=") _ _ first.2) in
-    second.0
-len_second k LenThenCount c n rest d l behind other hc is hd hl e = absurd (letter_apart _ _ e)
-
--- a length that was read before the count is that of the text
-pub len_first : (k : Scheme) (p : Parameters) (c : NonZeroU32) (n : ℕ) (rest : List ℕ)
-    → (l d : NonZeroU32) (behind : List ℕ) → p ≢ Count → IsCount c → IsNamed k n → IsCount l
-    → IsCount d
-    → codes "l=" ++ count_then l 44 (codes "i=" ++ count_then d 36 behind)
-    ≡ parameters_then k p c n rest → non_zero_u32_get l ≡ n
-unfolding parameters_then
-len_first k Count c n rest l d behind other hc is hl hd e = absurd (other refl)
-len_first k CountThenLen c n rest l d behind other hc is hl hd e =
-    absurd (letter_apart _ _ (sym e))
-len_first k LenThenCount c n rest l d behind other hc is hl hd e =
-    let most = is.most in
-    let first = number_same (non_zero_u32_get l) n 44 44 _ _ hl (omega arith) not_comma not_comma
-    (append_cancel_left (codes "l=") _ _ e) in
-    first.0
 
 module _ (text : List ℕ) where
   -- a text without two named numbers names no length
@@ -237,9 +218,9 @@ pub no_parameters : (k : Scheme) (text : List ℕ)
 unfolding parameters_then
 no_parameters k text lone named Count c n rest hc len e = lone c rest hc e
 no_parameters k text lone named CountThenLen c n rest hc len e =
-    named CountThenLen c n rest (λ same. cc same) hc len e
+    named CountThenLen c n rest count_then_len hc len e
 no_parameters k text lone named LenThenCount c n rest hc len e =
-    named LenThenCount c n rest (λ same. cc same) hc len e
+    named LenThenCount c n rest len_then_count hc len e
 
 -- what follows a head can be appended to it
 pub append-head_then : (k : Scheme) (p : Parameters) (c : NonZeroU32) (n : ℕ) (rest : List ℕ)

@@ -1,22 +1,20 @@
 -- SPDX-License-Identifier: ISC
 -- SCRAM's two keys as one list of bytes.
-use Rattle.std.proofs.Common.{◌≡◌, ◌+◌, ◌<◌, ℕ, List, ◌++◌, ap, arith, drop, length, take}
-use Rattle.std.proofs.Common.{refl, subst, sym, inr, ◌∙◌}
-use Rattle.std.proofs.lemmas.List.{drop_at, get_or-drop, length-take-le}
-use Rattle.std.proofs.lemmas.List.{take-append-drop, take_at}
-use Rattle.std.proofs.Common.{[], append-nil, false, true, Bool}
-use Rattle.ring_password_hash.proofs.Pieces.{take-put}
+use Rattle.std.proofs.Common.{◌≡◌, ◌<◌, ◌+◌, ◌++◌, ◌∙◌, ℕ, Bool, true, false, List, [], ap}
+use Rattle.std.proofs.Common.{append-nil, arith, drop, inr, length, refl, subst, sym, take}
+use Rattle.std.proofs.lemmas.List.{drop_at, get_or-drop, length-take-le, take-append-drop, take_at}
 use borrow.Rule.Slice.PartMut.{put_mid}
 use Rattle.hex.specs.Hex.{IsBytes}
-use Rattle.ring_text.specs.Cut.{IsWithout}
 use Rattle.base64.proofs.EngineFacts.{front_bytes}
+use Rattle.ring_text.specs.Cut.{IsWithout}
 use Rattle.ring_password_hash.specs.Scheme.{IsRow, kept_encoding_of, row_of}
 use Rattle.ring_password_hash.specs.Text.{field_then, kept_by, kept_text, written}
 use Rattle.ring_password_hash.specs.declared.scheme.Encoding.{Encoding}
+use Rattle.ring_password_hash.specs.declared.scheme.Encoding.TheVariants.{Base64}
 use Rattle.ring_password_hash.specs.declared.scheme.Row as code
 use Rattle.ring_password_hash.specs.declared.scheme.Scheme.{Scheme}
-use Rattle.ring_password_hash.specs.declared.scheme.Encoding.TheVariants.{Base64}
 use Rattle.ring_password_hash.proofs.Fields.{base64_then-injective}
+use Rattle.ring_password_hash.proofs.Pieces.{take-put}
 use Rattle.ring_password_hash.proofs.Symbols.{IsWithout-base64}
 
 -- the front of bytes is bytes, and so is the rest
@@ -47,13 +45,15 @@ module _ (out key piece : List ℕ) {text rest : List ℕ} (room : length out �
   both : take 64 (put_mid 32 32 out piece) ≡ take 32 out ++ take 32 key
   both =
       let len = length-take-le 32 key (omega arith) in
-      take-put 32 32 32 out piece (take 32 key) [] (copied ∙ sym (append-nil (take 32 key))) (sym len)
-      (omega arith)
+      let whole = copied ∙ sym (append-nil (take 32 key)) in
+      take-put 32 32 32 out piece (take 32 key) [] whole (sym len) (omega arith)
 
   pub keys_copied : text ≡ kept_by true Base64 (take 64 (put_mid 32 32 out piece))
   keys_copied =
+      let first = take 32 out in
+      let second = take 32 key in
       let len = length-take-le 32 out (omega arith) in
-      rw (both, take_at (take 32 out) (take 32 key) 32 len, drop_at (take 32 out) (take 32 key) 32 len)
+      rw (both, take_at first second 32 len, drop_at first second 32 len)
       (read ∙ ap (field_then Base64 (take 32 out) 58) last)
 
 -- what is kept where it is no keys

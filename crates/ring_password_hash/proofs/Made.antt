@@ -1,23 +1,24 @@
 -- SPDX-License-Identifier: ISC
 -- A new value.
-use Rattle.std.proofs.Common.{◌≡◌, ◌≤◌, ℕ, Bool, true, false, List, ap, arith, length, refl, subst, sym, take}
-use Rattle.std.proofs.Common.{◌∙◌}
-use Rattle.std.specs.Int.NonZero.{non_zero_u32_get}
-use Rattle.std.specs.declared.num.NonZeroU32.{NonZeroU32}
+use Rattle.std.proofs.Common.{◌≡◌, ◌≤◌, ◌∙◌, ℕ, Bool, true, false, List, ap, arith, length, refl}
+use Rattle.std.proofs.Common.{subst, sym, take}
+use Rattle.std.specs.Prelude.{Ok}
 use Rattle.std.proofs.lemmas.Bool.Decides.{nat_tests}
 use Rattle.std.proofs.lemmas.List.{length-append}
+use Rattle.std.specs.Int.NonZero.{non_zero_u32_get}
+use Rattle.std.specs.declared.num.NonZeroU32.{NonZeroU32}
 use Rattle.hex.specs.Hex.{IsBytes}
-use Rattle.ring.specs.Prelude.{dk}
-use Rattle.ring.specs.declared.digest.algorithm.TheConstants.{SHA256}
+use Rattle.ring_core.specs.Cost.{Counts}
 use Rattle.ring.proofs.Lengths.{length-digest_of}
 use Rattle.ring.proofs.lemmas.hmac.Keys.{length-hmac_of}
 use Rattle.ring.proofs.lemmas.pbkdf2.Rounds.{length-dk}
+use Rattle.ring.specs.Prelude.{dk}
+use Rattle.ring.specs.declared.digest.algorithm.TheConstants.{SHA256}
 use Rattle.ring_password_hash.specs.Scheme.{algorithm_of, keeps_keys, kept_len_of, names_len}
-use Rattle.ring_password_hash.specs.Stored.{IsStored, derived_by, derived_of, is_past, is_salt, keys_of, new_parts, new_text}
-use Rattle.ring_password_hash.specs.Stored.{Derives, Keeps, Makes, parts_of, parts_text, text_of}
-use Rattle.ring_core.specs.Cost.{Counts}
-use Rattle.std.specs.Prelude.{Ok}
-use Rattle.ring_password_hash.specs.Stored.{parameters_where, server_key_of, stored_key_of}
+use Rattle.ring_password_hash.specs.Stored.{Derives, IsStored, Keeps, Makes, derived_by, derived_of}
+use Rattle.ring_password_hash.specs.Stored.{is_past, is_salt, keys_of, new_parts, new_text}
+use Rattle.ring_password_hash.specs.Stored.{parameters_where, parts_of, parts_text, server_key_of}
+use Rattle.ring_password_hash.specs.Stored.{stored_key_of, text_of}
 use Rattle.ring_password_hash.specs.Text.{IsCount, IsLen}
 use Rattle.ring_password_hash.specs.declared.scheme.Scheme.{Scheme}
 use Rattle.ring_password_hash.specs.declared.stored.Stored.{Stored}

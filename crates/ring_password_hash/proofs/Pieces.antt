@@ -1,18 +1,18 @@
 -- SPDX-License-Identifier: ISC
 -- The lengths of pieces, and what a call that writes one says of its room.
-use Rattle.std.proofs.Common.{◌≡◌, ℕ, ◌+◌, ◌*◌, ◌<◌, ◌≤◌, List, [], ◌++◌, length, take}
-use Rattle.std.proofs.Common.{Bool, true, false, ap, append_assoc, arith, inl, inr, sym, ◌∙◌}
-use Rattle.std.specs.Prelude.{Result, Ok, Err}
-use borrow.Rule.Slice.PartMut.{post_of, put_mid}
+use Rattle.std.proofs.Common.{◌≡◌, ◌≤◌, ◌<◌, ◌+◌, ◌*◌, ◌++◌, ◌∙◌, ℕ, Bool, true, false, List, []}
+use Rattle.std.proofs.Common.{ap, append_assoc, arith, inl, inr, length, sym, take}
+use Rattle.std.specs.Prelude.{Err, Ok, Result}
 use Rattle.std.proofs.lemmas.Bool.{cases_lt}
 use Rattle.std.proofs.lemmas.List.{length-append, length-replicate, length-take-le, take_at}
-use Rattle.hex.specs.Hex.{encode_lower, lower_digits}
+use borrow.Rule.Slice.PartMut.{post_of, put_mid}
 use Rattle.hex.proofs.HexLemmas.{length-encode_with}
+use Rattle.hex.specs.Hex.{encode_lower, lower_digits}
+use Rattle.base64.proofs.RoundTrip.{length-encode_symbols}
+use Rattle.base64.specs.Engines.{standard, standard_no_pad}
 use Rattle.base64.specs.GeneralPurpose.{encode_of, encoded_size_of}
 use Rattle.base64.specs.Rfc4648.{encode, encode_symbols, encoded_size, padding_len}
 use Rattle.base64.specs.declared.engine.general_purpose.GeneralPurpose.{GeneralPurpose}
-use Rattle.base64.specs.Engines.{standard, standard_no_pad}
-use Rattle.base64.proofs.RoundTrip.{length-encode_symbols}
 use Rattle.ring_password_hash.specs.Text.{adapted_symbols, written}
 use Rattle.ring_password_hash.specs.declared.scheme.Encoding.{Encoding}
 use Rattle.ring_password_hash.specs.declared.scheme.Encoding.TheVariants.{Plain, Hex, Base64}
@@ -70,7 +70,8 @@ pub length-written : (x : Encoding) (a b : List ℕ) → length a ≡ length b
 length-written Plain a b e = e
 length-written Hex a b e = omega (arith, two_digits_each a, two_digits_each b, e)
 length-written Base64 a b e =
-    length-encode_of standard a ∙ ap (λ n. encoded_size n true) e ∙ sym (length-encode_of standard b)
+    length-encode_of standard a ∙ ap (λ n. encoded_size n true) e
+    ∙ sym (length-encode_of standard b)
 length-written Base64NoPad a b e =
     length-encode_of standard_no_pad a ∙ ap (λ n. encoded_size n false) e
     ∙ sym (length-encode_of standard_no_pad b)

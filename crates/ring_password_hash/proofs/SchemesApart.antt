@@ -1,15 +1,15 @@
 -- SPDX-License-Identifier: ISC
 -- Which scheme a text is of: its first bytes tell.
-use Rattle.std.proofs.Common.{◌≡◌, ◌==◌, ℕ, ◌<◌, Bool, true, false, List, [], ◌∷◌, ◌++◌}
-use Rattle.std.proofs.Common.{slice_index_or, refl, ap, sym, ◌∙◌, arith, drop, length}
+use Rattle.std.proofs.Common.{◌≡◌, ◌<◌, ◌==◌, ◌∷◌, ◌++◌, ◌∙◌, ℕ, Bool, true, false, List, []}
+use Rattle.std.proofs.Common.{ap, arith, drop, length, refl, sym}
 use Rattle.std.proofs.Common.{true≢false}
+use Rattle.std.specs.Prelude.{All, nat_lt}
 use Rattle.std.proofs.lemmas.Bool.Decides.{nat_tests}
-use Rattle.std.proofs.lemmas.List.Elements.{All-head}
 use Rattle.std.proofs.lemmas.Fmt.{decimal_is_IsNumeral}
+use Rattle.std.proofs.lemmas.List.Elements.{All-head}
 use Rattle.std.specs.Char.{digit_value}
 use Rattle.std.specs.Fmt.{decimal}
 use Rattle.std.specs.Int.NonZero.{non_zero_u32_get}
-use Rattle.std.specs.Prelude.{All, nat_lt}
 use Rattle.std.specs.declared.num.NonZeroU32.{NonZeroU32}
 use Rattle.ring_text.proofs.Cuts.{first_of_list}
 use Rattle.ring_text.proofs.Numbers.{All-decimal, IsDigit}
@@ -17,11 +17,12 @@ use Rattle.ring_password_hash.specs.Stored.{IsParts, parts_text}
 use Rattle.ring_password_hash.specs.Text.{IsCount, IsLen, head_then, parameters_then}
 use Rattle.ring_password_hash.specs.declared.scheme.Scheme.{Scheme}
 use Rattle.ring_password_hash.specs.declared.scheme.Scheme.TheVariants.{DjangoSha256, DjangoSha1}
-use Rattle.ring_password_hash.specs.declared.scheme.Scheme.TheVariants.{WerkzeugSha256, WerkzeugSha512}
-use Rattle.ring_password_hash.specs.declared.scheme.Scheme.TheVariants.{PhcSha256, PhcSha512, Mosquitto}
+use Rattle.ring_password_hash.specs.declared.scheme.Scheme.TheVariants.{WerkzeugSha256}
+use Rattle.ring_password_hash.specs.declared.scheme.Scheme.TheVariants.{WerkzeugSha512, PhcSha256}
+use Rattle.ring_password_hash.specs.declared.scheme.Scheme.TheVariants.{PhcSha512, Mosquitto}
 use Rattle.ring_password_hash.specs.declared.scheme.Scheme.TheVariants.{PasslibSha1, PasslibSha256}
-use Rattle.ring_password_hash.specs.declared.scheme.Scheme.TheVariants.{PasslibSha512, ScramSha256}
-use Rattle.ring_password_hash.specs.declared.scheme.TheConstants.{SCHEMES}
+use Rattle.ring_password_hash.specs.declared.scheme.Scheme.TheVariants.{PasslibSha512, Postgresql}
+use Rattle.ring_password_hash.specs.declared.scheme.Scheme.TheVariants.{WerkzeugSha1}
 use Rattle.ring_password_hash.specs.declared.text.Parameters.{Parameters}
 use Rattle.ring_password_hash.specs.declared.text.Parameters.TheVariants.{Count, CountThenLen}
 use Rattle.ring_password_hash.specs.declared.text.Parameters.TheVariants.{LenThenCount}
@@ -49,9 +50,10 @@ scheme_from text =
     pick (byte_at 0 text == 36)
     (pick (byte_at 1 text == 55) Mosquitto
     (pick (byte_at 7 text == 36) PasslibSha1 (behind_dollar text)))
-    (pick (byte_at 0 text == 83) ScramSha256
+    (pick (byte_at 0 text == 83) Postgresql
     (pick (byte_at 6 text == 95) (pick (byte_at 10 text == 50) DjangoSha256 DjangoSha1)
-    (pick (byte_at 10 text == 50) WerkzeugSha256 WerkzeugSha512)))
+    (pick (byte_at 10 text == 50) WerkzeugSha256
+    (pick (byte_at 10 text == 53) WerkzeugSha512 WerkzeugSha1))))
 
 -- a number begins with a digit
 first_digit : (ds t : List ℕ) → 0 < length ds → All IsDigit ds
@@ -74,6 +76,7 @@ scheme_from-head DjangoSha256 p c n t hc h = refl
 scheme_from-head DjangoSha1 p c n t hc h = refl
 scheme_from-head WerkzeugSha256 p c n t hc h = refl
 scheme_from-head WerkzeugSha512 p c n t hc h = refl
+scheme_from-head WerkzeugSha1 p c n t hc h = refl
 scheme_from-head PhcSha256 Count c n t hc h = refl
 scheme_from-head PhcSha256 CountThenLen c n t hc h = refl
 scheme_from-head PhcSha256 LenThenCount c n t hc h = refl
@@ -82,9 +85,7 @@ scheme_from-head PhcSha512 CountThenLen c n t hc h = refl
 scheme_from-head PhcSha512 LenThenCount c n t hc h = refl
 scheme_from-head Mosquitto p c n t hc h = refl
 scheme_from-head PasslibSha1 p c n t hc h = refl
-scheme_from-head ScramSha256 Count c n t hc h = refl
-scheme_from-head ScramSha256 CountThenLen c n t hc h = refl
-scheme_from-head ScramSha256 LenThenCount c n t hc h = refl
+scheme_from-head Postgresql p c n t hc h = refl
 scheme_from-head PasslibSha256 Count c n t hc h =
     ap (λ (b : Bool). pick b PasslibSha256 PhcSha256) (count_digit c (36 ∷ t) hc)
 scheme_from-head PasslibSha256 CountThenLen c n t hc h = absurd (true≢false (sym h.named))
@@ -101,47 +102,3 @@ unfolding parts_text
 parts_text-scheme k l p q c d s t h g one two e =
     sym (scheme_from-head k p c (length h) _ one.iterations one.kept) ∙ ap scheme_from e
     ∙ scheme_from-head l q d (length g) _ two.iterations two.kept
-
--- where a scheme stands among all
-pub position : Scheme → ℕ
-position DjangoSha256 = 0
-position DjangoSha1 = 1
-position WerkzeugSha256 = 2
-position WerkzeugSha512 = 3
-position PhcSha256 = 4
-position PhcSha512 = 5
-position Mosquitto = 6
-position PasslibSha1 = 7
-position PasslibSha256 = 8
-position PasslibSha512 = 9
-position ScramSha256 = 10
-
-pub position_below : (k : Scheme) → position k < 11
-unfolding position
-position_below DjangoSha256 = omega arith
-position_below DjangoSha1 = omega arith
-position_below WerkzeugSha256 = omega arith
-position_below WerkzeugSha512 = omega arith
-position_below PhcSha256 = omega arith
-position_below PhcSha512 = omega arith
-position_below Mosquitto = omega arith
-position_below PasslibSha1 = omega arith
-position_below PasslibSha256 = omega arith
-position_below PasslibSha512 = omega arith
-position_below ScramSha256 = omega arith
-
--- each scheme stands at its place
-pub scheme_at-position : (k : Scheme) {i : ℕ} → position k ≡ i → (d : Scheme)
-    → k ≡ slice_index_or SCHEMES i d
-unfolding position
-scheme_at-position DjangoSha256 e d = ap (λ (i : ℕ). slice_index_or SCHEMES i d) e
-scheme_at-position DjangoSha1 e d = ap (λ (i : ℕ). slice_index_or SCHEMES i d) e
-scheme_at-position WerkzeugSha256 e d = ap (λ (i : ℕ). slice_index_or SCHEMES i d) e
-scheme_at-position WerkzeugSha512 e d = ap (λ (i : ℕ). slice_index_or SCHEMES i d) e
-scheme_at-position PhcSha256 e d = ap (λ (i : ℕ). slice_index_or SCHEMES i d) e
-scheme_at-position PhcSha512 e d = ap (λ (i : ℕ). slice_index_or SCHEMES i d) e
-scheme_at-position Mosquitto e d = ap (λ (i : ℕ). slice_index_or SCHEMES i d) e
-scheme_at-position PasslibSha1 e d = ap (λ (i : ℕ). slice_index_or SCHEMES i d) e
-scheme_at-position PasslibSha256 e d = ap (λ (i : ℕ). slice_index_or SCHEMES i d) e
-scheme_at-position PasslibSha512 e d = ap (λ (i : ℕ). slice_index_or SCHEMES i d) e
-scheme_at-position ScramSha256 e d = ap (λ (i : ℕ). slice_index_or SCHEMES i d) e

@@ -1,23 +1,21 @@
 -- SPDX-License-Identifier: ISC
 -- No byte that ends a field stands in the base64 of bytes.
-use Rattle.std.proofs.Common.{◌≡◌, ◌==◌, ℕ, suc, ◌/◌, ◌%◌, ◌+◌, ◌*◌, ◌<◌, true, Bool}
-use Rattle.std.proofs.Common.{List, [], ◌∷◌, length, replicate, refl, inl, inr}
-use Rattle.std.proofs.Common.{arith}
-use Rattle.std.specs.Prelude.{slice_index, not}
+use Rattle.std.proofs.Common.{◌≡◌, ◌<◌, ◌==◌, ◌+◌, ◌*◌, ◌/◌, ◌%◌, ◌∷◌, ℕ, suc, Bool, true, List, []}
+use Rattle.std.proofs.Common.{arith, inl, inr, length, refl, replicate}
+use Rattle.std.specs.Prelude.{not, slice_index}
 use Rattle.std.proofs.lemmas.Bool.{not-true}
-use Rattle.std.proofs.lemmas.List.Elements.{All-nil, All-cons, All-append, All-replicate}
+use Rattle.std.proofs.lemmas.List.Elements.{All-append, All-cons, All-nil, All-replicate}
 use Rattle.hex.specs.Hex.{IsBytes}
-use Rattle.base64.specs.Rfc4648.{encode_symbols, padding_len}
+use Rattle.base64.proofs.Tables.{all_below_at}
 use Rattle.base64.specs.Engines.{standard}
 use Rattle.base64.specs.GeneralPurpose.{engine_symbols}
+use Rattle.base64.specs.Rfc4648.{encode_symbols, padding_len}
 use Rattle.base64.specs.Tables.{all_below}
-use Rattle.base64.proofs.Tables.{all_below_at}
-use Rattle.ring_text.specs.Cut.{IsWithout}
 use Rattle.ring_text.proofs.Cuts.{NotAt}
-use Rattle.ring_password_hash.specs.Text.{adapted_symbols, written}
-use Rattle.ring_password_hash.specs.declared.scheme.Encoding.TheVariants.{Adapted}
-use Rattle.ring_password_hash.specs.Text.{IsEnd}
-use Rattle.ring_password_hash.specs.declared.scheme.Encoding.TheVariants.{Base64, Base64NoPad}
+use Rattle.ring_text.specs.Cut.{IsWithout}
+use Rattle.ring_password_hash.specs.Text.{IsEnd, adapted_symbols, written}
+use Rattle.ring_password_hash.specs.declared.scheme.Encoding.TheVariants.{Adapted, Base64}
+use Rattle.ring_password_hash.specs.declared.scheme.Encoding.TheVariants.{Base64NoPad}
 
 -- no symbol of the table is the byte
 abbrev is_apart : List ℕ → ℕ → ℕ → Bool

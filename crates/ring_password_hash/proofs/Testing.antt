@@ -1,13 +1,14 @@
 -- SPDX-License-Identifier: ISC
 -- A test of a password against what is kept.
-use Rattle.std.proofs.Common.{◌≡◌, ◌≢◌, ◌+◌, ℕ, Bool, true, false, List, ap, arith, length, refl, subst, sym, ◌∙◌}
+use Rattle.std.proofs.Common.{◌≡◌, ◌≢◌, ◌+◌, ◌∙◌, ℕ, Bool, true, false, List, ap, arith, length}
+use Rattle.std.proofs.Common.{refl, subst, sym}
 use Rattle.std.specs.Prelude.{Err, Ok, Some, nat_lt}
-use Rattle.std.specs.Str.{bytes_eq}
-use Rattle.std.specs.Int.NonZero.{non_zero_u32_get}
 use Rattle.std.proofs.lemmas.Bool.{eq-eqb}
 use Rattle.std.proofs.lemmas.Slice.Eq.{bytes_eq-Decides}
-use Rattle.ring_core.specs.Cost.{Counts, compared_pairs, raised}
+use Rattle.std.specs.Int.NonZero.{non_zero_u32_get}
+use Rattle.std.specs.Str.{bytes_eq}
 use Rattle.ring_core.proofs.Costs.{raised-raised}
+use Rattle.ring_core.specs.Cost.{Counts, compared_pairs, raised}
 use Rattle.ring_password_hash.specs.Stored.{Derives, Parts, Tests, derived_of, kept_blocks}
 use Rattle.ring_password_hash.specs.declared.error.HashError.TheVariants.{WrongPassword}
 
@@ -33,12 +34,14 @@ module _ (h : Parts) (p : List ℕ) (most : ℕ) {n : ℕ} {derived : List ℕ}
       (non_zero_u32_get h.iterations) (length h.kept)) (length h.kept)
   cost =
       let n = length h.kept in
-      let blocks = kept_blocks h.scheme (length p) (length h.salt) (non_zero_u32_get h.iterations) n in
+      let count = non_zero_u32_get h.iterations in
+      let blocks = kept_blocks h.scheme (length p) (length h.salt) count n in
+      let same : blocks + 0 ≡ blocks = omega arith in
       let equal = eq-eqb n n refl in
       let pairs : compared_pairs n (length derived) ≡ n = rw (long, equal) refl in
       compared ∙ ap (λ (m : ℕ). raised mid 0 m) pairs ∙ ap (λ (m : Counts). raised m 0 n) d.cost
       ∙ raised-raised before blocks 0 0 n
-      ∙ ap (λ (b : ℕ). raised before b (0 + n)) (let none : blocks + 0 ≡ blocks = omega arith in none)
+      ∙ ap (λ (b : ℕ). raised before b (0 + n)) same
       ∙ ap (λ (m : ℕ). raised before blocks m) (let none : 0 + n ≡ n = omega arith in none)
 
   pub tests_right : h.kept ≡ derived → Tests (Some h) p most before after (Ok tt)

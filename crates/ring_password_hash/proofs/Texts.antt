@@ -1,9 +1,9 @@
 -- SPDX-License-Identifier: ISC
 -- Fields of a text, and the bytes that end them.
 use Rattle.std.proofs.Common.{◌≡◌, ℕ, List, arith}
-use Rattle.ring_text.specs.Cut.{IsFirstCut, IsWithout}
 use Rattle.ring_text.proofs.Cuts.{first_cut}
 use Rattle.ring_text.proofs.Numbers.{IsDigit}
+use Rattle.ring_text.specs.Cut.{IsFirstCut, IsWithout}
 use Rattle.ring_password_hash.specs.Text.{field_then, written}
 use Rattle.ring_password_hash.specs.declared.scheme.Encoding.{Encoding}
 

@@ -1,20 +1,20 @@
 -- SPDX-License-Identifier: ISC
 -- A text is read in one way.
-use Rattle.std.proofs.Common.{◌≡◌, ◌==◌, ℕ, Bool, true, false, List, [], ◌∷◌, ◌++◌, ap, sym, subst, ◌∙◌}
-use Rattle.std.proofs.Common.{inl, refl, length, take, drop}
-use Rattle.std.specs.Prelude.{◌||◌, not}
-use Rattle.std.specs.List.{list_all}
-use Rattle.std.specs.declared.num.NonZeroU32.{NonZeroU32}
+use Rattle.std.proofs.Common.{◌≡◌, ◌==◌, ◌∷◌, ◌++◌, ◌∙◌, ℕ, Bool, true, false, List, [], ap, drop}
+use Rattle.std.proofs.Common.{inl, length, refl, subst, sym, take}
+use Rattle.std.specs.Prelude.{◌||◌, None, Option, Some, not}
 use Rattle.std.proofs.lemmas.Bool.{and_parts, not-true}
 use Rattle.std.proofs.lemmas.List.{take-append-drop}
 use Rattle.std.proofs.lemmas.List.Elements.{All-cons, All-nil}
+use Rattle.std.specs.List.{list_all}
+use Rattle.std.specs.declared.num.NonZeroU32.{NonZeroU32}
 use Rattle.hex.specs.Hex.{IsBytes}
-use Rattle.ring_text.specs.Cut.{IsWithout}
 use Rattle.ring_text.proofs.Cuts.{NotAt, cut_same}
 use Rattle.ring_text.proofs.LowerHex.{IsWithout-hex}
+use Rattle.ring_text.specs.Cut.{IsWithout}
 use Rattle.ring_password_hash.specs.Scheme.{keeps_keys, kept_encoding_of, salt_encoding_of}
-use Rattle.ring_password_hash.specs.Stored.{IsParts, IsTextOf, Parts, is_salt, is_text, parts_text}
-use Rattle.ring_password_hash.specs.Stored.{text_of}
+use Rattle.ring_password_hash.specs.Stored.{IsParts, IsReading, IsTextOf, Parts, is_salt, is_text}
+use Rattle.ring_password_hash.specs.Stored.{parts_text, text_of}
 use Rattle.ring_password_hash.specs.Text.{IsCount, IsLen, field_then, head_then, kept_by, kept_text}
 use Rattle.ring_password_hash.specs.Text.{written}
 use Rattle.ring_password_hash.specs.declared.scheme.Encoding.{Encoding}
@@ -25,6 +25,7 @@ use Rattle.ring_password_hash.specs.declared.text.Parameters.{Parameters}
 use Rattle.ring_password_hash.proofs.Fields.{base64-injective, written-injective}
 use Rattle.ring_password_hash.proofs.Heads.{head_then-injective}
 use Rattle.ring_password_hash.proofs.Keys.{bytes_behind, bytes_front, keys_read}
+use Rattle.ring_password_hash.proofs.SchemesApart.{parts_text-scheme}
 use Rattle.ring_password_hash.proofs.Symbols.{IsWithout-adapted, IsWithout-base64}
 use Rattle.ring_password_hash.proofs.Symbols.{IsWithout-base64_no_pad}
 
@@ -72,17 +73,14 @@ pub parts_text-injective : (k : Scheme) (p q : Parameters) (c d : NonZeroU32) (s
     → (p ≡ q) × (c ≡ d) × (s ≡ t) × (h ≡ g)
 unfolding parts_text
 parts_text-injective k p q c d s t h g one two e =
-    let head = head_then-injective k c d (length h) (length g) _ _ one.iterations two.iterations
-    p q one.kept two.kept e in
+    let head = head_then-injective k one.iterations two.iterations p q one.kept two.kept e in
     let salt = field_then-injective (salt_encoding_of k) 36 s t _ _ one.salt_bytes two.salt_bytes
-    (salt_apart k s one.salt one.salt_bytes) (salt_apart k t two.salt two.salt_bytes) head.3 in (
-      head.0,
-      head.1,
-      salt.0,
-      kept_by-injective (keeps_keys k) (kept_encoding_of k) h g one.kept_bytes two.kept_bytes salt.1,
-    )
+    (salt_apart k s one.salt one.salt_bytes) (salt_apart k t two.salt two.salt_bytes) head.3 in
+    let kept = kept_by-injective (keeps_keys k) (kept_encoding_of k) h g one.kept_bytes
+    two.kept_bytes salt.1 in
+    (head.0, head.1, salt.0, kept)
 
--- the parts and the text of a value of a scheme
+-- the parts and the text of a value of a scheme, by an equation of its scheme
 pub parts_at : {k : Scheme} {text : List ℕ} (h : Parts) → h.scheme ≡ k → IsTextOf h text
     → IsParts k h.parameters h.iterations h.salt h.kept
     × (text ≡ parts_text k h.parameters h.iterations h.salt h.kept)
@@ -90,6 +88,29 @@ parts_at h same of = (
   subst (λ (k : Scheme). IsParts k h.parameters h.iterations h.salt h.kept) same of.is,
   sym of.has ∙ ap (λ (k : Scheme). parts_text k h.parameters h.iterations h.salt h.kept) same,
 )
+
+-- one text is of one value
+pub one_value : (g h : Parts) {text : List ℕ} → IsTextOf g text → IsTextOf h text → g ≡ h
+one_value g h one two =
+    let e = one.has ∙ sym two.has in
+    let same : g.scheme ≡ h.scheme = parts_text-scheme g.scheme h.scheme g.parameters h.parameters
+    g.iterations h.iterations g.salt h.salt g.kept h.kept one.is two.is e in
+    let at = parts_at h (sym same) two in
+    let rest = parts_text-injective g.scheme g.parameters h.parameters g.iterations h.iterations
+    g.salt h.salt g.kept h.kept one.is at.0 (one.has ∙ at.1) in
+    λ i. record {
+      scheme = same i;
+      parameters = rest.0 i;
+      iterations = rest.1 i;
+      salt = rest.2 i;
+      kept = rest.3 i;
+    }
+
+-- what a text is read as is the value that has it
+pub read_back : (h : Parts) (text : List ℕ) (found : Option Parts) → IsTextOf h text
+    → IsReading text found → found ≡ Some h
+read_back h text None of reads = absurd (reads h of)
+read_back h text (Some g) of reads = ap (λ (v : Parts). Some v) (one_value g h reads of)
 
 pub own_text : (h : Parts) {text : List ℕ} → IsTextOf h text → IsTextOf h (text_of h)
 own_text h of = subst (IsTextOf h) (sym of.has) of
@@ -102,9 +123,8 @@ module _ {k : Scheme} {p : Parameters} {c : NonZeroU32} {s h text : List ℕ}
       → (n ≡ length h) × (rest ≡ field_then (salt_encoding_of k) s 36 (kept_text k h))
   unfolding parts_text
   head_read q d n rest read small len =
-      let both = head_then-injective k d c n (length h) rest
-      (field_then (salt_encoding_of k) s 36 (kept_text k h)) small parts.iterations
-      q p len parts.kept (sym read ∙ whole) in
+      let both = head_then-injective k small parts.iterations q p len parts.kept
+      (sym read ∙ whole) in
       (both.2, both.3)
 
   -- the same, where the salt is read by an encoding that is the scheme's

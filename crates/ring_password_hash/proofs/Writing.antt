@@ -1,14 +1,15 @@
 -- SPDX-License-Identifier: ISC
 -- A text is written piece by piece, and its length is that of its fields.
-use Rattle.std.proofs.Common.{◌≡◌, ◌+◌, ◌<◌, ◌≤◌, ℕ, Bool, true, false, List, [], ◌∷◌, ◌++◌, ap, append_assoc}
-use Rattle.std.proofs.Common.{arith, drop, length, sym, take, ◌∙◌}
-use Rattle.std.specs.Prelude.{Option, Some, None, ◌-◌, min, nat_le, not}
+use Rattle.std.proofs.Common.{◌≡◌, ◌≤◌, ◌<◌, ◌+◌, ◌∷◌, ◌++◌, ◌∙◌, ℕ, Bool, true, false, List, []}
+use Rattle.std.proofs.Common.{ap, append_assoc, arith, drop, length, sym, take}
+use Rattle.std.specs.Prelude.{◌-◌, None, Option, Some, min, nat_le, not}
 use Rattle.std.proofs.lemmas.Bool.Decides.{nat_tests}
-use Rattle.std.specs.declared.num.NonZeroU32.{NonZeroU32}
 use Rattle.std.proofs.lemmas.List.{length-append, length-drop, length-take}
+use Rattle.std.specs.declared.num.NonZeroU32.{NonZeroU32}
 use Rattle.ring_password_hash.specs.Scheme.{keeps_keys, kept_encoding_of, salt_encoding_of}
 use Rattle.ring_password_hash.specs.Stored.{Parts, front_of, is_past, parts_text, text_of}
-use Rattle.ring_password_hash.specs.Text.{IsPut, IsPutTo, field_then, head_then, kept_by, kept_text, written}
+use Rattle.ring_password_hash.specs.Text.{IsPut, IsPutTo, field_then, head_then, kept_by, kept_text}
+use Rattle.ring_password_hash.specs.Text.{written}
 use Rattle.ring_password_hash.specs.declared.scheme.Encoding.{Encoding}
 use Rattle.ring_password_hash.specs.declared.scheme.Encoding.TheVariants.{Base64}
 use Rattle.ring_password_hash.specs.declared.scheme.Scheme.{Scheme}
@@ -86,8 +87,9 @@ module _ (k : Scheme) (p : Parameters) (c : NonZeroU32) (s : List ℕ) where
   pub salt_shorter : (h : List ℕ) → length s < length (parts_text k p c s h)
   salt_shorter h =
       let salt = shorter (salt_encoding_of k) s in
+      let field = field_then (salt_encoding_of k) s 36 [] in
       let one = length-append (front_of (of_kept h)) (kept_text k h) in
-      let two = length-append (head_then k p c (length h) []) (field_then (salt_encoding_of k) s 36 []) in
+      let two = length-append (head_then k p c (length h) []) field in
       let three = length-append (written (salt_encoding_of k) s) (36 ∷ []) in
       let whole = ap length (text_parts (of_kept h)) in
       omega (arith, salt, one, two, three, whole)

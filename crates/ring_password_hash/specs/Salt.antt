@@ -1,15 +1,13 @@
 -- SPDX-License-Identifier: ISC
 -- A new salt, made of 16 bytes of a source.
-use Rattle.std.specs.Prelude.{◌≡◌, ℕ, zero, suc, ◌%◌, ◌/◌, List, [], ◌∷◌, ◌++◌, length, slice_index}
-use Rattle.std.specs.Prelude.{Bool, true, false, codes}
+use Rattle.std.specs.Prelude.{◌≡◌, ◌/◌, ◌%◌, ◌∷◌, ◌++◌, ℕ, zero, suc, Bool, true, false, List, []}
+use Rattle.std.specs.Prelude.{codes, length, slice_index}
 use Rattle.std.specs.Int.{from_be_bytes, w128}
-use Rattle.ring_password_hash.specs.Kind.{salt_encoding_of}
-use Rattle.ring_password_hash.specs.declared.field.Encoding.{Encoding}
-use Rattle.ring_password_hash.specs.declared.field.Encoding.TheVariants.{Plain, Hex, Base64}
-use Rattle.ring_password_hash.specs.declared.field.Encoding.TheVariants.{Base64NoPad, Adapted}
-use Rattle.ring_password_hash.specs.declared.kind.Kind.{Kind}
+use Rattle.ring_password_hash.specs.Scheme.{salt_encoding_of}
+use Rattle.ring_password_hash.specs.Stored.{is_text}
 use Rattle.ring_password_hash.specs.declared.salt.Salt.{Salt}
 use Rattle.ring_password_hash.specs.declared.salt.Salt.TheVariants.{Text, Bytes}
+use Rattle.ring_password_hash.specs.declared.scheme.Scheme.{Scheme}
 
 -- 62 letters and digits, as in Django's salts
 abbrev pub symbols : List ℕ
@@ -19,14 +17,6 @@ symbols = codes "abcdefghijklmnopqrstuvwxyzABCDEFGHIJKLMNOPQRSTUVWXYZ0123456789"
 unfoldable pub letters : (count n : ℕ) → List ℕ
 letters zero n = []
 letters (suc count) n = slice_index symbols (n % 62) ∷ letters count (n / 62)
-
--- whether a field is text as it stands
-abbrev pub is_text : Encoding → Bool
-is_text Plain = true
-is_text Hex = false
-is_text Base64 = false
-is_text Base64NoPad = false
-is_text Adapted = false
 
 -- a salt of 16 bytes: 22 symbols where it is text
 abbrev pub salt_from : (text : Bool) → (bytes : List ℕ) → List ℕ
@@ -38,7 +28,7 @@ salt_bytes (Text symbols) = symbols
 salt_bytes (Bytes bytes) = bytes
 
 -- the salt of the next 16 bytes of a source
-pub record IsNext (k : Kind) (before after salt : List ℕ) : Type 0 where
+pub record IsNext (k : Scheme) (before after salt : List ℕ) : Type 0 where
   pub bytes : List ℕ
   pub len : length bytes ≡ 16
   pub taken : before ≡ bytes ++ after

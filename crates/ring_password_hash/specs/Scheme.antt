@@ -12,15 +12,18 @@ use Rattle.ring_password_hash.specs.declared.scheme.Encoding.TheVariants.{Base64
 use Rattle.ring_password_hash.specs.declared.scheme.Row as code
 use Rattle.ring_password_hash.specs.declared.scheme.Scheme.{Scheme}
 use Rattle.ring_password_hash.specs.declared.scheme.Scheme.TheVariants.{DjangoSha256, DjangoSha1}
-use Rattle.ring_password_hash.specs.declared.scheme.Scheme.TheVariants.{WerkzeugSha256, WerkzeugSha512}
-use Rattle.ring_password_hash.specs.declared.scheme.Scheme.TheVariants.{PhcSha256, PhcSha512, Mosquitto}
+use Rattle.ring_password_hash.specs.declared.scheme.Scheme.TheVariants.{WerkzeugSha256}
+use Rattle.ring_password_hash.specs.declared.scheme.Scheme.TheVariants.{WerkzeugSha512, PhcSha256}
+use Rattle.ring_password_hash.specs.declared.scheme.Scheme.TheVariants.{PhcSha512, Mosquitto}
 use Rattle.ring_password_hash.specs.declared.scheme.Scheme.TheVariants.{PasslibSha1, PasslibSha256}
-use Rattle.ring_password_hash.specs.declared.scheme.Scheme.TheVariants.{PasslibSha512, ScramSha256}
+use Rattle.ring_password_hash.specs.declared.scheme.Scheme.TheVariants.{PasslibSha512, Postgresql}
+use Rattle.ring_password_hash.specs.declared.scheme.Scheme.TheVariants.{WerkzeugSha1}
 
--- what a text begins with; whether it can name the length of what it keeps; whether it keeps
--- SCRAM's two keys; how salt and kept bytes are written; how many are kept where the text does not
--- name it; and what derives them
+-- its name; what a text begins with; whether it can name the length of what it keeps, and whether
+-- that is SCRAM's two keys; how salt and kept bytes are written; how many are kept where the text
+-- does not name it; and what derives them
 pub record Row : Type 0 where
+  pub name : List ℕ
   pub prefix : List ℕ
   pub names_len : Bool
   pub keeps_keys : Bool
@@ -29,8 +32,10 @@ pub record Row : Type 0 where
   pub kept_len : ℕ
   pub algorithm : Algorithm
 
-abbrev pub row : List ℕ → (named keys : Bool) → (salt kept : Encoding) → ℕ → Algorithm → Row
-row prefix named keys salt kept n a = record {
+abbrev pub row : (name prefix : List ℕ) (named keys : Bool) (salt kept : Encoding) (n : ℕ)
+    → Algorithm → Row
+row name prefix named keys salt kept n a = record {
+  name = name;
   prefix = prefix;
   names_len = named;
   keeps_keys = keys;
@@ -45,20 +50,33 @@ row prefix named keys salt kept n a = record {
 -- modular crypt format: `passlib/handlers/pbkdf2.py`. PostgreSQL's verifier: RFC 5802, section 3,
 -- and RFC 7677
 abbrev pub row_of : Scheme → Row
-row_of DjangoSha256 = row (codes "pbkdf2_sha256$") false false Plain Base64 32 SHA256
-row_of DjangoSha1 = row (codes "pbkdf2_sha1$") false false Plain Base64 20 SHA1
-row_of WerkzeugSha256 = row (codes "pbkdf2:sha256:") false false Plain Hex 32 SHA256
-row_of WerkzeugSha512 = row (codes "pbkdf2:sha512:") false false Plain Hex 64 SHA512
-row_of PhcSha256 = row (codes "$pbkdf2-sha256$") true false Base64NoPad Base64NoPad 32 SHA256
-row_of PhcSha512 = row (codes "$pbkdf2-sha512$") true false Base64NoPad Base64NoPad 32 SHA512
-row_of Mosquitto = row (codes "$7$") false false Base64 Base64 64 SHA512
-row_of PasslibSha1 = row (codes "$pbkdf2$") false false Adapted Adapted 20 SHA1
-row_of PasslibSha256 = row (codes "$pbkdf2-sha256$") false false Adapted Adapted 32 SHA256
-row_of PasslibSha512 = row (codes "$pbkdf2-sha512$") false false Adapted Adapted 64 SHA512
-row_of ScramSha256 = row (codes "SCRAM-SHA-256$") false true Base64 Base64 64 SHA256
+row_of DjangoSha256 =
+    row (codes "django-sha256") (codes "pbkdf2_sha256$") false false Plain Base64 32 SHA256
+row_of DjangoSha1 =
+    row (codes "django-sha1") (codes "pbkdf2_sha1$") false false Plain Base64 20 SHA1
+row_of WerkzeugSha256 =
+    row (codes "werkzeug-sha256") (codes "pbkdf2:sha256:") false false Plain Hex 32 SHA256
+row_of WerkzeugSha512 =
+    row (codes "werkzeug-sha512") (codes "pbkdf2:sha512:") false false Plain Hex 64 SHA512
+row_of PhcSha256 =
+    row (codes "phc-sha256") (codes "$pbkdf2-sha256$") true false Base64NoPad Base64NoPad 32 SHA256
+row_of PhcSha512 =
+    row (codes "phc-sha512") (codes "$pbkdf2-sha512$") true false Base64NoPad Base64NoPad 32 SHA512
+row_of Mosquitto = row (codes "mosquitto") (codes "$7$") false false Base64 Base64 64 SHA512
+row_of PasslibSha1 =
+    row (codes "passlib-sha1") (codes "$pbkdf2$") false false Adapted Adapted 20 SHA1
+row_of PasslibSha256 =
+    row (codes "passlib-sha256") (codes "$pbkdf2-sha256$") false false Adapted Adapted 32 SHA256
+row_of PasslibSha512 =
+    row (codes "passlib-sha512") (codes "$pbkdf2-sha512$") false false Adapted Adapted 64 SHA512
+row_of Postgresql =
+    row (codes "postgresql") (codes "SCRAM-SHA-256$") false true Base64 Base64 64 SHA256
+row_of WerkzeugSha1 =
+    row (codes "werkzeug-sha1") (codes "pbkdf2:sha1:") false false Plain Hex 20 SHA1
 
 -- the code's row is that of the table
 pub record IsRow (r : code.Row) (is : Row) : Type 0 where
+  pub name : r.name.now ≡ is.name
   pub prefix : r.prefix.now ≡ is.prefix
   pub names_len : r.names_len ≡ is.names_len
   pub keeps_keys : r.keeps_keys ≡ is.keeps_keys
@@ -68,6 +86,9 @@ pub record IsRow (r : code.Row) (is : Row) : Type 0 where
   pub algorithm : pbkdf2_digest r.algorithm ≡ is.algorithm
   pub few : r.kept_len ≤ 64
   pub keys : r.keeps_keys ≡ true → r.kept_len ≡ 64
+
+abbrev pub name_of : Scheme → List ℕ
+name_of k = (row_of k).name
 
 abbrev pub prefix_of : Scheme → List ℕ
 prefix_of k = (row_of k).prefix

@@ -1,11 +1,11 @@
 -- SPDX-License-Identifier: ISC
 -- What a text keeps of a password, as one value: its text, its test, and a new one.
-use Rattle.std.specs.Prelude.{◌≡◌, ℕ, ◌+◌, ◌≤◌, Bool, true, false, ◌&&◌, ◌||◌, not, nat_lt}
-use Rattle.std.specs.Prelude.{◌==◌, ◌<◌, drop, OnErr, OnOk, if◌then◌else◌, List, [], ◌++◌, codes, length, take}
-use Rattle.std.specs.Prelude.{Option, Some, None, Result, Ok, Err}
+use Rattle.std.specs.Prelude.{◌≡◌, ◌≤◌, ◌<◌, ◌==◌, ◌+◌, ◌&&◌, ◌||◌, ◌++◌, if◌then◌else◌, ℕ, Bool}
+use Rattle.std.specs.Prelude.{true, false, List, [], Err, None, Ok, OnErr, OnOk, Option, Result}
+use Rattle.std.specs.Prelude.{Some, codes, drop, length, nat_lt, not, take}
+use Rattle.std.specs.Int.NonZero.{non_zero_u32_get}
 use Rattle.std.specs.List.{list_all}
 use Rattle.std.specs.Str.{bytes_eq}
-use Rattle.std.specs.Int.NonZero.{non_zero_u32_get}
 use Rattle.std.specs.declared.num.NonZeroU32.{NonZeroU32}
 use Rattle.hex.specs.Hex.{IsBytes}
 use Rattle.ring_core.specs.Cost.{Counts}
@@ -17,8 +17,9 @@ use Rattle.ring_password_hash.specs.Scheme.{algorithm_of, keeps_keys, kept_len_o
 use Rattle.ring_password_hash.specs.Scheme.{salt_encoding_of}
 use Rattle.ring_password_hash.specs.Text.{IsCount, IsLen, field_then, head_then, kept_text}
 use Rattle.ring_password_hash.specs.declared.error.HashError.{HashError}
-use Rattle.ring_password_hash.specs.declared.error.HashError.TheVariants.{BadFormat, BadSalt, NoRoom}
-use Rattle.ring_password_hash.specs.declared.error.HashError.TheVariants.{TooLong, TooManyIterations}
+use Rattle.ring_password_hash.specs.declared.error.HashError.TheVariants.{BadFormat, BadSalt}
+use Rattle.ring_password_hash.specs.declared.error.HashError.TheVariants.{NoRoom, TooLong}
+use Rattle.ring_password_hash.specs.declared.error.HashError.TheVariants.{TooManyIterations}
 use Rattle.ring_password_hash.specs.declared.error.HashError.TheVariants.{WrongPassword}
 use Rattle.ring_password_hash.specs.declared.scheme.Encoding.{Encoding}
 use Rattle.ring_password_hash.specs.declared.scheme.Encoding.TheVariants.{Plain, Hex, Base64}

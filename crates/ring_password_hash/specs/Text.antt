@@ -1,15 +1,15 @@
 -- SPDX-License-Identifier: ISC
 -- The fields of a text, and what stands before and behind its salt.
-use Rattle.std.specs.Prelude.{◌≡◌, ℕ, ◌+◌, ◌<◌, ◌≤◌, Bool, true, false, List, ◌∷◌, ◌++◌, codes}
-use Rattle.std.specs.Prelude.{length, take, drop, Option, Some, None, ◌⊎◌}
+use Rattle.std.specs.Prelude.{◌≡◌, ◌≤◌, ◌<◌, ◌+◌, ◌∷◌, ◌++◌, ◌⊎◌, ℕ, Bool, true, false, List, None}
+use Rattle.std.specs.Prelude.{Option, Some, codes, drop, length, take}
 use Rattle.std.specs.declared.num.NonZeroU32.{NonZeroU32}
 use Rattle.hex.specs.Hex.{encode_lower}
 use Rattle.base64.specs.Engines.{standard, standard_no_pad}
 use Rattle.base64.specs.GeneralPurpose.{encode_of}
 use Rattle.base64.specs.Rfc4648.{encode}
 pub use Rattle.ring_text.specs.Field.{IsCount, count_then, number_then}
-use Rattle.ring_password_hash.specs.Scheme.{count_end_of, count_mark_of, keeps_keys, kept_encoding_of}
-use Rattle.ring_password_hash.specs.Scheme.{kept_len_of, names_len, prefix_of}
+use Rattle.ring_password_hash.specs.Scheme.{count_end_of, count_mark_of, keeps_keys}
+use Rattle.ring_password_hash.specs.Scheme.{kept_encoding_of, kept_len_of, names_len, prefix_of}
 use Rattle.ring_password_hash.specs.declared.scheme.Encoding.{Encoding}
 use Rattle.ring_password_hash.specs.declared.scheme.Encoding.TheVariants.{Plain, Hex, Base64}
 use Rattle.ring_password_hash.specs.declared.scheme.Encoding.TheVariants.{Base64NoPad, Adapted}

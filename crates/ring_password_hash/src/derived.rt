@@ -1,11 +1,12 @@
 // SPDX-License-Identifier: ISC
 //! What is kept of a password: what PBKDF2 derives, or SCRAM's two keys (RFC 5802, section 3).
 
-ghost use Rattle.std.specs.Prelude.{◌≡◌, ◌*◌, ◌++◌, length, true};
+ghost use Rattle.std.specs.Prelude.{◌≡◌, ◌*◌, ◌++◌, true, length};
 ghost use Rattle.std.specs.Int.NonZero.{non_zero_u32_get};
 ghost use Rattle.ring.specs.Prelude.{raised};
 ghost use Rattle.ring_password_hash.specs.Scheme.{keeps_keys};
-ghost use Rattle.ring_password_hash.specs.Stored.{Derives, keys_blocks, server_key_of, stored_key_of};
+ghost use Rattle.ring_password_hash.specs.Stored.{Derives, keys_blocks, server_key_of};
+ghost use Rattle.ring_password_hash.specs.Stored.{stored_key_of};
 
 use crate::scheme::Scheme;
 use crate::text::KEY_LEN;

@@ -1,11 +1,13 @@
 // SPDX-License-Identifier: ISC
 //! New salts, from a source of random bytes.
 
-ghost use Rattle.std.specs.Prelude.{◌≡◌, ◌↔◌, false, IfOk, IsErr, OnErr};
-ghost use Rattle.ring_password_hash.specs.Hash.{IsSalt};
-ghost use Rattle.ring_password_hash.specs.Salt.{IsNext, letters, salt_bytes};
+ghost use Rattle.std.specs.Prelude.{◌≡◌, ◌↔◌, true, false, IfOk, IsErr, OnErr};
+ghost use Rattle.ring_password_hash.specs.Salt.{IsNext, letters, salt_bytes, salt_from};
+ghost use Rattle.ring_password_hash.specs.Scheme.{salt_encoding_of};
+ghost use Rattle.ring_password_hash.specs.Stored.{is_salt, is_text};
 
-use crate::kind::Kind;
+use crate::scheme::Scheme;
+use crate::stored::is_text;
 use ring::error::Unspecified;
 use ring::rand::{SecureRandom, generate};
 
@@ -21,13 +23,25 @@ const SYMBOLS: &[u8; 62] = b"abcdefghijklmnopqrstuvwxyzABCDEFGHIJKLMNOPQRSTUVWXY
 /// A salt. [`Salt::as_ref`] has its bytes.
 #[derive(Drop)]
 pub enum Salt {
-    /// Letters and digits, for a kind that writes a salt as it is: Django's and Werkzeug's.
+    /// Letters and digits, for a scheme that writes a salt as it is: Django's and Werkzeug's.
     Text([u8; TEXT_SALT_LEN]),
-    /// Bytes, for any other kind.
+    /// Bytes, for any other scheme.
     Bytes([u8; RANDOM_LEN]),
 }
 
 impl Salt {
+    /// The salt for a new password of the `scheme` that `bytes` make, which should be random: 22
+    /// letters and digits for Django and Werkzeug, the bytes themselves for the other schemes.
+    pub fn of(scheme: Scheme, bytes: [u8; RANDOM_LEN]) -> Salt
+        ensures ok { salt_bytes result ≡ salt_from (is_text (salt_encoding_of scheme)) bytes }
+        ensures usable { is_salt scheme (salt_bytes result) ≡ true }
+    {
+        if is_text(scheme.row().salt) {
+            return Salt::Text(letters(u128::from_be_bytes(bytes)));
+        }
+        Salt::Bytes(bytes)
+    }
+
     /// The bytes of the salt.
     pub fn as_ref(&self) -> &[u8]
         ensures { result.now ≡ salt_bytes self.now }
@@ -52,19 +66,16 @@ fn letters(number: u128) -> [u8; TEXT_SALT_LEN]
     salt
 }
 
-/// A salt for a new hash of `kind`, made of the next 16 bytes of `rng`: 22 letters and digits for
-/// Django and Werkzeug, the bytes themselves for the other kinds and for a verifier.
+/// A salt for a new password of the `scheme`: [`Salt::of`] makes it of the next 16 bytes of `rng`.
 ///
 /// Refused exactly if `rng` is not ready for 16 bytes. It then keeps all of its bytes.
-pub fn new_salt(kind: Kind, rng: &mut dyn SecureRandom) -> Result<Salt, Unspecified>
-    ensures ok { IfOk result (λ salt. IsNext kind (left rng.old) (left rng.new) (salt_bytes salt)) }
-    ensures usable { IfOk result (λ salt. IsSalt kind (salt_bytes salt)) }
+pub fn new_salt(scheme: Scheme, rng: &mut dyn SecureRandom) -> Result<Salt, Unspecified>
+    ensures ok { IfOk result (λ salt.
+        IsNext scheme (left rng.old) (left rng.new) (salt_bytes salt)) }
+    ensures usable { IfOk result (λ salt. is_salt scheme (salt_bytes salt) ≡ true) }
     ensures refused { IsErr result ↔ (ready rng.old RANDOM_LEN ≡ false) }
     ensures unchanged { OnErr result (left rng.new ≡ left rng.old) }
 {
     let bytes = generate::<[u8; RANDOM_LEN]>(rng)?.expose();
-    if kind.has_text_salt() {
-        return Ok(Salt::Text(letters(u128::from_be_bytes(bytes))));
-    }
-    Ok(Salt::Bytes(bytes))
+    Ok(Salt::of(scheme, bytes))
 }

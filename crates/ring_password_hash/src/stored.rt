@@ -6,16 +6,29 @@
 //! ```
 //! verify(text, password, max_iterations)?;
 //! ```
+//!
+//! [`Stored::new`] makes what the database keeps of a new password, and [`Stored::write_to`] writes
+//! its text:
+//!
+//! ```
+//! let salt = new_salt(scheme, rng)?;
+//! let stored = Stored::new(scheme, password, salt.as_ref(), iterations, text.len())?;
+//! let len = stored.write_to(text)?;
+//! ```
+//!
+//! A text from outside can name any iteration count up to 4,294,967,295, and a test takes as long.
+//! So each test has a limit, which stands before the first block.
 
-ghost use Rattle.std.specs.Prelude.{◌≡◌, ◌≢◌, ◌≤◌, ℕ, length, take, IfSome, IsNone, false, true};
-ghost use Rattle.std.specs.Prelude.{◌==◌, IfOk, List, Some, not};
+ghost use Rattle.std.specs.Prelude.{◌≡◌, ◌≢◌, ◌≤◌, ◌==◌, ℕ, true, false, List, IfOk, IfSome};
+ghost use Rattle.std.specs.Prelude.{IsNone, Some, length, not, take};
 ghost use Rattle.std.specs.List.{list_all};
 ghost use Rattle.ring_password_hash.specs.Scheme.{keeps_keys, kept_len_of};
-ghost use Rattle.ring_password_hash.specs.Stored.{IsFilled, IsNew, IsReadWhere, Keeps, Makes, Tests, Writes};
-ghost use Rattle.ring_password_hash.specs.Stored.{answer_of, front_of, is_past, new_text, parameters_where};
-ghost use Rattle.ring_password_hash.specs.Stored.{parts, parts_of, text_of};
+ghost use Rattle.ring_password_hash.specs.Stored.{IsFilled, IsNew, IsReadWhere, IsStored, IsTextOf};
+ghost use Rattle.ring_password_hash.specs.Stored.{Keeps, Makes, Parts, Reads, Tests, Writes};
+ghost use Rattle.ring_password_hash.specs.Stored.{answer_of, front_of, is_past, is_salt, is_text};
+ghost use Rattle.ring_password_hash.specs.Stored.{new_text, parameters_where, parts, parts_of};
+ghost use Rattle.ring_password_hash.specs.Stored.{text_of};
 ghost use Rattle.ring_password_hash.specs.Text.{IsPut};
-ghost use Rattle.ring_password_hash.specs.Stored.{IsStored, IsTextOf, Parts, Reads, is_salt, is_text};
 
 use crate::derived::derive;
 use crate::error::HashError;
@@ -27,7 +40,9 @@ use ring::bb::verify_slices_are_equal_counted;
 use ring::cost::Meter;
 use std::num::NonZeroU32;
 
-/// What a text keeps of a password: a hash, or SCRAM's two keys.
+/// What a text keeps of a password: a hash, or SCRAM's two keys, and what it was derived from.
+///
+/// A value is some 2 KiB, and takes no memory of an allocator.
 #[derive(Clone, Copy)]
 pub struct Stored {
     scheme: Scheme,
@@ -39,8 +54,8 @@ pub struct Stored {
     kept_len: usize,
 }
 
-// Whether a field is text as it stands.
-fn is_text(encoding: Encoding) -> bool
+/// Whether a field is text as it stands.
+pub(crate) fn is_text(encoding: Encoding) -> bool
     ensures { result ≡ is_text encoding }
 {
     encoding == Encoding::Plain
@@ -91,7 +106,10 @@ impl Stored {
     /// The value whose text is `text`, of whichever scheme: no text is of two
     /// ([`laws::one_text_is_of_one_value`](crate::laws::one_text_is_of_one_value)).
     ///
-    /// Refused as `BadFormat` exactly if no value has this text.
+    /// Refused as `BadFormat` exactly if no value has this text: one of more than
+    /// [`MAX_TEXT_LEN`](crate::MAX_TEXT_LEN) bytes, a count of zero or of more than 32 bits, a
+    /// leading zero, an empty salt, base64 or digits that no writer makes, and a hash or a key of
+    /// another length are refused.
     pub fn parse(text: &[u8]) -> Result<Stored, HashError>
         ensures { Reads text.now result }
     {
@@ -106,16 +124,17 @@ impl Stored {
         Err(HashError::BadFormat)
     }
 
-    /// The scheme.
+    /// The scheme, as the text names it.
     pub fn scheme(&self) -> Scheme
-        ensures { result ≡ self.now.scheme }
+        ensures { result ≡ (parts_of self.now).scheme }
     {
         self.scheme
     }
 
-    /// The iteration count.
+    /// The iteration count. Where it is below the caller's own, a login that succeeds is the time
+    /// to make a new value.
     pub fn iterations(&self) -> NonZeroU32
-        ensures { result ≡ self.now.iterations }
+        ensures { result ≡ (parts_of self.now).iterations }
     {
         self.iterations
     }
@@ -176,14 +195,19 @@ impl Stored {
     }
 
     /// What `scheme` keeps of `password` under `salt` and `iterations`, of the length and with the
-    /// parameters that its own system writes.
+    /// parameters that its own system writes. The password verifies against it
+    /// ([`laws::new_value_is_the_passwords`](crate::laws::new_value_is_the_passwords)).
     ///
-    /// `salt` should be random, and of this value alone. A password for
-    /// [`Scheme::ScramSha256`] that is not ASCII is to be prepared first (SASLprep, RFC 4013).
+    /// `salt` should be random, and of this value alone: [`new_salt`](crate::new_salt) makes one. A
+    /// salt that is shared makes a hash by SHA-256 as good as the password under
+    /// [`Scheme::Postgresql`]
+    /// ([`laws::salted_password_is_derived`](crate::laws::salted_password_is_derived)).
+    /// A password for that scheme is prepared already
+    /// ([`needs_preparation`](crate::needs_preparation)).
     ///
     /// Refused as `NoRoom` exactly if its text is longer than `room` or than
-    /// [`MAX_TEXT_LEN`](crate::MAX_TEXT_LEN) bytes; else as `BadSalt` exactly if `salt` is empty, or
-    /// has a dollar sign where the scheme writes it as it is; else as `TooLong` exactly if
+    /// [`MAX_TEXT_LEN`](crate::MAX_TEXT_LEN) bytes; else as `BadSalt` exactly if `salt` is empty,
+    /// or has a dollar sign where the scheme writes it as it is; else as `TooLong` exactly if
     /// `password` or `salt` is longer than PBKDF2 admits. No block is then run.
     pub fn new(
         scheme: Scheme,
@@ -222,6 +246,18 @@ impl Stored {
             Ok(()) => Ok(()),
             Err(_) => Err(HashError::WrongPassword),
         }
+    }
+
+    /// Tests a password against the value, as [`verify`] does against its text.
+    ///
+    /// Refused as `TooManyIterations` exactly if the iteration count is above `max_iterations`,
+    /// before a block is run; else as `WrongPassword` exactly if the value is not the password's,
+    /// or `password` is longer than PBKDF2 admits.
+    pub fn verify(&self, password: &[u8], max_iterations: u32) -> Result<(), HashError>
+        requires { IsFilled self.now }
+        ensures { result ≡ answer_of (Some (parts_of self.now)) password.now max_iterations }
+    {
+        self.verify_counted(password, max_iterations, &mut Meter::new())
     }
 }
 
@@ -336,7 +372,8 @@ pub fn verify_counted(
     stored.verify_counted(password, max_iterations, meter)
 }
 
-/// Tests a password against `text`, of any scheme.
+/// Tests a password against `text`, of any scheme. A password for
+/// [`Scheme::Postgresql`] is prepared already ([`needs_preparation`](crate::needs_preparation)).
 ///
 /// Refused as `BadFormat` exactly if no value has this text; else as `TooManyIterations` exactly
 /// if its count is above `max_iterations`, before a block is run; else as `WrongPassword` exactly

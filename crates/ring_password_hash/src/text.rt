@@ -1,8 +1,8 @@
 // SPDX-License-Identifier: ISC
 //! The fields of a text, read from it and written to an array of [`MAX_TEXT_LEN`] bytes.
 
-ghost use Rattle.std.specs.Prelude.{◌≡◌, ◌≢◌, ◌≤◌, ◌*◌, ◌++◌, ℕ, List, [], length, take};
-ghost use Rattle.std.specs.Prelude.{IfSome, IsNone, IsTrue, codes, false, true};
+ghost use Rattle.std.specs.Prelude.{◌≡◌, ◌≢◌, ◌≤◌, ◌*◌, ◌++◌, ℕ, true, false, List, [], IfSome};
+ghost use Rattle.std.specs.Prelude.{IsNone, IsTrue, codes, length, take};
 ghost use Rattle.std.specs.Char.{digit_value};
 ghost use Rattle.std.specs.Int.NonZero.{non_zero_u32_get};
 ghost use Rattle.std.specs.declared.num.NonZeroU32.{NonZeroU32};

@@ -1,12 +1,12 @@
 -- SPDX-License-Identifier: ISC
-use Rattle.std.proofs.Common.{rules, ◌≡◌, ◌+◌, ap, ◌∙◌, ℕ, codes, length}
+use Rattle.std.proofs.Common.{◌≡◌, ◌+◌, ◌∙◌, ℕ, ap, codes, length, rules}
+use Rattle.ring.proofs.Each.{raised-then}
 use Rattle.ring.specs.Algorithm.{output_len}
 use Rattle.ring.specs.Cost.{key_blocks, padded_blocks, raised}
 use Rattle.ring.specs.Digest.{digest_of}
 use Rattle.ring.specs.Hmac.{hmac_of}
 use Rattle.ring.specs.declared.digest.algorithm.Algorithm.{Algorithm}
 use Rattle.ring.specs.declared.digest.algorithm.TheConstants.{SHA256}
-use Rattle.ring.proofs.Each.{raised-then}
 use Rattle.ring_password_hash.specs.Stored.{server_key_of, stored_key_of}
 use Rattle.ring_password_hash.proofs.derived.keys_of.Goals as goal
 

@@ -1,9 +1,9 @@
 -- SPDX-License-Identifier: ISC
-use Rattle.std.proofs.Common.{◌≡◌, arith, false, refl}
+use Rattle.std.proofs.Common.{◌≡◌, false, arith, refl}
 use Rattle.std.specs.Prelude.{nat_lt}
-use Rattle.std.specs.Int.NonZero.{non_zero_u32_get}
 use Rattle.std.proofs.lemmas.Bool.Decides.{nat_tests}
 use Rattle.std.proofs.lemmas.Slice.Eq.{bytes_eq-Decides}
+use Rattle.std.specs.Int.NonZero.{non_zero_u32_get}
 use Rattle.ring_password_hash.specs.Scheme.{kept_len_of}
 use Rattle.ring_password_hash.specs.Stored.{derived_of}
 use Rattle.ring_password_hash.proofs.Made.{length-derived_of}

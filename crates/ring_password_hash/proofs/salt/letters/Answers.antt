@@ -1,5 +1,5 @@
 -- SPDX-License-Identifier: ISC
-use Rattle.std.proofs.Common.{rules, ◌≡◌, arith, refl}
+use Rattle.std.proofs.Common.{◌≡◌, arith, refl, rules}
 use Rattle.ring_password_hash.proofs.Salts.{letters_all, letters_more}
 use Rattle.ring_password_hash.proofs.salt.letters.Goals as goal
 

@@ -1,10 +1,10 @@
 -- SPDX-License-Identifier: ISC
-use Rattle.std.proofs.Common.{◌≡◌, ◌<◌, ◌+◌, arith, ap, length, subst, ◌∙◌}
+use Rattle.std.proofs.Common.{◌≡◌, ◌<◌, ◌+◌, ◌∙◌, ap, arith, length, subst}
 use Rattle.ring_password_hash.specs.Scheme.{names_len}
 use Rattle.ring_password_hash.specs.Stored.{parameters_where, parts_text}
 use Rattle.ring_password_hash.specs.declared.text.Parameters.{Parameters}
-use Rattle.ring_password_hash.proofs.Heads.{keys_len}
 use Rattle.ring_password_hash.specs.declared.text.Parameters.TheVariants.{Count}
+use Rattle.ring_password_hash.proofs.Heads.{keys_len}
 use Rattle.ring_password_hash.proofs.Writing.{room_past, room_told, salt_shorter}
 use Rattle.ring_password_hash.proofs.stored.has_room.Goals as goal
 

@@ -1,13 +1,12 @@
 -- SPDX-License-Identifier: ISC
-use Rattle.std.proofs.Common.{◌≡◌, ap, false, length, refl, sym, true, ◌∙◌}
+use Rattle.std.proofs.Common.{◌≡◌, ◌∙◌, true, false, ap, length, refl, sym}
 use Rattle.std.specs.Prelude.{not}
 use Rattle.std.specs.Int.NonZero.{non_zero_u32_get}
 use Rattle.ring_password_hash.specs.Scheme.{kept_len_of}
 use Rattle.ring_password_hash.specs.Stored.{can_keep, is_salt}
-use Rattle.ring_password_hash.proofs.Made.{kept_new}
-use Rattle.ring_password_hash.proofs.Heads.{keys_len}
 use Rattle.ring_password_hash.specs.declared.text.Parameters.TheVariants.{Count}
-use Rattle.ring_password_hash.proofs.Made.{length-derived_of}
+use Rattle.ring_password_hash.proofs.Heads.{keys_len}
+use Rattle.ring_password_hash.proofs.Made.{kept_new, length-derived_of}
 use Rattle.ring_password_hash.proofs.stored.keep.Goals as goal
 
 pub returns-then-not-has_room : goal.returns-then-not-has_room
@@ -52,7 +51,8 @@ returns-in-Ok c =
     let salt : is_salt k c.args.salt.now ≡ true = sym c.is_salt.ensures ∙ c.if-not-is_salt.false in
     let past = c.has_room.ensures.told _ (length-derived_of k c.args.password.now c.args.salt.now
     (non_zero_u32_get c.args.iterations) ∙ sym c.requires) ∙ ap not c.if-not-has_room.false in
-    kept_new c.args.room k c.args.password.now c.args.salt.now c.args.iterations c.requires salt past
+    kept_new c.args.room k c.args.password.now c.args.salt.now c.args.iterations c.requires salt
+    past
     (c.has_room.ensures.salt c.if-not-has_room.false) c.in-Ok.ensures
 
 pub returns-in-Err : goal.returns-in-Err

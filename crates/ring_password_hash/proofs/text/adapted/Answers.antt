@@ -1,5 +1,5 @@
 -- SPDX-License-Identifier: ISC
-use Rattle.std.proofs.Common.{ℕ, Bool, List, ap, ◌∙◌}
+use Rattle.std.proofs.Common.{◌∙◌, ℕ, Bool, List, ap}
 use Rattle.base64.specs.GeneralPurpose.{config_padding, engine_config, engine_padding}
 use Rattle.base64.specs.Rfc4648.{encode}
 use Rattle.ring_password_hash.specs.Text.{adapted_symbols}

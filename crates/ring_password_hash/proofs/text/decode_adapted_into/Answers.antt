@@ -1,5 +1,5 @@
 -- SPDX-License-Identifier: ISC
-use Rattle.std.proofs.Common.{refl, sym, take, ◌∙◌}
+use Rattle.std.proofs.Common.{◌∙◌, refl, sym, take}
 use Rattle.ring_password_hash.proofs.text.decode_adapted_into.Goals as goal
 
 pub returns-in-Some-clause-ok : goal.returns-in-Some-clause-ok

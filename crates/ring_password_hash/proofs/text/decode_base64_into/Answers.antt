@@ -1,7 +1,7 @@
 -- SPDX-License-Identifier: ISC
 use Rattle.std.proofs.Common.{arith}
-use Rattle.base64.specs.GeneralPurpose.{IsBytes}
 use Rattle.base64.proofs.EngineFacts.{decode_of_iff, decode_of_strict}
+use Rattle.base64.specs.GeneralPurpose.{IsBytes}
 use Rattle.ring_password_hash.proofs.text.decode_base64_into.Goals as goal
 
 pub returns-in-Ok-clause-ok : goal.returns-in-Ok-clause-ok

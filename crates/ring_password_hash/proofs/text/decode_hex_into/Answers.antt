@@ -1,8 +1,8 @@
 -- SPDX-License-Identifier: ISC
 use Rattle.std.proofs.Common.{◌/◌, ap, arith, length}
 use Rattle.std.proofs.lemmas.List.{length-take-le}
-use Rattle.hex.specs.Hex.{lower_digits}
 use Rattle.hex.proofs.HexLemmas.{length-encode_with}
+use Rattle.hex.specs.Hex.{lower_digits}
 use Rattle.ring_password_hash.proofs.text.decode_hex_into.Goals as goal
 
 pub returns-then-not-fill_from_hex-clause-refused

@@ -1,5 +1,5 @@
 -- SPDX-License-Identifier: ISC
-use Rattle.std.proofs.Common.{◌≡◌, ℕ, ap, arith, length, refl, sym, take, ◌∙◌}
+use Rattle.std.proofs.Common.{◌≡◌, ◌∙◌, ℕ, ap, arith, length, refl, sym, take}
 use Rattle.std.proofs.lemmas.Bool.{eq-eqb, eqb-true}
 use Rattle.std.proofs.lemmas.List.{length-take-le}
 use Rattle.ring_password_hash.specs.Text.{kept_text}
@@ -33,4 +33,5 @@ returns-in-Some-clause-ok c = λ equal.
 
 pub returns-in-None-clause-refused : goal.returns-in-None-clause-refused
 returns-in-None-clause-refused c = λ _ bytes h len e.
-    c.in-None.ensures.refused refl bytes h (e ∙ kept_as c.args.scheme c.row-row.ensures c.if-row.false bytes)
+    c.in-None.ensures.refused refl bytes h
+    (e ∙ kept_as c.args.scheme c.row-row.ensures c.if-row.false bytes)

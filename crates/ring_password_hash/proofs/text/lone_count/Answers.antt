@@ -1,5 +1,5 @@
 -- SPDX-License-Identifier: ISC
-use Rattle.std.proofs.Common.{sym, ◌∙◌}
+use Rattle.std.proofs.Common.{◌∙◌, sym}
 use Rattle.std.proofs.lemmas.List.{append_cancel_left}
 use Rattle.ring_password_hash.proofs.text.lone_count.Goals as goal
 

@@ -1,17 +1,24 @@
 -- SPDX-License-Identifier: ISC
-use Rattle.std.proofs.Common.{ℕ, ◌++◌, ◌≤◌, ap, codes, refl, subst, sym, ◌∙◌}
-use Rattle.ring_password_hash.specs.Text.{count_then, number_then}
-use Rattle.ring_password_hash.specs.Text.{parameters_then}
-use Rattle.ring_password_hash.proofs.Heads.{len_first, len_second, none_named}
+use Rattle.std.proofs.Common.{◌≡◌, ◌≤◌, ◌++◌, ◌∙◌, ℕ, ap, codes, refl, subst, sym}
+use Rattle.std.specs.Int.NonZero.{non_zero_u32_get}
+use Rattle.ring_password_hash.specs.Text.{count_then, number_then, parameters_then}
+use Rattle.ring_password_hash.specs.declared.text.Parameters.TheVariants.{CountThenLen}
+use Rattle.ring_password_hash.specs.declared.text.Parameters.TheVariants.{LenThenCount}
+use Rattle.ring_password_hash.proofs.Heads.{count_then_len, len_then_count, named_same, named_small}
+use Rattle.ring_password_hash.proofs.Heads.{none_named}
 use Rattle.ring_password_hash.proofs.text.named_parameters.Goals as goal
 
 pub returns-in_err-len-clause-refused : goal.returns-in_err-len-clause-refused
+unfolding parameters_then
 returns-in_err-len-clause-refused c = λ _ k p d n rest other small is e.
-    let read = c.in-Some.ensures.ok in
-    let same = len_second k p d n rest c.in-Some.iterations c.in-Some.len c.in-Some.rest.now other
-    small is read.1 read.2 (sym read.0 ∙ e) in
-    c.in_err-len.ensures.refused refl (subst (λ (m : ℕ). 10 ≤ m) (sym same) is.least)
-    (subst (λ (m : ℕ). m ≤ 64) (sym same) is.most)
+    let found = c.in-Some in
+    let read = found.ensures.ok in
+    let both : parameters_then k CountThenLen found.iterations (non_zero_u32_get found.len)
+    found.rest.now ≡ parameters_then k p d n rest = sym read.0 ∙ e in
+    let same = named_same k {c = found.iterations} {d = d} read.1 small CountThenLen p count_then_len
+    other read.2 (named_small is) both in
+    c.in_err-len.ensures.refused refl (subst (λ (m : ℕ). 10 ≤ m) (sym same.2) is.least)
+    (subst (λ (m : ℕ). m ≤ 64) (sym same.2) is.most)
 
 pub returns-in-Some-clause-ok : goal.returns-in-Some-clause-ok
 unfolding parameters_then
@@ -31,12 +38,16 @@ returns-in_err-len-2-clause-refused c = λ _.
     (c.in_err-len-2.ensures.refused refl)
 
 pub returns-in_err-len-3-clause-refused : goal.returns-in_err-len-3-clause-refused
+unfolding parameters_then
 returns-in_err-len-3-clause-refused c = λ _ k p d n rest other small is e.
-    let read = c.in_ok-len-2.ensures.ok in
-    let same = len_first k p d n rest c.in_ok-len-2.len c.in_ok-len-2.iterations
-    c.in_ok-len-2.rest.now other small is read.1 read.2 (sym read.0 ∙ e) in
-    c.in_err-len-3.ensures.refused refl (subst (λ (m : ℕ). 10 ≤ m) (sym same) is.least)
-    (subst (λ (m : ℕ). m ≤ 64) (sym same) is.most)
+    let found = c.in_ok-len-2 in
+    let read = found.ensures.ok in
+    let both : parameters_then k LenThenCount found.iterations (non_zero_u32_get found.len)
+    found.rest.now ≡ parameters_then k p d n rest = sym read.0 ∙ e in
+    let same = named_same k {c = found.iterations} {d = d} read.2 small LenThenCount p len_then_count
+    other read.1 (named_small is) both in
+    c.in_err-len-3.ensures.refused refl (subst (λ (m : ℕ). 10 ≤ m) (sym same.2) is.least)
+    (subst (λ (m : ℕ). m ≤ 64) (sym same.2) is.most)
 
 pub returns-clause-ok : goal.returns-clause-ok
 unfolding parameters_then

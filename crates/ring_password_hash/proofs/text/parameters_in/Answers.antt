@@ -1,5 +1,5 @@
 -- SPDX-License-Identifier: ISC
-use Rattle.std.proofs.Common.{refl, sym, ◌∙◌}
+use Rattle.std.proofs.Common.{◌∙◌, refl, sym}
 use Rattle.ring_password_hash.specs.Text.{parameters_then}
 use Rattle.ring_password_hash.proofs.Heads.{lone_alone, lone_as, no_parameters}
 use Rattle.ring_password_hash.proofs.text.parameters_in.Goals as goal
@@ -25,7 +25,8 @@ returns-then-not-row-clause-refused c = λ _ p d n rest small len e.
 
 pub returns-clause-refused : goal.returns-clause-refused
 returns-clause-refused c = λ none.
+    let same = lone_as c.args.scheme c.row-row.ensures c.count_mark.ensures
+    c.count_end-end.ensures.ok in
     no_parameters c.args.scheme c.args.text.now
-    (λ d rest small e. c.in_default.ensures.refused refl d rest small
-    (e ∙ sym (lone_as c.args.scheme c.row-row.ensures c.count_mark.ensures c.count_end-end.ensures.ok d rest)))
+    (λ d rest small e. c.in_default.ensures.refused refl d rest small (e ∙ sym (same d rest)))
     (c.named_parameters.ensures.refused none c.args.scheme)

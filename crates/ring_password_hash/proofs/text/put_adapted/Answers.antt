@@ -1,5 +1,5 @@
 -- SPDX-License-Identifier: ISC
-use Rattle.std.proofs.Common.{List, ℕ, subst}
+use Rattle.std.proofs.Common.{ℕ, List, subst}
 use Rattle.ring_password_hash.specs.Text.{IsPut}
 use Rattle.ring_password_hash.proofs.text.put_adapted.Goals as goal
 

@@ -1,5 +1,5 @@
 -- SPDX-License-Identifier: ISC
-use Rattle.std.proofs.Common.{List, ℕ, subst, sym, ◌∙◌}
+use Rattle.std.proofs.Common.{◌∙◌, ℕ, List, subst, sym}
 use Rattle.ring_password_hash.specs.Text.{IsPut}
 use Rattle.ring_password_hash.proofs.Keys.{kept_as, keys_as}
 use Rattle.ring_password_hash.proofs.text.put_kept.Goals as goal

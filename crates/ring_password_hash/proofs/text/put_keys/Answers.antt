@@ -1,5 +1,5 @@
 -- SPDX-License-Identifier: ISC
-use Rattle.std.proofs.Common.{◌≡◌, ◌++◌, ◌∷◌, [], append_assoc, drop, refl, rules, take, ◌∙◌}
+use Rattle.std.proofs.Common.{◌≡◌, ◌∷◌, ◌++◌, ◌∙◌, [], append_assoc, drop, refl, rules, take}
 use Rattle.std.specs.Prelude.{Some}
 use Rattle.ring_password_hash.specs.Text.{written}
 use Rattle.ring_password_hash.specs.declared.scheme.Encoding.TheVariants.{Base64}

@@ -1,5 +1,5 @@
 -- SPDX-License-Identifier: ISC
-use Rattle.std.proofs.Common.{refl, sym, ◌∙◌, ◌++◌}
+use Rattle.std.proofs.Common.{◌++◌, ◌∙◌, refl, sym}
 use Rattle.std.proofs.lemmas.List.{append_cancel_left}
 use Rattle.ring_text.proofs.Numbers.{count_then-injective}
 use Rattle.ring_password_hash.specs.Text.{count_then}

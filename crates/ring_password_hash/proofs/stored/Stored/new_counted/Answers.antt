@@ -1,5 +1,5 @@
 -- SPDX-License-Identifier: ISC
-use Rattle.std.proofs.Common.{ap, refl, rules, ◌∙◌}
+use Rattle.std.proofs.Common.{◌∙◌, ap, refl, rules}
 use Rattle.ring_password_hash.specs.Stored.{parameters_where}
 use Rattle.ring_password_hash.proofs.Made.{new_made}
 use Rattle.ring_password_hash.proofs.stored.Stored.new_counted.Goals as goal

@@ -1,0 +1,78 @@
+-- SPDX-License-Identifier: ISC
+-- All schemes in turn, and their names.
+use Rattle.std.proofs.Common.{◌≡◌, ◌<◌, ◌+◌, ◌∷◌, ◌∙◌, ℕ, Bool, true, List, [], ap, arith}
+use Rattle.std.proofs.Common.{inl, inr, refl, slice_index_or, subst, sym}
+use Rattle.std.specs.Prelude.{if◌then◌else◌}
+use Rattle.std.proofs.lemmas.Bool.{cases_lt}
+use Rattle.std.specs.Str.{bytes_eq}
+use Rattle.base64.proofs.Tables.{all_below_at}
+use Rattle.base64.specs.Tables.{all_below}
+use Rattle.ring_password_hash.specs.Scheme.{Row, name_of, row_of}
+use Rattle.ring_password_hash.specs.declared.scheme.Scheme.{Scheme}
+use Rattle.ring_password_hash.specs.declared.scheme.Scheme.TheVariants.{DjangoSha256, DjangoSha1}
+use Rattle.ring_password_hash.specs.declared.scheme.Scheme.TheVariants.{WerkzeugSha256}
+use Rattle.ring_password_hash.specs.declared.scheme.Scheme.TheVariants.{WerkzeugSha512, PhcSha256}
+use Rattle.ring_password_hash.specs.declared.scheme.Scheme.TheVariants.{PhcSha512, Mosquitto}
+use Rattle.ring_password_hash.specs.declared.scheme.Scheme.TheVariants.{PasslibSha1, PasslibSha256}
+use Rattle.ring_password_hash.specs.declared.scheme.Scheme.TheVariants.{PasslibSha512, Postgresql}
+use Rattle.ring_password_hash.specs.declared.scheme.Scheme.TheVariants.{WerkzeugSha1}
+use Rattle.ring_password_hash.specs.declared.scheme.TheConstants.{SCHEMES}
+
+abbrev pub scheme_at : ℕ → Scheme
+scheme_at i = slice_index_or SCHEMES i DjangoSha256
+
+-- what holds at each place holds of each scheme
+pub at_each : (P : Scheme → Type 0) → ((i : ℕ) → i < 12 → P (scheme_at i)) → (k : Scheme) → P k
+at_each P all DjangoSha256 = all 0 (omega arith)
+at_each P all DjangoSha1 = all 1 (omega arith)
+at_each P all WerkzeugSha256 = all 2 (omega arith)
+at_each P all WerkzeugSha512 = all 3 (omega arith)
+at_each P all PhcSha256 = all 4 (omega arith)
+at_each P all PhcSha512 = all 5 (omega arith)
+at_each P all Mosquitto = all 6 (omega arith)
+at_each P all PasslibSha1 = all 7 (omega arith)
+at_each P all PasslibSha256 = all 8 (omega arith)
+at_each P all PasslibSha512 = all 9 (omega arith)
+at_each P all Postgresql = all 10 (omega arith)
+at_each P all WerkzeugSha1 = all 11 (omega arith)
+
+-- so does a test of each row
+pub each_row : (test : Row → Bool) → all_below (λ i. test (row_of (scheme_at i))) 12 ≡ true
+    → (k : Scheme) → test (row_of k) ≡ true
+each_row test all =
+    at_each (λ k. test (row_of k) ≡ true)
+    (λ i below. all_below_at (λ j. test (row_of (scheme_at j))) 12 i all below)
+
+-- one place more
+pub at_next : (P : Scheme → Type 0) (i : ℕ) → ((j : ℕ) → j < i → P (scheme_at j))
+    → P (scheme_at i) → (j : ℕ) → j < i + 1 → P (scheme_at j)
+at_next P i before here j below =
+    elim (cases_lt j i) [
+      | inl less ↦ before j less
+      | inr more ↦ (let same : i ≡ j = omega (arith, more, below) in
+          subst (λ (m : ℕ). P (scheme_at m)) same here)
+    ]
+
+-- the scheme of a name that one has
+scheme_named : List Scheme → List ℕ → Scheme
+scheme_named [] name = DjangoSha256
+scheme_named (k ∷ ks) name =
+    if bytes_eq (name_of k) name then k else scheme_named ks name
+
+named_own : (k : Scheme) → scheme_named SCHEMES (name_of k) ≡ k
+unfolding scheme_named
+named_own DjangoSha256 = refl
+named_own DjangoSha1 = refl
+named_own WerkzeugSha256 = refl
+named_own WerkzeugSha512 = refl
+named_own PhcSha256 = refl
+named_own PhcSha512 = refl
+named_own Mosquitto = refl
+named_own PasslibSha1 = refl
+named_own PasslibSha256 = refl
+named_own PasslibSha512 = refl
+named_own Postgresql = refl
+named_own WerkzeugSha1 = refl
+
+pub name_of-injective : (k l : Scheme) → name_of k ≡ name_of l → k ≡ l
+name_of-injective k l e = sym (named_own k) ∙ ap (scheme_named SCHEMES) e ∙ named_own l

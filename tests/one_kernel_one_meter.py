@@ -37,7 +37,7 @@ METERS = {
     "ring": 22,
     "ring_bench": 6,
     "ring_store": 7,
-    "ring_password_hash": 8,
+    "ring_password_hash": 3,
     "ring_passwords": 2,
     "ring_schedules": 2,
     "ring_sums": 1,
@@ -93,14 +93,10 @@ SALT = "use std::num::NonZeroU32;\n"
 CONTEXT = SALT, f"use ring::digest::Context;\n{SALT}"
 KEY = SALT, f"use ring::hmac::Key;\n{SALT}"
 OTHER_KEY = "let _ = Other::new(ring::hmac::HMAC_SHA256, password);"
-HASHES = "crates/ring_password_hash/src/"
+STORED = "crates/ring_password_hash/src/stored.rt"
 C_VERIFY = "verify_in_place(password, text, max_iterations)"
 C_VERIFY_FIRST = "verify_in_place(password, text, u32::MAX)"
 C_PASSWORDS = "crates/ring_c/src/password_hashes.rt", C_VERIFY
-PUT_NEW = (
-    "put_new(&mut [0; MAX_TEXT_LEN], kind, password, salt, iterations, MAX_TEXT_LEN, &mut "
-    "Meter::new())"
-)
 FINISHED = "crates/ring_schedules/src/tls13/traffic.rt"
 
 
@@ -179,53 +175,46 @@ PLANTED = {
     ),
     "`verify` of a text tests it with no limit first": before(
         ONE_CALL,
-        f"{HASHES}password_hash.rt",
-        "    verify_counted(alloc, password, text, max_iterations, &mut Meter::new())\n",
-        "let _ = verify_counted(alloc, password, text, NonZeroU32::MAX, &mut Meter::new());",
+        STORED,
+        "    verify_counted(text, password, max_iterations, &mut Meter::new())\n",
+        "let _ = verify_counted(text, password, u32::MAX, &mut Meter::new());",
     ),
-    "`PasswordHash::new` derives before it refuses": before(
+    "`Stored::verify` tests a value with no limit first": before(
         ONE_CALL,
-        f"{HASHES}password_hash.rt",
-        "        PasswordHash::new_counted(alloc, kind, password, salt, iterations, &mut "
-        "Meter::new())\n",
-        "let _ = pbkdf2::derive(kind.algorithm(), iterations, salt, password, &mut [0; 64]);",
+        STORED,
+        "        self.verify_counted(password, max_iterations, &mut Meter::new())\n",
+        "let _ = self.verify_counted(password, u32::MAX, &mut Meter::new());",
     ),
-    "`new_in_place` derives before it refuses": before(
+    "`Stored::new` derives before it refuses": before(
         ONE_CALL,
-        f"{HASHES}made_in_place.rt",
-        "    new_in_place_counted(kind, password, salt, iterations, out, &mut Meter::new())\n",
-        f"let _ = {PUT_NEW};",
+        STORED,
+        "        Stored::new_counted(scheme, password, salt, iterations, room, &mut Meter::new())\n",
+        "let _ = pbkdf2::derive(scheme.row().algorithm, iterations, salt, password, &mut [0; 64]);",
     ),
-    "`new_in_place_counted` derives before it refuses, under another meter": before(
+    "`Stored::new_counted` derives before it refuses, under another meter": before(
         NO_SECOND,
-        f"{HASHES}made_in_place.rt",
-        "    let len = put_new(&mut text, kind, password, salt, iterations, room, meter)?;\n",
-        f"let _ = {PUT_NEW};",
+        STORED,
+        "        keep(scheme, password, salt, iterations, room, kept, meter)?;\n",
+        "let _ = derive(scheme, password, salt, iterations, kept, &mut Meter::new());",
     ),
-    "`verify_in_place` tests a text with no limit first": before(
-        ONE_CALL,
-        f"{HASHES}in_place.rt",
-        "    verify_in_place_counted(password, text, max_iterations, &mut Meter::new())\n",
-        "let _ = verify_in_place_counted(password, text, u32::MAX, &mut Meter::new());",
-    ),
-    "`test` of `verify_in_place_counted` derives before the limit, by a plain form": before(
+    "`keep` derives before it refuses, by a plain form": before(
         NO_OTHER_METER,
-        f"{HASHES}in_place.rt",
-        "    if reading.iterations.get() > max_iterations {\n",
-        "let _ = pbkdf2::verify(reading.kind.algorithm(), reading.iterations, salt, password, "
-        "hash);",
+        STORED,
+        "    if !has_room(scheme, salt, iterations, &*kept, room) {\n",
+        "let _ = pbkdf2::derive(scheme.row().algorithm, iterations, salt, password, kept);",
     ),
-    "`verify_counted` of a text derives before the limit, by a plain form": before(
+    "`Stored::verify_counted` derives before the limit, by a plain form": before(
         NO_OTHER_METER,
-        f"{HASHES}password_hash.rt",
-        "    if hash.iterations().get() > max_iterations.get() {\n",
-        "let _ = hash.verify(password);",
+        STORED,
+        "        if self.iterations.get() > max_iterations {\n",
+        "let _ = pbkdf2::verify(self.scheme.row().algorithm, self.iterations, &self.salt, "
+        "password, &self.kept);",
     ),
-    "`parse` of a verifier derives": before(
+    "`read_as` of a text derives": before(
         NONE_BELOW,
-        f"{HASHES}scram.rt",
-        "        let server_key = last_key(alloc, rest)?;\n",
-        "let _ = pbkdf2::verify(PBKDF2_HMAC_SHA256, iterations, &salt, rest, &stored_key);",
+        STORED,
+        "    if !kept_into(scheme, rest, kept_len, &mut kept) {\n",
+        "let _ = pbkdf2::verify(scheme.row().algorithm, iterations, &salt, rest, &kept);",
     ),
     "`yz_password_hash_verify` tests a text with no limit first": (
         ONCE, *C_PASSWORDS, f"{{ let _ = {C_VERIFY_FIRST}; {C_VERIFY} }}"

@@ -1,6 +1,7 @@
 -- SPDX-License-Identifier: ISC
 -- What a field's text says of its bytes.
-use Rattle.std.proofs.Common.{◌≡◌, ◌∷◌, ◌∙◌, ℕ, false, List, [], ap, refl, sym}
+use Rattle.std.proofs.Common.{◌≡◌, ◌+◌, ◌∷◌, ◌++◌, ◌∙◌, ℕ, zero, suc, false, List, [], ap, refl}
+use Rattle.std.proofs.Common.{replicate, sym}
 use Rattle.hex.specs.Hex.{IsBytes}
 use Rattle.base64.proofs.EngineFacts.{decode_of-encode_of}
 use Rattle.base64.proofs.RoundTrip.{decode-encode}
@@ -24,30 +25,21 @@ encode_of-injective e consistent xs ys hx hy same =
     ∙ decode_of-encode_of e ys consistent hy in
     cc both
 
--- the value of each symbol of adapted base64
+-- numbers in a row
+numbers_from : (first count : ℕ) → List ℕ
+numbers_from first zero = []
+numbers_from first (suc count) = first ∷ numbers_from (first + 1) count
+
+-- the value of each symbol of adapted base64: of the full stop and the slash, of the digits, and of
+-- the letters
 adapted_values : List ℕ
 adapted_values =
-    255 ∷ 255 ∷ 255 ∷ 255 ∷ 255 ∷ 255 ∷ 255 ∷ 255 ∷ 255 ∷ 255 ∷ 255 ∷ 255 ∷ 255 ∷ 255 ∷ 255 ∷ 255
-    ∷ 255 ∷ 255 ∷ 255 ∷ 255 ∷ 255 ∷ 255 ∷ 255 ∷ 255 ∷ 255 ∷ 255 ∷ 255 ∷ 255 ∷ 255 ∷ 255 ∷ 255 ∷ 255
-    ∷ 255 ∷ 255 ∷ 255 ∷ 255 ∷ 255 ∷ 255 ∷ 255 ∷ 255 ∷ 255 ∷ 255 ∷ 255 ∷ 255 ∷ 255 ∷ 255 ∷ 62 ∷ 63
-    ∷ 52 ∷ 53 ∷ 54 ∷ 55 ∷ 56 ∷ 57 ∷ 58 ∷ 59 ∷ 60 ∷ 61 ∷ 255 ∷ 255 ∷ 255 ∷ 255 ∷ 255 ∷ 255
-    ∷ 255 ∷ 0 ∷ 1 ∷ 2 ∷ 3 ∷ 4 ∷ 5 ∷ 6 ∷ 7 ∷ 8 ∷ 9 ∷ 10 ∷ 11 ∷ 12 ∷ 13 ∷ 14
-    ∷ 15 ∷ 16 ∷ 17 ∷ 18 ∷ 19 ∷ 20 ∷ 21 ∷ 22 ∷ 23 ∷ 24 ∷ 25 ∷ 255 ∷ 255 ∷ 255 ∷ 255 ∷ 255
-    ∷ 255 ∷ 26 ∷ 27 ∷ 28 ∷ 29 ∷ 30 ∷ 31 ∷ 32 ∷ 33 ∷ 34 ∷ 35 ∷ 36 ∷ 37 ∷ 38 ∷ 39 ∷ 40
-    ∷ 41 ∷ 42 ∷ 43 ∷ 44 ∷ 45 ∷ 46 ∷ 47 ∷ 48 ∷ 49 ∷ 50 ∷ 51 ∷ 255 ∷ 255 ∷ 255 ∷ 255 ∷ 255
-    ∷ 255 ∷ 255 ∷ 255 ∷ 255 ∷ 255 ∷ 255 ∷ 255 ∷ 255 ∷ 255 ∷ 255 ∷ 255 ∷ 255 ∷ 255 ∷ 255 ∷ 255 ∷ 255
-    ∷ 255 ∷ 255 ∷ 255 ∷ 255 ∷ 255 ∷ 255 ∷ 255 ∷ 255 ∷ 255 ∷ 255 ∷ 255 ∷ 255 ∷ 255 ∷ 255 ∷ 255 ∷ 255
-    ∷ 255 ∷ 255 ∷ 255 ∷ 255 ∷ 255 ∷ 255 ∷ 255 ∷ 255 ∷ 255 ∷ 255 ∷ 255 ∷ 255 ∷ 255 ∷ 255 ∷ 255 ∷ 255
-    ∷ 255 ∷ 255 ∷ 255 ∷ 255 ∷ 255 ∷ 255 ∷ 255 ∷ 255 ∷ 255 ∷ 255 ∷ 255 ∷ 255 ∷ 255 ∷ 255 ∷ 255 ∷ 255
-    ∷ 255 ∷ 255 ∷ 255 ∷ 255 ∷ 255 ∷ 255 ∷ 255 ∷ 255 ∷ 255 ∷ 255 ∷ 255 ∷ 255 ∷ 255 ∷ 255 ∷ 255 ∷ 255
-    ∷ 255 ∷ 255 ∷ 255 ∷ 255 ∷ 255 ∷ 255 ∷ 255 ∷ 255 ∷ 255 ∷ 255 ∷ 255 ∷ 255 ∷ 255 ∷ 255 ∷ 255 ∷ 255
-    ∷ 255 ∷ 255 ∷ 255 ∷ 255 ∷ 255 ∷ 255 ∷ 255 ∷ 255 ∷ 255 ∷ 255 ∷ 255 ∷ 255 ∷ 255 ∷ 255 ∷ 255 ∷ 255
-    ∷ 255 ∷ 255 ∷ 255 ∷ 255 ∷ 255 ∷ 255 ∷ 255 ∷ 255 ∷ 255 ∷ 255 ∷ 255 ∷ 255
-    ∷ 255 ∷ 255 ∷ 255 ∷ 255 ∷ []
+    replicate 46 255 ++ numbers_from 62 2 ++ numbers_from 52 10 ++ replicate 7 255
+    ++ numbers_from 0 26 ++ replicate 6 255 ++ numbers_from 26 26 ++ replicate 133 255
 
 adapted-injective : (xs ys : List ℕ) → IsBytes xs → IsBytes ys
     → written Adapted xs ≡ written Adapted ys → xs ≡ ys
-unfolding adapted_values
+unfolding adapted_values numbers_from
 adapted-injective xs ys hx hy same =
     let one = decode-encode adapted_symbols adapted_values xs 61 false RequireNone false refl hx
     refl in
@@ -69,9 +61,10 @@ pub base64-injective : (xs ys : List ℕ) → IsBytes xs → IsBytes ys
     → written Base64 xs ≡ written Base64 ys → xs ≡ ys
 base64-injective = written-injective Base64
 
-pub base64_then-injective : (end : ℕ) → IsEnd end → (xs ys s t : List ℕ) → IsBytes xs → IsBytes ys
+pub base64_then-injective : (end : ℕ) → IsEnd end → (xs ys : List ℕ) {s t : List ℕ} → IsBytes xs
+    → IsBytes ys
     → field_then Base64 xs end s ≡ field_then Base64 ys end t → (xs ≡ ys) × (s ≡ t)
-base64_then-injective end is xs ys s t hx hy e =
+base64_then-injective end is xs ys {s} {t} hx hy e =
     let cut = cut_same end (written Base64 xs) (written Base64 ys) s t
     (IsWithout-base64 end is xs hx) (IsWithout-base64 end is ys hy) e in
     (base64-injective xs ys hx hy cut.0, cut.1)

@@ -80,10 +80,10 @@ end_apart true e = omega (arith, e)
 end_apart false e = omega (arith, e)
 
 -- where parameters are named, the count alone is none that a length follows
-lone_apart : (k : Scheme) (c d : NonZeroU32) (s t : List ℕ) (n : ℕ) → IsNamed k n → IsCount c
+lone_apart : (k : Scheme) (c d : NonZeroU32) (s t : List ℕ) {n : ℕ} → IsNamed k n → IsCount c
     → IsCount d
     → count_mark_of k ++ count_then c (count_end_of k) s ≢ codes "i=" ++ count_then d 44 t
-lone_apart k c d s t n is hc hd e =
+lone_apart k c d s t is hc hd e =
     let end = count_end_of k in
     let moved = sym (ap (λ (b : Bool). count_mark b ++ count_then c end s) is.named) ∙ e in
     let behind = append_cancel_left (codes "i=") _ _ moved in
@@ -93,9 +93,9 @@ lone_apart k c d s t n is hc hd e =
 letter_apart : (s t : List ℕ) → codes "i=" ++ s ≢ codes "l=" ++ t
 letter_apart s t e = let same : 105 ≡ 108 = ap (first_of_list 0) e in omega (arith, same)
 
-lone_apart_len : (k : Scheme) (c : NonZeroU32) (s t : List ℕ) (n : ℕ) → IsNamed k n
+lone_apart_len : (k : Scheme) (c : NonZeroU32) (s t : List ℕ) {n : ℕ} → IsNamed k n
     → count_mark_of k ++ count_then c (count_end_of k) s ≢ codes "l=" ++ t
-lone_apart_len k c s t n is e =
+lone_apart_len k c s t is e =
     letter_apart (count_then c (count_end_of k) s) t
     (sym (ap (λ (b : Bool). count_mark b ++ count_then c (count_end_of k) s) is.named) ∙ e)
 
@@ -120,18 +120,18 @@ SameHead p q c d m n s t = (p ≡ q) × (c ≡ d) × (m ≡ n) × (s ≡ t)
 module _ (k : Scheme) {c d : NonZeroU32} {m n : ℕ} {s t : List ℕ} (hc : IsCount c)
     (hd : IsCount d) where
   -- parameters with a length are read in one way
-  pub named_same : (p q : Parameters) → p ≢ Count → q ≢ Count → m < 2 ^ 32 → n < 2 ^ 32
+  pub named_same : (p q : Parameters) → (p ≢ Count) × (q ≢ Count) → m < 2 ^ 32 → n < 2 ^ 32
       → parameters_then k p c m s ≡ parameters_then k q d n t → SameHead p q c d m n s t
   unfolding parameters_then
-  named_same Count q hp hq hm hn e = absurd (hp refl)
-  named_same CountThenLen Count hp hq hm hn e = absurd (hq refl)
-  named_same LenThenCount Count hp hq hm hn e = absurd (hq refl)
-  named_same CountThenLen CountThenLen hp hq hm hn e =
+  named_same Count q other hm hn e = absurd (other.0 refl)
+  named_same CountThenLen Count other hm hn e = absurd (other.1 refl)
+  named_same LenThenCount Count other hm hn e = absurd (other.1 refl)
+  named_same CountThenLen CountThenLen other hm hn e =
       let read = two_same hc hm hd hn (codes "i=") (codes "l=") e in
       (refl, same_count c d read.0, read.1, read.2)
-  named_same CountThenLen LenThenCount hp hq hm hn e = absurd (letter_apart _ _ e)
-  named_same LenThenCount CountThenLen hp hq hm hn e = absurd (letter_apart _ _ (sym e))
-  named_same LenThenCount LenThenCount hp hq hm hn e =
+  named_same CountThenLen LenThenCount other hm hn e = absurd (letter_apart _ _ e)
+  named_same LenThenCount CountThenLen other hm hn e = absurd (letter_apart _ _ (sym e))
+  named_same LenThenCount LenThenCount other hm hn e =
       let read = two_same hm hc hn hd (codes "l=") (codes "i=") e in
       (refl, same_count c d read.1, read.0, read.2)
 
@@ -144,20 +144,20 @@ module _ (k : Scheme) {c d : NonZeroU32} {m n : ℕ} {s t : List ℕ} (hc : IsCo
       let read = count_same c d _ _ s t hc hd end end behind in
       (refl, read.0, hm ∙ sym hn, read.2)
   parameters_then-injective Count CountThenLen hm hn e =
-      absurd (lone_apart k c d s _ n hn hc hd e)
+      absurd (lone_apart k c d s _ hn hc hd e)
   parameters_then-injective Count LenThenCount hm hn e =
-      absurd (lone_apart_len k c s _ n hn e)
+      absurd (lone_apart_len k c s _ hn e)
   parameters_then-injective CountThenLen Count hm hn e =
-      absurd (lone_apart k d c t _ m hm hd hc (sym e))
+      absurd (lone_apart k d c t _ hm hd hc (sym e))
   parameters_then-injective LenThenCount Count hm hn e =
-      absurd (lone_apart_len k d t _ m hm (sym e))
+      absurd (lone_apart_len k d t _ hm (sym e))
   parameters_then-injective CountThenLen CountThenLen hm hn e =
-      named_same CountThenLen CountThenLen count_then_len count_then_len (named_small hm)
+      named_same CountThenLen CountThenLen (count_then_len, count_then_len) (named_small hm)
       (named_small hn) e
   parameters_then-injective CountThenLen LenThenCount hm hn e = absurd (letter_apart _ _ e)
   parameters_then-injective LenThenCount CountThenLen hm hn e = absurd (letter_apart _ _ (sym e))
   parameters_then-injective LenThenCount LenThenCount hm hn e =
-      named_same LenThenCount LenThenCount len_then_count len_then_count (named_small hm)
+      named_same LenThenCount LenThenCount (len_then_count, len_then_count) (named_small hm)
       (named_small hn) e
 
   pub head_then-injective : (p q : Parameters) → IsLen k p m → IsLen k q n
@@ -169,26 +169,20 @@ module _ (k : Scheme) {c d : NonZeroU32} {m n : ℕ} {s t : List ℕ} (hc : IsCo
 abbrev count_of : (n : ℕ) → 0 < n → NonZeroU32
 count_of n some = record { value = n; ok = some }
 
-module _ (text : List ℕ) where
-  -- a text without two named numbers names no length
-  pub none_named : ((c d : NonZeroU32) (rest : List ℕ) → IsCount c → IsCount d
-      → text ≢ codes "i=" ++ count_then c 44 (codes "l=" ++ count_then d 36 rest))
-      → ((c d : NonZeroU32) (rest : List ℕ) → IsCount c → IsCount d
-      → text ≢ codes "l=" ++ count_then c 44 (codes "i=" ++ count_then d 36 rest))
-      → (k : Scheme) (p : Parameters) (c : NonZeroU32) (n : ℕ) (rest : List ℕ) → p ≢ Count
-      → IsCount c → IsNamed k n → text ≢ parameters_then k p c n rest
-  unfolding parameters_then
-  none_named second first k Count c n rest other hc is e = other refl
-  none_named second first k CountThenLen c n rest other hc is e =
-      let least = is.least in
-      let most = is.most in
-      let small : n < 2 ^ 32 = omega arith in
-      second c (count_of n (omega arith)) rest hc small e
-  none_named second first k LenThenCount c n rest other hc is e =
-      let least = is.least in
-      let most = is.most in
-      let small : n < 2 ^ 32 = omega arith in
-      first (count_of n (omega arith)) c rest small hc e
+-- a text without two named numbers names no length
+pub none_named : {text : List ℕ} {k : Scheme} {n : ℕ}
+    → ((c d : NonZeroU32) (rest : List ℕ) → IsCount c → IsCount d
+    → text ≢ codes "i=" ++ count_then c 44 (codes "l=" ++ count_then d 36 rest))
+    → ((c d : NonZeroU32) (rest : List ℕ) → IsCount c → IsCount d
+    → text ≢ codes "l=" ++ count_then c 44 (codes "i=" ++ count_then d 36 rest))
+    → (p : Parameters) (c : NonZeroU32) (rest : List ℕ) → p ≢ Count → IsCount c → IsNamed k n
+    → text ≢ parameters_then k p c n rest
+unfolding parameters_then
+none_named second first Count c rest other hc is e = other refl
+none_named {n = n} second first CountThenLen c rest other hc is e =
+    let least = is.least in second c (count_of n (omega arith)) rest hc (named_small is) e
+none_named {n = n} second first LenThenCount c rest other hc is e =
+    let least = is.least in first (count_of n (omega arith)) c rest (named_small is) hc e
 
 -- a lone count, as the code's row has its mark and its end
 pub lone_as : (k : Scheme) {r : code.Row} {mark : List ℕ} {end : ℕ} → IsRow r (row_of k)
@@ -208,7 +202,7 @@ lone_alone k CountThenLen c n rest none len = absurd (true≢false (sym len.name
 lone_alone k LenThenCount c n rest none len = absurd (true≢false (sym len.named ∙ none))
 
 -- a text with no count alone, and with no length, has no parameters
-pub no_parameters : (k : Scheme) (text : List ℕ)
+pub no_parameters : {k : Scheme} {text : List ℕ}
     → ((c : NonZeroU32) (rest : List ℕ) → IsCount c
     → text ≢ count_mark_of k ++ count_then c (count_end_of k) rest)
     → ((p : Parameters) (c : NonZeroU32) (n : ℕ) (rest : List ℕ) → p ≢ Count → IsCount c
@@ -216,10 +210,10 @@ pub no_parameters : (k : Scheme) (text : List ℕ)
     → (p : Parameters) (c : NonZeroU32) (n : ℕ) (rest : List ℕ) → IsCount c → IsLen k p n
     → text ≢ parameters_then k p c n rest
 unfolding parameters_then
-no_parameters k text lone named Count c n rest hc len e = lone c rest hc e
-no_parameters k text lone named CountThenLen c n rest hc len e =
+no_parameters lone named Count c n rest hc len e = lone c rest hc e
+no_parameters lone named CountThenLen c n rest hc len e =
     named CountThenLen c n rest count_then_len hc len e
-no_parameters k text lone named LenThenCount c n rest hc len e =
+no_parameters lone named LenThenCount c n rest hc len e =
     named LenThenCount c n rest len_then_count hc len e
 
 -- what follows a head can be appended to it

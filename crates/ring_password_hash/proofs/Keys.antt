@@ -34,7 +34,7 @@ pub keys_read : (a xs rest : List ℕ) {text : List ℕ} → IsBytes a → IsByt
     → text ≡ field_then Base64 a 58 rest → text ≡ kept_by true Base64 xs
     → (a ≡ take 32 xs) × (rest ≡ written Base64 (drop 32 xs))
 keys_read a xs rest ha hx read e =
-    base64_then-injective 58 (inr refl) a (take 32 xs) rest _ ha (bytes_front 32 xs hx)
+    base64_then-injective 58 (inr refl) a (take 32 xs) ha (bytes_front 32 xs hx)
     (sym read ∙ e)
 
 -- the second key was copied behind the first one
@@ -46,7 +46,7 @@ module _ (out key piece : List ℕ) {text rest : List ℕ} (room : length out �
   both =
       let len = length-take-le 32 key (omega arith) in
       let whole = copied ∙ sym (append-nil (take 32 key)) in
-      take-put 32 32 32 out piece (take 32 key) [] whole (sym len) (omega arith)
+      take-put 32 32 32 out (take 32 key) [] (whole, sym len) (omega arith)
 
   pub keys_copied : text ≡ kept_by true Base64 (take 64 (put_mid 32 32 out piece))
   keys_copied =

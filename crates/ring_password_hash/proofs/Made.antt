@@ -15,13 +15,14 @@ use Rattle.ring.proofs.lemmas.pbkdf2.Rounds.{length-dk}
 use Rattle.ring.specs.Prelude.{dk}
 use Rattle.ring.specs.declared.digest.algorithm.TheConstants.{SHA256}
 use Rattle.ring_password_hash.specs.Scheme.{algorithm_of, keeps_keys, kept_len_of, names_len}
-use Rattle.ring_password_hash.specs.Stored.{Derives, IsStored, Keeps, Makes, derived_by, derived_of}
-use Rattle.ring_password_hash.specs.Stored.{is_past, is_salt, keys_of, new_parts, new_text}
-use Rattle.ring_password_hash.specs.Stored.{parameters_where, parts_of, parts_text, server_key_of}
-use Rattle.ring_password_hash.specs.Stored.{stored_key_of, text_of}
+use Rattle.ring_password_hash.specs.Stored.{Derives, IsParts, IsStored, Keeps, Makes, derived_by}
+use Rattle.ring_password_hash.specs.Stored.{derived_of, is_past, is_salt, keys_of, new_parts}
+use Rattle.ring_password_hash.specs.Stored.{new_text, parameters_where, parts_of, parts_text}
+use Rattle.ring_password_hash.specs.Stored.{server_key_of, stored_key_of, text_of}
 use Rattle.ring_password_hash.specs.Text.{IsCount, IsLen}
 use Rattle.ring_password_hash.specs.declared.scheme.Scheme.{Scheme}
 use Rattle.ring_password_hash.specs.declared.stored.Stored.{Stored}
+use Rattle.ring_password_hash.specs.declared.text.Parameters.{Parameters}
 use Rattle.ring_password_hash.specs.declared.text.Parameters.TheVariants.{Count}
 use Rattle.ring_password_hash.proofs.Heads.{keys_len, len_few, usual_len}
 
@@ -63,57 +64,62 @@ kept_new room k p s c {new = new} {before = before} {after = after} len salt pas
       cost = d.cost;
     }
 
+-- the fields of a value with this salt and these kept bytes, and with the usual parameters
+pub record IsFresh (v : Stored) (s h : List ℕ) : Type 0 where
+  pub salt : take v.salt_len v.salt ≡ s
+  pub salt_len : v.salt_len ≡ length s
+  pub kept : take v.kept_len v.kept ≡ h
+  pub kept_len : v.kept_len ≡ kept_len_of v.scheme
+  pub usual : v.parameters ≡ parameters_where (names_len v.scheme)
+
 -- a new value has a text
-pub new_stands : (v : Stored) (most : ℕ) (s h : List ℕ) → take v.salt_len v.salt ≡ s
-    → take v.kept_len v.kept ≡ h → v.parameters ≡ parameters_where (names_len v.scheme)
-    → IsCount v.iterations → v.salt_len ≤ 1024 → v.kept_len ≡ kept_len_of v.scheme
-    → is_salt v.scheme s ≡ true → IsBytes s → IsBytes h → length h ≡ kept_len_of v.scheme
-    → is_past most (new_text v.scheme s v.iterations h) ≡ false → IsStored v
-new_stands v most s h es eh usual count few len salt bytes kept_bytes long fits =
+new_stands : (v : Stored) (room : ℕ) {s h : List ℕ} → IsFresh v s h
+    → IsParts v.scheme (parameters_where (names_len v.scheme)) v.iterations s h → length s ≤ 1024
+    → is_past room (new_text v.scheme s v.iterations h) ≡ false → IsStored v
+new_stands v room {s} {h} fresh is few fits =
     let p = v.parameters in
     let k = v.scheme in
-    let kept_few = len_few k Count v.kept_len len in
-    let is : IsLen k p (length h) =
-    rw usual (subst (IsLen k (parameters_where (names_len k))) (sym long) (usual_len k)) in
-    let text : is_past most (parts_text k p v.iterations s h) ≡ false = rw usual fits in
+    let most = (len_few k Count v.kept_len fresh.kept_len).1 in
+    let own : IsParts k p v.iterations s h =
+    subst (λ (q : Parameters). IsParts k q v.iterations s h) (sym fresh.usual) is in
+    let text : is_past room (parts_text k p v.iterations s h) ≡ false = rw fresh.usual fits in
     record {
       filled = record {
-        salt = few;
-        kept = (let most = kept_few.1 in omega (arith, most));
-        keys = keys_len k Count v.kept_len len;
+        salt = subst (λ (n : ℕ). n ≤ 1024) (sym fresh.salt_len) few;
+        kept = omega (arith, most);
+        keys = keys_len k Count v.kept_len fresh.kept_len;
       };
       text = record {
-        is = record {
-          iterations = count;
-          salt = rw es salt;
-          salt_bytes = rw es bytes;
-          kept = rw eh is;
-          kept_bytes = rw eh kept_bytes;
-        };
+        is = rw (fresh.salt, fresh.kept) own;
         has = refl;
-        within = rw (es, eh) (grind (arith, nat_tests, text));
+        within = rw (fresh.salt, fresh.kept) (grind (arith, nat_tests, text));
       };
     }
 
-pub new_made : (v : Stored) (room : ℕ) (p s : List ℕ) {new : List ℕ} {before after : Counts}
-    → Keeps room v.scheme p s v.iterations new before after (Ok tt)
-    → take v.salt_len v.salt ≡ s → take v.kept_len v.kept ≡ new
-    → v.parameters ≡ parameters_where (names_len v.scheme) → IsCount v.iterations
-    → v.salt_len ≡ length s → v.kept_len ≡ kept_len_of v.scheme → IsBytes s → IsBytes new
+pub new_made : {v : Stored} {room : ℕ} {p s new : List ℕ} {before after : Counts}
+    → Keeps room v.scheme p s v.iterations new before after (Ok tt) → IsFresh v s new
+    → IsCount v.iterations → IsBytes s → IsBytes new
     → Makes room v.scheme p s v.iterations before after (Ok v)
-new_made v room p s {new = new} keeps es eh usual count few len bytes kept_bytes =
+new_made {v} {room} {p} {s} {new} keeps fresh count bytes kept_bytes =
     let k = v.scheme in
     let long : length new ≡ kept_len_of k = ap length keeps.kept ∙ length-derived_of k p s _ in
     let fits : is_past room (new_text k s v.iterations new) ≡ false = rw keeps.kept keeps.within in
-    let most = keeps.few in
-    let stored = new_stands v room s new es eh usual count (omega (arith, few, most)) len keeps.salt
-    bytes kept_bytes long fits in
-    let whole = eh ∙ keeps.kept in
+    let is : IsParts k (parameters_where (names_len k)) v.iterations s new = record {
+      iterations = count;
+      salt = keeps.salt;
+      salt_bytes = bytes;
+      kept = subst (IsLen k (parameters_where (names_len k))) (sym long) (usual_len k);
+      kept_bytes = kept_bytes;
+    } in
+    let whole = fresh.kept ∙ keeps.kept in
     let same : parts_of v ≡ new_parts k p s v.iterations = λ i. record {
       scheme = k;
-      parameters = usual i;
+      parameters = fresh.usual i;
       iterations = v.iterations;
-      salt = es i;
+      salt = fresh.salt i;
       kept = whole i;
     } in
-    record { answer = (sym keeps.status, same, stored); cost = keeps.cost }
+    record {
+      answer = (sym keeps.status, same, new_stands v room fresh is keeps.few fits);
+      cost = keeps.cost;
+    }

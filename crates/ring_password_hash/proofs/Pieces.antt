@@ -53,15 +53,15 @@ pub two_digits_each : (bytes : List ℕ) → length (encode_lower bytes) ≡ 2 *
 two_digits_each bytes = length-encode_with lower_digits bytes
 
 -- what was put between two places
-pub take-put : (at len k : ℕ) (xs ys piece rest : List ℕ) → ys ≡ piece ++ rest
-    → len ≡ length piece → at ≤ length xs
+pub take-put : (at len k : ℕ) (xs : List ℕ) {ys : List ℕ} (piece rest : List ℕ)
+    → (ys ≡ piece ++ rest) × (len ≡ length piece) → at ≤ length xs
     → take (at + len) (put_mid at k xs ys) ≡ take at xs ++ piece
-take-put at len k xs ys piece rest put long fits =
+take-put at len k xs {ys} piece rest put fits =
     let front = take at xs ++ piece in
     let behind = rest ++ post_of at k xs in
-    let whole : put_mid at k xs ys ≡ front ++ behind = rw put (simp append_assoc) in
+    let whole : put_mid at k xs ys ≡ front ++ behind = rw put.0 (simp append_assoc) in
     let end : length front ≡ at + len =
-    omega (arith, length-append (take at xs) piece, length-take-le at xs fits, long) in
+    omega (arith, length-append (take at xs) piece, length-take-le at xs fits, put.1) in
     ap (take (at + len)) whole ∙ take_at front behind (at + len) end
 
 -- the length of a field follows from that of its bytes

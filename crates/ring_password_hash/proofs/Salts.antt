@@ -46,11 +46,11 @@ one_more : (a b : List ℕ) (s : ℕ) → a ++ s ∷ b ≡ (a ++ s ∷ []) ++ b
 one_more a b s = simp append_assoc
 
 -- a further symbol was written
-pub letters_more : (n i rest x : ℕ) (salt : List ℕ) → i < 22 → length salt ≡ 22
+pub letters_more : (n i rest : ℕ) {x : ℕ} (salt : List ℕ) → i < 22 → length salt ≡ 22
     → x ≡ slice_index symbols (rest % 62) → letters 22 n ≡ take i salt ++ letters (22 - i) rest
     → letters 22 n ≡ take (i + 1) (slice_set salt i x) ++ letters (22 - (i + 1)) (rest / 62)
 unfolding letters
-letters_more n i rest x salt below len is so_far =
+letters_more n i rest {x} salt below len is so_far =
     let m = 22 - (i + 1) in
     let same : 22 - i ≡ suc m = omega arith in
     let s = slice_index symbols (rest % 62) in

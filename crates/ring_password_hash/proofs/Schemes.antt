@@ -1,7 +1,7 @@
 -- SPDX-License-Identifier: ISC
 -- All schemes in turn, and their names.
-use Rattle.std.proofs.Common.{◌≡◌, ◌<◌, ◌+◌, ◌∷◌, ◌∙◌, ℕ, Bool, true, List, [], ap, arith}
-use Rattle.std.proofs.Common.{inl, inr, refl, slice_index_or, subst, sym}
+use Rattle.std.proofs.Common.{◌≡◌, ◌<◌, ◌+◌, ◌∷◌, ◌∙◌, ℕ, Bool, true, List, [], ap, arith, inl, inr}
+use Rattle.std.proofs.Common.{refl, slice_index_or, subst, sym}
 use Rattle.std.specs.Prelude.{if◌then◌else◌}
 use Rattle.std.proofs.lemmas.Bool.{cases_lt}
 use Rattle.std.specs.Str.{bytes_eq}

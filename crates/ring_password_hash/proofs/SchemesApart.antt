@@ -1,8 +1,7 @@
 -- SPDX-License-Identifier: ISC
 -- Which scheme a text is of: its first bytes tell.
-use Rattle.std.proofs.Common.{◌≡◌, ◌<◌, ◌==◌, ◌∷◌, ◌++◌, ◌∙◌, ℕ, Bool, true, false, List, []}
-use Rattle.std.proofs.Common.{ap, arith, drop, length, refl, sym}
-use Rattle.std.proofs.Common.{true≢false}
+use Rattle.std.proofs.Common.{◌≡◌, ◌<◌, ◌==◌, ◌∷◌, ◌++◌, ◌∙◌, ℕ, Bool, true, false, List, [], ap}
+use Rattle.std.proofs.Common.{arith, drop, length, refl, sym, true≢false}
 use Rattle.std.specs.Prelude.{All, nat_lt}
 use Rattle.std.proofs.lemmas.Bool.Decides.{nat_tests}
 use Rattle.std.proofs.lemmas.Fmt.{decimal_is_IsNumeral}
@@ -13,7 +12,7 @@ use Rattle.std.specs.Int.NonZero.{non_zero_u32_get}
 use Rattle.std.specs.declared.num.NonZeroU32.{NonZeroU32}
 use Rattle.ring_text.proofs.Cuts.{first_of_list}
 use Rattle.ring_text.proofs.Numbers.{All-decimal, IsDigit}
-use Rattle.ring_password_hash.specs.Stored.{IsParts, parts_text}
+use Rattle.ring_password_hash.specs.Stored.{IsTextOf, Parts, parts_text}
 use Rattle.ring_password_hash.specs.Text.{IsCount, IsLen, head_then, parameters_then}
 use Rattle.ring_password_hash.specs.declared.scheme.Scheme.{Scheme}
 use Rattle.ring_password_hash.specs.declared.scheme.Scheme.TheVariants.{DjangoSha256, DjangoSha1}
@@ -96,9 +95,12 @@ scheme_from-head PasslibSha512 CountThenLen c n t hc h = absurd (true≢false (s
 scheme_from-head PasslibSha512 LenThenCount c n t hc h = absurd (true≢false (sym h.named))
 
 -- one text is of one scheme
-pub parts_text-scheme : (k l : Scheme) (p q : Parameters) (c d : NonZeroU32) (s t h g : List ℕ)
-    → IsParts k p c s h → IsParts l q d t g → parts_text k p c s h ≡ parts_text l q d t g → k ≡ l
+pub same_scheme : (g h : Parts) {text : List ℕ} → IsTextOf g text → IsTextOf h text
+    → g.scheme ≡ h.scheme
 unfolding parts_text
-parts_text-scheme k l p q c d s t h g one two e =
-    sym (scheme_from-head k p c (length h) _ one.iterations one.kept) ∙ ap scheme_from e
-    ∙ scheme_from-head l q d (length g) _ two.iterations two.kept
+same_scheme g h one two =
+    sym (scheme_from-head g.scheme g.parameters g.iterations (length g.kept) _ one.is.iterations
+    one.is.kept)
+    ∙ ap scheme_from (one.has ∙ sym two.has)
+    ∙ scheme_from-head h.scheme h.parameters h.iterations (length h.kept) _ two.is.iterations
+    two.is.kept

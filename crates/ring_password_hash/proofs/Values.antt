@@ -25,7 +25,7 @@ use Rattle.ring_password_hash.specs.declared.text.Parameters.{Parameters}
 use Rattle.ring_password_hash.proofs.Fields.{base64-injective, written-injective}
 use Rattle.ring_password_hash.proofs.Heads.{head_then-injective}
 use Rattle.ring_password_hash.proofs.Keys.{bytes_behind, bytes_front, keys_read}
-use Rattle.ring_password_hash.proofs.SchemesApart.{parts_text-scheme}
+use Rattle.ring_password_hash.proofs.SchemesApart.{same_scheme}
 use Rattle.ring_password_hash.proofs.Symbols.{IsWithout-adapted, IsWithout-base64}
 use Rattle.ring_password_hash.proofs.Symbols.{IsWithout-base64_no_pad}
 
@@ -50,10 +50,10 @@ salt_apart : (k : Scheme) (s : List ℕ) → is_salt k s ≡ true → IsBytes s
     → IsWithout 36 (written (salt_encoding_of k) s)
 salt_apart k s is h = plain_apart (salt_encoding_of k) s (and_parts _ _ is).1 h
 
-field_then-injective : (x : Encoding) (end : ℕ) (xs ys s t : List ℕ) → IsBytes xs → IsBytes ys
+field_then-injective : (x : Encoding) (end : ℕ) {xs ys s t : List ℕ} → IsBytes xs → IsBytes ys
     → IsWithout end (written x xs) → IsWithout end (written x ys)
     → field_then x xs end s ≡ field_then x ys end t → (xs ≡ ys) × (s ≡ t)
-field_then-injective x end xs ys s t hx hy ax ay e =
+field_then-injective x end {xs} {ys} {s} {t} hx hy ax ay e =
     let cut = cut_same end (written x xs) (written x ys) s t ax ay e in
     (written-injective x xs ys hx hy cut.0, cut.1)
 
@@ -68,13 +68,13 @@ kept_by-injective true x g h hg hh e =
     ∙ ap (λ l. take 32 h ++ l) behind ∙ take-append-drop 32 h
 
 -- one text is of one value of a scheme
-pub parts_text-injective : (k : Scheme) (p q : Parameters) (c d : NonZeroU32) (s t h g : List ℕ)
+parts_text-injective : {k : Scheme} {p q : Parameters} {c d : NonZeroU32} {s t h g : List ℕ}
     → IsParts k p c s h → IsParts k q d t g → parts_text k p c s h ≡ parts_text k q d t g
     → (p ≡ q) × (c ≡ d) × (s ≡ t) × (h ≡ g)
 unfolding parts_text
-parts_text-injective k p q c d s t h g one two e =
+parts_text-injective {k} {p} {q} {s = s} {t = t} {h = h} {g = g} one two e =
     let head = head_then-injective k one.iterations two.iterations p q one.kept two.kept e in
-    let salt = field_then-injective (salt_encoding_of k) 36 s t _ _ one.salt_bytes two.salt_bytes
+    let salt = field_then-injective (salt_encoding_of k) 36 one.salt_bytes two.salt_bytes
     (salt_apart k s one.salt one.salt_bytes) (salt_apart k t two.salt two.salt_bytes) head.3 in
     let kept = kept_by-injective (keeps_keys k) (kept_encoding_of k) h g one.kept_bytes
     two.kept_bytes salt.1 in
@@ -92,12 +92,9 @@ parts_at h same of = (
 -- one text is of one value
 pub one_value : (g h : Parts) {text : List ℕ} → IsTextOf g text → IsTextOf h text → g ≡ h
 one_value g h one two =
-    let e = one.has ∙ sym two.has in
-    let same : g.scheme ≡ h.scheme = parts_text-scheme g.scheme h.scheme g.parameters h.parameters
-    g.iterations h.iterations g.salt h.salt g.kept h.kept one.is two.is e in
+    let same = same_scheme g h one two in
     let at = parts_at h (sym same) two in
-    let rest = parts_text-injective g.scheme g.parameters h.parameters g.iterations h.iterations
-    g.salt h.salt g.kept h.kept one.is at.0 (one.has ∙ at.1) in
+    let rest = parts_text-injective one.is at.0 (one.has ∙ at.1) in
     λ i. record {
       scheme = same i;
       parameters = rest.0 i;
@@ -118,11 +115,11 @@ own_text h of = subst (IsTextOf h) (sym of.has) of
 -- what is read of a text that a value has is the value's
 module _ {k : Scheme} {p : Parameters} {c : NonZeroU32} {s h text : List ℕ}
     (parts : IsParts k p c s h) (whole : text ≡ parts_text k p c s h) where
-  pub head_read : (q : Parameters) (d : NonZeroU32) (n : ℕ) (rest : List ℕ)
+  pub head_read : (q : Parameters) (d : NonZeroU32) {n : ℕ} {rest : List ℕ}
       → text ≡ head_then k q d n rest → IsCount d → IsLen k q n
       → (n ≡ length h) × (rest ≡ field_then (salt_encoding_of k) s 36 (kept_text k h))
   unfolding parts_text
-  head_read q d n rest read small len =
+  head_read q d read small len =
       let both = head_then-injective k small parts.iterations q p len parts.kept
       (sym read ∙ whole) in
       (both.2, both.3)
@@ -133,11 +130,11 @@ module _ {k : Scheme} {p : Parameters} {c : NonZeroU32} {s h text : List ℕ}
       subst (λ (y : Encoding). IsWithout 36 (written y s)) (sym is)
       (salt_apart k s parts.salt parts.salt_bytes)
 
-  pub salt_read : {x : Encoding} → x ≡ salt_encoding_of k → (rest salt behind : List ℕ)
+  pub salt_read : {x : Encoding} → x ≡ salt_encoding_of k → {rest salt behind : List ℕ}
       → rest ≡ field_then (salt_encoding_of k) s 36 (kept_text k h)
       → rest ≡ field_then x salt 36 behind → IsBytes salt → IsWithout 36 (written x salt)
       → (salt ≡ s) × (behind ≡ kept_text k h)
-  salt_read {x} is rest salt behind head read bytes apart =
-      field_then-injective x 36 salt s behind (kept_text k h) bytes
+  salt_read {x} is head read bytes apart =
+      field_then-injective x 36 bytes
       parts.salt_bytes apart (salt_apart_by is)
       (sym read ∙ head ∙ ap (λ (y : Encoding). field_then y s 36 (kept_text k h)) (sym is))

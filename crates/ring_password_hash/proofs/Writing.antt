@@ -94,14 +94,11 @@ module _ (k : Scheme) (p : Parameters) (c : NonZeroU32) (s : List ℕ) where
       let whole = ap length (text_parts (of_kept h)) in
       omega (arith, salt, one, two, three, whole)
 
-  -- what was written of zeros tells of any that are kept
-  pub room_told : (most len : ℕ) (g : List ℕ) → len ≡ length (parts_text k p c s g)
-      → len ≤ MAX_TEXT_LEN → (h : List ℕ) → length h ≡ length g
-      → is_past most (parts_text k p c s h) ≡ not (nat_le len most)
-  room_told most len g told within h e =
-      let same = length-parts_text h g e in grind (arith, nat_tests, same, told, within)
+-- the length of one text tells whether another of the same length has room
+module _ (kept text : List ℕ) (same : length text ≡ length kept) (room : ℕ) where
+  pub room_told : (len : ℕ) → len ≡ length kept → len ≤ MAX_TEXT_LEN
+      → is_past room text ≡ not (nat_le len room)
+  room_told len told within = grind (arith, nat_tests, same, told, within)
 
-  pub room_past : (most : ℕ) (g : List ℕ) → MAX_TEXT_LEN < 0 + length (parts_text k p c s g)
-      → (h : List ℕ) → length h ≡ length g → is_past most (parts_text k p c s h) ≡ true
-  room_past most g more h e =
-      let same = length-parts_text h g e in grind (arith, nat_tests, same, more)
+  pub room_past : MAX_TEXT_LEN < 0 + length kept → is_past room text ≡ true
+  room_past more = grind (arith, nat_tests, same, more)

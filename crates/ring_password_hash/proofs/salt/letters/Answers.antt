@@ -11,7 +11,7 @@ places-preserved c =
     let len = c.places.invariant.len in
     record {
       len = search rules;
-      so_far = letters_more c.args.number c.places.i c.places.rest _ c.places.salt
+      so_far = letters_more c.args.number c.places.i c.places.rest c.places.salt
           c.places-test.true len refl c.places.invariant.so_far;
     }
 

@@ -5,7 +5,7 @@ use Rattle.ring_password_hash.specs.Stored.{parameters_where, parts_text}
 use Rattle.ring_password_hash.specs.declared.text.Parameters.{Parameters}
 use Rattle.ring_password_hash.specs.declared.text.Parameters.TheVariants.{Count}
 use Rattle.ring_password_hash.proofs.Heads.{keys_len}
-use Rattle.ring_password_hash.proofs.Writing.{room_past, room_told, salt_shorter}
+use Rattle.ring_password_hash.proofs.Writing.{length-parts_text, room_past, room_told, salt_shorter}
 use Rattle.ring_password_hash.proofs.stored.has_room.Goals as goal
 
 pub put_text-requires : goal.put_text-requires
@@ -21,8 +21,8 @@ returns-in-Some-clause-told c = λ h len.
     (let place = c.in-Some.ensures.place in omega (arith, place))
     ∙ ap (λ (p : Parameters). length (parts_text k p c.args.iterations c.args.salt.now
     c.args.kept.now)) usual in
-    room_told k _ c.args.iterations c.args.salt.now c.args.room c.in-Some.len c.args.kept.now told
-    c.in-Some.ensures.within h len
+    room_told _ _ (length-parts_text k _ c.args.iterations c.args.salt.now h c.args.kept.now len)
+    c.args.room c.in-Some.len told c.in-Some.ensures.within
 
 pub returns-in-Some-clause-salt : goal.returns-in-Some-clause-salt
 returns-in-Some-clause-salt c = λ _.
@@ -39,4 +39,5 @@ returns-in-None-clause-told c = λ h len.
     c.usual_parameters-parameters.ensures ∙ ap parameters_where c.row.ensures.names_len in
     let more = subst (λ (p : Parameters). 1024 < 0 + length (parts_text k p c.args.iterations
     c.args.salt.now c.args.kept.now)) usual c.in-None.ensures in
-    room_past k _ c.args.iterations c.args.salt.now c.args.room c.args.kept.now more h len
+    room_past _ _ (length-parts_text k _ c.args.iterations c.args.salt.now h c.args.kept.now len)
+    c.args.room more

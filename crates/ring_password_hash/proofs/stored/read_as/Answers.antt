@@ -33,7 +33,7 @@ pub returns-in_err-salt_len-clause-refused : goal.returns-in_err-salt_len-clause
 returns-in_err-salt_len-clause-refused c = λ _ h same e.
     let at = parts_at h same e in
     let read = c.in_ok-parameters.ensures.ok in
-    let head = head_read at.0 at.1 _ _ _ _ read.0 read.1 read.2 in
+    let head = head_read at.0 at.1 _ _ read.0 read.1 read.2 in
     let salt = c.row.ensures.salt in
     c.in_err-salt_len.ensures.refused refl h.salt (kept_text c.args.scheme h.kept) at.0.salt_bytes
     (salt_apart_by at.0 at.1 salt)
@@ -44,9 +44,9 @@ pub returns-then-not-is_salt-clause-refused : goal.returns-then-not-is_salt-clau
 returns-then-not-is_salt-clause-refused c = λ _ h same e.
     let at = parts_at h same e in
     let read = c.in_ok-parameters.ensures.ok in
-    let head = head_read at.0 at.1 _ _ _ _ read.0 read.1 read.2 in
+    let head = head_read at.0 at.1 _ _ read.0 read.1 read.2 in
     let found = c.in_ok-salt_len.ensures.ok in
-    let two = salt_read at.0 at.1 c.row.ensures.salt _ _ _ head.1 found.0
+    let two = salt_read at.0 at.1 c.row.ensures.salt head.1 found.0
     (bytes_front _ _ c.field_into.ensures.bytes) found.1 in
     let told = c.is_salt.ensures ∙ ap (is_salt c.args.scheme) two.0 ∙ at.0.salt in
     true≢false (sym told ∙ c.if-not-is_salt.true)
@@ -55,9 +55,9 @@ pub returns-then-not-kept_into-clause-refused : goal.returns-then-not-kept_into-
 returns-then-not-kept_into-clause-refused c = λ _ h same e.
     let at = parts_at h same e in
     let read = c.in_ok-parameters.ensures.ok in
-    let head = head_read at.0 at.1 _ _ _ _ read.0 read.1 read.2 in
+    let head = head_read at.0 at.1 _ _ read.0 read.1 read.2 in
     let found = c.in_ok-salt_len.ensures.ok in
-    let two = salt_read at.0 at.1 c.row.ensures.salt _ _ _ head.1 found.0
+    let two = salt_read at.0 at.1 c.row.ensures.salt head.1 found.0
     (bytes_front _ _ c.field_into.ensures.bytes) found.1 in
     c.kept_into.ensures.refused c.if-not-kept_into.true h.kept at.0.kept_bytes (sym head.0) two.1
 

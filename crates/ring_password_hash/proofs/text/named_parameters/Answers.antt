@@ -15,8 +15,8 @@ returns-in_err-len-clause-refused c = λ _ k p d n rest other small is e.
     let read = found.ensures.ok in
     let both : parameters_then k CountThenLen found.iterations (non_zero_u32_get found.len)
     found.rest.now ≡ parameters_then k p d n rest = sym read.0 ∙ e in
-    let same = named_same k {c = found.iterations} {d = d} read.1 small CountThenLen p count_then_len
-    other read.2 (named_small is) both in
+    let same = named_same k {c = found.iterations} {d = d} read.1 small CountThenLen p
+    (count_then_len, other) read.2 (named_small is) both in
     c.in_err-len.ensures.refused refl (subst (λ (m : ℕ). 10 ≤ m) (sym same.2) is.least)
     (subst (λ (m : ℕ). m ≤ 64) (sym same.2) is.most)
 
@@ -33,9 +33,8 @@ returns-in-Some-clause-ok c = λ k named.
     )
 
 pub returns-in_err-len-2-clause-refused : goal.returns-in_err-len-2-clause-refused
-returns-in_err-len-2-clause-refused c = λ _.
-    none_named c.args.text.now (c.in_default.ensures.refused refl)
-    (c.in_err-len-2.ensures.refused refl)
+returns-in_err-len-2-clause-refused c = λ _ k p d n rest.
+    none_named (c.in_default.ensures.refused refl) (c.in_err-len-2.ensures.refused refl) p d rest
 
 pub returns-in_err-len-3-clause-refused : goal.returns-in_err-len-3-clause-refused
 unfolding parameters_then
@@ -44,8 +43,8 @@ returns-in_err-len-3-clause-refused c = λ _ k p d n rest other small is e.
     let read = found.ensures.ok in
     let both : parameters_then k LenThenCount found.iterations (non_zero_u32_get found.len)
     found.rest.now ≡ parameters_then k p d n rest = sym read.0 ∙ e in
-    let same = named_same k {c = found.iterations} {d = d} read.2 small LenThenCount p len_then_count
-    other read.1 (named_small is) both in
+    let same = named_same k {c = found.iterations} {d = d} read.2 small LenThenCount p
+    (len_then_count, other) read.1 (named_small is) both in
     c.in_err-len-3.ensures.refused refl (subst (λ (m : ℕ). 10 ≤ m) (sym same.2) is.least)
     (subst (λ (m : ℕ). m ≤ 64) (sym same.2) is.most)
 

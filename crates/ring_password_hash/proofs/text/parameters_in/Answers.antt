@@ -27,6 +27,6 @@ pub returns-clause-refused : goal.returns-clause-refused
 returns-clause-refused c = λ none.
     let same = lone_as c.args.scheme c.row-row.ensures c.count_mark.ensures
     c.count_end-end.ensures.ok in
-    no_parameters c.args.scheme c.args.text.now
+    no_parameters
     (λ d rest small e. c.in_default.ensures.refused refl d rest small (e ∙ sym (same d rest)))
     (c.named_parameters.ensures.refused none c.args.scheme)

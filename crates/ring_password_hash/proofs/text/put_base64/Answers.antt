@@ -17,8 +17,8 @@ returns-in-Ok c =
       place = omega (arith, size, fit);
       within = omega (arith, fit);
       bytes = take-put c.args.at c.in-Ok.len (1024 - c.args.at) c.args.out.now
-          c.encode_slice.new.output (encode_of c.args.engine.now c.args.bytes.now) _
-          (c.in-Ok.ensures.written) (omega (arith, size, fit)) (omega arith);
+          (encode_of c.args.engine.now c.args.bytes.now) _
+          (c.in-Ok.ensures.written, omega (arith, size, fit)) (omega arith);
     }
 
 pub returns-in-Err : goal.returns-in-Err

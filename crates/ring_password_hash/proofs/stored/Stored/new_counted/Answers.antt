@@ -7,6 +7,10 @@ use Rattle.ring_password_hash.proofs.stored.Stored.new_counted.Goals as goal
 pub returns : goal.returns
 returns c =
     let row = c.row-row.ensures in
-    new_made _ c.args.room c.args.password.now c.args.salt.now c.in_ok-keep.ensures (search rules)
-    (search rules) (c.usual_parameters.ensures ∙ ap parameters_where row.names_len) (search rules)
-    refl row.kept_len (search rules) (search rules)
+    new_made c.in_ok-keep.ensures (record {
+      salt = search rules;
+      salt_len = refl;
+      kept = search rules;
+      kept_len = row.kept_len;
+      usual = c.usual_parameters.ensures ∙ ap parameters_where row.names_len;
+    }) (search rules) (search rules) (search rules)

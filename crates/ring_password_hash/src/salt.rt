@@ -1,7 +1,7 @@
 // SPDX-License-Identifier: ISC
 //! New salts, from a source of random bytes.
 
-ghost use Rattle.std.specs.Prelude.{◌≡◌, ◌↔◌, true, false, IfOk, IsErr, OnErr};
+ghost use Rattle.std.specs.Prelude.{◌≡◌, ◌↔◌, ◌/◌, ◌%◌, true, false, IfOk, IsErr, OnErr};
 ghost use Rattle.ring_password_hash.specs.Salt.{IsNext, letters, salt_bytes, salt_from};
 ghost use Rattle.ring_password_hash.specs.Scheme.{salt_encoding_of};
 ghost use Rattle.ring_password_hash.specs.Stored.{is_salt, is_text};
@@ -53,6 +53,24 @@ impl Salt {
     }
 }
 
+// How often 62 is in 2^64, of which 16 are left.
+const SIXTY_TWOS: u64 = 297_528_130_221_121_800;
+
+// The number divided by 62, and the rest. LLVM would call a function of the compiler's library for
+// a division of 128 bits, and the library for C calls none.
+fn divided(number: u128) -> (u128, usize)
+    ensures quotient { result.0 ≡ number / 62 }
+    ensures rest { result.1 ≡ number % 62 }
+{
+    let high = (number >> 64) as u64;
+    let low = (number % (1 << 64)) as u64;
+    let carried = high % 62;
+    let rest = 16 * carried + low % 62;
+    let front = ((high / 62) as u128) << 64;
+    let back = SIXTY_TWOS * carried + low / 62 + rest / 62;
+    (front + back as u128, (rest % 62) as usize)
+}
+
 // The lowest digits of the number to the base 62, the lowest first.
 fn letters(number: u128) -> [u8; TEXT_SALT_LEN]
     ensures { result ≡ letters TEXT_SALT_LEN number }
@@ -60,8 +78,9 @@ fn letters(number: u128) -> [u8; TEXT_SALT_LEN]
     let mut salt = [0; TEXT_SALT_LEN];
     let mut rest = number;
     'places: for i in 0..TEXT_SALT_LEN {
-        salt[i] = SYMBOLS[(rest % 62) as usize];
-        rest /= 62;
+        let (quotient, digit) = divided(rest);
+        salt[i] = SYMBOLS[digit];
+        rest = quotient;
     }
     salt
 }

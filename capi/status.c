@@ -9,7 +9,7 @@
  * its place needs no multiplication (`make exports`). */
 static const char TEXTS[][64] = {
     [YZ_OK] = "success",
-    [YZ_UNKNOWN_ALGORITHM] = "the number names no algorithm or kind of this call",
+    [YZ_UNKNOWN_ALGORITHM] = "the number names no algorithm or scheme of this call",
     [YZ_UNKNOWN_CONTEXT] = "the bytes can be no context or key",
     [YZ_NO_ITERATIONS] = "the number of iterations is 0",
     [YZ_WRONG_LENGTH] = "the output or a text has a wrong length",

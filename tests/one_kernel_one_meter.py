@@ -31,7 +31,8 @@ functions = functools.cache(lambda code: tuple(rattle_text.functions(code)))
 ROOT = pathlib.Path(__file__).resolve().parent.parent
 # How many places of a crate make a meter at most, where there are any: one a plain form; of the
 # bench one for each request that runs blocks; of the program `set` and `verify`; of `ring_sums` and
-# the calls for C those that name a width, which have no plain form; and callers.
+# the calls for C those that name a width, which have no plain form, and two plain forms; and
+# callers.
 METERS = {
     "ring_core": 4,
     "ring": 22,
@@ -42,7 +43,7 @@ METERS = {
     "ring_schedules": 2,
     "ring_sums": 1,
     "ring_examples": 10,
-    "ring_c": 3,
+    "ring_c": 5,
 }
 # The crate of the tests.
 NOT_SEARCHED = {"ring_tests"}
@@ -52,7 +53,7 @@ METERED = ("ring_core", "ring", "ring_store", "ring_password_hash")
 MAY_CALL_PLAIN = {("Key", "generate"), ("Okm", "into_key")}
 # The crates whose bodies call what runs blocks once, and the calls for C that derive a key.
 CALLED_ONCE = ("ring_passwords", "ring_c")
-DERIVES = ("derive_in", "verify_in", "new_in_place", "verify_in_place")
+DERIVES = ("derive_in", "verify_in", "new_counted", "verify_counted")
 # What loads the words of blocks and what counts these: that it counts as many is its contract. Each
 # family has one place that loads by each, and that runs the rounds and counts there: blocks of
 # bytes by the kernel with the schedule ahead, the others by the kernel over a window.
@@ -94,9 +95,8 @@ CONTEXT = SALT, f"use ring::digest::Context;\n{SALT}"
 KEY = SALT, f"use ring::hmac::Key;\n{SALT}"
 OTHER_KEY = "let _ = Other::new(ring::hmac::HMAC_SHA256, password);"
 STORED = "crates/ring_password_hash/src/stored.rt"
-C_VERIFY = "verify_in_place(password, text, max_iterations)"
-C_VERIFY_FIRST = "verify_in_place(password, text, u32::MAX)"
-C_PASSWORDS = "crates/ring_c/src/password_hashes.rt", C_VERIFY
+C_PASSWORDS = "crates/ring_c/src/password_hashes.rt"
+C_VERIFY = "    status_from(verify_counted(text, password, max_iterations, meter))\n"
 FINISHED = "crates/ring_schedules/src/tls13/traffic.rt"
 
 
@@ -216,16 +216,35 @@ PLANTED = {
         "    if !kept_into(scheme, rest, kept_len, &mut kept) {\n",
         "let _ = pbkdf2::verify(scheme.row().algorithm, iterations, &salt, rest, &kept);",
     ),
-    "`yz_password_hash_verify` tests a text with no limit first": (
-        ONCE, *C_PASSWORDS, f"{{ let _ = {C_VERIFY_FIRST}; {C_VERIFY} }}"
+    "`yz_password_hash_verify` tests a text with no limit first": before(
+        ONE_CALL,
+        C_PASSWORDS,
+        "    yz_password_hash_verify_counted(text, password, max_iterations, &mut Meter::new())\n",
+        "let _ = verify(text, password, u32::MAX);",
     ),
-    "`yz_password_hash_verify` tests a text with no limit first, by another function": (
-        ONE_DERIVATION, *C_PASSWORDS, f"{{ early(password, text); {C_VERIFY} }}", SALT,
-        f"{SALT}fn early(password: &[u8], text: &[u8]) {{ let _ = {C_VERIFY_FIRST}; }}\n",
+    "`yz_password_hash_verify_counted` tests a text with no limit first, by a plain form": before(
+        NO_OTHER_METER,
+        C_PASSWORDS,
+        C_VERIFY,
+        "let _ = ring_password_hash::verify(text, password, u32::MAX);",
     ),
-    "`yz_password_hash_verify` tests a text twice, in a loop": (
-        ONE_DERIVATION, *C_PASSWORDS,
-        f"{{ let mut it = Ok(()); for _ in 0..2 {{ it = {C_VERIFY}; }} it }}",
+    "`yz_password_hash_verify_counted` tests a text first, by another function": (
+        *before(ONE_DERIVATION, C_PASSWORDS, C_VERIFY, "early(text, password);"),
+        SALT,
+        f"{SALT}fn early(text: &[u8], password: &[u8]) {{\n"
+        "    let _ = verify_counted(text, password, u32::MAX, &mut Meter::new());\n}\n",
+    ),
+    "`yz_password_hash_verify_counted` tests a text twice, in a loop": before(
+        ONE_DERIVATION,
+        C_PASSWORDS,
+        C_VERIFY,
+        "for _ in 0..2 { let _ = verify_counted(text, password, max_iterations, meter); }",
+    ),
+    "`yz_password_hash_new` derives before it refuses": before(
+        ONE_CALL,
+        C_PASSWORDS,
+        "    yz_password_hash_new_counted(\n",
+        "let _ = ring::pbkdf2::derive(PBKDF2_HMAC_SHA256, iterations, salt, password, &mut [0]);",
     ),
     "`verify` of the program's texts derives twice": before(
         ONCE,

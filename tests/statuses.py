@@ -20,7 +20,7 @@ import sys
 
 ROOT = pathlib.Path(__file__).resolve().parent.parent
 STATUS = "crates/ring_c/specs/Status.antt"
-NEW_HASH = "crates/ring_password_hash/specs/New.antt"
+HASHES = "crates/ring_c/specs/PasswordHashes.antt"
 HEADER = "capi/include/yezdopin.h"
 PAGE = "capi/man/yezdopin.3"
 README = "capi/README.md"
@@ -60,7 +60,7 @@ PLANTED = (
 
 def texts_of_repository():
     """The files that tell of statuses, each with its text."""
-    names = {STATUS, NEW_HASH, HEADER, PAGE, README, TEXTS}
+    names = {STATUS, HASHES, HEADER, PAGE, README, TEXTS}
     for folder, pattern in FOLDERS.items():
         names |= {str(it.relative_to(ROOT)) for it in (ROOT / folder).glob(pattern)}
     return {name: (ROOT / name).read_text() for name in sorted(names)}
@@ -153,7 +153,7 @@ def rust_faults(texts):
 
 def length_faults(texts):
     """The longest text."""
-    longest = numbers(texts[NEW_HASH], r"^max_text_len = (\d+)$")
+    longest = numbers(texts[HASHES], r"^max_text_len = (\d+)$")
     for place, pattern in (
         (HEADER, r"^#define YZ_MAX_PASSWORD_HASH_LEN (\d+)$"),
         (PAGE, r"^\.BR YZ_MAX_PASSWORD_HASH_LEN ,\n(\d+), bytes"),

@@ -58,7 +58,7 @@ enum {
 typedef int32_t yz_status;
 enum {
     YZ_OK = 0,                  /* success */
-    YZ_UNKNOWN_ALGORITHM = 1,   /* the number names no algorithm or kind of this call */
+    YZ_UNKNOWN_ALGORITHM = 1,   /* the number names no algorithm or scheme of this call */
     YZ_UNKNOWN_CONTEXT = 2,     /* the bytes can be no context or key */
     YZ_NO_ITERATIONS = 3,       /* the number of iterations is 0 */
     YZ_WRONG_LENGTH = 4,        /* the output or a text has a wrong length */
@@ -242,20 +242,13 @@ yz_status yz_pbkdf2_verify(uint32_t algorithm, uint32_t iterations,
                            const uint8_t *secret, size_t secret_len,
                            const uint8_t *derived, size_t derived_len) YZ_MUST_CHECK;
 
-/* Tests a password against the text of a hash by PBKDF2, as Django, Werkzeug, RustCrypto's PHC
- * strings, Mosquitto and passlib have it. Answers YZ_OK exactly where the hash is the password's.
+/* Password hashes by PBKDF2 as other systems keep them: Django, Werkzeug, RustCrypto's PHC strings,
+ * Mosquitto, passlib, and PostgreSQL, whose text has the two keys of SCRAM. These are the schemes,
+ * for `uint32_t scheme`. A text is no secret to these calls; the password is.
  *
- * A text of more than YZ_MAX_PASSWORD_HASH_LEN bytes is answered by YZ_WRONG_LENGTH. One that is no
- * hash's is answered by YZ_BAD_FORMAT, and one that names more than `max_iterations` by
- * YZ_TOO_MANY_ITERATIONS, both before the password is read. Another password, and one that is too
- * long, is answered by YZ_UNSPECIFIED. The text of a hash is no secret to this call; the password
- * is. */
+ * Under YZ_POSTGRESQL the caller prepares a password that is not ASCII by SASLprep (RFC 4013), as
+ * PostgreSQL does: no call does so here. */
 #define YZ_MAX_PASSWORD_HASH_LEN 1024
-yz_status yz_password_hash_verify(const char *text, size_t text_len,
-                                  const uint8_t *password, size_t password_len,
-                                  uint32_t max_iterations) YZ_MUST_CHECK;
-
-/* The kinds of such hashes, for `uint32_t kind`. */
 enum {
     YZ_DJANGO_SHA256 = 1,
     YZ_DJANGO_SHA1 = 2,
@@ -267,19 +260,49 @@ enum {
     YZ_PASSLIB_SHA1 = 8,
     YZ_PASSLIB_SHA256 = 9,
     YZ_PASSLIB_SHA512 = 10,
+    YZ_POSTGRESQL = 11,
+    YZ_WERKZEUG_SHA1 = 12,
 };
+
+/* Tests a password against the text of a hash, of whichever scheme. Answers YZ_OK exactly where the
+ * hash is the password's.
+ *
+ * A text of more than YZ_MAX_PASSWORD_HASH_LEN bytes is answered by YZ_WRONG_LENGTH. One that is no
+ * hash's is answered by YZ_BAD_FORMAT, and one that names more than `max_iterations` by
+ * YZ_TOO_MANY_ITERATIONS, all before anything is derived: whoever wrote the text chose its
+ * iterations, and 4294967295 of them take an hour. Another password, and one that is too long, is
+ * answered by YZ_UNSPECIFIED. */
+yz_status yz_password_hash_verify(const char *text, size_t text_len,
+                                  const uint8_t *password, size_t password_len,
+                                  uint32_t max_iterations) YZ_MUST_CHECK;
+
+/* Writes of which scheme a text is, and how many iterations it names, so that a password can be
+ * hashed anew at a login where the caller wants another scheme or more iterations. It derives
+ * nothing. A text is answered by YZ_WRONG_LENGTH and YZ_BAD_FORMAT as above. */
+yz_status yz_password_hash_info(const char *text, size_t text_len,
+                                uint32_t *scheme, uint32_t *iterations) YZ_MUST_CHECK;
+
+/* Writes a salt for a new hash of a scheme to the start of `salt`, which has `salt_room` bytes, and
+ * to `salt_len` how many bytes it has: 22 letters and digits for Django and Werkzeug, which write
+ * it as it is, and else the random bytes themselves. The rest of `salt` is unchanged.
+ *
+ * `random` is YZ_SALT_RANDOM_LEN bytes of a generator of random numbers, or the call answers
+ * YZ_UNSPECIFIED. A number that names no scheme is answered by YZ_UNKNOWN_ALGORITHM, and a salt that
+ * is longer than `salt_room` by YZ_WRONG_LENGTH. */
+#define YZ_SALT_RANDOM_LEN 16
+#define YZ_MAX_SALT_LEN 22
+yz_status yz_password_hash_salt(uint32_t scheme, const uint8_t *random, size_t random_len,
+                                uint8_t *salt, size_t salt_room, size_t *salt_len) YZ_MUST_CHECK;
 
 /* Writes the hash of a password to the start of `text`, which has `text_room` bytes, and to
  * `text_len` how many bytes it has. No zero follows it, and the rest of `text` is unchanged.
  *
- * The salt should be random, and of this hash alone: Django and Werkzeug take 22 letters and
- * digits, and the others 16 bytes. An empty one is answered by YZ_BAD_SALT, and so is one with a
- * dollar sign for Django and Werkzeug, which write it as it is. A number that names no kind is
- * answered by YZ_UNKNOWN_ALGORITHM, and a text that is longer than `text_room` or than
- * YZ_MAX_PASSWORD_HASH_LEN by YZ_WRONG_LENGTH. The text is no secret to this call; the password
- * is. The order is iterations, salt, password, as of PBKDF2; a test has the text and then the
- * password. */
-yz_status yz_password_hash_new(uint32_t kind, uint32_t iterations,
+ * The salt should be random, and of this hash alone: yz_password_hash_salt makes one. An empty one
+ * is answered by YZ_BAD_SALT, and so is one with a dollar sign for Django and Werkzeug. A number
+ * that names no scheme is answered by YZ_UNKNOWN_ALGORITHM, and a text that is longer than
+ * `text_room` or than YZ_MAX_PASSWORD_HASH_LEN by YZ_WRONG_LENGTH. The order is iterations, salt,
+ * password, as of PBKDF2; a test has the text and then the password. */
+yz_status yz_password_hash_new(uint32_t scheme, uint32_t iterations,
                                const uint8_t *salt, size_t salt_len,
                                const uint8_t *password, size_t password_len,
                                char *text, size_t text_room, size_t *text_len) YZ_MUST_CHECK;

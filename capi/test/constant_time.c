@@ -161,10 +161,13 @@ static void derivations(uint32_t n) {
 static void password_hashes(void) {
     static const char hash[] = "$7$3$AAECAwQFBgcICQoL$cJ75j/0MokIxIQCU/t1k7JBGVfwD3W1st+OyLYF0EzgR"
                                "LNjRyexylNuHrNThmUCWBWt20yys3R1zS31q5smg/w==";
+    static const char keys[] = "SCRAM-SHA-256$3:AAECAwQFBgcICQoLDA0ODw==$7xyJ1HnA2mtSyupYnfwfyMN/"
+                               "J3bBFnm1azxiuCq93cA=:2gGHDOt/fKGk7q0t853S5/tlrW2XzQkPg60ChUqH8m4=";
     begin();
     for (size_t i = 0; i < LENGTHS; i++) {
         hide_all();
         is(yz_password_hash_verify(hash, sizeof hash - 1, key, LEN[i], 3), YZ_UNSPECIFIED);
+        is(yz_password_hash_verify(keys, sizeof keys - 1, key, LEN[i], 3), YZ_UNSPECIFIED);
     }
     end("password against a hash", 0, false);
 }

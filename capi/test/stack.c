@@ -23,12 +23,15 @@ static uint32_t n;
 static int call;
 static const char hash[] = "$7$101$AAECAwQFBgcICQoL$cJ75j/0MokIxIQCU/t1k7JBGVfwD3W1st+OyLYF0EzgR"
                            "LNjRyexylNuHrNThmUCWBWt20yys3R1zS31q5smg/w==";
+static const char keys[] = "SCRAM-SHA-256$1000:AAECAwQFBgcICQoLDA0ODw==$7xyJ1HnA2mtSyupYnfwfyMN/"
+                           "J3bBFnm1azxiuCq93cA=:2gGHDOt/fKGk7q0t853S5/tlrW2XzQkPg60ChUqH8m4=";
 static char text[YZ_MAX_PASSWORD_HASH_LEN];
 static const char password[] = "correct horse battery staple";
 
 /* Runs one call on long inputs: a key past a block, several blocks, several rounds. */
 static void run(void) {
     size_t len = yz_output_len(n), text_len;
+    uint32_t scheme, iterations;
     yz_status status = YZ_OK;
     switch (call) {
     case 0: status = yz_digest(n, bytes, 400, out, len); break;
@@ -60,6 +63,18 @@ static void run(void) {
         status = yz_password_hash_new(YZ_MOSQUITTO, 3, bytes, 300, bytes, 400, text, sizeof text,
                                       &text_len);
         break;
+    case 21:
+        status = yz_password_hash_verify(keys, sizeof keys - 1, (const uint8_t *)password,
+                                         sizeof password - 1, 1000);
+        break;
+    case 22:
+        status = yz_password_hash_new(YZ_POSTGRESQL, 3, bytes, 300, bytes, 400, text, sizeof text,
+                                      &text_len);
+        break;
+    case 23: status = yz_password_hash_info(keys, sizeof keys - 1, &scheme, &iterations); break;
+    case 24:
+        status = yz_password_hash_salt(YZ_DJANGO_SHA256, bytes, 16, out, sizeof out, &text_len);
+        break;
     }
     if (status != YZ_OK) printf("call %d of algorithm %u answers %d\n", call, n, status);
 }
@@ -67,7 +82,7 @@ static void run(void) {
 int main(void) {
     static size_t most;
     for (n = YZ_SHA1; n <= YZ_SHA512; n++)
-        for (call = 0; call <= 20; call++) {
+        for (call = 0; call <= 24; call++) {
             static ucontext_t back, there;
             memset(stack, PAINT, ROOM);
             if (getcontext(&there)) return 2;

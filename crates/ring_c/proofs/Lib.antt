@@ -1,2 +1,3 @@
 -- SPDX-License-Identifier: ISC
 mod Written
+mod Salts

@@ -5,5 +5,5 @@ pub mod Each
 pub mod Label
 pub mod Verified
 pub mod Status
-pub mod NewHash
+pub mod PasswordHashes
 pub mod Version

@@ -1,5 +1,5 @@
 -- SPDX-License-Identifier: ISC
--- The numbers by which C names algorithms, beside those of digests, and kinds of password hashes.
+-- The numbers by which C names algorithms, beside those of digests, and schemes of password hashes.
 use Rattle.std.specs.Prelude.{ℕ, zero, suc, Option, Some, None, if◌then◌else◌, nat_eq}
 use Rattle.ring.specs.declared.hkdf.algorithm.Algorithm as hkdf
 use Rattle.ring.specs.declared.hkdf.algorithm.TheConstants.{HKDF_SHA1_FOR_LEGACY_USE_ONLY}
@@ -13,12 +13,14 @@ use Rattle.ring.specs.declared.pbkdf2.algorithm.TheConstants.{PBKDF2_HMAC_SHA384
 use Rattle.ring.specs.declared.pbkdf2.algorithm.TheConstants.{PBKDF2_HMAC_SHA512}
 use native.Mathlib.Nat.{zero-lt-suc}
 use Rattle.std.specs.declared.num.NonZeroU32.{NonZeroU32}
-use Rattle.ring_password_hash.specs.declared.kind.Kind.{Kind}
-use Rattle.ring_password_hash.specs.declared.kind.Kind.TheVariants.{DjangoSha256, DjangoSha1}
-use Rattle.ring_password_hash.specs.declared.kind.Kind.TheVariants.{WerkzeugSha256, WerkzeugSha512}
-use Rattle.ring_password_hash.specs.declared.kind.Kind.TheVariants.{PhcSha256, PhcSha512, Mosquitto}
-use Rattle.ring_password_hash.specs.declared.kind.Kind.TheVariants.{PasslibSha1, PasslibSha256}
-use Rattle.ring_password_hash.specs.declared.kind.Kind.TheVariants.{PasslibSha512}
+use Rattle.ring_password_hash.specs.declared.scheme.Scheme.{Scheme}
+use Rattle.ring_password_hash.specs.declared.scheme.Scheme.TheVariants.{DjangoSha256, DjangoSha1}
+use Rattle.ring_password_hash.specs.declared.scheme.Scheme.TheVariants.{WerkzeugSha256}
+use Rattle.ring_password_hash.specs.declared.scheme.Scheme.TheVariants.{WerkzeugSha512, PhcSha256}
+use Rattle.ring_password_hash.specs.declared.scheme.Scheme.TheVariants.{PhcSha512, Mosquitto}
+use Rattle.ring_password_hash.specs.declared.scheme.Scheme.TheVariants.{PasslibSha1, PasslibSha256}
+use Rattle.ring_password_hash.specs.declared.scheme.Scheme.TheVariants.{PasslibSha512, Postgresql}
+use Rattle.ring_password_hash.specs.declared.scheme.Scheme.TheVariants.{WerkzeugSha1}
 
 -- what the first four numbers name, of four values
 abbrev pub named : {A : Type 0} → (sha1 sha256 sha384 sha512 : A) → ℕ → Option A
@@ -41,9 +43,9 @@ hkdf_named = named HKDF_SHA1_FOR_LEGACY_USE_ONLY HKDF_SHA256 HKDF_SHA384 HKDF_SH
 abbrev pub pbkdf2_named : ℕ → Option pbkdf2.Algorithm
 pbkdf2_named = named PBKDF2_HMAC_SHA1 PBKDF2_HMAC_SHA256 PBKDF2_HMAC_SHA384 PBKDF2_HMAC_SHA512
 
--- the kind of password hashes of a number
-abbrev pub kind_named : ℕ → Option Kind
-kind_named number =
+-- the scheme of password hashes of a number
+abbrev pub scheme_named : ℕ → Option Scheme
+scheme_named number =
     if nat_eq number 1 then Some DjangoSha256
     else if nat_eq number 2 then Some DjangoSha1
     else if nat_eq number 3 then Some WerkzeugSha256
@@ -54,6 +56,8 @@ kind_named number =
     else if nat_eq number 8 then Some PasslibSha1
     else if nat_eq number 9 then Some PasslibSha256
     else if nat_eq number 10 then Some PasslibSha512
+    else if nat_eq number 11 then Some Postgresql
+    else if nat_eq number 12 then Some WerkzeugSha1
     else None
 
 -- an iteration count: any number but 0

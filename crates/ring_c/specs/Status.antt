@@ -72,12 +72,16 @@ abbrev pub status_of : {A : Type 0} → (unknown : ℤ) → Option A → (A → 
 status_of unknown None causes = unknown
 status_of unknown (Some a) causes = first_of (causes a)
 
--- the status for what a test of a password answers
+-- the status for why a call of a password hash is refused
+abbrev pub status_of_error : HashError → ℤ
+status_of_error hash.NoRoom = YZ_WRONG_LENGTH
+status_of_error hash.BadFormat = YZ_BAD_FORMAT
+status_of_error hash.TooManyIterations = YZ_TOO_MANY_ITERATIONS
+status_of_error hash.BadSalt = YZ_BAD_SALT
+status_of_error hash.WrongPassword = YZ_UNSPECIFIED
+status_of_error hash.TooLong = YZ_UNSPECIFIED
+
+-- the same where it may succeed
 abbrev pub status_from : Result (Unit {0}) HashError → ℤ
 status_from (Ok _) = YZ_OK
-status_from (Err hash.BadFormat) = YZ_BAD_FORMAT
-status_from (Err hash.TooManyIterations) = YZ_TOO_MANY_ITERATIONS
-status_from (Err hash.BadSalt) = YZ_UNSPECIFIED
-status_from (Err hash.TooLong) = YZ_UNSPECIFIED
-status_from (Err hash.WrongPassword) = YZ_UNSPECIFIED
-status_from (Err hash.Memory) = YZ_UNSPECIFIED
+status_from (Err error) = status_of_error error

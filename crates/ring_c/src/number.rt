@@ -1,13 +1,13 @@
 // SPDX-License-Identifier: ISC
-//! Algorithms by their numbers, which are those of the digest algorithms below them, and kinds of
+//! Algorithms by their numbers, which are those of the digest algorithms below them, and schemes of
 //! password hashes by theirs.
 
-ghost use Rattle.std.specs.Prelude.{◌≡◌};
-ghost use Rattle.ring_c.specs.Number.{count_named, hkdf_named, hmac_named, kind_named};
-ghost use Rattle.ring_c.specs.Number.{pbkdf2_named};
+ghost use Rattle.std.specs.Prelude.{◌≡◌, Some};
+ghost use Rattle.ring_c.specs.Number.{count_named, hkdf_named, hmac_named, pbkdf2_named};
+ghost use Rattle.ring_c.specs.Number.{scheme_named};
 
 use ring::{hkdf, hmac, pbkdf2};
-use ring_password_hash::Kind;
+use ring_password_hash::Scheme;
 use std::num::NonZeroU32;
 
 // The HMAC algorithm of a number.
@@ -49,22 +49,44 @@ pub(crate) fn pbkdf2_of_number(number: u32) -> Option<pbkdf2::Algorithm>
     }
 }
 
-// The kind of password hashes of a number.
-pub(crate) fn kind_of_number(number: u32) -> Option<Kind>
-    ensures { result ≡ kind_named number }
+// The scheme of password hashes of a number.
+pub(crate) fn scheme_of_number(number: u32) -> Option<Scheme>
+    ensures { result ≡ scheme_named number }
 {
     match number {
-        1 => Some(Kind::DjangoSha256),
-        2 => Some(Kind::DjangoSha1),
-        3 => Some(Kind::WerkzeugSha256),
-        4 => Some(Kind::WerkzeugSha512),
-        5 => Some(Kind::PhcSha256),
-        6 => Some(Kind::PhcSha512),
-        7 => Some(Kind::Mosquitto),
-        8 => Some(Kind::PasslibSha1),
-        9 => Some(Kind::PasslibSha256),
-        10 => Some(Kind::PasslibSha512),
+        1 => Some(Scheme::DjangoSha256),
+        2 => Some(Scheme::DjangoSha1),
+        3 => Some(Scheme::WerkzeugSha256),
+        4 => Some(Scheme::WerkzeugSha512),
+        5 => Some(Scheme::PhcSha256),
+        6 => Some(Scheme::PhcSha512),
+        7 => Some(Scheme::Mosquitto),
+        8 => Some(Scheme::PasslibSha1),
+        9 => Some(Scheme::PasslibSha256),
+        10 => Some(Scheme::PasslibSha512),
+        11 => Some(Scheme::Postgresql),
+        12 => Some(Scheme::WerkzeugSha1),
         _ => None,
+    }
+}
+
+// The number of a scheme.
+pub(crate) fn number_of_scheme(scheme: Scheme) -> u32
+    ensures { scheme_named result ≡ Some scheme }
+{
+    match scheme {
+        Scheme::DjangoSha256 => 1,
+        Scheme::DjangoSha1 => 2,
+        Scheme::WerkzeugSha256 => 3,
+        Scheme::WerkzeugSha512 => 4,
+        Scheme::PhcSha256 => 5,
+        Scheme::PhcSha512 => 6,
+        Scheme::Mosquitto => 7,
+        Scheme::PasslibSha1 => 8,
+        Scheme::PasslibSha256 => 9,
+        Scheme::PasslibSha512 => 10,
+        Scheme::Postgresql => 11,
+        Scheme::WerkzeugSha1 => 12,
     }
 }
 

@@ -1,40 +1,80 @@
 // SPDX-License-Identifier: ISC
 //! Passwords, tested against hashes as other systems keep them, and new hashes.
 
-ghost use Rattle.std.specs.Prelude.{◌≡◌, ◌≢◌, ◌↔◌, ◌<◌, ◌≤◌, ◌++◌, drop, length, nat_lt, not};
-ghost use Rattle.std.specs.Prelude.{Ok, Some};
+ghost use Rattle.std.specs.Prelude.{◌≡◌, ◌≢◌, ◌==◌, ◌↔◌, ◌<◌, ◌≤◌, ◌++◌, drop, length, nat_lt, not};
+ghost use Rattle.std.specs.Prelude.{Some, true};
 ghost use Rattle.std.specs.Int.NonZero.{non_zero_u32_get};
 ghost use Rattle.std.specs.declared.num.NonZeroU32.{NonZeroU32};
-ghost use Rattle.ring_password_hash.specs.Hash.{IsReadWhere, is_hash_of};
-ghost use Rattle.ring_password_hash.specs.New.{max_text_len, new_text};
-ghost use Rattle.ring_password_hash.specs.declared.kind.Kind.{Kind};
-ghost use Rattle.ring_c.specs.NewHash.{new_causes};
-ghost use Rattle.ring_c.specs.Number.{count_named, kind_named};
+ghost use Rattle.ring_password_hash.specs.Stored.{IsReadWhere, IsStored, IsTextOf, Parts};
+ghost use Rattle.ring_password_hash.specs.Stored.{is_salt, meter_of, parts_of, text_of};
+ghost use Rattle.ring_password_hash.specs.declared.scheme.Scheme.{Scheme};
+ghost use Rattle.ring_c.specs.Number.{count_named, scheme_named};
+ghost use Rattle.ring_c.specs.PasswordHashes.{max_text_len, new_causes, new_cost, new_salt};
+ghost use Rattle.ring_c.specs.PasswordHashes.{new_salt_len, new_text, salt_random_len};
+ghost use Rattle.ring_c.specs.PasswordHashes.{test_causes};
 ghost use Rattle.ring_c.specs.Status.{YZ_BAD_FORMAT, YZ_OK, YZ_UNKNOWN_ALGORITHM};
-ghost use Rattle.ring_c.specs.Status.{YZ_WRONG_LENGTH, first_of, no_cause, status_from, status_of};
+ghost use Rattle.ring_c.specs.Status.{YZ_WRONG_LENGTH, first_of, no_cause, status_of};
+ghost use Rattle.ring_c.specs.Status.{status_from, status_of_error};
 
-use crate::number::{count_of_number, kind_of_number};
+use crate::number::{count_of_number, number_of_scheme, scheme_of_number};
 use crate::status::{
     BAD_FORMAT, BAD_SALT, NO_ITERATIONS, OK, TOO_MANY_ITERATIONS, UNKNOWN_ALGORITHM, UNSPECIFIED,
     WRONG_LENGTH,
 };
-use ring_password_hash::{HashError, Kind, MAX_TEXT_LEN, NewError, new_in_place, verify_in_place};
+use ring::cost::Meter;
+use ring_password_hash::laws::one_text_is_of_one_value;
+use ring_password_hash::salt::{RANDOM_LEN, Salt, TEXT_SALT_LEN};
+use ring_password_hash::{Encoding, HashError, MAX_TEXT_LEN, Scheme, Stored, verify_counted};
 use std::num::NonZeroU32;
 
-// The status for what a test of a password answers.
+// The status for why a call is refused.
+fn status_of_error(error: HashError) -> i32
+    ensures { result ≡ status_of_error error }
+{
+    match error {
+        HashError::NoRoom => WRONG_LENGTH,
+        HashError::BadFormat => BAD_FORMAT,
+        HashError::TooManyIterations => TOO_MANY_ITERATIONS,
+        HashError::BadSalt => BAD_SALT,
+        HashError::WrongPassword => UNSPECIFIED,
+        HashError::TooLong => UNSPECIFIED,
+    }
+}
+
+// The same where it may succeed.
 fn status_from(answer: Result<(), HashError>) -> i32
     ensures { result ≡ status_from answer }
 {
     match answer {
         Ok(()) => OK,
-        Err(HashError::BadFormat) => BAD_FORMAT,
-        Err(HashError::TooManyIterations) => TOO_MANY_ITERATIONS,
-        Err(_) => UNSPECIFIED,
+        Err(error) => status_of_error(error),
     }
 }
 
-/// Returns 0 exactly if `text` is a password hash of Django, Werkzeug, RustCrypto, Mosquitto or
-/// passlib with at most `max_iterations` iterations, and the hash is that of `password`.
+// Tests a password as `yz_password_hash_verify` does. `meter` counts the blocks and the compared
+// pairs of bytes.
+fn yz_password_hash_verify_counted(
+    text: &[u8],
+    password: &[u8],
+    max_iterations: u32,
+    meter: &mut Meter,
+) -> i32
+    ensures wrong_length { result ≡ YZ_WRONG_LENGTH ↔ max_text_len < length text.now }
+    ensures status { length text.now ≤ max_text_len → IsReadWhere text.now (λ found.
+        result ≡ status_of YZ_BAD_FORMAT found (test_causes password.now max_iterations)) }
+    ensures cost { IsReadWhere text.now (λ found.
+        meter.new ≡ meter_of found password.now max_iterations meter.old) }
+{
+    if text.len() > MAX_TEXT_LEN {
+        return WRONG_LENGTH;
+    }
+    status_from(verify_counted(text, password, max_iterations, meter))
+}
+
+/// Returns 0 exactly if `text` is a password hash of Django, Werkzeug, RustCrypto, Mosquitto,
+/// passlib or PostgreSQL with at most `max_iterations` iterations, and the hash is that of
+/// `password`. For PostgreSQL a password that is not ASCII is to be prepared first (SASLprep, RFC
+/// 4013).
 ///
 /// Refused as `WRONG_LENGTH` exactly if `text` has more than 1024 bytes; else as `BAD_FORMAT`
 /// exactly if no hash has this text; else as `TOO_MANY_ITERATIONS` exactly if its count is above
@@ -44,75 +84,216 @@ fn status_from(answer: Result<(), HashError>) -> i32
 pub extern "C" fn yz_password_hash_verify(text: &[u8], password: &[u8], max_iterations: u32) -> i32
     ensures wrong_length { result ≡ YZ_WRONG_LENGTH ↔ max_text_len < length text.now }
     ensures status { length text.now ≤ max_text_len → IsReadWhere text.now (λ found.
-        result ≡ status_of YZ_BAD_FORMAT found (λ h. record no_cause {
-          too_many_iterations = nat_lt max_iterations (non_zero_u32_get h.iterations);
-          unspecified = not (is_hash_of h password.now);
-        })) }
+        result ≡ status_of YZ_BAD_FORMAT found (test_causes password.now max_iterations)) }
 {
-    if text.len() > MAX_TEXT_LEN {
-        return WRONG_LENGTH;
-    }
-    status_from(verify_in_place(password, text, max_iterations))
+    yz_password_hash_verify_counted(text, password, max_iterations, &mut Meter::new())
 }
 
-// Writes the text of a new hash of the kind.
+/// Writes to `scheme` the number of the scheme of `text`, and to `iterations` its iteration count.
+/// No block is run.
+///
+/// Refused as `WRONG_LENGTH` exactly if `text` has more than 1024 bytes; else as `BAD_FORMAT`
+/// exactly if no hash has this text. `scheme` and `iterations` are then unchanged.
+#[unsafe(no_mangle)]
+pub extern "C" fn yz_password_hash_info(text: &[u8], scheme: &mut u32, iterations: &mut u32) -> i32
+    ensures ok { (h : Parts) → IsTextOf h text.now → (result ≡ YZ_OK)
+        × (scheme_named scheme.new ≡ Some h.scheme)
+        × (iterations.new ≡ non_zero_u32_get h.iterations) }
+    ensures wrong_length { result ≡ YZ_WRONG_LENGTH ↔ max_text_len < length text.now }
+    ensures status { length text.now ≤ max_text_len → IsReadWhere text.now (λ found.
+        result ≡ status_of YZ_BAD_FORMAT found (λ h. no_cause)) }
+    ensures unchanged { result ≢ YZ_OK
+        → (scheme.new ≡ scheme.old) × (iterations.new ≡ iterations.old) }
+{
+    one_text_is_of_one_value();
+    match Stored::parse(text) {
+        Ok(stored) => {
+            *scheme = number_of_scheme(stored.scheme());
+            *iterations = stored.iterations().get();
+            OK
+        }
+        Err(_) if text.len() > MAX_TEXT_LEN => WRONG_LENGTH,
+        Err(error) => status_of_error(error),
+    }
+}
+
+// The bytes of a new salt of the scheme.
+fn new_salt_len(scheme: Scheme) -> usize
+    ensures { result ≡ new_salt_len scheme }
+{
+    if scheme.row().salt == Encoding::Plain {
+        TEXT_SALT_LEN
+    } else {
+        RANDOM_LEN
+    }
+}
+
+// Writes a new salt of the scheme to the start of `out`.
+fn write_salt(scheme: Scheme, random: &[u8], out: &mut [u8])
+    requires random { length random.now ≡ salt_random_len }
+    requires room { new_salt_len scheme ≤ length out.old }
+    ensures ok { out.new ≡ new_salt scheme random.now ++ drop (new_salt_len scheme) out.old }
+    ensures usable { is_salt scheme (new_salt scheme random.now) ≡ true }
+{
+    let mut own = [0; RANDOM_LEN];
+    own.copy_from_slice(random);
+    let salt = Salt::of(scheme, own);
+    let bytes = salt.as_ref();
+    out[..bytes.len()].copy_from_slice(bytes);
+}
+
+/// Writes to the start of `salt` a salt for a new hash of the scheme of the number `scheme`, made
+/// of `random`, and to `salt_len` how many bytes it has: 22 letters and digits for Django and
+/// Werkzeug, and else the 16 bytes themselves. The rest of `salt` is unchanged.
+///
+/// Refused as `UNKNOWN_ALGORITHM` exactly if the number names no scheme; else as `WRONG_LENGTH`
+/// exactly if the salt is longer than `salt`; else as `UNSPECIFIED` exactly if `random` has not 16
+/// bytes. `salt` and `salt_len` are then unchanged.
+#[unsafe(no_mangle)]
+pub extern "C" fn yz_password_hash_salt(
+    scheme: u32,
+    random: &[u8],
+    salt: &mut [u8],
+    salt_len: &mut usize,
+) -> i32
+    ensures ok { (k : Scheme) → scheme_named scheme ≡ Some k → result ≡ YZ_OK
+        → (salt.new ≡ new_salt k random.now ++ drop (new_salt_len k) salt.old)
+        × (salt_len.new ≡ new_salt_len k) }
+    ensures usable { (k : Scheme) → scheme_named scheme ≡ Some k → result ≡ YZ_OK
+        → is_salt k (new_salt k random.now) ≡ true }
+    ensures status { result ≡ status_of YZ_UNKNOWN_ALGORITHM (scheme_named scheme) (λ k.
+        record no_cause {
+          wrong_length = nat_lt (length salt.old) (new_salt_len k);
+          unspecified = not (length random.now == salt_random_len);
+        }) }
+    ensures unchanged { result ≢ YZ_OK → (salt.new ≡ salt.old) × (salt_len.new ≡ salt_len.old) }
+{
+    let Some(scheme) = scheme_of_number(scheme) else {
+        return UNKNOWN_ALGORITHM;
+    };
+    let len = new_salt_len(scheme);
+    if salt.len() < len {
+        return WRONG_LENGTH;
+    }
+    if random.len() != RANDOM_LEN {
+        return UNSPECIFIED;
+    }
+    write_salt(scheme, random, salt);
+    *salt_len = len;
+    OK
+}
+
+// Writes the text of a value to the start of `text`, and returns how many bytes it has.
+fn write_text(stored: &Stored, text: &mut [u8]) -> usize
+    requires stands { IsStored stored.now }
+    requires room { length (text_of (parts_of stored.now)) ≤ length text.old }
+    ensures ok { text.new ≡ text_of (parts_of stored.now)
+        ++ drop (length (text_of (parts_of stored.now))) text.old }
+    ensures len { result ≡ length (text_of (parts_of stored.now)) }
+{
+    let Ok(len) = stored.write_to(text) else {
+        unreachable!() // There is room.
+    };
+    len
+}
+
+// Writes the text of a new hash of the scheme. `meter` counts the blocks.
 fn write_new(
-    kind: Kind,
+    scheme: Scheme,
     iterations: NonZeroU32,
     salt: &[u8],
     password: &[u8],
     text: &mut [u8],
     text_len: &mut usize,
+    meter: &mut Meter,
 ) -> i32
-    ensures ok { result ≡ YZ_OK → (text.new ≡ new_text kind password.now salt.now iterations
-        ++ drop (length (new_text kind password.now salt.now iterations)) text.old)
-        × (text_len.new ≡ length (new_text kind password.now salt.now iterations)) }
+    ensures ok { result ≡ YZ_OK → (text.new ≡ new_text scheme password.now salt.now iterations
+        ++ drop (length (new_text scheme password.now salt.now iterations)) text.old)
+        × (text_len.new ≡ length (new_text scheme password.now salt.now iterations)) }
     ensures status { result ≡ first_of
-        (new_causes (length text.old) password.now salt.now (Some iterations) kind) }
+        (new_causes (length text.old) password.now salt.now (Some iterations) scheme) }
     ensures unchanged { result ≢ YZ_OK → (text.new ≡ text.old) × (text_len.new ≡ text_len.old) }
+    ensures cost { result ≡ YZ_OK
+        → meter.new ≡ new_cost scheme password.now salt.now iterations meter.old }
+    ensures cost_refused { result ≢ YZ_OK → meter.new ≡ meter.old }
 {
-    match new_in_place(kind, password, salt, iterations, text) {
-        Ok(len) => {
-            *text_len = len;
+    match Stored::new_counted(scheme, password, salt, iterations, text.len(), meter) {
+        Ok(stored) => {
+            *text_len = write_text(&stored, text);
             OK
         }
-        Err(NewError::NoRoom) => WRONG_LENGTH,
-        Err(NewError::BadSalt) => BAD_SALT,
-        Err(NewError::TooLong) => UNSPECIFIED,
+        Err(error) => status_of_error(error),
     }
 }
 
-/// Writes to the start of `text` the hash of `password` under `salt` and `iterations`, of the kind
-/// of the number `kind`, and to `text_len` how many bytes it has. The rest of `text` is unchanged.
+// Writes a new hash as `yz_password_hash_new` does. `meter` counts the blocks: none where it is
+// refused.
+fn yz_password_hash_new_counted(
+    scheme: u32,
+    iterations: u32,
+    salt: &[u8],
+    password: &[u8],
+    text: &mut [u8],
+    text_len: &mut usize,
+    meter: &mut Meter,
+) -> i32
+    ensures ok { (k : Scheme) (c : NonZeroU32) → scheme_named scheme ≡ Some k
+        → count_named iterations ≡ Some c → result ≡ YZ_OK
+        → (text.new ≡ new_text k password.now salt.now c
+        ++ drop (length (new_text k password.now salt.now c)) text.old)
+        × (text_len.new ≡ length (new_text k password.now salt.now c)) }
+    ensures status { result ≡ status_of YZ_UNKNOWN_ALGORITHM (scheme_named scheme)
+        (new_causes (length text.old) password.now salt.now (count_named iterations)) }
+    ensures unchanged { result ≢ YZ_OK → (text.new ≡ text.old) × (text_len.new ≡ text_len.old) }
+    ensures cost { (k : Scheme) (c : NonZeroU32) → scheme_named scheme ≡ Some k
+        → count_named iterations ≡ Some c → result ≡ YZ_OK
+        → meter.new ≡ new_cost k password.now salt.now c meter.old }
+    ensures cost_refused { result ≢ YZ_OK → meter.new ≡ meter.old }
+{
+    let Some(scheme) = scheme_of_number(scheme) else {
+        return UNKNOWN_ALGORITHM;
+    };
+    let Some(iterations) = count_of_number(iterations) else {
+        return NO_ITERATIONS;
+    };
+    write_new(scheme, iterations, salt, password, text, text_len, meter)
+}
+
+/// Writes to the start of `text` the hash of `password` under `salt` and `iterations`, of the scheme
+/// of the number `scheme`, and to `text_len` how many bytes it has. The rest of `text` is unchanged.
+/// For PostgreSQL a password that is not ASCII is to be prepared first (SASLprep, RFC 4013).
 ///
-/// Refused as `UNKNOWN_ALGORITHM` exactly if the number names no kind; else as `NO_ITERATIONS`
+/// Refused as `UNKNOWN_ALGORITHM` exactly if the number names no scheme; else as `NO_ITERATIONS`
 /// exactly if there is none; else as `WRONG_LENGTH` exactly if the hash is longer than `text` or
 /// than 1024 bytes; else as `BAD_SALT` exactly if `salt` is empty, or has a dollar sign where the
-/// kind writes it as it is; else as `UNSPECIFIED` exactly if `password` or `salt` is longer than
-/// PBKDF2 admits (RFC 2898, section 5.2). `text` and `text_len` are then unchanged.
+/// scheme writes it as it is; else as `UNSPECIFIED` exactly if `password` or `salt` is longer than
+/// PBKDF2 admits (RFC 2898, section 5.2). No block is then run, and `text` and `text_len` are
+/// unchanged.
 #[unsafe(no_mangle)]
 pub extern "C" fn yz_password_hash_new(
-    kind: u32,
+    scheme: u32,
     iterations: u32,
     salt: &[u8],
     password: &[u8],
     text: &mut [u8],
     text_len: &mut usize,
 ) -> i32
-    ensures ok { (k : Kind) (c : NonZeroU32) → kind_named kind ≡ Some k
+    ensures ok { (k : Scheme) (c : NonZeroU32) → scheme_named scheme ≡ Some k
         → count_named iterations ≡ Some c → result ≡ YZ_OK
         → (text.new ≡ new_text k password.now salt.now c
         ++ drop (length (new_text k password.now salt.now c)) text.old)
         × (text_len.new ≡ length (new_text k password.now salt.now c)) }
-    ensures status { result ≡ status_of YZ_UNKNOWN_ALGORITHM (kind_named kind)
+    ensures status { result ≡ status_of YZ_UNKNOWN_ALGORITHM (scheme_named scheme)
         (new_causes (length text.old) password.now salt.now (count_named iterations)) }
     ensures unchanged { result ≢ YZ_OK → (text.new ≡ text.old) × (text_len.new ≡ text_len.old) }
 {
-    let Some(kind) = kind_of_number(kind) else {
-        return UNKNOWN_ALGORITHM;
-    };
-    let Some(iterations) = count_of_number(iterations) else {
-        return NO_ITERATIONS;
-    };
-    write_new(kind, iterations, salt, password, text, text_len)
+    yz_password_hash_new_counted(
+        scheme,
+        iterations,
+        salt,
+        password,
+        text,
+        text_len,
+        &mut Meter::new(),
+    )
 }

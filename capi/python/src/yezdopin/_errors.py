@@ -12,7 +12,7 @@ _REASONS = {
     4: "wrong length of the output, or of a text",  # YZ_WRONG_LENGTH
     5: "no password hash has this text",  # YZ_BAD_FORMAT
     6: "the text names too many iterations",  # YZ_TOO_MANY_ITERATIONS
-    7: "a password hash of this kind cannot have this salt",  # YZ_BAD_SALT
+    7: "a password hash of this scheme cannot have this salt",  # YZ_BAD_SALT
     8: "an input is too long",  # YZ_UNSPECIFIED
 }
 

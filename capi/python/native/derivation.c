@@ -281,51 +281,93 @@ static PyObject *password_hash_verify(PyObject *Py_UNUSED(module), PyObject *con
     return verdict(status);
 }
 
-/* The kinds of password hashes, by their names in Python. */
-static bool kind_of_name(PyObject *name, uint32_t *kind)
+/* The schemes of password hashes, by their names. */
+static const char *const SCHEMES[] = {
+    [YZ_DJANGO_SHA256] = "django-sha256",
+    [YZ_DJANGO_SHA1] = "django-sha1",
+    [YZ_WERKZEUG_SHA256] = "werkzeug-sha256",
+    [YZ_WERKZEUG_SHA512] = "werkzeug-sha512",
+    [YZ_PHC_SHA256] = "phc-sha256",
+    [YZ_PHC_SHA512] = "phc-sha512",
+    [YZ_MOSQUITTO] = "mosquitto",
+    [YZ_PASSLIB_SHA1] = "passlib-sha1",
+    [YZ_PASSLIB_SHA256] = "passlib-sha256",
+    [YZ_PASSLIB_SHA512] = "passlib-sha512",
+    [YZ_POSTGRESQL] = "postgresql",
+    [YZ_WERKZEUG_SHA1] = "werkzeug-sha1",
+};
+
+static bool scheme_of_name(PyObject *name, uint32_t *scheme)
 {
-    static const char *const NAMES[] = {
-        [YZ_DJANGO_SHA256] = "django_pbkdf2_sha256",
-        [YZ_DJANGO_SHA1] = "django_pbkdf2_sha1",
-        [YZ_WERKZEUG_SHA256] = "werkzeug_sha256",
-        [YZ_WERKZEUG_SHA512] = "werkzeug_sha512",
-        [YZ_PHC_SHA256] = "phc_sha256",
-        [YZ_PHC_SHA512] = "phc_sha512",
-        [YZ_MOSQUITTO] = "mosquitto",
-        [YZ_PASSLIB_SHA1] = "passlib_sha1",
-        [YZ_PASSLIB_SHA256] = "passlib_sha256",
-        [YZ_PASSLIB_SHA512] = "passlib_sha512",
-    };
     if (!PyUnicode_Check(name)) {
-        PyErr_SetString(PyExc_TypeError, "the kind of a password hash must be a str");
+        PyErr_SetString(PyExc_TypeError, "the scheme of a password hash must be a str");
         return false;
     }
-    for (uint32_t it = YZ_DJANGO_SHA256; it <= YZ_PASSLIB_SHA512; it++) {
-        if (PyUnicode_CompareWithASCIIString(name, NAMES[it]) == 0) {
-            *kind = it;
+    for (uint32_t it = YZ_DJANGO_SHA256; it < sizeof SCHEMES / sizeof *SCHEMES; it++) {
+        if (PyUnicode_CompareWithASCIIString(name, SCHEMES[it]) == 0) {
+            *scheme = it;
             return true;
         }
     }
-    PyErr_Format(PyExc_ValueError, "%R is no kind of password hashes", name);
+    PyErr_Format(PyExc_ValueError, "%R is no scheme of password hashes", name);
     return false;
+}
+
+static PyObject *password_hash_info(PyObject *Py_UNUSED(module), PyObject *const *args,
+                                    Py_ssize_t args_len, PyObject *keywords)
+{
+    static const signature takes = {"password_hash_info", 1, 1, 1, {"text"}};
+    PyObject *values[1];
+    Py_buffer views[1];
+    uint32_t scheme, iterations;
+    if (!gather(&takes, args, args_len, keywords, values)) return NULL;
+    if (!borrow_all(values, 1, views)) return NULL;
+    yz_status status = yz_password_hash_info((const char *)bytes_of(&views[0]), len_of(&views[0]),
+                                             &scheme, &iterations);
+    give_back(views, 1);
+    if (status != YZ_OK) return refuse(status);
+    return Py_BuildValue("sI", SCHEMES[scheme], (unsigned)iterations);
+}
+
+static PyObject *password_hash_salt(PyObject *Py_UNUSED(module), PyObject *const *args,
+                                    Py_ssize_t args_len, PyObject *keywords)
+{
+    static const signature takes = {"password_hash_salt", 2, 2, 2, {"scheme", "random"}};
+    PyObject *values[2];
+    Py_buffer views[1];
+    uint32_t scheme;
+    uint8_t salt[YZ_MAX_SALT_LEN];
+    size_t len = 0;
+    if (!gather(&takes, args, args_len, keywords, values)) return NULL;
+    if (!scheme_of_name(values[0], &scheme) || !borrow_all(values + 1, 1, views)) return NULL;
+    yz_status status = yz_password_hash_salt(scheme, bytes_of(&views[0]), len_of(&views[0]), salt,
+                                             sizeof salt, &len);
+    size_t random_len = len_of(&views[0]);
+    give_back(views, 1);
+    if (status == YZ_UNSPECIFIED) {
+        return refuse_for(status, "a salt is made of %d random bytes, and these are %zu",
+                          YZ_SALT_RANDOM_LEN, random_len);
+    }
+    if (status != YZ_OK) return refuse(status);
+    return PyBytes_FromStringAndSize((const char *)salt, (Py_ssize_t)len);
 }
 
 static PyObject *password_hash_new(PyObject *Py_UNUSED(module), PyObject *const *args,
                                    Py_ssize_t args_len, PyObject *keywords)
 {
     static const signature takes = {"password_hash_new", 4, 4, 4,
-                                    {"kind", "password", "salt", "iterations"}};
+                                    {"scheme", "password", "salt", "iterations"}};
     PyObject *values[4];
     Py_buffer views[2];
-    uint32_t kind, iterations;
+    uint32_t scheme, iterations;
     char text[YZ_MAX_PASSWORD_HASH_LEN];
     size_t len = 0;
     if (!gather(&takes, args, args_len, keywords, values)) return NULL;
-    if (!kind_of_name(values[0], &kind)) return NULL;
+    if (!scheme_of_name(values[0], &scheme)) return NULL;
     if (!iterations_of(values[3], UINT32_MAX, &iterations)) return NULL;
     if (!borrow_all(values + 1, 2, views)) return NULL;
     PyThreadState *saved = PyEval_SaveThread();
-    yz_status status = yz_password_hash_new(kind, iterations, bytes_of(&views[1]),
+    yz_status status = yz_password_hash_new(scheme, iterations, bytes_of(&views[1]),
                                             len_of(&views[1]), bytes_of(&views[0]),
                                             len_of(&views[0]), text, sizeof text, &len);
     PyEval_RestoreThread(saved);
@@ -360,8 +402,14 @@ PyMethodDef derivation_functions[] = {
     {"password_hash_verify", METHOD(password_hash_verify), FAST,
      PyDoc_STR("password_hash_verify($module, /, text, password, max_iterations)\n--\n\n"
                "Whether the hash of this text is the password's.")},
+    {"password_hash_info", METHOD(password_hash_info), FAST,
+     PyDoc_STR("password_hash_info($module, /, text)\n--\n\n"
+               "The scheme and the iterations of this text.")},
+    {"password_hash_salt", METHOD(password_hash_salt), FAST,
+     PyDoc_STR("password_hash_salt($module, /, scheme, random)\n--\n\n"
+               "A salt for a new hash, made of 16 random bytes.")},
     {"password_hash_new", METHOD(password_hash_new), FAST,
-     PyDoc_STR("password_hash_new($module, /, kind, password, salt, iterations)\n--\n\n"
+     PyDoc_STR("password_hash_new($module, /, scheme, password, salt, iterations)\n--\n\n"
                "The text of the hash of a password.")},
     {NULL, NULL, 0, NULL},
 };

@@ -2,16 +2,22 @@
 """Password hashes of other systems: texts of ../vectors/password_hashes, and what is refused."""
 
 import base64
+import faulthandler
 import hashlib
+import hmac
+import os
 import pathlib
+import re
 import unittest
 
 import yezdopin
-from yezdopin import password_hash
+from yezdopin import _saslprep, password_hash
 
 VECTORS = pathlib.Path(__file__).resolve().parents[3] / "vectors" / "password_hashes"
 STATUS = {"not a password hash of this format": 5, "too many iterations": 6}
+SYMBOLS = "abcdefghijklmnopqrstuvwxyzABCDEFGHIJKLMNOPQRSTUVWXYZ0123456789"
 KEPT = "pbkdf2_sha1$1000$kXq0Wz3vT9bYh2LrE8mNpA$2U/l/68EaoUIrkh0GedCmjQYvmg="
+SCRAM = password_hash.new("postgresql", b"", iterations=1)
 PASSWORD = b"correct horse battery staple"
 
 
@@ -20,7 +26,7 @@ def verifications():
     for file in sorted(VECTORS.glob("*.txt")):
         lines = file.read_text().splitlines()
         for line, below in zip(lines, lines[1:]):
-            if line.startswith("verify ") and below.startswith("#= "):
+            if re.match("(scram-)?verify ", line) and below.startswith("#= "):
                 text, password, most = line.split(" ")[1:]
                 yield text, bytes.fromhex(password), int(most), below[3:]
 
@@ -54,70 +60,92 @@ def adapted(data):
 
 # What a text begins with, what ends its count, and how it has its salt and its hash, by hashlib.
 FORMATS = {
-    "django_pbkdf2_sha256": ("sha256", 32, "pbkdf2_sha256$", "$", bytes.decode, base64_of),
-    "django_pbkdf2_sha1": ("sha1", 20, "pbkdf2_sha1$", "$", bytes.decode, base64_of),
-    "werkzeug_sha256": ("sha256", 32, "pbkdf2:sha256:", "$", bytes.decode, bytes.hex),
-    "werkzeug_sha512": ("sha512", 64, "pbkdf2:sha512:", "$", bytes.decode, bytes.hex),
-    "phc_sha256": ("sha256", 32, "$pbkdf2-sha256$i=", ",l=32$", unpadded, unpadded),
-    "phc_sha512": ("sha512", 32, "$pbkdf2-sha512$i=", ",l=32$", unpadded, unpadded),
+    "django-sha256": ("sha256", 32, "pbkdf2_sha256$", "$", bytes.decode, base64_of),
+    "django-sha1": ("sha1", 20, "pbkdf2_sha1$", "$", bytes.decode, base64_of),
+    "werkzeug-sha256": ("sha256", 32, "pbkdf2:sha256:", "$", bytes.decode, bytes.hex),
+    "werkzeug-sha512": ("sha512", 64, "pbkdf2:sha512:", "$", bytes.decode, bytes.hex),
+    "phc-sha256": ("sha256", 32, "$pbkdf2-sha256$i=", ",l=32$", unpadded, unpadded),
+    "phc-sha512": ("sha512", 32, "$pbkdf2-sha512$i=", ",l=32$", unpadded, unpadded),
     "mosquitto": ("sha512", 64, "$7$", "$", base64_of, base64_of),
-    "passlib_sha1": ("sha1", 20, "$pbkdf2$", "$", adapted, adapted),
-    "passlib_sha256": ("sha256", 32, "$pbkdf2-sha256$", "$", adapted, adapted),
-    "passlib_sha512": ("sha512", 64, "$pbkdf2-sha512$", "$", adapted, adapted),
+    "passlib-sha1": ("sha1", 20, "$pbkdf2$", "$", adapted, adapted),
+    "passlib-sha256": ("sha256", 32, "$pbkdf2-sha256$", "$", adapted, adapted),
+    "passlib-sha512": ("sha512", 64, "$pbkdf2-sha512$", "$", adapted, adapted),
+    "postgresql": ("sha256", 32, "SCRAM-SHA-256$", ":", base64_of, lambda key: keys_of(key)),
+    "werkzeug-sha1": ("sha1", 20, "pbkdf2:sha1:", "$", bytes.decode, bytes.hex),
 }
+PLAIN = [it for it in FORMATS if it.startswith(("django", "werkzeug"))]
 
 
-def text_by_hashlib(kind, password, salt, iterations):
-    hash_name, length, begin, end, salt_text, hash_text = FORMATS[kind]
+def keys_of(salted):
+    """StoredKey and ServerKey (RFC 5802, section 3)."""
+    stored = hashlib.sha256(hmac.digest(salted, b"Client Key", "sha256")).digest()
+    return f"{base64_of(stored)}:{base64_of(hmac.digest(salted, b'Server Key', 'sha256'))}"
+
+
+def text_by_hashlib(scheme, password, salt, iterations):
+    hash_name, length, begin, end, salt_text, hash_text = FORMATS[scheme]
     derived = hashlib.pbkdf2_hmac(hash_name, password, salt, iterations, length)
     return f"{begin}{iterations}{end}{salt_text(salt)}${hash_text(derived)}"
 
 
 class New(unittest.TestCase):
     def test_beside_hashlib(self):
-        self.assertEqual(list(FORMATS), list(password_hash.KINDS))
+        self.assertEqual(list(FORMATS), list(password_hash.SCHEMES))
         letters = "kXq0Wz3vT9bYh2LrE8mNpA+/.é".encode()
-        for kind in password_hash.KINDS:
-            plain = kind.startswith(("django", "werkzeug"))
+        for scheme in password_hash.SCHEMES:
+            plain = scheme in PLAIN
             for length in (1, 2, 3, 12, 16, 25, 27):
                 salt = letters[:length] if plain else bytes(range(250, 256)) + bytes(length)
                 if plain and length == 25:
                     continue  # half of a letter
                 for iterations in (1, 9, 10, 101):
                     for password in (b"", PASSWORD, b"\x00\xff" * 100):
-                        got = password_hash.new(kind, password, iterations=iterations, salt=salt)
-                        self.assertEqual(got, text_by_hashlib(kind, password, salt, iterations))
+                        got = password_hash.new(scheme, password, iterations=iterations, salt=salt)
+                        self.assertEqual(got, text_by_hashlib(scheme, password, salt, iterations))
                         self.assertIs(
                             password_hash.verify(got, password, max_iterations=iterations), True
                         )
 
     def test_new_salts(self):
-        for kind in password_hash.KINDS:
-            texts = {password_hash.new(kind, PASSWORD, iterations=2) for _ in range(20)}
+        for scheme in password_hash.SCHEMES:
+            texts = {password_hash.new(scheme, PASSWORD, iterations=2) for _ in range(20)}
             self.assertEqual(len(texts), 20)
             for text in texts:
                 self.assertIs(password_hash.verify(text, PASSWORD, max_iterations=2), True)
                 salt = text.split("$")[-2]
-                plain = kind.startswith(("django", "werkzeug"))
-                self.assertEqual(len(salt), 22 if plain or kind != "mosquitto" else 24)
-                if plain:
+                if scheme in PLAIN:
                     self.assertTrue(salt.isalnum() and salt.isascii())
+                salt = salt.rpartition(":")[2]
+                self.assertEqual(len(salt), 24 if scheme in ("mosquitto", "postgresql") else 22)
+
+    def test_salt_beside_divmod(self):
+        for data in (bytes(16), b"\xff" * 16, bytes(range(16)), *map(os.urandom, [16] * 50)):
+            number, letters = int.from_bytes(data, "big"), ""
+            for _ in range(22):
+                number, digit = divmod(number, 62)
+                letters += SYMBOLS[digit]
+            for scheme in password_hash.SCHEMES:
+                salt = yezdopin._native.password_hash_salt(scheme, data)
+                self.assertEqual(salt, letters.encode() if scheme in PLAIN else data)
+        for length in (0, 15, 17):
+            with self.assertRaisesRegex(yezdopin.Error, f"16 random bytes, and these are {length}"):
+                yezdopin._native.password_hash_salt("mosquitto", bytes(length))
 
     def test_beside_passlib(self):
         try:
             from passlib import hash as schemes
         except ImportError:
             self.skipTest("passlib is not here")
-        for kind, scheme in (
-            ("django_pbkdf2_sha256", schemes.django_pbkdf2_sha256),
-            ("django_pbkdf2_sha1", schemes.django_pbkdf2_sha1),
-            ("passlib_sha1", schemes.pbkdf2_sha1),
-            ("passlib_sha256", schemes.pbkdf2_sha256),
-            ("passlib_sha512", schemes.pbkdf2_sha512),
+        for scheme, other in (
+            ("django-sha256", schemes.django_pbkdf2_sha256),
+            ("django-sha1", schemes.django_pbkdf2_sha1),
+            ("passlib-sha1", schemes.pbkdf2_sha1),
+            ("passlib-sha256", schemes.pbkdf2_sha256),
+            ("passlib-sha512", schemes.pbkdf2_sha512),
         ):
-            text = password_hash.new(kind, PASSWORD, iterations=1000)
-            self.assertTrue(scheme.verify(PASSWORD, text), kind)
-            self.assertFalse(scheme.verify(b"another", text), kind)
+            text = password_hash.new(scheme, PASSWORD, iterations=1000)
+            self.assertTrue(other.verify(PASSWORD, text), scheme)
+            self.assertFalse(other.verify(b"another", text), scheme)
 
     def test_beside_django(self):
         try:
@@ -127,39 +155,39 @@ class New(unittest.TestCase):
             self.skipTest("Django is not here")
         names = ("PBKDF2PasswordHasher", "PBKDF2SHA1PasswordHasher")
         settings.configure(PASSWORD_HASHERS=[f"{hashers.__name__}.{name}" for name in names])
-        for kind in password_hash.KINDS[:2]:
-            text = password_hash.new(kind, PASSWORD, iterations=1000)
-            self.assertTrue(hashers.check_password(PASSWORD.decode(), text), kind)
-            self.assertFalse(hashers.check_password("another", text), kind)
+        for scheme in PLAIN[:2]:
+            text = password_hash.new(scheme, PASSWORD, iterations=1000)
+            self.assertTrue(hashers.check_password(PASSWORD.decode(), text), scheme)
+            self.assertFalse(hashers.check_password("another", text), scheme)
 
     def test_beside_werkzeug(self):
         try:
             from werkzeug.security import check_password_hash
         except ImportError:
             self.skipTest("Werkzeug is not here")
-        for kind in password_hash.KINDS[2:4]:
-            text = password_hash.new(kind, PASSWORD, iterations=1000)
-            self.assertTrue(check_password_hash(text, PASSWORD.decode()), kind)
-            self.assertFalse(check_password_hash(text, "another"), kind)
+        for scheme in PLAIN[2:]:
+            text = password_hash.new(scheme, PASSWORD, iterations=1000)
+            self.assertTrue(check_password_hash(text, PASSWORD.decode()), scheme)
+            self.assertFalse(check_password_hash(text, "another"), scheme)
 
-    def is_refused(self, status, kind, salt, iterations=1):
+    def is_refused(self, status, scheme, salt, iterations=1):
         with self.assertRaises(yezdopin.Error) as caught:
-            password_hash.new(kind, PASSWORD, iterations=iterations, salt=salt)
+            password_hash.new(scheme, PASSWORD, iterations=iterations, salt=salt)
         self.assertEqual(caught.exception.status, status)
 
     def test_refusals(self):
-        for kind in password_hash.KINDS:
-            self.is_refused(3, kind, b"salt", 0)
-            self.is_refused(7, kind, b"")
-            self.is_refused(4, kind, b"a" * 1024)
-            if kind.startswith(("django", "werkzeug")):
-                self.is_refused(7, kind, b"sa$lt")
+        for scheme in password_hash.SCHEMES:
+            self.is_refused(3, scheme, b"salt", 0)
+            self.is_refused(7, scheme, b"")
+            self.is_refused(4, scheme, b"a" * 1024)
+            if scheme in PLAIN:
+                self.is_refused(7, scheme, b"sa$lt")
                 with self.assertRaises(UnicodeDecodeError):
-                    password_hash.new(kind, PASSWORD, iterations=1, salt=b"\xff")
+                    password_hash.new(scheme, PASSWORD, iterations=1, salt=b"\xff")
         # `pbkdf2_sha256$1$`, the salt, `$` and 44 bytes
-        longest = password_hash.new("django_pbkdf2_sha256", b"", iterations=1, salt=b"a" * 963)
+        longest = password_hash.new("django-sha256", b"", iterations=1, salt=b"a" * 963)
         self.assertEqual(len(longest), 1024)
-        self.is_refused(4, "django_pbkdf2_sha256", b"a" * 964)
+        self.is_refused(4, "django-sha256", b"a" * 964)
 
     def test_wrong_calls(self):
         for call in (
@@ -170,12 +198,103 @@ class New(unittest.TestCase):
             lambda: password_hash.new(b"mosquitto", PASSWORD, iterations=1, salt=b"salt"),
         ):
             self.assertRaises(TypeError, call)
-        for kind in ("", "sha256", "mosquitto\0", "Mosquitto"):
+        for scheme in ("", "sha256", "mosquitto\0", "Mosquitto"):
             with self.assertRaises(ValueError):
-                password_hash.new(kind, PASSWORD, iterations=1)
+                password_hash.new(scheme, PASSWORD, iterations=1)
         for iterations in (2**32, 10**10, 2**80):
             with self.assertRaisesRegex(OverflowError, "iterations must be from 1 to 4294967295"):
                 password_hash.new("mosquitto", PASSWORD, iterations=iterations)
+
+
+class Infos(unittest.TestCase):
+    def test_schemes(self):
+        for scheme in password_hash.SCHEMES:
+            for iterations in (1, 10, 1000):
+                text = password_hash.new(scheme, PASSWORD, iterations=iterations)
+                for given in (text, text.encode()):
+                    told = password_hash.info(given)
+                    self.assertEqual(told, password_hash.Info(scheme, iterations))
+                    self.assertEqual((told.scheme, told.iterations), (scheme, iterations))
+
+    def test_refusals(self):
+        for status, text in (
+            (5, ""), (5, KEPT[1:]), (5, KEPT + "é"), (5, "a" * 1024), (4, "a" * 1025),
+        ):
+            with self.assertRaises(yezdopin.Error) as caught:
+                password_hash.info(text)
+            self.assertEqual(caught.exception.status, status)
+        self.assertRaises(TypeError, password_hash.info, None)
+
+    def test_iterations_above_the_limit(self):
+        """The most iterations that a text can name take a quarter of an hour and more; above the
+        limit none is made."""
+        faulthandler.dump_traceback_later(30, exit=True)
+        for scheme in password_hash.SCHEMES:
+            text = password_hash.new(scheme, PASSWORD, iterations=77777, salt=b"a salt")
+            text = text.replace("77777", "4294967295")
+            for password in (PASSWORD, "é".encode()):
+                with self.assertRaises(yezdopin.Error) as caught:
+                    password_hash.verify(text, password, max_iterations=1)
+                self.assertEqual(caught.exception.status, 6)
+            self.assertEqual(password_hash.info(text), (scheme, 2**32 - 1))
+        faulthandler.cancel_dump_traceback_later()
+
+
+class Prepared(unittest.TestCase):
+    """What PostgreSQL derives from for a password that is not ASCII."""
+
+    def is_prepared(self, password, as_one):
+        """A text of either password is the other's."""
+        for one, other in ((password, as_one), (as_one, password)):
+            text = password_hash.new("postgresql", one, iterations=1, salt=b"salt")
+            self.assertIs(password_hash.verify(text, other, max_iterations=1), True)
+        derived = hashlib.pbkdf2_hmac("sha256", as_one, b"salt", 1)
+        self.assertEqual(text, f"SCRAM-SHA-256$1:c2FsdA==${keys_of(derived)}")
+
+    def test_examples(self):
+        """Of RFC 4013, section 3, and of mapping and normalization."""
+        for password, as_one in (
+            ("I\u00adX", "IX"), ("\u00aa", "a"), ("\u2168", "IX"), ("\u1680 \u3000", "   "),
+            ("e\u0301\ufe00", "\u00e9"), ("\u0627\u0661\u0628", "\u0627\u0661\u0628"),
+        ):
+            self.is_prepared(password.encode(), as_one.encode())
+
+    def test_kept_as_they_are(self):
+        """ASCII, controls too; no UTF-8; and what SASLprep prohibits or leaves nothing of."""
+        for password in (
+            b"user", b"USER", b"\x07", b"", b"\xff", b"caf\xe9",
+            *(it.encode() for it in (
+                "\u00e9\x07", "\u06271", "\u0627a\u0628", "a\u0627", "\ue000", "\ufffe",
+                "\u0221", "\ufff9", "\u2ff0", "\u200e", "\U000e0001", "\u00ad",
+            )),
+        ):
+            self.is_prepared(password, password)
+
+    def test_other_schemes(self):
+        for scheme in password_hash.SCHEMES:
+            if scheme != "postgresql":
+                text = password_hash.new(scheme, "\u2168".encode(), iterations=1, salt=b"salt")
+                self.assertIs(password_hash.verify(text, b"IX", max_iterations=1), False)
+
+    def test_beside_passlib(self):
+        """Characters alone, between Latin letters and between Hebrew ones."""
+        try:
+            from passlib.utils import saslprep
+        except ImportError:
+            self.skipTest("passlib is not here")
+        for code in [
+            *range(0x3400), *range(0xA000, 0x20000, 31), *range(0xD7F0, 0x10000, 3),
+            *range(0xE0000, 0xE0200), 0xF0000, 0x10FFFF,
+        ]:
+            for text in (chr(code), f"a{chr(code)}b", f"\u05d0{chr(code)}\u05d1"):
+                if code == 0x200B:
+                    continue  # a space to PostgreSQL, and nothing to passlib: RFC 4013 has it as both
+                try:
+                    want = saslprep(text)
+                except ValueError:
+                    self.assertRaises(ValueError, _saslprep.saslprep, text)
+                else:
+                    self.assertEqual(_saslprep.saslprep(text), want)
 
 
 class Arguments(unittest.TestCase):
@@ -216,6 +335,8 @@ class Arguments(unittest.TestCase):
             lambda: password_hash.verify(KEPT, PASSWORD.decode(), max_iterations=1000),
             lambda: password_hash.verify(None, PASSWORD, max_iterations=1000),
             lambda: password_hash.verify(KEPT, PASSWORD, max_iterations=1e10),
+            lambda: password_hash.verify(SCRAM, "text", max_iterations=1),
+            lambda: password_hash.new("postgresql", "text", iterations=1),
         ):
             self.assertRaises(TypeError, call)
 

@@ -28,9 +28,12 @@ def signs(message: bytes) -> bool:
 def keeps(password: bytes) -> bool:
     """A new hash of a password, tested."""
     hashes = yezdopin.password_hash
-    kept: str = hashes.new("phc_sha256", bytearray(password), iterations=1000)
-    again: str = hashes.new(hashes.KINDS[0], password, iterations=1, salt=b"salt")
-    return hashes.verify(kept, password, max_iterations=1000) and kept != again
+    kept: str = hashes.new("phc-sha256", bytearray(password), iterations=1000)
+    again: str = hashes.new(hashes.SCHEMES[0], password, iterations=1, salt=b"salt")
+    told: yezdopin.password_hash.Info = hashes.info(kept)
+    scheme: str = told.scheme
+    is_old: bool = scheme != "phc-sha256" or told.iterations < 1_000_000
+    return hashes.verify(kept, password, max_iterations=1000) and kept != again and is_old
 
 
 def names() -> set[str]:

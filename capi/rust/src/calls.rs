@@ -198,8 +198,22 @@ extern "C" {
         password_len: usize,
         max_iterations: u32,
     ) -> i32;
+    pub fn yz_password_hash_info(
+        text: *const u8,
+        text_len: usize,
+        scheme: *mut u32,
+        iterations: *mut u32,
+    ) -> i32;
+    pub fn yz_password_hash_salt(
+        scheme: u32,
+        random: *const u8,
+        random_len: usize,
+        salt: *mut u8,
+        salt_room: usize,
+        salt_len: *mut usize,
+    ) -> i32;
     pub fn yz_password_hash_new(
-        kind: u32,
+        scheme: u32,
         iterations: u32,
         salt: *const u8,
         salt_len: usize,

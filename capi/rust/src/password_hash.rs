@@ -1,6 +1,6 @@
 // SPDX-License-Identifier: ISC
 //! Password hashes by PBKDF2 as other systems keep them: Django, Werkzeug, RustCrypto's PHC
-//! strings, Mosquitto and passlib. `ring` has no such module.
+//! strings, Mosquitto, passlib and PostgreSQL. `ring` has no such module.
 //!
 //! ```
 //! use yezdopin::password_hash::{verify, HashError};
@@ -11,19 +11,36 @@
 //! # Ok::<(), HashError>(())
 //! ```
 //!
+//! At a login a password is hashed anew where its text is of another scheme than new ones, or names
+//! fewer iterations:
+//!
 //! ```
 //! use core::num::NonZeroU32;
-//! use yezdopin::password_hash::{new, Kind, MAX_TEXT_LEN};
+//! use yezdopin::password_hash::{info, new, new_salt, Info, Scheme, MAX_TEXT_LEN};
+//! use yezdopin::rand::SystemRandom;
 //!
-//! let mut text = [0; MAX_TEXT_LEN];
-//! let iterations = NonZeroU32::new(1000).unwrap();
-//! let salt = b"kXq0Wz3vT9bYh2LrE8mNpA"; // of a generator of random numbers
-//! let kept = new(Kind::DjangoSha1, b"correct horse battery staple", salt, iterations, &mut text)?;
-//! assert_eq!(kept, "pbkdf2_sha1$1000$kXq0Wz3vT9bYh2LrE8mNpA$2U/l/68EaoUIrkh0GedCmjQYvmg=");
-//! # Ok::<(), yezdopin::password_hash::NewError>(())
+//! # let kept = "pbkdf2_sha1$1000$kXq0Wz3vT9bYh2LrE8mNpA$2U/l/68EaoUIrkh0GedCmjQYvmg=";
+//! # let password = b"correct horse battery staple";
+//! # fn keep(_text: &str) {}
+//! let wanted = Info {
+//!     scheme: Scheme::DjangoSha256,
+//!     iterations: NonZeroU32::new(1000).unwrap(),
+//! };
+//! let found = info(kept)?;
+//! if found.scheme != wanted.scheme || found.iterations < wanted.iterations {
+//!     let salt = new_salt(wanted.scheme, &SystemRandom::new()).expect("random bytes");
+//!     let mut text = [0; MAX_TEXT_LEN];
+//!     keep(new(wanted.scheme, password, salt.as_ref(), wanted.iterations, &mut text)?);
+//! }
+//! # Ok::<(), yezdopin::password_hash::HashError>(())
 //! ```
+//!
+//! PostgreSQL prepares a password that is not ASCII by SASLprep (RFC 4013). No call does so here:
+//! the caller prepares it for [`Scheme::Postgresql`].
 
 use crate::calls;
+use crate::error::Unspecified;
+use crate::rand::{self, SecureRandom};
 use core::fmt;
 use core::num::NonZeroU32;
 use core::str;
@@ -31,7 +48,13 @@ use core::str;
 /// The most bytes of a text.
 pub const MAX_TEXT_LEN: usize = 1024;
 
-/// Why [`verify`] refuses.
+/// The bytes of which a salt is made.
+pub const RANDOM_LEN: usize = 16;
+
+/// The most bytes of a salt that [`new_salt`] makes.
+pub const MAX_SALT_LEN: usize = 22;
+
+/// Why a call refuses. Each says which of these it gives.
 #[derive(Clone, Copy, Debug, PartialEq, Eq)]
 #[non_exhaustive]
 pub enum HashError {
@@ -43,6 +66,12 @@ pub enum HashError {
     TooManyIterations,
     /// The hash is of another password, or the password is longer than PBKDF2 admits.
     WrongPassword,
+    /// A new text is longer than the buffer, or than [`MAX_TEXT_LEN`] bytes.
+    NoRoom,
+    /// The salt is empty, or where the scheme writes it as it is, has a dollar sign or is no UTF-8.
+    BadSalt,
+    /// The password or the salt of a new hash is longer than PBKDF2 admits.
+    TooLong,
 }
 
 impl fmt::Display for HashError {
@@ -52,6 +81,9 @@ impl fmt::Display for HashError {
             HashError::BadFormat => "not a password hash",
             HashError::TooManyIterations => "too many iterations",
             HashError::WrongPassword => "wrong password",
+            HashError::NoRoom => "no room for the text",
+            HashError::BadSalt => "a password hash of this scheme cannot have this salt",
+            HashError::TooLong => "the password or the salt is too long",
         })
     }
 }
@@ -59,34 +91,19 @@ impl fmt::Display for HashError {
 #[cfg(feature = "std")]
 impl std::error::Error for HashError {}
 
-/// Ok exactly where the hash of `text` is that of `password`, and names at most `max_iterations`.
+/// Whose text it is, and its digest algorithm. The number is that of C.
 ///
-/// Whoever wrote the text chose its iterations, and so the time of a test. The limit is tested
-/// before the password is read.
-pub fn verify(text: &str, password: &[u8], max_iterations: u32) -> Result<(), HashError> {
-    // SAFETY: both are lent for the call.
-    let status = unsafe {
-        calls::yz_password_hash_verify(
-            text.as_ptr(),
-            text.len(),
-            password.as_ptr(),
-            password.len(),
-            max_iterations,
-        )
-    };
-    match status {
-        calls::YZ_OK => Ok(()),
-        calls::YZ_WRONG_LENGTH => Err(HashError::TextTooLong),
-        calls::YZ_BAD_FORMAT => Err(HashError::BadFormat),
-        calls::YZ_TOO_MANY_ITERATIONS => Err(HashError::TooManyIterations),
-        _ => Err(HashError::WrongPassword),
-    }
-}
-
-/// Whose hash it is, and its digest algorithm. The number is that of C's `yz_password_hash_new`.
+/// `Display` writes the scheme's name and `FromStr` reads it, as the other packages have it:
+///
+/// ```
+/// use yezdopin::password_hash::Scheme;
+///
+/// assert_eq!(Scheme::DjangoSha256.to_string(), "django-sha256");
+/// assert_eq!("postgresql".parse(), Ok(Scheme::Postgresql));
+/// ```
 #[derive(Clone, Copy, Debug, PartialEq, Eq)]
 #[non_exhaustive]
-pub enum Kind {
+pub enum Scheme {
     /// Django's `PBKDF2PasswordHasher`.
     DjangoSha256 = 1,
     /// Django's `PBKDF2SHA1PasswordHasher`.
@@ -107,64 +124,221 @@ pub enum Kind {
     PasslibSha256 = 9,
     /// passlib's `pbkdf2_sha512`.
     PasslibSha512 = 10,
+    /// PostgreSQL's, for a role: `SCRAM-SHA-256$..`.
+    Postgresql = 11,
+    /// Werkzeug's `pbkdf2:sha1`.
+    WerkzeugSha1 = 12,
 }
 
-impl Kind {
+/// All schemes, by their numbers.
+pub const SCHEMES: [Scheme; 12] = [
+    Scheme::DjangoSha256,
+    Scheme::DjangoSha1,
+    Scheme::WerkzeugSha256,
+    Scheme::WerkzeugSha512,
+    Scheme::PhcSha256,
+    Scheme::PhcSha512,
+    Scheme::Mosquitto,
+    Scheme::PasslibSha1,
+    Scheme::PasslibSha256,
+    Scheme::PasslibSha512,
+    Scheme::Postgresql,
+    Scheme::WerkzeugSha1,
+];
+
+impl Scheme {
+    /// The name: `django-sha256`, `postgresql`.
+    pub fn name(self) -> &'static str {
+        use Scheme::*;
+        match self {
+            DjangoSha256 => "django-sha256",
+            DjangoSha1 => "django-sha1",
+            WerkzeugSha256 => "werkzeug-sha256",
+            WerkzeugSha512 => "werkzeug-sha512",
+            PhcSha256 => "phc-sha256",
+            PhcSha512 => "phc-sha512",
+            Mosquitto => "mosquitto",
+            PasslibSha1 => "passlib-sha1",
+            PasslibSha256 => "passlib-sha256",
+            PasslibSha512 => "passlib-sha512",
+            Postgresql => "postgresql",
+            WerkzeugSha1 => "werkzeug-sha1",
+        }
+    }
+
     /// Whether its text has the salt as it is.
     fn writes_salt(self) -> bool {
-        use Kind::*;
+        use Scheme::*;
         matches!(
             self,
-            DjangoSha256 | DjangoSha1 | WerkzeugSha256 | WerkzeugSha512
+            DjangoSha256 | DjangoSha1 | WerkzeugSha256 | WerkzeugSha512 | WerkzeugSha1
         )
     }
 }
 
-/// Why [`new`] refuses.
-#[derive(Clone, Copy, Debug, PartialEq, Eq)]
-#[non_exhaustive]
-pub enum NewError {
-    /// The text is longer than the buffer, or than [`MAX_TEXT_LEN`] bytes.
-    NoRoom,
-    /// The salt is empty, or where the kind writes it as it is, has a dollar sign or is no UTF-8.
-    BadSalt,
-    /// The password or the salt is longer than PBKDF2 admits.
-    TooLong,
+impl fmt::Display for Scheme {
+    fn fmt(&self, f: &mut fmt::Formatter<'_>) -> fmt::Result {
+        f.pad(self.name())
+    }
 }
 
-impl fmt::Display for NewError {
+/// A name that no scheme has.
+#[derive(Clone, Copy, Debug, PartialEq, Eq)]
+pub struct UnknownScheme;
+
+impl fmt::Display for UnknownScheme {
     fn fmt(&self, f: &mut fmt::Formatter<'_>) -> fmt::Result {
-        f.write_str(match self {
-            NewError::NoRoom => "no room for the text",
-            NewError::BadSalt => "a password hash of this kind cannot have this salt",
-            NewError::TooLong => "the password or the salt is too long",
-        })
+        f.write_str("no scheme of password hashes has this name")
     }
 }
 
 #[cfg(feature = "std")]
-impl std::error::Error for NewError {}
+impl std::error::Error for UnknownScheme {}
+
+impl str::FromStr for Scheme {
+    type Err = UnknownScheme;
+
+    fn from_str(name: &str) -> Result<Self, UnknownScheme> {
+        let found = SCHEMES.iter().find(|it| it.name() == name);
+        found.copied().ok_or(UnknownScheme)
+    }
+}
+
+/// Ok exactly where the hash of `text` is that of `password`, and names at most `max_iterations`.
+///
+/// Whoever wrote the text chose its iterations, and so the time of a test. The limit is tested
+/// before anything is derived.
+///
+/// Refused as `TextTooLong`, `BadFormat`, `TooManyIterations` or `WrongPassword`, in this order.
+pub fn verify(text: &str, password: &[u8], max_iterations: u32) -> Result<(), HashError> {
+    // SAFETY: both are lent for the call.
+    let status = unsafe {
+        calls::yz_password_hash_verify(
+            text.as_ptr(),
+            text.len(),
+            password.as_ptr(),
+            password.len(),
+            max_iterations,
+        )
+    };
+    match status {
+        calls::YZ_OK => Ok(()),
+        calls::YZ_WRONG_LENGTH => Err(HashError::TextTooLong),
+        calls::YZ_BAD_FORMAT => Err(HashError::BadFormat),
+        calls::YZ_TOO_MANY_ITERATIONS => Err(HashError::TooManyIterations),
+        _ => Err(HashError::WrongPassword),
+    }
+}
+
+/// What [`info`] tells of a text.
+#[derive(Clone, Copy, Debug, PartialEq, Eq)]
+pub struct Info {
+    /// The scheme.
+    pub scheme: Scheme,
+    /// The number of iterations that the text names.
+    pub iterations: NonZeroU32,
+}
+
+/// Of which scheme a text is, and how many iterations it names. It derives nothing.
+///
+/// Refused as `TextTooLong` or `BadFormat`.
+pub fn info(text: &str) -> Result<Info, HashError> {
+    let (mut scheme, mut iterations) = (0, 0);
+    // SAFETY: all are lent for the call.
+    let status = unsafe {
+        calls::yz_password_hash_info(text.as_ptr(), text.len(), &mut scheme, &mut iterations)
+    };
+    match status {
+        calls::YZ_OK => Info::of(scheme, iterations).ok_or(HashError::BadFormat),
+        calls::YZ_WRONG_LENGTH => Err(HashError::TextTooLong),
+        _ => Err(HashError::BadFormat),
+    }
+}
+
+impl Info {
+    fn of(scheme: u32, iterations: u32) -> Option<Info> {
+        Some(Info {
+            scheme: *SCHEMES.iter().find(|it| **it as u32 == scheme)?,
+            iterations: NonZeroU32::new(iterations)?,
+        })
+    }
+}
+
+/// A salt. [`Salt::as_ref`](AsRef::as_ref) has its bytes.
+#[derive(Clone, Copy, Debug, PartialEq, Eq)]
+pub struct Salt {
+    bytes: [u8; MAX_SALT_LEN],
+    len: usize,
+}
+
+impl Salt {
+    /// The salt for a new hash of `scheme` that `random` makes, which should be random: 22 letters
+    /// and digits for Django and Werkzeug, which write it as it is, and else the bytes themselves.
+    pub fn of(scheme: Scheme, random: [u8; RANDOM_LEN]) -> Salt {
+        let (mut bytes, mut len) = ([0; MAX_SALT_LEN], 0);
+        // SAFETY: all are lent for the call.
+        let status = unsafe {
+            calls::yz_password_hash_salt(
+                scheme as u32,
+                random.as_ptr(),
+                random.len(),
+                bytes.as_mut_ptr(),
+                bytes.len(),
+                &mut len,
+            )
+        };
+        assert_eq!(status, calls::YZ_OK); // a scheme, 16 bytes, and room for each salt
+        Salt { bytes, len }
+    }
+}
+
+impl AsRef<[u8]> for Salt {
+    fn as_ref(&self) -> &[u8] {
+        &self.bytes[..self.len]
+    }
+}
+
+/// A salt for a new hash of `scheme`, of 16 bytes of `rng`.
+///
+/// Refused where `rng` gives none.
+pub fn new_salt(scheme: Scheme, rng: &dyn SecureRandom) -> Result<Salt, Unspecified> {
+    Ok(Salt::of(scheme, rand::generate(rng)?.expose()))
+}
 
 /// Writes the text of the hash of `password` to the start of `out`, and returns it. The rest of
 /// `out` is unchanged, and after a refusal all of it is.
 ///
-/// `salt` should be random, and of this hash alone: Django and Werkzeug take 22 letters and digits,
-/// and the others 16 bytes.
+/// `salt` should be random, and of this hash alone, as [`new_salt`] makes one.
+///
+/// ```
+/// use core::num::NonZeroU32;
+/// use yezdopin::password_hash::{new, Scheme, MAX_TEXT_LEN};
+///
+/// let mut text = [0; MAX_TEXT_LEN];
+/// let iterations = NonZeroU32::new(1000).unwrap();
+/// let salt = b"kXq0Wz3vT9bYh2LrE8mNpA";
+/// let password = b"correct horse battery staple";
+/// let kept = new(Scheme::DjangoSha1, password, salt, iterations, &mut text)?;
+/// assert_eq!(kept, "pbkdf2_sha1$1000$kXq0Wz3vT9bYh2LrE8mNpA$2U/l/68EaoUIrkh0GedCmjQYvmg=");
+/// # Ok::<(), yezdopin::password_hash::HashError>(())
+/// ```
+///
+/// Refused as `NoRoom`, `BadSalt` or `TooLong`.
 pub fn new<'a>(
-    kind: Kind,
+    scheme: Scheme,
     password: &[u8],
     salt: &[u8],
     iterations: NonZeroU32,
     out: &'a mut [u8],
-) -> Result<&'a str, NewError> {
-    if kind.writes_salt() && str::from_utf8(salt).is_err() {
-        return Err(NewError::BadSalt);
+) -> Result<&'a str, HashError> {
+    if scheme.writes_salt() && str::from_utf8(salt).is_err() {
+        return Err(HashError::BadSalt);
     }
     let mut len = 0;
     // SAFETY: all are lent for the call.
     let status = unsafe {
         calls::yz_password_hash_new(
-            kind as u32,
+            scheme as u32,
             iterations.get(),
             salt.as_ptr(),
             salt.len(),
@@ -176,9 +350,9 @@ pub fn new<'a>(
         )
     };
     match status {
-        calls::YZ_OK => str::from_utf8(&out[..len]).map_err(|_| NewError::BadSalt),
-        calls::YZ_WRONG_LENGTH => Err(NewError::NoRoom),
-        calls::YZ_BAD_SALT => Err(NewError::BadSalt),
-        _ => Err(NewError::TooLong),
+        calls::YZ_OK => str::from_utf8(&out[..len]).map_err(|_| HashError::BadSalt),
+        calls::YZ_WRONG_LENGTH => Err(HashError::NoRoom),
+        calls::YZ_BAD_SALT => Err(HashError::BadSalt),
+        _ => Err(HashError::TooLong),
     }
 }

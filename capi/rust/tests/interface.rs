@@ -134,63 +134,142 @@ fn refused_password_hashes() {
 }
 
 #[test]
+fn names_of_schemes() {
+    use std::collections::HashSet;
+    use yezdopin::password_hash::{Scheme, UnknownScheme, SCHEMES};
+
+    let names: HashSet<String> = SCHEMES.iter().map(Scheme::to_string).collect();
+    assert_eq!(names.len(), 12);
+    for scheme in SCHEMES {
+        assert_eq!(scheme.to_string().parse(), Ok(scheme));
+        assert_eq!(scheme.name(), scheme.to_string());
+    }
+    assert_eq!(format!("{:12}|", Scheme::Mosquitto), "mosquitto   |");
+    for name in ["", "Mosquitto", "mosquitto ", "sha256"] {
+        assert_eq!(name.parse::<Scheme>(), Err(UnknownScheme));
+    }
+    assert_eq!(
+        UnknownScheme.to_string(),
+        "no scheme of password hashes has this name"
+    );
+}
+
+#[test]
+fn told_of_password_hashes() {
+    use std::num::NonZeroU32;
+    use yezdopin::password_hash::{info, new, HashError, Info, MAX_TEXT_LEN, SCHEMES};
+
+    for scheme in SCHEMES {
+        for iterations in [1, 10, 1000].map(|it| NonZeroU32::new(it).unwrap()) {
+            let mut text = [0; MAX_TEXT_LEN];
+            let kept = new(scheme, b"", b"a salt", iterations, &mut text).unwrap();
+            assert_eq!(info(kept), Ok(Info { scheme, iterations }));
+        }
+    }
+    assert_eq!(info(""), Err(HashError::BadFormat));
+    let longest = "a".repeat(MAX_TEXT_LEN);
+    assert_eq!(info(&longest), Err(HashError::BadFormat));
+    assert_eq!(info(&(longest + "a")), Err(HashError::TextTooLong));
+}
+
+// The most iterations that a text can name take a quarter of an hour and more. Above the limit none
+// is made.
+#[test]
+fn iterations_above_the_limit() {
+    use std::num::NonZeroU32;
+    use std::sync::mpsc::channel;
+    use std::time::Duration;
+    use yezdopin::password_hash::{new, verify, HashError, MAX_TEXT_LEN, SCHEMES};
+
+    let (sender, receiver) = channel();
+    std::thread::spawn(move || {
+        for scheme in SCHEMES {
+            let mut text = [0; MAX_TEXT_LEN];
+            let iterations = NonZeroU32::new(77777).unwrap();
+            let kept = new(scheme, b"", b"a salt", iterations, &mut text).unwrap();
+            let kept = kept.replace("77777", "4294967295");
+            sender.send(verify(&kept, b"", 1)).unwrap();
+        }
+    });
+    for scheme in SCHEMES {
+        let answer = receiver.recv_timeout(Duration::from_secs(30));
+        assert_eq!(answer, Ok(Err(HashError::TooManyIterations)), "{scheme}");
+    }
+}
+
+#[test]
+fn new_salts() {
+    use yezdopin::password_hash::{new_salt, Salt, MAX_SALT_LEN, RANDOM_LEN, SCHEMES};
+
+    let rng = SystemRandom::new();
+    for scheme in SCHEMES {
+        let name = scheme.name();
+        let (zeros, ones) = (Salt::of(scheme, [0; 16]), Salt::of(scheme, [255; 16]));
+        let salts = [(); 20].map(|_| new_salt(scheme, &rng).unwrap());
+        if name.starts_with("django") || name.starts_with("werkzeug") {
+            // What Python's divmod makes of the bytes as one number.
+            assert_eq!(zeros.as_ref(), [b'a'; MAX_SALT_LEN]);
+            assert_eq!(ones.as_ref(), b"hMRph3WiXjUVPDfwqnceXh");
+            for salt in &salts {
+                assert_eq!(salt.as_ref().len(), MAX_SALT_LEN);
+                assert!(salt.as_ref().iter().all(u8::is_ascii_alphanumeric));
+            }
+        } else {
+            assert_eq!(zeros.as_ref(), [0; RANDOM_LEN]);
+            assert_eq!(ones.as_ref(), [255; RANDOM_LEN]);
+        }
+        for i in 0..salts.len() {
+            assert!(!salts[..i].contains(&salts[i]));
+        }
+    }
+}
+
+#[test]
 fn new_password_hashes() {
     use std::num::NonZeroU32;
-    use yezdopin::password_hash::{new, verify, Kind, NewError, MAX_TEXT_LEN};
+    use yezdopin::password_hash::{new, verify, HashError, Scheme, MAX_TEXT_LEN, SCHEMES};
 
-    const KINDS: [Kind; 10] = [
-        Kind::DjangoSha256,
-        Kind::DjangoSha1,
-        Kind::WerkzeugSha256,
-        Kind::WerkzeugSha512,
-        Kind::PhcSha256,
-        Kind::PhcSha512,
-        Kind::Mosquitto,
-        Kind::PasslibSha1,
-        Kind::PasslibSha256,
-        Kind::PasslibSha512,
-    ];
     let password = b"correct horse battery staple";
     let iterations = NonZeroU32::new(1000).unwrap();
-    for kind in KINDS {
+    for scheme in SCHEMES {
         let mut text = [7; MAX_TEXT_LEN];
-        let kept: &str = new(kind, password, b"a salt", iterations, &mut text).unwrap();
+        let kept: &str = new(scheme, password, b"a salt", iterations, &mut text).unwrap();
         assert_eq!(verify(kept, password, 1000), Ok(()));
         let len = kept.len();
         assert!(text[len..].iter().all(|&byte| byte == 7));
         let mut room = vec![7; len - 1];
         assert_eq!(
-            new(kind, password, b"a salt", iterations, &mut room),
-            Err(NewError::NoRoom)
+            new(scheme, password, b"a salt", iterations, &mut room),
+            Err(HashError::NoRoom)
         );
         assert!(room.iter().all(|&byte| byte == 7));
         assert_eq!(
-            new(kind, password, b"", iterations, &mut text),
-            Err(NewError::BadSalt)
+            new(scheme, password, b"", iterations, &mut text),
+            Err(HashError::BadSalt)
         );
     }
     // Django's own, as ../../../vectors/password_hashes has it.
     let mut text = [0; MAX_TEXT_LEN];
     let salt = b"kXq0Wz3vT9bYh2LrE8mNpA";
     assert_eq!(
-        new(Kind::DjangoSha1, password, salt, iterations, &mut text),
+        new(Scheme::DjangoSha1, password, salt, iterations, &mut text),
         Ok(KEPT)
     );
     // Not UTF-8: a text has it in base64, or not at all.
     let mut text = [7; MAX_TEXT_LEN];
-    assert!(new(Kind::Mosquitto, password, b"\xff", iterations, &mut text).is_ok());
-    for kind in &KINDS[..4] {
+    assert!(new(Scheme::Mosquitto, password, b"\xff", iterations, &mut text).is_ok());
+    for scheme in SCHEMES[..4].iter().chain([&Scheme::WerkzeugSha1]) {
         let mut text = [7; MAX_TEXT_LEN];
         assert_eq!(
-            new(*kind, password, b"\xff", iterations, &mut text),
-            Err(NewError::BadSalt)
+            new(*scheme, password, b"\xff", iterations, &mut text),
+            Err(HashError::BadSalt)
         );
         assert_eq!(text, [7; MAX_TEXT_LEN]);
     }
     assert_eq!(
-        new(Kind::DjangoSha1, password, b"a$b", iterations, &mut text),
-        Err(NewError::BadSalt)
+        new(Scheme::DjangoSha1, password, b"a$b", iterations, &mut text),
+        Err(HashError::BadSalt)
     );
-    prints(&NewError::NoRoom, "NoRoom");
-    assert_eq!(NewError::NoRoom.to_string(), "no room for the text");
+    prints(&HashError::NoRoom, "NoRoom");
+    assert_eq!(HashError::NoRoom.to_string(), "no room for the text");
 }

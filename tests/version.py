@@ -33,7 +33,7 @@ PLACES = (
     (r"library_version\(\), 0x(\w+)\)", "capi/test/packages"),
 )
 ANYWHERE = (
-    r"(?:yezdopin|passwords|sums)[\w()-]*?[-_ ]\(?(?:>= )?(\d+\.\d+(?:\.\d+)?)",
+    r"(?:yezdopin|passwords|sums|bench)[\w()-]*?[-_ ]\(?(?:>= )?(\d+\.\d+(?:\.\d+)?)",
     r"(?:libyezdopin(?:\.so\.)?|YEZDOPIN_)(\d+)",
 )
 # Beside these, places whose number is planted one higher.

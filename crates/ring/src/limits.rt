@@ -102,9 +102,9 @@ pub(crate) fn is_info_within(algorithm: &Algorithm, info_len: u128, len: u128) -
     }
 }
 
-/// Whether PBKDF2 by `algorithm` derives a key of `dk_len` bytes from a secret and a salt of these
-/// lengths in bytes: exactly then [`derive`](crate::pbkdf2::derive) is not refused (RFC 2898,
-/// section 5.2; FIPS 180-4, section 1).
+/// Whether PBKDF2 by `algorithm` derives a key of `dk_len` bytes from a secret of `secret_len` and
+/// a salt of `salt_len` bytes: exactly then [`derive`](crate::pbkdf2::derive) is not refused (RFC
+/// 2898, section 5.2; FIPS 180-4, section 1).
 pub fn can_derive(
     algorithm: &pbkdf2::Algorithm,
     secret_len: u128,

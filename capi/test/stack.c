@@ -7,7 +7,7 @@
 #include <ucontext.h>
 
 #define ROOM (64 * 1024)
-#define PROMISED (8 * 1024)
+#define PROMISED (20 * 1024)
 #define PAINT 0xa5
 #define COUNT 10
 

@@ -16,7 +16,7 @@
  *   it is no pointer to const; where the length is 0 it may be NULL, but for that in a yz_message;
  * - what a call writes overlaps nothing else that it is given;
  * - a pointer to a context or a key is aligned as its type, and not NULL;
- * - the thread has 20 KiB of stack left.
+ * - the thread has 8 KiB of stack left, and for a call of password hashes 20 KiB.
  *
  * A call that can be refused answers YZ_OK, or the first cause that holds in the order of yz_status,
  * which is the one with the least number. Past YZ_OK it has written nothing. */

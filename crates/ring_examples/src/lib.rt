@@ -16,6 +16,7 @@ pub mod pieces;
 pub mod rand;
 pub mod raw;
 pub mod rows;
+pub mod schemes;
 pub mod several;
 pub mod states;
 pub mod store;

@@ -1,14 +1,20 @@
 // SPDX-License-Identifier: ISC
-//! A database of Django moves into a store, each password at its next login.
+//! A database of another system moves, each password at its next login: into a store, or to texts
+//! of another scheme or count.
 
-ghost use Rattle.std.specs.Prelude.{◌≡◌, ◌≢◌, ◌⊎◌, Ok, IfErr, IsErrOf, IsOk, OnErr, OnOk};
-ghost use Rattle.ring_password_hash.specs.Hash.{IsHash, IsOf, IsTextWhere, IsWithin, text_of};
+ghost use Rattle.std.specs.Prelude.{◌≡◌, ◌↔◌, ◌≤◌, Ok, Err, None, Some, IfErr, IfOk, IfSome};
+ghost use Rattle.std.specs.Prelude.{IsErrOf, IsOk, IsTrue, OnErr, OnOk, take};
+ghost use Rattle.std.specs.Int.NonZero.{non_zero_u32_get};
+ghost use Rattle.ring_password_hash.specs.Stored.{IsReadWhere, IsTextOf, Parts, answer_of};
+ghost use Rattle.ring_password_hash.specs.Stored.{new_parts, parts_of};
+ghost use Rattle.ring_password_hash.specs.declared.error.HashError.{HashError};
 ghost use Rattle.ring_store.specs.Store.{admission, with_password};
-ghost use Rattle.ring_password_hash.specs.declared.password_hash.PasswordHash.{PasswordHash};
+ghost use Rattle.ring_examples.specs.declared.migration.MoveError.TheVariants.{Store, Text};
 
-use ring_password_hash::{HashError, laws, verify};
+use crate::rows::fill_row;
+use ring_password_hash::laws::one_text_is_of_one_value;
+use ring_password_hash::{HashError, MAX_TEXT_LEN, Scheme, Stored, verify};
 use ring_store::{PasswordStore, StoreError};
-use std::alloc::Global;
 use std::num::NonZeroU32;
 
 /// Why a password does not move.
@@ -20,38 +26,86 @@ pub enum MoveError {
     Store(StoreError),
 }
 
-/// Logs `name` in by the text that Django kept of its password, and keeps the password in `store`
-/// from now on.
+impl From<HashError> for MoveError {
+    ghost from_gives = { λ error moved. moved ≡ Text error };
+
+    fn from(error: HashError) -> Self {
+        MoveError::Text(error)
+    }
+}
+
+impl From<StoreError> for MoveError {
+    ghost from_gives = { λ error moved. moved ≡ Store error };
+
+    fn from(error: StoreError) -> Self {
+        MoveError::Store(error)
+    }
+}
+
+/// Logs `name` in by the text that another system kept of its password, and keeps the password in
+/// `store` from now on.
 ///
 /// The text is from outside, and may name a count that takes an hour: it costs no block above
 /// `max_iterations`. A wrong password, and whatever else is refused, leaves the store as it was.
 pub fn move_at_login(
-    alloc: Global,
     store: &mut PasswordStore,
     name: &[u8],
     password: &[u8],
     text: &[u8],
-    max_iterations: NonZeroU32,
+    max_iterations: u32,
 ) -> Result<(), MoveError>
-    ensures ok { IsOk result → IsTextWhere text.now (λ (h : PasswordHash Global).
-        IsWithin h max_iterations × IsOf h password.now) }
+    ensures ok { IsOk result → IsReadWhere text.now (λ found.
+        answer_of found password.now max_iterations ≡ Ok tt) }
     ensures moved { OnOk result (store.new ≡ with_password store.old name.now password.now) }
-    ensures right { (h : PasswordHash Global) → IsHash h → text_of h ≡ text.now
-        → IsWithin h max_iterations → IsOf h password.now
+    ensures right { (h : Parts) → IsTextOf h text.now
+        → answer_of (Some h) password.now max_iterations ≡ Ok tt
         → admission name.now password.now ≡ Ok tt
-        → IfErr result (λ error. (error ≡ MoveError.Text HashError.Memory)
-        ⊎ (error ≡ MoveError.Store StoreError.Memory)) }
-    ensures wrong { IsErrOf result (MoveError.Text HashError.WrongPassword)
-        → IsTextWhere text.now (λ (h : PasswordHash Global). IsWithin h max_iterations
-        × ¬ (IsOf h password.now)) }
+        → IfErr result (λ error. error ≡ Store StoreError.Memory) }
+    ensures refused { (error : HashError) → IsErrOf result (Text error)
+        → IsReadWhere text.now (λ found. answer_of found password.now max_iterations ≡ Err error) }
     ensures unchanged { OnErr result (store.new ≡ store.old) }
 {
-    laws::one_text_is_of_one_hash();
-    if let Err(error) = verify(alloc, password, text, max_iterations) {
-        return Err(MoveError::Text(error));
+    one_text_is_of_one_value();
+    verify(text, password, max_iterations)?;
+    store.set_password(name, password)?;
+    Ok(())
+}
+
+/// Whether a text is as a database writes them from now on: of `scheme`, and with `least`
+/// iterations or more.
+pub fn is_current(stored: &Stored, scheme: Scheme, least: NonZeroU32) -> bool
+    ensures { IsTrue result ↔ (((parts_of stored.now).scheme ≡ scheme)
+        × (non_zero_u32_get least ≤ non_zero_u32_get (parts_of stored.now).iterations)) }
+{
+    stored.scheme() == scheme && stored.iterations().get() >= least.get()
+}
+
+/// Logs a user in by the text that was kept of the password. Where that is of another scheme, or
+/// of fewer iterations, writes a new text to `row`, and returns its length: it is to be kept in
+/// the old one's place.
+pub fn rehash_at_login(
+    text: &[u8],
+    password: &[u8],
+    max_iterations: u32,
+    scheme: Scheme,
+    salt: &[u8],
+    iterations: NonZeroU32,
+    row: &mut [u8; MAX_TEXT_LEN],
+) -> Result<Option<usize>, HashError>
+    ensures ok { IsOk result → IsReadWhere text.now (λ found.
+        answer_of found password.now max_iterations ≡ Ok tt) }
+    ensures current { IfOk result (λ new. new ≡ None → IsReadWhere text.now (λ found.
+        IfSome found (λ h. (h.scheme ≡ scheme)
+        × (non_zero_u32_get iterations ≤ non_zero_u32_get h.iterations)))) }
+    ensures next { IfOk result (λ new. IfSome new (λ len. IsTextOf
+        (new_parts scheme password.now salt.now iterations) (take len row.new))) }
+    ensures unchanged { OnErr result (row.new ≡ row.old) }
+{
+    let stored = Stored::parse(text)?;
+    stored.verify(password, max_iterations)?;
+    if is_current(&stored, scheme, iterations) {
+        return Ok(None);
     }
-    match store.set_password(name, password) {
-        Ok(()) => Ok(()),
-        Err(error) => Err(MoveError::Store(error)),
-    }
+    let len = fill_row(scheme, password, salt, iterations, row)?;
+    Ok(Some(len))
 }

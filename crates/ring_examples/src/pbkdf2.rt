@@ -7,7 +7,7 @@ ghost use Rattle.ring.specs.Prelude.{CanDerive, IsDerived, dk, max_dk_len};
 
 use ring::digest::{SHA256, SHA256_OUTPUT_LEN};
 use ring::error::Unspecified;
-use ring::limits::max_dk_len;
+use ring::limits::{can_derive, max_dk_len};
 use ring::pbkdf2::{PBKDF2_HMAC_SHA256, derive, verify};
 use std::num::NonZeroU32;
 
@@ -40,7 +40,8 @@ pub fn verify_stored(
     verify(PBKDF2_HMAC_SHA256, iterations, salt, password, stored)
 }
 
-/// Derives and then verifies: that succeeds wherever the lengths are within the limits.
+/// Derives and then verifies. Whether that succeeds, it asks before: exactly where the lengths are
+/// within the limits.
 pub fn derive_and_verify(
     iterations: NonZeroU32,
     salt: &[u8],
@@ -49,8 +50,18 @@ pub fn derive_and_verify(
     ensures refused { IsOk result
         ↔ CanDerive SHA256 (length password.now) (length salt.now) 32 }
 {
-    let stored = stored_of(iterations, salt, password)?;
-    verify_stored(iterations, salt, password, &stored)
+    let dk_len = SHA256_OUTPUT_LEN as u128;
+    if !can_derive(
+        &PBKDF2_HMAC_SHA256,
+        password.len() as u128,
+        salt.len() as u128,
+        dk_len,
+    ) {
+        return Err(Unspecified);
+    }
+    let stored = stored_of(iterations, salt, password).unwrap();
+    verify_stored(iterations, salt, password, &stored).unwrap();
+    Ok(())
 }
 
 /// Whether a key of `len` bytes can be derived from a password and a salt that are short enough.

@@ -1,0 +1,2 @@
+-- SPDX-License-Identifier: ISC
+pub mod NewValues

@@ -21,21 +21,18 @@ use ring_examples::hmac::{
     key_for_both, tag_counted, tag_len, tag_of_two, tags_of_front_and_whole, verify_tag,
 };
 use ring_examples::hotp::hotp;
-use ring_examples::migration::{MoveError, move_at_login};
 use ring_examples::pbkdf2::{can_derive_len, derive_and_verify, stored_of, verify_stored};
 use ring_examples::pieces::{
     digest_again, digest_and_blocks, digest_of_list, digest_of_whole, digests_of_front_and_whole,
     finish_into, lengths_of,
 };
 use ring_examples::rand::{nonce, tag_under_generated};
-use ring_examples::rows::fill_row;
 use ring_examples::several::{
     digests_of_both, digests_of_four, stored_of_both, stored_of_four, verify_four,
 };
 use ring_examples::store::log_in;
 use ring_examples::sums::{list_of_image, plain_line, tagged_line};
-use ring_password_hash::{HashError, MAX_TEXT_LEN, NewError};
-use ring_store::{PasswordStore, StoreError, TokenMaker};
+use ring_store::{PasswordStore, TokenMaker};
 use std::num::NonZeroU32;
 use std::test::Fail;
 
@@ -312,49 +309,6 @@ fn logins(rt: HostRuntime) -> Result<(), Fail> {
     maker.check(b"alice", 100, 100, &token)?;
     assert!(rt; log_in(&mut store, &maker, b"alice", b"battery staple", 100).is_err());
     Ok(())
-}
-
-// What Django 3.2.25 keeps of `correct horse battery staple`, at 1,000 iterations.
-const BY_DJANGO: &[u8] =
-    b"pbkdf2_sha256$1000$kXq0Wz3vT9bYh2LrE8mNpA$6jlqr5CFEJ6yV5h1RjyoxC5WzlE3x9jGX4aMqvJOfqk=";
-
-#[test]
-fn moves(rt: HostRuntime) -> Result<(), Fail> {
-    let password = b"correct horse battery staple";
-    let most = NonZeroU32::new(1_000).unwrap();
-    let mut store = PasswordStore::new(rt.alloc(), [7; 16], NonZeroU32::MIN);
-    let wrong = move_at_login(
-        rt.alloc(),
-        &mut store,
-        b"alice",
-        b"battery",
-        BY_DJANGO,
-        most,
-    );
-    assert!(rt; wrong == Err(MoveError::Text(HashError::WrongPassword)));
-    let fewer = NonZeroU32::new(999).unwrap();
-    let many = move_at_login(rt.alloc(), &mut store, b"alice", password, BY_DJANGO, fewer);
-    assert!(rt; many == Err(MoveError::Text(HashError::TooManyIterations)));
-    let nameless = move_at_login(rt.alloc(), &mut store, b"", password, BY_DJANGO, most);
-    assert!(rt; nameless == Err(MoveError::Store(StoreError::BadName)) && store.is_empty());
-    let right = move_at_login(rt.alloc(), &mut store, b"alice", password, BY_DJANGO, most);
-    assert!(rt; right.is_ok() && store.len() == 1);
-    store.check_password(b"alice", password)?;
-    assert!(rt; store.check_password(b"alice", b"battery").is_err());
-    Ok(())
-}
-
-// The text of Python's `hashlib` and `base64`, in the form of Django's `pbkdf2_sha256`.
-#[test]
-fn fills_a_row(rt: HostRuntime) {
-    let expected = b"pbkdf2_sha256$1000$saltsalt$E196ZhRPzw+wA84EjzHwJO1cv/MFJdO6C/sxmUeTYqY=";
-    let iterations = NonZeroU32::new(1_000).unwrap();
-    let mut row = [0xff; MAX_TEXT_LEN];
-    let refused = fill_row(b"password", b"salt$", iterations, &mut row);
-    assert!(rt; refused == Err(NewError::BadSalt) && row == [0xff; MAX_TEXT_LEN]);
-    let filled = fill_row(b"password", b"saltsalt", iterations, &mut row);
-    assert!(rt; filled == Ok(expected.len()));
-    assert!(rt; row.starts_with(expected) && row[expected.len()] == 0xff);
 }
 
 // What `sha256sum` of coreutils 9.1 writes of a file with the short message, with `--tag` and

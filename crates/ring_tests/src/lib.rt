@@ -15,6 +15,8 @@ mod examples;
 #[cfg(test)]
 mod examples_in_wide_vectors;
 #[cfg(test)]
+mod examples_of_hashes;
+#[cfg(test)]
 mod examples_of_numbers;
 #[cfg(test)]
 mod hkdf;

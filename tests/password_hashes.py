@@ -3,12 +3,11 @@
 """Holds the password hashes of crates/ring_password_hash to what others read and write.
 
 The program over them answers the lines of vectors/password_hashes, whose answers stand there behind
-`#= `. It makes hashes at random as Python's hashlib does, and reads and verifies thousands of
-broken texts of each kind, verifiers of PostgreSQL among them, as a reader of this script does.
-Django, Werkzeug, passlib, RustCrypto, mosquitto_passwd and PostgreSQL make hashes that it verifies,
-and verify those that it makes; PostgreSQL is a server of the test's own on a socket. Each request
-for memory is refused in turn. The last line is 'N passed, M failed', and ', K skipped' where a
-system is missing.
+`#= `. It makes texts at random as Python's hashlib does, and reads and verifies thousands of broken
+texts of each scheme as a reader of this script does. Django, Werkzeug, passlib, RustCrypto,
+mosquitto_passwd and PostgreSQL make texts that it verifies, and verify those that it makes;
+PostgreSQL is a server of the test's own on a socket. Each request for memory is refused in turn.
+The last line is 'N passed, M failed', and ', K skipped' where a system is missing.
 """
 
 import base64
@@ -34,21 +33,24 @@ import counted
 
 ROOT = pathlib.Path(__file__).resolve().parent.parent
 VECTORS = ROOT / "vectors/password_hashes"
-REFUSED = "not a password hash of this format"
+REFUSED = "not a password hash"
 TOO_MANY = "too many iterations"
 PASSWORDS = [
     "x", "", "correct horse battery staple", "p" * 63, "p" * 64, "p" * 65, "q" * 300,
     "quo'te$\\", "Ünïcödé ☃",
 ]
-# More iterations than any hash of another system here has.
+# More iterations than any text of another system here has.
 AMPLE_LIMIT = 1_000_000
+# A longer text is of no scheme.
+MAX_TEXT_LEN = 1024
 
 
-def run_over(lines, **settings):
+def run_over(lines, seconds=600, **settings):
     """A run of the program over lines, and its answers."""
     program = counted.built("ring_password_hash_main", "rt", "run")
     text = "".join(f"{line}\n" for line in lines).encode()
-    run = subprocess.run([program], input=text, stdout=subprocess.PIPE, timeout=600, **settings)
+    settings |= {"input": text, "stdout": subprocess.PIPE, "timeout": seconds}
+    run = subprocess.run([program], **settings)
     return run, run.stdout.decode().split("\n")[:-1]
 
 
@@ -76,11 +78,11 @@ def digits(data):
     return (data.encode() if isinstance(data, str) else data).hex() or "-"
 
 
-def verdicts(text, password, other, limit=AMPLE_LIMIT, call="verify"):
+def verdicts(text, password, other, limit=AMPLE_LIMIT):
     """Lines that verify a password and another one under a limit, with their answers."""
     return [
-        (f"{call} {text} {digits(password)} {limit}", "ok"),
-        (f"{call} {text} {digits(other)} {limit}", "wrong password"),
+        (f"verify {text} {digits(password)} {limit}", "ok"),
+        (f"verify {text} {digits(other)} {limit}", "wrong password"),
     ]
 
 
@@ -103,9 +105,13 @@ def plain(data):
     return data
 
 
-# Each kind: its prefix, its digest, the bytes of its hash, and how its salt and its hash are
-# written.
-KINDS = {
+def two_keys(data):
+    return base64.b64encode(data[:32]) + b":" + base64.b64encode(data[32:])
+
+
+# Each scheme: its prefix, its digest, the bytes that a text keeps, and how its salt and what it
+# keeps are written.
+SCHEMES = {
     "django-sha256": (b"pbkdf2_sha256$", "sha256", 32, plain, base64.b64encode),
     "django-sha1": (b"pbkdf2_sha1$", "sha1", 20, plain, base64.b64encode),
     "werkzeug-sha256": (b"pbkdf2:sha256:", "sha256", 32, plain, text_symbols),
@@ -116,27 +122,52 @@ KINDS = {
     "passlib-sha1": (b"$pbkdf2$", "sha1", 20, adapted, adapted),
     "passlib-sha256": (b"$pbkdf2-sha256$", "sha256", 32, adapted, adapted),
     "passlib-sha512": (b"$pbkdf2-sha512$", "sha512", 64, adapted, adapted),
+    "postgresql": (b"SCRAM-SHA-256$", "sha256", 64, base64.b64encode, two_keys),
+    "werkzeug-sha1": (b"pbkdf2:sha1:", "sha1", 20, plain, text_symbols),
 }
 PARAMETERS = ("i={c}", "i={c},l={n}", "l={n},i={c}")
 
 
-def made(kind, count, salt, password, parameters=1, length=None):
-    """The text of a hash."""
-    prefix, digest, usual, salt_form, hash_form = KINDS[kind]
+def count_end(scheme):
+    """What ends the parameters."""
+    return b":" if scheme == "postgresql" else b"$"
+
+
+def derived(scheme, password, salt, count, length):
+    """What a text keeps of a password: PBKDF2's bytes, or SCRAM's two keys (RFC 5802, section 3,
+    and RFC 7677)."""
+    digest = SCHEMES[scheme][1]
+    if scheme != "postgresql":
+        return hashlib.pbkdf2_hmac(digest, password, salt, count, length)
+    salted = hashlib.pbkdf2_hmac(digest, password, salt, count)
+    names = (b"Client Key", b"Server Key")
+    client, server = (hmac.new(salted, name, digest).digest() for name in names)
+    return hashlib.sha256(client).digest() + server
+
+
+def made(scheme, count, salt, password, parameters=1, length=None):
+    """The text of a password."""
+    prefix, _, usual, salt_form, kept_form = SCHEMES[scheme]
     length = length or usual
-    head = PARAMETERS[parameters].format(c=count, n=length) if "phc" in kind else str(count)
-    value = hashlib.pbkdf2_hmac(digest, password, salt, count, length)
-    return prefix + head.encode() + b"$" + salt_form(salt) + b"$" + hash_form(value)
+    head = PARAMETERS[parameters].format(c=count, n=length) if "phc" in scheme else str(count)
+    kept = derived(scheme, password, salt, count, length)
+    return prefix + head.encode() + count_end(scheme) + salt_form(salt) + b"$" + kept_form(kept)
+
+
+def bytes_of_base64(field):
+    """The bytes of base64, with padding, without it, or as passlib writes it."""
+    for symbols in (field, field.replace(b".", b"+")):
+        with contextlib.suppress(ValueError):
+            yield base64.b64decode(symbols + b"=" * (-len(symbols) % 4), validate=True)
 
 
 def decoded(form, field):
     """The bytes that a form writes as the field; None if there are none."""
-    candidates = [field]
+    candidates = [field, *bytes_of_base64(field)]
     with contextlib.suppress(ValueError):
         candidates.append(bytes.fromhex(field.decode()))
-    for symbols in (field, field.replace(b".", b"+")):
-        with contextlib.suppress(ValueError):
-            candidates.append(base64.b64decode(symbols + b"=" * (-len(symbols) % 4), validate=True))
+    keys = [next(bytes_of_base64(key), b"") for key in field.split(b":")]
+    candidates.append(b"".join(keys))
     return next((data for data in candidates if form(data) == field), None)
 
 
@@ -144,9 +175,9 @@ def is_count(word):
     return re.fullmatch(rb"[1-9][0-9]{0,9}", word) is not None and int(word) < 2**32
 
 
-def count_and_length(kind, word, usual):
-    """The count that the parameters name and the length of the hash; None for others."""
-    if "phc" not in kind:
+def count_and_length(scheme, word, usual):
+    """The count that the parameters name and the length of what is kept; None for others."""
+    if "phc" not in scheme:
         return (word, usual) if is_count(word) else None
     for form in PARAMETERS:
         pattern = form.format(c="(?P<c>[0-9]+)", n="(?P<n>[0-9]+)").encode()
@@ -160,20 +191,23 @@ def count_and_length(kind, word, usual):
 
 
 def parsed(text):
-    """The kind of a text and its count, salt and hash; None if it is of no hash."""
-    for kind, (prefix, _, usual, salt_form, hash_form) in KINDS.items():
-        fields = text[len(prefix) :].split(b"$", 2)
-        if not text.startswith(prefix) or len(fields) != 3:
+    """The scheme of a text and its count, its salt and what it keeps; None if it is of none."""
+    if len(text) > MAX_TEXT_LEN:
+        return None
+    for scheme, (prefix, _, usual, salt_form, kept_form) in SCHEMES.items():
+        head, end, rest = text[len(prefix) :].partition(count_end(scheme))
+        fields = rest.split(b"$", 1)
+        if not text.startswith(prefix) or not end or len(fields) != 2:
             continue
-        named = count_and_length(kind, fields[0], usual)
-        salt, value = decoded(salt_form, fields[1]), decoded(hash_form, fields[2])
-        if named and salt and value and len(value) == named[1]:
-            return kind, int(named[0]), salt, value
+        named = count_and_length(scheme, head, usual)
+        salt, kept = decoded(salt_form, fields[0]), decoded(kept_form, fields[1])
+        if named and salt and kept and len(kept) == named[1]:
+            return scheme, int(named[0]), salt, kept
     return None
 
 
 def read_answer(text):
-    """The answer to `read`: the kind of the text and its count, and the text again."""
+    """The answer to `read`: the scheme of the text and its count, and the text again."""
     found = parsed(text)
     return f"{found[0]} {found[1]} {shown(text)}" if found else REFUSED
 
@@ -183,11 +217,11 @@ def verify_answer(text, password, limit):
     found = parsed(text)
     if found is None:
         return REFUSED
-    kind, count, salt, value = found
+    scheme, count, salt, kept = found
     if count > limit:
         return TOO_MANY
-    derived = hashlib.pbkdf2_hmac(KINDS[kind][1], password, salt, count, len(value))
-    return "ok" if derived == value else "wrong password"
+    is_right = derived(scheme, password, salt, count, len(kept)) == kept
+    return "ok" if is_right else "wrong password"
 
 
 def shown(text):
@@ -198,100 +232,58 @@ def shown(text):
         return f"hex:{text.hex()}"
 
 
-def keys_of(count, salt, password):
-    """A verifier's two keys (RFC 5802, section 3, and RFC 7677)."""
-    salted = hashlib.pbkdf2_hmac("sha256", password, salt, count)
-    names = (b"Client Key", b"Server Key")
-    client, server = (hmac.new(salted, name, "sha256").digest() for name in names)
-    return hashlib.sha256(client).digest(), server
-
-
-def verifier(count, salt, password):
-    """PostgreSQL's text."""
-    data = (salt, *keys_of(count, salt, password))
-    fields = [base64.b64encode(it).decode() for it in data]
-    return f"SCRAM-SHA-256${count}:{fields[0]}${fields[1]}:{fields[2]}"
-
-
-SCRAM_PREFIX = b"SCRAM-SHA-256$"
-VERIFIER = re.compile(re.escape(SCRAM_PREFIX) + rb"([^:]*):([^$]*)\$([^:]*):(.*)", re.DOTALL)
-
-
-def parsed_verifier(text):
-    """The count of a verifier's text, its salt and its two keys; None if it is of no verifier."""
-    match = VERIFIER.fullmatch(text)
-    if match is None or not is_count(match[1]):
-        return None
-    salt, *keys = (decoded(base64.b64encode, field) for field in match.groups()[1:])
-    are_keys = all(key is not None and len(key) == 32 for key in keys)
-    return (int(match[1]), salt, tuple(keys)) if salt and are_keys else None
-
-
-def scram_read_answer(text):
-    """The answer to `scram-read`."""
-    found = parsed_verifier(text)
-    return f"{found[0]} {shown(text)}" if found else REFUSED
-
-
-def scram_verify_answer(text, password, limit):
-    """The answer to `scram-verify`."""
-    found = parsed_verifier(text)
-    if found is None:
-        return REFUSED
-    count, salt, keys = found
-    if count > limit:
-        return TOO_MANY
-    return "ok" if keys == keys_of(count, salt, password) else "wrong password"
-
-
 # --- at random, from a seed, so that a failure can be repeated ---
 
 
-def random_salt(rng, kind):
-    if KINDS[kind][3] is plain:
+def random_salt(rng, scheme):
+    if SCHEMES[scheme][3] is plain:
         symbols, length = string.ascii_letters + string.digits, rng.choice([1, 8, 22])
         return "".join(rng.choice(symbols) for _ in range(length)).encode()
     return rng.randbytes(rng.choice([1, 2, 3, 12, 16, 64]))
 
 
-def lines_at_random(rng, kind):
-    """Lines of a hash of the kind at random, with their answers."""
-    salt, password = random_salt(rng, kind), rng.randbytes(rng.randrange(150))
+def lines_at_random(rng, scheme):
+    """Lines of a text of the scheme at random, with their answers."""
+    salt, password = random_salt(rng, scheme), rng.randbytes(rng.randrange(150))
     count = rng.randrange(1, 200)
-    text = made(kind, count, salt, password).decode()
+    text = made(scheme, count, salt, password).decode()
     lower_limit = max(count - 1, 1)
     answer = "ok" if count <= lower_limit else TOO_MANY
     return [
-        (f"make {kind} {count} {digits(salt)} {digits(password)}", text),
-        (f"read {text}", f"{kind} {count} {text}"),
+        (f"make {scheme} {count} {digits(salt)} {digits(password)}", text),
+        (f"read {text}", f"{scheme} {count} {text}"),
         *verdicts(text, password, password + b"!", count),
         (f"verify {text} {digits(password)} {lower_limit}", answer),
     ]
 
 
-def scram_lines_at_random(rng):
-    """Lines of a verifier for PostgreSQL at random, with their answers."""
-    salt, password = rng.randbytes(rng.randrange(1, 40)), rng.randbytes(rng.randrange(150))
-    count = rng.randrange(1, 200)
-    text = verifier(count, salt, password)
-    return [
-        (f"scram-make {count} {digits(salt)} {digits(password)}", text),
-        *verdicts(text, password, password + b"!", count, "scram-verify"),
-    ]
-
-
 def are_as_hashlib():
-    """Hashes at random, of each kind and for PostgreSQL, are made and verified as by hashlib."""
+    """Texts at random, of each scheme, are made and verified as by hashlib."""
     rng = random.Random(8018)
-    wanted = [row for kind in KINDS for _ in range(8) for row in lines_at_random(rng, kind)]
-    wanted += [row for _ in range(20) for row in scram_lines_at_random(rng)]
-    return differing(wanted)
+    return differing([
+        row for scheme in SCHEMES for _ in range(12) for row in lines_at_random(rng, scheme)
+    ])
+
+
+def great_counts_cost_nothing():
+    """A text of 4,294,967,295 iterations is refused at once under a lower limit, of each scheme."""
+    wanted = []
+    for scheme, (prefix, *_) in SCHEMES.items():
+        whole, count = made(scheme, COUNT, b"salt", PASSWORD, 0), b"%d" % (2**32 - 1)
+        rest = whole[len(prefix) :].replace(b"%d" % COUNT, count, 1)
+        text = (prefix + rest).decode()
+        wanted += [
+            (f"read {text}", f"{scheme} {count.decode()} {text}"),
+            (f"verify {text} {digits(PASSWORD)} {2**32 - 2}", TOO_MANY),
+        ]
+    # A derivation of so many takes a quarter of an hour.
+    found = run_over([line for line, _ in wanted], seconds=60)[1]
+    return [row for row, answer in zip(wanted, found) if row[1] != answer] \
+        + [("", "too few answers")] * (len(found) != len(wanted))
 
 
 # --- broken texts ---
 
-# The kind of verifiers, beside KINDS.
-SCRAM = "scram"
 # Of the whole texts, and the limit of the verifications.
 COUNT, PASSWORD, LIMIT = 12, b"x", 20
 # What each byte is changed to. A line feed would end a line of the answers.
@@ -336,78 +328,84 @@ def broken_at(rng, text, at):
     return [*changed, before + after, before, text[at:], exchanged]
 
 
-def heads(kind):
-    """Other texts of the count, and of the length where the kind has one."""
-    if "phc" not in kind:
+def heads(scheme):
+    """Other texts of the count, and of the length where the scheme has one."""
+    if "phc" not in scheme:
         return [it.encode() for it in (*COUNTS, *PARAMETERS_OF_NONE)]
     named = [(count, 32) for count in COUNTS] + [(COUNT, length) for length in (*LENGTHS, "032")]
     forms = [form.format(c=count, n=length) for form in PARAMETERS for count, length in named]
     return [it.encode() for it in (*forms, *PARAMETERS_OF_NONE)]
 
 
-def parts_of(kind, text):
+def parts_of(scheme, text):
     """The prefix of a text, its count, and then each end of a field and the next field."""
-    prefix = SCRAM_PREFIX if kind == SCRAM else KINDS[kind][0]
+    prefix = SCHEMES[scheme][0]
     return [prefix, *re.split(rb"([:$])", text[len(prefix) :])]
 
 
-def other_parts(rng, kind, place):
+def other_parts(rng, scheme, place):
     """What is put in the place of a part."""
     if place == 0:
-        return [SCRAM_PREFIX, *(prefix for prefix, *_ in KINDS.values())]
+        return [prefix for prefix, *_ in SCHEMES.values()]
     if place == 1:
-        return heads(kind)
+        return heads(scheme)
     if place % 2 == 0:
         return [b"", b"$", b":", b"$$"]
     data = [form(rng.randbytes(length)) for form in FORMS for length in LENGTHS]
     return [it for it in data if b"\n" not in it]
 
 
-def with_other_parts(rng, kind, parts):
+def with_other_parts(rng, scheme, parts):
     """The texts that differ in one part."""
     for place in range(len(parts)):
         before, after = parts[:place], parts[place + 1 :]
-        yield from (b"".join([*before, it, *after]) for it in other_parts(rng, kind, place))
+        yield from (b"".join([*before, it, *after]) for it in other_parts(rng, scheme, place))
 
 
-def whole_texts(rng, kind):
-    """Texts of a kind, one for each way to name its parameters."""
-    if kind == SCRAM:
-        return [verifier(COUNT, rng.randbytes(16), PASSWORD).encode()]
-    ways = range(len(PARAMETERS)) if "phc" in kind else [0]
-    return [made(kind, COUNT, random_salt(rng, kind), PASSWORD, way) for way in ways]
+def whole_texts(rng, scheme):
+    """Texts of a scheme, one for each way to name its parameters."""
+    ways = range(len(PARAMETERS)) if "phc" in scheme else [0]
+    return [made(scheme, COUNT, random_salt(rng, scheme), PASSWORD, way) for way in ways]
 
 
-def broken_texts(rng, kind):
-    """Broken texts of a kind, and some that are whole and have another count, salt or hash."""
-    for text in whole_texts(rng, kind):
+def of_each_length(scheme):
+    """Texts with salts of lengths about the longest."""
+    shortest = len(made(scheme, COUNT, b"", PASSWORD, 0))
+    for length in range(MAX_TEXT_LEN + 3):
+        text = made(scheme, COUNT, b"s" * length, PASSWORD, 0)
+        if abs(len(text) - MAX_TEXT_LEN) < 6 or len(text) < shortest + 6:
+            yield text
+
+
+def broken_texts(rng, scheme):
+    """Broken texts of a scheme, and some that are whole and have another count, salt or hash."""
+    for text in whole_texts(rng, scheme):
         yield from (it for at in range(len(text)) for it in broken_at(rng, text, at))
-        yield from with_other_parts(rng, kind, parts_of(kind, text))
+        yield from with_other_parts(rng, scheme, parts_of(scheme, text))
+    yield from of_each_length(scheme)
 
 
-def broken_case(kind):
-    """A case with broken texts of a kind."""
+def broken_case(scheme):
+    """A case with broken texts of a scheme."""
 
     def run():
         rest, wanted = f"{digits(PASSWORD)} {LIMIT}", []
-        for text in broken_texts(random.Random(kind), kind):
+        for text in broken_texts(random.Random(scheme), scheme):
             word = f"hex:{digits(text)}"
             wanted += [
                 (f"read {word}", read_answer(text)),
                 (f"verify {word} {rest}", verify_answer(text, PASSWORD, LIMIT)),
-                (f"scram-read {word}", scram_read_answer(text)),
-                (f"scram-verify {word} {rest}", scram_verify_answer(text, PASSWORD, LIMIT)),
             ]
         return differing(wanted)
 
-    run.__doc__ = f"broken texts of {kind} are read and verified as by this script's reader"
+    run.__doc__ = f"broken texts of {scheme} are read and verified as by this script's reader"
     return run
 
 
 def proof_and_signature():
     """The keys of RFC 7677's example give the proof and the signature of the RFC, section 3."""
     salt = base64.b64decode("W22ZaJ0SNY7soEsUEjb6gQ==")
-    answer = answers([f"scram-make 4096 {digits(salt)} {digits('pencil')}"])[0]
+    answer = answers([f"make postgresql 4096 {digits(salt)} {digits('pencil')}"])[0]
     stored, server = (base64.b64decode(key) for key in answer.split("$")[2].split(":"))
     nonce = "rOprNGfwEbeRWgbNEkqO%hvYDpWUa2RaTCAfuxFIlj)hNlF$k0"
     client_first = "n=user,r=rOprNGfwEbeRWgbNEkqO"
@@ -449,7 +447,8 @@ def fault_of(status, found, wanted):
 
 def each_request_is_refused():
     """each request for memory refused in turn: its line is answered so, and the others as ever"""
-    rows = [row for file in ("django", "scram") for row in rows_of(VECTORS / f"{file}.txt")][:12]
+    files = [VECTORS / f"{scheme}.txt" for scheme in ("django", "postgresql")]
+    rows = [row for file in files for row in rows_of(file)][:12]
     lines, wanted = zip(*rows)
     with tempfile.TemporaryDirectory() as folder:
         library = pathlib.Path(folder) / "failing_parts.so"
@@ -470,7 +469,7 @@ def each_request_is_refused():
 
 # --- other systems ---
 
-# What each module of Python does with a list of questions: it makes a text of a kind and a
+# What each module of Python does with a list of questions: it makes a text of a scheme and a
 # password, or verifies one.
 PEERS = {
     "django": """
@@ -479,26 +478,26 @@ prefix = "django.contrib.auth.hashers.PBKDF2"
 hashers = [prefix + "PasswordHasher", prefix + "SHA1PasswordHasher"]
 settings.configure(PASSWORD_HASHERS=hashers)
 from django.contrib.auth.hashers import check_password, make_password
-def make(kind, password): return make_password(password, hasher="pbkdf2_" + kind.split("-")[1])
-def verify(kind, password, text): return check_password(password, text)
+def make(scheme, password): return make_password(password, hasher="pbkdf2_" + scheme.split("-")[1])
+def verify(scheme, password, text): return check_password(password, text)
 """,
     "werkzeug": """
 from werkzeug.security import check_password_hash, generate_password_hash
-def make(kind, password):
-    return generate_password_hash(password, "pbkdf2:%s:1000" % kind.split("-")[1])
-def verify(kind, password, text): return check_password_hash(text, password)
+def make(scheme, password):
+    return generate_password_hash(password, "pbkdf2:%s:1000" % scheme.split("-")[1])
+def verify(scheme, password, text): return check_password_hash(text, password)
 """,
     "passlib": """
 from passlib.hash import pbkdf2_sha1, pbkdf2_sha256, pbkdf2_sha512
 hashes = {"sha1": pbkdf2_sha1, "sha256": pbkdf2_sha256, "sha512": pbkdf2_sha512}
-def make(kind, password, salt_size=16):
-    return hashes[kind.split("-")[1]].using(rounds=1000, salt_size=salt_size).hash(password)
-def verify(kind, password, text): return hashes[kind.split("-")[1]].verify(password, text)
+def make(scheme, password, salt_size=16):
+    return hashes[scheme.split("-")[1]].using(rounds=1000, salt_size=salt_size).hash(password)
+def verify(scheme, password, text): return hashes[scheme.split("-")[1]].verify(password, text)
 """,
 }
-# What a module is asked for texts that it writes too, and that no hash of a kind has.
+# What a module is asked for texts that it writes too, and that are of no scheme.
 UNREAD = {
-    "werkzeug": [(f"werkzeug-{it}", "x") for it in ("sha1", "sha224", "sha384", "md5", "SHA256")],
+    "werkzeug": [(f"werkzeug-{it}", "x") for it in ("sha224", "sha384", "md5", "SHA256")],
     "passlib": [(f"passlib-{it}", "x", 0) for it in ("sha1", "sha256", "sha512")],
 }
 ANSWER_ALL = """
@@ -529,20 +528,20 @@ def with_module(module):
     """A case with a module of Python, both ways."""
 
     def run():
-        rng, kinds = random.Random(module), [kind for kind in KINDS if kind.startswith(module)]
-        pairs = [(kind, password) for kind in kinds for password in PASSWORDS]
+        rng, schemes = random.Random(module), [it for it in SCHEMES if it.startswith(module)]
+        pairs = [(scheme, password) for scheme in schemes for password in PASSWORDS]
         theirs = asked(module, [("make", *pair) for pair in pairs])
         wanted = []
         for (_, password), text in zip(pairs, theirs):
             wanted += verdicts(text, password, password + "y")
-        salts = [digits(random_salt(rng, kind)) for kind, _ in pairs]
+        salts = [digits(random_salt(rng, scheme)) for scheme, _ in pairs]
         lines = [
-            f"make {kind} 1000 {salt} {digits(password)}"
-            for (kind, password), salt in zip(pairs, salts)
+            f"make {scheme} 1000 {salt} {digits(password)}"
+            for (scheme, password), salt in zip(pairs, salts)
         ]
         questions = []
-        for (kind, password), text in zip(pairs, answers(lines)):
-            questions += [("verify", kind, password, text), ("verify", kind, password + "y", text)]
+        for (scheme, password), text in zip(pairs, answers(lines)):
+            questions += [("verify", scheme, it, text) for it in (password, password + "y")]
         found = asked(module, questions)
         should_be = [True, False] * len(pairs)
         rows = zip(questions, found, should_be)
@@ -564,11 +563,17 @@ def unread_of(module):
     return run
 
 
-def with_longest_salts():
-    """passlib: its hashes with its longest salts are verified"""
-    questions = [("make", kind, "x", 1024) for kind in KINDS if kind.startswith("passlib")]
-    texts = asked("passlib", questions)
-    return differing([row for text in texts for row in verdicts(text, "x", "y")])
+def with_long_salts():
+    """passlib: its texts of at most 1,024 bytes are verified, and longer ones are refused"""
+    schemes = [scheme for scheme in SCHEMES if scheme.startswith("passlib")]
+    questions = [("make", scheme, "x", size) for scheme in schemes for size in range(640, 760)]
+    wanted, lengths = [], set()
+    for text in asked("passlib", questions + [("make", scheme, "x", 1024) for scheme in schemes]):
+        lengths.add(len(text))
+        refused = (f"verify {text} {digits('x')} {AMPLE_LIMIT}", REFUSED)
+        wanted += [refused] if len(text) > MAX_TEXT_LEN else verdicts(text, "x", "y")
+    both = min(lengths) <= MAX_TEXT_LEN < max(lengths)
+    return differing(wanted) + [("", "all on one side")] * (not both)
 
 
 REGISTRY = pathlib.Path("/usr/share/cargo/registry")
@@ -706,14 +711,14 @@ def lines_of_theirs(server, passwords):
     wanted = []
     for i, password in enumerate(passwords):
         text = server.create(f"theirs{i}", password)
-        wanted += verdicts(text, password, password + "y", 4096, "scram-verify")
+        wanted += verdicts(text, password, password + "y", 4096)
     return wanted
 
 
 def refused_of_ours(server, passwords):
     """Our verifiers that the server does not keep, or by which not the password alone logs in."""
     lines = [
-        f"scram-make {4096 + i} {digits(os.urandom(1 + 5 * i))} {digits(password)}"
+        f"make postgresql {4096 + i} {digits(os.urandom(1 + 5 * i))} {digits(password)}"
         for i, password in enumerate(passwords)
     ]
     wrong = []
@@ -748,19 +753,22 @@ def file_case(file):
     return run
 
 
+ONE_BY_ONE = (proof_and_signature, are_as_hashlib, great_counts_cost_nothing)
+
+
 def cases():
     """Each case, and what is missing for it on this machine."""
     files = sorted(VECTORS.glob("*.txt"))
     yield from ((file_case(file), "") for file in files)
-    yield from ((case, "") for case in (proof_and_signature, are_as_hashlib))
-    yield from ((broken_case(kind), "") for kind in (*KINDS, SCRAM))
+    yield from ((case, "") for case in ONE_BY_ONE)
+    yield from ((broken_case(scheme), "") for scheme in SCHEMES)
     yield each_request_is_refused, "" if shutil.which("cc") else "cc"
     for module in PEERS:
         missing = "" if python_with(module) else module
         yield with_module(module), missing
         if module in UNREAD:
             yield unread_of(module), missing
-    yield with_longest_salts, "" if python_with("passlib") else "passlib"
+    yield with_long_salts, "" if python_with("passlib") else "passlib"
     yield with_rustcrypto, "" if has_rustcrypto() else "RustCrypto's crates"
     yield with_mosquitto, "" if shutil.which("mosquitto_passwd") else "mosquitto_passwd"
     yield with_postgres, "" if postgres_bin() else "PostgreSQL"

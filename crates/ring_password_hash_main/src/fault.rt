@@ -12,6 +12,8 @@ pub enum Fault {
     BadLine,
     /// A call refused it.
     Refused(HashError),
+    /// There is no memory for its words or for the answer.
+    Memory,
 }
 
 impl From<HashError> for Fault {
@@ -22,14 +24,14 @@ impl From<HashError> for Fault {
 
 impl From<AllocError> for Fault {
     fn from(_error: AllocError) -> Self {
-        Fault::Refused(HashError::Memory)
+        Fault::Memory
     }
 }
 
 impl From<FromHexError> for Fault {
     fn from(error: FromHexError) -> Self {
         match error {
-            FromHexError::OutOfMemory => Fault::Refused(HashError::Memory),
+            FromHexError::OutOfMemory => Fault::Memory,
             _ => Fault::BadLine,
         }
     }

@@ -14,7 +14,6 @@ use std::io::{BufRead, BufReader};
 
 mod answer;
 mod fault;
-mod scram;
 mod words;
 
 /// The text of an answer.
@@ -23,6 +22,7 @@ fn text_of(alloc: Global, answer: Result<String, Fault>) -> Result<String, Alloc
         Ok(text) => Ok(text),
         Err(Fault::BadLine) => String::from_str(alloc, "bad line"),
         Err(Fault::Refused(error)) => format!(in alloc; "{error}"),
+        Err(Fault::Memory) => String::from_str(alloc, "out of memory"),
     }
 }
 

@@ -30,16 +30,16 @@ functions = functools.cache(lambda code: tuple(rattle_text.functions(code)))
 
 ROOT = pathlib.Path(__file__).resolve().parent.parent
 # How many places of a crate make a meter at most, where there are any: one a plain form; of the
-# bench one for each request that runs blocks; of the program `set` and `verify`; of `ring_sums` and
-# the calls for C those that name a width, which have no plain form, and two plain forms; and
-# callers.
+# bench one for each request that runs blocks; of the program `set`, `verify` and `check`; of
+# `ring_sums` and the calls for C those that name a width, which have no plain form, and two plain
+# forms; and callers.
 METERS = {
     "ring_core": 4,
     "ring": 22,
     "ring_bench": 6,
     "ring_store": 7,
     "ring_password_hash": 3,
-    "ring_passwords": 2,
+    "ring_passwords": 3,
     "ring_schedules": 2,
     "ring_sums": 1,
     "ring_examples": 10,
@@ -167,7 +167,7 @@ PLANTED = {
         "    change::verify(&store, name, &password, &mut Meter::new())\n",
     ),
     "`verify` of the program derives once more under another meter": (
-        "at most 2 places of ring_passwords make a meter",
+        "at most 3 places of ring_passwords make a meter",
         "crates/ring_passwords/src/main.rt",
         "    change::verify(&store, name, &password, &mut Meter::new())\n",
         "    let _ = change::verify(&store, name, &password, &mut Meter::new());\n"
@@ -246,11 +246,11 @@ PLANTED = {
         "    yz_password_hash_new_counted(\n",
         "let _ = ring::pbkdf2::derive(PBKDF2_HMAC_SHA256, iterations, salt, password, &mut [0]);",
     ),
-    "`verify` of the program's texts derives twice": before(
+    "`test` of the program's texts derives twice": before(
         ONCE,
-        "crates/ring_passwords/src/stored.rt",
-        "                verifier.verify_prepared(password)\n",
-        "let _ = verifier.verify_prepared(password);",
+        "crates/ring_passwords/src/check.rt",
+        "    match stored.verify_counted(password, most.get(), meter) {\n",
+        "let _ = stored.verify_counted(password, most.get(), meter);",
     ),
     "`verify` of a Finished ends at the first byte that differs": (
         ONE_CALL,

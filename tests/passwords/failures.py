@@ -9,8 +9,8 @@ import signal
 import subprocess
 
 from harness import (
-    DONE, FEW, IS_FOLDER, NO_MEMORY, NO_SPACE, PROGRAM, Case, Folder, limit, memory_limit, text_of,
-    told,
+    DONE, FEW, IS_FOLDER, NO_MEMORY, NO_SPACE, PROGRAM, Case, Folder, limit, memory_limit, of_file,
+    text_of, told,
 )
 
 
@@ -27,8 +27,8 @@ class Room(Case):
         it = self.new_folder()
         it.set("a", b"x")
         text = it.file.read_bytes()
-        wanted = (2, "cannot replace the file: File too large (os error 27)")
-        it.ends(wanted, "set", "b", *FEW, password=b"x", preexec_fn=limited)
+        message = "cannot replace the file: File too large (os error 27)"
+        it.fails(message, "set", "b", *FEW, password=b"x", preexec_fn=limited)
         it.holds(text)
         it.set("b", b"x")
 
@@ -41,9 +41,9 @@ class Room(Case):
         with contextlib.suppress(OSError), open(filler, "wb", buffering=0) as full:
             while True:
                 full.write(bytes(4096))
-        wanted = (2, f"cannot replace the file: {NO_SPACE}")
-        it.ends(wanted, "set", "b", *FEW, password=b"x")
-        it.ends(wanted, "remove", "a")
+        wanted = f"cannot replace the file: {NO_SPACE}"
+        it.fails(wanted, "set", "b", *FEW, password=b"x")
+        it.fails(wanted, "remove", "a")
         filler.unlink()
         it.holds(text)
         it.set("b", b"x")
@@ -99,7 +99,7 @@ class Room(Case):
                 break
             messages.add(ended[1])
             it.holds(text)
-        wanting = {NO_MEMORY, f"cannot read the file: {NO_MEMORY}"}
+        wanting = {NO_MEMORY, of_file(it.file, f"cannot read the file: {NO_MEMORY}")}
         self.assertEqual({message for message in messages if "memory" in message}, wanting)
         self.assertEqual(ended, DONE)
 
@@ -131,16 +131,19 @@ ROWS = [
 ]
 
 
-def refused_step(names, number):
+def refused_step(file, names, number):
     """What cannot be done where this call fails, counted from 1."""
     name, lock = names[number - 1], names.index("flock") + 1
+    if name == "getentropy":
+        return "cannot get random bytes"
+    step = "cannot replace the file"
     if number == len(names):
-        return "replaced the file, but cannot sync its folder"
-    if name == "open" and (number < lock - 1 or number == lock + 1):
-        return "cannot read the file"
-    if number in (lock - 1, lock):
-        return "cannot lock the file"
-    return "cannot get random bytes" if name == "getentropy" else "cannot replace the file"
+        step = "replaced the file, but cannot sync its folder"
+    elif name == "open" and (number < lock - 1 or number == lock + 1):
+        step = "cannot read the file"
+    elif number in (lock - 1, lock):
+        step = "cannot lock the file"
+    return of_file(file, step)
 
 
 class Calls(Case):
@@ -190,7 +193,8 @@ class Calls(Case):
         def holds(it, words, names, number, after):
             text = text_in(it)
             ended, made = self.run_with(it, *words, FAILED_CALL=number)
-            self.assertEqual(ended, (2, f"{refused_step(names, number)}: {NO_SPACE}"))
+            wanted = f"{refused_step(it.file, names, number)}: {NO_SPACE}"
+            self.assertEqual(ended, (2, wanted))
             self.assertEqual(made[:number], names[:number])
             self.assertEqual(it.beside(), set())
             self.assert_old_or_new(it, text, after, number == len(names))

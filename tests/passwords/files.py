@@ -6,7 +6,7 @@ import os
 import stat
 
 from harness import (
-    BROKEN, DENIED, DONE, FEW, NOBODY, NO_FOLDER, Case, Folder, as_nobody, head_line,
+    BROKEN, DENIED, DONE, FEW, NOBODY, NO_FOLDER, Case, Folder, as_nobody, head_line, of_file,
     program_for_nobody, record_line, text_of,
 )
 
@@ -33,11 +33,11 @@ class Refused(Case):
         """Without a file only a password can be set, and without its folder none."""
         it = self.new_folder()
         for words in READING:
-            it.ends((2, "no such file"), *words, password=b"x")
+            it.fails("no such file", *words, password=b"x")
         it.is_empty()
         it.file = it.path / "none" / "store"
         for words in COMMANDS:
-            it.ends((2, NO_FOLDER), *words, password=b"x")
+            it.fails(NO_FOLDER, *words, password=b"x")
         it.is_empty()
 
     def test_other_kinds_of_files(self):
@@ -54,7 +54,7 @@ class Refused(Case):
             before = it.file.lstat().st_mode
             # There is to be no lock beside the system's devices.
             for words in COMMANDS if it.file.parent == it.path else READING:
-                it.ends((2, "not a regular file"), *words, password=b"x")
+                it.fails("not a regular file", *words, password=b"x")
                 self.assertEqual(it.file.lstat().st_mode, before)
         self.assertEqual((it.path / "store").read_bytes(), text)
         self.assertFalse((it.path / "target").exists())
@@ -69,7 +69,7 @@ class Refused(Case):
             with self.subTest(text=bad[:80]):
                 it.file.write_bytes(bad)
                 for words in COMMANDS:
-                    it.ends(BROKEN, *words, password=b"x")
+                    it.fails(BROKEN, *words, password=b"x")
                     it.holds(bad)
         it.file.write_bytes(text)
         it.lists(b"N", b"a", b"b")
@@ -84,8 +84,8 @@ class Refused(Case):
         for bad, words in zip(broken_lines(), commands):
             with self.subTest(text=bad[-200:]):
                 it.file.write_bytes(bad)
-                it.ends(BROKEN, "list")
-                it.ends(BROKEN, *words, password=b"x")
+                it.fails(BROKEN, "list")
+                it.fails(BROKEN, *words, password=b"x")
                 it.holds(bad)
 
 
@@ -191,7 +191,8 @@ class Kept(Case):
         assert_set(nobody, (0, NOBODY, 0o644), ("", of_nobody))
         assert_set(nobody, (0, 0, 0o644), ("", (NOBODY, NOBODY, 0o600)))
         os.chown(lock, 0, 0)
-        assert_set(nobody, of_nobody, (f"cannot lock the file: {DENIED}", of_nobody))
+        locked = of_file(it.file, f"cannot lock the file: {DENIED}")
+        assert_set(nobody, of_nobody, (locked, of_nobody))
 
     def test_an_open_file_has_the_old_text(self):
         """A change gives a new file, so that an open one still has the old text."""
@@ -236,15 +237,15 @@ class Kept(Case):
         text = it.file.read_bytes()
         folder.chmod(0o555)
         for words in (("set", "b"), ("remove", "a")):
-            it.ends((2, f"cannot replace the file: {DENIED}"), *words, password=b"x")
+            it.fails(f"cannot replace the file: {DENIED}", *words, password=b"x")
         it.verifies("a", b"x")
         it.lists(b"a")
         it.holds(text)
         folder.chmod(0o755)
         lock.unlink()
         folder.chmod(0o555)
-        it.ends((2, f"cannot lock the file: {DENIED}"), "set", "b", password=b"x")
+        it.fails(f"cannot lock the file: {DENIED}", "set", "b", password=b"x")
         it.file.chmod(0o000)
-        it.ends((2, f"cannot read the file: {DENIED}"), "list", password=b"x")
+        it.fails(f"cannot read the file: {DENIED}", "list", password=b"x")
         it.file.chmod(0o600)
         it.holds(text)

@@ -20,12 +20,12 @@ USAGE = """usage: passwords FILE set NAME [--iterations N]
        passwords FILE verify NAME
        passwords FILE remove NAME
        passwords FILE list
-       passwords encode KIND [--iterations N]
+       passwords encode SCHEME [--iterations N]
        passwords check [--max-iterations N]
        passwords --help
        passwords --version"""
-BAD_COUNT = "--iterations takes a number from 1 to 4294967295"
-BAD_LIMIT = "--max-iterations takes a number from 1 to 4294967295"
+COMMANDS = "; the commands are set, verify, remove and list"
+NUMBER = "needs a number of 1 to 4294967295"
 WARNING = "warning: with fewer than 100000 iterations, whoever reads the file can guess at " \
     "passwords cheaply; 600000 are advised"
 # How runs end: a status, and a message on standard error without the program's name.
@@ -34,7 +34,7 @@ WARNED = (0, WARNING)
 WRONG = (1, "wrong name or password")
 NO_NAME = (1, "no such name")
 BAD_NAME = (2, "a name has 1 to 64 bytes")
-BROKEN = (2, "not a password store")
+BROKEN = "not a password store"
 NO_PASSWORD = (2, "no password on standard input")
 NO_SPACE = "No space left on device (os error 28)"
 DENIED = "Permission denied (os error 13)"
@@ -45,6 +45,26 @@ NO_MEMORY = "out of memory"
 FEW = ("--iterations", "1")
 NOBODY = 65534
 GREATEST_COUNT = 4_294_967_295
+
+
+def no_count(option="--iterations"):
+    """What is said of an option without a number."""
+    return f"{option} {NUMBER}"
+
+
+def bad_count(word, option="--iterations"):
+    """What is said of an option with this word in place of a number."""
+    return f"{option} {NUMBER}, not '{word}'"
+
+
+def one_too_many(word):
+    """What is said of a word that is one too many."""
+    return f"one word too many: {word}"
+
+
+def of_file(path, message):
+    """What is said of a file."""
+    return f"{path}: {message}"
 
 
 class Case(unittest.TestCase):
@@ -93,6 +113,10 @@ class Folder:
         """A run that waits for its password."""
         command = [*self.program, self.file, *words]
         return subprocess.Popen(command, stdin=subprocess.PIPE, stderr=subprocess.DEVNULL)
+
+    def fails(self, message, *words, **settings):
+        """A run ends with status 2 and this message of its file."""
+        self.ends((2, of_file(self.file, message)), *words, **settings)
 
     def ends(self, wanted, *words, password=b"", **settings):
         """A run ends so, warns of few iterations, and writes nothing on standard output."""

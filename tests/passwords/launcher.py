@@ -8,7 +8,7 @@ import shutil
 import subprocess
 import time
 
-from harness import DONE, LAUNCHER, PROGRAM, ROOT, USAGE, WRONG, Case, bare, told
+from harness import COMMANDS, DONE, LAUNCHER, PROGRAM, ROOT, WRONG, Case, bare, of_file, told
 
 
 class Launcher(Case):
@@ -18,9 +18,10 @@ class Launcher(Case):
         """Its status, its output and its input are the program's, from any folder."""
         it = self.new_folder()
         it.set("a", b"\n")
+        no_command = (2, of_file("store", f"no command{COMMANDS}"))
         rows = [
             (("list",), b"x", (DONE, b"a\n")), (("verify", "b"), b"x", (WRONG, b"")),
-            (("verify", "a"), b"\n", (DONE, b"")), ((), b"x", ((2, USAGE), b"")),
+            (("verify", "a"), b"\n", (DONE, b"")), ((), b"x", (no_command, b"")),
         ]
         settings = {"cwd": it.path, "capture_output": True, "timeout": 60}
         for words, line, wanted in rows:

@@ -109,8 +109,7 @@ class GivenUp(Case):
         text = it.file.read_bytes()
         with held_lock(it):
             start = time.monotonic()
-            locked = (2, "another process has locked the file")
-            it.ends(locked, "set", "b", *FEW, password=b"x")
+            it.fails("another process has locked the file", "set", "b", *FEW, password=b"x")
             waited = time.monotonic() - start
         self.assertTrue(55 < waited < 80, waited)
         it.holds(text)

@@ -3,7 +3,7 @@
 
 import password_hashes as hashes
 from harness import Case, bare
-from texts import KINDS, OTHER_PASSWORD, VERIFIED, check
+from texts import OTHER_PASSWORD, SCHEMES, VERIFIED, check
 
 
 class OtherSystems(Case):
@@ -11,32 +11,32 @@ class OtherSystems(Case):
 
     def test_django(self):
         """Django."""
-        self.assert_kinds_of("django")
+        self.assert_schemes_of("django")
 
     def test_werkzeug(self):
         """Werkzeug."""
-        self.assert_kinds_of("werkzeug")
+        self.assert_schemes_of("werkzeug")
 
     def test_passlib(self):
         """passlib."""
-        self.assert_kinds_of("passlib")
+        self.assert_schemes_of("passlib")
 
-    def assert_kinds_of(self, module):
-        """A module and this program take each other's texts, of each kind that is the module's."""
+    def assert_schemes_of(self, module):
+        """A module and this program take each other's texts, of each of the module's schemes."""
         if not hashes.python_with(module):
             self.skipTest(module)
-        kinds = [kind for kind in KINDS if kind.startswith(f"{module}-")]
-        self.assertTrue(kinds)
-        for kind in kinds:
-            with self.subTest(kind=kind):
-                self.assert_both_ways(module, kind)
+        schemes = [scheme for scheme in SCHEMES if scheme.startswith(f"{module}-")]
+        self.assertTrue(schemes)
+        for scheme in schemes:
+            with self.subTest(scheme=scheme):
+                self.assert_both_ways(module, scheme)
 
-    def assert_both_ways(self, module, kind):
+    def assert_both_ways(self, module, scheme):
         """A module and this program take each other's texts."""
-        written = bare("encode", kind, "--iterations", "1000", line=b"correct horse")[2]
+        written = bare("encode", scheme, "--iterations", "1000", line=b"correct horse")[2]
         ours = written.strip().decode()
-        questions = [("verify", kind, word, ours) for word in ("correct horse", "correct hors")]
-        theirs, *found = hashes.asked(module, [("make", kind, "correct horse"), *questions])
+        questions = [("verify", scheme, word, ours) for word in ("correct horse", "correct hors")]
+        theirs, *found = hashes.asked(module, [("make", scheme, "correct horse"), *questions])
         self.assertEqual(found, [True, False], ours)
         self.assertEqual(check(theirs.encode(), b"correct horse"), VERIFIED, theirs)
         self.assertEqual(check(theirs.encode(), b"correct hors"), OTHER_PASSWORD, theirs)

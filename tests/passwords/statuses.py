@@ -8,8 +8,9 @@ import signal
 import subprocess
 
 from harness import (
-    BAD_COUNT, BAD_NAME, DONE, FEW, GREATEST_COUNT, NO_NAME, NO_PASSWORD, NO_SPACE, PROGRAM, USAGE,
-    WARNED, Case, bare, exit_status, head_line, limit, text_of,
+    BAD_NAME, COMMANDS, DONE, FEW, GREATEST_COUNT, NO_NAME, NO_PASSWORD, NO_SPACE, PROGRAM, USAGE,
+    WARNED, Case, bad_count, bare, exit_status, head_line, limit, no_count, of_file, one_too_many,
+    text_of,
 )
 
 
@@ -56,7 +57,7 @@ class Iterations(Case):
         it = self.new_folder()
         for count in counts:
             with self.subTest(count=count):
-                it.ends((2, BAD_COUNT), "set", "a", "--iterations", count, password=b"x")
+                it.ends((2, bad_count(count)), "set", "a", "--iterations", count, password=b"x")
         it.is_empty()
 
     def test_few_iterations_are_warned_of(self):
@@ -142,22 +143,45 @@ def processor_time(folder, *words, password):
 class Words(Case):
     """Which arguments there are."""
 
-    ROWS = [
-        (), ("",), ("set",), ("verify",), ("remove",), ("lists",), ("list", "a"), ("SET", "a"),
-        ("set", "a", "b"), ("set", "a", "--iterations"), ("set", "a", "--iteration", "1"),
-        ("set", "a", *FEW, "x"), ("set", *FEW), ("set", "a", "--iterations=1"),
-        ("verify", "a", *FEW), ("remove", "a", *FEW), ("--help",), ("set", "a", "--help"),
-        ("set", "a", "--help", "1"), ("encode", "mosquitto"), ("check", "--max-iterations", "1"),
-    ]
+    def unknown(self, word):
+        """What is said of a word that is no command."""
+        return f"no such command: {word}{COMMANDS}"
 
-    def test_usage_of_other_arguments(self):
-        """Arguments that ask for nothing: the usage, before the file is touched."""
-        self.assertEqual(bare(), (2, USAGE, b""))
+    def test_words_that_ask_for_nothing_of_a_file(self):
+        """Words behind a file that ask for nothing: the message names them, and nothing is made."""
         it = self.new_folder()
-        for words in self.ROWS:
+        unknown = ("", "lists", "SET", "--help", "mosquitto", "a\tb", "é", "--iterations")
+        rows = [((word,), of_file(it.file, self.unknown(word))) for word in unknown]
+        rows += [((word, "a"), of_file(it.file, self.unknown(word))) for word in unknown]
+        rows += [((word,), f"{word} needs a name") for word in ("set", "verify", "remove")]
+        rows += [
+            ((), of_file(it.file, f"no command{COMMANDS}")), (("list", "a"), one_too_many("a")),
+            (("set", "a", "b"), one_too_many("b")), (("set", "a", "b", "c"), one_too_many("b")),
+            (("set", "a", "--iterations"), no_count()), (("set", *FEW), one_too_many("1")),
+            (("set", "a", "--iteration", "1"), one_too_many("--iteration")),
+            (("set", "a", *FEW, "x"), one_too_many("x")),
+            (("set", "a", *FEW, *FEW), one_too_many("--iterations")),
+            (("set", "a", "--iterations", "x", "y"), bad_count("x")),
+            (("set", "a", "--iterations=1"), one_too_many("--iterations=1")),
+            (("verify", "a", *FEW), one_too_many("--iterations")),
+            (("remove", "a", *FEW), one_too_many("--iterations")),
+            (("remove", "a", ""), one_too_many("")),
+            (("set", "a", "--help"), one_too_many("--help")),
+            (("set", "a", "--max-iterations", "1"), one_too_many("--max-iterations")),
+        ]
+        for words, message in rows:
             with self.subTest(words=words):
-                it.ends((2, USAGE), *words, password=b"x")
+                it.ends((2, message), *words, password=b"x")
         it.is_empty()
+
+    def test_words_that_ask_for_nothing(self):
+        """No word at all: the usage. One word that asks for nothing is taken as a file."""
+        self.assertEqual(bare(), (2, USAGE, b""))
+        for word in ("store", "", "--helps", "-h", "list", "set", "--iterations"):
+            message = of_file(word, f"no command{COMMANDS}")
+            self.assertEqual(bare(word), (2, message, b""), word)
+        message = of_file("--help", self.unknown("x"))
+        self.assertEqual(bare("--help", "x"), (2, message, b""))
 
     def test_help_and_version(self):
         """`--help` and `--version`, alone, write on standard output and end with status 0."""

@@ -13,8 +13,8 @@ import termios
 import time
 
 from harness import (
-    BAD_COUNT, BAD_NAME, FEW, LAUNCHER, NO_FOLDER, PROGRAM, USAGE, Case, Folder, exit_status,
-    held_lock,
+    BAD_NAME, BROKEN, FEW, LAUNCHER, NO_FOLDER, PROGRAM, Case, Folder, bad_count, exit_status,
+    held_lock, of_file, one_too_many,
 )
 
 FIRST = b"New password for a: "
@@ -207,17 +207,21 @@ class Asked(Case):
 
         at("broken").file.write_bytes(b"no store\n")
         at("folder").file.mkdir()
-        bad_name, broken, irregular = BAD_NAME[1], "not a password store", "not a regular file"
+        bad_name, irregular = BAD_NAME[1], "not a regular file"
         rows = [
             (it, ("set", ""), bad_name), (it, ("verify", "n" * 65), bad_name),
             (at("missing"), ("set", "n" * 65), bad_name),
+            (it, ("verify",), "verify needs a name"), (it, ("set",), "set needs a name"),
+            (it, ("set", "a", "b"), one_too_many("b")),
+            (it, ("set", "a", "--iterations", "0"), bad_count("0")),
+        ]
+        of_files = [
             (at("missing"), ("verify", "a"), "no such file"),
             (at("missing/store"), ("set", "a"), NO_FOLDER),
-            (at("broken"), ("verify", "a"), broken), (at("broken"), ("set", "a"), broken),
+            (at("broken"), ("verify", "a"), BROKEN), (at("broken"), ("set", "a"), BROKEN),
             (at("folder"), ("verify", "a"), irregular), (at("folder"), ("set", "a"), irregular),
-            (it, ("verify",), USAGE), (it, ("set",), USAGE), (it, ("set", "a", "b"), USAGE),
-            (it, ("set", "a", "--iterations", "0"), BAD_COUNT),
         ]
+        rows += [(where, words, of_file(where.file, text)) for where, words, text in of_files]
         for where, words, message in rows:
             wanted = (2, f"passwords: {message}\n".encode())
             self.assertEqual(on_terminal(where, [], *words), wanted, words)

@@ -8,12 +8,12 @@ import time
 import password_hashes as hashes
 from failures import library_of
 from harness import (
-    BAD_COUNT, BAD_LIMIT, DONE, FEW, GREATEST_COUNT, IS_FOLDER, LAUNCHER, NO_MEMORY, NO_PASSWORD,
-    NO_SPACE, ROOT, USAGE, WARNED, Case, bare, memory_limit,
+    COMMANDS, DONE, FEW, GREATEST_COUNT, IS_FOLDER, LAUNCHER, NO_MEMORY, NO_PASSWORD, NO_SPACE,
+    ROOT, WARNED, Case, bad_count, bare, memory_limit, no_count, one_too_many,
 )
 from terminal import AGAIN, NONE, READY, TESTED, Shell, Terminal
 
-KINDS = [*hashes.KINDS, "postgresql"]
+SCHEMES = list(hashes.SCHEMES)
 ADVISED = {"sha1": 1_300_000, "sha256": 600_000, "sha512": 210_000}
 # How runs end: a status, a message, and what is written.
 VERIFIED = (*DONE, b"")
@@ -29,51 +29,38 @@ def check(text, password, *most):
     return bare("check", *words, line=text + b"\n" + password + b"\n")
 
 
-def digest_of(kind):
-    return "sha256" if kind == "postgresql" else hashes.KINDS[kind][1]
-
-
-def salt_in(kind, text):
+def salt_in(text):
     """The salt of a text, by the reader of tests/password_hashes.py."""
-    if kind == "postgresql":
-        salt = text.split(b":")[1].split(b"$")[0]
-        return hashes.decoded(hashes.base64.b64encode, salt)
-    prefix, _, _, form, _ = hashes.KINDS[kind]
-    return hashes.decoded(form, text[len(prefix):].split(b"$")[1])
-
-
-def text_by_hashlib(kind, count, salt, password):
-    if kind == "postgresql":
-        return hashes.verifier(count, salt, password).encode()
-    return hashes.made(kind, count, salt, password)
+    return hashes.parsed(text)[2]
 
 
 class Written(Case):
     """What `encode` writes."""
 
+    NO_SCHEMES = ["", "md5", "Mosquitto", "django", "django-sha", "scram", "--help", "é", "a b"]
     PASSWORDS = [b"x", b"", b"correct horse", b"p" * 65, "Größe".encode(), b"\xff\x01 $:"]
 
     def test_texts_are_as_hashlib_makes_them(self):
-        """`encode` writes the text that hashlib makes, of each kind; `check` takes it."""
-        for kind, password in itertools.product(KINDS, self.PASSWORDS):
-            with self.subTest(kind=kind, password=password):
-                ended = bare("encode", kind, "--iterations", "7", line=password + b"\nrest")
-                if kind == "postgresql" and not password.isascii():
+        """`encode` writes the text that hashlib makes, of each scheme; `check` takes it."""
+        for scheme, password in itertools.product(SCHEMES, self.PASSWORDS):
+            with self.subTest(scheme=scheme, password=password):
+                ended = bare("encode", scheme, "--iterations", "7", line=password + b"\nrest")
+                if scheme == "postgresql" and not password.isascii():
                     self.assertEqual(ended, NOT_ASCII)
                     continue
                 text = ended[2].removesuffix(b"\n")
-                wanted = text_by_hashlib(kind, 7, salt_in(kind, text), password)
+                wanted = hashes.made(scheme, 7, salt_in(text), password)
                 self.assertEqual(ended, (*DONE, wanted + b"\n"))
                 self.assertEqual(check(text, password), VERIFIED)
                 self.assertEqual(check(text, password + b"!"), OTHER_PASSWORD)
 
     def test_each_text_has_a_salt_of_its_own(self):
         """Salts are 22 letters and digits for Django and Werkzeug, and else 16 bytes."""
-        for kind in KINDS:
-            with self.subTest(kind=kind):
-                texts = [bare("encode", kind, *FEW, line=b"x")[2].strip() for _ in range(24)]
-                salts = {salt_in(kind, text) for text in texts}
-                is_text = kind.startswith(("django", "werkzeug"))
+        for scheme in SCHEMES:
+            with self.subTest(scheme=scheme):
+                texts = [bare("encode", scheme, *FEW, line=b"x")[2].strip() for _ in range(24)]
+                salts = {salt_in(text) for text in texts}
+                is_text = scheme.startswith(("django", "werkzeug"))
                 self.assertEqual(len(salts), 24)
                 self.assertEqual({len(salt) for salt in salts}, {22 if is_text else 16})
                 fixed = [at for at in range(16) if len({salt[at] for salt in salts}) == 1]
@@ -81,35 +68,42 @@ class Written(Case):
                 self.assertTrue(not is_text or all(salt.isalnum() for salt in salts))
 
     def test_the_advised_count_is_taken(self):
-        """Without a count `encode` takes what is advised for the kind's digest."""
-        for kind in KINDS:
-            with self.subTest(kind=kind):
-                *ended, text = bare("encode", kind, line=b"x")
+        """Without a count `encode` takes what is advised for the scheme's digest."""
+        for scheme in SCHEMES:
+            with self.subTest(scheme=scheme):
+                *ended, text = bare("encode", scheme, line=b"x")
                 self.assertEqual(ended, [*DONE])
-                salt, count = salt_in(kind, text.strip()), ADVISED[digest_of(kind)]
-                self.assertEqual(text, text_by_hashlib(kind, count, salt, b"x") + b"\n")
+                salt, count = salt_in(text.strip()), ADVISED[hashes.SCHEMES[scheme][1]]
+                self.assertEqual(text, hashes.made(scheme, count, salt, b"x") + b"\n")
 
     def test_no_other_words_are_taken(self):
-        """What `encode` and `check` do not take: other words. Nothing is read or written."""
-        rows = [
-            ("encode",), ("encode", ""), ("encode", "md5"), ("encode", "Mosquitto"),
-            ("encode", "django"), ("encode", "mosquitto", "--iterations"),
-            ("encode", "mosquitto", "--max-iterations", "1"),
-            ("encode", "md5", "--iterations", "1"),
-            ("encode", "mosquitto", "--iterations", "1", "x"), ("encode", "--iterations", "1"),
-            ("encode", "--iterations", "1", "mosquitto"), ("check", "x"),
-            ("check", "--max-iterations"), ("check", "--iterations", "1"),
-            ("check", "--max-iterations", "1", "x"), ("Check",), ("ENCODE", "mosquitto"),
+        """Other words of `encode` and `check`: the message names them. Nothing is read or made."""
+        schemes = "; the schemes are " + ", ".join(SCHEMES)
+        encode = ("encode", "mosquitto")
+        rows = [(("encode", word), f"no such scheme: {word}{schemes}") for word in self.NO_SCHEMES]
+        rows += [
+            (("encode",), f"encode needs a scheme{schemes}"),
+            (("encode", "md5", *FEW), f"no such scheme: md5{schemes}"),
+            (("encode", *FEW, "mosquitto"), f"no such scheme: --iterations{schemes}"),
+            ((*encode, "--iterations"), no_count()), ((*encode, "x"), one_too_many("x")),
+            ((*encode, "--max-iterations", "1"), one_too_many("--max-iterations")),
+            ((*encode, *FEW, "x"), one_too_many("x")),
+            (("check", "x"), one_too_many("x")), (("check", *FEW), one_too_many("--iterations")),
+            (("check", "--max-iterations"), no_count("--max-iterations")),
+            (("check", "--max-iterations", "1", "x"), one_too_many("x")),
+            (("Check",), f"Check: no command{COMMANDS}"),
+            (("ENCODE", "mosquitto"), f"ENCODE: no such command: mosquitto{COMMANDS}"),
+            (("encode", "set"), "set needs a name"), (("check", "list", "x"), one_too_many("x")),
         ]
-        for words in rows:
-            self.assertEqual(bare(*words, line=b"x"), (2, USAGE, b""), words)
+        for words, message in rows:
+            self.assertEqual(bare(*words, line=b"x"), (2, message, b""), words)
         for count in ("", "0", "-1", "+5", "007", " 5", "1e3", "x", "4294967296", "9" * 100, "٥"):
-            ended = bare("encode", "mosquitto", "--iterations", count, line=b"x")
-            self.assertEqual(ended, (2, BAD_COUNT, b""), count)
+            ended = bare(*encode, "--iterations", count, line=b"x")
+            self.assertEqual(ended, (2, bad_count(count), b""), count)
             ended = bare("check", "--max-iterations", count, line=b"x")
-            self.assertEqual(ended, (2, BAD_LIMIT, b""), count)
-        helped = bare("--help")[2].decode().replace(",", " ").replace(".", " ").split()
-        self.assertEqual([kind for kind in KINDS if kind not in helped], [])
+            self.assertEqual(ended, (2, bad_count(count, "--max-iterations"), b""), count)
+        helped = [line.strip() for line in bare("--help")[2].decode().splitlines()]
+        self.assertEqual([line for line in helped if line in SCHEMES], SCHEMES)
 
     def test_files_may_have_these_names(self):
         """A file may be called `encode` or `check`: commands are told by their second word."""
@@ -142,7 +136,7 @@ class Checked(Case):
     """What `check` takes."""
 
     TEXT = hashes.made("django-sha256", 1000, b"salt", b"x")
-    VERIFIER = hashes.verifier(4096, b"salt", b"x").encode()
+    VERIFIER = hashes.made("postgresql", 4096, b"salt", b"x")
     NO_LINE = (*NO_PASSWORD, b"")
 
     def test_vectors_of_others(self):
@@ -155,11 +149,11 @@ class Checked(Case):
             text = bytes.fromhex(text[4:]) if text.startswith("hex:") else text.encode()
             if b"\n" in text:
                 continue
-            if action in ("verify", "scram-verify") and answer in answers:
+            if action == "verify" and answer in answers:
                 password = bytes.fromhex(words[0].replace("-", ""))
                 self.assertEqual(check(text, password, words[1]), answers[answer], text)
                 count += 1
-            elif action in ("read", "scram-read") and answer == hashes.REFUSED:
+            elif action == "read" and answer == hashes.REFUSED:
                 self.assertEqual(check(text, b"x"), NO_TEXT, text)
                 count += 1
         self.assertGreater(count, 40)
@@ -220,19 +214,17 @@ class Failing(Case):
             self.assertEqual(found, (2, f"cannot read the {what}: {NO_MEMORY}", b""), words)
 
     def test_little_memory(self):
-        """Wherever memory ends, a text is written whole or not at all, and the status says so."""
-        text = hashes.made("mosquitto", 1, b"s" * 3_000_000, b"x")
+        """Wherever memory ends for a line of megabytes, the status says so."""
         ends, last = set(), None
         for kilobytes in range(4_000, 60_000, 500):
             limit = memory_limit(kilobytes << 10)
-            last = bare("check", line=text + b"\nx", preexec_fn=limit)
-            if last == VERIFIED:
+            last = bare("check", line=b"x" * 3_000_000 + b"\nx", preexec_fn=limit)
+            if last == NO_TEXT:
                 break
             ends.add(last)
-        messages = (NO_MEMORY, f"cannot read the text: {NO_MEMORY}")
-        wanting = {(2, message, b"") for message in messages}
+        wanting = {(2, f"cannot read the text: {NO_MEMORY}", b"")}
         self.assertEqual({end for end in ends if "memory" in end[1]}, wanting)
-        self.assertEqual(last, VERIFIED)
+        self.assertEqual(last, NO_TEXT)
 
 
 def on_bare_terminal(folder, typed, *words):
@@ -269,15 +261,15 @@ class OnTerminal(Case):
         status, shown, echoes = on_bare_terminal(self.new_folder(), typed, *encode)
         self.assertEqual((status, echoes), (0, [False, False]))
         written = shown.removeprefix(self.PROMPTS).strip()
-        wanted = text_by_hashlib("mosquitto", 1, salt_in("mosquitto", written), b"secret")
+        wanted = hashes.made("mosquitto", 1, salt_in(written), b"secret")
         self.assertEqual(shown, self.PROMPTS + wanted + b"\n")
         differ = self.PROMPTS + b"passwords: the two passwords differ\n"
-        bad_count = b"passwords: " + BAD_COUNT.encode() + b"\n"
+        refused = f"passwords: {bad_count('0')}\n".encode()
         self.assert_rows([
             ([b"\n"], encode, 2, new + b"\npasswords: the password is empty\n", [False]),
             ([b"x\n", b"y\n"], encode, 2, differ, [False] * 2),
             ([b"\x04"], encode, 2, new + NONE, [False]),
-            ([], ("encode", "mosquitto", "--iterations", "0"), 2, bad_count, []),
+            ([], ("encode", "mosquitto", "--iterations", "0"), 2, refused, []),
         ])
 
     def test_check_asks_for_the_text(self):
@@ -286,7 +278,7 @@ class OnTerminal(Case):
         asked = b"Text: " + text
         both, wrong = asked + self.ONE, asked + self.ONE + b"\npasswords: wrong password\n"
         too_many = asked + b"passwords: the text has too many iterations\n"
-        bad_limit = b"passwords: " + BAD_LIMIT.encode() + b"\n"
+        bad_limit = f"passwords: {bad_count('0', '--max-iterations')}\n".encode()
         self.assert_rows([
             ([text, b"secret\n"], check, 0, both + b"\n", [True, False]),
             ([text, b"other\n"], check, 1, wrong, [True, False]),
@@ -296,7 +288,7 @@ class OnTerminal(Case):
             ([text], ("check", "--max-iterations", "999"), 2, too_many, [True]),
             ([b"\x04"], check, 2, b"Text: passwords: no text on standard input\n", [True]),
             ([], ("check", "--max-iterations", "0"), 2, bad_limit, []),
-            ([], ("check", "x"), 2, b"passwords: " + USAGE.encode() + b"\n", []),
+            ([], ("check", "x"), 2, b"passwords: one word too many: x\n", []),
         ])
 
     def test_files_with_these_names(self):

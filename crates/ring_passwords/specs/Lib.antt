@@ -1,9 +1,13 @@
 -- SPDX-License-Identifier: ISC
 pub mod Action
+pub mod Asked
 pub mod Change
+pub mod Check
 pub mod Conversion
+pub mod Encode
 pub mod Failure
 pub mod File
-pub mod Format
 pub mod Listing
-pub mod Stored
+pub mod Misuse
+pub mod Schemes
+pub mod Word

@@ -1,17 +1,14 @@
 // SPDX-License-Identifier: ISC
-//! What the arguments ask for.
+//! What the arguments ask for of a file.
 
-ghost use Rattle.std.specs.Prelude.{◌≡◌, ◌≢◌, ◌⊎◌, ◌<◌, ◌^◌, ℕ, List, [], ◌∷◌, codes, map};
-ghost use Rattle.std.specs.Prelude.{string_bytes, IfErr, IfOk, IfSome, IsErrOf, IsNone};
-ghost use Rattle.std.specs.Fmt.{decimal};
-ghost use Rattle.std.specs.Int.NonZero.{non_zero_u32_get};
-ghost use Rattle.ring_passwords.specs.Action.{IsNoCount, counted, option_of, words_of};
-ghost use Rattle.ring_passwords.specs.declared.about.About.{About};
-ghost use Rattle.ring_passwords.specs.declared.action.Action.{Action};
+ghost use Rattle.std.specs.Prelude.{◌≡◌, ◌∷◌, map, string_bytes, IfErr, IfOk};
+ghost use Rattle.ring_passwords.specs.Action.{action_words};
+ghost use Rattle.ring_passwords.specs.Misuse.{IsWrongAction};
+ghost use Rattle.ring_passwords.specs.Word.{command_word};
 
-use crate::about::About;
-use crate::failure::Failure;
-use ring_text::count_in;
+use crate::given::{count_given, nothing_more};
+use crate::misuse::Misuse;
+use crate::word::{Command, CountOption};
 use std::num::NonZeroU32;
 
 /// What is done with a file.
@@ -27,115 +24,30 @@ pub enum Action<'a> {
     List,
 }
 
-/// What of the program itself the arguments ask for, if they do.
-pub fn about_of(words: &[String]) -> Option<About>
-    ensures ok { IfSome result (λ about. map string_bytes words.now ≡ option_of about ∷ []) }
-    ensures none { IsNone result → (about : About)
-        → map string_bytes words.now ≢ option_of about ∷ [] }
+/// The action that the command and the words behind it ask for.
+pub fn action_of(command: Command, words: &[String]) -> Result<Action<'_>, Misuse<'_>>
+    ensures ok { IfOk result (λ action.
+        command_word command ∷ map string_bytes words.now ≡ action_words action) }
+    ensures refused { IfErr result (λ misuse.
+        IsWrongAction command misuse (map string_bytes words.now)) }
 {
-    match words {
-        [word] => about_asked(word.as_str()),
-        _ => None,
-    }
-}
-
-/// What a word asks of the program itself.
-fn about_asked(word: &str) -> Option<About>
-    ensures ok { IfSome result (λ about. word.now ≡ option_of about) }
-    ensures none { IsNone result → (about : About) → word.now ≢ option_of about }
-{
-    match word {
-        "--help" => Some(About::Help),
-        "--version" => Some(About::Version),
-        _ => None,
-    }
-}
-
-/// The action that the words behind the file ask for.
-pub fn action_of(words: &[String]) -> Result<Action<'_>, Failure>
-    ensures ok { IfOk result (λ action. map string_bytes words.now ≡ words_of action) }
-    ensures usage { IsErrOf result Failure.Usage → (action : Action)
-        → map string_bytes words.now ≢ words_of action }
-    ensures no_count { IsErrOf result Failure.Usage → (name count : List ℕ)
-        → map string_bytes words.now ≢ counted name count }
-    ensures bad_iterations { IsErrOf result Failure.BadIterations → (name count : List ℕ)
-        × (map string_bytes words.now ≡ counted name count) × IsNoCount count }
-    ensures failure { IfErr result (λ failure.
-        (failure ≡ Failure.Usage) ⊎ (failure ≡ Failure.BadIterations)) }
-{
-    match words {
-        [action] => action_alone(action.as_str()),
-        [action, name] => action_on_name(action.as_str(), name.as_str()),
-        [action, name, option, count] => {
-            action_with_option(
-                action.as_str(),
-                name.as_str(),
-                option.as_str(),
-                count.as_str(),
-            )
+    match (command, words) {
+        (Command::List, _) => {
+            nothing_more(words)?;
+            Ok(Action::List)
         }
-        _ => Err(Failure::Usage),
+        (_, []) => Err(Misuse::NoName(command)),
+        (Command::Set, [name, rest @ ..]) => {
+            let given = count_given(CountOption::Iterations, rest)?;
+            Ok(Action::Set(name.as_str(), given))
+        }
+        (Command::Verify, [name, rest @ ..]) => {
+            nothing_more(rest)?;
+            Ok(Action::Verify(name.as_str()))
+        }
+        (Command::Remove, [name, rest @ ..]) => {
+            nothing_more(rest)?;
+            Ok(Action::Remove(name.as_str()))
+        }
     }
-}
-
-/// The action that is asked for by a word alone.
-fn action_alone<'a>(action: &str) -> Result<Action<'a>, Failure>
-    ensures ok { IfOk result (λ asked. action.now ∷ [] ≡ words_of asked) }
-    ensures refused { IfErr result (λ failure. (failure ≡ Failure.Usage)
-        × ((asked : Action) → action.now ∷ [] ≢ words_of asked)) }
-{
-    match action {
-        "list" => Ok(Action::List),
-        _ => Err(Failure::Usage),
-    }
-}
-
-/// The action that is asked for by a word and a name.
-fn action_on_name<'a>(action: &str, name: &'a str) -> Result<Action<'a>, Failure>
-    ensures ok { IfOk result (λ asked. action.now ∷ name.now ∷ [] ≡ words_of asked) }
-    ensures refused { IfErr result (λ failure. (failure ≡ Failure.Usage)
-        × ((asked : Action) → action.now ∷ name.now ∷ [] ≢ words_of asked)) }
-{
-    match action {
-        "set" => Ok(Action::Set(name, None)),
-        "verify" => Ok(Action::Verify(name)),
-        "remove" => Ok(Action::Remove(name)),
-        _ => Err(Failure::Usage),
-    }
-}
-
-/// The action that is asked for by a word, a name, an option and what it is given.
-fn action_with_option<'a>(
-    action: &str,
-    name: &'a str,
-    option: &str,
-    count: &str,
-) -> Result<Action<'a>, Failure>
-    ensures ok { IfOk result (λ asked.
-        action.now ∷ name.now ∷ option.now ∷ count.now ∷ [] ≡ words_of asked) }
-    ensures usage { IsErrOf result Failure.Usage
-        → (action.now ≢ codes "set") ⊎ (option.now ≢ codes "--iterations") }
-    ensures bad_iterations { IsErrOf result Failure.BadIterations
-        → (action.now ≡ codes "set") × (option.now ≡ codes "--iterations")
-        × IsNoCount count.now }
-    ensures failure { IfErr result (λ failure.
-        (failure ≡ Failure.Usage) ⊎ (failure ≡ Failure.BadIterations)) }
-{
-    match (action, option) {
-        ("set", "--iterations") => match iterations_of(count) {
-            Some(iterations) => Ok(Action::Set(name, Some(iterations))),
-            None => Err(Failure::BadIterations),
-        },
-        _ => Err(Failure::Usage),
-    }
-}
-
-/// The iterations that a word writes in decimal, without a sign or a leading zero: 1 to
-/// 4,294,967,295.
-pub fn iterations_of(word: &str) -> Option<NonZeroU32>
-    ensures ok { IfSome result (λ c. (word.now ≡ decimal (non_zero_u32_get c))
-        × (non_zero_u32_get c < 2 ^ 32)) }
-    ensures refused { IsNone result → IsNoCount word.now }
-{
-    count_in(word.as_bytes())
 }

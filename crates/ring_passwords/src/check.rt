@@ -1,20 +1,36 @@
 // SPDX-License-Identifier: ISC
 //! A password is tested against a text: both are lines of standard input.
 
-ghost use Rattle.std.specs.Prelude.{◌≡◌, ◌≢◌, ◌⊎◌, [], IfErr, IfOk, IfSome, IsErrOf, IsOk, length};
-ghost use Rattle.std.specs.Prelude.{OnOk};
+ghost use Rattle.std.specs.Prelude.{◌≡◌, ◌≢◌, ◌⊎◌, [], false, true, Some};
+ghost use Rattle.std.specs.Prelude.{IfErr, IfOk, IfSome, IsErrOf, IsOk, OnOk};
+ghost use Rattle.std.specs.Int.NonZero.{non_zero_u32_get};
 ghost use Rattle.std.specs.Io.BufRead.{DropsThrough, drop_through, first_piece};
+ghost use Rattle.ring_password_hash.specs.Stored.{IsStored, IsTextOf, Parts, is_of, meter_of};
+ghost use Rattle.ring_password_hash.specs.Stored.{parts_of};
+ghost use Rattle.ring_passwords.specs.Check.{HasTextAndPassword, IsTextWhere, IsWithin};
+ghost use Rattle.ring_passwords.specs.Encode.{IsPrepared};
 ghost use Rattle.ring_passwords.specs.Failure.{IsNoPassword, IsNoStored, IsNoText, IsNotRight};
-ghost use Rattle.ring_passwords.specs.Stored.{CanTest, HasTextAndPassword, IsOf, IsPrepared};
-ghost use Rattle.ring_passwords.specs.Stored.{IsStored, IsTextWhere, IsWithin, format_of, text_of};
-ghost use Rattle.ring_passwords.specs.declared.stored.Stored.{Stored};
 
+use crate::encode::is_prepared;
 use crate::failure::Failure;
 use crate::password::{read_password, read_text};
-use crate::stored::Stored;
+use ring::cost::Meter;
+use ring_password_hash::Stored;
 use std::alloc::Global;
 use std::io::BufRead;
 use std::num::NonZeroU32;
+
+/// Refuses more iterations than `most`.
+fn require_iterations(stored: &Stored, most: NonZeroU32) -> Result<(), Failure>
+    ensures ok { OnOk result (IsWithin (parts_of stored.now) most) }
+    ensures refused { IfErr result (λ failure. (failure ≡ Failure.TooManyIterations)
+        × ¬ (IsWithin (parts_of stored.now) most)) }
+{
+    if stored.iterations().get() > most.get() {
+        return Err(Failure::TooManyIterations);
+    }
+    Ok(())
+}
 
 /// Reads the text, and what it is of. Its iterations are at most `most`.
 fn read_stored<R: BufRead>(
@@ -22,54 +38,94 @@ fn read_stored<R: BufRead>(
     reader: &mut R,
     most: NonZeroU32,
 ) -> Result<Stored, Failure>
-    ensures ok { IfOk result (λ stored. IsStored stored × IsWithin stored most) }
+    ensures ok { IfOk result (λ stored. IsStored stored × IsWithin (parts_of stored) most) }
     ensures text { IfOk result (λ stored. IfSome (R.remaining reader.old)
-        (λ bytes. text_of stored ≡ first_piece 10 bytes)) }
+        (λ bytes. IsTextOf (parts_of stored) (first_piece 10 bytes))) }
     ensures some { OnOk result (IfSome (R.remaining reader.old) (λ bytes. bytes ≢ [])) }
     ensures rest { OnOk result
         (DropsThrough (R.remaining reader.old) (R.remaining reader.new) 10) }
     ensures no_text { IsErrOf result Failure.NoText
         → IfSome (R.remaining reader.old) (λ bytes. bytes ≡ []) }
     ensures not_a_text { IsErrOf result Failure.NotAText → IfSome (R.remaining reader.old)
-        (λ bytes. (stored : Stored) → IsStored stored → text_of stored ≢ first_piece 10 bytes) }
+        (λ bytes. (h : Parts) → ¬ (IsTextOf h (first_piece 10 bytes))) }
     ensures too_many { IsErrOf result Failure.TooManyIterations
         → IfSome (R.remaining reader.old) (λ bytes. IsTextWhere (first_piece 10 bytes)
-        (λ stored. ¬ (IsWithin stored most))) }
+        (λ h. ¬ (IsWithin h most))) }
     ensures failure { IfErr result (λ failure. IsNoText failure ⊎ IsNoStored failure) }
 {
     let text = read_text(alloc, reader)?;
-    let stored = Stored::parse(alloc, &text)?;
-    stored.require_iterations(most)?;
+    let Ok(stored) = Stored::parse(&text) else {
+        return Err(Failure::NotAText);
+    };
+    require_iterations(&stored, most)?;
     Ok(stored)
 }
 
+/// Tests a password against what a text keeps, whose iterations are at most `most`. `meter` counts
+/// the blocks and the compared pairs of bytes: none where the password has to be prepared.
+fn test(
+    stored: &Stored,
+    password: &[u8],
+    most: NonZeroU32,
+    meter: &mut Meter,
+) -> Result<(), Failure>
+    requires stored { IsStored stored.now }
+    requires within { IsWithin (parts_of stored.now) most }
+    ensures ok { IsOk result → IsPrepared (parts_of stored.now).scheme password.now
+        × (is_of (parts_of stored.now) password.now ≡ true) }
+    ensures wrong { IsErrOf result Failure.WrongPassword
+        → IsPrepared (parts_of stored.now).scheme password.now
+        × (is_of (parts_of stored.now) password.now ≡ false) }
+    ensures unprepared { IsErrOf result Failure.NeedsPreparation
+        → ¬ (IsPrepared (parts_of stored.now).scheme password.now) × (meter.new ≡ meter.old) }
+    ensures failure { IfErr result IsNotRight }
+    ensures cost { IsPrepared (parts_of stored.now).scheme password.now → meter.new
+        ≡ meter_of (Some (parts_of stored.now)) password.now (non_zero_u32_get most) meter.old }
+{
+    if !is_prepared(stored.scheme(), password) {
+        return Err(Failure::NeedsPreparation);
+    }
+    match stored.verify_counted(password, most.get(), meter) {
+        Ok(()) => Ok(()),
+        Err(_) => Err(Failure::WrongPassword),
+    }
+}
+
 /// Tests the password of the second line against the text of the first one, whose iterations are at
-/// most `most`. Before the second line is read, the text is found to be one.
-pub fn check<R: BufRead>(alloc: Global, reader: &mut R, most: NonZeroU32) -> Result<(), Failure>
+/// most `most`. Before the second line is read, the text is found to be one. `meter` counts the
+/// blocks and the compared pairs of bytes: none where the password isn't tested.
+pub fn check<R: BufRead>(
+    alloc: Global,
+    reader: &mut R,
+    most: NonZeroU32,
+    meter: &mut Meter,
+) -> Result<(), Failure>
     ensures ok { IsOk result → HasTextAndPassword (R.remaining reader.old) most
-        (λ stored password. IsPrepared (format_of stored) password × IsOf stored password) }
+        (λ h password. IsPrepared h.scheme password × (is_of h password ≡ true)) }
     ensures wrong { IsErrOf result Failure.WrongPassword
         → HasTextAndPassword (R.remaining reader.old) most
-        (λ stored password. IsPrepared (format_of stored) password × ¬ (IsOf stored password)) }
+        (λ h password. IsPrepared h.scheme password × (is_of h password ≡ false)) }
     ensures unprepared { IsErrOf result Failure.NeedsPreparation
         → HasTextAndPassword (R.remaining reader.old) most
-        (λ stored password. ¬ (IsPrepared (format_of stored) password)) }
-    ensures too_long { IsErrOf result Failure.TooLong
-        → HasTextAndPassword (R.remaining reader.old) most
-        (λ stored password. ¬ (CanTest stored (length password))) }
+        (λ h password. ¬ (IsPrepared h.scheme password)) }
     ensures no_password { IsErrOf result Failure.NoPassword → IfSome (R.remaining reader.old)
         (λ bytes. (bytes ≢ []) × (drop_through 10 bytes ≡ [])) }
     ensures no_text { IsErrOf result Failure.NoText
         → IfSome (R.remaining reader.old) (λ bytes. bytes ≡ []) }
     ensures not_a_text { IsErrOf result Failure.NotAText → IfSome (R.remaining reader.old)
-        (λ bytes. (stored : Stored) → IsStored stored → text_of stored ≢ first_piece 10 bytes) }
+        (λ bytes. (h : Parts) → ¬ (IsTextOf h (first_piece 10 bytes))) }
     ensures too_many { IsErrOf result Failure.TooManyIterations
         → IfSome (R.remaining reader.old) (λ bytes. IsTextWhere (first_piece 10 bytes)
-        (λ stored. ¬ (IsWithin stored most))) }
+        (λ h. ¬ (IsWithin h most))) }
     ensures failure { IfErr result (λ failure. IsNoText failure ⊎ IsNoStored failure
         ⊎ IsNoPassword failure ⊎ IsNotRight failure) }
+    ensures cost { (IsOk result ⊎ IsErrOf result Failure.WrongPassword)
+        → HasTextAndPassword (R.remaining reader.old) most (λ h password. meter.new
+        ≡ meter_of (Some h) password (non_zero_u32_get most) meter.old) }
+    ensures cost_untested { IfErr result (λ failure. failure ≢ Failure.WrongPassword
+        → meter.new ≡ meter.old) }
 {
     let stored = read_stored(alloc, reader, most)?;
     let password = read_password(alloc, reader)?;
-    stored.verify(&password)
+    test(&stored, &password, most, meter)
 }

@@ -1,12 +1,11 @@
 // SPDX-License-Identifier: ISC
 //! Why a run ends without success.
 
-ghost use Rattle.std.specs.Prelude.{◌≡◌};
-ghost use Rattle.ring_passwords.specs.Failure.{failure_of, hash_failure_of, status_of};
+ghost use Rattle.std.specs.Prelude.{◌≡◌, Some};
+ghost use Rattle.ring_passwords.specs.Failure.{ended_text, failure_of, failure_text, is_of_file};
+ghost use Rattle.ring_passwords.specs.Failure.{is_step_with_file, status_of};
 ghost use Rattle.ring_passwords.specs.declared.failure.Failure.TheVariants.{Memory};
 
-use crate::about::USAGE;
-use ring_password_hash::HashError;
 use ring_store::StoreError;
 use std::alloc::AllocError;
 use std::{fmt, io};
@@ -38,15 +37,21 @@ pub enum Step {
     WriteAbout,
 }
 
+impl Step {
+    /// Whether it is a step with the file that the call names.
+    fn is_of_file(self) -> bool
+        ensures { result ≡ is_step_with_file self }
+    {
+        match self {
+            Step::ReadFile | Step::Lock | Step::Replace | Step::SyncFolder => true,
+            _ => false,
+        }
+    }
+}
+
 /// Why a run ends without success.
 #[derive(Drop)]
 pub enum Failure {
-    /// The arguments ask for nothing that the program does.
-    Usage,
-    /// What is given as iterations is no number, or none that a store can have.
-    BadIterations,
-    /// What is given as the most iterations is no number, or none that a text can have.
-    BadMaxIterations,
     /// Standard input ends before the first byte of a line.
     NoPassword,
     /// Standard input ends before the first byte of the text.
@@ -55,16 +60,12 @@ pub enum Failure {
     BadName,
     /// The password is longer than HMAC admits.
     TooLong,
-    /// The source of random bytes is not ready.
-    NoRandom,
     /// The password is for PostgreSQL, and has a byte past ASCII.
     NeedsPreparation,
     /// The line is not the text of a password.
     NotAText,
     /// The text has more iterations than are admitted.
     TooManyIterations,
-    /// The format cannot write the salt.
-    BadSalt,
     /// The text is of another password.
     WrongPassword,
     /// The name has no record, or one of another password.
@@ -94,6 +95,19 @@ pub const NOT_FOUND: u8 = 1;
 pub const FAILED: u8 = 2;
 
 impl Failure {
+    /// Whether it is a failure of the file that the call names: the file is not there, is none of a
+    /// store, or cannot be locked, read or replaced.
+    pub fn is_of_file(&self) -> bool
+        ensures { result ≡ is_of_file self.now }
+    {
+        match self {
+            Failure::NoFile | Failure::NoFolder | Failure::NotAFile => true,
+            Failure::NotAStore | Failure::InUse => true,
+            Failure::System(step, _) => step.is_of_file(),
+            _ => false,
+        }
+    }
+
     /// The exit status of the run.
     pub fn status(&self) -> u8
         ensures { result ≡ status_of self.now }
@@ -124,22 +138,16 @@ impl fmt::Display for Step {
     }
 }
 
-/// One line, or the usage. It shows nothing of the file or of a password.
+/// One line. It shows nothing of the file's text or of a password.
 impl fmt::Display for Failure {
+    ghost output = { failure_text };
+
     fn fmt<W: fmt::Write>(&self, f: &mut fmt::Formatter<W>) -> fmt::Result {
         match self {
-            Failure::Usage => f.write_str(USAGE),
-            Failure::BadIterations => {
-                write!(f, "--iterations takes a number from 1 to 4294967295")
-            }
-            Failure::BadMaxIterations => {
-                write!(f, "--max-iterations takes a number from 1 to 4294967295")
-            }
             Failure::NoPassword => write!(f, "no password on standard input"),
             Failure::NoText => write!(f, "no text on standard input"),
             Failure::BadName => write!(f, "a name has 1 to 64 bytes"),
             Failure::TooLong => write!(f, "the password is too long"),
-            Failure::NoRandom => write!(f, "cannot get random bytes"),
             Failure::NeedsPreparation => {
                 write!(
                     f,
@@ -148,7 +156,6 @@ impl fmt::Display for Failure {
             }
             Failure::NotAText => write!(f, "not the text of a password"),
             Failure::TooManyIterations => write!(f, "the text has too many iterations"),
-            Failure::BadSalt => write!(f, "the format cannot write the salt"),
             Failure::WrongPassword => write!(f, "wrong password"),
             Failure::WrongNameOrPassword => write!(f, "wrong name or password"),
             Failure::NoSuchName => write!(f, "no such name"),
@@ -159,6 +166,28 @@ impl fmt::Display for Failure {
             Failure::InUse => write!(f, "another process has locked the file"),
             Failure::Memory => write!(f, "out of memory"),
             Failure::System(step, error) => write!(f, "{step}: {error}"),
+        }
+    }
+}
+
+/// How a run ended: why, and on which file, if the call names one.
+#[derive(Clone, Copy)]
+pub struct Ended<'a> {
+    /// Why.
+    pub failure: &'a Failure,
+    /// The file, as it was typed.
+    pub path: Option<&'a str>,
+}
+
+/// One line. A failure of the file begins with the file.
+impl fmt::Display for Ended<'_> {
+    ghost output = { ended_text };
+
+    fn fmt<W: fmt::Write>(&self, f: &mut fmt::Formatter<W>) -> fmt::Result {
+        let failure = self.failure;
+        match self.path {
+            Some(path) if failure.is_of_file() => write!(f, "{path}: {failure}"),
+            _ => write!(f, "{failure}"),
         }
     }
 }
@@ -182,22 +211,6 @@ impl From<StoreError> for Failure {
             StoreError::TooLong => Failure::TooLong,
             StoreError::WrongUsernameOrPassword => Failure::WrongNameOrPassword,
             StoreError::Memory => Failure::Memory,
-        }
-    }
-}
-
-/// A hash's or a verifier's refusal.
-impl From<HashError> for Failure {
-    ghost from_gives = { λ error failure. failure ≡ hash_failure_of error };
-
-    fn from(error: HashError) -> Self {
-        match error {
-            HashError::BadFormat => Failure::NotAText,
-            HashError::TooManyIterations => Failure::TooManyIterations,
-            HashError::BadSalt => Failure::BadSalt,
-            HashError::TooLong => Failure::TooLong,
-            HashError::WrongPassword => Failure::WrongPassword,
-            HashError::Memory => Failure::Memory,
         }
     }
 }

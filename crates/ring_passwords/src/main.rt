@@ -1,5 +1,5 @@
 // SPDX-License-Identifier: ISC
-//! Keeps passwords in a file: `FILE set|verify|remove NAME` and `FILE list`. `encode KIND` and
+//! Keeps passwords in a file: `FILE set|verify|remove NAME` and `FILE list`. `encode SCHEME` and
 //! `check` write and test the texts of other systems. `--help` and `--version` tell of the program.
 //!
 //! A password is one line of standard input. The file has the text of a store, as `ring_store`
@@ -11,18 +11,18 @@ ghost use Rattle.std.specs.Prelude.{◌≡◌, ◌⊎◌, IfErr};
 ghost use Rattle.ring_passwords.specs.Failure.{status_of};
 
 use crate::about::{About, write_about};
-use crate::action::{Action, about_of, action_of};
+use crate::action::Action;
+use crate::asked::{Asked, asked_of};
 use crate::change::{ADVISED_ITERATIONS, FEWEST_ITERATIONS};
 use crate::check::check;
-use crate::conversion::{Conversion, conversion_of, max_iterations};
-use crate::drawn::Drawn;
-use crate::failure::{Failure, Step};
+use crate::conversion::{Conversion, max_iterations};
+use crate::encode::{encode, iterations_of_text};
+use crate::failure::{Ended, FAILED, Failure, Step};
 use crate::file::LockedFile;
-use crate::format::Format;
 use crate::listing::write_listing;
 use crate::password::read_password;
-use crate::stored::Stored;
 use ring::cost::Meter;
+use ring_password_hash::Scheme;
 use ring_password_hash::salt::RANDOM_LEN;
 use ring_store::{DB_SALT_LEN, PasswordStore};
 use std::fs::File;
@@ -34,16 +34,19 @@ use std::{env, io};
 
 mod about;
 mod action;
+mod asked;
 mod change;
 mod check;
 mod conversion;
-mod drawn;
+mod encode;
 mod failure;
 mod file;
-mod format;
+mod given;
 mod listing;
+mod misuse;
 mod password;
-mod stored;
+mod schemes;
+mod word;
 
 /// The program's arguments, without its own name.
 fn arguments<R: Env + AllocGlobal>(rt: &R) -> Result<Vec<String>, Failure>
@@ -140,9 +143,9 @@ fn list<R: Files + AllocGlobal + Print>(rt: &R, path: &str) -> Result<(), Failur
 }
 
 /// Writes the text of a password, under a random salt.
-fn encode<R: AllocGlobal + Input + Print + RandomSource>(
+fn write_encoded<R: AllocGlobal + Input + Print + RandomSource>(
     rt: &R,
-    format: Format,
+    scheme: Scheme,
     iterations: NonZeroU32,
 ) -> Result<(), Failure>
     ensures status { IfErr result (λ failure. status_of failure ≡ 2) }
@@ -152,9 +155,7 @@ fn encode<R: AllocGlobal + Input + Print + RandomSource>(
     if let Err(error) = rt.fill_bytes(&mut random) {
         return Err(Failure::System(Step::Salt, error));
     }
-    let mut source = Drawn { left: &random };
-    let stored = Stored::new(rt.alloc(), format, &password, iterations, &mut source)?;
-    stored.write(rt.alloc(), &mut io::writer(rt))
+    encode(scheme, &password, iterations, random, &mut io::writer(rt))
 }
 
 /// Does what is asked of the text of a password.
@@ -166,8 +167,13 @@ fn convert<R: AllocGlobal + Input + Print + RandomSource>(
         ⊎ (failure ≡ Failure.WrongPassword)) }
 {
     match asked {
-        Conversion::Encode(format, given) => encode(rt, format, format.iterations(given)),
-        Conversion::Check(given) => check(rt.alloc(), &mut rt.reader(), max_iterations(given)),
+        Conversion::Encode(scheme, given) => {
+            write_encoded(rt, scheme, iterations_of_text(scheme, given))
+        }
+        Conversion::Check(given) => {
+            let most = max_iterations(given);
+            check(rt.alloc(), &mut rt.reader(), most, &mut Meter::new())
+        }
     }
 }
 
@@ -189,23 +195,12 @@ fn warn_of_few<R: Eprint>(rt: &R) {
     );
 }
 
-/// Does what the arguments ask for.
-fn run<R>(rt: &R) -> Result<(), Failure>
+/// Does what is asked of a file.
+fn act<R>(rt: &R, path: &str, action: Action<'_>) -> Result<(), Failure>
 where
-    R: Files<File = File> + AllocGlobal + Clock + Env + Eprint + Input + Print + RandomSource,
+    R: Files<File = File> + AllocGlobal + Clock + Eprint + Input + Print + RandomSource,
 {
-    let words = arguments(rt)?;
-    if let Some(about) = about_of(&words) {
-        return tell(rt, about);
-    }
-    if let Some(asked) = conversion_of(&words)? {
-        return convert(rt, asked);
-    }
-    let Some((path, words)) = words.split_first() else {
-        return Err(Failure::Usage);
-    };
-    let path = path.as_str();
-    match action_of(words)? {
+    match action {
         Action::Set(name, iterations) => {
             set(rt, path, name.as_bytes(), iterations)?;
             if change::is_few(iterations) {
@@ -219,13 +214,51 @@ where
     }
 }
 
-fn main(rt: HostRuntime) -> ExitCode {
-    match run(&rt) {
-        Ok(()) => ExitCode::SUCCESS,
-        Err(failure) => {
-            // Where standard error fails too, the status still tells.
-            let _ = eprintln!(rt; "passwords: {failure}");
-            ExitCode::from(failure.status())
+/// Writes why a run ends without success, and gives its status. Where standard error fails too, the
+/// status still tells.
+fn fail<R: Eprint>(rt: &R, ended: Ended<'_>) -> ExitCode {
+    let _ = eprintln!(rt; "passwords: {ended}");
+    ExitCode::from(ended.failure.status())
+}
+
+/// Does what the words ask for, or writes what is wrong with them.
+fn run<R>(rt: &R, words: &[String]) -> ExitCode
+where
+    R: Files<File = File> + AllocGlobal + Clock + Eprint + Input + Print + RandomSource,
+{
+    let asked = match asked_of(words) {
+        Ok(asked) => asked,
+        Err(misuse) => {
+            let _ = eprintln!(rt; "passwords: {misuse}");
+            return ExitCode::from(FAILED);
         }
+    };
+    let (path, done) = match asked {
+        Asked::About(about) => (None, tell(rt, about)),
+        Asked::OfText(conversion) => (None, convert(rt, conversion)),
+        Asked::OfFile(path, action) => (Some(path), act(rt, path, action)),
+    };
+    match done {
+        Ok(()) => ExitCode::SUCCESS,
+        Err(failure) => fail(
+            rt,
+            Ended {
+                failure: &failure,
+                path,
+            },
+        ),
+    }
+}
+
+fn main(rt: HostRuntime) -> ExitCode {
+    match arguments(&rt) {
+        Ok(words) => run(&rt, &words),
+        Err(failure) => fail(
+            &rt,
+            Ended {
+                failure: &failure,
+                path: None,
+            },
+        ),
     }
 }

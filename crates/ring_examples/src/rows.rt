@@ -1,6 +1,6 @@
 // SPDX-License-Identifier: ISC
-//! What is kept of a password, in a row of fixed size, as a table in flash has it: made, written and
-//! read back with no memory.
+//! What is kept of a password, in a row of fixed size, as a table in flash has it: made, written
+//! and read back with no memory.
 
 ghost use Rattle.std.specs.Prelude.{◌≡◌, ◌↔◌, ◌≤◌, ℕ, false, Ok, IfOk, IsErrOf, IsOk, OnErr, drop};
 ghost use Rattle.std.specs.Prelude.{take};

@@ -77,14 +77,25 @@ fn fills_a_row_under_a_new_salt(rt: HostRuntime) {
 #[test]
 fn rehashes(rt: HostRuntime) -> Result<(), Fail> {
     let expected = b"pbkdf2:sha1:2000$saltsalt$0fea112f98c2e79b8d66e2a29f4abea03a2b3a15";
-    let (fewer, more) = (NonZeroU32::new(1_000).unwrap(), NonZeroU32::new(2_000).unwrap());
+    let (fewer, more) = (
+        NonZeroU32::new(1_000).unwrap(),
+        NonZeroU32::new(2_000).unwrap(),
+    );
     let (same, other) = (Scheme::DjangoSha256, Scheme::WerkzeugSha1);
     let mut row = [0; MAX_TEXT_LEN];
     let current = rehash_at_login(BY_DJANGO, PASSWORD, 1_000, same, b"salt", fewer, &mut row)?;
     assert!(rt; current.is_none() && row == [0; MAX_TEXT_LEN]);
     let few = rehash_at_login(BY_DJANGO, PASSWORD, 1_000, same, b"salt", more, &mut row)?;
     assert!(rt; few.is_some());
-    let new = rehash_at_login(BY_DJANGO, PASSWORD, 1_000, other, b"saltsalt", more, &mut row)?;
+    let new = rehash_at_login(
+        BY_DJANGO,
+        PASSWORD,
+        1_000,
+        other,
+        b"saltsalt",
+        more,
+        &mut row,
+    )?;
     assert!(rt; new == Some(expected.len()) && row.starts_with(expected));
     let wrong = rehash_at_login(BY_DJANGO, b"x", 1_000, other, b"salt", more, &mut row);
     assert!(rt; wrong == Err(HashError::WrongPassword) && row.starts_with(expected));

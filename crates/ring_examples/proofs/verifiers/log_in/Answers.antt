@@ -1,5 +1,5 @@
 -- SPDX-License-Identifier: ISC
-use Rattle.std.proofs.Common.{◌∙◌, ap, rules, sym}
+use Rattle.std.proofs.Common.{◌∙◌, ap, sym}
 use Rattle.std.specs.Prelude.{Some}
 use Rattle.ring_password_hash.specs.Stored.{Parts, answer_of, parts_of}
 use Rattle.ring_examples.proofs.verifiers.log_in.Goals as goal

@@ -1,5 +1,5 @@
 -- SPDX-License-Identifier: ISC
--- The names of the schemes, and the iterations of a new text.
+-- The names of the schemes, as a message has them.
 use Rattle.std.specs.Prelude.{ℕ, List, [], ◌∷◌, ◌++◌, codes}
 use Rattle.std.specs.List.{flat_map}
 use Rattle.ring_password_hash.specs.Scheme.{name_of}
@@ -14,7 +14,3 @@ names_text (k ∷ ks) = name_of k ++ flat_map (λ other. codes ", " ++ name_of o
 -- the names of all schemes
 abbrev pub schemes_text : List ℕ
 schemes_text = names_text SCHEMES
-
--- a line for each of these schemes
-abbrev pub scheme_lines : List Scheme → List ℕ
-scheme_lines = flat_map (λ k. codes "       " ++ name_of k ++ 10 ∷ [])

@@ -1,6 +1,6 @@
 -- SPDX-License-Identifier: ISC
 use Rattle.std.proofs.Common.{◌≡◌, ◌<◌, ◌+◌, ◌++◌, ◌∷◌, ◌∙◌, ℕ, suc, List, ap, arith, codes, drop, get_or}
-use Rattle.std.proofs.Common.{length, rules, sym, take}
+use Rattle.std.proofs.Common.{length, refl, sym, take}
 use Rattle.std.proofs.Output.{has_written_append, has_written_of_eq}
 use Rattle.std.proofs.lemmas.List.{flat_map_more, take_more}
 use Rattle.std.specs.List.{flat_map}
@@ -43,4 +43,4 @@ loop-scheme-preserved g c = λ plain.
     has_written_of_eq _ _ _ _ _
     (names_more c.loop-scheme.scheme-index c.row-in-loop-scheme.result.name.now
     c.loop-scheme-test.true c.row-in-loop-scheme.ensures.name)
-    (has_written_append _ _ _ _ _ _ so_far (c.in_ok-write.ensures.writes so_far.plain tt))
+    (has_written_append _ _ _ _ _ _ so_far (c.in_ok-write.ensures.writes so_far.plain refl))

@@ -12,7 +12,7 @@ import tempfile
 import threading
 import unittest
 
-from harness import BUILDS, ENVIRONMENT, TAGS, TIMEOUT, digest_of, line_of, run
+from harness import BUILDS, ENVIRONMENT, LAUNCHER, ROOT, TAGS, TIMEOUT, digest_of, line_of, run
 
 
 class Alone(unittest.TestCase):
@@ -99,6 +99,20 @@ class Alone(unittest.TestCase):
         self.write("other", line_of("tag", "sha512-256", digest_of("sha256", b"abc"), b"x"))
         self.assertEqual(self.run_all(["-c", "other"])[:2], (1, b"x: FAILED\n"))
         self.assertEqual(self.run_all(["-c", "-a", "sha1", "other"])[0], 1)
+
+    def test_name_as_typed(self):
+        """Messages begin with the program's name as it is typed."""
+        reason = b": nothing: No such file or directory\n"
+        for name in ("sums", "./sums", "/usr/bin/sha1sum", "a b"):
+            found = self.run_all(["nothing"], name=name)
+            self.assertEqual(found, (1, b"", name.encode() + reason))
+        elsewhere = {"PATH": f"{ROOT}:{os.environ['PATH']}"}
+        rows = [(ROOT, "./sums", {}), (self.path, str(LAUNCHER), {}), (self.path, "sums", elsewhere)]
+        for folder, typed, environment in rows:
+            environment = {**os.environ, **ENVIRONMENT, "PATH": os.environ["PATH"], **environment}
+            found = subprocess.run(["bash", "-c", f"{typed} nothing"], cwd=folder, env=environment,
+                                   capture_output=True, timeout=TIMEOUT)
+            self.assertEqual(found.stderr, typed.encode() + reason)
 
     def test_help_and_version(self):
         """`--help` and `--version` write on standard output, whatever stands behind them."""

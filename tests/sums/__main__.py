@@ -5,9 +5,10 @@
 Generated cases run each build and coreutils' `sha1sum`, `sha256sum`, `sha384sum` or `sha512sum` in
 one folder, under one name and with the same words: files with all kinds of names, lists that are
 whole and lists that are broken, and options in all orders. Standard output, standard error and
-status are to be the same byte for byte. Further tests have no second source but `hashlib`. calls.c
-is loaded into the program so that each system call fails in turn, and so that a file changes while
-it is read.
+status are to be the same byte for byte, but that a check escapes names as coreutils 9.7 do. Further
+tests have no second source but `hashlib`. calls.c is loaded into the program so that each system
+call fails in turn, so that a file changes while it is read, and so that the clock goes on by equal
+steps.
 
     python3 tests/sums [WORD..]     all tests, or those with one of these words in their names
     python3 tests/sums --speed      the table of docs/SUMS.md: seconds of processor
@@ -28,9 +29,11 @@ import failing
 import generated
 import harness
 import launcher
+import progress
 import speed
 
-CASES = [generated.BesideCoreutils, alone.Alone, failing.Failing, launcher.Launcher]
+CASES = [generated.BesideCoreutils, alone.Alone, failing.Failing, launcher.Launcher,
+         progress.Progress]
 
 
 def is_built():

@@ -1,10 +1,8 @@
 # SPDX-License-Identifier: ISC
 """What has no second source but `hashlib`."""
 
-import contextlib
 import os
 import pathlib
-import pty
 import re
 import select
 import subprocess
@@ -100,6 +98,47 @@ class Alone(unittest.TestCase):
         self.assertEqual(self.run_all(["-c", "other"])[:2], (1, b"x: FAILED\n"))
         self.assertEqual(self.run_all(["-c", "-a", "sha1", "other"])[0], 1)
 
+    def test_warning_names_the_last_algorithm(self):
+        """`-w` names the algorithm that is asked for, or that of the last line that is one."""
+        self.write("x", b"abc")
+        good = {it: line_of("tag", it, digest_of(it, b"abc"), b"x") for it in TAGS}
+        bad = b"no line\n"
+        list_1 = bad + good["sha1"] + bad + b"SHA384 (x) = 00\n" + good["sha512-256"] + bad
+        plain = digest_of("sha384", b"abc") + b"  x\n"
+        self.write("1", list_1 + plain + bad)
+        self.write("2", bad + good["sha256"] + bad)
+        found = self.run_all(["-cw", "--strict", "1", "2"])
+        self.assertEqual(found[:2], (1, b"x: OK\n" * 4))
+        shape = b"sums: %s: improperly formatted %schecksum line\n"
+        many = b"sums: WARNING: %d lines are improperly formatted\n"
+        rows = [
+            (b"1: 1", b""), (b"1: 3", b"SHA1 "), (b"1: 4", b"SHA1 "), (b"1: 6", b"SHA512/256 "),
+            (b"1: 8", b"SHA384 "),
+        ]
+        wanted = b"".join(shape % it for it in rows) + many % 5
+        rows = [(b"2: 1", b"SHA384 "), (b"2: 3", b"SHA256 ")]
+        self.assertEqual(found[2], wanted + b"".join(shape % it for it in rows) + many % 2)
+        found = self.run_all(["-cw", "-a", "sha256", "2"])[2]
+        rows = [(b"2: 1", b"SHA256 "), (b"2: 3", b"SHA256 ")]
+        self.assertEqual(found, b"".join(shape % it for it in rows) + many % 2)
+
+    def test_checked_names_have_escapes(self):
+        """A check's line of a name has the escapes that its list's has, as coreutils 9.7."""
+        rows = {
+            b"a\\b": b"\\a\\\\b", b"a\nb": b"\\a\\nb", b"a\rb": b"\\a\\rb", b"\\": b"\\\\\\",
+            b"a b": b"a b",
+        }
+        text = b""
+        for name in rows:
+            (self.path / os.fsdecode(name)).write_bytes(b"abc")
+            text += line_of("text", "sha256", digest_of("sha256", b"abc"), name)
+        for tail, said, status in ((b"abc", b"OK", 0), (b"abd", b"FAILED", 1)):
+            for name in rows:
+                (self.path / os.fsdecode(name)).write_bytes(tail)
+            self.write("list", text)
+            wanted = b"".join(shown + b": " + said + b"\n" for shown in rows.values())
+            self.assertEqual(self.run_all(["-c", "list"])[:2], (status, wanted))
+
     def test_name_as_typed(self):
         """Messages begin with the program's name as it is typed."""
         reason = b": nothing: No such file or directory\n"
@@ -164,10 +203,60 @@ class Alone(unittest.TestCase):
         self.assertEqual(sorted(error.splitlines()), [
             b"sums: t/link: symbolic link not followed", b"sums: t/pipe: not a regular file",
             b"sums: t/up: symbolic link not followed"])
-        (self.path / os.fsdecode(b"t/a/\xff")).write_bytes(b"")
+        for name in (b"t/a/\xff", b"t/a/caf\xe9"):
+            (self.path / os.fsdecode(name)).write_bytes(b"")
+        (self.path / os.fsdecode(b"t/a/y/\xfe")).mkdir()
         status, output, error = self.run_all(["-r", "t"])
         self.assertEqual((status, output), (1, self.lines(order)))
-        self.assertIn(b"sums: t/a: the name of a file in it is not UTF-8\n", error)
+        for name in (b"'t/a/'$'\\377'", b"'t/a/caf'$'\\351'", b"'t/a/y/'$'\\376'"):
+            self.assertIn(b"sums: " + name + b": the name is not UTF-8\n", error)
+
+    def test_full_folders(self):
+        """`-r` takes all of 3,000 names of 200 bytes, which no single look at a folder gives."""
+        names = [f"t/{place:04}{'x' * 196}" for place in range(3000)]
+        for name in names:
+            self.write(name)
+        self.assertEqual(self.run_all(["-r", "t"]), (0, self.lines(names), b""))
+
+    def test_output_is_left_out(self):
+        """`-r` leaves out the file that standard output is, and the list of a folder checks."""
+        for name in ("a", "b/c", "z"):
+            self.write(name, name.encode())
+        lines = self.lines(["./a", "./b/c", "./z"])
+        rows = [
+            (["-r", "."], "wb", lines), (["-r", "."], "ab", lines), (["-r", "b/.."], "wb", None),
+            (["-r", "list", "a"], "wb", self.lines(["a"])), (["-r", "link", "a"], "wb", None),
+            (["-r", "list"], "wb", b""), (["-r", "."], "r+b", lines),
+        ]
+        os.symlink("list", self.path / "link")
+        for build in BUILDS:
+            for words, mode, wanted in rows:
+                self.write("list", b"")
+                with open(self.path / "list", mode) as output:
+                    status, _, error = run(build, words, self.path, stdout=output)
+                self.assertEqual(status, 0)
+                found = (self.path / "list").read_bytes()
+                self.assertNotIn(b"list", found)
+                self.assertNotIn(b"link", found)
+                if wanted is not None:
+                    self.assertEqual(found, wanted)
+                checked = run(build, ["-c", "--quiet", "list"], self.path)
+                self.assertEqual(checked, (0, b"", b"") if found else (1, b"", checked[2]))
+        os.unlink(self.path / "link")
+        os.link(self.path / "list", self.path / "b/same")
+        self.write("list", b"")
+        with open(self.path / "list", "wb") as output:
+            self.assertEqual(run(BUILDS[0], ["-r", "."], self.path, stdout=output)[0], 0)
+        self.assertEqual((self.path / "list").read_bytes(), lines)
+        os.unlink(self.path / "b/same")
+        # Without `-r` a file is taken as it is named, and elsewhere none is left out.
+        self.write("list", b"")
+        with open(self.path / "list", "wb") as output:
+            run(BUILDS[0], ["list"], self.path, stdout=output)
+        empty = digest_of("sha256", b"") + b"  list\n"
+        self.assertEqual((self.path / "list").read_bytes(), empty)
+        names = ["./a", "./b/c", "./list", "./z"]
+        self.assertEqual(self.run_all(["-r", "."]), (0, self.lines(names), b""))
 
     def test_tree_that_cannot_be_read(self):
         """A folder that cannot be opened is told, and the others are read."""
@@ -277,18 +366,6 @@ class Alone(unittest.TestCase):
             told = [(1, b"sums: " + reason + b"\n") for reason in reasons]
             self.assertIn((status, error), [(-13, b""), *told])
 
-    def test_progress(self):
-        """`--progress` shows on a terminal how far it is, and nothing elsewhere."""
-        for place in range(8):
-            self.write(f"f{place}", bytes(30_000_000))
-        names = [f"f{place}" for place in range(8)]
-        self.assertEqual(self.run_all(["--progress", *names]), (0, self.lines(names), b""))
-        for build in BUILDS:
-            shown, output = on_a_terminal(build, ["--progress", *names], self.path)
-            self.assertEqual(output, self.lines(names))
-            self.assertRegex(shown, rb"\d of 8 files")
-            self.assertTrue(shown.endswith(b"\r\x1b[K"), shown[-40:])
-
 
 def start(program, words, folder, **settings):
     """A run that goes on, with its output in a pipe."""
@@ -319,23 +396,3 @@ def peak_of(program, words, folder):
     running.returncode = 0
     peak_of.seconds = used.ru_utime + used.ru_stime
     return used.ru_maxrss, output
-
-
-def on_a_terminal(program, words, folder):
-    """What a run shows on a terminal that is its standard error, and what it writes."""
-    terminal, its_end = pty.openpty()
-    running = start(program, words, folder, stderr=its_end, env=ENVIRONMENT)
-    os.close(its_end)
-    shown = []
-
-    def watch():
-        with contextlib.suppress(OSError):
-            while part := os.read(terminal, 4096):
-                shown.append(part)
-
-    watcher = threading.Thread(target=watch, daemon=True)
-    watcher.start()
-    output, _ = running.communicate(timeout=TIMEOUT)
-    watcher.join(TIMEOUT)
-    os.close(terminal)
-    return b"".join(shown), output

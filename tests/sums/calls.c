@@ -1,8 +1,8 @@
 /* SPDX-License-Identifier: ISC */
 /* Loaded into a program before the C library: the calls that open, read, look at and write files
  * and ask for memory are counted from 1, and one of them fails, as tests/sums asks in the
- * environment. A folder can also be shut, and a file can be cut short or grow behind its first
- * read. */
+ * environment. A folder can also be shut, a file can be cut short or grow behind its first read, and
+ * the clock can go on by equal steps. */
 #define _GNU_SOURCE
 #include <dlfcn.h>
 #include <errno.h>
@@ -13,6 +13,7 @@
 #include <string.h>
 #include <sys/stat.h>
 #include <sys/types.h>
+#include <time.h>
 #include <unistd.h>
 
 /* The call that fails, the read that fails, the read that is interrupted, and the request for
@@ -28,10 +29,12 @@ static long changed_length = -1;
 static const char *changed_file;
 /* At most so many bytes a read; 0 is no limit. */
 static long step;
+/* By how many milliseconds the clock goes on each time that it is read; 0 is the system's clock. */
+static long clock_step;
 /* Where the counts of calls, of reads and of requests go at the end. */
 static long report_to = -1;
 
-static long calls, reads, requests;
+static long calls, reads, requests, looks;
 static int is_ready;
 
 static void get(const char *name, long *value) {
@@ -49,6 +52,7 @@ static void prepare(void) {
     get("REFUSED_REQUEST", &refused_request);
     get("CHANGED_LENGTH", &changed_length);
     get("STEP", &step);
+    get("CLOCK_STEP", &clock_step);
     get("REPORT_TO", &report_to);
     changed_file = getenv("CHANGED_FILE");
     shut_path = getenv("SHUT_PATH");
@@ -167,6 +171,18 @@ ssize_t write(int file, const void *bytes, size_t len) {
     if (file == STDERR_FILENO || file == report_to) return real(file, bytes, len);
     if (fails(ENOSPC)) return -1;
     return real(file, bytes, len);
+}
+
+int clock_gettime(clockid_t clock, struct timespec *time) {
+    prepare();
+    if (clock_step <= 0) {
+        int (*real)(clockid_t, struct timespec *) = dlsym(RTLD_NEXT, "clock_gettime");
+        return real(clock, time);
+    }
+    long millis = ++looks * clock_step;
+    time->tv_sec = millis / 1000;
+    time->tv_nsec = millis % 1000 * 1000000;
+    return 0;
 }
 
 __attribute__((destructor)) static void report(void) {

@@ -4,11 +4,10 @@
 import os
 import pathlib
 import shutil
-import subprocess
 import tempfile
 import unittest
 
-from harness import BUILDS, digest_of, run
+from harness import BUILDS, calls_in, digest_of, run
 
 # What calls.c counts, by the word that has one of them fail.
 COUNTED = ("FAILED_CALL", "FAILED_READ", "REFUSED_REQUEST")
@@ -28,10 +27,7 @@ class Failing(unittest.TestCase):
         self.room = tempfile.TemporaryDirectory()
         self.addCleanup(self.room.cleanup)
         self.path = pathlib.Path(self.room.name)
-        self.library = self.path / "calls.so"
-        source = pathlib.Path(__file__).with_name("calls.c")
-        flags = ["-shared", "-fPIC", "-O1"]
-        subprocess.run(["cc", *flags, "-o", self.library, source, "-ldl"], check=True)
+        self.library = calls_in(self.path)
         self.lines = []
         for name in self.NAMES:
             content = name.encode() * 40_000

@@ -62,6 +62,15 @@ def run(program, words, folder, name="sums", given=b"", environment=(), **settin
     return ended.returncode, ended.stdout, ended.stderr
 
 
+def calls_in(folder):
+    """calls.c as a library in a folder."""
+    library = folder / "calls.so"
+    source = pathlib.Path(__file__).with_name("calls.c")
+    command = ["cc", "-shared", "-fPIC", "-O1", "-o", library, source, "-ldl"]
+    subprocess.run(command, check=True)
+    return library
+
+
 class Files:
     """A folder with files that have all kinds of names, one of which cannot be read."""
 

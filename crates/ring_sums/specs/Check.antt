@@ -5,6 +5,7 @@ use Rattle.std.specs.Prelude.{Some}
 use Rattle.std.specs.Prelude.{◌+◌, IsTrue, codes, get_or, if◌then◌else◌, length, pos}
 use Rattle.std.specs.IoError.{error_kind, os_error_kind}
 use Rattle.std.specs.declared.io.Error.{Error}
+use Rattle.ring.specs.declared.digest.algorithm.Algorithm.{Algorithm}
 use Rattle.ring_sums.specs.Console.{HasWritten}
 use Rattle.ring_sums.specs.Entry.{IsOther, IsUnread, IsVerified}
 use Rattle.ring_sums.specs.Line.{verdict_line}
@@ -117,6 +118,11 @@ unfoldable pub bad_lines_of : List Line → ℕ
 bad_lines_of [] = 0
 bad_lines_of (line.Entry entry ∷ lines) = bad_lines_of lines
 bad_lines_of (line.Bad number ∷ lines) = 1 + bad_lines_of lines
+
+-- the algorithm of the last file that is listed, behind a line
+abbrev pub known_after : (known : Option Algorithm) → Line → Option Algorithm
+known_after known (line.Entry entry) = Some entry.algorithm
+known_after known (line.Bad number) = known
 
 -- what is said of files, one after another
 unfoldable pub all_said : Amount → List Entry → (founds : List (Option Verdict)) → List ℕ

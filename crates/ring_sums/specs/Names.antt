@@ -11,10 +11,6 @@ is_special byte = byte == 92 || byte == 10 || byte == 13
 abbrev pub needs_escape : List ℕ → Bool
 needs_escape name = list_any is_special name
 
--- where a check says what it found, only a line feed needs an escape
-abbrev pub needs_escape_of_check : List ℕ → Bool
-needs_escape_of_check name = list_any (λ byte. byte == 10) name
-
 -- a byte of a name: these as a backslash and `\`, `n` or `r`
 abbrev pub escaped_byte : ℕ → List ℕ
 escaped_byte byte =

@@ -15,8 +15,9 @@ With no FILE, or when FILE is -, read standard input.
   -t, --text            mark the lines as text (default)
   -z, --zero            end each output line with NUL, not newline,
                           and disable file name escaping
-  -r, --recursive       for a directory take the files in it and below it
-      --progress        show on a terminal how far it is
+  -r, --recursive       for a directory take the files in it and below it,
+                          but for the one that standard output is
+      --progress        show bytes, rate and time left on a terminal
 
 The following five options are useful only when verifying checksums:
       --ignore-missing  don't fail or report status for missing files

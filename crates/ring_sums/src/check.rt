@@ -8,22 +8,25 @@ ghost use Rattle.std.specs.IoError.{error_kind};
 ghost use Rattle.ring_sums.specs.declared.entry.Verdict.{Verdict};
 ghost use Rattle.ring_sums.specs.Check.{IsFound, IsLeftOut, is_other, is_same, is_unread};
 ghost use Rattle.ring_sums.specs.Check.{AreFilesOf, IsChecked, entries_of, one_if, said_of};
-ghost use Rattle.ring_sums.specs.Check.{Passes, text_of};
+ghost use Rattle.ring_sums.specs.Check.{Passes, known_after, text_of};
 ghost use Rattle.ring_sums.specs.Console.{HasWritten, IsKept};
 ghost use Rattle.ring_sums.specs.Files.{name_of};
 
 use crate::console::Console;
-use crate::entry::{Entry, Gap, Verdict, append_verdict_line, tag_of, verdict_of};
+use crate::entry::{Entry, Gap, Verdict, tag_of, verdict_of};
 use crate::files::{self, read_all, wanted_of};
+use crate::line::append_verdict_line;
 use crate::list::{Line, lines_of};
 use crate::options::{Amount, Options};
 use crate::outcome::Outcome;
 use crate::outcomes::{Outcomes, Wanted};
+use crate::progress::Progress;
 use crate::source::Source;
+use ring::digest::Algorithm;
 use std::alloc::{AllocError, Global};
 use std::io;
 use std::io::{Eprint, ErrorKind, Input, Write};
-use std::rt::Files;
+use std::rt::{Clock, Files};
 
 /// What a list has been found to have.
 #[derive(Clone, Copy, Default)]
@@ -167,8 +170,9 @@ fn answer<R: Eprint, W: Write>(
 }
 
 /// The files of the entries.
-fn files_of<'a, R: Files + AllocGlobal + Input>(
+fn files_of<'a, R: Files + AllocGlobal + Clock + Eprint + Input>(
     rt: &'a R,
+    progress: &'a Progress,
     lines: &'a [Line],
 ) -> Result<Vec<Wanted<files::Source<'a, R>>>, AllocError>
     ensures files { IfOk result (λ wanted. AreFilesOf (entries_of lines.now) wanted.items) }
@@ -178,27 +182,40 @@ fn files_of<'a, R: Files + AllocGlobal + Input>(
     let mut wanted = Vec::new(rt.alloc());
     for line in lines {
         match line {
-            Line::Entry(entry) => wanted.push(wanted_of(rt, &entry.name, entry.algorithm))?,
+            Line::Entry(entry) => {
+                wanted.push(wanted_of(rt, progress, &entry.name, entry.algorithm))?;
+            }
             Line::Bad(_) => {}
         }
     }
     Ok(wanted)
 }
 
-/// Warns of a line that has not the form of one.
+/// The algorithm of the last file that is listed, behind a line.
+fn known_after(known: Option<Algorithm>, line: &Line) -> Option<Algorithm>
+    ensures { result ≡ known_after known line.now }
+{
+    match line {
+        Line::Entry(entry) => Some(entry.algorithm),
+        Line::Bad(_) => known,
+    }
+}
+
+/// Warns of a line that has not the form of one. Where an algorithm is known it is named.
 fn warn_of_line<R: Eprint, W: Write>(
     alloc: Global,
-    options: &Options,
+    amount: Amount,
     list: &[u8],
     number: u64,
+    known: Option<Algorithm>,
     console: &mut Console<'_, R, W>,
 ) -> Result<(), AllocError>
     ensures { IsKept console.old console.new }
 {
-    if options.amount != Amount::Warn {
+    if amount != Amount::Warn {
         return Ok(());
     }
-    let text = match options.algorithm {
+    let text = match known {
         Some(algorithm) => {
             let tag = tag_of(&algorithm);
             format!(in alloc; "{number}: improperly formatted {tag} checksum line")?
@@ -208,13 +225,15 @@ fn warn_of_line<R: Eprint, W: Write>(
     console.tell_of(list, text.as_bytes())
 }
 
-/// Says of each line of a list what is found of its file, in their order.
+/// Says of each line of a list what is found of its file, in their order. `known` is the algorithm
+/// of the last file that was listed before.
 fn check_lines<const BITS: usize, S, R, W>(
     alloc: Global,
     options: &Options,
     list: &[u8],
     lines: &[Line],
     wanted: Vec<Wanted<S>>,
+    known: &mut Option<Algorithm>,
     console: &mut Console<'_, R, W>,
 ) -> Result<Counts, AllocError>
 where
@@ -225,14 +244,14 @@ where
         → IsChecked S.remaining S.fails_with W.contents options.now lines.now wanted.items counts
         console.old console.new) }
 {
-    let total = wanted.len();
     let mut outcomes = Outcomes::new(alloc, wanted);
     let mut counts = Counts::default();
     for line in lines {
+        *known = known_after(*known, line);
         match line {
             Line::Bad(number) => {
                 counts.bad_lines = counts.bad_lines.saturating_add(1);
-                warn_of_line(alloc, options, list, *number, console)?;
+                warn_of_line(alloc, options.amount, list, *number, *known, console)?;
             }
             Line::Entry(entry) => {
                 let Ok(next) = outcomes.next_outcome::<BITS>() else {
@@ -242,7 +261,6 @@ where
                     return Ok(counts);
                 };
                 counts.count(answer(alloc, options, entry, &outcome, console)?);
-                console.show_progress(counts.entries as usize, total);
             }
         }
     }
@@ -338,17 +356,25 @@ fn conclude<R: Eprint, W: Write>(
     Ok(passes(options, counts))
 }
 
+/// What lists have shown, from one to the next.
+#[derive(Clone, Copy)]
+pub(crate) struct Seen {
+    pub(crate) gap: Gap,
+    /// The algorithm of the last file that is listed, or the one that is asked for.
+    pub(crate) known: Option<Algorithm>,
+}
+
 /// Reads a list, says of each of its files whether it has the listed digest, and returns whether
 /// the list passes.
 pub(crate) fn check_list<const BITS: usize, R, W>(
     rt: &R,
     options: &Options,
     name: &[u8],
-    gap: &mut Gap,
+    seen: &mut Seen,
     console: &mut Console<'_, R, W>,
 ) -> Result<bool, AllocError>
 where
-    R: Files + AllocGlobal + Eprint + Input,
+    R: Files + AllocGlobal + Clock + Eprint + Input,
     W: Write,
 {
     let is_standard_input = name == b"-".as_slice();
@@ -364,8 +390,12 @@ where
             return Ok(false);
         }
     };
-    let lines = lines_of(rt.alloc(), options, &text, is_standard_input, gap)?;
-    let wanted = files_of(rt, &lines)?;
-    let counts = check_lines::<BITS, _, R, W>(rt.alloc(), options, shown, &lines, wanted, console)?;
-    conclude(rt.alloc(), options, shown, &failure, &counts, console)
+    let alloc = rt.alloc();
+    let lines = lines_of(alloc, options, &text, is_standard_input, &mut seen.gap)?;
+    let wanted = files_of(rt, console.progress(), &lines)?;
+    let known = &mut seen.known;
+    let counts = check_lines::<BITS, _, R, W>(
+        alloc, options, shown, &lines, wanted, known, console,
+    )?;
+    conclude(alloc, options, shown, &failure, &counts, console)
 }

@@ -3,6 +3,7 @@
 
 ghost use Rattle.std.specs.Prelude.{◌≡◌, ◌↔◌, IfOk, IsFalse, IsNone, IsTrue};
 
+use crate::progress::Progress;
 use crate::quote::append_quoted;
 use std::alloc::{AllocError, Global};
 use std::io;
@@ -10,8 +11,6 @@ use std::io::{Eprint, Write};
 
 /// The system's number of the error that a descriptor is not open.
 const BAD_DESCRIPTOR: i32 = 9;
-
-const HUNDRED: usize = 100;
 
 /// Standard output and standard error.
 #[derive(Drop)]
@@ -24,9 +23,9 @@ pub(crate) struct Console<'a, R, W> {
     failure: Option<io::Error>,
     /// Whether standard input was asked for and is not open.
     is_input_closed: bool,
-    shows_progress: bool,
-    /// How many hundredths of the files are shown to be done, where a line shows it.
-    shown: Option<usize>,
+    progress: &'a Progress,
+    /// Whether lines and what `progress` shows go to terminals, which may be the same.
+    is_shared: bool,
 }
 
 /// Appends what is wrong with a call of the system, without the system's number for it.
@@ -44,7 +43,14 @@ pub(crate) fn append_reason(out: &mut Vec<u8>, error: &io::Error) -> Result<(), 
 impl<'a, R: Eprint, W: Write> Console<'a, R, W> {
     ghost use Rattle.ring_sums.specs.Console.{HasWritten, IsKept};
 
-    pub(crate) fn new(rt: &'a R, alloc: Global, program: &'a [u8], out: W) -> Console<'a, R, W> {
+    pub(crate) fn new(
+        rt: &'a R,
+        alloc: Global,
+        program: &'a [u8],
+        out: W,
+        progress: &'a Progress,
+        is_shared: bool,
+    ) -> Console<'a, R, W> {
         Console {
             rt,
             alloc,
@@ -52,42 +58,14 @@ impl<'a, R: Eprint, W: Write> Console<'a, R, W> {
             out,
             failure: None,
             is_input_closed: false,
-            shows_progress: false,
-            shown: None,
+            progress,
+            is_shared,
         }
     }
 
-    /// Shows from now on how far a run is.
-    pub(crate) fn start_progress(&mut self)
-        ensures { IsKept self.old self.new }
-    {
-        self.shows_progress = true;
-    }
-
-    /// Shows how many of the files are done, where that is a hundredth more than is shown.
-    pub(crate) fn show_progress(&mut self, done: usize, total: usize)
-        ensures { IsKept self.old self.new }
-    {
-        if !self.shows_progress || total == 0 {
-            return;
-        }
-        let hundredths = done.saturating_mul(HUNDRED) / total;
-        if self.shown != Some(hundredths) {
-            let _ = self
-                .rt
-                .eprint(format_args!("\r{done} of {total} files\x1b[K"));
-            self.shown = Some(hundredths);
-        }
-    }
-
-    /// Takes the line that shows it away.
-    fn hide_progress(&mut self)
-        ensures { IsKept self.old self.new }
-    {
-        if self.shown.is_some() {
-            let _ = self.rt.eprint("\r\x1b[K");
-            self.shown = None;
-        }
+    /// What shows how far a run is.
+    pub(crate) fn progress(&self) -> &'a Progress {
+        self.progress
     }
 
     /// Notes why a file could not be read.
@@ -108,7 +86,9 @@ impl<'a, R: Eprint, W: Write> Console<'a, R, W> {
     pub(crate) fn write(&mut self, line: &[u8])
         ensures { HasWritten W.contents line.now self.old self.new }
     {
-        self.hide_progress();
+        if self.is_shared {
+            self.progress.hide(self.rt);
+        }
         if self.failure.is_none() {
             self.failure = self.out.write_all(line).err();
         }
@@ -128,7 +108,7 @@ impl<'a, R: Eprint, W: Write> Console<'a, R, W> {
     pub(crate) fn show(&mut self, line: &[u8]) -> Result<(), AllocError>
         ensures { IsKept self.old self.new }
     {
-        self.hide_progress();
+        self.progress.hide(self.rt);
         let text = String::from_utf8_lossy(self.alloc, line)?;
         // Where standard error fails too, the status still tells.
         let _ = self.rt.eprintln(&*text);
@@ -162,7 +142,7 @@ impl<'a, R: Eprint, W: Write> Console<'a, R, W> {
             ↔ (IsNone self.old.failure × IsFalse self.old.is_input_closed)) }
     {
         let is_input_closed = self.is_input_closed;
-        self.hide_progress();
+        self.progress.hide(self.rt);
         if is_input_closed {
             self.tell(b"standard input: Bad file descriptor")?;
         }

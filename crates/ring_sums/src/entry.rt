@@ -1,8 +1,7 @@
 // SPDX-License-Identifier: ISC
 //! What a line of a list says.
 
-ghost use Rattle.std.specs.Prelude.{◌≡◌, ◌↔◌, ◌++◌, IfOk, OnOk, not, option_copied, option_map};
-ghost use Rattle.std.specs.Prelude.{position};
+ghost use Rattle.std.specs.Prelude.{◌≡◌, ◌↔◌, IfOk, not, option_copied, option_map, position};
 ghost use Rattle.std.specs.Char.{is_ascii_hexdigit};
 ghost use Rattle.std.specs.List.{list_all};
 ghost use Rattle.ring_sums.specs.Entry.{IsOther, IsUnread, IsVerified, algorithm_of_count};
@@ -14,9 +13,8 @@ ghost use Rattle.ring_sums.specs.Entry.{name_behind, name_read, plain_entry, pla
 ghost use Rattle.ring_sums.specs.Entry.{plain_parts, tag_of};
 ghost use Rattle.ring_sums.specs.Entry.{tagged, tagged_as, tagged_entry, tagged_parts};
 ghost use Rattle.ring_sums.specs.Entry.{without_white};
-ghost use Rattle.ring_sums.specs.Line.{verdict_line};
 
-use crate::names::{append_escaped, needs_escape_of_check, unescaped};
+use crate::names::unescaped;
 use crate::outcome::Outcome;
 use memchr::memrchr;
 use ring::digest::{Algorithm, SHA1_FOR_LEGACY_USE_ONLY, SHA256, SHA384, SHA512, SHA512_256};
@@ -74,26 +72,6 @@ pub(crate) fn tag_of(algorithm: &Algorithm) -> &'static str
     } else {
         "SHA512/256"
     }
-}
-
-/// Appends the line that says what is found of a file.
-pub(crate) fn append_verdict_line(
-    out: &mut Vec<u8>,
-    name: &[u8],
-    text: &[u8],
-) -> Result<(), AllocError>
-    ensures { OnOk result (out.new.items ≡ out.old.items ++ verdict_line name.now text.now) }
-{
-    if needs_escape_of_check(name) {
-        out.push(b'\\')?;
-        append_escaped(out, name)?;
-    } else {
-        out.extend_from_slice(name)?;
-    }
-    out.extend_from_slice(b": ")?;
-    out.extend_from_slice(text)?;
-    out.push(b'\n')?;
-    Ok(())
 }
 
 /// A name, as a line with escapes or without them has it.

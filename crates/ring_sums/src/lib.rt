@@ -3,6 +3,7 @@
 #![tactic(auto)]
 
 mod about;
+mod amounts;
 mod check;
 mod console;
 mod entry;
@@ -20,6 +21,7 @@ mod outcome;
 mod outcomes;
 mod piece;
 mod program;
+mod progress;
 mod quote;
 mod source;
 mod sums;
@@ -27,6 +29,6 @@ mod tree;
 
 pub use crate::outcome::Outcome;
 pub use crate::outcomes::{Outcomes, Wanted};
-pub use crate::program::run;
+pub use crate::program::{Terminals, run};
 pub use crate::source::Source;
 pub use crate::sums::Sums;

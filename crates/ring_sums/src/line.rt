@@ -1,12 +1,12 @@
 // SPDX-License-Identifier: ISC
-//! A line of a list: the digest and the name of a file, as coreutils write it.
+//! The lines that coreutils write: of a list, with the digest and the name of a file, and of a check.
 
 ghost use Rattle.std.specs.Prelude.{◌≡◌, ◌∷◌, [], ◌++◌, OnOk};
 ghost use Rattle.hex.specs.Hex.{encode_lower};
 ghost use Rattle.ring.specs.Prelude.{bytes_of, digest_algorithm};
 ghost use Rattle.ring_sums.specs.Entry.{IsDigestOf};
 ghost use Rattle.ring_sums.specs.Line.{end_of, file_line, head_of, mark_of, named, plain_line};
-ghost use Rattle.ring_sums.specs.Line.{tagged_line};
+ghost use Rattle.ring_sums.specs.Line.{tagged_line, verdict_line};
 
 use crate::entry::tag_of;
 use crate::names::{append_escaped, needs_escape};
@@ -128,4 +128,20 @@ pub(crate) fn append_file_line(
         let mark = mark_of(options.is_binary);
         append_plain_line(out, options.is_zero, mark, digest, name)
     }
+}
+
+/// Appends the line that says what is found of a file.
+pub(crate) fn append_verdict_line(
+    out: &mut Vec<u8>,
+    name: &[u8],
+    text: &[u8],
+) -> Result<(), AllocError>
+    ensures { OnOk result (out.new.items ≡ out.old.items ++ verdict_line name.now text.now) }
+{
+    append_head(out, false, name)?;
+    append_escaped(out, name)?;
+    out.extend_from_slice(b": ")?;
+    out.extend_from_slice(text)?;
+    out.push(b'\n')?;
+    Ok(())
 }

@@ -66,7 +66,6 @@ where
 {
     let mut outcomes = Outcomes::new(alloc, wanted);
     let mut is_fine = true;
-    let mut done = 0_usize;
     for name in names {
         let Ok(next) = outcomes.next_outcome::<BITS>() else {
             return Err(AllocError);
@@ -75,8 +74,6 @@ where
             return Ok(false);
         };
         is_fine = answer(alloc, options, name, &outcome, console)? && is_fine;
-        done = done.saturating_add(1);
-        console.show_progress(done, names.len());
     }
     Ok(is_fine)
 }

@@ -4,7 +4,7 @@
 
 ghost use Rattle.std.specs.Prelude.{◌≡◌, ◌++◌, IfOk, OnOk, option_map};
 ghost use Rattle.ring_sums.specs.Names.{escaped, escaped_byte, is_special, needs_escape};
-ghost use Rattle.ring_sums.specs.Names.{needs_escape_of_check, unescaped, unescaped_byte};
+ghost use Rattle.ring_sums.specs.Names.{unescaped, unescaped_byte};
 
 use std::alloc::{AllocError, Global};
 
@@ -20,13 +20,6 @@ pub(crate) fn needs_escape(name: &[u8]) -> bool
     ensures { result ≡ needs_escape name.now }
 {
     name.iter().any(|byte| is_special(*byte))
-}
-
-/// Whether a name is escaped where a check says what it found.
-pub(crate) fn needs_escape_of_check(name: &[u8]) -> bool
-    ensures { result ≡ needs_escape_of_check name.now }
-{
-    name.contains(&b'\n')
 }
 
 /// Appends a byte of a name, escaped where it has to be.

@@ -6,20 +6,21 @@ ghost use Rattle.std.specs.Prelude.{map, true};
 ghost use Rattle.ring_sums.specs.Files.{name_of};
 
 use crate::about::{HELP, VERSION};
-use crate::check::check_list;
+use crate::check::{Seen, check_list};
 use crate::console::Console;
 use crate::entry::Gap;
 use crate::files::{Source, wanted_of};
 use crate::listing::list;
 use crate::options::{Options, Refusal, Request, names_from, request_of};
 use crate::outcomes::Wanted;
+use crate::progress::Progress;
 use crate::tree::append_files;
 use ring::digest::{Algorithm, SHA256};
 use std::alloc::{AllocError, Global};
 use std::env::FillError;
 use std::io;
 use std::io::{Eprint, Input, Print, Write};
-use std::rt::{Env, Files};
+use std::rt::{Clock, Env, Files};
 
 /// The name of the program where it is called by none.
 const NAME: &[u8] = b"sums";
@@ -32,6 +33,15 @@ const FAILURE: u8 = 1;
 
 /// How many bytes an argument is given at first.
 const FIRST_ROOM: usize = 256;
+
+/// Which of the standard streams are terminals.
+#[derive(Clone, Copy)]
+pub struct Terminals {
+    /// Standard output.
+    pub output: bool,
+    /// Standard error.
+    pub error: bool,
+}
 
 /// An argument, or `None` past the last one.
 fn argument<R: Env>(rt: &R, alloc: Global, place: usize) -> Result<Option<Vec<u8>>, AllocError> {
@@ -65,6 +75,7 @@ fn arguments<R: Env>(rt: &R, alloc: Global) -> Result<Vec<Vec<u8>>, AllocError> 
 /// The files of these names, of which digests under `algorithm` are asked for.
 fn files_named<'a, R: Files + AllocGlobal + Input>(
     rt: &'a R,
+    progress: &'a Progress,
     names: &'a [&'a [u8]],
     algorithm: Algorithm,
 ) -> Result<Vec<Wanted<Source<'a, R>>>, AllocError>
@@ -75,7 +86,7 @@ fn files_named<'a, R: Files + AllocGlobal + Input>(
 {
     let mut wanted = Vec::new(rt.alloc());
     for name in names {
-        wanted.push(wanted_of(rt, *name, algorithm))?;
+        wanted.push(wanted_of(rt, progress, *name, algorithm))?;
     }
     Ok(wanted)
 }
@@ -88,10 +99,11 @@ fn list_names<const BITS: usize, R, W>(
     console: &mut Console<'_, R, W>,
 ) -> Result<bool, AllocError>
 where
-    R: Files + AllocGlobal + Eprint + Input,
+    R: Files + AllocGlobal + Clock + Eprint + Input,
     W: Write,
 {
-    let wanted = files_named(rt, names, options.algorithm.unwrap_or(SHA256))?;
+    let algorithm = options.algorithm.unwrap_or(SHA256);
+    let wanted = files_named(rt, console.progress(), names, algorithm)?;
     list::<BITS, _, R, W>(rt.alloc(), options, names, wanted, console)
 }
 
@@ -186,7 +198,7 @@ fn list_trees<const BITS: usize, R, W>(
     console: &mut Console<'_, R, W>,
 ) -> Result<bool, AllocError>
 where
-    R: Files + AllocGlobal + Clone + Drop + Eprint + Input,
+    R: Files + AllocGlobal + Clock + Eprint + Input,
     W: Write,
 {
     let mut files: Vec<Vec<u8>> = Vec::new(rt.alloc());
@@ -206,7 +218,7 @@ fn run_files<const BITS: usize, R, W>(
     console: &mut Console<'_, R, W>,
 ) -> Result<bool, AllocError>
 where
-    R: Files + AllocGlobal + Clone + Drop + Eprint + Input,
+    R: Files + AllocGlobal + Clock + Eprint + Input,
     W: Write,
 {
     let mut operands = operands;
@@ -220,9 +232,12 @@ where
         return list_names::<BITS, R, W>(rt, options, &operands, console);
     }
     let mut is_fine = true;
-    let mut gap = Gap::Unknown;
+    let mut seen = Seen {
+        gap: Gap::Unknown,
+        known: options.algorithm,
+    };
     for name in &operands {
-        is_fine = check_list::<BITS, R, W>(rt, options, *name, &mut gap, console)? && is_fine;
+        is_fine = check_list::<BITS, R, W>(rt, options, *name, &mut seen, console)? && is_fine;
     }
     Ok(is_fine)
 }
@@ -240,9 +255,9 @@ fn end<R: Eprint, W: Write>(
 }
 
 /// Does what the arguments ask for, and returns whether it went well.
-fn run_words<const BITS: usize, R>(rt: &R, is_terminal: bool) -> Result<bool, AllocError>
+fn run_words<const BITS: usize, R>(rt: &R, terminals: Terminals) -> Result<bool, AllocError>
 where
-    R: Files + AllocGlobal + Clone + Drop + Env + Print + Eprint + Input,
+    R: Files + AllocGlobal + Clock + Env + Print + Eprint + Input,
 {
     let alloc = rt.alloc();
     let words = arguments(rt, alloc)?;
@@ -251,7 +266,9 @@ where
         None => NAME.to_vec(alloc)?,
     };
     let words = words.get(1..).unwrap_or(&[]);
-    let mut console = Console::new(rt, alloc, &program, io::writer(rt));
+    let progress = Progress::new(alloc);
+    let out = io::writer(rt);
+    let mut console = Console::new(rt, alloc, &program, out, &progress, terminals.output);
     let is_fine = match request_of(alloc, &program, words)? {
         Request::Help => {
             help(alloc, &mut console)?;
@@ -266,8 +283,8 @@ where
             false
         }
         Request::Files(options, operands) => {
-            if is_terminal && options.shows_progress {
-                console.start_progress();
+            if terminals.error && options.shows_progress {
+                progress.start();
             }
             run_files::<BITS, R, _>(rt, &options, operands, &mut console)?
         }
@@ -286,16 +303,27 @@ fn status_of(went_well: &Result<bool, AllocError>) -> u8
     }
 }
 
+/// Tells that there is no memory, which takes none. A long name of the program is not told.
+fn tell_of_memory<R: Env + Eprint>(rt: &R) {
+    let mut room = [0; FIRST_ROOM];
+    let name = match rt.arg(0, &mut room) {
+        Ok(len) => room.get(..len).unwrap_or(NAME),
+        Err(_) => NAME,
+    };
+    let name = std::str::from_utf8(name).unwrap_or("sums");
+    let _ = rt.eprintln(format_args!("{name}: memory exhausted"));
+}
+
 /// Does what the arguments of `rt` ask for over vectors of `BITS` bits, and returns the status: 0
-/// where all went well, else 1. `is_terminal` is whether standard error is a terminal.
-pub fn run<const BITS: usize, R>(rt: &R, is_terminal: bool) -> u8
+/// where all went well, else 1.
+pub fn run<const BITS: usize, R>(rt: &R, terminals: Terminals) -> u8
 where
-    R: Files + AllocGlobal + Clone + Drop + Env + Print + Eprint + Input,
+    R: Files + AllocGlobal + Clock + Env + Print + Eprint + Input,
     ensures status { result ≢ 0 → result ≡ 1 }
 {
-    let went_well = run_words::<BITS, R>(rt, is_terminal);
+    let went_well = run_words::<BITS, R>(rt, terminals);
     if went_well.is_err() {
-        let _ = rt.eprintln("sums: memory exhausted");
+        tell_of_memory(rt);
     }
     status_of(&went_well)
 }

@@ -3,10 +3,14 @@
 #![tactic(auto)]
 
 use ring::width::SSE;
-use ring_sums::run;
+use ring_sums::{Terminals, run};
 use std::io::IsTerminal;
 use std::process::ExitCode;
 
 fn main(rt: HostRuntime) -> ExitCode {
-    ExitCode::from(run::<SSE, _>(&rt, rt.stderr().is_terminal()))
+    let terminals = Terminals {
+        output: rt.stdout().is_terminal(),
+        error: rt.stderr().is_terminal(),
+    };
+    ExitCode::from(run::<SSE, _>(&rt, terminals))
 }

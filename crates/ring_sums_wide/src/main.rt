@@ -4,10 +4,14 @@
 #![tactic(auto)]
 
 use ring::width::AVX2;
-use ring_sums::run;
+use ring_sums::{Terminals, run};
 use std::io::IsTerminal;
 use std::process::ExitCode;
 
 fn main(rt: HostRuntime) -> ExitCode {
-    ExitCode::from(run::<AVX2, _>(&rt, rt.stderr().is_terminal()))
+    let terminals = Terminals {
+        output: rt.stdout().is_terminal(),
+        error: rt.stderr().is_terminal(),
+    };
+    ExitCode::from(run::<AVX2, _>(&rt, terminals))
 }

@@ -3,7 +3,6 @@ use Rattle.std.proofs.Common.{◌∙◌, ◌<◌, ◌^◌, arith, length, refl, 
 use Rattle.ring_sums.specs.Check.{count_of}
 use Rattle.ring_sums.proofs.CheckedLines.{checked-all, checked-bad, checked-entry, checked-first}
 use Rattle.ring_sums.proofs.CheckedLines.{bad-few, checked-none}
-use Rattle.ring_sums.proofs.Listed.{written-kept}
 use Rattle.ring_sums.proofs.check.check_lines.Goals as goal
 use Rattle.ring_sums.proofs.check.check_lines.Goals.{in-Bad+in_ok-warn_of_line-in-Bad}
 use Rattle.ring_sums.proofs.check.check_lines.Goals.{in-Entry+in-Ok+in-Some+in_ok-answer-in-Entry}
@@ -49,7 +48,7 @@ loop-line-preserved g c = λ files.
           w.in_ok-answer-in-Entry.field-0 c.loop-line-test.true few
           same (sym c.line-item.is ∙ w.in-Entry.is) is some
           w.in_ok-answer-in-Entry.ensures.found
-          (written-kept w.in_ok-answer-in-Entry.ensures.said w.show_progress.ensures)
+          w.in_ok-answer-in-Entry.ensures.said
           w.count.ensures.counted w.count.ensures.bad)
     ]
 

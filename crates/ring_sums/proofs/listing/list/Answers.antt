@@ -1,7 +1,7 @@
 -- SPDX-License-Identifier: ISC
 use Rattle.std.proofs.Common.{◌≡◌, ◌&&◌, ◌∙◌, [], arith, false, length, refl, sym}
 use Rattle.ring_sums.specs.Listing.{is_sum}
-use Rattle.ring_sums.proofs.Listed.{lines-none, told-more, told-none, written-kept, written-none}
+use Rattle.ring_sums.proofs.Listed.{lines-none, told-more, told-none, written-none}
 use Rattle.ring_sums.proofs.listing.list.Goals as goal
 use Rattle.ring_sums.proofs.listing.list.Goals.{else-branch, then-branch}
 
@@ -28,7 +28,7 @@ loop-name-preserved g c = λ same.
     let told = c.loop-name.invariant same in
     let is = rw c.in-Some.is at
     c.in-Ok.ensures c.args.wanted.items c.loop-name.name-index told.rest in
-    let line = written-kept c.in_ok-is_fine.ensures.line c.show_progress.ensures in
+    let line = c.in_ok-is_fine.ensures.line in
     let fine : c.if-branch.is_fine ≡ (is_sum c.in-Some.outcome && c.loop-name.is_fine) =
     elim c.if-branch.branch [
       | then-branch w ↦ rw (w.is_fine-is, sym c.in_ok-is_fine.ensures.is, w.if-branch.true) refl

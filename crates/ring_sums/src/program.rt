@@ -315,7 +315,7 @@ fn tell_of_memory<R: Env + Eprint>(rt: &R) {
 }
 
 /// Does what the arguments of `rt` ask for over vectors of `BITS` bits, and returns the status: 0
-/// where all went well, else 1.
+/// where all went well, else 1. `terminals` says which of the standard streams are terminals.
 pub fn run<const BITS: usize, R>(rt: &R, terminals: Terminals) -> u8
 where
     R: Files + AllocGlobal + Clock + Env + Print + Eprint + Input,

@@ -1,6 +1,8 @@
 // SPDX-License-Identifier: ISC
 //! The answer to a line.
 
+ghost use Rattle.ring_password_hash.specs.Stored.{IsStored};
+
 use crate::fault::Fault;
 use crate::words::{bytes_in, count_in, line_of, scheme_in, text_in};
 use ring_password_hash::{MAX_TEXT_LEN, Stored, verify};
@@ -20,7 +22,9 @@ pub fn answer(alloc: Global, line: &str) -> Result<String, Fault> {
 }
 
 /// The text of a value, as a line.
-fn text_of(alloc: Global, stored: &Stored) -> Result<String, Fault> {
+fn text_of(alloc: Global, stored: &Stored) -> Result<String, Fault>
+    requires { IsStored stored.now }
+{
     let mut text = [0; MAX_TEXT_LEN];
     let len = stored.write_to(&mut text)?;
     Ok(line_of(alloc, &text[..len])?)

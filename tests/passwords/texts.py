@@ -102,8 +102,8 @@ class Written(Case):
             self.assertEqual(ended, (2, bad_count(count), b""), count)
             ended = bare("check", "--max-iterations", count, line=b"x")
             self.assertEqual(ended, (2, bad_count(count, "--max-iterations"), b""), count)
-        helped = [line.strip() for line in bare("--help")[2].decode().splitlines()]
-        self.assertEqual([line for line in helped if line in SCHEMES], SCHEMES)
+        helped = bare("--help")[2].decode().split()
+        self.assertEqual([word for word in helped if word in SCHEMES], SCHEMES)
 
     def test_files_may_have_these_names(self):
         """A file may be called `encode` or `check`: commands are told by their second word."""

@@ -145,7 +145,7 @@ class Words(Case):
 
     def unknown(self, word):
         """What is said of a word that is no command."""
-        return f"no such command: {word}{COMMANDS}"
+        return f"no such command: {word}"
 
     def test_words_that_ask_for_nothing_of_a_file(self):
         """Words behind a file that ask for nothing: the message names them, and nothing is made."""

@@ -92,7 +92,7 @@ class Written(Case):
             (("check", "--max-iterations"), no_count("--max-iterations")),
             (("check", "--max-iterations", "1", "x"), one_too_many("x")),
             (("Check",), f"Check: no command{COMMANDS}"),
-            (("ENCODE", "mosquitto"), f"ENCODE: no such command: mosquitto{COMMANDS}"),
+            (("ENCODE", "mosquitto"), f"ENCODE: no such command: mosquitto"),
             (("encode", "set"), "set needs a name"), (("check", "list", "x"), one_too_many("x")),
         ]
         for words, message in rows:

@@ -29,8 +29,7 @@ number_text option = option_word option ++ codes " needs a number of 1 to 429496
 abbrev pub misuse_text : Misuse → List ℕ
 misuse_text NoWords = USAGE.now
 misuse_text (NoCommand file) = file.now ++ codes ": no command" ++ commands_text
-misuse_text (UnknownCommand file word) =
-    file.now ++ codes ": no such command: " ++ word.now ++ commands_text
+misuse_text (UnknownCommand file word) = file.now ++ codes ": no such command: " ++ word.now
 misuse_text (NoName command) = command_word command ++ codes " needs a name"
 misuse_text NoScheme = codes "encode needs a scheme; the schemes are " ++ schemes_text
 misuse_text (UnknownScheme word) =

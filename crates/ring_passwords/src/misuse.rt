@@ -45,10 +45,7 @@ impl fmt::Display for Misuse<'_> {
                     "{file}: no command; the commands are set, verify, remove and list"
                 )
             }
-            Misuse::UnknownCommand(file, word) => write!(
-                f,
-                "{file}: no such command: {word}; the commands are set, verify, remove and list"
-            ),
+            Misuse::UnknownCommand(file, word) => write!(f, "{file}: no such command: {word}"),
             Misuse::NoName(command) => write!(f, "{} needs a name", command.word()),
             Misuse::NoScheme => write!(f, "encode needs a scheme; the schemes are {Schemes}"),
             Misuse::UnknownScheme(word) => {

@@ -259,9 +259,10 @@ fn yz_password_hash_new_counted(
     write_new(scheme, iterations, salt, password, text, text_len, meter)
 }
 
-/// Writes to the start of `text` the hash of `password` under `salt` and `iterations`, of the scheme
-/// of the number `scheme`, and to `text_len` how many bytes it has. The rest of `text` is unchanged.
-/// For PostgreSQL a password that is not ASCII is to be prepared first (SASLprep, RFC 4013).
+/// Writes to the start of `text` the hash of `password` under `salt` and `iterations`, of the
+/// scheme of the number `scheme`, and to `text_len` how many bytes it has. The rest of `text` is
+/// unchanged. For PostgreSQL a password that is not ASCII is to be prepared first (SASLprep, RFC
+/// 4013).
 ///
 /// Refused as `UNKNOWN_ALGORITHM` exactly if the number names no scheme; else as `NO_ITERATIONS`
 /// exactly if there is none; else as `WRONG_LENGTH` exactly if the hash is longer than `text` or

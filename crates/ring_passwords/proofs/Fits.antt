@@ -1,7 +1,8 @@
 -- SPDX-License-Identifier: ISC
 -- The text of a new value under a salt of 16 random bytes has at most 1,024 bytes.
-use Rattle.std.proofs.Common.{◌≡◌, ◌≤◌, ◌<◌, ◌+◌, ◌*◌, ◌/◌, ◌^◌, ◌++◌, ◌∷◌, ◌∙◌, ℕ, zero, suc, Bool, true}
-use Rattle.std.proofs.Common.{false, List, [], ap, arith, codes, drop, length, refl, sym, take}
+use Rattle.std.proofs.Common.{◌≡◌, ◌≤◌, ◌<◌, ◌+◌, ◌*◌, ◌/◌, ◌^◌, ◌++◌, ◌∷◌, ◌∙◌, ℕ, zero, suc}
+use Rattle.std.proofs.Common.{Bool, true, false, List, [], ap, arith, codes, drop, length, refl}
+use Rattle.std.proofs.Common.{sym, take}
 use Rattle.std.specs.Prelude.{nat_le, nat_lt, not, ◌||◌, if◌then◌else◌, Err, Ok, Result}
 use Rattle.std.specs.Fmt.{decimal}
 use Rattle.std.specs.Int.{from_be_bytes, w128}

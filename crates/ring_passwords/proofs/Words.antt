@@ -15,7 +15,8 @@ pub words_cons : {X : Type 0} (bytes : X → List ℕ) (ws : List X) (x : X) (wo
 words_cons bytes [] x word some at is = absurd (omega (arith, some))
 words_cons {X} bytes (y ∷ ys) x word some at is =
     ap (λ (w : List ℕ). w ∷ map bytes ys) (sym (is ∙ ap bytes at))
-    ∙ ap (λ (zs : List X). word ∷ map bytes zs) (sym (take_all (length (y ∷ ys) - 1) ys (omega arith)))
+    ∙ ap (λ (zs : List X). word ∷ map bytes zs)
+    (sym (take_all (length (y ∷ ys) - 1) ys (omega arith)))
 
 -- no word is left
 pub words_nil : {X : Type 0} (bytes : X → List ℕ) (ws : List X) → length ws < 1 → map bytes ws ≡ []

@@ -1,7 +1,7 @@
 -- SPDX-License-Identifier: ISC
 -- The text that shows how far a run is.
-use Rattle.std.specs.Prelude.{ℕ, ◌+◌, ◌*◌, ◌/◌, ◌%◌, ◌==◌, ◌||◌, List, [], ◌∷◌, ◌++◌, codes, decimal}
-use Rattle.std.specs.Prelude.{if◌then◌else◌, nat_lt}
+use Rattle.std.specs.Prelude.{ℕ, ◌+◌, ◌*◌, ◌/◌, ◌%◌, ◌==◌, ◌||◌, List, [], ◌∷◌, ◌++◌, codes}
+use Rattle.std.specs.Prelude.{decimal, if◌then◌else◌, nat_lt}
 use Rattle.ring_sums.specs.declared.amounts.Amounts.{Amounts}
 
 -- a number of tenths of a unit, and the unit: `12.3 MB`

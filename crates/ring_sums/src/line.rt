@@ -1,5 +1,5 @@
 // SPDX-License-Identifier: ISC
-//! The lines that coreutils write: of a list, with the digest and the name of a file, and of a check.
+//! The lines that coreutils write: of a list, with a file's digest and name, and of a check.
 
 ghost use Rattle.std.specs.Prelude.{◌≡◌, ◌∷◌, [], ◌++◌, OnOk};
 ghost use Rattle.hex.specs.Hex.{encode_lower};

@@ -1,5 +1,5 @@
 // SPDX-License-Identifier: ISC
-//! What is shown while files are read: how many bytes of all, how fast, and how long it still takes.
+//! What is shown while files are read: how many bytes of all, the rate, and the time left.
 
 ghost use Rattle.std.specs.Prelude.{◌<◌};
 

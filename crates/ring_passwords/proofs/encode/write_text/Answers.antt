@@ -34,4 +34,5 @@ returns-in-Ok-write_all-clause-written g c =
     let wrote = c.in-Ok.ensures in
     let all = c.in-Ok-write_all.ensures.bytes in
     subst (Appends (contents c.args.writer.now) (contents c.write_all.new.self))
-    (line_at _ _ c.in-Ok.len 1025 wrote.0 (omega (arith, wrote.0, c.requires.text.within)) wrote.1) all
+    (line_at _ _ c.in-Ok.len 1025 wrote.0 (omega (arith, wrote.0, c.requires.text.within)) wrote.1)
+    all

@@ -8,4 +8,5 @@ use Rattle.ring_passwords.proofs.schemes.SchemesDisplay.fmt.Given as goal
 -- the names of the first scheme and of those before the index of the others
 abbrev pub invariant-loop-scheme : goal.invariant-loop-scheme
 invariant-loop-scheme g l = IsPlainFormatter l.fn.f
-    → HasWritten g.W.Write.write_str_gives l.fn.f (names_text (take (l.scheme-index + 1) SCHEMES)) l.f
+    → HasWritten g.W.Write.write_str_gives l.fn.f
+    (names_text (take (l.scheme-index + 1) SCHEMES)) l.f

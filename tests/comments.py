@@ -17,8 +17,9 @@ These are the rules:
 - A counted form may link to its plain form instead, as in '[`Context::update`]', and then names
   `meter` alone.
 
-So a call without parameters, such as `output_len`, needs a comment and nothing more. The last line
-is 'N passed, M failed'.
+So a call without parameters, such as `output_len`, needs a comment and nothing more. Of the
+comments tools/call_tables.py makes the tables of docs/API.md, which must be new. The last line is
+'N passed, M failed'.
 """
 
 import pathlib
@@ -27,8 +28,8 @@ import sys
 
 sys.dont_write_bytecode = True
 sys.path.append(str(pathlib.Path(__file__).resolve().parent.parent / "tools"))
+import call_tables
 import rattle_items
-import signatures
 
 # The standard that defines the calls of a module and of those below it, the longest name first.
 STANDARDS = {
@@ -112,6 +113,13 @@ def faults(page, item):
     return list(faults_of_call(page, item)) if item.kind == "fn" else []
 
 
+def tables_of_page(page):
+    """Whether docs/API.md has the tables of the comments, and whether a changed one shows."""
+    yield call_tables.is_as_written(page), "other tables: run `python3 tools/call_tables.py`"
+    changed = page.replace("; refused where ", "; refused unless ", 1)
+    yield not call_tables.is_as_written(changed), "a planted fault is not found"
+
+
 def main():
     sources = rattle_items.Sources()
     passed, failed = 0, 0
@@ -122,11 +130,9 @@ def main():
             place = f"{item.module.file.relative_to(rattle_items.ROOT)}:{item.line}"
             if found:
                 print(f"FAILED: {place}: {name}: {', '.join(found)}")
-    if signatures.is_as_written():
-        passed += 1
-    else:
-        failed += 1
-        print("FAILED: docs/API.md has other signatures: run `python3 tools/signatures.py`")
+    for is_right, fault in tables_of_page(call_tables.PAGE.read_text()):
+        passed, failed = passed + is_right, failed + (not is_right)
+        print("" if is_right else f"FAILED: docs/API.md: {fault}\n", end="")
     print(f"{passed} passed, {failed} failed")
     return failed != 0 or not passed
 

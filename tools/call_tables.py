@@ -1,0 +1,123 @@
+"""Writes the tables of docs/API.md, from the line "## Calls" on, as the comments of the sources
+have them: each call with its parameters, its comment's first sentence, and when it is refused.
+
+`python3 tools/call_tables.py` writes them anew; tests/comments.py compares them.
+"""
+
+import re
+import sys
+
+sys.dont_write_bytecode = True
+import rattle_items
+
+PAGE = rattle_items.ROOT / "docs/API.md"
+HEAD = "## Calls\n"
+LIBRARIES = ("ring", "ring_store", "ring_password_hash")
+# Facts for proofs, and what the page names above its tables.
+LEFT_OUT = (
+    "ring::laws", "ring::raw", "ring::digest::dynstate", "ring_core::bits", "ring_core::digest",
+    "ring_core::error", "ring_core::polyfill", "ring_store::laws", "ring_password_hash::laws",
+)
+COLUMNS = "| Call | What it gives |\n|---|---|"
+# What a table leaves out of a sentence, or says in fewer words: a section of a standard and a law,
+# where a link leads, and the greatest length of a message.
+SHORTER = (
+    (re.compile(r" \((?:FIPS|RFC|\[`)[^()]*(?:\([^()]*\))?\)"), ""),
+    (re.compile(r"\[(`[^`]+`)\](?:\([^)]*\))?"), r"\1"),
+    (re.compile(r"longer than (?:the|SHA-256's)[\w' ]* `max_input_len` bytes"), "too long"),
+)
+REFUSED = re.compile(r"(?:Refused|Otherwise as) ")
+
+
+def sentences(comment):
+    """The sentences of a comment's paragraphs, without tables and code."""
+    for paragraph in re.sub(r"```.*?```", "", comment, flags=re.S).split("\n\n"):
+        text = " ".join(paragraph.split())
+        for pattern, shorter in SHORTER:
+            text = pattern.sub(shorter, text)
+        if not text.startswith(("|", "- ")):
+            yield from filter(None, re.split(r"(?<=[\w)`\]])(?:\.|:$)(?:\s|$)", text))
+
+
+def told(item):
+    """What a comment says that the item gives, and when it is refused."""
+    found = list(sentences(item.comment))
+    gives = next((it for it in found if not REFUSED.match(it)), "")
+    refusals = [it[0].lower() + it[1:] for it in found if REFUSED.match(it)]
+    return "; ".join([gives, *refusals]).replace("|", r"\|")
+
+
+def marks(name, found):
+    """The marks of the further forms that a call has among some items."""
+    forms = {it.name: it.signature for it in found if it.name.startswith(f"{name}_")}
+    is_wide = "VECTOR_BITS" in forms.get(f"{name}_in", "")
+    return " +" * (f"{name}_counted" in forms) + " *" * is_wide
+
+
+def is_row(item, names):
+    """Whether an item is a call with a row of its own: one that takes or refuses something, and is
+    no further form of another."""
+    plain = re.sub("_(?:counted|in)$", "", item.name)
+    is_other = plain != item.name and plain in names and item.name != "new_in"
+    takes = item.kind == "fn" and (item.parameters or item.result.startswith("Result<"))
+    return bool(takes) and not is_other
+
+
+def link(item, name):
+    """A name that links to the file in which its item stands."""
+    return f"[`{name}`](../{item.module.file.relative_to(rattle_items.ROOT)})"
+
+
+def rows_of(owner, found):
+    """The rows of the calls among some items, of a type where there is one."""
+    names = {item.name for item in found}
+    for item in (it for it in found if is_row(it, names)):
+        name = f"{owner}::{item.name}" if owner else item.name
+        call = f"{link(item, name)}`({', '.join(item.parameters)})`{marks(item.name, found)}"
+        yield f"| {call} | {told(item)} |"
+
+
+def rows_of_type(sources, item):
+    """The row of a type or trait, which names its variants and its plainest calls, and the rows of
+    its other calls."""
+    members = [it for it in sources.members(item) if it.kind in ("fn", "part") and it.name]
+    names = {it.name for it in members}
+    parts = members if item.kind == "enum" else [it for it in members if it.kind == "fn"]
+    plain = (it for it in parts if not it.name.endswith(("_counted", "_in")))
+    named = dict.fromkeys(it.name for it in plain if not is_row(it, names))
+    inner = f"`::{{{', '.join(named)}}}`" if named else ""
+    yield f"| {link(item, item.name)}{inner} | {told(item)} |"
+    yield from rows_of(item.name, members)
+
+
+def lines_of_page(sources, page):
+    """A module's constants, and the table of its functions and types."""
+    found = list(sources.shown_at(page))
+    constants = ", ".join(f"`{it.name}`" for it in found if it.kind == "const")
+    rows = list(rows_of("", [it for it in found if it.kind == "fn"]))
+    for item in found:
+        if item.kind in ("struct", "enum", "trait"):
+            rows += rows_of_type(sources, item)
+    parts = [f"Constants: {constants}."] if constants else []
+    return [*parts, "\n".join([COLUMNS, *rows])] if rows else parts
+
+
+def tables():
+    """The section, with its heading."""
+    sources = rattle_items.Sources(("ring_core", *LIBRARIES))
+    parts = [HEAD]
+    for page in sources.pages:
+        shown = [] if page.name.startswith(LEFT_OUT) else lines_of_page(sources, page)
+        if shown:
+            parts += ["### `" + re.sub("^ring_core::", "ring::", page.name) + "`", *shown]
+    return "\n\n".join(part.strip("\n") for part in parts) + "\n"
+
+
+def is_as_written(page=None):
+    """Whether the page, or another text of it, has the tables that the comments give."""
+    return (PAGE.read_text() if page is None else page).endswith(f"\n{tables()}")
+
+
+if __name__ == "__main__":
+    front = PAGE.read_text().partition(f"\n{HEAD}")[0]
+    PAGE.write_text(f"{front.rstrip()}\n\n{tables()}")

@@ -8,8 +8,8 @@ both: the variants and the names in the code; the constants of the header, which
 capitals, and those of the manual page; the numbers of `crates/ring_c/specs/Number.antt`, of which
 the calls for C speak; the names in Python; the variants, numbers and names in Rust; the help of
 ./passwords; and the table of docs/PASSWORD_HASHES.md, whose texts begin with the prefixes and whose
-other cells say what the rows do. Then each place is read again with planted faults, which must be found. The last line is
-'N passed, M failed'.
+other cells say what the rows do. Then each place is read again with planted faults, which must be
+found. The last line is 'N passed, M failed'.
 """
 
 import pathlib
@@ -55,7 +55,7 @@ PLANTED = (
     (HEADER, "YZ_POSTGRESQL = 11,", "YZ_POSTGRESQL = 12,"),
     (HEADER, "    YZ_WERKZEUG_SHA1 = 12,\n", ""),
     (HEADER, "    YZ_MOSQUITTO = 7,", "    YZ_MOSQUITTO_SHA512 = 7,"),
-    (MANUAL, ".BR YZ_PASSLIB_SHA512 ,\n", ""),
+    (MANUAL, "YZ_PASSLIB_SHA512|10|\n", ""),
     (PYTHON, '    "postgresql",\n', '    "postgres",\n'),
     (NATIVE, '[YZ_PHC_SHA256] = "phc-sha256"', '[YZ_PHC_SHA256] = "phc-sha512"'),
     (RUST, "    Postgresql = 11,", "    Postgresql = 13,"),
@@ -124,8 +124,8 @@ def lists(texts, order, names):
     found = groups(r"nat_eq number (\d+) then Some (\w+)$", tests)
     yield NUMBERS, [(variant, number) for number, variant in found], variants
     yield HEADER, groups(r"^    (YZ_\w+) = (\d+),$", scheme_constants(texts[HEADER])), numbered
-    listed = block(texts[MANUAL], "\n.I scheme\nis one of\n", "The ")
-    yield MANUAL, groups(r"\b(YZ_\w+)", listed), constants
+    listed = block(texts[MANUAL], "for \\fIuint32_t scheme\\fP", ".TE")
+    yield MANUAL, groups(r"^(YZ_(?!MAX)\w+)\|(\d+)\|$", listed), numbered
     yield PYTHON, groups(r'^    "([^"]*)",$', block(texts[PYTHON], "\nSCHEMES = (", ")")), names
     yield NATIVE, groups(r'^    \[(YZ_\w+)\] = "([^"]*)",$', pointers), list(zip(constants, names))
     yield RUST, groups(r"^    (\w+) = (\d+),$", block(rust, "pub enum Scheme {")), variants

@@ -46,7 +46,7 @@ PLANTED = (
     (README, "| the number of iterations is 0 |", "| the number of iterations is 1 |"),
     (HEADER, "#define YZ_MAX_PASSWORD_HASH_LEN 1024", "#define YZ_MAX_PASSWORD_HASH_LEN 1023"),
     (PAGE, '.BR YZ_UNSPECIFIED " (8)"', '.BR YZ_UNSPECIFIED " (5)"'),
-    (PAGE, ".BR YZ_MAX_PASSWORD_HASH_LEN ,\n1024,", ".BR YZ_MAX_PASSWORD_HASH_LEN ,\n1025,"),
+    (PAGE, "YZ_MAX_PASSWORD_HASH_LEN|1024", "YZ_MAX_PASSWORD_HASH_LEN|1025"),
     (README, "| 3 | `YZ_NO_ITERATIONS` |", "| 3 | `YZ_WRONG_LENGTH` |"),
     (RUST, "YZ_BAD_FORMAT: i32 = 5", "YZ_BAD_FORMAT: i32 = 6"),
     (RUST_TEXTS, "calls::YZ_BAD_SALT =>", "8 =>"),
@@ -156,7 +156,7 @@ def length_faults(texts):
     longest = numbers(texts[HASHES], r"^max_text_len = (\d+)$")
     for place, pattern in (
         (HEADER, r"^#define YZ_MAX_PASSWORD_HASH_LEN (\d+)$"),
-        (PAGE, r"^\.BR YZ_MAX_PASSWORD_HASH_LEN ,\n(\d+), bytes"),
+        (PAGE, r"^YZ_MAX_PASSWORD_HASH_LEN\|(\d+)\|$"),
         (RUST_TEXTS, r"^pub const MAX_TEXT_LEN: usize = (\d+);$"),
     ):
         found = numbers(texts[place], pattern)

@@ -1,15 +1,15 @@
 /* SPDX-License-Identifier: ISC
  * Copyright 2026 the Yezdopin authors.
  *
- * Digests (FIPS 180-4), tags (HMAC, RFC 2104) and derived keys (HKDF, RFC 5869, also by the labels
- * of TLS 1.3, RFC 8446; PBKDF2, RFC 2898), each call proved to give the standard's bytes. What is
- * proved and what is not stands in README.md, which is installed as
- * share/doc/yezdopin/README.md.
+ * Digests (FIPS 180-4), tags (HMAC, RFC 2104), derived keys (HKDF, RFC 5869, also by the labels of
+ * TLS 1.3, RFC 8446; PBKDF2, RFC 2898) and password hashes, each call proved to give the standard's
+ * bytes. README.md, installed as share/doc/yezdopin/README.md, says what is proved and what is not.
+ * All lengths are in bytes.
  *
- * Each call returns whatever it is given. It takes no memory from the system, keeps no state but a
- * byte that remembers what the processor has, and sets no errno, so that calls may run in any
- * threads at once, as long as no two share memory that one of them writes: one thread a context,
- * while one key serves all threads.
+ * Each call returns whatever it is given. Calls allocate nothing, set no errno, and keep no state
+ * but a byte that remembers what the processor has: on one with x86-64-v3 (AVX2) those that gain by
+ * it run code for it. They may run in any threads at once: a key may be shared, a context may not.
+ * The library has no source of random bytes: see getrandom(2).
  *
  * The caller must ensure, unchecked, that
  * - a pointer with a length behind it is that of so many bytes, which may be read, or written where
@@ -18,8 +18,8 @@
  * - a pointer to a context or a key is aligned as its type, and not NULL;
  * - the thread has 8 KiB of stack left, and for a call of password hashes 20 KiB.
  *
- * A call that can be refused answers YZ_OK, or the first cause that holds in the order of yz_status,
- * which is the one with the least number. Past YZ_OK it has written nothing. */
+ * A call that can be refused answers YZ_OK, or the first cause that holds in the order of
+ * yz_status, which is the one with the least number. Past YZ_OK it has written nothing. */
 #ifndef YEZDOPIN_H
 #define YEZDOPIN_H
 
@@ -121,8 +121,8 @@ typedef struct {
  * 2009 on, AMD's from 2011 on. On an older one a call may end the program by SIGILL. This function
  * is compiled into the caller, since no code of the library is sure to run there. */
 static inline bool yz_supported(void) {
-    /* SSE3, SSSE3, CMPXCHG16B, SSE4.1, SSE4.2 and POPCNT, then LAHF. Every x86-64 processor has both
-     * leaves. <cpuid.h> isn't included, since gcc before 11 fails where it is included twice. */
+    /* SSE3, SSSE3, CMPXCHG16B, SSE4.1, SSE4.2 and POPCNT, then LAHF. Every x86-64 processor has
+     * both leaves. <cpuid.h> isn't included, since gcc before 11 fails where it is so twice. */
     const unsigned wanted = 1u | 1u << 9 | 1u << 13 | 1u << 19 | 1u << 20 | 1u << 23, lahf = 1;
     unsigned a = 1, b, c, d, found;
     __asm__ volatile("cpuid" : "+a"(a), "=b"(b), "=c"(found), "=d"(d));
@@ -139,8 +139,8 @@ static inline bool yz_supported(void) { return true; }
  * YZ_VERSION where it loads the library by itself. */
 uint32_t yz_version(void);
 
-/* The text of a status, as the list above has it, or "unknown status" for any other number. It is
- * static: neither change it nor free it. */
+/* The text of a status, or "unknown status" for any other number. It is static: neither change it
+ * nor free it. */
 const char *yz_status_text(yz_status status);
 
 /* The bytes of a digest or a tag, and of a block; 0 for a number that names no algorithm. */
@@ -287,8 +287,8 @@ yz_status yz_password_hash_info(const char *text, size_t text_len,
  * it as it is, and else the random bytes themselves. The rest of `salt` is unchanged.
  *
  * `random` is YZ_SALT_RANDOM_LEN bytes of a generator of random numbers, or the call answers
- * YZ_UNSPECIFIED. A number that names no scheme is answered by YZ_UNKNOWN_ALGORITHM, and a salt that
- * is longer than `salt_room` by YZ_WRONG_LENGTH. */
+ * YZ_UNSPECIFIED. A number that names no scheme is answered by YZ_UNKNOWN_ALGORITHM, and a salt
+ * that is longer than `salt_room` by YZ_WRONG_LENGTH. */
 #define YZ_SALT_RANDOM_LEN 16
 #define YZ_MAX_SALT_LEN 22
 yz_status yz_password_hash_salt(uint32_t scheme, const uint8_t *random, size_t random_len,

@@ -270,8 +270,8 @@ enum {
  * A text of more than YZ_MAX_PASSWORD_HASH_LEN bytes is answered by YZ_WRONG_LENGTH. One that is no
  * hash's is answered by YZ_BAD_FORMAT, and one that names more than `max_iterations` by
  * YZ_TOO_MANY_ITERATIONS, all before anything is derived: whoever wrote the text chose its
- * iterations, and 4294967295 of them take an hour. Another password, and one that is too long, is
- * answered by YZ_UNSPECIFIED. */
+ * iterations, and 4294967295 of them take a quarter of an hour and more. Another password, and one
+ * that is too long, is answered by YZ_UNSPECIFIED. */
 yz_status yz_password_hash_verify(const char *text, size_t text_len,
                                   const uint8_t *password, size_t password_len,
                                   uint32_t max_iterations) YZ_MUST_CHECK;

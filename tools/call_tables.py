@@ -77,29 +77,26 @@ def rows_of(owner, found):
         yield f"| {call} | {told(item)} |"
 
 
-def rows_of_type(sources, item):
-    """The row of a type or trait, which names its variants and its plainest calls, and the rows of
-    its other calls."""
+def named(sources, item):
+    """A type or trait with its variants and the calls that have no row of their own."""
     members = [it for it in sources.members(item) if it.kind in ("fn", "part") and it.name]
     names = {it.name for it in members}
     parts = members if item.kind == "enum" else [it for it in members if it.kind == "fn"]
     plain = (it for it in parts if not it.name.endswith(("_counted", "_in")))
-    named = dict.fromkeys(it.name for it in plain if not is_row(it, names))
-    inner = f"`::{{{', '.join(named)}}}`" if named else ""
-    yield f"| {link(item, item.name)}{inner} | {told(item)} |"
-    yield from rows_of(item.name, members)
+    inner = dict.fromkeys(it.name for it in plain if not is_row(it, names))
+    return link(item, item.name) + (f"`::{{{', '.join(inner)}}}`" if inner else "")
 
 
 def lines_of_page(sources, page):
-    """A module's constants, and the table of its functions and types."""
+    """A module's types and constants, and the table of its calls."""
     found = list(sources.shown_at(page))
-    constants = ", ".join(f"`{it.name}`" for it in found if it.kind == "const")
+    types = [it for it in found if it.kind in ("struct", "enum", "trait")]
+    constants = [f"`{it.name}`" for it in found if it.kind == "const"]
+    shown = ", ".join([*(named(sources, it) for it in types), *constants])
     rows = list(rows_of("", [it for it in found if it.kind == "fn"]))
-    for item in found:
-        if item.kind in ("struct", "enum", "trait"):
-            rows += rows_of_type(sources, item)
-    parts = [f"Constants: {constants}."] if constants else []
-    return [*parts, "\n".join([COLUMNS, *rows])] if rows else parts
+    for item in types:
+        rows += rows_of(item.name, sources.members(item))
+    return list(filter(None, [shown, "\n".join([COLUMNS, *rows]) if rows else ""]))
 
 
 def tables():

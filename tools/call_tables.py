@@ -18,7 +18,7 @@ LEFT_OUT = (
     "ring::laws", "ring::raw", "ring::digest::dynstate", "ring_core::bits", "ring_core::digest",
     "ring_core::error", "ring_core::polyfill", "ring_store::laws", "ring_password_hash::laws",
 )
-COLUMNS = "| Call | What it gives |\n|---|---|"
+COLUMNS = "|Call|What it gives|\n|-|-|"
 # What a table leaves out of a sentence, or says in fewer words: a section of a standard and a law,
 # where a link leads, and the greatest length of a message.
 SHORTER = (
@@ -74,7 +74,7 @@ def rows_of(owner, found):
     for item in (it for it in found if is_row(it, names)):
         name = f"{owner}::{item.name}" if owner else item.name
         call = f"{link(item, name)}`({', '.join(item.parameters)})`{marks(item.name, found)}"
-        yield f"| {call} | {told(item)} |"
+        yield f"|{call}|{told(item)}|"
 
 
 def named(sources, item):

@@ -268,13 +268,7 @@ def time_cell(nanoseconds):
 
 
 def table(heads, rows):
-    """A table of a page."""
-    return "\n".join("|" + "|".join(f" {cell} " if cell else " " for cell in row) + "|"
-                     for row in (heads, ["---"] * len(heads), *rows)).replace(" --- ", "---")
-
-
-def narrow_table(heads, rows):
-    """The same without spaces, for README, which has a limit."""
+    """A table of a page, without spaces, since README has a limit."""
     return "\n".join("|".join(["", *row, ""]) for row in (heads, ["-"] * len(heads), *rows))
 
 
@@ -332,14 +326,14 @@ def speed_table(figures):
              for place, key in columns]
     rows = ([it["words"], *(ratio_cell(ratios(speed, it, key)[place]) for place, key in columns)]
             for it in speed["shown"])
-    return narrow_table(["Over OpenSSL", *heads], rows)
+    return table(["Over OpenSSL", *heads], rows)
 
 
 def packages_table(figures):
     """README's: which package has what."""
     rows = ([row["what"], *("–" if isinstance(row[it], str) else "yes" for it in offers.PACKAGES)]
             for row in figures["packages"])
-    return narrow_table(["", *offers.PACKAGES], rows)
+    return table(["", *offers.PACKAGES], rows)
 
 
 TABLES = {

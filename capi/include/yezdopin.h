@@ -15,7 +15,7 @@
  * - a pointer with a length behind it is that of so many bytes, which may be read, or written where
  *   it is no pointer to const; where the length is 0 it may be NULL, but for that in a yz_message;
  * - what a call writes overlaps nothing else that it is given;
- * - a pointer to a context or a key is aligned as its type, and not NULL;
+ * - a pointer to a context, a key or a single number is aligned as its type, and not NULL;
  * - the thread has 8 KiB of stack left, and for a call of password hashes 20 KiB.
  *
  * A call that can be refused answers YZ_OK, or the first cause that holds in the order of

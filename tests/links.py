@@ -18,7 +18,7 @@ the crates and constants.
 
 Text in double quotes that begins with a capital letter is taken for a heading, so other quotations
 stand in backquotes. Then it reads pages with a planted fault each, and fails where one isn't found.
-The last line is 'N passed, M failed'.
+It prints how many words the pages have. The last line is 'N passed, M failed'.
 """
 
 import functools
@@ -258,6 +258,7 @@ def main():
     for line in missed:
         print(f"FAILED: planted, and taken wrongly: {line}")
     passed, failed = passed + len(PLANTED) + 1 - len(missed), failed + len(missed)
+    print(f"{len(texts)} pages of {sum(len(it.split()) for it in texts.values())} words")
     print(f"{passed} passed, {failed} failed")
     return failed != 0 or not passed
 

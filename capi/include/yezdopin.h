@@ -147,8 +147,8 @@ const char *yz_status_text(yz_status status);
 size_t yz_output_len(uint32_t algorithm);
 size_t yz_block_len(uint32_t algorithm);
 
-/* Digests. `out_len` is yz_output_len of the algorithm, or the call is refused. A message has at
- * most 2^61 - 1 bytes under YZ_SHA1 and YZ_SHA256, and 2^125 - 1 under the others. */
+/* The digest of a message. `out_len` is yz_output_len of the algorithm, or the call is refused. A
+ * message has at most 2^61 - 1 bytes under YZ_SHA1 and YZ_SHA256, else at most 2^125 - 1. */
 yz_status yz_digest(uint32_t algorithm, const uint8_t *message, size_t message_len,
                     uint8_t *out, size_t out_len) YZ_MUST_CHECK;
 
@@ -158,12 +158,11 @@ typedef struct {
     size_t len;
 } yz_message;
 
-/* The digests of `count` messages, one after another in `out`, that of messages[i] from
- * i * yz_output_len(algorithm) on: `out_len` is `count` times that length, or the call is refused.
- * They are those of yz_digest. From four messages on it is faster under YZ_SHA1 and YZ_SHA256, and
- * on a processor with AVX2 under all algorithms: it runs several side by side, and gains with the
- * number of messages and where their lengths are alike. Fewer are faster by yz_digest, since each
- * call runs a block of its own first. */
+/* The digests of `count` messages, one after another in `out`: `out_len` is `count` times
+ * yz_output_len of the algorithm, or the call is refused. It runs several messages side by side.
+ * From four on that is faster than calls of yz_digest under YZ_SHA1 and YZ_SHA256, and on a
+ * processor with AVX2 under all algorithms, most of all where the lengths are alike. For fewer it
+ * is slower, since each call first runs a block of its own. */
 yz_status yz_digest_each(uint32_t algorithm, const yz_message *messages, size_t count,
                          uint8_t *out, size_t out_len) YZ_MUST_CHECK;
 
@@ -175,8 +174,9 @@ yz_status yz_digest_update(yz_digest_context *context,
 yz_status yz_digest_final(const yz_digest_context *context,
                           uint8_t *out, size_t out_len) YZ_MUST_CHECK;
 
-/* Tags. `out_len` is yz_output_len of the algorithm. A verification answers YZ_OK exactly where
- * `tag` is the whole tag, and reads all of it before it answers. */
+/* The tag of a message under a key, and its verification. `out_len` is yz_output_len of the
+ * algorithm. A verification answers YZ_OK exactly where `tag` is the whole tag, and reads all of it
+ * before it answers. */
 yz_status yz_hmac_sign(uint32_t algorithm, const uint8_t *key, size_t key_len,
                        const uint8_t *message, size_t message_len,
                        uint8_t *out, size_t out_len) YZ_MUST_CHECK;
@@ -184,7 +184,7 @@ yz_status yz_hmac_verify(uint32_t algorithm, const uint8_t *key, size_t key_len,
                          const uint8_t *message, size_t message_len,
                          const uint8_t *tag, size_t tag_len) YZ_MUST_CHECK;
 
-/* The same under a key that is made once. */
+/* The same under a key that yz_hmac_key_init makes once, for many messages. */
 yz_status yz_hmac_key_init(uint32_t algorithm, const uint8_t *value, size_t value_len,
                            yz_hmac_key *key) YZ_MUST_CHECK;
 yz_status yz_hmac_key_sign(const yz_hmac_key *key, const uint8_t *message, size_t message_len,
@@ -200,10 +200,10 @@ yz_status yz_hmac_update(yz_hmac_context *context,
 yz_status yz_hmac_final(const yz_hmac_context *context,
                         uint8_t *out, size_t out_len) YZ_MUST_CHECK;
 
-/* HKDF: extract, of which `out_len` is yz_output_len of the algorithm; expand, of which it is at
- * most YZ_HKDF_MAX_OUT_LEN of that, or the call answers YZ_WRONG_LENGTH; and one after the other,
- * with the limit of expand. The salt comes before the secret, as in the RFC; in the packages for
- * Python and JavaScript the secret comes first. */
+/* HKDF: extract, expand, and both in one call. `out_len` is yz_output_len of the algorithm for
+ * extract, and at most YZ_HKDF_MAX_OUT_LEN of that for the others, or the call answers
+ * YZ_WRONG_LENGTH. The salt comes before the secret, as in the RFC; in the packages for Python and
+ * JavaScript the secret comes first. */
 yz_status yz_hkdf_extract(uint32_t algorithm, const uint8_t *salt, size_t salt_len,
                           const uint8_t *secret, size_t secret_len,
                           uint8_t *out, size_t out_len) YZ_MUST_CHECK;
@@ -226,10 +226,11 @@ yz_status yz_hkdf_expand_label(uint32_t algorithm, const uint8_t *secret, size_t
                                const uint8_t *context, size_t context_len,
                                uint8_t *out, size_t out_len) YZ_MUST_CHECK;
 
-/* PBKDF2. `out_len` is at most YZ_PBKDF2_MAX_OUT_LEN of the algorithm's yz_output_len, or
- * yz_pbkdf2_derive answers YZ_WRONG_LENGTH. A verification answers YZ_OK exactly where `derived`
- * isn't empty and is what yz_pbkdf2_derive gives for its length, and reads all of it before it
- * answers. It answers YZ_UNSPECIFIED where `derived` is longer than that, as for a mismatch.
+/* PBKDF2, and its verification. `out_len` is at most YZ_PBKDF2_MAX_OUT_LEN of the algorithm's
+ * yz_output_len, or yz_pbkdf2_derive answers YZ_WRONG_LENGTH. A verification answers YZ_OK exactly
+ * where `derived` isn't empty and is what yz_pbkdf2_derive gives for its length, and reads all of
+ * it before it answers. It answers YZ_UNSPECIFIED where `derived` is longer than that, as for a
+ * mismatch.
  *
  * The order is iterations, salt, secret; in the packages for Python and JavaScript, as in hashlib
  * and node:crypto, it is password, salt, iterations. */

@@ -115,6 +115,11 @@ def is_as_written(page=None):
     return (PAGE.read_text() if page is None else page).endswith(f"\n{tables()}")
 
 
-if __name__ == "__main__":
+def write():
+    """Writes the tables anew."""
     front = PAGE.read_text().partition(f"\n{HEAD}")[0]
     PAGE.write_text(f"{front.rstrip()}\n\n{tables()}")
+
+
+if __name__ == "__main__":
+    write()

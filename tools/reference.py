@@ -4,10 +4,11 @@
 
     reference.py [FOLDER]
 
-The pages stand in the folder, by default docs/reference/. A page for each public module has its
-`//!` page and its items, each with its comment, its signature and its contract; index.html lists
-the modules, and items.html all items. The pages need no network and no script. Debian has what this
-script needs as `python3-markdown` and `python3-pygments`.
+The pages stand in the folder; without one they stand in docs/reference/, and the tables of
+docs/API.md are made too. A page for each public module has its `//!` page and its items, each with
+its comment, its signature and its contract; index.html lists the modules, and items.html all items.
+The pages need no network and no script. Debian has what this script needs as `python3-markdown` and
+`python3-pygments`.
 """
 
 import html
@@ -16,6 +17,7 @@ import re
 import sys
 
 sys.dont_write_bytecode = True
+import call_tables
 import rattle_items
 
 try:
@@ -305,6 +307,8 @@ def main():
         reference.write_module(page)
     reference.write_lists()
     (OUT / STYLE.name).write_text(STYLE.read_text())
+    if not sys.argv[1:]:
+        call_tables.write()
     pages, shown = len(reference.sources.pages), len(reference.sources.shown)
     print(f"{OUT / 'index.html'}: {pages} modules, {shown} items")
 

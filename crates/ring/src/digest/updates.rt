@@ -38,8 +38,8 @@ fn states_of(algorithm: Algorithm, contexts: &[Context]) -> [DynState; MAX_LANES
     states
 }
 
-// Completes the pending block of each context that has begun one, and returns the rests of the
-// pieces, in room for the greatest number of lanes.
+// Completes the pending block of each context that has begun one. Returns the rests of the pieces,
+// in an array for the greatest number of lanes.
 fn complete_each<'p>(
     contexts: &mut [Context],
     pieces: &[&'p [u8]],
@@ -64,8 +64,8 @@ fn complete_each<'p>(
     rests
 }
 
-// Updates as many contexts as there are lanes: completes their begun blocks, runs them side by side
-// while all pieces have whole blocks, and then each by itself.
+// Updates one context a lane: completes their pending blocks, runs the blocks side by side as long
+// as every piece has one, and then takes in the rest of each piece by itself.
 fn update_in_lanes<H: RunBlocks<N>, const N: usize>(
     algorithm: Algorithm,
     contexts: &mut [Context],
@@ -95,7 +95,7 @@ fn update_in_lanes<H: RunBlocks<N>, const N: usize>(
     }
 }
 
-// Updates contexts of one algorithm, of which so many can run together.
+// Updates contexts of one algorithm side by side, or the one context. `lanes_of` chose the number.
 fn update_together<const VECTOR_BITS: usize>(
     contexts: &mut [Context],
     pieces: &[&[u8]],
@@ -154,7 +154,7 @@ fn lanes_of<const VECTOR_BITS: usize>(contexts: &[Context]) -> usize
     lanes_for::<VECTOR_BITS>(contexts[0].algorithm(), count_alike(next))
 }
 
-// Updates the contexts, as many side by side as can be.
+// Updates all contexts, group by group, as many side by side as the lanes allow.
 fn update_all<const VECTOR_BITS: usize>(
     contexts: &mut [Context],
     pieces: &[&[u8]],
@@ -173,11 +173,8 @@ fn update_all<const VECTOR_BITS: usize>(
     }
 }
 
-/// Adds to each of `contexts` the one of `pieces` at its place as [`update_each`] does (FIPS 180-4,
-/// section 6), over vectors of `VECTOR_BITS` bits, and counts on `meter` the blocks that this
-/// completes.
-///
-/// Refused as [`update_each`] is. `contexts` and `meter` are then as they were.
+/// As [`update_each`], but over vectors of `VECTOR_BITS` bits. `meter` counts the blocks that the
+/// pieces complete. A refusal leaves it as it was.
 pub fn update_each_in<const VECTOR_BITS: usize>(
     contexts: &mut [Context],
     pieces: &[&[u8]],
@@ -196,9 +193,8 @@ pub fn update_each_in<const VECTOR_BITS: usize>(
     Ok(())
 }
 
-/// Adds a piece to each of several contexts as [`update_each`] does, and counts on `meter` the
-/// blocks that this completes: the sum of what [`Context::update_counted`] counts for each. A
-/// refusal leaves `meter` as it was.
+/// As [`update_each`]. `meter` counts the blocks that the pieces complete: the sum of what
+/// [`Context::update_counted`] counts for each. A refusal leaves it as it was.
 pub fn update_each_counted(
     contexts: &mut [Context],
     pieces: &[&[u8]],
@@ -213,15 +209,15 @@ pub fn update_each_counted(
     update_each_in::<SSE>(contexts, pieces, meter)
 }
 
-/// Adds to each of `contexts` the one of `pieces` at its place, and runs each block that is
-/// complete (FIPS 180-4, section 6).
+/// Adds each of `pieces` to the context at its index in `contexts`, and runs the blocks that this
+/// completes (FIPS 180-4, section 6).
 ///
 /// Each context is then as after [`Context::update`]. The contexts may be of different algorithms,
-/// and may have taken in any pieces before. Four contexts of SHA-1 or of SHA-256 that follow each
-/// other run side by side, which is faster than one after another, most of all where their pieces
-/// have about the same length.
+/// and may have taken in any pieces before. Four neighbours of SHA-1 or of SHA-256 run side by
+/// side, which is faster than one after another, most of all where their pieces have about the same
+/// length.
 ///
-/// Refused where there are more or fewer `pieces` than `contexts`. `contexts` are then unchanged.
+/// Refused where `pieces` and `contexts` differ in number. `contexts` are then unchanged.
 pub fn update_each(contexts: &mut [Context], pieces: &[&[u8]]) -> Result<(), Unspecified>
     ensures ok { OnOk result (AreUpdated contexts.old contexts.new pieces.now) }
     ensures refused { IsOk result ↔ (length pieces.now ≡ length contexts.old) }

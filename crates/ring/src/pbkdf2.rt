@@ -95,11 +95,8 @@ pub use crate::pbkdf2::each::{
     verify_each_in,
 };
 
-/// Derives a key from `secret` and `salt` in `iterations` iterations under `algorithm`, and writes
-/// it to the whole of `out`, as [`derive`] does (RFC 2898, section 5.2), over vectors of
-/// `VECTOR_BITS` bits. Its blocks are counted on `meter`.
-///
-/// Refused as [`derive`] is. `out` and `meter` are then as they were.
+/// As [`derive`], but over vectors of `VECTOR_BITS` bits. `meter` counts the blocks. A refusal
+/// leaves it as it was.
 pub fn derive_in<const VECTOR_BITS: usize>(
     algorithm: Algorithm,
     iterations: NonZeroU32,
@@ -134,9 +131,8 @@ pub fn derive_in<const VECTOR_BITS: usize>(
     Ok(())
 }
 
-/// Derives a key as [`derive`] does, and counts its blocks on `meter`: those of the HMAC key, and
-/// for each round of output those of the first iterate and two for each further one. A refusal
-/// leaves `meter` as it was.
+/// As [`derive`]. `meter` counts the blocks: those of the HMAC key, and for each round of output
+/// those of the first iterate and two for each further one. A refusal leaves it as it was.
 pub fn derive_counted(
     algorithm: Algorithm,
     iterations: NonZeroU32,
@@ -182,11 +178,8 @@ pub fn derive(
     derive_counted(algorithm, iterations, salt, secret, out, &mut Meter::new())
 }
 
-/// Returns Ok exactly if [`verify`] does with the same `algorithm`, `iterations`, `salt`, `secret`
-/// and `previously_derived` (RFC 2898, section 5.2), over vectors of `VECTOR_BITS` bits. The blocks
-/// and the compared pairs of bytes are counted on `meter`.
-///
-/// Refused as [`verify`] is. Where a length is refused, `meter` is as it was.
+/// As [`verify`], but over vectors of `VECTOR_BITS` bits. `meter` counts the blocks and the
+/// compared pairs of bytes. Where a length is refused, it is as it was.
 pub fn verify_in<const VECTOR_BITS: usize>(
     algorithm: Algorithm,
     iterations: NonZeroU32,
@@ -224,9 +217,9 @@ pub fn verify_in<const VECTOR_BITS: usize>(
     compared.matches.then_some(()).ok_or(Unspecified)
 }
 
-/// Tests a value as [`verify`] does, and counts the blocks and the compared pairs of bytes on
-/// `meter`. A value that differs costs as much as one that matches, wherever it differs. Where a
-/// length is refused, `meter` is as it was.
+/// As [`verify`]. `meter` counts the blocks and the compared pairs of bytes. A value that differs
+/// costs as much as one that matches, wherever it differs. Where a length is refused, `meter` is as
+/// it was.
 pub fn verify_counted(
     algorithm: Algorithm,
     iterations: NonZeroU32,

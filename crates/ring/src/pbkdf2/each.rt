@@ -1,6 +1,6 @@
 // SPDX-License-Identifier: ISC
-//! Keys derived from several secrets at once, whose rounds run as many side by side as there are
-//! lanes, and the verification of several values: derived as several are, and compared.
+//! Several derivations at once, whose rounds run side by side, one a lane, and the verification of
+//! several values by them.
 
 ghost use Rattle.std.specs.Prelude.{◌≡◌, ◌↔◌, ℕ, ◌*◌, ◌<◌, ◌≤◌, All, IsOk, IsTrue, OnErr, OnOk};
 ghost use Rattle.std.specs.Prelude.{length, take};
@@ -58,7 +58,7 @@ fn key_within(algorithm: hmac::Algorithm, secret: &[u8], meter: &mut Meter) -> K
     }
 }
 
-// The keys of the secrets, each at its secret's place, in room for the greatest number of lanes.
+// The HMAC keys of the secrets, in their order, in an array for the greatest number of lanes.
 fn keys_of(algorithm: hmac::Algorithm, secrets: &[&[u8]], meter: &mut Meter) -> [Key; MAX_LANES]
     requires some { 0 < length secrets.now }
     requires most { length secrets.now ≤ 8 }
@@ -87,8 +87,8 @@ fn keys_of(algorithm: hmac::Algorithm, secrets: &[&[u8]], meter: &mut Meter) -> 
     keys
 }
 
-// Derives `len` bytes from the secret and the salt at each place, under as many keys at a time as
-// there can be lanes.
+// Derives `len` bytes from each secret and its salt, for as many keys at a time as there can be
+// lanes.
 fn derive_all<const VECTOR_BITS: usize, R: Receiver>(
     algorithm: hmac::Algorithm,
     iterations: NonZeroU32,
@@ -134,11 +134,8 @@ fn clear<const N: usize>(out: &mut [[u8; N]])
     }
 }
 
-/// Derives a key of `N` bytes for each place of `out` from the values of `salts` and `secrets` at
-/// that place, with the same `algorithm` and `iterations`, as [`derive_each`] does (RFC 2898,
-/// section 5.2), over vectors of `VECTOR_BITS` bits. Their blocks are counted on `meter`.
-///
-/// Refused as [`derive_each`] is. `out` and `meter` are then as they were.
+/// As [`derive_each`], but over vectors of `VECTOR_BITS` bits. `meter` counts the blocks. A refusal
+/// leaves it as it was.
 pub fn derive_each_in<const VECTOR_BITS: usize, const N: usize>(
     algorithm: Algorithm,
     iterations: NonZeroU32,
@@ -171,9 +168,8 @@ pub fn derive_each_in<const VECTOR_BITS: usize, const N: usize>(
     Ok(())
 }
 
-/// Derives several keys as [`derive_each`] does, and counts their blocks on `meter`: for each key
-/// as many as [`derive_counted`](crate::pbkdf2::derive_counted) counts. A refusal leaves `meter` as
-/// it was.
+/// As [`derive_each`]. `meter` counts the blocks: for each key as many as
+/// [`derive_counted`](crate::pbkdf2::derive_counted) counts. A refusal leaves it as it was.
 pub fn derive_each_counted<const N: usize>(
     algorithm: Algorithm,
     iterations: NonZeroU32,
@@ -188,14 +184,15 @@ pub fn derive_each_counted<const N: usize>(
     derive_each_in::<SSE, N>(algorithm, iterations, salts, secrets, out, meter)
 }
 
-/// Derives a key of `N` bytes for each place of `out`, with the same `algorithm` and `iterations`,
-/// from the values of `salts` and `secrets` at that place (RFC 2898, section 5.2).
+/// Derives a key of `N` bytes for each index of `out`, from the salt and the secret at that index
+/// of `salts` and `secrets`, under `algorithm` with `iterations` iterations (RFC 2898, section
+/// 5.2).
 ///
 /// The keys are those that [`derive`](crate::pbkdf2::derive) writes. Under SHA-1 and SHA-256 four
 /// rounds of output at a time run side by side, whichever keys they are of, which is faster than
 /// one after another.
 ///
-/// Refused where there are more or fewer salts or secrets than places in `out`, and where
+/// Refused where `salts`, `secrets` and `out` differ in number, and where
 /// [`derive`](crate::pbkdf2::derive) refuses a secret and its salt for `N` bytes. `out` is then
 /// unchanged.
 pub fn derive_each<const N: usize>(
@@ -221,11 +218,8 @@ pub fn derive_each<const N: usize>(
     )
 }
 
-/// Sets each place of `matches` as [`verify_each`] does, with the same `algorithm`, `iterations`,
-/// `salts`, `secrets` and `previously_derived` (RFC 2898, section 5.2), over vectors of
-/// `VECTOR_BITS` bits. The blocks and the compared pairs of bytes are counted on `meter`.
-///
-/// Refused as [`verify_each`] is. `matches` and `meter` are then as they were.
+/// As [`verify_each`], but over vectors of `VECTOR_BITS` bits. `meter` counts the blocks and the
+/// compared pairs of bytes. A refusal leaves it as it was.
 pub fn verify_each_in<const VECTOR_BITS: usize, const N: usize>(
     algorithm: Algorithm,
     iterations: NonZeroU32,
@@ -266,9 +260,8 @@ pub fn verify_each_in<const VECTOR_BITS: usize, const N: usize>(
     Ok(())
 }
 
-/// Tests several values as [`verify_each`] does, and counts their blocks and the compared pairs of
-/// bytes on `meter`: for each value as many as [`verify_counted`](crate::pbkdf2::verify_counted)
-/// counts. A refusal leaves `meter` as it was.
+/// As [`verify_each`]. `meter` counts the blocks and the compared pairs of bytes: for each value as
+/// many as [`verify_counted`](crate::pbkdf2::verify_counted) counts. A refusal leaves it as it was.
 pub fn verify_each_counted<const N: usize>(
     algorithm: Algorithm,
     iterations: NonZeroU32,
@@ -293,17 +286,17 @@ pub fn verify_each_counted<const N: usize>(
     )
 }
 
-/// Sets each place of `matches` to whether [`verify`](crate::pbkdf2::verify) would be Ok there,
-/// with the same `algorithm` and `iterations` and with the values of `salts`, `secrets` and
-/// `previously_derived` at that place, of `N` bytes each (RFC 2898, section 5.2).
+/// Verifies values of `N` bytes (RFC 2898, section 5.2): sets each of `matches` to whether
+/// [`verify`](crate::pbkdf2::verify) is Ok for the salt, the secret and the value at its index in
+/// `salts`, `secrets` and `previously_derived`, under `algorithm` with `iterations` iterations.
 ///
 /// Under SHA-1 and SHA-256 four rounds of output at a time run side by side, whichever values they
 /// are of, which is faster than one after another.
 ///
-/// Refused where there are more or fewer salts, secrets or values than places in `matches`, and
-/// where there is a place and `N` is 0 or [`derive`](crate::pbkdf2::derive) refuses the secret and
-/// the salt there for `N` bytes. `matches` is then unchanged. A value that differs is no refusal:
-/// its place in `matches` is false.
+/// Refused where the four lists differ in number, and, unless they are empty, where `N` is 0 or
+/// [`derive`](crate::pbkdf2::derive) refuses one of the secrets and its salt for `N` bytes.
+/// `matches` is then unchanged. A value that differs is no refusal: its place in `matches` is
+/// false.
 pub fn verify_each<const N: usize>(
     algorithm: Algorithm,
     iterations: NonZeroU32,

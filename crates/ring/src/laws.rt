@@ -211,8 +211,7 @@ pub fn standing_numbers_are_some()
         → (digest_named raw.inner.algorithm ≡ Some a) × (IsNoTagContext raw → ⊥) }
 {}
 
-/// A block of the algorithm of a number has the bytes that the algorithm says, and none where the
-/// number names no algorithm.
+/// The block length by a number is that of the algorithm that it names, and 0 where it names none.
 #[tactic(auto, unfolding(crate::specs::Raw::named_block_len))]
 pub fn blocks_of_numbers()
     ensures named { (n : ℕ) (a : Algorithm) → digest_named n ≡ Some a
@@ -220,8 +219,8 @@ pub fn blocks_of_numbers()
     ensures unnamed { (n : ℕ) → digest_named n ≡ None → named_block_len n ≡ 0 }
 {}
 
-/// What the clauses `any` say of every context and key is the standard's digest (FIPS 180-4,
-/// section 6) or tag (RFC 2104, section 2) of one that stands for bytes, and of its numbers.
+/// The clauses `any` speak of every context and key. Where one stands for bytes, what they say is
+/// the standard's digest (FIPS 180-4, section 6) or tag (RFC 2104, section 2), also of its numbers.
 pub fn standing_values_give_the_standards_bytes()
     ensures context { (c : Context) (m y : List ℕ) → StandsFor c m
         → digest_with c y (length (m ++ y)) ≡ digest_of (context_algorithm c) (m ++ y) }

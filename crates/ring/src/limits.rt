@@ -88,8 +88,8 @@ pub(crate) fn is_output_within(algorithm: &Algorithm, len: u128) -> bool
     len <= longest_output(algorithm)
 }
 
-// Whether each round of an output of `len` bytes has a tag, where the info has `info_len` bytes:
-// the tag of the round before comes before it in all rounds but the first.
+// Whether no round of an output of `len` bytes signs too long a message: the tag of the round
+// before, but in the first, the info of `info_len` bytes, and the round's number.
 pub(crate) fn is_info_within(algorithm: &Algorithm, info_len: u128, len: u128) -> bool
     ensures { IsTrue result ↔ IsInfoWithin algorithm.now info_len len }
 {

@@ -3,12 +3,13 @@
 //! in C do.
 //!
 //! A [`RawContext`], a [`RawKey`] and a [`RawTagContext`] are made from a value of
-//! [`digest`](crate::digest) or [`hmac`](crate::hmac), and that value is made from them again: the
-//! numbers stand for what the value stands for. A message also goes on and ends on the numbers
-//! themselves (`update` and `finish`). A caller can write other numbers in their place.
-//! Each call answers for any numbers: `None` exactly where their algorithm and counts are those of
-//! no value (`IsNoContext`, `IsNoKey` and `IsNoTagContext`), and else the value that has these
-//! numbers, whose digest or tag follows from its words and pending bytes (the clauses `any`).
+//! [`digest`](crate::digest) or [`hmac`](crate::hmac), and give that value back. `update` and
+//! `finish` work on the numbers themselves.
+//!
+//! A caller may write other numbers in their place, so each call takes any. It returns `None`
+//! exactly where no value has their algorithm and counts (`IsNoContext`, `IsNoKey` and
+//! `IsNoTagContext`). Otherwise they are those of a value, whose digest or tag follows from its
+//! words and pending bytes (the clauses `any`).
 
 pub(crate) mod context;
 pub(crate) mod key;

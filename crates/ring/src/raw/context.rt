@@ -88,8 +88,8 @@ impl RawContext {
         true
     }
 
-    /// The digest algorithm of these numbers: `None` if they are no context's, since they name no
-    /// algorithm, or count as many pending bytes as a block has, or more.
+    /// The digest algorithm of these numbers, or `None` if no context has them: they name no
+    /// algorithm, or count at least a block of pending bytes.
     pub fn algorithm(&self) -> Option<Algorithm>
         ensures none { IsNone result ↔ IsNoContext self.now }
         ensures stands { (a : Algorithm) (m : List ℕ) → RawStandsFor self.now a m
@@ -142,8 +142,8 @@ impl RawContext {
         self.keep(input) || self.run(input, meter)
     }
 
-    // Adds `input` to the message where that completes a block. This is no part of the call that
-    // keeps a short input, which is then the faster.
+    // Adds `input` to the message where that completes a block. It stands apart from the call that
+    // keeps a short input, which is faster so.
     #[inline(never)]
     fn run(&mut self, input: &[u8], meter: &mut Meter) -> bool
         requires { named_block_len self.old.algorithm ≤ self.old.num_pending + length input.now }
@@ -242,7 +242,8 @@ impl RawContext {
         Some(block.try_finish(&self.pending[..self.num_pending as usize], meter))
     }
 
-    /// Returns the digest of the message, which goes on: `None` if the numbers are no context's.
+    /// Returns the digest of the message so far, or `None` if the numbers are no context's. The
+    /// message can go on.
     ///
     /// Refused where the message is longer than the algorithm's `max_input_len` bytes.
     pub fn finish(&self) -> Option<Result<Digest, Unspecified>>
@@ -263,8 +264,7 @@ impl RawContext {
         self.finish_counted(&mut Meter::new())
     }
 
-    /// The context of these numbers: `None` if they name no algorithm, or count as many pending
-    /// bytes as a block has, or more.
+    /// The context of these numbers, or `None` where [`RawContext::algorithm`] is.
     pub fn context(&self) -> Option<Context>
         ensures none { IsNone result ↔ IsNoContext self.now }
         ensures stands { (a : Algorithm) (m : List ℕ) → RawStandsFor self.now a m

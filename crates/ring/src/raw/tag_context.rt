@@ -75,8 +75,8 @@ impl RawTagContext {
         self.counts_key_block() && self.inner.keep(input)
     }
 
-    /// The digest algorithm of these numbers: `None` if they are no context's, since the inner ones
-    /// are none, or count less than the key's block.
+    /// The digest algorithm of these numbers, or `None` if no context has them: no digest's context
+    /// has the inner ones, or they count less than the key's block.
     pub fn algorithm(&self) -> Option<Algorithm>
         ensures none { IsNone result ↔ IsNoTagContext self.now }
         ensures stands { (a : Algorithm) (k m : List ℕ) → RawTagStandsFor self.now a k m
@@ -157,7 +157,8 @@ impl RawTagContext {
         Some(Ok(Tag::of_inner(&digest, &outer, meter)))
     }
 
-    /// Returns the tag of the message, which goes on: `None` if the numbers are no context's.
+    /// Returns the tag of the message so far, or `None` if the numbers are no context's. The
+    /// message can go on.
     ///
     /// Refused where one block and the message together are longer than the digest algorithm's
     /// `max_input_len` bytes.
@@ -180,8 +181,7 @@ impl RawTagContext {
         self.finish_counted(&mut Meter::new())
     }
 
-    /// The context of these numbers: `None` if the inner ones are no context's, or count less than
-    /// the key's block.
+    /// The context of these numbers, or `None` where [`RawTagContext::algorithm`] is.
     pub fn context(&self) -> Option<Context>
         ensures none { IsNone result ↔ IsNoTagContext self.now }
         ensures stands { (a : Algorithm) (k m : List ℕ) → RawTagStandsFor self.now a k m

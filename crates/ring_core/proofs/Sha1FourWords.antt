@@ -1,23 +1,23 @@
 -- SPDX-License-Identifier: ISC
 -- SHA-1's schedule, four words at a time: from the thirty-third word on, from the words 6, 16, 28
 -- and 32 before.
-use Rattle.std.proofs.Common.{◌≡◌, ℕ, zero, suc, ◌+◌, ◌-◌, ◌*◌, ◌^◌, ◌<◌, List, [], ◌∷◌, map, drop}
-use Rattle.std.proofs.Common.{take, slice_index, refl, sym, ap, ◌∙◌, arith, inl, inr}
-use Rattle.std.proofs.Math.Facts.{Fits-lt-pow}
-use Rattle.std.proofs.lemmas.List.{get_or-drop}
+use Rattle.std.proofs.Common.{◌≡◌, ℕ, zero, suc, ◌+◌, ◌-◌, ◌*◌, ◌/◌, ◌%◌, ◌^◌, ◌<◌, List, [], ◌∷◌}
+use Rattle.std.proofs.Common.{map, slice_index, mod-lt, pow_pos, refl, sym, ap, ◌∙◌, arith}
+use Rattle.std.proofs.Common.{inl, inr}
 use Rattle.std.proofs.lemmas.Bool.{cases_lt}
 use Rattle.std.proofs.lemmas.Nat.{xor_comm, xor_lt}
 use Rattle.std.proofs.lemmas.Nat.Bits.{bit_at_xor, same_from_bits}
 use Rattle.std.proofs.Math.Nat.{add_assoc}
 use Rattle.std.specs.Simd.Lanes.{Each1}
 use Rattle.std.specs.Int.Bits.{xor_assoc, xor_zero_l}
-use Rattle.ring_core.specs.Prelude.{◌⊕◌, big_endian, four, low_32, rotl, word_at}
+use Rattle.ring_core.specs.Prelude.{◌⊕◌, array_at, four, low_32, rotl, sixteen}
+use Rattle.ring_core.specs.Prelude.{word_at}
 use Rattle.ring_core.specs.FourWords.{later_four, next_four}
 use Rattle.ring_core.specs.Sha1.{HasWords, W, scheduled}
 use Rattle.ring_core.proofs.FourWords.{four-same, four_more, low-lanes}
 use Rattle.ring_core.proofs.Rotation.{rotr-lt, rotr-xor}
 use Rattle.ring_core.proofs.Sha1Steps.{W-first, W-next}
-use mir.Syntax.{w8, w32}
+use mir.Syntax.{w32}
 use mir.Val.{Fits}
 
 -- lanes that hold words of a block hold the first of its schedule
@@ -127,18 +127,43 @@ words-below b first (suc n) t below =
           (f (u + 2) (omega arith)) (f u (omega arith)))
     ]
 
--- four bytes are a number of 32 bits
-word-lt : (xs : List ℕ) → ((i : ℕ) → slice_index xs i < 256) → big_endian (take 4 xs) < 2 ^ 32
-word-lt [] fits = omega arith
-word-lt (a ∷ []) fits = omega (arith, fits 0)
-word-lt (a ∷ b ∷ []) fits = omega (arith, fits 0, fits 1)
-word-lt (a ∷ b ∷ c ∷ []) fits = omega (arith, fits 0, fits 1, fits 2)
-word-lt (a ∷ b ∷ c ∷ d ∷ _) fits = omega (arith, fits 0, fits 1, fits 2, fits 3)
+-- a word of a four, and of a sixteen
+four-at : (w : ℕ → ℕ) (g j : ℕ) → j < 4 → slice_index (four w g) j ≡ w (4 * g + j)
+four-at w g zero below = ap w (omega arith)
+four-at w g (suc zero) below = refl
+four-at w g (suc (suc zero)) below = refl
+four-at w g (suc (suc (suc zero))) below = refl
+four-at w g _ below = absurd (omega arith)
 
--- where the block's bytes are bytes, its words have 32 bits
-pub words-of-bytes : (b : List ℕ) → ((i : ℕ) → Fits w8 (slice_index b i)) → HasWords b
-words-of-bytes b bytes t =
+sixteen-at : (w : ℕ → ℕ) (g j : ℕ) → g < 4 → j < 4
+    → slice_index (array_at (sixteen w 0) g) j ≡ w (4 * g + j)
+sixteen-at w zero j within below = four-at w 0 j below
+sixteen-at w (suc zero) j within below = four-at w 1 j below
+sixteen-at w (suc (suc zero)) j within below = four-at w 2 j below
+sixteen-at w (suc (suc (suc zero))) j within below = four-at w 3 j below
+sixteen-at w _ j within below = absurd (omega arith)
+
+-- a word read from lanes has 32 bits
+low-lt : (x : List ℕ) (j : ℕ) → slice_index (map low_32 x) j < 2 ^ 32
+low-lt [] j = omega arith
+low-lt (x ∷ xs) zero = mod-lt x (pow_pos 32)
+low-lt (x ∷ xs) (suc j) = low-lt xs j
+
+low-fours-lt : (x : List (List ℕ)) (g j : ℕ)
+    → slice_index (array_at (map (map low_32) x) g) j < 2 ^ 32
+low-fours-lt [] g j = omega arith
+low-fours-lt (x ∷ xs) zero j = low-lt x j
+low-fours-lt (x ∷ xs) (suc g) j = low-fours-lt xs g j
+
+-- where a block's words are read from lanes, those of its schedule have 32 bits
+pub words-of-fours : (b : List ℕ) (x : List (List ℕ))
+    → map (map low_32) x ≡ sixteen (word_at 32 b) 0 → HasWords b
+words-of-fours b x are t =
+    let at : (g j : ℕ) → g < 4 → j < 4 → word_at 32 b (4 * g + j) < 2 ^ 32 = λ g j within below.
+    let e : slice_index (array_at (map (map low_32) x) g) j ≡ word_at 32 b (4 * g + j) =
+    rw are (sixteen-at (word_at 32 b) g j within below) in
+    rw (← e) (low-fours-lt x g j) in
     let first : (k : ℕ) → k < 16 → W b k < 2 ^ 32 = λ k below.
-    rw (W-first b k below) (word-lt (drop (k * 4) b) (λ i.
-    rw (get_or-drop (k * 4) b i 0) (Fits-lt-pow (bytes (k * 4 + i))))) in
+    let e : 4 * (k / 4) + k % 4 ≡ k = omega arith in
+    rw (W-first b k below, ← e) (at (k / 4) (k % 4) (omega arith) (omega arith)) in
     words-below b first (t + 1) t (omega arith)

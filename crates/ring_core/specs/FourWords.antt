@@ -1,6 +1,6 @@
 -- SPDX-License-Identifier: ISC
--- Four words of a schedule from those before them, as the kernels over blocks of bytes compute
--- them. That these are the standard's is proved in `Sha1FourWords` and `Sha2FourWords`.
+-- Four words of a schedule from those before them, as the kernels of one block compute them. That
+-- these are the standard's is proved in `Sha1FourWords` and `Sha2FourWords`.
 use Rattle.std.specs.Prelude.{ℕ, List, [], ◌∷◌, slice_index}
 use Rattle.ring_core.specs.Sha1.{scheduled}
 use Rattle.ring_core.specs.Sha2.{Family, σ0, σ1}

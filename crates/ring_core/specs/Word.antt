@@ -64,6 +64,6 @@ word_at w block j = big_endian (take (w / 8) (drop (j * (w / 8)) block))
 abbrev pub word_32 : Wrapping ℕ → ℕ
 word_32 x = x.0 % 2 ^ 32
 
--- the number of a word of 32 bits in the low half of a slot
+-- the number of a word of 32 bits in the low half of a lane
 abbrev pub low_32 : ℕ → ℕ
 low_32 x = x % 2 ^ 32

@@ -1,5 +1,5 @@
 // SPDX-License-Identifier: ISC
-//! Chaining states side by side (FIPS 180-4, 6.1 and 6.2), for several messages at a time.
+//! Chaining states (FIPS 180-4, 6.1 and 6.2): of one message, and side by side, of several.
 ghost use Rattle.std.specs.Prelude.{◌≡◌, ℕ, ⊤, ◌<◌, length, map, slice_index};
 ghost use Rattle.ring_core.specs.Prelude.{array_at, words_of_lane, xor_lists};
 
@@ -7,6 +7,13 @@ use crate::digest::word::Word;
 use crate::digest::word::lane_word::{LaneWord, Vector};
 use crate::digest::word::vectors::InLanes;
 use std::alloc::AllocError;
+use std::num::Wrapping;
+
+/// The chaining words of SHA-256. SHA-1 uses the first five and leaves the last three 0.
+pub type State32 = [Wrapping<u32>; 8];
+
+/// The chaining words of SHA-384, SHA-512 and SHA-512/256.
+pub type State64 = [Wrapping<u64>; 8];
 
 /// States of eight words, one in each lane.
 pub struct States<V: Copy> {

@@ -4,12 +4,24 @@ ghost use Rattle.std.specs.Prelude.{◌≡◌, ℕ, ◌+◌, ◌*◌, ◌/◌, �
 ghost use Rattle.std.specs.Prelude.{length, map, slice_index, take};
 ghost use Rattle.ring_core.specs.Prelude.{IsBlockOf, IsWindow, array_at, word_at};
 
-use crate::digest::word::lane_word::{LaneWord, Slots, Vector};
+use crate::digest::word::lane_word::{LaneWord, Vector};
 use crate::digest::word::vectors::InLanes;
 use crate::digest::word::{Sha2, Word};
 
 // Each function here is a few instructions of a block function and is always inlined: a slot is
 // then a literal, and words stay in lanes from step to step.
+
+// Fills the window with the words of a block, the same in each lane.
+#[inline(always)]
+pub(crate) fn load_block<S: LaneWord>(window: &mut [S; 16], block: &[u8])
+    requires some { 0 < S.LANES }
+    requires whole { length block.now ≡ 16 * (S.One.bits / 8) }
+    ensures { (i : ℕ) → IsWindow (word_at S.One.bits block.now) (map (S.lane i) window.new) 16 }
+{
+    'words: for t in 0..16 {
+        window[t] = S::splat(S::One::read_word(block, t));
+    }
+}
 
 // Word `j` of each block, each in its block's lane.
 #[inline(always)]
@@ -48,7 +60,7 @@ pub(crate) fn load_blocks<V: Vector, const N: usize>(
 // Word `t` of a block whose first `N` words are those of `front`, and whose other words are those
 // of `padding`, the same in each lane.
 #[inline(always)]
-fn word_of<S: Slots, const N: usize>(front: &[S; 8], padding: &[S::One; 16], t: usize) -> S
+fn word_of<S: LaneWord, const N: usize>(front: &[S; 8], padding: &[S::One; 16], t: usize) -> S
     requires some { 0 < S.LANES }
     requires front { N ≤ 8 }
     requires place { t < 16 }
@@ -64,8 +76,8 @@ fn word_of<S: Slots, const N: usize>(front: &[S; 8], padding: &[S::One; 16], t: 
 
 // Fills the window with the words of such a block.
 #[inline(always)]
-pub(crate) fn load_words<S: Slots, const N: usize>(
-    window: &mut [S::Slot; 16],
+pub(crate) fn load_words<S: LaneWord, const N: usize>(
+    window: &mut [S; 16],
     front: &[S; 8],
     padding: &[S::One; 16],
 )
@@ -73,10 +85,10 @@ pub(crate) fn load_words<S: Slots, const N: usize>(
     requires front { N ≤ 8 }
     ensures { (i : ℕ) (b : List ℕ)
         → IsBlockOf S.One.bits N (map (S.lane i) front.now) (map S.One.value padding.now) b
-        → IsWindow (word_at S.One.bits b) (map (S.slot_lane i) window.new) 16 }
+        → IsWindow (word_at S.One.bits b) (map (S.lane i) window.new) 16 }
 {
     'words: for t in 0..16 {
-        window[t] = word_of::<S, N>(front, padding, t).to_slot();
+        window[t] = word_of::<S, N>(front, padding, t);
     }
 }
 
@@ -101,4 +113,14 @@ pub(crate) fn set_pair<T: Copy>(window: &mut [T; 16], slot: usize, words: (T, T)
 {
     window[slot] = words.0;
     window[(slot + 1) % 16] = words.1;
+}
+
+// Two words of one block as the lanes of a vector.
+#[inline(always)]
+pub(crate) fn in_two_lanes<V: Vector>(words: (V::One, V::One)) -> V
+    requires { V.LANES ≡ 2 }
+    ensures first { V.lane 0 result ≡ V.One.value words.0 }
+    ensures second { V.lane 1 result ≡ V.One.value words.1 }
+{
+    V::splat(words.0).with(1, words.1)
 }

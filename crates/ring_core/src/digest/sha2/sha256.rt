@@ -1,15 +1,15 @@
 // SPDX-License-Identifier: ISC
-//! SHA-256 over words of 32 bits: its numbers (FIPS 180-4, 4.1.2 and 4.2.2), and its schedule, two
-//! and four words at a time (6.2.2, step 1).
+//! SHA-256 over words of 32 bits: its numbers (FIPS 180-4, 4.1.2 and 4.2.2), and its schedule,
+//! four words at a time (6.2.2, step 1).
 ghost use Rattle.std.specs.Prelude.{◌≡◌, ℕ, ◌*◌, ◌%◌, ◌^◌, ◌<◌, ◌≤◌, [], ◌∷◌, length, map};
 ghost use Rattle.std.specs.Prelude.{slice_index};
 ghost use Rattle.std.proofs.Common.{rules};
 ghost use Rattle.ring_core.specs.Prelude.{constants_256, family_256, low_32, shr};
 ghost use Rattle.ring_core.specs.Prelude.{two_rotations_and_shift, word_at, σ1};
 
-use crate::digest::sha2::sha2_blocks::ExtendByFour;
-use crate::digest::sha2::sha2_rounds::{Before, ExtendSchedule, small_sigma};
-use crate::digest::word::w32::{doubled, from_lanes, joined, to_lanes};
+use crate::digest::sha2::blocks::ExtendByFour;
+use crate::digest::sha2::round::small_sigma;
+use crate::digest::word::w32::{doubled, joined};
 use crate::digest::word::{Sha2, Word};
 use std::num::Wrapping;
 use std::simd::{Simd, u32x4, u64x2};
@@ -95,10 +95,10 @@ impl Sha2 for Wrapping<u32> {
     ghost numbers = { Prim.search rules };
 }
 
-// σ0 or σ1 of the word in each slot (4.1.2), by its counts, the rotations nested. A shift of both
-// copies of a word is one operation, a rotation of the word alone three.
+// σ0 or σ1 of the word in the low half of each lane (4.1.2), by its counts, the rotations nested. A
+// shift of both copies of a word is one operation, a rotation of the word alone three.
 #[inline(always)]
-pub(crate) fn small_sigma_of_slots(lanes: u64x2, counts: (u32, u32, usize)) -> u64x2
+fn small_sigma_of_halves(lanes: u64x2, counts: (u32, u32, usize)) -> u64x2
     requires first { 1 ≤ counts.0 }
     requires second { counts.0 < counts.1 }
     requires below { counts.1 < 32 }
@@ -112,28 +112,13 @@ pub(crate) fn small_sigma_of_slots(lanes: u64x2, counts: (u32, u32, usize)) -> u
     (inner >> Simd::splat(first as u64)) ^ joined(copies >> Simd::splat(shift as u32))
 }
 
-impl ExtendSchedule for Wrapping<u32> {
-    #[inline(always)]
-    fn next_two(before: &Before<u64>) -> (u64, u64) {
-        let sixteen = to_lanes(&before.sixteen);
-        let fifteen = to_lanes(&before.fifteen);
-        let seven = to_lanes(&before.seven);
-        let two = to_lanes(&before.two);
-        // The newest pair is added last, so that the other sums need not wait for it.
-        let newest = small_sigma_of_slots(two, Self::SMALL_SIGMA_1);
-        from_lanes(
-            newest + (seven + (small_sigma_of_slots(fifteen, Self::SMALL_SIGMA_0) + sixteen)),
-        )
-    }
-}
-
-// σ1 of two words, each given and given back twice: as in slots, one shift rotates both copies.
+// σ1 of two words, each given and given back twice: one shift rotates both copies.
 #[inline(always)]
 fn small_sigma_1(copies: u32x4) -> u32x4
     ensures { let σ = λ (i : ℕ). σ1 family_256 (low_32 (slice_index copies i)) in
         result ≡ σ 0 ∷ σ 0 ∷ σ 2 ∷ σ 2 ∷ [] }
 {
-    doubled(small_sigma_of_slots(joined(copies), Wrapping::<u32>::SMALL_SIGMA_1))
+    doubled(small_sigma_of_halves(joined(copies), Wrapping::<u32>::SMALL_SIGMA_1))
 }
 
 impl ExtendByFour for Wrapping<u32> {

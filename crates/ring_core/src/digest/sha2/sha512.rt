@@ -1,17 +1,15 @@
 // SPDX-License-Identifier: ISC
 //! SHA-384, SHA-512 and SHA-512/256 over words of 64 bits: their numbers (FIPS 180-4, 4.1.3 and
-//! 4.2.3), and their schedule, two and four words at a time (6.4.2, step 1).
-ghost use Rattle.std.specs.Prelude.{◌≡◌, ℕ, ◌*◌, ◌%◌, ◌^◌, ◌<◌, ◌≤◌, length, map, slice_index};
+//! 4.2.3), and their schedule, four words at a time (6.4.2, step 1).
+ghost use Rattle.std.specs.Prelude.{◌≡◌, ℕ, ◌*◌, ◌%◌, ◌^◌, ◌<◌, length, slice_index};
 ghost use Rattle.std.proofs.Common.{rules};
-ghost use Rattle.ring_core.specs.Prelude.{constants_512, family_512, shr, two_rotations_and_shift};
-ghost use Rattle.ring_core.specs.Prelude.{word_at};
+ghost use Rattle.ring_core.specs.Prelude.{constants_512, family_512, shr, word_at};
 
-use crate::digest::sha2::sha2_blocks::ExtendByFour;
-use crate::digest::sha2::sha2_rounds::{Before, ExtendSchedule, small_sigma};
-use crate::digest::word::w64::{from_lanes, rotate_lanes, to_lanes};
+use crate::digest::sha2::blocks::ExtendByFour;
+use crate::digest::sha2::round::small_sigma;
 use crate::digest::word::{Sha2, Word};
 use std::num::Wrapping;
-use std::simd::{Simd, u64x2, u64x4};
+use std::simd::{u64x2, u64x4};
 
 // K of SHA-384, SHA-512 and SHA-512/256 (4.2.3)
 #[rattlefmt::skip]
@@ -105,34 +103,6 @@ impl Sha2 for Wrapping<u64> {
     }
 
     ghost numbers = { Prim.search rules };
-}
-
-// σ0 or σ1 of each lane (4.1.3), by its counts. The rotations are nested: two independent rotations
-// need one more copy of the lanes.
-#[inline(always)]
-fn small_sigma_of_two(lanes: u64x2, counts: (u32, u32, usize)) -> u64x2
-    requires first { 1 ≤ counts.0 }
-    requires second { counts.0 < counts.1 }
-    requires below { counts.1 < 64 }
-    requires shift { counts.2 < 64 }
-    ensures { result ≡ map (two_rotations_and_shift 64 counts) lanes }
-{
-    let (first, second, shift) = counts;
-    let inner = lanes ^ rotate_lanes(lanes, (second - first) as u64);
-    rotate_lanes(inner, first as u64) ^ (lanes >> Simd::splat(shift as u64))
-}
-
-impl ExtendSchedule for Wrapping<u64> {
-    #[inline(always)]
-    fn next_two(before: &Before<Wrapping<u64>>) -> (Wrapping<u64>, Wrapping<u64>) {
-        let sixteen = to_lanes(&before.sixteen);
-        let fifteen = to_lanes(&before.fifteen);
-        let seven = to_lanes(&before.seven);
-        let two = to_lanes(&before.two);
-        // The newest pair is added last, so that the other sums need not wait for it.
-        let newest = small_sigma_of_two(two, Self::SMALL_SIGMA_1);
-        from_lanes(newest + (seven + (small_sigma_of_two(fifteen, Self::SMALL_SIGMA_0) + sixteen)))
-    }
 }
 
 impl ExtendByFour for Wrapping<u64> {

@@ -2,10 +2,10 @@
 //! Words of one size side by side, one in each lane: a word alone, or a vector of them; Ch and Maj
 //! of them (FIPS 180-4, 4.1); and four words in a row of one block.
 ghost use Rattle.std.specs.Prelude.{◌≡◌, ◌≢◌, ℕ, ◌*◌, ◌/◌, ◌^◌, ◌<◌, ◌≤◌, List, [], ◌∷◌, bit_and};
-ghost use Rattle.std.specs.Prelude.{length, slice_index};
+ghost use Rattle.std.specs.Prelude.{◌++◌, drop, length, map, slice_index, take};
 ghost use Rattle.std.proofs.Common.{rules};
 ghost use Rattle.ring_core.specs.Prelude.{◌⊕◌, add_words, choose, four, majority, rotr, shr};
-ghost use Rattle.ring_core.specs.Prelude.{word_at};
+ghost use Rattle.ring_core.specs.Prelude.{IsBlockOf, word_at};
 
 use crate::digest::word::traits::{Sha2, Word};
 use std::num::Wrapping;
@@ -112,26 +112,6 @@ pub trait Vector: LaneWord {
         ensures { (i : ℕ) → Self.lane i result ≡ shr count (Self.lane i self) };
 }
 
-// Words in lanes, and the slots in which a schedule keeps them.
-pub(crate) trait Slots: LaneWord {
-    // holds a word of each lane
-    type Slot: Copy;
-
-    // the number of the word that a slot holds in a lane
-    ghost slot_lane: { ℕ → Self.Slot → ℕ };
-
-    // the slot of a word
-    fn to_slot(self) -> Self::Slot
-        ensures { (i : ℕ) → slot_lane i result ≡ Self.lane i self };
-
-    // Adds the word of a slot to each of two words: the words of two rounds to their constants.
-    fn add_pairs(x: Self, y: Self, s: Self::Slot, t: Self::Slot) -> (Self, Self)
-        ensures first { (i : ℕ) → Self.lane i result.0
-            ≡ add_words Self.One.bits (Self.lane i x) (slot_lane i s) }
-        ensures second { (i : ℕ) → Self.lane i result.1
-            ≡ add_words Self.One.bits (Self.lane i y) (slot_lane i t) };
-}
-
 // A word of which four in a row stand in a vector.
 pub(crate) trait FourWords: LaneWord {
     // four words in a row
@@ -170,6 +150,40 @@ pub(crate) fn read_four<S: FourWords>(block: &[u8], j: usize) -> S::Four
         S::One::read_word(block, t + 1),
         S::One::read_word(block, t + 2),
         S::One::read_word(block, t + 3),
+    )
+}
+
+// Word `t` of a block whose first `N` words are those of `front`, and whose other words are those
+// of `padding`.
+#[inline(always)]
+fn word_of<T: Copy, const N: usize>(front: &[T; 8], padding: &[T; 16], t: usize) -> T
+    requires front { N ≤ 8 }
+    requires place { t < 16 }
+    ensures { (value : T → ℕ) → value result
+        ≡ slice_index (take N (map value front.now) ++ drop N (map value padding.now)) t }
+{
+    if t < N { front[t] } else { padding[t] }
+}
+
+// Words `4 * j` to `4 * j + 3` of such a block.
+#[inline(always)]
+pub(crate) fn four_of<S: FourWords, const N: usize>(
+    front: &[S::One; 8],
+    padding: &[S::One; 16],
+    j: usize,
+) -> S::Four
+    requires front { N ≤ 8 }
+    requires place { j < 4 }
+    ensures { (b : List ℕ)
+        → IsBlockOf S.One.bits N (map S.One.value front.now) (map S.One.value padding.now) b
+        → S.words result ≡ four (word_at S.One.bits b) j }
+{
+    let at = 4 * j;
+    S::four(
+        word_of::<S::One, N>(front, padding, at),
+        word_of::<S::One, N>(front, padding, at + 1),
+        word_of::<S::One, N>(front, padding, at + 2),
+        word_of::<S::One, N>(front, padding, at + 3),
     )
 }
 

@@ -4,7 +4,7 @@
 ghost use Rattle.std.specs.Prelude.{◌≡◌, ◌%◌};
 ghost use Rattle.ring_core.specs.Prelude.{lane, lane-lt};
 
-use crate::digest::word::lane_word::{LaneWord, Slots, Vector};
+use crate::digest::word::lane_word::{LaneWord, Vector};
 use std::num::Wrapping;
 use std::simd::Simd;
 
@@ -173,26 +173,4 @@ impl<V: Vector> LaneWord for InLanes<V> {
     }
 
     ghost fits = { λ i x. V.fits i x.0 };
-}
-
-// A slot is the words as they are.
-impl<V: Vector> Slots for InLanes<V> {
-    type Slot = InLanes<V>;
-
-    ghost slot_lane = { λ i x. V.lane i x.0 };
-
-    #[inline(always)]
-    fn to_slot(self) -> InLanes<V> {
-        self
-    }
-
-    #[inline(always)]
-    fn add_pairs(
-        x: InLanes<V>,
-        y: InLanes<V>,
-        s: InLanes<V>,
-        t: InLanes<V>,
-    ) -> (InLanes<V>, InLanes<V>) {
-        (x.plus(s), y.plus(t))
-    }
 }

@@ -3,9 +3,9 @@
 ghost use Rattle.std.specs.Prelude.{◌≡◌, ℕ, ◌-◌, ◌+◌, ◌*◌, ◌%◌, ◌^◌, ◌<◌, ◌≤◌, [], ◌∷◌, map};
 ghost use Rattle.std.specs.Prelude.{bit_and, bit_or, bit_xor, slice_index};
 ghost use Rattle.std.proofs.Common.{refl, mod-lt, pow_pos};
-ghost use Rattle.ring_core.specs.Prelude.{add_words, low_32, rotr, word_32};
+ghost use Rattle.ring_core.specs.Prelude.{low_32, rotr};
 
-use crate::digest::word::lane_word::{FourWords, Slots};
+use crate::digest::word::lane_word::FourWords;
 use crate::digest::word::traits::Word;
 use std::num::Wrapping;
 use std::simd::{Simd, u32x4, u64x2};
@@ -23,32 +23,7 @@ fn rotate(word: u32, count: u32) -> u32
     word.rotate_right(count)
 }
 
-// The word in the low half of a slot, whatever its high half holds.
-#[inline(always)]
-fn low_half(slot: u64) -> u32
-    ensures { result % 2 ^ 32 ≡ low_32 slot }
-{
-    (slot & 0xffff_ffff) as u32
-}
-
-// Two slots as lanes.
-#[inline(always)]
-pub(crate) fn to_lanes(slots: &(u64, u64)) -> u64x2
-    ensures { result ≡ slots.now.0 ∷ slots.now.1 ∷ [] }
-{
-    Simd::from_array([slots.0, slots.1])
-}
-
-// Two lanes as slots.
-#[inline(always)]
-pub(crate) fn from_lanes(lanes: u64x2) -> (u64, u64)
-    ensures { result.0 ∷ result.1 ∷ [] ≡ lanes }
-{
-    let [first, second] = lanes.to_array();
-    (first, second)
-}
-
-// The words of two slots, each twice.
+// The words in the low halves of two lanes, each twice.
 #[inline(always)]
 pub(crate) fn doubled(lanes: u64x2) -> u32x4
     ensures { (a b : ℕ) → map low_32 lanes ≡ a ∷ b ∷ [] → result ≡ a ∷ a ∷ b ∷ b ∷ [] }
@@ -63,28 +38,6 @@ pub(crate) fn joined(lanes: u32x4) -> u64x2
         result ≡ (x 1 * 2 ^ 32 + x 0) ∷ (x 3 * 2 ^ 32 + x 2) ∷ [] }
 {
     u64x2::from_le_bytes(lanes.to_le_bytes())
-}
-
-// ROTR of the word in each slot (3.2, item 4): both copies of the word are shifted right, and the
-// low half is the result.
-#[inline(always)]
-pub(crate) fn rotate_lanes(lanes: u64x2, count: u32) -> u64x2
-    requires positive { 1 ≤ count }
-    requires below { count < 32 }
-    ensures { map low_32 result ≡ map (rotr 32 count) (map low_32 lanes) }
-{
-    joined(doubled(lanes)) >> Simd::splat(count as u64)
-}
-
-// Two numbers added to the words of two slots.
-#[inline(always)]
-fn add_slots(x: u32, y: u32, s: u64, t: u64) -> (Wrapping<u32>, Wrapping<u32>)
-    ensures first { word_32 result.0 ≡ add_words 32 (x % 2 ^ 32) (low_32 s) }
-    ensures second { word_32 result.1 ≡ add_words 32 (y % 2 ^ 32) (low_32 t) }
-{
-    let sums = Simd::from_array([x as u64, y as u64]) + Simd::from_array([s, t]);
-    let [first, second] = sums.to_array();
-    (Wrapping(low_half(first)), Wrapping(low_half(second)))
 }
 
 /// The words of SHA-1 and SHA-256: 32 bits.
@@ -132,28 +85,6 @@ impl Word for Wrapping<u32> {
     ghost fits = { λ x. mod-lt _ (pow_pos 32) };
 
     ghost zero_is = { refl };
-}
-
-// A slot holds the word in its low half: the lanes of a schedule's step are then slots as they are.
-// The high half keeps whatever a step carries into it.
-impl Slots for Wrapping<u32> {
-    type Slot = u64;
-
-    ghost slot_lane = { λ _ x. x % 2 ^ 32 };
-
-    fn to_slot(self) -> u64 {
-        self.0 as u64
-    }
-
-    #[inline(always)]
-    fn add_pairs(
-        x: Wrapping<u32>,
-        y: Wrapping<u32>,
-        s: u64,
-        t: u64,
-    ) -> (Wrapping<u32>, Wrapping<u32>) {
-        add_slots(x.0, y.0, s, t)
-    }
 }
 
 impl FourWords for Wrapping<u32> {

@@ -1,14 +1,14 @@
 // SPDX-License-Identifier: ISC
 //! The word of 64 bits, that of SHA-384, SHA-512 and SHA-512/256 (FIPS 180-4, 3.2).
-ghost use Rattle.std.specs.Prelude.{◌≡◌, ℕ, ◌-◌, ◌*◌, ◌%◌, ◌^◌, ◌<◌, ◌≤◌, [], ◌∷◌, map, bit_and};
+ghost use Rattle.std.specs.Prelude.{◌≡◌, ℕ, ◌-◌, ◌*◌, ◌%◌, ◌^◌, ◌<◌, ◌≤◌, map, bit_and};
 ghost use Rattle.std.specs.Prelude.{bit_or, bit_xor};
 ghost use Rattle.std.proofs.Common.{refl, mod-lt, pow_pos};
-ghost use Rattle.ring_core.specs.Prelude.{rotr, words_64};
+ghost use Rattle.ring_core.specs.Prelude.{rotr};
 
-use crate::digest::word::lane_word::{FourWords, Slots};
+use crate::digest::word::lane_word::FourWords;
 use crate::digest::word::traits::Word;
 use std::num::Wrapping;
-use std::simd::{Simd, u64x2, u64x4};
+use std::simd::{Simd, u64x4};
 
 // These functions take plain numbers, since a proof knows of these that they fit their type, and
 // not of numbers inside a struct.
@@ -21,41 +21,6 @@ fn rotate(word: u64, count: u32) -> u64
     ensures { result % 2 ^ 64 ≡ rotr 64 count (word % 2 ^ 64) }
 {
     word.rotate_right(count)
-}
-
-// Two numbers as lanes.
-#[inline(always)]
-fn two_lanes(first: u64, second: u64) -> u64x2
-    ensures { result ≡ (first % 2 ^ 64) ∷ (second % 2 ^ 64) ∷ [] }
-{
-    Simd::from_array([first, second])
-}
-
-// Two words as lanes.
-#[inline(always)]
-pub(crate) fn to_lanes(words: &(Wrapping<u64>, Wrapping<u64>)) -> u64x2
-    ensures { result ≡ words_64 (words.now.0 ∷ words.now.1 ∷ []) }
-{
-    two_lanes(words.0.0, words.1.0)
-}
-
-// Two lanes as words.
-#[inline(always)]
-pub(crate) fn from_lanes(lanes: u64x2) -> (Wrapping<u64>, Wrapping<u64>)
-    ensures { words_64 (result.0 ∷ result.1 ∷ []) ≡ lanes }
-{
-    let [first, second] = lanes.to_array();
-    (Wrapping(first), Wrapping(second))
-}
-
-// ROTR of each lane (3.2, item 4)
-#[inline(always)]
-pub(crate) fn rotate_lanes(lanes: u64x2, count: u64) -> u64x2
-    requires positive { 1 ≤ count }
-    requires below { count < 64 }
-    ensures { result ≡ map (rotr 64 count) lanes }
-{
-    (lanes >> Simd::splat(count)) | (lanes << Simd::splat(64 - count))
 }
 
 /// The words of SHA-384, SHA-512 and SHA-512/256: 64 bits.
@@ -103,27 +68,6 @@ impl Word for Wrapping<u64> {
     ghost fits = { λ x. mod-lt _ (pow_pos 64) };
 
     ghost zero_is = { refl };
-}
-
-impl Slots for Wrapping<u64> {
-    type Slot = Wrapping<u64>;
-
-    ghost slot_lane = { λ _ x. x.0 % 2 ^ 64 };
-
-    fn to_slot(self) -> Wrapping<u64> {
-        self
-    }
-
-    // Word by word: taking two lanes of 64 bits apart takes longer than a second addition.
-    #[inline(always)]
-    fn add_pairs(
-        x: Wrapping<u64>,
-        y: Wrapping<u64>,
-        s: Wrapping<u64>,
-        t: Wrapping<u64>,
-    ) -> (Wrapping<u64>, Wrapping<u64>) {
-        (Word::plus(x, s), Word::plus(y, t))
-    }
 }
 
 impl FourWords for Wrapping<u64> {

@@ -6,6 +6,6 @@ use Rattle.ring_core.proofs.digest.window.load_words.Goals as goal
 
 pub words-preserved : goal.words-preserved
 words-preserved g c = λ i b is.
-    window-set (g.S.Slots.slot_lane i) (word_at g.S.One.Word.bits b) c.words.window c.words.t
-    c.to_slot.result (c.words.invariant i b is) (omega arith)
-    (rw (c.to_slot.ensures i, c.word_of.ensures i) (is.word c.words.t (omega arith)))
+    window-set (g.S.LaneWord.lane i) (word_at g.S.One.Word.bits b) c.words.window c.words.t
+    c.word_of.result (c.words.invariant i b is) (omega arith)
+    (rw (c.word_of.ensures i) (is.word c.words.t (omega arith)))

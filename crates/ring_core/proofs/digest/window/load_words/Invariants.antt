@@ -8,4 +8,4 @@ invariant-words g l =
     let bits = g.S.One.Word.bits in
     (i : ℕ) (b : List ℕ) → IsBlockOf bits g.row.N (map (g.S.LaneWord.lane i) l.front)
     (map g.S.One.Word.value l.padding) b
-    → IsWindow (word_at bits b) (map (g.S.Slots.slot_lane i) l.window) l.t
+    → IsWindow (word_at bits b) (map (g.S.LaneWord.lane i) l.window) l.t

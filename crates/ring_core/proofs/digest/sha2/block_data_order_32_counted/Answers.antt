@@ -1,5 +1,0 @@
--- SPDX-License-Identifier: ISC
-use Rattle.ring_core.proofs.digest.sha2.block_data_order_32_counted.Goals as goal
-
-pub returns-clause-words : goal.returns-clause-words
-returns-clause-words c = c.run_blocks.ensures.words 0

@@ -1,0 +1,325 @@
+// SPDX-License-Identifier: ISC
+//! The block function of SHA-2 over a window of the schedule's last sixteen words, of which two are
+//! replaced at a time (FIPS 180-4, 6.2.2 and 6.4.2, steps 1 to 4). It is written once for both word
+//! sizes, and for words in lanes, each of a block of its own. Of one block each step computes both
+//! words at once, in the two lanes of a vector.
+ghost use Rattle.std.specs.Prelude.{◌≡◌, ℕ, ◌+◌, ◌*◌, ◌%◌, ◌<◌, ◌≤◌, List, length, map};
+ghost use Rattle.ring_core.specs.Prelude.{IsBefore, IsBlockOf, IsWindow, W, block_len, block_step};
+ghost use Rattle.ring_core.specs.Prelude.{blocks_from, chunk_items, chunk_total, family_256};
+ghost use Rattle.ring_core.specs.Prelude.{family_512, raised, rounds_from, scheduled, word_at};
+ghost use Rattle.ring_core.specs.Prelude.{words_32, words_64};
+
+use crate::cost::Meter;
+use crate::digest::sha2::round::{add_state, round, small_sigma};
+use crate::digest::states::{State32, State64};
+use crate::digest::window::{in_two_lanes, load_block, load_words, pair, set_pair};
+use crate::digest::word::Sha2;
+use crate::digest::word::lane_word::{LaneWord, Vector};
+use crate::polyfill::slice::AsChunks;
+use std::num::Wrapping;
+use std::simd::{u32x2, u64x2};
+
+// The pairs of words that begin 16, 15, 7 and 2 words before the next pair.
+#[derive(Drop)]
+pub(crate) struct Before<T: Copy> {
+    pub(crate) sixteen: (T, T),
+    pub(crate) fifteen: (T, T),
+    pub(crate) seven: (T, T),
+    pub(crate) two: (T, T),
+}
+
+// Words of SHA-2, one in each lane, and the step of their schedule to the next two.
+pub(crate) trait ExtendByTwo: LaneWord {
+    // The pair of words after those in `before`.
+    fn next_two(before: &Before<Self>) -> (Self, Self)
+        ensures first { (i : ℕ) → Self.lane i result.0 ≡ scheduled Self.One.family
+            (Self.lane i before.now.two.0) (Self.lane i before.now.seven.0)
+            (Self.lane i before.now.fifteen.0) (Self.lane i before.now.sixteen.0) }
+        ensures second { (i : ℕ) → Self.lane i result.1 ≡ scheduled Self.One.family
+            (Self.lane i before.now.two.1) (Self.lane i before.now.seven.1)
+            (Self.lane i before.now.fifteen.1) (Self.lane i before.now.sixteen.1) };
+}
+
+// The next word of each lane, by those 2, 7, 15 and 16 words before it.
+#[inline(always)]
+pub(crate) fn next_word<V: Vector>(two: V, seven: V, fifteen: V, sixteen: V) -> V
+    ensures { (i : ℕ) → V.lane i result ≡ scheduled V.One.family
+        (V.lane i two) (V.lane i seven) (V.lane i fifteen) (V.lane i sixteen) }
+{
+    small_sigma(two, V::One::SMALL_SIGMA_1)
+        .plus(seven)
+        .plus(small_sigma(fifteen, V::One::SMALL_SIGMA_0))
+        .plus(sixteen)
+}
+
+// The next two words of one block: the first in lane 0 of a vector, the second in lane 1.
+#[inline(always)]
+fn next_in_two_lanes<V: Vector>(before: &Before<V::One>) -> (V::One, V::One)
+    requires { V.LANES ≡ 2 }
+    ensures first { V.One.value result.0 ≡ scheduled V.One.family
+        (V.One.value before.now.two.0) (V.One.value before.now.seven.0)
+        (V.One.value before.now.fifteen.0) (V.One.value before.now.sixteen.0) }
+    ensures second { V.One.value result.1 ≡ scheduled V.One.family
+        (V.One.value before.now.two.1) (V.One.value before.now.seven.1)
+        (V.One.value before.now.fifteen.1) (V.One.value before.now.sixteen.1) }
+{
+    let two = in_two_lanes::<V>(before.two);
+    let seven = in_two_lanes::<V>(before.seven);
+    let fifteen = in_two_lanes::<V>(before.fifteen);
+    let sixteen = in_two_lanes::<V>(before.sixteen);
+    let next = next_word(two, seven, fifteen, sixteen);
+    (next.word(0), next.word(1))
+}
+
+impl ExtendByTwo for Wrapping<u32> {
+    #[inline(always)]
+    fn next_two(before: &Before<Wrapping<u32>>) -> (Wrapping<u32>, Wrapping<u32>) {
+        next_in_two_lanes::<u32x2>(before)
+    }
+}
+
+impl ExtendByTwo for Wrapping<u64> {
+    #[inline(always)]
+    fn next_two(before: &Before<Wrapping<u64>>) -> (Wrapping<u64>, Wrapping<u64>) {
+        next_in_two_lanes::<u64x2>(before)
+    }
+}
+
+// Replaces the words in slot `place` and the next by those sixteen later.
+#[inline(always)]
+fn extend<S: ExtendByTwo>(window: &mut [S; 16], place: usize)
+    requires { place + 2 ≤ 16 }
+    ensures { (i : ℕ) (b : List ℕ) (t : ℕ) → 16 ≤ t → place ≡ t % 16
+        → IsWindow (W S.One.family b) (map (S.lane i) window.old) t
+        → IsWindow (W S.One.family b) (map (S.lane i) window.new) (t + 2) }
+{
+    let sixteen = pair(window, place);
+    let fifteen = pair(window, place + 1);
+    let seven = pair(window, (place + 9) % 16);
+    let two = pair(window, (place + 14) % 16);
+    let before = Before {
+        sixteen,
+        fifteen,
+        seven,
+        two,
+    };
+    set_pair(window, place, S::next_two(&before));
+}
+
+// From here to `later_turn` each function is always inlined: slots are then literals, and no
+// variable is copied from round to round.
+
+// Rounds `16 * turn + place` and the next, from the words at `place`.
+#[inline(always)]
+fn two_rounds<S: ExtendByTwo>(window: &[S; 16], v: [S; 8], turn: usize, place: usize) -> [S; 8]
+    requires some { 0 < S.LANES }
+    requires place { place + 2 ≤ 16 }
+    requires turn { 16 * turn + 16 ≤ S.One.family.rounds }
+    ensures { (i : ℕ) (h b : List ℕ) (n t : ℕ)
+        → IsWindow (W S.One.family b) (map (S.lane i) window.now) n
+        → t ≡ 16 * turn + place → t + 2 ≤ n → n ≤ t + 16
+        → map (S.lane i) v ≡ rounds_from S.One.family h b t
+        → map (S.lane i) result ≡ rounds_from S.One.family h b (t + 2) }
+{
+    let t = 16 * turn + place;
+    let (word, next) = pair(window, place);
+    let first = S::splat(S::One::k(t)).plus(word);
+    let second = S::splat(S::One::k(t + 1)).plus(next);
+    round(round(v, first), second)
+}
+
+// The same after the first turn, where the words are computed first.
+#[inline(always)]
+fn next_two_rounds<S: ExtendByTwo>(
+    window: &mut [S; 16],
+    v: [S; 8],
+    turn: usize,
+    place: usize,
+) -> [S; 8]
+    requires some { 0 < S.LANES }
+    requires place { place + 2 ≤ 16 }
+    requires later { 1 ≤ turn }
+    requires turn { 16 * turn + 16 ≤ S.One.family.rounds }
+    ensures { (i : ℕ) (h b : List ℕ) (t : ℕ) → t ≡ 16 * turn + place
+        → IsBefore (W S.One.family b) (rounds_from S.One.family h b)
+        (map (S.lane i) window.old) (map (S.lane i) v) t
+        → IsBefore (W S.One.family b) (rounds_from S.One.family h b)
+        (map (S.lane i) window.new) (map (S.lane i) result) (t + 2) }
+{
+    extend::<S>(window, place);
+    two_rounds(window, v, turn, place)
+}
+
+// The first sixteen rounds, from the block's own words.
+#[inline(always)]
+fn first_turn<S: ExtendByTwo>(window: &[S; 16], v: [S; 8]) -> [S; 8]
+    requires some { 0 < S.LANES }
+    ensures { (i : ℕ) (b : List ℕ) → IsWindow (W S.One.family b) (map (S.lane i) window.now) 16
+        → map (S.lane i) result ≡ rounds_from S.One.family (map (S.lane i) v) b 16 }
+{
+    let v = two_rounds(window, v, 0, 0);
+    let v = two_rounds(window, v, 0, 2);
+    let v = two_rounds(window, v, 0, 4);
+    let v = two_rounds(window, v, 0, 6);
+    let v = two_rounds(window, v, 0, 8);
+    let v = two_rounds(window, v, 0, 10);
+    let v = two_rounds(window, v, 0, 12);
+    two_rounds(window, v, 0, 14)
+}
+
+// The sixteen rounds of a later turn, each with its slot as a literal.
+#[inline(always)]
+fn later_turn<S: ExtendByTwo>(window: &mut [S; 16], v: [S; 8], turn: usize) -> [S; 8]
+    requires some { 0 < S.LANES }
+    requires later { 1 ≤ turn }
+    requires turn { 16 * turn + 16 ≤ S.One.family.rounds }
+    ensures { (i : ℕ) (h b : List ℕ)
+        → IsBefore (W S.One.family b) (rounds_from S.One.family h b)
+        (map (S.lane i) window.old) (map (S.lane i) v) (16 * turn)
+        → IsBefore (W S.One.family b) (rounds_from S.One.family h b)
+        (map (S.lane i) window.new) (map (S.lane i) result) (16 * (turn + 1)) }
+{
+    let v = next_two_rounds(window, v, turn, 0);
+    let v = next_two_rounds(window, v, turn, 2);
+    let v = next_two_rounds(window, v, turn, 4);
+    let v = next_two_rounds(window, v, turn, 6);
+    let v = next_two_rounds(window, v, turn, 8);
+    let v = next_two_rounds(window, v, turn, 10);
+    let v = next_two_rounds(window, v, turn, 12);
+    next_two_rounds(window, v, turn, 14)
+}
+
+// Runs the block function in each lane, over the block whose words the window holds there. Blocks
+// of bytes and of words share it, so it isn't inlined: with two callers the compiler would call the
+// turns.
+#[inline(never)]
+pub(crate) fn run_loaded<S: ExtendByTwo>(window: &mut [S; 16], state: &mut [S; 8])
+    requires some { 0 < S.LANES }
+    ensures { (i : ℕ) (b : List ℕ)
+        → IsWindow (word_at S.One.bits b) (map (S.lane i) window.old) 16
+        → map (S.lane i) state.new ≡ block_step S.One.family (map (S.lane i) state.old) b }
+{
+    let mut variables = first_turn(window, *state); // steps 2 and 3
+    let turns = S::One::ROUNDS / 16;
+    'later: for turn in 1..turns {
+        variables = later_turn(window, variables, turn); // steps 1 and 3
+    }
+    *state = add_state(state, &variables); // step 4
+}
+
+// Runs the block function over each block in order, the same in each lane.
+#[tactic(auto, using(crate::proofs::Costs::rises, crate::proofs::ChunkFolds::folds))]
+fn run_blocks<S: ExtendByTwo, const N: usize>(
+    window: &mut [S; 16],
+    state: &mut [S; 8],
+    blocks: AsChunks<'_, u8, N>,
+    meter: &mut Meter,
+)
+    requires some { 0 < S.LANES }
+    requires whole { N ≡ block_len S.One.family }
+    ensures words { (i : ℕ) → map (S.lane i) state.new
+        ≡ blocks_from S.One.family (map (S.lane i) state.old)
+        (chunk_items blocks.entry) (chunk_total blocks.entry) }
+    ensures cost { meter.new ≡ raised meter.old (chunk_total blocks.entry) 0 }
+{
+    'each: for i in 0..blocks.len() {
+        load_block(window, &blocks[i]); // step 1, to W(15)
+        run_loaded(window, state);
+        meter.add_block();
+    }
+}
+
+// Runs the block function in each lane, over a block whose first `N` words are those of the lane in
+// `front`, and whose other words are those of `padding`, and counts these blocks.
+pub(crate) fn run_words<S: ExtendByTwo, const N: usize>(
+    window: &mut [S; 16],
+    state: &mut [S; 8],
+    front: &[S; 8],
+    padding: &[S::One; 16],
+    meter: &mut Meter,
+)
+    requires some { 0 < S.LANES }
+    requires front { N ≤ 8 }
+    ensures words { (i : ℕ) (b : List ℕ)
+        → IsBlockOf S.One.bits N (map (S.lane i) front.now) (map S.One.value padding.now) b
+        → map (S.lane i) state.new ≡ block_step S.One.family (map (S.lane i) state.old) b }
+    ensures cost { meter.new ≡ raised meter.old S.LANES 0 }
+    ensures eight { (length state.old ≡ 8) × (length front.now ≡ 8) }
+{
+    load_words::<S, N>(window, front, padding); // step 1, to W(15)
+    run_loaded(window, state);
+    meter.add_blocks(S::LANES);
+}
+
+/// Runs SHA-256's block function over each of `blocks`, of 64 bytes, in order, and replaces the
+/// chaining words `state` (6.2.2), over a window of sixteen words. The result is that of
+/// [`block_data_order_32_counted`](crate::digest::sha2::block_data_order_32_counted). Each block is
+/// counted on `meter`.
+pub fn block_data_order_32_by_window_counted(
+    state: &mut State32,
+    blocks: AsChunks<'_, u8, 64>,
+    meter: &mut Meter,
+)
+    ensures words { words_32 state.new
+        ≡ blocks_from family_256 (words_32 state.old)
+        (chunk_items blocks.entry) (chunk_total blocks.entry) }
+    ensures cost { meter.new ≡ raised meter.old (chunk_total blocks.entry) 0 }
+{
+    run_blocks(&mut [Wrapping(0u32); 16], state, blocks, meter)
+}
+
+/// Runs the block function that SHA-384, SHA-512 and SHA-512/256 share over each of `blocks`, of
+/// 128 bytes, in order, and replaces the chaining words `state` (6.4.2), over a window of sixteen
+/// words. The result is that of
+/// [`block_data_order_64_counted`](crate::digest::sha2::block_data_order_64_counted). Each block is
+/// counted on `meter`.
+pub fn block_data_order_64_by_window_counted(
+    state: &mut State64,
+    blocks: AsChunks<'_, u8, 128>,
+    meter: &mut Meter,
+)
+    ensures words { words_64 state.new
+        ≡ blocks_from family_512 (words_64 state.old)
+        (chunk_items blocks.entry) (chunk_total blocks.entry) }
+    ensures cost { meter.new ≡ raised meter.old (chunk_total blocks.entry) 0 }
+{
+    run_blocks(&mut [Wrapping(0u64); 16], state, blocks, meter)
+}
+
+/// Runs SHA-256's block function over one block that is given as words, and replaces the chaining
+/// words `state` (6.2.2), over a window of sixteen words. The block is the eight words of `front`
+/// and then the last eight of `padding`. The result is that of
+/// [`block_of_words_32_counted`](crate::digest::sha2::block_of_words_32_counted). One block is
+/// counted on `meter`.
+pub fn block_of_words_32_by_window_counted(
+    state: &mut State32,
+    front: &State32,
+    padding: &[Wrapping<u32>; 16],
+    meter: &mut Meter,
+)
+    ensures words { (b : List ℕ) → IsBlockOf 32 8 (words_32 front.now) (words_32 padding.now) b
+        → words_32 state.new ≡ block_step family_256 (words_32 state.old) b }
+    ensures cost { meter.new ≡ raised meter.old 1 0 }
+{
+    run_words::<Wrapping<u32>, 8>(&mut [Wrapping(0u32); 16], state, front, padding, meter)
+}
+
+/// Runs the block function that SHA-384, SHA-512 and SHA-512/256 share over one block that is given
+/// as words, and replaces the chaining words `state` (6.4.2), over a window of sixteen words. The
+/// block is the first `N` words of `front`, at most eight, and then those of `padding` past them.
+/// The result is that of
+/// [`block_of_words_64_counted`](crate::digest::sha2::block_of_words_64_counted). One block is
+/// counted on `meter`.
+pub fn block_of_words_64_by_window_counted<const N: usize>(
+    state: &mut State64,
+    front: &State64,
+    padding: &[Wrapping<u64>; 16],
+    meter: &mut Meter,
+)
+    requires { N ≤ 8 }
+    ensures words { (b : List ℕ) → IsBlockOf 64 N (words_64 front.now) (words_64 padding.now) b
+        → words_64 state.new ≡ block_step family_512 (words_64 state.old) b }
+    ensures cost { meter.new ≡ raised meter.old 1 0 }
+{
+    run_words::<Wrapping<u64>, N>(&mut [Wrapping(0u64); 16], state, front, padding, meter)
+}

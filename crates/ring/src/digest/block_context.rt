@@ -39,7 +39,9 @@ fn run_blocks_64<'i>(words: &mut State64, input: &'i [u8], meter: &mut Meter) ->
     rest
 }
 
-// The same for the words of an algorithm of 32-bit words.
+// The same for the words of an algorithm of 32-bit words. It is inlined, since a call of its own
+// takes 3 ns for each block that a small input completes.
+#[inline(always)]
 fn run_blocks_32<'i>(
     algorithm: Algorithm,
     words: &mut State32,

@@ -30,6 +30,7 @@ pub use Rattle.ring.specs.Pieces.{joined}
 unfoldable pub use Rattle.ring.specs.Pieces.{joined_blocks}
 pub use Rattle.ring.specs.Receiver.{HasPlaces, KeepsPlaces, Receives, Takes}
 pub use Rattle.ring.specs.Each.{message_at, each_blocks, AreDigests, CanDigestEach, HasWords}
+pub use Rattle.ring.specs.Each.{digests_of, bytes_of_each, CanWriteEach}
 unfoldable pub use Rattle.ring.specs.Each.{words_at}
 pub use Rattle.ring.specs.Source.{random_value}
 pub use Rattle.ring.specs.KeyBlocks.{masked, inner_block, outer_block}

@@ -107,7 +107,9 @@ pub use crate::digest::algorithm::{
 pub use crate::digest::block_context::Digest;
 pub use crate::digest::context::{Context, digest, digest_counted};
 pub use crate::digest::dynstate::Output;
-pub use crate::digest::each::{digest_each, digest_each_counted, digest_each_in};
+pub use crate::digest::each::{
+    digest_each, digest_each_bytes_in, digest_each_counted, digest_each_in, is_len_of_digests,
+};
 pub use crate::digest::padding::padding_is_shortest;
 pub use crate::digest::updates::{update_each, update_each_counted, update_each_in};
 pub use ring_core::digest::{sha1, sha2, states, word};

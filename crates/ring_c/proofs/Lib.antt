@@ -1,3 +1,3 @@
 -- SPDX-License-Identifier: ISC
-mod Written
+mod Within
 mod Salts

@@ -1,7 +1,6 @@
 -- SPDX-License-Identifier: ISC
 pub mod Number
 pub mod Limits
-pub mod Each
 pub mod Label
 pub mod Verified
 pub mod Status

@@ -9,6 +9,7 @@ pub mod Tails
 pub mod LaneBlocks
 pub mod Runs
 pub mod Words
+pub mod Written
 pub mod Paddings
 pub mod GoingOn
 pub mod Updates

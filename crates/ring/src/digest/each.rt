@@ -2,9 +2,10 @@
 //! Digests of several messages at once, as many side by side as a vector has lanes.
 
 ghost use Rattle.std.specs.Prelude.{◌≡◌, ◌≢◌, ◌↔◌, ℕ, ◌-◌, ◌*◌, ◌/◌, ◌<◌, ◌≤◌, ◌++◌, IsOk};
-ghost use Rattle.std.specs.Prelude.{IsTrue, OnErr, OnOk, length, replicate};
+ghost use Rattle.std.specs.Prelude.{◌+◌, IsTrue, OnErr, OnOk, length, replicate, take};
 ghost use Rattle.ring_core.specs.Prelude.{array_at, chunk_at};
-ghost use Rattle.ring.specs.Prelude.{AreDigests, CanDigestEach, CanRunTogether, HasWords, IsDigest};
+ghost use Rattle.ring.specs.Prelude.{AreDigests, CanDigestEach, CanRunTogether, CanWriteEach};
+ghost use Rattle.ring.specs.Prelude.{HasWords, IsDigest, bytes_of_each, digests_of, output_len};
 ghost use Rattle.ring.specs.Prelude.{IsMessageWithin, block_len, chaining_words, each_blocks};
 ghost use Rattle.ring.specs.Prelude.{is_state_of, message_at, padded, padded_blocks, raised};
 ghost use Rattle.ring.specs.Prelude.{state_word_len, word_bytes, words, words_at};
@@ -12,13 +13,16 @@ ghost use Rattle.ring.specs.Prelude.{state_word_len, word_bytes, words, words_at
 use crate::digest::algorithm::{Algorithm, AlgorithmId, is_message_within};
 use crate::digest::block_context::{Digest, run_blocks};
 use crate::digest::context::digest_counted;
-use crate::digest::dynstate::{DynState, Output, StateWord, long_output, short_output};
+use crate::digest::dynstate::{
+    DynState, OUTPUT_ROOM, Output, StateWord, long_output, short_output,
+};
 use crate::digest::lanes::algorithms::{RunBlocks, Sha1, Sha256, Sha512, by_lanes};
 use crate::digest::lanes::blocks::{Blocks, Padded, fewest_blocks, run_lanes};
 use crate::digest::lanes::states::{InVector, LaneStates};
 use crate::width::{AVX2, SSE, lanes_for};
 use ring_core::cost::Meter;
 use ring_core::error::Unspecified;
+use ring_core::polyfill::slice::write_at;
 use std::num::Wrapping;
 use std::simd::{u32x4, u32x8, u64x4};
 
@@ -198,6 +202,92 @@ fn digest_all<const VECTOR_BITS: usize>(
         );
         made = end;
     }
+}
+
+// How many digests are held at a time: some groups of as many as run side by side.
+const GROUP: usize = 16;
+
+// Writes the bytes of the digests to `out` from the place `at` on, and returns the place after
+// them.
+fn write_digests(digests: &[Digest], out: &mut [u8], at: usize) -> usize
+    requires { at + length (bytes_of_each digests.now) ≤ length out.old }
+    ensures end { result ≡ at + length (bytes_of_each digests.now) }
+    ensures ok { take result out.new ≡ take at out.old ++ bytes_of_each digests.now }
+{
+    let mut end = at;
+    'digests: for i in 0..digests.len() {
+        let bytes = digests[i].as_ref();
+        write_at(out, end, bytes);
+        end += bytes.len();
+    }
+    end
+}
+
+// Writes the bytes of the digests of the messages to `out`, a group at a time.
+fn write_all<const VECTOR_BITS: usize>(
+    algorithm: &Algorithm,
+    messages: &[&[u8]],
+    out: &mut [u8],
+    meter: &mut Meter,
+)
+    requires { CanWriteEach algorithm.now messages.now (length out.old) }
+    ensures ok { out.new ≡ digests_of algorithm.now messages.now }
+    ensures cost { meter.new ≡ raised meter.old (each_blocks algorithm.now messages.now) 0 }
+{
+    let mut group = [Digest::new(Output([0; OUTPUT_ROOM]), *algorithm); GROUP];
+    let mut made = 0;
+    let mut written = 0;
+    'groups: while made < messages.len() {
+        let count = GROUP.min(messages.len() - made);
+        let digests = &mut group[..count];
+        digest_all::<VECTOR_BITS>(algorithm, &messages[made..made + count], digests, meter);
+        written = write_digests(digests, out, written);
+        made += count;
+    }
+}
+
+/// Whether `len` is the length of `count` digests under `algorithm` (FIPS 180-4, section 1), as
+/// [`digest_each_bytes_in`] asks of its output.
+pub fn is_len_of_digests(algorithm: &Algorithm, count: usize, len: usize) -> bool
+    ensures { IsTrue result ↔ (len ≡ count * output_len algorithm.now) }
+{
+    // The compiler would make a multiplication of a loop that only adds, and the library for C has
+    // none.
+    let output_len = algorithm.output_len();
+    let mut left = len;
+    'digests: for _made in 0..count {
+        if left < output_len {
+            return false;
+        }
+        left -= output_len;
+    }
+    left == 0
+}
+
+/// Writes the bytes of the digests of `messages` under `algorithm` to `out`, one after another
+/// (FIPS 180-4, section 6), over vectors of `VECTOR_BITS` bits, and counts their blocks on `meter`.
+///
+/// Refused where `out` has not the length of all digests together, or where a message is longer
+/// than the algorithm's `max_input_len` bytes. `out` and `meter` are then as they were.
+pub fn digest_each_bytes_in<const VECTOR_BITS: usize>(
+    algorithm: &Algorithm,
+    messages: &[&[u8]],
+    out: &mut [u8],
+    meter: &mut Meter,
+) -> Result<(), Unspecified>
+    ensures ok { OnOk result (out.new ≡ digests_of algorithm.now messages.now) }
+    ensures refused { IsOk result ↔ CanWriteEach algorithm.now messages.now (length out.old) }
+    ensures unchanged { OnErr result ((out.new ≡ out.old) × (meter.new ≡ meter.old)) }
+    ensures cost { OnOk result (meter.new
+        ≡ raised meter.old (each_blocks algorithm.now messages.now) 0) }
+{
+    if !is_len_of_digests(algorithm, messages.len(), out.len())
+        || !are_messages_within(algorithm, messages)
+    {
+        return Err(Unspecified);
+    }
+    write_all::<VECTOR_BITS>(algorithm, messages, out, meter);
+    Ok(())
 }
 
 /// Writes the digests of `messages` under `algorithm` to `out` as [`digest_each`] does (FIPS 180-4,

@@ -1,7 +1,7 @@
 -- SPDX-License-Identifier: ISC
 use Rattle.std.proofs.Common.{arith}
-use Rattle.ring_c.proofs.Written.{bytes-room}
-use Rattle.ring_c.proofs.each.write_digests.Goals as goal
+use Rattle.ring.proofs.lemmas.digest.Written.{bytes-room}
+use Rattle.ring.proofs.digest.each.write_digests.Goals as goal
 
 pub write_at-requires : goal.write_at-requires
 write_at-requires c =

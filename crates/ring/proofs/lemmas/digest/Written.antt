@@ -11,11 +11,10 @@ use Rattle.std.proofs.lemmas.List.Folds.{length-flat_map-take}
 use Rattle.std.specs.Borrow.{Bor}
 use Rattle.ring.specs.Algorithm.{output_len}
 use Rattle.ring.specs.Digest.{bytes_of, digest_of}
-use Rattle.ring.specs.Each.{AreDigests}
+use Rattle.ring.specs.Each.{AreDigests, bytes_of_each, digests_of}
 use Rattle.ring.specs.declared.digest.algorithm.Algorithm.{Algorithm}
 use Rattle.ring.specs.declared.digest.block_context.Digest.{Digest}
 use Rattle.ring.proofs.Lengths.{length-digest_of}
-use Rattle.ring_c.specs.Each.{bytes_of_each, digests_of}
 
 -- the first i of the digests stand before the place `end`, from the place `at` on
 pub record AreBytes (ds : List Digest) (i at end : ℕ) (before now : List ℕ) : Type 0 where

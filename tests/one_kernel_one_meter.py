@@ -42,7 +42,7 @@ METERS = {
     "ring_passwords": 3,
     "ring_schedules": 2,
     "ring_sums": 1,
-    "ring_examples": 10,
+    "ring_examples": 11,
     "ring_c": 5,
 }
 # The crate of the tests.
@@ -55,14 +55,16 @@ MAY_CALL_PLAIN = {("Key", "generate"), ("Okm", "into_key")}
 CALLED_ONCE = ("ring_passwords", "ring_c")
 DERIVES = ("derive_in", "verify_in", "new_counted", "verify_counted")
 # What loads the words of blocks and what counts these: that it counts as many is its contract. Each
-# family has one place that loads by each, and that runs the rounds and counts there: blocks of
-# bytes by the kernel with the schedule ahead, the others by the kernel over a window.
+# family has one place that loads by each, and that runs the rounds and counts there: by fours the
+# kernel of one message, the others the kernel over a window.
 COUNTS = {
-    "load": "add_block()",
+    "read_four": "add_block()",
+    "four_of": "add_block()",
+    "load_block": "add_block()",
     "load_blocks": "add_blocks(V::LANES)",
     "load_words": "add_blocks(S::LANES)",
 }
-RUNS = "run_ahead|run_loaded"
+RUNS = "run_block|run_loaded"
 FAMILIES = 2
 # The imports that may have another name: of modules, since a call is found without its module.
 RENAMED = re.compile(
@@ -603,8 +605,9 @@ def uncounted_runs(places):
             continue
         loop = loop_around(body, runs[0].start()) if runs else ""
         beside = all(f".{COUNTS[it.group(1)]}" in loop and it.group() in loop for it in loads)
-        if not len(loads) == len(runs) == len(counts) == 1 or not beside:
-            yield f"{place} loads {len(loads)}, runs {len(runs)} and counts {len(counts)}"
+        loaders = {it.group(1) for it in loads}
+        if not len(loaders) == len(runs) == len(counts) == 1 or not beside:
+            yield f"{place} loads by {len(loaders)}, runs {len(runs)} and counts {len(counts)}"
 
 
 def naming(places, pattern):

@@ -1,14 +1,16 @@
 // SPDX-License-Identifier: ISC
 //! Several digests and keys at once, over vectors of 256 bits.
 
-ghost use Rattle.std.specs.Prelude.{◌≡◌, ◌↔◌, IfOk, IsErr, IsOk, length};
+ghost use Rattle.std.specs.Prelude.{◌≡◌, ◌↔◌, ◌*◌, IfOk, IsErr, IsOk, IsTrue, OnOk, length};
 ghost use Rattle.std.specs.Int.NonZero.{non_zero_u32_get};
 ghost use Rattle.ring.specs.Prelude.{AreDerived, AreDigests, AreUpdated, AreVerified, CanDerive};
-ghost use Rattle.ring.specs.Prelude.{CanDeriveEach, CanDigestEach, CanVerifyEach, IsDerived, dk};
+ghost use Rattle.ring.specs.Prelude.{CanDeriveEach, CanDigestEach, CanVerifyEach, CanWriteEach};
+ghost use Rattle.ring.specs.Prelude.{IsDerived, digests_of, dk};
 
 use ring::cost::Meter;
 use ring::digest::{
-    Algorithm, Context, Digest, SHA256, SHA256_OUTPUT_LEN, digest, digest_each_in, update_each_in,
+    Algorithm, Context, Digest, SHA256, SHA256_OUTPUT_LEN, digest, digest_each_bytes_in,
+    digest_each_in, is_len_of_digests, update_each_in,
 };
 use ring::error::Unspecified;
 use ring::pbkdf2::{PBKDF2_HMAC_SHA256, derive_each_in, derive_in, verify_each_in, verify_in};
@@ -26,6 +28,21 @@ pub fn digests_of_eight(
     let mut digests = [digest(algorithm, &[])?; 8];
     digest_each_in::<AVX2>(algorithm, messages, &mut digests, &mut Meter::new())?;
     Ok(digests)
+}
+
+/// Whether a list of `len` bytes has a digest of SHA-256 for each of `count` files.
+pub fn has_a_digest_each(count: usize, len: usize) -> bool
+    ensures { IsTrue result ↔ (len ≡ count * 32) }
+{
+    is_len_of_digests(&SHA256, count, len)
+}
+
+/// Writes the digests of some files to such a list, one after another.
+pub fn write_list(files: &[&[u8]], list: &mut [u8]) -> Result<(), Unspecified>
+    ensures ok { OnOk result (list.new ≡ digests_of SHA256 files.now) }
+    ensures refused { IsOk result ↔ CanWriteEach SHA256 files.now (length list.old) }
+{
+    digest_each_bytes_in::<AVX2>(&SHA256, files, list, &mut Meter::new())
 }
 
 /// Adds a piece to each of eight messages, side by side where they are of one algorithm.

@@ -5,7 +5,8 @@ use crate::texts::is_hex_of;
 use ring::digest::{Context, Digest, SHA256, digest};
 use ring::error::Unspecified;
 use ring_examples::wide::{
-    digests_of_eight, long_key_of, stored_of_eight, verify_eight, verify_long_key,
+    digests_of_eight, has_a_digest_each, long_key_of, stored_of_eight, verify_eight,
+    verify_long_key, write_list,
 };
 use std::num::NonZeroU32;
 
@@ -20,6 +21,16 @@ fn digests_of_eight_messages(rt: HostRuntime) -> Result<(), Unspecified> {
     for made in &digests {
         assert!(rt; is_hex_of(OF_MESSAGE, made.as_ref()));
     }
+    Ok(())
+}
+
+#[test]
+fn a_list_of_nine_digests(rt: HostRuntime) -> Result<(), Unspecified> {
+    let mut list = [0; 288];
+    write_list(&[MESSAGE; 9], &mut list)?;
+    assert!(rt; is_hex_of(OF_MESSAGE, &list[..32]) && list[256..] == list[..32]);
+    assert!(rt; has_a_digest_each(9, 288) && !has_a_digest_each(9, 287));
+    assert!(rt; write_list(&[MESSAGE; 9], &mut list[..287]).is_err());
     Ok(())
 }
 

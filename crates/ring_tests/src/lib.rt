@@ -23,6 +23,8 @@ mod hkdf;
 #[cfg(test)]
 mod hmac;
 #[cfg(test)]
+mod kernels;
+#[cfg(test)]
 mod laws;
 #[cfg(test)]
 mod long_lengths;

@@ -22,7 +22,7 @@ use std::num::{NonZeroU64, Wrapping};
 const TOO_LONG: u64 = 2_305_843_009_213_693_952;
 
 // FIPS 180-4, 5.3.1, with three words that are none of SHA-1's
-const SHA1_WORDS: State32 = [
+pub const SHA1_WORDS: State32 = [
     Wrapping(0x67452301),
     Wrapping(0xefcdab89),
     Wrapping(0x98badcfe),
@@ -46,7 +46,7 @@ pub const SHA256_WORDS: State32 = [
 ];
 
 // FIPS 180-4, 5.3.5
-const SHA512_WORDS: State64 = [
+pub const SHA512_WORDS: State64 = [
     Wrapping(0x6a09e667f3bcc908),
     Wrapping(0xbb67ae8584caa73b),
     Wrapping(0x3c6ef372fe94f82b),

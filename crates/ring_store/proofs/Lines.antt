@@ -10,7 +10,7 @@ use Rattle.std.proofs.lemmas.Bool.{and_parts}
 use Rattle.std.proofs.lemmas.List.{nil_from_length}
 use Rattle.std.proofs.lemmas.List.Elements.{All-cons, All-head, All-nil, All-same, All-tail}
 use Rattle.ring_store.specs.Text.{AreLines, IsEntry, lines_of, record_then}
-use Rattle.ring_store.specs.declared.records.Record.{Record}
+use Rattle.ring_store.specs.declared.credential.Record.{Record}
 use Rattle.ring_store.proofs.Entries.{entries-filled, filled, lower}
 use Rattle.ring_store.proofs.Names.{order}
 use Rattle.ring_store.proofs.Texts.{lines_of-cons, lines_of-injective, no_line, record_then-grows}

@@ -13,7 +13,7 @@ use Rattle.ring_text.proofs.Cuts.{cut_same, first_cut}
 use Rattle.ring_text.proofs.LowerHex.{IsWithout-hex, encode_lower-injective}
 use Rattle.ring_text.proofs.Numbers.{count_then-injective}
 use Rattle.ring_store.specs.Text.{IsEntry, IsHead, head_then, hex_then, lines_of, record_then}
-use Rattle.ring_store.specs.declared.records.Record.{Record}
+use Rattle.ring_store.specs.declared.credential.Record.{Record}
 
 -- ---- bytes in hex
 

@@ -12,7 +12,7 @@ use Rattle.std.specs.declared.num.NonZeroU32.{NonZeroU32}
 use Rattle.hex.specs.Hex.{IsBytes, encode_lower}
 use Rattle.ring_text.specs.Field.{IsCount, count_then}
 use Rattle.ring_store.specs.Store.{is_name}
-use Rattle.ring_store.specs.declared.records.Record.{Record}
+use Rattle.ring_store.specs.declared.credential.Record.{Record}
 use Rattle.ring_store.specs.declared.store.PasswordStore.{PasswordStore}
 
 -- bytes in lower-case hex, the byte that ends them, and the rest

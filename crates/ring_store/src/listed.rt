@@ -6,9 +6,8 @@ ghost use Rattle.std.specs.Option.{option_copied};
 ghost use Rattle.ring_store.specs.Store.{admission, kept_of, knows, names_count, nth_name};
 ghost use Rattle.ring_store.specs.Store.{with_record, without};
 
-use crate::credential::CREDENTIAL_LEN;
+use crate::credential::{CREDENTIAL_LEN, Record};
 use crate::error::StoreError;
-use crate::records::Record;
 use crate::store::{PasswordStore, admit};
 use std::alloc::Allocator;
 use std::num::NonZeroU32;

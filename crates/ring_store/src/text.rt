@@ -8,10 +8,9 @@ ghost use Rattle.std.specs.declared.num.NonZeroU32.{NonZeroU32};
 ghost use Rattle.ring_store.specs.Store.{is_name};
 ghost use Rattle.ring_store.specs.Text.{AreLines, IsEntry, IsHead};
 ghost use Rattle.ring_store.specs.Text.{head_then, hex_then, record_then};
-ghost use Rattle.ring_store.specs.declared.records.Record.{Record};
+ghost use Rattle.ring_store.specs.declared.credential.Record.{Record};
 
-use crate::credential::{CREDENTIAL_LEN, DB_SALT_LEN, MAX_NAME_LEN};
-use crate::records::Record;
+use crate::credential::{CREDENTIAL_LEN, DB_SALT_LEN, MAX_NAME_LEN, Record};
 use ring::polyfill::slice::write_at;
 use ring_text::{after, append_count, count_before, cut_at, fill_from_hex};
 use std::alloc::{AllocError, Allocator};

@@ -6,7 +6,7 @@ use Rattle.std.specs.Fmt.{digits}
 use Rattle.std.specs.Prelude.{codes}
 use Rattle.hex.specs.Hex.{encode_with}
 use Rattle.ring_store.specs.Text.{head_then, record_then}
-use Rattle.ring_store.specs.declared.records.Record.{Record}
+use Rattle.ring_store.specs.declared.credential.Record.{Record}
 use Rattle.ring_store.proofs.Entries.{entries-found}
 use Rattle.ring_store.proofs.Names.{order}
 use Rattle.ring_store.proofs.laws.text_of_two_records.Goals as goal

@@ -5,7 +5,7 @@ use Rattle.std.specs.Prelude.{◌↔◌, []}
 use Rattle.std.specs.Ordering.{is_lt}
 use Rattle.std.proofs.Math.Seq.{take-append_seam}
 use Rattle.ring_store.specs.Text.{AreLines}
-use Rattle.ring_store.specs.declared.records.Record.{Record}
+use Rattle.ring_store.specs.declared.credential.Record.{Record}
 use Rattle.ring_store.proofs.Entries.{lower}
 use Rattle.ring_store.proofs.Lines.{first_line, more_lines}
 use Rattle.ring_store.proofs.text.are_lines.Goals as goal

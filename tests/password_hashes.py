@@ -47,7 +47,7 @@ MAX_TEXT_LEN = 1024
 
 def run_over(lines, seconds=600, **settings):
     """A run of the program over lines, and its answers."""
-    program = counted.built("ring_password_hash_main", "rt", "run")
+    program = counted.built("ring_lines_main", "rt", "run")
     text = "".join(f"{line}\n" for line in lines).encode()
     settings |= {"input": text, "stdout": subprocess.PIPE, "timeout": seconds}
     run = subprocess.run([program], **settings)

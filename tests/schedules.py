@@ -41,7 +41,7 @@ TEXTS = {name: pathlib.Path(f"/usr/share/doc/RFC/{name}.txt.gz") for name in NAM
 
 def answers(lines):
     """The program's answers."""
-    program = counted.built("ring_schedules_main", "rt", "run")
+    program = counted.built("ring_lines_main", "rt", "run")
     text = "".join(f"{line}\n" for line in lines).encode()
     run = subprocess.run([program], input=text, stdout=subprocess.PIPE, timeout=600)
     return run.stdout.decode().split("\n")[:-1]

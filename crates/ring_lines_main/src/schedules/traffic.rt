@@ -5,7 +5,7 @@ ghost use Rattle.std.specs.Prelude.{◌≡◌};
 ghost use Rattle.ring_schedules.specs.Stages.{traffic_hash};
 
 use crate::fault::Fault;
-use crate::finished::finished_output;
+use crate::schedules::finished::finished_output;
 use crate::words::{bytes_in, copy_of, room_in};
 use ring_schedules::hash::Hash;
 use ring_schedules::tls13::{ExporterSecret, ResumptionSecret, TrafficSecret};

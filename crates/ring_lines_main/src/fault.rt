@@ -1,19 +1,28 @@
 // SPDX-License-Identifier: ISC
-//! Why a line gets no bytes.
+//! Why a line gets no answer.
 
 use hex::FromHexError;
 use ring::error::Unspecified;
+use ring_password_hash::HashError;
 use std::alloc::AllocError;
 
-/// Why a line gets no bytes.
+/// Why a line gets no answer.
 #[derive(Debug, Drop)]
 pub enum Fault {
     /// The line has no form that is known.
     BadLine,
-    /// The call refused it.
+    /// A call on password hashes refused it.
+    Hash(HashError),
+    /// A call on key schedules refused it.
     Refused,
-    /// There was too little memory.
+    /// There is no memory for its words or for the answer.
     Memory,
+}
+
+impl From<HashError> for Fault {
+    fn from(error: HashError) -> Self {
+        Fault::Hash(error)
+    }
 }
 
 impl From<Unspecified> for Fault {

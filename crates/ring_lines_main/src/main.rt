@@ -1,9 +1,9 @@
 // SPDX-License-Identifier: ISC
-//! Answers lines that read, verify and make password hashes, for `tests/password_hashes.py`.
-//! `docs/PASSWORD_HASHES.md` has the forms of the lines.
+//! Answers lines on password hashes, for `tests/password_hashes.py`, and on key schedules, for
+//! `tests/schedules.py`. `docs/PASSWORD_HASHES.md` and `docs/SCHEDULES.md` have their forms.
 //!
-//! An answer is what the line asks for, the line of the error that refused it, or `bad line`. Empty
-//! lines and those with a `#` at their start have none.
+//! An answer is what the line asks for, the line of the error that refused it, `refused` where the
+//! error has none, or `bad line`. Empty lines and those with a `#` at their start have none.
 #![tactic(auto)]
 
 use crate::answer::answer;
@@ -14,6 +14,8 @@ use std::io::{BufRead, BufReader};
 
 mod answer;
 mod fault;
+mod password_hashes;
+mod schedules;
 mod words;
 
 /// The text of an answer.
@@ -21,7 +23,8 @@ fn text_of(alloc: Global, answer: Result<String, Fault>) -> Result<String, Alloc
     match answer {
         Ok(text) => Ok(text),
         Err(Fault::BadLine) => String::from_str(alloc, "bad line"),
-        Err(Fault::Refused(error)) => format!(in alloc; "{error}"),
+        Err(Fault::Hash(error)) => format!(in alloc; "{error}"),
+        Err(Fault::Refused) => String::from_str(alloc, "refused"),
         Err(Fault::Memory) => String::from_str(alloc, "out of memory"),
     }
 }

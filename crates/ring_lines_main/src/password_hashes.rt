@@ -1,5 +1,5 @@
 // SPDX-License-Identifier: ISC
-//! The answer to a line.
+//! What is asked of password hashes.
 
 ghost use Rattle.ring_password_hash.specs.Stored.{IsStored};
 
@@ -8,30 +8,17 @@ use crate::words::{bytes_in, count_in, line_of, scheme_in, text_in};
 use ring_password_hash::{MAX_TEXT_LEN, Stored, verify};
 use std::alloc::Global;
 
-/// The answer to a line.
-pub fn answer(alloc: Global, line: &str) -> Result<String, Fault> {
-    let words: Vec<&str> = line.split_whitespace().collect(alloc)?;
-    match words.as_slice() {
-        ["read", text] => read(alloc, text),
-        ["verify", text, password, most] => verified(alloc, text, password, most),
-        ["make", scheme, iterations, salt, password] => {
-            made(alloc, scheme, iterations, [salt, password])
-        }
-        _ => Err(Fault::BadLine),
-    }
-}
-
 /// The text of a value, as a line.
 fn text_of(alloc: Global, stored: &Stored) -> Result<String, Fault>
     requires { IsStored stored.now }
 {
     let mut text = [0; MAX_TEXT_LEN];
     let len = stored.write_to(&mut text)?;
-    Ok(line_of(alloc, &text[..len])?)
+    line_of(alloc, &text[..len])
 }
 
 /// The scheme and the iterations of a text, and the text again.
-fn read(alloc: Global, text: &str) -> Result<String, Fault> {
+pub fn read(alloc: Global, text: &str) -> Result<String, Fault> {
     let stored = Stored::parse(&text_in(alloc, text)?)?;
     let scheme = stored.scheme();
     let iterations = stored.iterations();
@@ -40,7 +27,7 @@ fn read(alloc: Global, text: &str) -> Result<String, Fault> {
 }
 
 /// Whether a text is of a password.
-fn verified(alloc: Global, text: &str, password: &str, most: &str) -> Result<String, Fault> {
+pub fn verified(alloc: Global, text: &str, password: &str, most: &str) -> Result<String, Fault> {
     let text = text_in(alloc, text)?;
     let password = bytes_in(alloc, password)?;
     verify(&text, &password, count_in(most)?.get())?;
@@ -48,7 +35,12 @@ fn verified(alloc: Global, text: &str, password: &str, most: &str) -> Result<Str
 }
 
 /// The text of a new value.
-fn made(alloc: Global, scheme: &str, iterations: &str, inputs: [&str; 2]) -> Result<String, Fault> {
+pub fn made(
+    alloc: Global,
+    scheme: &str,
+    iterations: &str,
+    inputs: [&str; 2],
+) -> Result<String, Fault> {
     let salt = bytes_in(alloc, inputs[0])?;
     let password = bytes_in(alloc, inputs[1])?;
     let iterations = count_in(iterations)?;

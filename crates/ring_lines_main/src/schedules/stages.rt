@@ -5,8 +5,8 @@ ghost use Rattle.std.specs.Prelude.{◌≡◌, IfOk};
 ghost use Rattle.ring_schedules.specs.Stages.{early_hash, handshake_hash, master_hash};
 
 use crate::fault::Fault;
-use crate::finished::finished_output;
-use crate::traffic::{exporter_output, resumption_output, traffic_output};
+use crate::schedules::finished::finished_output;
+use crate::schedules::traffic::{exporter_output, resumption_output, traffic_output};
 use crate::words::{bytes_in, hash_in};
 use ring::error::Unspecified;
 use ring_schedules::hash::Hash;

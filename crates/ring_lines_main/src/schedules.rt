@@ -1,18 +1,22 @@
 // SPDX-License-Identifier: ISC
-//! The answer to a line.
+//! What is asked of key schedules.
 
 use crate::fault::Fault;
-use crate::quic::{initial_output, packet_output};
-use crate::stages::{Inputs, stage_output};
+use crate::schedules::quic::{initial_output, packet_output};
+use crate::schedules::stages::{Inputs, stage_output};
 use crate::words::{bytes_in, copy_of, hash_in, room_in};
 use ring_schedules::extract::hkdf_extract;
 use ring_schedules::label::hkdf_expand_label;
 use std::alloc::Global;
 
-/// The bytes that a line asks for.
-pub fn answer(alloc: Global, line: &str) -> Result<Vec<u8>, Fault> {
-    let words: Vec<&str> = line.split_whitespace().collect(alloc)?;
-    match words.as_slice() {
+mod finished;
+mod quic;
+mod stages;
+mod traffic;
+
+/// The bytes that a line asks for by its words.
+pub fn secret_bytes(alloc: Global, words: &[&str]) -> Result<Vec<u8>, Fault> {
+    match words {
         [form, hash, salt, material] => {
             is_form(form, "extract")?;
             extracted(alloc, hash, salt, material)

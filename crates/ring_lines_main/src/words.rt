@@ -1,0 +1,81 @@
+// SPDX-License-Identifier: ISC
+//! The words of a line.
+
+use crate::fault::Fault;
+use ring_password_hash::Scheme;
+use ring_schedules::hash::Hash;
+use std::alloc::Global;
+use std::num::NonZeroU32;
+
+/// The most bytes that are asked for.
+const MAX_LEN: usize = 65_536;
+
+/// The bytes of a word: hex digits, or `-` for none.
+pub fn bytes_in(alloc: Global, word: &str) -> Result<Vec<u8>, Fault> {
+    match word {
+        "-" => Ok(Vec::new(alloc)),
+        digits => Ok(hex::decode(alloc, digits)?),
+    }
+}
+
+/// A number of bytes, as zeros that the answer takes the place of.
+pub fn room_in(alloc: Global, word: &str) -> Result<Vec<u8>, Fault> {
+    match word.parse::<usize>() {
+        Ok(len) if len <= MAX_LEN => Ok(vec![in alloc; 0; len]?),
+        _ => Err(Fault::BadLine),
+    }
+}
+
+/// A hash by its name.
+pub fn hash_in(word: &str) -> Result<Hash, Fault> {
+    match word {
+        "SHA256" => Ok(Hash::Sha256),
+        "SHA384" => Ok(Hash::Sha384),
+        _ => Err(Fault::BadLine),
+    }
+}
+
+/// The scheme of a word.
+pub fn scheme_in(word: &str) -> Result<Scheme, Fault> {
+    Scheme::named(word).ok_or(Fault::BadLine)
+}
+
+/// The bytes of a text: the word itself, or hex digits behind `hex:`.
+pub fn text_in(alloc: Global, word: &str) -> Result<Vec<u8>, Fault> {
+    match word.strip_prefix("hex:") {
+        Some(digits) => bytes_in(alloc, digits),
+        None => copy_of(alloc, word.as_bytes()),
+    }
+}
+
+/// An iteration count.
+pub fn count_in(word: &str) -> Result<NonZeroU32, Fault> {
+    match word.parse::<u32>() {
+        Ok(count) => NonZeroU32::new(count).ok_or(Fault::BadLine),
+        Err(_) => Err(Fault::BadLine),
+    }
+}
+
+/// The bytes as a line: themselves if they are UTF-8, as those of each text are whose salt is.
+pub fn line_of(alloc: Global, bytes: &[u8]) -> Result<String, Fault> {
+    match std::str::from_utf8(bytes) {
+        Ok(text) => Ok(String::from_str(alloc, text)?),
+        Err(_) => {
+            let digits = hex::encode(alloc, bytes)?;
+            Ok(format!(in alloc; "hex:{digits}")?)
+        }
+    }
+}
+
+/// A copy of the bytes.
+pub fn copy_of(alloc: Global, bytes: &[u8]) -> Result<Vec<u8>, Fault> {
+    Ok(Vec::from_slice(alloc, bytes)?)
+}
+
+/// The bytes in hex; `-` for none.
+pub fn digits_of(alloc: Global, bytes: &[u8]) -> Result<String, Fault> {
+    match bytes {
+        [] => Ok(String::from_str(alloc, "-")?),
+        bytes => Ok(hex::encode(alloc, bytes)?),
+    }
+}

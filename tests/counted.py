@@ -7,13 +7,8 @@ once, however many of its subtests fail.
 
 import concurrent.futures
 import io
-import os
-import pathlib
-import subprocess
 import sys
 import unittest
-
-ROOT = pathlib.Path(__file__).resolve().parent.parent
 
 
 class Result(unittest.TextTestResult):
@@ -72,22 +67,6 @@ def run_answered(cases):
         print(f"{'FAILED' if found else 'ok'}: {case.__doc__}", flush=True)
         passed, failed = passed + (not found), failed + bool(found)
     return passed, failed, skipped
-
-
-def built(crate, *command):
-    """The path of a crate's program, which the command builds where it is missing or older than a
-    source. Where it can't be built, the test ends."""
-    run = subprocess.run([ROOT / "tools/built", crate, *command], stdout=subprocess.PIPE, text=True)
-    if run.returncode:
-        end_unbuilt()
-    return run.stdout.strip()
-
-
-def end_unbuilt():
-    """Ends a test whose program could not be built."""
-    sys.stdout.flush()
-    unbuilt, name = ROOT / "tests/unbuilt", pathlib.Path(sys.argv[0]).resolve()
-    os.execv(unbuilt, [unbuilt, name.relative_to(ROOT)])
 
 
 def report(passed, failed, skipped):

@@ -2,24 +2,19 @@
 # SPDX-License-Identifier: ISC
 """How ./bench ends where the system refuses it something, which no contract sees.
 
-Loads failing_parts.c into the built program. Over one text of all kinds of lines each request for
-memory is refused in turn, until a run ends with none refused, and each read and each write fails in
-turn. Over many short lines it counts the writes, and fails some calls in mid-stream. The last line
-is 'N passed, M failed', or 'N passed, M failed, K skipped' where there is no C compiler.
+Loads preload.c into the built program. Over one text of all kinds of lines each request for memory
+is refused in turn, until a run ends with none refused, and each read and each write fails in turn.
+Over many short lines it counts the writes, and fails some calls in mid-stream. The last line is
+'N passed, M failed', or 'N passed, M failed, K skipped' where there is no C compiler.
 """
 
-import os
-import pathlib
-import shutil
-import subprocess
+import functools
 import sys
 import tempfile
 
 sys.dont_write_bytecode = True
 import counted
-
-ROOT = pathlib.Path(__file__).resolve().parent.parent
-BENCH = ROOT / "crates/ring_bench_main/out/ring_bench_main"
+import run as programs
 
 # Lines and their answers, as vectors/ has them with their sources; the last line has no line feed.
 TAG = b"b0344c61d8db38535ca8afceaf0bf12b881dc200c9833da726e9376c2e32cff7"
@@ -60,26 +55,15 @@ MOST_REQUESTS = 1000
 class Run:
     """A run of the program with the library loaded: its end, its output and its calls' counts."""
 
-    def __init__(self, library, text, **failing):
-        source, sink = os.pipe()
-        settings = {name: str(value) for name, value in failing.items()}
+    def __init__(self, preload, text, **failing):
+        bench = programs.built("ring_bench_main")
         with tempfile.TemporaryFile() as file:  # of a pipe a read gives what has come
             file.write(text)
             file.seek(0)
-            ended = subprocess.run(
-                [BENCH],
-                stdin=file,
-                capture_output=True,
-                pass_fds=[sink],
-                timeout=60,
-                env={"LD_PRELOAD": str(library), "REPORT_TO": str(sink), **settings},
-            )
-        os.close(sink)
-        with os.fdopen(source) as report:
-            counts = [int(count) for count in report.read().split()]
-        self.requests, self.refusals, self.reads, self.writes = counts
-        self.ending = (ended.returncode, ended.stderr)
-        self.output = ended.stdout
+            run = functools.partial(programs.ended, bench, stdin=file, timeout=60)
+            (status, self.output, error), calls, self.requests = preload.watched(run, **failing)
+        self.ending = (status, error)
+        self.reads, self.writes = calls.count("read"), calls.count("write")
 
 
 def first_answers(output):
@@ -88,12 +72,12 @@ def first_answers(output):
     return counts[0] if counts else None
 
 
-def wants_memory(library):
+def wants_memory(preload):
     """Each request refused in turn: whole answers of the first lines, of ever more lines."""
     seen = []
     for request in range(1, MOST_REQUESTS):
-        run = Run(library, TEXT, REFUSED_REQUEST=request)
-        if run.refusals == 0:
+        run = Run(preload, TEXT, REFUSED_REQUEST=request)
+        if run.requests < request:
             whole = (run.ending, run.output) == (WELL, ALL) and run.requests == request - 1
             return whole and sorted(set(seen)) == list(range(len(ROWS))) and seen == sorted(seen)
         if (run.ending, run.output) == (WELL, ALL):
@@ -106,45 +90,45 @@ def wants_memory(library):
     return False
 
 
-def fails_to_read(library):
+def fails_to_read(preload):
     """Each read of a byte failed in turn: the answers to the lines that were ended before it."""
     for given in range(len(TEXT) + 1):
-        run = Run(library, TEXT, STEP=1, FAILED_READ=given + 1)
+        run = Run(preload, TEXT, STEP=1, COUNTED="read", FAILED_CALL=given + 1)
         ended = TEXT[:given].count(b"\n")
         if run.reads != given + 1 or run.ending != READ or run.output != b"".join(ANSWERS[:ended]):
             print(f"  read {given + 1}: {run.ending}, {run.output}")
             return False
-    run = Run(library, TEXT, STEP=1)
+    run = Run(preload, TEXT, STEP=1)
     return (run.reads, run.ending, run.output) == (len(TEXT) + 1, WELL, ALL)
 
 
-def fails_to_write(library):
+def fails_to_write(preload):
     """Each write of a byte failed in turn, and then taking none: what was taken before it."""
-    for way in ("FAILED_WRITE", "EMPTY_WRITE"):
+    for way in ("FAILED_CALL", "EMPTY_WRITE"):
         for taken in range(len(ALL)):
-            run = Run(library, TEXT, STEP=1, **{way: taken + 1})
+            run = Run(preload, TEXT, STEP=1, COUNTED="write", **{way: taken + 1})
             if run.writes != taken + 1 or run.ending != WRITE or run.output != ALL[:taken]:
                 print(f"  write {taken + 1}: {run.ending}, {run.output}")
                 return False
     return True
 
 
-def is_interrupted(library):
+def is_interrupted(preload):
     """Reads and writes that are interrupted are tried again."""
-    run = Run(library, TEXT, STEP=7, INTERRUPTED_EVERY=3)
+    run = Run(preload, TEXT, STEP=7, COUNTED="read write", INTERRUPTED_EVERY=3)
     return (run.ending, run.output) == (WELL, ALL)
 
 
-def gathers_answers(library):
+def gathers_answers(preload):
     """Of 20,000 short lines many answers are one write."""
-    run = Run(library, MANY_TEXT)
+    run = Run(preload, MANY_TEXT)
     return (run.ending, run.output) == (WELL, ANSWERS[0] * MANY) and run.writes <= MOST_WRITES
 
 
-def reads_fail_in_mid_stream(library):
+def reads_fail_in_mid_stream(preload):
     """A read fails behind many lines: the answers to all that were ended before it."""
     for read in (2, 3, 100, MANY // LINES_A_READ + 1):
-        run = Run(library, MANY_TEXT, STEP=STEP, FAILED_READ=read)
+        run = Run(preload, MANY_TEXT, STEP=STEP, COUNTED="read", FAILED_CALL=read)
         answers = ANSWERS[0] * (LINES_A_READ * (read - 1))
         if (run.reads, run.ending, run.output) != (read, READ, answers):
             print(f"  read {read}: {run.ending}, {len(run.output)} bytes")
@@ -152,13 +136,13 @@ def reads_fail_in_mid_stream(library):
     return True
 
 
-def writes_fail_in_mid_stream(library):
+def writes_fail_in_mid_stream(preload):
     """A write fails behind many lines, or takes none: what was taken before it, and no more."""
     answers = ANSWERS[0] * LINES_A_READ
     takes = [len(answers[at : at + STEP]) for at in range(0, len(answers), STEP)]
-    for way in ("FAILED_WRITE", "EMPTY_WRITE"):
+    for way in ("FAILED_CALL", "EMPTY_WRITE"):
         for write in (1, 2, len(takes), len(takes) + 1, 100 * len(takes) + 3):
-            run = Run(library, MANY_TEXT, STEP=STEP, **{way: write})
+            run = Run(preload, MANY_TEXT, STEP=STEP, COUNTED="write", **{way: write})
             whole, rest = divmod(write - 1, len(takes))
             taken = whole * len(answers) + sum(takes[:rest])
             output = (ANSWERS[0] * MANY)[:taken]
@@ -168,19 +152,19 @@ def writes_fail_in_mid_stream(library):
     return True
 
 
-def wants_memory_in_mid_stream(library):
+def wants_memory_in_mid_stream(preload):
     """Memory runs out after many lines: as many answers as where each line is read by itself."""
-    half = Run(library, MANY_TEXT).requests // 2
-    run = Run(library, MANY_TEXT, REFUSED_REQUEST=half)
-    alone = Run(library, MANY_TEXT, REFUSED_REQUEST=half, STEP=STEP // LINES_A_READ)
+    half = Run(preload, MANY_TEXT).requests // 2
+    run = Run(preload, MANY_TEXT, REFUSED_REQUEST=half)
+    alone = Run(preload, MANY_TEXT, REFUSED_REQUEST=half, STEP=STEP // LINES_A_READ)
     answered = len(run.output) // len(ANSWERS[0])
     whole = run.output == ANSWERS[0] * answered and MANY // 3 < answered < MANY * 2 // 3
     return whole and run.ending == MEMORY and (alone.ending, alone.output) == (MEMORY, run.output)
 
 
-def empty_text(library):
+def empty_text(preload):
     """The empty text takes no memory, and nothing is written."""
-    run = Run(library, b"", REFUSED_REQUEST=1)
+    run = Run(preload, b"", REFUSED_REQUEST=1)
     return (run.requests, run.writes, run.ending, run.output) == (0, 0, WELL, b"")
 
 
@@ -197,31 +181,19 @@ CASES = [
 ]
 
 
-def is_built():
-    """Builds the program, where it is missing or older than a source."""
-    return subprocess.run([ROOT / "bench"], stdin=subprocess.DEVNULL, timeout=3600).returncode == 0
-
-
 def main():
-    compiler = shutil.which("cc") or shutil.which("gcc") or shutil.which("clang")
-    if not compiler:
-        print("left out: each request, read and write that fails in turn, without a C compiler")
-        print(f"0 passed, 0 failed, {len(CASES)} skipped")
-        return 0
-    passed = 0
+    programs.built("ring_bench_main")
+    passed = failed = 0
     with tempfile.TemporaryDirectory() as folder:
-        library = pathlib.Path(folder) / "failing_parts.so"
-        source = pathlib.Path(__file__).with_suffix(".c")
-        command = [compiler, "-O1", "-shared", "-fPIC", "-o", library, source, "-ldl"]
-        if not is_built():
-            counted.end_unbuilt()
-        if subprocess.run(command).returncode == 0:
-            for case in CASES:
-                holds = case(library)
-                print(f"{'ok' if holds else 'FAILED'}: {case.__doc__}")
-                passed += holds
-    print(f"{passed} passed, {len(CASES) - passed} failed")
-    return passed != len(CASES)
+        preload = programs.COMPILER and programs.Preload(folder)
+        if not preload:
+            print("left out: each request, read and write that fails in turn, without a C compiler")
+            return counted.report(0, 0, len(CASES))
+        for case in CASES:
+            holds = case(preload)
+            print(f"{'ok' if holds else 'FAILED'}: {case.__doc__}")
+            passed, failed = passed + holds, failed + (not holds)
+    return counted.report(passed, failed, 0)
 
 
 if __name__ == "__main__":

@@ -30,8 +30,8 @@ import tempfile
 
 sys.dont_write_bytecode = True
 import counted
+from run import COMPILER, ROOT, Preload, answers, differing, file_case, over_lines, rows_of
 
-ROOT = pathlib.Path(__file__).resolve().parent.parent
 VECTORS = ROOT / "vectors/password_hashes"
 REFUSED = "not a password hash"
 TOO_MANY = "too many iterations"
@@ -43,34 +43,6 @@ PASSWORDS = [
 AMPLE_LIMIT = 1_000_000
 # A longer text is of no scheme.
 MAX_TEXT_LEN = 1024
-
-
-def run_over(lines, seconds=600, **settings):
-    """A run of the program over lines, and its answers."""
-    program = counted.built("ring_lines_main", "rt", "run")
-    text = "".join(f"{line}\n" for line in lines).encode()
-    settings |= {"input": text, "stdout": subprocess.PIPE, "timeout": seconds}
-    run = subprocess.run([program], **settings)
-    return run, run.stdout.decode().split("\n")[:-1]
-
-
-def answers(lines):
-    """The program's answers."""
-    return run_over(lines)[1]
-
-
-def differing(wanted):
-    """Of pairs of a line and its answer: those that the program answers otherwise."""
-    found = answers([line for line, _ in wanted])
-    if not wanted or len(found) != len(wanted):
-        return [("", f"{len(found)} answers to {len(wanted)} lines")]
-    return [(line, answer) for (line, want), answer in zip(wanted, found) if want != answer]
-
-
-def rows_of(file):
-    """The lines of a file of vectors, each with its answer."""
-    lines = [it for it in file.read_text().split("\n") if it and not it.startswith("# ")]
-    return [(line, answer.partition("#= ")[2]) for line, answer in zip(lines[::2], lines[1::2])]
 
 
 def digits(data):
@@ -277,9 +249,7 @@ def great_counts_cost_nothing():
             (f"verify {text} {digits(PASSWORD)} {2**32 - 2}", TOO_MANY),
         ]
     # A derivation of so many takes a quarter of an hour.
-    found = run_over([line for line, _ in wanted], seconds=60)[1]
-    return [row for row, answer in zip(wanted, found) if row[1] != answer] \
-        + [("", "too few answers")] * (len(found) != len(wanted))
+    return differing(wanted, timeout=60)
 
 
 # --- broken texts ---
@@ -419,20 +389,9 @@ def proof_and_signature():
     return [] if is_proof and is_signature else [("RFC 7677, section 3", answer)]
 
 
-# --- requests for memory, of which tests/failing_parts.c refuses one ---
+# --- requests for memory, of which one is refused ---
 
 NO_MEMORY = "out of memory"
-
-
-def run_short_of_memory(library, lines, request):
-    """A run in which a request is refused: its status, its answers, and whether there was one."""
-    with tempfile.TemporaryFile() as report:
-        env = {"LD_PRELOAD": str(library), "REFUSED_REQUEST": str(request)}
-        env |= {"REPORT_TO": str(report.fileno()), "PATH": os.environ["PATH"]}
-        run, found = run_over(lines, env=env, pass_fds=[report.fileno()], stderr=subprocess.DEVNULL)
-        report.seek(0)
-        _, refusals, *_ = map(int, report.read().split())
-    return run.returncode, found, refusals != 0
 
 
 def fault_of(status, found, wanted):
@@ -451,14 +410,11 @@ def each_request_is_refused():
     rows = [row for file in files for row in rows_of(file)][:12]
     lines, wanted = zip(*rows)
     with tempfile.TemporaryDirectory() as folder:
-        library = pathlib.Path(folder) / "failing_parts.so"
-        source = ROOT / "tests/failing_parts.c"
-        command = ["cc", "-O1", "-shared", "-fPIC", "-o", library, source, "-ldl"]
-        subprocess.run(command, check=True)
+        preload, run = Preload(folder), functools.partial(over_lines, lines)
         wrong, told = [], set()
         for request in itertools.count(1):
-            status, found, is_refused = run_short_of_memory(library, lines, request)
-            if not is_refused:
+            (status, found), _, made = preload.watched(run, REFUSED_REQUEST=request)
+            if made < request:
                 break
             told |= {at for at, answer in enumerate(found) if answer == NO_MEMORY}
             fault = fault_of(status, found, wanted)
@@ -743,16 +699,6 @@ def with_postgres():
             server.stop()
 
 
-def file_case(file):
-    """A file of vectors."""
-
-    def run():
-        return differing(rows_of(file))
-
-    run.__doc__ = f"the lines of vectors/password_hashes/{file.name}"
-    return run
-
-
 ONE_BY_ONE = (proof_and_signature, are_as_hashlib, great_counts_cost_nothing)
 
 
@@ -762,7 +708,7 @@ def cases():
     yield from ((file_case(file), "") for file in files)
     yield from ((case, "") for case in ONE_BY_ONE)
     yield from ((broken_case(scheme), "") for scheme in SCHEMES)
-    yield each_request_is_refused, "" if shutil.which("cc") else "cc"
+    yield each_request_is_refused, "" if COMPILER else "a C compiler"
     for module in PEERS:
         missing = "" if python_with(module) else module
         yield with_module(module), missing

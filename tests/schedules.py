@@ -29,30 +29,14 @@ sys.dont_write_bytecode = True
 sys.path.append(str(pathlib.Path(__file__).resolve().parent.parent / "tools"))
 import counted
 import rfc8448
+from run import ROOT, differing, file_case
 
-ROOT = pathlib.Path(__file__).resolve().parent.parent
 HASHES = {"SHA256": "sha256", "SHA384": "sha384"}
 SUITES = {"SHA256": "TLS_AES_128_GCM_SHA256", "SHA384": "TLS_AES_256_GCM_SHA384"}
 EXPORTED = ("EXPORTER-test", 40)
 # The texts of the RFCs, of Debian's packages doc-rfc-informational and doc-rfc-std-proposed.
 NAMES = ("informational/rfc8448", "proposed-standard/rfc9001", "proposed-standard/rfc9369")
 TEXTS = {name: pathlib.Path(f"/usr/share/doc/RFC/{name}.txt.gz") for name in NAMES}
-
-
-def answers(lines):
-    """The program's answers."""
-    program = counted.built("ring_lines_main", "rt", "run")
-    text = "".join(f"{line}\n" for line in lines).encode()
-    run = subprocess.run([program], input=text, stdout=subprocess.PIPE, timeout=600)
-    return run.stdout.decode().split("\n")[:-1]
-
-
-def differing(wanted):
-    """Of pairs of a line and its answer: those that the program answers otherwise."""
-    found = answers([line for line, _ in wanted])
-    if not wanted or len(found) != len(wanted):
-        return [("", f"{len(found)} answers to {len(wanted)} lines")]
-    return [(line, answer) for (line, want), answer in zip(wanted, found) if want != answer]
 
 
 def digits(data):
@@ -526,18 +510,6 @@ def with_peer(case, name):
             return case(pathlib.Path(folder), name)
 
     run.__doc__ = f"{name}: {case.__doc__}"
-    return run
-
-
-def file_case(file):
-    """A file of vectors."""
-
-    def run():
-        rows = [it for it in file.read_text().split("\n") if it and not it.startswith("# ")]
-        pairs = zip(rows[::2], rows[1::2])
-        return differing([(line, answer.partition("#= ")[2]) for line, answer in pairs])
-
-    run.__doc__ = f"the lines of vectors/schedules/{file.name}"
     return run
 
 

@@ -12,15 +12,12 @@ import hashlib
 import os
 import pathlib
 import re
-import subprocess
 import sys
 import tempfile
 
 sys.dont_write_bytecode = True
 import counted
-
-ROOT = pathlib.Path(__file__).resolve().parent.parent
-PASSWORDS = ROOT / "passwords"
+import run as programs
 
 HEAD = re.compile(rb"ring_store 1 ([0-9a-f]{32}) ([1-9][0-9]*)")
 RECORD = re.compile(rb"((?:[0-9a-f]{2}){1,64}) ([1-9][0-9]*) ([0-9a-f]{64})")
@@ -76,9 +73,8 @@ ROWS = [
 
 def runs(file, action, name, password, *options):
     """The status of a run of the program."""
-    command = [PASSWORDS, file, action, name, *options]
-    settings = {"stderr": subprocess.DEVNULL, "timeout": 3600}
-    return subprocess.run(command, input=password + b"\n", **settings).returncode
+    words = (programs.ROOT / "passwords", file, action, name, *options)
+    return programs.ended(*words, given=password + b"\n", timeout=3600)[0]
 
 
 def written(folder):
@@ -138,9 +134,7 @@ def program_writes_back(folder):
 
 
 def main():
-    # Over no words the program says how it is used.
-    if subprocess.run([PASSWORDS], stderr=subprocess.DEVNULL, timeout=3600).returncode != 2:
-        counted.end_unbuilt()
+    programs.built("ring_passwords")
     passed = failed = 0
     with tempfile.TemporaryDirectory(prefix="store_text.") as folder:
         text = written(folder)
@@ -149,8 +143,7 @@ def main():
             holds = bool(text) and case(given)
             print(f"{'ok' if holds else 'FAILED'}: {case.__doc__}", flush=True)
             passed, failed = passed + holds, failed + (not holds)
-    print(f"{passed} passed, {failed} failed")
-    return failed != 0
+    return counted.report(passed, failed, 0)
 
 
 if __name__ == "__main__":

@@ -3,7 +3,7 @@
 """What ./passwords does with its file, its arguments and its input: each status and each message.
 
 Runs the built program in folders of its own: over broken files, with a full disk, in a folder that
-can't be written, with several processes at once, and with some that are killed. calls.c is
+can't be written, with several processes at once, and with some that are killed. preload.c is
 loaded into it so that each system call that changes a file fails in turn, and is the last in turn.
 The launcher is run on terminals, with a shell and without one. `encode` and `check` are held beside
 hashlib, Django, Werkzeug, passlib and PostgreSQL.
@@ -15,7 +15,6 @@ missing.
 """
 
 import pathlib
-import subprocess
 import sys
 
 sys.dont_write_bytecode = True
@@ -23,10 +22,10 @@ sys.path.append(str(pathlib.Path(__file__).resolve().parents[1]))
 import counted
 import failures
 import files
-import harness
 import launcher
 import locks
 import other_systems
+import run as programs
 import statuses
 import terminal
 import texts
@@ -41,15 +40,8 @@ CASES = [
 BESIDE = [locks.GivenUp, statuses.LongDerivation]
 
 
-def is_built():
-    """Builds the program, where it is missing or older than a source."""
-    settings = {"stdin": subprocess.DEVNULL, "stderr": subprocess.DEVNULL, "timeout": 3600}
-    return subprocess.run([harness.LAUNCHER], **settings).returncode == 2
-
-
 def main():
-    if not is_built():
-        counted.end_unbuilt()
+    programs.built("ring_passwords")
     asked = sys.argv[1:]
     beside, tests = (counted.suite(cases, asked) for cases in (BESIDE, CASES))
     return counted.report(*counted.run_beside(beside, tests))

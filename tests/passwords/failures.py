@@ -2,15 +2,15 @@
 """What ./passwords does where the system refuses it something: room, memory, or a call."""
 
 import contextlib
+import functools
 import os
-import pathlib
 import resource
 import signal
 import subprocess
 
-from harness import (
-    DONE, FEW, IS_FOLDER, NO_MEMORY, NO_SPACE, PROGRAM, Case, Folder, limit, memory_limit, of_file,
-    text_of, told,
+from store import (
+    DENIED, DONE, FEW, IS_FOLDER, NO_MEMORY, NO_SPACE, Case, Folder, bare, limit, memory_limit,
+    of_file, text_of,
 )
 
 
@@ -62,20 +62,16 @@ class Room(Case):
         """Where the names can't be written, the status says so."""
         it = self.new_folder()
         it.set("a", b"x")
-        settings = {"stdout": self.full_device(), "stderr": subprocess.PIPE, "timeout": 60}
-        ended = subprocess.run([PROGRAM, it.file, "list"], **settings)
-        wanted = (2, f"cannot write the names: {NO_SPACE}")
-        self.assertEqual((ended.returncode, told(ended.stderr)), wanted)
+        ended = bare(it.file, "list", stdout=self.full_device(), timeout=60)
+        self.assertEqual(ended[:2], (2, f"cannot write the names: {NO_SPACE}"))
 
     def test_a_folder_as_input(self):
         """A folder as standard input holds no password."""
         it = self.new_folder()
         source = os.open(it.path, os.O_RDONLY)
         self.addCleanup(os.close, source)
-        settings = {"stdin": source, "capture_output": True, "timeout": 60}
-        ended = subprocess.run([PROGRAM, it.file, "set", "a"], **settings)
-        wanted = (2, f"cannot read the password: {IS_FOLDER}")
-        self.assertEqual((ended.returncode, told(ended.stderr)), wanted)
+        ended = bare(it.file, "set", "a", stdin=source, timeout=60)
+        self.assertEqual(ended[:2], (2, f"cannot read the password: {IS_FOLDER}"))
         it.is_empty()
 
     def test_little_memory_for_a_password(self):
@@ -104,16 +100,8 @@ class Room(Case):
         self.assertEqual(ended, DONE)
 
 
-def library_of(case):
-    """Compiles calls.c, the library that fails or ends a run at a system call."""
-    compiler = case.tool("cc", "gcc", "clang")
-    library = case.new_path() / "calls.so"
-    source = pathlib.Path(__file__).with_name("calls.c")
-    flags = ["-O1", "-shared", "-fPIC"]
-    subprocess.run([compiler, *flags, "-o", library, source, "-ldl"], check=True)
-    return library
-
-
+# The calls that change files, and what they take.
+COUNTED = "open flock getentropy unlink write fchmod fsync rename"
 NEW_FILE = [
     "open", "flock", "getentropy", "open", "unlink", "open", "write", "fsync", "rename", "fsync",
 ]
@@ -150,7 +138,7 @@ class Calls(Case):
     """For a new file, a change and a removal: each call fails, or is the last."""
 
     def setUp(self):
-        self.library = library_of(self)
+        self.preload = self.new_preload()
 
     def in_turn(self, holds, only=None):
         """Tries what a test says for each call of each run, or for those of one name."""
@@ -166,13 +154,9 @@ class Calls(Case):
 
     def run_with(self, folder, *words, **asked):
         """How a run with the library ends, and the calls that it made."""
-        source, sink = os.pipe()
-        environment = {"LD_PRELOAD": str(self.library), "REPORT_TO": str(sink)}
-        environment |= {name: str(value) for name, value in asked.items()}
-        ended, _ = folder.run(*words, password=b"y", pass_fds=[sink], env=environment)
-        os.close(sink)
-        with os.fdopen(source) as report:
-            return ended, report.read().split()
+        run = functools.partial(folder.run, *words, password=b"y")
+        (ended, _), made, _ = self.preload.watched(run, COUNTED=COUNTED, **asked)
+        return ended, made
 
     def assert_old_or_new(self, it, text, after, is_replaced):
         """The file is the old one byte for byte, or none; or it has the names of the new one."""
@@ -193,8 +177,8 @@ class Calls(Case):
         def holds(it, words, names, number, after):
             text = text_in(it)
             ended, made = self.run_with(it, *words, FAILED_CALL=number)
-            wanted = f"{refused_step(it.file, names, number)}: {NO_SPACE}"
-            self.assertEqual(ended, (2, wanted))
+            reason = DENIED if names[number - 1] == "open" else NO_SPACE
+            self.assertEqual(ended, (2, f"{refused_step(it.file, names, number)}: {reason}"))
             self.assertEqual(made[:number], names[:number])
             self.assertEqual(it.beside(), set())
             self.assert_old_or_new(it, text, after, number == len(names))
@@ -221,7 +205,7 @@ class Calls(Case):
 
         def holds(it, words, names, number, after):
             text = text_in(it)
-            ended, _ = self.run_with(it, *words, TORN_CALL=number)
+            ended, _ = self.run_with(it, *words, TORN_WRITE=number)
             self.assertEqual(ended[0], -signal.SIGKILL)
             self.assertGreater((it.path / "store.new").stat().st_size, 0)
             self.assert_old_or_new(it, text, after, False)

@@ -5,7 +5,7 @@ import itertools
 import os
 import stat
 
-from harness import (
+from store import (
     BROKEN, DENIED, DONE, FEW, NOBODY, NO_FOLDER, Case, Folder, as_nobody, head_line, of_file,
     program_for_nobody, record_line, text_of,
 )

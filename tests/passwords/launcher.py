@@ -8,7 +8,7 @@ import shutil
 import subprocess
 import time
 
-from harness import COMMANDS, DONE, LAUNCHER, PROGRAM, ROOT, WRONG, Case, bare, of_file, told
+from store import COMMANDS, DONE, LAUNCHER, PROGRAM, ROOT, WRONG, Case, bare, of_file, told
 
 
 class Launcher(Case):

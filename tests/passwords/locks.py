@@ -7,7 +7,7 @@ import random
 import subprocess
 import time
 
-from harness import DONE, FEW, Case, held_lock
+from store import DONE, FEW, Case, held_lock
 
 
 class Together(Case):

@@ -2,7 +2,7 @@
 """Texts of `encode` and `check` beside Django, Werkzeug, passlib and PostgreSQL."""
 
 import password_hashes as hashes
-from harness import Case, bare
+from store import Case, bare
 from texts import OTHER_PASSWORD, SCHEMES, VERIFIED, check
 
 

@@ -7,7 +7,7 @@ import resource
 import signal
 import subprocess
 
-from harness import (
+from store import (
     BAD_NAME, COMMANDS, DONE, FEW, GREATEST_COUNT, NO_NAME, NO_PASSWORD, NO_SPACE, PROGRAM, USAGE,
     WARNED, Case, bad_count, bare, exit_status, head_line, limit, no_count, of_file, one_too_many,
     text_of,

@@ -12,7 +12,7 @@ import signal
 import termios
 import time
 
-from harness import (
+from store import (
     BAD_NAME, BROKEN, FEW, LAUNCHER, NO_FOLDER, PROGRAM, Case, Folder, bad_count, exit_status,
     held_lock, of_file, one_too_many,
 )

@@ -6,8 +6,8 @@ import os
 import time
 
 import password_hashes as hashes
-from failures import library_of
-from harness import (
+from run import rows_of
+from store import (
     COMMANDS, DONE, FEW, GREATEST_COUNT, IS_FOLDER, LAUNCHER, NO_MEMORY, NO_PASSWORD, NO_SPACE,
     ROOT, WARNED, Case, bad_count, bare, memory_limit, no_count, one_too_many,
 )
@@ -121,10 +121,7 @@ class Written(Case):
 def vectors():
     """Each line of vectors/password_hashes, as words, with its answer."""
     for file in sorted((ROOT / "vectors/password_hashes").glob("*.txt")):
-        lines = file.read_text().split("\n")
-        rows = [line for line in lines if line and not line.startswith("# ")]
-        for line, answer in zip(rows[::2], rows[1::2]):
-            yield line.split(" "), answer.removeprefix("#= ")
+        yield from ((line.split(" "), answer) for line, answer in rows_of(file))
 
 
 def with_iterations(text, count):
@@ -201,7 +198,7 @@ class Failing(Case):
         self.assertEqual(found, (2, f"cannot read the password: {IS_FOLDER}", b""))
         found = bare("check", stdin=source)
         self.assertEqual(found, (2, f"cannot read the text: {IS_FOLDER}", b""))
-        environment = {"LD_PRELOAD": str(library_of(self)), "FAILED_CALL": "1"}
+        environment = self.new_preload().environment(COUNTED="getentropy", FAILED_CALL=1)
         found = bare(*self.ENCODE, line=b"x", env=environment)
         self.assertEqual(found, (2, f"cannot get random bytes: {NO_SPACE}", b""))
         text, long = hashes.made("mosquitto", 1, b"salt", b"x"), b"x" * (72 << 20)

@@ -6,7 +6,7 @@ Generated cases run each build and coreutils' `sha1sum`, `sha256sum`, `sha384sum
 one folder, under one name and with the same words: files with all kinds of names, lists that are
 whole and lists that are broken, and options in all orders. Standard output, standard error and
 status are to be the same byte for byte, but that a check escapes names as coreutils 9.7 do. Further
-tests have no second source but `hashlib`. calls.c is loaded into the program so that each system
+tests have no second source but `hashlib`. preload.c is loaded into the program so that each system
 call fails in turn, so that a file changes while it is read, and so that the clock goes on by equal
 steps.
 
@@ -18,7 +18,6 @@ tool, or AVX2 for the wide build. Each generated case counts as one.
 """
 
 import pathlib
-import subprocess
 import sys
 
 sys.dont_write_bytecode = True
@@ -27,37 +26,26 @@ import alone
 import counted
 import failing
 import generated
-import harness
 import launcher
+import lists
 import progress
+import run as programs
 import speed
 
 CASES = [generated.BesideCoreutils, alone.Alone, failing.Failing, launcher.Launcher,
          progress.Progress]
 
 
-def is_built():
-    """Builds both programs, where they are missing or older than a source."""
-    built = harness.ROOT / "tools/built"
-    options = {"ring_sums_main": [], "ring_sums_wide": ["--cpu=x86-64-v3"]}
-    for program in harness.BUILDS:
-        command = [built, program.name, "rt", "run", *options[program.name], "--", "--version"]
-        if subprocess.run(command, stdout=subprocess.DEVNULL, timeout=3600).returncode != 0:
-            return False
-    return True
-
-
 def main():
     asked = sys.argv[1:]
-    if not is_built():
-        print("The programs are not built.")
-        return counted.report(0, 1, 0)
+    for build in lists.BUILDS:
+        programs.built(build.name)
     if asked == ["--speed"]:
         speed.speed()
         return 0
     result = counted.run(counted.suite(CASES, asked), sys.stdout)
     passed, failed, skipped = result.counts()
-    if harness.WIDE not in harness.BUILDS:
+    if lists.WIDE not in lists.BUILDS:
         print("left out: the wide build, without AVX2")
         skipped += 1
     return counted.report(passed + generated.BesideCoreutils.count, failed, skipped)

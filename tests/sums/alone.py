@@ -6,22 +6,19 @@ import pathlib
 import re
 import select
 import subprocess
-import tempfile
 import threading
-import unittest
 
-from harness import BUILDS, ENVIRONMENT, LAUNCHER, ROOT, TAGS, TIMEOUT, digest_of, line_of, run
+from lists import BUILDS, ENVIRONMENT, LAUNCHER, TAGS, TIMEOUT, digest_of, line_of, run
+from run import ROOT, Case
 
 
-class Alone(unittest.TestCase):
+class Alone(Case):
     """What has no second source but `hashlib`."""
 
     longMessage = False
 
     def setUp(self):
-        self.room = tempfile.TemporaryDirectory()
-        self.addCleanup(self.room.cleanup)
-        self.path = pathlib.Path(self.room.name)
+        self.path = self.new_path()
 
     def run_all(self, words, given=b"", name="sums", **settings):
         """What all builds do alike."""

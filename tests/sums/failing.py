@@ -1,33 +1,27 @@
 # SPDX-License-Identifier: ISC
 """What the system refuses a run, call by call."""
 
+import functools
 import os
-import pathlib
-import shutil
-import tempfile
-import unittest
 
-from harness import BUILDS, calls_in, digest_of, run
+from lists import BUILDS, digest_of, run
+from run import Case
 
-# What calls.c counts, by the word that has one of them fail.
-COUNTED = ("FAILED_CALL", "FAILED_READ", "REFUSED_REQUEST")
+# The calls of which one fails.
+COUNTED = "open statx getdents64 read write"
 # What is said where a run ends at once.
 AT_ONCE = (b"sums: memory exhausted\n", b"sums: write error\n")
 
 
-class Failing(unittest.TestCase):
+class Failing(Case):
     """Each call of the system fails in turn."""
 
     longMessage = False
     NAMES = ["x", "long name", "z"]
 
     def setUp(self):
-        if shutil.which("cc") is None:
-            self.skipTest("a C compiler")
-        self.room = tempfile.TemporaryDirectory()
-        self.addCleanup(self.room.cleanup)
-        self.path = pathlib.Path(self.room.name)
-        self.library = calls_in(self.path)
+        self.preload = self.new_preload()
+        self.path = self.new_path()
         self.lines = []
         for name in self.NAMES:
             content = name.encode() * 40_000
@@ -35,17 +29,12 @@ class Failing(unittest.TestCase):
             self.lines.append(digest_of("sha256", content) + b"  " + name.encode() + b"\n")
         (self.path / "list").write_bytes(b"".join(self.lines))
 
-    def run_with(self, build, words, **failing):
-        """A run with the library loaded: how it ends, and its calls, reads and requests."""
-        source, sink = os.pipe()
-        environment = {"LD_PRELOAD": str(self.library), "REPORT_TO": str(sink)}
-        environment |= {name: str(value) for name, value in failing.items()}
-        found = run(build, words, self.path, pass_fds=[sink], environment=environment)
-        os.close(sink)
-        with os.fdopen(source) as report:
-            counts = [int(it) for it in report.read().split()]
-        self.assertEqual(len(counts), len(COUNTED), f"{self.library} is not loaded: {found}")
-        return found, dict(zip(COUNTED, counts))
+    def run_with(self, build, words, counted=COUNTED, **failing):
+        """A run with the library loaded: how it ends, and its counted calls and requests."""
+        run_by = functools.partial(run, build, words, self.path)
+        found, calls, requests = self.preload.watched(run_by, COUNTED=counted, **failing)
+        self.assertIsNotNone(requests, f"the library is not loaded: {found}")
+        return found, {"FAILED_CALL": len(calls), "REFUSED_REQUEST": requests}
 
     def in_turn(self, which, words, holds):
         """Fails each call or request in turn: a run is whole, or honest with status 1."""
@@ -132,14 +121,14 @@ class Failing(unittest.TestCase):
         self.write_trees()
         for build in BUILDS:
             for words in (["x", "long name", "z"], ["-c", "list"], ["-r", "t", "u"]):
-                whole, counts = self.run_with(build, words)
+                whole, counts = self.run_with(build, words, "read")
                 self.assertEqual(whole[0], 0, whole)
-                self.assertGreater(counts["FAILED_READ"], len(words))
-                for number in range(1, counts["FAILED_READ"] + 1):
-                    found, _ = self.run_with(build, words, INTERRUPTED_READ=number)
+                self.assertGreater(counts["FAILED_CALL"], len(words))
+                for number in range(1, counts["FAILED_CALL"] + 1):
+                    found, _ = self.run_with(build, words, "read", INTERRUPTED_CALL=number)
                     self.assertEqual(found, whole, (words, number))
                 for step in (1, 997, 65_536):
-                    found, _ = self.run_with(build, words, INTERRUPTS_READS=1, STEP=step)
+                    found, _ = self.run_with(build, words, "read", INTERRUPTED_EVERY=2, STEP=step)
                     self.assertEqual(found, whole, (words, step))
 
     def test_reads_of_a_long_list(self):
@@ -153,11 +142,11 @@ class Failing(unittest.TestCase):
             self.assertEqual(whole, (0, b"s: OK\n" * text.count(b"\n"), b""))
             # All in parts of 65,536 bytes, and the end: then the listed files are read.
             for number in range(1, 6):
-                found, _ = self.run_with(build, ["-c", "long"], FAILED_READ=number)
+                found, _ = self.run_with(build, ["-c", "long"], "read", FAILED_CALL=number)
                 whole_lines = text[:65_536 * (number - 1)].count(b"\n")
                 wanted = (1, b"s: OK\n" * whole_lines, b"sums: long: read error\n")
                 self.assertEqual(found, wanted, number)
-            found, _ = self.run_with(build, ["-c", "long"], FAILED_READ=6)
+            found, _ = self.run_with(build, ["-c", "long"], "read", FAILED_CALL=6)
             self.assertEqual(found[0], 1)
             self.assertIn(b"s: FAILED open or read\n", found[1])
 

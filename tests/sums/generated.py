@@ -11,7 +11,7 @@ import subprocess
 import tempfile
 import unittest
 
-from harness import ALGORITHMS, BUILDS, ENVIRONMENT, NAMES, VERSION, Files, line_of, run
+from lists import ALGORITHMS, BUILDS, ENVIRONMENT, NAMES, VERSION, Files, line_of, run
 
 # How many cases of each kind are generated.
 LISTINGS, CHECKS, WORDS = 900, 1100, 400

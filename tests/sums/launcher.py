@@ -5,7 +5,7 @@ import pathlib
 import tempfile
 import unittest
 
-from harness import BUILDS, LAUNCHER, run
+from lists import BUILDS, LAUNCHER, run
 
 
 class Launcher(unittest.TestCase):

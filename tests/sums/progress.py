@@ -3,15 +3,12 @@
 
 import contextlib
 import os
-import pathlib
 import pty
-import shutil
 import subprocess
-import tempfile
 import threading
-import unittest
 
-from harness import BUILDS, ENVIRONMENT, TIMEOUT, calls_in, digest_of, run
+from lists import BUILDS, ENVIRONMENT, TIMEOUT, digest_of, run
+from run import Case
 
 # What clears a line of a terminal from the cursor on.
 CLEAR = b"\x1b[K"
@@ -20,18 +17,14 @@ PIECE = 65_536
 UNITS = [(10 ** 12, "TB"), (10 ** 9, "GB"), (10 ** 6, "MB"), (10 ** 3, "kB")]
 
 
-class Progress(unittest.TestCase):
+class Progress(Case):
     """What is shown on a terminal, by a clock that goes on by equal steps at each read."""
 
     longMessage = False
 
     def setUp(self):
-        if shutil.which("cc") is None:
-            self.skipTest("a C compiler")
-        self.room = tempfile.TemporaryDirectory()
-        self.addCleanup(self.room.cleanup)
-        self.path = pathlib.Path(self.room.name)
-        self.library = calls_in(self.path)
+        self.preload = self.new_preload()
+        self.path = self.new_path()
 
     def write(self, name, length):
         """Writes a file of zeros, and gives its line."""
@@ -40,7 +33,7 @@ class Progress(unittest.TestCase):
 
     def calls(self, step):
         """The environment in which the clock goes on by a step, in milliseconds."""
-        return {"LD_PRELOAD": str(self.library), "CLOCK_STEP": str(step)}
+        return self.preload.environment(CLOCK_STEP=step)
 
     def shown(self, build, words, step, environment=(), **settings):
         """What a run shows one after another, and its output. At its end nothing is left of it."""
@@ -169,7 +162,7 @@ class Progress(unittest.TestCase):
         line = self.write("x", 1_000_000)
         calls = self.calls(1000)
         for build in BUILDS:
-            found = run(build, ["--progress", "x"], self.path, environment=calls)
+            found = run(build, ["--progress", "x"], self.path, env=calls)
             self.assertEqual(found, (0, line, b""))
             self.assertEqual(on_a_terminal(build, ["x"], self.path, calls), (b"", line))
 

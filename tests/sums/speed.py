@@ -8,7 +8,7 @@ import resource
 import subprocess
 import tempfile
 
-from harness import BUILDS, ENVIRONMENT, NARROW, WIDE
+from lists import BUILDS, ENVIRONMENT, NARROW, WIDE
 
 
 def speed():

@@ -5,9 +5,9 @@ import hashlib
 import os
 import pathlib
 import random
-import subprocess
 
-ROOT = pathlib.Path(__file__).resolve().parents[2]
+from run import ROOT, ended
+
 LAUNCHER = ROOT / "sums"
 NARROW = ROOT / "crates/ring_sums_main/out/ring_sums_main"
 WIDE = ROOT / "crates/ring_sums_wide/out/ring_sums_wide"
@@ -50,25 +50,10 @@ def has_avx2():
 BUILDS = [NARROW] + ([WIDE] if has_avx2() else [])
 
 
-def run(program, words, folder, name="sums", given=b"", environment=(), **settings):
+def run(program, words, folder, name="sums", given=b"", env=(), **settings):
     """How a run under a name ends: its status, its output and its messages."""
-    environment = {**ENVIRONMENT, **dict(environment)}
-    streams = {"stdout": subprocess.PIPE, "stderr": subprocess.PIPE}
-    if "stdin" not in settings:
-        streams["input"] = given
-    settings = {"timeout": TIMEOUT, **streams, **settings}
-    settings |= {"executable": program, "cwd": folder, "env": environment}
-    ended = subprocess.run([name, *words], **settings)
-    return ended.returncode, ended.stdout, ended.stderr
-
-
-def calls_in(folder):
-    """calls.c as a library in a folder."""
-    library = folder / "calls.so"
-    source = pathlib.Path(__file__).with_name("calls.c")
-    command = ["cc", "-shared", "-fPIC", "-O1", "-o", library, source, "-ldl"]
-    subprocess.run(command, check=True)
-    return library
+    settings = {"timeout": TIMEOUT, "executable": program, "cwd": folder, **settings}
+    return ended(name, *words, given=given, env={**ENVIRONMENT, **dict(env)}, **settings)
 
 
 class Files:

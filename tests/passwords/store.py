@@ -3,16 +3,15 @@
 
 import contextlib
 import os
-import pathlib
 import resource
 import shutil
 import signal
 import subprocess
-import tempfile
 import time
-import unittest
 
-ROOT = pathlib.Path(__file__).resolve().parents[2]
+import run as programs
+from run import ROOT
+
 LAUNCHER = ROOT / "passwords"
 PROGRAM = ROOT / "crates/ring_passwords/out/ring_passwords"
 
@@ -67,16 +66,10 @@ def of_file(path, message):
     return f"{path}: {message}"
 
 
-class Case(unittest.TestCase):
+class Case(programs.Case):
     """A case, whose tests make folders and try files of a store in them."""
 
     maxDiff = 2000
-
-    def new_path(self):
-        """A new folder, which is removed when the test ends."""
-        room = tempfile.TemporaryDirectory(prefix="passwords.")
-        self.addCleanup(room.cleanup)
-        return pathlib.Path(room.name)
 
     def new_folder(self):
         """A new folder for a store's file."""
@@ -105,9 +98,9 @@ class Folder:
 
     def run(self, *words, password=b"", **settings):
         """How a run ends: its status, its message, and what it wrote."""
-        settings = {"capture_output": True, "timeout": 600, **settings}
-        ended = subprocess.run([*self.program, self.file, *words], input=password, **settings)
-        return (ended.returncode, told(ended.stderr)), ended.stdout
+        command = (*self.program, self.file, *words)
+        status, output, error = programs.ended(*command, given=password, **settings)
+        return (status, told(error)), output
 
     def start(self, *words):
         """A run that waits for its password."""
@@ -168,11 +161,8 @@ class Folder:
 
 def bare(*words, line=b"", **settings):
     """How a run without a file ends: its status, its message, and what it wrote."""
-    settings = {"stdout": subprocess.PIPE, "stderr": subprocess.PIPE, "timeout": 600, **settings}
-    if "stdin" not in settings:
-        settings["input"] = line
-    ended = subprocess.run([PROGRAM, *words], **settings)
-    return ended.returncode, told(ended.stderr), ended.stdout
+    status, output, error = programs.ended(PROGRAM, *words, given=line, **settings)
+    return status, told(error), output
 
 
 def exit_status(status):

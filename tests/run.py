@@ -1,0 +1,124 @@
+# SPDX-License-Identifier: ISC
+"""Runs the programs that tests try: over words, over lines, and with preload.c loaded into them."""
+
+import functools
+import os
+import pathlib
+import shutil
+import subprocess
+import sys
+import tempfile
+import unittest
+
+ROOT = pathlib.Path(__file__).resolve().parent.parent
+# What `rt run` is given besides, where a program needs words to end with status 0.
+WORDS = {
+    "ring_passwords": ("--", "data/passwords.txt", "list"),
+    "ring_sums_main": ("--", "--version"),
+    "ring_sums_wide": ("--cpu=x86-64-v3", "--", "--version"),
+}
+COMPILER = next(filter(None, map(shutil.which, ("cc", "gcc", "clang"))), None)
+
+
+@functools.lru_cache(None)
+def built(crate):
+    """The path of a crate's program, which is built where it is missing or older than a source.
+    Where it can't be built, the test ends."""
+    command = [ROOT / "tools/built", crate, "rt", "run", *WORDS.get(crate, ())]
+    made = subprocess.run(command, stdin=subprocess.DEVNULL, stdout=subprocess.PIPE, text=True)
+    if made.returncode:
+        sys.stdout.flush()
+        unbuilt, name = ROOT / "tests/unbuilt", pathlib.Path(sys.argv[0]).resolve()
+        os.execv(unbuilt, [unbuilt, name.relative_to(ROOT)])
+    return pathlib.Path(made.stdout.rstrip("\n"))
+
+
+def ended(program, *words, given=b"", **settings):
+    """How a run ends: its status, its output and its messages."""
+    settings = {"stdout": subprocess.PIPE, "stderr": subprocess.PIPE, "timeout": 600, **settings}
+    if "stdin" not in settings:
+        settings["input"] = given
+    run = subprocess.run([program, *words], **settings)
+    return run.returncode, run.stdout, run.stderr
+
+
+# --- the program of lines ---
+
+
+def over_lines(lines, **settings):
+    """How a run of the program of lines ends: its status, and its answers."""
+    text = "".join(f"{line}\n" for line in lines).encode()
+    status, output, _ = ended(built("ring_lines_main"), given=text, **settings)
+    return status, output.decode().split("\n")[:-1]
+
+
+def answers(lines, **settings):
+    """The answers of the program of lines."""
+    return over_lines(lines, **settings)[1]
+
+
+def differing(wanted, **settings):
+    """Of pairs of a line and its answer: those that the program answers otherwise."""
+    found = answers([line for line, _ in wanted], **settings)
+    if not wanted or len(found) != len(wanted):
+        return [("", f"{len(found)} answers to {len(wanted)} lines")]
+    return [(line, answer) for (line, want), answer in zip(wanted, found) if want != answer]
+
+
+def rows_of(file):
+    """The lines of a file of vectors, each with its answer."""
+    lines = [it for it in file.read_text().split("\n") if it and not it.startswith("# ")]
+    return [(line, answer.partition("#= ")[2]) for line, answer in zip(lines[::2], lines[1::2])]
+
+
+def file_case(file):
+    """A case with a file of vectors."""
+
+    def run():
+        return differing(rows_of(file))
+
+    run.__doc__ = f"the lines of {file.relative_to(ROOT)}"
+    return run
+
+
+# --- calls and requests for memory that fail ---
+
+
+class Preload:
+    """preload.c, compiled into a folder."""
+
+    def __init__(self, folder):
+        self.library = pathlib.Path(folder) / "preload.so"
+        source = pathlib.Path(__file__).with_name("preload.c")
+        command = [COMPILER, "-O1", "-shared", "-fPIC", "-o", self.library, source]
+        subprocess.run(command, check=True)
+
+    def environment(self, **asked):
+        """The environment of a run in which it does what is asked."""
+        return {"LD_PRELOAD": str(self.library), **{name: str(it) for name, it in asked.items()}}
+
+    def watched(self, run, **asked):
+        """What `run` gives, which makes a run by settings, the names of the counted calls, and the
+        count of requests for memory: none where the run is killed."""
+        with tempfile.TemporaryFile() as report:
+            number = report.fileno()
+            environment = self.environment(REPORT_TO=number, **asked)
+            found = run(pass_fds=[number], env=environment)
+            report.seek(0)
+            lines = report.read().decode().split()
+        requests = int(lines.pop()) if lines and lines[-1].isdigit() else None
+        return found, lines, requests
+
+
+class Case(unittest.TestCase):
+    """A case whose tests have folders of their own."""
+
+    def new_path(self):
+        """A new folder, which is removed when the test ends."""
+        room = tempfile.TemporaryDirectory(prefix=f"{type(self).__name__}.")
+        self.addCleanup(room.cleanup)
+        return pathlib.Path(room.name)
+
+    def new_preload(self):
+        """preload.c, compiled into a new folder; without a C compiler the test is skipped."""
+        return Preload(self.new_path()) if COMPILER else self.skipTest("a C compiler")

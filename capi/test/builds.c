@@ -83,7 +83,6 @@ static __typeof__(yz_pbkdf2_derive) *const DERIVE[WIDTHS] = {
 static __typeof__(yz_pbkdf2_verify) *const VERIFY[WIDTHS] = {
     yz_pbkdf2_verify, yz_pbkdf2_verify_wide, v3_yz_pbkdf2_verify, v3_yz_pbkdf2_verify_wide};
 
-static uint8_t message[MOST_MESSAGE];
 static long steps;
 
 static void must(bool holds, const char *what) {
@@ -105,7 +104,7 @@ static size_t piece_of(size_t left) {
     return piece < left ? piece : left;
 }
 
-static void digest_in_pieces(uint32_t n, size_t len) {
+static void digest_in_pieces(uint32_t n, const uint8_t *message, size_t len) {
     yz_digest_context context[MAKERS];
     uint8_t whole[YZ_MAX_OUTPUT_LEN], pieces[YZ_MAX_OUTPUT_LEN];
     size_t out_len = yz_output_len(n);
@@ -129,7 +128,7 @@ static void digest_in_pieces(uint32_t n, size_t len) {
     }
 }
 
-static void tag_in_pieces(uint32_t n, size_t key_len, size_t len) {
+static void tag_in_pieces(uint32_t n, size_t key_len, const uint8_t *message, size_t len) {
     yz_hmac_key key[BUILDS];
     yz_hmac_context context[MAKERS];
     uint8_t whole[YZ_MAX_OUTPUT_LEN], pieces[YZ_MAX_OUTPUT_LEN];
@@ -161,27 +160,27 @@ static void tag_in_pieces(uint32_t n, size_t key_len, size_t len) {
 }
 
 /* The steps of HKDF by one build each, and both in one call. */
-static void expansion(uint32_t n, size_t len) {
+static void expansion(uint32_t n, const uint8_t *bytes, size_t len) {
     uint8_t prk[YZ_MAX_OUTPUT_LEN], out[BUILDS][MOST_DERIVED], whole[MOST_DERIVED];
     size_t salt_len = below(MOST_KEY), secret_len = below(MOST_KEY), info_len = below(MOST_KEY);
-    const uint8_t *secret = message + MOST_KEY, *info = secret + MOST_KEY;
+    const uint8_t *secret = bytes + MOST_KEY, *info = secret + MOST_KEY;
     for (int i = 0; i < BUILDS; i++) {
-        must(BUILD[i].hkdf_extract(n, message, salt_len, secret, secret_len, prk,
+        must(BUILD[i].hkdf_extract(n, bytes, salt_len, secret, secret_len, prk,
                                    yz_output_len(n)) == YZ_OK, "an extraction");
         must(BUILD[!i].hkdf_expand(n, prk, yz_output_len(n), info, info_len, out[i], len) == YZ_OK,
              "an expansion of what the other build extracted");
-        must(BUILD[i].hkdf(n, message, salt_len, secret, secret_len, info, info_len, whole,
+        must(BUILD[i].hkdf(n, bytes, salt_len, secret, secret_len, info, info_len, whole,
                            len) == YZ_OK, "both steps in one");
         must(!memcmp(whole, out[0], len) && !memcmp(out[i], out[0], len), "outputs are the same");
     }
     for (int i = 0; i < BUILDS; i++)
-        must(BUILD[i].hkdf_expand_label(n, secret, secret_len, message, salt_len + 1, info,
+        must(BUILD[i].hkdf_expand_label(n, secret, secret_len, bytes, salt_len + 1, info,
                                         info_len, out[i], len) == YZ_OK, "an expansion by a label");
     must(!memcmp(out[V2], out[V3], len), "and its outputs are");
 }
 
 /* Any bytes as contexts and keys. */
-static void garbage(void) {
+static void garbage(const uint8_t *message) {
     yz_digest_context digest[BUILDS];
     yz_hmac_context tag[BUILDS];
     yz_hmac_key key;
@@ -212,14 +211,14 @@ static void garbage(void) {
          sizeof *tag), "both advance garbage alike");
 }
 
-static void several(uint32_t n, size_t count) {
+static void several(uint32_t n, const uint8_t *bytes, size_t count) {
     static yz_message messages[MOST_COUNT];
     static uint8_t out[WIDTHS][MOST_COUNT * YZ_MAX_OUTPUT_LEN];
     size_t len = yz_output_len(n);
     size_t most = 1 + below(below(2) ? MOST_MESSAGE : MOST_PIECE);
     for (size_t i = 0; i < count; i++) {
         size_t some = below(4) ? below(most) : most - 1;
-        messages[i] = (yz_message){message + below(MOST_MESSAGE - some), some};
+        messages[i] = (yz_message){bytes + below(MOST_MESSAGE - some), some};
     }
     for (int i = 0; i < WIDTHS; i++)
         must(DIGEST_EACH[i](n, messages, count, out[i], count * len) == YZ_OK, "several digests");
@@ -231,36 +230,37 @@ static void several(uint32_t n, size_t count) {
     }
 }
 
-static void derivations(uint32_t n, uint32_t iterations, size_t len) {
+static void derivations(uint32_t n, uint32_t iterations, const uint8_t *bytes, size_t len) {
     static uint8_t out[WIDTHS][MOST_DERIVED];
     size_t salt_len = below(MOST_KEY), secret_len = below(MOST_KEY);
     for (int i = 0; i < WIDTHS; i++) {
-        must(DERIVE[i](n, iterations, message, salt_len, message + MOST_KEY, secret_len, out[i],
+        must(DERIVE[i](n, iterations, bytes, salt_len, bytes + MOST_KEY, secret_len, out[i],
                        len) == YZ_OK, "a derivation");
         must(!memcmp(out[i], out[0], len), "derived keys are the same");
     }
     for (int right = 1; right >= 0; right--, out[0][below(len)] ^= 1)
         for (int i = 0; i < WIDTHS; i++)
-            must(VERIFY[i](n, iterations, message, salt_len, message + MOST_KEY, secret_len, out[0],
+            must(VERIFY[i](n, iterations, bytes, salt_len, bytes + MOST_KEY, secret_len, out[0],
                            len) == (right ? YZ_OK : YZ_UNSPECIFIED), "a derived key is verified");
 }
 
 int main(void) {
+    static uint8_t message[MOST_MESSAGE];
     for (size_t i = 0; i < MOST_MESSAGE; i++) message[i] = (uint8_t)rand();
     for (int turn = 0; turn < MESSAGES; turn++) {
         uint32_t n = 1 + (uint32_t)below(YZ_SHA512_256);
         size_t len = below(MOST_MESSAGE);
-        digest_in_pieces(n, len);
-        if (n != YZ_SHA512_256) tag_in_pieces(n, below(MOST_KEY), len);
+        digest_in_pieces(n, message, len);
+        if (n != YZ_SHA512_256) tag_in_pieces(n, below(MOST_KEY), message, len);
     }
     for (int turn = 0; turn < LISTS; turn++)
-        several(1 + (uint32_t)below(YZ_SHA512_256), below(MOST_COUNT + 1));
+        several(1 + (uint32_t)below(YZ_SHA512_256), message, below(MOST_COUNT + 1));
     for (int turn = 0; turn < DERIVATIONS; turn++)
         derivations(1 + (uint32_t)below(YZ_SHA512), 1 + (uint32_t)below(MOST_ITERATIONS),
-                    1 + below(MOST_DERIVED));
+                    message, 1 + below(MOST_DERIVED));
     for (int turn = 0; turn < DERIVATIONS; turn++)
-        expansion(1 + (uint32_t)below(YZ_SHA512), 1 + below(MOST_DERIVED));
-    for (int turn = 0; turn < GARBAGE; turn++) garbage();
+        expansion(1 + (uint32_t)below(YZ_SHA512), message, 1 + below(MOST_DERIVED));
+    for (int turn = 0; turn < GARBAGE; turn++) garbage(message);
     printf("both builds agree: %d messages in %ld pieces, %d lists of messages, %d derived keys of "
            "each kind, %d times garbage\n", MESSAGES, steps, LISTS, DERIVATIONS, GARBAGE);
 }

@@ -15,24 +15,25 @@
 #define COUNT 10
 
 static uint8_t stack[ROOM] __attribute__((aligned(64)));
-static uint8_t bytes[600], out[COUNT * YZ_MAX_OUTPUT_LEN];
-static const yz_message messages[COUNT] = {
-    {bytes, 400}, {bytes, 300}, {bytes, 400}, {bytes, 400}, {bytes, 333},
-    {bytes, 400}, {bytes, 500}, {bytes, 600}, {bytes, 400}, {bytes, 1}};
-static yz_digest_context context;
-static yz_hmac_key key;
-static yz_hmac_context tag;
 static uint32_t n;
 static int call;
 static const char hash[] = "$7$101$AAECAwQFBgcICQoL$cJ75j/0MokIxIQCU/t1k7JBGVfwD3W1st+OyLYF0EzgR"
                            "LNjRyexylNuHrNThmUCWBWt20yys3R1zS31q5smg/w==";
 static const char keys[] = "SCRAM-SHA-256$1000:AAECAwQFBgcICQoLDA0ODw==$7xyJ1HnA2mtSyupYnfwfyMN/"
                            "J3bBFnm1azxiuCq93cA=:2gGHDOt/fKGk7q0t853S5/tlrW2XzQkPg60ChUqH8m4=";
-static char text[YZ_MAX_PASSWORD_HASH_LEN];
 static const char password[] = "correct horse battery staple";
 
-/* Runs one call on long inputs: a key past a block, several blocks, several rounds. */
+/* Runs one call on long inputs: a key past a block, several blocks, several rounds. What is large
+ * is on no stack. */
 static void run(void) {
+    static uint8_t bytes[600], out[COUNT * YZ_MAX_OUTPUT_LEN];
+    static const yz_message messages[COUNT] = {
+        {bytes, 400}, {bytes, 300}, {bytes, 400}, {bytes, 400}, {bytes, 333},
+        {bytes, 400}, {bytes, 500}, {bytes, 600}, {bytes, 400}, {bytes, 1}};
+    static char text[YZ_MAX_PASSWORD_HASH_LEN];
+    static yz_digest_context context;
+    static yz_hmac_key key;
+    static yz_hmac_context tag;
     size_t len = yz_output_len(n), text_len;
     uint32_t scheme, iterations;
     yz_status status = YZ_OK;

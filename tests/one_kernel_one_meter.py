@@ -6,7 +6,8 @@ Searches the code of every crate but `ring_tests`, outside tests, examples, comm
 and tries these rules: a plain form is the one call of its counted form; few places make a meter,
 none of them in a function that takes one; a function that takes a meter calls nothing that runs
 blocks under another; the calls for C and `ring_passwords`, which are handed no meter, call what
-runs blocks once, and the calls for C derive in one place each; a block is run once for each block
+runs blocks once, and derive by no plain form; the calls for C derive in one place each, and only
+PBKDF2 and the test and the making of a password hash do; a block is run once for each block
 counted, and four side by side for each four; and the rounds of SHA-2 and of SHA-1 stand once. Since
 it finds a call by the function's name, and a method's by the type's too, it refuses what hides
 these: imports under another name, functions as values, aliases of types, and macros that call. It
@@ -51,9 +52,18 @@ NOT_SEARCHED = {"ring_tests"}
 # call a plain form there beside these: each makes a key, for which no meter is handed in.
 METERED = ("ring_core", "ring", "ring_store", "ring_password_hash")
 MAY_CALL_PLAIN = {("Key", "generate"), ("Okm", "into_key")}
-# The crates whose bodies call what runs blocks once, and the calls for C that derive a key.
+# The crates whose bodies call what runs blocks once; what the calls for C derive by; which of them,
+# and which functions below them, may; and the one of `ring_passwords` that may by a plain form.
 CALLED_ONCE = ("ring_passwords", "ring_c")
-DERIVES = ("derive_in", "verify_in", "new_counted", "verify_counted")
+DERIVES = frozenset(
+    (owner, name)
+    for owner in ("", "Stored")
+    for name in ("derive_in", "verify_in", "new_counted", "verify_counted")
+)
+MAY_DERIVE = re.compile(
+    r"yz_pbkdf2_\w+|yz_password_hash_(?:verify|new)(?:_counted)?|derive|verify|write_new"
+)
+MAKES_TEXT = "new_value"
 # What loads the words of blocks and what counts these: that it counts as many is its contract. Each
 # family has one place that loads by each, and that runs the rounds and counts there: by fours the
 # kernel of one message, the others the kernel over a window.
@@ -89,7 +99,13 @@ NONE_BELOW = (
     "conversions"
 )
 ONCE = "a body of `ring_passwords` and of `ring_c` calls what runs blocks once"
-ONE_DERIVATION = "each call that derives stands in one place of `ring_c`, and in no loop"
+ONE_DERIVATION = (
+    "each call that derives stands in one place of `ring_c`, beside no other one and in no loop"
+)
+FEW_DERIVE = "in `ring_c` only PBKDF2 and the test and the making of a password hash derive"
+NO_PLAIN_DERIVATION = (
+    "`ring_c` and `ring_passwords` derive by no plain form, but for the text of a password"
+)
 COUNTED_ONCE = "blocks are loaded and run once beside their count, and nothing else counts one"
 ARGUMENTS = "PBKDF2_HMAC_SHA256, iterations, salt, password, credential"
 SALT = "use std::num::NonZeroU32;\n"
@@ -99,6 +115,9 @@ OTHER_KEY = "let _ = Other::new(ring::hmac::HMAC_SHA256, password);"
 STORED = "crates/ring_password_hash/src/stored.rt"
 C_PASSWORDS = "crates/ring_c/src/password_hashes.rt"
 C_VERIFY = "    status_from(verify_counted(text, password, max_iterations, meter))\n"
+C_INFO = "    match Stored::parse(text) {\n"
+C_DERIVATIONS = "crates/ring_c/src/derivations.rt"
+C_VERIFY_IN = "    match pbkdf2::verify_in::<VECTOR_BITS>(\n"
 FINISHED = "crates/ring_schedules/src/tls13/traffic.rt"
 
 
@@ -162,7 +181,7 @@ PLANTED = {
         "    let _ = store.check_password(name, password);\n",
     ),
     "`verify` of the program derives once more by a plain form": (
-        "no plain form of a store is called in `ring_passwords`",
+        NO_PLAIN_DERIVATION,
         "crates/ring_passwords/src/main.rt",
         "    change::verify(&store, name, &password, &mut Meter::new())\n",
         "    let _ = store.check_password(name, &password);\n"
@@ -190,7 +209,7 @@ PLANTED = {
     "`Stored::new` derives before it refuses": before(
         ONE_CALL,
         STORED,
-        "        Stored::new_counted(scheme, password, salt, iterations, room, &mut Meter::new())\n",
+        f"{'':8}Stored::new_counted(scheme, password, salt, iterations, room, &mut Meter::new())\n",
         "let _ = pbkdf2::derive(scheme.row().algorithm, iterations, salt, password, &mut [0; 64]);",
     ),
     "`Stored::new_counted` derives before it refuses, under another meter": before(
@@ -242,11 +261,68 @@ PLANTED = {
         C_VERIFY,
         "for _ in 0..2 { let _ = verify_counted(text, password, max_iterations, meter); }",
     ),
+    "`yz_password_hash_info` tests the text by a plain form": before(
+        NO_PLAIN_DERIVATION,
+        C_PASSWORDS,
+        C_INFO,
+        "let _ = ring_password_hash::verify(text, &[], u32::MAX);",
+    ),
+    "`yz_password_hash_info` tests the value by a plain form": before(
+        NO_PLAIN_DERIVATION,
+        C_PASSWORDS,
+        "            *iterations = stored.iterations().get();\n",
+        "let _ = stored.verify(&[], u32::MAX);",
+    ),
+    "`yz_password_hash_info` tests the text by the call for it": before(
+        FEW_DERIVE, C_PASSWORDS, C_INFO, "let _ = yz_password_hash_verify(text, &[], u32::MAX);"
+    ),
+    "`yz_password_hash_salt` derives by a plain form": before(
+        NO_PLAIN_DERIVATION,
+        C_PASSWORDS,
+        "    let len = new_salt_len(scheme);\n",
+        "let _ = pbkdf2::derive(scheme.row().algorithm, NonZeroU32::MAX, &[], random, &mut [0]);",
+    ),
+    "`yz_equal` tests a text by the call for it": before(
+        FEW_DERIVE,
+        "crates/ring_c/src/comparison.rt",
+        "    verify_slices_are_equal(a, b).is_ok()\n",
+        "let _ = crate::password_hashes::yz_password_hash_verify(a, b, u32::MAX);",
+    ),
+    "`yz_pbkdf2_derive` derives in a loop": before(
+        ONE_DERIVATION,
+        C_DERIVATIONS,
+        "    derive::<SSE>(algorithm, iterations, salt, secret, out)\n",
+        "for _ in 0..1 { let _ = derive::<SSE>(algorithm, iterations, salt, secret, out); }",
+    ),
+    "`yz_pbkdf2_derive_wide` tests a text by the call for it": before(
+        ONE_DERIVATION,
+        C_DERIVATIONS,
+        "    derive::<AVX2>(algorithm, iterations, salt, secret, out)\n",
+        "let _ = crate::password_hashes::yz_password_hash_verify(salt, secret, u32::MAX);",
+    ),
+    "`verify` below `yz_pbkdf2_verify` derives once more by the function beside it": before(
+        ONE_DERIVATION,
+        C_DERIVATIONS,
+        C_VERIFY_IN,
+        "let _ = derive::<VECTOR_BITS>(1, iterations.get(), salt, secret, &mut [0]);",
+    ),
+    "`verify` below `yz_pbkdf2_verify` derives once more by a plain form": before(
+        NO_PLAIN_DERIVATION,
+        C_DERIVATIONS,
+        C_VERIFY_IN,
+        "let _ = pbkdf2::derive(algorithm, iterations, salt, secret, &mut [0]);",
+    ),
     "`yz_password_hash_new` derives before it refuses": before(
         ONE_CALL,
         C_PASSWORDS,
         "    yz_password_hash_new_counted(\n",
         "let _ = ring::pbkdf2::derive(PBKDF2_HMAC_SHA256, iterations, salt, password, &mut [0]);",
+    ),
+    "`write_encoded` of the program tests the password by a plain form": before(
+        NO_PLAIN_DERIVATION,
+        "crates/ring_passwords/src/main.rt",
+        "    let mut random = [0; RANDOM_LEN];\n",
+        "let _ = ring_password_hash::verify(&password, &password, u32::MAX);",
     ),
     "`test` of the program's texts derives twice": before(
         ONCE,
@@ -439,7 +515,7 @@ def all_calls(function, names):
 
 
 @functools.cache
-def calls(function, names):
+def plain_calls(function, names):
     """The calls in a body of functions of these names that are handed no meter."""
     taken, made = meters_of(function)
     a_meter = re.compile("|".join([r"\bMeter::new\(\)", *(rf"\b{it}\b" for it in taken | made)]))
@@ -449,8 +525,13 @@ def calls(function, names):
         arguments = function.body[opening : rattle_text.end_of(function.body, opening)]
         before = function.body[: it.end()]
         if not a_meter.search(arguments) and not NO_PLAIN_FORM.search(before):
-            found.append(it.group())
+            found.append(it)
     return found
+
+
+def calls(function, names):
+    """The texts of these calls."""
+    return [it.group() for it in plain_calls(function, names)]
 
 
 def repeated(function, names):
@@ -659,6 +740,29 @@ def rules_of_meters(places, plain, own):
     yield NO_OTHER_METER, not hidden, hidden
 
 
+def is_of_hmac(function, call):
+    """Whether it is HMAC's verification, which derives nothing."""
+    return function.body[: call.start()].endswith("hmac::")
+
+
+def plain_derivations(places, plain):
+    """The calls of plain forms that derive, where no meter is handed in. Without a path a call is
+    one of the file's own function, if it has one of the name."""
+    names = frozenset(
+        it.name for it in plain
+        if it.crate == "ring_password_hash" or it.function.owner == "PasswordStore"
+        or it.path.startswith("crates/ring/src/pbkdf2")
+    )
+    others = [it for it in places if it.crate in CALLED_ONCE and it not in plain]
+    for place in (it for it in others if it.function.name != MAKES_TEXT):
+        own = {it.function.name for it in places if it.path == place.path}
+        for call in plain_calls(place.function, names):
+            has_path = re.search(r"[.:]$", place.function.body[: call.start()]) or "." in call[0]
+            is_own = re.match(r"\w*", call[0])[0] in own and not has_path
+            if not is_own and not is_of_hmac(place.function, call):
+                yield f"{place} calls {call[0]}"
+
+
 def rules_of_plain_forms(places, plain):
     """The rules of who calls a plain form: each with whether it holds, and what breaks it."""
     names = frozenset(it.name for it in plain)
@@ -666,10 +770,25 @@ def rules_of_plain_forms(places, plain):
     lower = [it for it in others if it.crate in METERED]
     below = [f"{it} calls {call}" for it in lower for call in calls(it.function, names)]
     yield NONE_BELOW, not below, below
-    program = [it for it in places if it.crate == "ring_passwords"]
-    of_store = frozenset(it for it in names if it[0] == "PasswordStore")
-    derived = [f"{it} calls {call}" for it in program for call in calls(it.function, of_store)]
-    yield "no plain form of a store is called in `ring_passwords`", not derived, derived
+    derived = list(plain_derivations(places, plain))
+    yield NO_PLAIN_DERIVATION, not derived, derived
+
+
+def deriving(places):
+    """Those of some functions that derive, each with the calls by which it does: of what derives,
+    or of another one of these."""
+    found, names = {}, DERIVES
+    while True:
+        called = {
+            place: [(name, it) for name, it in all_calls(place.function, names)
+                    if not is_of_hmac(place.function, it)]
+            for place in places
+        }
+        more = {place: those for place, those in called.items() if those}
+        if len(more) == len(found):
+            return more
+        found = more
+        names |= {it.name for it in more}
 
 
 def rules_without_meters(places, own):
@@ -680,12 +799,16 @@ def rules_without_meters(places, own):
     twice = [f"{it} calls {name} twice" for it in once
              for name in repeated(it.function, own[it.crate] | metered)]
     yield ONCE, not twice, twice
-    found = [(name, it, call) for it in once if it.crate == "ring_c"
-             for name, call in all_calls(it.function, {("", name) for name in DERIVES})]
-    count = collections.Counter(name for name, _, _ in found)
-    bad = [f"{it} calls {name}" for name, it, call in found
-           if count[name] > 1 or is_in_loop(it.function.body, call.start())]
+    derived = deriving([it for it in once if it.crate == "ring_c"])
+    found = {(name, it, call.end()) for it, called in derived.items() for name, call in called}
+    of_others = {name for _, name in DERIVES}
+    count = collections.Counter(name for name, _, _ in found if name in of_others)
+    beside = collections.Counter(it for it, _ in {(it, end) for _, it, end in found})
+    bad = [f"{it} calls {name}" for name, it, end in found
+           if count[name] > 1 or beside[it] > 1 or is_in_loop(it.function.body, end)]
     yield ONE_DERIVATION, not bad, bad
+    others = [str(it) for it in derived if not MAY_DERIVE.fullmatch(it.function.name)]
+    yield FEW_DERIVE, not others, others
 
 
 def rules_of_blocks(places):

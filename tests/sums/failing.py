@@ -1,7 +1,9 @@
 # SPDX-License-Identifier: ISC
 """What the system refuses a run, call by call."""
 
+import contextlib
 import functools
+import itertools
 import os
 
 from lists import BUILDS, digest_of, run
@@ -9,6 +11,8 @@ from run import Case
 
 # The calls of which one fails.
 COUNTED = "open statx getdents64 read write"
+# Those that read.
+READS = "getdents64 read"
 # What is said where a run ends at once.
 AT_ONCE = (b"sums: memory exhausted\n", b"sums: write error\n")
 
@@ -29,22 +33,27 @@ class Failing(Case):
             self.lines.append(digest_of("sha256", content) + b"  " + name.encode() + b"\n")
         (self.path / "list").write_bytes(b"".join(self.lines))
 
-    def run_with(self, build, words, counted=COUNTED, **failing):
-        """A run with the library loaded: how it ends, and its counted calls and requests."""
-        run_by = functools.partial(run, build, words, self.path)
-        found, calls, requests = self.preload.watched(run_by, COUNTED=counted, **failing)
+    def run_with(self, build, words, given=b"", counted=COUNTED, **failing):
+        """A run with the library loaded: how it ends, and its counted calls and requests. Standard
+        input is a pipe with bytes, or the file of a name."""
+        with contextlib.ExitStack() as files:
+            settings = {"given": given}
+            if not isinstance(given, bytes):
+                settings = {"stdin": files.enter_context(open(self.path / given, "rb"))}
+            run_by = functools.partial(run, build, words, self.path, **settings)
+            found, calls, requests = self.preload.watched(run_by, COUNTED=counted, **failing)
         self.assertIsNotNone(requests, f"the library is not loaded: {found}")
         return found, {"FAILED_CALL": len(calls), "REFUSED_REQUEST": requests}
 
-    def in_turn(self, which, words, holds):
+    def in_turn(self, which, words, holds, given=b""):
         """Fails each call or request in turn: a run is whole, or honest with status 1."""
         for build in BUILDS:
-            whole, counts = self.run_with(build, words)
+            whole, counts = self.run_with(build, words, given)
             self.assertEqual(whole[0], 0, whole)
             self.assertGreater(counts[which], 0)
             for number in range(1, counts[which] + 1):
-                found, _ = self.run_with(build, words, **{which: number})
-                with self.subTest(words=words, number=number):
+                found, _ = self.run_with(build, words, given, **{which: number})
+                with self.subTest(words=words, given=given, number=number):
                     is_told = found[0] == 1 and found[2] and holds(found)
                     self.assertTrue(found == whole or is_told, found)
 
@@ -87,6 +96,14 @@ class Failing(Case):
         """The same of a check."""
         self.in_turn("FAILED_CALL", ["-c", "list"], self.is_honest_check)
 
+    def test_each_call_over_standard_input(self):
+        """The same of a listing and a check of standard input, a pipe or a file."""
+        text = b"".join(self.lines)
+        line = digest_of("sha256", text) + b"  -\n"
+        for given in (text, "list"):
+            self.in_turn("FAILED_CALL", ["-"], lambda found: found[1] in (b"", line), given)
+            self.in_turn("FAILED_CALL", ["-c"], self.is_honest_check, given)
+
     def write_trees(self):
         """Writes two trees, of which `self.tree` has the lines."""
         self.tree = []
@@ -119,17 +136,22 @@ class Failing(Case):
     def test_interruptions(self):
         """A run whose reads are interrupted is a whole one: each in turn, and every other one."""
         self.write_trees()
-        for build in BUILDS:
-            for words in (["x", "long name", "z"], ["-c", "list"], ["-r", "t", "u"]):
-                whole, counts = self.run_with(build, words, "read")
-                self.assertEqual(whole[0], 0, whole)
-                self.assertGreater(counts["FAILED_CALL"], len(words))
-                for number in range(1, counts["FAILED_CALL"] + 1):
-                    found, _ = self.run_with(build, words, "read", INTERRUPTED_CALL=number)
-                    self.assertEqual(found, whole, (words, number))
-                for step in (1, 997, 65_536):
-                    found, _ = self.run_with(build, words, "read", INTERRUPTED_EVERY=2, STEP=step)
-                    self.assertEqual(found, whole, (words, step))
+        text = b"".join(self.lines)
+        rows = [
+            (["x", "long name", "z"], b""), (["-c", "list"], b""), (["-r", "t", "u"], b""),
+            (["x", "-", "z"], text * 500), (["-"], "long name"), (["-c"], text), (["-c"], "list"),
+        ]
+        for build, (words, given) in itertools.product(BUILDS, rows):
+            run_with = functools.partial(self.run_with, build, words, given, READS)
+            whole, counts = run_with()
+            self.assertEqual(whole[0], 0, whole)
+            self.assertGreater(counts["FAILED_CALL"], len(words))
+            for number in range(1, counts["FAILED_CALL"] + 1):
+                found, _ = run_with(INTERRUPTED_CALL=number)
+                self.assertEqual(found, whole, (words, number))
+            for step in (1, 997, 65_536):
+                found, _ = run_with(INTERRUPTED_EVERY=2, STEP=step)
+                self.assertEqual(found, whole, (words, step))
 
     def test_reads_of_a_long_list(self):
         """A list of 200,000 bytes whose reading fails makes the status 1, at each of its reads."""
@@ -142,11 +164,11 @@ class Failing(Case):
             self.assertEqual(whole, (0, b"s: OK\n" * text.count(b"\n"), b""))
             # All in parts of 65,536 bytes, and the end: then the listed files are read.
             for number in range(1, 6):
-                found, _ = self.run_with(build, ["-c", "long"], "read", FAILED_CALL=number)
+                found, _ = self.run_with(build, ["-c", "long"], counted="read", FAILED_CALL=number)
                 whole_lines = text[:65_536 * (number - 1)].count(b"\n")
                 wanted = (1, b"s: OK\n" * whole_lines, b"sums: long: read error\n")
                 self.assertEqual(found, wanted, number)
-            found, _ = self.run_with(build, ["-c", "long"], "read", FAILED_CALL=6)
+            found, _ = self.run_with(build, ["-c", "long"], counted="read", FAILED_CALL=6)
             self.assertEqual(found[0], 1)
             self.assertIn(b"s: FAILED open or read\n", found[1])
 
@@ -157,10 +179,13 @@ class Failing(Case):
 
     def test_short_reads(self):
         """Reads of at most 1, 63, 997, 4,096 and 65,535 bytes."""
+        length = sum((self.path / name).stat().st_size for name in self.NAMES)
         for build in BUILDS:
             for step in (1, 63, 997, 4096, 65_535):
-                found, _ = self.run_with(build, ["x", "long name", "z"], STEP=step)
+                words = ["x", "long name", "z"]
+                found, counts = self.run_with(build, words, counted="read", STEP=step)
                 self.assertEqual(found, (0, b"".join(self.lines), b""))
+                self.assertGreaterEqual(counts["FAILED_CALL"], length // step)
 
     def test_files_that_change(self):
         """Of a file that shrinks or grows meanwhile, the digest is that of the bytes read."""

@@ -160,13 +160,15 @@ openssl-bench: $(PROVIDER) openssl/bench/bench.c
 	@$(OUT)/openssl/bench $(<D)
 	@OPENSSL_ia32cap='~0x1000020000000000:~0x20000020' $(OUT)/openssl/bench $(<D)
 
-# What is installed, and by which paths; `openssl-policy` runs it.
+# What is installed under the umask of a careful user, which all may read, and by which paths;
+# `openssl-policy` runs it.
 PROVIDER_ROOT = $(WHOLE_OUT)/openssl/a root
 PROVIDER_SHARED = $(PROVIDER_ROOT)/a prefix/share
 openssl-installed: $(PROVIDER)
 	rm -rf "$(PROVIDER_ROOT)"
-	$(MAKE) --no-print-directory openssl-install DESTDIR="$(PROVIDER_ROOT)" \
+	umask 077 && $(MAKE) --no-print-directory openssl-install DESTDIR="$(PROVIDER_ROOT)" \
 	    PREFIX='/a prefix' MODULESDIR='/some modules' SYSTEM_CNF=/etc/ssl/openssl.cnf >/dev/null
+	test -z "$$(find "$(PROVIDER_ROOT)" -type f ! -perm -444 -o -type d ! -perm -555)"
 	test "$$(cd "$(PROVIDER_ROOT)" && find . -type f | LC_ALL=C sort)" = "$$(printf './%s\n' \
 	    'a prefix/share/doc/$(PROVIDER_DEB)/LICENSE' \
 	    'a prefix/share/doc/$(PROVIDER_DEB)/README.md' \

@@ -190,7 +190,8 @@ def main():
                 texts.append(lines)
         faults += try_page(page, texts) if page in PAGES else []
         for what, fault in faults:
-            print(f"FAILED: {page}: {what}: {fault}" if fault else f"ok: {page}: {what}", flush=True)
+            said = f"{page}: {what}"
+            print(f"FAILED: {said}: {fault}" if fault else f"ok: {said}", flush=True)
             passed, failed = passed + (fault is None), failed + (fault is not None)
     counts = f"{passed} passed, {failed} failed"
     print(f"{counts}, {skipped} skipped" if skipped else counts)

@@ -11,8 +11,8 @@ With --together the edits of wrong/ are tried, and with --all those of must-fail
 too, of all crates, of some, or single ones by their paths. A round is one check of a crate with one
 edit in each of its functions. A proof knows of other functions what their contracts say, so an edit
 passes where the check refuses a goal of a function that it changes, and none of a function without
-an edit. One that changes more than functions, as a constant, has a check of its own. An edit that is
-not refused so is tried alone, as `rt must-fail` tries it. A body of right/ means the same as the
+an edit. One that changes more than functions, as a constant, has a check of its own. An edit that
+is not refused so is tried alone, as `rt must-fail` tries it. A body of right/ means the same as the
 code: it stands in the rounds too, and passes where it is told as not refused.
 
 The crates are proved first, in place, over what stands in out/, or in a copy in a new folder, which
@@ -59,8 +59,8 @@ NAME_ONLY = re.compile(r"has no field|is not in scope|has no `|was not admitted"
 
 @dataclasses.dataclass(frozen=True)
 class Crate:
-    """A crate that is proved in a tree of crates: the tree, its name, the crates below it, and how a
-    check names its functions."""
+    """A crate that is proved in a tree of crates: the tree, its name, the crates below it, and how
+    a check names its functions."""
 
     tree: pathlib.Path
     name: str
@@ -142,7 +142,7 @@ def refused_of_round(crate, edits):
 
 
 def refused_by_itself(crate, path):
-    """The path of an edit in a list, if a check refuses a goal of some function where it is made."""
+    """The path of an edit in a list, if a check refuses a goal of a function where it is made."""
     file, pairs = rattle_edits.read(path)
     text = rattle_edits.replaced((ROOT / "crates" / crate.name / file).read_text(), pairs)
     said = check_of(crate, {file: text})

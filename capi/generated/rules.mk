@@ -35,7 +35,8 @@ endef
 define build
 	$(need_kit)
 	mkdir -p $(OUT)
-	@echo 'Proving and building ring_c: some ten minutes the first time. $(OUT)/rt.log has what rt says.'
+	@echo 'Proving and building ring_c: some ten minutes the first time. $(OUT)/rt.log has what rt' \
+	    'says.'
 	../tools/progress.py $(OUT)/rt.log ring_c $(RT) lib $(1) $(RT_FLAGS) \
 	    || { cat $(OUT)/rt.log; exit 1; }
 	mv $(CRATE)/out/libring_c.a $(2)

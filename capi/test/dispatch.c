@@ -220,8 +220,8 @@ static void print_table(void) {
     }
 }
 
-/* The build for this processor, by the compiler's own test. That of clang and of gcc before 11 knows
- * no levels. */
+/* The build for this processor, by the compiler's own test. That of clang and of gcc before 11
+ * knows no levels. */
 static int wanted(void) {
 #if defined(__clang__) || __GNUC__ < 11
     return __builtin_cpu_supports("avx2") && __builtin_cpu_supports("bmi2") ? 3 : 2;

@@ -142,8 +142,8 @@ class Alone(Case):
         for name in ("sums", "./sums", "/usr/bin/sha1sum", "a b"):
             found = self.run_all(["nothing"], name=name)
             self.assertEqual(found, (1, b"", name.encode() + reason))
-        elsewhere = {"PATH": f"{ROOT}:{os.environ['PATH']}"}
-        rows = [(ROOT, "./sums", {}), (self.path, str(LAUNCHER), {}), (self.path, "sums", elsewhere)]
+        on_path = {"PATH": f"{ROOT}:{os.environ['PATH']}"}
+        rows = [(ROOT, "./sums", {}), (self.path, str(LAUNCHER), {}), (self.path, "sums", on_path)]
         for folder, typed, environment in rows:
             environment = {**os.environ, **ENVIRONMENT, "PATH": os.environ["PATH"], **environment}
             found = subprocess.run(["bash", "-c", f"{typed} nothing"], cwd=folder, env=environment,

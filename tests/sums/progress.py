@@ -38,7 +38,8 @@ class Progress(Case):
     def shown(self, build, words, step, environment=(), **settings):
         """What a run shows one after another, and its output. At its end nothing is left of it."""
         calls = {**self.calls(step), **dict(environment)}
-        terminal, output = on_a_terminal(build, ["--progress", *words], self.path, calls, **settings)
+        words = ["--progress", *words]
+        terminal, output = on_a_terminal(build, words, self.path, calls, **settings)
         if terminal and "stop" not in settings:
             self.assertTrue(terminal.endswith(CLEAR + b"\r" + CLEAR), terminal[-80:])
         texts = terminal.split(CLEAR)

@@ -1,6 +1,6 @@
 // SPDX-License-Identifier: ISC
-// Ends with a sentence where this Node is older than package.json says, and where the module can't be
-// written beside the package's files. What follows doesn't parse in Node 12.
+// Ends with a sentence where this Node is older than package.json says, and where the module can't
+// be written beside the package's files. What follows doesn't parse in Node 12.
 
 "use strict";
 

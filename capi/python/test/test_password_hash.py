@@ -288,7 +288,7 @@ class Prepared(unittest.TestCase):
         ]:
             for text in (chr(code), f"a{chr(code)}b", f"\u05d0{chr(code)}\u05d1"):
                 if code == 0x200B:
-                    continue  # a space to PostgreSQL, and nothing to passlib: RFC 4013 has it as both
+                    continue  # a space to PostgreSQL, and nothing to passlib: both in RFC 4013
                 try:
                     want = saslprep(text)
                 except ValueError:

@@ -396,18 +396,21 @@ test("contexts are wiped at each step, and where the digest is taken", () => {
 
 const still = !("growable" in SharedArrayBuffer.prototype) && "this Node has no buffers that grow";
 test("a shared buffer that grows in a call is read as it was before", { skip: still }, () => {
+  const calls = [(it) => yz.digest("sha256", it),
+    (it) => yz.createHash("sha256").update(it).digest()];
+  // Views without a length of their own grow with the buffer.
+  const kinds = [(it) => it, (it) => new Uint8Array(it), (it) => new DataView(it)];
   for (const method of ["set", "subarray"]) {
     for (const len of [100, 70000]) {
       const wanted = theirs("sha256", Buffer.alloc(len, 0xaa));
-      for (const call of [(it) => yz.digest("sha256", it),
-        (it) => yz.createHash("sha256").update(it).digest()]) {
+      for (const [call, kind] of calls.flatMap((call) => kinds.map((kind) => [call, kind]))) {
         const shared = new SharedArrayBuffer(len, { maxByteLength: 1 << 20 });
         const grow = (usual) => {
           shared.grow(shared.byteLength + 5000);
           return usual();
         };
         new Uint8Array(shared).fill(0xaa);
-        assert.equal(hex(withMethod(method, grow, () => call(shared))), wanted);
+        assert.equal(hex(withMethod(method, grow, () => call(kind(shared)))), wanted);
         assert.ok(isWiped());
       }
     }

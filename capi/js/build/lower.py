@@ -3,10 +3,13 @@
 
     python3 lower.py MODULE64 MODULE32 EXPORT..
 
-Every instruction stays, and an address is cut to its lower 32 bits where it is used: a load gets an
-`i32.wrap_i64` before it; a store, a copy and a fill keep what lies above their addresses on the
-stack in locals that are added for that. Types of functions stay, so that addresses are passed as 64
-bits.
+Every instruction stays, and an address is cut to its lower 32 bits where it is used, as is the
+length of a copy and of a fill: a load gets an `i32.wrap_i64` before it; a store, a copy and a fill
+keep what lies above their addresses on the stack in locals that are added for that. Types of
+functions stay, so that addresses are passed as 64 bits.
+
+So an access of addresses or lengths from 2^32 on, where the module with 64-bit addresses traps, is
+one elsewhere in the memory. Callers must stay below: calls.js gives a call half of that at most.
 
 This program is trusted, so it refuses what it doesn't list: each section, instruction, type and
 export. Lengths are read to the last byte. The module keeps the named exports and the bodies that

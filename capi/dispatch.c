@@ -32,8 +32,7 @@ static bool takes_v3(enum work work, uint32_t algorithm) {
 #else
 
 /* The build that answers on a processor with x86-64-v3, by the number of the algorithm: that which
- * `make bench-builds` finds the faster. README.md has this table too, and `make builds` compares
- * both. */
+ * `make bench` finds the faster. README.md has this table too, and `make builds` compares both. */
 enum { V2 = 2, V3 = 3, ALGORITHMS = YZ_SHA512_256 + 1 };
 static const uint8_t BUILD[WORKS][ALGORITHMS] = {
     /*              none SHA-1 SHA-256 SHA-384 SHA-512 SHA-512/256 */

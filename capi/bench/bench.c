@@ -1,118 +1,174 @@
 /* SPDX-License-Identifier: ISC */
-/* The calls beside OpenSSL's and libsodium's, each where its header was there: our times, and their
- * ratios to theirs. All take turns at all work, on one processor, with the stack in changing places
- * of its page; of each the least processor time of all turns counts. Before, all must give the same
+/* Times the rows of rows.c by each party that was found, and prints times and ratios.
+ *
+ *     bench [--check] [--earlier LIBRARY] [--lines PROGRAM] LIBRARY [V2 V3]
+ *
+ * LIBRARY is a shared library; V2 and V3 are the same with one build for all processors. The
+ * parties take turns at all rows, on one processor, with the stack in changing places of its page,
+ * and the least processor time of each counts. Each step works on the result of the step before: a
+ * digest or a tag is copied over the front of its message. All parties must first give the same
  * bytes. */
 #define _GNU_SOURCE
-#include "party.h"
-#include <cpuid.h>
+#include "bench.h"
+#include <getopt.h>
 #include <sched.h>
 #include <stdio.h>
 #include <stdlib.h>
 #include <string.h>
 #include <time.h>
+#if defined(__x86_64__)
+#include <cpuid.h>
+#endif
 
-#define TURNS 400
+#define TURNS 128
 #define PLACES 16
 #define PAGE 4096
-#define HASHES 3
-#define WORKS 10
+#define COMPARED_STEPS 4
 
-uint8_t message[MOST_MESSAGE], key[KEY_LEN], salt[SALT_LEN], info[INFO_LEN];
+/* The calls of crates/ring_speed, NULL where it isn't linked. */
+__attribute__((weak)) uint64_t ring_speed_run(uint32_t work, uint32_t hash, uint32_t steps);
+__attribute__((weak)) uint64_t ring_speed_verify(uint32_t name, uint32_t steps);
 
-enum { OURS, OPENSSL, SODIUM, PARTIES };
+uint8_t messages[MAX_MESSAGES_LEN], key[KEY_LEN], salt[SALT_LEN], info[INFO_LEN];
+double least[MAX_WORKS][HASHES][PARTIES];
 
-static const party *const PARTY[PARTIES] = {&yezdopin, &openssl, &libsodium};
-static const hash HASH[HASHES] = {{"SHA1", 1, 20}, {"SHA256", 2, 32}, {"SHA512", 4, 64}};
-
-typedef struct {
-    const char *name;
-    size_t offset; /* of the call in a party */
-    size_t len;    /* 0: that of a digest */
-    int times;     /* in a turn */
-} work;
-
-#define CALL(member) offsetof(party, member)
-static const work WORK[WORKS] = {
-    {"digest of 16 bytes", CALL(digest), 16, 500},
-    {"digest of 64 bytes", CALL(digest), 64, 500},
-    {"digest of 1 KiB", CALL(digest), 1024, 50},
-    {"digest of 64 KiB", CALL(digest), 65536, 2},
-    {"context: begun, 64 bytes, ended", CALL(pieces), 64, 500},
-    {"update by 16 bytes", CALL(update), 16, 1000},
-    {"tag of 64 bytes", CALL(tag), 64, 200},
-    {"tag of 64 bytes, key ready", CALL(tag_under_key), 64, 500},
-    {"HKDF, 42 bytes", CALL(hkdf), 42, 100},
-    {"PBKDF2, 1,000 iterations", CALL(pbkdf2), 0, 1},
+static const party *const PARTY[RING_SPEED] = {
+    [OURS] = &yezdopin, [V2] = &yezdopin, [V3] = &yezdopin, [EARLIER] = &yezdopin,
+    [OPENSSL] = &openssl, [SODIUM] = &libsodium,
 };
+static uint8_t out[MAX_OUT_LEN];
+static bool is_there[PARTIES];
+static bool is_ready[PARTIES]; /* for the hash function of this turn */
+static const char *capabilities; /* that OpenSSL is limited to, or NULL */
+static const char *program;      /* behind ./bench, or NULL */
+static bool is_checked;
 
-/* The least times, in nanoseconds; 0 where a library doesn't do the work. */
-static double least[WORKS][HASHES][PARTIES];
-
-static void fill(uint8_t *bytes, size_t len) {
-    for (size_t i = 0; i < len; i++) bytes[i] = (uint8_t)rand();
+void fail(const char *where, const char *what) {
+    fprintf(stderr, "bench: %s: %s\n", where, what);
+    exit(2);
 }
 
-double now(void) {
+static double now(void) {
     struct timespec time;
     clock_gettime(CLOCK_PROCESS_CPUTIME_ID, &time);
     return (double)time.tv_sec * 1e9 + (double)time.tv_nsec;
 }
 
-static void fail(const char *what, const char *where) {
-    fprintf(stderr, "bench: %s: %s\n", where, what);
-    exit(2);
+/* The first eight bytes as a number, the highest byte first. */
+static uint64_t front(const uint8_t *bytes) {
+    uint64_t number = 0;
+    for (int i = 0; i < 8; i++) number = number << 8 | bytes[i];
+    return number;
 }
 
-static call *call_of(const party *at, const work *row) {
-    call *found;
-    memcpy(&found, (const char *)at + row->offset, sizeof found);
-    return found;
+static uint64_t run_ring_speed(const work *row, int h, uint32_t steps) {
+    if (row->kind != STORE) return ring_speed_run(row->number, (uint32_t)h, steps);
+    if (ring_speed_verify(row->number, ITERATIONS) != (row->number != UNKNOWN_NAME))
+        fail(row->name, "no password was set, or a wrong name was verified");
+    return 0;
 }
 
-/* The time of one call, with the stack in one of some places. */
-static double timed(call *run, const work *row, size_t len, int turn) {
-    uint8_t out[MOST_OUT], room[1 + (turn % PLACES) * (PAGE / PLACES)];
-    __asm__ volatile("" : : "r"(room) : "memory"); /* it stays */
+/* Does so many steps, and gives the front of the first message. */
+static uint64_t run(const work *row, int h, int p, uint32_t steps) {
+    if (p == RING_SPEED) return run_ring_speed(row, h, steps);
+    call *step = PARTY[p]->calls[row->kind];
+    size_t results = row->kind == UPDATE ? 0 : row->kind == EACH ? row->count : 1;
+    size_t len = HASH[h].out_len;
+    if (p < LIBRARIES) select_library(p);
+    for (uint32_t i = 0; i < steps; i++) {
+        if (!step(row, out)) fail(row->name, "a call failed");
+        for (size_t k = 0; k < results; k++) memcpy(message_at(row, k), out + k * len, len);
+    }
+    return front(messages);
+}
+
+static bool takes_part(int p, const work *row, int h) {
+    if (!is_ready[p]) return false;
+    if (p == RING_SPEED) return row->kind == STORE ? h == OF_SHA256 : row->number != 0;
+    return row->kind < KINDS && PARTY[p]->calls[row->kind];
+}
+
+/* Fails unless all parties give the same after so many steps from messages of zeros. */
+static void compare(const work *row, int h, uint32_t steps) {
+    static uint8_t expected[MAX_OUT_LEN];
+    uint64_t expected_front = 0;
+    bool is_first = true;
+    for (int p = 0; p < PARTIES; p++) {
+        if (!takes_part(p, row, h)) continue;
+        memset(messages, 0, sizeof messages), memset(out, 0, sizeof out);
+        uint64_t result = run(row, h, p, steps);
+        if (is_first) expected_front = result, memcpy(expected, out, sizeof out);
+        else if (result != expected_front
+                 || (p != RING_SPEED && memcmp(out, expected, sizeof out)))
+            fail(row->name, "the results differ");
+        is_first = false;
+    }
+}
+
+/* The time of a step. Where the stack begins is up to chance and changes it by up to 6 per cent, so
+ * each turn has it in another place. */
+static double timed(const work *row, int h, int p, int turn) {
+    uint8_t room[1 + (turn % PLACES) * (PAGE / PLACES)];
+    __asm__ volatile("" : : "r"(room) : "memory"); /* keeps the room */
     double start = now();
-    for (int i = 0; i < row->times; i++)
-        if (!run(len, out)) fail("a call failed", row->name);
-    return (now() - start) / row->times;
+    run(row, h, p, row->steps);
+    return (now() - start) / row->steps;
 }
 
-/* A turn of all libraries at some work under a hash function. */
-static void take_turn(size_t place, size_t hash_place, const bool *takes_part, int turn) {
-    const work *row = &WORK[place];
-    size_t len = row->len ? row->len : HASH[hash_place].out_len;
-    for (int i = 0; i < PARTIES; i++) {
-        call *run = takes_part[i] ? call_of(PARTY[i], row) : NULL;
-        double *best = &least[place][hash_place][i];
-        if (!run) continue;
-        double took = timed(run, row, len, turn);
-        if (*best == 0 || took < *best) *best = took;
+static void take_turn(int w, int h, int turn) {
+    for (int p = 0; p < PARTIES; p++) {
+        if (!takes_part(p, &WORK[w], h)) continue;
+        double time = timed(&WORK[w], h, p, turn);
+        if (turn == 0 || time < least[w][h][p]) least[w][h][p] = time;
     }
 }
 
-/* That all libraries give the same. */
-static void compare(size_t place, size_t hash_place, const bool *takes_part) {
-    const work *row = &WORK[place];
-    size_t len = row->len ? row->len : HASH[hash_place].out_len;
-    uint8_t outs[PARTIES][MOST_OUT] = {{0}};
-    for (int i = 0; i < PARTIES; i++) {
-        call *run = takes_part[i] ? call_of(PARTY[i], row) : NULL;
-        if (!run) continue;
-        if (!run(len, outs[i])) fail("a call failed", row->name);
-        if (memcmp(outs[i], outs[0], MOST_OUT)) fail("the answers differ", row->name);
+/* Makes the contexts and keys of all parties for a hash function. */
+static void begin(int h) {
+    for (int p = 0; p < RING_SPEED; p++) {
+        if (is_there[p] && p < LIBRARIES) select_library(p);
+        is_ready[p] = is_there[p] && PARTY[p]->begin(&HASH[h]);
     }
+    is_ready[RING_SPEED] = is_there[RING_SPEED];
 }
 
-/* Stays on one processor, and says which it is. */
+/* Compares all parties, and then takes all turns. */
+static void take_turns(void) {
+    for (int turn = -1; turn < TURNS; turn++)
+        for (int h = 0; h < HASHES; h++) {
+            begin(h);
+            for (int w = 0; w < work_count; w++) {
+                if (turn >= 0) take_turn(w, h, turn);
+                else for (uint32_t steps = 1; steps <= COMPARED_STEPS; steps++)
+                    compare(&WORK[w], h, steps);
+            }
+        }
+}
+
+/* Takes the time of setting a name off that of setting and verifying it. */
+static void subtract_setting(void) {
+    double set = least[STORE_SET][OF_SHA256][RING_SPEED];
+    least[STORE_KNOWN][OF_SHA256][RING_SPEED] -= set;
+    least[STORE_UNKNOWN][OF_SHA256][RING_SPEED] -= set;
+}
+
+static void time_lines(void) {
+    for (int w = LINE_64; w <= LINE_PBKDF2; w++)
+        for (int h = 0; h < HASHES; h++)
+            least[w][h][PROGRAM] = time_of_line(program, &WORK[w], &HASH[h]);
+}
+
+/* Stays on one processor. */
 static void stay(void) {
     cpu_set_t one;
-    unsigned name[13] = {0}, leaf[4] = {0};
     CPU_ZERO(&one);
     CPU_SET((size_t)sched_getcpu(), &one);
-    if (sched_setaffinity(0, sizeof one, &one)) fail("can't be kept to", "one processor");
+    if (sched_setaffinity(0, sizeof one, &one)) fail("one processor", "can't stay there");
+}
+
+static void print_processor(void) {
+#if defined(__x86_64__)
+    unsigned name[13] = {0}, leaf[4] = {0};
     for (unsigned i = 0; i < 3; i++) {
         unsigned *four = name + 4 * i;
         __get_cpuid(0x80000002 + i, &four[0], &four[1], &four[2], &four[3]);
@@ -121,69 +177,71 @@ static void stay(void) {
     printf("%s, %s AVX2, %s SHA instructions.\n", (const char *)name,
            __builtin_cpu_supports("avx2") ? "with" : "without",
            leaf[1] & bit_SHA ? "with" : "without");
+#endif
 }
 
-static void rule(bool columns[HASHES][PARTIES]) {
-    printf("|---|");
-    for (int h = 0; h < HASHES; h++)
-        for (int i = 0; i < PARTIES; i++)
-            if (columns[h][i]) printf("---|");
-}
-
-static void table(bool columns[HASHES][PARTIES]) {
-    printf("\n| Work |");
-    for (int h = 0; h < HASHES; h++) {
-        printf(" %s |", HASH[h].name);
-        if (columns[h][OPENSSL]) printf(" / OpenSSL |");
-        if (columns[h][SODIUM]) printf(" / libsodium |");
-    }
-    puts("");
-    rule(columns);
-    for (int w = 0; w < WORKS; w++) {
-        printf("\n| %s |", WORK[w].name);
-        for (int h = 0; h < HASHES; h++) {
-            const double *row = least[w][h];
-            if (row[OURS] < 10000) printf(" %.0f ns |", row[OURS]);
-            else printf(" %.0f us |", row[OURS] / 1000);
-            for (int i = OPENSSL; i < PARTIES; i++) {
-                if (columns[h][i] && row[i] > 0) printf(" %.2f |", row[OURS] / row[i]);
-                else if (columns[h][i]) printf(" |");
-            }
-        }
-    }
-    puts("");
-}
-
-/* Tells what takes part. Where OpenSSL is held back, it is the only other. */
-static void tell(const char *held_back) {
-    stay();
-    if (held_back) {
-        printf("%s, OPENSSL_ia32cap=%s.\n", openssl.name(), held_back);
+/* Prints which libraries take part. Where OpenSSL is limited, it is the only other. */
+static void print_parties(void) {
+    if (capabilities) {
+        printf("%s, OPENSSL_ia32cap=%s.\n", openssl.name(), capabilities);
         return;
     }
     if (openssl.name) printf("%s.\n", openssl.name());
-    else puts("OpenSSL 3 is left out: its headers weren't found.");
+    else puts("left out: OpenSSL 3, without its headers");
     if (libsodium.name) printf("%s.\n", libsodium.name());
-    else puts("libsodium is left out: its header wasn't found.");
+    else puts("left out: libsodium, without its header");
 }
 
-int main(void) {
-    const char *held_back = getenv("OPENSSL_ia32cap");
-    bool columns[HASHES][PARTIES];
-    if (held_back && !openssl.name) return 0;
-    fill(message, MOST_MESSAGE), fill(key, KEY_LEN), fill(salt, SALT_LEN), fill(info, INFO_LEN);
-    tell(held_back);
-    for (int turn = -1; turn < TURNS; turn++)
-        for (size_t h = 0; h < HASHES; h++) {
-            for (int i = OURS; i < PARTIES; i++)
-                columns[h][i] = PARTY[i]->name && !(held_back && i == SODIUM)
-                    && PARTY[i]->begin(&HASH[h]);
-            for (size_t w = 0; w < WORKS; w++) {
-                if (turn < 0) compare(w, h, columns[h]);
-                else take_turn(w, h, columns[h], turn);
-            }
-        }
-    table(columns);
-    if (!held_back) compare_each();
-    return 0;
+static void add_library(int library, const char *path) {
+#if defined(__x86_64__)
+    if (library == V3 && !__builtin_cpu_supports("avx2")) {
+        puts("left out: the build for x86-64-v3, without AVX2");
+        return;
+    }
+#endif
+    load_library(library, path);
+    is_there[library] = true;
+}
+
+static void read_arguments(int count, char **arguments) {
+    static const struct option OPTIONS[] = {
+        {"check", no_argument, NULL, 'c'},
+        {"earlier", required_argument, NULL, 'e'},
+        {"lines", required_argument, NULL, 'l'},
+        {NULL, 0, NULL, 0},
+    };
+    for (int option; (option = getopt_long(count, arguments, "", OPTIONS, NULL)) != -1;) {
+        if (option == 'c') is_checked = true;
+        else if (option == 'e') add_library(EARLIER, optarg);
+        else if (option == 'l') program = optarg;
+        else exit(2);
+    }
+    int libraries = count - optind;
+    if (libraries < 1 || libraries > EARLIER) fail("arguments", "one to three libraries");
+    for (int i = 0; i < (capabilities ? 1 : libraries); i++)
+        add_library(i, arguments[optind + i]);
+}
+
+int main(int count, char **arguments) {
+    capabilities = getenv("OPENSSL_ia32cap");
+    if (capabilities && !openssl.name) return 0;
+    stay();
+    print_processor();
+    read_arguments(count, arguments);
+    print_parties();
+    is_there[OPENSSL] = openssl.name;
+    is_there[SODIUM] = libsodium.name && !capabilities;
+    is_there[RING_SPEED] = ring_speed_run && !capabilities;
+    memset(key, 0x6b, KEY_LEN), memset(salt, 0x73, SALT_LEN), memset(info, 0x69, INFO_LEN);
+    if (capabilities) work_count = SINGLE_WORKS;
+    else add_counts();
+    take_turns();
+    print_libraries();
+    if (capabilities) return 0;
+    subtract_setting();
+    if (program) time_lines();
+    print_counts();
+    if (is_there[V3]) print_builds();
+    if (is_there[V2]) print_ratios();
+    return is_checked && check_limits() > 0;
 }

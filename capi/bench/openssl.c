@@ -1,7 +1,7 @@
 /* SPDX-License-Identifier: ISC */
 /* The work by OpenSSL 3, called as its manual advises: what is fetched is fetched once, and where a
- * call takes a context, that is made once for all calls. */
-#include "party.h"
+ * call takes a context, that is made once for all calls. Several messages are digested in turn. */
+#include "bench.h"
 
 #if __has_include(<openssl/core_names.h>)
 #include <openssl/core_names.h>
@@ -10,6 +10,7 @@
 #include <openssl/kdf.h>
 #include <openssl/params.h>
 
+static size_t out_len;
 static EVP_MD *md;
 static EVP_MD_CTX *running, *context;
 static EVP_MAC_CTX *mac, *ready;
@@ -28,6 +29,7 @@ static void end(void) {
 static bool begin(const hash *wanted) {
     static char digest_name[16];
     end();
+    out_len = wanted->out_len;
     for (size_t i = 0; i < sizeof digest_name - 1; i++)
         if (!(digest_name[i] = wanted->name[i])) break;
     md = EVP_MD_fetch(NULL, digest_name, NULL);
@@ -50,40 +52,53 @@ static bool begin(const hash *wanted) {
     return done && EVP_KDF_CTX_set_params(expanding, given);
 }
 
-static bool digest(size_t len, uint8_t *out) {
-    return EVP_Digest(message, len, out, NULL, md, NULL);
+static bool digest(const work *row, uint8_t *out) {
+    return EVP_Digest(messages, row->len, out, NULL, md, NULL);
 }
 
-static bool pieces(size_t len, uint8_t *out) {
-    return EVP_DigestInit_ex2(context, md, NULL) && EVP_DigestUpdate(context, message, len)
-        && EVP_DigestFinal_ex(context, out, NULL);
+static bool digest_of_pieces(const uint8_t *bytes, size_t count, size_t len, uint8_t *out) {
+    bool done = EVP_DigestInit_ex2(context, md, NULL);
+    for (size_t i = 0; i < count && done; i++)
+        done = EVP_DigestUpdate(context, bytes + i * len, len);
+    return done && EVP_DigestFinal_ex(context, out, NULL);
 }
 
-static bool update(size_t len, uint8_t *out) {
+static bool pieces(const work *row, uint8_t *out) {
+    return digest_of_pieces(messages, row->count, row->len, out);
+}
+
+static bool update(const work *row, uint8_t *out) {
     (void)out;
-    return EVP_DigestUpdate(running, message, len);
+    return EVP_DigestUpdate(running, messages, row->len);
 }
 
-static bool tag(size_t len, uint8_t *out) {
-    return EVP_MAC_init(mac, key, KEY_LEN, NULL) && EVP_MAC_update(mac, message, len)
-        && EVP_MAC_final(mac, out, NULL, MOST_OUT);
+static bool tag(const work *row, uint8_t *out) {
+    return EVP_MAC_init(mac, key, KEY_LEN, NULL) && EVP_MAC_update(mac, messages, row->len)
+        && EVP_MAC_final(mac, out, NULL, MAX_OUT_LEN);
 }
 
-static bool tag_under_key(size_t len, uint8_t *out) {
-    return EVP_MAC_init(ready, NULL, 0, NULL) && EVP_MAC_update(ready, message, len)
-        && EVP_MAC_final(ready, out, NULL, MOST_OUT);
+static bool tag_under_key(const work *row, uint8_t *out) {
+    return EVP_MAC_init(ready, NULL, 0, NULL) && EVP_MAC_update(ready, messages, row->len)
+        && EVP_MAC_final(ready, out, NULL, MAX_OUT_LEN);
 }
 
-static bool hkdf(size_t len, uint8_t *out) {
-    return EVP_KDF_derive(expanding, out, len, given + 1) == 1; /* the digest stays */
+static bool hkdf(const work *row, uint8_t *out) {
+    return EVP_KDF_derive(expanding, out, row->len, given + 1) == 1; /* the digest stays */
 }
 
-static bool pbkdf2(size_t len, uint8_t *out) {
-    return PKCS5_PBKDF2_HMAC((const char *)key, KEY_LEN, salt, SALT_LEN, ITERATIONS, md, (int)len,
-                             out);
+static bool pbkdf2(const work *row, uint8_t *out) {
+    return PKCS5_PBKDF2_HMAC((const char *)key, KEY_LEN, salt, SALT_LEN, ITERATIONS, md,
+                             (int)(row->count * out_len), out);
 }
 
-const party openssl = {name, begin, digest, pieces, update, tag, tag_under_key, hkdf, pbkdf2};
+static bool each(const work *row, uint8_t *out) {
+    for (size_t i = 0; i < row->count; i++)
+        if (!digest_of_pieces(message_at(row, i), 1, row->len, out + i * out_len)) return false;
+    return true;
+}
+
+const party openssl = {name, begin, {digest, pieces, update, tag, tag_under_key, hkdf, pbkdf2,
+                                     NULL, each}};
 #else
 const party openssl = {0};
 #endif

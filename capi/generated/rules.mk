@@ -98,6 +98,15 @@ $(KIT_ARCHIVE): $(if $(BUILT_V3),$(OUT)/dispatch.o) $(OUT)/status.o $(KIT_PARTS)
 	    | diff $(KIT_OUT)/names -
 	$(call archive,$(filter %.o,$^) --whole-archive $(filter %.a,$^))
 
+ifeq ($(ARCH),x86_64)
+# The same with one build for all processors, and what speed/run times of these.
+$(KIT_OUT)/v2/libyezdopin.a $(KIT_OUT)/v3/libyezdopin.a: $(KIT_OUT)/%/libyezdopin.a: \
+    $(OUT)/%/dispatch.o $(OUT)/status.o $(KIT_PARTS) $(OUT)/names
+	mkdir -p $(@D)
+	$(call archive,$(filter %.o,$^) --whole-archive $(filter %.a,$^))
+KIT_TIMED = $(KIT_ARCHIVE:.a=.so) $(KIT_OUT)/v2/libyezdopin.so $(KIT_OUT)/v3/libyezdopin.so
+endif
+
 # The head of each text. It has the crates as the last commit has them.
 NOTES = 'SPDX-License-Identifier: ISC' '' \
     'Written by `make -C capi generated` from the proved crate ring_c: do not edit.' \

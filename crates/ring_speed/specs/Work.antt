@@ -1,11 +1,8 @@
 -- SPDX-License-Identifier: ISC
 -- What each piece of work gives.
-use Rattle.std.specs.Prelude.{ℕ, List, Option, Some, None, if◌then◌else◌, max, nat_eq}
+use Rattle.std.specs.Prelude.{ℕ, List, Option, Some, None, if◌then◌else◌, nat_eq}
 use Rattle.std.specs.Prelude.{replicate, slice_index}
-use Rattle.ring.specs.Algorithm.{output_len}
 use Rattle.ring.specs.Digest.{digest_of}
-use Rattle.ring.specs.Hmac.{hmac_of}
-use Rattle.ring.specs.Pbkdf2.{dk}
 use Rattle.ring.specs.declared.digest.algorithm.Algorithm.{Algorithm}
 use Rattle.ring.specs.declared.digest.algorithm.TheConstants.{SHA1_FOR_LEGACY_USE_ONLY, SHA256}
 use Rattle.ring.specs.declared.digest.algorithm.TheConstants.{SHA512}
@@ -15,13 +12,10 @@ use Rattle.ring_speed.specs.Repeats.{front, message_after, words_after_steps}
 use Rattle.ring_speed.specs.declared.blocks.TheConstants.{BLOCK_LEN_32, BLOCK_LEN_64}
 use Rattle.ring_speed.specs.declared.hash.Hash.{Hash}
 use Rattle.ring_speed.specs.declared.hash.Hash.TheVariants.{Sha1, Sha256, Sha512}
-use Rattle.ring_speed.specs.declared.message.TheConstants.{KEY, LONG_LEN, SALT, SHORT_LEN}
+use Rattle.ring_speed.specs.declared.message.TheConstants.{LONG_LEN, SHORT_LEN}
 use Rattle.ring_speed.specs.declared.work.Work.{Work}
-use Rattle.ring_speed.specs.declared.work.Work.TheVariants.{Blocks, Iterates, Tags}
-use Rattle.ring_speed.specs.declared.work.Work.TheVariants.{ShortDigests, LongDigests}
+use Rattle.ring_speed.specs.declared.work.Work.TheVariants.{Blocks, FourContexts}
 use Rattle.ring_speed.specs.declared.work.Work.TheVariants.{KitShortDigests, KitLongDigests}
-use Rattle.ring_speed.specs.declared.work.Work.TheVariants.{FourShortDigests, FourLongDigests}
-use Rattle.ring_speed.specs.declared.work.Work.TheVariants.{DigestsOfPieces, FourContexts}
 use Rattle.sha1.specs.Sha1.{sha1}
 use Rattle.sha2.specs.Sha256.{sha256}
 use Rattle.sha2.specs.Sha512.{sha512}
@@ -44,20 +38,11 @@ block_words Sha1 n = words_after_steps sha1.block_step BLOCK_LEN_32 (replicate 5
 block_words Sha256 n = words_after_steps (block_step family_256) BLOCK_LEN_32 (replicate 8 0) n
 block_words Sha512 n = words_after_steps (block_step family_512) BLOCK_LEN_64 (replicate 8 0) n
 
--- what so many steps of a piece of work give: the first of the words, the front of the message, or
--- that of one round of output, which takes one iteration at least
+-- what so many steps of a piece of work give: the first of the words, or the front of the message
 abbrev pub given : Work → Hash → (steps : ℕ) → ℕ
 given Blocks h n = slice_index (block_words h n) 0
-given Iterates h n =
-    front (dk (algorithm_of h) KEY SALT (max n 1) (output_len (algorithm_of h)))
-given Tags h n = front (message_after (hmac_of (algorithm_of h) KEY) SHORT_LEN n)
-given ShortDigests h n = front (message_after (digest_of (algorithm_of h)) SHORT_LEN n)
-given LongDigests h n = front (message_after (digest_of (algorithm_of h)) LONG_LEN n)
 given KitShortDigests h n = front (message_after (kit_digest_of h) SHORT_LEN n)
 given KitLongDigests h n = front (message_after (kit_digest_of h) LONG_LEN n)
-given FourShortDigests h n = front (message_after (digest_of (algorithm_of h)) SHORT_LEN n)
-given FourLongDigests h n = front (message_after (digest_of (algorithm_of h)) LONG_LEN n)
-given DigestsOfPieces h n = front (message_after (digest_of (algorithm_of h)) LONG_LEN n)
 given FourContexts h n = front (message_after (digest_of (algorithm_of h)) LONG_LEN n)
 
 -- the hash function of a number
@@ -72,16 +57,9 @@ hash_named number =
 abbrev pub work_named : ℕ → Option Work
 work_named number =
     if nat_eq number 1 then Some Blocks
-    else if nat_eq number 2 then Some Iterates
-    else if nat_eq number 3 then Some Tags
-    else if nat_eq number 4 then Some ShortDigests
-    else if nat_eq number 5 then Some LongDigests
-    else if nat_eq number 6 then Some KitShortDigests
-    else if nat_eq number 7 then Some KitLongDigests
-    else if nat_eq number 8 then Some FourShortDigests
-    else if nat_eq number 9 then Some FourLongDigests
-    else if nat_eq number 10 then Some DigestsOfPieces
-    else if nat_eq number 11 then Some FourContexts
+    else if nat_eq number 2 then Some KitShortDigests
+    else if nat_eq number 3 then Some KitLongDigests
+    else if nat_eq number 4 then Some FourContexts
     else None
 
 -- what a call gives: 0 where a number names nothing

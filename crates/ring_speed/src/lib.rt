@@ -1,5 +1,6 @@
 // SPDX-License-Identifier: ISC
-//! What speed is measured by: calls for C, which `speed/driver.c` times.
+//! Work that `capi/bench` times and C can't call: block functions, contexts that are updated at
+//! once, the digests of the kit's crates, and the store.
 //!
 //! - `ring_speed_run` does one piece of work so many times, each time on what the time before gave,
 //!   and gives a number that rests on all of it.
@@ -8,13 +9,8 @@
 
 mod blocks;
 mod contexts;
-mod derivations;
-mod digests;
-mod fours;
 mod hash;
 mod kit;
 mod message;
-mod pieces;
-mod tags;
 mod verifications;
 mod work;

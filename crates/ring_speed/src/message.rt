@@ -10,10 +10,10 @@ pub(crate) const LONG_LEN: usize = 65_536;
 // The bytes of a short message.
 pub(crate) const SHORT_LEN: usize = 64;
 
-// The key of the tags, and the secret of the derivations.
+// The password of the store.
 pub(crate) const KEY: [u8; 32] = [0x6b; 32];
 
-// The salt of the derivations.
+// The salt of the store.
 pub(crate) const SALT: [u8; 16] = [0x73; 16];
 
 // Writes the bytes in the place of as many of the message's first.

@@ -6,21 +6,14 @@ ghost use Rattle.ring_speed.specs.Work.{answer, given, hash_named, work_named};
 
 use crate::hash::Hash;
 use crate::message::{LONG_LEN, SHORT_LEN};
-use crate::{blocks, contexts, derivations, digests, fours, kit, pieces, tags};
+use crate::{blocks, contexts, kit};
 
 // A piece of work.
 #[derive(Clone, Copy)]
 pub(crate) enum Work {
     Blocks,
-    Iterates,
-    Tags,
-    ShortDigests,
-    LongDigests,
     KitShortDigests,
     KitLongDigests,
-    FourShortDigests,
-    FourLongDigests,
-    DigestsOfPieces,
     FourContexts,
 }
 
@@ -30,16 +23,9 @@ fn work_of_number(number: u32) -> Option<Work>
 {
     match number {
         1 => Some(Work::Blocks),
-        2 => Some(Work::Iterates),
-        3 => Some(Work::Tags),
-        4 => Some(Work::ShortDigests),
-        5 => Some(Work::LongDigests),
-        6 => Some(Work::KitShortDigests),
-        7 => Some(Work::KitLongDigests),
-        8 => Some(Work::FourShortDigests),
-        9 => Some(Work::FourLongDigests),
-        10 => Some(Work::DigestsOfPieces),
-        11 => Some(Work::FourContexts),
+        2 => Some(Work::KitShortDigests),
+        3 => Some(Work::KitLongDigests),
+        4 => Some(Work::FourContexts),
         _ => None,
     }
 }
@@ -50,15 +36,8 @@ fn done(work: Work, hash: Hash, steps: u32) -> u64
 {
     match work {
         Work::Blocks => blocks::first_word(hash, steps),
-        Work::Iterates => derivations::front_of_output(hash, steps),
-        Work::Tags => tags::front_after(hash, steps),
-        Work::ShortDigests => digests::front_after::<SHORT_LEN>(hash, steps),
-        Work::LongDigests => digests::front_after::<LONG_LEN>(hash, steps),
         Work::KitShortDigests => kit::front_after::<SHORT_LEN>(hash, steps),
         Work::KitLongDigests => kit::front_after::<LONG_LEN>(hash, steps),
-        Work::FourShortDigests => fours::front_after::<SHORT_LEN>(hash, steps),
-        Work::FourLongDigests => fours::front_after::<LONG_LEN>(hash, steps),
-        Work::DigestsOfPieces => pieces::front_after::<LONG_LEN>(hash, steps),
         Work::FourContexts => contexts::front_after::<LONG_LEN>(hash, steps),
     }
 }
@@ -67,14 +46,9 @@ fn done(work: Work, hash: Hash, steps: u32) -> u64
 ///
 /// | `work` | A step |
 /// |---|---|
-/// | 1 | two runs of the block function, which is the least that an iterate needs |
-/// | 2 | an iterate of PBKDF2, in one round of output |
-/// | 3 | a tag of 64 bytes under a key that is ready |
-/// | 4, 5 | a digest of 64 bytes, and of 64 KiB |
-/// | 6, 7 | the same by the crates `sha1` and `sha2` |
-/// | 8, 9 | digests of four messages at once, of 64 bytes, and of 64 KiB |
-/// | 10 | a digest of 64 KiB, by a context that takes 16 bytes at a time |
-/// | 11 | digests of four messages of 64 KiB, by contexts that are updated at once |
+/// | 1 | two runs of the block function, which is the least that an iterate of PBKDF2 needs |
+/// | 2, 3 | a digest of 64 bytes, and of 64 KiB, by the crates `sha1` and `sha2` |
+/// | 4 | digests of four messages of 64 KiB, by contexts that are updated at once |
 ///
 /// | `hash` | |
 /// |---|---|

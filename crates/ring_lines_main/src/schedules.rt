@@ -16,36 +16,20 @@ mod traffic;
 
 /// The bytes that a line asks for by its words.
 pub fn secret_bytes(alloc: Global, words: &[&str]) -> Result<Vec<u8>, Fault> {
-    match words {
-        [form, hash, salt, material] => {
-            is_form(form, "extract")?;
-            extracted(alloc, hash, salt, material)
-        }
-        [form, version, id, side, output] if *form == "quic" => {
-            initial_output(alloc, [version, id, side], output)
-        }
-        [form, version, hash, secret, output] => {
-            is_form(form, "packet")?;
-            packet_output(alloc, version, [hash, secret], output)
-        }
-        [form, hash, secret, label, context, len] => {
-            is_form(form, "expand-label")?;
+    match *words {
+        ["extract", hash, salt, material] => extracted(alloc, hash, salt, material),
+        ["expand-label", hash, secret, label, context, len] => {
             expanded(alloc, hash, [secret, label, context], len)
         }
-        [form, hash, psk, shared, name, transcript, output] => {
-            is_form(form, "tls13")?;
+        ["tls13", hash, psk, shared, name, transcript, output] => {
             let inputs = Inputs::new(alloc, hash, [psk, shared, transcript])?;
             stage_output(alloc, &inputs, name, output)
         }
+        ["quic", version, id, side, output] => initial_output(alloc, [version, id, side], output),
+        ["packet", version, hash, secret, output] => {
+            packet_output(alloc, version, [hash, secret], output)
+        }
         _ => Err(Fault::BadLine),
-    }
-}
-
-/// Whether a line of this many words has the form that these have.
-fn is_form(word: &str, form: &str) -> Result<(), Fault> {
-    match word == form {
-        true => Ok(()),
-        false => Err(Fault::BadLine),
     }
 }
 

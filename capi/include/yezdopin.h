@@ -122,7 +122,8 @@ typedef struct {
  * is compiled into the caller, since no code of the library is sure to run there. */
 static inline bool yz_supported(void) {
     /* SSE3, SSSE3, CMPXCHG16B, SSE4.1, SSE4.2 and POPCNT, then LAHF. Every x86-64 processor has
-     * both leaves. <cpuid.h> isn't included, since gcc before 11 fails where it is so twice. */
+     * both leaves. <cpuid.h> isn't included, since gcc before 11 fails where it is included
+     * twice. */
     const unsigned wanted = 1u | 1u << 9 | 1u << 13 | 1u << 19 | 1u << 20 | 1u << 23, lahf = 1;
     unsigned a = 1, b, c, d, found;
     __asm__ volatile("cpuid" : "+a"(a), "=b"(b), "=c"(found), "=d"(d));

@@ -1,7 +1,7 @@
 // SPDX-License-Identifier: ISC
 //! The block function of SHA-1 over the blocks of one message, one after another (FIPS 180-4,
-//! 6.1.2, steps 1 to 4). The schedule is made four words at a time and is sixteen words ahead of the
-//! rounds, which add ready sums of words and constants.
+//! 6.1.2, steps 1 to 4). The schedule is made four words at a time and is sixteen words ahead of
+//! the rounds, which add ready sums of words and constants.
 ghost use Rattle.std.specs.Prelude.{◌≡◌, ℕ, ◌+◌, ◌*◌, ◌<◌, ◌≤◌, List, map, take, drop};
 ghost use Rattle.ring_core.specs.FourWords.{later_four, next_four};
 ghost use Rattle.ring_core.specs.Prelude.{HoldsSums, IsAhead, IsBlockOf, chunk_items, chunk_total};

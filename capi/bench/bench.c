@@ -1,7 +1,7 @@
 /* SPDX-License-Identifier: ISC */
 /* Times the rows of rows.c by each party that was found, and prints times and ratios.
  *
- *     bench [--check] [--earlier LIBRARY] [--lines PROGRAM] LIBRARY [V2 V3]
+ *     bench [--check] [--earlier LIBRARY [--earlier V2]] [--lines PROGRAM] LIBRARY [V2 V3]
  *
  * LIBRARY is a shared library; V2 and V3 are the same with one build for all processors. The
  * parties take turns at all rows, on one processor, with the stack in changing places of its page,
@@ -34,7 +34,7 @@ double least[MAX_WORKS][HASHES][PARTIES];
 
 static const party *const PARTY[RING_SPEED] = {
     [OURS] = &yezdopin, [V2] = &yezdopin, [V3] = &yezdopin, [EARLIER] = &yezdopin,
-    [OPENSSL] = &openssl, [SODIUM] = &libsodium,
+    [EARLIER_V2] = &yezdopin, [OPENSSL] = &openssl, [SODIUM] = &libsodium,
 };
 static uint8_t out[MAX_OUT_LEN];
 static bool is_there[PARTIES];
@@ -212,7 +212,7 @@ static void read_arguments(int count, char **arguments) {
     };
     for (int option; (option = getopt_long(count, arguments, "", OPTIONS, NULL)) != -1;) {
         if (option == 'c') is_checked = true;
-        else if (option == 'e') add_library(EARLIER, optarg);
+        else if (option == 'e') add_library(is_there[EARLIER] ? EARLIER_V2 : EARLIER, optarg);
         else if (option == 'l') program = optarg;
         else exit(2);
     }

@@ -27,9 +27,10 @@ typedef struct {
 extern const hash HASH[HASHES];
 
 /* The parties: the library, which chooses its build at run time; each build alone; an earlier
- * library; OpenSSL and libsodium; crates/ring_speed; and the program behind ./bench. */
+ * library, and its build for x86-64-v2 alone; OpenSSL and libsodium; crates/ring_speed; and the
+ * program behind ./bench. */
 enum {
-    OURS, V2, V3, EARLIER, LIBRARIES,
+    OURS, V2, V3, EARLIER, EARLIER_V2, LIBRARIES,
     OPENSSL = LIBRARIES, SODIUM, RING_SPEED, PROGRAM, PARTIES,
 };
 

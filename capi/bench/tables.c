@@ -85,14 +85,18 @@ void print_counts(void) {
 }
 
 void print_builds(void) {
+    bool has_earlier = least[DIGEST_64][OF_SHA1][EARLIER_V2] > 0;
     printf("\n| Work, the build for x86-64-v2 |");
-    for (int h = 0; h < HASHES; h++) printf(" %s | v3 / v2 |", HASH[h].name);
-    print_rule(2 * HASHES);
+    for (int h = 0; h < HASHES; h++)
+        printf(" %s |%s v3 / v2 |", HASH[h].name, has_earlier ? " / earlier |" : "");
+    print_rule((has_earlier ? 3 : 2) * HASHES);
     for (int w = 0; w < CALLED_WORKS; w++) {
         printf("\n| %s |", WORK[w].name);
         for (int h = 0; h < HASHES; h++) {
-            printf(" %.2f us |", least[w][h][V2] / 1000);
-            print_cell(ratio_of(least[w][h][V3], least[w][h][V2]));
+            const double *times = least[w][h];
+            printf(" %.2f us |", times[V2] / 1000);
+            if (has_earlier) print_cell(ratio_of(times[V2], times[EARLIER_V2]));
+            print_cell(ratio_of(times[V3], times[V2]));
         }
     }
     puts("");
@@ -127,6 +131,21 @@ static bool is_above(const char *name, int h, double value, double limit) {
     return true;
 }
 
+/* Prints the calls that are above their limit over an earlier library, and gives how many; adds to
+ * the number of limits. */
+static int check_earlier(int ours, int earlier, const char *where, int *limits) {
+    int above = 0;
+    for (int w = 0; w < CALLED_WORKS; w++)
+        for (int h = 0; h < HASHES; h++) {
+            double value = ratio_of(least[w][h][ours], least[w][h][earlier]);
+            char name[80];
+            if (value == 0) continue;
+            snprintf(name, sizeof name, "%s / %s", WORK[w].name, where);
+            *limits += 1, above += is_above(name, h, value, EARLIER_LIMIT);
+        }
+    return above;
+}
+
 int check_limits(void) {
     int limits = 0, above = 0;
     puts("");
@@ -135,12 +154,8 @@ int check_limits(void) {
             if (it->limit[h] == 0) continue;
             limits++, above += is_above(it->name, h, value_of(it, h), it->limit[h]);
         }
-    for (int w = 0; w < CALLED_WORKS; w++)
-        for (int h = 0; h < HASHES; h++) {
-            double value = ratio_of(least[w][h][OURS], least[w][h][EARLIER]);
-            if (value == 0) continue;
-            limits++, above += is_above(WORK[w].name, h, value, EARLIER_LIMIT);
-        }
+    above += check_earlier(OURS, EARLIER, "earlier", &limits);
+    above += check_earlier(V2, EARLIER_V2, "the earlier build for x86-64-v2", &limits);
     printf("%d limits, %d hold\n", limits, limits - above);
     return above;
 }

@@ -104,6 +104,11 @@ pub fn long_key_signs_as_its_digest()
         → hmac_of a k m ≡ hmac_of a (digest_of a k) m }
 {}
 
+/// A digest has as many bytes as its algorithm says (FIPS 180-4, section 1).
+pub fn digest_has_output_len()
+    ensures { (a : Algorithm) (m : List ℕ) → length (digest_of a m) ≡ output_len a }
+{}
+
 /// A shorter output of HKDF is the front of a longer one (RFC 5869, section 2.3).
 #[tactic(auto, unfolding(crate::specs::Hkdf::okm))]
 pub fn shorter_output_is_a_front()

@@ -1,0 +1,14 @@
+-- SPDX-License-Identifier: ISC
+pub mod Trees
+pub mod Pairs
+pub mod Stacks
+pub mod Sides
+pub mod Shifts
+pub mod Filled
+pub mod Levels
+pub mod Walks
+pub mod Rises
+pub mod Included
+pub mod Begun
+pub mod Powers
+pub mod Collisions

@@ -1,0 +1,25 @@
+-- SPDX-License-Identifier: ISC
+use Rattle.std.proofs.Common.{◌≡◌, ◌^◌, ◌<◌, ◌≤◌, ℕ, suc, List, length, take, drop, map, refl}
+use Rattle.std.proofs.Common.{arith, subst}
+use Rattle.std.proofs.lemmas.List.{drop-map, length-map, take-map}
+use Rattle.std.proofs.Math.Numerals.{add-one}
+use Rattle.ring_merkle.specs.Tree.{leaf_hash, node_hash, root_at, root_of}
+use Rattle.ring_merkle.proofs.Trees.{root-split}
+use Rattle.ring_merkle.proofs.laws.tree_hash_is_recursive.Goals as goal
+
+pub returns-clause-none : goal.returns-clause-none
+unfolding root_of root_at
+returns-clause-none c = refl
+
+pub returns-clause-one : goal.returns-clause-one
+unfolding root_of root_at
+returns-clause-one c d = refl
+
+pub returns-clause-more : goal.returns-clause-more
+returns-clause-more c ds j lt le =
+    let n = length-map ds leaf_hash in
+    let up : length ds ≤ 2 ^ suc j = subst (λ k. length ds ≤ 2 ^ k) (add-one j) le in
+    let s = root-split j (map leaf_hash ds) (omega arith) (omega arith) in
+    let t = take-map leaf_hash (2 ^ j) ds in
+    let d = drop-map leaf_hash (2 ^ j) ds in
+    cc

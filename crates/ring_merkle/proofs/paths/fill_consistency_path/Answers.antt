@@ -1,0 +1,132 @@
+-- SPDX-License-Identifier: ISC
+use Rattle.std.proofs.Common.{◌≡◌, ◌-◌, ◌≤◌, [], ◌∷◌, ◌++◌, ◌∙◌, drop, take, length, refl, ap, sym}
+use Rattle.std.proofs.Common.{arith, false, cond}
+use Rattle.std.proofs.lemmas.Bool.{cond-false, cond-true}
+use Rattle.std.proofs.lemmas.List.{length-set}
+use Rattle.ring_merkle.specs.Consistency.{subproof_of}
+use Rattle.ring_merkle.specs.Tree.{root_of}
+use Rattle.ring_merkle.proofs.Filled.{filled-all, filled-next, sub-at-left, sub-at-right}
+use Rattle.ring_merkle.proofs.Filled.{sub-some}
+use Rattle.ring_merkle.proofs.Trees.{sub-all}
+use Rattle.ring_merkle.proofs.paths.fill_consistency_path.Goals as goal
+
+pub overflow_sub-end : goal.overflow_sub-end
+overflow_sub-end c =
+    let s = c.split_of-split.ensures in
+    omega (
+      arith,
+      sub-some _ c.loop-size.rest.now s.power s.below s.largest c.loop-size.size
+          c.loop-size.is_first c.loop-size-test.true,
+      c.loop-size.invariant.filled.left,
+    )
+
+pub bounds-out-end : goal.bounds-out-end
+bounds-out-end c =
+    let s = c.split_of-split.ensures in
+    omega (
+      arith,
+      sub-some _ c.loop-size.rest.now s.power s.below s.largest c.loop-size.size
+          c.loop-size.is_first c.loop-size-test.true,
+      c.loop-size.invariant.filled.left,
+      c.loop-size.invariant.fits,
+    )
+
+pub bounds-out-end-else-size-split : goal.bounds-out-end-else-size-split
+bounds-out-end-else-size-split c =
+    let s = c.split_of-split.ensures in
+    omega (
+      arith,
+      sub-some _ c.loop-size.rest.now s.power s.below s.largest c.loop-size.size
+          c.loop-size.is_first c.loop-size-test.true,
+      c.loop-size.invariant.filled.left,
+      c.loop-size.invariant.fits,
+    )
+
+pub loop-size-preserved-then-size-split : goal.loop-size-preserved-then-size-split
+loop-size-preserved-then-size-split c =
+    let xs = c.loop-size.rest.now in
+    let s = c.split_of-split.result in
+    let m = c.loop-size.size in
+    let b = c.loop-size.is_first in
+    let out = c.loop-size.out in
+    let last = c.loop-size.end - 1 in
+    let x = c.tree_root.result in
+    let ensures = c.split_of-split.ensures in
+    let inv = c.loop-size.invariant in
+    let cut = c.split_at.ensures in
+    let e : subproof_of m xs b ≡ subproof_of m c.split_at.result.0.now b ++ x ∷ [] =
+    sub-at-left s xs ensures.power ensures.below ensures.largest m b c.if-size-split.true
+    ∙ ap (λ ys. subproof_of m ys b ++ root_of (drop s xs) ∷ []) (sym cut.front)
+    ∙ ap (λ z. subproof_of m c.split_at.result.0.now b ++ z ∷ [])
+    (ap root_of (sym cut.back) ∙ sym c.tree_root.ensures) in
+    record {
+      nonempty = inv.nonempty;
+      within = omega (arith, cut.front_len, c.if-size-split.true);
+      kept = length-set out last x ∙ inv.kept;
+      fits = omega (arith, length-set out last x, inv.fits);
+      filled = filled-next _ _ _ x c.loop-size.end last out e inv.fits refl inv.filled;
+    }
+
+pub loop-size-preserved : goal.loop-size-preserved
+loop-size-preserved c =
+    let xs = c.loop-size.rest.now in
+    let s = c.split_of-split.result in
+    let m = c.loop-size.size in
+    let b = c.loop-size.is_first in
+    let out = c.loop-size.out in
+    let last = c.loop-size.end - 1 in
+    let x = c.tree_root-else-size-split.result in
+    let ensures = c.split_of-split.ensures in
+    let inv = c.loop-size.invariant in
+    let cut = c.split_at.ensures in
+    let e : subproof_of m xs b ≡ subproof_of (m - s) c.split_at.result.1.now false ++ x ∷ [] =
+    sub-at-right s xs ensures.power ensures.below ensures.largest m b c.loop-size-test.true
+    c.if-size-split.false
+    ∙ ap (λ ys. subproof_of (m - s) ys false ++ root_of (take s xs) ∷ []) (sym cut.back)
+    ∙ ap (λ z. subproof_of (m - s) c.split_at.result.1.now false ++ z ∷ [])
+    (ap root_of (sym cut.front) ∙ sym c.tree_root-else-size-split.ensures) in
+    record {
+      nonempty = omega (arith, c.if-size-split.false);
+      within = omega (arith, cut.back_len, inv.within, c.if-size-split.false);
+      kept = length-set out last x ∙ inv.kept;
+      fits = omega (arith, length-set out last x, inv.fits);
+      filled = filled-next _ _ _ x c.loop-size.end last out e inv.fits refl inv.filled;
+    }
+
+pub overflow_sub-first : goal.overflow_sub-first
+overflow_sub-first c =
+    let inv = c.loop-size.invariant in
+    let all = sub-all c.loop-size.size c.loop-size.rest.now c.loop-size.is_first
+    (omega (arith, inv.within, c.loop-size-test.false))
+    ∙ cond-false _ _ _ c.if-not-is_first.true in
+    omega (arith, inv.filled.left, ap length all)
+
+pub bounds-out-first : goal.bounds-out-first
+bounds-out-first c =
+    let inv = c.loop-size.invariant in
+    let all = sub-all c.loop-size.size c.loop-size.rest.now c.loop-size.is_first
+    (omega (arith, inv.within, c.loop-size-test.false))
+    ∙ cond-false _ _ _ c.if-not-is_first.true in
+    omega (arith, inv.filled.left, inv.fits, ap length all)
+
+pub returns-then-not-is_first : goal.returns-then-not-is_first
+returns-then-not-is_first c =
+    let inv = c.loop-size.invariant in
+    let x = c.tree_root-then-not-is_first.result in
+    let all : subproof_of c.loop-size.size c.loop-size.rest.now c.loop-size.is_first ≡ x ∷ [] =
+    sub-all c.loop-size.size c.loop-size.rest.now c.loop-size.is_first
+    (omega (arith, inv.within, c.loop-size-test.false))
+    ∙ cond-false _ _ _ c.if-not-is_first.true
+    ∙ ap (λ z. z ∷ []) (sym c.tree_root-then-not-is_first.ensures) in
+    filled-all _ [] (c.loop-size.end - 1) _ refl
+    (filled-next _ _ [] x c.loop-size.end (c.loop-size.end - 1) c.loop-size.out all inv.fits refl
+    inv.filled)
+
+pub returns-else-not-is_first : goal.returns-else-not-is_first
+returns-else-not-is_first c =
+    let inv = c.loop-size.invariant in
+    filled-all _ _ c.loop-size.end c.loop-size.out
+    (sub-all c.loop-size.size c.loop-size.rest.now c.loop-size.is_first
+    (omega (arith, inv.within, c.loop-size-test.false))
+    ∙ cond-true _ _ _ c.if-not-is_first.false)
+    inv.filled

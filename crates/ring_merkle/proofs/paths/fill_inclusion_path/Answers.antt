@@ -1,0 +1,90 @@
+-- SPDX-License-Identifier: ISC
+use Rattle.std.proofs.Common.{◌≡◌, ◌-◌, ◌≤◌, [], ◌∷◌, ◌++◌, ◌∙◌, drop, take, length, refl, ap, sym}
+use Rattle.std.proofs.Common.{arith, length-drop, length-take}
+use Rattle.std.proofs.lemmas.List.{length-set}
+use Rattle.ring_merkle.specs.Inclusion.{path_of}
+use Rattle.ring_merkle.specs.Tree.{root_of}
+use Rattle.ring_merkle.proofs.Filled.{filled-all, filled-next, path-at-left, path-at-right}
+use Rattle.ring_merkle.proofs.Filled.{path-leaf, path-some}
+use Rattle.ring_merkle.proofs.paths.fill_inclusion_path.Goals as goal
+
+pub overflow_sub-end : goal.overflow_sub-end
+overflow_sub-end c =
+    let s = c.split_of-split.ensures in
+    omega (
+      arith,
+      path-some _ c.loop-rest.rest.now s.power s.below s.largest c.loop-rest.node,
+      c.loop-rest.invariant.filled.left,
+    )
+
+pub bounds-out-end : goal.bounds-out-end
+bounds-out-end c =
+    let s = c.split_of-split.ensures in
+    omega (
+      arith,
+      path-some _ c.loop-rest.rest.now s.power s.below s.largest c.loop-rest.node,
+      c.loop-rest.invariant.filled.left,
+      c.loop-rest.invariant.fits,
+    )
+
+pub bounds-out-end-else-node-split : goal.bounds-out-end-else-node-split
+bounds-out-end-else-node-split c =
+    let s = c.split_of-split.ensures in
+    omega (
+      arith,
+      path-some _ c.loop-rest.rest.now s.power s.below s.largest c.loop-rest.node,
+      c.loop-rest.invariant.filled.left,
+      c.loop-rest.invariant.fits,
+    )
+
+pub loop-rest-preserved-then-node-split : goal.loop-rest-preserved-then-node-split
+loop-rest-preserved-then-node-split c =
+    let xs = c.loop-rest.rest.now in
+    let s = c.split_of-split.result in
+    let m = c.loop-rest.node in
+    let out = c.loop-rest.out in
+    let last = c.loop-rest.end - 1 in
+    let x = c.tree_root.result in
+    let ensures = c.split_of-split.ensures in
+    let inv = c.loop-rest.invariant in
+    let cut = c.split_at.ensures in
+    let e : path_of m xs ≡ path_of m c.split_at.result.0.now ++ x ∷ [] =
+    path-at-left s xs ensures.power ensures.below ensures.largest m c.if-node-split.true
+    ∙ ap (λ ys. path_of m ys ++ root_of (drop s xs) ∷ []) (sym cut.front)
+    ∙ ap (λ z. path_of m c.split_at.result.0.now ++ z ∷ [])
+    (ap root_of (sym cut.back) ∙ sym c.tree_root.ensures) in
+    record {
+      within = omega (arith, cut.front_len, c.if-node-split.true);
+      kept = length-set out last x ∙ inv.kept;
+      fits = omega (arith, length-set out last x, inv.fits);
+      filled = filled-next _ _ _ x c.loop-rest.end last out e inv.fits refl inv.filled;
+    }
+
+pub loop-rest-preserved : goal.loop-rest-preserved
+loop-rest-preserved c =
+    let xs = c.loop-rest.rest.now in
+    let s = c.split_of-split.result in
+    let m = c.loop-rest.node in
+    let out = c.loop-rest.out in
+    let last = c.loop-rest.end - 1 in
+    let x = c.tree_root-else-node-split.result in
+    let ensures = c.split_of-split.ensures in
+    let inv = c.loop-rest.invariant in
+    let cut = c.split_at.ensures in
+    let e : path_of m xs ≡ path_of (m - s) c.split_at.result.1.now ++ x ∷ [] =
+    path-at-right s xs ensures.power ensures.below ensures.largest m c.if-node-split.false
+    ∙ ap (λ ys. path_of (m - s) ys ++ root_of (take s xs) ∷ []) (sym cut.back)
+    ∙ ap (λ z. path_of (m - s) c.split_at.result.1.now ++ z ∷ [])
+    (ap root_of (sym cut.front) ∙ sym c.tree_root-else-node-split.ensures) in
+    record {
+      within = omega (arith, cut.back_len, inv.within, c.if-node-split.false);
+      kept = length-set out last x ∙ inv.kept;
+      fits = omega (arith, length-set out last x, inv.fits);
+      filled = filled-next _ _ _ x c.loop-rest.end last out e inv.fits refl inv.filled;
+    }
+
+pub returns : goal.returns
+returns c =
+    filled-all _ _ c.loop-rest.end c.loop-rest.out
+    (path-leaf c.loop-rest.node c.loop-rest.rest.now c.loop-rest-test.false)
+    c.loop-rest.invariant.filled

@@ -1,0 +1,16 @@
+-- SPDX-License-Identifier: ISC
+use Rattle.std.proofs.Common.{◌≡◌, ◌<◌, ◌≤◌, length}
+use Rattle.ring_merkle.specs.Inclusion.{path_of}
+use Rattle.ring_merkle.proofs.Filled.{Filled}
+use Rattle.ring_merkle.proofs.paths.fill_inclusion_path.Given as goal
+
+abbrev pub invariant-loop-rest : goal.invariant-loop-rest
+invariant-loop-rest l = record {
+  within : l.node < length l.rest;
+  kept : length l.out ≡ length l.fn.out;
+  fits : l.end ≤ length l.out;
+  filled : Filled (path_of l.fn.index l.fn.leaves) (path_of l.node l.rest) l.end l.out;
+}
+
+abbrev pub decreases-loop-rest : goal.decreases-loop-rest
+decreases-loop-rest l = length l.rest

@@ -1,0 +1,12 @@
+-- SPDX-License-Identifier: ISC
+use Rattle.std.proofs.Common.{◌≡◌, ◌+◌, ◌-◌, ◌^◌, ◌<◌, ℕ, List, length}
+use Rattle.ring_merkle.specs.Stack.{Holds}
+use Rattle.ring_merkle.proofs.Stacks.{Carried}
+use Rattle.ring_merkle.proofs.tree.Tree.push.Given as goal
+
+abbrev pub invariant-loop-level : goal.invariant-loop-level
+invariant-loop-level l =
+    (length l.self.roots ≡ 64) × (l.count + 1 < 2 ^ (64 - l.level))
+    × (l.self.size ≡ l.fn.self.size + 1)
+    × ((xs : List (List ℕ)) → Holds l.fn.self xs
+    → Carried l.self.roots xs l.level l.count l.hash l.fn.leaf)

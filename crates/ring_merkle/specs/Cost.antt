@@ -1,0 +1,50 @@
+-- SPDX-License-Identifier: ISC
+-- What the verifications cost.
+use Rattle.std.specs.Prelude.{◌+◌, ◌-◌, ◌*◌, ◌/◌, ◌%◌, ◌==◌, ◌&&◌, [], ◌∷◌, ℕ, zero, suc, Bool}
+use Rattle.std.specs.Prelude.{cond, List, length, nat_lt, drop}
+use Rattle.ring_merkle.specs.Consistency.{first_last, first_node, values_of}
+use Rattle.ring_merkle.specs.Walk.{is_right, next_last, next_node}
+
+-- the node is the last one of its level, and has no sibling there
+abbrev pub is_alone : (fn sn : ℕ) → Bool
+is_alone fn sn = fn % 2 == 0 && fn == sn
+
+-- for each level with a sibling, of at most h levels, whether it stands on the left
+unfoldable pub sides : (h fn sn : ℕ) → List Bool
+sides zero fn sn = []
+sides (suc h) fn sn =
+    cond (is_alone fn sn)
+    (sides h (fn / 2) (sn / 2))
+    (is_right fn sn ∷ sides h (fn / 2) (sn / 2))
+
+-- how many values a path from a node to the root has: one for each sibling
+abbrev pub path_len : (fn sn : ℕ) → ℕ
+path_len fn sn = length (sides 64 fn sn)
+
+-- how many of a path's values stand on the left
+unfoldable pub left_count : (fn sn : ℕ) → (path : List (List ℕ)) → ℕ
+left_count fn sn [] = 0
+left_count fn sn (p ∷ ps) =
+    cond (is_right fn sn) 1 0 + left_count (next_node fn sn) (next_last fn sn) ps
+
+-- a node's hash: a byte and two hashes, with the padding, are two blocks
+abbrev pub node_blocks : ℕ
+node_blocks = 2
+
+-- the blocks of the verification of a path of the leaf m of n: none where it has a wrong length
+abbrev pub inclusion_blocks : (m n : ℕ) → (path : List (List ℕ)) → ℕ
+inclusion_blocks m n path =
+    cond (nat_lt m n && length path == path_len m (n - 1)) (node_blocks * length path) 0
+
+-- the blocks of the steps to both roots: both hash the values on the left, and the larger tree's
+-- alone those on the right
+abbrev pub both_blocks : (fn sn : ℕ) → (path : List (List ℕ)) → ℕ
+both_blocks fn sn path =
+    cond (length path == path_len fn sn) (node_blocks * (length path + left_count fn sn path)) 0
+
+-- the blocks of the verification of a consistency proof
+abbrev pub consistency_blocks : (m n : ℕ) → (first : List ℕ) → (path : List (List ℕ)) → ℕ
+consistency_blocks m n first path =
+    cond (nat_lt 0 m && nat_lt m n && nat_lt 0 (length path))
+    (both_blocks (first_node m) (first_last m n) (drop 1 (values_of m first path)))
+    0

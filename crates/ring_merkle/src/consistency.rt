@@ -1,0 +1,172 @@
+// SPDX-License-Identifier: ISC
+//! Proofs that a tree is the beginning of a larger one (RFC 9162, section 2.1.4).
+
+ghost use Rattle.std.specs.Prelude.{◌≡◌, ◌↔◌, ◌⊎◌, ◌+◌, ◌*◌, ◌<◌, ◌≤◌, ℕ, List, length, map, take};
+ghost use Rattle.std.specs.Prelude.{IsTrue, Some, false};
+ghost use Rattle.ring.specs.Prelude.{raised};
+ghost use Rattle.ring_merkle.specs.Consistency.{IsConsistent, LeadsToBoth, consistency_inputs};
+ghost use Rattle.ring_merkle.specs.Consistency.{proof_of, subproof_of, values_of};
+ghost use Rattle.ring_merkle.specs.Cost.{both_blocks, consistency_blocks, left_count, node_blocks};
+ghost use Rattle.ring_merkle.specs.Tree.{leaf_hash, mth, root_of};
+ghost use Rattle.ring_merkle.specs.Walk.{IsCollision, front_step, walk, whole_step};
+
+use crate::hash::{HASH_LEN, node_hash_counted};
+use crate::place::Place;
+use ring::cost::Meter;
+use ring::laws::digest_has_output_len;
+
+// The two hashes to which the steps of `path` lead from `hash`: of the smaller tree, and of the
+// larger one.
+fn climb_both(
+    hash: &[u8; HASH_LEN],
+    start: Place,
+    path: &[[u8; HASH_LEN]],
+    meter: &mut Meter,
+) -> ([u8; HASH_LEN], [u8; HASH_LEN])
+    requires front { (x : List ℕ)
+        × (walk front_step start.node start.last hash.now path.now ≡ Some x) }
+    requires whole { (x : List ℕ)
+        × (walk whole_step start.node start.last hash.now path.now ≡ Some x) }
+    ensures front { walk front_step start.node start.last hash.now path.now ≡ Some result.0 }
+    ensures whole { walk whole_step start.node start.last hash.now path.now ≡ Some result.1 }
+    ensures cost { meter.new ≡ raised meter.old
+        (node_blocks * (length path.now + left_count start.node start.last path.now)) 0 }
+{
+    let mut place = start;
+    let mut front = *hash;
+    let mut whole = *hash;
+    for value in path {
+        if place.is_right() {
+            front = node_hash_counted(value, &front, meter);
+            whole = node_hash_counted(value, &whole, meter);
+        } else {
+            whole = node_hash_counted(&whole, value, meter);
+        }
+        place = place.next();
+    }
+    (front, whole)
+}
+
+// Whether `path` leads from the hash of a node to both roots.
+fn leads_to_both(
+    hash: &[u8; HASH_LEN],
+    start: Place,
+    path: &[[u8; HASH_LEN]],
+    first: &[u8; HASH_LEN],
+    second: &[u8; HASH_LEN],
+    meter: &mut Meter,
+) -> bool
+    requires { start.node ≤ start.last }
+    ensures exact { IsTrue result
+        ↔ LeadsToBoth start.node start.last hash.now path.now first.now second.now }
+    ensures cost { meter.new
+        ≡ raised meter.old (both_blocks start.node start.last path.now) 0 }
+{
+    if path.len() != start.path_len() {
+        return false;
+    }
+    let (front, whole) = climb_both(hash, start, path, meter);
+    front == *first && whole == *second
+}
+
+// Whether the verification accepts `path`.
+fn is_consistent(
+    first_size: u64,
+    first: &[u8; HASH_LEN],
+    second_size: u64,
+    second: &[u8; HASH_LEN],
+    path: &[[u8; HASH_LEN]],
+    meter: &mut Meter,
+) -> bool
+    ensures exact { IsTrue result
+        ↔ IsConsistent first_size second_size path.now first.now second.now }
+    ensures cost { meter.new ≡ raised meter.old
+        (consistency_blocks first_size second_size first.now path.now) 0 }
+{
+    if first_size == 0 || first_size >= second_size {
+        return false;
+    }
+    let Some((value, rest)) = path.split_first() else {
+        return false;
+    };
+    let ends = Place {
+        node: first_size - 1,
+        last: second_size - 1,
+    };
+    let start = ends.even();
+    if first_size.is_power_of_two() {
+        leads_to_both(first, start, path, first, second, meter)
+    } else {
+        leads_to_both(value, start, rest, first, second, meter)
+    }
+}
+
+/// Verifies a proof as [`verify_consistency`] does, and counts its blocks on `meter`: two for each
+/// hash of either tree, and as many where a root is wrong. Where the path has a wrong length, none
+/// is run.
+pub fn verify_consistency_counted(
+    first_size: u64,
+    first: &[u8; HASH_LEN],
+    second_size: u64,
+    second: &[u8; HASH_LEN],
+    path: &[[u8; HASH_LEN]],
+    meter: &mut Meter,
+) -> bool
+    ensures exact { IsTrue result
+        ↔ IsConsistent first_size second_size path.now first.now second.now }
+    ensures sound { (ds : List (List ℕ)) → length ds ≡ second_size → second.now ≡ mth ds
+        → IsTrue result → (first.now ≡ mth (take first_size ds))
+        ⊎ IsCollision
+        (consistency_inputs first_size second_size (values_of first_size first.now path.now))
+        (consistency_inputs first_size second_size
+        (subproof_of first_size (map leaf_hash ds) false)) }
+    ensures complete { (leaves : List (List ℕ)) → length leaves ≡ second_size
+        → second.now ≡ root_of leaves → 0 < first_size → first_size < second_size
+        → first.now ≡ root_of (take first_size leaves) → path.now ≡ proof_of first_size leaves
+        → IsTrue result }
+    ensures cost { meter.new ≡ raised meter.old
+        (consistency_blocks first_size second_size first.now path.now) 0 }
+{
+    digest_has_output_len();
+    is_consistent(first_size, first, second_size, second, path, meter)
+}
+
+/// Whether `path` proves that the tree of `first_size` leaves whose tree hash is `first` is the
+/// beginning of the tree of `second_size` leaves whose tree hash is `second` (RFC 9162, section
+/// 2.1.4.2).
+///
+/// There is no proof for an empty tree, or for one that is as large as the other: both are refused.
+///
+/// The clause `sound` says what a yes means where the second root is that of a list of
+/// `second_size` entries: `first` is the tree hash of the first `first_size` of them, or two
+/// different inputs that have one digest stand at the same step of two verifications, this one and
+/// that of the list's own proof.
+pub fn verify_consistency(
+    first_size: u64,
+    first: &[u8; HASH_LEN],
+    second_size: u64,
+    second: &[u8; HASH_LEN],
+    path: &[[u8; HASH_LEN]],
+) -> bool
+    ensures exact { IsTrue result
+        ↔ IsConsistent first_size second_size path.now first.now second.now }
+    ensures sound { (ds : List (List ℕ)) → length ds ≡ second_size → second.now ≡ mth ds
+        → IsTrue result → (first.now ≡ mth (take first_size ds))
+        ⊎ IsCollision
+        (consistency_inputs first_size second_size (values_of first_size first.now path.now))
+        (consistency_inputs first_size second_size
+        (subproof_of first_size (map leaf_hash ds) false)) }
+    ensures complete { (leaves : List (List ℕ)) → length leaves ≡ second_size
+        → second.now ≡ root_of leaves → 0 < first_size → first_size < second_size
+        → first.now ≡ root_of (take first_size leaves) → path.now ≡ proof_of first_size leaves
+        → IsTrue result }
+{
+    verify_consistency_counted(
+        first_size,
+        first,
+        second_size,
+        second,
+        path,
+        &mut Meter::new(),
+    )
+}

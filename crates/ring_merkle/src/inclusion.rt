@@ -1,0 +1,119 @@
+// SPDX-License-Identifier: ISC
+//! Proofs that a leaf is in a tree (RFC 9162, section 2.1.3).
+
+ghost use Rattle.std.specs.Prelude.{◌≡◌, ◌↔◌, ◌⊎◌, ◌-◌, ◌*◌, ◌<◌, ◌≤◌, [], ℕ, List, get_or, map};
+ghost use Rattle.std.specs.Prelude.{IsTrue, Some, length};
+ghost use Rattle.ring.specs.Prelude.{raised};
+ghost use Rattle.ring_merkle.specs.Cost.{inclusion_blocks, node_blocks};
+ghost use Rattle.ring_merkle.specs.Inclusion.{IsIncluded, inclusion_inputs, path_of};
+ghost use Rattle.ring_merkle.specs.Tree.{leaf_hash, mth, root_of};
+ghost use Rattle.ring_merkle.specs.Walk.{IsCollision, walk, whole_step};
+
+use crate::hash::{HASH_LEN, node_hash_counted};
+use crate::place::Place;
+use ring::cost::Meter;
+use ring::laws::digest_has_output_len;
+
+// The hash to which the steps of `path` lead from `hash`.
+fn climb(
+    hash: &[u8; HASH_LEN],
+    start: Place,
+    path: &[[u8; HASH_LEN]],
+    meter: &mut Meter,
+) -> [u8; HASH_LEN]
+    requires { (x : List ℕ) × (walk whole_step start.node start.last hash.now path.now ≡ Some x) }
+    ensures reached { walk whole_step start.node start.last hash.now path.now ≡ Some result }
+    ensures cost { meter.new ≡ raised meter.old (node_blocks * length path.now) 0 }
+{
+    let mut place = start;
+    let mut reached = *hash;
+    for value in path {
+        reached = if place.is_right() {
+            node_hash_counted(value, &reached, meter)
+        } else {
+            node_hash_counted(&reached, value, meter)
+        };
+        place = place.next();
+    }
+    reached
+}
+
+// Whether `path` leads from the hash of a leaf to the root.
+fn is_included(
+    hash: &[u8; HASH_LEN],
+    index: u64,
+    size: u64,
+    path: &[[u8; HASH_LEN]],
+    root: &[u8; HASH_LEN],
+    meter: &mut Meter,
+) -> bool
+    ensures exact { IsTrue result ↔ IsIncluded hash.now index size path.now root.now }
+    ensures cost { meter.new ≡ raised meter.old (inclusion_blocks index size path.now) 0 }
+{
+    if index >= size {
+        return false;
+    }
+    let start = Place {
+        node: index,
+        last: size - 1,
+    };
+    if path.len() != start.path_len() {
+        return false;
+    }
+    climb(hash, start, path, meter) == *root
+}
+
+/// Verifies a path as [`verify_inclusion`] does, and counts its blocks on `meter`: two for each
+/// value of the path, and as many where the root is wrong. Where the path has a wrong length, none
+/// is run.
+pub fn verify_inclusion_counted(
+    hash: &[u8; HASH_LEN],
+    index: u64,
+    size: u64,
+    path: &[[u8; HASH_LEN]],
+    root: &[u8; HASH_LEN],
+    meter: &mut Meter,
+) -> bool
+    ensures exact { IsTrue result ↔ IsIncluded hash.now index size path.now root.now }
+    ensures sound { (ds : List (List ℕ)) → length ds ≡ size → root.now ≡ mth ds → IsTrue result
+        → ((hash.now ≡ leaf_hash (get_or ds index []))
+        × (path.now ≡ path_of index (map leaf_hash ds)))
+        ⊎ IsCollision (inclusion_inputs hash.now index size path.now)
+        (inclusion_inputs (leaf_hash (get_or ds index [])) index size
+        (path_of index (map leaf_hash ds))) }
+    ensures complete { (leaves : List (List ℕ)) → length leaves ≡ size
+        → root.now ≡ root_of leaves → index < size → hash.now ≡ get_or leaves index []
+        → path.now ≡ path_of index leaves → IsTrue result }
+    ensures cost { meter.new ≡ raised meter.old (inclusion_blocks index size path.now) 0 }
+{
+    digest_has_output_len();
+    is_included(hash, index, size, path, root, meter)
+}
+
+/// Whether `path` proves that the leaf hash `hash` is at `index` in the tree of `size` leaves whose
+/// tree hash is `root` (RFC 9162, section 2.1.3.2).
+///
+/// The clause `sound` says what a yes means where the root is that of a list of `size` entries:
+/// `hash` is the leaf hash of the entry at `index` and `path` is its path, or two different inputs
+/// that have one digest stand at the same step of two verifications, this one and that of the
+/// entry's own path.
+pub fn verify_inclusion(
+    hash: &[u8; HASH_LEN],
+    index: u64,
+    size: u64,
+    path: &[[u8; HASH_LEN]],
+    root: &[u8; HASH_LEN],
+) -> bool
+    ensures exact { IsTrue result ↔ IsIncluded hash.now index size path.now root.now }
+    ensures sound { (ds : List (List ℕ)) → length ds ≡ size → root.now ≡ mth ds → IsTrue result
+        → ((hash.now ≡ leaf_hash (get_or ds index []))
+        × (path.now ≡ path_of index (map leaf_hash ds)))
+        ⊎ IsCollision (inclusion_inputs hash.now index size path.now)
+        (inclusion_inputs (leaf_hash (get_or ds index [])) index size
+        (path_of index (map leaf_hash ds))) }
+    ensures complete { (leaves : List (List ℕ)) → length leaves ≡ size
+        → root.now ≡ root_of leaves → index < size → hash.now ≡ get_or leaves index []
+        → path.now ≡ path_of index leaves → IsTrue result }
+{
+    verify_inclusion_counted(hash, index, size, path, root, &mut Meter::new())
+}

@@ -1,0 +1,160 @@
+// SPDX-License-Identifier: ISC
+//! The paths of both kinds of proof, made from the leaf hashes of a tree.
+
+ghost use Rattle.std.specs.Prelude.{◌≡◌, ◌↔◌, ◌+◌, ◌<◌, ◌≤◌, ◌++◌, length, drop, IfOk, IsOk, OnErr};
+ghost use Rattle.std.specs.Int.{IsPowerOfTwo};
+ghost use Rattle.ring_merkle.specs.Consistency.{proof_of};
+ghost use Rattle.ring_merkle.specs.Inclusion.{path_of};
+ghost use Rattle.ring_merkle.specs.Tree.{root_of};
+
+use crate::hash::HASH_LEN;
+use crate::place::Place;
+use crate::tree::Tree;
+use ring::error::Unspecified;
+
+/// The tree hash over the leaf hashes `leaves` (RFC 9162, section 2.1.1).
+pub fn tree_root(leaves: &[[u8; HASH_LEN]]) -> [u8; HASH_LEN]
+    ensures { result ≡ root_of leaves.now }
+{
+    let mut tree = Tree::new();
+    for leaf in leaves {
+        tree.push(leaf);
+    }
+    tree.root()
+}
+
+// The largest power of two that is smaller than `len`: where a list of so many leaves is split.
+fn split_of(len: usize) -> usize
+    requires { 1 < len }
+    ensures power { IsPowerOfTwo result }
+    ensures below { result < len }
+    ensures largest { len ≤ result + result }
+{
+    (len - len / 2).next_power_of_two()
+}
+
+// Fills `out`, which has its length, with the path of the leaf at `index`: from the root down, and
+// so from the end.
+fn fill_inclusion_path(leaves: &[[u8; HASH_LEN]], index: usize, out: &mut [[u8; HASH_LEN]])
+    requires within { index < length leaves.now }
+    requires len { length out.old ≡ length (path_of index leaves.now) }
+    ensures { out.new ≡ path_of index leaves.now }
+{
+    let mut rest = leaves;
+    let mut node = index;
+    let mut end = out.len();
+    while rest.len() > 1 {
+        let split = split_of(rest.len());
+        let (front, back) = rest.split_at(split);
+        end -= 1;
+        if node < split {
+            out[end] = tree_root(back);
+            rest = front;
+        } else {
+            out[end] = tree_root(front);
+            rest = back;
+            node -= split;
+        }
+    }
+}
+
+/// Writes to `out` the path of the leaf at `index` of the tree over `leaves` (RFC 9162, section
+/// 2.1.3.1), and returns its length. A path has at most 64 values.
+///
+/// Refused where there is no such leaf, and where `out` is shorter than the path. `out` is then as
+/// it was.
+pub fn inclusion_path(
+    leaves: &[[u8; HASH_LEN]],
+    index: usize,
+    out: &mut [[u8; HASH_LEN]],
+) -> Result<usize, Unspecified>
+    ensures ok { IfOk result (λ len. out.new ≡ path_of index leaves.now ++ drop len out.old) }
+    ensures len { IfOk result (λ len. len ≡ length (path_of index leaves.now)) }
+    ensures refused { IsOk result ↔ ((index < length leaves.now)
+        × (length (path_of index leaves.now) ≤ length out.old)) }
+    ensures unchanged { OnErr result (out.new ≡ out.old) }
+{
+    if index >= leaves.len() {
+        return Err(Unspecified);
+    }
+    let place = Place {
+        node: index as u64,
+        last: (leaves.len() - 1) as u64,
+    };
+    let len = place.path_len();
+    if len > out.len() {
+        return Err(Unspecified);
+    }
+    fill_inclusion_path(leaves, index, &mut out[..len]);
+    Ok(len)
+}
+
+// Fills `out`, which has its length, with the proof that the first `first_size` leaves are the
+// beginning: from the root down, and so from the end.
+fn fill_consistency_path(leaves: &[[u8; HASH_LEN]], first_size: usize, out: &mut [[u8; HASH_LEN]])
+    requires nonempty { 0 < first_size }
+    requires within { first_size < length leaves.now }
+    requires len { length out.old ≡ length (proof_of first_size leaves.now) }
+    ensures { out.new ≡ proof_of first_size leaves.now }
+{
+    let mut rest = leaves;
+    let mut size = first_size;
+    let mut end = out.len();
+    let mut is_first = true;
+    while size < rest.len() {
+        let split = split_of(rest.len());
+        let (front, back) = rest.split_at(split);
+        end -= 1;
+        if size <= split {
+            out[end] = tree_root(back);
+            rest = front;
+        } else {
+            out[end] = tree_root(front);
+            rest = back;
+            size -= split;
+            is_first = false;
+        }
+    }
+    if !is_first {
+        let first = end - 1;
+        out[first] = tree_root(rest);
+    }
+}
+
+/// Writes to `out` the proof that the tree over the first `first_size` of `leaves` is the beginning
+/// of the tree over all of them (RFC 9162, section 2.1.4.1), and returns its length. A proof has at
+/// most 65 values.
+///
+/// Refused where `first_size` is 0 or not below the number of leaves, and where `out` is shorter
+/// than the proof. `out` is then as it was.
+pub fn consistency_path(
+    leaves: &[[u8; HASH_LEN]],
+    first_size: usize,
+    out: &mut [[u8; HASH_LEN]],
+) -> Result<usize, Unspecified>
+    ensures ok { IfOk result (λ len.
+        out.new ≡ proof_of first_size leaves.now ++ drop len out.old) }
+    ensures len { IfOk result (λ len. len ≡ length (proof_of first_size leaves.now)) }
+    ensures refused { IsOk result ↔ ((0 < first_size) × (first_size < length leaves.now)
+        × (length (proof_of first_size leaves.now) ≤ length out.old)) }
+    ensures unchanged { OnErr result (out.new ≡ out.old) }
+{
+    if first_size == 0 || first_size >= leaves.len() {
+        return Err(Unspecified);
+    }
+    let ends = Place {
+        node: (first_size - 1) as u64,
+        last: (leaves.len() - 1) as u64,
+    };
+    let siblings = ends.even().path_len();
+    let len = if first_size.is_power_of_two() {
+        siblings
+    } else {
+        siblings + 1
+    };
+    if len > out.len() {
+        return Err(Unspecified);
+    }
+    fill_consistency_path(leaves, first_size, &mut out[..len]);
+    Ok(len)
+}

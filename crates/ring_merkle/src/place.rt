@@ -1,0 +1,101 @@
+// SPDX-License-Identifier: ISC
+//! Places in a tree, and the steps from one to the next (RFC 9162, sections 2.1.3.2 and 2.1.4.2).
+
+ghost use Rattle.std.specs.Prelude.{◌≡◌, ◌/◌, ◌≤◌};
+ghost use Rattle.ring_merkle.specs.Cost.{is_alone, path_len};
+ghost use Rattle.ring_merkle.specs.Walk.{is_even, is_odd_or_zero, is_right, next_last, next_node};
+ghost use Rattle.ring_merkle.specs.Walk.{shifted_last, shifted_node};
+
+// A node by its index, and the index of the last node of its level: fn and sn.
+#[derive(Clone, Copy)]
+pub(crate) struct Place {
+    pub(crate) node: u64,
+    pub(crate) last: u64,
+}
+
+impl Place {
+    // Whether the next value of a path stands on the left.
+    pub(crate) fn is_right(self) -> bool
+        ensures { result ≡ is_right self.node self.last }
+    {
+        self.node % 2 == 1 || self.node == self.last
+    }
+
+    // Both shifted right one time.
+    fn up(self) -> Self
+        ensures node { result.node ≡ self.node / 2 }
+        ensures last { result.last ≡ self.last / 2 }
+    {
+        Place {
+            node: self.node / 2,
+            last: self.last / 2,
+        }
+    }
+
+    // Whether the node's lowest bit is set or it is 0.
+    fn is_odd_or_zero(self) -> bool
+        ensures { result ≡ is_odd_or_zero self.node }
+    {
+        self.node % 2 == 1 || self.node == 0
+    }
+
+    // Both shifted until the node's lowest bit is set or it is 0.
+    fn odd_or_zero(self) -> Self
+        ensures node { result.node ≡ shifted_node is_odd_or_zero 64 self.node }
+        ensures last { result.last ≡ shifted_last is_odd_or_zero 64 self.node self.last }
+    {
+        let mut place = self;
+        while !place.is_odd_or_zero() {
+            place = place.up();
+        }
+        place
+    }
+
+    // Both shifted until the node's lowest bit is not set.
+    pub(crate) fn even(self) -> Self
+        ensures node { result.node ≡ shifted_node is_even 64 self.node }
+        ensures last { result.last ≡ shifted_last is_even 64 self.node self.last }
+    {
+        let mut place = self;
+        while place.node % 2 == 1 {
+            place = place.up();
+        }
+        place
+    }
+
+    // The place after a step.
+    pub(crate) fn next(self) -> Self
+        ensures node { result.node ≡ next_node self.node self.last }
+        ensures last { result.last ≡ next_last self.node self.last }
+    {
+        if self.is_right() {
+            self.odd_or_zero().up()
+        } else {
+            self.up()
+        }
+    }
+
+    // Whether the node is the last one of its level, and has no sibling there.
+    fn is_alone(self) -> bool
+        ensures { result ≡ is_alone self.node self.last }
+    {
+        self.node % 2 == 0 && self.node == self.last
+    }
+
+    // How many values a path from here to the root has: one for each level, but none for a level
+    // whose last node it is and where it has no sibling.
+    pub(crate) fn path_len(self) -> usize
+        requires { self.node ≤ self.last }
+        ensures { result ≡ path_len self.node self.last }
+    {
+        let mut place = self;
+        let mut len = 0;
+        while place.last != 0 {
+            if !place.is_alone() {
+                len += 1;
+            }
+            place = place.up();
+        }
+        len
+    }
+}

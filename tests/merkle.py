@@ -1,0 +1,327 @@
+#!/usr/bin/env python3
+# SPDX-License-Identifier: ISC
+"""Holds the trees and proofs of crates/ring_merkle to RFC 9162, section 2.1, written out here.
+
+The program over them answers the vectors of Certificate Transparency, and lines on trees of each
+size up to 300 and of sizes up to 2^64 - 1, as this reading over Python's `hashlib` does: the roots,
+the paths of both kinds, and whether a path proves what it says, also where its length, its order,
+an index, a size or a bit of a hash is another one. The last line is 'N passed, M failed'.
+"""
+
+import hashlib
+import random
+import subprocess
+import sys
+
+sys.dont_write_bytecode = True
+import counted
+
+# The entries, roots and paths of Certificate Transparency's merkle_verifier_test.go (Debian's
+# golang-github-google-certificate-transparency-dev); the first root is that of no entries.
+ENTRIES = ["", "00", "10", "2021", "3031", "40414243", "5051525354555657"]
+ENTRIES += ["606162636465666768696a6b6c6d6e6f"]
+ROOTS = """
+e3b0c44298fc1c149afbf4c8996fb92427ae41e4649b934ca495991b7852b855
+6e340b9cffb37a989ca544e6bb780a2c78901d3fb33738768511a30617afa01d
+fac54203e7cc696cf0dfcb42c92a1d9dbaf70ad9e621f4bd8d98662f00e3c125
+aeb6bcfe274b70a14fb067a5e5578264db0fa9b51af5e0ba159158f329e06e77
+d37ee418976dd95753c1c73862b9398fa2a2cf9b4ff0fdfe8b30cd95209614b7
+4e3bbb1f7b478dcfe71fb631631519a3bca12c9aefca1612bfce4c13a86264d4
+76e67dadbcdf1e10e1b74ddc608abd2f98dfb16fbce75277b5232a127f2087ef
+ddb89be403809e325750d3d263cd78929c2942b7942a34b77e122c9594a74c8c
+5dc9da79a70659a9ad559cb701ded9a2ab9d823aad2f4960cfe370eff4604328
+""".split()
+# Nodes of that tree of eight entries.
+NODES = {
+    "b": "96a296d224f285c67bee93c30f8a309157f0daa35dc5b87e410b78630a09cfc7",
+    "cd": "5f083f0a1a33ca076a95279832580db3e0ef4584bdff1f54c8a360f50de3031e",
+    "efgh": "6b47aaf29ee3c2af9af889bc1fb9254dabd31177f16232dd6aab035ca39bf6e4",
+    "e": "bc1a0643b12e4d2d7c77918f44e0f4f79a838b6cf9ec5b5c283e1f4d88599e6b",
+    "ef": "0ebc5d3437fbe2db158b9f126a1d118e308181031d0a949f8dededebc558ef6a",
+    "gh": "ca854ea128ed050b41b35ffc1b87b8eb2bde461e9e3b5596ece6b9d5975a0ae0",
+    "abcd": "d37ee418976dd95753c1c73862b9398fa2a2cf9b4ff0fdfe8b30cd95209614b7",
+    "ab": "fac54203e7cc696cf0dfcb42c92a1d9dbaf70ad9e621f4bd8d98662f00e3c125",
+    "a": "6e340b9cffb37a989ca544e6bb780a2c78901d3fb33738768511a30617afa01d",
+}
+# The index, the size and the path of an entry, and the same of a beginning.
+PATHS = [(0, 8, "b cd efgh"), (5, 8, "e gh abcd"), (2, 3, "ab"), (1, 5, "a cd e")]
+PROOFS = [(1, 8, "b cd efgh"), (6, 8, "ef gh abcd"), (2, 5, "cd e")]
+
+
+# --- RFC 9162, section 2.1 ---
+
+
+def sha256(data):
+    return hashlib.sha256(data).digest()
+
+
+def leaf_hash(entry):
+    return sha256(b"\0" + entry)
+
+
+def split(entries):
+    """The list split at the largest power of two smaller than its length."""
+    k = 1
+    while 2 * k < len(entries):
+        k *= 2
+    return entries[:k], entries[k:]
+
+
+def mth(leaves):
+    """MTH (2.1.1), over leaf hashes."""
+    if len(leaves) < 2:
+        return leaves[0] if leaves else sha256(b"")
+    front, back = split(leaves)
+    return sha256(b"\1" + mth(front) + mth(back))
+
+
+def path(m, leaves):
+    """PATH (2.1.3.1)."""
+    if len(leaves) == 1:
+        return []
+    front, back = split(leaves)
+    if m < len(front):
+        return path(m, front) + [mth(back)]
+    return path(m - len(front), back) + [mth(front)]
+
+
+def subproof(m, leaves, whole):
+    """SUBPROOF (2.1.4.1)."""
+    if m == len(leaves):
+        return [] if whole else [mth(leaves)]
+    front, back = split(leaves)
+    if m <= len(front):
+        return subproof(m, front, whole) + [mth(back)]
+    return subproof(m - len(front), back, False) + [mth(front)]
+
+
+def steps(fn, sn, path):
+    """The values of a path with the sides on which they stand; whether sn is 0 exactly at the end
+    (2.1.3.2, step 4; 2.1.4.2, step 6)."""
+    sides = []
+    for value in path:
+        if sn == 0:
+            return sides, False
+        right = fn & 1 == 1 or fn == sn
+        sides.append((value, right))
+        if right:
+            while not (fn & 1 or fn == 0):
+                fn, sn = fn >> 1, sn >> 1
+        fn, sn = fn >> 1, sn >> 1
+    return sides, sn == 0
+
+
+def join(value, right, reached):
+    return sha256(b"\1" + (value + reached if right else reached + value))
+
+
+def climb(hashed, index, size, path):
+    """The root to which a path leads; None where its length is wrong."""
+    sides, ended = steps(index, size - 1, path)
+    for value, right in sides:
+        hashed = join(value, right, hashed)
+    return hashed if ended else None
+
+
+def is_included(hashed, index, size, path, root):
+    """The verification of an inclusion proof (2.1.3.2)."""
+    return index < size and climb(hashed, index, size, path) == root
+
+
+def is_consistent(first_size, first, second_size, second, path):
+    """The verification of a consistency proof (2.1.4.2), for 0 < first_size < second_size."""
+    if not 0 < first_size < second_size or not path:
+        return False
+    if first_size & (first_size - 1) == 0:
+        path = [first, *path]
+    fn, sn = first_size - 1, second_size - 1
+    while fn & 1:
+        fn, sn = fn >> 1, sn >> 1
+    front = whole = path[0]
+    sides, ended = steps(fn, sn, path[1:])
+    for value, right in sides:
+        front = join(value, right, front) if right else front
+        whole = join(value, right, whole)
+    return ended and front == first and whole == second
+
+
+# --- lines, with the answers of this reading ---
+
+
+def words(hashes):
+    return " ".join(it.hex() for it in hashes)
+
+
+def listed(entries):
+    return " ".join(it.hex() or "-" for it in entries)
+
+
+def include(hashed, index, size, path, root):
+    line = f"include {hashed.hex()} {index} {size} {root.hex()} {words(path)}".strip()
+    return line, str(is_included(hashed, index, size, path, root)).lower()
+
+
+def consistent(first_size, first, second_size, second, path):
+    line = f"consistent {first_size} {first.hex()} {second_size} {second.hex()} {words(path)}"
+    answer = is_consistent(first_size, first, second_size, second, path)
+    return line.strip(), str(answer).lower()
+
+
+def answers(lines):
+    """The program's answers."""
+    program = counted.built("ring_merkle_main", "rt", "run")
+    text = "".join(f"{line}\n" for line in lines).encode()
+    run = subprocess.run([program], input=text, stdout=subprocess.PIPE, timeout=600)
+    return run.stdout.decode().split("\n")[:-1]
+
+
+def differing(wanted):
+    """Of pairs of a line and its answer: those that the program answers otherwise."""
+    wanted = list(wanted)
+    found = answers([line for line, _ in wanted])
+    if not wanted or len(found) != len(wanted):
+        return [("", f"{len(found)} answers to {len(wanted)} lines")]
+    return [(line, answer) for (line, want), answer in zip(wanted, found) if want != answer]
+
+
+def are_vectors():
+    """Certificate Transparency's roots, paths and proofs are made and accepted."""
+    entries = [bytes.fromhex(it) for it in ENTRIES]
+    roots = [bytes.fromhex(it) for it in ROOTS]
+    wanted = []
+    for size, root in enumerate(roots):
+        wanted.append((f"root {listed(entries[:size])}".strip(), root.hex()))
+    for index, size, names in PATHS:
+        nodes = [bytes.fromhex(NODES[name]) for name in names.split()]
+        line, answer = include(leaf_hash(entries[index]), index, size, nodes, roots[size])
+        wanted += [(line, "true"), (f"path {index} {listed(entries[:size])}", words(nodes))]
+        if answer != "true":
+            return [(line, "the reading refuses a vector")]
+    for first, size, names in PROOFS:
+        nodes = [bytes.fromhex(NODES[name]) for name in names.split()]
+        line, answer = consistent(first, roots[first], size, roots[size], nodes)
+        wanted += [(line, "true"), (f"proof {first} {listed(entries[:size])}", words(nodes))]
+        if answer != "true":
+            return [(line, "the reading refuses a vector")]
+    return differing(wanted)
+
+
+def small_trees(rng):
+    """Trees of each size up to 40: each path and each proof, and what lies past them."""
+    for size in range(41):
+        entries = [rng.randbytes(rng.choice([0, 1, 5, 32, 64, 65, 200])) for _ in range(size)]
+        leaves = [leaf_hash(it) for it in entries]
+        yield f"root {listed(entries)}".strip(), mth(leaves).hex()
+        for index in range(size + 2):
+            made = words(path(index, leaves)) or "-" if index < size else "refused"
+            yield f"path {index} {listed(entries)}".strip(), made
+            made = words(subproof(index, leaves, True)) if 0 < index < size else "refused"
+            yield f"proof {index} {listed(entries)}".strip(), made
+
+
+def larger_trees(rng):
+    """Trees of each size up to 300: a path and a proof of each."""
+    for size in range(41, 301):
+        entries = [rng.randbytes(3) for _ in range(size)]
+        leaves = [leaf_hash(it) for it in entries]
+        index, first = rng.randrange(size), rng.randrange(1, size)
+        yield f"root {listed(entries)}", mth(leaves).hex()
+        yield f"path {index} {listed(entries)}", words(path(index, leaves))
+        yield f"proof {first} {listed(entries)}", words(subproof(first, leaves, True))
+
+
+def are_made():
+    """Roots, paths and proofs of trees of each size up to 300 are those of the definitions."""
+    rng = random.Random(9162)
+    return differing([*small_trees(rng), *larger_trees(rng)])
+
+
+def altered(rng, path):
+    """The path, and others: longer, shorter, in another order, and with another bit."""
+    yield path
+    yield [*path, rng.randbytes(32)]
+    yield [rng.randbytes(32), *path]
+    yield path[:-1]
+    yield path[1:]
+    yield path[::-1]
+    if path:
+        place, bit = rng.randrange(len(path)), rng.randrange(256)
+        number = int.from_bytes(path[place], "big") ^ 1 << bit
+        yield [*path[:place], number.to_bytes(32, "big"), *path[place + 1 :]]
+
+
+def inclusion_lines(rng, size, leaves):
+    """Of a tree a path, altered in each way, for it and for other indices, sizes and hashes."""
+    index = rng.randrange(size)
+    made, root = path(index, leaves), mth(leaves)
+    for other in altered(rng, made):
+        yield include(leaves[index], index, size, other, root)
+    places = [(index + 1, size), (index ^ 1, size), (index, size + 1), (index, size - 1)]
+    places += [(index, 2 * size), (index, 2**64 - 1), (2**64 - 1, size), (size, size), (0, 0)]
+    for other_index, other_size in places:
+        yield include(leaves[index], other_index, other_size, made, root)
+    yield include(rng.randbytes(32), index, size, made, root)
+    yield include(leaves[index], index, size, made, rng.randbytes(32))
+
+
+def consistency_lines(rng, size, leaves):
+    """The same of a proof of a beginning."""
+    m = rng.randrange(1, size)
+    made, first, second = subproof(m, leaves, True), mth(leaves[:m]), mth(leaves)
+    for other in altered(rng, made):
+        yield consistent(m, first, size, second, other)
+    sizes = [(m + 1, size), (m - 1, size), (m, size + 1), (m, size - 1), (m, m), (size, m)]
+    sizes += [(0, size), (m, 2 * size), (m, 2**64 - 1), (2**63, 2**64 - 1), (size, size)]
+    for other_m, other_size in sizes:
+        yield consistent(other_m, first, other_size, second, made)
+    yield consistent(m, second, size, second, made)
+    yield consistent(m, first, size, first, made)
+    yield consistent(m, rng.randbytes(32), size, second, made)
+
+
+def are_altered():
+    """10,000 proofs, altered in length, order, index, size or a bit, are answered as the RFC says.
+    """
+    rng, wanted = random.Random(2141), []
+    while len(wanted) < 10_000:
+        size = rng.randrange(2, 70)
+        leaves = [rng.randbytes(32) for _ in range(size)]
+        wanted += inclusion_lines(rng, size, leaves)
+        wanted += consistency_lines(rng, size, leaves)
+    return differing(wanted)
+
+
+def are_large():
+    """Paths of trees of up to 2^64 - 1 leaves, and of each length beside the right one."""
+    rng, wanted = random.Random(2132), []
+    for _ in range(60):
+        size = rng.choice([2**64 - 1, 2**63, 2**63 + 1, 1 << rng.randrange(64), 5_000_000])
+        size = rng.choice([size, rng.randrange(1, 2**64)])
+        index = rng.choice([0, size - 1, size // 2, rng.randrange(size)])
+        hashed, values = rng.randbytes(32), [rng.randbytes(32) for _ in range(66)]
+        for length in range(67):
+            root = climb(hashed, index, size, values[:length])
+            if root or length > 60:
+                root = root or rng.randbytes(32)
+                wanted.append(include(hashed, index, size, values[:length], root))
+    return differing(wanted)
+
+
+def are_bad_lines():
+    """Lines of no form that is known are told apart from what is refused."""
+    zeros = "00" * 32
+    lines = ["", "root", "roots", "root 0", "root 0g", "path", "path x 00", "path 1", "proof 1 00"]
+    lines += [f"include {zeros} 0 1", f"include {zeros[2:]} 0 1 {zeros}"]
+    lines += [f"include {zeros} 0 18446744073709551616 {zeros}", f"consistent 1 {zeros} 2 0"]
+    bad = "bad line"
+    wanted = [mth([]).hex(), bad, bad, bad, bad, bad, "refused", "refused", bad, bad, bad, bad]
+    return differing(zip(lines[1:], wanted))
+
+
+def main():
+    cases = (are_vectors, are_made, are_altered, are_large, are_bad_lines)
+    return counted.report(*counted.run_answered([(case, "") for case in cases]))
+
+
+if __name__ == "__main__":
+    sys.exit(main())

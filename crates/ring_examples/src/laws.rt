@@ -1,17 +1,18 @@
 // SPDX-License-Identifier: ISC
 //! Callers whose proofs use a law: the call of a law gives them its clause.
 
-ghost use Rattle.std.specs.Prelude.{◌≡◌, ◌↔◌, ℕ, List, IfOk, IsTrue, replicate, take};
-ghost use Rattle.ring.specs.Prelude.{IsOutputWithin, PrkStandsFor, hmac_of};
+ghost use Rattle.std.specs.Prelude.{◌≡◌, ◌↔◌, ◌≤◌, ℕ, List, IfOk, IsTrue, length, replicate, take};
+ghost use Rattle.ring.specs.Prelude.{IsOutputWithin, PrkStandsFor, digest_of, hmac_of};
 
 use crate::basics::pairs_of_comparison;
 use crate::hkdf::Length;
-use ring::digest::{SHA1_FOR_LEGACY_USE_ONLY, SHA256, SHA384, SHA512};
+use ring::digest::{SHA1_FOR_LEGACY_USE_ONLY, SHA256, SHA256_OUTPUT_LEN, SHA384, SHA512};
 use ring::error::Unspecified;
 use ring::hkdf::{HKDF_SHA256, Prk, Salt};
 use ring::laws::{
-    comparison_is_symmetric, empty_salt_extracts_as_zeros, limits_of_sha1, limits_of_sha256,
-    limits_of_sha384, limits_of_sha512, shorter_derivation_is_a_front, shorter_output_is_a_front,
+    comparison_is_symmetric, digest_has_output_len, empty_salt_extracts_as_zeros, limits_of_sha1,
+    limits_of_sha256, limits_of_sha384, limits_of_sha512, shorter_derivation_is_a_front,
+    shorter_output_is_a_front,
 };
 use ring::pbkdf2::{PBKDF2_HMAC_SHA256, derive};
 use std::num::NonZeroU32;
@@ -27,6 +28,14 @@ pub fn can_ask_all(len: usize) -> bool
     limits_of_sha384();
     limits_of_sha512();
     len <= 5_100
+}
+
+/// Whether `len` bytes have room for the digest of `message`, which need not be computed for that.
+pub fn has_room_for_digest(message: &[u8], len: usize) -> bool
+    ensures { IsTrue result ↔ (length (digest_of SHA256 message.now) ≤ len) }
+{
+    digest_has_output_len();
+    SHA256_OUTPUT_LEN <= len
 }
 
 /// The pseudorandom key of a secret without a salt: that of a salt of 32 zeros.

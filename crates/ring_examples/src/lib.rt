@@ -10,6 +10,7 @@ pub mod hkdf;
 pub mod hmac;
 pub mod hotp;
 pub mod laws;
+pub mod merkle;
 pub mod migration;
 pub mod pbkdf2;
 pub mod pieces;

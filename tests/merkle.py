@@ -10,11 +10,11 @@ an index, a size or a bit of a hash is another one. The last line is 'N passed, 
 
 import hashlib
 import random
-import subprocess
 import sys
 
 sys.dont_write_bytecode = True
 import counted
+from run import differing
 
 # The entries, roots and paths of Certificate Transparency's merkle_verifier_test.go (Debian's
 # golang-github-google-certificate-transparency-dev); the first root is that of no entries.
@@ -167,23 +167,6 @@ def consistent(first_size, first, second_size, second, path):
     return line.strip(), str(answer).lower()
 
 
-def answers(lines):
-    """The program's answers."""
-    program = counted.built("ring_merkle_main", "rt", "run")
-    text = "".join(f"{line}\n" for line in lines).encode()
-    run = subprocess.run([program], input=text, stdout=subprocess.PIPE, timeout=600)
-    return run.stdout.decode().split("\n")[:-1]
-
-
-def differing(wanted):
-    """Of pairs of a line and its answer: those that the program answers otherwise."""
-    wanted = list(wanted)
-    found = answers([line for line, _ in wanted])
-    if not wanted or len(found) != len(wanted):
-        return [("", f"{len(found)} answers to {len(wanted)} lines")]
-    return [(line, answer) for (line, want), answer in zip(wanted, found) if want != answer]
-
-
 def are_vectors():
     """Certificate Transparency's roots, paths and proofs are made and accepted."""
     entries = [bytes.fromhex(it) for it in ENTRIES]
@@ -315,7 +298,7 @@ def are_bad_lines():
     lines += [f"include {zeros} 0 18446744073709551616 {zeros}", f"consistent 1 {zeros} 2 0"]
     bad = "bad line"
     wanted = [mth([]).hex(), bad, bad, bad, bad, bad, "refused", "refused", bad, bad, bad, bad]
-    return differing(zip(lines[1:], wanted))
+    return differing(list(zip(lines[1:], wanted)))
 
 
 def main():

@@ -4,6 +4,7 @@
 use crate::fault::Fault;
 use crate::password_hashes::{made, read, verified};
 use crate::schedules::secret_bytes;
+use crate::trees::tree_answer;
 use crate::words::digits_of;
 use std::alloc::Global;
 
@@ -15,6 +16,9 @@ pub fn answer(alloc: Global, line: &str) -> Result<String, Fault> {
         ["verify", text, password, most] => verified(alloc, text, password, most),
         ["make", scheme, iterations, salt, password] => {
             made(alloc, scheme, iterations, [salt, password])
+        }
+        ["root" | "path" | "proof" | "include" | "consistent", ..] => {
+            tree_answer(alloc, words.as_slice())
         }
         words => digits_of(alloc, secret_bytes(alloc, words)?.as_slice()),
     }

@@ -13,7 +13,7 @@ pub enum Fault {
     BadLine,
     /// A call on password hashes refused it.
     Hash(HashError),
-    /// A call on key schedules refused it.
+    /// A call on key schedules or trees refused it.
     Refused,
     /// There is no memory for its words or for the answer.
     Memory,

@@ -1,6 +1,7 @@
 // SPDX-License-Identifier: ISC
-//! Answers lines on password hashes, for `tests/password_hashes.py`, and on key schedules, for
-//! `tests/schedules.py`. `docs/PASSWORD_HASHES.md` and `docs/SCHEDULES.md` have their forms.
+//! Answers lines on password hashes, for `tests/password_hashes.py`, on key schedules, for
+//! `tests/schedules.py`, and on trees of transparency logs, for `tests/merkle.py`.
+//! `docs/PASSWORD_HASHES.md`, `docs/SCHEDULES.md` and `docs/MERKLE.md` have their forms.
 //!
 //! An answer is what the line asks for, the line of the error that refused it, `refused` where the
 //! error has none, or `bad line`. Empty lines and those with a `#` at their start have none.
@@ -16,6 +17,7 @@ mod answer;
 mod fault;
 mod password_hashes;
 mod schedules;
+mod trees;
 mod words;
 
 /// The text of an answer.

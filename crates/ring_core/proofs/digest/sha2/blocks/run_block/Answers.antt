@@ -1,47 +1,16 @@
 -- SPDX-License-Identifier: ISC
-use Rattle.std.proofs.Common.{◌≡◌, ◌+◌, ◌-◌, ◌*◌, ◌∙◌, [], ◌∷◌, map, refl, sym, arith}
-use Rattle.ring_core.specs.Prelude.{W, rounds_from, sixteen}
+use Rattle.std.proofs.Common.{◌≡◌, ◌∙◌, [], ◌∷◌, map, arith}
+use Rattle.ring_core.specs.Prelude.{W, sixteen}
 use Rattle.ring_core.proofs.Sha2FourWords.{four-loaded}
-use Rattle.ring_core.proofs.Sha2Steps.{block_step-rounds, rounds-turns}
 use Rattle.ring_core.proofs.digest.sha2.blocks.run_block.Goals as goal
 
-pub ahead-init : goal.ahead-init
-unfolding rounds_from
-ahead-init g c = λ i b n are here.
-    let zero : n ≡ 0 = omega arith in
+pub returns : goal.returns
+returns g c = λ i b e0 e1 e2 e3.
     let f = g.S.One.Sha2.family in
     let loaded = four-loaded f g.S.One.Word.bits b in
     let bits = g.met.S.One.Sha2.numbers.bits_are in
     let words : map g.S.FourWords.words
     (c.args.first ∷ c.args.second ∷ c.args.third ∷ c.args.fourth ∷ []) ≡ sixteen (W f b) 0 =
-    λ i. (are.0 ∙ loaded 0 bits (omega arith)) i ∷ (are.1 ∙ loaded 1 bits (omega arith)) i
-    ∷ (are.2 ∙ loaded 2 bits (omega arith)) i ∷ (are.3 ∙ loaded 3 bits (omega arith)) i ∷ [] in
-    rw zero (record {
-      schedule = record { sixteen = words; ready = c.put_first_sums.ensures b words };
-      variables = refl;
-    })
-
-pub ahead-preserved : goal.ahead-preserved
-ahead-preserved g c = λ i b n are here.
-    let h = map (g.S.LaneWord.lane i) c.args.state.now in
-    let before : n - 4 + 4 ≡ 4 * c.ahead.turn = omega arith in
-    let e : n - 4 + 4 ≡ n = omega arith in
-    rw e at (c.turn_ahead.ensures i h b (n - 4) before
-    (c.ahead.invariant i b (n - 4) are before))
-
-pub returns : goal.returns
-returns g c = λ i b first second third fourth.
-    let f = g.S.One.Sha2.family in
-    let met = g.met.S.One.Sha2.numbers in
-    let h = map (g.S.LaneWord.lane i) c.args.state.now in
-    let whole = rounds-turns f met.which in
-    let end : c.ROUNDS-turns.result ≡ f.rounds = c.ROUNDS-turns.ensures ∙ met.rounds_are in
-    let n = 4 * c.ahead.turn - 4 in
-    let here : n + 4 ≡ 4 * c.ahead.turn =
-    omega (arith, whole.0, whole.1, end, c.ahead-test.false, c.ahead.auto.turn-end) in
-    let done : 4 * (n + 4) ≡ f.rounds =
-    omega (arith, whole.0, whole.1, end, c.ahead-test.false, c.ahead.auto.turn-end) in
-    let before = c.ahead.invariant i b n (first, second, third, fourth) here in
-    let last = c.last_turn-last.ensures i h b n (omega arith) before.schedule.ready
-    before.variables in
-    rw (c.add_state.ensures i, last, done, met.bits_are) (sym (block_step-rounds f h b))
+    λ i. (e0 ∙ loaded 0 bits (omega arith)) i ∷ (e1 ∙ loaded 1 bits (omega arith)) i
+    ∷ (e2 ∙ loaded 2 bits (omega arith)) i ∷ (e3 ∙ loaded 3 bits (omega arith)) i ∷ [] in
+    c.run_ahead.ensures i b (record { sixteen = words; ready = c.put_first_sums.ensures b words })

@@ -5,8 +5,8 @@
 ghost use Rattle.std.specs.Prelude.{◌≡◌, ℕ, ◌+◌, ◌*◌, ◌<◌, ◌≤◌, List, [], ◌∷◌, drop, map, take};
 ghost use Rattle.ring_core.specs.FourWords.{later_four, next_four};
 ghost use Rattle.ring_core.specs.Prelude.{HoldsSums, IsAhead, IsBlockOf, IsReady, chunk_items};
-ghost use Rattle.ring_core.specs.Prelude.{chunk_total, four, low_32, raised, rotr, sixteen, word_32};
-ghost use Rattle.ring_core.specs.Prelude.{word_at};
+ghost use Rattle.ring_core.specs.Prelude.{chunk_total, four, low_32, raised, rotr, sixteen};
+ghost use Rattle.ring_core.specs.Prelude.{word_32, word_at};
 ghost use Rattle.ring_core.specs.Sha1.{HasWords, W, block_step, blocks_from, ready_sum};
 ghost use Rattle.ring_core.specs.Sha1.{rounds_from};
 
@@ -184,7 +184,7 @@ fn last_turn(sums: &[u32x4; 4], v: [Word32; 5]) -> [Word32; 5]
 
 // Runs the block function over a block, from its words in fours, which stay in registers as
 // parameters of their own, and from their sums. Were this inlined, `sums` would be no memory, and
-// each sum would be taken out of its vector; and with two callers the compiler would call the turns.
+// each sum would be taken out of its vector; with two callers the compiler would call the turns.
 #[inline(never)]
 fn run_ahead(
     sums: &mut [u32x4; 4],

@@ -166,7 +166,7 @@ fn last_turn<S: FourWords>(sums: &[S::Four; 4], v: [S; 8]) -> [S; 8]
 
 // Runs the block function over a block, from its words in fours, which stay in registers as
 // parameters of their own, and from their sums. Were this inlined, `sums` would be no memory, and
-// each sum would be taken out of its vector; and with two callers the compiler would call the turns.
+// each sum would be taken out of its vector; with two callers the compiler would call the turns.
 #[inline(never)]
 fn run_ahead<S: ExtendByFour>(
     sums: &mut [S::Four; 4],

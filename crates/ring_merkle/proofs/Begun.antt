@@ -10,12 +10,12 @@ use Rattle.ring_merkle.specs.Consistency.{LeadsToBoth, first_last, first_node, p
 use Rattle.ring_merkle.specs.Consistency.{subproof_at, subproof_of, values_of}
 use Rattle.ring_merkle.specs.Cost.{sides}
 use Rattle.ring_merkle.specs.Tree.{node_hash, root_at, root_of}
-use Rattle.ring_merkle.specs.Walk.{front_step, is_even, shifted_last, shifted_node, walk}
+use Rattle.ring_merkle.specs.Walk.{front_step, is_even, walk}
 use Rattle.ring_merkle.specs.Walk.{whole_step}
 use Rattle.ring_merkle.proofs.Powers.{no-power-between, power-of-two}
 use Rattle.ring_merkle.proofs.Shifts.{shift-within}
 use Rattle.ring_merkle.proofs.Sides.{up-left, up-low, up-right, up-shifted, up-whole, up_sides}
-use Rattle.ring_merkle.proofs.Trees.{drop-within, pow-sum, root-any, root-high, root-low, sub-any}
+use Rattle.ring_merkle.proofs.Trees.{drop-within, root-any, root-high, root-low, sub-any}
 use Rattle.ring_merkle.proofs.Trees.{sub-left, sub-low, sub-right, sub-whole, take-within}
 use Rattle.ring_merkle.proofs.Walks.{Step, fold-push, fold_sides, walk-fold, walk-length}
 

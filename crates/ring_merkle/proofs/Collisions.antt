@@ -10,17 +10,17 @@ use Rattle.std.proofs.Common.{sym, arith, subst, inl, inr, ⊎_elim, Some, map, 
 use Rattle.std.proofs.Common.{length-take}
 use Rattle.std.specs.Bool.{⊤}
 use Rattle.std.specs.Int.{is_power_of_two}
-use Rattle.ring_merkle.specs.Consistency.{IsConsistent, LeadsToBoth, consistency_inputs, first_last}
+use Rattle.ring_merkle.specs.Consistency.{IsConsistent, consistency_inputs, first_last}
 use Rattle.ring_merkle.specs.Consistency.{first_node, proof_of, subproof_at, subproof_of, values_of}
 use Rattle.ring_merkle.specs.Inclusion.{IsIncluded, inclusion_inputs, path_at, path_of}
 use Rattle.ring_merkle.specs.Tree.{leaf_hash, root_at, root_of, sha256}
-use Rattle.ring_merkle.specs.Walk.{IsCollision, front_step, is_even, is_right, next_last, next_node}
+use Rattle.ring_merkle.specs.Walk.{IsCollision, front_step, is_right, next_last, next_node}
 use Rattle.ring_merkle.specs.Walk.{step_input, walk, walk_inputs, whole_step}
 use Rattle.ring_merkle.proofs.Begun.{LeadsFrom, begun-leads, begun-some, proof-values}
 use Rattle.ring_merkle.proofs.Included.{included}
 use Rattle.ring_merkle.proofs.Shifts.{even-below}
 use Rattle.ring_merkle.proofs.Trees.{path-left, path-low, path-right, root-high, root-low}
-use Rattle.ring_merkle.proofs.Trees.{below-pow, sub-left, sub-low, sub-right, sub-whole}
+use Rattle.ring_merkle.proofs.Trees.{sub-left, sub-low, sub-right, sub-whole}
 use Rattle.ring_merkle.proofs.Walks.{walk-end, walk-on}
 
 -- each is as long as a digest

@@ -1,7 +1,7 @@
 -- SPDX-License-Identifier: ISC
 -- The path of a leaf leads from it to the root.
 use Rattle.std.proofs.lemmas.Bool.{cases_lt}
-use Rattle.std.proofs.Common.{◌≡◌, ◌+◌, ◌-◌, ◌^◌, ◌<◌, ◌≤◌, [], ◌∷◌, ◌++◌, ◌∙◌, ℕ, zero, suc, Bool}
+use Rattle.std.proofs.Common.{◌≡◌, ◌+◌, ◌-◌, ◌^◌, ◌<◌, ◌≤◌, [], ◌∷◌, ◌++◌, ◌∙◌, ℕ, zero, suc}
 use Rattle.std.proofs.Common.{true, false, List, length, get_or, take, drop, refl, ap, sym, arith}
 use Rattle.std.proofs.Common.{⊎_elim, Option, Some, get_or-drop, get_or-take, length-drop}
 use Rattle.std.proofs.Common.{length-take}
@@ -11,7 +11,7 @@ use Rattle.ring_merkle.specs.Tree.{root_at, root_of}
 use Rattle.ring_merkle.specs.Walk.{walk, whole_step}
 use Rattle.ring_merkle.proofs.Sides.{sides-left, sides-low, sides-right}
 use Rattle.ring_merkle.proofs.Trees.{drop-within, path-any, path-left, path-low, path-right}
-use Rattle.ring_merkle.proofs.Trees.{pow-sum, root-any, root-high, root-low, take-within}
+use Rattle.ring_merkle.proofs.Trees.{root-any, root-high, root-low, take-within}
 use Rattle.ring_merkle.proofs.Walks.{fold-push, fold_sides, walk-fold, walk-length}
 
 -- the fold of a leaf's path, from the root down

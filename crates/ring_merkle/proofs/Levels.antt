@@ -1,6 +1,6 @@
 -- SPDX-License-Identifier: ISC
 -- The levels with a sibling, counted from a node up.
-use Rattle.std.proofs.Common.{◌≡◌, ◌+◌, ◌/◌, ◌%◌, ◌^◌, ◌<◌, ◌≤◌, ◌∙◌, ℕ, zero, suc, true, false}
+use Rattle.std.proofs.Common.{◌≡◌, ◌+◌, ◌/◌, ◌^◌, ◌<◌, ◌≤◌, ◌∙◌, ℕ, zero, suc, true, false}
 use Rattle.std.proofs.Common.{length, ap, arith}
 use Rattle.ring_merkle.specs.Cost.{is_alone, sides}
 use Rattle.ring_merkle.proofs.Sides.{sides-alone, sides-joined, sides-none}

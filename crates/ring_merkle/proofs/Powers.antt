@@ -8,10 +8,10 @@ use Rattle.std.specs.Int.{is_power_of_two}
 use Rattle.std.specs.Prelude.{count_ones}
 use Rattle.ring_merkle.proofs.Trees.{pow-sum}
 
-ones-zero : count_ones 0 ≡ 0
+pub ones-zero : count_ones 0 ≡ 0
 ones-zero = omega (arith, ones-le 0 0 (omega arith))
 
-ones-one : count_ones 1 ≡ 1
+pub ones-one : count_ones 1 ≡ 1
 ones-one =
     ⊎_elim
     (λ lt. let none : count_ones 1 ≡ 0 = omega arith in

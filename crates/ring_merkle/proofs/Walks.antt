@@ -8,8 +8,8 @@ use Rattle.std.proofs.Common.{suc, Bool, true, false, cond, List, length, refl, 
 use Rattle.std.proofs.Common.{⊎_elim}
 use Rattle.std.proofs.Common.{Option, Some, None, drop, get_or}
 use Rattle.ring_merkle.specs.Cost.{is_alone, left_count, sides}
-use Rattle.ring_merkle.specs.Walk.{is_odd_or_zero, is_right, next_last, next_node, shifted_last}
-use Rattle.ring_merkle.specs.Walk.{shifted_node, walk}
+use Rattle.ring_merkle.specs.Walk.{is_odd_or_zero, is_right, next_last, next_node}
+use Rattle.ring_merkle.specs.Walk.{walk}
 use Rattle.ring_merkle.proofs.Shifts.{shift-again, shift-stop}
 use Rattle.ring_merkle.proofs.Sides.{alone_is, is_alone-yes, parity, right-not, right-odd}
 use Rattle.ring_merkle.proofs.Sides.{right-same, sides-alone, sides-joined, sides-none}

@@ -1,7 +1,7 @@
 -- SPDX-License-Identifier: ISC
 -- What the verifications cost.
 use Rattle.std.specs.Prelude.{◌+◌, ◌-◌, ◌*◌, ◌/◌, ◌%◌, ◌==◌, ◌&&◌, [], ◌∷◌, ℕ, zero, suc, Bool}
-use Rattle.std.specs.Prelude.{cond, List, length, nat_lt, drop}
+use Rattle.std.specs.Prelude.{cond, count_ones, List, length, nat_lt, drop}
 use Rattle.ring_merkle.specs.Consistency.{first_last, first_node, values_of}
 use Rattle.ring_merkle.specs.Walk.{is_right, next_last, next_node}
 
@@ -30,6 +30,24 @@ left_count fn sn (p ∷ ps) =
 -- a node's hash: a byte and two hashes, with the padding, are two blocks
 abbrev pub node_blocks : ℕ
 node_blocks = 2
+
+-- the hash of nothing takes one block
+abbrev pub nothing_blocks : ℕ
+nothing_blocks = 1
+
+-- the blocks of a leaf more: a node for each bit of n that is set, from the lowest one up to the
+-- first that is not
+abbrev pub push_blocks : (n : ℕ) → ℕ
+push_blocks n = node_blocks * (1 + count_ones n - count_ones (n + 1))
+
+-- the blocks of the root of n leaves: a tree has a complete subtree for each bit of n that is set,
+-- and these are joined
+abbrev pub root_blocks : (n : ℕ) → ℕ
+root_blocks n = cond (n == 0) nothing_blocks (node_blocks * (count_ones n - 1))
+
+-- the blocks of a whole tree of n leaves: it has one node fewer
+abbrev pub tree_blocks : (n : ℕ) → ℕ
+tree_blocks n = cond (n == 0) nothing_blocks (node_blocks * (n - 1))
 
 -- the blocks of the verification of a path of the leaf m of n: none where it has a wrong length
 abbrev pub inclusion_blocks : (m n : ℕ) → (path : List (List ℕ)) → ℕ

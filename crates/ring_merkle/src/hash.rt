@@ -6,7 +6,7 @@ ghost use Rattle.std.specs.Prelude.{OnOk};
 ghost use Rattle.ring.specs.Prelude.{IsDigest, digest_algorithm, joined, max_input_len};
 ghost use Rattle.ring.specs.Prelude.{padded_blocks, raised};
 ghost use Rattle.ring.specs.declared.digest.algorithm.TheConstants.{SHA256};
-ghost use Rattle.ring_merkle.specs.Cost.{node_blocks};
+ghost use Rattle.ring_merkle.specs.Cost.{node_blocks, nothing_blocks};
 ghost use Rattle.ring_merkle.specs.Tree.{leaf_hash, node_hash, sha256};
 
 use ring::cost::Meter;
@@ -39,15 +39,23 @@ fn hash_pieces(pieces: &[&[u8]], meter: &mut Meter) -> Result<[u8; HASH_LEN], Un
     Ok(hash_of(&digest))
 }
 
-/// The tree hash of no leaves (RFC 9162, section 2.1.1): the hash of nothing.
-pub fn empty_root() -> [u8; HASH_LEN]
-    ensures { result ≡ sha256 [] }
+/// Computes the tree hash of no leaves as [`empty_root`] does, and counts its block on `meter`.
+pub fn empty_root_counted(meter: &mut Meter) -> [u8; HASH_LEN]
+    ensures hash { result ≡ sha256 [] }
+    ensures cost { meter.new ≡ raised meter.old nothing_blocks 0 }
 {
-    match hash_pieces(&[], &mut Meter::new()) {
+    match hash_pieces(&[], meter) {
         Ok(hash) => hash,
         // Nothing is far below the limit.
         Err(_) => unreachable!(),
     }
+}
+
+/// The tree hash of no leaves (RFC 9162, section 2.1.1): the hash of nothing.
+pub fn empty_root() -> [u8; HASH_LEN]
+    ensures { result ≡ sha256 [] }
+{
+    empty_root_counted(&mut Meter::new())
 }
 
 /// Computes the hash of an entry as [`leaf_hash`] does, and counts its blocks on `meter`. A refusal

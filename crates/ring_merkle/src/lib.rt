@@ -14,8 +14,9 @@ mod tree;
 
 pub use crate::consistency::{verify_consistency, verify_consistency_counted};
 pub use crate::hash::{
-    HASH_LEN, empty_root, leaf_hash, leaf_hash_counted, node_hash, node_hash_counted,
+    HASH_LEN, empty_root, empty_root_counted, leaf_hash, leaf_hash_counted, node_hash,
+    node_hash_counted,
 };
 pub use crate::inclusion::{verify_inclusion, verify_inclusion_counted};
-pub use crate::paths::{consistency_path, inclusion_path, tree_root};
+pub use crate::paths::{consistency_path, inclusion_path, tree_root, tree_root_counted};
 pub use crate::tree::Tree;

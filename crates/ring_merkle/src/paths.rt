@@ -3,24 +3,36 @@
 
 ghost use Rattle.std.specs.Prelude.{◌≡◌, ◌↔◌, ◌+◌, ◌<◌, ◌≤◌, ◌++◌, length, drop, IfOk, IsOk, OnErr};
 ghost use Rattle.std.specs.Int.{IsPowerOfTwo};
+ghost use Rattle.ring.specs.Prelude.{raised};
 ghost use Rattle.ring_merkle.specs.Consistency.{proof_of};
+ghost use Rattle.ring_merkle.specs.Cost.{tree_blocks};
 ghost use Rattle.ring_merkle.specs.Inclusion.{path_of};
 ghost use Rattle.ring_merkle.specs.Tree.{root_of};
 
 use crate::hash::HASH_LEN;
 use crate::place::Place;
 use crate::tree::Tree;
+use ring::cost::Meter;
 use ring::error::Unspecified;
+
+/// Computes the tree hash over `leaves` as [`tree_root`] does, and counts its blocks on `meter`:
+/// two for each node, of which there is one fewer than leaves.
+pub fn tree_root_counted(leaves: &[[u8; HASH_LEN]], meter: &mut Meter) -> [u8; HASH_LEN]
+    ensures root { result ≡ root_of leaves.now }
+    ensures cost { meter.new ≡ raised meter.old (tree_blocks (length leaves.now)) 0 }
+{
+    let mut tree = Tree::new();
+    for leaf in leaves {
+        tree.push_counted(leaf, meter);
+    }
+    tree.root_counted(meter)
+}
 
 /// The tree hash over the leaf hashes `leaves` (RFC 9162, section 2.1.1).
 pub fn tree_root(leaves: &[[u8; HASH_LEN]]) -> [u8; HASH_LEN]
     ensures { result ≡ root_of leaves.now }
 {
-    let mut tree = Tree::new();
-    for leaf in leaves {
-        tree.push(leaf);
-    }
-    tree.root()
+    tree_root_counted(leaves, &mut Meter::new())
 }
 
 // The largest power of two that is smaller than `len`: where a list of so many leaves is split.

@@ -1,5 +1,5 @@
 -- SPDX-License-Identifier: ISC
-use Rattle.std.proofs.Common.{◌-◌, ◌∙◌, length, sym, arith}
+use Rattle.std.proofs.Common.{◌-◌, ◌∙◌, sym, arith}
 use Rattle.std.proofs.lemmas.Bool.{and_left, and_right, le-ltb, ne_eqb}
 use Rattle.ring_merkle.specs.Walk.{whole_step}
 use Rattle.ring_merkle.proofs.Rises.{raised-not}

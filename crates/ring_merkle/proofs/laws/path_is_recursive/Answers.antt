@@ -1,10 +1,10 @@
 -- SPDX-License-Identifier: ISC
-use Rattle.std.proofs.Common.{◌≡◌, ◌-◌, ◌^◌, ◌<◌, ◌≤◌, [], ◌∷◌, ◌++◌, ℕ, suc, List, length, take}
-use Rattle.std.proofs.Common.{drop, map, refl, arith, subst}
+use Rattle.std.proofs.Common.{◌^◌, ◌≤◌, suc, length}
+use Rattle.std.proofs.Common.{map, refl, arith, subst}
 use Rattle.std.proofs.lemmas.List.{drop-map, length-map, take-map}
 use Rattle.std.proofs.Math.Numerals.{add-one}
 use Rattle.ring_merkle.specs.Inclusion.{path_at, path_of}
-use Rattle.ring_merkle.specs.Tree.{leaf_hash, root_of}
+use Rattle.ring_merkle.specs.Tree.{leaf_hash}
 use Rattle.ring_merkle.proofs.Trees.{path-split-left, path-split-right}
 use Rattle.ring_merkle.proofs.laws.path_is_recursive.Goals as goal
 

@@ -1,11 +1,9 @@
 -- SPDX-License-Identifier: ISC
-use Rattle.std.proofs.Common.{◌≡◌, ◌-◌, ◌^◌, ◌<◌, ◌≤◌, [], ◌∷◌, ◌++◌, ℕ, suc, Bool, false}
-use Rattle.std.proofs.Common.{List, length, take, drop, map, refl, sym, arith, subst}
-use Rattle.std.proofs.Common.{length-drop, length-take}
+use Rattle.std.proofs.Common.{◌^◌, ◌≤◌, suc}
+use Rattle.std.proofs.Common.{length, map, refl, sym, arith, subst}
 use Rattle.std.proofs.lemmas.List.{drop-map, length-map, take-map}
 use Rattle.std.proofs.Math.Numerals.{add-one}
-use Rattle.ring_merkle.specs.Consistency.{proof_of, subproof_of}
-use Rattle.ring_merkle.specs.Tree.{leaf_hash, root_of}
+use Rattle.ring_merkle.specs.Tree.{leaf_hash}
 use Rattle.ring_merkle.proofs.Trees.{sub-all, sub-split-left, sub-split-right}
 use Rattle.ring_merkle.proofs.laws.proof_is_recursive.Goals as goal
 

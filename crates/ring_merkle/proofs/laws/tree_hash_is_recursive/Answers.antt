@@ -1,9 +1,9 @@
 -- SPDX-License-Identifier: ISC
-use Rattle.std.proofs.Common.{◌≡◌, ◌^◌, ◌<◌, ◌≤◌, ℕ, suc, List, length, take, drop, map, refl}
+use Rattle.std.proofs.Common.{◌^◌, ◌≤◌, suc, length, map, refl}
 use Rattle.std.proofs.Common.{arith, subst}
 use Rattle.std.proofs.lemmas.List.{drop-map, length-map, take-map}
 use Rattle.std.proofs.Math.Numerals.{add-one}
-use Rattle.ring_merkle.specs.Tree.{leaf_hash, node_hash, root_at, root_of}
+use Rattle.ring_merkle.specs.Tree.{leaf_hash, root_at, root_of}
 use Rattle.ring_merkle.proofs.Trees.{root-split}
 use Rattle.ring_merkle.proofs.laws.tree_hash_is_recursive.Goals as goal
 

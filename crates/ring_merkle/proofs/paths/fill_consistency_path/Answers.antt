@@ -1,6 +1,6 @@
 -- SPDX-License-Identifier: ISC
-use Rattle.std.proofs.Common.{◌≡◌, ◌-◌, ◌≤◌, [], ◌∷◌, ◌++◌, ◌∙◌, drop, take, length, refl, ap, sym}
-use Rattle.std.proofs.Common.{arith, false, cond}
+use Rattle.std.proofs.Common.{◌≡◌, ◌-◌, [], ◌∷◌, ◌++◌, ◌∙◌, drop, take, length, refl, ap, sym}
+use Rattle.std.proofs.Common.{arith, false}
 use Rattle.std.proofs.lemmas.Bool.{cond-false, cond-true}
 use Rattle.std.proofs.lemmas.List.{length-set}
 use Rattle.ring_merkle.specs.Consistency.{subproof_of}

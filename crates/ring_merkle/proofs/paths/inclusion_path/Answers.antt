@@ -1,5 +1,5 @@
 -- SPDX-License-Identifier: ISC
-use Rattle.std.proofs.Common.{◌≡◌, ◌^◌, ◌<◌, ◌≤◌, length, arith, rules, length-take}
+use Rattle.std.proofs.Common.{◌^◌, ◌<◌, length, arith, rules, length-take}
 use Rattle.ring_merkle.proofs.Included.{length-path}
 use Rattle.ring_merkle.proofs.paths.inclusion_path.Goals as goal
 

@@ -1,5 +1,5 @@
 -- SPDX-License-Identifier: ISC
-use Rattle.std.proofs.Common.{◌≡◌, ◌+◌, ◌-◌, ◌/◌, ◌^◌, ◌<◌, ◌≤◌, ℕ, zero, suc, max, arith}
+use Rattle.std.proofs.Common.{◌≡◌, ◌-◌, ◌/◌, ◌^◌, ◌<◌, ℕ, zero, suc, max, arith}
 use Rattle.ring_merkle.proofs.Trees.{pow-sum}
 use Rattle.ring_merkle.proofs.paths.split_of.Goals as goal
 

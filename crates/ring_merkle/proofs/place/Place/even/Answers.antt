@@ -1,5 +1,5 @@
 -- SPDX-License-Identifier: ISC
-use Rattle.std.proofs.Common.{◌≡◌, ◌/◌, ◌%◌, false, true, refl, arith, sym, subst}
+use Rattle.std.proofs.Common.{◌≡◌, ◌/◌, ◌%◌, refl, arith, sym, subst}
 use Rattle.std.proofs.lemmas.Bool.{eq-eqb, ne_eqb}
 use Rattle.ring_merkle.specs.Walk.{is_even, shifted_last, shifted_node}
 use Rattle.ring_merkle.proofs.Shifts.{Shifts, Shifts-end, Shifts-up}

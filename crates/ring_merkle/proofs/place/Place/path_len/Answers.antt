@@ -1,6 +1,6 @@
 -- SPDX-License-Identifier: ISC
-use Rattle.std.proofs.Common.{◌≡◌, ◌+◌, ◌/◌, ◌<◌, ◌∙◌, false, true, length, arith, sym, subst}
-use Rattle.ring_merkle.specs.Cost.{is_alone, sides}
+use Rattle.std.proofs.Common.{◌/◌, ◌<◌, ◌∙◌, length, arith, sym, subst}
+use Rattle.ring_merkle.specs.Cost.{sides}
 use Rattle.ring_merkle.proofs.Levels.{Counted, counted-all, counted-alone, counted-joined}
 use Rattle.ring_merkle.proofs.Levels.{counted-some}
 use Rattle.ring_merkle.proofs.Sides.{length-sides}

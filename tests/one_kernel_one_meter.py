@@ -764,12 +764,19 @@ def plain_derivations(places, plain):
                 yield f"{place} calls {call[0]}"
 
 
+@functools.cache
+def reached_by(crate):
+    """The crate, and those that it stands on: no call of another one can be in it."""
+    return {crate}.union(*(reached_by(it) for it in crates().get(crate, [])))
+
+
 def rules_of_plain_forms(places, plain):
     """The rules of who calls a plain form: each with whether it holds, and what breaks it."""
-    names = frozenset(it.name for it in plain)
     others = [it for it in places if it not in plain and it.name not in MAY_CALL_PLAIN]
     lower = [it for it in others if it.crate in METERED]
-    below = [f"{it} calls {call}" for it in lower for call in calls(it.function, names)]
+    names = {crate: frozenset(it.name for it in plain if it.crate in reached_by(crate))
+             for crate in METERED}
+    below = [f"{it} calls {call}" for it in lower for call in calls(it.function, names[it.crate])]
     yield NONE_BELOW, not below, below
     derived = list(plain_derivations(places, plain))
     yield NO_PLAIN_DERIVATION, not derived, derived

@@ -4,8 +4,9 @@
 ghost use Rattle.std.specs.Prelude.{◌≡◌, ◌∷◌, [], Some, codes, false, IfOk, IfSome};
 ghost use Rattle.ring.specs.Prelude.{bytes_of, digest_algorithm};
 ghost use Rattle.ring_sums.specs.Entry.{ReadsAs};
-ghost use Rattle.ring_sums.specs.List.{lines_in, lines_say, lists};
+ghost use Rattle.ring_sums.specs.List.{LinesSay, lines_in, lists};
 ghost use Rattle.ring_sums.specs.Outcome.{IsOutcomeOfBytes};
+ghost use Rattle.ring_sums.specs.declared.entry.Gap.{Gap};
 ghost use Rattle.ring_sums.specs.declared.entry.Gap.TheVariants.{Two, Unknown};
 
 use ring::digest::{Digest, SHA256};
@@ -64,12 +65,12 @@ pub fn tagged_line(alloc: Global, digest: &Digest) -> Result<Vec<u8>, AllocError
 /// A list of one image: a check reads its digest and its name, and nothing else.
 pub fn list_of_image(alloc: Global, digest: &Digest) -> Result<Vec<u8>, AllocError>
     requires { digest_algorithm digest.now ≡ SHA256 }
-    ensures { IfOk result (λ text. lines_say (Some SHA256) false 1 Unknown (lines_in text.items)
-        ≡ lists (record {
+    ensures { IfOk result (λ text. (after : Gap) × LinesSay (Some SHA256) false 1 Unknown
+        (lines_in text.items) (lists (record {
           algorithm = SHA256;
           digest = bytes_of digest.now;
           name = codes "image.bin";
-        }) ∷ []) }
+        }) ∷ []) after) }
 {
     lists_read_back();
     let bytes = digest.as_ref();

@@ -1,14 +1,20 @@
 -- SPDX-License-Identifier: ISC
 -- Lists, line by line.
 use Rattle.std.proofs.Common.{◌≡◌, ℕ, ◌+◌, ◌<◌, eqb, Bool, List, [], ◌∷◌, ◌++◌, length, refl, sym}
-use Rattle.std.proofs.Common.{◌∙◌, Option, append_assoc, arith, length-append}
+use Rattle.std.proofs.Common.{ap, ◌∙◌}
+use Rattle.std.proofs.Common.{true, false, codes, Some, ◌&&◌}
+use Rattle.std.proofs.Common.{Option, append_assoc, arith, length-append, subst}
 use Rattle.std.proofs.lemmas.List.{append-nil}
 use Rattle.std.proofs.lemmas.List.Splits.{slice_split_at, slice_split_none}
+use Rattle.std.specs.Str.{bytes_eq}
 use Rattle.ring_text.specs.Cut.{IsFirstCut, IsWithout}
 use Rattle.ring.specs.declared.digest.algorithm.Algorithm.{Algorithm}
-use Rattle.ring_sums.specs.List.{Said, is_passed_over, line_gap, line_says, lines_gap, lines_in}
-use Rattle.ring_sums.specs.List.{lines_say, without_return}
+use Rattle.ring_sums.specs.Entry.{Listed, Reading, gap_after, listed_in}
+use Rattle.ring_sums.specs.List.{IsAppended, LineSays, LinesSay, Said, SaysUnless, TextSays}
+use Rattle.ring_sums.specs.List.{is_passed_over}
+use Rattle.ring_sums.specs.List.{bad, lines_in, lists, said_of, without_return}
 use Rattle.ring_sums.specs.declared.entry.Gap.{Gap}
+use Rattle.ring_sums.proofs.ReadLines.{reading-one}
 
 module _ {text line behind : List ℕ} (cut : IsFirstCut 10 text line behind) where
   pub length-cut : length behind < length text
@@ -22,41 +28,123 @@ module _ {text line behind : List ℕ} (cut : IsFirstCut 10 text line behind) wh
 lines_in-whole : (text : List ℕ) → IsWithout 10 text → lines_in text ≡ text ∷ []
 lines_in-whole text none = slice_split_none (λ byte. eqb byte 10) text none
 
--- what is said so far, and what the rest says, is the whole; behind the rest this is the gap
-pub record IsSaidTo (asked : Option Algorithm) (is_standard_input : Bool) (whole : List Said)
-    (last : Gap) (number : ℕ) (gap : Gap) (front : List Said) (rest : List ℕ) : Type 0 where
-  pub says : front ++ lines_say asked is_standard_input number gap (lines_in rest) ≡ whole
-  pub leaves : lines_gap asked gap (lines_in rest) ≡ last
+-- a list on standard input does not list that
+pub said-dash : (listed : Listed) (number : ℕ) (is_standard_input : Bool)
+    → is_standard_input ≡ true → bytes_eq listed.name (codes "-") ≡ true
+    → bad number ≡ said_of (Some listed) number is_standard_input
+unfolding said_of
+said-dash listed number is_standard_input is dash = rw (is, dash)
 
-module _ {asked : Option Algorithm} {is_standard_input : Bool} {whole : List Said} {last : Gap}
+pub said-listed : (listed : Listed) (number : ℕ) (is_standard_input : Bool)
+    → (is_standard_input && bytes_eq listed.name (codes "-")) ≡ false
+    → lists listed ≡ said_of (Some listed) number is_standard_input
+unfolding said_of
+said-listed listed number is_standard_input other = rw other
+
+-- what the rest says stands behind what is said so far in what the whole says
+pub record IsSaidTo (asked : Option Algorithm) (is_standard_input : Bool) (first : Gap)
+    (text : List ℕ) (number : ℕ) (gap : Gap) (front : List Said) (rest : List ℕ) : Type 0 where
+  pub joins : (said : List Said) (after : Gap)
+      → LinesSay asked is_standard_input number gap (lines_in rest) said after
+      → LinesSay asked is_standard_input 1 first (lines_in text) (front ++ said) after
+
+module _ {asked : Option Algorithm} {is_standard_input : Bool} {number : ℕ} {gap : Gap}
+    {line : List ℕ} {old : List Said} where
+  -- a line that is passed over says nothing
+  pub passed-line : is_passed_over (without_return line) ≡ true
+      → IsAppended asked is_standard_input number gap gap line old old
+  passed-line is = record {
+    said = [];
+    says = record { is = rw is (refl, refl) };
+    is = sym (append-nil old);
+  }
+
+  -- any other what its text says
+  pub read-line : is_passed_over (without_return line) ≡ false → {one : Said} {after : Gap}
+      → TextSays asked is_standard_input number gap (without_return line) one after
+      → {new : List Said} → new ≡ old ++ one ∷ []
+      → IsAppended asked is_standard_input number gap after line old new
+  read-line other {one} says is = record {
+    said = one ∷ [];
+    says = record { is = rw other (one, refl, says) };
+    is = is;
+  }
+
+-- an empty line says nothing
+pub empty-says : (asked : Option Algorithm) (is_standard_input : Bool) (number : ℕ) (gap : Gap)
+    → LineSays asked is_standard_input number gap [] [] gap
+unfolding without_return is_passed_over
+empty-says asked is_standard_input number gap = record { is = (refl, refl) }
+
+-- a text says one thing
+says-one : (asked : Option Algorithm) (is_standard_input : Bool) (number : ℕ) (gap : Gap)
+    (text : List ℕ) (passed : Bool) (s t : List Said) (a b : Gap)
+    → SaysUnless passed asked is_standard_input number gap text s a
+    → SaysUnless passed asked is_standard_input number gap text t b → (s ≡ t) × (a ≡ b)
+says-one asked is_standard_input number gap text true s t a b one two =
+    (one.0 ∙ sym two.0, one.1 ∙ sym two.1)
+says-one asked is_standard_input number gap text false s t a b one two =
+    let same = reading-one one.2.reading two.2.reading one.2.reads two.2.reads in
+    let said : one.0 ≡ two.0 =
+    one.2.is ∙ ap (λ (r : Reading). said_of (listed_in gap r.is_escaped r.shape) number
+    is_standard_input) same ∙ sym two.2.is in (
+      one.1 ∙ ap (λ z. z ∷ []) said ∙ sym two.1,
+      one.2.leaves ∙ ap (λ (r : Reading). gap_after gap r.shape) same ∙ sym two.2.leaves,
+    )
+
+-- and so do lines
+pub lines-one : (asked : Option Algorithm) (is_standard_input : Bool) (number : ℕ) (gap : Gap)
+    (lines : List (List ℕ)) (s t : List Said) (a b : Gap)
+    → LinesSay asked is_standard_input number gap lines s a
+    → LinesSay asked is_standard_input number gap lines t b → (s ≡ t) × (a ≡ b)
+unfolding LinesSay
+lines-one asked is_standard_input number gap [] s t a b one two =
+    (one.0 ∙ sym two.0, one.1 ∙ sym two.1)
+lines-one asked is_standard_input number gap (line ∷ lines) s t a b one two =
+    let first = says-one asked is_standard_input number gap (without_return line) _ one.0 two.0
+    one.2 two.2 one.3.is two.3.is in
+    let rest = lines-one asked is_standard_input (number + 1) two.2 lines one.1 two.1 a b
+    (subst (λ g. LinesSay asked is_standard_input (number + 1) g lines one.1 a) first.1 one.4)
+    two.4 in (
+      one.5 ∙ ap (λ l. l ++ one.1) first.0 ∙ ap (λ l. two.0 ++ l) rest.0 ∙ sym two.5,
+      rest.1,
+    )
+
+module _ {asked : Option Algorithm} {is_standard_input : Bool} {first : Gap} {text : List ℕ}
     {number : ℕ} {gap : Gap} {front : List Said} {rest : List ℕ}
-    (so_far : IsSaidTo asked is_standard_input whole last number gap front rest) where
+    (so_far : IsSaidTo asked is_standard_input first text number gap front rest) where
   -- one more line is said
   pub said-next : {line behind : List ℕ} → IsFirstCut 10 rest line behind
       → {new : List Said} {after : Gap}
-      → new ≡ front ++ line_says asked is_standard_input number gap line
-      → after ≡ line_gap asked gap line
-      → IsSaidTo asked is_standard_input whole last (number + 1) after new behind
-  unfolding lines_say
-  said-next cut added shown =
-      let now = rw (lines_in-cut cut) at so_far.says in
-      let left = rw (lines_in-cut cut) at so_far.leaves in
-      record { says = rw (added, shown, append_assoc) now; leaves = rw shown left }
+      → IsAppended asked is_standard_input number gap after line front new
+      → IsSaidTo asked is_standard_input first text (number + 1) after new behind
+  unfolding LinesSay
+  said-next {line} {behind} cut {new} {after} more = record {
+    joins = λ said last says.
+        let whole : LinesSay asked is_standard_input number gap (lines_in rest) (more.said ++ said)
+        last = rw (lines_in-cut cut) (more.said, said, after, more.says, says, refl) in
+        let all = so_far.joins (more.said ++ said) last whole in
+        rw (more.is, append_assoc) all;
+  }
 
   -- the last line is
   pub said-last : IsWithout 10 rest → {new : List Said} {after : Gap}
-      → new ≡ front ++ line_says asked is_standard_input number gap rest
-      → after ≡ line_gap asked gap rest → (new ≡ whole) × (after ≡ last)
-  unfolding lines_say
-  said-last none added shown =
-      let now = rw (lines_in-whole rest none, append-nil) at so_far.says in
-      let left = rw (lines_in-whole rest none) at so_far.leaves in
-      (added ∙ now, shown ∙ left)
+      → IsAppended asked is_standard_input number gap after rest front new
+      → LinesSay asked is_standard_input 1 first (lines_in text) new after
+  unfolding LinesSay
+  said-last none {new} {after} more =
+      let whole : LinesSay asked is_standard_input number gap (lines_in rest) more.said after =
+      rw (lines_in-whole rest none)
+      (more.said, [], after, more.says, (refl, refl), sym (append-nil more.said)) in
+      subst (λ l. LinesSay asked is_standard_input 1 first (lines_in text) l after)
+      (sym more.is) (so_far.joins more.said after whole)
 
   -- an empty one says nothing
-  pub said-none : rest ≡ [] → (front ≡ whole) × (gap ≡ last)
-  unfolding lines_say line_says line_gap without_return is_passed_over
+  pub said-none : rest ≡ [] → LinesSay asked is_standard_input 1 first (lines_in text) front gap
+  unfolding LinesSay
   said-none empty =
-      let now = rw empty at so_far.says in
-      let left = rw empty at so_far.leaves in
-      (sym (append-nil front) ∙ now, left)
+      let whole : LinesSay asked is_standard_input number gap (lines_in rest) [] gap =
+      rw empty
+      ([], [], gap, empty-says asked is_standard_input number gap, (refl, refl), refl) in
+      subst (λ l. LinesSay asked is_standard_input 1 first (lines_in text) l gap)
+      (append-nil front) (so_far.joins [] gap whole)

@@ -1,234 +1,247 @@
 -- SPDX-License-Identifier: ISC
 -- The form of lines with a tag.
-use Rattle.std.proofs.Common.{◌≡◌, ℕ, eqb, true, false, if◌then◌else◌, codes, List, [], ◌∷◌}
-use Rattle.std.proofs.Common.{◌++◌, length, take, drop, get_or, Option, Some, None, refl, sym, ap}
-use Rattle.std.proofs.Common.{◌∙◌, inl, inr, ◌⊎◌, one-add}
-use Rattle.std.proofs.Math.Seq.{drop-append_seam, take-append_seam}
-use Rattle.std.proofs.lemmas.Bool.{cases_Bool, eqb-true}
-use Rattle.std.proofs.lemmas.List.{take-append-drop}
-use Rattle.std.proofs.lemmas.List.Elements.{All-cons, All-head, All-nil, All-same, All-tail}
-use Rattle.std.proofs.lemmas.Option.{cond_some, option_and_then_some, some_pair_parts}
-use Rattle.std.proofs.lemmas.Slice.Eq.{bytes_eq-Decides}
-use Rattle.std.specs.List.{All}
-use Rattle.std.specs.Option.{option_and_then, option_map, option_or, unwrap_or}
-use Rattle.std.specs.Str.{bytes_eq}
-use Rattle.ring_text.specs.Cut.{IsWithout}
-use Rattle.ring_sums.specs.Entry.{HasTaggedForm, behind, cut_at_last, is_white, tagged_parts}
-use Rattle.ring_sums.specs.Entry.{without_white}
-use Rattle.ring_sums.proofs.Entries.{cut_at_last-at}
-use Rattle.ring_sums.proofs.LineParts.{without_white-text}
+use Rattle.std.proofs.Common.{◌≡◌, ℕ, eqb, false, if◌then◌else◌, List, ◌∷◌, ◌++◌, Option}
+use Rattle.std.proofs.Common.{get_or, refl, sym, ap, subst, ◌∙◌, ◌⊎◌, inl, inr, drop, Some, None}
+use Rattle.std.proofs.Common.{Bor}
+use Rattle.std.specs.Prelude.{IfSome, IsNone}
+use Rattle.std.specs.Option.{option_copied, option_map, option_or}
+use Rattle.std.proofs.lemmas.Bool.{true≢false}
+use Rattle.std.proofs.lemmas.List.{append_cancel_left}
+use Rattle.std.proofs.lemmas.List.Elements.{All-same}
+use Rattle.std.specs.Char.{is_ascii_hexdigit}
+use Rattle.ring.specs.declared.digest.algorithm.Algorithm.{Algorithm}
+use Rattle.ring.specs.declared.digest.algorithm.AlgorithmId.{AlgorithmId}
+use Rattle.ring.specs.declared.digest.algorithm.AlgorithmId.TheVariants.{Sha1, Sha256, Sha384}
+use Rattle.ring.specs.declared.digest.algorithm.AlgorithmId.TheVariants.{Sha512, Sha512_256}
+use Rattle.ring.specs.declared.digest.algorithm.TheConstants.{SHA1_FOR_LEGACY_USE_ONLY, SHA256}
+use Rattle.ring.specs.declared.digest.algorithm.TheConstants.{SHA384, SHA512, SHA512_256}
+use Rattle.ring_sums.specs.Entry.{Finds, HasPlainForm, HasTaggedForm, IsAskedFor, IsBehindWhite}
+use Rattle.ring_sums.specs.Entry.{IsLastCut, IsOpened, tag_of, tag_of_id}
+use Rattle.ring_sums.proofs.Fronts.{behind_white, last_cut_same}
+use Rattle.ring_sums.proofs.PlainForm.{plain-first}
 
--- ---- fronts
+opened_same : (line one other : List ℕ) → IsOpened line one → IsOpened line other → one ≡ other
+opened_same line one other (inl is) (inl too) = ap (drop 1) (sym is ∙ too)
+opened_same line one other (inl is) (inr too) =
+    absurd (true≢false (ap (λ l. eqb (get_or l 0 0) 40) (sym is ∙ too)))
+opened_same line one other (inr is) (inl too) =
+    absurd (true≢false (ap (λ l. eqb (get_or l 0 0) 40) (sym too ∙ is)))
+opened_same line one other (inr is) (inr too) = ap (drop 2) (sym is ∙ too)
 
-behind-some : (front line rest : List ℕ) → behind front line ≡ Some rest → line ≡ front ++ rest
-unfolding behind
-behind-some front line rest h =
-    let found = cond_some (bytes_eq (take (length front) line) front) (drop (length front) line)
-    rest h in
-    let same = (bytes_eq-Decides (take (length front) line) front).0 found.0 in
-    let whole = take-append-drop (length front) line in
-    let split = rw (same, found.1) at whole in sym split
+-- behind a parenthesis, or else behind a space and one
+pub opened-second : (line : List ℕ) (second : Option (Bor (List ℕ)))
+    → ((rest : List ℕ) → line ≡ 40 ∷ rest → ⊥)
+    → IfSome second (λ inner. line ≡ 32 ∷ 40 ∷ inner.now)
+    → (IsNone second → (rest : List ℕ) → line ≡ 32 ∷ 40 ∷ rest → ⊥)
+    → Finds (option_copied second) (IsOpened line)
+opened-second line None first some none = λ inner is. elim is [
+  | inl alone ↦ first inner alone
+  | inr spaced ↦ none refl inner spaced
+]
+opened-second line (Some inner) first some none = inr some
 
-behind-front : (front rest : List ℕ) → behind front (front ++ rest) ≡ Some rest
-unfolding behind
-behind-front front rest =
-    rw (
-      take-append_seam front rest,
-      drop-append_seam front rest,
-      (bytes_eq-Decides front front).1 refl,
-    )
+-- what is read of a line with the form, step by step
+module _ {line tag name digits : List ℕ} (form : HasTaggedForm line tag name digits) where
+  abbrev pub behind_equals : List ℕ
+  behind_equals = form.after ++ digits
 
--- ---- cuts
+  abbrev pub behind_name : List ℕ
+  behind_name = form.before ++ 61 ∷ behind_equals
 
--- a line is cut at the last such byte
-record IsLastCut (byte : ℕ) (line front rest : List ℕ) : Type 0 where
-  whole : line ≡ front ++ byte ∷ rest
-  none : IsWithout byte rest
+  own-cut : IsLastCut 41 (name ++ 41 ∷ behind_name) name behind_name
+  own-cut = record { whole = refl; last = form.last }
 
-module _ (byte first : ℕ) (rest : List ℕ) where
-  abbrev found_in : Option (List ℕ × List ℕ) → Option (List ℕ × List ℕ)
-  found_in later =
-      option_or (option_map (λ cut. (first ∷ cut.0, cut.1)) later)
-      (if eqb first byte then Some ([], rest) else None)
+  own-equals : IsBehindWhite behind_name (61 ∷ behind_equals)
+  own-equals =
+      record { white = form.before; all = form.white_before; whole = refl; ends = refl }
 
-  none-step : (later : Option (List ℕ × List ℕ)) → (later ≡ None → IsWithout byte rest)
-      → found_in later ≡ None → IsWithout byte (first ∷ rest)
-  none-step (Some cut) none h = cc
-  none-step None none h = elim (cases_Bool (eqb first byte)) [
-    | inl is ↦ let found = rw is at h in cc
-    | inr other ↦ All-cons (λ b. eqb b byte ≡ false) first rest other (none refl)
-  ]
+  own-digits : IsBehindWhite behind_equals digits
+  own-digits =
+      record { white = form.after; all = form.white_after; whole = refl; ends = form.ends }
 
-  some-step : (later : Option (List ℕ × List ℕ)) → (later ≡ None → IsWithout byte rest)
-      → ((a b : List ℕ) → later ≡ Some (a, b) → IsLastCut byte rest a b)
-      → {front back : List ℕ} → found_in later ≡ Some (front, back)
-      → IsLastCut byte (first ∷ rest) front back
-  some-step (Some cut) none some {front} {back} h =
-      let parts = some_pair_parts (first ∷ cut.0) front cut.1 back h in
-      let inner = some cut.0 cut.1 refl in
-      rw (sym parts.0, sym parts.1) (record {
-        whole = ap (λ l. first ∷ l) inner.whole;
-        none = inner.none;
-      })
-  some-step None none some {front} {back} h = elim (cases_Bool (eqb first byte)) [
-    | inl is ↦
-        let found = rw is at h in
-        let parts = some_pair_parts [] front rest back found in
-        rw (sym parts.0, sym parts.1) (record {
-          whole = ap (λ b. b ∷ rest) (eqb-true first byte is);
-          none = none refl;
-        })
-    | inr other ↦ let found = rw other at h in cc
-  ]
+  pub opened-at : {opened : List ℕ} → line ≡ tag ++ opened
+      → IsOpened opened (name ++ 41 ∷ behind_name)
+  opened-at {opened} e =
+      subst (λ l. IsOpened l (name ++ 41 ∷ behind_name))
+      (append_cancel_left tag form.opened opened (sym form.begins ∙ e)) form.opens
 
-cut_at_last-none : (byte : ℕ) (line : List ℕ) → cut_at_last byte line ≡ None
-    → IsWithout byte line
-unfolding cut_at_last
-cut_at_last-none byte [] h = All-nil (λ b. eqb b byte ≡ false)
-cut_at_last-none byte (first ∷ rest) h =
-    none-step byte first rest (cut_at_last byte rest) (cut_at_last-none byte rest) h
+  pub inner-at : {opened inner : List ℕ} → line ≡ tag ++ opened → IsOpened opened inner
+      → inner ≡ name ++ 41 ∷ behind_name
+  inner-at {opened} {inner} e opens =
+      opened_same opened inner (name ++ 41 ∷ behind_name) opens (opened-at e)
 
-cut_at_last-some : (byte : ℕ) (line front back : List ℕ)
-    → cut_at_last byte line ≡ Some (front, back) → IsLastCut byte line front back
-unfolding cut_at_last
-cut_at_last-some byte [] front back h = cc
-cut_at_last-some byte (first ∷ rest) front back h =
-    some-step byte first rest (cut_at_last byte rest) (cut_at_last-none byte rest)
-    (λ a b is. cut_at_last-some byte rest a b is) h
+  pub cut-at : {opened inner : List ℕ} → line ≡ tag ++ opened → IsOpened opened inner
+      → IsLastCut 41 inner name behind_name
+  cut-at e opens = record { whole = inner-at e opens; last = form.last }
 
--- ---- white space
+  pub name-at : {opened inner : List ℕ} → line ≡ tag ++ opened → IsOpened opened inner
+      → {before behind : List ℕ} → IsLastCut 41 inner before behind
+      → (before ≡ name) × (behind ≡ behind_name)
+  name-at e opens {before} {behind} cut =
+      last_cut_same 41 before name behind behind_name cut.last form.last
+      (sym cut.whole ∙ inner-at e opens)
 
-without_white-skip : (byte : ℕ) (bytes : List ℕ) → is_white byte ≡ true
-    → without_white (byte ∷ bytes) ≡ without_white bytes
-unfolding without_white
-without_white-skip byte bytes is = rw (is, one-add)
+  pub equals-at : {rest text : List ℕ} → rest ≡ behind_name → IsBehindWhite rest text
+      → text ≡ 61 ∷ behind_equals
+  equals-at same is = behind_white form.before (61 ∷ behind_equals) is form.white_before refl same
 
--- bytes begin with white space
-record IsWhiteBefore (bytes : List ℕ) : Type 0 where
-  white : List ℕ
-  all : All (λ byte. is_white byte ≡ true) white
-  whole : bytes ≡ white ++ without_white bytes
-  text : is_white (get_or (without_white bytes) 0 0) ≡ false
+  pub digits-at : {rest text : List ℕ} → rest ≡ behind_equals → IsBehindWhite rest text
+      → text ≡ digits
+  digits-at same is = behind_white form.after digits is form.white_after form.ends same
 
-white-step : (byte : ℕ) (bytes : List ℕ) → IsWhiteBefore bytes
-    → (is_white byte ≡ true) ⊎ (is_white byte ≡ false) → IsWhiteBefore (byte ∷ bytes)
-white-step byte bytes later (inl is) = record {
-  white = byte ∷ later.white;
-  all = All-cons (λ b. is_white b ≡ true) byte later.white is later.all;
-  whole = rw (without_white-skip byte bytes is) (ap (λ l. byte ∷ l) later.whole);
-  text = rw (without_white-skip byte bytes is) later.text;
-}
-white-step byte bytes later (inr other) = record {
-  white = [];
-  all = All-nil (λ b. is_white b ≡ true);
-  whole = sym (without_white-text byte bytes other);
-  text = rw (without_white-text byte bytes other) other;
-}
+-- what is read so has the form
+pub tagged-made : {line tag opened inner name rest equals behind digits : List ℕ}
+    → line ≡ tag ++ opened → IsOpened opened inner → IsLastCut 41 inner name rest
+    → IsBehindWhite rest equals → equals ≡ 61 ∷ behind → IsBehindWhite behind digits
+    → HasTaggedForm line tag name digits
+tagged-made {opened = opened} {name = name} {rest = rest} {digits = digits} begins opens cut one is
+    two =
+    let end : rest ≡ one.white ++ 61 ∷ (two.white ++ digits) =
+    one.whole ∙ ap (λ l. one.white ++ l) (is ∙ ap (λ l. 61 ∷ l) two.whole) in
+    record {
+      opened = opened;
+      before = one.white;
+      after = two.white;
+      begins = begins;
+      opens = subst (IsOpened opened) (cut.whole ∙ ap (λ l. name ++ 41 ∷ l) end) opens;
+      white_before = one.all;
+      white_after = two.all;
+      last = All-same (λ b. eqb b 41 ≡ false) _ rest (sym end) cut.last;
+      ends = two.ends;
+    }
 
-white-before : (bytes : List ℕ) → IsWhiteBefore bytes
-unfolding without_white
-white-before [] = record {
-  white = [];
-  all = All-nil (λ b. is_white b ≡ true);
-  whole = refl;
-  text = refl;
-}
-white-before (byte ∷ bytes) =
-    white-step byte bytes (white-before bytes) (cases_Bool (is_white byte))
+-- its parts are known from the line and the tag
+pub tagged-same : {line tag n m d e : List ℕ} → HasTaggedForm line tag n d
+    → HasTaggedForm line tag m e → (n ≡ m) × (d ≡ e)
+tagged-same one two =
+    let name = name-at two one.begins one.opens (own-cut one) in
+    let equals = equals-at two name.1 (own-equals one) in
+    (name.0, digits-at two (ap (drop 1) equals) (own-digits one))
 
-without_white-first : (bytes : List ℕ) → is_white (get_or bytes 0 0) ≡ false
-    → without_white bytes ≡ bytes
-unfolding without_white
-without_white-first [] text = refl
-without_white-first (byte ∷ bytes) text = without_white-text byte bytes text
+-- ---- tags
 
-without_white-front : (white bytes : List ℕ) → All (λ byte. is_white byte ≡ true) white
-    → is_white (get_or bytes 0 0) ≡ false → without_white (white ++ bytes) ≡ bytes
-without_white-front [] bytes all text = without_white-first bytes text
-without_white-front (byte ∷ white) bytes all text =
-    let P : ℕ → Type 0 = λ b. is_white b ≡ true in
-    rw (without_white-skip byte (white ++ bytes) (All-head P byte white all))
-    (without_white-front white bytes (All-tail P byte white all) text)
+-- the algorithm whose tag has these bytes
+abbrev id_at : List ℕ → AlgorithmId
+id_at line =
+    if eqb (get_or line 3 0) 49 then Sha1
+    else if eqb (get_or line 3 0) 50 then Sha256
+    else if eqb (get_or line 3 0) 51 then Sha384
+    else if eqb (get_or line 6 0) 47 then Sha512_256
+    else Sha512
 
--- ---- a space, or none
+id_at-tag : (id : AlgorithmId) (opened inner : List ℕ) → IsOpened opened inner
+    → id_at (tag_of_id id ++ opened) ≡ id
+id_at-tag Sha1 opened inner opens = refl
+id_at-tag Sha256 opened inner opens = refl
+id_at-tag Sha384 opened inner opens = refl
+id_at-tag Sha512 opened inner (inl is) = ap (λ o. id_at (tag_of_id Sha512 ++ o)) is
+id_at-tag Sha512 opened inner (inr is) = ap (λ o. id_at (tag_of_id Sha512 ++ o)) is
+id_at-tag Sha512_256 opened inner opens = refl
 
-record IsSpaceBefore (line behind_space : List ℕ) : Type 0 where
-  space : List ℕ
-  one : (space ≡ []) ⊎ (space ≡ 32 ∷ [])
-  whole : line ≡ space ++ behind_space
+abbrev with_id : AlgorithmId → Algorithm
+with_id id = record { id = id }
 
-space-step : (line : List ℕ) (o : Option (List ℕ)) → behind (codes " ") line ≡ o
-    → IsSpaceBefore line (unwrap_or o line)
-space-step line None h = record { space = []; one = inl refl; whole = refl }
-space-step line (Some rest) h = record {
-  space = 32 ∷ [];
-  one = inr refl;
-  whole = behind-some (codes " ") line rest h;
-}
+-- a line has one tag
+pub tag-same : {line : List ℕ} (a b : Algorithm) {n m d e : List ℕ}
+    → HasTaggedForm line (tag_of a) n d → HasTaggedForm line (tag_of b) m e → a ≡ b
+tag-same a b one two =
+    let id = sym (id_at-tag a.id one.opened _ one.opens)
+    ∙ ap id_at (sym one.begins ∙ two.begins) ∙ id_at-tag b.id two.opened _ two.opens in
+    ap with_id id
 
-space-front : (space rest : List ℕ) → (space ≡ []) ⊎ (space ≡ 32 ∷ [])
-    → unwrap_or (behind (codes " ") (space ++ 40 ∷ rest)) (space ++ 40 ∷ rest) ≡ 40 ∷ rest
-unfolding behind
-space-front space rest (inl is) = rw is
-space-front space rest (inr is) = rw is
+tag-first : (id : AlgorithmId) (opened : List ℕ) → get_or (tag_of_id id ++ opened) 0 0 ≡ 83
+tag-first Sha1 opened = refl
+tag-first Sha256 opened = refl
+tag-first Sha384 opened = refl
+tag-first Sha512 opened = refl
+tag-first Sha512_256 opened = refl
 
--- ---- the form of a line behind its tag
+pub tagged-first : {line : List ℕ} (a : Algorithm) {n d : List ℕ}
+    → HasTaggedForm line (tag_of a) n d → get_or line 0 0 ≡ 83
+tagged-first a form =
+    ap (λ l. get_or l 0 0) form.begins ∙ tag-first a.id form.opened
 
-module _ (line name digits : List ℕ) where
-  abbrev from_space : List ℕ
-  from_space = unwrap_or (behind (codes " ") line) line
+-- no line has both forms
+pub forms-apart : {asked : Option Algorithm} {line : List ℕ} (a : Algorithm) {b : Algorithm}
+    {n d e r : List ℕ} → HasTaggedForm line (tag_of a) n d → HasPlainForm asked line b e r → ⊥
+forms-apart a one two =
+    true≢false (sym (plain-first two) ∙ ap is_ascii_hexdigit (tagged-first a one))
 
-  abbrev third : List ℕ × List ℕ → List ℕ → Option (List ℕ × List ℕ)
-  third cut rest = Some (cut.0, without_white rest)
+-- ---- the tags of all algorithms
 
-  abbrev second : List ℕ × List ℕ → Option (List ℕ × List ℕ)
-  second cut = option_and_then (third cut) (behind (codes "=") (without_white cut.1))
+-- what has the one form has the other
+found-same : {X : Type 0} (A B : X → Type 0) → ((x : X) → A x → B x) → ((x : X) → B x → A x)
+    → (o : Option X) → Finds o A → Finds o B
+found-same A B to from None none = λ x is. none x (from x is)
+found-same A B to from (Some x) is = to x is
 
-  abbrev first : List ℕ → Option (List ℕ × List ℕ)
-  first inner = option_and_then second (cut_at_last 41 inner)
+-- of two that are tried one after another
+found-either : {X Y : Type 0} (f : X → Y) (A B : Y → Type 0) (o p : Option X)
+    → Finds (option_map f o) A → Finds (option_map f p) B
+    → Finds (option_map f (option_or o p)) (λ y. A y ⊎ B y)
+found-either f A B None None none other = λ y is. elim is [
+  | inl one ↦ none y one
+  | inr two ↦ other y two
+]
+found-either f A B None (Some x) none other = inr other
+found-either f A B (Some x) p is other = inl is
 
-  pub form-of : tagged_parts line ≡ Some (name, digits) → HasTaggedForm line name digits
-  unfolding tagged_parts
-  form-of h =
-      option_and_then_some first (behind (codes "(") from_space) (name, digits) h
-      (λ inner is_inner h1. option_and_then_some second (cut_at_last 41 inner) (name, digits) h1
-      (λ cut is_cut h2. option_and_then_some (third cut)
-      (behind (codes "=") (without_white cut.1)) (name, digits) h2
-      (λ rest is_rest h3.
-      let same = some_pair_parts cut.0 name (without_white rest) digits h3 in
-      let space = space-step line (behind (codes " ") line) refl in
-      let last = cut_at_last-some 41 inner cut.0 cut.1 is_cut in
-      let before = white-before cut.1 in
-      let after = white-before rest in
-      let end : cut.1 ≡ before.white ++ 61 ∷ (after.white ++ without_white rest) =
-      before.whole ∙ ap (λ l. before.white ++ l)
-      (behind-some (codes "=") (without_white cut.1) rest is_rest
-      ∙ ap (λ l. 61 ∷ l) after.whole) in
-      rw (sym same.0, sym same.1) (record {
-        space = space.space;
-        before = before.white;
-        after = after.white;
-        one_space = space.one;
-        white_before = before.all;
-        white_after = after.all;
-        whole = space.whole ∙ ap (λ l. space.space ++ l)
-            (behind-some (codes "(") from_space inner is_inner
-            ∙ ap (λ l. 40 ∷ l) (last.whole ∙ ap (λ l. cut.0 ++ 41 ∷ l) end));
-        last = All-same (λ b. eqb b 41 ≡ false) _ cut.1 (sym end) last.none;
-        text = after.text;
-      }))))
+-- a line with the tag of an algorithm
+abbrev pub IsUnder : (line : List ℕ) → Algorithm → (parts : Algorithm × List ℕ × List ℕ) → Type 0
+IsUnder line a parts = (parts.0 ≡ a) × HasTaggedForm line (tag_of parts.0) parts.1 parts.2
 
-  pub parts-of : HasTaggedForm line name digits → tagged_parts line ≡ Some (name, digits)
-  unfolding tagged_parts
-  parts-of form =
-      let end = form.after ++ digits in
-      let rest = form.before ++ 61 ∷ end in
-      rw (
-        form.whole,
-        space-front form.space (name ++ 41 ∷ rest) form.one_space,
-        behind-front (codes "(") (name ++ 41 ∷ rest),
-        cut_at_last-at 41 name rest form.last,
-        without_white-front form.before (61 ∷ end) form.white_before refl,
-        behind-front (codes "=") end,
-        without_white-front form.after digits form.white_after form.text,
-      )
+-- and with that of one that is asked for, or of any
+abbrev pub IsUnderAsked : (line : List ℕ) → (asked : Option Algorithm)
+    → (parts : Algorithm × List ℕ × List ℕ) → Type 0
+IsUnderAsked line asked parts =
+    IsAskedFor asked parts.0 × HasTaggedForm line (tag_of parts.0) parts.1 parts.2
+
+pub asked-found : (line : List ℕ) (a : Algorithm) (found : Option (Algorithm × List ℕ × List ℕ))
+    → Finds found (IsUnder line a) → Finds found (IsUnderAsked line (Some a))
+asked-found line a =
+    found-same (IsUnder line a) (IsUnderAsked line (Some a)) (λ parts is. (sym is.0, is.1))
+    (λ parts is. (sym is.0, is.1))
+
+abbrev IsUnderSome : (line : List ℕ) → (parts : Algorithm × List ℕ × List ℕ) → Type 0
+IsUnderSome line parts =
+    (((IsUnder line SHA1_FOR_LEGACY_USE_ONLY parts ⊎ IsUnder line SHA256 parts)
+    ⊎ IsUnder line SHA384 parts) ⊎ IsUnder line SHA512 parts) ⊎ IsUnder line SHA512_256 parts
+
+which : (line : List ℕ) (id : AlgorithmId) (name digits : List ℕ)
+    → HasTaggedForm line (tag_of_id id) name digits
+    → IsUnderSome line (record { id = id }, name, digits)
+which line Sha1 name digits form = inl (inl (inl (inl (refl, form))))
+which line Sha256 name digits form = inl (inl (inl (inr (refl, form))))
+which line Sha384 name digits form = inl (inl (inr (refl, form)))
+which line Sha512 name digits form = inl (inr (refl, form))
+which line Sha512_256 name digits form = inr (refl, form)
+
+of_some : (line : List ℕ) (parts : Algorithm × List ℕ × List ℕ) → IsUnderSome line parts
+    → IsUnderAsked line None parts
+of_some line parts (inl (inl (inl (inl is)))) = (tt, is.1)
+of_some line parts (inl (inl (inl (inr is)))) = (tt, is.1)
+of_some line parts (inl (inl (inr is))) = (tt, is.1)
+of_some line parts (inl (inr is)) = (tt, is.1)
+of_some line parts (inr is) = (tt, is.1)
+
+-- the algorithms are tried one after another
+pub any-found : {X : Type 0} (line : List ℕ) (f : X → Algorithm × List ℕ × List ℕ)
+    (a b c d e : Option X) → Finds (option_map f a) (IsUnder line SHA1_FOR_LEGACY_USE_ONLY)
+    → Finds (option_map f b) (IsUnder line SHA256) → Finds (option_map f c) (IsUnder line SHA384)
+    → Finds (option_map f d) (IsUnder line SHA512)
+    → Finds (option_map f e) (IsUnder line SHA512_256)
+    → Finds (option_map f (option_or (option_or (option_or (option_or a b) c) d) e))
+    (IsUnderAsked line None)
+any-found line f a b c d e ha hb hc hd he =
+    let A = IsUnder line SHA1_FOR_LEGACY_USE_ONLY in
+    let B = IsUnder line SHA256 in
+    let C = IsUnder line SHA384 in
+    let D = IsUnder line SHA512 in
+    let E = IsUnder line SHA512_256 in
+    found-same (IsUnderSome line) (IsUnderAsked line None) (of_some line)
+    (λ parts is. which line parts.0.id parts.1 parts.2 is.1)
+    (option_map f (option_or (option_or (option_or (option_or a b) c) d) e))
+    (found-either f (λ p. ((A p ⊎ B p) ⊎ C p) ⊎ D p) E
+    (option_or (option_or (option_or a b) c) d) e
+    (found-either f (λ p. (A p ⊎ B p) ⊎ C p) D (option_or (option_or a b) c) d
+    (found-either f (λ p. A p ⊎ B p) C (option_or a b) c (found-either f A B a b ha hb) hc) hd) he)

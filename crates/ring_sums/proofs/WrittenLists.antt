@@ -1,7 +1,7 @@
 -- SPDX-License-Identifier: ISC
 -- Lists that are written read back.
 use Rattle.std.proofs.Common.{◌≡◌, ℕ, ◌+◌, ◌-◌, ◌<◌, eqb, Bool, true, false, not, ◌&&◌, ◌||◌}
-use Rattle.std.proofs.Common.{codes, List, [], ◌∷◌, ◌++◌, length, map, drop}
+use Rattle.std.proofs.Common.{codes, List, [], ◌∷◌, ◌++◌, length, map, drop, get_or, ◌⊎◌}
 use Rattle.std.proofs.Common.{Option, Some, None, refl, sym, ap, ◌∙◌, inl, inr, append_assoc, arith}
 use Rattle.std.proofs.lemmas.Bool.{and_parts, cases_Bool, false_from_ne_true, not-true, or_from}
 use Rattle.std.proofs.lemmas.Bool.{ne_eqb, or_parts, true≢false}
@@ -9,6 +9,7 @@ use Rattle.std.proofs.lemmas.List.Elements.{All-cons, All-drop, All-head, All-ni
 use Rattle.std.proofs.lemmas.List.Elements.{All-tail, All-weaker}
 use Rattle.std.proofs.lemmas.List.Folds.{list_all-append}
 use Rattle.std.proofs.lemmas.List.Splits.{slice_split_at}
+use Rattle.std.proofs.lemmas.Option.{none-some, same_Some}
 use Rattle.std.proofs.lemmas.Slice.Eq.{bytes_eq-Decides}
 use Rattle.std.specs.Char.{is_ascii_hexdigit}
 use Rattle.std.specs.List.{All, flat_map, list_all}
@@ -19,18 +20,20 @@ use Rattle.ring.specs.declared.digest.algorithm.Algorithm.{Algorithm}
 use Rattle.ring.specs.declared.digest.algorithm.AlgorithmId.{AlgorithmId}
 use Rattle.ring.specs.declared.digest.algorithm.AlgorithmId.TheVariants.{Sha1, Sha256, Sha384}
 use Rattle.ring.specs.declared.digest.algorithm.AlgorithmId.TheVariants.{Sha512, Sha512_256}
-use Rattle.ring_sums.specs.Entry.{IsDigestOf, Listed, ReadsAs, tag_of}
-use Rattle.ring_sums.specs.Entry.{algorithm_of_digits, tag_of_id, tagged}
+use Rattle.ring_sums.specs.Entry.{IsAskedFor, IsDigestOf, Listed, ReadsAs}
+use Rattle.ring_sums.specs.Entry.{algorithm_of_count, slash, tag_of, tag_of_id}
 use Rattle.ring_sums.specs.Line.{mark_of, plain_line, tagged_line}
-use Rattle.ring_sums.specs.List.{CanReadBack, is_passed_over, line_gap, line_of, line_says}
-use Rattle.ring_sums.specs.List.{lines_in, lines_say, lists, said_of, without_return}
+use Rattle.ring_sums.specs.List.{CanReadBack, LineSays, LinesSay, Said}
+use Rattle.ring_sums.specs.List.{is_passed_over, line_of, lines_in, lists, said_of, without_return}
 use Rattle.ring_sums.specs.Names.{escaped, escaped_byte, needs_escape}
 use Rattle.ring_sums.specs.declared.entry.Gap.{Gap}
 use Rattle.ring_sums.specs.declared.entry.Gap.TheVariants.{One, Two}
-use Rattle.ring_sums.proofs.LineParts.{are_digits, begins_digest, other_byte, start}
-use Rattle.ring_sums.proofs.PlainLines.{entry_of-plain, gap_after-plain, shown}
-use Rattle.ring_sums.proofs.TaggedLines.{begins_tag, behind_tag, entry_of-tagged, gap_after-tagged}
-use Rattle.ring_sums.proofs.TaggedLines.{tagged-asked, tagged-unasked, whole_tagged}
+use Rattle.ring_sums.proofs.LineParts.{are_digits, other_byte}
+use Rattle.ring_sums.proofs.Lists.{empty-says, said-listed}
+use Rattle.ring_sums.proofs.PlainForm.{plain-first}
+use Rattle.ring_sums.proofs.TaggedForm.{tagged-first}
+use Rattle.ring_sums.proofs.WrittenLines.{plain-form, plain_text, reads-plain, reads-tagged, shown}
+use Rattle.ring_sums.proofs.WrittenLines.{tagged-form, tagged_text, tagged_whole}
 
 -- ---- no line feed and no carriage return
 
@@ -76,9 +79,9 @@ clean-escaped (byte ∷ name) =
       clean-escaped name,
     )
 
-clean-start : (slash : Bool) → is_clean (start slash) ≡ true
-clean-start true = refl
-clean-start false = refl
+clean-slash : (is_escaped : Bool) → is_clean (slash is_escaped) ≡ true
+clean-slash true = refl
+clean-slash false = refl
 
 clean-mark : (is_binary : Option Bool) → not (is_end (mark_of is_binary)) ≡ true
 clean-mark None = refl
@@ -116,16 +119,17 @@ record IsWritten (asked : Option Algorithm) (gap : Gap) (listed : Listed) (after
   shown : is_passed_over text ≡ false
   reads : ReadsAs asked gap text listed after
 
-not_empty : (first : ℕ) (rest : List ℕ) → eqb (length (first ∷ rest)) 0 ≡ false
-not_empty first rest = ne_eqb (length (first ∷ rest)) 0 (λ h. omega arith)
-
-passed-start : (slash : Bool) (first : ℕ) (rest : List ℕ) → eqb first 35 ≡ false
-    → is_passed_over (start slash ++ first ∷ rest) ≡ false
+-- a text that begins neither so nor with a zero byte is read
+read-text : (is_escaped : Bool) (text : List ℕ) → eqb (get_or text 0 0) 0 ≡ false
+    → eqb (get_or text 0 0) 35 ≡ false → is_passed_over (slash is_escaped ++ text) ≡ false
 unfolding is_passed_over
-passed-start true first rest other =
-    or_from (eqb (length (92 ∷ first ∷ rest)) 0) false (not_empty 92 (first ∷ rest)) refl
-passed-start false first rest other =
-    or_from (eqb (length (first ∷ rest)) 0) (eqb first 35) (not_empty first rest) other
+read-text true text some other =
+    or_from (eqb (length (92 ∷ text)) 0) false (ne_eqb (length (92 ∷ text)) 0 (λ h. omega arith))
+    refl
+read-text false [] some other = absurd (true≢false some)
+read-text false (first ∷ rest) some other =
+    or_from (eqb (length (first ∷ rest)) 0) (eqb first 35)
+    (ne_eqb (length (first ∷ rest)) 0 (λ h. omega arith)) other
 
 -- a list on standard input has no line for that
 itself : (name : List ℕ) (is_standard_input : Bool)
@@ -146,26 +150,35 @@ module _ (asked : Option Algorithm) (is_standard_input : Bool) (number : ℕ) (g
     (listed : Listed) (after : Gap) (written rest : List ℕ)
     (is : IsWritten asked gap listed after written)
     (other : is_standard_input ≡ true → listed.name ≡ codes "-" → ⊥) where
-  says : line_says asked is_standard_input number gap is.text ≡ lists listed ∷ []
-  unfolding line_says said_of
-  says = rw (
-    without_return-clean is.text is.clean,
-    is.shown,
-    is.reads.lists,
-    itself listed.name is_standard_input other,
-  )
+  plain : lists listed ≡ said_of (Some listed) number is_standard_input
+  plain =
+      said-listed listed number is_standard_input (itself listed.name is_standard_input other)
 
-  leaves : line_gap asked gap is.text ≡ after
-  unfolding line_gap
-  leaves = rw (without_return-clean is.text is.clean, is.shown) is.reads.shows
+  says : LineSays asked is_standard_input number gap is.text (lists listed ∷ []) after
+  says =
+      let reads = is.reads in
+      record {
+        is = rw (without_return-clean is.text is.clean, is.shown) (
+          lists listed,
+          refl,
+          record {
+            reading = reads.reading;
+            reads = reads.is;
+            is = plain ∙ ap (λ o. said_of o number is_standard_input) (sym reads.lists);
+            leaves = sym reads.leaves;
+          },
+        );
+      }
 
-  say-line : lines_say asked is_standard_input number gap (lines_in (written ++ rest))
-      ≡ lists listed ∷ lines_say asked is_standard_input (number + 1) after (lines_in rest)
-  unfolding lines_say
-  say-line =
-      let split : lines_in (written ++ rest) ≡ is.text ∷ lines_in rest =
-      rw (is.whole, append_assoc) (lines_in-line is.text rest is.clean) in
-      rw (split, says, leaves)
+  split : lines_in (written ++ rest) ≡ is.text ∷ lines_in rest
+  split = rw (is.whole, append_assoc) (lines_in-line is.text rest is.clean)
+
+  say-line : (said : List Said) (last : Gap)
+      → LinesSay asked is_standard_input (number + 1) after (lines_in rest) said last
+      → LinesSay asked is_standard_input number gap (lines_in (written ++ rest))
+      (lists listed ∷ said) last
+  unfolding LinesSay
+  say-line said last more = rw split (lists listed ∷ [], said, after, says, more, refl)
 
 -- ---- both styles
 
@@ -175,84 +188,72 @@ module _ (a : Algorithm) (digest name : List ℕ) (is : IsDigestOf a digest)
   listed = record { algorithm = a; digest = digest; name = name }
 
   module _ (named : 0 < length name) (free : gap ≡ One → ⊥) (is_binary : Option Bool)
-      (h : option_or asked (algorithm_of_digits
-      (encode_lower digest ++ 32 ∷ mark_of is_binary ∷ escaped name)) ≡ Some a) where
-    abbrev plain_text : List ℕ
-    plain_text =
-        start (needs_escape name) ++ encode_lower digest ++ 32 ∷ mark_of is_binary ∷ escaped name
+      (h : option_or asked (algorithm_of_count (length (encode_lower digest))) ≡ Some a) where
+    abbrev text : List ℕ
+    text = slash (needs_escape name) ++ plain_text digest name is_binary
 
-    plain_clean : is_clean plain_text ≡ true
+    plain_clean : is_clean text ≡ true
     plain_clean =
         rw (
-          list_all-append (λ b. not (is_end b)) (start (needs_escape name) ++ encode_lower digest)
+          list_all-append (λ b. not (is_end b)) (slash (needs_escape name))
+              (plain_text digest name is_binary),
+          list_all-append (λ b. not (is_end b)) (encode_lower digest)
               (32 ∷ mark_of is_binary ∷ escaped name),
-          list_all-append (λ b. not (is_end b)) (start (needs_escape name)) (encode_lower digest),
-          clean-start (needs_escape name),
-          clean-digits (encode_lower digest)
-              (are_digits digest is.bytes),
+          clean-slash (needs_escape name),
+          clean-digits (encode_lower digest) (are_digits digest is.bytes),
           clean-mark is_binary,
           clean-escaped name,
         )
 
-    plain_shown : is_passed_over plain_text ≡ false
+    plain_shown : is_passed_over text ≡ false
     plain_shown =
-        let b = begins_digest a digest is in
-        rw (append_assoc, b.whole) (passed-start (needs_escape name) b.first
-        (b.rest ++ 32 ∷ mark_of is_binary ∷ escaped name) (other_byte b.first 35 b.digit refl))
+        let digit = plain-first (plain-form a digest name is asked named is_binary h) in
+        let first = get_or (plain_text digest name is_binary) 0 0 in
+        read-text (needs_escape name) (plain_text digest name is_binary)
+        (other_byte first 0 digit refl) (other_byte first 35 digit refl)
 
     plain-written : IsWritten asked gap listed Two
         (plain_line false (mark_of is_binary) digest name)
     plain-written = record {
-      text = plain_text;
-      whole = refl;
+      text = text;
+      whole = ap (λ l. l ++ 10 ∷ []) (append_assoc (slash (needs_escape name))
+          (encode_lower digest) (32 ∷ mark_of is_binary ∷ escaped name));
       clean = plain_clean;
       shown = plain_shown;
-      reads = record {
-        lists = entry_of-plain a digest name is named gap free is_binary asked h plain_text refl;
-        shows = gap_after-plain a digest name is named gap free is_binary asked h plain_text refl;
-      };
+      reads = reads-plain a digest name is asked named is_binary h gap free text refl;
     }
 
-  module _ (h : tagged asked (tag_of a ++ 32 ∷ behind_tag a digest name is)
-      ≡ Some (a, 32 ∷ behind_tag a digest name is)) where
-    abbrev tagged_text : List ℕ
-    tagged_text =
-        start (needs_escape name) ++ tag_of a ++ codes " (" ++ escaped name ++ codes ") = "
-        ++ encode_lower digest
+  module _ (asked_for : IsAskedFor asked a) where
+    abbrev tagged : List ℕ
+    tagged = slash (needs_escape name) ++ tagged_text a digest name
 
-    tagged_clean : is_clean tagged_text ≡ true
+    tagged_clean : is_clean tagged ≡ true
     tagged_clean =
         let p : ℕ → Bool = λ b. not (is_end b) in
-        let front = start (needs_escape name) ++ tag_of a in
         rw (
-          list_all-append p (front ++ codes " (" ++ escaped name ++ codes ") = ")
-              (encode_lower digest),
-          list_all-append p (front ++ codes " (" ++ escaped name) (codes ") = "),
-          list_all-append p (front ++ codes " (") (escaped name),
-          list_all-append p front (codes " ("),
-          list_all-append p (start (needs_escape name)) (tag_of a),
-          clean-start (needs_escape name),
+          list_all-append p (slash (needs_escape name)) (tagged_text a digest name),
+          list_all-append p (tag_of a)
+              (32 ∷ 40 ∷ (escaped name ++ 41 ∷ 32 ∷ 61 ∷ 32 ∷ encode_lower digest)),
+          list_all-append p (escaped name) (41 ∷ 32 ∷ 61 ∷ 32 ∷ encode_lower digest),
+          clean-slash (needs_escape name),
           clean-tag a.id,
           clean-escaped name,
           clean-digits (encode_lower digest) (are_digits digest is.bytes),
         )
 
-    tagged_shown : is_passed_over tagged_text ≡ false
+    tagged_shown : is_passed_over tagged ≡ false
     tagged_shown =
-        let b = begins_tag a.id in
-        rw (whole_tagged a digest name is asked gap h tagged_text refl, b.whole)
-        (passed-start (needs_escape name) 83 (b.rest ++ 32 ∷ behind_tag a digest name is) refl)
+        let first = tagged-first a (tagged-form a digest name is) in
+        read-text (needs_escape name) (tagged_text a digest name)
+        (ap (λ b. eqb b 0) first) (ap (λ b. eqb b 35) first)
 
     tagged-written : IsWritten asked gap listed gap (tagged_line false (tag_of a) digest name)
     tagged-written = record {
-      text = tagged_text;
-      whole = refl;
+      text = tagged;
+      whole = ap (λ l. l ++ 10 ∷ []) (tagged_whole a digest name);
       clean = tagged_clean;
       shown = tagged_shown;
-      reads = record {
-        lists = entry_of-tagged a digest name is asked gap h tagged_text refl;
-        shows = gap_after-tagged a digest name is asked gap h tagged_text refl;
-      };
+      reads = reads-tagged a digest name is asked asked_for gap tagged refl;
     }
 
 -- a line, and a gap behind it with which the next one reads back
@@ -265,32 +266,29 @@ record IsNext (asked : Option Algorithm) (gap : Gap) (listed : Listed) (written 
 two-free : Two ≡ One → ⊥
 two-free h = cc
 
+asked-for : (asked : Option Algorithm) (a : Algorithm) {P : Type 0}
+    → (asked ≡ Some a) ⊎ ((asked ≡ None) × P) → IsAskedFor asked a
+asked-for (Some b) a (inl is) = same_Some b a is
+asked-for (Some b) a (inr is) = absurd (none-some b (sym is.0))
+asked-for None a is = tt
+
 module _ (asked : Option Algorithm) (is_standard_input : Bool) (is_binary : Option Bool) where
   next : (is_tagged : Bool) (gap : Gap) → (gap ≡ One → ⊥) → (listed : Listed)
       → CanReadBack asked is_standard_input is_tagged listed
       → IsNext asked gap listed (line_of is_tagged is_binary listed)
-  next true gap free listed can =
-      let a = listed.algorithm in
-      let tag : tagged asked (tag_of a ++ 32 ∷ behind_tag a listed.digest listed.name can.digest)
-      ≡ Some (a, 32 ∷ behind_tag a listed.digest listed.name can.digest) =
-      elim can.algorithm [
-        | inl is ↦ rw is (tagged-asked a.id (behind_tag a listed.digest listed.name can.digest))
-        | inr is ↦
-            rw is.0 (tagged-unasked a.id (behind_tag a listed.digest listed.name can.digest))
-      ] in
-      record {
-        after = gap;
-        free = free;
-        is = tagged-written a listed.digest listed.name can.digest asked gap tag;
-      }
+  next true gap free listed can = record {
+    after = gap;
+    free = free;
+    is = tagged-written listed.algorithm listed.digest listed.name can.digest asked gap
+        (asked-for asked listed.algorithm can.algorithm);
+  }
   next false gap free listed can =
       let a = listed.algorithm in
-      let rest = mark_of is_binary ∷ escaped listed.name in
       let by_count : option_or asked
-      (algorithm_of_digits (encode_lower listed.digest ++ 32 ∷ rest)) ≡ Some a =
+      (algorithm_of_count (length (encode_lower listed.digest))) ≡ Some a =
       elim can.algorithm [
         | inl is ↦ rw is
-        | inr is ↦ rw is.0 (shown a listed.digest can.digest rest (is.1 refl))
+        | inr is ↦ rw is.0 (shown a listed.digest listed.name can.digest (is.1 refl))
       ] in
       record {
         after = Two;
@@ -299,19 +297,23 @@ module _ (asked : Option Algorithm) (is_standard_input : Bool) (is_binary : Opti
             is_binary by_count;
       }
 
-  pub lists-back : (is_tagged : Bool) (all : List Listed)
-      → All (CanReadBack asked is_standard_input is_tagged) all
-      → (number : ℕ) {gap : Gap} → (gap ≡ One → ⊥)
-      → lines_say asked is_standard_input number gap
-      (lines_in (flat_map (line_of is_tagged is_binary) all)) ≡ map lists all
-  unfolding lines_say line_says without_return is_passed_over
-  lists-back is_tagged [] can number free = refl
-  lists-back is_tagged (listed ∷ all) can number {gap} free =
-      let P : Listed → Type 0 = CanReadBack asked is_standard_input is_tagged in
-      let first = All-head P listed all can in
-      let n = next is_tagged gap free listed first in
-      say-line asked is_standard_input number gap listed n.after
-      (line_of is_tagged is_binary listed) (flat_map (line_of is_tagged is_binary) all) n.is
-      first.other
-      ∙ ap (λ rest. lists listed ∷ rest)
-      (lists-back is_tagged all (All-tail P listed all can) (number + 1) n.free)
+  module _ (is_tagged : Bool) where
+    abbrev text_of : List Listed → List ℕ
+    text_of all = flat_map (line_of is_tagged is_binary) all
+
+    abbrev Can : Listed → Type 0
+    Can = CanReadBack asked is_standard_input is_tagged
+
+    pub lists-back : (all : List Listed) → All Can all → (number : ℕ) (gap : Gap)
+        → (gap ≡ One → ⊥) → (after : Gap)
+        × LinesSay asked is_standard_input number gap (lines_in (text_of all)) (map lists all) after
+    unfolding LinesSay
+    lists-back [] can number gap free =
+        (gap, ([], [], gap, empty-says asked is_standard_input number gap, (refl, refl), refl))
+    lists-back (listed ∷ all) can number gap free =
+        let first = All-head Can listed all can in
+        let n = next is_tagged gap free listed first in
+        let more = lists-back all (All-tail Can listed all can) (number + 1) n.after n.free in
+        let line = say-line asked is_standard_input number gap listed n.after
+        (line_of is_tagged is_binary listed) (text_of all) n.is first.other in
+        (more.0, line (map lists all) more.0 more.1)

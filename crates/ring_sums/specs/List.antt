@@ -1,13 +1,14 @@
 -- SPDX-License-Identifier: ISC
 -- What a list says, line by line.
 use Rattle.std.specs.Prelude.{◌==◌, ◌+◌, ◌-◌, ◌&&◌, ◌||◌, ℕ, Bool, List, [], ◌∷◌, ◌++◌}
-use Rattle.std.specs.Prelude.{Option, None, Some, codes, drop, fold, if◌then◌else◌, length}
+use Rattle.std.specs.Prelude.{Option, None, Some, codes, drop, if◌then◌else◌, length}
 use Rattle.std.specs.Prelude.{slice_index, take, ◌≡◌, ◌≢◌, ◌<◌, ◌⊎◌, true, false}
 use Rattle.std.specs.List.{slice_split}
 use Rattle.std.specs.Str.{bytes_eq}
 use Rattle.ring.specs.declared.digest.algorithm.Algorithm.{Algorithm}
 use Rattle.ring.specs.declared.digest.algorithm.TheConstants.{SHA512_256}
-use Rattle.ring_sums.specs.Entry.{IsDigestOf, Listed, entry_of, gap_after, listed_by, tag_of}
+use Rattle.ring_sums.specs.Entry.{IsDigestOf, IsReading, Listed, Reading, gap_after, listed_by}
+use Rattle.ring_sums.specs.Entry.{listed_in, tag_of}
 use Rattle.ring_sums.specs.Line.{mark_of, plain_line, tagged_line}
 use Rattle.ring_sums.specs.declared.entry.Gap.{Gap}
 use Rattle.ring_sums.specs.declared.list.Line.{Line}
@@ -38,29 +39,44 @@ said_of None number is_standard_input = bad number
 said_of (Some listed) number is_standard_input =
     if is_standard_input && bytes_eq listed.name (codes "-") then bad number else lists listed
 
--- what a line says, if it says something, and the gap behind it
-unfoldable pub line_says : (asked : Option Algorithm) → (is_standard_input : Bool) → (number : ℕ)
-    → Gap → List ℕ → List Said
-line_says asked is_standard_input number gap line =
-    let text = without_return line in
-    if is_passed_over text then []
-    else said_of (entry_of asked gap text) number is_standard_input ∷ []
+-- a text says this, and leaves the gap at that
+pub record TextSays (asked : Option Algorithm) (is_standard_input : Bool) (number : ℕ) (gap : Gap)
+    (text : List ℕ) (said : Said) (after : Gap) : Type 0 where
+  pub reading : Reading
+  pub reads : IsReading asked text reading
+  pub is : said
+      ≡ said_of (listed_in gap reading.is_escaped reading.shape) number is_standard_input
+  pub leaves : after ≡ gap_after gap reading.shape
 
-unfoldable pub line_gap : (asked : Option Algorithm) → Gap → List ℕ → Gap
-line_gap asked gap line =
-    let text = without_return line in
-    if is_passed_over text then gap else gap_after asked gap text
+-- so it does unless it is passed over
+abbrev pub SaysUnless : (is_passed_over : Bool) → (asked : Option Algorithm)
+    → (is_standard_input : Bool) → (number : ℕ) → Gap → (text : List ℕ) → List Said
+    → (after : Gap) → Type 0
+SaysUnless true asked is_standard_input number gap text said after = (said ≡ []) × (after ≡ gap)
+SaysUnless false asked is_standard_input number gap text said after =
+    (one : Said) × (said ≡ one ∷ []) × TextSays asked is_standard_input number gap text one after
 
--- what lines say, of which the first has this number, each with the gap behind those before it
-unfoldable pub lines_say : (asked : Option Algorithm) → (is_standard_input : Bool)
-    → (number : ℕ) → Gap → List (List ℕ) → List Said
-lines_say asked is_standard_input number gap [] = []
-lines_say asked is_standard_input number gap (line ∷ lines) =
-    line_says asked is_standard_input number gap line
-    ++ lines_say asked is_standard_input (number + 1) (line_gap asked gap line) lines
+pub record LineSays (asked : Option Algorithm) (is_standard_input : Bool) (number : ℕ) (gap : Gap)
+    (line : List ℕ) (said : List Said) (after : Gap) : Type 0 where
+  pub is : SaysUnless (is_passed_over (without_return line)) asked is_standard_input number gap
+      (without_return line) said after
 
-abbrev pub lines_gap : (asked : Option Algorithm) → Gap → List (List ℕ) → Gap
-lines_gap asked gap lines = fold (line_gap asked) gap lines
+-- lines say this, of which the first has the number, each with the gap behind those before it
+unfoldable pub LinesSay : (asked : Option Algorithm) → (is_standard_input : Bool) → (number : ℕ)
+    → Gap → (lines : List (List ℕ)) → List Said → (after : Gap) → Type 0
+LinesSay asked is_standard_input number gap [] said after = (said ≡ []) × (after ≡ gap)
+LinesSay asked is_standard_input number gap (line ∷ lines) said after =
+    (first : List Said) × (rest : List Said) × (between : Gap)
+    × LineSays asked is_standard_input number gap line first between
+    × LinesSay asked is_standard_input (number + 1) between lines rest after
+    × (said ≡ first ++ rest)
+
+-- what a line says is put behind what those before it say
+pub record IsAppended (asked : Option Algorithm) (is_standard_input : Bool) (number : ℕ)
+    (gap after : Gap) (line : List ℕ) (old new : List Said) : Type 0 where
+  pub said : List Said
+  pub says : LineSays asked is_standard_input number gap line said after
+  pub is : new ≡ old ++ said
 
 -- the lines of a text
 abbrev pub lines_in : List ℕ → List (List ℕ)

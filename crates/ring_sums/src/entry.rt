@@ -1,23 +1,23 @@
 // SPDX-License-Identifier: ISC
 //! What a line of a list says.
 
-ghost use Rattle.std.specs.Prelude.{◌≡◌, ◌↔◌, IfOk, not, option_copied, option_map, position};
+ghost use Rattle.std.specs.Prelude.{◌≡◌, ◌≢◌, ◌↔◌, ◌∷◌, ◌++◌, ℕ, List, IfOk, false, not};
+ghost use Rattle.std.specs.Prelude.{option_and_then, option_copied, option_map, position};
 ghost use Rattle.std.specs.Char.{is_ascii_hexdigit};
 ghost use Rattle.std.specs.List.{list_all};
-ghost use Rattle.ring_sums.specs.Entry.{IsOther, IsUnread, IsVerified, algorithm_of_count};
-ghost use Rattle.ring_sums.specs.Entry.{algorithm_of_digits};
-ghost use Rattle.ring_sums.specs.Entry.{behind, behind_backslash, cut_at_last, digest_read};
-ghost use Rattle.ring_sums.specs.Entry.{entry_in, entry_of, gap_after, gap_in, gap_shown};
-ghost use Rattle.ring_sums.specs.Entry.{is_escaped, is_marked, is_white, listed_by, listed_with};
-ghost use Rattle.ring_sums.specs.Entry.{name_behind, name_read, plain_entry, plain_gap};
-ghost use Rattle.ring_sums.specs.Entry.{plain_parts, tag_of};
-ghost use Rattle.ring_sums.specs.Entry.{tagged, tagged_as, tagged_entry, tagged_parts};
-ghost use Rattle.ring_sums.specs.Entry.{without_white};
+ghost use Rattle.ring.specs.declared.digest.algorithm.Algorithm.{Algorithm};
+ghost use Rattle.ring_sums.specs.Entry.{Finds, HasPlainForm, HasTaggedForm, IsAskedFor};
+ghost use Rattle.ring_sums.specs.Entry.{IsBehindWhite, IsLastCut, IsOpened, IsOther, IsReading};
+ghost use Rattle.ring_sums.specs.Entry.{IsShape, IsUnread, IsVerified, Reading, Shape};
+ghost use Rattle.ring_sums.specs.Entry.{algorithm_of_count, digest_in, gap_after, gap_shown};
+ghost use Rattle.ring_sums.specs.Entry.{is_marked, is_white, listed_by, listed_in, listed_with};
+ghost use Rattle.ring_sums.specs.Entry.{name_in, named_by, slash, tag_of, with_digits};
 
 use crate::names::unescaped;
 use crate::outcome::Outcome;
 use memchr::memrchr;
 use ring::digest::{Algorithm, SHA1_FOR_LEGACY_USE_ONLY, SHA256, SHA384, SHA512, SHA512_256};
+use ring_text::after;
 use std::alloc::{AllocError, Global};
 
 /// A file that a list has, and the digest that it lists.
@@ -75,9 +75,9 @@ pub(crate) fn tag_of(algorithm: &Algorithm) -> &'static str
 }
 
 /// A name, as a line with escapes or without them has it.
-#[tactic(auto, unfolding(crate::specs::Entry::name_read))]
+#[tactic(auto, unfolding(crate::specs::Entry::name_in))]
 fn name_read(alloc: Global, name: &[u8], is_escaped: bool) -> Result<Option<Vec<u8>>, AllocError>
-    ensures { IfOk result (λ read. option_map (λ v. v.items) read ≡ name_read is_escaped name.now) }
+    ensures { IfOk result (λ read. option_map (λ v. v.items) read ≡ name_in is_escaped name.now) }
 {
     if is_escaped {
         unescaped(alloc, name)
@@ -87,14 +87,14 @@ fn name_read(alloc: Global, name: &[u8], is_escaped: bool) -> Result<Option<Vec<
 }
 
 /// The bytes of as many digits as a digest of the algorithm has.
-#[tactic(auto, unfolding(crate::specs::Entry::digest_read))]
+#[tactic(auto, unfolding(crate::specs::Entry::digest_in))]
 fn digest_read(
     alloc: Global,
     algorithm: &Algorithm,
     digits: &[u8],
 ) -> Result<Option<Vec<u8>>, AllocError>
     ensures { IfOk result (λ read. option_map (λ v. v.items) read
-        ≡ digest_read algorithm.now digits.now) }
+        ≡ digest_in algorithm.now digits.now) }
 {
     let mut listed = vec![in alloc; 0; algorithm.output_len()]?;
     if hex::decode_to_slice(digits, &mut listed).is_err() {
@@ -143,7 +143,7 @@ fn place_of_text(bytes: &[u8]) -> Option<usize>
 
 /// Bytes without the spaces and tabs at their start.
 fn without_white(bytes: &[u8]) -> &[u8]
-    ensures { result.now ≡ without_white bytes.now }
+    ensures { IsBehindWhite bytes.now result.now }
 {
     match place_of_text(bytes) {
         Some(place) => &bytes[place..],
@@ -151,17 +151,10 @@ fn without_white(bytes: &[u8]) -> &[u8]
     }
 }
 
-/// What is behind these bytes, where a line begins with them.
-#[tactic(auto, unfolding(crate::specs::Entry::behind))]
-fn behind<'a>(front: &[u8], line: &'a [u8]) -> Option<&'a [u8]>
-    ensures { option_copied result ≡ behind front.now line.now }
-{
-    line.strip_prefix(front)
-}
-
 /// What is before and behind the last such byte.
 fn cut_at_last(byte: u8, line: &[u8]) -> Option<(&[u8], &[u8])>
-    ensures { option_map (λ cut. (cut.0.now, cut.1.now)) result ≡ cut_at_last byte line.now }
+    ensures { Finds {X = List ℕ × List ℕ} (option_map (λ cut. (cut.0.now, cut.1.now)) result)
+        (λ cut. IsLastCut byte line.now cut.0 cut.1) }
 {
     match memrchr(byte, line) {
         Some(place) => Some((&line[..place], &line[place + 1..])),
@@ -189,9 +182,9 @@ fn algorithm_of_count(count: usize) -> Option<Algorithm>
 }
 
 /// The algorithm of so many digits.
-#[tactic(auto, unfolding(crate::specs::Entry::algorithm_of_digits))]
 fn algorithm_of_digits(line: &[u8]) -> Option<Algorithm>
-    ensures { result ≡ algorithm_of_digits line.now }
+    ensures { result ≡ option_and_then algorithm_of_count
+        (position (λ byte. not (is_ascii_hexdigit byte)) line.now) }
 {
     algorithm_of_count(digit_count(line)?)
 }
@@ -226,9 +219,9 @@ fn is_marked(rest: &[u8]) -> bool
 }
 
 /// The name behind the digits and a space, or `None` where lines before have another gap.
-#[tactic(auto, unfolding(crate::specs::Entry::name_behind, crate::specs::Entry::is_marked))]
+#[tactic(auto, unfolding(crate::specs::Entry::named_by, crate::specs::Entry::is_marked))]
 fn name_behind<'a>(rest: &'a [u8], gap: &mut Gap) -> Option<&'a [u8]>
-    ensures name { option_copied result ≡ name_behind gap.old rest.now }
+    ensures name { option_copied result ≡ named_by gap.old rest.now }
     ensures gap { gap.new ≡ gap_shown gap.old (is_marked rest.now) }
 {
     let is_marked = is_marked(rest);
@@ -248,107 +241,106 @@ fn are_digits(digits: &[u8]) -> bool
 
 /// The algorithm of a line that begins with the digest, the digits, and what is behind the space
 /// after them.
-#[tactic(auto, unfolding(crate::specs::Entry::plain_parts))]
 fn plain_parts(asked: Option<Algorithm>, line: &[u8]) -> Option<(Algorithm, &[u8], &[u8])>
-    ensures { option_map (λ parts. (parts.0, parts.1.now, parts.2.now)) result
-        ≡ plain_parts asked line.now }
+    ensures { Finds {X = Algorithm × List ℕ × List ℕ}
+        (option_map (λ parts. (parts.0, parts.1.now, parts.2.now)) result)
+        (λ parts. HasPlainForm asked line.now parts.0 parts.1 parts.2) }
 {
     let algorithm = asked.or(algorithm_of_digits(line))?;
     let len = 2 * algorithm.output_len();
-    if line.len() < len + 2 || !is_white(line[len]) || !are_digits(&line[..len]) {
+    if line.len() < len + 2 {
+        return None;
+    }
+    if !is_white(line[len]) {
+        return None;
+    }
+    if !are_digits(&line[..len]) {
         return None;
     }
     Some((algorithm, &line[..len], &line[len + 1..]))
 }
 
-/// The entry of a line that begins with the digest.
-#[tactic(auto, unfolding(crate::specs::Entry::plain_entry, crate::specs::Entry::plain_gap))]
+/// The entry of a line that begins with these digits.
+#[tactic(auto, unfolding(crate::specs::Entry::listed_in))]
 fn plain_entry(
     alloc: Global,
-    asked: Option<Algorithm>,
-    line: &[u8],
+    algorithm: Algorithm,
+    digits: &[u8],
+    rest: &[u8],
     is_escaped: bool,
     gap: &mut Gap,
 ) -> Result<Option<Entry>, AllocError>
     ensures entry { IfOk result (λ entry. option_map listed_by entry
-        ≡ plain_entry asked gap.old line.now is_escaped) }
-    ensures gap { gap.new ≡ plain_gap asked gap.old line.now }
+        ≡ listed_in gap.old is_escaped (with_digits algorithm digits.now rest.now)) }
+    ensures gap { gap.new ≡ gap_shown gap.old (is_marked rest.now) }
 {
-    let Some((algorithm, digits, rest)) = plain_parts(asked, line) else {
-        return Ok(None);
-    };
     match name_behind(rest, gap) {
         Some(name) => entry_with(alloc, algorithm, digits, name, is_escaped),
         None => Ok(None),
     }
 }
 
-/// An algorithm, and what is behind its tag, where a line begins with that.
-#[tactic(auto, unfolding(crate::specs::Entry::tagged_as))]
-fn tagged_as(algorithm: Algorithm, line: &[u8]) -> Option<(Algorithm, &[u8])>
-    ensures { option_map (λ found. (found.0, found.1.now)) result ≡ tagged_as algorithm line.now }
+/// What is behind a parenthesis that opens, before which a space may stand.
+fn opened(line: &[u8]) -> Option<&[u8]>
+    ensures { Finds (option_copied result) (IsOpened line.now) }
 {
-    let rest = behind(tag_of(&algorithm).as_bytes(), line)?;
-    Some((algorithm, rest))
+    match after(line, b"(") {
+        Some(inner) => Some(inner),
+        None => after(line, b" ("),
+    }
 }
 
-/// The algorithm whose tag a line begins with, and what is behind the tag.
-#[tactic(auto, unfolding(crate::specs::Entry::tagged))]
-fn tagged(asked: Option<Algorithm>, line: &[u8]) -> Option<(Algorithm, &[u8])>
-    ensures { option_map (λ found. (found.0, found.1.now)) result ≡ tagged asked line.now }
+/// The name and the digits of a line in BSD's style, behind the tag: ` (NAME) = DIGITS`.
+fn tagged_parts<'a>(line: &'a [u8], tag: &[u8]) -> Option<(&'a [u8], &'a [u8])>
+    ensures { Finds {X = List ℕ × List ℕ} (option_map (λ parts. (parts.0.now, parts.1.now)) result)
+        (λ parts. HasTaggedForm line.now tag.now parts.0 parts.1) }
+{
+    let inner = opened(after(line, tag)?)?;
+    let (name, rest) = cut_at_last(b')', inner)?;
+    let digits = after(without_white(rest), b"=")?;
+    Some((name, without_white(digits)))
+}
+
+/// An algorithm, and the name and the digits of a line with its tag.
+fn tagged_as(algorithm: Algorithm, line: &[u8]) -> Option<(Algorithm, &[u8], &[u8])>
+    ensures { Finds {X = Algorithm × List ℕ × List ℕ}
+        (option_map (λ parts. (parts.0, parts.1.now, parts.2.now)) result)
+        (λ parts. (parts.0 ≡ algorithm)
+        × HasTaggedForm line.now (tag_of parts.0) parts.1 parts.2) }
+{
+    let (name, digits) = tagged_parts(line, tag_of(&algorithm).as_bytes())?;
+    Some((algorithm, name, digits))
+}
+
+/// The algorithm whose tag a line begins with, the name and the digits.
+fn tagged(asked: Option<Algorithm>, line: &[u8]) -> Option<(Algorithm, &[u8], &[u8])>
+    ensures { Finds {X = Algorithm × List ℕ × List ℕ}
+        (option_map (λ parts. (parts.0, parts.1.now, parts.2.now)) result)
+        (λ parts. IsAskedFor asked parts.0
+        × HasTaggedForm line.now (tag_of parts.0) parts.1 parts.2) }
 {
     match asked {
         Some(algorithm) => tagged_as(algorithm, line),
         None => tagged_as(SHA1_FOR_LEGACY_USE_ONLY, line)
             .or(tagged_as(SHA256, line))
             .or(tagged_as(SHA384, line))
-            .or(tagged_as(SHA512_256, line))
-            .or(tagged_as(SHA512, line)),
-    }
-}
-
-/// The name and the digits of a line in BSD's style, behind the tag: ` (NAME) = DIGITS`.
-#[tactic(auto, unfolding(crate::specs::Entry::tagged_parts))]
-fn tagged_parts(line: &[u8]) -> Option<(&[u8], &[u8])>
-    ensures { option_map (λ parts. (parts.0.now, parts.1.now)) result ≡ tagged_parts line.now }
-{
-    let line = behind(b" ", line).unwrap_or(line);
-    let (name, rest) = cut_at_last(b')', behind(b"(", line)?)?;
-    let digits = behind(b"=", without_white(rest))?;
-    Some((name, without_white(digits)))
-}
-
-/// The entry of a line in BSD's style, behind the tag.
-#[tactic(auto, unfolding(crate::specs::Entry::tagged_entry))]
-fn tagged_entry(
-    alloc: Global,
-    algorithm: Algorithm,
-    line: &[u8],
-    is_escaped: bool,
-) -> Result<Option<Entry>, AllocError>
-    ensures { IfOk result (λ entry. option_map listed_by entry
-        ≡ tagged_entry algorithm line.now is_escaped) }
-{
-    match tagged_parts(line) {
-        Some((name, digits)) => entry_with(alloc, algorithm, digits, name, is_escaped),
-        None => Ok(None),
+            .or(tagged_as(SHA512, line))
+            .or(tagged_as(SHA512_256, line)),
     }
 }
 
 /// Whether a line begins with a backslash, and what is behind it.
-#[tactic(auto, unfolding(crate::specs::Entry::is_escaped, crate::specs::Entry::behind_backslash))]
 fn behind_backslash(line: &[u8]) -> (bool, &[u8])
-    ensures escaped { result.0 ≡ is_escaped line.now }
-    ensures rest { result.1.now ≡ behind_backslash line.now }
+    ensures rest { line.now ≡ slash result.0 ++ result.1.now }
+    ensures escaped { result.0 ≡ false → (behind : List ℕ) → line.now ≢ 92 ∷ behind }
 {
-    match behind(b"\\", line) {
+    match after(line, b"\\") {
         Some(rest) => (true, rest),
         None => (false, line),
     }
 }
 
 /// The entry of a line behind white space and a backslash.
-#[tactic(auto, unfolding(crate::specs::Entry::entry_in, crate::specs::Entry::gap_in))]
 fn entry_in(
     alloc: Global,
     asked: Option<Algorithm>,
@@ -356,27 +348,32 @@ fn entry_in(
     is_escaped: bool,
     gap: &mut Gap,
 ) -> Result<Option<Entry>, AllocError>
-    ensures entry { IfOk result (λ entry. option_map listed_by entry
-        ≡ entry_in asked gap.old line.now is_escaped) }
-    ensures gap { gap.new ≡ gap_in asked gap.old line.now }
+    ensures { (shape : Shape) × IsShape asked line.now shape
+        × IfOk result (λ entry. option_map listed_by entry ≡ listed_in gap.old is_escaped shape)
+        × (gap.new ≡ gap_after gap.old shape) }
 {
-    match tagged(asked, line) {
-        Some((algorithm, rest)) => tagged_entry(alloc, algorithm, rest, is_escaped),
-        None => plain_entry(alloc, asked, line, is_escaped, gap),
+    if let Some((algorithm, name, digits)) = tagged(asked, line) {
+        return entry_with(alloc, algorithm, digits, name, is_escaped);
+    }
+    match plain_parts(asked, line) {
+        Some((algorithm, digits, rest)) => {
+            plain_entry(alloc, algorithm, digits, rest, is_escaped, gap)
+        }
+        None => Ok(None),
     }
 }
 
 /// The entry of a line, which has no line feed, or `None` where it has not the form of one.
-#[tactic(auto, unfolding(crate::specs::Entry::entry_of, crate::specs::Entry::gap_after))]
 pub fn entry_of_line(
     alloc: Global,
     asked: Option<Algorithm>,
     line: &[u8],
     gap: &mut Gap,
 ) -> Result<Option<Entry>, AllocError>
-    ensures entry { IfOk result (λ entry. option_map listed_by entry
-        ≡ entry_of asked gap.old line.now) }
-    ensures gap { gap.new ≡ gap_after asked gap.old line.now }
+    ensures { (reading : Reading) × IsReading asked line.now reading
+        × IfOk result (λ entry. option_map listed_by entry
+        ≡ listed_in gap.old reading.is_escaped reading.shape)
+        × (gap.new ≡ gap_after gap.old reading.shape) }
 {
     let (is_escaped, line) = behind_backslash(without_white(line));
     entry_in(alloc, asked, line, is_escaped, gap)

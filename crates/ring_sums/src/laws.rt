@@ -4,13 +4,12 @@
 //! A law holds of the definitions alone: its clause is the law, and the call does nothing.
 
 ghost use Rattle.std.specs.Prelude.{◌≡◌, ◌≢◌, ◌<◌, ℕ, Bool, List, [], ◌∷◌, ◌++◌, Option, None};
-ghost use Rattle.std.specs.Prelude.{Some, ◌↔◌, All, false, flat_map, length, map};
+ghost use Rattle.std.specs.Prelude.{Some, All, false, flat_map, length, map};
 ghost use Rattle.ring.specs.declared.digest.algorithm.Algorithm.{Algorithm};
 ghost use Rattle.ring.specs.declared.digest.algorithm.TheConstants.{SHA512_256};
-ghost use Rattle.ring_sums.specs.Entry.{HasPlainForm, HasTaggedForm, IsDigestOf, Listed};
-ghost use Rattle.ring_sums.specs.Entry.{ReadsAs, plain_parts, tag_of, tagged_parts};
+ghost use Rattle.ring_sums.specs.Entry.{IsDigestOf, IsReading, Listed, Reading, ReadsAs, tag_of};
 ghost use Rattle.ring_sums.specs.Line.{mark_of, plain_line, tagged_line};
-ghost use Rattle.ring_sums.specs.List.{CanReadBack, line_of, lines_in, lines_say, lists};
+ghost use Rattle.ring_sums.specs.List.{CanReadBack, LinesSay, Said, line_of, lines_in, lists};
 ghost use Rattle.ring_sums.specs.Names.{escaped, unescaped};
 ghost use Rattle.ring_sums.specs.Outcome.{IsOutcome, IsOutcomeOfBytes};
 ghost use Rattle.ring_sums.specs.declared.entry.Gap.{Gap};
@@ -57,22 +56,19 @@ pub fn lists_read_back()
     ensures { (asked : Option Algorithm) (is_standard_input is_tagged : Bool)
         (is_binary : Option Bool) (all : List Listed)
         → All (CanReadBack asked is_standard_input is_tagged) all → (number : ℕ) (gap : Gap)
-        → gap ≢ One → lines_say asked is_standard_input number gap
-        (lines_in (flat_map (line_of is_tagged is_binary) all)) ≡ map lists all }
+        → gap ≢ One → (after : Gap) × LinesSay asked is_standard_input number gap
+        (lines_in (flat_map (line_of is_tagged is_binary) all)) (map lists all) after }
 {}
 
-/// The name and the digits of a line in BSD's style are read exactly where it has its form.
-pub fn tagged_lines_have_a_form()
-    ensures { (line name digits : List ℕ)
-        → (tagged_parts line ≡ Some (name, digits)) ↔ HasTaggedForm line name digits }
-{}
-
-/// The digits of a line that begins with them, and what is behind, are read exactly where it has
-/// its form.
-pub fn plain_lines_have_a_form()
-    ensures { (asked : Option Algorithm) (line : List ℕ) (a : Algorithm) (digits rest : List ℕ)
-        → (plain_parts asked line ≡ Some (a, digits, rest))
-        ↔ HasPlainForm asked line a digits rest }
+/// A line is one thing, and lines say one thing.
+pub fn lines_are_read_in_one_way()
+    ensures line { (asked : Option Algorithm) (line : List ℕ) (one other : Reading)
+        → IsReading asked line one → IsReading asked line other → one ≡ other }
+    ensures lines { (asked : Option Algorithm) (is_standard_input : Bool) (number : ℕ) (gap : Gap)
+        (lines : List (List ℕ)) (one other : List Said) (after last : Gap)
+        → LinesSay asked is_standard_input number gap lines one after
+        → LinesSay asked is_standard_input number gap lines other last
+        → (one ≡ other) × (after ≡ last) }
 {}
 
 /// An outcome of bytes in memory is their digest, or they are too long: no read of them fails.

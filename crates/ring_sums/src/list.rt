@@ -1,11 +1,10 @@
 // SPDX-License-Identifier: ISC
 //! A list, line by line.
 
-ghost use Rattle.std.specs.Prelude.{◌≡◌, ◌++◌, IfOk, OnOk, codes, map};
+ghost use Rattle.std.specs.Prelude.{◌≡◌, IfOk, OnOk, codes, map};
 ghost use Rattle.std.specs.Str.{bytes_eq};
-ghost use Rattle.ring_sums.specs.Entry.{entry_of, gap_after};
-ghost use Rattle.ring_sums.specs.List.{is_passed_over, line_gap, line_says, lines_gap, lines_in};
-ghost use Rattle.ring_sums.specs.List.{lines_say, said_by, said_of, without_return};
+ghost use Rattle.ring_sums.specs.List.{IsAppended, LinesSay, TextSays, is_passed_over, lines_in};
+ghost use Rattle.ring_sums.specs.List.{said_by, without_return};
 
 use crate::entry::{Entry, Gap, entry_of_line};
 use crate::options::Options;
@@ -45,7 +44,6 @@ fn is_dash(name: &[u8]) -> bool
 }
 
 /// What a line says that is neither empty nor a comment.
-#[tactic(auto, unfolding(crate::specs::List::said_of))]
 fn line_said(
     alloc: Global,
     asked: Option<Algorithm>,
@@ -54,9 +52,8 @@ fn line_said(
     is_standard_input: bool,
     gap: &mut Gap,
 ) -> Result<Line, AllocError>
-    ensures line { IfOk result (λ said. said_by said
-        ≡ said_of (entry_of asked gap.old line.now) number is_standard_input) }
-    ensures gap { gap.new ≡ gap_after asked gap.old line.now }
+    ensures { IfOk result (λ said. TextSays asked is_standard_input number gap.old line.now
+        (said_by said) gap.new) }
 {
     let Some(entry) = entry_of_line(alloc, asked, line, gap)? else {
         return Ok(Line::Bad(number));
@@ -68,7 +65,6 @@ fn line_said(
 }
 
 /// Appends what a line says, if it says something.
-#[tactic(auto, unfolding(crate::specs::List::line_says, crate::specs::List::line_gap))]
 fn append_line(
     lines: &mut Vec<Line>,
     asked: Option<Algorithm>,
@@ -77,9 +73,8 @@ fn append_line(
     is_standard_input: bool,
     gap: &mut Gap,
 ) -> Result<(), AllocError>
-    ensures lines { OnOk result (map said_by lines.new.items ≡ map said_by lines.old.items
-        ++ line_says asked is_standard_input number gap.old line.now) }
-    ensures gap { OnOk result (gap.new ≡ line_gap asked gap.old line.now) }
+    ensures { OnOk result (IsAppended asked is_standard_input number gap.old gap.new line.now
+        (map said_by lines.old.items) (map said_by lines.new.items)) }
 {
     let line = without_return(line);
     if is_passed_over(line) {
@@ -98,10 +93,8 @@ pub(crate) fn lines_of(
     is_standard_input: bool,
     gap: &mut Gap,
 ) -> Result<Vec<Line>, AllocError>
-    ensures lines { IfOk result (λ lines. map said_by lines.items
-        ≡ lines_say options.now.algorithm is_standard_input 1 gap.old (lines_in text.now)) }
-    ensures gap { OnOk result (gap.new
-        ≡ lines_gap options.now.algorithm gap.old (lines_in text.now)) }
+    ensures { IfOk result (λ lines. LinesSay options.now.algorithm is_standard_input 1 gap.old
+        (lines_in text.now) (map said_by lines.items) gap.new) }
 {
     let asked = options.algorithm;
     let mut lines = Vec::new(alloc);

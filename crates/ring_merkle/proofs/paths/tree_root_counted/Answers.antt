@@ -1,11 +1,10 @@
 -- SPDX-License-Identifier: ISC
-use Rattle.std.proofs.Common.{◌≡◌, ◌+◌, ◌-◌, ◌*◌, ◌<◌, ◌≤◌, [], ◌++◌, ◌∷◌, ◌∙◌, get_or, length}
+use Rattle.std.proofs.Common.{◌≡◌, [], ◌∙◌, length}
 use Rattle.std.proofs.Common.{take, ap, sym, arith, subst, length-take}
 use Rattle.std.proofs.lemmas.List.{take_all, take_more}
-use Rattle.std.specs.Prelude.{count_ones}
 use Rattle.ring.proofs.Costs.{raised-none}
 use Rattle.ring.specs.Prelude.{raised}
-use Rattle.ring_merkle.specs.Cost.{node_blocks, push_blocks, root_blocks, tree_blocks}
+use Rattle.ring_merkle.specs.Cost.{push_blocks, root_blocks, tree_blocks}
 use Rattle.ring_merkle.specs.Stack.{Holds, leaf_count}
 use Rattle.ring_merkle.specs.Tree.{root_of}
 use Rattle.ring_merkle.proofs.Joins.{leaves-more, leaves-root}

@@ -51,8 +51,8 @@ returns-then-len-out-clause-refused c =
         h.2,
         c.if-len-out.true,
         counted-proof c.args.leaves.now c.args.first_size c.even.result.node c.even.result.last
-            c.path_len-siblings.result c.if-is_power_of_two.len h.0 h.1 (omega arith) c.even.ensures.node
-            c.even.ensures.last c.path_len-siblings.ensures sum,
+            c.path_len-siblings.result c.if-is_power_of_two.len h.0 h.1 (omega arith)
+            c.even.ensures.node c.even.ensures.last c.path_len-siblings.ensures sum,
       )),
     )
 

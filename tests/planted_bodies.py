@@ -1,0 +1,371 @@
+# SPDX-License-Identifier: ISC
+"""The rules of one_kernel_one_meter.py by what each says, and bodies that keep their contracts,
+each with the rule that finds it."""
+
+import re
+
+STORE = "crates/ring_store/src/"
+ONE_CALL = "a plain form is the one call of its counted form"
+NO_OTHER_METER = "no function that takes a meter calls what runs blocks under another"
+NO_OTHER_NAME = (
+    "no import has another name, but those of some modules and of laws that no code calls"
+)
+NO_VALUE = "what runs blocks under a meter of its own is called where it is named"
+NO_ALIAS = "no alias names a type with such functions"
+NO_MACRO = "no macro names such a function"
+NO_SECOND = "no function that takes a `&mut Meter` makes another"
+NONE_BELOW = (
+    "plain forms are called in libraries with meters by none but themselves, `Key::generate` and "
+    "conversions"
+)
+ONCE = "a body of `ring_passwords` and of `ring_c` calls what runs blocks once"
+ONE_DERIVATION = (
+    "each call that derives stands in one place of `ring_c`, beside no other one and in no loop"
+)
+FEW_DERIVE = "in `ring_c` only PBKDF2 and the test and the making of a password hash derive"
+NO_PLAIN_DERIVATION = (
+    "`ring_c` and `ring_passwords` derive by no plain form, but for the text of a password"
+)
+COUNTED_ONCE = "blocks are loaded and run once beside their count, and nothing else counts one"
+AHEAD_ONCE = "each family runs the rounds of one message in one place, and in no loop"
+ARGUMENTS = "PBKDF2_HMAC_SHA256, iterations, salt, password, credential"
+SALT = "use std::num::NonZeroU32;\n"
+CONTEXT = SALT, f"use ring::digest::Context;\n{SALT}"
+KEY = SALT, f"use ring::hmac::Key;\n{SALT}"
+OTHER_KEY = "let _ = Other::new(ring::hmac::HMAC_SHA256, password);"
+STORED = "crates/ring_password_hash/src/stored.rt"
+C_PASSWORDS = "crates/ring_c/src/password_hashes.rt"
+C_VERIFY = "    status_from(verify_counted(text, password, max_iterations, meter))\n"
+C_INFO = "    match Stored::parse(text) {\n"
+C_DERIVATIONS = "crates/ring_c/src/derivations.rt"
+C_VERIFY_IN = "    match pbkdf2::verify_in::<VECTOR_BITS>(\n"
+FINISHED = "crates/ring_schedules/src/tls13/traffic.rt"
+SHA1_BLOCKS = "crates/ring_core/src/digest/sha1/blocks.rt"
+RUN_WORD_BLOCK = (
+    "    run_block(sums, state, first, second, third, fourth);\n    meter.add_block();\n"
+)
+PUT_SUMS = "    put_first_sums(sums, [first, second, third, fourth]);\n"
+RUN_AHEAD = "    run_ahead(sums, state, first, second, third, fourth);\n"
+
+
+def before(rule, path, line, body):
+    """A body planted before a line of a file."""
+    return rule, path, line, f"{re.match(' *', line).group()}{body}\n{line}"
+
+
+def in_matches(rule, body, *texts):
+    """A body planted in `matches` of the store, before what it calls."""
+    call = "    pbkdf2::verify_counted(\n"
+    return *before(rule, f"{STORE}credential.rt", call, body), *texts
+
+
+# Each is planted in turn: its rule, the file, a text and what stands in its place, and so on for
+# further texts.
+PLANTED = {
+    "plain `verify_password` answers an unknown name early": (
+        ONE_CALL,
+        f"{STORE}store.rt",
+        "        self.verify_password_counted(name, password, &mut Meter::new())\n",
+        "        self.iterations_of(name).ok_or(StoreError::WrongUsernameOrPassword)?;\n"
+        "        self.verify_password_counted(name, password, &mut Meter::new())\n",
+    ),
+    "plain `check_password` answers an unknown name early": (
+        ONE_CALL,
+        f"{STORE}store.rt",
+        "        self.check_password_counted(name, password, &mut Meter::new())\n",
+        "        self.iterations_of(name).ok_or(StoreError::WrongUsernameOrPassword)?;\n"
+        "        self.check_password_counted(name, password, &mut Meter::new())\n",
+    ),
+    "plain `check` of a token compares by `!=`": (
+        ONE_CALL,
+        f"{STORE}token.rt",
+        "        self.check_counted(user, expiry, now, token, &mut Meter::new())\n",
+        "        if self.issue(user, expiry)?.as_slice() != token {\n"
+        "            return Err(TokenError::BadToken);\n"
+        "        }\n"
+        "        if now > expiry { Err(TokenError::Expired) } else { Ok(()) }\n",
+    ),
+    "plain `check` of a token ends at the first byte that differs": (
+        ONE_CALL,
+        f"{STORE}token.rt",
+        "        self.check_counted(user, expiry, now, token, &mut Meter::new())\n",
+        "        for (made, given) in self.issue(user, expiry)?.iter().zip(token) {\n"
+        "            if made != given {\n"
+        "                return Err(TokenError::BadToken);\n"
+        "            }\n"
+        "        }\n"
+        "        self.check_counted(user, expiry, now, token, &mut Meter::new())\n",
+    ),
+    "plain `update` of a context's numbers keeps a short input by itself": (
+        ONE_CALL,
+        "crates/ring/src/raw/context.rt",
+        "        self.update_counted(input, &mut Meter::new())\n",
+        "        self.keep(input) || self.update_counted(input, &mut Meter::new())\n",
+    ),
+    "`set` of the program derives once more than it counts": (
+        NO_OTHER_METER,
+        "crates/ring_passwords/src/change.rt",
+        "    let before = store.iterations();\n",
+        "    let before = store.iterations();\n"
+        "    let _ = store.check_password(name, password);\n",
+    ),
+    "`verify` of the program derives once more by a plain form": (
+        NO_PLAIN_DERIVATION,
+        "crates/ring_passwords/src/main.rt",
+        "    change::verify(&store, name, &password, &mut Meter::new())\n",
+        "    let _ = store.check_password(name, &password);\n"
+        "    change::verify(&store, name, &password, &mut Meter::new())\n",
+    ),
+    "`verify` of the program derives once more under another meter": (
+        "at most 3 places of ring_passwords make a meter",
+        "crates/ring_passwords/src/main.rt",
+        "    change::verify(&store, name, &password, &mut Meter::new())\n",
+        "    let _ = change::verify(&store, name, &password, &mut Meter::new());\n"
+        "    change::verify(&store, name, &password, &mut Meter::new())\n",
+    ),
+    "`verify` of a text tests it with no limit first": before(
+        ONE_CALL,
+        STORED,
+        "    verify_counted(text, password, max_iterations, &mut Meter::new())\n",
+        "let _ = verify_counted(text, password, u32::MAX, &mut Meter::new());",
+    ),
+    "`Stored::verify` tests a value with no limit first": before(
+        ONE_CALL,
+        STORED,
+        "        self.verify_counted(password, max_iterations, &mut Meter::new())\n",
+        "let _ = self.verify_counted(password, u32::MAX, &mut Meter::new());",
+    ),
+    "`Stored::new` derives before it refuses": before(
+        ONE_CALL,
+        STORED,
+        f"{'':8}Stored::new_counted(scheme, password, salt, iterations, room, &mut Meter::new())\n",
+        "let _ = pbkdf2::derive(scheme.row().algorithm, iterations, salt, password, &mut [0; 64]);",
+    ),
+    "`Stored::new_counted` derives before it refuses, under another meter": before(
+        NO_SECOND,
+        STORED,
+        "        keep(scheme, password, salt, iterations, room, kept, meter)?;\n",
+        "let _ = derive(scheme, password, salt, iterations, kept, &mut Meter::new());",
+    ),
+    "`keep` derives before it refuses, by a plain form": before(
+        NO_OTHER_METER,
+        STORED,
+        "    if !has_room(scheme, salt, iterations, &*kept, room) {\n",
+        "let _ = pbkdf2::derive(scheme.row().algorithm, iterations, salt, password, kept);",
+    ),
+    "`Stored::verify_counted` derives before the limit, by a plain form": before(
+        NO_OTHER_METER,
+        STORED,
+        "        if self.iterations.get() > max_iterations {\n",
+        "let _ = pbkdf2::verify(self.scheme.row().algorithm, self.iterations, &self.salt, "
+        "password, &self.kept);",
+    ),
+    "`read_as` of a text derives": before(
+        NONE_BELOW,
+        STORED,
+        "    if !kept_into(scheme, rest, kept_len, &mut kept) {\n",
+        "let _ = pbkdf2::verify(scheme.row().algorithm, iterations, &salt, rest, &kept);",
+    ),
+    "`yz_password_hash_verify` tests a text with no limit first": before(
+        ONE_CALL,
+        C_PASSWORDS,
+        "    yz_password_hash_verify_counted(text, password, max_iterations, &mut Meter::new())\n",
+        "let _ = verify(text, password, u32::MAX);",
+    ),
+    "`yz_password_hash_verify_counted` tests a text with no limit first, by a plain form": before(
+        NO_OTHER_METER,
+        C_PASSWORDS,
+        C_VERIFY,
+        "let _ = ring_password_hash::verify(text, password, u32::MAX);",
+    ),
+    "`yz_password_hash_verify_counted` tests a text first, by another function": (
+        *before(ONE_DERIVATION, C_PASSWORDS, C_VERIFY, "early(text, password);"),
+        SALT,
+        f"{SALT}fn early(text: &[u8], password: &[u8]) {{\n"
+        "    let _ = verify_counted(text, password, u32::MAX, &mut Meter::new());\n}\n",
+    ),
+    "`yz_password_hash_verify_counted` tests a text twice, in a loop": before(
+        ONE_DERIVATION,
+        C_PASSWORDS,
+        C_VERIFY,
+        "for _ in 0..2 { let _ = verify_counted(text, password, max_iterations, meter); }",
+    ),
+    "`yz_password_hash_info` tests the text by a plain form": before(
+        NO_PLAIN_DERIVATION,
+        C_PASSWORDS,
+        C_INFO,
+        "let _ = ring_password_hash::verify(text, &[], u32::MAX);",
+    ),
+    "`yz_password_hash_info` tests the value by a plain form": before(
+        NO_PLAIN_DERIVATION,
+        C_PASSWORDS,
+        "            *iterations = stored.iterations().get();\n",
+        "let _ = stored.verify(&[], u32::MAX);",
+    ),
+    "`yz_password_hash_info` tests the text by the call for it": before(
+        FEW_DERIVE, C_PASSWORDS, C_INFO, "let _ = yz_password_hash_verify(text, &[], u32::MAX);"
+    ),
+    "`yz_password_hash_salt` derives by a plain form": before(
+        NO_PLAIN_DERIVATION,
+        C_PASSWORDS,
+        "    let len = new_salt_len(scheme);\n",
+        "let _ = pbkdf2::derive(scheme.row().algorithm, NonZeroU32::MAX, &[], random, &mut [0]);",
+    ),
+    "`yz_equal` tests a text by the call for it": before(
+        FEW_DERIVE,
+        "crates/ring_c/src/comparison.rt",
+        "    verify_slices_are_equal(a, b).is_ok()\n",
+        "let _ = crate::password_hashes::yz_password_hash_verify(a, b, u32::MAX);",
+    ),
+    "`yz_pbkdf2_derive` derives in a loop": before(
+        ONE_DERIVATION,
+        C_DERIVATIONS,
+        "    derive::<SSE>(algorithm, iterations, salt, secret, out)\n",
+        "for _ in 0..1 { let _ = derive::<SSE>(algorithm, iterations, salt, secret, out); }",
+    ),
+    "`yz_pbkdf2_derive_wide` tests a text by the call for it": before(
+        ONE_DERIVATION,
+        C_DERIVATIONS,
+        "    derive::<AVX2>(algorithm, iterations, salt, secret, out)\n",
+        "let _ = crate::password_hashes::yz_password_hash_verify(salt, secret, u32::MAX);",
+    ),
+    "`verify` below `yz_pbkdf2_verify` derives once more by the function beside it": before(
+        ONE_DERIVATION,
+        C_DERIVATIONS,
+        C_VERIFY_IN,
+        "let _ = derive::<VECTOR_BITS>(1, iterations.get(), salt, secret, &mut [0]);",
+    ),
+    "`verify` below `yz_pbkdf2_verify` derives once more by a plain form": before(
+        NO_PLAIN_DERIVATION,
+        C_DERIVATIONS,
+        C_VERIFY_IN,
+        "let _ = pbkdf2::derive(algorithm, iterations, salt, secret, &mut [0]);",
+    ),
+    "`yz_password_hash_new` derives before it refuses": before(
+        ONE_CALL,
+        C_PASSWORDS,
+        "    yz_password_hash_new_counted(\n",
+        "let _ = ring::pbkdf2::derive(PBKDF2_HMAC_SHA256, iterations, salt, password, &mut [0]);",
+    ),
+    "`write_encoded` of the program tests the password by a plain form": before(
+        NO_PLAIN_DERIVATION,
+        "crates/ring_passwords/src/main.rt",
+        "    let mut random = [0; RANDOM_LEN];\n",
+        "let _ = ring_password_hash::verify(&password, &password, u32::MAX);",
+    ),
+    "`test` of the program's texts derives twice": before(
+        ONCE,
+        "crates/ring_passwords/src/check.rt",
+        "    match stored.verify_counted(password, most.get(), meter) {\n",
+        "let _ = stored.verify_counted(password, most.get(), meter);",
+    ),
+    "`verify` of a Finished ends at the first byte that differs": (
+        ONE_CALL,
+        FINISHED,
+        "        self.verify_counted(transcript, verify_data, &mut Meter::new())\n",
+        "        if self.verify_data(transcript).as_ref() == verify_data {\n"
+        "            Ok(())\n"
+        "        } else {\n"
+        "            Err(Unspecified)\n"
+        "        }\n",
+    ),
+    "`verify_counted` of a Finished signs once more by a plain form": before(
+        NO_OTHER_METER,
+        FINISHED,
+        "        verify_slices_are_equal_counted(tag.as_ref(), verify_data, meter)\n",
+        "let _ = self.verify_data(transcript);",
+    ),
+    "`take_in` of checksums runs blocks under a further meter": before(
+        "at most 1 places of ring_sums make a meter",
+        "crates/ring_sums/src/lanes.rt",
+        "        match update_each_in::<BITS>(&mut self.contexts, &pieces, &mut Meter::new()) {\n",
+        "let _ = ring::digest::digest_counted(&ring::digest::SHA256, &[], &mut Meter::new());",
+    ),
+    "the program of lines runs a block under a meter of its own": before(
+        "no other crate makes a meter",
+        "crates/ring_lines_main/src/main.rt",
+        "        let answered = answer(rt.alloc(), line.as_str());\n",
+        "let _ = ring::digest::digest_counted(&ring::digest::SHA256, &[], &mut "
+        "ring::cost::Meter::new());",
+    ),
+    "`matches` derives once more than it counts": in_matches(
+        NO_OTHER_METER, f"let _ = pbkdf2::verify({ARGUMENTS});"
+    ),
+    "`matches` derives once more under a meter of its own": in_matches(
+        NO_SECOND, "let _ = derive(db_salt, name, password, iterations, &mut Meter::new());"
+    ),
+    "`matches` derives once more under a meter that a function in a local makes": in_matches(
+        NO_SECOND,
+        f"let make = Meter::new; let _ = pbkdf2::verify_counted({ARGUMENTS}, &mut make());",
+    ),
+    "`matches` derives once more under a meter whose type it writes in angle brackets": in_matches(
+        NO_SECOND, f"let _ = pbkdf2::verify_counted({ARGUMENTS}, &mut <Meter>::new());"
+    ),
+    "`matches` derives once more through a module under another name": in_matches(
+        NO_OTHER_METER, f"use ring::pbkdf2 as other; let _ = other::verify({ARGUMENTS});"
+    ),
+    "`matches` calls a method of what it has just made": in_matches(
+        NO_OTHER_METER, "let _ = Context::new(&ring::digest::SHA256).finish();", *CONTEXT
+    ),
+    "`matches` writes its type in angle brackets": in_matches(
+        NO_OTHER_METER, "let _ = <ring::hmac::Key>::new(ring::hmac::HMAC_SHA256, password);"
+    ),
+    "`matches` makes a key by `try_into`": in_matches(
+        NO_OTHER_METER, "let _: Result<Key, _> = okm.try_into();", *KEY
+    ),
+    "`matches` hands a conversion over": in_matches(
+        NO_VALUE, "let _: Option<Result<Key, _>> = okm.map(TryInto::try_into);", *KEY
+    ),
+    "`matches` derives once more by an import under another name": in_matches(
+        NO_OTHER_NAME, f"let _ = another({ARGUMENTS});",
+        SALT, f"use ring::pbkdf2::verify as another;\n{SALT}",
+    ),
+    "`matches` derives once more by one of several imports under another name": in_matches(
+        NO_OTHER_NAME, f"let _ = another({ARGUMENTS});",
+        "pbkdf2::{self, PBKDF2_HMAC_SHA256};",
+        "pbkdf2::{self, PBKDF2_HMAC_SHA256, verify as another};",
+    ),
+    "`matches` derives once more by an import of its own under another name": in_matches(
+        NO_OTHER_NAME, f"use ring::pbkdf2::verify as another; let _ = another({ARGUMENTS});"
+    ),
+    "`matches` imports a type under another name": in_matches(
+        NO_OTHER_NAME, f"use ring::hmac::Key as Other; {OTHER_KEY}"
+    ),
+    "`ring` gives `verify` under another name": (
+        NO_OTHER_NAME,
+        "crates/ring/src/lib.rt",
+        "pub use ring_core::{",
+        "pub use crate::pbkdf2::verify as another;\npub use ring_core::{",
+    ),
+    "`matches` keeps a function in a local": in_matches(
+        NO_VALUE, f"let another = pbkdf2::verify; let _ = another({ARGUMENTS});"
+    ),
+    "`matches` keeps an imported function in a local": in_matches(
+        NO_VALUE, f"use ring::pbkdf2::verify; let another = verify; let _ = another({ARGUMENTS});"
+    ),
+    "`matches` hands a method over": in_matches(
+        NO_VALUE,
+        "let _ = Some(Context::new(&ring::digest::SHA256)).map(Context::finish);",
+        *CONTEXT,
+    ),
+    "`matches` makes a key by an alias of its type": in_matches(
+        NO_ALIAS, f"type Other = ring::hmac::Key; {OTHER_KEY}"
+    ),
+    "`matches` derives once more by a macro": in_matches(
+        NO_MACRO, f"let _ = another!({ARGUMENTS});", SALT,
+        f"macro_rules! another {{ ($($it:expr),*) => {{ pbkdf2::verify($($it),*) }}; }}\n{SALT}",
+    ),
+    "a block of words is run twice": (
+        COUNTED_ONCE,
+        SHA1_BLOCKS,
+        RUN_WORD_BLOCK,
+        f"    run_block(sums, &mut {{ *state }}, first, second, third, fourth);\n{RUN_WORD_BLOCK}",
+    ),
+    "the rounds of a block are run twice": (
+        AHEAD_ONCE,
+        SHA1_BLOCKS,
+        RUN_AHEAD,
+        f"    run_ahead(sums, &mut {{ *state }}, first, second, third, fourth);\n{PUT_SUMS}"
+        f"{RUN_AHEAD}",
+    ),
+}

@@ -14,3 +14,6 @@ pub mod Bytes
 pub mod Costs
 pub mod Roots
 pub mod ChunkFolds
+pub mod ByteOrder
+pub mod Instructions
+pub mod Sha1Instructions

@@ -25,6 +25,22 @@ pub first_five : {X : Type 0} (f : X → ℕ) (xs : List X) → length xs ≡ 8 
 first_five f (a ∷ b ∷ c ∷ d ∷ e ∷ g ∷ h ∷ i ∷ []) eight v w x y z = refl
 first_five f _ eight v w x y z = absurd (omega arith)
 
+-- the numbers of a list of five
+pub all_five : {X : Type 0} (f : X → ℕ) (xs : List X) → length xs ≡ 5 → (v w x y z : X)
+    → f (get_or xs 0 v) ∷ f (get_or xs 1 w) ∷ f (get_or xs 2 x) ∷ f (get_or xs 3 y)
+    ∷ f (get_or xs 4 z) ∷ [] ≡ map f xs
+all_five f (a ∷ b ∷ c ∷ d ∷ e ∷ []) five v w x y z = refl
+all_five f _ five v w x y z = absurd (omega arith)
+
+-- the numbers of a list of eight
+pub all_eight : {X : Type 0} (f : X → ℕ) (xs : List X) → length xs ≡ 8
+    → (s t u v w x y z : X)
+    → f (get_or xs 0 s) ∷ f (get_or xs 1 t) ∷ f (get_or xs 2 u) ∷ f (get_or xs 3 v)
+    ∷ f (get_or xs 4 w) ∷ f (get_or xs 5 x) ∷ f (get_or xs 6 y) ∷ f (get_or xs 7 z) ∷ []
+    ≡ map f xs
+all_eight f (a ∷ b ∷ c ∷ d ∷ e ∷ g ∷ h ∷ i ∷ []) eight s t u v w x y z = refl
+all_eight f _ eight s t u v w x y z = absurd (omega arith)
+
 -- the last three
 pub last_three : {X : Type 0} (xs : List X) (x y z : X) → length xs ≡ 8
     → get_or xs 5 x ∷ get_or xs 6 y ∷ get_or xs 7 z ∷ [] ≡ drop 5 xs

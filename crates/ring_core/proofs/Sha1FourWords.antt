@@ -26,8 +26,12 @@ pub lanes-loaded : (b : List ℕ) (g : ℕ) → g < 4 → (x : List ℕ) → Eac
 lanes-loaded b g below x fits e =
     sym (low-lanes x fits) ∙ e ∙ four-same g (λ t from to. sym (W-first b t (omega arith)))
 
+-- the words of a block are the first of its schedule
+pub four-first : (b : List ℕ) (g : ℕ) → g < 4 → four (word_at 32 b) g ≡ four (W b) g
+four-first b g below = four-same g (λ t from to. sym (W-first b t (omega arith)))
+
 -- words under exclusive or, rotated left by one, one by one or at once
-rotl-xor : (a b : ℕ) → a < 2 ^ 32 → b < 2 ^ 32 → rotl 32 1 (a ⊕ b) ≡ rotl 32 1 a ⊕ rotl 32 1 b
+pub rotl-xor : (a b : ℕ) → a < 2 ^ 32 → b < 2 ^ 32 → rotl 32 1 (a ⊕ b) ≡ rotl 32 1 a ⊕ rotl 32 1 b
 rotl-xor a b fa fb = rotr-xor 32 31 (omega arith) fa fb
 
 rotl-four : (a b c d : ℕ) → a < 2 ^ 32 → b < 2 ^ 32 → c < 2 ^ 32 → d < 2 ^ 32
@@ -37,11 +41,11 @@ rotl-four a b c d fa fb fc fd =
     let abc = xor_lt 32 (a ⊕ b) c ab fc in
     rw (rotl-xor (a ⊕ b ⊕ c) d abc fd, rotl-xor (a ⊕ b) c ab fc, rotl-xor a b fa fb) refl
 
-rotl-twice : (x : ℕ) → x < 2 ^ 32 → rotl 32 1 (rotl 32 1 x) ≡ rotl 32 2 x
+pub rotl-twice : (x : ℕ) → x < 2 ^ 32 → rotl 32 1 (rotl 32 1 x) ≡ rotl 32 2 x
 rotl-twice x fits = omega (arith, fits)
 
 -- four words under exclusive or
-xor-lt : {a b c d : ℕ} → a < 2 ^ 32 → b < 2 ^ 32 → c < 2 ^ 32 → d < 2 ^ 32
+pub xor-lt : {a b c d : ℕ} → a < 2 ^ 32 → b < 2 ^ 32 → c < 2 ^ 32 → d < 2 ^ 32
     → a ⊕ b ⊕ c ⊕ d < 2 ^ 32
 xor-lt {a} {b} {c} {d} fa fb fc fd =
     xor_lt 32 (a ⊕ b ⊕ c) d (xor_lt 32 (a ⊕ b) c (xor_lt 32 a b fa fb) fc) fd

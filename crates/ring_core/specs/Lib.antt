@@ -12,4 +12,5 @@ pub mod Roots
 pub mod Sha2
 pub mod Sha1
 pub mod FourWords
+pub mod Instructions
 pub mod Prelude

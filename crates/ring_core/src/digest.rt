@@ -25,6 +25,7 @@
 //! | `ExtendByTwo` | words of SHA-2, or such in lanes | the next two words of a window |
 //! | `Sha1ByTwo` | words of 32 bits, or such in lanes | the same of SHA-1 |
 
+pub mod instructions;
 pub mod sha1;
 pub mod sha2;
 pub mod states;

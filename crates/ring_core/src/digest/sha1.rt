@@ -4,7 +4,7 @@
 
 mod blocks;
 mod lanes;
-mod round;
+pub(crate) mod round;
 mod window;
 
 pub use crate::digest::sha1::blocks::{

@@ -7,7 +7,7 @@ ghost use Rattle.ring_core.specs.Prelude.{first_primes};
 
 mod blocks;
 mod lanes;
-mod round;
+pub(crate) mod round;
 mod sha256;
 mod sha512;
 mod window;

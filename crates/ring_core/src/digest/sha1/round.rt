@@ -23,7 +23,7 @@ fn rotate_left<S: LaneWord<One = Wrapping<u32>>>(x: S, count: u32) -> S
 
 // f of round `t` (4.1.1)
 #[inline(always)]
-fn round_function<S: LaneWord<One = Wrapping<u32>>>(t: usize, x: S, y: S, z: S) -> S
+pub(crate) fn round_function<S: LaneWord<One = Wrapping<u32>>>(t: usize, x: S, y: S, z: S) -> S
     ensures { (i : ℕ) → S.lane i result
         ≡ round_function t (S.lane i x) (S.lane i y) (S.lane i z) }
 {

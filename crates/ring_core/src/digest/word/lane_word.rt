@@ -156,7 +156,7 @@ pub(crate) fn read_four<S: FourWords>(block: &[u8], j: usize) -> S::Four
 // Word `t` of a block whose first `N` words are those of `front`, and whose other words are those
 // of `padding`.
 #[inline(always)]
-fn word_of<T: Copy, const N: usize>(front: &[T; 8], padding: &[T; 16], t: usize) -> T
+pub(crate) fn word_of<T: Copy, const N: usize>(front: &[T; 8], padding: &[T; 16], t: usize) -> T
     requires front { N ≤ 8 }
     requires place { t < 16 }
     ensures { (value : T → ℕ) → value result

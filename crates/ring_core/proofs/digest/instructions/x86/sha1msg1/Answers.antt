@@ -1,0 +1,8 @@
+-- SPDX-License-Identifier: ISC
+use Rattle.std.proofs.Common.{refl}
+use Rattle.ring_core.proofs.FourWords.{four_read}
+use Rattle.ring_core.proofs.digest.instructions.x86.sha1msg1.Goals as goal
+
+pub returns : goal.returns
+returns c =
+    rw (four_read c.args.first c.fits-first.0, four_read c.args.second c.fits-second.0) refl

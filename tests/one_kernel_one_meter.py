@@ -72,10 +72,12 @@ MAY_DERIVE = re.compile(
 MAKES_TEXT = "new_value"
 # What loads the words of blocks and what counts these: that it counts as many is its contract. Each
 # family has one place that loads by each, and that runs the rounds and counts there: by fours the
-# kernel of one message, the others the kernel over a window.
+# kernel of one message, then that by instructions, and the others the kernel over a window.
 COUNTS = {
     "read_four": "add_block()",
     "four_of": "add_block()",
+    "read_block": "add_block()",
+    "block_of_words": "add_block()",
     "load_block": "add_block()",
     "load_blocks": "add_blocks(V::LANES)",
     "load_words": "add_blocks(S::LANES)",

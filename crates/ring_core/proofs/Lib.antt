@@ -15,5 +15,5 @@ pub mod Costs
 pub mod Roots
 pub mod ChunkFolds
 pub mod ByteOrder
-pub mod Instructions
+pub mod Sha2Instructions
 pub mod Sha1Instructions

@@ -20,15 +20,14 @@ use Rattle.ring_core.proofs.Sha1Steps.{W-first, W-next}
 use mir.Syntax.{w32}
 use mir.Val.{Fits}
 
--- lanes that hold words of a block hold the first of its schedule
-pub lanes-loaded : (b : List ℕ) (g : ℕ) → g < 4 → (x : List ℕ) → Each1 (Fits w32) x
-    → map low_32 x ≡ four (word_at 32 b) g → x ≡ four (W b) g
-lanes-loaded b g below x fits e =
-    sym (low-lanes x fits) ∙ e ∙ four-same g (λ t from to. sym (W-first b t (omega arith)))
-
 -- the words of a block are the first of its schedule
 pub four-first : (b : List ℕ) (g : ℕ) → g < 4 → four (word_at 32 b) g ≡ four (W b) g
 four-first b g below = four-same g (λ t from to. sym (W-first b t (omega arith)))
+
+-- and so are lanes that hold them
+pub lanes-loaded : (b : List ℕ) (g : ℕ) → g < 4 → (x : List ℕ) → Each1 (Fits w32) x
+    → map low_32 x ≡ four (word_at 32 b) g → x ≡ four (W b) g
+lanes-loaded b g below x fits e = sym (low-lanes x fits) ∙ e ∙ four-first b g below
 
 -- words under exclusive or, rotated left by one, one by one or at once
 pub rotl-xor : (a b : ℕ) → a < 2 ^ 32 → b < 2 ^ 32 → rotl 32 1 (a ⊕ b) ≡ rotl 32 1 a ⊕ rotl 32 1 b

@@ -12,7 +12,7 @@ use Rattle.ring_core.specs.Instructions.{sha1hash, sha1msg2, sha1rnds4, sha1su0,
 use Rattle.ring_core.specs.Instructions.{sha1rnds4_first, sha1rnds4_next}
 use Rattle.ring_core.specs.Prelude.{◌⊕◌, add_words, array_at, four, rotl, rotr, sixteen}
 use Rattle.ring_core.specs.Sha1.{W, round, round_constant, round_function, rounds_from}
-use Rattle.ring_core.proofs.Instructions.{add-none}
+use Rattle.ring_core.proofs.Sha2Instructions.{add-none}
 use Rattle.ring_core.proofs.Rotation.{rotr-lt}
 use Rattle.ring_core.proofs.Schedule.{steps-four}
 use Rattle.ring_core.proofs.Sha1FourWords.{W-next_four, rotl-twice, rotl-xor, xor-lt}

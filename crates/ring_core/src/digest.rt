@@ -1,16 +1,20 @@
 // SPDX-License-Identifier: ISC
 //! The block functions of SHA-1 and SHA-2 (FIPS 180-4, 6.1.2, 6.2.2 and 6.4.2), and their words.
 //!
-//! Each of the two has three kernels over the same `round`, which count the same blocks:
+//! SHA-1 and SHA-256 have four kernels, SHA-512 the first three. They count the same blocks, and
+//! those three run the same `round`:
 //!
 //! | Kernel | Its schedule | Runs | Why there |
 //! |---|---|---|---|
 //! | `blocks` | by fours, ahead of the rounds | one message | rounds add ready sums: the fastest |
 //! | `lanes` | a window of words in lanes | several messages | one operation serves all |
 //! | `window` | a window of one block, by twos | one message, in tests | a second source |
+//! | `by_instruction` | by fours, between the rounds | one message | two or four rounds at once |
 //!
 //! A window holds the last sixteen words. That of one block computes two words at a time, in the
-//! two lanes of a vector. `ring` runs the first two kernels, and tests run the third beside them.
+//! two lanes of a vector. `ring` runs the first two kernels, and tests run the third beside them. A
+//! build that puts a processor's `instructions` in their functions' place runs the last kernel for
+//! the first.
 //!
 //! They are written over traits:
 //!
@@ -24,6 +28,8 @@
 //! | `ExtendByFour` | words of SHA-2 | the next four words of the schedule |
 //! | `ExtendByTwo` | words of SHA-2, or such in lanes | the next two words of a window |
 //! | `Sha1ByTwo` | words of 32 bits, or such in lanes | the same of SHA-1 |
+//! | `Sha256Instructions` | a processor | four rounds, and the next four words, by instructions |
+//! | `Sha1Instructions` | a processor | the same of SHA-1 |
 
 pub mod instructions;
 pub mod sha1;

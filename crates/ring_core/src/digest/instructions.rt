@@ -3,5 +3,6 @@
 //! build for a processor that has them may put the instructions in the place of these functions.
 
 pub mod arm;
+mod sha256;
 pub(crate) mod vector;
 pub mod x86;

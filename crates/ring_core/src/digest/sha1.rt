@@ -1,11 +1,14 @@
 // SPDX-License-Identifier: ISC
-//! The block function of SHA-1 (FIPS 180-4, 6.1.2): of one message in `blocks` and in `window`, of
-//! several side by side in `lanes`.
+//! The block function of SHA-1 (FIPS 180-4, 6.1.2): of one message in `blocks`, in `by_instruction`
+//! and in `window`, of several side by side in `lanes`.
 
+mod arm;
 mod blocks;
+mod by_instruction;
 mod lanes;
 pub(crate) mod round;
 mod window;
+mod x86;
 
 pub use crate::digest::sha1::blocks::{
     sha1_block_data_order, sha1_block_data_order_counted, sha1_block_of_words_counted,

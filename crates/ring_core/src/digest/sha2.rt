@@ -1,16 +1,20 @@
 // SPDX-License-Identifier: ISC
 //! The block functions of SHA-2 (FIPS 180-4, 6.2.2 and 6.4.2), written once for both word sizes: of
-//! one message in `blocks` and in `window`, of several side by side in `lanes`.
+//! one message in `blocks` and in `window`, of several side by side in `lanes`. SHA-256 has
+//! `by_instruction` besides, for one message.
 ghost use Rattle.std.specs.Prelude.{ℕ, ◌<◌, slice_index};
 ghost use Rattle.ring_core.specs.Prelude.{IsRootFraction, constants_256, constants_512};
 ghost use Rattle.ring_core.specs.Prelude.{first_primes};
 
+mod arm;
 mod blocks;
+mod by_instruction;
 mod lanes;
 pub(crate) mod round;
 mod sha256;
 mod sha512;
 mod window;
+mod x86;
 
 pub use crate::digest::sha2::blocks::{
     block_data_order_32, block_data_order_32_counted, block_data_order_64,

@@ -7,17 +7,19 @@ ghost use Rattle.ring_core.specs.Instructions.{sha256h, sha256h2, sha256hash, sh
 ghost use Rattle.ring_core.specs.Prelude.{word_32};
 ghost use Rattle.ring_core.specs.Sha1.{round_function};
 
-use crate::digest::instructions::vector::{to_words, vector, with_sigma_1};
+use crate::digest::instructions::sha256::{round_of_sum, with_sigma_1};
+use crate::digest::instructions::vector::{to_words, vector};
 use crate::digest::sha1::round::round_function;
-use crate::digest::sha2::round::{round, small_sigma};
+use crate::digest::sha2::round::small_sigma;
 use crate::digest::word::{Sha2, Word};
 use std::num::Wrapping;
 use std::simd::u32x4;
 
 type Word32 = Wrapping<u32>;
 
-/// Whether the functions below are instructions in this build. No contract says so, and callers are
-/// right either way: a build that puts the instructions in their place also makes this true.
+/// Whether the functions below are instructions in this build. It has no contract, so that callers
+/// are proved for each answer: a build that puts the instructions in their place may ask the
+/// processor here.
 #[inline(never)]
 pub fn are_there() -> bool {
     false
@@ -32,8 +34,8 @@ fn hash(abcd: u32x4, efgh: u32x4, wk: u32x4) -> [Word32; 8]
     let [a, b, c, d] = to_words(abcd);
     let [e, f, g, h] = to_words(efgh);
     let [first, second, third, fourth] = to_words(wk);
-    let v = round(round([a, b, c, d, e, f, g, h], first), second);
-    round(round(v, third), fourth)
+    let v = round_of_sum(round_of_sum([a, b, c, d, e, f, g, h], first), second);
+    round_of_sum(round_of_sum(v, third), fourth)
 }
 
 /// SHA256H: a to d after four rounds of SHA-256 (FIPS 180-4, 6.2.2, step 3), from a to d, the

@@ -1,11 +1,8 @@
 // SPDX-License-Identifier: ISC
 //! Vectors of four words of 32 bits, as the instructions of both processors take them.
 ghost use Rattle.std.specs.Prelude.{◌≡◌, ◌<◌, ◌≤◌, ℕ, List, [], ◌∷◌, length, map};
-ghost use Rattle.ring_core.specs.Instructions.{sha256msg2};
 ghost use Rattle.ring_core.specs.Prelude.{IsBlockOf, four, word_32, word_at};
 
-use crate::digest::sha2::round::small_sigma;
-use crate::digest::word::Sha2;
 use crate::digest::word::lane_word::word_of;
 use std::num::Wrapping;
 use std::simd::{Simd, u8x16, u32x4};
@@ -35,17 +32,6 @@ pub(crate) fn vector(a: Word32, b: Word32, c: Word32, d: Word32) -> u32x4
     ensures { result ≡ word_32 a ∷ word_32 b ∷ word_32 c ∷ word_32 d ∷ [] }
 {
     Simd::from_array([a.0, b.0, c.0, d.0])
-}
-
-// Four words of SHA-256's schedule (FIPS 180-4, 6.2.2, step 1), from what they take of older words
-// and from the four words before them. The last two need the first two.
-#[inline(always)]
-pub(crate) fn with_sigma_1(older: u32x4, fourth: u32x4) -> u32x4
-    ensures { result ≡ sha256msg2 older fourth }
-{
-    let zero = u32x4::splat(0);
-    let two = older + small_sigma(fourth.shuffle(zero, [2, 3, 4, 4]), Word32::SMALL_SIGMA_1);
-    two + small_sigma(zero.shuffle(two, [0, 0, 4, 5]), Word32::SMALL_SIGMA_1)
 }
 
 // Words `4 * j` to `4 * j + 3` of a block (FIPS 180-4, 5.2), by one load and one swizzle: of four

@@ -4,9 +4,9 @@ ghost use Rattle.std.specs.Prelude.{◌≡◌, ◌<◌};
 ghost use Rattle.ring_core.specs.Instructions.{sha1msg1, sha1msg2, sha1nexte, sha1rnds4};
 ghost use Rattle.ring_core.specs.Instructions.{sha256msg1, sha256msg2, sha256rnds2};
 
-use crate::digest::instructions::vector::{to_words, vector, with_sigma_1};
+use crate::digest::instructions::sha256::{round_of_sum, with_sigma_1};
+use crate::digest::instructions::vector::{to_words, vector};
 use crate::digest::sha1::round::{round, round_constant};
-use crate::digest::sha2;
 use crate::digest::sha2::round::small_sigma;
 use crate::digest::word::{Sha2, Word};
 use std::num::Wrapping;
@@ -14,8 +14,9 @@ use std::simd::u32x4;
 
 type Word32 = Wrapping<u32>;
 
-/// Whether the functions below are instructions in this build. No contract says so, and callers are
-/// right either way: a build that puts the instructions in their place also makes this true.
+/// Whether the functions below are instructions in this build. It has no contract, so that callers
+/// are proved for each answer: a build that puts the instructions in their place may ask the
+/// processor here.
 #[inline(never)]
 pub fn are_there() -> bool {
     false
@@ -31,7 +32,7 @@ pub fn sha256rnds2(cdgh: u32x4, abef: u32x4, wk: u32x4) -> u32x4
     let [h, g, d, c] = to_words(cdgh);
     let [f, e, b, a] = to_words(abef);
     let [first, second, _, _] = to_words(wk);
-    let v = sha2::round::round(sha2::round::round([a, b, c, d, e, f, g, h], first), second);
+    let v = round_of_sum(round_of_sum([a, b, c, d, e, f, g, h], first), second);
     vector(v[5], v[4], v[1], v[0])
 }
 

@@ -11,23 +11,18 @@ ghost use Rattle.ring_core.specs.Sha1.{HasWords, W, block_step, blocks_from, rea
 ghost use Rattle.ring_core.specs.Sha1.{rounds_from};
 
 use crate::cost::Meter;
+use crate::digest::instructions::{arm, x86};
+use crate::digest::sha1::arm::Arm;
+use crate::digest::sha1::by_instruction;
 use crate::digest::sha1::round::{CHAINING_WORDS, add_state, round, round_constant};
+use crate::digest::sha1::x86::X86;
 use crate::digest::word::lane_word::{FourWords, four_of, read_four};
+use crate::digest::word::w32::rotate_four;
 use crate::polyfill::slice::AsChunks;
 use std::num::Wrapping;
 use std::simd::{Simd, u32x4};
 
 type Word32 = Wrapping<u32>;
-
-// ROTR of each word (3.2, item 4)
-#[inline(always)]
-fn rotate_four(words: u32x4, count: u32) -> u32x4
-    requires positive { 1 ≤ count }
-    requires below { count < 32 }
-    ensures { result ≡ map (rotr 32 count) words }
-{
-    (words >> Simd::splat(count)) | (words << Simd::splat(32 - count))
-}
 
 // The four words after sixteen. The last of them needs the first, which is put in afterwards.
 #[inline(always)]
@@ -294,7 +289,13 @@ pub fn sha1_block_data_order_counted(
     ensures rest { drop 5 state.new ≡ drop 5 state.old }
     ensures cost { meter.new ≡ raised meter.old (chunk_total blocks.entry) 0 }
 {
-    run_blocks(&mut [Simd::splat(0u32); 4], state, blocks, meter)
+    if x86::are_there() {
+        by_instruction::run_blocks::<X86>(state, blocks, meter)
+    } else if arm::are_there() {
+        by_instruction::run_blocks::<Arm>(state, blocks, meter)
+    } else {
+        run_blocks(&mut [Simd::splat(0u32); 4], state, blocks, meter)
+    }
 }
 
 /// Runs SHA-1's block function over each of `blocks`, of 64 bytes, in order (6.1.2).
@@ -327,5 +328,11 @@ pub fn sha1_block_of_words_counted(
     ensures rest { drop 5 state.new ≡ drop 5 state.old }
     ensures cost { meter.new ≡ raised meter.old 1 0 }
 {
-    run_words(&mut [Simd::splat(0u32); 4], state, front, padding, meter)
+    if x86::are_there() {
+        by_instruction::run_words::<X86>(state, front, padding, meter)
+    } else if arm::are_there() {
+        by_instruction::run_words::<Arm>(state, front, padding, meter)
+    } else {
+        run_words(&mut [Simd::splat(0u32); 4], state, front, padding, meter)
+    }
 }

@@ -10,7 +10,11 @@ ghost use Rattle.ring_core.specs.Prelude.{ready_sum, rounds_from, sixteen, with_
 ghost use Rattle.ring_core.specs.Prelude.{with_last_two, word_at, words_32, words_64};
 
 use crate::cost::Meter;
+use crate::digest::instructions::{arm, x86};
+use crate::digest::sha2::arm::Arm;
+use crate::digest::sha2::by_instruction;
 use crate::digest::sha2::round::{add_state, round};
+use crate::digest::sha2::x86::X86;
 use crate::digest::states::{State32, State64};
 use crate::digest::word::Sha2;
 use crate::digest::word::lane_word::{FourWords, four_of, read_four};
@@ -272,7 +276,13 @@ pub fn block_data_order_32_counted(
         (chunk_items blocks.entry) (chunk_total blocks.entry) }
     ensures cost { meter.new ≡ raised meter.old (chunk_total blocks.entry) 0 }
 {
-    run_blocks(&mut [Simd::splat(0u32); 4], state, blocks, meter)
+    if x86::are_there() {
+        by_instruction::run_blocks::<X86>(state, blocks, meter)
+    } else if arm::are_there() {
+        by_instruction::run_blocks::<Arm>(state, blocks, meter)
+    } else {
+        run_blocks(&mut [Simd::splat(0u32); 4], state, blocks, meter)
+    }
 }
 
 /// Runs SHA-256's block function over each of `blocks`, of 64 bytes, in order, and replaces the
@@ -322,7 +332,13 @@ pub fn block_of_words_32_counted(
         → words_32 state.new ≡ block_step family_256 (words_32 state.old) b }
     ensures cost { meter.new ≡ raised meter.old 1 0 }
 {
-    run_words::<Wrapping<u32>, 8>(&mut [Simd::splat(0u32); 4], state, front, padding, meter)
+    if x86::are_there() {
+        by_instruction::run_words::<X86>(state, front, padding, meter)
+    } else if arm::are_there() {
+        by_instruction::run_words::<Arm>(state, front, padding, meter)
+    } else {
+        run_words::<Wrapping<u32>, 8>(&mut [Simd::splat(0u32); 4], state, front, padding, meter)
+    }
 }
 
 /// Runs SHA-512's block function, which SHA-384 and SHA-512/256 share, over one block that is given

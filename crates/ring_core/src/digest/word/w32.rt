@@ -23,6 +23,16 @@ fn rotate(word: u32, count: u32) -> u32
     word.rotate_right(count)
 }
 
+// ROTR of each word of a vector (3.2, item 4)
+#[inline(always)]
+pub(crate) fn rotate_four(words: u32x4, count: u32) -> u32x4
+    requires positive { 1 ≤ count }
+    requires below { count < 32 }
+    ensures { result ≡ map (rotr 32 count) words }
+{
+    (words >> Simd::splat(count)) | (words << Simd::splat(32 - count))
+}
+
 // The words in the low halves of two lanes, each twice.
 #[inline(always)]
 pub(crate) fn doubled(lanes: u64x2) -> u32x4

@@ -4,7 +4,7 @@ use Rattle.std.specs.declared.num.Wrapping.{Wrapping}
 use Rattle.ring_core.specs.Instructions.{sha1hash}
 use Rattle.ring_core.specs.Prelude.{word_32}
 use Rattle.ring_core.specs.Sha1.{round_function}
-use Rattle.ring_core.proofs.Instructions.{word-read}
+use Rattle.ring_core.proofs.Sha2Instructions.{word-read}
 use Rattle.ring_core.proofs.Mapped.{value_read}
 use Rattle.ring_core.proofs.digest.instructions.arm.sha1hash.Goals as goal
 

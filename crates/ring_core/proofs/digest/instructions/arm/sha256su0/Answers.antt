@@ -3,7 +3,7 @@ use Rattle.std.proofs.Common.{◌^◌, ℕ, [], ◌∷◌, rules, slice_index, w
 use Rattle.std.proofs.Math.Nat.{mod-eq_of_lt}
 use Rattle.ring_core.specs.Prelude.{lane}
 use Rattle.ring_core.proofs.FourWords.{four_read}
-use Rattle.ring_core.proofs.Instructions.{low-sum}
+use Rattle.ring_core.proofs.Sha2Instructions.{low-sum}
 use Rattle.ring_core.proofs.Vectors.{at_fits}
 use Rattle.ring_core.proofs.digest.instructions.arm.sha256su0.Goals as goal
 

@@ -2,7 +2,7 @@
 use Rattle.std.proofs.Common.{◌^◌, ◌%◌, ◌+◌, ℕ, [], ◌∷◌, ◌∙◌, ap, slice_index}
 use Rattle.ring_core.specs.Prelude.{family_256, σ1}
 use Rattle.ring_core.proofs.FourWords.{four_read}
-use Rattle.ring_core.proofs.Instructions.{last-first}
+use Rattle.ring_core.proofs.Sha2Instructions.{last-first}
 use Rattle.ring_core.proofs.digest.instructions.arm.sha256su1.Goals as goal
 
 pub returns : goal.returns

@@ -3,7 +3,7 @@ use Rattle.std.proofs.Common.{ℕ, refl, rules, slice_index, w32}
 use Rattle.std.specs.declared.num.Wrapping.{Wrapping}
 use Rattle.ring_core.specs.Instructions.{sha1rnds4}
 use Rattle.ring_core.specs.Prelude.{word_32}
-use Rattle.ring_core.proofs.Instructions.{word-read}
+use Rattle.ring_core.proofs.Sha2Instructions.{word-read}
 use Rattle.ring_core.proofs.Mapped.{value_read}
 use Rattle.ring_core.proofs.Sha1Instructions.{rnds4-all}
 use Rattle.ring_core.proofs.Vectors.{at_fits}

@@ -3,9 +3,9 @@ use Rattle.std.proofs.Common.{◌^◌, ℕ, [], ◌∷◌, rules, slice_index, w
 use Rattle.std.proofs.Math.Nat.{mod-eq_of_lt, mod-mod}
 use Rattle.ring_core.specs.Prelude.{lane}
 use Rattle.ring_core.proofs.FourWords.{four_read}
-use Rattle.ring_core.proofs.Instructions.{sum-low, sum-low-first, sum-low-second}
+use Rattle.ring_core.proofs.Sha2Instructions.{sum-low, sum-low-first, sum-low-second}
 use Rattle.ring_core.proofs.Vectors.{at_fits}
-use Rattle.ring_core.proofs.digest.instructions.vector.with_sigma_1.Goals as goal
+use Rattle.ring_core.proofs.digest.instructions.sha256.with_sigma_1.Goals as goal
 
 pub returns : goal.returns
 unfolding lane

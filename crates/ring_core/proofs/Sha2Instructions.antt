@@ -1,5 +1,5 @@
 -- SPDX-License-Identifier: ISC
--- The steps of the processors' instructions are the standard's.
+-- The steps of the processors' instructions for SHA-256 are the standard's.
 use Rattle.std.proofs.Common.{◌≡◌, ℕ, ◌+◌, ◌*◌, ◌%◌, ◌^◌, ◌<◌, List, [], ◌∷◌, slice_index, refl}
 use Rattle.std.proofs.Common.{ap, ◌∙◌, add-zero, arith, sym, length, map, nat_lt, true}
 use Rattle.std.proofs.Math.ListN.{get_or, length-map}

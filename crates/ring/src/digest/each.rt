@@ -251,17 +251,7 @@ fn write_all<const VECTOR_BITS: usize>(
 pub fn is_len_of_digests(algorithm: &Algorithm, count: usize, len: usize) -> bool
     ensures { IsTrue result ↔ (len ≡ count * output_len algorithm.now) }
 {
-    // The compiler would make a multiplication of a loop that only adds, and the library for C has
-    // none.
-    let output_len = algorithm.output_len();
-    let mut left = len;
-    'digests: for _made in 0..count {
-        if left < output_len {
-            return false;
-        }
-        left -= output_len;
-    }
-    left == 0
+    count.checked_mul(algorithm.output_len()) == Some(len)
 }
 
 /// Writes the bytes of the digests of `messages` under `algorithm` to `out`, one after another

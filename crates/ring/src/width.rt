@@ -29,8 +29,7 @@
 ghost use Rattle.std.specs.Prelude.{◌≡◌, ℕ, ◌<◌, ◌≤◌};
 ghost use Rattle.ring.specs.Prelude.{CanRunTogether};
 
-use crate::digest::algorithm::Algorithm;
-use crate::digest::dynstate::DynState;
+use crate::digest::algorithm::{Algorithm, AlgorithmId};
 
 // A crate can't ask which vectors its build has, so a caller names their bits as a const argument:
 // the linker then drops what the others would run.
@@ -55,10 +54,14 @@ pub(crate) fn lanes_for<const VECTOR_BITS: usize>(algorithm: Algorithm, left: us
     ensures within { result ≤ left }
     ensures together { CanRunTogether VECTOR_BITS algorithm result }
 {
-    match algorithm.initial_state() {
-        DynState::As32(_) if VECTOR_BITS >= AVX2 && left >= 8 => 8,
-        DynState::As32(_) if VECTOR_BITS >= SSE && left >= 4 => 4,
-        DynState::As64(_) if VECTOR_BITS >= AVX2 && left >= 4 => 4,
+    let has_short_words = match algorithm.id {
+        AlgorithmId::Sha1 | AlgorithmId::Sha256 => true,
+        AlgorithmId::Sha384 | AlgorithmId::Sha512 | AlgorithmId::Sha512_256 => false,
+    };
+    match has_short_words {
+        true if VECTOR_BITS >= AVX2 && left >= 8 => 8,
+        true if VECTOR_BITS >= SSE && left >= 4 => 4,
+        false if VECTOR_BITS >= AVX2 && left >= 4 => 4,
         _ => 1,
     }
 }

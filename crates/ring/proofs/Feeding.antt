@@ -8,7 +8,7 @@ use Rattle.std.specs.Borrow.{Bor}
 use Rattle.ring.specs.Prelude.{Algorithm, Counts, Key, KeyStandsFor, StandsFor, TagStandsFor}
 use Rattle.ring.specs.Prelude.{block_len, context_algorithm, cut_off, joined, key_algorithm}
 use Rattle.ring.specs.Prelude.{message_len, pending_len, raised, signing_algorithm, signing_len}
-use Rattle.ring.specs.Prelude.{signing_pending, whole_blocks}
+use Rattle.ring.specs.Prelude.{TagIsUpdated, signing_pending, whole_blocks}
 use Rattle.ring.specs.declared.digest.context.Context as digest
 use Rattle.ring.specs.declared.hmac.context.Context as hmac
 use Rattle.ring.proofs.Lengths.{HasCounted, counted_more, counted_none}
@@ -67,10 +67,8 @@ module _ {P : List ℕ → Type 0} {a b : Algorithm} {base count pending : ℕ} 
 
 -- a tag's context took the bytes d more
 pub fed_tag-more : {key : Key} {c n : hmac.Context} {m : List ℕ} (d : List ℕ) {m0 m1 m2 : Counts}
-    → HasFedTag key c m m0 m1 → signing_algorithm n ≡ signing_algorithm c
-    → signing_len n ≡ cut_off (signing_len c + length d)
-    → signing_pending n ≡ (signing_pending c + length d) % block_len (signing_algorithm c)
-    → ((k x : List ℕ) → TagStandsFor c k x → TagStandsFor n k (x ++ d))
+    → HasFedTag key c m m0 m1 → TagIsUpdated c n d
     → m2 ≡ raised m1 (whole_blocks (signing_algorithm c) (signing_pending c + length d)) 0
     → HasFedTag key n (m ++ d) m0 m2
-fed_tag-more d t ea ec ep s em = fed_more d t ea ec ep (λ x stands k h. s k x (stands k h)) em
+fed_tag-more d t is em =
+    fed_more d t is.algorithm is.counted is.pending (λ x stands k h. is.stands k x (stands k h)) em

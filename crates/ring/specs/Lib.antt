@@ -21,8 +21,8 @@ pub mod Hkdf
 pub mod Okm
 pub mod Pbkdf2
 pub mod DeriveEach
-pub mod Gives
 pub mod Rounds
 pub mod Raw
 pub mod Updates
+pub mod Gives
 pub mod Prelude

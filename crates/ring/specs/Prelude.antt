@@ -53,7 +53,6 @@ pub use Rattle.ring.specs.DeriveEach.{bytes_at, dk_at, derive_blocks_at, derive_
 pub use Rattle.ring.specs.DeriveEach.{AreDerived, CanDeriveEach, IsKeyOf, AreKeysOf, AreVerified}
 pub use Rattle.ring.specs.DeriveEach.{CanVerifyEach, answer_at}
 unfoldable pub use Rattle.ring.specs.DeriveEach.{sum_below}
-pub use Rattle.ring.specs.Gives.{DerivesEach, DerivesKey, VerifiesEach, VerifiesKey}
 pub use Rattle.ring.specs.Rounds.{IsRound, AreOfKeys, AreRounds, CanDeriveUnder, IsStart}
 pub use Rattle.ring.specs.Rounds.{AreOutputs, AreStarts, IsOutput, blocks_at, bytes_before}
 pub use Rattle.ring.specs.Rounds.{first_blocks, front, len_before, nth_round, round_at}
@@ -68,6 +67,10 @@ unfoldable pub use Rattle.ring.specs.Raw.{named_block_len, RawStandsFor, RawKeyS
 unfoldable pub use Rattle.ring.specs.Raw.{RawTagStandsFor}
 pub use Rattle.ring.specs.Updates.{IsUpdated, AreUpdated, update_blocks, update_each_blocks}
 pub use Rattle.ring.specs.Updates.{IsPartway, AreAlike}
+pub use Rattle.ring.specs.Gives.{DerivesEach, DerivesKey, VerifiesEach, VerifiesKey}
+pub use Rattle.ring.specs.Gives.{DigestsEach, FinishesDigest, FinishesTag, RawFinishes}
+pub use Rattle.ring.specs.Gives.{RawTagFinishes, RawTagUpdates, RawUpdates, SignsMessage}
+pub use Rattle.ring.specs.Gives.{TagIsUpdated, UpdatesEach, VerifiesTag}
 pub use Rattle.ring_core.specs.Cost.{Counts, compared_pairs}
 unfoldable pub use Rattle.ring_core.specs.Cost.{raised}
 pub use Rattle.ring.specs.declared.digest.algorithm.Algorithm.{Algorithm}

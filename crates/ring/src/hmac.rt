@@ -31,12 +31,11 @@
 //!
 //! The imports of these examples stand in `crates/ring_examples/src/hmac.rt`.
 
-ghost use Rattle.std.specs.Prelude.{◌≡◌, ◌↔◌, ℕ, ◌+◌, ◌<◌, List, length, IfOk, IsOk, IsErr, OnOk};
-ghost use Rattle.std.specs.Prelude.{OnErr};
-ghost use Rattle.ring.specs.Prelude.{IsTag, IsTagWithin, KeyStandsFor, block_len, compared_pairs};
+ghost use Rattle.std.specs.Prelude.{◌≡◌, ◌+◌, ◌<◌, length, OnErr, OnOk};
+ghost use Rattle.ring.specs.Prelude.{IsTagWithin, SignsMessage, VerifiesTag, block_len};
 ghost use Rattle.ring.specs.Prelude.{SHA1_FOR_LEGACY_USE_ONLY, SHA256, SHA384, SHA512, hmac_digest};
-ghost use Rattle.ring.specs.Prelude.{hmac_of, key_algorithm, max_input_len, output_len};
-ghost use Rattle.ring.specs.Prelude.{padded_blocks, raised, tag_algorithm, tag_bytes, tag_under};
+ghost use Rattle.ring.specs.Prelude.{compared_pairs, key_algorithm, max_input_len, output_len};
+ghost use Rattle.ring.specs.Prelude.{padded_blocks, raised};
 
 use crate::limits::is_tag_within;
 use ring_core::bb::verify_slices_are_equal_counted;
@@ -62,16 +61,10 @@ pub fn constants_are_based_on_their_digests()
 /// Computes the tag of `message` under `key` as [`sign`] does, and counts its blocks on `meter`. A
 /// refusal leaves `meter` as it was.
 pub fn sign_counted(key: &Key, message: &[u8], meter: &mut Meter) -> Result<Tag, Unspecified>
-    ensures ok { (k : List ℕ) → KeyStandsFor key.now k
-        → IfOk result (λ tag. IsTag tag (key_algorithm key.now) k message.now) }
-    ensures any { IfOk result (λ tag. tag_bytes tag ≡ tag_under key.now message.now) }
-    ensures refused { IsErr result
-        ↔ (max_input_len (key_algorithm key.now)
-        < block_len (key_algorithm key.now) + length message.now) }
+    ensures plain { SignsMessage key.now message.now result }
     ensures unchanged { OnErr result (meter.new ≡ meter.old) }
     ensures cost { OnOk result (meter.new
         ≡ raised meter.old (padded_blocks (key_algorithm key.now) (length message.now) + 1) 0) }
-    ensures algorithm { IfOk result (λ tag. tag_algorithm tag ≡ key_algorithm key.now) }
 {
     if !is_tag_within(&key.algorithm().digest_algorithm(), message.len() as u128) {
         return Err(Unspecified);
@@ -89,13 +82,7 @@ pub fn sign_counted(key: &Key, message: &[u8], meter: &mut Meter) -> Result<Tag,
 /// Refused where one block and the message together are longer than the digest algorithm's
 /// `max_input_len` bytes.
 pub fn sign(key: &Key, message: &[u8]) -> Result<Tag, Unspecified>
-    ensures ok { (k : List ℕ) → KeyStandsFor key.now k
-        → IfOk result (λ tag. IsTag tag (key_algorithm key.now) k message.now) }
-    ensures any { IfOk result (λ tag. tag_bytes tag ≡ tag_under key.now message.now) }
-    ensures refused { IsErr result
-        ↔ (max_input_len (key_algorithm key.now)
-        < block_len (key_algorithm key.now) + length message.now) }
-    ensures algorithm { IfOk result (λ tag. tag_algorithm tag ≡ key_algorithm key.now) }
+    ensures { SignsMessage key.now message.now result }
 {
     sign_counted(key, message, &mut Meter::new())
 }
@@ -109,14 +96,7 @@ pub fn verify_counted(
     tag: &[u8],
     meter: &mut Meter,
 ) -> Result<(), Unspecified>
-    ensures ok { (k : List ℕ) → KeyStandsFor key.now k → IsOk result
-        ↔ (IsTagWithin (key_algorithm key.now) (length message.now)
-        × (tag.now ≡ hmac_of (key_algorithm key.now) k message.now)) }
-    ensures any { IsOk result ↔ (IsTagWithin (key_algorithm key.now) (length message.now)
-        × (tag.now ≡ tag_under key.now message.now)) }
-    ensures refused { max_input_len (key_algorithm key.now)
-        < block_len (key_algorithm key.now) + length message.now
-        → IsErr result }
+    ensures plain { VerifiesTag key.now message.now tag.now result }
     ensures unchanged { max_input_len (key_algorithm key.now)
         < block_len (key_algorithm key.now) + length message.now
         → meter.new ≡ meter.old }
@@ -135,14 +115,7 @@ pub fn verify_counted(
 /// Refused where `tag` differs, and where one block and the message together are longer than the
 /// digest algorithm's `max_input_len` bytes.
 pub fn verify(key: &Key, message: &[u8], tag: &[u8]) -> Result<(), Unspecified>
-    ensures ok { (k : List ℕ) → KeyStandsFor key.now k → IsOk result
-        ↔ (IsTagWithin (key_algorithm key.now) (length message.now)
-        × (tag.now ≡ hmac_of (key_algorithm key.now) k message.now)) }
-    ensures any { IsOk result ↔ (IsTagWithin (key_algorithm key.now) (length message.now)
-        × (tag.now ≡ tag_under key.now message.now)) }
-    ensures refused { max_input_len (key_algorithm key.now)
-        < block_len (key_algorithm key.now) + length message.now
-        → IsErr result }
+    ensures { VerifiesTag key.now message.now tag.now result }
 {
     verify_counted(key, message, tag, &mut Meter::new())
 }

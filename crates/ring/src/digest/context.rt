@@ -28,6 +28,7 @@ impl Context {
     ghost use Rattle.ring.specs.Context.{context_algorithm, counted_bytes, cut_off};
     ghost use Rattle.ring.specs.Context.{block_words, digest_with};
     ghost use Rattle.ring.specs.Context.{message_len, pending_bytes, pending_len};
+    ghost use Rattle.ring.specs.Gives.{FinishesDigest};
     ghost use Rattle.ring.specs.Updates.{IsUpdated, update_blocks};
 
     /// Starts the digest of a message under `algorithm`, with the initial words of FIPS 180-4,
@@ -79,18 +80,12 @@ impl Context {
     /// Adds `input` to the message as [`Context::update`] does, and counts on `meter` the blocks
     /// that it completes.
     pub fn update_counted(&mut self, input: &[u8], meter: &mut Meter)
-        ensures stands { (m : List ℕ) → StandsFor self.old m → StandsFor self.new (m ++ input.now) }
-        ensures any { (y : List ℕ) (n : ℕ)
-            → digest_with self.new y n ≡ digest_with self.old (input.now ++ y) n }
+        ensures plain { IsUpdated self.old self.new input.now }
         ensures cost { meter.new ≡ raised meter.old (whole_blocks
             (context_algorithm self.old) (pending_len self.old + length input.now)) 0 }
         ensures cost_of { (m : List ℕ) → StandsFor self.old m → meter.new ≡ raised meter.old
             (whole_blocks (context_algorithm self.old) (length m + length input.now)
             - whole_blocks (context_algorithm self.old) (length m)) 0 }
-        ensures algorithm { context_algorithm self.new ≡ context_algorithm self.old }
-        ensures counted { message_len self.new ≡ cut_off (message_len self.old + length input.now) }
-        ensures pending { pending_len self.new ≡
-            (pending_len self.old + length input.now) % block_len (context_algorithm self.old) }
     {
         self.add(input, meter)
     }
@@ -135,13 +130,7 @@ impl Context {
     ///
     /// This is never refused: where the message is too long, [`Context::finish`] is.
     pub fn update(&mut self, input: &[u8])
-        ensures stands { (m : List ℕ) → StandsFor self.old m → StandsFor self.new (m ++ input.now) }
-        ensures any { (y : List ℕ) (n : ℕ)
-            → digest_with self.new y n ≡ digest_with self.old (input.now ++ y) n }
-        ensures algorithm { context_algorithm self.new ≡ context_algorithm self.old }
-        ensures counted { message_len self.new ≡ cut_off (message_len self.old + length input.now) }
-        ensures pending { pending_len self.new ≡
-            (pending_len self.old + length input.now) % block_len (context_algorithm self.old) }
+        ensures { IsUpdated self.old self.new input.now }
     {
         self.update_counted(input, &mut Meter::new());
     }
@@ -150,21 +139,12 @@ impl Context {
     /// of the pending bytes and the padding. A refusal leaves `meter` as it was.
     #[tactic(auto, unfolding(crate::specs::Context::StandsFor))]
     pub fn finish_counted(self, meter: &mut Meter) -> Result<Digest, Unspecified>
-        ensures ok { (m : List ℕ) → StandsFor self m
-            → IfOk result (λ digest. IsDigest digest (context_algorithm self) m) }
-        ensures any { IfOk result (λ digest.
-            bytes_of digest ≡ digest_with self [] (message_len self)) }
-        ensures refused { IsErr result
-            ↔ (max_input_len (context_algorithm self) < message_len self) }
-        ensures refused_of { (m : List ℕ) → StandsFor self m
-            → IsErr result ↔ (max_input_len (context_algorithm self) < length m) }
+        ensures plain { FinishesDigest self result }
         ensures unchanged { OnErr result (meter.new ≡ meter.old) }
         ensures cost { OnOk result (meter.new
             ≡ raised meter.old (padded_blocks (context_algorithm self) (pending_len self)) 0) }
         ensures cost_of { (m : List ℕ) → StandsFor self m → OnOk result (meter.new
             ≡ raised meter.old (last_blocks (context_algorithm self) (length m)) 0) }
-        ensures algorithm { IfOk result (λ digest.
-            digest_algorithm digest ≡ context_algorithm self) }
     {
         self.block
             .try_finish(&self.pending[..self.num_pending], meter)
@@ -174,16 +154,7 @@ impl Context {
     ///
     /// Refused where the message is longer than the algorithm's `max_input_len` bytes.
     pub fn finish(self) -> Result<Digest, Unspecified>
-        ensures ok { (m : List ℕ) → StandsFor self m
-            → IfOk result (λ digest. IsDigest digest (context_algorithm self) m) }
-        ensures any { IfOk result (λ digest.
-            bytes_of digest ≡ digest_with self [] (message_len self)) }
-        ensures refused { IsErr result
-            ↔ (max_input_len (context_algorithm self) < message_len self) }
-        ensures refused_of { (m : List ℕ) → StandsFor self m
-            → IsErr result ↔ (max_input_len (context_algorithm self) < length m) }
-        ensures algorithm { IfOk result (λ digest.
-            digest_algorithm digest ≡ context_algorithm self) }
+        ensures { FinishesDigest self result }
     {
         self.finish_counted(&mut Meter::new())
     }

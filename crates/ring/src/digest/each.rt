@@ -5,7 +5,7 @@ ghost use Rattle.std.specs.Prelude.{◌≡◌, ◌≢◌, ◌↔◌, ℕ, ◌-�
 ghost use Rattle.std.specs.Prelude.{◌+◌, IsTrue, OnErr, OnOk, length, replicate, take};
 ghost use Rattle.ring_core.specs.Prelude.{array_at, chunk_at};
 ghost use Rattle.ring.specs.Prelude.{AreDigests, CanDigestEach, CanRunTogether, CanWriteEach};
-ghost use Rattle.ring.specs.Prelude.{HasWords, IsDigest, bytes_of_each, digests_of, output_len};
+ghost use Rattle.ring.specs.Prelude.{DigestsEach, HasWords, IsDigest, bytes_of_each, digests_of, output_len};
 ghost use Rattle.ring.specs.Prelude.{IsMessageWithin, block_len, chaining_words, each_blocks};
 ghost use Rattle.ring.specs.Prelude.{is_state_of, message_at, padded, padded_blocks, raised};
 ghost use Rattle.ring.specs.Prelude.{state_word_len, word_bytes, words, words_at};
@@ -290,11 +290,7 @@ pub fn digest_each_in<const VECTOR_BITS: usize>(
     out: &mut [Digest],
     meter: &mut Meter,
 ) -> Result<(), Unspecified>
-    ensures ok { OnOk result (AreDigests out.new algorithm.now messages.now) }
-    ensures refused { IsOk result ↔ CanDigestEach algorithm.now messages.now (length out.old) }
-    ensures unchanged { OnErr result ((out.new ≡ out.old) × (meter.new ≡ meter.old)) }
-    ensures cost { OnOk result (meter.new
-        ≡ raised meter.old (each_blocks algorithm.now messages.now) 0) }
+    ensures { DigestsEach algorithm.now messages.now out.old out.new meter.old meter.new result }
 {
     if messages.len() != out.len() || !are_messages_within(algorithm, messages) {
         return Err(Unspecified);
@@ -312,11 +308,7 @@ pub fn digest_each_counted(
     out: &mut [Digest],
     meter: &mut Meter,
 ) -> Result<(), Unspecified>
-    ensures ok { OnOk result (AreDigests out.new algorithm.now messages.now) }
-    ensures refused { IsOk result ↔ CanDigestEach algorithm.now messages.now (length out.old) }
-    ensures unchanged { OnErr result ((out.new ≡ out.old) × (meter.new ≡ meter.old)) }
-    ensures cost { OnOk result (meter.new
-        ≡ raised meter.old (each_blocks algorithm.now messages.now) 0) }
+    ensures { DigestsEach algorithm.now messages.now out.old out.new meter.old meter.new result }
 {
     digest_each_in::<SSE>(algorithm, messages, out, meter)
 }

@@ -9,7 +9,7 @@ ghost use Rattle.ring.specs.Prelude.{Algorithm, AreAlike, AreUpdated, CanRunToge
 ghost use Rattle.ring.specs.Prelude.{EachChange, EachItem, HasWords, IsPartway, block_function};
 ghost use Rattle.ring.specs.Prelude.{block_len, chaining_words, context_algorithm, message_at};
 ghost use Rattle.ring.specs.Prelude.{pending_len, raised, spare_words, state_word_len};
-ghost use Rattle.ring.specs.Prelude.{update_each_blocks, word_count, word_len, words};
+ghost use Rattle.ring.specs.Prelude.{UpdatesEach, update_each_blocks, word_count, word_len, words};
 
 use crate::digest::algorithm::{Algorithm, AlgorithmId};
 use crate::digest::context::Context;
@@ -180,11 +180,7 @@ pub fn update_each_in<const VECTOR_BITS: usize>(
     pieces: &[&[u8]],
     meter: &mut Meter,
 ) -> Result<(), Unspecified>
-    ensures ok { OnOk result (AreUpdated contexts.old contexts.new pieces.now) }
-    ensures refused { IsOk result ↔ (length pieces.now ≡ length contexts.old) }
-    ensures unchanged { OnErr result ((contexts.new ≡ contexts.old) × (meter.new ≡ meter.old)) }
-    ensures cost { OnOk result (meter.new
-        ≡ raised meter.old (update_each_blocks contexts.old pieces.now) 0) }
+    ensures { UpdatesEach contexts.old contexts.new pieces.now meter.old meter.new result }
 {
     if pieces.len() != contexts.len() {
         return Err(Unspecified);
@@ -200,11 +196,7 @@ pub fn update_each_counted(
     pieces: &[&[u8]],
     meter: &mut Meter,
 ) -> Result<(), Unspecified>
-    ensures ok { OnOk result (AreUpdated contexts.old contexts.new pieces.now) }
-    ensures refused { IsOk result ↔ (length pieces.now ≡ length contexts.old) }
-    ensures unchanged { OnErr result ((contexts.new ≡ contexts.old) × (meter.new ≡ meter.old)) }
-    ensures cost { OnOk result (meter.new
-        ≡ raised meter.old (update_each_blocks contexts.old pieces.now) 0) }
+    ensures { UpdatesEach contexts.old contexts.new pieces.now meter.old meter.new result }
 {
     update_each_in::<SSE>(contexts, pieces, meter)
 }

@@ -74,6 +74,7 @@ impl Context {
     ghost use Rattle.ring.specs.Hmac.{signing_len, signing_pending, tag_algorithm, tag_bytes};
     ghost use Rattle.ring.specs.Hmac.{inner_words, outer_words, tag_of_inner, tag_with};
     ghost use Rattle.ring.specs.Digest.{digest_after};
+    ghost use Rattle.ring.specs.Gives.{FinishesTag, TagIsUpdated};
 
     /// Starts the tag of a message under `signing_key` (RFC 2104, section 2). The message is empty
     /// so far. No block is run: the context copies the key's two states.
@@ -105,19 +106,12 @@ impl Context {
     /// Adds `input` to the message as [`Context::update`] does, and counts on `meter` the blocks
     /// that it completes.
     pub fn update_counted(&mut self, input: &[u8], meter: &mut Meter)
+        ensures plain { TagIsUpdated self.old self.new input.now }
         ensures cost { meter.new ≡ raised meter.old (whole_blocks
             (signing_algorithm self.old) (signing_pending self.old + length input.now)) 0 }
         ensures cost_of { (k m : List ℕ) → TagStandsFor self.old k m → meter.new ≡ raised meter.old
             (whole_blocks (signing_algorithm self.old) (length m + length input.now)
             - whole_blocks (signing_algorithm self.old) (length m)) 0 }
-        ensures stands { (k m : List ℕ) → TagStandsFor self.old k m
-            → TagStandsFor self.new k (m ++ input.now) }
-        ensures any { (y : List ℕ) (n : ℕ)
-            → tag_with self.new y n ≡ tag_with self.old (input.now ++ y) n }
-        ensures algorithm { signing_algorithm self.new ≡ signing_algorithm self.old }
-        ensures counted { signing_len self.new ≡ cut_off (signing_len self.old + length input.now) }
-        ensures pending { signing_pending self.new ≡
-            (signing_pending self.old + length input.now) % block_len (signing_algorithm self.old) }
     {
         self.inner.update_counted(input, meter);
     }
@@ -126,14 +120,7 @@ impl Context {
     ///
     /// This is never refused: where the message is too long, [`Context::sign`] is.
     pub fn update(&mut self, input: &[u8])
-        ensures stands { (k m : List ℕ) → TagStandsFor self.old k m
-            → TagStandsFor self.new k (m ++ input.now) }
-        ensures any { (y : List ℕ) (n : ℕ)
-            → tag_with self.new y n ≡ tag_with self.old (input.now ++ y) n }
-        ensures algorithm { signing_algorithm self.new ≡ signing_algorithm self.old }
-        ensures counted { signing_len self.new ≡ cut_off (signing_len self.old + length input.now) }
-        ensures pending { signing_pending self.new ≡
-            (signing_pending self.old + length input.now) % block_len (signing_algorithm self.old) }
+        ensures { TagIsUpdated self.old self.new input.now }
     {
         self.update_counted(input, &mut Meter::new());
     }
@@ -141,20 +128,12 @@ impl Context {
     /// Returns the tag as [`Context::sign`] does, and counts the last blocks on `meter`. A refusal
     /// leaves `meter` as it was.
     pub fn sign_counted(self, meter: &mut Meter) -> Result<Tag, Unspecified>
-        ensures ok { (k m : List ℕ) → TagStandsFor self k m
-            → IfOk result (λ tag. IsTag tag (signing_algorithm self) k m) }
-        ensures any { IfOk result (λ tag. tag_bytes tag ≡ tag_with self [] (signing_len self)) }
-        ensures refused { IsErr result
-            ↔ (max_input_len (signing_algorithm self) < signing_len self) }
-        ensures refused_of { (k m : List ℕ) → TagStandsFor self k m → IsErr result
-            ↔ (max_input_len (signing_algorithm self)
-            < block_len (signing_algorithm self) + length m) }
+        ensures plain { FinishesTag self result }
         ensures unchanged { OnErr result (meter.new ≡ meter.old) }
         ensures cost { OnOk result (meter.new ≡ raised meter.old
             (padded_blocks (signing_algorithm self) (signing_pending self) + 1) 0) }
         ensures cost_of { (k m : List ℕ) → TagStandsFor self k m → OnOk result (meter.new
             ≡ raised meter.old (last_blocks (signing_algorithm self) (length m) + 1) 0) }
-        ensures algorithm { IfOk result (λ tag. tag_algorithm tag ≡ signing_algorithm self) }
     {
         let Context { inner, outer } = self;
         let digest = inner.finish_counted(meter)?;
@@ -166,15 +145,7 @@ impl Context {
     /// Refused where one block and the message together are longer than the digest algorithm's
     /// `max_input_len` bytes.
     pub fn sign(self) -> Result<Tag, Unspecified>
-        ensures ok { (k m : List ℕ) → TagStandsFor self k m
-            → IfOk result (λ tag. IsTag tag (signing_algorithm self) k m) }
-        ensures any { IfOk result (λ tag. tag_bytes tag ≡ tag_with self [] (signing_len self)) }
-        ensures refused { IsErr result
-            ↔ (max_input_len (signing_algorithm self) < signing_len self) }
-        ensures refused_of { (k m : List ℕ) → TagStandsFor self k m → IsErr result
-            ↔ (max_input_len (signing_algorithm self)
-            < block_len (signing_algorithm self) + length m) }
-        ensures algorithm { IfOk result (λ tag. tag_algorithm tag ≡ signing_algorithm self) }
+        ensures { FinishesTag self result }
     {
         self.sign_counted(&mut Meter::new())
     }

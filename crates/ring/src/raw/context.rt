@@ -12,7 +12,7 @@ ghost use Rattle.ring.specs.Prelude.{completed_len, context_algorithm, counted_b
 ghost use Rattle.ring.specs.Prelude.{digest_algorithm, digest_named, max_input_len, message_len};
 ghost use Rattle.ring.specs.Prelude.{last_blocks, named_block_len, padded_blocks, pending_len};
 ghost use Rattle.ring.specs.Prelude.{raised, raw_chaining, raw_digest_with, raw_message_len};
-ghost use Rattle.ring.specs.Prelude.{whole_blocks};
+ghost use Rattle.ring.specs.Prelude.{RawFinishes, RawUpdates, whole_blocks};
 ghost use Rattle.ring.specs.declared.digest.algorithm.Algorithm.{Algorithm};
 
 use crate::digest::algorithm::{Algorithm, MAX_BLOCK_LEN};
@@ -127,11 +127,8 @@ impl RawContext {
     /// that it completes. Where the numbers are no context's, `meter` is as it was.
     #[inline(always)]
     pub fn update_counted(&mut self, input: &[u8], meter: &mut Meter) -> bool
-        ensures stands { (a : Algorithm) (m : List ℕ) → RawStandsFor self.old a m
-            → IsTrue result × RawStandsFor self.new a (m ++ input.now) }
-        ensures any { IsTrue result → HasAdded self.old self.new input.now }
-        ensures none { IsFalse result ↔ IsNoContext self.old }
-        ensures unchanged { IsFalse result → (self.new ≡ self.old) × (meter.new ≡ meter.old) }
+        ensures plain { RawUpdates self.old self.new input.now result }
+        ensures unchanged { IsFalse result → meter.new ≡ meter.old }
         ensures cost { IsTrue result → (a : Algorithm) → digest_named self.old.algorithm ≡ Some a
             → meter.new ≡ raised meter.old
             (whole_blocks a (self.old.num_pending + length input.now)) 0 }
@@ -147,11 +144,8 @@ impl RawContext {
     #[inline(never)]
     fn run(&mut self, input: &[u8], meter: &mut Meter) -> bool
         requires { named_block_len self.old.algorithm ≤ self.old.num_pending + length input.now }
-        ensures stands { (a : Algorithm) (m : List ℕ) → RawStandsFor self.old a m
-            → IsTrue result × RawStandsFor self.new a (m ++ input.now) }
-        ensures any { IsTrue result → HasAdded self.old self.new input.now }
-        ensures none { IsFalse result ↔ IsNoContext self.old }
-        ensures unchanged { IsFalse result → (self.new ≡ self.old) × (meter.new ≡ meter.old) }
+        ensures plain { RawUpdates self.old self.new input.now result }
+        ensures unchanged { IsFalse result → meter.new ≡ meter.old }
         ensures cost { IsTrue result → (a : Algorithm) → digest_named self.old.algorithm ≡ Some a
             → meter.new ≡ raised meter.old
             (whole_blocks a (self.old.num_pending + length input.now)) 0 }
@@ -202,11 +196,7 @@ impl RawContext {
     /// Adds `input` to the message, and runs each block that is complete. Returns whether the
     /// numbers are a context's. Otherwise nothing is changed.
     pub fn update(&mut self, input: &[u8]) -> bool
-        ensures stands { (a : Algorithm) (m : List ℕ) → RawStandsFor self.old a m
-            → IsTrue result × RawStandsFor self.new a (m ++ input.now) }
-        ensures any { IsTrue result → HasAdded self.old self.new input.now }
-        ensures none { IsFalse result ↔ IsNoContext self.old }
-        ensures unchanged { IsFalse result → self.new ≡ self.old }
+        ensures { RawUpdates self.old self.new input.now result }
     {
         self.update_counted(input, &mut Meter::new())
     }
@@ -215,17 +205,7 @@ impl RawContext {
     /// refusal leaves `meter` as it was, and so do numbers of no context.
     #[inline(always)]
     pub fn finish_counted(&self, meter: &mut Meter) -> Option<Result<Digest, Unspecified>>
-        ensures none { IsNone result ↔ IsNoContext self.now }
-        ensures ok { (a : Algorithm) (m : List ℕ) → RawStandsFor self.now a m
-            → IsSomeAnd result (λ made. IfOk made (λ digest. IsDigest digest a m)) }
-        ensures any { IfSome result (λ made. IfOk made (λ digest. (a : Algorithm)
-            → digest_named self.now.algorithm ≡ Some a
-            → bytes_of digest ≡ raw_digest_with a self.now [] (raw_message_len self.now))) }
-        ensures refused { IfSome result (λ made. (a : Algorithm)
-            → digest_named self.now.algorithm ≡ Some a
-            → IsErr made ↔ (max_input_len a < raw_message_len self.now)) }
-        ensures refused_of { (a : Algorithm) (m : List ℕ) → RawStandsFor self.now a m
-            → IsSomeAnd result (λ made. IsErr made ↔ (max_input_len a < length m)) }
+        ensures plain { RawFinishes self.now result }
         ensures unchanged { IfSome result (λ made. IsErr made) → meter.new ≡ meter.old }
         ensures cost { IfSome result (λ made. OnOk made ((a : Algorithm)
             → digest_named self.now.algorithm ≡ Some a
@@ -233,8 +213,6 @@ impl RawContext {
         ensures cost_of { (a : Algorithm) (m : List ℕ) → RawStandsFor self.now a m
             → IsSomeAnd result (λ made. OnOk made (meter.new
             ≡ raised meter.old (last_blocks a (length m)) 0)) }
-        ensures algorithm { IfSome result (λ made. IfOk made (λ digest.
-            digest_named self.now.algorithm ≡ Some (digest_algorithm digest))) }
     {
         let Some(block) = self.block() else {
             return None;
@@ -247,19 +225,7 @@ impl RawContext {
     ///
     /// Refused where the message is longer than the algorithm's `max_input_len` bytes.
     pub fn finish(&self) -> Option<Result<Digest, Unspecified>>
-        ensures none { IsNone result ↔ IsNoContext self.now }
-        ensures ok { (a : Algorithm) (m : List ℕ) → RawStandsFor self.now a m
-            → IsSomeAnd result (λ made. IfOk made (λ digest. IsDigest digest a m)) }
-        ensures any { IfSome result (λ made. IfOk made (λ digest. (a : Algorithm)
-            → digest_named self.now.algorithm ≡ Some a
-            → bytes_of digest ≡ raw_digest_with a self.now [] (raw_message_len self.now))) }
-        ensures refused { IfSome result (λ made. (a : Algorithm)
-            → digest_named self.now.algorithm ≡ Some a
-            → IsErr made ↔ (max_input_len a < raw_message_len self.now)) }
-        ensures refused_of { (a : Algorithm) (m : List ℕ) → RawStandsFor self.now a m
-            → IsSomeAnd result (λ made. IsErr made ↔ (max_input_len a < length m)) }
-        ensures algorithm { IfSome result (λ made. IfOk made (λ digest.
-            digest_named self.now.algorithm ≡ Some (digest_algorithm digest))) }
+        ensures { RawFinishes self.now result }
     {
         self.finish_counted(&mut Meter::new())
     }

@@ -10,7 +10,7 @@ ghost use Rattle.ring.specs.Prelude.{RawTagStandsFor, TagHasAdded, TagStandsFor,
 ghost use Rattle.ring.specs.Prelude.{completed_len, digest_named, max_input_len, named_block_len};
 ghost use Rattle.ring.specs.Prelude.{raw_message_len, raw_tag_with, signing_algorithm, signing_len};
 ghost use Rattle.ring.specs.Prelude.{last_blocks, padded_blocks, raised, signing_pending};
-ghost use Rattle.ring.specs.Prelude.{tag_algorithm, tag_bytes, whole_blocks};
+ghost use Rattle.ring.specs.Prelude.{RawTagFinishes, RawTagUpdates, whole_blocks};
 ghost use Rattle.ring.specs.declared.digest.algorithm.Algorithm.{Algorithm};
 
 use crate::digest::algorithm::Algorithm;
@@ -92,11 +92,8 @@ impl RawTagContext {
     /// Adds `input` to the message as [`RawTagContext::update`] does, and counts on `meter` the
     /// blocks that it completes. Where the numbers are no context's, `meter` is as it was.
     pub fn update_counted(&mut self, input: &[u8], meter: &mut Meter) -> bool
-        ensures stands { (a : Algorithm) (k m : List ℕ) → RawTagStandsFor self.old a k m
-            → IsTrue result × RawTagStandsFor self.new a k (m ++ input.now) }
-        ensures any { IsTrue result → TagHasAdded self.old self.new input.now }
-        ensures none { IsFalse result ↔ IsNoTagContext self.old }
-        ensures unchanged { IsFalse result → (self.new ≡ self.old) × (meter.new ≡ meter.old) }
+        ensures plain { RawTagUpdates self.old self.new input.now result }
+        ensures unchanged { IsFalse result → meter.new ≡ meter.old }
         ensures cost { IsTrue result → (a : Algorithm)
             → digest_named self.old.inner.algorithm ≡ Some a → meter.new ≡ raised meter.old
             (whole_blocks a (self.old.inner.num_pending + length input.now)) 0 }
@@ -110,11 +107,7 @@ impl RawTagContext {
     /// Adds `input` to the message, and runs each block that is complete. Returns whether the
     /// numbers are a context's. Otherwise nothing is changed.
     pub fn update(&mut self, input: &[u8]) -> bool
-        ensures stands { (a : Algorithm) (k m : List ℕ) → RawTagStandsFor self.old a k m
-            → IsTrue result × RawTagStandsFor self.new a k (m ++ input.now) }
-        ensures any { IsTrue result → TagHasAdded self.old self.new input.now }
-        ensures none { IsFalse result ↔ IsNoTagContext self.old }
-        ensures unchanged { IsFalse result → self.new ≡ self.old }
+        ensures { RawTagUpdates self.old self.new input.now result }
     {
         self.update_counted(input, &mut Meter::new())
     }
@@ -122,18 +115,7 @@ impl RawTagContext {
     /// Returns the tag as [`RawTagContext::finish`] does, and counts the last blocks on `meter`. A
     /// refusal leaves `meter` as it was, and so do numbers of no context.
     pub fn finish_counted(&self, meter: &mut Meter) -> Option<Result<Tag, Unspecified>>
-        ensures none { IsNone result ↔ IsNoTagContext self.now }
-        ensures ok { (a : Algorithm) (k m : List ℕ) → RawTagStandsFor self.now a k m
-            → IsSomeAnd result (λ made. IfOk made (λ tag. IsTag tag a k m)) }
-        ensures any { IfSome result (λ made. IfOk made (λ tag. (a : Algorithm)
-            → digest_named self.now.inner.algorithm ≡ Some a
-            → tag_bytes tag ≡ raw_tag_with a self.now [] (raw_message_len self.now.inner))) }
-        ensures refused { IfSome result (λ made. (a : Algorithm)
-            → digest_named self.now.inner.algorithm ≡ Some a
-            → IsErr made ↔ (max_input_len a < raw_message_len self.now.inner)) }
-        ensures refused_of { (a : Algorithm) (k m : List ℕ) → RawTagStandsFor self.now a k m
-            → IsSomeAnd result (λ made.
-            IsErr made ↔ (max_input_len a < block_len a + length m)) }
+        ensures plain { RawTagFinishes self.now result }
         ensures unchanged { IfSome result (λ made. IsErr made) → meter.new ≡ meter.old }
         ensures cost { IfSome result (λ made. OnOk made ((a : Algorithm)
             → digest_named self.now.inner.algorithm ≡ Some a → meter.new
@@ -141,8 +123,6 @@ impl RawTagContext {
         ensures cost_of { (a : Algorithm) (k m : List ℕ) → RawTagStandsFor self.now a k m
             → IsSomeAnd result (λ made. OnOk made (meter.new
             ≡ raised meter.old (last_blocks a (length m) + 1) 0)) }
-        ensures algorithm { IfSome result (λ made. IfOk made (λ tag.
-            digest_named self.now.inner.algorithm ≡ Some (tag_algorithm tag))) }
     {
         let Some(algorithm) = self.algorithm() else {
             return None;
@@ -163,20 +143,7 @@ impl RawTagContext {
     /// Refused where one block and the message together are longer than the digest algorithm's
     /// `max_input_len` bytes.
     pub fn finish(&self) -> Option<Result<Tag, Unspecified>>
-        ensures none { IsNone result ↔ IsNoTagContext self.now }
-        ensures ok { (a : Algorithm) (k m : List ℕ) → RawTagStandsFor self.now a k m
-            → IsSomeAnd result (λ made. IfOk made (λ tag. IsTag tag a k m)) }
-        ensures any { IfSome result (λ made. IfOk made (λ tag. (a : Algorithm)
-            → digest_named self.now.inner.algorithm ≡ Some a
-            → tag_bytes tag ≡ raw_tag_with a self.now [] (raw_message_len self.now.inner))) }
-        ensures refused { IfSome result (λ made. (a : Algorithm)
-            → digest_named self.now.inner.algorithm ≡ Some a
-            → IsErr made ↔ (max_input_len a < raw_message_len self.now.inner)) }
-        ensures refused_of { (a : Algorithm) (k m : List ℕ) → RawTagStandsFor self.now a k m
-            → IsSomeAnd result (λ made.
-            IsErr made ↔ (max_input_len a < block_len a + length m)) }
-        ensures algorithm { IfSome result (λ made. IfOk made (λ tag.
-            digest_named self.now.inner.algorithm ≡ Some (tag_algorithm tag))) }
+        ensures { RawTagFinishes self.now result }
     {
         self.finish_counted(&mut Meter::new())
     }

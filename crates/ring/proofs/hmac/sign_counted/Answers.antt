@@ -1,6 +1,6 @@
 -- SPDX-License-Identifier: ISC
 use Rattle.std.proofs.Common.{◌≡◌, ◌+◌, ℕ, [], ap, append-nil, append_assoc, arith, length}
-use Rattle.std.proofs.Common.{refl, ◌∙◌}
+use Rattle.std.proofs.Common.{refl, rules, ◌∙◌}
 use Rattle.std.proofs.lemmas.Grind.{common_steps}
 use Rattle.ring_core.proofs.Costs.{raised-raised}
 use Rattle.ring.specs.Prelude.{BlockContext, block_len, counted_bytes, cut_off, key_algorithm}
@@ -21,11 +21,8 @@ returns-clause-cost c =
     let inner = counted_end (update.moved.algorithm ∙ same) taken c.in_ok-digest.ensures.cost in
     grind (arith, raised-raised)
 
-pub returns-clause-ok : goal.returns-clause-ok
-returns-clause-ok c = λ k stands. grind (arith, append_assoc)
-
-pub returns-clause-any : goal.returns-clause-any
-returns-clause-any c =
+pub returns-clause-plain : goal.returns-clause-plain
+returns-clause-plain c =
     let key = c.args.key.now in
     let m = c.args.message.now in
     let a = key_algorithm key in
@@ -38,4 +35,9 @@ returns-clause-any c =
     let len : cut_off (counted_bytes n + length rest) ≡ whole =
     grind (arith, counted, key.inner_block, block_len-most a) in
     let after = rw (append-nil rest, append-nil m) at (digest_moved b n m moved [] whole) in
-    grind (arith, common_steps, key.same)
+    record {
+      ok = λ k stands. grind (arith, append_assoc);
+      any = grind (arith, common_steps, key.same);
+      refused = search rules;
+      algorithm = search rules;
+    }

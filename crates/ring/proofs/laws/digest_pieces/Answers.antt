@@ -13,9 +13,10 @@ pieces-init c =
 
 pub pieces-preserved : goal.pieces-preserved
 pieces-preserved c =
-    let more = c.update_counted.ensures in
+    let cost = c.update_counted.ensures.cost in
+    let is = c.update_counted.ensures.plain in
     fed_piece [] c.args.pieces.now c.pieces.piece-index _ (omega arith)
-    (fed_more _ c.pieces.invariant more.algorithm more.counted more.pending more.stands more.cost)
+    (fed_more _ c.pieces.invariant is.algorithm is.counted is.pending is.stands cost)
 
 pub returns-clause-cost : goal.returns-clause-cost
 returns-clause-cost c =

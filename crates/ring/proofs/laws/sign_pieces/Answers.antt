@@ -19,7 +19,7 @@ parts-preserved c =
     let fed = c.parts.invariant in
     let more = c.update_counted.ensures in
     fed_piece [] c.args.pieces.now c.parts.piece-index _ (omega arith)
-    (fed_tag-more _ fed more.algorithm more.counted more.pending more.stands more.cost)
+    (fed_tag-more _ fed more.plain more.cost)
 
 pub returns-clause-cost : goal.returns-clause-cost
 returns-clause-cost c =

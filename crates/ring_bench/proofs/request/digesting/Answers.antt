@@ -22,7 +22,7 @@ loop-len-preserved g c =
     record {
       algorithm = search rules;
       left = walk.0;
-      stands = rw walk.1 (more.stands _ so_far.stands);
+      stands = rw walk.1 (more.plain.stands _ so_far.stands);
       cost =
           (let grown = more.cost_of _ so_far.stands in
           rw (walk.1, length-append)

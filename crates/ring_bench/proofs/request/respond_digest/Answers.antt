@@ -17,12 +17,12 @@ returns-in_ok-to_vec-in-Ok g c =
     let fed = c.digesting-context.ensures in
     let end = c.in-Ok.ensures in
     let within : max_input_len (context_algorithm c.digesting-context.result) < length message → ⊥ =
-    λ over. true≢false (sym ((end.refused_of message fed.stands).1 over)) in
+    λ over. true≢false (sym ((end.plain.refused_of message fed.stands).1 over)) in
     let count =
     digest_count fed.algorithm c.new-meter.result (length message) fed.cost c.new-meter.ensures
     within (end.cost_of message fed.stands) in
     let shown = c.blocks-in-Ok.ensures in
-    let made = end.ok message fed.stands in
+    let made = end.plain.ok message fed.stands in
     let bytes : c.in_ok-to_vec-in-Ok.field-0.items ≡ digest_of c.args.algorithm.now message =
     grind (arith, common_steps, made) in
     let below = rw fed.algorithm at within in

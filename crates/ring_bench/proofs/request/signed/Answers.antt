@@ -19,12 +19,12 @@ returns-in_ok-to_vec-in-Ok g c = λ k h.
     let stands = fed.stands k h in
     let end = c.in-Ok.ensures in
     let within : max_input_len b < block_len b + length message → ⊥ =
-    λ over. true≢false (sym ((end.refused_of k message stands).1 over)) in
+    λ over. true≢false (sym ((end.plain.refused_of k message stands).1 over)) in
     let count =
     tag_count fed.algorithm c.args.meter.now (length message) (fed.cost k h) (omega arith) within
     (end.cost_of k message stands) in
     let shown = c.blocks-in-Ok.ensures in
-    let made = end.ok k message stands in
+    let made = end.plain.ok k message stands in
     let bytes : c.in_ok-to_vec-in-Ok.field-0.items ≡ hmac_of a k message =
     grind (arith, common_steps, made) in
     let below = rw fed.algorithm at within in

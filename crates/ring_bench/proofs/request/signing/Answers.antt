@@ -20,9 +20,9 @@ loop-len-preserved g c =
     walk-more c.args.pieces.now c.loop-len.len-index c.loop-len.start so_far.left
     c.deref-len-items.ensures.value c.deref.ensures.value (omega arith) in
     record {
-      algorithm = more.algorithm ∙ so_far.algorithm;
+      algorithm = more.plain.algorithm ∙ so_far.algorithm;
       left = walk.0;
-      stands = λ k h. rw walk.1 (more.stands k _ (so_far.stands k h));
+      stands = λ k h. rw walk.1 (more.plain.stands k _ (so_far.stands k h));
       cost = λ k h.
           let grown = more.cost_of k _ (so_far.stands k h) in
           rw (walk.1, length-append)

@@ -32,7 +32,8 @@ returns g c = λ k h.
     (λ same. c.if-blocks-blocks_before.false (c.blocks-2.ensures ∙ same ∙ sym before)) in
     let shown = c.blocks-3.ensures in
     let told = c.is_ok-is_tag.ensures.value in
-    let given_tag = λ (e : c.is_ok-is_tag.result ≡ true). ((tested.ok k h).0 (sym told ∙ e)).1 in
-    let same = same_verdict given_tag (λ e. told ∙ (tested.ok k h).1 (within, e)) in
+    let is_tag = tested.plain.ok k h in
+    let given_tag = λ (e : c.is_ok-is_tag.result ≡ true). (is_tag.0 (sym told ∙ e)).1 in
+    let same = same_verdict given_tag (λ e. told ∙ is_tag.1 (within, e)) in
     let fits : nat_le (block_len a + n) (max_input_len a) ≡ true = passes within in
     rw fits (cc (same, blocks, shown))

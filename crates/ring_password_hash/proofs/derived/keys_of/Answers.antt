@@ -13,7 +13,7 @@ use Rattle.ring_password_hash.proofs.derived.keys_of.Goals as goal
 pub returns-clause-stored : goal.returns-clause-stored
 unfolding stored_key_of
 returns-clause-stored c =
-    let tag = c.in-Ok-sign_counted.ensures.ok c.args.salted.now c.in-Ok.ensures.ok in
+    let tag = c.in-Ok-sign_counted.ensures.plain.ok c.args.salted.now c.in-Ok.ensures.ok in
     let client = c.as_ref.ensures.bytes ∙ tag.bytes
     ∙ ap (λ (a : Algorithm). hmac_of a c.args.salted.now (codes "Client Key"))
     c.in-Ok.ensures.algorithm in
@@ -23,7 +23,7 @@ returns-clause-stored c =
 pub returns-clause-server : goal.returns-clause-server
 unfolding server_key_of
 returns-clause-server c =
-    let tag = c.in-Ok-sign_counted-2.ensures.ok c.args.salted.now c.in-Ok.ensures.ok in
+    let tag = c.in-Ok-sign_counted-2.ensures.plain.ok c.args.salted.now c.in-Ok.ensures.ok in
     c.copy_from_slice-2.ensures.after ∙ c.as_ref-3.ensures.bytes ∙ tag.bytes
     ∙ ap (λ (a : Algorithm). hmac_of a c.args.salted.now (codes "Server Key"))
     c.in-Ok.ensures.algorithm
@@ -32,7 +32,7 @@ pub returns-clause-cost : goal.returns-clause-cost
 returns-clause-cost c =
     let a = c.in-Ok.ensures.algorithm in
     let len : length c.args.salted.now ≡ 32 = search rules in
-    let tag = c.in-Ok-sign_counted.ensures.algorithm ∙ a in
+    let tag = c.in-Ok-sign_counted.ensures.plain.algorithm ∙ a in
     let client : length c.as_ref.result.now ≡ 32 =
     c.as_ref.ensures.len ∙ ap (λ (x : Algorithm). output_len x) tag in
     let one : c.new_counted.new.meter ≡ raised c.args.meter.now (key_blocks SHA256 32) 0 =

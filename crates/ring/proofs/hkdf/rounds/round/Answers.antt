@@ -13,14 +13,14 @@ loop-piece-preserved c =
     let more = c.update_counted-in-loop-piece.ensures in
     fed_piece c.args.previous.now c.args.info.now c.loop-piece.piece-index _
     c.loop-piece-test.true
-    (fed_tag-more _ before more.algorithm more.counted more.pending more.stands more.cost)
+    (fed_tag-more _ before more.plain more.cost)
 
 pub returns-clause-ok : goal.returns-clause-ok
 returns-clause-ok c = λ k h.
-    let more = c.update_counted-2.ensures in
+    let more = c.update_counted-2.ensures.plain in
     let all = take_all c.loop-piece.piece-index c.args.info.now (omega arith) in
     let before = rw all at c.loop-piece.invariant in
-    let tag = c.in-Ok.ensures.ok k _ (more.stands k _ (before.stands k h)) in
+    let tag = c.in-Ok.ensures.plain.ok k _ (more.stands k _ (before.stands k h)) in
     rw (more.algorithm ∙ before.algorithm) at tag
 
 pub returns-clause-cost : goal.returns-clause-cost
@@ -30,6 +30,5 @@ returns-clause-cost c =
     let before = rw all at c.loop-piece.invariant in
     let bytes = c.args.previous.now ++ joined c.args.info.now in
     let index = c.args.index ∷ [] in
-    let whole =
-    fed_tag-more index before more.algorithm more.counted more.pending more.stands more.cost in
+    let whole = fed_tag-more index before more.plain more.cost in
     grind (arith, common_steps, counted_tag whole.algorithm whole.taken c.in-Ok.ensures.cost)

@@ -11,11 +11,11 @@ returns-clause-ok c = λ p h.
     let a = key_algorithm c.args.key.now in
     let salt = c.args.salt.now in
     let context = c.with_key-context.ensures in
-    let salted = c.update_counted.ensures in
-    let numbered = c.update_counted-2.ensures in
+    let salted = c.update_counted.ensures.plain in
+    let numbered = c.update_counted-2.ensures.plain in
     let stands = numbered.stands p _ (salted.stands p _ (context.stands p h)) in
     let same = numbered.algorithm ∙ salted.algorithm ∙ context.algorithm in
-    grind (arith, common_steps, c.in-Ok.ensures.ok p _ stands, same, pbkdf2_u-first a p salt)
+    grind (arith, common_steps, c.in-Ok.ensures.plain.ok p _ stands, same, pbkdf2_u-first a p salt)
 
 pub returns-clause-cost : goal.returns-clause-cost
 returns-clause-cost c =
@@ -23,8 +23,9 @@ returns-clause-cost c =
     let salted = c.update_counted.ensures in
     let numbered = c.update_counted-2.ensures in
     let taken = rw c.to_be_bytes.ensures at numbered in
-    let same = salted.algorithm ∙ context.algorithm in
+    let same = salted.plain.algorithm ∙ context.algorithm in
     let n = length c.args.salt.now in
-    let first = counted_first n context.algorithm context.pending salted.pending salted.cost in
-    counted_tag (taken.algorithm ∙ same) (counted_more 4 same first taken.pending taken.cost)
-    c.in-Ok.ensures.cost
+    let first =
+    counted_first n context.algorithm context.pending salted.plain.pending salted.cost in
+    let next = counted_more 4 same first taken.plain.pending taken.cost in
+    counted_tag (taken.plain.algorithm ∙ same) next c.in-Ok.ensures.cost

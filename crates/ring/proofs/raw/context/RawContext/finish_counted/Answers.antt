@@ -1,6 +1,6 @@
 -- SPDX-License-Identifier: ISC
 use Rattle.std.proofs.Common.{◌≡◌, ◌≤◌, ◌+◌, ◌++◌, ℕ, List, arith, sym, ◌∙◌}
-use Rattle.std.proofs.Common.{[], Some, length, length-take-le, take}
+use Rattle.std.proofs.Common.{[], Some, length, length-take-le, rules, take}
 use Rattle.std.proofs.lemmas.Grind.{common_steps}
 use Rattle.std.proofs.lemmas.Option.{same_Some}
 use Rattle.ring.specs.Prelude.{Algorithm, Digest, HasTaken, IsDigest, RawStandsFor, block_words}
@@ -11,49 +11,43 @@ use Rattle.ring.proofs.Outcomes.{if_ok_map, on_ok_map}
 use Rattle.ring.proofs.Rows.{block_len-most}
 use Rattle.ring.proofs.raw.context.RawContext.finish_counted.Goals as goal
 
-pub returns-clause-ok : goal.returns-clause-ok
+pub returns-clause-plain : goal.returns-clause-plain
 unfolding RawStandsFor
-returns-clause-ok c = λ a m h.
+returns-clause-plain c =
     let raw = c.args.self.now in
     let b = c.in-Some.block in
-    let rest = take raw.num_pending raw.pending in
-    let all : m ≡ h.blocks ++ rest = h.message in
     let own = c.in-Some.ensures in
-    let is = taken_raw raw a h.blocks own.algorithm own.numbers h.algorithm h.state h.count in
-    let P : Digest → Type 0 =
-    λ d. (p : List ℕ) → HasTaken b p → IsDigest d b.algorithm (p ++ rest) in
-    if_ok_map c.try_finish.result {P = P} {Q = λ d. IsDigest d a m}
-    (λ d made. rw (all, ← is.1) (made h.blocks is.0)) c.try_finish.ensures.ok
-
-pub returns-clause-any : goal.returns-clause-any
-returns-clause-any c =
-    let raw = c.args.self.now in
-    let b = c.in-Some.block in
     let rest = take raw.num_pending raw.pending in
     let fits : raw.num_pending ≤ length raw.pending =
-    omega (arith, c.in-Some.ensures.pending, block_len-most b.algorithm) in
+    omega (arith, own.pending, block_len-most b.algorithm) in
     let len = length-take-le raw.num_pending raw.pending fits in
     let n : raw_message_len raw ≡ cut_off (counted_bytes b + length rest) =
-    omega (arith, len, c.in-Some.ensures.numbers.counted) in
+    omega (arith, len, own.numbers.counted) in
     let P : Digest → Type 0 =
+    λ d. (p : List ℕ) → HasTaken b p → IsDigest d b.algorithm (p ++ rest) in
+    let Q : Digest → Type 0 =
     λ d. bytes_of d ≡ digest_after b.algorithm (block_words b) rest
     (cut_off (counted_bytes b + length rest)) in
-    let Q : Digest → Type 0 =
+    let R : Digest → Type 0 =
     λ d. (a : Algorithm) → digest_named raw.algorithm ≡ Some a
     → bytes_of d ≡ raw_digest_with a raw [] (raw_message_len raw) in
-    if_ok_map c.try_finish.result {P = P} {Q = Q} (λ d is a named.
-    let same = same_Some b.algorithm a (sym c.in-Some.ensures.algorithm ∙ named) in
-    grind (arith, common_steps, c.in-Some.ensures.numbers.words)) c.try_finish.ensures.any
-
-pub returns-clause-refused_of : goal.returns-clause-refused_of
-unfolding RawStandsFor
-returns-clause-refused_of c = λ a m h.
-    let raw = c.args.self.now in
-    let own = c.in-Some.block.algorithm in
-    let is_a : own ≡ a = same_Some own a (sym c.in-Some.ensures.algorithm ∙ h.algorithm) in
-    let fits : raw.num_pending ≤ length raw.pending =
-    omega (arith, c.in-Some.ensures.pending, block_len-most own) in
-    grind (arith, common_steps, c.in-Some.ensures.numbers.counted, is_a, refused_raw raw a m h fits)
+    record {
+      none = search rules;
+      ok = λ a m h.
+          let is =
+          taken_raw raw a h.blocks own.algorithm own.numbers h.algorithm h.state h.count in
+          let all : m ≡ h.blocks ++ rest = h.message in
+          if_ok_map c.try_finish.result {P = P} {Q = λ d. IsDigest d a m}
+          (λ d made. rw (all, ← is.1) (made h.blocks is.0)) c.try_finish.ensures.ok;
+      any = if_ok_map c.try_finish.result {P = Q} {Q = R} (λ d is a named.
+          let same = same_Some b.algorithm a (sym own.algorithm ∙ named) in
+          grind (arith, common_steps, own.numbers.words)) c.try_finish.ensures.any;
+      refused = search rules;
+      refused_of = λ a m h.
+          let is_a : b.algorithm ≡ a = same_Some b.algorithm a (sym own.algorithm ∙ h.algorithm) in
+          grind (arith, common_steps, own.numbers.counted, is_a, refused_raw raw a m h fits);
+      algorithm = search rules;
+    }
 
 pub returns-clause-cost_of : goal.returns-clause-cost_of
 returns-clause-cost_of c = λ a m h.

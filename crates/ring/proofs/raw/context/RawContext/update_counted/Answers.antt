@@ -29,5 +29,5 @@ returns-else-keep-clause-cost_of c = λ a m h.
     let fits : raw.num_pending ≤ length raw.pending =
     omega (arith, raw_pending raw a m h, block_len-most a) in
     let run = rw (c.keep.ensures.unchanged c.if-keep.false) at c.run.ensures in
-    let cost = run.cost (run.stands a m h).0 a (raw_named raw a m h) in
+    let cost = run.cost (run.plain.stands a m h).0 a (raw_named raw a m h) in
     grind (arith, raw_blocks raw a m (length c.args.input.now) h fits)

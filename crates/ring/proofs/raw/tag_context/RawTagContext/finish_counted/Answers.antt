@@ -1,5 +1,5 @@
 -- SPDX-License-Identifier: ISC
-use Rattle.std.proofs.Common.{◌≡◌, arith, sym, ◌∙◌, ◌++◌}
+use Rattle.std.proofs.Common.{◌≡◌, arith, rules, sym, ◌∙◌, ◌++◌}
 use Rattle.std.proofs.lemmas.Option.{same_Some}
 use Rattle.std.proofs.lemmas.Result.{IfOk-at_ok}
 use Rattle.std.proofs.lemmas.Grind.{common_steps}
@@ -10,30 +10,41 @@ use Rattle.ring.proofs.lemmas.raw.Numbers.{tag_named}
 use Rattle.ring.proofs.Rows.{block_len-most}
 use Rattle.ring.proofs.raw.tag_context.RawTagContext.finish_counted.Goals as goal
 
-pub returns-in_default-finished-clause-refused_of :
-    goal.returns-in_default-finished-clause-refused_of
+pub returns-in_default-finished-clause-plain : goal.returns-in_default-finished-clause-plain
 unfolding RawTagStandsFor
-returns-in_default-finished-clause-refused_of c = λ a k m h.
-    rw (inner_len a k m, c.in_default-finished.is) at
-    (c.in-Some-finish_counted.ensures.refused_of a _ h.inner)
+returns-in_default-finished-clause-plain c =
+    record {
+      none = search rules;
+      ok = search rules;
+      any = search rules;
+      refused = search rules;
+      refused_of = λ a k m h.
+          rw (inner_len a k m, c.in_default-finished.is) at
+          (c.in-Some-finish_counted.ensures.plain.refused_of a _ h.inner);
+      algorithm = search rules;
+    }
 
-pub returns-clause-refused_of : goal.returns-clause-refused_of
+pub returns-clause-plain : goal.returns-clause-plain
 unfolding RawTagStandsFor
-returns-clause-refused_of c = λ a k m h.
-    rw (inner_len a k m, c.in-Ok.is) at
-    (c.in-Some-finish_counted.ensures.refused_of a _ h.inner)
-
-pub returns-clause-ok : goal.returns-clause-ok
-unfolding RawTagStandsFor
-returns-clause-ok c = λ a k m h.
-    let own = c.in-Some.algorithm in
-    let named = tag_named c.args.self.now a k m h in
-    let is_a : own ≡ a = same_Some own a (sym c.in-Some.ensures.algorithm ∙ named) in
-    let made = IfOk-at_ok (λ digest. IsDigest digest a (inner_block a k ++ m)) c.in-Ok.is
-    (c.in-Some-finish_counted.ensures.ok a _ h.inner) in
-    let outer = c.block_of-outer.ensures.stands (outer_block a k) in
-    let tag = c.of_inner.ensures.ok a k m in
-    grind (arith, common_steps, block_len-most a, length-outer_block a k)
+returns-clause-plain c =
+    let inner = c.in-Some-finish_counted.ensures.plain in
+    record {
+      none = search rules;
+      ok = λ a k m h.
+          let own = c.in-Some.algorithm in
+          let named = tag_named c.args.self.now a k m h in
+          let is_a : own ≡ a = same_Some own a (sym c.in-Some.ensures.algorithm ∙ named) in
+          let made = IfOk-at_ok (λ digest. IsDigest digest a (inner_block a k ++ m)) c.in-Ok.is
+          (inner.ok a _ h.inner) in
+          let outer = c.block_of-outer.ensures.stands (outer_block a k) in
+          let tag = c.of_inner.ensures.ok a k m in
+          grind (arith, common_steps, block_len-most a, length-outer_block a k);
+      any = search rules;
+      refused = search rules;
+      refused_of = λ a k m h.
+          rw (inner_len a k m, c.in-Ok.is) at (inner.refused_of a _ h.inner);
+      algorithm = search rules;
+    }
 
 pub returns-clause-cost : goal.returns-clause-cost
 returns-clause-cost c = λ a named.

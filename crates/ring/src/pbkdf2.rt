@@ -66,14 +66,16 @@
 //! The imports of these examples stand in `pbkdf2.rt` and `several.rt` of
 //! `crates/ring_examples/src`.
 
-ghost use Rattle.std.specs.Prelude.{◌≡◌, ◌↔◌, length, IsOk, OnOk, OnErr};
+ghost use Rattle.std.specs.Prelude.{◌≡◌, ◌↔◌, ◌*◌, length, IsOk, OnOk, OnErr};
 ghost use Rattle.std.specs.Int.NonZero.{non_zero_u32_get};
-ghost use Rattle.ring.specs.Prelude.{CanDerive, CanVerify, DerivesKey, IsDerived, VerifiesKey, dk};
-ghost use Rattle.ring.specs.Prelude.{pbkdf2_digest};
+ghost use Rattle.ring.specs.Prelude.{CanDerive, CanVerify, DerivesKey, HasPlaces, IsDerived};
+ghost use Rattle.ring.specs.Prelude.{VerifiesKey, derive_blocks, dk, hmac_digest, pbkdf2_digest};
+ghost use Rattle.ring.specs.Prelude.{raised};
 
-use crate::hmac::Key;
+use crate::hmac;
 use crate::limits::{can_derive_by, can_verify};
-use crate::pbkdf2::receiver::{Compared, Written};
+use crate::pbkdf2::each::key_within;
+use crate::pbkdf2::receiver::{Compared, Receiver, Written};
 use crate::pbkdf2::rounds::{Derivation, derive_under};
 use crate::width::SSE;
 use ring_core::cost::Meter;
@@ -95,6 +97,35 @@ pub use crate::pbkdf2::each::{
     verify_each_in,
 };
 
+// Derives `len` bytes from one secret and its salt.
+fn derive_one<const VECTOR_BITS: usize, R: Receiver>(
+    algorithm: hmac::Algorithm,
+    iterations: NonZeroU32,
+    salt: &[u8],
+    secret: &[u8],
+    len: usize,
+    receiver: &mut R,
+    meter: &mut Meter,
+)
+    requires within { CanDerive (hmac_digest algorithm)
+        (length secret.now) (length salt.now) len }
+    requires room { HasPlaces R.places R.room 1 len receiver.old }
+    ensures ok { R.HasReceived receiver.old receiver.new 0 (dk (hmac_digest algorithm)
+        secret.now salt.now (non_zero_u32_get iterations) len) }
+    ensures cost { meter.new ≡ raised meter.old (derive_blocks (hmac_digest algorithm)
+        (length secret.now) (length salt.now) (non_zero_u32_get iterations) len) (R.pairs * len) }
+{
+    let keys = [key_within(algorithm, secret, meter)];
+    let derivation = Derivation {
+        algorithm: algorithm.digest_algorithm(),
+        keys: &keys,
+        salts: &[salt],
+        iterations,
+        len,
+    };
+    derive_under::<VECTOR_BITS, R>(&derivation, 0, receiver, meter);
+}
+
 /// As [`derive`], but over vectors of `VECTOR_BITS` bits. `meter` counts the blocks. A refusal
 /// leaves it as it was.
 pub fn derive_in<const VECTOR_BITS: usize>(
@@ -109,25 +140,25 @@ pub fn derive_in<const VECTOR_BITS: usize>(
         (non_zero_u32_get iterations) out.old out.new meter.old meter.new result }
 {
     let hmac_algorithm = algorithm.hmac_algorithm();
-    let digest = hmac_algorithm.digest_algorithm();
     if !can_derive_by(
-        &digest,
+        &hmac_algorithm.digest_algorithm(),
         secret.len() as u128,
         salt.len() as u128,
         out.len() as u128,
     ) {
         return Err(Unspecified);
     }
-    let keys = [Key::new_counted(hmac_algorithm, secret, meter)?];
-    let derivation = Derivation {
-        algorithm: digest,
-        keys: &keys,
-        salts: &[salt],
-        iterations,
-        len: out.len(),
-    };
+    let len = out.len();
     let mut written = Written { out };
-    derive_under::<VECTOR_BITS, Written>(&derivation, 0, &mut written, meter);
+    derive_one::<VECTOR_BITS, Written>(
+        hmac_algorithm,
+        iterations,
+        salt,
+        secret,
+        len,
+        &mut written,
+        meter,
+    );
     Ok(())
 }
 
@@ -192,28 +223,27 @@ pub fn verify_in<const VECTOR_BITS: usize>(
         (non_zero_u32_get iterations) previously_derived.now meter.old meter.new result }
 {
     let hmac_algorithm = algorithm.hmac_algorithm();
-    let digest = hmac_algorithm.digest_algorithm();
     if !can_verify(
-        &digest,
+        &hmac_algorithm.digest_algorithm(),
         secret.len() as u128,
         salt.len() as u128,
         previously_derived.len() as u128,
     ) {
         return Err(Unspecified);
     }
-    let keys = [Key::new_counted(hmac_algorithm, secret, meter)?];
-    let derivation = Derivation {
-        algorithm: digest,
-        keys: &keys,
-        salts: &[salt],
-        iterations,
-        len: previously_derived.len(),
-    };
     let mut compared = Compared {
         value: previously_derived,
         matches: true,
     };
-    derive_under::<VECTOR_BITS, Compared>(&derivation, 0, &mut compared, meter);
+    derive_one::<VECTOR_BITS, Compared>(
+        hmac_algorithm,
+        iterations,
+        salt,
+        secret,
+        previously_derived.len(),
+        &mut compared,
+        meter,
+    );
     compared.matches.then_some(()).ok_or(Unspecified)
 }
 

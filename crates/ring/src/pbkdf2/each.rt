@@ -44,7 +44,7 @@ fn can_derive_all(
 }
 
 // The key of a secret within the limit.
-fn key_within(algorithm: hmac::Algorithm, secret: &[u8], meter: &mut Meter) -> Key
+pub(crate) fn key_within(algorithm: hmac::Algorithm, secret: &[u8], meter: &mut Meter) -> Key
     requires { length secret.now ≤ max_input_len (hmac_digest algorithm) }
     ensures ok { KeyStandsFor result secret.now }
     ensures cost { meter.new

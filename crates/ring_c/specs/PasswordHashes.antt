@@ -22,10 +22,10 @@ salt_random_len = 16
 
 -- the causes for a test of the password p against what a text is read as, under a limit of
 -- iterations
-abbrev pub test_causes : (p : List ℕ) → (most : ℕ) → Parts → Causes
-test_causes p most h =
+abbrev pub test_causes : (p : List ℕ) → (max_iterations : ℕ) → Parts → Causes
+test_causes p max_iterations h =
     record no_cause {
-      too_many_iterations = nat_lt most (non_zero_u32_get h.iterations);
+      too_many_iterations = nat_lt max_iterations (non_zero_u32_get h.iterations);
       unspecified = not (is_of h p);
     }
 

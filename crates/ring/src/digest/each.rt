@@ -5,8 +5,9 @@ ghost use Rattle.std.specs.Prelude.{◌≡◌, ◌≢◌, ◌↔◌, ℕ, ◌-�
 ghost use Rattle.std.specs.Prelude.{◌+◌, IsTrue, OnErr, OnOk, length, replicate, take};
 ghost use Rattle.ring_core.specs.Prelude.{array_at, chunk_at};
 ghost use Rattle.ring.specs.Prelude.{AreDigests, CanDigestEach, CanRunTogether, CanWriteEach};
-ghost use Rattle.ring.specs.Prelude.{DigestsEach, HasWords, IsDigest, bytes_of_each, digests_of, output_len};
-ghost use Rattle.ring.specs.Prelude.{IsMessageWithin, block_len, chaining_words, each_blocks};
+ghost use Rattle.ring.specs.Prelude.{DigestsEach, HasWords, IsDigest, IsMessageWithin};
+ghost use Rattle.ring.specs.Prelude.{block_len, bytes_of_each, chaining_words, digests_of};
+ghost use Rattle.ring.specs.Prelude.{each_blocks, output_len};
 ghost use Rattle.ring.specs.Prelude.{is_state_of, message_at, padded, padded_blocks, raised};
 ghost use Rattle.ring.specs.Prelude.{state_word_len, word_bytes, words, words_at};
 
@@ -207,14 +208,14 @@ fn digest_all<const VECTOR_BITS: usize>(
 // How many digests are held at a time: some groups of as many as run side by side.
 const GROUP: usize = 16;
 
-// Writes the bytes of the digests to `out` from the place `at` on, and returns the place after
+// Writes the bytes of the digests to `out` from the place `start` on, and returns the place after
 // them.
-fn write_digests(digests: &[Digest], out: &mut [u8], at: usize) -> usize
-    requires { at + length (bytes_of_each digests.now) ≤ length out.old }
-    ensures end { result ≡ at + length (bytes_of_each digests.now) }
-    ensures ok { take result out.new ≡ take at out.old ++ bytes_of_each digests.now }
+fn write_digests(digests: &[Digest], out: &mut [u8], start: usize) -> usize
+    requires { start + length (bytes_of_each digests.now) ≤ length out.old }
+    ensures end { result ≡ start + length (bytes_of_each digests.now) }
+    ensures ok { take result out.new ≡ take start out.old ++ bytes_of_each digests.now }
 {
-    let mut end = at;
+    let mut end = start;
     'digests: for i in 0..digests.len() {
         let bytes = digests[i].as_ref();
         write_at(out, end, bytes);

@@ -11,13 +11,13 @@ ghost use Rattle.ring.specs.Prelude.{HasPlaces, KeepsPlaces, Takes, answer_at, r
 use ring_core::bb::verify_slices_are_equal_counted;
 use ring_core::cost::Meter;
 
-// Compares `given` with `derived`, which has the same length.
-fn are_same(derived: &[u8], given: &[u8], meter: &mut Meter) -> bool
-    requires { length derived.now ≡ length given.now }
-    ensures ok { IsTrue result ↔ (given.now ≡ derived.now) }
+// Compares `value` with `derived`, which has the same length.
+fn are_same(derived: &[u8], value: &[u8], meter: &mut Meter) -> bool
+    requires { length derived.now ≡ length value.now }
+    ensures ok { IsTrue result ↔ (value.now ≡ derived.now) }
     ensures cost { meter.new ≡ raised meter.old 0 (length derived.now) }
 {
-    verify_slices_are_equal_counted(derived, given, meter).is_ok()
+    verify_slices_are_equal_counted(derived, value, meter).is_ok()
 }
 
 // What takes the bytes of derived keys: at each of its places those of one key.
@@ -91,9 +91,9 @@ impl<'a> Receiver for Compared<'a> {
     ghost none = { λ start place. (refl, λ zero. (λ e. (e, refl), λ h. h.0)) };
 
     fn take(&mut self, _place: usize, from: usize, part: &[u8], meter: &mut Meter) {
-        let given = &self.value[from..from + part.len()];
+        let value_part = &self.value[from..from + part.len()];
         // No early exit: after a part that differs, the others are compared.
-        self.matches &= are_same(part, given, meter);
+        self.matches &= are_same(part, value_part, meter);
     }
 }
 

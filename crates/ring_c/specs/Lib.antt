@@ -5,4 +5,5 @@ pub mod Label
 pub mod Verified
 pub mod Status
 pub mod PasswordHashes
+pub mod Gives
 pub mod Version

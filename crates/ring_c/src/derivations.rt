@@ -1,13 +1,8 @@
 // SPDX-License-Identifier: ISC
 //! Keys derived from passwords: PBKDF2 (RFC 2898, section 5.2).
 
-ghost use Rattle.std.specs.Prelude.{◌≡◌, ◌≢◌, ◌==◌, Some, length, nat_lt, not};
-ghost use Rattle.ring.specs.Limits.{can_derive, max_dk_len};
-ghost use Rattle.ring.specs.Pbkdf2.{dk, pbkdf2_digest};
-ghost use Rattle.ring.specs.declared.pbkdf2.algorithm.Algorithm.{Algorithm};
-ghost use Rattle.ring_c.specs.Number.{pbkdf2_named};
-ghost use Rattle.ring_c.specs.Status.{YZ_OK, YZ_UNKNOWN_ALGORITHM, no_cause, status_of};
-ghost use Rattle.ring_c.specs.Verified.{is_derived};
+ghost use Rattle.std.specs.Prelude.{◌≡◌};
+ghost use Rattle.ring_c.specs.Gives.{WritesKey, verify_status};
 
 use crate::number::pbkdf2_of_number;
 use crate::status::{NO_ITERATIONS, OK, UNKNOWN_ALGORITHM, UNSPECIFIED, WRONG_LENGTH};
@@ -25,16 +20,7 @@ fn derive<const VECTOR_BITS: usize>(
     secret: &[u8],
     out: &mut [u8],
 ) -> i32
-    ensures ok { (a : Algorithm) → pbkdf2_named algorithm ≡ Some a → result ≡ YZ_OK
-        → out.new ≡ dk (pbkdf2_digest a) secret.now salt.now iterations (length out.old) }
-    ensures status { result ≡ status_of YZ_UNKNOWN_ALGORITHM (pbkdf2_named algorithm) (λ a.
-        record no_cause {
-          no_iterations = iterations == 0;
-          wrong_length = nat_lt (max_dk_len (pbkdf2_digest a)) (length out.old);
-          unspecified = not (can_derive (pbkdf2_digest a)
-              (length secret.now) (length salt.now) (length out.old));
-        }) }
-    ensures unchanged { result ≢ YZ_OK → out.new ≡ out.old }
+    ensures { WritesKey algorithm secret.now salt.now iterations out.old out.new result }
 {
     let Some(algorithm) = pbkdf2_of_number(algorithm) else {
         return UNKNOWN_ALGORITHM;
@@ -66,16 +52,7 @@ pub extern "C" fn yz_pbkdf2_derive(
     secret: &[u8],
     out: &mut [u8],
 ) -> i32
-    ensures ok { (a : Algorithm) → pbkdf2_named algorithm ≡ Some a → result ≡ YZ_OK
-        → out.new ≡ dk (pbkdf2_digest a) secret.now salt.now iterations (length out.old) }
-    ensures status { result ≡ status_of YZ_UNKNOWN_ALGORITHM (pbkdf2_named algorithm) (λ a.
-        record no_cause {
-          no_iterations = iterations == 0;
-          wrong_length = nat_lt (max_dk_len (pbkdf2_digest a)) (length out.old);
-          unspecified = not (can_derive (pbkdf2_digest a)
-              (length secret.now) (length salt.now) (length out.old));
-        }) }
-    ensures unchanged { result ≢ YZ_OK → out.new ≡ out.old }
+    ensures { WritesKey algorithm secret.now salt.now iterations out.old out.new result }
 {
     derive::<SSE>(algorithm, iterations, salt, secret, out)
 }
@@ -92,16 +69,7 @@ pub extern "C" fn yz_pbkdf2_derive_wide(
     secret: &[u8],
     out: &mut [u8],
 ) -> i32
-    ensures ok { (a : Algorithm) → pbkdf2_named algorithm ≡ Some a → result ≡ YZ_OK
-        → out.new ≡ dk (pbkdf2_digest a) secret.now salt.now iterations (length out.old) }
-    ensures status { result ≡ status_of YZ_UNKNOWN_ALGORITHM (pbkdf2_named algorithm) (λ a.
-        record no_cause {
-          no_iterations = iterations == 0;
-          wrong_length = nat_lt (max_dk_len (pbkdf2_digest a)) (length out.old);
-          unspecified = not (can_derive (pbkdf2_digest a)
-              (length secret.now) (length salt.now) (length out.old));
-        }) }
-    ensures unchanged { result ≢ YZ_OK → out.new ≡ out.old }
+    ensures { WritesKey algorithm secret.now salt.now iterations out.old out.new result }
 {
     derive::<AVX2>(algorithm, iterations, salt, secret, out)
 }
@@ -114,12 +82,7 @@ fn verify<const VECTOR_BITS: usize>(
     secret: &[u8],
     derived: &[u8],
 ) -> i32
-    ensures { result ≡ status_of YZ_UNKNOWN_ALGORITHM (pbkdf2_named algorithm) (λ a.
-        record no_cause {
-          no_iterations = iterations == 0;
-          unspecified = not (is_derived (pbkdf2_digest a)
-              secret.now salt.now iterations derived.now);
-        }) }
+    ensures { result ≡ verify_status algorithm secret.now salt.now iterations derived.now }
 {
     let Some(algorithm) = pbkdf2_of_number(algorithm) else {
         return UNKNOWN_ALGORITHM;
@@ -150,12 +113,7 @@ pub extern "C" fn yz_pbkdf2_verify(
     secret: &[u8],
     derived: &[u8],
 ) -> i32
-    ensures { result ≡ status_of YZ_UNKNOWN_ALGORITHM (pbkdf2_named algorithm) (λ a.
-        record no_cause {
-          no_iterations = iterations == 0;
-          unspecified = not (is_derived (pbkdf2_digest a)
-              secret.now salt.now iterations derived.now);
-        }) }
+    ensures { result ≡ verify_status algorithm secret.now salt.now iterations derived.now }
 {
     verify::<SSE>(algorithm, iterations, salt, secret, derived)
 }
@@ -172,12 +130,7 @@ pub extern "C" fn yz_pbkdf2_verify_wide(
     secret: &[u8],
     derived: &[u8],
 ) -> i32
-    ensures { result ≡ status_of YZ_UNKNOWN_ALGORITHM (pbkdf2_named algorithm) (λ a.
-        record no_cause {
-          no_iterations = iterations == 0;
-          unspecified = not (is_derived (pbkdf2_digest a)
-              secret.now salt.now iterations derived.now);
-        }) }
+    ensures { result ≡ verify_status algorithm secret.now salt.now iterations derived.now }
 {
     verify::<AVX2>(algorithm, iterations, salt, secret, derived)
 }

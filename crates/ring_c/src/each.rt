@@ -1,13 +1,7 @@
 // SPDX-License-Identifier: ISC
 //! Digests of several messages at once.
 
-ghost use Rattle.std.specs.Prelude.{◌≡◌, ◌≢◌, ◌==◌, ◌*◌, Some, length, not};
-ghost use Rattle.ring.specs.Algorithm.{output_len};
-ghost use Rattle.ring.specs.Each.{digests_of};
-ghost use Rattle.ring.specs.Raw.{digest_named};
-ghost use Rattle.ring.specs.declared.digest.algorithm.Algorithm.{Algorithm};
-ghost use Rattle.ring_c.specs.Limits.{can_digest_each};
-ghost use Rattle.ring_c.specs.Status.{YZ_OK, YZ_UNKNOWN_ALGORITHM, no_cause, status_of};
+ghost use Rattle.ring_c.specs.Gives.{WritesDigests};
 
 use crate::status::{OK, UNKNOWN_ALGORITHM, UNSPECIFIED, WRONG_LENGTH};
 use ring::cost::Meter;
@@ -18,14 +12,7 @@ use ring::width::{AVX2, SSE};
 // What `yz_digest_each` and `yz_digest_each_wide` promise, with vectors of `VECTOR_BITS` bits.
 #[tactic(auto, using(crate::proofs::Within::each_within))]
 fn digest_each<const VECTOR_BITS: usize>(algorithm: u32, messages: &[&[u8]], out: &mut [u8]) -> i32
-    ensures ok { (a : Algorithm) → digest_named algorithm ≡ Some a → result ≡ YZ_OK
-        → out.new ≡ digests_of a messages.now }
-    ensures status { result ≡ status_of YZ_UNKNOWN_ALGORITHM (digest_named algorithm) (λ a.
-        record no_cause {
-          wrong_length = not (length out.old == length messages.now * output_len a);
-          unspecified = not (can_digest_each a messages.now);
-        }) }
-    ensures unchanged { result ≢ YZ_OK → out.new ≡ out.old }
+    ensures { WritesDigests algorithm messages.now out.old out.new result }
 {
     let Some(algorithm) = digest_of_number(algorithm) else {
         return UNKNOWN_ALGORITHM;
@@ -46,14 +33,7 @@ fn digest_each<const VECTOR_BITS: usize>(algorithm: u32, messages: &[&[u8]], out
 /// together, and as `UNSPECIFIED` where a message is too long. `out` is then unchanged.
 #[unsafe(no_mangle)]
 pub extern "C" fn yz_digest_each(algorithm: u32, messages: &[&[u8]], out: &mut [u8]) -> i32
-    ensures ok { (a : Algorithm) → digest_named algorithm ≡ Some a → result ≡ YZ_OK
-        → out.new ≡ digests_of a messages.now }
-    ensures status { result ≡ status_of YZ_UNKNOWN_ALGORITHM (digest_named algorithm) (λ a.
-        record no_cause {
-          wrong_length = not (length out.old == length messages.now * output_len a);
-          unspecified = not (can_digest_each a messages.now);
-        }) }
-    ensures unchanged { result ≢ YZ_OK → out.new ≡ out.old }
+    ensures { WritesDigests algorithm messages.now out.old out.new result }
 {
     digest_each::<SSE>(algorithm, messages, out)
 }
@@ -64,14 +44,7 @@ pub extern "C" fn yz_digest_each(algorithm: u32, messages: &[&[u8]], out: &mut [
 /// Refused as that call is, with `out` unchanged.
 #[unsafe(no_mangle)]
 pub extern "C" fn yz_digest_each_wide(algorithm: u32, messages: &[&[u8]], out: &mut [u8]) -> i32
-    ensures ok { (a : Algorithm) → digest_named algorithm ≡ Some a → result ≡ YZ_OK
-        → out.new ≡ digests_of a messages.now }
-    ensures status { result ≡ status_of YZ_UNKNOWN_ALGORITHM (digest_named algorithm) (λ a.
-        record no_cause {
-          wrong_length = not (length out.old == length messages.now * output_len a);
-          unspecified = not (can_digest_each a messages.now);
-        }) }
-    ensures unchanged { result ≢ YZ_OK → out.new ≡ out.old }
+    ensures { WritesDigests algorithm messages.now out.old out.new result }
 {
     digest_each::<AVX2>(algorithm, messages, out)
 }

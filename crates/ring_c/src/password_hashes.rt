@@ -9,6 +9,7 @@ ghost use Rattle.ring_password_hash.specs.Stored.{IsReadWhere, IsStored, IsTextO
 ghost use Rattle.ring_password_hash.specs.Stored.{is_salt, meter_of, parts_of, text_of};
 ghost use Rattle.ring_password_hash.specs.declared.scheme.Scheme.{Scheme};
 ghost use Rattle.ring_c.specs.Number.{count_named, scheme_named};
+ghost use Rattle.ring_c.specs.Gives.{WritesHash};
 ghost use Rattle.ring_c.specs.PasswordHashes.{max_text_len, new_causes, new_cost, new_salt};
 ghost use Rattle.ring_c.specs.PasswordHashes.{new_salt_len, new_text, salt_random_len};
 ghost use Rattle.ring_c.specs.PasswordHashes.{test_causes};
@@ -237,14 +238,8 @@ fn yz_password_hash_new_counted(
     text_len: &mut usize,
     meter: &mut Meter,
 ) -> i32
-    ensures ok { (k : Scheme) (c : NonZeroU32) → scheme_named scheme ≡ Some k
-        → count_named iterations ≡ Some c → result ≡ YZ_OK
-        → (text.new ≡ new_text k password.now salt.now c
-        ++ drop (length (new_text k password.now salt.now c)) text.old)
-        × (text_len.new ≡ length (new_text k password.now salt.now c)) }
-    ensures status { result ≡ status_of YZ_UNKNOWN_ALGORITHM (scheme_named scheme)
-        (new_causes (length text.old) password.now salt.now (count_named iterations)) }
-    ensures unchanged { result ≢ YZ_OK → (text.new ≡ text.old) × (text_len.new ≡ text_len.old) }
+    ensures plain { WritesHash scheme password.now salt.now iterations
+        text.old text.new text_len.old text_len.new result }
     ensures cost { (k : Scheme) (c : NonZeroU32) → scheme_named scheme ≡ Some k
         → count_named iterations ≡ Some c → result ≡ YZ_OK
         → meter.new ≡ new_cost k password.now salt.now c meter.old }
@@ -279,14 +274,8 @@ pub extern "C" fn yz_password_hash_new(
     text: &mut [u8],
     text_len: &mut usize,
 ) -> i32
-    ensures ok { (k : Scheme) (c : NonZeroU32) → scheme_named scheme ≡ Some k
-        → count_named iterations ≡ Some c → result ≡ YZ_OK
-        → (text.new ≡ new_text k password.now salt.now c
-        ++ drop (length (new_text k password.now salt.now c)) text.old)
-        × (text_len.new ≡ length (new_text k password.now salt.now c)) }
-    ensures status { result ≡ status_of YZ_UNKNOWN_ALGORITHM (scheme_named scheme)
-        (new_causes (length text.old) password.now salt.now (count_named iterations)) }
-    ensures unchanged { result ≢ YZ_OK → (text.new ≡ text.old) × (text_len.new ≡ text_len.old) }
+    ensures { WritesHash scheme password.now salt.now iterations
+        text.old text.new text_len.old text_len.new result }
 {
     yz_password_hash_new_counted(
         scheme,

@@ -4,7 +4,7 @@ use Rattle.std.proofs.Common.{◌≡◌, ◌+◌, ◌-◌, ◌^◌, ◌<◌, ◌
 use Rattle.std.proofs.Common.{false, List, length, take, drop, set, ap, sym, arith, subst, ⊎_elim}
 use Rattle.std.proofs.Common.{append_assoc}
 use Rattle.std.proofs.lemmas.Bool.{cases_lt}
-use Rattle.std.proofs.lemmas.List.{drop-set, length_push}
+use Rattle.std.proofs.lemmas.List.{append-nil, drop-set, drop_all, length_push}
 use Rattle.std.specs.Int.{IsPowerOfTwo}
 use Rattle.ring_merkle.specs.Consistency.{subproof_of}
 use Rattle.ring_merkle.specs.Inclusion.{path_at, path_of}
@@ -81,6 +81,14 @@ module _ (s : ℕ) (xs : List (List ℕ)) (p : IsPowerOfTwo s) (lt : s < length 
 pub record Filled (all path : List (List ℕ)) (end : ℕ) (out : List (List ℕ)) : Type 0 where
   pub left : end ≡ length path
   pub made : all ≡ path ++ drop end out
+
+-- nothing is written yet
+pub filled-begin : (all out : List (List ℕ)) → length out ≡ length all
+    → Filled all all (length out) out
+filled-begin all out e = record {
+  left = e;
+  made = sym (append-nil all) ∙ ap (λ ys. all ++ ys) (sym (drop_all (length out) out (omega arith)));
+}
 
 -- one value more
 pub filled-next : (all path front : List (List ℕ)) (x : List ℕ) (end last : ℕ)

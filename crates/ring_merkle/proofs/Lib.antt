@@ -8,6 +8,7 @@ pub mod Filled
 pub mod Levels
 pub mod Walks
 pub mod Rises
+pub mod Spent
 pub mod Joins
 pub mod Included
 pub mod Begun

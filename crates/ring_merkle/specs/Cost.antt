@@ -2,6 +2,7 @@
 -- What the verifications cost.
 use Rattle.std.specs.Prelude.{◌+◌, ◌-◌, ◌*◌, ◌/◌, ◌%◌, ◌==◌, ◌&&◌, [], ◌∷◌, ℕ, zero, suc, Bool}
 use Rattle.std.specs.Prelude.{cond, count_ones, List, length, nat_lt, drop}
+use Rattle.std.specs.Int.{is_power_of_two}
 use Rattle.ring_merkle.specs.Consistency.{first_last, first_node, values_of}
 use Rattle.ring_merkle.specs.Walk.{is_right, next_last, next_node}
 
@@ -48,6 +49,17 @@ root_blocks n = cond (n == 0) nothing_blocks (node_blocks * (count_ones n - 1))
 -- the blocks of a whole tree of n leaves: it has one node fewer
 abbrev pub tree_blocks : (n : ℕ) → ℕ
 tree_blocks n = cond (n == 0) nothing_blocks (node_blocks * (n - 1))
+
+-- the blocks of making the path of a leaf of n, which has len values: the nodes above the leaf are
+-- not hashed, and there is one for each value
+abbrev pub inclusion_path_blocks : (n len : ℕ) → ℕ
+inclusion_path_blocks n len = node_blocks * (n - 1 - len)
+
+-- the blocks of making the proof of len values that m leaves are the beginning of n: the nodes
+-- above the last node of the beginning are not hashed. Where m is an exact power of 2, this node
+-- is the first root, which is not hashed; else it is a value of the proof
+abbrev pub consistency_path_blocks : (m n len : ℕ) → ℕ
+consistency_path_blocks m n len = node_blocks * cond (is_power_of_two m) (n - m - len) (n - len)
 
 -- the blocks of the verification of a path of the leaf m of n: none where it has a wrong length
 abbrev pub inclusion_blocks : (m n : ℕ) → (path : List (List ℕ)) → ℕ

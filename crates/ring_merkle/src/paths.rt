@@ -5,6 +5,7 @@ ghost use Rattle.std.specs.Prelude.{◌≡◌, ◌↔◌, ◌+◌, ◌<◌, ◌�
 ghost use Rattle.std.specs.Int.{IsPowerOfTwo};
 ghost use Rattle.ring.specs.Prelude.{raised};
 ghost use Rattle.ring_merkle.specs.Consistency.{proof_of};
+ghost use Rattle.ring_merkle.specs.Cost.{consistency_path_blocks, inclusion_path_blocks};
 ghost use Rattle.ring_merkle.specs.Cost.{tree_blocks};
 ghost use Rattle.ring_merkle.specs.Inclusion.{path_of};
 ghost use Rattle.ring_merkle.specs.Tree.{root_of};
@@ -47,10 +48,17 @@ fn split_of(len: usize) -> usize
 
 // Fills `out`, which has its length, with the path of the leaf at `index`: from the root down, and
 // so from the end.
-fn fill_inclusion_path(leaves: &[[u8; HASH_LEN]], index: usize, out: &mut [[u8; HASH_LEN]])
+fn fill_inclusion_path(
+    leaves: &[[u8; HASH_LEN]],
+    index: usize,
+    out: &mut [[u8; HASH_LEN]],
+    meter: &mut Meter,
+)
     requires within { index < length leaves.now }
     requires len { length out.old ≡ length (path_of index leaves.now) }
-    ensures { out.new ≡ path_of index leaves.now }
+    ensures path { out.new ≡ path_of index leaves.now }
+    ensures cost { meter.new
+        ≡ raised meter.old (inclusion_path_blocks (length leaves.now) (length out.old)) 0 }
 {
     let mut rest = leaves;
     let mut node = index;
@@ -60,31 +68,33 @@ fn fill_inclusion_path(leaves: &[[u8; HASH_LEN]], index: usize, out: &mut [[u8; 
         let (front, back) = rest.split_at(split);
         end -= 1;
         if node < split {
-            out[end] = tree_root(back);
+            out[end] = tree_root_counted(back, meter);
             rest = front;
         } else {
-            out[end] = tree_root(front);
+            out[end] = tree_root_counted(front, meter);
             rest = back;
             node -= split;
         }
     }
 }
 
-/// Writes to `out` the path of the leaf at `index` of the tree over `leaves` (RFC 9162, section
-/// 2.1.3.1), and returns its length. A path has at most 64 values.
-///
-/// Refused where there is no such leaf, and where `out` is shorter than the path. `out` is then as
+/// Writes a path to `out` as [`inclusion_path`] does, and counts on `meter` the blocks of the nodes
+/// beside it: two for each node of the tree that is not above the leaf. A refusal leaves `meter` as
 /// it was.
-pub fn inclusion_path(
+pub fn inclusion_path_counted(
     leaves: &[[u8; HASH_LEN]],
     index: usize,
     out: &mut [[u8; HASH_LEN]],
+    meter: &mut Meter,
 ) -> Result<usize, Unspecified>
     ensures ok { IfOk result (λ len. out.new ≡ path_of index leaves.now ++ drop len out.old) }
     ensures len { IfOk result (λ len. len ≡ length (path_of index leaves.now)) }
+    ensures bound { IfOk result (λ len. len ≤ 64) }
     ensures refused { IsOk result ↔ ((index < length leaves.now)
         × (length (path_of index leaves.now) ≤ length out.old)) }
-    ensures unchanged { OnErr result (out.new ≡ out.old) }
+    ensures unchanged { OnErr result ((out.new ≡ out.old) × (meter.new ≡ meter.old)) }
+    ensures cost { IfOk result (λ len.
+        meter.new ≡ raised meter.old (inclusion_path_blocks (length leaves.now) len) 0) }
 {
     if index >= leaves.len() {
         return Err(Unspecified);
@@ -97,17 +107,44 @@ pub fn inclusion_path(
     if len > out.len() {
         return Err(Unspecified);
     }
-    fill_inclusion_path(leaves, index, &mut out[..len]);
+    fill_inclusion_path(leaves, index, &mut out[..len], meter);
     Ok(len)
+}
+
+/// Writes to `out` the path of the leaf at `index` of the tree over `leaves` (RFC 9162, section
+/// 2.1.3.1), and returns its length, which is at most 64.
+///
+/// Refused where there is no such leaf, and where `out` is shorter than the path. `out` is then as
+/// it was.
+pub fn inclusion_path(
+    leaves: &[[u8; HASH_LEN]],
+    index: usize,
+    out: &mut [[u8; HASH_LEN]],
+) -> Result<usize, Unspecified>
+    ensures ok { IfOk result (λ len. out.new ≡ path_of index leaves.now ++ drop len out.old) }
+    ensures len { IfOk result (λ len. len ≡ length (path_of index leaves.now)) }
+    ensures bound { IfOk result (λ len. len ≤ 64) }
+    ensures refused { IsOk result ↔ ((index < length leaves.now)
+        × (length (path_of index leaves.now) ≤ length out.old)) }
+    ensures unchanged { OnErr result (out.new ≡ out.old) }
+{
+    inclusion_path_counted(leaves, index, out, &mut Meter::new())
 }
 
 // Fills `out`, which has its length, with the proof that the first `first_size` leaves are the
 // beginning: from the root down, and so from the end.
-fn fill_consistency_path(leaves: &[[u8; HASH_LEN]], first_size: usize, out: &mut [[u8; HASH_LEN]])
+fn fill_consistency_path(
+    leaves: &[[u8; HASH_LEN]],
+    first_size: usize,
+    out: &mut [[u8; HASH_LEN]],
+    meter: &mut Meter,
+)
     requires nonempty { 0 < first_size }
     requires within { first_size < length leaves.now }
     requires len { length out.old ≡ length (proof_of first_size leaves.now) }
-    ensures { out.new ≡ proof_of first_size leaves.now }
+    ensures path { out.new ≡ proof_of first_size leaves.now }
+    ensures cost { meter.new ≡ raised meter.old
+        (consistency_path_blocks first_size (length leaves.now) (length out.old)) 0 }
 {
     let mut rest = leaves;
     let mut size = first_size;
@@ -118,10 +155,10 @@ fn fill_consistency_path(leaves: &[[u8; HASH_LEN]], first_size: usize, out: &mut
         let (front, back) = rest.split_at(split);
         end -= 1;
         if size <= split {
-            out[end] = tree_root(back);
+            out[end] = tree_root_counted(back, meter);
             rest = front;
         } else {
-            out[end] = tree_root(front);
+            out[end] = tree_root_counted(front, meter);
             rest = back;
             size -= split;
             is_first = false;
@@ -129,27 +166,27 @@ fn fill_consistency_path(leaves: &[[u8; HASH_LEN]], first_size: usize, out: &mut
     }
     if !is_first {
         let first = end - 1;
-        out[first] = tree_root(rest);
+        out[first] = tree_root_counted(rest, meter);
     }
 }
 
-/// Writes to `out` the proof that the tree over the first `first_size` of `leaves` is the beginning
-/// of the tree over all of them (RFC 9162, section 2.1.4.1), and returns its length. A proof has at
-/// most 65 values.
-///
-/// Refused where `first_size` is 0 or not below the number of leaves, and where `out` is shorter
-/// than the proof. `out` is then as it was.
-pub fn consistency_path(
+/// Writes a proof to `out` as [`consistency_path`] does, and counts on `meter` two blocks for each
+/// node of the tree that it hashes. A refusal leaves `meter` as it was.
+pub fn consistency_path_counted(
     leaves: &[[u8; HASH_LEN]],
     first_size: usize,
     out: &mut [[u8; HASH_LEN]],
+    meter: &mut Meter,
 ) -> Result<usize, Unspecified>
     ensures ok { IfOk result (λ len.
         out.new ≡ proof_of first_size leaves.now ++ drop len out.old) }
     ensures len { IfOk result (λ len. len ≡ length (proof_of first_size leaves.now)) }
+    ensures bound { IfOk result (λ len. len ≤ 65) }
     ensures refused { IsOk result ↔ ((0 < first_size) × (first_size < length leaves.now)
         × (length (proof_of first_size leaves.now) ≤ length out.old)) }
-    ensures unchanged { OnErr result (out.new ≡ out.old) }
+    ensures unchanged { OnErr result ((out.new ≡ out.old) × (meter.new ≡ meter.old)) }
+    ensures cost { IfOk result (λ len. meter.new
+        ≡ raised meter.old (consistency_path_blocks first_size (length leaves.now) len) 0) }
 {
     if first_size == 0 || first_size >= leaves.len() {
         return Err(Unspecified);
@@ -167,6 +204,28 @@ pub fn consistency_path(
     if len > out.len() {
         return Err(Unspecified);
     }
-    fill_consistency_path(leaves, first_size, &mut out[..len]);
+    fill_consistency_path(leaves, first_size, &mut out[..len], meter);
     Ok(len)
+}
+
+/// Writes to `out` the proof that the tree over the first `first_size` of `leaves` is the beginning
+/// of the tree over all of them (RFC 9162, section 2.1.4.1), and returns its length, which is at
+/// most 65.
+///
+/// Refused where `first_size` is 0 or not below the number of leaves, and where `out` is shorter
+/// than the proof. `out` is then as it was.
+pub fn consistency_path(
+    leaves: &[[u8; HASH_LEN]],
+    first_size: usize,
+    out: &mut [[u8; HASH_LEN]],
+) -> Result<usize, Unspecified>
+    ensures ok { IfOk result (λ len.
+        out.new ≡ proof_of first_size leaves.now ++ drop len out.old) }
+    ensures len { IfOk result (λ len. len ≡ length (proof_of first_size leaves.now)) }
+    ensures bound { IfOk result (λ len. len ≤ 65) }
+    ensures refused { IsOk result ↔ ((0 < first_size) × (first_size < length leaves.now)
+        × (length (proof_of first_size leaves.now) ≤ length out.old)) }
+    ensures unchanged { OnErr result (out.new ≡ out.old) }
+{
+    consistency_path_counted(leaves, first_size, out, &mut Meter::new())
 }

@@ -7,9 +7,9 @@ use Rattle.ring_merkle.specs.Walk.{is_even}
 use Rattle.ring_merkle.proofs.Begun.{counted-proof}
 use Rattle.ring_merkle.proofs.Shifts.{shift-within}
 use Rattle.ring_merkle.proofs.Sides.{length-sides}
-use Rattle.ring_merkle.proofs.paths.consistency_path.Goals.{else-is_power_of_two}
-use Rattle.ring_merkle.proofs.paths.consistency_path.Goals.{then-is_power_of_two}
-use Rattle.ring_merkle.proofs.paths.consistency_path.Goals as goal
+use Rattle.ring_merkle.proofs.paths.consistency_path_counted.Goals.{else-is_power_of_two}
+use Rattle.ring_merkle.proofs.paths.consistency_path_counted.Goals.{then-is_power_of_two}
+use Rattle.ring_merkle.proofs.paths.consistency_path_counted.Goals as goal
 
 pub path_len-siblings-requires : goal.path_len-siblings-requires
 path_len-siblings-requires c =
@@ -84,3 +84,11 @@ fill_consistency_path-requires-clause-len c =
           c.path_len-siblings.result c.if-is_power_of_two.len some c.if-first_size-leaves.false
           (omega arith) c.even.ensures.node c.even.ensures.last c.path_len-siblings.ensures sum,
     )
+
+pub returns-clause-bound : goal.returns-clause-bound
+returns-clause-bound c =
+    let most = length-sides 64 c.even.result.node c.even.result.last in
+    elim c.if-is_power_of_two.branch [
+      | then-is_power_of_two w ↦ omega (arith, w.len-is, c.path_len-siblings.ensures, most)
+      | else-is_power_of_two w ↦ omega (arith, w.len-is, c.path_len-siblings.ensures, most)
+    ]

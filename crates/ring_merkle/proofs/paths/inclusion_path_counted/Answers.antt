@@ -1,7 +1,8 @@
 -- SPDX-License-Identifier: ISC
-use Rattle.std.proofs.Common.{◌^◌, ◌<◌, length, arith, rules, length-take}
+use Rattle.std.proofs.Common.{◌-◌, ◌^◌, ◌<◌, length, arith, rules, length-take}
 use Rattle.ring_merkle.proofs.Included.{length-path}
-use Rattle.ring_merkle.proofs.paths.inclusion_path.Goals as goal
+use Rattle.ring_merkle.proofs.Sides.{length-sides}
+use Rattle.ring_merkle.proofs.paths.inclusion_path_counted.Goals as goal
 
 pub returns-then-len-out-clause-refused : goal.returns-then-len-out-clause-refused
 returns-then-len-out-clause-refused c =
@@ -20,3 +21,11 @@ fill_inclusion_path-requires-clause-len c =
       c.if-len-out.false,
       length-take c.path_len-len.result c.args.out.now,
     )
+
+pub returns-clause-bound : goal.returns-clause-bound
+returns-clause-bound c = omega (
+  arith,
+  c.path_len-len.ensures,
+  length-sides 64 c.args.index
+      (length c.args.leaves.now - 1),
+)

@@ -1,10 +1,10 @@
 -- SPDX-License-Identifier: ISC
 -- Consistency proofs (RFC 9162, section 2.1.4).
-use Rattle.std.specs.Prelude.{◌≡◌, ◌-◌, ◌<◌, ◌==◌, [], ◌∷◌, ◌++◌, ◌^◌, ℕ, zero, suc, cond, Bool}
-use Rattle.std.specs.Prelude.{true, false, List, length, drop, get_or, Some, nat_le, take}
+use Rattle.std.specs.Prelude.{◌≡◌, ◌⊎◌, ◌-◌, ◌<◌, ◌==◌, [], ◌∷◌, ◌++◌, ◌^◌, ℕ, zero, suc, cond, Bool}
+use Rattle.std.specs.Prelude.{true, false, List, length, drop, get_or, map, Some, nat_le, take}
 use Rattle.std.specs.Int.{is_power_of_two}
-use Rattle.ring_merkle.specs.Tree.{root_at}
-use Rattle.ring_merkle.specs.Walk.{front_step, is_even, shifted_last, shifted_node, walk}
+use Rattle.ring_merkle.specs.Tree.{leaf_hash, mth, root_at, root_of}
+use Rattle.ring_merkle.specs.Walk.{IsCollision, front_step, is_even, shifted_last, shifted_node, walk}
 use Rattle.ring_merkle.specs.Walk.{walk_inputs, whole_step}
 
 -- SUBPROOF(m, D_n, b) over leaf hashes, of which there are at most 2^h (section 2.1.4.1)
@@ -58,3 +58,21 @@ pub record IsConsistent (m n : ℕ) (path : List (List ℕ)) (first second : Lis
 abbrev pub consistency_inputs : (m n : ℕ) → (values : List (List ℕ)) → List (List ℕ)
 consistency_inputs m n values =
     walk_inputs (first_node m) (first_last m n) (get_or values 0 []) (drop 1 values)
+
+-- soundness: where the second root is that of n entries, an accepted first root is that of the
+-- first m of them, or there is a collision between this verification and that of the list's own
+-- proof
+abbrev pub IsSoundConsistency : (accepted : Type 0) → (m n : ℕ) → (path : List (List ℕ))
+    → (first second : List ℕ) → Type 0
+IsSoundConsistency accepted m n path first second =
+    (ds : List (List ℕ)) → length ds ≡ n → second ≡ mth ds → accepted
+    → (first ≡ mth (take m ds))
+    ⊎ IsCollision (consistency_inputs m n (values_of m first path))
+    (consistency_inputs m n (subproof_of m (map leaf_hash ds) false))
+
+-- completeness: the proof for a list and its beginning is accepted
+abbrev pub IsCompleteConsistency : (accepted : Type 0) → (m n : ℕ) → (path : List (List ℕ))
+    → (first second : List ℕ) → Type 0
+IsCompleteConsistency accepted m n path first second =
+    (leaves : List (List ℕ)) → length leaves ≡ n → second ≡ root_of leaves → 0 < m → m < n
+    → first ≡ root_of (take m leaves) → path ≡ proof_of m leaves → accepted

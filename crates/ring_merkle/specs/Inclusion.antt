@@ -1,9 +1,9 @@
 -- SPDX-License-Identifier: ISC
 -- Inclusion proofs (RFC 9162, section 2.1.3).
-use Rattle.std.specs.Prelude.{◌≡◌, ◌-◌, ◌^◌, ◌<◌, [], ◌∷◌, ◌++◌, ℕ, zero, suc, cond, nat_le}
-use Rattle.std.specs.Prelude.{nat_lt, List, length, drop, take, Some}
-use Rattle.ring_merkle.specs.Tree.{root_at}
-use Rattle.ring_merkle.specs.Walk.{walk, walk_inputs, whole_step}
+use Rattle.std.specs.Prelude.{◌≡◌, ◌⊎◌, ◌-◌, ◌^◌, ◌<◌, [], ◌∷◌, ◌++◌, ℕ, zero, suc, cond, nat_le}
+use Rattle.std.specs.Prelude.{nat_lt, List, length, drop, take, get_or, map, Some}
+use Rattle.ring_merkle.specs.Tree.{leaf_hash, mth, root_at, root_of}
+use Rattle.ring_merkle.specs.Walk.{IsCollision, walk, walk_inputs, whole_step}
 
 -- PATH(m, D_n) over leaf hashes, of which there are at most 2^h (section 2.1.3.1)
 unfoldable pub path_at : (h m : ℕ) → (leaves : List (List ℕ)) → List (List ℕ)
@@ -30,3 +30,20 @@ pub record IsIncluded (hash : List ℕ) (m n : ℕ) (path : List (List ℕ)) (ro
 abbrev pub inclusion_inputs : (hash : List ℕ) → (m n : ℕ) → (path : List (List ℕ))
     → List (List ℕ)
 inclusion_inputs r m n ps = walk_inputs m (n - 1) r ps
+
+-- soundness: where the root is that of n entries, an accepted hash and path are those of the entry
+-- m, or there is a collision between the verification of this path and that of the entry's own
+abbrev pub IsSoundInclusion : (accepted : Type 0) → (hash : List ℕ) → (m n : ℕ)
+    → (path : List (List ℕ)) → (root : List ℕ) → Type 0
+IsSoundInclusion accepted hash m n path root =
+    (ds : List (List ℕ)) → length ds ≡ n → root ≡ mth ds → accepted
+    → ((hash ≡ leaf_hash (get_or ds m [])) × (path ≡ path_of m (map leaf_hash ds)))
+    ⊎ IsCollision (inclusion_inputs hash m n path)
+    (inclusion_inputs (leaf_hash (get_or ds m [])) m n (path_of m (map leaf_hash ds)))
+
+-- completeness: the path of a leaf is accepted
+abbrev pub IsCompleteInclusion : (accepted : Type 0) → (hash : List ℕ) → (m n : ℕ)
+    → (path : List (List ℕ)) → (root : List ℕ) → Type 0
+IsCompleteInclusion accepted hash m n path root =
+    (leaves : List (List ℕ)) → length leaves ≡ n → root ≡ root_of leaves → m < n
+    → hash ≡ get_or leaves m [] → path ≡ path_of m leaves → accepted

@@ -1,14 +1,12 @@
 // SPDX-License-Identifier: ISC
 //! Proofs that a tree is the beginning of a larger one (RFC 9162, section 2.1.4).
 
-ghost use Rattle.std.specs.Prelude.{◌≡◌, ◌↔◌, ◌⊎◌, ◌+◌, ◌*◌, ◌<◌, ◌≤◌, ℕ, List, length, map, take};
-ghost use Rattle.std.specs.Prelude.{IsTrue, Some, false};
+ghost use Rattle.std.specs.Prelude.{◌≡◌, ◌↔◌, ◌+◌, ◌*◌, ◌≤◌, ℕ, List, length, IsTrue, Some};
 ghost use Rattle.ring.specs.Prelude.{raised};
-ghost use Rattle.ring_merkle.specs.Consistency.{IsConsistent, LeadsToBoth, consistency_inputs};
-ghost use Rattle.ring_merkle.specs.Consistency.{proof_of, subproof_of, values_of};
+ghost use Rattle.ring_merkle.specs.Consistency.{IsCompleteConsistency, IsConsistent};
+ghost use Rattle.ring_merkle.specs.Consistency.{IsSoundConsistency, LeadsToBoth};
 ghost use Rattle.ring_merkle.specs.Cost.{both_blocks, consistency_blocks, left_count, node_blocks};
-ghost use Rattle.ring_merkle.specs.Tree.{leaf_hash, mth, root_of};
-ghost use Rattle.ring_merkle.specs.Walk.{IsCollision, front_step, walk, whole_step};
+ghost use Rattle.ring_merkle.specs.Walk.{front_step, walk, whole_step};
 
 use crate::hash::{HASH_LEN, node_hash_counted};
 use crate::place::Place;
@@ -114,16 +112,10 @@ pub fn verify_consistency_counted(
 ) -> bool
     ensures exact { IsTrue result
         ↔ IsConsistent first_size second_size path.now first.now second.now }
-    ensures sound { (ds : List (List ℕ)) → length ds ≡ second_size → second.now ≡ mth ds
-        → IsTrue result → (first.now ≡ mth (take first_size ds))
-        ⊎ IsCollision
-        (consistency_inputs first_size second_size (values_of first_size first.now path.now))
-        (consistency_inputs first_size second_size
-        (subproof_of first_size (map leaf_hash ds) false)) }
-    ensures complete { (leaves : List (List ℕ)) → length leaves ≡ second_size
-        → second.now ≡ root_of leaves → 0 < first_size → first_size < second_size
-        → first.now ≡ root_of (take first_size leaves) → path.now ≡ proof_of first_size leaves
-        → IsTrue result }
+    ensures sound { IsSoundConsistency
+        (IsTrue result) first_size second_size path.now first.now second.now }
+    ensures complete { IsCompleteConsistency
+        (IsTrue result) first_size second_size path.now first.now second.now }
     ensures cost { meter.new ≡ raised meter.old
         (consistency_blocks first_size second_size first.now path.now) 0 }
 {
@@ -150,16 +142,10 @@ pub fn verify_consistency(
 ) -> bool
     ensures exact { IsTrue result
         ↔ IsConsistent first_size second_size path.now first.now second.now }
-    ensures sound { (ds : List (List ℕ)) → length ds ≡ second_size → second.now ≡ mth ds
-        → IsTrue result → (first.now ≡ mth (take first_size ds))
-        ⊎ IsCollision
-        (consistency_inputs first_size second_size (values_of first_size first.now path.now))
-        (consistency_inputs first_size second_size
-        (subproof_of first_size (map leaf_hash ds) false)) }
-    ensures complete { (leaves : List (List ℕ)) → length leaves ≡ second_size
-        → second.now ≡ root_of leaves → 0 < first_size → first_size < second_size
-        → first.now ≡ root_of (take first_size leaves) → path.now ≡ proof_of first_size leaves
-        → IsTrue result }
+    ensures sound { IsSoundConsistency
+        (IsTrue result) first_size second_size path.now first.now second.now }
+    ensures complete { IsCompleteConsistency
+        (IsTrue result) first_size second_size path.now first.now second.now }
 {
     verify_consistency_counted(
         first_size,

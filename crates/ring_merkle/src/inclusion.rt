@@ -1,13 +1,11 @@
 // SPDX-License-Identifier: ISC
 //! Proofs that a leaf is in a tree (RFC 9162, section 2.1.3).
 
-ghost use Rattle.std.specs.Prelude.{◌≡◌, ◌↔◌, ◌⊎◌, ◌-◌, ◌*◌, ◌<◌, ◌≤◌, [], ℕ, List, get_or, map};
-ghost use Rattle.std.specs.Prelude.{IsTrue, Some, length};
+ghost use Rattle.std.specs.Prelude.{◌≡◌, ◌↔◌, ◌*◌, ℕ, List, IsTrue, Some, length};
 ghost use Rattle.ring.specs.Prelude.{raised};
 ghost use Rattle.ring_merkle.specs.Cost.{inclusion_blocks, node_blocks};
-ghost use Rattle.ring_merkle.specs.Inclusion.{IsIncluded, inclusion_inputs, path_of};
-ghost use Rattle.ring_merkle.specs.Tree.{leaf_hash, mth, root_of};
-ghost use Rattle.ring_merkle.specs.Walk.{IsCollision, walk, whole_step};
+ghost use Rattle.ring_merkle.specs.Inclusion.{IsCompleteInclusion, IsIncluded, IsSoundInclusion};
+ghost use Rattle.ring_merkle.specs.Walk.{walk, whole_step};
 
 use crate::hash::{HASH_LEN, node_hash_counted};
 use crate::place::Place;
@@ -75,15 +73,8 @@ pub fn verify_inclusion_counted(
     meter: &mut Meter,
 ) -> bool
     ensures exact { IsTrue result ↔ IsIncluded hash.now index size path.now root.now }
-    ensures sound { (ds : List (List ℕ)) → length ds ≡ size → root.now ≡ mth ds → IsTrue result
-        → ((hash.now ≡ leaf_hash (get_or ds index []))
-        × (path.now ≡ path_of index (map leaf_hash ds)))
-        ⊎ IsCollision (inclusion_inputs hash.now index size path.now)
-        (inclusion_inputs (leaf_hash (get_or ds index [])) index size
-        (path_of index (map leaf_hash ds))) }
-    ensures complete { (leaves : List (List ℕ)) → length leaves ≡ size
-        → root.now ≡ root_of leaves → index < size → hash.now ≡ get_or leaves index []
-        → path.now ≡ path_of index leaves → IsTrue result }
+    ensures sound { IsSoundInclusion (IsTrue result) hash.now index size path.now root.now }
+    ensures complete { IsCompleteInclusion (IsTrue result) hash.now index size path.now root.now }
     ensures cost { meter.new ≡ raised meter.old (inclusion_blocks index size path.now) 0 }
 {
     digest_has_output_len();
@@ -105,15 +96,8 @@ pub fn verify_inclusion(
     root: &[u8; HASH_LEN],
 ) -> bool
     ensures exact { IsTrue result ↔ IsIncluded hash.now index size path.now root.now }
-    ensures sound { (ds : List (List ℕ)) → length ds ≡ size → root.now ≡ mth ds → IsTrue result
-        → ((hash.now ≡ leaf_hash (get_or ds index []))
-        × (path.now ≡ path_of index (map leaf_hash ds)))
-        ⊎ IsCollision (inclusion_inputs hash.now index size path.now)
-        (inclusion_inputs (leaf_hash (get_or ds index [])) index size
-        (path_of index (map leaf_hash ds))) }
-    ensures complete { (leaves : List (List ℕ)) → length leaves ≡ size
-        → root.now ≡ root_of leaves → index < size → hash.now ≡ get_or leaves index []
-        → path.now ≡ path_of index leaves → IsTrue result }
+    ensures sound { IsSoundInclusion (IsTrue result) hash.now index size path.now root.now }
+    ensures complete { IsCompleteInclusion (IsTrue result) hash.now index size path.now root.now }
 {
     verify_inclusion_counted(hash, index, size, path, root, &mut Meter::new())
 }

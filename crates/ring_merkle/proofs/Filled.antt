@@ -87,7 +87,8 @@ pub filled-begin : (all out : List (List ℕ)) → length out ≡ length all
     → Filled all all (length out) out
 filled-begin all out e = record {
   left = e;
-  made = sym (append-nil all) ∙ ap (λ ys. all ++ ys) (sym (drop_all (length out) out (omega arith)));
+  made = sym (append-nil all)
+      ∙ ap (λ ys. all ++ ys) (sym (drop_all (length out) out (omega arith)));
 }
 
 -- one value more

@@ -1,11 +1,12 @@
 -- SPDX-License-Identifier: ISC
 -- Consistency proofs (RFC 9162, section 2.1.4).
-use Rattle.std.specs.Prelude.{◌≡◌, ◌⊎◌, ◌-◌, ◌<◌, ◌==◌, [], ◌∷◌, ◌++◌, ◌^◌, ℕ, zero, suc, cond, Bool}
-use Rattle.std.specs.Prelude.{true, false, List, length, drop, get_or, map, Some, nat_le, take}
+use Rattle.std.specs.Prelude.{◌≡◌, ◌⊎◌, ◌-◌, ◌<◌, ◌==◌, [], ◌∷◌, ◌++◌, ◌^◌, ℕ, zero, suc, cond}
+use Rattle.std.specs.Prelude.{Bool, true, false, List, length, drop, get_or, map, Some, nat_le}
+use Rattle.std.specs.Prelude.{take}
 use Rattle.std.specs.Int.{is_power_of_two}
 use Rattle.ring_merkle.specs.Tree.{leaf_hash, mth, root_at, root_of}
-use Rattle.ring_merkle.specs.Walk.{IsCollision, front_step, is_even, shifted_last, shifted_node, walk}
-use Rattle.ring_merkle.specs.Walk.{walk_inputs, whole_step}
+use Rattle.ring_merkle.specs.Walk.{IsCollision, front_step, is_even, shifted_last, shifted_node}
+use Rattle.ring_merkle.specs.Walk.{walk, walk_inputs, whole_step}
 
 -- SUBPROOF(m, D_n, b) over leaf hashes, of which there are at most 2^h (section 2.1.4.1)
 unfoldable pub subproof_at : (h m : ℕ) → (leaves : List (List ℕ)) → Bool → List (List ℕ)

@@ -6,4 +6,5 @@ pub mod Verified
 pub mod Status
 pub mod PasswordHashes
 pub mod Gives
+pub mod Merkle
 pub mod Version

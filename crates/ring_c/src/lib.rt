@@ -18,6 +18,7 @@ mod each;
 mod expansions;
 mod labels;
 mod lengths;
+mod merkle;
 mod number;
 mod password_hashes;
 mod status;

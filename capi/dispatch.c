@@ -145,3 +145,25 @@ CALL(yz_pbkdf2_derive, _wide, pbkdf2_work(algorithm, out_len), algorithm,
 CALL(yz_pbkdf2_verify, _wide, pbkdf2_work(algorithm, derived_len), algorithm,
      (uint32_t algorithm, uint32_t iterations, IN(salt), IN(secret), IN(derived)),
      (algorithm, iterations, BYTES(salt), BYTES(secret), BYTES(derived)))
+
+/* Trees run digests under SHA-256. */
+#define HASHES(name) const yz_merkle_hash *name, size_t name##_count
+#define LISTED(name) name, name##_count
+#define PATH yz_merkle_hash *path, size_t room, size_t *path_count
+CALL(yz_merkle_leaf, , DIGEST, YZ_SHA256,
+     (IN(entry), yz_merkle_hash *hash), (BYTES(entry), hash))
+CALL(yz_merkle_verify_inclusion, , DIGEST, YZ_SHA256,
+     (const yz_merkle_hash *hash, uint64_t index, uint64_t size, HASHES(path),
+      const yz_merkle_hash *root),
+     (hash, index, size, LISTED(path), root))
+CALL(yz_merkle_verify_consistency, , DIGEST, YZ_SHA256,
+     (uint64_t first_size, const yz_merkle_hash *first, uint64_t second_size,
+      const yz_merkle_hash *second, HASHES(path)),
+     (first_size, first, second_size, second, LISTED(path)))
+CALL(yz_merkle_root, , DIGEST, YZ_SHA256,
+     (HASHES(leaves), yz_merkle_hash *root), (LISTED(leaves), root))
+CALL(yz_merkle_inclusion_path, , DIGEST, YZ_SHA256,
+     (HASHES(leaves), size_t index, PATH), (LISTED(leaves), index, path, room, path_count))
+CALL(yz_merkle_consistency_path, , DIGEST, YZ_SHA256,
+     (HASHES(leaves), size_t first_size, PATH),
+     (LISTED(leaves), first_size, path, room, path_count))

@@ -2,9 +2,9 @@
  * Copyright 2026 the Yezdopin authors.
  *
  * Digests (FIPS 180-4), tags (HMAC, RFC 2104), derived keys (HKDF, RFC 5869, also by the labels of
- * TLS 1.3, RFC 8446; PBKDF2, RFC 2898) and password hashes, each call proved to give the standard's
- * bytes. README.md, installed as share/doc/yezdopin/README.md, says what is proved and what is not.
- * All lengths are in bytes.
+ * TLS 1.3, RFC 8446; PBKDF2, RFC 2898), password hashes, and Merkle trees of transparency logs (RFC
+ * 9162), each call proved to give the standard's bytes. README.md, installed as
+ * share/doc/yezdopin/README.md, says what is proved and what is not. All lengths are in bytes.
  *
  * Each call returns whatever it is given. Calls allocate nothing, set no errno, and keep no state
  * but a byte that remembers what the processor has: on one with x86-64-v3 (AVX2) those that gain by
@@ -14,8 +14,10 @@
  * The caller must ensure, unchecked, that
  * - a pointer with a length behind it is that of so many bytes, which may be read, or written where
  *   it is no pointer to const; where the length is 0 it may be NULL, but for that in a yz_message;
+ * - the same of a pointer to messages or to hashes with their number behind it;
  * - what a call writes overlaps nothing else that it is given;
- * - a pointer to a context, a key or a single number is aligned as its type, and not NULL;
+ * - a pointer to a context, a key, a single hash or a single number is aligned as its type, and not
+ *   NULL;
  * - the thread has 8 KiB of stack left, and for a call of password hashes 20 KiB.
  *
  * A call that can be refused answers YZ_OK, or the first cause that holds in the order of
@@ -308,6 +310,61 @@ yz_status yz_password_hash_new(uint32_t scheme, uint32_t iterations,
                                const uint8_t *salt, size_t salt_len,
                                const uint8_t *password, size_t password_len,
                                char *text, size_t text_room, size_t *text_len) YZ_MUST_CHECK;
+
+/* Merkle trees of transparency logs (RFC 9162, 2.1, the same as in RFC 6962) over YZ_SHA256: of
+ * certificates, of signed software, of Go's modules. Nothing that these calls are given is secret,
+ * and their time may tell all of it.
+ *
+ * A hash is that of a leaf, of a node, or of a whole tree, its root. It is plain bytes, so that any
+ * bytes in a row are an array of hashes, 32 each. */
+#define YZ_MERKLE_HASH_LEN 32
+typedef struct {
+    uint8_t bytes[YZ_MERKLE_HASH_LEN];
+} yz_merkle_hash; /* 32 bytes */
+
+/* The hash of an entry as a leaf, which is not its digest: a byte 0 stands before it. An entry of
+ * more than 2^61 - 2 bytes is answered by YZ_UNSPECIFIED. */
+yz_status yz_merkle_leaf(const uint8_t *entry, size_t entry_len,
+                         yz_merkle_hash *hash) YZ_MUST_CHECK;
+
+/* Whether a path proves that a leaf of this hash is at `index`, from 0 on, in the tree of `size`
+ * leaves with this root (2.1.3.2). Answers YZ_OK exactly where it does, else YZ_UNSPECIFIED, also
+ * where `index` is not below `size` or the path has a wrong length.
+ *
+ * Where the root is that of a list of `size` entries, YZ_OK means that the hash is that of the
+ * list's entry at `index`, or that two different inputs with one SHA-256 digest are at hand. That
+ * the root is the log's is for the caller to know: who signed it, and whether others see it too. */
+yz_status yz_merkle_verify_inclusion(const yz_merkle_hash *hash, uint64_t index, uint64_t size,
+                                     const yz_merkle_hash *path, size_t path_count,
+                                     const yz_merkle_hash *root) YZ_MUST_CHECK;
+
+/* Whether a path proves that the tree of `first_size` leaves with the root `first` is the beginning
+ * of the tree of `second_size` leaves with the root `second` (2.1.4.2). Answers YZ_OK exactly where
+ * it does, else YZ_UNSPECIFIED, also where `first_size` is 0 or not below `second_size`: there is
+ * no proof for these, and a caller compares two roots of one size. */
+yz_status yz_merkle_verify_consistency(uint64_t first_size, const yz_merkle_hash *first,
+                                       uint64_t second_size, const yz_merkle_hash *second,
+                                       const yz_merkle_hash *path,
+                                       size_t path_count) YZ_MUST_CHECK;
+
+/* The root of the tree over `count` hashes of leaves (2.1.1); of none it is the digest of nothing.
+ * Always answers YZ_OK. */
+yz_status yz_merkle_root(const yz_merkle_hash *leaves, size_t count,
+                         yz_merkle_hash *root) YZ_MUST_CHECK;
+
+/* Writes the path that proves where a leaf is, or that the first leaves are the beginning, to the
+ * start of `path`, which has room for `path_room` hashes, and to `path_count` how many it has
+ * (2.1.3.1, 2.1.4.1), at most YZ_MERKLE_MAX_PATH. The rest of `path` is unchanged.
+ *
+ * A path of more hashes than `path_room` is answered by YZ_WRONG_LENGTH. YZ_UNSPECIFIED answers an
+ * `index` that is not below `count`, and a `first_size` that is 0 or not below it. */
+#define YZ_MERKLE_MAX_PATH 65
+yz_status yz_merkle_inclusion_path(const yz_merkle_hash *leaves, size_t count, size_t index,
+                                   yz_merkle_hash *path, size_t path_room,
+                                   size_t *path_count) YZ_MUST_CHECK;
+yz_status yz_merkle_consistency_path(const yz_merkle_hash *leaves, size_t count, size_t first_size,
+                                     yz_merkle_hash *path, size_t path_room,
+                                     size_t *path_count) YZ_MUST_CHECK;
 
 /* Whether both are equal. Where the lengths agree it reads all of both. */
 bool yz_equal(const uint8_t *a, size_t a_len, const uint8_t *b, size_t b_len) YZ_MUST_CHECK;

@@ -3,8 +3,9 @@
  * whichever build made or advanced them, so each step may be taken by either: a digest and a tag in
  * pieces is made by each build and ended by the other, and made again by a build that is drawn for
  * each step. Garbage in the place of contexts and keys has the same answers in both. The calls that
- * run several messages or rounds of output side by side give the same in both, at both widths.
- * Messages, pieces and builds are drawn at random, in each run the same. */
+ * run several messages or rounds of output side by side give the same in both, at both widths, and
+ * each build verifies the other's paths of Merkle trees. Messages, pieces and builds are drawn at
+ * random, in each run the same. */
 #include "yezdopin.h"
 #include <stdio.h>
 #include <stdlib.h>
@@ -20,6 +21,8 @@
 #define MOST_COUNT 40
 #define MOST_ITERATIONS 5
 #define MOST_DERIVED 1000
+#define TREES 2000
+#define MOST_LEAVES 70
 
 /* The calls that dispatch.c alone knows, and those of the build for x86-64-v3 by the names that the
  * Makefile gives them here. */
@@ -42,6 +45,12 @@ __typeof__(yz_hkdf_extract) v3_yz_hkdf_extract;
 __typeof__(yz_hkdf_expand) v3_yz_hkdf_expand;
 __typeof__(yz_hkdf_expand_label) v3_yz_hkdf_expand_label;
 __typeof__(yz_hkdf) v3_yz_hkdf;
+__typeof__(yz_merkle_leaf) v3_yz_merkle_leaf;
+__typeof__(yz_merkle_root) v3_yz_merkle_root;
+__typeof__(yz_merkle_inclusion_path) v3_yz_merkle_inclusion_path;
+__typeof__(yz_merkle_consistency_path) v3_yz_merkle_consistency_path;
+__typeof__(yz_merkle_verify_inclusion) v3_yz_merkle_verify_inclusion;
+__typeof__(yz_merkle_verify_consistency) v3_yz_merkle_verify_consistency;
 
 typedef struct {
     __typeof__(yz_digest) *digest;
@@ -60,6 +69,12 @@ typedef struct {
     __typeof__(yz_hkdf_expand) *hkdf_expand;
     __typeof__(yz_hkdf_expand_label) *hkdf_expand_label;
     __typeof__(yz_hkdf) *hkdf;
+    __typeof__(yz_merkle_leaf) *leaf;
+    __typeof__(yz_merkle_root) *root;
+    __typeof__(yz_merkle_inclusion_path) *inclusion_path;
+    __typeof__(yz_merkle_consistency_path) *consistency_path;
+    __typeof__(yz_merkle_verify_inclusion) *verify_inclusion;
+    __typeof__(yz_merkle_verify_consistency) *verify_consistency;
 } build;
 
 /* The builds, and what is made by both in turn. */
@@ -67,11 +82,15 @@ enum { V2, V3, BUILDS, MIXED = BUILDS, MAKERS };
 static const build BUILD[BUILDS] = {
     {yz_digest, yz_digest_init, yz_digest_update, yz_digest_final, yz_hmac_sign, yz_hmac_verify,
      yz_hmac_key_init, yz_hmac_key_sign, yz_hmac_key_verify, yz_hmac_init, yz_hmac_update,
-     yz_hmac_final, yz_hkdf_extract, yz_hkdf_expand, yz_hkdf_expand_label, yz_hkdf},
+     yz_hmac_final, yz_hkdf_extract, yz_hkdf_expand, yz_hkdf_expand_label, yz_hkdf,
+     yz_merkle_leaf, yz_merkle_root, yz_merkle_inclusion_path, yz_merkle_consistency_path,
+     yz_merkle_verify_inclusion, yz_merkle_verify_consistency},
     {v3_yz_digest, v3_yz_digest_init, v3_yz_digest_update, v3_yz_digest_final, v3_yz_hmac_sign,
      v3_yz_hmac_verify, v3_yz_hmac_key_init, v3_yz_hmac_key_sign, v3_yz_hmac_key_verify,
      v3_yz_hmac_init, v3_yz_hmac_update, v3_yz_hmac_final, v3_yz_hkdf_extract, v3_yz_hkdf_expand,
-     v3_yz_hkdf_expand_label, v3_yz_hkdf},
+     v3_yz_hkdf_expand_label, v3_yz_hkdf, v3_yz_merkle_leaf, v3_yz_merkle_root,
+     v3_yz_merkle_inclusion_path, v3_yz_merkle_consistency_path, v3_yz_merkle_verify_inclusion,
+     v3_yz_merkle_verify_consistency},
 };
 
 /* The calls of both builds that run several side by side, as many as is usual and as are wide. */
@@ -244,6 +263,35 @@ static void derivations(uint32_t n, uint32_t iterations, const uint8_t *bytes, s
                            len) == (right ? YZ_OK : YZ_UNSPECIFIED), "a derived key is verified");
 }
 
+/* A tree, the path of a leaf and that of a first tree: each build verifies what the other made, and
+ * refuses it under another root. */
+static void tree(const uint8_t *bytes, size_t size) {
+    yz_merkle_hash leaves[BUILDS][MOST_LEAVES], first[BUILDS], root[BUILDS];
+    yz_merkle_hash path[BUILDS][YZ_MERKLE_MAX_PATH], proof[BUILDS][YZ_MERKLE_MAX_PATH];
+    size_t index = below(size), first_size = 1 + below(size - 1);
+    size_t path_count[BUILDS], proof_count[BUILDS];
+    for (int i = 0; i < BUILDS; i++) {
+        for (size_t k = 0; k < size; k++)
+            must(BUILD[i].leaf(bytes + k, k, &leaves[i][k]) == YZ_OK, "a leaf");
+        must(BUILD[i].root(leaves[i], first_size, &first[i]) == YZ_OK &&
+                 BUILD[i].root(leaves[i], size, &root[i]) == YZ_OK, "roots");
+        must(BUILD[i].inclusion_path(leaves[i], size, index, path[i], YZ_MERKLE_MAX_PATH,
+                                     &path_count[i]) == YZ_OK, "a leaf's path");
+        must(BUILD[i].consistency_path(leaves[i], size, first_size, proof[i], YZ_MERKLE_MAX_PATH,
+                                       &proof_count[i]) == YZ_OK, "a first tree's path");
+    }
+    must(!memcmp(leaves[V2], leaves[V3], size * sizeof **leaves) &&
+             !memcmp(&root[V2], &root[V3], sizeof *root), "trees are the same");
+    for (int right = 1; right >= 0; right--)
+        for (int i = 0; i < BUILDS; root[i++].bytes[below(sizeof root->bytes)] ^= 1) {
+            yz_status want = right ? YZ_OK : YZ_UNSPECIFIED;
+            must(BUILD[!i].verify_inclusion(&leaves[i][index], index, size, path[i], path_count[i],
+                                            &root[i]) == want, "a leaf is verified");
+            must(BUILD[!i].verify_consistency(first_size, &first[i], size, &root[i], proof[i],
+                                              proof_count[i]) == want, "a first tree is verified");
+        }
+}
+
 int main(void) {
     static uint8_t message[MOST_MESSAGE];
     for (size_t i = 0; i < MOST_MESSAGE; i++) message[i] = (uint8_t)rand();
@@ -260,7 +308,9 @@ int main(void) {
                     message, 1 + below(MOST_DERIVED));
     for (int turn = 0; turn < DERIVATIONS; turn++)
         expansion(1 + (uint32_t)below(YZ_SHA512), message, 1 + below(MOST_DERIVED));
+    for (int turn = 0; turn < TREES; turn++) tree(message, 2 + below(MOST_LEAVES - 1));
     for (int turn = 0; turn < GARBAGE; turn++) garbage(message);
     printf("both builds agree: %d messages in %ld pieces, %d lists of messages, %d derived keys of "
-           "each kind, %d times garbage\n", MESSAGES, steps, LISTS, DERIVATIONS, GARBAGE);
+           "each kind, %d trees, %d times garbage\n", MESSAGES, steps, LISTS, DERIVATIONS, TREES,
+           GARBAGE);
 }

@@ -5,6 +5,7 @@
 
 #include "yezdopin.h"
 #include <stdio.h>
+#include <stdlib.h>
 
 static int failures;
 
@@ -16,6 +17,17 @@ static int failures;
             failures++;                                                                   \
         }                                                                                 \
     } while (0)
+
+/* What no call is to write over is filled with this byte. */
+#define UNWRITTEN 7
+#define IS_UNWRITTEN(memory, len) \
+    for (size_t i_ = 0; i_ < (len); i_++) IS((memory)[i_], UNWRITTEN)
+
+static inline size_t below(size_t limit) { return (size_t)rand() % limit; }
+
+static inline void fill_at_random(void *memory, size_t len) {
+    for (size_t i = 0; i < len; i++) ((uint8_t *)memory)[i] = (uint8_t)rand();
+}
 
 static inline const uint8_t *text(const char *words) { return (const uint8_t *)words; }
 

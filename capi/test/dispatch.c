@@ -76,6 +76,7 @@ static yz_status told(int of, const char *name, const uintptr_t *in_order, size_
 #define N(name) (uintptr_t)name
 typedef const uint8_t *in;
 typedef uint8_t *out;
+typedef const yz_merkle_hash *const_hash;
 
 STAND_INS(yz_digest, , (uint32_t a, in b, size_t c, out d, size_t e), N(a), N(b), N(c), N(d), N(e))
 STAND_INS(yz_digest_each, _wide, (uint32_t a, const yz_message *b, size_t c, out d, size_t e),
@@ -108,9 +109,24 @@ STAND_INS(yz_pbkdf2_derive, _wide,
 STAND_INS(yz_pbkdf2_verify, _wide,
           (uint32_t a, uint32_t b, in c, size_t d, in e, size_t f, in g, size_t h),
           N(a), N(b), N(c), N(d), N(e), N(f), N(g), N(h))
+STAND_INS(yz_merkle_leaf, , (in a, size_t b, yz_merkle_hash *c), N(a), N(b), N(c))
+STAND_INS(yz_merkle_verify_inclusion, ,
+          (const_hash a, uint64_t b, uint64_t c, const_hash d, size_t e, const_hash f),
+          N(a), N(b), N(c), N(d), N(e), N(f))
+STAND_INS(yz_merkle_verify_consistency, ,
+          (uint64_t a, const_hash b, uint64_t c, const_hash d, const_hash e, size_t f),
+          N(a), N(b), N(c), N(d), N(e), N(f))
+STAND_INS(yz_merkle_root, , (const_hash a, size_t b, yz_merkle_hash *c), N(a), N(b), N(c))
+STAND_INS(yz_merkle_inclusion_path, ,
+          (const_hash a, size_t b, size_t c, yz_merkle_hash *d, size_t e, size_t *f),
+          N(a), N(b), N(c), N(d), N(e), N(f))
+STAND_INS(yz_merkle_consistency_path, ,
+          (const_hash a, size_t b, size_t c, yz_merkle_hash *d, size_t e, size_t *f),
+          N(a), N(b), N(c), N(d), N(e), N(f))
 
 /* The calls, and their arguments in their order: the number of an algorithm, a context or a key
- * of it, messages, places of some bytes, lengths, and what is counted by itself. */
+ * of it, messages, places of some bytes and of hashes, of a size that is written, lengths, and what
+ * is counted by itself. */
 static const struct {
     const char *name, *arguments;
 } CALLS[] = {
@@ -122,15 +138,21 @@ static const struct {
     {"yz_hkdf", "nplplplpl"}, {"yz_hkdf_extract", "nplplpl"}, {"yz_hkdf_expand", "nplplpl"},
     {"yz_hkdf_expand_label", "nplplplpl"},
     {"yz_pbkdf2_derive", "nlplplpo"}, {"yz_pbkdf2_verify", "nlplplpo"},
+    {"yz_merkle_leaf", "plh"}, {"yz_merkle_verify_inclusion", "hllhlh"},
+    {"yz_merkle_verify_consistency", "lhlhhl"}, {"yz_merkle_root", "hlh"},
+    {"yz_merkle_inclusion_path", "hllhls"}, {"yz_merkle_consistency_path", "hllhls"},
 };
-enum { NUM_CALLS = sizeof CALLS / sizeof *CALLS, PBKDF2 = NUM_CALLS - 2 };
+enum { NUM_CALLS = sizeof CALLS / sizeof *CALLS, PBKDF2 = 15, TREES = 17 };
 
 static yz_digest_context digest;
 static yz_hmac_context tag;
 static yz_hmac_key key, written;
 static const yz_message messages[1];
 static uint8_t bytes[MOST_ARGUMENTS];
+static yz_merkle_hash hashes[MOST_ARGUMENTS];
+static size_t written_size;
 #define AT(i) (bytes + (i))
+#define HASH(i) (hashes + (i))
 
 /* A call, in which a length is the number of its place. */
 static yz_status call(int which, uint32_t n, size_t out_len) {
@@ -152,7 +174,13 @@ static yz_status call(int which, uint32_t n, size_t out_len) {
     case 13: return yz_hkdf_expand(n, AT(1), 2, AT(3), 4, AT(5), 6);
     case 14: return yz_hkdf_expand_label(n, AT(1), 2, AT(3), 4, AT(5), 6, AT(7), 8);
     case 15: return yz_pbkdf2_derive(n, 1, AT(2), 3, AT(4), 5, AT(6), out_len);
-    default: return yz_pbkdf2_verify(n, 1, AT(2), 3, AT(4), 5, AT(6), out_len);
+    case 16: return yz_pbkdf2_verify(n, 1, AT(2), 3, AT(4), 5, AT(6), out_len);
+    case 17: return yz_merkle_leaf(AT(0), 1, HASH(2));
+    case 18: return yz_merkle_verify_inclusion(HASH(0), 1, 2, HASH(3), 4, HASH(5));
+    case 19: return yz_merkle_verify_consistency(0, HASH(1), 2, HASH(3), HASH(4), 5);
+    case 20: return yz_merkle_root(HASH(0), 1, HASH(2));
+    case 21: return yz_merkle_inclusion_path(HASH(0), 1, 2, HASH(3), 4, &written_size);
+    default: return yz_merkle_consistency_path(HASH(0), 1, 2, HASH(3), 4, &written_size);
     }
 }
 
@@ -165,6 +193,8 @@ static uintptr_t argument(char kind, size_t place, uint32_t n, size_t out_len) {
     case 'w': return (uintptr_t)&written;
     case 'm': return (uintptr_t)messages;
     case 'p': return (uintptr_t)AT(place);
+    case 'h': return (uintptr_t)HASH(place);
+    case 's': return (uintptr_t)&written_size;
     case 'o': return out_len;
     default: return place;
     }
@@ -253,7 +283,11 @@ static void each_call(void) {
                 for (size_t out_len = 0; out_len < 200; out_len++) {
                     int made = build_of(which, n, out_len);
                     is_used[made] = true;
-                    if (known == V2 || n < YZ_SHA1 || n > YZ_SHA512_256)
+                    if (known == V2)
+                        is(CALLS[which].name, made, 2);
+                    else if (which >= TREES)
+                        is(CALLS[which].name, made, BUILD[DIGEST][YZ_SHA256]);
+                    else if (n < YZ_SHA1 || n > YZ_SHA512_256)
                         is(CALLS[which].name, made, 2);
                     else if (which >= PBKDF2 && out_len <= yz_output_len(n))
                         is(CALLS[which].name, made, BUILD[PBKDF2_ROUND][n]);

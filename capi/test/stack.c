@@ -11,8 +11,11 @@
 /* What the calls of password hashes are promised: they hold a text's salt and hash. */
 #define PROMISED_TO_HASHES (20 * 1024)
 #define FIRST_OF_HASHES 19
+#define LAST_OF_HASHES 24
+#define LAST 30
 #define PAINT 0xa5
 #define COUNT 10
+#define LEAVES 18
 
 static uint8_t stack[ROOM] __attribute__((aligned(64)));
 static uint32_t n;
@@ -31,6 +34,8 @@ static void run(void) {
         {bytes, 400}, {bytes, 300}, {bytes, 400}, {bytes, 400}, {bytes, 333},
         {bytes, 400}, {bytes, 500}, {bytes, 600}, {bytes, 400}, {bytes, 1}};
     static char text[YZ_MAX_PASSWORD_HASH_LEN];
+    static yz_merkle_hash leaves[LEAVES], path[YZ_MERKLE_MAX_PATH], root, first;
+    static size_t path_count;
     static yz_digest_context context;
     static yz_hmac_key key;
     static yz_hmac_context tag;
@@ -79,6 +84,23 @@ static void run(void) {
     case 24:
         status = yz_password_hash_salt(YZ_DJANGO_SHA256, bytes, 16, out, sizeof out, &text_len);
         break;
+    case 25: status = yz_merkle_leaf(bytes, 400, &leaves[0]); break;
+    case 26: status = yz_merkle_root(leaves, LEAVES, &root); break;
+    case 27:
+        status = yz_merkle_inclusion_path(leaves, LEAVES, 5, path, YZ_MERKLE_MAX_PATH, &path_count);
+        break;
+    case 28:
+        status = yz_merkle_verify_inclusion(&leaves[5], 5, LEAVES, path, path_count, &root);
+        break;
+    case 29:
+        status = yz_merkle_root(leaves, LEAVES / 2, &first);
+        if (status == YZ_OK)
+            status = yz_merkle_consistency_path(leaves, LEAVES, LEAVES / 2, path,
+                                                YZ_MERKLE_MAX_PATH, &path_count);
+        break;
+    case LAST:
+        status = yz_merkle_verify_consistency(LEAVES / 2, &first, LEAVES, &root, path, path_count);
+        break;
     }
     if (status != YZ_OK) printf("call %d of algorithm %u answers %d\n", call, n, status);
 }
@@ -86,7 +108,7 @@ static void run(void) {
 int main(void) {
     static size_t most, most_of_hashes;
     for (n = YZ_SHA1; n <= YZ_SHA512; n++)
-        for (call = 0; call <= 24; call++) {
+        for (call = 0; call <= LAST; call++) {
             static ucontext_t back, there;
             memset(stack, PAINT, ROOM);
             if (getcontext(&there)) return 2;
@@ -95,7 +117,8 @@ int main(void) {
             if (swapcontext(&back, &there)) return 2;
             size_t untouched = 0;
             while (untouched < ROOM && stack[untouched] == PAINT) untouched++;
-            size_t *of = call < FIRST_OF_HASHES ? &most : &most_of_hashes;
+            bool is_of_hashes = call >= FIRST_OF_HASHES && call <= LAST_OF_HASHES;
+            size_t *of = is_of_hashes ? &most_of_hashes : &most;
             if (ROOM - untouched > *of) *of = ROOM - untouched;
         }
     printf("%zu bytes of stack at most, of %d; a password hash's call %zu, of %d\n", most,

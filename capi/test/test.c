@@ -1,9 +1,8 @@
 /* SPDX-License-Identifier: ISC */
-/* Each status of each call but those of password_hashes.c, NULL at length 0, several messages,
- * messages in pieces, copies in mid-stream, and garbage in the place of contexts and keys. Values
- * come from the standards, named where they stand. */
+/* Each status of each call but those of merkle.c and password_hashes.c, NULL at length 0, several
+ * messages, messages in pieces, copies in mid-stream, and garbage in the place of contexts and keys.
+ * Values come from the standards, named where they stand. */
 #include "check.h"
-#include <stdlib.h>
 #include <string.h>
 
 _Static_assert(sizeof(yz_digest_context) == 216, "layout");
@@ -34,17 +33,6 @@ static const size_t OUTPUT[] = {0, YZ_SHA1_OUTPUT_LEN, YZ_SHA256_OUTPUT_LEN, YZ_
                                 YZ_SHA512_OUTPUT_LEN, YZ_SHA512_256_OUTPUT_LEN, 0};
 static const size_t BLOCK[] = {0, YZ_SHA1_BLOCK_LEN, YZ_SHA256_BLOCK_LEN, YZ_SHA384_BLOCK_LEN,
                                YZ_SHA512_BLOCK_LEN, YZ_SHA512_256_BLOCK_LEN, 0};
-
-/* What no call is to write over is filled with this byte. */
-#define UNWRITTEN 7
-#define IS_UNWRITTEN(memory, len) \
-    for (size_t i_ = 0; i_ < (len); i_++) IS((memory)[i_], UNWRITTEN)
-
-static size_t below(size_t limit) { return (size_t)rand() % limit; }
-
-static void fill_at_random(void *memory, size_t len) {
-    for (size_t i = 0; i < len; i++) ((uint8_t *)memory)[i] = (uint8_t)rand();
-}
 
 /* Each call once, with a value from outside. */
 static void known_values(void) {

@@ -53,7 +53,8 @@ static int fill(PyObject *module)
     if (add_version(module) != 0 || add_types(module) != 0) return -1;
     if (PyModule_AddFunctions(module, digest_functions) != 0) return -1;
     if (PyModule_AddFunctions(module, tag_functions) != 0) return -1;
-    return PyModule_AddFunctions(module, derivation_functions);
+    if (PyModule_AddFunctions(module, derivation_functions) != 0) return -1;
+    return PyModule_AddFunctions(module, merkle_functions);
 }
 
 static int traverse(PyObject *module, visitproc visit, void *arg)

@@ -73,13 +73,14 @@ PyObject *begun_tag(PyTypeObject *type, uint32_t algorithm, const yz_hmac_key *k
 extern PyType_Spec digest_spec;
 extern PyType_Spec tag_spec;
 
-/* digests.c, several.c, tags.c and derivation.c: what the module is made of. */
+/* digests.c, several.c, tags.c, derivation.c and merkle.c: what the module is made of. */
 uint32_t algorithm_of_constructor(PyObject *object);
 PyObject *digest_each(PyObject *module, PyObject *const *args, Py_ssize_t args_len,
                       PyObject *keywords);
 extern PyMethodDef digest_functions[];
 extern PyMethodDef tag_functions[];
 extern PyMethodDef derivation_functions[];
+extern PyMethodDef merkle_functions[];
 extern PyType_Spec key_spec;
 
 #endif

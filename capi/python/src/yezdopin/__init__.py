@@ -13,10 +13,10 @@
     >>> digests[2].hex()[:8], digests[0] == digests[2]
     ('ba7816bf', True)
 
-`yezdopin.hmac` has tags in the shape of `hmac`, and `yezdopin.password_hash` writes and tests the
-password hashes of other systems; `import yezdopin` gives both. Buffers are anything with bytes in
-one piece: `bytes`, `bytearray`, `memoryview`, arrays. What the library refuses raises `Error`, a
-`ValueError`.
+`yezdopin.hmac` has tags in the shape of `hmac`, `yezdopin.password_hash` writes and tests the
+password hashes of other systems, and `yezdopin.merkle` verifies proofs of transparency logs;
+`import yezdopin` gives all. Buffers are anything with bytes in one piece: `bytes`, `bytearray`,
+`memoryview`, arrays. What the library refuses raises `Error`, a `ValueError`.
 """
 
 from __future__ import annotations
@@ -44,6 +44,7 @@ from yezdopin._native import (
 
 # After the extension, so that where that can't be imported the error says so.
 from yezdopin import hmac as hmac
+from yezdopin import merkle as merkle
 from yezdopin import password_hash as password_hash
 
 __all__ = [

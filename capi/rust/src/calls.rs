@@ -223,6 +223,40 @@ extern "C" {
         text_room: usize,
         text_len: *mut usize,
     ) -> i32;
+    pub fn yz_merkle_leaf(entry: *const u8, entry_len: usize, hash: *mut [u8; 32]) -> i32;
+    pub fn yz_merkle_verify_inclusion(
+        hash: *const [u8; 32],
+        index: u64,
+        size: u64,
+        path: *const [u8; 32],
+        path_count: usize,
+        root: *const [u8; 32],
+    ) -> i32;
+    pub fn yz_merkle_verify_consistency(
+        first_size: u64,
+        first: *const [u8; 32],
+        second_size: u64,
+        second: *const [u8; 32],
+        path: *const [u8; 32],
+        path_count: usize,
+    ) -> i32;
+    pub fn yz_merkle_root(leaves: *const [u8; 32], count: usize, root: *mut [u8; 32]) -> i32;
+    pub fn yz_merkle_inclusion_path(
+        leaves: *const [u8; 32],
+        count: usize,
+        index: usize,
+        path: *mut [u8; 32],
+        path_room: usize,
+        path_count: *mut usize,
+    ) -> i32;
+    pub fn yz_merkle_consistency_path(
+        leaves: *const [u8; 32],
+        count: usize,
+        first_size: usize,
+        path: *mut [u8; 32],
+        path_room: usize,
+        path_count: *mut usize,
+    ) -> i32;
     pub fn yz_equal(a: *const u8, a_len: usize, b: *const u8, b_len: usize) -> bool;
     fn yz_clear(bytes: *mut u8, bytes_len: usize);
 }

@@ -34,6 +34,7 @@ pub mod digest;
 pub mod error;
 pub mod hkdf;
 pub mod hmac;
+pub mod merkle;
 pub mod password_hash;
 pub mod pbkdf2;
 pub mod rand;

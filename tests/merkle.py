@@ -1,20 +1,41 @@
 #!/usr/bin/env python3
 # SPDX-License-Identifier: ISC
-"""Holds the trees and proofs of crates/ring_merkle to RFC 9162, section 2.1, written out here.
+"""Holds the trees and proofs of crates/ring_merkle, and the calls for C over it, to RFC 9162,
+section 2.1, written out here.
 
-The program over them answers the vectors of Certificate Transparency, and lines on trees of each
-size up to 300 and of sizes up to 2^64 - 1, as this reading over Python's `hashlib` does: the roots,
-the paths of both kinds, and whether a path proves what it says, also where its length, its order,
-an index, a size or a bit of a hash is another one. The last line is 'N passed, M failed'.
+The program over the crate answers the vectors of Certificate Transparency, and lines on trees of
+each size up to 300 and of sizes up to 2^64 - 1, as this reading over Python's `hashlib` does: the
+roots, the paths of both kinds, and whether a path proves what it says, also where its length, its
+order, an index, a size or a bit of a hash is another one. The C library, made of the text in
+capi/generated and called by `ctypes`, answers the same lines; and docs/MERKLE.md's example asks a
+log of the form of RFC 6962, section 4, by the Python package. The last line is
+'N passed, M failed'.
 """
 
+import base64
+import ctypes
 import hashlib
+import http.server
+import json
+import os
+import pathlib
 import random
+import re
+import shutil
+import subprocess
 import sys
+import sysconfig
+import tempfile
+import threading
+import urllib.parse
 
 sys.dont_write_bytecode = True
 import counted
-from run import differing
+from run import ROOT, differing
+
+# What a status of the C library is called in a line: YZ_OK, and YZ_UNSPECIFIED.
+VERDICTS = {0: "true", 8: "false"}
+HASH_LEN, MOST_HASHES = 32, 65
 
 # The entries, roots and paths of Certificate Transparency's merkle_verifier_test.go (Debian's
 # golang-github-google-certificate-transparency-dev); the first root is that of no entries.
@@ -179,14 +200,14 @@ def are_vectors():
         line, answer = include(leaf_hash(entries[index]), index, size, nodes, roots[size])
         wanted += [(line, "true"), (f"path {index} {listed(entries[:size])}", words(nodes))]
         if answer != "true":
-            return [(line, "the reading refuses a vector")]
+            raise ValueError(f"the reading refuses a vector: {line}")
     for first, size, names in PROOFS:
         nodes = [bytes.fromhex(NODES[name]) for name in names.split()]
         line, answer = consistent(first, roots[first], size, roots[size], nodes)
         wanted += [(line, "true"), (f"proof {first} {listed(entries[:size])}", words(nodes))]
         if answer != "true":
-            return [(line, "the reading refuses a vector")]
-    return differing(wanted)
+            raise ValueError(f"the reading refuses a vector: {line}")
+    return wanted
 
 
 def small_trees(rng):
@@ -216,7 +237,7 @@ def larger_trees(rng):
 def are_made():
     """Roots, paths and proofs of trees of each size up to 300 are those of the definitions."""
     rng = random.Random(9162)
-    return differing([*small_trees(rng), *larger_trees(rng)])
+    return [*small_trees(rng), *larger_trees(rng)]
 
 
 def altered(rng, path):
@@ -271,7 +292,7 @@ def are_altered():
         leaves = [rng.randbytes(32) for _ in range(size)]
         wanted += inclusion_lines(rng, size, leaves)
         wanted += consistency_lines(rng, size, leaves)
-    return differing(wanted)
+    return wanted
 
 
 def are_large():
@@ -287,7 +308,7 @@ def are_large():
             if root or length > 60:
                 root = root or rng.randbytes(32)
                 wanted.append(include(hashed, index, size, values[:length], root))
-    return differing(wanted)
+    return wanted
 
 
 def are_bad_lines():
@@ -298,12 +319,178 @@ def are_bad_lines():
     lines += [f"include {zeros} 0 18446744073709551616 {zeros}", f"consistent 1 {zeros} 2 0"]
     bad = "bad line"
     wanted = [mth([]).hex(), bad, bad, bad, bad, bad, "refused", "refused", bad, bad, bad, bad]
-    return differing(list(zip(lines[1:], wanted)))
+    return list(zip(lines[1:], wanted))
+
+
+# --- the C library ---
+
+
+def hash_array(hashes):
+    """Hashes as a call takes them, and their number."""
+    return b"".join(hashes), ctypes.c_size_t(len(hashes))
+
+
+def bytes_in(word):
+    return bytes.fromhex(word.replace("-", ""))
+
+
+class Library:
+    """The calls on trees of a shared library, by lines."""
+
+    def __init__(self, file):
+        self.calls = ctypes.CDLL(str(file))
+
+    def leaf(self, entry):
+        made = ctypes.create_string_buffer(HASH_LEN)
+        if self.calls.yz_merkle_leaf(entry, ctypes.c_size_t(len(entry)), made):
+            raise ValueError("a leaf is refused")
+        return made.raw
+
+    def root(self, *words):
+        made = ctypes.create_string_buffer(HASH_LEN)
+        leaves = [self.leaf(bytes_in(it)) for it in words]
+        status = self.calls.yz_merkle_root(*hash_array(leaves), made)
+        return "refused" if status else made.raw.hex()
+
+    def made(self, call, first, *words):
+        out = ctypes.create_string_buffer(MOST_HASHES * HASH_LEN)
+        leaves, count = [self.leaf(bytes_in(it)) for it in words], ctypes.c_size_t()
+        first, room = ctypes.c_size_t(int(first)), ctypes.c_size_t(MOST_HASHES)
+        if call(*hash_array(leaves), first, out, room, ctypes.byref(count)):
+            return "refused"
+        return words_of(out.raw[: count.value * HASH_LEN]) or "-"
+
+    def path(self, *words):
+        return self.made(self.calls.yz_merkle_inclusion_path, *words)
+
+    def proof(self, *words):
+        return self.made(self.calls.yz_merkle_consistency_path, *words)
+
+    def include(self, hashed, index, size, root, *values):
+        index, size = ctypes.c_uint64(int(index)), ctypes.c_uint64(int(size))
+        path = hash_array([bytes_in(it) for it in values])
+        call = self.calls.yz_merkle_verify_inclusion
+        return VERDICTS[call(bytes_in(hashed), index, size, *path, bytes_in(root))]
+
+    def consistent(self, first_size, first, second_size, second, *values):
+        sizes = ctypes.c_uint64(int(first_size)), ctypes.c_uint64(int(second_size))
+        path = hash_array([bytes_in(it) for it in values])
+        call = self.calls.yz_merkle_verify_consistency
+        return VERDICTS[call(sizes[0], bytes_in(first), sizes[1], bytes_in(second), *path)]
+
+    def differing(self, wanted):
+        """Of pairs of a line and its answer: those that the library answers otherwise."""
+        for line, want in wanted:
+            word, *others = line.split(" ")
+            answer = getattr(self, word)(*others)
+            if answer != want:
+                yield line, answer
+
+
+def words_of(hashes):
+    return words(hashes[at : at + HASH_LEN] for at in range(0, len(hashes), HASH_LEN))
+
+
+def build(room):
+    """Builds the shared library in a folder, whose path is given."""
+    environment = {name: it for name, it in os.environ.items() if not name.startswith("MAKE")}
+    command = ["make", "-s", "-C", ROOT / "capi", f"OUT={room}", "all"]
+    subprocess.run(command, check=True, stdout=subprocess.DEVNULL, env=environment)
+    return next(pathlib.Path(room).glob("libyezdopin.so.*.*"))
+
+
+def build_package(room):
+    """Builds the Python package over the library of a folder, and gives the folder it is in."""
+    made = pathlib.Path(room) / "python"
+    command = [sys.executable, "-B", ROOT / "capi/python/build_backend.py", made]
+    subprocess.run(command, check=True, env={**os.environ, "YEZDOPIN_LIB_DIR": room})
+    return made
+
+
+# --- the example of the page ---
+
+
+class Log(http.server.BaseHTTPRequestHandler):
+    """A log of certificates (RFC 6962, section 4), whose entries and hashes `server` has."""
+
+    def do_GET(self):
+        call, _, fields = self.path.rpartition("/")[2].partition("?")
+        told = {name: it[0] for name, it in urllib.parse.parse_qs(fields).items()}
+        answer = json.dumps(getattr(self, call.replace("-", "_"))(**told)).encode()
+        self.send_response(200)
+        self.end_headers()
+        self.wfile.write(answer)
+
+    def log_message(self, *_):
+        pass
+
+    def get_sth(self):
+        root = base64.b64encode(self.server.root).decode()
+        return {"tree_size": len(self.server.leaves), "sha256_root_hash": root}
+
+    def get_entries(self, start, end):
+        chosen = self.server.entries[int(start) : int(end) + 1]
+        return {"entries": [{"leaf_input": base64.b64encode(it).decode()} for it in chosen]}
+
+    def get_proof_by_hash(self, hash, tree_size):
+        leaves = self.server.leaves[: int(tree_size)]
+        index = leaves.index(base64.b64decode(hash))
+        audit = [base64.b64encode(it).decode() for it in path(index, leaves)]
+        return {"leaf_index": index, "audit_path": audit}
+
+
+def asks_a_log(package):
+    """The lines that docs/MERKLE.md's example prints of an honest log and of one whose root is
+    another, which are not those that the page tells."""
+    text = (ROOT / "docs/MERKLE.md").read_text()
+    code = re.search(r"^```python\n(.*?)^```$", text, re.M | re.S)[1]
+    server = http.server.ThreadingHTTPServer(("127.0.0.1", 0), Log)
+    server.entries = [b"entry %d" % i for i in range(1100)]
+    server.leaves = [leaf_hash(it) for it in server.entries]
+    code, count = re.subn("https://[^\"]*", f"http://127.0.0.1:{server.server_port}/log", code)
+    threading.Thread(target=server.serve_forever, daemon=True).start()
+    environment = {**os.environ, "PYTHONPATH": str(package), "no_proxy": "127.0.0.1"}
+    command = [sys.executable, "-B", "-c", code]
+    answers = []
+    for root in (mth(server.leaves), bytes(HASH_LEN)):
+        server.root = root
+        run = subprocess.run(command, env=environment, capture_output=True, text=True, timeout=60)
+        answers.append(run.stdout + run.stderr)
+    server.shutdown()
+    wanted = ["True\n", "False\n"]
+    return [] if answers == wanted and count == 1 else [(code, "".join(answers))]
+
+
+def over(case, differing_of, who):
+    """A case whose lines are answered by someone."""
+
+    def run():
+        return list(differing_of(case()))
+
+    run.__doc__ = f"{case.__doc__.strip().rstrip('.')}; {who}."
+    return run
+
+
+def example_case(room):
+    """A case with the page's example."""
+
+    def run():
+        return asks_a_log(build_package(room))
+
+    run.__doc__ = "docs/MERKLE.md's example says yes to an honest log alone, by the Python package."
+    return run
 
 
 def main():
-    cases = (are_vectors, are_made, are_altered, are_large, are_bad_lines)
-    return counted.report(*counted.run_answered([(case, "") for case in cases]))
+    cases = (are_vectors, are_made, are_altered, are_large)
+    tried = [(over(it, differing, "the crate"), "") for it in (*cases, are_bad_lines)]
+    lacking = " ".join(it for it in ("make", "cc") if not shutil.which(it))
+    headers = pathlib.Path(sysconfig.get_paths()["include"]) / "Python.h"
+    with tempfile.TemporaryDirectory() as room:
+        by_c = None if lacking else Library(build(room)).differing
+        tried += [(over(it, by_c, "the C library"), lacking) for it in cases]
+        tried.append((example_case(room), lacking or "Python.h" * (not headers.is_file())))
+        return counted.report(*counted.run_answered(tried))
 
 
 if __name__ == "__main__":

@@ -1,8 +1,9 @@
 // SPDX-License-Identifier: ISC
-//! The digests, tags and derived keys of `ring`, and the password hashes of `ring_password_hash`,
-//! for callers in C: `capi/include/yezdopin.h` declares each call, but for those whose names end in
-//! `_wide`. These promise what the calls of the shorter names do, and are for `capi/dispatch.c`
-//! alone: in the build for x86-64-v3 they are the faster ones.
+//! The digests, tags and derived keys of `ring`, the password hashes of `ring_password_hash` and
+//! the Merkle trees of `ring_merkle`, for callers in C: `capi/include/yezdopin.h` declares each
+//! call, but for those whose names end in `_wide`. These promise what the calls of the shorter
+//! names do, and are for `capi/dispatch.c` alone: in the build for x86-64-v3 they are the faster
+//! ones.
 //!
 //! A call that can be refused returns a number of [`status`]: 0 on success, and else the least one
 //! whose cause holds. On failure nothing is written. The contracts also say which status a call

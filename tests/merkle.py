@@ -7,9 +7,9 @@ The program over the crate answers the vectors of Certificate Transparency, and 
 each size up to 300 and of sizes up to 2^64 - 1, as this reading over Python's `hashlib` does: the
 roots, the paths of both kinds, and whether a path proves what it says, also where its length, its
 order, an index, a size or a bit of a hash is another one. The C library, made of the text in
-capi/generated and called by `ctypes`, answers the same lines; and docs/MERKLE.md's example asks a
-log of the form of RFC 6962, section 4, by the Python package. The last line is
-'N passed, M failed'.
+capi/generated and called by `ctypes`, answers the same lines. Of docs/MERKLE.md the example in C
+accepts the entries of Certificate Transparency, and that in Python asks a log of the form of RFC
+6962, section 4, by the package. The last line is 'N passed, M failed'.
 """
 
 import base64
@@ -36,6 +36,7 @@ from run import ROOT, differing
 # What a status of the C library is called in a line: YZ_OK, and YZ_UNSPECIFIED.
 VERDICTS = {0: "true", 8: "false"}
 HASH_LEN, MOST_HASHES = 32, 65
+PAGE = ROOT / "docs/MERKLE.md"
 
 # The entries, roots and paths of Certificate Transparency's merkle_verifier_test.go (Debian's
 # golang-github-google-certificate-transparency-dev); the first root is that of no entries.
@@ -407,7 +408,7 @@ def build_package(room):
     return made
 
 
-# --- the example of the page ---
+# --- the examples of the page ---
 
 
 class Log(http.server.BaseHTTPRequestHandler):
@@ -439,11 +440,34 @@ class Log(http.server.BaseHTTPRequestHandler):
         return {"leaf_index": index, "audit_path": audit}
 
 
+def example(mark):
+    """The page's example in a language."""
+    return re.search(rf"^```{mark}\n(.*?)^```$", PAGE.read_text(), re.M | re.S)[1]
+
+
+def knows_entries(room):
+    """The entries of Certificate Transparency whose paths the page's example in C refuses, and the
+    other ones for which it accepts them."""
+    made, flags = f"{room}/is_logged.so", ["-shared", "-fPIC", f"-I{ROOT}/capi/include"]
+    command = ["cc", *flags, "-x", "c", "-", "-x", "none", f"{room}/libyezdopin.a", "-o", made]
+    subprocess.run(command, input=example("c"), text=True, check=True)
+    is_logged = ctypes.CDLL(made).is_logged
+    is_logged.restype = ctypes.c_bool
+    for index, size, names in PATHS:
+        index, size = ctypes.c_uint64(index), ctypes.c_uint64(size)
+        values = hash_array([bytes.fromhex(NODES[name]) for name in names.split()])
+        given = index, size, *values, bytes.fromhex(ROOTS[size.value])
+        entry = bytes.fromhex(ENTRIES[index.value])
+        for said in (entry, entry + b"\0"):
+            answer = is_logged(said, ctypes.c_size_t(len(said)), *given)
+            if answer != (said == entry):
+                yield f"{said.hex()} at {index.value} of {size.value}", str(answer)
+
+
 def asks_a_log(package):
     """The lines that docs/MERKLE.md's example prints of an honest log and of one whose root is
     another, which are not those that the page tells."""
-    text = (ROOT / "docs/MERKLE.md").read_text()
-    code = re.search(r"^```python\n(.*?)^```$", text, re.M | re.S)[1]
+    code = example("python")
     server = http.server.ThreadingHTTPServer(("127.0.0.1", 0), Log)
     server.entries = [b"entry %d" % i for i in range(1100)]
     server.leaves = [leaf_hash(it) for it in server.entries]
@@ -471,14 +495,18 @@ def over(case, differing_of, who):
     return run
 
 
-def example_case(room):
-    """A case with the page's example."""
+def example_cases(room):
+    """The cases with the page's examples."""
 
-    def run():
+    def in_c():
+        """docs/MERKLE.md's example in C knows the entries of Certificate Transparency."""
+        return list(knows_entries(room))
+
+    def in_python():
+        """docs/MERKLE.md's example in Python says yes to an honest log alone."""
         return asks_a_log(build_package(room))
 
-    run.__doc__ = "docs/MERKLE.md's example says yes to an honest log alone, by the Python package."
-    return run
+    return in_c, in_python
 
 
 def main():
@@ -489,7 +517,8 @@ def main():
     with tempfile.TemporaryDirectory() as room:
         by_c = None if lacking else Library(build(room)).differing
         tried += [(over(it, by_c, "the C library"), lacking) for it in cases]
-        tried.append((example_case(room), lacking or "Python.h" * (not headers.is_file())))
+        in_c, in_python = example_cases(room)
+        tried += [(in_c, lacking), (in_python, lacking or "Python.h" * (not headers.is_file()))]
         return counted.report(*counted.run_answered(tried))
 
 

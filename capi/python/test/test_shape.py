@@ -19,7 +19,7 @@ import warnings
 
 import yezdopin
 from shared import NAMES, SIGNING, Foreign
-from yezdopin import _native
+from yezdopin import _native, merkle
 from yezdopin import hmac as tags
 
 PYPROJECT = pathlib.Path(__file__).resolve().parents[1] / "pyproject.toml"
@@ -37,10 +37,11 @@ class Names(unittest.TestCase):
 
     def test_modules(self):
         """Their modules come with the package, and hmac's has the names of `hmac`."""
-        code = "import yezdopin; print(yezdopin.hmac.__name__, yezdopin.password_hash.__name__)"
-        command = [sys.executable, "-c", code]
+        modules = ["yezdopin.hmac", "yezdopin.merkle", "yezdopin.password_hash"]
+        told = ", ".join(f"{it}.__name__" for it in modules)
+        command = [sys.executable, "-c", f"import yezdopin; print({told})"]
         done = subprocess.run(command, capture_output=True, text=True, check=True)
-        self.assertEqual(done.stdout.split(), ["yezdopin.hmac", "yezdopin.password_hash"])
+        self.assertEqual(done.stdout.split(), modules)
         theirs = [it for it in vars(hmac) if not it.startswith("_")]
         self.assertIn("trans_5C", theirs)
         self.assertEqual([it for it in theirs if it not in tags.__all__], [])
@@ -87,6 +88,11 @@ class Names(unittest.TestCase):
             if callable(it) and it not in (yezdopin.Digest, yezdopin.Error):
                 self.assertTrue(it.__doc__, name)
                 inspect.signature(it)
+        for name in merkle.__all__:
+            ours, native = getattr(merkle, name), getattr(_native, f"merkle_{name}")
+            self.assertTrue(ours.__doc__ and native.__doc__, name)
+            taken = inspect.signature(ours).parameters, inspect.signature(native).parameters
+            self.assertEqual(list(taken[0]), list(taken[1]))
 
 
 class Arguments(unittest.TestCase):

@@ -36,6 +36,17 @@ def keeps(password: bytes) -> bool:
     return hashes.verify(kept, password, max_iterations=1000) and kept != again and is_old
 
 
+def grows(entries: list[bytes]) -> bool:
+    """The proofs that a log's last entry is in it, and that the log only grew by it."""
+    merkle = yezdopin.merkle
+    leaves = [merkle.leaf(memoryview(it)) for it in entries]
+    size, root, first = len(leaves), merkle.root(leaves), merkle.root(iter(leaves[:-1]))
+    path: list[bytes] = merkle.inclusion_path(leaves, size - 1)
+    proof: list[bytes] = merkle.consistency_path(tuple(leaves), size - 1)
+    is_in: bool = merkle.verify_inclusion(leaves[-1], size - 1, size, iter(path), root)
+    return is_in and merkle.verify_consistency(size - 1, first, size, bytearray(root), proof)
+
+
 def names() -> set[str]:
     """The names of `hashlib` and `hmac` that are no calls."""
     pads: bytes = yezdopin.hmac.trans_36 + yezdopin.hmac.trans_5C

@@ -1,15 +1,14 @@
 // SPDX-License-Identifier: ISC
 //! Merkle trees of transparency logs (RFC 9162, section 2.1).
 
-ghost use Rattle.std.specs.Prelude.{◌≡◌, ◌≢◌, ◌↔◌, ◌⊎◌, ◌+◌, ◌<◌, ◌++◌, ◌&&◌, [], ℕ, List, map};
-ghost use Rattle.std.specs.Prelude.{drop, get_or, length, nat_lt, not, take, false};
+ghost use Rattle.std.specs.Prelude.{◌≡◌, ◌≢◌, ◌↔◌, ◌+◌, ◌++◌, ◌&&◌, drop, length, nat_lt, not};
 ghost use Rattle.ring.specs.Limits.{fits};
 ghost use Rattle.ring.specs.declared.digest.algorithm.TheConstants.{SHA256};
-ghost use Rattle.ring_merkle.specs.Consistency.{IsConsistent, consistency_inputs, proof_of};
-ghost use Rattle.ring_merkle.specs.Consistency.{subproof_of, values_of};
-ghost use Rattle.ring_merkle.specs.Inclusion.{IsIncluded, inclusion_inputs, path_of};
-ghost use Rattle.ring_merkle.specs.Tree.{leaf_hash, mth, root_of};
-ghost use Rattle.ring_merkle.specs.Walk.{IsCollision};
+ghost use Rattle.ring_merkle.specs.Consistency.{IsCompleteConsistency, IsConsistent};
+ghost use Rattle.ring_merkle.specs.Consistency.{IsSoundConsistency, proof_of};
+ghost use Rattle.ring_merkle.specs.Inclusion.{IsCompleteInclusion, IsIncluded, IsSoundInclusion};
+ghost use Rattle.ring_merkle.specs.Inclusion.{path_of};
+ghost use Rattle.ring_merkle.specs.Tree.{leaf_hash, root_of};
 ghost use Rattle.ring_c.specs.Merkle.{path_causes};
 ghost use Rattle.ring_c.specs.Status.{YZ_OK, YZ_UNSPECIFIED, first_of, no_cause};
 
@@ -59,15 +58,9 @@ pub extern "C" fn yz_merkle_verify_inclusion(
 ) -> i32
     ensures exact { result ≡ YZ_OK ↔ IsIncluded hash.now index size path.now root.now }
     ensures status { result ≢ YZ_OK → result ≡ YZ_UNSPECIFIED }
-    ensures sound { (ds : List (List ℕ)) → length ds ≡ size → root.now ≡ mth ds → result ≡ YZ_OK
-        → ((hash.now ≡ leaf_hash (get_or ds index []))
-        × (path.now ≡ path_of index (map leaf_hash ds)))
-        ⊎ IsCollision (inclusion_inputs hash.now index size path.now)
-        (inclusion_inputs (leaf_hash (get_or ds index [])) index size
-        (path_of index (map leaf_hash ds))) }
-    ensures complete { (leaves : List (List ℕ)) → length leaves ≡ size
-        → root.now ≡ root_of leaves → index < size → hash.now ≡ get_or leaves index []
-        → path.now ≡ path_of index leaves → result ≡ YZ_OK }
+    ensures sound { IsSoundInclusion (result ≡ YZ_OK) hash.now index size path.now root.now }
+    ensures complete { IsCompleteInclusion
+        (result ≡ YZ_OK) hash.now index size path.now root.now }
 {
     status_of_answer(verify_inclusion(hash, index, size, path, root))
 }
@@ -90,16 +83,10 @@ pub extern "C" fn yz_merkle_verify_consistency(
     ensures exact { result ≡ YZ_OK
         ↔ IsConsistent first_size second_size path.now first.now second.now }
     ensures status { result ≢ YZ_OK → result ≡ YZ_UNSPECIFIED }
-    ensures sound { (ds : List (List ℕ)) → length ds ≡ second_size → second.now ≡ mth ds
-        → result ≡ YZ_OK → (first.now ≡ mth (take first_size ds))
-        ⊎ IsCollision
-        (consistency_inputs first_size second_size (values_of first_size first.now path.now))
-        (consistency_inputs first_size second_size
-        (subproof_of first_size (map leaf_hash ds) false)) }
-    ensures complete { (leaves : List (List ℕ)) → length leaves ≡ second_size
-        → second.now ≡ root_of leaves → 0 < first_size → first_size < second_size
-        → first.now ≡ root_of (take first_size leaves) → path.now ≡ proof_of first_size leaves
-        → result ≡ YZ_OK }
+    ensures sound { IsSoundConsistency
+        (result ≡ YZ_OK) first_size second_size path.now first.now second.now }
+    ensures complete { IsCompleteConsistency
+        (result ≡ YZ_OK) first_size second_size path.now first.now second.now }
 {
     status_of_answer(verify_consistency(first_size, first, second_size, second, path))
 }

@@ -341,7 +341,10 @@ yz_status yz_merkle_verify_inclusion(const yz_merkle_hash *hash, uint64_t index,
 /* Whether a path proves that the tree of `first_size` leaves with the root `first` is the beginning
  * of the tree of `second_size` leaves with the root `second` (2.1.4.2). Answers YZ_OK exactly where
  * it does, else YZ_UNSPECIFIED, also where `first_size` is 0 or not below `second_size`: there is
- * no proof for these, and a caller compares two roots of one size. */
+ * no proof for these, and a caller compares two roots of one size.
+ *
+ * Where `second` is the root of a list of `second_size` entries, YZ_OK means that `first` is that
+ * of its first `first_size`, or that two such inputs are at hand. */
 yz_status yz_merkle_verify_consistency(uint64_t first_size, const yz_merkle_hash *first,
                                        uint64_t second_size, const yz_merkle_hash *second,
                                        const yz_merkle_hash *path,

@@ -30,14 +30,18 @@ define need_kit
     'proves and builds crates/ring_c' >&2; exit 1; }
 endef
 
-# $(call build,FLAGS,FILE): the crate by some flags. `rt lib` proves before it builds. It is asked
+# $(call build,FLAGS,FILE,PROGRAM FLAG..): the crate by some flags, where kit.sh has the kit's clang
+# call PROGRAM (or '') on the module and take FLAGs. `rt lib` proves before it builds. It is asked
 # only where a source is newer. It always writes the same file, which then gets a name of its own.
+# links_of FILE is the folder of kit.sh, which keeps the module of the build.
+links_of = $(WHOLE_OUT)/kit/$(basename $(notdir $(1)))
 define build
 	$(need_kit)
-	mkdir -p $(OUT)
+	mkdir -p $(KIT_OUT)
+	generated/kit.sh $(RT) '$(call links_of,$(2))' $(3)
 	@echo 'Proving and building ring_c: some ten minutes the first time. $(OUT)/rt.log has what rt' \
 	    'says.'
-	../tools/progress.py $(OUT)/rt.log ring_c $(RT) lib $(1) $(RT_FLAGS) \
+	../tools/progress.py $(OUT)/rt.log ring_c '$(call links_of,$(2))/bin/rt' lib $(1) $(RT_FLAGS) \
 	    || { cat $(OUT)/rt.log; exit 1; }
 	mv $(CRATE)/out/libring_c.a $(2)
 	touch $(2)
@@ -45,8 +49,8 @@ endef
 
 ifneq ($(origin BUILT),command line)
 ifneq ($(ARCH),x86_64)
-$(BUILT): $(SOURCES) ../crates.txt
-	$(call build,--target=$(ARCH)-unknown-linux-gnu,$@)
+$(BUILT): $(SOURCES) ../crates.txt generated/kit.sh
+	$(call build,--target=$(ARCH)-unknown-linux-gnu,$@,'')
 
 KIT_PARTS = $(BUILT)
 $(KIT_OUT)/yezdopin_$(ARCH).calls: $(KIT_OUT)/names
@@ -54,9 +58,9 @@ $(KIT_OUT)/yezdopin_$(ARCH).calls: $(KIT_OUT)/names
 $(KIT_OUT)/yezdopin_$(ARCH).o: $(BUILT) $(KIT_OUT)/yezdopin_$(ARCH).calls
 	$(take_calls)
 else
-$(BUILT) $(BUILT_V3) &: $(SOURCES) ../crates.txt
-	$(call build,--cpu=x86-64-v3,$(BUILT_V3))
-	$(call build,,$(BUILT))
+$(BUILT) $(BUILT_V3) &: $(SOURCES) ../crates.txt generated/kit.sh
+	$(call build,--cpu=x86-64-v3,$(BUILT_V3),'')
+	$(call build,,$(BUILT),'')
 
 # The builds, whose calls get the names that dispatch.c calls them by: those that it asks for where
 # one build is forced. That for x86-64-v3 keeps no other name.

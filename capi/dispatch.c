@@ -5,31 +5,23 @@
  * Where the processor has the latter, the calls below go to the build that the table BUILD names.
  * All other calls are those of the build for x86-64-v2: they run no block, but for that of password
  * hashes, whose text alone says by which algorithm. Contexts and keys have
- * the same bytes in both, so that one build goes on where the other stopped. */
-#include "yezdopin.h"
-#ifndef bit_AVX2 /* test/dispatch.c has included it, which gcc before 11 can't do twice */
-#include <cpuid.h>
-#endif
-#include <stdatomic.h>
+ * the same bytes in both, so that one build goes on where the other stopped.
+ *
+ * The build for x86-64-v2 takes the SHA instructions where features.c finds them. They have SSE's
+ * encodings alone, beside which code with AVX is slow on some processors. */
+#include "features.h"
 
-/* What calls do. The table has a row for each. */
+/* What calls do. The tables have a row for each. */
 enum work {
-    DIGEST,        /* of one message, whole or in pieces */
+    DIGEST,        /* of one message, whole or in pieces, or of few messages */
     DIGEST_EACH,   /* of several messages, side by side */
     HMAC,          /* of one message, whole or in pieces, and keys */
     HKDF,          /* one step or both */
     PBKDF2_ROUND,  /* no more output than of one round */
+    PBKDF2_FEW,    /* of more, but of fewer rounds than run side by side */
     PBKDF2_ROUNDS, /* several rounds, side by side */
     WORKS,
 };
-
-#ifdef FORCED
-/* In an archive for tests one build answers all calls on every processor: FORCED is 2 or 3. */
-static bool takes_v3(enum work work, uint32_t algorithm) {
-    (void)work, (void)algorithm;
-    return FORCED == 3;
-}
-#else
 
 /* The build that answers on a processor with x86-64-v3, by the number of the algorithm: that which
  * `make bench` finds the faster. README.md has this table too, and `make builds` compares both. */
@@ -41,47 +33,42 @@ static const uint8_t BUILD[WORKS][ALGORITHMS] = {
     [HMAC]          = {V2, V3,   V3,     V3,     V3,     V3},
     [HKDF]          = {V2, V3,   V3,     V3,     V3,     V3},
     [PBKDF2_ROUND]  = {V2, V3,   V2,     V3,     V3,     V3},
+    [PBKDF2_FEW]    = {V2, V3,   V3,     V3,     V3,     V3},
     [PBKDF2_ROUNDS] = {V2, V3,   V3,     V3,     V3,     V3},
 };
 
-/* Whether the system saves the registers of 256 bits. Only a processor with OSXSAVE can tell. */
-static bool saves_vectors(void) {
-    const unsigned wanted = 1 << 1 | 1 << 2; /* the lower halves and the upper ones */
-    unsigned low, high;
-    __asm__ volatile("xgetbv" : "=a"(low), "=d"(high) : "c"(0));
-    return (low & wanted) == wanted;
-}
+/* Which work of SHA-1 and SHA-256 goes to the build for x86-64-v2 where the processor has SHA
+ * instructions. That the lanes of AVX2 are no slower for several at once is llvm-mca's estimate:
+ * no processor with these instructions was measured. */
+static const bool BY_INSTRUCTIONS[WORKS] = {
+    [DIGEST] = true, [HMAC] = true, [HKDF] = true, [PBKDF2_ROUND] = true, [PBKDF2_FEW] = true,
+    [DIGEST_EACH] = false, [PBKDF2_ROUNDS] = false,
+};
 
-/* Whether the processor and the system have x86-64-v3, as the System V ABI lists it. */
-static bool has_v3(void) {
-    const unsigned of_1 = bit_OSXSAVE | bit_AVX | bit_F16C | bit_FMA | bit_MOVBE;
-    const unsigned of_7 = bit_AVX2 | bit_BMI | bit_BMI2;
-    unsigned a, b, c, d;
-    if (!__get_cpuid(1, &a, &b, &c, &d) || (c & of_1) != of_1 || !saves_vectors()) return false;
-    if (!__get_cpuid_count(7, 0, &a, &b, &c, &d) || (b & of_7) != of_7) return false;
-    return __get_cpuid(0x80000001, &a, &b, &c, &d) && (c & bit_LZCNT) != 0;
-}
+/* The fewest messages or rounds of SHA-1 and SHA-256 that run side by side. */
+enum { FEWEST = 4 };
 
-/* V3 where the processor has it, else V2, once it was asked. It is the one byte that the library
- * writes. */
-static _Atomic uint8_t known;
-
-/* Whether the build for x86-64-v3 answers. The first call for which the table names it asks the
- * processor, which takes microseconds on a virtual machine, where each `cpuid` traps, and so more
- * than a short call. Threads that ask at once all write the same. */
+/* Whether the build for x86-64-v3 answers. */
 static bool takes_v3(enum work work, uint32_t algorithm) {
-    if (algorithm >= ALGORITHMS || BUILD[work][algorithm] != V3) return false;
-    uint8_t build = atomic_load_explicit(&known, memory_order_relaxed);
-    if (build == 0) {
-        build = has_v3() ? V3 : V2;
-        atomic_store_explicit(&known, build, memory_order_relaxed);
-    }
-    return build == V3;
-}
+#ifdef FORCED
+    /* In an archive for tests one build answers all calls on every processor: FORCED is 2 or 3. */
+    (void)work, (void)algorithm, (void)BUILD, (void)BY_INSTRUCTIONS;
+    return FORCED == V3;
+#else
+    if (algorithm >= ALGORITHMS) return false;
+    const uint8_t features = known_features();
+    if ((features & YZ_FEATURE_SHA) != 0 && algorithm <= YZ_SHA256 && BY_INSTRUCTIONS[work])
+        return false;
+    return BUILD[work][algorithm] == V3 && (features & YZ_FEATURE_V3) != 0;
 #endif
+}
+
+static enum work each_work(size_t count) { return count < FEWEST ? DIGEST : DIGEST_EACH; }
 
 static enum work pbkdf2_work(uint32_t algorithm, size_t out_len) {
-    return out_len <= yz_output_len(algorithm) ? PBKDF2_ROUND : PBKDF2_ROUNDS;
+    const size_t round = yz_output_len(algorithm);
+    if (out_len <= round) return PBKDF2_ROUND;
+    return out_len <= (FEWEST - 1) * round ? PBKDF2_FEW : PBKDF2_ROUNDS;
 }
 
 /* CALL(NAME, WIDE, WORK, ALGORITHM, (PARAMETERS), (ARGUMENTS)) defines a call that hands its
@@ -101,7 +88,7 @@ static enum work pbkdf2_work(uint32_t algorithm, size_t out_len) {
 
 CALL(yz_digest, , DIGEST, algorithm,
      (uint32_t algorithm, IN(message), OUT(out)), (algorithm, BYTES(message), BYTES(out)))
-CALL(yz_digest_each, _wide, DIGEST_EACH, algorithm,
+CALL(yz_digest_each, _wide, each_work(count), algorithm,
      (uint32_t algorithm, const yz_message *messages, size_t count, OUT(out)),
      (algorithm, messages, count, BYTES(out)))
 CALL(yz_digest_update, , DIGEST, context->algorithm,

@@ -84,10 +84,11 @@ $(KIT_OUT)/yezdopin_x86_64_v2.o $(KIT_OUT)/yezdopin_x86_64_v3.o: \
 	$(take_calls)
 endif
 
-# The crate's calls: those of the header without what status.c has.
-$(KIT_OUT)/names: $(OUT)/status.o $(OUT)/names
+# The crate's calls: those of the header without what features.c and status.c have.
+$(KIT_OUT)/names: $(OUT)/features.o $(OUT)/status.o $(OUT)/names
 	mkdir -p $(@D)
-	$(NM) -g --defined-only $< | awk '{ print $$3 }' | grep -vxFf - $(OUT)/names >$@
+	$(NM) -g --defined-only $(filter %.o,$^) | awk 'NF == 3 { print $$3 }' \
+	    | grep -vxFf - $(OUT)/names >$@
 
 # $(take_calls): one object of what some calls of a build reach.
 define take_calls
@@ -95,8 +96,8 @@ define take_calls
 endef
 
 # The library as the kit's own builds make it.
-$(KIT_ARCHIVE): $(if $(BUILT_V3),$(OUT)/dispatch.o) $(OUT)/status.o $(KIT_PARTS) $(KIT_OUT)/names \
-    $(OUT)/names
+$(KIT_ARCHIVE): $(if $(BUILT_V3),$(OUT)/dispatch.o) $(OUT)/features.o $(OUT)/status.o $(KIT_PARTS) \
+    $(KIT_OUT)/names $(OUT)/names
 	mkdir -p $(@D)
 	$(NM) -g --defined-only $(BUILT) | awk '$$2 == "T" && $$3 !~ /_wide$$/ { print $$3 }' | sort \
 	    | diff $(KIT_OUT)/names -
@@ -105,7 +106,7 @@ $(KIT_ARCHIVE): $(if $(BUILT_V3),$(OUT)/dispatch.o) $(OUT)/status.o $(KIT_PARTS)
 ifeq ($(ARCH),x86_64)
 # The same with one build for all processors, and what speed/run times of these.
 $(KIT_OUT)/v2/libyezdopin.a $(KIT_OUT)/v3/libyezdopin.a: $(KIT_OUT)/%/libyezdopin.a: \
-    $(OUT)/%/dispatch.o $(OUT)/status.o $(KIT_PARTS) $(OUT)/names
+    $(OUT)/%/dispatch.o $(OUT)/%/features.o $(OUT)/status.o $(KIT_PARTS) $(OUT)/names
 	mkdir -p $(@D)
 	$(call archive,$(filter %.o,$^) --whole-archive $(filter %.a,$^))
 KIT_TIMED = $(KIT_ARCHIVE:.a=.so) $(KIT_OUT)/v2/libyezdopin.so $(KIT_OUT)/v3/libyezdopin.so

@@ -7,9 +7,11 @@
  * share/doc/yezdopin/README.md, says what is proved and what is not. All lengths are in bytes.
  *
  * Each call returns whatever it is given. Calls allocate nothing, set no errno, and keep no state
- * but a byte that remembers what the processor has: on one with x86-64-v3 (AVX2) those that gain by
- * it run code for it. They may run in any threads at once: a key may be shared, a context may not.
- * The library has no source of random bytes: see getrandom(2).
+ * but two bytes that remember what the processor has: on one with x86-64-v3 (AVX2) or with SHA
+ * instructions those that gain by it run code for it, unless the environment has
+ * YEZDOPIN_INSTRUCTIONS=0 when the library is loaded, which leaves out the SHA instructions. They
+ * may run in any threads at once: a key may be shared, a context may not. The library has no source
+ * of random bytes: see getrandom(2).
  *
  * The caller must ensure, unchecked, that
  * - a pointer with a length behind it is that of so many bytes, which may be read, or written where
@@ -141,6 +143,13 @@ static inline bool yz_supported(void) { return true; }
 /* The version that the library was built as: a caller compares its upper 16 bits with those of
  * YZ_VERSION where it loads the library by itself. */
 uint32_t yz_version(void);
+
+/* What the library runs here beside what each such processor has: a sum of these numbers. */
+enum {
+    YZ_FEATURE_V3 = 1, /* code for x86-64-v3 (AVX2) */
+    YZ_FEATURE_SHA = 2, /* SHA instructions, for SHA-1 and SHA-256 */
+};
+uint32_t yz_features(void);
 
 /* The text of a status, or "unknown status" for any other number. It is static: neither change it
  * nor free it. */

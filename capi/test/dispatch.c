@@ -1,10 +1,11 @@
 /* SPDX-License-Identifier: ISC */
-/* Which build dispatch.c chooses, also on processors that lack a part of x86-64-v3, and that it
- * hands on each argument and the status. The calls of the builds are stand-ins here. With an
- * argument it prints which build gets which call, as README.md has it. */
+/* Which build dispatch.c chooses, also on processors that lack a part of x86-64-v3 or the SHA
+ * instructions, and that it hands on each argument and the status. The calls of the builds are
+ * stand-ins here. With an argument it prints which build gets which call, as README.md has it. */
 #include "yezdopin.h"
 #include <cpuid.h>
 #include <stdio.h>
+#include <stdlib.h>
 #include <string.h>
 
 #define MOST_ARGUMENTS 9
@@ -19,12 +20,15 @@ static void is(const char *what, long got, long want) {
 
 #ifdef FORCED
 #include "../dispatch.c"
+#include "../features.c"
 #else
 
-/* Bits of a leaf that the processor is told to lack, and how often it was asked. */
+/* Bits of a leaf that the processor is told to lack, whether it is told to have the SHA
+ * instructions, and how often it was asked. */
 static struct {
     unsigned leaf, bits;
 } lost;
+static bool gets_sha;
 static int asked;
 
 static int get(unsigned leaf, unsigned *a, unsigned *b, unsigned *c, unsigned *d) {
@@ -37,6 +41,7 @@ static int get(unsigned leaf, unsigned *a, unsigned *b, unsigned *c, unsigned *d
 static int get_count(unsigned leaf, unsigned part, unsigned *a, unsigned *b, unsigned *c,
                      unsigned *d) {
     int is_known = __get_cpuid_count(leaf, part, a, b, c, d);
+    if (leaf == 7 && gets_sha) *b |= bit_SHA;
     if (leaf == lost.leaf) *b &= ~lost.bits, *c &= ~lost.bits;
     return is_known;
 }
@@ -44,6 +49,7 @@ static int get_count(unsigned leaf, unsigned part, unsigned *a, unsigned *b, uns
 #define __get_cpuid get
 #define __get_cpuid_count get_count
 #include "../dispatch.c"
+#include "../features.c"
 #endif
 
 size_t yz_output_len(uint32_t algorithm) {
@@ -131,7 +137,7 @@ static const struct {
     const char *name, *arguments;
 } CALLS[] = {
     {"yz_digest", "nplpl"}, {"yz_digest_update", "cpl"}, {"yz_digest_final", "cpl"},
-    {"yz_digest_each", "nmlpl"},
+    {"yz_digest_each", "nmopl"},
     {"yz_hmac_sign", "nplplpl"}, {"yz_hmac_verify", "nplplpl"}, {"yz_hmac_key_init", "nplw"},
     {"yz_hmac_key_sign", "kplpl"}, {"yz_hmac_key_verify", "kplpl"}, {"yz_hmac_update", "tpl"},
     {"yz_hmac_final", "tpl"},
@@ -142,7 +148,7 @@ static const struct {
     {"yz_merkle_verify_consistency", "lhlhhl"}, {"yz_merkle_root", "hlh"},
     {"yz_merkle_inclusion_path", "hllhls"}, {"yz_merkle_consistency_path", "hllhls"},
 };
-enum { NUM_CALLS = sizeof CALLS / sizeof *CALLS, PBKDF2 = 15, TREES = 17 };
+enum { NUM_CALLS = sizeof CALLS / sizeof *CALLS, EACH = 3, PBKDF2 = 15, TREES = 17 };
 
 static yz_digest_context digest;
 static yz_hmac_context tag;
@@ -154,14 +160,15 @@ static size_t written_size;
 #define AT(i) (bytes + (i))
 #define HASH(i) (hashes + (i))
 
-/* A call, in which a length is the number of its place. */
+/* A call, in which a length is the number of its place, but for `out_len`: PBKDF2's, and how many
+ * messages there are. */
 static yz_status call(int which, uint32_t n, size_t out_len) {
     digest.algorithm = tag.inner.algorithm = key.algorithm = n;
     switch (which) {
     case 0: return yz_digest(n, AT(1), 2, AT(3), 4);
     case 1: return yz_digest_update(&digest, AT(1), 2);
     case 2: return yz_digest_final(&digest, AT(1), 2);
-    case 3: return yz_digest_each(n, messages, 2, AT(3), 4);
+    case EACH: return yz_digest_each(n, messages, out_len, AT(3), 4);
     case 4: return yz_hmac_sign(n, AT(1), 2, AT(3), 4, AT(5), 6);
     case 5: return yz_hmac_verify(n, AT(1), 2, AT(3), 4, AT(5), 6);
     case 6: return yz_hmac_key_init(n, AT(1), 2, &written);
@@ -228,24 +235,34 @@ static void print_table(void) {}
 static const struct {
     int first, last;
     const char *work;
-    size_t more; /* output of PBKDF2 than of one round */
-} ROWS[] = {{0, 2, "", 0}, {3, 3, "", 0}, {4, 10, "", 0}, {11, 14, "", 0},
-            {15, 16, ": one round of output", 0}, {15, 16, ": several rounds of output", 1}};
+    size_t rounds; /* of output of PBKDF2, or messages */
+} ROWS[] = {{0, 2, "", 1}, {EACH, EACH, ": up to 3 messages", 3}, {EACH, EACH, ": more", 4},
+            {4, 10, "", 1}, {11, 14, "", 1}, {PBKDF2, PBKDF2 + 1, ": one round of output", 1},
+            {PBKDF2, PBKDF2 + 1, ": 2 or 3 rounds", 3}, {PBKDF2, PBKDF2 + 1, ": more", 4}};
+
+/* Which code the calls of a row get: SHA instructions or a build. */
+static void print_cell(size_t row, uint32_t n) {
+    size_t out_len = ROWS[row].rounds * (ROWS[row].first == EACH ? 1 : yz_output_len(n));
+    int builds[2];
+    for (int has_sha = 0; has_sha < 2; has_sha++) {
+        yz_known = (uint8_t)(ASKED | YZ_FEATURE_V3 | (has_sha ? YZ_FEATURE_SHA : 0));
+        builds[has_sha] = build_of(ROWS[row].first, n, out_len);
+        for (int which = ROWS[row].first; which <= ROWS[row].last; which++)
+            is(CALLS[which].name, build_of(which, n, out_len), builds[has_sha]);
+    }
+    bool takes_sha = n <= YZ_SHA256 && builds[1] == 2;
+    if (!takes_sha) is("the build with SHA instructions", builds[1], builds[0]);
+    printf(" %sv%d |", takes_sha ? "SHA, " : "", builds[0]);
+}
 
 static void print_table(void) {
-    known = V3;
     printf("| Calls | SHA-1 | SHA-256 | SHA-384 | SHA-512 | SHA-512/256 |\n");
     printf("|---|---|---|---|---|---|\n");
     for (size_t row = 0; row < sizeof ROWS / sizeof *ROWS; row++) {
         for (int which = ROWS[row].first; which <= ROWS[row].last; which++)
             printf("%s `%s`", which == ROWS[row].first ? "|" : ",", CALLS[which].name);
         printf("%s |", ROWS[row].work);
-        for (uint32_t n = YZ_SHA1; n <= YZ_SHA512_256; n++) {
-            int first = build_of(ROWS[row].first, n, yz_output_len(n) + ROWS[row].more);
-            for (int which = ROWS[row].first; which <= ROWS[row].last; which++)
-                is(CALLS[which].name, build_of(which, n, yz_output_len(n) + ROWS[row].more), first);
-            printf(" v%d |", first);
-        }
+        for (uint32_t n = YZ_SHA1; n <= YZ_SHA512_256; n++) print_cell(row, n);
         printf("\n");
     }
 }
@@ -269,51 +286,81 @@ static void each_loss(void) {
         lost.leaf = BITS[i][0], lost.bits = BITS[i][1];
         is("has_v3 of less", has_v3(), false);
     }
+    gets_sha = true;
+    is("has_sha", has_sha(), true);
+    static const unsigned OF_SHA[][2] = {{1, bit_SSSE3}, {1, bit_SSE4_1}, {7, bit_SHA}};
+    for (size_t i = 0; i < sizeof OF_SHA / sizeof *OF_SHA; i++) {
+        lost.leaf = OF_SHA[i][0], lost.bits = OF_SHA[i][1];
+        is("has_sha of less", has_sha(), false);
+    }
     lost.bits = 0;
+    gets_sha = false;
 }
 
-/* Each call under each algorithm, and under numbers of none, at lengths around one round: of a
- * build that is known, nobody asks again, and a processor without x86-64-v3 gets no call of it. */
+/* Which build a call is wanted to get. */
+static int wanted_of(int which, uint32_t n, size_t out_len, bool has_v3, bool has_sha) {
+    if (which >= TREES) return has_v3 && !has_sha ? BUILD[DIGEST][YZ_SHA256] : 2;
+    if (!has_v3 || n < YZ_SHA1 || n > YZ_SHA512_256) return 2;
+    size_t round = which == EACH ? 1 : yz_output_len(n);
+    bool is_alone = (which != EACH && which < PBKDF2) || out_len <= 3 * round;
+    if (has_sha && n <= YZ_SHA256 && is_alone) return 2;
+    if (which >= PBKDF2 && out_len <= round) return BUILD[PBKDF2_ROUND][n];
+    return 3;
+}
+
+/* Each call under each algorithm, and under numbers of none, at lengths around some rounds: of what
+ * is known, nobody asks again, and a processor without x86-64-v3 gets no call of it. With SHA
+ * instructions the build for x86-64-v2 gets all calls of SHA-1 and SHA-256 that run nothing side by
+ * side. */
 static void each_call(void) {
-    bool is_used[4] = {false};
     asked = 0;
-    for (known = V2; known <= V3; known++)
+    for (int features = 0; features < 4; features++) {
+        bool has_v3 = features & YZ_FEATURE_V3, has_sha = features & YZ_FEATURE_SHA;
+        yz_known = (uint8_t)(ASKED | features);
+        is("yz_features", yz_features(), features);
         for (int which = 0; which < NUM_CALLS; which++)
             for (uint32_t n = 0; n < 9; n++)
-                for (size_t out_len = 0; out_len < 200; out_len++) {
-                    int made = build_of(which, n, out_len);
-                    is_used[made] = true;
-                    if (known == V2)
-                        is(CALLS[which].name, made, 2);
-                    else if (which >= TREES)
-                        is(CALLS[which].name, made, BUILD[DIGEST][YZ_SHA256]);
-                    else if (n < YZ_SHA1 || n > YZ_SHA512_256)
-                        is(CALLS[which].name, made, 2);
-                    else if (which >= PBKDF2 && out_len <= yz_output_len(n))
-                        is(CALLS[which].name, made, BUILD[PBKDF2_ROUND][n]);
-                    else if (which >= PBKDF2)
-                        is(CALLS[which].name, made, BUILD[PBKDF2_ROUNDS][n]);
-                }
+                for (size_t out_len = 0; out_len < 300; out_len++)
+                    is(CALLS[which].name, build_of(which, n, out_len),
+                       wanted_of(which, n, out_len, has_v3, has_sha));
+    }
     is("how often the processor is asked", asked, 0);
-    is("both builds are used", is_used[2] && is_used[3], true);
 }
 
-/* The first call that may go to the newer build asks, and no other. */
-static void first_call(int want) {
-    known = 0;
+/* The first call asks, and no other. Both bytes say what is there, but for what the environment
+ * refuses. */
+static void first_call(int build_wanted, bool sha_wanted) {
+    yz_known = 0;
+    gets_sha = true;
     asked = 0;
     for (int turn = 0; turn < 2; turn++)
-        is("yz_digest_each", build_of(3, YZ_SHA256, 0), want);
-    is("how often the processor is asked", asked, 1);
-    is("what is known", known, want);
+        is("yz_digest_each", build_of(EACH, YZ_SHA256, 4), build_wanted);
+    is("how often the processor is asked", asked, 2); /* for each of both features */
+    int features = build_wanted == 3 ? YZ_FEATURE_V3 : 0;
+    is("yz_features", yz_features(), features | (sha_wanted ? YZ_FEATURE_SHA : 0));
+    is("yz_instructions", yz_instructions, sha_wanted);
+    gets_sha = false;
+}
+
+static void refused(const char *value, bool sha_wanted) {
+    is("setenv", setenv("YEZDOPIN_INSTRUCTIONS", value, 1), 0);
+    first_call(wanted(), sha_wanted);
+    unsetenv("YEZDOPIN_INSTRUCTIONS");
 }
 
 static void try_all(void) {
+    unsetenv("YEZDOPIN_INSTRUCTIONS");
     each_loss();
-    first_call(wanted());
+    first_call(wanted(), true);
     lost.leaf = 7, lost.bits = bit_AVX2;
-    first_call(2);
+    first_call(2, true);
+    lost.leaf = 7, lost.bits = bit_SHA;
+    first_call(wanted(), false);
     lost.bits = 0;
+    refused("0", false);
+    refused("1", true);
+    refused("", true);
+    refused("00", true);
     each_call();
     if (!faults) printf("the dispatcher chooses x86-64-v%d where it is the faster\n", wanted());
 }

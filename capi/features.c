@@ -11,7 +11,7 @@
 #elif !defined(__APPLE__)
 #include <sys/auxv.h>
 #endif
-#ifdef __ELF__
+#ifndef _WIN32
 #include <stdlib.h>
 #endif
 
@@ -68,7 +68,7 @@ static bool has_sha(void) {
 
 /* Whether the environment has YEZDOPIN_INSTRUCTIONS=0, by which a user compares. */
 static bool is_refused(void) {
-#ifdef __ELF__
+#ifndef _WIN32
     const char *wanted = getenv("YEZDOPIN_INSTRUCTIONS");
     return wanted != NULL && wanted[0] == '0' && wanted[1] == '\0';
 #else
@@ -84,7 +84,7 @@ HIDDEN uint8_t yz_ask(void) {
     return (uint8_t)features;
 }
 
-#ifdef __ELF__
+#ifndef _WIN32
 /* When the library is loaded, since another thread may change the environment later. A call that
  * comes before this asks by itself, or, in the build for 64-bit ARM, runs without instructions. */
 __attribute__((constructor)) static void ask_when_loaded(void) { yz_ask(); }

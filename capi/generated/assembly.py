@@ -189,6 +189,8 @@ class Writer:
     def lines(self, notes):
         yield from ("/*", *(f" * {it}".rstrip() for it in notes), " */", "")
         yield f"#if {MACHINES[self.elf.machine][1]} && defined(__ELF__)"
+        if self.elf.machine == ARM and any(re.match("sha(1|256)", it.text) for it in self.listing):
+            yield "\t.arch_extension sha2"
         code = {}
         for it in self.listing:
             code.setdefault(it.section, []).append(it)

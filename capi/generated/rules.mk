@@ -4,6 +4,7 @@
 #     make generated            # renews the text of all builds in this folder, and of js/'s module
 #     make generated-check      # whether the text for ARCH is what the kit makes
 #     make builds-agree         # whether both builds for x86-64 are one library
+#     make instructions-diff    # what generated/instructions.py changes in the module, once built
 #
 # The kit runs on x86-64 alone. The text for aarch64 also wants gcc-aarch64-linux-gnu, and that of
 # the module Node.
@@ -47,10 +48,16 @@ define build
 	touch $(2)
 endef
 
+# What puts the processor's SHA instructions into a module, and the clang flags for them. `+sha3` is
+# not among these: with it LLVM makes `eor3` and the like of plain code.
+EXCHANGE = '$(PYTHON) -B "$(CURDIR)/generated/instructions.py" $(ARCH)' \
+    $(if $(filter x86_64,$(ARCH)),-msha,-march=armv8-a+sha2)
+BUILDERS = generated/kit.sh generated/instructions.py
+
 ifneq ($(origin BUILT),command line)
 ifneq ($(ARCH),x86_64)
-$(BUILT): $(SOURCES) ../crates.txt generated/kit.sh
-	$(call build,--target=$(ARCH)-unknown-linux-gnu,$@,'')
+$(BUILT): $(SOURCES) ../crates.txt $(BUILDERS)
+	$(call build,--target=$(ARCH)-unknown-linux-gnu,$@,$(EXCHANGE))
 
 KIT_PARTS = $(BUILT)
 $(KIT_OUT)/yezdopin_$(ARCH).calls: $(KIT_OUT)/names
@@ -58,9 +65,11 @@ $(KIT_OUT)/yezdopin_$(ARCH).calls: $(KIT_OUT)/names
 $(KIT_OUT)/yezdopin_$(ARCH).o: $(BUILT) $(KIT_OUT)/yezdopin_$(ARCH).calls
 	$(take_calls)
 else
-$(BUILT) $(BUILT_V3) &: $(SOURCES) ../crates.txt generated/kit.sh
+# The SHA instructions have no encoding for AVX. Where code for AVX has left the upper halves of
+# registers set, as LLVM does, they are slow on some processors: so the build for x86-64-v2 has them.
+$(BUILT) $(BUILT_V3) &: $(SOURCES) ../crates.txt $(BUILDERS)
 	$(call build,--cpu=x86-64-v3,$(BUILT_V3),'')
-	$(call build,,$(BUILT),'')
+	$(call build,,$(BUILT),$(EXCHANGE))
 
 # The builds, whose calls get the names that dispatch.c calls them by: those that it asks for where
 # one build is forced. That for x86-64-v3 keeps no other name.
@@ -119,10 +128,15 @@ NOTES = 'SPDX-License-Identifier: ISC' '' \
 trees = $$(for it in $(CRATES); do echo "$$it $$(git rev-parse --short=12 HEAD:crates/$$it)"; done \
     | xargs)$$(git diff --quiet HEAD -- $(CRATES:%=../crates/%) || echo ', and changes since')
 
+# The further line of a head, of a text with the processor's instructions.
+EXCHANGED = Instructions: put in the place of proved functions by generated/instructions.py, git blob
+
 # The text of the builds for ARCH.
 generated-$(ARCH): $(TEXTS:generated/%.S=$(KIT_OUT)/%.o)
+	note="$(EXCHANGED) $$(git hash-object generated/instructions.py | cut -c-12)"; \
 	for it in $(TEXTS:generated/%.S=%); do \
-	    $(PYTHON) -B generated/assembly.py $(KIT_OUT)/$$it.o $(KIT_OUT)/$$it.S $(NOTES) \
+	    case $$it in *_v3) set --;; *) set -- "$$note";; esac; \
+	    $(PYTHON) -B generated/assembly.py $(KIT_OUT)/$$it.o $(KIT_OUT)/$$it.S $(NOTES) "$$@" \
 	        && mv $(KIT_OUT)/$$it.S generated || exit 1; \
 	done
 
@@ -140,6 +154,9 @@ generated-check: $(ARCHIVE) $(KIT_ARCHIVE)
 	cmp $(KIT_OUT)/$(notdir $(OUT)).so $(KIT_OUT)/kit.so || { echo 'make: generated/ is not what the' \
 	    'kit makes of crates/ring_c: renew it by `make -C capi generated`' >&2; exit 1; }
 endif
+
+instructions-diff:
+	cd '$(call links_of,$(BUILT))' && diff -U1 module.ll changed.ll; test $$? = 1
 
 # Both builds for x86-64 by all their calls, which have names of their own in that for x86-64-v3.
 builds-agree: $(BUILT)
@@ -167,4 +184,4 @@ $(PLANTED): $(BUILT) test/planted.rattle
 	(cd "$$room/crates/plant" && $(RT) lib $(RT_FLAGS) >../log 2>&1 || { cat ../log; exit 1; }) && \
 	cp "$$room/crates/plant/out/libplant.a" $@
 
-.PHONY: generated generated-$(ARCH) generated-check builds-agree
+.PHONY: generated generated-$(ARCH) generated-check builds-agree instructions-diff

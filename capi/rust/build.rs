@@ -51,7 +51,8 @@ fn clone_above(package: &Path) -> Option<PathBuf> {
 // the assembly text there; where the clone can't be written, cargo's own. Where `make` fails, an
 // older or an installed library may serve.
 fn made(capi: &Path, processor: &str) -> PathBuf {
-    for name in ["generated", "dispatch.c", "status.c", "include/yezdopin.h"] {
+    let sources = ["generated", "dispatch.c", "features.c", "features.h", "status.c"];
+    for name in sources.into_iter().chain(["include/yezdopin.h"]) {
         println!("cargo:rerun-if-changed={}", capi.join(name).display());
     }
     let host = env::var("HOST").expect("cargo names the host");

@@ -29,6 +29,8 @@
 __typeof__(yz_digest_each) yz_digest_each_wide, v3_yz_digest_each, v3_yz_digest_each_wide;
 __typeof__(yz_pbkdf2_derive) yz_pbkdf2_derive_wide, v3_yz_pbkdf2_derive, v3_yz_pbkdf2_derive_wide;
 __typeof__(yz_pbkdf2_verify) yz_pbkdf2_verify_wide, v3_yz_pbkdf2_verify, v3_yz_pbkdf2_verify_wide;
+/* The SHA instructions are not taken here. */
+uint8_t yz_instructions;
 __typeof__(yz_digest) v3_yz_digest;
 __typeof__(yz_digest_init) v3_yz_digest_init;
 __typeof__(yz_digest_update) v3_yz_digest_update;

@@ -10,6 +10,7 @@
  * bytes. */
 #define _GNU_SOURCE
 #include "bench.h"
+#include "yezdopin.h"
 #include <getopt.h>
 #include <sched.h>
 #include <stdio.h>
@@ -41,7 +42,7 @@ static bool is_there[PARTIES];
 static bool is_ready[PARTIES]; /* for the hash function of this turn */
 static const char *capabilities; /* that OpenSSL is limited to, or NULL */
 static const char *program;      /* behind ./bench, or NULL */
-static bool is_checked;
+static bool is_checked, lacks_v3;
 
 void fail(const char *where, const char *what) {
     fprintf(stderr, "bench: %s: %s\n", where, what);
@@ -166,7 +167,11 @@ static void stay(void) {
     if (sched_setaffinity(0, sizeof one, &one)) fail("one processor", "can't stay there");
 }
 
+/* Which instructions the library runs, and what the processor has. */
 static void print_processor(void) {
+    unsigned features = library_features(OURS);
+    printf("The library runs %sSHA instructions%s. ", features & YZ_FEATURE_SHA ? "" : "no ",
+           features & YZ_FEATURE_V3 ? ", and code for x86-64-v3" : "");
 #if defined(__x86_64__)
     unsigned name[13] = {0}, leaf[4] = {0};
     for (unsigned i = 0; i < 3; i++) {
@@ -177,6 +182,9 @@ static void print_processor(void) {
     printf("%s, %s AVX2, %s SHA instructions.\n", (const char *)name,
            __builtin_cpu_supports("avx2") ? "with" : "without",
            leaf[1] & bit_SHA ? "with" : "without");
+    if (lacks_v3) puts("left out: the build for x86-64-v3, without AVX2");
+#else
+    puts("");
 #endif
 }
 
@@ -195,7 +203,7 @@ static void print_parties(void) {
 static void add_library(int library, const char *path) {
 #if defined(__x86_64__)
     if (library == V3 && !__builtin_cpu_supports("avx2")) {
-        puts("left out: the build for x86-64-v3, without AVX2");
+        lacks_v3 = true;
         return;
     }
 #endif
@@ -226,8 +234,8 @@ int main(int count, char **arguments) {
     capabilities = getenv("OPENSSL_ia32cap");
     if (capabilities && !openssl.name) return 0;
     stay();
-    print_processor();
     read_arguments(count, arguments);
+    print_processor();
     print_parties();
     is_there[OPENSSL] = openssl.name;
     is_there[SODIUM] = libsodium.name && !capabilities;

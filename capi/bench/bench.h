@@ -119,6 +119,8 @@ extern const party yezdopin, openssl, libsodium;
 
 /* Loads a library of this project from a file, and selects it for the calls of `yezdopin`. */
 void load_library(int library, const char *path);
+/* What its yz_features tells; 0 of an earlier one that has none. */
+unsigned library_features(int library);
 void select_library(int library);
 
 /* The processor time of the program for one line, in nanoseconds. */

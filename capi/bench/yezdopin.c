@@ -10,7 +10,10 @@
     each(digest_final) each(hmac_sign) each(hmac_key_init) each(hmac_key_sign) each(hkdf)          \
     each(pbkdf2_derive) each(password_hash_new)
 #define POINTER(name) __typeof__(yz_##name) *name;
-typedef struct { EACH_CALL(POINTER) } library;
+typedef struct {
+    EACH_CALL(POINTER)
+    POINTER(features) /* NULL in an earlier library */
+} library;
 
 static library LOADED[LIBRARIES];
 static const library *current;
@@ -33,6 +36,11 @@ void load_library(int number, const char *path) {
     if (!file) fail(path, dlerror());
     if (!(true EACH_CALL(FIND))) fail(path, "it lacks a call");
     if (it->version() >> 16 != YZ_VERSION_MAJOR) fail(path, "it has another major version");
+    find(file, "yz_features", &it->features);
+}
+
+unsigned library_features(int number) {
+    return LOADED[number].features ? LOADED[number].features() : 0;
 }
 
 void select_library(int number) { current = &LOADED[number]; }

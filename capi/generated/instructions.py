@@ -200,7 +200,8 @@ def exchanged(module, table):
     yield ""
     yield f"@{BYTE} = external hidden global i8"
     yield from sorted({declaration(it) for it in table.values() if it.name})
-    marks = module.attributes[module.group(min(table))].replace(NEVER_INLINED, "alwaysinline nounwind")
+    marks = module.attributes[module.group(min(table))]
+    marks = marks.replace(NEVER_INLINED, "alwaysinline nounwind")
     yield f"attributes #{new} = {{ {marks} }}"
 
 

@@ -166,22 +166,51 @@ builds-agree: $(BUILT)
 	$(CC) $(CFLAGS) $(STRICT) test/builds.c $(BUILT) $(KIT_OUT)/ring_c.all.a -o $(OUT)/builds
 	! $(has_avx2) || $(OUT)/builds
 
-# The planted crate stands outside of crates/, since its bodies are proved and leak all the same. It
-# is proved and built in a copy outside of the repository, over links to the libraries below, of
+# $(call apart,NAME,SOURCE,CRATES,RT FLAG..,LIBRARY): a crate that stands outside of crates/, proved
+# and built in a copy outside of the repository, over links to the CRATES below, lowest first, of
 # which `rt` replaces files and changes none.
-$(PLANTED): $(BUILT) test/planted.rattle
+define apart
 	$(need_kit)
-	mkdir -p $(OUT)
-	room=$$(mktemp -d) && trap 'rm -rf "$$room"' EXIT && mkdir -p "$$room/crates/plant/src" && \
-	for crate in ring_core ring; do \
+	mkdir -p $(@D)
+	room=$$(mktemp -d) && trap 'rm -rf "$$room"' EXIT && mkdir -p "$$room/crates/$(1)/src" && \
+	below= && for crate in $(3); do \
 	    (cd ../crates/$$crate && mkdir -p "$$room/crates/$$crate/out" && \
 	    cp -R src specs proofs "$$room/crates/$$crate" && \
 	    { cp -al out/rlib "$$room/crates/$$crate/out" 2>/dev/null || \
 	    cp -a out/rlib "$$room/crates/$$crate/out"; }) || exit 1; \
+	    echo "$$crate:$$below" >>"$$room/crates.txt"; below=" $$crate"; \
 	done && cp ../HANDLES "$$room" && \
-	cp test/planted.rattle "$$room/crates/plant/src/lib.rt" && \
-	printf '%s\n' 'ring_core:' 'ring: ring_core' 'plant staticlib: ring' >"$$room/crates.txt" && \
-	(cd "$$room/crates/plant" && $(RT) lib $(RT_FLAGS) >../log 2>&1 || { cat ../log; exit 1; }) && \
-	cp "$$room/crates/plant/out/libplant.a" $@
+	cp $(2) "$$room/crates/$(1)/src/lib.rt" && \
+	echo "$(1) staticlib:$$below" >>"$$room/crates.txt" && \
+	(cd "$$room/crates/$(1)" && $(4) $(RT_FLAGS) >../log 2>&1 || { cat ../log; exit 1; }) && \
+	cp "$$room/crates/$(1)/out/lib$(1).a" $(5)
+endef
 
-.PHONY: generated generated-$(ARCH) generated-check builds-agree instructions-diff
+# The planted bodies are proved and leak all the same.
+$(PLANTED): $(BUILT) test/planted.rattle
+	$(call apart,plant,test/planted.rattle,ring_core ring,$(RT) lib,$@)
+
+# Each function that an instruction is put in the place of, as it is proved and exchanged, beside
+# each other.
+COMPARED = $(OUT)/instructions
+RT_LIB = lib $(if $(filter x86_64,$(ARCH)),,--target=$(ARCH)-unknown-linux-gnu)
+$(COMPARED)/proved.a: $(BUILT) test/instructions/probe.rattle
+	$(call apart,probe,test/instructions/probe.rattle,ring_core,$(RT) $(RT_LIB),$@)
+$(COMPARED)/taken.a: $(BUILT) test/instructions/probe.rattle $(BUILDERS)
+	generated/kit.sh $(RT) '$(call links_of,probe)' $(EXCHANGE)
+	$(call apart,probe,test/instructions/probe.rattle,ring_core,'$(call links_of,probe)/bin/rt' \
+	    $(RT_LIB),$@)
+	$(NM) -g --defined-only $@ | sed -n 's/.* T probe_\(.*\)/probe_\1 taken_\1/p' >$@.names
+	$(OBJCOPY) --redefine-syms=$@.names $@
+$(COMPARED)/compare: test/instructions/compare.c $(COMPARED)/proved.a $(COMPARED)/taken.a
+	$(CC) $(CFLAGS) $(STRICT) $^ -o $@
+
+instructions-compare: $(COMPARED)/compare
+	$(PYTHON) -B generated/instructions_test.py $(if $(filter x86_64,$(ARCH)),\
+	    '$(call links_of,$(BUILT))/module.ll')
+	if by=$$(test/instructions/processor '$(RUN)' $(OUT)/emulator); then $$by $< $(INPUTS); \
+	else echo 'left out: each SHA instruction beside its definition, without such a processor' \
+	    'or qemu 8.2'; fi
+
+.PHONY: generated generated-$(ARCH) generated-check builds-agree instructions-diff \
+    instructions-compare

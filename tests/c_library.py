@@ -1,7 +1,7 @@
 #!/usr/bin/env python3
 # SPDX-License-Identifier: ISC
-"""The C library and its callers in C, Python and Rust: `make -C capi check exports constant-time`
-and `traces`; and for 64-bit ARM the library and its callers in C and Rust, under qemu-user.
+"""The C library and its callers in C, Python and Rust: `make -C capi check exports constant-time`,
+`traces` and `instructions-check`; and for 64-bit ARM the library and its callers in C and Rust, under qemu-user.
 
 The library is built first, from the assembly text of capi/generated. The first part proves and
 builds `ring_c` by the kit, and compares both libraries byte by byte; each other part is then tried
@@ -28,6 +28,8 @@ BUILT = {
 # What make's targets are called by, and what each needs beside `rt`.
 # The part that asks `rt`, even where make finds nothing newer.
 GENERATED = "generated-check"
+# Fewer inputs than the target's own.
+INSTRUCTIONS = "instructions-check INPUTS=500000"
 PARTS = [
     (GENERATED, ["rt", "cc"], "that the assembly text is what the kit makes of the proved crate"),
     ("test", ["cc"],
@@ -45,6 +47,8 @@ PARTS = [
     ("rust", ["cc", "cargo"], "the Rust crate over vectors/, and vendored beside a Makefile"),
     ("constant-time", ["rt", "valgrind", "valgrind/memcheck.h"], "no jump or address by a secret"),
     ("traces", ["cc", "nm", "qemu-x86_64 with plugins"], "the same from traces under qemu-user"),
+    (INSTRUCTIONS, ["cc", "python3"],
+     "the processor's SHA instructions: how they are put in, beside definitions, vectors/"),
 ]
 ARM_PARTS = [
     (GENERATED, ["rt"], "that the assembly text is what the kit makes of the proved crate"),
@@ -54,6 +58,8 @@ ARM_PARTS = [
     ("exports", [], "names, instructions, memory and versions"),
     ("rust", ["cargo", "qemu-aarch64", "Rust's std for aarch64"], "the Rust crate over vectors/"),
     ("traces", ["cc", "qemu-aarch64 with plugins"], "no jump or address by a secret"),
+    (INSTRUCTIONS, ["qemu-aarch64", "python3"],
+     "the processor's SHA instructions: how they are put in, beside definitions, vectors/"),
 ]
 
 
@@ -129,7 +135,7 @@ def try_parts(arch, always, parts):
             skipped += 1
             continue
         how = ["-B"] if name == GENERATED else kept
-        fault, left_out = (unbuilt, []) if unbuilt else make(arch, *how, name)
+        fault, left_out = (unbuilt, []) if unbuilt else make(arch, *how, *name.split())
         for line in left_out:
             print(line)
         skipped += len(left_out)

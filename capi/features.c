@@ -15,12 +15,17 @@
 #include <stdlib.h>
 #endif
 
+/* In an archive for tests one build answers on every processor: FORCED is 2 or 3, and INSTRUCTIONS
+ * is 1 where its kernels over the SHA instructions answer. */
+#ifndef INSTRUCTIONS
+#define INSTRUCTIONS 0
+#endif
+
 /* The byte that the proved code reads where it asks whether there are SHA instructions
  * (generated/instructions.py). */
-HIDDEN _Atomic uint8_t yz_instructions;
+HIDDEN _Atomic uint8_t yz_instructions = INSTRUCTIONS;
 
 #ifdef FORCED
-/* In an archive for tests one build answers on every processor, without the SHA instructions. */
 HIDDEN _Atomic uint8_t yz_known = ASKED | (FORCED == 3 ? YZ_FEATURE_V3 : 0);
 HIDDEN uint8_t yz_ask(void) { return yz_known; }
 #else

@@ -190,6 +190,24 @@ endef
 $(PLANTED): $(BUILT) test/planted.rattle
 	$(call apart,plant,test/planted.rattle,ring_core ring,$(RT) lib,$@)
 
+# The build for x86-64-v2 by its kernels over the SHA instructions, on every processor, but with the
+# definitions as they are proved: valgrind doesn't run the instructions.
+ifeq ($(ARCH),x86_64)
+DEFINED = $(OUT)/defined/libyezdopin.a
+$(KIT_OUT)/defined.o: $(BUILT) generated/instructions.py $(KIT_OUT)/v2.renamed
+	$(PYTHON) -B generated/instructions.py --only are_there $(ARCH) \
+	    '$(call links_of,$(BUILT))/module.ll' $(@:.o=.ll)
+	sed 's|^module\.bc$$|$(@:.o=.ll)|; s|^module\.o$$|$@|' '$(call links_of,$(BUILT))/flags' \
+	    | tr '\n' '\0' | xargs -0 '$(call links_of,$(BUILT_V3))/toolchain/bin/clang'
+	$(OBJCOPY) --redefine-syms=$(KIT_OUT)/v2.renamed $@
+$(OUT)/defined/%.o: %.c features.h $(HEADER)
+	mkdir -p $(@D)
+	$(COMPILED) -DFORCED=2 -DINSTRUCTIONS=1 -c $< -o $@
+$(DEFINED): $(OUT)/defined/dispatch.o $(OUT)/defined/features.o $(OUT)/status.o $(KIT_OUT)/defined.o \
+    $(OUT)/names
+	$(call archive,$(filter %.o,$^))
+endif
+
 # Each function that an instruction is put in the place of, as it is proved and exchanged, beside
 # each other.
 COMPARED = $(OUT)/instructions

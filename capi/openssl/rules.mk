@@ -150,7 +150,7 @@ openssl-exports: $(PROVIDER)
 	test "$$($(READELF) -d $< | sed -n 's/.*(NEEDED).*\[\(.*\)\]/\1/p' | sort | xargs)" = \
 	    'libc.so.6 libcrypto.so.3'
 	test "$$($(OBJDUMP) -T $< | awk '/GLIBC_/ && !/ w / { print $$NF }' | sort | xargs)" = \
-	    'memcpy memmove memset strcspn strlen strnlen'
+	    '$(filter get%,$(CALLED)) memcpy memmove memset strcspn strlen strnlen'
 	test "$$($(OBJDUMP) -T $< | grep -o 'OPENSSL_[0-9.]*' | sort -u | xargs)" = OPENSSL_3.0.0
 
 # The time of each kind of work beside the default provider's, with the instructions that OpenSSL

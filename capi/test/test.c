@@ -502,6 +502,7 @@ static void texts_of_statuses(void) {
 int main(void) {
     IS(yz_supported(), true);
     IS(yz_version(), YZ_VERSION);
+    IS(yz_features() & ~(uint32_t)(YZ_FEATURE_V3 | YZ_FEATURE_SHA), 0);
     texts_of_statuses();
     known_values(), statuses(), several_messages();
     longest_outputs(), past_the_longest_derived();

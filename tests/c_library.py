@@ -1,7 +1,8 @@
 #!/usr/bin/env python3
 # SPDX-License-Identifier: ISC
 """The C library and its callers in C, Python and Rust: `make -C capi check exports constant-time`,
-`traces` and `instructions-check`; and for 64-bit ARM the library and its callers in C and Rust, under qemu-user.
+`traces` and `instructions-check`; and for 64-bit ARM the library and its callers in C and Rust,
+under qemu-user.
 
 The library is built first, from the assembly text of capi/generated. The first part proves and
 builds `ring_c` by the kit, and compares both libraries byte by byte; each other part is then tried

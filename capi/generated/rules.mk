@@ -66,7 +66,7 @@ $(KIT_OUT)/yezdopin_$(ARCH).o: $(BUILT) $(KIT_OUT)/yezdopin_$(ARCH).calls
 	$(take_calls)
 else
 # The SHA instructions have no encoding for AVX. Where code for AVX has left the upper halves of
-# registers set, as LLVM does, they are slow on some processors: so the build for x86-64-v2 has them.
+# registers set, as LLVM does, they are slow on some processors: the build for x86-64-v2 has them.
 $(BUILT) $(BUILT_V3) &: $(SOURCES) ../crates.txt $(BUILDERS)
 	$(call build,--cpu=x86-64-v3,$(BUILT_V3),'')
 	$(call build,,$(BUILT),$(EXCHANGE))
@@ -129,7 +129,7 @@ trees = $$(for it in $(CRATES); do echo "$$it $$(git rev-parse --short=12 HEAD:c
     | xargs)$$(git diff --quiet HEAD -- $(CRATES:%=../crates/%) || echo ', and changes since')
 
 # The further line of a head, of a text with the processor's instructions.
-EXCHANGED = Instructions: put in the place of proved functions by generated/instructions.py, git blob
+EXCHANGED = Instructions: put in the place of proved functions by instructions.py, git blob
 
 # The text of the builds for ARCH.
 generated-$(ARCH): $(TEXTS:generated/%.S=$(KIT_OUT)/%.o)
@@ -203,8 +203,8 @@ $(KIT_OUT)/defined.o: $(BUILT) generated/instructions.py $(KIT_OUT)/v2.renamed
 $(OUT)/defined/%.o: %.c features.h $(HEADER)
 	mkdir -p $(@D)
 	$(COMPILED) -DFORCED=2 -DINSTRUCTIONS=1 -c $< -o $@
-$(DEFINED): $(OUT)/defined/dispatch.o $(OUT)/defined/features.o $(OUT)/status.o $(KIT_OUT)/defined.o \
-    $(OUT)/names
+$(DEFINED): $(OUT)/defined/dispatch.o $(OUT)/defined/features.o $(OUT)/status.o \
+    $(KIT_OUT)/defined.o $(OUT)/names
 	$(call archive,$(filter %.o,$^))
 endif
 

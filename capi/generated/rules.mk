@@ -155,9 +155,6 @@ generated-check: $(ARCHIVE) $(KIT_ARCHIVE)
 	    'kit makes of crates/ring_c: renew it by `make -C capi generated`' >&2; exit 1; }
 endif
 
-instructions-diff:
-	cd '$(call links_of,$(BUILT))' && diff -U1 module.ll changed.ll; test $$? = 1
-
 # Both builds for x86-64 by all their calls, which have names of their own in that for x86-64-v3.
 builds-agree: $(BUILT)
 	mkdir -p $(KIT_OUT)
@@ -190,13 +187,21 @@ endef
 $(PLANTED): $(BUILT) test/planted.rattle
 	$(call apart,plant,test/planted.rattle,ring_core ring,$(RT) lib,$@)
 
+# The module that was compiled, as text and before the exchange. `make clean` takes it away, and
+# leaves the build.
+MODULE = $(KIT_OUT)/$(basename $(notdir $(BUILT)))/module.ll
+$(MODULE): | $(BUILT)
+	test -e $@ || $(MAKE) --no-print-directory -B $(BUILT)
+
+instructions-diff: $(MODULE)
+	diff -U1 $< $(<:module.ll=changed.ll); test $$? = 1
+
 # The build for x86-64-v2 by its kernels over the SHA instructions, on every processor, but with the
 # definitions as they are proved: valgrind doesn't run the instructions.
 ifeq ($(ARCH),x86_64)
 DEFINED = $(OUT)/defined/libyezdopin.a
-$(KIT_OUT)/defined.o: $(BUILT) generated/instructions.py $(KIT_OUT)/v2.renamed
-	$(PYTHON) -B generated/instructions.py --only are_there $(ARCH) \
-	    '$(call links_of,$(BUILT))/module.ll' $(@:.o=.ll)
+$(KIT_OUT)/defined.o: $(BUILT) $(MODULE) generated/instructions.py $(KIT_OUT)/v2.renamed
+	$(PYTHON) -B generated/instructions.py --only are_there $(ARCH) $(MODULE) $(@:.o=.ll)
 	sed 's|^module\.bc$$|$(@:.o=.ll)|; s|^module\.o$$|$@|' '$(call links_of,$(BUILT))/flags' \
 	    | tr '\n' '\0' | xargs -0 '$(call links_of,$(BUILT_V3))/toolchain/bin/clang'
 	$(OBJCOPY) --redefine-syms=$(KIT_OUT)/v2.renamed $@
@@ -230,10 +235,9 @@ $(COMPARED)/same.a: $(BUILT) test/instructions/probe.rattle generated/kit.sh
 	    $(RT_LIB),$@)
 
 # Without the exchange the library is the kit's own to the byte.
-instructions-compare: $(COMPARED)/compare $(COMPARED)/same.a
+instructions-compare: $(COMPARED)/compare $(COMPARED)/same.a $(MODULE)
 	cmp $(COMPARED)/proved.a $(COMPARED)/same.a
-	$(PYTHON) -B generated/instructions_test.py $(if $(filter x86_64,$(ARCH)),\
-	    '$(call links_of,$(BUILT))/module.ll')
+	$(PYTHON) -B generated/instructions_test.py $(if $(filter x86_64,$(ARCH)),$(MODULE))
 	if by=$$(test/instructions/processor '$(RUN)' $(OUT)/emulator); then $$by $< $(INPUTS); \
 	else echo 'left out: each SHA instruction beside its definition, without such a processor' \
 	    'or qemu 8.2'; fi

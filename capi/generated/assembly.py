@@ -6,7 +6,7 @@
 
 objdump reads the instructions. Where an assembler has a choice, the text has the encoding of the
 object. Nothing here is trusted: `make generated-check` compares the library that an assembler makes
-of the text with the one that the kit makes.
+of the text with the one that the kit makes, and `programs/texts check` the programs.
 """
 
 import re
@@ -22,8 +22,9 @@ Instruction = namedtuple("Instruction", "section at raw text")
 X86, ARM = 62, 183
 MACHINES = {X86: ("objdump", "defined(__x86_64__) && defined(__LP64__)"),
             ARM: ("aarch64-linux-gnu-objdump", "defined(__aarch64__)")}
+ADDRESS = {X86: 1, ARM: 257}  # the relocation of 64 bits that is an address
 SYMBOLS, RELA, REL = 2, 4, 9  # types of sections
-WRITE, ALLOC, EXEC, MERGE = 1, 2, 4, 16  # flags of sections
+WRITE, ALLOC, EXEC, MERGE, STRINGS = 1, 2, 4, 16, 32  # flags of sections
 GLOBAL, HIDDEN = 1, 2
 OBJECT, FUNC, SECTION, FILE = 1, 2, 3, 4  # types of symbols
 
@@ -75,10 +76,16 @@ class Elf:
                 for it in section.data.split(b"\0") if it.startswith(b"rattle")}
 
 
+def is_table(section):
+    """Whether a section has constants with addresses, which are filled in where code is loaded."""
+    return section.name.startswith(".data.rel.ro.")
+
+
 class Writer:
     def __init__(self, elf):
         self.elf = elf
-        if any(it.type == REL or it.flags & WRITE and it.size for it in elf.sections):
+        if any(it.type == REL or it.flags & WRITE and it.size and not is_table(it)
+               for it in elf.sections):
             sys.exit(f"{elf.path}: more than code, constants and relocations with addends")
         self.listing = list(self.instructions())
         # By section and offset: the names of places, and what first points at a place.
@@ -112,11 +119,16 @@ class Writer:
         return plain(symbol.name) + (f"{addend + more:+}" if addend + more else "")
 
     def entries(self, number):
-        """(offset, text) of the entries of jump tables, which count from the start of theirs."""
+        """(offset, (size, text)) of the entries of tables: addresses, and those of jump tables,
+        which count from the start of theirs."""
         start = 0
         for at, it in self.elf.relocations.get(number, {}).items():
+            if it.type == ADDRESS[self.elf.machine]:
+                yield at, (8, f".quad {self.target(it, 0, '.quad')}")
+                continue
             start = at if (number, at) in self.pointed else start
-            yield at, f"{self.target(it, start - at, '.long')}-{self.labels.get((number, start))}"
+            to, table = self.target(it, start - at, ".long"), self.labels.get((number, start))
+            yield at, (4, f".long {to}-{table}")
 
     def instructions(self):
         """The instructions as objdump reads them."""
@@ -166,7 +178,7 @@ class Writer:
         marks = {at: name for (of, at), name in self.labels.items() if of == number}
         tables, data, at = dict(self.entries(number)), section.data, 0
         width = min(section.align, 8)
-        for end in sorted({*marks, *tables, len(data)} | {it + 4 for it in tables}):
+        for end in sorted({*marks, *tables, len(data), *(at + it[0] for at, it in tables.items())}):
             if end > at:
                 if (end - at) % width:
                     width = 1
@@ -183,8 +195,8 @@ class Writer:
                 width = (1 if user.endswith("pshufb") else 8 if user.endswith("q") else
                          4 if section.align > 8 else section.align)
             if at in tables:
-                yield f"\t.long {tables[at]}"
-                at += 4
+                yield f"\t{tables[at][1]}"
+                at += tables[at][0]
 
     def lines(self, notes):
         yield from ("/*", *(f" * {it}".rstrip() for it in notes), " */", "")
@@ -197,7 +209,8 @@ class Writer:
         for number, section in self.elf.loaded.items():
             if not section.size and not any(of == number for of, _ in self.labels):
                 continue
-            flags = "a" + "x" * bool(section.flags & EXEC) + "M" * bool(section.flags & MERGE)
+            letters = {WRITE: "w", EXEC: "x", MERGE: "M", STRINGS: "S"}
+            flags = "a" + "".join(it for flag, it in letters.items() if section.flags & flag)
             size = f",{section.entry}" if section.flags & MERGE else ""
             yield f'\n\t.section {plain(section.name)},"{flags}",%progbits{size}'
             yield f"\t.p2align {section.align.bit_length() - 1}"

@@ -4,6 +4,9 @@
 
     assembly.py OBJECT TEXT [NOTE..]
 
+The text is for objects of ELF and, by macros of C's preprocessor, of Mach-O: macOS has the calling
+conventions of Linux.
+
 objdump reads the instructions. Where an assembler has a choice, the text has the encoding of the
 object. Nothing here is trusted: `make generated-check` compares the library that an assembler makes
 of the text with the one that the kit makes, and `programs/texts check` the programs.
@@ -23,6 +26,34 @@ X86, ARM = 62, 183
 MACHINES = {X86: ("objdump", "defined(__x86_64__) && defined(__LP64__)"),
             ARM: ("aarch64-linux-gnu-objdump", "defined(__aarch64__)")}
 ADDRESS = {X86: 1, ARM: 257}  # the relocation of 64 bits that is an address
+# How the directives differ between ELF and Mach-O: labels that no object keeps, sections, the kind
+# and the size of a name, names that only the library sees, a name before tables of differences,
+# which Mach-O counts from names alone, and the two parts of an address on ARM.
+MACROS = """\
+#ifdef __APPLE__
+#define L(NAME) L##NAME
+#define CODE(NAME) .text
+#define CONSTANTS(NAME, ...) .section __TEXT,__const
+#define ADDRESSES(NAME) .section __DATA,__const
+#define TYPE(NAME, KIND)
+#define SIZE(NAME, BYTES)
+#define HIDDEN(NAME) .private_extern NAME
+#define NAMED(NAME) NAME:
+#define PAGE(NAME) NAME@PAGE
+#define IN_PAGE(NAME) NAME@PAGEOFF
+{names}
+#else
+#define L(NAME) .L##NAME
+#define CODE(NAME) .section .text.NAME,"ax",%progbits
+#define CONSTANTS(NAME, ...) .section .rodata.NAME,__VA_ARGS__
+#define ADDRESSES(NAME) .section .data.rel.ro.NAME,"aw",%progbits
+#define TYPE(NAME, KIND) .type NAME, KIND
+#define SIZE(NAME, BYTES) .size NAME, BYTES
+#define HIDDEN(NAME) .hidden NAME
+#define NAMED(NAME)
+#define PAGE(NAME) NAME
+#define IN_PAGE(NAME) :lo12:NAME
+#endif"""
 SYMBOLS, RELA, REL = 2, 4, 9  # types of sections
 WRITE, ALLOC, EXEC, MERGE, STRINGS = 1, 2, 4, 16, 32  # flags of sections
 GLOBAL, HIDDEN = 1, 2
@@ -155,10 +186,11 @@ class Writer:
         more = at + len(raw) - place if self.elf.machine == X86 else 0
         to = self.target(relocations[place], more, text.split()[0])
         if text.endswith(">"):
+            to = f"PAGE({to})" if text.startswith("adrp") else to
             return re.sub(r"[0-9a-f]+ <.*>$", to, text)
         if self.elf.machine == X86:
             return re.sub(r"0x0(?=\(%rip\))", to, text)
-        return re.sub(r", #0x0$|(?=\]$)", f", :lo12:{to}", text)
+        return re.sub(r", #0x0$|(?=\]$)", f", IN_PAGE({to})", text)
 
     def encoded(self, it):
         """The same, with the encoding of the object where an assembler would take a shorter one."""
@@ -199,29 +231,55 @@ class Writer:
                 at += tables[at][0]
 
     def lines(self, notes):
+        names = sorted({it.name for it in self.elf.named if it.bind == GLOBAL})
         yield from ("/*", *(f" * {it}".rstrip() for it in notes), " */", "")
-        yield f"#if {MACHINES[self.elf.machine][1]} && defined(__ELF__)"
+        yield f"#if {MACHINES[self.elf.machine][1]} && (defined(__ELF__) || defined(__APPLE__))"
+        yield MACROS.format(names="\n".join(f"#define {it} _{it}" for it in names))
         if self.elf.machine == ARM and any(re.match("sha(1|256)", it.text) for it in self.listing):
             yield "\t.arch_extension sha2"
+        for it in self.body():
+            yield it if it.startswith("/*") else re.sub(r"(?<![\w.])\.L([\w.$]+)", r"L(\1)", it)
+        yield from ("", "#ifdef __ELF__")
+        yield from (f'\t.ident "{it}"' for it in sorted(self.elf.comments()))
+        yield from ("#endif", "#endif")
+        yield from ("#ifdef __ELF__", '\t.section .note.GNU-stack,"",%progbits', "#endif")
+
+    def start(self, number, section):
+        """The directive that begins a section, and a name before jump tables."""
+        it = re.fullmatch(r"\.(text|rodata|data\.rel\.ro)\.+(.+)", plain(section.name))
+        if not it:
+            sys.exit(f"{self.elf.path}: section {section.name}")
+        kind, name = it.groups()
+        if kind != "rodata":
+            yield f"\n\t{'CODE' if kind == 'text' else 'ADDRESSES'}({name})"
+            return
+        letters = {MERGE: "M", STRINGS: "S"}
+        flags = "a" + "".join(it for flag, it in letters.items() if section.flags & flag)
+        size = f",{section.entry}" if section.flags & MERGE else ""
+        yield f'\n\tCONSTANTS({name},"{flags}",%progbits{size})'
+        if any(text.startswith(".long") for _, (_, text) in self.entries(number)):
+            yield f"NAMED({name}.tables)"
+
+    def body(self):
+        """The sections, with labels as ELF has them."""
         code = {}
         for it in self.listing:
             code.setdefault(it.section, []).append(it)
         for number, section in self.elf.loaded.items():
             if not section.size and not any(of == number for of, _ in self.labels):
                 continue
-            letters = {WRITE: "w", EXEC: "x", MERGE: "M", STRINGS: "S"}
-            flags = "a" + "".join(it for flag, it in letters.items() if section.flags & flag)
-            size = f",{section.entry}" if section.flags & MERGE else ""
-            yield f'\n\t.section {plain(section.name)},"{flags}",%progbits{size}'
+            yield from self.start(number, section)
             yield f"\t.p2align {section.align.bit_length() - 1}"
             named = [(it, plain(it.name)) for it in self.elf.named
                      if it.section == number and (number, it.value) in self.labels]
             for it, name in named:
                 yield from [f"/* {it.name} */"] * (name != it.name)
                 yield from [f"\t.globl {name}"] * (it.bind == GLOBAL)
-                yield from [f"\t.hidden {name}"] * (it.visibility == HIDDEN)
-                yield from [f"\t.type {name}, %function"] * (it.type == FUNC)
-                yield from [f"\t.type {name}, %object"] * (it.type == OBJECT)
+                # dispatch.c alone calls the names of one of several builds.
+                is_own = it.visibility == HIDDEN or re.match("v[0-9]_", name)
+                yield from [f"\tHIDDEN({name})"] * bool(is_own)
+                yield from [f"\tTYPE({name}, %function)"] * (it.type == FUNC)
+                yield from [f"\tTYPE({name}, %object)"] * (it.type == OBJECT)
             for it in code.get(number, []):
                 if (number, it.at) in self.labels:
                     yield f"{self.labels[number, it.at]}:"
@@ -229,9 +287,7 @@ class Writer:
             if number not in code:
                 yield from self.constants(number, section)
             for it, name in named:
-                yield from [f"\t.size {name}, {it.size}"] * (it.type in (OBJECT, FUNC))
-        yield from ("", *(f'\t.ident "{it}"' for it in sorted(self.elf.comments())))
-        yield from ("#endif", "#ifdef __ELF__", '\t.section .note.GNU-stack,"",%progbits', "#endif")
+                yield from [f"\tSIZE({name}, {it.size})"] * (it.type in (OBJECT, FUNC))
 
 
 def main():

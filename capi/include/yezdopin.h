@@ -30,6 +30,9 @@
 #include <stdbool.h>
 #include <stddef.h>
 #include <stdint.h>
+#if defined(_M_X64) && !defined(__x86_64__) /* Microsoft's compiler */
+#include <intrin.h>
+#endif
 
 /* The version of this header. The major number is that of the shared library's name, and rises
  * where a caller must be compiled again: with a call or the layout of a context or a key.
@@ -120,7 +123,7 @@ typedef struct {
     uint64_t outer[8];
 } yz_hmac_context; /* 280 bytes */
 
-#if defined(__x86_64__) && (defined(__GNUC__) || defined(__clang__))
+#if defined(__x86_64__) && (defined(__GNUC__) || defined(__clang__)) || defined(_M_X64)
 /* Whether the processor can run the library, whose code is for x86-64-v2: Intel's processors from
  * 2009 on, AMD's from 2011 on. On an older one a call may end the program by SIGILL. This function
  * is compiled into the caller, since no code of the library is sure to run there. */
@@ -129,10 +132,18 @@ static inline bool yz_supported(void) {
      * both leaves. <cpuid.h> isn't included, since gcc before 11 fails where it is included
      * twice. */
     const unsigned wanted = 1u | 1u << 9 | 1u << 13 | 1u << 19 | 1u << 20 | 1u << 23, lahf = 1;
+#ifdef __x86_64__
     unsigned a = 1, b, c, d, found;
     __asm__ volatile("cpuid" : "+a"(a), "=b"(b), "=c"(found), "=d"(d));
     a = 0x80000001;
     __asm__ volatile("cpuid" : "+a"(a), "=b"(b), "=c"(c), "=d"(d));
+#else
+    int registers[4]; /* a, b, c and d */
+    __cpuid(registers, 1);
+    const unsigned found = (unsigned)registers[2];
+    __cpuid(registers, (int)0x80000001);
+    const unsigned c = (unsigned)registers[2];
+#endif
     return (found & wanted) == wanted && (c & lahf) != 0;
 }
 #elif defined(__aarch64__)

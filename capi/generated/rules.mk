@@ -56,8 +56,9 @@ BUILDERS = generated/kit.sh generated/instructions.py
 
 ifneq ($(origin BUILT),command line)
 ifneq ($(ARCH),x86_64)
+# The register x18 is the system's on macOS, whose library is of the same text.
 $(BUILT): $(SOURCES) ../crates.txt $(BUILDERS)
-	$(call build,--target=$(ARCH)-unknown-linux-gnu,$@,$(EXCHANGE))
+	$(call build,--target=$(ARCH)-unknown-linux-gnu,$@,$(EXCHANGE) -ffixed-x18)
 
 KIT_PARTS = $(BUILT)
 $(KIT_OUT)/yezdopin_$(ARCH).calls: $(KIT_OUT)/names
@@ -67,7 +68,8 @@ $(KIT_OUT)/yezdopin_$(ARCH).o: $(BUILT) $(KIT_OUT)/yezdopin_$(ARCH).calls
 else
 # The SHA instructions have no encoding for AVX. Where code for AVX has left the upper halves of
 # registers set, as LLVM does, they are slow on some processors: the build for x86-64-v2 has them.
-$(BUILT) $(BUILT_V3) &: $(SOURCES) ../crates.txt $(BUILDERS)
+$(BUILT) $(BUILT_V3) $(KIT_OUT)/libring_c.v2/flags $(KIT_OUT)/libring_c.v3/flags &: \
+    $(SOURCES) ../crates.txt $(BUILDERS)
 	$(call build,--cpu=x86-64-v3,$(BUILT_V3),'')
 	$(call build,,$(BUILT),$(EXCHANGE))
 
@@ -91,6 +93,16 @@ $(KIT_OUT)/yezdopin_x86_64_v3.calls: $(KIT_OUT)/v3.renamed
 $(KIT_OUT)/yezdopin_x86_64_v2.o $(KIT_OUT)/yezdopin_x86_64_v3.o: \
     $(KIT_OUT)/yezdopin_x86_64_%.o: $(KIT_OUT)/ring_c.%.a $(KIT_OUT)/yezdopin_x86_64_%.calls
 	$(take_calls)
+
+# The texts for Windows, which the kit's clang makes of the modules of the same builds. That for
+# x86-64-v2 also keeps the calls that have no other name.
+WINDOWS_MADE = $(WINDOWS_TEXTS:generated/%=$(KIT_OUT)/%)
+$(KIT_OUT)/yezdopin_windows_x86_64_v2.S: OTHER_NAMES = $(OUT)/names
+$(KIT_OUT)/yezdopin_windows_x86_64_v3.S: OTHER_NAMES = /dev/null
+$(WINDOWS_MADE): $(KIT_OUT)/yezdopin_windows_x86_64_%.S: $(KIT_OUT)/libring_c.%/flags \
+    $(KIT_OUT)/%.renamed $(OUT)/names generated/windows.py
+	$(PYTHON) -B generated/windows.py $(<D) $*_ $(KIT_OUT)/$*.renamed $(OTHER_NAMES) $@ $(NOTES) \
+	    $(if $(filter v2,$*),"$(EXCHANGED) $$(git hash-object generated/instructions.py | cut -c-12)")
 endif
 
 # The crate's calls: those of the header without what features.c and status.c have.
@@ -131,14 +143,15 @@ trees = $$(for it in $(CRATES); do echo "$$it $$(git rev-parse --short=12 HEAD:c
 # The further line of a head, of a text with the processor's instructions.
 EXCHANGED = Instructions: put in the place of proved functions by instructions.py, git blob
 
-# The text of the builds for ARCH.
-generated-$(ARCH): $(TEXTS:generated/%.S=$(KIT_OUT)/%.o)
+# The text of the builds for ARCH, and for x86-64 those for Windows.
+generated-$(ARCH): $(TEXTS:generated/%.S=$(KIT_OUT)/%.o) $(WINDOWS_MADE)
 	note="$(EXCHANGED) $$(git hash-object generated/instructions.py | cut -c-12)"; \
 	for it in $(TEXTS:generated/%.S=%); do \
 	    case $$it in *_v3) set --;; *) set -- "$$note";; esac; \
 	    $(PYTHON) -B generated/assembly.py $(KIT_OUT)/$$it.o $(KIT_OUT)/$$it.S $(NOTES) "$$@" \
 	        && mv $(KIT_OUT)/$$it.S generated || exit 1; \
 	done
+	$(if $(WINDOWS_MADE),mv $(WINDOWS_MADE) generated)
 
 # The kit is asked for all, even where no source is newer.
 generated:
@@ -146,13 +159,19 @@ generated:
 	$(MAKE) --no-print-directory -B ARCH=aarch64 generated-aarch64
 	$(MAKE) --no-print-directory -B generated-wasm
 
-# What both link to, to the byte: the library of the text that stands here, and the kit's own.
-generated-check: $(ARCHIVE) $(KIT_ARCHIVE)
+# What both link to, to the byte: the library of the text that stands here, and the kit's own. A
+# text for Windows is compared, but for its head, with the text that is made anew.
+generated-check: $(ARCHIVE) $(KIT_ARCHIVE) $(WINDOWS_MADE)
 	for it in $(ARCHIVE) $(KIT_ARCHIVE); do \
 	    $(LD) -s -shared --whole-archive $$it -o $(KIT_OUT)/$$(basename $${it%/*}).so || exit 1; \
 	done
-	cmp $(KIT_OUT)/$(notdir $(OUT)).so $(KIT_OUT)/kit.so || { echo 'make: generated/ is not what the' \
-	    'kit makes of crates/ring_c: renew it by `make -C capi generated`' >&2; exit 1; }
+	cmp $(KIT_OUT)/$(notdir $(OUT)).so $(KIT_OUT)/kit.so || $(stale)
+	for it in $(notdir $(WINDOWS_MADE)); do \
+	    sed '1,/^ \*\/$$/d' generated/$$it >$(KIT_OUT)/here && \
+	    sed '1,/^ \*\/$$/d' $(KIT_OUT)/$$it | cmp $(KIT_OUT)/here - || $(stale); \
+	done
+stale = { echo 'make: generated/ is not what the kit makes of crates/ring_c: renew it by' \
+    '`make -C capi generated`' >&2; exit 1; }
 endif
 
 # Both builds for x86-64 by all their calls, which have names of their own in that for x86-64-v3.

@@ -3,7 +3,11 @@
  * texts that those would write, and new salts. */
 #include "check.h"
 #include <string.h>
+#ifdef _WIN32
+#define alarm(seconds) ((void)(seconds)) /* Windows has none */
+#else
 #include <unistd.h>
+#endif
 
 static const char PASSWORD[] = "correct horse battery staple";
 

@@ -4,10 +4,14 @@
 #include "yezdopin.h"
 #include <stdio.h>
 #include <string.h>
-#include <ucontext.h>
 
 #define ROOM (64 * 1024)
+#ifdef _WIN32
+#define PROMISED (12 * 1024)
+#else
+#include <ucontext.h>
 #define PROMISED (8 * 1024)
+#endif
 /* What the calls of password hashes are promised: they hold a text's salt and hash. */
 #define PROMISED_TO_HASHES (20 * 1024)
 #define FIRST_OF_HASHES 19
@@ -17,7 +21,6 @@
 #define COUNT 10
 #define LEAVES 18
 
-static uint8_t stack[ROOM] __attribute__((aligned(64)));
 static uint32_t n;
 static int call;
 static const char hash[] = "$7$101$AAECAwQFBgcICQoL$cJ75j/0MokIxIQCU/t1k7JBGVfwD3W1st+OyLYF0EzgR"
@@ -105,21 +108,45 @@ static void run(void) {
     if (status != YZ_OK) printf("call %d of algorithm %u answers %d\n", call, n, status);
 }
 
+#ifdef _WIN32
+/* Paints the stack that the caller's next call has, or gives how much of it is painted no more. */
+static __attribute__((noinline)) size_t below(bool paints) {
+    volatile uint8_t room[ROOM];
+    size_t i = 0;
+    for (; i < ROOM && (paints || room[i] == PAINT); i++) room[i] = PAINT;
+    return ROOM - i;
+}
+
+/* How much stack the call takes. */
+static size_t used(void) {
+    below(true);
+    run();
+    return below(false);
+}
+#else
+/* How much stack the call takes, on one of its own. */
+static size_t used(void) {
+    static uint8_t stack[ROOM] __attribute__((aligned(64)));
+    static ucontext_t back, there;
+    memset(stack, PAINT, ROOM);
+    if (getcontext(&there)) return ROOM;
+    there.uc_stack.ss_sp = stack, there.uc_stack.ss_size = ROOM, there.uc_link = &back;
+    makecontext(&there, run, 0);
+    if (swapcontext(&back, &there)) return ROOM;
+    size_t untouched = 0;
+    while (untouched < ROOM && stack[untouched] == PAINT) untouched++;
+    return ROOM - untouched;
+}
+#endif
+
 int main(void) {
     static size_t most, most_of_hashes;
     for (n = YZ_SHA1; n <= YZ_SHA512; n++)
         for (call = 0; call <= LAST; call++) {
-            static ucontext_t back, there;
-            memset(stack, PAINT, ROOM);
-            if (getcontext(&there)) return 2;
-            there.uc_stack.ss_sp = stack, there.uc_stack.ss_size = ROOM, there.uc_link = &back;
-            makecontext(&there, run, 0);
-            if (swapcontext(&back, &there)) return 2;
-            size_t untouched = 0;
-            while (untouched < ROOM && stack[untouched] == PAINT) untouched++;
+            size_t now = used();
             bool is_of_hashes = call >= FIRST_OF_HASHES && call <= LAST_OF_HASHES;
             size_t *of = is_of_hashes ? &most_of_hashes : &most;
-            if (ROOM - untouched > *of) *of = ROOM - untouched;
+            if (now > *of) *of = now;
         }
     printf("%zu bytes of stack at most, of %d; a password hash's call %zu, of %d\n", most,
            PROMISED, most_of_hashes, PROMISED_TO_HASHES);

@@ -1,8 +1,8 @@
 /* SPDX-License-Identifier: ISC
  * Copyright 2026 the Yezdopin authors.
  *
- * Windows gives a thread its stack page by page, where the next page is touched. So a function whose
- * frame has a page or more calls this one before it makes the frame, with its size in rax. It
+ * Windows gives a thread its stack page by page, where the next page is touched. So a function
+ * whose frame has a page or more calls this one before it makes the frame, with its size in rax. It
  * touches each page of the frame, from above, and keeps all registers. */
 #if defined(__x86_64__) && defined(_WIN32)
 	.text

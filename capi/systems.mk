@@ -3,6 +3,7 @@
 #
 #     make windows              # the DLL, the archive, and what compilers link with for either
 #     make windows-check        # its tests under wine, and calls by single steps
+#     make windows-rust         # the tests of the Rust crate under wine
 #     make windows-zip          # a zip of it, in out/dist
 #     make macos                # the dylib and the archive for both kinds of processor
 #     make macos-check          # the dylib's own code, run by a loader for Linux
@@ -76,8 +77,8 @@ windows: $(call with,$(MINGW_TOOLS),$(WINDOWS_FILES) \
 	$(call without,$(MINGW_TOOLS),the library for Windows)
 	$(call with,$(MINGW_TOOLS),$(call without,llvm-dlltool-$(LLVM),yezdopin.lib))
 
-UNDER_WINE = WINEPREFIX='$(WHOLE_OUT)/wine' WINEDEBUG=-all WINEDLLOVERRIDES='mscoree,mshtml=' \
-    $(WINE)
+WINE_SETTINGS = WINEPREFIX='$(WHOLE_OUT)/wine' WINEDEBUG=-all WINEDLLOVERRIDES='mscoree,mshtml='
+UNDER_WINE = $(WINE_SETTINGS) $(WINE)
 WINDOWS_TESTED = $(WINDOWS_ARCHIVES) $(WINDOWS)/libyezdopin.dll.a
 # $(call wine_test,NAME,ARGUMENTS): a test over $$archive, with its program in $$room.
 wine_test = $(MINGW)gcc -O2 $(WINDOWS_STRICT) test/$(1).c $$archive -o $$room/$(1).exe && \
@@ -111,8 +112,32 @@ windows-tests: $(WINDOWS_FILES) $(WINDOWS_ARCHIVES) $(OUT)/wine/system.reg
 	test "$$($(MINGW)objdump -p $(DLL) | awk '$$1 == "[" && $$3 ~ /^[a-z]/ { print $$3 }' | sort \
 	    | xargs)" = "$$(sort $(OUT)/names | xargs)"
 
-windows-check: windows $(call with,$(MINGW_TOOLS) $(WINE),windows-tests)
+# A program over both libraries, as Microsoft's compiler and linker are called.
+LLD_TOOLS = clang-$(LLVM) lld-link-$(LLVM) llvm-dlltool-$(LLVM)
+of_mingw = "$$($(MINGW)gcc -print-file-name=$(1))"
+windows-linked: $(WINDOWS_FILES) $(WINDOWS)/yezdopin.lib $(OUT)/wine/system.reg
+	clang-$(LLVM) --driver-mode=cl --target=x86_64-pc-windows-msvc /std:c11 /W4 /WX /O2 /GS- \
+	    /clang:-ffreestanding -Iinclude /c test/microsoft/linked.c /Fo$(WINDOWS)/linked.obj
+	for it in yezdopin_static.lib yezdopin.lib; do \
+	    lld-link-$(LLVM) /nologo /nodefaultlib /entry:start /subsystem:console \
+	        /out:$(WINDOWS)/linked.exe $(WINDOWS)/linked.obj $(WINDOWS)/$$it \
+	        $(call of_mingw,libmsvcrt.a) $(call of_mingw,libkernel32.a) && \
+	    $(UNDER_WINE) $(WINDOWS)/linked.exe || exit 1; \
+	done
+
+windows-check: windows $(call with,$(MINGW_TOOLS) $(WINE),windows-tests \
+    $(call with,$(LLD_TOOLS),windows-linked))
 	$(call without,$(MINGW_TOOLS) $(WINE),the tests for Windows)
+	$(call with,$(MINGW_TOOLS) $(WINE),$(call without,$(LLD_TOOLS),a program as by Microsoft's tools))
+
+# The tests of the Rust crate under wine, where Rust's library for Windows is.
+CARGO_WINDOWS = CARGO_TARGET_X86_64_PC_WINDOWS_GNU
+windows-rust: $(WINDOWS)/libyezdopin.a $(OUT)/wine/system.reg
+	cd rust && export YEZDOPIN_LIB_DIR='$(WHOLE_OUT)/windows' \
+	    CARGO_TARGET_DIR='$(WHOLE_OUT)/cargo-windows' $(CARGO_WINDOWS)_LINKER=$(MINGW)gcc \
+	    $(CARGO_WINDOWS)_RUNNER=$(WINE) $(WINE_SETTINGS) && \
+	$(CARGO) test --target x86_64-pc-windows-gnu --offline --locked --quiet && \
+	$(CARGO) build --target x86_64-pc-windows-gnu --offline --locked --quiet --no-default-features
 
 # macOS. Its text is that for Linux.
 
@@ -197,4 +222,5 @@ macos-check: macos
 	$(MAKE) -s --no-print-directory ARCH=aarch64 MACOS=$(MACOS) macos-tests-here
 endif
 
-.PHONY: windows windows-tests windows-check macos macos-tests macos-tests-here macos-check
+.PHONY: windows windows-tests windows-linked windows-check windows-rust macos macos-tests \
+    macos-tests-here macos-check

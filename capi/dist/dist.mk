@@ -14,7 +14,8 @@
 # that fills WORK/NAME with what is installed, and then calls `deb`.
 
 WORDS = tarball deb-libyezdopin$(MAJOR) deb-libyezdopin-dev wheel deb-$(PROVIDER_DEB) \
-    $(if $(filter x86_64,$(ARCH)),deb-$(TOOLS_DEB) crate rustcrypto npm)
+    $(if $(filter x86_64,$(ARCH)),deb-$(TOOLS_DEB) crate rustcrypto npm windows-zip windows-wheel \
+    macos-tarball)
 # Those that lack nothing here, in LACKS_WORD.
 PACKAGES = $(foreach it,$(WORDS),$(if $(strip $(LACKS_$(it))),,$(it)))
 missing = $(foreach it,$(1),$(if $(shell command -v $(it) 2>/dev/null),,$(it)))
@@ -119,7 +120,7 @@ dist-wheel: all
 	    'import build_backend as it, sys; it.build_wheel(sys.argv[1], {"platform": sys.argv[2]})' \
 	    "$(DIST)" manylinux_2_17_$(ARCH)
 	rm -rf "$(WORK)/wheel" && mkdir -p "$(WORK)/wheel"
-	cd "$(WORK)/wheel" && $(PYTHON) -m zipfile -e "$(DIST)"/*.whl .
+	cd "$(WORK)/wheel" && $(PYTHON) -m zipfile -e "$(DIST)"/*-manylinux*.whl .
 	READELF='$(READELF)' OBJDUMP='$(OBJDUMP)' \
 	    dist/manylinux "$(WORK)/wheel/yezdopin/_native.abi3.so"
 
@@ -129,13 +130,17 @@ $(ARM_ARCHIVE): FORCE
 FORCE:
 endif
 
+# $(call prebuilt,SYSTEM-PROCESSOR,ARCHIVE): puts an archive where the crate looks for it.
+prebuilt = mkdir -p "$(WORK)/rust/prebuilt/$(1)" && cp $(2) "$(WORK)/rust/prebuilt/$(1)"
+
 # The Rust crate with the archives in prebuilt/. `cargo package` also builds what it packed.
 dist-crate: all $(ARM_ARCHIVE)
-	rm -rf "$(WORK)/rust" && mkdir -p "$(WORK)/rust/prebuilt/x86_64" "$(WORK)/rust/prebuilt/aarch64"
+	rm -rf "$(WORK)/rust" && mkdir -p "$(WORK)/rust"
 	cp -R rust/src rust/build.rs rust/Cargo.toml rust/Cargo.lock rust/README.md ../LICENSE \
 	    "$(WORK)/rust"
-	cp $(ARCHIVE) "$(WORK)/rust/prebuilt/x86_64"
-	cp $(ARM_ARCHIVE) "$(WORK)/rust/prebuilt/aarch64"
+	$(call prebuilt,linux-x86_64,$(ARCHIVE))
+	$(call prebuilt,linux-aarch64,$(ARM_ARCHIVE))
+	$(crate_systems)
 	cd "$(WORK)/rust" && unset YEZDOPIN_LIB_DIR && CARGO_TARGET_DIR="$(WORK)/cargo" \
 	    $(CARGO) package --offline --quiet --allow-dirty
 	cp "$(WORK)/cargo/package/yezdopin-$(VERSION).crate" "$(DIST)"

@@ -18,6 +18,8 @@ import hashlib
 import io
 import os
 import pathlib
+import platform
+import re
 import shlex
 import shutil
 import subprocess
@@ -34,9 +36,15 @@ IS_SDIST = (FOLDER / "PKG-INFO").is_file()
 PROJECT = tomllib.loads((FOLDER / "pyproject.toml").read_text())["project"]
 PACKAGE = FOLDER / "src" / "yezdopin"  # not beside this file: Python takes a package there first
 STEM = f"{PROJECT['name']}-{PROJECT['version']}"
-EXTENSION = "_native.abi3.so"
+# By the first word of a wheel's platform, the extension's name and how it is linked.
+EXTENSIONS = {"linux": "_native.abi3.so", "macosx": "_native.abi3.so", "win": "_native.pyd"}
+LINKED = {
+    "linux": ["-shared", "-fPIC", "-Wl,--exclude-libs,ALL", "-Wl,-z,relro,-z,now,-z,noexecstack"],
+    "macosx": ["-bundle", "-undefined", "dynamic_lookup", "-Wl,-exported_symbol,_PyInit__native"],
+    "win": ["-shared", "-static-libgcc", "-Wl,--exclude-all-symbols", "-lpython3"],
+}
 HEADER, ARCHIVE = "yezdopin.h", "libyezdopin.a"
-DEBIAN = f"/usr/lib/{os.uname().machine}-linux-gnu"
+DEBIAN = f"/usr/lib/{platform.machine()}-linux-gnu"
 USUAL = ["/usr/local/lib", DEBIAN, "/usr/lib64", "/usr/lib"]
 HINT = "build it (`make -C capi`), install it, or name its folder in YEZDOPIN_LIB_DIR"
 
@@ -95,21 +103,38 @@ def _library() -> tuple[pathlib.Path, pathlib.Path]:
     return _found(HEADER, [*near, *beside, *_pkg_config("includedir")], HINT), archive
 
 
-def _compile(folder: pathlib.Path) -> None:
-    """Compiles the extension into a folder."""
+def _platform(settings: Any) -> str:
+    """The wheel's platform: this machine's, or the one that the settings name."""
+    return str((settings or {}).get("platform", sysconfig.get_platform()))
+
+
+def _system(settings: Any) -> str:
+    """The platform's system, as EXTENSIONS names it."""
+    named = _platform(settings)
+    found = re.match("(?:many|musl)?(linux)|macosx|win", named)
+    if not found:
+        raise SystemExit(f"there is no extension for {named}")
+    return found[1] or found[0]
+
+
+def _compile(folder: pathlib.Path, settings: Any = None) -> None:
+    """Compiles the extension into a folder. YEZDOPIN_PYTHON_INCLUDE names Python's headers where
+    they are for another system than this one."""
     header, archive = _library()
-    python = pathlib.Path(sysconfig.get_paths()["include"])
+    system = _system(settings)
+    own = sysconfig.get_paths()["include"]
+    python = pathlib.Path(os.environ.get("YEZDOPIN_PYTHON_INCLUDE", own))
     _found("Python.h", [python], "install Python's headers (python3-dev on Debian)")
     command = [
         *shlex.split(os.environ.get("CC", "cc")),
         *shlex.split(os.environ.get("CFLAGS", "-O2")),
-        *["-std=c11", "-shared", "-fPIC", "-fvisibility=hidden"],
+        *["-std=c11", "-fvisibility=hidden"],
         *["-I", str(header.parent), "-isystem", str(python)],
         *map(str, sorted((FOLDER / "native").glob("*.c"))),
         str(archive),
-        *["-Wl,--exclude-libs,ALL", "-Wl,-z,relro,-z,now,-z,noexecstack"],
         *shlex.split(os.environ.get("LDFLAGS", "")),
-        *["-o", str(folder / EXTENSION)],
+        *LINKED[system],
+        *["-o", str(folder / EXTENSIONS[system])],
     ]
     try:
         subprocess.run(command, check=True)
@@ -153,8 +178,7 @@ Description-Content-Type: text/markdown
 
 def _tag(settings: Any) -> str:
     """The wheel's tag: for this machine's platform, or for the one that the settings name."""
-    platform = (settings or {}).get("platform", sysconfig.get_platform())
-    return f"cp311-abi3-{platform.replace('-', '_').replace('.', '_')}"
+    return f"cp311-abi3-{_platform(settings).replace('-', '_').replace('.', '_')}"
 
 
 def _write_wheel(directory: str, files: list[tuple[str, bytes]], tag: str) -> str:
@@ -171,7 +195,7 @@ def _write_wheel(directory: str, files: list[tuple[str, bytes]], tag: str) -> st
     with zipfile.ZipFile(pathlib.Path(directory) / name, "w", zipfile.ZIP_DEFLATED) as wheel:
         for path, data in files:
             member = zipfile.ZipInfo(path)
-            member.external_attr = (0o755 if path.endswith(".so") else 0o644) << 16
+            member.external_attr = (0o755 if path.endswith((".so", ".pyd")) else 0o644) << 16
             wheel.writestr(member, data, zipfile.ZIP_DEFLATED)
     return name
 
@@ -181,7 +205,7 @@ def build_wheel(
 ) -> str:
     """Writes the wheel, and gives its name. The settings may name a `platform` for its tag."""
     with tempfile.TemporaryDirectory() as room:
-        fill(pathlib.Path(room))
+        fill(pathlib.Path(room), config_settings)
         paths = sorted(pathlib.Path(room, "yezdopin").iterdir())
         files = [(f"yezdopin/{path.name}", path.read_bytes()) for path in paths]
         return _write_wheel(wheel_directory, files, _tag(config_settings))
@@ -211,14 +235,14 @@ def build_sdist(sdist_directory: str, config_settings: Any = None) -> str:
     return name
 
 
-def fill(folder: pathlib.Path) -> None:
+def fill(folder: pathlib.Path, settings: Any = None) -> None:
     """Puts the package and its extension into a folder."""
     package = folder / "yezdopin"
     shutil.rmtree(package, ignore_errors=True)
     package.mkdir(parents=True)
     for path in _texts():
         shutil.copy(path, package)
-    _compile(package)
+    _compile(package, settings)
 
 
 if __name__ == "__main__":

@@ -1,7 +1,7 @@
 // SPDX-License-Identifier: ISC
-//! Links libyezdopin.a: that of the folder YEZDOPIN_LIB_DIR, that for the target's processor in the
-//! folder prebuilt/, which the packaged crate has, in a clone what `make -C capi` builds, which is
-//! called here, or where it is installed.
+//! Links libyezdopin.a: that of the folder YEZDOPIN_LIB_DIR, that for the target in the folder
+//! prebuilt/, which the packaged crate has, in a clone what `make -C capi` builds, which is called
+//! here, or where it is installed.
 
 use std::env;
 use std::fs;
@@ -21,18 +21,20 @@ fn told() -> Option<PathBuf> {
     answer.status.success().then(|| folder.trim_end().into())
 }
 
-// The target's processor. The library is machine code for two of them, and a linker for another
-// refuses it less clearly.
-fn processor() -> &'static str {
+// The target's system and processor. The library is machine code for some of them, and a linker for
+// another refuses it less clearly.
+fn target() -> (&'static str, &'static str) {
     let target = env::var("TARGET").expect("cargo names the target");
-    let known = ["x86_64", "aarch64"].into_iter();
-    let mut named = known.filter(|it| target.starts_with(&format!("{it}-")));
-    match named.next() {
-        Some(it) if target.contains("-linux-") => it,
+    match target.split_once('-') {
+        Some(("x86_64", "pc-windows-gnu")) => ("windows", "x86_64"),
+        Some(("x86_64", "apple-darwin")) => ("macos", "x86_64"),
+        Some(("aarch64", "apple-darwin")) => ("macos", "aarch64"),
+        Some(("x86_64", it)) if it.contains("linux-") => ("linux", "x86_64"),
+        Some(("aarch64", it)) if it.contains("linux-") => ("linux", "aarch64"),
         _ => {
             eprintln!(
-                "libyezdopin is machine code for Linux on x86-64-v2 or aarch64, \
-                 and not for {target}"
+                "libyezdopin is machine code for Linux and macOS on x86-64-v2 or aarch64, and for \
+                 Windows on x86-64-v2 (windows-gnu), and not for {target}"
             );
             exit(1)
         }
@@ -47,16 +49,23 @@ fn clone_above(package: &Path) -> Option<PathBuf> {
     is_clone.then_some(capi)
 }
 
-// The folder in which `make` builds the library for a processor, in a clone of the repository, from
-// the assembly text there; where the clone can't be written, cargo's own. Where `make` fails, an
-// older or an installed library may serve.
-fn made(capi: &Path, processor: &str) -> PathBuf {
-    let sources = ["generated", "dispatch.c", "features.c", "features.h", "status.c"];
-    for name in sources.into_iter().chain(["include/yezdopin.h"]) {
+// The folder in which `make` builds the library for a target, in a clone of the repository, from the
+// assembly text there; where the clone can't be written, cargo's own. Where `make` fails, an older
+// or an installed library may serve.
+fn made(capi: &Path, system: &str, processor: &str) -> PathBuf {
+    let sources = [
+        "generated",
+        "dispatch.c",
+        "features.c",
+        "features.h",
+        "status.c",
+        "include/yezdopin.h",
+    ];
+    for name in sources {
         println!("cargo:rerun-if-changed={}", capi.join(name).display());
     }
     let host = env::var("HOST").expect("cargo names the host");
-    let out = match host.starts_with(processor) {
+    let out = match system != "linux" || host.starts_with(processor) {
         true => "out".into(),
         false => format!("out/{processor}"),
     };
@@ -64,18 +73,22 @@ fn made(capi: &Path, processor: &str) -> PathBuf {
         true => out,
         false => env::var("OUT_DIR").expect("cargo names a folder"),
     };
+    let folder = match system {
+        "linux" => out.clone(),
+        "macos" => format!("{out}/macos/{processor}"),
+        _ => format!("{out}/{system}"),
+    };
     let mut making = Command::new("make");
-    making.args([
-        "-s",
-        &format!("ARCH={processor}"),
-        &format!("OUT={out}"),
-        &format!("{out}/{ARCHIVE}"),
-    ]);
+    making.args(["-s", &format!("OUT={out}")]);
+    if system == "linux" {
+        making.arg(format!("ARCH={processor}"));
+    }
+    making.arg(format!("{folder}/{ARCHIVE}"));
     let status = making.current_dir(capi).env_remove("MAKEFLAGS").status();
     if !matches!(status, Ok(it) if it.success()) {
         eprintln!("the library was not built: {making:?}: {status:?}");
     }
-    capi.join(out)
+    capi.join(folder)
 }
 
 // Whether the archive is in a folder, or can be built there.
@@ -87,18 +100,21 @@ fn has_room(folder: &Path) -> bool {
 }
 
 // The folders that are tried, the first one first.
-fn folders(processor: &str) -> Vec<PathBuf> {
+fn folders(system: &str, processor: &str) -> Vec<PathBuf> {
     if let Some(folder) = env::var_os("YEZDOPIN_LIB_DIR") {
         return vec![folder.into()];
     }
     let package = env::var_os("CARGO_MANIFEST_DIR").expect("cargo names the package's folder");
     let package = PathBuf::from(package);
-    let prebuilt = package.join("prebuilt").join(processor);
+    let prebuilt = package.join(format!("prebuilt/{system}-{processor}"));
     if prebuilt.join(ARCHIVE).is_file() {
         return vec![prebuilt];
     }
     let mut folders = vec![prebuilt];
-    folders.extend(clone_above(&package).map(|capi| made(&capi, processor)));
+    folders.extend(clone_above(&package).map(|capi| made(&capi, system, processor)));
+    if system != "linux" {
+        return folders;
+    }
     folders.extend(told());
     // Where archives are installed, where pkg-config doesn't tell.
     let debian = format!("/usr/lib/{processor}-linux-gnu");
@@ -121,7 +137,8 @@ fn found(folders: &[PathBuf]) -> &PathBuf {
 fn main() {
     println!("cargo:rerun-if-env-changed=YEZDOPIN_LIB_DIR");
     println!("cargo:rerun-if-env-changed=PKG_CONFIG_PATH");
-    let folders = folders(processor());
+    let (system, processor) = target();
+    let folders = folders(system, processor);
     let folder = found(&folders);
     println!("cargo:rerun-if-changed={}", folder.join(ARCHIVE).display());
     println!("cargo:rustc-link-search=native={}", folder.display());

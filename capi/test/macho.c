@@ -1,8 +1,8 @@
 /* SPDX-License-Identifier: ISC */
-/* Runs the code of a dylib for macOS on Linux: loads the file that YEZDOPIN_DYLIB names, and answers
- * each call of the header by the dylib's function of that name. Both systems pass arguments alike
- * on one kind of processor. The loader knows only what this library needs: segments, names, and
- * pointers to memcpy, memmove and memset. calls.h has X(NAME) for each call. */
+/* Runs the code of a dylib for macOS on Linux: loads the file that YEZDOPIN_DYLIB names, and
+ * answers each call of the header by the dylib's function of that name. Both systems pass arguments
+ * alike on one kind of processor. The loader knows only what this library needs: segments, names,
+ * and pointers to memcpy, memmove and memset. calls.h has X(NAME) for each call. */
 #include <fcntl.h>
 #include <stdint.h>
 #include <stdio.h>

@@ -64,8 +64,9 @@ pub trait RandomlyConstructable: sealed::RandomlyConstructable {}
 
 impl<T: sealed::RandomlyConstructable> RandomlyConstructable for T {}
 
-/// The source of the operating system, `getrandom(2)`: the first call waits until the system has
-/// gathered enough, and none falls back to another source. One serves all threads.
+/// The source of the operating system: `getrandom(2)`, on macOS `getentropy(2)`, on Windows
+/// `BCryptGenRandom`. The first call waits until the system has gathered enough, and none falls
+/// back to another source. One serves all threads.
 #[derive(Clone, Debug)]
 pub struct SystemRandom(());
 
@@ -89,7 +90,8 @@ impl sealed::SecureRandom for SystemRandom {
 }
 
 // Writes random bytes over the front of `dest`, which isn't empty, and tells how many: one or more.
-// The system may write fewer than asked for, or none where a signal comes between.
+// Linux may write fewer than asked for, or none where a signal comes between.
+#[cfg(target_os = "linux")]
 fn some_random(dest: &mut [u8]) -> Result<usize, Unspecified> {
     loop {
         // SAFETY: `dest` is lent for writing.
@@ -104,17 +106,58 @@ fn some_random(dest: &mut [u8]) -> Result<usize, Unspecified> {
 }
 
 // Whether the last call of the system ended since a signal came.
+#[cfg(target_os = "linux")]
 fn was_interrupted() -> bool {
     const EINTR: i32 = 4;
     // SAFETY: the C library gives the place of this thread's number.
     unsafe { *__errno_location() == EINTR }
 }
 
+#[cfg(target_os = "linux")]
 extern "C" {
     // As <sys/random.h> declares it.
     fn getrandom(buf: *mut c_void, buflen: usize, flags: u32) -> isize;
     // As <errno.h> of glibc and of musl has it.
     fn __errno_location() -> *mut i32;
+}
+
+// macOS writes all that it is asked for or nothing, and at most 256 bytes at once.
+#[cfg(target_os = "macos")]
+fn some_random(dest: &mut [u8]) -> Result<usize, Unspecified> {
+    const MOST: usize = 256;
+    let count = dest.len().min(MOST);
+    // SAFETY: `dest` is lent for writing.
+    match unsafe { getentropy(dest.as_mut_ptr().cast(), count) } {
+        0 => Ok(count),
+        _ => Err(Unspecified),
+    }
+}
+
+#[cfg(target_os = "macos")]
+extern "C" {
+    // As <sys/random.h> declares it.
+    fn getentropy(buffer: *mut c_void, size: usize) -> i32;
+}
+
+// Windows writes all that it is asked for or nothing.
+#[cfg(windows)]
+fn some_random(dest: &mut [u8]) -> Result<usize, Unspecified> {
+    const USE_SYSTEM_PREFERRED_RNG: u32 = 2;
+    const MOST: usize = 1 << 30; // the count is of 32 bits
+    let count = dest.len().min(MOST);
+    let (none, buffer) = (core::ptr::null_mut(), dest.as_mut_ptr());
+    // SAFETY: `dest` is lent for writing.
+    match unsafe { BCryptGenRandom(none, buffer, count as u32, USE_SYSTEM_PREFERRED_RNG) } {
+        0 => Ok(count),
+        _ => Err(Unspecified),
+    }
+}
+
+#[cfg(windows)]
+#[link(name = "bcrypt")]
+extern "system" {
+    // As <bcrypt.h> declares it.
+    fn BCryptGenRandom(algorithm: *mut c_void, buffer: *mut u8, count: u32, flags: u32) -> i32;
 }
 
 // What no other crate can name, so that none has a source or a value of its own.

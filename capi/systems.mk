@@ -30,7 +30,7 @@ comma = ,
 # Windows.
 
 DLL = $(WINDOWS)/yezdopin-$(MAJOR).dll
-MINGW_TOOLS = $(addprefix $(MINGW),gcc ar nm objdump)
+MINGW_TOOLS = $(addprefix $(MINGW),gcc ar nm objcopy objdump)
 WINDOWS_STRICT = -std=c11 -D__USE_MINGW_ANSI_STDIO=1 $(WARNINGS) -Iinclude
 WINDOWS_OBJECTS = $(WINDOWS_TEXTS:generated/%.S=$(WINDOWS)/%.o) $(WINDOWS)/probe.o
 
@@ -89,8 +89,8 @@ $(OUT)/wine/system.reg:
 	mkdir -p $(@D)
 	$(UNDER_WINE) wineboot --init >$(OUT)/wine/said 2>&1
 
-# The tests over each archive and over the DLL; the dispatcher's; the example; then single steps,
-# and the names of the archive and of the DLL.
+# The tests over each archive and over the DLL; the dispatcher's; the example; single steps; the code
+# of probe.S, on Linux; and the names of the archive and of the DLL.
 windows-tests: $(WINDOWS_FILES) $(WINDOWS_ARCHIVES) $(OUT)/wine/system.reg
 	for it in $(STATUS_TESTS); do \
 	    $(call on_each,$(WINDOWS_TESTED),$(call wine_test,$$it)) || exit 1; \
@@ -106,6 +106,9 @@ windows-tests: $(WINDOWS_FILES) $(WINDOWS_ARCHIVES) $(OUT)/wine/system.reg
 	    5bdcc146bf60754e6a042426089575c75a003f089d2739839dec58b964ec3843 # RFC 4231, test case 2
 	$(call on_each,$(filter-out $(WINDOWS)/libyezdopin.a,$(WINDOWS_ARCHIVES)), \
 	    $(call wine_test,steps))
+	$(MINGW)objcopy -O binary -j .text $(WINDOWS)/probe.o $(WINDOWS)/probe.code
+	$(CC) -O2 -std=gnu11 $(WARNINGS) test/probe.c -o $(WINDOWS)/probe
+	$(WINDOWS)/probe $(WINDOWS)/probe.code
 	test "$$($(MINGW)nm -u $(WINDOWS)/libyezdopin.a \
 	    | awk '$$1 == "U" && $$2 !~ /^(v[23]|yz)_/ { print $$2 }' | sort -u | xargs)" = \
 	    'memcpy memmove memset'

@@ -1,8 +1,8 @@
 #!/usr/bin/env python3
 # SPDX-License-Identifier: ISC
 """The C library and its callers in C, Python and Rust: `make -C capi check exports constant-time`,
-`traces` and `instructions-check`; and for 64-bit ARM the library and its callers in C and Rust,
-under qemu-user.
+`traces` and `instructions-check`; for 64-bit ARM the library and its callers in C and Rust, under
+qemu-user; and the library for Windows under wine, and the code of that for macOS.
 
 The library is built first, from the assembly text of capi/generated. The first part proves and
 builds `ring_c` by the kit, and compares both libraries byte by byte; each other part is then tried
@@ -26,13 +26,23 @@ BUILT = {
     "aarch64": [f"{OUT}/libring_c.aarch64.a"],
 }
 
+# The texts, and what make doesn't make anew where it compares others in their place.
+TEXTS = {
+    "x86_64": ["yezdopin_x86_64_v2.S", "yezdopin_x86_64_v3.S",
+               "yezdopin_windows_x86_64_v2.S", "yezdopin_windows_x86_64_v3.S"],
+    "aarch64": ["yezdopin_aarch64.S"],
+}
+KIT_OUT = {"x86_64": FOLDER / "out/kit", "aarch64": FOLDER / "out/aarch64/kit"}
+
 # What make's targets are called by, and what each needs beside `rt`.
-# The part that asks `rt`, even where make finds nothing newer.
-GENERATED = "generated-check"
+# The part that asks `rt`, even where make finds nothing newer; and the one behind it, which is tried
+# here.
+GENERATED, ALTERED = "generated-check", "generated-check, altered"
 # Fewer inputs than the target's own.
 INSTRUCTIONS = "instructions-check INPUTS=500000"
 PARTS = [
     (GENERATED, ["rt", "cc"], "that the assembly text is what the kit makes of the proved crate"),
+    (ALTERED, ["rt", "cc"], "that it refuses each text with another instruction"),
     ("test", ["cc"],
      "each status, each vector, pieces, copies, garbage, the stack, of both builds"),
     ("builds", ["cc", "objdump"], "the choice of a build, and that both give the same"),
@@ -50,9 +60,14 @@ PARTS = [
     ("traces", ["cc", "nm", "qemu-x86_64 with plugins"], "the same from traces under qemu-user"),
     (INSTRUCTIONS, ["cc", "python3"],
      "the processor's SHA instructions: how they are put in, beside definitions, vectors/"),
+    ("windows-check", ["x86_64-w64-mingw32-gcc", "wine64"],
+     "the library for Windows: each status, each vector, single steps, the stack, names"),
+    ("macos-check", ["cc", "clang-19", "ld64.lld-19"],
+     "the library for macOS: its code under the tests of Linux, and beside that of Linux"),
 ]
 ARM_PARTS = [
     (GENERATED, ["rt"], "that the assembly text is what the kit makes of the proved crate"),
+    (ALTERED, ["rt"], "that it refuses a text with another instruction"),
     ("test", ["qemu-aarch64"], "each status, each vector, pieces, copies, garbage, the stack"),
     ("header", ["aarch64-linux-gnu-g++", "python3"], "the header as C99 and C++11"),
     ("installed", ["qemu-aarch64"], "what `make install` installs, by the example"),
@@ -104,6 +119,8 @@ def is_there(tool):
             for it in ("--version", "-h")
         )
         return re.search(r"version [1-8]\.", said) is not None and "-plugin" in said
+    if tool == "wine64":  # Debian has it outside of the folders of commands
+        return any(map(shutil.which, ("/usr/lib/wine/wine64", "wine")))
     name = os.environ.get({"cc": "CC", "c++": "CXX", "rt": "RT"}.get(tool, ""), tool)
     return shutil.which(name) is not None
 
@@ -122,6 +139,24 @@ def make(arch, *arguments):
     return said if run.returncode else None, re.findall(r"^left out: .*, without .*", said, re.M)
 
 
+def altered(arch):
+    """What is wrong where a text with one other instruction is taken for the kit's, or None."""
+    made = ["libyezdopin.a", *(it for it in TEXTS[arch] if "windows" in it)]
+    kept = [*BUILT[arch], *(KIT_OUT[arch] / it for it in made)]
+    options = [word for it in kept for word in ("-o", str(it))]
+    without = shutil.ignore_patterns("out", "target", "node_modules")
+    for name in TEXTS[arch]:
+        with tempfile.TemporaryDirectory() as room:
+            copy = shutil.copytree(FOLDER, f"{room}/capi", ignore=without)
+            text = pathlib.Path(copy, "generated", name)
+            code = text.read_text()
+            text.write_text(re.sub(r"\t(v?)(xor|eor)", r"\t\1and", code, count=1))
+            fault, _ = make(arch, "-C", copy, f"KIT_OUT={KIT_OUT[arch]}", *options, GENERATED)
+        if fault is None or "is not what the kit makes" not in fault:
+            return f"{name}: {fault or 'taken'}"
+    return None
+
+
 def try_parts(arch, always, parts):
     """Builds the library for a kind of processor, and tries its parts; how many passed, failed and
     were left out."""
@@ -136,7 +171,10 @@ def try_parts(arch, always, parts):
             skipped += 1
             continue
         how = ["-B"] if name == GENERATED else kept
-        fault, left_out = (unbuilt, []) if unbuilt else make(arch, *how, *name.split())
+        if name == ALTERED:
+            fault, left_out = altered(arch), []
+        else:
+            fault, left_out = (unbuilt, []) if unbuilt else make(arch, *how, *name.split())
         for line in left_out:
             print(line)
         skipped += len(left_out)

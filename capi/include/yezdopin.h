@@ -20,7 +20,7 @@
  * - what a call writes overlaps nothing else that it is given;
  * - a pointer to a context, a key, a single hash or a single number is aligned as its type, and not
  *   NULL;
- * - the thread has 8 KiB of stack left, and for a call of password hashes 20 KiB.
+ * - the thread has 8 KiB of stack left (Windows: 12), and for a call of password hashes 20 KiB.
  *
  * A call that can be refused answers YZ_OK, or the first cause that holds in the order of
  * yz_status, which is the one with the least number. Past YZ_OK it has written nothing. */

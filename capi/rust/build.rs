@@ -59,6 +59,7 @@ fn made(capi: &Path, system: &str, processor: &str) -> PathBuf {
         "features.c",
         "features.h",
         "status.c",
+        "probe.S",
         "include/yezdopin.h",
     ];
     for name in sources {

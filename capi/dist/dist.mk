@@ -52,10 +52,12 @@ endef
 deb = MAINTAINER='$(MAINTAINER)' SOURCE_DATE_EPOCH=$(SOURCE_DATE_EPOCH) \
     dist/deb "$(WORK)/$(1)" $(VERSION) $(DPKG_ARCH) "$(DIST)"
 
+# On a Mac GNU's tar has another name.
+TAR ?= $(if $(filter Darwin,$(SYSTEM)),gtar,tar)
 # $(call pack,FOLDER,FILE): a folder of WORK, packed into a file of DIST.
 define pack
 	chmod -R u=rwX,go=rX "$(WORK)/$(1)"
-	LC_ALL=C tar -C "$(WORK)" --sort=name --owner=0 --group=0 --numeric-owner --format=ustar \
+	LC_ALL=C $(TAR) -C "$(WORK)" --sort=name --owner=0 --group=0 --numeric-owner --format=ustar \
 	    --mtime=@$(SOURCE_DATE_EPOCH) -cf - $(1) | gzip -9n >"$(DIST)/$(2)"
 endef
 

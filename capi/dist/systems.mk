@@ -4,7 +4,7 @@
 
 LACKS_windows-zip = $(call missing,$(MINGW_TOOLS) llvm-dlltool-$(LLVM))
 LACKS_windows-wheel = $(LACKS_wheel) $(call missing,$(MINGW_TOOLS) $(MINGW)dlltool)
-LACKS_macos-tarball = $(call missing,$(APPLE_TOOLS))
+LACKS_macos-tarball = $(call missing,$(APPLE_TOOLS) $(TAR))
 
 # $(call system_tree,FOLDER,PROCESSOR,SONAME,SHARED): what the packages for both systems have alike.
 # SHARED is the shared library's file, seen from lib/.

@@ -8,7 +8,11 @@
 #include "yezdopin.h"
 #include <stdatomic.h>
 
+#ifdef _WIN32
+#define HIDDEN /* a DLL shows what its definition file names */
+#else
 #define HIDDEN __attribute__((visibility("hidden")))
+#endif
 
 /* What the library runs here, as yz_features says, and ASKED; 0 as long as nobody asked. */
 enum { ASKED = 1 << 7 };

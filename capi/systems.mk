@@ -2,7 +2,7 @@
 # The library for Windows, in out/windows, and for macOS, in out/macos, built and tested on Linux:
 #
 #     make windows              # the DLL, the archive, and what compilers link with for either
-#     make windows-check        # its tests under wine, and calls by single steps
+#     make windows-check        # its tests under wine, calls by single steps, its code on Linux
 #     make windows-rust         # the tests of the Rust crate under wine
 #     make windows-zip          # a zip of it, in out/dist
 #     make macos                # the dylib and the archive for both kinds of processor
@@ -43,17 +43,21 @@ $(WINDOWS)/probe.o: probe.S
 
 # Windows' rules for unwinding don't have a function that ends by a jump to another one.
 WINDOWS_COMPILED = $(MINGW)gcc -O2 -fno-optimize-sibling-calls $(WINDOWS_STRICT)
-$(WINDOWS)/dispatch.o $(WINDOWS)/status.o: $(WINDOWS)/%.o: %.c $(HEADER)
+$(WINDOWS)/%.o: %.c features.h $(HEADER)
 	mkdir -p $(@D)
 	$(WINDOWS_COMPILED) -c $< -o $@
-$(WINDOWS)/v2/dispatch.o $(WINDOWS)/v3/dispatch.o: $(WINDOWS)/v%/dispatch.o: dispatch.c $(HEADER)
+$(WINDOWS)/v2/%.o: %.c features.h $(HEADER)
 	mkdir -p $(@D)
-	$(WINDOWS_COMPILED) -DFORCED=$* -c $< -o $@
+	$(WINDOWS_COMPILED) -DFORCED=2 -c $< -o $@
+$(WINDOWS)/v3/%.o: %.c features.h $(HEADER)
+	mkdir -p $(@D)
+	$(WINDOWS_COMPILED) -DFORCED=3 -c $< -o $@
 
 # GNU ld's `-r` spoils the tables for unwinding, so each archive has several objects, and shows the
 # names of the builds.
 WINDOWS_ARCHIVES = $(WINDOWS)/libyezdopin.a $(WINDOWS)/v2/libyezdopin.a $(WINDOWS)/v3/libyezdopin.a
-$(WINDOWS_ARCHIVES): %/libyezdopin.a: %/dispatch.o $(WINDOWS)/status.o $(WINDOWS_OBJECTS)
+$(WINDOWS_ARCHIVES): %/libyezdopin.a: %/dispatch.o %/features.o $(WINDOWS)/status.o \
+    $(WINDOWS_OBJECTS)
 	rm -f $@
 	$(MINGW)ar rcsD $@ $^
 # By the name that Microsoft's linker looks for.
@@ -89,8 +93,8 @@ $(OUT)/wine/system.reg:
 	mkdir -p $(@D)
 	$(UNDER_WINE) wineboot --init >$(OUT)/wine/said 2>&1
 
-# The tests over each archive and over the DLL; the dispatcher's; the example; single steps; the code
-# of probe.S, on Linux; and the names of the archive and of the DLL.
+# The tests over each archive and over the DLL; the dispatcher's; the example; single steps; the
+# code of probe.S, on Linux; and the names of the archive and of the DLL.
 windows-tests: $(WINDOWS_FILES) $(WINDOWS_ARCHIVES) $(OUT)/wine/system.reg
 	for it in $(STATUS_TESTS); do \
 	    $(call on_each,$(WINDOWS_TESTED),$(call wine_test,$$it)) || exit 1; \
@@ -128,7 +132,14 @@ windows-linked: $(WINDOWS_FILES) $(WINDOWS)/yezdopin.lib $(OUT)/wine/system.reg
 	    $(UNDER_WINE) $(WINDOWS)/linked.exe || exit 1; \
 	done
 
-windows-check: windows $(call with,$(MINGW_TOOLS) $(WINE),windows-tests \
+# The same code on Linux, with the processor's SHA instructions too.
+$(OUT)/windows_on_linux.a: test/on_linux $(WINDOWS_TEXTS) probe.S $(OUT)/dispatch.o \
+    $(OUT)/features.o $(OUT)/status.o
+	CC='$(CC)' test/on_linux $@ $(filter %.S,$^) -- $(filter %.o,$^)
+windows-code: $(OUT)/windows_on_linux.a
+	CC='$(CC) $(CFLAGS) $(STRICT)' test/instructions/check $< '' $(VECTORS)
+
+windows-check: windows windows-code $(call with,$(MINGW_TOOLS) $(WINE),windows-tests \
     $(call with,$(LLD_TOOLS),windows-linked))
 	$(call without,$(MINGW_TOOLS) $(WINE),the tests for Windows)
 	$(call with,$(MINGW_TOOLS) $(WINE),$(call without,$(LLD_TOOLS),a program as by Microsoft's tools))
@@ -153,10 +164,11 @@ APPLE_AR = ar rcs
 LIPO ?= lipo
 APPLE_TOOLS = $(CC) ar $(LIPO)
 else
-# libSystem.tbd has the names that the library takes of Apple's.
-apple_cc = clang-$(LLVM) --target=$(call apple_arch,$(1))-apple-macosx11 -ffreestanding -nostdlibinc
+# In the place of Apple's: what the library takes of a header, and the names of its libSystem.
+apple_cc = clang-$(LLVM) --target=$(call apple_arch,$(1))-apple-macosx11 -ffreestanding \
+    -nostdlibinc -isystem macos
 APPLE_AR = llvm-ar-$(LLVM) rcsD --format=darwin
-APPLE_LINKED = -fuse-ld=lld -nostdlib libSystem.tbd -Wl,-adhoc_codesign
+APPLE_LINKED = -fuse-ld=lld -nostdlib macos/libSystem.tbd -Wl,-adhoc_codesign
 LIPO ?= llvm-lipo-$(LLVM)
 APPLE_TOOLS = clang-$(LLVM) ld64.lld-$(LLVM) llvm-ar-$(LLVM) $(LIPO)
 endif
@@ -165,23 +177,28 @@ $(MACOS)/names: $(HEADER)
 	mkdir -p $(@D)
 	$(calls_of_header) >$@
 
-$(MACOS)/x86_64/yezdopin_%.o $(MACOS)/aarch64/yezdopin_%.o: generated/yezdopin_%.S
+define apple_compiled
 	mkdir -p $(@D)
-	$(call apple_cc,$(@D)) -c $< -o $@
-$(MACOS)/x86_64/dispatch.o $(MACOS)/x86_64/status.o $(MACOS)/aarch64/status.o: $(HEADER)
-	mkdir -p $(@D)
-	$(call apple_cc,$(@D)) -O2 -fPIC $(STRICT) -c $(basename $(@F)).c -o $@
-$(MACOS)/x86_64/dispatch.o: dispatch.c
-$(MACOS)/x86_64/status.o $(MACOS)/aarch64/status.o: status.c
+	$(call apple_cc,$(@D)) -O2 -fPIC $(STRICT) -c $< -o $@
+endef
+$(MACOS)/x86_64/%.o: generated/%.S
+	$(apple_compiled)
+$(MACOS)/aarch64/%.o: generated/%.S
+	$(apple_compiled)
+$(MACOS)/x86_64/%.o: %.c features.h $(HEADER)
+	$(apple_compiled)
+$(MACOS)/aarch64/%.o: %.c features.h $(HEADER)
+	$(apple_compiled)
 
 $(MACOS)/x86_64/libyezdopin.a: $(addprefix $(MACOS)/x86_64/, \
-    dispatch.o status.o yezdopin_x86_64_v2.o yezdopin_x86_64_v3.o)
-$(MACOS)/aarch64/libyezdopin.a: $(addprefix $(MACOS)/aarch64/,status.o yezdopin_aarch64.o)
+    dispatch.o features.o status.o yezdopin_x86_64_v2.o yezdopin_x86_64_v3.o)
+$(MACOS)/aarch64/libyezdopin.a: $(addprefix $(MACOS)/aarch64/, \
+    features.o status.o yezdopin_aarch64.o)
 $(MACOS)/x86_64/libyezdopin.a $(MACOS)/aarch64/libyezdopin.a:
 	rm -f $@
 	$(APPLE_AR) $@ $^
 $(MACOS)/x86_64/$(DYLIB) $(MACOS)/aarch64/$(DYLIB): %/$(DYLIB): %/libyezdopin.a $(MACOS)/names \
-    libSystem.tbd
+    macos/libSystem.tbd
 	sed 's/^/_/' $(MACOS)/names >$(@D)/exported
 	$(call apple_cc,$(@D)) -dynamiclib -Wl,-all_load $< -install_name @rpath/$(DYLIB) \
 	    -Wl,-compatibility_version,$(MAJOR) -Wl,-current_version,$(VERSION) \
@@ -225,5 +242,5 @@ macos-check: macos
 	$(MAKE) -s --no-print-directory ARCH=aarch64 MACOS=$(MACOS) macos-tests-here
 endif
 
-.PHONY: windows windows-tests windows-linked windows-check windows-rust macos macos-tests \
-    macos-tests-here macos-check
+.PHONY: windows windows-code windows-tests windows-linked windows-check windows-rust macos \
+    macos-tests macos-tests-here macos-check

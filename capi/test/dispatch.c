@@ -317,7 +317,7 @@ static void each_call(void) {
     for (int features = 0; features < 4; features++) {
         bool has_v3 = features & YZ_FEATURE_V3, has_sha = features & YZ_FEATURE_SHA;
         yz_known = (uint8_t)(ASKED | features);
-        is("yz_features", yz_features(), features);
+        is("yz_features", (long)yz_features(), features);
         for (int which = 0; which < NUM_CALLS; which++)
             for (uint32_t n = 0; n < 9; n++)
                 for (size_t out_len = 0; out_len < 300; out_len++)
@@ -337,10 +337,18 @@ static void first_call(int build_wanted, bool sha_wanted) {
         is("yz_digest_each", build_of(EACH, YZ_SHA256, 4), build_wanted);
     is("how often the processor is asked", asked, 2); /* for each of both features */
     int features = build_wanted == 3 ? YZ_FEATURE_V3 : 0;
-    is("yz_features", yz_features(), features | (sha_wanted ? YZ_FEATURE_SHA : 0));
+    is("yz_features", (long)yz_features(), features | (sha_wanted ? YZ_FEATURE_SHA : 0));
     is("yz_instructions", yz_instructions, sha_wanted);
     gets_sha = false;
 }
+
+#ifdef _WIN32
+#define setenv(name, value, replaces) _putenv_s(name, value)
+#define unsetenv(name) _putenv_s(name, "")
+enum { IS_READ = false }; /* the environment */
+#else
+enum { IS_READ = true };
+#endif
 
 static void refused(const char *value, bool sha_wanted) {
     is("setenv", setenv("YEZDOPIN_INSTRUCTIONS", value, 1), 0);
@@ -357,7 +365,7 @@ static void try_all(void) {
     lost.leaf = 7, lost.bits = bit_SHA;
     first_call(wanted(), false);
     lost.bits = 0;
-    refused("0", false);
+    refused("0", !IS_READ);
     refused("1", true);
     refused("", true);
     refused("00", true);

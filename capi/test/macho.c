@@ -2,7 +2,8 @@
 /* Runs the code of a dylib for macOS on Linux: loads the file that YEZDOPIN_DYLIB names, and
  * answers each call of the header by the dylib's function of that name. Both systems pass arguments
  * alike on one kind of processor. The loader knows only what this library needs: segments, names,
- * and pointers to memcpy, memmove and memset. calls.h has X(NAME) for each call. */
+ * pointers to what it takes of others, and what is to run first. calls.h has X(NAME) for each
+ * call. */
 #include <fcntl.h>
 #include <stdint.h>
 #include <stdio.h>
@@ -15,8 +16,8 @@
 /* As <mach-o/loader.h> and <mach-o/nlist.h> of macOS have them. */
 #define MAGIC 0xfeedfacfu
 enum { OF_DYLIB = 6 };
-enum { SYMBOLS = 2, INDIRECT = 0xb, SEGMENT = 0x19 };          /* kinds of commands */
-enum { NON_LAZY_POINTERS = 6, LAZY_POINTERS = 7, KIND = 0xff }; /* kinds of sections */
+enum { SYMBOLS = 2, INDIRECT = 0xb, SEGMENT = 0x19 }; /* kinds of commands */
+enum { NON_LAZY_POINTERS = 6, LAZY_POINTERS = 7, STARTS = 9, KIND = 0xff }; /* of sections */
 enum { DEFINED_AND_SHOWN = 0xf, NAME_KIND = 0x1f };
 typedef struct {
     uint32_t magic, cpu, cpu_subtype, type, commands, size, flags, reserved;
@@ -115,6 +116,7 @@ static void *taken(const char *name) {
     if (!strcmp(name, "_memcpy")) return (void *)memcpy;
     if (!strcmp(name, "_memmove")) return (void *)memmove;
     if (!strcmp(name, "_memset")) return (void *)memset;
+    if (!strcmp(name, "_getenv")) return (void *)getenv;
     if (strcmp(name, "dyld_stub_binder")) refuse(name);
     return NULL;
 }
@@ -129,9 +131,21 @@ static void bind_section(const section *it) {
     }
 }
 
-static void bind_segment(const segment *it) {
-    const section *sections = (const void *)(it + 1);
-    for (uint32_t i = 0; i < it->sections; i++) bind_section(sections + i);
+/* Runs the functions that are to run before any call. */
+static void start_section(const section *it) {
+    if ((it->flags & KIND) != STARTS) return;
+    for (uint64_t i = 0; i < it->room / sizeof(uint64_t); i++) {
+        uint64_t place;
+        memcpy(&place, file + it->offset + i * sizeof place, sizeof place);
+        ((void (*)(void))(memory + place))();
+    }
+}
+
+static void for_sections(void (*work)(const section *)) {
+    for (const segment *it = NULL; (it = next(SEGMENT, it));) {
+        const section *sections = (const void *)(it + 1);
+        for (uint32_t i = 0; i < it->sections; i++) work(sections + i);
+    }
 }
 
 static void *place_of(const char *name) {
@@ -156,11 +170,11 @@ __attribute__((constructor)) static void load(void) {
     indirect = next(INDIRECT, NULL);
     if (!names || !indirect) refuse("the dylib has no names");
     load_segments();
-    for (const segment *it = NULL; (it = next(SEGMENT, it));) bind_segment(it);
+    for_sections(bind_section);
     find_calls();
     /* macOS numbers reading, writing and running as Linux does. */
     for (const segment *it = NULL; (it = next(SEGMENT, it));)
         if (it->room && mprotect(memory + it->address, it->room, (int)it->protection))
             refuse("the system refuses a protection");
-    __builtin___clear_cache((char *)memory, (char *)memory + 1);
+    for_sections(start_section);
 }

@@ -3,6 +3,7 @@
 #
 #     make windows              # the DLL, the archive, and what compilers link with for either
 #     make windows-check        # its tests under wine, calls by single steps, its code on Linux
+#     make windows-traces       # no jump or address by a secret in its code
 #     make windows-rust         # the tests of the Rust crate under wine
 #     make windows-zip          # a zip of it, in out/dist
 #     make macos                # the dylib and the archive for both kinds of processor
@@ -139,6 +140,10 @@ $(OUT)/windows_on_linux.a: test/on_linux $(WINDOWS_TEXTS) probe.S $(OUT)/dispatc
 windows-code: $(OUT)/windows_on_linux.a
 	CC='$(CC) $(CFLAGS) $(STRICT)' test/instructions/check $< '' $(VECTORS)
 
+# No jump and no address by a secret in it.
+windows-traces: $(OUT)/windows_on_linux.a
+	HOSTCC='$(HOSTCC)' CC='$(CC)' NM='$(NM)' test/traces/compare '$(EMULATOR)' $<
+
 windows-check: windows windows-code $(call with,$(MINGW_TOOLS) $(WINE),windows-tests \
     $(call with,$(LLD_TOOLS),windows-linked))
 	$(call without,$(MINGW_TOOLS) $(WINE),the tests for Windows)
@@ -242,5 +247,5 @@ macos-check: macos
 	$(MAKE) -s --no-print-directory ARCH=aarch64 MACOS=$(MACOS) macos-tests-here
 endif
 
-.PHONY: windows windows-code windows-tests windows-linked windows-check windows-rust macos \
-    macos-tests macos-tests-here macos-check
+.PHONY: windows windows-code windows-traces windows-tests windows-linked windows-check \
+    windows-rust macos macos-tests macos-tests-here macos-check

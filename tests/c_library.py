@@ -35,8 +35,8 @@ TEXTS = {
 KIT_OUT = {"x86_64": FOLDER / "out/kit", "aarch64": FOLDER / "out/aarch64/kit"}
 
 # What make's targets are called by, and what each needs beside `rt`.
-# The part that asks `rt`, even where make finds nothing newer; and the one behind it, which is tried
-# here.
+# The part that asks `rt`, even where make finds nothing newer, and the one behind it, which is tried
+# by `altered`.
 GENERATED, ALTERED = "generated-check", "generated-check, altered"
 # Fewer inputs than the target's own.
 INSTRUCTIONS = "instructions-check INPUTS=500000"
@@ -62,6 +62,8 @@ PARTS = [
      "the processor's SHA instructions: how they are put in, beside definitions, vectors/"),
     ("windows-check", ["x86_64-w64-mingw32-gcc", "wine64"],
      "the library for Windows: each status, each vector, single steps, the stack, names"),
+    ("windows-traces", ["cc", "nm", "qemu-x86_64 with plugins"],
+     "no jump or address by a secret in the code for Windows"),
     ("macos-check", ["cc", "clang-19", "ld64.lld-19"],
      "the library for macOS: its code under the tests of Linux, and beside that of Linux"),
 ]

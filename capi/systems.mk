@@ -69,8 +69,10 @@ $(WINDOWS)/yezdopin_static.lib: $(WINDOWS)/libyezdopin.a
 $(WINDOWS)/yezdopin.def: $(OUT)/names
 	mkdir -p $(@D)
 	{ echo 'LIBRARY $(notdir $(DLL))' && echo EXPORTS && cat $<; } >$@
+# Without the time, and where it is to be loaded said, since ld makes that of the file's path.
+REPEATABLE = -Wl,--no-insert-timestamp -Wl,--image-base=0x180000000
 $(DLL): $(WINDOWS)/libyezdopin.a $(WINDOWS)/yezdopin.def
-	$(MINGW)gcc -shared -nostdlib -Wl,-e,0 -Wl,--no-insert-timestamp -s -o $@ \
+	$(MINGW)gcc -shared -nostdlib -Wl,-e,0 $(REPEATABLE) -s -o $@ \
 	    -Wl,--whole-archive $< -Wl,--no-whole-archive $(WINDOWS)/yezdopin.def \
 	    -Wl,--out-implib,$(WINDOWS)/libyezdopin.dll.a -lmsvcrt
 $(WINDOWS)/yezdopin.lib: $(DLL)

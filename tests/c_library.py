@@ -35,8 +35,7 @@ TEXTS = {
 KIT_OUT = {"x86_64": FOLDER / "out/kit", "aarch64": FOLDER / "out/aarch64/kit"}
 
 # What make's targets are called by, and what each needs beside `rt`.
-# The part that asks `rt`, even where make finds nothing newer, and the one behind it, which is tried
-# by `altered`.
+# The part that asks `rt`, even where make finds nothing newer, and the one behind it, by `altered`.
 GENERATED, ALTERED = "generated-check", "generated-check, altered"
 # Fewer inputs than the target's own.
 INSTRUCTIONS = "instructions-check INPUTS=500000"

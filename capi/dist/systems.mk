@@ -51,7 +51,7 @@ dist-windows-wheel: $(WINDOWS)/libyezdopin.a
 	python/windows/import_library "$(WINDOWS_PYTHON)" $(MINGW) "$$($(PYTHON) -c \
 	    'import sysconfig; print(sysconfig.get_paths()["include"])')" include
 	cd python && CC=$(MINGW)gcc CFLAGS='-O2 $(WARNINGS)' \
-	    LDFLAGS="-s '-L$(WINDOWS_PYTHON)' -Wl,--no-insert-timestamp" \
+	    LDFLAGS="-s '-L$(WINDOWS_PYTHON)' $(REPEATABLE)" \
 	    YEZDOPIN_PYTHON_INCLUDE="$(WINDOWS_PYTHON)/include" \
 	    YEZDOPIN_LIB_DIR="$(WHOLE_OUT)/windows" $(PYTHON) -B -c \
 	    'import build_backend as it, sys; it.build_wheel(sys.argv[1], {"platform": "win_amd64"})' \

@@ -28,7 +28,7 @@ static void open_page(int signal, siginfo_t *it, void *context) {
     lowest = page;
 }
 
-/* call_probe(CODE, RSP): calls the code with `before` in the registers, which are put into `after`. */
+/* call_probe(CODE, RSP): calls the code with `before` in the registers, and keeps `after`. */
 void call_probe(const void *code, void *rsp);
 #define LOAD(register, place) "mov before+" #place "(%rip), %" #register "\n"
 #define KEEP(register, place) "mov %" #register ", after+" #place "(%rip)\n"

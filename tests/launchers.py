@@ -4,13 +4,15 @@
 themselves and of the build.
 
 Each test has a copy of the launchers with crates that hold a word, and an `rt` of its own, which
-says what the kit's says, and "builds" a program that prints the word. The last line is
-'N passed, M failed'.
+says what the kit's says, and "builds" a program that prints the word. Where programs/ has a text,
+it holds a word too, and a compiler of the test's own "builds" the program that prints it. The last
+line is 'N passed, M failed'.
 
     tests/launchers.py [WORD..]     all tests, or those with one of these words in their names
 """
 
 import fcntl
+import hashlib
 import os
 import pathlib
 import re
@@ -28,7 +30,8 @@ import counted
 
 ROOT = pathlib.Path(__file__).resolve().parent.parent
 COPIED = [
-    "bench", "sums", "passwords", "tools/about", "tools/built", "tools/progress.py",
+    "bench", "sums", "passwords", "programs/build", "tools/about", "tools/built",
+    "tools/progress.py",
     "crates/ring_sums/src/about.rt", "crates/ring_passwords/src/about.rt",
 ]
 # The library's.
@@ -64,6 +67,20 @@ chmod +x "$program"
 """
 
 
+# Notes the text's word, and writes the program, unless the word says that it fails.
+COMPILER = """#!/bin/sh
+for it; do
+    case $it in *.S) text=$it ;; esac
+    program=$it
+done
+word=$(cat "$text")
+echo "$word" >>../compiled
+[ "$word" != fails ] || { echo 'the compiler says why'; exit 1; }
+printf '#!/bin/sh\\necho %s\\n' "$word" >"$program"
+chmod +x "$program"
+"""
+
+
 class Launchers(unittest.TestCase):
     """Launchers over an `rt` that proves nothing."""
 
@@ -71,10 +88,16 @@ class Launchers(unittest.TestCase):
         room = tempfile.TemporaryDirectory()
         self.addCleanup(room.cleanup)
         self.room = pathlib.Path(room.name)
-        self.tools = self.room / "bin"
-        self.tools.mkdir()
-        (self.tools / "rt").write_text(RT)
-        (self.tools / "rt").chmod(0o755)
+        self.tools = self.new_command("rt", RT)
+        self.compiler = self.new_command("compiler", COMPILER) / "compiler"
+
+    def new_command(self, name, script):
+        """A folder with a command."""
+        folder = self.room / f"{name}.bin"
+        folder.mkdir()
+        (folder / name).write_text(script)
+        (folder / name).chmod(0o755)
+        return folder
 
     def clone(self, name, word):
         """A folder with the launchers, and with crates that hold the word."""
@@ -96,6 +119,16 @@ class Launchers(unittest.TestCase):
         for crate in (folder / "crates").iterdir():
             (crate / "src/main.rt").write_text(word + "\n")
 
+    def write_texts(self, folder, word):
+        """Gives the programs texts with a word, made of the sources as they stand."""
+        for crate in [crate for of in CRATES.values() for crate in of]:
+            (folder / f"programs/{crate}.S").write_text(word + "\n")
+        (folder / "programs/runtime.c").touch()
+        sources = (it for it in (folder / "crates").glob("*/src/*") if it.is_file())
+        (folder / "programs/SOURCES").write_text("".join(
+            f"{hashlib.sha256(it.read_bytes()).hexdigest()}  {it.relative_to(folder)}\n"
+            for it in sources))
+
     def begin(
         self, launcher, folder, words=(), path=None, stdout=subprocess.PIPE,
         stderr=subprocess.PIPE, **environment,
@@ -104,7 +137,8 @@ class Launchers(unittest.TestCase):
         path = path or f"{self.tools}:{os.environ['PATH']}"
         return subprocess.Popen(
             [folder / launcher, *words], cwd=self.room, stdin=subprocess.DEVNULL, stdout=stdout,
-            stderr=stderr, text=True, env={**os.environ, "RT": "rt", "PATH": path, **environment})
+            stderr=stderr, text=True, env={
+                **os.environ, "RT": "rt", "CC": str(self.compiler), "PATH": path, **environment})
 
     def run_of(self, launcher, folder, *words, **settings):
         """How a run of a launcher ends: its status, its output and its messages."""
@@ -112,10 +146,10 @@ class Launchers(unittest.TestCase):
         output, error = running.communicate(timeout=TIMEOUT)
         return running.returncode, output, error
 
-    def builds(self, folder):
-        """The words that were built."""
-        begun = folder / "begun"
-        return begun.read_text().split() if begun.exists() else []
+    def builds(self, folder, of="begun"):
+        """The words that `rt` has built; of `compiled` those that the compiler has."""
+        noted = folder / of
+        return noted.read_text().split() if noted.exists() else []
 
     def until(self, holds):
         """Waits until something holds."""
@@ -192,6 +226,97 @@ class Building(Launchers):
                     link.symlink_to(folder / launcher)
                     self.assertEqual(self.run_of(link.name, self.room)[:2], (0, "own\n"))
                     link.unlink()
+
+
+class Texts(Launchers):
+    """When they build the program from its text."""
+
+    NO_KIT = "/usr/bin:/bin"
+
+    def test_text_of_the_sources(self):
+        """With the kit and without it the text's program is built once, and then run."""
+        for launcher in CRATES:
+            for path in (None, self.NO_KIT):
+                with self.subTest(launcher=launcher, path=path):
+                    folder = self.clone(f"{launcher} {path}".replace("/", ""), "one")
+                    self.write_texts(folder, "text")
+                    status, output, error = self.run_of(launcher, folder, path=path)
+                    self.assertEqual((status, output), (0, "text\n"))
+                    told = r"\A(ring_\w+): building the program from programs/\1\.S first\n\Z"
+                    self.assertRegex(error, told)
+                    found = self.run_of(launcher, folder, path=path)
+                    self.assertEqual(found, (0, "text\n", ""))
+                    self.assertEqual(self.builds(folder, "compiled"), ["text"])
+                    self.assertEqual(self.builds(folder), [])
+
+    def test_another_source(self):
+        """Over other sources the kit's program is run, or without the kit none, with a message."""
+        for launcher in CRATES:
+            with self.subTest(launcher=launcher):
+                folder = self.clone(launcher, "one")
+                self.write_texts(folder, "text")
+                self.assertEqual(self.run_of(launcher, folder)[:2], (0, "text\n"))
+                self.edit(folder, "two")
+                status, output, error = self.run_of(launcher, folder, path=self.NO_KIT)
+                self.assertEqual((status, output), (3, ""))
+                self.assertRegex(error, r"\Aring_\w+: a source differs from programs/SOURCES, so the"
+                                 r" program must .* whose rt is not on PATH\n\Z")
+                self.assertEqual(self.run_of(launcher, folder)[:2], (0, "two\n"))
+                self.assertEqual(self.run_of(launcher, folder), (0, "two\n", ""))
+                self.edit(folder, "one")
+                self.assertEqual(self.run_of(launcher, folder), (0, "text\n", ""))
+
+    def test_source_that_is_gone(self):
+        """A source that is missing is one that differs."""
+        folder = self.clone("clone", "one")
+        self.write_texts(folder, "text")
+        (folder / "crates/ring_core/src/main.rt").unlink()
+        status, _, error = self.run_of("sums", folder, path=self.NO_KIT)
+        self.assertEqual((status, error.count("\n")), (3, 1))
+
+    def test_another_text(self):
+        """Another text is built, also where its file is older than the program."""
+        for launcher in CRATES:
+            with self.subTest(launcher=launcher):
+                folder = self.clone(launcher, "one")
+                for word in ("text", "another"):
+                    self.write_texts(folder, word)
+                    for file in (folder / "programs").glob("*.S"):
+                        os.utime(file, (0, 0))
+                    self.assertEqual(self.run_of(launcher, folder)[:2], (0, f"{word}\n"))
+
+    def test_no_compiler(self):
+        """Where the compiler is missing or fails the kit builds the program."""
+        rows = [("no-such-cc", "text"), (str(self.compiler), "fails")]
+        for launcher in CRATES:
+            for compiler, word in rows:
+                with self.subTest(launcher=launcher, compiler=compiler):
+                    folder = self.clone(f"{launcher} {word}", "one")
+                    self.write_texts(folder, word)
+                    status, output, error = self.run_of(
+                        launcher, folder, path=self.NO_KIT, CC=compiler)
+                    self.assertEqual((status, output), (3, ""))
+                    self.assertTrue(error.endswith("whose rt is not on PATH\n"), error)
+                    self.assertEqual("the compiler says why\n" in error, word == "fails")
+                    found = self.run_of(launcher, folder, CC=compiler)
+                    self.assertEqual(found[:2], (0, "one\n"))
+
+    def test_names_of_folders(self):
+        """The text is that of the launcher's own folder, whatever the folder's name is."""
+        for name in ("a\n", "a b'$", "\n", "-r"):
+            folder = self.clone(name, "one")
+            self.write_texts(folder, "text")
+            for launcher in CRATES:
+                with self.subTest(launcher=launcher, name=name):
+                    self.assertEqual(self.run_of(launcher, folder)[:2], (0, "text\n"))
+
+    def test_two_at_once(self):
+        """Two that build the program at the same time both run it, and leave nothing else."""
+        folder = self.clone("clone", "one")
+        self.write_texts(folder, "text")
+        for it in [self.begin("passwords", folder) for _ in range(8)]:
+            self.assertEqual(it.communicate(timeout=TIMEOUT)[0], "text\n")
+        self.assertEqual(os.listdir(folder / "programs/out"), ["ring_passwords"])
 
 
 class About(Launchers):
@@ -352,7 +477,7 @@ class Progress(Launchers):
 
 
 def main():
-    cases = [Building, About, Progress]
+    cases = [Building, Texts, About, Progress]
     result = counted.run(counted.suite(cases, sys.argv[1:]), sys.stdout)
     return counted.report(*result.counts())
 

@@ -22,14 +22,14 @@ COMPILER = next(filter(None, map(shutil.which, ("cc", "gcc", "clang"))), None)
 
 @functools.lru_cache(None)
 def built(crate):
-    """The path of a crate's program, which is built where it is missing or older than a source.
-    Where it can't be built, the test ends."""
+    """The path of a crate's program, which is built where it is missing or older than what it is
+    made of. Where it can't be built, the test ends."""
     command = [ROOT / "tools/built", crate, "rt", "run", *WORDS.get(crate, ())]
     made = subprocess.run(command, stdin=subprocess.DEVNULL, stdout=subprocess.PIPE, text=True)
     if made.returncode:
         sys.stdout.flush()
         unbuilt, name = ROOT / "tests/unbuilt", pathlib.Path(sys.argv[0]).resolve()
-        os.execv(unbuilt, [unbuilt, name.relative_to(ROOT)])
+        os.execv(unbuilt, [unbuilt, name.relative_to(ROOT), str(made.returncode)])
     return pathlib.Path(made.stdout.rstrip("\n"))
 
 

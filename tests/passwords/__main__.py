@@ -25,7 +25,6 @@ import files
 import launcher
 import locks
 import other_systems
-import run as programs
 import statuses
 import terminal
 import texts
@@ -41,7 +40,6 @@ BESIDE = [locks.GivenUp, statuses.LongDerivation]
 
 
 def main():
-    programs.built("ring_passwords")
     asked = sys.argv[1:]
     beside, tests = (counted.suite(cases, asked) for cases in (BESIDE, CASES))
     return counted.report(*counted.run_beside(beside, tests))

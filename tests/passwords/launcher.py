@@ -51,7 +51,8 @@ class Launcher(Case):
             shutil.copy(ROOT / name, room / name)
         (room / "kit/rt").write_text("#!/bin/sh\necho the reason\nexit 1\n")
         (room / "kit/rt").chmod(0o755)
-        environment = {**os.environ, "PATH": f"{room / 'kit'}:{os.environ['PATH']}"}
+        path = f"{room / 'kit'}:{os.environ['PATH']}"
+        environment = {**os.environ, "RT": "rt", "PATH": path}
         settings = {"env": environment, "capture_output": True, "timeout": 60}
         ended = subprocess.run([room / "passwords", "store", "list"], **settings)
         found = (ended.returncode, ended.stderr.splitlines()[-1:], ended.stdout)

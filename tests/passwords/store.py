@@ -13,7 +13,7 @@ import run as programs
 from run import ROOT
 
 LAUNCHER = ROOT / "passwords"
-PROGRAM = ROOT / "crates/ring_passwords/out/ring_passwords"
+PROGRAM = programs.built("ring_passwords")
 
 USAGE = """usage: passwords FILE set NAME [--iterations N]
        passwords FILE verify NAME

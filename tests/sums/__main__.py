@@ -29,7 +29,6 @@ import generated
 import launcher
 import lists
 import progress
-import run as programs
 import speed
 
 CASES = [generated.BesideCoreutils, alone.Alone, failing.Failing, launcher.Launcher,
@@ -38,14 +37,12 @@ CASES = [generated.BesideCoreutils, alone.Alone, failing.Failing, launcher.Launc
 
 def main():
     asked = sys.argv[1:]
-    for build in lists.BUILDS:
-        programs.built(build.name)
     if asked == ["--speed"]:
         speed.speed()
         return 0
     result = counted.run(counted.suite(CASES, asked), sys.stdout)
     passed, failed, skipped = result.counts()
-    if lists.WIDE not in lists.BUILDS:
+    if not lists.WIDE:
         print("left out: the wide build, without AVX2")
         skipped += 1
     return counted.report(passed + generated.BesideCoreutils.count, failed, skipped)

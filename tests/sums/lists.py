@@ -6,11 +6,9 @@ import os
 import pathlib
 import random
 
-from run import ROOT, ended
+from run import ROOT, built, ended
 
 LAUNCHER = ROOT / "sums"
-NARROW = ROOT / "crates/ring_sums_main/out/ring_sums_main"
-WIDE = ROOT / "crates/ring_sums_wide/out/ring_sums_wide"
 # Without which the wide build does not run.
 FEATURES = {"avx", "avx2", "bmi1", "bmi2", "f16c", "fma", "abm", "movbe", "xsave"}
 VERSION = "9.1"
@@ -47,7 +45,9 @@ def has_avx2():
     return FEATURES <= set(flags.split())
 
 
-BUILDS = [NARROW] + ([WIDE] if has_avx2() else [])
+NARROW = built("ring_sums_main")
+WIDE = built("ring_sums_wide") if has_avx2() else None
+BUILDS = list(filter(None, [NARROW, WIDE]))
 
 
 def run(program, words, folder, name="sums", given=b"", env=(), **settings):

@@ -24,7 +24,7 @@ LACKS_deb-libyezdopin-dev = $(call missing,dpkg-deb)
 LACKS_wheel = $(if $(wildcard $(shell $(PYTHON) -c \
     'import sysconfig; print(sysconfig.get_paths()["include"])' 2>/dev/null)/Python.h),,Python.h)
 LACKS_deb-$(PROVIDER_DEB) = $(if $(PROVIDER_PACKAGE),,libssl-dev) $(call missing,dpkg-deb)
-LACKS_deb-$(TOOLS_DEB) = $(if $(TOOLS_PACKAGE),,$(RT)) $(call missing,dpkg-deb)
+LACKS_deb-$(TOOLS_DEB) = $(if $(TOOLS_TEXTS),,../programs) $(call missing,dpkg-deb)
 LACKS_crate = $(call missing,$(CARGO) $(if $(filter file,$(origin ARM_ARCHIVE)), \
     $(or $(CROSS),aarch64-linux-gnu-)gcc))
 LACKS_npm = $(call missing,$(NPM) $(NODE))
@@ -67,7 +67,7 @@ dist: all
 	    echo 'left out: $(it), without $(strip $(LACKS_$(it)))'))
 	$(MAKE) --no-print-directory $(PACKAGES:%=dist-%)
 	$(PYTHON) -B dist/origin "$(DIST)" $(VERSION) $(ARCH) $(SOURCE_DATE_EPOCH) \
-	    "$$($(CC) --version | head -n 1)" $(wildcard generated/*.S generated/*.hex)
+	    "$$($(CC) --version | head -n 1)" $(wildcard generated/*.S generated/*.hex) $(TOOLS_TEXTS)
 	cd "$(DIST)" && sha256sum * >../SHA256SUMS && mv ../SHA256SUMS . && cat SHA256SUMS
 
 # The reference of the proved crates as HTML pages, where Debian's python3-markdown and

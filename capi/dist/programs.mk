@@ -1,29 +1,16 @@
 # SPDX-License-Identifier: ISC
-# The Debian package of the programs `sums` and `passwords`, one word of PACKAGES in dist.mk where
-# the kit is, which proves and builds them. `make dist PROGRAMS=FOLDER` takes finished programs
-# instead.
+# The Debian package of the programs `sums` and `passwords`, for x86-64 alone: one word of PACKAGES
+# in dist.mk. They are built from the assembly text in ../programs, as the library from generated/.
 
 TOOLS_DEB = yezdopin-tools
 TOOLS = ring_sums_main ring_sums_wide ring_passwords
+TOOLS_TEXTS = $(wildcard $(TOOLS:%=../programs/%.S))
 PROGRAMS = $(WHOLE_OUT)/programs
-ifeq ($(ARCH),x86_64)
-ifneq ($(origin BUILT) $(origin PROGRAMS),command line file)
-TOOLS_PACKAGE = $(shell { command -v $(RT) || test -e "$(PROGRAMS)/ring_passwords"; } >/dev/null \
-    && echo deb-$(TOOLS_DEB))
-endif
-endif
 
-# What the repository's launchers end with to build a program and run it to an end.
-ENDED_ring_sums_main = -- --version
-ENDED_ring_sums_wide = --cpu=x86-64-v3 -- --version
-ENDED_ring_passwords = -- data/passwords.txt list
-ifneq ($(origin PROGRAMS),command line)
-$(TOOLS:%=$(OUT)/programs/%): $(OUT)/programs/%: FORCE_TOOLS
+$(TOOLS:%=$(OUT)/programs/%): $(OUT)/programs/%: ../programs/%.S ../programs/build \
+    ../programs/runtime.c
 	mkdir -p $(@D)
-	cp "$$(../tools/built $* $(RT) run $(ENDED_$*))" $@
-FORCE_TOOLS:
-TOOLS_BUILT = $(TOOLS:%=$(OUT)/programs/%)
-endif
+	CC='$(CC)' CFLAGS=-O2 LDFLAGS= ../programs/build $* $@
 
 # $(call launcher,NAME): a launcher of the repository that runs the installed program, and builds
 # none.
@@ -40,7 +27,7 @@ define launcher
 	    >"$(WORK)/$(TOOLS_DEB)/usr/share/man/man1/$(1).1.gz"
 endef
 
-dist-deb-$(TOOLS_DEB): $(TOOLS_BUILT)
+dist-deb-$(TOOLS_DEB): $(TOOLS:%=$(OUT)/programs/%)
 	rm -rf "$(WORK)/$(TOOLS_DEB)" && cd "$(WORK)" && mkdir -p $(TOOLS_DEB)/usr/bin \
 	    $(TOOLS_DEB)/usr/lib/yezdopin $(TOOLS_DEB)/usr/share/man/man1
 	for it in $(TOOLS); do \

@@ -56,7 +56,7 @@ NEEDED = {
     "make check": ["c++", "objdump", "sanitizers", "pkg-config", "Python.h", "pip", "cargo"],
     "ARCH=aarch64": ["aarch64-linux-gnu-gcc", "aarch64-linux-gnu-g++", "qemu-aarch64"],
     "PACKAGES=crate": ["aarch64-linux-gnu-gcc"],
-    "./bench": ["rt"],
+    "./bench": ["cc"],
 }
 # What is not run, and why. Packages are tried by `make -C capi dist-check`, in systems of its own,
 # and what `make` installs by its targets `installed`, `moved` and `openssl-policy`.

@@ -33,7 +33,7 @@ DIGEST = "ba7816bf8f01cfea414140de5dae2223b00361a396177a9cb410ff61f20015ad"
 PLANTED = {
     "an instruction": (r"^\tj(n?)e ", lambda it: "\tje " if it[1] else "\tjne "),
     "a constant": (r"(?<=^\t\.quad 0x)\w", lambda it: f"{int(it[0], 16) ^ 1:x}"),
-    "an entry of a table": (r"^\t\.(quad|long) (?=\.L\w+)", lambda it: it[0] + "1+"),
+    "an entry of a table": (r"^\t\.(quad|long) (?=\.?L)", lambda it: it[0] + "1+"),
 }
 # The most that a first answer may take.
 SECONDS = 10

@@ -21,20 +21,28 @@ BUILT = "../crates/ring_c/out/libring_c.wasm64.a"
 NODE_MAJOR = 20
 NODE = f"node {NODE_MAJOR}"
 NEEDED = ["make", "python3", NODE]
+# What tools/node_source puts into a folder.
+NODE_TESTS = "Node's own tests"
+NODE_SOURCE = pathlib.Path(os.environ.get("NODE_SOURCE", "/usr/local/src/node-v20.19.2"))
 
 # What make's targets are called by, and what each needs beside the above.
 PARTS = [
     ("js-generated", ["rt"], "the text of the module is what the kit makes"),
     ("js-lowered", ["rt"], "the lowered module beside its source, and wrong forms of the lowering"),
     ("js-test", [], "vectors/, node:crypto, refusals, hostile inputs, wiped memory, cut calls"),
+    ("js-everyday", [], "what programs write with node:crypto, beside it"),
+    ("js-node", [NODE_TESTS], "Node's own tests, statement by statement"),
     ("js-traces", [], "no address and no condition by a secret, with planted leaks"),
-    ("js-types", ["tsc"], "the types"),
+    ("js-types", ["tsc"], "the types in browsers"),
+    ("js-types-node", ["tsc", NODE_TESTS], "the types in Node"),
     ("js-packed", ["npm"], "the same bytes twice, installed by npm without a network"),
 ]
 
 
 def is_there(tool):
     """Whether a tool is on this machine, and Node late enough."""
+    if tool == NODE_TESTS:
+        return NODE_SOURCE.exists()
     name = {NODE: "node", "rt": os.environ.get("RT", tool)}.get(tool, tool)
     if shutil.which(name) is None:
         return False

@@ -6,10 +6,10 @@ The table is `row_of` in `crates/ring_password_hash/specs/Scheme.antt`, and the 
 that of `SCHEMES` in the code: a scheme's number in C is its place there, from 1 on. Compared with
 both: the variants and the names in the code; the constants of the header, which are the names in
 capitals, and those of the manual page; the numbers of `crates/ring_c/specs/Number.antt`, of which
-the calls for C speak; the names in Python; the variants, numbers and names in Rust; the help of
-./passwords; and the table of docs/PASSWORD_HASHES.md, whose texts begin with the prefixes and whose
-other cells say what the rows do. Then each place is read again with planted faults, which must be
-found. The last line is 'N passed, M failed'.
+the calls for C speak; the names in Python and JavaScript; the variants, numbers and names in Rust;
+the help of ./passwords; and the table of docs/PASSWORD_HASHES.md, whose texts begin with the
+prefixes and whose other cells say what the rows do. Then each place is read again with planted
+faults, which must be found. The last line is 'N passed, M failed'.
 """
 
 import pathlib
@@ -25,6 +25,8 @@ MANUAL = "capi/man/yezdopin.3"
 PYTHON = "capi/python/src/yezdopin/password_hash.py"
 NATIVE = "capi/python/native/derivation.c"
 RUST = "capi/rust/src/password_hash.rs"
+JAVASCRIPT = "capi/js/package/passwords.js"
+TYPES = "capi/js/package/types.d.ts"
 HELP = "crates/ring_passwords/src/about.rt"
 PAGE = "docs/PASSWORD_HASHES.md"
 
@@ -61,6 +63,9 @@ PLANTED = (
     (RUST, "    Postgresql = 11,", "    Postgresql = 13,"),
     (RUST, "    Scheme::PhcSha256,\n    Scheme::PhcSha512,\n", "    Scheme::PhcSha512,\n"),
     (RUST, '            Mosquitto => "mosquitto",', '            Mosquitto => "Mosquitto",'),
+    (JAVASCRIPT, '  "passlib-sha1",\n  "passlib-sha256",\n',
+     '  "passlib-sha256",\n  "passlib-sha1",\n'),
+    (TYPES, '| "passlib-sha512" | "postgresql"', '| "postgresql"'),
     (HELP, "postgresql       werkzeug-sha1", "postgresql"),
     (PAGE, "| `phc-sha512` | `$pbkdf2-sha512$", "| `phc-sha512` | `$pbkdf2-sha256$"),
     (PAGE, "| `mosquitto` | `$7$101$SALT$HASH` | SHA-512 |",
@@ -132,6 +137,9 @@ def lists(texts, order, names):
     yield RUST, groups(r"^    Scheme::(\w+),$", block(rust, "pub const SCHEMES", "]")), order
     arms = block(rust, "fn name(self)", "    }")
     yield RUST, groups(r'^            (\w+) => "([^"]*)",$', arms), named
+    yield JAVASCRIPT, groups(r'^  "([^"]*)",$', block(texts[JAVASCRIPT], "SCHEMES = [", "]")), names
+    listed = texts[TYPES].partition("type PasswordHashScheme =")[2].partition(";")[0]
+    yield TYPES, groups(r'"([^"]*)"', listed), names
     yield HELP, block(texts[HELP], "is one of these:\n", "status:").split(), names
     lines = list(LINE.finditer(texts[PAGE]))
     yield PAGE, [it["name"] for it in lines], names
@@ -171,7 +179,8 @@ def missed_faults(texts):
 
 def main():
     texts = {name: (ROOT / name).read_text()
-             for name in (TABLE, CODE, NUMBERS, HEADER, MANUAL, PYTHON, NATIVE, RUST, HELP, PAGE)}
+             for name in (TABLE, CODE, NUMBERS, HEADER, MANUAL, PYTHON, NATIVE, RUST, JAVASCRIPT,
+                          TYPES, HELP, PAGE)}
     found = list(outcomes(texts))
     failed = [f"FAILED: {it}" for it in found if it]
     missed = [f"FAILED: planted: {it}" for it in missed_faults(texts)]

@@ -15,18 +15,22 @@
 NODE ?= node
 NPM ?= npm
 TSC ?= tsc
+# Node's own tests and types, which tools/node_source puts there.
+NODE_SOURCE ?= /usr/local/src/node-v20.19.2
 JS = $(OUT)/js
 WASM_BUILT = $(CRATE)/out/libring_c.wasm64.a
 WASM64 = $(JS)/yezdopin64.wasm
 WASM = $(JS)/package/yezdopin.wasm
 WASM_TEXT = generated/yezdopin_wasm.hex
 KIT_WASM = $(JS)/kit.wasm
-JS_FILES = $(wildcard js/package/*.js js/package/*.ts js/package/package.json)
+JS_MODULES = $(wildcard js/package/*.js)
+JS_FILES = $(wildcard js/package/*.ts js/package/package.json)
 KIT = $(patsubst %/bin/,%,$(dir $(realpath $(shell command -v $(RT)))))
 # What the package calls, and what it asks the module for.
-JS_CALLS = digest digest_final digest_init digest_update equal hkdf hkdf_expand hkdf_extract \
-    hmac_final hmac_init hmac_key_init hmac_sign hmac_update hmac_verify output_len pbkdf2_derive \
-    pbkdf2_verify version
+JS_CALLS = digest digest_final digest_init digest_update equal hkdf hkdf_expand \
+    hkdf_expand_label hkdf_extract hmac_final hmac_init hmac_key_init hmac_sign hmac_update \
+    hmac_verify output_len password_hash_info password_hash_new password_hash_salt \
+    password_hash_verify pbkdf2_derive pbkdf2_verify version
 JS_EXPORTS = memory __heap_base $(JS_CALLS:%=yz_%)
 # The module's stack, which ends where the constants begin: package/calls.js has the number too.
 WASM_STACK = 65536
@@ -60,17 +64,21 @@ $(WASM): $(WASM_TEXT) js/build/text.mjs js/build/version.cjs
 generated-wasm: $(KIT_WASM)
 	$(NODE) js/build/text.mjs write $< $(WASM64) $(WASM_TEXT) $(NOTES)
 
-$(JS)/package/package.json: $(WASM) $(JS_FILES) js/README.md ../LICENSE
+$(JS)/package/package.json: $(WASM) $(JS_FILES) $(JS_MODULES) js/build/bundle.mjs js/README.md \
+    ../LICENSE
 	rm -f $(@D)/*.js $(@D)/*.ts
+	$(NODE) js/build/bundle.mjs js/package $(@D)
 	cp $(JS_FILES) js/README.md ../LICENSE $(@D)
 
 # What lacks the kit, a TypeScript compiler or npm is left out.
 JS_KIT = $(if $(shell command -v $(RT) 2>/dev/null),js-generated js-lowered)
 JS_TYPES = $(if $(shell command -v $(TSC) 2>/dev/null),js-types)
 JS_PACKED = $(if $(shell command -v $(NPM) 2>/dev/null),js-packed)
-js-check: js-test js-traces
+JS_NODE = $(if $(wildcard $(NODE_SOURCE)),js-node $(if $(JS_TYPES),js-types-node))
+js-check: js-test js-everyday js-traces
 	$(if $(JS_KIT),$(MAKE) $(JS_KIT),@echo 'left out: js-generated js-lowered, without $(RT)')
 	$(if $(JS_TYPES),$(MAKE) $(JS_TYPES),@echo 'left out: js-types, without $(TSC)')
+	$(if $(JS_NODE),$(MAKE) $(JS_NODE),@echo 'left out: js-node js-types-node, without $(NODE_SOURCE)')
 	$(if $(JS_PACKED),$(MAKE) $(JS_PACKED),@echo 'left out: js-packed, without $(NPM)')
 
 # Whether the text is that of the module that the kit makes.
@@ -96,12 +104,32 @@ js-traces: $(WASM)
 	$(PYTHON) -B js/test/traced.py $(WASM) $(JS)/traced.wasm $(JS)/planted.wasm
 	$(NODE) js/test/traces.mjs $(JS)/traced.wasm $(JS)/planted.wasm
 
-# The types, by a TypeScript compiler.
+# The types, by a TypeScript compiler, as browsers have them.
+TYPED = $(TSC) --strict --noEmit --lib es2022,dom --target es2022 --module nodenext
 js-types: $(JS)/package/package.json
 	rm -rf $(JS)/types && mkdir -p $(JS)/types/node_modules
-	ln -s ../../package $(JS)/types/node_modules/yezdopin && cp js/test/types.mts $(JS)/types
-	cd $(JS)/types && $(TSC) --strict --noEmit --lib es2022,dom --target es2022 \
-	    --module nodenext types.mts
+	ln -s ../../package $(JS)/types/node_modules/yezdopin
+	sed 's|"yezdopin"|"../package/browser.js"|' js/test/types.mts >$(JS)/types/types.mts
+	cd $(JS)/types && $(TYPED) types.mts
+
+# The types as Node has them, beside Node's own, which name some of a package that isn't there.
+js-types-node: $(JS)/package/package.json
+	rm -rf $(JS)/types_node && mkdir -p $(JS)/types_node/node_modules/@types
+	ln -s ../../package $(JS)/types_node/node_modules/yezdopin
+	cp -R "$(NODE_SOURCE)/types" $(JS)/types_node/node_modules/@types/node
+	mkdir $(JS)/types_node/node_modules/undici-types
+	for it in FormData Headers MessageEvent Request RequestInit Response ResponseInit; do \
+	    echo "export type $$it = unknown; export declare const $$it: unknown;"; \
+	done >$(JS)/types_node/node_modules/undici-types/index.d.ts
+	cp js/test/types_node.mts $(JS)/types_node
+	cd $(JS)/types_node && $(TYPED) types_node.mts
+
+# Node's own tests of what the package has, and what programs write with node:crypto.
+js-node: $(JS)/package/package.json
+	PACKAGE="$(WHOLE_OUT)/js/package" $(NODE) js/test/node_tests.mjs "$(NODE_SOURCE)"
+
+js-everyday: $(JS)/package/package.json
+	PACKAGE="$(WHOLE_OUT)/js/package" $(NODE) js/test/everyday.mjs
 
 # The package as npm makes and installs it, the same bytes twice, and as npm installs this folder.
 js-packed: $(JS)/package/package.json
@@ -139,5 +167,5 @@ dist-npm: $(JS)/package/package.json
 	mkdir -p "$(DIST)"
 	NPM='$(NPM)' js/build/pack $(<D) "$(DIST)"
 
-.PHONY: js js-check generated-wasm js-generated js-lowered js-test js-traces js-types js-packed \
-    js-browsers js-demo js-bench dist-npm
+.PHONY: js js-check generated-wasm js-generated js-lowered js-test js-everyday js-node js-traces \
+    js-types js-types-node js-packed js-browsers js-demo js-bench dist-npm

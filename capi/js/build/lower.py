@@ -39,6 +39,10 @@ PLAIN = {UNREACHABLE, ELSE, END, RETURN, DROP, SELECT}
 PLAIN |= {*range(0x45, 0x5B)}  # comparisons
 PLAIN |= {*range(0x67, 0x8B)} - {*range(0x6C, 0x71), *range(0x7F, 0x83)}  # arithmetic: no division
 PLAIN |= {WRAP, 0xAC, 0xAD, *range(0xC0, 0xC5)}  # conversions
+# What only the calls of password hashes reach may also multiply and divide numbers without a sign:
+# it reads and writes texts, which are no secrets.
+OF_TEXTS = b"yz_password_hash_"
+OF_TEXTS_PLAIN = PLAIN | {0x6C, 0x6E, 0x80}
 # The bytes that each access spans, as the power of two that its alignment may not pass.
 LOADS = {0x28: 2, 0x29: 3, 0x2C: 0, 0x2D: 0, 0x2E: 1, 0x2F: 1}
 LOADS |= {0x30: 0, 0x31: 0, 0x32: 1, 0x33: 1, 0x34: 2, 0x35: 2}
@@ -134,8 +138,9 @@ def op(code, *indices):
 class Body:
     """A function's body, and the functions that it calls."""
 
-    def __init__(self, data, param_count):
+    def __init__(self, data, param_count, plain):
         self.code, self.out, self.calls = Reader(data), bytearray(), set()
+        self.plain = plain
         groups, count = [], param_count
         for _ in range(self.code.number()):
             size, kind = self.code.number(), self.code.kind()
@@ -168,7 +173,7 @@ class Body:
             value = self.above[STORED[code]]
             self.out += op(SET, value) + op(WRAP) + op(GET, value)
             self.out += self.offset(code, STORES[code])
-        elif code in PLAIN:
+        elif code in self.plain:
             self.out += op(code)
         elif code in INDEXED:
             index = self.code.number()
@@ -261,18 +266,19 @@ def test_globals(content):
 
 
 def lowered_exports(content, wanted):
-    """The named exports, and the functions among them."""
-    reader, kept, roots = Reader(content), {}, []
+    """The named exports, and the functions among them: those of texts, and before them others."""
+    reader, kept, roots, of_texts = Reader(content), {}, [], []
     for _ in reader.counted():
         name, kind, index = reader.name(), reader.byte(), reader.number()
         if kind not in (KIND_FUNCTION, KIND_MEMORY, KIND_GLOBAL):
             refuse(f"an export of kind {kind}")
         if name.decode() in wanted:
             kept[name.decode()] = sized(name) + bytes([kind]) + number(index)
-            roots += [index] if kind == KIND_FUNCTION else []
+            if kind == KIND_FUNCTION:
+                (of_texts if name.startswith(OF_TEXTS) else roots).append(index)
     if {*kept} != {*wanted}:
         refuse(f"a module that does not export {', '.join({*wanted} - {*kept})}")
-    return vector([*kept.values()]), roots
+    return vector([*kept.values()]), (roots, of_texts)
 
 
 def lowered_code(content, counts, roots):
@@ -281,12 +287,14 @@ def lowered_code(content, counts, roots):
     sources = [reader.name() for _ in reader.counted()]
     if len(sources) != len(counts):
         refuse("functions without bodies")
-    bodies, left = {}, [*roots]
-    while left:
-        index = left.pop()
-        if index not in bodies:
-            bodies[index] = Body(sources[index], counts[index])
-            left += bodies[index].calls
+    bodies = {}
+    for group, plain in zip(roots, (PLAIN, OF_TEXTS_PLAIN)):
+        left = [*group]
+        while left:
+            index = left.pop()
+            if index not in bodies:
+                bodies[index] = Body(sources[index], counts[index], plain)
+                left += bodies[index].calls
     trap = number(0) + op(UNREACHABLE) + op(END)
     return vector([
         sized(bodies[index].bytes() if index in bodies else trap) for index in range(len(sources))

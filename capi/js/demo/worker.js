@@ -8,8 +8,8 @@ const CALLS = {
   async digest({ createHash }, { algorithm, file }, progress) {
     return (await createHash(algorithm).updateFrom(file, { progress })).digest("hex");
   },
-  derive({ pbkdf2 }, { password, salt, iterations, length, algorithm }) {
-    return pbkdf2(password, salt, iterations, length, algorithm);
+  derive({ pbkdf2Sync }, { password, salt, iterations, length, algorithm }) {
+    return pbkdf2Sync(password, salt, iterations, length, algorithm);
   },
 };
 

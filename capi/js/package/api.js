@@ -1,145 +1,111 @@
 // SPDX-License-Identifier: ISC
-// What the package exports, in the shape of node:crypto.
+// What the package exports in Node and in browsers alike.
 
 import * as calls from "./calls.js";
+import { lengthsDiffer, wrongType, wrongValue } from "./errors.js";
 import {
-  HASHES, algorithmOf, bytesOf, bytesOrText, encoded, iterationsOf, lengthOf, refuseMore,
+  HASHES, bytesOf, bytesOrText, callbackOf, digestOf, encoded, host, iterationsOf, keyOf, lengthOf,
+  macOf,
 } from "./inputs.js";
-import { piecesOf } from "./pieces.js";
+import { later } from "./later.js";
+import { passwordHash } from "./passwords.js";
+import { subtle } from "./subtle.js";
 
-const DIGEST = { update: calls.digestUpdate, final: calls.digestFinal };
-const TAG = { update: calls.hmacUpdate, final: calls.hmacFinal };
+export { passwordHash, subtle };
+export const webcrypto = { subtle };
 
-// A digest or a tag of a message in pieces.
-class Running {
-  #number;
-  #calls;
-  // The context's bytes, or null once the digest was taken.
-  #context;
-  // Whether a source is being read.
-  #isReading = false;
-
-  constructor(number, calls, context) {
-    this.#number = number;
-    this.#calls = calls;
-    this.#context = context;
-  }
-
-  #ready() {
-    if (this.#context === null) {
-      throw new Error("yezdopin: the digest was taken, or a source failed");
-    }
-    if (this.#isReading) throw new Error("yezdopin: a source is being read");
-    return this.#context;
-  }
-
-  // The next context, or null. The one before is wiped.
-  #become(context) {
-    this.#context.fill(0);
-    this.#context = context;
-  }
-
-  #take(data) {
-    this.#become(this.#calls.update(this.#context, bytesOrText(data)));
-  }
-
-  update(data, encoding) {
-    if (encoding !== "utf8" && encoding !== "utf-8") refuseMore([encoding], "encoding but utf8");
-    this.#ready();
-    this.#take(data);
-    return this;
-  }
-
-  async updateFrom(source, { progress, signal } = {}) {
-    // This runs getters of the source, which may begin to read another one.
-    const pieces = piecesOf(source);
-    this.#ready();
-    this.#isReading = true;
-    let isRead = false, len = 0;
-    try {
-      signal?.throwIfAborted();
-      for await (const piece of pieces) {
-        signal?.throwIfAborted();
-        const bytes = bytesOrText(piece);
-        this.#take(bytes);
-        len += bytes.length;
-        await progress?.(len);
-      }
-      isRead = true;
-    } finally {
-      this.#isReading = false;
-      // Nobody knows how much of the source a context has that was left in the midst of it.
-      if (!isRead) this.#become(null);
-    }
-    return this;
-  }
-
-  digest(encoding) {
-    const answer = encoded(this.#calls.final(this.#number, this.#ready()), encoding);
-    this.#become(null);
-    return answer;
-  }
-
-  copy(options) {
-    refuseMore([options], "option");
-    return new Running(this.#number, this.#calls, this.#ready().slice());
-  }
-}
-
-export function createHash(algorithm, options) {
-  refuseMore([options], "option");
-  const n = algorithmOf(algorithm);
-  return new Running(n, DIGEST, calls.digestInit(n));
-}
-
-export function createHmac(algorithm, key, options) {
-  refuseMore([options], "option");
-  const n = algorithmOf(algorithm);
-  return new Running(n, TAG, calls.hmacInit(n, bytesOrText(key)));
+// Calls back once, with an error or an answer, on another turn of the loop, so that what a callback
+// throws is no rejection.
+function tell(promise, callback) {
+  const soon = globalThis.setImmediate ?? setTimeout;
+  const call = (...words) => soon(() => callback(...words));
+  promise.then((it) => call(null, it), (error) => call(error));
 }
 
 export function digest(algorithm, message) {
-  return calls.digest(algorithmOf(algorithm), bytesOrText(message));
+  return calls.digest(digestOf(algorithm), bytesOrText(message, "message"));
+}
+
+export function hash(algorithm, input, outputEncoding = "hex") {
+  const n = digestOf(algorithm), bytes = bytesOrText(input, "input");
+  if (typeof outputEncoding !== "string") {
+    throw wrongType("outputEncoding", "of type string", outputEncoding, true);
+  }
+  try {
+    return encoded(calls.digest(n, bytes), outputEncoding);
+  } catch (error) {
+    if (error.code !== "ERR_UNKNOWN_ENCODING") throw error;
+    throw wrongValue("outputEncoding", `. Received '${outputEncoding}'`);
+  }
+}
+
+export function digestEach(algorithm, messages) {
+  const n = digestOf(algorithm);
+  return Array.from(messages, (it) => calls.digest(n, bytesOrText(it, "messages")));
 }
 
 export function hmac(algorithm, key, message) {
-  return calls.hmac(algorithmOf(algorithm), bytesOrText(key), bytesOrText(message));
+  const n = macOf(algorithm, "hmac");
+  return calls.hmac(n, keyOf(key, "key"), bytesOrText(message, "message"));
 }
 
 export function hmacVerify(algorithm, key, message, tag) {
-  return calls.hmacVerify(
-    algorithmOf(algorithm), bytesOrText(key), bytesOrText(message), bytesOf(tag));
+  return calls.hmacVerify(macOf(algorithm, "hmac"), keyOf(key, "key"),
+    bytesOrText(message, "message"), bytesOf(tag, "tag"));
 }
 
-export function hkdf(algorithm, secret, salt, info, length, ...more) {
-  refuseMore(more, "callback");
-  return calls.hkdf(algorithmOf(algorithm), bytesOrText(salt), bytesOrText(secret),
-    bytesOrText(info), lengthOf(length));
+export function hkdfSync(algorithm, key, salt, info, length) {
+  const n = macOf(algorithm, "digest"), secret = keyOf(key, "ikm");
+  return calls.hkdf(n, bytesOrText(salt, "salt"), secret, bytesOrText(info, "info"),
+    lengthOf(length, "length")).buffer;
 }
 
-export function hkdfExtract(algorithm, secret, salt) {
-  return calls.hkdfExtract(algorithmOf(algorithm), bytesOrText(salt), bytesOrText(secret));
+/** At most 255 digests: it is done at once, and calls back later. */
+export function hkdf(algorithm, key, salt, info, length, callback) {
+  tell(Promise.resolve(hkdfSync(algorithm, key, salt, info, length)), callbackOf(callback));
+}
+
+export function hkdfExtract(algorithm, key, salt) {
+  const n = macOf(algorithm, "digest");
+  return calls.hkdfExtract(n, bytesOrText(salt, "salt"), keyOf(key, "ikm"));
 }
 
 export function hkdfExpand(algorithm, prk, info, length) {
-  return calls.hkdfExpand(
-    algorithmOf(algorithm), bytesOf(prk), bytesOrText(info), lengthOf(length));
+  return calls.hkdfExpand(macOf(algorithm, "digest"), bytesOf(prk, "prk"),
+    bytesOrText(info, "info"), lengthOf(length, "length"));
 }
 
-export function pbkdf2(password, salt, iterations, length, algorithm, ...more) {
-  refuseMore(more, "callback");
-  return calls.pbkdf2(algorithmOf(algorithm), iterationsOf(iterations), bytesOrText(salt),
-    bytesOrText(password), lengthOf(length));
+export function hkdfExpandLabel(algorithm, secret, label, context, length) {
+  return calls.hkdfExpandLabel(macOf(algorithm, "digest"), bytesOf(secret, "secret"),
+    bytesOrText(label, "label"), bytesOrText(context, "context"), lengthOf(length, "length"));
+}
+
+// The words of PBKDF2 for calls.js, or the error of the first that is wrong.
+function wordsOfPbkdf2(password, salt, iterations, keylen, algorithm) {
+  const n = macOf(typeof algorithm === "function" ? undefined : algorithm, "digest");
+  const secret = bytesOrText(password, "password"), bytes = bytesOrText(salt, "salt");
+  return [n, iterationsOf(iterations), bytes, secret, lengthOf(keylen, "keylen")];
+}
+
+export function pbkdf2Sync(...words) {
+  return calls.pbkdf2(...wordsOfPbkdf2(...words));
+}
+
+/** In a worker. */
+export function pbkdf2(password, salt, iterations, keylen, algorithm, callback) {
+  const words = wordsOfPbkdf2(password, salt, iterations, keylen, algorithm);
+  const bound = callbackOf(callback);
+  tell(later("pbkdf2", ...words).then(host.answer), bound);
 }
 
 export function pbkdf2Verify(password, salt, iterations, derived, algorithm) {
-  return calls.pbkdf2Verify(algorithmOf(algorithm), iterationsOf(iterations), bytesOrText(salt),
-    bytesOrText(password), bytesOf(derived));
+  return calls.pbkdf2Verify(macOf(algorithm, "digest"), iterationsOf(iterations),
+    bytesOrText(salt, "salt"), bytesOrText(password, "password"), bytesOf(derived, "derived"));
 }
 
-export function timingSafeEqual(one, other) {
-  const a = bytesOf(one), b = bytesOf(other);
-  if (a.length !== b.length) throw new RangeError("yezdopin: the lengths differ");
+export function timingSafeEqual(buf1, buf2) {
+  const a = bytesOf(buf1, "buf1"), b = bytesOf(buf2, "buf2");
+  if (a.length !== b.length) throw lengthsDiffer();
   return calls.equal(a, b);
 }
 

@@ -1,7 +1,10 @@
 // SPDX-License-Identifier: ISC
 // For browsers: fetches and compiles the module that lies beside this file.
 
+import * as api from "./api.js";
 import { start } from "./calls.js";
+import { host } from "./inputs.js";
+import { Running } from "./running.js";
 
 const url = new URL("./yezdopin.wasm", import.meta.url);
 
@@ -17,4 +20,16 @@ async function compiled() {
 
 start(await compiled());
 
+host.worker = (take, fail) => {
+  const worker = new Worker(new URL("./worker.js", import.meta.url), { type: "module" });
+  worker.addEventListener("message", ({ data }) => take(data));
+  worker.addEventListener("error", ({ message }) =>
+    fail(new Error(`yezdopin: ${message ?? "no worker"}`)));
+  return { post: (it, moved) => worker.postMessage(it, moved) };
+};
+
+export const createHash = (algorithm, options) => Running.ofDigest(algorithm, options);
+export const createHmac = (hmac, key, options) => Running.ofTag(hmac, key, options);
+
 export * from "./api.js";
+export default { ...api, createHash, createHmac };

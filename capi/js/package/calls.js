@@ -3,16 +3,27 @@
 // module's memory and what it writes out of it, and then wipes both and the module's stack. The
 // module keeps nothing between two calls, so that it can be made anew.
 
+import { refused, wrongDigest, wrongKeyLength } from "./errors.js";
+import { host } from "./inputs.js";
+
 const OK = 0;
 const UNKNOWN_ALGORITHM = 1;
 const UNKNOWN_CONTEXT = 2;
 const NO_ITERATIONS = 3;
 const WRONG_LENGTH = 4;
+const BAD_FORMAT = 5;
+const TOO_MANY_ITERATIONS = 6;
+const BAD_SALT = 7;
 const UNSPECIFIED = 8;
 
 const DIGEST_CONTEXT_LEN = 216;
 const HMAC_KEY_LEN = 136;
 const HMAC_CONTEXT_LEN = 280;
+const MAX_PASSWORD_HASH_LEN = 1024;
+const MAX_SALT_LEN = 22;
+// Of the module's numbers: a uint32_t and a size_t.
+const WORD_LEN = 4;
+const SIZE_LEN = 8;
 
 const PAGE_LEN = 64 * 1024;
 // A longer message is copied into the module in pieces of so many bytes.
@@ -23,9 +34,13 @@ const MOST_LEN = 2 ** 31;
 const KEPT_LEN = 16 * 1024 * 1024;
 // Contexts and keys are aligned as their words.
 const ALIGNMENT = 8;
-// The module's stack grows down from here, and no call takes more of it than this.
+// The module's stack grows down from here, and no call takes more of it than this, but one of
+// password hashes.
 const STACK_END = 64 * 1024;
 const STACK_LEN = 8 * 1024;
+const STACK_LEN_OF_TEXTS = 20 * 1024;
+// An answer of at most so many bytes is copied faster byte by byte.
+const SHORT_LEN = 64;
 
 let module, exports, memory, base, top;
 // Whether a call was cut off in the instance, or has made it large: the next call makes another.
@@ -36,6 +51,9 @@ export function start(compiled) {
   module = compiled;
   restart();
 }
+
+/** The compiled module, which a worker takes. */
+export const compiledModule = () => module;
 
 // Takes a view of its own, since a call may be cut off between `grow` and the view behind it, and
 // `memory` is then detached.
@@ -55,9 +73,9 @@ function restart() {
 
 const aligned = (place) => Math.ceil(place / ALIGNMENT) * ALIGNMENT;
 
-function wipe() {
+function wipe(stackLen) {
   memory.fill(0, base, top);
-  memory.fill(0, STACK_END - STACK_LEN, STACK_END);
+  memory.fill(0, STACK_END - stackLen, STACK_END);
   top = base;
 }
 
@@ -66,7 +84,7 @@ class Refusal extends Error {}
 
 // Runs a call, and wipes what it was given. A call can be cut off, as where JavaScript's stack ends
 // in it, and so can the wiping: the instance is then stale.
-function run(call) {
+function run(call, stackLen = STACK_LEN) {
   if (isStale) restart();
   isStale = true;
   let answer, cause = null;
@@ -79,7 +97,7 @@ function run(call) {
     }
     cause = error.cause;
   }
-  wipe();
+  wipe(stackLen);
   isStale = memory.length > KEPT_LEN;
   if (cause !== null) throw cause;
   return answer;
@@ -92,11 +110,14 @@ function refuse(error) {
 // The exception of a status.
 function errorOf(status) {
   switch (status) {
-    case UNKNOWN_ALGORITHM: return new TypeError("yezdopin: the call does not have this algorithm");
-    case UNKNOWN_CONTEXT: return new TypeError("yezdopin: no context and no key");
-    case NO_ITERATIONS: return new RangeError("yezdopin: no iterations");
-    case WRONG_LENGTH: return new RangeError("yezdopin: the output cannot have this length");
-    default: return new RangeError("yezdopin: an input is too long");
+    case UNKNOWN_ALGORITHM: return wrongDigest("the call does not have it");
+    case UNKNOWN_CONTEXT: return refused(TypeError, "no context and no key");
+    case NO_ITERATIONS: return refused(RangeError, "no iterations");
+    case WRONG_LENGTH: return wrongKeyLength();
+    case BAD_FORMAT: return refused(TypeError, "no password hash has this text");
+    case TOO_MANY_ITERATIONS: return refused(RangeError, "the text names too many iterations");
+    case BAD_SALT: return refused(RangeError, "a password hash cannot have this salt");
+    default: return refused(RangeError, "an input is too long");
   }
 }
 
@@ -114,13 +135,13 @@ function verdict(status) {
 // A place for so many bytes.
 function room(len) {
   const place = top;
-  if (len > MOST_LEN - place) refuse(new RangeError("yezdopin: too many bytes for a call"));
+  if (len > MOST_LEN - place) refuse(refused(RangeError, "too many bytes for a call"));
   const end = aligned(place + len);
   if (end > memory.length) {
     try {
       exports.memory.grow(Math.ceil((end - memory.length) / PAGE_LEN));
     } catch {
-      refuse(new RangeError("yezdopin: no memory for the call"));
+      refuse(refused(RangeError, "no memory for the call"));
     }
     memory = new Uint8Array(exports.memory.buffer);
   }
@@ -128,23 +149,31 @@ function room(len) {
   return place;
 }
 
-// The place of a copy, and the length: the two arguments by which the module is passed bytes.
-function input(bytes) {
+// The module is passed bytes by two arguments: the place of a copy, and the length.
+function copied(bytes) {
   const place = room(bytes.length);
   memory.set(bytes, place);
-  return [BigInt(place), BigInt(bytes.length)];
+  return BigInt(place);
+}
+const lenOf = (bytes) => BigInt(bytes.length);
+
+// A place that a call writes, of so many bytes.
+const blank = (len) => BigInt(room(len));
+
+// An answer's bytes, which are the caller's.
+function taken(place, len) {
+  const bytes = host.bytes(len);
+  if (len > SHORT_LEN) bytes.set(memory.subarray(place, place + len));
+  else for (let i = 0; i < len; i++) bytes[i] = memory[place + i];
+  return bytes;
 }
 
 // What a call writes, which is passed the place and the length of it.
 function output(len, call) {
   const place = room(len);
   test(call(BigInt(place), BigInt(len)));
-  return memory.slice(place, place + len);
+  return taken(place, len);
 }
-
-// The place of a copy of a context, or of a new one of so many bytes.
-const held = (context) => input(context)[0];
-const blank = (len) => BigInt(room(len));
 
 // Updates the context at a place.
 function feed(update, context, message) {
@@ -152,28 +181,39 @@ function feed(update, context, message) {
   for (let at = 0; at < message.length; at += PIECE_LEN) {
     const piece = message.subarray(at, at + PIECE_LEN);
     memory.set(piece, place);
-    test(update(context, BigInt(place), BigInt(piece.length)));
+    test(update(context, BigInt(place), lenOf(piece)));
   }
 }
 
-const outputLen = (n) => Number(exports.yz_output_len(n));
+// The bytes of the context at a place.
+const contextAt = (place, len) => memory.slice(Number(place), Number(place) + len);
+
+const outputLens = [];
+export const outputLen = (n) => outputLens[n] ??= Number(exports.yz_output_len(n));
 
 export function digest(n, message) {
   return run(() => {
     if (message.length <= PIECE_LEN) {
-      const at = input(message);
-      return output(outputLen(n), (...out) => exports.yz_digest(n, ...at, ...out));
+      const at = copied(message), len = lenOf(message);
+      return output(outputLen(n), (out, outLen) => exports.yz_digest(n, at, len, out, outLen));
     }
     const context = blank(DIGEST_CONTEXT_LEN);
     test(exports.yz_digest_init(n, context));
     feed(exports.yz_digest_update, context, message);
-    return output(outputLen(n), (...out) => exports.yz_digest_final(context, ...out));
+    return output(outputLen(n), (out, len) => exports.yz_digest_final(context, out, len));
   });
 }
 
-/** The bytes of a context that stands for the empty message. */
+const emptyContexts = [];
+
+/** The bytes of a context that stands for the empty message: no secret, the same at each call, and
+ * not to be written. */
 export function digestInit(n) {
-  return run(() => output(DIGEST_CONTEXT_LEN, (out) => exports.yz_digest_init(n, out)));
+  return emptyContexts[n] ??= run(() => {
+    const context = blank(DIGEST_CONTEXT_LEN);
+    test(exports.yz_digest_init(n, context));
+    return contextAt(context, DIGEST_CONTEXT_LEN);
+  });
 }
 
 /** The bytes of a context after an update. The one passed stays. */
@@ -182,22 +222,22 @@ export function digestUpdate(context, message) {
 }
 
 function updated(update, context, message) {
-  const at = held(context);
+  const at = copied(context);
   feed(update, at, message);
-  return memory.slice(Number(at), Number(at) + context.length);
+  return contextAt(at, context.length);
 }
 
 export function digestFinal(n, context) {
   return run(() => {
-    const at = held(context);
-    return output(outputLen(n), (...out) => exports.yz_digest_final(at, ...out));
+    const at = copied(context);
+    return output(outputLen(n), (out, len) => exports.yz_digest_final(at, out, len));
   });
 }
 
 // The place of a context under a key's value.
 function hmacContext(n, value) {
-  const at = input(value), key = blank(HMAC_KEY_LEN), context = blank(HMAC_CONTEXT_LEN);
-  test(exports.yz_hmac_key_init(n, ...at, key));
+  const at = copied(value), key = blank(HMAC_KEY_LEN), context = blank(HMAC_CONTEXT_LEN);
+  test(exports.yz_hmac_key_init(n, at, lenOf(value), key));
   test(exports.yz_hmac_init(key, context));
   return context;
 }
@@ -205,20 +245,18 @@ function hmacContext(n, value) {
 export function hmac(n, value, message) {
   return run(() => {
     if (message.length <= PIECE_LEN) {
-      const key = input(value), at = input(message);
-      return output(outputLen(n), (...out) => exports.yz_hmac_sign(n, ...key, ...at, ...out));
+      const key = copied(value), at = copied(message);
+      return output(outputLen(n), (out, len) =>
+        exports.yz_hmac_sign(n, key, lenOf(value), at, lenOf(message), out, len));
     }
     const context = hmacContext(n, value);
     feed(exports.yz_hmac_update, context, message);
-    return output(outputLen(n), (...out) => exports.yz_hmac_final(context, ...out));
+    return output(outputLen(n), (out, len) => exports.yz_hmac_final(context, out, len));
   });
 }
 
 export function hmacInit(n, value) {
-  return run(() => {
-    const at = Number(hmacContext(n, value));
-    return memory.slice(at, at + HMAC_CONTEXT_LEN);
-  });
+  return run(() => contextAt(hmacContext(n, value), HMAC_CONTEXT_LEN));
 }
 
 export function hmacUpdate(context, message) {
@@ -227,62 +265,110 @@ export function hmacUpdate(context, message) {
 
 export function hmacFinal(n, context) {
   return run(() => {
-    const at = held(context);
-    return output(outputLen(n), (...out) => exports.yz_hmac_final(at, ...out));
+    const at = copied(context);
+    return output(outputLen(n), (out, len) => exports.yz_hmac_final(at, out, len));
   });
 }
 
 export function hmacVerify(n, value, message, tag) {
   return run(() => {
     if (message.length <= PIECE_LEN) {
-      return verdict(exports.yz_hmac_verify(n, ...input(value), ...input(message), ...input(tag)));
+      return verdict(exports.yz_hmac_verify(n, copied(value), lenOf(value),
+        copied(message), lenOf(message), copied(tag), lenOf(tag)));
     }
     const context = hmacContext(n, value);
     feed(exports.yz_hmac_update, context, message);
-    const made = [BigInt(room(outputLen(n))), exports.yz_output_len(n)];
-    test(exports.yz_hmac_final(context, ...made));
-    return exports.yz_equal(...made, ...input(tag)) === 1;
+    const made = blank(outputLen(n)), len = BigInt(outputLen(n));
+    test(exports.yz_hmac_final(context, made, len));
+    return exports.yz_equal(made, len, copied(tag), lenOf(tag)) === 1;
   });
 }
 
 export function hkdf(n, salt, secret, info, len) {
   return run(() => {
-    const read = [...input(salt), ...input(secret), ...input(info)];
-    return output(len, (...out) => exports.yz_hkdf(n, ...read, ...out));
+    const one = copied(salt), other = copied(secret), third = copied(info);
+    return output(len, (out, outLen) => exports.yz_hkdf(
+      n, one, lenOf(salt), other, lenOf(secret), third, lenOf(info), out, outLen));
   });
 }
 
 export function hkdfExtract(n, salt, secret) {
   return run(() => {
-    const read = [...input(salt), ...input(secret)];
-    return output(outputLen(n), (...out) => exports.yz_hkdf_extract(n, ...read, ...out));
+    const one = copied(salt), other = copied(secret);
+    return output(outputLen(n), (out, len) =>
+      exports.yz_hkdf_extract(n, one, lenOf(salt), other, lenOf(secret), out, len));
   });
 }
 
 export function hkdfExpand(n, prk, info, len) {
   return run(() => {
-    const read = [...input(prk), ...input(info)];
-    return output(len, (...out) => exports.yz_hkdf_expand(n, ...read, ...out));
+    const one = copied(prk), other = copied(info);
+    return output(len, (out, outLen) =>
+      exports.yz_hkdf_expand(n, one, lenOf(prk), other, lenOf(info), out, outLen));
+  });
+}
+
+export function hkdfExpandLabel(n, secret, label, context, len) {
+  return run(() => {
+    const one = copied(secret), other = copied(label), third = copied(context);
+    return output(len, (out, outLen) => exports.yz_hkdf_expand_label(
+      n, one, lenOf(secret), other, lenOf(label), third, lenOf(context), out, outLen));
   });
 }
 
 export function pbkdf2(n, iterations, salt, secret, len) {
   return run(() => {
-    const read = [...input(salt), ...input(secret)];
-    return output(len, (...out) => exports.yz_pbkdf2_derive(n, iterations, ...read, ...out));
+    const one = copied(salt), other = copied(secret);
+    return output(len, (out, outLen) => exports.yz_pbkdf2_derive(
+      n, iterations, one, lenOf(salt), other, lenOf(secret), out, outLen));
   });
 }
 
 export function pbkdf2Verify(n, iterations, salt, secret, derived) {
-  return run(() => verdict(exports.yz_pbkdf2_verify(
-    n, iterations, ...input(salt), ...input(secret), ...input(derived))));
+  return run(() => verdict(exports.yz_pbkdf2_verify(n, iterations, copied(salt), lenOf(salt),
+    copied(secret), lenOf(secret), copied(derived), lenOf(derived))));
+}
+
+export function passwordVerify(text, password, maxIterations) {
+  return run(() => verdict(exports.yz_password_hash_verify(
+    copied(text), lenOf(text), copied(password), lenOf(password), maxIterations)),
+  STACK_LEN_OF_TEXTS);
+}
+
+// The number of the module that a call wrote to a place.
+const wordAt = (place) => new DataView(memory.buffer).getUint32(Number(place), true);
+
+/** The number of a text's scheme, and its iterations. */
+export function passwordInfo(text) {
+  return run(() => {
+    const at = copied(text), scheme = blank(WORD_LEN), iterations = blank(WORD_LEN);
+    test(exports.yz_password_hash_info(at, lenOf(text), scheme, iterations));
+    return [wordAt(scheme), wordAt(iterations)];
+  }, STACK_LEN_OF_TEXTS);
+}
+
+/** A salt for a scheme, of random bytes. */
+export function passwordSalt(scheme, random) {
+  return run(() => {
+    const at = copied(random), salt = blank(MAX_SALT_LEN), len = blank(SIZE_LEN);
+    test(exports.yz_password_hash_salt(
+      scheme, at, lenOf(random), salt, BigInt(MAX_SALT_LEN), len));
+    return taken(Number(salt), wordAt(len));
+  }, STACK_LEN_OF_TEXTS);
+}
+
+/** The bytes of the text of a new password hash. */
+export function passwordNew(scheme, iterations, salt, password) {
+  return run(() => {
+    const one = copied(salt), other = copied(password);
+    const text = blank(MAX_PASSWORD_HASH_LEN), len = blank(SIZE_LEN);
+    test(exports.yz_password_hash_new(scheme, iterations, one, lenOf(salt), other, lenOf(password),
+      text, BigInt(MAX_PASSWORD_HASH_LEN), len));
+    return taken(Number(text), wordAt(len));
+  }, STACK_LEN_OF_TEXTS);
 }
 
 export function equal(one, other) {
-  return run(() => exports.yz_equal(...input(one), ...input(other)) === 1);
-}
-
-/** The library's version, as `YZ_VERSION` of yezdopin.h. */
-export function version() {
-  return run(() => exports.yz_version());
+  return run(() =>
+    exports.yz_equal(copied(one), lenOf(one), copied(other), lenOf(other)) === 1);
 }

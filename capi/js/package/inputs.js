@@ -2,103 +2,155 @@
 // What callers pass, turned to what the calls of the module take. None of it is believed to be of
 // its class: a class derived from Uint8Array may say anything of its length.
 
-// The numbers of the algorithms, by their names in node:crypto, in WebCrypto and in the standard.
-const ALGORITHMS = new Map([
-  ["sha1", 1], ["sha-1", 1],
-  ["sha256", 2], ["sha-256", 2],
-  ["sha384", 3], ["sha-384", 3],
-  ["sha512", 4], ["sha-512", 4],
-  ["sha512-256", 5], ["sha-512/256", 5],
-]);
+import { outOfRange, unknownEncoding, wrongDigest, wrongType } from "./errors.js";
 
 export const HASHES = ["sha1", "sha256", "sha384", "sha512", "sha512-256"];
 
-/** The number of "sha256", "SHA-256" or WebCrypto's { name: "SHA-256" }. */
-export function algorithmOf(algorithm) {
+// The numbers of the algorithms, by their names in OpenSSL, in WebCrypto and in the standard.
+const ALGORITHMS = new Map(HASHES.flatMap((name, i) => {
+  const bits = name.slice(3);
+  return [name, `sha-${bits}`, `sha2-${bits}`, `rsa-${name}`, `${name}withrsaencryption`]
+    .flatMap((it) => [[it, i + 1], [it.replace("512-256", "512/256"), i + 1]]);
+}));
+ALGORITHMS.delete("sha2-1");
+const SHA512_256 = 5;
+
+const MAX_INT32 = 2 ** 31 - 1;
+
+// The name in "sha256", "SHA-256" or WebCrypto's { name: "SHA-256" }.
+function nameOf(algorithm, argument) {
   const name = typeof algorithm === "object" && algorithm !== null ? algorithm.name : algorithm;
-  const number = typeof name === "string" ? ALGORITHMS.get(name.toLowerCase()) : undefined;
-  if (number === undefined) throw new TypeError("yezdopin: no such algorithm");
+  if (typeof name !== "string") throw wrongType(argument, "of type string", algorithm, true);
+  return name;
+}
+
+/** The number of an algorithm, or undefined. */
+export const numberOf = (name) => ALGORITHMS.get(name) ?? ALGORITHMS.get(name.toLowerCase());
+
+/** The number of an algorithm of HMAC, HKDF and PBKDF2. */
+export function macOf(algorithm, argument) {
+  const name = nameOf(algorithm, argument), number = numberOf(name);
+  if (number === undefined || number === SHA512_256) throw wrongDigest(name);
   return number;
 }
 
-function getterOf(prototype, name) {
-  const { get } = Object.getOwnPropertyDescriptor(prototype, name);
-  return (it) => Reflect.apply(get, it, []);
+/** The number of an algorithm of digests. Node has no code for an unknown one. */
+export function digestOf(algorithm, argument = "algorithm") {
+  const name = nameOf(algorithm, argument), number = numberOf(name);
+  if (number === undefined) throw new Error(`Digest method not supported: ${name}`);
+  return number;
 }
 
 // These read what an object is, and throw a TypeError where it is of another class.
+const uncurried = Function.prototype.bind.bind(Function.prototype.call);
+const getterOf = (prototype, name) =>
+  uncurried(Object.getOwnPropertyDescriptor(prototype, name).get);
 const typedArray = Object.getPrototypeOf(Uint8Array.prototype);
 const typeOf = getterOf(typedArray, Symbol.toStringTag);
-const keysOf = (it) => Reflect.apply(typedArray.keys, it, []);
-const partsOf = (prototype) =>
-  ["buffer", "byteOffset", "byteLength"].map((name) => getterOf(prototype, name));
-const partsOfArray = partsOf(typedArray);
-const partsOfDataView = partsOf(DataView.prototype);
+const keysOf = uncurried(typedArray.keys);
+const partsOf = (prototype) => ({
+  buffer: getterOf(prototype, "buffer"),
+  offset: getterOf(prototype, "byteOffset"),
+  len: getterOf(prototype, "byteLength"),
+});
+const ofArray = partsOf(typedArray);
+const ofDataView = partsOf(DataView.prototype);
 const lenOfBuffer = getterOf(ArrayBuffer.prototype, "byteLength");
 const lenOfShared = typeof SharedArrayBuffer === "undefined" ? null
   : getterOf(SharedArrayBuffer.prototype, "byteLength");
 
-function isOf(getter, it) {
+// The length that a buffer has now, or null where it is of another class.
+function lenBy(getter, it) {
   try {
-    getter?.(it);
-    return getter !== null;
+    return getter?.(it) ?? null;
   } catch {
-    return false;
+    return null;
   }
 }
 
+const BYTES = "an instance of ArrayBuffer, Buffer, TypedArray, or DataView";
+const INPUTS = `of type string or ${BYTES}`;
+/** What Node's `update` takes. */
+export const PIECES = "of type string or an instance of Buffer, TypedArray, or DataView";
+
 /** The bytes of a buffer or of a view of one, where they are. Their length stays: without one, a
  * view grows with a shared buffer that another thread grows. */
-export function bytesOf(data) {
+export function bytesOf(data, argument, types = BYTES) {
   if (ArrayBuffer.isView(data)) {
-    const isArray = typeOf(data) !== undefined;
-    const [buffer, offset, len] = (isArray ? partsOfArray : partsOfDataView).map((it) => it(data));
+    const isArray = typeOf(data) !== undefined, its = isArray ? ofArray : ofDataView;
+    const len = its.len(data);
     // A view whose buffer is detached, or has become too short for it, says that it is empty.
     if (isArray && len === 0) keysOf(data);
-    return new Uint8Array(buffer, offset, len);
+    return new Uint8Array(its.buffer(data), its.offset(data), len);
   }
-  for (const lenOf of [lenOfBuffer, lenOfShared]) {
-    if (isOf(lenOf, data)) return new Uint8Array(data, 0, lenOf(data));
-  }
-  throw new TypeError("yezdopin: bytes are an ArrayBuffer, a SharedArrayBuffer or a view of one");
+  const len = lenBy(lenOfBuffer, data) ?? lenBy(lenOfShared, data);
+  if (len === null) throw wrongType(argument, types, data);
+  return new Uint8Array(data, 0, len);
 }
 
 const encoder = new TextEncoder();
 
-/** The bytes of a buffer, of a view of one, or of a string in UTF-8. */
-export function bytesOrText(data) {
-  return typeof data === "string" ? encoder.encode(data) : bytesOf(data);
-}
-
-/** A length in bytes. */
-export function lengthOf(value) {
-  if (!Number.isSafeInteger(value) || value < 0) {
-    throw new RangeError("yezdopin: a length is a whole number");
-  }
-  return value;
-}
-
-/** A count of iterations. */
-export function iterationsOf(value) {
-  if (!Number.isInteger(value) || value < 1 || value > 0xffffffff) {
-    throw new RangeError("yezdopin: iterations are 1 to 2^32 - 1");
-  }
-  return value;
-}
-
-/** Bytes as text, or as they are. */
-export function encoded(bytes, encoding) {
-  switch (encoding) {
-    case undefined: return bytes;
+function textOf(bytes, encoding) {
+  switch (encoding.toLowerCase()) {
     case "hex": return Array.from(bytes, (it) => it.toString(16).padStart(2, "0")).join("");
     case "base64": return btoa(String.fromCharCode(...bytes));
-    case "base64url": return encoded(bytes, "base64")
+    case "base64url": return textOf(bytes, "base64")
       .replaceAll("+", "-").replaceAll("/", "_").replaceAll("=", "");
-    default: throw new TypeError("yezdopin: an encoding is hex, base64 or base64url");
+    default: throw unknownEncoding(encoding);
   }
 }
 
-/** Refuses what node:crypto takes here and this package does not, so that it is not passed over. */
-export function refuseMore(more, what) {
-  if (more.some((it) => it !== undefined)) throw new TypeError(`yezdopin: no ${what} is taken`);
+/** What Node has in another form, and node.js sets. These are the browsers'. */
+export const host = {
+  /** A room for so many bytes of an answer. */
+  bytes: (len) => new Uint8Array(len),
+  /** Bytes of another thread, as an answer. */
+  answer: (bytes) => bytes,
+  /** The text of an answer. */
+  textOf,
+  /** The bytes of a text in another encoding than UTF-8. */
+  read: (text, encoding) => { throw unknownEncoding(encoding); },
+  /** The value of a key that is an object, or what was passed. */
+  valueOf: (key) => key,
+  /** A callback that runs in the context of its caller. */
+  bound: (callback) => callback,
+  /** Makes a worker: passed a function for its messages and one for the error that ends it. */
+  worker: null,
+};
+
+/** An answer as bytes, or as text. */
+export const encoded = (bytes, encoding) =>
+  encoding === undefined || encoding === "buffer" ? bytes : host.textOf(bytes, encoding);
+
+const UTF8 = /^utf-?8$/i;
+
+/** The bytes of a buffer, of a view of one, or of a string. */
+export function bytesOrText(data, argument, encoding, types = INPUTS) {
+  if (typeof data !== "string") return bytesOf(data, argument, types);
+  const isUtf8 = (encoding ?? "buffer") === "buffer" || UTF8.test(encoding);
+  return isUtf8 ? encoder.encode(data) : host.read(data, encoding);
+}
+
+/** The bytes of a key, which may be an object in Node. */
+export const keyOf = (key, argument, encoding) =>
+  bytesOrText(host.valueOf(key), argument, encoding);
+
+/** A whole number from `least` to `most`. */
+export function wholeOf(value, argument, least, most) {
+  if (typeof value !== "number") throw wrongType(argument, "of type number", value, true);
+  if (!Number.isInteger(value)) throw outOfRange(argument, "an integer", value);
+  if (value < least || value > most) {
+    throw outOfRange(argument, `>= ${least} && <= ${most}`, value);
+  }
+  return value;
+}
+
+export const lengthOf = (value, argument) => wholeOf(value, argument, 0, MAX_INT32);
+export const iterationsOf = (value) => wholeOf(value, "iterations", 1, MAX_INT32);
+
+export function callbackOf(callback) {
+  if (typeof callback !== "function") {
+    throw wrongType("callback", "of type function", callback, true);
+  }
+  return host.bound(callback);
 }

@@ -1,6 +1,8 @@
 // SPDX-License-Identifier: ISC
 // A message that comes in pieces, from a Blob, a stream or whatever iterates.
 
+import { wrongType } from "./errors.js";
+
 const PIECE_LEN = 4 * 1024 * 1024;
 
 /** The pieces of a source: a Blob, a ReadableStream, an iterable, or one that is asynchronous. */
@@ -11,7 +13,7 @@ export function piecesOf(source) {
   const isOther = typeof source === "object" && !ArrayBuffer.isView(source);
   if (isOther && source?.[Symbol.asyncIterator] !== undefined) return source;
   if (isOther && source?.[Symbol.iterator] !== undefined) return source;
-  throw new TypeError("yezdopin: a source is a Blob, a ReadableStream or an iterable of bytes");
+  throw wrongType("source", "an instance of Blob, ReadableStream, or an iterable of bytes", source);
 }
 
 async function* piecesOfBlob(blob) {

@@ -22,6 +22,7 @@ const INPUTS = [BASE, BASE + 1024, BASE + 2048];
 const OUTPUT = BASE + 4096;
 const CONTEXTS = [BASE + 8192, BASE + 8200];
 const KEYS = [BASE + 9216, BASE + 9224];
+const TEXT_LEN = BASE + 10240;
 const END = BASE + 12288;
 
 const oneOf = (list) => list[below(list.length)];
@@ -33,6 +34,7 @@ const output = (n) => [
 const longOutput = () => [BigInt(OUTPUT + below(8)), BigInt(below(600))];
 const context = () => BigInt(oneOf(CONTEXTS));
 const key = () => BigInt(oneOf(KEYS));
+const textLen = () => new DataView(both[0].memory.buffer).getBigUint64(TEXT_LEN, true);
 // The arguments of a call with so many inputs, an algorithm before them and an output behind.
 const withInputs = (count) => (n = algorithm()) =>
   [n, ...Array.from({ length: count }, input).flat(), ...output(n)];
@@ -51,6 +53,14 @@ const CALLS = {
   yz_hkdf: () => [algorithm(), ...input(), ...input(), ...input(), ...longOutput()],
   yz_hkdf_extract: withInputs(2),
   yz_hkdf_expand: () => [algorithm(), ...input(), ...input(), ...longOutput()],
+  yz_hkdf_expand_label: () =>
+    [algorithm(), ...input(), ...input(), ...input(), ...longOutput()],
+  // The text of one is what the other is asked for, mostly.
+  yz_password_hash_new: () => [below(12), below(4), ...input(), ...input(), BigInt(OUTPUT),
+    below(4) ? 1024n : BigInt(below(200)), BigInt(TEXT_LEN)],
+  yz_password_hash_verify: () => [
+    ...(below(4) ? [BigInt(OUTPUT), BigInt.asUintN(11, textLen())] : input()), ...input(), below(4),
+  ],
   yz_pbkdf2_derive: () => [algorithm(), below(4), ...input(), ...input(), ...longOutput()],
   yz_pbkdf2_verify: () => [algorithm(), below(4), ...input(), ...input(), ...longOutput()],
   yz_equal: () => {

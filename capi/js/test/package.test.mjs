@@ -3,11 +3,16 @@
 
 import assert from "node:assert/strict";
 import crypto from "node:crypto";
+import { AsyncLocalStorage } from "node:async_hooks";
+import { execFileSync } from "node:child_process";
 import { once } from "node:events";
-import { createReadStream, readFileSync } from "node:fs";
+import { createReadStream, readFileSync, readdirSync } from "node:fs";
 import { createRequire } from "node:module";
+import { Readable } from "node:stream";
+import { pipeline } from "node:stream/promises";
 import { test } from "node:test";
 import { pathToFileURL } from "node:url";
+import { promisify } from "node:util";
 import { Worker } from "node:worker_threads";
 import { FILES, hex, run } from "./vectors.mjs";
 
@@ -69,12 +74,12 @@ test("4,000 turns beside node:crypto", () => {
     tag[below(tag.length)] ^= 1 << below(8);
     assert.equal(yz.hmacVerify(name, a, Buffer.concat([b, c]), tag), false);
     const len = 1 + below(300), derived = crypto.pbkdf2Sync(a, b, 3, len, name);
-    assert.equal(hex(yz.pbkdf2(a, b, 3, len, name)), hex(derived));
+    assert.equal(hex(yz.pbkdf2Sync(a, b, 3, len, name)), hex(derived));
     assert.equal(yz.pbkdf2Verify(a, b, 3, derived, name), true);
     derived[below(len)] ^= 1 << below(8);
     assert.equal(yz.pbkdf2Verify(a, b, 3, derived, name), false);
     const okm = Buffer.from(crypto.hkdfSync(name, a, b, c, len));
-    assert.equal(hex(yz.hkdf(name, a, b, c, len)), hex(okm));
+    assert.equal(hex(yz.hkdfSync(name, a, b, c, len)), hex(okm));
     assert.equal(hex(yz.hkdfExpand(name, yz.hkdfExtract(name, a, b), c, len)), hex(okm));
   }
 });
@@ -108,10 +113,18 @@ test("names of algorithms", () => {
   const none = ["md5", "sha", "sha2-56", "sha--256", "toString", "", 2, null, undefined, {},
     { name: 2 }, ["sha256"], Symbol("sha256")];
   for (const name of none) {
-    for (const call of [() => yz.digest(name, ""), () => yz.createHash(name),
-      () => yz.createHmac(name, ""), () => yz.pbkdf2("", "", 1, 1, name)]) {
-      assert.throws(call, TypeError);
+    const isText = typeof (name?.name ?? name) === "string";
+    for (const call of [() => yz.digest(name, ""), () => yz.createHash(name)]) {
+      assert.throws(call, isText ? /not supported/ : { code: "ERR_INVALID_ARG_TYPE" });
     }
+    for (const call of [() => yz.createHmac(name, ""), () => yz.hkdfSync(name, "", "", "", 1),
+      () => yz.pbkdf2Sync("", "", 1, 1, name)]) {
+      assert.throws(call, { name: "TypeError",
+        code: isText ? "ERR_CRYPTO_INVALID_DIGEST" : "ERR_INVALID_ARG_TYPE" });
+    }
+  }
+  for (const name of ["RSA-SHA256", "sha256WithRSAEncryption", "SHA2-256"]) {
+    assert.equal(yz.hash(name, "abc"), SHA256_OF_ABC);
   }
 });
 
@@ -173,8 +186,8 @@ test("what is no input is refused", () => {
     new Proxy(new Uint8Array(3), {}), new Proxy(new ArrayBuffer(3), {})];
   for (const it of pretenders) {
     for (const call of [() => yz.digest("sha1", it), () => yz.createHmac("sha1", it),
-      () => yz.createHash("sha1").update(it), () => yz.hkdf("sha1", "", it, "", 1),
-      () => yz.pbkdf2(it, "", 1, 1, "sha1"), () => yz.timingSafeEqual(it, new Uint8Array(3))]) {
+      () => yz.createHash("sha1").update(it), () => yz.hkdfSync("sha1", "", it, "", 1),
+      () => yz.pbkdf2Sync(it, "", 1, 1, "sha1"), () => yz.timingSafeEqual(it, new Uint8Array(3))]) {
       assert.throws(call, TypeError);
     }
   }
@@ -205,23 +218,27 @@ test("buffers that have shrunk are refused", { skip: fixed }, () => {
 test("each refusal", () => {
   assert.throws(() => yz.createHmac("sha512-256", ""), TypeError);
   assert.throws(() => yz.hmac("sha512-256", "", ""), TypeError);
-  assert.throws(() => yz.hkdf("sha512-256", "", "", "", 1), TypeError);
+  assert.throws(() => yz.hkdfSync("sha512-256", "", "", "", 1), TypeError);
   assert.throws(() => yz.pbkdf2Verify("", "", 1, new Uint8Array(1), "sha512-256"), TypeError);
   for (const name of TAGS) {
     const most = 255 * yz.digest(name, "").length;
-    assert.equal(yz.hkdf(name, "", "", "", most).length, most);
-    assert.throws(() => yz.hkdf(name, "", "", "", most + 1), RangeError);
+    assert.equal(yz.hkdfSync(name, "", "", "", most).byteLength, most);
+    assert.throws(() => yz.hkdfSync(name, "", "", "", most + 1), RangeError);
     assert.throws(() => yz.hkdfExpand(name, new Uint8Array(0), "", most + 1), RangeError);
   }
   for (const len of [-1, 1.5, NaN, "3", undefined, 2 ** 53, 2 ** 31, 2 ** 32 + 8]) {
-    assert.throws(() => yz.hkdf("sha1", "", "", "", len), RangeError);
-    assert.throws(() => yz.pbkdf2("", "", 1, len, "sha1"), RangeError);
+    const wanted = typeof len === "number" ? RangeError : TypeError;
+    assert.throws(() => yz.hkdfSync("sha1", "", "", "", len), wanted);
+    assert.throws(() => yz.pbkdf2Sync("", "", 1, len, "sha1"), wanted);
+    assert.throws(() => yz.pbkdf2("", "", 1, len, "sha1", () => {}), wanted);
   }
-  for (const iterations of [0, -1, 1.5, 2 ** 32, 2 ** 32 + 1, NaN, "1", undefined]) {
-    assert.throws(() => yz.pbkdf2("", "", iterations, 1, "sha1"), RangeError);
-    assert.throws(() => yz.pbkdf2Verify("", "", iterations, new Uint8Array(1), "sha1"), RangeError);
+  for (const iterations of [0, -1, 1.5, 2 ** 31, 2 ** 32, 2 ** 32 + 1, NaN, "1", undefined]) {
+    const wanted = typeof iterations === "number" ? RangeError : TypeError;
+    assert.throws(() => yz.pbkdf2Sync("", "", iterations, 1, "sha1"), wanted);
+    assert.throws(() => yz.pbkdf2("", "", iterations, 1, "sha1", () => {}), wanted);
+    assert.throws(() => yz.pbkdf2Verify("", "", iterations, new Uint8Array(1), "sha1"), wanted);
   }
-  assert.equal(yz.pbkdf2("", "", 1, 0, "sha1").length, 0);
+  assert.equal(yz.pbkdf2Sync("", "", 1, 0, "sha1").length, 0);
   assert.equal(yz.pbkdf2Verify("", "", 1, new Uint8Array(0), "sha1"), false);
   assert.throws(() => yz.timingSafeEqual(new Uint8Array(1), new Uint8Array(2)), RangeError);
   assert.equal(yz.timingSafeEqual(Uint8Array.of(1, 2), Uint8Array.of(1, 2)), true);
@@ -229,20 +246,212 @@ test("each refusal", () => {
   assert.equal(yz.timingSafeEqual(new Uint8Array(0), new Uint8Array(0)), true);
 });
 
-test("what node:crypto takes and the package does not is refused, not passed over", () => {
-  assert.throws(() => yz.pbkdf2("", "", 1, 1, "sha1", () => {}), TypeError);
-  assert.throws(() => yz.hkdf("sha1", "", "", "", 1, () => {}), TypeError);
-  assert.throws(() => yz.createHash("sha1", { outputLength: 8 }), TypeError);
-  assert.throws(() => yz.createHmac("sha1", "", { encoding: "hex" }), TypeError);
-  assert.throws(() => yz.createHash("sha1").copy({}), TypeError);
-  assert.throws(() => yz.createHash("sha1").update("6162", "hex"), TypeError);
-  const running = yz.createHash("sha256").update("abc");
-  for (const it of ["latin1", "buffer", "HEX", null]) {
-    assert.throws(() => running.digest(it), TypeError);
+test("Node's shape: Buffers, encodings, options, classes, keys as objects", () => {
+  const message = "\u00e9 abc", ours = yz.createHash("sha256"), other = crypto.createHash("sha256");
+  for (const it of [ours, other]) {
+    it.update(message).update("6162", "hex").update("\u00e9", "Latin1");
   }
-  assert.equal(running.digest("hex"), SHA256_OF_ABC);
-  for (const call of [() => running.digest(), () => running.update(""), () => running.copy()]) {
-    assert.throws(call, /was taken/);
+  for (const it of ["hex", "HEX", "base64", "base64url", "latin1", "binary", "ucs2", "buffer",
+    undefined]) {
+    assert.deepEqual(ours.copy().digest(it), other.copy().digest(it));
+  }
+  assert.ok(Buffer.isBuffer(ours.digest()));
+  for (const call of [() => ours.digest(), () => ours.update(""), () => ours.copy()]) {
+    assert.throws(call, { code: "ERR_CRYPTO_HASH_FINALIZED" });
+  }
+  for (const encoding of ["hex", "base64", "buffer", undefined]) {
+    assert.deepEqual(yz.hash("sha1", "abc", encoding), crypto.createHash("sha1").update("abc")
+      .digest(encoding ?? "hex"));
+  }
+  assert.throws(() => yz.createHash("sha1").digest("no such"), { code: "ERR_UNKNOWN_ENCODING" });
+  assert.throws(() => yz.createHash("sha1").update("616", "hex"),
+    { code: "ERR_INVALID_ARG_VALUE" });
+  assert.throws(() => yz.createHash("sha1", { outputLength: 8 }), /XOF/);
+  const tag = crypto.createHmac("sha256", "k").update("m").digest("hex");
+  const key = crypto.createSecretKey(Buffer.from("k"));
+  const { publicKey } = crypto.generateKeyPairSync("ed25519");
+  assert.equal(yz.createHmac("sha256", key).update("m").digest("hex"), tag);
+  assert.equal(yz.createHmac("sha256", "6b", { encoding: "hex" }).update("m").digest("hex"), tag);
+  assert.deepEqual(yz.hkdfSync("sha256", key, "s", "i", 40),
+    crypto.hkdfSync("sha256", "k", "s", "i", 40));
+  assert.throws(() => yz.createHmac("sha256", publicKey),
+    { code: "ERR_CRYPTO_INVALID_KEY_OBJECT_TYPE" });
+  assert.ok(yz.Hash("sha1") instanceof yz.Hash && yz.createHmac("sha1", "") instanceof yz.Hmac);
+  assert.equal(yz.default.createHash, yz.createHash);
+});
+
+test("streams", async () => {
+  const pieces = () => Readable.from([Buffer.from("a"), "b", Buffer.from("c")]);
+  const piped = yz.createHash("sha256");
+  await pipeline(pieces(), piped);
+  assert.throws(() => piped.digest("no such"), { code: "ERR_UNKNOWN_ENCODING" });
+  assert.equal(piped.digest("hex"), SHA256_OF_ABC);
+  assert.throws(() => piped.digest("hex"), { code: "ERR_CRYPTO_HASH_FINALIZED" });
+  const read = pieces().pipe(yz.createHash("sha256")).setEncoding("hex");
+  assert.equal((await read.toArray()).join(""), SHA256_OF_ABC);
+  const tagged = yz.createHmac("sha1", "k");
+  tagged.write("a");
+  tagged.end("bc");
+  assert.deepEqual(tagged.read(), crypto.createHmac("sha1", "k").update("abc").digest());
+  const wrong = yz.createHash("sha1");
+  wrong.digest();
+  await assert.rejects(pipeline(pieces(), wrong), { code: "ERR_CRYPTO_HASH_FINALIZED" });
+});
+
+test("callbacks come later, in the caller's context, and the loop goes on", async () => {
+  const later = promisify(yz.pbkdf2), words = ["p", "s", 200000, 40, "sha512"];
+  let turns = 0;
+  const timer = setInterval(() => turns++, 5);
+  const all = await Promise.all(Array.from({ length: 6 }, () => later(...words)));
+  clearInterval(timer);
+  assert.ok(turns > 5);
+  const wanted = crypto.pbkdf2Sync(...words);
+  for (const it of all) assert.ok(Buffer.isBuffer(it) && it.equals(wanted));
+  const password = Buffer.from("p"), changed = later(password, ...words.slice(1));
+  password[0]++;
+  assert.deepEqual(await changed, wanted);
+  assert.deepEqual(await promisify(yz.hkdf)("sha1", "k", "s", "i", 99),
+    crypto.hkdfSync("sha1", "k", "s", "i", 99));
+  const store = new AsyncLocalStorage();
+  const told = await store.run(5, () => new Promise((resolve) =>
+    yz.pbkdf2("p", "s", 1, 1, "sha1", () => resolve(store.getStore()))));
+  assert.equal(told, 5);
+  for (const callback of [undefined, null, 5, {}]) {
+    for (const call of [() => yz.pbkdf2("p", "s", 1, 1, "sha1", callback),
+      () => yz.hkdf("sha1", "", "", "", 1, callback)]) {
+      assert.throws(call, { code: "ERR_INVALID_ARG_TYPE" });
+    }
+  }
+  await assert.rejects(later("p", "s", 1, 2 ** 31 - 1, "sha1"), { code: "ERR_YEZDOPIN" });
+});
+
+test("an error tells no text that may be a secret", () => {
+  for (const call of [() => yz.timingSafeEqual("a secret", Buffer.alloc(1)),
+    () => yz.hkdfExpand("sha1", "a secret", "", 1),
+    () => yz.hmacVerify("sha1", "", "", "a secret")]) {
+    assert.throws(call, (it) => it.code === "ERR_INVALID_ARG_TYPE" && !/a secr/.test(it.message));
+  }
+});
+
+// The lines of a folder of VECTORS that begin with a word, each split, with the answer below it.
+function linesOf(folder, word) {
+  return readdirSync(`${VECTORS}/${folder}`).flatMap((name) => {
+    const lines = readFileSync(`${VECTORS}/${folder}/${name}`, "utf8").split("\n");
+    return lines.flatMap((line, i) => line.startsWith(`${word} `)
+      ? [{ words: line.split(" ").slice(1), wanted: lines[i + 1].replace("#= ", "") }] : []);
+  });
+}
+const unhex = (text) => Buffer.from(text === "-" ? "" : text, "hex");
+
+test("labels of TLS and QUIC, by the vectors of the RFCs", () => {
+  const lines = linesOf("schedules", "expand-label");
+  for (const { words: [name, secret, label, context, len], wanted } of lines) {
+    const [it, labelBytes, contextBytes] = [secret, label, context].map(unhex);
+    assert.equal(hex(yz.hkdfExpandLabel(name, it, labelBytes, contextBytes, +len)), wanted);
+  }
+  assert.ok(lines.length > 50);
+  for (const label of ["", "x".repeat(250)]) {
+    assert.throws(() => yz.hkdfExpandLabel("sha256", Buffer.alloc(32), label, "", 32), RangeError);
+  }
+});
+
+const statusOf = (error) =>
+  /too many iterations/.test(error.message) ? "too many iterations" : "not a password hash";
+
+test("password hashes, by the vectors of other systems", async () => {
+  const told = { true: "ok", false: "wrong password" }, count = {};
+  for (const { words: [text, password, most], wanted } of linesOf("password_hashes", "verify")) {
+    const words = [text, unhex(password), { maxIterations: +most }];
+    const later = yz.passwordHash.verify(...words).then((it) => told[it], statusOf);
+    let answer;
+    try {
+      answer = told[yz.passwordHash.verifySync(...words)];
+    } catch (error) {
+      answer = statusOf(error);
+    }
+    assert.ok(wanted.startsWith(answer), `${text}: ${answer}`);
+    assert.equal(await later, answer);
+    count[answer] = (count[answer] ?? 0) + 1;
+  }
+  assert.ok(count.ok > 9 && count["wrong password"] > 9 && count["too many iterations"] > 9);
+  for (const { words: [text], wanted } of linesOf("password_hashes", "read")) {
+    const [scheme, iterations] = wanted.split(" ");
+    if (scheme === "not") assert.throws(() => yz.passwordHash.info(text), /no password hash/);
+    else assert.deepEqual(yz.passwordHash.info(text), { scheme, iterations: +iterations });
+  }
+  const makes = linesOf("password_hashes", "make");
+  for (const { words: [scheme, iterations, salt, password], wanted } of makes) {
+    const options = { iterations: +iterations, salt: unhex(salt) };
+    assert.equal(yz.passwordHash.newSync(scheme, unhex(password), options), wanted);
+    assert.equal(await yz.passwordHash.new(scheme, unhex(password), options), wanted);
+  }
+  assert.ok(makes.length > 9);
+});
+
+test("new password hashes have salts of their own, and refusals", async () => {
+  for (const scheme of yz.passwordHash.SCHEMES) {
+    const [one, other] = await Promise.all([1, 2].map(() =>
+      yz.passwordHash.new(scheme, "pw", { iterations: 10 })));
+    assert.notEqual(one, other);
+    assert.deepEqual(yz.passwordHash.info(one), { scheme, iterations: 10 });
+    for (const [word, isRight] of [["pw", true], ["px", false]]) {
+      assert.equal(await yz.passwordHash.verify(one, word, { maxIterations: 10 }), isRight);
+    }
+  }
+  const { verify, newSync } = yz.passwordHash, { name: noLimit } = TypeError;
+  const most = { maxIterations: 9 };
+  await assert.rejects(verify("nothing", "pw", most), /no password hash/);
+  await assert.rejects(verify("x".repeat(1025), "pw", most), RangeError);
+  for (const options of [undefined, {}, { maxIterations: "9" }]) {
+    await assert.rejects(verify("nothing", "pw", options), { name: noLimit });
+  }
+  for (const maxIterations of [0, 2 ** 32, 1.5]) {
+    await assert.rejects(verify("nothing", "pw", { maxIterations }), RangeError);
+  }
+  assert.throws(() => newSync("werkzeug-sha256", "pw", { iterations: 1, salt: "$" }), /this salt/);
+  assert.throws(() => newSync("phc-sha256", "pw", { iterations: 1, salt: "" }), /this salt/);
+  assert.throws(() => newSync("md5", "pw", { iterations: 1 }), { code: "ERR_INVALID_ARG_VALUE" });
+  assert.throws(() => newSync("phc-sha256", "pw"), TypeError);
+  // A caller that wipes the password behind the call changes nothing.
+  const password = Buffer.from("pw"), options = { iterations: 1, salt: "salt" };
+  const text = yz.passwordHash.new("phc-sha256", password, options);
+  password.fill(0);
+  assert.equal(await text, newSync("phc-sha256", "pw", options));
+});
+
+test("WebCrypto's shape beside WebCrypto", async () => {
+  const theirSubtle = crypto.webcrypto.subtle, message = crypto.randomBytes(300000);
+  const raw = crypto.randomBytes(20), salt = crypto.randomBytes(9), info = crypto.randomBytes(5);
+  const imported = (subtle, name, uses) => subtle.importKey("raw", raw,
+    name === "HMAC" ? { name, hash: "SHA-384" } : name, false, uses);
+  for (const data of [message, message.subarray(0, 99)]) {
+    const answers = await Promise.all([yz.subtle, theirSubtle].map(async (subtle) => {
+      const key = await imported(subtle, "HMAC", ["sign", "verify"]);
+      const tag = await subtle.sign("HMAC", key, data);
+      assert.equal(await subtle.verify("HMAC", key, tag, data), true);
+      assert.equal(await subtle.verify("HMAC", key, tag, data.subarray(1)), false);
+      const hkdf = { name: "HKDF", hash: "SHA-256", salt, info };
+      const pbkdf2 = { name: "PBKDF2", hash: "SHA-512", salt, iterations: 500 };
+      return Promise.all([tag, subtle.digest("sha-1", data),
+        subtle.deriveBits(hkdf, await imported(subtle, "HKDF", ["deriveBits"]), 256),
+        subtle.deriveBits(pbkdf2, await imported(subtle, "PBKDF2", ["deriveBits"]), 800)]);
+    }));
+    assert.deepEqual(answers[0], answers[1]);
+  }
+  const refusals = [
+    ["NotSupportedError", (it) => it.digest("MD5", message)],
+    ["SyntaxError", (it) => imported(it, "HMAC", ["deriveBits"])],
+    ["SyntaxError", (it) => imported(it, "HKDF", [])],
+    ["DataError", (it) => it.importKey("raw", Buffer.alloc(0), { name: "HMAC", hash: "SHA-1" },
+      false, ["sign"])],
+    ["InvalidAccessError", async (it) =>
+      it.sign("HMAC", await imported(it, "HMAC", ["verify"]), raw)],
+    ["OperationError", async (it) => it.deriveBits(
+      { name: "PBKDF2", hash: "SHA-1", salt, iterations: 1 },
+      await imported(it, "PBKDF2", ["deriveBits"]), 7)],
+  ];
+  for (const [name, call] of refusals) {
+    for (const it of [yz.subtle, theirSubtle]) await assert.rejects(call(it), { name });
   }
 });
 
@@ -331,19 +540,27 @@ test("no call leaves a byte in the module's memory", () => {
     () => yz.hmac(name, crypto.randomBytes(20), crypto.randomBytes(70000)),
     () => yz.hmacVerify(name, "key", "message", crypto.randomBytes(20)),
     () => yz.hmacVerify(name, "key", crypto.randomBytes(70000), crypto.randomBytes(20)),
-    () => yz.hkdf(name, crypto.randomBytes(100), "salt", "info", 1000),
+    () => yz.hkdfSync(name, crypto.randomBytes(100), "salt", "info", 1000),
     () => yz.hkdfExpand(name, yz.hkdfExtract(name, "secret", "salt"), "info", 99),
-    () => yz.pbkdf2("password", "salt", 3, 700, name),
+    () => yz.pbkdf2Sync("password", "salt", 3, 700, name),
     () => yz.pbkdf2Verify("password", "salt", 3, crypto.randomBytes(700), name),
     () => yz.createHash(name).update("abc").copy().digest(),
     () => yz.createHmac(name, crypto.randomBytes(200)).update("abc").digest(),
     () => running.update(crypto.randomBytes(200)),
     () => tagged.update(crypto.randomBytes(200)),
     () => yz.timingSafeEqual(crypto.randomBytes(9), crypto.randomBytes(9)),
+    () => yz.hkdfExpandLabel(name, crypto.randomBytes(99), "label", "context", 99),
+    () => yz.digestEach(name, [crypto.randomBytes(99), crypto.randomBytes(9)]),
     // Refused once the inputs were copied in.
-    () => assert.throws(() => yz.hkdf(name, "secret", "salt", "info", 20000), RangeError),
-    () => assert.throws(() => yz.pbkdf2("secret", "salt", 1, 2 ** 31, name), RangeError),
+    () => assert.throws(() => yz.hkdfSync(name, "secret", "salt", "info", 20000), RangeError),
+    () => assert.throws(() => yz.pbkdf2Sync("secret", "salt", 1, 2 ** 31, name), RangeError),
   ]);
+  const { SCHEMES, info, newSync, verifySync } = yz.passwordHash, most = { maxIterations: 9 };
+  calls.push(...SCHEMES.flatMap((scheme) => {
+    const text = newSync(scheme, "password", { iterations: 3 });
+    return [() => newSync(scheme, crypto.randomBytes(99), { iterations: 3 }), () => info(text),
+      () => verifySync(text, crypto.randomBytes(99), most)];
+  }), () => assert.throws(() => verifySync("x".repeat(1000), "secret", most)));
   const count = instances.length;
   for (const call of calls) {
     call();
@@ -354,14 +571,24 @@ test("no call leaves a byte in the module's memory", () => {
 
 test("the module itself leaves secrets on its stack, and that test would see them", () => {
   const module = new WebAssembly.Module(readFileSync(`${PACKAGE}/yezdopin.wasm`));
-  const { exports } = new Instance(module);
-  const base = BigInt(Math.ceil(Number(exports.__heap_base.value) / 8) * 8);
-  assert.equal(exports.yz_pbkdf2_derive(4, 2, base, 8n, base, 8n, base + 64n, 640n), 0);
-  const memory = new Uint8Array(exports.memory.buffer), end = 64 * 1024;
-  let lowest = 0;
-  while (memory[lowest] === 0) lowest++;
-  console.log(`${end - lowest} bytes of the stack`);
-  assert.ok(lowest < end && lowest >= end - 8 * 1024);
+  const end = 64 * 1024, text = "pbkdf2_sha256$1$salt$AAAAAAAAAAAAAAAAAAAAAAAAAAAAAAAAAAAAAAAAAAA=";
+  // How many bytes of the stack a call uses, which is passed a place for what it reads and writes.
+  function used(call) {
+    const { exports } = new Instance(module), memory = new Uint8Array(exports.memory.buffer);
+    const base = Math.ceil(Number(exports.__heap_base.value) / 8) * 8;
+    memory.set(Buffer.from(text), base);
+    call(exports, BigInt(base));
+    return end - memory.findIndex((byte) => byte !== 0);
+  }
+  const derive = used((exports, at) =>
+    assert.equal(exports.yz_pbkdf2_derive(4, 2, at, 8n, at, 8n, at + 64n, 640n), 0));
+  const verify = used((exports, at) => assert.equal(
+    exports.yz_password_hash_verify(at, BigInt(text.length), at, 9n, 1), 8));
+  const made = used((exports, at) => assert.equal(exports.yz_password_hash_new(
+    11, 1, at, 9n, at, 9n, at + 128n, 1024n, at + 2048n), 0));
+  console.log(`${derive}, ${verify} and ${made} bytes of the stack`);
+  assert.ok(derive > 0 && derive <= 8 * 1024);
+  for (const it of [verify, made]) assert.ok(it > 0 && it <= 20 * 1024);
 });
 
 // Calls a function with a method of all typed arrays in another form.
@@ -390,8 +617,10 @@ test("contexts are wiped at each step, and where the digest is taken", () => {
       it.digest("hex");
     }
   });
-  assert.equal(contexts.length, 8);
-  for (const it of contexts) assert.ok(it.every((byte) => byte === 0));
+  // That of the empty message under SHA-256 may be there already, and is no secret.
+  const kept = contexts.filter((it) => !it.every((byte) => byte === 0));
+  assert.ok(kept.length <= 1 && contexts.length - kept.length === 7);
+  assert.equal(yz.createHash("sha256").update("abc").digest("hex"), SHA256_OF_ABC);
 });
 
 const still = !("growable" in SharedArrayBuffer.prototype) && "this Node has no buffers that grow";
@@ -445,7 +674,7 @@ test("shared buffers that another thread grows", { skip: still }, async (t) => {
       try {
         yz.timingSafeEqual(it, it);
       } catch (error) {
-        assert.match(error.message, /the lengths differ/);
+        assert.equal(error.code, "ERR_CRYPTO_TIMING_SAFE_EQUAL_LENGTH");
       }
       assert.ok(isWiped(), "a byte was left");
     }
@@ -475,7 +704,7 @@ test("a call that is cut off leaves the package and the contexts working", () =>
       deep();
     } finally {
       try {
-        yz.pbkdf2("a", "b", 1, 20, "sha1");
+        yz.pbkdf2Sync("a", "b", 1, 20, "sha1");
         tagged.update("c");
         updates++;
       } catch (error) {
@@ -512,7 +741,7 @@ test("a call that is cut off where the memory has grown leaves the package worki
   };
   try {
     yz.digest("sha1", "");
-    assert.throws(() => yz.hkdf("sha256", key, new usual(300000), "", 32), /cut off/);
+    assert.throws(() => yz.hkdfSync("sha256", key, new usual(300000), "", 32), /cut off/);
   } finally {
     globalThis.Uint8Array = usual;
   }
@@ -523,11 +752,11 @@ test("a call that is cut off where the memory has grown leaves the package worki
 test("descents to the end of a worker's stack leave the package working there", async () => {
   // The counts of arguments move the end of the stack, in a call, from one place to another.
   const program = `import { parentPort, workerData } from "node:worker_threads";
-    import { digest, hkdf } from ${JSON.stringify(main)};
+    import { digest, hkdfSync } from ${JSON.stringify(main)};
     const secret = new Uint8Array(300 * 1024), faults = [];
     const paddings = Array.from({ length: 8 }, (_, len) => Array(len).fill(0));
     let cuts = 0, answered = 0;
-    function padded(...more) { return hkdf("sha256", secret, "", "", 32); }
+    function padded(...more) { return hkdfSync("sha256", secret, "", "", 32); }
     function descend(...more) {
       try { descend(...more); } catch {}
       if (answered > 3 * paddings.length) return;
@@ -553,7 +782,7 @@ test("descents to the end of a worker's stack leave the package working there", 
 
 test("a long output, and a large instance is let go", () => {
   const count = instances.length, len = 20 << 20;
-  const derived = yz.pbkdf2("p", "s", 1, len, "sha512");
+  const derived = yz.pbkdf2Sync("p", "s", 1, len, "sha512");
   const wanted = crypto.pbkdf2Sync("p", "s", 1, len, "sha512");
   assert.equal(theirs("sha256", derived), theirs("sha256", wanted));
   assert.ok(memoryNow().length > len);
@@ -562,10 +791,9 @@ test("a long output, and a large instance is let go", () => {
   assert.equal(memoryNow().length, AS_NEW.length);
 });
 
-test("the version is the library's, and the package's", async () => {
-  const { version } = await import(pathToFileURL(`${PACKAGE}/calls.js`).href);
+test("the version is the library's, and the package's", () => {
   const [major, minor, patch] = VERSION.split(".").map(Number);
-  assert.equal(version(), major * 0x10000 + minor * 0x100 + patch);
+  assert.equal(instances.at(-1).yz_version(), major * 0x10000 + minor * 0x100 + patch);
   assert.equal(JSON.parse(readFileSync(`${PACKAGE}/package.json`, "utf8")).version, VERSION);
 });
 
@@ -580,6 +808,27 @@ test("four workers at once", async () => {
     (await once(new Worker(url), "message"))[0]));
   const wanted = theirs("sha256", Array.from({ length: 1000 }, (_, i) => i).join(""));
   assert.deepEqual(answers, Array(4).fill(wanted));
+});
+
+test("where no worker can be made, the thread that asks does the work", () => {
+  const program = `import { promisify } from "node:util";
+    import { passwordHash, pbkdf2, subtle } from ${JSON.stringify(main)};
+    const derived = await Promise.all([1, 2, 3].map((it) =>
+      promisify(pbkdf2)("p", "s", it, 20, "sha512")));
+    const refused = await passwordHash.verify("none", "", { maxIterations: 1 }).catch(String);
+    const digest = await subtle.digest("SHA-1", new Uint8Array(300000));
+    console.log(JSON.stringify([...derived.map((it) => it.toString("hex")), refused,
+      Buffer.from(digest).toString("hex")]));`;
+  const wanted = [1, 2, 3].map((it) => hex(crypto.pbkdf2Sync("p", "s", it, 20, "sha512")));
+  const name = "--permission", isNew = process.allowedNodeEnvironmentFlags.has(name);
+  const forbidding = [isNew ? name : "--experimental-permission", "--allow-fs-read=*"];
+  for (const flags of [[], forbidding]) {
+    const words = ["--no-warnings", ...flags, "--input-type=module", "-e", program];
+    const [one, two, three, refused, digest] = JSON.parse(execFileSync(process.execPath, words));
+    assert.deepEqual([one, two, three], wanted);
+    assert.match(refused, /no password hash/);
+    assert.equal(digest, theirs("sha1", Buffer.alloc(300000)));
+  }
 });
 
 const skip = !process.features.require_module && "this Node requires no ES module";

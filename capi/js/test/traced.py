@@ -14,9 +14,9 @@ import sys
 sys.path.insert(0, str(pathlib.Path(__file__).resolve().parent.parent / "build"))
 from lower import (  # noqa: E402
     BLOCK, BRANCH_IF, BRANCH_TABLE, CALL, CODE, COPY, DATA, ELSE, END, EXPORTS, FILL, FUNCTIONS,
-    GET, GLOBALS, I32, I32_CONST, I64, IF, KIND_FUNCTION, KIND_MEMORY, LOADS, MAGIC, MANY, MEMORY,
-    NO_RESULT, SELECT, SET, STORED, STORES, TYPES, Body, Reader, lowered, number, op, param_counts,
-    sections, sized, vector,
+    GET, GLOBALS, I32, I32_CONST, I64, IF, KIND_FUNCTION, KIND_MEMORY, LOADS, MAGIC, MANY,
+    MEMORY, NO_RESULT, OF_TEXTS_PLAIN, SELECT, SET, STORED, STORES, TYPES, Body, Reader, lowered,
+    number, op, param_counts, sections, sized, vector,
 )
 
 IMPORTS, TELL = 2, op(CALL, 0)
@@ -67,7 +67,8 @@ def traced(data):
     counts = param_counts(found[TYPES], found[FUNCTIONS])
     bodies = Reader(found[CODE])
     found[CODE] = vector([
-        sized(ToldBody(bodies.name(), counts[index]).bytes()) for index in bodies.counted()
+        sized(ToldBody(bodies.name(), counts[index], OF_TEXTS_PLAIN).bytes())
+        for index in bodies.counted()
     ])
     found[EXPORTS] = moved_exports(found[EXPORTS])
     types, index = with_one_more(found.pop(TYPES), b"\x60" + vector([b"\x7f"]) + vector([b"\x7f"]))

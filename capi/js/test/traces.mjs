@@ -9,6 +9,16 @@ const RUNS = 6;
 const LENS = [0, 1, 3, 4, 20, 31, 32, 33, 55, 56, 63, 64, 65, 100, 111, 112, 127, 128, 129, 200,
   255, 300];
 const OK = 0, UNSPECIFIED = 8;
+// Password hashes of each shape, of which none is that of a password here.
+const TEXTS = [
+  "pbkdf2_sha256$3$YTB316dpQV3CpPHC1xgzJK$eWVS/6HYUQkraA7ATkrE8e4rzVRR32kLTurxDCkza+s=",
+  "pbkdf2:sha256:3$uciKrVTgkel7FkW3a1eMCc"
+    + "$de7cb190c6d5a237116955dbfefa066e7749ad7bc616671dd1b39322e325eb14",
+  "$pbkdf2-sha512$i=3,l=32$/lEn7E5qUAKX66cd8hj2yw$qaxn7vihFnwmJg64S+CFYVTGRm1x939l0FKSO/1X8I8",
+  "$7$3$ekD1nEz+V3UsIdBOMZaqrQ=="
+    + "$6dh1JxigHUOM61gnRcyC0kJBEXFDRo2cyZT99g//flYNWJm2emAT3+jK/B1vhMuxkd1v9sszWezNlC0yCsvKQg==",
+  "$pbkdf2$3$d90xWSiDQ4UeAWSIiC7OLg$tvwgVZIQPR5Ttg21/ndMniuB0kM",
+];
 
 let sum = 0, count = 0;
 function told(it) {
@@ -71,15 +81,29 @@ function windowsOfTags(n, size, l, m, at) {
   window(`hkdf ${at}`, OK, ["hkdf", n, a, l, b, m, a, m, out, 2n * size + 1n]);
   window(`steps of hkdf ${at}`, OK, ["hkdf_extract", n, a, l, b, m, tag, size],
     ["hkdf_expand", n, tag, size, a, m, out, 3n * size]);
+  if (l >= 1n && l <= 249n && m <= 255n) {
+    window(`label ${at}`, OK, ["hkdf_expand_label", n, a, 32n, b, l, context, m, out, 2n * size]);
+  }
   window(`pbkdf2 ${at}`, OK, ["pbkdf2_derive", n, 3, a, l, b, m, out, 5n * size + 1n]);
   window(`right derived ${at}`, OK, ["pbkdf2_derive", n, 3, a, l, b, m, out, 4n * size],
     verifyDerived);
   window(`wrong derived ${at}`, UNSPECIFIED, verifyDerived);
 }
 
+// A password hash's text is no secret: the password is.
+function windowsOfPasswords(len) {
+  for (const text of TEXTS) {
+    const memory = new Uint8Array(exports.memory.buffer);
+    memory.set(new TextEncoder().encode(text), Number(context));
+    window(`password of ${text.slice(0, 16)} ${len}`, UNSPECIFIED,
+      ["password_hash_verify", context, BigInt(text.length), a, BigInt(len), 9]);
+  }
+}
+
 function windowsOf(run) {
   state = BigInt(run) * 0x9e3779b97f4a7c15n;
   windows = new Map();
+  LENS.forEach(windowsOfPasswords);
   for (let n = 1; n <= 5; n++) {
     const size = exports.yz_output_len(n);
     LENS.forEach((len, i) => {

@@ -1,31 +1,44 @@
 // SPDX-License-Identifier: ISC
-// tsc --noEmit: the types of the package. A line with an error must have it.
+// tsc --noEmit: the types of the package as browsers have it. A line with an error must have it.
 
-import {
-  createHash, createHmac, digest, hkdf, hkdfExpand, hmacVerify, pbkdf2, timingSafeEqual,
-  type Running,
+import all, {
+  createHash, createHmac, digest, hkdf, hkdfExpand, hkdfSync, hmacVerify, passwordHash, pbkdf2Sync,
+  pbkdf2, subtle, timingSafeEqual, type Hash, type PasswordHashScheme,
 } from "yezdopin";
 
 export const bytes: Uint8Array = digest("sha256", "abc");
-const running: Running = createHash("SHA-512/256").update(bytes).update(new ArrayBuffer(3));
+const running: Hash = createHash("SHA-512/256").update(bytes).update(new ArrayBuffer(3));
 export const text: string = running.copy().digest("hex");
-export const later: Promise<Running> = running.updateFrom(new Blob(["a"]), {
+export const later: Promise<Hash> = running.updateFrom(new Blob(["a"]), {
   progress: (it) => console.log(it + 1),
 });
-export const stream: Promise<Running> = running.updateFrom(new Blob(["a"]).stream());
+export const stream: Promise<Hash> = running.updateFrom(new Blob(["a"]).stream());
 const tag = createHmac({ name: "SHA-1" }, "key").update(text, "utf8").digest();
-export const same: boolean = timingSafeEqual(tag, hkdf("SHA-256", bytes, "", "", 20));
-export const derived: Uint8Array = pbkdf2("a", "b", 1, 20, "sha1");
+export const same: boolean = timingSafeEqual(tag, hkdfSync("SHA-256", bytes, "", "", 20));
+export const derived: Uint8Array = pbkdf2Sync("a", "b", 1, 20, "sha1");
+pbkdf2("a", "b", 1, 20, "RSA-SHA256", (error, it) => console.log(error?.message, it.length));
+hkdf("sha1", "a", "b", "c", 20, (_, it) => console.log(it.byteLength));
+export const hex: string = all.hash("sha1", "a");
+export const isRight: Promise<boolean> = passwordHash.verify("", "", { maxIterations: 9 });
+export const kept: Promise<string> = passwordHash.new("phc-sha256", "pw", { iterations: 9 });
+export const scheme: PasswordHashScheme = passwordHash.info("").scheme;
+export const made: Promise<ArrayBuffer> = subtle.digest("SHA-1", bytes);
 
 // @ts-expect-error no tag of SHA-512/256
 createHmac("sha512-256", "key");
 // @ts-expect-error no such algorithm
-pbkdf2("a", "b", 1, 20, "md5");
+pbkdf2Sync("a", "b", 1, 20, "md5");
+// @ts-expect-error no callback
+pbkdf2("a", "b", 1, 20, "sha1");
 // @ts-expect-error text is no tag
 hmacVerify("sha1", "key", "message", "tag");
 // @ts-expect-error text is no PRK
 hkdfExpand("sha1", "prk", "info", 20);
-// @ts-expect-error no such encoding of the input
-createHash("sha1").update("6162", "hex");
+// @ts-expect-error bytes have no encoding
+createHash("sha1").update(bytes, "hex");
 // @ts-expect-error no such encoding of the digest
 createHash("sha1").digest("latin1");
+// @ts-expect-error no limit
+passwordHash.verify("", "", {});
+// @ts-expect-error no such scheme
+passwordHash.newSync("md5", "pw", { iterations: 9 });

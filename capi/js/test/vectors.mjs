@@ -9,7 +9,7 @@ const NAMES = new Map(Object.entries({
 }));
 
 export const hex = (bytes) =>
-  Array.from(bytes, (it) => it.toString(16).padStart(2, "0")).join("");
+  Array.from(new Uint8Array(bytes), (it) => it.toString(16).padStart(2, "0")).join("");
 
 const bytesOf = (text) =>
   Uint8Array.from(text.match(/[0-9a-f]{2}/gi) ?? [], (it) => parseInt(it, 16));
@@ -48,12 +48,13 @@ const KINDS = {
     yz.hmacVerify(n, bytesOf(key), joined(message), bytesOf(tag)),
   hkdf: (yz, n, [salt, secret, info, len]) => {
     const prk = yz.hkdfExtract(n, bytesOf(secret), bytesOf(salt));
-    const made = refusedOr(() => yz.hkdf(n, bytesOf(secret), bytesOf(salt), joined(info), +len));
+    const made = refusedOr(() =>
+      yz.hkdfSync(n, bytesOf(secret), bytesOf(salt), joined(info), +len));
     const steps = refusedOr(() => yz.hkdfExpand(n, prk, joined(info), +len));
     return made === null && steps === null ? null : same(made, steps);
   },
   pbkdf2: (yz, n, [iterations, password, salt, len]) =>
-    refusedOr(() => yz.pbkdf2(bytesOf(password), bytesOf(salt), +iterations, +len, n)),
+    refusedOr(() => yz.pbkdf2Sync(bytesOf(password), bytesOf(salt), +iterations, +len, n)),
   "pbkdf2-verify": (yz, n, [iterations, password, salt, derived]) => refusedOr(() =>
     yz.pbkdf2Verify(bytesOf(password), bytesOf(salt), +iterations, bytesOf(derived), n)),
 };

@@ -1,0 +1,130 @@
+// SPDX-License-Identifier: ISC
+// What the package has in Node and in browsers alike. B is what bytes are answered as: a Buffer in
+// Node (node.d.ts), a Uint8Array in browsers (browser.d.ts).
+
+/** Of HMAC, HKDF and PBKDF2, in letters of either case. SHA-1 is broken: for old data alone. */
+export type HmacAlgorithm = "sha1" | "sha256" | "sha384" | "sha512" | "SHA1" | "SHA256" | "SHA384"
+  | "SHA512" | "SHA-1" | "SHA-256" | "SHA-384" | "SHA-512" | "RSA-SHA1" | "RSA-SHA256"
+  | "RSA-SHA384" | "RSA-SHA512" | { name: string };
+export type Algorithm = HmacAlgorithm | "sha512-256" | "SHA-512/256" | "RSA-SHA512/256";
+/** A buffer, or a view of one. A call reads a copy, so that a shared one may change meanwhile. */
+export type Bytes = ArrayBufferLike | ArrayBufferView;
+/** Text stands for its bytes in UTF-8. */
+export type Input = Bytes | string;
+/** Pieces of a message, one after another. */
+export type Source = Blob | ReadableStream<Input> | Iterable<Input> | AsyncIterable<Input>;
+export type Encoding = "hex" | "base64" | "base64url";
+
+export interface SourceOptions {
+  /** Is called with the count of bytes read after each piece, and waited for. */
+  progress?: (bytes: number) => unknown;
+  /** Ends the reading before the next piece. */
+  signal?: AbortSignal;
+}
+
+/** The digest or the tag of a message in pieces. */
+export interface Running<B, E> {
+  /** Appends to the message. Where it throws, the message stays as it was. */
+  update(data: Bytes): this;
+  update(data: string, encoding?: "utf8" | "utf-8" | E): this;
+  /**
+   * Appends each piece of a source: a Blob is read 4 MiB at a time. Other calls throw until it is
+   * read. Where reading fails or is ended, all later calls throw.
+   */
+  updateFrom(source: Source, options?: SourceOptions): Promise<this>;
+  /** The digest or the tag. All later calls throw. */
+  digest(): B;
+  digest(encoding: "buffer"): B;
+  digest(encoding: E): string;
+}
+
+type Told<T> = (error: Error | null, answer: T) => void;
+
+export interface Api<B, K, E> {
+  /** The digest of a whole message. */
+  digest(algorithm: Algorithm, message: Input): B;
+  /** The same as text. */
+  hash(algorithm: Algorithm, input: Input, encoding?: E): string;
+  hash(algorithm: Algorithm, input: Input, encoding: "buffer"): B;
+  /** The digest of each message. */
+  digestEach(algorithm: Algorithm, messages: Iterable<Input>): B[];
+  /** The tag by HMAC of a whole message. */
+  hmac(algorithm: HmacAlgorithm, key: K, message: Input): B;
+  /** Whether `tag` is the whole tag. */
+  hmacVerify(algorithm: HmacAlgorithm, key: K, message: Input, tag: Bytes): boolean;
+  /** HKDF: the secret comes before the salt, and in C behind it. Throws a RangeError past 255 times
+   * the algorithm's output. */
+  hkdfSync(algorithm: HmacAlgorithm, key: K, salt: Input, info: Input, length: number): ArrayBuffer;
+  hkdf(algorithm: HmacAlgorithm, key: K, salt: Input, info: Input, length: number,
+    callback: Told<ArrayBuffer>): void;
+  /** The first step of HKDF: the PRK. */
+  hkdfExtract(algorithm: HmacAlgorithm, key: K, salt: Input): B;
+  /** The second step of HKDF. */
+  hkdfExpand(algorithm: HmacAlgorithm, prk: Bytes, info: Input, length: number): B;
+  /** HKDF-Expand-Label of TLS 1.3 and QUIC. The label is without "tls13 ". */
+  hkdfExpandLabel(algorithm: HmacAlgorithm, secret: Bytes, label: Input, context: Input,
+    length: number): B;
+  /** PBKDF2, of 1 to 2^31 - 1 iterations. */
+  pbkdf2Sync(password: Input, salt: Input, iterations: number, keylen: number,
+    digest: HmacAlgorithm): B;
+  /** The same by a worker. */
+  pbkdf2(password: Input, salt: Input, iterations: number, keylen: number, digest: HmacAlgorithm,
+    callback: Told<B>): void;
+  /** Whether `derived` is not empty and is what `pbkdf2Sync` gives for its length. */
+  pbkdf2Verify(password: Input, salt: Input, iterations: number, derived: Bytes,
+    digest: HmacAlgorithm): boolean;
+  /** Whether both are equal, each byte read. Throws a RangeError where the lengths differ. */
+  timingSafeEqual(buf1: Bytes, buf2: Bytes): boolean;
+  /** The algorithms of digests. */
+  getHashes(): string[];
+}
+
+/** The schemes of password hashes, by their names in the other packages. */
+export type PasswordHashScheme = "django-sha256" | "django-sha1" | "werkzeug-sha256"
+  | "werkzeug-sha512" | "phc-sha256" | "phc-sha512" | "mosquitto" | "passlib-sha1"
+  | "passlib-sha256" | "passlib-sha512" | "postgresql" | "werkzeug-sha1";
+export interface NewPasswordHash {
+  iterations: number;
+  /** Random bytes of this hash alone, which are made where it is left out. */
+  salt?: Input;
+}
+export interface PasswordHashLimit {
+  /** A text that names more is refused before anything is derived: whoever wrote it chose them. */
+  maxIterations: number;
+}
+/**
+ * Password hashes as Django, Werkzeug, PHC strings, Mosquitto, passlib and PostgreSQL keep them.
+ * PostgreSQL prepares a password that is not ASCII by SASLprep: do so before these calls.
+ */
+export interface PasswordHash {
+  readonly SCHEMES: readonly PasswordHashScheme[];
+  /** Whether the text is that of the password, by a worker. Rejects a text that is no hash's. */
+  verify(text: Input, password: Input, options: PasswordHashLimit): Promise<boolean>;
+  verifySync(text: Input, password: Input, options: PasswordHashLimit): boolean;
+  /** The text of a new hash, by a worker. */
+  "new"(scheme: PasswordHashScheme, password: Input, options: NewPasswordHash): Promise<string>;
+  newSync(scheme: PasswordHashScheme, password: Input, options: NewPasswordHash): string;
+  /** Of which scheme a text is, and how many iterations it names. */
+  info(text: Input): { scheme: PasswordHashScheme; iterations: number };
+}
+
+/** A key of `subtle.importKey`, which is for this package's `subtle` alone. */
+export interface Key {
+  readonly type: "secret";
+  readonly extractable: false;
+  readonly algorithm: { readonly name: string };
+  readonly usages: readonly string[];
+}
+type Hashed = string | { name: string };
+/** What WebCrypto's `subtle` has of digests, HMAC, HKDF and PBKDF2, over raw keys. */
+export interface Subtle {
+  digest(algorithm: Hashed, data: Bytes): Promise<ArrayBuffer>;
+  importKey(format: "raw", keyData: Bytes,
+    algorithm: Hashed | { name: string; hash: Hashed; length?: number }, extractable: false,
+    usages: readonly ("sign" | "verify" | "deriveBits")[]): Promise<Key>;
+  sign(algorithm: Hashed, key: Key, data: Bytes): Promise<ArrayBuffer>;
+  verify(algorithm: Hashed, key: Key, signature: Bytes, data: Bytes): Promise<boolean>;
+  deriveBits(algorithm: { name: "HKDF"; hash: Hashed; salt: Bytes; info: Bytes }
+    | { name: "PBKDF2"; hash: Hashed; salt: Bytes; iterations: number },
+    key: Key, length: number): Promise<ArrayBuffer>;
+}

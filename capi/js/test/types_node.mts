@@ -1,0 +1,24 @@
+// SPDX-License-Identifier: ISC
+// tsc --noEmit: the types of the package as Node has it, with @types/node.
+
+import { createSecretKey } from "node:crypto";
+import { createReadStream } from "node:fs";
+import { pipeline } from "node:stream/promises";
+import { promisify } from "node:util";
+import yz, { Hash, createHash, createHmac, hash, pbkdf2, pbkdf2Sync, subtle } from "yezdopin";
+
+export const text: string = pbkdf2Sync("a", "b", 1, 20, "sha1").toString("base64");
+export const latin: string = createHash("sha256", { highWaterMark: 9 }).update("61", "hex")
+  .digest("latin1");
+const tagged = createHmac("sha256", createSecretKey(Buffer.of(1)), { encoding: "hex" });
+await pipeline(createReadStream("a"), tagged);
+export const tag: Buffer = tagged.digest();
+export const later: Buffer = await promisify(pbkdf2)("a", "b", 1, 20, "sha512");
+export const same: boolean = new Hash("sha1").copy() instanceof yz.Hash;
+export const bytes: Buffer = hash("sha1", "a", "buffer");
+export const made: ArrayBuffer = await subtle.digest("SHA-1", bytes);
+
+// @ts-expect-error no such encoding
+createHash("sha1").digest("utf-9");
+// @ts-expect-error no number is digested
+createHash("sha1").update(5);

@@ -41,6 +41,7 @@ const STACK_LEN = 8 * 1024;
 const STACK_LEN_OF_TEXTS = 20 * 1024;
 // An answer of at most so many bytes is copied faster byte by byte.
 const SHORT_LEN = 64;
+const MOST_SPARES = 4;
 
 let module, exports, memory, base, top;
 // Whether a call was cut off in the instance, or has made it large: the next call makes another.
@@ -185,8 +186,24 @@ function feed(update, context, message) {
   }
 }
 
+// Arrays of contexts that were wiped, since an engine takes longer to make one.
+const digestSpares = [], hmacSpares = [];
+const sparesOf = (len) => len === DIGEST_CONTEXT_LEN ? digestSpares : hmacSpares;
+
 // The bytes of the context at a place.
-const contextAt = (place, len) => memory.slice(Number(place), Number(place) + len);
+function contextAt(place, len) {
+  const context = sparesOf(len).pop() ?? new Uint8Array(len), at = Number(place);
+  context.set(memory.subarray(at, at + len));
+  return context;
+}
+
+/** Wipes a context, whose array is used again. */
+export function discard(context) {
+  const spares = sparesOf(context.length);
+  context.fill(0);
+  // By no call, since that could be cut off when the context is wiped already.
+  if (spares.length < MOST_SPARES) spares[spares.length] = context;
+}
 
 const outputLens = [];
 export const outputLen = (n) => outputLens[n] ??= Number(exports.yz_output_len(n));

@@ -41,7 +41,7 @@ export class Running {
 
   // The next context, or null. The one before is wiped.
   #become(context) {
-    if (!this.#isShared) this.#context.fill(0);
+    if (!this.#isShared) calls.discard(this.#context);
     this.#isShared = false;
     this.#context = context;
   }

@@ -34,7 +34,11 @@ const output = (n) => [
 const longOutput = () => [BigInt(OUTPUT + below(8)), BigInt(below(600))];
 const context = () => BigInt(oneOf(CONTEXTS));
 const key = () => BigInt(oneOf(KEYS));
-const textLen = () => new DataView(both[0].memory.buffer).getBigUint64(TEXT_LEN, true);
+// A number of a scheme of password hashes, and wrong ones.
+const scheme = () => below(14);
+// Mostly the text that yz_password_hash_new has written.
+const text = () => below(4) === 0 ? input() : [BigInt(OUTPUT),
+  BigInt.asUintN(11, new DataView(both[0].memory.buffer).getBigUint64(TEXT_LEN, true))];
 // The arguments of a call with so many inputs, an algorithm before them and an output behind.
 const withInputs = (count) => (n = algorithm()) =>
   [n, ...Array.from({ length: count }, input).flat(), ...output(n)];
@@ -55,12 +59,12 @@ const CALLS = {
   yz_hkdf_expand: () => [algorithm(), ...input(), ...input(), ...longOutput()],
   yz_hkdf_expand_label: () =>
     [algorithm(), ...input(), ...input(), ...input(), ...longOutput()],
-  // The text of one is what the other is asked for, mostly.
-  yz_password_hash_new: () => [below(12), below(4), ...input(), ...input(), BigInt(OUTPUT),
+  yz_password_hash_new: () => [scheme(), below(4), ...input(), ...input(), BigInt(OUTPUT),
     below(4) ? 1024n : BigInt(below(200)), BigInt(TEXT_LEN)],
-  yz_password_hash_verify: () => [
-    ...(below(4) ? [BigInt(OUTPUT), BigInt.asUintN(11, textLen())] : input()), ...input(), below(4),
-  ],
+  yz_password_hash_info: () => [...text(), BigInt(TEXT_LEN + 8), BigInt(TEXT_LEN + 16)],
+  yz_password_hash_salt: () => [scheme(), BigInt(oneOf(INPUTS)), below(4) ? 16n : 15n,
+    BigInt(INPUTS[0]), BigInt(below(40)), BigInt(TEXT_LEN + 24)],
+  yz_password_hash_verify: () => [...text(), ...input(), below(4)],
   yz_pbkdf2_derive: () => [algorithm(), below(4), ...input(), ...input(), ...longOutput()],
   yz_pbkdf2_verify: () => [algorithm(), below(4), ...input(), ...input(), ...longOutput()],
   yz_equal: () => {

@@ -591,11 +591,12 @@ test("the module itself leaves secrets on its stack, and that test would see the
   for (const it of [verify, made]) assert.ok(it > 0 && it <= 20 * 1024);
 });
 
-// Calls a function with a method of all typed arrays in another form.
+// Calls a function with a method of all typed arrays in another form, which is passed the usual one
+// and the array.
 function withMethod(name, method, call) {
   const typedArray = Object.getPrototypeOf(Uint8Array.prototype), usual = typedArray[name];
   typedArray[name] = function (...words) {
-    return method(() => Reflect.apply(usual, this, words));
+    return method(() => Reflect.apply(usual, this, words), this);
   };
   try {
     return call();
@@ -605,22 +606,39 @@ function withMethod(name, method, call) {
 }
 
 test("contexts are wiped at each step, and where the digest is taken", () => {
-  const contexts = [];
-  const keep = (usual) => {
-    const made = usual();
-    if (made.length > 64) contexts.push(made);
-    return made;
+  // The context of the empty message, which stays, is there before.
+  yz.createHash("sha256");
+  const contexts = [], keep = (it) => {
+    if (it.length === 216 || it.length === 280) contexts.push(it);
   };
-  withMethod("slice", keep, () => {
+  const set = (usual, self) => { usual(); keep(self); };
+  const slice = (usual) => { const made = usual(); keep(made); return made; };
+  withMethod("set", set, () => withMethod("slice", slice, () => {
     for (const it of [yz.createHash("sha256"), yz.createHmac("sha512", "a key")]) {
       it.update("abc").copy().update("def").digest();
       it.digest("hex");
     }
-  });
-  // That of the empty message under SHA-256 may be there already, and is no secret.
-  const kept = contexts.filter((it) => !it.every((byte) => byte === 0));
-  assert.ok(kept.length <= 1 && contexts.length - kept.length === 7);
+  }));
+  // One for each update and each copy, and one for the key.
+  assert.equal(contexts.length, 7);
+  for (const it of contexts) assert.ok(it.every((byte) => byte === 0));
   assert.equal(yz.createHash("sha256").update("abc").digest("hex"), SHA256_OF_ABC);
+});
+
+test("objects side by side have contexts of their own", () => {
+  const pieces = Array.from({ length: 60 }, (_, i) => Buffer.alloc(i, i));
+  const running = TAGS.flatMap((name) => [1, 2, 3, 4, 5].flatMap((it) =>
+    [[yz.createHash(name), crypto.createHash(name)],
+      [yz.createHmac(name, `${it}`), crypto.createHmac(name, `${it}`)]]));
+  for (const piece of pieces) {
+    for (const [ours, other] of running) {
+      ours.update(piece);
+      other.update(piece);
+      const copied = ours.copy().update("a").digest("hex");
+      if (other.copy) assert.equal(copied, other.copy().update("a").digest("hex"));
+    }
+  }
+  for (const [ours, other] of running) assert.equal(ours.digest("hex"), other.digest("hex"));
 });
 
 const still = !("growable" in SharedArrayBuffer.prototype) && "this Node has no buffers that grow";

@@ -18,6 +18,8 @@ const TEXTS = [
   "$7$3$ekD1nEz+V3UsIdBOMZaqrQ=="
     + "$6dh1JxigHUOM61gnRcyC0kJBEXFDRo2cyZT99g//flYNWJm2emAT3+jK/B1vhMuxkd1v9sszWezNlC0yCsvKQg==",
   "$pbkdf2$3$d90xWSiDQ4UeAWSIiC7OLg$tvwgVZIQPR5Ttg21/ndMniuB0kM",
+  "SCRAM-SHA-256$3:W22ZaJ0SNY7soEsUEjb6gQ==$WG5d8oPm3OtcPnkdi4Uo7BkeZkBFzpcXkuLmtbsT4qY="
+    + ":wfPLwcE6nTWhTAmQ7tl2KeoiWGPlZqQxSrmfPwDl2dU=",
 ];
 
 let sum = 0, count = 0;

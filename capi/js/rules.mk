@@ -153,11 +153,10 @@ js-browsers: $(JS)/package/package.json
 	    jsc -m js/test/jsc.mjs -- "$$PACKAGE" "$$VECTORS" || exit 1; \
 	else echo 'left out: JavaScriptCore'; fi
 
-# The demonstration, where a browser on this machine can open it.
+# The demonstration, where a browser on this machine can open it: on a free port, or on PORT.
 js-demo: $(JS)/package/package.json
 	mkdir -p $(JS)/demo && cp js/demo/* $(JS)/demo
-	@echo 'http://127.0.0.1:8000/demo/index.html'
-	$(PYTHON) -m http.server --bind 127.0.0.1 --directory $(JS) 8000
+	@$(PYTHON) -B js/build/serve.py $(JS) demo/index.html $(PORT)
 
 # Times beside others'. In browsers: make js-browsers QUERY='?bench'
 js-bench: $(JS)/package/package.json

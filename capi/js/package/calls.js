@@ -39,8 +39,6 @@ const ALIGNMENT = 8;
 const STACK_END = 64 * 1024;
 const STACK_LEN = 8 * 1024;
 const STACK_LEN_OF_TEXTS = 20 * 1024;
-// An answer of at most so many bytes is copied faster byte by byte.
-const SHORT_LEN = 64;
 const MOST_SPARES = 4;
 
 let module, exports, memory, base, top;
@@ -161,19 +159,11 @@ const lenOf = (bytes) => BigInt(bytes.length);
 // A place that a call writes, of so many bytes.
 const blank = (len) => BigInt(room(len));
 
-// An answer's bytes, which are the caller's.
-function taken(place, len) {
-  const bytes = host.bytes(len);
-  if (len > SHORT_LEN) bytes.set(memory.subarray(place, place + len));
-  else for (let i = 0; i < len; i++) bytes[i] = memory[place + i];
-  return bytes;
-}
-
 // What a call writes, which is passed the place and the length of it.
 function output(len, call) {
   const place = room(len);
   test(call(BigInt(place), BigInt(len)));
-  return taken(place, len);
+  return host.copy(memory, place, place + len);
 }
 
 // Updates the context at a place.
@@ -370,7 +360,7 @@ export function passwordSalt(scheme, random) {
     const at = copied(random), salt = blank(MAX_SALT_LEN), len = blank(SIZE_LEN);
     test(exports.yz_password_hash_salt(
       scheme, at, lenOf(random), salt, BigInt(MAX_SALT_LEN), len));
-    return taken(Number(salt), wordAt(len));
+    return host.copy(memory, Number(salt), Number(salt) + wordAt(len));
   }, STACK_LEN_OF_TEXTS);
 }
 
@@ -381,7 +371,7 @@ export function passwordNew(scheme, iterations, salt, password) {
     const text = blank(MAX_PASSWORD_HASH_LEN), len = blank(SIZE_LEN);
     test(exports.yz_password_hash_new(scheme, iterations, one, lenOf(salt), other, lenOf(password),
       text, BigInt(MAX_PASSWORD_HASH_LEN), len));
-    return taken(Number(text), wordAt(len));
+    return host.copy(memory, Number(text), Number(text) + wordAt(len));
   }, STACK_LEN_OF_TEXTS);
 }
 

@@ -102,9 +102,9 @@ function textOf(bytes, encoding) {
 
 /** What Node has in another form, and node.js sets. These are the browsers'. */
 export const host = {
-  /** A room for so many bytes of an answer. */
-  bytes: (len) => new Uint8Array(len),
-  /** Bytes of another thread, as an answer. */
+  /** A part of an array, as an answer. */
+  copy: (bytes, from, to) => bytes.slice(from, to),
+  /** The bytes of another thread's answer, as an answer. */
   answer: (bytes) => bytes,
   /** The text of an answer. */
   textOf,

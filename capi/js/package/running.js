@@ -87,9 +87,7 @@ export class Running {
   end() {
     this.#ended = this.#calls.final(this.#number, this.#ready());
     this.#become(null);
-    const answer = host.bytes(this.#ended.length);
-    answer.set(this.#ended);
-    return answer;
+    return host.copy(this.#ended, 0, this.#ended.length);
   }
 
   digest(encoding) {

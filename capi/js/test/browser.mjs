@@ -1,7 +1,7 @@
 // SPDX-License-Identifier: ISC
 // node browser.mjs COMMAND..: opens test/page.html in a browser and prints what it reports; {} in
 // the command is the page's address. It ends with 1 where a vector disagrees, and with 2 where
-// nothing is reported.
+// it reports nothing.
 
 import { spawn } from "node:child_process";
 import { serve } from "./server.mjs";
@@ -17,11 +17,17 @@ function end(status) {
   setTimeout(() => process.exit(status), 500);
 }
 
-const folders = { package: PACKAGE, vectors: VECTORS, test: here("test"), bench: here("bench") };
-const address = await serve(folders, ({ agent, page, worker, bench, fault }) => {
+const folders = { package: PACKAGE, vectors: VECTORS, test: here("test"), alone: here("test"),
+  bench: here("bench") };
+let status = 1;
+const address = await serve(folders, ({ agent, page, worker, bench, isAlone, fault }) => {
   if (fault) {
     console.log(fault);
     return end(1);
+  }
+  if (isAlone) {
+    console.log("the calls that are done in workers are right without them");
+    return end(status);
   }
   for (const [name, it] of [["page", page], ["worker", worker]]) {
     console.log(`${name}: ${it.agree} vectors agree, ${it.subtleAgrees} lines with WebCrypto`);
@@ -29,8 +35,8 @@ const address = await serve(folders, ({ agent, page, worker, bench, fault }) => 
   }
   console.log(agent);
   if (bench) console.log(bench);
-  end(page.agree > 300 && page.faults.length + worker.faults.length === 0
-    && worker.agree === page.agree ? 0 : 1);
+  status = page.agree > 300 && page.faults.length + worker.faults.length === 0
+    && worker.agree === page.agree ? 0 : 1;
 });
 const url = `${address}/test/page.html${QUERY}`;
 browser = spawn(program, words.map((it) => it.replace("{}", url)), { stdio: "ignore" });

@@ -1,5 +1,6 @@
 // SPDX-License-Identifier: ISC
-// Runs the vectors in a browser, in the page and in a worker, and reports to the server.
+// Runs the vectors in a browser, in the page and in a worker, and reports to the server. Then it goes
+// on below /alone/, where the policy forbids workers, with the calls that are done in workers.
 
 import { FILES, run } from "./vectors.mjs";
 
@@ -30,24 +31,29 @@ async function laterFault(yz) {
   const told = await new Promise((resolve) =>
     yz.pbkdf2(data.subarray(0, 40), pbkdf2.salt, 9999, 40, "sha256", (_, it) => resolve(hex(it))));
   if (!ours.startsWith(told)) return "pbkdf2 differs from subtle";
-  const text = await yz.passwordHash.new("phc_sha256", "a password", { iterations: 99 });
+  const text = await yz.passwordHash.new("phc-sha256", "a password", { iterations: 99 });
   const isRight = await yz.passwordHash.verify(text, "a password", { maxIterations: 99 });
   return isRight ? null : "a password hash is not that of its password";
 }
 
-try {
+async function wholeReport(yz) {
   const texts = await Promise.all(
     FILES.map(async (it) => (await fetch(`/vectors/${it}.txt`)).text()));
-  const yz = await import("/package/browser.js");
   const page = await run(yz, texts, crypto.subtle), worker = await inWorker(texts);
-  const fault = await laterFault(yz);
-  if (fault) throw new Error(fault);
   const said = { agent: navigator.userAgent, page, worker };
   if (new URL(location).searchParams.has("bench")) {
     const { party, table, times, web } = await import("/bench/bench.mjs");
     said.bench = table(await times({ yezdopin: party(yz), WebCrypto: web(crypto.subtle) }));
   }
-  await report(said);
+  return said;
+}
+
+try {
+  const yz = await import("/package/browser.js"), fault = await laterFault(yz);
+  if (fault) throw new Error(fault);
+  const isAlone = location.pathname.startsWith("/alone/");
+  await report(isAlone ? { isAlone } : await wholeReport(yz));
+  if (!isAlone) location = "/alone/page.html";
 } catch (error) {
   await report({ fault: String(error?.stack ?? error) });
 }

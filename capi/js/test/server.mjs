@@ -10,9 +10,10 @@ const TYPES = new Map(Object.entries({
   txt: "text/plain", wasm: "application/wasm",
 }));
 const POLICY = "default-src 'none'; script-src 'self' 'wasm-unsafe-eval'; connect-src 'self'; "
-  + "style-src 'self'; worker-src 'self'";
+  + "style-src 'self'; worker-src ";
 
-/** A server's address; `report` is called with what a page posts to /report. */
+/** A server's address; `report` is called with what a page posts to /report. In the folder `alone`
+ * no workers can be made. */
 export async function serve(folders, report) {
   const server = createServer((request, response) => {
     const { pathname } = new URL(request.url, "http://it");
@@ -29,7 +30,8 @@ export async function serve(folders, report) {
     try {
       const content = readFileSync(`${folders[folder]}/${name}`);
       response.setHeader("content-type", TYPES.get(name.split(".").pop()) ?? "text/plain");
-      response.setHeader("content-security-policy", POLICY);
+      response.setHeader("content-security-policy",
+        `${POLICY}${folder === "alone" ? "'none'" : "'self'"}`);
       response.end(content);
     } catch {
       response.statusCode = 404;

@@ -27,7 +27,8 @@ import svg
 
 SVG = "{http://www.w3.org/2000/svg}"
 HEADER = "capi/include/yezdopin.h"
-TYPES = "capi/js/package/yezdopin.d.ts"
+EXPORTS = "capi/js/package/browser.d.ts"
+TYPES = "capi/js/package/types.d.ts"
 # What is behind a picture in light and in dark, on GitHub's pages and on others' in the extreme.
 GROUNDS = {"light": ("#ffffff", "#f6f8fa"), "dark": ("#0d1117", "#000000")}
 LEAST_OF_BARS, LEAST_OF_WORDS = 3, 4.5
@@ -40,9 +41,10 @@ PLANTED = (
     ("Python", "capi/python/src/yezdopin/hmac.py", '    "Key",\n', ""),
     ("Rust", "capi/rust/src/hkdf.rs", "    pub fn expand_label(", "    fn expand_label("),
     ("Rust", "capi/rust/src/lib.rs", "pub mod password_hash;", "mod password_hash;"),
-    ("JavaScript", TYPES, "export function hkdfExpand(", "function hkdfExpand("),
-    ("JavaScript", TYPES, "export function digest(", "export function digestEach(): void;\n"
-                                                     "export function digest("),
+    ("JavaScript", EXPORTS, "export const hkdfExpand:", "declare const hkdfExpand:"),
+    ("JavaScript", TYPES, "  verify(text: Input,", "  verifyHash(text: Input,"),
+    ("JavaScript", EXPORTS, "export const digest:", "export const restoreContext: () => void;\n"
+                                                    "export const digest:"),
     ("OpenSSL", "capi/openssl/provider.c", '{"HKDF", ', '{"TLS13-KDF", '),
 )
 

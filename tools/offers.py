@@ -5,7 +5,7 @@ A row of docs/figures.json has a cell for each package: a list of names that the
 offer, for yes, or a pattern that none of its names may match in any case of letters, for no. A
 comment offers nothing. The names are written as callers write them: `yz_digest`, `hmac.Key` in
 Python, `hkdf::Salt::extract` in Rust, `ring::hkdf::Salt::extract` in Rattle, and in JavaScript
-`digest` and `Running.copy`. Of the provider for OpenSSL they are the words of its code, in which
+`digest` and `Hash.copy`. Of the provider for OpenSSL they are the words of its code, in which
 stand the names of algorithms and modes.
 """
 
@@ -52,11 +52,11 @@ def of_rust(texts):
 
 
 def of_javascript(texts):
-    """The functions that the types export, and the members of `Running`."""
-    text = SLASHES.sub("", texts["capi/js/package/yezdopin.d.ts"])
-    running = re.search(r"^export interface Running \{(.*?)^\}", text, re.M | re.S).group(1)
-    members = {f"Running.{it}" for it in re.findall(r"^  (\w+)\(", running, re.M)}
-    return members.union(re.findall(r"^export function (\w+)", text, re.M))
+    """What the types export in browsers, and the members of interfaces behind their names."""
+    for text in (SLASHES.sub("", it) for it in texts.values()):
+        yield from re.findall(r"^export const (\w+)", text, re.M)
+        for name, body in re.findall(r"^export interface (\w+)[^{]*\{(.*?)\}$", text, re.M | re.S):
+            yield from (f"{name}.{it}" for it in re.findall(r'(?:^  "?|^ )(\w+)"?\(', body, re.M))
 
 
 def of_openssl(texts):
@@ -77,7 +77,7 @@ PACKAGES = {
     "C": (of_c, ["capi/include/yezdopin.h"]),
     "Python": (of_python, [f"capi/python/src/yezdopin/{it}.py" for it in ("__init__", "[a-z]*")]),
     "Rust": (of_rust, ["capi/rust/src/*.rs"]),
-    "JavaScript": (of_javascript, ["capi/js/package/yezdopin.d.ts"]),
+    "JavaScript": (of_javascript, ["capi/js/package/browser.d.ts", "capi/js/package/types.d.ts"]),
     "OpenSSL": (of_openssl, ["capi/openssl/*.c", "capi/openssl/*.h"]),
     "Rattle": (of_rattle, []),
 }

@@ -2,7 +2,7 @@
 // Password hashes as Django, Werkzeug, PHC strings, Mosquitto, passlib and PostgreSQL keep them.
 
 import * as calls from "./calls.js";
-import { wrongValue } from "./errors.js";
+import { refused, wrongValue } from "./errors.js";
 import { bytesOrText, iterationsOf, wholeOf } from "./inputs.js";
 import { later } from "./later.js";
 
@@ -31,6 +31,7 @@ function numberOf(scheme) {
 }
 
 function newSalt(scheme) {
+  if (!globalThis.crypto) throw refused(Error, "there are no random bytes here: pass a salt");
   const random = globalThis.crypto.getRandomValues(new Uint8Array(SALT_RANDOM_LEN));
   return calls.passwordSalt(scheme, random);
 }

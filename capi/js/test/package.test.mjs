@@ -412,6 +412,14 @@ test("new password hashes have salts of their own, and refusals", async () => {
   assert.throws(() => newSync("phc-sha256", "pw", { iterations: 1, salt: "" }), /this salt/);
   assert.throws(() => newSync("md5", "pw", { iterations: 1 }), { code: "ERR_INVALID_ARG_VALUE" });
   assert.throws(() => newSync("phc-sha256", "pw"), TypeError);
+  // As Node 18 has it.
+  const { crypto: usual } = globalThis;
+  Object.defineProperty(globalThis, "crypto", { value: undefined, configurable: true });
+  try {
+    assert.throws(() => newSync("phc-sha256", "pw", { iterations: 1 }), /pass a salt/);
+  } finally {
+    Object.defineProperty(globalThis, "crypto", { value: usual, configurable: true });
+  }
   // A caller that wipes the password behind the call changes nothing.
   const password = Buffer.from("pw"), options = { iterations: 1, salt: "salt" };
   const text = yz.passwordHash.new("phc-sha256", password, options);

@@ -181,12 +181,11 @@ async function outcomeOf(call, party) {
   }
 }
 
-const theirs = { ...crypto, default: crypto, webcrypto: crypto.webcrypto,
-  // Node's own is younger than 20.12.
-  hash: crypto.hash ?? ((name, it, encoding = "hex") =>
-    crypto.createHash(name).update(it).digest(encoding)) };
+const theirs = { ...crypto, default: crypto, webcrypto: crypto.webcrypto };
+// Node has `hash` since 20.12.
+const tried = Object.entries(CALLS).filter(([name]) => crypto.hash || !name.startsWith("hash()"));
 let differ = 0, faults = 0;
-for (const [name, call] of Object.entries(CALLS)) {
+for (const [name, call] of tried) {
   const [node, ours] = await Promise.all([theirs, yz].map((it) => outcomeOf(call, it)));
   const reason = DIFFERENT[name];
   if (node === ours && reason !== undefined) console.log(`NOT DIFFERENT: ${name}`, ++faults);
@@ -196,5 +195,5 @@ for (const [name, call] of Object.entries(CALLS)) {
   console.log(`${reason === undefined ? "NOT LISTED: " : ""}${name}: ${reason ?? ""}`);
   if (reason === undefined) console.log(`  node:crypto: ${node}\n  yezdopin:    ${ours}`);
 }
-console.log(`${Object.keys(CALLS).length} everyday calls, ${differ} differ, ${faults} faults`);
+console.log(`${tried.length} everyday calls, ${differ} differ, ${faults} faults`);
 process.exitCode = faults === 0 ? 0 : 1;

@@ -1,11 +1,12 @@
 # SPDX-License-Identifier: ISC
-"""Gives a lowered module an import that each address and each condition is told to, in their order:
+"""Gives a lowered module imports that each address and each condition is told to, in their order:
 
     python3 traced.py MODULE32 TRACED PLANTED
 
-That is what loads, stores, copies and fills are passed, and what branches, tables of branches, `if`
-and `select` decide by. The import `it.told` gives each number back. PLANTED gets a module that
-leaks.
+That is what loads, stores, copies and fills are passed, what branches, tables of branches, `if` and
+`select` decide by, and what is multiplied and divided, since that may take longer for some numbers.
+The import `it.told` gives each number of 32 bits back, and `it.told_long` each of 64. PLANTED gets
+a module that leaks.
 """
 
 import pathlib
@@ -15,11 +16,14 @@ sys.path.insert(0, str(pathlib.Path(__file__).resolve().parent.parent / "build")
 from lower import (  # noqa: E402
     BLOCK, BRANCH_IF, BRANCH_TABLE, CALL, CODE, COPY, DATA, ELSE, END, EXPORTS, FILL, FUNCTIONS,
     GET, GLOBALS, I32, I32_CONST, I64, IF, KIND_FUNCTION, KIND_MEMORY, LOADS, MAGIC, MANY,
-    MEMORY, NO_RESULT, OF_TEXTS_PLAIN, SELECT, SET, STORED, STORES, TYPES, Body, Reader, lowered,
-    number, op, param_counts, sections, sized, vector,
+    MEMORY, NO_RESULT, OF_TEXTS, OF_TEXTS_PLAIN, PLAIN, SELECT, SET, STORED, STORES, TYPES, Body,
+    Reader, lowered, number, op, param_counts, sections, sized, vector,
 )
 
-IMPORTS, TELL = 2, op(CALL, 0)
+IMPORTS, TELL, TELL_LONG = 2, op(CALL, 0), op(CALL, 1)
+IMPORTED = {b"told": I32, b"told_long": I64}
+# The products and quotients, from this one on of 64 bits.
+OF_NUMBERS, LONG = OF_TEXTS_PLAIN - PLAIN, 0x7E
 
 
 class ToldBody(Body):
@@ -31,8 +35,12 @@ class ToldBody(Body):
         elif code in STORES:
             value = self.above[STORED[code]]
             self.out += op(SET, value) + TELL + op(GET, value) + self.offset(code, STORES[code])
+        elif code in OF_NUMBERS:
+            tell, last = (TELL_LONG, I64) if code >= LONG else (TELL, I32)
+            self.out += op(SET, self.above[last]) + tell + op(GET, self.above[last]) + tell
+            self.out += op(code)
         elif code == CALL:
-            self.out += op(CALL, self.code.number() + 1)
+            self.out += op(CALL, self.code.number() + len(IMPORTED))
         else:
             self.out += TELL if code in (BRANCH_IF, BRANCH_TABLE, IF, SELECT) else b""
             super().instruction(code)
@@ -45,19 +53,20 @@ class ToldBody(Body):
         self.out += op(MANY, code) + bytes({COPY: 2, FILL: 1}[code])
 
 
-def with_one_more(content, part):
-    """A vector with a part behind the others, and its index."""
+def with_more(content, more):
+    """A vector with parts behind the others, and the index of the first of them."""
     reader = Reader(content)
     count = reader.number()
-    return number(count + 1) + content[reader.at :] + part, count
+    return number(count + len(more)) + content[reader.at :] + b"".join(more), count
 
 
 def moved_exports(content):
-    """The exports, whose functions are one further."""
+    """The exports, whose functions are behind the imports."""
     reader, parts = Reader(content), []
     for _ in reader.counted():
         name, kind, index = reader.name(), reader.byte(), reader.number()
-        parts.append(sized(name) + bytes([kind]) + number(index + (kind == KIND_FUNCTION)))
+        place = index + (len(IMPORTED) if kind == KIND_FUNCTION else 0)
+        parts.append(sized(name) + bytes([kind]) + number(place))
     return vector(parts)
 
 
@@ -71,14 +80,19 @@ def traced(data):
         for index in bodies.counted()
     ])
     found[EXPORTS] = moved_exports(found[EXPORTS])
-    types, index = with_one_more(found.pop(TYPES), b"\x60" + vector([b"\x7f"]) + vector([b"\x7f"]))
-    imports = vector([sized(b"it") + sized(b"told") + bytes([KIND_FUNCTION]) + number(index)])
+    kinds = [vector([bytes([kind])]) for kind in IMPORTED.values()]
+    types, first = with_more(found.pop(TYPES), [b"\x60" + it + it for it in kinds])
+    imports = vector([
+        sized(b"it") + sized(name) + bytes([KIND_FUNCTION]) + number(first + at)
+        for at, name in enumerate(IMPORTED)
+    ])
     parts = {TYPES: types, IMPORTS: imports, **found}
     return MAGIC + b"".join(bytes([it]) + sized(content) for it, content in parts.items())
 
 
 # Bodies that leak the bytes at two places, each by another kind of instruction.
 LOAD_BYTE, STORE_BYTE, AND, XOR, ADD, EXTEND = 0x2D, 0x3A, 0x71, 0x73, 0x7C, 0xAD
+ADD32, MULTIPLY, DIVIDE, DIVIDE_LONG, CUT = 0x6A, 0x6C, 0x6E, 0x80, 0xA7
 ONE, TWO = op(I32_CONST) + b"\1", op(I32_CONST) + b"\2"
 FIRST, SECOND = (op(GET, it) + op(LOAD_BYTE, 0, 0) for it in (0, 1))
 BIT = FIRST + ONE + op(AND)
@@ -93,14 +107,20 @@ PLANTED = {
     "table": BEGIN + FIRST + op(BRANCH_TABLE, 1, 0, 0) + op(END) + ONE,
     "if": BIT + op(IF, I32) + ONE + op(ELSE) + TWO + op(END),
     "select": ONE + TWO + BIT + op(SELECT),
+    "product": FIRST + TWO + op(MULTIPLY),
+    "quotient": ONE + FIRST + ONE + op(ADD32) + op(DIVIDE),
+    "long quotient": FIRST + op(EXTEND) + op(GET, 1) + op(DIVIDE_LONG) + op(CUT),
 }
+# These stand where products and quotients are taken.
+OF_TEXTS_ONLY = {"product", "quotient", "long quotient"}
 
 
 def planted():
     """A module of 64-bit addresses with the bodies above, lowered and traced as the other."""
+    names = [(OF_TEXTS.decode() if it in OF_TEXTS_ONLY else "") + it for it in PLANTED]
     exports = [sized(b"memory") + bytes([KIND_MEMORY, 0])]
     exports += [
-        sized(name.encode()) + bytes([KIND_FUNCTION, at]) for at, name in enumerate(PLANTED)
+        sized(name.encode()) + bytes([KIND_FUNCTION, at]) for at, name in enumerate(names)
     ]
     found = {
         TYPES: vector([b"\x60" + vector([bytes([I64])] * 2) + vector([bytes([I32])])]),
@@ -112,7 +132,7 @@ def planted():
         DATA: vector([]),
     }
     module = MAGIC + b"".join(bytes([it]) + sized(content) for it, content in found.items())
-    return traced(lowered(module, ["memory", *PLANTED])[0])
+    return traced(lowered(module, ["memory", *names])[0])
 
 
 def main(source, target, leaking):

@@ -1,7 +1,8 @@
 // SPDX-License-Identifier: ISC
-// node traces.mjs TRACED PLANTED: whether an address or a condition of the module depends on a
-// secret. Each call that takes one, at many lengths, must tell the same whatever the secrets are.
-// Each body of the module with leaks must not. It ends with status 1 where that isn't so.
+// node traces.mjs TRACED PLANTED: whether an address, a condition or what is divided in the module
+// depends on a secret. Each call that takes one, at many lengths, must tell the same whatever the
+// secrets are. Each body of the module with leaks must not. It ends with status 1 where that isn't
+// so.
 
 import { readFileSync } from "node:fs";
 
@@ -30,8 +31,14 @@ function told(it) {
   return it;
 }
 
-const instanceOf = (file) =>
-  new WebAssembly.Instance(new WebAssembly.Module(readFileSync(file)), { it: { told } }).exports;
+function told_long(it) {
+  told(Number(BigInt.asIntN(32, it)));
+  told(Number(BigInt.asIntN(32, it >> 32n)));
+  return it;
+}
+
+const instanceOf = (file) => new WebAssembly.Instance(new WebAssembly.Module(readFileSync(file)),
+  { it: { told, told_long } }).exports;
 const [exports, planted] = process.argv.slice(2).map(instanceOf);
 
 // Places past the constants: two of secrets, an output, a tag, a context and a key.

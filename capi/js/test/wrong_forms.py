@@ -5,7 +5,7 @@
 
 Each wrong form is an edit of the program. It must lower the module, and the comparison of both
 modules (lowered.mjs) must end as is said of it. Each refused module is the right one with a part
-changed.
+changed. A form that is too wide must take one of these.
 """
 
 import os
@@ -60,14 +60,30 @@ FORMS = [
 ]
 
 
+# Forms that refuse too little.
+GROUPS = "zip(roots, (PLAIN, OF_TEXTS_PLAIN))"
+WIDER = [
+    ("a quotient of what is a secret", GROUPS, "zip(roots, (OF_TEXTS_PLAIN, OF_TEXTS_PLAIN))"),
+    ("a quotient of what calls of secrets reach too", GROUPS,
+     "zip(roots[::-1], (OF_TEXTS_PLAIN, PLAIN))"),
+    ("a block of any type", "if kind not in (I32, I64, NO_RESULT):", "if False:"),
+]
+
+
+def edited(text, old, new):
+    """The program with an edit."""
+    program = {"__name__": "wrong_form"}
+    exec(compile(text.replace(old, new), "wrong_form", "exec"), program)
+    return program
+
+
 def fault_of(text, edit, compared, exports):
     """Why a wrong form is not found as it should be, or None."""
     old, new, wanted = edit
     module64, module32, command = compared
     if text.count(old) != 1:
         return "the text to edit does not stand once"
-    program = {"__name__": "wrong_form"}
-    exec(compile(text.replace(old, new), "wrong_form", "exec"), program)
+    program = edited(text, old, new)
     module32.write_bytes(program["lowered"](module64.read_bytes(), exports)[0])
     run = subprocess.run(command, capture_output=True, text=True, check=False)
     said = run.stdout + run.stderr
@@ -146,10 +162,10 @@ def refused_modules(module):
     yield "a module that is cut off", "a module that is cut off", module[:-1]
 
 
-def reason_of_refusal(module, exports):
+def reason_of_refusal(module, exports, lowered=lower.lowered):
     """With what message the program refuses a module, or None."""
     try:
-        lower.lowered(module, exports)
+        lowered(module, exports)
     except SystemExit as end:
         return str(end).removeprefix("lower.py: refused: ")
     return None
@@ -171,7 +187,14 @@ def main(module64, folder, flag, *exports):
         if reason is None or not reason.startswith(wanted):
             faults += 1
             print(f"NOT REFUSED: {name}: {reason}")
-    print(f"{len(FORMS)} wrong forms, {count} modules to refuse, {faults} faults")
+    for name, old, new in WIDER:
+        lowered = edited(text, old, new)["lowered"]
+        taken = [it for it, _, changed in refused_modules(module64.read_bytes())
+                 if reason_of_refusal(changed, exports, lowered) is None]
+        faults += text.count(old) != 1 or not taken
+        print(f"found: {name}: {', '.join(taken)}" if taken else f"NOT FOUND: {name}")
+    forms = len(FORMS) + len(WIDER)
+    print(f"{forms} wrong forms, {count} modules to refuse, {faults} faults")
     return faults != 0
 
 

@@ -12,13 +12,14 @@ const USES = { HMAC: ["sign", "verify"], HKDF: ["deriveBits"], PBKDF2: ["deriveB
 
 const failed = (name, message) => new DOMException(message, name);
 
-// An algorithm with its name in upper case.
+// An algorithm's members, each read once, with its name in upper case.
 function algorithmOf(algorithm) {
-  const it = typeof algorithm === "object" && algorithm !== null ? algorithm : { name: algorithm };
-  if (typeof it.name !== "string" || !NAMES.test(it.name)) {
+  const isObject = typeof algorithm === "object" && algorithm !== null;
+  const { name, hash, length, salt, info, iterations } = isObject ? algorithm : { name: algorithm };
+  if (typeof name !== "string" || !NAMES.test(name)) {
     throw failed("NotSupportedError", "Unrecognized algorithm name");
   }
-  return { ...it, name: it.name.toUpperCase() };
+  return { name: name.toUpperCase(), hash, length, salt, info, iterations };
 }
 
 function hashOf(algorithm) {
@@ -49,8 +50,8 @@ class Key {
   }
 }
 
-const long = (message) => message.length > LONG;
-const done = (bytes) => bytes.buffer;
+const isLong = (message) => message.length > LONG;
+const bufferOf = ({ buffer }) => buffer;
 
 function tagWords(algorithm, key, use) {
   const { name } = algorithmOf(algorithm), value = Key.bytesOf(key, name, use);
@@ -61,7 +62,7 @@ function tagWords(algorithm, key, use) {
 export const subtle = {
   async digest(algorithm, data) {
     const words = [hashOf(algorithm).number, bytesOf(data, "data")];
-    return done(long(words[1]) ? await later("digest", ...words) : calls.digest(...words));
+    return bufferOf(isLong(words[1]) ? await later("digest", ...words) : calls.digest(...words));
   },
 
   async importKey(format, data, algorithm, extractable, usages) {
@@ -83,13 +84,13 @@ export const subtle = {
 
   async sign(algorithm, key, data) {
     const words = [...tagWords(algorithm, key, "sign"), bytesOf(data, "data")];
-    return done(long(words[2]) ? await later("hmac", ...words) : calls.hmac(...words));
+    return bufferOf(isLong(words[2]) ? await later("hmac", ...words) : calls.hmac(...words));
   },
 
   async verify(algorithm, key, signature, data) {
     const words = [...tagWords(algorithm, key, "verify"), bytesOf(data, "data"),
       bytesOf(signature, "signature")];
-    return long(words[2]) ? later("hmacVerify", ...words) : calls.hmacVerify(...words);
+    return isLong(words[2]) ? later("hmacVerify", ...words) : calls.hmacVerify(...words);
   },
 
   async deriveBits(algorithm, key, length) {
@@ -101,12 +102,12 @@ export const subtle = {
     }
     try {
       if (name === "HKDF") {
-        return done(calls.hkdf(n, bytes, secret, bytesOf(info, "algorithm.info"), length / 8));
+        return bufferOf(calls.hkdf(n, bytes, secret, bytesOf(info, "algorithm.info"), length / 8));
       }
       if (!Number.isInteger(iterations) || iterations < 1 || iterations > 2 ** 32 - 1) {
         throw new RangeError("yezdopin: iterations are 1 to 2^32 - 1");
       }
-      return done(await later("pbkdf2", n, iterations, bytes, secret, length / 8));
+      return bufferOf(await later("pbkdf2", n, iterations, bytes, secret, length / 8));
     } catch (cause) {
       if (cause instanceof RangeError) throw failed("OperationError", cause.message);
       throw cause;

@@ -147,7 +147,7 @@ const CALLS = {
   "promisify(hkdf)": (c) => promisify(c.hkdf)("sha384", "a key", bytes, "info", 100),
   "getHashes": (c) => c.getHashes().includes("sha256"),
   "subtle.digest": (c) => c.webcrypto.subtle.digest("SHA-256", bytes),
-  "subtle.digest of SHA-3": (c) => c.webcrypto.subtle.digest("SHA3-256", bytes),
+  "subtle.digest of MD5": (c) => c.webcrypto.subtle.digest("MD5", bytes),
   "subtle.sign": async (c) =>
     c.webcrypto.subtle.sign("HMAC", await hmacKey(c, ["sign"]), bytes),
   "subtle.verify": async (c) =>

@@ -10,9 +10,10 @@ globalThis.TextEncoder ??= class {
 };
 
 try {
-  const { start } = await import(`${folder}/calls.js`);
-  start(new WebAssembly.Module(readFile(`${folder}/yezdopin.wasm`, "binary")));
-  const yz = await import(`${folder}/api.js`);
+  // As browser.js has them.
+  const { $api, $calls, $running: { Running } } = await import(`${folder}/core.js`);
+  $calls.start(new WebAssembly.Module(readFile(`${folder}/yezdopin.wasm`, "binary")));
+  const yz = { ...$api, createHash: Running.ofDigest, createHmac: Running.ofTag };
   const { FILES, run } = await import("./vectors.mjs");
   const texts = FILES.map((it) => readFile(`${vectors}/${it}.txt`));
   const { agree, faults } = await run(yz, texts, null);

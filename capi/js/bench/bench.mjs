@@ -83,7 +83,7 @@ export const party = (yz) => ({
   hmac: yz.hmac,
   pieces: (name, it) => yz.createHash(name).update(it).update(it).digest(),
   pbkdf2: (name, password, salt, iterations, len) =>
-    (yz.pbkdf2Sync ?? yz.pbkdf2)(password, salt, iterations, len, name),
+    yz.pbkdf2Sync(password, salt, iterations, len, name),
 });
 
 /** WebCrypto, whose keys of HMAC are made beforehand. */

@@ -48,6 +48,7 @@ METERS = {
     "ring_merkle": 8,
     "ring_passwords": 3,
     "ring_schedules": 2,
+    "ring_tokens": 11,
     "ring_sums": 1,
     "ring_examples": 11,
     "ring_c": 5,

@@ -19,6 +19,7 @@ pub mod raw;
 pub mod rows;
 pub mod schemes;
 pub mod several;
+pub mod signed;
 pub mod states;
 pub mod store;
 pub mod sums;

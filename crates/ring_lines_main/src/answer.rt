@@ -4,6 +4,7 @@
 use crate::fault::Fault;
 use crate::password_hashes::{made, read, verified};
 use crate::schedules::secret_bytes;
+use crate::tokens::token_answer;
 use crate::trees::tree_answer;
 use crate::words::digits_of;
 use std::alloc::Global;
@@ -19,6 +20,9 @@ pub fn answer(alloc: Global, line: &str) -> Result<String, Fault> {
         }
         ["root" | "path" | "proof" | "include" | "consistent", ..] => {
             tree_answer(alloc, words.as_slice())
+        }
+        ["jws" | "hotp" | "totp" | "github" | "stripe", ..] => {
+            token_answer(alloc, words.as_slice())
         }
         words => digits_of(alloc, secret_bytes(alloc, words)?.as_slice()),
     }

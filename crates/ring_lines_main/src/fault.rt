@@ -4,6 +4,7 @@
 use hex::FromHexError;
 use ring::error::Unspecified;
 use ring_password_hash::HashError;
+use ring_tokens::TokenError;
 use std::alloc::AllocError;
 
 /// Why a line gets no answer.
@@ -13,7 +14,9 @@ pub enum Fault {
     BadLine,
     /// A call on password hashes refused it.
     Hash(HashError),
-    /// A call on key schedules or trees refused it.
+    /// A call on tokens refused it.
+    Token(TokenError),
+    /// A call on key schedules, trees, keys or webhooks refused it.
     Refused,
     /// There is no memory for its words or for the answer.
     Memory,
@@ -22,6 +25,12 @@ pub enum Fault {
 impl From<HashError> for Fault {
     fn from(error: HashError) -> Self {
         Fault::Hash(error)
+    }
+}
+
+impl From<TokenError> for Fault {
+    fn from(error: TokenError) -> Self {
+        Fault::Token(error)
     }
 }
 

@@ -1,7 +1,8 @@
 // SPDX-License-Identifier: ISC
 //! Answers lines on password hashes, for `tests/password_hashes.py`, on key schedules, for
-//! `tests/schedules.py`, and on trees of transparency logs, for `tests/merkle.py`.
-//! `docs/PASSWORD_HASHES.md`, `docs/SCHEDULES.md` and `docs/MERKLE.md` have their forms.
+//! `tests/schedules.py`, on trees of transparency logs, for `tests/merkle.py`, and on tokens,
+//! one-time passwords and webhooks, for `tests/tokens.py`. `docs/PASSWORD_HASHES.md`,
+//! `docs/SCHEDULES.md`, `docs/MERKLE.md` and `docs/TOKENS.md` have their forms.
 //!
 //! An answer is what the line asks for, the line of the error that refused it, `refused` where the
 //! error has none, or `bad line`. Empty lines and those with a `#` at their start have none.
@@ -17,6 +18,7 @@ mod answer;
 mod fault;
 mod password_hashes;
 mod schedules;
+mod tokens;
 mod trees;
 mod words;
 
@@ -26,6 +28,7 @@ fn text_of(alloc: Global, answer: Result<String, Fault>) -> Result<String, Alloc
         Ok(text) => Ok(text),
         Err(Fault::BadLine) => String::from_str(alloc, "bad line"),
         Err(Fault::Hash(error)) => format!(in alloc; "{error}"),
+        Err(Fault::Token(error)) => format!(in alloc; "{error}"),
         Err(Fault::Refused) => String::from_str(alloc, "refused"),
         Err(Fault::Memory) => String::from_str(alloc, "out of memory"),
     }

@@ -2,7 +2,7 @@
 //! What is asked of trees of transparency logs.
 
 use crate::fault::Fault;
-use crate::words::bytes_in;
+use crate::words::{bytes_in, number_in};
 use ring_merkle::{
     HASH_LEN, consistency_path, inclusion_path, leaf_hash, tree_root, verify_consistency,
     verify_inclusion,
@@ -79,14 +79,6 @@ fn consistency(alloc: Global, words: [&str; 4], values: &[&str]) -> Result<Strin
     let path = path_in(alloc, values)?;
     let answer = verify_consistency(first_size, &first, second_size, &second, path.as_slice());
     Ok(format!(in alloc; "{answer}")?)
-}
-
-/// A size or an index.
-fn number_in(word: &str) -> Result<u64, Fault> {
-    match word.parse::<u64>() {
-        Ok(number) => Ok(number),
-        Err(_) => Err(Fault::BadLine),
-    }
 }
 
 /// A hash.

@@ -2,8 +2,11 @@
 //! The words of a line.
 
 use crate::fault::Fault;
+use ring::hmac;
 use ring_password_hash::Scheme;
 use ring_schedules::hash::Hash;
+use ring_tokens::Alg;
+use ring_tokens::otp::Digits;
 use std::alloc::Global;
 use std::num::NonZeroU32;
 
@@ -48,7 +51,7 @@ pub fn text_in(alloc: Global, word: &str) -> Result<Vec<u8>, Fault> {
     }
 }
 
-/// An iteration count.
+/// An iteration count, or a step in seconds.
 pub fn count_in(word: &str) -> Result<NonZeroU32, Fault> {
     match word.parse::<u32>() {
         Ok(count) => NonZeroU32::new(count).ok_or(Fault::BadLine),
@@ -77,5 +80,52 @@ pub fn digits_of(alloc: Global, bytes: &[u8]) -> Result<String, Fault> {
     match bytes {
         [] => Ok(String::from_str(alloc, "-")?),
         bytes => Ok(hex::encode(alloc, bytes)?),
+    }
+}
+
+/// A number of 64 bits.
+pub fn number_in(word: &str) -> Result<u64, Fault> {
+    match word.parse::<u64>() {
+        Ok(number) => Ok(number),
+        Err(_) => Err(Fault::BadLine),
+    }
+}
+
+/// How many counters or steps are tried: one of 16 bits.
+pub fn short_in(word: &str) -> Result<u32, Fault> {
+    match word.parse::<u16>() {
+        Ok(number) => Ok(number as u32),
+        Err(_) => Err(Fault::BadLine),
+    }
+}
+
+/// The algorithm of a token's signature.
+pub fn alg_in(word: &str) -> Result<Alg, Fault> {
+    match word {
+        "HS256" => Ok(Alg::Hs256),
+        "HS384" => Ok(Alg::Hs384),
+        "HS512" => Ok(Alg::Hs512),
+        _ => Err(Fault::BadLine),
+    }
+}
+
+/// The algorithm of a one-time password.
+pub fn hmac_in(word: &str) -> Result<hmac::Algorithm, Fault> {
+    match word {
+        "SHA1" => Ok(hmac::HMAC_SHA1_FOR_LEGACY_USE_ONLY),
+        "SHA256" => Ok(hmac::HMAC_SHA256),
+        "SHA384" => Ok(hmac::HMAC_SHA384),
+        "SHA512" => Ok(hmac::HMAC_SHA512),
+        _ => Err(Fault::BadLine),
+    }
+}
+
+/// A number of digits.
+pub fn digits_in(word: &str) -> Result<Digits, Fault> {
+    match word {
+        "6" => Ok(Digits::Six),
+        "7" => Ok(Digits::Seven),
+        "8" => Ok(Digits::Eight),
+        _ => Err(Fault::BadLine),
     }
 }

@@ -1,0 +1,53 @@
+// SPDX-License-Identifier: ISC
+//! Callers of signed tokens and one-time passwords.
+
+ghost use Rattle.std.specs.Prelude.{◌≡◌, ℕ, ◌<◌, List, IfOk, IsTrue};
+ghost use Rattle.ring.specs.Prelude.{KeyStandsFor, key_algorithm};
+ghost use Rattle.ring_tokens.specs.Claims.{IsCurrent};
+ghost use Rattle.ring_tokens.specs.Jws.{IsJws, IsKey, alg_of};
+ghost use Rattle.ring_tokens.specs.Otp.{hotp_text};
+
+use ring::hmac;
+use ring_tokens::claims::is_current;
+use ring_tokens::jws::verify;
+use ring_tokens::otp::{Digits, find_totp};
+use ring_tokens::{Key, TokenError};
+use std::alloc::Allocator;
+use std::num::NonZeroU32;
+
+// For clocks that differ, in seconds.
+const LEEWAY: u64 = 60;
+
+/// The claims of a token that is the key's and current at `now`, in seconds since 1970.
+pub fn claims_of<A: Allocator + Copy>(
+    alloc: A,
+    token: &[u8],
+    key: &Key,
+    now: u64,
+) -> Result<Vec<u8, A>, TokenError>
+    ensures { (k : List ℕ) → IsKey key.now k → IfOk result (λ claims.
+        IsJws (alg_of key.now) k token.now claims.items × IsCurrent claims.items now 60) }
+{
+    let claims = verify(alloc, token, key)?;
+    if !is_current(alloc, &claims, now, LEEWAY)? {
+        return Err(TokenError::Invalid);
+    }
+    Ok(claims)
+}
+
+/// Whether `typed` is a one-time password of six digits of the time's step, or of one beside it,
+/// that was not used before. `last` is the last step whose password was.
+pub fn log_in(key: &hmac::Key, time: u64, step: NonZeroU32, typed: &[u8], last: &mut u64) -> bool
+    ensures accepted { (k : List ℕ) → KeyStandsFor key.now k → IsTrue result
+        → (typed.now ≡ hotp_text (key_algorithm key.now) k last.new Digits.Six)
+        × (last.old < last.new) }
+    ensures unchanged { ¬ (IsTrue result) → last.new ≡ last.old }
+{
+    match find_totp(key, time, step, 1, 1, Digits::Six, typed) {
+        Some(found) if found > *last => {
+            *last = found;
+            true
+        }
+        _ => false,
+    }
+}

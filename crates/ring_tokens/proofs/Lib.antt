@@ -1,0 +1,10 @@
+-- SPDX-License-Identifier: ISC
+pub mod Inputs
+pub mod Symbols
+pub mod Tokens
+pub mod Usual
+pub mod Dates
+pub mod Items
+pub mod Written
+pub mod Puts
+pub mod Rises

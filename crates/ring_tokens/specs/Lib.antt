@@ -1,0 +1,12 @@
+-- SPDX-License-Identifier: ISC
+pub mod Alg
+pub mod Header
+pub mod Jws
+pub mod InPlace
+pub mod Parts
+pub mod Put
+pub mod Cost
+pub mod Error
+pub mod Claims
+pub mod Otp
+pub mod Webhook

@@ -1,0 +1,284 @@
+// SPDX-License-Identifier: ISC
+//! JSON Web Signatures in the compact serialisation, under HMAC (RFC 7515, RFC 7518, section 3.2).
+//!
+//! A service signs the claims of a user, and later takes them back from the token that it is given:
+//!
+//! ```
+//! let key = Key::new(Alg::Hs256, secret)?;
+//! let token = sign(alloc, claims, &key)?;
+//! let claims = verify(alloc, token, &key)?;
+//! ```
+//!
+//! [`sign_in_place`] and [`verify_in_place`] take no memory.
+
+ghost use Rattle.std.specs.Prelude.{◌≡◌, ◌↔◌, ◌⊎◌, ℕ, ◌+◌, ◌^◌, ◌<◌, ◌≤◌, List, ◌++◌, drop, length};
+ghost use Rattle.std.specs.Prelude.{take, IfErr, IfOk, IfSome, IsErrOf, IsNone, OnErr, OnOk};
+ghost use Rattle.ring.specs.Prelude.{raised};
+ghost use Rattle.ring_tokens.specs.Cost.{HasVerified, signed_blocks};
+ghost use Rattle.ring_tokens.specs.Header.{usual_header};
+ghost use Rattle.ring_tokens.specs.InPlace.{IsUnsigned, IsUsual};
+ghost use Rattle.ring_tokens.specs.Jws.{CanSign, IsJws, IsKey, IsTokenUnder, alg_of, signing_input};
+ghost use Rattle.ring_tokens.specs.Jws.{usual_token, usual_token_len};
+
+use crate::alg::Alg;
+use crate::decoded::{decode, decode_into};
+use crate::error::TokenError;
+use crate::header::is_header;
+use crate::header_text::{USUAL_TEXT_LEN, is_usual_text, usual_text};
+use crate::key::Key;
+use crate::put::{put, put_base64url};
+use crate::signature::signed_parts;
+use base64::encoded_len;
+use ring::cost::Meter;
+use ring::hmac;
+use std::alloc::Allocator;
+
+/// Validates a token as [`verify`] does, and counts its blocks and compared pairs of bytes on
+/// `meter`: those of what is signed and of a whole signature, whatever is wrong with the token. A
+/// text of no three parts costs nothing.
+pub fn verify_counted<A: Allocator + Copy>(
+    alloc: A,
+    token: &[u8],
+    key: &Key,
+    meter: &mut Meter,
+) -> Result<Vec<u8, A>, TokenError>
+    ensures ok { (k : List ℕ) → IsKey key.now k
+        → IfOk result (λ payload. IsJws (alg_of key.now) k token.now payload.items) }
+    ensures invalid { (k : List ℕ) → IsKey key.now k → IsErrOf result TokenError.Invalid
+        → (payload : List ℕ) → IsJws (alg_of key.now) k token.now payload → ⊥ }
+    ensures refused { IfErr result (λ e. (e ≡ TokenError.Invalid) ⊎ (e ≡ TokenError.Memory)) }
+    ensures cost { HasVerified (alg_of key.now) token.now meter.old meter.new }
+{
+    let Some(parts) = signed_parts(token, key, meter) else {
+        return Err(TokenError::Invalid);
+    };
+    let header = match decode(alloc, parts.header) {
+        Ok(header) => header,
+        Err(error) => return Err(error),
+    };
+    match is_header(alloc, key.alg, &header) {
+        Ok(true) => decode(alloc, parts.payload),
+        Ok(false) => Err(TokenError::Invalid),
+        Err(_) => Err(TokenError::Memory),
+    }
+}
+
+/// Returns the payload of a token that the key signed (RFC 7515, section 5.2).
+///
+/// Refused as `Invalid` exactly if the text is no token of the key, for any reason, and as `Memory`
+/// if `alloc` has no memory for what is read of it. The header is read only once the signature is
+/// the key's.
+pub fn verify<A: Allocator + Copy>(
+    alloc: A,
+    token: &[u8],
+    key: &Key,
+) -> Result<Vec<u8, A>, TokenError>
+    ensures ok { (k : List ℕ) → IsKey key.now k
+        → IfOk result (λ payload. IsJws (alg_of key.now) k token.now payload.items) }
+    ensures invalid { (k : List ℕ) → IsKey key.now k → IsErrOf result TokenError.Invalid
+        → (payload : List ℕ) → IsJws (alg_of key.now) k token.now payload → ⊥ }
+    ensures refused { IfErr result (λ e. (e ≡ TokenError.Invalid) ⊎ (e ≡ TokenError.Memory)) }
+{
+    verify_counted(alloc, token, key, &mut Meter::new())
+}
+
+/// Validates a token as [`verify_in_place`] does, and counts its blocks and compared pairs of bytes
+/// on `meter`, as [`verify_counted`] does. Where the buffer is too short, `meter` is as it was.
+pub fn verify_in_place_counted(
+    token: &[u8],
+    key: &Key,
+    out: &mut [u8],
+    meter: &mut Meter,
+) -> Result<usize, TokenError>
+    ensures within { IfOk result (λ n. n ≤ length out.old) }
+    ensures ok { (k : List ℕ) → IsKey key.now k
+        → IfOk result (λ n. IsJws (alg_of key.now) k token.now (take n out.new)) }
+    ensures behind { IfOk result (λ n. drop n out.new ≡ drop n out.old) }
+    ensures invalid { (k : List ℕ) → IsKey key.now k → IsErrOf result TokenError.Invalid
+        → (h p : List ℕ) → IsUsual (alg_of key.now) h
+        → IsTokenUnder (alg_of key.now) k h token.now p → ⊥ }
+    ensures no_room { IsErrOf result TokenError.NoRoom ↔ (length out.old < length token.now) }
+    ensures refused { IfErr result (λ e. (e ≡ TokenError.Invalid) ⊎ (e ≡ TokenError.NoRoom)) }
+    ensures unchanged { length out.old < length token.now
+        → (out.new ≡ out.old) × (meter.new ≡ meter.old) }
+    ensures unsigned { (k : List ℕ) → IsKey key.now k
+        → IsUnsigned (alg_of key.now) k token.now → out.new ≡ out.old }
+    ensures cost { length token.now ≤ length out.old
+        → HasVerified (alg_of key.now) token.now meter.old meter.new }
+{
+    if out.len() < token.len() {
+        return Err(TokenError::NoRoom);
+    }
+    let Some(parts) = signed_parts(token, key, meter) else {
+        return Err(TokenError::Invalid);
+    };
+    if !is_usual_text(key.alg, parts.header) {
+        return Err(TokenError::Invalid);
+    }
+    match decode_into(parts.payload, out) {
+        Some(len) => Ok(len),
+        None => Err(TokenError::Invalid),
+    }
+}
+
+/// Writes the payload of a token that the key signed to the start of `out` with no memory but the
+/// call's own, and returns how many bytes it is. The header is `{"alg":..,"typ":"JWT"}`, `{"typ":"JWT","alg":..}`
+/// or `{"alg":..}` letter by letter, as most systems write it.
+///
+/// Refused as `NoRoom` exactly if `out` is shorter than the token; `out` is then as it was. Else
+/// refused as `Invalid` exactly if the text is no token of `key` under one of these headers;
+/// `out` may then have other bytes, but only if the signature is the key's.
+pub fn verify_in_place(token: &[u8], key: &Key, out: &mut [u8]) -> Result<usize, TokenError>
+    ensures within { IfOk result (λ n. n ≤ length out.old) }
+    ensures ok { (k : List ℕ) → IsKey key.now k
+        → IfOk result (λ n. IsJws (alg_of key.now) k token.now (take n out.new)) }
+    ensures behind { IfOk result (λ n. drop n out.new ≡ drop n out.old) }
+    ensures invalid { (k : List ℕ) → IsKey key.now k → IsErrOf result TokenError.Invalid
+        → (h p : List ℕ) → IsUsual (alg_of key.now) h
+        → IsTokenUnder (alg_of key.now) k h token.now p → ⊥ }
+    ensures no_room { IsErrOf result TokenError.NoRoom ↔ (length out.old < length token.now) }
+    ensures refused { IfErr result (λ e. (e ≡ TokenError.Invalid) ⊎ (e ≡ TokenError.NoRoom)) }
+    ensures unchanged { length out.old < length token.now → out.new ≡ out.old }
+    ensures unsigned { (k : List ℕ) → IsKey key.now k
+        → IsUnsigned (alg_of key.now) k token.now → out.new ≡ out.old }
+{
+    verify_in_place_counted(token, key, out, &mut Meter::new())
+}
+
+/// The length in bytes of a token that is signed for `alg` with a payload of `payload_len` bytes.
+/// `None` if it is above `usize::MAX`.
+pub fn token_len(alg: Alg, payload_len: usize) -> Option<usize>
+    ensures ok { IfSome result (λ n. n ≡ usual_token_len alg payload_len) }
+    ensures refused { IsNone result → 2 ^ 64 ≤ usual_token_len alg payload_len }
+{
+    let Some(len) = encoded_len(payload_len, false) else {
+        return None;
+    };
+    len.checked_add(USUAL_TEXT_LEN + 1 + 1 + alg.text_len())
+}
+
+// Writes what is signed: the header, a full stop and the payload. Returns how many bytes it is.
+#[tactic(auto, using(crate::proofs::Puts::length_input, crate::proofs::Puts::length_usual))]
+fn put_input(alg: Alg, payload: &[u8], out: &mut [u8]) -> usize
+    requires { length (signing_input (usual_header alg) payload.now) ≤ length out.old }
+    ensures place { result ≡ length (signing_input (usual_header alg) payload.now) }
+    ensures written { out.new ≡ signing_input (usual_header alg) payload.now ++ drop result out.old }
+{
+    let at = put(out, 0, usual_text(alg));
+    let at = put(out, at, b".");
+    put_base64url(out, at, payload)
+}
+
+/// Signs a payload as [`sign_in_place`] does, and counts the blocks of the signature on `meter`. A
+/// refusal leaves `meter` as it was.
+#[tactic(auto, using(crate::proofs::Puts::length_input))]
+pub fn sign_in_place_counted(
+    payload: &[u8],
+    key: &Key,
+    out: &mut [u8],
+    meter: &mut Meter,
+) -> Result<usize, TokenError>
+    ensures len { IfOk result (λ n. n ≡ usual_token_len (alg_of key.now) (length payload.now)) }
+    ensures ok { (k : List ℕ) → IsKey key.now k → IfOk result (λ n.
+        out.new ≡ usual_token (alg_of key.now) k payload.now ++ drop n out.old) }
+    ensures within { OnOk result
+        (CanSign (alg_of key.now) (usual_header (alg_of key.now)) payload.now) }
+    ensures no_room { IsErrOf result TokenError.NoRoom
+        ↔ (length out.old < usual_token_len (alg_of key.now) (length payload.now)) }
+    ensures too_long { IsErrOf result TokenError.TooLong
+        → ¬ (CanSign (alg_of key.now) (usual_header (alg_of key.now)) payload.now) }
+    ensures refused { IfErr result (λ e. (e ≡ TokenError.NoRoom) ⊎ (e ≡ TokenError.TooLong)) }
+    ensures unchanged { OnErr result ((out.new ≡ out.old) × (meter.new ≡ meter.old)) }
+    ensures cost { OnOk result (meter.new
+        ≡ raised meter.old (signed_blocks (alg_of key.now) (length payload.now)) 0) }
+{
+    let Some(len) = token_len(key.alg, payload.len()) else {
+        return Err(TokenError::NoRoom);
+    };
+    if out.len() < len {
+        return Err(TokenError::NoRoom);
+    }
+    if !key.alg.admits(len - 1 - key.alg.text_len()) {
+        return Err(TokenError::TooLong);
+    }
+    let at = put_input(key.alg, payload, out);
+    let Ok(signature) = hmac::sign_counted(&key.key, &out[..at], meter) else {
+        unreachable!() // HMAC admits as many bytes.
+    };
+    let at = put(out, at, b".");
+    Ok(put_base64url(out, at, signature.as_ref()))
+}
+
+/// Writes the token of a payload to the start of `out` with no memory but the call's own, and
+/// returns how many bytes it is: [`token_len`] of the payload's. It is the token that [`sign`]
+/// returns.
+///
+/// Refused as `NoRoom` exactly if `out` is shorter than the token, and else as `TooLong` exactly if
+/// HMAC does not admit what is signed. `out` is then as it was.
+pub fn sign_in_place(payload: &[u8], key: &Key, out: &mut [u8]) -> Result<usize, TokenError>
+    ensures len { IfOk result (λ n. n ≡ usual_token_len (alg_of key.now) (length payload.now)) }
+    ensures ok { (k : List ℕ) → IsKey key.now k → IfOk result (λ n.
+        out.new ≡ usual_token (alg_of key.now) k payload.now ++ drop n out.old) }
+    ensures within { OnOk result
+        (CanSign (alg_of key.now) (usual_header (alg_of key.now)) payload.now) }
+    ensures no_room { IsErrOf result TokenError.NoRoom
+        ↔ (length out.old < usual_token_len (alg_of key.now) (length payload.now)) }
+    ensures too_long { IsErrOf result TokenError.TooLong
+        → ¬ (CanSign (alg_of key.now) (usual_header (alg_of key.now)) payload.now) }
+    ensures refused { IfErr result (λ e. (e ≡ TokenError.NoRoom) ⊎ (e ≡ TokenError.TooLong)) }
+    ensures unchanged { OnErr result (out.new ≡ out.old) }
+{
+    sign_in_place_counted(payload, key, out, &mut Meter::new())
+}
+
+/// Signs a payload as [`sign`] does, and counts the blocks of the signature on `meter`. A refusal
+/// leaves `meter` as it was.
+#[tactic(auto, using(crate::proofs::Puts::whole_over))]
+pub fn sign_counted<A: Allocator + Copy>(
+    alloc: A,
+    payload: &[u8],
+    key: &Key,
+    meter: &mut Meter,
+) -> Result<Vec<u8, A>, TokenError>
+    ensures ok { (k : List ℕ) → IsKey key.now k → IfOk result (λ token. token.items
+        ≡ usual_token (alg_of key.now) k payload.now) }
+    ensures within { OnOk result
+        (CanSign (alg_of key.now) (usual_header (alg_of key.now)) payload.now) }
+    ensures too_long { IsErrOf result TokenError.TooLong
+        → ¬ (CanSign (alg_of key.now) (usual_header (alg_of key.now)) payload.now) }
+    ensures refused { IfErr result (λ e. (e ≡ TokenError.TooLong) ⊎ (e ≡ TokenError.Memory)) }
+    ensures unchanged { OnErr result (meter.new ≡ meter.old) }
+    ensures cost { OnOk result (meter.new
+        ≡ raised meter.old (signed_blocks (alg_of key.now) (length payload.now)) 0) }
+{
+    let Some(len) = token_len(key.alg, payload.len()) else {
+        return Err(TokenError::Memory);
+    };
+    let mut token = vec![in alloc; 0; len]?;
+    match sign_in_place_counted(payload, key, token.as_mut_slice(), meter) {
+        Ok(_) => Ok(token),
+        Err(_) => Err(TokenError::TooLong),
+    }
+}
+
+/// Returns the token of a payload, under the header `{"alg":"HS256","typ":"JWT"}` or that of the
+/// key's algorithm (RFC 7515, section 5.1). [`verify`] reads the payload back
+/// ([`laws::signed_token_is_valid`](crate::laws::signed_token_is_valid)).
+///
+/// Refused as `TooLong` only if HMAC does not admit what is signed, and as `Memory` if `alloc` has
+/// no memory for the token.
+pub fn sign<A: Allocator + Copy>(
+    alloc: A,
+    payload: &[u8],
+    key: &Key,
+) -> Result<Vec<u8, A>, TokenError>
+    ensures ok { (k : List ℕ) → IsKey key.now k → IfOk result (λ token. token.items
+        ≡ usual_token (alg_of key.now) k payload.now) }
+    ensures within { OnOk result
+        (CanSign (alg_of key.now) (usual_header (alg_of key.now)) payload.now) }
+    ensures too_long { IsErrOf result TokenError.TooLong
+        → ¬ (CanSign (alg_of key.now) (usual_header (alg_of key.now)) payload.now) }
+    ensures refused { IfErr result (λ e. (e ≡ TokenError.TooLong) ⊎ (e ≡ TokenError.Memory)) }
+{
+    sign_counted(alloc, payload, key, &mut Meter::new())
+}

@@ -1,0 +1,265 @@
+// SPDX-License-Identifier: ISC
+//! One-time passwords: HOTP (RFC 4226) and TOTP (RFC 6238).
+//!
+//! A server that shares a key with a user's device looks for the password that the user typed among
+//! those of the time, of the step before it and of the step after it:
+//!
+//! ```
+//! find_totp(&key, time, step, 1, 1, Digits::Six, typed)
+//! ```
+//!
+//! A password is for one use: refuse a counter or a step that is not above the last accepted one.
+
+ghost use Rattle.std.specs.Prelude.{◌≡◌, ◌↔◌, ℕ, ◌+◌, ◌-◌, ◌/◌, ◌%◌, ◌^◌, ◌<◌, ◌≤◌, List, length, min};
+ghost use Rattle.std.specs.Prelude.{IfSome, IsNone, IsTrue};
+ghost use Rattle.std.specs.Int.NonZero.{non_zero_u32_get};
+ghost use Rattle.ring.specs.Prelude.{KeyStandsFor, compared_pairs, key_algorithm, raised};
+ghost use Rattle.ring_tokens.specs.Cost.{otp_blocks, raised_by_tests};
+ghost use Rattle.ring_tokens.specs.Otp.{IsFound, IsNotFound, digits_of, dynamic_truncation};
+ghost use Rattle.ring_tokens.specs.Otp.{eight_digits, first_step, hotp_of, hotp_text, past_step};
+ghost use Rattle.ring_tokens.specs.Otp.{step_of};
+
+use ring::bb::verify_slices_are_equal_counted;
+use ring::cost::Meter;
+use ring::hmac::{self, Key};
+use std::num::NonZeroU32;
+
+/// How many digits a one-time password has.
+#[derive(Clone, Copy, Debug, PartialEq, Eq)]
+pub enum Digits {
+    /// Six, as in most systems.
+    Six,
+    /// Seven.
+    Seven,
+    /// Eight.
+    Eight,
+}
+
+impl Digits {
+    // Their number.
+    fn count(self) -> usize
+        ensures { result ≡ digits_of self }
+    {
+        match self {
+            Digits::Six => 6,
+            Digits::Seven => 7,
+            Digits::Eight => 8,
+        }
+    }
+
+    // One more than the greatest number that they write.
+    fn bound(self) -> u32
+        ensures { result ≡ 10 ^ digits_of self }
+    {
+        match self {
+            Digits::Six => 1_000_000,
+            Digits::Seven => 10_000_000,
+            Digits::Eight => 100_000_000,
+        }
+    }
+}
+
+// The 31 bits to which a tag is truncated (RFC 4226, section 5.3).
+fn truncate(tag: &[u8]) -> u32
+    requires { 20 ≤ length tag.now }
+    ensures { result ≡ dynamic_truncation tag.now }
+{
+    let offset = (tag[tag.len() - 1] & 0x0f) as usize;
+    let mut word = [0; 4];
+    word.copy_from_slice(&tag[offset..offset + 4]);
+    u32::from_be_bytes(word) & 0x7fff_ffff
+}
+
+/// Computes the one-time password of a counter, of as many `digits`, as [`hotp`] does, and counts
+/// its two blocks on `meter`.
+pub fn hotp_counted(key: &Key, counter: u64, digits: Digits, meter: &mut Meter) -> u32
+    ensures ok { (k : List ℕ) → KeyStandsFor key.now k
+        → result ≡ hotp_of (key_algorithm key.now) k counter (digits_of digits) }
+    ensures cost { meter.new ≡ raised meter.old (otp_blocks (key_algorithm key.now)) 0 }
+{
+    let Ok(tag) = hmac::sign_counted(key, &counter.to_be_bytes(), meter) else {
+        unreachable!() // Eight bytes are within each limit.
+    };
+    truncate(tag.as_ref()) % digits.bound()
+}
+
+/// The one-time password of a counter under `key`, as a number below 10 to the power of `digits`
+/// (RFC 4226, section 5.3). The key may be of any of the algorithms (RFC 6238, section 1.2).
+pub fn hotp(key: &Key, counter: u64, digits: Digits) -> u32
+    ensures ok { (k : List ℕ) → KeyStandsFor key.now k
+        → result ≡ hotp_of (key_algorithm key.now) k counter (digits_of digits) }
+{
+    hotp_counted(key, counter, digits, &mut Meter::new())
+}
+
+// The digit at a place.
+fn digit(number: u32, place: u32) -> u8
+    requires { 0 < place }
+    ensures { result ≡ 48 + number / place % 10 }
+{
+    b'0' + (number / place % 10) as u8
+}
+
+// A number as eight digits.
+fn eight_digits(number: u32) -> [u8; 8]
+    ensures { result ≡ eight_digits number }
+{
+    [
+        digit(number, 10_000_000),
+        digit(number, 1_000_000),
+        digit(number, 100_000),
+        digit(number, 10_000),
+        digit(number, 1_000),
+        digit(number, 100),
+        digit(number, 10),
+        digit(number, 1),
+    ]
+}
+
+// Whether the text is the one-time password of a counter, with each of its digits.
+fn is_password(key: &Key, counter: u64, digits: Digits, text: &[u8], meter: &mut Meter) -> bool
+    ensures ok { (k : List ℕ) → KeyStandsFor key.now k → IsTrue result
+        ↔ (text.now ≡ hotp_text (key_algorithm key.now) k counter digits) }
+    ensures cost { meter.new ≡ raised meter.old (otp_blocks (key_algorithm key.now))
+        (compared_pairs (digits_of digits) (length text.now)) }
+{
+    let written = eight_digits(hotp_counted(key, counter, digits, meter));
+    verify_slices_are_equal_counted(&written[8 - digits.count()..], text, meter).is_ok()
+}
+
+/// Looks for a one-time password under `key` as [`find_hotp`] does, and counts on `meter` two
+/// blocks and the compared pairs of bytes for each counter that was tried.
+pub fn find_hotp_counted(
+    key: &Key,
+    first: u64,
+    count: u64,
+    digits: Digits,
+    text: &[u8],
+    meter: &mut Meter,
+) -> Option<u64>
+    ensures ok { (k : List ℕ) → KeyStandsFor key.now k → IfSome result (λ found.
+        IsFound (key_algorithm key.now) k first (first + count) digits text.now found) }
+    ensures refused { (k : List ℕ) → KeyStandsFor key.now k → IsNone result
+        → IsNotFound (key_algorithm key.now) k first (first + count) digits text.now }
+    ensures cost { IfSome result (λ found. meter.new ≡ raised_by_tests meter.old
+        (key_algorithm key.now) digits (length text.now) (found - first + 1)) }
+    ensures cost_refused { IsNone result → meter.new ≡ raised_by_tests meter.old
+        (key_algorithm key.now) digits (length text.now) (min count (2 ^ 64 - first)) }
+{
+    'counters: for i in 0..count {
+        let Some(counter) = first.checked_add(i) else {
+            return None;
+        };
+        if is_password(key, counter, digits, text, meter) {
+            return Some(counter);
+        }
+    }
+    None
+}
+
+/// The first of `count` counters from `first` on whose one-time password under `key` the text is
+/// (RFC 4226, section 7.4), with all of its `digits`, leading zeros among them. The next counter to
+/// expect is one above it.
+///
+/// `None` exactly if the text is the password of no such counter. A counter has 64 bits: none is
+/// tried above the greatest.
+pub fn find_hotp(key: &Key, first: u64, count: u64, digits: Digits, text: &[u8]) -> Option<u64>
+    ensures ok { (k : List ℕ) → KeyStandsFor key.now k → IfSome result (λ found.
+        IsFound (key_algorithm key.now) k first (first + count) digits text.now found) }
+    ensures refused { (k : List ℕ) → KeyStandsFor key.now k → IsNone result
+        → IsNotFound (key_algorithm key.now) k first (first + count) digits text.now }
+{
+    find_hotp_counted(key, first, count, digits, text, &mut Meter::new())
+}
+
+/// Computes the one-time password of a time under `key`, of as many `digits`, as [`totp`] does, and
+/// counts its two blocks on `meter`.
+pub fn totp_counted(
+    key: &Key,
+    time: u64,
+    step: NonZeroU32,
+    digits: Digits,
+    meter: &mut Meter,
+) -> u32
+    ensures ok { (k : List ℕ) → KeyStandsFor key.now k → result
+        ≡ hotp_of (key_algorithm key.now) k (step_of time (non_zero_u32_get step))
+        (digits_of digits) }
+    ensures cost { meter.new ≡ raised meter.old (otp_blocks (key_algorithm key.now)) 0 }
+{
+    hotp_counted(key, time / step.get() as u64, digits, meter)
+}
+
+/// The one-time password of a time, in seconds since 1970, under `key`: a number below 10 to the
+/// power of `digits` (RFC 6238, section 4.2). The usual `step` is 30 seconds.
+pub fn totp(key: &Key, time: u64, step: NonZeroU32, digits: Digits) -> u32
+    ensures ok { (k : List ℕ) → KeyStandsFor key.now k → result
+        ≡ hotp_of (key_algorithm key.now) k (step_of time (non_zero_u32_get step))
+        (digits_of digits) }
+{
+    totp_counted(key, time, step, digits, &mut Meter::new())
+}
+
+/// Looks for a one-time password under `key`, of as many `digits`, as [`find_totp`] does, and counts
+/// on `meter` two blocks and the compared pairs of bytes for each step that was tried.
+pub fn find_totp_counted(
+    key: &Key,
+    time: u64,
+    step: NonZeroU32,
+    back: u32,
+    ahead: u32,
+    digits: Digits,
+    text: &[u8],
+    meter: &mut Meter,
+) -> Option<u64>
+    ensures ok { (k : List ℕ) → KeyStandsFor key.now k → IfSome result (λ found.
+        IsFound (key_algorithm key.now) k (first_step time (non_zero_u32_get step) back)
+        (past_step time (non_zero_u32_get step) ahead) digits text.now found) }
+    ensures refused { (k : List ℕ) → KeyStandsFor key.now k → IsNone result
+        → IsNotFound (key_algorithm key.now) k (first_step time (non_zero_u32_get step) back)
+        (past_step time (non_zero_u32_get step) ahead) digits text.now }
+    ensures cost { IfSome result (λ found. meter.new ≡ raised_by_tests meter.old
+        (key_algorithm key.now) digits (length text.now)
+        (found - first_step time (non_zero_u32_get step) back + 1)) }
+    ensures cost_refused { IsNone result → meter.new ≡ raised_by_tests meter.old
+        (key_algorithm key.now) digits (length text.now)
+        (min (past_step time (non_zero_u32_get step) ahead) (2 ^ 64)
+        - first_step time (non_zero_u32_get step) back) }
+{
+    let now = time / step.get() as u64;
+    let first = now.saturating_sub(back as u64);
+    let count = now - first + ahead as u64 + 1;
+    find_hotp_counted(key, first, count, digits, text, meter)
+}
+
+/// The first step whose one-time password under `key` the text is, with all of its `digits`, among
+/// a time's step, `back` steps before it and `ahead` after it (RFC 6238, section 5.2). The time is
+/// in seconds since 1970.
+///
+/// `None` exactly if the text is the password of no such step.
+pub fn find_totp(
+    key: &Key,
+    time: u64,
+    step: NonZeroU32,
+    back: u32,
+    ahead: u32,
+    digits: Digits,
+    text: &[u8],
+) -> Option<u64>
+    ensures ok { (k : List ℕ) → KeyStandsFor key.now k → IfSome result (λ found.
+        IsFound (key_algorithm key.now) k (first_step time (non_zero_u32_get step) back)
+        (past_step time (non_zero_u32_get step) ahead) digits text.now found) }
+    ensures refused { (k : List ℕ) → KeyStandsFor key.now k → IsNone result
+        → IsNotFound (key_algorithm key.now) k (first_step time (non_zero_u32_get step) back)
+        (past_step time (non_zero_u32_get step) ahead) digits text.now }
+{
+    find_totp_counted(
+        key,
+        time,
+        step,
+        back,
+        ahead,
+        digits,
+        text,
+        &mut Meter::new(),
+    )
+}

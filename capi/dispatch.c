@@ -7,9 +7,9 @@
  * hashes, whose text alone says by which algorithm. Contexts and keys have
  * the same bytes in both, so that one build goes on where the other stopped.
  *
- * The build for x86-64-v2 takes the SHA instructions where features.c finds them. They have SSE's
+ * The build for x86-64-v2 takes the SHA instructions where processor.c finds them. They have SSE's
  * encodings alone, beside which code with AVX is slow on some processors. */
-#include "features.h"
+#include "processor.h"
 
 /* What calls do. The tables have a row for each. */
 enum work {

@@ -44,20 +44,20 @@ $(WINDOWS)/probe.o: probe.S
 
 # Windows' rules for unwinding don't have a function that ends by a jump to another one.
 WINDOWS_COMPILED = $(MINGW)gcc -O2 -fno-optimize-sibling-calls $(WINDOWS_STRICT)
-$(WINDOWS)/%.o: %.c features.h $(HEADER)
+$(WINDOWS)/%.o: %.c processor.h $(HEADER)
 	mkdir -p $(@D)
 	$(WINDOWS_COMPILED) -c $< -o $@
-$(WINDOWS)/v2/%.o: %.c features.h $(HEADER)
+$(WINDOWS)/v2/%.o: %.c processor.h $(HEADER)
 	mkdir -p $(@D)
 	$(WINDOWS_COMPILED) -DFORCED=2 -c $< -o $@
-$(WINDOWS)/v3/%.o: %.c features.h $(HEADER)
+$(WINDOWS)/v3/%.o: %.c processor.h $(HEADER)
 	mkdir -p $(@D)
 	$(WINDOWS_COMPILED) -DFORCED=3 -c $< -o $@
 
 # GNU ld's `-r` spoils the tables for unwinding, so each archive has several objects, and shows the
 # names of the builds.
 WINDOWS_ARCHIVES = $(WINDOWS)/libyezdopin.a $(WINDOWS)/v2/libyezdopin.a $(WINDOWS)/v3/libyezdopin.a
-$(WINDOWS_ARCHIVES): %/libyezdopin.a: %/dispatch.o %/features.o $(WINDOWS)/status.o \
+$(WINDOWS_ARCHIVES): %/libyezdopin.a: %/dispatch.o %/processor.o $(WINDOWS)/status.o \
     $(WINDOWS_OBJECTS)
 	rm -f $@
 	$(MINGW)ar rcsD $@ $^
@@ -137,7 +137,7 @@ windows-linked: $(WINDOWS_FILES) $(WINDOWS)/yezdopin.lib $(OUT)/wine/system.reg
 
 # The same code on Linux, with the processor's SHA instructions too.
 $(OUT)/windows_on_linux.a: test/on_linux $(WINDOWS_TEXTS) probe.S $(OUT)/dispatch.o \
-    $(OUT)/features.o $(OUT)/status.o
+    $(OUT)/processor.o $(OUT)/status.o
 	CC='$(CC)' test/on_linux $@ $(filter %.S,$^) -- $(filter %.o,$^)
 windows-code: $(OUT)/windows_on_linux.a
 	CC='$(CC) $(CFLAGS) $(STRICT)' test/instructions/check $< '' $(VECTORS)
@@ -192,15 +192,15 @@ $(MACOS)/x86_64/%.o: generated/%.S
 	$(apple_compiled)
 $(MACOS)/aarch64/%.o: generated/%.S
 	$(apple_compiled)
-$(MACOS)/x86_64/%.o: %.c features.h $(HEADER)
+$(MACOS)/x86_64/%.o: %.c processor.h $(HEADER)
 	$(apple_compiled)
-$(MACOS)/aarch64/%.o: %.c features.h $(HEADER)
+$(MACOS)/aarch64/%.o: %.c processor.h $(HEADER)
 	$(apple_compiled)
 
 $(MACOS)/x86_64/libyezdopin.a: $(addprefix $(MACOS)/x86_64/, \
-    dispatch.o features.o status.o yezdopin_x86_64_v2.o yezdopin_x86_64_v3.o)
+    dispatch.o processor.o status.o yezdopin_x86_64_v2.o yezdopin_x86_64_v3.o)
 $(MACOS)/aarch64/libyezdopin.a: $(addprefix $(MACOS)/aarch64/, \
-    features.o status.o yezdopin_aarch64.o)
+    processor.o status.o yezdopin_aarch64.o)
 $(MACOS)/x86_64/libyezdopin.a $(MACOS)/aarch64/libyezdopin.a:
 	rm -f $@
 	$(APPLE_AR) $@ $^

@@ -105,8 +105,8 @@ $(WINDOWS_MADE): $(KIT_OUT)/yezdopin_windows_x86_64_%.S: $(KIT_OUT)/libring_c.%/
 	    $(if $(filter v2,$*),"$(EXCHANGED) $$(git hash-object generated/instructions.py | cut -c-12)")
 endif
 
-# The crate's calls: those of the header without what features.c and status.c have.
-$(KIT_OUT)/names: $(OUT)/features.o $(OUT)/status.o $(OUT)/names
+# The crate's calls: those of the header without what processor.c and status.c have.
+$(KIT_OUT)/names: $(OUT)/processor.o $(OUT)/status.o $(OUT)/names
 	mkdir -p $(@D)
 	$(NM) -g --defined-only $(filter %.o,$^) | awk 'NF == 3 { print $$3 }' \
 	    | grep -vxFf - $(OUT)/names >$@
@@ -117,7 +117,7 @@ define take_calls
 endef
 
 # The library as the kit's own builds make it.
-$(KIT_ARCHIVE): $(if $(BUILT_V3),$(OUT)/dispatch.o) $(OUT)/features.o $(OUT)/status.o $(KIT_PARTS) \
+$(KIT_ARCHIVE): $(if $(BUILT_V3),$(OUT)/dispatch.o) $(OUT)/processor.o $(OUT)/status.o $(KIT_PARTS) \
     $(KIT_OUT)/names $(OUT)/names
 	mkdir -p $(@D)
 	$(NM) -g --defined-only $(BUILT) | awk '$$2 == "T" && $$3 !~ /_wide$$/ { print $$3 }' | sort \
@@ -127,7 +127,7 @@ $(KIT_ARCHIVE): $(if $(BUILT_V3),$(OUT)/dispatch.o) $(OUT)/features.o $(OUT)/sta
 ifeq ($(ARCH),x86_64)
 # The same with one build for all processors, and what speed/run times of these.
 $(KIT_OUT)/v2/libyezdopin.a $(KIT_OUT)/v3/libyezdopin.a: $(KIT_OUT)/%/libyezdopin.a: \
-    $(OUT)/%/dispatch.o $(OUT)/%/features.o $(OUT)/status.o $(KIT_PARTS) $(OUT)/names
+    $(OUT)/%/dispatch.o $(OUT)/%/processor.o $(OUT)/status.o $(KIT_PARTS) $(OUT)/names
 	mkdir -p $(@D)
 	$(call archive,$(filter %.o,$^) --whole-archive $(filter %.a,$^))
 KIT_TIMED = $(KIT_ARCHIVE:.a=.so) $(KIT_OUT)/v2/libyezdopin.so $(KIT_OUT)/v3/libyezdopin.so
@@ -224,10 +224,10 @@ $(KIT_OUT)/defined.o: $(BUILT) $(MODULE) generated/instructions.py $(KIT_OUT)/v2
 	sed 's|^module\.bc$$|$(@:.o=.ll)|; s|^module\.o$$|$@|' '$(call links_of,$(BUILT))/flags' \
 	    | tr '\n' '\0' | xargs -0 '$(call links_of,$(BUILT_V3))/toolchain/bin/clang'
 	$(OBJCOPY) --redefine-syms=$(KIT_OUT)/v2.renamed $@
-$(OUT)/defined/%.o: %.c features.h $(HEADER)
+$(OUT)/defined/%.o: %.c processor.h $(HEADER)
 	mkdir -p $(@D)
 	$(COMPILED) -DFORCED=2 -DINSTRUCTIONS=1 -c $< -o $@
-$(DEFINED): $(OUT)/defined/dispatch.o $(OUT)/defined/features.o $(OUT)/status.o \
+$(DEFINED): $(OUT)/defined/dispatch.o $(OUT)/defined/processor.o $(OUT)/status.o \
     $(KIT_OUT)/defined.o $(OUT)/names
 	$(call archive,$(filter %.o,$^))
 endif

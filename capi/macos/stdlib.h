@@ -1,3 +1,3 @@
 /* SPDX-License-Identifier: ISC */
-/* What features.c takes of this header, where the library is built for macOS without Apple's. */
+/* What processor.c takes of this header, where the library is built for macOS without Apple's. */
 char *getenv(const char *name);

@@ -56,8 +56,8 @@ fn made(capi: &Path, system: &str, processor: &str) -> PathBuf {
     let sources = [
         "generated",
         "dispatch.c",
-        "features.c",
-        "features.h",
+        "processor.c",
+        "processor.h",
         "status.c",
         "probe.S",
         "include/yezdopin.h",

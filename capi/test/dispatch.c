@@ -20,7 +20,7 @@ static void is(const char *what, long got, long want) {
 
 #ifdef FORCED
 #include "../dispatch.c"
-#include "../features.c"
+#include "../processor.c"
 #else
 
 /* Bits of a leaf that the processor is told to lack, whether it is told to have the SHA
@@ -49,7 +49,7 @@ static int get_count(unsigned leaf, unsigned part, unsigned *a, unsigned *b, uns
 #define __get_cpuid get
 #define __get_cpuid_count get_count
 #include "../dispatch.c"
-#include "../features.c"
+#include "../processor.c"
 #endif
 
 size_t yz_output_len(uint32_t algorithm) {

@@ -3,7 +3,7 @@
  *
  * What the library runs on this processor. It is C beside the proved crate, and no proof covers it:
  * a wrong answer can end the program by SIGILL, and no call gives other bytes by it. */
-#include "features.h"
+#include "processor.h"
 #if defined(__x86_64__)
 #ifndef bit_AVX2 /* test/dispatch.c has included it, which gcc before 11 can't do twice */
 #include <cpuid.h>

@@ -1,9 +1,9 @@
 /* SPDX-License-Identifier: ISC
  * Copyright 2026 the Yezdopin authors.
  *
- * What features.c and dispatch.c share. */
-#ifndef YEZDOPIN_FEATURES_H
-#define YEZDOPIN_FEATURES_H
+ * What processor.c and dispatch.c share. */
+#ifndef YEZDOPIN_PROCESSOR_H
+#define YEZDOPIN_PROCESSOR_H
 
 #include "yezdopin.h"
 #include <stdatomic.h>

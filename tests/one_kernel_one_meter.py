@@ -45,7 +45,7 @@ METERS = {
     "ring_bench": 6,
     "ring_store": 7,
     "ring_password_hash": 3,
-    "ring_merkle": 9,
+    "ring_merkle": 10,
     "ring_passwords": 3,
     "ring_schedules": 2,
     "ring_tokens": 11,

@@ -47,6 +47,8 @@ STANDARDS = {
     "ring_merkle::inclusion": "RFC 9162",
     "ring_merkle::consistency": "RFC 9162",
     "ring_merkle::paths": "RFC 9162",
+    "ring_tokens::jws": "RFC 7515",
+    "ring_tokens::claims": "RFC 7519",
     "ring_schedules::extract": "RFC 5869",
     "ring_schedules::label": "RFC 8446",
     "ring_schedules::tls13": "RFC 8446",

@@ -259,8 +259,8 @@ class Texts(Launchers):
                 self.edit(folder, "two")
                 status, output, error = self.run_of(launcher, folder, path=self.NO_KIT)
                 self.assertEqual((status, output), (3, ""))
-                self.assertRegex(error, r"\Aring_\w+: a source differs from programs/SOURCES, so the"
-                                 r" program must .* whose rt is not on PATH\n\Z")
+                self.assertRegex(error, r"\Aring_\w+: a source differs from programs/SOURCES, so"
+                                 r" the program must .* whose rt is not on PATH\n\Z")
                 self.assertEqual(self.run_of(launcher, folder)[:2], (0, "two\n"))
                 self.assertEqual(self.run_of(launcher, folder), (0, "two\n", ""))
                 self.edit(folder, "one")

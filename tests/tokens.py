@@ -22,7 +22,7 @@ import sys
 
 sys.dont_write_bytecode = True
 import counted
-from run import COMPILER, ROOT, Preload, answers, differing, file_case, over_lines
+from run import ROOT, answers, differing, file_case
 
 VECTORS = ROOT / "vectors/tokens"
 HASHES = {"HS256": "sha256", "HS384": "sha384", "HS512": "sha512"}

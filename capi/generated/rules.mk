@@ -117,8 +117,8 @@ define take_calls
 endef
 
 # The library as the kit's own builds make it.
-$(KIT_ARCHIVE): $(if $(BUILT_V3),$(OUT)/dispatch.o) $(OUT)/processor.o $(OUT)/status.o $(KIT_PARTS) \
-    $(KIT_OUT)/names $(OUT)/names
+$(KIT_ARCHIVE): $(if $(BUILT_V3),$(OUT)/dispatch.o) $(OUT)/processor.o $(OUT)/status.o \
+    $(KIT_PARTS) $(KIT_OUT)/names $(OUT)/names
 	mkdir -p $(@D)
 	$(NM) -g --defined-only $(BUILT) | awk '$$2 == "T" && $$3 !~ /_wide$$/ { print $$3 }' | sort \
 	    | diff $(KIT_OUT)/names -

@@ -49,9 +49,9 @@ fn clone_above(package: &Path) -> Option<PathBuf> {
     is_clone.then_some(capi)
 }
 
-// The folder in which `make` builds the library for a target, in a clone of the repository, from the
-// assembly text there; where the clone can't be written, cargo's own. Where `make` fails, an older
-// or an installed library may serve.
+// The folder in which `make` builds the library for a target, in a clone of the repository, from
+// the assembly text there; where the clone can't be written, cargo's own. Where `make` fails, an
+// older or an installed library may serve.
 fn made(capi: &Path, system: &str, processor: &str) -> PathBuf {
     let sources = [
         "generated",

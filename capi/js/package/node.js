@@ -15,8 +15,8 @@ import { Running } from "./running.js";
 const file = (name) => new URL(name, import.meta.url);
 start(new WebAssembly.Module(readFileSync(file("./yezdopin.wasm"))));
 
-// The class of Buffers. Its constructor copies in two thirds of the time of `Buffer.alloc` and `set`,
-// and not to the pool that Buffers share.
+// The class of Buffers. Its constructor copies in two thirds of the time of `Buffer.alloc` and
+// `set`, and not to the pool that Buffers share.
 const FastBuffer = Buffer[Symbol.species];
 
 Object.assign(host, {

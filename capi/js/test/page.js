@@ -1,6 +1,6 @@
 // SPDX-License-Identifier: ISC
-// Runs the vectors in a browser, in the page and in a worker, and reports to the server. Then it goes
-// on below /alone/, where the policy forbids workers, with the calls that are done in workers.
+// Runs the vectors in a browser, in the page and in a worker, and reports to the server. Then it
+// goes on below /alone/, where the policy forbids workers, with the calls that are done in workers.
 
 import { FILES, run } from "./vectors.mjs";
 

@@ -1,6 +1,6 @@
 // SPDX-License-Identifier: ISC
-//! Merkle trees: the roots and paths of Certificate Transparency's merkle_verifier_test.go, and what
-//! is refused.
+//! Merkle trees: the roots and paths of Certificate Transparency's merkle_verifier_test.go, and
+//! what is refused.
 
 use yezdopin::error::Unspecified;
 use yezdopin::merkle::{self, Hash};

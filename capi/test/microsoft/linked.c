@@ -1,7 +1,7 @@
 /* SPDX-License-Identifier: ISC */
 /* A program that needs no start of a C library: `make windows-check` compiles and links it as
- * Microsoft's compiler and linker are called, by clang and lld. It ends with 0 where the tag is that
- * of RFC 4231, test case 2. */
+ * Microsoft's compiler and linker are called, by clang and lld. It ends with 0 where the tag is
+ * that of RFC 4231, test case 2. */
 #include "yezdopin.h"
 
 __declspec(dllimport) void ExitProcess(unsigned status);

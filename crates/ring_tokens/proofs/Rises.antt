@@ -1,7 +1,7 @@
 -- SPDX-License-Identifier: ISC
 -- Rises of a meter.
-use Rattle.std.proofs.Common.{◌≡◌, ◌≤◌, ◌∙◌, ℕ, ◌+◌, ◌*◌, List, [], ◌∷◌, ◌++◌, ap, arith, length, refl}
-use Rattle.std.proofs.Common.{subst, sym}
+use Rattle.std.proofs.Common.{◌≡◌, ◌≤◌, ◌∙◌, ℕ, ◌+◌, ◌*◌, List, [], ◌∷◌, ◌++◌, ap, arith, length}
+use Rattle.std.proofs.Common.{refl, subst, sym}
 use Rattle.std.proofs.lemmas.List.{length-append}
 use Rattle.ring.proofs.Costs.{raised-none, raised-raised}
 use Rattle.ring.specs.Prelude.{Counts, IsTagWithin, compared_pairs, raised}

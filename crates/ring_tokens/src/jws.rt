@@ -121,9 +121,10 @@ pub fn verify_in_place_counted(
     }
 }
 
-/// Writes the payload of a token that the key signed to the start of `out` with no memory but the
-/// call's own, and returns how many bytes it is. The header is `{"alg":..,"typ":"JWT"}`, `{"typ":"JWT","alg":..}`
-/// or `{"alg":..}` letter by letter, as most systems write it.
+/// Writes the payload of a token that the key signed (RFC 7515, section 5.2) to the start of `out`
+/// with no memory but the call's own, and returns how many bytes it is. The header is
+/// `{"alg":..,"typ":"JWT"}`, `{"typ":"JWT","alg":..}` or `{"alg":..}` letter by letter, as most
+/// systems write it.
 ///
 /// Refused as `NoRoom` exactly if `out` is shorter than the token; `out` is then as it was. Else
 /// refused as `Invalid` exactly if the text is no token of `key` under one of these headers;
@@ -145,7 +146,8 @@ pub fn verify_in_place(token: &[u8], key: &Key, out: &mut [u8]) -> Result<usize,
     verify_in_place_counted(token, key, out, &mut Meter::new())
 }
 
-/// The length in bytes of a token that is signed for `alg` with a payload of `payload_len` bytes.
+/// The length in bytes of a token that is signed for `alg` with a payload of `payload_len` bytes
+/// (RFC 7515, section 7.1).
 /// `None` if it is above `usize::MAX`.
 pub fn token_len(alg: Alg, payload_len: usize) -> Option<usize>
     ensures ok { IfSome result (λ n. n ≡ usual_token_len alg payload_len) }
@@ -162,7 +164,8 @@ pub fn token_len(alg: Alg, payload_len: usize) -> Option<usize>
 fn put_input(alg: Alg, payload: &[u8], out: &mut [u8]) -> usize
     requires { length (signing_input (usual_header alg) payload.now) ≤ length out.old }
     ensures place { result ≡ length (signing_input (usual_header alg) payload.now) }
-    ensures written { out.new ≡ signing_input (usual_header alg) payload.now ++ drop result out.old }
+    ensures written { out.new
+        ≡ signing_input (usual_header alg) payload.now ++ drop result out.old }
 {
     let at = put(out, 0, usual_text(alg));
     let at = put(out, at, b".");

@@ -10,8 +10,8 @@
 //!
 //! A password is for one use: refuse a counter or a step that is not above the last accepted one.
 
-ghost use Rattle.std.specs.Prelude.{◌≡◌, ◌↔◌, ℕ, ◌+◌, ◌-◌, ◌/◌, ◌%◌, ◌^◌, ◌<◌, ◌≤◌, List, length, min};
-ghost use Rattle.std.specs.Prelude.{IfSome, IsNone, IsTrue};
+ghost use Rattle.std.specs.Prelude.{◌≡◌, ◌↔◌, ℕ, ◌+◌, ◌-◌, ◌/◌, ◌%◌, ◌^◌, ◌<◌, ◌≤◌, List, length};
+ghost use Rattle.std.specs.Prelude.{IfSome, IsNone, IsTrue, min};
 ghost use Rattle.std.specs.Int.NonZero.{non_zero_u32_get};
 ghost use Rattle.ring.specs.Prelude.{KeyStandsFor, compared_pairs, key_algorithm, raised};
 ghost use Rattle.ring_tokens.specs.Cost.{otp_blocks, raised_by_tests};
@@ -199,8 +199,8 @@ pub fn totp(key: &Key, time: u64, step: NonZeroU32, digits: Digits) -> u32
     totp_counted(key, time, step, digits, &mut Meter::new())
 }
 
-/// Looks for a one-time password under `key`, of as many `digits`, as [`find_totp`] does, and counts
-/// on `meter` two blocks and the compared pairs of bytes for each step that was tried.
+/// Looks for a one-time password under `key`, of as many `digits`, as [`find_totp`] does, and
+/// counts on `meter` two blocks and the compared pairs of bytes for each step that was tried.
 pub fn find_totp_counted(
     key: &Key,
     time: u64,

@@ -163,6 +163,8 @@ pub fn verify_stripe_counted(
         → IsTagWithin SHA256 (length (stripe_message n body.now)) → meter.new
         ≡ raised meter.old (tag_blocks SHA256 (length (stripe_message n body.now)))
         (items_pairs 67 (items_of items)) }
+    ensures unchanged { ((n : ℕ) (items : List ℕ) → n < 2 ^ 64 → header.now ≡ timestamp_then n items
+        → now ≤ n + tolerance → ⊥) → meter.new ≡ meter.old }
 {
     if key.algorithm().digest_algorithm() != SHA256 {
         return Err(Unspecified);

@@ -19,5 +19,5 @@ returns-clause-ok c =
 
 pub returns-clause-cost : goal.returns-clause-cost
 returns-clause-cost c =
-    pairs_last (length c.args.wanted.now) _ _ (c.in_default.ensures.refused refl) c.items.invariant.1
-    c.is_same.ensures.cost
+    pairs_last (length c.args.wanted.now) _ _ (c.in_default.ensures.refused refl)
+    c.items.invariant.1 c.is_same.ensures.cost

@@ -97,7 +97,7 @@ js-lowered: $(WASM) $(WASM64)
 
 js-test: $(JS)/package/package.json
 	PACKAGE="$(WHOLE_OUT)/js/package" VECTORS=../vectors VERSION=$(VERSION) \
-	    $(NODE) --test js/test/package.test.mjs
+	    $(NODE) --test js/test/package.test.mjs js/test/memory.test.mjs
 
 # What the module tells of its addresses and conditions on other secrets.
 js-traces: $(WASM)

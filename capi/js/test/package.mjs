@@ -1,0 +1,33 @@
+// SPDX-License-Identifier: ISC
+// What the tests of the package in the folder PACKAGE share: the package, the memory of its module,
+// and node:crypto's answers.
+
+import crypto from "node:crypto";
+import { pathToFileURL } from "node:url";
+
+const { PACKAGE } = process.env;
+// The instances of the module, which the package keeps to itself.
+export const instances = [];
+export const { Instance } = WebAssembly;
+WebAssembly.Instance = class extends Instance {
+  constructor(...words) {
+    super(...words);
+    instances.push(this.exports);
+  }
+};
+export const main = pathToFileURL(`${PACKAGE}/node.js`).href;
+export const yz = await import(main);
+export const NAMES = ["sha1", "sha256", "sha384", "sha512", "sha512-256"];
+export const TAGS = NAMES.slice(0, 4);
+export const SHA256_OF_ABC = "ba7816bf8f01cfea414140de5dae2223b00361a396177a9cb410ff61f20015ad";
+export const memoryNow = () => new Uint8Array(instances.at(-1).memory.buffer);
+export const AS_NEW = memoryNow().slice();
+
+// Whether the module's memory is as a new one's.
+export function isWiped() {
+  const wanted = Buffer.alloc(memoryNow().length);
+  wanted.set(AS_NEW);
+  return wanted.equals(memoryNow());
+}
+
+export const theirs = (name, message) => crypto.createHash(name).update(message).digest("hex");

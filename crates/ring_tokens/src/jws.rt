@@ -147,8 +147,7 @@ pub fn verify_in_place(token: &[u8], key: &Key, out: &mut [u8]) -> Result<usize,
 }
 
 /// The length in bytes of a token that is signed for `alg` with a payload of `payload_len` bytes
-/// (RFC 7515, section 7.1).
-/// `None` if it is above `usize::MAX`.
+/// (RFC 7515, section 7.1). `None` if it is above `usize::MAX`.
 pub fn token_len(alg: Alg, payload_len: usize) -> Option<usize>
     ensures ok { IfSome result (λ n. n ≡ usual_token_len alg payload_len) }
     ensures refused { IsNone result → 2 ^ 64 ≤ usual_token_len alg payload_len }

@@ -147,7 +147,8 @@ fn item_of(tag: &[u8]) -> [u8; ITEM_LEN]
 
 /// Verifies a header as [`verify_stripe`] does, and counts the blocks of the tag and the compared
 /// pairs of bytes on `meter`: those of each item that has the length of a signature, whichever is
-/// the right one. A header without a time, and one that is too old, cost nothing.
+/// the right one. Where the header has no time or is too old, the key is for another algorithm, or
+/// HMAC does not admit what is signed, `meter` is as it was.
 pub fn verify_stripe_counted(
     key: &Key,
     body: &[u8],
@@ -163,8 +164,9 @@ pub fn verify_stripe_counted(
         → IsTagWithin SHA256 (length (stripe_message n body.now)) → meter.new
         ≡ raised meter.old (tag_blocks SHA256 (length (stripe_message n body.now)))
         (items_pairs 67 (items_of items)) }
-    ensures unchanged { ((n : ℕ) (items : List ℕ) → n < 2 ^ 64 → header.now ≡ timestamp_then n items
-        → now ≤ n + tolerance → ⊥) → meter.new ≡ meter.old }
+    ensures unchanged { ((n : ℕ) (items : List ℕ) → key_algorithm key.now ≡ SHA256 → n < 2 ^ 64
+        → header.now ≡ timestamp_then n items → now ≤ n + tolerance
+        → IsTagWithin SHA256 (length (stripe_message n body.now)) → ⊥) → meter.new ≡ meter.old }
 {
     if key.algorithm().digest_algorithm() != SHA256 {
         return Err(Unspecified);

@@ -1,8 +1,8 @@
 // SPDX-License-Identifier: ISC
 //! Answers lines on password hashes, for `tests/password_hashes.py`, on key schedules, for
 //! `tests/schedules.py`, on trees of transparency logs, for `tests/merkle.py`, and on tokens,
-//! one-time passwords and webhooks, for `tests/tokens.py`. `docs/PASSWORD_HASHES.md`,
-//! `docs/SCHEDULES.md`, `docs/MERKLE.md` and `docs/TOKENS.md` have their forms.
+//! one-time passwords and webhooks, for `tests/tokens.py`. Each module's `match` has the forms of
+//! its lines, `words` those of a line's words: bytes, for one, are hex digits, or `-` for none.
 //!
 //! An answer is what the line asks for, the line of the error that refused it, `refused` where the
 //! error has none, or `bad line`. Empty lines and those with a `#` at their start have none.

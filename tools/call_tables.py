@@ -1,5 +1,6 @@
 """Writes the tables of docs/API.md, from the line "## Calls" on, as the comments of the sources
-have them: each call with its parameters, its comment's first sentence, and when it is refused.
+have them: each call with its parameters, its comment's first sentence, and a mark where it can be
+refused.
 
 `python3 tools/call_tables.py` writes them anew; tests/comments.py compares them.
 """
@@ -20,14 +21,12 @@ LEFT_OUT = (
     "ring_merkle::laws", "ring_tokens::laws",
 )
 COLUMNS = "|Call|What it gives|\n|-|-|"
-# What a table leaves out of a sentence, or says in fewer words: a section of a standard and a law,
-# where a link leads, and the greatest length of a message.
+# What a table leaves out of a sentence: a section of a standard and a law, and where a link leads.
 SHORTER = (
     (re.compile(r" \((?:FIPS|RFC|\[`)[^()]*(?:\([^()]*\))?\)"), ""),
     (re.compile(r"\[(`[^`]+`)\](?:\([^)]*\))?"), r"\1"),
-    (re.compile(r"longer than (?:the|SHA-256's)[\w' ]* `max_input_len` bytes"), "too long"),
 )
-REFUSED = re.compile(r"(?:Refused|Otherwise as) ")
+REFUSED = re.compile(r"Refused ")
 
 
 def sentences(comment):
@@ -41,18 +40,18 @@ def sentences(comment):
 
 
 def told(item):
-    """What a comment says that the item gives, and when it is refused."""
-    found = list(sentences(item.comment))
-    gives = next((it for it in found if not REFUSED.match(it)), "")
-    refusals = [it[0].lower() + it[1:] for it in found if REFUSED.match(it)]
-    return "; ".join([gives, *refusals]).replace("|", r"\|")
+    """What a comment says first that the item gives."""
+    gives = (it for it in sentences(item.comment) if not REFUSED.match(it))
+    return next(gives, "").replace("|", r"\|")
 
 
-def marks(name, found):
-    """The marks of the further forms that a call has among some items."""
-    forms = {it.name: it.signature for it in found if it.name.startswith(f"{name}_")}
-    is_wide = "VECTOR_BITS" in forms.get(f"{name}_in", "")
-    return " +" * (f"{name}_counted" in forms) + " *" * is_wide
+def marks(item, found):
+    """The marks of a call that can be refused, and of the further forms that it has among some
+    items."""
+    forms = {it.name: it.signature for it in found if it.name.startswith(f"{item.name}_")}
+    is_wide = "VECTOR_BITS" in forms.get(f"{item.name}_in", "")
+    can_fail = item.result.startswith("Result<")
+    return " !" * can_fail + " +" * (f"{item.name}_counted" in forms) + " *" * is_wide
 
 
 def is_row(item, names):
@@ -74,7 +73,7 @@ def rows_of(owner, found):
     names = {item.name for item in found}
     for item in (it for it in found if is_row(it, names)):
         name = f"{owner}::{item.name}" if owner else item.name
-        call = f"{link(item, name)}`({', '.join(item.parameters)})`{marks(item.name, found)}"
+        call = f"{link(item, name)}`({', '.join(item.parameters)})`{marks(item, found)}"
         yield f"|{call}|{told(item)}|"
 
 

@@ -29,8 +29,9 @@ KIT = $(patsubst %/bin/,%,$(dir $(realpath $(shell command -v $(RT)))))
 # What the package calls, and what it asks the module for.
 JS_CALLS = digest digest_final digest_init digest_update equal hkdf hkdf_expand \
     hkdf_expand_label hkdf_extract hmac_final hmac_init hmac_key_init hmac_sign hmac_update \
-    hmac_verify output_len password_hash_info password_hash_new password_hash_salt \
-    password_hash_verify pbkdf2_derive pbkdf2_verify version
+    hmac_verify merkle_consistency_path merkle_inclusion_path merkle_leaf merkle_root \
+    merkle_verify_consistency merkle_verify_inclusion output_len password_hash_info \
+    password_hash_new password_hash_salt password_hash_verify pbkdf2_derive pbkdf2_verify version
 JS_EXPORTS = memory __heap_base $(JS_CALLS:%=yz_%)
 # The module's stack, which ends where the constants begin: package/calls.js has the number too.
 WASM_STACK = 65536
@@ -95,9 +96,10 @@ js-lowered: $(WASM) $(WASM64)
 	$(NODE) $(MEMORY64) js/test/lowered.mjs $(WASM64) $(WASM)
 	NODE='$(NODE)' $(PYTHON) -B js/test/wrong_forms.py $(WASM64) $(JS) "$(MEMORY64)" $(JS_EXPORTS)
 
+JS_TESTS = package memory merkle
 js-test: $(JS)/package/package.json
 	PACKAGE="$(WHOLE_OUT)/js/package" VECTORS=../vectors VERSION=$(VERSION) \
-	    $(NODE) --test js/test/package.test.mjs js/test/memory.test.mjs
+	    $(NODE) --test $(JS_TESTS:%=js/test/%.test.mjs)
 
 # What the module tells of its addresses and conditions on other secrets.
 js-traces: $(WASM)

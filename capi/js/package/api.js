@@ -8,10 +8,11 @@ import {
   macOf,
 } from "./inputs.js";
 import { later } from "./later.js";
+import { merkle } from "./merkle.js";
 import { passwordHash } from "./passwords.js";
 import { subtle } from "./subtle.js";
 
-export { passwordHash, subtle };
+export { merkle, passwordHash, subtle };
 export const webcrypto = { subtle };
 
 // Calls back once, with an error or an answer, on another turn of the loop, so that what a callback

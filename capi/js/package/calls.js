@@ -21,6 +21,9 @@ const HMAC_KEY_LEN = 136;
 const HMAC_CONTEXT_LEN = 280;
 const MAX_PASSWORD_HASH_LEN = 1024;
 const MAX_SALT_LEN = 22;
+/** Of a tree's hashes, and of a path the most hashes. */
+export const HASH_LEN = 32;
+const MAX_PATH = 65;
 // Of the module's numbers: a uint32_t and a size_t.
 const WORD_LEN = 4;
 const SIZE_LEN = 8;
@@ -374,6 +377,56 @@ export function passwordNew(scheme, iterations, salt, password) {
     return host.copy(memory, Number(text), Number(text) + wordAt(len));
   }, STACK_LEN_OF_TEXTS);
 }
+
+export function merkleLeaf(entry) {
+  return run(() => {
+    const at = copied(entry);
+    return output(HASH_LEN, (hash) => exports.yz_merkle_leaf(at, lenOf(entry), hash));
+  });
+}
+
+// The module is passed hashes in a row by the place of a copy, and by how many they are.
+const countOf = (hashes) => BigInt(hashes.length / HASH_LEN);
+
+export function merkleRoot(leaves) {
+  return run(() => {
+    const at = copied(leaves);
+    return output(HASH_LEN, (root) => exports.yz_merkle_root(at, countOf(leaves), root));
+  });
+}
+
+export function merkleVerifyInclusion(hash, index, size, path, root) {
+  return run(() => verdict(exports.yz_merkle_verify_inclusion(
+    copied(hash), index, size, copied(path), countOf(path), copied(root))));
+}
+
+export function merkleVerifyConsistency(firstSize, first, secondSize, second, path) {
+  return run(() => verdict(exports.yz_merkle_verify_consistency(
+    firstSize, copied(first), secondSize, copied(second), copied(path), countOf(path))));
+}
+
+// The path that a call writes, or null where there is none.
+function pathBy(name, leaves, number) {
+  return run(() => {
+    const at = copied(leaves), path = blank(MAX_PATH * HASH_LEN), count = blank(SIZE_LEN);
+    const status =
+      exports[name](at, countOf(leaves), number, path, BigInt(MAX_PATH), count);
+    if (status === UNSPECIFIED) return null;
+    test(status);
+    return Array.from({ length: wordAt(count) }, (_, i) => {
+      const place = Number(path) + i * HASH_LEN;
+      return host.copy(memory, place, place + HASH_LEN);
+    });
+  });
+}
+
+/** The hashes of a path, or null where the tree has no such leaf. */
+export const merkleInclusionPath = (leaves, index) =>
+  pathBy("yz_merkle_inclusion_path", leaves, index);
+
+/** The hashes of a proof, or null where the tree has no such beginning. */
+export const merkleConsistencyPath = (leaves, firstSize) =>
+  pathBy("yz_merkle_consistency_path", leaves, firstSize);
 
 export function equal(one, other) {
   return run(() =>

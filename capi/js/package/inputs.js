@@ -145,6 +145,21 @@ export function wholeOf(value, argument, least, most) {
   return value;
 }
 
+/** A whole number from 0 to 2^64 - 1 as a BigInt, or null where it is none of these. A number past
+ * 2^53 - 1 may be what another one was rounded to: it is refused. */
+export function uint64Of(value, argument) {
+  if (typeof value === "number") {
+    if (!Number.isInteger(value)) throw outOfRange(argument, "an integer", value);
+    if (!Number.isSafeInteger(value)) {
+      throw outOfRange(argument, "a safe integer or a BigInt", value);
+    }
+  } else if (typeof value !== "bigint") {
+    throw wrongType(argument, "of type number or bigint", value, true);
+  }
+  const whole = BigInt(value);
+  return whole === BigInt.asUintN(64, whole) ? whole : null;
+}
+
 export const lengthOf = (value, argument) => wholeOf(value, argument, 0, MAX_INT32);
 export const iterationsOf = (value) => wholeOf(value, "iterations", 1, MAX_INT32);
 

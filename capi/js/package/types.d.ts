@@ -108,6 +108,34 @@ export interface PasswordHash {
   info(text: Input): { scheme: PasswordHashScheme; iterations: number };
 }
 
+/** An index or a size. A number past 2^53 - 1 may be a rounded one, and raises a RangeError. */
+export type Count = number | bigint;
+/**
+ * Merkle trees of transparency logs (RFC 9162; RFC 6962 has the same). A hash has 32 bytes. That a
+ * root is the log's is for the caller to know: who signed it, and whether others see the same.
+ */
+export interface Merkle<B> {
+  /** The hash of an entry as a leaf, which is not its digest: a byte 0 stands before it. */
+  leaf(entry: Input): B;
+  /** The root of the tree over the hashes of leaves. */
+  root(leaves: Iterable<Bytes>): B;
+  /** The path that proves that the leaf at `index`, from 0 on, is in the tree over `leaves`. Throws
+   * a RangeError where there is no such leaf. */
+  inclusionPath(leaves: Iterable<Bytes>, index: Count): B[];
+  /** The path that proves that the tree over the first `firstSize` of `leaves` is the beginning of
+   * the tree over all. Throws a RangeError where `firstSize` is 0 or not below their number. */
+  consistencyPath(leaves: Iterable<Bytes>, firstSize: Count): B[];
+  /** Whether the path proves that the leaf with this hash, which `leaf` gives, is at `index` in the
+   * tree of `size` leaves with this root. False too for what no tree has, as -1 or 31 bytes. */
+  verifyInclusion(hash: Bytes, index: Count, size: Count, path: Iterable<Bytes>,
+    root: Bytes): boolean;
+  /** Whether the path proves that the tree of `firstSize` leaves with the root `first` is the
+   * beginning of the tree of `secondSize` leaves with the root `second`. There is no proof for an
+   * empty tree, or for two of one size: compare their roots. */
+  verifyConsistency(firstSize: Count, first: Bytes, secondSize: Count, second: Bytes,
+    path: Iterable<Bytes>): boolean;
+}
+
 /** A key of `subtle.importKey`, which is for this package's `subtle` alone. */
 export interface Key {
   readonly type: "secret";

@@ -39,6 +39,10 @@ const scheme = () => below(14);
 // Mostly the text that yz_password_hash_new has written.
 const text = () => below(4) === 0 ? input() : [BigInt(OUTPUT),
   BigInt.asUintN(11, new DataView(both[0].memory.buffer).getBigUint64(TEXT_LEN, true))];
+// Hashes in a row, room for a path, and an index or a size of a tree.
+const hashes = () => [BigInt(oneOf(INPUTS) + below(8)), BigInt(below(20))];
+const path = () => [BigInt(OUTPUT + below(8)), below(10) ? 65n : BigInt(below(4))];
+const number = () => below(10) ? BigInt(below(20)) : 2n ** BigInt(below(64)) - BigInt(below(2));
 // The arguments of a call with so many inputs, an algorithm before them and an output behind.
 const withInputs = (count) => (n = algorithm()) =>
   [n, ...Array.from({ length: count }, input).flat(), ...output(n)];
@@ -67,6 +71,16 @@ const CALLS = {
   yz_password_hash_verify: () => [...text(), ...input(), below(4)],
   yz_pbkdf2_derive: () => [algorithm(), below(4), ...input(), ...input(), ...longOutput()],
   yz_pbkdf2_verify: () => [algorithm(), below(4), ...input(), ...input(), ...longOutput()],
+  yz_merkle_leaf: () => [...input(), BigInt(OUTPUT + below(8))],
+  yz_merkle_root: () => [...hashes(), BigInt(OUTPUT + below(8))],
+  yz_merkle_inclusion_path: () => [...hashes(), number(), ...path(), BigInt(TEXT_LEN + 32)],
+  yz_merkle_consistency_path: () => [...hashes(), number(), ...path(), BigInt(TEXT_LEN + 32)],
+  // One time in four a tree of one leaf, whose root that is.
+  yz_merkle_verify_inclusion: () => below(4) === 0
+    ? [BigInt(INPUTS[0]), 0n, 1n, BigInt(INPUTS[1]), 0n, BigInt(INPUTS[0])]
+    : [BigInt(INPUTS[0]), number(), number(), ...hashes(), BigInt(oneOf(INPUTS))],
+  yz_merkle_verify_consistency: () =>
+    [number(), BigInt(INPUTS[0]), number(), BigInt(oneOf(INPUTS)), ...hashes()],
   yz_equal: () => {
     const [at, len] = input();
     return [at, len, BigInt(oneOf(INPUTS)), below(4) ? len : len + 1n];

@@ -2,8 +2,8 @@
 // tsc --noEmit: the types of the package as browsers have it. A line with an error must have it.
 
 import all, {
-  createHash, createHmac, digest, hkdf, hkdfExpand, hkdfSync, hmacVerify, passwordHash, pbkdf2Sync,
-  pbkdf2, subtle, timingSafeEqual, type Hash, type PasswordHashScheme,
+  createHash, createHmac, digest, hkdf, hkdfExpand, hkdfSync, hmacVerify, merkle, passwordHash,
+  pbkdf2Sync, pbkdf2, subtle, timingSafeEqual, type Hash, type PasswordHashScheme,
 } from "yezdopin";
 
 export const bytes: Uint8Array = digest("sha256", "abc");
@@ -22,6 +22,9 @@ export const hex: string = all.hash("sha1", "a");
 export const isRight: Promise<boolean> = passwordHash.verify("", "", { maxIterations: 9 });
 export const kept: Promise<string> = passwordHash.new("phc-sha256", "pw", { iterations: 9 });
 export const scheme: PasswordHashScheme = passwordHash.info("").scheme;
+export const leaf: Uint8Array = merkle.leaf("an entry");
+export const path: Uint8Array[] = all.merkle.inclusionPath(new Set([leaf]), 0);
+export const isLogged: boolean = merkle.verifyInclusion(leaf, 0, 2n ** 63n, path, leaf.buffer);
 export const made: Promise<ArrayBuffer> = subtle.digest("SHA-1", bytes);
 
 // @ts-expect-error no tag of SHA-512/256
@@ -42,3 +45,7 @@ createHash("sha1").digest("latin1");
 passwordHash.verify("", "", {});
 // @ts-expect-error no such scheme
 passwordHash.newSync("md5", "pw", { iterations: 9 });
+// @ts-expect-error text is no hash
+merkle.root(["leaf"]);
+// @ts-expect-error no size
+merkle.verifyInclusion(leaf, 0, "8", path, leaf);

@@ -5,7 +5,9 @@ import { createSecretKey } from "node:crypto";
 import { createReadStream } from "node:fs";
 import { pipeline } from "node:stream/promises";
 import { promisify } from "node:util";
-import yz, { Hash, createHash, createHmac, hash, pbkdf2, pbkdf2Sync, subtle } from "yezdopin";
+import yz, {
+  Hash, createHash, createHmac, hash, merkle, pbkdf2, pbkdf2Sync, subtle,
+} from "yezdopin";
 
 export const text: string = pbkdf2Sync("a", "b", 1, 20, "sha1").toString("base64");
 export const latin: string = createHash("sha256", { highWaterMark: 9 }).update("61", "hex")
@@ -16,6 +18,7 @@ export const tag: Buffer = tagged.digest();
 export const later: Buffer = await promisify(pbkdf2)("a", "b", 1, 20, "sha512");
 export const same: boolean = new Hash("sha1").copy() instanceof yz.Hash;
 export const bytes: Buffer = hash("sha1", "a", "buffer");
+export const proof: Buffer[] = merkle.consistencyPath([merkle.leaf("a"), yz.merkle.leaf("b")], 1n);
 export const made: ArrayBuffer = await subtle.digest("SHA-1", bytes);
 
 // @ts-expect-error no such encoding

@@ -2,8 +2,9 @@
  * Copyright 2026 the Yezdopin authors.
  *
  * Digests (FIPS 180-4), tags (HMAC, RFC 2104), derived keys (HKDF, RFC 5869, also by the labels of
- * TLS 1.3, RFC 8446; PBKDF2, RFC 2898), password hashes, and Merkle trees of transparency logs (RFC
- * 9162), each call proved to give the standard's bytes. README.md, installed as
+ * TLS 1.3, RFC 8446; PBKDF2, RFC 2898), password hashes, Merkle trees of transparency logs (RFC
+ * 9162), signed tokens (JWS, RFC 7515) and one-time passwords (HOTP, RFC 4226; TOTP, RFC 6238),
+ * each call proved to give the standard's bytes. README.md, installed as
  * share/doc/yezdopin/README.md, says what is proved and what is not. All lengths are in bytes.
  *
  * Each call returns whatever it is given. Calls allocate nothing, set no errno, and keep no state
@@ -388,6 +389,74 @@ yz_status yz_merkle_inclusion_path(const yz_merkle_hash *leaves, size_t count, s
 yz_status yz_merkle_consistency_path(const yz_merkle_hash *leaves, size_t count, size_t first_size,
                                      yz_merkle_hash *path, size_t path_room,
                                      size_t *path_count) YZ_MUST_CHECK;
+
+/* Signed tokens: JSON Web Signatures in the compact form (RFC 7515), of which JSON Web Tokens are
+ * made, under HMAC (RFC 7518, 3.2). YZ_SHA256 is for HS256, YZ_SHA384 for HS384 and YZ_SHA512 for
+ * HS512; any other number is answered by YZ_UNKNOWN_ALGORITHM. A key is for one of them, and has at
+ * least yz_output_len of the algorithm bytes, or the call answers YZ_UNSPECIFIED.
+ *
+ * A payload is any bytes. No call reads the claims in it: whether the token has expired is for the
+ * caller to test, and for whom it was made. */
+
+/* The bytes of the token of a payload of `payload_len` bytes, over a digest of `output_len`. */
+#define YZ_JWS_TOKEN_LEN(output_len, payload_len)                                                  \
+    ((size_t)38 + YZ_BASE64URL_LEN(output_len) + YZ_BASE64URL_LEN(payload_len))
+#define YZ_BASE64URL_LEN(len) ((size_t)(len) / 3 * 4 + ((size_t)(len) % 3 * 4 + 2) / 3)
+
+/* Writes the token of a payload to the start of `token`, which has `token_room` bytes, and to
+ * `token_len` how many bytes it has, which are YZ_JWS_TOKEN_LEN. No zero follows it, and the rest
+ * of `token` is unchanged. The header is {"alg":"HS256","typ":"JWT"}, or that with the name of the
+ * algorithm. A token that is longer than `token_room` is answered by YZ_WRONG_LENGTH. */
+yz_status yz_jws_sign(uint32_t algorithm, const uint8_t *key, size_t key_len,
+                      const uint8_t *payload, size_t payload_len,
+                      char *token, size_t token_room, size_t *token_len) YZ_MUST_CHECK;
+
+/* Writes the payload of a token that the key signed (RFC 7515, 5.2) to the start of `payload`,
+ * which has `payload_room` bytes, and to `payload_len` how many bytes it has. The rest of `payload`
+ * is unchanged. The header is one of these, letter by letter, with the name of the algorithm, as
+ * most systems write it: {"alg":"HS256","typ":"JWT"}, {"typ":"JWT","alg":"HS256"} and
+ * {"alg":"HS256"}. The whole tag is compared, and the header is read only where it is right.
+ *
+ * `payload_room` is at least `token_len`, or the call answers YZ_WRONG_LENGTH, though the payload
+ * is shorter. Any other text is answered by YZ_UNSPECIFIED, whatever is wrong with it: the tag, the
+ * header or the algorithm that it names, spare bits or padding in a part. */
+yz_status yz_jws_verify(uint32_t algorithm, const uint8_t *key, size_t key_len,
+                        const char *token, size_t token_len,
+                        uint8_t *payload, size_t payload_room, size_t *payload_len) YZ_MUST_CHECK;
+
+/* One-time passwords: HOTP (RFC 4226), and TOTP (RFC 6238), whose counter is the number of a time's
+ * step. A time is in seconds since the beginning of 1970, and a step has `step` seconds, 30 for the
+ * most part; 0 is answered by YZ_UNSPECIFIED. The algorithm is any of yz_hmac_sign. Most devices
+ * have YZ_SHA1, whose faults don't reach HMAC; the RFC names YZ_SHA256 and YZ_SHA512 too.
+ *
+ * A password is `digits` decimal digits in ASCII, leading zeros among them, and no zero byte is
+ * behind them. It has 6 to 8, or the call answers YZ_WRONG_LENGTH. A key has any length that it has
+ * for yz_hmac_sign; RFC 4226 (4, R6) asks for 16 bytes and more. */
+#define YZ_OTP_MIN_DIGITS 6
+#define YZ_OTP_MAX_DIGITS 8
+
+/* Writes the password of a counter, or of a time, to `text`, which has `digits` bytes. */
+yz_status yz_hotp(uint32_t algorithm, const uint8_t *key, size_t key_len, uint64_t counter,
+                  char *text, size_t digits) YZ_MUST_CHECK;
+yz_status yz_totp(uint32_t algorithm, const uint8_t *key, size_t key_len,
+                  uint64_t time, uint32_t step, char *text, size_t digits) YZ_MUST_CHECK;
+
+/* Looks for a password that a user typed: among those of `count` counters from `first` on, none
+ * above 2^64 - 1 (RFC 4226, 7.4), or of a time's step, `back` steps before it and `ahead` after it
+ * (RFC 6238, 5.2). Writes to `counter` the first counter, or number of a step, whose password the
+ * text is, with each of its `digits`. Where the text is the password of none, and where it has not
+ * as many digits, the call answers YZ_UNSPECIFIED. It compares whole texts, and ends at the counter
+ * that it finds: its time tells which.
+ *
+ * A password is for one use: keep the counter, and refuse one that is not above the last. */
+yz_status yz_hotp_find(uint32_t algorithm, const uint8_t *key, size_t key_len,
+                       uint64_t first, uint64_t count,
+                       size_t digits, const char *text, size_t text_len,
+                       uint64_t *counter) YZ_MUST_CHECK;
+yz_status yz_totp_find(uint32_t algorithm, const uint8_t *key, size_t key_len,
+                       uint64_t time, uint32_t step, uint32_t back, uint32_t ahead,
+                       size_t digits, const char *text, size_t text_len,
+                       uint64_t *counter) YZ_MUST_CHECK;
 
 /* Whether both are equal. Where the lengths agree it reads all of both. */
 bool yz_equal(const uint8_t *a, size_t a_len, const uint8_t *b, size_t b_len) YZ_MUST_CHECK;

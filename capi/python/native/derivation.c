@@ -3,12 +3,36 @@
  * Keys that are derived: HKDF and PBKDF2. */
 #include "native.h"
 
-/* Returns the object that a call wrote, if it was allocated, or raises the call's status. */
-static PyObject *made(PyObject *out, yz_status status)
+/* A derivation: its inputs, which are borrowed, and the object that it fills. */
+#define MOST_INPUTS 3
+typedef struct {
+    uint32_t algorithm;
+    int count;
+    Py_buffer inputs[MOST_INPUTS];
+    size_t input_len;
+    PyObject *out;
+    uint8_t *bytes;
+    size_t len;
+} derivation;
+
+/* Begins a derivation whose algorithm and length are found. One that is begun has to be ended. */
+static bool begin(derivation *it, PyObject *const *inputs, int count)
 {
-    if (out == NULL || status == YZ_OK) return out;
-    Py_DECREF(out);
-    return refuse(status);
+    it->count = count;
+    it->input_len = 0;
+    if (!borrow_all(inputs, count, it->inputs)) return false;
+    for (int i = 0; i < count; i++) it->input_len += len_of(&it->inputs[i]);
+    it->out = new_bytes(it->len, &it->bytes);
+    if (it->out == NULL) give_back(it->inputs, count);
+    return it->out != NULL;
+}
+
+/* Gives the inputs back, and frees the output if the call was refused. */
+static bool end(derivation *it, yz_status status)
+{
+    give_back(it->inputs, it->count);
+    if (status != YZ_OK) Py_DECREF(it->out);
+    return status == YZ_OK;
 }
 
 /* The length of an output of HKDF. A length past the limit becomes the least that the library
@@ -26,32 +50,30 @@ static bool hkdf_len(PyObject *object, uint32_t algorithm, size_t *len)
     return true;
 }
 
+/* Begins a step of HKDF: the first value is the hash's name, and the next are the inputs. Without
+ * a length the output is as long as a digest. */
+static bool begin_hkdf(derivation *it, PyObject *const *values, int count, PyObject *length)
+{
+    if (!algorithm_of_name(values[0], &it->algorithm)) return false;
+    it->len = yz_output_len(it->algorithm);
+    if (length != NULL && !hkdf_len(length, it->algorithm, &it->len)) return false;
+    return begin(it, values + 1, count);
+}
+
 static PyObject *hkdf(PyObject *Py_UNUSED(module), PyObject *const *args, Py_ssize_t args_len,
                       PyObject *keywords)
 {
     static const signature takes = {
         "hkdf", 5, 5, 5, {"hash_name", "secret", "salt", "info", "length"}};
     PyObject *values[5];
-    Py_buffer views[3];
-    uint32_t algorithm;
-    size_t len;
-    uint8_t *bytes = NULL;
+    derivation it;
     if (!gather(&takes, args, args_len, keywords, values)) return NULL;
-    if (!algorithm_of_name(values[0], &algorithm) || !hkdf_len(values[4], algorithm, &len)) {
-        return NULL;
-    }
-    if (!borrow_all(values + 1, 3, views)) return NULL;
-    PyObject *out = new_bytes(len, &bytes);
-    yz_status status = YZ_OK;
-    if (out != NULL) {
-        PyThreadState *saved =
-            let_others_run(len_of(&views[0]) + len_of(&views[1]) + len_of(&views[2]));
-        status = yz_hkdf(algorithm, bytes_of(&views[1]), len_of(&views[1]), bytes_of(&views[0]),
-                         len_of(&views[0]), bytes_of(&views[2]), len_of(&views[2]), bytes, len);
-        go_on(saved);
-    }
-    give_back(views, 3);
-    return made(out, status);
+    if (!begin_hkdf(&it, values, 3, values[4])) return NULL;
+    PyThreadState *saved = let_others_run(it.input_len);
+    yz_status status = yz_hkdf(it.algorithm, BYTES(it.inputs[1]), BYTES(it.inputs[0]),
+                               BYTES(it.inputs[2]), it.bytes, it.len);
+    go_on(saved);
+    return end(&it, status) ? it.out : refuse(status);
 }
 
 static PyObject *hkdf_extract(PyObject *Py_UNUSED(module), PyObject *const *args,
@@ -59,23 +81,14 @@ static PyObject *hkdf_extract(PyObject *Py_UNUSED(module), PyObject *const *args
 {
     static const signature takes = {"hkdf_extract", 2, 3, 3, {"hash_name", "secret", "salt"}};
     PyObject *values[3];
-    Py_buffer views[2];
-    uint32_t algorithm;
-    uint8_t *bytes = NULL;
+    derivation it;
     if (!gather(&takes, args, args_len, keywords, values)) return NULL;
-    if (!algorithm_of_name(values[0], &algorithm)) return NULL;
-    if (!borrow_all(values + 1, 2, views)) return NULL;
-    size_t len = yz_output_len(algorithm);
-    PyObject *out = new_bytes(len, &bytes);
-    yz_status status = YZ_OK;
-    if (out != NULL) {
-        PyThreadState *saved = let_others_run(len_of(&views[0]) + len_of(&views[1]));
-        status = yz_hkdf_extract(algorithm, bytes_of(&views[1]), len_of(&views[1]),
-                                 bytes_of(&views[0]), len_of(&views[0]), bytes, len);
-        go_on(saved);
-    }
-    give_back(views, 2);
-    return made(out, status);
+    if (!begin_hkdf(&it, values, 2, NULL)) return NULL;
+    PyThreadState *saved = let_others_run(it.input_len);
+    yz_status status = yz_hkdf_extract(it.algorithm, BYTES(it.inputs[1]), BYTES(it.inputs[0]),
+                                       it.bytes, it.len);
+    go_on(saved);
+    return end(&it, status) ? it.out : refuse(status);
 }
 
 static PyObject *hkdf_expand(PyObject *Py_UNUSED(module), PyObject *const *args,
@@ -84,25 +97,14 @@ static PyObject *hkdf_expand(PyObject *Py_UNUSED(module), PyObject *const *args,
     static const signature takes = {
         "hkdf_expand", 4, 4, 4, {"hash_name", "prk", "info", "length"}};
     PyObject *values[4];
-    Py_buffer views[2];
-    uint32_t algorithm;
-    size_t len;
-    uint8_t *bytes = NULL;
+    derivation it;
     if (!gather(&takes, args, args_len, keywords, values)) return NULL;
-    if (!algorithm_of_name(values[0], &algorithm) || !hkdf_len(values[3], algorithm, &len)) {
-        return NULL;
-    }
-    if (!borrow_all(values + 1, 2, views)) return NULL;
-    PyObject *out = new_bytes(len, &bytes);
-    yz_status status = YZ_OK;
-    if (out != NULL) {
-        PyThreadState *saved = let_others_run(len_of(&views[0]) + len_of(&views[1]));
-        status = yz_hkdf_expand(algorithm, bytes_of(&views[0]), len_of(&views[0]),
-                                bytes_of(&views[1]), len_of(&views[1]), bytes, len);
-        go_on(saved);
-    }
-    give_back(views, 2);
-    return made(out, status);
+    if (!begin_hkdf(&it, values, 2, values[3])) return NULL;
+    PyThreadState *saved = let_others_run(it.input_len);
+    yz_status status = yz_hkdf_expand(it.algorithm, BYTES(it.inputs[0]), BYTES(it.inputs[1]),
+                                      it.bytes, it.len);
+    go_on(saved);
+    return end(&it, status) ? it.out : refuse(status);
 }
 
 /* Raises the status of HKDF-Expand-Label, and says which input is out of its limits. */
@@ -125,29 +127,15 @@ static PyObject *hkdf_expand_label(PyObject *Py_UNUSED(module), PyObject *const 
     static const signature takes = {
         "hkdf_expand_label", 5, 5, 5, {"hash_name", "secret", "label", "context", "length"}};
     PyObject *values[5];
-    Py_buffer views[3];
-    uint32_t algorithm;
-    size_t len;
-    uint8_t *bytes = NULL;
+    derivation it;
     if (!gather(&takes, args, args_len, keywords, values)) return NULL;
-    if (!algorithm_of_name(values[0], &algorithm) || !hkdf_len(values[4], algorithm, &len)) {
-        return NULL;
-    }
-    if (!borrow_all(values + 1, 3, views)) return NULL;
-    PyObject *out = new_bytes(len, &bytes);
-    yz_status status = YZ_OK;
-    if (out != NULL) {
-        PyThreadState *saved = let_others_run(len_of(&views[0]));
-        status = yz_hkdf_expand_label(algorithm, bytes_of(&views[0]), len_of(&views[0]),
-                                      bytes_of(&views[1]), len_of(&views[1]), bytes_of(&views[2]),
-                                      len_of(&views[2]), bytes, len);
-        go_on(saved);
-    }
-    size_t label_len = len_of(&views[1]), context_len = len_of(&views[2]);
-    give_back(views, 3);
-    if (out == NULL || status == YZ_OK) return out;
-    Py_DECREF(out);
-    return refuse_label(status, label_len, context_len);
+    if (!begin_hkdf(&it, values, 3, values[4])) return NULL;
+    size_t label_len = len_of(&it.inputs[1]), context_len = len_of(&it.inputs[2]);
+    PyThreadState *saved = let_others_run(it.input_len);
+    yz_status status = yz_hkdf_expand_label(it.algorithm, BYTES(it.inputs[0]), BYTES(it.inputs[1]),
+                                            BYTES(it.inputs[2]), it.bytes, it.len);
+    go_on(saved);
+    return end(&it, status) ? it.out : refuse_label(status, label_len, context_len);
 }
 
 /* The most iterations that hashlib's PBKDF2 takes, and so this one: what it makes, that makes. */
@@ -206,38 +194,23 @@ static bool derived_len(PyObject *object, uint32_t algorithm, size_t *len)
     return true;
 }
 
-static PyObject *derived(uint32_t algorithm, uint32_t iterations, const Py_buffer *views,
-                         size_t len)
-{
-    uint8_t *bytes = NULL;
-    PyObject *out = new_bytes(len, &bytes);
-    if (out == NULL) return NULL;
-    PyThreadState *saved = PyEval_SaveThread();
-    yz_status status = yz_pbkdf2_derive(algorithm, iterations, bytes_of(&views[1]),
-                                        len_of(&views[1]), bytes_of(&views[0]), len_of(&views[0]),
-                                        bytes, len);
-    PyEval_RestoreThread(saved);
-    return made(out, status);
-}
-
 static PyObject *pbkdf2_hmac(PyObject *Py_UNUSED(module), PyObject *const *args,
                              Py_ssize_t args_len, PyObject *keywords)
 {
     static const signature takes = {
         "pbkdf2_hmac", 4, 5, 5, {"hash_name", "password", "salt", "iterations", "dklen"}};
     PyObject *values[5];
-    Py_buffer views[2];
-    uint32_t algorithm, iterations;
-    size_t len;
+    uint32_t iterations;
+    derivation it;
     if (!gather(&takes, args, args_len, keywords, values)) return NULL;
-    if (!algorithm_of_name(values[0], &algorithm) || !borrow_all(values + 1, 2, views)) return NULL;
-    PyObject *out = NULL;
-    if (iterations_of(values[3], MAX_ITERATIONS, &iterations)
-        && derived_len(values[4], algorithm, &len)) {
-        out = derived(algorithm, iterations, views, len);
-    }
-    give_back(views, 2);
-    return out;
+    if (!algorithm_of_name(values[0], &it.algorithm)) return NULL;
+    if (!iterations_of(values[3], MAX_ITERATIONS, &iterations)) return NULL;
+    if (!derived_len(values[4], it.algorithm, &it.len) || !begin(&it, values + 1, 2)) return NULL;
+    PyThreadState *saved = PyEval_SaveThread();
+    yz_status status = yz_pbkdf2_derive(it.algorithm, iterations, BYTES(it.inputs[1]),
+                                        BYTES(it.inputs[0]), it.bytes, it.len);
+    PyEval_RestoreThread(saved);
+    return end(&it, status) ? it.out : refuse(status);
 }
 
 static PyObject *pbkdf2_hmac_verify(PyObject *Py_UNUSED(module), PyObject *const *args,
@@ -254,9 +227,8 @@ static PyObject *pbkdf2_hmac_verify(PyObject *Py_UNUSED(module), PyObject *const
     if (!iterations_of(values[3], MAX_ITERATIONS, &iterations)) return NULL;
     if (!borrow_all(lent, 3, views)) return NULL;
     PyThreadState *saved = PyEval_SaveThread();
-    yz_status status = yz_pbkdf2_verify(algorithm, iterations, bytes_of(&views[1]),
-                                        len_of(&views[1]), bytes_of(&views[0]), len_of(&views[0]),
-                                        bytes_of(&views[2]), len_of(&views[2]));
+    yz_status status = yz_pbkdf2_verify(algorithm, iterations, BYTES(views[1]), BYTES(views[0]),
+                                        BYTES(views[2]));
     PyEval_RestoreThread(saved);
     give_back(views, 3);
     return verdict(status);
@@ -273,9 +245,7 @@ static PyObject *password_hash_verify(PyObject *Py_UNUSED(module), PyObject *con
     if (!gather(&takes, args, args_len, keywords, values)) return NULL;
     if (!limit_of(values[2], &most) || !borrow_all(values, 2, views)) return NULL;
     PyThreadState *saved = PyEval_SaveThread();
-    yz_status status = yz_password_hash_verify((const char *)bytes_of(&views[0]),
-                                               len_of(&views[0]), bytes_of(&views[1]),
-                                               len_of(&views[1]), most);
+    yz_status status = yz_password_hash_verify(TEXT(views[0]), BYTES(views[1]), most);
     PyEval_RestoreThread(saved);
     give_back(views, 2);
     return verdict(status);
@@ -322,8 +292,7 @@ static PyObject *password_hash_info(PyObject *Py_UNUSED(module), PyObject *const
     uint32_t scheme, iterations;
     if (!gather(&takes, args, args_len, keywords, values)) return NULL;
     if (!borrow_all(values, 1, views)) return NULL;
-    yz_status status = yz_password_hash_info((const char *)bytes_of(&views[0]), len_of(&views[0]),
-                                             &scheme, &iterations);
+    yz_status status = yz_password_hash_info(TEXT(views[0]), &scheme, &iterations);
     give_back(views, 1);
     if (status != YZ_OK) return refuse(status);
     return Py_BuildValue("sI", SCHEMES[scheme], (unsigned)iterations);
@@ -340,8 +309,7 @@ static PyObject *password_hash_salt(PyObject *Py_UNUSED(module), PyObject *const
     size_t len = 0;
     if (!gather(&takes, args, args_len, keywords, values)) return NULL;
     if (!scheme_of_name(values[0], &scheme) || !borrow_all(values + 1, 1, views)) return NULL;
-    yz_status status = yz_password_hash_salt(scheme, bytes_of(&views[0]), len_of(&views[0]), salt,
-                                             sizeof salt, &len);
+    yz_status status = yz_password_hash_salt(scheme, BYTES(views[0]), salt, sizeof salt, &len);
     size_t random_len = len_of(&views[0]);
     give_back(views, 1);
     if (status == YZ_UNSPECIFIED) {
@@ -367,9 +335,8 @@ static PyObject *password_hash_new(PyObject *Py_UNUSED(module), PyObject *const 
     if (!iterations_of(values[3], UINT32_MAX, &iterations)) return NULL;
     if (!borrow_all(values + 1, 2, views)) return NULL;
     PyThreadState *saved = PyEval_SaveThread();
-    yz_status status = yz_password_hash_new(scheme, iterations, bytes_of(&views[1]),
-                                            len_of(&views[1]), bytes_of(&views[0]),
-                                            len_of(&views[0]), text, sizeof text, &len);
+    yz_status status = yz_password_hash_new(scheme, iterations, BYTES(views[1]), BYTES(views[0]),
+                                            text, sizeof text, &len);
     PyEval_RestoreThread(saved);
     give_back(views, 2);
     if (status != YZ_OK) return refuse(status);

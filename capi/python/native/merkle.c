@@ -84,23 +84,38 @@ static reading read_proof(PyObject *const *hashes, PyObject *const *sizes, PyObj
     return found;
 }
 
+/* Whether a call verifies what is read of a proof. What is no hash or size proves nothing. */
+static PyObject *verified(yz_status (*call)(const proof *given), PyObject *const *hashes,
+                          PyObject *const *sizes, PyObject *path)
+{
+    proof given;
+    reading found = read_proof(hashes, sizes, path, &given);
+    yz_status status = found == READ ? call(&given) : YZ_UNSPECIFIED;
+    PyMem_Free(given.path.hashes);
+    return found == FAILED ? NULL : verdict(status);
+}
+
+static yz_status call_inclusion(const proof *it)
+{
+    return yz_merkle_verify_inclusion(&it->hashes[0], it->sizes[0], it->sizes[1], it->path.hashes,
+                                      it->path.count, &it->hashes[1]);
+}
+
 static PyObject *verify_inclusion(PyObject *Py_UNUSED(module), PyObject *const *args,
                                   Py_ssize_t args_len, PyObject *keywords)
 {
     static const signature takes = {"merkle_verify_inclusion", 5, 5, 5,
                                     {"hash", "index", "size", "path", "root"}};
     PyObject *values[5];
-    proof given;
     if (!gather(&takes, args, args_len, keywords, values)) return NULL;
-    PyObject *hashes[] = {values[0], values[4]}, *sizes[] = {values[1], values[2]};
-    reading found = read_proof(hashes, sizes, values[3], &given);
-    yz_status status = YZ_UNSPECIFIED;
-    if (found == READ) {
-        status = yz_merkle_verify_inclusion(&given.hashes[0], given.sizes[0], given.sizes[1],
-                                            given.path.hashes, given.path.count, &given.hashes[1]);
-    }
-    PyMem_Free(given.path.hashes);
-    return found == FAILED ? NULL : verdict(status);
+    PyObject *hashes[] = {values[0], values[4]};
+    return verified(call_inclusion, hashes, values + 1, values[3]);
+}
+
+static yz_status call_consistency(const proof *it)
+{
+    return yz_merkle_verify_consistency(it->sizes[0], &it->hashes[0], it->sizes[1], &it->hashes[1],
+                                        it->path.hashes, it->path.count);
 }
 
 static PyObject *verify_consistency(PyObject *Py_UNUSED(module), PyObject *const *args,
@@ -109,18 +124,9 @@ static PyObject *verify_consistency(PyObject *Py_UNUSED(module), PyObject *const
     static const signature takes = {"merkle_verify_consistency", 5, 5, 5,
                                     {"first_size", "first", "second_size", "second", "path"}};
     PyObject *values[5];
-    proof given;
     if (!gather(&takes, args, args_len, keywords, values)) return NULL;
     PyObject *hashes[] = {values[1], values[3]}, *sizes[] = {values[0], values[2]};
-    reading found = read_proof(hashes, sizes, values[4], &given);
-    yz_status status = YZ_UNSPECIFIED;
-    if (found == READ) {
-        status = yz_merkle_verify_consistency(given.sizes[0], &given.hashes[0], given.sizes[1],
-                                              &given.hashes[1], given.path.hashes,
-                                              given.path.count);
-    }
-    PyMem_Free(given.path.hashes);
-    return found == FAILED ? NULL : verdict(status);
+    return verified(call_consistency, hashes, sizes, values[4]);
 }
 
 static PyObject *bytes_of_hash(const yz_merkle_hash *hash)
@@ -138,7 +144,7 @@ static PyObject *leaf(PyObject *Py_UNUSED(module), PyObject *const *args, Py_ssi
     if (!gather(&takes, args, args_len, keywords, values)) return NULL;
     if (!borrow(values[0], &view)) return NULL;
     PyThreadState *saved = let_others_run(len_of(&view));
-    yz_status status = yz_merkle_leaf(bytes_of(&view), len_of(&view), &hash);
+    yz_status status = yz_merkle_leaf(BYTES(view), &hash);
     go_on(saved);
     PyBuffer_Release(&view);
     return status == YZ_OK ? bytes_of_hash(&hash) : refuse(status);
@@ -203,32 +209,31 @@ static PyObject *path_by(__typeof__(yz_merkle_inclusion_path) *call, const hash_
     return status == YZ_OK ? listed(path, count) : refuse(status);
 }
 
+/* The same of the leaves and the place that are given. */
+static PyObject *path_of(__typeof__(yz_merkle_inclusion_path) *call, PyObject *const *values)
+{
+    hash_list leaves;
+    PyObject *made = read_leaves(values[0], &leaves) ? path_by(call, &leaves, values[1]) : NULL;
+    PyMem_Free(leaves.hashes);
+    return made;
+}
+
 static PyObject *inclusion_path(PyObject *Py_UNUSED(module), PyObject *const *args,
                                 Py_ssize_t args_len, PyObject *keywords)
 {
     static const signature takes = {"merkle_inclusion_path", 2, 2, 2, {"leaves", "index"}};
-    PyObject *values[2], *made = NULL;
-    hash_list leaves;
+    PyObject *values[2];
     if (!gather(&takes, args, args_len, keywords, values)) return NULL;
-    if (read_leaves(values[0], &leaves)) {
-        made = path_by(yz_merkle_inclusion_path, &leaves, values[1]);
-    }
-    PyMem_Free(leaves.hashes);
-    return made;
+    return path_of(yz_merkle_inclusion_path, values);
 }
 
 static PyObject *consistency_path(PyObject *Py_UNUSED(module), PyObject *const *args,
                                   Py_ssize_t args_len, PyObject *keywords)
 {
     static const signature takes = {"merkle_consistency_path", 2, 2, 2, {"leaves", "first_size"}};
-    PyObject *values[2], *made = NULL;
-    hash_list leaves;
+    PyObject *values[2];
     if (!gather(&takes, args, args_len, keywords, values)) return NULL;
-    if (read_leaves(values[0], &leaves)) {
-        made = path_by(yz_merkle_consistency_path, &leaves, values[1]);
-    }
-    PyMem_Free(leaves.hashes);
-    return made;
+    return path_of(yz_merkle_consistency_path, values);
 }
 
 PyMethodDef merkle_functions[] = {

@@ -20,6 +20,10 @@
 #define METHOD(function) ((PyCFunction)(void (*)(void))(function))
 #define FAST (METH_FASTCALL | METH_KEYWORDS)
 
+/* A buffer as two arguments of a call, as bytes or as text. */
+#define BYTES(view) bytes_of(&(view)), len_of(&(view))
+#define TEXT(view) (const char *)bytes_of(&(view)), len_of(&(view))
+
 /* What the module holds. */
 typedef struct {
     PyTypeObject *digest_type;

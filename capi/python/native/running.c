@@ -42,8 +42,8 @@ static void running_dealloc(PyObject *self)
 
 static yz_status call_update(running *it, const Py_buffer *input)
 {
-    if (it->is_tag) return yz_hmac_update(&it->context.tag, bytes_of(input), len_of(input));
-    return yz_digest_update(&it->context.digest, bytes_of(input), len_of(input));
+    if (it->is_tag) return yz_hmac_update(&it->context.tag, BYTES(*input));
+    return yz_digest_update(&it->context.digest, BYTES(*input));
 }
 
 /* Updates a context while no other thread reads or writes it. Where no lock can be allocated, a

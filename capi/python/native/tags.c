@@ -29,7 +29,7 @@ static bool make(uint32_t algorithm, PyObject *value, yz_hmac_key *key)
     Py_buffer view;
     if (!borrow(value, &view)) return false;
     PyThreadState *saved = let_others_run(len_of(&view));
-    yz_status status = yz_hmac_key_init(algorithm, bytes_of(&view), len_of(&view), key);
+    yz_status status = yz_hmac_key_init(algorithm, BYTES(view), key);
     go_on(saved);
     PyBuffer_Release(&view);
     if (status != YZ_OK) refuse(status);
@@ -77,7 +77,7 @@ static PyObject *key_sign(PyObject *self, PyObject *const *args, Py_ssize_t args
     size_t len = yz_output_len(it->algorithm);
     if (!gather(&takes, args, args_len, keywords, &msg) || !borrow(msg, &view)) return NULL;
     PyThreadState *saved = let_others_run(len_of(&view));
-    yz_status status = yz_hmac_key_sign(&it->key, bytes_of(&view), len_of(&view), out, len);
+    yz_status status = yz_hmac_key_sign(&it->key, BYTES(view), out, len);
     go_on(saved);
     PyBuffer_Release(&view);
     if (status != YZ_OK) return refuse(status);
@@ -93,9 +93,7 @@ static PyObject *key_verify(PyObject *self, PyObject *const *args, Py_ssize_t ar
     if (!gather(&takes, args, args_len, keywords, values)) return NULL;
     if (!borrow_all(values, 2, views)) return NULL;
     PyThreadState *saved = let_others_run(len_of(&views[0]));
-    yz_status status = yz_hmac_key_verify(&key_of(self)->key, bytes_of(&views[0]),
-                                          len_of(&views[0]), bytes_of(&views[1]),
-                                          len_of(&views[1]));
+    yz_status status = yz_hmac_key_verify(&key_of(self)->key, BYTES(views[0]), BYTES(views[1]));
     go_on(saved);
     give_back(views, 2);
     return verdict(status);
@@ -203,8 +201,7 @@ static PyObject *hmac_digest(PyObject *Py_UNUSED(module), PyObject *const *args,
     if (!algorithm_of_tags(values[2], &algorithm) || !borrow_all(values, 2, views)) return NULL;
     size_t len = yz_output_len(algorithm);
     PyThreadState *saved = let_others_run(len_of(&views[0]) + len_of(&views[1]));
-    yz_status status = yz_hmac_sign(algorithm, bytes_of(&views[0]), len_of(&views[0]),
-                                    bytes_of(&views[1]), len_of(&views[1]), out, len);
+    yz_status status = yz_hmac_sign(algorithm, BYTES(views[0]), BYTES(views[1]), out, len);
     go_on(saved);
     give_back(views, 2);
     if (status != YZ_OK) return refuse(status);
@@ -221,9 +218,8 @@ static PyObject *hmac_verify(PyObject *Py_UNUSED(module), PyObject *const *args,
     if (!gather(&takes, args, args_len, keywords, values)) return NULL;
     if (!algorithm_of_tags(values[3], &algorithm) || !borrow_all(values, 3, views)) return NULL;
     PyThreadState *saved = let_others_run(len_of(&views[0]) + len_of(&views[1]));
-    yz_status status = yz_hmac_verify(algorithm, bytes_of(&views[0]), len_of(&views[0]),
-                                      bytes_of(&views[1]), len_of(&views[1]),
-                                      bytes_of(&views[2]), len_of(&views[2]));
+    yz_status status = yz_hmac_verify(algorithm, BYTES(views[0]), BYTES(views[1]),
+                                      BYTES(views[2]));
     go_on(saved);
     give_back(views, 3);
     return verdict(status);
@@ -266,8 +262,7 @@ static PyObject *compare_digest(PyObject *Py_UNUSED(module), PyObject *const *ar
         return NULL;
     }
     if (!borrow_all(args, 2, views)) return NULL;
-    PyObject *answer = are_equal(bytes_of(&views[0]), len_of(&views[0]), bytes_of(&views[1]),
-                                 len_of(&views[1]));
+    PyObject *answer = are_equal(BYTES(views[0]), BYTES(views[1]));
     give_back(views, 2);
     return answer;
 }

@@ -5,10 +5,6 @@
 #include "native.h"
 #include <string.h>
 
-/* What an object is read as: FAILED has raised an exception, as for a wrong type, and NONE is no
- * hash or size. The worse is the smaller. */
-typedef enum { FAILED, NONE, READ } reading;
-
 /* Hashes that are copied from objects. */
 typedef struct {
     yz_merkle_hash *hashes;
@@ -28,22 +24,6 @@ static reading read_hash(PyObject *object, yz_merkle_hash *hash)
     if (found == READ) memcpy(hash->bytes, bytes_of(&view), sizeof hash->bytes);
     PyBuffer_Release(&view);
     return found;
-}
-
-/* Reads an index or the size of a tree. */
-static reading read_size(PyObject *object, uint64_t *size)
-{
-    PyObject *number = PyNumber_Index(object);
-    if (number == NULL) return FAILED;
-    unsigned long long value = PyLong_AsUnsignedLongLong(number);
-    Py_DECREF(number);
-    if (value == (unsigned long long)-1 && PyErr_Occurred()) {
-        if (!PyErr_ExceptionMatches(PyExc_OverflowError)) return FAILED;
-        PyErr_Clear();
-        return NONE;
-    }
-    *size = value;
-    return READ;
 }
 
 /* Reads all hashes of an iterable into memory that the caller frees, whatever is found. */
@@ -79,7 +59,7 @@ static reading read_proof(PyObject *const *hashes, PyObject *const *sizes, PyObj
         found = worse(found, read_hash(hashes[i], &given->hashes[i]));
     }
     for (int i = 0; i < 2 && found != FAILED; i++) {
-        found = worse(found, read_size(sizes[i], &given->sizes[i]));
+        found = worse(found, read_number(sizes[i], &given->sizes[i]));
     }
     return found;
 }
@@ -195,7 +175,7 @@ static PyObject *path_by(__typeof__(yz_merkle_inclusion_path) *call, const hash_
     yz_merkle_hash path[YZ_MERKLE_MAX_PATH];
     size_t count = 0;
     uint64_t first;
-    reading found = read_size(object, &first);
+    reading found = read_number(object, &first);
     if (found == FAILED) return NULL;
     yz_status status = YZ_UNSPECIFIED;
     if (found == READ) {

@@ -54,7 +54,8 @@ static int fill(PyObject *module)
     if (PyModule_AddFunctions(module, digest_functions) != 0) return -1;
     if (PyModule_AddFunctions(module, tag_functions) != 0) return -1;
     if (PyModule_AddFunctions(module, derivation_functions) != 0) return -1;
-    return PyModule_AddFunctions(module, merkle_functions);
+    if (PyModule_AddFunctions(module, merkle_functions) != 0) return -1;
+    return PyModule_AddFunctions(module, token_functions);
 }
 
 static int traverse(PyObject *module, visitproc visit, void *arg)

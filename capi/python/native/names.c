@@ -81,3 +81,12 @@ bool algorithm_of(PyObject *name_or_constructor, uint32_t *algorithm)
     }
     return false;
 }
+
+/* The same for HMAC. SHA-512/256 has digests alone. */
+bool algorithm_of_tags(PyObject *name_or_constructor, uint32_t *algorithm)
+{
+    if (!algorithm_of(name_or_constructor, algorithm)) return false;
+    if (*algorithm != YZ_SHA512_256) return true;
+    refuse_hash(name_or_constructor);
+    return false;
+}

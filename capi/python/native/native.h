@@ -32,7 +32,7 @@ typedef struct {
 
 /* The arguments that a function takes: `positional` of its `count` names may be given by their
  * places, and the first `required` must be given. */
-#define MOST_ARGUMENTS 5
+#define MOST_ARGUMENTS 8
 typedef struct {
     const char *function;
     int required;
@@ -40,6 +40,10 @@ typedef struct {
     int count;
     const char *names[MOST_ARGUMENTS];
 } signature;
+
+/* What an object is read as: FAILED has raised an exception, as for a wrong type, and NONE is of
+ * the type, but nothing that the call knows. The worse is the smaller. */
+typedef enum { FAILED, NONE, READ } reading;
 
 /* errors.c: a call that returns NULL or false has raised an exception. */
 bool gather(const signature *takes, PyObject *const *args, Py_ssize_t args_len, PyObject *keywords,
@@ -54,6 +58,11 @@ PyObject *cannot_pickle(PyObject *self, PyObject *protocol);
 const char *name_of(uint32_t algorithm);
 bool algorithm_of_name(PyObject *name, uint32_t *algorithm);
 bool algorithm_of(PyObject *name_or_constructor, uint32_t *algorithm);
+bool algorithm_of_tags(PyObject *name_or_constructor, uint32_t *algorithm);
+
+/* numbers.c */
+reading read_number(PyObject *object, uint64_t *number);
+bool number_up_to(uint64_t most, const char *name, PyObject *object, uint64_t *number);
 
 /* buffers.c */
 bool borrow(PyObject *object, Py_buffer *view);
@@ -77,7 +86,7 @@ PyObject *begun_tag(PyTypeObject *type, uint32_t algorithm, const yz_hmac_key *k
 extern PyType_Spec digest_spec;
 extern PyType_Spec tag_spec;
 
-/* digests.c, several.c, tags.c, derivation.c and merkle.c: what the module is made of. */
+/* digests.c, several.c, tags.c, derivation.c, merkle.c, tokens.c: what the module is made of. */
 uint32_t algorithm_of_constructor(PyObject *object);
 PyObject *digest_each(PyObject *module, PyObject *const *args, Py_ssize_t args_len,
                       PyObject *keywords);
@@ -85,6 +94,7 @@ extern PyMethodDef digest_functions[];
 extern PyMethodDef tag_functions[];
 extern PyMethodDef derivation_functions[];
 extern PyMethodDef merkle_functions[];
+extern PyMethodDef token_functions[];
 extern PyType_Spec key_spec;
 
 #endif

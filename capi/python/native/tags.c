@@ -14,15 +14,6 @@ static key_object *key_of(PyObject *self)
     return (key_object *)self;
 }
 
-/* Finds the algorithm of a hash for HMAC. SHA-512/256 has digests alone. */
-static bool algorithm_of_tags(PyObject *digestmod, uint32_t *algorithm)
-{
-    if (!algorithm_of(digestmod, algorithm)) return false;
-    if (*algorithm != YZ_SHA512_256) return true;
-    refuse_hash(digestmod);
-    return false;
-}
-
 /* Makes a key of the bytes of an object. */
 static bool make(uint32_t algorithm, PyObject *value, yz_hmac_key *key)
 {

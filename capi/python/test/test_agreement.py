@@ -215,7 +215,9 @@ class Vectors(unittest.TestCase):
 
 class Documentation(unittest.TestCase):
     def test_examples(self):
-        for module in (yezdopin, tags, yezdopin.password_hash):
+        for module in (
+            yezdopin, tags, yezdopin.merkle, yezdopin.password_hash, yezdopin.tokens
+        ):
             result = doctest.testmod(module)
             self.assertEqual(result.failed, 0)
             self.assertGreater(result.attempted, 0)

@@ -21,7 +21,7 @@ import unittest
 
 import yezdopin
 from shared import LONG, every_object
-from yezdopin import _native
+from yezdopin import _native, tokens
 from yezdopin import hmac as tags
 
 
@@ -154,6 +154,12 @@ class Threads(unittest.TestCase):
                 lambda: yezdopin.hkdf_expand("sha256", bytes(32), data, 32),
                 lambda: yezdopin.hkdf_expand_label("sha256", data, b"label", b"", 32),
                 lambda: yezdopin.pbkdf2_hmac("sha256", b"", b"", 200_000),
+                lambda: tokens.sign(data, LONG),
+                lambda: tokens.sign(b"", data),
+                lambda: self.assertRaises(yezdopin.Error, tokens.verify, data, LONG),
+                lambda: self.assertRaises(yezdopin.Error, tokens.verify, b"..", data),
+                lambda: tokens.find_hotp(LONG, "none", 0, 200_000),
+                lambda: tokens.find_totp(LONG, "none", 0, ahead=200_000),
             ):
                 with self.subTest(inspect.getsource(call).strip()):
                     self.assertTrue(any(turns_during(call) for _ in range(20)))
@@ -207,6 +213,9 @@ class Buffers(unittest.TestCase):
         yezdopin.pbkdf2_hmac_verify("sha256", lent, lent, 1, lent)
         yezdopin.hkdf("sha256", lent, lent, lent, 4)
         yezdopin.compare_digest(lent, lent)
+        tokens.totp(lent, 0)
+        tokens.find_totp(lent, lent, 0)
+        tokens.verify(tokens.sign(lent, LONG).encode(), LONG)
         for call in (
             lambda: yezdopin.digest_each("sha256", [lent, "text"]),
             lambda: tags.digest(lent, "text", "sha256"),
@@ -214,6 +223,12 @@ class Buffers(unittest.TestCase):
             lambda: yezdopin.pbkdf2_hmac("sha256", lent, lent, 1, 0),
             lambda: yezdopin.hkdf("sha256", lent, lent, lent, 10**6),
             lambda: yezdopin.compare_digest(lent, 1),
+            lambda: tokens.sign(lent, lent),
+            lambda: tokens.verify(lent, LONG),
+            lambda: tokens.verify(lent, "text"),
+            lambda: tokens.hotp(lent, 0, digits=9),
+            lambda: tokens.find_hotp(lent, 1, 0, 1),
+            lambda: tokens.find_hotp(lent, lent, 0, 1, digits=9),
         ):
             self.assertRaises((TypeError, ValueError), call)
         lent.append(1)  # a BufferError where a view is still held
@@ -249,6 +264,10 @@ class Buffers(unittest.TestCase):
             derived = yezdopin.pbkdf2_hmac("sha1", b"", b"", 1)
             yezdopin.pbkdf2_hmac_verify("sha1", b"", b"", 1, derived)
             yezdopin.compare_digest("a", "a")
+            tokens.verify(tokens.sign(b"payload", LONG), LONG)
+            tokens.find_hotp(b"key", tokens.hotp(b"key", 1000), 1000, 1)
+            self.assertRaises(yezdopin.Error, tokens.verify, "..", LONG)
+            self.assertRaises(yezdopin.Error, tokens.hotp, b"key", 0, digits=9)
             self.assertRaises(yezdopin.Error, yezdopin.new, "md5")
             self.assertRaises(yezdopin.Error, yezdopin.hkdf, "sha1", b"", b"", b"", 9999)
             self.assertRaises(TypeError, yezdopin.digest_each, "sha256", [b"one", "text"])

@@ -47,6 +47,19 @@ def grows(entries: list[bytes]) -> bool:
     return is_in and merkle.verify_consistency(size - 1, first, size, bytearray(root), proof)
 
 
+def enters(payload: bytes, key: bytes, secret: bytes, otp: str, last: int) -> str:
+    """The token of a user whose one-time password is new, or nothing."""
+    tokens = yezdopin.tokens
+    step: int | None = tokens.find_totp(secret, otp, digest=hashlib.sha256, back=2)
+    counter: int | None = tokens.find_hotp(secret, otp.encode(), 0, 10, digest=yezdopin.sha1)
+    made: str = tokens.hotp(secret, counter or 0, digits=8) + tokens.totp(memoryview(secret), 59)
+    if step is None or step <= last or made == otp:
+        return ""
+    token: str = tokens.sign(bytearray(payload), key, "HS512")
+    again: bytes = tokens.verify(token.encode(), key, algorithm="HS512")
+    return token if again == payload else ""
+
+
 def names() -> set[str]:
     """The names of `hashlib` and `hmac` that are no calls."""
     pads: bytes = yezdopin.hmac.trans_36 + yezdopin.hmac.trans_5C

@@ -14,9 +14,10 @@
     ('ba7816bf', True)
 
 `yezdopin.hmac` has tags in the shape of `hmac`, `yezdopin.password_hash` writes and tests the
-password hashes of other systems, and `yezdopin.merkle` verifies proofs of transparency logs;
-`import yezdopin` gives all. Buffers are anything with bytes in one piece: `bytes`, `bytearray`,
-`memoryview`, arrays. What the library refuses raises `Error`, a `ValueError`.
+password hashes of other systems, `yezdopin.tokens` has signed tokens and one-time passwords, and
+`yezdopin.merkle` verifies proofs of transparency logs; `import yezdopin` gives all. Buffers are
+anything with bytes in one piece: `bytes`, `bytearray`, `memoryview`, arrays. What the library
+refuses raises `Error`, a `ValueError`.
 """
 
 from __future__ import annotations
@@ -46,6 +47,7 @@ from yezdopin._native import (
 from yezdopin import hmac as hmac
 from yezdopin import merkle as merkle
 from yezdopin import password_hash as password_hash
+from yezdopin import tokens as tokens
 
 __all__ = [
     "Digest",

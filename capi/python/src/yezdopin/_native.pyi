@@ -155,3 +155,33 @@ def merkle_verify_consistency(
 def merkle_root(leaves: Iterable[ReadableBuffer]) -> bytes: ...
 def merkle_inclusion_path(leaves: Iterable[ReadableBuffer], index: int) -> list[bytes]: ...
 def merkle_consistency_path(leaves: Iterable[ReadableBuffer], first_size: int) -> list[bytes]: ...
+def tokens_sign(payload: ReadableBuffer, key: ReadableBuffer, algorithm: str) -> str: ...
+def tokens_verify(token: ReadableBuffer, key: ReadableBuffer, algorithm: str) -> bytes: ...
+def tokens_hotp(
+    key: ReadableBuffer, counter: int, digits: int, digest: str | Callable[..., Digest]
+) -> str: ...
+def tokens_totp(
+    key: ReadableBuffer,
+    time: int,
+    digits: int,
+    digest: str | Callable[..., Digest],
+    interval: int,
+) -> str: ...
+def tokens_find_hotp(
+    key: ReadableBuffer,
+    otp: ReadableBuffer,
+    first: int,
+    count: int,
+    digits: int,
+    digest: str | Callable[..., Digest],
+) -> int | None: ...
+def tokens_find_totp(
+    key: ReadableBuffer,
+    otp: ReadableBuffer,
+    time: int,
+    back: int,
+    ahead: int,
+    digits: int,
+    digest: str | Callable[..., Digest],
+    interval: int,
+) -> int | None: ...

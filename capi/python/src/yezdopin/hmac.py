@@ -15,11 +15,11 @@ any other constructor, or module with `new`, it is made here, over objects of th
 
 from __future__ import annotations
 
-import hashlib
 import warnings
 from typing import TYPE_CHECKING, Any, Callable
 
 from yezdopin import _native
+from yezdopin._hashes import native_hash as _native_hash
 from yezdopin._native import compare_digest
 
 if TYPE_CHECKING:
@@ -43,20 +43,7 @@ trans_36 = bytes(byte ^ 0x36 for byte in range(256))
 trans_5C = bytes(byte ^ 0x5C for byte in range(256))
 digest_size = None
 
-# The constructors that stand for the library's hashes, each with what the extension takes for it.
-_KNOWN: list[tuple[Any, Any]] = [
-    *((it, it) for it in (_native.sha1, _native.sha256, _native.sha384, _native.sha512)),
-    (_native.sha512_256, _native.sha512_256),
-    *((getattr(hashlib, name), name) for name in ("sha1", "sha256", "sha384", "sha512")),
-]
 _LEAST_BLOCK = 16
-
-
-def _native_hash(digestmod: Any) -> Any:
-    """What the extension takes for a hash of the library, or None for another hash."""
-    if isinstance(digestmod, str):
-        return digestmod
-    return next((known for constructor, known in _KNOWN if constructor is digestmod), None)
 
 
 def _constructor(digestmod: Any) -> Callable[..., Any]:

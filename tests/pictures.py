@@ -41,6 +41,7 @@ PLANTED = (
     ("Python", "capi/python/src/yezdopin/hmac.py", '    "Key",\n', ""),
     ("Rust", "capi/rust/src/hkdf.rs", "    pub fn expand_label(", "    fn expand_label("),
     ("Rust", "capi/rust/src/lib.rs", "pub mod password_hash;", "mod password_hash;"),
+    ("Rust", "capi/rust/src/tokens.rs", "pub mod otp;", "mod otp;"),
     ("JavaScript", EXPORTS, "export const hkdfExpand:", "declare const hkdfExpand:"),
     ("JavaScript", TYPES, "  verify(text: Input,", "  verifyHash(text: Input,"),
     ("JavaScript", EXPORTS, "export const digest:", "export const restoreContext: () => void;\n"

@@ -29,7 +29,7 @@ REASONS = "capi/python/src/yezdopin/_errors.py"
 RUST = "capi/rust/src/calls.rs"
 RUST_TEXTS = "capi/rust/src/password_hash.rs"
 FOLDERS = {
-    "capi/rust/src": "*.rs", "capi/python/src/yezdopin": "*.py",
+    "capi/rust/src": "**/*.rs", "capi/python/src/yezdopin": "*.py",
     "capi/js/package": "*.js", "capi/js/test": "*.mjs",
 }
 
@@ -130,7 +130,7 @@ def constant_faults(texts, defined):
     patterns[".mjs"] = patterns[".js"]
     count = dict.fromkeys(FOLDERS, 0)
     for place, text in texts.items():
-        folder = place.rpartition("/")[0]
+        folder = next((it for it in FOLDERS if place.startswith(f"{it}/")), "")
         for it in re.finditer(patterns.get(pathlib.Path(place).suffix, r"(?!)"), text):
             name = "YZ_" + (it["name"] or "").removeprefix("YZ_")
             right = told.get(name) == int(it["number"])

@@ -40,12 +40,19 @@ def of_python(texts):
         yield from (front + name for it in lists for name in ast.literal_eval(it))
 
 
+def modules_of_rust(texts, above=""):
+    """The paths of the crate's public modules, or of those in one of them."""
+    text = texts[f"capi/rust/src/{above.rstrip('/') or 'lib'}.rs"]
+    for name in re.findall(r"^pub mod (\w+);", text, re.M):
+        yield above + name
+        yield from modules_of_rust(texts, f"{above}{name}/")
+
+
 def of_rust(texts):
     """What is public in the crate's public modules: functions, types, and methods behind types."""
-    public = re.findall(r"^pub mod (\w+);", texts["capi/rust/src/lib.rs"], re.M)
-    for module in public:
-        subject = ""
-        for it in RUST.finditer(SLASHES.sub("", texts[f"capi/rust/src/{module}.rs"])):
+    for path in modules_of_rust(texts):
+        module, subject = path.replace("/", "::"), ""
+        for it in RUST.finditer(SLASHES.sub("", texts[f"capi/rust/src/{path}.rs"])):
             subject = it["type"] or subject
             if it["name"]:
                 yield "::".join([module, *([subject] if it["inside"] else []), it["name"]])
@@ -76,7 +83,7 @@ def of_rattle(_texts):
 PACKAGES = {
     "C": (of_c, ["capi/include/yezdopin.h"]),
     "Python": (of_python, [f"capi/python/src/yezdopin/{it}.py" for it in ("__init__", "[a-z]*")]),
-    "Rust": (of_rust, ["capi/rust/src/*.rs"]),
+    "Rust": (of_rust, ["capi/rust/src/**/*.rs"]),
     "JavaScript": (of_javascript, ["capi/js/package/browser.d.ts", "capi/js/package/types.d.ts"]),
     "OpenSSL": (of_openssl, ["capi/openssl/*.c", "capi/openssl/*.h"]),
     "Rattle": (of_rattle, []),

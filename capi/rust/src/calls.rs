@@ -257,6 +257,67 @@ extern "C" {
         path_room: usize,
         path_count: *mut usize,
     ) -> i32;
+    pub fn yz_jws_sign(
+        algorithm: u32,
+        key: *const u8,
+        key_len: usize,
+        payload: *const u8,
+        payload_len: usize,
+        token: *mut u8,
+        token_room: usize,
+        token_len: *mut usize,
+    ) -> i32;
+    pub fn yz_jws_verify(
+        algorithm: u32,
+        key: *const u8,
+        key_len: usize,
+        token: *const u8,
+        token_len: usize,
+        payload: *mut u8,
+        payload_room: usize,
+        payload_len: *mut usize,
+    ) -> i32;
+    pub fn yz_hotp(
+        algorithm: u32,
+        key: *const u8,
+        key_len: usize,
+        counter: u64,
+        text: *mut u8,
+        digits: usize,
+    ) -> i32;
+    pub fn yz_totp(
+        algorithm: u32,
+        key: *const u8,
+        key_len: usize,
+        time: u64,
+        step: u32,
+        text: *mut u8,
+        digits: usize,
+    ) -> i32;
+    pub fn yz_hotp_find(
+        algorithm: u32,
+        key: *const u8,
+        key_len: usize,
+        first: u64,
+        count: u64,
+        digits: usize,
+        text: *const u8,
+        text_len: usize,
+        counter: *mut u64,
+    ) -> i32;
+    pub fn yz_totp_find(
+        algorithm: u32,
+        key: *const u8,
+        key_len: usize,
+        time: u64,
+        step: u32,
+        back: u32,
+        ahead: u32,
+        digits: usize,
+        text: *const u8,
+        text_len: usize,
+        counter: *mut u64,
+    ) -> i32;
     pub fn yz_equal(a: *const u8, a_len: usize, b: *const u8, b_len: usize) -> bool;
     fn yz_clear(bytes: *mut u8, bytes_len: usize);
 }

@@ -38,6 +38,7 @@ pub mod merkle;
 pub mod password_hash;
 pub mod pbkdf2;
 pub mod rand;
+pub mod tokens;
 
 /// The version of the library that is linked: the major number from bit 16 on, the minor from bit
 /// 8 on, and the patch's.

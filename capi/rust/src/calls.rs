@@ -7,31 +7,53 @@ pub const YZ_BAD_FORMAT: i32 = 5;
 pub const YZ_TOO_MANY_ITERATIONS: i32 = 6;
 pub const YZ_BAD_SALT: i32 = 7;
 
-#[repr(C)]
-#[derive(Clone, Copy)]
-pub struct DigestContext {
-    algorithm: u32,
-    num_pending: u32,
-    completed_low: u64,
-    completed_high: u64,
-    words: [u64; 8],
-    pending: [u8; 128],
+/// What is held by plain bytes, any of which are a value of it.
+///
+/// # Safety
+///
+/// The type has no padding, and any bytes are a value of it.
+pub unsafe trait Plain {}
+
+// Contexts and keys: numbers, with those of none, and the size in yezdopin.h, which is that of the
+// members.
+macro_rules! plain {
+    ($($name:ident of $size:literal { $($member:ident: $type:ty = $none:expr,)* })*) => {$(
+        #[repr(C)]
+        #[derive(Clone, Copy)]
+        pub struct $name {
+            $($member: $type,)*
+        }
+
+        impl $name {
+            pub const NONE: Self = $name { $($member: $none,)* };
+        }
+
+        const _: () = assert!(core::mem::size_of::<$name>() == $size);
+
+        // SAFETY: they are numbers without gaps between them.
+        unsafe impl Plain for $name {}
+    )*};
 }
 
-#[repr(C)]
-#[derive(Clone, Copy)]
-pub struct HmacKey {
-    algorithm: u32,
-    reserved: u32,
-    inner: [u64; 8],
-    outer: [u64; 8],
-}
-
-#[repr(C)]
-#[derive(Clone, Copy)]
-pub struct HmacContext {
-    inner: DigestContext,
-    outer: [u64; 8],
+plain! {
+    DigestContext of 216 {
+        algorithm: u32 = 0,
+        num_pending: u32 = 0,
+        completed_low: u64 = 0,
+        completed_high: u64 = 0,
+        words: [u64; 8] = [0; 8],
+        pending: [u8; 128] = [0; 128],
+    }
+    HmacKey of 136 {
+        algorithm: u32 = 0,
+        reserved: u32 = 0,
+        inner: [u64; 8] = [0; 8],
+        outer: [u64; 8] = [0; 8],
+    }
+    HmacContext of 280 {
+        inner: DigestContext = DigestContext::NONE,
+        outer: [u64; 8] = [0; 8],
+    }
 }
 
 /// A message of several, whose pointer is never NULL.
@@ -41,50 +63,7 @@ pub struct Message {
     pub len: usize,
 }
 
-impl DigestContext {
-    pub const NONE: Self = DigestContext {
-        algorithm: 0,
-        num_pending: 0,
-        completed_low: 0,
-        completed_high: 0,
-        words: [0; 8],
-        pending: [0; 128],
-    };
-}
-
-impl HmacKey {
-    pub const NONE: Self = HmacKey {
-        algorithm: 0,
-        reserved: 0,
-        inner: [0; 8],
-        outer: [0; 8],
-    };
-}
-
-impl HmacContext {
-    pub const NONE: Self = HmacContext {
-        inner: DigestContext::NONE,
-        outer: [0; 8],
-    };
-}
-
-/// What is held by plain bytes, any of which are a value of it.
-///
-/// # Safety
-///
-/// The type has no padding, and any bytes are a value of it.
-pub unsafe trait Plain {}
-
-// The sizes of yezdopin.h, which are those of the members.
-const _: () = assert!(core::mem::size_of::<DigestContext>() == 216);
-const _: () = assert!(core::mem::size_of::<HmacKey>() == 136);
-const _: () = assert!(core::mem::size_of::<HmacContext>() == 280);
 const _: () = assert!(core::mem::size_of::<Message>() == 16);
-
-// SAFETY: they are numbers without gaps between them.
-unsafe impl Plain for DigestContext {}
-unsafe impl Plain for HmacKey {}
-unsafe impl Plain for HmacContext {}
 
 /// Writes zeros over a value, by a call that no compiler leaves out.
 pub fn clear<T: Plain>(value: &mut T) {

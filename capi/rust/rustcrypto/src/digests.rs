@@ -2,9 +2,8 @@
 //! Digests (FIPS 180-4).
 
 use digest::consts::{U128, U20, U32, U48, U64};
-use digest::crypto_common::BlockSizeUser;
-use digest::{FixedOutput, FixedOutputReset, HashMarker, Output, OutputSizeUser, Reset, Update};
-use std::{fmt, io, mem};
+use digest::{FixedOutput, FixedOutputReset, HashMarker, Output, Reset, Update};
+use std::{io, mem};
 use yezdopin::digest::Context;
 
 macro_rules! digests {
@@ -22,22 +21,9 @@ macro_rules! digests {
             }
         }
 
-        // The message may be secret.
-        impl fmt::Debug for $name {
-            fn fmt(&self, f: &mut fmt::Formatter<'_>) -> fmt::Result {
-                f.debug_struct(stringify!($name)).finish_non_exhaustive()
-            }
-        }
+        lengths!($name, $output_len, $block_len);
 
         impl HashMarker for $name {}
-
-        impl OutputSizeUser for $name {
-            type OutputSize = $output_len;
-        }
-
-        impl BlockSizeUser for $name {
-            type BlockSize = $block_len;
-        }
 
         impl Update for $name {
             fn update(&mut self, data: &[u8]) {

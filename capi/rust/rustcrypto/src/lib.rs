@@ -40,6 +40,26 @@
 #![deny(missing_docs)]
 #![forbid(unsafe_code)]
 
+// What digests and tags have alike: their lengths, and Debug without the message, which may be
+// secret.
+macro_rules! lengths {
+    ($name:ident, $output_len:ty, $block_len:ty) => {
+        impl std::fmt::Debug for $name {
+            fn fmt(&self, f: &mut std::fmt::Formatter<'_>) -> std::fmt::Result {
+                f.debug_struct(stringify!($name)).finish_non_exhaustive()
+            }
+        }
+
+        impl digest::OutputSizeUser for $name {
+            type OutputSize = $output_len;
+        }
+
+        impl digest::crypto_common::BlockSizeUser for $name {
+            type BlockSize = $block_len;
+        }
+    };
+}
+
 mod digests;
 mod passwords;
 mod tags;

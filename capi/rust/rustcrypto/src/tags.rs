@@ -2,10 +2,10 @@
 //! Tags: HMAC (RFC 2104).
 
 use digest::consts::{U128, U20, U32, U48, U64};
-use digest::crypto_common::{BlockSizeUser, KeySizeUser};
+use digest::crypto_common::KeySizeUser;
 use digest::{FixedOutput, FixedOutputReset, InvalidLength, Key, KeyInit, MacMarker, Output};
-use digest::{OutputSizeUser, Reset, Update};
-use std::{fmt, mem};
+use digest::{Reset, Update};
+use std::mem;
 use yezdopin::hmac;
 
 macro_rules! tags {
@@ -33,21 +33,9 @@ macro_rules! tags {
             }
         }
 
-        impl fmt::Debug for $name {
-            fn fmt(&self, f: &mut fmt::Formatter<'_>) -> fmt::Result {
-                f.debug_struct(stringify!($name)).finish_non_exhaustive()
-            }
-        }
+        lengths!($name, $output_len, $block_len);
 
         impl MacMarker for $name {}
-
-        impl OutputSizeUser for $name {
-            type OutputSize = $output_len;
-        }
-
-        impl BlockSizeUser for $name {
-            type BlockSize = $block_len;
-        }
 
         // As `hmac::Hmac` has it: a key of a block's length is used as it is.
         impl KeySizeUser for $name {

@@ -18,7 +18,7 @@ from unittest import mock
 
 import yezdopin
 from shared import SIGNING, Foreign
-from yezdopin import tokens
+from yezdopin import _native, tokens
 
 VECTORS = pathlib.Path(__file__).resolve().parents[3] / "vectors" / "tokens"
 HASHES = {"HS256": "sha256", "HS384": "sha384", "HS512": "sha512"}
@@ -192,7 +192,19 @@ class Tokens(Case):
         self.assertEqual(tokens.sign(memoryview(b"payload"), bytearray(KEY)), token)
         for text in ("", b"", ".", "..", "...", "\ud800", "é.é.é", bytes(100), token + "\ud800"):
             self.is_no_token(text, KEY, "HS256")
-        self.assertRaises(BufferError, tokens.verify, memoryview(data)[::2], KEY)
+        self.is_no_token(memoryview(data)[::2], KEY, "HS256")
+        self.assertRaises(BufferError, tokens.sign, memoryview(data)[::2], KEY)
+        self.assertRaises(BufferError, tokens.totp, memoryview(KEY)[::2])
+
+    def test_written_meanwhile(self):
+        """A buffer that another thread may write is read once."""
+        data = bytearray(tokens.sign(bytes(10_000), KEY).encode())
+        seen = []
+        with mock.patch.object(_native, "tokens_verify", lambda token, *_: seen.append(token)):
+            tokens.verify(data, KEY)
+        data[50:60] = bytes(10)
+        self.assertEqual(tokens.verify(seen[0], KEY), bytes(10_000))
+        self.is_no_token(data, KEY, "HS256")
 
     def test_types(self):
         token = tokens.sign(b"payload", KEY)

@@ -48,6 +48,12 @@ def _bytes_of(text: str | _Buffer) -> _Buffer:
     return text.encode("utf-8", "surrogatepass") if isinstance(text, str) else text
 
 
+def _token_of(text: str | _Buffer) -> _Buffer:
+    """A token that stays as it is: what is decoded is what was verified, whatever other threads
+    write meanwhile."""
+    return memoryview(text).tobytes() if not isinstance(text, (bytes, str)) else _bytes_of(text)
+
+
 def _known(digest: _Hash) -> _Any:
     return _native_hash(digest) or digest
 
@@ -74,7 +80,7 @@ def verify(token: str | _Buffer, key: _Buffer, algorithm: str = "HS256") -> byte
     `{"typ":"JWT","alg":"HS256"}` or `{"alg":"HS256"}`, letter by letter, with the name of the
     algorithm, as most systems write it. It is read only once the signature is right.
     """
-    return _native.tokens_verify(_bytes_of(token), key, algorithm)
+    return _native.tokens_verify(_token_of(token), key, algorithm)
 
 
 def hotp(key: _Buffer, counter: int, *, digits: int = 6, digest: _Hash = "sha1") -> str:

@@ -28,6 +28,7 @@ from typing import TYPE_CHECKING
 from yezdopin import _native
 from yezdopin._errors import Error
 from yezdopin._saslprep import prepared as _prepared
+from yezdopin._texts import bytes_of as _bytes_of
 
 if TYPE_CHECKING:
     from _typeshed import ReadableBuffer as _Buffer
@@ -56,10 +57,6 @@ class Info(typing.NamedTuple):
 
     scheme: str
     iterations: int
-
-
-def _bytes_of(text: str | _Buffer) -> _Buffer:
-    return text.encode("utf-8", "surrogatepass") if isinstance(text, str) else text
 
 
 def _password_for(scheme: str, password: _Buffer) -> _Buffer:

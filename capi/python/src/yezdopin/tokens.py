@@ -32,6 +32,7 @@ from typing import TYPE_CHECKING
 
 from yezdopin import _native
 from yezdopin._hashes import native_hash as _native_hash
+from yezdopin._texts import bytes_of as _bytes_of
 
 if TYPE_CHECKING:
     from typing import Any as _Any
@@ -42,10 +43,6 @@ if TYPE_CHECKING:
     _Hash = str | _Callable[..., _Any]
 
 __all__ = ["find_hotp", "find_totp", "hotp", "sign", "totp", "verify"]
-
-
-def _bytes_of(text: str | _Buffer) -> _Buffer:
-    return text.encode("utf-8", "surrogatepass") if isinstance(text, str) else text
 
 
 def _token_of(text: str | _Buffer) -> _Buffer:

@@ -3,13 +3,11 @@
 use Rattle.std.proofs.Common.{◌≡◌, ◌+◌, ◌∷◌, ◌++◌, ◌∙◌, ℕ, zero, suc, false, List, [], ap, refl}
 use Rattle.std.proofs.Common.{replicate, sym}
 use Rattle.hex.specs.Hex.{IsBytes}
-use Rattle.base64.proofs.EngineFacts.{decode_of-encode_of}
 use Rattle.base64.proofs.RoundTrip.{decode-encode}
 use Rattle.base64.specs.Decode.{decoded_bytes}
 use Rattle.base64.specs.Engines.{standard, standard_no_pad}
-use Rattle.base64.specs.GeneralPurpose.{IsConsistent, decode_of, encode_of}
 use Rattle.base64.specs.declared.engine.DecodePaddingMode.TheVariants.{RequireNone}
-use Rattle.base64.specs.declared.engine.general_purpose.GeneralPurpose.{GeneralPurpose}
+use Rattle.ring_text.proofs.Base64.{encode_of-injective}
 use Rattle.ring_text.proofs.Cuts.{cut_same}
 use Rattle.ring_text.proofs.LowerHex.{encode_lower-injective}
 use Rattle.ring_password_hash.specs.Text.{IsEnd, adapted_symbols, field_then, written}
@@ -17,13 +15,6 @@ use Rattle.ring_password_hash.specs.declared.scheme.Encoding.{Encoding}
 use Rattle.ring_password_hash.specs.declared.scheme.Encoding.TheVariants.{Plain, Hex, Base64}
 use Rattle.ring_password_hash.specs.declared.scheme.Encoding.TheVariants.{Base64NoPad, Adapted}
 use Rattle.ring_password_hash.proofs.Symbols.{IsWithout-base64}
-
-encode_of-injective : (e : GeneralPurpose) → IsConsistent e → (xs ys : List ℕ) → IsBytes xs
-    → IsBytes ys → encode_of e xs ≡ encode_of e ys → xs ≡ ys
-encode_of-injective e consistent xs ys hx hy same =
-    let both = sym (decode_of-encode_of e xs consistent hx) ∙ ap (decode_of e) same
-    ∙ decode_of-encode_of e ys consistent hy in
-    cc both
 
 -- numbers in a row
 numbers_from : (first count : ℕ) → List ℕ

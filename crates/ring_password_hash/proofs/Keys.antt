@@ -1,11 +1,11 @@
 -- SPDX-License-Identifier: ISC
 -- SCRAM's two keys as one list of bytes.
-use Rattle.std.proofs.Common.{◌≡◌, ◌<◌, ◌+◌, ◌++◌, ◌∙◌, ℕ, Bool, true, false, List, [], ap}
-use Rattle.std.proofs.Common.{append-nil, arith, drop, inr, length, refl, subst, sym, take}
-use Rattle.std.proofs.lemmas.List.{drop_at, get_or-drop, length-take-le, take-append-drop, take_at}
+use Rattle.std.proofs.Common.{◌≡◌, ◌++◌, ◌∙◌, ℕ, Bool, true, false, List, [], ap}
+use Rattle.std.proofs.Common.{append-nil, arith, drop, inr, length, refl, sym, take}
+use Rattle.std.proofs.lemmas.List.{drop_at, length-take-le, take_at}
 use borrow.Rule.Slice.PartMut.{put_mid}
 use Rattle.hex.specs.Hex.{IsBytes}
-use Rattle.base64.proofs.EngineFacts.{front_bytes}
+use Rattle.ring_text.proofs.Base64.{bytes_front}
 use Rattle.ring_text.specs.Cut.{IsWithout}
 use Rattle.ring_password_hash.specs.Scheme.{IsRow, kept_encoding_of, row_of}
 use Rattle.ring_password_hash.specs.Text.{field_then, kept_by, kept_text, written}
@@ -16,14 +16,6 @@ use Rattle.ring_password_hash.specs.declared.scheme.Scheme.{Scheme}
 use Rattle.ring_password_hash.proofs.Fields.{base64_then-injective}
 use Rattle.ring_password_hash.proofs.Pieces.{take-put}
 use Rattle.ring_password_hash.proofs.Symbols.{IsWithout-base64}
-
--- the front of bytes is bytes, and so is the rest
-pub bytes_front : (n : ℕ) (xs : List ℕ) → IsBytes xs → IsBytes (take n xs)
-bytes_front n xs h =
-    front_bytes (take n xs) (drop n xs) (subst IsBytes (sym (take-append-drop n xs)) h)
-
-pub bytes_behind : (n : ℕ) (xs : List ℕ) → IsBytes xs → IsBytes (drop n xs)
-bytes_behind n xs h i = subst (λ (b : ℕ). b < 256) (sym (get_or-drop n xs i 0)) (h (n + i))
 
 -- the first key has no colon
 pub first_apart : (xs : List ℕ) → IsBytes xs → IsWithout 58 (written Base64 (take 32 xs))

@@ -1,53 +1,18 @@
 -- SPDX-License-Identifier: ISC
 -- The lengths of pieces, and what a call that writes one says of its room.
-use Rattle.std.proofs.Common.{◌≡◌, ◌≤◌, ◌<◌, ◌+◌, ◌*◌, ◌++◌, ◌∙◌, ℕ, Bool, true, false, List, []}
-use Rattle.std.proofs.Common.{ap, append_assoc, arith, inl, inr, length, sym, take}
-use Rattle.std.specs.Prelude.{Err, Ok, Result}
-use Rattle.std.proofs.lemmas.Bool.{cases_lt}
-use Rattle.std.proofs.lemmas.List.{length-append, length-replicate, length-take-le, take_at}
+use Rattle.std.proofs.Common.{◌≡◌, ◌≤◌, ◌+◌, ◌*◌, ◌++◌, ◌∙◌, ℕ, true, false, List}
+use Rattle.std.proofs.Common.{ap, append_assoc, arith, length, sym, take}
+use Rattle.std.proofs.lemmas.List.{length-append, length-take-le, take_at}
 use borrow.Rule.Slice.PartMut.{post_of, put_mid}
 use Rattle.hex.proofs.HexLemmas.{length-encode_with}
 use Rattle.hex.specs.Hex.{encode_lower, lower_digits}
-use Rattle.base64.proofs.RoundTrip.{length-encode_symbols}
 use Rattle.base64.specs.Engines.{standard, standard_no_pad}
-use Rattle.base64.specs.GeneralPurpose.{encode_of, encoded_size_of}
-use Rattle.base64.specs.Rfc4648.{encode, encode_symbols, encoded_size, padding_len}
-use Rattle.base64.specs.declared.engine.general_purpose.GeneralPurpose.{GeneralPurpose}
+use Rattle.base64.specs.Rfc4648.{encoded_size}
+use Rattle.ring_text.proofs.Base64.{length-encode, length-encode_of}
 use Rattle.ring_password_hash.specs.Text.{adapted_symbols, written}
 use Rattle.ring_password_hash.specs.declared.scheme.Encoding.{Encoding}
 use Rattle.ring_password_hash.specs.declared.scheme.Encoding.TheVariants.{Plain, Hex, Base64}
 use Rattle.ring_password_hash.specs.declared.scheme.Encoding.TheVariants.{Base64NoPad, Adapted}
-
-length-encode : (t m : List ℕ) (pad : ℕ) (padding : Bool)
-    → length (encode t pad padding m) ≡ encoded_size (length m) padding
-length-encode t m pad true =
-    let padded = length-replicate (padding_len (length m)) pad in
-    length-append (encode_symbols t m) _
-    ∙ omega (arith, length-encode_symbols t m, padded)
-length-encode t m pad false =
-    length-append (encode_symbols t m) [] ∙ omega (arith, length-encode_symbols t m)
-
-pub length-encode_of : (e : GeneralPurpose) (m : List ℕ)
-    → length (encode_of e m) ≡ encoded_size_of e (length m)
-length-encode_of e m = length-encode e.encode_table m e.padding.value e.config.encode_padding
-
--- what was written fits
-pub fitting : {E : Type 0} {r : Result ℕ E} {error : E} {n room len : ℕ} → (n ≤ room → r ≡ Ok n)
-    → (room < n → r ≡ Err error) → r ≡ Ok len → (len ≡ n) × (n ≤ room)
-fitting {n} {room} fits too_small ok =
-    elim (cases_lt room n) [
-      | inl less ↦ (let no = too_small less in cc (no, ok))
-      | inr few ↦ (let is = fits few in (cc (is, ok), few))
-    ]
-
--- what was not written does not fit
-pub no_fitting : {E : Type 0} {r : Result ℕ E} {error : E} {n room : ℕ} → (n ≤ room → r ≡ Ok n)
-    → r ≡ Err error → room < n
-no_fitting {n} {room} fits err =
-    elim (cases_lt room n) [
-      | inl less ↦ less
-      | inr few ↦ (let is = fits few in cc (is, err))
-    ]
 
 pub two_digits_each : (bytes : List ℕ) → length (encode_lower bytes) ≡ 2 * length bytes
 two_digits_each bytes = length-encode_with lower_digits bytes

@@ -12,6 +12,7 @@ use Rattle.hex.specs.Hex.{IsBytes}
 use Rattle.ring_text.proofs.Cuts.{NotAt, cut_same}
 use Rattle.ring_text.proofs.LowerHex.{IsWithout-hex}
 use Rattle.ring_text.specs.Cut.{IsWithout}
+use Rattle.ring_text.proofs.Base64.{bytes_behind, bytes_front}
 use Rattle.ring_password_hash.specs.Scheme.{keeps_keys, kept_encoding_of, salt_encoding_of}
 use Rattle.ring_password_hash.specs.Stored.{IsParts, IsReading, IsTextOf, Parts, is_salt, is_text}
 use Rattle.ring_password_hash.specs.Stored.{parts_text, text_of}
@@ -24,7 +25,7 @@ use Rattle.ring_password_hash.specs.declared.scheme.Scheme.{Scheme}
 use Rattle.ring_password_hash.specs.declared.text.Parameters.{Parameters}
 use Rattle.ring_password_hash.proofs.Fields.{base64-injective, written-injective}
 use Rattle.ring_password_hash.proofs.Heads.{head_then-injective}
-use Rattle.ring_password_hash.proofs.Keys.{bytes_behind, bytes_front, keys_read}
+use Rattle.ring_password_hash.proofs.Keys.{keys_read}
 use Rattle.ring_password_hash.proofs.SchemesApart.{same_scheme}
 use Rattle.ring_password_hash.proofs.Symbols.{IsWithout-adapted, IsWithout-base64}
 use Rattle.ring_password_hash.proofs.Symbols.{IsWithout-base64_no_pad}

@@ -15,6 +15,7 @@ use Rattle.std.proofs.lemmas.List.{length-append, length-drop, length-take}
 use Rattle.base64.specs.Engines.{standard, standard_no_pad}
 use Rattle.base64.proofs.RoundTrip.{length-encode_symbols}
 use Rattle.base64.specs.Rfc4648.{encode_symbols}
+use Rattle.ring_text.proofs.Base64.{length-encode_of}
 use Rattle.ring_password_hash.specs.Salt.{letters, salt_from}
 use Rattle.ring_password_hash.specs.Scheme.{count_end_of, count_mark, count_mark_of, keeps_keys}
 use Rattle.ring_password_hash.specs.Scheme.{kept_encoding_of, kept_len_of, names_len, prefix_of}
@@ -34,7 +35,7 @@ use Rattle.ring_password_hash.specs.declared.scheme.Scheme.TheVariants as scheme
 use Rattle.ring_password_hash.specs.declared.text.Parameters.{Parameters}
 use Rattle.ring_password_hash.specs.declared.text.Parameters.TheVariants.{Count, CountThenLen}
 use Rattle.ring_password_hash.proofs.Made.{length-derived_of}
-use Rattle.ring_password_hash.proofs.Pieces.{length-encode_of, two_digits_each}
+use Rattle.ring_password_hash.proofs.Pieces.{two_digits_each}
 use Rattle.ring_passwords.specs.Encode.{salt_of}
 
 length-letters : (count n : ℕ) → length (letters count n) ≡ count

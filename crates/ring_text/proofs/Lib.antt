@@ -2,3 +2,4 @@
 pub mod Cuts
 pub mod Numbers
 pub mod LowerHex
+pub mod Base64

@@ -1,15 +1,12 @@
 -- SPDX-License-Identifier: ISC
 -- A token is written part by part, and its length.
-use Rattle.std.proofs.Common.{◌≡◌, ◌≤◌, ◌<◌, ◌∙◌, ℕ, ◌+◌, List, [], ◌∷◌, ◌++◌}
-use Rattle.std.proofs.Common.{ap, append_assoc, arith, drop, inl, inr, length, sym, take}
-use Rattle.std.proofs.lemmas.Bool.{cases_lt}
-use Rattle.std.specs.Prelude.{Err, Ok, Result}
+use Rattle.std.proofs.Common.{◌≡◌, ◌≤◌, ◌∙◌, ℕ, ◌+◌, List, [], ◌∷◌, ◌++◌}
+use Rattle.std.proofs.Common.{ap, append_assoc, arith, drop, length, sym, take}
 use Rattle.std.proofs.lemmas.List.{append-nil, drop_all, length-append, length-drop, take_at}
 use Rattle.std.proofs.lemmas.Slice.{drop-append-drop}
-use Rattle.base64.proofs.RoundTrip.{length-encode_symbols}
 use Rattle.base64.specs.Engines.{url_safe_no_pad}
-use Rattle.base64.specs.GeneralPurpose.{engine_symbols}
-use Rattle.base64.specs.Rfc4648.{encode_symbols, unpadded_len}
+use Rattle.base64.specs.Rfc4648.{unpadded_len}
+use Rattle.ring_text.proofs.Base64.{length-encode_of}
 use Rattle.ring_tokens.specs.Alg.{hash_len}
 use Rattle.ring_tokens.specs.Header.{usual_header}
 use Rattle.ring_tokens.specs.Jws.{base64url, compact, signing_input, usual_token_len}
@@ -18,9 +15,7 @@ use Rattle.ring_tokens.specs.declared.alg.Alg.{Alg}
 use Rattle.ring_tokens.specs.declared.alg.Alg.TheVariants.{Hs256, Hs384, Hs512}
 
 pub length_base64url : (m : List ℕ) → length (base64url m) ≡ unpadded_len (length m)
-length_base64url m =
-    length-append (encode_symbols (engine_symbols url_safe_no_pad) m) []
-    ∙ omega (arith, length-encode_symbols (engine_symbols url_safe_no_pad) m)
+length_base64url = length-encode_of url_safe_no_pad
 
 -- the usual header has 36 bytes as base64url
 pub length_usual : (a : Alg) → length (base64url (usual_header a)) ≡ 36
@@ -100,15 +95,6 @@ module _ (a : Alg) (p s old mid new : List ℕ) (at end : ℕ)
       → last ≡ usual_token_len a (length p)
   signed_end last out put more len =
       omega (arith, more.place, put.place, one.0, length_input a p, length_base64url s, len)
-
--- what was encoded fits
-pub fitting : {E : Type 0} {r : Result ℕ E} {error : E} {n room len : ℕ} → (n ≤ room → r ≡ Ok n)
-    → (room < n → r ≡ Err error) → r ≡ Ok len → len ≡ n
-fitting {n} {room} fits too_small ok =
-    elim (cases_lt room n) [
-      | inl less ↦ (let no = too_small less in cc (no, ok))
-      | inr few ↦ (let is = fits few in cc (is, ok))
-    ]
 
 -- a buffer of the token's length is the token
 pub whole_over : (token old new : List ℕ) (n : ℕ) → new ≡ token ++ drop n old → length old ≤ n

@@ -1,12 +1,12 @@
 -- SPDX-License-Identifier: ISC
 use Rattle.std.proofs.Common.{◌≡◌, ◌∙◌, ℕ, ap, arith, length, refl, subst, sym, take, true≢false}
 use Rattle.std.proofs.lemmas.List.{length-take-le}
+use Rattle.ring_text.proofs.Base64.{bytes_front}
 use Rattle.ring_password_hash.specs.Scheme.{salt_encoding_of}
 use Rattle.ring_password_hash.specs.Stored.{IsTextOf, is_salt, parts_text}
 use Rattle.ring_password_hash.specs.Text.{IsLen, field_then, head_then, kept_text}
 use Rattle.ring_password_hash.specs.declared.scheme.Encoding.{Encoding}
 use Rattle.ring_password_hash.proofs.Heads.{keys_len, rest_within}
-use Rattle.ring_password_hash.proofs.Keys.{bytes_front}
 use Rattle.ring_password_hash.proofs.Values.{head_read, own_text, parts_at, salt_apart_by}
 use Rattle.ring_password_hash.proofs.Values.{salt_read}
 use Rattle.ring_password_hash.proofs.stored.read_as.Goals as goal

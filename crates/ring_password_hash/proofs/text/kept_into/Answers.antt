@@ -2,9 +2,10 @@
 use Rattle.std.proofs.Common.{◌≡◌, ◌∙◌, ℕ, ap, arith, length, refl, sym, take}
 use Rattle.std.proofs.lemmas.Bool.{eq-eqb, eqb-true}
 use Rattle.std.proofs.lemmas.List.{length-take-le}
+use Rattle.ring_text.proofs.Base64.{bytes_front}
 use Rattle.ring_password_hash.specs.Text.{kept_text}
 use Rattle.ring_password_hash.proofs.Fields.{written-injective}
-use Rattle.ring_password_hash.proofs.Keys.{bytes_front, kept_as}
+use Rattle.ring_password_hash.proofs.Keys.{kept_as}
 use Rattle.ring_password_hash.proofs.text.kept_into.Goals as goal
 
 pub returns-in-Some-clause-refused : goal.returns-in-Some-clause-refused

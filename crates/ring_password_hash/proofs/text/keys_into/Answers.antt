@@ -1,11 +1,11 @@
 -- SPDX-License-Identifier: ISC
 use Rattle.std.proofs.Common.{◌≡◌, ◌∙◌, ℕ, ap, arith, drop, length, refl, sym, take}
 use Rattle.std.proofs.lemmas.List.{length-drop, length-take-le}
+use Rattle.ring_text.proofs.Base64.{bytes_behind, bytes_front}
 use Rattle.ring_password_hash.specs.Text.{field_then, written}
 use Rattle.ring_password_hash.specs.declared.scheme.Encoding.TheVariants.{Base64}
 use Rattle.ring_password_hash.proofs.Fields.{base64-injective}
-use Rattle.ring_password_hash.proofs.Keys.{bytes_behind, bytes_front, first_apart, keys_copied}
-use Rattle.ring_password_hash.proofs.Keys.{keys_read}
+use Rattle.ring_password_hash.proofs.Keys.{first_apart, keys_copied, keys_read}
 use Rattle.ring_password_hash.proofs.text.keys_into.Goals as goal
 
 pub returns-in_default-clause-refused : goal.returns-in_default-clause-refused

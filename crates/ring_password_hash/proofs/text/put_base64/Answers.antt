@@ -1,7 +1,8 @@
 -- SPDX-License-Identifier: ISC
 use Rattle.std.proofs.Common.{◌-◌, arith}
 use Rattle.base64.specs.GeneralPurpose.{encode_of}
-use Rattle.ring_password_hash.proofs.Pieces.{fitting, length-encode_of, no_fitting, take-put}
+use Rattle.ring_text.proofs.Base64.{fitting, length-encode_of, no_fitting}
+use Rattle.ring_password_hash.proofs.Pieces.{take-put}
 use Rattle.ring_password_hash.proofs.text.put_base64.Goals as goal
 
 pub overflow_add-result : goal.overflow_add-result

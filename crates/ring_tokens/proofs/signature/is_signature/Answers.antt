@@ -5,7 +5,8 @@ use Rattle.ring.specs.Prelude.{compared_pairs, key_algorithm, output_len, raised
 use Rattle.ring_tokens.specs.Alg.{algorithm_of, hash_len, text_len}
 use Rattle.ring_tokens.specs.Cost.{tag_blocks}
 use Rattle.ring_tokens.specs.Jws.{alg_of, base64url}
-use Rattle.ring_tokens.proofs.Puts.{fitting, length_base64url}
+use Rattle.ring_text.proofs.Base64.{fitting}
+use Rattle.ring_tokens.proofs.Puts.{length_base64url}
 use Rattle.ring_tokens.proofs.Rises.{rise_compared}
 use Rattle.ring_tokens.proofs.signature.is_signature.Goals as goal
 

@@ -7,4 +7,5 @@ pub mod Dates
 pub mod Items
 pub mod Written
 pub mod Puts
+pub mod Pieces
 pub mod Rises

@@ -15,6 +15,12 @@ use Rattle.ring_tokens.specs.declared.key.Key.{Key}
 abbrev pub base64url : List ℕ → List ℕ
 base64url octets = encode_of url_safe_no_pad octets
 
+-- the text is the base64url of bytes: no padding, and no bits that no byte has
+pub record IsBase64url (text : List ℕ) : Type 0 where
+  pub octets : List ℕ
+  pub are : IsBytes octets
+  pub is : text ≡ base64url octets
+
 -- a part of a token, a full stop, and the rest
 abbrev pub part_then : (octets rest : List ℕ) → List ℕ
 part_then octets rest = base64url octets ++ 46 ∷ rest

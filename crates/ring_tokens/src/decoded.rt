@@ -1,15 +1,18 @@
 // SPDX-License-Identifier: ISC
 //! The parts of a token as bytes.
 
-ghost use Rattle.std.specs.Prelude.{◌≡◌, ◌≢◌, ◌⊎◌, ℕ, ◌+◌, ◌≤◌, List, drop, length, take, IfErr};
-ghost use Rattle.std.specs.Prelude.{IfOk, IfSome, IsErrOf, IsNone};
+ghost use Rattle.std.specs.Prelude.{◌≡◌, ◌≢◌, ◌↔◌, ◌⊎◌, ℕ, ◌+◌, ◌≤◌, List, drop, length, take};
+ghost use Rattle.std.specs.Prelude.{IfErr, IfOk, IfSome, IsErrOf, IsNone, IsTrue};
 ghost use Rattle.hex.specs.Hex.{IsBytes};
-ghost use Rattle.ring_tokens.specs.Jws.{base64url};
+ghost use Rattle.ring_tokens.specs.Jws.{IsBase64url, base64url};
 
 use crate::error::TokenError;
 use base64::DecodeAllocError;
 use base64::engine::general_purpose::URL_SAFE_NO_PAD;
 use std::alloc::Allocator;
+
+// The symbols that are decoded at a time, where a text is only tested: whole groups of four.
+const PIECE_LEN: usize = 64;
 
 /// The bytes of a part's whole text.
 pub(crate) fn decode<A: Allocator>(alloc: A, text: &[u8]) -> Result<Vec<u8, A>, TokenError>
@@ -25,18 +28,60 @@ pub(crate) fn decode<A: Allocator>(alloc: A, text: &[u8]) -> Result<Vec<u8, A>, 
     }
 }
 
-/// Decodes a payload to the start of `out`. Returns how many bytes it is.
+// Decodes a text to the start of `out`, which may have other bytes where it is no base64url.
+fn decode_over(text: &[u8], out: &mut [u8]) -> Option<usize>
+    requires { length text.now + 2 ≤ length out.old }
+    ensures within { IfSome result (λ n. n ≤ length out.old) }
+    ensures bytes { IfSome result (λ n. IsBytes (take n out.new)) }
+    ensures ok { IfSome result (λ n. text.now ≡ base64url (take n out.new)) }
+    ensures behind { IfSome result (λ n. drop n out.new ≡ drop n out.old) }
+    ensures refused { IsNone result → IsBase64url text.now → ⊥ }
+{
+    match URL_SAFE_NO_PAD.decode_slice_unchecked(text, out) {
+        Ok(len) => Some(len),
+        Err(_) => None,
+    }
+}
+
+// Whether so many symbols or fewer are the base64url of bytes.
+fn is_piece(text: &[u8]) -> bool
+    requires { length text.now ≤ 64 }
+    ensures { IsTrue result ↔ IsBase64url text.now }
+{
+    match decode_over(text, &mut [0; PIECE_LEN + 2]) {
+        Some(_) => true,
+        None => false,
+    }
+}
+
+// Whether the text is the base64url of bytes.
+fn is_base64url(text: &[u8]) -> bool
+    ensures { IsTrue result ↔ IsBase64url text.now }
+{
+    let mut rest = text;
+    'pieces: while rest.len() > PIECE_LEN {
+        let (piece, behind) = rest.split_at(PIECE_LEN);
+        if !is_piece(piece) {
+            return false;
+        }
+        rest = behind;
+    }
+    is_piece(rest)
+}
+
+/// Decodes a payload to the start of `out`, and returns how many bytes it is. The whole text is
+/// tested first, so that a refusal leaves `out` as it was.
 pub(crate) fn decode_into(text: &[u8], out: &mut [u8]) -> Option<usize>
     requires { length text.now + 2 ≤ length out.old }
     ensures within { IfSome result (λ n. n ≤ length out.old) }
     ensures bytes { IfSome result (λ n. IsBytes (take n out.new)) }
     ensures ok { IfSome result (λ n. text.now ≡ base64url (take n out.new)) }
     ensures behind { IfSome result (λ n. drop n out.new ≡ drop n out.old) }
-    ensures refused { IsNone result → (bytes : List ℕ) → IsBytes bytes
-        → text.now ≢ base64url bytes }
+    ensures refused { IsNone result → IsBase64url text.now → ⊥ }
+    ensures unchanged { IsNone result → out.new ≡ out.old }
 {
-    match URL_SAFE_NO_PAD.decode_slice_unchecked(text, out) {
-        Ok(len) => Some(len),
-        Err(_) => None,
+    if !is_base64url(text) {
+        return None;
     }
+    decode_over(text, out)
 }

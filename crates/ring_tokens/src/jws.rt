@@ -16,7 +16,7 @@ ghost use Rattle.std.specs.Prelude.{take, IfErr, IfOk, IfSome, IsErrOf, IsNone, 
 ghost use Rattle.ring.specs.Prelude.{raised};
 ghost use Rattle.ring_tokens.specs.Cost.{HasVerified, signed_blocks};
 ghost use Rattle.ring_tokens.specs.Header.{usual_header};
-ghost use Rattle.ring_tokens.specs.InPlace.{IsUnsigned, IsUsual};
+ghost use Rattle.ring_tokens.specs.InPlace.{IsUsual};
 ghost use Rattle.ring_tokens.specs.Jws.{CanSign, IsJws, IsKey, IsTokenUnder, alg_of, signing_input};
 ghost use Rattle.ring_tokens.specs.Jws.{usual_token, usual_token_len};
 
@@ -99,12 +99,10 @@ pub fn verify_in_place_counted(
         → IsTokenUnder (alg_of key.now) k h token.now p → ⊥ }
     ensures no_room { IsErrOf result TokenError.NoRoom ↔ (length out.old < length token.now) }
     ensures refused { IfErr result (λ e. (e ≡ TokenError.Invalid) ⊎ (e ≡ TokenError.NoRoom)) }
-    ensures unchanged { length out.old < length token.now
-        → (out.new ≡ out.old) × (meter.new ≡ meter.old) }
-    ensures unsigned { (k : List ℕ) → IsKey key.now k
-        → IsUnsigned (alg_of key.now) k token.now → out.new ≡ out.old }
+    ensures unchanged { OnErr result (out.new ≡ out.old) }
     ensures cost { length token.now ≤ length out.old
         → HasVerified (alg_of key.now) token.now meter.old meter.new }
+    ensures cost_untested { length out.old < length token.now → meter.new ≡ meter.old }
 {
     if out.len() < token.len() {
         return Err(TokenError::NoRoom);
@@ -126,9 +124,8 @@ pub fn verify_in_place_counted(
 /// `{"alg":..,"typ":"JWT"}`, `{"typ":"JWT","alg":..}` or `{"alg":..}` letter by letter, as most
 /// systems write it.
 ///
-/// Refused as `NoRoom` exactly if `out` is shorter than the token; `out` is then as it was. Else
-/// refused as `Invalid` exactly if the text is no token of `key` under one of these headers;
-/// `out` may then have other bytes, but only if the signature is the key's.
+/// Refused as `NoRoom` exactly if `out` is shorter than the token, and else as `Invalid` exactly if
+/// the text is no token of `key` under one of these headers. `out` is then as it was.
 pub fn verify_in_place(token: &[u8], key: &Key, out: &mut [u8]) -> Result<usize, TokenError>
     ensures within { IfOk result (λ n. n ≤ length out.old) }
     ensures ok { (k : List ℕ) → IsKey key.now k
@@ -139,9 +136,7 @@ pub fn verify_in_place(token: &[u8], key: &Key, out: &mut [u8]) -> Result<usize,
         → IsTokenUnder (alg_of key.now) k h token.now p → ⊥ }
     ensures no_room { IsErrOf result TokenError.NoRoom ↔ (length out.old < length token.now) }
     ensures refused { IfErr result (λ e. (e ≡ TokenError.Invalid) ⊎ (e ≡ TokenError.NoRoom)) }
-    ensures unchanged { length out.old < length token.now → out.new ≡ out.old }
-    ensures unsigned { (k : List ℕ) → IsKey key.now k
-        → IsUnsigned (alg_of key.now) k token.now → out.new ≡ out.old }
+    ensures unchanged { OnErr result (out.new ≡ out.old) }
 {
     verify_in_place_counted(token, key, out, &mut Meter::new())
 }

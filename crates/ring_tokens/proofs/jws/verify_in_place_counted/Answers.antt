@@ -1,8 +1,6 @@
 -- SPDX-License-Identifier: ISC
-use Rattle.std.proofs.Common.{ap, refl, take, ◌∙◌}
-use Rattle.ring.specs.Prelude.{hmac_of}
-use Rattle.ring_tokens.specs.Alg.{algorithm_of}
-use Rattle.ring_tokens.specs.Jws.{alg_of, base64url}
+use Rattle.std.proofs.Common.{refl, take}
+use Rattle.ring_tokens.specs.Jws.{alg_of}
 use Rattle.ring_tokens.proofs.Tokens.{header_is, payload_is, token_under}
 use Rattle.ring_tokens.proofs.Usual.{header_of, octets_of, text_of, valid_of}
 use Rattle.ring_tokens.proofs.jws.verify_in_place_counted.Goals as goal
@@ -22,8 +20,11 @@ returns-then-not-is_usual_text-clause-invalid c = λ k key _ h p usual w.
 pub returns-in-None-clause-invalid : goal.returns-in-None-clause-invalid
 returns-in-None-clause-invalid c = λ k key _ h p usual w.
     let a = alg_of c.args.key.now in
-    c.in-None.ensures.refused refl p w.octets
-    (payload_is c.in-Some.ensures.parts (octets_of a h usual) w)
+    c.in-None.ensures.refused refl (record {
+      octets = p;
+      are = w.octets;
+      is = payload_is c.in-Some.ensures.parts (octets_of a h usual) w;
+    })
 
 pub returns-in-Some-decode_into-clause-ok : goal.returns-in-Some-decode_into-clause-ok
 returns-in-Some-decode_into-clause-ok c = λ k key.
@@ -35,17 +36,3 @@ returns-in-Some-decode_into-clause-ok c = λ k key.
     valid_of header.1 (token_under c.in-Some.ensures.parts a k header.0 p
     c.in-Some-decode_into.ensures.bytes header.2 c.in-Some-decode_into.ensures.ok signed.0
     signed.1)
-
-pub returns-in-None-clause-unsigned : goal.returns-in-None-clause-unsigned
-returns-in-None-clause-unsigned c = λ k key no.
-    let at = c.in-Some.ensures.parts in
-    let a = algorithm_of (alg_of c.args.key.now) in
-    absurd (no _ _ _ at.cut ((c.in-Some.ensures.ok k key).1
-    ∙ ap (λ m. base64url (hmac_of a k m)) at.input))
-
-pub returns-in-Some-decode_into-clause-unsigned : goal.returns-in-Some-decode_into-clause-unsigned
-returns-in-Some-decode_into-clause-unsigned c = λ k key no.
-    let at = c.in-Some.ensures.parts in
-    let a = algorithm_of (alg_of c.args.key.now) in
-    absurd (no _ _ _ at.cut ((c.in-Some.ensures.ok k key).1
-    ∙ ap (λ m. base64url (hmac_of a k m)) at.input))

@@ -1,10 +1,10 @@
 -- SPDX-License-Identifier: ISC
-use Rattle.std.proofs.Common.{arith, refl, subst, sym}
-use Rattle.std.proofs.lemmas.List.{take-append-drop}
+use Rattle.std.proofs.Common.{arith, refl}
 use Rattle.base64.specs.Engines.{url_safe_no_pad}
 use Rattle.base64.specs.GeneralPurpose.{IsBytes}
-use Rattle.base64.proofs.EngineFacts.{decode_of_iff, decode_of_strict, front_bytes}
-use Rattle.ring_tokens.proofs.decoded.decode_into.Goals as goal
+use Rattle.base64.proofs.EngineFacts.{decode_of_iff, decode_of_strict}
+use Rattle.ring_text.proofs.Base64.{bytes_front}
+use Rattle.ring_tokens.proofs.decoded.decode_over.Goals as goal
 
 pub returns-in-Ok-clause-ok : goal.returns-in-Ok-clause-ok
 returns-in-Ok-clause-ok c =
@@ -13,13 +13,12 @@ returns-in-Ok-clause-ok c =
 
 pub returns-in-Ok-clause-bytes : goal.returns-in-Ok-clause-bytes
 returns-in-Ok-clause-bytes c =
-    let out = c.decode_slice_unchecked.new.output in
-    let n = c.in-Ok.len in
-    let bytes : IsBytes out = λ i. let f = c.type_inv.out i in omega arith in
-    front_bytes _ _ (subst IsBytes (sym (take-append-drop n out)) bytes)
+    bytes_front c.in-Ok.len c.decode_slice_unchecked.new.output
+    (λ i. let f = c.type_inv.out i in omega arith)
 
 pub returns-in-Err-clause-refused : goal.returns-in-Err-clause-refused
-returns-in-Err-clause-refused c = λ _ bytes h e.
+returns-in-Err-clause-refused c = λ _ w.
     let text : IsBytes c.args.text.now = λ i. let f = c.type_inv.text i in omega arith in
-    let read = (decode_of_iff url_safe_no_pad c.args.text.now bytes (refl, refl) text h).1 e in
+    let read = (decode_of_iff url_safe_no_pad c.args.text.now w.octets (refl, refl) text w.are).1
+    w.is in
     cc (read, c.in-Err.ensures.err)

@@ -66,35 +66,39 @@ length_over front n old new is fits =
     ap length is.1 ∙ length-append front (drop n old)
     ∙ omega (arith, length-drop n old, is.0, fits)
 
--- behind what is signed there is room for a full stop and the signature
-module _ (a : Alg) (p s old mid new : List ℕ) (at end : ℕ)
-    (one : (at ≡ length (signing_input (usual_header a) p))
-    × (mid ≡ signing_input (usual_header a) p ++ drop at old))
-    (room : usual_token_len a (length p) ≤ length old) where
+-- what is signed was written to a buffer that has room for the token
+pub record IsLaid (a : Alg) (p old mid : List ℕ) (at : ℕ) : Type 0 where
+  pub place : at ≡ length (signing_input (usual_header a) p)
+  pub bytes : mid ≡ signing_input (usual_header a) p ++ drop at old
+  pub room : usual_token_len a (length p) ≤ length old
+
+-- behind it there is room for a full stop and the signature
+module _ {a : Alg} {p old mid : List ℕ} {at : ℕ} (laid : IsLaid a p old mid at) where
+  laid_len : length (signing_input (usual_header a) p) ≡ 37 + unpadded_len (length p)
+  laid_len = length_input a p
+
   pub room_stop : at + 1 ≤ length mid
   room_stop =
-      let fits : at ≤ length old = omega (arith, one.0, length_input a p, room) in
-      omega (
-        arith,
-        length_over (signing_input (usual_header a) p) at old mid one fits,
-        one.0,
-        length_input a p,
-        room,
-      )
+      let fits : at ≤ length old = omega (arith, laid.place, laid_len, laid.room) in
+      let over = length_over (signing_input (usual_header a) p) at old mid
+      (laid.place, laid.bytes) fits in
+      omega (arith, over, laid.place, laid_len, laid.room)
 
-  pub room_signature : IsPut at end (46 ∷ []) mid new → length s ≡ hash_len a
-      → end + unpadded_len (length s) ≤ length new
-  room_signature put len =
-      let two = put_next old (signing_input (usual_header a) p) (46 ∷ []) one put in
-      let fits : end ≤ length old = omega (arith, put.place, one.0, length_input a p, room) in
-      let over = length_over (signing_input (usual_header a) p ++ 46 ∷ []) end old new two fits in
-      omega (arith, over, put.place, one.0, length_input a p, room, len)
+  pub room_signature : (s : List ℕ) {new : List ℕ} {end : ℕ} → IsPut at end (46 ∷ []) mid new
+      → length s ≡ hash_len a → end + unpadded_len (length s) ≤ length new
+  room_signature s {new} {end} put len =
+      let input = signing_input (usual_header a) p in
+      let two = put_next old input (46 ∷ []) (laid.place, laid.bytes) put in
+      let fits : end ≤ length old =
+      omega (arith, put.place, laid.place, laid_len, laid.room) in
+      let over = length_over (input ++ 46 ∷ []) end old new two fits in
+      omega (arith, over, put.place, laid.place, laid_len, laid.room, len)
 
-  pub signed_end : (last : ℕ) (out : List ℕ) → IsPut at end (46 ∷ []) mid new
+  pub signed_end : (s : List ℕ) {new out : List ℕ} {end last : ℕ} → IsPut at end (46 ∷ []) mid new
       → IsPut end last (base64url s) new out → length s ≡ hash_len a
       → last ≡ usual_token_len a (length p)
-  signed_end last out put more len =
-      omega (arith, more.place, put.place, one.0, length_input a p, length_base64url s, len)
+  signed_end s put more len =
+      omega (arith, more.place, put.place, laid.place, laid_len, length_base64url s, len)
 
 -- a buffer of the token's length is the token
 pub whole_over : (token old new : List ℕ) (n : ℕ) → new ≡ token ++ drop n old → length old ≤ n

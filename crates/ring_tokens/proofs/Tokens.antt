@@ -151,36 +151,27 @@ no_beginning {a} {k} {token} {p} {q} rest one two =
         let s : length (t ++ rest) ≡ length t + length rest = length-append t rest in
         omega (arith, l, s)
 
+-- what is signed is within HMAC's limit, and its signature stands behind it
+abbrev pub IsSigned : Alg → (k : List ℕ) → Parts → Type 0
+IsSigned a k q = IsTagWithin (algorithm_of a) (length q.input.now)
+    × (q.signature.now ≡ base64url (hmac_of (algorithm_of a) k q.input.now))
+
 -- a token whose parts are those of a header, a payload and its signature
 pub token_under : {token : List ℕ} {q : Parts} → AreParts token q → (a : Alg) (k h p : List ℕ)
-    → IsBytes p → q.header.now ≡ base64url h → q.payload.now ≡ base64url p
-    → IsTagWithin (algorithm_of a) (length q.input.now)
-    → q.signature.now ≡ base64url (hmac_of (algorithm_of a) k q.input.now)
+    → q.header.now ≡ base64url h → (q.payload.now ≡ base64url p) × IsBytes p → IsSigned a k q
     → IsTokenUnder a k h token p
-token_under {token} {q} at a k h p octets header payload within signature =
+token_under {token} {q} at a k h p header payload is =
     let input : q.input.now ≡ signing_input h p =
-    at.input ∙ ap (λ t. t ++ 46 ∷ q.payload.now) header ∙ ap (part_then h) payload in
+    at.input ∙ ap (λ t. t ++ 46 ∷ q.payload.now) header ∙ ap (part_then h) payload.0 in
     let signed : q.signature.now ≡ base64url (signature_of a k h p) =
-    signature ∙ ap (λ m. base64url (hmac_of (algorithm_of a) k m)) input in
+    is.1 ∙ ap (λ m. base64url (hmac_of (algorithm_of a) k m)) input in
     record {
-      octets = octets;
+      octets = payload.1;
       parts = at.cut.whole ∙ ap (λ t. t ++ 46 ∷ (q.payload.now ++ 46 ∷ q.signature.now)) header
-          ∙ ap (λ t. part_then h (t ++ 46 ∷ q.signature.now)) payload
+          ∙ ap (λ t. part_then h (t ++ 46 ∷ q.signature.now)) payload.0
           ∙ ap (λ t. part_then h (part_then p t)) signed;
-      within = subst (λ m. IsTagWithin (algorithm_of a) (length m)) input within;
+      within = subst (λ m. IsTagWithin (algorithm_of a) (length m)) input is.0;
     }
-
--- and where the header is accepted, it is valid
-pub valid_parts : {token : List ℕ} {q : Parts} → AreParts token q → (a : Alg) (k h p : List ℕ)
-    → IsBytes h → IsBytes p → q.header.now ≡ base64url h → q.payload.now ≡ base64url p
-    → IsHeader a h → IsTagWithin (algorithm_of a) (length q.input.now)
-    → q.signature.now ≡ base64url (hmac_of (algorithm_of a) k q.input.now) → IsJws a k token p
-valid_parts at a k h p header_octets octets header payload accepted within signature = record {
-  header = h;
-  header_octets = header_octets;
-  signed = token_under at a k h p octets header payload within signature;
-  accepted = accepted;
-}
 
 pub if_ok_map : {T E : Type 0} (r : Result T E) {P Q : T → Type 0} → ((x : T) → P x → Q x)
     → IfOk r P → IfOk r Q

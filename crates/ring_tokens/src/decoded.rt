@@ -1,9 +1,10 @@
 // SPDX-License-Identifier: ISC
 //! The parts of a token as bytes.
 
-ghost use Rattle.std.specs.Prelude.{◌≡◌, ◌≢◌, ◌↔◌, ◌⊎◌, ℕ, ◌+◌, ◌≤◌, List, drop, length, take};
+ghost use Rattle.std.specs.Prelude.{◌≡◌, ◌≢◌, ◌↔◌, ◌⊎◌, ℕ, ◌+◌, ◌≤◌, List, length};
 ghost use Rattle.std.specs.Prelude.{IfErr, IfOk, IfSome, IsErrOf, IsNone, IsTrue};
 ghost use Rattle.hex.specs.Hex.{IsBytes};
+ghost use Rattle.ring_tokens.specs.InPlace.{IsDecoded};
 ghost use Rattle.ring_tokens.specs.Jws.{IsBase64url, base64url};
 
 use crate::error::TokenError;
@@ -31,10 +32,7 @@ pub(crate) fn decode<A: Allocator>(alloc: A, text: &[u8]) -> Result<Vec<u8, A>, 
 // Decodes a text to the start of `out`, which may have other bytes where it is no base64url.
 fn decode_over(text: &[u8], out: &mut [u8]) -> Option<usize>
     requires { length text.now + 2 ≤ length out.old }
-    ensures within { IfSome result (λ n. n ≤ length out.old) }
-    ensures bytes { IfSome result (λ n. IsBytes (take n out.new)) }
-    ensures ok { IfSome result (λ n. text.now ≡ base64url (take n out.new)) }
-    ensures behind { IfSome result (λ n. drop n out.new ≡ drop n out.old) }
+    ensures ok { IfSome result (λ n. IsDecoded text.now n out.old out.new) }
     ensures refused { IsNone result → IsBase64url text.now → ⊥ }
 {
     match URL_SAFE_NO_PAD.decode_slice_unchecked(text, out) {
@@ -73,10 +71,7 @@ fn is_base64url(text: &[u8]) -> bool
 /// tested first, so that a refusal leaves `out` as it was.
 pub(crate) fn decode_into(text: &[u8], out: &mut [u8]) -> Option<usize>
     requires { length text.now + 2 ≤ length out.old }
-    ensures within { IfSome result (λ n. n ≤ length out.old) }
-    ensures bytes { IfSome result (λ n. IsBytes (take n out.new)) }
-    ensures ok { IfSome result (λ n. text.now ≡ base64url (take n out.new)) }
-    ensures behind { IfSome result (λ n. drop n out.new ≡ drop n out.old) }
+    ensures ok { IfSome result (λ n. IsDecoded text.now n out.old out.new) }
     ensures refused { IsNone result → IsBase64url text.now → ⊥ }
     ensures unchanged { IsNone result → out.new ≡ out.old }
 {

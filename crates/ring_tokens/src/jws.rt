@@ -16,7 +16,7 @@ ghost use Rattle.std.specs.Prelude.{take, IfErr, IfOk, IfSome, IsErrOf, IsNone, 
 ghost use Rattle.ring.specs.Prelude.{raised};
 ghost use Rattle.ring_tokens.specs.Cost.{HasVerified, signed_blocks};
 ghost use Rattle.ring_tokens.specs.Header.{usual_header};
-ghost use Rattle.ring_tokens.specs.InPlace.{IsUsual};
+ghost use Rattle.ring_tokens.specs.InPlace.{IsUsual, IsUsualJws};
 ghost use Rattle.ring_tokens.specs.Jws.{CanSign, IsJws, IsKey, IsTokenUnder, alg_of, signing_input};
 ghost use Rattle.ring_tokens.specs.Jws.{usual_token, usual_token_len};
 
@@ -93,6 +93,8 @@ pub fn verify_in_place_counted(
     ensures within { IfOk result (λ n. n ≤ length out.old) }
     ensures ok { (k : List ℕ) → IsKey key.now k
         → IfOk result (λ n. IsJws (alg_of key.now) k token.now (take n out.new)) }
+    ensures header { (k : List ℕ) → IsKey key.now k
+        → IfOk result (λ n. IsUsualJws (alg_of key.now) k token.now (take n out.new)) }
     ensures behind { IfOk result (λ n. drop n out.new ≡ drop n out.old) }
     ensures invalid { (k : List ℕ) → IsKey key.now k → IsErrOf result TokenError.Invalid
         → (h p : List ℕ) → IsUsual (alg_of key.now) h
@@ -130,6 +132,8 @@ pub fn verify_in_place(token: &[u8], key: &Key, out: &mut [u8]) -> Result<usize,
     ensures within { IfOk result (λ n. n ≤ length out.old) }
     ensures ok { (k : List ℕ) → IsKey key.now k
         → IfOk result (λ n. IsJws (alg_of key.now) k token.now (take n out.new)) }
+    ensures header { (k : List ℕ) → IsKey key.now k
+        → IfOk result (λ n. IsUsualJws (alg_of key.now) k token.now (take n out.new)) }
     ensures behind { IfOk result (λ n. drop n out.new ≡ drop n out.old) }
     ensures invalid { (k : List ℕ) → IsKey key.now k → IsErrOf result TokenError.Invalid
         → (h p : List ℕ) → IsUsual (alg_of key.now) h

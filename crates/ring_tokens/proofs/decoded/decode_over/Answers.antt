@@ -7,14 +7,14 @@ use Rattle.ring_text.proofs.Base64.{bytes_front}
 use Rattle.ring_tokens.proofs.decoded.decode_over.Goals as goal
 
 pub returns-in-Ok-clause-ok : goal.returns-in-Ok-clause-ok
-returns-in-Ok-clause-ok c =
-    decode_of_strict url_safe_no_pad c.args.text.now _ (refl, refl)
-    (λ i. let f = c.type_inv.text i in omega arith) c.in-Ok.ensures.ok.0
-
-pub returns-in-Ok-clause-bytes : goal.returns-in-Ok-clause-bytes
-returns-in-Ok-clause-bytes c =
-    bytes_front c.in-Ok.len c.decode_slice_unchecked.new.output
-    (λ i. let f = c.type_inv.out i in omega arith)
+returns-in-Ok-clause-ok c = record {
+  within = c.in-Ok.ensures.ok.2;
+  octets = bytes_front c.in-Ok.len c.decode_slice_unchecked.new.output
+      (λ i. let f = c.type_inv.out i in omega arith);
+  is = decode_of_strict url_safe_no_pad c.args.text.now _ (refl, refl)
+      (λ i. let f = c.type_inv.text i in omega arith) c.in-Ok.ensures.ok.0;
+  behind = c.in-Ok.ensures.ok.1;
+}
 
 pub returns-in-Err-clause-refused : goal.returns-in-Err-clause-refused
 returns-in-Err-clause-refused c = λ _ w.

@@ -1,12 +1,12 @@
 -- SPDX-License-Identifier: ISC
-use Rattle.std.proofs.Common.{◌≡◌, ◌≤◌, ◌<◌, ◌+◌, ◌-◌, ◌∷◌, [], ◌++◌, ap, append_assoc, arith, drop}
+use Rattle.std.proofs.Common.{◌≡◌, ◌<◌, ◌+◌, ◌-◌, ◌∷◌, [], ◌++◌, ap, append_assoc, arith, drop}
 use Rattle.std.proofs.Common.{length, refl, rules, subst, sym, take, ◌∙◌}
 use Rattle.std.proofs.lemmas.List.{take_at}
 use Rattle.ring.specs.Prelude.{IsTagWithin, block_len, hmac_of, key_algorithm, max_input_len}
 use Rattle.ring.specs.Prelude.{output_len, padded_blocks, raised}
-use Rattle.ring_tokens.specs.Alg.{algorithm_of, hash_len}
+use Rattle.ring_tokens.specs.Alg.{algorithm_of}
 use Rattle.ring_tokens.specs.Header.{usual_header}
-use Rattle.ring_tokens.specs.Jws.{alg_of, base64url, signature_of, signing_input, usual_token_len}
+use Rattle.ring_tokens.specs.Jws.{alg_of, base64url, signature_of, signing_input}
 use Rattle.ring_tokens.proofs.Puts.{compact_parts, length_input, put_next, room_signature}
 use Rattle.ring_tokens.proofs.Puts.{room_stop, signed_end}
 use Rattle.ring_tokens.proofs.jws.sign_in_place_counted.Goals as goal
@@ -51,41 +51,33 @@ unreachable-requires c =
 
 pub put-at-requires : goal.put-at-requires
 put-at-requires c =
-    let a = alg_of c.args.key.now in
-    let p = c.args.payload.now in
-    let room : usual_token_len a (length p) ≤ length c.args.out.now =
-    omega (arith, c.in-Some.ensures.ok, c.if-out-len.false) in
-    room_stop a p [] c.args.out.now c.put_input-at.new.out [] c.put_input-at.result 0
-    (c.put_input-at.ensures.place, c.put_input-at.ensures.written) room
+    room_stop (record {
+      place = c.put_input-at.ensures.place;
+      bytes = c.put_input-at.ensures.written;
+      room = omega (arith, c.in-Some.ensures.ok, c.if-out-len.false);
+    })
 
 pub put_base64url-requires : goal.put_base64url-requires
 put_base64url-requires c =
-    let a = alg_of c.args.key.now in
-    let p = c.args.payload.now in
-    let s = c.as_ref.result.now in
-    let room : usual_token_len a (length p) ≤ length c.args.out.now =
-    omega (arith, c.in-Some.ensures.ok, c.if-out-len.false) in
-    let same : key_algorithm c.args.key.now.key ≡ algorithm_of a = search rules in
-    let len : length s ≡ hash_len a =
-    c.as_ref.ensures.len ∙ ap output_len (c.in-Ok.ensures.plain.algorithm ∙ same) in
-    room_signature a p s c.args.out.now c.put_input-at.new.out c.put-at.new.out
-    c.put_input-at.result c.put-at.result
-    (c.put_input-at.ensures.place, c.put_input-at.ensures.written) room c.put-at.ensures len
+    let same : key_algorithm c.args.key.now.key ≡ algorithm_of (alg_of c.args.key.now) =
+    search rules in
+    room_signature (record {
+      place = c.put_input-at.ensures.place;
+      bytes = c.put_input-at.ensures.written;
+      room = omega (arith, c.in-Some.ensures.ok, c.if-out-len.false);
+    }) c.as_ref.result.now c.put-at.ensures
+    (c.as_ref.ensures.len ∙ ap output_len (c.in-Ok.ensures.plain.algorithm ∙ same))
 
 pub returns-clause-len : goal.returns-clause-len
 returns-clause-len c =
-    let a = alg_of c.args.key.now in
-    let p = c.args.payload.now in
-    let s = c.as_ref.result.now in
-    let room : usual_token_len a (length p) ≤ length c.args.out.now =
-    omega (arith, c.in-Some.ensures.ok, c.if-out-len.false) in
-    let same : key_algorithm c.args.key.now.key ≡ algorithm_of a = search rules in
-    let len : length s ≡ hash_len a =
-    c.as_ref.ensures.len ∙ ap output_len (c.in-Ok.ensures.plain.algorithm ∙ same) in
-    signed_end a p s c.args.out.now c.put_input-at.new.out c.put-at.new.out
-    c.put_input-at.result c.put-at.result
-    (c.put_input-at.ensures.place, c.put_input-at.ensures.written) room
-    c.put_base64url.result c.put_base64url.new.out c.put-at.ensures c.put_base64url.ensures len
+    let same : key_algorithm c.args.key.now.key ≡ algorithm_of (alg_of c.args.key.now) =
+    search rules in
+    signed_end (record {
+      place = c.put_input-at.ensures.place;
+      bytes = c.put_input-at.ensures.written;
+      room = omega (arith, c.in-Some.ensures.ok, c.if-out-len.false);
+    }) c.as_ref.result.now c.put-at.ensures c.put_base64url.ensures
+    (c.as_ref.ensures.len ∙ ap output_len (c.in-Ok.ensures.plain.algorithm ∙ same))
 
 pub returns-clause-ok : goal.returns-clause-ok
 returns-clause-ok c = λ k key.

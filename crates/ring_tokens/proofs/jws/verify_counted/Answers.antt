@@ -3,7 +3,7 @@ use Rattle.std.proofs.Common.{refl, subst, sym, ◌∙◌}
 use Rattle.ring_tokens.specs.Header.{IsHeader}
 use Rattle.ring_tokens.specs.Jws.{alg_of}
 use Rattle.ring_tokens.proofs.Symbols.{base64url-injective}
-use Rattle.ring_tokens.proofs.Tokens.{header_is, if_ok_map, payload_is, valid_parts}
+use Rattle.ring_tokens.proofs.Tokens.{header_is, if_ok_map, payload_is, token_under}
 use Rattle.ring_tokens.proofs.jws.verify_counted.Goals as goal
 
 pub returns-in_default-clause-invalid : goal.returns-in_default-clause-invalid
@@ -37,7 +37,10 @@ returns-in-Ok-true-clause-ok g c = λ k key.
     let accepted = subst (IsHeader a) c.deref.ensures.value
     (c.in-Ok-true.ensures.0 c.in-Ok-true.field-0-test) in
     let signed = c.in-Some.ensures.ok k key in
-    if_ok_map c.decode-in-Ok-true.result (λ payload read.
-    valid_parts c.in-Some.ensures.parts a k c.in-Ok.header.items payload.items header.1 read.1
-    header.0 read.0 accepted signed.0 signed.1
-    ) c.decode-in-Ok-true.ensures.ok
+    if_ok_map c.decode-in-Ok-true.result (λ payload read. record {
+      header = c.in-Ok.header.items;
+      header_octets = header.1;
+      signed = token_under c.in-Some.ensures.parts a k c.in-Ok.header.items payload.items header.0
+          read signed;
+      accepted = accepted;
+    }) c.decode-in-Ok-true.ensures.ok

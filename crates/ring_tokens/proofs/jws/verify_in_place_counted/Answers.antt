@@ -26,13 +26,26 @@ returns-in-None-clause-invalid c = λ k key _ h p usual w.
       is = payload_is c.in-Some.ensures.parts (octets_of a h usual) w;
     })
 
+pub returns-in-Some-decode_into-clause-header : goal.returns-in-Some-decode_into-clause-header
+returns-in-Some-decode_into-clause-header c = λ k key.
+    let a = alg_of c.args.key.now in
+    let p = take c.in-Some-decode_into.len c.decode_into.new.out in
+    let header = header_of a c.in-Some.parts.header.now
+    (c.is_usual_text.ensures.0 c.if-not-is_usual_text.false) in
+    record {
+      header = header.0;
+      usual = header.1;
+      signed = token_under c.in-Some.ensures.parts a k header.0 p header.2
+          (c.in-Some-decode_into.ensures.ok.is, c.in-Some-decode_into.ensures.ok.octets)
+          (c.in-Some.ensures.ok k key);
+    }
+
 pub returns-in-Some-decode_into-clause-ok : goal.returns-in-Some-decode_into-clause-ok
 returns-in-Some-decode_into-clause-ok c = λ k key.
     let a = alg_of c.args.key.now in
     let p = take c.in-Some-decode_into.len c.decode_into.new.out in
     let header = header_of a c.in-Some.parts.header.now
     (c.is_usual_text.ensures.0 c.if-not-is_usual_text.false) in
-    let signed = c.in-Some.ensures.ok k key in
-    valid_of header.1 (token_under c.in-Some.ensures.parts a k header.0 p
-    c.in-Some-decode_into.ensures.bytes header.2 c.in-Some-decode_into.ensures.ok signed.0
-    signed.1)
+    valid_of header.1 (token_under c.in-Some.ensures.parts a k header.0 p header.2
+    (c.in-Some-decode_into.ensures.ok.is, c.in-Some-decode_into.ensures.ok.octets)
+    (c.in-Some.ensures.ok k key))

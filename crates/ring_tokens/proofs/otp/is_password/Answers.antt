@@ -15,6 +15,7 @@ returns-clause-cost c =
     let len : length (take (8 - (8 - n)) (drop (8 - n) w)) ≡ digits_of c.args.digits =
     length-take (8 - (8 - n)) (drop (8 - n) w)
     ∙ omega (arith, length-drop (8 - n) w, eight, c.count.ensures, digits_most c.args.digits) in
-    rise_compared _ _ _ c.hotp_counted.ensures.cost c.verify_slices_are_equal_counted.ensures.cost
+    rise_compared c.args.meter.now _ _ c.hotp_counted.ensures.cost
+    c.verify_slices_are_equal_counted.ensures.cost
     ∙ ap (λ k. raised c.args.meter.now (otp_blocks (key_algorithm c.args.key.now))
     (compared_pairs k (length c.args.text.now))) len

@@ -2,14 +2,16 @@
 use Rattle.std.proofs.Common.{ap, length, refl, subst, sym, ◌∙◌}
 use Rattle.ring.specs.Prelude.{IsTagWithin, hmac_of}
 use Rattle.ring_tokens.specs.Alg.{algorithm_of}
-use Rattle.ring_tokens.specs.Jws.{alg_of, base64url}
+use Rattle.ring_tokens.specs.Jws.{alg_of, base64url, signature_of}
 use Rattle.ring_tokens.proofs.Rises.{has_verified}
 use Rattle.ring_tokens.proofs.Tokens.{input_is, signature_is, token_cut}
 use Rattle.ring_tokens.proofs.signature.signed_parts.Goals as goal
 
 pub returns-in_default-clause-refused : goal.returns-in_default-clause-refused
 returns-in_default-clause-refused c = λ k key _ h p octets is.
-    c.in_default.ensures.refused refl _ _ _ (token_cut octets is)
+    let s = signature_of (alg_of c.args.key.now) k h p in
+    c.in_default.ensures.refused refl (base64url h) (base64url p) (base64url s)
+    (token_cut octets is)
 
 pub returns-in_default-clause-cost : goal.returns-in_default-clause-cost
 returns-in_default-clause-cost c = record {

@@ -6,15 +6,15 @@
 //!
 //! | Kernel | Its schedule | Runs | Why there |
 //! |---|---|---|---|
-//! | `blocks` | by fours, ahead of the rounds | one message | rounds add ready sums: the fastest |
+//! | `blocks` | by fours, ahead of the rounds | one message | the fastest: rounds add ready sums |
 //! | `lanes` | a window of words in lanes | several messages | one operation serves all |
-//! | `window` | a window of one block, by twos | one message, in tests | a second source |
+//! | `window` | a window of one block, by twos | one message, without vectors | the fastest there |
 //! | `by_instruction` | by fours, between the rounds | one message | two or four rounds at once |
 //!
 //! A window holds the last sixteen words. That of one block computes two words at a time, in the
-//! two lanes of a vector. `ring` runs the first two kernels, and tests run the third beside them. A
-//! build that puts a processor's `instructions` in their functions' place runs the last kernel for
-//! the first.
+//! two lanes of a vector. `ring` runs the first two kernels, and tests run the third beside them.
+//! Two builds run another kernel for the first: the module for JavaScript, which has no vectors,
+//! the third, and one that puts a processor's `instructions` in their functions' place the last.
 //!
 //! They are written over traits:
 //!

@@ -8,7 +8,14 @@ use crate::digest::word::lane_word::{LaneWord, Vector};
 use crate::digest::word::vectors::InLanes;
 use crate::digest::word::{Sha2, Word};
 
-// Each function here is a few instructions of a block function and is always inlined: a slot is
+// Whether this build runs the blocks of one message over a window. It has no contract, so that
+// callers are proved for each answer: a build without vectors puts the other answer here.
+#[inline(never)]
+pub(crate) fn is_chosen() -> bool {
+    false
+}
+
+// Each function below is a few instructions of a block function and is always inlined: a slot is
 // then a literal, and words stay in lanes from step to step.
 
 // Fills the window with the words of a block, the same in each lane.

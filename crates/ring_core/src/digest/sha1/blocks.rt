@@ -15,7 +15,11 @@ use crate::digest::instructions::{arm, x86};
 use crate::digest::sha1::arm::Arm;
 use crate::digest::sha1::by_instruction;
 use crate::digest::sha1::round::{CHAINING_WORDS, add_state, round, round_constant};
+use crate::digest::sha1::window::{
+    sha1_block_data_order_by_window_counted, sha1_block_of_words_by_window_counted,
+};
 use crate::digest::sha1::x86::X86;
+use crate::digest::window;
 use crate::digest::word::lane_word::{FourWords, four_of, read_four};
 use crate::digest::word::w32::rotate_four;
 use crate::polyfill::slice::AsChunks;
@@ -293,6 +297,8 @@ pub fn sha1_block_data_order_counted(
         by_instruction::run_blocks::<X86>(state, blocks, meter)
     } else if arm::are_there() {
         by_instruction::run_blocks::<Arm>(state, blocks, meter)
+    } else if window::is_chosen() {
+        sha1_block_data_order_by_window_counted(state, blocks, meter)
     } else {
         run_blocks(&mut [Simd::splat(0u32); 4], state, blocks, meter)
     }
@@ -332,6 +338,8 @@ pub fn sha1_block_of_words_counted(
         by_instruction::run_words::<X86>(state, front, padding, meter)
     } else if arm::are_there() {
         by_instruction::run_words::<Arm>(state, front, padding, meter)
+    } else if window::is_chosen() {
+        sha1_block_of_words_by_window_counted(state, front, padding, meter)
     } else {
         run_words(&mut [Simd::splat(0u32); 4], state, front, padding, meter)
     }

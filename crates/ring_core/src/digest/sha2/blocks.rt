@@ -14,8 +14,13 @@ use crate::digest::instructions::{arm, x86};
 use crate::digest::sha2::arm::Arm;
 use crate::digest::sha2::by_instruction;
 use crate::digest::sha2::round::{add_state, round};
+use crate::digest::sha2::window::{
+    block_data_order_32_by_window_counted, block_data_order_64_by_window_counted,
+    block_of_words_32_by_window_counted, block_of_words_64_by_window_counted,
+};
 use crate::digest::sha2::x86::X86;
 use crate::digest::states::{State32, State64};
+use crate::digest::window;
 use crate::digest::word::Sha2;
 use crate::digest::word::lane_word::{FourWords, four_of, read_four};
 use crate::polyfill::slice::AsChunks;
@@ -280,6 +285,8 @@ pub fn block_data_order_32_counted(
         by_instruction::run_blocks::<X86>(state, blocks, meter)
     } else if arm::are_there() {
         by_instruction::run_blocks::<Arm>(state, blocks, meter)
+    } else if window::is_chosen() {
+        block_data_order_32_by_window_counted(state, blocks, meter)
     } else {
         run_blocks(&mut [Simd::splat(0u32); 4], state, blocks, meter)
     }
@@ -306,7 +313,11 @@ pub fn block_data_order_64_counted(
         (chunk_items blocks.entry) (chunk_total blocks.entry) }
     ensures cost { meter.new ≡ raised meter.old (chunk_total blocks.entry) 0 }
 {
-    run_blocks(&mut [Simd::splat(0u64); 4], state, blocks, meter)
+    if window::is_chosen() {
+        block_data_order_64_by_window_counted(state, blocks, meter)
+    } else {
+        run_blocks(&mut [Simd::splat(0u64); 4], state, blocks, meter)
+    }
 }
 
 /// Runs SHA-512's block function, which SHA-384 and SHA-512/256 share, over each of `blocks`, of
@@ -336,6 +347,8 @@ pub fn block_of_words_32_counted(
         by_instruction::run_words::<X86>(state, front, padding, meter)
     } else if arm::are_there() {
         by_instruction::run_words::<Arm>(state, front, padding, meter)
+    } else if window::is_chosen() {
+        block_of_words_32_by_window_counted(state, front, padding, meter)
     } else {
         run_words::<Wrapping<u32>, 8>(&mut [Simd::splat(0u32); 4], state, front, padding, meter)
     }
@@ -355,5 +368,9 @@ pub fn block_of_words_64_counted<const N: usize>(
         → words_64 state.new ≡ block_step family_512 (words_64 state.old) b }
     ensures cost { meter.new ≡ raised meter.old 1 0 }
 {
-    run_words::<Wrapping<u64>, N>(&mut [Simd::splat(0u64); 4], state, front, padding, meter)
+    if window::is_chosen() {
+        block_of_words_64_by_window_counted::<N>(state, front, padding, meter)
+    } else {
+        run_words::<Wrapping<u64>, N>(&mut [Simd::splat(0u64); 4], state, front, padding, meter)
+    }
 }

@@ -10,8 +10,9 @@ processor's manual says of one instruction, and so is its body. CHANGED is the m
 instruction in the place of the body, and otherwise the same to the byte. With `--only` the other
 functions of TABLE keep their bodies.
 
-`are_there` answers whether the processor has the instructions. It has no contract, so its callers
-are proved for each answer. It reads the byte BYTE, which C code sets.
+A question of TABLE has no contract, so its callers are proved for each answer. `are_there` answers
+whether the processor has the instructions: it reads the byte BYTE, which C code sets. `is_chosen`,
+in a module for JavaScript, answers that kernels over a window run one message.
 
 A module is refused, and nothing written, if it is another processor's, or if a function of TABLE is
 missing, has another type, is defined twice, may be inlined, is never called, or is used but by a
@@ -26,20 +27,25 @@ import re
 import sys
 from collections import namedtuple
 
+VECTOR, WORD, TRUTH = "<4 x i32>", "i32", "i1"
 # An instruction's name in LLVM, the types of its arguments and of its result, which have the order
 # of the function's, and the number that the instruction itself has, or None.
 Instruction = namedtuple("Instruction", "name arguments result number", defaults=[None])
+# The lines by which a function without arguments answers, and what an instruction has besides.
+Question = namedtuple("Question", "answer name arguments result", defaults=[None, [], TRUTH])
 # A function's definition: its first line, where that and its last line stand in the module.
 Definition = namedtuple("Definition", "header first last")
 
-VECTOR, WORD, TRUTH = "<4 x i32>", "i32", "i1"
 BYTE = "yz_instructions"
-CHOICE = "are_there"
 PREFIX = "ring_core::digest::instructions"
+ARE_THERE = Question([f"  %byte = load atomic i8, ptr @{BYTE} monotonic, align 1",
+                      "  %new = icmp ne i8 %byte, 0", "  ret i1 %new"])
+IS_CHOSEN = Question(["  ret i1 true"])
 X86, ARM = "llvm.x86", "llvm.aarch64.crypto"
 TWO, THREE, WITH_WORD = [VECTOR] * 2, [VECTOR] * 3, [VECTOR, WORD, VECTOR]
 TABLE = {
     "x86_64": (f"{PREFIX}::x86::", {
+        "are_there": ARE_THERE,
         "sha1msg1": Instruction(f"{X86}.sha1msg1", TWO, VECTOR),
         "sha1msg2": Instruction(f"{X86}.sha1msg2", TWO, VECTOR),
         "sha1nexte": Instruction(f"{X86}.sha1nexte", TWO, VECTOR),
@@ -52,6 +58,7 @@ TABLE = {
         "sha256rnds2": Instruction(f"{X86}.sha256rnds2", THREE, VECTOR),
     }),
     "aarch64": (f"{PREFIX}::arm::", {
+        "are_there": ARE_THERE,
         "sha1c": Instruction(f"{ARM}.sha1c", WITH_WORD, VECTOR),
         "sha1h": Instruction(f"{ARM}.sha1h", [WORD], WORD),
         "sha1m": Instruction(f"{ARM}.sha1m", WITH_WORD, VECTOR),
@@ -63,6 +70,7 @@ TABLE = {
         "sha256su0": Instruction(f"{ARM}.sha256su0", TWO, VECTOR),
         "sha256su1": Instruction(f"{ARM}.sha256su1", THREE, VECTOR),
     }),
+    "wasm64": ("ring_core::digest::window::", {"is_chosen": IS_CHOSEN}),
 }
 # What the kit marks a function with that is never inlined.
 NEVER_INLINED = "noinline nounwind"
@@ -90,8 +98,7 @@ def header(name, it):
 def body(it):
     """The lines of a function: the arguments, the instruction, the result."""
     if it.result == TRUTH:
-        return [f"  %byte = load atomic i8, ptr @{BYTE} monotonic, align 1",
-                "  %new = icmp ne i8 %byte, 0", "  ret i1 %new"]
+        return it.answer
     lines, values = [], []
     for i, of in enumerate(it.arguments, it.result == VECTOR):
         lines += [f"  %v{i} = load {of}, ptr %a{i}, align 4"] * (of == VECTOR)
@@ -131,7 +138,7 @@ class Module:
     def marks(self, name):
         """A function's attributes but for the strings."""
         attributes = f" {self.attributes.get(self.group(name), '')}"
-        return re.sub(r' "[^"]*"="[^"]*"', "", attributes).strip()
+        return re.sub(r' "[^"]*"(="[^"]*")?', "", attributes).strip()
 
     def check_whole(self, processor):
         """The module is the processor's, and has none of the names that are put into it."""
@@ -198,7 +205,8 @@ def exchanged(module, table):
         yield from body(table[name])
         at = module.definitions[name].last
     yield ""
-    yield f"@{BYTE} = external hidden global i8"
+    if ARE_THERE in table.values():
+        yield f"@{BYTE} = external hidden global i8"
     yield from sorted({declaration(it) for it in table.values() if it.name})
     marks = module.attributes[module.group(min(table))]
     marks = marks.replace(NEVER_INLINED, "alwaysinline nounwind")
@@ -212,9 +220,8 @@ def main():
     parser.add_argument("module")
     parser.add_argument("changed")
     given = parser.parse_args()
-    prefix, instructions = TABLE[given.processor]
-    instructions = {CHOICE: Instruction(None, [], TRUTH), **instructions}
-    table = {prefix + name: it for name, it in instructions.items()}
+    prefix, functions = TABLE[given.processor]
+    table = {prefix + name: it for name, it in functions.items()}
     with open(given.module, encoding="utf-8") as file:
         module = Module(file.read().split("\n")[:-1])
     module.check_whole(given.processor)

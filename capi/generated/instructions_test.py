@@ -18,7 +18,10 @@ from pathlib import Path
 
 PROGRAM = Path(__file__).parent / "instructions.py"
 PREFIX = {"x86_64": "ring_core::digest::instructions::x86::",
-          "aarch64": "ring_core::digest::instructions::arm::"}
+          "aarch64": "ring_core::digest::instructions::arm::",
+          "wasm64": "ring_core::digest::window::"}
+QUESTION = {"x86_64": "are_there", "aarch64": "are_there", "wasm64": "is_chosen"}
+BYTE = "yz_instructions"
 # The functions of a processor, by how many arguments they have. A word is the second of three, or
 # the only one.
 FUNCTIONS = {
@@ -27,21 +30,35 @@ FUNCTIONS = {
                "sha256msg1": 2, "sha256msg2": 2, "sha256rnds2": 3},
     "aarch64": {"sha1c": 3, "sha1h": 1, "sha1m": 3, "sha1p": 3, "sha1su0": 3, "sha1su1": 2,
                 "sha256h": 3, "sha256h2": 3, "sha256su0": 2, "sha256su1": 3},
+    "wasm64": {},
 }
 WITH_WORD = {"sha1c", "sha1m", "sha1p"}
-ATTRIBUTES = 'noinline nounwind "target-cpu"="x86-64-v2"'
-# What is changed in a module for x86-64, by a pattern in which {p} is the prefix, and what is then
-# told of it. A whole function is ONE, one call CALL.
+ATTRIBUTES = 'noinline nounwind "no-builtin-bcmp" "target-cpu"="x86-64-v2"'
+# What is changed in a module, by a pattern in which {p} is the prefix and {q} the question, and
+# what is then told of it: in each module, and in one for x86-64 alone, where a whole function is
+# ONE, one call CALL.
 ONE = r'(define internal void @"{p}sha256msg1"[\s\S]*?\n}}\n)'
 CALL = r'  call void @"{p}sha256msg1"\((.*)\)\n'
 CASES = [
+    ("the question is gone", r'define [^\n]*@"{p}{q}"[\s\S]*?\n}}\n', "", "{q}: missing"),
+    ("an answer by a number", r'noundef zeroext i1 (@"{p}{q}")', r"noundef i32 \1",
+     "{q}: another type"),
+    ("a question that nobody asks", r'  %r\d+ = call .*@"{p}{q}"\(\).*\n', "",
+     "{q}: never called"),
+    ("inlined where LLVM likes", r"(attributes #\d+ = {{ )noinline (nounwind)", r"\1\2",
+     "not marked to be never inlined"),
+    ("always inlined", r"(attributes #\d+ = {{ )noinline (nounwind)", r"\1alwaysinline \2",
+     "not marked to be never inlined"),
+    ("marked to read no memory", r"(attributes #\d+ = {{ noinline nounwind)", r"\1 memory(none)",
+     "not marked to be never inlined, and so alone"),
+    ("no module", r"[\s\S]+", "", "no module for"),
+]
+X86_CASES = [
     ("another processor's", 'triple = "x86_64-', 'triple = "riscv64-', "no module for x86_64"),
-    ("no module", r"[\s\S]+", "", "no module for x86_64"),
     ("a name is another", r'(@"{p}sha256msg)1"', r'\g<1>9"', "sha256msg1: missing"),
     ("a function is gone", ONE, "", "sha256msg1: missing"),
     ("a function is only declared", ONE, r'declare void @"{p}sha256msg1"(ptr, ptr, ptr)\n',
      "sha256msg1: missing"),
-    ("the choice is gone", r'define [^\n]*@"{p}are_there"[\s\S]*?\n}}\n', "", "are_there: missing"),
     ("one more argument", r'(define .*@"{p}sha256msg1"\(.*%a2)\)', r"\1, ptr noundef %a3)",
      "sha256msg1: another type"),
     ("one argument less", r'(define .*@"{p}sha256msg1"\(.*), ptr noundef %a2\)', r"\1)",
@@ -52,8 +69,6 @@ CASES = [
      r"define internal noundef i32 \1", "sha256msg1: another type"),
     ("an argument that nobody else has", r'(define .*@"{p}sha256msg1"\(ptr) noundef',
      r"\1 noalias noundef", "sha256msg1: another type"),
-    ("a choice by a number", r'noundef zeroext i1 (@"{p}are_there")', r"noundef i32 \1",
-     "are_there: another type"),
     ("seen from outside", r'define internal (void @"{p}sha256msg1")', r"define \1",
      "sha256msg1: another type"),
     ("an instruction that the table has not", ONE,
@@ -71,14 +86,6 @@ CASES = [
     ("called as the last thing", CALL, r'  musttail call void @"{p}sha256msg1"(\1)\n',
      "sha256msg1: used but by a call"),
     ("never called", CALL, "", "sha256msg1: never called"),
-    ("a choice that nobody asks", r'  %r\d+ = call .*@"{p}are_there"\(\).*\n', "",
-     "are_there: never called"),
-    ("inlined where LLVM likes", r"(attributes #\d+ = {{ )noinline (nounwind)", r"\1\2",
-     "not marked to be never inlined"),
-    ("always inlined", r"(attributes #\d+ = {{ )noinline (nounwind)", r"\1alwaysinline \2",
-     "not marked to be never inlined"),
-    ("marked to read no memory", r"(attributes #\d+ = {{ noinline nounwind)", r"\1 memory(none)",
-     "not marked to be never inlined, and so alone"),
     ("another group of attributes", r'(define .*@"{p}sha256msg1"\(.*#)\d+ ([\s\S]*)',
      lambda it: f'{it[1]}99 {it[2]}attributes #99 = {{ {ATTRIBUTES} }}\n',
      "sha256msg1: other attributes"),
@@ -111,10 +118,10 @@ def module(processor):
         made, call = function(prefix + name, count, name in WITH_WORD)
         lines += made
         calls.append(call)
-    choice = f'@"{prefix}are_there"()'
-    lines += [f"define internal noundef zeroext i1 {choice} #1 {{", "  ret i1 false", "}"]
+    question = f'@"{prefix}{QUESTION[processor]}"()'
+    lines += [f"define internal noundef zeroext i1 {question} #1 {{", "  ret i1 false", "}"]
     lines += ["define void @run(ptr noundef %a0) #0 {", "  %r1 = alloca [16 x i8], align 4", *calls,
-              f"  %r3 = call i1 {choice}, !range !2", "  ret void", "}"]
+              f"  %r3 = call i1 {question}, !range !2", "  ret void", "}"]
     lines += ['attributes #0 = { nounwind "target-cpu"="x86-64-v2" }',
               f"attributes #1 = {{ {ATTRIBUTES} }}", "!2 = !{i8 0, i8 2}"]
     return "".join(f"{it}\n" for it in lines)
@@ -137,7 +144,7 @@ def faults_of_taken(processor, text, *options):
     said, wrote = run(processor, text, *options)
     if said is not None:
         return said
-    names = ["are_there"] if options else ["are_there", *FUNCTIONS[processor]]
+    names = [QUESTION[processor], *({} if options else FUNCTIONS[processor])]
     rest = text
     for name in names:
         body = rf'define [^\n]*@"{re.escape(PREFIX[processor] + name)}"\([\s\S]*?\n}}\n'
@@ -145,12 +152,14 @@ def faults_of_taken(processor, text, *options):
         if before is None or after is None or before[0] == after[0] or after[0].count("\n") > 8:
             return f"the body of {name} is not exchanged"
         rest = rest.replace(before[0], after[0])
+    if (BYTE in wrote) != (processor != "wasm64"):
+        return f"{BYTE} is for the processors' instructions, and for these alone"
     return None if wrote.startswith(rest) else "another line is changed"
 
 
-def faults_of_refused(text, told):
+def faults_of_refused(processor, text, told):
     """Whether a module is refused by the program's own words, and nothing written."""
-    said, wrote = run("x86_64", text)
+    said, wrote = run(processor, text)
     if said is None:
         return "it is taken"
     if wrote is not None:
@@ -159,19 +168,21 @@ def faults_of_refused(text, told):
     return None if is_told else f"it says: {said}"
 
 
-def cases(text):
-    """Each case over a module for x86-64: its name, and its fault or None."""
-    yield "as the kit writes it", faults_of_taken("x86_64", text)
-    yield "the choice alone", faults_of_taken("x86_64", text, "--only", "are_there")
-    prefix = PREFIX["x86_64"]
-    for name, old, new, told in CASES:
-        old = old.format(p=re.escape(prefix)) if "{" in old else old
+def cases(processor, text):
+    """Each case over a module: its name, and its fault or None."""
+    yield "as the kit writes it", faults_of_taken(processor, text)
+    prefix, question = PREFIX[processor], QUESTION[processor]
+    yield "the question alone", faults_of_taken(processor, text, "--only", question)
+    for name, old, new, told in CASES + X86_CASES * (processor == "x86_64"):
+        old = old.format(p=re.escape(prefix), q=question) if "{" in old else old
         made = new.replace("{p}", prefix) if isinstance(new, str) else new
         changed, count = re.subn(old, made, text)
-        yield name, faults_of_refused(changed, told) if count else "nothing is changed"
-    for name in FUNCTIONS["x86_64"]:
+        fault = faults_of_refused(processor, changed, told.replace("{q}", question))
+        yield name, fault if count else "nothing is changed"
+    for name in FUNCTIONS[processor]:
         changed = text.replace(f'@"{prefix}{name}"', f'@"{prefix}{name}_"')
-        yield f"{name} by another name", faults_of_refused(changed, f"{prefix}{name}: missing")
+        fault = faults_of_refused(processor, changed, f"{prefix}{name}: missing")
+        yield f"{name} by another name", fault
 
 
 def main():
@@ -179,10 +190,12 @@ def main():
     parser.add_argument("module", nargs="?")
     given = parser.parse_args()
     tried = [("for ARM", faults_of_taken("aarch64", module("aarch64"))),
-             ("for ARM as one for x86-64", faults_of_refused(module("aarch64"), "no module for"))]
-    tried += cases(module("x86_64"))
+             ("for ARM as one for x86-64",
+              faults_of_refused("x86_64", module("aarch64"), "no module for x86_64"))]
+    for processor in ("x86_64", "wasm64"):
+        tried += cases(processor, module(processor))
     if given.module:
-        tried += cases(Path(given.module).read_text(encoding="utf-8"))
+        tried += cases("x86_64", Path(given.module).read_text(encoding="utf-8"))
     for name, fault in tried:
         if fault:
             print(f"FAILED: {name}: {fault.strip()[:300]}")

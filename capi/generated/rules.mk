@@ -102,7 +102,7 @@ $(KIT_OUT)/yezdopin_windows_x86_64_v3.S: OTHER_NAMES = /dev/null
 $(WINDOWS_MADE): $(KIT_OUT)/yezdopin_windows_x86_64_%.S: $(KIT_OUT)/libring_c.%/flags \
     $(KIT_OUT)/%.renamed $(OUT)/names generated/windows.py
 	$(PYTHON) -B generated/windows.py $(<D) $*_ $(KIT_OUT)/$*.renamed $(OTHER_NAMES) $@ $(NOTES) \
-	    $(if $(filter v2,$*),"$(EXCHANGED) $$(git hash-object generated/instructions.py | cut -c-12)")
+	    $(if $(filter v2,$*),"$(EXCHANGED) $(exchanger)")
 endif
 
 # The crate's calls: those of the header without what processor.c and status.c have.
@@ -142,10 +142,11 @@ trees = $$(for it in $(CRATES); do echo "$$it $$(git rev-parse --short=12 HEAD:c
 
 # The further line of a head, of a text with the processor's instructions.
 EXCHANGED = Instructions: put in the place of proved functions by instructions.py, git blob
+exchanger = $$(git hash-object generated/instructions.py | cut -c-12)
 
 # The text of the builds for ARCH, and for x86-64 those for Windows.
 generated-$(ARCH): $(TEXTS:generated/%.S=$(KIT_OUT)/%.o) $(WINDOWS_MADE)
-	note="$(EXCHANGED) $$(git hash-object generated/instructions.py | cut -c-12)"; \
+	note="$(EXCHANGED) $(exchanger)"; \
 	for it in $(TEXTS:generated/%.S=%); do \
 	    case $$it in *_v3) set --;; *) set -- "$$note";; esac; \
 	    $(PYTHON) -B generated/assembly.py $(KIT_OUT)/$$it.o $(KIT_OUT)/$$it.S $(NOTES) "$$@" \

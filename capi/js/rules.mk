@@ -38,13 +38,17 @@ WASM_STACK = 65536
 
 js: $(JS)/package/package.json
 
-# `rt lib` writes to where the build for this machine stands, which is put back.
-$(WASM_BUILT): $(SOURCES) ../crates.txt
+# `rt lib` writes to where the build for this machine stands, which is put back. One message is run
+# by the kernels over a window, which instructions.py chooses: without vectors they take less time.
+$(WASM_BUILT): $(SOURCES) ../crates.txt $(BUILDERS)
 	$(need_kit)
-	mkdir -p $(JS)
+	mkdir -p $(JS) $(KIT_OUT)
+	generated/kit.sh $(RT) '$(call links_of,$@)' \
+	    '$(PYTHON) -B "$(CURDIR)/generated/instructions.py" wasm64'
 	@echo 'Proving and building ring_c for WebAssembly. $(JS)/rt.log has what rt says.'
 	built=$(CRATE)/out/libring_c.a; ! test -e $$built || mv $$built $$built.kept; \
-	../tools/progress.py $(JS)/rt.log ring_c $(RT) lib --target=wasm64-unknown-unknown $(RT_FLAGS) \
+	../tools/progress.py $(JS)/rt.log ring_c '$(call links_of,$@)/bin/rt' lib \
+	    --target=wasm64-unknown-unknown $(RT_FLAGS) \
 	    && mv $$built $@ || { cat $(JS)/rt.log; status=1; }; \
 	! test -e $$built.kept || mv $$built.kept $$built; exit $${status:-0}
 
@@ -63,7 +67,8 @@ $(WASM): $(WASM_TEXT) js/build/text.mjs js/build/version.cjs
 
 # The text of the module, under the head that the assembly text has.
 generated-wasm: $(KIT_WASM)
-	$(NODE) js/build/text.mjs write $< $(WASM64) $(WASM_TEXT) $(NOTES)
+	$(NODE) js/build/text.mjs write $< $(WASM64) $(WASM_TEXT) $(NOTES) \
+	    "Kernels: chosen by instructions.py, git blob $(exchanger)"
 
 $(JS)/package/package.json: $(WASM) $(JS_FILES) $(JS_MODULES) js/build/bundle.mjs js/README.md \
     ../LICENSE

@@ -11,6 +11,7 @@ pub mod Cost
 pub mod Roots
 pub mod Sha2
 pub mod Sha1
+pub mod Kernel
 pub mod FourWords
 pub mod Instructions
 pub mod Prelude

@@ -7,6 +7,7 @@ ghost use Rattle.ring_core.specs.FourWords.{later_four, next_four};
 ghost use Rattle.ring_core.specs.Prelude.{HoldsSums, IsAhead, IsBlockOf, IsReady, chunk_items};
 ghost use Rattle.ring_core.specs.Prelude.{chunk_total, four, low_32, raised, rotr, sixteen};
 ghost use Rattle.ring_core.specs.Prelude.{word_32, word_at};
+ghost use Rattle.ring_core.specs.Kernel.{RunsSha1, RunsSha1Words};
 ghost use Rattle.ring_core.specs.Sha1.{HasWords, W, block_step, blocks_from, ready_sum};
 ghost use Rattle.ring_core.specs.Sha1.{rounds_from};
 
@@ -240,11 +241,8 @@ fn run_blocks(
     blocks: AsChunks<'_, u8, 64>,
     meter: &mut Meter,
 )
-    ensures words { take 5 (map word_32 state.new)
-        ≡ blocks_from (take 5 (map word_32 state.old))
-        (chunk_items blocks.entry) (chunk_total blocks.entry) }
-    ensures rest { drop 5 state.new ≡ drop 5 state.old }
-    ensures cost { meter.new ≡ raised meter.old (chunk_total blocks.entry) 0 }
+    ensures { RunsSha1 state.old state.new
+        (chunk_items blocks.entry) (chunk_total blocks.entry) meter.old meter.new }
 {
     'each: for i in 0..blocks.len() {
         let block = &blocks[i];
@@ -267,11 +265,7 @@ fn run_words(
     padding: &[Word32; 16],
     meter: &mut Meter,
 )
-    ensures words { (b : List ℕ)
-        → IsBlockOf 32 5 (map word_32 front.now) (map word_32 padding.now) b
-        → take 5 (map word_32 state.new) ≡ block_step (take 5 (map word_32 state.old)) b }
-    ensures rest { drop 5 state.new ≡ drop 5 state.old }
-    ensures cost { meter.new ≡ raised meter.old 1 0 }
+    ensures { RunsSha1Words state.old state.new front.now padding.now meter.old meter.new }
 {
     let first = four_of::<Word32, CHAINING_WORDS>(front, padding, 0);
     let second = four_of::<Word32, CHAINING_WORDS>(front, padding, 1);

@@ -6,6 +6,7 @@ ghost use Rattle.std.specs.Prelude.{◌≡◌, ℕ, ◌+◌, ◌*◌, ◌<◌, �
 ghost use Rattle.std.specs.Prelude.{drop};
 ghost use Rattle.ring_core.specs.Prelude.{IsBlockOf, chunk_items, chunk_total, four, raised};
 ghost use Rattle.ring_core.specs.Prelude.{sixteen, word_32};
+ghost use Rattle.ring_core.specs.Kernel.{RunsSha1, RunsSha1Words};
 ghost use Rattle.ring_core.specs.Sha1.{W, add_state, block_step, blocks_from, rounds_from};
 
 use crate::cost::Meter;
@@ -141,11 +142,8 @@ pub(crate) fn run_blocks<I: Sha1Instructions>(
     blocks: AsChunks<'_, u8, 64>,
     meter: &mut Meter,
 )
-    ensures words { take 5 (map word_32 state.new)
-        ≡ blocks_from (take 5 (map word_32 state.old))
-        (chunk_items blocks.entry) (chunk_total blocks.entry) }
-    ensures rest { drop 5 state.new ≡ drop 5 state.old }
-    ensures cost { meter.new ≡ raised meter.old (chunk_total blocks.entry) 0 }
+    ensures { RunsSha1 state.old state.new
+        (chunk_items blocks.entry) (chunk_total blocks.entry) meter.old meter.new }
 {
     let [a, b, c, d, e, f, g, h] = *state;
     let mut words = I::pack([a, b, c, d, e]);
@@ -166,11 +164,7 @@ pub(crate) fn run_words<I: Sha1Instructions>(
     padding: &[Word32; 16],
     meter: &mut Meter,
 )
-    ensures words { (b : List ℕ)
-        → IsBlockOf 32 5 (map word_32 front.now) (map word_32 padding.now) b
-        → take 5 (map word_32 state.new) ≡ block_step (take 5 (map word_32 state.old)) b }
-    ensures rest { drop 5 state.new ≡ drop 5 state.old }
-    ensures cost { meter.new ≡ raised meter.old 1 0 }
+    ensures { RunsSha1Words state.old state.new front.now padding.now meter.old meter.new }
 {
     let [a, b, c, d, e, f, g, h] = *state;
     let words = I::pack([a, b, c, d, e]);

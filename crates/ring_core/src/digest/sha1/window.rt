@@ -6,6 +6,7 @@
 ghost use Rattle.std.specs.Prelude.{◌≡◌, ℕ, ◌+◌, ◌*◌, ◌<◌, ◌≤◌, List, drop, length, map, take};
 ghost use Rattle.ring_core.specs.Prelude.{IsBefore, IsBlockOf, IsWindow, chunk_items, chunk_total};
 ghost use Rattle.ring_core.specs.Prelude.{raised, word_32, word_at};
+ghost use Rattle.ring_core.specs.Kernel.{RunsSha1};
 ghost use Rattle.ring_core.specs.Sha1.{W, block_step, blocks_from, rounds_from, scheduled};
 
 use crate::cost::Meter;
@@ -232,11 +233,8 @@ fn run_blocks(
     blocks: AsChunks<'_, u8, 64>,
     meter: &mut Meter,
 )
-    ensures words { take 5 (map word_32 state.new)
-        ≡ blocks_from (take 5 (map word_32 state.old))
-        (chunk_items blocks.entry) (chunk_total blocks.entry) }
-    ensures rest { drop 5 state.new ≡ drop 5 state.old }
-    ensures cost { meter.new ≡ raised meter.old (chunk_total blocks.entry) 0 }
+    ensures { RunsSha1 state.old state.new
+        (chunk_items blocks.entry) (chunk_total blocks.entry) meter.old meter.new }
 {
     'each: for i in 0..blocks.len() {
         load_block(window, &blocks[i]); // step 1, to W(15)

@@ -1,0 +1,23 @@
+-- SPDX-License-Identifier: ISC
+-- What the kernels of one message give and count, which stands here once for all of a family.
+use Rattle.std.specs.Prelude.{◌≡◌, ℕ, List, drop, map, take}
+use Rattle.std.specs.declared.num.Wrapping.{Wrapping}
+use Rattle.ring_core.specs.Cost.{Counts, raised}
+use Rattle.ring_core.specs.Schedule.{IsBlockOf}
+use Rattle.ring_core.specs.Sha1.{block_step, blocks_from}
+use Rattle.ring_core.specs.Word.{word_32}
+
+-- SHA-1's block function is run over the first n blocks of a message, and these are counted (6.1.2)
+pub record RunsSha1 (old new : List (Wrapping ℕ)) (message : List ℕ) (n : ℕ)
+    (before after : Counts) : Type 0 where
+  pub words : take 5 (map word_32 new) ≡ blocks_from (take 5 (map word_32 old)) message n
+  pub rest : drop 5 new ≡ drop 5 old
+  pub cost : after ≡ raised before n 0
+
+-- SHA-1's block function is run over a block that is given as words, and it is counted (6.1.2)
+pub record RunsSha1Words (old new front padding : List (Wrapping ℕ)) (before after : Counts)
+    : Type 0 where
+  pub words : (b : List ℕ) → IsBlockOf 32 5 (map word_32 front) (map word_32 padding) b
+      → take 5 (map word_32 new) ≡ block_step (take 5 (map word_32 old)) b
+  pub rest : drop 5 new ≡ drop 5 old
+  pub cost : after ≡ raised before 1 0

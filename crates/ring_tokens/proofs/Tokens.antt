@@ -14,7 +14,7 @@ use Rattle.hex.specs.Hex.{IsBytes}
 use Rattle.ring_text.proofs.Cuts.{cut_same}
 use Rattle.ring_tokens.specs.Jws.{IsJws, IsTokenUnder, base64url, part_then, signature_of}
 use Rattle.ring_tokens.specs.Jws.{signing_input}
-use Rattle.ring_tokens.specs.Parts.{AreParts, IsCut}
+use Rattle.ring_tokens.specs.Parts.{AreParts, IsCut, IsUnsigned}
 use Rattle.ring_tokens.specs.declared.alg.Alg.{Alg}
 use Rattle.ring_tokens.specs.declared.parts.Parts.{Parts}
 use Rattle.ring_tokens.proofs.Dates.{json_or_null}
@@ -155,6 +155,14 @@ no_beginning {a} {k} {token} {p} {q} rest one two =
 abbrev pub IsSigned : Alg → (k : List ℕ) → Parts → Type 0
 IsSigned a k q = IsTagWithin (algorithm_of a) (length q.input.now)
     × (q.signature.now ≡ base64url (hmac_of (algorithm_of a) k q.input.now))
+
+-- what the key signed is not unsigned
+pub signed_apart : {token : List ℕ} {q : Parts} (a : Alg) (k : List ℕ) → AreParts token q
+    → IsUnsigned a k token → IsSigned a k q → ⊥
+signed_apart {token} {q} a k at unsigned is =
+    unsigned q.header.now q.payload.now q.signature.now at.cut
+    (subst (λ m. IsTagWithin (algorithm_of a) (length m)) at.input is.0)
+    (is.1 ∙ ap (λ m. base64url (hmac_of (algorithm_of a) k m)) at.input)
 
 -- a token whose parts are those of a header, a payload and its signature
 pub token_under : {token : List ℕ} {q : Parts} → AreParts token q → (a : Alg) (k h p : List ℕ)

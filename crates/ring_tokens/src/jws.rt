@@ -19,6 +19,7 @@ ghost use Rattle.ring_tokens.specs.Header.{usual_header};
 ghost use Rattle.ring_tokens.specs.InPlace.{IsUsual, IsUsualJws};
 ghost use Rattle.ring_tokens.specs.Jws.{CanSign, IsJws, IsKey, IsTokenUnder, alg_of, signing_input};
 ghost use Rattle.ring_tokens.specs.Jws.{usual_token, usual_token_len};
+ghost use Rattle.ring_tokens.specs.Parts.{IsUnsigned};
 
 use crate::alg::Alg;
 use crate::decoded::{decode, decode_into};
@@ -36,6 +37,7 @@ use std::alloc::Allocator;
 /// Validates a token as [`verify`] does, and counts its blocks and compared pairs of bytes on
 /// `meter`: those of what is signed and of a whole signature, whatever is wrong with the token. A
 /// text of no three parts costs nothing.
+#[tactic(auto, using(crate::proofs::Tokens::signed_apart))]
 pub fn verify_counted<A: Allocator + Copy>(
     alloc: A,
     token: &[u8],
@@ -47,6 +49,8 @@ pub fn verify_counted<A: Allocator + Copy>(
     ensures invalid { (k : List ℕ) → IsKey key.now k → IsErrOf result TokenError.Invalid
         → (payload : List ℕ) → IsJws (alg_of key.now) k token.now payload → ⊥ }
     ensures refused { IfErr result (λ e. (e ≡ TokenError.Invalid) ⊎ (e ≡ TokenError.Memory)) }
+    ensures unsigned { (k : List ℕ) → IsKey key.now k
+        → IsUnsigned (alg_of key.now) k token.now → IsErrOf result TokenError.Invalid }
     ensures cost { HasVerified (alg_of key.now) token.now meter.old meter.new }
 {
     let Some(parts) = signed_parts(token, key, meter) else {
@@ -67,7 +71,7 @@ pub fn verify_counted<A: Allocator + Copy>(
 ///
 /// Refused as `Invalid` exactly if the text is no token of the key, for any reason, and as `Memory`
 /// if `alloc` has no memory for what is read of it. The header is read only once the signature is
-/// the key's.
+/// the key's: what the key did not sign is `Invalid`, whatever memory there is.
 pub fn verify<A: Allocator + Copy>(
     alloc: A,
     token: &[u8],
@@ -78,6 +82,8 @@ pub fn verify<A: Allocator + Copy>(
     ensures invalid { (k : List ℕ) → IsKey key.now k → IsErrOf result TokenError.Invalid
         → (payload : List ℕ) → IsJws (alg_of key.now) k token.now payload → ⊥ }
     ensures refused { IfErr result (λ e. (e ≡ TokenError.Invalid) ⊎ (e ≡ TokenError.Memory)) }
+    ensures unsigned { (k : List ℕ) → IsKey key.now k
+        → IsUnsigned (alg_of key.now) k token.now → IsErrOf result TokenError.Invalid }
 {
     verify_counted(alloc, token, key, &mut Meter::new())
 }

@@ -3,7 +3,7 @@ use Rattle.std.proofs.Common.{refl, subst, sym, ◌∙◌}
 use Rattle.ring_tokens.specs.Header.{IsHeader}
 use Rattle.ring_tokens.specs.Jws.{alg_of}
 use Rattle.ring_tokens.proofs.Symbols.{base64url-injective}
-use Rattle.ring_tokens.proofs.Tokens.{header_is, if_ok_map, payload_is, signed_apart}
+use Rattle.ring_tokens.proofs.Tokens.{header_is, if_ok_map, payload_is}
 use Rattle.ring_tokens.proofs.Tokens.{token_under}
 use Rattle.ring_tokens.proofs.jws.verify_counted.Goals as goal
 

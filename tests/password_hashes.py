@@ -15,7 +15,6 @@ import contextlib
 import functools
 import hashlib
 import hmac
-import itertools
 import json
 import os
 import pathlib
@@ -30,7 +29,7 @@ import tempfile
 
 sys.dont_write_bytecode = True
 import counted
-from run import COMPILER, ROOT, Preload, answers, differing, file_case, over_lines, rows_of
+from run import COMPILER, ROOT, answers, differing, file_case, rows_of, short_of_memory
 
 VECTORS = ROOT / "vectors/password_hashes"
 REFUSED = "not a password hash"
@@ -391,36 +390,11 @@ def proof_and_signature():
 
 # --- requests for memory, of which one is refused ---
 
-NO_MEMORY = "out of memory"
-
-
-def fault_of(status, found, wanted):
-    """What is wrong with a run that is short of memory once, or None."""
-    others = [it for it in zip(found, wanted) if it[0] not in (it[1], NO_MEMORY)]
-    # The program's own requests end it, behind right answers; those of a call are of its line
-    # alone.
-    ended = status != 0 and len(found) < len(wanted) and NO_MEMORY not in found
-    whole = status == 0 and len(found) == len(wanted) and found.count(NO_MEMORY) <= 1
-    return None if not others and (ended or whole) else f"{status}, {found}"
-
 
 def each_request_is_refused():
     """each request for memory refused in turn: its line is answered so, and the others as ever"""
     files = [VECTORS / f"{scheme}.txt" for scheme in ("django", "postgresql")]
-    rows = [row for file in files for row in rows_of(file)][:12]
-    lines, wanted = zip(*rows)
-    with tempfile.TemporaryDirectory() as folder:
-        preload, run = Preload(folder), functools.partial(over_lines, lines)
-        wrong, told = [], set()
-        for request in itertools.count(1):
-            (status, found), _, made = preload.watched(run, REFUSED_REQUEST=request)
-            if made < request:
-                break
-            told |= {at for at, answer in enumerate(found) if answer == NO_MEMORY}
-            fault = fault_of(status, found, wanted)
-            wrong += [(f"request {request}", fault)] if fault else []
-    untold = [(lines[at], "no request was refused") for at in range(len(lines)) if at not in told]
-    return wrong + untold + differing(rows)
+    return short_of_memory([row for file in files for row in rows_of(file)][:12])
 
 
 # --- other systems ---

@@ -2,6 +2,7 @@
 """Runs the programs that tests try: over words, over lines, and with preload.c loaded into them."""
 
 import functools
+import itertools
 import os
 import pathlib
 import shutil
@@ -108,6 +109,37 @@ class Preload:
             lines = report.read().decode().split()
         requests = int(lines.pop()) if lines and lines[-1].isdigit() else None
         return found, lines, requests
+
+
+NO_MEMORY = "out of memory"
+
+
+def fault_of(status, found, wanted):
+    """What is wrong with a run of the program of lines that is short of memory once, or None."""
+    others = [it for it in zip(found, wanted) if it[0] not in (it[1], NO_MEMORY)]
+    # The program's own requests end it, behind right answers; those of a call are of its line
+    # alone.
+    ended = status != 0 and len(found) < len(wanted) and NO_MEMORY not in found
+    whole = status == 0 and len(found) == len(wanted) and found.count(NO_MEMORY) <= 1
+    return None if not others and (ended or whole) else f"{status}, {found}"
+
+
+def short_of_memory(rows):
+    """What is wrong where each request for memory is refused in turn, over lines with their
+    answers. Of each line some request is refused."""
+    lines, wanted = zip(*rows)
+    with tempfile.TemporaryDirectory() as folder:
+        preload, run = Preload(folder), functools.partial(over_lines, lines)
+        wrong, told = [], set()
+        for request in itertools.count(1):
+            (status, found), _, made = preload.watched(run, REFUSED_REQUEST=request)
+            if made < request:
+                break
+            told |= {at for at, answer in enumerate(found) if answer == NO_MEMORY}
+            fault = fault_of(status, found, wanted)
+            wrong += [(f"request {request}", fault)] if fault else []
+    untold = [(lines[at], "no request was refused") for at in range(len(lines)) if at not in told]
+    return wrong + untold + differing(rows)
 
 
 class Case(unittest.TestCase):

@@ -7,7 +7,8 @@ It signs and verifies tokens as a reading of RFC 7515 over Python's `hmac` does:
 many kinds, and 10,000 broken ones. Claims, one-time passwords and the headers of webhooks are
 compared with readings of RFC 7519, RFC 4226, RFC 6238 and Stripe's own rule, and with PyJWT, pyotp
 and oathtool, both ways. What those accept and this crate refuses is a list here, as in
-docs/TOKENS.md. The last line is 'N passed, M failed', and ', K skipped' where a peer is missing.
+docs/TOKENS.md. Each request for memory is refused in turn. The last line is 'N passed, M failed',
+and ', K skipped' where a peer is missing.
 """
 
 import base64
@@ -22,7 +23,7 @@ import sys
 
 sys.dont_write_bytecode = True
 import counted
-from run import ROOT, answers, differing, file_case
+from run import COMPILER, ROOT, answers, differing, file_case, short_of_memory
 
 VECTORS = ROOT / "vectors/tokens"
 HASHES = {"HS256": "sha256", "HS384": "sha384", "HS512": "sha512"}
@@ -517,6 +518,20 @@ def are_large():
     return differing(wanted)
 
 
+def requests_are_refused():
+    """each request for memory refused in turn: its line is answered so, and the next ones as ever"""
+    key, payload = bytes(range(48)), b'{"exp":2,"nbf":1,"a":["\\n",{"b":1.5}]}'
+    rows = [(f"jws current {digits(payload)} 1 0", "true")]
+    for text in (USUAL[0], ACCEPTED[3], ACCEPTED[5], '{"alg":"none"}', "{"):
+        token = signed_token("HS384", key, header_of("HS384", text), payload)
+        rows += lines_on("HS384", key, token)
+    token = signed_token("HS384", key, header_of("HS384", USUAL[0]), payload)
+    for call in ("sign", "sign-in-place"):
+        rows.append((f"jws {call} HS384 {digits(key)} {digits(payload)}", token.decode()))
+    # Each line once more, where what came before was refused memory.
+    return short_of_memory(2 * rows)
+
+
 ALONE = (
     are_signed, have_headers, are_broken, bad_payloads_are_refused, are_current,
     counters_are_found, steps_are_found, github_headers, stripe_headers, are_bad_lines, are_large,
@@ -527,6 +542,7 @@ def cases():
     """Each case, and what is missing for it on this machine."""
     yield from ((file_case(file), "") for file in sorted(VECTORS.glob("*.txt")))
     yield from ((case, "") for case in ALONE)
+    yield requests_are_refused, "" if COMPILER else "a C compiler"
     yield with_pyjwt, "" if python_with("jwt") else "PyJWT"
     yield with_pyotp, "" if python_with("pyotp") else "pyotp"
     yield with_oathtool, "" if shutil.which("oathtool") else "oathtool"

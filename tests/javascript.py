@@ -29,7 +29,7 @@ NODE_SOURCE = pathlib.Path(os.environ.get("NODE_SOURCE", "/usr/local/src/node-v2
 PARTS = [
     ("js-generated", ["rt"], "the text of the module is what the kit makes"),
     ("js-lowered", ["rt"], "the lowered module beside its source, and wrong forms of the lowering"),
-    ("js-test", [], "vectors/, node:crypto, Merkle proofs, refusals, hostile inputs, wiped memory"),
+    ("js-test", [], "vectors/, node:crypto, proofs, tokens, refusals, hostile inputs, wiping"),
     ("js-everyday", [], "what programs write with node:crypto, beside it"),
     ("js-node", [NODE_TESTS], "Node's own tests, statement by statement"),
     ("js-traces", [], "no address and no condition by a secret, with planted leaks"),

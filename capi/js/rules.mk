@@ -29,9 +29,10 @@ KIT = $(patsubst %/bin/,%,$(dir $(realpath $(shell command -v $(RT)))))
 # What the package calls, and what it asks the module for.
 JS_CALLS = digest digest_final digest_init digest_update equal hkdf hkdf_expand \
     hkdf_expand_label hkdf_extract hmac_final hmac_init hmac_key_init hmac_sign hmac_update \
-    hmac_verify merkle_consistency_path merkle_inclusion_path merkle_leaf merkle_root \
-    merkle_verify_consistency merkle_verify_inclusion output_len password_hash_info \
-    password_hash_new password_hash_salt password_hash_verify pbkdf2_derive pbkdf2_verify version
+    hmac_verify hotp hotp_find jws_sign jws_verify merkle_consistency_path merkle_inclusion_path \
+    merkle_leaf merkle_root merkle_verify_consistency merkle_verify_inclusion output_len \
+    password_hash_info password_hash_new password_hash_salt password_hash_verify pbkdf2_derive \
+    pbkdf2_verify totp totp_find version
 JS_EXPORTS = memory __heap_base $(JS_CALLS:%=yz_%)
 # The module's stack, which ends where the constants begin: package/calls.js has the number too.
 WASM_STACK = 65536
@@ -101,9 +102,10 @@ js-lowered: $(WASM) $(WASM64)
 	$(NODE) $(MEMORY64) js/test/lowered.mjs $(WASM64) $(WASM)
 	NODE='$(NODE)' $(PYTHON) -B js/test/wrong_forms.py $(WASM64) $(JS) "$(MEMORY64)" $(JS_EXPORTS)
 
-JS_TESTS = package memory merkle
+JS_TESTS = package memory merkle tokens
 js-test: $(JS)/package/package.json
 	PACKAGE="$(WHOLE_OUT)/js/package" VECTORS=../vectors VERSION=$(VERSION) \
+	    NODE_PATH="$${NODE_PATH:-/usr/share/nodejs}" \
 	    $(NODE) --test $(JS_TESTS:%=js/test/%.test.mjs)
 
 # What the module tells of its addresses and conditions on other secrets.

@@ -39,10 +39,11 @@ PLAIN = {UNREACHABLE, ELSE, END, RETURN, DROP, SELECT}
 PLAIN |= {*range(0x45, 0x5B)}  # comparisons
 PLAIN |= {*range(0x67, 0x8B)} - {*range(0x6C, 0x71), *range(0x7F, 0x83)}  # arithmetic: no division
 PLAIN |= {WRAP, 0xAC, 0xAD, *range(0xC0, 0xC5)}  # conversions
-# What only the calls of password hashes reach may also multiply and divide numbers without a sign:
-# it reads and writes texts, which are no secrets.
-OF_TEXTS = b"yz_password_hash_"
-OF_TEXTS_PLAIN = PLAIN | {0x6C, 0x6E, 0x80}
+# What only the calls of texts reach may also multiply and divide numbers without a sign. In
+# password hashes and tokens these are lengths and iterations, which are no secrets. In one-time
+# passwords one of them is the number whose last digits are the password.
+OF_TEXTS = b"yz_password_hash_", b"yz_jws_", b"yz_hotp", b"yz_totp"
+OF_TEXTS_PLAIN = PLAIN | {0x6C, 0x6E, 0x70, 0x80}
 # The bytes that each access spans, as the power of two that its alignment may not pass.
 LOADS = {0x28: 2, 0x29: 3, 0x2C: 0, 0x2D: 0, 0x2E: 1, 0x2F: 1}
 LOADS |= {0x30: 0, 0x31: 0, 0x32: 1, 0x33: 1, 0x34: 2, 0x35: 2}

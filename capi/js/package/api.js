@@ -7,12 +7,14 @@ import {
   HASHES, bytesOf, bytesOrText, callbackOf, digestOf, encoded, host, iterationsOf, keyOf, lengthOf,
   macOf,
 } from "./inputs.js";
+import { jws } from "./jws.js";
 import { later } from "./later.js";
 import { merkle } from "./merkle.js";
+import { otp } from "./otp.js";
 import { passwordHash } from "./passwords.js";
 import { subtle } from "./subtle.js";
 
-export { merkle, passwordHash, subtle };
+export { jws, merkle, otp, passwordHash, subtle };
 export const webcrypto = { subtle };
 
 // Calls back once, with an error or an answer, on another turn of the loop, so that what a callback

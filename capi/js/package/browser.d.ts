@@ -1,6 +1,6 @@
 // SPDX-License-Identifier: ISC
-import type { Algorithm, Api, Encoding, HmacAlgorithm, Input, Merkle, PasswordHash, Running,
-  Subtle } from "./types.js";
+import type { Algorithm, Api, Encoding, HmacAlgorithm, Input, Jws, Merkle, Otp, PasswordHash,
+  Running, Subtle } from "./types.js";
 export * from "./types.js";
 
 type It = Api<Uint8Array, Input, Encoding>;
@@ -23,12 +23,15 @@ export const pbkdf2: It["pbkdf2"];
 export const pbkdf2Verify: It["pbkdf2Verify"];
 export const timingSafeEqual: It["timingSafeEqual"];
 export const getHashes: It["getHashes"];
+export const jws: Jws<Uint8Array, Input>;
 export const merkle: Merkle<Uint8Array>;
+export const otp: Otp<Input>;
 export const passwordHash: PasswordHash;
 export const subtle: Subtle;
 export const webcrypto: { subtle: Subtle };
 declare const all: It & {
-  createHash: typeof createHash; createHmac: typeof createHmac; merkle: Merkle<Uint8Array>;
-  passwordHash: PasswordHash; subtle: Subtle; webcrypto: { subtle: Subtle };
+  createHash: typeof createHash; createHmac: typeof createHmac; jws: typeof jws;
+  merkle: typeof merkle; otp: typeof otp; passwordHash: PasswordHash; subtle: Subtle;
+  webcrypto: { subtle: Subtle };
 };
 export default all;

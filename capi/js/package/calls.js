@@ -24,7 +24,9 @@ const MAX_SALT_LEN = 22;
 /** Of a tree's hashes, and of a path the most hashes. */
 export const HASH_LEN = 32;
 const MAX_PATH = 65;
-// Of the module's numbers: a uint32_t and a size_t.
+// Of a token what is neither payload nor tag: the header and two full stops.
+const JWS_REST_LEN = 38;
+// Of the module's numbers: a uint32_t, and a size_t or a uint64_t.
 const WORD_LEN = 4;
 const SIZE_LEN = 8;
 
@@ -348,6 +350,9 @@ export function passwordVerify(text, password, maxIterations) {
 // The number of the module that a call wrote to a place.
 const wordAt = (place) => new DataView(memory.buffer).getUint32(Number(place), true);
 
+// The bytes that a call wrote to a place. It wrote how many they are to another one.
+const written = (place, len) => host.copy(memory, Number(place), Number(place) + wordAt(len));
+
 /** The number of a text's scheme, and its iterations. */
 export function passwordInfo(text) {
   return run(() => {
@@ -363,7 +368,7 @@ export function passwordSalt(scheme, random) {
     const at = copied(random), salt = blank(MAX_SALT_LEN), len = blank(SIZE_LEN);
     test(exports.yz_password_hash_salt(
       scheme, at, lenOf(random), salt, BigInt(MAX_SALT_LEN), len));
-    return host.copy(memory, Number(salt), Number(salt) + wordAt(len));
+    return written(salt, len);
   }, STACK_LEN_OF_TEXTS);
 }
 
@@ -374,7 +379,7 @@ export function passwordNew(scheme, iterations, salt, password) {
     const text = blank(MAX_PASSWORD_HASH_LEN), len = blank(SIZE_LEN);
     test(exports.yz_password_hash_new(scheme, iterations, one, lenOf(salt), other, lenOf(password),
       text, BigInt(MAX_PASSWORD_HASH_LEN), len));
-    return host.copy(memory, Number(text), Number(text) + wordAt(len));
+    return written(text, len);
   }, STACK_LEN_OF_TEXTS);
 }
 
@@ -427,6 +432,71 @@ export const merkleInclusionPath = (leaves, index) =>
 /** The hashes of a proof, or null where the tree has no such beginning. */
 export const merkleConsistencyPath = (leaves, firstSize) =>
   pathBy("yz_merkle_consistency_path", leaves, firstSize);
+
+const base64urlLen = (len) => Math.ceil(len * 4 / 3);
+
+/** The bytes of the text of a token. */
+export function jwsSign(n, value, payload) {
+  return run(() => {
+    const one = copied(value), other = copied(payload), len = blank(SIZE_LEN);
+    const most = JWS_REST_LEN + base64urlLen(outputLen(n)) + base64urlLen(payload.length);
+    const token = blank(most);
+    test(exports.yz_jws_sign(
+      n, one, lenOf(value), other, lenOf(payload), token, BigInt(most), len));
+    return written(token, len);
+  });
+}
+
+/** The payload of a token, or null where the text is none of the key. */
+export function jwsVerify(n, value, token) {
+  return run(() => {
+    const one = copied(value), other = copied(token), len = blank(SIZE_LEN);
+    const payload = blank(token.length);
+    const status = exports.yz_jws_verify(
+      n, one, lenOf(value), other, lenOf(token), payload, lenOf(token), len);
+    return verdict(status) ? written(payload, len) : null;
+  });
+}
+
+/** The bytes of the text of a one-time password. */
+export function hotp(n, value, counter, digits) {
+  return run(() => {
+    const at = copied(value);
+    return output(digits, (text, len) =>
+      exports.yz_hotp(n, at, lenOf(value), counter, text, len));
+  });
+}
+
+export function totp(n, value, time, step, digits) {
+  return run(() => {
+    const at = copied(value);
+    return output(digits, (text, len) =>
+      exports.yz_totp(n, at, lenOf(value), time, step, text, len));
+  });
+}
+
+// The counter that a call finds, or null.
+function found(call) {
+  const place = blank(SIZE_LEN);
+  if (!verdict(call(place))) return null;
+  return new DataView(memory.buffer).getBigUint64(Number(place), true);
+}
+
+export function hotpFind(n, value, first, count, digits, text) {
+  return run(() => {
+    const one = copied(value), other = copied(text);
+    return found((counter) => exports.yz_hotp_find(
+      n, one, lenOf(value), first, count, BigInt(digits), other, lenOf(text), counter));
+  });
+}
+
+export function totpFind(n, value, time, step, back, ahead, digits, text) {
+  return run(() => {
+    const one = copied(value), other = copied(text);
+    return found((counter) => exports.yz_totp_find(n, one, lenOf(value), time, step, back, ahead,
+      BigInt(digits), other, lenOf(text), counter));
+  });
+}
 
 export function equal(one, other) {
   return run(() =>

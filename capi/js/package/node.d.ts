@@ -2,8 +2,8 @@
 /// <reference types="node" />
 import type { KeyObject } from "node:crypto";
 import { Transform, type TransformOptions } from "node:stream";
-import type { Algorithm, Api, HmacAlgorithm, Input, Merkle, PasswordHash, Running, Subtle }
-  from "./types.js";
+import type { Algorithm, Api, HmacAlgorithm, Input, Jws, Merkle, Otp, PasswordHash, Running,
+  Subtle } from "./types.js";
 export * from "./types.js";
 
 type Secret = Input | KeyObject;
@@ -43,13 +43,15 @@ export const pbkdf2: It["pbkdf2"];
 export const pbkdf2Verify: It["pbkdf2Verify"];
 export const timingSafeEqual: It["timingSafeEqual"];
 export const getHashes: It["getHashes"];
+export const jws: Jws<Buffer, Secret>;
 export const merkle: Merkle<Buffer>;
+export const otp: Otp<Secret>;
 export const passwordHash: PasswordHash;
 export const subtle: Subtle;
 export const webcrypto: { subtle: Subtle };
 declare const all: It & {
   Hash: typeof Hash; Hmac: typeof Hmac; createHash: typeof createHash;
-  createHmac: typeof createHmac; merkle: Merkle<Buffer>; passwordHash: PasswordHash;
-  subtle: Subtle; webcrypto: { subtle: Subtle };
+  createHmac: typeof createHmac; jws: typeof jws; merkle: typeof merkle; otp: typeof otp;
+  passwordHash: PasswordHash; subtle: Subtle; webcrypto: { subtle: Subtle };
 };
 export default all;

@@ -136,6 +136,43 @@ export interface Merkle<B> {
     path: Iterable<Bytes>): boolean;
 }
 
+export type JwsAlgorithm = "HS256" | "HS384" | "HS512";
+/**
+ * JSON Web Signatures in the compact form under HMAC (RFC 7515), of which JSON Web Tokens are made.
+ * A key is for one algorithm, and has as many bytes as its digest at least: a shorter one raises a
+ * RangeError.
+ */
+export interface Jws<B, K> {
+  /** The text of a new token, under the header {"alg":"HS256","typ":"JWT"} or that of another
+   * algorithm. */
+  sign(algorithm: JwsAlgorithm, key: K, payload: Input): string;
+  /** The payload of a token that the key signed, and null for any other text. The header is one of
+   * {"alg":..,"typ":"JWT"}, {"typ":"JWT","alg":..} and {"alg":..}, letter by letter: with a `kid`
+   * it is null too. No claim is read: whether the token has expired is for the caller to test. */
+  verify(algorithm: JwsAlgorithm, key: K, token: Input): B | null;
+}
+/** The digits of a one-time password: 6, 7 or 8, and 6 where it is left out. */
+export interface OtpDigits { digits?: number }
+/** The seconds of a step of time: 30 where it is left out. */
+export interface OtpStep extends OtpDigits { step?: number }
+/** The counters that are tried: `count` ones from `first` on, none past 2^64 - 1. */
+export interface HotpWindow extends OtpDigits { first: Count; count: Count }
+/** The steps that are tried: that of a time in seconds since 1970, `back` ones before it and
+ * `ahead` behind it, each 1 where it is left out. */
+export interface TotpWindow extends OtpStep { time: Count; back?: number; ahead?: number }
+/** One-time passwords: HOTP (RFC 4226), and TOTP (RFC 6238). Most devices have "sha1". */
+export interface Otp<K> {
+  /** The password of a counter, with leading zeros. */
+  hotp(algorithm: HmacAlgorithm, key: K, counter: Count, options?: OtpDigits): string;
+  /** The password of a time in seconds since 1970, which is `Math.floor(Date.now() / 1000)` now. */
+  totp(algorithm: HmacAlgorithm, key: K, time: Count, options?: OtpStep): string;
+  /** The first counter whose password a text is, or null. A password is for one use: keep the
+   * counter, and refuse one that is not above the last. */
+  findHotp(algorithm: HmacAlgorithm, key: K, text: Input, window: HotpWindow): bigint | null;
+  /** The first step of time whose password a text is, or null. The same is true of steps. */
+  findTotp(algorithm: HmacAlgorithm, key: K, text: Input, window: TotpWindow): bigint | null;
+}
+
 /** A key of `subtle.importKey`, which is for this package's `subtle` alone. */
 export interface Key {
   readonly type: "secret";

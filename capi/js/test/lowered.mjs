@@ -43,6 +43,12 @@ const text = () => below(4) === 0 ? input() : [BigInt(OUTPUT),
 const hashes = () => [BigInt(oneOf(INPUTS) + below(8)), BigInt(below(20))];
 const path = () => [BigInt(OUTPUT + below(8)), below(10) ? 65n : BigInt(below(4))];
 const number = () => below(10) ? BigInt(below(20)) : 2n ** BigInt(below(64)) - BigInt(below(2));
+const keyOfTokens = () => below(8) ? [BigInt(INPUTS[0]), 64n] : input();
+const payload = () => [BigInt(oneOf(INPUTS) + below(8)), BigInt(below(600))];
+const signed = () => below(4) === 0 ? input() : [BigInt(OUTPUT),
+  BigInt.asUintN(10, new DataView(both[0].memory.buffer).getBigUint64(TEXT_LEN + 40, true))];
+const digits = () => [BigInt(OUTPUT), BigInt(5 + below(5))];
+const password = () => below(4) === 0 ? input() : digits();
 // The arguments of a call with so many inputs, an algorithm before them and an output behind.
 const withInputs = (count) => (n = algorithm()) =>
   [n, ...Array.from({ length: count }, input).flat(), ...output(n)];
@@ -81,6 +87,17 @@ const CALLS = {
     : [BigInt(INPUTS[0]), number(), number(), ...hashes(), BigInt(oneOf(INPUTS))],
   yz_merkle_verify_consistency: () =>
     [number(), BigInt(INPUTS[0]), number(), BigInt(oneOf(INPUTS)), ...hashes()],
+  // Mostly the key of the others, and the text that yz_jws_sign or yz_hotp has written.
+  yz_jws_sign: () => [oneOf([2, 3, algorithm()]), ...keyOfTokens(), ...payload(), BigInt(OUTPUT),
+    below(4) ? 1024n : BigInt(below(200)), BigInt(TEXT_LEN + 40)],
+  yz_jws_verify: () => [oneOf([2, 3, algorithm()]), ...keyOfTokens(), ...signed(),
+    BigInt(INPUTS[2]), below(9) ? 1024n : BigInt(below(200)), BigInt(TEXT_LEN + 48)],
+  yz_hotp: () => [algorithm(), ...keyOfTokens(), number(), ...digits()],
+  yz_totp: () => [algorithm(), ...keyOfTokens(), number(), below(60), ...digits()],
+  yz_hotp_find: () => [algorithm(), ...keyOfTokens(), number(), BigInt(below(20)),
+    BigInt(5 + below(5)), ...password(), BigInt(TEXT_LEN + 56)],
+  yz_totp_find: () => [algorithm(), ...keyOfTokens(), number(), below(60), below(4), below(4),
+    BigInt(5 + below(5)), ...password(), BigInt(TEXT_LEN + 56)],
   yz_equal: () => {
     const [at, len] = input();
     return [at, len, BigInt(oneOf(INPUTS)), below(4) ? len : len + 1n];

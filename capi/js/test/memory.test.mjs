@@ -70,8 +70,15 @@ test("the module itself leaves secrets on its stack, and that test would see the
     exports.yz_password_hash_verify(at, BigInt(text.length), at, 9n, 1), 8));
   const made = used((exports, at) => assert.equal(exports.yz_password_hash_new(
     11, 1, at, 9n, at, 9n, at + 128n, 1024n, at + 2048n), 0));
-  console.log(`${derive}, ${verify} and ${made} bytes of the stack`);
-  assert.ok(derive > 0 && derive <= 8 * 1024);
+  const token = used((exports, at) => {
+    assert.equal(exports.yz_jws_sign(4, at, 72n, at, 300n, at + 512n, 524n, at + 504n), 0);
+    assert.equal(
+      exports.yz_jws_verify(4, at, 72n, at + 512n, 524n, at + 2048n, 524n, at + 504n), 0);
+  });
+  const found = used((exports, at) => assert.equal(
+    exports.yz_totp_find(4, at, 72n, 90n, 30, 1, 1, 6n, at, 6n, at + 504n), 8));
+  console.log(`${derive}, ${verify}, ${made}, ${token} and ${found} bytes of the stack`);
+  for (const it of [derive, token, found]) assert.ok(it > 0 && it <= 8 * 1024);
   for (const it of [verify, made]) assert.ok(it > 0 && it <= 20 * 1024);
 });
 

@@ -1,11 +1,12 @@
 // SPDX-License-Identifier: ISC
 // What the tests of the package in the folder PACKAGE share: the package, the memory of its module,
-// and node:crypto's answers.
+// node:crypto's answers, and the lines of the folders of VECTORS.
 
 import crypto from "node:crypto";
+import { readFileSync, readdirSync } from "node:fs";
 import { pathToFileURL } from "node:url";
 
-const { PACKAGE } = process.env;
+const { PACKAGE, VECTORS } = process.env;
 // The instances of the module, which the package keeps to itself.
 export const instances = [];
 export const { Instance } = WebAssembly;
@@ -31,3 +32,13 @@ export function isWiped() {
 }
 
 export const theirs = (name, message) => crypto.createHash(name).update(message).digest("hex");
+
+// The lines of a folder of VECTORS that begin with a word, each split, with the answer below it.
+export function linesOf(folder, word) {
+  return readdirSync(`${VECTORS}/${folder}`).flatMap((name) => {
+    const lines = readFileSync(`${VECTORS}/${folder}/${name}`, "utf8").split("\n");
+    return lines.flatMap((line, i) => line.startsWith(`${word} `)
+      ? [{ words: line.split(" ").slice(1), wanted: lines[i + 1].replace("#= ", "") }] : []);
+  });
+}
+export const unhex = (text) => Buffer.from(text === "-" ? "" : text, "hex");

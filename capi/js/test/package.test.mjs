@@ -6,14 +6,16 @@ import crypto from "node:crypto";
 import { AsyncLocalStorage } from "node:async_hooks";
 import { execFileSync } from "node:child_process";
 import { once } from "node:events";
-import { createReadStream, readFileSync, readdirSync } from "node:fs";
+import { createReadStream, readFileSync } from "node:fs";
 import { createRequire } from "node:module";
 import { Readable } from "node:stream";
 import { pipeline } from "node:stream/promises";
 import { test } from "node:test";
 import { promisify } from "node:util";
 import { Worker } from "node:worker_threads";
-import { NAMES, SHA256_OF_ABC, TAGS, instances, main, theirs, yz } from "./package.mjs";
+import {
+  NAMES, SHA256_OF_ABC, TAGS, instances, linesOf, main, theirs, unhex, yz,
+} from "./package.mjs";
 import { FILES, hex, run } from "./vectors.mjs";
 
 const { PACKAGE, VECTORS, VERSION } = process.env;
@@ -307,16 +309,6 @@ test("an error tells no text that may be a secret", () => {
     assert.throws(call, (it) => it.code === "ERR_INVALID_ARG_TYPE" && !/a secr/.test(it.message));
   }
 });
-
-// The lines of a folder of VECTORS that begin with a word, each split, with the answer below it.
-function linesOf(folder, word) {
-  return readdirSync(`${VECTORS}/${folder}`).flatMap((name) => {
-    const lines = readFileSync(`${VECTORS}/${folder}/${name}`, "utf8").split("\n");
-    return lines.flatMap((line, i) => line.startsWith(`${word} `)
-      ? [{ words: line.split(" ").slice(1), wanted: lines[i + 1].replace("#= ", "") }] : []);
-  });
-}
-const unhex = (text) => Buffer.from(text === "-" ? "" : text, "hex");
 
 test("labels of TLS and QUIC, by the vectors of the RFCs", () => {
   const lines = linesOf("schedules", "expand-label");

@@ -92,7 +92,7 @@ def traced(data):
 
 # Bodies that leak the bytes at two places, each by another kind of instruction.
 LOAD_BYTE, STORE_BYTE, AND, XOR, ADD, EXTEND = 0x2D, 0x3A, 0x71, 0x73, 0x7C, 0xAD
-ADD32, MULTIPLY, DIVIDE, DIVIDE_LONG, CUT = 0x6A, 0x6C, 0x6E, 0x80, 0xA7
+ADD32, MULTIPLY, DIVIDE, REMAIN, DIVIDE_LONG, CUT = 0x6A, 0x6C, 0x6E, 0x70, 0x80, 0xA7
 ONE, TWO = op(I32_CONST) + b"\1", op(I32_CONST) + b"\2"
 FIRST, SECOND = (op(GET, it) + op(LOAD_BYTE, 0, 0) for it in (0, 1))
 BIT = FIRST + ONE + op(AND)
@@ -109,15 +109,16 @@ PLANTED = {
     "select": ONE + TWO + BIT + op(SELECT),
     "product": FIRST + TWO + op(MULTIPLY),
     "quotient": ONE + FIRST + ONE + op(ADD32) + op(DIVIDE),
+    "remainder": FIRST + TWO + op(REMAIN),
     "long quotient": FIRST + op(EXTEND) + op(GET, 1) + op(DIVIDE_LONG) + op(CUT),
 }
 # These stand where products and quotients are taken.
-OF_TEXTS_ONLY = {"product", "quotient", "long quotient"}
+OF_TEXTS_ONLY = {"product", "quotient", "remainder", "long quotient"}
 
 
 def planted():
     """A module of 64-bit addresses with the bodies above, lowered and traced as the other."""
-    names = [(OF_TEXTS.decode() if it in OF_TEXTS_ONLY else "") + it for it in PLANTED]
+    names = [(OF_TEXTS[0].decode() if it in OF_TEXTS_ONLY else "") + it for it in PLANTED]
     exports = [sized(b"memory") + bytes([KIND_MEMORY, 0])]
     exports += [
         sized(name.encode()) + bytes([KIND_FUNCTION, at]) for at, name in enumerate(names)

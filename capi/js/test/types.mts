@@ -2,8 +2,8 @@
 // tsc --noEmit: the types of the package as browsers have it. A line with an error must have it.
 
 import all, {
-  createHash, createHmac, digest, hkdf, hkdfExpand, hkdfSync, hmacVerify, merkle, passwordHash,
-  pbkdf2Sync, pbkdf2, subtle, timingSafeEqual, type Hash, type PasswordHashScheme,
+  createHash, createHmac, digest, hkdf, hkdfExpand, hkdfSync, hmacVerify, jws, merkle, otp,
+  passwordHash, pbkdf2Sync, pbkdf2, subtle, timingSafeEqual, type Hash, type PasswordHashScheme,
 } from "yezdopin";
 
 export const bytes: Uint8Array = digest("sha256", "abc");
@@ -25,6 +25,10 @@ export const scheme: PasswordHashScheme = passwordHash.info("").scheme;
 export const leaf: Uint8Array = merkle.leaf("an entry");
 export const path: Uint8Array[] = all.merkle.inclusionPath(new Set([leaf]), 0);
 export const isLogged: boolean = merkle.verifyInclusion(leaf, 0, 2n ** 63n, path, leaf.buffer);
+const token: string = jws.sign("HS256", "a key", JSON.stringify({ sub: "a user" }));
+export const payload: Uint8Array | null = all.jws.verify("HS512", bytes, token);
+export const password: string = otp.totp("sha1", "a key", 59, { digits: 8 });
+export const step: bigint | null = otp.findTotp("SHA-256", bytes, password, { time: 59n });
 export const made: Promise<ArrayBuffer> = subtle.digest("SHA-1", bytes);
 
 // @ts-expect-error no tag of SHA-512/256
@@ -49,3 +53,9 @@ passwordHash.newSync("md5", "pw", { iterations: 9 });
 merkle.root(["leaf"]);
 // @ts-expect-error no size
 merkle.verifyInclusion(leaf, 0, "8", path, leaf);
+// @ts-expect-error a token may be none of the key
+jws.verify("HS256", "a key", token).length;
+// @ts-expect-error no algorithm of tokens
+jws.sign("sha256", "a key", "");
+// @ts-expect-error no window
+otp.findHotp("sha1", "a key", password, { first: 0 });

@@ -6,7 +6,7 @@ import { createReadStream } from "node:fs";
 import { pipeline } from "node:stream/promises";
 import { promisify } from "node:util";
 import yz, {
-  Hash, createHash, createHmac, hash, merkle, pbkdf2, pbkdf2Sync, subtle,
+  Hash, createHash, createHmac, hash, jws, merkle, otp, pbkdf2, pbkdf2Sync, subtle,
 } from "yezdopin";
 
 export const text: string = pbkdf2Sync("a", "b", 1, 20, "sha1").toString("base64");
@@ -19,6 +19,9 @@ export const later: Buffer = await promisify(pbkdf2)("a", "b", 1, 20, "sha512");
 export const same: boolean = new Hash("sha1").copy() instanceof yz.Hash;
 export const bytes: Buffer = hash("sha1", "a", "buffer");
 export const proof: Buffer[] = merkle.consistencyPath([merkle.leaf("a"), yz.merkle.leaf("b")], 1n);
+const key = createSecretKey(Buffer.alloc(32)), token = jws.sign("HS256", key, "a payload");
+export const payload: string | undefined = jws.verify("HS256", key, token)?.toString();
+export const password: string = otp.hotp("sha1", key, 0n);
 export const made: ArrayBuffer = await subtle.digest("SHA-1", bytes);
 
 // @ts-expect-error no such encoding

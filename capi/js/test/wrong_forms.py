@@ -101,6 +101,7 @@ CODES = [
     ("f32.load", b"\x2a\2\0", "instruction 0x2a"),
     ("f32.add", b"\x92", "instruction 0x92"),
     ("i32.div_u", b"\x6e", "instruction 0x6e"),
+    ("i32.rem_u", b"\x70", "instruction 0x70"),
     ("i64.rem_u", b"\x82", "instruction 0x82"),
     ("a vector", b"\xfd\0\0\0", "instruction 0xfd"),
     ("an atomic access", b"\xfe\0\0\0", "instruction 0xfe"),

@@ -1,0 +1,48 @@
+// SPDX-License-Identifier: ISC
+// One-time passwords: HOTP (RFC 4226), and TOTP (RFC 6238).
+
+import * as calls from "./calls.js";
+import { outOfRange } from "./errors.js";
+import { bytesOrText, keyOf, macOf, uint64Of, wholeOf } from "./inputs.js";
+
+const DIGITS = 6;
+const STEP = 30;
+const MAX_UINT32 = 2 ** 32 - 1;
+
+const keyWords = (algorithm, key) => [macOf(algorithm, "algorithm"), keyOf(key, "key")];
+const digitsOf = (digits) => wholeOf(digits, "digits", 6, 8);
+const stepOf = (step) => wholeOf(step, "step", 1, MAX_UINT32);
+
+// A counter, a count of them, or a time.
+function numberOf(value, argument) {
+  const number = uint64Of(value, argument);
+  if (number === null) throw outOfRange(argument, ">= 0 && < 2 ** 64", value);
+  return number;
+}
+
+// A password as text.
+const textOf = (bytes) => String.fromCharCode(...bytes);
+
+export const otp = Object.freeze({
+  hotp(algorithm, key, counter, { digits = DIGITS } = {}) {
+    const words = [...keyWords(algorithm, key), numberOf(counter, "counter"), digitsOf(digits)];
+    return textOf(calls.hotp(...words));
+  },
+
+  totp(algorithm, key, time, { step = STEP, digits = DIGITS } = {}) {
+    const words = [...keyWords(algorithm, key), numberOf(time, "time"), stepOf(step),
+      digitsOf(digits)];
+    return textOf(calls.totp(...words));
+  },
+
+  findHotp(algorithm, key, text, { first, count, digits = DIGITS }) {
+    return calls.hotpFind(...keyWords(algorithm, key), numberOf(first, "first"),
+      numberOf(count, "count"), digitsOf(digits), bytesOrText(text, "text"));
+  },
+
+  findTotp(algorithm, key, text, { time, step = STEP, back = 1, ahead = 1, digits = DIGITS }) {
+    return calls.totpFind(...keyWords(algorithm, key), numberOf(time, "time"), stepOf(step),
+      wholeOf(back, "back", 0, MAX_UINT32), wholeOf(ahead, "ahead", 0, MAX_UINT32),
+      digitsOf(digits), bytesOrText(text, "text"));
+  },
+});

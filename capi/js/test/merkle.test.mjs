@@ -308,8 +308,8 @@ test("wrong types are refused", () => {
     () => merkle.verifyConsistency(1, it, 8, root, path),
     () => merkle.verifyConsistency(1, leaf, 8, it, path),
   ]);
-  for (const it of [null, undefined, 7, "text", path[0], new DataView(new ArrayBuffer(32)), {},
-    { length: 1, 0: leaf }, () => {}]) {
+  for (const it of [null, undefined, 7, "", "text", new Uint8Array(0), path[0], {},
+    new DataView(new ArrayBuffer(32)), { length: 1, 0: leaf }, () => {}]) {
     calls.push(() => merkle.root(it), () => merkle.inclusionPath(it, 0),
       () => merkle.consistencyPath(it, 1), () => merkle.verifyInclusion(leaf, 0, 1, it, leaf),
       () => merkle.verifyConsistency(1, leaf, 8, root, it));

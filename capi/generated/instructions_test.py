@@ -5,8 +5,8 @@ function is at fault, and then writes nothing:
 
     instructions_test.py [MODULE]
 
-tries a small module of its own for each processor, and with MODULE also that, of x86-64: the
-`module.ll` that kit.sh keeps. The last line is 'N passed, M failed'.
+tries a small module of its own for each processor, and with MODULE also that, of x86-64 or for
+JavaScript: the `module.ll` that kit.sh keeps. The last line is 'N passed, M failed'.
 """
 
 import argparse
@@ -195,7 +195,8 @@ def main():
     for processor in ("x86_64", "wasm64"):
         tried += cases(processor, module(processor))
     if given.module:
-        tried += cases("x86_64", Path(given.module).read_text(encoding="utf-8"))
+        text = Path(given.module).read_text(encoding="utf-8")
+        tried += cases(re.search(r'^target triple = "(\w+)-', text, re.M)[1], text)
     for name, fault in tried:
         if fault:
             print(f"FAILED: {name}: {fault.strip()[:300]}")

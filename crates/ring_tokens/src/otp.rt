@@ -100,8 +100,9 @@ fn digit(number: u32, place: u32) -> u8
     b'0' + (number / place % 10) as u8
 }
 
-// A number as eight digits.
-fn eight_digits(number: u32) -> [u8; 8]
+/// A number below 10^8 as eight decimal digits in ASCII, leading zeros among them. The last of them,
+/// as many as the password has, are the text of what [`hotp`] and [`totp`] return.
+pub fn eight_digits(number: u32) -> [u8; 8]
     ensures { result ≡ eight_digits number }
 {
     [

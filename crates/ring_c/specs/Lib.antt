@@ -7,4 +7,6 @@ pub mod Status
 pub mod PasswordHashes
 pub mod Gives
 pub mod Merkle
+pub mod Jws
+pub mod Otp
 pub mod Version

@@ -21,6 +21,10 @@ use Rattle.ring_password_hash.specs.declared.scheme.Scheme.TheVariants.{PhcSha51
 use Rattle.ring_password_hash.specs.declared.scheme.Scheme.TheVariants.{PasslibSha1, PasslibSha256}
 use Rattle.ring_password_hash.specs.declared.scheme.Scheme.TheVariants.{PasslibSha512, Postgresql}
 use Rattle.ring_password_hash.specs.declared.scheme.Scheme.TheVariants.{WerkzeugSha1}
+use Rattle.ring_tokens.specs.declared.alg.Alg.{Alg}
+use Rattle.ring_tokens.specs.declared.alg.Alg.TheVariants.{Hs256, Hs384, Hs512}
+use Rattle.ring_tokens.specs.declared.otp.Digits.{Digits}
+use Rattle.ring_tokens.specs.declared.otp.Digits.TheVariants.{Six, Seven, Eight}
 
 -- what the first four numbers name, of four values
 abbrev pub named : {A : Type 0} → (sha1 sha256 sha384 sha512 : A) → ℕ → Option A
@@ -60,7 +64,23 @@ scheme_named number =
     else if nat_eq number 12 then Some WerkzeugSha1
     else None
 
--- an iteration count: any number but 0
+-- the algorithm of signed tokens over the digest algorithm of a number
+abbrev pub jws_named : ℕ → Option Alg
+jws_named number =
+    if nat_eq number 2 then Some Hs256
+    else if nat_eq number 3 then Some Hs384
+    else if nat_eq number 4 then Some Hs512
+    else None
+
+-- how many digits a one-time password has
+abbrev pub digits_named : ℕ → Option Digits
+digits_named number =
+    if nat_eq number 6 then Some Six
+    else if nat_eq number 7 then Some Seven
+    else if nat_eq number 8 then Some Eight
+    else None
+
+-- an iteration count, or the seconds of a step: any number but 0
 abbrev pub count_named : ℕ → Option NonZeroU32
 count_named zero = None
 count_named (suc n) = Some (record { value = suc n; ok = zero-lt-suc n })

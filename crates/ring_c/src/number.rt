@@ -1,13 +1,16 @@
 // SPDX-License-Identifier: ISC
-//! Algorithms by their numbers, which are those of the digest algorithms below them, and schemes of
-//! password hashes by theirs.
+//! Algorithms by their numbers, which are those of the digest algorithms below them, schemes of
+//! password hashes by theirs, and numbers that are counts.
 
-ghost use Rattle.std.specs.Prelude.{◌≡◌, Some};
-ghost use Rattle.ring_c.specs.Number.{count_named, hkdf_named, hmac_named, pbkdf2_named};
-ghost use Rattle.ring_c.specs.Number.{scheme_named};
+ghost use Rattle.std.specs.Prelude.{◌≡◌, IfSome, Some};
+ghost use Rattle.ring_tokens.specs.Otp.{digits_of};
+ghost use Rattle.ring_c.specs.Number.{count_named, digits_named, hkdf_named, hmac_named, jws_named};
+ghost use Rattle.ring_c.specs.Number.{pbkdf2_named, scheme_named};
 
 use ring::{hkdf, hmac, pbkdf2};
 use ring_password_hash::Scheme;
+use ring_tokens::Alg;
+use ring_tokens::otp::Digits;
 use std::num::NonZeroU32;
 
 // The HMAC algorithm of a number.
@@ -45,6 +48,31 @@ pub(crate) fn pbkdf2_of_number(number: u32) -> Option<pbkdf2::Algorithm>
         2 => Some(pbkdf2::PBKDF2_HMAC_SHA256),
         3 => Some(pbkdf2::PBKDF2_HMAC_SHA384),
         4 => Some(pbkdf2::PBKDF2_HMAC_SHA512),
+        _ => None,
+    }
+}
+
+// The algorithm of signed tokens of a number.
+pub(crate) fn alg_of_number(number: u32) -> Option<Alg>
+    ensures { result ≡ jws_named number }
+{
+    match number {
+        2 => Some(Alg::Hs256),
+        3 => Some(Alg::Hs384),
+        4 => Some(Alg::Hs512),
+        _ => None,
+    }
+}
+
+// The number as that of a one-time password's digits.
+pub(crate) fn digits_of_number(number: usize) -> Option<Digits>
+    ensures ok { result ≡ digits_named number }
+    ensures count { IfSome result (λ digits. digits_of digits ≡ number) }
+{
+    match number {
+        6 => Some(Digits::Six),
+        7 => Some(Digits::Seven),
+        8 => Some(Digits::Eight),
         _ => None,
     }
 }

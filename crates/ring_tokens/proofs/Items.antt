@@ -18,6 +18,7 @@ use Rattle.std.proofs.lemmas.Slice.Eq.{bytes_eq-Decides}
 use Rattle.ring_text.specs.Cut.{IsFirstCut, IsWithout}
 use Rattle.ring_text.proofs.Cuts.{NotAt, cut_same}
 use Rattle.ring_tokens.specs.Webhook.{has_item, items_of, stripe_message, timestamp_then}
+use Rattle.ring_tokens.specs.declared.webhook.Timestamp.{Timestamp}
 
 pub items_cut : {text before behind : List ℕ} → IsFirstCut 44 text before behind
     → items_of text ≡ before ∷ items_of behind
@@ -51,7 +52,7 @@ pub decimal_apart : (n : ℕ) → n < 2 ^ 64 → IsWithout 44 (decimal n)
 decimal_apart n h = digits_apart (decimal n) (decimal_is_IsNumeral n (omega (arith, h))).0.1
 
 -- a time and what follows are known from the whole
-pub timestamp_same : (m n : ℕ) (s t : List ℕ) → m < 2 ^ 64 → n < 2 ^ 64
+timestamp_same : (m n : ℕ) (s t : List ℕ) → m < 2 ^ 64 → n < 2 ^ 64
     → timestamp_then m s ≡ timestamp_then n t → (m ≡ n) × (s ≡ t)
 timestamp_same m n s t hm hn e =
     let cut = cut_same 44 (decimal m) (decimal n) s t (decimal_apart m hm) (decimal_apart n hn)
@@ -94,8 +95,21 @@ pub found_last : (found r : Bool) (wanted : List ℕ) {text : List ℕ} → IsWi
     → (r ≡ true) ↔ (text ≡ wanted) → (found || r) ≡ (found || has_item wanted text)
 found_last found r wanted apart h = ap (λ x. found || x) (has_last r wanted apart h)
 
--- the pieces that are signed join to the message
-pub stripe_joined : (digits body : List ℕ) (n : ℕ) → digits ≡ decimal n
-    → digits ++ 46 ∷ (body ++ []) ≡ stripe_message n body
-stripe_joined digits body n is =
-    ap (λ b. digits ++ 46 ∷ b) (append-nil body) ∙ ap (λ d. d ++ 46 ∷ body) is
+-- what was read of a header
+abbrev pub IsRead : (header : List ℕ) → Timestamp → Type 0
+IsRead header time = (time.digits.now ≡ decimal time.seconds) × (time.seconds < 2 ^ 64)
+    × (header ≡ timestamp_then time.seconds time.items.now)
+
+-- the time and the items are known from it, and the pieces that are signed join to the message
+pub stripe_read : (header : List ℕ) (time : Timestamp) → IsRead header time → (n : ℕ)
+    (items : List ℕ) → n < 2 ^ 64 → header ≡ timestamp_then n items
+    → (time.seconds ≡ n) × (time.items.now ≡ items)
+    × ((body : List ℕ) → time.digits.now ++ 46 ∷ (body ++ []) ≡ stripe_message n body)
+stripe_read header time read n items small is =
+    let same = timestamp_same time.seconds n time.items.now items read.1 small (sym read.2 ∙ is) in (
+      same.0,
+      same.1,
+      λ body.
+          ap (λ b. time.digits.now ++ 46 ∷ b) (append-nil body)
+          ∙ ap (λ d. d ++ 46 ∷ body) (read.0 ∙ ap decimal same.0),
+    )

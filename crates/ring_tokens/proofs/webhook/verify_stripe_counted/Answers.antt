@@ -1,9 +1,8 @@
 -- SPDX-License-Identifier: ISC
-use Rattle.std.proofs.Common.{◌≡◌, arith, ap, length, refl, rules, sym, ◌∙◌}
-use Rattle.std.specs.Fmt.{decimal}
+use Rattle.std.proofs.Common.{◌≡◌, arith, ap, length, refl, rules, ◌∙◌}
 use Rattle.ring.specs.Prelude.{hmac_of, key_algorithm}
 use Rattle.ring_tokens.specs.Webhook.{has_item, stripe_item, stripe_message}
-use Rattle.ring_tokens.proofs.Items.{stripe_joined, timestamp_same}
+use Rattle.ring_tokens.proofs.Items.{stripe_read}
 use Rattle.ring_tokens.proofs.Rises.{stripe_cost}
 use Rattle.ring_tokens.proofs.webhook.verify_stripe_counted.Goals as goal
 
@@ -11,38 +10,30 @@ pub returns-then-now-time-clause-ok : goal.returns-then-now-time-clause-ok
 returns-then-now-time-clause-ok c = λ k key. (
   λ f. cc f,
   λ w.
-      let read = c.in-Some.ensures.ok in
-      let same = timestamp_same c.in-Some.time.seconds w.time c.in-Some.time.items.now w.items
-      read.1 w.small (sym read.2 ∙ w.is) in
+      let same = stripe_read c.args.header.now c.in-Some.time c.in-Some.ensures.ok w.time w.items
+      w.small w.is in
       absurd (omega (arith, same.0, w.recent, c.if-now-time.true)),
 )
 
 pub returns-then-now-time-clause-cost : goal.returns-then-now-time-clause-cost
 returns-then-now-time-clause-cost c = λ n items alg small is recent within.
-    let read = c.in-Some.ensures.ok in
-    let same = timestamp_same c.in-Some.time.seconds n c.in-Some.time.items.now items read.1 small
-    (sym read.2 ∙ is) in
+    let same = stripe_read c.args.header.now c.in-Some.time c.in-Some.ensures.ok n items small is in
     absurd (omega (arith, same.0, recent, c.if-now-time.true))
 
 pub returns-in_default-sign_pieces-clause-ok : goal.returns-in_default-sign_pieces-clause-ok
 returns-in_default-sign_pieces-clause-ok c = λ k key. (
   λ f. cc f,
   λ w.
-      let read = c.in-Some.ensures.ok in
-      let same = timestamp_same c.in-Some.time.seconds w.time c.in-Some.time.items.now w.items
-      read.1 w.small (sym read.2 ∙ w.is) in
-      let whole = ap length (stripe_joined c.in-Some.time.digits.now c.args.body.now w.time
-      (read.0 ∙ ap decimal same.0)) in
+      let same = stripe_read c.args.header.now c.in-Some.time c.in-Some.ensures.ok w.time w.items
+      w.small w.is in
+      let whole = ap length (same.2 c.args.body.now) in
       absurd (omega (arith, c.in_default-sign_pieces.ensures.refused.0 refl, w.within, whole)),
 )
 
 pub returns-in_default-sign_pieces-clause-cost : goal.returns-in_default-sign_pieces-clause-cost
 returns-in_default-sign_pieces-clause-cost c = λ n items alg small is recent within.
-    let read = c.in-Some.ensures.ok in
-    let same = timestamp_same c.in-Some.time.seconds n c.in-Some.time.items.now items read.1 small
-    (sym read.2 ∙ is) in
-    let whole = ap length (stripe_joined c.in-Some.time.digits.now c.args.body.now n
-    (read.0 ∙ ap decimal same.0)) in
+    let same = stripe_read c.args.header.now c.in-Some.time c.in-Some.ensures.ok n items small is in
+    let whole = ap length (same.2 c.args.body.now) in
     let past = rw alg at (c.in_default-sign_pieces.ensures.refused.0 refl) in
     absurd (omega (arith, past, within, whole))
 
@@ -50,15 +41,12 @@ pub returns-then-not-has_item-clause-ok : goal.returns-then-not-has_item-clause-
 returns-then-not-has_item-clause-ok c = λ k key. (
   λ f. cc f,
   λ w.
-      let read = c.in-Some.ensures.ok in
       let a = key_algorithm c.args.key.now in
       let body = c.args.body.now in
-      let same = timestamp_same c.in-Some.time.seconds w.time c.in-Some.time.items.now w.items
-      read.1 w.small (sym read.2 ∙ w.is) in
-      let message = stripe_joined c.in-Some.time.digits.now body w.time
-      (read.0 ∙ ap decimal same.0) in
+      let same = stripe_read c.args.header.now c.in-Some.time c.in-Some.ensures.ok w.time w.items
+      w.small w.is in
       let tag = c.as_ref.ensures.bytes ∙ (c.in-Ok.ensures.ok k key).bytes
-      ∙ ap (hmac_of a k) message in
+      ∙ ap (hmac_of a k) (same.2 body) in
       let item = c.item_of.ensures ∙ ap stripe_item tag in
       let found = c.has_item.ensures.ok ∙ ap (λ i. has_item i c.in-Some.time.items.now) item
       ∙ ap (has_item (stripe_item (hmac_of a k (stripe_message w.time body)))) same.1 ∙ w.signed in
@@ -67,24 +55,16 @@ returns-then-not-has_item-clause-ok c = λ k key. (
 
 pub returns-then-not-has_item-clause-cost : goal.returns-then-not-has_item-clause-cost
 returns-then-not-has_item-clause-cost c = λ n items alg small is recent within.
-    let read = c.in-Some.ensures.ok in
-    let same = timestamp_same c.in-Some.time.seconds n c.in-Some.time.items.now items read.1 small
-    (sym read.2 ∙ is) in
-    let message = stripe_joined c.in-Some.time.digits.now c.args.body.now n
-    (read.0 ∙ ap decimal same.0) in
+    let time = c.in-Some.time in
+    let same = stripe_read c.args.header.now time c.in-Some.ensures.ok n items small is in
     let len : length c.item_of.result ≡ 67 = search rules in
-    stripe_cost c.args.meter.now c.in-Some.time.digits.now c.args.body.now
-    c.in-Some.time.items.now c.item_of.result n alg message same.1 len c.in-Ok.ensures.cost
-    c.has_item.ensures.cost
+    stripe_cost c.args.meter.now time.digits.now c.args.body.now time.items.now c.item_of.result n
+    alg (same.2 c.args.body.now) same.1 len c.in-Ok.ensures.cost c.has_item.ensures.cost
 
 pub returns-clause-cost : goal.returns-clause-cost
 returns-clause-cost c = λ n items alg small is recent within.
-    let read = c.in-Some.ensures.ok in
-    let same = timestamp_same c.in-Some.time.seconds n c.in-Some.time.items.now items read.1 small
-    (sym read.2 ∙ is) in
-    let message = stripe_joined c.in-Some.time.digits.now c.args.body.now n
-    (read.0 ∙ ap decimal same.0) in
+    let time = c.in-Some.time in
+    let same = stripe_read c.args.header.now time c.in-Some.ensures.ok n items small is in
     let len : length c.item_of.result ≡ 67 = search rules in
-    stripe_cost c.args.meter.now c.in-Some.time.digits.now c.args.body.now
-    c.in-Some.time.items.now c.item_of.result n alg message same.1 len c.in-Ok.ensures.cost
-    c.has_item.ensures.cost
+    stripe_cost c.args.meter.now time.digits.now c.args.body.now time.items.now c.item_of.result n
+    alg (same.2 c.args.body.now) same.1 len c.in-Ok.ensures.cost c.has_item.ensures.cost

@@ -158,8 +158,8 @@ class Threads(unittest.TestCase):
                 lambda: tokens.sign(b"", data),
                 lambda: self.assertRaises(yezdopin.Error, tokens.verify, data, LONG),
                 lambda: self.assertRaises(yezdopin.Error, tokens.verify, b"..", data),
-                lambda: tokens.find_hotp(LONG, "none", 0, 200_000),
-                lambda: tokens.find_totp(LONG, "none", 0, ahead=200_000),
+                lambda: tokens.find_hotp(LONG, "no otp", 0, 200_000),
+                lambda: tokens.find_totp(LONG, "no otp", 0, ahead=200_000),
             ):
                 with self.subTest(inspect.getsource(call).strip()):
                     self.assertTrue(any(turns_during(call) for _ in range(20)))

@@ -106,7 +106,8 @@ pub stripe_read : (header : List ℕ) (time : Timestamp) → IsRead header time 
     → (time.seconds ≡ n) × (time.items.now ≡ items)
     × ((body : List ℕ) → time.digits.now ++ 46 ∷ (body ++ []) ≡ stripe_message n body)
 stripe_read header time read n items small is =
-    let same = timestamp_same time.seconds n time.items.now items read.1 small (sym read.2 ∙ is) in (
+    let e = sym read.2 ∙ is in
+    let same = timestamp_same time.seconds n time.items.now items read.1 small e in (
       same.0,
       same.1,
       λ body.

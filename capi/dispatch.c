@@ -113,6 +113,29 @@ CALL(yz_hmac_update, , HMAC, context->inner.algorithm,
 CALL(yz_hmac_final, , HMAC, context->inner.algorithm,
      (const yz_hmac_context *context, OUT(out)), (context, BYTES(out)))
 
+/* Signed tokens and one-time passwords run tags. */
+#define TEXT(name) const char *name, size_t name##_len
+CALL(yz_jws_sign, , HMAC, algorithm,
+     (uint32_t algorithm, IN(key), IN(payload), char *token, size_t room, size_t *token_len),
+     (algorithm, BYTES(key), BYTES(payload), token, room, token_len))
+CALL(yz_jws_verify, , HMAC, algorithm,
+     (uint32_t algorithm, IN(key), TEXT(token), uint8_t *payload, size_t room, size_t *payload_len),
+     (algorithm, BYTES(key), BYTES(token), payload, room, payload_len))
+CALL(yz_hotp, , HMAC, algorithm,
+     (uint32_t algorithm, IN(key), uint64_t counter, char *text, size_t digits),
+     (algorithm, BYTES(key), counter, text, digits))
+CALL(yz_totp, , HMAC, algorithm,
+     (uint32_t algorithm, IN(key), uint64_t time, uint32_t step, char *text, size_t digits),
+     (algorithm, BYTES(key), time, step, text, digits))
+CALL(yz_hotp_find, , HMAC, algorithm,
+     (uint32_t algorithm, IN(key), uint64_t first, uint64_t count, size_t digits, TEXT(text),
+      uint64_t *counter),
+     (algorithm, BYTES(key), first, count, digits, BYTES(text), counter))
+CALL(yz_totp_find, , HMAC, algorithm,
+     (uint32_t algorithm, IN(key), uint64_t time, uint32_t step, uint32_t back, uint32_t ahead,
+      size_t digits, TEXT(text), uint64_t *counter),
+     (algorithm, BYTES(key), time, step, back, ahead, digits, BYTES(text), counter))
+
 CALL(yz_hkdf_extract, , HKDF, algorithm,
      (uint32_t algorithm, IN(salt), IN(secret), OUT(out)),
      (algorithm, BYTES(salt), BYTES(secret), BYTES(out)))

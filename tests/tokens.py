@@ -12,20 +12,25 @@ and ', K skipped' where a peer is missing.
 """
 
 import base64
+import ctypes
 import functools
 import hashlib
 import hmac
 import json
+import os
 import random
+import re
 import shutil
 import subprocess
 import sys
+import tempfile
 
 sys.dont_write_bytecode = True
 import counted
 from run import COMPILER, ROOT, answers, differing, file_case, short_of_memory
 
 VECTORS = ROOT / "vectors/tokens"
+PAGE = ROOT / "docs/TOKENS.md"
 HASHES = {"HS256": "sha256", "HS384": "sha384", "HS512": "sha512"}
 OTP_HASHES = {"SHA1": "sha1", "SHA256": "sha256", "SHA384": "sha384", "SHA512": "sha512"}
 INVALID, REFUSED = "not a valid token", "refused"
@@ -538,6 +543,59 @@ ALONE = (
 )
 
 
+def library():
+    """The example in C of docs/TOKENS.md, over the C library."""
+    with tempfile.TemporaryDirectory() as room:
+        environment = {name: it for name, it in os.environ.items() if not name.startswith("MAKE")}
+        command = ["make", "-s", "-C", ROOT / "capi", f"OUT={room}", "all"]
+        subprocess.run(command, check=True, stdout=subprocess.DEVNULL, env=environment)
+        code = re.search(r"^```c\n(.*?)^```$", PAGE.read_text(), re.M | re.S)[1]
+        flags = ["-shared", "-fPIC", f"-I{ROOT}/capi/include", "-x", "c", "-", "-x", "none"]
+        command = ["cc", *flags, f"{room}/libyezdopin.a", "-o", f"{room}/example.so"]
+        subprocess.run(command, input=code, text=True, check=True)
+        found = ctypes.CDLL(f"{room}/example.so")
+    found.claims_of.restype = found.is_new_password.restype = ctypes.c_bool
+    return found
+
+
+def claims_by(calls, key, token):
+    """What the example makes of a token."""
+    room, count = ctypes.create_string_buffer(len(token)), ctypes.c_size_t()
+    size = ctypes.c_size_t(len(token))
+    known = calls.claims_of(key, token, size, room, size, ctypes.byref(count))
+    return room.raw[: count.value] if known else None
+
+
+def tokens_by_example(calls, rng):
+    """The tokens that the example takes for others than they are."""
+    for _ in range(100):
+        key, payload = rng.randbytes(32), rng.randbytes(rng.randrange(99))
+        token = signed_token("HS256", key, header_of("HS256", rng.choice(USUAL)), payload)
+        for text in (token, *broken(rng, "HS256", key, token)):
+            got = claims_by(calls, key, text)
+            if got != payload_of("HS256", key, text):
+                yield text.decode(errors="replace"), str(got)
+
+
+def logins_by_example(calls, rng):
+    """The logins that the example takes for others than they are."""
+    for _ in range(500):
+        key, now, last = rng.randbytes(20), rng.randrange(60, 2**40), ctypes.c_uint64()
+        for shift in (-2, -1, 0, 1, 2, 0):
+            typed = b"%06d" % hotp("SHA1", key, now // 30 + shift, 6)
+            new = abs(shift) < 2 and now // 30 + shift > last.value
+            given = key, ctypes.c_size_t(20), ctypes.c_uint64(now), typed
+            if calls.is_new_password(*given, ctypes.byref(last)) != new:
+                yield f"{key.hex()} {now} {shift}", typed.decode()
+
+
+def example_in_c():
+    """docs/TOKENS.md's example in C takes tokens as a reading of RFC 7515 does, and a password of
+    a reading of RFC 6238 once."""
+    calls, rng = library(), random.Random(19)
+    return [*tokens_by_example(calls, rng), *logins_by_example(calls, rng)]
+
+
 def cases():
     """Each case, and what is missing for it on this machine."""
     yield from ((file_case(file), "") for file in sorted(VECTORS.glob("*.txt")))
@@ -546,6 +604,7 @@ def cases():
     yield with_pyjwt, "" if python_with("jwt") else "PyJWT"
     yield with_pyotp, "" if python_with("pyotp") else "pyotp"
     yield with_oathtool, "" if shutil.which("oathtool") else "oathtool"
+    yield example_in_c, " ".join(it for it in ("make", "cc") if not shutil.which(it))
 
 
 def main():

@@ -396,12 +396,10 @@ yz_status yz_merkle_consistency_path(const yz_merkle_hash *leaves, size_t count,
  * least yz_output_len of the algorithm bytes, or the call answers YZ_UNSPECIFIED.
  *
  * A payload is any bytes. No call reads the claims in it: whether the token has expired is for the
- * caller to test, and for whom it was made. */
-
-/* The bytes of the token of a payload of `payload_len` bytes, over a digest of `output_len`. */
-#define YZ_JWS_TOKEN_LEN(output_len, payload_len)                                                  \
-    ((size_t)38 + YZ_BASE64URL_LEN(output_len) + YZ_BASE64URL_LEN(payload_len))
-#define YZ_BASE64URL_LEN(len) ((size_t)(len) / 3 * 4 + ((size_t)(len) % 3 * 4 + 2) / 3)
+ * caller to test, and for whom it was made. A token has YZ_JWS_TOKEN_LEN(n, m) bytes, where a
+ * digest has n and the payload m. */
+#define YZ_JWS_TOKEN_LEN(n, m) (38 + YZ_BASE64_LEN(n) + YZ_BASE64_LEN(m))
+#define YZ_BASE64_LEN(n) ((size_t)(n) + ((size_t)(n) + 2) / 3)
 
 /* Writes the token of a payload to the start of `token`, which has `token_room` bytes, and to
  * `token_len` how many bytes it has, which are YZ_JWS_TOKEN_LEN. No zero follows it, and the rest

@@ -118,14 +118,14 @@ def types(found):
 def plain_number(value):
     """A value as a reader who is no compiler writes it."""
     value = re.sub(r"^\((.*)\)$", r"\1", value.replace("UINT64_C(0xffffffff)", r"(2^32 \- 1)"))
-    return re.sub(r"(?<=\d)u\b", "", value)
+    return re.sub(r"(?<=\d)u\b|\(size_t\)", "", value)
 
 
 def constants(found):
     """What comments say of constants, and a table of these, but for statuses and the version."""
     for comment, code in found:
         rows = re.findall(r"^    (YZ_\w+) = (\d+),(?: /\* (.*?) \*/)?$", code, re.M)
-        rows += re.findall(r"^#define (YZ_\w+(?:\(\w+\))?) (\d+|\(.*\))()$", code, re.M)
+        rows += re.findall(r"^#define (YZ_\w+(?:\([\w, ]+\))?) (\d+|\(.*\))()$", code, re.M)
         if rows and not re.search("YZ_OK|YZ_VERSION", code):
             cells = (f"{name}|{plain_number(value)}|{note}" for name, value, note in rows)
             yield "" if CALL.search(code) else f".P\n{prose(comment)}"

@@ -4,8 +4,8 @@
  * pieces is made by each build and ended by the other, and made again by a build that is drawn for
  * each step. Garbage in the place of contexts and keys has the same answers in both. The calls that
  * run several messages or rounds of output side by side give the same in both, at both widths, and
- * each build verifies the other's paths of Merkle trees. Messages, pieces and builds are drawn at
- * random, in each run the same. */
+ * each build verifies the other's paths of Merkle trees and signed tokens, and finds its one-time
+ * passwords. Messages, pieces and builds are drawn at random, in each run the same. */
 #include "yezdopin.h"
 #include <stdio.h>
 #include <stdlib.h>
@@ -22,6 +22,9 @@
 #define MOST_ITERATIONS 5
 #define MOST_DERIVED 1000
 #define TREES 2000
+#define TOKENS 2000
+#define MOST_PAYLOAD 500
+#define MOST_TOKEN YZ_JWS_TOKEN_LEN(YZ_MAX_OUTPUT_LEN, MOST_PAYLOAD)
 #define MOST_LEAVES 70
 
 /* The calls that dispatch.c alone knows, and those of the build for x86-64-v3 by the names that the
@@ -47,6 +50,12 @@ __typeof__(yz_hkdf_extract) v3_yz_hkdf_extract;
 __typeof__(yz_hkdf_expand) v3_yz_hkdf_expand;
 __typeof__(yz_hkdf_expand_label) v3_yz_hkdf_expand_label;
 __typeof__(yz_hkdf) v3_yz_hkdf;
+__typeof__(yz_jws_sign) v3_yz_jws_sign;
+__typeof__(yz_jws_verify) v3_yz_jws_verify;
+__typeof__(yz_hotp) v3_yz_hotp;
+__typeof__(yz_totp) v3_yz_totp;
+__typeof__(yz_hotp_find) v3_yz_hotp_find;
+__typeof__(yz_totp_find) v3_yz_totp_find;
 __typeof__(yz_merkle_leaf) v3_yz_merkle_leaf;
 __typeof__(yz_merkle_root) v3_yz_merkle_root;
 __typeof__(yz_merkle_inclusion_path) v3_yz_merkle_inclusion_path;
@@ -71,6 +80,12 @@ typedef struct {
     __typeof__(yz_hkdf_expand) *hkdf_expand;
     __typeof__(yz_hkdf_expand_label) *hkdf_expand_label;
     __typeof__(yz_hkdf) *hkdf;
+    __typeof__(yz_jws_sign) *jws_sign;
+    __typeof__(yz_jws_verify) *jws_verify;
+    __typeof__(yz_hotp) *hotp;
+    __typeof__(yz_totp) *totp;
+    __typeof__(yz_hotp_find) *hotp_find;
+    __typeof__(yz_totp_find) *totp_find;
     __typeof__(yz_merkle_leaf) *leaf;
     __typeof__(yz_merkle_root) *root;
     __typeof__(yz_merkle_inclusion_path) *inclusion_path;
@@ -85,12 +100,14 @@ static const build BUILD[BUILDS] = {
     {yz_digest, yz_digest_init, yz_digest_update, yz_digest_final, yz_hmac_sign, yz_hmac_verify,
      yz_hmac_key_init, yz_hmac_key_sign, yz_hmac_key_verify, yz_hmac_init, yz_hmac_update,
      yz_hmac_final, yz_hkdf_extract, yz_hkdf_expand, yz_hkdf_expand_label, yz_hkdf,
-     yz_merkle_leaf, yz_merkle_root, yz_merkle_inclusion_path, yz_merkle_consistency_path,
+     yz_jws_sign, yz_jws_verify, yz_hotp, yz_totp, yz_hotp_find, yz_totp_find, yz_merkle_leaf,
+     yz_merkle_root, yz_merkle_inclusion_path, yz_merkle_consistency_path,
      yz_merkle_verify_inclusion, yz_merkle_verify_consistency},
     {v3_yz_digest, v3_yz_digest_init, v3_yz_digest_update, v3_yz_digest_final, v3_yz_hmac_sign,
      v3_yz_hmac_verify, v3_yz_hmac_key_init, v3_yz_hmac_key_sign, v3_yz_hmac_key_verify,
      v3_yz_hmac_init, v3_yz_hmac_update, v3_yz_hmac_final, v3_yz_hkdf_extract, v3_yz_hkdf_expand,
-     v3_yz_hkdf_expand_label, v3_yz_hkdf, v3_yz_merkle_leaf, v3_yz_merkle_root,
+     v3_yz_hkdf_expand_label, v3_yz_hkdf, v3_yz_jws_sign, v3_yz_jws_verify, v3_yz_hotp,
+     v3_yz_totp, v3_yz_hotp_find, v3_yz_totp_find, v3_yz_merkle_leaf, v3_yz_merkle_root,
      v3_yz_merkle_inclusion_path, v3_yz_merkle_consistency_path, v3_yz_merkle_verify_inclusion,
      v3_yz_merkle_verify_consistency},
 };
@@ -294,6 +311,49 @@ static void tree(const uint8_t *bytes, size_t size) {
         }
 }
 
+/* A token: each build verifies it, and refuses it with a bit turned. */
+static void token(uint32_t n, const uint8_t *bytes, size_t payload_len) {
+    char text[BUILDS][MOST_TOKEN];
+    uint8_t payload[MOST_TOKEN];
+    const size_t key_len = yz_output_len(n) + below(MOST_KEY);
+    const uint8_t *signed_bytes = bytes + MOST_KEY + YZ_MAX_OUTPUT_LEN;
+    size_t len[BUILDS];
+    for (int i = 0; i < BUILDS; i++)
+        must(BUILD[i].jws_sign(n, bytes, key_len, signed_bytes, payload_len, text[i], MOST_TOKEN,
+                               &len[i]) == YZ_OK, "a token");
+    must(len[V2] == len[V3] && !memcmp(text[V2], text[V3], len[V2]), "tokens are the same");
+    for (int right = 1; right >= 0; right--, text[V2][below(len[V2])] ^= 1)
+        for (int i = 0; i < BUILDS; i++) {
+            size_t got = 0;
+            yz_status status = BUILD[i].jws_verify(n, bytes, key_len, text[V2], len[V2], payload,
+                                                   MOST_TOKEN, &got);
+            must(status == (right ? YZ_OK : YZ_UNSPECIFIED), "a token is verified");
+            must(!right || (got == payload_len && !memcmp(payload, signed_bytes, got)),
+                 "a token has its payload");
+        }
+}
+
+/* A password of a counter, and of the step of that number: each build finds it. */
+static void password(uint32_t n, const uint8_t *bytes, size_t key_len, uint64_t counter) {
+    char text[2 * BUILDS][YZ_OTP_MAX_DIGITS];
+    const size_t digits = YZ_OTP_MIN_DIGITS + below(3);
+    const uint32_t window = (uint32_t)below(20);
+    for (int i = 0; i < BUILDS; i++)
+        must(BUILD[i].hotp(n, bytes, key_len, counter, text[i], digits) == YZ_OK &&
+                 BUILD[i].totp(n, bytes, key_len, 30 * counter + 29, 30, text[BUILDS + i],
+                               digits) == YZ_OK, "a password");
+    for (int i = 1; i < 2 * BUILDS; i++)
+        must(!memcmp(text[i], text[0], digits), "passwords are the same");
+    for (int i = 0; i < BUILDS; i++) {
+        uint64_t of_hotp = 0, of_totp = 0;
+        must(BUILD[i].hotp_find(n, bytes, key_len, counter, 1 + window, digits, text[0], digits,
+                                &of_hotp) == YZ_OK &&
+                 BUILD[i].totp_find(n, bytes, key_len, 30 * counter, 30, 0, window, digits, text[0],
+                                    digits, &of_totp) == YZ_OK, "a password is found");
+        must(of_hotp == counter && of_totp == counter, "at its counter");
+    }
+}
+
 int main(void) {
     static uint8_t message[MOST_MESSAGE];
     for (size_t i = 0; i < MOST_MESSAGE; i++) message[i] = (uint8_t)rand();
@@ -311,8 +371,13 @@ int main(void) {
     for (int turn = 0; turn < DERIVATIONS; turn++)
         expansion(1 + (uint32_t)below(YZ_SHA512), message, 1 + below(MOST_DERIVED));
     for (int turn = 0; turn < TREES; turn++) tree(message, 2 + below(MOST_LEAVES - 1));
+    for (int turn = 0; turn < TOKENS; turn++) {
+        token(YZ_SHA256 + (uint32_t)below(3), message, below(MOST_PAYLOAD));
+        password(1 + (uint32_t)below(YZ_SHA512), message, below(MOST_KEY),
+                 (uint64_t)rand() << below(28));
+    }
     for (int turn = 0; turn < GARBAGE; turn++) garbage(message);
     printf("both builds agree: %d messages in %ld pieces, %d lists of messages, %d derived keys of "
-           "each kind, %d trees, %d times garbage\n", MESSAGES, steps, LISTS, DERIVATIONS, TREES,
-           GARBAGE);
+           "each kind, %d trees, %d tokens and passwords, %d times garbage\n", MESSAGES, steps,
+           LISTS, DERIVATIONS, TREES, TOKENS, GARBAGE);
 }

@@ -8,7 +8,7 @@
 #include <stdlib.h>
 #include <string.h>
 
-#define MOST_ARGUMENTS 9
+#define MOST_ARGUMENTS 11
 
 static int faults;
 
@@ -100,6 +100,24 @@ STAND_INS(yz_hmac_key_verify, , (const yz_hmac_key *a, in b, size_t c, in d, siz
           N(a), N(b), N(c), N(d), N(e))
 STAND_INS(yz_hmac_update, , (yz_hmac_context *a, in b, size_t c), N(a), N(b), N(c))
 STAND_INS(yz_hmac_final, , (const yz_hmac_context *a, out b, size_t c), N(a), N(b), N(c))
+STAND_INS(yz_jws_sign, ,
+          (uint32_t a, in b, size_t c, in d, size_t e, char *f, size_t g, size_t *h),
+          N(a), N(b), N(c), N(d), N(e), N(f), N(g), N(h))
+STAND_INS(yz_jws_verify, ,
+          (uint32_t a, in b, size_t c, const char *d, size_t e, out f, size_t g, size_t *h),
+          N(a), N(b), N(c), N(d), N(e), N(f), N(g), N(h))
+STAND_INS(yz_hotp, , (uint32_t a, in b, size_t c, uint64_t d, char *e, size_t f),
+          N(a), N(b), N(c), N(d), N(e), N(f))
+STAND_INS(yz_totp, , (uint32_t a, in b, size_t c, uint64_t d, uint32_t e, char *f, size_t g),
+          N(a), N(b), N(c), N(d), N(e), N(f), N(g))
+STAND_INS(yz_hotp_find, ,
+          (uint32_t a, in b, size_t c, uint64_t d, uint64_t e, size_t f, const char *g, size_t h,
+           uint64_t *i),
+          N(a), N(b), N(c), N(d), N(e), N(f), N(g), N(h), N(i))
+STAND_INS(yz_totp_find, ,
+          (uint32_t a, in b, size_t c, uint64_t d, uint32_t e, uint32_t f, uint32_t g, size_t h,
+           const char *i, size_t j, uint64_t *k),
+          N(a), N(b), N(c), N(d), N(e), N(f), N(g), N(h), N(i), N(j), N(k))
 STAND_INS(yz_hkdf_extract, , (uint32_t a, in b, size_t c, in d, size_t e, out f, size_t g),
           N(a), N(b), N(c), N(d), N(e), N(f), N(g))
 STAND_INS(yz_hkdf_expand, , (uint32_t a, in b, size_t c, in d, size_t e, out f, size_t g),
@@ -131,8 +149,8 @@ STAND_INS(yz_merkle_consistency_path, ,
           N(a), N(b), N(c), N(d), N(e), N(f))
 
 /* The calls, and their arguments in their order: the number of an algorithm, a context or a key
- * of it, messages, places of some bytes and of hashes, of a size that is written, lengths, and what
- * is counted by itself. */
+ * of it, messages, places of some bytes and of hashes, of a size and of a counter that are written,
+ * lengths, and what is counted by itself. */
 static const struct {
     const char *name, *arguments;
 } CALLS[] = {
@@ -141,6 +159,8 @@ static const struct {
     {"yz_hmac_sign", "nplplpl"}, {"yz_hmac_verify", "nplplpl"}, {"yz_hmac_key_init", "nplw"},
     {"yz_hmac_key_sign", "kplpl"}, {"yz_hmac_key_verify", "kplpl"}, {"yz_hmac_update", "tpl"},
     {"yz_hmac_final", "tpl"},
+    {"yz_jws_sign", "nplplpls"}, {"yz_jws_verify", "nplplpls"}, {"yz_hotp", "npllpl"},
+    {"yz_totp", "nplllpl"}, {"yz_hotp_find", "npllllplu"}, {"yz_totp_find", "npllllllplu"},
     {"yz_hkdf", "nplplplpl"}, {"yz_hkdf_extract", "nplplpl"}, {"yz_hkdf_expand", "nplplpl"},
     {"yz_hkdf_expand_label", "nplplplpl"},
     {"yz_pbkdf2_derive", "nlplplpo"}, {"yz_pbkdf2_verify", "nlplplpo"},
@@ -148,7 +168,7 @@ static const struct {
     {"yz_merkle_verify_consistency", "lhlhhl"}, {"yz_merkle_root", "hlh"},
     {"yz_merkle_inclusion_path", "hllhls"}, {"yz_merkle_consistency_path", "hllhls"},
 };
-enum { NUM_CALLS = sizeof CALLS / sizeof *CALLS, EACH = 3, PBKDF2 = 15, TREES = 17 };
+enum { NUM_CALLS = sizeof CALLS / sizeof *CALLS, EACH = 3, PBKDF2 = 21, TREES = 23 };
 
 static yz_digest_context digest;
 static yz_hmac_context tag;
@@ -157,7 +177,9 @@ static const yz_message messages[1];
 static uint8_t bytes[MOST_ARGUMENTS];
 static yz_merkle_hash hashes[MOST_ARGUMENTS];
 static size_t written_size;
+static uint64_t written_counter;
 #define AT(i) (bytes + (i))
+#define TEXT_AT(i) ((char *)AT(i))
 #define HASH(i) (hashes + (i))
 
 /* A call, in which a length is the number of its place, but for `out_len`: PBKDF2's, and how many
@@ -176,17 +198,23 @@ static yz_status call(int which, uint32_t n, size_t out_len) {
     case 8: return yz_hmac_key_verify(&key, AT(1), 2, AT(3), 4);
     case 9: return yz_hmac_update(&tag, AT(1), 2);
     case 10: return yz_hmac_final(&tag, AT(1), 2);
-    case 11: return yz_hkdf(n, AT(1), 2, AT(3), 4, AT(5), 6, AT(7), 8);
-    case 12: return yz_hkdf_extract(n, AT(1), 2, AT(3), 4, AT(5), 6);
-    case 13: return yz_hkdf_expand(n, AT(1), 2, AT(3), 4, AT(5), 6);
-    case 14: return yz_hkdf_expand_label(n, AT(1), 2, AT(3), 4, AT(5), 6, AT(7), 8);
-    case 15: return yz_pbkdf2_derive(n, 1, AT(2), 3, AT(4), 5, AT(6), out_len);
-    case 16: return yz_pbkdf2_verify(n, 1, AT(2), 3, AT(4), 5, AT(6), out_len);
-    case 17: return yz_merkle_leaf(AT(0), 1, HASH(2));
-    case 18: return yz_merkle_verify_inclusion(HASH(0), 1, 2, HASH(3), 4, HASH(5));
-    case 19: return yz_merkle_verify_consistency(0, HASH(1), 2, HASH(3), HASH(4), 5);
-    case 20: return yz_merkle_root(HASH(0), 1, HASH(2));
-    case 21: return yz_merkle_inclusion_path(HASH(0), 1, 2, HASH(3), 4, &written_size);
+    case 11: return yz_jws_sign(n, AT(1), 2, AT(3), 4, TEXT_AT(5), 6, &written_size);
+    case 12: return yz_jws_verify(n, AT(1), 2, TEXT_AT(3), 4, AT(5), 6, &written_size);
+    case 13: return yz_hotp(n, AT(1), 2, 3, TEXT_AT(4), 5);
+    case 14: return yz_totp(n, AT(1), 2, 3, 4, TEXT_AT(5), 6);
+    case 15: return yz_hotp_find(n, AT(1), 2, 3, 4, 5, TEXT_AT(6), 7, &written_counter);
+    case 16: return yz_totp_find(n, AT(1), 2, 3, 4, 5, 6, 7, TEXT_AT(8), 9, &written_counter);
+    case 17: return yz_hkdf(n, AT(1), 2, AT(3), 4, AT(5), 6, AT(7), 8);
+    case 18: return yz_hkdf_extract(n, AT(1), 2, AT(3), 4, AT(5), 6);
+    case 19: return yz_hkdf_expand(n, AT(1), 2, AT(3), 4, AT(5), 6);
+    case 20: return yz_hkdf_expand_label(n, AT(1), 2, AT(3), 4, AT(5), 6, AT(7), 8);
+    case 21: return yz_pbkdf2_derive(n, 1, AT(2), 3, AT(4), 5, AT(6), out_len);
+    case 22: return yz_pbkdf2_verify(n, 1, AT(2), 3, AT(4), 5, AT(6), out_len);
+    case 23: return yz_merkle_leaf(AT(0), 1, HASH(2));
+    case 24: return yz_merkle_verify_inclusion(HASH(0), 1, 2, HASH(3), 4, HASH(5));
+    case 25: return yz_merkle_verify_consistency(0, HASH(1), 2, HASH(3), HASH(4), 5);
+    case 26: return yz_merkle_root(HASH(0), 1, HASH(2));
+    case 27: return yz_merkle_inclusion_path(HASH(0), 1, 2, HASH(3), 4, &written_size);
     default: return yz_merkle_consistency_path(HASH(0), 1, 2, HASH(3), 4, &written_size);
     }
 }
@@ -202,6 +230,7 @@ static uintptr_t argument(char kind, size_t place, uint32_t n, size_t out_len) {
     case 'p': return (uintptr_t)AT(place);
     case 'h': return (uintptr_t)HASH(place);
     case 's': return (uintptr_t)&written_size;
+    case 'u': return (uintptr_t)&written_counter;
     case 'o': return out_len;
     default: return place;
     }
@@ -237,7 +266,7 @@ static const struct {
     const char *work;
     size_t rounds; /* of output of PBKDF2, or messages */
 } ROWS[] = {{0, 2, "", 1}, {EACH, EACH, ": up to 3 messages", 3}, {EACH, EACH, ": more", 4},
-            {4, 10, "", 1}, {11, 14, "", 1}, {PBKDF2, PBKDF2 + 1, ": one round of output", 1},
+            {4, 16, "", 1}, {17, 20, "", 1}, {PBKDF2, PBKDF2 + 1, ": one round of output", 1},
             {PBKDF2, PBKDF2 + 1, ": 2 or 3 rounds", 3}, {PBKDF2, PBKDF2 + 1, ": more", 4}};
 
 /* Which code the calls of a row get: SHA instructions or a build. */

@@ -16,7 +16,7 @@
 #define PROMISED_TO_HASHES (20 * 1024)
 #define FIRST_OF_HASHES 19
 #define LAST_OF_HASHES 24
-#define LAST 30
+#define LAST 36
 #define PAINT 0xa5
 #define COUNT 10
 #define LEAVES 18
@@ -32,13 +32,15 @@ static const char password[] = "correct horse battery staple";
 /* Runs one call on long inputs: a key past a block, several blocks, several rounds. What is large
  * is on no stack. */
 static void run(void) {
-    static uint8_t bytes[600], out[COUNT * YZ_MAX_OUTPUT_LEN];
+    static uint8_t bytes[600], out[COUNT * YZ_MAX_OUTPUT_LEN], payload[700];
     static const yz_message messages[COUNT] = {
         {bytes, 400}, {bytes, 300}, {bytes, 400}, {bytes, 400}, {bytes, 333},
         {bytes, 400}, {bytes, 500}, {bytes, 600}, {bytes, 400}, {bytes, 1}};
     static char text[YZ_MAX_PASSWORD_HASH_LEN];
     static yz_merkle_hash leaves[LEAVES], path[YZ_MERKLE_MAX_PATH], root, first;
-    static size_t path_count;
+    static char token[YZ_JWS_TOKEN_LEN(YZ_MAX_OUTPUT_LEN, 400)], digits[YZ_OTP_MAX_DIGITS];
+    static size_t path_count, token_len;
+    static uint64_t counter;
     static yz_digest_context context;
     static yz_hmac_key key;
     static yz_hmac_context tag;
@@ -101,8 +103,26 @@ static void run(void) {
             status = yz_merkle_consistency_path(leaves, LEAVES, LEAVES / 2, path,
                                                 YZ_MERKLE_MAX_PATH, &path_count);
         break;
-    case LAST:
+    case 30:
         status = yz_merkle_verify_consistency(LEAVES / 2, &first, LEAVES, &root, path, path_count);
+        break;
+    case 31:
+        if (n != YZ_SHA1)
+            status = yz_jws_sign(n, bytes, 300, bytes, 400, token, sizeof token, &token_len);
+        break;
+    case 32:
+        if (n != YZ_SHA1)
+            status = yz_jws_verify(n, bytes, 300, token, token_len, payload, sizeof payload,
+                                   &text_len);
+        break;
+    case 33: status = yz_hotp(n, bytes, 300, 1, digits, sizeof digits); break;
+    case 34:
+        status = yz_hotp_find(n, bytes, 300, 0, 9, sizeof digits, digits, sizeof digits, &counter);
+        break;
+    case 35: status = yz_totp(n, bytes, 300, 59, 30, digits, sizeof digits); break;
+    case LAST:
+        status = yz_totp_find(n, bytes, 300, 89, 30, 1, 1, sizeof digits, digits, sizeof digits,
+                              &counter);
         break;
     }
     if (status != YZ_OK) printf("call %d of algorithm %u answers %d\n", call, n, status);

@@ -1,7 +1,7 @@
 /* SPDX-License-Identifier: ISC */
-/* Each status of each call but those of merkle.c and password_hashes.c, NULL at length 0, several
- * messages, messages in pieces, copies in mid-stream, and garbage in the place of contexts and
- * keys. Values come from the standards, named where they stand. */
+/* Each status of each call but those of merkle.c, password_hashes.c and tokens.c, NULL at length 0,
+ * several messages, messages in pieces, copies in mid-stream, and garbage in the place of contexts
+ * and keys. Values come from the standards, named where they stand. */
 #include "check.h"
 #include <string.h>
 

@@ -9,3 +9,4 @@ pub mod Written
 pub mod Puts
 pub mod Pieces
 pub mod Rises
+pub mod Signatures

@@ -9,7 +9,7 @@ use Rattle.ring.specs.declared.digest.algorithm.Algorithm.{Algorithm}
 use Rattle.ring.specs.declared.digest.algorithm.TheConstants.{SHA256}
 use Rattle.std.proofs.lemmas.Grind.{common_steps}
 use Rattle.ring_text.specs.Cut.{IsFirstCut, IsWithout}
-use Rattle.ring_tokens.specs.Alg.{algorithm_of, text_len}
+use Rattle.ring_tokens.specs.Alg.{algorithm_of, hash_len}
 use Rattle.ring_tokens.specs.Cost.{HasVerified, items_pairs, otp_blocks, raised_by_tests}
 use Rattle.ring_tokens.specs.Cost.{signed_len, tag_blocks}
 use Rattle.ring_tokens.specs.Otp.{digits_of}
@@ -25,8 +25,7 @@ use Rattle.ring_tokens.proofs.Tokens.{cuts_same}
 -- the cost of the signature is that of the verification
 pub has_verified : {token : List ℕ} {q : Parts} → AreParts token q → (a : Alg) {m0 m1 : Counts}
     → (IsTagWithin (algorithm_of a) (length q.input.now) → m1
-    ≡ raised m0 (tag_blocks (algorithm_of a) (length q.input.now))
-    (compared_pairs (text_len a) (length q.signature.now)))
+    ≡ raised m0 (tag_blocks (algorithm_of a) (length q.input.now)) (hash_len a))
     → ((IsTagWithin (algorithm_of a) (length q.input.now) → ⊥) → m1 ≡ m0)
     → HasVerified a token m0 m1
 has_verified {token} {q} at a {m0} {m1} cost none =
@@ -39,10 +38,7 @@ has_verified {token} {q} at a {m0} {m1} cost none =
           let signed : length q.input.now ≡ signed_len h p =
           omega (arith, len, ap length same.0, ap length same.1) in
           cost (subst (λ n. IsTagWithin (algorithm_of a) n) (sym signed) within)
-          ∙ ap (λ n. raised m0 (tag_blocks (algorithm_of a) n)
-          (compared_pairs (text_len a) (length q.signature.now))) signed
-          ∙ ap (λ t. raised m0 (tag_blocks (algorithm_of a) (signed_len h p))
-          (compared_pairs (text_len a) (length t))) same.2;
+          ∙ ap (λ n. raised m0 (tag_blocks (algorithm_of a) n) (hash_len a)) signed;
       untested = λ no. none (λ within. no q.header.now q.payload.now q.signature.now at.cut
           (subst (λ n. IsTagWithin (algorithm_of a) n) len within));
     }

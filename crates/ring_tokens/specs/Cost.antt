@@ -5,7 +5,7 @@ use Rattle.base64.specs.Rfc4648.{unpadded_len}
 use Rattle.ring.specs.Prelude.{Counts, IsTagWithin, compared_pairs, padded_blocks}
 use Rattle.ring.specs.Prelude.{raised}
 use Rattle.ring.specs.declared.digest.algorithm.Algorithm.{Algorithm}
-use Rattle.ring_tokens.specs.Alg.{algorithm_of, text_len}
+use Rattle.ring_tokens.specs.Alg.{algorithm_of, hash_len}
 use Rattle.ring_tokens.specs.Otp.{digits_of}
 use Rattle.ring_tokens.specs.Parts.{IsCut}
 use Rattle.ring_tokens.specs.declared.alg.Alg.{Alg}
@@ -19,14 +19,12 @@ tag_blocks a n = padded_blocks a n + 1
 abbrev pub signed_len : (h p : List ℕ) → ℕ
 signed_len h p = length h + 1 + length p
 
--- a verification runs the blocks of the signed bytes, whatever the signature is, and compares
--- signatures of one length; it runs none where the text has no three parts or HMAC does not admit
--- them
+-- a verification runs the blocks of the signed bytes and compares a whole tag, whatever the
+-- signature is; it does neither where the text has no three parts or HMAC does not admit them
 pub record HasVerified (a : Alg) (token : List ℕ) (before after : Counts) : Type 0 where
   pub cost : (h p s : List ℕ) → IsCut token h p s
       → IsTagWithin (algorithm_of a) (signed_len h p)
-      → after ≡ raised before (tag_blocks (algorithm_of a) (signed_len h p))
-      (compared_pairs (text_len a) (length s))
+      → after ≡ raised before (tag_blocks (algorithm_of a) (signed_len h p)) (hash_len a)
   pub untested : ((h p s : List ℕ) → IsCut token h p s
       → IsTagWithin (algorithm_of a) (signed_len h p) → ⊥)
       → after ≡ before

@@ -29,8 +29,8 @@ pub(crate) fn decode<A: Allocator>(alloc: A, text: &[u8]) -> Result<Vec<u8, A>, 
     }
 }
 
-// Decodes a text to the start of `out`, which may have other bytes where it is no base64url.
-fn decode_over(text: &[u8], out: &mut [u8]) -> Option<usize>
+/// Decodes a text to the start of `out`, which may have other bytes where it is no base64url.
+pub(crate) fn decode_over(text: &[u8], out: &mut [u8]) -> Option<usize>
     requires { length text.now + 2 ≤ length out.old }
     ensures ok { IfSome result (λ n. IsDecoded text.now n out.old out.new) }
     ensures refused { IsNone result → IsBase64url text.now → ⊥ }

@@ -1,45 +1,68 @@
 // SPDX-License-Identifier: ISC
 //! The signature of a token.
 
-ghost use Rattle.std.specs.Prelude.{◌≡◌, ◌↔◌, ℕ, List, length, IfSome, IsNone, IsTrue};
+ghost use Rattle.std.specs.Prelude.{◌≡◌, ◌↔◌, ◌≤◌, ℕ, List, length, IfSome, IsNone, IsTrue};
 ghost use Rattle.hex.specs.Hex.{IsBytes};
-ghost use Rattle.ring.specs.Prelude.{IsTagWithin, compared_pairs, hmac_of, raised};
-ghost use Rattle.ring_tokens.specs.Alg.{algorithm_of, text_len};
+ghost use Rattle.ring.specs.Prelude.{IsTagWithin, hmac_of, raised};
+ghost use Rattle.ring_tokens.specs.Alg.{algorithm_of, hash_len};
 ghost use Rattle.ring_tokens.specs.Cost.{HasVerified, tag_blocks};
-ghost use Rattle.ring_tokens.specs.Jws.{IsKey, IsTokenUnder, alg_of, base64url};
+ghost use Rattle.ring_tokens.specs.InPlace.{IsDecoded};
+ghost use Rattle.ring_tokens.specs.Jws.{IsBase64url, IsKey, IsTokenUnder, alg_of, base64url};
 ghost use Rattle.ring_tokens.specs.Parts.{AreParts};
 
+use crate::decoded::decode_over;
 use crate::key::Key;
 use crate::parts::{Parts, parts_of};
-use base64::engine::general_purpose::URL_SAFE_NO_PAD;
 use ring::bb::verify_slices_are_equal_counted;
 use ring::cost::Meter;
 use ring::hmac;
 
-// The most bytes of a signature's text: that of 64 bytes.
+// The most symbols of a signature's text: those of 64 bytes.
 const MAX_TEXT_LEN: usize = 86;
 
-// Whether the text is that of the signature of `input`. It is compared whole, in a time that its
-// bytes do not change.
+// What takes the bytes of such a text: two more than it has symbols.
+const ROOM: usize = MAX_TEXT_LEN + 2;
+
+// Decodes a signature to the start of `out`, and returns how many bytes it is.
+fn decode_signature(text: &[u8], out: &mut [u8; ROOM]) -> Option<usize>
+    ensures ok { IfSome result (λ n. IsDecoded text.now n out.old out.new) }
+    ensures refused { IsNone result → length text.now ≤ 86 → IsBase64url text.now → ⊥ }
+{
+    if text.len() > MAX_TEXT_LEN {
+        return None;
+    }
+    decode_over(text, out)
+}
+
+// Whether the text is that of the signature `tag`. The text is decoded, and not the signature
+// encoded, since symbols are looked up in a table. All bytes of the signature are compared, whatever
+// the text is, so that only the answer depends on the signature.
+fn is_text_of(tag: &[u8], text: &[u8], meter: &mut Meter) -> bool
+    requires { length tag.now ≤ 64 }
+    ensures ok { IsTrue result ↔ (text.now ≡ base64url tag.now) }
+    ensures cost { meter.new ≡ raised meter.old 0 (length tag.now) }
+{
+    let mut given = [0; ROOM];
+    let len = decode_signature(text, &mut given);
+    let is_same = verify_slices_are_equal_counted(tag, &given[..tag.len()], meter).is_ok();
+    is_same && len == Some(tag.len())
+}
+
+// Whether the text is that of the signature of `input`.
 fn is_signature(key: &Key, input: &[u8], text: &[u8], meter: &mut Meter) -> bool
     ensures ok { (k : List ℕ) → IsKey key.now k → IsTrue result
         ↔ (IsTagWithin (algorithm_of (alg_of key.now)) (length input.now)
         × (text.now ≡ base64url (hmac_of (algorithm_of (alg_of key.now)) k input.now))) }
     ensures cost { IsTagWithin (algorithm_of (alg_of key.now)) (length input.now)
         → meter.new ≡ raised meter.old
-        (tag_blocks (algorithm_of (alg_of key.now)) (length input.now))
-        (compared_pairs (text_len (alg_of key.now)) (length text.now)) }
+        (tag_blocks (algorithm_of (alg_of key.now)) (length input.now)) (hash_len (alg_of key.now)) }
     ensures unchanged { (IsTagWithin (algorithm_of (alg_of key.now)) (length input.now) → ⊥)
         → meter.new ≡ meter.old }
 {
     let Ok(tag) = hmac::sign_counted(&key.key, input, meter) else {
         return false;
     };
-    let mut made = [0; MAX_TEXT_LEN];
-    let Ok(len) = URL_SAFE_NO_PAD.encode_slice(tag.as_ref(), &mut made) else {
-        unreachable!() // There is room for any tag.
-    };
-    verify_slices_are_equal_counted(&made[..len], text, meter).is_ok()
+    is_text_of(tag.as_ref(), text, meter)
 }
 
 /// The parts of a token, if its signature is the key's. Neither its header nor its payload is

@@ -1,303 +1,312 @@
 -- SPDX-License-Identifier: ISC
--- The proof of a beginning leads from its first node to both roots.
-use Rattle.std.proofs.lemmas.Bool.{cases_lt, cond-false, cond-true}
-use Rattle.std.proofs.lemmas.List.{drop-take, take-take, take_all}
-use Rattle.std.proofs.Common.{◌≡◌, ◌+◌, ◌-◌, ◌^◌, ◌<◌, ◌≤◌, [], ◌∷◌, ◌++◌, ◌∙◌, ◌⊎◌, ℕ, zero, suc}
-use Rattle.std.proofs.Common.{Bool, true, false, cond, List, length, get_or, take, drop, refl, ap}
-use Rattle.std.proofs.Common.{sym, arith, inl, inr, ⊎_elim, Some, length-drop, length-take}
+-- The proof of a beginning is the path of its last node: of the first level where that node has no
+-- sibling on the left.
+use Rattle.std.proofs.lemmas.Bool.{cases_lt}
+use Rattle.std.proofs.lemmas.Bool.Decides.{nat_tests}
+use Rattle.std.proofs.Common.{◌≡◌, ◌+◌, ◌-◌, ◌/◌, ◌%◌, ◌^◌, ◌<◌, ◌≤◌, ◌==◌, ◌&&◌, [], ◌∷◌, ◌++◌, ◌∙◌}
+use Rattle.std.proofs.Common.{ℕ, zero, suc, Bool, true, false, cond, List, length, get_or, take}
+use Rattle.std.proofs.Common.{drop, refl, ap, sym, arith, ⊎_elim, append_assoc, get_or-drop}
+use Rattle.std.proofs.Common.{Some, get_or-take, length-drop, length-take}
+use Rattle.std.proofs.lemmas.Nat.{pow_pos}
 use Rattle.std.specs.Int.{is_power_of_two}
-use Rattle.ring_merkle.specs.Consistency.{LeadsToBoth, first_last, first_node, proof_of}
-use Rattle.ring_merkle.specs.Consistency.{subproof_at, subproof_of, values_of}
-use Rattle.ring_merkle.specs.Cost.{sides}
-use Rattle.ring_merkle.specs.Tree.{node_hash, root_at, root_of}
-use Rattle.ring_merkle.specs.Walk.{front_step, is_even, walk}
-use Rattle.ring_merkle.specs.Walk.{whole_step}
-use Rattle.ring_merkle.proofs.Powers.{no-power-between, power-of-two}
-use Rattle.ring_merkle.proofs.Shifts.{shift-within}
-use Rattle.ring_merkle.proofs.Sides.{up-left, up-low, up-right, up-shifted, up-whole, up_sides}
-use Rattle.ring_merkle.proofs.Trees.{drop-within, root-any, root-high, root-low, sub-any}
-use Rattle.ring_merkle.proofs.Trees.{sub-left, sub-low, sub-right, sub-whole, take-within}
-use Rattle.ring_merkle.proofs.Walks.{Step, fold-push, fold_sides, walk-fold, walk-length}
+use Rattle.ring_merkle.specs.Consistency.{IsConsistent, LeadsToBoth, first_last, first_node}
+use Rattle.ring_merkle.specs.Consistency.{proof_of, subproof_at, subproof_of, values_of}
+use Rattle.ring_merkle.specs.Cost.{path_len}
+use Rattle.ring_merkle.specs.Inclusion.{path_at}
+use Rattle.ring_merkle.specs.Tree.{root_at, root_of}
+use Rattle.ring_merkle.specs.Walk.{is_even, shifted_last, shifted_node, walk, whole_step}
+use Rattle.ring_merkle.proofs.Hashes.{AreHashes, Sized, hashes-at, hashes-path, hashes-up}
+use Rattle.ring_merkle.proofs.Included.{walk-path}
+use Rattle.ring_merkle.proofs.Pairs.{drop-up, length-pair_up, pair_up, root-up, take-up}
+use Rattle.ring_merkle.proofs.Powers.{power-even, power-odd}
+use Rattle.ring_merkle.proofs.Shifts.{even-below, shift-same, shift-stop, shift-up}
+use Rattle.ring_merkle.proofs.Sides.{parity}
+use Rattle.ring_merkle.proofs.Trees.{path-left, path-low, path-right, pow-sum, root-low, sub-left}
+use Rattle.ring_merkle.proofs.Trees.{root-any, sub-any, sub-low, sub-right, sub-whole}
+use Rattle.ring_merkle.proofs.Walks.{Step, leads-length, walk-end}
 
--- m leaves are the beginning of a list, or all of it where it is complete
-abbrev pub Begins : (h m n : ℕ) → Type 0
-Begins h m n = (m < n) ⊎ ((m ≡ n) × (n ≡ 2 ^ h))
+-- an even number of leaves is half as many nodes one level up
+sub-even-all : (h m : ℕ) (xs : List (List ℕ)) (b : Bool) → m % 2 ≡ 0 → m ≡ length xs
+    → length xs ≤ 2 ^ suc h → subproof_at (suc h) m xs b ≡ subproof_at h (m / 2) (pair_up xs) b
+sub-even-all h m xs b even e le =
+    rw (
+      sub-whole (suc h) m xs b e,
+      sub-whole h (m / 2) (pair_up xs) b (omega (arith, length-pair_up xs)),
+      root-up h xs le,
+    )
 
--- what the values of SUBPROOF(m, D_n, false) are, and where they lead
+sub-even : (h m : ℕ) (xs : List (List ℕ)) (b : Bool) → m % 2 ≡ 0 → 0 < m → m ≤ length xs
+    → length xs ≤ 2 ^ suc h → subproof_at (suc h) m xs b ≡ subproof_at h (m / 2) (pair_up xs) b
+sub-even zero m xs b even pos le few = sub-even-all zero m xs b even (omega arith) few
+sub-even (suc h) m xs b even pos le few =
+    let n = 2 ^ suc h in
+    let front = take n xs in
+    let back = drop n xs in
+    let up = length-pair_up xs in
+    let half = pow-sum h in
+    let whole = pow-sum (suc h) in
+    let fl = length-take n xs in
+    let bl = length-drop n xs in
+    let e = take-up (2 ^ h) n half xs in
+    let f = drop-up (2 ^ h) n half xs in
+    ⊎_elim
+    (λ lt. ⊎_elim
+    (λ high. ⊎_elim
+    (λ right.
+    let a = sub-right (suc h) xs m b lt right in
+    let s = sub-even h (m - n) back false (omega arith) (omega arith) (omega arith) (omega arith) in
+    let r = root-up h front (omega arith) in
+    let d = sub-right h (pair_up xs) (m / 2) b (omega arith) (omega arith) in
+    let k : (m - n) / 2 ≡ m / 2 - 2 ^ h = omega arith in
+    cc)
+    (λ left.
+    let a = sub-left (suc h) xs m b lt high left in
+    let s = sub-even h m front b even pos (omega arith) (omega arith) in
+    let r = root-up h back (omega arith) in
+    let d = sub-left h (pair_up xs) (m / 2) b (omega arith) (omega arith) (omega arith) in
+    cc)
+    (cases_lt n m))
+    (λ low. sub-low (suc h) xs m b lt low ∙ sub-even h m xs b even pos le low
+    ∙ sym (sub-low h (pair_up xs) (m / 2) b (omega arith) (omega arith)))
+    (cases_lt n (length xs)))
+    (λ ge. sub-even-all (suc h) m xs b even (omega arith) few)
+    (cases_lt m (length xs))
+
+-- after an even number of leaves, one more is a node of its own: where it is not the only one, or
+-- is a value of the proof, the values begin with it, and the others are its path
+abbrev opens : (b : Bool) (m : ℕ) (x : List ℕ) → List (List ℕ)
+opens b m x = cond (b && m == 0) [] (x ∷ [])
+
+sub-odd : (h m : ℕ) (xs : List (List ℕ)) (b : Bool) → m % 2 ≡ 0 → suc m < length xs
+    → length xs ≤ 2 ^ suc h
+    → subproof_at (suc h) (suc m) xs b ≡ opens b m (get_or xs m []) ++ path_at (suc h) m xs
+unfolding subproof_at path_at root_at
+sub-odd zero zero (x ∷ y ∷ []) true even lt le = refl
+sub-odd zero zero (x ∷ y ∷ []) false even lt le = refl
+sub-odd zero zero [] b even lt le = absurd (omega arith)
+sub-odd zero zero (x ∷ []) b even lt le = absurd (omega arith)
+sub-odd zero zero (x ∷ y ∷ z ∷ xs) b even lt le = absurd (omega arith)
+sub-odd zero (suc m) xs b even lt le = absurd (omega arith)
+sub-odd (suc h) m xs b even lt le =
+    let n = 2 ^ suc h in
+    let front = take n xs in
+    let back = drop n xs in
+    let half = pow-sum h in
+    let whole = pow-sum (suc h) in
+    let fl = length-take n xs in
+    let bl = length-drop n xs in
+    ⊎_elim
+    (λ high. ⊎_elim
+    (λ right.
+    let a = sub-right (suc h) xs (suc m) b lt right in
+    let s = sub-odd h (m - n) back false (omega arith) (omega arith) (omega arith) in
+    let d = path-right (suc h) xs m high (omega arith) in
+    let k : suc m - n ≡ suc (m - n) = omega arith in
+    let i : n + (m - n) ≡ m = omega arith in
+    let g = get_or-drop n xs (m - n) [] in
+    let o : opens b m (get_or xs m []) ≡ get_or xs m [] ∷ [] = grind (arith, nat_tests) in
+    cc)
+    (λ left.
+    let a = sub-left (suc h) xs (suc m) b lt high left in
+    let s = sub-odd h m front b even (omega arith) (omega arith) in
+    let d = path-left (suc h) xs m high (omega arith) in
+    let g = get_or-take n xs m [] (omega arith) in
+    let i = append_assoc (opens b m (get_or xs m [])) (path_at (suc h) m front)
+    (root_at (suc h) back ∷ []) in
+    cc)
+    (cases_lt n (suc m)))
+    (λ low. sub-low (suc h) xs (suc m) b lt low ∙ sub-odd h m xs b even lt low
+    ∙ ap (λ ps. opens b m (get_or xs m []) ++ ps) (sym (path-low (suc h) xs m low)))
+    (cases_lt n (length xs))
+
+-- the last of m leaves, as a node of the first level where it has no sibling on the left
 pub record Begun (h m : ℕ) (xs : List (List ℕ)) : Type 0 where
+  pub height : ℕ
+  pub nodes : List (List ℕ)
+  pub at : ℕ
+  pub within : at < length nodes
+  pub few : length nodes ≤ 2 ^ height
+  pub fewer : length nodes ≤ length xs
+  pub node : at ≡ shifted_node is_even h (m - 1)
+  pub last : length nodes - 1 ≡ shifted_last is_even h (m - 1) (length xs - 1)
+  pub front : root_at height (take (at + 1) nodes) ≡ root_at h (take m xs)
+  pub whole : root_at height nodes ≡ root_at h xs
+  pub is : subproof_at h m xs false ≡ get_or nodes at [] ∷ path_at height at nodes
+  pub values : values_of m (root_at h (take m xs)) (subproof_at h m xs true)
+      ≡ get_or nodes at [] ∷ path_at height at nodes
+  pub hashes : Sized → AreHashes xs → AreHashes nodes
+
+root-one : (h : ℕ) (xs : List (List ℕ)) → 0 < length xs
+    → root_at h (take 1 xs) ≡ get_or xs 0 []
+unfolding root_at
+root-one h [] lt = absurd (omega arith)
+root-one zero (x ∷ xs) lt = refl
+root-one (suc h) (x ∷ xs) lt =
+    root-low h (x ∷ []) (omega (arith, pow_pos h)) ∙ root-one h (x ∷ xs) lt
+
+values-odd : (h m : ℕ) (xs : List (List ℕ)) → m % 2 ≡ 0 → suc m < length xs
+    → length xs ≤ 2 ^ suc h
+    → values_of (suc m) (root_at (suc h) (take (suc m) xs)) (subproof_at (suc h) (suc m) xs true)
+    ≡ get_or xs m [] ∷ path_at (suc h) m xs
+values-odd h zero xs even lt le =
+    rw (power-odd 1 refl, sub-odd h 0 xs true even lt le, root-one (suc h) xs (omega arith)) refl
+values-odd h (suc m) xs even lt le =
+    let x = get_or xs (suc m) [] in
+    let p = power-odd (suc (suc m)) (omega arith) in
+    let no : is_power_of_two (suc (suc m)) ≡ false = grind (arith, nat_tests) in
+    let o : opens true (suc m) x ≡ x ∷ [] = grind (arith, nat_tests) in
+    rw (no, sub-odd h (suc m) xs true even lt le, o) refl
+
+begun-odd : (h m : ℕ) (xs : List (List ℕ)) → m % 2 ≡ 1 → m < length xs
+    → length xs ≤ 2 ^ suc h → Begun (suc h) m xs
+begun-odd h m xs odd lt le =
+    let e : m ≡ suc (m - 1) = omega arith in
+    let f : m - 1 + 1 ≡ m = omega arith in
+    let even : is_even (m - 1) ≡ true = grind (arith, nat_tests) in
+    let stop = shift-stop is_even (suc h) (m - 1) in
+    record {
+      height = suc h;
+      nodes = xs;
+      at = m - 1;
+      within = omega arith;
+      few = le;
+      fewer = omega arith;
+      node = sym (sym (shift-same is_even (suc h) (m - 1)) ∙ stop (m - 1) even);
+      last = sym (stop (length xs - 1) even);
+      front = ap (λ k. root_at (suc h) (take k xs)) f;
+      whole = refl;
+      is = ap (λ k. subproof_at (suc h) k xs false) e ∙ sub-odd h (m - 1) xs false (omega arith) (omega arith) le;
+      values = ap (λ k. values_of k (root_at (suc h) (take k xs)) (subproof_at (suc h) k xs true)) e
+          ∙ values-odd h (m - 1) xs (omega arith) (omega arith) le;
+      hashes = λ sized a. a;
+    }
+
+begun-even : (h m : ℕ) (xs : List (List ℕ)) → m % 2 ≡ 0 → 0 < m → m < length xs
+    → length xs ≤ 2 ^ suc h → Begun h (m / 2) (pair_up xs) → Begun (suc h) m xs
+begun-even h m xs even pos lt le b =
+    let odd : is_even (m - 1) ≡ false = grind (arith, nat_tests) in
+    let up = length-pair_up xs in
+    let k : (m - 1) / 2 ≡ m / 2 - 1 = omega arith in
+    let l : (length xs - 1) / 2 ≡ length (pair_up xs) - 1 = omega arith in
+    let half : m ≡ m / 2 + m / 2 = omega arith in
+    let t = length-take m xs in
+    let front = root-up h (take m xs) (omega arith) ∙ ap (λ ys. root_at h ys) (take-up (m / 2) m half xs) in
+    let same = shift-same is_even in
+    record {
+      height = b.height;
+      nodes = b.nodes;
+      at = b.at;
+      within = b.within;
+      few = b.few;
+      fewer = omega (arith, b.fewer);
+      node = b.node ∙ sym (sym (same (suc h) (m - 1)) ∙ shift-up is_even h (m - 1) (m - 1) odd
+          ∙ same h ((m - 1) / 2) ∙ ap (λ j. shifted_node is_even h j) k);
+      last = b.last ∙ sym (shift-up is_even h (m - 1) (length xs - 1) odd
+          ∙ ap (λ j. shifted_last is_even h j ((length xs - 1) / 2)) k
+          ∙ ap (λ j. shifted_last is_even h (m / 2 - 1) j) l);
+      front = b.front ∙ sym front;
+      whole = b.whole ∙ sym (root-up h xs le);
+      is = sub-even h m xs false even pos (omega arith) le ∙ b.is;
+      values = rw (front, sub-even h m xs true even pos (omega arith) le, power-even m even) b.values;
+      hashes = λ sized a. b.hashes sized (hashes-up sized xs a);
+    }
+
+pub begun : (h m : ℕ) (xs : List (List ℕ)) → 0 < m → m < length xs → length xs ≤ 2 ^ h
+    → Begun h m xs
+begun zero m xs pos lt le = absurd (omega arith)
+begun (suc h) m xs pos lt le =
+    ⊎_elim
+    (λ even. begun-even h m xs even pos lt le
+    (begun h (m / 2) (pair_up xs) (omega arith) (omega (arith, length-pair_up xs))
+    (omega (arith, length-pair_up xs, pow-sum h))))
+    (λ odd. begun-odd h m xs odd lt le)
+    (parity m)
+
+-- the values of a proof: its first node, and the path from it to both roots
+pub record Made (m : ℕ) (xs : List (List ℕ)) : Type 0 where
   pub node : List ℕ
-  pub rest : List (List ℕ)
-  pub is : subproof_at h m xs false ≡ node ∷ rest
-  pub front : fold_sides front_step (up_sides h (m - 1) (length xs - 1)) node rest
-      ≡ Some (root_at h (take m xs))
-  pub whole : fold_sides whole_step (up_sides h (m - 1) (length xs - 1)) node rest
-      ≡ Some (root_at h xs)
+  pub path : List (List ℕ)
+  pub within : first_node m ≤ first_last m (length xs)
+  pub fits : first_last m (length xs) < 2 ^ 64
+  pub leads : LeadsToBoth (first_node m) (first_last m (length xs)) node path
+      (root_of (take m xs)) (root_of xs)
+  pub is : subproof_of m xs false ≡ node ∷ path
+  pub values : values_of m (root_of (take m xs)) (proof_of m xs) ≡ node ∷ path
+  pub hashes : Sized → AreHashes xs → AreHashes (node ∷ path)
 
-module _ (h m : ℕ) (xs : List (List ℕ)) where
-  begun-whole : m ≡ length xs → length xs ≡ 2 ^ h → Begun h m xs
-  begun-whole e f =
-      let none = up-whole h (m - 1) (length xs - 1) (omega arith) (omega arith) in
-      let all = take_all m xs (omega arith) in
-      record {
-        node = root_at h xs;
-        rest = [];
-        is = sub-whole h m xs false e;
-        front = ap (λ ss. fold_sides front_step ss (root_at h xs) []) none
-            ∙ ap (λ ys. Some (root_at h ys)) (sym all);
-        whole = ap (λ ss. fold_sides whole_step ss (root_at h xs) []) none;
-      }
-
-  begun-low : m < length xs → length xs ≤ 2 ^ h → Begun h m xs → Begun (suc h) m xs
-  begun-low lt low b =
-      let ss = up-low h (m - 1) (length xs - 1) (omega arith) (omega arith) in
-      record {
-        node = b.node;
-        rest = b.rest;
-        is = sub-low h m xs false lt low ∙ b.is;
-        front = ap (λ z. fold_sides front_step z b.node b.rest) ss ∙ b.front
-            ∙ ap Some (sym (root-low h (take m xs) (omega (arith, length-take m xs))));
-        whole = ap (λ z. fold_sides whole_step z b.node b.rest) ss ∙ b.whole
-            ∙ ap Some (sym (root-low h xs low));
-      }
-
-  -- a step more from the left part, and from the right part
-  from-left : (f : Step) (r p x : List ℕ) (ps : List (List ℕ)) → 0 < m → 2 ^ h < length xs
-      → length xs ≤ 2 ^ suc h → m ≤ 2 ^ h
-      → fold_sides f (up_sides h (m - 1) (length (take (2 ^ h) xs) - 1)) r ps ≡ Some x
-      → fold_sides f (up_sides (suc h) (m - 1) (length xs - 1)) r (ps ++ p ∷ [])
-      ≡ Some (f false p x)
-  from-left f r p x ps pos high le left e =
-      let l : length (take (2 ^ h) xs) ≡ 2 ^ h = omega (arith, length-take (2 ^ h) xs) in
-      ap (λ ss. fold_sides f ss r (ps ++ p ∷ []))
-      (up-left h (m - 1) (length xs - 1) (omega arith) (omega arith) (omega arith))
-      ∙ fold-push f (up_sides h (m - 1) (2 ^ h - 1)) false r ps p x
-      (ap (λ k. fold_sides f (up_sides h (m - 1) (k - 1)) r ps) (sym l) ∙ e)
-
-  from-right : (f : Step) (r p x : List ℕ) (ps : List (List ℕ)) → m < length xs
-      → length xs ≤ 2 ^ suc h → 2 ^ h < m
-      → fold_sides f (up_sides h (m - 2 ^ h - 1) (length (drop (2 ^ h) xs) - 1)) r ps ≡ Some x
-      → fold_sides f (up_sides (suc h) (m - 1) (length xs - 1)) r (ps ++ p ∷ [])
-      ≡ Some (f true p x)
-  from-right f r p x ps lt le right e =
-      let l : length xs - 1 - 2 ^ h ≡ length (drop (2 ^ h) xs) - 1 =
-      omega (arith, length-drop (2 ^ h) xs) in
-      let k : m - 1 - 2 ^ h ≡ m - 2 ^ h - 1 = omega arith in
-      ap (λ ss. fold_sides f ss r (ps ++ p ∷ []))
-      (up-right h (m - 1) (length xs - 1) (omega arith) (omega arith) (omega arith))
-      ∙ fold-push f (up_sides h (m - 1 - 2 ^ h) (length xs - 1 - 2 ^ h)) true r ps p x
-      (ap (λ j. fold_sides f (up_sides h j (length xs - 1 - 2 ^ h)) r ps) k
-      ∙ ap (λ j. fold_sides f (up_sides h (m - 2 ^ h - 1) j) r ps) l ∙ e)
-
-  begun-left : 0 < m → m < length xs → 2 ^ h < length xs → length xs ≤ 2 ^ suc h → m ≤ 2 ^ h
-      → Begun h m (take (2 ^ h) xs) → Begun (suc h) m xs
-  begun-left pos lt high le left b =
-      let p = root_at h (drop (2 ^ h) xs) in
-      record {
-        node = b.node;
-        rest = b.rest ++ p ∷ [];
-        is = sub-left h m xs false lt high left ∙ ap (λ z. z ++ p ∷ []) b.is;
-        front = from-left front_step b.node p (root_at h (take m (take (2 ^ h) xs))) b.rest pos high
-            le left b.front
-            ∙ ap (λ ys. Some (root_at h ys)) (take-take m (2 ^ h) xs left)
-            ∙ ap Some (sym (root-low h (take m xs) (omega (arith, length-take m xs))));
-        whole = from-left whole_step b.node p (root_at h (take (2 ^ h) xs)) b.rest pos high le left
-            b.whole ∙ ap Some (sym (root-high h xs high));
-      }
-
-  begun-right : m < length xs → length xs ≤ 2 ^ suc h → 2 ^ h < m
-      → Begun h (m - 2 ^ h) (drop (2 ^ h) xs) → Begun (suc h) m xs
-  begun-right lt le right b =
-      let p = root_at h (take (2 ^ h) xs) in
-      let x = root_at h (take (m - 2 ^ h) (drop (2 ^ h) xs)) in
-      let sum : 2 ^ h + (m - 2 ^ h) ≡ m = omega arith in
-      let front-part = take-take (2 ^ h) m xs (omega arith) in
-      let back-part : drop (2 ^ h) (take m xs) ≡ take (m - 2 ^ h) (drop (2 ^ h) xs) =
-      ap (λ k. drop (2 ^ h) (take k xs)) (sym sum) ∙ drop-take (2 ^ h) (m - 2 ^ h) xs in
-      let joined : root_at (suc h) (take m xs) ≡ node_hash p x =
-      root-high h (take m xs) (omega (arith, length-take m xs))
-      ∙ ap (λ ys. node_hash (root_at h ys) (root_at h (drop (2 ^ h) (take m xs)))) front-part
-      ∙ ap (λ ys. node_hash p (root_at h ys)) back-part in
-      record {
-        node = b.node;
-        rest = b.rest ++ p ∷ [];
-        is = sub-right h m xs false lt (omega arith) right ∙ ap (λ z. z ++ p ∷ []) b.is;
-        front = from-right front_step b.node p x b.rest lt le right b.front ∙ ap Some (sym joined);
-        whole = from-right whole_step b.node p (root_at h (drop (2 ^ h) xs)) b.rest lt le right
-            b.whole ∙ ap Some (sym (root-high h xs (omega arith)));
-      }
-
-  -- which case it is
-  left-begins : m < length xs → 2 ^ h < length xs → m ≤ 2 ^ h
-      → Begins h m (length (take (2 ^ h) xs))
-  left-begins lt high left =
-      let l : length (take (2 ^ h) xs) ≡ 2 ^ h = omega (arith, length-take (2 ^ h) xs) in
-      ⊎_elim (λ below. inl (omega arith)) (λ at. inr (omega arith, l)) (cases_lt m (2 ^ h))
-
-pub begun : (h m : ℕ) (xs : List (List ℕ)) → 0 < m → length xs ≤ 2 ^ h
-    → Begins h m (length xs) → Begun h m xs
-begun zero m xs pos le (inl lt) = absurd (omega arith)
-begun zero m xs pos le (inr w) = begun-whole zero m xs w.0 w.1
-begun (suc h) m xs pos le (inr w) = begun-whole (suc h) m xs w.0 w.1
-begun (suc h) m xs pos le (inl lt) =
-    ⊎_elim
-    (λ high. ⊎_elim
-    (λ right. begun-right h m xs lt le right
-    (begun h (m - 2 ^ h) (drop (2 ^ h) xs) (omega arith) (drop-within h xs le)
-    (inl (omega (arith, length-drop (2 ^ h) xs)))))
-    (λ left. begun-left h m xs pos lt high le left
-    (begun h m (take (2 ^ h) xs) pos (take-within h xs) (left-begins h m xs lt high left)))
-    (cases_lt (2 ^ h) m))
-    (λ low. begun-low h m xs lt low (begun h m xs pos low (inl lt)))
-    (cases_lt (2 ^ h) (length xs))
-
--- PROOF(m, D_n) leaves the first node out where it is the root of the beginning
-values-push : (b : Bool) (r p : List ℕ) (ps : List (List ℕ))
-    → cond b (r ∷ ps ++ p ∷ []) (ps ++ p ∷ []) ≡ cond b (r ∷ ps) ps ++ p ∷ []
-values-push true r p ps = refl
-values-push false r p ps = refl
-
-abbrev pub AreValues : (h m : ℕ) → (xs : List (List ℕ)) → Type 0
-AreValues h m xs =
-    values_of m (root_at h (take m xs)) (subproof_at h m xs true) ≡ subproof_at h m xs false
-
-module _ (h m : ℕ) (xs : List (List ℕ)) where
-  values-whole : m ≡ length xs → length xs ≡ 2 ^ h → AreValues h m xs
-  values-whole e f =
-      cond-true _ _ _ (power-of-two h m (omega arith))
-      ∙ ap (λ ys. root_at h ys ∷ subproof_at h m xs true) (take_all m xs (omega arith))
-      ∙ ap (λ ps. root_at h xs ∷ ps) (sub-whole h m xs true e) ∙ sym (sub-whole h m xs false e)
-
-  values-low : m < length xs → length xs ≤ 2 ^ h → AreValues h m xs → AreValues (suc h) m xs
-  values-low lt low v =
-      ap (λ r. values_of m r (subproof_at (suc h) m xs true))
-      (root-low h (take m xs) (omega (arith, length-take m xs)))
-      ∙ ap (λ ps. values_of m (root_at h (take m xs)) ps) (sub-low h m xs true lt low)
-      ∙ v ∙ sym (sub-low h m xs false lt low)
-
-  values-left : m < length xs → 2 ^ h < length xs → m ≤ 2 ^ h → AreValues h m (take (2 ^ h) xs)
-      → AreValues (suc h) m xs
-  values-left lt high left v =
-      let p = root_at h (drop (2 ^ h) xs) in
-      let r : root_at (suc h) (take m xs) ≡ root_at h (take m (take (2 ^ h) xs)) =
-      root-low h (take m xs) (omega (arith, length-take m xs))
-      ∙ ap (λ ys. root_at h ys) (sym (take-take m (2 ^ h) xs left)) in
-      ap (λ z. values_of m z (subproof_at (suc h) m xs true)) r
-      ∙ ap (λ ps. values_of m (root_at h (take m (take (2 ^ h) xs))) ps)
-      (sub-left h m xs true lt high left)
-      ∙ values-push (is_power_of_two m) (root_at h (take m (take (2 ^ h) xs))) p
-      (subproof_at h m (take (2 ^ h) xs) true)
-      ∙ ap (λ z. z ++ p ∷ []) v ∙ sym (sub-left h m xs false lt high left)
-
-  values-right : m < length xs → length xs ≤ 2 ^ suc h → 2 ^ h < m → AreValues (suc h) m xs
-  values-right lt le right =
-      cond-false _ _ _ (no-power-between h m right (omega arith))
-      ∙ sub-right h m xs true lt (omega arith) right
-      ∙ sym (sub-right h m xs false lt (omega arith) right)
-
-pub are_values : (h m : ℕ) (xs : List (List ℕ)) → 0 < m → length xs ≤ 2 ^ h
-    → Begins h m (length xs) → AreValues h m xs
-are_values zero m xs pos le (inl lt) = absurd (omega arith)
-are_values zero m xs pos le (inr w) = values-whole zero m xs w.0 w.1
-are_values (suc h) m xs pos le (inr w) = values-whole (suc h) m xs w.0 w.1
-are_values (suc h) m xs pos le (inl lt) =
-    ⊎_elim
-    (λ high. ⊎_elim
-    (λ right. values-right h m xs lt le right)
-    (λ left. values-left h m xs lt high left
-    (are_values h m (take (2 ^ h) xs) pos (take-within h xs) (left-begins h m xs lt high left)))
-    (cases_lt (2 ^ h) m))
-    (λ low. values-low h m xs lt low (are_values h m xs pos low (inl lt)))
-    (cases_lt (2 ^ h) (length xs))
-
--- the first of the values, and the others, where the steps begin
-abbrev pub LeadsFrom : (m n : ℕ) → (values : List (List ℕ)) → (first second : List ℕ) → Type 0
-LeadsFrom m n values first second =
-    LeadsToBoth (first_node m) (first_last m n) (get_or values 0 []) (drop 1 values) first second
-
-begun-walk : (f : Step) (m n : ℕ) (r : List ℕ) (ps : List (List ℕ)) → 0 < m → m < n
-    → n ≤ 2 ^ 64
-    → walk f (first_node m) (first_last m n) r ps
-    ≡ fold_sides f (up_sides 64 (m - 1) (n - 1)) r ps
-begun-walk f m n r ps pos lt le =
-    let w = shift-within is_even 64 (m - 1) (n - 1) (omega arith) in
-    let fits : first_last m n < 2 ^ 64 = omega (arith, w.1) in
-    walk-fold f 64 (first_node m) (first_last m n) r ps w.0 fits fits
-    ∙ ap (λ ss. fold_sides f ss r ps) (up-shifted 64 (m - 1) (n - 1) (omega arith) (omega arith))
-
-begun-values : (xs : List (List ℕ)) (m n : ℕ) (pos : 0 < m) (lt : m < n) (e : length xs ≡ n)
-    (le : n ≤ 2 ^ 64) → Begun 64 m xs
-begun-values xs m n pos lt e le = begun 64 m xs pos (omega arith) (inl (omega arith))
-
-pub begun-some : (xs : List (List ℕ)) (m n : ℕ) → 0 < m → m < n → length xs ≡ n → n ≤ 2 ^ 64
-    → 0 < length (subproof_of m xs false)
-begun-some xs m n pos lt e le =
-    let b = begun-values xs m n pos lt e le in
-    let is = sym (sub-any 64 m xs false (omega arith) (omega arith)) ∙ b.is in
-    omega (arith, ap length is)
-
--- the values of SUBPROOF(m, D_n, false) lead to both roots
-pub begun-leads : (xs : List (List ℕ)) (m n : ℕ) → 0 < m → m < n → length xs ≡ n → n ≤ 2 ^ 64
-    → LeadsFrom m n (subproof_of m xs false) (root_of (take m xs)) (root_of xs)
-begun-leads xs m n pos lt e le =
-    let small : length xs ≤ 2 ^ 64 = omega arith in
-    let b = begun-values xs m n pos lt e le in
-    let values : subproof_of m xs false ≡ b.node ∷ b.rest =
-    sym (sub-any 64 m xs false (omega arith) small) ∙ b.is in
+pub made : (m : ℕ) (xs : List (List ℕ)) → 0 < m → m < length xs → length xs ≤ 2 ^ 64 → Made m xs
+made m xs pos lt fits =
+    let b = begun 64 m xs pos lt fits in
     let first = root-any 64 (take m xs) (omega (arith, length-take m xs)) in
-    let at : length xs - 1 ≡ n - 1 = omega arith in
-    rw values (record {
-      front = begun-walk front_step m n b.node b.rest pos lt le
-          ∙ ap (λ k. fold_sides front_step (up_sides 64 (m - 1) k) b.node b.rest) (sym at)
-          ∙ b.front ∙ ap Some first;
-      whole = begun-walk whole_step m n b.node b.rest pos lt le
-          ∙ ap (λ k. fold_sides whole_step (up_sides 64 (m - 1) k) b.node b.rest) (sym at)
-          ∙ b.whole ∙ ap Some (root-any 64 xs small);
-    })
-
--- and the values of PROOF(m, D_n) with the first root are these
-pub proof-values : (xs : List (List ℕ)) (m n : ℕ) → 0 < m → m < n → length xs ≡ n → n ≤ 2 ^ 64
-    → values_of m (root_of (take m xs)) (proof_of m xs) ≡ subproof_of m xs false
-proof-values xs m n pos lt e le =
-    let small : length xs ≤ 2 ^ 64 = omega arith in
-    ap (λ r. values_of m r (proof_of m xs))
-    (sym (root-any 64 (take m xs) (omega (arith, length-take m xs))))
-    ∙ ap (λ ps. values_of m (root_at 64 (take m xs)) ps)
-    (sym (sub-any 64 m xs true (omega arith) small))
-    ∙ are_values 64 m xs pos small (inl (omega arith))
-    ∙ sub-any 64 m xs false (omega arith) small
+    let small = b.fewer in
+    record {
+      node = get_or b.nodes b.at [];
+      path = path_at b.height b.at b.nodes;
+      within = omega (arith, b.node, b.last, b.within);
+      fits = omega (arith, b.last, b.within);
+      leads = rw (← b.node, ← b.last, ← first, ← b.front, ← root-any 64 xs fits, ← b.whole) (record {
+        front = walk-path false b.height b.at b.nodes b.within b.few (omega arith);
+        whole = walk-path true b.height b.at b.nodes b.within b.few (omega arith);
+      });
+      is = sym (sub-any 64 m xs false (omega arith) fits) ∙ b.is;
+      values = rw (← first, ← sub-any 64 m xs true (omega arith) fits) b.values;
+      hashes = λ sized a. (
+        hashes-at b.nodes b.at (b.hashes sized a) b.within,
+        hashes-path sized b.height b.at b.nodes b.within b.few (b.hashes sized a),
+      );
+    }
 
 length-values : (b : Bool) (r : List ℕ) (ps : List (List ℕ))
     → length (cond b (r ∷ ps) ps) + cond b 0 1 ≡ 1 + length ps
 length-values true r ps = omega arith
 length-values false r ps = omega arith
 
-length-rest : (ps : List (List ℕ)) → 0 < length ps → length ps ≡ 1 + length (drop 1 ps)
-length-rest [] some = absurd (omega arith)
-length-rest (p ∷ ps) some = omega arith
-
--- the proof has a value for each level with a sibling from the first node on, and one for that node
--- where m is no power of two
-pub length-proof : (xs : List (List ℕ)) (m n : ℕ) → 0 < m → m < n → length xs ≡ n → n ≤ 2 ^ 64
-    → length (proof_of m xs)
-    ≡ length (sides 64 (first_node m) (first_last m n)) + cond (is_power_of_two m) 0 1
-length-proof xs m n pos lt e le =
-    let made = subproof_of m xs false in
-    let w = shift-within is_even 64 (m - 1) (n - 1) (omega arith) in
-    let steps = walk-length whole_step (first_node m) (first_last m n) (get_or made 0 [])
-    (root_of xs) (drop 1 made) w.0 (omega (arith, w.1)) (begun-leads xs m n pos lt e le).whole in
+-- it is the values without the first root
+pub proof-rest : (m : ℕ) (xs : List (List ℕ)) → 0 < m → m < length xs → length xs ≤ 2 ^ 64
+    → length (subproof_of m xs false) + cond (is_power_of_two m) 0 1
+    ≡ 1 + length (proof_of m xs)
+proof-rest m xs pos lt fits =
+    let p = made m xs pos lt fits in
     omega (
       arith,
-      steps,
-      length-rest made (begun-some xs m n pos lt e le),
-      ap length (proof-values xs m n pos lt e le),
+      ap length p.is,
+      ap length p.values,
       length-values (is_power_of_two m) (root_of (take m xs)) (proof_of m xs),
     )
 
--- so many values are counted from the first node on
-pub counted-proof : (xs : List (List ℕ)) (m a b siblings len : ℕ) → 0 < m → m < length xs
-    → length xs ≤ 2 ^ 64 → a ≡ first_node m → b ≡ first_last m (length xs)
-    → siblings ≡ length (sides 64 a b) → len ≡ siblings + cond (is_power_of_two m) 0 1
-    → len ≡ length (proof_of m xs)
-counted-proof xs m a b siblings len pos lt le ea eb es el =
-    let s = ap (λ k. length (sides 64 k b)) ea ∙ ap (λ k. length (sides 64 (first_node m) k)) eb in
-    omega (arith, el, es, s, length-proof xs m (length xs) pos lt refl le)
+-- the proof has a value for each level with a sibling from the first node on, and one for that node
+-- where m is no power of two
+pub length-proof : (m : ℕ) (xs : List (List ℕ)) → 0 < m → m < length xs → length xs ≤ 2 ^ 64
+    → length (proof_of m xs)
+    ≡ path_len (first_node m) (first_last m (length xs)) + cond (is_power_of_two m) 0 1
+length-proof m xs pos lt fits =
+    let p = made m xs pos lt fits in
+    let first = root_of (take m xs) in
+    omega (
+      arith,
+      leads-length p.within p.fits (record { ends = p.leads.whole }),
+      ap length p.values,
+      length-values (is_power_of_two m) first (proof_of m xs),
+    )
+
+-- the proof is accepted
+some-steps : (f : Step) (n m : ℕ) (r x : List ℕ) (ps : List (List ℕ)) → 0 < m
+    → walk f n m r ps ≡ Some x → 0 < length ps
+some-steps f n m r x [] pos e = absurd (omega (arith, walk-end f n m r x e))
+some-steps f n m r x (p ∷ ps) pos e = omega arith
+
+pub consistent : (m : ℕ) (xs : List (List ℕ)) → 0 < m → m < length xs → length xs ≤ 2 ^ 64
+    → IsConsistent m (length xs) (proof_of m xs) (root_of (take m xs)) (root_of xs)
+consistent m xs pos lt fits =
+    let p = made m xs pos lt fits in
+    let first = root_of (take m xs) in
+    let below = even-below 64 (m - 1) (length xs - 1) (omega arith) in
+    let steps = some-steps whole_step (first_node m) (first_last m (length xs)) p.node (root_of xs)
+    p.path (omega arith) p.leads.whole in
+    let values = length-values (is_power_of_two m) first (proof_of m xs) in
+    record {
+      nonempty = pos;
+      within = lt;
+      some = omega (arith, ap length p.values);
+      leads = rw p.values p.leads;
+    }

@@ -1,118 +1,180 @@
 -- SPDX-License-Identifier: ISC
--- The path of a leaf leads from it to the root.
-use Rattle.std.proofs.lemmas.Bool.{cases_lt}
-use Rattle.std.proofs.Common.{◌≡◌, ◌+◌, ◌-◌, ◌^◌, ◌<◌, ◌≤◌, [], ◌∷◌, ◌++◌, ◌∙◌, ℕ, zero, suc}
-use Rattle.std.proofs.Common.{true, false, List, length, get_or, take, drop, refl, ap, sym, arith}
-use Rattle.std.proofs.Common.{⊎_elim, Option, Some, get_or-drop, get_or-take, length-drop}
-use Rattle.std.proofs.Common.{length-take}
-use Rattle.ring_merkle.specs.Cost.{sides}
-use Rattle.ring_merkle.specs.Inclusion.{path_at, path_of}
-use Rattle.ring_merkle.specs.Tree.{root_at, root_of}
-use Rattle.ring_merkle.specs.Walk.{walk, whole_step}
-use Rattle.ring_merkle.proofs.Sides.{sides-left, sides-low, sides-right}
-use Rattle.ring_merkle.proofs.Trees.{drop-within, path-any, path-left, path-low, path-right}
-use Rattle.ring_merkle.proofs.Trees.{root-any, root-high, root-low, take-within}
-use Rattle.ring_merkle.proofs.Walks.{fold-push, fold_sides, walk-fold, walk-length}
+-- The path of a leaf leads from it to the root, and to the root of the leaves up to it.
+use Rattle.std.proofs.Common.{◌≡◌, ◌+◌, ◌-◌, ◌/◌, ◌%◌, ◌^◌, ◌<◌, ◌≤◌, [], ◌∷◌, ◌++◌, ℕ, zero, suc}
+use Rattle.std.proofs.Common.{Bool, true, false, cond, List, length, get_or, take, drop, refl, sym, arith}
+use Rattle.std.proofs.Common.{⊎_elim, Some, length-append, length-drop, length-take}
+use Rattle.std.proofs.lemmas.List.{drop_more, take-append-drop, take_more}
+use Rattle.ring_merkle.specs.Cost.{path_len, sides}
+use Rattle.ring_merkle.specs.Inclusion.{IsIncluded, path_at, path_of}
+use Rattle.ring_merkle.specs.Stack.{halves, last}
+use Rattle.ring_merkle.specs.Tree.{node_hash, root_at, root_of}
+use Rattle.ring_merkle.specs.Walk.{front_step, walk, whole_step}
+use Rattle.ring_merkle.proofs.Levels.{beside-even, beside-odd, length-halves, pair-even, pair-odd}
+use Rattle.ring_merkle.proofs.Pairs.{beside, length-pair_up, pair_up, path-up, root-up}
+use Rattle.ring_merkle.proofs.Sides.{parity, sides-last, sides-left, sides-right}
+use Rattle.ring_merkle.proofs.Trees.{below-pow, pow-sum}
+use Rattle.ring_merkle.proofs.Walks.{Step, fold_sides, leads-length, walk-fold}
 
--- the fold of a leaf's path, from the root down
-abbrev pub led : (h m n : ℕ) → (leaf : List ℕ) → (path : List (List ℕ)) → Option (List ℕ)
-led h m n leaf path = fold_sides whole_step (sides h m (n - 1)) leaf path
+-- of the whole tree all leaves are kept, and of its beginning none after the node
+abbrev pub step_of : (whole : Bool) → Step
+step_of true = whole_step
+step_of false = front_step
 
-led-left : (h m : ℕ) (xs : List (List ℕ)) → 2 ^ h < length xs → length xs ≤ 2 ^ suc h → m < 2 ^ h
-    → led h m (length (take (2 ^ h) xs)) (get_or (take (2 ^ h) xs) m [])
-    (path_at h m (take (2 ^ h) xs)) ≡ Some (root_at h (take (2 ^ h) xs))
-    → led (suc h) m (length xs) (get_or xs m []) (path_at (suc h) m xs)
-    ≡ Some (root_at (suc h) xs)
-led-left h m xs high le left ih =
-    let front = take (2 ^ h) xs in
-    let back = drop (2 ^ h) xs in
-    let l : length front ≡ 2 ^ h = omega (arith, length-take (2 ^ h) xs) in
-    let ss = sides h m (2 ^ h - 1) in
-    let here : fold_sides whole_step ss (get_or xs m []) (path_at h m front)
-    ≡ Some (root_at h front) =
-    ap (λ k. fold_sides whole_step (sides h m (k - 1)) (get_or xs m []) (path_at h m front)) (sym l)
-    ∙ ap (λ x. led h m (length front) x (path_at h m front))
-    (sym (get_or-take (2 ^ h) xs m [] left)) ∙ ih in
-    ap (λ z. fold_sides whole_step z (get_or xs m []) (path_at (suc h) m xs))
-    (sides-left h m (length xs - 1) left (omega arith) (omega arith))
-    ∙ ap (λ ps. fold_sides whole_step (ss ++ false ∷ []) (get_or xs m []) ps)
-    (path-left h m xs high left)
-    ∙ fold-push whole_step ss false (get_or xs m []) (path_at h m front) (root_at h back)
-    (root_at h front) here
-    ∙ ap Some (sym (root-high h xs high))
+abbrev pub kept : (whole : Bool) → List (List ℕ) → List (List ℕ)
+kept true xs = xs
+kept false xs = []
 
-led-right : (h m : ℕ) (xs : List (List ℕ)) → m < length xs → 2 ^ h < length xs
-    → length xs ≤ 2 ^ suc h → 2 ^ h ≤ m
-    → led h (m - 2 ^ h) (length (drop (2 ^ h) xs)) (get_or (drop (2 ^ h) xs) (m - 2 ^ h) [])
-    (path_at h (m - 2 ^ h) (drop (2 ^ h) xs)) ≡ Some (root_at h (drop (2 ^ h) xs))
-    → led (suc h) m (length xs) (get_or xs m []) (path_at (suc h) m xs)
-    ≡ Some (root_at (suc h) xs)
-led-right h m xs lt high le right ih =
-    let front = take (2 ^ h) xs in
-    let back = drop (2 ^ h) xs in
-    let i = m - 2 ^ h in
-    let ps = path_at h i back in
-    let l : length xs - 1 - 2 ^ h ≡ length back - 1 = omega (arith, length-drop (2 ^ h) xs) in
-    let ss = sides h i (length xs - 1 - 2 ^ h) in
-    let k : 2 ^ h + i ≡ m = omega arith in
-    let g : get_or xs m [] ≡ get_or back i [] =
-    ap (λ j. get_or xs j []) (sym k) ∙ sym (get_or-drop (2 ^ h) xs i []) in
-    let here : fold_sides whole_step ss (get_or xs m []) ps ≡ Some (root_at h back) =
-    ap (λ j. fold_sides whole_step (sides h i j) (get_or xs m []) ps) l
-    ∙ ap (λ x. led h i (length back) x ps) g ∙ ih in
-    ap (λ z. fold_sides whole_step z (get_or xs m []) (path_at (suc h) m xs))
-    (sides-right h m (length xs - 1) right (omega arith) (omega arith))
-    ∙ ap (λ z. fold_sides whole_step (ss ++ true ∷ []) (get_or xs m []) z)
-    (path-right h m xs high right)
-    ∙ fold-push whole_step ss true (get_or xs m []) ps (root_at h front) (root_at h back) here
-    ∙ ap Some (sym (root-high h xs high))
+-- the hashes of a level up, where the node's is r
+kept-right : (b : Bool) (p r : List ℕ) (zs : List (List ℕ))
+    → node_hash p r ∷ pair_up (kept b zs) ≡ step_of b true p r ∷ kept b (pair_up zs)
+unfolding pair_up
+kept-right true p r zs = refl
+kept-right false p r zs = refl
 
-led-low : (h m : ℕ) (xs : List (List ℕ)) → m < length xs → length xs ≤ 2 ^ h
-    → led h m (length xs) (get_or xs m []) (path_at h m xs) ≡ Some (root_at h xs)
-    → led (suc h) m (length xs) (get_or xs m []) (path_at (suc h) m xs)
-    ≡ Some (root_at (suc h) xs)
-led-low h m xs lt low ih =
-    ap (λ z. fold_sides whole_step z (get_or xs m []) (path_at (suc h) m xs))
-    (sides-low h m (length xs - 1) (omega arith) (omega arith))
-    ∙ ap (λ ps. led h m (length xs) (get_or xs m []) ps) (path-low h m xs low)
-    ∙ ih ∙ ap Some (sym (root-low h xs low))
+kept-left : (b : Bool) (p r : List ℕ) (zs : List (List ℕ))
+    → pair_up (r ∷ kept b (p ∷ zs)) ≡ step_of b false p r ∷ kept b (pair_up zs)
+unfolding pair_up
+kept-left true p r zs = refl
+kept-left false p r zs = refl
 
-led-leaf : (m : ℕ) (xs : List (List ℕ)) → m < length xs → length xs ≤ 1
-    → led zero m (length xs) (get_or xs m []) (path_at zero m xs) ≡ Some (root_at zero xs)
+length-kept : (b : Bool) (zs : List (List ℕ)) → length (kept b zs) ≤ length zs
+length-kept true zs = omega arith
+length-kept false zs = omega arith
+
+kept-last : (b : Bool) (r : List ℕ) → pair_up (r ∷ kept b []) ≡ r ∷ kept b []
+unfolding pair_up
+kept-last true r = refl
+kept-last false r = refl
+
+leads-leaf : (b : Bool) (before after : List (List ℕ)) (x r : List ℕ)
+    → length before + length after < 1
+    → fold_sides (step_of b) (sides zero (length before) (length before + length after)) r
+    (path_at zero (length before) (before ++ x ∷ after))
+    ≡ Some (root_at zero (before ++ r ∷ kept b after))
 unfolding sides path_at root_at
-led-leaf m [] lt le = absurd (omega arith)
-led-leaf zero (x ∷ []) lt le = refl
-led-leaf (suc m) (x ∷ []) lt le = absurd (omega arith)
-led-leaf m (x ∷ y ∷ xs) lt le = absurd (omega arith)
+leads-leaf b [] after x r lt = refl
+leads-leaf b (y ∷ before) after x r lt = absurd (omega arith)
 
-pub leads : (h m : ℕ) (xs : List (List ℕ)) → m < length xs → length xs ≤ 2 ^ h
-    → led h m (length xs) (get_or xs m []) (path_at h m xs) ≡ Some (root_at h xs)
-leads zero m xs lt le = led-leaf m xs lt (omega arith)
-leads (suc h) m xs lt le =
-    ⊎_elim
-    (λ high. ⊎_elim
-    (λ left. led-left h m xs high le left
-    (leads h m (take (2 ^ h) xs) (omega (arith, length-take (2 ^ h) xs)) (take-within h xs)))
-    (λ right. led-right h m xs lt high le right
-    (leads h (m - 2 ^ h) (drop (2 ^ h) xs) (omega (arith, length-drop (2 ^ h) xs))
-    (drop-within h xs le)))
-    (cases_lt m (2 ^ h)))
-    (λ low. led-low h m xs lt low (leads h m xs lt low))
-    (cases_lt (2 ^ h) (length xs))
+-- one level up from the node x, whose hash is r: the sides and values of the step, if there is one
+record Above (b : Bool) (before after : List (List ℕ)) (x r : List ℕ) : Type 0 where
+  sides-here : List Bool
+  values : List (List ℕ)
+  node : List ℕ
+  reached : List ℕ
+  rest : List (List ℕ)
+  last : (length before + length after) / 2 ≡ length (halves before) + length rest
+  path : beside (length before) (before ++ x ∷ after) ≡ values
+  nodes : pair_up (before ++ x ∷ after) ≡ halves before ++ node ∷ rest
+  hashes : pair_up (before ++ r ∷ kept b after) ≡ halves before ++ reached ∷ kept b rest
+  levels : (h : ℕ) → sides (suc h) (length before) (length before + length after)
+      ≡ sides-here ++ sides h (length before / 2) ((length before + length after) / 2)
+  step : (ss : List Bool) (ps : List (List ℕ))
+      → fold_sides (step_of b) (sides-here ++ ss) r (values ++ ps)
+      ≡ fold_sides (step_of b) ss reached ps
 
--- so the verification accepts it
-pub included : (xs : List (List ℕ)) (m n : ℕ) → m < n → length xs ≡ n → n ≤ 2 ^ 64
-    → walk whole_step m (n - 1) (get_or xs m []) (path_of m xs) ≡ Some (root_of xs)
-included xs m n lt e le =
-    let fits : n - 1 < 2 ^ 64 = omega arith in
-    walk-fold whole_step 64 m (n - 1) (get_or xs m []) (path_of m xs) (omega arith) fits fits
-    ∙ ap (λ k. led 64 m k (get_or xs m []) (path_of m xs)) (sym e)
-    ∙ ap (λ ps. led 64 m (length xs) (get_or xs m []) ps) (sym (path-any 64 m xs (omega arith)))
-    ∙ leads 64 m xs (omega arith) (omega arith) ∙ ap Some (root-any 64 xs (omega arith))
+above-even : (b : Bool) (before after : List (List ℕ)) (x r : List ℕ) → length before % 2 ≡ 0
+    → Above b before after x r
+unfolding beside pair_up
+above-even b before [] x r even = record {
+  sides-here = [];
+  values = [];
+  node = x;
+  reached = r;
+  rest = [];
+  last = omega (arith, length-halves before);
+  path = beside-even before (x ∷ []) even;
+  nodes = pair-even before (x ∷ []) even;
+  hashes = rw (pair-even before (r ∷ kept b []) even, kept-last b r);
+  levels = λ h. sides-last h (length before) (length before + 0) even (omega arith);
+  step = λ ss ps. refl;
+}
+above-even b before (y ∷ after) x r even = record {
+  sides-here = false ∷ [];
+  values = y ∷ [];
+  node = node_hash x y;
+  reached = step_of b false y r;
+  rest = pair_up after;
+  last = omega (arith, length-halves before, length-pair_up after);
+  path = beside-even before (x ∷ y ∷ after) even;
+  nodes = pair-even before (x ∷ y ∷ after) even;
+  hashes = rw (pair-even before (r ∷ kept b (y ∷ after)) even, kept-left b y r after);
+  levels = λ h. sides-left h (length before) (length before + suc (length after)) even
+      (omega arith);
+  step = λ ss ps. refl;
+}
+
+above-odd : (b : Bool) (before after : List (List ℕ)) (x r : List ℕ) → length before % 2 ≡ 1
+    → Above b before after x r
+above-odd b before after x r odd = record {
+  sides-here = true ∷ [];
+  values = last before ∷ [];
+  node = node_hash (last before) x;
+  reached = step_of b true (last before) r;
+  rest = pair_up after;
+  last = omega (arith, length-halves before, length-pair_up after);
+  path = beside-odd before after x odd;
+  nodes = pair-odd before after x odd;
+  hashes = rw (pair-odd before (kept b after) r odd, kept-right b (last before) r after);
+  levels = λ h. sides-right h (length before) (length before + length after) odd;
+  step = λ ss ps. refl;
+}
+
+-- from the hash r of a node a path leads to the root of the leaves with r in the node's place
+leads : (b : Bool) (h : ℕ) (before after : List (List ℕ)) (x r : List ℕ)
+    → length before + length after < 2 ^ h
+    → fold_sides (step_of b) (sides h (length before) (length before + length after)) r
+    (path_at h (length before) (before ++ x ∷ after))
+    ≡ Some (root_at h (before ++ r ∷ kept b after))
+leads b zero before after x r lt = leads-leaf b before after x r (omega arith)
+leads b (suc h) before after x r lt =
+    let a = ⊎_elim (above-even b before after x r) (above-odd b before after x r)
+    (parity (length before)) in
+    let lx = length-append before (x ∷ after) in
+    let lr = length-append before (r ∷ kept b after) in
+    let lk = length-kept b after in
+    let pow = pow-sum h in
+    rw (
+      path-up h (length before) (before ++ x ∷ after) (omega arith) (omega arith),
+      a.path,
+      a.nodes,
+      a.levels h,
+      a.last,
+      ← length-halves before,
+      a.step,
+      root-up h (before ++ r ∷ kept b after) (omega arith),
+      a.hashes,
+    ) (leads b h (halves before) a.rest a.node a.reached (omega (arith, a.last)))
+
+kept-split : (b : Bool) (m : ℕ) (xs : List (List ℕ)) → m < length xs
+    → take m xs ++ get_or xs m [] ∷ kept b (drop (m + 1) xs) ≡ cond b xs (take (m + 1) xs)
+kept-split true m xs lt = rw (← drop_more xs m [] lt) (take-append-drop m xs)
+kept-split false m xs lt = sym (take_more xs m [] lt)
+
+-- so a leaf's path leads from it to the root, and to that of the leaves up to it
+pub walk-path : (b : Bool) (h m : ℕ) (xs : List (List ℕ)) → m < length xs → length xs ≤ 2 ^ h
+    → length xs ≤ 2 ^ 64 → walk (step_of b) m (length xs - 1) (get_or xs m []) (path_at h m xs)
+    ≡ Some (root_at h (cond b xs (take (m + 1) xs)))
+walk-path b h m xs lt le fits =
+    let before = take m xs in
+    let after = drop (m + 1) xs in
+    let x = get_or xs m [] in
+    let front : length before ≡ m = omega (arith, length-take m xs) in
+    let back : m + length after ≡ length xs - 1 = omega (arith, length-drop (m + 1) xs) in
+    let l = leads b h before after x x (omega arith) in
+    rw (walk-fold (step_of b) h m (length xs - 1) x (path_at h m xs)
+    (record { node = omega arith; all = omega arith; fits = omega arith }))
+    (rw (front, back, kept-split true m xs lt, kept-split b m xs lt) at l)
+
+pub included : (xs : List (List ℕ)) (m : ℕ) → m < length xs → length xs ≤ 2 ^ 64
+    → IsIncluded (get_or xs m []) m (length xs) (path_of m xs) (root_of xs)
+unfolding path_of root_of
+included xs m lt fits = record {
+  within = lt;
+  leads = walk-path true (length xs) m xs lt (omega (arith, below-pow (length xs))) fits;
+}
 
 -- the path has a value for each level with a sibling
 pub length-path : (xs : List (List ℕ)) (m : ℕ) → m < length xs → length xs ≤ 2 ^ 64
-    → length (path_of m xs) ≡ length (sides 64 m (length xs - 1))
-length-path xs m lt le =
-    walk-length whole_step m (length xs - 1) (get_or xs m []) (root_of xs) (path_of m xs)
-    (omega arith) (omega arith) (included xs m (length xs) lt refl le)
+    → length (path_of m xs) ≡ path_len m (length xs - 1)
+length-path xs m lt fits =
+    leads-length (omega arith) (omega arith) (record { ends = (included xs m lt fits).leads })

@@ -1,55 +1,45 @@
 -- SPDX-License-Identifier: ISC
--- The levels with a sibling, counted from a node up.
-use Rattle.std.proofs.Common.{◌≡◌, ◌+◌, ◌/◌, ◌^◌, ◌<◌, ◌≤◌, ◌∙◌, ℕ, zero, suc, true, false}
-use Rattle.std.proofs.Common.{length, ap, arith}
-use Rattle.ring_merkle.specs.Cost.{is_alone, sides}
-use Rattle.ring_merkle.proofs.Sides.{sides-alone, sides-joined, sides-none}
-use Rattle.ring_merkle.proofs.Trees.{pow-sum}
+-- The node m of a level, the nodes before it and those after it, and the level above.
+use Rattle.std.proofs.Common.{◌≡◌, ◌/◌, ◌%◌, [], ◌∷◌, ◌++◌, ℕ, List, length, refl, ap}
+use Rattle.std.proofs.Common.{arith}
+use Rattle.ring_merkle.specs.Stack.{halves, last}
+use Rattle.ring_merkle.specs.Tree.{node_hash}
+use Rattle.ring_merkle.proofs.Pairs.{beside, pair_up}
 
--- of all levels with a sibling so many are counted, and the others are at n or above
-pub record Counted (total n m len : ℕ) : Type 0 where
-  pub height : ℕ
-  pub below : m < 2 ^ height
-  pub same : total ≡ len + length (sides height n m)
+pub length-halves : (xs : List (List ℕ)) → length (halves xs) ≡ length xs / 2
+length-halves [] = refl
+length-halves (x ∷ []) = refl
+length-halves (x ∷ y ∷ xs) = omega (arith, length-halves xs)
 
-alone-from : (total n m len h : ℕ) → is_alone n m ≡ true → 0 < m → m < 2 ^ h
-    → total ≡ len + length (sides h n m) → Counted total (n / 2) (m / 2) len
-alone-from total n m len zero t pos below same = absurd (omega arith)
-alone-from total n m len (suc h) t pos below same = record {
-  height = h;
-  below = omega (arith, pow-sum h);
-  same = same ∙ ap (λ ss. len + length ss) (sides-alone h n m t);
-}
+-- an even number of nodes before it
+pub pair-even : (xs zs : List (List ℕ)) → length xs % 2 ≡ 0
+    → pair_up (xs ++ zs) ≡ halves xs ++ pair_up zs
+unfolding pair_up
+pair-even [] zs even = refl
+pair-even (x ∷ []) zs even = absurd (omega arith)
+pair-even (x ∷ y ∷ xs) zs even = ap (λ ws. node_hash x y ∷ ws) (pair-even xs zs (omega arith))
 
-joined-from : (total n m len h : ℕ) → is_alone n m ≡ false → 0 < m → m < 2 ^ h
-    → total ≡ len + length (sides h n m) → Counted total (n / 2) (m / 2) (len + 1)
-joined-from total n m len zero t pos below same = absurd (omega arith)
-joined-from total n m len (suc h) t pos below same = record {
-  height = h;
-  below = omega (arith, pow-sum h);
-  same = omega (arith, same, ap length (sides-joined h n m t));
-}
+pub beside-even : (xs zs : List (List ℕ)) → length xs % 2 ≡ 0
+    → beside (length xs) (xs ++ zs) ≡ beside 0 zs
+unfolding beside
+beside-even [] zs even = refl
+beside-even (x ∷ []) zs even = absurd (omega arith)
+beside-even (x ∷ y ∷ xs) zs even = beside-even xs zs (omega arith)
 
--- one level up from a node that has no sibling, and from one that has one
-pub counted-alone : (total n m len : ℕ) → is_alone n m ≡ true → 0 < m → Counted total n m len
-    → Counted total (n / 2) (m / 2) len
-counted-alone total n m len t pos c = alone-from total n m len c.height t pos c.below c.same
+-- an odd number of them
+pub pair-odd : (xs zs : List (List ℕ)) (z : List ℕ) → length xs % 2 ≡ 1
+    → pair_up (xs ++ z ∷ zs) ≡ halves xs ++ node_hash (last xs) z ∷ pair_up zs
+unfolding pair_up
+pair-odd [] zs z odd = absurd (omega arith)
+pair-odd (x ∷ []) zs z odd = refl
+pair-odd (x ∷ y ∷ []) zs z odd = absurd (omega arith)
+pair-odd (x ∷ y ∷ w ∷ xs) zs z odd =
+    ap (λ vs. node_hash x y ∷ vs) (pair-odd (w ∷ xs) zs z (omega arith))
 
-pub counted-joined : (total n m len : ℕ) → is_alone n m ≡ false → 0 < m → Counted total n m len
-    → Counted total (n / 2) (m / 2) (len + 1)
-counted-joined total n m len t pos c = joined-from total n m len c.height t pos c.below c.same
-
--- one that has one is one of those that are not counted yet
-some-from : (total n m len h : ℕ) → is_alone n m ≡ false → 0 < m → m < 2 ^ h
-    → total ≡ len + length (sides h n m) → len < total
-some-from total n m len zero t pos below same = absurd (omega arith)
-some-from total n m len (suc h) t pos below same =
-    omega (arith, same, ap length (sides-joined h n m t))
-
-pub counted-some : (total n m len : ℕ) → is_alone n m ≡ false → 0 < m → Counted total n m len
-    → len < total
-counted-some total n m len t pos c = some-from total n m len c.height t pos c.below c.same
-
-pub counted-all : (total n m len : ℕ) → n ≤ m → m ≡ 0 → Counted total n m len → total ≡ len
-counted-all total n m len le z c =
-    omega (arith, c.same, ap length (sides-none c.height n m le z))
+pub beside-odd : (xs zs : List (List ℕ)) (z : List ℕ) → length xs % 2 ≡ 1
+    → beside (length xs) (xs ++ z ∷ zs) ≡ last xs ∷ []
+unfolding beside
+beside-odd [] zs z odd = absurd (omega arith)
+beside-odd (x ∷ []) zs z odd = refl
+beside-odd (x ∷ y ∷ []) zs z odd = absurd (omega arith)
+beside-odd (x ∷ y ∷ w ∷ xs) zs z odd = beside-odd (w ∷ xs) zs z (omega arith)

@@ -1,14 +1,15 @@
 // SPDX-License-Identifier: ISC
 //! Proofs that a tree is the beginning of a larger one (RFC 9162, section 2.1.4).
 
-ghost use Rattle.std.specs.Prelude.{◌≡◌, ◌↔◌, ◌+◌, ◌*◌, ◌≤◌, ℕ, List, length, IsTrue, Some};
+ghost use Rattle.std.specs.Prelude.{◌≡◌, ◌↔◌, ◌+◌, ◌*◌, ◌<◌, ◌≤◌, ℕ, List, length, IsTrue, Some};
 ghost use Rattle.ring.specs.Prelude.{raised};
 ghost use Rattle.ring_merkle.specs.Consistency.{IsCompleteConsistency, IsConsistent};
-ghost use Rattle.ring_merkle.specs.Consistency.{IsSoundConsistency, LeadsToBoth};
+ghost use Rattle.ring_merkle.specs.Consistency.{IsSoundConsistency, LeadsToBoth, first_last};
+ghost use Rattle.ring_merkle.specs.Consistency.{first_node};
 ghost use Rattle.ring_merkle.specs.Cost.{both_blocks, consistency_blocks, left_count, node_blocks};
 ghost use Rattle.ring_merkle.specs.Walk.{front_step, walk, whole_step};
 
-use crate::hash::{HASH_LEN, node_hash_counted};
+use crate::hash::HASH_LEN;
 use crate::place::Place;
 use ring::cost::Meter;
 use ring::laws::digest_has_output_len;
@@ -34,12 +35,8 @@ fn climb_both(
     let mut front = *hash;
     let mut whole = *hash;
     for value in path {
-        if place.is_right() {
-            front = node_hash_counted(value, &front, meter);
-            whole = node_hash_counted(value, &whole, meter);
-        } else {
-            whole = node_hash_counted(&whole, value, meter);
-        }
+        front = place.front_step(value, &front, meter);
+        whole = place.whole_step(value, &whole, meter);
         place = place.next();
     }
     (front, whole)
@@ -67,6 +64,21 @@ fn leads_to_both(
     front == *first && whole == *second
 }
 
+// The place where the steps begin.
+pub(crate) fn first_place(first_size: u64, second_size: u64) -> Place
+    requires nonempty { 0 < first_size }
+    requires within { first_size < second_size }
+    ensures node { result.node ≡ first_node first_size }
+    ensures last { result.last ≡ first_last first_size second_size }
+    ensures within { result.node < result.last }
+{
+    let ends = Place {
+        node: first_size - 1,
+        last: second_size - 1,
+    };
+    ends.even()
+}
+
 // Whether the verification accepts `path`.
 fn is_consistent(
     first_size: u64,
@@ -87,11 +99,7 @@ fn is_consistent(
     let Some((value, rest)) = path.split_first() else {
         return false;
     };
-    let ends = Place {
-        node: first_size - 1,
-        last: second_size - 1,
-    };
-    let start = ends.even();
+    let start = first_place(first_size, second_size);
     if first_size.is_power_of_two() {
         leads_to_both(first, start, path, first, second, meter)
     } else {

@@ -7,7 +7,7 @@ ghost use Rattle.ring_merkle.specs.Cost.{inclusion_blocks, node_blocks};
 ghost use Rattle.ring_merkle.specs.Inclusion.{IsCompleteInclusion, IsIncluded, IsSoundInclusion};
 ghost use Rattle.ring_merkle.specs.Walk.{walk, whole_step};
 
-use crate::hash::{HASH_LEN, node_hash_counted};
+use crate::hash::HASH_LEN;
 use crate::place::Place;
 use ring::cost::Meter;
 use ring::laws::digest_has_output_len;
@@ -26,11 +26,7 @@ fn climb(
     let mut place = start;
     let mut reached = *hash;
     for value in path {
-        reached = if place.is_right() {
-            node_hash_counted(value, &reached, meter)
-        } else {
-            node_hash_counted(&reached, value, meter)
-        };
+        reached = place.whole_step(value, &reached, meter);
         place = place.next();
     }
     reached

@@ -1,15 +1,17 @@
 // SPDX-License-Identifier: ISC
 //! The paths of both kinds of proof, made from the leaf hashes of a tree.
 
-ghost use Rattle.std.specs.Prelude.{◌≡◌, ◌↔◌, ◌+◌, ◌<◌, ◌≤◌, ◌++◌, length, drop, IfOk, IsOk, OnErr};
-ghost use Rattle.std.specs.Int.{IsPowerOfTwo};
+ghost use Rattle.std.specs.Prelude.{◌≡◌, ◌↔◌, ◌+◌, ◌<◌, ◌≤◌, ◌==◌, ◌&&◌, [], ◌∷◌, ◌++◌, Bool, cond};
+ghost use Rattle.std.specs.Prelude.{length, drop, IfOk, IsOk, OnErr};
+ghost use Rattle.std.specs.Int.{IsPowerOfTwo, is_power_of_two};
 ghost use Rattle.ring.specs.Prelude.{raised};
-ghost use Rattle.ring_merkle.specs.Consistency.{proof_of};
-ghost use Rattle.ring_merkle.specs.Cost.{consistency_path_blocks, inclusion_path_blocks};
+ghost use Rattle.ring_merkle.specs.Consistency.{first_last, first_node, proof_of, subproof_of};
+ghost use Rattle.ring_merkle.specs.Cost.{consistency_path_blocks, inclusion_path_blocks, path_len};
 ghost use Rattle.ring_merkle.specs.Cost.{tree_blocks};
 ghost use Rattle.ring_merkle.specs.Inclusion.{path_of};
 ghost use Rattle.ring_merkle.specs.Tree.{root_of};
 
+use crate::consistency::first_place;
 use crate::hash::HASH_LEN;
 use crate::place::Place;
 use crate::tree::Tree;
@@ -46,6 +48,31 @@ fn split_of(len: usize) -> usize
     (len - len / 2).next_power_of_two()
 }
 
+// The two parts of `leaves` at their split: the one with the leaf at `node`, and the leaf's place
+// there; and the other one.
+fn parts_of(leaves: &[[u8; HASH_LEN]], node: usize) -> (&[[u8; HASH_LEN]], usize, &[[u8; HASH_LEN]])
+    requires within { node < length leaves.now }
+    requires several { 1 < length leaves.now }
+    ensures place { result.1 < length result.0.now }
+    ensures at_most { result.1 ≤ node }
+    ensures some { 0 < length result.2.now }
+    ensures all { length leaves.now ≡ length result.0.now + length result.2.now }
+    ensures path { path_of node leaves.now
+        ≡ path_of result.1 result.0.now ++ root_of result.2.now ∷ [] }
+    ensures subproof { (b : Bool) → node + 1 < length leaves.now
+        → subproof_of (node + 1) leaves.now b
+        ≡ subproof_of (result.1 + 1) result.0.now (b && result.1 == node)
+        ++ root_of result.2.now ∷ [] }
+{
+    let split = split_of(leaves.len());
+    let (front, back) = leaves.split_at(split);
+    if node < split {
+        (front, node, back)
+    } else {
+        (back, node - split, front)
+    }
+}
+
 // Fills `out`, which has its length, with the path of the leaf at `index`: from the root down, and
 // so from the end.
 fn fill_inclusion_path(
@@ -64,17 +91,11 @@ fn fill_inclusion_path(
     let mut node = index;
     let mut end = out.len();
     while rest.len() > 1 {
-        let split = split_of(rest.len());
-        let (front, back) = rest.split_at(split);
+        let (part, place, other) = parts_of(rest, node);
         end -= 1;
-        if node < split {
-            out[end] = tree_root_counted(back, meter);
-            rest = front;
-        } else {
-            out[end] = tree_root_counted(front, meter);
-            rest = back;
-            node -= split;
-        }
+        out[end] = tree_root_counted(other, meter);
+        rest = part;
+        node = place;
     }
 }
 
@@ -147,26 +168,35 @@ fn fill_consistency_path(
         (consistency_path_blocks first_size (length leaves.now) (length out.old)) 0 }
 {
     let mut rest = leaves;
-    let mut size = first_size;
+    let mut node = first_size - 1;
     let mut end = out.len();
-    let mut is_first = true;
-    while size < rest.len() {
-        let split = split_of(rest.len());
-        let (front, back) = rest.split_at(split);
+    while node + 1 < rest.len() {
+        let (part, place, other) = parts_of(rest, node);
         end -= 1;
-        if size <= split {
-            out[end] = tree_root_counted(back, meter);
-            rest = front;
-        } else {
-            out[end] = tree_root_counted(front, meter);
-            rest = back;
-            size -= split;
-            is_first = false;
-        }
+        out[end] = tree_root_counted(other, meter);
+        rest = part;
+        node = place;
     }
-    if !is_first {
+    if node + 1 != first_size {
         let first = end - 1;
         out[first] = tree_root_counted(rest, meter);
+    }
+}
+
+// How many values the proof has that the first `first_size` leaves of `size` are the beginning: one
+// for each sibling from the first node on, and that node where it isn't the root of the beginning.
+fn consistency_len(first_size: u64, size: u64) -> usize
+    requires nonempty { 0 < first_size }
+    requires within { first_size < size }
+    ensures len { result ≡ path_len (first_node first_size) (first_last first_size size)
+        + cond (is_power_of_two first_size) 0 1 }
+    ensures bound { result ≤ 65 }
+{
+    let siblings = first_place(first_size, size).path_len();
+    if first_size.is_power_of_two() {
+        siblings
+    } else {
+        siblings + 1
     }
 }
 
@@ -191,16 +221,7 @@ pub fn consistency_path_counted(
     if first_size == 0 || first_size >= leaves.len() {
         return Err(Unspecified);
     }
-    let ends = Place {
-        node: (first_size - 1) as u64,
-        last: (leaves.len() - 1) as u64,
-    };
-    let siblings = ends.even().path_len();
-    let len = if first_size.is_power_of_two() {
-        siblings
-    } else {
-        siblings + 1
-    };
+    let len = consistency_len(first_size as u64, leaves.len() as u64);
     if len > out.len() {
         return Err(Unspecified);
     }

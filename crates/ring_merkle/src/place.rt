@@ -1,10 +1,14 @@
 // SPDX-License-Identifier: ISC
 //! Places in a tree, and the steps from one to the next (RFC 9162, sections 2.1.3.2 and 2.1.4.2).
 
-ghost use Rattle.std.specs.Prelude.{◌≡◌, ◌/◌, ◌≤◌};
-ghost use Rattle.ring_merkle.specs.Cost.{is_alone, path_len};
-ghost use Rattle.ring_merkle.specs.Walk.{is_even, is_odd_or_zero, is_right, next_last, next_node};
-ghost use Rattle.ring_merkle.specs.Walk.{shifted_last, shifted_node};
+ghost use Rattle.std.specs.Prelude.{◌≡◌, ◌/◌, ◌*◌, ◌≤◌, cond};
+ghost use Rattle.ring.specs.Prelude.{raised};
+ghost use Rattle.ring_merkle.specs.Cost.{is_alone, node_blocks, path_len};
+ghost use Rattle.ring_merkle.specs.Walk.{front_step, is_even, is_odd_or_zero, is_right, next_last};
+ghost use Rattle.ring_merkle.specs.Walk.{next_node, shifted_last, shifted_node, whole_step};
+
+use crate::hash::{HASH_LEN, node_hash_counted};
+use ring::cost::Meter;
 
 // A node by its index, and the index of the last node of its level: fn and sn.
 #[derive(Clone, Copy)]
@@ -97,5 +101,40 @@ impl Place {
             place = place.up();
         }
         len
+    }
+
+    // The hash one step on from `reached`, to the root of the whole tree.
+    pub(crate) fn whole_step(
+        self,
+        value: &[u8; HASH_LEN],
+        reached: &[u8; HASH_LEN],
+        meter: &mut Meter,
+    ) -> [u8; HASH_LEN]
+        ensures hash { result ≡ whole_step (is_right self.node self.last) value.now reached.now }
+        ensures cost { meter.new ≡ raised meter.old node_blocks 0 }
+    {
+        if self.is_right() {
+            node_hash_counted(value, reached, meter)
+        } else {
+            node_hash_counted(reached, value, meter)
+        }
+    }
+
+    // The hash one step on from `reached`, to the root of the beginning.
+    pub(crate) fn front_step(
+        self,
+        value: &[u8; HASH_LEN],
+        reached: &[u8; HASH_LEN],
+        meter: &mut Meter,
+    ) -> [u8; HASH_LEN]
+        ensures hash { result ≡ front_step (is_right self.node self.last) value.now reached.now }
+        ensures cost { meter.new ≡ raised meter.old
+            (node_blocks * cond (is_right self.node self.last) 1 0) 0 }
+    {
+        if self.is_right() {
+            node_hash_counted(value, reached, meter)
+        } else {
+            *reached
+        }
     }
 }

@@ -1,10 +1,10 @@
 // SPDX-License-Identifier: ISC
 //! The tree hash of leaves that arrive one by one.
 
-ghost use Rattle.std.specs.Prelude.{◌≡◌, ◌+◌, ◌-◌, ◌^◌, ◌<◌, [], ◌∷◌, ◌++◌, ℕ, List, length};
+ghost use Rattle.std.specs.Prelude.{◌≡◌, ◌+◌, ◌-◌, ◌*◌, ◌^◌, ◌<◌, [], ◌∷◌, ◌++◌, ℕ, List, length};
 ghost use Rattle.ring.specs.Prelude.{raised};
-ghost use Rattle.ring_merkle.specs.Cost.{push_blocks, root_blocks};
-ghost use Rattle.ring_merkle.specs.Stack.{Holds, leaf_count};
+ghost use Rattle.ring_merkle.specs.Cost.{node_blocks, push_blocks, root_blocks};
+ghost use Rattle.ring_merkle.specs.Stack.{Holds, joined, last_of, leaf_count};
 ghost use Rattle.ring_merkle.specs.Tree.{root_of};
 
 use crate::hash::{HASH_LEN, empty_root_counted, node_hash_counted};
@@ -19,6 +19,17 @@ const MAX_LEVELS: usize = 64;
 pub struct Tree {
     pub(crate) roots: [[u8; HASH_LEN]; MAX_LEVELS],
     pub(crate) size: u64,
+}
+
+// The hash of the node over a complete subtree and what is joined so far.
+fn joined(root: &[u8; HASH_LEN], last: Option<[u8; HASH_LEN]>, meter: &mut Meter) -> [u8; HASH_LEN]
+    ensures hash { result ≡ joined root.now last }
+    ensures cost { meter.new ≡ raised meter.old (node_blocks * length (last_of last)) 0 }
+{
+    match last {
+        None => *root,
+        Some(right) => node_hash_counted(root, &right, meter),
+    }
 }
 
 impl Tree {
@@ -82,10 +93,7 @@ impl Tree {
         let mut count = self.size;
         for root in &self.roots {
             if count % 2 == 1 {
-                last = Some(match last {
-                    None => *root,
-                    Some(right) => node_hash_counted(root, &right, meter),
-                });
+                last = Some(joined(root, last, meter));
             }
             count /= 2;
         }

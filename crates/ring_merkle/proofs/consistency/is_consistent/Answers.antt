@@ -1,9 +1,7 @@
 -- SPDX-License-Identifier: ISC
-use Rattle.std.proofs.Common.{◌-◌, length, arith}
+use Rattle.std.proofs.Common.{length, arith}
 use Rattle.std.proofs.lemmas.Bool.{and_left, and_right, le-ltb}
-use Rattle.ring_merkle.specs.Walk.{is_even}
 use Rattle.ring_merkle.proofs.Rises.{raised-not}
-use Rattle.ring_merkle.proofs.Shifts.{shift-within}
 use Rattle.ring_merkle.proofs.consistency.is_consistent.Goals.{
   then-first_size-eq0-via-else-first_size-eq0+then-first_size-second_size,
   then-first_size-eq0-via-then-first_size-eq0,
@@ -13,28 +11,16 @@ use Rattle.ring_merkle.proofs.consistency.is_consistent.Goals as goal
 pub returns-then-first_size-eq0-clause-cost : goal.returns-then-first_size-eq0-clause-cost
 returns-then-first_size-eq0-clause-cost c =
     elim c.then-first_size-eq0.branch [
-      | then-first_size-eq0-via-then-first_size-eq0 w ↦ raised-not _ _ _
+      | then-first_size-eq0-via-then-first_size-eq0 w ↦ raised-not _ _
           (and_left _ _ (and_left _ _ (le-ltb 0 c.args.first_size
           (omega (arith, w.if-first_size-eq0.true)))))
       | then-first_size-eq0-via-else-first_size-eq0+then-first_size-second_size w ↦
-          raised-not _ _ _ (and_left _ _ (and_right _ _
+          raised-not _ _ (and_left _ _ (and_right _ _
           (le-ltb c.args.first_size c.args.second_size
           (omega (arith, w.if-first_size-second_size.true)))))
     ]
 
 pub returns-in_default-clause-cost : goal.returns-in_default-clause-cost
 returns-in_default-clause-cost c =
-    raised-not _ _ _ (and_right _ _ (le-ltb 0 (length c.args.path.now)
+    raised-not _ _ (and_right _ _ (le-ltb 0 (length c.args.path.now)
     (omega (arith, c.in_default.ensures.cases))))
-
-pub leads_to_both-requires : goal.leads_to_both-requires
-leads_to_both-requires c =
-    let w = shift-within is_even 64 (c.args.first_size - 1) (c.args.second_size - 1)
-    (omega (arith, c.if-first_size-second_size.false)) in
-    omega (arith, w.0, c.even-start.ensures.node, c.even-start.ensures.last)
-
-pub leads_to_both-requires-else-is_power_of_two : goal.leads_to_both-requires-else-is_power_of_two
-leads_to_both-requires-else-is_power_of_two c =
-    let w = shift-within is_even 64 (c.args.first_size - 1) (c.args.second_size - 1)
-    (omega (arith, c.if-first_size-second_size.false)) in
-    omega (arith, w.0, c.even-start.ensures.node, c.even-start.ensures.last)

@@ -3,32 +3,29 @@ use Rattle.std.proofs.Common.{◌-◌, ◌∙◌, sym, arith}
 use Rattle.std.proofs.lemmas.Bool.{and_left, and_right, le-ltb, ne_eqb}
 use Rattle.ring_merkle.specs.Walk.{whole_step}
 use Rattle.ring_merkle.proofs.Rises.{raised-not}
-use Rattle.ring_merkle.proofs.Walks.{walk-leads, walk-length}
+use Rattle.ring_merkle.proofs.Walks.{leads-length, walk-leads}
 use Rattle.ring_merkle.proofs.inclusion.is_included.Goals as goal
 
 pub returns-then-index-size-clause-cost : goal.returns-then-index-size-clause-cost
 returns-then-index-size-clause-cost c =
-    raised-not _ _ _ (and_left _ _ (le-ltb c.args.index c.args.size
+    raised-not _ _ (and_left _ _ (le-ltb c.args.index c.args.size
     (omega (arith, c.if-index-size.true))))
 
 pub returns-then-path-path_len-clause-exact : goal.returns-then-path-path_len-clause-exact
 returns-then-path-path_len-clause-exact c = (
   λ t. cc,
   λ h. absurd (c.if-path-path_len.true
-      (walk-length whole_step c.args.index (c.args.size - 1) _ _ c.args.path.now
-      (omega (arith, c.if-index-size.false))
-      (omega (arith, c.ranges.size.fits, c.if-index-size.false)) h.leads
-      ∙ sym c.path_len.ensures)),
+      (leads-length (omega (arith, c.if-index-size.false)) (omega (arith, c.ranges.size.fits))
+      (record { ends = h.leads }) ∙ sym c.path_len.ensures)),
 )
 
 pub returns-then-path-path_len-clause-cost : goal.returns-then-path-path_len-clause-cost
 returns-then-path-path_len-clause-cost c =
-    raised-not _ _ _ (and_right _ _
+    raised-not _ _ (and_right _ _
     (ne_eqb _ _ (λ e. c.if-path-path_len.true (e ∙ sym c.path_len.ensures))))
 
 pub climb-requires : goal.climb-requires
 climb-requires c =
     walk-leads whole_step c.args.index (c.args.size - 1) c.args.hash.now c.args.path.now
-    (omega (arith, c.if-index-size.false))
-    (omega (arith, c.ranges.size.fits, c.if-index-size.false))
+    (omega (arith, c.if-index-size.false)) (omega (arith, c.ranges.size.fits))
     (omega (arith, c.if-path-path_len.false, c.path_len.ensures))

@@ -1,10 +1,10 @@
 -- SPDX-License-Identifier: ISC
-use Rattle.std.proofs.Common.{◌^◌, ◌≤◌, suc, length, map, refl}
-use Rattle.std.proofs.Common.{arith, subst}
+use Rattle.std.proofs.Common.{◌^◌, map, refl}
+use Rattle.std.proofs.Common.{arith}
 use Rattle.std.proofs.lemmas.List.{drop-map, length-map, take-map}
 use Rattle.std.proofs.Math.Numerals.{add-one}
 use Rattle.ring_merkle.specs.Tree.{leaf_hash, root_at, root_of}
-use Rattle.ring_merkle.proofs.Trees.{root-split}
+use Rattle.ring_merkle.proofs.Trees.{pow-sum, root-split}
 use Rattle.ring_merkle.proofs.laws.tree_hash_is_recursive.Goals as goal
 
 pub returns-clause-none : goal.returns-clause-none
@@ -18,8 +18,6 @@ returns-clause-one c d = refl
 pub returns-clause-more : goal.returns-clause-more
 returns-clause-more c ds j lt le =
     let n = length-map ds leaf_hash in
-    let up : length ds ≤ 2 ^ suc j = subst (λ k. length ds ≤ 2 ^ k) (add-one j) le in
-    let s = root-split j (map leaf_hash ds) (omega arith) (omega arith) in
-    let t = take-map leaf_hash (2 ^ j) ds in
-    let d = drop-map leaf_hash (2 ^ j) ds in
-    cc
+    let most = rw (add-one j) at le in
+    rw (← take-map leaf_hash (2 ^ j) ds, ← drop-map leaf_hash (2 ^ j) ds)
+    (root-split (2 ^ j) (map leaf_hash ds) (j, refl) (omega arith) (omega (arith, pow-sum j)))

@@ -1,11 +1,10 @@
 -- SPDX-License-Identifier: ISC
 use Rattle.std.proofs.Common.{◌≡◌, [], ◌∙◌, length}
-use Rattle.std.proofs.Common.{take, ap, sym, arith, subst, length-take}
+use Rattle.std.proofs.Common.{take, ap, arith, length-take}
 use Rattle.std.proofs.lemmas.List.{take_all, take_more}
-use Rattle.ring.proofs.Costs.{raised-none}
+use Rattle.ring.proofs.Costs.{raised-none, raised-raised}
 use Rattle.ring.specs.Prelude.{raised}
-use Rattle.ring_merkle.specs.Cost.{push_blocks, root_blocks, tree_blocks}
-use Rattle.ring_merkle.specs.Stack.{Holds, leaf_count}
+use Rattle.ring_merkle.specs.Stack.{leaf_count}
 use Rattle.ring_merkle.specs.Tree.{root_of}
 use Rattle.ring_merkle.proofs.Joins.{leaves-more, leaves-root}
 use Rattle.ring_merkle.proofs.paths.tree_root_counted.Goals as goal
@@ -33,13 +32,10 @@ loop-leaf-preserved c =
     let inv = c.loop-leaf.invariant in
     let count : leaf_count c.loop-leaf.tree ≡ i =
     omega (arith, inv.held.size, length-take i xs, c.loop-leaf-test.true) in
-    let cost = c.push_counted.ensures.cost in
     record {
-      held = subst (λ ys. Holds c.push_counted.new.self ys)
-          (sym (take_more xs i [] c.loop-leaf-test.true))
+      held = rw (take_more xs i [] c.loop-leaf-test.true)
           (c.push_counted.ensures.holds (take i xs) inv.held);
-      cost = leaves-more i c.args.meter.now c.loop-leaf.meter _ inv.cost
-          (cost ∙ ap (λ k. raised c.loop-leaf.meter (push_blocks k) 0) count);
+      cost = rw (c.push_counted.ensures.cost, count, inv.cost, raised-raised, leaves-more i);
     }
 
 pub returns-clause-root : goal.returns-clause-root
@@ -57,6 +53,4 @@ returns-clause-cost c =
     omega (arith, c.loop-leaf-test.false, c.loop-leaf.auto.leaf-index-end) in
     let count : leaf_count c.loop-leaf.tree ≡ i =
     omega (arith, inv.held.size, length-take i xs, all) in
-    leaves-root i c.args.meter.now c.loop-leaf.meter _ inv.cost
-    (c.root_counted.ensures.cost ∙ ap (λ k. raised c.loop-leaf.meter (root_blocks k) 0) count)
-    ∙ ap (λ k. raised c.args.meter.now (tree_blocks k) 0) all
+    rw (c.root_counted.ensures.cost, count, inv.cost, raised-raised, leaves-root i, all)

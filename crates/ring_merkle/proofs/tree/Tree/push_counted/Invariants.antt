@@ -1,7 +1,8 @@
 -- SPDX-License-Identifier: ISC
 use Rattle.std.proofs.Common.{◌≡◌, ◌+◌, ◌-◌, ◌^◌, ◌<◌, ℕ, List, length}
+use Rattle.ring.specs.Prelude.{raised}
+use Rattle.ring_merkle.specs.Cost.{push_blocks}
 use Rattle.ring_merkle.specs.Stack.{Holds}
-use Rattle.ring_merkle.proofs.Joins.{Pushed}
 use Rattle.ring_merkle.proofs.Stacks.{Carried}
 use Rattle.ring_merkle.proofs.tree.Tree.push_counted.Given as goal
 
@@ -12,5 +13,5 @@ invariant-loop-level l = record {
   size : l.self.size ≡ l.fn.self.size + 1;
   carried : (xs : List (List ℕ)) → Holds l.fn.self xs
       → Carried l.self.roots xs l.level l.count l.hash l.fn.leaf;
-  pushed : Pushed l.fn.self.size l.count l.fn.meter l.meter;
+  cost : raised l.fn.meter (push_blocks l.fn.self.size) 0 ≡ raised l.meter (push_blocks l.count) 0;
 }

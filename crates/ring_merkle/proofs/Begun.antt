@@ -3,10 +3,11 @@
 -- sibling on the left.
 use Rattle.std.proofs.lemmas.Bool.{cases_lt}
 use Rattle.std.proofs.lemmas.Bool.Decides.{nat_tests}
-use Rattle.std.proofs.Common.{◌≡◌, ◌+◌, ◌-◌, ◌/◌, ◌%◌, ◌^◌, ◌<◌, ◌≤◌, ◌==◌, ◌&&◌, [], ◌∷◌, ◌++◌, ◌∙◌}
+use Rattle.std.proofs.Common.{◌≡◌, ◌+◌, ◌-◌, ◌/◌, ◌%◌, ◌^◌, ◌<◌, ◌≤◌, ◌==◌, ◌&&◌, [], ◌∷◌}
+use Rattle.std.proofs.Common.{◌++◌, ◌∙◌}
 use Rattle.std.proofs.Common.{ℕ, zero, suc, Bool, true, false, cond, List, length, get_or, take}
 use Rattle.std.proofs.Common.{drop, refl, ap, sym, arith, ⊎_elim, append_assoc, get_or-drop}
-use Rattle.std.proofs.Common.{Some, get_or-take, length-drop, length-take}
+use Rattle.std.proofs.Common.{get_or-take, length-take}
 use Rattle.std.proofs.lemmas.Nat.{pow_pos}
 use Rattle.std.specs.Int.{is_power_of_two}
 use Rattle.ring_merkle.specs.Consistency.{IsConsistent, LeadsToBoth, first_last, first_node}
@@ -14,16 +15,16 @@ use Rattle.ring_merkle.specs.Consistency.{proof_of, subproof_at, subproof_of, va
 use Rattle.ring_merkle.specs.Cost.{path_len}
 use Rattle.ring_merkle.specs.Inclusion.{path_at}
 use Rattle.ring_merkle.specs.Tree.{root_at, root_of}
-use Rattle.ring_merkle.specs.Walk.{is_even, shifted_last, shifted_node, walk, whole_step}
+use Rattle.ring_merkle.specs.Walk.{is_even, shifted_last, shifted_node}
 use Rattle.ring_merkle.proofs.Hashes.{AreHashes, Sized, hashes-at, hashes-path, hashes-up}
 use Rattle.ring_merkle.proofs.Included.{walk-path}
-use Rattle.ring_merkle.proofs.Pairs.{drop-up, length-pair_up, pair_up, root-up, take-up}
+use Rattle.ring_merkle.proofs.Pairs.{length-pair_up, pair_up, root-up, split, take-up}
 use Rattle.ring_merkle.proofs.Powers.{power-even, power-odd}
 use Rattle.ring_merkle.proofs.Shifts.{even-below, shift-same, shift-stop, shift-up}
 use Rattle.ring_merkle.proofs.Sides.{parity}
 use Rattle.ring_merkle.proofs.Trees.{path-left, path-low, path-right, pow-sum, root-low, sub-left}
 use Rattle.ring_merkle.proofs.Trees.{root-any, sub-any, sub-low, sub-right, sub-whole}
-use Rattle.ring_merkle.proofs.Walks.{Step, leads-length, walk-end}
+use Rattle.ring_merkle.proofs.Walks.{Leads, Step, leads-end, leads-length}
 
 -- an even number of leaves is half as many nodes one level up
 sub-even-all : (h m : ℕ) (xs : List (List ℕ)) (b : Bool) → m % 2 ≡ 0 → m ≡ length xs
@@ -42,26 +43,20 @@ sub-even (suc h) m xs b even pos le few =
     let n = 2 ^ suc h in
     let front = take n xs in
     let back = drop n xs in
-    let up = length-pair_up xs in
-    let half = pow-sum h in
-    let whole = pow-sum (suc h) in
-    let fl = length-take n xs in
-    let bl = length-drop n xs in
-    let e = take-up (2 ^ h) n half xs in
-    let f = drop-up (2 ^ h) n half xs in
+    let s = split h xs in
     ⊎_elim
     (λ lt. ⊎_elim
     (λ high. ⊎_elim
     (λ right.
     let a = sub-right (suc h) xs m b lt right in
-    let s = sub-even h (m - n) back false (omega arith) (omega arith) (omega arith) (omega arith) in
+    let i = sub-even h (m - n) back false (omega arith) (omega arith) (omega arith) (omega arith) in
     let r = root-up h front (omega arith) in
     let d = sub-right h (pair_up xs) (m / 2) b (omega arith) (omega arith) in
     let k : (m - n) / 2 ≡ m / 2 - 2 ^ h = omega arith in
     cc)
     (λ left.
     let a = sub-left (suc h) xs m b lt high left in
-    let s = sub-even h m front b even pos (omega arith) (omega arith) in
+    let i = sub-even h m front b even pos (omega arith) (omega arith) in
     let r = root-up h back (omega arith) in
     let d = sub-left h (pair_up xs) (m / 2) b (omega arith) (omega arith) (omega arith) in
     cc)
@@ -91,24 +86,21 @@ sub-odd (suc h) m xs b even lt le =
     let n = 2 ^ suc h in
     let front = take n xs in
     let back = drop n xs in
-    let half = pow-sum h in
-    let whole = pow-sum (suc h) in
-    let fl = length-take n xs in
-    let bl = length-drop n xs in
+    let s = split h xs in
     ⊎_elim
     (λ high. ⊎_elim
     (λ right.
     let a = sub-right (suc h) xs (suc m) b lt right in
-    let s = sub-odd h (m - n) back false (omega arith) (omega arith) (omega arith) in
+    let o = sub-odd h (m - n) back false (omega arith) (omega arith) (omega arith) in
     let d = path-right (suc h) xs m high (omega arith) in
     let k : suc m - n ≡ suc (m - n) = omega arith in
     let i : n + (m - n) ≡ m = omega arith in
     let g = get_or-drop n xs (m - n) [] in
-    let o : opens b m (get_or xs m []) ≡ get_or xs m [] ∷ [] = grind (arith, nat_tests) in
+    let u : opens b m (get_or xs m []) ≡ get_or xs m [] ∷ [] = grind (arith, nat_tests) in
     cc)
     (λ left.
     let a = sub-left (suc h) xs (suc m) b lt high left in
-    let s = sub-odd h m front b even (omega arith) (omega arith) in
+    let o = sub-odd h m front b even (omega arith) (omega arith) in
     let d = path-left (suc h) xs m high (omega arith) in
     let g = get_or-take n xs m [] (omega arith) in
     let i = append_assoc (opens b m (get_or xs m [])) (path_at (suc h) m front)
@@ -175,7 +167,8 @@ begun-odd h m xs odd lt le =
       last = sym (stop (length xs - 1) even);
       front = ap (λ k. root_at (suc h) (take k xs)) f;
       whole = refl;
-      is = ap (λ k. subproof_at (suc h) k xs false) e ∙ sub-odd h (m - 1) xs false (omega arith) (omega arith) le;
+      is = ap (λ k. subproof_at (suc h) k xs false) e
+          ∙ sub-odd h (m - 1) xs false (omega arith) (omega arith) le;
       values = ap (λ k. values_of k (root_at (suc h) (take k xs)) (subproof_at (suc h) k xs true)) e
           ∙ values-odd h (m - 1) xs (omega arith) (omega arith) le;
       hashes = λ sized a. a;
@@ -190,7 +183,8 @@ begun-even h m xs even pos lt le b =
     let l : (length xs - 1) / 2 ≡ length (pair_up xs) - 1 = omega arith in
     let half : m ≡ m / 2 + m / 2 = omega arith in
     let t = length-take m xs in
-    let front = root-up h (take m xs) (omega arith) ∙ ap (λ ys. root_at h ys) (take-up (m / 2) m half xs) in
+    let front = root-up h (take m xs) (omega arith)
+    ∙ ap (λ ys. root_at h ys) (take-up (m / 2) m half xs) in
     let same = shift-same is_even in
     record {
       height = b.height;
@@ -207,7 +201,11 @@ begun-even h m xs even pos lt le b =
       front = b.front ∙ sym front;
       whole = b.whole ∙ sym (root-up h xs le);
       is = sub-even h m xs false even pos (omega arith) le ∙ b.is;
-      values = rw (front, sub-even h m xs true even pos (omega arith) le, power-even m even) b.values;
+      values = rw (
+        front,
+        sub-even h m xs true even pos (omega arith) le,
+        power-even m even,
+      ) b.values;
       hashes = λ sized a. b.hashes sized (hashes-up sized xs a);
     }
 
@@ -244,10 +242,11 @@ made m xs pos lt fits =
       path = path_at b.height b.at b.nodes;
       within = omega (arith, b.node, b.last, b.within);
       fits = omega (arith, b.last, b.within);
-      leads = rw (← b.node, ← b.last, ← first, ← b.front, ← root-any 64 xs fits, ← b.whole) (record {
-        front = walk-path false b.height b.at b.nodes b.within b.few (omega arith);
-        whole = walk-path true b.height b.at b.nodes b.within b.few (omega arith);
-      });
+      leads = rw (← b.node, ← b.last, ← first, ← b.front, ← root-any 64 xs fits, ← b.whole)
+          (record {
+            front = walk-path false b.height b.at b.nodes b.within b.few (omega arith);
+            whole = walk-path true b.height b.at b.nodes b.within b.few (omega arith);
+          });
       is = sym (sub-any 64 m xs false (omega arith) fits) ∙ b.is;
       values = rw (← first, ← sub-any 64 m xs true (omega arith) fits) b.values;
       hashes = λ sized a. (
@@ -261,18 +260,24 @@ length-values : (b : Bool) (r : List ℕ) (ps : List (List ℕ))
 length-values true r ps = omega arith
 length-values false r ps = omega arith
 
--- it is the values without the first root
-pub proof-rest : (m : ℕ) (xs : List (List ℕ)) → 0 < m → m < length xs → length xs ≤ 2 ^ 64
-    → length (subproof_of m xs false) + cond (is_power_of_two m) 0 1
-    ≡ 1 + length (proof_of m xs)
-proof-rest m xs pos lt fits =
+same-tests : (a b : Bool) → cond {A = ℕ} a 0 1 ≡ cond b 0 1 → a ≡ b
+same-tests true true e = refl
+same-tests true false e = absurd (omega arith)
+same-tests false true e = absurd (omega arith)
+same-tests false false e = refl
+
+-- where the proof has as many values as begin with the first node, m is no power of two
+pub power-of-rest : (m : ℕ) (xs : List (List ℕ)) (b : Bool) {left : ℕ} → 0 < m → m < length xs
+    → length xs ≤ 2 ^ 64 → length (subproof_of m xs false) + left ≡ 1 + length (proof_of m xs)
+    → left ≡ cond b 0 1 → is_power_of_two m ≡ b
+power-of-rest m xs b pos lt fits e is =
     let p = made m xs pos lt fits in
-    omega (
+    same-tests (is_power_of_two m) b (omega (
       arith,
       ap length p.is,
       ap length p.values,
       length-values (is_power_of_two m) (root_of (take m xs)) (proof_of m xs),
-    )
+    ))
 
 -- the proof has a value for each level with a sibling from the first node on, and one for that node
 -- where m is no power of two
@@ -290,10 +295,10 @@ length-proof m xs pos lt fits =
     )
 
 -- the proof is accepted
-some-steps : (f : Step) (n m : ℕ) (r x : List ℕ) (ps : List (List ℕ)) → 0 < m
-    → walk f n m r ps ≡ Some x → 0 < length ps
-some-steps f n m r x [] pos e = absurd (omega (arith, walk-end f n m r x e))
-some-steps f n m r x (p ∷ ps) pos e = omega arith
+some-steps : {f : Step} {n m : ℕ} {r x : List ℕ} (ps : List (List ℕ)) → 0 < m
+    → Leads f n m r ps x → 0 < length ps
+some-steps [] pos l = let e = leads-end l in absurd (omega arith)
+some-steps (p ∷ ps) pos l = omega arith
 
 pub consistent : (m : ℕ) (xs : List (List ℕ)) → 0 < m → m < length xs → length xs ≤ 2 ^ 64
     → IsConsistent m (length xs) (proof_of m xs) (root_of (take m xs)) (root_of xs)
@@ -301,8 +306,7 @@ consistent m xs pos lt fits =
     let p = made m xs pos lt fits in
     let first = root_of (take m xs) in
     let below = even-below 64 (m - 1) (length xs - 1) (omega arith) in
-    let steps = some-steps whole_step (first_node m) (first_last m (length xs)) p.node (root_of xs)
-    p.path (omega arith) p.leads.whole in
+    let steps = some-steps p.path (omega arith) (record { ends = p.leads.whole }) in
     let values = length-values (is_power_of_two m) first (proof_of m xs) in
     record {
       nonempty = pos;

@@ -4,21 +4,21 @@ use Rattle.std.proofs.lemmas.Bool.{both_ways, cases_Bool}
 use Rattle.std.proofs.lemmas.List.{drop_at, take_at}
 use Rattle.std.proofs.lemmas.Slice.Eq.{bytes_eq-Decides}
 use Rattle.std.specs.Str.{bytes_eq}
-use Rattle.std.proofs.Common.{◌≡◌, ◌≢◌, ◌-◌, ◌^◌, ◌<◌, ◌≤◌, [], ◌∷◌, ◌++◌, ◌∙◌, ◌⊎◌, ℕ, suc}
+use Rattle.std.proofs.Common.{◌≡◌, ◌≢◌, ◌^◌, ◌<◌, ◌≤◌, [], ◌∷◌, ◌++◌, ◌∙◌, ◌⊎◌, ℕ, suc}
 use Rattle.std.proofs.Common.{Bool, true, false, cond, List, length, get_or, take, drop, refl, ap}
-use Rattle.std.proofs.Common.{sym, arith, inl, inr, ⊎_elim, Some}
+use Rattle.std.proofs.Common.{sym, arith, inl, inr, ⊎_elim}
 use Rattle.std.specs.Int.{is_power_of_two}
-use Rattle.ring_merkle.specs.Consistency.{IsConsistent, consistency_inputs, first_last, first_node}
+use Rattle.ring_merkle.specs.Consistency.{IsConsistent, consistency_inputs}
 use Rattle.ring_merkle.specs.Consistency.{subproof_of, values_of}
 use Rattle.ring_merkle.specs.Inclusion.{IsIncluded, inclusion_inputs, path_of}
 use Rattle.ring_merkle.specs.Tree.{root_of, sha256}
-use Rattle.ring_merkle.specs.Walk.{IsCollision, is_right, next_last, next_node, step_input, walk}
+use Rattle.ring_merkle.specs.Walk.{IsCollision, is_right, step_input}
 use Rattle.ring_merkle.specs.Walk.{walk_inputs, whole_step}
 use Rattle.ring_merkle.proofs.Begun.{made}
 use Rattle.ring_merkle.proofs.Hashes.{AreHashes, Sized, hashes-at, hashes-path}
 use Rattle.ring_merkle.proofs.Included.{included}
 use Rattle.ring_merkle.proofs.Trees.{below-pow}
-use Rattle.ring_merkle.proofs.Walks.{walk-end, walk-on}
+use Rattle.ring_merkle.proofs.Walks.{Leads, leads-end, leads-on}
 
 -- two inputs of one step are the same only where the values and the hashes so far are
 same-parts : (x y p q : List ℕ) → length x ≡ 32 → length y ≡ 32 → x ++ p ≡ y ++ q
@@ -68,28 +68,18 @@ hashes-values false r [] h some = absurd (omega arith)
 hashes-values false r (p ∷ ps) h some = h.1
 
 module _ (sized : Sized) where
-  same-walks : (n m : ℕ) (x y r : List ℕ) (ps qs : List (List ℕ)) → AreHashes (x ∷ ps)
-      → AreHashes (y ∷ qs) → walk whole_step n m x ps ≡ Some r
-      → walk whole_step n m y qs ≡ Some r
+  same-walks : (ps qs : List (List ℕ)) {n m : ℕ} {x y r : List ℕ} → AreHashes (x ∷ ps)
+      → AreHashes (y ∷ qs) → Leads whole_step n m x ps r → Leads whole_step n m y qs r
       → ((x ≡ y) × (ps ≡ qs)) ⊎ IsCollision (walk_inputs n m x ps) (walk_inputs n m y qs)
   unfolding walk_inputs
-  same-walks n m x y r [] [] h k e g =
-      let a = walk-end whole_step n m x r e in
-      let b = walk-end whole_step n m y r g in
-      inl (a.1 ∙ sym b.1, refl)
-  same-walks n m x y r [] (q ∷ qs) h k e g =
-      let a = walk-end whole_step n m x r e in
-      let b = walk-on whole_step n m y q qs r g in
-      absurd (omega arith)
-  same-walks n m x y r (p ∷ ps) [] h k e g =
-      let a = walk-on whole_step n m x p ps r e in
-      let b = walk-end whole_step n m y r g in
-      absurd (omega arith)
-  same-walks n m x y r (p ∷ ps) (q ∷ qs) h k e g =
+  same-walks [] [] h k e g = let a = leads-end e in let b = leads-end g in inl (cc, refl)
+  same-walks [] (q ∷ qs) h k e g =
+      let a = leads-end e in let b = leads-on g in absurd (omega arith)
+  same-walks (p ∷ ps) [] h k e g =
+      let a = leads-on e in let b = leads-end g in absurd (omega arith)
+  same-walks (p ∷ ps) (q ∷ qs) {n} {m} {x} {y} h k e g =
       let a = step_input (is_right n m) p x in
       let b = step_input (is_right n m) q y in
-      let c = walk-on whole_step n m x p ps r e in
-      let d = walk-on whole_step n m y q qs r g in
       ⊎_elim
       (λ same. ⊎_elim
       (λ eq. let s = same-inputs (is_right n m) x y p q (h.0, h.1.0) (k.0, k.1.0) eq in
@@ -97,38 +87,35 @@ module _ (sized : Sized) where
       (λ ne. inr (now a b _ _ ne same.0))
       (decide a b))
       (λ col. inr (later a b _ _ col))
-      (same-walks (next_node n m) (next_last n m) (sha256 a) (sha256 b) r ps qs (sized a, h.1.1) (sized b, k.1.1) c.1 d.1)
+      (same-walks ps qs (sized a, h.1.1) (sized b, k.1.1) (leads-on e).1 (leads-on g).1)
 
   -- what leads to the root is the path of the leaf, or two inputs collide
-  pub sound : (xs path : List (List ℕ)) (hash : List ℕ) (m : ℕ) → AreHashes xs
+  pub sound : (xs : List (List ℕ)) {path : List (List ℕ)} {hash : List ℕ} {m : ℕ} → AreHashes xs
       → AreHashes (hash ∷ path) → length xs ≤ 2 ^ 64
       → IsIncluded hash m (length xs) path (root_of xs)
       → ((hash ≡ get_or xs m []) × (path ≡ path_of m xs))
       ⊎ IsCollision (inclusion_inputs hash m (length xs) path)
       (inclusion_inputs (get_or xs m []) m (length xs) (path_of m xs))
   unfolding path_of
-  sound xs path hash m h k fits i =
+  sound xs {path} {hash} {m} h k fits i =
       let most = below-pow (length xs) in
-      same-walks m (length xs - 1) hash (get_or xs m []) (root_of xs) path (path_of m xs) k (
+      same-walks path (path_of m xs) k (
         hashes-at xs m h i.within,
         hashes-path sized (length xs) m xs i.within (omega arith) h,
-      ) i.leads (included xs m i.within fits).leads
+      ) (record { ends = i.leads }) (record { ends = (included xs m i.within fits).leads })
 
   -- what leads to the larger root leads to that of the beginning too, or two inputs collide
-  pub sound-front : (xs path : List (List ℕ)) (first : List ℕ) (m : ℕ) → AreHashes xs
-      → AreHashes (first ∷ path) → length xs ≤ 2 ^ 64
+  pub sound-front : (xs : List (List ℕ)) {path : List (List ℕ)} {first : List ℕ} {m : ℕ}
+      → AreHashes xs → AreHashes (first ∷ path) → length xs ≤ 2 ^ 64
       → IsConsistent m (length xs) path first (root_of xs)
       → (first ≡ root_of (take m xs))
       ⊎ IsCollision (consistency_inputs m (length xs) (values_of m first path))
       (consistency_inputs m (length xs) (subproof_of m xs false))
-  sound-front xs path first m h k fits i =
-      let n = first_node m in
-      let l = first_last m (length xs) in
-      let vs = values_of m first path in
+  sound-front xs {path} {first} {m} h k fits i =
       let p = made m xs i.nonempty i.within fits in
       rw p.is (⊎_elim
       (λ same. let front = p.leads.front in let given = i.leads.front in inl (cc))
       (λ col. inr col)
-      (same-walks n l (get_or vs 0 []) p.node (root_of xs) (drop 1 vs) p.path
-      (hashes-values (is_power_of_two m) first path k i.some) (p.hashes sized h) i.leads.whole
-      p.leads.whole))
+      (same-walks (drop 1 (values_of m first path)) p.path
+      (hashes-values (is_power_of_two m) first path k i.some) (p.hashes sized h)
+      (record { ends = i.leads.whole }) (record { ends = p.leads.whole })))

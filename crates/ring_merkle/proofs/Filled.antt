@@ -1,6 +1,6 @@
 -- SPDX-License-Identifier: ISC
 -- Paths that are filled from the end.
-use Rattle.std.proofs.Common.{◌≡◌, ◌+◌, ◌-◌, ◌≤◌, [], ◌∷◌, ◌++◌, ◌∙◌, ℕ, List, length, drop, set}
+use Rattle.std.proofs.Common.{◌≡◌, ◌+◌, ◌-◌, ◌<◌, ◌≤◌, [], ◌∷◌, ◌++◌, ◌∙◌, ℕ, List, length, drop, set}
 use Rattle.std.proofs.Common.{ap, sym, arith, append_assoc}
 use Rattle.std.proofs.lemmas.List.{append-nil, drop-set, drop_all, length-set, length_push}
 
@@ -21,6 +21,13 @@ filled-begin all out e = record {
   made = sym (append-nil all)
       ∙ ap (λ ys. all ++ ys) (sym (drop_all (length out) out (omega arith)));
 }
+
+-- one value is left to write
+pub filled-some : {all path out : List (List ℕ)} {end : ℕ} (front : List (List ℕ)) (x : List ℕ)
+    → path ≡ front ++ x ∷ [] → Filled all path end out → (1 ≤ end) × (end - 1 < length out)
+filled-some front x e f =
+    let long = length_push front x in let same = ap length e in
+    (omega (arith, f.left), omega (arith, f.left, f.fits))
 
 -- one value more
 pub filled-next : {all path front out : List (List ℕ)} {end : ℕ} (x : List ℕ)

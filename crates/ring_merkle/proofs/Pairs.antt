@@ -4,7 +4,7 @@
 use Rattle.std.proofs.lemmas.Bool.{cases_lt}
 use Rattle.std.proofs.Common.{◌≡◌, ◌+◌, ◌-◌, ◌/◌, ◌^◌, ◌<◌, ◌≤◌, [], ◌∷◌, ◌++◌, ◌∙◌, ℕ, zero, suc}
 use Rattle.std.proofs.Common.{List, length, take, drop, refl, ap, sym, arith, ⊎_elim, append_assoc}
-use Rattle.std.proofs.Common.{length-drop, length-take}
+use Rattle.std.proofs.Common.{length-drop, length-take, min}
 use Rattle.ring_merkle.specs.Inclusion.{path_at}
 use Rattle.ring_merkle.specs.Tree.{node_hash, root_at}
 use Rattle.ring_merkle.proofs.Trees.{path-left, path-low, path-right, pow-sum, root-high, root-low}
@@ -81,7 +81,7 @@ module _ (k n : ℕ) (even : n ≡ k + k) where
   pub take-up : (xs : List (List ℕ)) → pair_up (take n xs) ≡ take k (pair_up xs)
   take-up xs = ap (λ j. pair_up (take j xs)) is-twice ∙ take-twice k xs
 
-  pub drop-up : (xs : List (List ℕ)) → pair_up (drop n xs) ≡ drop k (pair_up xs)
+  drop-up : (xs : List (List ℕ)) → pair_up (drop n xs) ≡ drop k (pair_up xs)
   drop-up xs = ap (λ j. pair_up (drop j xs)) is-twice ∙ drop-twice k xs
 
   beside-left : (m : ℕ) (xs : List (List ℕ)) → m < n → beside m (take n xs) ≡ beside m xs
@@ -94,6 +94,27 @@ module _ (k n : ℕ) (even : n ≡ k + k) where
       ap (λ j. beside j xs) at ∙ beside-drop k (m - n) xs
       ∙ sym (ap (λ j. beside (m - n) (drop j xs)) is-twice)
 
+-- a split of the leaves, and that of the nodes above
+pub record Split (h : ℕ) (xs : List (List ℕ)) : Type 0 where
+  pub half : 2 ^ suc h ≡ 2 ^ h + 2 ^ h
+  pub all : 2 ^ suc (suc h) ≡ 2 ^ suc h + 2 ^ suc h
+  pub up : length (pair_up xs) ≡ (length xs + 1) / 2
+  pub front-length : length (take (2 ^ suc h) xs) ≡ min (2 ^ suc h) (length xs)
+  pub back-length : length (drop (2 ^ suc h) xs) ≡ length xs - 2 ^ suc h
+  pub front : pair_up (take (2 ^ suc h) xs) ≡ take (2 ^ h) (pair_up xs)
+  pub back : pair_up (drop (2 ^ suc h) xs) ≡ drop (2 ^ h) (pair_up xs)
+
+pub split : (h : ℕ) (xs : List (List ℕ)) → Split h xs
+split h xs = record {
+  half = pow-sum h;
+  all = pow-sum (suc h);
+  up = length-pair_up xs;
+  front-length = length-take (2 ^ suc h) xs;
+  back-length = length-drop (2 ^ suc h) xs;
+  front = take-up (2 ^ h) (2 ^ suc h) (pow-sum h) xs;
+  back = drop-up (2 ^ h) (2 ^ suc h) (pow-sum h) xs;
+}
+
 pub root-up : (h : ℕ) (xs : List (List ℕ)) → length xs ≤ 2 ^ suc h
     → root_at (suc h) xs ≡ root_at h (pair_up xs)
 unfolding root_at pair_up
@@ -103,16 +124,13 @@ root-up zero (x ∷ y ∷ []) le = refl
 root-up zero (x ∷ y ∷ z ∷ xs) le = absurd (omega arith)
 root-up (suc h) xs le =
     let n = 2 ^ suc h in
-    let few = length-pair_up xs in
-    let half = pow-sum h in
+    let s = split h xs in
     ⊎_elim
     (λ lt.
     let a = root-high (suc h) xs lt in
-    let b = root-up h (take n xs) (omega (arith, length-take n xs)) in
-    let c = root-up h (drop n xs) (omega (arith, length-drop n xs, pow-sum (suc h))) in
+    let b = root-up h (take n xs) (omega arith) in
+    let c = root-up h (drop n xs) (omega arith) in
     let d = root-high h (pair_up xs) (omega arith) in
-    let e = take-up (2 ^ h) n half xs in
-    let f = drop-up (2 ^ h) n half xs in
     cc)
     (λ low. root-low (suc h) xs low ∙ root-up h xs low
     ∙ sym (root-low h (pair_up xs) (omega arith)))
@@ -133,13 +151,7 @@ path-up (suc h) m xs lt le =
     let n = 2 ^ suc h in
     let front = take n xs in
     let back = drop n xs in
-    let few = length-pair_up xs in
-    let half = pow-sum h in
-    let whole = pow-sum (suc h) in
-    let fl = length-take n xs in
-    let bl = length-drop n xs in
-    let e = take-up (2 ^ h) n half xs in
-    let f = drop-up (2 ^ h) n half xs in
+    let s = split h xs in
     ⊎_elim
     (λ high. ⊎_elim
     (λ left.
@@ -147,7 +159,7 @@ path-up (suc h) m xs lt le =
     let b = path-up h m front (omega arith) (omega arith) in
     let c = root-up h back (omega arith) in
     let d = path-left h (pair_up xs) (m / 2) (omega arith) (omega arith) in
-    let g = beside-left (2 ^ h) n half m xs left in
+    let g = beside-left (2 ^ h) n s.half m xs left in
     let i = append_assoc (beside m xs) (path_at h (m / 2) (take (2 ^ h) (pair_up xs)))
     (root_at h (drop (2 ^ h) (pair_up xs)) ∷ []) in
     cc)
@@ -156,7 +168,7 @@ path-up (suc h) m xs lt le =
     let b = path-up h (m - n) back (omega arith) (omega arith) in
     let c = root-up h front (omega arith) in
     let d = path-right h (pair_up xs) (m / 2) (omega arith) (omega arith) in
-    let g = beside-right (2 ^ h) n half m xs right in
+    let g = beside-right (2 ^ h) n s.half m xs right in
     let k : (m - n) / 2 ≡ m / 2 - 2 ^ h = omega arith in
     let i = append_assoc (beside m xs)
     (path_at h (m / 2 - 2 ^ h) (drop (2 ^ h) (pair_up xs)))

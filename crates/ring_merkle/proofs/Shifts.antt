@@ -52,7 +52,8 @@ even-below (suc h) n m lt =
     ⊎_elim
     (λ e. rw e lt)
     (λ e. let odd = eqb-false (n % 2) 0 e in
-    let below : n / 2 < m / 2 = ⊎_elim (λ lt. lt) (λ ge. absurd (odd (omega arith))) (cases_lt (n / 2) (m / 2)) in
+    let below : n / 2 < m / 2 =
+    ⊎_elim (λ lt. lt) (λ ge. absurd (odd (omega arith))) (cases_lt (n / 2) (m / 2)) in
     rw e (even-below h (n / 2) (m / 2) below))
     (cases_Bool (is_even n))
 
@@ -66,7 +67,8 @@ pub shifted-up : {t : ℕ → Bool} {n0 m0 n m : ℕ} → t 0 ≡ true → t n �
     → Shifted t n0 m0 n m → Shifted t n0 m0 (n / 2) (m / 2)
 shifted-up {t} {n0} {m0} {n} {m} z e s = record {
   below = omega (arith, s.below);
-  node = s.node ∙ sym (shift-same t 64 n) ∙ shift-again t z 63 n n s.below e ∙ shift-same t 64 (n / 2);
+  node = s.node ∙ sym (shift-same t 64 n) ∙ shift-again t z 63 n n s.below e
+      ∙ shift-same t 64 (n / 2);
   last = s.last ∙ shift-again t z 63 n m s.below e;
 }
 

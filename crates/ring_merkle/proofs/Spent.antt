@@ -1,7 +1,7 @@
 -- SPDX-License-Identifier: ISC
 -- What paths cost, at the splits of a list.
 use Rattle.std.proofs.lemmas.Bool.Decides.{nat_tests}
-use Rattle.std.proofs.Common.{◌≡◌, ◌+◌, ◌-◌, ◌*◌, ◌<◌, ◌≤◌, ◌∙◌, ℕ, Bool, true, false, cond, refl, ap, arith}
+use Rattle.std.proofs.Common.{◌≡◌, ◌+◌, ◌-◌, ◌*◌, ◌<◌, ◌≤◌, ◌∙◌, ℕ, ap, arith}
 use Rattle.ring.specs.Prelude.{Counts, raised}
 use Rattle.ring.proofs.Costs.{raised-none, raised-raised}
 use Rattle.ring_merkle.specs.Cost.{node_blocks, tree_blocks}
@@ -38,12 +38,3 @@ spent-more {n} {len} {left} {left1} {end} {end1} {m0} k parts some next e s =
       fewer = omega (arith, s.fewer);
       cost = e ∙ rw (s.cost, raised-raised, sum);
     }
-
--- what a test is, by a number that tells it
-pub cond-zero : (b : Bool) (x y : ℕ) → cond {A = ℕ} b 0 1 ≡ 0 → cond b x y ≡ x
-cond-zero true x y e = refl
-cond-zero false x y e = absurd (omega arith)
-
-pub cond-one : (b : Bool) (x y : ℕ) → cond {A = ℕ} b 0 1 ≡ 1 → cond b x y ≡ y
-cond-one true x y e = absurd (omega arith)
-cond-one false x y e = refl

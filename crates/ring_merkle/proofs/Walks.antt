@@ -56,20 +56,39 @@ module _ (f : Step) (n m : ℕ) (r : List ℕ) where
   walk-root [] z = rw z
   walk-root (p ∷ ps) z = rw z
 
-  pub walk-end : (x : List ℕ) → walk f n m r [] ≡ Some x → (m ≡ 0) × (r ≡ x)
-  walk-end x e =
+-- a walk that leads to x
+pub record Leads (f : Step) (n m : ℕ) (r : List ℕ) (path : List (List ℕ)) (x : List ℕ)
+    : Type 0 where
+  pub ends : walk f n m r path ≡ Some x
+
+module _ {f : Step} {n m : ℕ} {r x : List ℕ} where
+  pub leads-end : Leads f n m r [] x → (m ≡ 0) × (r ≡ x)
+  leads-end l =
+      let e = l.ends in
       ⊎_elim
-      (λ lt. let s = walk-short lt in absurd (cc))
-      (λ le. let z : m ≡ 0 = omega arith in let s = walk-root [] z in (z, cc))
+      (λ lt. let s = walk-short f n m r lt in absurd (cc))
+      (λ le. let z : m ≡ 0 = omega arith in let s = walk-root f n m r [] z in (z, cc))
       (cases_lt 0 m)
 
-  pub walk-on : (p : List ℕ) (ps : List (List ℕ)) (x : List ℕ) → walk f n m r (p ∷ ps) ≡ Some x
-      → (0 < m) × (walk f (next_node n m) (next_last n m) (f (is_right n m) p r) ps ≡ Some x)
-  walk-on p ps x e =
+  pub leads-on : {p : List ℕ} {ps : List (List ℕ)} → Leads f n m r (p ∷ ps) x
+      → (0 < m) × Leads f (next_node n m) (next_last n m) (f (is_right n m) p r) ps x
+  leads-on {p} {ps} l =
+      let e = l.ends in
       ⊎_elim
-      (λ lt. (lt, sym (walk-step p ps lt) ∙ e))
-      (λ le. let s = walk-root (p ∷ ps) (omega arith) in absurd (cc))
+      (λ lt. (lt, record { ends = sym (walk-step f n m r p ps lt) ∙ e }))
+      (λ le. let s = walk-root f n m r (p ∷ ps) (omega arith) in absurd (cc))
       (cases_lt 0 m)
+
+  -- along a path, from its place i on
+  pub leads-next : (path : List (List ℕ)) (i : ℕ) → i < length path
+      → Leads f n m r (drop i path) x
+      → Leads f (next_node n m) (next_last n m) (f (is_right n m) (get_or path i []) r)
+      (drop (i + 1) path) x
+  leads-next path i lt l = (leads-on (rw (drop_more path i [] lt) at l)).1
+
+  pub leads-stop : (path : List (List ℕ)) (i : ℕ) → length path ≤ i
+      → Leads f n m r (drop i path) x → r ≡ x
+  leads-stop path i le l = (leads-end (rw (drop_all i path le) at l)).1
 
 -- the place after a step from a node that has a sibling, and from one that has none
 next-joined : (n m : ℕ) → is_alone n m ≡ false → (next_node n m ≡ n / 2) × (next_last n m ≡ m / 2)
@@ -131,14 +150,6 @@ within-up h n m w = record {
   fits = omega (arith, w.fits);
 }
 
-walk-side : (f : Step) (n m : ℕ) (r : List ℕ) (ps : List (List ℕ)) (ss : List Bool)
-    → is_alone n m ≡ false → 0 < m
-    → ((s : List ℕ) (qs : List (List ℕ)) → walk f (n / 2) (m / 2) s qs ≡ fold_sides f ss s qs)
-    → walk f n m r ps ≡ fold_sides f (is_right n m ∷ ss) r ps
-walk-side f n m r [] ss t pos up = walk-short f n m r pos
-walk-side f n m r (p ∷ ps) ss t pos up =
-    walk-joined f n m r p ps t pos ∙ up (f (is_right n m) p r) ps
-
 pub walk-fold : (f : Step) (h n m : ℕ) (r : List ℕ) (ps : List (List ℕ)) → Within h n m
     → walk f n m r ps ≡ fold_sides f (sides h n m) r ps
 walk-fold f zero n m r ps w =
@@ -150,17 +161,16 @@ walk-fold f (suc h) n m r ps w =
     (λ pos. ⊎_elim
     (λ t. rw (sides-alone h n m t)
     (walk-alone f n m r ps t pos w.fits ∙ walk-fold f h (n / 2) (m / 2) r ps up))
-    (λ t. rw (sides-joined h n m t) (walk-side f n m r ps (sides h (n / 2) (m / 2)) t pos
-    (λ s qs. walk-fold f h (n / 2) (m / 2) s qs up)))
+    (λ t. rw (sides-joined h n m t) (elim ps as (λ qs. walk f n m r qs
+    ≡ fold_sides f (is_right n m ∷ sides h (n / 2) (m / 2)) r qs) [
+      | [] ↦ walk-short f n m r pos
+      | p ∷ qs ↦ walk-joined f n m r p qs t pos
+          ∙ walk-fold f h (n / 2) (m / 2) (f (is_right n m) p r) qs up
+    ]))
     (cases_Bool (is_alone n m)))
     (λ none. rw (sides-none (suc h) n m w.node (omega arith))
     (walk-root f n m r ps (omega arith)))
     (cases_lt 0 m)
-
--- a walk that leads to x
-pub record Leads (f : Step) (n m : ℕ) (r : List ℕ) (path : List (List ℕ)) (x : List ℕ)
-    : Type 0 where
-  pub ends : walk f n m r path ≡ Some x
 
 -- a path leads anywhere exactly if it has as many values as there are siblings
 pub leads-length : {f : Step} {n m : ℕ} {r x : List ℕ} {ps : List (List ℕ)} → n ≤ m → m < 2 ^ 64
@@ -175,23 +185,8 @@ walk-leads f n m r ps le fits e =
     let l = fold-leads f (sides 64 n m) r ps e in
     (l.0, walk-fold f 64 n m r ps (record { node = le; all = fits; fits = fits }) ∙ l.1)
 
--- a walk along a path, from its place i on
+-- the values on the left, from the place i of a path on
 module _ (path : List (List ℕ)) (i : ℕ) where
-  pub leads-next : {f : Step} {n m : ℕ} {r x : List ℕ} → i < length path
-      → Leads f n m r (drop i path) x
-      → Leads f (next_node n m) (next_last n m) (f (is_right n m) (get_or path i []) r)
-      (drop (i + 1) path) x
-  leads-next {f} {n} {m} {r} {x} lt l = record {
-    ends = (walk-on f n m r (get_or path i []) (drop (i + 1) path) x
-        (rw (← drop_more path i [] lt) l.ends)).1;
-  }
-
-  pub leads-stop : {f : Step} {n m : ℕ} {r x : List ℕ} → length path ≤ i
-      → Leads f n m r (drop i path) x → r ≡ x
-  leads-stop {f} {n} {m} {r} {x} le l =
-      (walk-end f n m r x (rw (← drop_all i path le) l.ends)).1
-
-  -- the values on the left
   pub left-next : (n m : ℕ) → i < length path → left_count n m (drop i path)
       ≡ cond (is_right n m) 1 0 + left_count (next_node n m) (next_last n m) (drop (i + 1) path)
   unfolding left_count

@@ -90,7 +90,8 @@ impl Place {
     // whose last node it is and where it has no sibling.
     pub(crate) fn path_len(self) -> usize
         requires { self.node ≤ self.last }
-        ensures { result ≡ path_len self.node self.last }
+        ensures count { result ≡ path_len self.node self.last }
+        ensures most { result ≤ 64 }
     {
         let mut place = self;
         let mut len = 0;

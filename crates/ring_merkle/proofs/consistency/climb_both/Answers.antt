@@ -31,7 +31,13 @@ loop-value-preserved c =
       cost = (
         inv.cost.0 + left,
         omega (arith, inv.cost.1, more),
-        grind (arith, raised-raised, inv.cost.2, c.front_step-front.ensures.cost, c.whole_step-whole.ensures.cost),
+        grind (
+          arith,
+          raised-raised,
+          inv.cost.2,
+          c.front_step-front.ensures.cost,
+          c.whole_step-whole.ensures.cost,
+        ),
       );
     })
 

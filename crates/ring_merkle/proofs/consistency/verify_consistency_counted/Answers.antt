@@ -15,9 +15,9 @@ returns-clause-sound c ds len root t =
     let yes = c.is_consistent.ensures.exact.0 t in
     let n = length-map ds leaf_hash in
     let fits = c.ranges.second_size.fits in
-    rw (← take-map leaf_hash m ds, ← len, ← n) (sound-front sized (map leaf_hash ds) c.args.path.now
-    c.args.first.now m (hashes-leaves sized ds)
-    (c.told-first, hashes-told c.args.path.now c.told-path) (omega arith)
+    rw (← take-map leaf_hash m ds, ← len, ← n) (sound-front sized (map leaf_hash ds)
+    (hashes-leaves sized ds) (c.told-first, hashes-told c.args.path.now c.told-path)
+    (omega arith)
     (rw (← root, n, len) yes))
 
 pub returns-clause-complete : goal.returns-clause-complete

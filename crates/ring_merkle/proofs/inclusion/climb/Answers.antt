@@ -14,7 +14,8 @@ loop-value-preserved c =
     let next = c.next-place.ensures in
     record {
       leads = λ x l. rw (next.node, next.last, c.whole_step-reached.ensures.hash)
-          (leads-next c.args.path.now c.loop-value.value-index c.loop-value-test.true (inv.leads x l));
+          (leads-next c.args.path.now c.loop-value.value-index c.loop-value-test.true
+          (inv.leads x l));
       cost = grind (arith, raised-raised, inv.cost, c.whole_step-reached.ensures.cost);
     }
 

@@ -16,16 +16,16 @@ returns-then-path-path_len-clause-exact c = (
   λ t. cc,
   λ h. absurd (c.if-path-path_len.true
       (leads-length (omega (arith, c.if-index-size.false)) (omega (arith, c.ranges.size.fits))
-      (record { ends = h.leads }) ∙ sym c.path_len.ensures)),
+      (record { ends = h.leads }) ∙ sym c.path_len.ensures.count)),
 )
 
 pub returns-then-path-path_len-clause-cost : goal.returns-then-path-path_len-clause-cost
 returns-then-path-path_len-clause-cost c =
     raised-not _ _ (and_right _ _
-    (ne_eqb _ _ (λ e. c.if-path-path_len.true (e ∙ sym c.path_len.ensures))))
+    (ne_eqb _ _ (λ e. c.if-path-path_len.true (e ∙ sym c.path_len.ensures.count))))
 
 pub climb-requires : goal.climb-requires
 climb-requires c =
     walk-leads whole_step c.args.index (c.args.size - 1) c.args.hash.now c.args.path.now
     (omega (arith, c.if-index-size.false)) (omega (arith, c.ranges.size.fits))
-    (omega (arith, c.if-path-path_len.false, c.path_len.ensures))
+    (omega (arith, c.if-path-path_len.false, c.path_len.ensures.count))

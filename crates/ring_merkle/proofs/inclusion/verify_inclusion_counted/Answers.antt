@@ -18,7 +18,7 @@ returns-clause-sound c ds len root t =
     let e : get_or xs m [] ≡ leaf_hash (get_or ds m []) =
     get_or-map leaf_hash ds m [] [] (omega (arith, yes.within)) in
     let fits = c.ranges.size.fits in
-    rw (← e, ← len, ← n) (sound sized xs c.args.path.now c.args.hash.now m (hashes-leaves sized ds)
+    rw (← e, ← len, ← n) (sound sized xs (hashes-leaves sized ds)
     (c.told-hash, hashes-told c.args.path.now c.told-path) (omega arith)
     (rw (← root, n, len) yes))
 

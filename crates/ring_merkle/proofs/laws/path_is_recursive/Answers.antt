@@ -17,11 +17,13 @@ returns-clause-left c ds j m lt le at =
     let n = length-map ds leaf_hash in
     let most = rw (add-one j) at le in
     rw (← take-map leaf_hash (2 ^ j) ds, ← drop-map leaf_hash (2 ^ j) ds)
-    (path-left-of (2 ^ j) (map leaf_hash ds) (j, refl) (omega arith) (omega (arith, pow-sum j)) m at)
+    (path-left-of (2 ^ j) (map leaf_hash ds) (j, refl) (omega arith) (omega (arith, pow-sum j)) m
+    at)
 
 pub returns-clause-right : goal.returns-clause-right
 returns-clause-right c ds j m lt le at =
     let n = length-map ds leaf_hash in
     let most = rw (add-one j) at le in
     rw (← take-map leaf_hash (2 ^ j) ds, ← drop-map leaf_hash (2 ^ j) ds)
-    (path-right-of (2 ^ j) (map leaf_hash ds) (j, refl) (omega arith) (omega (arith, pow-sum j)) m at)
+    (path-right-of (2 ^ j) (map leaf_hash ds) (j, refl) (omega arith) (omega (arith, pow-sum j)) m
+    at)

@@ -5,7 +5,7 @@ use Rattle.ring.specs.Prelude.{raised}
 use Rattle.ring_merkle.specs.Cost.{node_blocks}
 use Rattle.ring_merkle.specs.Inclusion.{path_of}
 use Rattle.ring_merkle.specs.Tree.{root_of}
-use Rattle.ring_merkle.proofs.Filled.{filled-all, filled-begin, filled-next}
+use Rattle.ring_merkle.proofs.Filled.{filled-all, filled-begin, filled-next, filled-some}
 use Rattle.ring_merkle.proofs.Spent.{spent-begin, spent-more}
 use Rattle.ring_merkle.proofs.Trees.{path-leaf}
 use Rattle.ring_merkle.proofs.paths.fill_inclusion_path.Goals as goal
@@ -13,23 +13,14 @@ use Rattle.ring_merkle.proofs.paths.fill_inclusion_path.Goals as goal
 pub overflow_sub-end : goal.overflow_sub-end
 overflow_sub-end c =
     let p = c.parts_of-place in
-    omega (
-      arith,
-      c.loop-rest.invariant.filled.left,
-      ap length p.ensures.path,
-      length_push (path_of p.result.1 p.result.0.now) (root_of p.result.2.now),
-    )
+    (filled-some (path_of p.result.1 p.result.0.now) (root_of p.result.2.now) p.ensures.path
+    c.loop-rest.invariant.filled).0
 
 pub bounds-out-end : goal.bounds-out-end
 bounds-out-end c =
     let p = c.parts_of-place in
-    omega (
-      arith,
-      c.loop-rest.invariant.filled.left,
-      c.loop-rest.invariant.filled.fits,
-      ap length p.ensures.path,
-      length_push (path_of p.result.1 p.result.0.now) (root_of p.result.2.now),
-    )
+    (filled-some (path_of p.result.1 p.result.0.now) (root_of p.result.2.now) p.ensures.path
+    c.loop-rest.invariant.filled).1
 
 pub loop-rest-preserved : goal.loop-rest-preserved
 loop-rest-preserved c =

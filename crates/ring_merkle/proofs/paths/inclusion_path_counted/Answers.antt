@@ -1,14 +1,13 @@
 -- SPDX-License-Identifier: ISC
-use Rattle.std.proofs.Common.{◌-◌, ◌^◌, ◌<◌, length, arith, rules, length-take}
+use Rattle.std.proofs.Common.{◌^◌, ◌<◌, length, arith, rules, length-take}
 use Rattle.ring_merkle.proofs.Included.{length-path}
-use Rattle.ring_merkle.proofs.Sides.{length-sides}
 use Rattle.ring_merkle.proofs.paths.inclusion_path_counted.Goals as goal
 
 pub returns-then-len-out-clause-refused : goal.returns-then-len-out-clause-refused
 returns-then-len-out-clause-refused c =
     let fits : length c.args.leaves.now < 2 ^ 64 = search rules in
     let l = length-path c.args.leaves.now c.args.index c.if-index-leaves.false (omega arith) in
-    (λ t. cc, λ h. absurd (omega (arith, h.1, l, c.path_len-len.ensures, c.if-len-out.true)))
+    (λ t. cc, λ h. absurd (omega (arith, h.1, l, c.path_len-len.ensures.count, c.if-len-out.true)))
 
 pub fill_inclusion_path-requires-clause-len : goal.fill_inclusion_path-requires-clause-len
 fill_inclusion_path-requires-clause-len c =
@@ -17,15 +16,7 @@ fill_inclusion_path-requires-clause-len c =
     omega (
       arith,
       l,
-      c.path_len-len.ensures,
+      c.path_len-len.ensures.count,
       c.if-len-out.false,
       length-take c.path_len-len.result c.args.out.now,
     )
-
-pub returns-clause-bound : goal.returns-clause-bound
-returns-clause-bound c = omega (
-  arith,
-  c.path_len-len.ensures,
-  length-sides 64 c.args.index
-      (length c.args.leaves.now - 1),
-)

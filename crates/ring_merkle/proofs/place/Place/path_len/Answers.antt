@@ -47,12 +47,20 @@ loop-place-preserved c =
       ];
     })
 
-pub returns : goal.returns
-returns c =
+pub returns-clause-count : goal.returns-clause-count
+returns-clause-count c =
     let inv = c.loop-place.invariant in
     omega (
       arith,
       inv.all,
       ap length (sides-none 64 c.loop-place.place.node c.loop-place.place.last inv.within
           (omega (arith, c.loop-place-test.false))),
+    )
+
+pub returns-clause-most : goal.returns-clause-most
+returns-clause-most c =
+    omega (
+      arith,
+      c.loop-place.invariant.all,
+      length-sides 64 c.args.self.node c.args.self.last,
     )

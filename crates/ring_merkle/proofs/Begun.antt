@@ -84,14 +84,12 @@ sub-odd zero zero (x ∷ y ∷ z ∷ xs) b even lt le = absurd (omega arith)
 sub-odd zero (suc m) xs b even lt le = absurd (omega arith)
 sub-odd (suc h) m xs b even lt le =
     let n = 2 ^ suc h in
-    let front = take n xs in
-    let back = drop n xs in
     let s = split h xs in
     ⊎_elim
     (λ high. ⊎_elim
     (λ right.
     let a = sub-right (suc h) xs (suc m) b lt right in
-    let o = sub-odd h (m - n) back false (omega arith) (omega arith) (omega arith) in
+    let o = sub-odd h (m - n) (drop n xs) false (omega arith) (omega arith) (omega arith) in
     let d = path-right (suc h) xs m high (omega arith) in
     let k : suc m - n ≡ suc (m - n) = omega arith in
     let i : n + (m - n) ≡ m = omega arith in
@@ -100,11 +98,11 @@ sub-odd (suc h) m xs b even lt le =
     cc)
     (λ left.
     let a = sub-left (suc h) xs (suc m) b lt high left in
-    let o = sub-odd h m front b even (omega arith) (omega arith) in
+    let o = sub-odd h m (take n xs) b even (omega arith) (omega arith) in
     let d = path-left (suc h) xs m high (omega arith) in
     let g = get_or-take n xs m [] (omega arith) in
-    let i = append_assoc (opens b m (get_or xs m [])) (path_at (suc h) m front)
-    (root_at (suc h) back ∷ []) in
+    let i = append_assoc (opens b m (get_or xs m [])) (path_at (suc h) m (take n xs))
+    (root_at (suc h) (drop n xs) ∷ []) in
     cc)
     (cases_lt n (suc m)))
     (λ low. sub-low (suc h) xs (suc m) b lt low ∙ sub-odd h m xs b even lt low
@@ -156,6 +154,11 @@ begun-odd h m xs odd lt le =
     let f : m - 1 + 1 ≡ m = omega arith in
     let even : is_even (m - 1) ≡ true = grind (arith, nat_tests) in
     let stop = shift-stop is_even (suc h) (m - 1) in
+    let a = stop (m - 1) even in
+    let b = stop (length xs - 1) even in
+    let same = shift-same is_even (suc h) (m - 1) in
+    let s = sub-odd h (m - 1) xs false (omega arith) (omega arith) le in
+    let v = values-odd h (m - 1) xs (omega arith) (omega arith) le in
     record {
       height = suc h;
       nodes = xs;
@@ -163,14 +166,12 @@ begun-odd h m xs odd lt le =
       within = omega arith;
       few = le;
       fewer = omega arith;
-      node = sym (sym (shift-same is_even (suc h) (m - 1)) ∙ stop (m - 1) even);
-      last = sym (stop (length xs - 1) even);
-      front = ap (λ k. root_at (suc h) (take k xs)) f;
+      node = cc;
+      last = cc;
+      front = cc;
       whole = refl;
-      is = ap (λ k. subproof_at (suc h) k xs false) e
-          ∙ sub-odd h (m - 1) xs false (omega arith) (omega arith) le;
-      values = ap (λ k. values_of k (root_at (suc h) (take k xs)) (subproof_at (suc h) k xs true)) e
-          ∙ values-odd h (m - 1) xs (omega arith) (omega arith) le;
+      is = cc;
+      values = cc;
       hashes = λ sized a. a;
     }
 
@@ -181,11 +182,17 @@ begun-even h m xs even pos lt le b =
     let up = length-pair_up xs in
     let k : (m - 1) / 2 ≡ m / 2 - 1 = omega arith in
     let l : (length xs - 1) / 2 ≡ length (pair_up xs) - 1 = omega arith in
-    let half : m ≡ m / 2 + m / 2 = omega arith in
     let t = length-take m xs in
-    let front = root-up h (take m xs) (omega arith)
-    ∙ ap (λ ys. root_at h ys) (take-up (m / 2) m half xs) in
-    let same = shift-same is_even in
+    let front = root-up h (take m xs) (omega arith) in
+    let first = take-up (m / 2) m (omega arith) xs in
+    let whole = root-up h xs le in
+    let n = shift-up is_even h (m - 1) (m - 1) odd in
+    let e = shift-up is_even h (m - 1) (length xs - 1) odd in
+    let same = shift-same is_even (suc h) (m - 1) in
+    let above = shift-same is_even h (m / 2 - 1) in
+    let s = sub-even h m xs false even pos (omega arith) le in
+    let v = sub-even h m xs true even pos (omega arith) le in
+    let p = power-even m even in
     record {
       height = b.height;
       nodes = b.nodes;
@@ -193,19 +200,12 @@ begun-even h m xs even pos lt le b =
       within = b.within;
       few = b.few;
       fewer = omega (arith, b.fewer);
-      node = b.node ∙ sym (sym (same (suc h) (m - 1)) ∙ shift-up is_even h (m - 1) (m - 1) odd
-          ∙ same h ((m - 1) / 2) ∙ ap (λ j. shifted_node is_even h j) k);
-      last = b.last ∙ sym (shift-up is_even h (m - 1) (length xs - 1) odd
-          ∙ ap (λ j. shifted_last is_even h j ((length xs - 1) / 2)) k
-          ∙ ap (λ j. shifted_last is_even h (m / 2 - 1) j) l);
-      front = b.front ∙ sym front;
-      whole = b.whole ∙ sym (root-up h xs le);
-      is = sub-even h m xs false even pos (omega arith) le ∙ b.is;
-      values = rw (
-        front,
-        sub-even h m xs true even pos (omega arith) le,
-        power-even m even,
-      ) b.values;
+      node = cc;
+      last = cc;
+      front = cc;
+      whole = cc;
+      is = cc;
+      values = cc;
       hashes = λ sized a. b.hashes sized (hashes-up sized xs a);
     }
 

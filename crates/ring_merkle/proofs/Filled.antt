@@ -1,7 +1,7 @@
 -- SPDX-License-Identifier: ISC
 -- Paths that are filled from the end.
-use Rattle.std.proofs.Common.{◌≡◌, ◌+◌, ◌-◌, ◌<◌, ◌≤◌, [], ◌∷◌, ◌++◌, ◌∙◌, ℕ, List, length, drop, set}
-use Rattle.std.proofs.Common.{ap, sym, arith, append_assoc}
+use Rattle.std.proofs.Common.{◌≡◌, ◌+◌, ◌-◌, ◌<◌, ◌≤◌, [], ◌∷◌, ◌++◌, ◌∙◌, ℕ, List, length, drop}
+use Rattle.std.proofs.Common.{set, ap, sym, arith, append_assoc}
 use Rattle.std.proofs.lemmas.List.{append-nil, drop-set, drop_all, length-set, length_push}
 
 -- what is left to write goes before end, and the rest stands there

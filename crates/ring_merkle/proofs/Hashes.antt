@@ -1,7 +1,7 @@
 -- SPDX-License-Identifier: ISC
 -- Lists of hashes, each as long as a digest.
-use Rattle.std.proofs.Common.{◌≡◌, ◌/◌, ◌^◌, ◌<◌, ◌≤◌, [], ◌∷◌, ◌++◌, ℕ, zero, suc, List, length, get_or}
-use Rattle.std.proofs.Common.{map, sym, subst, arith}
+use Rattle.std.proofs.Common.{◌≡◌, ◌/◌, ◌^◌, ◌<◌, ◌≤◌, [], ◌∷◌, ◌++◌, ℕ, zero, suc, List, length}
+use Rattle.std.proofs.Common.{get_or, map, sym, subst, arith}
 use Rattle.std.specs.Bool.{⊤}
 use Rattle.ring_merkle.specs.Inclusion.{path_at}
 use Rattle.ring_merkle.specs.Tree.{leaf_hash, sha256}

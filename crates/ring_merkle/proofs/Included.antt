@@ -1,8 +1,8 @@
 -- SPDX-License-Identifier: ISC
 -- The path of a leaf leads from it to the root, and to the root of the leaves up to it.
 use Rattle.std.proofs.Common.{◌≡◌, ◌+◌, ◌-◌, ◌/◌, ◌%◌, ◌^◌, ◌<◌, ◌≤◌, [], ◌∷◌, ◌++◌, ℕ, zero, suc}
-use Rattle.std.proofs.Common.{Bool, true, false, cond, List, length, get_or, take, drop, refl, sym, arith}
-use Rattle.std.proofs.Common.{⊎_elim, Some, length-append, length-drop, length-take}
+use Rattle.std.proofs.Common.{Bool, true, false, cond, List, length, get_or, take, drop, refl, sym}
+use Rattle.std.proofs.Common.{arith, ⊎_elim, Some, length-append, length-drop, length-take}
 use Rattle.std.proofs.lemmas.List.{drop_more, take-append-drop, take_more}
 use Rattle.ring_merkle.specs.Cost.{path_len, sides}
 use Rattle.ring_merkle.specs.Inclusion.{IsIncluded, path_at, path_of}
@@ -46,77 +46,61 @@ unfolding pair_up
 kept-last true r = refl
 kept-last false r = refl
 
-leads-leaf : (b : Bool) (before after : List (List ℕ)) (x r : List ℕ)
-    → length before + length after < 1
-    → fold_sides (step_of b) (sides zero (length before) (length before + length after)) r
-    (path_at zero (length before) (before ++ x ∷ after))
-    ≡ Some (root_at zero (before ++ r ∷ kept b after))
-unfolding sides path_at root_at
-leads-leaf b [] after x r lt = refl
-leads-leaf b (y ∷ before) after x r lt = absurd (omega arith)
-
--- one level up from the node x, whose hash is r: the sides and values of the step, if there is one
+-- one level up from the node x, whose hash is r: a step, where x has a sibling
 record Above (b : Bool) (before after : List (List ℕ)) (x r : List ℕ) : Type 0 where
-  sides-here : List Bool
-  values : List (List ℕ)
   node : List ℕ
   reached : List ℕ
   rest : List (List ℕ)
   last : (length before + length after) / 2 ≡ length (halves before) + length rest
-  path : beside (length before) (before ++ x ∷ after) ≡ values
   nodes : pair_up (before ++ x ∷ after) ≡ halves before ++ node ∷ rest
   hashes : pair_up (before ++ r ∷ kept b after) ≡ halves before ++ reached ∷ kept b rest
-  levels : (h : ℕ) → sides (suc h) (length before) (length before + length after)
-      ≡ sides-here ++ sides h (length before / 2) ((length before + length after) / 2)
-  step : (ss : List Bool) (ps : List (List ℕ))
-      → fold_sides (step_of b) (sides-here ++ ss) r (values ++ ps)
-      ≡ fold_sides (step_of b) ss reached ps
+  step : (h : ℕ) (ps : List (List ℕ))
+      → fold_sides (step_of b) (sides (suc h) (length before) (length before + length after)) r
+      (beside (length before) (before ++ x ∷ after) ++ ps)
+      ≡ fold_sides (step_of b) (sides h (length before / 2) ((length before + length after) / 2))
+      reached ps
 
 above-even : (b : Bool) (before after : List (List ℕ)) (x r : List ℕ) → length before % 2 ≡ 0
     → Above b before after x r
 unfolding beside pair_up
 above-even b before [] x r even = record {
-  sides-here = [];
-  values = [];
   node = x;
   reached = r;
   rest = [];
   last = omega (arith, length-halves before);
-  path = beside-even before (x ∷ []) even;
   nodes = pair-even before (x ∷ []) even;
   hashes = rw (pair-even before (r ∷ kept b []) even, kept-last b r);
-  levels = λ h. sides-last h (length before) (length before + 0) even (omega arith);
-  step = λ ss ps. refl;
+  step = λ h ps. rw (
+    beside-even before (x ∷ []) even,
+    sides-last h (length before) (length before + 0) even (omega arith),
+  );
 }
 above-even b before (y ∷ after) x r even = record {
-  sides-here = false ∷ [];
-  values = y ∷ [];
   node = node_hash x y;
   reached = step_of b false y r;
   rest = pair_up after;
   last = omega (arith, length-halves before, length-pair_up after);
-  path = beside-even before (x ∷ y ∷ after) even;
   nodes = pair-even before (x ∷ y ∷ after) even;
   hashes = rw (pair-even before (r ∷ kept b (y ∷ after)) even, kept-left b y r after);
-  levels = λ h. sides-left h (length before) (length before + suc (length after)) even
-      (omega arith);
-  step = λ ss ps. refl;
+  step = λ h ps. rw (
+    beside-even before (x ∷ y ∷ after) even,
+    sides-left h (length before) (length before + suc (length after)) even (omega arith),
+  );
 }
 
 above-odd : (b : Bool) (before after : List (List ℕ)) (x r : List ℕ) → length before % 2 ≡ 1
     → Above b before after x r
 above-odd b before after x r odd = record {
-  sides-here = true ∷ [];
-  values = last before ∷ [];
   node = node_hash (last before) x;
   reached = step_of b true (last before) r;
   rest = pair_up after;
   last = omega (arith, length-halves before, length-pair_up after);
-  path = beside-odd before after x odd;
   nodes = pair-odd before after x odd;
   hashes = rw (pair-odd before (kept b after) r odd, kept-right b (last before) r after);
-  levels = λ h. sides-right h (length before) (length before + length after) odd;
-  step = λ ss ps. refl;
+  step = λ h ps. rw (
+    beside-odd before after x odd,
+    sides-right h (length before) (length before + length after) odd,
+  );
 }
 
 -- from the hash r of a node a path leads to the root of the leaves with r in the node's place
@@ -125,7 +109,9 @@ leads : (b : Bool) (h : ℕ) (before after : List (List ℕ)) (x r : List ℕ)
     → fold_sides (step_of b) (sides h (length before) (length before + length after)) r
     (path_at h (length before) (before ++ x ∷ after))
     ≡ Some (root_at h (before ++ r ∷ kept b after))
-leads b zero before after x r lt = leads-leaf b before after x r (omega arith)
+unfolding sides path_at root_at
+leads b zero [] after x r lt = refl
+leads b zero (y ∷ before) after x r lt = absurd (omega arith)
 leads b (suc h) before after x r lt =
     let a = ⊎_elim (above-even b before after x r) (above-odd b before after x r)
     (parity (length before)) in
@@ -135,12 +121,10 @@ leads b (suc h) before after x r lt =
     let pow = pow-sum h in
     rw (
       path-up h (length before) (before ++ x ∷ after) (omega arith) (omega arith),
-      a.path,
+      a.step h,
       a.nodes,
-      a.levels h,
       a.last,
       ← length-halves before,
-      a.step,
       root-up h (before ++ r ∷ kept b after) (omega arith),
       a.hashes,
     ) (leads b h (halves before) a.rest a.node a.reached (omega (arith, a.last)))

@@ -80,12 +80,8 @@ at_any : {X : Type 0} (f : ℕ → X) (n : ℕ) → ((h : ℕ) → n ≤ 2 ^ h �
     → (h : ℕ) → n ≤ 2 ^ h → f h ≡ f n
 at_any f n step h le =
     let least : n ≤ 2 ^ n = omega (arith, below-pow n) in
-    ⊎_elim
-    (λ lt. let e : h + (n - h) ≡ n = omega arith in
-    sym (sym (ap f e) ∙ more f n step h (n - h) le))
-    (λ ge. let e : n + (h - n) ≡ h = omega arith in
-    sym (ap f e) ∙ more f n step n (h - n) least)
-    (cases_lt h n)
+    let swap : h + n ≡ n + h = omega arith in
+    sym (more f n step h n le) ∙ ap f swap ∙ more f n step n h least
 
 module _ (h : ℕ) (xs : List (List ℕ)) where
   pub root-any : length xs ≤ 2 ^ h → root_at h xs ≡ root_of xs

@@ -94,27 +94,22 @@ module _ {f : Step} {n m : ℕ} {r x : List ℕ} where
 next-joined : (n m : ℕ) → is_alone n m ≡ false → (next_node n m ≡ n / 2) × (next_last n m ≡ m / 2)
 next-joined n m f =
     let same = shift-same is_odd_or_zero 64 n in
-    ⊎_elim
-    (λ e. let odd : is_odd_or_zero n ≡ true = grind (arith, nat_tests) in
-    let a = shift-stop is_odd_or_zero 64 n n odd in
-    let b = shift-stop is_odd_or_zero 64 n m odd in
-    (rw e (ap (λ k. k / 2) (sym same ∙ a)), rw e (ap (λ k. k / 2) b)))
-    (λ e. (rw e, rw e))
-    (cases_Bool (is_right n m))
+    let a = shift-stop is_odd_or_zero 64 n n in
+    let b = shift-stop is_odd_or_zero 64 n m in
+    (grind (arith, nat_tests), grind (arith, nat_tests))
 
 next-alone : (n m : ℕ) → is_alone n m ≡ true → 0 < m → m < 2 ^ 64
     → (next_node n m ≡ next_node (n / 2) (m / 2)) × (next_last n m ≡ next_last (n / 2) (m / 2))
 next-alone n m t pos lt =
     let a = alone_is n m t in
-    let here : is_right n m ≡ true = grind (arith, nat_tests) in
-    let up : is_right (n / 2) (m / 2) ≡ true = grind (arith, nat_tests, ap (λ k. k / 2) a.1) in
+    let half = ap (λ k. k / 2) a.1 in
     let not : is_odd_or_zero n ≡ false = grind (arith, nat_tests) in
     let again = shift-again is_odd_or_zero refl 63 n in
     let i = again n (omega arith) not in
     let j = again m (omega arith) not in
     let same = shift-same is_odd_or_zero 64 n in
     let above = shift-same is_odd_or_zero 64 (n / 2) in
-    (rw (here, up) (ap (λ k. k / 2) (sym same ∙ i ∙ above)), rw (here, up) (ap (λ k. k / 2) j))
+    (grind (arith, nat_tests), grind (arith, nat_tests))
 
 -- a node without a sibling is the one above it
 walk-alone : (f : Step) (n m : ℕ) (r : List ℕ) (ps : List (List ℕ)) → is_alone n m ≡ true

@@ -11,7 +11,8 @@ returns-then-path-path_len-clause-exact c =
     let fits : c.args.start.last < 2 ^ 64 = search rules in (
       λ t. cc,
       λ h. absurd (c.if-path-path_len.true
-          (leads-length c.requires fits (record { ends = h.whole }) ∙ sym c.path_len.ensures.count)),
+          (leads-length c.requires fits (record { ends = h.whole })
+          ∙ sym c.path_len.ensures.count)),
     )
 
 pub returns-then-path-path_len-clause-cost : goal.returns-then-path-path_len-clause-cost

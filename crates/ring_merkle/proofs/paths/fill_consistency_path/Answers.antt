@@ -1,6 +1,7 @@
 -- SPDX-License-Identifier: ISC
-use Rattle.std.proofs.Common.{◌≡◌, ◌+◌, ◌-◌, ◌*◌, ◌≤◌, ◌==◌, ◌&&◌, [], ◌∷◌, ◌++◌, ◌∙◌, ℕ, cond, false}
-use Rattle.std.proofs.Common.{Bool, true, List, length, refl, ap, sym, arith, rules, ◌^◌, ◌<◌}
+use Rattle.std.proofs.Common.{◌≡◌, ◌+◌, ◌-◌, ◌*◌, ◌≤◌, ◌==◌, ◌&&◌, [], ◌∷◌, ◌++◌, ◌∙◌, ℕ, cond}
+use Rattle.std.proofs.Common.{false, Bool, true, List, length, refl, ap, sym, arith, rules, ◌^◌}
+use Rattle.std.proofs.Common.{◌<◌}
 use Rattle.std.proofs.lemmas.Bool.{eq-eqb, ne_eqb}
 use Rattle.std.proofs.lemmas.Bool.Decides.{nat_tests}
 use Rattle.std.proofs.lemmas.List.{length_push}
@@ -16,8 +17,8 @@ use Rattle.ring_merkle.proofs.paths.fill_consistency_path.Goals as goal
 
 -- at the end the leaves that are left end with the beginning: the root over them is the value that
 -- is left, where they are a part of it, and else there is none
-filled-end : {all out : List (List ℕ)} {end n : ℕ} (rest : List (List ℕ)) (b : Bool) → n < length rest
-    → length rest ≤ n + 1 → Filled all (subproof_of (n + 1) rest b) end out
+filled-end : {all out : List (List ℕ)} {end n : ℕ} (rest : List (List ℕ)) (b : Bool)
+    → n < length rest → length rest ≤ n + 1 → Filled all (subproof_of (n + 1) rest b) end out
     → Filled all (cond b [] (root_of rest ∷ [])) end out
 filled-end {n = n} rest b lt le f = rw (sub-all (n + 1) rest b (omega arith)) at f
 

@@ -232,29 +232,6 @@ pub record Made (m : ℕ) (xs : List (List ℕ)) : Type 0 where
   pub values : values_of m (root_of (take m xs)) (proof_of m xs) ≡ node ∷ path
   pub hashes : Sized → AreHashes xs → AreHashes (node ∷ path)
 
-pub made : (m : ℕ) (xs : List (List ℕ)) → 0 < m → m < length xs → length xs ≤ 2 ^ 64 → Made m xs
-made m xs pos lt fits =
-    let b = begun 64 m xs pos lt fits in
-    let first = root-any 64 (take m xs) (omega (arith, length-take m xs)) in
-    let small = b.fewer in
-    record {
-      node = get_or b.nodes b.at [];
-      path = path_at b.height b.at b.nodes;
-      within = omega (arith, b.node, b.last, b.within);
-      fits = omega (arith, b.last, b.within);
-      leads = rw (← b.node, ← b.last, ← first, ← b.front, ← root-any 64 xs fits, ← b.whole)
-          (record {
-            front = walk-path false b.height b.at b.nodes b.within b.few (omega arith);
-            whole = walk-path true b.height b.at b.nodes b.within b.few (omega arith);
-          });
-      is = sym (sub-any 64 m xs false (omega arith) fits) ∙ b.is;
-      values = rw (← first, ← sub-any 64 m xs true (omega arith) fits) b.values;
-      hashes = λ sized a. (
-        hashes-at b.nodes b.at (b.hashes sized a) b.within,
-        hashes-path sized b.height b.at b.nodes b.within b.few (b.hashes sized a),
-      );
-    }
-
 length-values : (b : Bool) (r : List ℕ) (ps : List (List ℕ))
     → length (cond b (r ∷ ps) ps) + cond b 0 1 ≡ 1 + length ps
 length-values true r ps = omega arith
@@ -266,51 +243,72 @@ same-tests true false e = absurd (omega arith)
 same-tests false true e = absurd (omega arith)
 same-tests false false e = refl
 
--- where the proof has as many values as begin with the first node, m is no power of two
-pub power-of-rest : (m : ℕ) (xs : List (List ℕ)) (b : Bool) {left : ℕ} → 0 < m → m < length xs
-    → length xs ≤ 2 ^ 64 → length (subproof_of m xs false) + left ≡ 1 + length (proof_of m xs)
-    → left ≡ cond b 0 1 → is_power_of_two m ≡ b
-power-of-rest m xs b pos lt fits e is =
-    let p = made m xs pos lt fits in
-    same-tests (is_power_of_two m) b (omega (
-      arith,
-      ap length p.is,
-      ap length p.values,
-      length-values (is_power_of_two m) (root_of (take m xs)) (proof_of m xs),
-    ))
-
--- the proof has a value for each level with a sibling from the first node on, and one for that node
--- where m is no power of two
-pub length-proof : (m : ℕ) (xs : List (List ℕ)) → 0 < m → m < length xs → length xs ≤ 2 ^ 64
-    → length (proof_of m xs)
-    ≡ path_len (first_node m) (first_last m (length xs)) + cond (is_power_of_two m) 0 1
-length-proof m xs pos lt fits =
-    let p = made m xs pos lt fits in
-    let first = root_of (take m xs) in
-    omega (
-      arith,
-      leads-length p.within p.fits (record { ends = p.leads.whole }),
-      ap length p.values,
-      length-values (is_power_of_two m) first (proof_of m xs),
-    )
-
--- the proof is accepted
 some-steps : {f : Step} {n m : ℕ} {r x : List ℕ} (ps : List (List ℕ)) → 0 < m
     → Leads f n m r ps x → 0 < length ps
 some-steps [] pos l = let e = leads-end l in absurd (omega arith)
 some-steps (p ∷ ps) pos l = omega arith
 
-pub consistent : (m : ℕ) (xs : List (List ℕ)) → 0 < m → m < length xs → length xs ≤ 2 ^ 64
-    → IsConsistent m (length xs) (proof_of m xs) (root_of (take m xs)) (root_of xs)
-consistent m xs pos lt fits =
-    let p = made m xs pos lt fits in
-    let first = root_of (take m xs) in
-    let below = even-below 64 (m - 1) (length xs - 1) (omega arith) in
-    let steps = some-steps p.path (omega arith) (record { ends = p.leads.whole }) in
-    let values = length-values (is_power_of_two m) first (proof_of m xs) in
-    record {
-      nonempty = pos;
-      within = lt;
-      some = omega (arith, ap length p.values);
-      leads = rw p.values p.leads;
-    }
+module _ (m : ℕ) (xs : List (List ℕ)) (pos : 0 < m) (lt : m < length xs)
+    (fits : length xs ≤ 2 ^ 64) where
+  pub made : Made m xs
+  made =
+      let b = begun 64 m xs pos lt fits in
+      let first = root-any 64 (take m xs) (omega (arith, length-take m xs)) in
+      let small = b.fewer in
+      record {
+        node = get_or b.nodes b.at [];
+        path = path_at b.height b.at b.nodes;
+        within = omega (arith, b.node, b.last, b.within);
+        fits = omega (arith, b.last, b.within);
+        leads = rw (← b.node, ← b.last, ← first, ← b.front, ← root-any 64 xs fits, ← b.whole)
+            (record {
+              front = walk-path false b.height b.at b.nodes b.within b.few (omega arith);
+              whole = walk-path true b.height b.at b.nodes b.within b.few (omega arith);
+            });
+        is = sym (sub-any 64 m xs false (omega arith) fits) ∙ b.is;
+        values = rw (← first, ← sub-any 64 m xs true (omega arith) fits) b.values;
+        hashes = λ sized a. (
+          hashes-at b.nodes b.at (b.hashes sized a) b.within,
+          hashes-path sized b.height b.at b.nodes b.within b.few (b.hashes sized a),
+        );
+      }
+
+  -- m is a power of two exactly where the proof leaves the first node out
+  length-both : length (proof_of m xs) + 1 ≡ length (subproof_of m xs false)
+      + cond (is_power_of_two m) 0 1
+  length-both =
+      omega (
+        arith,
+        ap length made.is,
+        ap length made.values,
+        length-values (is_power_of_two m) (root_of (take m xs)) (proof_of m xs),
+      )
+
+  pub power-of-rest : {b : Bool} {left : ℕ}
+      → length (subproof_of m xs false) + left ≡ 1 + length (proof_of m xs) → left ≡ cond b 0 1
+      → is_power_of_two m ≡ b
+  power-of-rest {b} e is = same-tests (is_power_of_two m) b (omega (arith, length-both))
+
+  -- the proof has a value for each level with a sibling from the first node on, and one for that
+  -- node where m is no power of two
+  pub length-proof : length (proof_of m xs)
+      ≡ path_len (first_node m) (first_last m (length xs)) + cond (is_power_of_two m) 0 1
+  length-proof =
+      omega (
+        arith,
+        leads-length made.within made.fits (record { ends = made.leads.whole }),
+        ap length made.is,
+        length-both,
+      )
+
+  -- it is accepted
+  pub consistent : IsConsistent m (length xs) (proof_of m xs) (root_of (take m xs)) (root_of xs)
+  consistent =
+      let below = even-below 64 (m - 1) (length xs - 1) (omega arith) in
+      let steps = some-steps made.path (omega arith) (record { ends = made.leads.whole }) in
+      record {
+        nonempty = pos;
+        within = lt;
+        some = omega (arith, ap length made.is, length-both);
+        leads = rw made.values made.leads;
+      }

@@ -5,7 +5,7 @@ use Rattle.std.proofs.Common.{List, length, get_or, take, drop, set, refl, ap, s
 use Rattle.std.proofs.Common.{None, Some, length-append, append_assoc, add-one}
 use Rattle.std.proofs.lemmas.List.{append-nil, drop_more, nil_from_length, set_split, take_more}
 use Rattle.ring_merkle.specs.Tree.{node_hash, root_at, root_of}
-use Rattle.ring_merkle.specs.Stack.{IsStack, halves, joined, last, last_of}
+use Rattle.ring_merkle.specs.Stack.{IsStack, halves, node_over, last, last_of}
 use Rattle.ring_merkle.proofs.Levels.{length-halves, pair-even, pair-odd}
 use Rattle.ring_merkle.proofs.Pairs.{length-pair_up, pair_up, root-up}
 use Rattle.ring_merkle.proofs.Trees.{pow-sum, root-any}
@@ -104,7 +104,7 @@ pair-none None = refl
 pair-none (Some x) = refl
 
 pair-joined : (xs : List (List ℕ)) (e : Option (List ℕ)) → length xs % 2 ≡ 1
-    → pair_up (xs ++ last_of e) ≡ halves xs ++ joined (last xs) e ∷ []
+    → pair_up (xs ++ last_of e) ≡ halves xs ++ node_over (last xs) e ∷ []
 unfolding pair_up
 pair-joined xs (Some x) odd = pair-odd xs [] x odd
 pair-joined [] None odd = absurd (omega arith)
@@ -120,11 +120,11 @@ reached-keep {e = e} even r =
     ∙ ap (λ ys. halves r.nodes ++ ys) (pair-none e))
 
 pub reached-join : {roots xs : List (List ℕ)} {root : List ℕ} {n : ℕ} {e : Option (List ℕ)}
-    → n % 2 ≡ 1 → Reached (root ∷ roots) xs n e → Reached roots xs (n / 2) (Some (joined root e))
+    → n % 2 ≡ 1 → Reached (root ∷ roots) xs n e → Reached roots xs (n / 2) (Some (node_over root e))
 reached-join {root = root} {e = e} odd r =
     let o : length r.nodes % 2 ≡ 1 = omega (arith, r.number) in
-    reached-up (Some (joined root e)) r (pair-joined r.nodes e o
-    ∙ ap (λ x. halves r.nodes ++ joined x e ∷ []) (sym (r.stack.0 o)))
+    reached-up (Some (node_over root e)) r (pair-joined r.nodes e o
+    ∙ ap (λ x. halves r.nodes ++ node_over x e ∷ []) (sym (r.stack.0 o)))
 
 pub reached-begin : {roots xs : List (List ℕ)} → length xs ≤ 2 ^ length roots
     → IsStack roots xs → Reached roots xs (length xs) None

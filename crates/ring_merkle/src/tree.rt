@@ -4,7 +4,7 @@
 ghost use Rattle.std.specs.Prelude.{◌≡◌, ◌+◌, ◌-◌, ◌*◌, ◌^◌, ◌<◌, [], ◌∷◌, ◌++◌, ℕ, List, length};
 ghost use Rattle.ring.specs.Prelude.{raised};
 ghost use Rattle.ring_merkle.specs.Cost.{node_blocks, push_blocks, root_blocks};
-ghost use Rattle.ring_merkle.specs.Stack.{Holds, joined, last_of, leaf_count};
+ghost use Rattle.ring_merkle.specs.Stack.{Holds, last_of, leaf_count, node_over};
 ghost use Rattle.ring_merkle.specs.Tree.{root_of};
 
 use crate::hash::{HASH_LEN, empty_root_counted, node_hash_counted};
@@ -22,8 +22,12 @@ pub struct Tree {
 }
 
 // The hash of the node over a complete subtree and what is joined so far.
-fn joined(root: &[u8; HASH_LEN], last: Option<[u8; HASH_LEN]>, meter: &mut Meter) -> [u8; HASH_LEN]
-    ensures hash { result ≡ joined root.now last }
+fn node_over(
+    root: &[u8; HASH_LEN],
+    last: Option<[u8; HASH_LEN]>,
+    meter: &mut Meter,
+) -> [u8; HASH_LEN]
+    ensures hash { result ≡ node_over root.now last }
     ensures cost { meter.new ≡ raised meter.old (node_blocks * length (last_of last)) 0 }
 {
     match last {
@@ -93,7 +97,7 @@ impl Tree {
         let mut count = self.size;
         for root in &self.roots {
             if count % 2 == 1 {
-                last = Some(joined(root, last, meter));
+                last = Some(node_over(root, last, meter));
             }
             count /= 2;
         }

@@ -126,8 +126,8 @@ returns-then-node-first_size-clause-cost c =
     let s : Spent n len c.args.meter.now 0 0 meter =
     spent-more (length rest) (omega arith) (omega (arith, i.within)) (omega (arith, f.left))
     c.tree_root_counted-then-node-first_size.ensures.cost i.spent in
-    rw (power-of-rest m c.args.leaves.now false c.requires.nonempty c.requires.within (omega arith)
-    (omega (arith, i.values, c.requires.len)) f.left)
+    rw (power-of-rest m c.args.leaves.now c.requires.nonempty c.requires.within (omega arith)
+    {b = false} (omega (arith, i.values, c.requires.len)) f.left)
     (s.cost ∙ ap (λ k. raised c.args.meter.now (node_blocks * k) 0) (omega arith))
 
 pub returns-else-node-first_size-clause-cost : goal.returns-else-node-first_size-clause-cost
@@ -139,7 +139,7 @@ returns-else-node-first_size-clause-cost c =
     let f = filled-end rest true i.within c.loop-node-test.false
     (rw (eq-eqb (c.loop-node.node + 1) m c.if-node-first_size.false) at i.filled) in
     let one = ap length (sub-all (c.loop-node.node + 1) rest false (omega (arith, i.within))) in
-    rw (power-of-rest m c.args.leaves.now true c.requires.nonempty c.requires.within (omega arith)
-    (omega (arith, i.values, c.requires.len)) f.left)
+    rw (power-of-rest m c.args.leaves.now c.requires.nonempty c.requires.within (omega arith)
+    {b = true} (omega (arith, i.values, c.requires.len)) f.left)
     (i.spent.cost ∙ ap (λ k. raised c.args.meter.now (node_blocks * k) 0)
     (omega (arith, i.within, f.left)))

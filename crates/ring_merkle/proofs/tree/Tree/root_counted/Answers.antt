@@ -33,7 +33,7 @@ loop-root-preserved c =
     let more = drop_more roots j [] (omega arith) in
     record {
       reached = λ xs h. let r = rw more at inv.reached xs h in elim c.if-count-eq1.branch [
-        | then-count-eq1 w ↦ rw (w.last-is, w.joined.ensures.hash)
+        | then-count-eq1 w ↦ rw (w.last-is, w.node_over.ensures.hash)
             (reached-join w.if-count-eq1.true r)
         | else-count-eq1 w ↦ rw w.last-is
             (reached-keep (omega (arith, w.if-count-eq1.false)) r)
@@ -41,10 +41,10 @@ loop-root-preserved c =
       few = omega (arith, q, pow-sum (64 - (j + 1)), inv.few);
       cost = elim c.if-count-eq1.branch [
         | then-count-eq1 w ↦ inv.cost ∙ rw (
-          joins-odd c.loop-root.last w.joined.result n w.if-count-eq1.true,
+          joins-odd c.loop-root.last w.node_over.result n w.if-count-eq1.true,
           w.last-is,
           w.meter-is,
-          w.joined.ensures.cost,
+          w.node_over.ensures.cost,
           raised-raised,
         )
         | else-count-eq1 w ↦ inv.cost ∙ rw (

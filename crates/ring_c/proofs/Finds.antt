@@ -1,6 +1,7 @@
 -- SPDX-License-Identifier: ISC
 -- What a search for a one-time password answers, where the numbers name an algorithm and digits.
-use Rattle.std.proofs.Common.{◌≡◌, ◌∙◌, ◌<◌, ◌^◌, ℕ, List, Bool, false, true, ap, arith, length, refl}
+use Rattle.std.proofs.Common.{◌≡◌, ◌∙◌, ◌<◌, ◌^◌, ℕ, List, Bool, false, true}
+use Rattle.std.proofs.Common.{ap, arith, length, refl}
 use Rattle.std.proofs.Common.{subst, sym}
 use Rattle.std.specs.Prelude.{◌&&◌, IfSome, Some, is_some, not}
 use Rattle.std.proofs.lemmas.Bool.Decides.{nat_tests}

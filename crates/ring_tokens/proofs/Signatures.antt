@@ -1,6 +1,7 @@
 -- SPDX-License-Identifier: ISC
 -- A signature's text is decoded in one way.
-use Rattle.std.proofs.Common.{◌≡◌, ◌≤◌, ◌∙◌, ℕ, List, ap, arith, length, nat_eq, refl, sym, take, true}
+use Rattle.std.proofs.Common.{◌≡◌, ◌≤◌, ◌∙◌, ℕ, List, ap, arith, length}
+use Rattle.std.proofs.Common.{nat_eq, refl, sym, take, true}
 use Rattle.std.specs.Option.{option_eq}
 use Rattle.std.specs.Prelude.{IfSome, IsNone, None, Option, Some}
 use Rattle.std.proofs.lemmas.Bool.{eq-eqb, eqb-true}

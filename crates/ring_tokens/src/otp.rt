@@ -100,8 +100,8 @@ fn digit(number: u32, place: u32) -> u8
     b'0' + (number / place % 10) as u8
 }
 
-/// A number below 10^8 as eight decimal digits in ASCII, leading zeros among them. The last of them,
-/// as many as the password has, are the text of what [`hotp`] and [`totp`] return.
+/// A number below 10^8 as eight decimal digits in ASCII, leading zeros among them. The last of
+/// them, as many as the password has, are the text of what [`hotp`] and [`totp`] return.
 pub fn eight_digits(number: u32) -> [u8; 8]
     ensures { result ≡ eight_digits number }
 {
@@ -158,12 +158,12 @@ pub fn find_hotp_counted(
     None
 }
 
-/// The first of `count` counters from `first` on whose one-time password under `key` the text is
-/// (RFC 4226, section 7.4), with all of its `digits`, leading zeros among them. The next counter to
-/// expect is one above it.
+/// The first of `count` counters, from `first` on, whose one-time password under `key` is `text`
+/// (RFC 4226, section 7.4). The text has all `digits` of the password, leading zeros among them.
+/// The next counter to expect is one above it.
 ///
-/// `None` exactly if the text is the password of no such counter. A counter has 64 bits: none is
-/// tried above the greatest.
+/// `None` exactly if no such counter has this password. A counter has 64 bits: none is tried above
+/// the greatest.
 pub fn find_hotp(key: &Key, first: u64, count: u64, digits: Digits, text: &[u8]) -> Option<u64>
     ensures ok { (k : List ℕ) → KeyStandsFor key.now k → IfSome result (λ found.
         IsFound (key_algorithm key.now) k first (first + count) digits text.now found) }
@@ -232,11 +232,11 @@ pub fn find_totp_counted(
     find_hotp_counted(key, first, count, digits, text, meter)
 }
 
-/// The first step whose one-time password under `key` the text is, with all of its `digits`, among
-/// a time's step, `back` steps before it and `ahead` after it (RFC 6238, section 5.2). The time is
-/// in seconds since 1970.
+/// The first step whose one-time password under `key` is `text`, of that of a time, `back` steps
+/// before it and `ahead` after it (RFC 6238, section 5.2). The text has all `digits` of the
+/// password, leading zeros among them. The time is in seconds since 1970.
 ///
-/// `None` exactly if the text is the password of no such step.
+/// `None` exactly if no such step has this password.
 pub fn find_totp(
     key: &Key,
     time: u64,

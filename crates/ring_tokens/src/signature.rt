@@ -35,8 +35,8 @@ fn decode_signature(text: &[u8], out: &mut [u8; ROOM]) -> Option<usize>
 }
 
 // Whether the text is that of the signature `tag`. The text is decoded, and not the signature
-// encoded, since symbols are looked up in a table. All bytes of the signature are compared, whatever
-// the text is, so that only the answer depends on the signature.
+// encoded, since symbols are looked up in a table. All bytes of the signature are compared,
+// whatever the text is, so that only the answer depends on the signature.
 fn is_text_of(tag: &[u8], text: &[u8], meter: &mut Meter) -> bool
     requires { length tag.now ≤ 64 }
     ensures ok { IsTrue result ↔ (text.now ≡ base64url tag.now) }
@@ -55,7 +55,8 @@ fn is_signature(key: &Key, input: &[u8], text: &[u8], meter: &mut Meter) -> bool
         × (text.now ≡ base64url (hmac_of (algorithm_of (alg_of key.now)) k input.now))) }
     ensures cost { IsTagWithin (algorithm_of (alg_of key.now)) (length input.now)
         → meter.new ≡ raised meter.old
-        (tag_blocks (algorithm_of (alg_of key.now)) (length input.now)) (hash_len (alg_of key.now)) }
+        (tag_blocks (algorithm_of (alg_of key.now)) (length input.now))
+        (hash_len (alg_of key.now)) }
     ensures unchanged { (IsTagWithin (algorithm_of (alg_of key.now)) (length input.now) → ⊥)
         → meter.new ≡ meter.old }
 {

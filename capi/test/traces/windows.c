@@ -93,6 +93,16 @@ static void tags(uint32_t n, size_t l, size_t m) {
                     yz_hmac_update(&context, a, m) | yz_hmac_final(&context, out, len));
 }
 
+/* A wrong token, whose text is public: the same in each run, under keys that differ. */
+static void tokens(uint32_t n, size_t l, size_t m) {
+    static char token[8 + YZ_BASE64_LEN(YZ_MAX_OUTPUT_LEN)] = "e30.e30.";
+    size_t len = YZ_BASE64_LEN(yz_output_len(n)), payload_len;
+    if (n == YZ_SHA1 || l < yz_output_len(n)) return;
+    memset(token + 8, 'A', len);
+    WINDOW("a wrong token", YZ_UNSPECIFIED,
+           status = yz_jws_verify(n, a, l, token, 8 + len, out, sizeof out, &payload_len));
+}
+
 static void derivations(uint32_t n, size_t l, size_t m) {
     size_t len = yz_output_len(n);
     WINDOW("HKDF", YZ_OK, status = yz_hkdf(n, a, l, b, m, a, m, out, 2 * len + 1));
@@ -143,6 +153,7 @@ int main(int count, char **words) {
             comparisons(n, LEN[i]);
             if (n == YZ_SHA512_256) continue;
             tags(n, LEN[i], other(i));
+            tokens(n, LEN[i], other(i));
             derivations(n, LEN[i], other(i));
         }
     planted();

@@ -24,7 +24,8 @@ NOT_COMPILED = r"CompileError"
 DIFFERENT = r"the modules differ: yz_\w+\(.*\) (answers|leaves)"
 TRAPPED = r"RuntimeError: unreachable"
 OUT_OF_BOUNDS = r"RuntimeError: memory access out of bounds"
-DIFFERENT_OR_OUT = f"{DIFFERENT}|{OUT_OF_BOUNDS}"
+# A trap of any kind: the right module has none.
+DIFFERENT_OR_TRAPPED = f"{DIFFERENT}|RuntimeError"
 
 # What an edit does, the text that it replaces, which stands once, the new one, and how it is found.
 FORMS = [
@@ -43,13 +44,13 @@ FORMS = [
     ("a load of 64 bits as one of 32", "op(code, alignment, offset)",
      "op(0x35 if code == 0x29 else code, min(alignment, 2), offset)", DIFFERENT),
     ("a store of 64 bits as one of 32", "op(code, alignment, offset)",
-     "op(0x3E if code == 0x37 else code, min(alignment, 2), offset)", DIFFERENT_OR_OUT),
+     "op(0x3E if code == 0x37 else code, min(alignment, 2), offset)", DIFFERENT_OR_TRAPPED),
     ("a copy's source and length exchanged",
      "op(GET, between) + op(GET, self.length) + op(MANY, COPY, 0, 0)",
      "op(GET, self.length) + op(GET, between) + op(MANY, COPY, 0, 0)", OUT_OF_BOUNDS),
     ("a fill's byte and length exchanged",
      "op(GET, between) + op(GET, self.length) + op(MANY, FILL, 0)",
-     "op(GET, self.length) + op(GET, between) + op(MANY, FILL, 0)", DIFFERENT_OR_OUT),
+     "op(GET, self.length) + op(GET, between) + op(MANY, FILL, 0)", DIFFERENT_OR_TRAPPED),
     ("an export dropped", "vector([*kept.values()])", "vector([*kept.values()][:-1])",
      r"the modules differ: exports"),
     ("a body dropped that is reached", "left += bodies[index].calls", "left += []", TRAPPED),

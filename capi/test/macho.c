@@ -2,8 +2,8 @@
 /* Runs the code of a dylib for macOS on Linux: loads the file that YEZDOPIN_DYLIB names, and
  * answers each call of the header by the dylib's function of that name. Both systems pass arguments
  * alike on one kind of processor. The loader knows only what this library needs: segments, names,
- * pointers to what it takes of others, and what is to run first. calls.h has X(NAME) for each
- * call. */
+ * addresses in its own data, pointers to what it takes of others, and what is to run first. calls.h
+ * has X(NAME) for each call. */
 #include <fcntl.h>
 #include <stdint.h>
 #include <stdio.h>
@@ -16,6 +16,7 @@
 /* As <mach-o/loader.h> and <mach-o/nlist.h> of macOS have them. */
 #define MAGIC 0xfeedfacfu
 enum { OF_DYLIB = 6 };
+#define DYLD_INFO 0x80000022u
 enum { SYMBOLS = 2, INDIRECT = 0xb, SEGMENT = 0x19 }; /* kinds of commands */
 enum { NON_LAZY_POINTERS = 6, LAZY_POINTERS = 7, STARTS = 9, KIND = 0xff }; /* of sections */
 enum { DEFINED_AND_SHOWN = 0xf, NAME_KIND = 0x1f };
@@ -42,6 +43,9 @@ typedef struct {
 typedef struct {
     uint32_t kind, size, others[12], first, count;
 } indirect_command;
+typedef struct {
+    uint32_t kind, size, addresses, len;
+} info_command;
 typedef struct {
     uint32_t text;
     uint8_t kind, section;
@@ -111,6 +115,57 @@ static void load_segments(void) {
         memcpy(memory + it->address, file + it->offset, it->bytes);
 }
 
+/* A number of seven bits a byte, the lowest first. */
+static uint64_t number(const uint8_t **at) {
+    uint64_t made = 0;
+    unsigned bits = 0;
+    do made |= (uint64_t)(**at & 0x7f) << bits, bits += 7;
+    while (*(*at)++ & 0x80);
+    return made;
+}
+
+static uint64_t address_of_segment(unsigned index) {
+    const segment *it = next(SEGMENT, NULL);
+    while (it && index--) it = next(SEGMENT, it);
+    if (!it) refuse("an address is in no segment");
+    return it->address;
+}
+
+/* Adds where the segments are to `count` addresses in them, with a gap behind each. */
+static uint64_t moved(uint64_t place, uint64_t count, uint64_t gap) {
+    for (; count; count--, place += sizeof(uint64_t) + gap) {
+        uint64_t address;
+        memcpy(&address, memory + place, sizeof address);
+        address += (uint64_t)memory;
+        memcpy(memory + place, &address, sizeof address);
+    }
+    return place;
+}
+
+/* Moves all addresses, by the codes of <mach-o/loader.h>, REBASE_OPCODE_... */
+static void move_addresses(void) {
+    const info_command *info = next(DYLD_INFO, NULL);
+    if (!info) refuse("there is no list of addresses");
+    const uint8_t *at = file + info->addresses, *end = at + info->len;
+    uint64_t place = 0, count;
+    while (at < end) {
+        unsigned code = *at & 0xf0, small = *at & 0x0f;
+        at++;
+        switch (code) {
+        case 0x00: return;
+        case 0x10: break;
+        case 0x20: place = address_of_segment(small), place += number(&at); break;
+        case 0x30: place += number(&at); break;
+        case 0x40: place += small * sizeof place; break;
+        case 0x50: place = moved(place, small, 0); break;
+        case 0x60: place = moved(place, number(&at), 0); break;
+        case 0x70: place = moved(place, 1, 0), place += number(&at); break;
+        case 0x80: count = number(&at), place = moved(place, count, number(&at)); break;
+        default: refuse("a code of the list of addresses is unknown");
+        }
+    }
+}
+
 /* What the dylib takes of other libraries. dyld_stub_binder is never called: all is bound. */
 static void *taken(const char *name) {
     if (!strcmp(name, "_memcpy")) return (void *)memcpy;
@@ -170,6 +225,7 @@ __attribute__((constructor)) static void load(void) {
     indirect = next(INDIRECT, NULL);
     if (!names || !indirect) refuse("the dylib has no names");
     load_segments();
+    move_addresses();
     for_sections(bind_section);
     find_calls();
     /* macOS numbers reading, writing and running as Linux does. */

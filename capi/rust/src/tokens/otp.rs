@@ -38,7 +38,7 @@ pub enum Digits {
 const MAX_DIGITS: usize = Digits::Eight as usize;
 
 /// The bytes that a server and a device share, and the algorithm of their passwords. RFC 4226
-/// (section 4, R6) asks for 16 bytes and more. Debug shows the algorithm alone.
+/// (section 4) asks for 16 bytes and more. Debug shows the algorithm alone.
 #[derive(Clone, Copy)]
 pub struct Key<'a> {
     algorithm: hmac::Algorithm,

@@ -13,11 +13,10 @@
 
 pub(crate) mod context;
 pub(crate) mod key;
-pub(crate) mod number;
 pub(crate) mod tag_context;
 mod words;
 
+pub use crate::digest::algorithm::{digest_of_number, number_of_digest};
 pub use crate::raw::context::RawContext;
 pub use crate::raw::key::RawKey;
-pub use crate::raw::number::{digest_of_number, number_of_digest};
 pub use crate::raw::tag_context::RawTagContext;

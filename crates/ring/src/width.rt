@@ -26,10 +26,7 @@
 //!
 //! The imports of this example stand in `crates/ring_examples/src/wide.rt`.
 
-ghost use Rattle.std.specs.Prelude.{◌≡◌, ℕ, ◌<◌, ◌≤◌};
-ghost use Rattle.ring.specs.Prelude.{CanRunTogether};
-
-use crate::digest::algorithm::{Algorithm, AlgorithmId};
+ghost use Rattle.std.specs.Prelude.{◌≡◌};
 
 // A crate can't ask which vectors its build has, so a caller names their bits as a const argument:
 // the linker then drops what the others would run.
@@ -45,23 +42,3 @@ pub fn widths_are_in_bits()
     ensures sse { SSE ≡ 128 }
     ensures avx2 { AVX2 ≡ 256 }
 {}
-
-// How many of those that are left run side by side next: as many as a vector has words. Two words
-// of 64 bits are no faster than one after the other.
-pub(crate) fn lanes_for<const VECTOR_BITS: usize>(algorithm: Algorithm, left: usize) -> usize
-    requires { 0 < left }
-    ensures some { 0 < result }
-    ensures within { result ≤ left }
-    ensures together { CanRunTogether VECTOR_BITS algorithm result }
-{
-    let has_short_words = match algorithm.id {
-        AlgorithmId::Sha1 | AlgorithmId::Sha256 => true,
-        AlgorithmId::Sha384 | AlgorithmId::Sha512 | AlgorithmId::Sha512_256 => false,
-    };
-    match has_short_words {
-        true if VECTOR_BITS >= AVX2 && left >= 8 => 8,
-        true if VECTOR_BITS >= SSE && left >= 4 => 4,
-        false if VECTOR_BITS >= AVX2 && left >= 4 => 4,
-        _ => 1,
-    }
-}

@@ -1,11 +1,12 @@
 // SPDX-License-Identifier: ISC
-//! The five algorithms and their lengths.
+//! The five algorithms, their lengths and their numbers.
 
 ghost use Rattle.std.specs.Prelude.{◌≡◌, ◌↔◌, ◌≤◌, ◌-◌, IsTrue, Some, length, replicate};
 ghost use Rattle.ring_core.specs.Sha1 as sha1;
 ghost use Rattle.ring_core.specs.Prelude.{block_step, family_256, family_512};
 ghost use Rattle.ring.specs.Prelude.{AreSquareRoots, IsMessageWithin, block_function, block_len};
-ghost use Rattle.ring.specs.Prelude.{chaining_len, chaining_words, initial_words, is_state_of};
+ghost use Rattle.ring.specs.Prelude.{chaining_len, chaining_words, digest_named, initial_words};
+ghost use Rattle.ring.specs.Prelude.{is_state_of};
 ghost use Rattle.ring.specs.Prelude.{length_len, max_input_len, name_of, output_len, row, sha1_row};
 ghost use Rattle.ring.specs.Prelude.{sha256_row, sha384_row, sha512_256_row, sha512_row};
 ghost use Rattle.ring.specs.Prelude.{spare_words, word_count, words};
@@ -250,6 +251,33 @@ pub fn constants_are_their_rows()
     ensures sha384_words { AreSquareRoots 64 8 (initial_words SHA384) }
     ensures sha512_words { AreSquareRoots 64 0 (initial_words SHA512) }
 {}
+
+/// The digest algorithm of `number`: 1 to 5, in the order of the constants, and else `None`.
+pub fn digest_of_number(number: u32) -> Option<Algorithm>
+    ensures { result ≡ digest_named number }
+{
+    match number {
+        1 => Some(SHA1_FOR_LEGACY_USE_ONLY),
+        2 => Some(SHA256),
+        3 => Some(SHA384),
+        4 => Some(SHA512),
+        5 => Some(SHA512_256),
+        _ => None,
+    }
+}
+
+/// The number of `algorithm`.
+pub fn number_of_digest(algorithm: &Algorithm) -> u32
+    ensures { digest_named result ≡ Some algorithm.now }
+{
+    match algorithm.id {
+        AlgorithmId::Sha1 => 1,
+        AlgorithmId::Sha256 => 2,
+        AlgorithmId::Sha384 => 3,
+        AlgorithmId::Sha512 => 4,
+        AlgorithmId::Sha512_256 => 5,
+    }
+}
 
 /// Writes the name: `SHA1`, `SHA256`, `SHA384`, `SHA512` or `SHA512_256`.
 impl fmt::Debug for Algorithm {

@@ -17,10 +17,11 @@ use crate::digest::context::digest_counted;
 use crate::digest::dynstate::{
     DynState, OUTPUT_ROOM, Output, StateWord, long_output, short_output,
 };
-use crate::digest::lanes::algorithms::{RunBlocks, Sha1, Sha256, Sha512, by_lanes};
+use crate::digest::lanes::algorithms::{
+    InVector, LaneStates, RunBlocks, Sha1, Sha256, Sha512, by_lanes, lanes_for,
+};
 use crate::digest::lanes::blocks::{Blocks, Padded, fewest_blocks, run_lanes};
-use crate::digest::lanes::states::{InVector, LaneStates};
-use crate::width::{AVX2, SSE, lanes_for};
+use crate::width::{AVX2, SSE};
 use ring_core::cost::Meter;
 use ring_core::error::Unspecified;
 use ring_core::polyfill::slice::write_at;

@@ -14,10 +14,11 @@ ghost use Rattle.ring.specs.Prelude.{UpdatesEach, update_each_blocks, word_count
 use crate::digest::algorithm::{Algorithm, AlgorithmId};
 use crate::digest::context::Context;
 use crate::digest::dynstate::DynState;
-use crate::digest::lanes::algorithms::{RunBlocks, Sha1, Sha256, Sha512, by_lanes};
+use crate::digest::lanes::algorithms::{
+    InVector, LaneStates, MAX_LANES, RunBlocks, Sha1, Sha256, Sha512, by_lanes, lanes_for,
+};
 use crate::digest::lanes::blocks::{Whole, fewest_blocks, run_lanes};
-use crate::digest::lanes::states::{InVector, LaneStates, MAX_LANES};
-use crate::width::{AVX2, SSE, lanes_for};
+use crate::width::{AVX2, SSE};
 use ring_core::cost::Meter;
 use ring_core::error::Unspecified;
 use std::simd::{u32x4, u32x8, u64x4};

@@ -11,7 +11,7 @@ ghost use Rattle.ring.specs.Prelude.{VerifiesEach, bytes_at};
 ghost use Rattle.ring.specs.Prelude.{derive_each_blocks, dk_at, hmac_digest, key_algorithm};
 ghost use Rattle.ring.specs.Prelude.{key_blocks, max_input_len, pbkdf2_digest, raised, sum_below};
 
-use crate::digest::lanes::states::MAX_LANES;
+use crate::digest::lanes::algorithms::MAX_LANES;
 use crate::hmac::Key;
 use crate::limits::can_derive_by;
 use crate::pbkdf2::algorithm::Algorithm;

@@ -13,12 +13,14 @@ ghost use Rattle.ring.specs.Prelude.{next_round, nth_round, raised, round_at, su
 
 use crate::digest::algorithm::{Algorithm, AlgorithmId};
 use crate::digest::dynstate::{DynState, OUTPUT_ROOM, Output};
-use crate::digest::lanes::algorithms::{DigestBlock, Sha1, Sha256, Sha384, Sha512, Sha512_256};
-use crate::digest::lanes::states::{InVector, LaneStates, MAX_LANES, OneLane};
+use crate::digest::lanes::algorithms::{
+    DigestBlock, InVector, LaneStates, MAX_LANES, OneLane, Sha1, Sha256, Sha384, Sha512,
+    Sha512_256, lanes_for,
+};
 use crate::hmac::Key;
 use crate::pbkdf2::iterates::{bytes_of, first_iterate, xor_iterates};
 use crate::pbkdf2::receiver::Receiver;
-use crate::width::{AVX2, lanes_for};
+use crate::width::AVX2;
 use ring_core::cost::Meter;
 use std::num::{NonZeroU32, Wrapping};
 use std::simd::{u32x4, u32x8, u64x4};

@@ -15,11 +15,10 @@ ghost use Rattle.ring.specs.Prelude.{raised, raw_chaining, raw_digest_with, raw_
 ghost use Rattle.ring.specs.Prelude.{RawFinishes, RawUpdates, whole_blocks};
 ghost use Rattle.ring.specs.declared.digest.algorithm.Algorithm.{Algorithm};
 
-use crate::digest::algorithm::{Algorithm, MAX_BLOCK_LEN};
+use crate::digest::algorithm::{Algorithm, MAX_BLOCK_LEN, digest_of_number, number_of_digest};
 use crate::digest::block_context::{BlockContext, Digest};
 use crate::digest::context::Context;
 use crate::digest::dynstate::DynState;
-use crate::raw::number::{digest_of_number, number_of_digest};
 use crate::raw::words::{
     block_of, halves, joined, long_block_of, numbers_of_block, short_block_of,
 };

@@ -8,8 +8,8 @@ ghost use Rattle.ring.specs.Prelude.{Algorithm, AreWords, IsNoKey, KeyStandsFor,
 ghost use Rattle.ring.specs.Prelude.{digest_named, inner_words, key_algorithm, outer_words};
 ghost use Rattle.ring.specs.Prelude.{raw_chaining, raw_tag_under, tag_under};
 
+use crate::digest::algorithm::{digest_of_number, number_of_digest};
 use crate::hmac::key::Key;
-use crate::raw::number::{digest_of_number, number_of_digest};
 use crate::raw::words::{block_of, numbers_of_block};
 
 /// The numbers of a key: the chaining words after each of its two masked blocks.

@@ -13,10 +13,9 @@ ghost use Rattle.ring.specs.Prelude.{last_blocks, padded_blocks, raised, signing
 ghost use Rattle.ring.specs.Prelude.{RawTagFinishes, RawTagUpdates, whole_blocks};
 ghost use Rattle.ring.specs.declared.digest.algorithm.Algorithm.{Algorithm};
 
-use crate::digest::algorithm::Algorithm;
+use crate::digest::algorithm::{Algorithm, digest_of_number};
 use crate::hmac::context::{Context, Tag};
 use crate::raw::context::RawContext;
-use crate::raw::number::digest_of_number;
 use crate::raw::words::{block_of, joined, numbers_of_block};
 use ring_core::cost::Meter;
 use ring_core::error::Unspecified;

@@ -8,8 +8,7 @@ ghost use Rattle.ring.specs.Prelude.{block_len, message_at, padded, padded_block
 ghost use Rattle.ring.specs.Prelude.{word_count};
 
 use crate::digest::algorithm::Algorithm;
-use crate::digest::lanes::algorithms::RunBlocks;
-use crate::digest::lanes::states::{LaneStates, MAX_LANES};
+use crate::digest::lanes::algorithms::{LaneStates, MAX_LANES, RunBlocks};
 use crate::digest::padding::{MAX_TAIL_LEN, write_tail};
 use ring_core::cost::Meter;
 

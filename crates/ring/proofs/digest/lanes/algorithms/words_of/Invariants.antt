@@ -2,7 +2,7 @@
 use Rattle.std.proofs.Common.{◌≡◌, ℕ, ◌<◌, get_or, length, map}
 use Rattle.ring_core.specs.Prelude.{array_at}
 use Rattle.ring.specs.Prelude.{DynState, words}
-use Rattle.ring.proofs.digest.lanes.states.words_of.Given as goal
+use Rattle.ring.proofs.digest.lanes.algorithms.words_of.Given as goal
 
 -- the words of the first i states are there
 abbrev pub invariant-lanes : goal.invariant-lanes

@@ -3,7 +3,7 @@ use Rattle.std.proofs.Common.{◌≡◌, length, map, rules}
 use Rattle.std.proofs.Math.ListN.{length-map}
 use Rattle.ring_core.proofs.Vectors.{xor_eight}
 use Rattle.ring_core.proofs.Mapped.{value_read}
-use Rattle.ring.proofs.digest.lanes.states.xored_words.Goals as goal
+use Rattle.ring.proofs.digest.lanes.algorithms.xored_words.Goals as goal
 
 pub returns : goal.returns
 returns g c =

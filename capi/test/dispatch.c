@@ -133,6 +133,11 @@ STAND_INS(yz_pbkdf2_derive, _wide,
 STAND_INS(yz_pbkdf2_verify, _wide,
           (uint32_t a, uint32_t b, in c, size_t d, in e, size_t f, in g, size_t h),
           N(a), N(b), N(c), N(d), N(e), N(f), N(g), N(h))
+STAND_INS(yz_password_hash_new, ,
+          (uint32_t a, uint32_t b, in c, size_t d, in e, size_t f, char *g, size_t h, size_t *i),
+          N(a), N(b), N(c), N(d), N(e), N(f), N(g), N(h), N(i))
+STAND_INS(yz_password_hash_verify, , (const char *a, size_t b, in c, size_t d, uint32_t e),
+          N(a), N(b), N(c), N(d), N(e))
 STAND_INS(yz_merkle_leaf, , (in a, size_t b, yz_merkle_hash *c), N(a), N(b), N(c))
 STAND_INS(yz_merkle_verify_inclusion, ,
           (const_hash a, uint64_t b, uint64_t c, const_hash d, size_t e, const_hash f),
@@ -164,11 +169,12 @@ static const struct {
     {"yz_hkdf", "nplplplpl"}, {"yz_hkdf_extract", "nplplpl"}, {"yz_hkdf_expand", "nplplpl"},
     {"yz_hkdf_expand_label", "nplplplpl"},
     {"yz_pbkdf2_derive", "nlplplpo"}, {"yz_pbkdf2_verify", "nlplplpo"},
+    {"yz_password_hash_new", "llplplpls"}, {"yz_password_hash_verify", "plpll"},
     {"yz_merkle_leaf", "plh"}, {"yz_merkle_verify_inclusion", "hllhlh"},
     {"yz_merkle_verify_consistency", "lhlhhl"}, {"yz_merkle_root", "hlh"},
     {"yz_merkle_inclusion_path", "hllhls"}, {"yz_merkle_consistency_path", "hllhls"},
 };
-enum { NUM_CALLS = sizeof CALLS / sizeof *CALLS, EACH = 3, PBKDF2 = 21, TREES = 23 };
+enum { NUM_CALLS = sizeof CALLS / sizeof *CALLS, EACH = 3, PBKDF2 = 21, PASSWORDS = 23 };
 
 static yz_digest_context digest;
 static yz_hmac_context tag;
@@ -210,11 +216,13 @@ static yz_status call(int which, uint32_t n, size_t out_len) {
     case 20: return yz_hkdf_expand_label(n, AT(1), 2, AT(3), 4, AT(5), 6, AT(7), 8);
     case 21: return yz_pbkdf2_derive(n, 1, AT(2), 3, AT(4), 5, AT(6), out_len);
     case 22: return yz_pbkdf2_verify(n, 1, AT(2), 3, AT(4), 5, AT(6), out_len);
-    case 23: return yz_merkle_leaf(AT(0), 1, HASH(2));
-    case 24: return yz_merkle_verify_inclusion(HASH(0), 1, 2, HASH(3), 4, HASH(5));
-    case 25: return yz_merkle_verify_consistency(0, HASH(1), 2, HASH(3), HASH(4), 5);
-    case 26: return yz_merkle_root(HASH(0), 1, HASH(2));
-    case 27: return yz_merkle_inclusion_path(HASH(0), 1, 2, HASH(3), 4, &written_size);
+    case 23: return yz_password_hash_new(0, 1, AT(2), 3, AT(4), 5, TEXT_AT(6), 7, &written_size);
+    case 24: return yz_password_hash_verify(TEXT_AT(0), 1, AT(2), 3, 4);
+    case 25: return yz_merkle_leaf(AT(0), 1, HASH(2));
+    case 26: return yz_merkle_verify_inclusion(HASH(0), 1, 2, HASH(3), 4, HASH(5));
+    case 27: return yz_merkle_verify_consistency(0, HASH(1), 2, HASH(3), HASH(4), 5);
+    case 28: return yz_merkle_root(HASH(0), 1, HASH(2));
+    case 29: return yz_merkle_inclusion_path(HASH(0), 1, 2, HASH(3), 4, &written_size);
     default: return yz_merkle_consistency_path(HASH(0), 1, 2, HASH(3), 4, &written_size);
     }
 }
@@ -266,8 +274,8 @@ static const struct {
     const char *work;
     size_t rounds; /* of output of PBKDF2, or messages */
 } ROWS[] = {{0, 2, "", 1}, {EACH, EACH, ": up to 3 messages", 3}, {EACH, EACH, ": more", 4},
-            {4, 16, "", 1}, {17, 20, "", 1}, {PBKDF2, PBKDF2 + 1, ": one round of output", 1},
-            {PBKDF2, PBKDF2 + 1, ": 2 or 3 rounds", 3}, {PBKDF2, PBKDF2 + 1, ": more", 4}};
+            {4, 16, "", 1}, {17, 20, "", 1}, {PBKDF2, PBKDF2 + 1, ": up to 3 rounds of output", 3},
+            {PBKDF2, PBKDF2 + 1, ": more", 4}};
 
 /* Which code the calls of a row get: SHA instructions or a build. */
 static void print_cell(size_t row, uint32_t n) {
@@ -328,13 +336,10 @@ static void each_loss(void) {
 
 /* Which build a call is wanted to get. */
 static int wanted_of(int which, uint32_t n, size_t out_len, bool has_v3, bool has_sha) {
-    if (which >= TREES) return has_v3 && !has_sha ? BUILD[DIGEST][YZ_SHA256] : 2;
-    if (!has_v3 || n < YZ_SHA1 || n > YZ_SHA512_256) return 2;
-    size_t round = which == EACH ? 1 : yz_output_len(n);
-    bool is_alone = (which != EACH && which < PBKDF2) || out_len <= 3 * round;
-    if (has_sha && n <= YZ_SHA256 && is_alone) return 2;
-    if (which >= PBKDF2 && out_len <= round) return BUILD[PBKDF2_ROUND][n];
-    return 3;
+    size_t most_alone = 3 * (which == EACH ? 1 : yz_output_len(n));
+    bool is_alone = (which != EACH && which < PBKDF2) || out_len <= most_alone;
+    bool takes_sha = which >= PASSWORDS || (n <= YZ_SHA256 && is_alone);
+    return has_v3 && !(has_sha && takes_sha) ? 3 : 2;
 }
 
 /* Each call under each algorithm, and under numbers of none, at lengths around some rounds: of what
@@ -399,7 +404,7 @@ static void try_all(void) {
     refused("", true);
     refused("00", true);
     each_call();
-    if (!faults) printf("the dispatcher chooses x86-64-v%d where it is the faster\n", wanted());
+    if (!faults) printf("the dispatcher chooses x86-64-v%d, or the SHA instructions\n", wanted());
 }
 #endif
 

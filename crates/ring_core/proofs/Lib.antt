@@ -17,3 +17,4 @@ pub mod ChunkFolds
 pub mod ByteOrder
 pub mod Sha2Instructions
 pub mod Sha1Instructions
+pub mod Kernel

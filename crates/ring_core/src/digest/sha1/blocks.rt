@@ -281,11 +281,8 @@ pub fn sha1_block_data_order_counted(
     blocks: AsChunks<'_, u8, 64>,
     meter: &mut Meter,
 )
-    ensures words { take 5 (map word_32 state.new)
-        ≡ blocks_from (take 5 (map word_32 state.old))
-        (chunk_items blocks.entry) (chunk_total blocks.entry) }
-    ensures rest { drop 5 state.new ≡ drop 5 state.old }
-    ensures cost { meter.new ≡ raised meter.old (chunk_total blocks.entry) 0 }
+    ensures { RunsSha1 state.old state.new
+        (chunk_items blocks.entry) (chunk_total blocks.entry) meter.old meter.new }
 {
     if x86::are_there() {
         by_instruction::run_blocks::<X86>(state, blocks, meter)
@@ -322,11 +319,7 @@ pub fn sha1_block_of_words_counted(
     padding: &[Wrapping<u32>; 16],
     meter: &mut Meter,
 )
-    ensures words { (b : List ℕ)
-        → IsBlockOf 32 5 (map word_32 front.now) (map word_32 padding.now) b
-        → take 5 (map word_32 state.new) ≡ block_step (take 5 (map word_32 state.old)) b }
-    ensures rest { drop 5 state.new ≡ drop 5 state.old }
-    ensures cost { meter.new ≡ raised meter.old 1 0 }
+    ensures { RunsSha1Words state.old state.new front.now padding.now meter.old meter.new }
 {
     if x86::are_there() {
         by_instruction::run_words::<X86>(state, front, padding, meter)

@@ -6,7 +6,7 @@
 ghost use Rattle.std.specs.Prelude.{◌≡◌, ℕ, ◌+◌, ◌*◌, ◌<◌, ◌≤◌, List, drop, length, map, take};
 ghost use Rattle.ring_core.specs.Prelude.{IsBefore, IsBlockOf, IsWindow, chunk_items, chunk_total};
 ghost use Rattle.ring_core.specs.Prelude.{raised, word_32, word_at};
-ghost use Rattle.ring_core.specs.Kernel.{RunsSha1};
+ghost use Rattle.ring_core.specs.Kernel.{RunsSha1, RunsSha1Words};
 ghost use Rattle.ring_core.specs.Sha1.{W, block_step, blocks_from, rounds_from, scheduled};
 
 use crate::cost::Meter;
@@ -276,11 +276,8 @@ pub fn sha1_block_data_order_by_window_counted(
     blocks: AsChunks<'_, u8, 64>,
     meter: &mut Meter,
 )
-    ensures words { take 5 (map word_32 state.new)
-        ≡ blocks_from (take 5 (map word_32 state.old))
-        (chunk_items blocks.entry) (chunk_total blocks.entry) }
-    ensures rest { drop 5 state.new ≡ drop 5 state.old }
-    ensures cost { meter.new ≡ raised meter.old (chunk_total blocks.entry) 0 }
+    ensures { RunsSha1 state.old state.new
+        (chunk_items blocks.entry) (chunk_total blocks.entry) meter.old meter.new }
 {
     run_blocks(&mut [Wrapping(0u32); 16], state, blocks, meter)
 }
@@ -298,11 +295,7 @@ pub fn sha1_block_of_words_by_window_counted(
     padding: &[Wrapping<u32>; 16],
     meter: &mut Meter,
 )
-    ensures words { (b : List ℕ)
-        → IsBlockOf 32 5 (map word_32 front.now) (map word_32 padding.now) b
-        → take 5 (map word_32 state.new) ≡ block_step (take 5 (map word_32 state.old)) b }
-    ensures rest { drop 5 state.new ≡ drop 5 state.old }
-    ensures cost { meter.new ≡ raised meter.old 1 0 }
+    ensures { RunsSha1Words state.old state.new front.now padding.now meter.old meter.new }
 {
     run_words::<Wrapping<u32>>(&mut [Wrapping(0u32); 16], state, front, padding, meter)
 }

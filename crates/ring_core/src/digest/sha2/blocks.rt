@@ -3,6 +3,7 @@
 //! and 6.4.2, steps 1 to 4). The schedule is made four words at a time and is sixteen words ahead
 //! of the rounds, which add ready sums of words and constants.
 ghost use Rattle.std.specs.Prelude.{◌≡◌, ℕ, ◌+◌, ◌*◌, ◌%◌, ◌<◌, ◌≤◌, List, [], ◌∷◌, map};
+ghost use Rattle.ring_core.specs.Kernel.{RunsSha2, RunsSha2Words};
 ghost use Rattle.ring_core.specs.Prelude.{HoldsSums, IsAhead, IsBlockOf, IsReady, W, block_len};
 ghost use Rattle.ring_core.specs.Prelude.{block_step, blocks_from, chunk_items, chunk_total};
 ghost use Rattle.ring_core.specs.Prelude.{family_256, family_512, four, older_four, raised};
@@ -230,10 +231,8 @@ fn run_blocks<S: ExtendByFour, const N: usize>(
     meter: &mut Meter,
 )
     requires { N ≡ block_len S.One.family }
-    ensures words { (i : ℕ) → map (S.lane i) state.new
-        ≡ blocks_from S.One.family (map (S.lane i) state.old)
-        (chunk_items blocks.entry) (chunk_total blocks.entry) }
-    ensures cost { meter.new ≡ raised meter.old (chunk_total blocks.entry) 0 }
+    ensures { RunsSha2 S.One.family (map (S.lane 0) state.old) (map (S.lane 0) state.new)
+        (chunk_items blocks.entry) (chunk_total blocks.entry) meter.old meter.new }
 {
     'each: for i in 0..blocks.len() {
         let block = &blocks[i];
@@ -257,10 +256,8 @@ fn run_words<S: ExtendByFour, const N: usize>(
     meter: &mut Meter,
 )
     requires { N ≤ 8 }
-    ensures words { (i : ℕ) (b : List ℕ)
-        → IsBlockOf S.One.bits N (map S.One.value front.now) (map S.One.value padding.now) b
-        → map (S.lane i) state.new ≡ block_step S.One.family (map (S.lane i) state.old) b }
-    ensures cost { meter.new ≡ raised meter.old 1 0 }
+    ensures { RunsSha2Words S.One.family N (map (S.lane 0) state.old) (map (S.lane 0) state.new)
+        (map S.One.value front.now) (map S.One.value padding.now) meter.old meter.new }
 {
     let first = four_of::<S, N>(front, padding, 0);
     let second = four_of::<S, N>(front, padding, 1);
@@ -276,10 +273,8 @@ pub fn block_data_order_32_counted(
     blocks: AsChunks<'_, u8, 64>,
     meter: &mut Meter,
 )
-    ensures words { words_32 state.new
-        ≡ blocks_from family_256 (words_32 state.old)
-        (chunk_items blocks.entry) (chunk_total blocks.entry) }
-    ensures cost { meter.new ≡ raised meter.old (chunk_total blocks.entry) 0 }
+    ensures { RunsSha2 family_256 (words_32 state.old) (words_32 state.new)
+        (chunk_items blocks.entry) (chunk_total blocks.entry) meter.old meter.new }
 {
     if x86::are_there() {
         by_instruction::run_blocks::<X86>(state, blocks, meter)
@@ -308,10 +303,8 @@ pub fn block_data_order_64_counted(
     blocks: AsChunks<'_, u8, 128>,
     meter: &mut Meter,
 )
-    ensures words { words_64 state.new
-        ≡ blocks_from family_512 (words_64 state.old)
-        (chunk_items blocks.entry) (chunk_total blocks.entry) }
-    ensures cost { meter.new ≡ raised meter.old (chunk_total blocks.entry) 0 }
+    ensures { RunsSha2 family_512 (words_64 state.old) (words_64 state.new)
+        (chunk_items blocks.entry) (chunk_total blocks.entry) meter.old meter.new }
 {
     if window::is_chosen() {
         block_data_order_64_by_window_counted(state, blocks, meter)
@@ -339,9 +332,8 @@ pub fn block_of_words_32_counted(
     padding: &[Wrapping<u32>; 16],
     meter: &mut Meter,
 )
-    ensures words { (b : List ℕ) → IsBlockOf 32 8 (words_32 front.now) (words_32 padding.now) b
-        → words_32 state.new ≡ block_step family_256 (words_32 state.old) b }
-    ensures cost { meter.new ≡ raised meter.old 1 0 }
+    ensures { RunsSha2Words family_256 8 (words_32 state.old) (words_32 state.new)
+        (words_32 front.now) (words_32 padding.now) meter.old meter.new }
 {
     if x86::are_there() {
         by_instruction::run_words::<X86>(state, front, padding, meter)
@@ -364,9 +356,8 @@ pub fn block_of_words_64_counted<const N: usize>(
     meter: &mut Meter,
 )
     requires { N ≤ 8 }
-    ensures words { (b : List ℕ) → IsBlockOf 64 N (words_64 front.now) (words_64 padding.now) b
-        → words_64 state.new ≡ block_step family_512 (words_64 state.old) b }
-    ensures cost { meter.new ≡ raised meter.old 1 0 }
+    ensures { RunsSha2Words family_512 N (words_64 state.old) (words_64 state.new)
+        (words_64 front.now) (words_64 padding.now) meter.old meter.new }
 {
     if window::is_chosen() {
         block_of_words_64_by_window_counted::<N>(state, front, padding, meter)

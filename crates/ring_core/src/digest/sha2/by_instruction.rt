@@ -3,6 +3,7 @@
 //! 6.2.2, steps 1 to 4), four rounds at a time, by a processor's instructions: written once for all
 //! processors.
 ghost use Rattle.std.specs.Prelude.{◌≡◌, ℕ, ◌+◌, ◌*◌, ◌<◌, ◌≤◌, List, [], ◌∷◌, length};
+ghost use Rattle.ring_core.specs.Kernel.{RunsSha2, RunsSha2Words};
 ghost use Rattle.ring_core.specs.Prelude.{IsBlockOf, W, add_state, block_step, blocks_from};
 ghost use Rattle.ring_core.specs.Prelude.{chunk_items, chunk_total, family_256, four, raised};
 ghost use Rattle.ring_core.specs.Prelude.{ready_sum, rounds_from, sixteen, words_32};
@@ -142,10 +143,8 @@ pub(crate) fn run_blocks<I: Sha256Instructions>(
     blocks: AsChunks<'_, u8, 64>,
     meter: &mut Meter,
 )
-    ensures words { words_32 state.new
-        ≡ blocks_from family_256 (words_32 state.old)
-        (chunk_items blocks.entry) (chunk_total blocks.entry) }
-    ensures cost { meter.new ≡ raised meter.old (chunk_total blocks.entry) 0 }
+    ensures { RunsSha2 family_256 (words_32 state.old) (words_32 state.new)
+        (chunk_items blocks.entry) (chunk_total blocks.entry) meter.old meter.new }
 {
     let mut vectors = I::pack(state);
     'each: for i in 0..blocks.len() {
@@ -164,10 +163,8 @@ pub(crate) fn run_words<I: Sha256Instructions>(
     padding: &[Word32; 16],
     meter: &mut Meter,
 )
-    ensures words { (b : List ℕ)
-        → IsBlockOf 32 8 (words_32 front.now) (words_32 padding.now) b
-        → words_32 state.new ≡ block_step family_256 (words_32 state.old) b }
-    ensures cost { meter.new ≡ raised meter.old 1 0 }
+    ensures { RunsSha2Words family_256 8 (words_32 state.old) (words_32 state.new)
+        (words_32 front.now) (words_32 padding.now) meter.old meter.new }
 {
     let vectors = run_block::<I>(I::pack(state), block_of_words(front, padding));
     *state = I::unpack(vectors);

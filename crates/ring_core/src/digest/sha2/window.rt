@@ -4,6 +4,7 @@
 //! sizes, and for words in lanes, each of a block of its own. Of one block each step computes both
 //! words at once, in the two lanes of a vector.
 ghost use Rattle.std.specs.Prelude.{◌≡◌, ℕ, ◌+◌, ◌*◌, ◌%◌, ◌<◌, ◌≤◌, List, length, map};
+ghost use Rattle.ring_core.specs.Kernel.{RunsSha2, RunsSha2Words};
 ghost use Rattle.ring_core.specs.Prelude.{IsBefore, IsBlockOf, IsWindow, W, block_len, block_step};
 ghost use Rattle.ring_core.specs.Prelude.{blocks_from, chunk_items, chunk_total, family_256};
 ghost use Rattle.ring_core.specs.Prelude.{family_512, raised, rounds_from, scheduled, word_at};
@@ -217,10 +218,8 @@ fn run_blocks<S: ExtendByTwo, const N: usize>(
 )
     requires some { 0 < S.LANES }
     requires whole { N ≡ block_len S.One.family }
-    ensures words { (i : ℕ) → map (S.lane i) state.new
-        ≡ blocks_from S.One.family (map (S.lane i) state.old)
-        (chunk_items blocks.entry) (chunk_total blocks.entry) }
-    ensures cost { meter.new ≡ raised meter.old (chunk_total blocks.entry) 0 }
+    ensures { RunsSha2 S.One.family (map (S.lane 0) state.old) (map (S.lane 0) state.new)
+        (chunk_items blocks.entry) (chunk_total blocks.entry) meter.old meter.new }
 {
     'each: for i in 0..blocks.len() {
         load_block(window, &blocks[i]); // step 1, to W(15)
@@ -260,10 +259,8 @@ pub fn block_data_order_32_by_window_counted(
     blocks: AsChunks<'_, u8, 64>,
     meter: &mut Meter,
 )
-    ensures words { words_32 state.new
-        ≡ blocks_from family_256 (words_32 state.old)
-        (chunk_items blocks.entry) (chunk_total blocks.entry) }
-    ensures cost { meter.new ≡ raised meter.old (chunk_total blocks.entry) 0 }
+    ensures { RunsSha2 family_256 (words_32 state.old) (words_32 state.new)
+        (chunk_items blocks.entry) (chunk_total blocks.entry) meter.old meter.new }
 {
     run_blocks(&mut [Wrapping(0u32); 16], state, blocks, meter)
 }
@@ -278,10 +275,8 @@ pub fn block_data_order_64_by_window_counted(
     blocks: AsChunks<'_, u8, 128>,
     meter: &mut Meter,
 )
-    ensures words { words_64 state.new
-        ≡ blocks_from family_512 (words_64 state.old)
-        (chunk_items blocks.entry) (chunk_total blocks.entry) }
-    ensures cost { meter.new ≡ raised meter.old (chunk_total blocks.entry) 0 }
+    ensures { RunsSha2 family_512 (words_64 state.old) (words_64 state.new)
+        (chunk_items blocks.entry) (chunk_total blocks.entry) meter.old meter.new }
 {
     run_blocks(&mut [Wrapping(0u64); 16], state, blocks, meter)
 }
@@ -297,9 +292,8 @@ pub fn block_of_words_32_by_window_counted(
     padding: &[Wrapping<u32>; 16],
     meter: &mut Meter,
 )
-    ensures words { (b : List ℕ) → IsBlockOf 32 8 (words_32 front.now) (words_32 padding.now) b
-        → words_32 state.new ≡ block_step family_256 (words_32 state.old) b }
-    ensures cost { meter.new ≡ raised meter.old 1 0 }
+    ensures { RunsSha2Words family_256 8 (words_32 state.old) (words_32 state.new)
+        (words_32 front.now) (words_32 padding.now) meter.old meter.new }
 {
     run_words::<Wrapping<u32>, 8>(&mut [Wrapping(0u32); 16], state, front, padding, meter)
 }
@@ -317,9 +311,8 @@ pub fn block_of_words_64_by_window_counted<const N: usize>(
     meter: &mut Meter,
 )
     requires { N ≤ 8 }
-    ensures words { (b : List ℕ) → IsBlockOf 64 N (words_64 front.now) (words_64 padding.now) b
-        → words_64 state.new ≡ block_step family_512 (words_64 state.old) b }
-    ensures cost { meter.new ≡ raised meter.old 1 0 }
+    ensures { RunsSha2Words family_512 N (words_64 state.old) (words_64 state.new)
+        (words_64 front.now) (words_64 padding.now) meter.old meter.new }
 {
     run_words::<Wrapping<u64>, N>(&mut [Wrapping(0u64); 16], state, front, padding, meter)
 }

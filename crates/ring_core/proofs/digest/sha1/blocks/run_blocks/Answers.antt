@@ -1,22 +1,13 @@
 -- SPDX-License-Identifier: ISC
-use Rattle.std.proofs.Common.{map, take, refl, sym, ◌∙◌}
-use Rattle.ring_core.specs.Prelude.{word_32}
-use Rattle.ring_core.specs.Sha1.{block_step}
-use Rattle.ring_core.proofs.ChunkFolds.{fold_chunks-next}
-use Rattle.ring_core.proofs.Costs.{raised-raised}
+use Rattle.std.proofs.Common.{refl, ◌∙◌}
+use Rattle.ring_core.proofs.Kernel.{runs-next}
 use Rattle.ring_core.proofs.digest.sha1.blocks.run_blocks.Goals as goal
 
 pub each-preserved : goal.each-preserved
 each-preserved c =
-    let h = take 5 (map word_32 c.args.state.now) in
-    let more = fold_chunks-next block_step 64 h c.args.blocks.items.now c.each.i in record {
-      words =
-          rw (
-            c.run_block.ensures.words _ c.read_four-first.ensures c.read_four-second.ensures
-                c.read_four-third.ensures c.read_four-fourth.ensures,
-            c.each.invariant.words,
-            c.index-block.ensures,
-          ) (sym more);
-      rest = c.run_block.ensures.rest ∙ c.each.invariant.rest;
-      cost = rw (c.add_block.ensures, c.each.invariant.cost, raised-raised) refl;
-    }
+    let run = c.run_block.ensures.words _ c.read_four-first.ensures c.read_four-second.ensures
+    c.read_four-third.ensures c.read_four-fourth.ensures in
+    let before = c.each.invariant in
+    let more = runs-next (record { words = before.words; cost = before.cost })
+    (rw (run, c.index-block.ensures) refl) c.add_block.ensures in
+    record { words = more.words; rest = c.run_block.ensures.rest ∙ before.rest; cost = more.cost }

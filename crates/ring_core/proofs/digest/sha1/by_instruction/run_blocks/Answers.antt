@@ -2,8 +2,9 @@
 use Rattle.std.proofs.Common.{◌∙◌, map, refl, rules, sym, take}
 use Rattle.ring_core.specs.Prelude.{word_32}
 use Rattle.ring_core.specs.Sha1.{block_step}
-use Rattle.ring_core.proofs.ChunkFolds.{fold_chunks-next, fold_chunks-none}
-use Rattle.ring_core.proofs.Costs.{raised-none, raised-raised}
+use Rattle.ring_core.proofs.ChunkFolds.{fold_chunks-none}
+use Rattle.ring_core.proofs.Costs.{raised-none}
+use Rattle.ring_core.proofs.Kernel.{runs-next}
 use Rattle.ring_core.proofs.Mapped.{first_five}
 use Rattle.ring_core.proofs.digest.sha1.by_instruction.run_blocks.Goals as goal
 
@@ -19,13 +20,5 @@ each-init g c =
 
 pub each-preserved : goal.each-preserved
 each-preserved g c =
-    let h = take 5 (map word_32 c.args.state.now) in
-    let more = fold_chunks-next block_step 64 h c.args.blocks.items.now c.each.i in record {
-      words =
-          rw (
-            c.run_block-words.ensures _ c.read_block.ensures,
-            c.each.invariant.words,
-            c.index.ensures,
-          ) (sym more);
-      cost = rw (c.add_block.ensures, c.each.invariant.cost, raised-raised) refl;
-    }
+    let run = c.run_block-words.ensures _ c.read_block.ensures in
+    runs-next c.each.invariant (rw (run, c.index.ensures) refl) c.add_block.ensures

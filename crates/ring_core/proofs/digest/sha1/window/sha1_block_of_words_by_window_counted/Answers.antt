@@ -2,5 +2,6 @@
 use Rattle.ring_core.proofs.digest.sha1.window as kernel
 use kernel.sha1_block_of_words_by_window_counted.Goals as goal
 
-pub returns-clause-words : goal.returns-clause-words
-returns-clause-words c = c.run_words.ensures.words 0
+pub returns : goal.returns
+returns c =
+    let run = c.run_words.ensures in record { words = run.words 0; rest = run.rest; cost = run.cost }

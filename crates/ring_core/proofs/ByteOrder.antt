@@ -7,10 +7,10 @@ use Rattle.std.specs.Simd.Lanes.{digits_l, number_l}
 use Rattle.ring_core.specs.Prelude.{big_endian, four, word_at}
 
 -- the lowest four bytes of a number, and the rest
-digit : (a b c d rest : ℕ) → a < 256 → b < 256 → c < 256 → d < 256
+digit : (a b c d rest : ℕ) → (a < 256) × (b < 256) × (c < 256) × (d < 256)
     → let n = a + 256 * (b + 256 * (c + 256 * (d + 256 * rest))) in
     (n % 2 ^ 32 ≡ big_endian (d ∷ c ∷ b ∷ a ∷ [])) × (n / 2 ^ 32 ≡ rest)
-digit a b c d rest fa fb fc fd = (omega arith, omega arith)
+digit a b c d rest (fa, fb, fc, fd) = (omega arith, omega arith)
 
 -- four words of sixteen bytes, each with its bytes in the other order
 words-swapped : (x : List ℕ) → 16 ≤ length x → ((i : ℕ) → slice_index x i < 256)
@@ -21,14 +21,14 @@ words-swapped : (x : List ℕ) → 16 ≤ length x → ((i : ℕ) → slice_inde
     ∷ b 11 ∷ b 10 ∷ b 9 ∷ b 8 ∷ b 15 ∷ b 14 ∷ b 13 ∷ b 12 ∷ []))
     ≡ word 0 ∷ word 1 ∷ word 2 ∷ word 3 ∷ []
 words-swapped (a ∷ b ∷ c ∷ d ∷ e ∷ f ∷ g ∷ h ∷ i ∷ j ∷ k ∷ l ∷ m ∷ n ∷ o ∷ p ∷ _) long fits =
-    let fourth = digit p o n m 0 (fits 15) (fits 14) (fits 13) (fits 12) in
+    let fourth = digit p o n m 0 (fits 15, fits 14, fits 13, fits 12) in
     let third = digit l k j i (number_l 256 (p ∷ o ∷ n ∷ m ∷ []))
-    (fits 11) (fits 10) (fits 9) (fits 8) in
+    (fits 11, fits 10, fits 9, fits 8) in
     let second = digit h g f e (number_l 256 (l ∷ k ∷ j ∷ i ∷ p ∷ o ∷ n ∷ m ∷ []))
-    (fits 7) (fits 6) (fits 5) (fits 4) in
+    (fits 7, fits 6, fits 5, fits 4) in
     let first = digit d c b a
     (number_l 256 (h ∷ g ∷ f ∷ e ∷ l ∷ k ∷ j ∷ i ∷ p ∷ o ∷ n ∷ m ∷ []))
-    (fits 3) (fits 2) (fits 1) (fits 0) in
+    (fits 3, fits 2, fits 1, fits 0) in
     rw (first.0, first.1, second.0, second.1, third.0, third.1, fourth.0) refl
 words-swapped _ long fits = absurd (omega arith)
 

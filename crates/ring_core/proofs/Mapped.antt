@@ -7,6 +7,8 @@ use Rattle.std.proofs.lemmas.Grind.{common_steps}
 use Rattle.std.proofs.lemmas.Bool.{ltb-true}
 use Rattle.std.proofs.Math.ListN.{get_or}
 use Rattle.std.proofs.Math.Nat.{add-mod-mod, mod-add-mod}
+use Rattle.std.specs.declared.num.Wrapping.{Wrapping}
+use Rattle.ring_core.specs.Prelude.{word_32}
 
 -- the number of a word that was read from n of them
 pub value_read : {X : Type 0} (f : X → ℕ) (xs : List X) (n : ℕ) → length xs ≡ n → (i : ℕ) (x : X)
@@ -25,21 +27,21 @@ pub first_five : {X : Type 0} (f : X → ℕ) (xs : List X) → length xs ≡ 8 
 first_five f (a ∷ b ∷ c ∷ d ∷ e ∷ g ∷ h ∷ i ∷ []) eight v w x y z = refl
 first_five f _ eight v w x y z = absurd (omega arith)
 
+-- the number of an item, which is that of 0 past the end
+abbrev pub number_at : List (Wrapping ℕ) → ℕ → ℕ
+number_at xs i = word_32 (get_or xs i (record { 0 = 0 }))
+
 -- the numbers of a list of five
-pub all_five : {X : Type 0} (f : X → ℕ) (xs : List X) → length xs ≡ 5 → (v w x y z : X)
-    → f (get_or xs 0 v) ∷ f (get_or xs 1 w) ∷ f (get_or xs 2 x) ∷ f (get_or xs 3 y)
-    ∷ f (get_or xs 4 z) ∷ [] ≡ map f xs
-all_five f (a ∷ b ∷ c ∷ d ∷ e ∷ []) five v w x y z = refl
-all_five f _ five v w x y z = absurd (omega arith)
+pub all_five : (xs : List (Wrapping ℕ)) → length xs ≡ 5 → let n = number_at xs in
+    n 0 ∷ n 1 ∷ n 2 ∷ n 3 ∷ n 4 ∷ [] ≡ map word_32 xs
+all_five (a ∷ b ∷ c ∷ d ∷ e ∷ []) five = refl
+all_five _ five = absurd (omega arith)
 
 -- the numbers of a list of eight
-pub all_eight : {X : Type 0} (f : X → ℕ) (xs : List X) → length xs ≡ 8
-    → (s t u v w x y z : X)
-    → f (get_or xs 0 s) ∷ f (get_or xs 1 t) ∷ f (get_or xs 2 u) ∷ f (get_or xs 3 v)
-    ∷ f (get_or xs 4 w) ∷ f (get_or xs 5 x) ∷ f (get_or xs 6 y) ∷ f (get_or xs 7 z) ∷ []
-    ≡ map f xs
-all_eight f (a ∷ b ∷ c ∷ d ∷ e ∷ g ∷ h ∷ i ∷ []) eight s t u v w x y z = refl
-all_eight f _ eight s t u v w x y z = absurd (omega arith)
+pub all_eight : (xs : List (Wrapping ℕ)) → length xs ≡ 8 → let n = number_at xs in
+    n 0 ∷ n 1 ∷ n 2 ∷ n 3 ∷ n 4 ∷ n 5 ∷ n 6 ∷ n 7 ∷ [] ≡ map word_32 xs
+all_eight (a ∷ b ∷ c ∷ d ∷ e ∷ g ∷ h ∷ i ∷ []) eight = refl
+all_eight _ eight = absurd (omega arith)
 
 -- the last three
 pub last_three : {X : Type 0} (xs : List X) (x y z : X) → length xs ≡ 8

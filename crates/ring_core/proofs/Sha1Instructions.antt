@@ -70,12 +70,12 @@ step-order n f r w e k =
     simp (add-mod-mod, mod-add-mod) (ap (λ (x : ℕ). x % n) (omega arith))
 
 -- the first round of SHA1RNDS4, with the variable e added to the word
-pub rnds4-first : (i t a b c d e w : ℕ) → IsOf i t
-    → sha1rnds4_first i (a ∷ b ∷ c ∷ d ∷ []) (add_words 32 w e)
-    ≡ round (a ∷ b ∷ c ∷ d ∷ e ∷ []) t w
+pub rnds4-first : (i t : ℕ) (v : List ℕ) (w : ℕ) → IsOf i t → let x = slice_index v in
+    sha1rnds4_first i (x 0 ∷ x 1 ∷ x 2 ∷ x 3 ∷ []) (add_words 32 w (x 4)) ≡ round v t w
 unfolding sha1rnds4_first round
-rnds4-first i t a b c d e w of =
-    rw (← function-of i t b c d of, ← constant-of i t of, first-order) refl
+rnds4-first i t v w of =
+    let x = slice_index v in
+    rw (← function-of i t (x 1) (x 2) (x 3) of, ← constant-of i t of, first-order) refl
 
 -- each other
 pub rnds4-next : (i t : ℕ) (v : List ℕ) (w : ℕ) → IsOf i t → sha1rnds4_next i v w ≡ round v t w
@@ -95,19 +95,23 @@ sha1hash-round i t v w of =
     rw (← function-of i t (x 1) (x 2) (x 3) of, ← constant-of i t of, step-order) refl
 
 -- the rounds of SHA1RNDS4 from the variable e, where it is added to the word, as 0
-pub rnds4-all : (i : ℕ) (a b c d w0 w1 w2 w3 : ℕ) → i < 4 → w0 < 2 ^ 32
-    → let r = λ (v : List ℕ) (w : ℕ). round v (20 * i) w in
+pub rnds4-all : (i : ℕ) (v ws : List ℕ) → i < 4 → slice_index ws 3 < 2 ^ 32
+    → let x = slice_index v in
+    let w = slice_index ws in
+    let r = λ (v : List ℕ) (w : ℕ). round v (20 * i) w in
     let next = sha1rnds4_next i in
-    next (next (next (sha1rnds4_first i (a ∷ b ∷ c ∷ d ∷ []) w0) w1) w2) w3
-    ≡ r (r (r (r (a ∷ b ∷ c ∷ d ∷ 0 ∷ []) w0) w1) w2) w3
-rnds4-all i a b c d w0 w1 w2 w3 below fits =
+    next (next (next (sha1rnds4_first i (x 3 ∷ x 2 ∷ x 1 ∷ x 0 ∷ []) (w 3)) (w 2)) (w 1)) (w 0)
+    ≡ r (r (r (r (x 3 ∷ x 2 ∷ x 1 ∷ x 0 ∷ 0 ∷ []) (w 3)) (w 2)) (w 1)) (w 0)
+rnds4-all i v ws below fits =
+    let x = slice_index v in
+    let w = slice_index ws in
     let of : IsOf i (20 * i) = record { below = below; from = omega arith; to = omega arith } in
     rw (
-      ← rnds4-first i (20 * i) a b c d 0 w0 of,
-      add-none w0 fits,
-      rnds4-next i (20 * i) _ w1 of,
-      rnds4-next i (20 * i) _ w2 of,
-      rnds4-next i (20 * i) _ w3 of,
+      ← rnds4-first i (20 * i) (x 3 ∷ x 2 ∷ x 1 ∷ x 0 ∷ 0 ∷ []) (w 3) of,
+      add-none (w 3) fits,
+      rnds4-next i (20 * i) _ (w 2) of,
+      rnds4-next i (20 * i) _ (w 1) of,
+      rnds4-next i (20 * i) _ (w 0) of,
     ) refl
 
 -- the order in which the parts of a word of the schedule stand under exclusive or
@@ -169,22 +173,22 @@ arm-next-sha1 x y z u fx fy fz fu =
     λ i. e0 i ∷ e1 i ∷ e2 i ∷ e3' i ∷ []
 
 -- four rounds, of which each is the next
-pub four-steps : (i : ℕ) (h b : List ℕ) (g : ℕ) → i < 4 → 5 * i ≤ g → g < 5 * i + 5
+pub four-steps : (i : ℕ) (h b : List ℕ) (g : ℕ) → (i < 4) × (5 * i ≤ g) × (g < 5 * i + 5)
     → {w0 w1 w2 w3 : ℕ} → w0 ∷ w1 ∷ w2 ∷ w3 ∷ [] ≡ four (W b) g
     → {v0 v1 v2 v3 v4 : List ℕ} → v0 ≡ rounds_from h b (4 * g)
-    → ((t : ℕ) → IsOf i t → v1 ≡ round v0 t w0) → ((t : ℕ) → IsOf i t → v2 ≡ round v1 t w1)
-    → ((t : ℕ) → IsOf i t → v3 ≡ round v2 t w2) → ((t : ℕ) → IsOf i t → v4 ≡ round v3 t w3)
+    → ((t : ℕ) → IsOf i t → (v1 ≡ round v0 t w0) × (v2 ≡ round v1 t w1) × (v3 ≡ round v2 t w2)
+    × (v4 ≡ round v3 t w3))
     → v4 ≡ rounds_from h b (4 * (g + 1))
-four-steps i h b g below from to words {v0} {v1} {v2} {v3} start e1 e2 e3 e4 =
+four-steps i h b g (below, from, to) words {v0} {v1} {v2} {v3} start steps =
     let at = λ (k : ℕ). ap (λ (l : List ℕ). slice_index l k) words in
     let t = 4 * g in
-    let of = λ (t : ℕ) (l : 20 * i ≤ t) (u : t < 20 * i + 20).
-    let is : IsOf i t = record { below = below; from = l; to = u } in is in
+    let step = λ (t : ℕ) (l : 20 * i ≤ t) (u : t < 20 * i + 20).
+    steps t (record { below = below; from = l; to = u }) in
     steps-four (λ v t. round v t (W b t)) (rounds-next h b) g start
-    (e1 t (of t (omega arith) (omega arith)) ∙ ap (round v0 t) (at 0))
-    (e2 (t + 1) (of (t + 1) (omega arith) (omega arith)) ∙ ap (round v1 (t + 1)) (at 1))
-    (e3 (t + 2) (of (t + 2) (omega arith) (omega arith)) ∙ ap (round v2 (t + 2)) (at 2))
-    (e4 (t + 3) (of (t + 3) (omega arith) (omega arith)) ∙ ap (round v3 (t + 3)) (at 3))
+    ((step t (omega arith) (omega arith)).0 ∙ ap (round v0 t) (at 0))
+    ((step (t + 1) (omega arith) (omega arith)).1 ∙ ap (round v1 (t + 1)) (at 1))
+    ((step (t + 2) (omega arith) (omega arith)).2 ∙ ap (round v2 (t + 2)) (at 2))
+    ((step (t + 3) (omega arith) (omega arith)).3 ∙ ap (round v3 (t + 3)) (at 3))
 
 -- the variables after SHA1RNDS4
 pub rnds4-variables : (i : ℕ) (abcd words : List ℕ)

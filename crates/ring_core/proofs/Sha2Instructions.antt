@@ -1,8 +1,8 @@
 -- SPDX-License-Identifier: ISC
 -- The steps of the processors' instructions for SHA-256 are the standard's.
 use Rattle.std.proofs.Common.{◌≡◌, ℕ, ◌+◌, ◌*◌, ◌%◌, ◌^◌, ◌<◌, List, [], ◌∷◌, slice_index, refl}
-use Rattle.std.proofs.Common.{ap, ◌∙◌, add-zero, arith, sym, length, map, nat_lt, true}
-use Rattle.std.proofs.Math.ListN.{get_or, length-map}
+use Rattle.std.proofs.Common.{ap, ◌∙◌, add-zero, arith, sym, map}
+use Rattle.std.proofs.Math.ListN.{get_or-map}
 use Rattle.std.proofs.Math.Nat.{add-mod-mod, mod-add-mod}
 use Rattle.std.specs.declared.num.Wrapping.{Wrapping}
 use Rattle.ring_core.specs.Instructions.{intel_round, sha256h, sha256h2, sha256hash}
@@ -11,7 +11,7 @@ use Rattle.ring_core.specs.Prelude.{W, add_words, constants_256, family_256, rea
 use Rattle.ring_core.specs.Prelude.{older_four, rounds_from, with_first_two, with_last_two}
 use Rattle.ring_core.specs.Prelude.{word_32, σ0, σ1}
 use Rattle.ring_core.proofs.FourWords.{plus-none}
-use Rattle.ring_core.proofs.Mapped.{value_read}
+use Rattle.ring_core.proofs.Mapped.{number_at}
 use Rattle.ring_core.proofs.Schedule.{steps-four}
 use Rattle.ring_core.proofs.Sha2Steps.{rounds-next}
 
@@ -43,11 +43,10 @@ pub intel-round-sum : (v : List ℕ) (k : ℕ) → k < 2 ^ 32 → round family_2
 intel-round-sum v k fits = sym (intel-round v k 0) ∙ ap (intel_round v) (add-none k fits)
 
 -- a word of a vector, from the list of its words
-pub word-read : {x : List ℕ} (xs : List (Wrapping ℕ)) → map word_32 xs ≡ x → length x ≡ 4
-    → (i : ℕ) (d : Wrapping ℕ) → nat_lt i 4 ≡ true → word_32 (get_or xs i d) ≡ slice_index x i
-word-read {x} xs are len i d below =
-    let long : length xs ≡ 4 = sym (length-map xs word_32) ∙ ap length are ∙ len in
-    value_read word_32 xs 4 long i d below ∙ ap (λ (l : List ℕ). slice_index l i) are
+pub word-read : {x : List ℕ} (xs : List (Wrapping ℕ)) → map word_32 xs ≡ x → (i : ℕ)
+    → number_at xs i ≡ slice_index x i
+word-read xs are i =
+    sym (get_or-map word_32 xs i (record { 0 = 0 })) ∙ ap (λ (l : List ℕ). slice_index l i) are
 
 -- a number added of which only the last bits are known
 pub sum-low : (n a s : ℕ) {t : ℕ} → s % n ≡ t → (a + s) % n ≡ (a + t) % n

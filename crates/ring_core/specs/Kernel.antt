@@ -10,8 +10,8 @@ use Rattle.ring_core.specs.Sha2 as sha2
 use Rattle.ring_core.specs.Sha2.{Family, block_len}
 use Rattle.ring_core.specs.Word.{word_32}
 
--- the words `new` are what `step` makes of `old` and the first n blocks of a message, of `len` bytes
--- each, and these blocks are counted
+-- the words new are what step makes of old and the first n blocks of a message, of len bytes each,
+-- and these blocks are counted
 pub record RunsBlocks (step : List ℕ → List ℕ → List ℕ) (len : ℕ) (old new message : List ℕ) (n : ℕ)
     (before after : Counts) : Type 0 where
   pub words : new ≡ fold_chunks step len old message n

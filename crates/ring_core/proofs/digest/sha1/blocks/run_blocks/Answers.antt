@@ -1,5 +1,5 @@
 -- SPDX-License-Identifier: ISC
-use Rattle.std.proofs.Common.{refl, ◌∙◌}
+use Rattle.std.proofs.Common.{◌∙◌}
 use Rattle.ring_core.proofs.Kernel.{runs-next}
 use Rattle.ring_core.proofs.digest.sha1.blocks.run_blocks.Goals as goal
 
@@ -9,5 +9,5 @@ each-preserved c =
     c.read_four-third.ensures c.read_four-fourth.ensures in
     let before = c.each.invariant in
     let more = runs-next (record { words = before.words; cost = before.cost })
-    (rw (run, c.index-block.ensures) refl) c.add_block.ensures in
+    (rw c.index-block.ensures at run) c.add_block.ensures in
     record { words = more.words; rest = c.run_block.ensures.rest ∙ before.rest; cost = more.cost }

@@ -1,5 +1,5 @@
 -- SPDX-License-Identifier: ISC
-use Rattle.std.proofs.Common.{◌∙◌, map, refl, rules, sym, take}
+use Rattle.std.proofs.Common.{◌∙◌, map, rules, sym, take}
 use Rattle.ring_core.specs.Prelude.{word_32}
 use Rattle.ring_core.specs.Sha1.{block_step}
 use Rattle.ring_core.proofs.ChunkFolds.{fold_chunks-none}
@@ -21,4 +21,4 @@ each-init g c =
 pub each-preserved : goal.each-preserved
 each-preserved g c =
     let run = c.run_block-words.ensures _ c.read_block.ensures in
-    runs-next c.each.invariant (rw (run, c.index.ensures) refl) c.add_block.ensures
+    runs-next c.each.invariant (rw c.index.ensures at run) c.add_block.ensures

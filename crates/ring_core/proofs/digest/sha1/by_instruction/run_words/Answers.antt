@@ -15,7 +15,7 @@ returns g c = record {
       let done : map word_32 c.unpack.result ≡ block_step (take 5 (map word_32 state)) b =
       c.unpack.ensures ∙ c.run_block.ensures b (c.block_of_words.ensures b is)
       ∙ ap (λ (h : List ℕ). block_step h b) start in
-      all_five word_32 c.unpack.result (search rules) _ _ _ _ _ ∙ done;
+      all_five c.unpack.result (search rules) ∙ done;
   rest = grind (arith, common_steps);
   cost = c.add_block.ensures;
 }

@@ -19,8 +19,9 @@ returns c = λ h b n from to words before.
       words,
       c.round_constant-k.ensures,
       constant-of i (20 * i) is,
-    ) (four-steps i h b n c.requires from to refl before
-    (λ t of. sha1hash-round i t _ _ of)
-    (λ t of. sha1hash-round i t _ _ of)
-    (λ t of. sha1hash-round i t _ _ of)
-    (λ t of. sha1hash-round i t _ _ of))
+    ) (four-steps i h b n (c.requires, from, to) refl before (λ t of. (
+      sha1hash-round i t _ _ of,
+      sha1hash-round i t _ _ of,
+      sha1hash-round i t _ _ of,
+      sha1hash-round i t _ _ of,
+    )))

@@ -7,8 +7,9 @@ returns c = λ h b n from to words before.
     let i = c.args.part in
     let abcd = c.args.v.0 in
     rw (c.rounds.ensures, c.sha1nexte.ensures, rnds4-variables i abcd _)
-    (four-steps i h b n c.requires from to words before
-    (λ t of. rnds4-first i t _ _ _ _ _ _ of)
-    (λ t of. rnds4-next i t _ _ of)
-    (λ t of. rnds4-next i t _ _ of)
-    (λ t of. rnds4-next i t _ _ of))
+    (four-steps i h b n (c.requires, from, to) words before (λ t of. (
+      rnds4-first i t _ _ of,
+      rnds4-next i t _ _ of,
+      rnds4-next i t _ _ of,
+      rnds4-next i t _ _ of,
+    )))

@@ -7,6 +7,7 @@ use Rattle.std.proofs.Common.{inl, inr}
 use Rattle.std.proofs.lemmas.Bool.{cases_lt}
 use Rattle.std.proofs.lemmas.Nat.{xor_comm, xor_lt}
 use Rattle.std.proofs.lemmas.Nat.Bits.{bit_at_xor, same_from_bits}
+use Rattle.std.proofs.Math.ListN.{get_or-map}
 use Rattle.std.proofs.Math.Nat.{add_assoc}
 use Rattle.std.specs.Simd.Lanes.{Each1}
 use Rattle.std.specs.Int.Bits.{xor_assoc, xor_zero_l}
@@ -21,8 +22,17 @@ use mir.Syntax.{w32}
 use mir.Val.{Fits}
 
 -- the words of a block are the first of its schedule
-pub four-first : (b : List ℕ) (g : ℕ) → g < 4 → four (word_at 32 b) g ≡ four (W b) g
+four-first : (b : List ℕ) (g : ℕ) → g < 4 → four (word_at 32 b) g ≡ four (W b) g
 four-first b g below = four-same g (λ t from to. sym (W-first b t (omega arith)))
+
+pub sixteen-first : (b : List ℕ) → sixteen (word_at 32 b) 0 ≡ sixteen (W b) 0
+sixteen-first b =
+    rw (
+      four-first b 0 (omega arith),
+      four-first b 1 (omega arith),
+      four-first b 2 (omega arith),
+      four-first b 3 (omega arith),
+    ) refl
 
 -- and so are lanes that hold them
 pub lanes-loaded : (b : List ℕ) (g : ℕ) → g < 4 → (x : List ℕ) → Each1 (Fits w32) x
@@ -101,6 +111,13 @@ W-next_four b g =
       ← simp add_assoc at (W-next b (t + 3)),
     ) refl)
 
+-- the same, from a list of these fours
+pub W-next_words : (b : List ℕ) (g : ℕ) {x y z u : List ℕ}
+    → x ∷ y ∷ z ∷ u ∷ [] ≡ sixteen (W b) g → next_four x y z u ≡ four (W b) (g + 4)
+W-next_words b g words =
+    let at = λ (i : ℕ). ap (λ (l : List (List ℕ)). array_at l i) words in
+    rw (at 0, at 1, at 2, at 3) (W-next_four b g)
+
 -- a word of which the word three before it is added last
 pub scheduled-last : (w c b a : ℕ) → w < 2 ^ 32 → c < 2 ^ 32 → b < 2 ^ 32 → a < 2 ^ 32
     → rotl 32 1 (0 ⊕ c ⊕ b ⊕ a) ⊕ rotl 32 1 w ≡ scheduled w c b a
@@ -147,16 +164,10 @@ sixteen-at w (suc (suc (suc zero))) j within below = four-at w 3 j below
 sixteen-at w _ j within below = absurd (omega arith)
 
 -- a word read from lanes has 32 bits
-low-lt : (x : List ℕ) (j : ℕ) → slice_index (map low_32 x) j < 2 ^ 32
-low-lt [] j = omega arith
-low-lt (x ∷ xs) zero = mod-lt x (pow_pos 32)
-low-lt (x ∷ xs) (suc j) = low-lt xs j
-
-low-fours-lt : (x : List (List ℕ)) (g j : ℕ)
+low-lt : (x : List (List ℕ)) (g j : ℕ)
     → slice_index (array_at (map (map low_32) x) g) j < 2 ^ 32
-low-fours-lt [] g j = omega arith
-low-fours-lt (x ∷ xs) zero j = low-lt x j
-low-fours-lt (x ∷ xs) (suc g) j = low-fours-lt xs g j
+low-lt x g j =
+    rw (get_or-map (map low_32) x g [], get_or-map low_32 (array_at x g) j 0) (mod-lt _ (pow_pos 32))
 
 -- where a block's words are read from lanes, those of its schedule have 32 bits
 pub words-of-fours : (b : List ℕ) (x : List (List ℕ))
@@ -165,7 +176,7 @@ words-of-fours b x are t =
     let at : (g j : ℕ) → g < 4 → j < 4 → word_at 32 b (4 * g + j) < 2 ^ 32 = λ g j within below.
     let e : slice_index (array_at (map (map low_32) x) g) j ≡ word_at 32 b (4 * g + j) =
     rw are (sixteen-at (word_at 32 b) g j within below) in
-    rw (← e) (low-fours-lt x g j) in
+    rw (← e) (low-lt x g j) in
     let first : (k : ℕ) → k < 16 → W b k < 2 ^ 32 = λ k below.
     let e : 4 * (k / 4) + k % 4 ≡ k = omega arith in
     rw (W-first b k below, ← e) (at (k / 4) (k % 4) (omega arith) (omega arith)) in

@@ -10,12 +10,12 @@ use Rattle.ring_core.specs.FourWords.{next_four}
 use Rattle.ring_core.specs.Instructions.{sha1_constant, sha1_function, sha1hash_step, sha1msg1}
 use Rattle.ring_core.specs.Instructions.{sha1hash, sha1msg2, sha1rnds4, sha1su0, sha1su1}
 use Rattle.ring_core.specs.Instructions.{sha1rnds4_first, sha1rnds4_next}
-use Rattle.ring_core.specs.Prelude.{◌⊕◌, add_words, array_at, four, rotl, rotr, sixteen}
+use Rattle.ring_core.specs.Prelude.{◌⊕◌, add_words, four, rotl, rotr, sixteen}
 use Rattle.ring_core.specs.Sha1.{W, round, round_constant, round_function, rounds_from}
 use Rattle.ring_core.proofs.Sha2Instructions.{add-none}
 use Rattle.ring_core.proofs.Rotation.{rotr-lt}
 use Rattle.ring_core.proofs.Schedule.{steps-four}
-use Rattle.ring_core.proofs.Sha1FourWords.{W-next_four, rotl-twice, rotl-xor, xor-lt}
+use Rattle.ring_core.proofs.Sha1FourWords.{W-next_words, rotl-twice, rotl-xor, xor-lt}
 use Rattle.ring_core.proofs.Sha1Steps.{rounds-next}
 
 -- a round has function and constant i: those of twenty rounds each
@@ -25,34 +25,10 @@ pub record IsOf (i t : ℕ) : Type 0 where
   pub to : t < 20 * i + 20
 
 pub function-of : (i t x y z : ℕ) → IsOf i t → round_function t x y z ≡ sha1_function i x y z
-function-of zero t x y z of = let e : nat_lt t 20 ≡ true = search (arith, of.to) in rw e refl
-function-of (suc zero) t x y z of =
-    let e : nat_lt t 20 ≡ false = search (arith, of.from) in
-    let e' : nat_lt t 40 ≡ true = search (arith, of.to) in rw (e, e') refl
-function-of (suc (suc zero)) t x y z of =
-    let e : nat_lt t 20 ≡ false = search (arith, of.from) in
-    let e' : nat_lt t 40 ≡ false = search (arith, of.from) in
-    let e'' : nat_lt t 60 ≡ true = search (arith, of.to) in rw (e, e', e'') refl
-function-of (suc (suc (suc zero))) t x y z of =
-    let e : nat_lt t 20 ≡ false = search (arith, of.from) in
-    let e' : nat_lt t 40 ≡ false = search (arith, of.from) in
-    let e'' : nat_lt t 60 ≡ false = search (arith, of.from) in rw (e, e', e'') refl
-function-of (suc (suc (suc (suc i)))) t x y z of = absurd (omega (arith, of.below))
+function-of i t x y z of = grind (arith, of.below, of.from, of.to)
 
 pub constant-of : (i t : ℕ) → IsOf i t → round_constant t ≡ sha1_constant i
-constant-of zero t of = let e : nat_lt t 20 ≡ true = search (arith, of.to) in rw e refl
-constant-of (suc zero) t of =
-    let e : nat_lt t 20 ≡ false = search (arith, of.from) in
-    let e' : nat_lt t 40 ≡ true = search (arith, of.to) in rw (e, e') refl
-constant-of (suc (suc zero)) t of =
-    let e : nat_lt t 20 ≡ false = search (arith, of.from) in
-    let e' : nat_lt t 40 ≡ false = search (arith, of.from) in
-    let e'' : nat_lt t 60 ≡ true = search (arith, of.to) in rw (e, e', e'') refl
-constant-of (suc (suc (suc zero))) t of =
-    let e : nat_lt t 20 ≡ false = search (arith, of.from) in
-    let e' : nat_lt t 40 ≡ false = search (arith, of.from) in
-    let e'' : nat_lt t 60 ≡ false = search (arith, of.from) in rw (e, e', e'') refl
-constant-of (suc (suc (suc (suc i)))) t of = absurd (omega (arith, of.below))
+constant-of i t of = grind (arith, of.below, of.from, of.to)
 
 -- the orders in which the parts of a round's sum are added
 first-order : (n f r w e k : ℕ)
@@ -145,8 +121,7 @@ pub intel-next-words : (b : List ℕ) (g : ℕ) (x y z u : List ℕ)
     turned (sha1msg2 (zip2 bit_xor (sha1msg1 x y) (c 0 ∷ c 1 ∷ c 2 ∷ c 3 ∷ [])) u)
     ≡ four (W b) (g + 4)
 intel-next-words b g x y z u words =
-    let at = λ (i : ℕ). ap (λ (l : List (List ℕ)). array_at l i) words in
-    intel-next x y z u ∙ (λ i. next_four (at 0 i) (at 1 i) (at 2 i) (at 3 i)) ∙ W-next_four b g
+    intel-next x y z u ∙ W-next_words b g words
 
 -- SHA1SU0 and SHA1SU1 give the next four words
 pub arm-next-sha1 : (x y z u : List ℕ) → ((i : ℕ) → slice_index x i < 2 ^ 32)

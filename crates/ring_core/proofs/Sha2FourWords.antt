@@ -1,17 +1,26 @@
 -- SPDX-License-Identifier: ISC
 -- SHA-2's schedule, four words at a time.
-use Rattle.std.proofs.Common.{◌≡◌, ℕ, ◌+◌, ◌*◌, ◌%◌, ◌^◌, ◌<◌, List, refl, sym, ap, ◌∙◌, arith}
+use Rattle.std.proofs.Common.{◌≡◌, ℕ, ◌+◌, ◌*◌, ◌%◌, ◌^◌, ◌<◌, List, [], ◌∷◌, refl, sym, ap, ◌∙◌, arith}
 use Rattle.std.proofs.Math.Nat.{add_assoc, mod-add-mod}
-use Rattle.ring_core.specs.Prelude.{Family, W, add_words, four, older_four, older_sum}
-use Rattle.ring_core.specs.Prelude.{with_first_two, with_last_two, word_at, σ0, σ1}
+use Rattle.ring_core.specs.Prelude.{Family, W, add_words, array_at, four, older_four, older_sum}
+use Rattle.ring_core.specs.Prelude.{sixteen, with_first_two, with_last_two, word_at, σ0, σ1}
 use Rattle.ring_core.proofs.FourWords.{four-same, four_more}
 use Rattle.ring_core.proofs.Sha2Steps.{W-first, W-next}
 
 -- the words of a block are the first of its schedule
-pub four-loaded : (f : Family) (n : ℕ) (b : List ℕ) (g : ℕ) → n ≡ f.bits → g < 4
-    → four (word_at n b) g ≡ four (W f b) g
-four-loaded f n b g same below =
-    rw same (four-same g (λ t from to. sym (W-first f b t (omega arith))))
+four-loaded : (f : Family) (b : List ℕ) (g : ℕ) → g < 4 → four (word_at f.bits b) g ≡ four (W f b) g
+four-loaded f b g below = four-same g (λ t from to. sym (W-first f b t (omega arith)))
+
+pub sixteen-loaded : (f : Family) (n : ℕ) (b : List ℕ) → n ≡ f.bits
+    → sixteen (word_at n b) 0 ≡ sixteen (W f b) 0
+sixteen-loaded f n b same =
+    rw (
+      same,
+      four-loaded f b 0 (omega arith),
+      four-loaded f b 1 (omega arith),
+      four-loaded f b 2 (omega arith),
+      four-loaded f b 3 (omega arith),
+    ) refl
 
 -- the order in which a word's parts are added
 order : (n a b c d : ℕ)
@@ -39,3 +48,11 @@ W-next_four f b g =
       simp add_assoc at (W-older f b (t + 2)),
       simp add_assoc at (W-older f b (t + 3)),
     ) refl)
+
+-- the same, from a list of these fours
+pub W-next_words : (f : Family) (b : List ℕ) (g : ℕ) {x y z u : List ℕ}
+    → x ∷ y ∷ z ∷ u ∷ [] ≡ sixteen (W f b) g
+    → with_last_two f (with_first_two f (older_four f x y z u) u) ≡ four (W f b) (g + 4)
+W-next_words f b g words =
+    let at = λ (i : ℕ). ap (λ (l : List (List ℕ)). array_at l i) words in
+    rw (at 0, at 1, at 2, at 3) (W-next_four f b g)

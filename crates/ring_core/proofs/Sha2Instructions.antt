@@ -38,9 +38,24 @@ intel-round v k w = rw (first-order, fifth-order) refl
 pub add-none : (x : ℕ) → x < 2 ^ 32 → add_words 32 x 0 ≡ x
 add-none x fits = omega arith
 
--- the same where word and constant are given as their sum
-pub intel-round-sum : (v : List ℕ) (k : ℕ) → k < 2 ^ 32 → round family_256 v k 0 ≡ intel_round v k
-intel-round-sum v k fits = sym (intel-round v k 0) ∙ ap (intel_round v) (add-none k fits)
+-- steps that are the standard's rounds, from the sums of words and constants
+module _ (step : List ℕ → ℕ → List ℕ)
+    (same : (v : List ℕ) (k w : ℕ) → step v (add_words 32 k w) ≡ round family_256 v k w) where
+  -- one
+  pub round-sum : (v : List ℕ) (k : ℕ) → k < 2 ^ 32 → round family_256 v k 0 ≡ step v k
+  round-sum v k fits = sym (same v k 0) ∙ ap (step v) (add-none k fits)
+
+  -- four
+  pub four-sums : (h b : List ℕ) (g : ℕ) {v : List ℕ} → v ≡ rounds_from family_256 h b (4 * g)
+      → let s = ready_sum family_256 b in
+      step (step (step (step v (s (4 * g))) (s (4 * g + 1))) (s (4 * g + 2))) (s (4 * g + 3))
+      ≡ rounds_from family_256 h b (4 * (g + 1))
+  four-sums h b g before =
+      let k = slice_index constants_256 in
+      let w = W family_256 b in
+      let next = λ (v : List ℕ) (t : ℕ). same v (k t) (w t) in
+      steps-four (λ v t. round family_256 v (k t) (w t)) (rounds-next family_256 h b) g before
+      (next _ (4 * g)) (next _ (4 * g + 1)) (next _ (4 * g + 2)) (next _ (4 * g + 3))
 
 -- a word of a vector, from the list of its words
 pub word-read : {x : List ℕ} (xs : List (Wrapping ℕ)) → map word_32 xs ≡ x → (i : ℕ)
@@ -77,20 +92,6 @@ pub intel-two : (abef cdgh wk : List ℕ)
 unfolding intel_round
 intel-two abef cdgh wk = refl
 
--- four rounds
-pub intel-four : (h b : List ℕ) (g : ℕ) {v : List ℕ} → v ≡ rounds_from family_256 h b (4 * g)
-    → let s = ready_sum family_256 b in
-    intel_round (intel_round (intel_round (intel_round v (s (4 * g))) (s (4 * g + 1)))
-    (s (4 * g + 2))) (s (4 * g + 3)) ≡ rounds_from family_256 h b (4 * (g + 1))
-intel-four h b g before =
-    let k = slice_index constants_256 in
-    let w = W family_256 b in
-    steps-four (λ v t. round family_256 v (k t) (w t)) (rounds-next family_256 h b) g before
-    (intel-round _ (k (4 * g)) (w (4 * g)))
-    (intel-round _ (k (4 * g + 1)) (w (4 * g + 1)))
-    (intel-round _ (k (4 * g + 2)) (w (4 * g + 2)))
-    (intel-round _ (k (4 * g + 3)) (w (4 * g + 3)))
-
 -- a number added to one of which only the last bits are known
 pub low-sum : (n a s : ℕ) {t : ℕ} → s % n ≡ t → (s + a) % n ≡ (t + a) % n
 low-sum n a s {t} e = sym (mod-add-mod s n a) ∙ ap (λ (x : ℕ). (x + a) % n) e
@@ -118,11 +119,6 @@ pub arm-round : (v : List ℕ) (k w : ℕ)
 unfolding sha256hash_step round
 arm-round v k w = rw (first-order-arm, fifth-order-arm) refl
 
--- the same where word and constant are given as their sum
-pub arm-round-sum : (v : List ℕ) (k : ℕ) → k < 2 ^ 32
-    → round family_256 v k 0 ≡ sha256hash_step v k
-arm-round-sum v k fits = sym (arm-round v k 0) ∙ ap (sha256hash_step v) (add-none k fits)
-
 -- SHA256H and SHA256H2 together
 abbrev pub arm_variables : (abcd efgh : List ℕ) → List ℕ
 arm_variables abcd efgh =
@@ -134,20 +130,6 @@ pub arm-both : (abcd efgh wk : List ℕ)
     → arm_variables (sha256h abcd efgh wk) (sha256h2 efgh abcd wk) ≡ sha256hash abcd efgh wk
 unfolding sha256hash_step
 arm-both abcd efgh wk = refl
-
--- four rounds
-pub arm-four : (h b : List ℕ) (g : ℕ) {v : List ℕ} → v ≡ rounds_from family_256 h b (4 * g)
-    → let s = ready_sum family_256 b in
-    sha256hash_step (sha256hash_step (sha256hash_step (sha256hash_step v (s (4 * g)))
-    (s (4 * g + 1))) (s (4 * g + 2))) (s (4 * g + 3)) ≡ rounds_from family_256 h b (4 * (g + 1))
-arm-four h b g before =
-    let k = slice_index constants_256 in
-    let w = W family_256 b in
-    steps-four (λ v t. round family_256 v (k t) (w t)) (rounds-next family_256 h b) g before
-    (arm-round _ (k (4 * g)) (w (4 * g)))
-    (arm-round _ (k (4 * g + 1)) (w (4 * g + 1)))
-    (arm-round _ (k (4 * g + 2)) (w (4 * g + 2)))
-    (arm-round _ (k (4 * g + 3)) (w (4 * g + 3)))
 
 -- the order in which the parts of a word of the schedule are added
 next-order : (n a s b t : ℕ)

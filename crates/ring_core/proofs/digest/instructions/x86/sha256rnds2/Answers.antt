@@ -1,7 +1,7 @@
 -- SPDX-License-Identifier: ISC
 use Rattle.std.proofs.Common.{ℕ, List, slice_index, w32, refl}
-use Rattle.ring_core.specs.Instructions.{sha256rnds2}
-use Rattle.ring_core.proofs.Sha2Instructions.{intel-round-sum, word-read}
+use Rattle.ring_core.specs.Instructions.{intel_round, sha256rnds2}
+use Rattle.ring_core.proofs.Sha2Instructions.{intel-round, round-sum, word-read}
 use Rattle.ring_core.proofs.Vectors.{at_fits}
 use Rattle.ring_core.proofs.digest.instructions.x86.sha256rnds2.Goals as goal
 
@@ -12,7 +12,7 @@ returns c =
     let wk = word-read _ c.to_words-3.ensures in
     let v = word-read c.round_of_sum-v.result refl in
     let step = λ (v : List ℕ) (i : ℕ).
-    intel-round-sum v (slice_index c.args.wk i) (at_fits w32 c.args.wk c.fits-wk.1 i) in
+    round-sum intel_round intel-round v (slice_index c.args.wk i) (at_fits w32 c.args.wk c.fits-wk.1 i) in
     rw c.vector.ensures
     (simp (v, c.round_of_sum-v.ensures, c.round_of_sum.ensures, cdgh, abef, wk, step)
     (λ _. sha256rnds2 c.args.cdgh c.args.abef c.args.wk))

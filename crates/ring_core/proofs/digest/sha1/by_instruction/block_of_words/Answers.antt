@@ -1,6 +1,5 @@
 -- SPDX-License-Identifier: ISC
-use Rattle.std.proofs.Common.{arith, refl}
-use Rattle.ring_core.proofs.Sha1FourWords.{four-first}
+use Rattle.ring_core.proofs.Sha1FourWords.{sixteen-first}
 use Rattle.ring_core.proofs.digest.sha1.by_instruction.block_of_words.Goals as goal
 
 pub returns : goal.returns
@@ -14,8 +13,4 @@ returns g c = λ b is.
       c.words_of-2.ensures b is,
       c.words_of-3.ensures b is,
       c.words_of-4.ensures b is,
-      four-first b 0 (omega arith),
-      four-first b 1 (omega arith),
-      four-first b 2 (omega arith),
-      four-first b 3 (omega arith),
-    ) refl
+    ) (sixteen-first b)

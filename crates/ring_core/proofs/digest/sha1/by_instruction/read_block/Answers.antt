@@ -1,6 +1,5 @@
 -- SPDX-License-Identifier: ISC
-use Rattle.std.proofs.Common.{arith, refl}
-use Rattle.ring_core.proofs.Sha1FourWords.{four-first}
+use Rattle.ring_core.proofs.Sha1FourWords.{sixteen-first}
 use Rattle.ring_core.proofs.digest.sha1.by_instruction.read_block.Goals as goal
 
 pub returns : goal.returns
@@ -15,8 +14,4 @@ returns g c =
       c.read_words-2.ensures,
       c.read_words-3.ensures,
       c.read_words-4.ensures,
-      four-first b 0 (omega arith),
-      four-first b 1 (omega arith),
-      four-first b 2 (omega arith),
-      four-first b 3 (omega arith),
-    ) refl
+    ) (sixteen-first b)

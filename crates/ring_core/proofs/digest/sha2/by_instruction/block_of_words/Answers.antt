@@ -1,7 +1,7 @@
 -- SPDX-License-Identifier: ISC
-use Rattle.std.proofs.Common.{arith, refl}
+use Rattle.std.proofs.Common.{refl}
 use Rattle.ring_core.specs.Prelude.{family_256}
-use Rattle.ring_core.proofs.Sha2FourWords.{four-loaded}
+use Rattle.ring_core.proofs.Sha2FourWords.{sixteen-loaded}
 use Rattle.ring_core.proofs.digest.sha2.by_instruction.block_of_words.Goals as goal
 
 pub returns : goal.returns
@@ -11,8 +11,4 @@ returns c = λ b is.
       c.words_of-2.ensures b is,
       c.words_of-3.ensures b is,
       c.words_of-4.ensures b is,
-      four-loaded family_256 32 b 0 refl (omega arith),
-      four-loaded family_256 32 b 1 refl (omega arith),
-      four-loaded family_256 32 b 2 refl (omega arith),
-      four-loaded family_256 32 b 3 refl (omega arith),
-    ) refl
+    ) (sixteen-loaded family_256 32 b refl)

@@ -1,7 +1,7 @@
 -- SPDX-License-Identifier: ISC
-use Rattle.std.proofs.Common.{arith, refl}
+use Rattle.std.proofs.Common.{refl}
 use Rattle.ring_core.specs.Prelude.{family_256}
-use Rattle.ring_core.proofs.Sha2FourWords.{four-loaded}
+use Rattle.ring_core.proofs.Sha2FourWords.{sixteen-loaded}
 use Rattle.ring_core.proofs.digest.sha2.by_instruction.read_block.Goals as goal
 
 pub returns : goal.returns
@@ -12,8 +12,4 @@ returns c =
       c.read_words-2.ensures,
       c.read_words-3.ensures,
       c.read_words-4.ensures,
-      four-loaded family_256 32 b 0 refl (omega arith),
-      four-loaded family_256 32 b 1 refl (omega arith),
-      four-loaded family_256 32 b 2 refl (omega arith),
-      four-loaded family_256 32 b 3 refl (omega arith),
-    ) refl
+    ) (sixteen-loaded family_256 32 b refl)

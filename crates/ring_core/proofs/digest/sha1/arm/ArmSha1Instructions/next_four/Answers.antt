@@ -1,22 +1,16 @@
 -- SPDX-License-Identifier: ISC
-use Rattle.std.proofs.Common.{ap, List, ℕ, w32}
-use Rattle.ring_core.specs.Prelude.{array_at}
-use Rattle.ring_core.proofs.Sha1FourWords.{W-next_four}
+use Rattle.std.proofs.Common.{w32}
+use Rattle.ring_core.proofs.Sha1FourWords.{W-next_words}
 use Rattle.ring_core.proofs.Sha1Instructions.{arm-next-sha1}
 use Rattle.ring_core.proofs.Vectors.{at_fits}
 use Rattle.ring_core.proofs.digest.sha1.arm.ArmSha1Instructions.next_four.Goals as goal
 
 pub returns : goal.returns
 returns c = λ b n words.
-    let at = λ (i : ℕ). ap (λ (l : List (List ℕ)). array_at l i) words in
     rw (
       c.sha1su1.ensures,
       c.sha1su0.ensures,
       arm-next-sha1 c.args.first c.args.second c.args.third c.args.fourth
           (at_fits w32 c.args.first c.fits-first.1) (at_fits w32 c.args.second c.fits-second.1)
           (at_fits w32 c.args.third c.fits-third.1) (at_fits w32 c.args.fourth c.fits-fourth.1),
-      at 0,
-      at 1,
-      at 2,
-      at 3,
-    ) (W-next_four b n)
+    ) (W-next_words b n words)

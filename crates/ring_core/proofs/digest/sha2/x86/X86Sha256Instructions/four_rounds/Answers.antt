@@ -1,5 +1,6 @@
 -- SPDX-License-Identifier: ISC
-use Rattle.ring_core.proofs.Sha2Instructions.{intel-four, intel-two}
+use Rattle.ring_core.specs.Instructions.{intel_round}
+use Rattle.ring_core.proofs.Sha2Instructions.{four-sums, intel-round, intel-two}
 use Rattle.ring_core.proofs.digest.sha2.x86.X86Sha256Instructions.four_rounds.Goals as goal
 
 pub returns : goal.returns
@@ -13,4 +14,4 @@ returns c = λ h b n sums before.
       c.sha256rnds2-middle.ensures,
       intel-two abef cdgh c.args.sums,
       sums,
-    ) (intel-four h b n before)
+    ) (four-sums intel_round intel-round h b n before)

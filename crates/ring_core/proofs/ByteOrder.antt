@@ -13,13 +13,16 @@ digit : (a b c d rest : ℕ) → (a < 256) × (b < 256) × (c < 256) × (d < 256
 digit a b c d rest (fa, fb, fc, fd) = (omega arith, omega arith)
 
 -- four words of sixteen bytes, each with its bytes in the other order
-words-swapped : (x : List ℕ) → 16 ≤ length x → ((i : ℕ) → slice_index x i < 256)
-    → let y = take 16 (take 16 x) in
+abbrev pub swapped : List ℕ → List ℕ
+swapped x =
+    let y = take 16 (take 16 x) in
     let b = slice_index (y ++ y) in
-    let word = λ (i : ℕ). big_endian (take 4 (drop (i * 4) x)) in
     digits_l (2 ^ 32) 4 (number_l 256 (b 3 ∷ b 2 ∷ b 1 ∷ b 0 ∷ b 7 ∷ b 6 ∷ b 5 ∷ b 4
     ∷ b 11 ∷ b 10 ∷ b 9 ∷ b 8 ∷ b 15 ∷ b 14 ∷ b 13 ∷ b 12 ∷ []))
-    ≡ word 0 ∷ word 1 ∷ word 2 ∷ word 3 ∷ []
+
+words-swapped : (x : List ℕ) → 16 ≤ length x → ((i : ℕ) → slice_index x i < 256)
+    → let word = λ (i : ℕ). big_endian (take 4 (drop (i * 4) x)) in
+    swapped x ≡ word 0 ∷ word 1 ∷ word 2 ∷ word 3 ∷ []
 words-swapped (a ∷ b ∷ c ∷ d ∷ e ∷ f ∷ g ∷ h ∷ i ∷ j ∷ k ∷ l ∷ m ∷ n ∷ o ∷ p ∷ _) long fits =
     let fourth = digit p o n m 0 (fits 15, fits 14, fits 13, fits 12) in
     let third = digit l k j i (number_l 256 (p ∷ o ∷ n ∷ m ∷ []))
@@ -35,11 +38,7 @@ words-swapped _ long fits = absurd (omega arith)
 -- the same of bytes from 16 j on
 pub words-read : (x : List ℕ) (j : ℕ) → 16 * j + 16 ≤ length x
     → ((i : ℕ) → slice_index x i < 256)
-    → let y = take 16 (take 16 (drop (16 * j) x)) in
-    let b = slice_index (y ++ y) in
-    digits_l (2 ^ 32) 4 (number_l 256 (b 3 ∷ b 2 ∷ b 1 ∷ b 0 ∷ b 7 ∷ b 6 ∷ b 5 ∷ b 4
-    ∷ b 11 ∷ b 10 ∷ b 9 ∷ b 8 ∷ b 15 ∷ b 14 ∷ b 13 ∷ b 12 ∷ []))
-    ≡ four (word_at 32 x) j
+    → swapped (drop (16 * j) x) ≡ four (word_at 32 x) j
 words-read x j room fits =
     let y = drop (16 * j) x in
     let at = λ (i k : ℕ) (e : k ≡ 16 * j + i).

@@ -37,12 +37,6 @@ pub all_five : (xs : List (Wrapping ℕ)) → length xs ≡ 5 → let n = number
 all_five (a ∷ b ∷ c ∷ d ∷ e ∷ []) five = refl
 all_five _ five = absurd (omega arith)
 
--- the numbers of a list of eight
-pub all_eight : (xs : List (Wrapping ℕ)) → length xs ≡ 8 → let n = number_at xs in
-    n 0 ∷ n 1 ∷ n 2 ∷ n 3 ∷ n 4 ∷ n 5 ∷ n 6 ∷ n 7 ∷ [] ≡ map word_32 xs
-all_eight (a ∷ b ∷ c ∷ d ∷ e ∷ g ∷ h ∷ i ∷ []) eight = refl
-all_eight _ eight = absurd (omega arith)
-
 -- the last three
 pub last_three : {X : Type 0} (xs : List X) (x y z : X) → length xs ≡ 8
     → get_or xs 5 x ∷ get_or xs 6 y ∷ get_or xs 7 z ∷ [] ≡ drop 5 xs

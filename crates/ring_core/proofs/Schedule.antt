@@ -1,6 +1,6 @@
 -- SPDX-License-Identifier: ISC
 -- Words that each follow from those before them.
-use Rattle.std.proofs.Common.{◌≡◌, ℕ, zero, suc, ◌+◌, ◌*◌, ◌%◌, ◌<◌, ◌≤◌, List, [], ◌∷◌}
+use Rattle.std.proofs.Common.{◌≡◌, ℕ, zero, suc, ◌+◌, ◌-◌, ◌*◌, ◌%◌, ◌<◌, ◌≤◌, List, [], ◌∷◌}
 use Rattle.std.proofs.Common.{length, slice_index, map, refl, ◌∙◌, arith, inl, inr}
 use Rattle.std.proofs.lemmas.List.{get_or-map, get_or_append_left, get_or_push, length-set}
 use Rattle.std.proofs.lemmas.List.{length_push, map-set}
@@ -29,6 +29,12 @@ slice_index-listed next (suc n) t h = elim (cases_lt t n) [
       let e : t ≡ n = omega arith in
       rw e refl
 ]
+
+-- the word i before word n
+pub listed-before : (next : List ℕ → ℕ → ℕ) (n i k : ℕ) → k + i ≡ n → 0 < i
+    → slice_index (listed next n) (n - i) ≡ listed_at next k
+listed-before next n i k here positive =
+    let e : n - i ≡ k = omega arith in rw e (slice_index-listed next n k (omega arith))
 
 -- a word, from those before it
 pub listed_at-next : (next : List ℕ → ℕ → ℕ) (t : ℕ) → listed_at next t ≡ next (listed next t) t

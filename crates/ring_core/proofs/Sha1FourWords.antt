@@ -5,21 +5,19 @@ use Rattle.std.proofs.Common.{◌≡◌, ℕ, zero, suc, ◌+◌, ◌-◌, ◌*�
 use Rattle.std.proofs.Common.{map, slice_index, mod-lt, pow_pos, refl, sym, ap, ◌∙◌, arith}
 use Rattle.std.proofs.Common.{inl, inr}
 use Rattle.std.proofs.lemmas.Bool.{cases_lt}
+use Rattle.std.proofs.lemmas.Grind.{common_steps}
 use Rattle.std.proofs.lemmas.Nat.{xor_comm, xor_lt}
 use Rattle.std.proofs.lemmas.Nat.Bits.{bit_at_xor, same_from_bits}
 use Rattle.std.proofs.Math.ListN.{get_or-map}
 use Rattle.std.proofs.Math.Nat.{add_assoc}
-use Rattle.std.specs.Simd.Lanes.{Each1}
 use Rattle.std.specs.Int.Bits.{xor_assoc, xor_zero_l}
 use Rattle.ring_core.specs.Prelude.{◌⊕◌, array_at, four, low_32, rotl, sixteen}
 use Rattle.ring_core.specs.Prelude.{word_at}
 use Rattle.ring_core.specs.FourWords.{later_four, next_four}
 use Rattle.ring_core.specs.Sha1.{HasWords, W, scheduled}
-use Rattle.ring_core.proofs.FourWords.{four-same, four_more, low-lanes}
+use Rattle.ring_core.proofs.FourWords.{four-same, four_more}
 use Rattle.ring_core.proofs.Rotation.{rotr-lt, rotr-xor}
 use Rattle.ring_core.proofs.Sha1Steps.{W-first, W-next}
-use mir.Syntax.{w32}
-use mir.Val.{Fits}
 
 -- the words of a block are the first of its schedule
 four-first : (b : List ℕ) (g : ℕ) → g < 4 → four (word_at 32 b) g ≡ four (W b) g
@@ -33,11 +31,6 @@ sixteen-first b =
       four-first b 2 (omega arith),
       four-first b 3 (omega arith),
     ) refl
-
--- and so are lanes that hold them
-pub lanes-loaded : (b : List ℕ) (g : ℕ) → g < 4 → (x : List ℕ) → Each1 (Fits w32) x
-    → map low_32 x ≡ four (word_at 32 b) g → x ≡ four (W b) g
-lanes-loaded b g below x fits e = sym (low-lanes x fits) ∙ e ∙ four-first b g below
 
 -- words under exclusive or, rotated left by one, one by one or at once
 pub rotl-xor : (a b : ℕ) → a < 2 ^ 32 → b < 2 ^ 32 → rotl 32 1 (a ⊕ b) ≡ rotl 32 1 a ⊕ rotl 32 1 b
@@ -149,11 +142,7 @@ words-below b first (suc n) t below =
 
 -- a word of a four, and of a sixteen
 four-at : (w : ℕ → ℕ) (g j : ℕ) → j < 4 → slice_index (four w g) j ≡ w (4 * g + j)
-four-at w g zero below = ap w (omega arith)
-four-at w g (suc zero) below = refl
-four-at w g (suc (suc zero)) below = refl
-four-at w g (suc (suc (suc zero))) below = refl
-four-at w g _ below = absurd (omega arith)
+four-at w g j below = grind (arith, common_steps)
 
 sixteen-at : (w : ℕ → ℕ) (g j : ℕ) → g < 4 → j < 4
     → slice_index (array_at (sixteen w 0) g) j ≡ w (4 * g + j)

@@ -1,7 +1,7 @@
 -- SPDX-License-Identifier: ISC
 -- The steps of the processors' instructions for SHA-1 are the standard's.
-use Rattle.std.proofs.Common.{◌≡◌, ℕ, zero, suc, ◌+◌, ◌*◌, ◌%◌, ◌^◌, ◌<◌, ◌≤◌, List, [], ◌∷◌}
-use Rattle.std.proofs.Common.{ap, arith, bit_xor, false, nat_lt, refl, slice_index, true, ◌∙◌}
+use Rattle.std.proofs.Common.{◌≡◌, ℕ, ◌+◌, ◌*◌, ◌%◌, ◌^◌, ◌<◌, ◌≤◌, List, [], ◌∷◌}
+use Rattle.std.proofs.Common.{ap, arith, bit_xor, refl, slice_index, ◌∙◌}
 use Rattle.std.proofs.Math.Nat.{add-mod-mod, mod-add-mod}
 use Rattle.std.proofs.lemmas.Nat.{xor_lt}
 use Rattle.std.proofs.lemmas.Nat.Bits.{bit_at_xor, same_from_bits}
@@ -99,29 +99,22 @@ abbrev pub turned : List ℕ → List ℕ
 turned x = slice_index x 3 ∷ slice_index x 2 ∷ slice_index x 1 ∷ slice_index x 0 ∷ []
 
 -- SHA1MSG1, an exclusive or and SHA1MSG2 give the next four words
-intel-next : (x y z u : List ℕ)
-    → let c = slice_index z in
-    turned (sha1msg2 (zip2 bit_xor (sha1msg1 x y) (c 0 ∷ c 1 ∷ c 2 ∷ c 3 ∷ [])) u)
-    ≡ next_four (turned x) (turned y) (turned z) (turned u)
-intel-next x y z u =
-    let a = slice_index x in
-    let b = slice_index y in
-    let c = slice_index z in
-    let d = slice_index u in
-    let r = rotl 32 1 in
-    let e0 = ap r (xor-order (a 1) (a 3) (c 3) (d 2)) in
-    let e1 = ap r (xor-order (a 0) (a 2) (c 2) (d 1)) in
-    let e2 = ap r (xor-order (b 3) (a 1) (c 1) (d 0)) in
-    let e3 = ap (λ (w : ℕ). r (b 2 ⊕ a 0 ⊕ c 0 ⊕ w)) e0 ∙ ap r (xor-order (b 2) (a 0) (c 0) _) in
-    λ i. e0 i ∷ e1 i ∷ e2 i ∷ e3 i ∷ []
-
 pub intel-next-words : (b : List ℕ) (g : ℕ) (x y z u : List ℕ)
     → turned x ∷ turned y ∷ turned z ∷ turned u ∷ [] ≡ sixteen (W b) g
     → let c = slice_index z in
     turned (sha1msg2 (zip2 bit_xor (sha1msg1 x y) (c 0 ∷ c 1 ∷ c 2 ∷ c 3 ∷ [])) u)
     ≡ four (W b) (g + 4)
 intel-next-words b g x y z u words =
-    intel-next x y z u ∙ W-next_words b g words
+    let a = slice_index x in
+    let v = slice_index y in
+    let c = slice_index z in
+    let d = slice_index u in
+    let r = rotl 32 1 in
+    let e0 = ap r (xor-order (a 1) (a 3) (c 3) (d 2)) in
+    let e1 = ap r (xor-order (a 0) (a 2) (c 2) (d 1)) in
+    let e2 = ap r (xor-order (v 3) (a 1) (c 1) (d 0)) in
+    let e3 = ap (λ (w : ℕ). r (v 2 ⊕ a 0 ⊕ c 0 ⊕ w)) e0 ∙ ap r (xor-order (v 2) (a 0) (c 0) _) in
+    (λ i. e0 i ∷ e1 i ∷ e2 i ∷ e3 i ∷ []) ∙ W-next_words b g words
 
 -- SHA1SU0 and SHA1SU1 give the next four words
 pub arm-next-sha1 : (x y z u : List ℕ) → ((i : ℕ) → slice_index x i < 2 ^ 32)

@@ -9,7 +9,7 @@ use Rattle.ring_core.specs.Instructions.{intel_round, sha256h, sha256h2, sha256h
 use Rattle.ring_core.specs.Instructions.{sha256hash_step, sha256rnds2, sha256su0, sha256su1}
 use Rattle.ring_core.specs.Prelude.{W, add_words, constants_256, family_256, ready_sum, round}
 use Rattle.ring_core.specs.Prelude.{older_four, rounds_from, with_first_two, with_last_two}
-use Rattle.ring_core.specs.Prelude.{word_32, σ0, σ1}
+use Rattle.ring_core.specs.Prelude.{word_32}
 use Rattle.ring_core.proofs.FourWords.{plus-none}
 use Rattle.ring_core.proofs.Mapped.{number_at}
 use Rattle.ring_core.proofs.Schedule.{steps-four}
@@ -140,18 +140,4 @@ next-order n a s b t = simp (add-mod-mod, mod-add-mod) (ap (λ (x : ℕ). x % n)
 pub arm-next : (x y z u : List ℕ)
     → let f = family_256 in
     sha256su1 (sha256su0 x y) z u ≡ with_last_two f (with_first_two f (older_four f x y z u) u)
-arm-next x y z u =
-    let n = 2 ^ 32 in
-    let a = slice_index x in
-    let b = slice_index y in
-    let c = slice_index z in
-    let d = slice_index u in
-    let s = σ0 family_256 in
-    let t = σ1 family_256 in
-    let e0 = next-order n (a 0) (s (a 1)) (c 1) (t (d 2)) in
-    let e1 = next-order n (a 1) (s (a 2)) (c 2) (t (d 3)) in
-    let e2 = ap (λ (w : ℕ). ((t w + (s (a 3) + a 2) % n) % n + c 3) % n) e0
-    ∙ next-order n (a 2) (s (a 3)) (c 3) _ in
-    let e3 = ap (λ (w : ℕ). ((t w + (s (b 0) + a 3) % n) % n + d 0) % n) e1
-    ∙ next-order n (a 3) (s (b 0)) (d 0) _ in
-    λ i. e0 i ∷ e1 i ∷ e2 i ∷ e3 i ∷ []
+arm-next x y z u = simp next-order refl

@@ -4,7 +4,7 @@ use Rattle.std.proofs.Common.{◌≡◌, ◌⊎◌, ℕ, ◌+◌, ◌-◌, ◌*�
 use Rattle.std.proofs.Common.{refl, sym, ap, ◌∙◌, add-one, arith, inl, inr, nat_lt, true, false}
 use Rattle.ring_core.specs.Prelude.{Family, IsWindow, W, add_state, block_step, family_256}
 use Rattle.ring_core.specs.Prelude.{family_512, next_word, round, rounds_from, scheduled, word_at}
-use Rattle.ring_core.proofs.Schedule.{listed_at-next, window-same, slice_index-listed}
+use Rattle.ring_core.proofs.Schedule.{listed-before, listed_at-next, window-same}
 
 pub W-first : (f : Family) (b : List ℕ) (t : ℕ) → t < 16 → W f b t ≡ word_at f.bits b t
 unfolding W
@@ -23,22 +23,14 @@ pub W-next : (f : Family) (b : List ℕ) (t : ℕ) → let w = W f b in
 unfolding W
 W-next f b t =
     let e : nat_lt (t + 16) 16 ≡ false = search arith in
-    let before = slice_index-listed (next_word f b) (t + 16) in
-    let two : t + 16 - 2 ≡ t + 14 = omega arith in
-    let seven : t + 16 - 7 ≡ t + 9 = omega arith in
-    let fifteen : t + 16 - 15 ≡ t + 1 = omega arith in
-    let sixteen : t + 16 - 16 ≡ t = omega arith in
+    let before = listed-before (next_word f b) (t + 16) in
     listed_at-next (next_word f b) (t + 16)
     ∙ rw (
       e,
-      two,
-      seven,
-      fifteen,
-      sixteen,
-      before (t + 14) (omega arith),
-      before (t + 9) (omega arith),
-      before (t + 1) (omega arith),
-      before t (omega arith),
+      before 2 (t + 14) (omega arith) (omega arith),
+      before 7 (t + 9) (omega arith) (omega arith),
+      before 15 (t + 1) (omega arith) (omega arith),
+      before 16 t (omega arith) (omega arith),
     ) refl
 
 -- a word and the next, each from the words before it

@@ -43,6 +43,12 @@ pub record HoldsSums (s : ℕ → ℕ) (sums : List (List ℕ)) (n : ℕ) : Type
   pub fours : length sums ≡ 4
   pub held : (g : ℕ) → g < n → n ≤ g + 4 → array_at sums (g % 4) ≡ four s g
 
+-- before round 4 g: the sums s from 4 g on, and v are the variables after 4 g rounds
+pub record IsSummed (s : ℕ → ℕ) (rounds : ℕ → List ℕ) (sums : List (List ℕ)) (v : List ℕ) (g : ℕ)
+    : Type 0 where
+  pub ready : HoldsSums s sums (g + 4)
+  pub variables : v ≡ rounds (4 * g)
+
 -- before round 4 g: the sixteen words of w from 4 g on, in fours, and their sums s
 pub record IsReady (w s : ℕ → ℕ) (words sums : List (List ℕ)) (g : ℕ) : Type 0 where
   pub sixteen : words ≡ sixteen w g

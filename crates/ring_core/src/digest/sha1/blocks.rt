@@ -4,8 +4,8 @@
 //! the rounds, which add ready sums of words and constants.
 ghost use Rattle.std.specs.Prelude.{◌≡◌, ℕ, ◌+◌, ◌*◌, ◌<◌, ◌≤◌, List, [], ◌∷◌, drop, map, take};
 ghost use Rattle.ring_core.specs.FourWords.{later_four, next_four};
-ghost use Rattle.ring_core.specs.Prelude.{HoldsSums, IsAhead, IsBlockOf, IsReady, chunk_items};
-ghost use Rattle.ring_core.specs.Prelude.{chunk_total, four, low_32, raised, rotr, sixteen};
+ghost use Rattle.ring_core.specs.Prelude.{HoldsSums, IsAhead, IsReady, IsSummed, chunk_items};
+ghost use Rattle.ring_core.specs.Prelude.{chunk_total, four, low_32, sixteen};
 ghost use Rattle.ring_core.specs.Prelude.{word_32, word_at};
 ghost use Rattle.ring_core.specs.Kernel.{RunsSha1, RunsSha1Words};
 ghost use Rattle.ring_core.specs.Sha1.{HasWords, W, block_step, blocks_from, ready_sum};
@@ -104,13 +104,10 @@ fn four_rounds(sums: &[u32x4; 4], v: [Word32; 5], t: usize) -> [Word32; 5]
 #[inline(always)]
 fn four_rounds_ahead(sums: &mut [u32x4; 4], v: [Word32; 5], words: u32x4, t: usize) -> [Word32; 5]
     requires { t + 20 ≤ 80 }
-    ensures sums { (b : List ℕ) (n : ℕ) → t + 16 ≡ 4 * n → words ≡ four (W b) n
-        → HoldsSums (ready_sum b) (map (map low_32) sums.old) n
-        → HoldsSums (ready_sum b) (map (map low_32) sums.new) (n + 1) }
-    ensures rounds { (h b : List ℕ) (n g : ℕ) → t ≡ 4 * g → n ≡ g + 4
-        → HoldsSums (ready_sum b) (map (map low_32) sums.old) n
-        → map word_32 v ≡ rounds_from h b (4 * g)
-        → map word_32 result ≡ rounds_from h b (4 * (g + 1)) }
+    ensures { (h b : List ℕ) (g : ℕ) → t ≡ 4 * g → words ≡ four (W b) (g + 4)
+        → IsSummed (ready_sum b) (rounds_from h b) (map (map low_32) sums.old) (map word_32 v) g
+        → IsSummed (ready_sum b) (rounds_from h b)
+        (map (map low_32) sums.new) (map word_32 result) (g + 1) }
 {
     let v = four_rounds(sums, v, t);
     put_sums(sums, words, t + 16);

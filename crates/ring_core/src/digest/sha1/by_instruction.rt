@@ -3,11 +3,10 @@
 //! 6.1.2, steps 1 to 4), four rounds at a time, by a processor's instructions: written once for all
 //! processors.
 ghost use Rattle.std.specs.Prelude.{◌≡◌, ℕ, ◌+◌, ◌*◌, ◌<◌, ◌≤◌, List, [], ◌∷◌, length, map, take};
-ghost use Rattle.std.specs.Prelude.{drop};
-ghost use Rattle.ring_core.specs.Prelude.{IsBlockOf, chunk_items, chunk_total, four, raised};
+ghost use Rattle.ring_core.specs.Prelude.{IsBlockOf, chunk_items, chunk_total, four};
 ghost use Rattle.ring_core.specs.Prelude.{sixteen, word_32};
 ghost use Rattle.ring_core.specs.Kernel.{RunsSha1, RunsSha1Words};
-ghost use Rattle.ring_core.specs.Sha1.{W, add_state, block_step, blocks_from, rounds_from};
+ghost use Rattle.ring_core.specs.Sha1.{W, add_state, block_step, rounds_from};
 
 use crate::cost::Meter;
 use crate::digest::instructions::vector::{read_words, words_of};

@@ -7,7 +7,7 @@ ghost use Rattle.std.specs.Prelude.{◌≡◌, ℕ, ◌+◌, ◌*◌, ◌<◌, �
 ghost use Rattle.ring_core.specs.Prelude.{IsBefore, IsBlockOf, IsWindow, chunk_items, chunk_total};
 ghost use Rattle.ring_core.specs.Prelude.{raised, word_32, word_at};
 ghost use Rattle.ring_core.specs.Kernel.{RunsSha1, RunsSha1Words};
-ghost use Rattle.ring_core.specs.Sha1.{W, block_step, blocks_from, rounds_from, scheduled};
+ghost use Rattle.ring_core.specs.Sha1.{W, block_step, rounds_from, scheduled};
 
 use crate::cost::Meter;
 use crate::digest::sha1::round::{CHAINING_WORDS, add_state, round, round_constant};

@@ -4,9 +4,9 @@
 //! of the rounds, which add ready sums of words and constants.
 ghost use Rattle.std.specs.Prelude.{◌≡◌, ℕ, ◌+◌, ◌*◌, ◌%◌, ◌<◌, ◌≤◌, List, [], ◌∷◌, map};
 ghost use Rattle.ring_core.specs.Kernel.{RunsSha2, RunsSha2Words};
-ghost use Rattle.ring_core.specs.Prelude.{HoldsSums, IsAhead, IsBlockOf, IsReady, W, block_len};
+ghost use Rattle.ring_core.specs.Prelude.{HoldsSums, IsAhead, IsReady, W, block_len};
 ghost use Rattle.ring_core.specs.Prelude.{block_step, blocks_from, chunk_items, chunk_total};
-ghost use Rattle.ring_core.specs.Prelude.{family_256, family_512, four, older_four, raised};
+ghost use Rattle.ring_core.specs.Prelude.{family_256, family_512, four, older_four};
 ghost use Rattle.ring_core.specs.Prelude.{ready_sum, rounds_from, sixteen, with_first_two};
 ghost use Rattle.ring_core.specs.Prelude.{with_last_two, word_at, words_32, words_64};
 

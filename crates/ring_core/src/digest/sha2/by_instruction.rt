@@ -4,8 +4,8 @@
 //! processors.
 ghost use Rattle.std.specs.Prelude.{◌≡◌, ℕ, ◌+◌, ◌*◌, ◌<◌, ◌≤◌, List, [], ◌∷◌, length};
 ghost use Rattle.ring_core.specs.Kernel.{RunsSha2, RunsSha2Words};
-ghost use Rattle.ring_core.specs.Prelude.{IsBlockOf, W, add_state, block_step, blocks_from};
-ghost use Rattle.ring_core.specs.Prelude.{chunk_items, chunk_total, family_256, four, raised};
+ghost use Rattle.ring_core.specs.Prelude.{IsBlockOf, W, add_state, block_step};
+ghost use Rattle.ring_core.specs.Prelude.{chunk_items, chunk_total, family_256, four};
 ghost use Rattle.ring_core.specs.Prelude.{ready_sum, rounds_from, sixteen, words_32};
 
 use crate::cost::Meter;

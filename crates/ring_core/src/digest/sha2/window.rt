@@ -6,7 +6,7 @@
 ghost use Rattle.std.specs.Prelude.{◌≡◌, ℕ, ◌+◌, ◌*◌, ◌%◌, ◌<◌, ◌≤◌, List, length, map};
 ghost use Rattle.ring_core.specs.Kernel.{RunsSha2, RunsSha2Words};
 ghost use Rattle.ring_core.specs.Prelude.{IsBefore, IsBlockOf, IsWindow, W, block_len, block_step};
-ghost use Rattle.ring_core.specs.Prelude.{blocks_from, chunk_items, chunk_total, family_256};
+ghost use Rattle.ring_core.specs.Prelude.{chunk_items, chunk_total, family_256};
 ghost use Rattle.ring_core.specs.Prelude.{family_512, raised, rounds_from, scheduled, word_at};
 ghost use Rattle.ring_core.specs.Prelude.{words_32, words_64};
 

@@ -12,13 +12,5 @@ returns g c =
     let e : c.args.e % 2 ^ 32 ≡ c.args.e = omega arith in
     let v = word-read c.step-2.result refl in
     rw c.vector.ensures
-    (simp (
-      v,
-      c.step-2.ensures,
-      c.step-v-2.ensures,
-      c.step.ensures,
-      c.step-v.ensures,
-      e,
-      wk,
-      abcd,
-    ) (λ _. sha1hash (round_function g.row.T) c.args.abcd c.args.e c.args.wk))
+    (simp (v, c.step-2.ensures, c.step-v-2.ensures, c.step.ensures, c.step-v.ensures, e, wk, abcd)
+    (λ _. sha1hash (round_function g.row.T) c.args.abcd c.args.e c.args.wk))

@@ -1,5 +1,5 @@
 -- SPDX-License-Identifier: ISC
-use Rattle.std.proofs.Common.{ℕ, refl, slice_index, w32}
+use Rattle.std.proofs.Common.{refl, slice_index, w32}
 use Rattle.ring_core.specs.Instructions.{sha1rnds4}
 use Rattle.ring_core.proofs.Sha2Instructions.{word-read}
 use Rattle.ring_core.proofs.Sha1Instructions.{rnds4-all}

@@ -21,23 +21,18 @@ returns g c = λ h b n here fits old before.
     let twelfth : c.later_four-twelfth.result ≡ w (n + 11) =
     rw (c.later_four-twelfth.ensures, old, new, tenth, eleventh)
     (simp add_assoc at (W-later_four b (n + 3) fits)) in
-    let first = c.four_rounds_ahead-v.ensures in
-    let second = c.four_rounds_ahead-v-2.ensures in
-    let third = c.four_rounds_ahead-v-3.ensures in
-    let fourth = c.four_rounds_ahead.ensures in
-    let s0 = simp add_assoc at before.schedule.ready in
-    let s1 = simp add_assoc at (first.sums b (n + 8) (omega arith) ninth s0) in
-    let s2 = simp add_assoc at (second.sums b (n + 9) (omega arith) tenth s1) in
-    let s3 = simp add_assoc at (third.sums b (n + 10) (omega arith) eleventh s2) in
-    let s4 = fourth.sums b (n + 11) (omega arith) twelfth s3 in
-    let r1 = first.rounds h b (n + 8) (n + 4) (omega arith) (omega arith) s0 before.variables in
-    let r2 = second.rounds h b (n + 9) (n + 4 + 1) (omega arith) (omega arith) s1 r1 in
-    let r3 = third.rounds h b (n + 10) (n + 4 + 1 + 1) (omega arith) (omega arith) s2 r2 in
-    let r4 = fourth.rounds h b (n + 11) (n + 4 + 1 + 1 + 1) (omega arith) (omega arith) s3 r3 in
+    let r1 = c.four_rounds_ahead-v.ensures h b (n + 4) (omega arith) (simp add_assoc ninth)
+    (record { ready = before.schedule.ready; variables = before.variables }) in
+    let r2 = c.four_rounds_ahead-v-2.ensures h b (n + 4 + 1) (omega arith) (simp add_assoc tenth)
+    r1 in
+    let r3 = c.four_rounds_ahead-v-3.ensures h b (n + 4 + 1 + 1) (omega arith)
+    (simp add_assoc eleventh) r2 in
+    let r4 = c.four_rounds_ahead.ensures h b (n + 4 + 1 + 1 + 1) (omega arith)
+    (simp add_assoc twelfth) r3 in
     record {
       schedule = record {
         sixteen = simp add_assoc (rw (ninth, tenth, eleventh, twelfth) refl);
-        ready = simp add_assoc (simp add_assoc at s4);
+        ready = simp add_assoc (simp add_assoc at r4.ready);
       };
-      variables = simp add_assoc at r4;
+      variables = simp add_assoc at r4.variables;
     }

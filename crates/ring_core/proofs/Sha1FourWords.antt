@@ -11,8 +11,7 @@ use Rattle.std.proofs.lemmas.Nat.Bits.{bit_at_xor, same_from_bits}
 use Rattle.std.proofs.Math.ListN.{get_or-map}
 use Rattle.std.proofs.Math.Nat.{add_assoc}
 use Rattle.std.specs.Int.Bits.{xor_assoc, xor_zero_l}
-use Rattle.ring_core.specs.Prelude.{◌⊕◌, array_at, four, low_32, rotl, sixteen}
-use Rattle.ring_core.specs.Prelude.{word_at}
+use Rattle.ring_core.specs.Prelude.{◌⊕◌, array_at, four, low_32, rotl, sixteen, word_at}
 use Rattle.ring_core.specs.FourWords.{later_four, next_four}
 use Rattle.ring_core.specs.Sha1.{HasWords, W, scheduled}
 use Rattle.ring_core.proofs.FourWords.{four-same, four_more}
@@ -156,7 +155,8 @@ sixteen-at w _ j within below = absurd (omega arith)
 low-lt : (x : List (List ℕ)) (g j : ℕ)
     → slice_index (array_at (map (map low_32) x) g) j < 2 ^ 32
 low-lt x g j =
-    rw (get_or-map (map low_32) x g [], get_or-map low_32 (array_at x g) j 0) (mod-lt _ (pow_pos 32))
+    rw (get_or-map (map low_32) x g [], get_or-map low_32 (array_at x g) j 0)
+    (mod-lt _ (pow_pos 32))
 
 -- where a block's words are read from lanes, those of its schedule have 32 bits
 pub words-of-fours : (b : List ℕ) (x : List (List ℕ))

@@ -1,6 +1,7 @@
 -- SPDX-License-Identifier: ISC
 -- SHA-2's schedule, four words at a time.
-use Rattle.std.proofs.Common.{◌≡◌, ℕ, ◌+◌, ◌*◌, ◌%◌, ◌^◌, ◌<◌, List, [], ◌∷◌, refl, sym, ap, ◌∙◌, arith}
+use Rattle.std.proofs.Common.{◌≡◌, ℕ, ◌+◌, ◌*◌, ◌%◌, ◌^◌, ◌<◌, List, [], ◌∷◌, ◌∙◌, refl, sym}
+use Rattle.std.proofs.Common.{ap, arith}
 use Rattle.std.proofs.Math.Nat.{add_assoc, mod-add-mod}
 use Rattle.ring_core.specs.Prelude.{Family, W, add_words, array_at, four, older_four, older_sum}
 use Rattle.ring_core.specs.Prelude.{sixteen, with_first_two, with_last_two, word_at, σ0, σ1}

@@ -8,8 +8,7 @@ use Rattle.std.specs.declared.num.Wrapping.{Wrapping}
 use Rattle.ring_core.specs.Instructions.{intel_round, sha256h, sha256h2, sha256hash}
 use Rattle.ring_core.specs.Instructions.{sha256hash_step, sha256rnds2, sha256su0, sha256su1}
 use Rattle.ring_core.specs.Prelude.{W, add_words, constants_256, family_256, ready_sum, round}
-use Rattle.ring_core.specs.Prelude.{older_four, rounds_from, with_first_two, with_last_two}
-use Rattle.ring_core.specs.Prelude.{word_32}
+use Rattle.ring_core.specs.Prelude.{older_four, rounds_from, with_first_two, with_last_two, word_32}
 use Rattle.ring_core.proofs.FourWords.{plus-none}
 use Rattle.ring_core.proofs.Mapped.{number_at}
 use Rattle.ring_core.proofs.Schedule.{steps-four}

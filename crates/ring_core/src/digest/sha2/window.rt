@@ -6,9 +6,8 @@
 ghost use Rattle.std.specs.Prelude.{◌≡◌, ℕ, ◌+◌, ◌*◌, ◌%◌, ◌<◌, ◌≤◌, List, length, map};
 ghost use Rattle.ring_core.specs.Kernel.{RunsSha2, RunsSha2Words};
 ghost use Rattle.ring_core.specs.Prelude.{IsBefore, IsBlockOf, IsWindow, W, block_len, block_step};
-ghost use Rattle.ring_core.specs.Prelude.{chunk_items, chunk_total, family_256};
-ghost use Rattle.ring_core.specs.Prelude.{family_512, raised, rounds_from, scheduled, word_at};
-ghost use Rattle.ring_core.specs.Prelude.{words_32, words_64};
+ghost use Rattle.ring_core.specs.Prelude.{chunk_items, chunk_total, family_256, family_512, raised};
+ghost use Rattle.ring_core.specs.Prelude.{rounds_from, scheduled, word_at, words_32, words_64};
 
 use crate::cost::Meter;
 use crate::digest::sha2::round::{add_state, round, small_sigma};
@@ -141,10 +140,9 @@ fn next_two_rounds<S: ExtendByTwo>(
     requires place { place + 2 ≤ 16 }
     requires later { 1 ≤ turn }
     requires turn { 16 * turn + 16 ≤ S.One.family.rounds }
-    ensures { (i : ℕ) (h b : List ℕ) (t : ℕ) → t ≡ 16 * turn + place
-        → IsBefore (W S.One.family b) (rounds_from S.One.family h b)
-        (map (S.lane i) window.old) (map (S.lane i) v) t
-        → IsBefore (W S.One.family b) (rounds_from S.One.family h b)
+    ensures { (i : ℕ) (h b : List ℕ) (t : ℕ) → let f = S.One.family in t ≡ 16 * turn + place
+        → IsBefore (W f b) (rounds_from f h b) (map (S.lane i) window.old) (map (S.lane i) v) t
+        → IsBefore (W f b) (rounds_from f h b)
         (map (S.lane i) window.new) (map (S.lane i) result) (t + 2) }
 {
     extend::<S>(window, place);
@@ -174,10 +172,10 @@ fn later_turn<S: ExtendByTwo>(window: &mut [S; 16], v: [S; 8], turn: usize) -> [
     requires some { 0 < S.LANES }
     requires later { 1 ≤ turn }
     requires turn { 16 * turn + 16 ≤ S.One.family.rounds }
-    ensures { (i : ℕ) (h b : List ℕ)
-        → IsBefore (W S.One.family b) (rounds_from S.One.family h b)
+    ensures { (i : ℕ) (h b : List ℕ) → let f = S.One.family in
+        IsBefore (W f b) (rounds_from f h b)
         (map (S.lane i) window.old) (map (S.lane i) v) (16 * turn)
-        → IsBefore (W S.One.family b) (rounds_from S.One.family h b)
+        → IsBefore (W f b) (rounds_from f h b)
         (map (S.lane i) window.new) (map (S.lane i) result) (16 * (turn + 1)) }
 {
     let v = next_two_rounds(window, v, turn, 0);

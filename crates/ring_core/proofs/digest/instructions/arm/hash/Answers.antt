@@ -11,7 +11,8 @@ returns c =
     let efgh = word-read _ c.to_words-2.ensures in
     let wk = word-read _ c.to_words-3.ensures in
     let step = λ (v : List ℕ) (i : ℕ).
-    round-sum sha256hash_step arm-round v (slice_index c.args.wk i) (at_fits w32 c.args.wk c.fits-wk.1 i) in
+    round-sum sha256hash_step arm-round v (slice_index c.args.wk i)
+    (at_fits w32 c.args.wk c.fits-wk.1 i) in
     rw (
       c.round_of_sum-3.ensures,
       c.round_of_sum-2.ensures,

@@ -12,7 +12,8 @@ returns c =
     let wk = word-read _ c.to_words-3.ensures in
     let v = word-read c.round_of_sum-v.result refl in
     let step = λ (v : List ℕ) (i : ℕ).
-    round-sum intel_round intel-round v (slice_index c.args.wk i) (at_fits w32 c.args.wk c.fits-wk.1 i) in
+    round-sum intel_round intel-round v (slice_index c.args.wk i)
+    (at_fits w32 c.args.wk c.fits-wk.1 i) in
     rw c.vector.ensures
     (simp (v, c.round_of_sum-v.ensures, c.round_of_sum.ensures, cdgh, abef, wk, step)
     (λ _. sha256rnds2 c.args.cdgh c.args.abef c.args.wk))

@@ -1,5 +1,5 @@
 -- SPDX-License-Identifier: ISC
-use Rattle.std.proofs.Common.{◌≡◌, arith, ◌∙◌, List, ℕ, ap, map, rules, take}
+use Rattle.std.proofs.Common.{arith, ◌∙◌, List, ℕ, ap, rules}
 use Rattle.std.proofs.lemmas.Grind.{common_steps}
 use Rattle.ring_core.specs.Prelude.{word_32}
 use Rattle.ring_core.specs.Sha1.{block_step}
@@ -12,10 +12,9 @@ returns g c = record {
       λ b is.
       let state = c.args.state.now in
       let start = c.pack-words.ensures ∙ first_five word_32 state (search rules) _ _ _ _ _ in
-      let done : map word_32 c.unpack.result ≡ block_step (take 5 (map word_32 state)) b =
-      c.unpack.ensures ∙ c.run_block.ensures b (c.block_of_words.ensures b is)
-      ∙ ap (λ (h : List ℕ). block_step h b) start in
-      all_five c.unpack.result (search rules) ∙ done;
+      all_five c.unpack.result (search rules) ∙ c.unpack.ensures
+      ∙ c.run_block.ensures b (c.block_of_words.ensures b is)
+      ∙ ap (λ (h : List ℕ). block_step h b) start;
   rest = grind (arith, common_steps);
   cost = c.add_block.ensures;
 }

@@ -57,7 +57,7 @@ STANDARDS = {
 # Calls of these modules that compute nothing of a standard.
 HOLD_VALUES = {
     "ring_core::digest::states": ("new", "splat", "state", "xor_assign"),
-    "ring_core::digest::word::lane_word": ("splat", "word", "with"),
+    "ring_core::digest::word::lanes": ("splat", "word", "with"),
     "ring::digest::dynstate": ("new32", "new64"),
 }
 SECTION = r"\(?(?:sections? )?\d+(?:\.\d+)*\b"

@@ -27,4 +27,4 @@ unfoldable pub use Rattle.ring_core.specs.Sha2.{constants_256, constants_512, W,
 unfoldable pub use Rattle.ring_core.specs.Sha2.{block_step}
 pub use Rattle.ring_core.specs.FourWords.{later_four, next_four, older_four, older_sum}
 pub use Rattle.ring_core.specs.FourWords.{with_first_two, with_last_two}
-pub use Rattle.ring_core.specs.declared.digest.word.vectors.InLanes.{InLanes}
+pub use Rattle.ring_core.specs.declared.digest.word.lanes.InLanes.{InLanes}

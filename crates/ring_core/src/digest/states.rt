@@ -4,8 +4,7 @@ ghost use Rattle.std.specs.Prelude.{◌≡◌, ℕ, ⊤, ◌<◌, length, map, s
 ghost use Rattle.ring_core.specs.Prelude.{array_at, words_of_lane, xor_lists};
 
 use crate::digest::word::Word;
-use crate::digest::word::lane_word::{LaneWord, Vector};
-use crate::digest::word::vectors::InLanes;
+use crate::digest::word::lanes::{InLanes, LaneWord, Vector};
 use std::alloc::AllocError;
 use std::num::Wrapping;
 

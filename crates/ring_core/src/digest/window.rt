@@ -4,8 +4,7 @@ ghost use Rattle.std.specs.Prelude.{◌≡◌, ℕ, ◌+◌, ◌*◌, ◌/◌, �
 ghost use Rattle.std.specs.Prelude.{length, map, slice_index, take};
 ghost use Rattle.ring_core.specs.Prelude.{IsBlockOf, IsWindow, array_at, word_at};
 
-use crate::digest::word::lane_word::{LaneWord, Vector};
-use crate::digest::word::vectors::InLanes;
+use crate::digest::word::lanes::{InLanes, LaneWord, Vector};
 use crate::digest::word::{Sha2, Word};
 
 // Whether this build runs the blocks of one message over a window. It has no contract, so that

@@ -1,9 +1,8 @@
 // SPDX-License-Identifier: ISC
 //! The words of the block functions and their operations (FIPS 180-4, 3.2 and 4.1), for both sizes.
 
-pub mod lane_word;
+pub mod lanes;
 mod traits;
-pub mod vectors;
 pub(crate) mod w32;
 pub(crate) mod w64;
 

@@ -24,8 +24,7 @@ use ring_core::digest::sha2::{
 };
 use ring_core::digest::states::{States, Window};
 use ring_core::digest::word::Word;
-use ring_core::digest::word::lane_word::{LaneWord, Vector};
-use ring_core::digest::word::vectors::InLanes;
+use ring_core::digest::word::lanes::{InLanes, LaneWord, Vector};
 use std::num::Wrapping;
 
 // The greatest number of lanes.

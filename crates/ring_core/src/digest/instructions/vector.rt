@@ -3,7 +3,7 @@
 ghost use Rattle.std.specs.Prelude.{◌≡◌, ◌<◌, ◌≤◌, ℕ, List, [], ◌∷◌, length, map};
 ghost use Rattle.ring_core.specs.Prelude.{IsBlockOf, four, word_32, word_at};
 
-use crate::digest::word::lane_word::word_of;
+use crate::digest::word::lanes::word_of;
 use std::num::Wrapping;
 use std::simd::{Simd, u8x16, u32x4};
 

@@ -20,7 +20,7 @@ use crate::digest::sha1::window::{
 };
 use crate::digest::sha1::x86::X86;
 use crate::digest::window;
-use crate::digest::word::lane_word::{FourWords, four_of, read_four};
+use crate::digest::word::lanes::{FourWords, four_of, read_four};
 use crate::digest::word::w32::rotate_four;
 use crate::polyfill::slice::AsChunks;
 use std::num::Wrapping;

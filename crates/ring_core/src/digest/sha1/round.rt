@@ -5,7 +5,7 @@ ghost use Rattle.std.specs.Prelude.{◌≡◌, ℕ, ◌<◌, ◌≤◌, map, dro
 ghost use Rattle.ring_core.specs.Prelude.{add_words, rotl, word_32};
 ghost use Rattle.ring_core.specs.Sha1.{add_state, round, round_constant, round_function};
 
-use crate::digest::word::lane_word::{LaneWord, choose_word, majority_word};
+use crate::digest::word::lanes::{LaneWord, choose_word, majority_word};
 use std::num::Wrapping;
 
 // The number of chaining words (6.1).

@@ -12,7 +12,7 @@ ghost use Rattle.ring_core.specs.Sha1.{W, block_step, rounds_from, scheduled};
 use crate::cost::Meter;
 use crate::digest::sha1::round::{CHAINING_WORDS, add_state, round, round_constant};
 use crate::digest::window::{in_two_lanes, load_block, load_words, pair, set_pair};
-use crate::digest::word::lane_word::{LaneWord, Vector};
+use crate::digest::word::lanes::{LaneWord, Vector};
 use crate::polyfill::slice::AsChunks;
 use std::num::Wrapping;
 use std::simd::u32x2;

@@ -23,7 +23,7 @@ use crate::digest::sha2::x86::X86;
 use crate::digest::states::{State32, State64};
 use crate::digest::window;
 use crate::digest::word::Sha2;
-use crate::digest::word::lane_word::{FourWords, four_of, read_four};
+use crate::digest::word::lanes::{FourWords, four_of, read_four};
 use crate::polyfill::slice::AsChunks;
 use std::num::Wrapping;
 use std::simd::Simd;

@@ -9,8 +9,7 @@ use crate::cost::Meter;
 use crate::digest::sha2::window::{Before, ExtendByTwo, next_word, run_loaded, run_words};
 use crate::digest::states::{States, Window};
 use crate::digest::window::load_blocks;
-use crate::digest::word::lane_word::{LaneWord, Vector};
-use crate::digest::word::vectors::InLanes;
+use crate::digest::word::lanes::{InLanes, LaneWord, Vector};
 
 impl<V: Vector> ExtendByTwo for InLanes<V> {
     #[inline(always)]

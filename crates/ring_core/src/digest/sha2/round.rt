@@ -6,7 +6,7 @@ ghost use Rattle.ring_core.specs.Prelude.{add_state, add_words, round, three_rot
 ghost use Rattle.ring_core.specs.Prelude.{two_rotations_and_shift};
 
 use crate::digest::word::Sha2;
-use crate::digest::word::lane_word::{LaneWord, Vector, choose_word, majority_word};
+use crate::digest::word::lanes::{LaneWord, Vector, choose_word, majority_word};
 
 // σ0 or σ1 of each word (4.1.2, 4.1.3), by its counts, the rotations nested.
 #[inline(always)]

@@ -14,7 +14,7 @@ use crate::digest::sha2::round::{add_state, round, small_sigma};
 use crate::digest::states::{State32, State64};
 use crate::digest::window::{in_two_lanes, load_block, load_words, pair, set_pair};
 use crate::digest::word::Sha2;
-use crate::digest::word::lane_word::{LaneWord, Vector};
+use crate::digest::word::lanes::{LaneWord, Vector};
 use crate::polyfill::slice::AsChunks;
 use std::num::Wrapping;
 use std::simd::{u32x2, u64x2};

@@ -5,7 +5,7 @@ ghost use Rattle.std.specs.Prelude.{bit_and, bit_or, bit_xor, slice_index};
 ghost use Rattle.std.proofs.Common.{refl, mod-lt, pow_pos};
 ghost use Rattle.ring_core.specs.Prelude.{low_32, rotr};
 
-use crate::digest::word::lane_word::FourWords;
+use crate::digest::word::lanes::FourWords;
 use crate::digest::word::traits::Word;
 use std::num::Wrapping;
 use std::simd::{Simd, u32x4, u64x2};

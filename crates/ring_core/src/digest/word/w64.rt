@@ -5,7 +5,7 @@ ghost use Rattle.std.specs.Prelude.{bit_or, bit_xor};
 ghost use Rattle.std.proofs.Common.{refl, mod-lt, pow_pos};
 ghost use Rattle.ring_core.specs.Prelude.{rotr};
 
-use crate::digest::word::lane_word::FourWords;
+use crate::digest::word::lanes::FourWords;
 use crate::digest::word::traits::Word;
 use std::num::Wrapping;
 use std::simd::{Simd, u64x4};

@@ -1,6 +1,6 @@
 -- SPDX-License-Identifier: ISC
 use Rattle.std.proofs.Common.{◌+◌, ◌*◌, arith, refl}
-use Rattle.ring_core.proofs.digest.word.lane_word.four_of.Goals as goal
+use Rattle.ring_core.proofs.digest.word.lanes.four_of.Goals as goal
 
 pub returns : goal.returns
 returns g c = λ b is.

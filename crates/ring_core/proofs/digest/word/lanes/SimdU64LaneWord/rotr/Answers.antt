@@ -1,7 +1,7 @@
 -- SPDX-License-Identifier: ISC
 use Rattle.std.proofs.Common.{arith, ◌%◌, w64}
 use Rattle.ring_core.proofs.Vectors.{at_rotr}
-use Rattle.ring_core.proofs.digest.word.vectors.SimdU64LaneWord.rotr.Goals as goal
+use Rattle.ring_core.proofs.digest.word.lanes.SimdU64LaneWord.rotr.Goals as goal
 
 pub returns : goal.returns
 returns g c = λ i.

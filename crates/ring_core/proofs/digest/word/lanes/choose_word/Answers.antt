@@ -1,7 +1,7 @@
 -- SPDX-License-Identifier: ISC
 use Rattle.std.proofs.Common.{arith}
 use Rattle.ring_core.proofs.ShortForms.{choose-short}
-use Rattle.ring_core.proofs.digest.word.lane_word.choose_word.Goals as goal
+use Rattle.ring_core.proofs.digest.word.lanes.choose_word.Goals as goal
 
 pub returns : goal.returns
 returns g c = λ i.

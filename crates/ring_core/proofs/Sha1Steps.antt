@@ -1,6 +1,6 @@
 -- SPDX-License-Identifier: ISC
 -- The steps of SHA-1's definitions.
-use Rattle.std.proofs.Common.{◌≡◌, ℕ, ◌+◌, ◌-◌, ◌<◌, ◌≤◌, List, length, refl, ap, sym, ◌∙◌, add-one}
+use Rattle.std.proofs.Common.{◌≡◌, ℕ, ◌+◌, ◌-◌, ◌<◌, ◌≤◌, List, refl, sym, ◌∙◌, add-one}
 use Rattle.std.proofs.Common.{arith, nat_lt, true, false}
 use Rattle.ring_core.specs.Prelude.{IsWindow, word_at}
 use Rattle.ring_core.specs.Sha1.{W, add_state, block_step, next_word, round, rounds_from, scheduled}
@@ -41,7 +41,3 @@ rounds-next h b t = rw add-one refl
 pub block_step-rounds : (h b : List ℕ) → block_step h b ≡ add_state h (rounds_from h b 80)
 unfolding block_step
 block_step-rounds h b = refl
-
--- the block function gives five words
-pub length-block_step : (h b : List ℕ) → length (block_step h b) ≡ 5
-length-block_step h b = ap length (block_step-rounds h b)

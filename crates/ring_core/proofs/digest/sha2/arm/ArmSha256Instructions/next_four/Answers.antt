@@ -6,8 +6,4 @@ use Rattle.ring_core.proofs.digest.sha2.arm.ArmSha256Instructions.next_four.Goal
 
 pub returns : goal.returns
 returns c = λ b n words.
-    rw (
-      c.sha256su1.ensures,
-      c.sha256su0.ensures,
-      arm-next c.args.first c.args.second c.args.third c.args.fourth,
-    ) (W-next_words family_256 b n words)
+    rw (c.sha256su1.ensures, c.sha256su0.ensures, arm-next) (W-next_words family_256 b n words)

@@ -3,7 +3,7 @@
 
 use crate::fault::Fault;
 use crate::schedules::quic::{initial_output, packet_output};
-use crate::schedules::stages::{Inputs, stage_output};
+use crate::schedules::stages::{Inputs, Wanted, stage_output};
 use crate::words::{bytes_in, copy_of, hash_in, room_in};
 use ring_schedules::extract::hkdf_extract;
 use ring_schedules::label::hkdf_expand_label;
@@ -23,7 +23,7 @@ pub fn secret_bytes(alloc: Global, words: &[&str]) -> Result<Vec<u8>, Fault> {
         }
         ["tls13", hash, psk, shared, name, transcript, output] => {
             let inputs = Inputs::new(alloc, hash, [psk, shared, transcript])?;
-            stage_output(alloc, &inputs, name, output)
+            stage_output(alloc, &inputs, Wanted { name, output })
         }
         ["quic", version, id, side, output] => initial_output(alloc, [version, id, side], output),
         ["packet", version, hash, secret, output] => {

@@ -82,110 +82,99 @@ fn master_of(
     Ok(handshake_of(hash, psk, shared)?.into_master())
 }
 
-/// Of the secret `name`: `output`.
-pub fn stage_output(
-    alloc: Global,
-    inputs: &Inputs,
-    name: &str,
-    output: &str,
-) -> Result<Vec<u8>, Fault> {
-    match name {
-        "ext-binder" | "res-binder" => binder_output(alloc, inputs, name, output),
-        "c-e-traffic" | "e-exp-master" => early_output(alloc, inputs, name, output),
-        "c-hs-traffic" | "s-hs-traffic" => handshake_output(alloc, inputs, name, output),
-        "c-ap-traffic" | "s-ap-traffic" | "exp-master" => {
-            master_output(alloc, inputs, name, output)
-        }
-        "res-master" => last_output(alloc, inputs, output),
+/// What is asked for: the name of a secret, and what is made of it.
+#[derive(Clone, Copy)]
+pub struct Wanted<'a> {
+    pub name: &'a str,
+    pub output: &'a str,
+}
+
+/// The answer to what is asked for.
+pub fn stage_output(alloc: Global, inputs: &Inputs, wanted: Wanted) -> Result<Vec<u8>, Fault> {
+    match wanted.name {
+        "ext-binder" | "res-binder" => binder_output(alloc, inputs, wanted),
+        "c-e-traffic" | "e-exp-master" => early_output(alloc, inputs, wanted),
+        "c-hs-traffic" | "s-hs-traffic" => handshake_output(alloc, inputs, wanted),
+        "c-ap-traffic" | "s-ap-traffic" | "exp-master" => { master_output(alloc, inputs, wanted) }
+        "res-master" => last_output(alloc, inputs, wanted),
         _ => Err(Fault::BadLine),
     }
 }
 
 /// Of a binder's key.
-fn binder_output(
-    alloc: Global,
-    inputs: &Inputs,
-    name: &str,
-    output: &str,
-) -> Result<Vec<u8>, Fault> {
+fn binder_output(alloc: Global, inputs: &Inputs, wanted: Wanted) -> Result<Vec<u8>, Fault> {
     let early = early_of(inputs.hash, &inputs.psk)?;
-    match name {
-        "ext-binder" => finished_output(alloc, inputs.hash, &early.external_binder_key(), output),
-        _ => finished_output(alloc, inputs.hash, &early.resumption_binder_key(), output),
-    }
+    let key = match wanted.name {
+        "ext-binder" => early.external_binder_key(),
+        _ => early.resumption_binder_key(),
+    };
+    finished_output(alloc, inputs.hash, &key, wanted.output)
 }
 
 /// Of a secret of the first stage.
-fn early_output(
-    alloc: Global,
-    inputs: &Inputs,
-    name: &str,
-    output: &str,
-) -> Result<Vec<u8>, Fault> {
+fn early_output(alloc: Global, inputs: &Inputs, wanted: Wanted) -> Result<Vec<u8>, Fault> {
     let hash = inputs.hash;
     let hello = TranscriptHash::new(ClientHello, hash, inputs.digest.as_slice())?;
     let early = early_of(hash, &inputs.psk)?;
-    match name {
+    match wanted.name {
         "c-e-traffic" => {
             traffic_output(
                 alloc,
                 hash,
                 early.client_early_traffic_secret(&hello),
-                output,
+                wanted.output,
             )
         }
-        _ => exporter_output(alloc, &early.early_exporter_master_secret(&hello), output),
+        _ => exporter_output(
+            alloc,
+            &early.early_exporter_master_secret(&hello),
+            wanted.output,
+        ),
     }
 }
 
 /// Of a secret of the second stage.
-fn handshake_output(
-    alloc: Global,
-    inputs: &Inputs,
-    name: &str,
-    output: &str,
-) -> Result<Vec<u8>, Fault> {
+fn handshake_output(alloc: Global, inputs: &Inputs, wanted: Wanted) -> Result<Vec<u8>, Fault> {
     let hash = inputs.hash;
     let hellos = TranscriptHash::new(ServerHello, hash, inputs.digest.as_slice())?;
     let handshake = handshake_of(hash, &inputs.psk, &inputs.shared)?;
-    let traffic = match name {
+    let traffic = match wanted.name {
         "c-hs-traffic" => handshake.client_handshake_traffic_secret(&hellos),
         _ => handshake.server_handshake_traffic_secret(&hellos),
     };
-    traffic_output(alloc, hash, traffic, output)
+    traffic_output(alloc, hash, traffic, wanted.output)
 }
 
 /// Of a secret of the last stage.
-fn master_output(
-    alloc: Global,
-    inputs: &Inputs,
-    name: &str,
-    output: &str,
-) -> Result<Vec<u8>, Fault> {
+fn master_output(alloc: Global, inputs: &Inputs, wanted: Wanted) -> Result<Vec<u8>, Fault> {
     let hash = inputs.hash;
     let to_server = TranscriptHash::new(ServerFinished, hash, inputs.digest.as_slice())?;
     let master = master_of(hash, &inputs.psk, &inputs.shared)?;
-    match name {
+    match wanted.name {
         "c-ap-traffic" => {
             let traffic = master.client_application_traffic_secret(&to_server);
-            traffic_output(alloc, hash, traffic, output)
+            traffic_output(alloc, hash, traffic, wanted.output)
         }
         "s-ap-traffic" => {
             let traffic = master.server_application_traffic_secret(&to_server);
-            traffic_output(alloc, hash, traffic, output)
+            traffic_output(alloc, hash, traffic, wanted.output)
         }
-        _ => exporter_output(alloc, &master.exporter_master_secret(&to_server), output),
+        _ => exporter_output(
+            alloc,
+            &master.exporter_master_secret(&to_server),
+            wanted.output,
+        ),
     }
 }
 
 /// Of the resumption's secret.
-fn last_output(alloc: Global, inputs: &Inputs, output: &str) -> Result<Vec<u8>, Fault> {
+fn last_output(alloc: Global, inputs: &Inputs, wanted: Wanted) -> Result<Vec<u8>, Fault> {
     let hash = inputs.hash;
     let to_client = TranscriptHash::new(ClientFinished, hash, inputs.digest.as_slice())?;
     let master = master_of(hash, &inputs.psk, &inputs.shared)?;
     resumption_output(
         alloc,
         &master.into_resumption_master_secret(&to_client),
-        output,
+        wanted.output,
     )
 }

@@ -206,7 +206,8 @@ pub(crate) fn run_loaded<S: ExtendByTwo>(window: &mut [S; 16], state: &mut [S; 8
     *state = add_state(state, &variables); // step 4
 }
 
-// Runs the block function over each block in order, the same in each lane.
+// Runs the block function over each block in order. Every lane runs the same, so lane 0 stands for
+// all in the contract.
 #[tactic(auto, using(crate::proofs::Costs::rises, crate::proofs::ChunkFolds::folds))]
 fn run_blocks<S: ExtendByTwo, const N: usize>(
     window: &mut [S; 16],

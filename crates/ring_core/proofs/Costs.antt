@@ -1,6 +1,7 @@
 -- SPDX-License-Identifier: ISC
 -- How rises of a meter add up.
-use Rattle.std.proofs.Common.{◌≡◌, ◌≢◌, ℕ, ◌+◌, ◌^◌, ◌<◌, ◌==◌, false, refl, ap, arith, rules}
+use Rattle.std.proofs.Common.{◌≡◌, ◌≢◌, ℕ, ◌+◌, ◌-◌, ◌^◌, ◌<◌, ◌==◌, false, refl, ap, arith, rules}
+use Rattle.std.proofs.Common.{min}
 use Rattle.ring_core.specs.Prelude.{Counts, compared_pairs, raised, raised_count}
 
 raised_count-none : (n : ℕ) → n ≡ raised_count n 0
@@ -51,3 +52,8 @@ pub compared_pairs-none : (m n : ℕ) → m ≢ n → compared_pairs m n ≡ 0
 compared_pairs-none m n differ = let e : (m == n) ≡ false = search (rules, differ) in rw e refl
 
 pub ruleset rises = (raised-none, raised-raised, compared_pairs-none)
+
+-- of a count that a meter can show, the rise is the sum cut off at 2 ^ 128 - 1
+pub raised_count-cut_off : (count n : ℕ) → count < 2 ^ 128
+    → raised_count count n ≡ min (count + n) (2 ^ 128 - 1)
+raised_count-cut_off count n fits = omega arith

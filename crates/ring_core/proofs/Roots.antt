@@ -1,11 +1,11 @@
 -- SPDX-License-Identifier: ISC
 -- A table of roots, tested by computing.
 use Rattle.std.proofs.Common.{◌≡◌, ℕ, zero, suc, ◌+◌, ◌*◌, ◌^◌, ◌<◌, ◌&&◌, nat_le, nat_lt, Bool}
-use Rattle.std.proofs.Common.{true, false, if◌then◌else◌, List, [], ◌∷◌, length, slice_index}
+use Rattle.std.proofs.Common.{true, false, if◌then◌else◌, List, [], ◌∷◌, length, slice_index, refl}
 use Rattle.std.proofs.Common.{arith, rules}
 use Rattle.std.proofs.lemmas.Bool.{and_parts}
 use Rattle.std.proofs.lemmas.Bool.Decides.{nat_tests}
-use Rattle.ring_core.specs.Prelude.{IsRootFraction}
+use Rattle.ring_core.specs.Prelude.{IsRootFraction, first_primes}
 
 -- the whole part of the root of order e of p, where it is at most n
 abbrev whole_root : ℕ → ℕ → ℕ → ℕ
@@ -42,3 +42,8 @@ fraction_at e w (p ∷ ps) (k ∷ ks) zero passes in_table =
     tested e w p (whole_root e p p) k (and_parts _ _ passes).0
 fraction_at e w (p ∷ ps) (k ∷ ks) (suc t) passes in_table =
     fraction_at e w ps ks t (and_parts _ _ passes).1 (omega arith)
+
+-- as many primes as SHA-512 has rounds
+length-first_primes : length first_primes ≡ 80
+unfolding first_primes
+length-first_primes = refl

@@ -1,7 +1,7 @@
 -- SPDX-License-Identifier: ISC
 -- Rises of a meter.
 use Rattle.std.proofs.Common.{◌≡◌, ◌≤◌, ◌∙◌, ℕ, ◌+◌, ◌*◌, List, [], ◌∷◌, ◌++◌, ap, arith, length}
-use Rattle.std.proofs.Common.{refl, subst, sym}
+use Rattle.std.proofs.Common.{subst, sym}
 use Rattle.std.proofs.lemmas.List.{length-append}
 use Rattle.ring.proofs.Costs.{raised-none, raised-raised}
 use Rattle.ring.specs.Prelude.{Counts, IsTagWithin, compared_pairs, raised}
@@ -10,8 +10,7 @@ use Rattle.ring.specs.declared.digest.algorithm.TheConstants.{SHA256}
 use Rattle.std.proofs.lemmas.Grind.{common_steps}
 use Rattle.ring_text.specs.Cut.{IsFirstCut, IsWithout}
 use Rattle.ring_tokens.specs.Alg.{algorithm_of, hash_len}
-use Rattle.ring_tokens.specs.Cost.{HasVerified, items_pairs, otp_blocks, raised_by_tests}
-use Rattle.ring_tokens.specs.Cost.{signed_len, tag_blocks}
+use Rattle.ring_tokens.specs.Cost.{HasVerified, otp_blocks, raised_by_tests, signed_len, tag_blocks}
 use Rattle.ring_tokens.specs.Otp.{digits_of}
 use Rattle.ring_tokens.specs.declared.otp.Digits.{Digits}
 use Rattle.ring_tokens.specs.declared.otp.Digits.TheVariants.{Six, Seven, Eight}
@@ -43,35 +42,24 @@ has_verified {token} {q} at a {m0} {m1} cost none =
           (subst (λ n. IsTagWithin (algorithm_of a) n) len within));
     }
 
--- an item is compared, and then the rest
-pairs_cons : (n : ℕ) (item : List ℕ) (items : List (List ℕ))
-    → items_pairs n (item ∷ items) ≡ compared_pairs (length item) n + items_pairs n items
-unfolding items_pairs
-pairs_cons n item items = refl
+-- a tag is compared with an item, and then with each of the rest
+pub pairs_more : (m1 : Counts) {whole m2 : Counts} {text before behind : List ℕ}
+    → IsFirstCut 44 text before behind → whole ≡ raised m1 0 (32 * length (items_of text))
+    → m2 ≡ raised m1 0 32 → whole ≡ raised m2 0 (32 * length (items_of behind))
+pairs_more m1 {before = before} {behind} cut all one =
+    let rest = 32 * length (items_of behind) in
+    all ∙ ap (λ items. raised m1 0 (32 * length items)) (items_cut cut)
+    ∙ ap (raised m1 0) (next before (items_of behind))
+    ∙ sym (raised-raised m1 0 32 0 rest) ∙ ap (λ m. raised m 0 rest) (sym one)
+  where
+    next : (item : List ℕ) (items : List (List ℕ))
+        → 32 * length (item ∷ items) ≡ 32 + 32 * length items
+    next item items = omega arith
 
-pairs_nil : (n : ℕ) → items_pairs n [] ≡ 0
-unfolding items_pairs
-pairs_nil n = refl
-
-pub pairs_more : (n : ℕ) (m1 : Counts) {whole m2 : Counts} {text before behind : List ℕ}
-    → IsFirstCut 44 text before behind → whole ≡ raised m1 0 (items_pairs n (items_of text))
-    → m2 ≡ raised m1 0 (compared_pairs (length before) n)
-    → whole ≡ raised m2 0 (items_pairs n (items_of behind))
-pairs_more n m1 {whole} {m2} {text} {before} {behind} cut all one =
-    let rest = items_pairs n (items_of behind) in
-    all ∙ ap (raised m1 0)
-    (ap (items_pairs n) (items_cut cut) ∙ pairs_cons n before (items_of behind))
-    ∙ sym (raised-raised m1 0 (compared_pairs (length before) n) 0 rest)
-    ∙ ap (λ m. raised m 0 rest) (sym one)
-
-pub pairs_last : (n : ℕ) (m1 : Counts) (text : List ℕ) {whole m2 : Counts} → IsWithout 44 text
-    → whole ≡ raised m1 0 (items_pairs n (items_of text))
-    → m2 ≡ raised m1 0 (compared_pairs (length text) n) → m2 ≡ whole
-pairs_last n m1 text {whole} {m2} apart all one =
-    let pairs : items_pairs n (items_of text) ≡ compared_pairs (length text) n =
-    ap (items_pairs n) (items_none text apart) ∙ pairs_cons n text []
-    ∙ ap (λ k. compared_pairs (length text) n + k) (pairs_nil n) ∙ omega arith in
-    one ∙ ap (raised m1 0) (sym pairs) ∙ sym all
+pub pairs_last : (m1 : Counts) (text : List ℕ) {whole m2 : Counts} → IsWithout 44 text
+    → whole ≡ raised m1 0 (32 * length (items_of text)) → m2 ≡ raised m1 0 32 → m2 ≡ whole
+pairs_last m1 text apart all one =
+    one ∙ ap (λ items. raised m1 0 (32 * length items)) (sym (items_none text apart)) ∙ sym all
 
 -- no password has more than eight digits
 pub digits_most : (d : Digits) → digits_of d ≤ 8
@@ -116,18 +104,16 @@ rise_compared m0 {m1} {m2} b p one two =
     before n = omega arith
 
 -- what Stripe signs, and the items that are compared
-pub stripe_cost : (m0 : Counts) {m1 m2 : Counts} {a : Algorithm} (digits body its item : List ℕ)
+pub stripe_cost : (m0 : Counts) {m1 m2 : Counts} {a : Algorithm} (digits body its : List ℕ)
     (n : ℕ) {items : List ℕ} → a ≡ SHA256 → digits ++ 46 ∷ (body ++ []) ≡ stripe_message n body
-    → its ≡ items → length item ≡ 67
-    → m1 ≡ raised m0 (tag_blocks a (length (digits ++ 46 ∷ (body ++ [])))) 0
-    → m2 ≡ raised m1 0 (items_pairs (length item) (items_of its))
+    → its ≡ items → m1 ≡ raised m0 (tag_blocks a (length (digits ++ 46 ∷ (body ++ [])))) 0
+    → m2 ≡ raised m1 0 (32 * length (items_of its))
     → m2 ≡ raised m0 (tag_blocks SHA256 (length (stripe_message n body)))
-    (items_pairs 67 (items_of items))
-stripe_cost m0 {a = a} digits body its item n alg message same len one two =
-    let pairs = items_pairs (length item) (items_of its) in
+    (32 * length (items_of items))
+stripe_cost m0 {a = a} digits body its n alg message same one two =
+    let pairs = 32 * length (items_of its) in
     let b = tag_blocks SHA256 (length (stripe_message n body)) in
     rise_compared m0 _ pairs one two
     ∙ ap (λ x. raised m0 (tag_blocks x (length (digits ++ 46 ∷ (body ++ [])))) pairs) alg
     ∙ ap (λ m. raised m0 (tag_blocks SHA256 (length m)) pairs) message
-    ∙ ap (λ k. raised m0 b (items_pairs k (items_of its))) len
-    ∙ ap (λ t. raised m0 b (items_pairs 67 (items_of t))) same
+    ∙ ap (λ t. raised m0 b (32 * length (items_of t))) same

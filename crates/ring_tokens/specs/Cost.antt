@@ -1,6 +1,6 @@
 -- SPDX-License-Identifier: ISC
 -- What a meter counts.
-use Rattle.std.specs.Prelude.{◌≡◌, ℕ, ◌+◌, ◌*◌, List, [], ◌∷◌, length}
+use Rattle.std.specs.Prelude.{◌≡◌, ℕ, ◌+◌, ◌*◌, List, length}
 use Rattle.base64.specs.Rfc4648.{unpadded_len}
 use Rattle.ring.specs.Prelude.{Counts, IsTagWithin, compared_pairs, padded_blocks}
 use Rattle.ring.specs.Prelude.{raised}
@@ -41,8 +41,3 @@ otp_blocks a = tag_blocks a 8
 abbrev pub raised_by_tests : Counts → Algorithm → Digits → (len n : ℕ) → Counts
 raised_by_tests m a digits len n =
     raised m (n * otp_blocks a) (n * compared_pairs (digits_of digits) len)
-
--- the pairs of bytes that the comparison of each item with one of n bytes reads
-unfoldable pub items_pairs : (n : ℕ) → List (List ℕ) → ℕ
-items_pairs n [] = 0
-items_pairs n (item ∷ items) = compared_pairs (length item) n + items_pairs n items

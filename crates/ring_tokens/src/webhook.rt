@@ -1,16 +1,15 @@
 // SPDX-License-Identifier: ISC
 //! The headers with which GitHub and Stripe sign what they send to a webhook.
 
-ghost use Rattle.std.specs.Prelude.{◌≡◌, ◌≢◌, ◌↔◌, ℕ, ◌<◌, ◌≤◌, ◌+◌, ◌^◌, List, ◌++◌, codes};
-ghost use Rattle.std.specs.Prelude.{length, IfSome, IsNone, IsOk, IsTrue};
+ghost use Rattle.std.specs.Prelude.{◌≡◌, ◌≢◌, ◌↔◌, ℕ, ◌<◌, ◌≤◌, ◌+◌, ◌*◌, ◌^◌, List, ◌++◌, length};
+ghost use Rattle.std.specs.Prelude.{IfSome, IsNone, IsOk, IsTrue};
 ghost use Rattle.std.specs.Fmt.{decimal};
-ghost use Rattle.hex.specs.Hex.{encode_lower};
-ghost use Rattle.ring.specs.Prelude.{IsTagWithin, KeyStandsFor, compared_pairs, key_algorithm};
-ghost use Rattle.ring.specs.Prelude.{raised};
+ghost use Rattle.hex.specs.Hex.{IsBytes, encode_lower};
+ghost use Rattle.ring.specs.Prelude.{IsTagWithin, KeyStandsFor, key_algorithm, raised};
 ghost use Rattle.ring.specs.declared.digest.algorithm.TheConstants.{SHA256};
-ghost use Rattle.ring_tokens.specs.Cost.{items_pairs, tag_blocks};
+ghost use Rattle.ring_tokens.specs.Cost.{tag_blocks};
 ghost use Rattle.ring_tokens.specs.Webhook.{IsGithub, IsStripe, has_item, items_of};
-ghost use Rattle.ring_tokens.specs.Webhook.{stripe_message, timestamp_then};
+ghost use Rattle.ring_tokens.specs.Webhook.{stripe_item, stripe_message, timestamp_then};
 
 use crate::number::number_in;
 use ring::bb::verify_slices_are_equal_counted;
@@ -19,30 +18,41 @@ use ring::digest::SHA256;
 use ring::error::Unspecified;
 use ring::hmac::{self, Key};
 use ring::laws::sign_pieces;
-use ring_text::{after, cut_at};
+use ring_text::{after, cut_at, fill_from_hex};
 
-// The bytes of `sha256=` and of a tag's 64 digits.
-const GITHUB_LEN: usize = 71;
+// The bytes of a tag.
+const TAG_LEN: usize = 32;
 
-// The bytes of `v1=` and of those.
-const ITEM_LEN: usize = 67;
-
-// What GitHub sends with a tag.
-fn github_header(tag: &[u8]) -> [u8; GITHUB_LEN]
-    requires { length tag.now ≡ 32 }
-    ensures { result ≡ codes "sha256=" ++ encode_lower tag.now }
+// Reads a name and the hex of as many bytes as `out` has. If it returns false, `out` may have any
+// bytes.
+fn fill_named(name: &[u8], text: &[u8], out: &mut [u8]) -> bool
+    ensures ok { IsTrue result → (text.now ≡ name.now ++ encode_lower out.new) × IsBytes out.new }
+    ensures refused { ¬ (IsTrue result) → (bytes : List ℕ) → IsBytes bytes
+        → length bytes ≡ length out.old → text.now ≢ name.now ++ encode_lower bytes }
 {
-    let mut header = [0; GITHUB_LEN];
-    header[..7].copy_from_slice(b"sha256=");
-    let Ok(()) = hex::encode_to_slice(tag, &mut header[7..]) else {
-        unreachable!() // There is room for two digits a byte.
-    };
-    header
+    match after(text, name) {
+        Some(digits) => fill_from_hex(digits, out),
+        None => false,
+    }
+}
+
+// Whether a text is a name and the tag in hex. The text is decoded, and not the tag encoded, since
+// digits are looked up in a table. All bytes of the tag are compared, whatever the text is, so that
+// only the answer depends on the tag.
+fn is_named(name: &[u8], tag: &[u8], text: &[u8], meter: &mut Meter) -> bool
+    requires { length tag.now ≡ 32 }
+    ensures ok { IsTrue result ↔ (text.now ≡ name.now ++ encode_lower tag.now) }
+    ensures cost { meter.new ≡ raised meter.old 0 32 }
+{
+    let mut given = [0; TAG_LEN];
+    let is_read = fill_named(name, text, &mut given);
+    let is_same = verify_slices_are_equal_counted(tag, &given, meter).is_ok();
+    is_same && is_read
 }
 
 /// Verifies a header as [`verify_github`] does, and counts the blocks of the body's tag and the
-/// compared pairs of bytes on `meter`: as many for a wrong header of the right length. Where the
-/// key is for another algorithm or the body is too long, `meter` is as it was.
+/// compared pairs of bytes on `meter`: those of a whole tag, whatever the header is. Where the key
+/// is for another algorithm or the body is too long, `meter` is as it was.
 pub fn verify_github_counted(
     key: &Key,
     body: &[u8],
@@ -52,8 +62,7 @@ pub fn verify_github_counted(
     ensures ok { (k : List ℕ) → KeyStandsFor key.now k
         → IsOk result ↔ IsGithub (key_algorithm key.now) k body.now header.now }
     ensures cost { key_algorithm key.now ≡ SHA256 → IsTagWithin SHA256 (length body.now)
-        → meter.new ≡ raised meter.old (tag_blocks SHA256 (length body.now))
-        (compared_pairs 71 (length header.now)) }
+        → meter.new ≡ raised meter.old (tag_blocks SHA256 (length body.now)) 32 }
     ensures unchanged { (key_algorithm key.now ≡ SHA256 → IsTagWithin SHA256 (length body.now) → ⊥)
         → meter.new ≡ meter.old }
 {
@@ -61,7 +70,10 @@ pub fn verify_github_counted(
         return Err(Unspecified);
     }
     let tag = hmac::sign_counted(key, body, meter)?;
-    verify_slices_are_equal_counted(&github_header(tag.as_ref()), header, meter)
+    if !is_named(b"sha256=", tag.as_ref(), header, meter) {
+        return Err(Unspecified);
+    }
+    Ok(())
 }
 
 /// Returns Ok exactly if `header` is what GitHub sends as `X-Hub-Signature-256` with a body:
@@ -108,47 +120,26 @@ fn timestamp_in(header: &[u8]) -> Option<Timestamp<'_>>
     }
 }
 
-// Whether two texts are the same.
-fn is_same(a: &[u8], b: &[u8], meter: &mut Meter) -> bool
-    ensures ok { IsTrue result ↔ (a.now ≡ b.now) }
-    ensures cost { meter.new ≡ raised meter.old 0 (compared_pairs (length a.now) (length b.now)) }
-{
-    verify_slices_are_equal_counted(a, b, meter).is_ok()
-}
-
-// Whether one of the items is this one. It goes on after one that is, so that its time doesn't
-// tell which.
-fn has_item(items: &[u8], wanted: &[u8], meter: &mut Meter) -> bool
-    ensures ok { result ≡ has_item wanted.now items.now }
-    ensures cost { meter.new
-        ≡ raised meter.old 0 (items_pairs (length wanted.now) (items_of items.now)) }
+// Whether one of the items is that of the tag. It goes on after one that is, so that its time
+// doesn't tell which.
+fn has_item(items: &[u8], tag: &[u8], meter: &mut Meter) -> bool
+    requires { length tag.now ≡ 32 }
+    ensures ok { result ≡ has_item (stripe_item tag.now) items.now }
+    ensures cost { meter.new ≡ raised meter.old 0 (32 * length (items_of items.now)) }
 {
     let mut found = false;
     let mut rest = items;
     'items: while let Some((item, behind)) = cut_at(rest, b',') {
-        found |= is_same(item, wanted, meter);
+        found |= is_named(b"v1=", tag, item, meter);
         rest = behind;
     }
-    found | is_same(rest, wanted, meter)
-}
-
-// A tag as an item.
-fn item_of(tag: &[u8]) -> [u8; ITEM_LEN]
-    requires { length tag.now ≡ 32 }
-    ensures { result ≡ codes "v1=" ++ encode_lower tag.now }
-{
-    let mut item = [0; ITEM_LEN];
-    item[..3].copy_from_slice(b"v1=");
-    let Ok(()) = hex::encode_to_slice(tag, &mut item[3..]) else {
-        unreachable!() // There is room for two digits a byte.
-    };
-    item
+    found | is_named(b"v1=", tag, rest, meter)
 }
 
 /// Verifies a header as [`verify_stripe`] does, and counts the blocks of the tag and the compared
-/// pairs of bytes on `meter`: those of each item that has the length of a signature, whichever is
-/// the right one. Where the header has no time or is too old, the key is for another algorithm, or
-/// HMAC does not admit what is signed, `meter` is as it was.
+/// pairs of bytes on `meter`: those of a whole tag for each item, whatever it is. Where the header
+/// has no time or is too old, the key is for another algorithm, or HMAC does not admit what is
+/// signed, `meter` is as it was.
 pub fn verify_stripe_counted(
     key: &Key,
     body: &[u8],
@@ -163,7 +154,7 @@ pub fn verify_stripe_counted(
         → header.now ≡ timestamp_then n items → now ≤ n + tolerance
         → IsTagWithin SHA256 (length (stripe_message n body.now)) → meter.new
         ≡ raised meter.old (tag_blocks SHA256 (length (stripe_message n body.now)))
-        (items_pairs 67 (items_of items)) }
+        (32 * length (items_of items)) }
     ensures unchanged { ((n : ℕ) (items : List ℕ) → key_algorithm key.now ≡ SHA256 → n < 2 ^ 64
         → header.now ≡ timestamp_then n items → now ≤ n + tolerance
         → IsTagWithin SHA256 (length (stripe_message n body.now)) → ⊥) → meter.new ≡ meter.old }
@@ -180,7 +171,7 @@ pub fn verify_stripe_counted(
     let Ok(tag) = sign_pieces(key, &[time.digits, b".", body], meter) else {
         return Err(Unspecified);
     };
-    if !has_item(time.items, &item_of(tag.as_ref()), meter) {
+    if !has_item(time.items, tag.as_ref(), meter) {
         return Err(Unspecified);
     }
     Ok(())

@@ -1,5 +1,5 @@
 -- SPDX-License-Identifier: ISC
-use Rattle.std.proofs.Common.{◌≡◌, arith, ap, length, refl, rules, ◌∙◌}
+use Rattle.std.proofs.Common.{arith, ap, length, refl, ◌∙◌}
 use Rattle.ring.specs.Prelude.{hmac_of, key_algorithm}
 use Rattle.ring_tokens.specs.Webhook.{has_item, stripe_item, stripe_message}
 use Rattle.ring_tokens.proofs.Items.{stripe_read}
@@ -47,8 +47,8 @@ returns-then-not-has_item-clause-ok c = λ k key. (
       w.small w.is in
       let tag = c.as_ref.ensures.bytes ∙ (c.in-Ok.ensures.ok k key).bytes
       ∙ ap (hmac_of a k) (same.2 body) in
-      let item = c.item_of.ensures ∙ ap stripe_item tag in
-      let found = c.has_item.ensures.ok ∙ ap (λ i. has_item i c.in-Some.time.items.now) item
+      let found = c.has_item.ensures.ok
+      ∙ ap (λ t. has_item (stripe_item t) c.in-Some.time.items.now) tag
       ∙ ap (has_item (stripe_item (hmac_of a k (stripe_message w.time body)))) same.1 ∙ w.signed in
       cc (found, c.if-not-has_item.true),
 )
@@ -57,14 +57,12 @@ pub returns-then-not-has_item-clause-cost : goal.returns-then-not-has_item-claus
 returns-then-not-has_item-clause-cost c = λ n items alg small is recent within.
     let time = c.in-Some.time in
     let same = stripe_read c.args.header.now time c.in-Some.ensures.ok n items small is in
-    let len : length c.item_of.result ≡ 67 = search rules in
-    stripe_cost c.args.meter.now time.digits.now c.args.body.now time.items.now c.item_of.result n
-    alg (same.2 c.args.body.now) same.1 len c.in-Ok.ensures.cost c.has_item.ensures.cost
+    stripe_cost c.args.meter.now time.digits.now c.args.body.now time.items.now n alg
+    (same.2 c.args.body.now) same.1 c.in-Ok.ensures.cost c.has_item.ensures.cost
 
 pub returns-clause-cost : goal.returns-clause-cost
 returns-clause-cost c = λ n items alg small is recent within.
     let time = c.in-Some.time in
     let same = stripe_read c.args.header.now time c.in-Some.ensures.ok n items small is in
-    let len : length c.item_of.result ≡ 67 = search rules in
-    stripe_cost c.args.meter.now time.digits.now c.args.body.now time.items.now c.item_of.result n
-    alg (same.2 c.args.body.now) same.1 len c.in-Ok.ensures.cost c.has_item.ensures.cost
+    stripe_cost c.args.meter.now time.digits.now c.args.body.now time.items.now n alg
+    (same.2 c.args.body.now) same.1 c.in-Ok.ensures.cost c.has_item.ensures.cost

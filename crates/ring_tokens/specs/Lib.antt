@@ -10,3 +10,4 @@ pub mod Error
 pub mod Claims
 pub mod Otp
 pub mod Webhook
+pub mod Gives

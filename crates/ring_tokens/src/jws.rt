@@ -11,15 +11,13 @@
 //!
 //! [`sign_in_place`] and [`verify_in_place`] take no memory.
 
-ghost use Rattle.std.specs.Prelude.{◌≡◌, ◌↔◌, ◌⊎◌, ℕ, ◌+◌, ◌^◌, ◌<◌, ◌≤◌, List, ◌++◌, drop, length};
-ghost use Rattle.std.specs.Prelude.{take, IfErr, IfOk, IfSome, IsErrOf, IsNone, OnErr, OnOk};
+ghost use Rattle.std.specs.Prelude.{◌≡◌, ◌^◌, ◌<◌, ◌≤◌, ◌++◌, drop, length, IfSome, IsNone};
+ghost use Rattle.std.specs.Prelude.{OnErr, OnOk};
 ghost use Rattle.ring.specs.Prelude.{raised};
 ghost use Rattle.ring_tokens.specs.Cost.{HasVerified, signed_blocks};
+ghost use Rattle.ring_tokens.specs.Gives.{SignsInPlace, SignsToken, VerifiesInPlace, VerifiesToken};
 ghost use Rattle.ring_tokens.specs.Header.{usual_header};
-ghost use Rattle.ring_tokens.specs.InPlace.{IsUsual, IsUsualJws};
-ghost use Rattle.ring_tokens.specs.Jws.{CanSign, IsJws, IsKey, IsTokenUnder, alg_of, signing_input};
-ghost use Rattle.ring_tokens.specs.Jws.{usual_token, usual_token_len};
-ghost use Rattle.ring_tokens.specs.Parts.{IsUnsigned};
+ghost use Rattle.ring_tokens.specs.Jws.{alg_of, signing_input, usual_token_len};
 
 use crate::alg::Alg;
 use crate::decoded::{decode, decode_into};
@@ -37,20 +35,13 @@ use std::alloc::Allocator;
 /// Validates a token as [`verify`] does, and counts its blocks and compared pairs of bytes on
 /// `meter`: those of what is signed and of a whole signature, whatever is wrong with the token. A
 /// text of no three parts costs nothing.
-#[tactic(auto, using(crate::proofs::Tokens::signed_apart))]
 pub fn verify_counted<A: Allocator + Copy>(
     alloc: A,
     token: &[u8],
     key: &Key,
     meter: &mut Meter,
 ) -> Result<Vec<u8, A>, TokenError>
-    ensures ok { (k : List ℕ) → IsKey key.now k
-        → IfOk result (λ payload. IsJws (alg_of key.now) k token.now payload.items) }
-    ensures invalid { (k : List ℕ) → IsKey key.now k → IsErrOf result TokenError.Invalid
-        → (payload : List ℕ) → IsJws (alg_of key.now) k token.now payload → ⊥ }
-    ensures refused { IfErr result (λ e. (e ≡ TokenError.Invalid) ⊎ (e ≡ TokenError.Memory)) }
-    ensures unsigned { (k : List ℕ) → IsKey key.now k
-        → IsUnsigned (alg_of key.now) k token.now → IsErrOf result TokenError.Invalid }
+    ensures plain { VerifiesToken key.now token.now result }
     ensures cost { HasVerified (alg_of key.now) token.now meter.old meter.new }
 {
     let Some(parts) = signed_parts(token, key, meter) else {
@@ -77,13 +68,7 @@ pub fn verify<A: Allocator + Copy>(
     token: &[u8],
     key: &Key,
 ) -> Result<Vec<u8, A>, TokenError>
-    ensures ok { (k : List ℕ) → IsKey key.now k
-        → IfOk result (λ payload. IsJws (alg_of key.now) k token.now payload.items) }
-    ensures invalid { (k : List ℕ) → IsKey key.now k → IsErrOf result TokenError.Invalid
-        → (payload : List ℕ) → IsJws (alg_of key.now) k token.now payload → ⊥ }
-    ensures refused { IfErr result (λ e. (e ≡ TokenError.Invalid) ⊎ (e ≡ TokenError.Memory)) }
-    ensures unsigned { (k : List ℕ) → IsKey key.now k
-        → IsUnsigned (alg_of key.now) k token.now → IsErrOf result TokenError.Invalid }
+    ensures { VerifiesToken key.now token.now result }
 {
     verify_counted(alloc, token, key, &mut Meter::new())
 }
@@ -96,18 +81,7 @@ pub fn verify_in_place_counted(
     out: &mut [u8],
     meter: &mut Meter,
 ) -> Result<usize, TokenError>
-    ensures within { IfOk result (λ n. n ≤ length out.old) }
-    ensures ok { (k : List ℕ) → IsKey key.now k
-        → IfOk result (λ n. IsJws (alg_of key.now) k token.now (take n out.new)) }
-    ensures header { (k : List ℕ) → IsKey key.now k
-        → IfOk result (λ n. IsUsualJws (alg_of key.now) k token.now (take n out.new)) }
-    ensures behind { IfOk result (λ n. drop n out.new ≡ drop n out.old) }
-    ensures invalid { (k : List ℕ) → IsKey key.now k → IsErrOf result TokenError.Invalid
-        → (h p : List ℕ) → IsUsual (alg_of key.now) h
-        → IsTokenUnder (alg_of key.now) k h token.now p → ⊥ }
-    ensures no_room { IsErrOf result TokenError.NoRoom ↔ (length out.old < length token.now) }
-    ensures refused { IfErr result (λ e. (e ≡ TokenError.Invalid) ⊎ (e ≡ TokenError.NoRoom)) }
-    ensures unchanged { OnErr result (out.new ≡ out.old) }
+    ensures plain { VerifiesInPlace key.now token.now out.old out.new result }
     ensures cost { length token.now ≤ length out.old
         → HasVerified (alg_of key.now) token.now meter.old meter.new }
     ensures cost_untested { length out.old < length token.now → meter.new ≡ meter.old }
@@ -135,18 +109,7 @@ pub fn verify_in_place_counted(
 /// Refused as `NoRoom` exactly if `out` is shorter than the token, and else as `Invalid` exactly if
 /// the text is no token of `key` under one of these headers. `out` is then as it was.
 pub fn verify_in_place(token: &[u8], key: &Key, out: &mut [u8]) -> Result<usize, TokenError>
-    ensures within { IfOk result (λ n. n ≤ length out.old) }
-    ensures ok { (k : List ℕ) → IsKey key.now k
-        → IfOk result (λ n. IsJws (alg_of key.now) k token.now (take n out.new)) }
-    ensures header { (k : List ℕ) → IsKey key.now k
-        → IfOk result (λ n. IsUsualJws (alg_of key.now) k token.now (take n out.new)) }
-    ensures behind { IfOk result (λ n. drop n out.new ≡ drop n out.old) }
-    ensures invalid { (k : List ℕ) → IsKey key.now k → IsErrOf result TokenError.Invalid
-        → (h p : List ℕ) → IsUsual (alg_of key.now) h
-        → IsTokenUnder (alg_of key.now) k h token.now p → ⊥ }
-    ensures no_room { IsErrOf result TokenError.NoRoom ↔ (length out.old < length token.now) }
-    ensures refused { IfErr result (λ e. (e ≡ TokenError.Invalid) ⊎ (e ≡ TokenError.NoRoom)) }
-    ensures unchanged { OnErr result (out.new ≡ out.old) }
+    ensures { VerifiesInPlace key.now token.now out.old out.new result }
 {
     verify_in_place_counted(token, key, out, &mut Meter::new())
 }
@@ -185,17 +148,8 @@ pub fn sign_in_place_counted(
     out: &mut [u8],
     meter: &mut Meter,
 ) -> Result<usize, TokenError>
-    ensures len { IfOk result (λ n. n ≡ usual_token_len (alg_of key.now) (length payload.now)) }
-    ensures ok { (k : List ℕ) → IsKey key.now k → IfOk result (λ n.
-        out.new ≡ usual_token (alg_of key.now) k payload.now ++ drop n out.old) }
-    ensures within { OnOk result
-        (CanSign (alg_of key.now) (usual_header (alg_of key.now)) payload.now) }
-    ensures no_room { IsErrOf result TokenError.NoRoom
-        ↔ (length out.old < usual_token_len (alg_of key.now) (length payload.now)) }
-    ensures too_long { IsErrOf result TokenError.TooLong
-        → ¬ (CanSign (alg_of key.now) (usual_header (alg_of key.now)) payload.now) }
-    ensures refused { IfErr result (λ e. (e ≡ TokenError.NoRoom) ⊎ (e ≡ TokenError.TooLong)) }
-    ensures unchanged { OnErr result ((out.new ≡ out.old) × (meter.new ≡ meter.old)) }
+    ensures plain { SignsInPlace key.now payload.now out.old out.new result }
+    ensures unchanged { OnErr result (meter.new ≡ meter.old) }
     ensures cost { OnOk result (meter.new
         ≡ raised meter.old (signed_blocks (alg_of key.now) (length payload.now)) 0) }
 {
@@ -223,17 +177,7 @@ pub fn sign_in_place_counted(
 /// Refused as `NoRoom` exactly if `out` is shorter than the token, and else as `TooLong` exactly if
 /// HMAC does not admit what is signed. `out` is then as it was.
 pub fn sign_in_place(payload: &[u8], key: &Key, out: &mut [u8]) -> Result<usize, TokenError>
-    ensures len { IfOk result (λ n. n ≡ usual_token_len (alg_of key.now) (length payload.now)) }
-    ensures ok { (k : List ℕ) → IsKey key.now k → IfOk result (λ n.
-        out.new ≡ usual_token (alg_of key.now) k payload.now ++ drop n out.old) }
-    ensures within { OnOk result
-        (CanSign (alg_of key.now) (usual_header (alg_of key.now)) payload.now) }
-    ensures no_room { IsErrOf result TokenError.NoRoom
-        ↔ (length out.old < usual_token_len (alg_of key.now) (length payload.now)) }
-    ensures too_long { IsErrOf result TokenError.TooLong
-        → ¬ (CanSign (alg_of key.now) (usual_header (alg_of key.now)) payload.now) }
-    ensures refused { IfErr result (λ e. (e ≡ TokenError.NoRoom) ⊎ (e ≡ TokenError.TooLong)) }
-    ensures unchanged { OnErr result (out.new ≡ out.old) }
+    ensures { SignsInPlace key.now payload.now out.old out.new result }
 {
     sign_in_place_counted(payload, key, out, &mut Meter::new())
 }
@@ -247,13 +191,7 @@ pub fn sign_counted<A: Allocator + Copy>(
     key: &Key,
     meter: &mut Meter,
 ) -> Result<Vec<u8, A>, TokenError>
-    ensures ok { (k : List ℕ) → IsKey key.now k → IfOk result (λ token. token.items
-        ≡ usual_token (alg_of key.now) k payload.now) }
-    ensures within { OnOk result
-        (CanSign (alg_of key.now) (usual_header (alg_of key.now)) payload.now) }
-    ensures too_long { IsErrOf result TokenError.TooLong
-        → ¬ (CanSign (alg_of key.now) (usual_header (alg_of key.now)) payload.now) }
-    ensures refused { IfErr result (λ e. (e ≡ TokenError.TooLong) ⊎ (e ≡ TokenError.Memory)) }
+    ensures plain { SignsToken key.now payload.now result }
     ensures unchanged { OnErr result (meter.new ≡ meter.old) }
     ensures cost { OnOk result (meter.new
         ≡ raised meter.old (signed_blocks (alg_of key.now) (length payload.now)) 0) }
@@ -279,13 +217,7 @@ pub fn sign<A: Allocator + Copy>(
     payload: &[u8],
     key: &Key,
 ) -> Result<Vec<u8, A>, TokenError>
-    ensures ok { (k : List ℕ) → IsKey key.now k → IfOk result (λ token. token.items
-        ≡ usual_token (alg_of key.now) k payload.now) }
-    ensures within { OnOk result
-        (CanSign (alg_of key.now) (usual_header (alg_of key.now)) payload.now) }
-    ensures too_long { IsErrOf result TokenError.TooLong
-        → ¬ (CanSign (alg_of key.now) (usual_header (alg_of key.now)) payload.now) }
-    ensures refused { IfErr result (λ e. (e ≡ TokenError.TooLong) ⊎ (e ≡ TokenError.Memory)) }
+    ensures { SignsToken key.now payload.now result }
 {
     sign_counted(alloc, payload, key, &mut Meter::new())
 }

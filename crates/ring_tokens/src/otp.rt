@@ -15,9 +15,9 @@ ghost use Rattle.std.specs.Prelude.{IfSome, IsNone, IsTrue, min};
 ghost use Rattle.std.specs.Int.NonZero.{non_zero_u32_get};
 ghost use Rattle.ring.specs.Prelude.{KeyStandsFor, compared_pairs, key_algorithm, raised};
 ghost use Rattle.ring_tokens.specs.Cost.{otp_blocks, raised_by_tests};
-ghost use Rattle.ring_tokens.specs.Otp.{IsFound, IsNotFound, digits_of, dynamic_truncation};
-ghost use Rattle.ring_tokens.specs.Otp.{eight_digits, first_step, hotp_of, hotp_text, past_step};
-ghost use Rattle.ring_tokens.specs.Otp.{step_of};
+ghost use Rattle.ring_tokens.specs.Gives.{FindsCounter};
+ghost use Rattle.ring_tokens.specs.Otp.{digits_of, dynamic_truncation, eight_digits, first_step};
+ghost use Rattle.ring_tokens.specs.Otp.{hotp_of, hotp_text, past_step, step_of};
 
 use ring::bb::verify_slices_are_equal_counted;
 use ring::cost::Meter;
@@ -118,6 +118,7 @@ pub fn eight_digits(number: u32) -> [u8; 8]
 }
 
 // Whether the text is the one-time password of a counter, with each of its digits.
+#[tactic(auto, using(crate::proofs::Rises::rise_compared))]
 fn is_password(key: &Key, counter: u64, digits: Digits, text: &[u8], meter: &mut Meter) -> bool
     ensures ok { (k : List ℕ) → KeyStandsFor key.now k → IsTrue result
         ↔ (text.now ≡ hotp_text (key_algorithm key.now) k counter digits) }
@@ -138,10 +139,7 @@ pub fn find_hotp_counted(
     text: &[u8],
     meter: &mut Meter,
 ) -> Option<u64>
-    ensures ok { (k : List ℕ) → KeyStandsFor key.now k → IfSome result (λ found.
-        IsFound (key_algorithm key.now) k first (first + count) digits text.now found) }
-    ensures refused { (k : List ℕ) → KeyStandsFor key.now k → IsNone result
-        → IsNotFound (key_algorithm key.now) k first (first + count) digits text.now }
+    ensures plain { FindsCounter key.now first (first + count) digits text.now result }
     ensures cost { IfSome result (λ found. meter.new ≡ raised_by_tests meter.old
         (key_algorithm key.now) digits (length text.now) (found - first + 1)) }
     ensures cost_refused { IsNone result → meter.new ≡ raised_by_tests meter.old
@@ -165,10 +163,7 @@ pub fn find_hotp_counted(
 /// `None` exactly if no such counter has this password. A counter has 64 bits: none is tried above
 /// the greatest.
 pub fn find_hotp(key: &Key, first: u64, count: u64, digits: Digits, text: &[u8]) -> Option<u64>
-    ensures ok { (k : List ℕ) → KeyStandsFor key.now k → IfSome result (λ found.
-        IsFound (key_algorithm key.now) k first (first + count) digits text.now found) }
-    ensures refused { (k : List ℕ) → KeyStandsFor key.now k → IsNone result
-        → IsNotFound (key_algorithm key.now) k first (first + count) digits text.now }
+    ensures { FindsCounter key.now first (first + count) digits text.now result }
 {
     find_hotp_counted(key, first, count, digits, text, &mut Meter::new())
 }
@@ -212,12 +207,8 @@ pub fn find_totp_counted(
     text: &[u8],
     meter: &mut Meter,
 ) -> Option<u64>
-    ensures ok { (k : List ℕ) → KeyStandsFor key.now k → IfSome result (λ found.
-        IsFound (key_algorithm key.now) k (first_step time (non_zero_u32_get step) back)
-        (past_step time (non_zero_u32_get step) ahead) digits text.now found) }
-    ensures refused { (k : List ℕ) → KeyStandsFor key.now k → IsNone result
-        → IsNotFound (key_algorithm key.now) k (first_step time (non_zero_u32_get step) back)
-        (past_step time (non_zero_u32_get step) ahead) digits text.now }
+    ensures plain { FindsCounter key.now (first_step time (non_zero_u32_get step) back)
+        (past_step time (non_zero_u32_get step) ahead) digits text.now result }
     ensures cost { IfSome result (λ found. meter.new ≡ raised_by_tests meter.old
         (key_algorithm key.now) digits (length text.now)
         (found - first_step time (non_zero_u32_get step) back + 1)) }
@@ -246,12 +237,8 @@ pub fn find_totp(
     digits: Digits,
     text: &[u8],
 ) -> Option<u64>
-    ensures ok { (k : List ℕ) → KeyStandsFor key.now k → IfSome result (λ found.
-        IsFound (key_algorithm key.now) k (first_step time (non_zero_u32_get step) back)
-        (past_step time (non_zero_u32_get step) ahead) digits text.now found) }
-    ensures refused { (k : List ℕ) → KeyStandsFor key.now k → IsNone result
-        → IsNotFound (key_algorithm key.now) k (first_step time (non_zero_u32_get step) back)
-        (past_step time (non_zero_u32_get step) ahead) digits text.now }
+    ensures { FindsCounter key.now (first_step time (non_zero_u32_get step) back)
+        (past_step time (non_zero_u32_get step) ahead) digits text.now result }
 {
     find_totp_counted(
         key,

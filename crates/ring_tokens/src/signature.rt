@@ -49,6 +49,7 @@ fn is_text_of(tag: &[u8], text: &[u8], meter: &mut Meter) -> bool
 }
 
 // Whether the text is that of the signature of `input`.
+#[tactic(auto, using(crate::proofs::Rises::rise_compared))]
 fn is_signature(key: &Key, input: &[u8], text: &[u8], meter: &mut Meter) -> bool
     ensures ok { (k : List ℕ) → IsKey key.now k → IsTrue result
         ↔ (IsTagWithin (algorithm_of (alg_of key.now)) (length input.now)

@@ -53,6 +53,7 @@ fn is_named(name: &[u8], tag: &[u8], text: &[u8], meter: &mut Meter) -> bool
 /// Verifies a header as [`verify_github`] does, and counts the blocks of the body's tag and the
 /// compared pairs of bytes on `meter`: those of a whole tag, whatever the header is. Where the key
 /// is for another algorithm or the body is too long, `meter` is as it was.
+#[tactic(auto, using(crate::proofs::Rises::rise_compared))]
 pub fn verify_github_counted(
     key: &Key,
     body: &[u8],

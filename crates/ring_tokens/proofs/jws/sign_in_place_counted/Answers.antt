@@ -11,15 +11,6 @@ use Rattle.ring_tokens.proofs.Puts.{compact_parts, length_input, put_next, room_
 use Rattle.ring_tokens.proofs.Puts.{room_stop, signed_end}
 use Rattle.ring_tokens.proofs.jws.sign_in_place_counted.Goals as goal
 
-pub returns-then-not-admits-clause-too_long : goal.returns-then-not-admits-clause-too_long
-returns-then-not-admits-clause-too_long c = λ _ can.
-    let a = alg_of c.args.key.now in
-    let p = c.args.payload.now in
-    let n : length (signing_input (usual_header a) p) ≡ c.in-Some.len - 1 - c.text_len.result =
-    omega (arith, length_input a p, c.in-Some.ensures.ok, c.text_len.ensures) in
-    let admitted = c.admits.ensures.1 (subst (λ k. IsTagWithin (algorithm_of a) k) n can) in
-    cc (admitted, c.if-not-admits.true)
-
 pub put_input-at-requires : goal.put_input-at-requires
 put_input-at-requires c =
     let a = alg_of c.args.key.now in
@@ -68,19 +59,8 @@ put_base64url-requires c =
     }) c.as_ref.result.now c.put-at.ensures
     (c.as_ref.ensures.len ∙ ap output_len (c.in-Ok.ensures.plain.algorithm ∙ same))
 
-pub returns-clause-len : goal.returns-clause-len
-returns-clause-len c =
-    let same : key_algorithm c.args.key.now.key ≡ algorithm_of (alg_of c.args.key.now) =
-    search rules in
-    signed_end (record {
-      place = c.put_input-at.ensures.place;
-      bytes = c.put_input-at.ensures.written;
-      room = omega (arith, c.in-Some.ensures.ok, c.if-out-len.false);
-    }) c.as_ref.result.now c.put-at.ensures c.put_base64url.ensures
-    (c.as_ref.ensures.len ∙ ap output_len (c.in-Ok.ensures.plain.algorithm ∙ same))
-
-pub returns-clause-ok : goal.returns-clause-ok
-returns-clause-ok c = λ k key.
+pub returns-clause-plain : goal.returns-clause-plain
+returns-clause-plain c =
     let a = alg_of c.args.key.now in
     let h = usual_header a in
     let p = c.args.payload.now in
@@ -90,18 +70,39 @@ returns-clause-ok c = λ k key.
     let input = signing_input h p in
     let one : (at ≡ length input) × (c.put_input-at.new.out ≡ input ++ drop at old) =
     (c.put_input-at.ensures.place, c.put_input-at.ensures.written) in
-    let two = put_next old input (46 ∷ []) one c.put-at.ensures in
-    let three = put_next old (input ++ 46 ∷ []) (base64url s) two c.put_base64url.ensures in
     let same : key_algorithm c.args.key.now.key ≡ algorithm_of a = search rules in
     let message : take at c.put_input-at.new.out ≡ input =
     ap (take at) one.1 ∙ take_at input (drop at old) at (sym one.0) in
-    let signature : s ≡ signature_of a k h p =
-    c.as_ref.ensures.bytes ∙ (c.in-Ok.ensures.plain.ok k key).bytes
-    ∙ ap (λ x. hmac_of x k (take at c.put_input-at.new.out)) same
-    ∙ ap (hmac_of (algorithm_of a) k) message in
-    three.1 ∙ ap (λ l. l ++ drop c.put_base64url.result old)
-    (append_assoc input (46 ∷ []) (base64url s)
-    ∙ ap (λ t. input ++ 46 ∷ base64url t) signature ∙ compact_parts h p (signature_of a k h p))
+    let n : c.in-Some.len - 1 - c.text_len.result ≡ length input =
+    omega (arith, length_input a p, c.in-Some.ensures.ok, c.text_len.ensures) in
+    record {
+      len = signed_end (record {
+        place = one.0;
+        bytes = one.1;
+        room = omega (arith, c.in-Some.ensures.ok, c.if-out-len.false);
+      }) s c.put-at.ensures c.put_base64url.ensures
+          (c.as_ref.ensures.len ∙ ap output_len (c.in-Ok.ensures.plain.algorithm ∙ same));
+      ok = λ k key.
+          let two = put_next old input (46 ∷ []) one c.put-at.ensures in
+          let three = put_next old (input ++ 46 ∷ []) (base64url s) two c.put_base64url.ensures in
+          let signature : s ≡ signature_of a k h p =
+          c.as_ref.ensures.bytes ∙ (c.in-Ok.ensures.plain.ok k key).bytes
+          ∙ ap (λ x. hmac_of x k (take at c.put_input-at.new.out)) same
+          ∙ ap (hmac_of (algorithm_of a) k) message in
+          three.1 ∙ ap (λ l. l ++ drop c.put_base64url.result old)
+          (append_assoc input (46 ∷ []) (base64url s)
+          ∙ ap (λ t. input ++ 46 ∷ base64url t) signature
+          ∙ compact_parts h p (signature_of a k h p));
+      within = subst (λ k. IsTagWithin (algorithm_of a) k) n
+          (c.admits.ensures.0 c.if-not-admits.false);
+      no_room = (
+        λ e. cc e,
+        λ short. absurd (omega (arith, short, c.if-out-len.false, c.in-Some.ensures.ok)),
+      );
+      too_long = λ bad. cc bad;
+      refused = tt;
+      unchanged = tt;
+    }
 
 pub returns-clause-cost : goal.returns-clause-cost
 returns-clause-cost c =

@@ -107,20 +107,32 @@ module _ {whole name : List ℕ} {slash : Bool} {rest : List ℕ} where
   IsReadTo-end read not_yet over =
       let now = rw (not_yet, over) at read.is in now ∙ ap Some (append-nil name)
 
+-- a byte is one of those that are escaped, or stands for itself
+pub escaped-cases : (byte : ℕ) (P : ℕ → List ℕ → Type 0) → P 92 (92 ∷ 92 ∷ [])
+    → P 10 (92 ∷ 110 ∷ []) → P 13 (92 ∷ 114 ∷ [])
+    → (eqb byte 92 ≡ false → eqb byte 10 ≡ false → eqb byte 13 ≡ false → P byte (byte ∷ []))
+    → P byte (escaped_byte byte)
+escaped-cases byte P backslash feed return plain = elim (cases_Bool (eqb byte 92)) [
+  | inl is ↦ rw (eqb-true byte 92 is) backslash
+  | inr other ↦ elim (cases_Bool (eqb byte 10)) [
+    | inl is ↦ rw (eqb-true byte 10 is) feed
+    | inr other10 ↦ elim (cases_Bool (eqb byte 13)) [
+      | inl is ↦ rw (eqb-true byte 13 is) return
+      | inr other13 ↦ rw (other, other10, other13) (plain other other10 other13)
+    ]
+  ]
+]
+
 -- the escape of a byte reads as the byte
 unescaped-byte : (byte : ℕ) (rest : List ℕ)
     → unescaped (escaped_byte byte ++ rest) ≡ option_map (λ bytes. byte ∷ bytes) (unescaped rest)
 unfolding unescaped
-unescaped-byte byte rest = elim (cases_Bool (eqb byte 92)) [
-  | inl is ↦ rw (eqb-true byte 92 is) (as_before 92 (unescaped rest))
-  | inr other ↦ elim (cases_Bool (eqb byte 10)) [
-    | inl is ↦ rw (eqb-true byte 10 is) (as_before 10 (unescaped rest))
-    | inr other10 ↦ elim (cases_Bool (eqb byte 13)) [
-      | inl is ↦ rw (eqb-true byte 13 is) (as_before 13 (unescaped rest))
-      | inr other13 ↦ rw (other, other10, other13) (unescaped-plain byte rest other)
-    ]
-  ]
-]
+unescaped-byte byte rest =
+    let name = unescaped rest in
+    escaped-cases byte
+    (λ b escape. unescaped (escape ++ rest) ≡ option_map (λ bytes. b ∷ bytes) name)
+    (as_before 92 name) (as_before 10 name) (as_before 13 name)
+    (λ other _ _. unescaped-plain byte rest other)
 
 -- a name reads back from its escapes
 pub unescaped-escaped : (name : List ℕ) → unescaped (escaped name) ≡ Some name

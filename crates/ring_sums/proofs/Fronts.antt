@@ -2,14 +2,15 @@
 -- Lines cut behind white space, behind digits and at the last byte of a kind: each in one way.
 use Rattle.std.proofs.Common.{◌≡◌, ℕ, ◌+◌, ◌-◌, ◌<◌, eqb, ltb, not, Bool, true, false}
 use Rattle.std.proofs.Common.{List, [], ◌∷◌, ◌++◌, length, take, drop, get_or, Some, None}
-use Rattle.std.proofs.Common.{refl, sym, ap, subst, ◌∙◌, ◌⊎◌, arith, add-one, one-add, inl, inr}
-use Rattle.std.proofs.Common.{length-append, length-drop}
+use Rattle.std.proofs.Common.{refl, sym, ap, subst, ◌∙◌, arith, add-one, one-add, inl, inr}
+use Rattle.std.proofs.Common.{length-append, length-drop, length-take}
 use Rattle.std.proofs.Math.ListN.{drop_of_length-le}
 use Rattle.std.proofs.Math.Seq.{split_at, take-length}
-use Rattle.std.proofs.lemmas.Bool.{and_parts, cases_Bool, eqb-true, false_from_ne_true, lt-ltb}
-use Rattle.std.proofs.lemmas.Bool.{ltb-false, or_cases, true≢false}
-use Rattle.std.proofs.lemmas.List.{get_or-drop}
-use Rattle.std.proofs.lemmas.List.Elements.{All-cons, All-from_get_or, All-head, All-nil, All-tail}
+use Rattle.std.proofs.lemmas.Bool.{and_parts, cases_Bool, cases_lt, eqb-true, false_from_ne_true, lt-ltb}
+use Rattle.std.proofs.lemmas.Bool.{ltb-false, not-false, not-true, or_cases, true≢false}
+use Rattle.std.proofs.lemmas.List.{get_or-drop, get_or-take, get_or_past, take-append-drop}
+use Rattle.std.proofs.lemmas.List.Elements.{All-from_get_or, All-head, All-tail}
+use Rattle.std.proofs.lemmas.List.Sums.{fails_before_first, passes_at_first}
 use Rattle.std.proofs.lemmas.Option.{cond_some}
 use Rattle.std.specs.Char.{is_ascii_hexdigit}
 use Rattle.std.specs.List.{All, list_all, position, position_or_len}
@@ -34,21 +35,19 @@ not_white byte rest text white ends e =
     true≢false (sym white ∙ subst (λ l. is_white (get_or l 0 0) ≡ false) (sym e) ends)
 
 -- what stands behind white space is known from the whole
-pub white_same : (v w s t : List ℕ) → All White v → All White w → is_white (get_or s 0 0) ≡ false
+white_lists : (v w s t : List ℕ) → All White v → All White w → is_white (get_or s 0 0) ≡ false
     → is_white (get_or t 0 0) ≡ false → v ++ s ≡ w ++ t → s ≡ t
-white_same [] [] s t hv hw hs ht e = e
-white_same [] (b ∷ w) s t hv hw hs ht e =
+white_lists [] [] s t hv hw hs ht e = e
+white_lists [] (b ∷ w) s t hv hw hs ht e =
     absurd (not_white b (w ++ t) s (All-head White b w hw) hs (sym e))
-white_same (a ∷ v) [] s t hv hw hs ht e =
+white_lists (a ∷ v) [] s t hv hw hs ht e =
     absurd (not_white a (v ++ s) t (All-head White a v hv) ht e)
-white_same (a ∷ v) (b ∷ w) s t hv hw hs ht e =
-    white_same v w s t (All-tail White a v hv) (All-tail White b w hw) hs ht (ap (drop 1) e)
+white_lists (a ∷ v) (b ∷ w) s t hv hw hs ht e =
+    white_lists v w s t (All-tail White a v hv) (All-tail White b w hw) hs ht (ap (drop 1) e)
 
--- the same of what is read behind it
-pub behind_white : {line text : List ℕ} (white rest : List ℕ) → IsBehindWhite line text
-    → All White white → is_white (get_or rest 0 0) ≡ false → line ≡ white ++ rest → text ≡ rest
-behind_white {line} {text} white rest is all ends e =
-    white_same is.white white text rest is.all all is.ends ends (sym is.whole ∙ e)
+pub white_same : {line s t : List ℕ} → IsBehindWhite line s → IsBehindWhite line t → s ≡ t
+white_same {s = s} {t} one two =
+    white_lists one.white two.white s t one.all two.all one.ends two.ends (sym one.whole ∙ two.whole)
 
 abbrev is_text : ℕ → Bool
 is_text byte = not (is_white byte)
@@ -57,36 +56,23 @@ is_text byte = not (is_white byte)
 abbrev text_of : List ℕ → List ℕ
 text_of bytes = drop (position_or_len is_text bytes) bytes
 
-text_of-white : (byte : ℕ) (bytes : List ℕ) → is_white byte ≡ true
-    → text_of (byte ∷ bytes) ≡ text_of bytes
-text_of-white byte bytes is = rw (is, one-add)
-
-text_of-text : (byte : ℕ) (bytes : List ℕ) → is_white byte ≡ false
-    → text_of (byte ∷ bytes) ≡ byte ∷ bytes
-text_of-text byte bytes is = rw is
-
-white-step : (byte : ℕ) (bytes : List ℕ) → IsBehindWhite bytes (text_of bytes)
-    → (is_white byte ≡ true) ⊎ (is_white byte ≡ false)
-    → IsBehindWhite (byte ∷ bytes) (text_of (byte ∷ bytes))
-white-step byte bytes later (inl is) =
-    subst (IsBehindWhite (byte ∷ bytes)) (sym (text_of-white byte bytes is)) (record {
-      white = byte ∷ later.white;
-      all = All-cons White byte later.white is later.all;
-      whole = ap (λ l. byte ∷ l) later.whole;
-      ends = later.ends;
-    })
-white-step byte bytes later (inr is) =
-    subst (IsBehindWhite (byte ∷ bytes)) (sym (text_of-text byte bytes is)) (record {
-      white = [];
-      all = All-nil White;
-      whole = refl;
-      ends = is;
-    })
-
 white-before : (bytes : List ℕ) → IsBehindWhite bytes (text_of bytes)
-white-before [] = record { white = []; all = All-nil White; whole = refl; ends = refl }
-white-before (byte ∷ bytes) =
-    white-step byte bytes (white-before bytes) (cases_Bool (is_white byte))
+white-before bytes =
+    let n = position_or_len is_text bytes in
+    let first : get_or (drop n bytes) 0 0 ≡ get_or bytes n 0 =
+    get_or-drop n bytes 0 0 ∙ ap (λ (k : ℕ). get_or bytes k 0) (omega arith) in
+    record {
+      white = take n bytes;
+      all = All-from_get_or White (take n bytes) 0 (λ i within.
+          let before : i < n = omega (arith, within, length-take n bytes) in
+          rw (get_or-take n bytes i 0 before)
+          (not-false (is_white (get_or bytes i 0)) (fails_before_first is_text bytes i 0 before)));
+      whole = sym (take-append-drop n bytes);
+      ends = rw first (elim (cases_lt n (length bytes)) [
+        | inl within ↦ not-true (is_white (get_or bytes n 0)) (passes_at_first is_text bytes 0 within)
+        | inr past ↦ rw (get_or_past bytes n 0 past)
+      ]);
+    }
 
 -- from its place on
 pub white-place : (bytes : List ℕ) (place : ℕ) → Some place ≡ position is_text bytes
@@ -136,15 +122,20 @@ digits_end_at digits byte rest h other =
 -- ---- the last byte of a kind
 
 -- what stands before and behind it is known from the whole
-pub last_cut_same : (byte : ℕ) (f g s t : List ℕ) → IsWithout byte s → IsWithout byte t
+last_lists : (byte : ℕ) (f g s t : List ℕ) → IsWithout byte s → IsWithout byte t
     → f ++ byte ∷ s ≡ g ++ byte ∷ t → (f ≡ g) × (s ≡ t)
-last_cut_same byte [] [] s t hs ht e = (refl, ap (drop 1) e)
-last_cut_same byte [] (b ∷ g) s t hs ht e = absurd (not_cut byte g t s hs (ap (drop 1) e))
-last_cut_same byte (a ∷ f) [] s t hs ht e = absurd (not_cut byte f s t ht (sym (ap (drop 1) e)))
-last_cut_same byte (a ∷ f) (b ∷ g) s t hs ht e =
-    let rest = last_cut_same byte f g s t hs ht (ap (drop 1) e) in
+last_lists byte [] [] s t hs ht e = (refl, ap (drop 1) e)
+last_lists byte [] (b ∷ g) s t hs ht e = absurd (not_cut byte g t s hs (ap (drop 1) e))
+last_lists byte (a ∷ f) [] s t hs ht e = absurd (not_cut byte f s t ht (sym (ap (drop 1) e)))
+last_lists byte (a ∷ f) (b ∷ g) s t hs ht e =
+    let rest = last_lists byte f g s t hs ht (ap (drop 1) e) in
     let first : a ≡ b = ap (first_of_list 0) e in
     let front : a ∷ f ≡ b ∷ g = cc (first, rest.0) in (front, rest.1)
+
+pub last_cut_same : {byte : ℕ} {line f g s t : List ℕ} → IsLastCut byte line f s
+    → IsLastCut byte line g t → (f ≡ g) × (s ≡ t)
+last_cut_same {byte} {f = f} {g} {s} {t} one two =
+    last_lists byte f g s t one.last two.last (sym one.whole ∙ two.whole)
 
 -- there is none
 pub last_cut-none : (byte : ℕ) (line before behind : List ℕ)

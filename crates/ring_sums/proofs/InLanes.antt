@@ -2,7 +2,7 @@
 -- Lanes and their contexts, as they read, take in and end.
 use Rattle.std.proofs.Common.{◌≡◌, ◌≢◌, ℕ, ◌+◌, ◌-◌, ◌<◌, ◌≤◌, List, [], ◌∷◌, ◌++◌, ◌∙◌, Option}
 use Rattle.std.proofs.Common.{ap, arith, get_or, inl, inr, length, map}
-use Rattle.std.proofs.Common.{Bool, IsFalse, None, Some, length-append, refl, slice_set}
+use Rattle.std.proofs.Common.{Bool, None, Some, length-append, refl, slice_set}
 use Rattle.std.proofs.Common.{append_assoc, subst, sym}
 use Rattle.std.proofs.Math.ListN.{get_or-map}
 use Rattle.std.proofs.lemmas.Bool.{cases_lt, cases_order}
@@ -19,7 +19,7 @@ use Rattle.ring.specs.Prelude.{StandsFor, context_algorithm, message_at}
 use Rattle.ring.specs.Updates.{AreUpdated, IsUpdated}
 use Rattle.ring.specs.declared.digest.algorithm.Algorithm.{Algorithm}
 use Rattle.ring.specs.declared.digest.context.Context.{Context}
-use Rattle.ring_sums.specs.Lane.{IsIn, IsRead, IsSkipped, behind_of, front_of, left_of}
+use Rattle.ring_sums.specs.Lane.{IsFresh, IsIn, IsRead, IsSkipped, behind_of, front_of, left_of}
 use Rattle.ring_sums.specs.Lanes.{AreIn}
 use Rattle.ring_sums.specs.Outcome.{IsFailure}
 use Rattle.ring_sums.specs.declared.lane.Lane.{Lane}
@@ -58,18 +58,16 @@ failure-of fails_with x y (Some error) same is =
     (ap (λ (f : Error → Bool). f error) same ∙ is.0, is.1)
 
 module _ {R : Type 0} {remaining : R → Option (List ℕ)} {fails_with : R → Error → Bool}
-    {a : Algorithm} {readers : List R} where
+    {a : Algorithm} {first : R} where
   -- a lane that has read
   pub in-read : {old new : Lane R} {c : Context}
-      → IsIn remaining fails_with a readers (left_of old) old c
       → IsRead remaining fails_with old new
-      → IsIn remaining fails_with a readers (left_of new) new c
-  in-read {old} {new} {c} i s =
+      → IsIn remaining fails_with a first (left_of old) old c
+      → IsIn remaining fails_with a first (left_of new) new c
+  in-read {old} {new} s i =
       record {
-        place = subst (λ (z : ℕ). z < length readers) (sym s.place) i.place;
         algorithm = i.algorithm;
-        same = λ r. subst (λ (z : ℕ). fails_with new.reader ≡ fails_with (get_or readers z r))
-            (sym s.place) (s.same ∙ i.same r);
+        same = s.same ∙ i.same;
         failed = failure-of fails_with new.reader old.reader new.failure s.same
             (s.failed i.failed);
         taken = λ none.
@@ -77,20 +75,17 @@ module _ {R : Type 0} {remaining : R → Option (List ℕ)} {fails_with : R → 
             record {
               bytes = t.bytes;
               stands = t.stands;
-              read = λ r. subst (λ (z : ℕ). Consumes (remaining (get_or readers z r))
-                  (remaining new.reader) (t.bytes ++ left_of new)) (sym s.place)
-                  (s.bytes none _ t.bytes (t.read r));
+              read = s.bytes none (remaining first) t.bytes t.read;
             };
         end = λ none over. s.end none i.end over;
       }
 
   -- a context that has taken in the first n bytes of what was left
   pub in-taken : {l : Lane R} {c d : Context} (n : ℕ)
-      → IsIn remaining fails_with a readers (left_of l) l c
-      → IsUpdated c d (front_of n l) → IsIn remaining fails_with a readers (behind_of n l) l d
+      → IsIn remaining fails_with a first (left_of l) l c
+      → IsUpdated c d (front_of n l) → IsIn remaining fails_with a first (behind_of n l) l d
   in-taken {l} n i s =
       record {
-        place = i.place;
         algorithm = s.algorithm ∙ i.algorithm;
         same = i.same;
         failed = i.failed;
@@ -103,39 +98,56 @@ module _ {R : Type 0} {remaining : R → Option (List ℕ)} {fails_with : R → 
             record {
               bytes = all;
               stands = s.stands t.bytes t.stands;
-              read = λ r. subst (Consumes (remaining (get_or readers l.place r))
-                  (remaining l.reader)) (sym same) (t.read r);
+              read = subst (Consumes (remaining first) (remaining l.reader)) (sym same) t.read;
             };
         end = i.end;
       }
 
   -- a lane of which they are counted
-  pub in-skipped : {old new : Lane R} {c : Context} (n : ℕ)
-      → IsIn remaining fails_with a readers (behind_of n old) old c → IsSkipped n old new
-      → IsIn remaining fails_with a readers (left_of new) new c
-  in-skipped {old} {new} {c} n i s =
-      let P : ℕ → R → List ℕ → Type 0 = λ k x bytes. (r : R)
-      → Consumes (remaining (get_or readers k r)) (remaining x) bytes in
+  pub in-skipped : {n : ℕ} {old new : Lane R} {c : Context} → IsSkipped n old new
+      → IsIn remaining fails_with a first (behind_of n old) old c
+      → IsIn remaining fails_with a first (left_of new) new c
+  in-skipped {n} {old} {new} s i =
       record {
-        place = subst (λ (z : ℕ). z < length readers) (sym s.place) i.place;
         algorithm = i.algorithm;
-        same = λ r. subst (λ (z : ℕ). fails_with new.reader ≡ fails_with (get_or readers z r))
-            (sym s.place) (ap fails_with s.reader ∙ i.same r);
+        same = ap fails_with s.reader ∙ i.same;
         failed = rw (s.failure, s.reader) i.failed;
         taken = λ none.
             let t = i.taken (rw s.failure at none) in
             record {
               bytes = t.bytes;
               stands = t.stands;
-              read = subst (λ (z : ℕ). P z new.reader (t.bytes ++ left_of new)) (sym s.place)
-                  (subst (λ (z : R). P old.place z (t.bytes ++ left_of new)) (sym s.reader)
-                  (subst (λ (z : List ℕ). P old.place old.reader (t.bytes ++ z)) (sym s.left)
-                  t.read));
+              read = subst (λ (z : R). Consumes (remaining first) (remaining z)
+                  (t.bytes ++ left_of new)) (sym s.reader)
+                  (subst (λ (z : List ℕ). Consumes (remaining first) (remaining old.reader)
+                  (t.bytes ++ z)) (sym s.left) t.read);
             };
         end = λ none over. subst (λ (z : R). IsAtEnd (remaining z)) (sym s.reader)
             (i.end (rw s.failure at none) (s.end over));
       }
 
+  -- a lane that begins
+  in-new : {place : ℕ} {lane : Lane R} {context : Context} → IsFresh place first lane
+      → StandsFor context [] → context_algorithm context ≡ a
+      → IsIn remaining fails_with a first (left_of lane) lane context
+  in-new {lane = lane} fresh stands of =
+      record {
+        algorithm = of;
+        same = ap fails_with fresh.reads;
+        failed = rw fresh.failure tt;
+        taken = λ none.
+            record {
+              bytes = [];
+              stands = stands;
+              read = subst (λ (z : R). Consumes (remaining first) (remaining z) (left_of lane))
+                  (sym fresh.reads) (subst (Consumes (remaining first) (remaining first))
+                  (sym fresh.left) (Consumes-nil (remaining first)));
+            };
+        end = λ none over. absurd (cc (fresh.goes_on, over));
+      }
+
+module _ {R : Type 0} {remaining : R → Option (List ℕ)} {fails_with : R → Error → Bool}
+    {a : Algorithm} {readers : List R} where
   -- all contexts
   pub are-taken : {lanes : List (Lane R)} {old new : List Context}
       {pieces : List (Bor (List ℕ))} (n : ℕ)
@@ -145,39 +157,36 @@ module _ {R : Type 0} {remaining : R → Option (List ℕ)} {fails_with : R → 
   are-taken {lanes} {old} {new} {pieces} n all same took =
       record {
         count = took.count ∙ all.count;
-        each = λ i l c below.
+        each = λ i l c below r.
             let read : message_at pieces i ≡ front_of n (get_or lanes i l) =
             ap (λ (z : List (List ℕ)). get_or z i []) same
             ∙ get_or_default (map (front_of n) lanes) i [] (front_of n l)
             (omega (arith, length-map lanes (front_of {R = R} n), below))
             ∙ get_or-map (front_of n) lanes i l in
             let one = took.each i c (omega (arith, all.count, below)) in
-            in-taken n (all.each i l c below)
+            in-taken n (all.each i l c below r)
             (subst (IsUpdated (get_or old i c) (get_or new i c)) read one);
       }
 
-  pub reading-all : {old now : List (Lane R)} {contexts : List Context} {i : ℕ}
-      → AreStepped (IsRead remaining fails_with) old now i → length old ≤ i
-      → AreIn remaining fails_with a readers left_of old contexts
-      → AreIn remaining fails_with a readers left_of now contexts
-  reading-all {old} {now} {contexts} have all first =
+  -- all lanes
+  pub stepped-all : {Step : Lane R → Lane R → Type 0} {before after : Lane R → List ℕ}
+      {old now : List (Lane R)} {contexts : List Context} {i : ℕ}
+      → ((x y : Lane R) → Step x y → y.place ≡ x.place)
+      → ((first : R) (x y : Lane R) (c : Context) → Step x y
+      → IsIn remaining fails_with a first (before x) x c
+      → IsIn remaining fails_with a first (after y) y c)
+      → AreStepped Step old now i → length old ≤ i
+      → AreIn remaining fails_with a readers before old contexts
+      → AreIn remaining fails_with a readers after now contexts
+  stepped-all {after = after} {old} {now} {contexts} kept goes have all first =
       record {
         count = first.count ∙ sym have.count;
-        each = λ k l c below.
-            in-read (first.each k l c (omega (arith, have.count, below)))
-            (have.done k (omega (arith, have.count, below, all)) l);
-      }
-
-  pub skipping-all : {old now : List (Lane R)} {contexts : List Context} {i : ℕ} (n : ℕ)
-      → AreStepped (IsSkipped n) old now i → length old ≤ i
-      → AreIn remaining fails_with a readers (behind_of n) old contexts
-      → AreIn remaining fails_with a readers left_of now contexts
-  skipping-all {old} {now} {contexts} n have all first =
-      record {
-        count = first.count ∙ sym have.count;
-        each = λ k l c below.
-            in-skipped n (first.each k l c (omega (arith, have.count, below)))
-            (have.done k (omega (arith, have.count, below, all)) l);
+        each = λ k l c below r.
+            let inside : k < length old = omega (arith, have.count, below) in
+            let step = have.done k (omega (arith, inside, all)) l in
+            subst (λ (z : ℕ). IsIn remaining fails_with a (get_or readers z r)
+            (after (get_or now k l)) (get_or now k l) (get_or contexts k c)) (sym (kept _ _ step))
+            (goes _ _ _ _ step (first.each k l c inside r));
       }
 
 -- lanes and contexts without those at place i, where the last ones stand now
@@ -193,7 +202,7 @@ module _ {R : Type 0} {remaining : R → Option (List ℕ)} {fails_with : R → 
       → IsSwapped contexts less i → AreIn remaining fails_with a readers left_of fewer less
   in-swapped {lanes} {fewer} {contexts} {less} i all s t =
       let P : Lane R → Context → Type 0 =
-      λ l c. IsIn remaining fails_with a readers (left_of l) l c in
+      λ l c. (r : R) → IsIn remaining fails_with a (get_or readers l.place r) (left_of l) l c in
       record {
         count = omega (arith, all.count, s.len, t.len);
         each = λ k l c below. elim (cases_order k i) [
@@ -223,38 +232,15 @@ module _ {R : Type 0} {remaining : R → Option (List ℕ)} {fails_with : R → 
 
 module _ {R : Type 0} {remaining : R → Option (List ℕ)} {fails_with : R → Error → Bool}
     {a : Algorithm} {readers : List R} where
-  -- a lane that begins
-  pub in-new : {lane : Lane R} {context : Context} (place : ℕ) → place < length readers
-      → lane.place ≡ place → ((r : R) → get_or readers place r ≡ lane.reader)
-      → lane.failure ≡ None → IsFalse lane.has_ended → left_of lane ≡ [] → StandsFor context []
-      → context_algorithm context ≡ a
-      → IsIn remaining fails_with a readers (left_of lane) lane context
-  in-new {lane} place below at is well shut empty stands of =
-      record {
-        place = subst (λ (z : ℕ). z < length readers) (sym at) below;
-        algorithm = of;
-        same = λ r. sym (ap fails_with (ap (λ (z : ℕ). get_or readers z r) at ∙ is r));
-        failed = rw well tt;
-        taken = λ none.
-            record {
-              bytes = [];
-              stands = stands;
-              read = λ r. subst (λ (z : R). Consumes (remaining z) (remaining lane.reader)
-                  (left_of lane)) (sym (ap (λ (z : ℕ). get_or readers z r) at ∙ is r))
-                  (subst (Consumes (remaining lane.reader) (remaining lane.reader)) (sym empty)
-                  (Consumes-nil (remaining lane.reader)));
-            };
-        end = λ none over. absurd (cc (shut, over));
-      }
-
   -- and stands behind the others
   pub in-more : {lanes : List (Lane R)} {contexts : List Context} (lane : Lane R)
       (context : Context) → AreIn remaining fails_with a readers left_of lanes contexts
-      → IsIn remaining fails_with a readers (left_of lane) lane context
+      → ((r : R) → IsIn remaining fails_with a (get_or readers lane.place r) (left_of lane) lane
+      context)
       → AreIn remaining fails_with a readers left_of (lanes ++ lane ∷ []) (contexts ++ context ∷ [])
   in-more {lanes} {contexts} lane context all one =
       let P : Lane R → Context → Type 0 =
-      λ l c. IsIn remaining fails_with a readers (left_of l) l c in
+      λ l c. (r : R) → IsIn remaining fails_with a (get_or readers l.place r) (left_of l) l c in
       let more = length-append lanes (lane ∷ []) in
       record {
         count = omega (arith, all.count, more, length-append contexts (context ∷ []));
@@ -277,6 +263,18 @@ module _ {R : Type 0} {remaining : R → Option (List ℕ)} {fails_with : R → 
               (subst (P lane) (sym second) one)
         ];
       }
+
+  -- one that begins
+  pub in-begun : {place : ℕ} {reader : R} {lanes : List (Lane R)} {contexts : List Context}
+      (lane : Lane R) (context : Context)
+      → AreIn remaining fails_with a readers left_of lanes contexts
+      → ((r : R) → get_or readers place r ≡ reader) → IsFresh place reader lane
+      → StandsFor context [] → context_algorithm context ≡ a
+      → AreIn remaining fails_with a readers left_of (lanes ++ lane ∷ []) (contexts ++ context ∷ [])
+  in-begun lane context all at fresh stands of =
+      in-more lane context all (λ r.
+      subst (λ (z : R). IsIn remaining fails_with a z (left_of lane) lane context)
+      (sym (ap (λ (z : ℕ). get_or readers z r) fresh.placed ∙ at r)) (in-new fresh stands of))
 
   -- no lane
   pub in-none : AreIn remaining fails_with a readers left_of [] []

@@ -5,7 +5,7 @@ use Rattle.std.proofs.Common.{Bool, ◌++◌}
 use Rattle.std.proofs.Common.{List, [], ◌∷◌, length, get_or, Some}
 use Rattle.std.proofs.Common.{refl, sym, ap, ◌∙◌, arith, inl, inr, length-append}
 use Rattle.std.proofs.lemmas.Bool.{agree_below_at, and_parts, cases_Bool, false_from_ne_true}
-use Rattle.std.proofs.lemmas.Bool.{ne_eqb, or_parts, true≢false}
+use Rattle.std.proofs.lemmas.Bool.{or_parts, true≢false}
 use Rattle.std.proofs.lemmas.List.Elements.{All-nil}
 use Rattle.std.proofs.lemmas.List.Sums.{list_all-from_AllPass}
 use Rattle.std.specs.Char.{is_ascii_hexdigit}
@@ -18,7 +18,7 @@ use Rattle.ring.specs.declared.digest.algorithm.Algorithm.{Algorithm}
 use Rattle.ring_sums.specs.Entry.{IsBehindStart, IsDigestOf, digest_in, is_white, listed_with}
 use Rattle.ring_sums.specs.Entry.{name_in, slash}
 use Rattle.ring_sums.specs.Names.{escaped, escaped_byte, is_special, needs_escape}
-use Rattle.ring_sums.proofs.Escapes.{unescaped-escaped}
+use Rattle.ring_sums.proofs.Escapes.{escaped-cases, unescaped-escaped}
 use Rattle.ring_sums.proofs.Fronts.{White, white-no_digit}
 
 -- ---- digits
@@ -32,12 +32,6 @@ pub are_digits : (bytes : List ℕ) → IsBytes bytes
 are_digits bytes h =
     list_all-from_AllPass is_ascii_hexdigit (encode_lower bytes)
     (All-hex (λ b. is_ascii_hexdigit b ≡ true) is_digit bytes h)
-
--- a byte that is no digit is none of them
-pub other_byte : (digit byte : ℕ) → is_ascii_hexdigit digit ≡ true → is_ascii_hexdigit byte ≡ false
-    → eqb digit byte ≡ false
-other_byte digit byte is other =
-    ne_eqb digit byte (λ e. true≢false (sym is ∙ ap (λ b. is_ascii_hexdigit b) e ∙ other))
 
 -- no white space stands in front of digits
 pub digits-start : (digits : List ℕ) → list_all is_ascii_hexdigit digits ≡ true
@@ -66,16 +60,9 @@ name_in-escaped name = elim (cases_Bool (needs_escape name)) [
 ]
 
 one_byte : (byte : ℕ) → 1 ≤ length (escaped_byte byte)
-one_byte byte = elim (cases_Bool (eqb byte 92)) [
-  | inl is ↦ rw is (omega arith)
-  | inr other ↦ elim (cases_Bool (eqb byte 10)) [
-    | inl is ↦ rw (other, is) (omega arith)
-    | inr other10 ↦ elim (cases_Bool (eqb byte 13)) [
-      | inl is ↦ rw (other, other10, is) (omega arith)
-      | inr other13 ↦ rw (other, other10, other13) (omega arith)
-    ]
-  ]
-]
+one_byte byte =
+    escaped-cases byte (λ b escape. 1 ≤ length escape) (omega arith) (omega arith) (omega arith)
+    (λ _ _ _. omega arith)
 
 pub length-escaped : (name : List ℕ) → 0 < length name → 0 < length (escaped name)
 length-escaped [] h = absurd (omega arith)

@@ -12,7 +12,7 @@ use Rattle.ring.specs.declared.digest.algorithm.Algorithm.{Algorithm}
 use Rattle.ring_sums.specs.Entry.{Listed, Reading, gap_after, listed_in}
 use Rattle.ring_sums.specs.List.{IsAppended, LineSays, LinesSay, Said, SaysUnless, TextSays}
 use Rattle.ring_sums.specs.List.{is_passed_over}
-use Rattle.ring_sums.specs.List.{bad, lines_in, lists, said_of, without_return}
+use Rattle.ring_sums.specs.List.{lines_in, lists, said_of, without_return}
 use Rattle.ring_sums.specs.declared.entry.Gap.{Gap}
 use Rattle.ring_sums.proofs.ReadLines.{reading-one}
 
@@ -28,13 +28,7 @@ module _ {text line behind : List ℕ} (cut : IsFirstCut 10 text line behind) wh
 lines_in-whole : (text : List ℕ) → IsWithout 10 text → lines_in text ≡ text ∷ []
 lines_in-whole text none = slice_split_none (λ byte. eqb byte 10) text none
 
--- a list on standard input does not list that
-pub said-dash : (listed : Listed) (number : ℕ) (is_standard_input : Bool)
-    → is_standard_input ≡ true → bytes_eq listed.name (codes "-") ≡ true
-    → bad number ≡ said_of (Some listed) number is_standard_input
-unfolding said_of
-said-dash listed number is_standard_input is dash = rw (is, dash)
-
+-- what is listed is said, unless a list on standard input lists itself
 pub said-listed : (listed : Listed) (number : ℕ) (is_standard_input : Bool)
     → (is_standard_input && bytes_eq listed.name (codes "-")) ≡ false
     → lists listed ≡ said_of (Some listed) number is_standard_input

@@ -1,16 +1,19 @@
 -- SPDX-License-Identifier: ISC
 -- The form of lines that begin with the digits.
-use Rattle.std.proofs.Common.{◌≡◌, ℕ, ◌+◌, ◌*◌, ◌<◌, ◌≤◌, eqb, not, true, List, []}
-use Rattle.std.proofs.Common.{◌∷◌, ◌++◌, length, take, drop, get_or, Option, Some, None, refl, sym}
-use Rattle.std.proofs.Common.{ap, ◌∙◌, arith, add-one, inl, inr, length-append, length-drop}
+use Rattle.std.proofs.Common.{◌≡◌, ℕ, ◌+◌, ◌*◌, ◌<◌, ◌≤◌, Bool, not, true, List, []}
+use Rattle.std.proofs.Common.{◌∷◌, ◌++◌, length, take, drop, get_or, Option, Some, sym}
+use Rattle.std.proofs.Common.{ap, ◌∙◌, arith, add-one, length-append, length-drop}
 use Rattle.std.proofs.Common.{length-take, subst}
-use Rattle.std.proofs.Math.Seq.{get_or-append_seam, split_at, take-append_seam}
-use Rattle.std.proofs.lemmas.Bool.{and_parts, cases_Bool, true≢false}
-use Rattle.std.proofs.lemmas.List.Sums.{AllPass-from_list_all}
-use Rattle.std.proofs.lemmas.Option.{option_and_then_some, same_Some}
+use Rattle.std.proofs.Math.Seq.{get_or-append_seam, split_at}
+use Rattle.std.proofs.lemmas.Bool.{and_parts, not-false, true≢false}
+use Rattle.std.proofs.lemmas.List.{get_or-take}
+use Rattle.std.proofs.lemmas.List.Elements.{All-from_get_or}
+use Rattle.std.proofs.lemmas.List.Quantifiers.{position-Some}
+use Rattle.std.proofs.lemmas.List.Sums.{AllPass-from_list_all, list_all-from_AllPass}
+use Rattle.std.proofs.lemmas.Option.{same_Some}
 use Rattle.std.specs.Char.{is_ascii_hexdigit}
 use Rattle.std.specs.List.{list_all, position}
-use Rattle.std.specs.Option.{option_and_then, option_or}
+use Rattle.std.specs.Option.{option_or}
 use Rattle.ring.specs.Prelude.{output_len}
 use Rattle.ring.specs.declared.digest.algorithm.Algorithm.{Algorithm}
 use Rattle.ring.specs.declared.digest.algorithm.AlgorithmId.{AlgorithmId}
@@ -20,11 +23,76 @@ use Rattle.ring_text.proofs.Cuts.{run_same}
 use Rattle.ring_sums.specs.Entry.{HasPlainForm, algorithm_of_count, is_white}
 use Rattle.ring_sums.proofs.Fronts.{digits_end_at, white-no_digit}
 
--- the algorithm that is asked for, or that of as many digits as a line begins with
-abbrev pub algorithm_for : (asked : Option Algorithm) → List ℕ → Option Algorithm
-algorithm_for asked line =
-    option_or asked (option_and_then algorithm_of_count
-    (position (λ byte. not (is_ascii_hexdigit byte)) line))
+abbrev is_other : ℕ → Bool
+is_other byte = not (is_ascii_hexdigit byte)
+
+-- what has been tested of a line has the form
+pub plain-made : {asked : Option Algorithm} {line : List ℕ} {a : Algorithm} (len : ℕ)
+    → Some len ≡ position is_other line → Some a ≡ option_or asked (algorithm_of_count len)
+    → len ≡ 2 * output_len a → len + 2 ≤ length line → is_white (get_or line len 0) ≡ true
+    → HasPlainForm asked line a (take len line) (drop (len + 1) line)
+plain-made {asked} {line} {a} len at found count long white =
+    let first = position-Some is_other line len 0 (sym at) in
+    let many : length (take len line) ≡ len = simp length-take (omega arith) in
+    record {
+      space = get_or line len 0;
+      algorithm = ap (λ n. option_or asked (algorithm_of_count n)) many ∙ sym found;
+      white = white;
+      count = many ∙ count;
+      are_digits = list_all-from_AllPass is_ascii_hexdigit (take len line)
+          (All-from_get_or (λ b. is_ascii_hexdigit b ≡ true) (take len line) 0 (λ i within.
+          let before : i < len = omega (arith, many) in
+          rw (get_or-take len line i 0 before) (not-false _ (first.2 i before))));
+      whole = rw add-one (split_at line len 0 first.0);
+      more = simp length-drop (omega arith);
+    }
+
+-- the digits of the form are those that the line begins with, and its algorithm is found by them
+pub plain-known : {asked : Option Algorithm} {line : List ℕ} {b : Algorithm} {digits rest : List ℕ}
+    → HasPlainForm asked line b digits rest → position is_other line ≡ Some (length digits)
+plain-known {digits = digits} {rest} form =
+    rw form.whole (digits_end_at digits form.space rest form.are_digits
+    (white-no_digit form.space form.white))
+
+-- a line with the form passes the tests
+module _ {asked : Option Algorithm} {line : List ℕ} {b : Algorithm} {digits rest : List ℕ}
+    (form : HasPlainForm asked line b digits rest) {len : ℕ}
+    (at : Some len ≡ position is_other line) where
+  pub plain-len : length digits ≡ len
+  plain-len = same_Some (length digits) len (sym (plain-known form) ∙ sym at)
+
+  pub plain-algorithm : option_or asked (algorithm_of_count len) ≡ Some b
+  plain-algorithm =
+      ap (λ n. option_or asked (algorithm_of_count n)) (sym plain-len) ∙ form.algorithm
+
+  pub plain-long : len + 2 ≤ length line
+  plain-long =
+      omega (
+        arith,
+        plain-len,
+        form.more,
+        ap length form.whole,
+        length-append digits (form.space ∷ rest),
+      )
+
+  pub plain-white : is_white (get_or line len 0) ≡ true
+  plain-white =
+      rw (form.whole, ← plain-len, get_or-append_seam digits form.space rest 0) form.white
+
+-- its parts are known from the line
+pub plain-same : {asked : Option Algorithm} {line : List ℕ} {a b : Algorithm} {d e r s : List ℕ}
+    → HasPlainForm asked line a d r → HasPlainForm asked line b e s
+    → (a ≡ b) × (d ≡ e) × (r ≡ s)
+plain-same {asked} {line} {a} {b} {d} {e} {r} {s} one two =
+    let P : ℕ → Type 0 = λ byte. is_ascii_hexdigit byte ≡ true in
+    let run = run_same P one.space two.space
+    (λ is. true≢false (sym is ∙ white-no_digit one.space one.white))
+    (λ is. true≢false (sym is ∙ white-no_digit two.space two.white)) d e r s
+    (AllPass-from_list_all is_ascii_hexdigit d one.are_digits)
+    (AllPass-from_list_all is_ascii_hexdigit e two.are_digits) (sym one.whole ∙ two.whole) in
+    let same = same_Some a b (sym one.algorithm
+    ∙ ap (λ z. option_or asked (algorithm_of_count (length z))) run.0 ∙ two.algorithm) in
+    (same, run.0, run.2)
 
 -- a digest has a byte or more
 pub enough : (id : AlgorithmId) → 0 < output_len (record { id = id })
@@ -33,103 +101,6 @@ enough Sha256 = omega arith
 enough Sha384 = omega arith
 enough Sha512 = omega arith
 enough Sha512_256 = omega arith
-
--- an algorithm of some count is that of its own
-pub count_is : (count : ℕ) (a : Algorithm) → algorithm_of_count count ≡ Some a
-    → algorithm_of_count (2 * output_len a) ≡ Some a
-count_is count a h = elim (cases_Bool (eqb count 40)) [
-  | inl is ↦ let found = rw is at h in rw (sym (same_Some _ a found)) refl
-  | inr no40 ↦ elim (cases_Bool (eqb count 64)) [
-    | inl is ↦ let found = rw (no40, is) at h in rw (sym (same_Some _ a found)) refl
-    | inr no64 ↦ elim (cases_Bool (eqb count 96)) [
-      | inl is ↦ let found = rw (no40, no64, is) at h in rw (sym (same_Some _ a found)) refl
-      | inr no96 ↦ elim (cases_Bool (eqb count 128)) [
-        | inl is ↦
-            let found = rw (no40, no64, no96, is) at h in rw (sym (same_Some _ a found)) refl
-        | inr no128 ↦ let found = rw (no40, no64, no96, no128) at h in cc
-      ]
-    ]
-  ]
-]
-
-counted : (asked : Option Algorithm) (line : List ℕ) (a : Algorithm)
-    → algorithm_for asked line ≡ Some a
-    → option_or asked (algorithm_of_count (2 * output_len a)) ≡ Some a
-counted (Some b) line a h = h
-counted None line a h =
-    option_and_then_some algorithm_of_count
-    (position (λ byte. not (is_ascii_hexdigit byte)) line) a h (λ count at is. count_is count a is)
-
--- what has been tested of a line has the form
-pub plain-made : {asked : Option Algorithm} {line : List ℕ} {a : Algorithm}
-    → algorithm_for asked line ≡ Some a → (len : ℕ) → len ≡ 2 * output_len a
-    → len + 2 ≤ length line → is_white (get_or line len 0) ≡ true
-    → list_all is_ascii_hexdigit (take len line) ≡ true
-    → HasPlainForm asked line a (take len line) (drop (len + 1) line)
-plain-made {asked} {line} {a} algorithm len is long white digits =
-    let within : len < length line = omega arith in
-    let count : length (take len line) ≡ len = simp length-take (omega arith) in
-    let split = split_at line len 0 within in
-    record {
-      space = get_or line len 0;
-      algorithm = ap (λ n. option_or asked (algorithm_of_count n)) (count ∙ is)
-          ∙ counted asked line a algorithm;
-      white = white;
-      count = count ∙ is;
-      are_digits = digits;
-      whole = rw add-one split;
-      more = simp length-drop (omega arith);
-    }
-
--- the algorithm of the form is the one that is found
-pub plain-algorithm : {asked : Option Algorithm} {line : List ℕ} {a : Algorithm}
-    {digits rest : List ℕ} → HasPlainForm asked line a digits rest
-    → algorithm_for asked line ≡ Some a
-plain-algorithm {asked} {line} {a} {digits} {rest} form =
-    let ends = digits_end_at digits form.space rest form.are_digits
-    (white-no_digit form.space form.white) in
-    rw (form.whole, ends) form.algorithm
-
-pub plain-under : {asked : Option Algorithm} {line : List ℕ} {a b : Algorithm}
-    {digits rest : List ℕ} → algorithm_for asked line ≡ Some a
-    → HasPlainForm asked line b digits rest → HasPlainForm asked line a digits rest
-plain-under {asked} {line} {a} {b} {digits} {rest} found form =
-    subst (λ z. HasPlainForm asked line z digits rest)
-    (same_Some b a (sym (plain-algorithm form) ∙ found)) form
-
--- a line with the form passes the tests
-module _ {asked : Option Algorithm} {line : List ℕ} {a : Algorithm} {digits rest : List ℕ}
-    (form : HasPlainForm asked line a digits rest) (len : ℕ) (is : len ≡ 2 * output_len a) where
-  same : length digits ≡ len
-  same = form.count ∙ sym is
-
-  pub plain-long : len + 2 ≤ length line
-  plain-long =
-      let count = same in
-      let more = form.more in
-      rw form.whole (simp length-append (omega arith))
-
-  pub plain-white : is_white (get_or line len 0) ≡ true
-  plain-white =
-      rw (form.whole, ← same, get_or-append_seam digits form.space rest 0) form.white
-
-  pub plain-digits : list_all is_ascii_hexdigit (take len line) ≡ true
-  plain-digits =
-      rw (form.whole, ← same, take-append_seam digits (form.space ∷ rest)) form.are_digits
-
--- its parts are known from the line
-pub plain-same : {asked : Option Algorithm} {line : List ℕ} {a b : Algorithm} {d e r s : List ℕ}
-    → HasPlainForm asked line a d r → HasPlainForm asked line b e s
-    → (a ≡ b) × (d ≡ e) × (r ≡ s)
-plain-same {asked} {line} {a} {b} {d} {e} {r} {s} one two =
-    let same = same_Some a b (sym (plain-algorithm one) ∙ plain-algorithm two) in
-    let P : ℕ → Type 0 = λ byte. is_ascii_hexdigit byte ≡ true in
-    let run = run_same P one.space two.space
-    (λ is. true≢false (sym is ∙ white-no_digit one.space one.white))
-    (λ is. true≢false (sym is ∙ white-no_digit two.space two.white)) d e r s
-    (AllPass-from_list_all is_ascii_hexdigit d one.are_digits)
-    (AllPass-from_list_all is_ascii_hexdigit e two.are_digits) (sym one.whole ∙ two.whole) in
-    (same, run.0, run.2)
 
 -- it begins with a digit
 first-digit : (digits rest : List ℕ) → 0 < length digits

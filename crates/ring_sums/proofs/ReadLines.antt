@@ -5,7 +5,7 @@ use Rattle.std.proofs.Common.{refl, sym, ap, subst, ◌∙◌}
 use Rattle.ring.specs.declared.digest.algorithm.Algorithm.{Algorithm}
 use Rattle.ring_sums.specs.Entry.{HasTaggedForm, IsBehindStart, IsReading, IsShape, Reading}
 use Rattle.ring_sums.specs.Entry.{Shape, neither, slash, tag_of, with_digits, with_tag}
-use Rattle.ring_sums.proofs.Fronts.{behind_white}
+use Rattle.ring_sums.proofs.Fronts.{white_same}
 use Rattle.ring_sums.proofs.PlainForm.{plain-same}
 use Rattle.ring_sums.proofs.TaggedForm.{forms-apart, tag-same, tagged-same}
 
@@ -41,8 +41,7 @@ slash-one false false s t none none' same = (refl, same)
 start-one : {line : List ℕ} (e f : Bool) (s t : List ℕ) → IsBehindStart line e s
     → IsBehindStart line f t → (e ≡ f) × (s ≡ t)
 start-one e f s t one two =
-    let same = behind_white two.white.white two.shown one.white two.white.all two.white.ends
-    two.white.whole in
+    let same = white_same one.white two.white in
     slash-one e f s t (λ plain rest is. one.none plain rest (one.whole ∙ is))
     (λ plain rest is. two.none plain rest (two.whole ∙ is)) (sym one.whole ∙ same ∙ two.whole)
 

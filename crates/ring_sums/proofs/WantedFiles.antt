@@ -1,114 +1,181 @@
 -- SPDX-License-Identifier: ISC
--- Files of which the outcomes are to come.
-use Rattle.std.proofs.Common.{◌≡◌, ℕ, Bool, ◌+◌, ◌-◌, ◌<◌, List, [], ◌∷◌, ◌++◌, ◌∙◌, ap}
-use Rattle.std.proofs.Common.{arith, drop, drop-drop, get_or, inl, inr, length, length-append}
-use Rattle.std.proofs.Common.{length-drop}
-use Rattle.std.proofs.Common.{refl, sym}
-use Rattle.std.proofs.lemmas.Bool.{cases_lt}
-use Rattle.std.proofs.lemmas.List.{get_or-append_right, get_or-drop, get_or_append_left}
-use Rattle.ring.specs.declared.digest.algorithm.Algorithm.{Algorithm}
-use Rattle.std.specs.Prelude.{Option, None, Some}
+-- Files whose outcomes are to come, and those whose outcomes are given.
+use Rattle.std.proofs.Common.{◌≡◌, ℕ, ◌<◌, ◌≤◌, Bool, List, [], ◌∷◌, ◌++◌, ◌∙◌, Option, None, Some, ap}
+use Rattle.std.proofs.Common.{append_assoc, append-nil, arith, length, length-append, map, refl}
+use Rattle.std.proofs.Common.{subst, sym}
+use Rattle.std.specs.Prelude.{IsSomeAnd}
+use Rattle.std.proofs.lemmas.List.{map_push, nil_from_length}
+use Rattle.std.proofs.lemmas.List.Elements.{All-cons, All-head, All-nil, All-push, All-tail}
+use Rattle.std.proofs.lemmas.Slice.Zip.{AllZip-long, all_zipped_more}
+use Rattle.std.specs.List.{All, AllZip}
 use Rattle.std.specs.declared.io.Error.{Error}
-use Rattle.ring_sums.specs.Outcomes.{AreOf, IsAnswered}
-use Rattle.ring_sums.specs.Sums.{AreAt, IsGiven}
+use Rattle.ring.specs.declared.digest.algorithm.Algorithm.{Algorithm}
+use Rattle.ring_sums.specs.Outcome.{IsOutcome}
+use Rattle.ring_sums.specs.Outcomes.{AreGathered, FileIsGiven, FilesToCome, IsOutcomeOf, IsTaken}
+use Rattle.ring_sums.specs.Sums.{ReaderIsGiven, ReadersToCome}
 use Rattle.ring_sums.specs.declared.outcome.Outcome.{Outcome}
 use Rattle.ring_sums.specs.declared.outcomes.Outcomes.{Outcomes}
 use Rattle.ring_sums.specs.declared.outcomes.Wanted.{Wanted}
 use Rattle.ring_sums.specs.declared.sums.Sums.{Sums}
 
--- the next of those that wait is the file at its place
-pub record IsThere {R : Type 0} (wanted behind : List (Wanted R)) (place : ℕ) (next : Wanted R)
-    : Type 0 where
-  pub below : place < length wanted
-  pub same : (w : Wanted R) → get_or wanted place w ≡ next
-  pub rest : behind ≡ drop (place + 1) wanted
+abbrev pub readers_of : {R : Type 0} → List (Wanted R) → List R
+readers_of files = map (λ file. file.reader) files
 
-pub there : {R : Type 0} {wanted rest : List (Wanted R)} {place : ℕ} {next : Wanted R}
-    → drop place wanted ≡ next ∷ rest → IsThere wanted rest place next
-there {wanted = wanted} {rest} {place} {next} e =
+-- one reader more is taken
+pub gathered-more : {R : Type 0} {a : Algorithm} {old new : List R}
+    {waited waiting rest : List (Wanted R)} {reader : R} → AreGathered a old new waited waiting
+    → IsTaken a reader waiting rest → AreGathered a old (new ++ reader ∷ []) waited rest
+gathered-more {a = a} {old} {rest = rest} {reader} so taken =
+    let next = taken.next in
     record {
-      below = omega (arith, length-drop place wanted, ap length e);
-      same = λ w. ap (λ (z : ℕ). get_or wanted z w) (omega arith)
-          ∙ sym (get_or-drop place wanted 0 w) ∙ ap (λ (z : List (Wanted _)). get_or z 0 w) e;
-      rest = sym (ap (drop 1) e) ∙ drop-drop 1 place wanted
-          ∙ ap (λ (z : ℕ). drop z wanted) (omega arith);
+      files = so.files ++ next ∷ [];
+      of = All-push (λ file. file.algorithm ≡ a) so.files next so.of taken.algorithm;
+      taken = so.taken ∙ ap (λ z. so.files ++ z) taken.rest
+          ∙ sym (append_assoc so.files (next ∷ []) rest);
+      behind = ap (λ z. z ++ reader ∷ []) so.behind
+          ∙ append_assoc old (readers_of so.files) (reader ∷ [])
+          ∙ ap (λ z. old ++ (readers_of so.files ++ z ∷ [])) (sym taken.reader)
+          ∙ ap (λ z. old ++ z) (sym (map_push (λ file. file.reader) so.files next));
     }
 
--- the readers that are taken, with one more behind them
-pub of-more : {R : Type 0} {a : Algorithm} {readers : List R} {start : ℕ}
-    {wanted waiting rest : List (Wanted R)} (next : Wanted R)
-    → AreOf a readers start wanted waiting → waiting ≡ next ∷ rest → next.algorithm ≡ a
-    → AreOf a (readers ++ next.reader ∷ []) start wanted rest
-of-more {a = a} {readers} {start} {wanted} {waiting} {rest} next of e same =
-    let is = there {wanted = wanted} {place = start + length readers} (sym of.rest ∙ e) in
-    let more = length-append readers (next.reader ∷ []) in
-    record {
-      fits = omega (arith, of.fits, is.below, more);
-      each = λ k r w below. elim (cases_lt k (length readers)) [
-        | inl lt ↦
-            let here = of.each k r w lt in
-            (here.0 ∙ sym (get_or_append_left readers (next.reader ∷ []) r k lt), here.1)
-        | inr ge ↦
-            let at : start + k ≡ start + length readers = omega (arith, ge, below, more) in
-            let zero : k - length readers ≡ 0 = omega (arith, ge, below, more) in
-            let file : get_or wanted (start + k) w ≡ next =
-            ap (λ (z : ℕ). get_or wanted z w) at ∙ is.same w in (
-              ap (λ (z : Wanted _). z.reader) file
-                  ∙ sym (get_or-append_right readers (next.reader ∷ []) (length readers) k r refl ge
-                  ∙ ap (λ (z : ℕ). get_or (next.reader ∷ []) z r) zero),
-              ap (λ (z : Wanted _). z.algorithm) file ∙ same,
-            )
-      ];
-      rest = is.rest ∙ ap (λ (z : ℕ). drop z wanted) (omega (arith, more));
-    }
+-- the readers that are gathered behind the first are run
+pub run-begun : {R : Type 0} {remaining : R → Option (List ℕ)} {fails_with : R → Error → Bool}
+    {readers : List R} {waited : List (Wanted R)} {new : Outcomes R} (first : Wanted R)
+    → AreGathered first.algorithm (first.reader ∷ []) readers waited new.waiting.items
+    → ReadersToCome remaining fails_with first.algorithm readers new.run
+    → FilesToCome remaining fails_with (first ∷ waited) new
+    × (length new.waiting.items ≤ length waited)
+run-begun {new = new} first so run = (
+  record {
+    algorithm = first.algorithm;
+    first = first ∷ so.files;
+    of = All-cons (λ file. file.algorithm ≡ first.algorithm) first so.files refl so.of;
+    run = rw so.behind at run;
+    whole = ap (λ z. first ∷ z) so.taken;
+  },
+  omega (arith, ap length so.taken, length-append so.files new.waiting.items),
+)
 
--- the reader of the first file alone
-pub of-first : {R : Type 0} {start : ℕ} {wanted rest : List (Wanted R)} (first : Wanted R)
-    → drop start wanted ≡ first ∷ rest
-    → AreOf first.algorithm (first.reader ∷ []) start wanted rest
-of-first {start = start} {wanted} {rest} first e =
-    let is = there {wanted = wanted} {place = start} e in
-    of-more {readers = []} first (record {
-      fits = omega (arith, is.below);
-      each = λ k r w below. absurd (omega (arith, below));
-      rest = ap (λ (z : ℕ). drop z wanted) (omega arith);
-    }) e refl
+module _ {R : Type 0} {remaining : R → Option (List ℕ)} {fails_with : R → Error → Bool}
+    {a : Algorithm} where
+  -- a run gives the outcome of its first file, if it has one
+  pub run-gives : (new : Outcomes R) (outcome : Option Outcome) (first : List (Wanted R))
+      → All (λ file. file.algorithm ≡ a) first → (outcome ≡ None → 0 < length first)
+      → ReaderIsGiven remaining fails_with a (readers_of first) outcome new.run
+      → FileIsGiven remaining fails_with (first ++ new.waiting.items) outcome new
+  run-gives new outcome [] of some given = absurd (omega (arith, some given.is.0))
+  run-gives new outcome (file ∷ first) of some given =
+      let P : Wanted R → Type 0 = λ file. file.algorithm ≡ a in
+      record {
+        is = (
+          subst (λ z. IsSomeAnd outcome (IsOutcome remaining fails_with z file.reader))
+              (sym (All-head P file first of)) given.is.0,
+          record {
+            algorithm = a;
+            first = first;
+            of = All-tail P file first of;
+            run = given.is.1;
+            whole = refl;
+          },
+        );
+      }
 
--- the outcome of the file at `place`, of which the run has the reader
-pub answered : {R : Type 0} {remaining : R → Option (List ℕ)} {fails_with : R → Error → Bool}
-    {a : Algorithm} {readers : List R}
-    {wanted : List (Wanted R)} {start given : ℕ} {new : Outcomes R} (place : ℕ)
-    (outcome : Option Outcome) → place ≡ start + given → given < length readers
-    → IsGiven remaining fails_with a readers given outcome new.run
-    → AreOf a readers start wanted new.waiting.items
-    → IsAnswered remaining fails_with wanted place outcome new
-answered place None at lt is of = absurd (cc (is.some.1 lt))
-answered {R = R} {remaining} {fails_with} {a} {readers} {wanted} {start} {given} {new} place
-    (Some x) at lt is of =
-    record {
-      some = (λ h. omega (arith, at, lt, of.fits), λ below. refl);
-      right = λ w.
-          let r = (get_or wanted place w).reader in
-          let file = of.each given r w lt in
-          rw (at, file.0, file.1) (is.right r);
-      rest = record {
-        algorithm = a;
-        readers = readers;
-        start = start;
-        given = given + 1;
-        counted = omega (arith, at);
-        run = is.sums;
-        of = of;
-      };
-    }
+  -- where nothing waits no file is left behind it
+  pub none-waits : {new : Outcomes R} → ReadersToCome remaining fails_with a [] new.run
+      → [] ≡ new.waiting.items → FileIsGiven remaining fails_with [] None new
+  none-waits run none =
+      record {
+        is = (
+          refl,
+          record { algorithm = a; first = []; of = All-nil _; run = run; whole = none },
+        );
+      }
 
--- a run that gives no outcome has given all
-pub all-given : {R : Type 0} {remaining : R → Option (List ℕ)} {fails_with : R → Error → Bool}
-    {a : Algorithm} {readers : List R}
-    {given : ℕ} {old new : Sums R} → AreAt remaining fails_with a readers given old
-    → IsGiven remaining fails_with a readers given None new → given ≡ length readers
-all-given {readers = readers} {given} at is =
-    elim (cases_lt given (length readers)) [
-      | inl lt ↦ absurd (cc (is.some.1 lt))
-      | inr ge ↦ omega (arith, ge, at.begun)
-    ]
+  spent : {run : Sums R} (first waiting : List (Wanted R))
+      → ReaderIsGiven remaining fails_with a (readers_of first) None run
+      → (first ++ waiting ≡ waiting) × ReadersToCome remaining fails_with a [] run
+  spent [] waiting given = (refl, given.is.1)
+  spent (file ∷ first) waiting given = absurd given.is.0
+
+-- a run that gives none has given all
+pub run-spent : {R : Type 0} {remaining : R → Option (List ℕ)} {fails_with : R → Error → Bool}
+    {files : List (Wanted R)} {old : Outcomes R} {run : Sums R}
+    → (so : FilesToCome remaining fails_with files old)
+    → ReaderIsGiven remaining fails_with so.algorithm (readers_of so.first) None run
+    → (files ≡ old.waiting.items) × ReadersToCome remaining fails_with so.algorithm [] run
+run-spent {old = old} so given =
+    let all = spent so.first old.waiting.items given in (so.whole ∙ all.0, all.1)
+
+-- a run has a file where fewer wait
+pub some-first : {R : Type 0} {remaining : R → Option (List ℕ)} {fails_with : R → Error → Bool}
+    {first : Wanted R} {waited : List (Wanted R)} {new : Outcomes R}
+    → (so : FilesToCome remaining fails_with (first ∷ waited) new)
+    → length new.waiting.items ≤ length waited → 0 < length so.first
+some-first {new = new} so fewer =
+    omega (arith, fewer, ap length so.whole, length-append so.first new.waiting.items)
+
+-- the outcomes of the first files are given
+pub record AreGiven {R : Type 0} (remaining : R → Option (List ℕ)) (fails_with : R → Error → Bool)
+    (wanted : List (Wanted R)) (outcomes : List Outcome) (state : Outcomes R) : Type 0 where
+  pub done : List (Wanted R)
+  pub rest : List (Wanted R)
+  pub whole : wanted ≡ done ++ rest
+  pub read : AllZip (IsOutcomeOf remaining fails_with) done outcomes
+  pub to_come : FilesToCome remaining fails_with rest state
+
+none-left : {R : Type 0} {remaining : R → Option (List ℕ)} {fails_with : R → Error → Bool}
+    {new : Outcomes R} (rest : List (Wanted R)) → FileIsGiven remaining fails_with rest None new
+    → length rest ≡ 0
+none-left [] given = refl
+none-left (file ∷ rest) given = absurd given.is.0
+
+module _ {R : Type 0} {remaining : R → Option (List ℕ)} {fails_with : R → Error → Bool}
+    {wanted : List (Wanted R)} where
+  pub given-first : {state : Outcomes R} → FilesToCome remaining fails_with wanted state
+      → AreGiven remaining fails_with wanted [] state
+  given-first first =
+      record { done = []; rest = wanted; whole = refl; read = tt; to_come = first }
+
+  more : {new : Outcomes R} (outcomes : List Outcome) (done rest : List (Wanted R))
+      (outcome : Outcome) → wanted ≡ done ++ rest
+      → AllZip (IsOutcomeOf remaining fails_with) done outcomes
+      → FileIsGiven remaining fails_with rest (Some outcome) new
+      → AreGiven remaining fails_with wanted (outcomes ++ outcome ∷ []) new
+  more outcomes done [] outcome whole read given = absurd (cc given.is.0)
+  more outcomes done (file ∷ rest) outcome whole read given =
+      record {
+        done = done ++ file ∷ [];
+        rest = rest;
+        whole = whole ∙ sym (append_assoc done (file ∷ []) rest);
+        read = all_zipped_more (IsOutcomeOf remaining fails_with) done outcomes file outcome read
+            given.is.0;
+        to_come = given.is.1;
+      }
+
+  -- one outcome more
+  pub given-more : {outcomes : List Outcome} {old new : Outcomes R} (outcome : Outcome)
+      → (so : AreGiven remaining fails_with wanted outcomes old)
+      → FileIsGiven remaining fails_with so.rest (Some outcome) new
+      → AreGiven remaining fails_with wanted (outcomes ++ outcome ∷ []) new
+  given-more {outcomes} outcome so given =
+      more outcomes so.done so.rest outcome so.whole so.read given
+
+  -- where there is none the outcomes of all are given
+  pub given-none : {outcomes : List Outcome} {old new : Outcomes R}
+      → (so : AreGiven remaining fails_with wanted outcomes old)
+      → FileIsGiven remaining fails_with so.rest None new → length outcomes ≡ length wanted
+  given-none {outcomes} so given =
+      let none = none-left so.rest given in
+      AllZip-long (IsOutcomeOf remaining fails_with) so.done outcomes so.read
+      ∙ omega (arith, none, ap length so.whole, length-append so.done so.rest)
+
+  -- each file has its outcome once there are as many
+  pub given-all : {outcomes : List Outcome} {state : Outcomes R}
+      → AreGiven remaining fails_with wanted outcomes state → length outcomes ≡ length wanted
+      → AllZip (IsOutcomeOf remaining fails_with) wanted outcomes
+  given-all {outcomes} so many =
+      let long = AllZip-long (IsOutcomeOf remaining fails_with) so.done outcomes so.read in
+      let none : so.rest ≡ [] = nil_from_length so.rest
+      (omega (arith, long, many, ap length so.whole, length-append so.done so.rest)) in
+      let whole : wanted ≡ so.done = so.whole ∙ ap (λ z. so.done ++ z) none ∙ append-nil so.done in
+      subst (λ z. AllZip (IsOutcomeOf remaining fails_with) z outcomes) (sym whole) so.read

@@ -1,11 +1,14 @@
 -- SPDX-License-Identifier: ISC
 -- Written lines read back, in both styles.
-use Rattle.std.proofs.Common.{◌≡◌, ℕ, ◌*◌, ◌<◌, eqb, Bool, true, false, ◌||◌, List, [], ◌∷◌, ◌++◌}
-use Rattle.std.proofs.Common.{length, get_or, Option, Some, None, refl, sym, ap, ◌∙◌, arith, inr}
-use Rattle.std.proofs.Common.{append_assoc, codes}
-use Rattle.std.proofs.lemmas.Bool.{le-leb, or_from}
+use Rattle.std.proofs.Common.{◌≡◌, ℕ, ◌*◌, ◌<◌, eqb, Bool, true, false, not, ◌||◌, List, [], ◌∷◌}
+use Rattle.std.proofs.Common.{◌++◌, if◌then◌else◌, length, get_or, Option, Some, None, refl, sym, ap}
+use Rattle.std.proofs.Common.{◌∙◌, append_assoc, arith, inr}
+use Rattle.std.proofs.lemmas.Bool.{and_parts, le-leb, ne_eqb, true≢false}
 use Rattle.std.proofs.lemmas.List.{append_cancel_right}
 use Rattle.std.proofs.lemmas.List.Elements.{All-cons, All-nil}
+use Rattle.std.proofs.lemmas.List.Folds.{list_all-append}
+use Rattle.std.specs.Char.{is_ascii_hexdigit}
+use Rattle.std.specs.List.{list_all}
 use Rattle.std.specs.Option.{option_or}
 use Rattle.hex.specs.Hex.{encode_lower, lower_digits}
 use Rattle.hex.proofs.HexLemmas.{length-encode_with}
@@ -17,18 +20,94 @@ use Rattle.ring.specs.declared.digest.algorithm.AlgorithmId.{AlgorithmId}
 use Rattle.ring.specs.declared.digest.algorithm.AlgorithmId.TheVariants.{Sha1, Sha256, Sha384}
 use Rattle.ring.specs.declared.digest.algorithm.AlgorithmId.TheVariants.{Sha512, Sha512_256}
 use Rattle.ring.specs.declared.digest.algorithm.TheConstants.{SHA512_256}
-use Rattle.ring_sums.specs.Entry.{HasPlainForm, HasTaggedForm, IsAskedFor, IsDigestOf, Listed}
-use Rattle.ring_sums.specs.Entry.{ReadsAs, algorithm_of_count, gap_shown, is_marked, is_white}
-use Rattle.ring_sums.specs.Entry.{listed_in, named_by, slash, tag_of, with_digits, with_tag}
-use Rattle.ring_sums.specs.Line.{mark_of, plain_line, tagged_line}
-use Rattle.ring_sums.specs.Names.{escaped, needs_escape}
+use Rattle.ring_sums.specs.Entry.{HasPlainForm, HasTaggedForm, IsAskedFor, IsDigestOf, IsShape, Listed, ReadsAs}
+use Rattle.ring_sums.specs.Entry.{Shape, algorithm_of_count, gap_after, gap_shown, is_marked}
+use Rattle.ring_sums.specs.Entry.{listed_in, named_by, slash, tag_of, tag_of_id}
+use Rattle.ring_sums.specs.Entry.{with_digits, with_tag}
+use Rattle.ring_sums.specs.Line.{mark_of}
+use Rattle.ring_sums.specs.List.{line_of}
+use Rattle.ring_sums.specs.Names.{escaped, escaped_byte, needs_escape}
 use Rattle.ring_sums.specs.declared.entry.Gap.{Gap}
 use Rattle.ring_sums.specs.declared.entry.Gap.TheVariants.{Unknown, One, Two}
+use Rattle.ring_sums.proofs.Escapes.{escaped-cases}
 use Rattle.ring_sums.proofs.Fronts.{White}
 use Rattle.ring_sums.proofs.LineParts.{are_digits, digits-start, length-escaped, listed_with-line}
-use Rattle.ring_sums.proofs.LineParts.{other_byte, start-written}
+use Rattle.ring_sums.proofs.LineParts.{start-written}
 use Rattle.ring_sums.proofs.PlainForm.{plain-first}
 use Rattle.ring_sums.proofs.TaggedForm.{tagged-first}
+
+-- ---- bytes
+
+-- two bytes are not one where a test tells them apart
+other_byte : (p : ℕ → Bool) (byte other : ℕ) → p byte ≡ true → p other ≡ false
+    → eqb byte other ≡ false
+other_byte p byte other is not =
+    ne_eqb byte other (λ e. true≢false (sym is ∙ ap p e ∙ not))
+
+-- no line feed and no carriage return
+abbrev pub is_end : ℕ → Bool
+is_end byte = eqb byte 10 || eqb byte 13
+
+abbrev pub is_clean : List ℕ → Bool
+is_clean bytes = list_all (λ byte. not (is_end byte)) bytes
+
+pub clean-append : (xs ys : List ℕ) → is_clean xs ≡ true → is_clean ys ≡ true
+    → is_clean (xs ++ ys) ≡ true
+clean-append xs ys one two = rw (list_all-append (λ b. not (is_end b)) xs ys, one, two)
+
+clean-digits : (digits : List ℕ) → list_all is_ascii_hexdigit digits ≡ true
+    → is_clean digits ≡ true
+clean-digits [] h = refl
+clean-digits (digit ∷ digits) h =
+    let parts = and_parts (is_ascii_hexdigit digit) (list_all is_ascii_hexdigit digits) h in
+    rw (
+      other_byte is_ascii_hexdigit digit 10 parts.0 refl,
+      other_byte is_ascii_hexdigit digit 13 parts.0 refl,
+    ) (clean-digits digits parts.1)
+
+clean-byte : (byte : ℕ) → is_clean (escaped_byte byte) ≡ true
+clean-byte byte =
+    escaped-cases byte (λ b escape. is_clean escape ≡ true) refl refl refl
+    (λ _ other10 other13. rw (other10, other13))
+
+clean-escaped : (name : List ℕ) → is_clean (escaped name) ≡ true
+clean-escaped [] = refl
+clean-escaped (byte ∷ name) =
+    clean-append (escaped_byte byte) (escaped name) (clean-byte byte) (clean-escaped name)
+
+clean-tag : (id : AlgorithmId) → is_clean (tag_of_id id) ≡ true
+clean-tag Sha1 = refl
+clean-tag Sha256 = refl
+clean-tag Sha384 = refl
+clean-tag Sha512 = refl
+clean-tag Sha512_256 = refl
+
+-- ---- marks
+
+-- a line's mark is one, which ends no line
+is_mark : (is_binary : Option Bool)
+    → ((eqb (mark_of is_binary) 32 || eqb (mark_of is_binary) 42) ≡ true)
+    × (is_end (mark_of is_binary) ≡ false)
+is_mark None = (refl, refl)
+is_mark (Some true) = (refl, refl)
+is_mark (Some false) = (refl, refl)
+
+marked : (is_binary : Option Bool) (name : List ℕ) → 0 < length name
+    → is_marked (mark_of is_binary ∷ name) ≡ true
+unfolding is_marked
+marked is_binary name h =
+    rw (le-leb 2 (length (mark_of is_binary ∷ name)) (omega arith), (is_mark is_binary).0)
+
+-- the name behind a mark, and the gap that it shows
+behind_mark : (gap : Gap) → (gap ≡ One → ⊥) → (is_binary : Option Bool) (name : List ℕ)
+    → 0 < length name → (named_by gap (mark_of is_binary ∷ name) ≡ Some name)
+    × (gap_shown gap (is_marked (mark_of is_binary ∷ name)) ≡ Two)
+unfolding named_by
+behind_mark Unknown free is_binary name h = rw (marked is_binary name h) (refl, refl)
+behind_mark One free is_binary name h = absurd (free refl)
+behind_mark Two free is_binary name h = rw (marked is_binary name h) (refl, refl)
+
+-- ---- lines
 
 count_of : (id : AlgorithmId) → (record { id = id } ≡ SHA512_256 → ⊥)
     → algorithm_of_count (2 * output_len (record { id = id })) ≡ Some (record { id = id })
@@ -38,147 +117,146 @@ count_of Sha384 h = refl
 count_of Sha512 h = refl
 count_of Sha512_256 h = absurd (h refl)
 
--- the mark is one
-is_mark : (is_binary : Option Bool)
-    → (eqb (mark_of is_binary) 32 || eqb (mark_of is_binary) 42) ≡ true
-is_mark None = refl
-is_mark (Some true) = refl
-is_mark (Some false) = refl
+-- a line between its backslash and its line feed
+abbrev pub text_of : (is_tagged : Bool) → (is_binary : Option Bool) → Listed → List ℕ
+text_of is_tagged is_binary listed =
+    if is_tagged
+    then tag_of listed.algorithm
+    ++ 32 ∷ 40 ∷ (escaped listed.name ++ 41 ∷ 32 ∷ 61 ∷ 32 ∷ encode_lower listed.digest)
+    else encode_lower listed.digest ++ 32 ∷ mark_of is_binary ∷ escaped listed.name
 
-marked : (is_binary : Option Bool) (name : List ℕ) → 0 < length name
-    → is_marked (mark_of is_binary ∷ name) ≡ true
-unfolding is_marked
-marked is_binary name h =
-    rw (le-leb 2 (length (mark_of is_binary ∷ name)) (omega arith), is_mark is_binary)
+pub line-text : (is_tagged : Bool) (is_binary : Option Bool) (listed : Listed)
+    → line_of is_tagged is_binary listed
+    ≡ (slash (needs_escape listed.name) ++ text_of is_tagged is_binary listed) ++ 10 ∷ []
+line-text true is_binary listed = simp append_assoc
+line-text false is_binary listed = simp append_assoc
 
--- the name behind a mark
-behind_mark : (gap : Gap) → (gap ≡ One → ⊥) → (is_binary : Option Bool) (name : List ℕ)
-    → 0 < length name → named_by gap (mark_of is_binary ∷ name) ≡ Some name
-unfolding named_by
-behind_mark Unknown free is_binary name h = rw (marked is_binary name h)
-behind_mark One free is_binary name h = absurd (free refl)
-behind_mark Two free is_binary name h = rw (marked is_binary name h)
+-- a digit, or the first byte of a tag
+abbrev pub is_start : ℕ → Bool
+is_start byte = is_ascii_hexdigit byte || eqb byte 83
 
-gap_marked : (gap : Gap) → (gap ≡ One → ⊥) → gap_shown gap true ≡ Two
-gap_marked Unknown free = refl
-gap_marked One free = absurd (free refl)
-gap_marked Two free = refl
+-- what a written text is
+pub record IsText (asked : Option Algorithm) (gap : Gap) (listed : Listed) (after : Gap)
+    (text : List ℕ) : Type 0 where
+  pub shape : Shape
+  pub is : IsShape asked text shape
+  pub lists : listed_in gap (needs_escape listed.name) shape ≡ Some listed
+  pub leaves : gap_after gap shape ≡ after
+  pub starts : (byte : ℕ) → is_start byte ≡ false → eqb (get_or text 0 0) byte ≡ false
+  pub clean : is_clean text ≡ true
 
--- a line behind its backslash
-abbrev pub plain_text : (digest name : List ℕ) → (is_binary : Option Bool) → List ℕ
-plain_text digest name is_binary = encode_lower digest ++ 32 ∷ mark_of is_binary ∷ escaped name
+-- it reads back behind its backslash
+pub text-reads : {asked : Option Algorithm} {gap after : Gap} {listed : Listed} {text : List ℕ}
+    → IsText asked gap listed after text → (line : List ℕ)
+    → line ≡ slash (needs_escape listed.name) ++ text → ReadsAs asked gap line listed after
+text-reads {listed = listed} {text} is line written = record {
+  reading = record { is_escaped = needs_escape listed.name; shape = is.shape };
+  is = record {
+    text = text;
+    start = start-written (needs_escape listed.name) text
+        (rw (is.starts 32 refl, is.starts 9 refl)) (is.starts 92 refl) written;
+    shape = is.is;
+  };
+  lists = is.lists;
+  leaves = is.leaves;
+}
 
-abbrev pub tagged_text : Algorithm → (digest name : List ℕ) → List ℕ
-tagged_text a digest name =
-    tag_of a ++ 32 ∷ 40 ∷ (escaped name ++ 41 ∷ 32 ∷ 61 ∷ 32 ∷ encode_lower digest)
+-- and so does its line, without its line feed
+pub line-reads : {asked : Option Algorithm} {gap after : Gap} (is_tagged : Bool)
+    (is_binary : Option Bool) (listed : Listed)
+    → IsText asked gap listed after (text_of is_tagged is_binary listed) → (line : List ℕ)
+    → line_of is_tagged is_binary listed ≡ line ++ 10 ∷ [] → ReadsAs asked gap line listed after
+line-reads is_tagged is_binary listed is line written =
+    text-reads is line
+    (append_cancel_right _ _ (10 ∷ []) (sym written ∙ line-text is_tagged is_binary listed))
 
-pub whole_plain : (digest name line : List ℕ) (is_binary : Option Bool)
-    → plain_line false (mark_of is_binary) digest name ≡ line ++ 10 ∷ []
-    → line ≡ slash (needs_escape name) ++ plain_text digest name is_binary
-whole_plain digest name line is_binary written =
-    sym (append_cancel_right _ _ (10 ∷ []) written)
-    ∙ append_assoc (slash (needs_escape name)) (encode_lower digest)
-    (32 ∷ mark_of is_binary ∷ escaped name)
+module _ (listed : Listed) (is : IsDigestOf listed.algorithm listed.digest) where
+  abbrev digits : List ℕ
+  digits = encode_lower listed.digest
 
-pub tagged_whole : (a : Algorithm) (digest name : List ℕ)
-    → slash (needs_escape name) ++ tag_of a ++ codes " (" ++ escaped name ++ codes ") = "
-    ++ encode_lower digest ≡ slash (needs_escape name) ++ tagged_text a digest name
-tagged_whole a digest name = simp append_assoc
+  abbrev name : List ℕ
+  name = escaped listed.name
 
-pub whole_tagged : (a : Algorithm) (digest name line : List ℕ)
-    → tagged_line false (tag_of a) digest name ≡ line ++ 10 ∷ []
-    → line ≡ slash (needs_escape name) ++ tagged_text a digest name
-whole_tagged a digest name line written =
-    sym (append_cancel_right _ _ (10 ∷ []) written) ∙ tagged_whole a digest name
+  len : length digits ≡ 2 * output_len listed.algorithm
+  len =
+      let l = length-encode_with lower_digits listed.digest in let n = is.len in omega arith
 
-module _ (a : Algorithm) (digest name : List ℕ) (is : IsDigestOf a digest) where
-  abbrev listed : Listed
-  listed = record { algorithm = a; digest = digest; name = name }
-
-  len : length (encode_lower digest) ≡ 2 * output_len a
-  len = let l = length-encode_with lower_digits digest in let n = is.len in omega arith
+  all_digits : list_all is_ascii_hexdigit digits ≡ true
+  all_digits = are_digits listed.digest is.bytes
 
   -- the algorithm that so many digits show
-  pub shown : (a ≡ SHA512_256 → ⊥)
-      → algorithm_of_count (length (encode_lower digest)) ≡ Some a
-  shown other = rw len (count_of a.id other)
+  pub shown : (listed.algorithm ≡ SHA512_256 → ⊥)
+      → option_or None (algorithm_of_count (length digits)) ≡ Some listed.algorithm
+  shown other = rw len (count_of listed.algorithm.id other)
 
-  module _ (asked : Option Algorithm) (named : 0 < length name) (is_binary : Option Bool)
-      (h : option_or asked (algorithm_of_count (length (encode_lower digest))) ≡ Some a) where
-    pub plain-form : HasPlainForm asked (plain_text digest name is_binary) a
-        (encode_lower digest) (mark_of is_binary ∷ escaped name)
-    plain-form = record {
-      space = 32;
-      algorithm = h;
-      white = refl;
-      count = len;
-      are_digits = are_digits digest is.bytes;
-      whole = refl;
-      more = omega arith;
-    }
-
-    pub reads-plain : (gap : Gap) → (gap ≡ One → ⊥) → (line : List ℕ)
-        → line ≡ slash (needs_escape name) ++ plain_text digest name is_binary
-        → ReadsAs asked gap line listed Two
-    unfolding listed_in
-    reads-plain gap free line written =
-        let text = plain_text digest name is_binary in
-        let digit = plain-first plain-form in
-        let first = get_or text 0 0 in
-        let some = length-escaped name named in
-        record {
-          reading = record {
-            is_escaped = needs_escape name;
-            shape = with_digits a (encode_lower digest) (mark_of is_binary ∷ escaped name);
-          };
-          is = record {
-            text = text;
-            start = start-written (needs_escape name) text
-                (or_from _ _ (other_byte first 32 digit refl) (other_byte first 9 digit refl))
-                (other_byte first 92 digit refl) written;
-            shape = plain-form;
-          };
-          lists = rw (behind_mark gap free is_binary (escaped name) some)
-              (listed_with-line a digest name is);
-          leaves = rw (marked is_binary (escaped name) some) (gap_marked gap free);
-        }
-
-  pub tagged-form : HasTaggedForm (tagged_text a digest name) (tag_of a) (escaped name)
-      (encode_lower digest)
-  tagged-form =
-      let P : ℕ → Type 0 = λ b. eqb b 41 ≡ false in
-      let digits = encode_lower digest in
-      let none : IsWithout 41 digits = IsWithout-hex 41 refl digest is.bytes in
+  pub plain-text : {asked : Option Algorithm}
+      → option_or asked (algorithm_of_count (length digits)) ≡ Some listed.algorithm
+      → 0 < length listed.name → (is_binary : Option Bool) (gap : Gap) → (gap ≡ One → ⊥)
+      → IsText asked gap listed Two (text_of false is_binary listed)
+  unfolding listed_in
+  plain-text {asked} found some is_binary gap free =
+      let a = listed.algorithm in
+      let text = digits ++ 32 ∷ mark_of is_binary ∷ name in
+      let form : HasPlainForm asked text a digits (mark_of is_binary ∷ name) = record {
+        space = 32;
+        algorithm = found;
+        white = refl;
+        count = len;
+        are_digits = all_digits;
+        whole = refl;
+        more = omega arith;
+      } in
+      let mark = behind_mark gap free is_binary name (length-escaped listed.name some) in
       record {
-        opened = 32 ∷ 40 ∷ (escaped name ++ 41 ∷ 32 ∷ 61 ∷ 32 ∷ digits);
-        before = 32 ∷ [];
-        after = 32 ∷ [];
-        begins = refl;
-        opens = inr refl;
-        white_before = All-cons White 32 [] refl (All-nil White);
-        white_after = All-cons White 32 [] refl (All-nil White);
-        last = All-cons P 32 (61 ∷ 32 ∷ digits) refl
-            (All-cons P 61 (32 ∷ digits) refl (All-cons P 32 digits refl none));
-        ends = digits-start digits (are_digits digest is.bytes);
+        shape = with_digits a digits (mark_of is_binary ∷ name);
+        is = form;
+        lists = rw mark.0 (listed_with-line a listed.digest listed.name is);
+        leaves = mark.1;
+        starts = λ byte other. other_byte is_start (get_or text 0 0) byte
+            (rw (plain-first form) refl) other;
+        clean = clean-append digits (32 ∷ mark_of is_binary ∷ name)
+            (clean-digits digits all_digits) (rw (is_mark is_binary).1 (clean-escaped listed.name));
       }
 
-  pub reads-tagged : (asked : Option Algorithm) → IsAskedFor asked a → (gap : Gap) (line : List ℕ)
-      → line ≡ slash (needs_escape name) ++ tagged_text a digest name
-      → ReadsAs asked gap line listed gap
+  pub tagged-text : {asked : Option Algorithm} → IsAskedFor asked listed.algorithm
+      → (is_binary : Option Bool) (gap : Gap)
+      → IsText asked gap listed gap (text_of true is_binary listed)
   unfolding listed_in
-  reads-tagged asked asked_for gap line written =
-      let first = tagged-first a tagged-form in
+  tagged-text asked_for is_binary gap =
+      let a = listed.algorithm in
+      let behind = 41 ∷ 32 ∷ 61 ∷ 32 ∷ digits in
+      let P : ℕ → Type 0 = λ b. eqb b 41 ≡ false in
+      let none : IsWithout 41 digits = IsWithout-hex 41 refl listed.digest is.bytes in
+      let space = All-cons White 32 [] refl (All-nil White) in
+      let form : HasTaggedForm (tag_of a ++ 32 ∷ 40 ∷ (name ++ behind)) (tag_of a) name digits =
       record {
-        reading = record {
-          is_escaped = needs_escape name;
-          shape = with_tag a (escaped name) (encode_lower digest);
+        opened = 32 ∷ 40 ∷ (name ++ behind);
+        inner = name ++ behind;
+        rest = 32 ∷ 61 ∷ 32 ∷ digits;
+        behind = 32 ∷ digits;
+        begins = refl;
+        opens = inr refl;
+        cut = record {
+          whole = refl;
+          last = All-cons P 32 (61 ∷ 32 ∷ digits) refl
+              (All-cons P 61 (32 ∷ digits) refl (All-cons P 32 digits refl none));
         };
-        is = record {
-          text = tagged_text a digest name;
-          start = start-written (needs_escape name) (tagged_text a digest name)
-              (ap is_white first) (ap (λ b. eqb b 92) first) written;
-          shape = (asked_for, tagged-form);
+        equals = record { white = 32 ∷ []; all = space; whole = refl; ends = refl };
+        ends = record {
+          white = 32 ∷ [];
+          all = space;
+          whole = refl;
+          ends = digits-start digits all_digits;
         };
-        lists = listed_with-line a digest name is;
+      } in
+      record {
+        shape = with_tag a name digits;
+        is = (asked_for, form);
+        lists = listed_with-line a listed.digest listed.name is;
         leaves = refl;
+        starts = λ byte other. rw (tagged-first a form)
+            (other_byte is_start 83 byte refl other);
+        clean = clean-append (tag_of a) (32 ∷ 40 ∷ (name ++ behind)) (clean-tag a.id)
+            (clean-append name behind (clean-escaped listed.name)
+            (clean-digits digits all_digits));
       }

@@ -1,19 +1,13 @@
 -- SPDX-License-Identifier: ISC
 -- Outcomes that are found before it is their turn to be given.
-use Rattle.std.specs.Prelude.{◌≡◌, ◌≢◌, ℕ, ◌+◌, ◌<◌, Bool, IfSome, IsNone, IsSomeAnd, List, []}
-use Rattle.std.specs.Prelude.{◌∷◌, Option, None, Some, get_or, length, ⊤}
+use Rattle.std.specs.Prelude.{◌≡◌, ◌≢◌, ℕ, ◌+◌, ◌<◌, Bool, IsNone, IsSomeAnd, List, [], ◌∷◌}
+use Rattle.std.specs.Prelude.{MatchOption, Option, None, Some, get_or, length, ⊤}
 use Rattle.std.specs.declared.io.Error.{Error}
 use Rattle.ring.specs.declared.digest.algorithm.Algorithm.{Algorithm}
 use Rattle.ring_sums.specs.Outcome.{IsOutcome}
 use Rattle.ring_sums.specs.declared.lane.Lane.{Lane}
 use Rattle.ring_sums.specs.declared.outcome.Outcome.{Outcome}
 use Rattle.ring_sums.specs.declared.outcome.Outcome.TheVariants.{Sum, TooLong, Failed}
-
--- the outcomes that are found of the readers from `place` on are theirs
-pub record AreFound {R : Type 0} (remaining : R → Option (List ℕ)) (fails_with : R → Error → Bool)
-    (a : Algorithm) (readers : List R) (place : ℕ) (found : List (Option Outcome)) : Type 0 where
-  pub each : (k : ℕ) (r : R) (o : Option Outcome) → k < length found
-      → IfSome (get_or found k o) (IsOutcome remaining fails_with a (get_or readers (place + k) r))
 
 -- one of the lanes reads the reader at `place`
 pub record HasLane {R : Type 0} (place : ℕ) (lanes : List (Lane R)) : Type 0 where
@@ -22,10 +16,12 @@ pub record HasLane {R : Type 0} (place : ℕ) (lanes : List (Lane R)) : Type 0 w
   pub at : (l : Lane R) → (get_or lanes lane l).place ≡ place
 
 -- of the readers from `place` on, each whose outcome is not found is read in a lane
-pub record ArePending {R : Type 0} (place : ℕ) (found : List (Option Outcome))
+pub record AreFound {R : Type 0} (remaining : R → Option (List ℕ)) (fails_with : R → Error → Bool)
+    (a : Algorithm) (readers : List R) (place : ℕ) (found : List (Option Outcome))
     (lanes : List (Lane R)) : Type 0 where
-  pub each : (k : ℕ) (o : Option Outcome) → k < length found → IsNone (get_or found k o)
-      → HasLane (place + k) lanes
+  pub each : (k : ℕ) (r : R) (o : Option Outcome) → k < length found
+      → MatchOption (get_or found k o) (HasLane (place + k) lanes)
+      (IsOutcome remaining fails_with a (get_or readers (place + k) r))
 
 -- the outcome of the reader at `place` is among those of the readers from `given` on, if it is one
 -- of theirs

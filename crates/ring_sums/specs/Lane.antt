@@ -1,7 +1,7 @@
 -- SPDX-License-Identifier: ISC
 -- Readers in lanes.
-use Rattle.std.specs.Prelude.{◌≡◌, ℕ, ◌<◌, Bool, List, ◌++◌, IfSome, IsNone, IsTrue, Option, drop}
-use Rattle.std.specs.Prelude.{get_or, length, take}
+use Rattle.std.specs.Prelude.{◌≡◌, ℕ, Bool, List, [], ◌++◌, IfSome, IsFalse, IsNone, IsTrue, None}
+use Rattle.std.specs.Prelude.{Option, drop, take}
 use Rattle.std.specs.Io.KnownBytes.{Consumes, IsAtEnd}
 use Rattle.std.specs.declared.io.Error.{Error}
 use Rattle.ring.specs.Prelude.{StandsFor, context_algorithm}
@@ -21,24 +21,31 @@ front_of n lane = take n (left_of lane)
 abbrev pub behind_of : {R : Type 0} → ℕ → Lane R → List ℕ
 behind_of n lane = drop n (left_of lane)
 
--- the context stands for what its reader has given, but for the bytes `rest` that came last
-pub record HasTaken {R : Type 0} (remaining : R → Option (List ℕ)) (readers : List R)
-    (rest : List ℕ) (lane : Lane R) (context : Context) : Type 0 where
+-- the context stands for what a reader has given since it was `first`, but for the bytes `rest` that
+-- came last
+pub record HasTaken {R : Type 0} (remaining : R → Option (List ℕ)) (first now : R)
+    (rest : List ℕ) (context : Context) : Type 0 where
   pub bytes : List ℕ
   pub stands : StandsFor context bytes
-  pub read : (r : R) → Consumes (remaining (get_or readers lane.place r)) (remaining lane.reader)
-      (bytes ++ rest)
+  pub read : Consumes (remaining first) (remaining now) (bytes ++ rest)
 
--- a lane and its context, of one of the readers
+-- a lane and its context, of a reader that was `first`
 pub record IsIn {R : Type 0} (remaining : R → Option (List ℕ)) (fails_with : R → Error → Bool)
-    (a : Algorithm) (readers : List R) (rest : List ℕ) (lane : Lane R) (context : Context)
+    (a : Algorithm) (first : R) (rest : List ℕ) (lane : Lane R) (context : Context)
     : Type 0 where
-  pub place : lane.place < length readers
   pub algorithm : context_algorithm context ≡ a
-  pub same : (r : R) → fails_with lane.reader ≡ fails_with (get_or readers lane.place r)
+  pub same : fails_with lane.reader ≡ fails_with first
   pub failed : IfSome lane.failure (IsFailure fails_with lane.reader)
-  pub taken : IsNone lane.failure → HasTaken remaining readers rest lane context
+  pub taken : IsNone lane.failure → HasTaken remaining first lane.reader rest context
   pub end : IsNone lane.failure → IsTrue lane.has_ended → IsAtEnd (remaining lane.reader)
+
+-- a lane that has read nothing
+pub record IsFresh {R : Type 0} (place : ℕ) (reader : R) (lane : Lane R) : Type 0 where
+  pub placed : lane.place ≡ place
+  pub reads : lane.reader ≡ reader
+  pub failure : lane.failure ≡ None
+  pub goes_on : IsFalse lane.has_ended
+  pub left : left_of lane ≡ []
 
 -- a lane has read, if nothing was left
 pub record IsRead {R : Type 0} (remaining : R → Option (List ℕ)) (fails_with : R → Error → Bool)

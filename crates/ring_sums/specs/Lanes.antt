@@ -6,15 +6,24 @@ use Rattle.ring.specs.declared.digest.algorithm.Algorithm.{Algorithm}
 use Rattle.ring.specs.declared.digest.context.Context.{Context}
 use Rattle.ring_sums.specs.Lane.{IsIn}
 use Rattle.ring_sums.specs.declared.lane.Lane.{Lane}
+use Rattle.ring_sums.specs.declared.lanes.Lanes.{Lanes}
 
 -- each lane and its context, where `rest` is what the context has not taken in
 pub record AreIn {R : Type 0} (remaining : R → Option (List ℕ)) (fails_with : R → Error → Bool)
     (a : Algorithm) (readers : List R) (rest : Lane R → List ℕ) (lanes : List (Lane R))
     (contexts : List Context) : Type 0 where
   pub count : length contexts ≡ length lanes
-  pub each : (i : ℕ) (l : Lane R) (c : Context) → i < length lanes
-      → IsIn remaining fails_with a readers (rest (get_or lanes i l)) (get_or lanes i l)
-      (get_or contexts i c)
+  pub each : (i : ℕ) (l : Lane R) (c : Context) → i < length lanes → (r : R)
+      → IsIn remaining fails_with a (get_or readers (get_or lanes i l).place r)
+      (rest (get_or lanes i l)) (get_or lanes i l) (get_or contexts i c)
+
+-- whatever readers the lanes were of, they are still, with another rest
+abbrev pub GoOn : {R : Type 0} → (R → Option (List ℕ)) → (R → Error → Bool)
+    → (before after : Lane R → List ℕ) → (old new : Lanes R) → Type 0
+GoOn {R} remaining fails_with before after old new =
+    (a : Algorithm) (readers : List R)
+    → AreIn remaining fails_with a readers before old.lanes.items old.contexts.items
+    → AreIn remaining fails_with a readers after new.lanes.items new.contexts.items
 
 -- a lane more, of the reader at `place`
 pub record IsBegun {R : Type 0} (place : ℕ) (old new : List (Lane R)) : Type 0 where

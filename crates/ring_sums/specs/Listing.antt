@@ -1,9 +1,8 @@
 -- SPDX-License-Identifier: ISC
 -- The lines of files, as a run without `--check` writes them.
-use Rattle.std.specs.Prelude.{◌≡◌, ℕ, Bool, true, false, ◌<◌, List, [], ◌∷◌, ◌++◌, Option, get_or}
-use Rattle.std.specs.Prelude.{length}
+use Rattle.std.specs.Prelude.{◌≡◌, ℕ, Bool, true, false, List, [], Option, flat_map, zip}
 use Rattle.std.specs.Borrow.{Bor}
-use Rattle.std.specs.List.{list_all}
+use Rattle.std.specs.List.{AllZip, list_all}
 use Rattle.std.specs.declared.io.Error.{Error}
 use Rattle.ring_sums.specs.Console.{HasWritten}
 use Rattle.ring_sums.specs.Line.{file_line}
@@ -27,11 +26,9 @@ line_of options name TooLong = []
 line_of options name (Failed error) = []
 
 -- the lines of files, one after another
-unfoldable pub lines_of : Options → (names : List (Bor (List ℕ))) → List Outcome → List ℕ
-lines_of options [] outcomes = []
-lines_of options (name ∷ names) [] = []
-lines_of options (name ∷ names) (outcome ∷ outcomes) =
-    line_of options name.now outcome ++ lines_of options names outcomes
+abbrev pub lines_of : Options → (names : List (Bor (List ℕ))) → List Outcome → List ℕ
+lines_of options names outcomes =
+    flat_map (λ file. line_of options file.0.now file.1) (zip names outcomes)
 
 -- each file has its outcome, their lines are written, and `is_fine` is whether all have one
 pub record IsListed {S R W : Type 0} (remaining : S → Option (List ℕ))
@@ -39,8 +36,6 @@ pub record IsListed {S R W : Type 0} (remaining : S → Option (List ℕ))
     (names : List (Bor (List ℕ))) (wanted : List (Wanted S)) (is_fine : Bool)
     (old new : Console R W) : Type 0 where
   pub outcomes : List Outcome
-  pub count : length outcomes ≡ length wanted
-  pub each : (k : ℕ) (w : Wanted S) (o : Outcome) → k < length wanted
-      → IsOutcomeOf remaining fails_with (get_or wanted k w) (get_or outcomes k o)
+  pub read : AllZip (IsOutcomeOf remaining fails_with) wanted outcomes
   pub written : HasWritten contents (lines_of options names outcomes) old new
   pub fine : is_fine ≡ list_all is_sum outcomes

@@ -2,13 +2,11 @@
 //! The check of a list.
 
 ghost use Rattle.std.specs.Prelude.{◌≡◌, ◌↔◌, ◌<◌, ◌-◌, ◌^◌, ◌∷◌, ◌++◌, [], IfOk, IsTrue, List};
-ghost use Rattle.std.specs.Prelude.{IsNone, OnOk};
-ghost use Rattle.std.specs.Prelude.{Option, Some, length, map, option_map};
+ghost use Rattle.std.specs.Prelude.{IsNone, OnOk, Option, Some, cond, length, map, option_map};
 ghost use Rattle.std.specs.IoError.{error_kind};
 ghost use Rattle.ring_sums.specs.declared.entry.Verdict.{Verdict};
-ghost use Rattle.ring_sums.specs.Check.{IsFound, IsLeftOut, is_other, is_same, is_unread};
-ghost use Rattle.ring_sums.specs.Check.{AreFilesOf, IsChecked, entries_of, one_if, said_of};
-ghost use Rattle.ring_sums.specs.Check.{Passes, known_after, text_of};
+ghost use Rattle.ring_sums.specs.Check.{AreFilesOf, IsChecked, IsFound, IsLeftOut, Passes};
+ghost use Rattle.ring_sums.specs.Check.{entries_of, is_found, known_after, said_of, text_of};
 ghost use Rattle.ring_sums.specs.Console.{HasWritten, IsKept};
 ghost use Rattle.ring_sums.specs.Files.{name_of};
 
@@ -50,33 +48,11 @@ fn text_of(amount: Amount, verdict: Verdict) -> Option<&'static [u8]>
     }
 }
 
-/// Whether it is found of a file that it has the listed digest.
-fn is_same(found: Option<Verdict>) -> bool
-    ensures { result ≡ is_same found }
+/// 1 where this is found of a file, else 0.
+fn one_if(found: Option<Verdict>, verdict: Verdict) -> u64
+    ensures { result ≡ cond (is_found verdict found) 1 0 }
 {
-    found == Some(Verdict::Same)
-}
-
-/// Whether it is found of a file that it has another.
-fn is_other(found: Option<Verdict>) -> bool
-    ensures { result ≡ is_other found }
-{
-    found == Some(Verdict::Other)
-}
-
-/// Whether it is found of a file that it could not be read.
-fn is_unread(found: Option<Verdict>) -> bool
-    ensures { result ≡ is_unread found }
-{
-    found == Some(Verdict::Unread)
-}
-
-/// 1 where the condition holds, else 0.
-#[tactic(auto, unfolding(crate::specs::Check::one_if))]
-fn one_if(condition: bool) -> u64
-    ensures { result ≡ one_if condition }
-{
-    if condition { 1 } else { 0 }
+    if found == Some(verdict) { 1 } else { 0 }
 }
 
 impl Counts {
@@ -89,9 +65,9 @@ impl Counts {
         ensures bad { self.new.bad_lines ≡ self.old.bad_lines }
     {
         self.entries = self.entries.saturating_add(1);
-        self.same = self.same.saturating_add(one_if(is_same(found)));
-        self.others = self.others.saturating_add(one_if(is_other(found)));
-        self.unread = self.unread.saturating_add(one_if(is_unread(found)));
+        self.same = self.same.saturating_add(one_if(found, Verdict::Same));
+        self.others = self.others.saturating_add(one_if(found, Verdict::Other));
+        self.unread = self.unread.saturating_add(one_if(found, Verdict::Unread));
     }
 }
 
@@ -297,27 +273,25 @@ fn warn_of<R: Eprint, W: Write>(
     if options.amount == Amount::Status {
         return Ok(());
     }
-    warn(
-        alloc,
-        counts.bad_lines,
-        "line is improperly formatted",
-        "lines are improperly formatted",
-        console,
-    )?;
-    warn(
-        alloc,
-        counts.unread,
-        "listed file could not be read",
-        "listed files could not be read",
-        console,
-    )?;
-    warn(
-        alloc,
-        counts.others,
-        "computed checksum did NOT match",
-        "computed checksums did NOT match",
-        console,
-    )?;
+    for (count, one, several) in [
+        (
+            counts.bad_lines,
+            "line is improperly formatted",
+            "lines are improperly formatted",
+        ),
+        (
+            counts.unread,
+            "listed file could not be read",
+            "listed files could not be read",
+        ),
+        (
+            counts.others,
+            "computed checksum did NOT match",
+            "computed checksums did NOT match",
+        ),
+    ] {
+        warn(alloc, count, one, several, console)?;
+    }
     if options.ignores_missing && counts.same == 0 {
         console.tell_of(list, b"no file was verified")?;
     }

@@ -1,14 +1,13 @@
 // SPDX-License-Identifier: ISC
 //! What a line of a list says.
 
-ghost use Rattle.std.specs.Prelude.{◌≡◌, ◌≢◌, ◌↔◌, ◌∷◌, ◌++◌, ℕ, List, IfOk, false, not};
-ghost use Rattle.std.specs.Prelude.{option_and_then, option_copied, option_map, position};
+ghost use Rattle.std.specs.Prelude.{◌≡◌, ◌≢◌, ◌∷◌, ◌++◌, ℕ, List, IfOk, false, not};
+ghost use Rattle.std.specs.Prelude.{Contains, option_copied, option_map, position};
 ghost use Rattle.std.specs.Char.{is_ascii_hexdigit};
-ghost use Rattle.std.specs.List.{list_all};
 ghost use Rattle.ring.specs.declared.digest.algorithm.Algorithm.{Algorithm};
 ghost use Rattle.ring_sums.specs.Entry.{Finds, HasPlainForm, HasTaggedForm, IsAskedFor};
-ghost use Rattle.ring_sums.specs.Entry.{IsBehindWhite, IsLastCut, IsOpened, IsOther, IsReading};
-ghost use Rattle.ring_sums.specs.Entry.{IsShape, IsUnread, IsVerified, Reading, Shape};
+ghost use Rattle.ring_sums.specs.Entry.{IsBehindWhite, IsLastCut, IsOpened, IsReading};
+ghost use Rattle.ring_sums.specs.Entry.{IsShape, IsVerdict, Reading, Shape};
 ghost use Rattle.ring_sums.specs.Entry.{algorithm_of_count, digest_in, gap_after, gap_shown};
 ghost use Rattle.ring_sums.specs.Entry.{is_marked, is_white, listed_by, listed_in, listed_with};
 ghost use Rattle.ring_sums.specs.Entry.{name_in, named_by, slash, tag_of, with_digits};
@@ -41,9 +40,7 @@ pub enum Verdict {
 
 /// The verdict on a listed digest.
 pub fn verdict_of(outcome: &Outcome, listed: &[u8]) -> Verdict
-    ensures same { (result ≡ Verdict.Same) ↔ IsVerified outcome.now listed.now }
-    ensures other { (result ≡ Verdict.Other) ↔ IsOther outcome.now listed.now }
-    ensures unread { (result ≡ Verdict.Unread) ↔ IsUnread outcome.now }
+    ensures { IsVerdict outcome.now listed.now result }
 {
     match outcome {
         Outcome::Sum(digest) => {
@@ -169,6 +166,7 @@ fn digit_count(line: &[u8]) -> Option<usize>
     line.iter().position(|byte| !byte.is_ascii_hexdigit())
 }
 
+/// The algorithm of so many digits.
 fn algorithm_of_count(count: usize) -> Option<Algorithm>
     ensures { result ≡ algorithm_of_count count }
 {
@@ -179,14 +177,6 @@ fn algorithm_of_count(count: usize) -> Option<Algorithm>
         128 => Some(SHA512),
         _ => None,
     }
-}
-
-/// The algorithm of so many digits.
-fn algorithm_of_digits(line: &[u8]) -> Option<Algorithm>
-    ensures { result ≡ option_and_then algorithm_of_count
-        (position (λ byte. not (is_ascii_hexdigit byte)) line.now) }
-{
-    algorithm_of_count(digit_count(line)?)
 }
 
 /// How many characters stand between digits and names. The first line with digits in front shows
@@ -233,12 +223,6 @@ fn name_behind<'a>(rest: &'a [u8], gap: &mut Gap) -> Option<&'a [u8]>
     }
 }
 
-fn are_digits(digits: &[u8]) -> bool
-    ensures { result ≡ list_all is_ascii_hexdigit digits.now }
-{
-    digits.iter().all(|byte| byte.is_ascii_hexdigit())
-}
-
 /// The algorithm of a line that begins with the digest, the digits, and what is behind the space
 /// after them.
 fn plain_parts(asked: Option<Algorithm>, line: &[u8]) -> Option<(Algorithm, &[u8], &[u8])>
@@ -246,15 +230,15 @@ fn plain_parts(asked: Option<Algorithm>, line: &[u8]) -> Option<(Algorithm, &[u8
         (option_map (λ parts. (parts.0, parts.1.now, parts.2.now)) result)
         (λ parts. HasPlainForm asked line.now parts.0 parts.1 parts.2) }
 {
-    let algorithm = asked.or(algorithm_of_digits(line))?;
-    let len = 2 * algorithm.output_len();
+    let len = digit_count(line)?;
+    let algorithm = asked.or(algorithm_of_count(len))?;
+    if len != 2 * algorithm.output_len() {
+        return None;
+    }
     if line.len() < len + 2 {
         return None;
     }
     if !is_white(line[len]) {
-        return None;
-    }
-    if !are_digits(&line[..len]) {
         return None;
     }
     Some((algorithm, &line[..len], &line[len + 1..]))
@@ -301,15 +285,22 @@ fn tagged_parts<'a>(line: &'a [u8], tag: &[u8]) -> Option<(&'a [u8], &'a [u8])>
     Some((name, without_white(digits)))
 }
 
-/// An algorithm, and the name and the digits of a line with its tag.
-fn tagged_as(algorithm: Algorithm, line: &[u8]) -> Option<(Algorithm, &[u8], &[u8])>
+/// The first of the algorithms whose tag a line begins with, the name and the digits.
+fn tagged_among<'a>(
+    algorithms: &[Algorithm],
+    line: &'a [u8],
+) -> Option<(Algorithm, &'a [u8], &'a [u8])>
     ensures { Finds {X = Algorithm × List ℕ × List ℕ}
         (option_map (λ parts. (parts.0, parts.1.now, parts.2.now)) result)
-        (λ parts. (parts.0 ≡ algorithm)
+        (λ parts. Contains algorithms.now parts.0
         × HasTaggedForm line.now (tag_of parts.0) parts.1 parts.2) }
 {
-    let (name, digits) = tagged_parts(line, tag_of(&algorithm).as_bytes())?;
-    Some((algorithm, name, digits))
+    for algorithm in algorithms {
+        if let Some((name, digits)) = tagged_parts(line, tag_of(algorithm).as_bytes()) {
+            return Some((*algorithm, name, digits));
+        }
+    }
+    None
 }
 
 /// The algorithm whose tag a line begins with, the name and the digits.
@@ -320,12 +311,11 @@ fn tagged(asked: Option<Algorithm>, line: &[u8]) -> Option<(Algorithm, &[u8], &[
         × HasTaggedForm line.now (tag_of parts.0) parts.1 parts.2) }
 {
     match asked {
-        Some(algorithm) => tagged_as(algorithm, line),
-        None => tagged_as(SHA1_FOR_LEGACY_USE_ONLY, line)
-            .or(tagged_as(SHA256, line))
-            .or(tagged_as(SHA384, line))
-            .or(tagged_as(SHA512, line))
-            .or(tagged_as(SHA512_256, line)),
+        Some(algorithm) => tagged_among(&[algorithm], line),
+        None => tagged_among(
+            &[SHA1_FOR_LEGACY_USE_ONLY, SHA256, SHA384, SHA512, SHA512_256],
+            line,
+        ),
     }
 }
 

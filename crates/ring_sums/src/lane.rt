@@ -1,7 +1,7 @@
 // SPDX-License-Identifier: ISC
 //! A reader in a lane.
 
-ghost use Rattle.std.specs.Prelude.{◌≡◌, ◌≤◌, List, [], IsFalse, IsNone, IsTrue, None, get_or};
+ghost use Rattle.std.specs.Prelude.{◌≡◌, ◌≤◌, IsNone, IsTrue};
 ghost use Rattle.ring.specs.declared.digest.algorithm.Algorithm.{Algorithm};
 
 use crate::outcome::Outcome;
@@ -32,15 +32,12 @@ pub(crate) struct Lane<R> {
 }
 
 impl<R: Source> Lane<R> {
-    ghost use Rattle.ring_sums.specs.Lane.{IsIn, IsRead, IsSkipped, front_of, left_of};
+    ghost use Rattle.ring_sums.specs.Lane.{IsFresh, IsIn, IsRead, IsSkipped, front_of};
+    ghost use Rattle.ring_sums.specs.Lane.{left_of};
     ghost use Rattle.ring_sums.specs.Outcome.{IsOutcome};
 
     pub(crate) fn new(place: usize, reader: R, room: Vec<u8>) -> Lane<R>
-        ensures place { result.place ≡ place }
-        ensures reader { result.reader ≡ reader }
-        ensures failure { result.failure ≡ None }
-        ensures open { IsFalse result.has_ended }
-        ensures left { left_of result ≡ [] }
+        ensures { IsFresh place reader result }
     {
         Lane {
             place,
@@ -138,10 +135,10 @@ impl<R: Source> Lane<R> {
     pub(crate) fn outcome(self, context: Context) -> (Outcome, Vec<u8>)
     where
         R: Drop,
-        ensures { (a : Algorithm) (readers : List R) (r : R)
-            → IsIn R.remaining R.fails_with a readers (left_of self) self context
+        ensures { (a : Algorithm) (first : R)
+            → IsIn R.remaining R.fails_with a first (left_of self) self context
             → (IsNone self.failure → IsTrue self.has_ended)
-            → IsOutcome R.remaining R.fails_with a (get_or readers self.place r) result.0 }
+            → IsOutcome R.remaining R.fails_with a first result.0 }
     {
         let mut context = context;
         context.update(self.left());

@@ -1,12 +1,11 @@
 // SPDX-License-Identifier: ISC
 //! Readers that are read side by side, each in a lane.
 
-ghost use Rattle.std.specs.Prelude.{◌≡◌, ◌<◌, List, [], IfOk, IsTrue, OnOk, get_or, length, map};
+ghost use Rattle.std.specs.Prelude.{◌≡◌, List, [], IfOk, IsTrue, OnOk, get_or, length, map};
 ghost use Rattle.std.specs.Prelude.{vec_len};
 ghost use Rattle.ring.specs.declared.digest.algorithm.Algorithm.{Algorithm};
 ghost use Rattle.ring_sums.specs.Lane.{behind_of, front_of, left_of};
-ghost use Rattle.ring_sums.specs.Lanes.{AreIn, IsBegun, KeepPlaces};
-ghost use Rattle.ring_sums.specs.Found.{AreFound, ArePending};
+ghost use Rattle.ring_sums.specs.Found.{AreFound};
 
 use crate::found::put;
 use crate::lane::{Lane, new_room};
@@ -32,6 +31,8 @@ pub(crate) struct Lanes<R> {
 }
 
 impl<R: Source + Drop> Lanes<R> {
+    ghost use Rattle.ring_sums.specs.Lanes.{AreIn, GoOn, IsBegun, KeepPlaces};
+
     pub(crate) fn new(alloc: Global) -> Lanes<R>
         ensures lanes { result.lanes.items ≡ [] }
         ensures contexts { result.contexts.items ≡ [] }
@@ -63,7 +64,7 @@ impl<R: Source + Drop> Lanes<R> {
         reader: R,
     ) -> Result<(), AllocError>
         ensures begun { OnOk result (IsBegun place self.old.lanes.items self.new.lanes.items) }
-        ensures going { OnOk result ((readers : List R) → place < length readers
+        ensures going { OnOk result ((readers : List R)
             → ((r : R) → get_or readers place r ≡ reader)
             → AreIn R.remaining R.fails_with algorithm.now readers left_of self.old.lanes.items
             self.old.contexts.items
@@ -85,11 +86,7 @@ impl<R: Source + Drop> Lanes<R> {
     /// Reads a piece in each lane whose last one is taken in.
     pub(crate) fn read(&mut self)
         ensures places { KeepPlaces self.old.lanes.items self.new.lanes.items }
-        ensures going { (a : Algorithm) (readers : List R)
-            → AreIn R.remaining R.fails_with a readers left_of self.old.lanes.items
-            self.old.contexts.items
-            → AreIn R.remaining R.fails_with a readers left_of self.new.lanes.items
-            self.new.contexts.items }
+        ensures going { GoOn R.remaining R.fails_with left_of left_of self.old self.new }
     {
         'lanes: for i in 0..self.lanes.len() {
             self.lanes[i].read();
@@ -99,11 +96,8 @@ impl<R: Source + Drop> Lanes<R> {
     /// Updates the contexts with the whole blocks that all lanes have left.
     pub(crate) fn update<const BITS: usize>(&mut self, alloc: Global) -> Result<(), AllocError>
         ensures places { OnOk result (KeepPlaces self.old.lanes.items self.new.lanes.items) }
-        ensures going { OnOk result ((a : Algorithm) (readers : List R)
-            → AreIn R.remaining R.fails_with a readers left_of self.old.lanes.items
-            self.old.contexts.items
-            → AreIn R.remaining R.fails_with a readers left_of self.new.lanes.items
-            self.new.contexts.items) }
+        ensures going { OnOk result
+            (GoOn R.remaining R.fails_with left_of left_of self.old self.new) }
     {
         let count = common_len(&self.lanes);
         self.take_in::<BITS>(alloc, count)?;
@@ -114,11 +108,8 @@ impl<R: Source + Drop> Lanes<R> {
     /// Updates each context with the first `count` bytes that its lane has left.
     fn take_in<const BITS: usize>(&mut self, alloc: Global, count: usize) -> Result<(), AllocError>
         ensures lanes { self.new.lanes ≡ self.old.lanes }
-        ensures taken { OnOk result ((a : Algorithm) (readers : List R)
-            → AreIn R.remaining R.fails_with a readers left_of self.old.lanes.items
-            self.old.contexts.items
-            → AreIn R.remaining R.fails_with a readers (behind_of count) self.new.lanes.items
-            self.new.contexts.items) }
+        ensures taken { OnOk result
+            (GoOn R.remaining R.fails_with left_of (behind_of count) self.old self.new) }
     {
         let pieces = fronts_of(alloc, &self.lanes, count)?;
         match update_each_in::<BITS>(&mut self.contexts, &pieces, &mut Meter::new()) {
@@ -131,11 +122,7 @@ impl<R: Source + Drop> Lanes<R> {
     /// Takes `count` bytes of each lane for taken in.
     fn skip(&mut self, count: usize)
         ensures places { KeepPlaces self.old.lanes.items self.new.lanes.items }
-        ensures going { (a : Algorithm) (readers : List R)
-            → AreIn R.remaining R.fails_with a readers (behind_of count) self.old.lanes.items
-            self.old.contexts.items
-            → AreIn R.remaining R.fails_with a readers left_of self.new.lanes.items
-            self.new.contexts.items }
+        ensures going { GoOn R.remaining R.fails_with (behind_of count) left_of self.old self.new }
     {
         'lanes: for i in 0..self.lanes.len() {
             self.lanes[i].skip(count);
@@ -150,15 +137,15 @@ impl<R: Source + Drop> Lanes<R> {
         found: &mut VecDeque<Option<Outcome>>,
     ) -> Result<(), AllocError>
         ensures count { length found.new.items ≡ length found.old.items }
-        ensures pending { OnOk result (ArePending given found.old.items self.old.lanes.items
-            → ArePending given found.new.items self.new.lanes.items) }
         ensures going { OnOk result ((a : Algorithm) (readers : List R)
             → AreIn R.remaining R.fails_with a readers left_of self.old.lanes.items
             self.old.contexts.items
             → AreFound R.remaining R.fails_with a readers given found.old.items
+            self.old.lanes.items
             → AreIn R.remaining R.fails_with a readers left_of self.new.lanes.items
             self.new.contexts.items
-            × AreFound R.remaining R.fails_with a readers given found.new.items) }
+            × AreFound R.remaining R.fails_with a readers given found.new.items
+            self.new.lanes.items) }
     {
         let mut i = 0;
         'lanes: while i < self.lanes.len() {

@@ -1,7 +1,7 @@
 // SPDX-License-Identifier: ISC
 //! A list, line by line.
 
-ghost use Rattle.std.specs.Prelude.{◌≡◌, IfOk, OnOk, codes, map};
+ghost use Rattle.std.specs.Prelude.{◌≡◌, ◌&&◌, IfOk, OnOk, codes, map};
 ghost use Rattle.std.specs.Str.{bytes_eq};
 ghost use Rattle.ring_sums.specs.List.{IsAppended, LinesSay, TextSays, is_passed_over, lines_in};
 ghost use Rattle.ring_sums.specs.List.{said_by, without_return};
@@ -36,11 +36,11 @@ fn is_passed_over(line: &[u8]) -> bool
     line.is_empty() || line[0] == b'#'
 }
 
-/// Whether a name stands for standard input.
-fn is_dash(name: &[u8]) -> bool
-    ensures { result ≡ bytes_eq name.now (codes "-") }
+/// Whether a list lists itself: it is on standard input, for which the name stands.
+fn lists_itself(is_standard_input: bool, name: &[u8]) -> bool
+    ensures { result ≡ (is_standard_input && bytes_eq name.now (codes "-")) }
 {
-    *name == *b"-".as_slice()
+    is_standard_input && *name == *b"-".as_slice()
 }
 
 /// What a line says that is neither empty nor a comment.
@@ -58,7 +58,7 @@ fn line_said(
     let Some(entry) = entry_of_line(alloc, asked, line, gap)? else {
         return Ok(Line::Bad(number));
     };
-    if is_standard_input && is_dash(&entry.name) {
+    if lists_itself(is_standard_input, &entry.name) {
         return Ok(Line::Bad(number));
     }
     Ok(Line::Entry(entry))

@@ -1,11 +1,10 @@
 // SPDX-License-Identifier: ISC
 //! The outcomes of several files, in their order: those of one algorithm are read side by side.
 
-ghost use Rattle.std.specs.Prelude.{◌≡◌, ◌≤◌, ◌∷◌, ℕ, List, IfOk, IsTrue, MatchOption, OnOk, drop};
-ghost use Rattle.std.specs.Prelude.{length};
+ghost use Rattle.std.specs.Prelude.{◌≡◌, ◌≤◌, ◌∷◌, List, IfOk, IsTrue, MatchOption, OnOk, length};
 ghost use Rattle.ring_sums.specs.declared.outcomes.Wanted.{Wanted};
-ghost use Rattle.ring_sums.specs.Outcomes.{AreOf, AreToCome, HasBegun, IsAnswered};
-ghost use Rattle.ring_sums.specs.Outcomes.{IsNextOf, IsTaken};
+ghost use Rattle.ring_sums.specs.Outcomes.{AreGathered, FileIsGiven, FilesToCome, IsNextOf};
+ghost use Rattle.ring_sums.specs.Outcomes.{IsTaken};
 
 use crate::outcome::Outcome;
 use crate::source::Source;
@@ -39,7 +38,7 @@ pub struct Outcomes<R> {
 impl<R: Source + Drop> Outcomes<R> {
     /// The outcomes of the files `wanted`, with memory of `alloc`. Nothing is read yet.
     pub fn new(alloc: Global, wanted: Vec<Wanted<R>>) -> Outcomes<R>
-        ensures { AreToCome R.remaining R.fails_with wanted.items 0 result }
+        ensures { FilesToCome R.remaining R.fails_with wanted.items result }
     {
         Outcomes {
             alloc,
@@ -71,10 +70,8 @@ impl<R: Source + Drop> Outcomes<R> {
 
     /// Takes the readers of the next files that are read beside others of this algorithm.
     fn gather(&mut self, algorithm: &Algorithm, readers: &mut Vec<R>) -> Result<(), AllocError>
-        ensures some { length readers.old.items ≤ length readers.new.items }
-        ensures of { OnOk result ((wanted : List (Wanted R)) (start : ℕ)
-            → AreOf algorithm.now readers.old.items start wanted self.old.waiting.items
-            → AreOf algorithm.now readers.new.items start wanted self.new.waiting.items) }
+        ensures { OnOk result (AreGathered algorithm.now readers.old.items readers.new.items
+            self.old.waiting.items self.new.waiting.items) }
     {
         while let Some(reader) = self.take_next_of(algorithm) {
             readers.push(reader)?;
@@ -84,9 +81,10 @@ impl<R: Source + Drop> Outcomes<R> {
 
     /// Begins a run: that of the file `first`, and of those behind it that are read beside it.
     fn begin(&mut self, first: Wanted<R>) -> Result<(), AllocError>
-        ensures { OnOk result ((wanted : List (Wanted R)) (start : ℕ)
-            → drop start wanted ≡ first ∷ self.old.waiting.items
-            → HasBegun R.remaining R.fails_with wanted start self.new) }
+        ensures begun { OnOk result
+            (FilesToCome R.remaining R.fails_with (first ∷ self.old.waiting.items) self.new) }
+        ensures some { OnOk result
+            (length self.new.waiting.items ≤ length self.old.waiting.items) }
     {
         let algorithm = first.algorithm;
         let is_alone = first.is_alone;
@@ -104,9 +102,9 @@ impl<R: Source + Drop> Outcomes<R> {
     ///
     /// Refused where there is no memory.
     pub fn next_outcome<const BITS: usize>(&mut self) -> io::Result<Option<Outcome>>
-        ensures { IfOk result (λ outcome. (wanted : List (Wanted R)) (place : ℕ)
-            → AreToCome R.remaining R.fails_with wanted place self.old
-            → IsAnswered R.remaining R.fails_with wanted place outcome self.new) }
+        ensures { IfOk result (λ outcome. (files : List (Wanted R))
+            → FilesToCome R.remaining R.fails_with files self.old
+            → FileIsGiven R.remaining R.fails_with files outcome self.new) }
     {
         if let Some(outcome) = self.run.next_outcome::<BITS>(self.alloc)? {
             return Ok(Some(outcome));

@@ -1,11 +1,11 @@
 // SPDX-License-Identifier: ISC
 //! Digests of what several readers give, side by side, in the order of the readers.
 
-ghost use Rattle.std.specs.Prelude.{◌≡◌, ◌↔◌, ℕ, List, IfOk, IsTrue, OnOk, length};
+ghost use Rattle.std.specs.Prelude.{List, IfOk, IsTrue, OnOk, length};
 ghost use Rattle.std.specs.Vec.Iter.{into_iter_items};
 ghost use Rattle.ring.specs.declared.digest.algorithm.Algorithm.{Algorithm};
 ghost use Rattle.ring_sums.specs.Found.{IsReady};
-ghost use Rattle.ring_sums.specs.Sums.{AreAt, IsGiven};
+ghost use Rattle.ring_sums.specs.Sums.{KeepReaders, ReaderIsGiven, ReadersToCome};
 
 use crate::found::take_first;
 use crate::lanes::Lanes;
@@ -40,7 +40,7 @@ impl<R: Source + Drop> Sums<R> {
     /// The sums of what `readers` will give, under `algorithm`, with memory of `alloc`. Nothing is
     /// read yet.
     pub fn new(alloc: Global, algorithm: &Algorithm, readers: Vec<R>) -> Sums<R>
-        ensures { AreAt R.remaining R.fails_with algorithm.now readers.items 0 result }
+        ensures { ReadersToCome R.remaining R.fails_with algorithm.now readers.items result }
     {
         Sums {
             algorithm: *algorithm,
@@ -58,9 +58,7 @@ impl<R: Source + Drop> Sums<R> {
 
     /// Puts the next readers into the lanes that are free.
     fn begin(&mut self, alloc: Global) -> Result<(), AllocError>
-        ensures { OnOk result ((a : Algorithm) (readers : List R) (place : ℕ)
-            → AreAt R.remaining R.fails_with a readers place self.old
-            → AreAt R.remaining R.fails_with a readers place self.new) }
+        ensures { OnOk result (KeepReaders R.remaining R.fails_with self.old self.new) }
     {
         'free: while self.can_begin() {
             // A reader without a lane keeps its place: it has failed.
@@ -77,9 +75,7 @@ impl<R: Source + Drop> Sums<R> {
 
     /// Ends the lanes that are over.
     fn end(&mut self) -> Result<(), AllocError>
-        ensures { OnOk result ((a : Algorithm) (readers : List R) (place : ℕ)
-            → AreAt R.remaining R.fails_with a readers place self.old
-            → AreAt R.remaining R.fails_with a readers place self.new) }
+        ensures { OnOk result (KeepReaders R.remaining R.fails_with self.old self.new) }
     {
         let given = self
             .total
@@ -92,9 +88,7 @@ impl<R: Source + Drop> Sums<R> {
     /// Reads a piece of each reader that is begun, and updates the contexts once no lane is free
     /// for another.
     fn run_round<const BITS: usize>(&mut self, alloc: Global) -> Result<(), AllocError>
-        ensures { OnOk result ((a : Algorithm) (readers : List R) (place : ℕ)
-            → AreAt R.remaining R.fails_with a readers place self.old
-            → AreAt R.remaining R.fails_with a readers place self.new) }
+        ensures { OnOk result (KeepReaders R.remaining R.fails_with self.old self.new) }
     {
         self.begin(alloc)?;
         self.lanes.read();
@@ -122,9 +116,9 @@ impl<R: Source + Drop> Sums<R> {
     /// Refused where `alloc` has no memory. A reader that has no lane by then has failed, and the
     /// others go on with the next call.
     pub fn next_outcome<const BITS: usize>(&mut self, alloc: Global) -> io::Result<Option<Outcome>>
-        ensures { IfOk result (λ outcome. (a : Algorithm) (readers : List R) (place : ℕ)
-            → AreAt R.remaining R.fails_with a readers place self.old
-            → IsGiven R.remaining R.fails_with a readers place outcome self.new) }
+        ensures { IfOk result (λ outcome. (a : Algorithm) (readers : List R)
+            → ReadersToCome R.remaining R.fails_with a readers self.old
+            → ReaderIsGiven R.remaining R.fails_with a readers outcome self.new) }
     {
         'rounds: for _ in 0..u64::MAX {
             if self.is_ready() {

@@ -1,58 +1,138 @@
 -- SPDX-License-Identifier: ISC
-use Rattle.std.proofs.Common.{◌∙◌, ◌<◌, ◌^◌, arith, length, refl, sym}
-use Rattle.ring_sums.specs.Check.{count_of}
-use Rattle.ring_sums.proofs.CheckedLines.{checked-all, checked-bad, checked-entry, checked-first}
-use Rattle.ring_sums.proofs.CheckedLines.{bad-few, checked-none}
+use Rattle.std.proofs.Common.{◌∙◌, ◌<◌, ◌^◌, ◌∷◌, ◌++◌, [], Bool, ap, arith, length}
+use Rattle.std.proofs.Common.{length-take, map, refl, subst, sym, take}
+use Rattle.std.specs.Prelude.{is_none}
+use Rattle.std.proofs.lemmas.List.{map_push, take_all}
+use Rattle.std.proofs.lemmas.List.Elements.{All-nil, All-push}
+use Rattle.std.proofs.lemmas.List.Sums.{count_by-le-length, count_by_more_no, count_by_more_yes}
+use Rattle.ring_sums.specs.Check.{AreCounted, Finding, IsFound, entries_of, entry_in}
+use Rattle.ring_sums.specs.Check.{said_of}
+use Rattle.ring_sums.specs.declared.list.Line.{Line}
+use Rattle.ring_sums.proofs.CheckedLines.{entries-bad, entries-entry, entries-push, entry-below}
+use Rattle.ring_sums.proofs.CheckedLines.{files-many, findings-few, findings-many}
+use Rattle.ring_sums.proofs.Listed.{written-kept, written-next, written-none}
+use Rattle.ring_sums.proofs.WantedFiles.{AreGiven, given-all, given-first, given-more, given-none}
 use Rattle.ring_sums.proofs.check.check_lines.Goals as goal
 use Rattle.ring_sums.proofs.check.check_lines.Goals.{in-Bad+in_ok-warn_of_line-in-Bad}
 use Rattle.ring_sums.proofs.check.check_lines.Goals.{in-Entry+in-Ok+in-Some+in_ok-answer-in-Entry}
 
 pub loop-line-init : goal.loop-line-init
-unfolding count_of
 loop-line-init g c = λ files.
     let none = c.default-counts.ensures in
-    checked-first c.args.console.now c.new-outcomes.ensures
-    (record {
-      entries = none.1.0;
-      same = none.1.1.1.1;
-      others = none.1.1.0;
-      unread = none.1.1.1.0;
-    }) none.0
+    record {
+      findings = [];
+      entries = refl;
+      given = given-first c.new-outcomes.ensures;
+      found = All-nil _;
+      said = written-none;
+      counted = record {
+        entries = none.1.0;
+        same = none.1.1.1.1;
+        others = none.1.1.0;
+        unread = none.1.1.1.0;
+      };
+      bad = none.0;
+    }
 
 pub returns-in_default-next : goal.returns-in_default-next
 returns-in_default-next g c = λ files.
-    let same = files.count in
-    let is = c.loop-line.invariant files in
-    let none = rw c.in_default-next.is at
-    c.in-Ok.ensures c.args.wanted.items (length is.founds) is.rest in
-    checked-none c.line-item.result c.in-Entry.entry c.loop-line-test.true
-    (sym c.line-item.is ∙ c.in-Entry.is) same is none
+    let so = c.loop-line.invariant files in
+    let given = rw c.in_default-next.is at c.in-Ok.ensures so.given.rest so.given.to_come in
+    let below = entry-below c.args.lines.now c.loop-line.line-index c.line-item.result
+    c.loop-line-test.true c.in-Entry.entry (sym c.line-item.is ∙ c.in-Entry.is) in
+    absurd (omega (
+      arith,
+      given-none so.given given,
+      below,
+      findings-many so.findings so.entries,
+      files-many (entries_of c.args.lines.now) c.args.wanted.items files,
+    ))
 
 pub loop-line-preserved : goal.loop-line-preserved
 loop-line-preserved g c = λ files.
-    let same = files.count in
-    let is = c.loop-line.invariant files in
-    let few : length c.args.lines.now < 2 ^ 64 = omega arith in
+    let so = c.loop-line.invariant files in
+    let lines = c.args.lines.now in
+    let n = c.loop-line.line-index in
+    let l = c.line-item.result in
+    let here = c.loop-line-test.true in
+    let few : length lines < 2 ^ 64 = omega arith in
+    let is_bad : Line → Bool = λ line. is_none (entry_in line) in
     elim c.match-line.branch [
       | in-Bad+in_ok-warn_of_line-in-Bad w ↦
-          rw (w.console-is, w.outcomes-is, w.counts-is)
-          (checked-bad c.line-item.result c.loop-line-test.true
-          (sym c.line-item.is ∙ w.in-Bad.is) is w.warn_of_line.ensures
-          (omega (arith, w.saturating_add.ensures, bad-few is c.loop-line-test.true, few))
-          refl refl refl refl)
+          let e = sym c.line-item.is ∙ w.in-Bad.is in
+          rw (w.console-is, w.outcomes-is, w.counts-is) (record {
+            findings = so.findings;
+            entries = rw (entries-bad lines n l here w.in-Bad.number e) so.entries;
+            given = so.given;
+            found = so.found;
+            said = written-kept so.said w.warn_of_line.ensures;
+            counted = record {
+              entries = so.counted.entries;
+              same = so.counted.same;
+              others = so.counted.others;
+              unread = so.counted.unread;
+            };
+            bad = omega (
+              arith,
+              w.saturating_add.ensures,
+              so.bad,
+              count_by_more_yes is_bad lines n l here (ap is_bad e),
+              count_by-le-length is_bad (take n lines),
+              length-take n lines,
+              few,
+            );
+          })
       | in-Entry+in-Ok+in-Some+in_ok-answer-in-Entry w ↦
-          let some = rw w.in-Some.is at
-          w.in-Ok.ensures c.args.wanted.items (length is.founds) is.rest in
-          rw (w.console-is, w.outcomes-is, w.counts-is)
-          (checked-entry c.line-item.result w.in-Entry.entry w.in-Some.outcome
-          w.in_ok-answer-in-Entry.field-0 c.loop-line-test.true few
-          same (sym c.line-item.is ∙ w.in-Entry.is) is some
-          w.in_ok-answer-in-Entry.ensures.found
-          w.in_ok-answer-in-Entry.ensures.said
-          w.count.ensures.counted w.count.ensures.bad)
+          let e = sym c.line-item.is ∙ w.in-Entry.is in
+          let entry = w.in-Entry.entry in
+          let given = rw w.in-Some.is at w.in-Ok.ensures so.given.rest so.given.to_come in
+          let one : Finding = record {
+            entry = entry;
+            outcome = w.in-Some.outcome;
+            found = w.in_ok-answer-in-Entry.field-0;
+          } in
+          let P : Finding → Type 0 =
+          λ f. IsFound c.args.options.now f.entry.listed.items f.outcome f.found in
+          let room = findings-few lines n so.findings few so.entries
+          (entry-below lines n l here entry e) in
+          rw (w.console-is, w.outcomes-is, w.counts-is) (record {
+            findings = so.findings ++ one ∷ [];
+            entries = entries-push so.findings one so.entries (entries-entry lines n l here entry e);
+            given = subst (λ z. AreGiven g.S.Read.remaining g.S.Source.fails_with
+                c.args.wanted.items z w.next_outcome.new.self)
+                (sym (map_push (λ (f : Finding). f.outcome) so.findings one))
+                (given-more one.outcome so.given given);
+            found = All-push P so.findings one so.found w.in_ok-answer-in-Entry.ensures.found;
+            said = written-next (λ f. said_of c.args.options.now.amount f.entry.name.items f.found)
+                so.findings one so.said w.in_ok-answer-in-Entry.ensures.said;
+            counted = subst (λ z. AreCounted z w.count.new.self)
+                (sym (map_push (λ (f : Finding). f.found) so.findings one))
+                (w.count.ensures.counted (map (λ (f : Finding). f.found) so.findings) room
+                so.counted);
+            bad = omega (
+              arith,
+              w.count.ensures.bad,
+              so.bad,
+              count_by_more_no is_bad lines n l here (ap is_bad e),
+            );
+          })
     ]
 
 pub returns : goal.returns
 returns g c = λ files.
-    checked-all (omega (arith, c.loop-line-test.false, c.loop-line.auto.line-index-end)) files.count
-    (c.loop-line.invariant files)
+    let so = c.loop-line.invariant files in
+    let whole = take_all c.loop-line.line-index c.args.lines.now c.loop-line-test.false in
+    let entries = rw whole at so.entries in
+    record {
+      findings = so.findings;
+      entries = entries;
+      read = given-all so.given (omega (
+        arith,
+        findings-many so.findings entries,
+        files-many (entries_of c.args.lines.now) c.args.wanted.items files,
+      ));
+      found = so.found;
+      said = so.said;
+      counted = so.counted;
+      bad = rw whole at so.bad;
+    }

@@ -1,7 +1,7 @@
 -- SPDX-License-Identifier: ISC
-use Rattle.std.proofs.Common.{refl}
-use Rattle.ring_sums.proofs.TaggedForm.{behind_name, cut-at, equals-at, name-at, opened-at}
-use Rattle.ring_sums.proofs.TaggedForm.{tagged-made}
+use Rattle.std.proofs.Common.{refl, subst}
+use Rattle.ring_sums.specs.Entry.{IsBehindWhite}
+use Rattle.ring_sums.proofs.TaggedForm.{cut-at, equals-at, opened-at}
 use Rattle.ring_sums.proofs.entry.tagged_parts.Goals as goal
 
 pub returns-in_err-after : goal.returns-in_err-after
@@ -14,16 +14,26 @@ returns-in_err-inner c = rw c.from_residual-in_err-inner.ensures λ parts form.
 
 pub returns-in_err-name : goal.returns-in_err-name
 returns-in_err-name c = rw c.from_residual-in_err-name.ensures λ parts form.
-    c.in_err-name.ensures (parts.0, behind_name form)
+    c.in_err-name.ensures (parts.0, form.rest)
     (cut-at form c.in_ok-after.ensures.ok c.in_ok-inner.ensures)
 
 pub returns-in_err-digits : goal.returns-in_err-digits
 returns-in_err-digits c = rw c.from_residual-in_err-digits.ensures λ parts form.
-    let name = name-at form c.in_ok-after.ensures.ok c.in_ok-inner.ensures
-    c.in_ok-name.ensures in
-    c.in_err-digits.ensures.refused refl _ (equals-at form name.1 c.without_white.ensures)
+    let same = equals-at form c.in_ok-after.ensures.ok c.in_ok-inner.ensures
+    c.in_ok-name.ensures c.without_white.ensures in
+    c.in_err-digits.ensures.refused refl form.behind same.1
 
 pub returns : goal.returns
 returns c =
-    tagged-made c.in_ok-after.ensures.ok c.in_ok-inner.ensures c.in_ok-name.ensures
-    c.without_white.ensures c.in_ok-digits.ensures.ok c.without_white-2.ensures
+    record {
+      opened = c.in_ok-after.field-0.now;
+      inner = c.in_ok-inner.inner.now;
+      rest = c.in_ok-name.rest.now;
+      behind = c.in_ok-digits.digits.now;
+      begins = c.in_ok-after.ensures.ok;
+      opens = c.in_ok-inner.ensures;
+      cut = c.in_ok-name.ensures;
+      equals = subst (IsBehindWhite c.in_ok-name.rest.now) c.in_ok-digits.ensures.ok
+          c.without_white.ensures;
+      ends = c.without_white-2.ensures;
+    }

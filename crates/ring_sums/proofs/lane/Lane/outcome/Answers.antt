@@ -9,7 +9,7 @@ use Rattle.ring_sums.proofs.lane.Lane.outcome.Goals as goal
 use Rattle.ring_sums.proofs.lane.Lane.outcome.Goals.{in-Some, in-None+in-Ok, in-None+in-Err}
 
 pub returns : goal.returns
-returns g c = λ a readers r is over.
+returns g c = λ a first is over.
     let lane = c.args.self in
     let updated = c.update.new.self in
     let of : context_algorithm updated ≡ a = rw c.update.ensures.algorithm is.algorithm in
@@ -18,7 +18,7 @@ returns g c = λ a readers r is over.
     (c.update.ensures.stands m s) in
     elim c.match-self.branch [
       | in-Some w ↦
-          rw (w.outcome-is, ← is.same r) (rw w.in-Some.is at is.failed)
+          rw (w.outcome-is, ← is.same) (rw w.in-Some.is at is.failed)
       | in-None+in-Ok w ↦
           let none : IsNone lane.failure = rw w.in-None.is refl in
           let taken = is.taken none in
@@ -27,7 +27,7 @@ returns g c = λ a readers r is over.
           subst (λ (z : Algorithm). IsDigest w.in-Ok.digest z all) of
           (w.in-Ok.ensures.ok all (stands taken.bytes taken.stands)) in
           rw w.outcome-is (Consumes-whole _ _ all (IsDigest w.in-Ok.digest a)
-          (taken.read r) (is.end none (over none)) made)
+          taken.read (is.end none (over none)) made)
       | in-None+in-Err w ↦
           let none : IsNone lane.failure = rw w.in-None.is refl in
           let taken = is.taken none in
@@ -37,5 +37,5 @@ returns g c = λ a readers r is over.
           subst (λ (z : Algorithm). max_input_len z < length all) of
           ((w.finish.ensures.refused_of all (stands taken.bytes taken.stands)).0 bad) in
           rw w.outcome-is (Consumes-whole _ _ all (λ bytes. max_input_len a < length bytes)
-          (taken.read r) (is.end none (over none)) past)
+          taken.read (is.end none (over none)) past)
     ]

@@ -6,7 +6,7 @@ use Rattle.ring.specs.declared.digest.context.Context.{Context}
 use Rattle.ring_sums.specs.Lane.{IsIn}
 use Rattle.ring_sums.specs.Lane.{left_of}
 use Rattle.ring_sums.specs.declared.lane.Lane.{Lane}
-use Rattle.ring_sums.proofs.FoundOutcomes.{found-put, pending-put}
+use Rattle.ring_sums.proofs.FoundOutcomes.{found-put}
 use Rattle.ring_sums.proofs.InLanes.{IsSwapped, in-swapped}
 use Rattle.ring_sums.proofs.lanes.Lanes.end.Goals as goal
 
@@ -43,18 +43,18 @@ lanes-preserved-in-Continue-1 g c =
     (c.if-is_over.ensures refl) in
     record {
       count = c.put.ensures.count ∙ c.lanes.invariant.count;
-      pending = λ first. pending-put lane (c.lanes.invariant.pending first) c.put.ensures below
-          taken.value swapped;
       going = λ a readers first found.
           let so = c.lanes.invariant.going a readers first found in
           let P : Lane _ → Context → Type 0 = λ l c.
-          IsIn g.R.Read.remaining g.R.Source.fails_with a readers (left_of l) l c in
+          (r : _) → IsIn g.R.Read.remaining g.R.Source.fails_with a (get_or readers l.place r)
+          (left_of l) l c in
           let is : P lane context =
           subst (λ z. P z context) (sym taken.value)
           (subst (P (get_or lanes.items i lane)) (sym given.value)
           (so.0.each i lane context below)) in (
             in-swapped i so.0 swapped swapped_too,
-            found-put so.1 c.put.ensures
-                (λ r. c.outcome-outcome.ensures a readers r is over),
+            found-put lane below taken.value swapped so.1 c.put.ensures
+                (λ r. c.outcome-outcome.ensures a (get_or readers lane.place r) (is r)
+                over),
           );
     }

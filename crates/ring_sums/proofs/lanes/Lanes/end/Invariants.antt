@@ -1,7 +1,7 @@
 -- SPDX-License-Identifier: ISC
 use Rattle.std.proofs.Common.{◌≡◌, ◌-◌, List, length, vec_len}
 use Rattle.ring.specs.declared.digest.algorithm.Algorithm.{Algorithm}
-use Rattle.ring_sums.specs.Found.{AreFound, ArePending}
+use Rattle.ring_sums.specs.Found.{AreFound}
 use Rattle.ring_sums.specs.Lane.{left_of}
 use Rattle.ring_sums.specs.Lanes.{AreIn}
 use Rattle.ring_sums.proofs.lanes.Lanes.end.Given as goal
@@ -15,13 +15,13 @@ abbrev pub invariant-lanes : goal.invariant-lanes
 invariant-lanes g l =
     record {
       count : length l.found.items ≡ length l.fn.found.items;
-      pending : ArePending l.given l.fn.found.items l.fn.self.lanes.items
-          → ArePending l.given l.found.items l.self.lanes.items;
       going : (a : Algorithm) (readers : List g.row.R.Denot)
           → AreIn g.R.Read.remaining g.R.Source.fails_with a readers left_of l.fn.self.lanes.items
           l.fn.self.contexts.items
           → AreFound g.R.Read.remaining g.R.Source.fails_with a readers l.given l.fn.found.items
+          l.fn.self.lanes.items
           → AreIn g.R.Read.remaining g.R.Source.fails_with a readers left_of l.self.lanes.items
           l.self.contexts.items
-          × AreFound g.R.Read.remaining g.R.Source.fails_with a readers l.given l.found.items;
+          × AreFound g.R.Read.remaining g.R.Source.fails_with a readers l.given l.found.items
+          l.self.lanes.items;
     }

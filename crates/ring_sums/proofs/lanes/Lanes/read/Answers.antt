@@ -2,14 +2,15 @@
 use Rattle.std.proofs.Common.{◌<◌, ◌≤◌, ◌∙◌, arith, get_or, length, subst}
 use Rattle.std.proofs.lemmas.List.{get_or_default}
 use Rattle.ring_sums.specs.Lane.{IsRead}
-use Rattle.ring_sums.proofs.InLanes.{reading-all, stepped-next}
+use Rattle.ring_sums.proofs.InLanes.{in-read, stepped-all, stepped-next}
 use Rattle.ring_sums.proofs.lanes.Lanes.read.Goals as goal
 
 pub returns-clause-going : goal.returns-clause-going
 returns-clause-going g c = λ a readers first.
     let all : length c.args.self.now.lanes.items ≤ c.lanes.i =
     omega (arith, c.lanes-test.false, c.len-i-end.ensures, c.args.self.now.lanes.ok.0) in
-    rw c.lanes.invariant.contexts (reading-all c.lanes.invariant.reading all first)
+    rw c.lanes.invariant.contexts (stepped-all (λ x y s. s.place)
+    (λ r x y context. in-read) c.lanes.invariant.reading all first)
 
 pub lanes-preserved : goal.lanes-preserved
 lanes-preserved g c =

@@ -1,202 +1,298 @@
 -- SPDX-License-Identifier: ISC
--- Lemmas on a run, piece by piece.
-use Rattle.std.proofs.Common.{◌≡◌, ℕ, ◌<◌, ◌≤◌, Option, Some, None, IfSome, Result, Ok, Err, OnOk}
-use Rattle.std.proofs.Common.{List, [], ◌∷◌, ◌++◌, length, take, refl, sym, ap, ◌∙◌, subst}
-use Rattle.std.proofs.Common.{append_assoc, append-nil, length-append, arith}
+-- Lemmas on a run: how answered texts follow one another, and how far a run has come.
+use Rattle.std.proofs.Common.{◌≡◌, ℕ, ◌+◌, ◌<◌, ◌≤◌, Bool, true, false, cond, ◌||◌, Option, Some, None}
+use Rattle.std.proofs.Common.{IfSome, Result, Ok, Err, OnOk, IfOk, List, [], ◌∷◌, ◌++◌, length, take}
+use Rattle.std.proofs.Common.{refl, sym, ap, ◌∙◌, subst, append_assoc, append-nil, length-append}
+use Rattle.std.proofs.Common.{arith}
+use Rattle.std.specs.Prelude.{⊤}
+use Rattle.std.specs.List.{list_any}
 use Rattle.std.specs.Io.KnownBytes.{Appends, Consumes, Keeps, IsAtEnd}
-use Rattle.std.proofs.KnownBytes.{Consumes-trans, Consumes-kept}
-use Rattle.std.proofs.lemmas.Option.{IfSome_then}
+use Rattle.std.proofs.KnownBytes.{Appends-nil, Appends-trans, Appends-kept, Keeps-refl}
+use Rattle.std.proofs.lemmas.List.Elements.{All-append}
+use Rattle.std.proofs.lemmas.List.Folds.{list_any-append}
+use Rattle.std.proofs.lemmas.List.Concat.{flat_map-append}
+use Rattle.std.proofs.Math.Seq.{take-append_seam}
 use Rattle.ring_text.specs.Cut.{IsFirstCut}
-use Rattle.ring_bench.specs.declared.status.Status.{Status}
-use Rattle.ring_bench.specs.declared.status.BenchError.{BenchError}
-use Rattle.ring_bench.specs.declared.status.Status.TheVariants.{Clean}
-use Rattle.ring_bench.specs.Text.{without_return, lines, ended_lines, replies, answers, status_of}
-use Rattle.ring_bench.specs.Reply.{reply}
-use Rattle.ring_bench.specs.Session.{HasNoLineFeed, Fed, Stopped, status_after}
-use Rattle.ring_bench.proofs.FedTexts.{Fed-nothing, Fed-line, Fed-more, Fed-trans, Stopped-after}
-use Rattle.ring_bench.proofs.FedTexts.{Stopped-first, Stopped-more, Stopped-lines, Fed-lines}
-use Rattle.ring_bench.proofs.FedTexts.{Fed-answers, Fed-status}
+use Rattle.ring_bench.specs.declared.answers.Status.{Status}
+use Rattle.ring_bench.specs.declared.answers.Status.TheVariants.{Clean, SomeBad}
+use Rattle.ring_bench.specs.declared.answers.BenchError.{BenchError}
+use Rattle.ring_bench.specs.Text.{is_line_feed, without_return, lines, ended_lines, replies}
+use Rattle.ring_bench.specs.Text.{answers, is_bad_kind, status_of}
+use Rattle.ring_bench.specs.Reply.{reply, kind}
+use Rattle.ring_bench.specs.Session.{Answered, Fed, HasNoLineFeed, Stopped, status_after}
+use Rattle.ring_bench.proofs.Texts.{ended_lines-next, lines-next, one_line, some_line}
 
--- The part of a piece before the rest was fed.
-pub record Feeding
-    (start piece rest line : List ℕ) (s t : Status) (a b : Option (List ℕ)) : Type 0 where
-  pub given : List ℕ
-  pub whole : given ++ rest ≡ piece
-  pub fed : Fed (start ++ given) line s t a b
+-- one status after other lines
+chosen : (a b : Bool) (s : Status) → cond b SomeBad (cond a SomeBad s) ≡ cond (a || b) SomeBad s
+chosen true true s = refl
+chosen true false s = refl
+chosen false true s = refl
+chosen false false s = refl
 
-pub Feeding-nothing : {start piece : List ℕ} {s : Status} {a : Option (List ℕ)}
-    → HasNoLineFeed start → Feeding start piece piece start s s a a
-Feeding-nothing {start} {piece} {s} {a} none = record {
-  given = [];
-  whole = refl;
-  fed = subst (λ l. Fed l start s s a a) (sym (append-nil start)) (Fed-nothing start s a none);
+status_after-append : (s : Status) (xs ys : List (List ℕ))
+    → status_after (status_after s xs) ys ≡ status_after s (xs ++ ys)
+status_after-append s xs ys =
+    let bad : List ℕ → Bool = λ text. is_bad_kind (kind text) in
+    chosen (list_any bad xs) (list_any bad ys) s
+    ∙ ap (λ b. cond b SomeBad s) (sym (list_any-append bad xs ys))
+
+Appends-replies : (first others : List (List ℕ)) (a b c : Option (List ℕ))
+    → Appends a b (replies first) → Appends b c (replies others)
+    → Appends a c (replies (first ++ others))
+Appends-replies first others a b c v w =
+    subst (Appends a c) (sym (flat_map-append reply first others))
+    (Appends-trans a b c (replies first) (replies others) v w)
+
+-- nothing was answered
+Answered-none : (text : List ℕ) (s : Status) (a b : Option (List ℕ)) → Keeps a b
+    → Answered text text s s a b
+Answered-none text s a b kept = record {
+  first = [];
+  split = λ more. refl;
+  ended = λ more. omega arith;
+  written = Appends-kept a a b [] (Appends-nil a) kept;
+  status = refl;
 }
 
--- a cut has a byte behind it
-pub some_rest : {rest front behind : List ℕ} → IsFirstCut 10 rest front behind → 0 < length rest
-some_rest {front} {behind} cut =
-    let size = ap length cut.whole ∙ length-append front (10 ∷ behind) in
-    omega arith
+-- one line was answered
+Answered-line : {text line behind : List ℕ} {s t : Status} {a b : Option (List ℕ)}
+    → IsFirstCut 10 text line behind → Appends a b (reply (without_return line))
+    → t ≡ status_after s (without_return line ∷ []) → Answered text behind s t a b
+Answered-line {line} {a} {b} cut written status = record {
+  first = without_return line ∷ [];
+  split = lines-next cut;
+  ended = ended_lines-next cut;
+  written = subst (Appends a b) (sym (append-nil (reply (without_return line)))) written;
+  status = status;
+}
+
+-- after first lines were answered
+module _ {text rest : List ℕ} {s t : Status} {a b : Option (List ℕ)}
+    (f : Answered text rest s t a b) where
+  -- lines of the rest were answered
+  Answered-trans : {last : List ℕ} {u : Status} {c : Option (List ℕ)}
+      → Answered rest last t u b c → Answered text last s u a c
+  Answered-trans {last} {c} h = record {
+    first = f.first ++ h.first;
+    split = λ more.
+        f.split more ∙ ap (λ l. f.first ++ l) (h.split more)
+        ∙ sym (append_assoc f.first h.first (lines (last ++ more)));
+    ended = λ more.
+        let sum = length-append f.first h.first in
+        omega (arith, f.ended more, h.ended more, sum);
+    written = Appends-replies f.first h.first a b c f.written h.written;
+    status =
+        h.status ∙ ap (λ v. status_after v h.first) f.status
+        ∙ status_after-append s f.first h.first;
+  }
+
+  -- more text came behind them
+  Answered-more : (more : List ℕ) → Answered (text ++ more) (rest ++ more) s t a b
+  Answered-more more = record {
+    first = f.first;
+    split = λ x. rw (append_assoc text more x, append_assoc rest more x) (f.split (more ++ x));
+    ended = λ x. rw (append_assoc text more x, append_assoc rest more x) (f.ended (more ++ x));
+    written = f.written;
+    status = f.status;
+  }
+
+  -- they are the first lines of the text
+  lines-answered : lines text ≡ f.first ++ lines rest
+  lines-answered =
+      ap lines (sym (append-nil text)) ∙ f.split []
+      ∙ ap (λ l. f.first ++ lines l) (append-nil rest)
+
+  written-first : Appends a b (replies (take (length f.first) (lines text)))
+  written-first = rw (lines-answered, take-append_seam f.first (lines rest)) f.written
+
+  -- each was ended by a line feed
+  Answered-ended : (k : ℕ) × (k ≤ ended_lines text) × Appends a b (replies (take k (lines text)))
+  Answered-ended =
+      let count : ended_lines text ≡ length f.first + ended_lines rest =
+      ap ended_lines (sym (append-nil text)) ∙ f.ended []
+      ∙ ap (λ l. length f.first + ended_lines l) (append-nil rest) in
+      (length f.first, omega (arith, count), written-first)
+
+  -- another is left
+  Answered-left : 0 < length rest
+      → (k : ℕ) × (k < length (lines text)) × Appends a b (replies (take k (lines text)))
+  Answered-left some =
+      let count = ap length lines-answered ∙ length-append f.first (lines rest) in
+      (length f.first, omega (arith, count, some_line rest some), written-first)
+
+  -- all were answered
+  Answered-whole : {u : Status} (c : Option (List ℕ)) → Appends b c (replies (lines rest))
+      → u ≡ status_after t (lines rest)
+      → Appends a c (answers text) × (u ≡ status_after s (lines text))
+  Answered-whole c written status =
+      rw lines-answered
+      (Appends-replies f.first (lines rest) a b c f.written written,
+      status ∙ ap (λ v. status_after v (lines rest)) f.status
+      ∙ status_after-append s f.first (lines rest))
+
+-- Of the piece that came behind an open line the part before the rest was fed.
+pub record Feeding
+    (start piece rest line : List ℕ) (s t : Status) (a b : Option (List ℕ)) : Type 0 where
+  pub open_line : HasNoLineFeed line
+  pub answered : Answered (start ++ piece) (line ++ rest) s t a b
+
+pub Feeding-none : (start piece : List ℕ) (s : Status) (a : Option (List ℕ)) → HasNoLineFeed start
+    → Feeding start piece piece start s s a a
+Feeding-none start piece s a none = record {
+  open_line = none;
+  answered = Answered-none (start ++ piece) s a a (Keeps-refl a);
+}
 
 -- after a part of a piece
 module _ {start piece rest line : List ℕ} {s t : Status} {a b : Option (List ℕ)}
     (f : Feeding start piece rest line s t a b) where
-  -- the next line was ended
+  -- the next line was ended, and answered
   pub Feeding-line : {front behind whole new : List ℕ} {u v : Status} {c : Option (List ℕ)}
       → IsFirstCut 10 rest front behind → whole ≡ line ++ front → u ≡ t → new ≡ []
       → Appends b c (reply (without_return whole))
       → v ≡ status_after u (without_return whole ∷ []) → Feeding start piece behind new s v a c
-  Feeding-line {front} {behind} {v} {c} cut joined kept closed written status =
-      let more = Fed-more f.fed front cut.first in
-      let answered : Appends b c (reply (without_return (line ++ front))) = rw joined at written in
+  Feeding-line {front} {behind} {v = v} {c = c} cut joined kept closed written status =
+      let more : IsFirstCut 10 (line ++ rest) (line ++ front) behind = record {
+        whole = ap (λ l. line ++ l) cut.whole ∙ sym (append_assoc line front (10 ∷ behind));
+        first = All-append (λ y. is_line_feed y ≡ false) line front f.open_line cut.first;
+      } in
+      let replied : Appends b c (reply (without_return (line ++ front))) = rw joined at written in
       let after : v ≡ status_after t (without_return (line ++ front) ∷ []) =
       rw (kept, joined) at status in
-      let last = Fed-line (line ++ front) more.open_line answered after in
-      let ended = Fed-trans more (10 ∷ []) last in
-      let given = f.given ++ (front ++ 10 ∷ []) in
-      let text : ((start ++ f.given) ++ front) ++ 10 ∷ [] ≡ start ++ given = simp append_assoc in
-      let behind_is : given ++ behind ≡ f.given ++ (front ++ 10 ∷ behind) = simp append_assoc in
       rw closed (record {
-        given = given;
-        whole = behind_is ∙ ap (λ l. f.given ++ l) (sym cut.whole) ∙ f.whole;
-        fed = subst (λ l. Fed l [] s v a c) text ended;
+        open_line = λ k d below. absurd (omega arith);
+        answered = Answered-trans f.answered (Answered-line more replied after);
       })
 
-  -- the part and the rest are the piece
-  Feeding-whole : (start ++ f.given) ++ rest ≡ start ++ piece
-  Feeding-whole = append_assoc start f.given rest ∙ ap (λ l. start ++ l) f.whole
-
   -- it stopped before the rest
-  pub Feeding-stopped : {c : Option (List ℕ)} → 0 < length rest → Keeps b c
-      → Stopped (start ++ piece) a c
-  Feeding-stopped {c} some kept =
-      let more = length-append line rest in
-      subst (λ l. Stopped l a c) Feeding-whole
-      (Stopped-after f.fed rest (Stopped-first (line ++ rest) b c kept (omega arith)))
+  pub Feeding-stopped : {front behind : List ℕ} {c : Option (List ℕ)}
+      → IsFirstCut 10 rest front behind → Keeps b c → Stopped (start ++ piece) s a c
+  Feeding-stopped {front} {behind} {c} cut kept =
+      let size = ap length cut.whole ∙ length-append front (10 ∷ behind) in
+      record {
+        rest = line ++ rest;
+        new = t;
+        answered = Answered-trans f.answered (Answered-none (line ++ rest) t b c kept);
+        more = omega (arith, size, length-append line rest);
+      }
 
   -- the rest has no line feed
   pub Feeding-rest : {new : List ℕ} {u : Status} → HasNoLineFeed rest → new ≡ line ++ rest → u ≡ t
       → Fed (start ++ piece) new s u a b
-  Feeding-rest none joined kept =
-      let fed = Fed-more f.fed rest none in
-      rw (joined, kept) (subst (λ l. Fed l (line ++ rest) s t a b) Feeding-whole fed)
+  Feeding-rest none joined kept = rw (joined, kept) (record {
+    answered = f.answered;
+    open_line = All-append (λ y. is_line_feed y ≡ false) line rest f.open_line none;
+  })
 
--- how far a run has come in a text
-pub record ReachedIn
-    (text : List ℕ) (left : Option (List ℕ)) (line : List ℕ) (status : Status)
+-- the open line was answered
+pub open-answered : (line : List ℕ) (s : Status) {t : Status} (a b c : Option (List ℕ))
+    → HasNoLineFeed line → 0 < length line → Appends a b (reply (without_return line))
+    → Keeps b c → t ≡ status_after s (without_return line ∷ [])
+    → Appends a c (replies (lines line)) × (t ≡ status_after s (lines line))
+open-answered line s a b c none some written kept status =
+    let all = Appends-kept a b c (reply (without_return line)) written kept in
+    rw (one_line line none some, append-nil (reply (without_return line))) (all, status)
+
+-- no line was open
+pub none-answered : (line : List ℕ) (s : Status) (a b : Option (List ℕ)) → length line ≡ 0
+    → Keeps a b → Appends a b (replies (lines line)) × (s ≡ status_after s (lines line))
+none-answered [] s a b none kept = (Appends-kept a a b [] (Appends-nil a) kept, refl)
+none-answered (byte ∷ line) s a b none kept = absurd (omega arith)
+
+-- where the text is known, what is left goes on with the open line
+abbrev pub ReachedIn : (known left : Option (List ℕ)) (line : List ℕ) (status : Status)
+    (before after : Option (List ℕ)) → Type 0
+ReachedIn None left line status before after = ⊤
+ReachedIn (Some text) None line status before after = ⊥
+ReachedIn (Some text) (Some rest) line status before after =
+    Answered text (line ++ rest) Clean status before after
+
+-- how far a run has come
+pub record Reached (known left : Option (List ℕ)) (line : List ℕ) (status : Status)
     (before after : Option (List ℕ)) : Type 0 where
-  pub given : List ℕ
-  pub read : Consumes (Some text) left given
-  pub fed : Fed given line Clean status before after
+  pub so_far : ReachedIn known left line status before after
 
--- how far a run has come, where its text is known
-pub record Reached
-    (known left : Option (List ℕ)) (line : List ℕ) (status : Status)
-    (before after : Option (List ℕ)) : Type 0 where
-  pub so_far : IfSome known (λ text. ReachedIn text left line status before after)
-
--- the text is what was given and what is left
-text_of : (text : List ℕ) (left : Option (List ℕ)) (given : List ℕ)
-    → Consumes (Some text) left given → (rest : List ℕ) × (text ≡ given ++ rest)
-text_of text None given h = absurd h
-text_of text (Some rest) given h = (rest, h)
-
-text_at_end : (text : List ℕ) (left : Option (List ℕ)) (given : List ℕ)
-    → Consumes (Some text) left given → IsAtEnd left → given ≡ text
-text_at_end text None given h end = absurd h
-text_at_end text (Some rest) given h end = sym (h ∙ ap (λ l. given ++ l) end ∙ append-nil given)
-
--- nothing was left, and nothing more came
-pub record ReadToEnd (left later : Option (List ℕ)) : Type 0 where
-  pub read : Consumes left later []
-  pub end : IsAtEnd later
-
--- nothing was read
-pub Reached-nothing : {known : Option (List ℕ)} {line : List ℕ} {a : Option (List ℕ)} → line ≡ []
-    → Reached known known line Clean a a
-Reached-nothing {known} {line} {a} none = record { so_far = at_first known }
+pub Reached-none : (known a : Option (List ℕ)) → Reached known known [] Clean a a
+Reached-none known a = record { so_far = at_first known }
   where
-    at_first : (known : Option (List ℕ))
-        → IfSome known (λ text. ReachedIn text known line Clean a a)
+    at_first : (known : Option (List ℕ)) → ReachedIn known known [] Clean a a
     at_first None = tt
-    at_first (Some text) = rw none (record {
-      given = [];
-      read = refl;
-      fed = Fed-nothing [] Clean a (λ k d below. absurd (omega arith));
-    })
+    at_first (Some text) = Answered-none text Clean a a (Keeps-refl a)
+
+-- a piece was read, and lines of it were answered
+pub Reached-more : (known left later : Option (List ℕ)) (piece : List ℕ) {line new : List ℕ}
+    {s t : Status} {a b c : Option (List ℕ)} → Reached known left line s a b → Consumes left later piece
+    → Answered (line ++ piece) new s t b c → Reached known later new t a c
+Reached-more None left later piece r read f = record { so_far = tt }
+Reached-more (Some text) None later piece r read f = absurd r.so_far
+Reached-more (Some text) (Some rest) None piece r read f = absurd read
+Reached-more (Some text) (Some rest) (Some more) piece {line} {new} {s} {t} {b = b} {c = c}
+    r read f =
+    let all = append_assoc line piece more ∙ ap (λ l. line ++ l) (sym read) in
+    let next : Answered (line ++ rest) (new ++ more) s t b c =
+    subst (λ l. Answered l (new ++ more) s t b c) all (Answered-more f more) in
+    record { so_far = Answered-trans r.so_far next }
+
+-- a read failed that may be tried again
+pub Reached-kept : (known left later : Option (List ℕ)) {line : List ℕ} {s : Status}
+    {a b : Option (List ℕ)} → Reached known left line s a b → Keeps left later
+    → Reached known later line s a b
+Reached-kept None left later r kept = record { so_far = tt }
+Reached-kept (Some text) None later r kept = absurd r.so_far
+Reached-kept (Some text) (Some rest) None r kept = absurd kept
+Reached-kept (Some text) (Some rest) (Some more) r kept = record { so_far = rw kept r.so_far }
+
+-- the reader failed
+pub Reached-lines : (known left : Option (List ℕ)) {line : List ℕ} {s : Status}
+    {a b : Option (List ℕ)} → Reached known left line s a b → IfSome known (λ text.
+    (k : ℕ) × (k ≤ ended_lines text) × Appends a b (replies (take k (lines text))))
+Reached-lines None left r = tt
+Reached-lines (Some text) None r = absurd r.so_far
+Reached-lines (Some text) (Some rest) r = Answered-ended r.so_far
+
+-- it stopped before the open line was answered
+Reached-left : (known left : Option (List ℕ)) {line : List ℕ} {s : Status}
+    {a b : Option (List ℕ)} → Reached known left line s a b → 0 < length line
+    → IfSome known (λ text.
+    (k : ℕ) × (k < length (lines text)) × Appends a b (replies (take k (lines text))))
+Reached-left None left r some = tt
+Reached-left (Some text) None r some = absurd r.so_far
+Reached-left (Some text) (Some rest) {line} r some =
+    Answered-left r.so_far (omega (arith, length-append line rest))
 
 -- after a run has come so far
 module _ {known left : Option (List ℕ)} {line : List ℕ} {s : Status} {a b : Option (List ℕ)}
     (r : Reached known left line s a b) where
-  -- a piece was read, and fed
-  pub Reached-fed : {later : Option (List ℕ)} {new : List ℕ} (piece : List ℕ) {t : Status}
-      {c : Option (List ℕ)} → Consumes left later piece → Fed (line ++ piece) new s t b c
-      → Reached known later new t a c
-  Reached-fed {later} piece read fed = record {
-    so_far = IfSome_then known r.so_far (λ text i. record {
-      given = i.given ++ piece;
-      read = Consumes-trans (Some text) left later i.given piece i.read read;
-      fed = Fed-trans i.fed piece fed;
-    });
-  }
-
-  -- a read failed that may be tried again
-  pub Reached-kept : {later : Option (List ℕ)} → Keeps left later
-      → Reached known later line s a b
-  Reached-kept {later} kept = record {
-    so_far = IfSome_then known r.so_far (λ text i. record {
-      given = i.given;
-      read = Consumes-kept (Some text) left later i.given i.read kept;
-      fed = i.fed;
-    });
-  }
-
-  -- the reader failed
-  pub Reached-lines : IfSome known (λ text. (k : ℕ) × (k ≤ ended_lines text)
-      × Appends a b (replies (take k (lines text))))
-  Reached-lines =
-      IfSome_then known r.so_far (λ text i.
-      let (rest, whole) = text_of text left i.given i.read in
-      subst (λ l. (k : ℕ) × (k ≤ ended_lines l) × Appends a b (replies (take k (lines l))))
-      (sym whole) (Fed-lines i.fed rest))
-
   -- a piece wasn't fed whole
-  pub Reached-stopped : (later : Option (List ℕ)) (piece : List ℕ) {c : Option (List ℕ)}
-      → Consumes left later piece → Stopped (line ++ piece) b c
+  pub Reached-stopped : (later : Option (List ℕ)) (piece : List ℕ) (c : Option (List ℕ))
+      → Consumes left later piece → Stopped (line ++ piece) s b c
       → IfSome known (λ text. (k : ℕ) × (k < length (lines text))
       × Appends a c (replies (take k (lines text))))
-  Reached-stopped later piece {c} read stopped =
-      IfSome_then known r.so_far (λ text i.
-      let all = Consumes-trans (Some text) left later i.given piece i.read read in
-      let (rest, whole) = text_of text later (i.given ++ piece) all in
-      let before = Stopped-more (Stopped-after i.fed piece stopped) rest in
-      Stopped-lines (subst (λ l. Stopped l a c) (sym whole) before))
+  Reached-stopped later piece c read h =
+      Reached-left known later (Reached-more known left later piece r read h.answered) h.more
 
   -- the last line wasn't answered
   pub Reached-unfinished : (later c : Option (List ℕ)) → Consumes left later [] → Keeps b c
       → 0 < length line → IfSome known (λ text. (k : ℕ) × (k < length (lines text))
       × Appends a c (replies (take k (lines text))))
   Reached-unfinished later c read kept some =
-      Reached-stopped later [] read (Stopped-more (Stopped-first line b c kept some) [])
+      let none : Answered (line ++ []) line s s b c =
+      subst (λ l. Answered l line s s b c) (sym (append-nil line)) (Answered-none line s b c kept) in
+      Reached-left known later (Reached-more known left later [] r read none) some
 
--- after a run has read the whole text
-module _ {known left : Option (List ℕ)} {line : List ℕ} {s : Status} {a b : Option (List ℕ)}
-    (r : Reached known left line s a b) {later : Option (List ℕ)} (e : ReadToEnd left later) where
-  Reached-whole : IfSome known (λ text. Fed text line Clean s a b)
-  Reached-whole =
-      IfSome_then known r.so_far (λ text i.
-      let all = Consumes-trans (Some text) left later i.given [] i.read e.read in
-      let whole = sym (append-nil i.given) ∙ text_at_end text later (i.given ++ []) all e.end in
-      subst (λ l. Fed l line Clean s a b) whole i.fed)
-
-  -- the open line was answered too
-  pub Reached-written : (result : Result Status BenchError) (c : Option (List ℕ))
-      → OnOk result (Appends b c (replies (lines line)))
-      → OnOk result (IfSome known (λ text. Appends a c (answers text)))
-  Reached-written (Ok t) c written =
-      IfSome_then known Reached-whole (λ text fed. Fed-answers fed c written)
-  Reached-written (Err error) c written = tt
-
-  pub Reached-status : (t : Status) → t ≡ status_after s (lines line)
-      → IfSome known (λ text. t ≡ status_of (lines text))
-  Reached-status t status = IfSome_then known Reached-whole (λ text fed. Fed-status fed status)
+-- the whole text was read, and the open line was answered
+pub Reached-end : (known left later c : Option (List ℕ)) {line : List ℕ} {s : Status}
+    {a b : Option (List ℕ)} (result : Result Status BenchError) → Reached known left line s a b
+    → Consumes left later [] → IsAtEnd later
+    → IfOk result (λ t. Appends b c (replies (lines line)) × (t ≡ status_after s (lines line)))
+    → OnOk result (IfSome known (λ text. Appends a c (answers text)))
+    × IfOk result (λ t. IfSome known (λ text. t ≡ status_of (lines text)))
+Reached-end known left later c (Err error) r read end told = (tt, tt)
+Reached-end None left later c (Ok t) r read end told = (tt, tt)
+Reached-end (Some text) None later c (Ok t) r read end told = absurd r.so_far
+Reached-end (Some text) (Some rest) None c (Ok t) r read end told = absurd read
+Reached-end (Some text) (Some rest) (Some more) c {line} {s} {a} {b} (Ok t) r read end told =
+    let none : line ++ rest ≡ line = ap (λ l. line ++ l) (read ∙ end) ∙ append-nil line in
+    let all : Answered text line Clean s a b =
+    subst (λ l. Answered text l Clean s a b) none r.so_far in
+    Answered-whole all c told.0 told.1

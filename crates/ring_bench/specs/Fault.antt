@@ -1,8 +1,8 @@
 -- SPDX-License-Identifier: ISC
 -- What was read, and why nothing was.
 use Rattle.std.specs.Prelude.{◌≡◌, Option, None, Some, Result, Ok, Err, ⊤}
-use Rattle.ring_bench.specs.declared.fault.Fault.{Fault}
-use Rattle.ring_bench.specs.declared.fault.Fault.TheVariants.{Bad, Memory}
+use Rattle.ring_bench.specs.declared.field.Fault.{Fault}
+use Rattle.ring_bench.specs.declared.field.Fault.TheVariants.{Bad, Memory}
 
 -- a value was read that shows what is said, or nothing is said and it was bad; or there was no
 -- memory to tell

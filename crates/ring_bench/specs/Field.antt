@@ -1,13 +1,17 @@
 -- SPDX-License-Identifier: ISC
 -- What one field of a line says.
-use Rattle.std.specs.Prelude.{◌==◌, ◌+◌, ◌-◌, ◌*◌, ℕ, Bool, List, [], ◌∷◌, Option, None, Some}
+use Rattle.std.specs.Prelude.{◌==◌, ◌++◌, ◌+◌, ◌-◌, ◌*◌, ℕ, Bool, List, [], ◌∷◌, Option, None, Some}
 use Rattle.std.specs.Prelude.{Result, Ok, Err, if◌then◌else◌, length, nat_le, codes}
-use Rattle.std.specs.Option.{option_map, option_and_then}
+use Rattle.std.specs.Option.{option_and_then}
 use Rattle.std.specs.List.{slice_split}
 use Rattle.std.specs.Str.{bytes_eq}
 use Rattle.std.specs.Char.{is_ascii_digit}
 use Rattle.hex.specs.Hex.{decode_of}
 use Rattle.hex.specs.declared.error.FromHexError.{FromHexError}
+
+infixl 10 ◌>>=◌
+abbrev pub ◌>>=◌ : {X Y : Type 0} → Option X → (X → Option Y) → Option Y
+found >>= next = option_and_then next found
 
 -- whether a field is this word
 unfoldable pub is_word : List ℕ → List ℕ → Bool
@@ -28,15 +32,16 @@ bytes_of field =
 abbrev pub is_comma : ℕ → Bool
 is_comma b = b == 44
 
--- the bytes of each part, where each is an even number of hex digits
-abbrev pub parts_bytes : List (List ℕ) → Option (List (List ℕ))
+-- the bytes of all parts, joined, where each is an even number of hex digits
+abbrev pub parts_bytes : List (List ℕ) → Option (List ℕ)
 parts_bytes [] = Some []
-parts_bytes (part ∷ parts) =
-    option_and_then (λ bytes. option_map (λ others. bytes ∷ others) (parts_bytes parts))
-    (value_of (decode_of part))
+parts_bytes (part ∷ parts) = do
+  bytes ← value_of (decode_of part)
+  others ← parts_bytes parts
+  Some (bytes ++ others)
 
--- PIECES: `-` is no piece, and else parts of hex digits stand with commas between them
-unfoldable pub pieces_of : List ℕ → Option (List (List ℕ))
+-- PIECES, joined: `-` is no piece, and else parts of hex digits stand with commas between them
+unfoldable pub pieces_of : List ℕ → Option (List ℕ)
 pieces_of field =
     if is_word field (codes "-") then Some []
     else if length field == 0 then None

@@ -3,9 +3,8 @@ pub mod Fault
 pub mod Digits
 pub mod Field
 pub mod Algorithm
-pub mod Pieces
-pub mod Line
 pub mod Request
+pub mod Line
 pub mod Reply
 pub mod Text
 pub mod Outcome

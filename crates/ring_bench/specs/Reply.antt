@@ -5,8 +5,8 @@ use Rattle.std.specs.Fmt.{decimal}
 use Rattle.hex.specs.Hex.{encode_lower}
 use Rattle.ring_bench.specs.declared.answers.LineKind.{LineKind}
 use Rattle.ring_bench.specs.declared.answers.LineKind.TheVariants.{Nothing, Answered, Bad}
-use Rattle.ring_bench.specs.Line.{Meaning, nothing, bad, asks, line_of}
-use Rattle.ring_bench.specs.Request.{Response, given, verified, refused, answer_of}
+use Rattle.ring_bench.specs.Line.{Meaning, nothing, bad, answered, line_of}
+use Rattle.ring_bench.specs.Request.{Response, given, verified, refused}
 
 -- a text and the line feed that ends it
 abbrev pub ended : List ℕ → List ℕ
@@ -34,12 +34,12 @@ text_of refused = codes "refused"
 abbrev pub reply_of : Meaning → List ℕ
 reply_of nothing = []
 reply_of bad = ended (codes "bad line")
-reply_of (asks asked) = ended (text_of (answer_of asked))
+reply_of (answered answer) = ended (text_of answer)
 
 abbrev pub kind_of : Meaning → LineKind
 kind_of nothing = Nothing
 kind_of bad = Bad
-kind_of (asks asked) = Answered
+kind_of (answered answer) = Answered
 
 -- the reply to a line
 abbrev pub reply : List ℕ → List ℕ

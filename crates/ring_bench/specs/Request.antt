@@ -1,8 +1,7 @@
 -- SPDX-License-Identifier: ISC
 -- What a request is answered.
-use Rattle.std.specs.Prelude.{ℕ, ◌+◌, Bool, List, length}
-use Rattle.std.specs.Prelude.{if◌then◌else◌}
-use Rattle.std.specs.List.{flat_map}
+use Rattle.std.specs.Prelude.{ℕ, ◌+◌, ◌&&◌, Bool, List, length, if◌then◌else◌}
+use Rattle.std.specs.Int.NonZero.{non_zero_u32_get}
 use Rattle.std.specs.Str.{bytes_eq}
 use Rattle.ring.specs.Cost.{derive_blocks, fill_blocks, key_blocks, padded_blocks}
 use Rattle.ring.specs.Digest.{digest_of}
@@ -11,12 +10,11 @@ use Rattle.ring.specs.Hmac.{hmac_digest, hmac_of}
 use Rattle.ring.specs.Limits.{can_derive, can_expand, can_verify, fits, tag_input_len}
 use Rattle.ring.specs.Pbkdf2.{dk, pbkdf2_digest}
 use Rattle.ring.specs.declared.digest.algorithm.Algorithm.{Algorithm as DigestAlgorithm}
-use Rattle.ring.specs.declared.hmac.key.Algorithm.{Algorithm as HmacAlgorithm}
-use Rattle.ring.specs.declared.hkdf.algorithm.Algorithm.{Algorithm as HkdfAlgorithm}
-use Rattle.ring.specs.declared.pbkdf2.algorithm.Algorithm.{Algorithm as Pbkdf2Algorithm}
+use Rattle.ring_bench.specs.declared.line.Request.{Request}
+use Rattle.ring_bench.specs.declared.line.Request.TheVariants.{Digest, Hmac, HmacVerify, Hkdf}
+use Rattle.ring_bench.specs.declared.line.Request.TheVariants.{Pbkdf2, Pbkdf2Verify}
 use Rattle.ring_bench.specs.declared.request.Answer.{Answer}
 use Rattle.ring_bench.specs.declared.request.Answer.TheVariants.{Given, Verified, Refused}
-use Rattle.ring_bench.specs.Line.{Asked, digest, hmac, hmac_verify, hkdf, pbkdf2, pbkdf2_verify}
 
 -- An answer: bytes, or whether the value given is the one asked for, both with the number of blocks
 -- of the whole line; or that a call refused the request.
@@ -25,88 +23,66 @@ pub data Response : Type 0 where
   verified : Bool → ℕ → Response
   refused : Response
 
--- the bytes of all pieces, in order
-abbrev pub concatenated : List (List ℕ) → List ℕ
-concatenated pieces = flat_map (λ piece. piece) pieces
-
--- the answer, where the lengths fit
+-- the answer, where the lengths are within their limits
 abbrev pub when : Bool → Response → Response
-when fits answer = if fits then answer else refused
+when within answer = if within then answer else refused
 
--- the answer, where n bytes are no more than a message may have
-abbrev pub within : DigestAlgorithm → ℕ → Response → Response
-within a n answer = when (fits a n) answer
+-- the digest of the message
+unfoldable pub digest_answer : DigestAlgorithm → List ℕ → Response
+digest_answer a m =
+    when (fits a (length m)) (given (digest_of a m) (padded_blocks a (length m)))
 
--- the digest of the joined pieces
-unfoldable pub digest_answer : DigestAlgorithm → List (List ℕ) → Response
-digest_answer a pieces =
-    within a (length (concatenated pieces))
-    (given (digest_of a (concatenated pieces)) (padded_blocks a (length (concatenated pieces))))
+-- whether a key and a message are within the limits of a tag
+abbrev pub can_sign : DigestAlgorithm → (k m : List ℕ) → Bool
+can_sign a k m = fits a (length k) && fits a (tag_input_len a (length m))
 
--- the tag of the message m under the key k, after so many blocks
-unfoldable pub tag_answer : DigestAlgorithm → List ℕ → List ℕ → ℕ → Response
-tag_answer a k m before =
-    within a (tag_input_len a (length m))
-    (given (hmac_of a k m) (before + (padded_blocks a (length m) + 1)))
+-- the blocks of a key, and of the tag of a message under it
+abbrev pub tag_blocks : DigestAlgorithm → (k m : List ℕ) → ℕ
+tag_blocks a k m = key_blocks a (length k) + (padded_blocks a (length m) + 1)
 
--- whether t is the whole tag of the message m under the key k, after so many blocks
-unfoldable pub verdict_answer : DigestAlgorithm → List ℕ → List ℕ → List ℕ → ℕ → Response
-verdict_answer a k m t before =
-    within a (tag_input_len a (length m))
-    (verified (bytes_eq t (hmac_of a k m)) (before + (padded_blocks a (length m) + 1)))
+-- the tag of the message m under the key k
+unfoldable pub tag_answer : DigestAlgorithm → (k m : List ℕ) → Response
+tag_answer a k m = when (can_sign a k m) (given (hmac_of a k m) (tag_blocks a k m))
 
--- the tag of the joined pieces under a key of these bytes
-unfoldable pub hmac_answer : HmacAlgorithm → List ℕ → List (List ℕ) → Response
-hmac_answer a k pieces =
-    within (hmac_digest a) (length k)
-    (tag_answer (hmac_digest a) k (concatenated pieces) (key_blocks (hmac_digest a) (length k)))
+-- whether t is the whole tag of the message m under the key k
+unfoldable pub verdict_answer : DigestAlgorithm → (k m t : List ℕ) → Response
+verdict_answer a k m t =
+    when (can_sign a k m) (verified (bytes_eq t (hmac_of a k m)) (tag_blocks a k m))
 
--- whether t is the whole tag of the joined pieces under a key of these bytes
-unfoldable pub hmac_verify_answer : HmacAlgorithm → List ℕ → List (List ℕ) → List ℕ → Response
-hmac_verify_answer a k pieces t =
-    within (hmac_digest a) (length k)
-    (verdict_answer (hmac_digest a) k (concatenated pieces) t
-    (key_blocks (hmac_digest a) (length k)))
-
--- n bytes of the output of the PRK k with this info, after so many blocks
-unfoldable pub output_answer : DigestAlgorithm → (k info : List ℕ) → (n before : ℕ) → Response
-output_answer a k info n before =
-    when (can_expand a (length info) n)
-    (given (okm a k info n) (before + fill_blocks a (length info) n))
-
--- n bytes of the output of the PRK that is extracted from the secret with the salt; the info is the
--- joined pieces
-unfoldable pub hkdf_answer : HkdfAlgorithm → (salt secret : List ℕ) → List (List ℕ) → ℕ → Response
-hkdf_answer a salt secret pieces n =
-    within (hkdf_digest a) (length salt)
-    (within (hkdf_digest a) (tag_input_len (hkdf_digest a) (length secret))
-    (output_answer (hkdf_digest a) (hmac_of (hkdf_digest a) salt secret) (concatenated pieces) n
-    (key_blocks (hkdf_digest a) (length salt)
-    + (padded_blocks (hkdf_digest a) (length secret) + 3))))
+-- n bytes of the output with this info of the PRK that is extracted from the secret with the salt;
+-- its key has two blocks
+unfoldable pub output_answer : DigestAlgorithm → (salt secret info : List ℕ) → ℕ → Response
+output_answer a salt secret info n =
+    when (can_sign a salt secret && can_expand a (length info) n)
+    (given (okm a (hmac_of a salt secret) info n)
+    (tag_blocks a salt secret + 2 + fill_blocks a (length info) n))
 
 -- n bytes derived from the secret p and the salt s by c iterations
-unfoldable pub pbkdf2_answer : Pbkdf2Algorithm → ℕ → (p s : List ℕ) → ℕ → Response
-pbkdf2_answer a c p s n =
-    when (can_derive (pbkdf2_digest a) (length p) (length s) n)
-    (given (dk (pbkdf2_digest a) p s c n)
-    (derive_blocks (pbkdf2_digest a) (length p) (length s) c n))
+unfoldable pub key_answer : DigestAlgorithm → ℕ → (p s : List ℕ) → ℕ → Response
+key_answer a c p s n =
+    when (can_derive a (length p) (length s) n)
+    (given (dk a p s c n) (derive_blocks a (length p) (length s) c n))
 
 -- whether the value, which is not empty, is derived from the secret p and the salt s by c
 -- iterations
-unfoldable pub pbkdf2_verify_answer : Pbkdf2Algorithm → ℕ → (p s value : List ℕ) → Response
-pbkdf2_verify_answer a c p s value =
-    when (can_verify (pbkdf2_digest a) (length p) (length s) (length value))
-    (verified (bytes_eq value (dk (pbkdf2_digest a) p s c (length value)))
-    (derive_blocks (pbkdf2_digest a) (length p) (length s) c (length value)))
+unfoldable pub key_verdict : DigestAlgorithm → ℕ → (p s value : List ℕ) → Response
+key_verdict a c p s value =
+    when (can_verify a (length p) (length s) (length value))
+    (verified (bytes_eq value (dk a p s c (length value)))
+    (derive_blocks a (length p) (length s) c (length value)))
 
--- what a request is answered
-unfoldable pub answer_of : Asked → Response
-answer_of (digest a pieces) = digest_answer a pieces
-answer_of (hmac a k pieces) = hmac_answer a k pieces
-answer_of (hmac_verify a k pieces t) = hmac_verify_answer a k pieces t
-answer_of (hkdf a salt secret pieces n) = hkdf_answer a salt secret pieces n
-answer_of (pbkdf2 a c p s n) = pbkdf2_answer a c p s n
-answer_of (pbkdf2_verify a c p s value) = pbkdf2_verify_answer a c p s value
+-- what a parsed request is answered
+abbrev pub answer_of : {Z : Type 0} → Request Z → Response
+answer_of (Digest a pieces) = digest_answer a pieces.bytes.items
+answer_of (Hmac a key pieces) = tag_answer (hmac_digest a) key.items pieces.bytes.items
+answer_of (HmacVerify a key pieces tag) =
+    verdict_answer (hmac_digest a) key.items pieces.bytes.items tag.items
+answer_of (Hkdf a salt secret info n) =
+    output_answer (hkdf_digest a) salt.items secret.items info.bytes.items n
+answer_of (Pbkdf2 a c secret salt n) =
+    key_answer (pbkdf2_digest a) (non_zero_u32_get c) secret.items salt.items n
+answer_of (Pbkdf2Verify a c secret salt value) =
+    key_verdict (pbkdf2_digest a) (non_zero_u32_get c) secret.items salt.items value.items
 
 -- what a computed answer says
 abbrev pub response : {Z : Type 0} → Answer Z → Response

@@ -5,8 +5,7 @@ ghost use Rattle.ring_bench.specs.Algorithm.{algorithm_of, digest_algorithm_of, 
 ghost use Rattle.ring_bench.specs.Algorithm.{hmac_algorithm_of, pbkdf2_algorithm_of};
 ghost use Rattle.ring_bench.specs.Fault.{ReadsAlone};
 
-use crate::fault::Fault;
-use crate::field::is_word;
+use crate::field::{Fault, is_word};
 use ring::digest::{self, SHA1_FOR_LEGACY_USE_ONLY, SHA256, SHA384, SHA512, SHA512_256};
 use ring::hkdf::{self, HKDF_SHA1_FOR_LEGACY_USE_ONLY, HKDF_SHA256, HKDF_SHA384, HKDF_SHA512};
 use ring::hmac::{self, HMAC_SHA1_FOR_LEGACY_USE_ONLY, HMAC_SHA256, HMAC_SHA384, HMAC_SHA512};

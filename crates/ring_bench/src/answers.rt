@@ -1,15 +1,13 @@
 // SPDX-License-Identifier: ISC
-//! Parses a line, runs it and formats the answer.
+//! Parses a line, runs it and formats the answer. How a run over lines ends stands here too.
 ghost use Rattle.std.specs.Prelude.{◌≡◌, ◌++◌, OnOk, IfOk, IfErr, OnErr};
 ghost use Rattle.std.specs.String.{string_bytes};
-ghost use Rattle.ring_bench.specs.declared.status.BenchError.TheVariants.{Memory};
-ghost use Rattle.ring_bench.specs.Line.{asked};
+ghost use Rattle.ring_bench.specs.declared.answers.BenchError.TheVariants.{Memory};
 ghost use Rattle.ring_bench.specs.Reply.{counted, ended, hex_of, kind, reply, text_of};
 ghost use Rattle.ring_bench.specs.Request.{answer_of, response};
 
 use crate::line::{self, Line, Request};
 use crate::request::{self, Answer};
-use crate::status::BenchError;
 use std::alloc::{AllocError, Allocator};
 
 /// What a line was.
@@ -21,6 +19,35 @@ pub enum LineKind {
     Answered,
     /// A line of another form.
     Bad,
+}
+
+/// How a run went that read to the end.
+#[derive(Clone, Copy, Debug, PartialEq, Eq)]
+pub enum Status {
+    /// The text has no bad line.
+    Clean,
+    /// The text has a bad line.
+    SomeBad,
+}
+
+/// Why a run stopped.
+#[derive(Clone, Copy, Debug, PartialEq, Eq)]
+pub enum BenchError {
+    /// Out of memory.
+    Memory,
+    /// A read failed.
+    Read,
+    /// A write or the flush failed.
+    Write,
+}
+
+/// A refused growth is `Memory`.
+impl From<AllocError> for BenchError {
+    ghost from_gives = { λ _ error. error ≡ Memory };
+
+    fn from(_error: AllocError) -> BenchError {
+        BenchError::Memory
+    }
 }
 
 /// Appends the reply to `line` to `out` as [`answer`](crate::answer) does, with memory of any
@@ -55,7 +82,7 @@ fn append_response<A: Allocator + Copy, B: Allocator>(
     out: &mut Vec<u8, B>,
 ) -> Result<(), BenchError>
     ensures ok { OnOk result (out.new.items
-        ≡ out.old.items ++ ended (text_of (answer_of (asked request.now)))) }
+        ≡ out.old.items ++ ended (text_of (answer_of request.now))) }
     ensures memory { IfErr result (λ error. error ≡ Memory) }
     ensures unchanged { OnErr result (out.new.items ≡ out.old.items) }
 {

@@ -1,19 +1,20 @@
 // SPDX-License-Identifier: ISC
-//! What one field of a line says.
-ghost use Rattle.std.specs.Prelude.{◌≡◌, ◌++◌, [], ◌∷◌, List, ℕ, Some, None, IsErrOf, OnOk, length};
+//! What one field of a line says, and how a text is cut into fields.
+ghost use Rattle.std.specs.Prelude.{◌≡◌, ◌==◌, ◌++◌, [], ◌∷◌, List, ℕ, Some, None, IfOk, IsErrOf};
+ghost use Rattle.std.specs.Prelude.{OnOk, length, map};
+ghost use Rattle.std.specs.List.{slice_split, sum};
 ghost use Rattle.std.specs.Int.NonZero.{non_zero_u32_get};
 ghost use Rattle.hex.specs.Hex.{decode_of};
 ghost use Rattle.ring_bench.specs.Fault.{Reads, ReadsAlone};
 ghost use Rattle.ring_bench.specs.Field.{is_word, bytes_of, pieces_of, value_of, decimal_of, up_to};
 ghost use Rattle.ring_bench.specs.Field.{len_of, iterations_of};
-ghost use Rattle.ring_bench.specs.Pieces.{pieces_listed};
+ghost use Rattle.ring_bench.specs.declared.field.Fault.TheVariants.{Memory};
+ghost use Rattle.ring.specs.Pieces.{joined};
 
 use crate::digits::decode_digits;
-use crate::fault::Fault;
-use crate::pieces::Pieces;
 use hex::FromHexError;
 use ring_text::cut_at;
-use std::alloc::Allocator;
+use std::alloc::{AllocError, Allocator};
 use std::num::NonZeroU32;
 
 /// The greatest LEN.
@@ -21,6 +22,67 @@ const MAX_LEN: u32 = 65_536;
 
 /// From how many digits on a table is made for them.
 const MIN_TABLE_DIGITS: usize = 128;
+
+/// Why nothing was read.
+#[derive(Clone, Copy, Debug, PartialEq, Eq)]
+pub enum Fault {
+    /// The field is malformed.
+    Bad,
+    /// Out of memory.
+    Memory,
+}
+
+impl From<AllocError> for Fault {
+    ghost from_gives = { λ _ fault. fault ≡ Memory };
+
+    fn from(_error: AllocError) -> Fault {
+        Fault::Memory
+    }
+}
+
+/// The pieces of a field: the bytes of all, one behind the other, and how many each has. A list of
+/// lists would take several times the memory.
+#[derive(Drop)]
+pub struct Pieces<A: Allocator> {
+    pub bytes: Vec<u8, A>,
+    lens: Vec<usize, A>,
+    ghost whole: { sum lens.items ≡ length bytes.items },
+}
+
+impl<A: Allocator> Pieces<A> {
+    /// The pieces, one by one.
+    pub fn views(&self, alloc: A) -> Result<Vec<&[u8], A>, AllocError>
+        ensures { IfOk result (λ views. joined views.items ≡ self.now.bytes.items) }
+    {
+        let mut views = Vec::new(alloc);
+        let mut rest = self.bytes.as_slice();
+        'pieces: for len in &self.lens {
+            let (piece, behind) = rest.split_at(*len);
+            views.push(piece)?;
+            rest = behind;
+        }
+        Ok(views)
+    }
+}
+
+/// The parts of a text between such bytes.
+pub fn parts_between<A: Allocator>(
+    alloc: A,
+    text: &[u8],
+    byte: u8,
+) -> Result<Vec<&[u8], A>, AllocError>
+    ensures { IfOk result (λ parts. map (λ part. part.now) parts.items
+        ≡ slice_split (λ b. b == byte) text.now) }
+{
+    let mut parts = Vec::new(alloc);
+    let mut rest = text;
+    'cuts: while let Some((part, behind)) = cut_at(rest, byte) {
+        parts.push(part)?;
+        rest = behind;
+    }
+    parts.push(rest)?;
+    Ok(parts)
+}
 
 /// Whether a field is this word.
 #[tactic(auto, unfolding(crate::specs::Field::is_word))]
@@ -44,10 +106,10 @@ pub fn bytes_in<A: Allocator>(alloc: A, field: &[u8]) -> Result<Vec<u8, A>, Faul
     decoded(alloc, field)
 }
 
-/// The bytes of a field PIECES.
+/// The pieces of a field PIECES.
 #[tactic(auto, unfolding(crate::specs::Field::pieces_of))]
 pub fn pieces_in<A: Allocator + Copy>(alloc: A, field: &[u8]) -> Result<Pieces<A>, Fault>
-    ensures { Reads pieces_listed (pieces_of field.now) result }
+    ensures { Reads (λ pieces. pieces.bytes.items) (pieces_of field.now) result }
 {
     let mut bytes = Vec::new(alloc);
     let mut lens = Vec::new(alloc);
@@ -57,12 +119,10 @@ pub fn pieces_in<A: Allocator + Copy>(alloc: A, field: &[u8]) -> Result<Pieces<A
     if field.is_empty() {
         return Err(Fault::Bad);
     }
-    let mut rest = field;
-    'parts: while let Some((part, behind)) = cut_at(rest, b',') {
+    let parts = parts_between(alloc, field, b',')?;
+    'parts: for part in &parts {
         append_piece(alloc, &mut bytes, &mut lens, part)?;
-        rest = behind;
     }
-    append_piece(alloc, &mut bytes, &mut lens, rest)?;
     Ok(Pieces { bytes, lens })
 }
 

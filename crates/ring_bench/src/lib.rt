@@ -2,8 +2,8 @@
 //! Lines of test vectors for `ring`, and the answers to them.
 //!
 //! `docs/LINES.md` describes the lines, the answers and how a program over these calls ends. The
-//! definitions `line_of`, `answer_of` and `reply` (`specs/`) are that format. Here the second line
-//! answers the first:
+//! definitions `line_of` and `reply` (`specs/`) are that format. Here the second line answers the
+//! first:
 //!
 //! ```text
 //! digest SHA256 68656c6c6f,2c20,776f726c64
@@ -24,17 +24,13 @@ use std::io::{ErrorKind, Read, Write};
 mod algorithm;
 mod answers;
 mod digits;
-mod fault;
 mod field;
 mod line;
-mod pieces;
 mod request;
 mod session;
-mod status;
 
-pub use crate::answers::{LineKind, answer_in};
+pub use crate::answers::{BenchError, LineKind, Status, answer_in};
 use crate::session::Session;
-pub use crate::status::{BenchError, Status};
 
 /// How many bytes a run asks its reader for at once.
 const BUFFER_LEN: usize = 4096;

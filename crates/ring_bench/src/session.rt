@@ -7,8 +7,7 @@ ghost use Rattle.ring_bench.specs.Text.{lines, replies, without_return};
 ghost use Rattle.ring_bench.specs.Reply.{reply};
 ghost use Rattle.ring_bench.specs.Session.{HasNoLineFeed, Fed, Stopped, status_after};
 
-use crate::answers::{LineKind, answer_in};
-use crate::status::{BenchError, Status};
+use crate::answers::{BenchError, LineKind, Status, answer_in};
 use ring_text::cut_at;
 use std::alloc::Allocator;
 use std::io::Write;
@@ -54,7 +53,7 @@ impl<A: Allocator + Copy> Session<A> {
         ensures ok { OnOk result (Fed (self.old.line.items ++ piece.now) self.new.line.items
             self.old.status self.new.status (W.contents writer.old) (W.contents writer.new)) }
         ensures memory { IsErrOf result BenchError.Memory →
-            Stopped (self.old.line.items ++ piece.now)
+            Stopped (self.old.line.items ++ piece.now) self.old.status
             (W.contents writer.old) (W.contents writer.new) }
         ensures no_read { IfErr result (λ error. error ≢ BenchError.Read) }
     {
@@ -73,10 +72,9 @@ impl<A: Allocator + Copy> Session<A> {
     /// Answers the line that is still open, if it isn't empty.
     pub fn finish<W: Write>(mut self, writer: &mut W) -> Result<Status, BenchError>
         requires { HasNoLineFeed self.line.items }
-        ensures written { OnOk result (Appends (W.contents writer.old) (W.contents writer.new)
-            (replies (lines self.line.items))) }
-        ensures status { IfOk result (λ status.
-            status ≡ status_after self.status (lines self.line.items)) }
+        ensures ok { IfOk result (λ status. Appends (W.contents writer.old) (W.contents writer.new)
+            (replies (lines self.line.items))
+            × (status ≡ status_after self.status (lines self.line.items))) }
         ensures memory { IsErrOf result BenchError.Memory →
             Keeps (W.contents writer.old) (W.contents writer.new) }
         ensures line { IsErrOf result BenchError.Memory → 0 < length self.line.items }

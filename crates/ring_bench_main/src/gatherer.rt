@@ -1,5 +1,6 @@
 // SPDX-License-Identifier: ISC
-//! Bytes that wait to be written, so that many answers are one write.
+//! Bytes that wait to be written, so that many answers are one write, and the reader and the writer
+//! over them that a run wants.
 ghost use Rattle.std.specs.Prelude.{◌≡◌, ◌↔◌, ◌≤◌, ◌+◌, ◌-◌, [], ◌++◌, IsTrue, IsFalse, IsErr};
 ghost use Rattle.std.specs.Prelude.{OnOk, IfErr, length};
 ghost use Rattle.std.specs.Io.{ReadsAtMost};
@@ -7,8 +8,9 @@ ghost use Rattle.std.specs.Io.KnownBytes.{Appends, ReadConsumes};
 ghost use Rattle.ring_bench_main.specs.declared.gatherer.TheConstants.{ROOM};
 
 use ring_bench::{BenchError, Status};
+use std::cell::RefCell;
 use std::io;
-use std::io::{ErrorKind, Read, Write};
+use std::io::{ErrorKind, Read, Stdin, Stdout, Write};
 
 /// How many bytes wait at most: the answers to the short lines of one read mostly fit.
 pub const ROOM: usize = 32_768;
@@ -175,4 +177,69 @@ fn write_all<W: Write>(
         return Err(BenchError::Write);
     }
     Ok(())
+}
+
+/// Standard input; each read first flushes the answers.
+#[derive(Drop)]
+pub struct Input<'a> {
+    stdin: Stdin,
+    answers: &'a RefCell<Gatherer<Stdout>>,
+}
+
+impl<'a> Input<'a> {
+    /// Standard input, and the answers that go out before each read of it.
+    pub fn new(stdin: Stdin, answers: &'a RefCell<Gatherer<Stdout>>) -> Input<'a> {
+        Input { stdin, answers }
+    }
+}
+
+impl Read for Input<'_> {
+    fn read(&mut self, buf: &mut [u8]) -> io::Result<usize> {
+        match self.answers.try_borrow_mut() {
+            Ok(mut answers) => answers.read_behind(&mut self.stdin, buf),
+            Err(_) => Err(io::Error::from(ErrorKind::Other)),
+        }
+    }
+}
+
+/// What gathers the answers for standard output.
+#[derive(Drop)]
+pub struct Output<'a> {
+    answers: &'a RefCell<Gatherer<Stdout>>,
+}
+
+impl<'a> Output<'a> {
+    /// A writer to these answers.
+    pub fn new(answers: &'a RefCell<Gatherer<Stdout>>) -> Output<'a> {
+        Output { answers }
+    }
+}
+
+impl Write for Output<'_> {
+    fn write(&mut self, buf: &[u8]) -> io::Result<usize> {
+        match self.answers.try_borrow_mut() {
+            Ok(mut answers) => {
+                told(answers.gather(buf))?;
+                Ok(buf.len())
+            }
+            Err(_) => Err(io::Error::from(ErrorKind::Other)),
+        }
+    }
+
+    fn flush(&mut self) -> io::Result<()> {
+        match self.answers.try_borrow_mut() {
+            Ok(mut answers) => told(answers.write_out()),
+            Err(_) => Err(io::Error::from(ErrorKind::Other)),
+        }
+    }
+}
+
+/// A failed write as an error of a stream.
+fn told(written: Result<(), BenchError>) -> io::Result<()>
+    ensures { IsErr result ↔ IsErr written }
+{
+    match written {
+        Ok(()) => Ok(()),
+        Err(_) => Err(io::Error::from(ErrorKind::Other)),
+    }
 }

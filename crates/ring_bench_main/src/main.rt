@@ -8,8 +8,7 @@
 //! stopped, with the reason on standard error. Arguments are ignored.
 #![tactic(auto)]
 
-use crate::gatherer::Gatherer;
-use crate::streams::{Input, Output};
+use crate::gatherer::{Gatherer, Input, Output};
 use ring_bench::{BenchError, Status, outcome, run};
 use std::alloc::Global;
 use std::cell::RefCell;
@@ -17,7 +16,6 @@ use std::io::{Stdin, Stdout};
 use std::process::ExitCode;
 
 mod gatherer;
-mod streams;
 
 /// As `run`, over standard input and standard output.
 fn run_gathered(alloc: Global, stdin: Stdin, stdout: Stdout) -> Result<Status, BenchError> {

@@ -15,9 +15,9 @@ use Rattle.ring.proofs.lemmas.pbkdf2.Rounds.{length-dk}
 use Rattle.ring.specs.Prelude.{dk}
 use Rattle.ring.specs.declared.digest.algorithm.TheConstants.{SHA256}
 use Rattle.ring_password_hash.specs.Scheme.{algorithm_of, keeps_keys, kept_len_of, names_len}
-use Rattle.ring_password_hash.specs.Stored.{Derives, IsParts, IsStored, Keeps, Makes, derived_by}
+use Rattle.ring_password_hash.specs.Stored.{Derives, IsKept, IsParts, IsStored, Makes, derived_by}
 use Rattle.ring_password_hash.specs.Stored.{derived_of, is_past, is_salt, keys_of, new_parts}
-use Rattle.ring_password_hash.specs.Stored.{new_text, parameters_where, parts_of, parts_text}
+use Rattle.ring_password_hash.specs.Stored.{parameters_where, parts_of, parts_text}
 use Rattle.ring_password_hash.specs.Stored.{server_key_of, stored_key_of, text_of}
 use Rattle.ring_password_hash.specs.Text.{IsCount, IsLen}
 use Rattle.ring_password_hash.specs.declared.scheme.Scheme.{Scheme}
@@ -25,6 +25,7 @@ use Rattle.ring_password_hash.specs.declared.stored.Stored.{Stored}
 use Rattle.ring_password_hash.specs.declared.text.Parameters.{Parameters}
 use Rattle.ring_password_hash.specs.declared.text.Parameters.TheVariants.{Count}
 use Rattle.ring_password_hash.proofs.Heads.{keys_len, len_few, usual_len}
+use Rattle.ring_password_hash.proofs.Writing.{length-parts_text}
 
 -- the length of what is kept
 length-keys_of : (salted : List ℕ) → length (keys_of salted) ≡ 64
@@ -46,12 +47,21 @@ length-derived_of k p s c =
     length-derived_by (keeps_keys k) k p s c (kept_len_of k)
     (keys_len k Count (kept_len_of k) refl)
 
+-- a new value's text is as long as any that keeps as many bytes
+pub length-new : (k : Scheme) (p s : List ℕ) (c : NonZeroU32) {h : List ℕ}
+    → length h ≡ kept_len_of k → length (text_of (new_parts k p s c))
+    ≡ length (parts_text k (parameters_where (names_len k)) c s h)
+length-new k p s c {h} e =
+    length-parts_text k (parameters_where (names_len k)) c s
+    (derived_of k p s (non_zero_u32_get c) (kept_len_of k)) h
+    (length-derived_of k p s (non_zero_u32_get c) ∙ sym e)
+
 -- what is kept of a new value
 pub kept_new : (room : ℕ) (k : Scheme) (p s : List ℕ) (c : NonZeroU32) {n : ℕ} {new : List ℕ}
     {before after : Counts} → n ≡ kept_len_of k → is_salt k s ≡ true
     → is_past room (text_of (new_parts k p s c)) ≡ false → length s ≤ 1024
     → Derives k p s (non_zero_u32_get c) n new before after (Ok tt)
-    → Keeps room k p s c new before after (Ok tt)
+    → IsKept room k p s c new before after
 kept_new room k p s c {new = new} {before = before} {after = after} len salt past few derives =
     let d : Derives k p s (non_zero_u32_get c) (kept_len_of k) new before after (Ok tt) =
     subst (λ (n : ℕ). Derives k p s (non_zero_u32_get c) n new before after (Ok tt)) len derives in
@@ -75,7 +85,8 @@ pub record IsFresh (v : Stored) (s h : List ℕ) : Type 0 where
 -- a new value has a text
 new_stands : (v : Stored) (room : ℕ) {s h : List ℕ} → IsFresh v s h
     → IsParts v.scheme (parameters_where (names_len v.scheme)) v.iterations s h → length s ≤ 1024
-    → is_past room (new_text v.scheme s v.iterations h) ≡ false → IsStored v
+    → is_past room (parts_text v.scheme (parameters_where (names_len v.scheme)) v.iterations s h)
+    ≡ false → IsStored v
 new_stands v room {s} {h} fresh is few fits =
     let p = v.parameters in
     let k = v.scheme in
@@ -97,13 +108,14 @@ new_stands v room {s} {h} fresh is few fits =
     }
 
 pub new_made : {v : Stored} {room : ℕ} {p s new : List ℕ} {before after : Counts}
-    → Keeps room v.scheme p s v.iterations new before after (Ok tt) → IsFresh v s new
+    → IsKept room v.scheme p s v.iterations new before after → IsFresh v s new
     → IsCount v.iterations → IsBytes s → IsBytes new
     → Makes room v.scheme p s v.iterations before after (Ok v)
 new_made {v} {room} {p} {s} {new} keeps fresh count bytes kept_bytes =
     let k = v.scheme in
     let long : length new ≡ kept_len_of k = ap length keeps.kept ∙ length-derived_of k p s _ in
-    let fits : is_past room (new_text k s v.iterations new) ≡ false = rw keeps.kept keeps.within in
+    let fits : is_past room (parts_text k (parameters_where (names_len k)) v.iterations s new)
+    ≡ false = rw keeps.kept keeps.within in
     let is : IsParts k (parameters_where (names_len k)) v.iterations s new = record {
       iterations = count;
       salt = keeps.salt;
@@ -120,6 +132,6 @@ new_made {v} {room} {p} {s} {new} keeps fresh count bytes kept_bytes =
       kept = whole i;
     } in
     record {
-      answer = (sym keeps.status, same, new_stands v room fresh is keeps.few fits);
+      answer = (keeps.status, same, new_stands v room fresh is keeps.few fits);
       cost = keeps.cost;
     }

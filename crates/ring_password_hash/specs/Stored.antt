@@ -228,10 +228,6 @@ new_parts k p s c = record {
 abbrev pub is_past : (room : ℕ) → List ℕ → Bool
 is_past room text = nat_lt room (length text) || nat_lt 1024 (length text)
 
--- its text, by what it keeps
-abbrev pub new_text : Scheme → (s : List ℕ) → (c : NonZeroU32) → (kept : List ℕ) → List ℕ
-new_text k s c kept = parts_text k (parameters_where (names_len k)) c s kept
-
 -- whether there is a new value, for a buffer of `room` bytes, or why there is none
 abbrev pub new_status : (room : ℕ) → Scheme → (p s : List ℕ) → NonZeroU32
     → Result (Unit {0}) HashError
@@ -248,14 +244,22 @@ new_meter k p s c (Ok h) m = raised m (kept_blocks k (length p) (length s) c (ke
 new_meter k p s c (Err error) m = m
 
 -- what is kept of a new value is written, at this cost
-pub record Keeps (room : ℕ) (k : Scheme) (p s : List ℕ) (c : NonZeroU32) (new : List ℕ)
-    (before after : Counts) (r : Result (Unit {0}) HashError) : Type 0 where
-  pub status : r ≡ new_status room k p s c
-  pub kept : OnOk r (new ≡ derived_of k p s (non_zero_u32_get c) (kept_len_of k))
-  pub salt : OnOk r (is_salt k s ≡ true)
-  pub within : OnOk r (is_past room (text_of (new_parts k p s c)) ≡ false)
-  pub few : OnOk r (length s ≤ MAX_TEXT_LEN)
-  pub cost : after ≡ new_meter k p s (non_zero_u32_get c) r before
+pub record IsKept (room : ℕ) (k : Scheme) (p s : List ℕ) (c : NonZeroU32) (new : List ℕ)
+    (before after : Counts) : Type 0 where
+  pub status : new_status room k p s c ≡ Ok tt
+  pub kept : new ≡ derived_of k p s (non_zero_u32_get c) (kept_len_of k)
+  pub salt : is_salt k s ≡ true
+  pub within : is_past room (text_of (new_parts k p s c)) ≡ false
+  pub few : length s ≤ MAX_TEXT_LEN
+  pub cost : after ≡ raised before (kept_blocks k (length p) (length s) (non_zero_u32_get c)
+      (kept_len_of k)) 0
+
+-- the same, or there is no new value, and this is why
+abbrev pub Keeps : (room : ℕ) → Scheme → (p s : List ℕ) → NonZeroU32 → (new : List ℕ)
+    → (before after : Counts) → Result (Unit {0}) HashError → Type 0
+Keeps room k p s c new before after (Ok done) = IsKept room k p s c new before after
+Keeps room k p s c new before after (Err error) =
+    (new_status room k p s c ≡ Err error) × (after ≡ before)
 
 -- the code's value is the new one, or there is none and this is why
 abbrev pub IsNew : (room : ℕ) → Scheme → (p s : List ℕ) → NonZeroU32 → Result Stored HashError

@@ -22,11 +22,11 @@
 ghost use Rattle.std.specs.Prelude.{◌≡◌, ◌≢◌, ◌≤◌, ◌==◌, ℕ, true, false, List, IfOk, IfSome};
 ghost use Rattle.std.specs.Prelude.{IsNone, Some, length, not, take};
 ghost use Rattle.std.specs.List.{list_all};
-ghost use Rattle.ring_password_hash.specs.Scheme.{keeps_keys, kept_len_of};
+ghost use Rattle.ring_password_hash.specs.Scheme.{keeps_keys, kept_len_of, names_len};
 ghost use Rattle.ring_password_hash.specs.Stored.{IsFilled, IsNew, IsReadWhere, IsStored, IsTextOf};
 ghost use Rattle.ring_password_hash.specs.Stored.{Keeps, Makes, Parts, Reads, Tests, Writes};
 ghost use Rattle.ring_password_hash.specs.Stored.{answer_of, front_of, is_past, is_salt, is_text};
-ghost use Rattle.ring_password_hash.specs.Stored.{new_text, parameters_where, parts, parts_of};
+ghost use Rattle.ring_password_hash.specs.Stored.{new_parts, parameters_where, parts, parts_of};
 ghost use Rattle.ring_password_hash.specs.Stored.{text_of};
 ghost use Rattle.ring_password_hash.specs.Text.{IsPut};
 
@@ -185,7 +185,7 @@ impl Stored {
         keep(scheme, password, salt, iterations, room, kept, meter)?;
         Ok(Stored {
             scheme,
-            parameters: usual_parameters(row.names_len),
+            parameters: usual_parameters(scheme),
             iterations,
             salt: array_of(salt),
             salt_len: salt.len(),
@@ -298,11 +298,11 @@ fn put_text(
 // Whether there is room for the text of a new value that keeps as many bytes as these.
 fn has_room(scheme: Scheme, salt: &[u8], iterations: NonZeroU32, kept: &[u8], room: usize) -> bool
     requires { length kept.now ≡ kept_len_of scheme }
-    ensures told { (h : List ℕ) → length h ≡ length kept.now
-        → is_past room (new_text scheme salt.now iterations h) ≡ not result }
+    ensures told { (password : List ℕ)
+        → is_past room (text_of (new_parts scheme password salt.now iterations)) ≡ not result }
     ensures salt { result ≡ true → length salt.now ≤ MAX_TEXT_LEN }
 {
-    let parameters = usual_parameters(scheme.row().names_len);
+    let parameters = usual_parameters(scheme);
     let mut text = [0; MAX_TEXT_LEN];
     match put_text(&mut text, scheme, parameters, iterations, salt, kept) {
         Some(len) => len <= room,
@@ -347,10 +347,10 @@ fn keep(
 }
 
 // The parameters that the scheme's own system writes.
-fn usual_parameters(names_len: bool) -> Parameters
-    ensures { result ≡ parameters_where names_len }
+fn usual_parameters(scheme: Scheme) -> Parameters
+    ensures { result ≡ parameters_where (names_len scheme) }
 {
-    if names_len {
+    if scheme.row().names_len {
         Parameters::CountThenLen
     } else {
         Parameters::Count

@@ -221,22 +221,6 @@ fn decode_base64_into(engine: &GeneralPurpose, text: &[u8], out: &mut [u8]) -> O
     }
 }
 
-// Decodes adapted base64 to the start of `out`. Returns how many bytes it is.
-fn decode_adapted_into(text: &[u8], out: &mut [u8]) -> Option<usize>
-    requires text { length text.now ≤ MAX_TEXT_LEN }
-    requires room { length out.old ≡ MAX_TEXT_LEN }
-    ensures within { IfSome result (λ n. n ≤ MAX_TEXT_LEN) }
-    ensures bytes { IsBytes out.new }
-    ensures ok { IfSome result (λ n. text.now ≡ written Encoding.Adapted (take n out.new)) }
-    ensures refused { IsNone result → (bytes : List ℕ) → IsBytes bytes
-        → text.now ≢ written Encoding.Adapted bytes }
-{
-    match decode_base64_into(&adapted(), text, out) {
-        Some(len) => Some(len),
-        None => None,
-    }
-}
-
 /// Decodes a field's whole text to the start of `out`. Returns how many bytes it is.
 pub(crate) fn decode_into(encoding: Encoding, text: &[u8], out: &mut [u8]) -> Option<usize>
     requires text { length text.now ≤ MAX_TEXT_LEN }
@@ -255,7 +239,7 @@ pub(crate) fn decode_into(encoding: Encoding, text: &[u8], out: &mut [u8]) -> Op
         Encoding::Hex => decode_hex_into(text, out),
         Encoding::Base64 => decode_base64_into(&STANDARD, text, out),
         Encoding::Base64NoPad => decode_base64_into(&STANDARD_NO_PAD, text, out),
-        Encoding::Adapted => decode_adapted_into(text, out),
+        Encoding::Adapted => decode_base64_into(&adapted(), text, out),
     }
 }
 
@@ -376,13 +360,6 @@ fn put_base64(
     }
 }
 
-// Writes adapted base64.
-fn put_adapted(out: &mut [u8; MAX_TEXT_LEN], at: usize, bytes: &[u8]) -> Option<usize>
-    ensures { IsPut at (written Encoding.Adapted bytes.now) out.old out.new result }
-{
-    put_base64(&adapted(), out, at, bytes)
-}
-
 /// Writes bytes as a field has them.
 pub(crate) fn put_field(
     out: &mut [u8; MAX_TEXT_LEN],
@@ -397,7 +374,7 @@ pub(crate) fn put_field(
         Encoding::Hex => put_hex(out, at, bytes),
         Encoding::Base64 => put_base64(&STANDARD, out, at, bytes),
         Encoding::Base64NoPad => put_base64(&STANDARD_NO_PAD, out, at, bytes),
-        Encoding::Adapted => put_adapted(out, at, bytes),
+        Encoding::Adapted => put_base64(&adapted(), out, at, bytes),
     }
 }
 

@@ -1,24 +1,73 @@
 -- SPDX-License-Identifier: ISC
-use Rattle.std.proofs.Common.{arith, rules}
-use Rattle.std.proofs.lemmas.Grind.{common_steps}
-use Rattle.ring_bench.specs.Request.{hkdf_answer}
-use Rattle.ring_bench.proofs.Counts.{extract_count}
+use Rattle.std.proofs.Common.{◌≡◌, ◌++◌, ◌+◌, length, take, drop, ap, nat_le, refl, sym, ◌∙◌, rules}
+use Rattle.std.proofs.Common.{true, false, true≢false}
+use Rattle.std.proofs.Math.Seq.{take-append_seam}
+use Rattle.std.proofs.lemmas.Bool.{false_from_ne_true}
+use Rattle.ring.specs.Algorithm.{block_len, max_input_len}
+use Rattle.ring.specs.Hkdf.{hkdf_digest, okm, salt_algorithm}
+use Rattle.ring.specs.Hmac.{hmac_of}
+use Rattle.ring.specs.Okm.{okm_algorithm, okm_info_len}
+use Rattle.ring.specs.Pieces.{joined}
+use Rattle.ring.specs.Limits.{can_expand}
+use Rattle.ring_bench.specs.Request.{output_answer}
+use Rattle.ring_bench.proofs.Limits.{can_fill, filled, not_refused}
 use Rattle.ring_bench.proofs.request.respond_hkdf.Goals as goal
 
-pub output_of-requires : goal.output_of-requires
-output_of-requires g c =
+pub returns-in-Ok-fill_counted : goal.returns-in-Ok-fill_counted
+unfolding output_answer
+returns-in-Ok-fill_counted g c =
+    let a = hkdf_digest c.args.algorithm in
+    let s = c.args.salt.now in
+    let x = c.args.secret.now in
+    let info = c.args.info.now.bytes.items in
     let salt = c.in-Ok.ensures in
     let prk = c.in-Ok-extract_counted.ensures in
-    let new = c.new-meter.ensures in
-    (extract_count _ _ salt.algorithm new (search rules) (search rules) salt.cost prk.cost).1
+    let asked = c.in-Ok-expand.ensures in
+    let end = c.in-Ok-fill_counted.ensures in
+    let same : joined c.deref.result.now ≡ info = rw c.deref.ensures.value c.in_ok-views.ensures in
+    let algorithm : okm_algorithm c.in-Ok-expand.output ≡ a =
+    asked.algorithm ∙ prk.algorithm ∙ salt.algorithm in
+    let info_len : okm_info_len c.in-Ok-expand.output ≡ length info =
+    asked.info_len ∙ ap length same in
+    let out = c.fill_counted.new.out in
+    let room : c.in_ok-bytes.bytes.len ≡ length out = search rules in
+    let kept = take-append_seam out (drop (length out) c.in_ok-bytes.bytes.items) in
+    let made : take c.in_ok-bytes.bytes.len (out ++ drop (length out) c.in_ok-bytes.bytes.items)
+    ≡ okm (okm_algorithm c.in-Ok-expand.output) (hmac_of (salt_algorithm c.in-Ok.salt) s x)
+    (joined c.deref.result.now) c.args.len =
+    rw room (kept ∙ end.ok _ _ _ (asked.ok _ (prk.ok s salt.ok))) in
+    let (can, count) =
+    filled algorithm info_len asked.asked_len (length s) (length x) c.new-meter.ensures
+    (search rules) (search rules)
+    (rw (prk.algorithm, salt.algorithm) at asked.refused.1) (end.refused.0 refl) salt.cost
+    (rw salt.algorithm at prk.cost) end.cost in
+    let shown = c.blocks-in-Ok-fill_counted.ensures in
+    let salted = salt.algorithm in
+    let refused = rw salt.algorithm at prk.refused in
+    let fits_salt : nat_le (length s) (max_input_len a) ≡ true = not_refused salt.refused.1 in
+    let fits_secret : nat_le (block_len a + length x) (max_input_len a) ≡ true =
+    not_refused refused.1 in
+    rw (fits_salt, fits_secret, can) (cc (made, algorithm, salted, same, count, shown))
 
 pub returns : goal.returns
-unfolding hkdf_answer
+unfolding output_answer
 returns g c =
+    let a = hkdf_digest c.args.algorithm in
     let salt = c.in-Ok.ensures in
     let prk = c.in-Ok-extract_counted.ensures in
-    let new = c.new-meter.ensures in
-    let count =
-    (extract_count _ _ salt.algorithm new (search rules) (search rules) salt.cost prk.cost).0 in
-    let made = c.output_of.ensures _ (prk.ok _ salt.ok) in
-    grind (arith, common_steps, count, made)
+    let asked = c.in-Ok-expand.ensures in
+    let info = c.args.info.now.bytes.items in
+    let same : joined c.deref.result.now ≡ info = rw c.deref.ensures.value c.in_ok-views.ensures in
+    let size : length c.deref_mut.result.now ≡ c.args.len = search rules in
+    let fails : can_expand a (length info) c.args.len ≡ false =
+    false_from_ne_true (can_expand a (length info) c.args.len) (λ e.
+    let can =
+    can_fill (asked.algorithm ∙ prk.algorithm ∙ salt.algorithm) (asked.info_len ∙ ap length same)
+    asked.asked_len size e in
+    true≢false (sym (c.in-Err.ensures.refused.1 can))) in
+    let refused = rw salt.algorithm at prk.refused in
+    let fits_salt : nat_le (length c.args.salt.now) (max_input_len a) ≡ true =
+    not_refused salt.refused.1 in
+    let fits_secret : nat_le (block_len a + length c.args.secret.now) (max_input_len a) ≡ true =
+    not_refused refused.1 in
+    rw (fits_salt, fits_secret, fails) refl

@@ -4,13 +4,13 @@ use Rattle.std.proofs.Math.Seq.{take-append_seam}
 use Rattle.std.specs.Int.NonZero.{non_zero_u32_get}
 use Rattle.ring.specs.Pbkdf2.{dk, pbkdf2_digest}
 use Rattle.ring.specs.Limits.{CanDerive}
-use Rattle.ring_bench.specs.Request.{pbkdf2_answer}
+use Rattle.ring_bench.specs.Request.{key_answer}
 use Rattle.ring_bench.proofs.Counts.{derive_count}
 use Rattle.ring_bench.proofs.Limits.{can_derive-true}
 use Rattle.ring_bench.proofs.request.respond_pbkdf2.Goals as goal
 
 pub returns-in-Ok : goal.returns-in-Ok
-unfolding pbkdf2_answer
+unfolding key_answer
 returns-in-Ok g c =
     let end = c.in-Ok.ensures in
     let out = c.derive_counted.new.out in

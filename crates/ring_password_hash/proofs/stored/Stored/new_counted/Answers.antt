@@ -1,6 +1,5 @@
 -- SPDX-License-Identifier: ISC
-use Rattle.std.proofs.Common.{◌∙◌, ap, refl, rules}
-use Rattle.ring_password_hash.specs.Stored.{parameters_where}
+use Rattle.std.proofs.Common.{refl, rules}
 use Rattle.ring_password_hash.proofs.Made.{new_made}
 use Rattle.ring_password_hash.proofs.stored.Stored.new_counted.Goals as goal
 
@@ -12,5 +11,5 @@ returns c =
       salt_len = refl;
       kept = search rules;
       kept_len = row.kept_len;
-      usual = c.usual_parameters.ensures ∙ ap parameters_where row.names_len;
+      usual = c.usual_parameters.ensures;
     }) (search rules) (search rules) (search rules)

@@ -48,10 +48,10 @@ length-derived_of k p s c =
     (keys_len k Count (kept_len_of k) refl)
 
 -- a new value's text is as long as any that keeps as many bytes
-pub length-new : (k : Scheme) (p s : List ℕ) (c : NonZeroU32) {h : List ℕ}
+pub length-new : (k : Scheme) (p s : List ℕ) (c : NonZeroU32) (h : List ℕ)
     → length h ≡ kept_len_of k → length (text_of (new_parts k p s c))
     ≡ length (parts_text k (parameters_where (names_len k)) c s h)
-length-new k p s c {h} e =
+length-new k p s c h e =
     length-parts_text k (parameters_where (names_len k)) c s
     (derived_of k p s (non_zero_u32_get c) (kept_len_of k)) h
     (length-derived_of k p s (non_zero_u32_get c) ∙ sym e)

@@ -12,7 +12,7 @@ put_text-requires c = λ keys. keys_len c.args.scheme Count _ c.requires keys
 pub returns-in-Some-clause-told : goal.returns-in-Some-clause-told
 returns-in-Some-clause-told c = λ p.
     let place = rw c.usual_parameters-parameters.ensures at c.in-Some.ensures.place in
-    let size = length-new c.args.scheme p c.args.salt.now c.args.iterations c.requires in
+    let size = length-new c.args.scheme p c.args.salt.now c.args.iterations _ c.requires in
     room_told _ _ size c.args.room c.in-Some.len (omega (arith, place)) c.in-Some.ensures.within
 
 pub returns-in-Some-clause-salt : goal.returns-in-Some-clause-salt
@@ -26,5 +26,5 @@ returns-in-Some-clause-salt c = λ _.
 pub returns-in-None-clause-told : goal.returns-in-None-clause-told
 returns-in-None-clause-told c = λ p.
     let more = rw c.usual_parameters-parameters.ensures at c.in-None.ensures in
-    let size = length-new c.args.scheme p c.args.salt.now c.args.iterations c.requires in
+    let size = length-new c.args.scheme p c.args.salt.now c.args.iterations _ c.requires in
     room_past _ _ size c.args.room more

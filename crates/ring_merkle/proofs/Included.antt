@@ -8,18 +8,14 @@ use Rattle.ring_merkle.specs.Cost.{path_len, sides}
 use Rattle.ring_merkle.specs.Inclusion.{IsIncluded, path_at, path_of}
 use Rattle.ring_merkle.specs.Stack.{halves, last}
 use Rattle.ring_merkle.specs.Tree.{node_hash, root_at, root_of}
-use Rattle.ring_merkle.specs.Walk.{front_step, walk, whole_step}
+use Rattle.ring_merkle.specs.Walk.{step_of, walk}
 use Rattle.ring_merkle.proofs.Levels.{beside-even, beside-odd, length-halves, pair-even, pair-odd}
 use Rattle.ring_merkle.proofs.Pairs.{beside, length-pair_up, pair_up, path-up, root-up}
 use Rattle.ring_merkle.proofs.Sides.{parity, sides-last, sides-left, sides-right}
 use Rattle.ring_merkle.proofs.Trees.{below-pow, pow-sum}
-use Rattle.ring_merkle.proofs.Walks.{Step, fold_sides, leads-length, walk-fold}
+use Rattle.ring_merkle.proofs.Walks.{fold_sides, leads-length, walk-fold}
 
 -- of the whole tree all leaves are kept, and of its beginning none after the node
-abbrev pub step_of : (whole : Bool) → Step
-step_of true = whole_step
-step_of false = front_step
-
 abbrev pub kept : (whole : Bool) → List (List ℕ) → List (List ℕ)
 kept true xs = xs
 kept false xs = []

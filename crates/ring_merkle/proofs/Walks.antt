@@ -6,8 +6,8 @@ use Rattle.std.proofs.lemmas.List.{drop_all, drop_more}
 use Rattle.std.proofs.Common.{◌≡◌, ◌+◌, ◌/◌, ◌^◌, ◌<◌, ◌≤◌, [], ◌∷◌, ◌∙◌, ℕ, zero}
 use Rattle.std.proofs.Common.{suc, Bool, true, false, cond, List, length, refl, ap, sym, arith}
 use Rattle.std.proofs.Common.{⊎_elim}
-use Rattle.std.proofs.Common.{Option, Some, None, drop, get_or}
-use Rattle.ring_merkle.specs.Cost.{is_alone, left_count, path_len, sides}
+use Rattle.std.proofs.Common.{Option, Some, None, drop, get_or, ◌||◌}
+use Rattle.ring_merkle.specs.Cost.{hashed_count, is_alone, left_count, path_len, sides}
 use Rattle.ring_merkle.specs.Walk.{is_odd_or_zero, is_right, next_last, next_node}
 use Rattle.ring_merkle.specs.Walk.{walk}
 use Rattle.ring_merkle.proofs.Shifts.{shift-again, shift-same, shift-stop}
@@ -180,13 +180,16 @@ walk-leads f n m r ps le fits e =
     let l = fold-leads f (sides 64 n m) r ps e in
     (l.0, walk-fold f 64 n m r ps (record { node = le; all = fits; fits = fits }) ∙ l.1)
 
--- the values on the left, from the place i of a path on
-module _ (path : List (List ℕ)) (i : ℕ) where
-  pub left-next : (n m : ℕ) → i < length path → left_count n m (drop i path)
-      ≡ cond (is_right n m) 1 0 + left_count (next_node n m) (next_last n m) (drop (i + 1) path)
-  unfolding left_count
-  left-next n m lt = ap (λ qs. left_count n m qs) (drop_more path i [] lt)
+-- the values that are hashed, from the place i of a path on
+pub hashed-next : (whole : Bool) (path : List (List ℕ)) (i n m : ℕ) → i < length path
+    → hashed_count whole n m (drop i path) ≡ cond (whole || is_right n m) 1 0
+    + hashed_count whole (next_node n m) (next_last n m) (drop (i + 1) path)
+unfolding left_count
+hashed-next true path i n m lt = omega (arith, ap length (drop_more path i [] lt))
+hashed-next false path i n m lt = ap (λ qs. left_count n m qs) (drop_more path i [] lt)
 
-  pub left-stop : (n m : ℕ) → length path ≤ i → left_count n m (drop i path) ≡ 0
-  unfolding left_count
-  left-stop n m le = ap (λ qs. left_count n m qs) (drop_all i path le)
+pub hashed-stop : (whole : Bool) (path : List (List ℕ)) (i n m : ℕ) → length path ≤ i
+    → hashed_count whole n m (drop i path) ≡ 0
+unfolding left_count
+hashed-stop true path i n m le = ap length (drop_all i path le)
+hashed-stop false path i n m le = ap (λ qs. left_count n m qs) (drop_all i path le)

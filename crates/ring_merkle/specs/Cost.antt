@@ -28,6 +28,11 @@ left_count fn sn [] = 0
 left_count fn sn (p ∷ ps) =
     cond (is_right fn sn) 1 0 + left_count (next_node fn sn) (next_last fn sn) ps
 
+-- how many of a path's values are hashed on the walk to either root: to the larger tree's all, to
+-- the smaller one's those on the left
+abbrev pub hashed_count : (whole : Bool) → (fn sn : ℕ) → (path : List (List ℕ)) → ℕ
+hashed_count whole fn sn path = cond whole (length path) (left_count fn sn path)
+
 -- a node's hash: a byte and two hashes, with the padding, are two blocks
 abbrev pub node_blocks : ℕ
 node_blocks = 2

@@ -3,7 +3,7 @@
 -- 2.1.4.2): a step for each value of a path. fn is the node's index, and sn that of the last node
 -- of its level.
 use Rattle.std.specs.Prelude.{◌≡◌, ◌≢◌, ◌/◌, ◌%◌, ◌<◌, ◌==◌, ◌||◌, [], ◌∷◌, ◌++◌, ℕ, zero, suc}
-use Rattle.std.specs.Prelude.{Bool, cond, List, length, get_or, Option, None, Some}
+use Rattle.std.specs.Prelude.{Bool, true, false, cond, List, length, get_or, Option, None, Some}
 use Rattle.ring_merkle.specs.Tree.{node_hash, sha256}
 
 -- fn after it is shifted right until a test holds, at most h times
@@ -48,6 +48,11 @@ whole_step right p r = sha256 (step_input right p r)
 -- a step to the root of its beginning: a value on the right came later, and leaves r as it is
 abbrev pub front_step : (right : Bool) → (p r : List ℕ) → List ℕ
 front_step right p r = cond right (node_hash p r) r
+
+-- a step to either root
+abbrev pub step_of : (whole : Bool) → Bool → (p r : List ℕ) → List ℕ
+step_of true = whole_step
+step_of false = front_step
 
 -- r after all steps: none if sn is 0 before a step, or is not 0 at the end
 unfoldable pub walk : (step : Bool → List ℕ → List ℕ → List ℕ) → (fn sn : ℕ) → (r : List ℕ)

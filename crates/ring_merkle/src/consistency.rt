@@ -14,34 +14,6 @@ use crate::place::Place;
 use ring::cost::Meter;
 use ring::laws::digest_has_output_len;
 
-// The two hashes to which the steps of `path` lead from `hash`: of the smaller tree, and of the
-// larger one.
-fn climb_both(
-    hash: &[u8; HASH_LEN],
-    start: Place,
-    path: &[[u8; HASH_LEN]],
-    meter: &mut Meter,
-) -> ([u8; HASH_LEN], [u8; HASH_LEN])
-    requires front { (x : List ℕ)
-        × (walk front_step start.node start.last hash.now path.now ≡ Some x) }
-    requires whole { (x : List ℕ)
-        × (walk whole_step start.node start.last hash.now path.now ≡ Some x) }
-    ensures front { walk front_step start.node start.last hash.now path.now ≡ Some result.0 }
-    ensures whole { walk whole_step start.node start.last hash.now path.now ≡ Some result.1 }
-    ensures cost { meter.new ≡ raised meter.old
-        (node_blocks * (length path.now + left_count start.node start.last path.now)) 0 }
-{
-    let mut place = start;
-    let mut front = *hash;
-    let mut whole = *hash;
-    for value in path {
-        front = place.front_step(value, &front, meter);
-        whole = place.whole_step(value, &whole, meter);
-        place = place.next();
-    }
-    (front, whole)
-}
-
 // Whether `path` leads from the hash of a node to both roots.
 fn leads_to_both(
     hash: &[u8; HASH_LEN],
@@ -60,7 +32,8 @@ fn leads_to_both(
     if path.len() != start.path_len() {
         return false;
     }
-    let (front, whole) = climb_both(hash, start, path, meter);
+    let front = start.climb(false, hash, path, meter);
+    let whole = start.climb(true, hash, path, meter);
     front == *first && whole == *second
 }
 

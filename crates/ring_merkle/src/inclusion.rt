@@ -12,26 +12,6 @@ use crate::place::Place;
 use ring::cost::Meter;
 use ring::laws::digest_has_output_len;
 
-// The hash to which the steps of `path` lead from `hash`.
-fn climb(
-    hash: &[u8; HASH_LEN],
-    start: Place,
-    path: &[[u8; HASH_LEN]],
-    meter: &mut Meter,
-) -> [u8; HASH_LEN]
-    requires { (x : List ℕ) × (walk whole_step start.node start.last hash.now path.now ≡ Some x) }
-    ensures reached { walk whole_step start.node start.last hash.now path.now ≡ Some result }
-    ensures cost { meter.new ≡ raised meter.old (node_blocks * length path.now) 0 }
-{
-    let mut place = start;
-    let mut reached = *hash;
-    for value in path {
-        reached = place.whole_step(value, &reached, meter);
-        place = place.next();
-    }
-    reached
-}
-
 // Whether `path` leads from the hash of a leaf to the root.
 fn is_included(
     hash: &[u8; HASH_LEN],
@@ -54,7 +34,7 @@ fn is_included(
     if path.len() != start.path_len() {
         return false;
     }
-    climb(hash, start, path, meter) == *root
+    start.climb(true, hash, path, meter) == *root
 }
 
 /// Verifies a path as [`verify_inclusion`] does, and counts its blocks on `meter`: two for each

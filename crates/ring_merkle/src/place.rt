@@ -1,11 +1,11 @@
 // SPDX-License-Identifier: ISC
 //! Places in a tree, and the steps from one to the next (RFC 9162, sections 2.1.3.2 and 2.1.4.2).
 
-ghost use Rattle.std.specs.Prelude.{◌≡◌, ◌/◌, ◌*◌, ◌≤◌, cond};
+ghost use Rattle.std.specs.Prelude.{◌≡◌, ◌/◌, ◌*◌, ◌≤◌, ◌||◌, Some, cond, length};
 ghost use Rattle.ring.specs.Prelude.{raised};
-ghost use Rattle.ring_merkle.specs.Cost.{is_alone, node_blocks, path_len};
-ghost use Rattle.ring_merkle.specs.Walk.{front_step, is_even, is_odd_or_zero, is_right, next_last};
-ghost use Rattle.ring_merkle.specs.Walk.{next_node, shifted_last, shifted_node, whole_step};
+ghost use Rattle.ring_merkle.specs.Cost.{hashed_count, is_alone, node_blocks, path_len};
+ghost use Rattle.ring_merkle.specs.Walk.{is_even, is_odd_or_zero, is_right, next_last, next_node};
+ghost use Rattle.ring_merkle.specs.Walk.{shifted_last, shifted_node, step_of, walk};
 
 use crate::hash::{HASH_LEN, node_hash_counted};
 use ring::cost::Meter;
@@ -104,38 +104,48 @@ impl Place {
         len
     }
 
-    // The hash one step on from `reached`, to the root of the whole tree.
-    pub(crate) fn whole_step(
+    // The hash one step on from `reached`: to the root of the whole tree, or to that of its
+    // beginning, which has nothing of a value on the right.
+    fn step(
         self,
+        whole: bool,
         value: &[u8; HASH_LEN],
         reached: &[u8; HASH_LEN],
         meter: &mut Meter,
     ) -> [u8; HASH_LEN]
-        ensures hash { result ≡ whole_step (is_right self.node self.last) value.now reached.now }
-        ensures cost { meter.new ≡ raised meter.old node_blocks 0 }
-    {
-        if self.is_right() {
-            node_hash_counted(value, reached, meter)
-        } else {
-            node_hash_counted(reached, value, meter)
-        }
-    }
-
-    // The hash one step on from `reached`, to the root of the beginning.
-    pub(crate) fn front_step(
-        self,
-        value: &[u8; HASH_LEN],
-        reached: &[u8; HASH_LEN],
-        meter: &mut Meter,
-    ) -> [u8; HASH_LEN]
-        ensures hash { result ≡ front_step (is_right self.node self.last) value.now reached.now }
+        ensures hash { result ≡ step_of whole (is_right self.node self.last) value.now reached.now }
         ensures cost { meter.new ≡ raised meter.old
-            (node_blocks * cond (is_right self.node self.last) 1 0) 0 }
+            (node_blocks * cond (whole || is_right self.node self.last) 1 0) 0 }
     {
         if self.is_right() {
             node_hash_counted(value, reached, meter)
+        } else if whole {
+            node_hash_counted(reached, value, meter)
         } else {
             *reached
         }
+    }
+
+    // The hash to which the steps of `path` lead from `hash`.
+    pub(crate) fn climb(
+        self,
+        whole: bool,
+        hash: &[u8; HASH_LEN],
+        path: &[[u8; HASH_LEN]],
+        meter: &mut Meter,
+    ) -> [u8; HASH_LEN]
+        requires within { self.node ≤ self.last }
+        requires len { length path.now ≡ path_len self.node self.last }
+        ensures reached { walk (step_of whole) self.node self.last hash.now path.now ≡ Some result }
+        ensures cost { meter.new ≡ raised meter.old
+            (node_blocks * hashed_count whole self.node self.last path.now) 0 }
+    {
+        let mut place = self;
+        let mut reached = *hash;
+        for value in path {
+            reached = place.step(whole, value, &reached, meter);
+            place = place.next();
+        }
+        reached
     }
 }

@@ -1,9 +1,8 @@
 -- SPDX-License-Identifier: ISC
-use Rattle.std.proofs.Common.{◌-◌, ◌∙◌, sym, arith}
+use Rattle.std.proofs.Common.{◌∙◌, sym, arith}
 use Rattle.std.proofs.lemmas.Bool.{and_left, and_right, le-ltb, ne_eqb}
-use Rattle.ring_merkle.specs.Walk.{whole_step}
 use Rattle.ring_merkle.proofs.Rises.{raised-not}
-use Rattle.ring_merkle.proofs.Walks.{leads-length, walk-leads}
+use Rattle.ring_merkle.proofs.Walks.{leads-length}
 use Rattle.ring_merkle.proofs.inclusion.is_included.Goals as goal
 
 pub returns-then-index-size-clause-cost : goal.returns-then-index-size-clause-cost
@@ -23,9 +22,3 @@ pub returns-then-path-path_len-clause-cost : goal.returns-then-path-path_len-cla
 returns-then-path-path_len-clause-cost c =
     raised-not _ _ (and_right _ _
     (ne_eqb _ _ (λ e. c.if-path-path_len.true (e ∙ sym c.path_len.ensures.count))))
-
-pub climb-requires : goal.climb-requires
-climb-requires c =
-    walk-leads whole_step c.args.index (c.args.size - 1) c.args.hash.now c.args.path.now
-    (omega (arith, c.if-index-size.false)) (omega (arith, c.ranges.size.fits))
-    (omega (arith, c.if-path-path_len.false, c.path_len.ensures.count))

@@ -7,7 +7,8 @@ use Rattle.std.proofs.Common.{◌≡◌, ◌+◌, ◌-◌, ◌/◌, ◌%◌, ◌
 use Rattle.std.proofs.Common.{◌++◌, ◌∙◌}
 use Rattle.std.proofs.Common.{ℕ, zero, suc, Bool, true, false, cond, List, length, get_or, take}
 use Rattle.std.proofs.Common.{drop, refl, ap, sym, arith, ⊎_elim, append_assoc, get_or-drop}
-use Rattle.std.proofs.Common.{get_or-take, length-take}
+use Rattle.std.proofs.Common.{get_or-take, length-take, subst}
+use Rattle.std.proofs.lemmas.List.Elements.{All-cons}
 use Rattle.std.proofs.lemmas.Nat.{pow_pos}
 use Rattle.std.specs.Int.{is_power_of_two}
 use Rattle.ring_merkle.specs.Consistency.{IsConsistent, LeadsToBoth, first_last, first_node}
@@ -16,7 +17,7 @@ use Rattle.ring_merkle.specs.Cost.{path_len}
 use Rattle.ring_merkle.specs.Inclusion.{path_at}
 use Rattle.ring_merkle.specs.Tree.{root_at, root_of}
 use Rattle.ring_merkle.specs.Walk.{is_even, shifted_last, shifted_node}
-use Rattle.ring_merkle.proofs.Hashes.{AreHashes, Sized, hashes-at, hashes-path, hashes-up}
+use Rattle.ring_merkle.proofs.Hashes.{AreHashes, IsHash, Sized, hashes-path, hashes-up}
 use Rattle.ring_merkle.proofs.Included.{walk-path}
 use Rattle.ring_merkle.proofs.Pairs.{length-pair_up, pair_up, root-up, split, take-up}
 use Rattle.ring_merkle.proofs.Powers.{power-even, power-odd}
@@ -109,23 +110,6 @@ sub-odd (suc h) m xs b even lt le =
     ∙ ap (λ ps. opens b m (get_or xs m []) ++ ps) (sym (path-low (suc h) xs m low)))
     (cases_lt n (length xs))
 
--- the last of m leaves, as a node of the first level where it has no sibling on the left
-pub record Begun (h m : ℕ) (xs : List (List ℕ)) : Type 0 where
-  pub height : ℕ
-  pub nodes : List (List ℕ)
-  pub at : ℕ
-  pub within : at < length nodes
-  pub few : length nodes ≤ 2 ^ height
-  pub fewer : length nodes ≤ length xs
-  pub node : at ≡ shifted_node is_even h (m - 1)
-  pub last : length nodes - 1 ≡ shifted_last is_even h (m - 1) (length xs - 1)
-  pub front : root_at height (take (at + 1) nodes) ≡ root_at h (take m xs)
-  pub whole : root_at height nodes ≡ root_at h xs
-  pub is : subproof_at h m xs false ≡ get_or nodes at [] ∷ path_at height at nodes
-  pub values : values_of m (root_at h (take m xs)) (subproof_at h m xs true)
-      ≡ get_or nodes at [] ∷ path_at height at nodes
-  pub hashes : Sized → AreHashes xs → AreHashes nodes
-
 root-one : (h : ℕ) (xs : List (List ℕ)) → 0 < length xs
     → root_at h (take 1 xs) ≡ get_or xs 0 []
 unfolding root_at
@@ -147,90 +131,95 @@ values-odd h (suc m) xs even lt le =
     let o : opens true (suc m) x ≡ x ∷ [] = grind (arith, nat_tests) in
     rw (no, sub-odd h (suc m) xs true even lt le, o) refl
 
-begun-odd : (h m : ℕ) (xs : List (List ℕ)) → m % 2 ≡ 1 → m < length xs
-    → length xs ≤ 2 ^ suc h → Begun (suc h) m xs
-begun-odd h m xs odd lt le =
+-- the values of a proof for m leaves, where power is whether m is a power of two: its first node,
+-- which is at fn, and the path from it, which leads to both roots
+pub record Made (power : Bool) (fn sn : ℕ) (first second : List ℕ) (subproof proof : List (List ℕ))
+    : Type 0 where
+  pub node : List ℕ
+  pub path : List (List ℕ)
+  pub within : fn ≤ sn
+  pub fits : sn < 2 ^ 64
+  pub leads : LeadsToBoth fn sn node path first second
+  pub is : subproof ≡ node ∷ path
+  pub values : cond power (first ∷ proof) proof ≡ node ∷ path
+
+abbrev pub MadeAt : (h m : ℕ) (xs : List (List ℕ)) → Type 0
+MadeAt h m xs =
+    Made (is_power_of_two m) (shifted_node is_even h (m - 1))
+    (shifted_last is_even h (m - 1) (length xs - 1)) (root_at h (take m xs)) (root_at h xs)
+    (subproof_at h m xs false) (subproof_at h m xs true)
+
+-- the last of m leaves is a node of its level that has no sibling on the left, where m is odd; and
+-- else one level up
+made-odd : (h m : ℕ) (xs : List (List ℕ)) → m % 2 ≡ 1 → m < length xs → length xs ≤ 2 ^ suc h
+    → length xs ≤ 2 ^ 64 → MadeAt (suc h) m xs
+made-odd h m xs odd lt le fits =
     let e : m ≡ suc (m - 1) = omega arith in
-    let f : m - 1 + 1 ≡ m = omega arith in
     let even : is_even (m - 1) ≡ true = grind (arith, nat_tests) in
     let stop = shift-stop is_even (suc h) (m - 1) in
-    let a = stop (m - 1) even in
-    let b = stop (length xs - 1) even in
-    let same = shift-same is_even (suc h) (m - 1) in
     let s = sub-odd h (m - 1) xs false (omega arith) (omega arith) le in
     let v = values-odd h (m - 1) xs (omega arith) (omega arith) le in
-    record {
-      height = suc h;
-      nodes = xs;
-      at = m - 1;
+    let front = walk-path false (suc h) (m - 1) xs (omega arith) le fits in
+    let whole = walk-path true (suc h) (m - 1) xs (omega arith) le fits in
+    let k : m - 1 + 1 ≡ m = omega arith in
+    rw (← shift-same is_even (suc h) (m - 1), stop (m - 1) even, stop (length xs - 1) even)
+    (record {
+      node = get_or xs (m - 1) [];
+      path = path_at (suc h) (m - 1) xs;
       within = omega arith;
-      few = le;
-      fewer = omega arith;
-      node = cc;
-      last = cc;
-      front = cc;
-      whole = refl;
+      fits = omega arith;
+      leads = record { front = rw k at front; whole = whole };
       is = cc;
       values = cc;
-      hashes = λ sized a. a;
-    }
+    })
 
-begun-even : (h m : ℕ) (xs : List (List ℕ)) → m % 2 ≡ 0 → 0 < m → m < length xs
-    → length xs ≤ 2 ^ suc h → Begun h (m / 2) (pair_up xs) → Begun (suc h) m xs
-begun-even h m xs even pos lt le b =
+made-even : (h m : ℕ) (xs : List (List ℕ)) → m % 2 ≡ 0 → 0 < m → m < length xs
+    → length xs ≤ 2 ^ suc h → MadeAt h (m / 2) (pair_up xs) → MadeAt (suc h) m xs
+made-even h m xs even pos lt le made =
     let odd : is_even (m - 1) ≡ false = grind (arith, nat_tests) in
     let up = length-pair_up xs in
     let k : (m - 1) / 2 ≡ m / 2 - 1 = omega arith in
     let l : (length xs - 1) / 2 ≡ length (pair_up xs) - 1 = omega arith in
-    let t = length-take m xs in
-    let front = root-up h (take m xs) (omega arith) in
-    let first = take-up (m / 2) m (omega arith) xs in
-    let whole = root-up h xs le in
-    let n = shift-up is_even h (m - 1) (m - 1) odd in
-    let e = shift-up is_even h (m - 1) (length xs - 1) odd in
-    let same = shift-same is_even (suc h) (m - 1) in
-    let above = shift-same is_even h (m / 2 - 1) in
-    let s = sub-even h m xs false even pos (omega arith) le in
-    let v = sub-even h m xs true even pos (omega arith) le in
-    let p = power-even m even in
-    record {
-      height = b.height;
-      nodes = b.nodes;
-      at = b.at;
-      within = b.within;
-      few = b.few;
-      fewer = omega (arith, b.fewer);
-      node = cc;
-      last = cc;
-      front = cc;
-      whole = cc;
-      is = cc;
-      values = cc;
-      hashes = λ sized a. b.hashes sized (hashes-up sized xs a);
-    }
+    rw (
+      power-even m even,
+      ← shift-same is_even (suc h) (m - 1),
+      shift-up is_even h (m - 1) (m - 1) odd,
+      shift-up is_even h (m - 1) (length xs - 1) odd,
+      k,
+      l,
+      shift-same is_even h (m / 2 - 1),
+      root-up h (take m xs) (omega (arith, length-take m xs)),
+      take-up (m / 2) m (omega arith) xs,
+      root-up h xs le,
+      sub-even h m xs false even pos (omega arith) le,
+      sub-even h m xs true even pos (omega arith) le,
+    ) made
 
-pub begun : (h m : ℕ) (xs : List (List ℕ)) → 0 < m → m < length xs → length xs ≤ 2 ^ h
-    → Begun h m xs
-begun zero m xs pos lt le = absurd (omega arith)
-begun (suc h) m xs pos lt le =
+made-at : (h m : ℕ) (xs : List (List ℕ)) → 0 < m → m < length xs → length xs ≤ 2 ^ h
+    → length xs ≤ 2 ^ 64 → MadeAt h m xs
+made-at zero m xs pos lt le fits = absurd (omega arith)
+made-at (suc h) m xs pos lt le fits =
+    let up = length-pair_up xs in
     ⊎_elim
-    (λ even. begun-even h m xs even pos lt le
-    (begun h (m / 2) (pair_up xs) (omega arith) (omega (arith, length-pair_up xs))
-    (omega (arith, length-pair_up xs, pow-sum h))))
-    (λ odd. begun-odd h m xs odd lt le)
+    (λ even. made-even h m xs even pos lt le (made-at h (m / 2) (pair_up xs) (omega arith)
+    (omega arith) (omega (arith, pow-sum h)) (omega arith)))
+    (λ odd. made-odd h m xs odd lt le fits)
     (parity m)
 
--- the values of a proof: its first node, and the path from it to both roots
-pub record Made (m : ℕ) (xs : List (List ℕ)) : Type 0 where
-  pub node : List ℕ
-  pub path : List (List ℕ)
-  pub within : first_node m ≤ first_last m (length xs)
-  pub fits : first_last m (length xs) < 2 ^ 64
-  pub leads : LeadsToBoth (first_node m) (first_last m (length xs)) node path
-      (root_of (take m xs)) (root_of xs)
-  pub is : subproof_of m xs false ≡ node ∷ path
-  pub values : values_of m (root_of (take m xs)) (proof_of m xs) ≡ node ∷ path
-  pub hashes : Sized → AreHashes xs → AreHashes (node ∷ path)
+hashes-sub : (sized : Sized) (h m : ℕ) (xs : List (List ℕ)) → 0 < m → m < length xs
+    → length xs ≤ 2 ^ h → AreHashes xs → AreHashes (subproof_at h m xs false)
+hashes-sub sized zero m xs pos lt le a = absurd (omega arith)
+hashes-sub sized (suc h) m xs pos lt le a =
+    let up = length-pair_up xs in
+    ⊎_elim
+    (λ even. rw (sub-even h m xs false even pos (omega arith) le)
+    (hashes-sub sized h (m / 2) (pair_up xs) (omega arith) (omega arith) (omega (arith, pow-sum h))
+    (hashes-up sized xs a)))
+    (λ odd. let e : m ≡ suc (m - 1) = omega arith in
+    rw (e, sub-odd h (m - 1) xs false (omega arith) (omega arith) le)
+    (All-cons IsHash _ (path_at (suc h) (m - 1) xs) (a (m - 1) [] (omega arith))
+    (hashes-path sized (suc h) (m - 1) xs (omega arith) le a)))
+    (parity m)
 
 length-values : (b : Bool) (r : List ℕ) (ps : List (List ℕ))
     → length (cond b (r ∷ ps) ps) + cond b 0 1 ≡ 1 + length ps
@@ -250,28 +239,20 @@ some-steps (p ∷ ps) pos l = omega arith
 
 module _ (m : ℕ) (xs : List (List ℕ)) (pos : 0 < m) (lt : m < length xs)
     (fits : length xs ≤ 2 ^ 64) where
-  pub made : Made m xs
+  pub made : Made (is_power_of_two m) (first_node m) (first_last m (length xs))
+      (root_of (take m xs)) (root_of xs) (subproof_of m xs false) (proof_of m xs)
   made =
-      let b = begun 64 m xs pos lt fits in
-      let first = root-any 64 (take m xs) (omega (arith, length-take m xs)) in
-      let small = b.fewer in
-      record {
-        node = get_or b.nodes b.at [];
-        path = path_at b.height b.at b.nodes;
-        within = omega (arith, b.node, b.last, b.within);
-        fits = omega (arith, b.last, b.within);
-        leads = rw (← b.node, ← b.last, ← first, ← b.front, ← root-any 64 xs fits, ← b.whole)
-            (record {
-              front = walk-path false b.height b.at b.nodes b.within b.few (omega arith);
-              whole = walk-path true b.height b.at b.nodes b.within b.few (omega arith);
-            });
-        is = sym (sub-any 64 m xs false (omega arith) fits) ∙ b.is;
-        values = rw (← first, ← sub-any 64 m xs true (omega arith) fits) b.values;
-        hashes = λ sized a. (
-          hashes-at b.nodes b.at (b.hashes sized a) b.within,
-          hashes-path sized b.height b.at b.nodes b.within b.few (b.hashes sized a),
-        );
-      }
+      rw (
+        ← root-any 64 (take m xs) (omega (arith, length-take m xs)),
+        ← root-any 64 xs fits,
+        ← sub-any 64 m xs false (omega arith) fits,
+        ← sub-any 64 m xs true (omega arith) fits,
+      ) (made-at 64 m xs pos lt fits fits)
+
+  pub hashes-made : Sized → AreHashes xs → AreHashes (made.node ∷ made.path)
+  hashes-made sized a =
+      subst AreHashes (sub-any 64 m xs false (omega arith) fits ∙ made.is)
+      (hashes-sub sized 64 m xs pos lt fits a)
 
   -- m is a power of two exactly where the proof leaves the first node out
   length-both : length (proof_of m xs) + 1 ≡ length (subproof_of m xs false)

@@ -14,8 +14,9 @@ use Rattle.ring_merkle.specs.Inclusion.{IsIncluded, inclusion_inputs, path_of}
 use Rattle.ring_merkle.specs.Tree.{root_of, sha256}
 use Rattle.ring_merkle.specs.Walk.{IsCollision, is_right, step_input}
 use Rattle.ring_merkle.specs.Walk.{walk_inputs, whole_step}
-use Rattle.ring_merkle.proofs.Begun.{made}
-use Rattle.ring_merkle.proofs.Hashes.{AreHashes, Sized, hashes-at, hashes-path}
+use Rattle.ring_merkle.proofs.Begun.{hashes-made, made}
+use Rattle.ring_merkle.proofs.Hashes.{AreHashes, IsHash, Sized, hashes-path}
+use Rattle.std.proofs.lemmas.List.Elements.{All-cons, All-tail}
 use Rattle.ring_merkle.proofs.Included.{included}
 use Rattle.ring_merkle.proofs.Trees.{below-pow}
 use Rattle.ring_merkle.proofs.Walks.{Leads, leads-end, leads-on}
@@ -65,7 +66,12 @@ hashes-values : (b : Bool) (r : List ℕ) (ps : List (List ℕ)) → AreHashes (
     → AreHashes (get_or (cond b (r ∷ ps) ps) 0 [] ∷ drop 1 (cond b (r ∷ ps) ps))
 hashes-values true r ps h some = h
 hashes-values false r [] h some = absurd (omega arith)
-hashes-values false r (p ∷ ps) h some = h.1
+hashes-values false r (p ∷ ps) h some = All-tail IsHash r (p ∷ ps) h
+
+hashes-on : (x y p : List ℕ) (ps : List (List ℕ)) → IsHash y → AreHashes (x ∷ p ∷ ps)
+    → AreHashes (y ∷ ps)
+hashes-on x y p ps one h =
+    All-cons IsHash y ps one (All-tail IsHash p ps (All-tail IsHash x (p ∷ ps) h))
 
 module _ (sized : Sized) where
   same-walks : (ps qs : List (List ℕ)) {n m : ℕ} {x y r : List ℕ} → AreHashes (x ∷ ps)
@@ -82,12 +88,14 @@ module _ (sized : Sized) where
       let b = step_input (is_right n m) q y in
       ⊎_elim
       (λ same. ⊎_elim
-      (λ eq. let s = same-inputs (is_right n m) x y p q (h.0, h.1.0) (k.0, k.1.0) eq in
+      (λ eq. let s = same-inputs (is_right n m) x y p q (h 0 x (omega arith), h 1 x (omega arith))
+      (k 0 y (omega arith), k 1 y (omega arith)) eq in
       inl (s.0, cc))
       (λ ne. inr (now a b _ _ ne same.0))
       (decide a b))
       (λ col. inr (later a b _ _ col))
-      (same-walks ps qs (sized a, h.1.1) (sized b, k.1.1) (leads-on e).1 (leads-on g).1)
+      (same-walks ps qs (hashes-on x _ p ps (sized a) h) (hashes-on y _ q qs (sized b) k)
+      (leads-on e).1 (leads-on g).1)
 
   -- what leads to the root is the path of the leaf, or two inputs collide
   pub sound : (xs : List (List ℕ)) {path : List (List ℕ)} {hash : List ℕ} {m : ℕ} → AreHashes xs
@@ -99,10 +107,8 @@ module _ (sized : Sized) where
   unfolding path_of
   sound xs {path} {hash} {m} h k fits i =
       let most = below-pow (length xs) in
-      same-walks path (path_of m xs) k (
-        hashes-at xs m h i.within,
-        hashes-path sized (length xs) m xs i.within (omega arith) h,
-      ) (record { ends = i.leads }) (record { ends = (included xs m i.within fits).leads })
+      same-walks path (path_of m xs) k (All-cons IsHash _ (path_of m xs) (h m [] i.within)
+      (hashes-path sized (length xs) m xs i.within (omega arith) h)) (record { ends = i.leads }) (record { ends = (included xs m i.within fits).leads })
 
   -- what leads to the larger root leads to that of the beginning too, or two inputs collide
   pub sound-front : (xs : List (List ℕ)) {path : List (List ℕ)} {first : List ℕ} {m : ℕ}
@@ -117,5 +123,6 @@ module _ (sized : Sized) where
       (λ same. let front = p.leads.front in let given = i.leads.front in inl (cc))
       (λ col. inr col)
       (same-walks (drop 1 (values_of m first path)) p.path
-      (hashes-values (is_power_of_two m) first path k i.some) (p.hashes sized h)
+      (hashes-values (is_power_of_two m) first path k i.some)
+      (hashes-made m xs i.nonempty i.within fits sized h)
       (record { ends = i.leads.whole }) (record { ends = p.leads.whole })))

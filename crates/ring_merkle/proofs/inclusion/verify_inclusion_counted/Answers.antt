@@ -4,7 +4,8 @@ use Rattle.std.proofs.lemmas.List.{get_or-map, length-map}
 use Rattle.ring.specs.declared.digest.algorithm.TheConstants.{SHA256}
 use Rattle.ring_merkle.specs.Tree.{leaf_hash}
 use Rattle.ring_merkle.proofs.Collisions.{sound}
-use Rattle.ring_merkle.proofs.Hashes.{hashes-leaves, hashes-told}
+use Rattle.ring_merkle.proofs.Hashes.{IsHash, hashes-leaves}
+use Rattle.std.proofs.lemmas.List.Elements.{All-cons, All-from_get_or}
 use Rattle.ring_merkle.proofs.Included.{included}
 use Rattle.ring_merkle.proofs.inclusion.verify_inclusion_counted.Goals as goal
 
@@ -19,7 +20,8 @@ returns-clause-sound c ds len root t =
     get_or-map leaf_hash ds m [] [] (omega (arith, yes.within)) in
     let fits = c.ranges.size.fits in
     rw (← e, ← len, ← n) (sound sized xs (hashes-leaves sized ds)
-    (c.told-hash, hashes-told c.args.path.now c.told-path) (omega arith)
+    (All-cons IsHash c.args.hash.now c.args.path.now c.told-hash
+    (All-from_get_or IsHash c.args.path.now [] c.told-path)) (omega arith)
     (rw (← root, n, len) yes))
 
 pub returns-clause-complete : goal.returns-clause-complete

@@ -4,5 +4,6 @@ pub mod Runs
 pub mod Limits
 pub mod Numbers
 pub mod Counts
+pub mod Asked
 pub mod Parts
 pub mod Pairs

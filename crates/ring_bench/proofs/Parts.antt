@@ -1,15 +1,14 @@
 -- SPDX-License-Identifier: ISC
 -- Lemmas on a field as its parts, and on the bytes of these, joined.
-use Rattle.std.proofs.Common.{◌≡◌, ℕ, ◌+◌, ◌<◌, List, [], ◌∷◌, ◌++◌, Option, None, Some, length}
-use Rattle.std.proofs.Common.{map, drop, slice_index_or, refl, sym, ap, append_assoc, append-nil, ◌∙◌}
-use Rattle.std.proofs.Common.{length-append, ◌≤◌, arith}
-use Rattle.std.specs.List.{sum}
+use Rattle.std.proofs.Common.{◌≡◌, ℕ, List, [], ◌∷◌, ◌++◌, Option, None, Some, length, refl, sym, ap}
+use Rattle.std.proofs.Common.{append_assoc, append-nil, length-append, arith}
+use Rattle.std.specs.List.{slice_split, sum}
 use Rattle.std.proofs.lemmas.List.Sums.{sum_by_push}
-use Rattle.std.proofs.Math.ListN.{drop_of_length-le}
-use Rattle.std.specs.Borrow.{Bor}
-use Rattle.std.proofs.lemmas.List.{drop_more}
+use Rattle.std.proofs.lemmas.List.Splits.{slice_split_none}
 use Rattle.hex.specs.Hex.{decode_of}
-use Rattle.ring_bench.specs.Field.{◌>>=◌, parts_bytes, value_of}
+use Rattle.ring_text.specs.Cut.{IsFirstCut, IsWithout}
+use Rattle.ring_bench.specs.Field.{◌>>=◌, is_comma, parts_bytes, value_of}
+use Rattle.ring_bench.proofs.Texts.{IsFirstCut-split}
 
 -- the bytes so far, before those of the parts that are left
 abbrev pub behind : List ℕ → Option (List ℕ) → Option (List ℕ)
@@ -24,29 +23,33 @@ behind-more : (bytes piece : List ℕ) (found : Option (List ℕ))
 behind-more bytes piece None = refl
 behind-more bytes piece (Some others) = ap Some (sym (append_assoc bytes piece others))
 
--- before the part at i
-module _ (bytes : List ℕ) (parts : List (Bor (List ℕ))) (i : ℕ) (d : Bor (List ℕ))
-    (below : i < length parts) where
-  -- the part is a piece
-  pub parts-next : (piece : List ℕ)
-      → value_of (decode_of (slice_index_or parts i d).now) ≡ Some piece
-      → behind bytes (parts_bytes (map (λ part. part.now) (drop i parts)))
-      ≡ behind (bytes ++ piece) (parts_bytes (map (λ part. part.now) (drop (i + 1) parts)))
-  parts-next piece e =
-      rw (drop_more parts i d below, e)
-      (behind-more bytes piece (parts_bytes (map (λ part. part.now) (drop (i + 1) parts))))
+-- behind so many bytes
+module _ (bytes : List ℕ) where
+  -- a part moves from the text to the bytes
+  pub pieces-next : {piece text part others : List ℕ} → IsFirstCut 44 text part others
+      → value_of (decode_of part) ≡ Some piece
+      → behind bytes (parts_bytes (slice_split is_comma text))
+      ≡ behind (bytes ++ piece) (parts_bytes (slice_split is_comma others))
+  pieces-next {piece} {others = others} cut e =
+      rw (IsFirstCut-split cut, e)
+      (behind-more bytes piece (parts_bytes (slice_split is_comma others)))
 
-  -- the part is no hex
-  pub parts-bad : {Fails : Type 0} {found : Option (List ℕ)}
-      → found ≡ behind bytes (parts_bytes (map (λ part. part.now) (drop i parts)))
-      → (Fails → value_of (decode_of (slice_index_or parts i d).now) ≡ None) → Fails
-      → found ≡ None
-  parts-bad so_far bad fails = so_far ∙ rw (drop_more parts i d below, bad fails) refl
+  -- the last part ends them
+  pub pieces-last : {piece : List ℕ} (text : List ℕ) → IsWithout 44 text
+      → value_of (decode_of text) ≡ Some piece
+      → behind bytes (parts_bytes (slice_split is_comma text)) ≡ Some (bytes ++ piece)
+  pieces-last {piece} text none e =
+      rw (slice_split_none is_comma text none, e, append-nil piece) refl
 
--- behind the last part
-pub parts-end : (bytes : List ℕ) (parts : List (Bor (List ℕ))) (i : ℕ) → length parts ≤ i
-    → behind bytes (parts_bytes (map (λ part. part.now) (drop i parts))) ≡ Some bytes
-parts-end bytes parts i all = rw (drop_of_length-le parts all, append-nil bytes) refl
+  -- a part that is no hex leaves none
+  pub none-next : {text part others : List ℕ} → IsFirstCut 44 text part others
+      → value_of (decode_of part) ≡ None
+      → behind bytes (parts_bytes (slice_split is_comma text)) ≡ None
+  none-next cut e = rw (IsFirstCut-split cut, e) refl
+
+  pub none-last : (text : List ℕ) → IsWithout 44 text → value_of (decode_of text) ≡ None
+      → behind bytes (parts_bytes (slice_split is_comma text)) ≡ None
+  none-last text none e = rw (slice_split_none is_comma text none, e) refl
 
 -- the bytes have a piece more, and so have the lengths
 pub sum-push : (ns bs piece : List ℕ) → sum ns ≡ length bs

@@ -125,10 +125,11 @@ module _ {text rest : List ℕ} {s t : Status} {a b : Option (List ℕ)}
       → u ≡ status_after t (lines rest)
       → Appends a c (answers text) × (u ≡ status_after s (lines text))
   Answered-whole c written status =
-      rw lines-answered
-      (Appends-replies f.first (lines rest) a b c f.written written,
-      status ∙ ap (λ v. status_after v (lines rest)) f.status
-      ∙ status_after-append s f.first (lines rest))
+      rw lines-answered (
+        Appends-replies f.first (lines rest) a b c f.written written,
+        status ∙ ap (λ v. status_after v (lines rest)) f.status
+            ∙ status_after-append s f.first (lines rest),
+      )
 
 -- Of the piece that came behind an open line the part before the rest was fed.
 pub record Feeding

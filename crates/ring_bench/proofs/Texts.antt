@@ -1,11 +1,11 @@
 -- SPDX-License-Identifier: ISC
 -- Lemmas on a text, its lines, and what ends them.
-use Rattle.std.proofs.Common.{◌≡◌, ◌==◌, ℕ, ◌+◌, ◌<◌, true, false, cond, List, [], ◌∷◌, ◌++◌}
-use Rattle.std.proofs.Common.{length, refl, ap, ◌∙◌, append_assoc, arith}
+use Rattle.std.proofs.Common.{◌≡◌, ◌==◌, ℕ, zero, suc, ◌+◌, ◌-◌, ◌<◌, true, false, cond, List, []}
+use Rattle.std.proofs.Common.{◌∷◌, ◌++◌, length, take, refl, sym, ap, ◌∙◌, append_assoc, arith}
 use Rattle.std.specs.List.{slice_split, onto_first}
 use Rattle.std.proofs.lemmas.List.Splits.{slice_split_at, slice_split_none, length-slice_split}
 use Rattle.std.proofs.lemmas.Bool.{eq-eqb}
-use Rattle.ring_text.specs.Cut.{IsFirstCut}
+use Rattle.ring_text.specs.Cut.{IsFirstCut, IsWithout}
 use Rattle.ring_bench.specs.Text.{is_line_feed, without_return, lines, lines_of_cuts, ended_lines}
 use Rattle.ring_bench.specs.Session.{HasNoLineFeed}
 
@@ -16,6 +16,30 @@ pub IsFirstCut-split : {byte : ℕ} {text before behind : List ℕ}
 IsFirstCut-split {byte} {text} {before} {behind} cut =
     ap (slice_split (λ b. b == byte)) cut.whole
     ∙ slice_split_at (λ b. b == byte) before byte behind cut.first (eq-eqb byte byte refl)
+
+-- a part moves from the text to the parts, of which so many are asked for
+pub parts-next : {byte : ℕ} {text before behind : List ℕ} (most n : ℕ) (parts : List (List ℕ))
+    → n < most → IsFirstCut byte text before behind
+    → (parts ++ before ∷ []) ++ take (most - (n + 1)) (slice_split (λ b. b == byte) behind)
+    ≡ parts ++ take (most - n) (slice_split (λ b. b == byte) text)
+parts-next {byte} {text} {before} {behind} most n parts below cut =
+    let more : most - n ≡ suc (most - (n + 1)) = omega arith in
+    let others = take (most - (n + 1)) (slice_split (λ b. b == byte) behind) in
+    append_assoc parts (before ∷ []) others
+    ∙ ap (λ l. parts ++ l) (sym (rw (more, IsFirstCut-split cut) refl))
+
+take_one : (k : ℕ) (part : List ℕ) → 0 < k → take k (part ∷ []) ≡ part ∷ []
+take_one zero part some = absurd (omega arith)
+take_one (suc zero) part some = refl
+take_one (suc (suc k)) part some = refl
+
+-- the last part is the text that is left
+pub parts-last : (byte most n : ℕ) (parts : List (List ℕ)) (text : List ℕ) → n < most
+    → IsWithout byte text
+    → parts ++ text ∷ [] ≡ parts ++ take (most - n) (slice_split (λ b. b == byte) text)
+parts-last byte most n parts text below none =
+    let alone = take_one (most - n) text (omega arith) in
+    ap (λ l. parts ++ l) (sym (rw (slice_split_none (λ b. b == byte) text none) alone))
 
 -- more text comes behind it
 IsFirstCut-more : {byte : ℕ} {text before behind : List ℕ} → IsFirstCut byte text before behind

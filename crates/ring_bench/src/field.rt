@@ -1,8 +1,8 @@
 // SPDX-License-Identifier: ISC
-//! What one field of a line says, and how a text is cut into fields.
-ghost use Rattle.std.specs.Prelude.{◌≡◌, ◌==◌, ◌++◌, [], ◌∷◌, List, ℕ, Some, None, IfOk, IsErrOf};
-ghost use Rattle.std.specs.Prelude.{OnOk, length, map};
-ghost use Rattle.std.specs.List.{slice_split, sum};
+//! What one field of a line says.
+ghost use Rattle.std.specs.Prelude.{◌≡◌, ◌++◌, [], ◌∷◌, List, ℕ, Some, None, IfOk, IsErrOf, OnOk};
+ghost use Rattle.std.specs.Prelude.{length};
+ghost use Rattle.std.specs.List.{sum};
 ghost use Rattle.std.specs.Int.NonZero.{non_zero_u32_get};
 ghost use Rattle.hex.specs.Hex.{decode_of};
 ghost use Rattle.ring_bench.specs.Fault.{Reads, ReadsAlone};
@@ -65,25 +65,6 @@ impl<A: Allocator> Pieces<A> {
     }
 }
 
-/// The parts of a text between such bytes.
-pub fn parts_between<A: Allocator>(
-    alloc: A,
-    text: &[u8],
-    byte: u8,
-) -> Result<Vec<&[u8], A>, AllocError>
-    ensures { IfOk result (λ parts. map (λ part. part.now) parts.items
-        ≡ slice_split (λ b. b == byte) text.now) }
-{
-    let mut parts = Vec::new(alloc);
-    let mut rest = text;
-    'cuts: while let Some((part, behind)) = cut_at(rest, byte) {
-        parts.push(part)?;
-        rest = behind;
-    }
-    parts.push(rest)?;
-    Ok(parts)
-}
-
 /// Whether a field is this word.
 #[tactic(auto, unfolding(crate::specs::Field::is_word))]
 pub fn is_word(field: &[u8], word: &[u8]) -> bool
@@ -119,10 +100,12 @@ pub fn pieces_in<A: Allocator + Copy>(alloc: A, field: &[u8]) -> Result<Pieces<A
     if field.is_empty() {
         return Err(Fault::Bad);
     }
-    let parts = parts_between(alloc, field, b',')?;
-    'parts: for part in &parts {
+    let mut rest = field;
+    'parts: while let Some((part, behind)) = cut_at(rest, b',') {
         append_piece(alloc, &mut bytes, &mut lens, part)?;
+        rest = behind;
     }
+    append_piece(alloc, &mut bytes, &mut lens, rest)?;
     Ok(Pieces { bytes, lens })
 }
 

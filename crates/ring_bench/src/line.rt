@@ -3,7 +3,8 @@
 //!
 //! A further call of `ring` is a variant of `Call` with its word in `call_in`, a variant of
 //! `Request`, and a function over its operands.
-ghost use Rattle.std.specs.Prelude.{◌≡◌, IfOk, map};
+ghost use Rattle.std.specs.Prelude.{◌≡◌, ◌==◌, IfOk, map, take};
+ghost use Rattle.std.specs.List.{slice_split};
 ghost use Rattle.ring_bench.specs.Fault.{Reads, ReadsAlone};
 ghost use Rattle.ring_bench.specs.Line.{answer_by, answer_to, call_of, line_of, meaning};
 ghost use Rattle.ring_bench.specs.Request.{answer_of};
@@ -11,12 +12,14 @@ ghost use Rattle.ring_bench.specs.Request.{answer_of};
 use crate::algorithm::{
     digest_algorithm_in, hkdf_algorithm_in, hmac_algorithm_in, pbkdf2_algorithm_in,
 };
-use crate::field::{
-    Fault, Pieces, bytes_in, is_word, iterations_in, len_in, parts_between, pieces_in,
-};
+use crate::field::{Fault, Pieces, bytes_in, is_word, iterations_in, len_in, pieces_in};
 use ring::{digest, hkdf, hmac, pbkdf2};
+use ring_text::cut_at;
 use std::alloc::{AllocError, Allocator};
 use std::num::NonZeroU32;
+
+/// How many fields the longest lines have.
+const MOST_FIELDS: usize = 6;
 
 /// What a line says.
 #[derive(Drop)]
@@ -55,15 +58,39 @@ enum Call {
     Pbkdf2Verify,
 }
 
+/// The first parts of a text between such bytes: `most` of them, or all where there are fewer.
+fn parts_between<A: Allocator>(
+    alloc: A,
+    text: &[u8],
+    byte: u8,
+    most: usize,
+) -> Result<Vec<&[u8], A>, AllocError>
+    ensures { IfOk result (λ parts. map (λ part. part.now) parts.items
+        ≡ take most (slice_split (λ b. b == byte) text.now)) }
+{
+    let mut parts = Vec::new(alloc);
+    let mut rest = text;
+    'cuts: while parts.len() < most {
+        let Some((part, behind)) = cut_at(rest, byte) else {
+            parts.push(rest)?;
+            return Ok(parts);
+        };
+        parts.push(part)?;
+        rest = behind;
+    }
+    Ok(parts)
+}
+
 /// What the line says.
-#[tactic(auto, unfolding(crate::specs::Line::line_of))]
+#[tactic(auto, using(crate::proofs::Asked::answer_to_first), unfolding(crate::specs::Line::line_of))]
 pub fn parse<A: Allocator + Copy>(alloc: A, text: &[u8]) -> Result<Line<A>, AllocError>
     ensures { IfOk result (λ line. meaning line ≡ line_of text.now) }
 {
     if text.is_empty() || text[0] == b'#' {
         return Ok(Line::Nothing);
     }
-    let fields = parts_between(alloc, text, b' ')?;
+    // A line with a field more is bad, however many stand behind it.
+    let fields = parts_between(alloc, text, b' ', MOST_FIELDS + 1)?;
     match request_in(alloc, &fields) {
         Ok(request) => Ok(Line::Asks(request)),
         Err(Fault::Bad) => Ok(Line::Bad),

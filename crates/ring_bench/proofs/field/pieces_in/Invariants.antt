@@ -1,5 +1,5 @@
 -- SPDX-License-Identifier: ISC
-use Rattle.std.proofs.Common.{◌≡◌, drop, length, map}
+use Rattle.std.proofs.Common.{◌≡◌, length}
 use Rattle.std.specs.List.{slice_split, sum}
 use Rattle.ring_bench.specs.Field.{is_comma, parts_bytes}
 use Rattle.ring_bench.proofs.Parts.{behind}
@@ -10,6 +10,8 @@ abbrev pub invariant-parts : goal.invariant-parts
 invariant-parts g l = record {
   whole : sum l.lens.items ≡ length l.bytes.items;
   same : parts_bytes (slice_split is_comma l.field)
-      ≡ behind l.bytes.items (parts_bytes (map (λ part. part.now)
-      (drop l.part-index l.part-items)));
+      ≡ behind l.bytes.items (parts_bytes (slice_split is_comma l.rest));
 }
+
+abbrev pub decreases-parts : goal.decreases-parts
+decreases-parts g l = length l.rest

@@ -32,22 +32,9 @@ pub fn token_answer(alloc: Global, words: &[&str]) -> Result<String, Fault> {
 
 /// The answer to a line on one-time passwords.
 fn password_answer(alloc: Global, words: &[&str]) -> Result<String, Fault> {
-    match *words {
-        ["hotp", "find", hash, key, first, count, digits, text] => {
-            found(alloc, [hash, key, first, count, digits, text])
-        }
-        [
-            "totp",
-            "find",
-            hash,
-            key,
-            time,
-            step,
-            back,
-            ahead,
-            digits,
-            text,
-        ] => { found_at(alloc, [hash, key, time, step, back, ahead, digits, text]) }
+    match words {
+        ["hotp", "find", words @ ..] => found(alloc, words),
+        ["totp", "find", words @ ..] => found_at(alloc, words),
         ["hotp", hash, key, counter, digits] => made(alloc, [hash, key, counter, digits]),
         ["totp", hash, key, time, step, digits] => made_at(alloc, [hash, key, time, step, digits]),
         _ => Err(Fault::BadLine),
@@ -130,24 +117,30 @@ fn place_of(alloc: Global, found: Option<u64>) -> Result<String, Fault> {
 }
 
 /// The counter of a one-time password.
-fn found(alloc: Global, words: [&str; 6]) -> Result<String, Fault> {
-    let key = hmac_key_of(alloc, words[0], words[1])?;
-    let first = number_in(words[2])?;
-    let count = short_in(words[3])?;
-    let digits = digits_in(words[4])?;
-    let text = text_in(alloc, words[5])?;
+fn found(alloc: Global, words: &[&str]) -> Result<String, Fault> {
+    let [hash, key, first, count, digits, text] = words else {
+        return Err(Fault::BadLine);
+    };
+    let key = hmac_key_of(alloc, hash, key)?;
+    let first = number_in(first)?;
+    let count = short_in(count)?;
+    let digits = digits_in(digits)?;
+    let text = text_in(alloc, text)?;
     place_of(alloc, find_hotp(&key, first, count as u64, digits, &text))
 }
 
 /// The step of a one-time password.
-fn found_at(alloc: Global, words: [&str; 8]) -> Result<String, Fault> {
-    let key = hmac_key_of(alloc, words[0], words[1])?;
-    let time = number_in(words[2])?;
-    let step = count_in(words[3])?;
-    let back = short_in(words[4])?;
-    let ahead = short_in(words[5])?;
-    let digits = digits_in(words[6])?;
-    let text = text_in(alloc, words[7])?;
+fn found_at(alloc: Global, words: &[&str]) -> Result<String, Fault> {
+    let [hash, key, time, step, back, ahead, digits, text] = words else {
+        return Err(Fault::BadLine);
+    };
+    let key = hmac_key_of(alloc, hash, key)?;
+    let time = number_in(time)?;
+    let step = count_in(step)?;
+    let back = short_in(back)?;
+    let ahead = short_in(ahead)?;
+    let digits = digits_in(digits)?;
+    let text = text_in(alloc, text)?;
     place_of(
         alloc,
         find_totp(&key, time, step, back, ahead, digits, &text),

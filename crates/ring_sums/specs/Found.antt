@@ -7,7 +7,7 @@ use Rattle.ring.specs.declared.digest.algorithm.Algorithm.{Algorithm}
 use Rattle.ring_sums.specs.Outcome.{IsOutcome}
 use Rattle.ring_sums.specs.declared.lane.Lane.{Lane}
 use Rattle.ring_sums.specs.declared.outcome.Outcome.{Outcome}
-use Rattle.ring_sums.specs.declared.outcome.Outcome.TheVariants.{Sum, TooLong, Failed}
+use Rattle.ring_sums.specs.declared.outcome.Outcome.TheVariants.{Failed}
 
 -- one of the lanes reads the reader at `place`
 pub record HasLane {R : Type 0} (place : ℕ) (lanes : List (Lane R)) : Type 0 where
@@ -34,9 +34,8 @@ pub record IsPut (given place : ℕ) (outcome : Outcome) (old new : List (Option
 
 -- the outcome of a reader that is not read
 abbrev pub IsFailed : Outcome → Type 0
-IsFailed (Sum digest) = ⊥
-IsFailed TooLong = ⊥
 IsFailed (Failed error) = ⊤
+IsFailed outcome = ⊥
 
 -- the first of the outcomes, which is a failure where it is not found
 abbrev pub IsFirst : List (Option Outcome) → Option Outcome → Type 0

@@ -10,20 +10,18 @@ use Rattle.ring_sums.specs.Outcomes.{IsOutcomeOf}
 use Rattle.ring_sums.specs.declared.console.Console.{Console}
 use Rattle.ring_sums.specs.declared.options.Options.{Options}
 use Rattle.ring_sums.specs.declared.outcome.Outcome.{Outcome}
-use Rattle.ring_sums.specs.declared.outcome.Outcome.TheVariants.{Sum, TooLong, Failed}
+use Rattle.ring_sums.specs.declared.outcome.Outcome.TheVariants.{Sum}
 use Rattle.ring_sums.specs.declared.outcomes.Wanted.{Wanted}
 
 -- whether a file could be read to its end
 abbrev pub is_sum : Outcome → Bool
 is_sum (Sum digest) = true
-is_sum TooLong = false
-is_sum (Failed error) = false
+is_sum outcome = false
 
 -- the line of a file that could be, and nothing of another
 abbrev pub line_of : Options → (name : List ℕ) → Outcome → List ℕ
 line_of options name (Sum digest) = file_line options digest name
-line_of options name TooLong = []
-line_of options name (Failed error) = []
+line_of options name outcome = []
 
 -- the lines of files, one after another
 abbrev pub lines_of : Options → (names : List (Bor (List ℕ))) → List Outcome → List ℕ

@@ -19,11 +19,13 @@ use Rattle.ring_sums.proofs.check.check_lines.Goals.{in-Entry+in-Ok+in-Some+in_o
 pub loop-line-init : goal.loop-line-init
 loop-line-init g c = λ files.
     let none = c.default-counts.ensures in
+    let P : Finding → Type 0 =
+    λ f. IsFound c.args.options.now f.entry.listed.items f.outcome f.found in
     record {
       findings = [];
       entries = refl;
       given = given-first c.new-outcomes.ensures;
-      found = All-nil _;
+      found = All-nil P;
       said = written-none;
       counted = record {
         entries = none.1.0;

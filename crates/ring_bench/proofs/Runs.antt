@@ -1,9 +1,9 @@
 -- SPDX-License-Identifier: ISC
 -- Lemmas on a run: how answered texts follow one another, and how far a run has come.
-use Rattle.std.proofs.Common.{◌≡◌, ℕ, ◌+◌, ◌<◌, ◌≤◌, Bool, true, false, cond, ◌||◌, Option, Some, None}
-use Rattle.std.proofs.Common.{IfSome, Result, Ok, Err, OnOk, IfOk, List, [], ◌∷◌, ◌++◌, length, take}
-use Rattle.std.proofs.Common.{refl, sym, ap, ◌∙◌, subst, append_assoc, append-nil, length-append}
-use Rattle.std.proofs.Common.{arith}
+use Rattle.std.proofs.Common.{◌≡◌, ℕ, ◌+◌, ◌<◌, ◌≤◌, Bool, true, false, cond, ◌||◌, Option, Some}
+use Rattle.std.proofs.Common.{None, IfSome, Result, Ok, Err, OnOk, IfOk, List, [], ◌∷◌, ◌++◌}
+use Rattle.std.proofs.Common.{length, take, refl, sym, ap, ◌∙◌, subst, append_assoc, append-nil}
+use Rattle.std.proofs.Common.{length-append, arith}
 use Rattle.std.specs.Prelude.{⊤}
 use Rattle.std.specs.List.{list_any}
 use Rattle.std.specs.Io.KnownBytes.{Appends, Consumes, Keeps, IsAtEnd}
@@ -222,8 +222,9 @@ Reached-none known a = record { so_far = at_first known }
 
 -- a piece was read, and lines of it were answered
 pub Reached-more : (known left later : Option (List ℕ)) (piece : List ℕ) {line new : List ℕ}
-    {s t : Status} {a b c : Option (List ℕ)} → Reached known left line s a b → Consumes left later piece
-    → Answered (line ++ piece) new s t b c → Reached known later new t a c
+    {s t : Status} {a b c : Option (List ℕ)} → Reached known left line s a b
+    → Consumes left later piece → Answered (line ++ piece) new s t b c
+    → Reached known later new t a c
 Reached-more None left later piece r read f = record { so_far = tt }
 Reached-more (Some text) None later piece r read f = absurd r.so_far
 Reached-more (Some text) (Some rest) None piece r read f = absurd read
@@ -278,7 +279,8 @@ module _ {known left : Option (List ℕ)} {line : List ℕ} {s : Status} {a b : 
       × Appends a c (replies (take k (lines text))))
   Reached-unfinished later c read kept some =
       let none : Answered (line ++ []) line s s b c =
-      subst (λ l. Answered l line s s b c) (sym (append-nil line)) (Answered-none line s b c kept) in
+      subst (λ l. Answered l line s s b c) (sym (append-nil line))
+      (Answered-none line s b c kept) in
       Reached-left known later (Reached-more known left later [] r read none) some
 
 -- the whole text was read, and the open line was answered

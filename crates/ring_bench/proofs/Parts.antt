@@ -1,7 +1,7 @@
 -- SPDX-License-Identifier: ISC
 -- Lemmas on a field as its parts, and on the bytes of these, joined.
-use Rattle.std.proofs.Common.{◌≡◌, ℕ, List, [], ◌∷◌, ◌++◌, Option, None, Some, length, refl, sym, ap}
-use Rattle.std.proofs.Common.{append_assoc, append-nil, length-append, arith}
+use Rattle.std.proofs.Common.{◌≡◌, ℕ, List, [], ◌∷◌, ◌++◌, Option, None, Some, length, refl, sym}
+use Rattle.std.proofs.Common.{ap, append_assoc, append-nil, length-append, arith}
 use Rattle.std.specs.List.{slice_split, sum}
 use Rattle.std.proofs.lemmas.List.Sums.{sum_by_push}
 use Rattle.std.proofs.lemmas.List.Splits.{slice_split_none}

@@ -122,3 +122,5 @@ module _ (a : Algorithm) (messages : List (Bor (List ℕ))) (i : ℕ) where
       ≡ padded_blocks a
       (length (get_or messages i record { ref_ptr = (0, 0); now = [] }).now)
   blocks-one below = ap (each_blocks a) (one-message below) ∙ omega arith
+
+pub ruleset reads = (common_steps, message-read)

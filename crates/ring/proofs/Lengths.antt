@@ -96,3 +96,5 @@ pub counted_first : {a b : Algorithm} {p q : ℕ} {m0 m1 : Counts} (n : ℕ) →
     → HasCounted a q n m0 m1
 counted_first {a = a} n eb ep eq em =
     grind (arith, common_steps, counted_more, counted_none)
+
+pub ruleset lengths = (length-words_after, length-digest_of)

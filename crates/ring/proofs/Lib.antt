@@ -8,4 +8,5 @@ pub mod Pieces
 pub mod Lanes
 pub mod Feeding
 pub mod Sums
+pub mod Sets
 pub mod lemmas

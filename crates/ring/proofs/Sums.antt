@@ -3,6 +3,7 @@
 use Rattle.std.proofs.Common.{◌≡◌, ℕ, ◌+◌, ◌*◌, ◌<◌, add-one, add-suc, arith, refl, suc, sym, zero}
 use Rattle.ring.specs.Prelude.{Counts, raised, sum_below}
 use Rattle.ring_core.proofs.Costs.{raised-none, raised-raised}
+use Rattle.std.proofs.lemmas.Grind.{common_steps}
 
 -- a rise by nothing
 pub raised_zero : (m : Counts) (b p : ℕ) → b ≡ 0 → p ≡ 0 → raised m b p ≡ m
@@ -55,3 +56,5 @@ pub sum_below-const : (b m : ℕ) → sum_below (λ i. b) m ≡ m * b
 unfolding sum_below
 sum_below-const b zero = grind arith
 sum_below-const b (suc m) = grind (arith, sum_below-const b m)
+
+pub ruleset rises = (common_steps, raised_zero)

@@ -90,6 +90,7 @@ pub fn sign(key: &Key, message: &[u8]) -> Result<Tag, Unspecified>
 /// Compares `tag` as [`verify`] does, and counts the blocks and the compared pairs of bytes on
 /// `meter`. A tag that differs costs as much as one that matches, but where its length is wrong no
 /// pair is compared. Where the message is too long, `meter` is as it was.
+#[tactic(auto, using(crate::proofs::lemmas::hmac::Keys::key_rules))]
 pub fn verify_counted(
     key: &Key,
     message: &[u8],

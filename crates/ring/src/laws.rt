@@ -105,6 +105,7 @@ pub fn long_key_signs_as_its_digest()
 {}
 
 /// A digest has as many bytes as its algorithm says (FIPS 180-4, section 1).
+#[tactic(auto, using(crate::proofs::Lengths::lengths))]
 pub fn digest_has_output_len()
     ensures { (a : Algorithm) (m : List ℕ) → length (digest_of a m) ≡ output_len a }
 {}
@@ -206,6 +207,7 @@ pub fn cleared_numbers_are_none()
 {}
 
 /// Numbers that stand for something name its algorithm, and are a context's or a key's.
+#[tactic(auto, using(crate::proofs::Sets::numbers))]
 pub fn standing_numbers_are_some()
     ensures context { (raw : RawContext) (a : Algorithm) (m : List ℕ) → RawStandsFor raw a m
         → (digest_named raw.algorithm ≡ Some a) × (IsNoContext raw → ⊥) }
@@ -226,6 +228,7 @@ pub fn blocks_of_numbers()
 
 /// The clauses `any` speak of every context and key. Where one stands for bytes, what they say is
 /// the standard's digest (FIPS 180-4, section 6) or tag (RFC 2104, section 2), also of its numbers.
+#[tactic(auto, using(crate::proofs::Sets::bytes))]
 pub fn standing_values_give_the_standards_bytes()
     ensures context { (c : Context) (m y : List ℕ) → StandsFor c m
         → digest_with c y (length (m ++ y)) ≡ digest_of (context_algorithm c) (m ++ y) }

@@ -138,7 +138,7 @@ impl BlockContext {
     }
 
     // Runs the whole blocks of `input`, and returns the bytes past them.
-    #[tactic(auto, using(crate::proofs::lemmas::digest::Blocks::moved_front))]
+    #[tactic(auto, using(crate::proofs::lemmas::digest::Updating::moves))]
     pub(crate) fn update<'i>(&mut self, input: &'i [u8], meter: &mut Meter) -> &'i [u8]
         ensures moved { HasRunBlocks (block_len (block_algorithm self.old)) self.old self.new
             input.now result.now meter.old meter.new }
@@ -183,6 +183,7 @@ impl BlockContext {
     // that is complete. What is left stands at the front of `pending`, and the result is its
     // length.
     #[inline(always)]
+    #[tactic(auto, using(crate::proofs::lemmas::digest::Updating::update_rules))]
     pub(crate) fn move_on(
         &mut self,
         pending: &mut [u8; MAX_BLOCK_LEN],
@@ -208,6 +209,7 @@ impl BlockContext {
     // word size has its own branch to the end: in a common one the compiler merges their reads,
     // which defeats store forwarding of what the block function wrote.
     #[inline(never)]
+    #[tactic(auto, using(crate::proofs::lemmas::digest::Finishing::finish_rules))]
     pub(crate) fn output_after(&self, tail: &[u8], meter: &mut Meter) -> Output
         ensures bytes { take (output_len (block_algorithm self.now)) result.0
             ≡ take (output_len (block_algorithm self.now))

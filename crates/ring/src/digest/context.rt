@@ -79,6 +79,7 @@ impl Context {
 
     /// Adds `input` to the message as [`Context::update`] does, and counts on `meter` the blocks
     /// that it completes.
+    #[tactic(auto, using(crate::proofs::lemmas::digest::Updating::update_rules))]
     pub fn update_counted(&mut self, input: &[u8], meter: &mut Meter)
         ensures plain { IsUpdated self.old self.new input.now }
         ensures cost { meter.new ≡ raised meter.old (whole_blocks

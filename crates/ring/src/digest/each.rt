@@ -32,6 +32,7 @@ use std::simd::{u32x4, u32x8, u64x4};
 
 // Advances the state over the message's remaining whole blocks, from the first `count` blocks of
 // the padded message on, and returns how many blocks it has then taken in.
+#[tactic(auto, using(crate::proofs::lemmas::digest::LaneBlocks::lane_rules))]
 fn run_whole<const N: usize>(
     algorithm: Algorithm,
     state: &mut DynState,
@@ -170,6 +171,7 @@ fn digest_together<const VECTOR_BITS: usize>(
 }
 
 // Whether each message is within the limit.
+#[tactic(auto, using(crate::proofs::Each::reads))]
 fn are_messages_within(algorithm: &Algorithm, messages: &[&[u8]]) -> bool
     ensures { IsTrue result ↔ ((k : ℕ) → k < length messages.now
         → IsMessageWithin algorithm.now (length (message_at messages.now k))) }
@@ -211,6 +213,7 @@ const GROUP: usize = 16;
 
 // Writes the bytes of the digests to `out` from the place `start` on, and returns the place after
 // them.
+#[tactic(auto, using(crate::proofs::lemmas::digest::Written::written_rules))]
 fn write_digests(digests: &[Digest], out: &mut [u8], start: usize) -> usize
     requires { start + length (bytes_of_each digests.now) ≤ length out.old }
     ensures end { result ≡ start + length (bytes_of_each digests.now) }
@@ -226,6 +229,7 @@ fn write_digests(digests: &[Digest], out: &mut [u8], start: usize) -> usize
 }
 
 // Writes the bytes of the digests of the messages to `out`, a group at a time.
+#[tactic(auto, using(ring_core::proofs::Costs::rises))]
 fn write_all<const VECTOR_BITS: usize>(
     algorithm: &Algorithm,
     messages: &[&[u8]],

@@ -50,6 +50,7 @@ pub(crate) fn write_tail(
 
 // Writes the length field before the place `end`. Each size of the field has a branch of its own,
 // in which the length of the copy is a constant: the copy is then a few instructions.
+#[tactic(auto, using(crate::proofs::lemmas::digest::Tails::length_rules))]
 fn put_length(algorithm: Algorithm, bytes: &mut [u8; MAX_TAIL_LEN], end: usize, message_len: u128)
     requires room { length_len algorithm ≤ end }
     requires within { end ≤ MAX_TAIL_LEN }

@@ -33,6 +33,7 @@ impl Context {
 
     // Completes the pending block, if one is begun and the piece is long enough, and returns the
     // rest of the piece.
+    #[tactic(auto, using(crate::proofs::lemmas::digest::GoingOn::part_rules))]
     pub(crate) fn complete_begun<'p>(&mut self, piece: &'p [u8], meter: &mut Meter) -> &'p [u8]
         ensures partway { IsPartway self.old self.new piece.now result.now }
         ensures ready { 0 < length result.now → pending_len self.new ≡ 0 }

@@ -24,6 +24,7 @@ use ring_core::error::Unspecified;
 use std::simd::{u32x4, u32x8, u64x4};
 
 // The states of the contexts, in room for the greatest number of lanes.
+#[tactic(auto, using(crate::proofs::lemmas::digest::Updates::context_rules))]
 fn states_of(algorithm: Algorithm, contexts: &[Context]) -> [DynState; MAX_LANES]
     requires most { length contexts.now ≤ 8 }
     requires algorithm { All (λ context. context_algorithm context ≡ algorithm) contexts.now }
@@ -41,6 +42,7 @@ fn states_of(algorithm: Algorithm, contexts: &[Context]) -> [DynState; MAX_LANES
 
 // Completes the pending block of each context that has begun one. Returns the rests of the pieces,
 // in an array for the greatest number of lanes.
+#[tactic(auto, using(crate::proofs::lemmas::digest::Updates::context_rules))]
 fn complete_each<'p>(
     contexts: &mut [Context],
     pieces: &[&'p [u8]],
@@ -67,6 +69,7 @@ fn complete_each<'p>(
 
 // Updates one context a lane: completes their pending blocks, runs the blocks side by side as long
 // as every piece has one, and then takes in the rest of each piece by itself.
+#[tactic(auto, using(crate::proofs::lemmas::digest::Updates::context_rules))]
 fn update_in_lanes<H: RunBlocks<N>, const N: usize>(
     algorithm: Algorithm,
     contexts: &mut [Context],
@@ -143,6 +146,7 @@ fn count_alike(contexts: &[Context]) -> usize
 }
 
 // How many of the contexts, from the first on, run side by side next.
+#[tactic(auto, using(crate::proofs::lemmas::digest::Updates::fronts))]
 fn lanes_of<const VECTOR_BITS: usize>(contexts: &[Context]) -> usize
     requires { 0 < length contexts.now }
     ensures some { 0 < result }
@@ -156,6 +160,7 @@ fn lanes_of<const VECTOR_BITS: usize>(contexts: &[Context]) -> usize
 }
 
 // Updates all contexts, group by group, as many side by side as the lanes allow.
+#[tactic(auto, using(crate::proofs::lemmas::digest::Updates::context_rules))]
 fn update_all<const VECTOR_BITS: usize>(
     contexts: &mut [Context],
     pieces: &[&[u8]],

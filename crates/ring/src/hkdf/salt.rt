@@ -50,6 +50,7 @@ impl Salt {
 
     /// Extracts the PRK of `secret` as [`Salt::extract`] does, and counts its blocks on `meter`:
     /// those of the tag, and two for the PRK's key. A refusal leaves `meter` as it was.
+    #[tactic(auto, using(crate::proofs::lemmas::hmac::Keys::key_rules))]
     pub fn extract_counted(&self, secret: &[u8], meter: &mut Meter) -> Result<Prk, Unspecified>
         ensures ok { (s : List ℕ) → SaltStandsFor self.now s → IfOk result
             (λ prk. PrkStandsFor prk (hmac_of (salt_algorithm self.now) s secret.now)) }

@@ -127,6 +127,7 @@ impl Context {
 
     /// Returns the tag as [`Context::sign`] does, and counts the last blocks on `meter`. A refusal
     /// leaves `meter` as it was.
+    #[tactic(auto, using(crate::proofs::lemmas::hmac::Keys::key_rules))]
     pub fn sign_counted(self, meter: &mut Meter) -> Result<Tag, Unspecified>
         ensures plain { FinishesTag self result }
         ensures unchanged { OnErr result (meter.new ≡ meter.old) }

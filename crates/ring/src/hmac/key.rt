@@ -94,6 +94,7 @@ fn filled_up(bytes: &[u8]) -> [u8; MAX_BLOCK_LEN]
 }
 
 // The key's block: the key, or its digest where it is longer than a block, padded with zeros.
+#[tactic(auto, using(crate::proofs::lemmas::hmac::Keys::key_rules))]
 fn block_of_key(
     algorithm: &digest::Algorithm,
     key_value: &[u8],
@@ -139,6 +140,7 @@ impl Key {
     /// Makes the key of `key_value` as [`Key::new`] does, and counts its blocks on `meter`: two,
     /// and those of the digest of a value that is longer than a block. A refusal leaves `meter` as
     /// it was.
+    #[tactic(auto, using(crate::proofs::lemmas::hmac::Keys::key_rules))]
     pub fn new_counted(
         algorithm: Algorithm,
         key_value: &[u8],

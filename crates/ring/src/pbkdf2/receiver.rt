@@ -90,6 +90,7 @@ impl<'a> Receiver for Compared<'a> {
 
     ghost none = { λ start place. (refl, λ zero. (λ e. (e, refl), λ h. h.0)) };
 
+    #[tactic(auto, using(crate::proofs::lemmas::pbkdf2::Taking::taking_rules))]
     fn take(&mut self, _place: usize, from: usize, part: &[u8], meter: &mut Meter) {
         let value_part = &self.value[from..from + part.len()];
         // No early exit: after a part that differs, the others are compared.
@@ -129,7 +130,7 @@ impl<'a, const N: usize> Receiver for WrittenEach<'a, N> {
 
     ghost none = { λ start place. (refl, refl, refl, refl) };
 
-    #[tactic(auto, using(crate::proofs::Sums::raised_zero))]
+    #[tactic(auto, using(crate::proofs::Sums::rises))]
     fn take(&mut self, place: usize, from: usize, part: &[u8], _meter: &mut Meter) {
         let out = &mut *self.out;
         put_at(out, place, from, part);

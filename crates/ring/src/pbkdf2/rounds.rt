@@ -71,6 +71,7 @@ fn round_after(derivation: &Derivation<'_>, round: Round) -> Round
 }
 
 // How many rounds there are from `first` on, counted up to the greatest number of lanes.
+#[tactic(auto, using(crate::proofs::Sets::rounds))]
 fn rounds_from(derivation: &Derivation<'_>, first: Round) -> usize
     requires round { IsRound derivation.now.algorithm derivation.now.len first }
     requires place { first.place < length derivation.now.keys.now }
@@ -205,6 +206,7 @@ fn write_rounds<const VECTOR_BITS: usize>(
 
 // Hands the rounds from `first` on to the receiver, whose places are those of the keys from `place`
 // on: of each round what its key takes. Returns the round after them.
+#[tactic(auto, using(crate::proofs::Sets::rounds))]
 fn hand_over<R: Receiver>(
     derivation: &Derivation<'_>,
     first: Round,

@@ -47,6 +47,7 @@ impl RawKey {
     }
 
     /// The key of these numbers: `None` if they name no algorithm.
+    #[tactic(auto, using(crate::proofs::Sets::laws), unfolding(crate::specs::Raw::RawKeyStandsFor))]
     pub fn key(&self) -> Option<Key>
         ensures none { IsNone result ↔ IsNoKey self.now }
         ensures stands { (a : Algorithm) (k : List ℕ) → RawKeyStandsFor self.now a k

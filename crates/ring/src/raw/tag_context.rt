@@ -1,7 +1,7 @@
 // SPDX-License-Identifier: ISC
 //! The numbers of a tag's context.
 
-#![tactic(auto, unfolding(crate::specs::Raw::RawTagStandsFor, crate::specs::Raw::named_block_len))]
+#![tactic(auto, using(crate::proofs::Sets::laws), unfolding(crate::specs::Raw::RawTagStandsFor))]
 
 ghost use Rattle.std.specs.Prelude.{◌≡◌, ◌↔◌, ℕ, ◌+◌, ◌-◌, ◌<◌, ◌≤◌, List, [], ◌++◌, length, IfOk};
 ghost use Rattle.std.specs.Prelude.{IfSome, IsErr, IsFalse, IsNone, IsSomeAnd, IsTrue, OnOk, Some};

@@ -1,18 +1,22 @@
 -- SPDX-License-Identifier: ISC
-use Rattle.ring.specs.Prelude.{RawKeyStandsFor, RawStandsFor, RawTagStandsFor, StandsFor}
-use Rattle.ring.specs.Prelude.{context_algorithm, pending_bytes, signing_algorithm}
+use Rattle.std.proofs.lemmas.Grind.{common_steps}
+use Rattle.std.proofs.Common.{◌≡◌, ◌+◌, ◌++◌, List, arith, length, ℕ}
+use Rattle.ring.specs.Prelude.{Algorithm, IsWhole, RawStandsFor, RawTagStandsFor, StandsFor}
+use Rattle.ring.specs.Prelude.{block_len, digest_after, hmac_of, inner_block, outer_block}
+use Rattle.ring.specs.Prelude.{pending_bytes, signing_algorithm, tag_of_inner, words_after}
 use Rattle.ring.proofs.lemmas.digest.Finishing.{digest_with-is}
-use Rattle.ring.proofs.lemmas.hmac.Keys.{outer_taken, tag_from-is, tag_under-is, tag_with-is}
+use Rattle.ring.proofs.lemmas.hmac.Keys.{inner_len, outer_taken, tag_of_inner-is}
 use Rattle.ring.proofs.laws.standing_values_give_the_standards_bytes.Goals as goal
 
-pub returns-clause-context : goal.returns-clause-context
-unfolding StandsFor
-returns-clause-context c = λ x m y h.
-    digest_with-is (context_algorithm x) h.whole (pending_bytes x) m y h.taken.whole h.taken.words
-    h.message
-
-pub returns-clause-key : goal.returns-clause-key
-returns-clause-key c = tag_under-is
+-- the tag of an inner context's message and of the bytes y after it
+tag_with-is : (a : Algorithm) {inner outer : List ℕ} (k m y p x : List ℕ) → IsWhole a p
+    → inner ≡ words_after a p → inner_block a k ++ m ≡ p ++ x
+    → IsWhole a (outer_block a k) → outer ≡ words_after a (outer_block a k)
+    → tag_of_inner a outer (digest_after a inner (x ++ y) (block_len a + length (m ++ y)))
+    ≡ hmac_of a k (m ++ y)
+tag_with-is a {inner} k m y p x wi ei joined wo eo =
+    let inside = digest_with-is a p x (inner_block a k ++ m) y wi ei joined in
+    tag_of_inner-is a k (m ++ y) wo eo (grind (arith, common_steps, inner_len a k (m ++ y)))
 
 pub returns-clause-tag_context : goal.returns-clause-tag_context
 unfolding StandsFor
@@ -22,16 +26,6 @@ returns-clause-tag_context c = λ x k m y h.
     let taken = h.inner.taken in
     tag_with-is a k m y h.inner.whole (pending_bytes x.inner) taken.whole taken.words
     h.inner.message outer.0 outer.1
-
-pub returns-clause-raw_context : goal.returns-clause-raw_context
-unfolding RawStandsFor
-returns-clause-raw_context c = λ raw a m y h.
-    digest_with-is a h.blocks _ m y h.state.whole h.state.words h.message
-
-pub returns-clause-raw_key : goal.returns-clause-raw_key
-unfolding RawKeyStandsFor
-returns-clause-raw_key c = λ raw a k m h.
-    tag_from-is a k m h.inner.whole h.inner.words h.outer.whole h.outer.words
 
 pub returns-clause-raw_tag_context : goal.returns-clause-raw_tag_context
 unfolding RawTagStandsFor RawStandsFor

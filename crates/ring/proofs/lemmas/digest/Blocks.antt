@@ -142,8 +142,3 @@ module _ {b n : BlockContext} where
         counted = omega (arith, ec, done);
         cost = em;
       }
-
--- a number below the divisor
-pub short_div : (y b : ℕ) → y < b → y / b ≡ 0
-short_div y b h =
-    grind (arith, common_steps, div-mul-add)

@@ -63,3 +63,5 @@ pub taken_len : (b : BlockContext) (p x : List ℕ) (len : ℕ) → HasTaken b p
     → len ≤ max_input_len b.algorithm → length (p ++ x) ≡ len
 taken_len b p x len h e most =
     omega (arith, h.count, length-append p x, max_input_len-most b.algorithm)
+
+pub ruleset finish_rules = (common_steps, front_of)

@@ -16,6 +16,7 @@ use Rattle.ring_core.proofs.ChunkFolds.{fold_chunks-append}
 use Rattle.ring.proofs.lemmas.digest.Blocks.{moved_front, mul_whole}
 use Rattle.ring.proofs.Rows.{block_len-positive}
 use Rattle.ring.proofs.lemmas.digest.Updating.{updated_moved}
+use Rattle.ring.proofs.Sums.{raised_zero}
 
 -- the quotients of a sum that comes in two steps
 pub div-then : (p x y b : ℕ) → 0 < b → (p + x) / b + ((p + x) % b + y) / b ≡ (p + (x + y)) / b
@@ -116,3 +117,5 @@ pub sized_of : (y : Context) {s : DynState} {w : ℕ} (a : Algorithm) → s ≡ 
     → context_algorithm y ≡ a → word_len a ≡ w → state_word_len s ≡ w
 sized_of y a e is size =
     grind (arith, common_steps)
+
+pub ruleset part_rules = (common_steps, partway, raised_zero, take-append-drop)

@@ -20,6 +20,8 @@ use Rattle.ring.proofs.lemmas.digest.Padding.{length-padded}
 use Rattle.ring.proofs.Rows.{block_len-positive, by_sizes}
 use Rattle.ring.proofs.lemmas.digest.Runs.{long_row}
 use Rattle.ring.proofs.lemmas.digest.Tails.{padded-append}
+use Rattle.ring_core.proofs.Costs.{raised-none}
+use Rattle.std.proofs.lemmas.List.{take_rest}
 
 -- what holds of both sizes of blocks
 by_size : (P : ℕ → Type 0) (a : Algorithm) {n : ℕ} → block_len a ≡ n → P 64 → P 128 → P n
@@ -180,3 +182,5 @@ pub words_at-chunks : {n : ℕ} {ws : List ℕ} (a : Algorithm) (m : List ℕ) (
     → take (word_count a) ws ≡ words_at a m k
 unfolding words_at
 words_at-chunks a m k e has = rw e has.chaining
+
+pub ruleset lane_rules = (common_steps, blocks_left, chunk_tail, take_rest)

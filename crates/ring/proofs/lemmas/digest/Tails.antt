@@ -12,6 +12,7 @@ use Rattle.ring.specs.Prelude.{length_len, padded, padded_blocks}
 use Rattle.ring.specs.Prelude.{tail_of, zeros_of}
 use Rattle.ring.proofs.lemmas.digest.Outputs.{length-bytes_high_first}
 use Rattle.ring.proofs.Rows.{by_sizes}
+use Rattle.ring.proofs.Rows.{short_field}
 
 -- the tail has room for all that is written, and no more than two blocks
 pub tail_sizes : (a : Algorithm) (r : ℕ) → r < block_len a
@@ -87,3 +88,5 @@ tail_written a x n t below et =
     let kept : take (t - length_len a) (marked x) ++ field ≡ tail_of a x n =
     rw front (ap (λ (zs : List ℕ). zs ++ field) (take-marked x z fits)) in
     rw kept (take_at (tail_of a x n) (drop t (marked x)) t (length-tail_of a x n ∙ sym size))
+
+pub ruleset length_rules = (common_steps, length_put, short_field)

@@ -13,6 +13,10 @@ use Rattle.std.specs.List.{zip}
 use Rattle.ring.specs.Prelude.{AreUpdated, Context, IsPartway, IsUpdated, message_at, pending_len}
 use Rattle.ring.specs.Prelude.{update_blocks, update_each_blocks}
 use Rattle.ring.proofs.Each.{message-read, message_at-append, set-more}
+use Rattle.ring.proofs.lemmas.digest.GoingOn.{sized_of}
+use Rattle.std.proofs.lemmas.Option.{slice_get-get_or}
+use Rattle.std.proofs.lemmas.List.{get_or-take}
+use Rattle.ring_core.proofs.Costs.{raised-none}
 
 -- two lists of pairs, one after the other
 zip-append : {A B : Type 0} (xs us : List A) (ys vs : List B) → length xs ≡ length ys
@@ -169,3 +173,21 @@ begun-next {old} {now} {pieces} {rests} {i} x d r have below room partway ready 
       partway = rw ((put i).1 refl room, ← changed-at d c have below) partway;
       ready = rw ((put i).1 refl room) ready;
     })
+
+pub ruleset context_rules = (
+  common_steps,
+  blocks-all,
+  blocks-take,
+  changed-none,
+  get_or-take,
+  get_or_default,
+  length-set,
+  length-take-le,
+  message_at-take,
+  raised-none,
+  set-more,
+  sized_of,
+  slice_get-get_or,
+)
+
+pub ruleset fronts = (get_or-take, length-take-le)

@@ -12,9 +12,12 @@ use Rattle.ring.specs.Prelude.{block_words, digest_after}
 use Rattle.ring.specs.Prelude.{StandsFor, block_len, counted_bytes, cut_off, pending_bytes, raised}
 use Rattle.ring.specs.Prelude.{IsUpdated, whole_blocks}
 use Rattle.ring_core.proofs.Costs.{raised-none, raised-raised}
-use Rattle.ring.proofs.lemmas.digest.Blocks.{mul_whole, whole_div-add, short_div}
+use Rattle.ring.proofs.lemmas.digest.Blocks.{mul_whole, whole_div-add}
+use Rattle.std.proofs.Math.Nat.{div-eq_of_lt}
 use Rattle.ring.proofs.Rows.{block_len-positive}
 use Rattle.ring.proofs.lemmas.digest.Tails.{tail_of-append}
+use Rattle.ring.proofs.Rows.{block_len-most}
+use Rattle.ring.proofs.lemmas.digest.Blocks.{moved_front}
 
 -- no block moved
 pub moved_none : {n : ℕ} {b new : BlockContext} {x left : List ℕ} {m : Counts} → new ≡ b
@@ -189,7 +192,7 @@ more_blocks a w m q d whole len partial =
     let more : length m + d ≡ length w + (q + d) = omega (arith, len) in
     let with_more = ap (λ (z : ℕ). z / b) more ∙ whole_div-add (length w) (q + d) b pos whole in
     let without = ap (λ (z : ℕ). z / b) len ∙ whole_div-add (length w) q b pos whole in
-    omega (arith, with_more, without, short_div q b partial)
+    omega (arith, with_more, without, div-eq_of_lt partial)
 
 -- the same of a context
 pub stands_blocks : (s : Context) (m : List ℕ) (d : ℕ) → StandsFor s m
@@ -200,3 +203,7 @@ unfolding StandsFor
 stands_blocks s m d h fits =
     more_blocks s.block.algorithm h.whole m s.num_pending d h.taken.whole (stands_len s m h fits)
     s.partial
+
+pub ruleset update_rules = (common_steps, block_len-most, moved_both, moved_none, stands_blocks)
+
+pub ruleset moves = (moved_front, moved_none)

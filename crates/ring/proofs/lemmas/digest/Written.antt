@@ -98,3 +98,5 @@ module _ {a : Algorithm} {ds : List Digest} (messages : List (Bor (List ℕ))) (
         few = fits;
         bytes = put ∙ rw (have.bytes, bytes-are a ds part are) (sym both);
       }
+
+pub ruleset written_rules = (bytes-room)

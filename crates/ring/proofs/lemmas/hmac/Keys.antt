@@ -10,15 +10,18 @@ use Rattle.ring.specs.Prelude.{hmac_of, inner_block, key_block, key_digest_block
 use Rattle.ring.specs.Prelude.{outer_block, output_len, padded_blocks, raised, short_key, IsWhole}
 use Rattle.ring.specs.Prelude.{Key, KeyStandsFor, block_words, digest_after, key_algorithm}
 use Rattle.ring.specs.Prelude.{tag_from, tag_of_inner, tag_under, words_after}
-use Rattle.ring.proofs.lemmas.digest.Blocks.{short_div}
+use Rattle.std.proofs.Math.Nat.{div-eq_of_lt}
 use Rattle.ring.proofs.lemmas.digest.Finishing.{digest_of-after, digest_with-is}
 use Rattle.ring.proofs.Lengths.{last_past, length-digest_of}
 use Rattle.ring.proofs.Rows.{block_len-most, output_below}
 use Rattle.ring.proofs.lemmas.digest.Updating.{moved_block}
+use Rattle.ring_core.proofs.Costs.{raised-none, raised-raised}
+use Rattle.std.proofs.lemmas.List.{drop-replicate}
+use Rattle.std.proofs.lemmas.List.{take-map}
 
 -- a digest and its padding are one block
 pub one_block : (a : Algorithm) → padded_blocks a (output_len a) ≡ 1
-one_block a = grind (arith, common_steps, short_div, output_below)
+one_block a = grind (arith, common_steps, div-eq_of_lt, output_below)
 
 pub short_key-short : (a : Algorithm) (k : List ℕ) → length k ≤ block_len a → short_key a k ≡ k
 unfolding short_key
@@ -135,16 +138,6 @@ tag_under-is key k m h =
     let outer = outer_taken key.outer (key_algorithm key) _ key.same h.outer in
     tag_from-is (key_algorithm key) k m h.inner.whole h.inner.words outer.0 outer.1
 
--- the tag of an inner context's message and of the bytes y after it
-pub tag_with-is : (a : Algorithm) {inner outer : List ℕ} (k m y p x : List ℕ) → IsWhole a p
-    → inner ≡ words_after a p → inner_block a k ++ m ≡ p ++ x
-    → IsWhole a (outer_block a k) → outer ≡ words_after a (outer_block a k)
-    → tag_of_inner a outer (digest_after a inner (x ++ y) (block_len a + length (m ++ y)))
-    ≡ hmac_of a k (m ++ y)
-tag_with-is a {inner} k m y p x wi ei joined wo eo =
-    let inside = digest_with-is a p x (inner_block a k ++ m) y wi ei joined in
-    tag_of_inner-is a k (m ++ y) wo eo (grind (arith, common_steps, inner_len a k (m ++ y)))
-
 -- the blocks of a key's digest
 pub key_digest_blocks-short : (a : Algorithm) (n : ℕ) → n ≤ block_len a → key_digest_blocks a n ≡ 0
 key_digest_blocks-short a n h =
@@ -154,3 +147,14 @@ key_digest_blocks-short a n h =
 pub length-hmac_of : (a : Algorithm) (k m : List ℕ) → length (hmac_of a k m) ≡ output_len a
 unfolding hmac_of
 length-hmac_of a k m = length-digest_of a _
+
+pub ruleset key_rules = (
+  common_steps,
+  inner_last,
+  key_block-long,
+  key_block-short,
+  key_digest_blocks-short,
+  output_below,
+  raised-none,
+  raised-raised,
+)

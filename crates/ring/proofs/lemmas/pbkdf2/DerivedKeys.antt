@@ -1,6 +1,6 @@
 -- SPDX-License-Identifier: ISC
 -- Keys derived at several places.
-use Rattle.std.proofs.Common.{◌≡◌, ◌↔◌, ℕ, ◌+◌, ◌<◌, ◌≤◌, [], ◌∷◌, ◌∙◌, Bool, List, ap, arith}
+use Rattle.std.proofs.Common.{◌≡◌, ◌↔◌, ℕ, ◌+◌, ◌-◌, ◌<◌, ◌≤◌, [], ◌∷◌, ◌∙◌, Bool, List, ap, arith}
 use Rattle.std.proofs.Common.{length, refl, take, true}
 use Rattle.std.proofs.lemmas.Grind.{common_steps}
 use Rattle.std.specs.Borrow.{Bor}
@@ -44,16 +44,26 @@ module _ (a : Algorithm) (salts secrets : List (Bor (List ℕ))) (c n : ℕ) whe
       (λ j h. rw (message_at-part secrets m k j h, message_at-part salts m k j h) refl) in
       ap (λ (z : ℕ). sum_below all m + z) same ∙ sum_below-append all m k
 
--- some of the keys can be derived where all can
-pub can_derive-part : {a : Algorithm} {m n : ℕ} (salts secrets : List (Bor (List ℕ))) (i k : ℕ)
-    → CanDeriveEach a salts secrets m n → i + k ≤ m
-    → CanDeriveEach a (items_from i k salts) (items_from i k secrets) k n
-can_derive-part salts secrets i k can fits =
+-- the keys at k places from the place i on can be derived where all m can
+pub record IsPart (a : Algorithm) (salts secrets : List (Bor (List ℕ))) (i k m n : ℕ)
+    : Type 0 where
+  pub size : i + k - i ≡ k
+  pub room : i + k ≤ m
+  pub can : CanDeriveEach a (items_from i k salts) (items_from i k secrets) k n
+
+pub part-of : {a : Algorithm} {salts secrets : List (Bor (List ℕ))} {m n : ℕ}
+    → CanDeriveEach a salts secrets m n → (i k : ℕ) → i + k ≤ m → IsPart a salts secrets i k m n
+part-of {salts = salts} {secrets = secrets} can i k fits =
     record {
-      salt_count = grind (arith, common_steps, can.salt_count);
-      secret_count = grind (arith, common_steps, can.secret_count);
-      each = λ j below. rw (message_at-part secrets i k j below, message_at-part salts i k j below)
-          (can.each (i + j) (omega (arith, fits, below)));
+      size = omega arith;
+      room = fits;
+      can = record {
+        salt_count = grind (arith, common_steps, can.salt_count);
+        secret_count = grind (arith, common_steps, can.secret_count);
+        each = λ j below.
+            rw (message_at-part secrets i k j below, message_at-part salts i k j below)
+            (can.each (i + j) (omega (arith, fits, below)));
+      };
     }
 
 -- and under keys of all secrets

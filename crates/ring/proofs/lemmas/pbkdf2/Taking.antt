@@ -83,3 +83,5 @@ pub compared-part : {A : Type 0} {m b : Bool} (front part value : List ℕ) {w :
     → ((m && b) ≡ true) ↔ (A × (take (length (front ++ part)) value ≡ front ++ part))
 compared-part {m = m} {b = b} front part value long room is was =
     grind (arith, common_steps, same_part value front part)
+
+pub ruleset taking_rules = (common_steps, compared-part)

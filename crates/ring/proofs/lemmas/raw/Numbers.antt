@@ -117,18 +117,6 @@ has_begun key {raw} {new = new} named inner outer ea el ep et o =
           grind (arith, common_steps, o.tag y k, et y k);
     }
 
--- numbers that stand for a message name its algorithm
-pub raw_named : (raw : RawContext) (a : Algorithm) (m : List ℕ) → RawStandsFor raw a m
-    → digest_named raw.algorithm ≡ Some a
-unfolding RawStandsFor
-raw_named raw a m h = h.algorithm
-
--- their pending bytes are less than a block
-pub raw_pending : (raw : RawContext) (a : Algorithm) (m : List ℕ) → RawStandsFor raw a m
-    → raw.num_pending < block_len a
-unfolding RawStandsFor
-raw_pending raw a m h = h.partial
-
 -- the length of a message that numbers stand for
 raw_len : (raw : RawContext) (a : Algorithm) (m : List ℕ) (h : IsRawContext raw a m)
     → raw.num_pending ≤ length raw.pending → length m ≡ length h.blocks + raw.num_pending
@@ -175,12 +163,6 @@ unfolding RawTagStandsFor RawStandsFor
 key_block_counted raw a k m h =
     let size = named_len raw.inner.algorithm a h.inner.algorithm in
     grind (arith, common_steps, inner_len a k m, block_len-most a, mod-eq_of_lt)
-
--- the numbers of a tag's context that stand for a message name its algorithm
-pub tag_named : (raw : RawTagContext) (a : Algorithm) (k m : List ℕ) → RawTagStandsFor raw a k m
-    → digest_named raw.inner.algorithm ≡ Some a
-unfolding RawTagStandsFor RawStandsFor
-tag_named raw a k m h = h.inner.algorithm
 
 -- bytes written past the first n of a list, with those
 pub kept : (n : ℕ) (p x c r : List ℕ) → n ≤ length p → c ≡ x

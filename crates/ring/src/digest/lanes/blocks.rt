@@ -64,6 +64,7 @@ impl<const N: usize> Blocks<N> for Whole {
 }
 
 // Writes a block of the padded message past the whole blocks of the message.
+#[tactic(auto, using(crate::proofs::lemmas::digest::LaneBlocks::lane_rules))]
 fn put_tail_block<const N: usize>(
     algorithm: Algorithm,
     message: &[u8],
@@ -108,6 +109,7 @@ impl<const N: usize> Blocks<N> for Padded {
 }
 
 // The smallest number of blocks of the messages.
+#[tactic(auto, using(crate::proofs::Each::reads))]
 pub(crate) fn fewest_blocks<B: Blocks<N>, const N: usize>(
     algorithm: Algorithm,
     messages: &[&[u8]],

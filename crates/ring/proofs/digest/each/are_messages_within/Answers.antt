@@ -12,7 +12,3 @@ returns-then-not-is_message_within c =
       λ all. let within = rw (message-read c.args.messages.now i) at (all i c.messages-test.true) in
           search (rules, c.is_message_within.ensures.1 within, c.if-not-is_message_within.true),
     )
-
-pub messages-preserved : goal.messages-preserved
-messages-preserved c =
-    grind (arith, common_steps, message-read)

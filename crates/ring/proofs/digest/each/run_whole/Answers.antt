@@ -16,7 +16,3 @@ returns-clause-words g c =
     words_at-whole c.args.algorithm c.args.message.now c.args.count c.requires.whole
     (omega (arith, c.if-whole-count.false)) (take_rest c.args.message.now (g.row.N * c.args.count))
     c.requires.words c.run_blocks.ensures.words
-
-pub returns-clause-cost : goal.returns-clause-cost
-returns-clause-cost g c =
-    grind (arith, common_steps, blocks_left, take_rest)

@@ -8,13 +8,6 @@ use Rattle.ring.proofs.Each.{can-part, each_blocks-more, raised-sum}
 use Rattle.ring.proofs.lemmas.digest.Written.{room-next, written-next}
 use Rattle.ring.proofs.digest.each.write_all.Goals as goal
 
-pub groups-init : goal.groups-init
-groups-init g c =
-    record {
-      written = record { place = omega arith; few = omega arith; bytes = refl };
-      cost = raised-none c.args.meter.now;
-    }
-
 pub digest_all-requires : goal.digest_all-requires
 digest_all-requires g c =
     let a = c.args.algorithm.now in

@@ -12,10 +12,6 @@ use Rattle.ring.proofs.lemmas.digest.Updates.{changed-none}
 use Rattle.ring.proofs.lemmas.digest.Updates.{changed-other}
 use Rattle.ring.proofs.digest.updates.complete_each.Goals as goal
 
-pub contexts-init : goal.contexts-init
-contexts-init c =
-    grind (arith, common_steps, changed-none, raised-none)
-
 pub contexts-preserved : goal.contexts-preserved
 contexts-preserved c =
     let i = c.contexts.i in
@@ -54,7 +50,3 @@ contexts-preserved c =
           (rw (← message-read pieces i) at c.complete_begun.ensures.cost)
           (omega (arith, first, second, same, partway.within, within));
     }
-
-pub returns : goal.returns
-returns c =
-    grind (arith, common_steps, blocks-all)

@@ -14,10 +14,6 @@ use Rattle.ring.proofs.Each.{raised-sum}
 use Rattle.ring.proofs.lemmas.digest.Updates.{blocks-more, updated-append}
 use Rattle.ring.proofs.digest.updates.update_all.Goals as goal
 
-pub parts-init : goal.parts-init
-parts-init g c =
-    grind (arith, common_steps, raised-none)
-
 pub update_together-requires-clause-alike : goal.update_together-requires-clause-alike
 update_together-requires-clause-alike g c =
     grind (arith, common_steps, get_or-take, length-drop, length-take-le, take_rest)

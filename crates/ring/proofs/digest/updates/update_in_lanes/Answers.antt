@@ -16,10 +16,6 @@ use Rattle.ring.proofs.lemmas.digest.Updates.{changed-next, changed-none, change
 use Rattle.ring.proofs.lemmas.digest.Updates.{message_at-take}
 use Rattle.ring.proofs.digest.updates.update_in_lanes.Goals as goal
 
-pub new-lanes-requires-clause-sized : goal.new-lanes-requires-clause-sized
-new-lanes-requires-clause-sized g c =
-    grind (arith, common_steps)
-
 pub lanes-init : goal.lanes-init
 lanes-init g c =
     let begun = c.complete_each-all.ensures in
@@ -138,7 +134,3 @@ lanes-preserved g c =
 pub returns-clause-ok : goal.returns-clause-ok
 returns-clause-ok g c =
     grind (arith, common_steps, message_at-take)
-
-pub returns-clause-cost : goal.returns-clause-cost
-returns-clause-cost g c =
-    grind (arith, common_steps, blocks-all, blocks-take)

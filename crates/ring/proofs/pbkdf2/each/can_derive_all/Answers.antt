@@ -13,14 +13,3 @@ returns-then-not-can_derive_by c =
           (all i c.places-test.true) in
           search (rules, c.can_derive_by.ensures.1 read, c.if-not-can_derive_by.true),
     )
-
-pub places-preserved : goal.places-preserved
-places-preserved c =
-    let i = c.places.i in
-    let secrets = c.args.secrets.now in
-    let salts = c.args.salts.now in
-    let this : CanDerive c.args.algorithm.now (length (bytes_at secrets i))
-    (length (bytes_at salts i)) c.args.len =
-    rw (message-read secrets i, message-read salts i)
-    (search (rules, c.if-not-can_derive_by.ensures)) in
-    below_more _ i c.places.invariant this

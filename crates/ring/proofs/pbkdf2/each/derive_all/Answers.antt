@@ -2,7 +2,7 @@
 use Rattle.std.proofs.Common.{◌≡◌, ◌≤◌, ◌+◌, ◌-◌, ◌*◌, arith, length, refl}
 use Rattle.std.specs.Int.NonZero.{non_zero_u32_get}
 use Rattle.ring.specs.Prelude.{derive_blocks_at, hmac_digest, raised, sum_below}
-use Rattle.ring.proofs.lemmas.pbkdf2.DerivedKeys.{blocks-part, can_derive-part, can_derive-under}
+use Rattle.ring.proofs.lemmas.pbkdf2.DerivedKeys.{blocks-part, part-of, can_derive-under}
 use Rattle.ring.proofs.Each.{message_at-part}
 use Rattle.ring.proofs.lemmas.pbkdf2.Places.{items_from}
 use Rattle.ring.proofs.Sums.{raised-sum, raised_zero, sum_below-times}
@@ -23,14 +23,11 @@ pub keys_of-keys-requires : goal.keys_of-keys-requires
 keys_of-keys-requires g c =
     let at = c.keys.made in
     let k = c.min-count.result in
-    let secrets = c.args.secrets.now in
-    let size : at + k - at ≡ k = omega arith in
-    let room : at + k ≤ length secrets = omega arith in
-    let can = can_derive-part c.args.salts.now secrets at k c.requires.within room in
-    rw (size, can.secret_count) (record {
+    let part = part-of c.requires.within at k (omega arith) in
+    rw (part.size, part.can.secret_count) (record {
       some = omega arith;
       most = omega arith;
-      within = λ i below. (can.each i below).secret;
+      within = λ i below. (part.can.each i below).secret;
     })
 
 pub derive_under-requires : goal.derive_under-requires
@@ -38,14 +35,11 @@ derive_under-requires g c =
     let h = c.keys.invariant in
     let at = c.keys.made in
     let k = c.min-count.result in
-    let secrets = c.args.secrets.now in
-    let size : at + k - at ≡ k = omega arith in
-    let room : at + k ≤ length secrets = omega arith in
-    let can = can_derive-part c.args.salts.now secrets at k c.requires.within room in
-    let keys = rw (size, can.secret_count) at c.keys_of-keys.ensures in
-    rw (size, keys.count, c.digest_algorithm-digest.ensures) (record {
-      under = can_derive-under can (omega arith) keys.count keys.ok;
-      room = places-kept h.same c.requires.room room (omega arith);
+    let part = part-of c.requires.within at k (omega arith) in
+    let keys = rw (part.size, part.can.secret_count) at c.keys_of-keys.ensures in
+    rw (part.size, keys.count, c.digest_algorithm-digest.ensures) (record {
+      under = can_derive-under part.can (omega arith) keys.count keys.ok;
+      room = places-kept h.same c.requires.room part.room (omega arith);
     })
 
 pub keys-preserved : goal.keys-preserved
@@ -55,12 +49,10 @@ keys-preserved g c =
     let k = c.min-count.result in
     let salts = c.args.salts.now in
     let secrets = c.args.secrets.now in
-    let size : at + k - at ≡ k = omega arith in
-    let room : at + k ≤ length secrets = omega arith in
-    let can = can_derive-part salts secrets at k c.requires.within room in
-    let keys = rw (size, can.secret_count) at c.keys_of-keys.ensures in
+    let part = part-of c.requires.within at k (omega arith) in
+    let keys = rw (part.size, part.can.secret_count) at c.keys_of-keys.ensures in
     let derived =
-    rw (size, keys.count, c.digest_algorithm-digest.ensures) at c.derive_under.ensures in
+    rw (part.size, keys.count, c.digest_algorithm-digest.ensures) at c.derive_under.ensures in
     let a = hmac_digest c.args.algorithm in
     let iterations = non_zero_u32_get c.args.iterations in
     let cost : c.derive_under.new.meter ≡ raised c.keys.meter (sum_below (derive_blocks_at a
@@ -68,7 +60,7 @@ keys-preserved g c =
     (g.R.Receiver.pairs * (k * c.args.len)) =
     raised-sum _ _ _ _ _ keys.cost derived.cost (sum_below-times _ _ _ _) (omega arith) in
     record {
-      within = room;
+      within = part.room;
       same = keeps-more h.same derived.same;
       cost = raised-sum _ _ _ _ _ h.cost cost
           (blocks-part a salts secrets iterations c.args.len at k) (grind arith);

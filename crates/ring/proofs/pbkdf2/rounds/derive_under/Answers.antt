@@ -51,8 +51,6 @@ hand_over-round-requires-clause-room g c = λ i below.
 pub rounds-preserved : goal.rounds-preserved
 rounds-preserved g c =
     let d = c.args.derivation.now in
-    let a = d.algorithm in
-    let len = d.len in
     let h = c.rounds.invariant in
     let handed = c.hand_over-round.ensures in
     let t = c.lanes_for-lanes.result in
@@ -61,9 +59,9 @@ rounds-preserved g c =
     let keys = length d.keys.now in
     let places = fewer_rounds t c.rounds_from-left.ensures.places (omega arith) in
     let blocks = blocks_at d in
-    let had = len_before len c.rounds.round in
-    let has = len_before len c.hand_over-round.result in
-    let reached : ℕ = blocks_before a blocks len (nth_round d c.rounds.round t) in
+    let had = len_before d.len c.rounds.round in
+    let has = len_before d.len c.hand_over-round.result in
+    let reached : ℕ = blocks_before d.algorithm blocks d.len (nth_round d c.rounds.round t) in
     record {
       round = rw next (is_round-on h.round t);
       up_to = rw next (up_to-on h.round h.up_to t places);

@@ -11,17 +11,6 @@ use Rattle.ring.proofs.lemmas.pbkdf2.Rounds.{round_on-next, round_on-none, taken
 use Rattle.ring.proofs.lemmas.pbkdf2.Taking.{keeps-more, places-kept}
 use Rattle.ring.proofs.pbkdf2.rounds.hand_over.Goals as goal
 
-pub rounds-init : goal.rounds-init
-rounds-init g c =
-    record {
-      here = sym (round_on-none _ _ _);
-      round = c.requires.round;
-      more = omega arith;
-      same = record { count = refl; bytes = refl };
-      taken = λ start f m outputs h. h;
-      cost = sym (raised_zero _ _ _ (omega arith) (grind arith));
-    }
-
 pub take-requires : goal.take-requires
 take-requires g c =
     let h = c.rounds.invariant in

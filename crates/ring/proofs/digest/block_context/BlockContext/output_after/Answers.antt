@@ -6,10 +6,6 @@ use Rattle.ring.specs.Prelude.{As32, is_state_of}
 use Rattle.ring.proofs.lemmas.digest.Finishing.{front_of}
 use Rattle.ring.proofs.digest.block_context.BlockContext.output_after.Goals as goal
 
-pub returns-in-As64-clause-bytes : goal.returns-in-As64-clause-bytes
-returns-in-As64-clause-bytes c =
-    grind (arith, common_steps, front_of)
-
 pub returns-in-As32-clause-bytes : goal.returns-in-As32-clause-bytes
 returns-in-As32-clause-bytes c =
     let b = c.args.self.now in

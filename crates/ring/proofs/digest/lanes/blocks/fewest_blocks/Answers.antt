@@ -8,7 +8,3 @@ pub blocks_of-requires-clause-within : goal.blocks_of-requires-clause-within
 blocks_of-requires-clause-within g c =
     rw (message-read c.args.messages.now c.messages.i)
     at (c.requires.within c.messages.i c.messages-test.true)
-
-pub messages-preserved : goal.messages-preserved
-messages-preserved g c =
-    grind (arith, common_steps, message-read)

@@ -6,9 +6,10 @@ use Rattle.std.proofs.lemmas.Option.{same_Some}
 use Rattle.ring.specs.Prelude.{Algorithm, Digest, HasTaken, IsDigest, RawStandsFor, block_words}
 use Rattle.ring.specs.Prelude.{bytes_of, counted_bytes, cut_off, digest_after, digest_named}
 use Rattle.ring.specs.Prelude.{raw_digest_with, raw_message_len}
-use Rattle.ring.proofs.lemmas.raw.Numbers.{raw_last, raw_named, refused_raw, taken_raw}
+use Rattle.ring.proofs.lemmas.raw.Numbers.{raw_last, refused_raw, taken_raw}
 use Rattle.ring.proofs.Outcomes.{if_ok_map, on_ok_map}
 use Rattle.ring.proofs.Rows.{block_len-most}
+use Rattle.ring.proofs.Sets.{raw-is}
 use Rattle.ring.proofs.raw.context.RawContext.finish_counted.Goals as goal
 
 pub returns-clause-plain : goal.returns-clause-plain
@@ -53,7 +54,7 @@ pub returns-clause-cost_of : goal.returns-clause-cost_of
 returns-clause-cost_of c = λ a m h.
     let raw = c.args.self.now in
     let own = c.in-Some.block.algorithm in
-    let named = raw_named raw a m h in
+    let named = (raw-is raw a m h).algorithm in
     let same : own ≡ a = same_Some own a (sym c.in-Some.ensures.algorithm ∙ named) in
     let fits : raw.num_pending ≤ length raw.pending =
     omega (arith, c.in-Some.ensures.pending, block_len-most own) in

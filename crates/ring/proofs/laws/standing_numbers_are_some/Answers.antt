@@ -1,7 +1,7 @@
 -- SPDX-License-Identifier: ISC
-use Rattle.std.proofs.Common.{arith, rules}
+use Rattle.std.proofs.Common.{arith}
 use Rattle.std.proofs.lemmas.Grind.{common_steps}
-use Rattle.ring.specs.Prelude.{RawKeyStandsFor, RawStandsFor, RawTagStandsFor}
+use Rattle.ring.specs.Prelude.{RawStandsFor, RawTagStandsFor}
 use Rattle.ring.proofs.lemmas.raw.Numbers.{key_block_counted, named_len}
 use Rattle.ring.proofs.laws.standing_numbers_are_some.Goals as goal
 

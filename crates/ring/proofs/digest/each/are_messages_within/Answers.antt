@@ -1,6 +1,4 @@
 -- SPDX-License-Identifier: ISC
-use Rattle.std.proofs.Common.{arith}
-use Rattle.std.proofs.lemmas.Grind.{common_steps}
 use Rattle.std.proofs.Common.{rules, sym, true≢false}
 use Rattle.ring.proofs.Each.{message-read}
 use Rattle.ring.proofs.digest.each.are_messages_within.Goals as goal

@@ -1,8 +1,7 @@
 -- SPDX-License-Identifier: ISC
-use Rattle.std.proofs.lemmas.Grind.{common_steps}
 use Rattle.std.proofs.Common.{◌≡◌, ◌-◌, ◌*◌, arith}
 use Rattle.std.proofs.lemmas.List.{take_rest}
-use Rattle.ring.proofs.lemmas.digest.LaneBlocks.{blocks_left, words_at-whole}
+use Rattle.ring.proofs.lemmas.digest.LaneBlocks.{words_at-whole}
 use Rattle.ring.proofs.Costs.{raised-none}
 use Rattle.ring.proofs.digest.each.run_whole.Goals as goal
 

@@ -3,7 +3,6 @@ use Rattle.std.proofs.Common.{◌≡◌, ◌≤◌, ◌+◌, ◌-◌, arith, len
 use Rattle.std.proofs.lemmas.Grind.{common_steps}
 use Rattle.std.proofs.lemmas.List.{length-take-le}
 use Rattle.ring.specs.Prelude.{CanDigestEach}
-use Rattle.ring_core.proofs.Costs.{raised-none}
 use Rattle.ring.proofs.Each.{can-part, each_blocks-more, raised-sum}
 use Rattle.ring.proofs.lemmas.digest.Written.{room-next, written-next}
 use Rattle.ring.proofs.digest.each.write_all.Goals as goal

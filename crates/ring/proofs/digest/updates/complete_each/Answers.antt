@@ -1,14 +1,11 @@
 -- SPDX-License-Identifier: ISC
-use Rattle.std.proofs.lemmas.Grind.{common_steps}
 use Rattle.std.proofs.Common.{◌≡◌, ◌+◌, ◌-◌, ◌<◌, ◌∙◌, ℕ, ap, arith, get_or, length}
 use Rattle.std.proofs.Common.{slice_set, take}
 use Rattle.std.proofs.lemmas.List.{length-set}
 use Rattle.ring.specs.Prelude.{Context, IsPartway, message_at, update_blocks}
 use Rattle.ring.specs.Prelude.{update_each_blocks}
-use Rattle.ring.proofs.Costs.{raised-none}
 use Rattle.ring.proofs.Each.{message-read, raised-sum}
-use Rattle.ring.proofs.lemmas.digest.Updates.{begun-next, blocks-all, blocks-next, blocks-put}
-use Rattle.ring.proofs.lemmas.digest.Updates.{changed-none}
+use Rattle.ring.proofs.lemmas.digest.Updates.{begun-next, blocks-next, blocks-put}
 use Rattle.ring.proofs.lemmas.digest.Updates.{changed-other}
 use Rattle.ring.proofs.digest.updates.complete_each.Goals as goal
 

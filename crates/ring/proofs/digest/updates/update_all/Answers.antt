@@ -9,7 +9,6 @@ use Rattle.std.proofs.Common.{sym}
 use borrow.Rule.Slice.PartMut.{same_len_mid}
 use Rattle.std.proofs.lemmas.List.{get_or-take, length-take-le, take_rest}
 use Rattle.ring.specs.Prelude.{update_each_blocks}
-use Rattle.ring.proofs.Costs.{raised-none}
 use Rattle.ring.proofs.Each.{raised-sum}
 use Rattle.ring.proofs.lemmas.digest.Updates.{blocks-more, updated-append}
 use Rattle.ring.proofs.digest.updates.update_all.Goals as goal

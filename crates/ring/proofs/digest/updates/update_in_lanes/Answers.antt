@@ -11,7 +11,7 @@ use Rattle.ring.specs.Prelude.{message_at, pending_len, update_blocks}
 use Rattle.ring.specs.Prelude.{update_each_blocks, word_count, word_len, words}
 use Rattle.ring.proofs.Each.{message-read, raised-lane, raised-sum}
 use Rattle.ring.proofs.Rows.{block_len-positive}
-use Rattle.ring.proofs.lemmas.digest.Updates.{blocks-all, blocks-next, blocks-take, changed-at}
+use Rattle.ring.proofs.lemmas.digest.Updates.{blocks-next, blocks-take, changed-at}
 use Rattle.ring.proofs.lemmas.digest.Updates.{changed-next, changed-none, changed-other}
 use Rattle.ring.proofs.lemmas.digest.Updates.{message_at-take}
 use Rattle.ring.proofs.digest.updates.update_in_lanes.Goals as goal

@@ -1,6 +1,5 @@
 -- SPDX-License-Identifier: ISC
-use Rattle.std.proofs.Common.{below_more, length, rules, sym, true≢false}
-use Rattle.ring.specs.Prelude.{CanDerive, bytes_at}
+use Rattle.std.proofs.Common.{rules, sym, true≢false}
 use Rattle.ring.proofs.Each.{message-read}
 use Rattle.ring.proofs.pbkdf2.each.can_derive_all.Goals as goal
 

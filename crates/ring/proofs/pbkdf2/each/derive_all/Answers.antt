@@ -1,5 +1,5 @@
 -- SPDX-License-Identifier: ISC
-use Rattle.std.proofs.Common.{◌≡◌, ◌≤◌, ◌+◌, ◌-◌, ◌*◌, arith, length, refl}
+use Rattle.std.proofs.Common.{◌≡◌, ◌*◌, arith, length, refl}
 use Rattle.std.specs.Int.NonZero.{non_zero_u32_get}
 use Rattle.ring.specs.Prelude.{derive_blocks_at, hmac_digest, raised, sum_below}
 use Rattle.ring.proofs.lemmas.pbkdf2.DerivedKeys.{blocks-part, part-of, can_derive-under}

@@ -1,13 +1,12 @@
 -- SPDX-License-Identifier: ISC
-use Rattle.std.proofs.Common.{◌≤◌, ◌≡◌, ◌-◌, arith, get_or, length, min, refl, rules, sym, take}
+use Rattle.std.proofs.Common.{◌≤◌, ◌≡◌, ◌-◌, arith, get_or, length, min, rules, sym, take}
 use Rattle.std.proofs.lemmas.Grind.{common_steps}
 use Rattle.std.proofs.lemmas.List.{length-take, take-take}
 use Rattle.ring_core.proofs.Costs.{raised-raised}
 use Rattle.ring.specs.Prelude.{len_before, output_len}
-use Rattle.ring.proofs.Sums.{raised_zero}
 use Rattle.ring.proofs.lemmas.pbkdf2.DerivedKeys.{no_output}
 use Rattle.ring.proofs.lemmas.pbkdf2.Rounds.{is_round-next, len-more, len-next, mul-sum}
-use Rattle.ring.proofs.lemmas.pbkdf2.Rounds.{round_on-next, round_on-none, taken-next}
+use Rattle.ring.proofs.lemmas.pbkdf2.Rounds.{round_on-next, taken-next}
 use Rattle.ring.proofs.lemmas.pbkdf2.Taking.{keeps-more, places-kept}
 use Rattle.ring.proofs.pbkdf2.rounds.hand_over.Goals as goal
 

@@ -1,6 +1,4 @@
 -- SPDX-License-Identifier: ISC
-use Rattle.std.proofs.Common.{arith}
-use Rattle.std.proofs.lemmas.Grind.{common_steps}
 use Rattle.std.proofs.Common.{IsTrue}
 use Rattle.ring.specs.Prelude.{As32, is_state_of}
 use Rattle.ring.proofs.lemmas.digest.Finishing.{front_of}

@@ -1,6 +1,4 @@
 -- SPDX-License-Identifier: ISC
-use Rattle.std.proofs.lemmas.Grind.{common_steps}
-use Rattle.std.proofs.Common.{arith}
 use Rattle.ring.proofs.Each.{message-read}
 use Rattle.ring.proofs.digest.lanes.blocks.fewest_blocks.Goals as goal
 

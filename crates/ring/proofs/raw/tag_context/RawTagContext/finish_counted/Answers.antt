@@ -4,8 +4,7 @@ use Rattle.std.proofs.lemmas.Option.{same_Some}
 use Rattle.std.proofs.lemmas.Result.{IfOk-at_ok}
 use Rattle.std.proofs.lemmas.Grind.{common_steps}
 use Rattle.ring.specs.Prelude.{IsDigest, RawTagStandsFor, inner_block, outer_block}
-use Rattle.ring_core.proofs.Costs.{raised-raised}
-use Rattle.ring.proofs.lemmas.hmac.Keys.{inner_last, inner_len, length-outer_block}
+use Rattle.ring.proofs.lemmas.hmac.Keys.{inner_len, length-outer_block}
 use Rattle.ring.proofs.Sets.{raw-is}
 use Rattle.ring.proofs.Rows.{block_len-most}
 use Rattle.ring.proofs.raw.tag_context.RawTagContext.finish_counted.Goals as goal

@@ -15,7 +15,6 @@ use Rattle.ring.proofs.lemmas.hmac.Keys.{inner_len, length-inner_block, length-o
 use Rattle.ring.proofs.lemmas.hmac.Keys.{outer_taken, tag_from-is, tag_of_inner-is, tag_under-is}
 use Rattle.ring.proofs.lemmas.raw.Numbers.{kept, key_block_counted, named_len}
 use Rattle.ring_core.proofs.Costs.{raised-raised}
-use Rattle.ring.proofs.Feeding.{fed_more, fed_none, fed_piece, fed_tag-more}
 use Rattle.ring.proofs.Sums.{raised_zero}
 use Rattle.ring.proofs.lemmas.hmac.Keys.{inner_last}
 use Rattle.ring.proofs.lemmas.pbkdf2.Rounds.{is_round-next, round_on-next, round_on-none}
@@ -77,9 +76,6 @@ pub ruleset bytes = (
   tag_of_inner-is,
   tag_under-is,
 )
-
--- of loops over pieces
-pub ruleset feeding = (common_steps, block_len-most, fed_more, fed_none, fed_piece, fed_tag-more)
 
 -- of loops over rounds
 pub ruleset rounds = (common_steps, is_round-next, raised_zero, round_on-next, round_on-none)

@@ -59,13 +59,6 @@ pub(crate) fn key_within(algorithm: hmac::Algorithm, secret: &[u8], meter: &mut 
     }
 }
 
-// A key and seven copies of it.
-macro_rules! eight_of {
-    ($copy:expr, $key:ident) => {
-        [$copy, $copy, $copy, $copy, $copy, $copy, $copy, $key]
-    };
-}
-
 // The HMAC keys of the secrets, in their order, in an array for the greatest number of lanes.
 fn keys_of(algorithm: hmac::Algorithm, secrets: &[&[u8]], meter: &mut Meter) -> [Key; MAX_LANES]
     requires some { 0 < length secrets.now }
@@ -79,7 +72,16 @@ fn keys_of(algorithm: hmac::Algorithm, secrets: &[&[u8]], meter: &mut Meter) -> 
     ensures count { length (take (length secrets.now) result) ≡ length secrets.now }
 {
     let first = key_within(algorithm, secrets[0], meter);
-    let mut keys = eight_of!(first.clone(), first);
+    let mut keys = [
+        first.clone(),
+        first.clone(),
+        first.clone(),
+        first.clone(),
+        first.clone(),
+        first.clone(),
+        first.clone(),
+        first,
+    ];
     'keys: for i in 1..secrets.len() {
         keys[i] = key_within(algorithm, secrets[i], meter);
     }

@@ -79,13 +79,6 @@ pub(crate) trait LaneStates {
             ≡ xor_lists (lane i states.old) (lane i others.now) };
 }
 
-// The exclusive or of the words at each place.
-macro_rules! xored {
-    ($($x:ident ^ $y:ident),*) => {
-        [$($x.bit_xor($y)),*]
-    };
-}
-
 // The exclusive or of the words of two states.
 #[inline(always)]
 fn xored_words<W: Word>(sum: [W; 8], digest: [W; 8]) -> [W; 8]
@@ -93,7 +86,16 @@ fn xored_words<W: Word>(sum: [W; 8], digest: [W; 8]) -> [W; 8]
 {
     let [a, b, c, d, e, f, g, h] = sum;
     let [i, j, k, l, m, n, o, p] = digest;
-    xored!(a ^ i, b ^ j, c ^ k, d ^ l, e ^ m, f ^ n, g ^ o, h ^ p)
+    [
+        a.bit_xor(i),
+        b.bit_xor(j),
+        c.bit_xor(k),
+        d.bit_xor(l),
+        e.bit_xor(m),
+        f.bit_xor(n),
+        g.bit_xor(o),
+        h.bit_xor(p),
+    ]
 }
 
 // A state of the algorithm `A`, in the only lane.

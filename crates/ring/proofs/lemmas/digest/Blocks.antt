@@ -6,7 +6,7 @@ use Rattle.std.proofs.Common.{length, take, drop, sym, ap, ◌∙◌, arith, add
 use Rattle.std.proofs.Common.{replicate}
 use Rattle.std.proofs.lemmas.List.{length-take-le, take-append-drop}
 use Rattle.std.proofs.Math.Nat.{mul-div_cancel, div-mul-le_self, add-mul-div_left, mod-add-mod}
-use Rattle.std.proofs.lemmas.Nat.{div-add-mod', mod-mul-add, div-mul-add}
+use Rattle.std.proofs.lemmas.Nat.{div-add-mod', mod-mul-add}
 use Rattle.ring_core.specs.Prelude.{fold_chunks}
 use Rattle.ring.specs.Prelude.{Algorithm, BlockContext, Counts, HasRunBlocks, HasTaken, IsWhole}
 use Rattle.ring.specs.Prelude.{block_function, block_len, blocks_from, chaining_words, cut_off}

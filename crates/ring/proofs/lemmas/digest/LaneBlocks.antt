@@ -20,7 +20,6 @@ use Rattle.ring.proofs.lemmas.digest.Padding.{length-padded}
 use Rattle.ring.proofs.Rows.{block_len-positive, by_sizes}
 use Rattle.ring.proofs.lemmas.digest.Runs.{long_row}
 use Rattle.ring.proofs.lemmas.digest.Tails.{padded-append}
-use Rattle.ring_core.proofs.Costs.{raised-none}
 use Rattle.std.proofs.lemmas.List.{take_rest}
 
 -- what holds of both sizes of blocks

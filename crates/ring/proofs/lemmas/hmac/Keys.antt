@@ -8,16 +8,14 @@ use Rattle.ring.specs.Prelude.{Algorithm, BlockContext, Counts, Digest, HasRunBl
 use Rattle.ring.specs.Prelude.{IsDigest, IsTag, Tag, block_len, bytes_of, counted_bytes, digest_of}
 use Rattle.ring.specs.Prelude.{hmac_of, inner_block, key_block, key_digest_blocks, last_blocks}
 use Rattle.ring.specs.Prelude.{outer_block, output_len, padded_blocks, raised, short_key, IsWhole}
-use Rattle.ring.specs.Prelude.{Key, KeyStandsFor, block_words, digest_after, key_algorithm}
+use Rattle.ring.specs.Prelude.{Key, KeyStandsFor, block_words, key_algorithm}
 use Rattle.ring.specs.Prelude.{tag_from, tag_of_inner, tag_under, words_after}
 use Rattle.std.proofs.Math.Nat.{div-eq_of_lt}
-use Rattle.ring.proofs.lemmas.digest.Finishing.{digest_of-after, digest_with-is}
+use Rattle.ring.proofs.lemmas.digest.Finishing.{digest_of-after}
 use Rattle.ring.proofs.Lengths.{last_past, length-digest_of}
 use Rattle.ring.proofs.Rows.{block_len-most, output_below}
 use Rattle.ring.proofs.lemmas.digest.Updating.{moved_block}
 use Rattle.ring_core.proofs.Costs.{raised-none, raised-raised}
-use Rattle.std.proofs.lemmas.List.{drop-replicate}
-use Rattle.std.proofs.lemmas.List.{take-map}
 
 -- a digest and its padding are one block
 pub one_block : (a : Algorithm) → padded_blocks a (output_len a) ≡ 1

@@ -5,20 +5,17 @@ use Rattle.std.proofs.Common.{Bool, ap, append-nil, arith, drop, get_or, length,
 use Rattle.std.proofs.Common.{sym, take}
 use Rattle.std.proofs.lemmas.List.{length-map, map_push, take-append-drop, take_more}
 use Rattle.std.proofs.lemmas.List.Elements.{filter_map-append}
-use Rattle.std.specs.List.{All, flat_map}
+use Rattle.std.proofs.lemmas.Slice.Zip.{AllZip-long}
 use Rattle.std.specs.declared.io.Error.{Error}
-use Rattle.ring_sums.specs.Check.{AreCounted, Finding, IsFound, bad_lines_of, entries_of, entry_in}
-use Rattle.ring_sums.specs.Check.{said_of}
-use Rattle.ring_sums.specs.Console.{HasWritten}
+use Rattle.ring_sums.specs.Check.{Finding, IsChecked, entries_of, entry_in}
+use Rattle.ring_sums.specs.Outcomes.{IsOutcomeOf}
 use Rattle.ring_sums.specs.declared.check.Counts.{Counts}
 use Rattle.ring_sums.specs.declared.console.Console.{Console}
 use Rattle.ring_sums.specs.declared.entry.Entry.{Entry}
 use Rattle.ring_sums.specs.declared.list.Line.{Line}
 use Rattle.ring_sums.specs.declared.list.Line.TheVariants as line
 use Rattle.ring_sums.specs.declared.options.Options.{Options}
-use Rattle.ring_sums.specs.declared.outcomes.Outcomes.{Outcomes}
 use Rattle.ring_sums.specs.declared.outcomes.Wanted.{Wanted}
-use Rattle.ring_sums.proofs.WantedFiles.{AreGiven}
 
 module _ (lines : List Line) (n : ℕ) (l : Line) (below : n < length lines) where
   next : {here : Line} → get_or lines n l ≡ here
@@ -47,20 +44,6 @@ module _ (lines : List Line) (n : ℕ) (l : Line) (below : n < length lines) whe
       ∙ length-append (entries_of (take (n + 1) lines)) (entries_of rest) in
       omega (arith, more, all)
 
--- the first n lines are checked
-pub record AreChecked {S R W : Type 0} (remaining : S → Option (List ℕ))
-    (fails_with : S → Error → Bool) (contents : W → Option (List ℕ)) (options : Options)
-    (lines : List Line) (wanted : List (Wanted S)) (state : Outcomes S) (counts : Counts)
-    (old new : Console R W) : Type 0 where
-  pub findings : List Finding
-  pub entries : map (λ f. f.entry) findings ≡ entries_of lines
-  pub given : AreGiven remaining fails_with wanted (map (λ f. f.outcome) findings) state
-  pub found : All (λ f. IsFound options f.entry.listed.items f.outcome f.found) findings
-  pub said : HasWritten contents
-      (flat_map (λ f. said_of options.amount f.entry.name.items f.found) findings) old new
-  pub counted : AreCounted (map (λ f. f.found) findings) counts
-  pub bad : counts.bad_lines ≡ bad_lines_of lines
-
 -- there are as many files as entries, and as many outcomes as findings
 pub files-many : {S : Type 0} (entries : List Entry) (wanted : List (Wanted S))
     → map (λ file. file.algorithm) wanted ≡ map (λ entry. entry.algorithm) entries
@@ -69,12 +52,19 @@ files-many entries wanted files =
     sym (length-map wanted (λ file. file.algorithm)) ∙ ap length files
     ∙ length-map entries (λ entry. entry.algorithm)
 
-pub findings-many : {entries : List Entry} (findings : List Finding)
-    → map (λ f. f.entry) findings ≡ entries
-    → length (map (λ (f : Finding). f.outcome) findings) ≡ length entries
-findings-many findings same =
-    length-map findings (λ (f : Finding). f.outcome)
-    ∙ sym (length-map findings (λ (f : Finding). f.entry)) ∙ ap length same
+pub findings-many : {S R W : Type 0} {remaining : S → Option (List ℕ)}
+    {fails_with : S → Error → Bool} {contents : W → Option (List ℕ)} {options : Options}
+    {lines : List Line} {done : List (Wanted S)} {counts : Counts} {old new : Console R W}
+    → IsChecked remaining fails_with contents options lines done counts old new
+    → length done ≡ length (entries_of lines)
+findings-many {remaining = remaining} {fails_with} {done = done} is =
+    omega (
+      arith,
+      AllZip-long (IsOutcomeOf remaining fails_with) done (map (λ f. f.outcome) is.findings) is.read,
+      length-map is.findings (λ (f : Finding). f.outcome),
+      length-map is.findings (λ (f : Finding). f.entry),
+      ap length is.entries,
+    )
 
 entries-few : (lines : List Line) → length (entries_of lines) ≤ length lines
 entries-few [] = omega arith

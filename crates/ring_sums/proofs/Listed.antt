@@ -7,15 +7,11 @@ use Rattle.std.proofs.KnownBytes.{Appends-nil, Appends-trans}
 use Rattle.std.proofs.lemmas.List.Concat.{flat_map-append}
 use Rattle.std.proofs.lemmas.List.Folds.{list_all-append}
 use Rattle.std.specs.List.{flat_map, list_all, zip}
-use Rattle.std.specs.declared.io.Error.{Error}
 use Rattle.ring_sums.specs.Console.{HasWritten, IsKept}
 use Rattle.ring_sums.specs.Listing.{is_sum, line_of, lines_of}
 use Rattle.ring_sums.specs.declared.console.Console.{Console}
 use Rattle.ring_sums.specs.declared.options.Options.{Options}
 use Rattle.ring_sums.specs.declared.outcome.Outcome.{Outcome}
-use Rattle.ring_sums.specs.declared.outcomes.Outcomes.{Outcomes}
-use Rattle.ring_sums.specs.declared.outcomes.Wanted.{Wanted}
-use Rattle.ring_sums.proofs.WantedFiles.{AreGiven}
 
 and-last : (a b : Bool) → (a && b) ≡ (b && (a && true))
 and-last false false = refl
@@ -69,17 +65,6 @@ module _ {R W : Type 0} {contents : W → Option (List ℕ)} where
       subst (λ z. HasWritten contents z first third)
       (ap (λ z. flat_map text items ++ z) (sym (append-nil (text item)))
       ∙ sym (flat_map-append text items (item ∷ []))) (written-more some one)
-
--- the outcomes of the first `place` files are told
-pub record AreTold {S R W : Type 0} (remaining : S → Option (List ℕ))
-    (fails_with : S → Error → Bool) (contents : W → Option (List ℕ)) (options : Options)
-    (names : List (Bor (List ℕ))) (wanted : List (Wanted S)) (place : ℕ) (is_fine : Bool)
-    (state : Outcomes S) (old new : Console R W) : Type 0 where
-  pub outcomes : List Outcome
-  pub count : length outcomes ≡ place
-  pub given : AreGiven remaining fails_with wanted outcomes state
-  pub written : HasWritten contents (lines_of options names outcomes) old new
-  pub fine : is_fine ≡ list_all is_sum outcomes
 
 -- the line of one more is written
 pub lines-more : {R W : Type 0} {contents : W → Option (List ℕ)} {old mid new : Console R W}

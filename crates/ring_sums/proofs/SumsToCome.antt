@@ -6,7 +6,7 @@ use Rattle.std.proofs.Common.{length-drop, refl, subst, sym}
 use Rattle.std.proofs.Common.{Global}
 use Rattle.std.proofs.Math.Seq.{get_or-append_seam}
 use Rattle.std.proofs.lemmas.Bool.{cases_lt}
-use Rattle.std.proofs.lemmas.List.{drop-append-le, nil_from_length}
+use Rattle.std.proofs.lemmas.List.{drop-append-le}
 use Rattle.std.specs.Prelude.{IsSomeAnd}
 use Rattle.std.specs.Vec.Iter.{into_iter_items}
 use Rattle.std.specs.declared.collections.VecDeque.{VecDeque}

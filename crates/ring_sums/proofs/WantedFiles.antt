@@ -6,8 +6,7 @@ use Rattle.std.proofs.Common.{subst, sym}
 use Rattle.std.specs.Prelude.{IsSomeAnd}
 use Rattle.std.proofs.lemmas.List.{map_push, nil_from_length}
 use Rattle.std.proofs.lemmas.List.Elements.{All-cons, All-head, All-nil, All-push, All-tail}
-use Rattle.std.proofs.lemmas.Slice.Zip.{AllZip-long, all_zipped_more}
-use Rattle.std.specs.List.{All, AllZip}
+use Rattle.std.specs.List.{All}
 use Rattle.std.specs.declared.io.Error.{Error}
 use Rattle.ring.specs.declared.digest.algorithm.Algorithm.{Algorithm}
 use Rattle.ring_sums.specs.Outcome.{IsOutcome}
@@ -114,14 +113,15 @@ pub some-first : {R : Type 0} {remaining : R → Option (List ℕ)} {fails_with 
 some-first {new = new} so fewer =
     omega (arith, fewer, ap length so.whole, length-append so.first new.waiting.items)
 
--- the outcomes of the first files are given
-pub record AreGiven {R : Type 0} (remaining : R → Option (List ℕ)) (fails_with : R → Error → Bool)
-    (wanted : List (Wanted R)) (outcomes : List Outcome) (state : Outcomes R) : Type 0 where
+-- the first files are done, of which this holds, and the outcomes of the rest are to come
+pub record AreDone {R : Type 0} (remaining : R → Option (List ℕ)) (fails_with : R → Error → Bool)
+    (wanted : List (Wanted R)) (state : Outcomes R) (Holds : List (Wanted R) → Type 0)
+    : Type 0 where
   pub done : List (Wanted R)
   pub rest : List (Wanted R)
   pub whole : wanted ≡ done ++ rest
-  pub read : AllZip (IsOutcomeOf remaining fails_with) done outcomes
   pub to_come : FilesToCome remaining fails_with rest state
+  pub is : Holds done
 
 none-left : {R : Type 0} {remaining : R → Option (List ℕ)} {fails_with : R → Error → Bool}
     {new : Outcomes R} (rest : List (Wanted R)) → FileIsGiven remaining fails_with rest None new
@@ -131,51 +131,35 @@ none-left (file ∷ rest) given = absurd given.is.0
 
 module _ {R : Type 0} {remaining : R → Option (List ℕ)} {fails_with : R → Error → Bool}
     {wanted : List (Wanted R)} where
-  pub given-first : {state : Outcomes R} → FilesToCome remaining fails_with wanted state
-      → AreGiven remaining fails_with wanted [] state
-  given-first first =
-      record { done = []; rest = wanted; whole = refl; read = tt; to_come = first }
-
-  more : {new : Outcomes R} (outcomes : List Outcome) (done rest : List (Wanted R))
-      (outcome : Outcome) → wanted ≡ done ++ rest
-      → AllZip (IsOutcomeOf remaining fails_with) done outcomes
+  -- one file more is done
+  pub done-more : {new : Outcomes R} {After : List (Wanted R) → Type 0} (outcome : Outcome)
+      (done rest : List (Wanted R)) → wanted ≡ done ++ rest
       → FileIsGiven remaining fails_with rest (Some outcome) new
-      → AreGiven remaining fails_with wanted (outcomes ++ outcome ∷ []) new
-  more outcomes done [] outcome whole read given = absurd (cc given.is.0)
-  more outcomes done (file ∷ rest) outcome whole read given =
+      → ((file : Wanted R) → IsOutcomeOf remaining fails_with file outcome
+      → After (done ++ file ∷ [])) → AreDone remaining fails_with wanted new After
+  done-more outcome done [] whole given next = absurd (cc given.is.0)
+  done-more outcome done (file ∷ rest) whole given next =
       record {
         done = done ++ file ∷ [];
         rest = rest;
         whole = whole ∙ sym (append_assoc done (file ∷ []) rest);
-        read = all_zipped_more (IsOutcomeOf remaining fails_with) done outcomes file outcome read
-            given.is.0;
         to_come = given.is.1;
+        is = next file given.is.0;
       }
 
-  -- one outcome more
-  pub given-more : {outcomes : List Outcome} {old new : Outcomes R} (outcome : Outcome)
-      → (so : AreGiven remaining fails_with wanted outcomes old)
-      → FileIsGiven remaining fails_with so.rest (Some outcome) new
-      → AreGiven remaining fails_with wanted (outcomes ++ outcome ∷ []) new
-  given-more {outcomes} outcome so given =
-      more outcomes so.done so.rest outcome so.whole so.read given
+  -- where there is no outcome all are
+  pub done-none : {new : Outcomes R} (done rest : List (Wanted R)) → wanted ≡ done ++ rest
+      → FileIsGiven remaining fails_with rest None new → length done ≡ length wanted
+  done-none done rest whole given =
+      let none = none-left rest given in
+      omega (arith, none, ap length whole, length-append done rest)
 
-  -- where there is none the outcomes of all are given
-  pub given-none : {outcomes : List Outcome} {old new : Outcomes R}
-      → (so : AreGiven remaining fails_with wanted outcomes old)
-      → FileIsGiven remaining fails_with so.rest None new → length outcomes ≡ length wanted
-  given-none {outcomes} so given =
-      let none = none-left so.rest given in
-      AllZip-long (IsOutcomeOf remaining fails_with) so.done outcomes so.read
-      ∙ omega (arith, none, ap length so.whole, length-append so.done so.rest)
-
-  -- each file has its outcome once there are as many
-  pub given-all : {outcomes : List Outcome} {state : Outcomes R}
-      → AreGiven remaining fails_with wanted outcomes state → length outcomes ≡ length wanted
-      → AllZip (IsOutcomeOf remaining fails_with) wanted outcomes
-  given-all {outcomes} so many =
-      let long = AllZip-long (IsOutcomeOf remaining fails_with) so.done outcomes so.read in
+  -- all are where there are as many
+  pub done-all : {Holds : List (Wanted R) → Type 0} {state : Outcomes R}
+      → (so : AreDone remaining fails_with wanted state Holds)
+      → length so.done ≡ length wanted → Holds wanted
+  done-all {Holds} so many =
       let none : so.rest ≡ [] = nil_from_length so.rest
-      (omega (arith, long, many, ap length so.whole, length-append so.done so.rest)) in
+      (omega (arith, many, ap length so.whole, length-append so.done so.rest)) in
       let whole : wanted ≡ so.done = so.whole ∙ ap (λ z. so.done ++ z) none ∙ append-nil so.done in
-      subst (λ z. AllZip (IsOutcomeOf remaining fails_with) z outcomes) (sym whole) so.read
+      subst Holds (sym whole) so.is

@@ -1,17 +1,20 @@
 -- SPDX-License-Identifier: ISC
-use Rattle.std.proofs.Common.{◌∙◌, ◌<◌, ◌^◌, ◌∷◌, ◌++◌, [], Bool, ap, arith, length}
-use Rattle.std.proofs.Common.{length-take, map, refl, subst, sym, take}
+use Rattle.std.proofs.Common.{◌∙◌, ◌+◌, ◌<◌, ◌^◌, ◌∷◌, ◌++◌, [], Bool, ap, arith, length}
+use Rattle.std.proofs.Common.{List, length-take, map, refl, subst, sym, take}
 use Rattle.std.specs.Prelude.{is_none}
 use Rattle.std.proofs.lemmas.List.{map_push, take_all}
 use Rattle.std.proofs.lemmas.List.Elements.{All-nil, All-push}
 use Rattle.std.proofs.lemmas.List.Sums.{count_by-le-length, count_by_more_no, count_by_more_yes}
-use Rattle.ring_sums.specs.Check.{AreCounted, Finding, IsFound, entries_of, entry_in}
+use Rattle.std.proofs.lemmas.Slice.Zip.{all_zipped_more}
+use Rattle.ring_sums.specs.Check.{AreCounted, Finding, IsChecked, IsFound, entries_of, entry_in}
 use Rattle.ring_sums.specs.Check.{said_of}
+use Rattle.ring_sums.specs.Outcomes.{IsOutcomeOf}
 use Rattle.ring_sums.specs.declared.list.Line.{Line}
+use Rattle.ring_sums.specs.declared.outcomes.Wanted.{Wanted}
 use Rattle.ring_sums.proofs.CheckedLines.{entries-bad, entries-entry, entries-push, entry-below}
 use Rattle.ring_sums.proofs.CheckedLines.{files-many, findings-few, findings-many}
 use Rattle.ring_sums.proofs.Listed.{written-kept, written-next, written-none}
-use Rattle.ring_sums.proofs.WantedFiles.{AreGiven, given-all, given-first, given-more, given-none}
+use Rattle.ring_sums.proofs.WantedFiles.{done-all, done-more, done-none}
 use Rattle.ring_sums.proofs.check.check_lines.Goals as goal
 use Rattle.ring_sums.proofs.check.check_lines.Goals.{in-Bad+in_ok-warn_of_line-in-Bad}
 use Rattle.ring_sums.proofs.check.check_lines.Goals.{in-Entry+in-Ok+in-Some+in_ok-answer-in-Entry}
@@ -22,37 +25,46 @@ loop-line-init g c = λ files.
     let P : Finding → Type 0 =
     λ f. IsFound c.args.options.now f.entry.listed.items f.outcome f.found in
     record {
-      findings = [];
-      entries = refl;
-      given = given-first c.new-outcomes.ensures;
-      found = All-nil P;
-      said = written-none;
-      counted = record {
-        entries = none.1.0;
-        same = none.1.1.1.1;
-        others = none.1.1.0;
-        unread = none.1.1.1.0;
+      done = [];
+      rest = c.args.wanted.items;
+      whole = refl;
+      to_come = c.new-outcomes.ensures;
+      is = record {
+        findings = [];
+        entries = refl;
+        read = tt;
+        found = All-nil P;
+        said = written-none;
+        counted = record {
+          entries = none.1.0;
+          same = none.1.1.1.1;
+          others = none.1.1.0;
+          unread = none.1.1.1.0;
+        };
+        bad = none.0;
       };
-      bad = none.0;
     }
 
 pub returns-in_default-next : goal.returns-in_default-next
 returns-in_default-next g c = λ files.
     let so = c.loop-line.invariant files in
-    let given = rw c.in_default-next.is at c.in-Ok.ensures so.given.rest so.given.to_come in
+    let given = rw c.in_default-next.is at c.in-Ok.ensures so.rest so.to_come in
     let below = entry-below c.args.lines.now c.loop-line.line-index c.line-item.result
     c.loop-line-test.true c.in-Entry.entry (sym c.line-item.is ∙ c.in-Entry.is) in
-    absurd (omega (
+    absurd {A = IsChecked g.S.Read.remaining g.S.Source.fails_with g.W.Write.contents
+    c.args.options.now c.args.lines.now c.args.wanted.items c.loop-line.counts c.args.console.now
+    c.loop-line.console} (omega (
       arith,
-      given-none so.given given,
+      done-none so.done so.rest so.whole given,
       below,
-      findings-many so.findings so.entries,
+      findings-many so.is,
       files-many (entries_of c.args.lines.now) c.args.wanted.items files,
     ))
 
 pub loop-line-preserved : goal.loop-line-preserved
 loop-line-preserved g c = λ files.
-    let so = c.loop-line.invariant files in
+    let all = c.loop-line.invariant files in
+    let so = all.is in
     let lines = c.args.lines.now in
     let n = c.loop-line.line-index in
     let l = c.line-item.result in
@@ -63,31 +75,37 @@ loop-line-preserved g c = λ files.
       | in-Bad+in_ok-warn_of_line-in-Bad w ↦
           let e = sym c.line-item.is ∙ w.in-Bad.is in
           rw (w.console-is, w.outcomes-is, w.counts-is) (record {
-            findings = so.findings;
-            entries = rw (entries-bad lines n l here w.in-Bad.number e) so.entries;
-            given = so.given;
-            found = so.found;
-            said = written-kept so.said w.warn_of_line.ensures;
-            counted = record {
-              entries = so.counted.entries;
-              same = so.counted.same;
-              others = so.counted.others;
-              unread = so.counted.unread;
+            done = all.done;
+            rest = all.rest;
+            whole = all.whole;
+            to_come = all.to_come;
+            is = record {
+              findings = so.findings;
+              entries = rw (entries-bad lines n l here w.in-Bad.number e) so.entries;
+              read = so.read;
+              found = so.found;
+              said = written-kept so.said w.warn_of_line.ensures;
+              counted = record {
+                entries = so.counted.entries;
+                same = so.counted.same;
+                others = so.counted.others;
+                unread = so.counted.unread;
+              };
+              bad = omega (
+                arith,
+                w.saturating_add.ensures,
+                so.bad,
+                count_by_more_yes is_bad lines n l here (ap is_bad e),
+                count_by-le-length is_bad (take n lines),
+                length-take n lines,
+                few,
+              );
             };
-            bad = omega (
-              arith,
-              w.saturating_add.ensures,
-              so.bad,
-              count_by_more_yes is_bad lines n l here (ap is_bad e),
-              count_by-le-length is_bad (take n lines),
-              length-take n lines,
-              few,
-            );
           })
       | in-Entry+in-Ok+in-Some+in_ok-answer-in-Entry w ↦
           let e = sym c.line-item.is ∙ w.in-Entry.is in
           let entry = w.in-Entry.entry in
-          let given = rw w.in-Some.is at w.in-Ok.ensures so.given.rest so.given.to_come in
+          let given = rw w.in-Some.is at w.in-Ok.ensures all.rest all.to_come in
           let one : Finding = record {
             entry = entry;
             outcome = w.in-Some.outcome;
@@ -95,15 +113,19 @@ loop-line-preserved g c = λ files.
           } in
           let P : Finding → Type 0 =
           λ f. IsFound c.args.options.now f.entry.listed.items f.outcome f.found in
+          let After : List (Wanted _) → Type 0 = λ done.
+          IsChecked g.S.Read.remaining g.S.Source.fails_with g.W.Write.contents c.args.options.now
+          (take (n + 1) lines) done w.count.new.self c.args.console.now w.answer.new.console in
           let room = findings-few lines n so.findings few so.entries
           (entry-below lines n l here entry e) in
-          rw (w.console-is, w.outcomes-is, w.counts-is) (record {
+          rw (w.console-is, w.outcomes-is, w.counts-is) (done-more {After = After}
+          one.outcome all.done all.rest all.whole given
+          (λ file made. record {
             findings = so.findings ++ one ∷ [];
             entries = entries-push so.findings one so.entries (entries-entry lines n l here entry e);
-            given = subst (λ z. AreGiven g.S.Read.remaining g.S.Source.fails_with
-                c.args.wanted.items z w.next_outcome.new.self)
-                (sym (map_push (λ (f : Finding). f.outcome) so.findings one))
-                (given-more one.outcome so.given given);
+            read = rw (map_push (λ (f : Finding). f.outcome) so.findings one)
+                (all_zipped_more (IsOutcomeOf g.S.Read.remaining g.S.Source.fails_with) all.done
+                (map (λ (f : Finding). f.outcome) so.findings) file one.outcome so.read made);
             found = All-push P so.findings one so.found w.in_ok-answer-in-Entry.ensures.found;
             said = written-next (λ f. said_of c.args.options.now.amount f.entry.name.items f.found)
                 so.findings one so.said w.in_ok-answer-in-Entry.ensures.said;
@@ -117,24 +139,15 @@ loop-line-preserved g c = λ files.
               so.bad,
               count_by_more_no is_bad lines n l here (ap is_bad e),
             );
-          })
+          }))
     ]
 
 pub returns : goal.returns
 returns g c = λ files.
-    let so = c.loop-line.invariant files in
     let whole = take_all c.loop-line.line-index c.args.lines.now c.loop-line-test.false in
-    let entries = rw whole at so.entries in
-    record {
-      findings = so.findings;
-      entries = entries;
-      read = given-all so.given (omega (
-        arith,
-        findings-many so.findings entries,
-        files-many (entries_of c.args.lines.now) c.args.wanted.items files,
-      ));
-      found = so.found;
-      said = so.said;
-      counted = so.counted;
-      bad = rw whole at so.bad;
-    }
+    let all = rw whole at c.loop-line.invariant files in
+    done-all all (omega (
+      arith,
+      findings-many all.is,
+      files-many (entries_of c.args.lines.now) c.args.wanted.items files,
+    ))

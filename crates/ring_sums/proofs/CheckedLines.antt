@@ -60,7 +60,8 @@ pub findings-many : {S R W : Type 0} {remaining : S → Option (List ℕ)}
 findings-many {remaining = remaining} {fails_with} {done = done} is =
     omega (
       arith,
-      AllZip-long (IsOutcomeOf remaining fails_with) done (map (λ f. f.outcome) is.findings) is.read,
+      AllZip-long (IsOutcomeOf remaining fails_with) done (map (λ f. f.outcome) is.findings)
+          is.read,
       length-map is.findings (λ (f : Finding). f.outcome),
       length-map is.findings (λ (f : Finding). f.entry),
       ap length is.entries,
@@ -72,7 +73,8 @@ entries-few (line.Entry entry ∷ lines) = omega (arith, entries-few lines)
 entries-few (line.Bad number ∷ lines) = omega (arith, entries-few lines)
 
 -- one finding more can be counted
-pub findings-few : (lines : List Line) (n : ℕ) (findings : List Finding) (few : length lines < 2 ^ 64)
+pub findings-few : (lines : List Line) (n : ℕ) (findings : List Finding)
+    → length lines < 2 ^ 64
     → map (λ f. f.entry) findings ≡ entries_of (take n lines)
     → length (entries_of (take n lines)) < length (entries_of lines)
     → length (map (λ (f : Finding). f.found) findings) < 2 ^ 64 - 1

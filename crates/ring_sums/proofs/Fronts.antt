@@ -6,7 +6,8 @@ use Rattle.std.proofs.Common.{refl, sym, ap, subst, ◌∙◌, arith, add-one, o
 use Rattle.std.proofs.Common.{length-append, length-drop, length-take}
 use Rattle.std.proofs.Math.ListN.{drop_of_length-le}
 use Rattle.std.proofs.Math.Seq.{split_at, take-length}
-use Rattle.std.proofs.lemmas.Bool.{and_parts, cases_Bool, cases_lt, eqb-true, false_from_ne_true, lt-ltb}
+use Rattle.std.proofs.lemmas.Bool.{and_parts, cases_Bool, cases_lt, eqb-true}
+use Rattle.std.proofs.lemmas.Bool.{false_from_ne_true, lt-ltb}
 use Rattle.std.proofs.lemmas.Bool.{ltb-false, not-false, not-true, or_cases, true≢false}
 use Rattle.std.proofs.lemmas.List.{get_or-drop, get_or-take, get_or_past, take-append-drop}
 use Rattle.std.proofs.lemmas.List.Elements.{All-from_get_or, All-head, All-tail}
@@ -34,20 +35,25 @@ not_white : (byte : ℕ) (rest text : List ℕ) → White byte → is_white (get
 not_white byte rest text white ends e =
     true≢false (sym white ∙ subst (λ l. is_white (get_or l 0 0) ≡ false) (sym e) ends)
 
+record IsRun (white text : List ℕ) : Type 0 where
+  all : All White white
+  ends : is_white (get_or text 0 0) ≡ false
+
 -- what stands behind white space is known from the whole
-white_lists : (v w s t : List ℕ) → All White v → All White w → is_white (get_or s 0 0) ≡ false
-    → is_white (get_or t 0 0) ≡ false → v ++ s ≡ w ++ t → s ≡ t
-white_lists [] [] s t hv hw hs ht e = e
-white_lists [] (b ∷ w) s t hv hw hs ht e =
-    absurd (not_white b (w ++ t) s (All-head White b w hw) hs (sym e))
-white_lists (a ∷ v) [] s t hv hw hs ht e =
-    absurd (not_white a (v ++ s) t (All-head White a v hv) ht e)
-white_lists (a ∷ v) (b ∷ w) s t hv hw hs ht e =
-    white_lists v w s t (All-tail White a v hv) (All-tail White b w hw) hs ht (ap (drop 1) e)
+white_lists : (v w s t : List ℕ) → IsRun v s → IsRun w t → v ++ s ≡ w ++ t → s ≡ t
+white_lists [] [] s t one two e = e
+white_lists [] (b ∷ w) s t one two e =
+    absurd (not_white b (w ++ t) s (All-head White b w two.all) one.ends (sym e))
+white_lists (a ∷ v) [] s t one two e =
+    absurd (not_white a (v ++ s) t (All-head White a v one.all) two.ends e)
+white_lists (a ∷ v) (b ∷ w) s t one two e =
+    white_lists v w s t (record { all = All-tail White a v one.all; ends = one.ends })
+    (record { all = All-tail White b w two.all; ends = two.ends }) (ap (drop 1) e)
 
 pub white_same : {line s t : List ℕ} → IsBehindWhite line s → IsBehindWhite line t → s ≡ t
 white_same {s = s} {t} one two =
-    white_lists one.white two.white s t one.all two.all one.ends two.ends (sym one.whole ∙ two.whole)
+    white_lists one.white two.white s t (record { all = one.all; ends = one.ends })
+    (record { all = two.all; ends = two.ends }) (sym one.whole ∙ two.whole)
 
 abbrev is_text : ℕ → Bool
 is_text byte = not (is_white byte)
@@ -69,7 +75,8 @@ white-before bytes =
           (not-false (is_white (get_or bytes i 0)) (fails_before_first is_text bytes i 0 before)));
       whole = sym (take-append-drop n bytes);
       ends = rw first (elim (cases_lt n (length bytes)) [
-        | inl within ↦ not-true (is_white (get_or bytes n 0)) (passes_at_first is_text bytes 0 within)
+        | inl within ↦
+            not-true (is_white (get_or bytes n 0)) (passes_at_first is_text bytes 0 within)
         | inr past ↦ rw (get_or_past bytes n 0 past)
       ]);
     }

@@ -182,11 +182,14 @@ module _ {R : Type 0} {remaining : R → Option (List ℕ)} {fails_with : R → 
       record {
         count = first.count ∙ sym have.count;
         each = λ k l c below r.
+            let x = get_or old k l in
+            let y = get_or now k l in
             let inside : k < length old = omega (arith, have.count, below) in
             let step = have.done k (omega (arith, inside, all)) l in
             subst (λ (z : ℕ). IsIn remaining fails_with a (get_or readers z r)
-            (after (get_or now k l)) (get_or now k l) (get_or contexts k c)) (sym (kept _ _ step))
-            (goes _ _ _ _ step (first.each k l c inside r));
+            (after y) y (get_or contexts k c)) (sym (kept x y step))
+            (goes (get_or readers x.place r) x y (get_or contexts k c) step
+            (first.each k l c inside r));
       }
 
 -- lanes and contexts without those at place i, where the last ones stand now

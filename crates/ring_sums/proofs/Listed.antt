@@ -71,7 +71,8 @@ pub lines-more : {R W : Type 0} {contents : W → Option (List ℕ)} {old mid ne
     (options : Options) (names : List (Bor (List ℕ))) (outcomes : List Outcome)
     (name : Bor (List ℕ)) (outcome : Outcome) → length outcomes < length names
     → HasWritten contents (lines_of options names outcomes) old mid
-    → HasWritten contents (line_of options (get_or names (length outcomes) name).now outcome) mid new
+    → HasWritten contents (line_of options (get_or names (length outcomes) name).now outcome) mid
+    new
     → HasWritten contents (lines_of options names (outcomes ++ outcome ∷ [])) old new
 lines-more options names outcomes name outcome below some one =
     rw (zip-more names outcomes name outcome below)

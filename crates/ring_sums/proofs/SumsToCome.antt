@@ -1,8 +1,8 @@
 -- SPDX-License-Identifier: ISC
 -- Readers whose outcomes are to come.
 use Rattle.std.proofs.Common.{◌≡◌, ℕ, ◌+◌, ◌<◌, List, [], ◌∷◌, ◌++◌, ◌∙◌, Bool, Option, None, Some}
-use Rattle.std.proofs.Common.{ap, append_assoc, arith, drop, get_or, inl, inr, length, length-append}
-use Rattle.std.proofs.Common.{length-drop, refl, subst, sym}
+use Rattle.std.proofs.Common.{ap, append_assoc, arith, drop, get_or, inl, inr, length}
+use Rattle.std.proofs.Common.{length-append, length-drop, refl, subst, sym}
 use Rattle.std.proofs.Common.{Global}
 use Rattle.std.proofs.Math.Seq.{get_or-append_seam}
 use Rattle.std.proofs.lemmas.Bool.{cases_lt}

@@ -57,14 +57,16 @@ module _ {line tag name digits opened : List ℕ} (form : HasTaggedForm line tag
       → (name ≡ before) × (text ≡ 61 ∷ form.behind)
   equals-at {text = text} opens cut white =
       let same = last_cut_same (cut-at opens) cut in
-      (same.0, white_same white (subst (λ l. IsBehindWhite l (61 ∷ form.behind)) same.1 form.equals))
+      let equals = subst (λ l. IsBehindWhite l (61 ∷ form.behind)) same.1 form.equals in
+      (same.0, white_same white equals)
 
 -- its parts are known from the line and the tag
 pub tagged-same : {line tag n m d e : List ℕ} → HasTaggedForm line tag n d
     → HasTaggedForm line tag m e → (n ≡ m) × (d ≡ e)
 tagged-same {d = d} one two =
     let same = equals-at one two.begins two.opens two.cut two.equals in
-    (same.0, white_same (subst (λ l. IsBehindWhite l d) (ap (drop 1) (sym same.1)) one.ends) two.ends)
+    let ends = subst (λ l. IsBehindWhite l d) (ap (drop 1) (sym same.1)) one.ends in
+    (same.0, white_same ends two.ends)
 
 -- ---- tags
 

@@ -1,7 +1,7 @@
 -- SPDX-License-Identifier: ISC
 -- Files whose outcomes are to come, and those whose outcomes are given.
-use Rattle.std.proofs.Common.{◌≡◌, ℕ, ◌<◌, ◌≤◌, Bool, List, [], ◌∷◌, ◌++◌, ◌∙◌, Option, None, Some, ap}
-use Rattle.std.proofs.Common.{append_assoc, append-nil, arith, length, length-append, map, refl}
+use Rattle.std.proofs.Common.{◌≡◌, ℕ, ◌<◌, ◌≤◌, Bool, List, [], ◌∷◌, ◌++◌, ◌∙◌, Option, None, Some}
+use Rattle.std.proofs.Common.{ap, append_assoc, append-nil, arith, length, length-append, map, refl}
 use Rattle.std.proofs.Common.{subst, sym}
 use Rattle.std.specs.Prelude.{IsSomeAnd}
 use Rattle.std.proofs.lemmas.List.{map_push, nil_from_length}

@@ -1,8 +1,8 @@
 -- SPDX-License-Identifier: ISC
 -- Written lines read back, in both styles.
 use Rattle.std.proofs.Common.{◌≡◌, ℕ, ◌*◌, ◌<◌, eqb, Bool, true, false, not, ◌||◌, List, [], ◌∷◌}
-use Rattle.std.proofs.Common.{◌++◌, if◌then◌else◌, length, get_or, Option, Some, None, refl, sym, ap}
-use Rattle.std.proofs.Common.{◌∙◌, append_assoc, arith, inr}
+use Rattle.std.proofs.Common.{◌++◌, if◌then◌else◌, length, get_or, Option, Some, None, refl, sym}
+use Rattle.std.proofs.Common.{ap, ◌∙◌, append_assoc, arith, inr}
 use Rattle.std.proofs.lemmas.Bool.{and_parts, le-leb, ne_eqb, true≢false}
 use Rattle.std.proofs.lemmas.List.{append_cancel_right}
 use Rattle.std.proofs.lemmas.List.Elements.{All-cons, All-nil}
@@ -20,7 +20,8 @@ use Rattle.ring.specs.declared.digest.algorithm.AlgorithmId.{AlgorithmId}
 use Rattle.ring.specs.declared.digest.algorithm.AlgorithmId.TheVariants.{Sha1, Sha256, Sha384}
 use Rattle.ring.specs.declared.digest.algorithm.AlgorithmId.TheVariants.{Sha512, Sha512_256}
 use Rattle.ring.specs.declared.digest.algorithm.TheConstants.{SHA512_256}
-use Rattle.ring_sums.specs.Entry.{HasPlainForm, HasTaggedForm, IsAskedFor, IsDigestOf, IsShape, Listed, ReadsAs}
+use Rattle.ring_sums.specs.Entry.{HasPlainForm, HasTaggedForm, IsAskedFor, IsDigestOf, IsShape}
+use Rattle.ring_sums.specs.Entry.{Listed, ReadsAs}
 use Rattle.ring_sums.specs.Entry.{Shape, algorithm_of_count, gap_after, gap_shown, is_marked}
 use Rattle.ring_sums.specs.Entry.{listed_in, named_by, slash, tag_of, tag_of_id}
 use Rattle.ring_sums.specs.Entry.{with_digits, with_tag}

@@ -169,7 +169,8 @@ module _ (asked : Option Algorithm) (is_standard_input : Bool) (is_binary : Opti
         let first = All-head Can listed all can in
         let n = next is_tagged gap free listed first in
         let more = lists-back all (All-tail Can listed all can) (number + 1) n.after n.free in
-        let one = says asked is_standard_input is_tagged is_binary listed n.is first.other number in (
+        let one = says asked is_standard_input is_tagged is_binary listed n.is first.other number
+        in (
           more.0,
           rw (split asked is_standard_input is_tagged is_binary listed n.is first.other
               (flat_map (line_of is_tagged is_binary) all))

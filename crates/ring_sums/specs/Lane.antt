@@ -21,8 +21,8 @@ front_of n lane = take n (left_of lane)
 abbrev pub behind_of : {R : Type 0} → ℕ → Lane R → List ℕ
 behind_of n lane = drop n (left_of lane)
 
--- the context stands for what a reader has given since it was `first`, but for the bytes `rest` that
--- came last
+-- the context stands for what a reader has given since it was `first`, but for the bytes `rest`
+-- that came last
 pub record HasTaken {R : Type 0} (remaining : R → Option (List ℕ)) (first now : R)
     (rest : List ℕ) (context : Context) : Type 0 where
   pub bytes : List ℕ

@@ -122,7 +122,8 @@ loop-line-preserved g c = λ files.
           one.outcome all.done all.rest all.whole given
           (λ file made. record {
             findings = so.findings ++ one ∷ [];
-            entries = entries-push so.findings one so.entries (entries-entry lines n l here entry e);
+            entries = entries-push so.findings one so.entries
+                (entries-entry lines n l here entry e);
             read = rw (map_push (λ (f : Finding). f.outcome) so.findings one)
                 (all_zipped_more (IsOutcomeOf g.S.Read.remaining g.S.Source.fails_with) all.done
                 (map (λ (f : Finding). f.outcome) so.findings) file one.outcome so.read made);

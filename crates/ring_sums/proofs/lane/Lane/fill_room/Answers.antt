@@ -1,11 +1,11 @@
 -- SPDX-License-Identifier: ISC
 use Rattle.std.proofs.Common.{◌≡◌, ◌+◌, ◌-◌, ◌≤◌, ◌++◌, ◌∙◌, List, ℕ, ap, append_assoc, arith}
-use Rattle.std.proofs.Common.{drop, length, refl, subst, sym, take}
+use Rattle.std.proofs.Common.{drop, length, length-take-le, refl, subst, sym, take}
 use Rattle.std.specs.Io.KnownBytes.{Consumes}
 use Rattle.std.proofs.KnownBytes.{Consumes-trans}
 use Rattle.ring_sums.specs.Lane.{left_of}
-use Rattle.std.proofs.lemmas.List.{take_at}
-use Rattle.ring_sums.proofs.Filled.{filled_left, filled_len}
+use Rattle.std.proofs.lemmas.List.{drop-append-le, take_at}
+use Rattle.ring_sums.proofs.Filled.{filled_len, filled_more}
 use Rattle.ring_sums.proofs.lane.Lane.fill_room.Goals as goal
 use borrow.Rule.Slice.PartMut.{put_mid}
 
@@ -30,7 +30,10 @@ returns-in-Ok g c =
     let left : drop old.from (take (old.len + n) (take old.room.len (room ++ rest)))
     ≡ left_of old ++ take n ys =
     ap (λ (z : List ℕ). drop old.from (take (old.len + n) z)) (take_at room rest old.room.len long)
-    ∙ filled_left old.len k xs ys old.from n c.requires fits c.in-Ok.ensures.within
+    ∙ ap (λ (z : List ℕ). drop old.from z)
+    (filled_more old.len k xs ys n fits c.in-Ok.ensures.within)
+    ∙ drop-append-le old.from (take old.len xs) (take n ys)
+    (omega (arith, c.requires, length-take-le old.len xs fits))
     ∙ ap (λ (z : List ℕ). drop old.from (take old.len z) ++ take n ys) c.deref_mut.ensures.value in
     record {
       place = refl;

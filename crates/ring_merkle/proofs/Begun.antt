@@ -13,7 +13,7 @@ use Rattle.std.proofs.lemmas.Nat.{pow_pos}
 use Rattle.std.specs.Int.{is_power_of_two}
 use Rattle.ring_merkle.specs.Consistency.{IsConsistent, LeadsToBoth, first_last, first_node}
 use Rattle.ring_merkle.specs.Consistency.{proof_of, subproof_at, subproof_of, values_of}
-use Rattle.ring_merkle.specs.Cost.{path_len}
+use Rattle.ring_merkle.specs.Cost.{left_out, path_len}
 use Rattle.ring_merkle.specs.Inclusion.{path_at}
 use Rattle.ring_merkle.specs.Tree.{root_at, root_of}
 use Rattle.ring_merkle.specs.Walk.{is_even, shifted_last, shifted_node}
@@ -226,11 +226,9 @@ length-values : (b : Bool) (r : List ℕ) (ps : List (List ℕ))
 length-values true r ps = omega arith
 length-values false r ps = omega arith
 
-same-tests : (a b : Bool) → cond {A = ℕ} a 0 1 ≡ cond b 0 1 → a ≡ b
-same-tests true true e = refl
-same-tests true false e = absurd (omega arith)
-same-tests false true e = absurd (omega arith)
-same-tests false false e = refl
+left-by : (b : Bool) (m l s : ℕ) → l + 1 ≡ s + cond b 0 1 → cond (l == s) 0 m ≡ cond b m 0
+left-by true m l s e = grind (arith, nat_tests)
+left-by false m l s e = grind (arith, nat_tests)
 
 some-steps : {f : Step} {n m : ℕ} {r x : List ℕ} (ps : List (List ℕ)) → 0 < m
     → Leads f n m r ps x → 0 < length ps
@@ -265,10 +263,11 @@ module _ (m : ℕ) (xs : List (List ℕ)) (pos : 0 < m) (lt : m < length xs)
         length-values (is_power_of_two m) (root_of (take m xs)) (proof_of m xs),
       )
 
-  pub power-of-rest : {b : Bool} {left : ℕ}
-      → length (subproof_of m xs false) + left ≡ 1 + length (proof_of m xs) → left ≡ cond b 0 1
-      → is_power_of_two m ≡ b
-  power-of-rest {b} e is = same-tests (is_power_of_two m) b (omega (arith, length-both))
+  -- then the root of the beginning is no value of the proof, and else it is one
+  pub left-out : left_out m xs (length (proof_of m xs)) ≡ cond (is_power_of_two m) m 0
+  left-out =
+      left-by (is_power_of_two m) m (length (proof_of m xs)) (length (subproof_of m xs false))
+      length-both
 
   -- the proof has a value for each level with a sibling from the first node on, and one for that
   -- node where m is no power of two

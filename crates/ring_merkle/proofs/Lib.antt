@@ -13,5 +13,3 @@ pub mod Begun
 pub mod Collisions
 pub mod Rises
 pub mod Joins
-pub mod Filled
-pub mod Spent

@@ -1,9 +1,9 @@
 -- SPDX-License-Identifier: ISC
 -- What the verifications cost.
 use Rattle.std.specs.Prelude.{◌+◌, ◌-◌, ◌*◌, ◌/◌, ◌%◌, ◌==◌, ◌&&◌, [], ◌∷◌, ℕ, zero, suc, Bool}
-use Rattle.std.specs.Prelude.{cond, count_ones, List, length, nat_lt, drop}
+use Rattle.std.specs.Prelude.{cond, false, count_ones, List, length, nat_lt, drop}
 use Rattle.std.specs.Int.{is_power_of_two}
-use Rattle.ring_merkle.specs.Consistency.{first_last, first_node, values_of}
+use Rattle.ring_merkle.specs.Consistency.{first_last, first_node, subproof_of, values_of}
 use Rattle.ring_merkle.specs.Walk.{is_right, next_last, next_node}
 
 -- the node is the last one of its level, and has no sibling there
@@ -59,6 +59,11 @@ tree_blocks n = cond (n == 0) nothing_blocks (node_blocks * (n - 1))
 -- not hashed, and there is one for each value
 abbrev pub inclusion_path_blocks : (n len : ℕ) → ℕ
 inclusion_path_blocks n len = node_blocks * (n - 1 - len)
+
+-- how many leaves a proof of len values that m leaves are the beginning leaves out: these, where
+-- their root is no value of it
+abbrev pub left_out : (m : ℕ) → (leaves : List (List ℕ)) → (len : ℕ) → ℕ
+left_out m xs len = cond (len == length (subproof_of m xs false)) 0 m
 
 -- the blocks of making the proof of len values that m leaves are the beginning of n: the nodes
 -- above the last node of the beginning are not hashed. Where m is an exact power of 2, this node

@@ -1,13 +1,14 @@
 // SPDX-License-Identifier: ISC
 //! The paths of both kinds of proof, made from the leaf hashes of a tree.
 
-ghost use Rattle.std.specs.Prelude.{◌≡◌, ◌↔◌, ◌+◌, ◌<◌, ◌≤◌, ◌==◌, ◌&&◌, [], ◌∷◌, ◌++◌, Bool, cond};
+ghost use Rattle.std.specs.Prelude.{◌≡◌, ◌↔◌, ◌+◌, ◌-◌, ◌*◌, ◌<◌, ◌≤◌, ◌==◌, ◌&&◌, [], ◌∷◌, ◌++◌};
+ghost use Rattle.std.specs.Prelude.{Bool, cond};
 ghost use Rattle.std.specs.Prelude.{length, drop, IfOk, IsOk, OnErr};
 ghost use Rattle.std.specs.Int.{IsPowerOfTwo, is_power_of_two};
 ghost use Rattle.ring.specs.Prelude.{raised};
 ghost use Rattle.ring_merkle.specs.Consistency.{first_last, first_node, proof_of, subproof_of};
-ghost use Rattle.ring_merkle.specs.Cost.{consistency_path_blocks, inclusion_path_blocks, path_len};
-ghost use Rattle.ring_merkle.specs.Cost.{tree_blocks};
+ghost use Rattle.ring_merkle.specs.Cost.{consistency_path_blocks, inclusion_path_blocks, left_out};
+ghost use Rattle.ring_merkle.specs.Cost.{node_blocks, path_len, tree_blocks};
 ghost use Rattle.ring_merkle.specs.Inclusion.{path_of};
 ghost use Rattle.ring_merkle.specs.Tree.{root_of};
 
@@ -73,9 +74,8 @@ fn parts_of(leaves: &[[u8; HASH_LEN]], node: usize) -> (&[[u8; HASH_LEN]], usize
     }
 }
 
-// Fills `out`, which has its length, with the path of the leaf at `index`: from the root down, and
-// so from the end.
-fn fill_inclusion_path(
+// Writes the path of the leaf at `index` to `out`, which has its length.
+fn write_path(
     leaves: &[[u8; HASH_LEN]],
     index: usize,
     out: &mut [[u8; HASH_LEN]],
@@ -84,19 +84,17 @@ fn fill_inclusion_path(
     requires within { index < length leaves.now }
     requires len { length out.old ≡ length (path_of index leaves.now) }
     ensures path { out.new ≡ path_of index leaves.now }
+    ensures fewer { length out.old < length leaves.now }
     ensures cost { meter.new
         ≡ raised meter.old (inclusion_path_blocks (length leaves.now) (length out.old)) 0 }
 {
-    let mut rest = leaves;
-    let mut node = index;
-    let mut end = out.len();
-    while rest.len() > 1 {
-        let (part, place, other) = parts_of(rest, node);
-        end -= 1;
-        out[end] = tree_root_counted(other, meter);
-        rest = part;
-        node = place;
+    if leaves.len() == 1 {
+        return;
     }
+    let (part, place, other) = parts_of(leaves, index);
+    let end = out.len() - 1;
+    out[end] = tree_root_counted(other, meter);
+    write_path(part, place, &mut out[..end], meter);
 }
 
 /// Writes a path to `out` as [`inclusion_path`] does, and counts on `meter` the blocks of the nodes
@@ -128,7 +126,7 @@ pub fn inclusion_path_counted(
     if len > out.len() {
         return Err(Unspecified);
     }
-    fill_inclusion_path(leaves, index, &mut out[..len], meter);
+    write_path(leaves, index, &mut out[..len], meter);
     Ok(len)
 }
 
@@ -152,35 +150,33 @@ pub fn inclusion_path(
     inclusion_path_counted(leaves, index, out, &mut Meter::new())
 }
 
-// Fills `out`, which has its length, with the proof that the first `first_size` leaves are the
-// beginning: from the root down, and so from the end.
-fn fill_consistency_path(
+// Writes to `out`, which has its length, the proof that the leaves up to `node` are the beginning:
+// SUBPROOF, where `known` is whether the root of these leaves is known.
+fn write_proof(
     leaves: &[[u8; HASH_LEN]],
-    first_size: usize,
+    node: usize,
+    known: bool,
     out: &mut [[u8; HASH_LEN]],
     meter: &mut Meter,
 )
-    requires nonempty { 0 < first_size }
-    requires within { first_size < length leaves.now }
-    requires len { length out.old ≡ length (proof_of first_size leaves.now) }
-    ensures path { out.new ≡ proof_of first_size leaves.now }
-    ensures cost { meter.new ≡ raised meter.old
-        (consistency_path_blocks first_size (length leaves.now) (length out.old)) 0 }
+    requires within { node < length leaves.now }
+    requires len { length out.old ≡ length (subproof_of (node + 1) leaves.now known) }
+    ensures path { out.new ≡ subproof_of (node + 1) leaves.now known }
+    ensures fewer { left_out (node + 1) leaves.now (length out.old) + length out.old
+        ≤ length leaves.now }
+    ensures cost { meter.new ≡ raised meter.old (node_blocks * (length leaves.now
+        - (left_out (node + 1) leaves.now (length out.old) + length out.old))) 0 }
 {
-    let mut rest = leaves;
-    let mut node = first_size - 1;
-    let mut end = out.len();
-    while node + 1 < rest.len() {
-        let (part, place, other) = parts_of(rest, node);
-        end -= 1;
-        out[end] = tree_root_counted(other, meter);
-        rest = part;
-        node = place;
+    if node + 1 == leaves.len() {
+        if !known {
+            out[0] = tree_root_counted(leaves, meter);
+        }
+        return;
     }
-    if node + 1 != first_size {
-        let first = end - 1;
-        out[first] = tree_root_counted(rest, meter);
-    }
+    let (part, place, other) = parts_of(leaves, node);
+    let end = out.len() - 1;
+    out[end] = tree_root_counted(other, meter);
+    write_proof(part, place, known && place == node, &mut out[..end], meter);
 }
 
 // How many values the proof has that the first `first_size` leaves of `size` are the beginning: one
@@ -225,7 +221,7 @@ pub fn consistency_path_counted(
     if len > out.len() {
         return Err(Unspecified);
     }
-    fill_consistency_path(leaves, first_size, &mut out[..len], meter);
+    write_proof(leaves, first_size - 1, true, &mut out[..len], meter);
     Ok(len)
 }
 

@@ -9,8 +9,8 @@ returns-then-len-out-clause-refused c =
     let l = length-path c.args.leaves.now c.args.index c.if-index-leaves.false (omega arith) in
     (λ t. cc, λ h. absurd (omega (arith, h.1, l, c.path_len-len.ensures.count, c.if-len-out.true)))
 
-pub fill_inclusion_path-requires-clause-len : goal.fill_inclusion_path-requires-clause-len
-fill_inclusion_path-requires-clause-len c =
+pub write_path-requires-clause-len : goal.write_path-requires-clause-len
+write_path-requires-clause-len c =
     let fits : length c.args.leaves.now < 2 ^ 64 = search rules in
     let l = length-path c.args.leaves.now c.args.index c.if-index-leaves.false (omega arith) in
     omega (

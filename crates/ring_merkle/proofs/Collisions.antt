@@ -108,7 +108,8 @@ module _ (sized : Sized) where
   sound xs {path} {hash} {m} h k fits i =
       let most = below-pow (length xs) in
       same-walks path (path_of m xs) k (All-cons IsHash _ (path_of m xs) (h m [] i.within)
-      (hashes-path sized (length xs) m xs i.within (omega arith) h)) (record { ends = i.leads }) (record { ends = (included xs m i.within fits).leads })
+      (hashes-path sized (length xs) m xs i.within (omega arith) h)) (record { ends = i.leads })
+      (record { ends = (included xs m i.within fits).leads })
 
   -- what leads to the larger root leads to that of the beginning too, or two inputs collide
   pub sound-front : (xs : List (List ℕ)) {path : List (List ℕ)} {first : List ℕ} {m : ℕ}

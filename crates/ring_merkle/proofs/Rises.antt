@@ -19,8 +19,10 @@ pub some-blocks : (k : ℕ) → 0 < k → tree_blocks k ≡ node_blocks * (k - 1
 some-blocks k some = grind (arith, nat_tests)
 
 -- the root over k leaves, and then more nodes
-pub raised-more : (m0 : Counts) {m1 m2 : Counts} (k n all : ℕ) → 0 < k → m1 ≡ raised m0 (tree_blocks k) 0
-    → m2 ≡ raised m1 (node_blocks * n) 0 → all ≡ n + (k - 1) → m2 ≡ raised m0 (node_blocks * all) 0
+pub raised-more : (m0 : Counts) {m1 m2 : Counts} (k n all : ℕ) → 0 < k
+    → m1 ≡ raised m0 (tree_blocks k) 0
+    → m2 ≡ raised m1 (node_blocks * n) 0 → all ≡ n + (k - 1)
+    → m2 ≡ raised m0 (node_blocks * all) 0
 raised-more m0 k n all some e f sum =
     let more : tree_blocks k + node_blocks * n ≡ node_blocks * all =
     omega (arith, some-blocks k some, sum) in

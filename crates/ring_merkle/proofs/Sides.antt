@@ -3,7 +3,7 @@
 use Rattle.std.proofs.lemmas.Bool.{cases_Bool, cases_lt}
 use Rattle.std.proofs.lemmas.Bool.Decides.{nat_tests}
 use Rattle.std.proofs.Common.{◌≡◌, ◌/◌, ◌%◌, ◌^◌, ◌<◌, ◌≤◌, [], ◌∷◌, ◌∙◌, ◌⊎◌}
-use Rattle.std.proofs.Common.{ℕ, zero, suc, true, false, length, refl, ap, sym}
+use Rattle.std.proofs.Common.{◌+◌, ℕ, zero, suc, true, false, cond, length, refl, ap, sym}
 use Rattle.std.proofs.Common.{arith, inl, inr, ⊎_elim}
 use Rattle.ring_merkle.specs.Cost.{is_alone, sides}
 use Rattle.ring_merkle.specs.Walk.{is_right}
@@ -68,14 +68,12 @@ sides-low (suc h) n m le lt =
     (λ f. sides-joined (suc h) n m f ∙ ap (λ z. is_right n m ∷ z) i ∙ sym (sides-joined h n m f))
     (cases_Bool (is_alone n m))
 
--- the levels above a node and above the one above it
-module _ (h n m : ℕ) (le : n ≤ m) (lt : m < 2 ^ suc h) where
-  fewer : sides h (n / 2) (m / 2) ≡ sides (suc h) (n / 2) (m / 2)
-  fewer = sym (sides-low h (n / 2) (m / 2) (omega arith) (omega (arith, pow-sum h)))
-
-  pub again-alone : is_alone n m ≡ true → sides (suc h) n m ≡ sides (suc h) (n / 2) (m / 2)
-  again-alone t = sides-alone h n m t ∙ fewer
-
-  pub again-joined : is_alone n m ≡ false
-      → sides (suc h) n m ≡ is_right n m ∷ sides (suc h) (n / 2) (m / 2)
-  again-joined f = sides-joined h n m f ∙ ap (λ ss. is_right n m ∷ ss) fewer
+-- a level has a sibling or none
+pub length-up : (h n m : ℕ) → n ≤ m → m < 2 ^ suc h
+    → length (sides (suc h) n m) ≡ cond (is_alone n m) 0 1 + length (sides (suc h) (n / 2) (m / 2))
+length-up h n m le lt =
+    let low = ap length (sides-low h (n / 2) (m / 2) (omega arith) (omega (arith, pow-sum h))) in
+    ⊎_elim
+    (λ t. rw (sides-alone h n m t, t) (omega (arith, low)))
+    (λ f. rw (sides-joined h n m f, f) (omega (arith, low)))
+    (cases_Bool (is_alone n m))

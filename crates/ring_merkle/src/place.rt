@@ -96,9 +96,7 @@ impl Place {
         let mut place = self;
         let mut len = 0;
         while place.last != 0 {
-            if !place.is_alone() {
-                len += 1;
-            }
+            len += usize::from(!place.is_alone());
             place = place.up();
         }
         len

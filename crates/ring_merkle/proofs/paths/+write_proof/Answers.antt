@@ -1,6 +1,6 @@
 -- SPDX-License-Identifier: ISC
-use Rattle.std.proofs.Common.{◌≡◌, ◌+◌, ◌-◌, ◌==◌, ◌&&◌, ◌<◌, ◌∙◌, [], ◌∷◌, ℕ, Bool, true, false, List}
-use Rattle.std.proofs.Common.{cond, length, length-take, set, take, ap, arith, refl, sym}
+use Rattle.std.proofs.Common.{◌≡◌, ◌+◌, ◌-◌, ◌==◌, ◌&&◌, ◌<◌, ◌∙◌, [], ◌∷◌, ℕ, Bool, true, false}
+use Rattle.std.proofs.Common.{List, cond, length, length-take, set, take, ap, arith, refl, sym}
 use Rattle.std.proofs.lemmas.Bool.Decides.{nat_tests}
 use Rattle.std.proofs.lemmas.List.{length-set, length_push, nil_from_length}
 use Rattle.ring_merkle.specs.Consistency.{subproof_of}
@@ -33,13 +33,14 @@ module _ (m : ℕ) (xs : List (List ℕ)) {b : Bool} (known : Bool) (all : m ≡
       ] values
 
 -- one level down as many leaves are left out
-left-down : (known same : Bool) (m k : ℕ) (xs ys : List (List ℕ)) (len end : ℕ) → len ≡ end + 1
-    → end ≡ length (subproof_of k ys (known && same))
-    → length (subproof_of m xs false) ≡ length (subproof_of k ys false) + 1
-    → (same ≡ true → m ≡ k) → left_out m xs len ≡ left_out k ys end
-left-down false same m k xs ys len end e l f i = grind (arith, nat_tests)
-left-down true false m k xs ys len end e l f i = grind (arith, nat_tests)
-left-down true true m k xs ys len end e l f i = let j = i refl in grind (arith, nat_tests)
+module _ (m k : ℕ) (xs ys : List (List ℕ)) {len end : ℕ} where
+  left-down : (known same : Bool) → len ≡ end + 1
+      → end ≡ length (subproof_of k ys (known && same))
+      → length (subproof_of m xs false) ≡ length (subproof_of k ys false) + 1
+      → (same ≡ true → m ≡ k) → left_out m xs len ≡ left_out k ys end
+  left-down false same e l f i = grind (arith, nat_tests)
+  left-down true false e l f i = grind (arith, nat_tests)
+  left-down true true e l f i = let j = i refl in grind (arith, nat_tests)
 
 pub bounds-out-0 : goal.bounds-out-0
 bounds-out-0 t c =
@@ -116,8 +117,7 @@ returns-clause-cost t c =
     omega (arith, c.requires.len, ap length (p.ensures.subproof known lt), push) in
     let rest : length (take end (set out end x)) ≡ end =
     omega (arith, length-take end (set out end x), length-set out end x) in
-    let left = left-down known (place == c.args.node) (c.args.node + 1) (place + 1) leaves part
-    (length out) end long
+    let left = left-down (c.args.node + 1) (place + 1) leaves part known (place == c.args.node) long
     (omega (arith, c.requires.len, ap length (p.ensures.subproof known lt), push))
     (omega (
       arith,

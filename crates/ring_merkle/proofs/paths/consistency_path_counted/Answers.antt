@@ -54,7 +54,8 @@ returns-clause-cost c =
       c.if-len-out.false,
       length-take l c.args.out.now,
     ) in
-    let all : l ≡ length (proof_of m xs) = omega (arith, proof, c.consistency_len-len.ensures.len) in
+    let all : l ≡ length (proof_of m xs) =
+    omega (arith, proof, c.consistency_len-len.ensures.len) in
     let cost = c.write_proof.ensures.cost in
     rw (
       ← spent (is_power_of_two m) (length xs) m l,

@@ -8,9 +8,12 @@ use Rattle.ring_merkle.proofs.place.Place.climb.Given as goal
 
 abbrev pub invariant-loop-value : goal.invariant-loop-value
 invariant-loop-value l = record {
-  leads : (x : List ℕ) → Leads (step_of l.fn.whole) l.fn.self.node l.fn.self.last l.fn.hash l.fn.path x
-      → Leads (step_of l.fn.whole) l.place.node l.place.last l.reached (drop l.value-index l.fn.path) x;
-  cost : raised l.fn.meter (node_blocks * hashed_count l.fn.whole l.fn.self.node l.fn.self.last l.fn.path) 0
+  leads : (x : List ℕ)
+      → Leads (step_of l.fn.whole) l.fn.self.node l.fn.self.last l.fn.hash l.fn.path x
+      → Leads (step_of l.fn.whole) l.place.node l.place.last l.reached
+      (drop l.value-index l.fn.path) x;
+  cost : raised l.fn.meter (node_blocks
+      * hashed_count l.fn.whole l.fn.self.node l.fn.self.last l.fn.path) 0
       ≡ raised l.meter (node_blocks
       * hashed_count l.fn.whole l.place.node l.place.last (drop l.value-index l.fn.path)) 0;
 }

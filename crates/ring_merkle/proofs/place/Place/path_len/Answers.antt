@@ -1,7 +1,7 @@
 -- SPDX-License-Identifier: ISC
-use Rattle.std.proofs.Common.{◌^◌, ◌<◌, ◌∙◌, ap, arith, length, rules, sym}
-use Rattle.ring_merkle.proofs.Sides.{again-alone, again-joined, length-sides, sides-none}
-use Rattle.ring_merkle.proofs.place.Place.path_len.Goals.{else-not-is_alone, then-not-is_alone}
+use Rattle.std.proofs.Common.{◌^◌, ◌<◌, ap, arith, length, rules}
+use Rattle.std.proofs.lemmas.Bool.Decides.{nat_tests}
+use Rattle.ring_merkle.proofs.Sides.{length-sides, length-up, sides-none}
 use Rattle.ring_merkle.proofs.place.Place.path_len.Goals as goal
 
 pub loop-place-init : goal.loop-place-init
@@ -13,13 +13,9 @@ overflow_add-len c =
     let m = c.loop-place.place.last in
     let inv = c.loop-place.invariant in
     let fits : m < 2 ^ 64 = search rules in
-    omega (
-      arith,
-      inv.all,
-      length-sides 64 c.args.self.node c.args.self.last,
-      ap length (again-joined 63 n m inv.within fits
-          (sym c.is_alone.ensures ∙ c.if-not-is_alone.true)),
-    )
+    let up = length-up 63 n m inv.within fits in
+    let most = length-sides 64 c.args.self.node c.args.self.last in
+    grind (arith, nat_tests, inv.all, up, most)
 
 pub loop-place-preserved : goal.loop-place-preserved
 loop-place-preserved c =
@@ -27,24 +23,10 @@ loop-place-preserved c =
     let m = c.loop-place.place.last in
     let inv = c.loop-place.invariant in
     let fits : m < 2 ^ 64 = search rules in
+    let up = length-up 63 n m inv.within fits in
     rw (c.up-place.ensures.node, c.up-place.ensures.last) (record {
       within = omega (arith, inv.within);
-      all = elim c.if-not-is_alone.branch [
-        | then-not-is_alone w ↦ omega (
-          arith,
-          inv.all,
-          w.len-is,
-          ap length (again-joined 63 n m inv.within fits
-              (sym c.is_alone.ensures ∙ w.if-not-is_alone.true)),
-        )
-        | else-not-is_alone w ↦ omega (
-          arith,
-          inv.all,
-          w.len-is,
-          ap length (again-alone 63 n m inv.within fits
-              (sym c.is_alone.ensures ∙ w.if-not-is_alone.false)),
-        )
-      ];
+      all = grind (arith, nat_tests, inv.all, up);
     })
 
 pub returns-clause-count : goal.returns-clause-count

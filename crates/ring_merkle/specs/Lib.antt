@@ -5,3 +5,4 @@ pub mod Inclusion
 pub mod Consistency
 pub mod Stack
 pub mod Cost
+pub mod Gives

@@ -3,10 +3,10 @@
 
 ghost use Rattle.std.specs.Prelude.{◌≡◌, ◌↔◌, ◌+◌, ◌*◌, ◌<◌, ◌≤◌, ℕ, List, length, IsTrue, Some};
 ghost use Rattle.ring.specs.Prelude.{raised};
-ghost use Rattle.ring_merkle.specs.Consistency.{IsCompleteConsistency, IsConsistent};
-ghost use Rattle.ring_merkle.specs.Consistency.{IsSoundConsistency, LeadsToBoth, first_last};
+ghost use Rattle.ring_merkle.specs.Consistency.{IsConsistent, LeadsToBoth, first_last};
 ghost use Rattle.ring_merkle.specs.Consistency.{first_node};
 ghost use Rattle.ring_merkle.specs.Cost.{both_blocks, consistency_blocks, left_count, node_blocks};
+ghost use Rattle.ring_merkle.specs.Gives.{VerifiesConsistency};
 ghost use Rattle.ring_merkle.specs.Walk.{front_step, walk, whole_step};
 
 use crate::hash::HASH_LEN;
@@ -91,12 +91,8 @@ pub fn verify_consistency_counted(
     path: &[[u8; HASH_LEN]],
     meter: &mut Meter,
 ) -> bool
-    ensures exact { IsTrue result
-        ↔ IsConsistent first_size second_size path.now first.now second.now }
-    ensures sound { IsSoundConsistency
-        (IsTrue result) first_size second_size path.now first.now second.now }
-    ensures complete { IsCompleteConsistency
-        (IsTrue result) first_size second_size path.now first.now second.now }
+    ensures plain { VerifiesConsistency
+        first_size second_size path.now first.now second.now result }
     ensures cost { meter.new ≡ raised meter.old
         (consistency_blocks first_size second_size first.now path.now) 0 }
 {
@@ -121,12 +117,8 @@ pub fn verify_consistency(
     second: &[u8; HASH_LEN],
     path: &[[u8; HASH_LEN]],
 ) -> bool
-    ensures exact { IsTrue result
-        ↔ IsConsistent first_size second_size path.now first.now second.now }
-    ensures sound { IsSoundConsistency
-        (IsTrue result) first_size second_size path.now first.now second.now }
-    ensures complete { IsCompleteConsistency
-        (IsTrue result) first_size second_size path.now first.now second.now }
+    ensures { VerifiesConsistency
+        first_size second_size path.now first.now second.now result }
 {
     verify_consistency_counted(
         first_size,

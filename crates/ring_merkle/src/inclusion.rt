@@ -4,7 +4,8 @@
 ghost use Rattle.std.specs.Prelude.{◌≡◌, ◌↔◌, ◌*◌, ℕ, List, IsTrue, Some, length};
 ghost use Rattle.ring.specs.Prelude.{raised};
 ghost use Rattle.ring_merkle.specs.Cost.{inclusion_blocks, node_blocks};
-ghost use Rattle.ring_merkle.specs.Inclusion.{IsCompleteInclusion, IsIncluded, IsSoundInclusion};
+ghost use Rattle.ring_merkle.specs.Gives.{VerifiesInclusion};
+ghost use Rattle.ring_merkle.specs.Inclusion.{IsIncluded};
 ghost use Rattle.ring_merkle.specs.Walk.{walk, whole_step};
 
 use crate::hash::HASH_LEN;
@@ -48,9 +49,7 @@ pub fn verify_inclusion_counted(
     root: &[u8; HASH_LEN],
     meter: &mut Meter,
 ) -> bool
-    ensures exact { IsTrue result ↔ IsIncluded hash.now index size path.now root.now }
-    ensures sound { IsSoundInclusion (IsTrue result) hash.now index size path.now root.now }
-    ensures complete { IsCompleteInclusion (IsTrue result) hash.now index size path.now root.now }
+    ensures plain { VerifiesInclusion hash.now index size path.now root.now result }
     ensures cost { meter.new ≡ raised meter.old (inclusion_blocks index size path.now) 0 }
 {
     digest_has_output_len();
@@ -71,9 +70,7 @@ pub fn verify_inclusion(
     path: &[[u8; HASH_LEN]],
     root: &[u8; HASH_LEN],
 ) -> bool
-    ensures exact { IsTrue result ↔ IsIncluded hash.now index size path.now root.now }
-    ensures sound { IsSoundInclusion (IsTrue result) hash.now index size path.now root.now }
-    ensures complete { IsCompleteInclusion (IsTrue result) hash.now index size path.now root.now }
+    ensures { VerifiesInclusion hash.now index size path.now root.now result }
 {
     verify_inclusion_counted(hash, index, size, path, root, &mut Meter::new())
 }

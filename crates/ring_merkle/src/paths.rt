@@ -9,6 +9,7 @@ ghost use Rattle.ring.specs.Prelude.{raised};
 ghost use Rattle.ring_merkle.specs.Consistency.{first_last, first_node, proof_of, subproof_of};
 ghost use Rattle.ring_merkle.specs.Cost.{consistency_path_blocks, inclusion_path_blocks, left_out};
 ghost use Rattle.ring_merkle.specs.Cost.{node_blocks, path_len, tree_blocks};
+ghost use Rattle.ring_merkle.specs.Gives.{MakesPath, MakesProof};
 ghost use Rattle.ring_merkle.specs.Inclusion.{path_of};
 ghost use Rattle.ring_merkle.specs.Tree.{root_of};
 
@@ -106,12 +107,8 @@ pub fn inclusion_path_counted(
     out: &mut [[u8; HASH_LEN]],
     meter: &mut Meter,
 ) -> Result<usize, Unspecified>
-    ensures ok { IfOk result (λ len. out.new ≡ path_of index leaves.now ++ drop len out.old) }
-    ensures len { IfOk result (λ len. len ≡ length (path_of index leaves.now)) }
-    ensures bound { IfOk result (λ len. len ≤ 64) }
-    ensures refused { IsOk result ↔ ((index < length leaves.now)
-        × (length (path_of index leaves.now) ≤ length out.old)) }
-    ensures unchanged { OnErr result ((out.new ≡ out.old) × (meter.new ≡ meter.old)) }
+    ensures plain { MakesPath index leaves.now out.old out.new result }
+    ensures unchanged { OnErr result (meter.new ≡ meter.old) }
     ensures cost { IfOk result (λ len.
         meter.new ≡ raised meter.old (inclusion_path_blocks (length leaves.now) len) 0) }
 {
@@ -140,12 +137,7 @@ pub fn inclusion_path(
     index: usize,
     out: &mut [[u8; HASH_LEN]],
 ) -> Result<usize, Unspecified>
-    ensures ok { IfOk result (λ len. out.new ≡ path_of index leaves.now ++ drop len out.old) }
-    ensures len { IfOk result (λ len. len ≡ length (path_of index leaves.now)) }
-    ensures bound { IfOk result (λ len. len ≤ 64) }
-    ensures refused { IsOk result ↔ ((index < length leaves.now)
-        × (length (path_of index leaves.now) ≤ length out.old)) }
-    ensures unchanged { OnErr result (out.new ≡ out.old) }
+    ensures { MakesPath index leaves.now out.old out.new result }
 {
     inclusion_path_counted(leaves, index, out, &mut Meter::new())
 }
@@ -204,13 +196,8 @@ pub fn consistency_path_counted(
     out: &mut [[u8; HASH_LEN]],
     meter: &mut Meter,
 ) -> Result<usize, Unspecified>
-    ensures ok { IfOk result (λ len.
-        out.new ≡ proof_of first_size leaves.now ++ drop len out.old) }
-    ensures len { IfOk result (λ len. len ≡ length (proof_of first_size leaves.now)) }
-    ensures bound { IfOk result (λ len. len ≤ 65) }
-    ensures refused { IsOk result ↔ ((0 < first_size) × (first_size < length leaves.now)
-        × (length (proof_of first_size leaves.now) ≤ length out.old)) }
-    ensures unchanged { OnErr result ((out.new ≡ out.old) × (meter.new ≡ meter.old)) }
+    ensures plain { MakesProof first_size leaves.now out.old out.new result }
+    ensures unchanged { OnErr result (meter.new ≡ meter.old) }
     ensures cost { IfOk result (λ len. meter.new
         ≡ raised meter.old (consistency_path_blocks first_size (length leaves.now) len) 0) }
 {
@@ -236,13 +223,7 @@ pub fn consistency_path(
     first_size: usize,
     out: &mut [[u8; HASH_LEN]],
 ) -> Result<usize, Unspecified>
-    ensures ok { IfOk result (λ len.
-        out.new ≡ proof_of first_size leaves.now ++ drop len out.old) }
-    ensures len { IfOk result (λ len. len ≡ length (proof_of first_size leaves.now)) }
-    ensures bound { IfOk result (λ len. len ≤ 65) }
-    ensures refused { IsOk result ↔ ((0 < first_size) × (first_size < length leaves.now)
-        × (length (proof_of first_size leaves.now) ≤ length out.old)) }
-    ensures unchanged { OnErr result (out.new ≡ out.old) }
+    ensures { MakesProof first_size leaves.now out.old out.new result }
 {
     consistency_path_counted(leaves, first_size, out, &mut Meter::new())
 }

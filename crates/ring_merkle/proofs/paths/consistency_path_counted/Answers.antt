@@ -6,18 +6,25 @@ use Rattle.ring_merkle.specs.Consistency.{proof_of}
 use Rattle.ring_merkle.proofs.Begun.{left-out, length-proof}
 use Rattle.ring_merkle.proofs.paths.consistency_path_counted.Goals as goal
 
-pub returns-then-len-out-clause-refused : goal.returns-then-len-out-clause-refused
-returns-then-len-out-clause-refused c =
-    let fits : length c.args.leaves.now < 2 ^ 64 = search rules in (
-      λ t. cc,
-      λ h. absurd (omega (
-        arith,
-        h.2,
-        c.if-len-out.true,
-        c.consistency_len-len.ensures.len,
-        length-proof c.args.first_size c.args.leaves.now h.0 h.1 (omega arith),
-      )),
-    )
+pub returns-then-len-out-clause-plain : goal.returns-then-len-out-clause-plain
+returns-then-len-out-clause-plain c =
+    let fits : length c.args.leaves.now < 2 ^ 64 = search rules in
+    record {
+      ok = search rules;
+      len = search rules;
+      bound = search rules;
+      refused = (
+        λ t. cc,
+        λ h. absurd (omega (
+          arith,
+          h.2,
+          c.if-len-out.true,
+          c.consistency_len-len.ensures.len,
+          length-proof c.args.first_size c.args.leaves.now h.0 h.1 (omega arith),
+        )),
+      );
+      unchanged = search rules;
+    }
 
 spent : (b : Bool) (n m l : ℕ) → n - (cond b m 0 + l) ≡ cond b (n - m - l) (n - l)
 spent true n m l = omega arith

@@ -4,11 +4,11 @@
 ghost use Rattle.std.specs.Prelude.{◌≡◌, ◌↔◌, ◌+◌, ◌-◌, ◌*◌, ◌<◌, ◌≤◌, ◌==◌, ◌&&◌, [], ◌∷◌, ◌++◌};
 ghost use Rattle.std.specs.Prelude.{Bool, cond};
 ghost use Rattle.std.specs.Prelude.{length, drop, IfOk, IsOk, OnErr};
-ghost use Rattle.std.specs.Int.{IsPowerOfTwo, is_power_of_two};
+ghost use Rattle.std.specs.Int.{IsPowerOfTwo};
 ghost use Rattle.ring.specs.Prelude.{raised};
-ghost use Rattle.ring_merkle.specs.Consistency.{first_last, first_node, proof_of, subproof_of};
+ghost use Rattle.ring_merkle.specs.Consistency.{proof_of, subproof_of};
 ghost use Rattle.ring_merkle.specs.Cost.{consistency_path_blocks, inclusion_path_blocks, left_out};
-ghost use Rattle.ring_merkle.specs.Cost.{node_blocks, path_len, tree_blocks};
+ghost use Rattle.ring_merkle.specs.Cost.{node_blocks, tree_blocks};
 ghost use Rattle.ring_merkle.specs.Gives.{MakesPath, MakesProof};
 ghost use Rattle.ring_merkle.specs.Inclusion.{path_of};
 ghost use Rattle.ring_merkle.specs.Tree.{root_of};
@@ -98,6 +98,19 @@ fn write_path(
     write_path(part, place, &mut out[..end], meter);
 }
 
+// How many values the path of the leaf at `index` has: one for each sibling.
+fn inclusion_len(leaves: &[[u8; HASH_LEN]], index: usize) -> usize
+    requires within { index < length leaves.now }
+    ensures len { result ≡ length (path_of index leaves.now) }
+    ensures bound { result ≤ 64 }
+{
+    let place = Place {
+        node: index as u64,
+        last: (leaves.len() - 1) as u64,
+    };
+    place.path_len()
+}
+
 /// Writes a path to `out` as [`inclusion_path`] does, and counts on `meter` the blocks of the nodes
 /// beside it: two for each node of the tree that is not above the leaf. A refusal leaves `meter` as
 /// it was.
@@ -115,11 +128,7 @@ pub fn inclusion_path_counted(
     if index >= leaves.len() {
         return Err(Unspecified);
     }
-    let place = Place {
-        node: index as u64,
-        last: (leaves.len() - 1) as u64,
-    };
-    let len = place.path_len();
+    let len = inclusion_len(leaves, index);
     if len > out.len() {
         return Err(Unspecified);
     }
@@ -171,21 +180,16 @@ fn write_proof(
     write_proof(part, place, known && place == node, &mut out[..end], meter);
 }
 
-// How many values the proof has that the first `first_size` leaves of `size` are the beginning: one
-// for each sibling from the first node on, and that node where it isn't the root of the beginning.
-fn consistency_len(first_size: u64, size: u64) -> usize
+// How many values the proof has that the first `first_size` leaves are the beginning: one for each
+// sibling from the first node on, and that node where it isn't the root of the beginning.
+fn consistency_len(leaves: &[[u8; HASH_LEN]], first_size: usize) -> usize
     requires nonempty { 0 < first_size }
-    requires within { first_size < size }
-    ensures len { result ≡ path_len (first_node first_size) (first_last first_size size)
-        + cond (is_power_of_two first_size) 0 1 }
+    requires within { first_size < length leaves.now }
+    ensures len { result ≡ length (proof_of first_size leaves.now) }
     ensures bound { result ≤ 65 }
 {
-    let siblings = first_place(first_size, size).path_len();
-    if first_size.is_power_of_two() {
-        siblings
-    } else {
-        siblings + 1
-    }
+    let siblings = first_place(first_size as u64, leaves.len() as u64).path_len();
+    siblings + usize::from(!first_size.is_power_of_two())
 }
 
 /// Writes a proof to `out` as [`consistency_path`] does, and counts on `meter` two blocks for each
@@ -204,7 +208,7 @@ pub fn consistency_path_counted(
     if first_size == 0 || first_size >= leaves.len() {
         return Err(Unspecified);
     }
-    let len = consistency_len(first_size as u64, leaves.len() as u64);
+    let len = consistency_len(leaves, first_size);
     if len > out.len() {
         return Err(Unspecified);
     }

@@ -47,7 +47,7 @@ plain_apart Base64NoPad s plain h = IsWithout-base64_no_pad 36 (inl refl) s h
 plain_apart Adapted s plain h = IsWithout-adapted 36 (inl refl) s h
 
 -- the byte that ends a salt is not in it
-salt_apart : (k : Scheme) (s : List ℕ) → is_salt k s ≡ true → IsBytes s
+pub salt_apart : (k : Scheme) (s : List ℕ) → is_salt k s ≡ true → IsBytes s
     → IsWithout 36 (written (salt_encoding_of k) s)
 salt_apart k s is h = plain_apart (salt_encoding_of k) s (and_parts _ _ is).1 h
 
@@ -125,17 +125,10 @@ module _ {k : Scheme} {p : Parameters} {c : NonZeroU32} {s h text : List ℕ}
       (sym read ∙ whole) in
       (both.2, both.3)
 
-  -- the same, where the salt is read by an encoding that is the scheme's
-  pub salt_apart_by : {x : Encoding} → x ≡ salt_encoding_of k → IsWithout 36 (written x s)
-  salt_apart_by is =
-      subst (λ (y : Encoding). IsWithout 36 (written y s)) (sym is)
-      (salt_apart k s parts.salt parts.salt_bytes)
-
-  pub salt_read : {x : Encoding} → x ≡ salt_encoding_of k → {rest salt behind : List ℕ}
+  pub salt_read : {rest salt behind : List ℕ}
       → rest ≡ field_then (salt_encoding_of k) s 36 (kept_text k h)
-      → rest ≡ field_then x salt 36 behind → IsBytes salt → IsWithout 36 (written x salt)
-      → (salt ≡ s) × (behind ≡ kept_text k h)
-  salt_read {x} is head read bytes apart =
-      field_then-injective x 36 bytes
-      parts.salt_bytes apart (salt_apart_by is)
-      (sym read ∙ head ∙ ap (λ (y : Encoding). field_then y s 36 (kept_text k h)) (sym is))
+      → rest ≡ field_then (salt_encoding_of k) salt 36 behind → IsBytes salt
+      → IsWithout 36 (written (salt_encoding_of k) salt) → (salt ≡ s) × (behind ≡ kept_text k h)
+  salt_read head read bytes apart =
+      field_then-injective (salt_encoding_of k) 36 bytes parts.salt_bytes apart
+      (salt_apart k s parts.salt parts.salt_bytes) (sym read ∙ head)

@@ -1,12 +1,11 @@
 // SPDX-License-Identifier: ISC
 //! What is kept of a password: what PBKDF2 derives, or SCRAM's two keys (RFC 5802, section 3).
 
-ghost use Rattle.std.specs.Prelude.{◌≡◌, ◌*◌, ◌++◌, true, length};
+ghost use Rattle.std.specs.Prelude.{◌≡◌, ◌*◌, true, length};
 ghost use Rattle.std.specs.Int.NonZero.{non_zero_u32_get};
 ghost use Rattle.ring.specs.Prelude.{raised};
 ghost use Rattle.ring_password_hash.specs.Scheme.{keeps_keys};
-ghost use Rattle.ring_password_hash.specs.Stored.{Derives, keys_blocks, server_key_of};
-ghost use Rattle.ring_password_hash.specs.Stored.{stored_key_of};
+ghost use Rattle.ring_password_hash.specs.Stored.{Derives, keys_blocks, keys_of};
 
 use crate::scheme::Scheme;
 use crate::text::KEY_LEN;
@@ -17,17 +16,10 @@ use ring::hmac::{HMAC_SHA256, Key, sign_counted};
 use ring::pbkdf2;
 use std::num::NonZeroU32;
 
-// The two keys of a salted password.
-#[derive(Drop)]
-struct Keys {
-    stored_key: [u8; KEY_LEN],
-    server_key: [u8; KEY_LEN],
-}
-
-// Derives the two keys of a salted password.
-fn keys_of(salted: &[u8; KEY_LEN], meter: &mut Meter) -> Keys
-    ensures stored { result.stored_key ≡ stored_key_of salted.now }
-    ensures server { result.server_key ≡ server_key_of salted.now }
+// Writes the two keys of a salted password, one behind the other.
+fn write_keys(salted: &[u8; KEY_LEN], out: &mut [u8], meter: &mut Meter)
+    requires { length out.old ≡ 2 * KEY_LEN }
+    ensures ok { out.new ≡ keys_of salted.now }
     ensures cost { meter.new ≡ raised meter.old (keys_blocks true) 0 }
 {
     let Ok(key) = Key::new_counted(HMAC_SHA256, salted, meter) else {
@@ -42,24 +34,9 @@ fn keys_of(salted: &[u8; KEY_LEN], meter: &mut Meter) -> Keys
     let Ok(server_tag) = sign_counted(&key, b"Server Key", meter) else {
         unreachable!()
     };
-    let mut stored_key = [0; KEY_LEN];
+    let (stored_key, server_key) = out.split_at_mut(KEY_LEN);
     stored_key.copy_from_slice(client_digest.as_ref());
-    let mut server_key = [0; KEY_LEN];
     server_key.copy_from_slice(server_tag.as_ref());
-    Keys {
-        stored_key,
-        server_key,
-    }
-}
-
-// Writes the two keys, one behind the other.
-fn write_keys(keys: &Keys, out: &mut [u8])
-    requires { length out.old ≡ 2 * KEY_LEN }
-    ensures { out.new ≡ keys.now.stored_key ++ keys.now.server_key }
-{
-    let (first, last) = out.split_at_mut(KEY_LEN);
-    first.copy_from_slice(&keys.stored_key);
-    last.copy_from_slice(&keys.server_key);
 }
 
 /// Derives what the scheme keeps of a password, to the whole of `out`.
@@ -90,7 +67,6 @@ pub(crate) fn derive(
         &mut salted,
         meter,
     )?;
-    let keys = keys_of(&salted, meter);
-    write_keys(&keys, out);
+    write_keys(&salted, out, meter);
     Ok(())
 }

@@ -5,9 +5,8 @@ use Rattle.ring_text.proofs.Base64.{bytes_front}
 use Rattle.ring_password_hash.specs.Scheme.{salt_encoding_of}
 use Rattle.ring_password_hash.specs.Stored.{IsTextOf, is_salt, parts_text}
 use Rattle.ring_password_hash.specs.Text.{IsLen, field_then, head_then, kept_text}
-use Rattle.ring_password_hash.specs.declared.scheme.Encoding.{Encoding}
 use Rattle.ring_password_hash.proofs.Heads.{keys_len, rest_within}
-use Rattle.ring_password_hash.proofs.Values.{head_read, own_text, parts_at, salt_apart_by}
+use Rattle.ring_password_hash.proofs.Values.{head_read, own_text, parts_at, salt_apart}
 use Rattle.ring_password_hash.proofs.Values.{salt_read}
 use Rattle.ring_password_hash.proofs.stored.read_as.Goals as goal
 
@@ -34,20 +33,18 @@ returns-in_err-salt_len-clause-refused c = λ _ h same e.
     let at = parts_at h same e in
     let read = c.in_ok-parameters.ensures.ok in
     let head = head_read at.0 at.1 _ _ read.0 read.1 read.2 in
-    let salt = c.row.ensures.salt in
-    c.in_err-salt_len.ensures.refused refl h.salt (kept_text c.args.scheme h.kept) at.0.salt_bytes
-    (salt_apart_by at.0 at.1 salt)
-    (head.1
-    ∙ ap (λ (x : Encoding). field_then x h.salt 36 (kept_text c.args.scheme h.kept)) (sym salt))
+    let refused = rw c.row.ensures.salt at c.in_err-salt_len.ensures.refused in
+    refused refl h.salt (kept_text c.args.scheme h.kept) at.0.salt_bytes
+    (salt_apart c.args.scheme h.salt at.0.salt at.0.salt_bytes) head.1
 
 pub returns-then-not-is_salt-clause-refused : goal.returns-then-not-is_salt-clause-refused
 returns-then-not-is_salt-clause-refused c = λ _ h same e.
     let at = parts_at h same e in
     let read = c.in_ok-parameters.ensures.ok in
     let head = head_read at.0 at.1 _ _ read.0 read.1 read.2 in
-    let found = c.in_ok-salt_len.ensures.ok in
-    let two = salt_read at.0 at.1 c.row.ensures.salt head.1 found.0
-    (bytes_front _ _ c.field_into.ensures.bytes) found.1 in
+    let found = rw c.row.ensures.salt at c.in_ok-salt_len.ensures.ok in
+    let two =
+    salt_read at.0 at.1 head.1 found.0 (bytes_front _ _ c.field_into.ensures.bytes) found.1 in
     let told = c.is_salt.ensures ∙ ap (is_salt c.args.scheme) two.0 ∙ at.0.salt in
     true≢false (sym told ∙ c.if-not-is_salt.true)
 
@@ -56,9 +53,9 @@ returns-then-not-kept_into-clause-refused c = λ _ h same e.
     let at = parts_at h same e in
     let read = c.in_ok-parameters.ensures.ok in
     let head = head_read at.0 at.1 _ _ read.0 read.1 read.2 in
-    let found = c.in_ok-salt_len.ensures.ok in
-    let two = salt_read at.0 at.1 c.row.ensures.salt head.1 found.0
-    (bytes_front _ _ c.field_into.ensures.bytes) found.1 in
+    let found = rw c.row.ensures.salt at c.in_ok-salt_len.ensures.ok in
+    let two =
+    salt_read at.0 at.1 head.1 found.0 (bytes_front _ _ c.field_into.ensures.bytes) found.1 in
     c.kept_into.ensures.refused c.if-not-kept_into.true h.kept at.0.kept_bytes (sym head.0) two.1
 
 pub returns-clause-ok : goal.returns-clause-ok
@@ -73,9 +70,8 @@ returns-clause-ok c =
     let last = c.kept_into.ensures.ok c.if-not-kept_into.false in
     let len : length kept ≡ head.kept_len = length-take-le head.kept_len c.kept_into.new.out
     (let within = last.1 in omega (arith, within)) in
-    let behind = found.ensures.ok.0
-    ∙ ap (λ (x : Encoding). field_then x salt 36 found.rest.now) c.row.ensures.salt
-    ∙ ap (field_then (salt_encoding_of k) salt 36) last.0 in
+    let field = rw c.row.ensures.salt at found.ensures.ok.0 in
+    let behind = field ∙ ap (field_then (salt_encoding_of k) salt 36) last.0 in
     let of : IsTextOf (record {
       scheme = k;
       parameters = head.parameters;

@@ -57,22 +57,19 @@ length-new k p s c h e =
     (length-derived_of k p s (non_zero_u32_get c) ∙ sym e)
 
 -- what is kept of a new value
-pub kept_new : (room : ℕ) (k : Scheme) (p s : List ℕ) (c : NonZeroU32) {n : ℕ} {new : List ℕ}
-    {before after : Counts} → n ≡ kept_len_of k → is_salt k s ≡ true
+pub kept_new : (room : ℕ) (k : Scheme) (p s : List ℕ) (c : NonZeroU32) {new : List ℕ}
+    {before after : Counts} → is_salt k s ≡ true
     → is_past room (text_of (new_parts k p s c)) ≡ false → length s ≤ 1024
-    → Derives k p s (non_zero_u32_get c) n new before after (Ok tt)
+    → Derives k p s (non_zero_u32_get c) (kept_len_of k) new before after (Ok tt)
     → IsKept room k p s c new before after
-kept_new room k p s c {new = new} {before = before} {after = after} len salt past few derives =
-    let d : Derives k p s (non_zero_u32_get c) (kept_len_of k) new before after (Ok tt) =
-    subst (λ (n : ℕ). Derives k p s (non_zero_u32_get c) n new before after (Ok tt)) len derives in
-    record {
-      status = rw (past, salt, d.can) refl;
-      kept = d.ok;
-      salt = salt;
-      within = past;
-      few = few;
-      cost = d.cost;
-    }
+kept_new room k p s c salt past few derives = record {
+  status = rw (past, salt, derives.can) refl;
+  kept = derives.ok;
+  salt = salt;
+  within = past;
+  few = few;
+  cost = derives.cost;
+}
 
 -- the fields of a value with this salt and these kept bytes, and with the usual parameters
 pub record IsFresh (v : Stored) (s h : List ℕ) : Type 0 where

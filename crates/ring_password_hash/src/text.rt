@@ -68,9 +68,7 @@ fn lone_count<'a>(text: &'a [u8], mark: &[u8], end: u8) -> Option<(NonZeroU32, &
     ensures refused { IsNone result → (c : NonZeroU32) (rest : List ℕ) → IsCount c
         → text.now ≢ mark.now ++ count_then c end rest }
 {
-    let Some(rest) = after(text, mark) else {
-        return None;
-    };
+    let rest = after(text, mark)?;
     count_before(rest, end)
 }
 
@@ -86,16 +84,10 @@ fn two_counts<'a>(
     ensures refused { IsNone result → (c d : NonZeroU32) (rest : List ℕ) → IsCount c → IsCount d
         → text.now ≢ first.now ++ count_then c 44 (second.now ++ count_then d 36 rest) }
 {
-    let Some(rest) = after(text, first) else {
-        return None;
-    };
-    let Some((one, rest)) = count_before(rest, b',') else {
-        return None;
-    };
-    match lone_count(rest, second, b'$') {
-        Some((other, rest)) => Some((one, other, rest)),
-        None => None,
-    }
+    let rest = after(text, first)?;
+    let (one, rest) = count_before(rest, b',')?;
+    let (other, rest) = lone_count(rest, second, b'$')?;
+    Some((one, other, rest))
 }
 
 // The number as the length of a hash, if a text can name it.
@@ -306,13 +298,9 @@ pub(crate) fn field_into<'a>(
     ensures refused { IsNone result → (bytes rest : List ℕ) → IsBytes bytes
         → IsWithout end (written encoding bytes) → text.now ≢ field_then encoding bytes end rest }
 {
-    let Some((field, rest)) = cut_at(text, end) else {
-        return None;
-    };
-    match decode_into(encoding, field, out) {
-        Some(len) => Some((len, rest)),
-        None => None,
-    }
+    let (field, rest) = cut_at(text, end)?;
+    let len = decode_into(encoding, field, out)?;
+    Some((len, rest))
 }
 
 /// Writes bytes as they are.
@@ -391,18 +379,6 @@ pub(crate) fn put_number(
     put(out, at, &[end])
 }
 
-/// Writes an iteration count in decimal, and then the byte `end`.
-pub(crate) fn put_count(
-    out: &mut [u8; MAX_TEXT_LEN],
-    at: usize,
-    iterations: NonZeroU32,
-    end: u8,
-) -> Option<usize>
-    ensures { IsPut at (count_then iterations end []) out.old out.new result }
-{
-    put_number(out, at, iterations.get() as usize, end)
-}
-
 /// Writes what stands before the salt, where `len` bytes are kept.
 #[tactic(auto, unfolding(crate::specs::Text::parameters_then))]
 pub(crate) fn put_head(
@@ -415,15 +391,16 @@ pub(crate) fn put_head(
     ensures { IsPut 0 (head_then scheme parameters iterations len []) out.old out.new result }
 {
     let row = scheme.row();
+    let count = iterations.get() as usize;
     let at = put(out, 0, row.prefix)?;
     match parameters {
         Parameters::Count => {
             let at = put(out, at, count_mark(row.names_len))?;
-            put_count(out, at, iterations, count_end(row.keeps_keys))
+            put_number(out, at, count, count_end(row.keeps_keys))
         }
         Parameters::CountThenLen => {
             let at = put(out, at, b"i=")?;
-            let at = put_count(out, at, iterations, b',')?;
+            let at = put_number(out, at, count, b',')?;
             let at = put(out, at, b"l=")?;
             put_number(out, at, len, b'$')
         }
@@ -431,7 +408,7 @@ pub(crate) fn put_head(
             let at = put(out, at, b"l=")?;
             let at = put_number(out, at, len, b',')?;
             let at = put(out, at, b"i=")?;
-            put_count(out, at, iterations, b'$')
+            put_number(out, at, count, b'$')
         }
     }
 }

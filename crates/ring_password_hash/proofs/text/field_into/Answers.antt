@@ -5,12 +5,12 @@ use Rattle.ring_password_hash.specs.Text.{written}
 use Rattle.ring_password_hash.proofs.Texts.{field_cut}
 use Rattle.ring_password_hash.proofs.text.field_into.Goals as goal
 
-pub returns-in_default-clause-refused : goal.returns-in_default-clause-refused
-returns-in_default-clause-refused c = λ _ bytes rest h apart e.
+pub returns-in_err-field-clause-refused : goal.returns-in_err-field-clause-refused
+returns-in_err-field-clause-refused c = λ _ bytes rest h apart e.
     not_cut c.args.end (written c.args.encoding bytes) rest c.args.text.now
-    (c.in_default.ensures.refused refl) e
+    (c.in_err-field.ensures.refused refl) e
 
-pub returns-in-None-clause-refused : goal.returns-in-None-clause-refused
-returns-in-None-clause-refused c = λ _ bytes rest h apart e.
-    let cut = field_cut c.in-Some.ensures.ok c.args.encoding bytes rest apart e in
-    c.in-None.ensures.refused refl bytes h cut.0
+pub returns-in_err-len-clause-refused : goal.returns-in_err-len-clause-refused
+returns-in_err-len-clause-refused c = λ _ bytes rest h apart e.
+    let cut = field_cut c.in_ok-field.ensures.ok c.args.encoding bytes rest apart e in
+    c.in_err-len.ensures.refused refl bytes h cut.0

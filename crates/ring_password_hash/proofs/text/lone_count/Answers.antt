@@ -6,4 +6,4 @@ use Rattle.ring_password_hash.proofs.text.lone_count.Goals as goal
 pub returns-clause-refused : goal.returns-clause-refused
 returns-clause-refused c = λ none d rest small e.
     c.count_before.ensures.refused none d rest small
-    (append_cancel_left c.args.mark.now _ _ (sym c.in-Some.ensures.ok ∙ e))
+    (append_cancel_left c.args.mark.now _ _ (sym c.in_ok-rest.ensures.ok ∙ e))

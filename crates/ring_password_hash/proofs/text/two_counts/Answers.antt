@@ -6,17 +6,17 @@ use Rattle.ring_password_hash.specs.Text.{count_then}
 use Rattle.ring_password_hash.proofs.Texts.{not_comma}
 use Rattle.ring_password_hash.proofs.text.two_counts.Goals as goal
 
-pub returns-in_default-count_before-clause-refused :
-    goal.returns-in_default-count_before-clause-refused
-returns-in_default-count_before-clause-refused c = λ _ d d' rest small small' e.
-    c.in_default-count_before.ensures.refused refl d (c.args.second.now ++ count_then d' 36 rest)
-    small (append_cancel_left c.args.first.now _ _ (sym c.in-Some.ensures.ok ∙ e))
+pub returns-in_err-one-clause-refused :
+    goal.returns-in_err-one-clause-refused
+returns-in_err-one-clause-refused c = λ _ d d' rest small small' e.
+    c.in_err-one.ensures.refused refl d (c.args.second.now ++ count_then d' 36 rest)
+    small (append_cancel_left c.args.first.now _ _ (sym c.in_ok-rest.ensures.ok ∙ e))
 
-pub returns-in-None-clause-refused : goal.returns-in-None-clause-refused
-returns-in-None-clause-refused c = λ _ d d' rest small small' e.
-    let behind = append_cancel_left c.args.first.now _ _ (sym c.in-Some.ensures.ok ∙ e) in
-    let read = c.in-Some-count_before.ensures.ok in
-    let same = count_then-injective 44 not_comma c.in-Some-count_before.one d
-    c.in-Some-count_before.rest.now (c.args.second.now ++ count_then d' 36 rest) read.1 small
+pub returns-in_err-other-clause-refused : goal.returns-in_err-other-clause-refused
+returns-in_err-other-clause-refused c = λ _ d d' rest small small' e.
+    let behind = append_cancel_left c.args.first.now _ _ (sym c.in_ok-rest.ensures.ok ∙ e) in
+    let read = c.in_ok-one.ensures.ok in
+    let same = count_then-injective 44 not_comma c.in_ok-one.one d
+    c.in_ok-one.rest.now (c.args.second.now ++ count_then d' 36 rest) read.1 small
     (sym read.0 ∙ behind) in
-    c.in-None.ensures.refused refl d' rest small' same.1
+    c.in_err-other.ensures.refused refl d' rest small' same.1

@@ -15,8 +15,8 @@ use Rattle.ring.proofs.lemmas.pbkdf2.Rounds.{length-dk}
 use Rattle.ring.specs.Prelude.{dk}
 use Rattle.ring.specs.declared.digest.algorithm.TheConstants.{SHA256}
 use Rattle.ring_password_hash.specs.Scheme.{algorithm_of, keeps_keys, kept_len_of, names_len}
-use Rattle.ring_password_hash.specs.Stored.{Derives, IsKept, IsParts, IsStored, Makes, derived_by}
-use Rattle.ring_password_hash.specs.Stored.{derived_of, is_past, is_salt, keys_of, new_parts}
+use Rattle.ring_password_hash.specs.Stored.{Derives, IsKept, IsStored, IsTextOf, Makes, Parts}
+use Rattle.ring_password_hash.specs.Stored.{derived_by, derived_of, is_past, is_salt, keys_of, new_parts}
 use Rattle.ring_password_hash.specs.Stored.{parameters_where, parts_of, parts_text}
 use Rattle.ring_password_hash.specs.Stored.{server_key_of, stored_key_of, text_of}
 use Rattle.ring_password_hash.specs.Text.{IsCount, IsLen}
@@ -79,56 +79,42 @@ pub record IsFresh (v : Stored) (s h : List ℕ) : Type 0 where
   pub kept_len : v.kept_len ≡ kept_len_of v.scheme
   pub usual : v.parameters ≡ parameters_where (names_len v.scheme)
 
--- a new value has a text
-new_stands : (v : Stored) (room : ℕ) {s h : List ℕ} → IsFresh v s h
-    → IsParts v.scheme (parameters_where (names_len v.scheme)) v.iterations s h → length s ≤ 1024
-    → is_past room (parts_text v.scheme (parameters_where (names_len v.scheme)) v.iterations s h)
-    ≡ false → IsStored v
-new_stands v room {s} {h} fresh is few fits =
-    let p = v.parameters in
-    let k = v.scheme in
-    let most = (len_few k Count v.kept_len fresh.kept_len).1 in
-    let own : IsParts k p v.iterations s h =
-    subst (λ (q : Parameters). IsParts k q v.iterations s h) (sym fresh.usual) is in
-    let text : is_past room (parts_text k p v.iterations s h) ≡ false = rw fresh.usual fits in
-    record {
-      filled = record {
-        salt = subst (λ (n : ℕ). n ≤ 1024) (sym fresh.salt_len) few;
-        kept = omega (arith, most);
-        keys = keys_len k Count v.kept_len fresh.kept_len;
-      };
-      text = record {
-        is = rw (fresh.salt, fresh.kept) own;
-        has = refl;
-        within = rw (fresh.salt, fresh.kept) (grind (arith, nat_tests, text));
-      };
-    }
-
+-- the value has the text of a new one
 pub new_made : {v : Stored} {room : ℕ} {p s new : List ℕ} {before after : Counts}
     → IsKept room v.scheme p s v.iterations new before after → IsFresh v s new
     → IsCount v.iterations → IsBytes s → IsBytes new
     → Makes room v.scheme p s v.iterations before after (Ok v)
 new_made {v} {room} {p} {s} {new} keeps fresh count bytes kept_bytes =
     let k = v.scheme in
-    let long : length new ≡ kept_len_of k = ap length keeps.kept ∙ length-derived_of k p s _ in
-    let fits : is_past room (parts_text k (parameters_where (names_len k)) v.iterations s new)
-    ≡ false = rw keeps.kept keeps.within in
-    let is : IsParts k (parameters_where (names_len k)) v.iterations s new = record {
-      iterations = count;
-      salt = keeps.salt;
-      salt_bytes = bytes;
-      kept = subst (IsLen k (parameters_where (names_len k))) (sym long) (usual_len k);
-      kept_bytes = kept_bytes;
-    } in
+    let h = new_parts k p s v.iterations in
     let whole = fresh.kept ∙ keeps.kept in
-    let same : parts_of v ≡ new_parts k p s v.iterations = λ i. record {
+    let same : parts_of v ≡ h = λ i. record {
       scheme = k;
       parameters = fresh.usual i;
       iterations = v.iterations;
       salt = fresh.salt i;
       kept = whole i;
     } in
-    record {
-      answer = (keeps.status, same, new_stands v room fresh is keeps.few fits);
-      cost = keeps.cost;
-    }
+    let few = (len_few k Count v.kept_len fresh.kept_len).1 in
+    let within = keeps.within in
+    let text : IsTextOf h (text_of h) = record {
+      is = record {
+        iterations = count;
+        salt = keeps.salt;
+        salt_bytes = bytes;
+        kept = subst (IsLen k (parameters_where (names_len k)))
+            (sym (length-derived_of k p s (non_zero_u32_get v.iterations))) (usual_len k);
+        kept_bytes = subst IsBytes keeps.kept kept_bytes;
+      };
+      has = refl;
+      within = grind (arith, nat_tests, within);
+    } in
+    let stored : IsStored v = record {
+      filled = record {
+        salt = subst (λ (n : ℕ). n ≤ 1024) (sym fresh.salt_len) keeps.few;
+        kept = omega (arith, few);
+        keys = keys_len k Count v.kept_len fresh.kept_len;
+      };
+      text = subst (λ (g : Parts). IsTextOf g (text_of g)) (sym same) text;
+    } in
+    record { answer = (keeps.status, same, stored); cost = keeps.cost }

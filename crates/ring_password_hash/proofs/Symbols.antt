@@ -1,6 +1,6 @@
 -- SPDX-License-Identifier: ISC
 -- No byte that ends a field stands in the base64 of bytes.
-use Rattle.std.proofs.Common.{◌≡◌, ℕ, true, List, []}
+use Rattle.std.proofs.Common.{◌≡◌, ◌++◌, ℕ, true, List, []}
 use Rattle.std.proofs.Common.{inl, inr, length, refl, replicate}
 use Rattle.std.proofs.lemmas.List.Elements.{All-append, All-nil, All-replicate}
 use Rattle.hex.specs.Hex.{IsBytes}
@@ -18,35 +18,36 @@ use Rattle.ring_password_hash.specs.declared.scheme.Encoding.TheVariants.{Base64
 abbrev symbols : List ℕ
 symbols = engine_symbols standard
 
-no_symbol : (end : ℕ) → IsEnd end → all_below (is_apart symbols end) 64 ≡ true
-no_symbol end (inl dollar) = rw dollar refl
-no_symbol end (inr colon) = rw colon refl
-
-not_padding : (end : ℕ) → IsEnd end → NotAt end 61
-not_padding end (inl dollar) = rw dollar refl
-not_padding end (inr colon) = rw colon refl
+-- what holds of both bytes holds of each that ends a field
+at_end : (P : ℕ → Type 0) → P 36 → P 58 → (end : ℕ) → IsEnd end → P end
+at_end P dollar colon end (inl is) = rw is dollar
+at_end P dollar colon end (inr is) = rw is colon
 
 pub IsWithout-base64 : (end : ℕ) → IsEnd end → (xs : List ℕ) → IsBytes xs
     → IsWithout end (written Base64 xs)
 IsWithout-base64 end is xs h =
     All-append (NotAt end) (encode_symbols symbols xs)
     (replicate (padding_len (length xs)) 61)
-    (IsWithout-symbols symbols end (no_symbol end is) xs h)
-    (All-replicate (NotAt end) (padding_len (length xs)) 61 (not_padding end is))
+    (IsWithout-symbols symbols end
+    (at_end (λ e. all_below (is_apart symbols e) 64 ≡ true) refl refl end is) xs h)
+    (All-replicate (NotAt end) (padding_len (length xs)) 61
+    (at_end (λ e. NotAt e 61) refl refl end is))
+
+-- the same without padding
+IsWithout-bare : (symbols : List ℕ) (end : ℕ) → all_below (is_apart symbols end) 64 ≡ true
+    → (xs : List ℕ) → IsBytes xs → IsWithout end (encode_symbols symbols xs ++ [])
+IsWithout-bare symbols end apart xs h =
+    All-append (NotAt end) (encode_symbols symbols xs) []
+    (IsWithout-symbols symbols end apart xs h) (All-nil (NotAt end))
 
 pub IsWithout-base64_no_pad : (end : ℕ) → IsEnd end → (xs : List ℕ) → IsBytes xs
     → IsWithout end (written Base64NoPad xs)
-IsWithout-base64_no_pad end is xs h =
-    All-append (NotAt end) (encode_symbols symbols xs) []
-    (IsWithout-symbols symbols end (no_symbol end is) xs h)
-    (All-nil (NotAt end))
-
-no_adapted : (end : ℕ) → IsEnd end → all_below (is_apart adapted_symbols end) 64 ≡ true
-no_adapted end (inl dollar) = rw dollar refl
-no_adapted end (inr colon) = rw colon refl
+IsWithout-base64_no_pad end is =
+    IsWithout-bare symbols end
+    (at_end (λ e. all_below (is_apart symbols e) 64 ≡ true) refl refl end is)
 
 pub IsWithout-adapted : (end : ℕ) → IsEnd end → (xs : List ℕ) → IsBytes xs
     → IsWithout end (written Adapted xs)
-IsWithout-adapted end is xs h =
-    All-append (NotAt end) (encode_symbols adapted_symbols xs) []
-    (IsWithout-symbols adapted_symbols end (no_adapted end is) xs h) (All-nil (NotAt end))
+IsWithout-adapted end is =
+    IsWithout-bare adapted_symbols end
+    (at_end (λ e. all_below (is_apart adapted_symbols e) 64 ≡ true) refl refl end is)

@@ -1,6 +1,6 @@
 -- SPDX-License-Identifier: ISC
 -- A new value.
-use Rattle.std.proofs.Common.{◌≡◌, ◌≤◌, ◌∙◌, ℕ, Bool, true, false, List, ap, arith, length, refl}
+use Rattle.std.proofs.Common.{◌≡◌, ◌≤◌, ◌∙◌, ℕ, Bool, true, false, List, arith, length, refl}
 use Rattle.std.proofs.Common.{subst, sym, take}
 use Rattle.std.specs.Prelude.{Ok}
 use Rattle.std.proofs.lemmas.Bool.Decides.{nat_tests}
@@ -22,7 +22,6 @@ use Rattle.ring_password_hash.specs.Stored.{server_key_of, stored_key_of, text_o
 use Rattle.ring_password_hash.specs.Text.{IsCount, IsLen}
 use Rattle.ring_password_hash.specs.declared.scheme.Scheme.{Scheme}
 use Rattle.ring_password_hash.specs.declared.stored.Stored.{Stored}
-use Rattle.ring_password_hash.specs.declared.text.Parameters.{Parameters}
 use Rattle.ring_password_hash.specs.declared.text.Parameters.TheVariants.{Count}
 use Rattle.ring_password_hash.proofs.Heads.{keys_len, len_few, usual_len}
 use Rattle.ring_password_hash.proofs.Writing.{length-parts_text}

@@ -9,32 +9,26 @@ use Rattle.base64.proofs.Tables.{all_below_at}
 use Rattle.base64.specs.Tables.{all_below}
 use Rattle.ring_password_hash.specs.Scheme.{Row, name_of, row_of}
 use Rattle.ring_password_hash.specs.declared.scheme.Scheme.{Scheme}
-use Rattle.ring_password_hash.specs.declared.scheme.Scheme.TheVariants.{DjangoSha256, DjangoSha1}
-use Rattle.ring_password_hash.specs.declared.scheme.Scheme.TheVariants.{WerkzeugSha256}
-use Rattle.ring_password_hash.specs.declared.scheme.Scheme.TheVariants.{WerkzeugSha512, PhcSha256}
-use Rattle.ring_password_hash.specs.declared.scheme.Scheme.TheVariants.{PhcSha512, Mosquitto}
-use Rattle.ring_password_hash.specs.declared.scheme.Scheme.TheVariants.{PasslibSha1, PasslibSha256}
-use Rattle.ring_password_hash.specs.declared.scheme.Scheme.TheVariants.{PasslibSha512, Postgresql}
-use Rattle.ring_password_hash.specs.declared.scheme.Scheme.TheVariants.{WerkzeugSha1}
+use Rattle.ring_password_hash.specs.declared.scheme.Scheme.TheVariants as scheme
 use Rattle.ring_password_hash.specs.declared.scheme.TheConstants.{SCHEMES}
 
 abbrev pub scheme_at : ℕ → Scheme
-scheme_at i = slice_index_or SCHEMES i DjangoSha256
+scheme_at i = slice_index_or SCHEMES i scheme.DjangoSha256
 
 -- what holds at each place holds of each scheme
 pub at_each : (P : Scheme → Type 0) → ((i : ℕ) → i < 12 → P (scheme_at i)) → (k : Scheme) → P k
-at_each P all DjangoSha256 = all 0 (omega arith)
-at_each P all DjangoSha1 = all 1 (omega arith)
-at_each P all WerkzeugSha256 = all 2 (omega arith)
-at_each P all WerkzeugSha512 = all 3 (omega arith)
-at_each P all PhcSha256 = all 4 (omega arith)
-at_each P all PhcSha512 = all 5 (omega arith)
-at_each P all Mosquitto = all 6 (omega arith)
-at_each P all PasslibSha1 = all 7 (omega arith)
-at_each P all PasslibSha256 = all 8 (omega arith)
-at_each P all PasslibSha512 = all 9 (omega arith)
-at_each P all Postgresql = all 10 (omega arith)
-at_each P all WerkzeugSha1 = all 11 (omega arith)
+at_each P all scheme.DjangoSha256 = all 0 (omega arith)
+at_each P all scheme.DjangoSha1 = all 1 (omega arith)
+at_each P all scheme.WerkzeugSha256 = all 2 (omega arith)
+at_each P all scheme.WerkzeugSha512 = all 3 (omega arith)
+at_each P all scheme.PhcSha256 = all 4 (omega arith)
+at_each P all scheme.PhcSha512 = all 5 (omega arith)
+at_each P all scheme.Mosquitto = all 6 (omega arith)
+at_each P all scheme.PasslibSha1 = all 7 (omega arith)
+at_each P all scheme.PasslibSha256 = all 8 (omega arith)
+at_each P all scheme.PasslibSha512 = all 9 (omega arith)
+at_each P all scheme.Postgresql = all 10 (omega arith)
+at_each P all scheme.WerkzeugSha1 = all 11 (omega arith)
 
 -- so does a test of each row
 pub each_row : (test : Row → Bool) → all_below (λ i. test (row_of (scheme_at i))) 12 ≡ true
@@ -55,24 +49,24 @@ at_next P i before here j below =
 
 -- the scheme of a name that one has
 scheme_named : List Scheme → List ℕ → Scheme
-scheme_named [] name = DjangoSha256
+scheme_named [] name = scheme.DjangoSha256
 scheme_named (k ∷ ks) name =
     if bytes_eq (name_of k) name then k else scheme_named ks name
 
 named_own : (k : Scheme) → scheme_named SCHEMES (name_of k) ≡ k
 unfolding scheme_named
-named_own DjangoSha256 = refl
-named_own DjangoSha1 = refl
-named_own WerkzeugSha256 = refl
-named_own WerkzeugSha512 = refl
-named_own PhcSha256 = refl
-named_own PhcSha512 = refl
-named_own Mosquitto = refl
-named_own PasslibSha1 = refl
-named_own PasslibSha256 = refl
-named_own PasslibSha512 = refl
-named_own Postgresql = refl
-named_own WerkzeugSha1 = refl
+named_own scheme.DjangoSha256 = refl
+named_own scheme.DjangoSha1 = refl
+named_own scheme.WerkzeugSha256 = refl
+named_own scheme.WerkzeugSha512 = refl
+named_own scheme.PhcSha256 = refl
+named_own scheme.PhcSha512 = refl
+named_own scheme.Mosquitto = refl
+named_own scheme.PasslibSha1 = refl
+named_own scheme.PasslibSha256 = refl
+named_own scheme.PasslibSha512 = refl
+named_own scheme.Postgresql = refl
+named_own scheme.WerkzeugSha1 = refl
 
 pub name_of-injective : (k l : Scheme) → name_of k ≡ name_of l → k ≡ l
 name_of-injective k l e = sym (named_own k) ∙ ap (scheme_named SCHEMES) e ∙ named_own l

@@ -15,13 +15,7 @@ use Rattle.ring_text.proofs.Numbers.{All-decimal, IsDigit}
 use Rattle.ring_password_hash.specs.Stored.{IsTextOf, Parts, parts_text}
 use Rattle.ring_password_hash.specs.Text.{IsCount, IsLen, head_then, parameters_then}
 use Rattle.ring_password_hash.specs.declared.scheme.Scheme.{Scheme}
-use Rattle.ring_password_hash.specs.declared.scheme.Scheme.TheVariants.{DjangoSha256, DjangoSha1}
-use Rattle.ring_password_hash.specs.declared.scheme.Scheme.TheVariants.{WerkzeugSha256}
-use Rattle.ring_password_hash.specs.declared.scheme.Scheme.TheVariants.{WerkzeugSha512, PhcSha256}
-use Rattle.ring_password_hash.specs.declared.scheme.Scheme.TheVariants.{PhcSha512, Mosquitto}
-use Rattle.ring_password_hash.specs.declared.scheme.Scheme.TheVariants.{PasslibSha1, PasslibSha256}
-use Rattle.ring_password_hash.specs.declared.scheme.Scheme.TheVariants.{PasslibSha512, Postgresql}
-use Rattle.ring_password_hash.specs.declared.scheme.Scheme.TheVariants.{WerkzeugSha1}
+use Rattle.ring_password_hash.specs.declared.scheme.Scheme.TheVariants as scheme
 use Rattle.ring_password_hash.specs.declared.text.Parameters.{Parameters}
 use Rattle.ring_password_hash.specs.declared.text.Parameters.TheVariants.{Count, CountThenLen}
 use Rattle.ring_password_hash.specs.declared.text.Parameters.TheVariants.{LenThenCount}
@@ -40,19 +34,21 @@ pick false a b = b
 -- a text behind `$pbkdf2-sha`: passlib's has a digit where a PHC string names a parameter
 abbrev behind_dollar : List ℕ → Scheme
 behind_dollar text =
-    pick (byte_at 11 text == 50) (pick (is_digit (byte_at 15 text)) PasslibSha256 PhcSha256)
-    (pick (is_digit (byte_at 15 text)) PasslibSha512 PhcSha512)
+    pick (byte_at 11 text == 50)
+    (pick (is_digit (byte_at 15 text)) scheme.PasslibSha256 scheme.PhcSha256)
+    (pick (is_digit (byte_at 15 text)) scheme.PasslibSha512 scheme.PhcSha512)
 
 -- the scheme of a text that has one
 abbrev scheme_from : List ℕ → Scheme
 scheme_from text =
     pick (byte_at 0 text == 36)
-    (pick (byte_at 1 text == 55) Mosquitto
-    (pick (byte_at 7 text == 36) PasslibSha1 (behind_dollar text)))
-    (pick (byte_at 0 text == 83) Postgresql
-    (pick (byte_at 6 text == 95) (pick (byte_at 10 text == 50) DjangoSha256 DjangoSha1)
-    (pick (byte_at 10 text == 50) WerkzeugSha256
-    (pick (byte_at 10 text == 53) WerkzeugSha512 WerkzeugSha1))))
+    (pick (byte_at 1 text == 55) scheme.Mosquitto
+    (pick (byte_at 7 text == 36) scheme.PasslibSha1 (behind_dollar text)))
+    (pick (byte_at 0 text == 83) scheme.Postgresql
+    (pick (byte_at 6 text == 95)
+    (pick (byte_at 10 text == 50) scheme.DjangoSha256 scheme.DjangoSha1)
+    (pick (byte_at 10 text == 50) scheme.WerkzeugSha256
+    (pick (byte_at 10 text == 53) scheme.WerkzeugSha512 scheme.WerkzeugSha1))))
 
 -- a number begins with a digit
 first_digit : (ds t : List ℕ) → 0 < length ds → All IsDigit ds
@@ -71,28 +67,28 @@ count_digit c t small =
 scheme_from-head : (k : Scheme) (p : Parameters) (c : NonZeroU32) (n : ℕ) (t : List ℕ) → IsCount c
     → IsLen k p n → scheme_from (head_then k p c n t) ≡ k
 unfolding parameters_then
-scheme_from-head DjangoSha256 p c n t hc h = refl
-scheme_from-head DjangoSha1 p c n t hc h = refl
-scheme_from-head WerkzeugSha256 p c n t hc h = refl
-scheme_from-head WerkzeugSha512 p c n t hc h = refl
-scheme_from-head WerkzeugSha1 p c n t hc h = refl
-scheme_from-head PhcSha256 Count c n t hc h = refl
-scheme_from-head PhcSha256 CountThenLen c n t hc h = refl
-scheme_from-head PhcSha256 LenThenCount c n t hc h = refl
-scheme_from-head PhcSha512 Count c n t hc h = refl
-scheme_from-head PhcSha512 CountThenLen c n t hc h = refl
-scheme_from-head PhcSha512 LenThenCount c n t hc h = refl
-scheme_from-head Mosquitto p c n t hc h = refl
-scheme_from-head PasslibSha1 p c n t hc h = refl
-scheme_from-head Postgresql p c n t hc h = refl
-scheme_from-head PasslibSha256 Count c n t hc h =
-    ap (λ (b : Bool). pick b PasslibSha256 PhcSha256) (count_digit c (36 ∷ t) hc)
-scheme_from-head PasslibSha256 CountThenLen c n t hc h = absurd (true≢false (sym h.named))
-scheme_from-head PasslibSha256 LenThenCount c n t hc h = absurd (true≢false (sym h.named))
-scheme_from-head PasslibSha512 Count c n t hc h =
-    ap (λ (b : Bool). pick b PasslibSha512 PhcSha512) (count_digit c (36 ∷ t) hc)
-scheme_from-head PasslibSha512 CountThenLen c n t hc h = absurd (true≢false (sym h.named))
-scheme_from-head PasslibSha512 LenThenCount c n t hc h = absurd (true≢false (sym h.named))
+scheme_from-head scheme.DjangoSha256 p c n t hc h = refl
+scheme_from-head scheme.DjangoSha1 p c n t hc h = refl
+scheme_from-head scheme.WerkzeugSha256 p c n t hc h = refl
+scheme_from-head scheme.WerkzeugSha512 p c n t hc h = refl
+scheme_from-head scheme.WerkzeugSha1 p c n t hc h = refl
+scheme_from-head scheme.PhcSha256 Count c n t hc h = refl
+scheme_from-head scheme.PhcSha256 CountThenLen c n t hc h = refl
+scheme_from-head scheme.PhcSha256 LenThenCount c n t hc h = refl
+scheme_from-head scheme.PhcSha512 Count c n t hc h = refl
+scheme_from-head scheme.PhcSha512 CountThenLen c n t hc h = refl
+scheme_from-head scheme.PhcSha512 LenThenCount c n t hc h = refl
+scheme_from-head scheme.Mosquitto p c n t hc h = refl
+scheme_from-head scheme.PasslibSha1 p c n t hc h = refl
+scheme_from-head scheme.Postgresql p c n t hc h = refl
+scheme_from-head scheme.PasslibSha256 Count c n t hc h =
+    ap (λ (b : Bool). pick b scheme.PasslibSha256 scheme.PhcSha256) (count_digit c (36 ∷ t) hc)
+scheme_from-head scheme.PasslibSha256 CountThenLen c n t hc h = absurd (true≢false (sym h.named))
+scheme_from-head scheme.PasslibSha256 LenThenCount c n t hc h = absurd (true≢false (sym h.named))
+scheme_from-head scheme.PasslibSha512 Count c n t hc h =
+    ap (λ (b : Bool). pick b scheme.PasslibSha512 scheme.PhcSha512) (count_digit c (36 ∷ t) hc)
+scheme_from-head scheme.PasslibSha512 CountThenLen c n t hc h = absurd (true≢false (sym h.named))
+scheme_from-head scheme.PasslibSha512 LenThenCount c n t hc h = absurd (true≢false (sym h.named))
 
 -- one text is of one scheme
 pub same_scheme : (g h : Parts) {text : List ℕ} → IsTextOf g text → IsTextOf h text

@@ -3,7 +3,7 @@
 use Rattle.std.proofs.Common.{◌≡◌, ◌≢◌, ◌+◌, ◌∙◌, ℕ, Bool, true, false, List, ap, arith, length}
 use Rattle.std.proofs.Common.{refl, subst, sym}
 use Rattle.std.specs.Prelude.{Err, Ok, Some, nat_lt}
-use Rattle.std.proofs.lemmas.Bool.{eq-eqb}
+use Rattle.std.proofs.lemmas.Bool.{eq-eqb, false_from_ne_true}
 use Rattle.std.proofs.lemmas.Slice.Eq.{bytes_eq-Decides}
 use Rattle.std.specs.Int.NonZero.{non_zero_u32_get}
 use Rattle.std.specs.Str.{bytes_eq}
@@ -11,10 +11,6 @@ use Rattle.ring_core.proofs.Costs.{raised-raised}
 use Rattle.ring_core.specs.Cost.{Counts, compared_pairs, raised}
 use Rattle.ring_password_hash.specs.Stored.{Derives, Parts, Tests, derived_of, kept_blocks}
 use Rattle.ring_password_hash.specs.declared.error.HashError.TheVariants.{WrongPassword}
-
-false_from : (b : Bool) → (b ≡ true → ⊥) → b ≡ false
-false_from true never = absurd (never refl)
-false_from false never = refl
 
 module _ (h : Parts) (p : List ℕ) (most : ℕ) {n : ℕ} {derived : List ℕ}
     {before mid after : Counts}
@@ -39,10 +35,9 @@ module _ (h : Parts) (p : List ℕ) (most : ℕ) {n : ℕ} {derived : List ℕ}
       let same : blocks + 0 ≡ blocks = omega arith in
       let equal = eq-eqb n n refl in
       let pairs : compared_pairs n (length derived) ≡ n = rw (long, equal) refl in
-      compared ∙ ap (λ (m : ℕ). raised mid 0 m) pairs ∙ ap (λ (m : Counts). raised m 0 n) d.cost
-      ∙ raised-raised before blocks 0 0 n
-      ∙ ap (λ (b : ℕ). raised before b (0 + n)) same
-      ∙ ap (λ (m : ℕ). raised before blocks m) (let none : 0 + n ≡ n = omega arith in none)
+      let none : 0 + n ≡ n = omega arith in
+      let all = raised-raised before blocks 0 0 n in
+      compared ∙ rw (pairs, d.cost) (rw (same, none) at all)
 
   pub tests_right : h.kept ≡ derived → Tests (Some h) p most before after (Ok tt)
   tests_right same = record {
@@ -52,7 +47,7 @@ module _ (h : Parts) (p : List ℕ) (most : ℕ) {n : ℕ} {derived : List ℕ}
 
   pub tests_wrong : h.kept ≢ derived → Tests (Some h) p most before after (Err WrongPassword)
   tests_wrong other =
-      let differs = false_from (bytes_eq h.kept _)
+      let differs = false_from_ne_true (bytes_eq h.kept _)
       (λ same. other ((bytes_eq-Decides h.kept (derived_of h.scheme p h.salt
       (non_zero_u32_get h.iterations) (length h.kept))).0 same ∙ sym d.ok)) in
       record { answer = rw (fits, d.can, differs) refl; cost = rw (fits, d.can) cost }

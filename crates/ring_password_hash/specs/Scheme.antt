@@ -11,13 +11,7 @@ use Rattle.ring_password_hash.specs.declared.scheme.Encoding.TheVariants.{Plain,
 use Rattle.ring_password_hash.specs.declared.scheme.Encoding.TheVariants.{Base64NoPad, Adapted}
 use Rattle.ring_password_hash.specs.declared.scheme.Row as code
 use Rattle.ring_password_hash.specs.declared.scheme.Scheme.{Scheme}
-use Rattle.ring_password_hash.specs.declared.scheme.Scheme.TheVariants.{DjangoSha256, DjangoSha1}
-use Rattle.ring_password_hash.specs.declared.scheme.Scheme.TheVariants.{WerkzeugSha256}
-use Rattle.ring_password_hash.specs.declared.scheme.Scheme.TheVariants.{WerkzeugSha512, PhcSha256}
-use Rattle.ring_password_hash.specs.declared.scheme.Scheme.TheVariants.{PhcSha512, Mosquitto}
-use Rattle.ring_password_hash.specs.declared.scheme.Scheme.TheVariants.{PasslibSha1, PasslibSha256}
-use Rattle.ring_password_hash.specs.declared.scheme.Scheme.TheVariants.{PasslibSha512, Postgresql}
-use Rattle.ring_password_hash.specs.declared.scheme.Scheme.TheVariants.{WerkzeugSha1}
+use Rattle.ring_password_hash.specs.declared.scheme.Scheme.TheVariants as scheme
 
 -- its name; what a text begins with; whether it can name the length of what it keeps, and whether
 -- that is SCRAM's two keys; how salt and kept bytes are written; how many are kept where the text
@@ -50,28 +44,28 @@ row name prefix named keys salt kept n a = record {
 -- modular crypt format: `passlib/handlers/pbkdf2.py`. PostgreSQL's verifier: RFC 5802, section 3,
 -- and RFC 7677
 abbrev pub row_of : Scheme → Row
-row_of DjangoSha256 =
+row_of scheme.DjangoSha256 =
     row (codes "django-sha256") (codes "pbkdf2_sha256$") false false Plain Base64 32 SHA256
-row_of DjangoSha1 =
+row_of scheme.DjangoSha1 =
     row (codes "django-sha1") (codes "pbkdf2_sha1$") false false Plain Base64 20 SHA1
-row_of WerkzeugSha256 =
+row_of scheme.WerkzeugSha256 =
     row (codes "werkzeug-sha256") (codes "pbkdf2:sha256:") false false Plain Hex 32 SHA256
-row_of WerkzeugSha512 =
+row_of scheme.WerkzeugSha512 =
     row (codes "werkzeug-sha512") (codes "pbkdf2:sha512:") false false Plain Hex 64 SHA512
-row_of PhcSha256 =
+row_of scheme.PhcSha256 =
     row (codes "phc-sha256") (codes "$pbkdf2-sha256$") true false Base64NoPad Base64NoPad 32 SHA256
-row_of PhcSha512 =
+row_of scheme.PhcSha512 =
     row (codes "phc-sha512") (codes "$pbkdf2-sha512$") true false Base64NoPad Base64NoPad 32 SHA512
-row_of Mosquitto = row (codes "mosquitto") (codes "$7$") false false Base64 Base64 64 SHA512
-row_of PasslibSha1 =
+row_of scheme.Mosquitto = row (codes "mosquitto") (codes "$7$") false false Base64 Base64 64 SHA512
+row_of scheme.PasslibSha1 =
     row (codes "passlib-sha1") (codes "$pbkdf2$") false false Adapted Adapted 20 SHA1
-row_of PasslibSha256 =
+row_of scheme.PasslibSha256 =
     row (codes "passlib-sha256") (codes "$pbkdf2-sha256$") false false Adapted Adapted 32 SHA256
-row_of PasslibSha512 =
+row_of scheme.PasslibSha512 =
     row (codes "passlib-sha512") (codes "$pbkdf2-sha512$") false false Adapted Adapted 64 SHA512
-row_of Postgresql =
+row_of scheme.Postgresql =
     row (codes "postgresql") (codes "SCRAM-SHA-256$") false true Base64 Base64 64 SHA256
-row_of WerkzeugSha1 =
+row_of scheme.WerkzeugSha1 =
     row (codes "werkzeug-sha1") (codes "pbkdf2:sha1:") false false Plain Hex 20 SHA1
 
 -- the code's row is that of the table

@@ -17,10 +17,7 @@ use Rattle.ring_password_hash.specs.Scheme.{algorithm_of, keeps_keys, kept_len_o
 use Rattle.ring_password_hash.specs.Scheme.{salt_encoding_of}
 use Rattle.ring_password_hash.specs.Text.{IsCount, IsLen, field_then, head_then, kept_text}
 use Rattle.ring_password_hash.specs.declared.error.HashError.{HashError}
-use Rattle.ring_password_hash.specs.declared.error.HashError.TheVariants.{BadFormat, BadSalt}
-use Rattle.ring_password_hash.specs.declared.error.HashError.TheVariants.{NoRoom, TooLong}
-use Rattle.ring_password_hash.specs.declared.error.HashError.TheVariants.{TooManyIterations}
-use Rattle.ring_password_hash.specs.declared.error.HashError.TheVariants.{WrongPassword}
+use Rattle.ring_password_hash.specs.declared.error.HashError.TheVariants as hash
 use Rattle.ring_password_hash.specs.declared.scheme.Encoding.{Encoding}
 use Rattle.ring_password_hash.specs.declared.scheme.Encoding.TheVariants.{Plain, Hex, Base64}
 use Rattle.ring_password_hash.specs.declared.scheme.Encoding.TheVariants.{Base64NoPad, Adapted}
@@ -122,7 +119,7 @@ pub record IsStored (v : Stored) : Type 0 where
 -- what a text is read as: the value that has it, or BadFormat exactly where none has
 abbrev pub Reads : (text : List ℕ) → Result Stored HashError → Type 0
 Reads text (Ok v) = IsTextOf (parts_of v) text × IsStored v
-Reads text (Err error) = (error ≡ BadFormat) × ((h : Parts) → IsTextOf h text → ⊥)
+Reads text (Err error) = (error ≡ hash.BadFormat) × ((h : Parts) → IsTextOf h text → ⊥)
 
 -- ---- what is kept of a password
 
@@ -186,11 +183,11 @@ is_of h p =
 
 -- what a test of the password p answers, under a limit of iterations
 abbrev pub answer_of : Option Parts → (p : List ℕ) → (most : ℕ) → Result (Unit {0}) HashError
-answer_of None p most = Err BadFormat
+answer_of None p most = Err hash.BadFormat
 answer_of (Some h) p most =
-    if nat_lt most (non_zero_u32_get h.iterations) then Err TooManyIterations
+    if nat_lt most (non_zero_u32_get h.iterations) then Err hash.TooManyIterations
     else if is_of h p then Ok tt
-    else Err WrongPassword
+    else Err hash.WrongPassword
 
 -- what a meter counts of it: nothing where the text or its count is refused
 abbrev pub meter_of : Option Parts → (p : List ℕ) → (most : ℕ) → Counts → Counts
@@ -232,9 +229,9 @@ is_past room text = nat_lt room (length text) || nat_lt 1024 (length text)
 abbrev pub new_status : (room : ℕ) → Scheme → (p s : List ℕ) → NonZeroU32
     → Result (Unit {0}) HashError
 new_status room k p s c =
-    if is_past room (text_of (new_parts k p s c)) then Err NoRoom
-    else if not (is_salt k s) then Err BadSalt
-    else if not (can_keep k (length p) (length s) (kept_len_of k)) then Err TooLong
+    if is_past room (text_of (new_parts k p s c)) then Err hash.NoRoom
+    else if not (is_salt k s) then Err hash.BadSalt
+    else if not (can_keep k (length p) (length s) (kept_len_of k)) then Err hash.TooLong
     else Ok tt
 
 -- what a meter counts of it: nothing where it is refused
@@ -280,4 +277,4 @@ pub record Makes (room : ℕ) (k : Scheme) (p s : List ℕ) (c : NonZeroU32) (be
 -- buffer is as it was
 abbrev pub Writes : (text old new : List ℕ) → Result ℕ HashError → Type 0
 Writes text old new (Ok len) = (len ≡ length text) × (new ≡ text ++ drop len old)
-Writes text old new (Err error) = (error ≡ NoRoom) × (length old < length text) × (new ≡ old)
+Writes text old new (Err error) = (error ≡ hash.NoRoom) × (length old < length text) × (new ≡ old)

@@ -34,13 +34,13 @@ module _ (m : ℕ) (xs : List (List ℕ)) {b : Bool} (known : Bool) (all : m ≡
 
 -- one level down as many leaves are left out
 module _ (m k : ℕ) (xs ys : List (List ℕ)) {len end : ℕ} where
-  left-down : (known same : Bool) → len ≡ end + 1
-      → end ≡ length (subproof_of k ys (known && same))
-      → length (subproof_of m xs false) ≡ length (subproof_of k ys false) + 1
-      → (same ≡ true → m ≡ k) → left_out m xs len ≡ left_out k ys end
-  left-down false same e l f i = grind (arith, nat_tests)
-  left-down true false e l f i = grind (arith, nat_tests)
-  left-down true true e l f i = let j = i refl in grind (arith, nat_tests)
+  left-down : (known same : Bool)
+      → (len ≡ end + 1) × (end ≡ length (subproof_of k ys (known && same)))
+      → (length (subproof_of m xs false) ≡ length (subproof_of k ys false) + 1)
+      × (same ≡ true → m ≡ k) → left_out m xs len ≡ left_out k ys end
+  left-down false same d u = grind (arith, nat_tests, d.0, d.1, u.0)
+  left-down true false d u = grind (arith, nat_tests, d.0, d.1, u.0)
+  left-down true true d u = let j = u.1 refl in grind (arith, nat_tests, d.0, d.1, u.0)
 
 pub bounds-out-0 : goal.bounds-out-0
 bounds-out-0 t c =
@@ -117,14 +117,17 @@ returns-clause-cost t c =
     omega (arith, c.requires.len, ap length (p.ensures.subproof known lt), push) in
     let rest : length (take end (set out end x)) ≡ end =
     omega (arith, length-take end (set out end x), length-set out end x) in
-    let left = left-down (c.args.node + 1) (place + 1) leaves part known (place == c.args.node) long
-    (omega (arith, c.requires.len, ap length (p.ensures.subproof known lt), push))
-    (omega (
-      arith,
-      ap length (p.ensures.subproof false lt),
-      length_push (subproof_of (place + 1) part false) root,
-    ))
-    (λ t. grind (arith, nat_tests)) in
+    let left = left-down (c.args.node + 1) (place + 1) leaves part known (place == c.args.node) (
+      long,
+      omega (arith, c.requires.len, ap length (p.ensures.subproof known lt), push),
+    ) (
+      omega (
+        arith,
+        ap length (p.ensures.subproof false lt),
+        length_push (subproof_of (place + 1) part false) root,
+      ),
+      λ t. grind (arith, nat_tests),
+    ) in
     raised-more c.args.meter.now (length p.result.2.now) _
     (length leaves - (left_out (c.args.node + 1) leaves (length out) + length out)) p.ensures.some
     c.tree_root_counted-2.ensures.cost c.write_proof.ensures.cost

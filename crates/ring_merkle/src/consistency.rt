@@ -1,13 +1,12 @@
 // SPDX-License-Identifier: ISC
 //! Proofs that a tree is the beginning of a larger one (RFC 9162, section 2.1.4).
 
-ghost use Rattle.std.specs.Prelude.{◌≡◌, ◌↔◌, ◌+◌, ◌*◌, ◌<◌, ◌≤◌, ℕ, List, length, IsTrue, Some};
+ghost use Rattle.std.specs.Prelude.{◌≡◌, ◌↔◌, ◌*◌, ◌<◌, ◌≤◌, length, IsTrue, Some};
 ghost use Rattle.ring.specs.Prelude.{raised};
 ghost use Rattle.ring_merkle.specs.Consistency.{IsConsistent, LeadsToBoth, first_last};
 ghost use Rattle.ring_merkle.specs.Consistency.{first_node};
-ghost use Rattle.ring_merkle.specs.Cost.{both_blocks, consistency_blocks, left_count, node_blocks};
+ghost use Rattle.ring_merkle.specs.Cost.{both_blocks, consistency_blocks};
 ghost use Rattle.ring_merkle.specs.Gives.{VerifiesConsistency};
-ghost use Rattle.ring_merkle.specs.Walk.{front_step, walk, whole_step};
 
 use crate::hash::HASH_LEN;
 use crate::place::Place;

@@ -1,12 +1,11 @@
 // SPDX-License-Identifier: ISC
 //! Proofs that a leaf is in a tree (RFC 9162, section 2.1.3).
 
-ghost use Rattle.std.specs.Prelude.{◌≡◌, ◌↔◌, ◌*◌, ℕ, List, IsTrue, Some, length};
+ghost use Rattle.std.specs.Prelude.{◌≡◌, ◌↔◌, ◌*◌, IsTrue, length};
 ghost use Rattle.ring.specs.Prelude.{raised};
-ghost use Rattle.ring_merkle.specs.Cost.{inclusion_blocks, node_blocks};
+ghost use Rattle.ring_merkle.specs.Cost.{inclusion_blocks};
 ghost use Rattle.ring_merkle.specs.Gives.{VerifiesInclusion};
 ghost use Rattle.ring_merkle.specs.Inclusion.{IsIncluded};
-ghost use Rattle.ring_merkle.specs.Walk.{walk, whole_step};
 
 use crate::hash::HASH_LEN;
 use crate::place::Place;

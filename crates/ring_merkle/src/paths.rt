@@ -1,9 +1,8 @@
 // SPDX-License-Identifier: ISC
 //! The paths of both kinds of proof, made from the leaf hashes of a tree.
 
-ghost use Rattle.std.specs.Prelude.{◌≡◌, ◌↔◌, ◌+◌, ◌-◌, ◌*◌, ◌<◌, ◌≤◌, ◌==◌, ◌&&◌, [], ◌∷◌, ◌++◌};
-ghost use Rattle.std.specs.Prelude.{Bool, cond};
-ghost use Rattle.std.specs.Prelude.{length, drop, IfOk, IsOk, OnErr};
+ghost use Rattle.std.specs.Prelude.{◌≡◌, ◌+◌, ◌-◌, ◌*◌, ◌<◌, ◌≤◌, ◌==◌, ◌&&◌, [], ◌∷◌, ◌++◌};
+ghost use Rattle.std.specs.Prelude.{Bool, length, IfOk, OnErr};
 ghost use Rattle.std.specs.Int.{IsPowerOfTwo};
 ghost use Rattle.ring.specs.Prelude.{raised};
 ghost use Rattle.ring_merkle.specs.Consistency.{proof_of, subproof_of};

@@ -16,8 +16,8 @@ use Rattle.ring.specs.Prelude.{dk}
 use Rattle.ring.specs.declared.digest.algorithm.TheConstants.{SHA256}
 use Rattle.ring_password_hash.specs.Scheme.{algorithm_of, keeps_keys, kept_len_of, names_len}
 use Rattle.ring_password_hash.specs.Stored.{Derives, IsKept, IsStored, IsTextOf, Makes, Parts}
-use Rattle.ring_password_hash.specs.Stored.{derived_by, derived_of, is_past, is_salt, keys_of, new_parts}
-use Rattle.ring_password_hash.specs.Stored.{parameters_where, parts_of, parts_text}
+use Rattle.ring_password_hash.specs.Stored.{derived_by, derived_of, is_past, is_salt, keys_of}
+use Rattle.ring_password_hash.specs.Stored.{new_parts, parameters_where, parts_of, parts_text}
 use Rattle.ring_password_hash.specs.Stored.{server_key_of, stored_key_of, text_of}
 use Rattle.ring_password_hash.specs.Text.{IsCount, IsLen}
 use Rattle.ring_password_hash.specs.declared.scheme.Scheme.{Scheme}

@@ -21,7 +21,8 @@ returns c =
     record {
       can = rw keys (rw a at can);
       ok = rw keys (c.write_keys.ensures.ok ∙ ap keys_of salted);
-      cost = rw keys (raised-then c.args.meter.now _ _ (rw a at one.cost) c.write_keys.ensures.cost);
+      cost = rw keys
+          (raised-then c.args.meter.now _ _ (rw a at one.cost) c.write_keys.ensures.cost);
       refused = tt;
       unchanged = tt;
     }

@@ -37,7 +37,8 @@ WRITTEN = {
     "Adapted": "adapted base64",
 }
 ROW = re.compile(
-    r'^row_of (?P<variant>\w+) =\s+row \(codes "(?P<name>[^"]+)"\) \(codes "(?P<prefix>[^"]+)"\)'
+    r'^row_of scheme\.(?P<variant>\w+) =\s+row \(codes "(?P<name>[^"]+)"\)'
+    r' \(codes "(?P<prefix>[^"]+)"\)'
     r" (?P<named>true|false) (?P<keys>true|false) (?P<salt>\w+) (?P<kept>\w+) (?P<len>\d+)"
     r" (?P<digest>\w+)$", re.M,
 )

@@ -3,17 +3,17 @@
  *
  * The library has two builds of one proved crate, for x86-64-v2 and for x86-64-v3, which has AVX2.
  * Where the processor has the latter, the calls below go to it: `make bench` finds it no slower in
- * any of them. All other calls are those of the build for x86-64-v2: they run no block. Contexts and
- * keys have the same bytes in both, so that one build goes on where the other stopped.
+ * any of them. All other calls are those of the build for x86-64-v2: they run no block. Contexts
+ * and keys have the same bytes in both, so that one build goes on where the other stopped.
  *
  * The build for x86-64-v2 takes the SHA instructions where processor.c finds them. They have SSE's
  * encodings alone, beside which code with AVX is slow on some processors. README.md has a table of
  * which call goes where, and `make builds` compares both. */
 #include "processor.h"
 
-/* Whether a call runs blocks one by one, or several side by side. That the lanes of AVX2 are then no
- * slower than the SHA instructions is llvm-mca's estimate: no processor with these instructions was
- * measured. */
+/* Whether a call runs blocks one by one, or several side by side. That the lanes of AVX2 are then
+ * no slower than the SHA instructions is llvm-mca's estimate: no processor with these instructions
+ * was measured. */
 enum work { ALONE, TOGETHER };
 
 /* The fewest messages or rounds of SHA-1 and SHA-256 that run side by side. */

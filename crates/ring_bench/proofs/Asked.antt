@@ -24,10 +24,10 @@ answer_by_first call.Pbkdf2 (a ∷ b ∷ c ∷ d ∷ e ∷ f ∷ others) = refl
 answer_by_first call.Pbkdf2Verify (a ∷ b ∷ c ∷ d ∷ e ∷ f ∷ others) = refl
 
 -- what fields are answered is told by the first seven of them
-pub answer_to_first : (fields : List (List ℕ)) → answer_to (take 7 fields) ≡ answer_to fields
+pub told_by_first : (fields : List (List ℕ)) → answer_to (take 7 fields) ≡ answer_to fields
 unfolding answer_to
-answer_to_first [] = refl
-answer_to_first (word ∷ operands) = by_call (call_of word)
+told_by_first [] = refl
+told_by_first (word ∷ operands) = by_call (call_of word)
   where
     by_call : (named : Option Call)
         → (named >>= (λ c. answer_by c (take 6 operands)))

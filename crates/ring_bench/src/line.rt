@@ -82,11 +82,7 @@ fn parts_between<A: Allocator>(
 }
 
 /// What the line says.
-#[tactic(
-    auto,
-    using(crate::proofs::Asked::answer_to_first),
-    unfolding(crate::specs::Line::line_of)
-)]
+#[tactic(auto, using(crate::proofs::Asked::told_by_first), unfolding(crate::specs::Line::line_of))]
 pub fn parse<A: Allocator + Copy>(alloc: A, text: &[u8]) -> Result<Line<A>, AllocError>
     ensures { IfOk result (λ line. meaning line ≡ line_of text.now) }
 {

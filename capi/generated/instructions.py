@@ -11,8 +11,8 @@ instruction in the place of the body, and otherwise the same to the byte. With `
 functions of TABLE keep their bodies.
 
 A question of TABLE has no contract, so its callers are proved for each answer. `are_there` answers
-whether the processor has the instructions: it reads the byte BYTE, which C code sets. `is_chosen`,
-in a module for JavaScript, answers that kernels over a window run one message.
+whether the processor has the instructions: it reads the byte BYTE, which C code sets.
+`is_window_chosen`, in a module for JavaScript, answers that kernels over a window run one message.
 
 A module is refused, and nothing written, if it is another processor's, or if a function of TABLE is
 missing, has another type, is defined twice, may be inlined, is never called, or is used but by a
@@ -70,7 +70,7 @@ TABLE = {
         "sha256su0": Instruction(f"{ARM}.sha256su0", TWO, VECTOR),
         "sha256su1": Instruction(f"{ARM}.sha256su1", THREE, VECTOR),
     }),
-    "wasm64": ("ring_core::digest::window::", {"is_chosen": IS_CHOSEN}),
+    "wasm64": ("ring_core::digest::states::", {"is_window_chosen": IS_CHOSEN}),
 }
 # What the kit marks a function with that is never inlined.
 NEVER_INLINED = "noinline nounwind"

@@ -35,5 +35,4 @@ pub mod instructions;
 pub mod sha1;
 pub mod sha2;
 pub mod states;
-mod window;
 pub mod word;

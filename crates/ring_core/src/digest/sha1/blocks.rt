@@ -19,7 +19,7 @@ use crate::digest::sha1::window::{
     sha1_block_data_order_by_window_counted, sha1_block_of_words_by_window_counted,
 };
 use crate::digest::sha1::x86::X86;
-use crate::digest::window;
+use crate::digest::states::is_window_chosen;
 use crate::digest::word::lanes::{FourWords, four_of, read_four};
 use crate::digest::word::w32::rotate_four;
 use crate::polyfill::slice::AsChunks;
@@ -284,7 +284,7 @@ pub fn sha1_block_data_order_counted(
         by_instruction::run_blocks::<X86>(state, blocks, meter)
     } else if arm::are_there() {
         by_instruction::run_blocks::<Arm>(state, blocks, meter)
-    } else if window::is_chosen() {
+    } else if is_window_chosen() {
         sha1_block_data_order_by_window_counted(state, blocks, meter)
     } else {
         run_blocks(&mut [Simd::splat(0u32); 4], state, blocks, meter)
@@ -321,7 +321,7 @@ pub fn sha1_block_of_words_counted(
         by_instruction::run_words::<X86>(state, front, padding, meter)
     } else if arm::are_there() {
         by_instruction::run_words::<Arm>(state, front, padding, meter)
-    } else if window::is_chosen() {
+    } else if is_window_chosen() {
         sha1_block_of_words_by_window_counted(state, front, padding, meter)
     } else {
         run_words(&mut [Simd::splat(0u32); 4], state, front, padding, meter)

@@ -7,8 +7,7 @@ ghost use Rattle.ring_core.specs.Sha1.{block_step};
 
 use crate::cost::Meter;
 use crate::digest::sha1::window::{Before, Sha1ByTwo, next_word, run_loaded, run_words};
-use crate::digest::states::{States, Window};
-use crate::digest::window::load_blocks;
+use crate::digest::states::{States, Window, load_blocks};
 use crate::digest::word::lanes::{InLanes, LaneWord, Vector};
 use std::num::Wrapping;
 

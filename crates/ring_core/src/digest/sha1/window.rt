@@ -11,7 +11,7 @@ ghost use Rattle.ring_core.specs.Sha1.{W, block_step, rounds_from, scheduled};
 
 use crate::cost::Meter;
 use crate::digest::sha1::round::{CHAINING_WORDS, add_state, round, round_constant};
-use crate::digest::window::{in_two_lanes, load_block, load_words, pair, set_pair};
+use crate::digest::states::{in_two_lanes, load_block, load_words, pair, set_pair};
 use crate::digest::word::lanes::{LaneWord, Vector};
 use crate::polyfill::slice::AsChunks;
 use std::num::Wrapping;
@@ -202,27 +202,38 @@ fn later_turn<S: Sha1ByTwo<One = Wrapping<u32>>, const TURN: usize>(
     next_four_rounds(window, v, t + 12)
 }
 
-// Runs the block function in each lane, over the block whose words the window holds there. Blocks
-// of bytes and of words share it, so it isn't inlined: with two callers the compiler would call the
-// turns.
+// The rounds after the first sixteen, and the end of a block. Blocks of bytes and of words share
+// them, so they aren't inlined: with two callers the compiler would call the turns. The window is a
+// local, whose last words are never stored.
 #[inline(never)]
-pub(crate) fn run_loaded<S: Sha1ByTwo<One = Wrapping<u32>>>(
-    window: &mut [S; 16],
-    state: &mut [S; 8],
-)
+fn later_turns<S: Sha1ByTwo<One = Wrapping<u32>>>(loaded: &[S; 16], state: &mut [S; 8], v: [S; 5])
+    requires some { 0 < S.LANES }
+    ensures words { (i : ℕ) (b : List ℕ) → let h = take 5 (map (S.lane i) state.old) in
+        IsBefore (W b) (rounds_from h b) (map (S.lane i) loaded.now) (map (S.lane i) v) 16
+        → take 5 (map (S.lane i) state.new) ≡ block_step h b }
+    ensures rest { drop 5 state.new ≡ drop 5 state.old }
+{
+    let mut window = *loaded;
+    let v = later_turn::<S, 1>(&mut window, v); // steps 1 and 3
+    let v = later_turn::<S, 2>(&mut window, v);
+    let v = later_turn::<S, 3>(&mut window, v);
+    let last = later_turn::<S, 4>(&mut window, v);
+    *state = add_state(state, &last); // step 4
+}
+
+// Runs the block function in each lane, over the block whose words the window holds there. It is
+// inlined where the words are loaded: the first rounds then needn't read them back.
+#[inline(always)]
+pub(crate) fn run_loaded<S: Sha1ByTwo<One = Wrapping<u32>>>(window: &[S; 16], state: &mut [S; 8])
     requires some { 0 < S.LANES }
     ensures words { (i : ℕ) (b : List ℕ)
-        → IsWindow (word_at 32 b) (map (S.lane i) window.old) 16
+        → IsWindow (word_at 32 b) (map (S.lane i) window.now) 16
         → take 5 (map (S.lane i) state.new) ≡ block_step (take 5 (map (S.lane i) state.old)) b }
     ensures rest { drop 5 state.new ≡ drop 5 state.old }
 {
     let chaining = [state[0], state[1], state[2], state[3], state[4]]; // step 2
     let v = first_turn(window, chaining); // step 3
-    let v = later_turn::<S, 1>(window, v); // steps 1 and 3
-    let v = later_turn::<S, 2>(window, v);
-    let v = later_turn::<S, 3>(window, v);
-    let last = later_turn::<S, 4>(window, v);
-    *state = add_state(state, &last); // step 4
+    later_turns(window, state, v);
 }
 
 // Runs the block function over each block in order.

@@ -20,8 +20,7 @@ use crate::digest::sha2::window::{
     block_of_words_32_by_window_counted, block_of_words_64_by_window_counted,
 };
 use crate::digest::sha2::x86::X86;
-use crate::digest::states::{State32, State64};
-use crate::digest::window;
+use crate::digest::states::{State32, State64, is_window_chosen};
 use crate::digest::word::Sha2;
 use crate::digest::word::lanes::{FourWords, four_of, read_four};
 use crate::polyfill::slice::AsChunks;
@@ -280,7 +279,7 @@ pub fn block_data_order_32_counted(
         by_instruction::run_blocks::<X86>(state, blocks, meter)
     } else if arm::are_there() {
         by_instruction::run_blocks::<Arm>(state, blocks, meter)
-    } else if window::is_chosen() {
+    } else if is_window_chosen() {
         block_data_order_32_by_window_counted(state, blocks, meter)
     } else {
         run_blocks(&mut [Simd::splat(0u32); 4], state, blocks, meter)
@@ -306,7 +305,7 @@ pub fn block_data_order_64_counted(
     ensures { RunsSha2 family_512 (words_64 state.old) (words_64 state.new)
         (chunk_items blocks.entry) (chunk_total blocks.entry) meter.old meter.new }
 {
-    if window::is_chosen() {
+    if is_window_chosen() {
         block_data_order_64_by_window_counted(state, blocks, meter)
     } else {
         run_blocks(&mut [Simd::splat(0u64); 4], state, blocks, meter)
@@ -339,7 +338,7 @@ pub fn block_of_words_32_counted(
         by_instruction::run_words::<X86>(state, front, padding, meter)
     } else if arm::are_there() {
         by_instruction::run_words::<Arm>(state, front, padding, meter)
-    } else if window::is_chosen() {
+    } else if is_window_chosen() {
         block_of_words_32_by_window_counted(state, front, padding, meter)
     } else {
         run_words::<Wrapping<u32>, 8>(&mut [Simd::splat(0u32); 4], state, front, padding, meter)
@@ -359,7 +358,7 @@ pub fn block_of_words_64_counted<const N: usize>(
     ensures { RunsSha2Words family_512 N (words_64 state.old) (words_64 state.new)
         (words_64 front.now) (words_64 padding.now) meter.old meter.new }
 {
-    if window::is_chosen() {
+    if is_window_chosen() {
         block_of_words_64_by_window_counted::<N>(state, front, padding, meter)
     } else {
         run_words::<Wrapping<u64>, N>(&mut [Simd::splat(0u64); 4], state, front, padding, meter)

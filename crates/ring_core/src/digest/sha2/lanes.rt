@@ -7,8 +7,7 @@ ghost use Rattle.ring_core.specs.Prelude.{words_of_lane};
 
 use crate::cost::Meter;
 use crate::digest::sha2::window::{Before, ExtendByTwo, next_word, run_loaded, run_words};
-use crate::digest::states::{States, Window};
-use crate::digest::window::load_blocks;
+use crate::digest::states::{States, Window, load_blocks};
 use crate::digest::word::lanes::{InLanes, LaneWord, Vector};
 
 impl<V: Vector> ExtendByTwo for InLanes<V> {

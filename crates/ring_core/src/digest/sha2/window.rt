@@ -11,8 +11,9 @@ ghost use Rattle.ring_core.specs.Prelude.{rounds_from, scheduled, word_at, words
 
 use crate::cost::Meter;
 use crate::digest::sha2::round::{add_state, round, small_sigma};
-use crate::digest::states::{State32, State64};
-use crate::digest::window::{in_two_lanes, load_block, load_words, pair, set_pair};
+use crate::digest::states::{
+    State32, State64, in_two_lanes, load_block, load_words, pair, set_pair,
+};
 use crate::digest::word::Sha2;
 use crate::digest::word::lanes::{LaneWord, Vector};
 use crate::polyfill::slice::AsChunks;
@@ -188,22 +189,37 @@ fn later_turn<S: ExtendByTwo>(window: &mut [S; 16], v: [S; 8], turn: usize) -> [
     next_two_rounds(window, v, turn, 14)
 }
 
-// Runs the block function in each lane, over the block whose words the window holds there. Blocks
-// of bytes and of words share it, so it isn't inlined: with two callers the compiler would call the
-// turns.
+// The rounds after the first sixteen, and the end of a block. Blocks of bytes and of words share
+// them, so they aren't inlined: with two callers the compiler would call the turns. The window is a
+// local, whose last words are never stored.
 #[inline(never)]
-pub(crate) fn run_loaded<S: ExtendByTwo>(window: &mut [S; 16], state: &mut [S; 8])
+fn later_turns<S: ExtendByTwo>(loaded: &[S; 16], state: &mut [S; 8], v: [S; 8])
     requires some { 0 < S.LANES }
-    ensures { (i : ℕ) (b : List ℕ)
-        → IsWindow (word_at S.One.bits b) (map (S.lane i) window.old) 16
-        → map (S.lane i) state.new ≡ block_step S.One.family (map (S.lane i) state.old) b }
+    ensures { (i : ℕ) (b : List ℕ) → let f = S.One.family in
+        IsBefore (W f b) (rounds_from f (map (S.lane i) state.old) b)
+        (map (S.lane i) loaded.now) (map (S.lane i) v) 16
+        → map (S.lane i) state.new ≡ block_step f (map (S.lane i) state.old) b }
 {
-    let mut variables = first_turn(window, *state); // steps 2 and 3
+    let mut window = *loaded;
+    let mut variables = v;
     let turns = S::One::ROUNDS / 16;
     'later: for turn in 1..turns {
-        variables = later_turn(window, variables, turn); // steps 1 and 3
+        variables = later_turn(&mut window, variables, turn); // steps 1 and 3
     }
     *state = add_state(state, &variables); // step 4
+}
+
+// Runs the block function in each lane, over the block whose words the window holds there. It is
+// inlined where the words are loaded: the first rounds then needn't read them back.
+#[inline(always)]
+pub(crate) fn run_loaded<S: ExtendByTwo>(window: &[S; 16], state: &mut [S; 8])
+    requires some { 0 < S.LANES }
+    ensures { (i : ℕ) (b : List ℕ)
+        → IsWindow (word_at S.One.bits b) (map (S.lane i) window.now) 16
+        → map (S.lane i) state.new ≡ block_step S.One.family (map (S.lane i) state.old) b }
+{
+    let v = first_turn(window, *state); // steps 2 and 3
+    later_turns(window, state, v);
 }
 
 // Runs the block function over each block in order. Every lane runs the same, so lane 0 stands for

@@ -2,7 +2,7 @@
 use Rattle.std.proofs.Common.{◌≡◌, arith}
 use Rattle.ring_core.specs.Prelude.{InLanes, array_at, word_at}
 use Rattle.ring_core.proofs.Schedule.{window-set}
-use Rattle.ring_core.proofs.digest.window.load_blocks.Goals as goal
+use Rattle.ring_core.proofs.digest.states.load_blocks.Goals as goal
 
 pub words-preserved : goal.words-preserved
 words-preserved g c = λ i below.

@@ -2,7 +2,7 @@
 use Rattle.std.proofs.Common.{arith, refl}
 use Rattle.ring_core.specs.Prelude.{word_at}
 use Rattle.ring_core.proofs.Schedule.{window-set}
-use Rattle.ring_core.proofs.digest.window.load_block.Goals as goal
+use Rattle.ring_core.proofs.digest.states.load_block.Goals as goal
 
 pub words-preserved : goal.words-preserved
 words-preserved g c = λ i.

@@ -2,7 +2,7 @@
 use Rattle.std.proofs.Common.{◌≡◌, ◌+◌, ◌%◌, arith}
 use Rattle.std.proofs.Math.ListN.{set}
 use Rattle.ring_core.proofs.Schedule.{window-set}
-use Rattle.ring_core.proofs.digest.window.set_pair.Goals as goal
+use Rattle.ring_core.proofs.digest.states.set_pair.Goals as goal
 
 pub returns : goal.returns
 returns g c = λ f w t ready place first second.

@@ -2,7 +2,7 @@
 use Rattle.std.proofs.Common.{arith, map}
 use Rattle.std.proofs.Math.ListN.{length-map}
 use Rattle.ring_core.proofs.Mapped.{past_front, value_read}
-use Rattle.ring_core.proofs.digest.window.word_of.Goals as goal
+use Rattle.ring_core.proofs.digest.states.word_of.Goals as goal
 
 pub returns-else-t : goal.returns-else-t
 returns-else-t g c = λ i.

@@ -95,7 +95,6 @@ pub(crate) mod context;
 pub mod dynstate;
 pub(crate) mod each;
 pub(crate) mod lanes;
-pub(crate) mod padding;
 mod partway;
 pub(crate) mod updates;
 
@@ -104,12 +103,11 @@ pub use crate::digest::algorithm::{
     SHA1_OUTPUT_LEN, SHA256, SHA256_OUTPUT_LEN, SHA384, SHA384_OUTPUT_LEN, SHA512, SHA512_256,
     SHA512_256_OUTPUT_LEN, SHA512_OUTPUT_LEN, constants_are_their_rows,
 };
-pub use crate::digest::block_context::Digest;
+pub use crate::digest::block_context::{Digest, padding_is_shortest};
 pub use crate::digest::context::{Context, digest, digest_counted};
 pub use crate::digest::dynstate::Output;
 pub use crate::digest::each::{
     digest_each, digest_each_bytes_in, digest_each_counted, digest_each_in, is_len_of_digests,
 };
-pub use crate::digest::padding::padding_is_shortest;
 pub use crate::digest::updates::{update_each, update_each_counted, update_each_in};
 pub use ring_core::digest::{sha1, sha2, states, word};

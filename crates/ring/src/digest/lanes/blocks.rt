@@ -8,8 +8,8 @@ ghost use Rattle.ring.specs.Prelude.{block_len, message_at, padded, padded_block
 ghost use Rattle.ring.specs.Prelude.{word_count};
 
 use crate::digest::algorithm::Algorithm;
+use crate::digest::block_context::{MAX_TAIL_LEN, write_tail};
 use crate::digest::lanes::algorithms::{LaneStates, MAX_LANES, RunBlocks};
-use crate::digest::padding::{MAX_TAIL_LEN, write_tail};
 use ring_core::cost::Meter;
 
 // Here `N` is the number of bytes in a block of the algorithm: a constant, so that a copy of a

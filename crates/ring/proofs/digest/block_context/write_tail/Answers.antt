@@ -1,7 +1,7 @@
 -- SPDX-License-Identifier: ISC
 use Rattle.std.proofs.Common.{◌+◌, ◌/◌, ◌*◌, length, refl}
 use Rattle.ring.proofs.lemmas.digest.Tails.{tail_written}
-use Rattle.ring.proofs.digest.padding.write_tail.Goals as goal
+use Rattle.ring.proofs.digest.block_context.write_tail.Goals as goal
 
 pub returns-clause-bytes : goal.returns-clause-bytes
 returns-clause-bytes c =

@@ -1,17 +1,16 @@
 -- SPDX-License-Identifier: ISC
 -- Lists of messages and of their digests.
 use Rattle.std.proofs.lemmas.Grind.{common_steps}
-use Rattle.std.proofs.Common.{◌≡◌, ℕ, ◌+◌, ◌-◌, ◌*◌, ◌<◌, ◌≤◌, List, [], ◌∷◌, ◌++◌, length}
-use Rattle.std.proofs.Common.{take, drop, get_or, map, slice_set, ap, ◌∙◌, arith}
+use Rattle.std.proofs.Common.{◌≡◌, ℕ, ◌+◌, ◌-◌, ◌*◌, ◌<◌, ◌≤◌, List, [], ◌∷◌, ◌++◌, length, take}
+use Rattle.std.proofs.Common.{drop, get_or, map, slice_set, ap, ◌∙◌, arith, refl, take-add, Bor}
 use Rattle.std.proofs.Math.ListN.{get_or-map}
-use Rattle.std.proofs.Math.Seq.{take-add}
 use Rattle.std.proofs.lemmas.List.{drop_more, get_or-set_other, get_or-set_same, length-take-le}
 use Rattle.std.proofs.lemmas.List.{map-append}
 use Rattle.std.proofs.lemmas.List.Sums.{sum_by-append}
-use Rattle.std.specs.Borrow.{Bor}
 use Rattle.ring.specs.Prelude.{Algorithm, AreDigests, CanDigestEach, Counts, Digest, IsDigest}
 use Rattle.ring.specs.Prelude.{each_blocks, message_at, padded_blocks, raised}
 use Rattle.ring_core.proofs.Costs.{raised-none, raised-raised}
+use Rattle.ring.proofs.Sums.{raised-sum}
 
 -- the message at a place, as an index reads it
 pub message-read : (messages : List (Bor (List ℕ))) (k : ℕ)
@@ -31,12 +30,6 @@ pub raised-then : (m0 : Counts) {m1 m2 : Counts} (a b : ℕ) → m1 ≡ raised m
     → m2 ≡ raised m0 (a + b) 0
 raised-then m0 a b e1 e2 = e2 ∙ rw e1 (raised-raised m0 a 0 b 0)
 
--- where they are c together
-pub raised-sum : (m0 : Counts) {m1 m2 : Counts} (a b c : ℕ) → m1 ≡ raised m0 a 0
-    → m2 ≡ raised m1 b 0 → a + b ≡ c → m2 ≡ raised m0 c 0
-raised-sum m0 a b c e1 e2 sum =
-    raised-then m0 a b e1 e2 ∙ ap (λ (z : ℕ). raised m0 z 0) sum
-
 -- of n messages whose first k blocks ran in lanes, one more is done: `made` became `next`
 pub raised-lane : (m0 : Counts) {m1 m2 : Counts} (made b next n i k : ℕ)
     → m1 ≡ raised m0 (made + (n - i) * k) 0 → m2 ≡ raised m1 (b - k) 0 → i < n → k ≤ b
@@ -44,7 +37,7 @@ pub raised-lane : (m0 : Counts) {m1 m2 : Counts} (made b next n i k : ℕ)
 raised-lane m0 made b next n i k e1 e2 below fits sum =
     let turn : n - i ≡ n - (i + 1) + 1 = omega arith in
     let left : (n - i) * k ≡ (n - (i + 1)) * k + k = rw turn (grind arith) in
-    raised-sum m0 (made + (n - i) * k) (b - k) _ e1 e2 (omega (arith, left, fits, sum))
+    raised-sum m0 _ 0 _ 0 e1 e2 (omega (arith, left, fits, sum)) refl
 
 pub message_at-append : (ms ns : List (Bor (List ℕ))) (k : ℕ)
     → message_at (ms ++ ns) k ≡ get_or (map (λ m. m.now) ms ++ map (λ n. n.now) ns) k []
@@ -90,8 +83,7 @@ pub digests-next : {a : Algorithm} {messages : List (Bor (List ℕ))} {before no
 digests-next {a} {messages} {before} n k have put are cost =
     record {
       digests = digests-more a messages n k have.digests put are;
-      cost = raised-sum before (each_blocks a (take n messages)) _ _ have.cost cost
-          (each_blocks-more a messages n k);
+      cost = raised-sum before _ 0 _ 0 have.cost cost (each_blocks-more a messages n k) refl;
     }
 
 -- the message at a place of some of the messages

@@ -1,31 +1,21 @@
 -- SPDX-License-Identifier: ISC
 -- Messages of a digest's length in lanes, signed by one block after each masked block of the key.
 use Rattle.std.proofs.lemmas.Grind.{common_steps}
-use Rattle.std.proofs.Common.{◌≡◌, ℕ, ◌*◌, ◌/◌, ◌≤◌, List, ◌++◌, length, take, drop, ap, ◌∙◌}
-use Rattle.std.proofs.Common.{arith, length-take-le, take_all, zero-mul}
+use Rattle.std.proofs.Common.{◌≡◌, ℕ, ◌*◌, ◌/◌, ◌≤◌, List, ◌++◌, length, take, drop, ap, ◌∙◌, arith}
+use Rattle.std.proofs.Common.{length-take-le, take_all, zero-mul, [], append-nil}
 use Rattle.std.proofs.Math.Nat.{div_self, mod_self}
-use Rattle.ring.specs.Prelude.{Algorithm, Counts, DynState, IsKeyInLane, IsWhole, Key, KeyStandsFor}
+use Rattle.ring.specs.Prelude.{Algorithm, DynState, IsKeyInLane, IsWhole, Key, KeyStandsFor}
 use Rattle.ring.specs.Prelude.{block_function, block_len, blocks_from, digest_bytes, digest_of}
-use Rattle.ring.specs.Prelude.{hmac_of, key_algorithm, output_len, padded}
-use Rattle.ring.specs.Prelude.{prepared_padding, raised, word_bytes, word_count, word_len, words}
-use Rattle.ring.specs.Prelude.{words_after}
+use Rattle.ring.specs.Prelude.{hmac_of, key_algorithm, output_len, padded, prepared_padding}
+use Rattle.ring.specs.Prelude.{word_bytes, word_count, word_len, words, words_after}
 use Rattle.ring_core.proofs.ChunkFolds.{fold_chunks-next, fold_chunks-none}
-use Rattle.ring_core.proofs.Costs.{raised-raised}
 use Rattle.ring.proofs.lemmas.digest.Blocks.{words_after-append}
 use Rattle.ring.proofs.lemmas.hmac.Keys.{length-inner_block, length-outer_block, one_block}
 use Rattle.ring.proofs.Lengths.{length-words_after}
 use Rattle.ring.proofs.lemmas.digest.Outputs.{length-bytes_high_first, length-word_bytes}
 use Rattle.ring.proofs.Rows.{block_len-positive, eight_words, output_below}
 use Rattle.ring.proofs.lemmas.digest.Finishing.{front-word_bytes}
-use Rattle.std.proofs.lemmas.List.{append-nil}
-use Rattle.std.proofs.Common.{[]}
 use Rattle.ring.proofs.lemmas.digest.Tails.{padded-append}
-
--- two rises by b blocks each
-pub cost_two : (m0 : Counts) {m1 m2 : Counts} (b : ℕ) → m1 ≡ raised m0 b 0 → m2 ≡ raised m1 b 0
-    → m2 ≡ raised m0 (2 * b) 0
-cost_two m0 b e1 e2 =
-    grind (arith, common_steps, raised-raised)
 
 -- a digest and its padding are one block long
 length-padded : (a : Algorithm) (m : List ℕ) → length m ≡ output_len a

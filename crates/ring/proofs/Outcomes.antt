@@ -1,11 +1,6 @@
 -- SPDX-License-Identifier: ISC
 -- Clauses of one variant of a result.
-use Rattle.std.proofs.Common.{Result, Ok, Err}
-use Rattle.std.specs.Prelude.{IfOk, OnOk}
-
-pub on_ok_map : {T E : Type 0} (r : Result T E) {P Q : Type 0} → (P → Q) → OnOk r P → OnOk r Q
-on_ok_map (Ok x) f h = f h
-on_ok_map (Err e) f h = tt
+use Rattle.std.proofs.Common.{Result, Ok, Err, IfOk}
 
 pub if_ok_map : {T E : Type 0} (r : Result T E) {P Q : T → Type 0} → ((x : T) → P x → Q x)
     → IfOk r P → IfOk r Q

@@ -51,10 +51,4 @@ sum_below-same f h (suc m) same =
     let step = sum_below-same f h m (λ i below. same i (omega (arith, below))) in
     omega (arith, step, same m (omega arith))
 
--- m times as much where each place has b
-pub sum_below-const : (b m : ℕ) → sum_below (λ i. b) m ≡ m * b
-unfolding sum_below
-sum_below-const b zero = grind arith
-sum_below-const b (suc m) = grind (arith, sum_below-const b m)
-
 pub ruleset rises = (common_steps, raised_zero)

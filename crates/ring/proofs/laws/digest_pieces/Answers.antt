@@ -1,9 +1,8 @@
 -- SPDX-License-Identifier: ISC
-use Rattle.std.proofs.Common.{[], arith}
-use Rattle.std.proofs.lemmas.List.{take_all}
+use Rattle.std.proofs.Common.{[], arith, take_all}
 use Rattle.ring.proofs.Feeding.{fed_more, fed_none, fed_piece}
 use Rattle.ring.proofs.Lengths.{counted_end}
-use Rattle.ring.proofs.Outcomes.{on_ok_map}
+use Rattle.std.proofs.lemmas.Result.{on_ok_weaker}
 use Rattle.ring.proofs.laws.digest_pieces.Goals as goal
 
 pub pieces-init : goal.pieces-init
@@ -22,5 +21,5 @@ pub returns-clause-cost : goal.returns-clause-cost
 returns-clause-cost c =
     let all = take_all c.pieces.piece-index c.args.pieces.now (omega arith) in
     let fed = rw all at c.pieces.invariant in
-    on_ok_map c.finish_counted.result (counted_end fed.algorithm fed.taken)
+    on_ok_weaker c.finish_counted.result (counted_end fed.algorithm fed.taken)
     c.finish_counted.ensures.cost

@@ -1,7 +1,6 @@
 -- SPDX-License-Identifier: ISC
-use Rattle.std.proofs.Common.{arith}
+use Rattle.std.proofs.Common.{arith, take-take}
 use Rattle.std.proofs.lemmas.Grind.{common_steps, div_ceil_times}
-use Rattle.std.proofs.lemmas.List.{take-take}
 use Rattle.ring.specs.Prelude.{derive_rounds, dk, output_len}
 use Rattle.ring.proofs.lemmas.pbkdf2.Rounds.{even_rounds}
 use Rattle.ring.proofs.Pieces.{joined_blocks-agree}

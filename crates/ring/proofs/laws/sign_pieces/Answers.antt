@@ -1,10 +1,9 @@
 -- SPDX-License-Identifier: ISC
-use Rattle.std.proofs.Common.{[], arith}
-use Rattle.std.proofs.lemmas.List.{take_all}
+use Rattle.std.proofs.Common.{[], arith, take_all}
 use Rattle.ring.specs.Prelude.{key_algorithm}
 use Rattle.ring.proofs.Feeding.{fed_none, fed_piece, fed_tag-more}
 use Rattle.ring.proofs.Lengths.{counted_tag}
-use Rattle.ring.proofs.Outcomes.{on_ok_map}
+use Rattle.std.proofs.lemmas.Result.{on_ok_weaker}
 use Rattle.ring.proofs.Rows.{block_len-most}
 use Rattle.ring.proofs.laws.sign_pieces.Goals as goal
 
@@ -25,5 +24,5 @@ pub returns-clause-cost : goal.returns-clause-cost
 returns-clause-cost c =
     let all = take_all c.parts.piece-index c.args.pieces.now (omega arith) in
     let fed = rw all at c.parts.invariant in
-    on_ok_map c.sign_counted.result (counted_tag fed.algorithm fed.taken)
+    on_ok_weaker c.sign_counted.result (counted_tag fed.algorithm fed.taken)
     c.sign_counted.ensures.cost

@@ -5,22 +5,20 @@ use Rattle.std.proofs.Common.{◌≡◌, ℕ, ◌+◌, ◌-◌, ◌*◌, ◌/◌
 use Rattle.std.proofs.Common.{take, drop, replicate, refl, sym, ap, ◌∙◌, arith, append_assoc}
 use Rattle.std.proofs.Common.{length-drop}
 use Rattle.std.proofs.lemmas.List.{drop_all, drop_at, drop-drop, length-take-le, take-append-drop}
-use Rattle.std.proofs.lemmas.List.{take_all}
+use Rattle.std.proofs.lemmas.List.{take_all, take_rest}
 use Rattle.std.specs.Int.{bytes_high_first}
 use Rattle.ring_core.specs.Prelude.{chunk_at, fold_chunks}
 use Rattle.ring.specs.Prelude.{Algorithm, HasWords, IsWhole, block_function, block_len, blocks_from}
 use Rattle.ring.specs.Prelude.{initial_words, length_len, padded, padded_blocks, tail_of}
 use Rattle.ring.specs.Prelude.{whole_blocks, word_count, word_len, words_after, words_at, zeros_of}
 use Rattle.ring_core.specs.Sha2 as sha2
-use Rattle.ring_core.proofs.ChunkFolds.{fold_chunks-append, fold_chunks-next, fold_chunks-none}
-use Rattle.ring_core.proofs.ChunkFolds.{fold_chunks-then}
+use Rattle.ring_core.proofs.ChunkFolds.{fold_chunks-append, fold_chunks-next, fold_chunks-then}
 use Rattle.ring_core.proofs.Sha2Steps as sha2_steps
 use Rattle.ring.proofs.lemmas.digest.Blocks.{mul_whole}
 use Rattle.ring.proofs.lemmas.digest.Padding.{length-padded}
 use Rattle.ring.proofs.Rows.{block_len-positive, by_sizes}
 use Rattle.ring.proofs.lemmas.digest.Runs.{long_row}
 use Rattle.ring.proofs.lemmas.digest.Tails.{padded-append}
-use Rattle.std.proofs.lemmas.List.{take_rest}
 
 -- what holds of both sizes of blocks
 by_size : (P : ℕ → Type 0) (a : Algorithm) {n : ℕ} → block_len a ≡ n → P 64 → P 128 → P n
@@ -168,18 +166,5 @@ pub chunks-next : {block ws : List ℕ} (a : Algorithm) (n : ℕ) (h m : List �
     → HasWords a (fold_chunks (block_function a) n h m (k + 1)) ws
 chunks-next a n h m k is has =
     grind (arith, common_steps, fold_chunks-next)
-
--- and before the first
-pub chunks-first : {h ws : List ℕ} (a : Algorithm) (n : ℕ) (m : List ℕ) → HasWords a h ws
-    → HasWords a (fold_chunks (block_function a) n h m 0) ws
-chunks-first {h} a n m has =
-    grind (arith, common_steps, fold_chunks-none)
-
--- after chunks of a padded message, from the initial words on
-pub words_at-chunks : {n : ℕ} {ws : List ℕ} (a : Algorithm) (m : List ℕ) (k : ℕ) → block_len a ≡ n
-    → HasWords a (fold_chunks (block_function a) n (initial_words a) (padded a m) k) ws
-    → take (word_count a) ws ≡ words_at a m k
-unfolding words_at
-words_at-chunks a m k e has = rw e has.chaining
 
 pub ruleset lane_rules = (common_steps, blocks_left, chunk_tail, take_rest)

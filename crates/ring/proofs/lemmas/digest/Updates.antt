@@ -2,20 +2,18 @@
 -- Contexts at places, of which the first have changed, and the blocks of their pieces.
 use Rattle.std.proofs.lemmas.Grind.{common_steps, drop_more_same}
 use Rattle.std.proofs.Common.{◌≢◌, ◌≡◌, ℕ, ◌+◌, ◌-◌, ◌<◌, ◌≤◌, List, [], ◌∷◌, ◌++◌, ◌∙◌, ap, arith}
-use Rattle.std.proofs.Common.{drop, get_or, length, length-append, refl, slice_set}
-use Rattle.std.proofs.Common.{subst, sum_by, sym, take}
+use Rattle.std.proofs.Common.{drop, get_or, length, length-append, refl, slice_set, subst, sum_by}
+use Rattle.std.proofs.Common.{sym, take, Bor, zip}
 use Rattle.std.proofs.Math.Seq.{get_or-append_right, take-add}
 use Rattle.std.proofs.lemmas.List.{drop-set-lt, get_or-drop, get_or_append_left, get_or_default}
 use Rattle.std.proofs.lemmas.List.{length-set, length-take-le, take_all, take_more, take_more_set}
+use Rattle.std.proofs.lemmas.List.{get_or-take}
 use Rattle.std.proofs.lemmas.List.Sums.{sum_by-append}
-use Rattle.std.specs.Borrow.{Bor}
-use Rattle.std.specs.List.{zip}
 use Rattle.ring.specs.Prelude.{AreUpdated, Context, IsPartway, IsUpdated, message_at, pending_len}
 use Rattle.ring.specs.Prelude.{update_blocks, update_each_blocks}
 use Rattle.ring.proofs.Each.{message-read, message_at-append, set-more}
 use Rattle.ring.proofs.lemmas.digest.GoingOn.{sized_of}
 use Rattle.std.proofs.lemmas.Option.{slice_get-get_or}
-use Rattle.std.proofs.lemmas.List.{get_or-take}
 use Rattle.ring_core.proofs.Costs.{raised-none}
 
 -- two lists of pairs, one after the other

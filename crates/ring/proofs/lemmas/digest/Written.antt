@@ -1,14 +1,10 @@
 -- SPDX-License-Identifier: ISC
 -- Digests that are written one after another.
 use Rattle.std.proofs.Common.{◌≡◌, ℕ, ◌+◌, ◌-◌, ◌*◌, ◌<◌, ◌≤◌, List, [], ◌∷◌, ◌++◌, length, take}
-use Rattle.std.proofs.Common.{ap, arith, drop, get_or, length-append}
-use Rattle.std.proofs.Common.{length-drop, refl, suc, suc-mul, sym, ◌∙◌}
-use Rattle.std.proofs.Math.Nat.{mul-le-mul_right}
-use Rattle.std.proofs.Math.Seq.{take-add}
+use Rattle.std.proofs.Common.{ap, arith, drop, get_or, length-append, length-drop, refl, suc}
+use Rattle.std.proofs.Common.{suc-mul, sym, ◌∙◌, mul-le-mul_right, take-add, length-take-le, Bor}
 use Rattle.std.proofs.lemmas.Grind.{flat_map-append}
-use Rattle.std.proofs.lemmas.List.{length-take-le}
 use Rattle.std.proofs.lemmas.List.Folds.{length-flat_map-take}
-use Rattle.std.specs.Borrow.{Bor}
 use Rattle.ring.specs.Algorithm.{output_len}
 use Rattle.ring.specs.Digest.{bytes_of, digest_of}
 use Rattle.ring.specs.Each.{AreDigests, bytes_of_each, digests_of}

@@ -1,9 +1,8 @@
 -- SPDX-License-Identifier: ISC
 -- Keys derived at several places.
 use Rattle.std.proofs.Common.{◌≡◌, ◌↔◌, ℕ, ◌+◌, ◌-◌, ◌<◌, ◌≤◌, [], ◌∷◌, ◌∙◌, Bool, List, ap, arith}
-use Rattle.std.proofs.Common.{length, refl, take, true}
+use Rattle.std.proofs.Common.{length, refl, take, true, Bor}
 use Rattle.std.proofs.lemmas.Grind.{common_steps}
-use Rattle.std.specs.Borrow.{Bor}
 use Rattle.ring.specs.Prelude.{Algorithm, CanDerive, CanDeriveEach, CanDeriveUnder, CanVerify}
 use Rattle.ring.specs.Prelude.{AreKeysOf, Derivation, IsDerived, Key, KeyStandsFor, Output}
 use Rattle.ring.specs.Prelude.{derive_blocks_at, dk, key_algorithm, sum_below}

@@ -1,10 +1,8 @@
 -- SPDX-License-Identifier: ISC
 -- What holds at the places of a list, and what a meter rises by there.
-use Rattle.std.proofs.Common.{◌≡◌, ℕ, ◌+◌, ◌<◌, [], List, arith, drop, get_or}
-use Rattle.std.proofs.Common.{length, refl, slice_set, take}
+use Rattle.std.proofs.Common.{◌≡◌, ℕ, ◌+◌, ◌<◌, [], List, arith, drop, get_or, length, refl}
+use Rattle.std.proofs.Common.{slice_set, take, get_or-set_other, Bor}
 use Rattle.std.proofs.lemmas.Grind.{common_steps}
-use Rattle.std.proofs.lemmas.List.{get_or-set_other}
-use Rattle.std.specs.Borrow.{Bor}
 use Rattle.ring.specs.Prelude.{Counts, raised, sum_below}
 use Rattle.ring_core.proofs.Costs.{raised-none}
 use Rattle.ring.proofs.Sums.{raised-sum, sum_below-next}

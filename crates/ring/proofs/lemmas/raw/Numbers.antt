@@ -2,22 +2,21 @@
 -- Numbers in the place of contexts and keys.
 use Rattle.std.proofs.lemmas.Grind.{common_steps}
 use Rattle.std.proofs.Common.{◌≡◌, ◌↔◌, ℕ, ◌+◌, ◌*◌, ◌%◌, ◌^◌, ◌<◌, ◌≤◌, List, [], ◌∷◌, ◌++◌, map}
-use Rattle.std.proofs.Common.{length, take, nat_eq, IsTrue, rules, refl, sym, ap, ◌∙◌, ◌-◌}
+use Rattle.std.proofs.Common.{length, take, rules, refl, sym, ap, ◌∙◌, ◌-◌}
 use Rattle.std.proofs.Common.{arith, length-take-le, Option, Some, option_map, unwrap_or}
 use Rattle.std.proofs.Math.Nat.{mod-mod, mod-eq_of_lt}
 use Rattle.std.proofs.lemmas.Nat.{mod-mul-add}
 use Rattle.std.proofs.lemmas.Option.{same_Some}
 use Rattle.std.specs.declared.num.Wrapping.{Wrapping}
-use Rattle.ring.specs.Prelude.{Algorithm, AlgorithmId, AreNumbersOfTag, As32, As64, BlockContext}
-use Rattle.ring.specs.Prelude.{Counts, DynState, HasAdded, HasNumbers, HasBegun, HasRunBlocks}
-use Rattle.ring.specs.Prelude.{HasTaken, IsRawContext, last_blocks, IsRawState, Key}
-use Rattle.ring.specs.Prelude.{RawContext, RawKey, RawStandsFor, RawTagContext, RawTagStandsFor}
-use Rattle.ring.specs.Prelude.{Sha1, Sha256, Sha384, Sha512, Sha512_256, block_len, block_words}
+use Rattle.ring.specs.Prelude.{Algorithm, AreNumbersOfTag, As32, As64, BlockContext, Counts}
+use Rattle.ring.specs.Prelude.{DynState, HasAdded, HasNumbers, HasBegun, HasRunBlocks, HasTaken}
+use Rattle.ring.specs.Prelude.{IsRawContext, last_blocks, IsRawState, Key, RawContext, RawKey}
+use Rattle.ring.specs.Prelude.{RawStandsFor, RawTagContext, RawTagStandsFor, block_len, block_words}
 use Rattle.ring.specs.Prelude.{completed_len, counted_bytes, cut_off, digest_after, digest_named}
 use Rattle.ring.specs.Prelude.{inner_words, key_algorithm, max_input_len, named_block_len}
-use Rattle.ring.specs.Prelude.{outer_words, raw_chaining, raw_message_len, raw_words, row_of}
+use Rattle.ring.specs.Prelude.{outer_words, raw_chaining, raw_message_len, raw_words}
 use Rattle.ring.specs.Prelude.{signing_algorithm, signing_len, signing_pending, state_word_len}
-use Rattle.ring.specs.Prelude.{tag_of_inner, tag_with, padded_blocks, whole_blocks, words}
+use Rattle.ring.specs.Prelude.{tag_of_inner, tag_with, padded_blocks, whole_blocks, word_len, words}
 use Rattle.ring.specs.declared.hmac.context.Context.{Context as TagContext}
 use Rattle.ring.proofs.lemmas.digest.Blocks.{whole_mul}
 use Rattle.ring.proofs.lemmas.hmac.Keys.{inner_len}
@@ -33,25 +32,17 @@ map_mod : (m : ℕ) (ws : List (Wrapping ℕ))
 map_mod m [] = refl
 map_mod m (w ∷ ws) = rw (mod-mod w.0 m, map_mod m ws) refl
 
--- the words of a state fit its algorithm's size
-cut_of_id : (i : AlgorithmId) (s : DynState)
-    → IsTrue (nat_eq (state_word_len s) (row_of i).word_len)
-    → map (λ (n : ℕ). n % 2 ^ (8 * (row_of i).word_len)) (words s) ≡ words s
-cut_of_id Sha1 (As32 ws) h = map_mod (2 ^ 32) ws
-cut_of_id Sha256 (As32 ws) h = map_mod (2 ^ 32) ws
-cut_of_id Sha384 (As64 ws) h = map_mod (2 ^ 64) ws
-cut_of_id Sha512 (As64 ws) h = map_mod (2 ^ 64) ws
-cut_of_id Sha512_256 (As64 ws) h = map_mod (2 ^ 64) ws
-cut_of_id Sha1 (As64 ws) h = search rules
-cut_of_id Sha256 (As64 ws) h = search rules
-cut_of_id Sha384 (As32 ws) h = search rules
-cut_of_id Sha512 (As32 ws) h = search rules
-cut_of_id Sha512_256 (As32 ws) h = search rules
+-- the numbers of a state fit the size of its words
+cut_words : (n : ℕ) (s : DynState) → state_word_len s ≡ n
+    → map (λ (m : ℕ). m % 2 ^ (8 * n)) (words s) ≡ words s
+cut_words n (As32 ws) h = rw (← h) (map_mod (2 ^ 32) ws)
+cut_words n (As64 ws) h = rw (← h) (map_mod (2 ^ 64) ws)
 
 -- the numbers of a block context are its words
 pub raw_cut : (b : BlockContext) (numbers : List ℕ) → numbers ≡ words b.state
     → raw_words b.algorithm numbers ≡ words b.state
-raw_cut b numbers e = rw e (cut_of_id b.algorithm.id b.state b.sized)
+raw_cut b numbers e =
+    rw e (cut_words (word_len b.algorithm) b.state (search (rules, b.sized)))
 
 -- they stand for the same whole blocks
 pub raw_taken : (b : BlockContext) (numbers p : List ℕ) → numbers ≡ words b.state → HasTaken b p

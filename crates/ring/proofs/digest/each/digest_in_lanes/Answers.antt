@@ -1,10 +1,9 @@
 -- SPDX-License-Identifier: ISC
 use Rattle.std.proofs.Common.{◌+◌, [], arith, get_or, length, take}
 use Rattle.std.proofs.lemmas.List.{take_more_set}
-use Rattle.ring.specs.Prelude.{each_blocks, initial_words, padded_blocks}
+use Rattle.ring.specs.Prelude.{each_blocks, initial_words, padded_blocks, words_at}
 use Rattle.ring.proofs.Each.{blocks-one, digests-more, digests-one, each_blocks-more, message-read}
 use Rattle.ring.proofs.Each.{raised-lane}
-use Rattle.ring.proofs.lemmas.digest.LaneBlocks.{words_at-chunks}
 use Rattle.ring.proofs.digest.each.digest_in_lanes.Goals as goal
 
 pub finished-requires-clause-within : goal.finished-requires-clause-within
@@ -18,6 +17,7 @@ finished-requires-clause-below g c =
     at (c.fewest_blocks-count.ensures c.lanes.i c.lanes-test.true)
 
 pub finished-requires-clause-words : goal.finished-requires-clause-words
+unfolding words_at
 finished-requires-clause-words g c =
     let a = c.args.algorithm in
     let i = c.lanes.i in
@@ -26,8 +26,8 @@ finished-requires-clause-words g c =
     let run = c.run_lanes.ensures.words i (initial_words a)
     (omega (arith, c.lanes-test.true, c.requires.lanes))
     record { chaining = rw same first.words; count = rw same first.count } in
-    rw (c.state-state.ensures.words, ← message-read c.args.messages.now i)
-    (words_at-chunks a _ _ c.requires.whole run)
+    rw (c.state-state.ensures.words, ← message-read c.args.messages.now i, c.requires.whole)
+    run.chaining
 
 pub lanes-preserved : goal.lanes-preserved
 lanes-preserved g c =

@@ -2,8 +2,7 @@
 use Rattle.std.proofs.lemmas.Grind.{common_steps}
 use Rattle.std.proofs.Common.{◌≡◌, ◌∙◌, ap, arith, length}
 use Rattle.std.proofs.Math.Nat.{div_self}
-use Rattle.ring.specs.Prelude.{Digest, bytes_of, digest_of}
-use Rattle.ring.specs.Prelude.{padded_blocks, words_at}
+use Rattle.ring.specs.Prelude.{Digest, bytes_of, digest_of, padded_blocks, words_at}
 use Rattle.ring.proofs.lemmas.digest.LaneBlocks.{words_at-all, words_at-next}
 use Rattle.ring.proofs.Lanes.{one_chained}
 use Rattle.ring.proofs.Costs.{raised-raised}

@@ -1,9 +1,9 @@
 -- SPDX-License-Identifier: ISC
-use Rattle.std.proofs.Common.{◌≡◌, ◌≤◌, ◌+◌, ◌-◌, arith, length, refl}
+use Rattle.std.proofs.Common.{◌≡◌, ◌≤◌, ◌+◌, ◌-◌, arith, length, refl, length-take-le}
 use Rattle.std.proofs.lemmas.Grind.{common_steps}
-use Rattle.std.proofs.lemmas.List.{length-take-le}
 use Rattle.ring.specs.Prelude.{CanDigestEach}
-use Rattle.ring.proofs.Each.{can-part, each_blocks-more, raised-sum}
+use Rattle.ring.proofs.Each.{can-part, each_blocks-more}
+use Rattle.ring.proofs.Sums.{raised-sum}
 use Rattle.ring.proofs.lemmas.digest.Written.{room-next, written-next}
 use Rattle.ring.proofs.digest.each.write_all.Goals as goal
 
@@ -40,6 +40,6 @@ groups-preserved g c =
           written-next c.args.messages.now at k
           (omega (arith, c.min-count.ensures, c.groups-test.true)) c.digest_all.ensures.ok
           c.groups.invariant.written write.end write.ok;
-      cost = raised-sum _ _ _ _ c.groups.invariant.cost cost
-          (each_blocks-more c.args.algorithm.now c.args.messages.now at k);
+      cost = raised-sum _ _ _ _ _ c.groups.invariant.cost cost
+          (each_blocks-more c.args.algorithm.now c.args.messages.now at k) refl;
     }

@@ -1,12 +1,10 @@
 -- SPDX-License-Identifier: ISC
-use Rattle.std.proofs.Common.{◌≡◌, ◌+◌, ◌-◌, ◌<◌, ◌∙◌, ℕ, ap, arith, get_or, length}
-use Rattle.std.proofs.Common.{slice_set, take}
-use Rattle.std.proofs.lemmas.List.{length-set}
-use Rattle.ring.specs.Prelude.{Context, IsPartway, message_at, update_blocks}
-use Rattle.ring.specs.Prelude.{update_each_blocks}
-use Rattle.ring.proofs.Each.{message-read, raised-sum}
-use Rattle.ring.proofs.lemmas.digest.Updates.{begun-next, blocks-next, blocks-put}
-use Rattle.ring.proofs.lemmas.digest.Updates.{changed-other}
+use Rattle.std.proofs.Common.{◌≡◌, ◌+◌, ◌-◌, ◌<◌, ◌∙◌, ℕ, ap, arith, get_or, length, slice_set}
+use Rattle.std.proofs.Common.{take, length-set, refl}
+use Rattle.ring.specs.Prelude.{Context, IsPartway, message_at, update_blocks, update_each_blocks}
+use Rattle.ring.proofs.Each.{message-read}
+use Rattle.ring.proofs.Sums.{raised-sum}
+use Rattle.ring.proofs.lemmas.digest.Updates.{begun-next, blocks-next, blocks-put, changed-other}
 use Rattle.ring.proofs.digest.updates.complete_each.Goals as goal
 
 pub contexts-preserved : goal.contexts-preserved
@@ -43,7 +41,7 @@ contexts-preserved c =
       room = length-set c.contexts.rests i r ∙ c.contexts.invariant.room;
       changed = begun-next x d r have below room partway c.complete_begun.ensures.ready;
       within = omega (arith, first, second, same, partway.within, within);
-      cost = raised-sum c.args.meter.now before more after_blocks c.contexts.invariant.cost
-          (rw (← message-read pieces i) at c.complete_begun.ensures.cost)
-          (omega (arith, first, second, same, partway.within, within));
+      cost = raised-sum c.args.meter.now before 0 more 0 {s = after_blocks}
+          c.contexts.invariant.cost (rw (← message-read pieces i) at c.complete_begun.ensures.cost)
+          (omega (arith, first, second, same, partway.within, within)) refl;
     }

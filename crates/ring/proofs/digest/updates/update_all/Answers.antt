@@ -1,15 +1,11 @@
 -- SPDX-License-Identifier: ISC
 use Rattle.std.proofs.lemmas.Grind.{common_steps}
-use Rattle.std.proofs.Common.{◌≡◌, ℕ, ◌+◌, ◌-◌, ◌≤◌, ◌∙◌, ap, arith, length}
-use Rattle.std.proofs.Common.{length-drop, take, drop}
-use Rattle.std.proofs.Math.Seq.{take-add}
+use Rattle.std.proofs.Common.{◌≡◌, ◌+◌, ◌-◌, ◌≤◌, ◌∙◌, ap, arith, length, length-drop, take, drop}
+use Rattle.std.proofs.Common.{refl, sym, take-add}
 use Rattle.std.proofs.lemmas.Slice.{drop-put_mid, take-put_mid}
-use Rattle.std.proofs.lemmas.List.{drop-drop}
-use Rattle.std.proofs.Common.{sym}
+use Rattle.std.proofs.lemmas.List.{drop-drop, get_or-take, length-take-le, take_rest}
 use borrow.Rule.Slice.PartMut.{same_len_mid}
-use Rattle.std.proofs.lemmas.List.{get_or-take, length-take-le, take_rest}
-use Rattle.ring.specs.Prelude.{update_each_blocks}
-use Rattle.ring.proofs.Each.{raised-sum}
+use Rattle.ring.proofs.Sums.{raised-sum}
 use Rattle.ring.proofs.lemmas.digest.Updates.{blocks-more, updated-append}
 use Rattle.ring.proofs.digest.updates.update_all.Goals as goal
 
@@ -39,9 +35,6 @@ parts-preserved g c =
     let within : at ≤ length now = omega (arith, fits) in
     let there = length-take-le (at + k - at) (drop at now)
     (omega (arith, length-drop at now, fits)) in
-    let more : ℕ = update_each_blocks (take k (drop at old)) (take k (drop at pieces)) in
-    let after : ℕ = update_each_blocks (take (at + k) old) (take (at + k) pieces) in
-    let before : ℕ = update_each_blocks (take at old) (take at pieces) in
     record {
       within = omega (arith, fits);
       count = same_len_mid at _ now new (long ∙ sym size ∙ sym there) ∙ have.count;
@@ -52,6 +45,6 @@ parts-preserved g c =
       ) (updated-append (take at pieces) _ as_many have.updated part.ok);
       others = drop-put_mid at _ now new (at + k) (omega (arith, size)) within (long ∙ sym size)
           ∙ sym (drop-drop k at now) ∙ ap (drop k) have.others ∙ drop-drop k at old;
-      cost = raised-sum c.args.meter.now before more after have.cost part.cost
-          (blocks-more old pieces at k (omega (arith, enough)) (omega (arith, given)));
+      cost = raised-sum _ _ _ _ _ have.cost part.cost
+          (blocks-more old pieces at k (omega (arith, enough)) (omega (arith, given))) refl;
     }

@@ -1,19 +1,18 @@
 -- SPDX-License-Identifier: ISC
 use Rattle.std.proofs.lemmas.Grind.{common_steps}
-use Rattle.std.proofs.Common.{◌≡◌, ℕ, ◌+◌, ◌-◌, ◌*◌, ◌<◌, ◌≤◌, ◌∙◌, ap, arith, get_or}
-use Rattle.std.proofs.Common.{length, rules, sym, take}
-use Rattle.std.proofs.Math.Nat.{div-le_self, le-div_iff_mul-le}
+use Rattle.std.proofs.Common.{◌≡◌, ℕ, ◌+◌, ◌-◌, ◌*◌, ◌<◌, ◌≤◌, ◌∙◌, ap, arith, get_or, length, refl}
+use Rattle.std.proofs.Common.{rules, sym, take, div-le_self, le-div_iff_mul-le}
 use Rattle.std.proofs.lemmas.Nat.{le-div}
 use Rattle.std.proofs.lemmas.List.{get_or-take, length-take}
 use Rattle.std.proofs.lemmas.Option.{get_or_from_slice_get}
 use Rattle.ring.specs.Prelude.{Context, HasWords, block_len, chaining_words, context_algorithm}
-use Rattle.ring.specs.Prelude.{message_at, pending_len, update_blocks}
-use Rattle.ring.specs.Prelude.{update_each_blocks, word_count, word_len, words}
-use Rattle.ring.proofs.Each.{message-read, raised-lane, raised-sum}
+use Rattle.ring.specs.Prelude.{message_at, pending_len, update_blocks, update_each_blocks}
+use Rattle.ring.specs.Prelude.{word_count, word_len, words}
+use Rattle.ring.proofs.Each.{message-read, raised-lane}
+use Rattle.ring.proofs.Sums.{raised-sum}
 use Rattle.ring.proofs.Rows.{block_len-positive}
-use Rattle.ring.proofs.lemmas.digest.Updates.{blocks-next, blocks-take, changed-at}
-use Rattle.ring.proofs.lemmas.digest.Updates.{changed-next, changed-none, changed-other}
-use Rattle.ring.proofs.lemmas.digest.Updates.{message_at-take}
+use Rattle.ring.proofs.lemmas.digest.Updates.{blocks-next, blocks-take, changed-at, changed-next}
+use Rattle.ring.proofs.lemmas.digest.Updates.{changed-none, changed-other, message_at-take}
 use Rattle.ring.proofs.digest.updates.update_in_lanes.Goals as goal
 
 pub lanes-init : goal.lanes-init
@@ -32,8 +31,8 @@ lanes-init g c =
     + (length mid - 0) * n in
     record {
       changed = changed-none _ mid;
-      cost = raised-sum c.args.meter.now before (lanes * n) after begun.cost
-          c.run_lanes.ensures.cost (omega (arith, same, ap (λ (z : ℕ). z * n) long));
+      cost = raised-sum c.args.meter.now before 0 (lanes * n) 0 {s = after} begun.cost
+          c.run_lanes.ensures.cost (omega (arith, same, ap (λ (z : ℕ). z * n) long)) refl;
     }
 
 pub go_on-requires : goal.go_on-requires

@@ -1,7 +1,6 @@
 -- SPDX-License-Identifier: ISC
-use Rattle.std.proofs.lemmas.List.{get_or-take}
 use Rattle.std.proofs.lemmas.Grind.{common_steps}
-use Rattle.std.proofs.Common.{◌≡◌, arith, length, refl, rules}
+use Rattle.std.proofs.Common.{◌≡◌, arith, length, refl, rules, get_or-take}
 use Rattle.ring.proofs.Each.{message-read}
 use Rattle.ring.proofs.lemmas.pbkdf2.Places.{places-next, risen-next, risen-none}
 use Rattle.ring.proofs.pbkdf2.each.keys_of.Goals as goal

@@ -1,5 +1,7 @@
 -- SPDX-License-Identifier: ISC
-use Rattle.ring.proofs.Lanes.{cost_two, signed-tag}
+use Rattle.std.proofs.Common.{arith, refl}
+use Rattle.ring.proofs.Lanes.{signed-tag}
+use Rattle.ring.proofs.Sums.{raised-sum}
 use Rattle.ring.proofs.pbkdf2.iterates.replace_by_tag.Goals as goal
 
 pub returns-clause-ok : goal.returns-clause-ok
@@ -13,5 +15,5 @@ returns-clause-ok g c = λ i k stands.
 
 pub returns-clause-cost : goal.returns-clause-cost
 returns-clause-cost g c =
-    cost_two c.args.meter.now g.H.LaneStates.LANES c.hash_digests.ensures.cost
-    c.hash_digests-2.ensures.cost
+    raised-sum _ _ _ _ _ c.hash_digests.ensures.cost c.hash_digests-2.ensures.cost (grind arith)
+    refl

@@ -1,7 +1,6 @@
 -- SPDX-License-Identifier: ISC
-use Rattle.std.proofs.Common.{◌≡◌, arith, get_or, rules, sym}
+use Rattle.std.proofs.Common.{◌≡◌, arith, get_or, rules, sym, length-set}
 use Rattle.std.proofs.lemmas.Grind.{common_steps}
-use Rattle.std.proofs.Math.ListN.{length-set}
 use Rattle.std.proofs.lemmas.List.{get_or_default}
 use Rattle.ring.specs.Prelude.{Key}
 use Rattle.ring.proofs.Each.{message-read}

@@ -1,6 +1,5 @@
 -- SPDX-License-Identifier: ISC
-use Rattle.std.proofs.Common.{◌<◌, ◌≤◌, ◌-◌, ◌*◌, ◌∙◌, ap, arith, length, refl, sym}
-use Rattle.std.proofs.Math.ListN.{length-set}
+use Rattle.std.proofs.Common.{◌<◌, ◌≤◌, ◌-◌, ◌*◌, ◌∙◌, ap, arith, length, refl, sym, length-set}
 use Rattle.std.specs.Int.NonZero.{non_zero_u32_get}
 use Rattle.ring.specs.Prelude.{digest_bytes, first_blocks, nth_round, sum_below, words}
 use Rattle.ring.proofs.Lanes.{digest_written}

@@ -1,7 +1,6 @@
 -- SPDX-License-Identifier: ISC
-use Rattle.std.proofs.Common.{◌∙◌, arith, refl}
+use Rattle.std.proofs.Common.{◌∙◌, arith, refl, le-div_iff_mul-le}
 use Rattle.std.proofs.lemmas.List.{take_rest}
-use Rattle.std.proofs.Math.Nat.{le-div_iff_mul-le}
 use Rattle.ring.proofs.Rows.{block_len-positive}
 use Rattle.ring.proofs.lemmas.digest.GoingOn.{HasRun, updated_rest}
 use Rattle.ring.proofs.digest.context.Context.go_on.Goals as goal

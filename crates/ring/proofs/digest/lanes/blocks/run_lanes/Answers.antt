@@ -1,19 +1,20 @@
 -- SPDX-License-Identifier: ISC
-use Rattle.std.proofs.Common.{◌≡◌, ◌<◌, ℕ, ◌+◌, ◌*◌, ◌++◌, ◌∙◌, List, [], arith, drop, length}
+use Rattle.std.proofs.Common.{◌≡◌, ◌<◌, ℕ, ◌*◌, ◌++◌, ◌∙◌, List, [], arith, drop, length}
 use Rattle.std.proofs.Common.{refl, take}
 use Rattle.std.proofs.lemmas.List.{get_or-take, get_or_append_left}
 use Rattle.ring_core.specs.Prelude.{array_at, chunk_at, fold_chunks}
 use Rattle.ring.specs.Prelude.{block_function, message_at}
-use Rattle.ring.proofs.lemmas.digest.LaneBlocks.{chunks-first, chunks-next}
+use Rattle.ring_core.proofs.ChunkFolds.{fold_chunks-none}
+use Rattle.ring.proofs.lemmas.digest.LaneBlocks.{chunks-next}
 use Rattle.ring.proofs.Costs.{raised-none}
-use Rattle.ring.proofs.Each.{raised-sum}
+use Rattle.ring.proofs.Sums.{raised-sum}
 use Rattle.ring.proofs.digest.lanes.blocks.run_lanes.Goals as goal
 
 pub blocks-2-init : goal.blocks-2-init
 blocks-2-init g c =
     let none : g.H.LaneStates.LANES * 0 ≡ 0 = omega arith in
     record {
-      words = λ i h below has. chunks-first c.args.algorithm _ _ has;
+      words = λ i h below has. rw fold_chunks-none has;
       spare = λ i h below has. refl;
       cost = rw none (raised-none c.args.meter.now);
     }
@@ -46,8 +47,7 @@ blocks-2-preserved g c =
           run.spare a i (now i h) c.requires.same below
           (c.blocks-2.invariant.words i h below has)
           ∙ c.blocks-2.invariant.spare i h below has;
-      cost = raised-sum c.args.meter.now (lanes * k) lanes (lanes * (k + 1))
-          c.blocks-2.invariant.cost run.cost (grind arith);
+      cost = raised-sum _ _ _ _ _ c.blocks-2.invariant.cost run.cost (grind arith) refl;
     }
 
 pub returns-clause-words : goal.returns-clause-words

@@ -1,6 +1,5 @@
 -- SPDX-License-Identifier: ISC
-use Rattle.std.proofs.Common.{◌≤◌, ◌<◌, ◌&&◌, [], arith, false, get_or, length}
-use Rattle.std.proofs.Math.ListN.{length-set}
+use Rattle.std.proofs.Common.{◌≤◌, ◌<◌, ◌&&◌, [], arith, false, get_or, length, length-set}
 use Rattle.std.proofs.lemmas.List.{get_or-set_other, get_or-set_same}
 use Rattle.ring.proofs.lemmas.pbkdf2.Taking.{compared-part}
 use Rattle.ring.proofs.pbkdf2.receiver.ComparedEachReceiver.take.Goals as goal

@@ -7,7 +7,7 @@ use Rattle.ring.specs.Prelude.{Algorithm, Digest, HasTaken, IsDigest, RawStandsF
 use Rattle.ring.specs.Prelude.{bytes_of, counted_bytes, cut_off, digest_after, digest_named}
 use Rattle.ring.specs.Prelude.{raw_digest_with, raw_message_len}
 use Rattle.ring.proofs.lemmas.raw.Numbers.{raw_last, refused_raw, taken_raw}
-use Rattle.ring.proofs.Outcomes.{if_ok_map, on_ok_map}
+use Rattle.std.proofs.lemmas.Result.{IfOk-weaker, on_ok_weaker}
 use Rattle.ring.proofs.Rows.{block_len-most}
 use Rattle.ring.proofs.Sets.{raw-is}
 use Rattle.ring.proofs.raw.context.RawContext.finish_counted.Goals as goal
@@ -38,9 +38,9 @@ returns-clause-plain c =
           let is =
           taken_raw raw a h.blocks own.algorithm own.numbers h.algorithm h.state h.count in
           let all : m ≡ h.blocks ++ rest = h.message in
-          if_ok_map c.try_finish.result {P = P} {Q = λ d. IsDigest d a m}
+          IfOk-weaker c.try_finish.result P (λ d. IsDigest d a m)
           (λ d made. rw (all, ← is.1) (made h.blocks is.0)) c.try_finish.ensures.ok;
-      any = if_ok_map c.try_finish.result {P = Q} {Q = R} (λ d is a named.
+      any = IfOk-weaker c.try_finish.result Q R (λ d is a named.
           let same = same_Some b.algorithm a (sym own.algorithm ∙ named) in
           grind (arith, common_steps, own.numbers.words)) c.try_finish.ensures.any;
       refused = search rules;
@@ -59,4 +59,4 @@ returns-clause-cost_of c = λ a m h.
     let fits : raw.num_pending ≤ length raw.pending =
     omega (arith, c.in-Some.ensures.pending, block_len-most own) in
     let last = raw_last raw a m h fits in
-    on_ok_map c.try_finish.result (λ cost. grind (arith, common_steps)) c.try_finish.ensures.cost
+    on_ok_weaker c.try_finish.result (λ cost. grind (arith, common_steps)) c.try_finish.ensures.cost

@@ -1,7 +1,7 @@
 // SPDX-License-Identifier: ISC
 //! What a block function keeps (FIPS 180-4, 6.1 and 6.2): the chaining states, of one message or
-//! side by side, of several; and the window of a schedule, its last sixteen words, of which word `t`
-//! is in slot `t` modulo 16.
+//! side by side, of several; and the window of a schedule, its last sixteen words, of which word
+//! `t` is in slot `t` modulo 16.
 ghost use Rattle.std.specs.Prelude.{◌≡◌, ℕ, ⊤, ◌+◌, ◌*◌, ◌/◌, ◌%◌, ◌<◌, ◌≤◌, ◌++◌, List, drop};
 ghost use Rattle.std.specs.Prelude.{length, map, slice_index, take};
 ghost use Rattle.ring_core.specs.Prelude.{IsBlockOf, IsWindow, array_at, word_at, words_of_lane};

@@ -5,9 +5,10 @@ use Rattle.ring_schedules.specs.Hash.{hash_len}
 use Rattle.ring_schedules.specs.declared.hash.Hash.{Hash}
 use Rattle.ring_schedules.specs.declared.value.HashValue.{HashValue}
 
-abbrev pub value_hash : HashValue → Hash
-value_hash v = v.hash
+-- a secret, a key or the hash of a transcript: its hash, and its bytes
+pub record HashBytes : Type 0 where
+  pub hash : Hash
+  pub bytes : List ℕ
 
--- the bytes that it gives
-abbrev pub value_bytes : HashValue → List ℕ
-value_bytes v = take (hash_len v.hash) v.room
+abbrev pub value_of : HashValue → HashBytes
+value_of v = record { hash = v.hash; bytes = take (hash_len v.hash) v.room }

@@ -6,7 +6,7 @@ ghost use Rattle.ring.specs.Prelude.{IsTagWithin};
 ghost use Rattle.ring_schedules.specs.Hash.{algorithm_of, hash_len, zeros};
 ghost use Rattle.ring_schedules.specs.Label.{derive_secret};
 ghost use Rattle.ring_schedules.specs.Schedule.{early_secret, handshake_secret, master_secret};
-ghost use Rattle.ring_schedules.specs.Stages.{traffic_bytes};
+ghost use Rattle.ring_schedules.specs.Stages.{traffic_value};
 
 use crate::hash::Hash;
 use crate::tls13::{EarlySecret, TrafficSecret};
@@ -23,8 +23,8 @@ pub fn client_application_secret(
     shared: &[u8],
     digest: &[u8],
 ) -> Result<TrafficSecret, Unspecified>
-    ensures ok { IfOk result (λ secret. traffic_bytes secret ≡ derive_secret hash
-        (master_secret hash (handshake_secret hash (early_secret hash (zeros hash)) shared.now))
+    ensures ok { IfOk result (λ secret. traffic_value secret ≡ derive_secret
+        (master_secret (handshake_secret (early_secret hash (zeros hash)) shared.now))
         (codes "c ap traffic") digest.now) }
     ensures refused { IsOk result ↔ ((length digest.now ≡ hash_len hash)
         × IsTagWithin (algorithm_of hash) (length shared.now)) }

@@ -3,7 +3,7 @@
 
 ghost use Rattle.std.specs.Prelude.{◌≡◌, ◌↔◌, length, IfOk, IsOk};
 ghost use Rattle.ring_schedules.specs.Hash.{hash_len, zeros};
-ghost use Rattle.ring_schedules.specs.Value.{value_bytes, value_hash};
+ghost use Rattle.ring_schedules.specs.Value.{value_of};
 
 use crate::hash::{Hash, MAX_HASH_LEN};
 use ring::error::Unspecified;
@@ -18,9 +18,9 @@ pub(crate) struct HashValue {
 impl HashValue {
     // The value `bytes`. Refused where `hash` has another number of bytes.
     pub(crate) fn new(hash: Hash, bytes: &[u8]) -> Result<Self, Unspecified>
-        ensures ok { IfOk result (λ value. value_bytes value ≡ bytes.now) }
+        ensures ok { IfOk result (λ value.
+            value_of value ≡ record { hash = hash; bytes = bytes.now }) }
         ensures refused { IsOk result ↔ (length bytes.now ≡ hash_len hash) }
-        ensures hash { IfOk result (λ value. value_hash value ≡ hash) }
     {
         if bytes.len() != hash.len() {
             return Err(Unspecified);
@@ -32,8 +32,7 @@ impl HashValue {
 
     // Hash.length zeros.
     pub(crate) fn zeros(hash: Hash) -> Self
-        ensures bytes { value_bytes result ≡ zeros hash }
-        ensures hash { value_hash result ≡ hash }
+        ensures { value_of result ≡ record { hash = hash; bytes = zeros hash } }
     {
         HashValue {
             hash,
@@ -42,14 +41,14 @@ impl HashValue {
     }
 
     pub(crate) fn hash(&self) -> Hash
-        ensures { result ≡ value_hash self.now }
+        ensures { result ≡ (value_of self.now).hash }
     {
         self.hash
     }
 
     pub(crate) fn as_ref(&self) -> &[u8]
-        ensures bytes { result.now ≡ value_bytes self.now }
-        ensures len { length result.now ≡ hash_len (value_hash self.now) }
+        ensures bytes { result.now ≡ (value_of self.now).bytes }
+        ensures len { length result.now ≡ hash_len (value_of self.now).hash }
     {
         &self.room[..self.hash.len()]
     }

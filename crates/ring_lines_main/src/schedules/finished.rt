@@ -2,7 +2,7 @@
 //! What is asked of a Finished key.
 
 ghost use Rattle.std.specs.Prelude.{◌≡◌};
-ghost use Rattle.ring_schedules.specs.Stages.{finished_hash};
+ghost use Rattle.ring_schedules.specs.Stages.{finished_value};
 
 use crate::fault::Fault;
 use crate::words::{bytes_in, copy_of};
@@ -18,7 +18,7 @@ pub fn finished_output(
     key: &FinishedKey,
     output: &str,
 ) -> Result<Vec<u8>, Fault>
-    requires { finished_hash key.now ≡ hash }
+    requires { (finished_value key.now).hash ≡ hash }
 {
     match output.split_once(':') {
         None => copy_of(alloc, key.as_ref()),

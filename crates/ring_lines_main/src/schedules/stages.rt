@@ -2,7 +2,7 @@
 //! What is asked of the stages of TLS 1.3.
 
 ghost use Rattle.std.specs.Prelude.{◌≡◌, IfOk};
-ghost use Rattle.ring_schedules.specs.Stages.{early_hash, handshake_hash, master_hash};
+ghost use Rattle.ring_schedules.specs.Stages.{early_value, handshake_value, master_value};
 
 use crate::fault::Fault;
 use crate::schedules::finished::finished_output;
@@ -48,7 +48,7 @@ fn secret_in(alloc: Global, word: &str) -> Result<Option<Vec<u8>>, Fault> {
 
 /// The first stage.
 fn early_of(hash: Hash, psk: &Option<Vec<u8>>) -> Result<EarlySecret, Unspecified>
-    ensures { IfOk result (λ early. early_hash early ≡ hash) }
+    ensures { IfOk result (λ early. (early_value early).hash ≡ hash) }
 {
     match psk {
         Some(psk) => EarlySecret::new(hash, psk.as_slice()),
@@ -62,7 +62,7 @@ fn handshake_of(
     psk: &Option<Vec<u8>>,
     shared: &Option<Vec<u8>>,
 ) -> Result<HandshakeSecret, Unspecified>
-    ensures { IfOk result (λ handshake. handshake_hash handshake ≡ hash) }
+    ensures { IfOk result (λ handshake. (handshake_value handshake).hash ≡ hash) }
 {
     let early = early_of(hash, psk)?;
     match shared {
@@ -77,7 +77,7 @@ fn master_of(
     psk: &Option<Vec<u8>>,
     shared: &Option<Vec<u8>>,
 ) -> Result<MasterSecret, Unspecified>
-    ensures { IfOk result (λ master. master_hash master ≡ hash) }
+    ensures { IfOk result (λ master. (master_value master).hash ≡ hash) }
 {
     Ok(handshake_of(hash, psk, shared)?.into_master())
 }

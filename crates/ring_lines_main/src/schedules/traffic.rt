@@ -2,7 +2,7 @@
 //! What is asked of a traffic secret, an exporter's secret and a resumption's.
 
 ghost use Rattle.std.specs.Prelude.{◌≡◌};
-ghost use Rattle.ring_schedules.specs.Stages.{traffic_hash};
+ghost use Rattle.ring_schedules.specs.Stages.{traffic_value};
 
 use crate::fault::Fault;
 use crate::schedules::finished::finished_output;
@@ -18,7 +18,7 @@ pub fn traffic_output(
     traffic: TrafficSecret,
     output: &str,
 ) -> Result<Vec<u8>, Fault>
-    requires { traffic_hash traffic ≡ hash }
+    requires { (traffic_value traffic).hash ≡ hash }
 {
     if output == "secret" {
         return copy_of(alloc, traffic.as_ref());

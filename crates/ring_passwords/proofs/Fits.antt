@@ -67,33 +67,19 @@ salt_few : (text : Bool) (random : List ℕ) → length random ≡ 16
 salt_few true random len = omega (arith, length-letters 22 (from_be_bytes w128 random))
 salt_few false random len = omega (arith, len)
 
-few : (k : Scheme) → nat_le (length (prefix_of k)) 16 ≡ true
-few scheme.DjangoSha256 = refl
-few scheme.DjangoSha1 = refl
-few scheme.WerkzeugSha256 = refl
-few scheme.WerkzeugSha512 = refl
-few scheme.PhcSha256 = refl
-few scheme.PhcSha512 = refl
-few scheme.Mosquitto = refl
-few scheme.PasslibSha1 = refl
-few scheme.PasslibSha256 = refl
-few scheme.PasslibSha512 = refl
-few scheme.Postgresql = refl
-few scheme.WerkzeugSha1 = refl
-
-kept_few : (k : Scheme) → nat_le (kept_len_of k) 64 ≡ true
-kept_few scheme.DjangoSha256 = refl
-kept_few scheme.DjangoSha1 = refl
-kept_few scheme.WerkzeugSha256 = refl
-kept_few scheme.WerkzeugSha512 = refl
-kept_few scheme.PhcSha256 = refl
-kept_few scheme.PhcSha512 = refl
-kept_few scheme.Mosquitto = refl
-kept_few scheme.PasslibSha1 = refl
-kept_few scheme.PasslibSha256 = refl
-kept_few scheme.PasslibSha512 = refl
-kept_few scheme.Postgresql = refl
-kept_few scheme.WerkzeugSha1 = refl
+few : (k : Scheme) → (nat_le (length (prefix_of k)) 16 ≡ true) × (nat_le (kept_len_of k) 64 ≡ true)
+few scheme.DjangoSha256 = (refl, refl)
+few scheme.DjangoSha1 = (refl, refl)
+few scheme.WerkzeugSha256 = (refl, refl)
+few scheme.WerkzeugSha512 = (refl, refl)
+few scheme.PhcSha256 = (refl, refl)
+few scheme.PhcSha512 = (refl, refl)
+few scheme.Mosquitto = (refl, refl)
+few scheme.PasslibSha1 = (refl, refl)
+few scheme.PasslibSha256 = (refl, refl)
+few scheme.PasslibSha512 = (refl, refl)
+few scheme.Postgresql = (refl, refl)
+few scheme.WerkzeugSha1 = (refl, refl)
 
 mark_few : (named : Bool) → length (count_mark named) ≤ 2
 mark_few true = omega arith
@@ -109,18 +95,10 @@ parameters_few : (k : Scheme) (named : Bool) (c : NonZeroU32) (n : ℕ) (rest : 
     → length (parameters_then k (parameters_where named) c n rest) ≤ length rest + 30
 unfolding parameters_then
 parameters_few k false c n rest is few =
-    let number = decimal (non_zero_u32_get c) in
-    let one = length-append (count_mark_of k) (number ++ count_end_of k ∷ rest) in
-    let two = length-append number (count_end_of k ∷ rest) in
-    omega (arith, one, two, mark_few (names_len k), count_few c is)
+    simp length-append (omega (arith, mark_few (names_len k), count_few c is))
 parameters_few k true c n rest is few =
-    let number = decimal (non_zero_u32_get c) in
-    let len = decimal n in
-    let behind = codes "l=" ++ len ++ 36 ∷ rest in
-    let one = length-append number (44 ∷ behind) in
-    let two = length-append len (36 ∷ rest) in
     let short = length-decimal-le 2 n (omega arith) (omega (arith, few)) (omega (arith, few)) in
-    omega (arith, one, two, short, count_few c is)
+    simp length-append (omega (arith, short, count_few c is))
 
 -- a new text under such a salt
 text_few : (k : Scheme) (p random : List ℕ) (c : NonZeroU32) → length random ≡ 16 → IsCount c
@@ -131,14 +109,14 @@ text_few k p random c len is =
     let kept = derived_of k p s (non_zero_u32_get c) (kept_len_of k) in
     let kept_len : length kept ≡ kept_len_of k =
     length-derived_of k p s (non_zero_u32_get c) in
-    let most = leb-true (kept_len_of k) 64 (kept_few k) in
+    let most = leb-true (kept_len_of k) 64 (few k).1 in
     let behind = written (salt_encoding_of k) s ++ 36 ∷ kept_text k kept in
     let parameters = parameters_few k (names_len k) c (length kept) behind is
     (omega (arith, kept_len, most)) in
     let one = length-append (prefix_of k)
     (parameters_then k (parameters_where (names_len k)) c (length kept) behind) in
     let two = length-append (written (salt_encoding_of k) s) (36 ∷ kept_text k kept) in
-    let prefix = leb-true (length (prefix_of k)) 16 (few k) in
+    let prefix = leb-true (length (prefix_of k)) 16 (few k).0 in
     let salt = salt_few (is_text (salt_encoding_of k)) random len in
     let field = twice (salt_encoding_of k) s in
     let last = twice_kept (keeps_keys k) (kept_encoding_of k) kept in

@@ -30,10 +30,7 @@ pub fn iterations_of_new(given: Option<NonZeroU32>) -> NonZeroU32
     ensures given { IfSome given (λ iterations. result ≡ iterations) }
     ensures advised { IsNone given → non_zero_u32_get result ≡ 600_000 }
 {
-    match given {
-        Some(iterations) => iterations,
-        None => NonZeroU32::new(ADVISED_ITERATIONS).unwrap(),
-    }
+    given.unwrap_or(NonZeroU32::new(ADVISED_ITERATIONS).unwrap())
 }
 
 /// Whether iterations are given, and so few that a guess at a password costs too little.

@@ -1,14 +1,11 @@
 // SPDX-License-Identifier: ISC
 //! A password is tested against a text: both are lines of standard input.
 
-ghost use Rattle.std.specs.Prelude.{◌≡◌, ◌≢◌, ◌⊎◌, [], false, true, Some};
+ghost use Rattle.std.specs.Prelude.{◌≡◌, ◌≢◌, ◌⊎◌, []};
 ghost use Rattle.std.specs.Prelude.{IfErr, IfOk, IfSome, IsErrOf, IsOk, OnOk};
-ghost use Rattle.std.specs.Int.NonZero.{non_zero_u32_get};
 ghost use Rattle.std.specs.Io.BufRead.{DropsThrough, drop_through, first_piece};
-ghost use Rattle.ring_password_hash.specs.Stored.{IsStored, IsTextOf, Parts, is_of, meter_of};
-ghost use Rattle.ring_password_hash.specs.Stored.{parts_of};
-ghost use Rattle.ring_passwords.specs.Check.{HasTextAndPassword, IsTextWhere, IsWithin};
-ghost use Rattle.ring_passwords.specs.Encode.{IsPrepared};
+ghost use Rattle.ring_password_hash.specs.Stored.{IsStored, IsTextOf, Parts, parts_of};
+ghost use Rattle.ring_passwords.specs.Check.{HasTextAndPassword, IsTest, IsTextWhere, IsWithin};
 ghost use Rattle.ring_passwords.specs.Failure.{IsNoPassword, IsNoStored, IsNoText, IsNotRight};
 
 use crate::encode::is_prepared;
@@ -71,16 +68,8 @@ fn test(
 ) -> Result<(), Failure>
     requires stored { IsStored stored.now }
     requires within { IsWithin (parts_of stored.now) most }
-    ensures ok { IsOk result → IsPrepared (parts_of stored.now).scheme password.now
-        × (is_of (parts_of stored.now) password.now ≡ true) }
-    ensures wrong { IsErrOf result Failure.WrongPassword
-        → IsPrepared (parts_of stored.now).scheme password.now
-        × (is_of (parts_of stored.now) password.now ≡ false) }
-    ensures unprepared { IsErrOf result Failure.NeedsPreparation
-        → ¬ (IsPrepared (parts_of stored.now).scheme password.now) × (meter.new ≡ meter.old) }
+    ensures tested { IsTest (parts_of stored.now) password.now most meter.old meter.new result }
     ensures failure { IfErr result IsNotRight }
-    ensures cost { IsPrepared (parts_of stored.now).scheme password.now → meter.new
-        ≡ meter_of (Some (parts_of stored.now)) password.now (non_zero_u32_get most) meter.old }
 {
     if !is_prepared(stored.scheme(), password) {
         return Err(Failure::NeedsPreparation);
@@ -100,14 +89,10 @@ pub fn check<R: BufRead>(
     most: NonZeroU32,
     meter: &mut Meter,
 ) -> Result<(), Failure>
-    ensures ok { IsOk result → HasTextAndPassword (R.remaining reader.old) most
-        (λ h password. IsPrepared h.scheme password × (is_of h password ≡ true)) }
-    ensures wrong { IsErrOf result Failure.WrongPassword
+    ensures tested { (IsOk result ⊎ IsErrOf result Failure.WrongPassword
+        ⊎ IsErrOf result Failure.NeedsPreparation)
         → HasTextAndPassword (R.remaining reader.old) most
-        (λ h password. IsPrepared h.scheme password × (is_of h password ≡ false)) }
-    ensures unprepared { IsErrOf result Failure.NeedsPreparation
-        → HasTextAndPassword (R.remaining reader.old) most
-        (λ h password. ¬ (IsPrepared h.scheme password)) }
+        (λ h password. IsTest h password most meter.old meter.new result) }
     ensures no_password { IsErrOf result Failure.NoPassword → IfSome (R.remaining reader.old)
         (λ bytes. (bytes ≢ []) × (drop_through 10 bytes ≡ [])) }
     ensures no_text { IsErrOf result Failure.NoText
@@ -119,9 +104,6 @@ pub fn check<R: BufRead>(
         (λ h. ¬ (IsWithin h most))) }
     ensures failure { IfErr result (λ failure. IsNoText failure ⊎ IsNoStored failure
         ⊎ IsNoPassword failure ⊎ IsNotRight failure) }
-    ensures cost { (IsOk result ⊎ IsErrOf result Failure.WrongPassword)
-        → HasTextAndPassword (R.remaining reader.old) most (λ h password. meter.new
-        ≡ meter_of (Some h) password (non_zero_u32_get most) meter.old) }
     ensures cost_untested { IfErr result (λ failure. failure ≢ Failure.WrongPassword
         → meter.new ≡ meter.old) }
 {

@@ -32,10 +32,7 @@ pub fn max_iterations(given: Option<NonZeroU32>) -> NonZeroU32
     ensures given { IfSome given (λ iterations. result ≡ iterations) }
     ensures default { IsNone given → non_zero_u32_get result ≡ 10_000_000 }
 {
-    match given {
-        Some(iterations) => iterations,
-        None => NonZeroU32::new(MAX_ITERATIONS).unwrap(),
-    }
+    given.unwrap_or(NonZeroU32::new(MAX_ITERATIONS).unwrap())
 }
 
 /// What the words behind `encode` ask for.

@@ -12,13 +12,11 @@ ghost use Rattle.ring_passwords.specs.Failure.{IsOfSystem};
 ghost use Rattle.ring_passwords.specs.declared.failure.Step.TheVariants.{WriteText};
 
 use crate::failure::{Failure, Step};
+use crate::password::LINE_FEED;
 use ring_password_hash::salt::{RANDOM_LEN, Salt};
 use ring_password_hash::{MAX_TEXT_LEN, Scheme, Stored, needs_preparation};
 use std::io::Write;
 use std::num::NonZeroU32;
-
-/// Ends a line.
-const LINE_FEED: u8 = b'\n';
 
 /// The iterations where none are given, as OWASP advises them for PBKDF2 with HMAC (Password
 /// Storage Cheat Sheet, 2023): under SHA-1, under SHA-256, and under SHA-512.

@@ -42,10 +42,10 @@ impl Step {
     fn is_of_file(self) -> bool
         ensures { result ≡ is_step_with_file self }
     {
-        match self {
-            Step::ReadFile | Step::Lock | Step::Replace | Step::SyncFolder => true,
-            _ => false,
-        }
+        matches!(
+            self,
+            Step::ReadFile | Step::Lock | Step::Replace | Step::SyncFolder
+        )
     }
 }
 

@@ -34,10 +34,8 @@ pub fn load<R: Files + AllocGlobal>(rt: &R, path: &str) -> Result<PasswordStore,
     ensures status { IfErr result (λ failure. status_of failure ≡ 2) }
 {
     require_regular(rt, path)?;
-    match fs::read(rt, path) {
-        Ok(text) => store_in(rt.alloc(), &text),
-        Err(error) => Err(Failure::System(Step::ReadFile, error)),
-    }
+    let text = fs::read(rt, path).map_err(|error| Failure::System(Step::ReadFile, error))?;
+    store_in(rt.alloc(), &text)
 }
 
 /// Refuses a path that is not of a regular file. A symbolic link is none.
@@ -86,10 +84,9 @@ impl<'a> LockedFile<'a> {
         let mut options = OpenOptions::new();
         options.write(true).create(true);
         options.mode(OWNER_ONLY);
-        let lock = match options.open(rt, lock_path.as_str()) {
-            Ok(lock) => lock,
-            Err(error) => return Err(Failure::System(Step::Lock, error)),
-        };
+        let lock = options
+            .open(rt, lock_path.as_str())
+            .map_err(|error| Failure::System(Step::Lock, error))?;
         acquire(rt, &lock)?;
         Ok(LockedFile { path, _lock: lock })
     }
@@ -113,19 +110,18 @@ impl<'a> LockedFile<'a> {
         let path = self.path;
         let text = store.to_text(rt.alloc())?;
         let new_path = format!(in rt.alloc(); "{path}.new")?;
-        let folder = match File::open(rt, folder_of(path)) {
-            Ok(folder) => folder,
-            Err(error) => return Err(Failure::System(Step::Replace, error)),
-        };
+        let folder = File::open(rt, folder_of(path)).map_err(|error| Failure::System(
+            Step::Replace,
+            error,
+        ))?;
         if let Err(error) = put(rt, new_path.as_str(), path, &text) {
             // The old file still stands, and nobody needs the new one.
             let _ = fs::remove_file(rt, new_path.as_str());
             return Err(Failure::System(Step::Replace, error));
         }
-        match folder.sync_all() {
-            Ok(()) => Ok(()),
-            Err(error) => Err(Failure::System(Step::SyncFolder, error)),
-        }
+        folder
+            .sync_all()
+            .map_err(|error| Failure::System(Step::SyncFolder, error))
     }
 }
 

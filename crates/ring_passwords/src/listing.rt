@@ -7,12 +7,10 @@ ghost use Rattle.ring_passwords.specs.Failure.{status_of};
 ghost use Rattle.ring_passwords.specs.Listing.{is_plain, line_of, listing_of, shown};
 
 use crate::failure::{Failure, Step};
+use crate::password::LINE_FEED;
 use ring_store::PasswordStore;
 use std::alloc::{AllocError, Global};
 use std::io::Write;
-
-/// Ends a line.
-const LINE_FEED: u8 = b'\n';
 
 /// Begins the digits of a byte that is not shown as it is.
 const ESCAPE: u8 = b'\\';

@@ -52,10 +52,7 @@ mod word;
 fn arguments<R: Env + AllocGlobal>(rt: &R) -> Result<Vec<String>, Failure>
     ensures status { IfErr result (λ failure. status_of failure ≡ 2) }
 {
-    let words = match env::args(rt) {
-        Ok(words) => words,
-        Err(error) => return Err(Failure::System(Step::Arguments, error)),
-    };
+    let words = env::args(rt).map_err(|error| Failure::System(Step::Arguments, error))?;
     let words = words.skip(1).collect(rt.alloc())?;
     Ok(words)
 }
@@ -68,9 +65,8 @@ fn new_store<R: RandomSource + AllocGlobal>(
     ensures status { IfErr result (λ failure. status_of failure ≡ 2) }
 {
     let mut salt = [0; DB_SALT_LEN];
-    if let Err(error) = rt.fill_bytes(&mut salt) {
-        return Err(Failure::System(Step::Salt, error));
-    }
+    rt.fill_bytes(&mut salt)
+        .map_err(|error| Failure::System(Step::Salt, error))?;
     let iterations = change::iterations_of_new(iterations);
     Ok(PasswordStore::new(rt.alloc(), salt, iterations))
 }
@@ -152,9 +148,8 @@ fn write_encoded<R: AllocGlobal + Input + Print + RandomSource>(
 {
     let password = read_password(rt.alloc(), &mut rt.reader())?;
     let mut random = [0; RANDOM_LEN];
-    if let Err(error) = rt.fill_bytes(&mut random) {
-        return Err(Failure::System(Step::Salt, error));
-    }
+    rt.fill_bytes(&mut random)
+        .map_err(|error| Failure::System(Step::Salt, error))?;
     encode(scheme, &password, iterations, random, &mut io::writer(rt))
 }
 
@@ -181,10 +176,10 @@ fn convert<R: AllocGlobal + Input + Print + RandomSource>(
 fn tell<R: Print>(rt: &R, about: About) -> Result<(), Failure>
     ensures status { IfErr result (λ failure. status_of failure ≡ 2) }
 {
-    match write_about(about, &mut io::writer(rt)) {
-        Ok(()) => Ok(()),
-        Err(error) => Err(Failure::System(Step::WriteAbout, error)),
-    }
+    write_about(about, &mut io::writer(rt)).map_err(|error| Failure::System(
+        Step::WriteAbout,
+        error,
+    ))
 }
 
 /// Warns of few iterations. Where standard error fails, the password is set all the same.
@@ -216,9 +211,10 @@ where
 
 /// Writes why a run ends without success, and gives its status. Where standard error fails too, the
 /// status still tells.
-fn fail<R: Eprint>(rt: &R, ended: Ended<'_>) -> ExitCode {
+fn fail<R: Eprint>(rt: &R, failure: &Failure, path: Option<&str>) -> ExitCode {
+    let ended = Ended { failure, path };
     let _ = eprintln!(rt; "passwords: {ended}");
-    ExitCode::from(ended.failure.status())
+    ExitCode::from(failure.status())
 }
 
 /// Does what the words ask for, or writes what is wrong with them.
@@ -240,25 +236,13 @@ where
     };
     match done {
         Ok(()) => ExitCode::SUCCESS,
-        Err(failure) => fail(
-            rt,
-            Ended {
-                failure: &failure,
-                path,
-            },
-        ),
+        Err(failure) => fail(rt, &failure, path),
     }
 }
 
 fn main(rt: HostRuntime) -> ExitCode {
     match arguments(&rt) {
         Ok(words) => run(&rt, &words),
-        Err(failure) => fail(
-            &rt,
-            Ended {
-                failure: &failure,
-                path: None,
-            },
-        ),
+        Err(failure) => fail(&rt, &failure, None),
     }
 }

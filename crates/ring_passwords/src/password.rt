@@ -11,7 +11,7 @@ use std::io;
 use std::io::BufRead;
 
 /// Ends a line, and is no byte of it.
-const LINE_FEED: u8 = b'\n';
+pub const LINE_FEED: u8 = b'\n';
 
 /// Reads a line and gives its bytes without the line feed, or `None` where there is no byte. What
 /// follows is not read.

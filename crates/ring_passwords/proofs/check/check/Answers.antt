@@ -1,13 +1,11 @@
 -- SPDX-License-Identifier: ISC
-use Rattle.std.proofs.Common.{◌≡◌, ℕ, List, true, false, inl, inr, subst, ◌∙◌}
+use Rattle.std.proofs.Common.{◌≡◌, ℕ, List, subst, ◌∙◌}
 use Rattle.std.specs.Prelude.{Option, Some, None, IfSome}
-use Rattle.std.specs.Int.NonZero.{non_zero_u32_get}
 use Rattle.std.specs.Io.BufRead.{DropsThrough, drop_through, first_piece}
 use Rattle.std.proofs.lemmas.Option.{IfSome_then}
 use Rattle.std.specs.declared.num.NonZeroU32.{NonZeroU32}
-use Rattle.ring_password_hash.specs.Stored.{IsTextOf, Parts, is_of, meter_of, parts_of}
-use Rattle.ring_passwords.specs.Check.{HasTextAndPassword, IsTextWhere, IsWithin}
-use Rattle.ring_passwords.specs.Encode.{IsPrepared}
+use Rattle.ring_password_hash.specs.Stored.{IsTextOf, Parts}
+use Rattle.ring_passwords.specs.Check.{HasTextAndPassword, IsTest, IsWithin}
 use Rattle.ring_passwords.proofs.check.check.Goals as goal
 
 -- what is read first is the first line, and what is read then is the second one
@@ -36,34 +34,9 @@ has_read old new h password lent most P within text rest line same holds =
       holds = (within, subst (P h) (same ∙ both.1) holds);
     })
 
-pub returns-clause-ok : goal.returns-clause-ok
-returns-clause-ok g c = λ ended.
-    has_read _ _ _ _ _ c.args.most
-    (λ h password. IsPrepared h.scheme password × (is_of h password ≡ true))
+pub returns-clause-tested : goal.returns-clause-tested
+returns-clause-tested g c = λ _.
+    has_read _ _ _ _ _ c.args.most (λ h password. IsTest h password c.args.most
+    c.args.meter.now c.test.new.meter c.test.result)
     c.in_ok-stored.ensures.ok.1 c.in_ok-stored.ensures.text c.in_ok-stored.ensures.rest
-    c.in_ok-password.ensures.ok c.deref.ensures.value (c.test.ensures.ok ended)
-
-pub returns-clause-wrong : goal.returns-clause-wrong
-returns-clause-wrong g c = λ ended.
-    has_read _ _ _ _ _ c.args.most
-    (λ h password. IsPrepared h.scheme password × (is_of h password ≡ false))
-    c.in_ok-stored.ensures.ok.1 c.in_ok-stored.ensures.text c.in_ok-stored.ensures.rest
-    c.in_ok-password.ensures.ok c.deref.ensures.value (c.test.ensures.wrong ended)
-
-pub returns-clause-unprepared : goal.returns-clause-unprepared
-returns-clause-unprepared g c = λ ended.
-    has_read _ _ _ _ _ c.args.most (λ h password. ¬ (IsPrepared h.scheme password))
-    c.in_ok-stored.ensures.ok.1 c.in_ok-stored.ensures.text c.in_ok-stored.ensures.rest
-    c.in_ok-password.ensures.ok c.deref.ensures.value (c.test.ensures.unprepared ended).0
-
-pub returns-clause-cost : goal.returns-clause-cost
-returns-clause-cost g c = λ ended.
-    let prepared : IsPrepared (parts_of c.in_ok-stored.stored).scheme c.deref.result.now =
-    elim ended [
-      | inl ok ↦ (c.test.ensures.ok ok).0
-      | inr wrong ↦ (c.test.ensures.wrong wrong).0
-    ] in
-    has_read _ _ _ _ _ c.args.most (λ h password. c.test.new.meter
-    ≡ meter_of (Some h) password (non_zero_u32_get c.args.most) c.args.meter.now)
-    c.in_ok-stored.ensures.ok.1 c.in_ok-stored.ensures.text c.in_ok-stored.ensures.rest
-    c.in_ok-password.ensures.ok c.deref.ensures.value (c.test.ensures.cost prepared)
+    c.in_ok-password.ensures.ok c.deref.ensures.value c.test.ensures.tested

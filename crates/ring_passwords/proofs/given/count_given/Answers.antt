@@ -1,28 +1,19 @@
 -- SPDX-License-Identifier: ISC
-use Rattle.std.proofs.Common.{◌≡◌, ◌≢◌, ◌∷◌, ◌∙◌, ℕ, Bool, true, false, List, [], ap, map, not}
+use Rattle.std.proofs.Common.{◌≡◌, ◌≢◌, ◌∷◌, ◌∙◌, ℕ, true, false, List, [], ap, arith, map, not}
 use Rattle.std.proofs.Common.{refl, string_bytes, sym}
 use Rattle.std.specs.Prelude.{None}
 use Rattle.std.specs.Str.{bytes_eq}
-use Rattle.std.proofs.lemmas.Bool.{false≢true, true≢false}
 use Rattle.std.proofs.lemmas.Slice.Eq.{bytes_eq-Decides}
 use Rattle.ring_passwords.specs.Word.{option_word}
 use Rattle.ring_passwords.proofs.Words.{behind, words_cons, words_nil}
 use Rattle.ring_passwords.proofs.given.count_given.Goals as goal
 
-not_true : (b : Bool) → true ≡ not b → b ≡ true → ⊥
-not_true true told is = true≢false told
-not_true false told is = false≢true is
-
-not_false : (b : Bool) → false ≡ not b → b ≡ true
-not_false true told = refl
-not_false false told = absurd (false≢true told)
-
 -- a word is another one, or it is the same
 other_word : (a b : List ℕ) → true ≡ not (bytes_eq a b) → a ≢ b
-other_word a b told = λ same. not_true (bytes_eq a b) told ((bytes_eq-Decides a b).1 same)
+other_word a b told = λ same. grind (arith, bytes_eq-Decides, told, same)
 
 same_word : (a b : List ℕ) → false ≡ not (bytes_eq a b) → a ≡ b
-same_word a b told = (bytes_eq-Decides a b).0 (not_false (bytes_eq a b) told)
+same_word a b told = grind (arith, bytes_eq-Decides, told)
 
 pub returns-then-ne-clause-refused : goal.returns-then-ne-clause-refused
 returns-then-ne-clause-refused c =

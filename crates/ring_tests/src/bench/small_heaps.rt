@@ -72,56 +72,36 @@ fn is_front(bytes: &[u8]) -> bool {
     ANSWERS.starts_with(bytes) && bytes.len() < ANSWERS.len()
 }
 
-// Counts how calls on heaps of each size ended, from none on: each size refuses another request.
-#[derive(Drop)]
-struct Ends {
-    well: u32,
-    refused: u32,
-    wrong: u32,
+// How many calls ended so.
+fn count(ends: &[End], wanted: End) -> usize {
+    ends.iter().filter(|end| **end == wanted).count()
 }
 
-impl Ends {
-    fn none() -> Ends {
-        Ends {
-            well: 0,
-            refused: 0,
-            wrong: 0,
-        }
-    }
-
-    fn count(&mut self, end: End) {
-        match end {
-            End::Well => self.well = self.well.saturating_add(1),
-            End::Refused => self.refused = self.refused.saturating_add(1),
-            End::Wrong => self.wrong = self.wrong.saturating_add(1),
-        }
-    }
-
-    // None is wrong, and there are several of both others.
-    fn are_right(&self) -> bool {
-        self.wrong == 0 && self.refused > 5 && self.well > 10
-    }
+// How calls on heaps of each size ended, from none on: none wrong, and several in both other ways,
+// since each size refuses another request.
+fn are_right(ends: &[End]) -> bool {
+    count(ends, End::Wrong) == 0 && count(ends, End::Refused) > 5 && count(ends, End::Well) > 10
 }
 
 #[test]
 fn small_heaps_in_answer(rt: HostRuntime) -> Result<(), Fail> {
     for (line, want) in ROWS {
-        let mut ends = Ends::none();
+        let mut ends = [End::Wrong; 200];
         for size in 0usize..200 {
-            ends.count(answer_on(rt.alloc(), size * 16, line, want)?);
+            ends[size] = answer_on(rt.alloc(), size * 16, line, want)?;
         }
-        assert!(rt; ends.are_right());
+        assert!(rt; are_right(&ends));
     }
     Ok(())
 }
 
 #[test]
 fn small_heaps_in_run(rt: HostRuntime) -> Result<(), Fail> {
-    let mut ends = Ends::none();
+    let mut ends = [End::Wrong; 200];
     for size in 0usize..200 {
-        ends.count(run_on(rt.alloc(), size * 16)?);
+        ends[size] = run_on(rt.alloc(), size * 16)?;
     }
-    assert!(rt; ends.are_right());
+    assert!(rt; are_right(&ends));
     Ok(())
 }
 

@@ -53,61 +53,44 @@ fn padded_to_128(message: &[u8]) -> ([u8; 384], usize)
     (room, end)
 }
 
+// Runs both kernels from the first words over the blocks of each message.
+macro_rules! over_messages {
+    ($rt:ident, $algorithm:ident, $output_len:literal, $words:ident as $state:ident;
+        $padded:ident by $block_len:literal; $by_window:ident, $by_schedule:ident) => {
+        let bytes = counting_bytes::<257>();
+        for len in 0..258 {
+            let message = &bytes[..len];
+            let (room, end) = $padded(message);
+            let (blocks, _) = as_chunks::<u8, $block_len>(&room[..end]);
+            let mut state = $words;
+            let mut meter = Meter::new();
+            $by_window(&mut state, blocks, &mut meter);
+            let made = DynState::$state(state).format_output();
+            assert!($rt; is_of_others($algorithm, message, &made.0[..$output_len]));
+            let mut other = $words;
+            let mut other_meter = Meter::new();
+            $by_schedule(&mut other, blocks, &mut other_meter);
+            assert!($rt; state == other && meter.blocks() == other_meter.blocks());
+        }
+    };
+}
+
 #[test]
 fn sha1_by_both_kernels(rt: HostRuntime) {
-    let bytes = counting_bytes::<257>();
-    for len in 0..258 {
-        let message = &bytes[..len];
-        let (room, end) = padded_to_64(message);
-        let (blocks, _) = as_chunks::<u8, 64>(&room[..end]);
-        let mut state = SHA1_WORDS;
-        let mut meter = Meter::new();
-        sha1_block_data_order_by_window_counted(&mut state, blocks, &mut meter);
-        let made = DynState::new32(state).format_output();
-        assert!(rt; is_of_others(SHA1_FOR_LEGACY_USE_ONLY, message, &made.0[..20]));
-        let mut other = SHA1_WORDS;
-        let mut other_meter = Meter::new();
-        sha1_block_data_order_counted(&mut other, blocks, &mut other_meter);
-        assert!(rt; state == other && meter.blocks() == other_meter.blocks());
-    }
+    over_messages!(rt, SHA1_FOR_LEGACY_USE_ONLY, 20, SHA1_WORDS as new32; padded_to_64 by 64;
+        sha1_block_data_order_by_window_counted, sha1_block_data_order_counted);
 }
 
 #[test]
 fn sha256_by_both_kernels(rt: HostRuntime) {
-    let bytes = counting_bytes::<257>();
-    for len in 0..258 {
-        let message = &bytes[..len];
-        let (room, end) = padded_to_64(message);
-        let (blocks, _) = as_chunks::<u8, 64>(&room[..end]);
-        let mut state = SHA256_WORDS;
-        let mut meter = Meter::new();
-        block_data_order_32_by_window_counted(&mut state, blocks, &mut meter);
-        let made = DynState::new32(state).format_output();
-        assert!(rt; is_of_others(SHA256, message, &made.0[..32]));
-        let mut other = SHA256_WORDS;
-        let mut other_meter = Meter::new();
-        block_data_order_32_counted(&mut other, blocks, &mut other_meter);
-        assert!(rt; state == other && meter.blocks() == other_meter.blocks());
-    }
+    over_messages!(rt, SHA256, 32, SHA256_WORDS as new32; padded_to_64 by 64;
+        block_data_order_32_by_window_counted, block_data_order_32_counted);
 }
 
 #[test]
 fn sha512_by_both_kernels(rt: HostRuntime) {
-    let bytes = counting_bytes::<257>();
-    for len in 0..258 {
-        let message = &bytes[..len];
-        let (room, end) = padded_to_128(message);
-        let (blocks, _) = as_chunks::<u8, 128>(&room[..end]);
-        let mut state = SHA512_WORDS;
-        let mut meter = Meter::new();
-        block_data_order_64_by_window_counted(&mut state, blocks, &mut meter);
-        let made = DynState::new64(state).format_output();
-        assert!(rt; is_of_others(SHA512, message, &made.0[..64]));
-        let mut other = SHA512_WORDS;
-        let mut other_meter = Meter::new();
-        block_data_order_64_counted(&mut other, blocks, &mut other_meter);
-        assert!(rt; state == other && meter.blocks() == other_meter.blocks());
-    }
+    over_messages!(rt, SHA512, 64, SHA512_WORDS as new64; padded_to_128 by 128;
+        block_data_order_64_by_window_counted, block_data_order_64_counted);
 }
 
 // From Python's `hashlib`: the digest of the digest of `abc`, which is a block of words.
@@ -118,59 +101,47 @@ const TWICE_BY_SHA256: &str = "4f8b42c22dd3729b519ba6f68d2da7cc5b2d606d05daed5ad
 const TWICE_BY_SHA512: &str = "373a9f3a902cf561003b513c94c5164ba4af135cbc4eb4d856b89ea5609523f1\
     30bbe5e453e6c645b2765a265aaeb1390c82c913130870636cd0c8ecf980d851";
 
+// Runs both kernels over the digest of `abc` as a block: its `$word_count` words, `$bit` behind
+// them, and the number of their bits.
+macro_rules! over_words {
+    ($rt:ident, $twice:ident, $output_len:literal, $words:ident as $state:ident;
+        $word_count:literal, $bit:literal, $bits:literal;
+        $padded:ident by $block_len:literal, $kernel:ident; $by_window:path, $by_schedule:path) => {
+        let (room, end) = $padded(b"abc");
+        let (blocks, _) = as_chunks::<u8, $block_len>(&room[..end]);
+        let mut front = $words;
+        let mut meter = Meter::new();
+        $kernel(&mut front, blocks, &mut meter);
+        let mut padding = [Wrapping(0); 16];
+        padding[$word_count] = Wrapping($bit);
+        padding[15] = Wrapping($bits);
+        let mut state = $words;
+        $by_window(&mut state, &front, &padding, &mut meter);
+        let made = DynState::$state(state).format_output();
+        assert!($rt; is_hex_of($twice, &made.0[..$output_len]) && meter.blocks() == 2);
+        let mut other = $words;
+        $by_schedule(&mut other, &front, &padding, &mut meter);
+        assert!($rt; state == other && meter.blocks() == 3);
+    };
+}
+
 #[test]
 fn sha1_of_words_by_both_kernels(rt: HostRuntime) {
-    let (room, end) = padded_to_64(b"abc");
-    let (blocks, _) = as_chunks::<u8, 64>(&room[..end]);
-    let mut front = SHA1_WORDS;
-    let mut meter = Meter::new();
-    sha1_block_data_order_by_window_counted(&mut front, blocks, &mut meter);
-    let mut padding = [Wrapping(0u32); 16];
-    padding[5] = Wrapping(0x80000000);
-    padding[15] = Wrapping(160);
-    let mut state = SHA1_WORDS;
-    sha1_block_of_words_by_window_counted(&mut state, &front, &padding, &mut meter);
-    let made = DynState::new32(state).format_output();
-    assert!(rt; is_hex_of(TWICE_BY_SHA1, &made.0[..20]) && meter.blocks() == 2);
-    let mut other = SHA1_WORDS;
-    sha1_block_of_words_counted(&mut other, &front, &padding, &mut meter);
-    assert!(rt; state == other && meter.blocks() == 3);
+    over_words!(rt, TWICE_BY_SHA1, 20, SHA1_WORDS as new32; 5, 0x80000000, 160;
+        padded_to_64 by 64, sha1_block_data_order_by_window_counted;
+        sha1_block_of_words_by_window_counted, sha1_block_of_words_counted);
 }
 
 #[test]
 fn sha256_of_words_by_both_kernels(rt: HostRuntime) {
-    let (room, end) = padded_to_64(b"abc");
-    let (blocks, _) = as_chunks::<u8, 64>(&room[..end]);
-    let mut front = SHA256_WORDS;
-    let mut meter = Meter::new();
-    block_data_order_32_by_window_counted(&mut front, blocks, &mut meter);
-    let mut padding = [Wrapping(0u32); 16];
-    padding[8] = Wrapping(0x80000000);
-    padding[15] = Wrapping(256);
-    let mut state = SHA256_WORDS;
-    block_of_words_32_by_window_counted(&mut state, &front, &padding, &mut meter);
-    let made = DynState::new32(state).format_output();
-    assert!(rt; is_hex_of(TWICE_BY_SHA256, &made.0[..32]) && meter.blocks() == 2);
-    let mut other = SHA256_WORDS;
-    block_of_words_32_counted(&mut other, &front, &padding, &mut meter);
-    assert!(rt; state == other && meter.blocks() == 3);
+    over_words!(rt, TWICE_BY_SHA256, 32, SHA256_WORDS as new32; 8, 0x80000000, 256;
+        padded_to_64 by 64, block_data_order_32_by_window_counted;
+        block_of_words_32_by_window_counted, block_of_words_32_counted);
 }
 
 #[test]
 fn sha512_of_words_by_both_kernels(rt: HostRuntime) {
-    let (room, end) = padded_to_128(b"abc");
-    let (blocks, _) = as_chunks::<u8, 128>(&room[..end]);
-    let mut front = SHA512_WORDS;
-    let mut meter = Meter::new();
-    block_data_order_64_by_window_counted(&mut front, blocks, &mut meter);
-    let mut padding = [Wrapping(0u64); 16];
-    padding[8] = Wrapping(0x8000000000000000);
-    padding[15] = Wrapping(512);
-    let mut state = SHA512_WORDS;
-    block_of_words_64_by_window_counted::<8>(&mut state, &front, &padding, &mut meter);
-    let made = DynState::new64(state).format_output();
-    assert!(rt; is_hex_of(TWICE_BY_SHA512, &made.0[..64]) && meter.blocks() == 2);
-    let mut other = SHA512_WORDS;
-    block_of_words_64_counted::<8>(&mut other, &front, &padding, &mut meter);
-    assert!(rt; state == other && meter.blocks() == 3);
+    over_words!(rt, TWICE_BY_SHA512, 64, SHA512_WORDS as new64; 8, 0x8000000000000000, 512;
+        padded_to_128 by 128, block_data_order_64_by_window_counted;
+        block_of_words_64_by_window_counted::<8>, block_of_words_64_counted::<8>);
 }

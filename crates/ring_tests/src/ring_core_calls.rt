@@ -21,40 +21,33 @@ use std::num::{NonZeroU64, Wrapping};
 // 2^61, the first number of bytes whose bits 64 bits don't hold
 const TOO_LONG: u64 = 2_305_843_009_213_693_952;
 
+// Words as plain numbers.
+macro_rules! words {
+    ($($word:expr),*) => {
+        [$(Wrapping($word)),*]
+    };
+}
+
 // FIPS 180-4, 5.3.1, with three words that are none of SHA-1's
-pub const SHA1_WORDS: State32 = [
-    Wrapping(0x67452301),
-    Wrapping(0xefcdab89),
-    Wrapping(0x98badcfe),
-    Wrapping(0x10325476),
-    Wrapping(0xc3d2e1f0),
-    Wrapping(1),
-    Wrapping(2),
-    Wrapping(3),
+pub const SHA1_WORDS: State32 = words![
+    0x67452301, 0xefcdab89, 0x98badcfe, 0x10325476, 0xc3d2e1f0, 1, 2, 3
 ];
 
 // FIPS 180-4, 5.3.3
-pub const SHA256_WORDS: State32 = [
-    Wrapping(0x6a09e667),
-    Wrapping(0xbb67ae85),
-    Wrapping(0x3c6ef372),
-    Wrapping(0xa54ff53a),
-    Wrapping(0x510e527f),
-    Wrapping(0x9b05688c),
-    Wrapping(0x1f83d9ab),
-    Wrapping(0x5be0cd19),
+pub const SHA256_WORDS: State32 = words![
+    0x6a09e667, 0xbb67ae85, 0x3c6ef372, 0xa54ff53a, 0x510e527f, 0x9b05688c, 0x1f83d9ab, 0x5be0cd19
 ];
 
 // FIPS 180-4, 5.3.5
-pub const SHA512_WORDS: State64 = [
-    Wrapping(0x6a09e667f3bcc908),
-    Wrapping(0xbb67ae8584caa73b),
-    Wrapping(0x3c6ef372fe94f82b),
-    Wrapping(0xa54ff53a5f1d36f1),
-    Wrapping(0x510e527fade682d1),
-    Wrapping(0x9b05688c2b3e6c1f),
-    Wrapping(0x1f83d9abfb41bd6b),
-    Wrapping(0x5be0cd19137e2179),
+pub const SHA512_WORDS: State64 = words![
+    0x6a09e667f3bcc908,
+    0xbb67ae8584caa73b,
+    0x3c6ef372fe94f82b,
+    0xa54ff53a5f1d36f1,
+    0x510e527fade682d1,
+    0x9b05688c2b3e6c1f,
+    0x1f83d9abfb41bd6b,
+    0x5be0cd19137e2179
 ];
 
 fn rounded_up(bits: usize) -> usize {
@@ -174,9 +167,9 @@ fn words_of_32_bits(rt: HostRuntime) {
     let x = Wrapping::<u32>::from_be_bytes([0xf0, 0, 0, 3]);
     let bits = x.bit_and(Wrapping(7)).bit_or(Wrapping(8));
     let made = [x.plus(x), bits.bit_xor(Wrapping(1)), x.bit_not()];
-    assert!(rt; made == [Wrapping(0xe000_0006), Wrapping(10), Wrapping(0x0fff_fffc)]);
+    assert!(rt; made == words![0xe000_0006, 10, 0x0fff_fffc]);
     let moved = [x.rotr(4), x.shift_right(4)];
-    assert!(rt; moved == [Wrapping(0x3f00_0000), Wrapping(0x0f00_0000)]);
+    assert!(rt; moved == words![0x3f00_0000, 0x0f00_0000]);
 }
 
 #[test]
@@ -184,21 +177,9 @@ fn words_of_64_bits(rt: HostRuntime) {
     let x = Wrapping::<u64>::from_be_bytes([0xf0, 0, 0, 0, 0, 0, 0, 3]);
     let bits = x.bit_and(Wrapping(7)).bit_or(Wrapping(8));
     let made = [x.plus(x), bits.bit_xor(Wrapping(1)), x.bit_not()];
-    assert!(rt;
-        made == [
-            Wrapping(0xe000_0000_0000_0006),
-            Wrapping(10),
-            Wrapping(0x0fff_ffff_ffff_fffc),
-        ]
-    );
+    assert!(rt; made == words![0xe000_0000_0000_0006, 10, 0x0fff_ffff_ffff_fffc]);
     let moved = [x.rotr(4), x.shift_right(4)];
-    assert!(rt;
-        moved
-            == [
-                Wrapping(0x3f00_0000_0000_0000),
-                Wrapping(0x0f00_0000_0000_0000)
-            ]
-    );
+    assert!(rt; moved == words![0x3f00_0000_0000_0000, 0x0f00_0000_0000_0000]);
 }
 
 // The last constants are those of FIPS 180-4, 4.2.2 and 4.2.3.
@@ -207,18 +188,12 @@ fn words_of_tables_and_blocks(rt: HostRuntime) {
     let mut block = [0u8; 128];
     block[63] = 5;
     block[127] = 6;
-    let short = [
-        Wrapping::<u32>::ZERO,
-        Sha2::k(63),
-        Sha2::read_word(&block[..64], 15),
-    ];
-    assert!(rt; short == [Wrapping(0), Wrapping(0xc671_78f2), Wrapping(5)]);
-    let long = [
-        Wrapping::<u64>::ZERO,
-        Sha2::k(79),
-        Sha2::read_word(&block, 15),
-    ];
-    assert!(rt; long == [Wrapping(0), Wrapping(0x6c44_198c_4a47_5817), Wrapping(6)]);
+    let zero = Wrapping::<u32>::ZERO;
+    let short = [zero, Sha2::k(63), Sha2::read_word(&block[..64], 15)];
+    assert!(rt; short == words![0, 0xc671_78f2, 5]);
+    let zero = Wrapping::<u64>::ZERO;
+    let long = [zero, Sha2::k(79), Sha2::read_word(&block, 15)];
+    assert!(rt; long == words![0, 0x6c44_198c_4a47_5817, 6]);
 }
 
 // FIPS 180-2, appendix B.2
@@ -234,19 +209,11 @@ fn sha256_over_two_blocks(rt: HostRuntime) {
     let mut plain = SHA256_WORDS;
     block_data_order_32(&mut plain, blocks);
     assert!(rt; meter.blocks() == 2 && plain == state);
-    assert!(rt;
-        state
-            == [
-                Wrapping(0x248d6a61),
-                Wrapping(0xd20638b8),
-                Wrapping(0xe5c02693),
-                Wrapping(0x0c3e6039),
-                Wrapping(0xa33ce459),
-                Wrapping(0x64ff2167),
-                Wrapping(0xf6ecedd4),
-                Wrapping(0x19db06c1),
-            ]
-    );
+    let expected = words![
+        0x248d6a61, 0xd20638b8, 0xe5c02693, 0x0c3e6039, 0xa33ce459, 0x64ff2167, 0xf6ecedd4,
+        0x19db06c1
+    ];
+    assert!(rt; state == expected);
 }
 
 // FIPS 180-2, appendix C.1
@@ -276,17 +243,8 @@ fn sha1_over_no_block_and_one(rt: HostRuntime) {
     block[..4].copy_from_slice(b"abc\x80");
     block[63] = 24;
     sha1_block_data_order(&mut state, AsChunks::from_ref(&block));
-    assert!(rt;
-        state
-            == [
-                Wrapping(0xa9993e36),
-                Wrapping(0x4706816a),
-                Wrapping(0xba3e2571),
-                Wrapping(0x7850c26c),
-                Wrapping(0x9cd0d89d),
-                Wrapping(1),
-                Wrapping(2),
-                Wrapping(3),
-            ]
-    );
+    let expected = words![
+        0xa9993e36, 0x4706816a, 0xba3e2571, 0x7850c26c, 0x9cd0d89d, 1, 2, 3
+    ];
+    assert!(rt; state == expected);
 }

@@ -2,6 +2,7 @@
 //! Digests: agreement with other implementations, in whatever pieces, and the texts of Debug.
 
 use crate::messages::{counting_bytes, padded_blocks, takes_all};
+use crate::several::ALGORITHMS;
 use crate::texts::prints;
 use ring::cost::Meter;
 use ring::digest::dynstate::DynState;
@@ -54,46 +55,31 @@ fn finishes(context: Context, message: &[u8], meter: &mut Meter) -> Result<bool,
     )
 }
 
-// The digest of the message in one piece.
-fn in_one_piece(algorithm: Algorithm, message: &[u8]) -> Result<ring::digest::Digest, Unspecified> {
-    let mut context = Context::new(&algorithm);
-    context.update(message);
-    context.finish()
-}
-
 // Whether the message has the digest that others give it, in pieces and whole.
 fn agrees(algorithm: Algorithm, message: &[u8], piece_len: usize) -> Result<bool, Unspecified> {
     let mut meter = Meter::new();
     let mut context = Context::new(&algorithm);
+    let mut in_one_piece = Context::new(&algorithm);
+    in_one_piece.update(message);
     Ok(
         takes_all(&mut context, &algorithm, message, piece_len, &mut meter)
             && finishes(context, message, &mut meter)?
             && is_of_others(algorithm, message, digest(&algorithm, message)?.as_ref())
-            && is_of_others(
-                algorithm,
-                message,
-                in_one_piece(algorithm, message)?.as_ref(),
-            ),
+            && is_of_others(algorithm, message, in_one_piece.finish()?.as_ref()),
     )
 }
 
-fn agrees_at_every_length(algorithm: Algorithm, piece_len: usize) -> Result<bool, Unspecified> {
-    let bytes = counting_bytes::<257>();
-    for len in 0..258 {
-        if !agrees(algorithm, &bytes[..len], piece_len)? {
-            return Ok(false);
-        }
-    }
-    Ok(true)
-}
-
 #[test]
-fn agreement_in_pieces(rt: HostRuntime) {
+fn agreement_in_pieces(rt: HostRuntime) -> Result<(), Unspecified> {
+    let bytes = counting_bytes::<257>();
     for (algorithm, piece_lens) in PIECE_LENS {
         for piece_len in piece_lens {
-            assert!(rt; agrees_at_every_length(algorithm, piece_len) == Ok(true));
+            for len in 0..258 {
+                assert!(rt; agrees(algorithm, &bytes[..len], piece_len)?);
+            }
         }
     }
+    Ok(())
 }
 
 // The block, chaining and output lengths, and the most bytes of a message.
@@ -153,43 +139,25 @@ fn digest_of_text(algorithm: Algorithm) -> Result<ring::digest::Digest, Unspecif
     }
 }
 
-// The texts are those of the original's own tests; the digests are OpenSSL's.
+// What Debug prints of each algorithm, as the original's own tests have it.
+const NAMES: [&str; 5] = ["SHA1", "SHA256", "SHA384", "SHA512", "SHA512_256"];
+
+// The same of its digest, in their form; the digests are OpenSSL's.
+const TEXTS: [&str; 5] = [
+    "SHA1:b7e23ec29af22b0b4e41da31e868d57226121c84",
+    "SHA256:09ca7e4eaa6e8ae9c7d261167129184883644d07dfba7cbfbc4c8a2e08360d5b",
+    "SHA384:1fcdb6059ce05172a26bbe2a3ccc88ed5a8cd5fc53edfd9053304d429296a6da\
+        23b1cd9e5c9ed3bb34f00418a70cdb7e",
+    "SHA512:8710339dcb6814d0d9d2290ef422285c9322b7163951f9a0ca8f883d3305286f\
+        44139aa374848e4174f5aada663027e4548637b6d19894aec4fb6c46a139fbf9",
+    "SHA512_256:11f2c88c04f0a9c3d0970894ad2472505e0bc6e8c7ec46b5211cd1fa3e253e62",
+];
+
 #[test]
 fn debug_texts(rt: HostRuntime) -> Result<(), Fail> {
-    for (algorithm, name, text) in [
-        (
-            SHA1_FOR_LEGACY_USE_ONLY,
-            "SHA1",
-            "SHA1:b7e23ec29af22b0b4e41da31e868d57226121c84",
-        ),
-        (
-            SHA256,
-            "SHA256",
-            "SHA256:09ca7e4eaa6e8ae9c7d261167129184883644d07dfba7cbfbc4c8a2e08360d5b",
-        ),
-        (
-            SHA384,
-            "SHA384",
-            "SHA384:\
-                1fcdb6059ce05172a26bbe2a3ccc88ed5a8cd5fc53edfd9053304d429296a6da\
-                23b1cd9e5c9ed3bb34f00418a70cdb7e",
-        ),
-        (
-            SHA512,
-            "SHA512",
-            "SHA512:\
-                8710339dcb6814d0d9d2290ef422285c9322b7163951f9a0ca8f883d3305286f\
-                44139aa374848e4174f5aada663027e4548637b6d19894aec4fb6c46a139fbf9",
-        ),
-        (
-            SHA512_256,
-            "SHA512_256",
-            "SHA512_256:\
-                11f2c88c04f0a9c3d0970894ad2472505e0bc6e8c7ec46b5211cd1fa3e253e62",
-        ),
-    ] {
-        assert!(rt; prints(rt.alloc(), &algorithm, name)?);
-        assert!(rt; prints(rt.alloc(), &digest_of_text(algorithm)?, text)?);
+    for ((algorithm, name), text) in ALGORITHMS.iter().zip(&NAMES).zip(&TEXTS) {
+        assert!(rt; prints(rt.alloc(), algorithm, name)?);
+        assert!(rt; prints(rt.alloc(), &digest_of_text(*algorithm)?, text)?);
     }
     Ok(())
 }

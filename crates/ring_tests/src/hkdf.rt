@@ -24,8 +24,8 @@ impl KeyType for Length {
     }
 }
 
-// Each algorithm with the bytes of its digests and the most bytes of an output.
-const LENGTHS: [(Algorithm, usize, usize); 4] = [
+/// Each algorithm with the bytes of its digests and the most bytes of an output.
+pub const LENGTHS: [(Algorithm, usize, usize); 4] = [
     (HKDF_SHA1_FOR_LEGACY_USE_ONLY, 20, 5100),
     (HKDF_SHA256, 32, 8160),
     (HKDF_SHA384, 48, 12240),

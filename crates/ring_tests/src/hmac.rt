@@ -11,8 +11,8 @@ use ring::hmac::{
 };
 use std::test::Fail;
 
-// Each algorithm, with pieces of one byte, and of a block, a byte less and a byte more.
-const PIECE_LENS: [(Algorithm, [usize; 4]); 4] = [
+/// Each algorithm, with pieces of one byte, and of a block, a byte less and a byte more.
+pub const PIECE_LENS: [(Algorithm, [usize; 4]); 4] = [
     (HMAC_SHA1_FOR_LEGACY_USE_ONLY, [1, 63, 64, 65]),
     (HMAC_SHA256, [1, 63, 64, 65]),
     (HMAC_SHA384, [1, 127, 128, 129]),
@@ -31,13 +31,6 @@ fn signs(
     Ok(made.as_ref() == expected && copy.as_ref() == expected && meter.blocks() == blocks)
 }
 
-// The tag of the message in one piece.
-fn in_one_piece(key: &Key, message: &[u8]) -> Result<Tag, Unspecified> {
-    let mut context = Context::with_key(key);
-    context.update(message);
-    context.sign()
-}
-
 // Whether the message in pieces has the tag of the whole, for the blocks of its padded bytes and
 // the one of the outer digest.
 fn agrees(key: &Key, message: &[u8], piece_len: usize) -> Result<bool, Unspecified> {
@@ -46,31 +39,27 @@ fn agrees(key: &Key, message: &[u8], piece_len: usize) -> Result<bool, Unspecifi
     let blocks = padded_blocks(&algorithm, message.len()).saturating_add(1);
     let mut meter = Meter::new();
     let mut context = Context::with_key(key);
+    let mut in_one_piece = Context::with_key(key);
+    in_one_piece.update(message);
     Ok(
         takes_all(&mut context, &algorithm, message, piece_len, &mut meter)
             && signs(context, expected.as_ref(), &mut meter, blocks)?
-            && in_one_piece(key, message)?.as_ref() == expected.as_ref(),
+            && in_one_piece.sign()?.as_ref() == expected.as_ref(),
     )
 }
 
-fn agrees_at_every_length(algorithm: Algorithm, piece_len: usize) -> Result<bool, Unspecified> {
-    let key = Key::new(algorithm, &[0x0b; 20])?;
-    let bytes = counting_bytes::<257>();
-    for len in 0..258 {
-        if !agrees(&key, &bytes[..len], piece_len)? {
-            return Ok(false);
-        }
-    }
-    Ok(true)
-}
-
 #[test]
-fn agreement_in_pieces(rt: HostRuntime) {
+fn agreement_in_pieces(rt: HostRuntime) -> Result<(), Unspecified> {
+    let bytes = counting_bytes::<257>();
     for (algorithm, piece_lens) in PIECE_LENS {
+        let key = Key::new(algorithm, &[0x0b; 20])?;
         for piece_len in piece_lens {
-            assert!(rt; agrees_at_every_length(algorithm, piece_len) == Ok(true));
+            for len in 0..258 {
+                assert!(rt; agrees(&key, &bytes[..len], piece_len)?);
+            }
         }
     }
+    Ok(())
 }
 
 // The blocks that the meter has after a signing, where that gives the tag that is expected.

@@ -108,11 +108,7 @@ fn length_of_the_longest_message(rt: HostRuntime) {
 
 // The words after whole blocks, from SHA-512's initial words, high byte first.
 fn sha512_of_blocks(blocks: &[u8]) -> [u8; 64] {
-    let initial = RawContext::new(&Context::new(&SHA512)).words;
-    let mut words = [Wrapping(0u64); 8];
-    for i in 0..8 {
-        words[i] = Wrapping(initial[i]);
-    }
+    let mut words = RawContext::new(&Context::new(&SHA512)).words.map(Wrapping);
     block_data_order_64(&mut words, as_chunks::<u8, 128>(blocks).0);
     let mut bytes = [0; 64];
     for i in 0..8 {

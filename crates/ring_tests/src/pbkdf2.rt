@@ -1,13 +1,13 @@
 // SPDX-License-Identifier: ISC
 //! Keys derived from passwords: values that are verified, and what that costs.
 
+use crate::pbkdf2_each::ALGORITHMS;
 use crate::texts::is_hex_of;
 use ring::cost::Meter;
 use ring::digest::{SHA256, digest};
 use ring::error::Unspecified;
 use ring::pbkdf2::{
-    Algorithm, PBKDF2_HMAC_SHA1, PBKDF2_HMAC_SHA256, PBKDF2_HMAC_SHA384, PBKDF2_HMAC_SHA512,
-    derive, derive_counted, derive_in, verify_counted, verify_in,
+    Algorithm, PBKDF2_HMAC_SHA1, derive, derive_counted, derive_in, verify_counted, verify_in,
 };
 use ring::width::AVX2;
 use std::num::NonZeroU32;
@@ -67,23 +67,11 @@ const LONG: usize = 700;
 
 // From Python: for each algorithm the digest by SHA-256 of `hashlib.pbkdf2_hmac`'s 700 bytes, of
 // three iterations.
-const OF_LONG: [(Algorithm, &str); 4] = [
-    (
-        PBKDF2_HMAC_SHA1,
-        "e3dcdb27116216d6bf382e7b4aa94e3d2da42fe4b29adf2855b4c068965b2770",
-    ),
-    (
-        PBKDF2_HMAC_SHA256,
-        "2075cffdeda9e8f5dc42449ab51881cb5e3d913517a5ee656d3787411ed5f7f7",
-    ),
-    (
-        PBKDF2_HMAC_SHA384,
-        "9654562fd446376e219b76bbcde953b2ca36123f09ee70de937c157c794025ab",
-    ),
-    (
-        PBKDF2_HMAC_SHA512,
-        "5aa40e3591edf3f38e8b1db73fe5abfcdb3bd4cee002d59aa24ff755654c1fc2",
-    ),
+const OF_LONG: [&str; 4] = [
+    "e3dcdb27116216d6bf382e7b4aa94e3d2da42fe4b29adf2855b4c068965b2770",
+    "2075cffdeda9e8f5dc42449ab51881cb5e3d913517a5ee656d3787411ed5f7f7",
+    "9654562fd446376e219b76bbcde953b2ca36123f09ee70de937c157c794025ab",
+    "5aa40e3591edf3f38e8b1db73fe5abfcdb3bd4cee002d59aa24ff755654c1fc2",
 ];
 
 // Whether a long value is verified over wide vectors.
@@ -107,7 +95,7 @@ fn is_told_apart(algorithm: Algorithm, iterations: NonZeroU32, value: &[u8; LONG
 #[test]
 fn long_values_over_vectors_of_both_widths(rt: HostRuntime) -> Result<(), Unspecified> {
     let three = NonZeroU32::new(3).ok_or(Unspecified)?;
-    for (algorithm, expected) in OF_LONG {
+    for (algorithm, expected) in ALGORITHMS.into_iter().zip(&OF_LONG) {
         let mut value = [0; LONG];
         derive(algorithm, three, SALT, SECRET, &mut value)?;
         let mut wide_value = [0; LONG];

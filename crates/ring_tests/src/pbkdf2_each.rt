@@ -15,7 +15,8 @@ use ring::pbkdf2::{
 use ring::width::AVX2;
 use std::num::NonZeroU32;
 
-const ALGORITHMS: [Algorithm; 4] = [
+/// The four algorithms.
+pub const ALGORITHMS: [Algorithm; 4] = [
     PBKDF2_HMAC_SHA1,
     PBKDF2_HMAC_SHA256,
     PBKDF2_HMAC_SHA384,
@@ -55,52 +56,15 @@ const OF_100_BYTES: [&str; 4] = [
     "5845bfecb77a64dbba506fe2ec5a48a460f7781246e05037dc55987c5e138cf1",
 ];
 
-// Secrets of no byte, of a block and of more, each a front of the bytes.
-fn secrets_of(bytes: &[u8; 257]) -> [&[u8]; MOST] {
-    [
-        &bytes[..0],
-        &bytes[..200],
-        &bytes[..64],
-        &bytes[..3],
-        &bytes[..65],
-        &bytes[..128],
-        &bytes[..129],
-        &bytes[..17],
-        &bytes[..257],
-        &bytes[..1],
-        &bytes[..63],
-        &bytes[..127],
-        &bytes[..66],
-    ]
-}
+// Lengths of secrets of no byte, of a block and of more.
+const SECRET_LENS: [usize; MOST] = [0, 200, 64, 3, 65, 128, 129, 17, 257, 1, 63, 127, 66];
 
-// Salts whose first iterates differ in their blocks.
-fn salts_of(bytes: &[u8; 257]) -> [&[u8]; MOST] {
-    [
-        &bytes[..8],
-        &bytes[..0],
-        &bytes[..51],
-        &bytes[..52],
-        &bytes[..60],
-        &bytes[..111],
-        &bytes[..8],
-        &bytes[..130],
-        &bytes[..257],
-        &bytes[..16],
-        &bytes[..55],
-        &bytes[..119],
-        &bytes[..4],
-    ]
-}
+// Lengths of salts whose first iterates differ in their blocks.
+const SALT_LENS: [usize; MOST] = [8, 0, 51, 52, 60, 111, 8, 130, 257, 16, 55, 119, 4];
 
-// Whether the keys are the same.
-fn are_same<const N: usize>(keys: &[[u8; N]; MOST], others: &[[u8; N]; MOST]) -> bool {
-    for (key, other) in keys.iter().zip(others) {
-        if *key != *other {
-            return false;
-        }
-    }
-    true
+// The fronts of the bytes that have these lengths.
+fn fronts(bytes: &[u8; 257], lens: [usize; MOST]) -> [&[u8]; MOST] {
+    lens.map(|len| &bytes[..len.min(257)])
 }
 
 // The keys of the first secrets and salts, and zeros after them, over vectors of both widths.
@@ -109,36 +73,32 @@ fn keys_of<const N: usize>(
     count: usize,
 ) -> Result<[[u8; N]; MOST], Unspecified> {
     let bytes = counting_bytes::<257>();
-    let secrets = secrets_of(&bytes);
-    let salts = salts_of(&bytes);
+    let secrets = fronts(&bytes, SECRET_LENS);
+    let salts = fronts(&bytes, SALT_LENS);
     let three = NonZeroU32::new(3).ok_or(Unspecified)?;
     let count = count.min(MOST);
+    let (salts, secrets) = (&salts[..count], &secrets[..count]);
     let mut keys = [[0; N]; MOST];
-    derive_each(
-        algorithm,
-        three,
-        &salts[..count],
-        &secrets[..count],
-        &mut keys[..count],
-    )?;
-    let mut wide_keys = [[0; N]; MOST];
+    derive_each(algorithm, three, salts, secrets, &mut keys[..count])?;
+    let mut wide = [[0; N]; MOST];
+    let mut meter = Meter::new();
     derive_each_in::<AVX2, N>(
         algorithm,
         three,
-        &salts[..count],
-        &secrets[..count],
-        &mut wide_keys[..count],
-        &mut Meter::new(),
+        salts,
+        secrets,
+        &mut wide[..count],
+        &mut meter,
     )?;
-    if are_same(&keys, &wide_keys) {
+    if keys == wide {
         Ok(keys)
     } else {
         Err(Unspecified)
     }
 }
 
-// The digest of the keys one after another.
-fn digest_of<const N: usize>(keys: &[[u8; N]; MOST]) -> Result<Digest, Unspecified> {
+/// The digest of the keys one after another.
+pub fn digest_of<const N: usize>(keys: &[[u8; N]]) -> Result<Digest, Unspecified> {
     let mut context = Context::new(&SHA256);
     for key in keys {
         context.update(key);
@@ -241,6 +201,8 @@ fn answers_for<const N: usize>(
     count: usize,
 ) -> Result<([bool; MOST], u128, u128), Unspecified> {
     let bytes = counting_bytes::<257>();
+    let secrets = fronts(&bytes, SECRET_LENS);
+    let salts = fronts(&bytes, SALT_LENS);
     let three = NonZeroU32::new(3).ok_or(Unspecified)?;
     let count = count.min(MOST);
     let mut matches = [false; MOST];
@@ -248,8 +210,8 @@ fn answers_for<const N: usize>(
     verify_each_counted(
         algorithm,
         three,
-        &salts_of(&bytes)[..count],
-        &secrets_of(&bytes)[..count],
+        &salts[..count],
+        &secrets[..count],
         &values[..count],
         &mut matches[..count],
         &mut meter,
@@ -259,8 +221,8 @@ fn answers_for<const N: usize>(
     verify_each_in::<AVX2, N>(
         algorithm,
         three,
-        &salts_of(&bytes)[..count],
-        &secrets_of(&bytes)[..count],
+        &salts[..count],
+        &secrets[..count],
         &values[..count],
         &mut wide_matches[..count],
         &mut wide_meter,
@@ -282,6 +244,11 @@ fn tells_one_apart<const N: usize>(
     count: usize,
 ) -> Result<bool, Unspecified> {
     let (_, blocks, pairs) = answers_for(algorithm, values, count)?;
+    let mut matches = [false; MOST];
+    matches[..count.min(MOST)].fill(true);
+    if let Some(matched) = matches.get_mut(wrong) {
+        *matched = false;
+    }
     for place in [0, N.saturating_sub(1)] {
         let mut others = *values;
         if let Some(value) = others.get_mut(wrong) {
@@ -289,14 +256,8 @@ fn tells_one_apart<const N: usize>(
                 *byte ^= 0x80;
             }
         }
-        let (matches, others_blocks, others_pairs) = answers_for(algorithm, &others, count)?;
-        if others_blocks != blocks || others_pairs != pairs {
+        if answers_for(algorithm, &others, count)? != (matches, blocks, pairs) {
             return Ok(false);
-        }
-        for (i, matched) in matches.iter().enumerate() {
-            if *matched != (i < count && i != wrong) {
-                return Ok(false);
-            }
         }
     }
     Ok(true)

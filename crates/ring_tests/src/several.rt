@@ -75,14 +75,10 @@ fn agrees_at_every_length(algorithm: Algorithm, apart: usize) -> Result<bool, Un
     let bytes = counting_bytes::<257>();
     let mut digests = [digest(&algorithm, &[])?; 4];
     for len in 0..LENS {
-        let second = len.wrapping_add(apart);
-        let third = second.wrapping_add(apart);
-        let messages = [
-            front(&bytes, len),
-            front(&bytes, second),
-            front(&bytes, third),
-            front(&bytes, third.wrapping_add(apart)),
-        ];
+        let messages = [0, 1, 2, 3].map(|place: usize| front(
+            &bytes,
+            place.wrapping_mul(apart).wrapping_add(len),
+        ));
         if !agrees(algorithm, &messages, &mut digests)? {
             return Ok(false);
         }
@@ -99,30 +95,14 @@ fn agreement_side_by_side(rt: HostRuntime) {
     }
 }
 
-/// Messages whose last blocks differ in number and in what they hold.
+// Lengths of messages whose last blocks differ in number and in what they hold.
+const MIXED_LENS: [usize; MOST] = [
+    0, 200, 64, 3, 55, 56, 119, 120, 257, 128, 111, 112, 239, 240, 1, 63, 127, 129, 65, 192,
+];
+
+/// The messages of these lengths.
 pub fn mixed(bytes: &[u8; 257]) -> [&[u8]; MOST] {
-    [
-        front(bytes, 0),
-        front(bytes, 200),
-        front(bytes, 64),
-        front(bytes, 3),
-        front(bytes, 55),
-        front(bytes, 56),
-        front(bytes, 119),
-        front(bytes, 120),
-        front(bytes, 257),
-        front(bytes, 128),
-        front(bytes, 111),
-        front(bytes, 112),
-        front(bytes, 239),
-        front(bytes, 240),
-        front(bytes, 1),
-        front(bytes, 63),
-        front(bytes, 127),
-        front(bytes, 129),
-        front(bytes, 65),
-        front(bytes, 192),
-    ]
+    MIXED_LENS.map(|len| front(bytes, len))
 }
 
 // Whether the first of them get the digests that others give them.

@@ -38,12 +38,7 @@ fn contexts_of(
 
 // The messages past the cut.
 fn rests_of<'m>(messages: &[&'m [u8]; MOST], cut: usize) -> [&'m [u8]; MOST] {
-    let mut rests: [&'m [u8]; MOST] = [&[]; MOST];
-    for place in 0..MOST {
-        let message = messages[place];
-        rests[place] = &message[cut.min(message.len())..];
-    }
-    rests
+    messages.map(|message| &message[cut.min(message.len())..])
 }
 
 // Whether each context gives the digest that others give the message at its place.

@@ -1,9 +1,7 @@
 // SPDX-License-Identifier: ISC
 //! Heaps of every size: a store is filled until memory is wanting, and then asked for every name.
 
-ghost use Rattle.std.specs.Prelude.{◌<◌};
-
-use crate::store::names::{DB_SALT, LONGEST_NAME, WRONG, iterations, told};
+use crate::store::names::{DB_SALT, WRONG, iterations, name_of, told};
 use linked_list_allocator::LocalHeap;
 use ring_store::{PasswordStore, Reply, StoreError};
 use std::alloc::{AllocError, Global};
@@ -16,17 +14,10 @@ const NAMES: usize = 64;
 
 const MEMORY: Reply = Reply::Refused(StoreError::Memory);
 
-// The name of a number, which has one byte more than the number.
-fn name_of(number: usize) -> &'static [u8]
-    requires { number < 64 }
-{
-    &LONGEST_NAME[..number + 1]
-}
-
 // Whether a store verifies the names whose password is set, and no others, and no other password.
 fn answers_as(store: &PasswordStore<&LocalHeap>, is_set: &[bool; NAMES]) -> bool {
     for number in 0..NAMES {
-        let name = name_of(number);
+        let name = name_of(number + 1);
         let right = store.check_password(name, name).is_ok();
         if right != is_set[number] || told(store.check_password(name, b"another")) != WRONG {
             return false;
@@ -39,7 +30,7 @@ fn answers_as(store: &PasswordStore<&LocalHeap>, is_set: &[bool; NAMES]) -> bool
 // another reason.
 fn fill(store: &mut PasswordStore<&LocalHeap>, is_set: &mut [bool; NAMES]) -> Option<usize> {
     for number in 0..NAMES {
-        let name = name_of(number);
+        let name = name_of(number + 1);
         match told(store.set_password(name, name)) {
             Reply::Done => is_set[number] = true,
             MEMORY => return Some(number),

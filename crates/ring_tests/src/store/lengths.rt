@@ -1,14 +1,9 @@
 // SPDX-License-Identifier: ISC
 //! Names of each length, which get memory wherever there is enough.
 
-use crate::store::names::{LONGEST_NAME, iterations, new_store};
+use crate::store::names::{iterations, name_of, new_store};
 use ring_store::{LoadError, PasswordStore, StoreError};
 use std::alloc::Global;
-
-// The name of each length, from 1 to 64 bytes.
-fn name_of(len: usize) -> &'static [u8] {
-    LONGEST_NAME.get(..len).unwrap_or(&LONGEST_NAME)
-}
 
 // A store in which the password of each name is set to the name.
 fn store_of_all(alloc: Global) -> Result<PasswordStore, StoreError> {
@@ -34,14 +29,10 @@ fn restored(alloc: Global, from: &PasswordStore) -> Result<PasswordStore, StoreE
 
 // Whether a store verifies each name, and has no other.
 fn has_all(store: &PasswordStore) -> bool {
-    for len in 1..65 {
-        if store.check_password(name_of(len), name_of(len)).is_err()
-            || store.iterations_of(name_of(len)) != Some(iterations(1))
-        {
-            return false;
-        }
-    }
-    store.len() == 64
+    (1..65).all(|len| {
+        store.check_password(name_of(len), name_of(len)).is_ok()
+            && store.iterations_of(name_of(len)) == Some(iterations(1))
+    }) && store.len() == 64
 }
 
 // Whether the text of a store is read with each name.

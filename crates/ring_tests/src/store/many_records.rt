@@ -39,12 +39,7 @@ fn has_record(store: &PasswordStore, number: u32) -> bool {
 
 // Whether a store has each record that was restored, and no other.
 fn has_many(store: &PasswordStore) -> bool {
-    for number in 0..MANY {
-        if !has_record(store, number) {
-            return false;
-        }
-    }
-    store.len() == MANY as usize
+    (0..MANY).all(|number| has_record(store, number)) && store.len() == MANY as usize
 }
 
 // The text of a store, and how long it took.

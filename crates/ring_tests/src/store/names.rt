@@ -21,6 +21,11 @@ pub const LONGEST_NAME: [u8; 64] = [b'n'; 64];
 
 pub const WRONG: Reply = Reply::Refused(StoreError::WrongUsernameOrPassword);
 
+// The name of each length, from 1 to 64 bytes.
+pub fn name_of(len: usize) -> &'static [u8] {
+    LONGEST_NAME.get(..len).unwrap_or(&LONGEST_NAME)
+}
+
 pub fn iterations(n: u32) -> NonZeroU32 {
     NonZeroU32::new(n).unwrap_or(NonZeroU32::MIN)
 }
@@ -40,15 +45,11 @@ pub fn new_store(alloc: Global, count: u32) -> PasswordStore {
     PasswordStore::new(alloc, DB_SALT, iterations(count))
 }
 
-// Whether a name's password is set, and set again.
-fn sets_twice(mut store: PasswordStore) -> bool {
-    store.set_password(b"alice", PASSWORD).is_ok()
-        && store.set_password(b"alice", b"another").is_ok()
-}
-
 #[test]
 fn set_password_succeeds(rt: HostRuntime) {
-    assert!(rt; sets_twice(new_store(rt.alloc(), 1)));
+    let mut store = new_store(rt.alloc(), 1);
+    assert!(rt; store.set_password(b"alice", PASSWORD).is_ok());
+    assert!(rt; store.set_password(b"alice", b"another").is_ok());
 }
 
 // The blocks and the byte pairs of setting a password.
@@ -58,16 +59,13 @@ fn cost_of_set(store: &mut PasswordStore, name: &[u8]) -> (u128, u128) {
     (meter.blocks(), meter.byte_pairs())
 }
 
-// Whether a new name costs 2,002 blocks, and the same name once it is known as many.
-fn sets_at_one_cost(mut store: PasswordStore) -> bool {
-    cost_of_set(&mut store, b"alice") == (2002, 0)
-        && cost_of_set(&mut store, b"alice") == (2002, 0)
-        && cost_of_set(&mut store, &LONG_NAME) == (0, 0)
-}
-
+// A new name costs 2,002 blocks, and the same name once it is known as many.
 #[test]
 fn set_password_costs_one_derivation(rt: HostRuntime) {
-    assert!(rt; sets_at_one_cost(new_store(rt.alloc(), 1000)));
+    let mut store = new_store(rt.alloc(), 1000);
+    assert!(rt; cost_of_set(&mut store, b"alice") == (2002, 0));
+    assert!(rt; cost_of_set(&mut store, b"alice") == (2002, 0));
+    assert!(rt; cost_of_set(&mut store, &LONG_NAME) == (0, 0));
 }
 
 // How a wrong password is refused, and the blocks and the byte pairs that it cost.
@@ -77,17 +75,14 @@ fn refused_at(store: &mut PasswordStore, name: &[u8]) -> (Reply, u128, u128) {
     (told(answer), meter.blocks(), meter.byte_pairs())
 }
 
-// Whether a known name and another one cost 2,002 blocks and 32 byte pairs each.
-fn costs_the_same(mut store: PasswordStore) -> bool {
-    store.set_password(b"alice", PASSWORD).is_ok()
-        && refused_at(&mut store, b"alice") == (WRONG, 2002, 32)
-        && refused_at(&mut store, b"nobod") == (WRONG, 2002, 32)
-}
-
-// The blocks of 1,000 iterations: two of the key, two of the first and two of each other one.
+// A known name and another one cost 2,002 blocks and 32 byte pairs each. The blocks of 1,000
+// iterations: two of the key, two of the first and two of each other one.
 #[test]
 fn unknown_name_costs_what_a_known_one_does(rt: HostRuntime) {
-    assert!(rt; costs_the_same(new_store(rt.alloc(), 1000)));
+    let mut store = new_store(rt.alloc(), 1000);
+    assert!(rt; store.set_password(b"alice", PASSWORD).is_ok());
+    assert!(rt; refused_at(&mut store, b"alice") == (WRONG, 2002, 32));
+    assert!(rt; refused_at(&mut store, b"nobod") == (WRONG, 2002, 32));
 }
 
 // Sets the password of a name, of four bytes, to one byte.

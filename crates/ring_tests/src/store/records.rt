@@ -61,20 +61,20 @@ fn checked(store: &PasswordStore, name: &[u8], password: &[u8]) -> (bool, u128, 
     (answer.is_ok(), meter.blocks(), meter.byte_pairs())
 }
 
-// Whether a record that is restored answers, and is gone once it is removed.
-fn restores_and_removes(mut store: PasswordStore) -> Result<bool, StoreError> {
-    store.restore(b"alice", iterations(1000), CREDENTIAL)?;
-    let is_there = store.len() == 1 && store.name_at(0) == Some(b"alice") && !store.is_empty();
-    let answers = checked(&store, b"alice", PASSWORD) == (true, 2002, 32)
-        && checked(&store, b"alice", b"another") == (false, 2002, 32)
-        && told(store.check_password(b"nobody", PASSWORD)) == WRONG;
-    let is_gone = store.remove(b"alice") && !store.remove(b"alice") && store.is_empty();
-    Ok(is_there && answers && is_gone && store.record(b"alice").is_none())
-}
-
 #[test]
 fn record_is_restored_and_removed(rt: HostRuntime) {
-    assert!(rt; restores_and_removes(new_store(rt.alloc(), 2000)) == Ok(true));
+    let mut store = new_store(rt.alloc(), 2000);
+    assert!(rt;
+        store
+            .restore(b"alice", iterations(1000), CREDENTIAL)
+            .is_ok()
+    );
+    assert!(rt; store.len() == 1 && store.name_at(0) == Some(b"alice") && !store.is_empty());
+    assert!(rt; checked(&store, b"alice", PASSWORD) == (true, 2002, 32));
+    assert!(rt; checked(&store, b"alice", b"another") == (false, 2002, 32));
+    assert!(rt; told(store.check_password(b"nobody", PASSWORD)) == WRONG);
+    assert!(rt; store.remove(b"alice") && !store.remove(b"alice") && store.is_empty());
+    assert!(rt; store.record(b"alice").is_none());
 }
 
 // Whether a store has the names of the rows in their order, with these passwords and no others.

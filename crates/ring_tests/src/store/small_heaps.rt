@@ -29,24 +29,6 @@ fn refuses_new_name(store: &mut PasswordStore<&LocalHeap>) -> bool {
         && store.iterations_of(b"carol").is_none()
 }
 
-// Whether the password of a known name is set.
-fn sets_known_name(store: &mut PasswordStore<&LocalHeap>) -> bool {
-    store.set_password(b"carol", b"b").is_ok() && store.verify_password(b"carol", b"b").is_ok()
-}
-
-// Whether the credential of a known name is made anew for other iterations.
-fn raises_known_name(store: &mut PasswordStore<&LocalHeap>) -> bool {
-    store.set_iterations(iterations(2000));
-    store.verify_password(b"carol", b"b").is_ok()
-}
-
-// Whether of a list of commands a new name alone is refused.
-fn refuses_new_name_in_list(store: &mut PasswordStore<&LocalHeap>) -> bool {
-    let mut replies = [Reply::Done; 4];
-    store.run(&COMMANDS, &mut replies);
-    replies == [MEMORY, Reply::Done, Reply::Done, found(2000)]
-}
-
 // Whether a new name is refused while the heap is full, and then has a record.
 fn adds_name_after_refusal(
     heap: &LocalHeap,
@@ -64,7 +46,15 @@ fn serves_known_name(
     store: &mut PasswordStore<&LocalHeap>,
 ) -> Result<bool, AllocError> {
     let _full = fill(heap)?;
-    Ok(sets_known_name(store) && raises_known_name(store) && refuses_new_name_in_list(store))
+    let sets = store.set_password(b"carol", b"b").is_ok();
+    let verifies = store.verify_password(b"carol", b"b").is_ok();
+    // The credential is made anew for other iterations.
+    store.set_iterations(iterations(2000));
+    let raises = store.verify_password(b"carol", b"b").is_ok();
+    let mut replies = [Reply::Done; 4];
+    store.run(&COMMANDS, &mut replies);
+    let refuses_new_name = replies == [MEMORY, Reply::Done, Reply::Done, found(2000)];
+    Ok(sets && verifies && raises && refuses_new_name)
 }
 
 // Whether a store on a heap of this size takes memory for new names alone.

@@ -1,8 +1,10 @@
 // SPDX-License-Identifier: ISC
 //! The callers of `ring_examples` over vectors of 256 bits, each against a value from outside.
 
+use crate::examples::{OF_SHORT, SHORT};
+use crate::pbkdf2_each::digest_of;
 use crate::texts::is_hex_of;
-use ring::digest::{Context, Digest, SHA256, digest};
+use ring::digest::{SHA256, digest};
 use ring::error::Unspecified;
 use ring_examples::wide::{
     digests_of_eight, has_a_digest_each, long_key_of, stored_of_eight, verify_eight,
@@ -10,16 +12,11 @@ use ring_examples::wide::{
 };
 use std::num::NonZeroU32;
 
-// FIPS 180-4's own message of one block, and NIST's digest of it.
-const MESSAGE: &[u8] = b"abc";
-
-const OF_MESSAGE: &str = "ba7816bf8f01cfea414140de5dae2223b00361a396177a9cb410ff61f20015ad";
-
 #[test]
 fn digests_of_eight_messages(rt: HostRuntime) -> Result<(), Unspecified> {
-    let digests = digests_of_eight(&SHA256, &[MESSAGE; 8])?;
+    let digests = digests_of_eight(&SHA256, &[SHORT; 8])?;
     for made in &digests {
-        assert!(rt; is_hex_of(OF_MESSAGE, made.as_ref()));
+        assert!(rt; is_hex_of(OF_SHORT, made.as_ref()));
     }
     Ok(())
 }
@@ -27,10 +24,10 @@ fn digests_of_eight_messages(rt: HostRuntime) -> Result<(), Unspecified> {
 #[test]
 fn a_list_of_nine_digests(rt: HostRuntime) -> Result<(), Unspecified> {
     let mut list = [0; 288];
-    write_list(&[MESSAGE; 9], &mut list)?;
-    assert!(rt; is_hex_of(OF_MESSAGE, &list[..32]) && list[256..] == list[..32]);
+    write_list(&[SHORT; 9], &mut list)?;
+    assert!(rt; is_hex_of(OF_SHORT, &list[..32]) && list[256..] == list[..32]);
     assert!(rt; has_a_digest_each(9, 288) && !has_a_digest_each(9, 287));
-    assert!(rt; write_list(&[MESSAGE; 9], &mut [0; 287]).is_err());
+    assert!(rt; write_list(&[SHORT; 9], &mut [0; 287]).is_err());
     Ok(())
 }
 
@@ -59,15 +56,6 @@ const PASSWORDS: [&[u8]; 8] = [
 // From Python: the digest by SHA-256 of what `hashlib.pbkdf2_hmac` derives of these, with one
 // iteration, one after another.
 const OF_STORED: &str = "d37ce0e64d0d22ae75338cc2cde3f36705dfb328ddac60426fc4868e9eb19e87";
-
-// The digest of all of them, one after another.
-fn digest_of(stored: &[[u8; 32]; 8]) -> Result<Digest, Unspecified> {
-    let mut context = Context::new(&SHA256);
-    for one in stored {
-        context.update(one);
-    }
-    context.finish()
-}
 
 #[test]
 fn eight_passwords(rt: HostRuntime) -> Result<(), Unspecified> {

@@ -77,10 +77,8 @@ fn fills_a_row_under_a_new_salt(rt: HostRuntime) {
 #[test]
 fn rehashes(rt: HostRuntime) -> Result<(), Fail> {
     let expected = b"pbkdf2:sha1:2000$saltsalt$0fea112f98c2e79b8d66e2a29f4abea03a2b3a15";
-    let (fewer, more) = (
-        NonZeroU32::new(1_000).unwrap(),
-        NonZeroU32::new(2_000).unwrap(),
-    );
+    let fewer = NonZeroU32::new(1_000).unwrap();
+    let more = NonZeroU32::new(2_000).unwrap();
     let (same, other) = (Scheme::DjangoSha256, Scheme::WerkzeugSha1);
     let mut row = [0; MAX_TEXT_LEN];
     let current = rehash_at_login(BY_DJANGO, PASSWORD, 1_000, same, b"salt", fewer, &mut row)?;

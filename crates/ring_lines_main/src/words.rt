@@ -53,10 +53,8 @@ pub fn text_in(alloc: Global, word: &str) -> Result<Vec<u8>, Fault> {
 
 /// An iteration count, or a step in seconds.
 pub fn count_in(word: &str) -> Result<NonZeroU32, Fault> {
-    match word.parse::<u32>() {
-        Ok(count) => NonZeroU32::new(count).ok_or(Fault::BadLine),
-        Err(_) => Err(Fault::BadLine),
-    }
+    let count = word.parse::<u32>().map_err(|_| Fault::BadLine)?;
+    NonZeroU32::new(count).ok_or(Fault::BadLine)
 }
 
 /// The bytes as a line: themselves if they are UTF-8, as those of each text are whose salt is.
@@ -85,18 +83,12 @@ pub fn digits_of(alloc: Global, bytes: &[u8]) -> Result<String, Fault> {
 
 /// A number of 64 bits.
 pub fn number_in(word: &str) -> Result<u64, Fault> {
-    match word.parse::<u64>() {
-        Ok(number) => Ok(number),
-        Err(_) => Err(Fault::BadLine),
-    }
+    word.parse::<u64>().map_err(|_| Fault::BadLine)
 }
 
 /// How many counters or steps are tried: one of 16 bits.
 pub fn short_in(word: &str) -> Result<u32, Fault> {
-    match word.parse::<u16>() {
-        Ok(number) => Ok(number as u32),
-        Err(_) => Err(Fault::BadLine),
-    }
+    Ok(word.parse::<u16>().map_err(|_| Fault::BadLine)? as u32)
 }
 
 /// The algorithm of a token's signature.

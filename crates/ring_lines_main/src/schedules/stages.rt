@@ -116,21 +116,12 @@ fn early_output(alloc: Global, inputs: &Inputs, wanted: Wanted) -> Result<Vec<u8
     let hash = inputs.hash;
     let hello = TranscriptHash::new(ClientHello, hash, inputs.digest.as_slice())?;
     let early = early_of(hash, &inputs.psk)?;
-    match wanted.name {
-        "c-e-traffic" => {
-            traffic_output(
-                alloc,
-                hash,
-                early.client_early_traffic_secret(&hello),
-                wanted.output,
-            )
-        }
-        _ => exporter_output(
-            alloc,
-            &early.early_exporter_master_secret(&hello),
-            wanted.output,
-        ),
+    if wanted.name == "c-e-traffic" {
+        let traffic = early.client_early_traffic_secret(&hello);
+        return traffic_output(alloc, hash, traffic, wanted.output);
     }
+    let exporter = early.early_exporter_master_secret(&hello);
+    exporter_output(alloc, &exporter, wanted.output)
 }
 
 /// Of a secret of the second stage.
@@ -150,21 +141,15 @@ fn master_output(alloc: Global, inputs: &Inputs, wanted: Wanted) -> Result<Vec<u
     let hash = inputs.hash;
     let to_server = TranscriptHash::new(ServerFinished, hash, inputs.digest.as_slice())?;
     let master = master_of(hash, &inputs.psk, &inputs.shared)?;
-    match wanted.name {
-        "c-ap-traffic" => {
-            let traffic = master.client_application_traffic_secret(&to_server);
-            traffic_output(alloc, hash, traffic, wanted.output)
+    let traffic = match wanted.name {
+        "c-ap-traffic" => master.client_application_traffic_secret(&to_server),
+        "s-ap-traffic" => master.server_application_traffic_secret(&to_server),
+        _ => {
+            let exporter = master.exporter_master_secret(&to_server);
+            return exporter_output(alloc, &exporter, wanted.output);
         }
-        "s-ap-traffic" => {
-            let traffic = master.server_application_traffic_secret(&to_server);
-            traffic_output(alloc, hash, traffic, wanted.output)
-        }
-        _ => exporter_output(
-            alloc,
-            &master.exporter_master_secret(&to_server),
-            wanted.output,
-        ),
-    }
+    };
+    traffic_output(alloc, hash, traffic, wanted.output)
 }
 
 /// Of the resumption's secret.
@@ -172,9 +157,6 @@ fn last_output(alloc: Global, inputs: &Inputs, wanted: Wanted) -> Result<Vec<u8>
     let hash = inputs.hash;
     let to_client = TranscriptHash::new(ClientFinished, hash, inputs.digest.as_slice())?;
     let master = master_of(hash, &inputs.psk, &inputs.shared)?;
-    resumption_output(
-        alloc,
-        &master.into_resumption_master_secret(&to_client),
-        wanted.output,
-    )
+    let resumption = master.into_resumption_master_secret(&to_client);
+    resumption_output(alloc, &resumption, wanted.output)
 }

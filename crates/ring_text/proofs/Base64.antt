@@ -2,13 +2,12 @@
 -- Base64: how long it is, the bytes that do not stand in it, and that a text is of one list of
 -- bytes.
 use Rattle.std.proofs.Common.{◌≡◌, ◌≤◌, ◌<◌, ◌==◌, ◌+◌, ◌*◌, ◌/◌, ◌%◌, ◌∷◌, ◌∙◌, ℕ, suc}
-use Rattle.std.proofs.Common.{Bool, true, false, List, [], ap, arith, drop, inl, inr, length}
-use Rattle.std.proofs.Common.{subst, sym, take}
+use Rattle.std.proofs.Common.{Bool, true, false, List, [], ap, arith, drop, length}
+use Rattle.std.proofs.Common.{refl, subst, sym, take}
 use Rattle.std.specs.Prelude.{Err, Ok, Result, not, slice_index}
-use Rattle.std.proofs.lemmas.Bool.{cases_lt, not-true}
+use Rattle.std.proofs.lemmas.Bool.{cases_lt}
 use Rattle.std.proofs.lemmas.List.{get_or-drop, length-append, length-replicate}
 use Rattle.std.proofs.lemmas.List.{take-append-drop}
-use Rattle.std.proofs.lemmas.List.Elements.{All-cons, All-nil}
 use Rattle.hex.specs.Hex.{IsBytes}
 use Rattle.base64.proofs.EngineFacts.{decode_of-encode_of, front_bytes}
 use Rattle.base64.proofs.RoundTrip.{length-encode_symbols}
@@ -17,7 +16,7 @@ use Rattle.base64.specs.GeneralPurpose.{IsConsistent, decode_of, encode_of, enco
 use Rattle.base64.specs.Rfc4648.{encode, encode_symbols, encoded_size, padding_len}
 use Rattle.base64.specs.Tables.{all_below}
 use Rattle.base64.specs.declared.engine.general_purpose.GeneralPurpose.{GeneralPurpose}
-use Rattle.ring_text.proofs.Cuts.{NotAt}
+use Rattle.ring_text.proofs.Cuts.{IsWithout-lacks, lacks}
 use Rattle.ring_text.specs.Cut.{IsWithout}
 
 pub length-encode : (t m : List ℕ) (pad : ℕ) (padding : Bool)
@@ -36,64 +35,42 @@ length-encode_of e m = length-encode e.encode_table m e.padding.value e.config.e
 -- what was written fits
 pub fitting : {E : Type 0} {r : Result ℕ E} {error : E} {n room len : ℕ} → (n ≤ room → r ≡ Ok n)
     → (room < n → r ≡ Err error) → r ≡ Ok len → (len ≡ n) × (n ≤ room)
-fitting {n} {room} fits too_small ok =
-    elim (cases_lt room n) [
-      | inl less ↦ (let no = too_small less in cc (no, ok))
-      | inr few ↦ (let is = fits few in (cc (is, ok), few))
-    ]
+fitting {n} {room} fits too_small ok = grind (arith, cases_lt room n)
 
 -- what was not written does not fit
 pub no_fitting : {E : Type 0} {r : Result ℕ E} {error : E} {n room : ℕ} → (n ≤ room → r ≡ Ok n)
     → r ≡ Err error → room < n
-no_fitting {n} {room} fits err =
-    elim (cases_lt room n) [
-      | inl less ↦ less
-      | inr few ↦ (let is = fits few in cc (is, err))
-    ]
+no_fitting {n} {room} fits err = grind (arith, cases_lt room n)
 
 -- no symbol of the table is the byte
 abbrev pub is_apart : List ℕ → ℕ → ℕ → Bool
 is_apart t end k = not (slice_index t k == end)
 
 module _ (enc : List ℕ) (end : ℕ) (apart : all_below (is_apart enc end) 64 ≡ true) where
-  symbol_apart : (k : ℕ) → k < 64 → NotAt end (slice_index enc k)
-  symbol_apart k below =
-      not-true (slice_index enc k == end) (all_below_at (is_apart enc end) 64 k apart below)
+  symbol_apart : (k : ℕ) → k < 64 → is_apart enc end k ≡ true
+  symbol_apart k below = all_below_at (is_apart enc end) 64 k apart below
 
-  pub IsWithout-symbols : (xs : List ℕ) → IsBytes xs → IsWithout end (encode_symbols enc xs)
+  symbols_apart : (xs : List ℕ) → IsBytes xs → lacks end (encode_symbols enc xs) ≡ true
   unfolding encode_symbols
-  IsWithout-symbols [] h = All-nil (NotAt end)
-  IsWithout-symbols (a ∷ []) h =
+  symbols_apart [] h = refl
+  symbols_apart (a ∷ []) h =
       let a_byte : a < 256 = h 0 in
-      let one = slice_index enc (a / 4) in
-      let two = slice_index enc (a % 4 * 16) in
-      All-cons (NotAt end) one (two ∷ []) (symbol_apart (a / 4) (omega arith))
-      (All-cons (NotAt end) two [] (symbol_apart (a % 4 * 16) (omega arith)) (All-nil (NotAt end)))
-  IsWithout-symbols (a ∷ b ∷ []) h =
+      rw (symbol_apart (a / 4) (omega arith), symbol_apart (a % 4 * 16) (omega arith)) refl
+  symbols_apart (a ∷ b ∷ []) h =
       let a_byte : a < 256 = h 0 in
       let b_byte : b < 256 = h 1 in
-      let one = slice_index enc (a / 4) in
-      let two = slice_index enc (a % 4 * 16 + b / 16) in
-      let three = slice_index enc (b % 16 * 4) in
-      All-cons (NotAt end) one (two ∷ three ∷ []) (symbol_apart (a / 4) (omega arith))
-      (All-cons (NotAt end) two (three ∷ []) (symbol_apart (a % 4 * 16 + b / 16) (omega arith))
-      (All-cons (NotAt end) three [] (symbol_apart (b % 16 * 4) (omega arith))
-      (All-nil (NotAt end))))
-  IsWithout-symbols (a ∷ b ∷ c ∷ rest) h =
+      rw (symbol_apart (a / 4) (omega arith), symbol_apart (a % 4 * 16 + b / 16) (omega arith))
+      (rw (symbol_apart (b % 16 * 4) (omega arith)) refl)
+  symbols_apart (a ∷ b ∷ c ∷ rest) h =
       let a_byte : a < 256 = h 0 in
       let b_byte : b < 256 = h 1 in
       let c_byte : c < 256 = h 2 in
-      let one = slice_index enc (a / 4) in
-      let two = slice_index enc (a % 4 * 16 + b / 16) in
-      let three = slice_index enc (b % 16 * 4 + c / 64) in
-      let four = slice_index enc (c % 64) in
-      let more = encode_symbols enc rest in
-      All-cons (NotAt end) one (two ∷ three ∷ four ∷ more) (symbol_apart (a / 4) (omega arith))
-      (All-cons (NotAt end) two (three ∷ four ∷ more)
-      (symbol_apart (a % 4 * 16 + b / 16) (omega arith))
-      (All-cons (NotAt end) three (four ∷ more) (symbol_apart (b % 16 * 4 + c / 64) (omega arith))
-      (All-cons (NotAt end) four more (symbol_apart (c % 64) (omega arith))
-      (IsWithout-symbols rest (λ k. h (suc (suc (suc k))))))))
+      rw (symbol_apart (a / 4) (omega arith), symbol_apart (a % 4 * 16 + b / 16) (omega arith))
+      (rw (symbol_apart (b % 16 * 4 + c / 64) (omega arith), symbol_apart (c % 64) (omega arith))
+      (symbols_apart rest (λ k. h (suc (suc (suc k))))))
+
+  pub IsWithout-symbols : (xs : List ℕ) → IsBytes xs → IsWithout end (encode_symbols enc xs)
+  IsWithout-symbols xs h = IsWithout-lacks end (encode_symbols enc xs) (symbols_apart xs h)
 
 -- a text is of one list of bytes
 pub encode_of-injective : (e : GeneralPurpose) → IsConsistent e → (xs ys : List ℕ) → IsBytes xs

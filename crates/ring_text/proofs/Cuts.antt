@@ -1,15 +1,25 @@
 -- SPDX-License-Identifier: ISC
 -- A text cut at a byte, or behind a prefix, is cut in one way.
-use Rattle.std.proofs.Common.{◌≡◌, ◌≢◌, ◌==◌, ℕ, false, List, [], ◌∷◌, ◌++◌, drop}
-use Rattle.std.proofs.Common.{arith, refl, sym, ap, subst, ◌∙◌}
-use Rattle.std.proofs.Common.{Bor}
-use Rattle.std.specs.Prelude.{Some, None, Option, IfSome, IsNone, MatchOption, All}
-use Rattle.std.proofs.lemmas.Bool.{eq-eqb}
-use Rattle.std.proofs.lemmas.List.Elements.{All-head, All-tail}
+use Rattle.std.proofs.Common.{◌≡◌, ◌≢◌, ◌==◌, ℕ, Bool, true, false, List, [], ◌∷◌, ◌++◌, drop}
+use Rattle.std.proofs.Common.{arith, refl, sym, ap, subst, ◌∙◌, Bor}
+use Rattle.std.specs.Prelude.{Some, None, Option, IfSome, IsNone, MatchOption, All, not}
+use Rattle.std.specs.List.{list_all}
+use Rattle.std.proofs.lemmas.Bool.{eq-eqb, not-true}
+use Rattle.std.proofs.lemmas.List.Elements.{All-head, All-tail, All-weaker}
+use Rattle.std.proofs.lemmas.List.Sums.{AllPass-from_list_all}
 use Rattle.ring_text.specs.Cut.{IsFirstCut, IsWithout}
 
 abbrev pub NotAt : ℕ → ℕ → Type 0
 NotAt byte b = (b == byte) ≡ false
+
+-- the byte is nowhere in the text, as a test
+abbrev pub lacks : ℕ → List ℕ → Bool
+lacks byte text = list_all (λ b. not (b == byte)) text
+
+pub IsWithout-lacks : (byte : ℕ) (text : List ℕ) → lacks byte text ≡ true → IsWithout byte text
+IsWithout-lacks byte text all =
+    All-weaker (λ b. not (b == byte) ≡ true) (NotAt byte) (λ b. not-true (b == byte)) text
+    (AllPass-from_list_all (λ b. not (b == byte)) text all)
 
 apart : (byte : ℕ) → NotAt byte byte → ⊥
 apart byte h = cc (h, eq-eqb byte byte refl)

@@ -51,12 +51,6 @@ encode_lower-injective xs ys hx hy e =
 
 -- ---- digits without a letter in upper case
 
--- the digit of some number below 16
-record Digit (c : ℕ) : Type 0 where
-  value : ℕ
-  below : value < 16
-  digit : slice_index lower_digits value ≡ c
-
 -- a digit's value, or 16
 abbrev value_of : ℕ → ℕ
 value_of c = unwrap_or (hex_digit_value c) 16
@@ -74,18 +68,13 @@ reads_back c = nat_lt (value_of c) 16 && (slice_index lower_digits (value_of c) 
 abbrev IsLower : ℕ → Type 0
 IsLower c = is_lower c ≡ true
 
-lower_digit : (c : ℕ) → IsLower c → Digit c
+lower_digit : (c : ℕ) → IsLower c
+    → (value_of c < 16) × (slice_index lower_digits (value_of c) ≡ c)
 lower_digit c is =
     let small : c < 128 = grind (arith, is) in
-    let agrees = agree_below_at (λ c. is_lower c && reads_back c) is_lower 128 c refl small in
-    let parts = and_parts (is_lower c) (reads_back c) (agrees ∙ is) in
-    let back = and_parts (nat_lt (value_of c) 16) (slice_index lower_digits (value_of c) == c)
-    parts.1 in
-    record {
-      value = value_of c;
-      below = grind (arith, nat_tests, back.0);
-      digit = eqb-true (slice_index lower_digits (value_of c)) c back.1;
-    }
+    let back = sym (agree_below_at is_lower reads_back 128 c refl small) ∙ is in
+    let parts = and_parts (nat_lt (value_of c) 16) _ back in
+    (grind (arith, nat_tests, parts.0), eqb-true (slice_index lower_digits (value_of c)) c parts.1)
 
 -- the text is the hex of bytes
 record HexOf (s : List ℕ) : Type 0 where
@@ -107,15 +96,13 @@ hex_of (h ∷ l ∷ rest) n len low =
     let high = lower_digit h (All-head IsLower h (l ∷ rest) low) in
     let other = lower_digit l (All-head IsLower l rest lows) in
     let more = hex_of rest (n - 1) (omega arith) (All-tail IsLower l rest lows) in
-    let byte = high.value * 16 + other.value in
-    let high_below = high.below in
-    let other_below = other.below in
-    let first : byte / 16 ≡ high.value = omega arith in
-    let second : byte % 16 ≡ other.value = omega arith in
+    let byte = value_of h * 16 + value_of l in
+    let first : byte / 16 ≡ value_of h = omega (arith, high.0, other.0) in
+    let second : byte % 16 ≡ value_of l = omega (arith, high.0, other.0) in
     record {
       bytes = byte ∷ more.bytes;
-      are = IsBytes-cons byte more.bytes (omega arith) more.are;
-      text = rw (first, second, high.digit, other.digit, ← more.text) refl;
+      are = IsBytes-cons byte more.bytes (omega (arith, high.0, other.0)) more.are;
+      text = rw (first, second, high.1, other.1, ← more.text) refl;
     }
 
 -- what decoding to room for n bytes answers, and what it leaves there

@@ -67,11 +67,7 @@ pub fn count_before(text: &[u8], end: u8) -> Option<(NonZeroU32, &[u8])>
     ensures refused { IsNone result → (c : NonZeroU32) (rest : List ℕ) → IsCount c
         → text.now ≢ count_then c end rest }
 {
-    let Some((digits, rest)) = cut_at(text, end) else {
-        return None;
-    };
-    match count_in(digits) {
-        Some(iterations) => Some((iterations, rest)),
-        None => None,
-    }
+    let (digits, rest) = cut_at(text, end)?;
+    let iterations = count_in(digits)?;
+    Some((iterations, rest))
 }

@@ -1,7 +1,6 @@
 -- SPDX-License-Identifier: ISC
 -- The algorithm that a field ALG names.
 use Rattle.std.specs.Prelude.{ℕ, List, Option, None, Some, if◌then◌else◌, codes}
-use Rattle.std.specs.Option.{option_and_then}
 use Rattle.ring.specs.declared.digest.algorithm.Algorithm as digest
 use Rattle.ring.specs.declared.digest.algorithm.TheConstants.{SHA1_FOR_LEGACY_USE_ONLY, SHA256}
 use Rattle.ring.specs.declared.digest.algorithm.TheConstants.{SHA384, SHA512, SHA512_256}
@@ -15,61 +14,34 @@ use Rattle.ring.specs.declared.pbkdf2.algorithm.Algorithm as pbkdf2
 use Rattle.ring.specs.declared.pbkdf2.algorithm.TheConstants.{PBKDF2_HMAC_SHA1, PBKDF2_HMAC_SHA256}
 use Rattle.ring.specs.declared.pbkdf2.algorithm.TheConstants.{PBKDF2_HMAC_SHA384}
 use Rattle.ring.specs.declared.pbkdf2.algorithm.TheConstants.{PBKDF2_HMAC_SHA512}
-use Rattle.ring_bench.specs.declared.algorithm.Named.{Named}
-use Rattle.ring_bench.specs.declared.algorithm.Named.TheVariants.{Sha1, Sha256, Sha384, Sha512}
-use Rattle.ring_bench.specs.declared.algorithm.Named.TheVariants.{Sha512_256}
 use Rattle.ring_bench.specs.Field.{is_word}
 
--- ALG
-unfoldable pub algorithm_of : List ℕ → Option Named
-algorithm_of field =
-    if is_word field (codes "SHA1") then Some Sha1
-    else if is_word field (codes "SHA256") then Some Sha256
-    else if is_word field (codes "SHA384") then Some Sha384
-    else if is_word field (codes "SHA512") then Some Sha512
-    else if is_word field (codes "SHA512_256") then Some Sha512_256
+-- what ALG names, of these for SHA-1, SHA-256, SHA-384 and SHA-512
+unfoldable pub algorithm_of : {X : Type 0} → (sha1 sha256 sha384 sha512 : X) → List ℕ → Option X
+algorithm_of sha1 sha256 sha384 sha512 field =
+    if is_word field (codes "SHA1") then Some sha1
+    else if is_word field (codes "SHA256") then Some sha256
+    else if is_word field (codes "SHA384") then Some sha384
+    else if is_word field (codes "SHA512") then Some sha512
     else None
 
-abbrev pub digest_named : Named → Option digest.Algorithm
-digest_named Sha1 = Some SHA1_FOR_LEGACY_USE_ONLY
-digest_named Sha256 = Some SHA256
-digest_named Sha384 = Some SHA384
-digest_named Sha512 = Some SHA512
-digest_named Sha512_256 = Some SHA512_256
-
-abbrev pub hmac_named : Named → Option hmac.Algorithm
-hmac_named Sha1 = Some HMAC_SHA1_FOR_LEGACY_USE_ONLY
-hmac_named Sha256 = Some HMAC_SHA256
-hmac_named Sha384 = Some HMAC_SHA384
-hmac_named Sha512 = Some HMAC_SHA512
-hmac_named Sha512_256 = None
-
-abbrev pub hkdf_named : Named → Option hkdf.Algorithm
-hkdf_named Sha1 = Some HKDF_SHA1_FOR_LEGACY_USE_ONLY
-hkdf_named Sha256 = Some HKDF_SHA256
-hkdf_named Sha384 = Some HKDF_SHA384
-hkdf_named Sha512 = Some HKDF_SHA512
-hkdf_named Sha512_256 = None
-
-abbrev pub pbkdf2_named : Named → Option pbkdf2.Algorithm
-pbkdf2_named Sha1 = Some PBKDF2_HMAC_SHA1
-pbkdf2_named Sha256 = Some PBKDF2_HMAC_SHA256
-pbkdf2_named Sha384 = Some PBKDF2_HMAC_SHA384
-pbkdf2_named Sha512 = Some PBKDF2_HMAC_SHA512
-pbkdf2_named Sha512_256 = None
-
--- ALG of a digest
+-- ALG of a digest, which alone may be SHA-512/256
 unfoldable pub digest_algorithm_of : List ℕ → Option digest.Algorithm
-digest_algorithm_of field = option_and_then digest_named (algorithm_of field)
+digest_algorithm_of field =
+    if is_word field (codes "SHA512_256") then Some SHA512_256
+    else algorithm_of SHA1_FOR_LEGACY_USE_ONLY SHA256 SHA384 SHA512 field
 
 -- ALG of a tag
 unfoldable pub hmac_algorithm_of : List ℕ → Option hmac.Algorithm
-hmac_algorithm_of field = option_and_then hmac_named (algorithm_of field)
+hmac_algorithm_of field =
+    algorithm_of HMAC_SHA1_FOR_LEGACY_USE_ONLY HMAC_SHA256 HMAC_SHA384 HMAC_SHA512 field
 
 -- ALG of an output of HKDF
 unfoldable pub hkdf_algorithm_of : List ℕ → Option hkdf.Algorithm
-hkdf_algorithm_of field = option_and_then hkdf_named (algorithm_of field)
+hkdf_algorithm_of field =
+    algorithm_of HKDF_SHA1_FOR_LEGACY_USE_ONLY HKDF_SHA256 HKDF_SHA384 HKDF_SHA512 field
 
 -- ALG of a derivation by PBKDF2
 unfoldable pub pbkdf2_algorithm_of : List ℕ → Option pbkdf2.Algorithm
-pbkdf2_algorithm_of field = option_and_then pbkdf2_named (algorithm_of field)
+pbkdf2_algorithm_of field =
+    algorithm_of PBKDF2_HMAC_SHA1 PBKDF2_HMAC_SHA256 PBKDF2_HMAC_SHA384 PBKDF2_HMAC_SHA512 field

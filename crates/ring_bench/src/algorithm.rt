@@ -13,35 +13,23 @@ use ring::pbkdf2::{
     self, PBKDF2_HMAC_SHA1, PBKDF2_HMAC_SHA256, PBKDF2_HMAC_SHA384, PBKDF2_HMAC_SHA512,
 };
 
-/// What ALG may be.
-#[derive(Clone, Copy, Debug, PartialEq, Eq)]
-pub enum Named {
-    Sha1,
-    Sha256,
-    Sha384,
-    Sha512,
-    Sha512_256,
-}
-
-/// The name that stands in a field ALG.
+/// What a field ALG names, of these for SHA-1, SHA-256, SHA-384 and SHA-512.
 #[tactic(auto, unfolding(crate::specs::Algorithm::algorithm_of))]
-fn named_in(field: &[u8]) -> Result<Named, Fault>
-    ensures { ReadsAlone (λ named. named) (algorithm_of field.now) result }
+fn algorithm_in<T: Copy>(field: &[u8], sha1: T, sha256: T, sha384: T, sha512: T) -> Result<T, Fault>
+    ensures { ReadsAlone (λ algorithm. algorithm)
+        (algorithm_of sha1 sha256 sha384 sha512 field.now) result }
 {
     if is_word(field, b"SHA1") {
-        return Ok(Named::Sha1);
+        return Ok(sha1);
     }
     if is_word(field, b"SHA256") {
-        return Ok(Named::Sha256);
+        return Ok(sha256);
     }
     if is_word(field, b"SHA384") {
-        return Ok(Named::Sha384);
+        return Ok(sha384);
     }
     if is_word(field, b"SHA512") {
-        return Ok(Named::Sha512);
-    }
-    if is_word(field, b"SHA512_256") {
-        return Ok(Named::Sha512_256);
+        return Ok(sha512);
     }
     Err(Fault::Bad)
 }
@@ -51,13 +39,10 @@ fn named_in(field: &[u8]) -> Result<Named, Fault>
 pub fn digest_algorithm_in(field: &[u8]) -> Result<digest::Algorithm, Fault>
     ensures { ReadsAlone (λ algorithm. algorithm) (digest_algorithm_of field.now) result }
 {
-    match named_in(field)? {
-        Named::Sha1 => Ok(SHA1_FOR_LEGACY_USE_ONLY),
-        Named::Sha256 => Ok(SHA256),
-        Named::Sha384 => Ok(SHA384),
-        Named::Sha512 => Ok(SHA512),
-        Named::Sha512_256 => Ok(SHA512_256),
+    if is_word(field, b"SHA512_256") {
+        return Ok(SHA512_256);
     }
+    algorithm_in(field, SHA1_FOR_LEGACY_USE_ONLY, SHA256, SHA384, SHA512)
 }
 
 /// The ALG of a tag.
@@ -65,13 +50,13 @@ pub fn digest_algorithm_in(field: &[u8]) -> Result<digest::Algorithm, Fault>
 pub fn hmac_algorithm_in(field: &[u8]) -> Result<hmac::Algorithm, Fault>
     ensures { ReadsAlone (λ algorithm. algorithm) (hmac_algorithm_of field.now) result }
 {
-    match named_in(field)? {
-        Named::Sha1 => Ok(HMAC_SHA1_FOR_LEGACY_USE_ONLY),
-        Named::Sha256 => Ok(HMAC_SHA256),
-        Named::Sha384 => Ok(HMAC_SHA384),
-        Named::Sha512 => Ok(HMAC_SHA512),
-        Named::Sha512_256 => Err(Fault::Bad),
-    }
+    algorithm_in(
+        field,
+        HMAC_SHA1_FOR_LEGACY_USE_ONLY,
+        HMAC_SHA256,
+        HMAC_SHA384,
+        HMAC_SHA512,
+    )
 }
 
 /// The ALG of an output of HKDF.
@@ -79,13 +64,13 @@ pub fn hmac_algorithm_in(field: &[u8]) -> Result<hmac::Algorithm, Fault>
 pub fn hkdf_algorithm_in(field: &[u8]) -> Result<hkdf::Algorithm, Fault>
     ensures { ReadsAlone (λ algorithm. algorithm) (hkdf_algorithm_of field.now) result }
 {
-    match named_in(field)? {
-        Named::Sha1 => Ok(HKDF_SHA1_FOR_LEGACY_USE_ONLY),
-        Named::Sha256 => Ok(HKDF_SHA256),
-        Named::Sha384 => Ok(HKDF_SHA384),
-        Named::Sha512 => Ok(HKDF_SHA512),
-        Named::Sha512_256 => Err(Fault::Bad),
-    }
+    algorithm_in(
+        field,
+        HKDF_SHA1_FOR_LEGACY_USE_ONLY,
+        HKDF_SHA256,
+        HKDF_SHA384,
+        HKDF_SHA512,
+    )
 }
 
 /// The ALG of a derivation by PBKDF2.
@@ -93,11 +78,11 @@ pub fn hkdf_algorithm_in(field: &[u8]) -> Result<hkdf::Algorithm, Fault>
 pub fn pbkdf2_algorithm_in(field: &[u8]) -> Result<pbkdf2::Algorithm, Fault>
     ensures { ReadsAlone (λ algorithm. algorithm) (pbkdf2_algorithm_of field.now) result }
 {
-    match named_in(field)? {
-        Named::Sha1 => Ok(PBKDF2_HMAC_SHA1),
-        Named::Sha256 => Ok(PBKDF2_HMAC_SHA256),
-        Named::Sha384 => Ok(PBKDF2_HMAC_SHA384),
-        Named::Sha512 => Ok(PBKDF2_HMAC_SHA512),
-        Named::Sha512_256 => Err(Fault::Bad),
-    }
+    algorithm_in(
+        field,
+        PBKDF2_HMAC_SHA1,
+        PBKDF2_HMAC_SHA256,
+        PBKDF2_HMAC_SHA384,
+        PBKDF2_HMAC_SHA512,
+    )
 }

@@ -95,10 +95,8 @@ impl<A: Allocator + Copy> Session<A> {
         ensures status { self.new.status ≡ self.old.status }
         ensures memory { IfErr result (λ error. error ≡ BenchError.Memory) }
     {
-        match self.line.extend_from_slice(bytes) {
-            Ok(()) => Ok(()),
-            Err(_) => Err(BenchError::Memory),
-        }
+        self.line.extend_from_slice(bytes)?;
+        Ok(())
     }
 
     /// Answers the line, and begins another.

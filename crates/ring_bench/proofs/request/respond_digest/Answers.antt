@@ -1,7 +1,6 @@
 -- SPDX-License-Identifier: ISC
-use Rattle.std.proofs.Common.{◌≡◌, length, nat_le, arith, rules, true}
+use Rattle.std.proofs.Common.{◌≡◌, length, arith, rules}
 use Rattle.std.proofs.lemmas.Grind.{common_steps}
-use Rattle.ring.specs.Algorithm.{max_input_len}
 use Rattle.ring.specs.Digest.{digest_of}
 use Rattle.ring.specs.Pieces.{joined}
 use Rattle.ring_bench.specs.Request.{digest_answer}
@@ -23,5 +22,4 @@ returns-in-Ok g c =
     let count = digest_count a (length m) c.new-meter.ensures (search rules) cost in
     let shown = c.blocks-in-Ok.ensures in
     let refused = rw same at end.refused in
-    let fits : nat_le (length m) (max_input_len a) ≡ true = not_refused refused.1 in
-    rw fits (cc (bytes, count, shown))
+    rw (not_refused refused.1) (cc (bytes, count, shown))

@@ -1,9 +1,8 @@
 -- SPDX-License-Identifier: ISC
-use Rattle.std.proofs.Common.{◌≡◌, ◌++◌, ◌+◌, length, take, drop, ap, nat_le, refl, sym, ◌∙◌, rules}
-use Rattle.std.proofs.Common.{true, false, true≢false}
+use Rattle.std.proofs.Common.{◌≡◌, ◌++◌, length, take, drop, ap, refl, sym, ◌∙◌, rules}
+use Rattle.std.proofs.Common.{false, true≢false}
 use Rattle.std.proofs.Math.Seq.{take-append_seam}
 use Rattle.std.proofs.lemmas.Bool.{false_from_ne_true}
-use Rattle.ring.specs.Algorithm.{block_len, max_input_len}
 use Rattle.ring.specs.Hkdf.{hkdf_digest, okm, salt_algorithm}
 use Rattle.ring.specs.Hmac.{hmac_of}
 use Rattle.ring.specs.Okm.{okm_algorithm, okm_info_len}
@@ -44,10 +43,8 @@ returns-in-Ok-fill_counted g c =
     let shown = c.blocks-in-Ok-fill_counted.ensures in
     let salted = salt.algorithm in
     let refused = rw salt.algorithm at prk.refused in
-    let fits_salt : nat_le (length s) (max_input_len a) ≡ true = not_refused salt.refused.1 in
-    let fits_secret : nat_le (block_len a + length x) (max_input_len a) ≡ true =
-    not_refused refused.1 in
-    rw (fits_salt, fits_secret, can) (cc (made, algorithm, salted, same, count, shown))
+    rw (not_refused salt.refused.1, not_refused refused.1, can)
+    (cc (made, algorithm, salted, same, count, shown))
 
 pub returns : goal.returns
 unfolding output_answer
@@ -66,8 +63,4 @@ returns g c =
     asked.asked_len size e in
     true≢false (sym (c.in-Err.ensures.refused.1 can))) in
     let refused = rw salt.algorithm at prk.refused in
-    let fits_salt : nat_le (length c.args.salt.now) (max_input_len a) ≡ true =
-    not_refused salt.refused.1 in
-    let fits_secret : nat_le (block_len a + length c.args.secret.now) (max_input_len a) ≡ true =
-    not_refused refused.1 in
-    rw (fits_salt, fits_secret, fails) refl
+    rw (not_refused salt.refused.1, not_refused refused.1, fails) refl

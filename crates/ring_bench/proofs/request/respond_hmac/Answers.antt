@@ -1,7 +1,6 @@
 -- SPDX-License-Identifier: ISC
-use Rattle.std.proofs.Common.{◌≡◌, ◌+◌, length, nat_le, arith, rules, true}
+use Rattle.std.proofs.Common.{◌≡◌, length, arith, rules}
 use Rattle.std.proofs.lemmas.Grind.{common_steps}
-use Rattle.ring.specs.Algorithm.{block_len, max_input_len}
 use Rattle.ring.specs.Hmac.{hmac_digest, hmac_of}
 use Rattle.ring.specs.Pieces.{joined}
 use Rattle.ring_bench.specs.Request.{tag_answer}
@@ -28,7 +27,4 @@ returns-in-Ok-sign_pieces g c =
     cost in
     let shown = c.blocks-in-Ok-sign_pieces.ensures in
     let refused = rw (algorithm, same) at end.refused in
-    let fits_key : nat_le (length k) (max_input_len a) ≡ true = not_refused key.refused.1 in
-    let fits_message : nat_le (block_len a + length m) (max_input_len a) ≡ true =
-    not_refused refused.1 in
-    rw (fits_key, fits_message) (cc (bytes, count, shown))
+    rw (not_refused key.refused.1, not_refused refused.1) (cc (bytes, count, shown))

@@ -1,6 +1,5 @@
 -- SPDX-License-Identifier: ISC
-use Rattle.std.proofs.Common.{◌≡◌, ◌+◌, length, nat_le, arith, rules, subst, sym, true, ◌∙◌}
-use Rattle.ring.specs.Algorithm.{block_len, max_input_len}
+use Rattle.std.proofs.Common.{◌≡◌, length, arith, rules, subst, sym, true, ◌∙◌}
 use Rattle.ring.specs.Hmac.{hmac_digest, key_algorithm}
 use Rattle.ring.specs.Limits.{IsTagWithin}
 use Rattle.ring.specs.declared.digest.algorithm.Algorithm.{Algorithm}
@@ -33,6 +32,4 @@ returns g c =
     let is_tag = tested.plain.ok k key.ok in
     let given_tag = λ (e : c.is_ok-is_tag.result ≡ true). (is_tag.0 (sym told ∙ e)).1 in
     let same = same_verdict given_tag (λ e. told ∙ is_tag.1 (own, e)) in
-    let fits_key : nat_le (length k) (max_input_len a) ≡ true = not_refused key.refused.1 in
-    let fits_message : nat_le (block_len a + n) (max_input_len a) ≡ true = passes within in
-    rw (fits_key, fits_message) (cc (same, algorithm, count, shown))
+    rw (not_refused key.refused.1, passes within) (cc (same, algorithm, count, shown))

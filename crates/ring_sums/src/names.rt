@@ -2,8 +2,9 @@
 //! Names in lists: a backslash, a line feed and a carriage return are escaped, so that each name
 //! stands on one line.
 
-ghost use Rattle.std.specs.Prelude.{◌≡◌, ◌++◌, IfOk, OnOk, option_map};
-ghost use Rattle.ring_sums.specs.Names.{escaped, escaped_byte, is_special, needs_escape};
+ghost use Rattle.std.specs.Prelude.{◌≡◌, ◌≤◌, ◌∷◌, ◌++◌, IfOk, IfSome, MatchOption, None, OnOk};
+ghost use Rattle.std.specs.Prelude.{Some, length, option_map};
+ghost use Rattle.ring_sums.specs.Names.{before, escaped, escaped_byte, is_special, needs_escape};
 ghost use Rattle.ring_sums.specs.Names.{unescaped, unescaped_byte};
 
 use std::alloc::{AllocError, Global};
@@ -57,27 +58,32 @@ fn unescaped_byte(letter: u8) -> Option<u8>
     }
 }
 
+/// The byte for which the first bytes stand, and those behind them; `None` where they are a
+/// backslash that begins no escape.
+fn next_byte(first: u8, rest: &[u8]) -> Option<(u8, &[u8])>
+    ensures is { MatchOption result (unescaped (first ∷ rest.now) ≡ None)
+        (λ next. unescaped (first ∷ rest.now) ≡ before (Some next.0) (unescaped next.1.now)) }
+    ensures shorter { IfSome result (λ next. length next.1.now ≤ length rest.now) }
+{
+    if first != b'\\' {
+        return Some((first, rest));
+    }
+    let (letter, behind) = rest.split_first()?;
+    Some((unescaped_byte(*letter)?, behind))
+}
+
 /// The name whose escapes are these bytes, or `None` where a backslash begins no escape.
 pub(crate) fn unescaped(alloc: Global, bytes: &[u8]) -> Result<Option<Vec<u8>>, AllocError>
     ensures ok { IfOk result (λ name. option_map (λ v. v.items) name ≡ unescaped bytes.now) }
 {
     let mut name = Vec::new(alloc);
-    let mut after_backslash = false;
-    for byte in bytes {
-        if after_backslash {
-            let Some(plain) = unescaped_byte(*byte) else {
-                return Ok(None);
-            };
-            name.push(plain)?;
-            after_backslash = false;
-        } else if *byte == b'\\' {
-            after_backslash = true;
-        } else {
-            name.push(*byte)?;
-        }
-    }
-    if after_backslash {
-        return Ok(None);
+    let mut rest = bytes;
+    'bytes: while let Some((first, behind)) = rest.split_first() {
+        let Some((byte, behind)) = next_byte(*first, behind) else {
+            return Ok(None);
+        };
+        name.push(byte)?;
+        rest = behind;
     }
     Ok(Some(name))
 }

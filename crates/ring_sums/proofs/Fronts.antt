@@ -18,7 +18,7 @@ use Rattle.std.specs.List.{All, list_all, position, position_or_len}
 use Rattle.memchr.specs.Find.{NoneAfter, Nowhere, Passes, is_byte}
 use Rattle.ring_text.specs.Cut.{IsWithout}
 use Rattle.ring_text.proofs.Cuts.{first_of_list, not_cut}
-use Rattle.ring_sums.specs.Entry.{IsBehindWhite, IsLastCut, is_white}
+use Rattle.ring_sums.specs.Entry.{IsLastCut, behind_white, is_white}
 
 -- what `&s[n..]` is
 pub rest-slice : (n : ℕ) (s : List ℕ) → take (length s - n) (drop n s) ≡ drop n s
@@ -26,78 +26,29 @@ rest-slice n s = rw (← length-drop n s) (take-length (drop n s))
 
 -- ---- white space
 
-abbrev pub White : ℕ → Type 0
-White byte = is_white byte ≡ true
-
--- bytes that begin with no white space begin with no byte that is some
-not_white : (byte : ℕ) (rest text : List ℕ) → White byte → is_white (get_or text 0 0) ≡ false
-    → byte ∷ rest ≡ text → ⊥
-not_white byte rest text white ends e =
-    true≢false (sym white ∙ subst (λ l. is_white (get_or l 0 0) ≡ false) (sym e) ends)
-
-record IsRun (white text : List ℕ) : Type 0 where
-  all : All White white
-  ends : is_white (get_or text 0 0) ≡ false
-
--- what stands behind white space is known from the whole
-white_lists : (v w s t : List ℕ) → IsRun v s → IsRun w t → v ++ s ≡ w ++ t → s ≡ t
-white_lists [] [] s t one two e = e
-white_lists [] (b ∷ w) s t one two e =
-    absurd (not_white b (w ++ t) s (All-head White b w two.all) one.ends (sym e))
-white_lists (a ∷ v) [] s t one two e =
-    absurd (not_white a (v ++ s) t (All-head White a v one.all) two.ends e)
-white_lists (a ∷ v) (b ∷ w) s t one two e =
-    white_lists v w s t (record { all = All-tail White a v one.all; ends = one.ends })
-    (record { all = All-tail White b w two.all; ends = two.ends }) (ap (drop 1) e)
-
-pub white_same : {line s t : List ℕ} → IsBehindWhite line s → IsBehindWhite line t → s ≡ t
-white_same {s = s} {t} one two =
-    white_lists one.white two.white s t (record { all = one.all; ends = one.ends })
-    (record { all = two.all; ends = two.ends }) (sym one.whole ∙ two.whole)
+-- bytes that begin with none stand behind none, and behind a space
+pub white-front : (text : List ℕ) → is_white (get_or text 0 0) ≡ false
+    → (behind_white text ≡ text) × (behind_white (32 ∷ text) ≡ text)
+white-front [] none = (refl, refl)
+white-front (byte ∷ rest) none = rw none (refl, refl)
 
 abbrev is_text : ℕ → Bool
 is_text byte = not (is_white byte)
 
--- from the first byte on that is none
-abbrev text_of : List ℕ → List ℕ
-text_of bytes = drop (position_or_len is_text bytes) bytes
-
-white-before : (bytes : List ℕ) → IsBehindWhite bytes (text_of bytes)
-white-before bytes =
-    let n = position_or_len is_text bytes in
-    let first : get_or (drop n bytes) 0 0 ≡ get_or bytes n 0 =
-    get_or-drop n bytes 0 0 ∙ ap (λ (k : ℕ). get_or bytes k 0) (omega arith) in
-    record {
-      white = take n bytes;
-      all = All-from_get_or White (take n bytes) 0 (λ i within.
-          let before : i < n = omega (arith, within, length-take n bytes) in
-          rw (get_or-take n bytes i 0 before)
-          (not-false (is_white (get_or bytes i 0)) (fails_before_first is_text bytes i 0 before)));
-      whole = sym (take-append-drop n bytes);
-      ends = rw first (elim (cases_lt n (length bytes)) [
-        | inl within ↦
-            not-true (is_white (get_or bytes n 0)) (passes_at_first is_text bytes 0 within)
-        | inr past ↦ rw (get_or_past bytes n 0 past)
-      ]);
-    }
-
 -- from its place on
 pub white-place : (bytes : List ℕ) (place : ℕ) → Some place ≡ position is_text bytes
-    → IsBehindWhite bytes (drop place bytes)
+    → drop place bytes ≡ behind_white bytes
 white-place bytes place h =
     let found = cond_some (ltb (position_or_len is_text bytes) (length bytes))
     (position_or_len is_text bytes) place (sym h) in
-    subst (λ n. IsBehindWhite bytes (drop n bytes)) found.1 (white-before bytes)
+    ap (λ (n : ℕ). drop n bytes) (sym found.1)
 
 -- all is white space
-pub white-all : (bytes : List ℕ) → None ≡ position is_text bytes → IsBehindWhite bytes []
-white-all bytes h = subst (IsBehindWhite bytes) nothing (white-before bytes)
-  where
-    nothing : text_of bytes ≡ []
-    nothing = elim (cases_Bool (ltb (position_or_len is_text bytes) (length bytes))) [
-      | inl within ↦ let found = rw within at h in cc
-      | inr past ↦ drop_of_length-le bytes (ltb-false _ _ past)
-    ]
+pub white-all : (bytes : List ℕ) → None ≡ position is_text bytes → [] ≡ behind_white bytes
+white-all bytes h = elim (cases_Bool (ltb (position_or_len is_text bytes) (length bytes))) [
+  | inl within ↦ let found = rw within at h in cc
+  | inr past ↦ sym (drop_of_length-le bytes (ltb-false _ _ past))
+]
 
 -- ---- digits
 

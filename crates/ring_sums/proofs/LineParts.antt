@@ -1,12 +1,11 @@
 -- SPDX-License-Identifier: ISC
 -- Parts of written lines, as they are read.
 use Rattle.std.proofs.Common.{◌≡◌, ℕ, ◌<◌, ◌≤◌, eqb, true, false, ◌||◌}
-use Rattle.std.proofs.Common.{Bool, ◌++◌}
+use Rattle.std.proofs.Common.{Bool, ◌++◌, if◌then◌else◌}
 use Rattle.std.proofs.Common.{List, [], ◌∷◌, length, get_or, Some}
 use Rattle.std.proofs.Common.{refl, sym, ap, ◌∙◌, arith, inl, inr, length-append}
 use Rattle.std.proofs.lemmas.Bool.{agree_below_at, and_parts, cases_Bool, false_from_ne_true}
 use Rattle.std.proofs.lemmas.Bool.{or_parts, true≢false}
-use Rattle.std.proofs.lemmas.List.Elements.{All-nil}
 use Rattle.std.proofs.lemmas.List.Sums.{list_all-from_AllPass}
 use Rattle.std.specs.Char.{is_ascii_hexdigit}
 use Rattle.std.specs.List.{list_all}
@@ -15,11 +14,11 @@ use Rattle.hex.proofs.HexLemmas.{decode_sized-encode_lower}
 use Rattle.ring_text.proofs.LowerHex.{All-hex}
 use Rattle.ring.specs.Prelude.{output_len}
 use Rattle.ring.specs.declared.digest.algorithm.Algorithm.{Algorithm}
-use Rattle.ring_sums.specs.Entry.{IsBehindStart, IsDigestOf, digest_in, is_white, listed_with}
-use Rattle.ring_sums.specs.Entry.{name_in, slash}
+use Rattle.ring_sums.specs.Entry.{IsDigestOf, behind_backslash, behind_white, digest_in, is_white}
+use Rattle.ring_sums.specs.Entry.{listed_with, name_in}
 use Rattle.ring_sums.specs.Names.{escaped, escaped_byte, is_special, needs_escape}
 use Rattle.ring_sums.proofs.Escapes.{escaped-cases, unescaped-escaped}
-use Rattle.ring_sums.proofs.Fronts.{White, white-no_digit}
+use Rattle.ring_sums.proofs.Fronts.{white-no_digit}
 
 -- ---- digits
 
@@ -80,29 +79,13 @@ listed_with-line a digest name is =
 
 -- ---- starts of lines
 
-start-ends : (is_escaped : Bool) (text : List ℕ) → is_white (get_or text 0 0) ≡ false
-    → is_white (get_or (slash is_escaped ++ text) 0 0) ≡ false
-start-ends true text text_is = refl
-start-ends false text text_is = text_is
-
-start-none : (is_escaped : Bool) (text : List ℕ) → eqb (get_or text 0 0) 92 ≡ false
-    → is_escaped ≡ false → (rest : List ℕ) → slash is_escaped ++ text ≡ 92 ∷ rest → ⊥
-start-none true text text_is plain rest is = cc
-start-none false text text_is plain rest is =
-    true≢false (sym (ap (λ l. eqb (get_or l 0 0) 92) is) ∙ text_is)
+abbrev pub slash : (is_escaped : Bool) → List ℕ
+slash is_escaped = if is_escaped then 92 ∷ [] else []
 
 -- a text that begins with neither white space nor a backslash stands behind one or none
-pub start-written : {line : List ℕ} (is_escaped : Bool) (text : List ℕ)
-    → is_white (get_or text 0 0) ≡ false → eqb (get_or text 0 0) 92 ≡ false
-    → line ≡ slash is_escaped ++ text → IsBehindStart line is_escaped text
-start-written is_escaped text no_white no_slash written = record {
-  shown = slash is_escaped ++ text;
-  white = record {
-    white = [];
-    all = All-nil White;
-    whole = written;
-    ends = start-ends is_escaped text no_white;
-  };
-  whole = refl;
-  none = start-none is_escaped text no_slash;
-}
+pub start-written : (is_escaped : Bool) (text : List ℕ) → is_white (get_or text 0 0) ≡ false
+    → eqb (get_or text 0 0) 92 ≡ false
+    → behind_backslash (behind_white (slash is_escaped ++ text)) ≡ (is_escaped, text)
+start-written true text no_white no_slash = refl
+start-written false [] no_white no_slash = refl
+start-written false (byte ∷ rest) no_white no_slash = rw (no_white, no_slash) refl

@@ -1,11 +1,9 @@
 -- SPDX-License-Identifier: ISC
 -- A line is read in one way.
-use Rattle.std.proofs.Common.{◌≡◌, ℕ, Bool, true, false, List, ◌∷◌, ◌++◌, drop, Option}
-use Rattle.std.proofs.Common.{refl, sym, ap, subst, ◌∙◌}
+use Rattle.std.proofs.Common.{◌≡◌, ℕ, Bool, List, Option, refl, sym, ap, subst, ◌∙◌}
 use Rattle.ring.specs.declared.digest.algorithm.Algorithm.{Algorithm}
-use Rattle.ring_sums.specs.Entry.{HasTaggedForm, IsBehindStart, IsReading, IsShape, Reading}
-use Rattle.ring_sums.specs.Entry.{Shape, neither, slash, tag_of, with_digits, with_tag}
-use Rattle.ring_sums.proofs.Fronts.{white_same}
+use Rattle.ring_sums.specs.Entry.{HasTaggedForm, IsReading, IsShape, Reading, Shape, neither}
+use Rattle.ring_sums.specs.Entry.{tag_of, with_digits, with_tag}
 use Rattle.ring_sums.proofs.PlainForm.{plain-same}
 use Rattle.ring_sums.proofs.TaggedForm.{forms-apart, tag-same, tagged-same}
 
@@ -28,28 +26,12 @@ shape-one asked text neither (with_tag a n d) one two = absurd (one.0 a n d two.
 shape-one asked text neither (with_digits a d r) one two = absurd (one.1 a d r two)
 shape-one asked text neither neither one two = refl
 
-slash-one : (e f : Bool) (s t : List ℕ)
-    → (e ≡ false → (rest : List ℕ) → slash e ++ s ≡ 92 ∷ rest → ⊥)
-    → (f ≡ false → (rest : List ℕ) → slash f ++ t ≡ 92 ∷ rest → ⊥) → slash e ++ s ≡ slash f ++ t
-    → (e ≡ f) × (s ≡ t)
-slash-one true true s t none none' same = (refl, ap (drop 1) same)
-slash-one true false s t none none' same = absurd (none' refl s (sym same))
-slash-one false true s t none none' same = absurd (none refl t same)
-slash-one false false s t none none' same = (refl, same)
-
--- a line begins in one way
-start-one : {line : List ℕ} (e f : Bool) (s t : List ℕ) → IsBehindStart line e s
-    → IsBehindStart line f t → (e ≡ f) × (s ≡ t)
-start-one e f s t one two =
-    let same = white_same one.white two.white in
-    slash-one e f s t (λ plain rest is. one.none plain rest (one.whole ∙ is))
-    (λ plain rest is. two.none plain rest (two.whole ∙ is)) (sym one.whole ∙ same ∙ two.whole)
-
--- and is one thing
+-- a line is one thing
 pub reading-one : {asked : Option Algorithm} {line : List ℕ} (r s : Reading)
     → IsReading asked line r → IsReading asked line s → r ≡ s
 reading-one {asked} r s one two =
-    let start = start-one r.is_escaped s.is_escaped one.text two.text one.start two.start in
+    let start = sym one.start ∙ two.start in
     let shape = shape-one asked two.text r.shape s.shape
-    (subst (λ t. IsShape asked t r.shape) start.1 one.shape) two.shape in
-    λ i. record { is_escaped = start.0 i; shape = shape i }
+    (subst (λ t. IsShape asked t r.shape) (ap (λ (p : Bool × List ℕ). p.1) start) one.shape)
+    two.shape in
+    λ i. record { is_escaped = (start i).0; shape = shape i }

@@ -7,18 +7,15 @@ use Rattle.std.specs.Prelude.{IfSome, IsNone}
 use Rattle.std.specs.Option.{option_copied}
 use Rattle.std.proofs.lemmas.Bool.{true≢false}
 use Rattle.std.proofs.lemmas.List.{append_cancel_left}
-use Rattle.std.proofs.lemmas.List.Elements.{All-cons, All-contains, All-nil}
 use Rattle.std.specs.Char.{is_ascii_hexdigit}
 use Rattle.std.specs.List.{Contains}
 use Rattle.ring.specs.declared.digest.algorithm.Algorithm.{Algorithm}
 use Rattle.ring.specs.declared.digest.algorithm.AlgorithmId.{AlgorithmId}
 use Rattle.ring.specs.declared.digest.algorithm.AlgorithmId.TheVariants.{Sha1, Sha256, Sha384}
 use Rattle.ring.specs.declared.digest.algorithm.AlgorithmId.TheVariants.{Sha512, Sha512_256}
-use Rattle.ring.specs.declared.digest.algorithm.TheConstants.{SHA1_FOR_LEGACY_USE_ONLY, SHA256}
-use Rattle.ring.specs.declared.digest.algorithm.TheConstants.{SHA384, SHA512, SHA512_256}
-use Rattle.ring_sums.specs.Entry.{Finds, HasPlainForm, HasTaggedForm, IsAskedFor, IsBehindWhite}
-use Rattle.ring_sums.specs.Entry.{IsLastCut, IsOpened, tag_of, tag_of_id}
-use Rattle.ring_sums.proofs.Fronts.{last_cut_same, white_same}
+use Rattle.ring_sums.specs.Entry.{Finds, HasPlainForm, HasTaggedForm, IsLastCut, IsOpened}
+use Rattle.ring_sums.specs.Entry.{algorithms_read, behind_white, tag_of, tag_of_id}
+use Rattle.ring_sums.proofs.Fronts.{last_cut_same}
 use Rattle.ring_sums.proofs.PlainForm.{plain-first}
 
 opened_same : {line one other : List ℕ} → IsOpened line one → IsOpened line other → one ≡ other
@@ -52,21 +49,20 @@ module _ {line tag name digits opened : List ℕ} (form : HasTaggedForm line tag
   pub cut-at : {inner : List ℕ} → IsOpened opened inner → IsLastCut 41 inner name form.rest
   cut-at opens = subst (λ l. IsLastCut 41 l name form.rest) (opened_same opened-at opens) form.cut
 
-  pub equals-at : {inner before behind text : List ℕ} → IsOpened opened inner
-      → IsLastCut 41 inner before behind → IsBehindWhite behind text
-      → (name ≡ before) × (text ≡ 61 ∷ form.behind)
-  equals-at {text = text} opens cut white =
+  pub equals-at : {inner before behind : List ℕ} → IsOpened opened inner
+      → IsLastCut 41 inner before behind
+      → (name ≡ before) × (behind_white behind ≡ 61 ∷ form.behind)
+  equals-at opens cut =
       let same = last_cut_same (cut-at opens) cut in
-      let equals = subst (λ l. IsBehindWhite l (61 ∷ form.behind)) same.1 form.equals in
-      (same.0, white_same white equals)
+      (same.0, ap behind_white (sym same.1) ∙ form.equals)
 
 -- its parts are known from the line and the tag
 pub tagged-same : {line tag n m d e : List ℕ} → HasTaggedForm line tag n d
     → HasTaggedForm line tag m e → (n ≡ m) × (d ≡ e)
-tagged-same {d = d} one two =
-    let same = equals-at one two.begins two.opens two.cut two.equals in
-    let ends = subst (λ l. IsBehindWhite l d) (ap (drop 1) (sym same.1)) one.ends in
-    (same.0, white_same ends two.ends)
+tagged-same one two =
+    let same = equals-at one two.begins two.opens two.cut in
+    let behind : one.behind ≡ two.behind = ap (drop 1) (sym same.1 ∙ two.equals) in
+    (same.0, one.ends ∙ ap behind_white behind ∙ sym two.ends)
 
 -- ---- tags
 
@@ -119,41 +115,10 @@ forms-apart a one two =
 
 -- ---- algorithms
 
--- what has the one form has the other
-found-same : {X : Type 0} {A B : X → Type 0} (o : Option X) → ((x : X) → A x → B x)
-    → ((x : X) → B x → A x) → Finds o A → Finds o B
-found-same None to from none = λ x is. none x (from x is)
-found-same (Some x) to from is = to x is
-
--- the algorithm is among these
-abbrev IsAmong : (line : List ℕ) → List Algorithm → Algorithm × List ℕ × List ℕ → Type 0
-IsAmong line algorithms parts =
-    Contains algorithms parts.0 × HasTaggedForm line (tag_of parts.0) parts.1 parts.2
-
-abbrev IsUnder : (line : List ℕ) → (asked : Option Algorithm) → Algorithm × List ℕ × List ℕ
-    → Type 0
-IsUnder line asked parts =
-    IsAskedFor asked parts.0 × HasTaggedForm line (tag_of parts.0) parts.1 parts.2
-
-pub found-asked : (line : List ℕ) (a : Algorithm) (found : Option (Algorithm × List ℕ × List ℕ))
-    → Finds found (IsAmong line (a ∷ [])) → Finds found (IsUnder line (Some a))
-found-asked line a found =
-    let P : Algorithm → Type 0 = λ b. a ≡ b in
-    found-same found
-    (λ parts is. (All-contains P (a ∷ []) parts.0 (All-cons P a [] refl (All-nil P)) is.0, is.1))
-    (λ parts is. ((0, omega arith, is.0), is.1))
-
-abbrev all_algorithms : List Algorithm
-all_algorithms = SHA1_FOR_LEGACY_USE_ONLY ∷ SHA256 ∷ SHA384 ∷ SHA512 ∷ SHA512_256 ∷ []
-
-among-all : (id : AlgorithmId) → Contains all_algorithms (record { id = id })
+-- each is one of all
+pub among-all : (id : AlgorithmId) → Contains (algorithms_read None) (record { id = id })
 among-all Sha1 = (0, omega arith, refl)
 among-all Sha256 = (1, omega arith, refl)
 among-all Sha384 = (2, omega arith, refl)
 among-all Sha512 = (3, omega arith, refl)
 among-all Sha512_256 = (4, omega arith, refl)
-
-pub found-any : (line : List ℕ) (found : Option (Algorithm × List ℕ × List ℕ))
-    → Finds found (IsAmong line all_algorithms) → Finds found (IsUnder line None)
-found-any line found =
-    found-same found (λ parts is. (tt, is.1)) (λ parts is. (among-all parts.0.id, is.1))

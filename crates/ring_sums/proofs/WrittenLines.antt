@@ -5,10 +5,10 @@ use Rattle.std.proofs.Common.{◌++◌, if◌then◌else◌, length, get_or, Opt
 use Rattle.std.proofs.Common.{ap, ◌∙◌, append_assoc, arith, inr}
 use Rattle.std.proofs.lemmas.Bool.{and_parts, le-leb, ne_eqb, true≢false}
 use Rattle.std.proofs.lemmas.List.{append_cancel_right}
-use Rattle.std.proofs.lemmas.List.Elements.{All-cons, All-nil}
+use Rattle.std.proofs.lemmas.List.Elements.{All-cons}
 use Rattle.std.proofs.lemmas.List.Folds.{list_all-append}
 use Rattle.std.specs.Char.{is_ascii_hexdigit}
-use Rattle.std.specs.List.{list_all}
+use Rattle.std.specs.List.{Contains, list_all}
 use Rattle.std.specs.Option.{option_or}
 use Rattle.hex.specs.Hex.{encode_lower, lower_digits}
 use Rattle.hex.proofs.HexLemmas.{length-encode_with}
@@ -20,10 +20,9 @@ use Rattle.ring.specs.declared.digest.algorithm.AlgorithmId.{AlgorithmId}
 use Rattle.ring.specs.declared.digest.algorithm.AlgorithmId.TheVariants.{Sha1, Sha256, Sha384}
 use Rattle.ring.specs.declared.digest.algorithm.AlgorithmId.TheVariants.{Sha512, Sha512_256}
 use Rattle.ring.specs.declared.digest.algorithm.TheConstants.{SHA512_256}
-use Rattle.ring_sums.specs.Entry.{HasPlainForm, HasTaggedForm, IsAskedFor, IsDigestOf, IsShape}
-use Rattle.ring_sums.specs.Entry.{Listed, ReadsAs}
-use Rattle.ring_sums.specs.Entry.{Shape, algorithm_of_count, gap_after, gap_shown, is_marked}
-use Rattle.ring_sums.specs.Entry.{listed_in, named_by, slash, tag_of, tag_of_id}
+use Rattle.ring_sums.specs.Entry.{HasPlainForm, HasTaggedForm, IsDigestOf, IsShape, Listed}
+use Rattle.ring_sums.specs.Entry.{ReadsAs, Shape, algorithm_of_count, algorithms_read, gap_after}
+use Rattle.ring_sums.specs.Entry.{gap_shown, is_marked, listed_in, named_by, tag_of, tag_of_id}
 use Rattle.ring_sums.specs.Entry.{with_digits, with_tag}
 use Rattle.ring_sums.specs.Line.{mark_of}
 use Rattle.ring_sums.specs.List.{line_of}
@@ -31,9 +30,9 @@ use Rattle.ring_sums.specs.Names.{escaped, escaped_byte, needs_escape}
 use Rattle.ring_sums.specs.declared.entry.Gap.{Gap}
 use Rattle.ring_sums.specs.declared.entry.Gap.TheVariants.{Unknown, One, Two}
 use Rattle.ring_sums.proofs.Escapes.{escaped-cases}
-use Rattle.ring_sums.proofs.Fronts.{White}
+use Rattle.ring_sums.proofs.Fronts.{white-front}
 use Rattle.ring_sums.proofs.LineParts.{are_digits, digits-start, length-escaped, listed_with-line}
-use Rattle.ring_sums.proofs.LineParts.{start-written}
+use Rattle.ring_sums.proofs.LineParts.{slash, start-written}
 use Rattle.ring_sums.proofs.PlainForm.{plain-first}
 use Rattle.ring_sums.proofs.TaggedForm.{tagged-first}
 
@@ -154,8 +153,8 @@ text-reads {listed = listed} {text} is line written = record {
   reading = record { is_escaped = needs_escape listed.name; shape = is.shape };
   is = record {
     text = text;
-    start = start-written (needs_escape listed.name) text
-        (rw (is.starts 32 refl, is.starts 9 refl)) (is.starts 92 refl) written;
+    start = rw written (start-written (needs_escape listed.name) text
+        (rw (is.starts 32 refl, is.starts 9 refl)) (is.starts 92 refl));
     shape = is.is;
   };
   lists = is.lists;
@@ -219,7 +218,8 @@ module _ (listed : Listed) (is : IsDigestOf listed.algorithm listed.digest) wher
             (clean-digits digits all_digits) (rw (is_mark is_binary).1 (clean-escaped listed.name));
       }
 
-  pub tagged-text : {asked : Option Algorithm} → IsAskedFor asked listed.algorithm
+  pub tagged-text : {asked : Option Algorithm}
+      → Contains (algorithms_read asked) listed.algorithm
       → (is_binary : Option Bool) (gap : Gap)
       → IsText asked gap listed gap (text_of true is_binary listed)
   unfolding listed_in
@@ -228,7 +228,7 @@ module _ (listed : Listed) (is : IsDigestOf listed.algorithm listed.digest) wher
       let behind = 41 ∷ 32 ∷ 61 ∷ 32 ∷ digits in
       let P : ℕ → Type 0 = λ b. eqb b 41 ≡ false in
       let none : IsWithout 41 digits = IsWithout-hex 41 refl listed.digest is.bytes in
-      let space = All-cons White 32 [] refl (All-nil White) in
+      let white = white-front digits (digits-start digits all_digits) in
       let form : HasTaggedForm (tag_of a ++ 32 ∷ 40 ∷ (name ++ behind)) (tag_of a) name digits =
       record {
         opened = 32 ∷ 40 ∷ (name ++ behind);
@@ -242,13 +242,8 @@ module _ (listed : Listed) (is : IsDigestOf listed.algorithm listed.digest) wher
           last = All-cons P 32 (61 ∷ 32 ∷ digits) refl
               (All-cons P 61 (32 ∷ digits) refl (All-cons P 32 digits refl none));
         };
-        equals = record { white = 32 ∷ []; all = space; whole = refl; ends = refl };
-        ends = record {
-          white = 32 ∷ [];
-          all = space;
-          whole = refl;
-          ends = digits-start digits all_digits;
-        };
+        equals = refl;
+        ends = sym white.1;
       } in
       record {
         shape = with_tag a name digits;

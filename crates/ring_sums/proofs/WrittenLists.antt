@@ -8,20 +8,21 @@ use Rattle.std.proofs.lemmas.Bool.{ne_eqb, or_parts, true≢false}
 use Rattle.std.proofs.lemmas.List.Elements.{All-cons, All-drop, All-head, All-nil, All-same}
 use Rattle.std.proofs.lemmas.List.Elements.{All-tail, All-weaker}
 use Rattle.std.proofs.lemmas.List.Splits.{slice_split_at}
-use Rattle.std.proofs.lemmas.Option.{none-some, same_Some}
 use Rattle.std.proofs.lemmas.Slice.Eq.{bytes_eq-Decides}
-use Rattle.std.specs.List.{All, flat_map}
+use Rattle.std.specs.List.{All, Contains, flat_map}
 use Rattle.std.specs.Option.{option_or}
 use Rattle.std.specs.Str.{bytes_eq}
 use Rattle.hex.specs.Hex.{encode_lower}
 use Rattle.ring.specs.declared.digest.algorithm.Algorithm.{Algorithm}
-use Rattle.ring_sums.specs.Entry.{IsAskedFor, Listed, algorithm_of_count, slash}
+use Rattle.ring_sums.specs.Entry.{Listed, algorithm_of_count, algorithms_read}
 use Rattle.ring_sums.specs.List.{CanReadBack, LineSays, LinesSay, is_passed_over, line_of, lines_in}
 use Rattle.ring_sums.specs.List.{lists, said_of, without_return}
 use Rattle.ring_sums.specs.Names.{needs_escape}
 use Rattle.ring_sums.specs.declared.entry.Gap.{Gap}
 use Rattle.ring_sums.specs.declared.entry.Gap.TheVariants.{One, Two}
+use Rattle.ring_sums.proofs.LineParts.{slash}
 use Rattle.ring_sums.proofs.Lists.{empty-says, said-listed}
+use Rattle.ring_sums.proofs.TaggedForm.{among-all}
 use Rattle.ring_sums.proofs.WrittenLines.{IsText, clean-append, is_clean, is_end, line-text}
 use Rattle.ring_sums.proofs.WrittenLines.{plain-text, shown, tagged-text, text-reads, text_of}
 
@@ -126,10 +127,9 @@ two-free : Two ≡ One → ⊥
 two-free h = cc
 
 asked-for : (asked : Option Algorithm) (a : Algorithm) {P : Type 0}
-    → (asked ≡ Some a) ⊎ ((asked ≡ None) × P) → IsAskedFor asked a
-asked-for (Some b) a (inl is) = same_Some b a is
-asked-for (Some b) a (inr is) = absurd (none-some b (sym is.0))
-asked-for None a is = tt
+    → (asked ≡ Some a) ⊎ ((asked ≡ None) × P) → Contains (algorithms_read asked) a
+asked-for asked a (inl is) = rw is (0, omega arith, refl)
+asked-for asked a (inr is) = rw is.0 (among-all a.id)
 
 module _ (asked : Option Algorithm) (is_standard_input : Bool) (is_binary : Option Bool) where
   next : (is_tagged : Bool) (gap : Gap) → (gap ≡ One → ⊥) → (listed : Listed)

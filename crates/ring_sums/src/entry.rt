@@ -1,16 +1,16 @@
 // SPDX-License-Identifier: ISC
 //! What a line of a list says.
 
-ghost use Rattle.std.specs.Prelude.{◌≡◌, ◌≢◌, ◌∷◌, ◌++◌, ℕ, List, IfOk, false, not};
+ghost use Rattle.std.specs.Prelude.{◌≡◌, ℕ, List, IfOk, not};
 ghost use Rattle.std.specs.Prelude.{Contains, option_copied, option_map, position};
 ghost use Rattle.std.specs.Char.{is_ascii_hexdigit};
 ghost use Rattle.ring.specs.declared.digest.algorithm.Algorithm.{Algorithm};
-ghost use Rattle.ring_sums.specs.Entry.{Finds, HasPlainForm, HasTaggedForm, IsAskedFor};
-ghost use Rattle.ring_sums.specs.Entry.{IsBehindWhite, IsLastCut, IsOpened, IsReading};
-ghost use Rattle.ring_sums.specs.Entry.{IsShape, IsVerdict, Reading, Shape};
-ghost use Rattle.ring_sums.specs.Entry.{algorithm_of_count, digest_in, gap_after, gap_shown};
-ghost use Rattle.ring_sums.specs.Entry.{is_marked, is_white, listed_by, listed_in, listed_with};
-ghost use Rattle.ring_sums.specs.Entry.{name_in, named_by, slash, tag_of, with_digits};
+ghost use Rattle.ring_sums.specs.Entry.{Finds, HasPlainForm, HasTaggedForm, IsLastCut, IsOpened};
+ghost use Rattle.ring_sums.specs.Entry.{IsReading, IsVerdict, Reading, algorithm_of_count};
+ghost use Rattle.ring_sums.specs.Entry.{algorithms_read, behind_backslash, behind_white, digest_in};
+ghost use Rattle.ring_sums.specs.Entry.{gap_after, gap_shown, is_marked, is_white, listed_by};
+ghost use Rattle.ring_sums.specs.Entry.{listed_in, listed_with, name_in, named_by, tag_of};
+ghost use Rattle.ring_sums.specs.Entry.{with_digits};
 
 use crate::names::unescaped;
 use crate::outcome::Outcome;
@@ -140,7 +140,7 @@ fn place_of_text(bytes: &[u8]) -> Option<usize>
 
 /// Bytes without the spaces and tabs at their start.
 fn without_white(bytes: &[u8]) -> &[u8]
-    ensures { IsBehindWhite bytes.now result.now }
+    ensures { result.now ≡ behind_white bytes.now }
 {
     match place_of_text(bytes) {
         Some(place) => &bytes[place..],
@@ -307,7 +307,7 @@ fn tagged_among<'a>(
 fn tagged(asked: Option<Algorithm>, line: &[u8]) -> Option<(Algorithm, &[u8], &[u8])>
     ensures { Finds {X = Algorithm × List ℕ × List ℕ}
         (option_map (λ parts. (parts.0, parts.1.now, parts.2.now)) result)
-        (λ parts. IsAskedFor asked parts.0
+        (λ parts. Contains (algorithms_read asked) parts.0
         × HasTaggedForm line.now (tag_of parts.0) parts.1 parts.2) }
 {
     match asked {
@@ -321,35 +321,11 @@ fn tagged(asked: Option<Algorithm>, line: &[u8]) -> Option<(Algorithm, &[u8], &[
 
 /// Whether a line begins with a backslash, and what is behind it.
 fn behind_backslash(line: &[u8]) -> (bool, &[u8])
-    ensures rest { line.now ≡ slash result.0 ++ result.1.now }
-    ensures escaped { result.0 ≡ false → (behind : List ℕ) → line.now ≢ 92 ∷ behind }
+    ensures { behind_backslash line.now ≡ (result.0, result.1.now) }
 {
     match after(line, b"\\") {
         Some(rest) => (true, rest),
         None => (false, line),
-    }
-}
-
-/// The entry of a line behind white space and a backslash.
-fn entry_in(
-    alloc: Global,
-    asked: Option<Algorithm>,
-    line: &[u8],
-    is_escaped: bool,
-    gap: &mut Gap,
-) -> Result<Option<Entry>, AllocError>
-    ensures { (shape : Shape) × IsShape asked line.now shape
-        × IfOk result (λ entry. option_map listed_by entry ≡ listed_in gap.old is_escaped shape)
-        × (gap.new ≡ gap_after gap.old shape) }
-{
-    if let Some((algorithm, name, digits)) = tagged(asked, line) {
-        return entry_with(alloc, algorithm, digits, name, is_escaped);
-    }
-    match plain_parts(asked, line) {
-        Some((algorithm, digits, rest)) => {
-            plain_entry(alloc, algorithm, digits, rest, is_escaped, gap)
-        }
-        None => Ok(None),
     }
 }
 
@@ -366,5 +342,13 @@ pub fn entry_of_line(
         × (gap.new ≡ gap_after gap.old reading.shape) }
 {
     let (is_escaped, line) = behind_backslash(without_white(line));
-    entry_in(alloc, asked, line, is_escaped, gap)
+    if let Some((algorithm, name, digits)) = tagged(asked, line) {
+        return entry_with(alloc, algorithm, digits, name, is_escaped);
+    }
+    match plain_parts(asked, line) {
+        Some((algorithm, digits, rest)) => {
+            plain_entry(alloc, algorithm, digits, rest, is_escaped, gap)
+        }
+        None => Ok(None),
+    }
 }

@@ -1,6 +1,5 @@
 -- SPDX-License-Identifier: ISC
-use Rattle.std.proofs.Common.{refl, subst}
-use Rattle.ring_sums.specs.Entry.{IsBehindWhite}
+use Rattle.std.proofs.Common.{refl, sym, ◌∙◌}
 use Rattle.ring_sums.proofs.TaggedForm.{cut-at, equals-at, opened-at}
 use Rattle.ring_sums.proofs.entry.tagged_parts.Goals as goal
 
@@ -20,8 +19,8 @@ returns-in_err-name c = rw c.from_residual-in_err-name.ensures λ parts form.
 pub returns-in_err-digits : goal.returns-in_err-digits
 returns-in_err-digits c = rw c.from_residual-in_err-digits.ensures λ parts form.
     let same = equals-at form c.in_ok-after.ensures.ok c.in_ok-inner.ensures
-    c.in_ok-name.ensures c.without_white.ensures in
-    c.in_err-digits.ensures.refused refl form.behind same.1
+    c.in_ok-name.ensures in
+    c.in_err-digits.ensures.refused refl form.behind (c.without_white.ensures ∙ same.1)
 
 pub returns : goal.returns
 returns c =
@@ -33,7 +32,6 @@ returns c =
       begins = c.in_ok-after.ensures.ok;
       opens = c.in_ok-inner.ensures;
       cut = c.in_ok-name.ensures;
-      equals = subst (IsBehindWhite c.in_ok-name.rest.now) c.in_ok-digits.ensures.ok
-          c.without_white.ensures;
+      equals = sym c.without_white.ensures ∙ c.in_ok-digits.ensures.ok;
       ends = c.without_white-2.ensures;
     }

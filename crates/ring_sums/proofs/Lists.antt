@@ -132,13 +132,3 @@ module _ {asked : Option Algorithm} {is_standard_input : Bool} {first : Gap} {te
       (more.said, [], after, more.says, (refl, refl), sym (append-nil more.said)) in
       subst (λ l. LinesSay asked is_standard_input 1 first (lines_in text) l after)
       (sym more.is) (so_far.joins more.said after whole)
-
-  -- an empty one says nothing
-  pub said-none : rest ≡ [] → LinesSay asked is_standard_input 1 first (lines_in text) front gap
-  unfolding LinesSay
-  said-none empty =
-      let whole : LinesSay asked is_standard_input number gap (lines_in rest) [] gap =
-      rw empty
-      ([], [], gap, empty-says asked is_standard_input number gap, (refl, refl), refl) in
-      subst (λ l. LinesSay asked is_standard_input 1 first (lines_in text) l gap)
-      (append-nil front) (so_far.joins [] gap whole)

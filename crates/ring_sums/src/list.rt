@@ -105,8 +105,6 @@ pub(crate) fn lines_of(
         append_line(&mut lines, asked, line, number, is_standard_input, gap)?;
         rest = behind;
     }
-    if !rest.is_empty() {
-        append_line(&mut lines, asked, rest, number + 1, is_standard_input, gap)?;
-    }
+    append_line(&mut lines, asked, rest, number + 1, is_standard_input, gap)?;
     Ok(lines)
 }

@@ -46,16 +46,11 @@ fn append_head(out: &mut Vec<u8>, is_zero: bool, name: &[u8]) -> Result<(), Allo
 }
 
 /// Appends the digits of a digest.
-fn append_digits(out: &mut Vec<u8>, digest: &Digest) -> Result<(), AllocError>
-    ensures ok { OnOk result (out.new.items
-        ≡ out.old.items ++ encode_lower (bytes_of digest.now)) }
-    ensures digest { OnOk result
-        (IsDigestOf (digest_algorithm digest.now) (bytes_of digest.now)) }
+fn append_digits(out: &mut Vec<u8>, digest: &[u8]) -> Result<(), AllocError>
+    ensures ok { OnOk result (out.new.items ≡ out.old.items ++ encode_lower digest.now) }
 {
     let alloc: Global = *out.allocator();
-    let bytes = digest.as_ref();
-    out.extend_from_slice(hex::encode(alloc, bytes)?.as_bytes())?;
-    Ok(())
+    out.extend_from_slice(hex::encode(alloc, digest)?.as_bytes())
 }
 
 /// Appends the end of a line.
@@ -71,13 +66,11 @@ fn append_plain_line(
     out: &mut Vec<u8>,
     is_zero: bool,
     mark: u8,
-    digest: &Digest,
+    digest: &[u8],
     name: &[u8],
 ) -> Result<(), AllocError>
     ensures ok { OnOk result (out.new.items
-        ≡ out.old.items ++ plain_line is_zero mark (bytes_of digest.now) name.now) }
-    ensures digest { OnOk result
-        (IsDigestOf (digest_algorithm digest.now) (bytes_of digest.now)) }
+        ≡ out.old.items ++ plain_line is_zero mark digest.now name.now) }
 {
     append_head(out, is_zero, name)?;
     append_digits(out, digest)?;
@@ -92,13 +85,11 @@ fn append_tagged_line(
     out: &mut Vec<u8>,
     is_zero: bool,
     tag: &[u8],
-    digest: &Digest,
+    digest: &[u8],
     name: &[u8],
 ) -> Result<(), AllocError>
     ensures ok { OnOk result (out.new.items
-        ≡ out.old.items ++ tagged_line is_zero tag.now (bytes_of digest.now) name.now) }
-    ensures digest { OnOk result
-        (IsDigestOf (digest_algorithm digest.now) (bytes_of digest.now)) }
+        ≡ out.old.items ++ tagged_line is_zero tag.now digest.now name.now) }
 {
     append_head(out, is_zero, name)?;
     out.extend_from_slice(tag)?;
@@ -121,12 +112,13 @@ pub(crate) fn append_file_line(
     ensures digest { OnOk result
         (IsDigestOf (digest_algorithm digest.now) (bytes_of digest.now)) }
 {
+    let bytes = digest.as_ref();
     if options.is_tagged {
         let tag = tag_of(&digest.algorithm()).as_bytes();
-        append_tagged_line(out, options.is_zero, tag, digest, name)
+        append_tagged_line(out, options.is_zero, tag, bytes, name)
     } else {
         let mark = mark_of(options.is_binary);
-        append_plain_line(out, options.is_zero, mark, digest, name)
+        append_plain_line(out, options.is_zero, mark, bytes, name)
     }
 }
 

@@ -177,12 +177,8 @@ struct Parser<'a> {
     operands: Vec<&'a [u8]>,
 }
 
-/// What an option that is read leads to.
-#[derive(Drop)]
-enum Step<'a> {
-    GoOn,
-    End(Request<'a>),
-}
+/// An option that is read, or what ends the reading.
+type Step<'a> = Result<(), Request<'a>>;
 
 impl<'a> Parser<'a> {
     /// The next word, which an option takes as its value.
@@ -196,8 +192,8 @@ impl<'a> Parser<'a> {
     fn set(&mut self, flag: Flag) -> Step<'a> {
         let options = &mut self.options;
         match flag {
-            Flag::Help => return Step::End(Request::Help),
-            Flag::Version => return Step::End(Request::Version),
+            Flag::Help => return Err(Request::Help),
+            Flag::Version => return Err(Request::Version),
             Flag::Binary => options.is_binary = Some(true),
             Flag::Text => options.is_binary = Some(false),
             Flag::Tag => {
@@ -215,7 +211,7 @@ impl<'a> Parser<'a> {
             Flag::Progress => options.shows_progress = true,
             Flag::Algorithm => {}
         }
-        Step::GoOn
+        Ok(())
     }
 
     /// Sets the algorithm.
@@ -223,7 +219,7 @@ impl<'a> Parser<'a> {
         match algorithm_of(name) {
             Some(algorithm) => {
                 self.options.algorithm = Some(algorithm);
-                Step::GoOn
+                Ok(())
             }
             None => refused(Refusal::NoAlgorithm(name)),
         }
@@ -253,16 +249,13 @@ impl<'a> Parser<'a> {
     fn read_letters(&mut self, word: &'a [u8]) -> Step<'a> {
         for (place, letter) in word.iter().enumerate() {
             let behind = word.get(place.saturating_add(1)..).unwrap_or(&[]);
-            let step = match flag_of_letter(*letter) {
+            match flag_of_letter(*letter) {
                 Some(Flag::Algorithm) => return self.read_algorithm(*letter, behind),
-                Some(flag) => self.set(flag),
-                None => refused(Refusal::Invalid(*letter)),
-            };
-            if let Step::End(_) = step {
-                return step;
+                Some(flag) => self.set(flag)?,
+                None => return refused(Refusal::Invalid(*letter)),
             }
         }
-        Step::GoOn
+        Ok(())
     }
 
     /// Reads the algorithm that stands behind a letter or in the next word.
@@ -288,16 +281,16 @@ impl<'a> Parser<'a> {
             let step = match word {
                 b"--" if !are_operands => {
                     are_operands = true;
-                    Step::GoOn
+                    Ok(())
                 }
                 [b'-', b'-', long @ ..] if !are_operands => self.read_long(long),
                 [b'-', _, ..] if !are_operands => self.read_letters(&word[1..]),
                 _ => {
                     self.operands.push(word)?;
-                    Step::GoOn
+                    Ok(())
                 }
             };
-            if let Step::End(request) = step {
+            if let Err(request) = step {
                 return Ok(request);
             }
         }
@@ -309,7 +302,7 @@ impl<'a> Parser<'a> {
 }
 
 fn refused(refusal: Refusal<'_>) -> Step<'_> {
-    Step::End(Request::Refused(refusal))
+    Err(Request::Refused(refusal))
 }
 
 /// What is wrong with options that are each right.

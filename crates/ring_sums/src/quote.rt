@@ -45,27 +45,17 @@ fn is_printable(name: &[u8]) -> bool {
 /// Whether each byte of a name is text beyond ASCII or plain.
 fn is_all_plain(name: &[u8]) -> bool {
     let is_alone = name.len() == 1;
-    let mut is_first = true;
-    for byte in name {
-        if byte.is_ascii() && !is_plain(*byte, is_first, is_alone) {
-            return false;
-        }
-        is_first = false;
-    }
-    true
+    let mut bytes = name.iter().enumerate();
+    bytes.all(|(place, byte)| !byte.is_ascii() || is_plain(*byte, place == 0, is_alone))
 }
 
 /// Whether a name has a single quote, and all of it stands for itself between double quotes.
 fn suits_double_quotes(name: &[u8]) -> bool {
     let is_alone = name.len() == 1;
-    let mut is_first = true;
-    for byte in name {
-        if !is_plain_in_double_quotes(*byte, is_first, is_alone) {
-            return false;
-        }
-        is_first = false;
-    }
-    name.contains(&b'\'') && is_printable(name)
+    let mut bytes = name.iter().enumerate();
+    bytes.all(|(place, byte)| is_plain_in_double_quotes(*byte, place == 0, is_alone))
+        && name.contains(&b'\'')
+        && is_printable(name)
 }
 
 /// How a name is quoted.

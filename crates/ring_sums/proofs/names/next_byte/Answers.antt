@@ -14,7 +14,7 @@ pub returns-in_err-letter-clause-is : goal.returns-in_err-letter-clause-is
 unfolding unescaped
 returns-in_err-letter-clause-is c =
     let empty = nil_from_length c.args.rest.now c.in_err-letter.ensures.cases in
-    rw (c.from_residual.ensures, c.if-first-ne92.false, empty) refl
+    rw (c.from_residual.ensures, empty, c.if-first-ne92.false) refl
 
 pub returns-in_err-unescaped_byte-clause-is : goal.returns-in_err-unescaped_byte-clause-is
 unfolding unescaped

@@ -10,11 +10,11 @@ use Rattle.base64.specs.declared.engine.DecodePaddingMode.TheVariants.{RequireNo
 use Rattle.ring_text.proofs.Base64.{encode_of-injective}
 use Rattle.ring_text.proofs.Cuts.{cut_same}
 use Rattle.ring_text.proofs.LowerHex.{encode_lower-injective}
-use Rattle.ring_password_hash.specs.Text.{IsEnd, adapted_symbols, field_then, written}
+use Rattle.ring_text.specs.Cut.{IsWithout}
+use Rattle.ring_password_hash.specs.Text.{adapted_symbols, field_then, written}
 use Rattle.ring_password_hash.specs.declared.scheme.Encoding.{Encoding}
 use Rattle.ring_password_hash.specs.declared.scheme.Encoding.TheVariants.{Plain, Hex, Base64}
 use Rattle.ring_password_hash.specs.declared.scheme.Encoding.TheVariants.{Base64NoPad, Adapted}
-use Rattle.ring_password_hash.proofs.Symbols.{IsWithout-base64}
 
 -- numbers in a row
 numbers_from : (first count : ℕ) → List ℕ
@@ -48,14 +48,10 @@ written-injective Base64NoPad xs ys hx hy e =
     encode_of-injective standard_no_pad refl xs ys hx hy e
 written-injective Adapted xs ys hx hy e = adapted-injective xs ys hx hy e
 
-pub base64-injective : (xs ys : List ℕ) → IsBytes xs → IsBytes ys
-    → written Base64 xs ≡ written Base64 ys → xs ≡ ys
-base64-injective = written-injective Base64
-
-pub base64_then-injective : (end : ℕ) → IsEnd end → (xs ys : List ℕ) {s t : List ℕ} → IsBytes xs
-    → IsBytes ys
-    → field_then Base64 xs end s ≡ field_then Base64 ys end t → (xs ≡ ys) × (s ≡ t)
-base64_then-injective end is xs ys {s} {t} hx hy e =
-    let cut = cut_same end (written Base64 xs) (written Base64 ys) s t
-    (IsWithout-base64 end is xs hx) (IsWithout-base64 end is ys hy) e in
-    (base64-injective xs ys hx hy cut.0, cut.1)
+-- so are a field, the byte that ends it and the rest
+pub field_then-injective : (x : Encoding) (end : ℕ) {xs ys s t : List ℕ} → IsBytes xs → IsBytes ys
+    → IsWithout end (written x xs) → IsWithout end (written x ys)
+    → field_then x xs end s ≡ field_then x ys end t → (xs ≡ ys) × (s ≡ t)
+field_then-injective x end {xs} {ys} {s} {t} hx hy ax ay e =
+    let cut = cut_same end (written x xs) (written x ys) s t ax ay e in
+    (written-injective x xs ys hx hy cut.0, cut.1)

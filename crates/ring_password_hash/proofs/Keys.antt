@@ -1,19 +1,15 @@
 -- SPDX-License-Identifier: ISC
 -- SCRAM's two keys as one list of bytes.
-use Rattle.std.proofs.Common.{◌≡◌, ◌++◌, ◌∙◌, ℕ, Bool, true, false, List, [], ap}
+use Rattle.std.proofs.Common.{◌≡◌, ◌++◌, ◌∙◌, ℕ, true, List, [], ap}
 use Rattle.std.proofs.Common.{append-nil, arith, drop, inr, length, refl, sym, take}
 use Rattle.std.proofs.lemmas.List.{drop_at, length-take-le, take_at}
 use borrow.Rule.Slice.PartMut.{put_mid}
 use Rattle.hex.specs.Hex.{IsBytes}
 use Rattle.ring_text.proofs.Base64.{bytes_front}
 use Rattle.ring_text.specs.Cut.{IsWithout}
-use Rattle.ring_password_hash.specs.Scheme.{IsRow, kept_encoding_of, row_of}
-use Rattle.ring_password_hash.specs.Text.{field_then, kept_by, kept_text, written}
-use Rattle.ring_password_hash.specs.declared.scheme.Encoding.{Encoding}
+use Rattle.ring_password_hash.specs.Text.{field_then, kept_by, written}
 use Rattle.ring_password_hash.specs.declared.scheme.Encoding.TheVariants.{Base64}
-use Rattle.ring_password_hash.specs.declared.scheme.Row as code
-use Rattle.ring_password_hash.specs.declared.scheme.Scheme.{Scheme}
-use Rattle.ring_password_hash.proofs.Fields.{base64_then-injective}
+use Rattle.ring_password_hash.proofs.Fields.{field_then-injective}
 use Rattle.ring_password_hash.proofs.Pieces.{take-put}
 use Rattle.ring_password_hash.proofs.Symbols.{IsWithout-base64}
 
@@ -26,8 +22,8 @@ pub keys_read : (a xs rest : List ℕ) {text : List ℕ} → IsBytes a → IsByt
     → text ≡ field_then Base64 a 58 rest → text ≡ kept_by true Base64 xs
     → (a ≡ take 32 xs) × (rest ≡ written Base64 (drop 32 xs))
 keys_read a xs rest ha hx read e =
-    base64_then-injective 58 (inr refl) a (take 32 xs) ha (bytes_front 32 xs hx)
-    (sym read ∙ e)
+    field_then-injective Base64 58 ha (bytes_front 32 xs hx) (IsWithout-base64 58 (inr refl) a ha)
+    (first_apart xs hx) (sym read ∙ e)
 
 -- the second key was copied behind the first one
 module _ (out key piece : List ℕ) {text rest : List ℕ} (room : length out ≡ 1024)
@@ -47,15 +43,3 @@ module _ (out key piece : List ℕ) {text rest : List ℕ} (room : length out �
       let len = length-take-le 32 out (omega arith) in
       rw (both, take_at first second 32 len, drop_at first second 32 len)
       (read ∙ ap (field_then Base64 (take 32 out) 58) last)
-
--- what is kept where it is no keys
-pub kept_as : (k : Scheme) {r : code.Row} → IsRow r (row_of k) → r.keeps_keys ≡ false
-    → (kept : List ℕ) → kept_text k kept ≡ written r.kept kept
-kept_as k is none kept =
-    ap (λ (keys : Bool). kept_by keys (kept_encoding_of k) kept) (sym is.keeps_keys ∙ none)
-    ∙ ap (λ (x : Encoding). written x kept) (sym is.kept)
-
-pub keys_as : (k : Scheme) {r : code.Row} → IsRow r (row_of k) → r.keeps_keys ≡ true
-    → (kept : List ℕ) → kept_text k kept ≡ kept_by true Base64 kept
-keys_as k is keys kept =
-    ap (λ (keys : Bool). kept_by keys (kept_encoding_of k) kept) (sym is.keeps_keys ∙ keys)

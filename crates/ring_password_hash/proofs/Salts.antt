@@ -1,17 +1,13 @@
 -- SPDX-License-Identifier: ISC
 -- The symbols of a salt, and that a scheme can write them.
 use Rattle.std.proofs.Common.{◌≡◌, ◌<◌, ◌==◌, ◌+◌, ◌-◌, ◌/◌, ◌%◌, ◌∷◌, ◌++◌, ◌∙◌, ℕ, zero, suc}
-use Rattle.std.proofs.Common.{Bool, true, false, List, [], ap, append_assoc, arith, length, refl}
-use Rattle.std.proofs.Common.{sym, take, true≢false}
-use Rattle.std.specs.Prelude.{◌&&◌, ◌||◌, nat_lt, not, slice_index, slice_set}
-use Rattle.std.proofs.lemmas.Bool.Decides.{nat_tests}
+use Rattle.std.proofs.Common.{Bool, true, List, [], ap, append_assoc, arith, length, refl}
+use Rattle.std.proofs.Common.{sym, take}
+use Rattle.std.specs.Prelude.{not, slice_index, slice_set}
 use Rattle.std.proofs.lemmas.List.{append-nil, take_all, take_more_set}
 use Rattle.std.specs.List.{list_all}
 use Rattle.base64.proofs.Tables.{all_below_at}
 use Rattle.ring_password_hash.specs.Salt.{letters, symbols}
-use Rattle.ring_password_hash.specs.Scheme.{salt_encoding_of}
-use Rattle.ring_password_hash.specs.Stored.{is_salt, is_text}
-use Rattle.ring_password_hash.specs.declared.scheme.Scheme.{Scheme}
 
 abbrev is_apart : ℕ → Bool
 is_apart k = not (slice_index symbols k == 36)
@@ -23,24 +19,6 @@ letters_apart zero n = refl
 letters_apart (suc count) n =
     let apart : is_apart (n % 62) ≡ true = all_below_at is_apart 62 (n % 62) refl (omega arith) in
     rw apart (letters_apart count (n / 62))
-
--- the scheme can have the salt that is made of bytes
-salt_at : (text : Bool) (s : List ℕ) → 0 < length s
-    → (text ≡ true → list_all (λ b. not (b == 36)) s ≡ true)
-    → (nat_lt 0 (length s) && (not text || list_all (λ b. not (b == 36)) s)) ≡ true
-salt_at true s some plain = rw (plain refl) (grind (arith, nat_tests, some))
-salt_at false s some plain = grind (arith, nat_tests, some)
-
-pub text_salt : (k : Scheme) (s : List ℕ) → length s ≡ 22
-    → list_all (λ b. not (b == 36)) s ≡ true → is_salt k s ≡ true
-text_salt k s len plain =
-    salt_at (is_text (salt_encoding_of k)) s (omega (arith, len)) (λ _. plain)
-
-pub bytes_salt : (k : Scheme) (s : List ℕ) → length s ≡ 16 → is_text (salt_encoding_of k) ≡ false
-    → is_salt k s ≡ true
-bytes_salt k s len other =
-    salt_at (is_text (salt_encoding_of k)) s (omega (arith, len))
-    (λ text. absurd (true≢false (sym text ∙ other)))
 
 one_more : (a b : List ℕ) (s : ℕ) → a ++ s ∷ b ≡ (a ++ s ∷ []) ++ b
 one_more a b s = simp append_assoc

@@ -1,15 +1,14 @@
 -- SPDX-License-Identifier: ISC
 -- A text is read in one way.
-use Rattle.std.proofs.Common.{◌≡◌, ◌==◌, ◌∷◌, ◌++◌, ◌∙◌, ℕ, Bool, true, false, List, [], ap, drop}
+use Rattle.std.proofs.Common.{◌≡◌, ◌==◌, ◌++◌, ◌∙◌, ℕ, Bool, true, false, List, ap, drop}
 use Rattle.std.proofs.Common.{inl, length, refl, subst, sym, take}
 use Rattle.std.specs.Prelude.{◌||◌, None, Option, Some, not}
-use Rattle.std.proofs.lemmas.Bool.{and_parts, not-true}
+use Rattle.std.proofs.lemmas.Bool.{and_parts}
 use Rattle.std.proofs.lemmas.List.{take-append-drop}
-use Rattle.std.proofs.lemmas.List.Elements.{All-cons, All-nil}
 use Rattle.std.specs.List.{list_all}
 use Rattle.std.specs.declared.num.NonZeroU32.{NonZeroU32}
 use Rattle.hex.specs.Hex.{IsBytes}
-use Rattle.ring_text.proofs.Cuts.{NotAt, cut_same}
+use Rattle.ring_text.proofs.Cuts.{IsWithout-lacks}
 use Rattle.ring_text.proofs.LowerHex.{IsWithout-hex}
 use Rattle.ring_text.specs.Cut.{IsWithout}
 use Rattle.ring_text.proofs.Base64.{bytes_behind, bytes_front}
@@ -23,24 +22,17 @@ use Rattle.ring_password_hash.specs.declared.scheme.Encoding.TheVariants.{Plain,
 use Rattle.ring_password_hash.specs.declared.scheme.Encoding.TheVariants.{Base64NoPad, Adapted}
 use Rattle.ring_password_hash.specs.declared.scheme.Scheme.{Scheme}
 use Rattle.ring_password_hash.specs.declared.text.Parameters.{Parameters}
-use Rattle.ring_password_hash.proofs.Fields.{base64-injective, written-injective}
+use Rattle.ring_password_hash.proofs.Fields.{field_then-injective, written-injective}
 use Rattle.ring_password_hash.proofs.Heads.{head_then-injective}
 use Rattle.ring_password_hash.proofs.Keys.{keys_read}
 use Rattle.ring_password_hash.proofs.SchemesApart.{same_scheme}
 use Rattle.ring_password_hash.proofs.Symbols.{IsWithout-adapted, IsWithout-base64}
 use Rattle.ring_password_hash.proofs.Symbols.{IsWithout-base64_no_pad}
 
--- a test of each byte, and what it says
-without_from : (s : List ℕ) → list_all (λ b. not (b == 36)) s ≡ true → IsWithout 36 s
-without_from [] all = All-nil (NotAt 36)
-without_from (b ∷ s) all =
-    All-cons (NotAt 36) b s (not-true (b == 36) (and_parts _ _ all).0)
-    (without_from s (and_parts _ _ all).1)
-
 plain_apart : (x : Encoding) (s : List ℕ)
     → (not (is_text x) || list_all (λ b. not (b == 36)) s) ≡ true → IsBytes s
     → IsWithout 36 (written x s)
-plain_apart Plain s plain h = without_from s plain
+plain_apart Plain s plain h = IsWithout-lacks 36 s plain
 plain_apart Hex s plain h = IsWithout-hex 36 refl s h
 plain_apart Base64 s plain h = IsWithout-base64 36 (inl refl) s h
 plain_apart Base64NoPad s plain h = IsWithout-base64_no_pad 36 (inl refl) s h
@@ -51,19 +43,12 @@ pub salt_apart : (k : Scheme) (s : List ℕ) → is_salt k s ≡ true → IsByte
     → IsWithout 36 (written (salt_encoding_of k) s)
 salt_apart k s is h = plain_apart (salt_encoding_of k) s (and_parts _ _ is).1 h
 
-field_then-injective : (x : Encoding) (end : ℕ) {xs ys s t : List ℕ} → IsBytes xs → IsBytes ys
-    → IsWithout end (written x xs) → IsWithout end (written x ys)
-    → field_then x xs end s ≡ field_then x ys end t → (xs ≡ ys) × (s ≡ t)
-field_then-injective x end {xs} {ys} {s} {t} hx hy ax ay e =
-    let cut = cut_same end (written x xs) (written x ys) s t ax ay e in
-    (written-injective x xs ys hx hy cut.0, cut.1)
-
 kept_by-injective : (keys : Bool) (x : Encoding) (g h : List ℕ) → IsBytes g → IsBytes h
     → kept_by keys x g ≡ kept_by keys x h → g ≡ h
 kept_by-injective false x g h hg hh e = written-injective x g h hg hh e
 kept_by-injective true x g h hg hh e =
     let read = keys_read (take 32 g) h _ (bytes_front 32 g hg) hh refl e in
-    let behind = base64-injective (drop 32 g) (drop 32 h) (bytes_behind 32 g hg)
+    let behind = written-injective Base64 (drop 32 g) (drop 32 h) (bytes_behind 32 g hg)
     (bytes_behind 32 h hh) read.1 in
     sym (take-append-drop 32 g) ∙ ap (λ l. l ++ drop 32 g) read.0
     ∙ ap (λ l. take 32 h ++ l) behind ∙ take-append-drop 32 h

@@ -109,9 +109,10 @@ fn named_parameters(text: &[u8]) -> Option<(Parameters, NonZeroU32, usize, &[u8]
     ensures ok { IfSome result (λ found. (k : Scheme) → names_len k ≡ true
         → (text.now ≡ parameters_then k found.0 found.1 found.2 found.3.now)
         × IsCount found.1 × IsLen k found.0 found.2) }
-    ensures refused { IsNone result → (k : Scheme) (p : Parameters) (c : NonZeroU32) (n : ℕ)
-        (rest : List ℕ) → p ≢ Parameters.Count → IsCount c → IsNamed k n
-        → text.now ≢ parameters_then k p c n rest }
+    ensures refused { IsNone result → (k : Scheme) (c : NonZeroU32) (n : ℕ) (rest : List ℕ)
+        → IsCount c → IsNamed k n
+        → (text.now ≢ parameters_then k Parameters.CountThenLen c n rest)
+        × (text.now ≢ parameters_then k Parameters.LenThenCount c n rest) }
 {
     if let Some((iterations, len, rest)) = two_counts(text, b"i=", b"l=") {
         let len = named_len(len)?;

@@ -35,14 +35,6 @@ IsWithout-decimal end none c h =
     (λ d digit. ne_eqb d end (λ same. none (subst IsDigit same digit)))
     (decimal (non_zero_u32_get c)) (All-decimal (non_zero_u32_get c) h)
 
--- a number, the byte that ends it and the rest are known from the whole
-pub number_same : (m n x y : ℕ) (s t : List ℕ) → m < 2 ^ 32 → n < 2 ^ 32 → (IsDigit x → ⊥)
-    → (IsDigit y → ⊥) → number_then m x s ≡ number_then n y t → (m ≡ n) × (x ≡ y) × (s ≡ t)
-number_same m n x y s t hm hn nx ny e =
-    let run = run_same IsDigit x y nx ny (decimal m) (decimal n) s t (All-decimal m hm)
-    (All-decimal n hn) e in
-    (decimal_injective m n (omega arith) (omega arith) run.0, run.1, run.2)
-
 pos_prop : (n : ℕ) → IsProp (0 < n)
 pos_prop n = hlevel props
 
@@ -53,18 +45,26 @@ same_count c d e =
     Σ_prop_path pos_prop e in
     λ i. record { value = (pairs i).0; ok = (pairs i).1 }
 
-pub count_same : (c d : NonZeroU32) (x y : ℕ) (s t : List ℕ) → IsCount c → IsCount d
-    → (IsDigit x → ⊥) → (IsDigit y → ⊥) → count_then c x s ≡ count_then d y t
-    → (c ≡ d) × (x ≡ y) × (s ≡ t)
-count_same c d x y s t hc hd nx ny e =
-    let read = number_same (non_zero_u32_get c) (non_zero_u32_get d) x y s t hc hd nx ny e in
-    (same_count c d read.0, read.1, read.2)
+-- a number, the byte that ends it and the rest are known from the whole
+module _ {x y : ℕ} {s t : List ℕ} (nx : IsDigit x → ⊥) (ny : IsDigit y → ⊥) where
+  pub number_same : (m n : ℕ) → m < 2 ^ 32 → n < 2 ^ 32
+      → number_then m x s ≡ number_then n y t → (m ≡ n) × (x ≡ y) × (s ≡ t)
+  number_same m n hm hn e =
+      let run = run_same IsDigit x y nx ny (decimal m) (decimal n) s t (All-decimal m hm)
+      (All-decimal n hn) e in
+      (decimal_injective m n (omega arith) (omega arith) run.0, run.1, run.2)
+
+  pub count_same : (c d : NonZeroU32) → IsCount c → IsCount d
+      → count_then c x s ≡ count_then d y t → (c ≡ d) × (x ≡ y) × (s ≡ t)
+  count_same c d hc hd e =
+      let read = number_same (non_zero_u32_get c) (non_zero_u32_get d) hc hd e in
+      (same_count c d read.0, read.1, read.2)
 
 pub count_then-injective : (end : ℕ) → (IsDigit end → ⊥) → (c d : NonZeroU32)
     → (s t : List ℕ) → IsCount c → IsCount d → count_then c end s ≡ count_then d end t
     → (c ≡ d) × (s ≡ t)
 count_then-injective end none c d s t hc hd e =
-    let read = count_same c d end end s t hc hd none none e in
+    let read = count_same none none c d hc hd e in
     (read.0, read.2)
 
 -- a count was written, and what followed

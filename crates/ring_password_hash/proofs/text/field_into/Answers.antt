@@ -1,8 +1,7 @@
 -- SPDX-License-Identifier: ISC
 use Rattle.std.proofs.Common.{refl}
-use Rattle.ring_text.proofs.Cuts.{not_cut}
+use Rattle.ring_text.proofs.Cuts.{first_cut, not_cut}
 use Rattle.ring_password_hash.specs.Text.{written}
-use Rattle.ring_password_hash.proofs.Texts.{field_cut}
 use Rattle.ring_password_hash.proofs.text.field_into.Goals as goal
 
 pub returns-in_err-field-clause-refused : goal.returns-in_err-field-clause-refused
@@ -12,5 +11,5 @@ returns-in_err-field-clause-refused c = λ _ bytes rest h apart e.
 
 pub returns-in_err-len-clause-refused : goal.returns-in_err-len-clause-refused
 returns-in_err-len-clause-refused c = λ _ bytes rest h apart e.
-    let cut = field_cut c.in_ok-field.ensures.ok c.args.encoding bytes rest apart e in
+    let cut = first_cut c.in_ok-field.ensures.ok (written c.args.encoding bytes) rest apart e in
     c.in_err-len.ensures.refused refl bytes h cut.0

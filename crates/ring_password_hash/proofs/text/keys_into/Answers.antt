@@ -4,7 +4,7 @@ use Rattle.std.proofs.lemmas.List.{length-drop, length-take-le}
 use Rattle.ring_text.proofs.Base64.{bytes_behind, bytes_front}
 use Rattle.ring_password_hash.specs.Text.{field_then, written}
 use Rattle.ring_password_hash.specs.declared.scheme.Encoding.TheVariants.{Base64}
-use Rattle.ring_password_hash.proofs.Fields.{base64-injective}
+use Rattle.ring_password_hash.proofs.Fields.{written-injective}
 use Rattle.ring_password_hash.proofs.Keys.{first_apart, keys_copied, keys_read}
 use Rattle.ring_password_hash.proofs.text.keys_into.Goals as goal
 
@@ -30,8 +30,8 @@ returns-then-len-ne-KEY_LEN-clause-refused c = λ _ bytes h len e.
     let front = bytes_front n out c.field_into.ensures.bytes in
     let behind = bytes_front m key c.decode_base64_into.ensures.bytes in
     let read = keys_read _ bytes _ front h c.in-Some.ensures.ok.0 e in
-    let second = base64-injective (take m key) (drop 32 bytes) behind (bytes_behind 32 bytes h)
-    (sym c.in-Some-decode_base64_into.ensures.ok ∙ read.1) in
+    let second = written-injective Base64 (take m key) (drop 32 bytes) behind
+    (bytes_behind 32 bytes h) (sym c.in-Some-decode_base64_into.ensures.ok ∙ read.1) in
     let within = c.in-Some.ensures.within in
     let within' = c.in-Some-decode_base64_into.ensures.within in
     let one : n ≡ 32 =

@@ -115,7 +115,7 @@ fn hash(
     }
 }
 
-use Encoding::{Adapted, Base64, Base64NoPad as NoPad, Hex, Plain};
+use Encoding::{Adapted, Base64, Base64NoPad, Hex, Plain};
 
 const SHA1: Algorithm = PBKDF2_HMAC_SHA1;
 
@@ -161,11 +161,25 @@ impl Scheme {
             Self::PasslibSha512 => hash(name, b"$pbkdf2-sha512$", Adapted, Adapted, 64, SHA512),
             Self::PhcSha256 => Row {
                 names_len: true,
-                ..hash(name, b"$pbkdf2-sha256$", NoPad, NoPad, 32, SHA256)
+                ..hash(
+                    name,
+                    b"$pbkdf2-sha256$",
+                    Base64NoPad,
+                    Base64NoPad,
+                    32,
+                    SHA256,
+                )
             },
             Self::PhcSha512 => Row {
                 names_len: true,
-                ..hash(name, b"$pbkdf2-sha512$", NoPad, NoPad, 32, SHA512)
+                ..hash(
+                    name,
+                    b"$pbkdf2-sha512$",
+                    Base64NoPad,
+                    Base64NoPad,
+                    32,
+                    SHA512,
+                )
             },
             Self::Postgresql => Row {
                 keeps_keys: true,

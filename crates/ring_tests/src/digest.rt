@@ -2,7 +2,6 @@
 //! Digests: agreement with other implementations, in whatever pieces, and the texts of Debug.
 
 use crate::messages::{counting_bytes, padded_blocks, takes_all};
-use crate::several::ALGORITHMS;
 use crate::texts::prints;
 use ring::cost::Meter;
 use ring::digest::dynstate::DynState;
@@ -16,6 +15,15 @@ use sha1::Sha1;
 use sha2::{Digest, Sha256, Sha384, Sha512, Sha512_256};
 use std::num::Wrapping;
 use std::test::Fail;
+
+/// The five algorithms.
+pub const ALGORITHMS: [Algorithm; 5] = [
+    SHA1_FOR_LEGACY_USE_ONLY,
+    SHA256,
+    SHA384,
+    SHA512,
+    SHA512_256,
+];
 
 // Each algorithm, with pieces of one byte, and of a block, a byte less and a byte more.
 const PIECE_LENS: [(Algorithm, [usize; 4]); 5] = [

@@ -1,7 +1,7 @@
 // SPDX-License-Identifier: ISC
 //! Algorithms are equal only to themselves.
 
-use crate::{hkdf, hmac, pbkdf2_each, several};
+use crate::{digest, hkdf, hmac, pbkdf2_each};
 
 // How many pairs of two, each also with itself, are equal.
 fn equal_pairs<T: PartialEq>(all: &[T]) -> usize {
@@ -18,7 +18,7 @@ fn equal_pairs<T: PartialEq>(all: &[T]) -> usize {
 
 #[test]
 fn algorithms_are_told_apart(rt: HostRuntime) {
-    assert!(rt; equal_pairs(&several::ALGORITHMS) == 5);
+    assert!(rt; equal_pairs(&digest::ALGORITHMS) == 5);
     assert!(rt; equal_pairs(&hmac::PIECE_LENS.map(|row| row.0)) == 4);
     assert!(rt; equal_pairs(&hkdf::LENGTHS.map(|row| row.0)) == 4);
     assert!(rt; equal_pairs(&pbkdf2_each::ALGORITHMS) == 4);

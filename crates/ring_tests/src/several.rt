@@ -1,24 +1,12 @@
 // SPDX-License-Identifier: ISC
 //! Digests of several messages at once: agreement with other implementations, in every place.
 
-use crate::digest::is_of_others;
+use crate::digest::{ALGORITHMS, is_of_others};
 use crate::messages::{counting_bytes, padded_blocks};
 use ring::cost::Meter;
-use ring::digest::{
-    Algorithm, Digest, SHA1_FOR_LEGACY_USE_ONLY, SHA256, SHA384, SHA512, SHA512_256, digest,
-    digest_each_counted, digest_each_in,
-};
+use ring::digest::{Algorithm, Digest, digest, digest_each_counted, digest_each_in};
 use ring::error::Unspecified;
 use ring::width::AVX2;
-
-/// The five algorithms.
-pub const ALGORITHMS: [Algorithm; 5] = [
-    SHA1_FOR_LEGACY_USE_ONLY,
-    SHA256,
-    SHA384,
-    SHA512,
-    SHA512_256,
-];
 
 // How many lengths there are from 0 to 257.
 const LENS: usize = 258;

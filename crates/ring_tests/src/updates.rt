@@ -2,9 +2,9 @@
 //! Contexts of several messages updated at once: agreement with other implementations, in every
 //! place.
 
-use crate::digest::is_of_others;
+use crate::digest::{ALGORITHMS, is_of_others};
 use crate::messages::{counting_bytes, whole_blocks};
-use crate::several::{ALGORITHMS, MOST, mixed};
+use crate::several::{MOST, mixed};
 use ring::cost::Meter;
 use ring::digest::{
     Algorithm, Context, SHA1_FOR_LEGACY_USE_ONLY, SHA256, SHA384, SHA512, update_each,

@@ -1,7 +1,7 @@
 #!/usr/bin/env python3
 # SPDX-License-Identifier: ISC
-"""Compares the examples of README.md, docs/USING.md and the libraries' pages with proved callers,
-and looks for a caller of each call.
+"""Compares the examples of README.md, of docs/ and of the libraries' pages with proved callers, and
+looks for a caller of each call.
 
 An example is a block of Rattle code: in Markdown one that is marked `rust`, in the `//!` lines of a
 source file one that has no mark; a program of the reader's is none. Its lines must stand one after
@@ -25,6 +25,7 @@ import rattle_items
 
 ROOT = rattle_items.ROOT
 CALLERS = sorted(ROOT.glob("crates/ring_examples/src/*.rt"))
+CALLERS.append(ROOT / "crates/ring_schedules/src/example.rt")
 LIBRARIES = ("ring_core", "ring", "ring_store", "ring_password_hash")
 CALLED = ("ring_core", "ring", "ring_password_hash")
 PAGES = [path for name in LIBRARIES for path in sorted(ROOT.glob(f"crates/{name}/src/**/*.rt"))]
@@ -80,7 +81,7 @@ def caller_of(front, call):
 
 def main():
     callers = [path.read_text() for path in CALLERS]
-    pages = [ROOT / name for name in ("README.md", "docs/USING.md")]
+    pages = [ROOT / "README.md", *sorted(ROOT.glob("docs/*.md"))]
     marked = [(page, *it) for page in pages for it in examples(page.read_text(), "rust")]
     found = [it for it in marked if "fn main(" not in it[2]]
     found += [(path, *it) for path in PAGES for it in examples(page_of(path.read_text()), "")]

@@ -537,14 +537,6 @@ def packets_case(name):
     return run
 
 
-def example_stands():
-    """The caller of docs/SCHEDULES.md stands in ring_schedules/src/example.rt letter by letter."""
-    page = (ROOT / "docs/SCHEDULES.md").read_text()
-    shown = re.search(r"```rust\n(.*?)```", page, re.DOTALL).group(1)
-    kept = (ROOT / "crates/ring_schedules/src/example.rt").read_text()
-    return [] if shown in kept else [("docs/SCHEDULES.md", "another text")]
-
-
 def cases():
     """Each case, and the file that it needs besides Python."""
     openssl = pathlib.Path(shutil.which("openssl") or "openssl")
@@ -553,7 +545,7 @@ def cases():
     yield traces_are_of_the_text, TEXTS["informational/rfc8448"]
     for name in ("rfc9001", "rfc9369"):
         yield packets_case(name), TEXTS[f"proposed-standard/{name}"]
-    yield from ((case, ROOT) for case in (example_stands, are_as_hmac))
+    yield are_as_hmac, ROOT
     yield are_as_openssl_kdf, openssl
     for case in (peer_under_psk, peer_with_x25519):
         yield from ((with_peer(case, name), openssl) for name in HASHES)

@@ -68,7 +68,7 @@ DERIVES = frozenset(
     for name in ("derive_in", "verify_in", "new_counted", "verify_counted")
 )
 MAY_DERIVE = re.compile(
-    r"yz_pbkdf2_\w+|yz_password_hash_(?:verify|new)(?:_counted)?|derive|verify|write_new"
+    r"yz_pbkdf2_\w+|yz_password_hash_(?:verify|new)(?:_counted)?|derive|verify"
 )
 MAKES_TEXT = "new_value"
 # What loads the words of blocks and what counts these: that it counts as many is its contract. Each
@@ -79,11 +79,11 @@ COUNTS = {
     "four_of": "add_block()",
     "read_block": "add_block()",
     "block_of_words": "add_block()",
-    "load_block": "add_block()",
-    "load_blocks": "add_blocks(V::LANES)",
-    "load_words": "add_blocks(S::LANES)",
+    "SameBlock": "add_block()",
+    "BlockInEach": "add_blocks(V::LANES)",
+    "FrontAndPadding": "add_blocks(S::LANES)",
 }
-RUNS = "run_block|run_loaded"
+RUNS = "run_block"
 FAMILIES = 2
 # The imports that may have another name: of modules, since a call is found without its module.
 RENAMED = re.compile(
@@ -343,8 +343,8 @@ def uncounted_runs(places):
     loop."""
     for place in places:
         body = place.function.body
-        loads = [it for name in COUNTS for it in re.finditer(rf"\b({name}){GENERIC}\(", body)]
-        runs = list(re.finditer(rf"\b(?:{RUNS}){GENERIC}\(", body))
+        loads = [it for name in COUNTS for it in re.finditer(rf"\b({name}){GENERIC} ?[({{]", body)]
+        runs = list(re.finditer(rf"\b{RUNS}{GENERIC}\(", body))
         counts = list(re.finditer(r"\.add_blocks?\(", body))
         if not loads and not runs and not counts:
             continue
@@ -485,7 +485,7 @@ def rules_without_meters(places, own):
 def rules_of_blocks(places):
     """The rules of where blocks are run: each with whether it holds, and what breaks it."""
     for load in COUNTS:
-        found = naming(places, rf"\b{load}{GENERIC}\(")
+        found = naming(places, rf"\b{load}{GENERIC} ?[({{]")
         yield f"each family calls `{load}` in one place", len(found) == FAMILIES, found
     uncounted = list(uncounted_runs(places))
     yield COUNTED_ONCE, not uncounted, uncounted

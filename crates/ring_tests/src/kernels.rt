@@ -24,28 +24,18 @@ use ring::digest::{SHA1_FOR_LEGACY_USE_ONLY, SHA256, SHA512};
 use ring::polyfill::slice::as_chunks;
 use std::num::Wrapping;
 
-// A message and its padding in whole blocks of 64 bytes (FIPS 180-4, section 5.1.1), and how many
-// bytes these are.
-fn padded_to_64(message: &[u8]) -> ([u8; 320], usize)
-    requires { length message.now ≤ 257 }
-    ensures { result.1 ≤ 320 }
-{
-    let len = message.len();
-    let end = (len + 8) / 64 * 64 + 64;
-    let mut room = [0; 320];
-    room[..len].copy_from_slice(message);
-    room[len] = 0x80;
-    room[end - 8..end].copy_from_slice(&(8 * len as u64).to_be_bytes());
-    (room, end)
-}
-
-// The same in blocks of 128 bytes (section 5.1.2).
-fn padded_to_128(message: &[u8]) -> ([u8; 384], usize)
+// A message and its padding in whole blocks of 64 bytes, which end with 8 that tell the length, or
+// of 128, which end with 16 (FIPS 180-4, section 5.1), and how many bytes these are.
+fn padded(message: &[u8], block_len: usize) -> ([u8; 384], usize)
     requires { length message.now ≤ 257 }
     ensures { result.1 ≤ 384 }
 {
     let len = message.len();
-    let end = (len + 16) / 128 * 128 + 128;
+    let end = if block_len == 64 {
+        (len + 8) / 64 * 64 + 64
+    } else {
+        (len + 16) / 128 * 128 + 128
+    };
     let mut room = [0; 384];
     room[..len].copy_from_slice(message);
     room[len] = 0x80;
@@ -55,12 +45,12 @@ fn padded_to_128(message: &[u8]) -> ([u8; 384], usize)
 
 // Runs both kernels from the first words over the blocks of each message.
 macro_rules! over_messages {
-    ($rt:ident, $algorithm:ident, $output_len:literal, $words:ident as $state:ident;
-        $padded:ident by $block_len:literal; $by_window:ident, $by_schedule:ident) => {
+    ($rt:ident, $algorithm:ident, $output_len:literal, $words:ident as $state:ident
+        by $block_len:literal; $by_window:ident, $by_schedule:ident) => {
         let bytes = counting_bytes::<257>();
         for len in 0..258 {
             let message = &bytes[..len];
-            let (room, end) = $padded(message);
+            let (room, end) = padded(message, $block_len);
             let (blocks, _) = as_chunks::<u8, $block_len>(&room[..end]);
             let mut state = $words;
             let mut meter = Meter::new();
@@ -77,19 +67,19 @@ macro_rules! over_messages {
 
 #[test]
 fn sha1_by_both_kernels(rt: HostRuntime) {
-    over_messages!(rt, SHA1_FOR_LEGACY_USE_ONLY, 20, SHA1_WORDS as new32; padded_to_64 by 64;
+    over_messages!(rt, SHA1_FOR_LEGACY_USE_ONLY, 20, SHA1_WORDS as new32 by 64;
         sha1_block_data_order_by_window_counted, sha1_block_data_order_counted);
 }
 
 #[test]
 fn sha256_by_both_kernels(rt: HostRuntime) {
-    over_messages!(rt, SHA256, 32, SHA256_WORDS as new32; padded_to_64 by 64;
+    over_messages!(rt, SHA256, 32, SHA256_WORDS as new32 by 64;
         block_data_order_32_by_window_counted, block_data_order_32_counted);
 }
 
 #[test]
 fn sha512_by_both_kernels(rt: HostRuntime) {
-    over_messages!(rt, SHA512, 64, SHA512_WORDS as new64; padded_to_128 by 128;
+    over_messages!(rt, SHA512, 64, SHA512_WORDS as new64 by 128;
         block_data_order_64_by_window_counted, block_data_order_64_counted);
 }
 
@@ -104,10 +94,10 @@ const TWICE_BY_SHA512: &str = "373a9f3a902cf561003b513c94c5164ba4af135cbc4eb4d85
 // Runs both kernels over the digest of `abc` as a block: its `$word_count` words, `$bit` behind
 // them, and the number of their bits.
 macro_rules! over_words {
-    ($rt:ident, $twice:ident, $output_len:literal, $words:ident as $state:ident;
-        $word_count:literal, $bit:literal, $bits:literal;
-        $padded:ident by $block_len:literal, $kernel:ident; $by_window:path, $by_schedule:path) => {
-        let (room, end) = $padded(b"abc");
+    ($rt:ident, $twice:ident, $output_len:literal, $words:ident as $state:ident
+        by $block_len:literal; $word_count:literal, $bit:literal, $bits:literal;
+        $kernel:ident; $by_window:path, $by_schedule:path) => {
+        let (room, end) = padded(b"abc", $block_len);
         let (blocks, _) = as_chunks::<u8, $block_len>(&room[..end]);
         let mut front = $words;
         let mut meter = Meter::new();
@@ -127,21 +117,21 @@ macro_rules! over_words {
 
 #[test]
 fn sha1_of_words_by_both_kernels(rt: HostRuntime) {
-    over_words!(rt, TWICE_BY_SHA1, 20, SHA1_WORDS as new32; 5, 0x80000000, 160;
-        padded_to_64 by 64, sha1_block_data_order_by_window_counted;
+    over_words!(rt, TWICE_BY_SHA1, 20, SHA1_WORDS as new32 by 64; 5, 0x80000000, 160;
+        sha1_block_data_order_by_window_counted;
         sha1_block_of_words_by_window_counted, sha1_block_of_words_counted);
 }
 
 #[test]
 fn sha256_of_words_by_both_kernels(rt: HostRuntime) {
-    over_words!(rt, TWICE_BY_SHA256, 32, SHA256_WORDS as new32; 8, 0x80000000, 256;
-        padded_to_64 by 64, block_data_order_32_by_window_counted;
+    over_words!(rt, TWICE_BY_SHA256, 32, SHA256_WORDS as new32 by 64; 8, 0x80000000, 256;
+        block_data_order_32_by_window_counted;
         block_of_words_32_by_window_counted, block_of_words_32_counted);
 }
 
 #[test]
 fn sha512_of_words_by_both_kernels(rt: HostRuntime) {
-    over_words!(rt, TWICE_BY_SHA512, 64, SHA512_WORDS as new64; 8, 0x8000000000000000, 512;
-        padded_to_128 by 128, block_data_order_64_by_window_counted;
+    over_words!(rt, TWICE_BY_SHA512, 64, SHA512_WORDS as new64 by 128; 8, 0x8000000000000000, 512;
+        block_data_order_64_by_window_counted;
         block_of_words_64_by_window_counted::<8>, block_of_words_64_counted::<8>);
 }

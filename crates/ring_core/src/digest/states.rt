@@ -149,15 +149,48 @@ pub(crate) fn is_window_chosen() -> bool {
 // Each function below is a few instructions of a block function and is always inlined: a slot is
 // then a literal, and words stay in lanes from step to step.
 
-// Fills the window with the words of a block, the same in each lane.
+// A block in each lane, as the sixteen words that its schedule begins with.
+pub(crate) trait BlockWords<S: LaneWord> {
+    // what reading it asks for
+    ghost is_whole: { Self → Type 0 };
+
+    // the bytes are those of the block in a lane
+    ghost is_block: { ℕ → Self → List ℕ → Type 0 };
+
+    // Word `t` of the block in each lane.
+    fn word(&self, t: usize) -> S
+        requires some { 0 < S.LANES }
+        requires whole { is_whole self.now }
+        requires place { t < 16 }
+        ensures { (i : ℕ) (b : List ℕ) → is_block i self.now b
+            → S.lane i result ≡ word_at S.One.bits b t };
+}
+
+// Fills the window with the words of the block in each lane.
 #[inline(always)]
-pub(crate) fn load_block<S: LaneWord>(window: &mut [S; 16], block: &[u8])
+pub(crate) fn load<S: LaneWord, B: BlockWords<S>>(window: &mut [S; 16], block: &B)
     requires some { 0 < S.LANES }
-    requires whole { length block.now ≡ 16 * (S.One.bits / 8) }
-    ensures { (i : ℕ) → IsWindow (word_at S.One.bits block.now) (map (S.lane i) window.new) 16 }
+    requires whole { B.is_whole block.now }
+    ensures { (i : ℕ) (b : List ℕ) → B.is_block i block.now b
+        → IsWindow (word_at S.One.bits b) (map (S.lane i) window.new) 16 }
 {
     'words: for t in 0..16 {
-        window[t] = S::splat(S::One::read_word(block, t));
+        window[t] = block.word(t);
+    }
+}
+
+// A block of bytes, the same in each lane.
+#[derive(Drop)]
+pub(crate) struct SameBlock<'a>(pub(crate) &'a [u8]);
+
+impl<'a, S: LaneWord> BlockWords<S> for SameBlock<'a> {
+    ghost is_whole = { λ block. length block.0.now ≡ 16 * (S.One.bits / 8) };
+
+    ghost is_block = { λ _ block b. b ≡ block.0.now };
+
+    #[inline(always)]
+    fn word(&self, t: usize) -> S {
+        S::splat(S::One::read_word(self.0, t))
     }
 }
 
@@ -178,55 +211,43 @@ fn read_words<V: Vector, const N: usize>(blocks: &[[u8; N]], j: usize) -> V
     words
 }
 
-// Fills the window with the words of the blocks, each block's in its own lane.
-#[inline(always)]
-pub(crate) fn load_blocks<V: Vector, const N: usize>(
-    window: &mut [InLanes<V>; 16],
-    blocks: &[[u8; N]],
-)
-    requires some { 0 < V.LANES }
-    requires lanes { length blocks.now ≡ V.LANES }
-    requires whole { N ≡ 16 * (V.One.bits / 8) }
-    ensures { (i : ℕ) → i < V.LANES → IsWindow (word_at V.One.bits (array_at blocks.now i))
-        (map (λ x. V.lane i x.0) window.new) 16 }
-{
-    'words: for t in 0..16 {
-        window[t] = InLanes(read_words::<V, N>(blocks, t));
+// Blocks of bytes, each in its own lane.
+#[derive(Drop)]
+pub(crate) struct BlockInEach<'a, const N: usize>(pub(crate) &'a [[u8; N]]);
+
+impl<'a, V: Vector, const N: usize> BlockWords<InLanes<V>> for BlockInEach<'a, N> {
+    ghost is_whole = { λ blocks. (length blocks.0.now ≡ V.LANES) × (N ≡ 16 * (V.One.bits / 8)) };
+
+    ghost is_block = { λ i blocks b. (i < V.LANES) × (b ≡ array_at blocks.0.now i) };
+
+    #[inline(always)]
+    fn word(&self, t: usize) -> InLanes<V> {
+        InLanes(read_words::<V, N>(self.0, t))
     }
 }
 
-// Word `t` of a block whose first `N` words are those of `front`, and whose other words are those
-// of `padding`, the same in each lane.
-#[inline(always)]
-fn word_of<S: LaneWord, const N: usize>(front: &[S; 8], padding: &[S::One; 16], t: usize) -> S
-    requires some { 0 < S.LANES }
-    requires front { N ≤ 8 }
-    requires place { t < 16 }
-    ensures { (i : ℕ) → S.lane i result ≡ slice_index
-        (take N (map (S.lane i) front.now) ++ drop N (map S.One.value padding.now)) t }
-{
-    if t < N {
-        front[t]
-    } else {
-        S::splat(padding[t])
-    }
+// A block whose first `N` words are those of `front`, and whose other words are those of `padding`,
+// the same in each lane.
+#[derive(Drop)]
+pub(crate) struct FrontAndPadding<'a, S, W, const N: usize> {
+    pub(crate) front: &'a [S],
+    pub(crate) padding: &'a [W],
 }
 
-// Fills the window with the words of such a block.
-#[inline(always)]
-pub(crate) fn load_words<S: LaneWord, const N: usize>(
-    window: &mut [S; 16],
-    front: &[S; 8],
-    padding: &[S::One; 16],
-)
-    requires some { 0 < S.LANES }
-    requires front { N ≤ 8 }
-    ensures { (i : ℕ) (b : List ℕ)
-        → IsBlockOf S.One.bits N (map (S.lane i) front.now) (map S.One.value padding.now) b
-        → IsWindow (word_at S.One.bits b) (map (S.lane i) window.new) 16 }
-{
-    'words: for t in 0..16 {
-        window[t] = word_of::<S, N>(front, padding, t);
+impl<'a, S: LaneWord, const N: usize> BlockWords<S> for FrontAndPadding<'a, S, S::One, N> {
+    ghost is_whole = { λ block. (N ≤ 8) × (length block.front.now ≡ 8)
+        × (length block.padding.now ≡ 16) };
+
+    ghost is_block = { λ i block b. IsBlockOf S.One.bits N
+        (map (S.lane i) block.front.now) (map S.One.value block.padding.now) b };
+
+    #[inline(always)]
+    fn word(&self, t: usize) -> S {
+        if t < N {
+            self.front[t]
+        } else {
+            S::splat(self.padding[t])
+        }
     }
 }
 

@@ -6,8 +6,8 @@ ghost use Rattle.ring_core.specs.Prelude.{IsBlockOf, array_at, raised, word_32, 
 ghost use Rattle.ring_core.specs.Sha1.{block_step};
 
 use crate::cost::Meter;
-use crate::digest::sha1::window::{Before, Sha1ByTwo, next_word, run_loaded, run_words};
-use crate::digest::states::{States, Window, load_blocks};
+use crate::digest::sha1::window::{Before, Sha1ByTwo, next_word, run_block, run_words};
+use crate::digest::states::{BlockInEach, States, Window};
 use crate::digest::word::lanes::{InLanes, LaneWord, Vector};
 use std::num::Wrapping;
 
@@ -46,8 +46,7 @@ pub fn sha1_block_data_order_lanes_counted<V: Vector<One = Wrapping<u32>>, const
         ≡ drop 5 (words_of_lane (V.lane i) states.old) }
     ensures cost { meter.new ≡ raised meter.old V.LANES 0 }
 {
-    load_blocks::<V, N>(window, blocks); // step 1, to W(15)
-    run_loaded(window, &mut states.words);
+    run_block(window, &mut states.words, &BlockInEach(blocks));
     meter.add_blocks(V::LANES);
 }
 

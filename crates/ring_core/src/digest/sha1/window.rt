@@ -11,7 +11,9 @@ ghost use Rattle.ring_core.specs.Sha1.{W, block_step, rounds_from, scheduled};
 
 use crate::cost::Meter;
 use crate::digest::sha1::round::{CHAINING_WORDS, add_state, round, round_constant};
-use crate::digest::states::{in_two_lanes, load_block, load_words, pair, set_pair};
+use crate::digest::states::{
+    BlockWords, FrontAndPadding, SameBlock, in_two_lanes, load, pair, set_pair,
+};
 use crate::digest::word::lanes::{LaneWord, Vector};
 use crate::polyfill::slice::AsChunks;
 use std::num::Wrapping;
@@ -105,8 +107,8 @@ fn extend<S: Sha1ByTwo<One = Wrapping<u32>>>(window: &mut [S; 16], t: usize)
     set_pair(window, t % 16, S::next_two(&before));
 }
 
-// From here to `later_turn` each function is always inlined: slots are then literals, and so are
-// the round numbers, by which functions and constants are chosen.
+// From here to `run_block` each function is inlined: slots are then literals, and so are the round
+// numbers, by which functions and constants are chosen.
 
 // Rounds `t` and `t + 1`.
 #[inline(always)]
@@ -123,8 +125,9 @@ fn two_rounds<S: Sha1ByTwo<One = Wrapping<u32>>>(window: &[S; 16], v: [S; 5], t:
     round(round(v, t, first), t + 1, second)
 }
 
-// The same from round 16 on, where the words are computed first.
-#[inline(always)]
+// The same from round 16 on, where the words are computed first. It isn't always inlined: LLVM
+// takes four minutes for eighty rounds that are inlined before any is simplified.
+#[inline]
 fn next_two_rounds<S: Sha1ByTwo<One = Wrapping<u32>>>(
     window: &mut [S; 16],
     v: [S; 5],
@@ -142,8 +145,7 @@ fn next_two_rounds<S: Sha1ByTwo<One = Wrapping<u32>>>(
     two_rounds(window, v, t)
 }
 
-// Four rounds in one body. A body of sixteen is so large that the compiler no longer inlines its
-// calls, though they ask for it, and the block function takes twice the time.
+// Four rounds.
 #[inline(always)]
 fn next_four_rounds<S: Sha1ByTwo<One = Wrapping<u32>>>(
     window: &mut [S; 16],
@@ -162,78 +164,48 @@ fn next_four_rounds<S: Sha1ByTwo<One = Wrapping<u32>>>(
     next_two_rounds(window, v, t + 2)
 }
 
-// The first sixteen rounds, from the block's own words.
-#[inline(always)]
-fn first_turn<S: Sha1ByTwo<One = Wrapping<u32>>>(window: &[S; 16], v: [S; 5]) -> [S; 5]
-    requires some { 0 < S.LANES }
-    ensures { (i : ℕ) (b : List ℕ) → IsWindow (W b) (map (S.lane i) window.now) 16
-        → map (S.lane i) result ≡ rounds_from (map (S.lane i) v) b 16 }
-{
-    let v = two_rounds(window, v, 0);
-    let v = two_rounds(window, v, 2);
-    let v = two_rounds(window, v, 4);
-    let v = two_rounds(window, v, 6);
-    let v = two_rounds(window, v, 8);
-    let v = two_rounds(window, v, 10);
-    let v = two_rounds(window, v, 12);
-    two_rounds(window, v, 14)
-}
-
-// The sixteen rounds of a later turn. The turn is a const argument: with one body for all turns the
-// compiler inlines few calls, and slots and round numbers are no literals.
-#[inline(always)]
-fn later_turn<S: Sha1ByTwo<One = Wrapping<u32>>, const TURN: usize>(
+// Runs the block function in each lane, over the block there. Each call of rounds stands here, so
+// that it is inlined for each kind of block. The words are a copy of the room, by which the check
+// knows that sixteen of them fit in memory; the compiler keeps in registers what it can.
+pub(crate) fn run_block<S: Sha1ByTwo<One = Wrapping<u32>>, B: BlockWords<S>>(
     window: &mut [S; 16],
-    v: [S; 5],
-) -> [S; 5]
+    state: &mut [S; 8],
+    block: &B,
+)
     requires some { 0 < S.LANES }
-    requires later { 1 ≤ TURN }
-    requires turn { TURN < 5 }
-    ensures { (i : ℕ) (h b : List ℕ)
-        → IsBefore (W b) (rounds_from h b) (map (S.lane i) window.old) (map (S.lane i) v)
-        (16 * TURN)
-        → IsBefore (W b) (rounds_from h b) (map (S.lane i) window.new) (map (S.lane i) result)
-        (16 * TURN + 16) }
-{
-    let t = 16 * TURN;
-    let v = next_four_rounds(window, v, t);
-    let v = next_four_rounds(window, v, t + 4);
-    let v = next_four_rounds(window, v, t + 8);
-    next_four_rounds(window, v, t + 12)
-}
-
-// The rounds after the first sixteen, and the end of a block. Blocks of bytes and of words share
-// them, so they aren't inlined: with two callers the compiler would call the turns. The window is a
-// local, whose last words are never stored.
-#[inline(never)]
-fn later_turns<S: Sha1ByTwo<One = Wrapping<u32>>>(loaded: &[S; 16], state: &mut [S; 8], v: [S; 5])
-    requires some { 0 < S.LANES }
-    ensures words { (i : ℕ) (b : List ℕ) → let h = take 5 (map (S.lane i) state.old) in
-        IsBefore (W b) (rounds_from h b) (map (S.lane i) loaded.now) (map (S.lane i) v) 16
-        → take 5 (map (S.lane i) state.new) ≡ block_step h b }
-    ensures rest { drop 5 state.new ≡ drop 5 state.old }
-{
-    let mut window = *loaded;
-    let v = later_turn::<S, 1>(&mut window, v); // steps 1 and 3
-    let v = later_turn::<S, 2>(&mut window, v);
-    let v = later_turn::<S, 3>(&mut window, v);
-    let last = later_turn::<S, 4>(&mut window, v);
-    *state = add_state(state, &last); // step 4
-}
-
-// Runs the block function in each lane, over the block whose words the window holds there. It is
-// inlined where the words are loaded: the first rounds then needn't read them back.
-#[inline(always)]
-pub(crate) fn run_loaded<S: Sha1ByTwo<One = Wrapping<u32>>>(window: &[S; 16], state: &mut [S; 8])
-    requires some { 0 < S.LANES }
-    ensures words { (i : ℕ) (b : List ℕ)
-        → IsWindow (word_at 32 b) (map (S.lane i) window.now) 16
+    requires whole { B.is_whole block.now }
+    ensures words { (i : ℕ) (b : List ℕ) → B.is_block i block.now b
         → take 5 (map (S.lane i) state.new) ≡ block_step (take 5 (map (S.lane i) state.old)) b }
     ensures rest { drop 5 state.new ≡ drop 5 state.old }
 {
-    let chaining = [state[0], state[1], state[2], state[3], state[4]]; // step 2
-    let v = first_turn(window, chaining); // step 3
-    later_turns(window, state, v);
+    let mut words = *window;
+    load(&mut words, block); // step 1, to W(15)
+    let v = [state[0], state[1], state[2], state[3], state[4]]; // step 2
+    let v = two_rounds(&words, v, 0); // step 3
+    let v = two_rounds(&words, v, 2);
+    let v = two_rounds(&words, v, 4);
+    let v = two_rounds(&words, v, 6);
+    let v = two_rounds(&words, v, 8);
+    let v = two_rounds(&words, v, 10);
+    let v = two_rounds(&words, v, 12);
+    let v = two_rounds(&words, v, 14);
+    let v = next_four_rounds(&mut words, v, 16); // steps 1 and 3
+    let v = next_four_rounds(&mut words, v, 20);
+    let v = next_four_rounds(&mut words, v, 24);
+    let v = next_four_rounds(&mut words, v, 28);
+    let v = next_four_rounds(&mut words, v, 32);
+    let v = next_four_rounds(&mut words, v, 36);
+    let v = next_four_rounds(&mut words, v, 40);
+    let v = next_four_rounds(&mut words, v, 44);
+    let v = next_four_rounds(&mut words, v, 48);
+    let v = next_four_rounds(&mut words, v, 52);
+    let v = next_four_rounds(&mut words, v, 56);
+    let v = next_four_rounds(&mut words, v, 60);
+    let v = next_four_rounds(&mut words, v, 64);
+    let v = next_four_rounds(&mut words, v, 68);
+    let v = next_four_rounds(&mut words, v, 72);
+    let last = next_four_rounds(&mut words, v, 76);
+    *state = add_state(state, &last); // step 4
 }
 
 // Runs the block function over each block in order.
@@ -248,8 +220,7 @@ fn run_blocks(
         (chunk_items blocks.entry) (chunk_total blocks.entry) meter.old meter.new }
 {
     'each: for i in 0..blocks.len() {
-        load_block(window, &blocks[i]); // step 1, to W(15)
-        run_loaded(window, state);
+        run_block(window, state, &SameBlock(&blocks[i]));
         meter.add_block();
     }
 }
@@ -271,8 +242,8 @@ pub(crate) fn run_words<S: Sha1ByTwo<One = Wrapping<u32>>>(
     ensures cost { meter.new ≡ raised meter.old S.LANES 0 }
     ensures eight { length front.now ≡ 8 }
 {
-    load_words::<S, CHAINING_WORDS>(window, front, padding); // step 1, to W(15)
-    run_loaded(window, state);
+    let block = FrontAndPadding::<S, Wrapping<u32>, CHAINING_WORDS> { front, padding };
+    run_block(window, state, &block);
     meter.add_blocks(S::LANES);
 }
 

@@ -6,8 +6,8 @@ ghost use Rattle.ring_core.specs.Prelude.{IsBlockOf, array_at, block_len, block_
 ghost use Rattle.ring_core.specs.Prelude.{words_of_lane};
 
 use crate::cost::Meter;
-use crate::digest::sha2::window::{Before, ExtendByTwo, next_word, run_loaded, run_words};
-use crate::digest::states::{States, Window, load_blocks};
+use crate::digest::sha2::window::{Before, ExtendByTwo, next_word, run_block, run_words};
+use crate::digest::states::{BlockInEach, States, Window};
 use crate::digest::word::lanes::{InLanes, LaneWord, Vector};
 
 impl<V: Vector> ExtendByTwo for InLanes<V> {
@@ -42,8 +42,7 @@ pub fn block_data_order_lanes_counted<V: Vector, const N: usize>(
         ≡ block_step V.One.family (words_of_lane (V.lane i) states.old) (array_at blocks.now i) }
     ensures cost { meter.new ≡ raised meter.old V.LANES 0 }
 {
-    load_blocks::<V, N>(window, blocks); // step 1, to W(15)
-    run_loaded(window, &mut states.words);
+    run_block(window, &mut states.words, &BlockInEach(blocks));
     meter.add_blocks(V::LANES);
 }
 

@@ -12,7 +12,7 @@ ghost use Rattle.ring_core.specs.Prelude.{rounds_from, scheduled, word_at, words
 use crate::cost::Meter;
 use crate::digest::sha2::round::{add_state, round, small_sigma};
 use crate::digest::states::{
-    State32, State64, in_two_lanes, load_block, load_words, pair, set_pair,
+    BlockWords, FrontAndPadding, SameBlock, State32, State64, in_two_lanes, load, pair, set_pair,
 };
 use crate::digest::word::Sha2;
 use crate::digest::word::lanes::{LaneWord, Vector};
@@ -150,76 +150,42 @@ fn next_two_rounds<S: ExtendByTwo>(
     two_rounds(window, v, turn, place)
 }
 
-// The first sixteen rounds, from the block's own words.
-#[inline(always)]
-fn first_turn<S: ExtendByTwo>(window: &[S; 16], v: [S; 8]) -> [S; 8]
+// Runs the block function in each lane, over the block there. Each call of rounds stands here, so
+// that it is inlined for each kind of block. The words are a copy of the room, by which the check
+// knows that sixteen of them fit in memory; the compiler keeps in registers what it can.
+pub(crate) fn run_block<S: ExtendByTwo, B: BlockWords<S>>(
+    window: &mut [S; 16],
+    state: &mut [S; 8],
+    block: &B,
+)
     requires some { 0 < S.LANES }
-    ensures { (i : ℕ) (b : List ℕ) → IsWindow (W S.One.family b) (map (S.lane i) window.now) 16
-        → map (S.lane i) result ≡ rounds_from S.One.family (map (S.lane i) v) b 16 }
-{
-    let v = two_rounds(window, v, 0, 0);
-    let v = two_rounds(window, v, 0, 2);
-    let v = two_rounds(window, v, 0, 4);
-    let v = two_rounds(window, v, 0, 6);
-    let v = two_rounds(window, v, 0, 8);
-    let v = two_rounds(window, v, 0, 10);
-    let v = two_rounds(window, v, 0, 12);
-    two_rounds(window, v, 0, 14)
-}
-
-// The sixteen rounds of a later turn, each with its slot as a literal.
-#[inline(always)]
-fn later_turn<S: ExtendByTwo>(window: &mut [S; 16], v: [S; 8], turn: usize) -> [S; 8]
-    requires some { 0 < S.LANES }
-    requires later { 1 ≤ turn }
-    requires turn { 16 * turn + 16 ≤ S.One.family.rounds }
-    ensures { (i : ℕ) (h b : List ℕ) → let f = S.One.family in
-        IsBefore (W f b) (rounds_from f h b)
-        (map (S.lane i) window.old) (map (S.lane i) v) (16 * turn)
-        → IsBefore (W f b) (rounds_from f h b)
-        (map (S.lane i) window.new) (map (S.lane i) result) (16 * (turn + 1)) }
-{
-    let v = next_two_rounds(window, v, turn, 0);
-    let v = next_two_rounds(window, v, turn, 2);
-    let v = next_two_rounds(window, v, turn, 4);
-    let v = next_two_rounds(window, v, turn, 6);
-    let v = next_two_rounds(window, v, turn, 8);
-    let v = next_two_rounds(window, v, turn, 10);
-    let v = next_two_rounds(window, v, turn, 12);
-    next_two_rounds(window, v, turn, 14)
-}
-
-// The rounds after the first sixteen, and the end of a block. Blocks of bytes and of words share
-// them, so they aren't inlined: with two callers the compiler would call the turns. The window is a
-// local, whose last words are never stored.
-#[inline(never)]
-fn later_turns<S: ExtendByTwo>(loaded: &[S; 16], state: &mut [S; 8], v: [S; 8])
-    requires some { 0 < S.LANES }
-    ensures { (i : ℕ) (b : List ℕ) → let f = S.One.family in
-        IsBefore (W f b) (rounds_from f (map (S.lane i) state.old) b)
-        (map (S.lane i) loaded.now) (map (S.lane i) v) 16
-        → map (S.lane i) state.new ≡ block_step f (map (S.lane i) state.old) b }
-{
-    let mut window = *loaded;
-    let mut variables = v;
-    let turns = S::One::ROUNDS / 16;
-    'later: for turn in 1..turns {
-        variables = later_turn(&mut window, variables, turn); // steps 1 and 3
-    }
-    *state = add_state(state, &variables); // step 4
-}
-
-// Runs the block function in each lane, over the block whose words the window holds there. It is
-// inlined where the words are loaded: the first rounds then needn't read them back.
-#[inline(always)]
-pub(crate) fn run_loaded<S: ExtendByTwo>(window: &[S; 16], state: &mut [S; 8])
-    requires some { 0 < S.LANES }
-    ensures { (i : ℕ) (b : List ℕ)
-        → IsWindow (word_at S.One.bits b) (map (S.lane i) window.now) 16
+    requires whole { B.is_whole block.now }
+    ensures { (i : ℕ) (b : List ℕ) → B.is_block i block.now b
         → map (S.lane i) state.new ≡ block_step S.One.family (map (S.lane i) state.old) b }
 {
-    let v = first_turn(window, *state); // steps 2 and 3
-    later_turns(window, state, v);
+    let mut words = *window;
+    load(&mut words, block); // step 1, to W(15)
+    let v = *state; // step 2
+    let v = two_rounds(&words, v, 0, 0); // step 3
+    let v = two_rounds(&words, v, 0, 2);
+    let v = two_rounds(&words, v, 0, 4);
+    let v = two_rounds(&words, v, 0, 6);
+    let v = two_rounds(&words, v, 0, 8);
+    let v = two_rounds(&words, v, 0, 10);
+    let v = two_rounds(&words, v, 0, 12);
+    let mut variables = two_rounds(&words, v, 0, 14);
+    let turns = S::One::ROUNDS / 16;
+    'later: for turn in 1..turns {
+        let v = next_two_rounds(&mut words, variables, turn, 0); // steps 1 and 3
+        let v = next_two_rounds(&mut words, v, turn, 2);
+        let v = next_two_rounds(&mut words, v, turn, 4);
+        let v = next_two_rounds(&mut words, v, turn, 6);
+        let v = next_two_rounds(&mut words, v, turn, 8);
+        let v = next_two_rounds(&mut words, v, turn, 10);
+        let v = next_two_rounds(&mut words, v, turn, 12);
+        variables = next_two_rounds(&mut words, v, turn, 14);
+    }
+    *state = add_state(state, &variables); // step 4
 }
 
 // Runs the block function over each block in order. Every lane runs the same, so lane 0 stands for
@@ -237,8 +203,7 @@ fn run_blocks<S: ExtendByTwo, const N: usize>(
         (chunk_items blocks.entry) (chunk_total blocks.entry) meter.old meter.new }
 {
     'each: for i in 0..blocks.len() {
-        load_block(window, &blocks[i]); // step 1, to W(15)
-        run_loaded(window, state);
+        run_block(window, state, &SameBlock(&blocks[i]));
         meter.add_block();
     }
 }
@@ -260,8 +225,8 @@ pub(crate) fn run_words<S: ExtendByTwo, const N: usize>(
     ensures cost { meter.new ≡ raised meter.old S.LANES 0 }
     ensures eight { (length state.old ≡ 8) × (length front.now ≡ 8) }
 {
-    load_words::<S, N>(window, front, padding); // step 1, to W(15)
-    run_loaded(window, state);
+    let block = FrontAndPadding::<S, S::One, N> { front, padding };
+    run_block(window, state, &block);
     meter.add_blocks(S::LANES);
 }
 

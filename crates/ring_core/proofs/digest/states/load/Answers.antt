@@ -2,10 +2,9 @@
 use Rattle.std.proofs.Common.{arith}
 use Rattle.ring_core.specs.Prelude.{word_at}
 use Rattle.ring_core.proofs.Schedule.{window-set}
-use Rattle.ring_core.proofs.digest.states.load_words.Goals as goal
+use Rattle.ring_core.proofs.digest.states.load.Goals as goal
 
 pub words-preserved : goal.words-preserved
 words-preserved g c = λ i b is.
     window-set (g.S.LaneWord.lane i) (word_at g.S.One.Word.bits b) c.words.window c.words.t
-    c.word_of.result (c.words.invariant i b is) (omega arith)
-    (rw (c.word_of.ensures i) (is.word c.words.t (omega arith)))
+    c.word.result (c.words.invariant i b is) (omega arith) (c.word.ensures i b is)

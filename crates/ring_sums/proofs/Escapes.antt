@@ -1,11 +1,10 @@
 -- SPDX-License-Identifier: ISC
 -- Names that are read back from their escapes.
-use Rattle.std.proofs.Common.{◌≡◌, ℕ, Bool, true, false, eqb, if◌then◌else◌, List, [], ◌∷◌, ◌++◌}
-use Rattle.std.proofs.Common.{Option, Some, None, refl, sym, ap, ◌∙◌, append_assoc, inl, inr}
+use Rattle.std.proofs.Common.{◌≡◌, ℕ, false, eqb, List, [], ◌∷◌, ◌++◌}
+use Rattle.std.proofs.Common.{Option, Some, None, refl, ap, ◌∙◌, append_assoc, inl, inr}
 use Rattle.std.proofs.lemmas.Bool.{cases_Bool, eqb-true}
-use Rattle.std.proofs.lemmas.List.{append-nil}
 use Rattle.std.specs.Option.{option_map}
-use Rattle.ring_sums.specs.Names.{before, escaped, escaped_byte, unescaped, unescaped_byte}
+use Rattle.ring_sums.specs.Names.{before, escaped, escaped_byte, unescaped}
 
 -- a byte that is no backslash stands for itself
 pub unescaped-plain : (byte : ℕ) (rest : List ℕ) → eqb byte 92 ≡ false

@@ -1,17 +1,15 @@
 -- SPDX-License-Identifier: ISC
 -- Lanes and their contexts, as they read, take in and end.
-use Rattle.std.proofs.Common.{◌≡◌, ◌≢◌, ℕ, ◌+◌, ◌-◌, ◌<◌, ◌≤◌, List, [], ◌∷◌, ◌++◌, ◌∙◌, Option}
-use Rattle.std.proofs.Common.{ap, arith, get_or, inl, inr, length, map}
-use Rattle.std.proofs.Common.{Bool, None, Some, length-append, refl, slice_set}
-use Rattle.std.proofs.Common.{append_assoc, subst, sym}
+use Rattle.std.proofs.Common.{◌≡◌, ℕ, ◌+◌, ◌-◌, ◌<◌, ◌≤◌, List, [], ◌∷◌, ◌++◌, ◌∙◌, Option, Bool}
+use Rattle.std.proofs.Common.{None, Some, ap, append_assoc, arith, get_or, length, map, slice_set}
+use Rattle.std.proofs.Common.{subst, suc, sym, take, zero}
 use Rattle.std.proofs.Math.ListN.{get_or-map}
-use Rattle.std.proofs.lemmas.Bool.{cases_lt, cases_order}
-use Rattle.std.proofs.lemmas.List.{get_or-append_right}
-use Rattle.std.proofs.lemmas.List.{get_or-set_other}
-use Rattle.std.proofs.lemmas.List.{get_or-set_same, get_or_append_left, get_or_default, length-map}
+use Rattle.std.proofs.lemmas.List.{get_or-set_other, get_or-set_same, get_or_default, length-map}
 use Rattle.std.proofs.lemmas.List.{length-set, take-append-drop}
+use Rattle.std.proofs.lemmas.Slice.Zip.{AllZip-long, all_zipped_more}
 use Rattle.std.proofs.KnownBytes.{Consumes-nil}
 use Rattle.std.specs.Borrow.{Bor}
+use Rattle.std.specs.List.{AllZip, swap_remove}
 use Rattle.std.specs.Prelude.{IfSome}
 use Rattle.std.specs.declared.io.Error.{Error}
 use Rattle.std.specs.Io.KnownBytes.{Consumes, IsAtEnd}
@@ -20,10 +18,50 @@ use Rattle.ring.specs.Updates.{AreUpdated, IsUpdated}
 use Rattle.ring.specs.declared.digest.algorithm.Algorithm.{Algorithm}
 use Rattle.ring.specs.declared.digest.context.Context.{Context}
 use Rattle.ring_sums.specs.Lane.{IsFresh, IsIn, IsRead, IsSkipped, behind_of, front_of, left_of}
-use Rattle.ring_sums.specs.Lanes.{AreIn}
+use Rattle.ring_sums.specs.Lanes.{AreIn, IsPlaced}
 use Rattle.ring_sums.specs.Outcome.{IsFailure}
 use Rattle.ring_sums.specs.declared.lane.Lane.{Lane}
 use borrow.Author.Count.{below_more}
+
+-- ---- two lists, place by place
+
+module _ {A B : Type 0} (P : A → B → Type 0) where
+  pub zipped-at : (xs : List A) (ys : List B) (i : ℕ) (x : A) (y : B) → AllZip P xs ys
+      → i < length xs → P (get_or xs i x) (get_or ys i y)
+  zipped-at [] ys i x y all below = absurd (omega (arith, below))
+  zipped-at (a ∷ xs) [] i x y all below = absurd all
+  zipped-at (a ∷ xs) (b ∷ ys) zero x y all below = all.0
+  zipped-at (a ∷ xs) (b ∷ ys) (suc i) x y all below =
+      zipped-at xs ys i x y all.1 (omega (arith, below))
+
+  zipped-from : (xs : List A) (ys : List B) → length ys ≡ length xs
+      → ((i : ℕ) (x : A) (y : B) → i < length xs → P (get_or xs i x) (get_or ys i y))
+      → AllZip P xs ys
+  zipped-from [] [] same each = tt
+  zipped-from [] (b ∷ ys) same each = absurd (omega (arith, same))
+  zipped-from (a ∷ xs) [] same each = absurd (omega (arith, same))
+  zipped-from (a ∷ xs) (b ∷ ys) same each = (
+    each 0 a b (omega arith),
+    zipped-from xs ys (omega (arith, same)) (λ i x y h. each (suc i) x y (omega (arith, h))),
+  )
+
+  zipped-take : (n : ℕ) (xs : List A) (ys : List B) → AllZip P xs ys
+      → AllZip P (take n xs) (take n ys)
+  zipped-take zero xs ys all = tt
+  zipped-take (suc n) [] [] all = tt
+  zipped-take (suc n) [] (b ∷ ys) all = absurd all
+  zipped-take (suc n) (a ∷ xs) [] all = absurd all
+  zipped-take (suc n) (a ∷ xs) (b ∷ ys) all = (all.0, zipped-take n xs ys all.1)
+
+  zipped-set : (i : ℕ) (x : A) (y : B) (xs : List A) (ys : List B) → P x y → AllZip P xs ys
+      → AllZip P (slice_set xs i x) (slice_set ys i y)
+  zipped-set i x y [] [] is all = tt
+  zipped-set i x y [] (b ∷ ys) is all = absurd all
+  zipped-set i x y (a ∷ xs) [] is all = absurd all
+  zipped-set zero x y (a ∷ xs) (b ∷ ys) is all = (is, all.1)
+  zipped-set (suc i) x y (a ∷ xs) (b ∷ ys) is all = (all.0, zipped-set i x y xs ys is all.1)
+
+-- ---- lanes
 
 -- the first i lanes have changed by a step
 pub record AreStepped {R : Type 0} (Step : Lane R → Lane R → Type 0) (old now : List (Lane R))
@@ -155,17 +193,18 @@ module _ {R : Type 0} {remaining : R → Option (List ℕ)} {fails_with : R → 
       → map (λ piece. piece.now) pieces ≡ map (front_of n) lanes → AreUpdated old new pieces
       → AreIn remaining fails_with a readers (behind_of n) lanes new
   are-taken {lanes} {old} {new} {pieces} n all same took =
+      let P = IsPlaced remaining fails_with a readers in
+      let many = AllZip-long (P left_of) lanes old all.each in
       record {
-        count = took.count ∙ all.count;
-        each = λ i l c below r.
+        each = zipped-from (P (behind_of n)) lanes new (took.count ∙ many) (λ i l c below r.
             let read : message_at pieces i ≡ front_of n (get_or lanes i l) =
             ap (λ (z : List (List ℕ)). get_or z i []) same
             ∙ get_or_default (map (front_of n) lanes) i [] (front_of n l)
             (omega (arith, length-map lanes (front_of {R = R} n), below))
             ∙ get_or-map (front_of n) lanes i l in
-            let one = took.each i c (omega (arith, all.count, below)) in
-            in-taken n (all.each i l c below r)
-            (subst (IsUpdated (get_or old i c) (get_or new i c)) read one);
+            let one = took.each i c (omega (arith, many, below)) in
+            in-taken n (zipped-at (P left_of) lanes old i l c all.each below r)
+            (subst (IsUpdated (get_or old i c) (get_or new i c)) read one));
       }
 
   -- all lanes
@@ -178,10 +217,11 @@ module _ {R : Type 0} {remaining : R → Option (List ℕ)} {fails_with : R → 
       → AreStepped Step old now i → length old ≤ i
       → AreIn remaining fails_with a readers before old contexts
       → AreIn remaining fails_with a readers after now contexts
-  stepped-all {after = after} {old} {now} {contexts} kept goes have all first =
+  stepped-all {before = before} {after} {old} {now} {contexts} kept goes have all first =
+      let P = IsPlaced remaining fails_with a readers in
+      let many = AllZip-long (P before) old contexts first.each ∙ sym have.count in
       record {
-        count = first.count ∙ sym have.count;
-        each = λ k l c below r.
+        each = zipped-from (P after) now contexts many (λ k l c below r.
             let x = get_or old k l in
             let y = get_or now k l in
             let inside : k < length old = omega (arith, have.count, below) in
@@ -189,82 +229,25 @@ module _ {R : Type 0} {remaining : R → Option (List ℕ)} {fails_with : R → 
             subst (λ (z : ℕ). IsIn remaining fails_with a (get_or readers z r)
             (after y) y (get_or contexts k c)) (sym (kept x y step))
             (goes (get_or readers x.place r) x y (get_or contexts k c) step
-            (first.each k l c inside r));
+            (zipped-at (P before) old contexts k l c first.each inside r)));
       }
 
--- lanes and contexts without those at place i, where the last ones stand now
-pub record IsSwapped {X : Type 0} (old new : List X) (i : ℕ) : Type 0 where
-  pub len : length new + 1 ≡ length old
-  pub moved : (d : X) → i + 1 < length old → get_or new i d ≡ get_or old (length old - 1) d
-  pub others : (k : ℕ) (d : X) → k ≢ i → k + 1 < length old → get_or new k d ≡ get_or old k d
-
-module _ {R : Type 0} {remaining : R → Option (List ℕ)} {fails_with : R → Error → Bool}
-    {a : Algorithm} {readers : List R} where
-  pub in-swapped : {lanes fewer : List (Lane R)} {contexts less : List Context} (i : ℕ)
-      → AreIn remaining fails_with a readers left_of lanes contexts → IsSwapped lanes fewer i
-      → IsSwapped contexts less i → AreIn remaining fails_with a readers left_of fewer less
-  in-swapped {lanes} {fewer} {contexts} {less} i all s t =
-      let P : Lane R → Context → Type 0 =
-      λ l c. (r : R) → IsIn remaining fails_with a (get_or readers l.place r) (left_of l) l c in
-      record {
-        count = omega (arith, all.count, s.len, t.len);
-        each = λ k l c below. elim (cases_order k i) [
-          | inl e ↦
-              let there : i + 1 < length lanes = omega (arith, e, below, s.len) in
-              let size : length contexts - 1 ≡ length lanes - 1 = omega (arith, all.count) in
-              let at_l : get_or fewer k l ≡ get_or lanes (length lanes - 1) l =
-              ap (λ (z : ℕ). get_or fewer z l) e ∙ s.moved l there in
-              let at_c : get_or less k c ≡ get_or contexts (length lanes - 1) c =
-              ap (λ (z : ℕ). get_or less z c) e ∙ t.moved c (omega (arith, there, all.count))
-              ∙ ap (λ (z : ℕ). get_or contexts z c) size in
-              subst (λ z. P z (get_or less k c)) (sym at_l)
-              (subst (P (get_or lanes (length lanes - 1) l)) (sym at_c)
-              (all.each (length lanes - 1) l c (omega (arith, there))))
-          | inr o ↦
-              let other : k ≢ i = λ e. elim o [
-                | inl h ↦ absurd (omega (arith, h, e))
-                | inr h ↦ absurd (omega (arith, h, e))
-              ] in
-              let there : k + 1 < length lanes = omega (arith, below, s.len) in
-              subst (λ z. P z (get_or less k c)) (sym (s.others k l other there))
-              (subst (P (get_or lanes k l))
-              (sym (t.others k c other (omega (arith, there, all.count))))
-              (all.each k l c (omega (arith, there))))
-        ];
-      }
-
-module _ {R : Type 0} {remaining : R → Option (List ℕ)} {fails_with : R → Error → Bool}
-    {a : Algorithm} {readers : List R} where
-  -- and stands behind the others
-  pub in-more : {lanes : List (Lane R)} {contexts : List Context} (lane : Lane R)
+  -- without those at place i, where the last ones stand then
+  pub in-swapped : {lanes : List (Lane R)} {contexts : List Context} (i : ℕ) (lane : Lane R)
       (context : Context) → AreIn remaining fails_with a readers left_of lanes contexts
-      → ((r : R) → IsIn remaining fails_with a (get_or readers lane.place r) (left_of lane) lane
-      context)
-      → AreIn remaining fails_with a readers left_of (lanes ++ lane ∷ []) (contexts ++ context ∷ [])
-  in-more {lanes} {contexts} lane context all one =
-      let P : Lane R → Context → Type 0 =
-      λ l c. (r : R) → IsIn remaining fails_with a (get_or readers l.place r) (left_of l) l c in
-      let more = length-append lanes (lane ∷ []) in
+      → 0 < length lanes
+      → AreIn remaining fails_with a readers left_of (swap_remove lanes i lane)
+      (swap_remove contexts i context)
+  in-swapped {lanes} {contexts} i lane context all some =
+      let last = length lanes - 1 in
+      let P = IsPlaced remaining fails_with a readers left_of in
+      let Q : ℕ → Type 0 = λ n. AllZip P (swap_remove lanes i lane)
+      (take (n - 1) (slice_set contexts i (get_or contexts (n - 1) context))) in
       record {
-        count = omega (arith, all.count, more, length-append contexts (context ∷ []));
-        each = λ i l c below. elim (cases_lt i (length lanes)) [
-          | inl lt ↦
-              subst (λ z. P z (get_or (contexts ++ context ∷ []) i c))
-              (sym (get_or_append_left lanes (lane ∷ []) l i lt))
-              (subst (P (get_or lanes i l))
-              (sym (get_or_append_left contexts (context ∷ []) c i (omega (arith, all.count, lt))))
-              (all.each i l c lt))
-          | inr ge ↦
-              let at : i - length lanes ≡ 0 = omega (arith, ge, below, more) in
-              let first : get_or (lanes ++ lane ∷ []) i l ≡ lane =
-              get_or-append_right lanes (lane ∷ []) (length lanes) i l refl ge
-              ∙ ap (λ (z : ℕ). get_or (lane ∷ []) z l) at in
-              let second : get_or (contexts ++ context ∷ []) i c ≡ context =
-              get_or-append_right contexts (context ∷ []) (length lanes) i c all.count ge
-              ∙ ap (λ (z : ℕ). get_or (context ∷ []) z c) at in
-              subst (λ z. P z (get_or (contexts ++ context ∷ []) i c)) (sym first)
-              (subst (P lane) (sym second) one)
-        ];
+        each = subst Q (sym (AllZip-long P lanes contexts all.each))
+            (zipped-take P last _ _ (zipped-set P i _ _ lanes contexts
+            (zipped-at P lanes contexts last lane context all.each (omega (arith, some)))
+            all.each));
       }
 
   -- one that begins
@@ -274,11 +257,15 @@ module _ {R : Type 0} {remaining : R → Option (List ℕ)} {fails_with : R → 
       → ((r : R) → get_or readers place r ≡ reader) → IsFresh place reader lane
       → StandsFor context [] → context_algorithm context ≡ a
       → AreIn remaining fails_with a readers left_of (lanes ++ lane ∷ []) (contexts ++ context ∷ [])
-  in-begun lane context all at fresh stands of =
-      in-more lane context all (λ r.
-      subst (λ (z : R). IsIn remaining fails_with a z (left_of lane) lane context)
-      (sym (ap (λ (z : ℕ). get_or readers z r) fresh.placed ∙ at r)) (in-new fresh stands of))
+  in-begun {lanes = lanes} {contexts} lane context all at fresh stands of =
+      record {
+        each = all_zipped_more (IsPlaced remaining fails_with a readers left_of) lanes contexts
+            lane context all.each (λ r.
+            subst (λ (z : R). IsIn remaining fails_with a z (left_of lane) lane context)
+            (sym (ap (λ (z : ℕ). get_or readers z r) fresh.placed ∙ at r))
+            (in-new fresh stands of));
+      }
 
   -- no lane
   pub in-none : AreIn remaining fails_with a readers left_of [] []
-  in-none = record { count = refl; each = λ i l c below. absurd (omega (arith, below)) }
+  in-none = record { each = tt }

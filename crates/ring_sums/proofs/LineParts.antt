@@ -4,8 +4,8 @@ use Rattle.std.proofs.Common.{◌≡◌, ℕ, ◌<◌, ◌≤◌, eqb, true, fal
 use Rattle.std.proofs.Common.{Bool, ◌++◌, if◌then◌else◌}
 use Rattle.std.proofs.Common.{List, [], ◌∷◌, length, get_or, Some}
 use Rattle.std.proofs.Common.{refl, sym, ap, ◌∙◌, arith, inl, inr, length-append}
-use Rattle.std.proofs.lemmas.Bool.{agree_below_at, and_parts, cases_Bool, false_from_ne_true}
-use Rattle.std.proofs.lemmas.Bool.{or_parts, true≢false}
+use Rattle.std.proofs.lemmas.Bool.{agree_below, agree_below_at, and_parts, cases_Bool}
+use Rattle.std.proofs.lemmas.Bool.{false_from_ne_true, or_parts, true≢false}
 use Rattle.std.proofs.lemmas.List.Sums.{list_all-from_AllPass}
 use Rattle.std.specs.Char.{is_ascii_hexdigit}
 use Rattle.std.specs.List.{list_all}
@@ -22,15 +22,13 @@ use Rattle.ring_sums.proofs.Fronts.{white-no_digit}
 
 -- ---- digits
 
-is_digit : (n : ℕ) → n < 16 → is_ascii_hexdigit (get_or lower_digits n 0) ≡ true
-is_digit n h =
-    agree_below_at (λ k. is_ascii_hexdigit (get_or lower_digits k 0)) (λ k. true) 16 n refl h
-
-pub are_digits : (bytes : List ℕ) → IsBytes bytes
-    → list_all is_ascii_hexdigit (encode_lower bytes) ≡ true
-are_digits bytes h =
-    list_all-from_AllPass is_ascii_hexdigit (encode_lower bytes)
-    (All-hex (λ b. is_ascii_hexdigit b ≡ true) is_digit bytes h)
+-- digits pass what the sixteen pass
+pub digits-pass : (p : ℕ → Bool) (bytes : List ℕ)
+    → agree_below (λ k. p (get_or lower_digits k 0)) (λ k. true) 16 ≡ true → IsBytes bytes
+    → list_all p (encode_lower bytes) ≡ true
+digits-pass p bytes sixteen h =
+    list_all-from_AllPass p (encode_lower bytes) (All-hex (λ b. p b ≡ true)
+    (λ n. agree_below_at (λ k. p (get_or lower_digits k 0)) (λ k. true) 16 n sixteen) bytes h)
 
 -- no white space stands in front of digits
 pub digits-start : (digits : List ℕ) → list_all is_ascii_hexdigit digits ≡ true

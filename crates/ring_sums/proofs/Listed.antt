@@ -1,8 +1,8 @@
 -- SPDX-License-Identifier: ISC
 -- The lines of files, one after another.
-use Rattle.std.proofs.Common.{◌≡◌, ℕ, Bool, ◌<◌, ◌&&◌, List, [], ◌∷◌, ◌++◌, ◌∙◌, Bor}
-use Rattle.std.proofs.Common.{Option, ap, append-nil, arith, false, get_or}
-use Rattle.std.proofs.Common.{length, refl, subst, sym, true}
+use Rattle.std.proofs.Common.{◌≡◌, ℕ, Bool, ◌<◌, ◌&&◌, List, [], ◌∷◌, ◌++◌, ◌∙◌, Bor, Option, ap}
+use Rattle.std.proofs.Common.{append-nil, arith, get_or, length, refl, subst, sym}
+use Rattle.std.proofs.Math.Bool.{and-true}
 use Rattle.std.proofs.KnownBytes.{Appends-nil, Appends-trans}
 use Rattle.std.proofs.lemmas.List.Concat.{flat_map-append}
 use Rattle.std.proofs.lemmas.List.Folds.{list_all-append}
@@ -12,12 +12,6 @@ use Rattle.ring_sums.specs.Listing.{is_sum, line_of, lines_of}
 use Rattle.ring_sums.specs.declared.console.Console.{Console}
 use Rattle.ring_sums.specs.declared.options.Options.{Options}
 use Rattle.ring_sums.specs.declared.outcome.Outcome.{Outcome}
-
-and-last : (a b : Bool) → (a && b) ≡ (b && (a && true))
-and-last false false = refl
-and-last false true = refl
-and-last true false = refl
-and-last true true = refl
 
 pub zip-none : {X Y : Type 0} (xs : List X) → zip {K = X} {X = Y} xs [] ≡ []
 zip-none [] = refl
@@ -81,8 +75,6 @@ lines-more options names outcomes name outcome below some one =
 
 pub fine-more : (outcomes : List Outcome) (outcome : Outcome) {is_fine : Bool}
     → is_fine ≡ list_all is_sum outcomes
-    → (is_sum outcome && is_fine) ≡ list_all is_sum (outcomes ++ outcome ∷ [])
+    → (is_fine && is_sum outcome) ≡ list_all is_sum (outcomes ++ outcome ∷ [])
 fine-more outcomes outcome {is_fine} fine =
-    and-last (is_sum outcome) is_fine
-    ∙ ap (λ (z : Bool). z && (is_sum outcome && true)) fine
-    ∙ sym (list_all-append is_sum outcomes (outcome ∷ []))
+    rw (fine, list_all-append is_sum outcomes (outcome ∷ []), and-true (is_sum outcome))

@@ -55,13 +55,7 @@ pub given-next : {R : Type 0} {remaining : R → Option (List ℕ)} {fails_with 
     → IsFirst old.found.items outcome
     → IsReady old.found.items (length old.lanes.lanes.items) (length (into_iter_items old.waiting))
     → ReadersToCome remaining fails_with a readers old
-    → ReaderIsGiven remaining fails_with a readers outcome (record {
-      algorithm = old.algorithm;
-      total = old.total;
-      waiting = old.waiting;
-      lanes = old.lanes;
-      found = found;
-    })
+    → ReaderIsGiven remaining fails_with a readers outcome (record old { found = found })
 given-next {old = old} found outcome [] shifted is ready first =
     let none = whole-many [] first.begun (into_iter_items old.waiting) first.whole in
     let empty : length old.found.items ≡ 0 = omega (arith, first.count, none) in
@@ -127,13 +121,7 @@ pub lanes-kept : {R : Type 0} {remaining : R → Option (List ℕ)} {fails_with 
     → KeepPlaces old.lanes.lanes.items lanes.lanes.items
     → GoOn remaining fails_with left_of left_of old.lanes lanes
     → ReadersToCome remaining fails_with a readers old
-    → ReadersToCome remaining fails_with a readers (record {
-      algorithm = old.algorithm;
-      total = old.total;
-      waiting = old.waiting;
-      lanes = lanes;
-      found = old.found;
-    })
+    → ReadersToCome remaining fails_with a readers (record old { lanes = lanes })
 lanes-kept {a = a} {readers} places going first =
     record {
       given = first.given;

@@ -1,11 +1,8 @@
 -- SPDX-License-Identifier: ISC
 -- The form of lines with a tag.
 use Rattle.std.proofs.Common.{◌≡◌, ℕ, eqb, if◌then◌else◌, List, [], ◌∷◌, ◌++◌, Option}
-use Rattle.std.proofs.Common.{arith, get_or, refl, sym, ap, subst, ◌∙◌, inl, inr, drop, Some, None}
-use Rattle.std.proofs.Common.{Bor}
-use Rattle.std.specs.Prelude.{IfSome, IsNone}
-use Rattle.std.specs.Option.{option_copied}
-use Rattle.std.proofs.lemmas.Bool.{true≢false}
+use Rattle.std.proofs.Common.{None, arith, get_or, refl, sym, ap, subst, ◌∙◌, inl, inr, drop}
+use Rattle.std.proofs.lemmas.Bool.{cases_Bool, eqb-true, true≢false}
 use Rattle.std.proofs.lemmas.List.{append_cancel_left}
 use Rattle.std.specs.Char.{is_ascii_hexdigit}
 use Rattle.std.specs.List.{Contains}
@@ -13,43 +10,25 @@ use Rattle.ring.specs.declared.digest.algorithm.Algorithm.{Algorithm}
 use Rattle.ring.specs.declared.digest.algorithm.AlgorithmId.{AlgorithmId}
 use Rattle.ring.specs.declared.digest.algorithm.AlgorithmId.TheVariants.{Sha1, Sha256, Sha384}
 use Rattle.ring.specs.declared.digest.algorithm.AlgorithmId.TheVariants.{Sha512, Sha512_256}
-use Rattle.ring_sums.specs.Entry.{Finds, HasPlainForm, HasTaggedForm, IsLastCut, IsOpened}
-use Rattle.ring_sums.specs.Entry.{algorithms_read, behind_white, tag_of, tag_of_id}
+use Rattle.ring_sums.specs.Entry.{HasPlainForm, HasTaggedForm, IsLastCut, algorithms_read}
+use Rattle.ring_sums.specs.Entry.{behind_space, behind_white, tag_of, tag_of_id}
 use Rattle.ring_sums.proofs.Fronts.{last_cut_same}
 use Rattle.ring_sums.proofs.PlainForm.{plain-first}
 
-opened_same : {line one other : List ℕ} → IsOpened line one → IsOpened line other → one ≡ other
-opened_same (inl is) (inl too) = ap (drop 1) (sym is ∙ too)
-opened_same (inl is) (inr too) =
-    absurd (true≢false (ap (λ l. eqb (get_or l 0 0) 40) (sym is ∙ too)))
-opened_same (inr is) (inl too) =
-    absurd (true≢false (ap (λ l. eqb (get_or l 0 0) 40) (sym too ∙ is)))
-opened_same (inr is) (inr too) = ap (drop 2) (sym is ∙ too)
-
--- behind a parenthesis, or else behind a space and one
-pub opened-second : (line : List ℕ) (second : Option (Bor (List ℕ)))
-    → ((rest : List ℕ) → line ≡ 40 ∷ rest → ⊥)
-    → IfSome second (λ inner. line ≡ 32 ∷ 40 ∷ inner.now)
-    → (IsNone second → (rest : List ℕ) → line ≡ 32 ∷ 40 ∷ rest → ⊥)
-    → Finds (option_copied second) (IsOpened line)
-opened-second line None first some none = λ inner is. elim is [
-  | inl alone ↦ first inner alone
-  | inr spaced ↦ none refl inner spaced
-]
-opened-second line (Some inner) first some none = inr some
-
 -- what is read of a line with the form, step by step
-module _ {line tag name digits opened : List ℕ} (form : HasTaggedForm line tag name digits)
-    (begins : line ≡ tag ++ opened) where
-  pub opened-at : IsOpened opened form.inner
+module _ {line tag name digits : List ℕ} (form : HasTaggedForm line tag name digits)
+    (opened : List ℕ) (begins : line ≡ tag ++ opened) where
+  pub opened-at : behind_space opened ≡ 40 ∷ form.inner
   opened-at =
-      subst (λ l. IsOpened l form.inner)
-      (append_cancel_left tag form.opened opened (sym form.begins ∙ begins)) form.opens
+      ap behind_space (append_cancel_left tag opened form.opened (sym begins ∙ form.begins))
+      ∙ form.opens
 
-  pub cut-at : {inner : List ℕ} → IsOpened opened inner → IsLastCut 41 inner name form.rest
-  cut-at opens = subst (λ l. IsLastCut 41 l name form.rest) (opened_same opened-at opens) form.cut
+  pub cut-at : {inner : List ℕ} → behind_space opened ≡ 40 ∷ inner
+      → IsLastCut 41 inner name form.rest
+  cut-at opens =
+      subst (λ l. IsLastCut 41 l name form.rest) (ap (drop 1) (sym opened-at ∙ opens)) form.cut
 
-  pub equals-at : {inner before behind : List ℕ} → IsOpened opened inner
+  pub equals-at : {inner before behind : List ℕ} → behind_space opened ≡ 40 ∷ inner
       → IsLastCut 41 inner before behind
       → (name ≡ before) × (behind_white behind ≡ 61 ∷ form.behind)
   equals-at opens cut =
@@ -60,7 +39,7 @@ module _ {line tag name digits opened : List ℕ} (form : HasTaggedForm line tag
 pub tagged-same : {line tag n m d e : List ℕ} → HasTaggedForm line tag n d
     → HasTaggedForm line tag m e → (n ≡ m) × (d ≡ e)
 tagged-same one two =
-    let same = equals-at one two.begins two.opens two.cut in
+    let same = equals-at one two.opened two.begins two.opens two.cut in
     let behind : one.behind ≡ two.behind = ap (drop 1) (sym same.1 ∙ two.equals) in
     (same.0, one.ends ∙ ap behind_white behind ∙ sym two.ends)
 
@@ -75,13 +54,17 @@ id_at line =
     else if eqb (get_or line 6 0) 47 then Sha512_256
     else Sha512
 
-id_at-tag : (id : AlgorithmId) (opened inner : List ℕ) → IsOpened opened inner
+id_at-tag : (id : AlgorithmId) (opened inner : List ℕ) → behind_space opened ≡ 40 ∷ inner
     → id_at (tag_of_id id ++ opened) ≡ id
 id_at-tag Sha1 opened inner opens = refl
 id_at-tag Sha256 opened inner opens = refl
 id_at-tag Sha384 opened inner opens = refl
-id_at-tag Sha512 opened inner (inl is) = ap (λ o. id_at (tag_of_id Sha512 ++ o)) is
-id_at-tag Sha512 opened inner (inr is) = ap (λ o. id_at (tag_of_id Sha512 ++ o)) is
+id_at-tag Sha512 [] inner opens = refl
+id_at-tag Sha512 (byte ∷ rest) inner opens = elim (cases_Bool (eqb byte 47)) [
+  | inl is ↦ absurd (true≢false (ap (λ l. eqb (get_or l 0 0) 47)
+      (rw (eqb-true byte 47 is) at opens)))
+  | inr other ↦ rw other
+]
 id_at-tag Sha512_256 opened inner opens = refl
 
 abbrev with_id : AlgorithmId → Algorithm

@@ -10,7 +10,7 @@ use Rattle.std.specs.List.{All}
 use Rattle.std.specs.declared.io.Error.{Error}
 use Rattle.ring.specs.declared.digest.algorithm.Algorithm.{Algorithm}
 use Rattle.ring_sums.specs.Outcome.{IsOutcome}
-use Rattle.ring_sums.specs.Outcomes.{AreGathered, FileIsGiven, FilesToCome, IsOutcomeOf, IsTaken}
+use Rattle.ring_sums.specs.Outcomes.{AreGathered, FileIsGiven, FilesToCome, IsNextOf, IsOutcomeOf}
 use Rattle.ring_sums.specs.Sums.{ReaderIsGiven, ReadersToCome}
 use Rattle.ring_sums.specs.declared.outcome.Outcome.{Outcome}
 use Rattle.ring_sums.specs.declared.outcomes.Outcomes.{Outcomes}
@@ -20,20 +20,19 @@ use Rattle.ring_sums.specs.declared.sums.Sums.{Sums}
 abbrev pub readers_of : {R : Type 0} → List (Wanted R) → List R
 readers_of files = map (λ file. file.reader) files
 
--- one reader more is taken
+-- the reader of the next file more
 pub gathered-more : {R : Type 0} {a : Algorithm} {old new : List R}
-    {waited waiting rest : List (Wanted R)} {reader : R} → AreGathered a old new waited waiting
-    → IsTaken a reader waiting rest → AreGathered a old (new ++ reader ∷ []) waited rest
-gathered-more {a = a} {old} {rest = rest} {reader} so taken =
-    let next = taken.next in
+    {waited waiting rest : List (Wanted R)} (next : Wanted R)
+    → AreGathered a old new waited waiting → IsNextOf a waiting → waiting ≡ next ∷ rest
+    → AreGathered a old (new ++ next.reader ∷ []) waited rest
+gathered-more {a = a} {old} {rest = rest} next so is waits =
     record {
       files = so.files ++ next ∷ [];
-      of = All-push (λ file. file.algorithm ≡ a) so.files next so.of taken.algorithm;
-      taken = so.taken ∙ ap (λ z. so.files ++ z) taken.rest
+      of = All-push (λ file. file.algorithm ≡ a) so.files next so.of (rw waits at is next);
+      taken = so.taken ∙ ap (λ z. so.files ++ z) waits
           ∙ sym (append_assoc so.files (next ∷ []) rest);
-      behind = ap (λ z. z ++ reader ∷ []) so.behind
-          ∙ append_assoc old (readers_of so.files) (reader ∷ [])
-          ∙ ap (λ z. old ++ (readers_of so.files ++ z ∷ [])) (sym taken.reader)
+      behind = ap (λ z. z ++ next.reader ∷ []) so.behind
+          ∙ append_assoc old (readers_of so.files) (next.reader ∷ [])
           ∙ ap (λ z. old ++ z) (sym (map_push (λ file. file.reader) so.files next));
     }
 

@@ -2,8 +2,8 @@
 -- Written lines read back, in both styles.
 use Rattle.std.proofs.Common.{◌≡◌, ℕ, ◌*◌, ◌<◌, eqb, Bool, true, false, not, ◌||◌, List, [], ◌∷◌}
 use Rattle.std.proofs.Common.{◌++◌, if◌then◌else◌, length, get_or, Option, Some, None, refl, sym}
-use Rattle.std.proofs.Common.{ap, ◌∙◌, append_assoc, arith, inr}
-use Rattle.std.proofs.lemmas.Bool.{and_parts, le-leb, ne_eqb, true≢false}
+use Rattle.std.proofs.Common.{ap, ◌∙◌, append_assoc, arith}
+use Rattle.std.proofs.lemmas.Bool.{le-leb, ne_eqb, true≢false}
 use Rattle.std.proofs.lemmas.List.{append_cancel_right}
 use Rattle.std.proofs.lemmas.List.Elements.{All-cons}
 use Rattle.std.proofs.lemmas.List.Folds.{list_all-append}
@@ -31,7 +31,7 @@ use Rattle.ring_sums.specs.declared.entry.Gap.{Gap}
 use Rattle.ring_sums.specs.declared.entry.Gap.TheVariants.{Unknown, One, Two}
 use Rattle.ring_sums.proofs.Escapes.{escaped-cases}
 use Rattle.ring_sums.proofs.Fronts.{white-front}
-use Rattle.ring_sums.proofs.LineParts.{are_digits, digits-start, length-escaped, listed_with-line}
+use Rattle.ring_sums.proofs.LineParts.{digits-pass, digits-start, length-escaped, listed_with-line}
 use Rattle.ring_sums.proofs.LineParts.{slash, start-written}
 use Rattle.ring_sums.proofs.PlainForm.{plain-first}
 use Rattle.ring_sums.proofs.TaggedForm.{tagged-first}
@@ -54,16 +54,6 @@ is_clean bytes = list_all (λ byte. not (is_end byte)) bytes
 pub clean-append : (xs ys : List ℕ) → is_clean xs ≡ true → is_clean ys ≡ true
     → is_clean (xs ++ ys) ≡ true
 clean-append xs ys one two = rw (list_all-append (λ b. not (is_end b)) xs ys, one, two)
-
-clean-digits : (digits : List ℕ) → list_all is_ascii_hexdigit digits ≡ true
-    → is_clean digits ≡ true
-clean-digits [] h = refl
-clean-digits (digit ∷ digits) h =
-    let parts = and_parts (is_ascii_hexdigit digit) (list_all is_ascii_hexdigit digits) h in
-    rw (
-      other_byte is_ascii_hexdigit digit 10 parts.0 refl,
-      other_byte is_ascii_hexdigit digit 13 parts.0 refl,
-    ) (clean-digits digits parts.1)
 
 clean-byte : (byte : ℕ) → is_clean (escaped_byte byte) ≡ true
 clean-byte byte =
@@ -182,7 +172,10 @@ module _ (listed : Listed) (is : IsDigestOf listed.algorithm listed.digest) wher
       let l = length-encode_with lower_digits listed.digest in let n = is.len in omega arith
 
   all_digits : list_all is_ascii_hexdigit digits ≡ true
-  all_digits = are_digits listed.digest is.bytes
+  all_digits = digits-pass is_ascii_hexdigit listed.digest refl is.bytes
+
+  clean_digits : is_clean digits ≡ true
+  clean_digits = digits-pass (λ byte. not (is_end byte)) listed.digest refl is.bytes
 
   -- the algorithm that so many digits show
   pub shown : (listed.algorithm ≡ SHA512_256 → ⊥)
@@ -215,7 +208,7 @@ module _ (listed : Listed) (is : IsDigestOf listed.algorithm listed.digest) wher
         starts = λ byte other. other_byte is_start (get_or text 0 0) byte
             (rw (plain-first form) refl) other;
         clean = clean-append digits (32 ∷ mark_of is_binary ∷ name)
-            (clean-digits digits all_digits) (rw (is_mark is_binary).1 (clean-escaped listed.name));
+            clean_digits (rw (is_mark is_binary).1 (clean-escaped listed.name));
       }
 
   pub tagged-text : {asked : Option Algorithm}
@@ -236,7 +229,7 @@ module _ (listed : Listed) (is : IsDigestOf listed.algorithm listed.digest) wher
         rest = 32 ∷ 61 ∷ 32 ∷ digits;
         behind = 32 ∷ digits;
         begins = refl;
-        opens = inr refl;
+        opens = refl;
         cut = record {
           whole = refl;
           last = All-cons P 32 (61 ∷ 32 ∷ digits) refl
@@ -253,6 +246,5 @@ module _ (listed : Listed) (is : IsDigestOf listed.algorithm listed.digest) wher
         starts = λ byte other. rw (tagged-first a form)
             (other_byte is_start 83 byte refl other);
         clean = clean-append (tag_of a) (32 ∷ 40 ∷ (name ++ behind)) (clean-tag a.id)
-            (clean-append name behind (clean-escaped listed.name)
-            (clean-digits digits all_digits));
+            (clean-append name behind (clean-escaped listed.name) clean_digits);
       }

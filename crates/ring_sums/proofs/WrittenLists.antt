@@ -3,11 +3,11 @@
 use Rattle.std.proofs.Common.{◌≡◌, ℕ, ◌+◌, ◌-◌, eqb, Bool, true, false, not, ◌&&◌, codes}
 use Rattle.std.proofs.Common.{List, [], ◌∷◌, ◌++◌, length, map, drop, get_or, ◌⊎◌, Option, Some}
 use Rattle.std.proofs.Common.{None, refl, sym, ap, ◌∙◌, inl, inr, append_assoc, arith}
-use Rattle.std.proofs.lemmas.Bool.{and_parts, false_from_ne_true, not-true, or_from}
+use Rattle.std.proofs.lemmas.Bool.{false_from_ne_true, not-true, or_from}
 use Rattle.std.proofs.lemmas.Bool.{ne_eqb, or_parts, true≢false}
-use Rattle.std.proofs.lemmas.List.Elements.{All-cons, All-drop, All-head, All-nil, All-same}
-use Rattle.std.proofs.lemmas.List.Elements.{All-tail, All-weaker}
+use Rattle.std.proofs.lemmas.List.Elements.{All-drop, All-head, All-same, All-tail, All-weaker}
 use Rattle.std.proofs.lemmas.List.Splits.{slice_split_at}
+use Rattle.std.proofs.lemmas.List.Sums.{AllPass-from_list_all}
 use Rattle.std.proofs.lemmas.Slice.Eq.{bytes_eq-Decides}
 use Rattle.std.specs.List.{All, Contains, flat_map}
 use Rattle.std.specs.Option.{option_or}
@@ -28,13 +28,6 @@ use Rattle.ring_sums.proofs.WrittenLines.{plain-text, shown, tagged-text, text-r
 
 -- ---- one line
 
-clean-each : (bytes : List ℕ) → is_clean bytes ≡ true → All (λ byte. is_end byte ≡ false) bytes
-clean-each [] h = All-nil (λ byte. is_end byte ≡ false)
-clean-each (byte ∷ bytes) h =
-    let parts = and_parts (not (is_end byte)) (is_clean bytes) h in
-    All-cons (λ b. is_end b ≡ false) byte bytes (not-true (is_end byte) parts.0)
-    (clean-each bytes parts.1)
-
 clean-slash : (is_escaped : Bool) → is_clean (slash is_escaped) ≡ true
 clean-slash true = refl
 clean-slash false = refl
@@ -43,13 +36,14 @@ clean-slash false = refl
 without_return-clean : (text : List ℕ) → is_clean text ≡ true → without_return text ≡ text
 unfolding without_return
 without_return-clean text clean =
-    let P : ℕ → Type 0 = λ byte. is_end byte ≡ false in
+    let P : ℕ → Type 0 = λ byte. not (is_end byte) ≡ true in
     let end = drop (length text - 1) text in
     let kept : bytes_eq end (13 ∷ []) ≡ false = false_from_ne_true _ (λ is.
     let same = (bytes_eq-Decides end (13 ∷ [])).0 is in
-    let ends = All-drop P (length text - 1) text (clean-each text clean) in
+    let ends = All-drop P (length text - 1) text
+    (AllPass-from_list_all (λ byte. not (is_end byte)) text clean) in
     let last = All-head P 13 [] (All-same P (13 ∷ []) end (sym same) ends) in
-    true≢false last) in
+    true≢false (sym last)) in
     rw kept
 
 -- a text that begins neither so nor with a zero byte is read
@@ -111,8 +105,9 @@ module _ (asked : Option Algorithm) (is_standard_input is_tagged : Bool)
         ap (λ z. lines_in (z ++ rest)) (line-text is_tagged is_binary listed)
         ∙ ap lines_in (append_assoc line (10 ∷ []) rest)
         ∙ slice_split_at (λ byte. eqb byte 10) line 10 rest
-        (All-weaker (λ b. is_end b ≡ false) (λ b. eqb b 10 ≡ false)
-        (λ b h. (or_parts (eqb b 10) (eqb b 13) h).0) line (clean-each line clean)) refl
+        (All-weaker (λ b. not (is_end b) ≡ true) (λ b. eqb b 10 ≡ false)
+        (λ b h. (or_parts (eqb b 10) (eqb b 13) (not-true (is_end b) h)).0) line
+        (AllPass-from_list_all (λ b. not (is_end b)) line clean)) refl
 
 -- ---- both styles
 

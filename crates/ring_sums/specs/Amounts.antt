@@ -39,9 +39,6 @@ read_text amounts =
     amount amounts.done
     ++ (if amounts.is_open then [] else codes " of " ++ amount (amounts.done + amounts.left))
 
-abbrev pub rate_text : Amounts → (millis : ℕ) → List ℕ
-rate_text amounts millis = codes ", " ++ amount (rate_of amounts.done millis) ++ codes "/s"
-
 -- how long it still takes, where that is known
 abbrev pub left_text : Amounts → (millis : ℕ) → List ℕ
 left_text amounts millis =
@@ -50,4 +47,6 @@ left_text amounts millis =
 
 -- `1.2 GB of 3.0 GB, 231.4 MB/s, 0:00:07 left`
 abbrev pub shown : Amounts → (millis : ℕ) → List ℕ
-shown amounts millis = read_text amounts ++ rate_text amounts millis ++ left_text amounts millis
+shown amounts millis =
+    read_text amounts ++ codes ", " ++ amount (rate_of amounts.done millis) ++ codes "/s"
+    ++ left_text amounts millis

@@ -71,11 +71,10 @@ is_found verdict found = false
 abbrev pub count_of : Verdict → List (Option Verdict) → ℕ
 count_of verdict founds = count_by (is_found verdict) founds
 
-pub record AreCounted (founds : List (Option Verdict)) (counts : Counts) : Type 0 where
-  pub entries : counts.entries ≡ length founds
-  pub same : counts.same ≡ count_of Same founds
-  pub others : counts.others ≡ count_of Other founds
-  pub unread : counts.unread ≡ count_of Unread founds
+abbrev pub AreCounted : (founds : List (Option Verdict)) → Counts → Type 0
+AreCounted founds counts =
+    (counts.entries ≡ length founds) × (counts.same ≡ count_of Same founds)
+    × (counts.others ≡ count_of Other founds) × (counts.unread ≡ count_of Unread founds)
 
 -- a list passes that was read to its end: it lists a file that has the listed digest, none that has
 -- not or could not be read, and under `--strict` no line has another form

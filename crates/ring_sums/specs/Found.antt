@@ -1,26 +1,21 @@
 -- SPDX-License-Identifier: ISC
 -- Outcomes that are found before it is their turn to be given.
-use Rattle.std.specs.Prelude.{◌≡◌, ◌≢◌, ℕ, ◌+◌, ◌<◌, Bool, IsNone, IsSomeAnd, List, [], ◌∷◌}
-use Rattle.std.specs.Prelude.{MatchOption, Option, None, Some, get_or, length, ⊤}
+use Rattle.std.specs.Prelude.{◌≡◌, ◌≢◌, ℕ, ◌+◌, ◌<◌, Bool, Contains, IsNone, IsSomeAnd, List, []}
+use Rattle.std.specs.Prelude.{◌∷◌, MatchOption, Option, None, Some, get_or, length, ⊤}
 use Rattle.std.specs.declared.io.Error.{Error}
 use Rattle.ring.specs.declared.digest.algorithm.Algorithm.{Algorithm}
+use Rattle.ring_sums.specs.Lane.{places_of}
 use Rattle.ring_sums.specs.Outcome.{IsOutcome}
 use Rattle.ring_sums.specs.declared.lane.Lane.{Lane}
 use Rattle.ring_sums.specs.declared.outcome.Outcome.{Outcome}
 use Rattle.ring_sums.specs.declared.outcome.Outcome.TheVariants.{Failed}
-
--- one of the lanes reads the reader at `place`
-pub record HasLane {R : Type 0} (place : ℕ) (lanes : List (Lane R)) : Type 0 where
-  pub lane : ℕ
-  pub below : lane < length lanes
-  pub at : (l : Lane R) → (get_or lanes lane l).place ≡ place
 
 -- of the readers from `place` on, each whose outcome is not found is read in a lane
 pub record AreFound {R : Type 0} (remaining : R → Option (List ℕ)) (fails_with : R → Error → Bool)
     (a : Algorithm) (readers : List R) (place : ℕ) (found : List (Option Outcome))
     (lanes : List (Lane R)) : Type 0 where
   pub each : (k : ℕ) (r : R) (o : Option Outcome) → k < length found
-      → MatchOption (get_or found k o) (HasLane (place + k) lanes)
+      → MatchOption (get_or found k o) (Contains (places_of lanes) (place + k))
       (IsOutcome remaining fails_with a (get_or readers (place + k) r))
 
 -- the outcome of the reader at `place` is among those of the readers from `given` on, if it is one

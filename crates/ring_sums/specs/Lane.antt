@@ -1,7 +1,7 @@
 -- SPDX-License-Identifier: ISC
 -- Readers in lanes.
 use Rattle.std.specs.Prelude.{◌≡◌, ℕ, Bool, List, [], ◌++◌, IfSome, IsFalse, IsNone, IsTrue, None}
-use Rattle.std.specs.Prelude.{Option, drop, take}
+use Rattle.std.specs.Prelude.{Option, drop, map, take}
 use Rattle.std.specs.Io.KnownBytes.{Consumes, IsAtEnd}
 use Rattle.std.specs.declared.io.Error.{Error}
 use Rattle.ring.specs.Prelude.{StandsFor, context_algorithm}
@@ -9,6 +9,10 @@ use Rattle.ring.specs.declared.digest.algorithm.Algorithm.{Algorithm}
 use Rattle.ring.specs.declared.digest.context.Context.{Context}
 use Rattle.ring_sums.specs.Outcome.{IsFailure}
 use Rattle.ring_sums.specs.declared.lane.Lane.{Lane}
+
+-- the places of the readers
+abbrev pub places_of : {R : Type 0} → List (Lane R) → List ℕ
+places_of lanes = map (λ lane. lane.place) lanes
 
 -- what was read and is not taken in
 abbrev pub left_of : {R : Type 0} → Lane R → List ℕ

@@ -1,6 +1,6 @@
 -- SPDX-License-Identifier: ISC
 -- Outcomes of several files in their order.
-use Rattle.std.specs.Prelude.{◌≡◌, ℕ, All, Bool, ◌∷◌, ◌++◌, List, Option, get_or, map}
+use Rattle.std.specs.Prelude.{◌≡◌, ℕ, All, Bool, ◌++◌, List, Option, get_or, map}
 use Rattle.std.specs.declared.io.Error.{Error}
 use Rattle.ring.specs.declared.digest.algorithm.Algorithm.{Algorithm}
 use Rattle.ring_sums.specs.Outcome.{IsOutcome}
@@ -18,14 +18,6 @@ IsOutcomeOf remaining fails_with file outcome =
 -- the next of those that wait is of this algorithm
 abbrev pub IsNextOf : {R : Type 0} → Algorithm → (waiting : List (Wanted R)) → Type 0
 IsNextOf a waiting = (w : Wanted _) → (get_or waiting 0 w).algorithm ≡ a
-
--- the reader is that of the next file, which is of this algorithm
-pub record IsTaken {R : Type 0} (a : Algorithm) (r : R) (old new : List (Wanted R))
-    : Type 0 where
-  pub next : Wanted R
-  pub algorithm : next.algorithm ≡ a
-  pub reader : next.reader ≡ r
-  pub rest : old ≡ next ∷ new
 
 -- the readers of files of one algorithm are behind those before, and the files do not wait any more
 pub record AreGathered {R : Type 0} (a : Algorithm) (old new : List R)

@@ -3,8 +3,8 @@
 
 ghost use Rattle.std.specs.Prelude.{◌≡◌, ◌+◌, ◌-◌, ◌^◌, ◌<◌, ◌++◌, IfSome, IsFalse, IsNone, IsSome};
 ghost use Rattle.std.specs.Prelude.{IsTrue, OnOk, decimal};
-ghost use Rattle.ring_sums.specs.Amounts.{amount, clock, in_tenths, left_text, rate_of, rate_text};
-ghost use Rattle.ring_sums.specs.Amounts.{read_text, shown, time_left, two_digits};
+ghost use Rattle.ring_sums.specs.Amounts.{amount, clock, in_tenths, left_text, rate_of, read_text};
+ghost use Rattle.ring_sums.specs.Amounts.{shown, time_left, two_digits};
 
 use itoa::Buffer;
 use std::alloc::AllocError;
@@ -173,16 +173,6 @@ fn append_read(out: &mut Vec<u8>, amounts: &Amounts) -> Result<(), AllocError>
     Ok(())
 }
 
-/// Appends how fast it is read.
-fn append_rate(out: &mut Vec<u8>, amounts: &Amounts, millis: u64) -> Result<(), AllocError>
-    requires { 0 < millis }
-    ensures { OnOk result (out.new.items ≡ out.old.items ++ rate_text amounts.now millis) }
-{
-    out.extend_from_slice(b", ")?;
-    append_amount(out, rate_of(amounts.done, millis))?;
-    out.extend_from_slice(b"/s")
-}
-
 /// Appends how long it still takes, as far as that is known.
 fn append_left(out: &mut Vec<u8>, amounts: &Amounts, millis: u64) -> Result<(), AllocError>
     ensures { OnOk result (out.new.items ≡ out.old.items ++ left_text amounts.now millis) }
@@ -205,6 +195,8 @@ pub(crate) fn append_shown(
     ensures { OnOk result (out.new.items ≡ out.old.items ++ shown amounts.now millis) }
 {
     append_read(out, amounts)?;
-    append_rate(out, amounts, millis)?;
+    out.extend_from_slice(b", ")?;
+    append_amount(out, rate_of(amounts.done, millis))?;
+    out.extend_from_slice(b"/s")?;
     append_left(out, amounts, millis)
 }

@@ -4,7 +4,7 @@
 ghost use Rattle.std.specs.Prelude.{◌≡◌, ◌↔◌, IfOk, IsFalse, IsNone, IsTrue};
 
 use crate::progress::Progress;
-use crate::quote::append_quoted;
+use crate::quote::{in_quotes, joined};
 use std::alloc::{AllocError, Global};
 use std::io;
 use std::io::{Eprint, Write};
@@ -28,16 +28,15 @@ pub(crate) struct Console<'a, R, W> {
     is_shared: bool,
 }
 
-/// Appends what is wrong with a call of the system, without the system's number for it.
-pub(crate) fn append_reason(out: &mut Vec<u8>, error: &io::Error) -> Result<(), AllocError> {
-    let text = format!(in *out.allocator(); "{error}")?;
+/// What is wrong with a call of the system, without the system's number for it.
+fn reason_of(alloc: Global, error: &io::Error) -> Result<Vec<u8>, AllocError> {
+    let text = format!(in alloc; "{error}")?;
     let bytes = text.as_bytes();
     let len = match memchr::memmem::rfind(bytes, b" (os error ") {
         Some(place) => place,
         None => bytes.len(),
     };
-    out.extend_from_slice(&bytes[..len])?;
-    Ok(())
+    bytes[..len].to_vec(alloc)
 }
 
 impl<'a, R: Eprint, W: Write> Console<'a, R, W> {
@@ -98,10 +97,7 @@ impl<'a, R: Eprint, W: Write> Console<'a, R, W> {
     pub(crate) fn tell(&mut self, text: &[u8]) -> Result<(), AllocError>
         ensures { IsKept self.old self.new }
     {
-        let mut message = self.program.to_vec(self.alloc)?;
-        message.extend_from_slice(b": ")?;
-        message.extend_from_slice(text)?;
-        self.show(&message)
+        self.show(&joined(self.alloc, &[self.program, b": ", text])?)
     }
 
     /// Writes a line on standard error.
@@ -119,11 +115,8 @@ impl<'a, R: Eprint, W: Write> Console<'a, R, W> {
     pub(crate) fn tell_of(&mut self, name: &[u8], text: &[u8]) -> Result<(), AllocError>
         ensures { IsKept self.old self.new }
     {
-        let mut message = Vec::new(self.alloc);
-        append_quoted(&mut message, name)?;
-        message.extend_from_slice(b": ")?;
-        message.extend_from_slice(text)?;
-        self.tell(&message)
+        let name = in_quotes(self.alloc, name)?;
+        self.tell(&joined(self.alloc, &[&name, b": ", text])?)
     }
 
     /// Tells why a file could not be read.
@@ -131,8 +124,7 @@ impl<'a, R: Eprint, W: Write> Console<'a, R, W> {
         ensures { IsKept self.old self.new }
     {
         self.note(error);
-        let mut reason = Vec::new(self.alloc);
-        append_reason(&mut reason, error)?;
+        let reason = reason_of(self.alloc, error)?;
         self.tell_of(name, &reason)
     }
 
@@ -152,7 +144,7 @@ impl<'a, R: Eprint, W: Write> Console<'a, R, W> {
         let mut message = b"write error".to_vec(self.alloc)?;
         if error.raw_os_error() == Some(BAD_DESCRIPTOR) {
             message.extend_from_slice(b": ")?;
-            append_reason(&mut message, &error)?;
+            message.extend_from_slice(&reason_of(self.alloc, &error)?)?;
         }
         self.tell(&message)?;
         Ok(false)

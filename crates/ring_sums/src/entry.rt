@@ -5,12 +5,12 @@ ghost use Rattle.std.specs.Prelude.{◌≡◌, ℕ, List, IfOk, not};
 ghost use Rattle.std.specs.Prelude.{Contains, option_copied, option_map, position};
 ghost use Rattle.std.specs.Char.{is_ascii_hexdigit};
 ghost use Rattle.ring.specs.declared.digest.algorithm.Algorithm.{Algorithm};
-ghost use Rattle.ring_sums.specs.Entry.{Finds, HasPlainForm, HasTaggedForm, IsLastCut, IsOpened};
+ghost use Rattle.ring_sums.specs.Entry.{Finds, HasPlainForm, HasTaggedForm, IsLastCut};
 ghost use Rattle.ring_sums.specs.Entry.{IsReading, IsVerdict, Reading, algorithm_of_count};
-ghost use Rattle.ring_sums.specs.Entry.{algorithms_read, behind_backslash, behind_white, digest_in};
-ghost use Rattle.ring_sums.specs.Entry.{gap_after, gap_shown, is_marked, is_white, listed_by};
-ghost use Rattle.ring_sums.specs.Entry.{listed_in, listed_with, name_in, named_by, tag_of};
-ghost use Rattle.ring_sums.specs.Entry.{with_digits};
+ghost use Rattle.ring_sums.specs.Entry.{algorithms_read, behind_backslash, behind_space};
+ghost use Rattle.ring_sums.specs.Entry.{behind_white, digest_in, gap_after, gap_shown, is_marked};
+ghost use Rattle.ring_sums.specs.Entry.{is_white, listed_by, listed_in, listed_with, name_in};
+ghost use Rattle.ring_sums.specs.Entry.{named_by, tag_of, with_digits};
 
 use crate::names::unescaped;
 use crate::outcome::Outcome;
@@ -264,13 +264,13 @@ fn plain_entry(
     }
 }
 
-/// What is behind a parenthesis that opens, before which a space may stand.
-fn opened(line: &[u8]) -> Option<&[u8]>
-    ensures { Finds (option_copied result) (IsOpened line.now) }
+/// Bytes without the one space that may begin them.
+fn behind_space(line: &[u8]) -> &[u8]
+    ensures { result.now ≡ behind_space line.now }
 {
-    match after(line, b"(") {
-        Some(inner) => Some(inner),
-        None => after(line, b" ("),
+    match after(line, b" ") {
+        Some(rest) => rest,
+        None => line,
     }
 }
 
@@ -279,7 +279,7 @@ fn tagged_parts<'a>(line: &'a [u8], tag: &[u8]) -> Option<(&'a [u8], &'a [u8])>
     ensures { Finds {X = List ℕ × List ℕ} (option_map (λ parts. (parts.0.now, parts.1.now)) result)
         (λ parts. HasTaggedForm line.now tag.now parts.0 parts.1) }
 {
-    let inner = opened(after(line, tag)?)?;
+    let inner = after(behind_space(after(line, tag)?), b"(")?;
     let (name, rest) = cut_at_last(b')', inner)?;
     let digits = after(without_white(rest), b"=")?;
     Some((name, without_white(digits)))

@@ -1,10 +1,11 @@
 // SPDX-License-Identifier: ISC
 //! A list, line by line.
 
-ghost use Rattle.std.specs.Prelude.{◌≡◌, ◌&&◌, IfOk, OnOk, codes, map};
+ghost use Rattle.std.specs.Prelude.{◌≡◌, ◌&&◌, IfOk, OnOk, codes, map, option_map};
 ghost use Rattle.std.specs.Str.{bytes_eq};
+ghost use Rattle.ring_sums.specs.Entry.{listed_by};
 ghost use Rattle.ring_sums.specs.List.{IsAppended, LinesSay, TextSays, is_passed_over, lines_in};
-ghost use Rattle.ring_sums.specs.List.{said_by, without_return};
+ghost use Rattle.ring_sums.specs.List.{said_by, said_of, without_return};
 
 use crate::entry::{Entry, Gap, entry_of_line};
 use crate::options::Options;
@@ -43,6 +44,20 @@ fn lists_itself(is_standard_input: bool, name: &[u8]) -> bool
     is_standard_input && *name == *b"-".as_slice()
 }
 
+/// What a line says of which this entry is read.
+#[tactic(auto, unfolding(crate::specs::List::said_of))]
+fn said(entry: Option<Entry>, number: u64, is_standard_input: bool) -> Line
+    ensures { said_by result ≡ said_of (option_map listed_by entry) number is_standard_input }
+{
+    let Some(entry) = entry else {
+        return Line::Bad(number);
+    };
+    if lists_itself(is_standard_input, &entry.name) {
+        return Line::Bad(number);
+    }
+    Line::Entry(entry)
+}
+
 /// What a line says that is neither empty nor a comment.
 fn line_said(
     alloc: Global,
@@ -55,13 +70,8 @@ fn line_said(
     ensures { IfOk result (λ said. TextSays asked is_standard_input number gap.old line.now
         (said_by said) gap.new) }
 {
-    let Some(entry) = entry_of_line(alloc, asked, line, gap)? else {
-        return Ok(Line::Bad(number));
-    };
-    if lists_itself(is_standard_input, &entry.name) {
-        return Ok(Line::Bad(number));
-    }
-    Ok(Line::Entry(entry))
+    let entry = entry_of_line(alloc, asked, line, gap)?;
+    Ok(said(entry, number, is_standard_input))
 }
 
 /// Appends what a line says, if it says something.

@@ -73,7 +73,7 @@ where
         let Some(outcome) = next else {
             return Ok(false);
         };
-        is_fine = answer(alloc, options, name, &outcome, console)? && is_fine;
+        is_fine &= answer(alloc, options, name, &outcome, console)?;
     }
     Ok(is_fine)
 }

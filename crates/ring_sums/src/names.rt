@@ -60,6 +60,7 @@ fn unescaped_byte(letter: u8) -> Option<u8>
 
 /// The byte for which the first bytes stand, and those behind them; `None` where they are a
 /// backslash that begins no escape.
+#[tactic(auto, unfolding(crate::specs::Names::unescaped))]
 fn next_byte(first: u8, rest: &[u8]) -> Option<(u8, &[u8])>
     ensures is { MatchOption result (unescaped (first ∷ rest.now) ≡ None)
         (λ next. unescaped (first ∷ rest.now) ≡ before (Some next.0) (unescaped next.1.now)) }

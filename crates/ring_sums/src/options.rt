@@ -54,44 +54,48 @@ pub(crate) enum Flag {
     Version,
 }
 
-/// The long names of options, in the order in which a message lists them.
-const LONG_NAMES: [(&[u8], Flag); 15] = [
-    (b"check", Flag::Check),
-    (b"ignore-missing", Flag::IgnoreMissing),
-    (b"quiet", Flag::Quiet),
-    (b"status", Flag::Status),
-    (b"warn", Flag::Warn),
-    (b"strict", Flag::Strict),
-    (b"tag", Flag::Tag),
-    (b"zero", Flag::Zero),
-    (b"binary", Flag::Binary),
-    (b"text", Flag::Text),
-    (b"help", Flag::Help),
-    (b"version", Flag::Version),
-    (b"algorithm", Flag::Algorithm),
-    (b"recursive", Flag::Recursive),
-    (b"progress", Flag::Progress),
+/// The names of options and their letters, in the order in which a message lists them.
+const NAMES: [(&[u8], Option<u8>, Flag); 15] = [
+    (b"check", Some(b'c'), Flag::Check),
+    (b"ignore-missing", None, Flag::IgnoreMissing),
+    (b"quiet", None, Flag::Quiet),
+    (b"status", None, Flag::Status),
+    (b"warn", Some(b'w'), Flag::Warn),
+    (b"strict", None, Flag::Strict),
+    (b"tag", None, Flag::Tag),
+    (b"zero", Some(b'z'), Flag::Zero),
+    (b"binary", Some(b'b'), Flag::Binary),
+    (b"text", Some(b't'), Flag::Text),
+    (b"help", None, Flag::Help),
+    (b"version", None, Flag::Version),
+    (b"algorithm", Some(b'a'), Flag::Algorithm),
+    (b"recursive", Some(b'r'), Flag::Recursive),
+    (b"progress", None, Flag::Progress),
 ];
 
 /// Why the arguments ask for nothing that is done.
-#[derive(Drop)]
-pub(crate) enum Refusal<'a> {
+#[derive(Clone, Copy, PartialEq, Eq)]
+pub(crate) enum Misuse {
     /// A word that is no long option.
-    Unrecognized(&'a [u8]),
+    Unrecognized,
     /// A word that is the front of several.
-    Ambiguous(&'a [u8]),
+    Ambiguous,
     /// A long option with a value that takes none.
-    ValueOf(&'static [u8]),
+    ValueOf,
     /// A letter that is no option.
-    Invalid(u8),
+    Invalid,
     /// An option by its letter without its value.
-    LetterLacks(u8),
+    LetterLacks,
     /// An option by its long name without its value.
-    NameLacks(&'static [u8]),
+    NameLacks,
     /// A value that names no algorithm.
-    NoAlgorithm(&'a [u8]),
-    /// Options that do not go together.
-    Together(&'static str),
+    NoAlgorithm,
+    /// `--tag` with `--text`.
+    TaggedText,
+    /// What an option is when checksums are verified.
+    InChecks,
+    /// An option that is for a check alone.
+    OnlyInChecks,
 }
 
 /// What the arguments ask for.
@@ -101,7 +105,8 @@ pub(crate) enum Request<'a> {
     Version,
     /// The digests of files, or a check of lists: the options and the operands.
     Files(Options, Vec<&'a [u8]>),
-    Refused(Refusal<'a>),
+    /// Why not, and the word that shows it.
+    Refused(Misuse, &'a [u8]),
 }
 
 /// The algorithm with a name as `--algorithm` takes it.
@@ -128,22 +133,18 @@ pub(crate) fn algorithm_of_program(program: &[u8]) -> Option<Algorithm> {
 
 /// The option of a letter.
 fn flag_of_letter(letter: u8) -> Option<Flag> {
-    match letter {
-        b'a' => Some(Flag::Algorithm),
-        b'b' => Some(Flag::Binary),
-        b'c' => Some(Flag::Check),
-        b'r' => Some(Flag::Recursive),
-        b't' => Some(Flag::Text),
-        b'w' => Some(Flag::Warn),
-        b'z' => Some(Flag::Zero),
-        _ => None,
+    for (_, short, flag) in NAMES {
+        if short == Some(letter) {
+            return Some(flag);
+        }
     }
+    None
 }
 
 /// The long names that begin with some bytes, which a message lists.
 pub(crate) fn names_from(alloc: Global, front: &[u8]) -> Result<Vec<&'static [u8]>, AllocError> {
     let mut names = Vec::new(alloc);
-    for (name, _) in LONG_NAMES {
+    for (name, _, _) in NAMES {
         if name.starts_with(front) {
             names.push(name)?;
         }
@@ -155,7 +156,7 @@ pub(crate) fn names_from(alloc: Global, front: &[u8]) -> Result<Vec<&'static [u8
 fn find_long(front: &[u8]) -> (usize, Option<(&'static [u8], Flag)>) {
     let mut count = 0_usize;
     let mut found = None;
-    for (name, flag) in LONG_NAMES {
+    for (name, _, flag) in NAMES {
         if name == front {
             return (1, Some((name, flag)));
         }
@@ -221,7 +222,7 @@ impl<'a> Parser<'a> {
                 self.options.algorithm = Some(algorithm);
                 Ok(())
             }
-            None => refused(Refusal::NoAlgorithm(name)),
+            None => refused(Misuse::NoAlgorithm, name),
         }
     }
 
@@ -231,43 +232,48 @@ impl<'a> Parser<'a> {
             Some(place) => (&word[..place], Some(&word[place + 1..])),
             None => (word, None),
         };
-        match find_long(front) {
-            (_, None) => refused(Refusal::Unrecognized(word)),
-            (1, Some((name, Flag::Algorithm))) => match value.or_else(|| self.take_word()) {
-                Some(value) => self.set_algorithm(value),
-                None => refused(Refusal::NameLacks(name)),
-            },
-            (1, Some((name, flag))) => match value {
-                Some(_) => refused(Refusal::ValueOf(name)),
+        let (count, found) = find_long(front);
+        let Some((name, flag)) = found else {
+            return refused(Misuse::Unrecognized, word);
+        };
+        let name: &'a [u8] = name;
+        match (count, flag) {
+            (1, Flag::Algorithm) => self.read_algorithm(value, Misuse::NameLacks, name),
+            (1, flag) => match value {
+                Some(_) => refused(Misuse::ValueOf, name),
                 None => self.set(flag),
             },
-            _ => refused(Refusal::Ambiguous(word)),
+            _ => refused(Misuse::Ambiguous, word),
         }
     }
 
     /// Reads the letters behind `-`.
     fn read_letters(&mut self, word: &'a [u8]) -> Step<'a> {
-        for (place, letter) in word.iter().enumerate() {
-            let behind = word.get(place.saturating_add(1)..).unwrap_or(&[]);
-            match flag_of_letter(*letter) {
-                Some(Flag::Algorithm) => return self.read_algorithm(*letter, behind),
+        for (place, byte) in word.iter().enumerate() {
+            let letter = word.get(place..=place).unwrap_or(&[]);
+            match flag_of_letter(*byte) {
+                Some(Flag::Algorithm) => {
+                    let behind = word.get(place.saturating_add(1)..);
+                    let value = behind.filter(|behind| !behind.is_empty());
+                    return self.read_algorithm(value, Misuse::LetterLacks, letter);
+                }
                 Some(flag) => self.set(flag)?,
-                None => return refused(Refusal::Invalid(*letter)),
+                None => return refused(Misuse::Invalid, letter),
             }
         }
         Ok(())
     }
 
-    /// Reads the algorithm that stands behind a letter or in the next word.
-    fn read_algorithm(&mut self, letter: u8, behind: &'a [u8]) -> Step<'a> {
-        let value = if behind.is_empty() {
-            self.take_word()
-        } else {
-            Some(behind)
-        };
-        match value {
+    /// Reads the algorithm that stands behind its option or in the next word.
+    fn read_algorithm(
+        &mut self,
+        value: Option<&'a [u8]>,
+        lacks: Misuse,
+        option: &'a [u8],
+    ) -> Step<'a> {
+        match value.or_else(|| self.take_word()) {
             Some(value) => self.set_algorithm(value),
-            None => refused(Refusal::LetterLacks(letter)),
+            None => refused(lacks, option),
         }
     }
 
@@ -295,57 +301,51 @@ impl<'a> Parser<'a> {
             }
         }
         Ok(match conflict_of(&self.options) {
-            Some(text) => Request::Refused(Refusal::Together(text)),
+            Some((misuse, text)) => Request::Refused(misuse, text.as_bytes()),
             None => Request::Files(self.options, self.operands),
         })
     }
 }
 
-fn refused(refusal: Refusal<'_>) -> Step<'_> {
-    Err(Request::Refused(refusal))
+fn refused(misuse: Misuse, word: &[u8]) -> Step<'_> {
+    Err(Request::Refused(misuse, word))
 }
 
-/// What is wrong with options that are each right.
-fn conflict_of(options: &Options) -> Option<&'static str> {
+/// The text of the first option that is given.
+fn first_given(options: &[(bool, &'static str)]) -> Option<&'static str> {
+    for (is_given, text) in options {
+        if *is_given {
+            return Some(*text);
+        }
+    }
+    None
+}
+
+/// What is wrong with options that are each right: some a check does not take, others it alone.
+fn conflict_of(options: &Options) -> Option<(Misuse, &'static str)> {
     if options.is_tagged && options.is_binary == Some(false) {
-        return Some("--tag does not support --text mode");
+        return Some((Misuse::TaggedText, "--tag"));
     }
     if options.does_check {
-        conflict_of_check(options)
-    } else {
-        conflict_of_sums(options)
+        let text = first_given(&[
+            (options.is_zero, "--zero option is not supported"),
+            (options.is_tagged, "--tag option is meaningless"),
+            (
+                options.is_binary.is_some(),
+                "--binary and --text options are meaningless",
+            ),
+            (options.is_recursive, "--recursive option is meaningless"),
+        ])?;
+        return Some((Misuse::InChecks, text));
     }
-}
-
-/// The options that a check does not take.
-fn conflict_of_check(options: &Options) -> Option<&'static str> {
-    if options.is_zero {
-        Some("the --zero option is not supported when verifying checksums")
-    } else if options.is_tagged {
-        Some("the --tag option is meaningless when verifying checksums")
-    } else if options.is_binary.is_some() {
-        Some("the --binary and --text options are meaningless when verifying checksums")
-    } else if options.is_recursive {
-        Some("the --recursive option is meaningless when verifying checksums")
-    } else {
-        None
-    }
-}
-
-/// The options that a check alone takes.
-fn conflict_of_sums(options: &Options) -> Option<&'static str> {
-    if options.ignores_missing {
-        return Some("the --ignore-missing option is meaningful only when verifying checksums");
-    }
-    match options.amount {
-        Amount::Status => Some("the --status option is meaningful only when verifying checksums"),
-        Amount::Warn => Some("the --warn option is meaningful only when verifying checksums"),
-        Amount::Quiet => Some("the --quiet option is meaningful only when verifying checksums"),
-        Amount::All if options.is_strict => {
-            Some("the --strict option is meaningful only when verifying checksums")
-        }
-        Amount::All => None,
-    }
+    let name = first_given(&[
+        (options.ignores_missing, "--ignore-missing"),
+        (options.amount == Amount::Status, "--status"),
+        (options.amount == Amount::Warn, "--warn"),
+        (options.amount == Amount::Quiet, "--quiet"),
+        (options.is_strict, "--strict"),
+    ])?;
+    Some((Misuse::OnlyInChecks, name))
 }
 
 /// What the arguments behind the program's name ask for.

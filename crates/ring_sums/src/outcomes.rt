@@ -1,10 +1,9 @@
 // SPDX-License-Identifier: ISC
 //! The outcomes of several files, in their order: those of one algorithm are read side by side.
 
-ghost use Rattle.std.specs.Prelude.{◌≡◌, ◌≤◌, ◌∷◌, List, IfOk, IsTrue, MatchOption, OnOk, length};
+ghost use Rattle.std.specs.Prelude.{◌≤◌, ◌∷◌, List, IfOk, IsTrue, OnOk, length};
 ghost use Rattle.ring_sums.specs.declared.outcomes.Wanted.{Wanted};
 ghost use Rattle.ring_sums.specs.Outcomes.{AreGathered, FileIsGiven, FilesToCome, IsNextOf};
-ghost use Rattle.ring_sums.specs.Outcomes.{IsTaken};
 
 use crate::outcome::Outcome;
 use crate::source::Source;
@@ -57,24 +56,16 @@ impl<R: Source + Drop> Outcomes<R> {
         }
     }
 
-    /// Takes the reader of the next file, where it is read beside others of this algorithm.
-    fn take_next_of(&mut self, algorithm: &Algorithm) -> Option<R>
-        ensures { MatchOption result (self.new.waiting.items ≡ self.old.waiting.items)
-            (λ reader. IsTaken algorithm.now reader self.old.waiting.items self.new.waiting.items) }
-    {
-        if !self.is_next_of(algorithm) {
-            return None;
-        }
-        Some(self.waiting.pop_front()?.reader)
-    }
-
     /// Takes the readers of the next files that are read beside others of this algorithm.
     fn gather(&mut self, algorithm: &Algorithm, readers: &mut Vec<R>) -> Result<(), AllocError>
         ensures { OnOk result (AreGathered algorithm.now readers.old.items readers.new.items
             self.old.waiting.items self.new.waiting.items) }
     {
-        while let Some(reader) = self.take_next_of(algorithm) {
-            readers.push(reader)?;
+        'next: while self.is_next_of(algorithm) {
+            let Some(next) = self.waiting.pop_front() else {
+                break;
+            };
+            readers.push(next.reader)?;
         }
         Ok(())
     }

@@ -11,10 +11,11 @@ use crate::console::Console;
 use crate::entry::Gap;
 use crate::files::{Source, wanted_of};
 use crate::listing::list;
-use crate::options::{Options, Refusal, Request, names_from, request_of};
+use crate::options::{Misuse, Options, Request, names_from, request_of};
 use crate::outcomes::Wanted;
 use crate::progress::Progress;
-use crate::tree::append_files;
+use crate::quote::joined;
+use crate::tree::files_of;
 use ring::digest::{Algorithm, SHA256};
 use std::alloc::{AllocError, Global};
 use std::env::FillError;
@@ -110,71 +111,59 @@ where
 /// Tells why the arguments ask for nothing.
 fn refuse<R: Eprint, W: Write>(
     alloc: Global,
-    refusal: &Refusal<'_>,
+    misuse: Misuse,
+    word: &[u8],
     console: &mut Console<'_, R, W>,
 ) -> Result<(), AllocError> {
-    let mut text = Vec::new(alloc);
-    append_refusal(&mut text, refusal)?;
-    console.tell(&text)?;
-    let mut advice = b"Try '".to_vec(alloc)?;
-    advice.extend_from_slice(console.program())?;
-    advice.extend_from_slice(b" --help' for more information.")?;
-    console.show(&advice)
+    console.tell(&refusal_text(alloc, misuse, word)?)?;
+    let advice: &[u8] = b" --help' for more information.";
+    console.show(&joined(alloc, &[b"Try '", console.program(), advice])?)
 }
 
-/// Appends some parts.
-fn append_all(out: &mut Vec<u8>, parts: &[&[u8]]) -> Result<(), AllocError> {
-    for part in parts {
-        out.extend_from_slice(part)?;
-    }
-    Ok(())
-}
+/// What is behind a value that names no algorithm.
+const ALGORITHMS: &str = "' for '--algorithm'\nValid arguments are:
+  - 'sha1'
+  - 'sha256'
+  - 'sha384'
+  - 'sha512'
+  - 'sha512-256'";
 
-/// Appends what is wrong with the arguments.
-fn append_refusal(out: &mut Vec<u8>, refusal: &Refusal<'_>) -> Result<(), AllocError> {
-    match refusal {
-        Refusal::Unrecognized(word) => append_all(out, &[b"unrecognized option '--", word, b"'"]),
-        Refusal::Ambiguous(word) => append_ambiguous(out, word),
-        Refusal::ValueOf(name) => {
-            append_all(out, &[b"option '--", name, b"' doesn't allow an argument"])
-        }
-        Refusal::Invalid(letter) => append_all(out, &[b"invalid option -- '", &[*letter], b"'"]),
-        Refusal::LetterLacks(letter) => {
-            append_all(
-                out,
-                &[b"option requires an argument -- '", &[*letter], b"'"],
+/// What is wrong with the arguments.
+fn refusal_text(alloc: Global, misuse: Misuse, word: &[u8]) -> Result<Vec<u8>, AllocError> {
+    let (front, behind) = match misuse {
+        Misuse::Unrecognized => ("unrecognized option '--", "'"),
+        Misuse::Ambiguous => return ambiguous_text(alloc, word),
+        Misuse::ValueOf => ("option '--", "' doesn't allow an argument"),
+        Misuse::Invalid => ("invalid option -- '", "'"),
+        Misuse::LetterLacks => ("option requires an argument -- '", "'"),
+        Misuse::NameLacks => ("option '--", "' requires an argument"),
+        Misuse::NoAlgorithm => ("invalid argument '", ALGORITHMS),
+        Misuse::TaggedText => ("", " does not support --text mode"),
+        Misuse::InChecks => ("the ", " when verifying checksums"),
+        Misuse::OnlyInChecks => {
+            (
+                "the ",
+                " option is meaningful only when verifying checksums",
             )
         }
-        Refusal::NameLacks(name) => {
-            append_all(out, &[b"option '--", name, b"' requires an argument"])
-        }
-        Refusal::NoAlgorithm(name) => append_all(
-            out,
-            &[
-                b"invalid argument '",
-                name,
-                b"' for '--algorithm'\nValid arguments are:\n  - 'sha1'\n  - 'sha256'\n  \
-                - 'sha384'\n  - 'sha512'\n  - 'sha512-256'",
-            ],
-        ),
-        Refusal::Together(text) => append_all(out, &[text.as_bytes()]),
-    }
+    };
+    joined(alloc, &[front.as_bytes(), word, behind.as_bytes()])
 }
 
-/// Appends that a word is the front of several long options.
-fn append_ambiguous(out: &mut Vec<u8>, word: &[u8]) -> Result<(), AllocError> {
-    append_all(
-        out,
+/// That a word is the front of several long options.
+fn ambiguous_text(alloc: Global, word: &[u8]) -> Result<Vec<u8>, AllocError> {
+    let mut text = joined(
+        alloc,
         &[b"option '--", word, b"' is ambiguous; possibilities:"],
     )?;
     let front = match word.iter().position(|byte| *byte == b'=') {
         Some(place) => &word[..place],
         None => word,
     };
-    for name in &names_from(*out.allocator(), front)? {
-        append_all(out, &[b" '--", name, b"'"])?;
+    for name in &names_from(alloc, front)? {
+        text.extend_from_slice(&joined(alloc, &[b" '--", name, b"'"])?)?;
     }
-    Ok(())
+    Ok(text)
 }
 
 /// Writes the help.
@@ -182,32 +171,10 @@ fn help<R: Eprint, W: Write>(
     alloc: Global,
     console: &mut Console<'_, R, W>,
 ) -> Result<(), AllocError> {
-    let mut text = b"Usage: ".to_vec(alloc)?;
-    text.extend_from_slice(console.program())?;
-    text.extend_from_slice(b" [OPTION]... [FILE]...\n")?;
-    text.extend_from_slice(HELP.as_bytes())?;
-    console.write(&text);
+    let program = console.program();
+    let usage: &[u8] = b" [OPTION]... [FILE]...\n";
+    console.write(&joined(alloc, &[b"Usage: ", program, usage, HELP.as_bytes()])?);
     Ok(())
-}
-
-/// Writes a line for each file, also of those below the operands that are directories.
-fn list_trees<const BITS: usize, R, W>(
-    rt: &R,
-    options: &Options,
-    operands: &[&[u8]],
-    console: &mut Console<'_, R, W>,
-) -> Result<bool, AllocError>
-where
-    R: Files + AllocGlobal + Clock + Eprint + Input,
-    W: Write,
-{
-    let mut files: Vec<Vec<u8>> = Vec::new(rt.alloc());
-    let is_whole = append_files(rt, operands, &mut files, console)?;
-    let mut names: Vec<&[u8]> = Vec::new(rt.alloc());
-    for file in &files {
-        names.push(file)?;
-    }
-    Ok(list_names::<BITS, R, W>(rt, options, &names, console)? && is_whole)
 }
 
 /// Does what is asked of files.
@@ -226,7 +193,12 @@ where
         operands.push(b"-")?;
     }
     if options.is_recursive {
-        return list_trees::<BITS, R, W>(rt, options, &operands, console);
+        let (files, is_whole) = files_of(rt, &operands, console)?;
+        let mut names: Vec<&[u8]> = Vec::new(rt.alloc());
+        for file in &files {
+            names.push(file)?;
+        }
+        return Ok(list_names::<BITS, R, W>(rt, options, &names, console)? && is_whole);
     }
     if !options.does_check {
         return list_names::<BITS, R, W>(rt, options, &operands, console);
@@ -278,8 +250,8 @@ where
             console.write(VERSION.as_bytes());
             true
         }
-        Request::Refused(refusal) => {
-            refuse(alloc, &refusal, &mut console)?;
+        Request::Refused(misuse, word) => {
+            refuse(alloc, misuse, word, &mut console)?;
             false
         }
         Request::Files(options, operands) => {

@@ -87,9 +87,11 @@ impl Progress {
 
     /// Shows from now on how far the run is.
     pub(crate) fn start(&self) {
-        let mut state = self.state.get();
-        state.is_on = true;
-        self.state.set(state);
+        let state = self.state.get();
+        self.state.set(State {
+            is_on: true,
+            ..state
+        });
     }
 
     /// A file of this length will be read; of `None`, one whose length is not known.

@@ -1,7 +1,13 @@
 // SPDX-License-Identifier: ISC
-//! A name as a message has it: in quotes where a shell would read it otherwise.
+//! Parts of messages, and a name as a message has it: in quotes where a shell would read it
+//! otherwise.
 
-use std::alloc::AllocError;
+use std::alloc::{AllocError, Global};
+
+/// Parts, one after another.
+pub(crate) fn joined(alloc: Global, parts: &[&[u8]]) -> Result<Vec<u8>, AllocError> {
+    parts.concat(alloc)
+}
 
 /// How a name is quoted.
 #[derive(Clone, Copy, PartialEq, Eq)]
@@ -159,27 +165,21 @@ fn append_parts(out: &mut Vec<u8>, name: &[u8], is_in_escapes: bool) -> Result<b
     Ok(quoted.is_in_escapes)
 }
 
-/// Appends a name between single quotes. Coreutils go over a name that has one twice, and the
-/// second time begin as the first one ended.
-fn append_in_single_quotes(out: &mut Vec<u8>, name: &[u8]) -> Result<(), AllocError> {
-    let mut first = Vec::new(*out.allocator());
+/// A name between single quotes. Coreutils go over a name that has one twice, and the second time
+/// begin as the first one ended.
+fn in_single_quotes(alloc: Global, name: &[u8]) -> Result<Vec<u8>, AllocError> {
+    let mut first = Vec::new(alloc);
     let is_in_escapes = append_parts(&mut first, name, false)?;
-    out.push(b'\'')?;
-    append_parts(out, name, is_in_escapes && name.contains(&b'\''))?;
-    out.push(b'\'')?;
-    Ok(())
+    let mut parts = Vec::new(alloc);
+    append_parts(&mut parts, name, is_in_escapes && name.contains(&b'\''))?;
+    joined(alloc, &[b"'", &parts, b"'"])
 }
 
-/// Appends a name as a message has it.
-pub(crate) fn append_quoted(out: &mut Vec<u8>, name: &[u8]) -> Result<(), AllocError> {
+/// A name as a message has it.
+pub(crate) fn in_quotes(alloc: Global, name: &[u8]) -> Result<Vec<u8>, AllocError> {
     match quotes_of(name) {
-        Quotes::None => out.extend_from_slice(name)?,
-        Quotes::Double => {
-            out.push(b'"')?;
-            out.extend_from_slice(name)?;
-            out.push(b'"')?;
-        }
-        Quotes::Single => append_in_single_quotes(out, name)?,
+        Quotes::None => name.to_vec(alloc),
+        Quotes::Double => joined(alloc, &[b"\"", name, b"\""]),
+        Quotes::Single => in_single_quotes(alloc, name),
     }
-    Ok(())
 }

@@ -35,12 +35,7 @@ loop-line-init g c = λ files.
         read = tt;
         found = All-nil P;
         said = written-none;
-        counted = record {
-          entries = none.1.0;
-          same = none.1.1.1.1;
-          others = none.1.1.0;
-          unread = none.1.1.1.0;
-        };
+        counted = (none.1.0, none.1.1.1.1, none.1.1.0, none.1.1.1.0);
         bad = none.0;
       };
     }
@@ -85,12 +80,7 @@ loop-line-preserved g c = λ files.
               read = so.read;
               found = so.found;
               said = written-kept so.said w.warn_of_line.ensures;
-              counted = record {
-                entries = so.counted.entries;
-                same = so.counted.same;
-                others = so.counted.others;
-                unread = so.counted.unread;
-              };
+              counted = so.counted;
               bad = omega (
                 arith,
                 w.saturating_add.ensures,

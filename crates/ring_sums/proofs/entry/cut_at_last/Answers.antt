@@ -1,13 +1,14 @@
 -- SPDX-License-Identifier: ISC
 use Rattle.std.proofs.Common.{◌+◌}
-use Rattle.ring_sums.proofs.Fronts.{last_cut-none, last_cut-place, rest-slice}
+use Rattle.std.proofs.lemmas.List.{take_rest}
+use Rattle.ring_sums.proofs.Fronts.{last_cut-none, last_cut-place}
 use Rattle.ring_sums.proofs.entry.cut_at_last.Goals as goal
 
 pub returns-in-Some : goal.returns-in-Some
 returns-in-Some c =
     let line = c.args.line.now in
     let last = c.in-Some.ensures in
-    rw (rest-slice (c.in-Some.place + 1) line)
+    rw (take_rest line (c.in-Some.place + 1))
     (last_cut-place c.args.byte line c.in-Some.place last.0 last.1)
 
 pub returns-in-None : goal.returns-in-None

@@ -2,9 +2,9 @@
 use Rattle.std.proofs.Common.{ap, arith, sym, ℕ, ◌*◌, ◌+◌, ◌∙◌}
 use Rattle.std.specs.Option.{option_or}
 use Rattle.std.proofs.lemmas.Bool.{true≢false}
+use Rattle.std.proofs.lemmas.List.{take_rest}
 use Rattle.std.proofs.lemmas.Option.{none-some, same_Some}
 use Rattle.ring.specs.Prelude.{output_len}
-use Rattle.ring_sums.proofs.Fronts.{rest-slice}
 use Rattle.ring_sums.proofs.PlainForm.{plain-algorithm, plain-known, plain-len, plain-long}
 use Rattle.ring_sums.proofs.PlainForm.{plain-made, plain-white}
 use Rattle.ring_sums.proofs.entry.plain_parts.Goals as goal
@@ -38,7 +38,7 @@ returns-then-not-is_white c = λ parts form.
 
 pub returns : goal.returns
 returns c =
-    rw (rest-slice (c.in_ok-len.len + 1) c.args.line.now)
+    rw (take_rest c.args.line.now (c.in_ok-len.len + 1))
     (plain-made c.in_ok-len.len c.in_ok-len.ensures
     (c.in_ok-algorithm.ensures ∙ ap (option_or c.args.asked) c.algorithm_of_count.ensures)
     (c.if-len-output_len.false ∙ ap (λ (n : ℕ). 2 * n) c.output_len.ensures)

@@ -1,15 +1,14 @@
 -- SPDX-License-Identifier: ISC
-use Rattle.std.proofs.Common.{◌≡◌, ◌<◌, ◌&&◌, ◌∷◌, ◌++◌, [], arith, false, length, length-append}
-use Rattle.std.proofs.Common.{Bor, List, refl, sym, ℕ}
+use Rattle.std.proofs.Common.{◌≡◌, ◌<◌, ◌∷◌, ◌++◌, [], Bor, List, arith, false, length}
+use Rattle.std.proofs.Common.{length-append, refl, ℕ}
 use Rattle.std.proofs.lemmas.Slice.Zip.{AllZip-long, all_zipped_more}
-use Rattle.ring_sums.specs.Listing.{IsListed, is_sum}
+use Rattle.ring_sums.specs.Listing.{IsListed}
 use Rattle.ring_sums.specs.Outcomes.{IsOutcomeOf}
 use Rattle.ring_sums.specs.declared.outcome.Outcome.{Outcome}
 use Rattle.ring_sums.specs.declared.outcomes.Wanted.{Wanted}
 use Rattle.ring_sums.proofs.Listed.{fine-more, lines-more, written-none, zip-none}
 use Rattle.ring_sums.proofs.WantedFiles.{done-all, done-more, done-none}
 use Rattle.ring_sums.proofs.listing.list.Goals as goal
-use Rattle.ring_sums.proofs.listing.list.Goals.{else-branch, then-branch}
 
 pub loop-name-init : goal.loop-name-init
 loop-name-init g c = λ same.
@@ -52,11 +51,6 @@ loop-name-preserved g c = λ same.
     IsOutcomeOf g.S.Read.remaining g.S.Source.fails_with in
     let name : Bor (List ℕ) = record { ref_ptr = (0, 0); now = [] } in
     let given = rw c.in-Some.is at c.in-Ok.ensures so.rest so.to_come in
-    let fine : c.if-branch.is_fine ≡ (is_sum outcome && c.loop-name.is_fine) =
-    elim c.if-branch.branch [
-      | then-branch w ↦ rw (w.is_fine-is, sym c.in_ok-is_fine.ensures.is, w.if-branch.true) refl
-      | else-branch w ↦ rw (w.is_fine-is, sym c.in_ok-is_fine.ensures.is, w.if-branch.false) refl
-    ] in
     let many : length listed.outcomes ≡ c.loop-name.name-index =
     omega (arith, AllZip-long Is so.done listed.outcomes listed.read, so.is.0) in
     let below : length listed.outcomes < length c.args.names.now =
@@ -68,7 +62,7 @@ loop-name-preserved g c = λ same.
         read = all_zipped_more Is so.done listed.outcomes file outcome listed.read made;
         written = lines-more c.args.options.now c.args.names.now listed.outcomes name outcome below
             listed.written (rw many c.in_ok-is_fine.ensures.line);
-        fine = rw fine (fine-more listed.outcomes outcome listed.fine);
+        fine = rw c.in_ok-is_fine.ensures.is (fine-more listed.outcomes outcome listed.fine);
       },
     ))
 

@@ -27,18 +27,9 @@ more verdict founds found few old one new =
 
 pub returns-clause-counted : goal.returns-clause-counted
 returns-clause-counted c = λ founds few old.
-    let found = c.args.found in
-    record {
-      entries = omega (
-        arith,
-        old.entries,
-        few,
-        length-append founds (found ∷ []),
-        c.saturating_add-self.ensures,
-      );
-      same = more Same founds found few old.same c.one_if.ensures c.saturating_add-self-2.ensures;
-      others = more Other founds found few old.others c.one_if-2.ensures
-          c.saturating_add-self-3.ensures;
-      unread = more Unread founds found few old.unread c.one_if-3.ensures
-          c.saturating_add-self-4.ensures;
-    }
+    let found = c.args.found in (
+      omega (arith, old.0, few, length-append founds (found ∷ []), c.saturating_add-self.ensures),
+      more Same founds found few old.1 c.one_if.ensures c.saturating_add-self-2.ensures,
+      more Other founds found few old.2 c.one_if-2.ensures c.saturating_add-self-3.ensures,
+      more Unread founds found few old.3 c.one_if-3.ensures c.saturating_add-self-4.ensures,
+    )

@@ -5,8 +5,8 @@ use Rattle.ring_sums.specs.declared.outcomes.Wanted.{Wanted}
 use Rattle.ring_sums.proofs.WantedFiles.{gathered-more}
 use Rattle.ring_sums.proofs.outcomes.Outcomes.gather.Goals as goal
 
-pub loop-reader-init : goal.loop-reader-init
-loop-reader-init g c =
+pub next-init : goal.next-init
+next-init g c =
     let P : Wanted _ → Type 0 = λ file. file.algorithm ≡ c.args.algorithm.now in
     record {
       files = [];
@@ -15,6 +15,7 @@ loop-reader-init g c =
       behind = sym (append-nil c.args.readers.now.items);
     }
 
-pub loop-reader-preserved : goal.loop-reader-preserved
-loop-reader-preserved g c =
-    rw c.in_ok-push.ensures.items (gathered-more c.loop-reader.invariant c.in-Some.ensures)
+pub next-preserved : goal.next-preserved
+next-preserved g c =
+    rw c.in_ok-push.ensures.items (gathered-more c.in-Some.next c.next.invariant
+    (c.is_next_of.ensures c.next-test.true) c.in-Some.ensures.items)

@@ -1,14 +1,12 @@
 -- SPDX-License-Identifier: ISC
 -- The text of a new value under a salt of 16 random bytes has at most 1,024 bytes.
-use Rattle.std.proofs.Common.{◌≡◌, ◌≤◌, ◌<◌, ◌+◌, ◌*◌, ◌/◌, ◌^◌, ◌++◌, ◌∷◌, ◌∙◌, ℕ, zero, suc}
-use Rattle.std.proofs.Common.{Bool, true, false, List, [], ap, arith, codes, drop, length, refl}
-use Rattle.std.proofs.Common.{sym, take}
-use Rattle.std.specs.Prelude.{nat_le, nat_lt, not, ◌||◌, if◌then◌else◌, Err, Ok, Result}
+use Rattle.std.proofs.Common.{◌≡◌, ◌≤◌, ◌+◌, ◌*◌, ◌/◌, ◌++◌, ◌∷◌, ℕ, zero, suc, Bool, true, false}
+use Rattle.std.proofs.Common.{List, [], ap, arith, drop, length, refl, take}
+use Rattle.std.specs.Prelude.{◌&&◌, nat_le, Err}
 use Rattle.std.specs.Fmt.{decimal}
 use Rattle.std.specs.Int.{from_be_bytes, w128}
 use Rattle.std.specs.Int.NonZero.{non_zero_u32_get}
 use Rattle.std.specs.declared.num.NonZeroU32.{NonZeroU32}
-use Rattle.std.proofs.lemmas.Bool.{leb-true}
 use Rattle.std.proofs.lemmas.Bool.Decides.{nat_tests}
 use Rattle.std.proofs.lemmas.Fmt.{length-decimal-le}
 use Rattle.std.proofs.lemmas.List.{length-append, length-drop, length-take}
@@ -17,25 +15,21 @@ use Rattle.base64.proofs.RoundTrip.{length-encode_symbols}
 use Rattle.base64.specs.Rfc4648.{encode_symbols}
 use Rattle.ring_text.proofs.Base64.{length-encode_of}
 use Rattle.ring_password_hash.specs.Salt.{letters, salt_from}
-use Rattle.ring_password_hash.specs.Scheme.{count_end_of, count_mark, count_mark_of, keeps_keys}
-use Rattle.ring_password_hash.specs.Scheme.{kept_encoding_of, kept_len_of, names_len, prefix_of}
-use Rattle.ring_password_hash.specs.Scheme.{salt_encoding_of}
+use Rattle.ring_password_hash.specs.Scheme.{Row, count_mark, keeps_keys, kept_encoding_of}
+use Rattle.ring_password_hash.specs.Scheme.{kept_len_of, names_len, prefix_of, salt_encoding_of}
 use Rattle.ring_password_hash.specs.Stored.{can_keep, derived_of, is_past, is_salt, is_text}
 use Rattle.ring_password_hash.specs.Stored.{new_parts, new_status, parameters_where, parts_text}
 use Rattle.ring_password_hash.specs.Stored.{text_of}
-use Rattle.ring_password_hash.specs.Text.{IsCount, adapted_symbols, field_then, head_then, kept_by}
-use Rattle.ring_password_hash.specs.Text.{kept_text, parameters_then, written}
+use Rattle.ring_password_hash.specs.Text.{IsCount, adapted_symbols, kept_by, kept_text}
+use Rattle.ring_password_hash.specs.Text.{parameters_then, written}
 use Rattle.ring_password_hash.specs.declared.error.HashError.{HashError}
-use Rattle.ring_password_hash.specs.declared.error.HashError.TheVariants.{TooLong}
 use Rattle.ring_password_hash.specs.declared.scheme.Encoding.{Encoding}
 use Rattle.ring_password_hash.specs.declared.scheme.Encoding.TheVariants.{Plain, Hex, Base64}
 use Rattle.ring_password_hash.specs.declared.scheme.Encoding.TheVariants.{Base64NoPad, Adapted}
 use Rattle.ring_password_hash.specs.declared.scheme.Scheme.{Scheme}
-use Rattle.ring_password_hash.specs.declared.scheme.Scheme.TheVariants as scheme
-use Rattle.ring_password_hash.specs.declared.text.Parameters.{Parameters}
-use Rattle.ring_password_hash.specs.declared.text.Parameters.TheVariants.{Count, CountThenLen}
 use Rattle.ring_password_hash.proofs.Made.{length-derived_of}
 use Rattle.ring_password_hash.proofs.Pieces.{two_digits_each}
+use Rattle.ring_password_hash.proofs.Schemes.{each_row}
 use Rattle.ring_passwords.specs.Encode.{salt_of}
 
 length-letters : (count n : ℕ) → length (letters count n) ≡ count
@@ -67,19 +61,12 @@ salt_few : (text : Bool) (random : List ℕ) → length random ≡ 16
 salt_few true random len = omega (arith, length-letters 22 (from_be_bytes w128 random))
 salt_few false random len = omega (arith, len)
 
-few : (k : Scheme) → (nat_le (length (prefix_of k)) 16 ≡ true) × (nat_le (kept_len_of k) 64 ≡ true)
-few scheme.DjangoSha256 = (refl, refl)
-few scheme.DjangoSha1 = (refl, refl)
-few scheme.WerkzeugSha256 = (refl, refl)
-few scheme.WerkzeugSha512 = (refl, refl)
-few scheme.PhcSha256 = (refl, refl)
-few scheme.PhcSha512 = (refl, refl)
-few scheme.Mosquitto = (refl, refl)
-few scheme.PasslibSha1 = (refl, refl)
-few scheme.PasslibSha256 = (refl, refl)
-few scheme.PasslibSha512 = (refl, refl)
-few scheme.Postgresql = (refl, refl)
-few scheme.WerkzeugSha1 = (refl, refl)
+abbrev is_few : Row → Bool
+is_few r = nat_le (length r.prefix) 16 && nat_le r.kept_len 64
+
+few : (k : Scheme) → (length (prefix_of k) ≤ 16) × (kept_len_of k ≤ 64)
+few k =
+    let is = each_row is_few refl k in (grind (arith, nat_tests, is), grind (arith, nat_tests, is))
 
 mark_few : (named : Bool) → length (count_mark named) ≤ 2
 mark_few true = omega arith
@@ -107,36 +94,23 @@ unfolding parts_text
 text_few k p random c len is =
     let s = salt_of k random in
     let kept = derived_of k p s (non_zero_u32_get c) (kept_len_of k) in
-    let kept_len : length kept ≡ kept_len_of k =
-    length-derived_of k p s (non_zero_u32_get c) in
-    let most = leb-true (kept_len_of k) 64 (few k).1 in
+    let kept_len = length-derived_of k p s (non_zero_u32_get c) in
+    let (prefix, most) = few k in
     let behind = written (salt_encoding_of k) s ++ 36 ∷ kept_text k kept in
     let parameters = parameters_few k (names_len k) c (length kept) behind is
     (omega (arith, kept_len, most)) in
-    let one = length-append (prefix_of k)
-    (parameters_then k (parameters_where (names_len k)) c (length kept) behind) in
-    let two = length-append (written (salt_encoding_of k) s) (36 ∷ kept_text k kept) in
-    let prefix = leb-true (length (prefix_of k)) 16 (few k).0 in
     let salt = salt_few (is_text (salt_encoding_of k)) random len in
     let field = twice (salt_encoding_of k) s in
     let last = twice_kept (keeps_keys k) (kept_encoding_of k) kept in
-    omega (arith, parameters, one, two, prefix, salt, field, last, kept_len, most)
+    omega (arith, parameters, length-append {A = ℕ}, prefix, salt, field, last, kept_len, most)
 
 -- so a new value is refused for the length of its password alone
-past_by : (n : ℕ) → n ≤ 300 → (nat_lt 1024 n || nat_lt 1024 n) ≡ false
-past_by n few = grind (arith, nat_tests, few)
-
-abbrev status_if : Bool → Result (Unit {0}) HashError
-status_if can = if not can then Err TooLong else Ok tt
-
-told_by : (can : Bool) (error : HashError) → status_if can ≡ Err error → can ≡ false
-told_by true error told = absurd (grind (arith, told))
-told_by false error told = refl
-
 pub too_long : (k : Scheme) (p random : List ℕ) (c : NonZeroU32) (error : HashError)
     → length random ≡ 16 → IsCount c → is_salt k (salt_of k random) ≡ true
     → new_status 1024 k p (salt_of k random) c ≡ Err error
     → can_keep k (length p) (length (salt_of k random)) (kept_len_of k) ≡ false
 too_long k p random c error len is salt told =
-    let past = past_by _ (text_few k p random c len is) in
-    told_by _ error (rw (past, salt) at told)
+    let few = text_few k p random c len is in
+    let past : is_past 1024 (text_of (new_parts k p (salt_of k random) c)) ≡ false =
+    grind (arith, nat_tests, few) in
+    grind (arith, rw (past, salt) at told)

@@ -1,3 +1,2 @@
 -- SPDX-License-Identifier: ISC
 mod Fits
-mod Words

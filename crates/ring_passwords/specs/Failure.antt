@@ -21,22 +21,17 @@ status_of failure.NoSuchName = 1
 status_of failure.WrongPassword = 1
 status_of _ = 2
 
--- a step with the file that the call names
-abbrev pub is_step_with_file : Step → Bool
-is_step_with_file ReadFile = true
-is_step_with_file Lock = true
-is_step_with_file Replace = true
-is_step_with_file SyncFolder = true
-is_step_with_file _ = false
-
--- a failure of the file that the call names
+-- a failure of the file that the call names, or of a step with it
 abbrev pub is_of_file : Failure → Bool
 is_of_file failure.NoFile = true
 is_of_file failure.NoFolder = true
 is_of_file failure.NotAFile = true
 is_of_file failure.NotAStore = true
 is_of_file failure.InUse = true
-is_of_file (failure.System step error) = is_step_with_file step
+is_of_file (failure.System ReadFile error) = true
+is_of_file (failure.System Lock error) = true
+is_of_file (failure.System Replace error) = true
+is_of_file (failure.System SyncFolder error) = true
 is_of_file _ = false
 
 -- the line; what the system says of a step is its own

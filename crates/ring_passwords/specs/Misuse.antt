@@ -1,12 +1,10 @@
 -- SPDX-License-Identifier: ISC
 -- What is wrong with the words of a call, and the line that says so.
-use Rattle.std.specs.Prelude.{◌≡◌, ◌≢◌, ◌⊎◌, ℕ, List, [], ◌∷◌, ◌++◌, Option, Some, None, codes}
-use Rattle.std.specs.Prelude.{IsNone}
-use Rattle.std.specs.declared.num.NonZeroU32.{NonZeroU32}
+use Rattle.std.specs.Prelude.{◌≡◌, ◌≢◌, ◌⊎◌, ℕ, List, [], ◌∷◌, ◌++◌, codes}
 use Rattle.ring_password_hash.specs.Scheme.{name_of}
 use Rattle.ring_password_hash.specs.declared.scheme.Scheme.{Scheme}
 use Rattle.ring_passwords.specs.Schemes.{schemes_text}
-use Rattle.ring_passwords.specs.Word.{IsNoCount, command_word, option_word, option_words}
+use Rattle.ring_passwords.specs.Word.{IsNoCount, command_word, option_word}
 use Rattle.ring_passwords.specs.declared.about.TheConstants.{USAGE}
 use Rattle.ring_passwords.specs.declared.misuse.Misuse.{Misuse}
 use Rattle.ring_passwords.specs.declared.misuse.Misuse.TheVariants.{NoWords, NoCommand, NoName}
@@ -42,21 +40,22 @@ misuse_text (Unexpected word) = codes "one word too many: " ++ word.now
 
 -- the first word is one too many
 abbrev pub IsUnexpected : Misuse → (words : List (List ℕ)) → Type 0
-IsUnexpected (Unexpected word) words = (rest : List (List ℕ)) × (words ≡ word.now ∷ rest)
+IsUnexpected (Unexpected word) (first ∷ rest) = word.now ≡ first
 IsUnexpected _ words = ⊥
 
--- the option has no number, or another word in its place; or a word stands behind the number, or
--- in place of the option
+-- the words behind an option: it lacks its number, or that is none, or a word follows
+abbrev pub IsWrongCount : CountOption → Misuse → (words : List (List ℕ)) → Type 0
+IsWrongCount option misuse [] = misuse ≡ NoCount option
+IsWrongCount option (BadCount other word) (number ∷ rest) =
+    (other ≡ option) × (word.now ≡ number) × IsNoCount number
+IsWrongCount option misuse (number ∷ rest) = ¬ (IsNoCount number) × IsUnexpected misuse rest
+
+-- a word stands in place of the option, or what is behind the option is wrong
 abbrev pub IsWrongOption : CountOption → Misuse → (words : List (List ℕ)) → Type 0
-IsWrongOption option (NoCount other) words = (other ≡ option) × (words ≡ option_word option ∷ [])
-IsWrongOption option (BadCount other word) words =
-    (other ≡ option) × IsNoCount word.now
-    × ((rest : List (List ℕ)) × (words ≡ option_word option ∷ word.now ∷ rest))
-IsWrongOption option (Unexpected word) words =
-    (given : Option NonZeroU32) × (rest : List (List ℕ))
-    × (words ≡ option_words option given ++ word.now ∷ rest)
-    × (IsNone given → word.now ≢ option_word option)
-IsWrongOption option _ words = ⊥
+IsWrongOption option misuse [] = ⊥
+IsWrongOption option misuse (first ∷ rest) =
+    ((first ≢ option_word option) × IsUnexpected misuse (first ∷ rest))
+    ⊎ ((first ≡ option_word option) × IsWrongCount option misuse rest)
 
 -- ---- what is wrong with the words behind the first ones
 

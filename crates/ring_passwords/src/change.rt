@@ -38,10 +38,7 @@ pub fn is_few(given: Option<NonZeroU32>) -> bool
     ensures few { IsTrue result → IsSome given }
     ensures given { IfSome given (λ c. IsTrue result ↔ (non_zero_u32_get c < 100_000)) }
 {
-    match given {
-        Some(iterations) => iterations.get() < FEWEST_ITERATIONS,
-        None => false,
-    }
+    given.is_some_and(|iterations| iterations.get() < FEWEST_ITERATIONS)
 }
 
 /// Refuses a name that has no byte, or more than 64.

@@ -44,10 +44,7 @@ pub fn iterations_of_text(scheme: Scheme, given: Option<NonZeroU32>) -> NonZeroU
     ensures given { IfSome given (λ iterations. result ≡ iterations) }
     ensures advised { IsNone given → non_zero_u32_get result ≡ advised scheme }
 {
-    match given {
-        Some(iterations) => iterations,
-        None => advised(scheme),
-    }
+    given.unwrap_or(advised(scheme))
 }
 
 /// Whether a password is its own preparation, where the scheme's system prepares it.

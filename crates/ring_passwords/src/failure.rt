@@ -3,7 +3,7 @@
 
 ghost use Rattle.std.specs.Prelude.{◌≡◌, Some};
 ghost use Rattle.ring_passwords.specs.Failure.{ended_text, failure_of, failure_text, is_of_file};
-ghost use Rattle.ring_passwords.specs.Failure.{is_step_with_file, status_of};
+ghost use Rattle.ring_passwords.specs.Failure.{status_of};
 ghost use Rattle.ring_passwords.specs.declared.failure.Failure.TheVariants.{Memory};
 
 use ring_store::StoreError;
@@ -35,18 +35,6 @@ pub enum Step {
     WriteText,
     /// What the program tells of itself, on standard output.
     WriteAbout,
-}
-
-impl Step {
-    /// Whether it is a step with the file that the call names.
-    fn is_of_file(self) -> bool
-        ensures { result ≡ is_step_with_file self }
-    {
-        matches!(
-            self,
-            Step::ReadFile | Step::Lock | Step::Replace | Step::SyncFolder
-        )
-    }
 }
 
 /// Why a run ends without success.
@@ -103,7 +91,8 @@ impl Failure {
         match self {
             Failure::NoFile | Failure::NoFolder | Failure::NotAFile => true,
             Failure::NotAStore | Failure::InUse => true,
-            Failure::System(step, _) => step.is_of_file(),
+            Failure::System(Step::ReadFile | Step::Lock, _) => true,
+            Failure::System(Step::Replace | Step::SyncFolder, _) => true,
             _ => false,
         }
     }

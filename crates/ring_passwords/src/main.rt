@@ -45,7 +45,6 @@ mod given;
 mod listing;
 mod misuse;
 mod password;
-mod schemes;
 mod word;
 
 /// The program's arguments, without its own name.

@@ -5,9 +5,13 @@ ghost use Rattle.std.specs.Prelude.{Some};
 ghost use Rattle.ring_passwords.specs.Misuse.{misuse_text};
 
 use crate::about::USAGE;
-use crate::schemes::Schemes;
 use crate::word::{Command, CountOption};
 use std::fmt;
+
+/// The names of the schemes, with a comma and a space between two.
+const SCHEME_NAMES: &str = "django-sha256, django-sha1, werkzeug-sha256, werkzeug-sha512, \
+    phc-sha256, phc-sha512, mosquitto, passlib-sha1, passlib-sha256, passlib-sha512, \
+    postgresql, werkzeug-sha1";
 
 /// What is wrong with the words of a call, and the words that it is wrong with.
 #[derive(Clone, Copy)]
@@ -47,9 +51,9 @@ impl fmt::Display for Misuse<'_> {
             }
             Misuse::UnknownCommand(file, word) => write!(f, "{file}: no such command: {word}"),
             Misuse::NoName(command) => write!(f, "{} needs a name", command.word()),
-            Misuse::NoScheme => write!(f, "encode needs a scheme; the schemes are {Schemes}"),
+            Misuse::NoScheme => write!(f, "encode needs a scheme; the schemes are {SCHEME_NAMES}"),
             Misuse::UnknownScheme(word) => {
-                write!(f, "no such scheme: {word}; the schemes are {Schemes}")
+                write!(f, "no such scheme: {word}; the schemes are {SCHEME_NAMES}")
             }
             Misuse::NoCount(option) => {
                 write!(f, "{} needs a number of 1 to 4294967295", option.word())

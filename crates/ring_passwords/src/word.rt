@@ -1,7 +1,7 @@
 // SPDX-License-Identifier: ISC
 //! The words of a call that are always the same.
 
-ghost use Rattle.std.specs.Prelude.{◌≡◌, ◌≢◌, IfSome, IsNone};
+ghost use Rattle.std.specs.Prelude.{◌≡◌, ◌≢◌, ◌↔◌, IfSome, IsNone, IsTrue};
 ghost use Rattle.ring_passwords.specs.Word.{command_word, option_word};
 ghost use Rattle.ring_passwords.specs.declared.word.Command.{Command};
 
@@ -64,5 +64,12 @@ impl CountOption {
             CountOption::Iterations => "--iterations",
             CountOption::MaxIterations => "--max-iterations",
         }
+    }
+
+    /// Whether a word is the option's.
+    pub fn is(self, word: &str) -> bool
+        ensures { IsTrue result ↔ (word.now ≡ option_word self) }
+    {
+        word == self.word()
     }
 }

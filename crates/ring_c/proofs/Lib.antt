@@ -1,4 +1,4 @@
 -- SPDX-License-Identifier: ISC
 mod Within
-mod Salts
+pub mod Salts
 pub mod Finds

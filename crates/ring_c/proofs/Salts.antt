@@ -14,3 +14,6 @@ pub length-salt_from : (text : Bool) (bytes : List ℕ) → length bytes ≡ 16
     → length (salt_from text bytes) ≡ (if text then 22 else 16)
 length-salt_from true bytes len = length-letters 22 (from_be_bytes w128 bytes)
 length-salt_from false bytes len = len
+
+-- how long a new salt is
+pub ruleset salt_lengths = (length-salt_from)

@@ -1,8 +1,8 @@
 -- SPDX-License-Identifier: ISC
 -- What calls give and refuse: each stands here once for the forms of a call, one of which runs over
 -- wider vectors or counts on a meter. r is the status.
-use Rattle.std.specs.Prelude.{◌≡◌, ◌≢◌, ◌==◌, ◌*◌, ℕ, ℤ, List, ◌++◌, Some, drop, length, nat_lt}
-use Rattle.std.specs.Prelude.{not}
+use Rattle.std.specs.Prelude.{◌≡◌, ◌≢◌, ◌==◌, ◌*◌, ℕ, ℤ, List, ◌++◌, Option, Some, drop, length}
+use Rattle.std.specs.Prelude.{nat_lt, not}
 use Rattle.std.specs.Borrow.{Bor}
 use Rattle.std.specs.declared.num.NonZeroU32.{NonZeroU32}
 use Rattle.ring.specs.Algorithm.{output_len}
@@ -10,39 +10,39 @@ use Rattle.ring.specs.Each.{digests_of}
 use Rattle.ring.specs.Limits.{can_derive, max_dk_len}
 use Rattle.ring.specs.Pbkdf2.{dk, pbkdf2_digest}
 use Rattle.ring.specs.Raw.{digest_named}
-use Rattle.ring.specs.declared.digest.algorithm.Algorithm as digest
-use Rattle.ring.specs.declared.pbkdf2.algorithm.Algorithm as pbkdf2
 use Rattle.ring_password_hash.specs.declared.scheme.Scheme.{Scheme}
 use Rattle.ring_c.specs.Limits.{can_digest_each}
 use Rattle.ring_c.specs.Number.{count_named, pbkdf2_named, scheme_named}
 use Rattle.ring_c.specs.PasswordHashes.{new_causes, new_text}
-use Rattle.ring_c.specs.Status.{YZ_OK, YZ_UNKNOWN_ALGORITHM, no_cause, status_of}
+use Rattle.ring_c.specs.Status.{Causes, YZ_OK, YZ_UNKNOWN_ALGORITHM, no_cause, status_of}
 use Rattle.ring_c.specs.Verified.{is_derived}
 
--- the digests of the messages are written
-pub record WritesDigests (algorithm : ℕ) (messages : List (Bor (List ℕ))) (old new : List ℕ)
-    (r : ℤ) : Type 0 where
-  pub ok : (a : digest.Algorithm) → digest_named algorithm ≡ Some a → r ≡ YZ_OK
-      → new ≡ digests_of a messages
-  pub status : r ≡ status_of YZ_UNKNOWN_ALGORITHM (digest_named algorithm) (λ a.
-      record no_cause {
-        wrong_length = not (length old == length messages * output_len a);
-        unspecified = not (can_digest_each a messages);
-      })
+-- the bytes that belong to what a number names are written, unless it names nothing, or there is a
+-- cause
+pub record WritesBytes {A : Type 0} (unknown : ℤ) (named : Option A) (bytes : A → List ℕ)
+    (causes : A → Causes) (old new : List ℕ) (r : ℤ) : Type 0 where
+  pub ok : (a : A) → named ≡ Some a → r ≡ YZ_OK → new ≡ bytes a
+  pub status : r ≡ status_of unknown named causes
   pub unchanged : r ≢ YZ_OK → new ≡ old
 
+-- the digests of the messages are written
+abbrev pub WritesDigests : (algorithm : ℕ) → List (Bor (List ℕ)) → (old new : List ℕ) → ℤ → Type 0
+WritesDigests algorithm messages old new =
+    WritesBytes YZ_UNKNOWN_ALGORITHM (digest_named algorithm) (λ a. digests_of a messages) (λ a.
+    record no_cause {
+      wrong_length = not (length old == length messages * output_len a);
+      unspecified = not (can_digest_each a messages);
+    }) old new
+
 -- the key of the password p and the salt s after c iterations is written
-pub record WritesKey (algorithm : ℕ) (p s : List ℕ) (c : ℕ) (old new : List ℕ) (r : ℤ)
-    : Type 0 where
-  pub ok : (a : pbkdf2.Algorithm) → pbkdf2_named algorithm ≡ Some a → r ≡ YZ_OK
-      → new ≡ dk (pbkdf2_digest a) p s c (length old)
-  pub status : r ≡ status_of YZ_UNKNOWN_ALGORITHM (pbkdf2_named algorithm) (λ a.
-      record no_cause {
-        no_iterations = c == 0;
-        wrong_length = nat_lt (max_dk_len (pbkdf2_digest a)) (length old);
-        unspecified = not (can_derive (pbkdf2_digest a) (length p) (length s) (length old));
-      })
-  pub unchanged : r ≢ YZ_OK → new ≡ old
+abbrev pub WritesKey : (algorithm : ℕ) (p s : List ℕ) (c : ℕ) (old new : List ℕ) → ℤ → Type 0
+WritesKey algorithm p s c old new =
+    WritesBytes YZ_UNKNOWN_ALGORITHM (pbkdf2_named algorithm)
+    (λ a. dk (pbkdf2_digest a) p s c (length old)) (λ a. record no_cause {
+      no_iterations = c == 0;
+      wrong_length = nat_lt (max_dk_len (pbkdf2_digest a)) (length old);
+      unspecified = not (can_derive (pbkdf2_digest a) (length p) (length s) (length old));
+    }) old new
 
 -- the status for a test of the value
 abbrev pub verify_status : (algorithm : ℕ) (p s : List ℕ) (c : ℕ) (value : List ℕ) → ℤ

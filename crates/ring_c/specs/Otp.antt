@@ -1,7 +1,7 @@
 -- SPDX-License-Identifier: ISC
 -- One-time passwords: why a call is refused, what calls write and find. r is the status.
 use Rattle.std.specs.Prelude.{◌≡◌, ◌≢◌, ◌==◌, ◌<◌, ◌^◌, ℕ, ℤ, Bool, false, ◌&&◌, List, Option}
-use Rattle.std.specs.Prelude.{IfSome, Some, None, if◌then◌else◌, is_some, length, not}
+use Rattle.std.specs.Prelude.{Some, None, if◌then◌else◌, is_some, length, not}
 use Rattle.ring.specs.Hmac.{hmac_digest}
 use Rattle.ring.specs.Limits.{fits}
 use Rattle.ring.specs.declared.hmac.key.Algorithm.{Algorithm}
@@ -35,7 +35,8 @@ pub record WritesPassword (algorithm : ℕ) (k : List ℕ) (counter : Option ℕ
 -- P holds of the algorithm and the digits, where the numbers name them
 abbrev pub IsOfNamed : (algorithm digits : ℕ) → (P : Algorithm → Digits → Type 0) → Type 0
 IsOfNamed algorithm digits P =
-    IfSome (hmac_named algorithm) (λ a. IfSome (digits_named digits) (λ d. P a d))
+    (a : Algorithm) (d : Digits) → hmac_named algorithm ≡ Some a → digits_named digits ≡ Some d
+    → P a d
 
 -- the first counter of 64 bits from `first` on and below `past` whose password the text is, is
 -- written, if these are the ends of a window

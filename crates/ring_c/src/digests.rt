@@ -8,6 +8,7 @@ ghost use Rattle.ring.specs.Limits.{IsMessageWithin, fits};
 ghost use Rattle.ring.specs.Raw.{AreWords, HasAdded, RawStandsFor, digest_named};
 ghost use Rattle.ring.specs.Raw.{raw_digest_with, raw_message_len};
 ghost use Rattle.ring.specs.declared.digest.algorithm.Algorithm.{Algorithm};
+ghost use Rattle.ring_c.specs.Gives.{WritesBytes};
 ghost use Rattle.ring_c.specs.Limits.{is_no_context};
 ghost use Rattle.ring_c.specs.Status.{YZ_OK, YZ_UNKNOWN_ALGORITHM, YZ_UNKNOWN_CONTEXT, no_cause};
 ghost use Rattle.ring_c.specs.Status.{status_of};
@@ -23,14 +24,11 @@ use ring::raw::{RawContext, digest_of_number};
 /// and as `UNSPECIFIED` where the message is too long. `out` is then unchanged.
 #[unsafe(no_mangle)]
 pub extern "C" fn yz_digest(algorithm: u32, message: &[u8], out: &mut [u8]) -> i32
-    ensures ok { (a : Algorithm) → digest_named algorithm ≡ Some a → result ≡ YZ_OK
-        → out.new ≡ digest_of a message.now }
-    ensures status { result ≡ status_of YZ_UNKNOWN_ALGORITHM (digest_named algorithm) (λ a.
-        record no_cause {
+    ensures { WritesBytes YZ_UNKNOWN_ALGORITHM (digest_named algorithm)
+        (λ a. digest_of a message.now) (λ a. record no_cause {
           wrong_length = not (length out.old == output_len a);
           unspecified = not (fits a (length message.now));
-        }) }
-    ensures unchanged { result ≢ YZ_OK → out.new ≡ out.old }
+        }) out.old out.new result }
 {
     let Some(algorithm) = digest_of_number(algorithm) else {
         return UNKNOWN_ALGORITHM;
@@ -96,18 +94,15 @@ pub extern "C" fn yz_digest_update(context: &mut RawContext, input: &[u8]) -> i3
 pub extern "C" fn yz_digest_final(context: &RawContext, out: &mut [u8]) -> i32
     ensures ok { (a : Algorithm) (m : List ℕ) → RawStandsFor context.now a m → result ≡ YZ_OK
         → out.new ≡ digest_of a m }
-    ensures any { (a : Algorithm) → digest_named context.now.algorithm ≡ Some a → result ≡ YZ_OK
-        → out.new ≡ raw_digest_with a context.now [] (raw_message_len context.now) }
-    ensures status { result
-        ≡ status_of YZ_UNKNOWN_CONTEXT (digest_named context.now.algorithm) (λ a.
-        record no_cause {
+    ensures any { WritesBytes YZ_UNKNOWN_CONTEXT (digest_named context.now.algorithm)
+        (λ a. raw_digest_with a context.now [] (raw_message_len context.now))
+        (λ a. record no_cause {
           unknown_context = is_no_context context.now;
           wrong_length = not (length out.old == output_len a);
           unspecified = not (fits a (raw_message_len context.now));
-        }) }
+        }) out.old out.new result }
     ensures refused_of { (a : Algorithm) (m : List ℕ) → RawStandsFor context.now a m
         → length out.old ≡ output_len a → (result ≡ YZ_OK ↔ IsMessageWithin a (length m)) }
-    ensures unchanged { result ≢ YZ_OK → out.new ≡ out.old }
 {
     let Some(named) = context.algorithm() else {
         return UNKNOWN_CONTEXT;

@@ -1,13 +1,13 @@
 // SPDX-License-Identifier: ISC
 //! Keys expanded by labels: HKDF-Expand-Label (RFC 8446, section 7.1).
 
-ghost use Rattle.std.specs.Prelude.{◌≡◌, ◌≢◌, ◌&&◌, ℕ, List, Some, length, IsTrue, nat_lt, not};
+ghost use Rattle.std.specs.Prelude.{◌≡◌, ◌&&◌, ℕ, List, Some, length, IsTrue, nat_lt, not};
 ghost use Rattle.ring.specs.Hkdf.{PrkStandsFor, hkdf_digest, prk_algorithm};
 ghost use Rattle.ring.specs.Limits.{IsOutputWithin, fits, max_okm_len};
-ghost use Rattle.ring.specs.declared.hkdf.algorithm.Algorithm.{Algorithm};
+ghost use Rattle.ring_c.specs.Gives.{WritesBytes};
 ghost use Rattle.ring_c.specs.Label.{expand_label, is_label_within};
 ghost use Rattle.ring_c.specs.Number.{hkdf_named};
-ghost use Rattle.ring_c.specs.Status.{YZ_OK, YZ_UNKNOWN_ALGORITHM, no_cause, status_of};
+ghost use Rattle.ring_c.specs.Status.{YZ_OK, YZ_UNKNOWN_ALGORITHM, no_cause};
 
 use crate::expansions::{fill, is_output_within};
 use crate::number::hkdf_of_number;
@@ -65,16 +65,13 @@ pub extern "C" fn yz_hkdf_expand_label(
     context: &[u8],
     out: &mut [u8],
 ) -> i32
-    ensures ok { (a : Algorithm) → hkdf_named algorithm ≡ Some a → result ≡ YZ_OK
-        → out.new ≡ expand_label (hkdf_digest a)
-        secret.now label.now context.now (length out.old) }
-    ensures status { result ≡ status_of YZ_UNKNOWN_ALGORITHM (hkdf_named algorithm) (λ a.
-        record no_cause {
+    ensures { WritesBytes YZ_UNKNOWN_ALGORITHM (hkdf_named algorithm)
+        (λ a. expand_label (hkdf_digest a) secret.now label.now context.now (length out.old))
+        (λ a. record no_cause {
           wrong_length = nat_lt (max_okm_len (hkdf_digest a)) (length out.old);
           unspecified = not (fits (hkdf_digest a) (length secret.now)
               && is_label_within (length label.now) (length context.now));
-        }) }
-    ensures unchanged { result ≢ YZ_OK → out.new ≡ out.old }
+        }) out.old out.new result }
 {
     let Some(algorithm) = hkdf_of_number(algorithm) else {
         return UNKNOWN_ALGORITHM;

@@ -1,7 +1,7 @@
 // SPDX-License-Identifier: ISC
 //! Merkle trees of transparency logs (RFC 9162, section 2.1).
 
-ghost use Rattle.std.specs.Prelude.{◌≡◌, ◌≢◌, ◌↔◌, ◌+◌, ◌++◌, ◌&&◌, drop, length, nat_lt, not};
+ghost use Rattle.std.specs.Prelude.{◌≡◌, ◌≢◌, ◌↔◌, ◌+◌, ◌&&◌, length, nat_lt, not};
 ghost use Rattle.ring.specs.Limits.{fits};
 ghost use Rattle.ring.specs.declared.digest.algorithm.TheConstants.{SHA256};
 ghost use Rattle.ring_merkle.specs.Consistency.{IsCompleteConsistency, IsConsistent};
@@ -9,7 +9,7 @@ ghost use Rattle.ring_merkle.specs.Consistency.{IsSoundConsistency, proof_of};
 ghost use Rattle.ring_merkle.specs.Inclusion.{IsCompleteInclusion, IsIncluded, IsSoundInclusion};
 ghost use Rattle.ring_merkle.specs.Inclusion.{path_of};
 ghost use Rattle.ring_merkle.specs.Tree.{leaf_hash, root_of};
-ghost use Rattle.ring_c.specs.Merkle.{path_causes};
+ghost use Rattle.ring_c.specs.Merkle.{WritesPath};
 ghost use Rattle.ring_c.specs.Status.{YZ_OK, YZ_UNSPECIFIED, first_of, no_cause};
 
 use crate::status::{OK, UNSPECIFIED, WRONG_LENGTH};
@@ -115,14 +115,8 @@ pub extern "C" fn yz_merkle_inclusion_path(
     path: &mut [[u8; HASH_LEN]],
     path_count: &mut usize,
 ) -> i32
-    ensures ok { result ≡ YZ_OK
-        → (path.new ≡ path_of index leaves.now
-        ++ drop (length (path_of index leaves.now)) path.old)
-        × (path_count.new ≡ length (path_of index leaves.now)) }
-    ensures status { result ≡ first_of (path_causes (length path.old)
-        (nat_lt index (length leaves.now)) (path_of index leaves.now)) }
-    ensures unchanged { result ≢ YZ_OK
-        → (path.new ≡ path.old) × (path_count.new ≡ path_count.old) }
+    ensures { WritesPath (nat_lt index (length leaves.now)) (path_of index leaves.now)
+        path.old path.new path_count.old path_count.new result }
 {
     if index >= leaves.len() {
         return UNSPECIFIED;
@@ -148,15 +142,8 @@ pub extern "C" fn yz_merkle_consistency_path(
     path: &mut [[u8; HASH_LEN]],
     path_count: &mut usize,
 ) -> i32
-    ensures ok { result ≡ YZ_OK
-        → (path.new ≡ proof_of first_size leaves.now
-        ++ drop (length (proof_of first_size leaves.now)) path.old)
-        × (path_count.new ≡ length (proof_of first_size leaves.now)) }
-    ensures status { result ≡ first_of (path_causes (length path.old)
-        (nat_lt 0 first_size && nat_lt first_size (length leaves.now))
-        (proof_of first_size leaves.now)) }
-    ensures unchanged { result ≢ YZ_OK
-        → (path.new ≡ path.old) × (path_count.new ≡ path_count.old) }
+    ensures { WritesPath (nat_lt 0 first_size && nat_lt first_size (length leaves.now))
+        (proof_of first_size leaves.now) path.old path.new path_count.old path_count.new result }
 {
     if first_size == 0 || first_size >= leaves.len() {
         return UNSPECIFIED;

@@ -6,10 +6,11 @@ ghost use Rattle.ring.specs.Hmac.{KeyStandsFor, key_algorithm};
 ghost use Rattle.ring_tokens.specs.Otp.{digits_of, first_step, hotp_text, past_step};
 ghost use Rattle.ring_c.specs.Otp.{FindsPassword, WritesPassword, counter_at};
 
-use crate::number::{count_of_number, digits_of_number, hmac_of_number};
+use crate::number::{digits_of_number, hmac_of_number};
 use crate::status::{OK, UNKNOWN_ALGORITHM, UNSPECIFIED, WRONG_LENGTH};
 use ring::hmac::Key;
 use ring_tokens::otp::{Digits, eight_digits, find_hotp, find_totp, hotp};
+use std::num::NonZeroU32;
 
 // Writes the password of a counter to `text`.
 fn write_password(key: &Key, counter: u64, digits: Digits, text: &mut [u8])
@@ -137,7 +138,7 @@ pub extern "C" fn yz_totp_find(
     let Some(digits) = digits_of_number(digits) else {
         return WRONG_LENGTH;
     };
-    let Some(step) = count_of_number(step) else {
+    let Some(step) = NonZeroU32::new(step) else {
         return UNSPECIFIED;
     };
     let Ok(shared_key) = Key::new(algorithm, key) else {

@@ -5,17 +5,16 @@ ghost use Rattle.std.specs.Prelude.{◌≡◌, ◌≢◌, ◌==◌, ◌↔◌, �
 ghost use Rattle.std.specs.Prelude.{Some, true};
 ghost use Rattle.std.specs.Int.NonZero.{non_zero_u32_get};
 ghost use Rattle.std.specs.declared.num.NonZeroU32.{NonZeroU32};
-ghost use Rattle.ring_password_hash.specs.Stored.{IsReadWhere, IsStored, IsTextOf, Parts};
-ghost use Rattle.ring_password_hash.specs.Stored.{is_salt, meter_of, parts_of, text_of};
+ghost use Rattle.ring_password_hash.specs.Stored.{IsReadWhere, IsTextOf, Parts, is_salt};
+ghost use Rattle.ring_password_hash.specs.Stored.{meter_of};
 ghost use Rattle.ring_password_hash.specs.declared.scheme.Scheme.{Scheme};
 ghost use Rattle.ring_c.specs.Number.{count_named, scheme_named};
 ghost use Rattle.ring_c.specs.Gives.{WritesHash};
-ghost use Rattle.ring_c.specs.PasswordHashes.{max_text_len, new_causes, new_cost, new_salt};
-ghost use Rattle.ring_c.specs.PasswordHashes.{new_salt_len, new_text, salt_random_len};
-ghost use Rattle.ring_c.specs.PasswordHashes.{test_causes};
+ghost use Rattle.ring_c.specs.PasswordHashes.{max_text_len, new_cost, new_salt, new_salt_len};
+ghost use Rattle.ring_c.specs.PasswordHashes.{salt_random_len, test_causes};
 ghost use Rattle.ring_c.specs.Status.{YZ_BAD_FORMAT, YZ_OK, YZ_UNKNOWN_ALGORITHM};
-ghost use Rattle.ring_c.specs.Status.{YZ_WRONG_LENGTH, first_of, no_cause, status_of};
-ghost use Rattle.ring_c.specs.Status.{status_from, status_of_error};
+ghost use Rattle.ring_c.specs.Status.{YZ_WRONG_LENGTH, no_cause, status_from, status_of};
+ghost use Rattle.ring_c.specs.Status.{status_of_error};
 
 use crate::number::{count_of_number, number_of_scheme, scheme_of_number};
 use crate::status::{
@@ -129,20 +128,6 @@ fn new_salt_len(scheme: Scheme) -> usize
     }
 }
 
-// Writes a new salt of the scheme to the start of `out`.
-fn write_salt(scheme: Scheme, random: &[u8], out: &mut [u8])
-    requires random { length random.now ≡ salt_random_len }
-    requires room { new_salt_len scheme ≤ length out.old }
-    ensures ok { out.new ≡ new_salt scheme random.now ++ drop (new_salt_len scheme) out.old }
-    ensures usable { is_salt scheme (new_salt scheme random.now) ≡ true }
-{
-    let mut own = [0; RANDOM_LEN];
-    own.copy_from_slice(random);
-    let salt = Salt::of(scheme, own);
-    let bytes = salt.as_ref();
-    out[..bytes.len()].copy_from_slice(bytes);
-}
-
 /// Writes to the start of `salt` a salt for a new hash of the scheme of the number `scheme`, made
 /// of `random`, and to `salt_len` how many bytes it has: 22 letters and digits for Django and
 /// Werkzeug, and else the 16 bytes themselves. The rest of `salt` is unchanged.
@@ -151,6 +136,7 @@ fn write_salt(scheme: Scheme, random: &[u8], out: &mut [u8])
 /// exactly if the salt is longer than `salt`; else as `UNSPECIFIED` exactly if `random` has not 16
 /// bytes. `salt` and `salt_len` are then unchanged.
 #[unsafe(no_mangle)]
+#[tactic(auto, using(crate::proofs::Salts::salt_lengths))]
 pub extern "C" fn yz_password_hash_salt(
     scheme: u32,
     random: &[u8],
@@ -179,52 +165,12 @@ pub extern "C" fn yz_password_hash_salt(
     if random.len() != RANDOM_LEN {
         return UNSPECIFIED;
     }
-    write_salt(scheme, random, salt);
+    let mut own = [0; RANDOM_LEN];
+    own.copy_from_slice(random);
+    let made = Salt::of(scheme, own);
+    salt[..len].copy_from_slice(made.as_ref());
     *salt_len = len;
     OK
-}
-
-// Writes the text of a value to the start of `text`, and returns how many bytes it has.
-fn write_text(stored: &Stored, text: &mut [u8]) -> usize
-    requires stands { IsStored stored.now }
-    requires room { length (text_of (parts_of stored.now)) ≤ length text.old }
-    ensures ok { text.new ≡ text_of (parts_of stored.now)
-        ++ drop (length (text_of (parts_of stored.now))) text.old }
-    ensures len { result ≡ length (text_of (parts_of stored.now)) }
-{
-    let Ok(len) = stored.write_to(text) else {
-        unreachable!() // There is room.
-    };
-    len
-}
-
-// Writes the text of a new hash of the scheme. `meter` counts the blocks.
-fn write_new(
-    scheme: Scheme,
-    iterations: NonZeroU32,
-    salt: &[u8],
-    password: &[u8],
-    text: &mut [u8],
-    text_len: &mut usize,
-    meter: &mut Meter,
-) -> i32
-    ensures ok { result ≡ YZ_OK → (text.new ≡ new_text scheme password.now salt.now iterations
-        ++ drop (length (new_text scheme password.now salt.now iterations)) text.old)
-        × (text_len.new ≡ length (new_text scheme password.now salt.now iterations)) }
-    ensures status { result ≡ first_of
-        (new_causes (length text.old) password.now salt.now (Some iterations) scheme) }
-    ensures unchanged { result ≢ YZ_OK → (text.new ≡ text.old) × (text_len.new ≡ text_len.old) }
-    ensures cost { result ≡ YZ_OK
-        → meter.new ≡ new_cost scheme password.now salt.now iterations meter.old }
-    ensures cost_refused { result ≢ YZ_OK → meter.new ≡ meter.old }
-{
-    match Stored::new_counted(scheme, password, salt, iterations, text.len(), meter) {
-        Ok(stored) => {
-            *text_len = write_text(&stored, text);
-            OK
-        }
-        Err(error) => status_of_error(error),
-    }
 }
 
 // Writes a new hash as `yz_password_hash_new` does. `meter` counts the blocks: none where it is
@@ -251,7 +197,13 @@ fn yz_password_hash_new_counted(
     let Some(iterations) = count_of_number(iterations) else {
         return NO_ITERATIONS;
     };
-    write_new(scheme, iterations, salt, password, text, text_len, meter)
+    match Stored::new_counted(scheme, password, salt, iterations, text.len(), meter) {
+        Ok(stored) => {
+            *text_len = stored.write_to(text).unwrap(); // There is room.
+            OK
+        }
+        Err(error) => status_of_error(error),
+    }
 }
 
 /// Writes to the start of `text` the hash of `password` under `salt` and `iterations`, of the

@@ -10,6 +10,7 @@ ghost use Rattle.ring.specs.Raw.{RawTagStandsFor, TagHasAdded, digest_named, raw
 ghost use Rattle.ring.specs.Raw.{raw_tag_under, raw_tag_with};
 ghost use Rattle.ring.specs.declared.digest.algorithm.Algorithm as digest;
 ghost use Rattle.ring.specs.declared.hmac.key.Algorithm.{Algorithm};
+ghost use Rattle.ring_c.specs.Gives.{WritesBytes};
 ghost use Rattle.ring_c.specs.Limits.{can_sign, can_tag, is_no_tag_context};
 ghost use Rattle.ring_c.specs.Number.{hmac_named};
 ghost use Rattle.ring_c.specs.Status.{YZ_OK, YZ_UNKNOWN_ALGORITHM, YZ_UNKNOWN_CONTEXT};
@@ -138,14 +139,11 @@ pub extern "C" fn yz_hmac_key_init(algorithm: u32, value: &[u8], key: &mut RawKe
 pub extern "C" fn yz_hmac_key_sign(key: &RawKey, message: &[u8], out: &mut [u8]) -> i32
     ensures ok { (a : digest.Algorithm) (k : List ℕ) → RawKeyStandsFor key.now a k → result ≡ YZ_OK
         → out.new ≡ hmac_of a k message.now }
-    ensures any { (a : digest.Algorithm) → digest_named key.now.algorithm ≡ Some a → result ≡ YZ_OK
-        → out.new ≡ raw_tag_under a key.now message.now }
-    ensures status { result ≡ status_of YZ_UNKNOWN_CONTEXT (digest_named key.now.algorithm) (λ a.
-        record no_cause {
+    ensures any { WritesBytes YZ_UNKNOWN_CONTEXT (digest_named key.now.algorithm)
+        (λ a. raw_tag_under a key.now message.now) (λ a. record no_cause {
           wrong_length = not (length out.old == output_len a);
           unspecified = not (can_tag a (length message.now));
-        }) }
-    ensures unchanged { result ≢ YZ_OK → out.new ≡ out.old }
+        }) out.old out.new result }
 {
     let Some(key) = key.key() else {
         return UNKNOWN_CONTEXT;
@@ -227,20 +225,16 @@ pub extern "C" fn yz_hmac_update(context: &mut RawTagContext, input: &[u8]) -> i
 pub extern "C" fn yz_hmac_final(context: &RawTagContext, out: &mut [u8]) -> i32
     ensures ok { (a : digest.Algorithm) (k m : List ℕ) → RawTagStandsFor context.now a k m
         → result ≡ YZ_OK → out.new ≡ hmac_of a k m }
-    ensures any { (a : digest.Algorithm) → digest_named context.now.inner.algorithm ≡ Some a
-        → result ≡ YZ_OK
-        → out.new ≡ raw_tag_with a context.now [] (raw_message_len context.now.inner) }
-    ensures status { result
-        ≡ status_of YZ_UNKNOWN_CONTEXT (digest_named context.now.inner.algorithm) (λ a.
-        record no_cause {
+    ensures any { WritesBytes YZ_UNKNOWN_CONTEXT (digest_named context.now.inner.algorithm)
+        (λ a. raw_tag_with a context.now [] (raw_message_len context.now.inner))
+        (λ a. record no_cause {
           unknown_context = is_no_tag_context context.now;
           wrong_length = not (length out.old == output_len a);
           unspecified = not (fits a (raw_message_len context.now.inner));
-        }) }
+        }) out.old out.new result }
     ensures refused_of { (a : digest.Algorithm) (k m : List ℕ)
         → RawTagStandsFor context.now a k m → length out.old ≡ output_len a
         → (result ≡ YZ_OK ↔ IsTagWithin a (length m)) }
-    ensures unchanged { result ≢ YZ_OK → out.new ≡ out.old }
 {
     let Some(named) = context.algorithm() else {
         return UNKNOWN_CONTEXT;

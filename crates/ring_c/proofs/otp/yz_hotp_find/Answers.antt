@@ -5,21 +5,12 @@ use Rattle.ring_c.proofs.otp.yz_hotp_find.Goals as goal
 
 pub returns-in_default-find_hotp : goal.returns-in_default-find_hotp
 returns-in_default-find_hotp c =
-    misses (record {
-      a = c.in-Some.algorithm;
-      of_algorithm = sym c.in-Some.ensures;
-      of_digits = sym c.in-Some-digits_of_number.ensures.ok;
-      same = c.in-Ok.ensures.algorithm;
-      within = λ past. cc (c.in-Ok.ensures.refused.1 past);
-    }) refl (c.in_default-find_hotp.ensures.refused c.args.key.now c.in-Ok.ensures.ok refl)
+    misses (sym c.in-Some.ensures) (sym c.in-Some-digits_of_number.ensures.ok)
+    c.in-Ok.ensures.algorithm (search rules)
+    (c.in_default-find_hotp.ensures.refused c.args.key.now c.in-Ok.ensures.ok refl)
 
 pub returns : goal.returns
 returns c =
-    finds (record {
-      a = c.in-Some.algorithm;
-      of_algorithm = sym c.in-Some.ensures;
-      of_digits = sym c.in-Some-digits_of_number.ensures.ok;
-      same = c.in-Ok.ensures.algorithm;
-      within = λ past. cc (c.in-Ok.ensures.refused.1 past);
-    }) refl (search rules)
+    finds (sym c.in-Some.ensures) (sym c.in-Some-digits_of_number.ensures.ok)
+    c.in-Ok.ensures.algorithm (search rules) (search rules)
     (c.in-Some-find_hotp.ensures.ok c.args.key.now c.in-Ok.ensures.ok)

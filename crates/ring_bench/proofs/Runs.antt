@@ -4,10 +4,10 @@ use Rattle.std.proofs.Common.{◌≡◌, ℕ, ◌+◌, ◌<◌, ◌≤◌, Bool,
 use Rattle.std.proofs.Common.{None, IfSome, Result, Ok, Err, OnOk, IfOk, List, [], ◌∷◌, ◌++◌}
 use Rattle.std.proofs.Common.{length, take, refl, sym, ap, ◌∙◌, subst, append_assoc, append-nil}
 use Rattle.std.proofs.Common.{length-append, arith}
-use Rattle.std.specs.Prelude.{⊤}
 use Rattle.std.specs.List.{list_any}
 use Rattle.std.specs.Io.KnownBytes.{Appends, Consumes, Keeps, IsAtEnd}
-use Rattle.std.proofs.KnownBytes.{Appends-nil, Appends-trans, Appends-kept, Keeps-refl}
+use Rattle.std.proofs.KnownBytes.{Appends-nil, Appends-trans, Appends-kept, Consumes-kept}
+use Rattle.std.proofs.KnownBytes.{Consumes-nil, Consumes-trans, Consumes-whole, Keeps-refl}
 use Rattle.std.proofs.lemmas.List.Elements.{All-append}
 use Rattle.std.proofs.lemmas.List.Folds.{list_any-append}
 use Rattle.std.proofs.lemmas.List.Concat.{flat_map-append}
@@ -17,9 +17,9 @@ use Rattle.ring_bench.specs.declared.answers.Status.{Status}
 use Rattle.ring_bench.specs.declared.answers.Status.TheVariants.{Clean, SomeBad}
 use Rattle.ring_bench.specs.declared.answers.BenchError.{BenchError}
 use Rattle.ring_bench.specs.Text.{is_line_feed, without_return, lines, ended_lines, replies}
-use Rattle.ring_bench.specs.Text.{answers, is_bad_kind, status_of}
+use Rattle.ring_bench.specs.Text.{answers, is_bad_kind, status_after, status_of}
 use Rattle.ring_bench.specs.Reply.{reply, kind}
-use Rattle.ring_bench.specs.Session.{Answered, Fed, HasNoLineFeed, Stopped, status_after}
+use Rattle.ring_bench.specs.Session.{Answered, Fed, HasNoLineFeed, Stopped}
 use Rattle.ring_bench.proofs.Texts.{ended_lines-next, lines-next, one_line, some_line}
 
 -- one status after other lines
@@ -200,102 +200,75 @@ pub none-answered : (line : List ℕ) (s : Status) (a b : Option (List ℕ)) →
 none-answered [] s a b none kept = (Appends-kept a a b [] (Appends-nil a) kept, refl)
 none-answered (byte ∷ line) s a b none kept = absurd (omega arith)
 
--- where the text is known, what is left goes on with the open line
-abbrev pub ReachedIn : (known left : Option (List ℕ)) (line : List ℕ) (status : Status)
-    (before after : Option (List ℕ)) → Type 0
-ReachedIn None left line status before after = ⊤
-ReachedIn (Some text) None line status before after = ⊥
-ReachedIn (Some text) (Some rest) line status before after =
-    Answered text (line ++ rest) Clean status before after
-
--- how far a run has come
+-- how far a run has come: what it has read, of which it has answered all but the open line
 pub record Reached (known left : Option (List ℕ)) (line : List ℕ) (status : Status)
     (before after : Option (List ℕ)) : Type 0 where
-  pub so_far : ReachedIn known left line status before after
+  pub read : List ℕ
+  pub taken : Consumes known left read
+  pub answered : Answered read line Clean status before after
 
 pub Reached-none : (known a : Option (List ℕ)) → Reached known known [] Clean a a
-Reached-none known a = record { so_far = at_first known }
-  where
-    at_first : (known : Option (List ℕ)) → ReachedIn known known [] Clean a a
-    at_first None = tt
-    at_first (Some text) = Answered-none text Clean a a (Keeps-refl a)
+Reached-none known a = record {
+  read = [];
+  taken = Consumes-nil known;
+  answered = Answered-none [] Clean a a (Keeps-refl a);
+}
 
--- a piece was read, and lines of it were answered
-pub Reached-more : (known left later : Option (List ℕ)) (piece : List ℕ) {line new : List ℕ}
-    {s t : Status} {a b c : Option (List ℕ)} → Reached known left line s a b
-    → Consumes left later piece → Answered (line ++ piece) new s t b c
-    → Reached known later new t a c
-Reached-more None left later piece r read f = record { so_far = tt }
-Reached-more (Some text) None later piece r read f = absurd r.so_far
-Reached-more (Some text) (Some rest) None piece r read f = absurd read
-Reached-more (Some text) (Some rest) (Some more) piece {line} {new} {s} {t} {b = b} {c = c}
-    r read f =
-    let all = append_assoc line piece more ∙ ap (λ l. line ++ l) (sym read) in
-    let next : Answered (line ++ rest) (new ++ more) s t b c =
-    subst (λ l. Answered l (new ++ more) s t b c) all (Answered-more f more) in
-    record { so_far = Answered-trans r.so_far next }
-
--- a read failed that may be tried again
-pub Reached-kept : (known left later : Option (List ℕ)) {line : List ℕ} {s : Status}
-    {a b : Option (List ℕ)} → Reached known left line s a b → Keeps left later
-    → Reached known later line s a b
-Reached-kept None left later r kept = record { so_far = tt }
-Reached-kept (Some text) None later r kept = absurd r.so_far
-Reached-kept (Some text) (Some rest) None r kept = absurd kept
-Reached-kept (Some text) (Some rest) (Some more) r kept = record { so_far = rw kept r.so_far }
-
--- the reader failed
-pub Reached-lines : (known left : Option (List ℕ)) {line : List ℕ} {s : Status}
-    {a b : Option (List ℕ)} → Reached known left line s a b → IfSome known (λ text.
-    (k : ℕ) × (k ≤ ended_lines text) × Appends a b (replies (take k (lines text))))
-Reached-lines None left r = tt
-Reached-lines (Some text) None r = absurd r.so_far
-Reached-lines (Some text) (Some rest) r = Answered-ended r.so_far
-
--- it stopped before the open line was answered
-Reached-left : (known left : Option (List ℕ)) {line : List ℕ} {s : Status}
-    {a b : Option (List ℕ)} → Reached known left line s a b → 0 < length line
-    → IfSome known (λ text.
-    (k : ℕ) × (k < length (lines text)) × Appends a b (replies (take k (lines text))))
-Reached-left None left r some = tt
-Reached-left (Some text) None r some = absurd r.so_far
-Reached-left (Some text) (Some rest) {line} r some =
-    Answered-left r.so_far (omega (arith, length-append line rest))
+-- the text is what was read, and more
+text-read : (P : List ℕ → Type 0) (known left : Option (List ℕ)) (read : List ℕ)
+    → Consumes known left read → ((more : List ℕ) → P (read ++ more)) → IfSome known P
+text-read P None left read taken all = tt
+text-read P (Some text) None read taken all = absurd taken
+text-read P (Some text) (Some more) read taken all = subst P (sym taken) (all more)
 
 -- after a run has come so far
 module _ {known left : Option (List ℕ)} {line : List ℕ} {s : Status} {a b : Option (List ℕ)}
     (r : Reached known left line s a b) where
-  -- a piece wasn't fed whole
-  pub Reached-stopped : (later : Option (List ℕ)) (piece : List ℕ) (c : Option (List ℕ))
-      → Consumes left later piece → Stopped (line ++ piece) s b c
-      → IfSome known (λ text. (k : ℕ) × (k < length (lines text))
-      × Appends a c (replies (take k (lines text))))
-  Reached-stopped later piece c read h =
-      Reached-left known later (Reached-more known left later piece r read h.answered) h.more
+  -- a piece was read, and lines of it were answered
+  pub Reached-more : (later : Option (List ℕ)) (piece : List ℕ) {new : List ℕ} {t : Status}
+      {c : Option (List ℕ)} → Consumes left later piece → Answered (line ++ piece) new s t b c
+      → Reached known later new t a c
+  Reached-more later piece read f = record {
+    read = r.read ++ piece;
+    taken = Consumes-trans known left later r.read piece r.taken read;
+    answered = Answered-trans (Answered-more r.answered piece) f;
+  }
 
-  -- the last line wasn't answered
-  pub Reached-unfinished : (later c : Option (List ℕ)) → Consumes left later [] → Keeps b c
-      → 0 < length line → IfSome known (λ text. (k : ℕ) × (k < length (lines text))
-      × Appends a c (replies (take k (lines text))))
-  Reached-unfinished later c read kept some =
-      let none : Answered (line ++ []) line s s b c =
-      subst (λ l. Answered l line s s b c) (sym (append-nil line))
-      (Answered-none line s b c kept) in
-      Reached-left known later (Reached-more known left later [] r read none) some
+  -- nothing was read or written
+  pub Reached-kept : (later c : Option (List ℕ)) → Keeps left later → Keeps b c
+      → Reached known later line s a c
+  Reached-kept later c kept same = record {
+    read = r.read;
+    taken = Consumes-kept known left later r.read r.taken kept;
+    answered = Answered-trans r.answered (Answered-none line s b c same);
+  }
 
--- the whole text was read, and the open line was answered
-pub Reached-end : (known left later c : Option (List ℕ)) {line : List ℕ} {s : Status}
-    {a b : Option (List ℕ)} (result : Result Status BenchError) → Reached known left line s a b
-    → Consumes left later [] → IsAtEnd later
-    → IfOk result (λ t. Appends b c (replies (lines line)) × (t ≡ status_after s (lines line)))
-    → OnOk result (IfSome known (λ text. Appends a c (answers text)))
-    × IfOk result (λ t. IfSome known (λ text. t ≡ status_of (lines text)))
-Reached-end known left later c (Err error) r read end told = (tt, tt)
-Reached-end None left later c (Ok t) r read end told = (tt, tt)
-Reached-end (Some text) None later c (Ok t) r read end told = absurd r.so_far
-Reached-end (Some text) (Some rest) None c (Ok t) r read end told = absurd read
-Reached-end (Some text) (Some rest) (Some more) c {line} {s} {a} {b} (Ok t) r read end told =
-    let none : line ++ rest ≡ line = ap (λ l. line ++ l) (read ∙ end) ∙ append-nil line in
-    let all : Answered text line Clean s a b =
-    subst (λ l. Answered text l Clean s a b) none r.so_far in
-    Answered-whole all c told.0 told.1
+  -- the reader failed
+  pub Reached-lines : IfSome known (λ text.
+      (k : ℕ) × (k ≤ ended_lines text) × Appends a b (replies (take k (lines text))))
+  Reached-lines =
+      text-read _ known left r.read r.taken
+      (λ more. Answered-ended (Answered-more r.answered more))
+
+  -- it stopped before the open line was answered
+  pub Reached-left : 0 < length line → IfSome known (λ text.
+      (k : ℕ) × (k < length (lines text)) × Appends a b (replies (take k (lines text))))
+  Reached-left some =
+      text-read _ known left r.read r.taken
+      (λ more. Answered-left (Answered-more r.answered more)
+      (omega (arith, some, length-append line more)))
+
+  -- the whole text was read, and the open line was answered
+  pub Reached-end : (later c : Option (List ℕ)) (result : Result Status BenchError)
+      → Consumes left later [] → IsAtEnd later
+      → IfOk result (λ t. Appends b c (replies (lines line)) × (t ≡ status_after s (lines line)))
+      → OnOk result (IfSome known (λ text. Appends a c (answers text)))
+      × IfOk result (λ t. IfSome known (λ text. t ≡ status_of (lines text)))
+  Reached-end later c (Err error) read end told = (tt, tt)
+  Reached-end later c (Ok t) read end told =
+      let both = Consumes-trans known left later r.read [] r.taken read in
+      let taken = rw (append-nil r.read) at both in
+      let all = Answered-whole r.answered c told.0 told.1 in (
+        Consumes-whole known later r.read _ taken end all.0,
+        Consumes-whole known later r.read _ taken end all.1,
+      )

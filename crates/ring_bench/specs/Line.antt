@@ -3,15 +3,11 @@
 use Rattle.std.specs.Prelude.{◌==◌, ℕ, Bool, List, [], ◌∷◌, Option, None, Some, if◌then◌else◌}
 use Rattle.std.specs.Prelude.{length, slice_index, codes}
 use Rattle.std.specs.List.{slice_split}
-use Rattle.ring.specs.Hkdf.{hkdf_digest}
-use Rattle.ring.specs.Hmac.{hmac_digest}
-use Rattle.ring.specs.Pbkdf2.{pbkdf2_digest}
 use Rattle.ring_bench.specs.declared.line.Call.{Call}
 use Rattle.ring_bench.specs.declared.line.Call.TheVariants as call
 use Rattle.ring_bench.specs.declared.line.Line.{Line}
 use Rattle.ring_bench.specs.declared.line.Line.TheVariants.{Nothing, Bad, Asks}
-use Rattle.ring_bench.specs.Algorithm.{digest_algorithm_of, hmac_algorithm_of, hkdf_algorithm_of}
-use Rattle.ring_bench.specs.Algorithm.{pbkdf2_algorithm_of}
+use Rattle.ring_bench.specs.Algorithm.{digest_algorithm_of, hmac_algorithm_of}
 use Rattle.ring_bench.specs.Field.{◌>>=◌, is_word, bytes_of, pieces_of, len_of, iterations_of}
 use Rattle.ring_bench.specs.Request.{Response, answer_of, digest_answer, key_answer, key_verdict}
 use Rattle.ring_bench.specs.Request.{output_answer, tag_answer, verdict_answer}
@@ -43,34 +39,34 @@ answer_by call.Hmac (alg ∷ key ∷ pieces ∷ []) = do
   a ← hmac_algorithm_of alg
   k ← bytes_of key
   message ← pieces_of pieces
-  Some (tag_answer (hmac_digest a) k message)
+  Some (tag_answer a k message)
 answer_by call.HmacVerify (alg ∷ key ∷ pieces ∷ tag ∷ []) = do
   a ← hmac_algorithm_of alg
   k ← bytes_of key
   message ← pieces_of pieces
   t ← bytes_of tag
-  Some (verdict_answer (hmac_digest a) k message t)
+  Some (verdict_answer a k message t)
 answer_by call.Hkdf (alg ∷ salt ∷ secret ∷ pieces ∷ len ∷ []) = do
-  a ← hkdf_algorithm_of alg
+  a ← hmac_algorithm_of alg
   s ← bytes_of salt
   x ← bytes_of secret
   info ← pieces_of pieces
   n ← len_of len
-  Some (output_answer (hkdf_digest a) s x info n)
+  Some (output_answer a s x info n)
 answer_by call.Pbkdf2 (alg ∷ iterations ∷ secret ∷ salt ∷ len ∷ []) = do
-  a ← pbkdf2_algorithm_of alg
+  a ← hmac_algorithm_of alg
   c ← iterations_of iterations
   p ← bytes_of secret
   s ← bytes_of salt
   n ← len_of len
-  Some (key_answer (pbkdf2_digest a) c p s n)
+  Some (key_answer a c p s n)
 answer_by call.Pbkdf2Verify (alg ∷ iterations ∷ secret ∷ salt ∷ value ∷ []) = do
-  a ← pbkdf2_algorithm_of alg
+  a ← hmac_algorithm_of alg
   c ← iterations_of iterations
   p ← bytes_of secret
   s ← bytes_of salt
   v ← bytes_of value
-  Some (key_verdict (pbkdf2_digest a) c p s v)
+  Some (key_verdict a c p s v)
 answer_by named operands = None
 
 -- the answer to the fields of a line: the first one names the call, and the others are its operands

@@ -1,14 +1,16 @@
 // SPDX-License-Identifier: ISC
 //! The algorithm that a field ALG names.
 
-ghost use Rattle.ring_bench.specs.Algorithm.{algorithm_of, digest_algorithm_of, hkdf_algorithm_of};
-ghost use Rattle.ring_bench.specs.Algorithm.{hmac_algorithm_of, pbkdf2_algorithm_of};
+ghost use Rattle.ring.specs.Hkdf.{hkdf_digest};
+ghost use Rattle.ring.specs.Hmac.{hmac_digest};
+ghost use Rattle.ring.specs.Pbkdf2.{pbkdf2_digest};
+ghost use Rattle.ring_bench.specs.Algorithm.{algorithm_of, digest_algorithm_of, hmac_algorithm_of};
 ghost use Rattle.ring_bench.specs.Fault.{ReadsAlone};
 
 use crate::field::{Fault, is_word};
 use ring::digest::{self, SHA1_FOR_LEGACY_USE_ONLY, SHA256, SHA384, SHA512, SHA512_256};
 use ring::hkdf::{self, HKDF_SHA1_FOR_LEGACY_USE_ONLY, HKDF_SHA256, HKDF_SHA384, HKDF_SHA512};
-use ring::hmac::{self, HMAC_SHA1_FOR_LEGACY_USE_ONLY, HMAC_SHA256, HMAC_SHA384, HMAC_SHA512};
+use ring::hmac;
 use ring::pbkdf2::{
     self, PBKDF2_HMAC_SHA1, PBKDF2_HMAC_SHA256, PBKDF2_HMAC_SHA384, PBKDF2_HMAC_SHA512,
 };
@@ -46,23 +48,16 @@ pub fn digest_algorithm_in(field: &[u8]) -> Result<digest::Algorithm, Fault>
 }
 
 /// The ALG of a tag.
-#[tactic(auto, unfolding(crate::specs::Algorithm::hmac_algorithm_of))]
 pub fn hmac_algorithm_in(field: &[u8]) -> Result<hmac::Algorithm, Fault>
-    ensures { ReadsAlone (λ algorithm. algorithm) (hmac_algorithm_of field.now) result }
+    ensures { ReadsAlone hmac_digest (hmac_algorithm_of field.now) result }
 {
-    algorithm_in(
-        field,
-        HMAC_SHA1_FOR_LEGACY_USE_ONLY,
-        HMAC_SHA256,
-        HMAC_SHA384,
-        HMAC_SHA512,
-    )
+    Ok(hkdf_algorithm_in(field)?.hmac_algorithm())
 }
 
 /// The ALG of an output of HKDF.
-#[tactic(auto, unfolding(crate::specs::Algorithm::hkdf_algorithm_of))]
+#[tactic(auto, unfolding(crate::specs::Algorithm::algorithm_of))]
 pub fn hkdf_algorithm_in(field: &[u8]) -> Result<hkdf::Algorithm, Fault>
-    ensures { ReadsAlone (λ algorithm. algorithm) (hkdf_algorithm_of field.now) result }
+    ensures { ReadsAlone hkdf_digest (hmac_algorithm_of field.now) result }
 {
     algorithm_in(
         field,
@@ -74,9 +69,9 @@ pub fn hkdf_algorithm_in(field: &[u8]) -> Result<hkdf::Algorithm, Fault>
 }
 
 /// The ALG of a derivation by PBKDF2.
-#[tactic(auto, unfolding(crate::specs::Algorithm::pbkdf2_algorithm_of))]
+#[tactic(auto, unfolding(crate::specs::Algorithm::algorithm_of))]
 pub fn pbkdf2_algorithm_in(field: &[u8]) -> Result<pbkdf2::Algorithm, Fault>
-    ensures { ReadsAlone (λ algorithm. algorithm) (pbkdf2_algorithm_of field.now) result }
+    ensures { ReadsAlone pbkdf2_digest (hmac_algorithm_of field.now) result }
 {
     algorithm_in(
         field,

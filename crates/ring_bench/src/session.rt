@@ -3,9 +3,9 @@
 ghost use Rattle.std.specs.Prelude.{◌≡◌, ◌≢◌, ◌++◌, [], ◌∷◌, ◌<◌, length, OnOk, IfOk, IfErr};
 ghost use Rattle.std.specs.Prelude.{IsErrOf};
 ghost use Rattle.std.specs.Io.KnownBytes.{Appends, Keeps};
-ghost use Rattle.ring_bench.specs.Text.{lines, replies, without_return};
+ghost use Rattle.ring_bench.specs.Text.{lines, replies, status_after, without_return};
 ghost use Rattle.ring_bench.specs.Reply.{reply};
-ghost use Rattle.ring_bench.specs.Session.{HasNoLineFeed, Fed, Stopped, status_after};
+ghost use Rattle.ring_bench.specs.Session.{HasNoLineFeed, Fed, Stopped};
 
 use crate::answers::{BenchError, LineKind, Status, answer_in};
 use ring_text::cut_at;

@@ -1,5 +1,6 @@
 // SPDX-License-Identifier: ISC
 //! What stands below digests: comparison, exclusive or, lengths in bits, the meter, chunks.
+#![tactic(auto, unfolding(ring::specs::Cost::raised))]
 
 ghost use Rattle.std.specs.Prelude.{◌≡◌, ◌↔◌, ◌*◌, ◌/◌, ◌%◌, ◌^◌, ◌<◌, ◌≤◌};
 ghost use Rattle.std.specs.Prelude.{length, map, IfOk, IsErr, IsTrue};

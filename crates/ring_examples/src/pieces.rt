@@ -1,5 +1,6 @@
 // SPDX-License-Identifier: ISC
 //! Digests of messages that are whole, or come in more than two pieces.
+#![tactic(auto, unfolding(ring::specs::Cost::raised))]
 
 ghost use Rattle.std.specs.Prelude.{◌≡◌, ◌↔◌, ◌<◌, ◌++◌, ℕ, List, length, take};
 ghost use Rattle.std.specs.Prelude.{IfOk, IsErr, OnErr, OnOk};

@@ -1,5 +1,6 @@
 // SPDX-License-Identifier: ISC
 //! A password store: a first use, a login, a restart, and the cost of a check.
+#![tactic(auto, using(ring_store::proofs::Stores::same_store))]
 
 ghost use Rattle.std.specs.Prelude.{◌≡◌, ◌↔◌, ℕ, List, Ok, Err};
 ghost use Rattle.std.specs.Prelude.{IfOk, IsErrOf, IsOkUnless, IsTrue, OnErr, OnOk};

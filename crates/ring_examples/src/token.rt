@@ -1,5 +1,6 @@
 // SPDX-License-Identifier: ISC
 //! Tokens: two makers during a change of keys, and what a token costs.
+#![tactic(auto, unfolding(ring::specs::Cost::raised))]
 
 ghost use Rattle.std.specs.Prelude.{◌≡◌, ◌↔◌, ◌⊎◌, ℕ, ◌≤◌, List, length, Ok, IfOk, IsOk};
 ghost use Rattle.ring.specs.Algorithm.{max_input_len};

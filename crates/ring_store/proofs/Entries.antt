@@ -1,6 +1,6 @@
 -- SPDX-License-Identifier: ISC
 -- The entries of tables, in the order of their names.
-use Rattle.std.proofs.Common.{◌≡◌, ℕ, Bool, true, not, T, List, [], ◌∷◌, All, fold, slice_get, Vec}
+use Rattle.std.proofs.Common.{◌≡◌, ℕ, Bool, true, not, T, List, [], ◌∷◌, All, slice_get, Vec}
 use Rattle.std.proofs.Common.{Bor, Option, None, option_map, Ordering, Less, Equal, Greater, is_lt}
 use Rattle.std.proofs.Common.{arith, refl, sym, ap, subst, ◌∙◌}
 use Rattle.std.specs.Ordering.{eq_by_cmp}
@@ -13,13 +13,11 @@ use Rattle.std.specs.List.{AllByRecursion}
 use Rattle.std.specs.List.Sorted.{IsStrictlySortedBy}
 use Rattle.std.specs.Map.{keys_of}
 use Rattle.std.specs.Map.Iter.{TakesFirst, deref}
-use Rattle.std.specs.Option.{option_or}
 use Rattle.std.proofs.lemmas.Iterator.Consumers.{nth_from_yields_List, YieldsList-from_rest}
 use Rattle.std.proofs.lemmas.List.{length-map}
 use Rattle.std.proofs.lemmas.List.Elements.{All-filter, All-from_recursion, All-same}
 use Rattle.std.proofs.lemmas.List.Elements.{recursion_from_All}
 use Rattle.std.proofs.lemmas.Map.Lookups.{exact_bytes}
-use Rattle.std.proofs.lemmas.Map.Views.{tells_apart}
 use Rattle.std.proofs.lemmas.Option.{slice_get-map}
 use Rattle.std.proofs.lemmas.Simd.{map-map}
 use Rattle.ring_store.specs.Records.{named}
@@ -40,29 +38,10 @@ module _ {X : Type 0} where
   pub entries-empty : table.entries (table.empty {X = X} {R = order}) ≡ []
   entries-empty = entries-found table.empty [] tt (table.get-empty order)
 
-  find_below : (q : List ℕ) (es : List (List ℕ × X)) → below_all order q es ≡ true
+  pub find_below : (q : List ℕ) (es : List (List ℕ × X)) → below_all order q es ≡ true
       → table.find order q es ≡ None
   find_below q [] below = refl
   find_below q (e ∷ es) below = grind (arith, lower, find_below q es)
-
-  -- a table with each of the entries put in, the first one first
-  abbrev pub filled : table.FinMap order X → List (List ℕ × X) → table.FinMap order X
-  filled = fold (λ m e. table.insert m e.0 e.1)
-
-  get-filled : (m : table.FinMap order X) (es : List (List ℕ × X)) (q : List ℕ)
-      → is_sorted order es ≡ true
-      → table.get (filled m es) q ≡ option_or (table.find order q es) (table.get m q)
-  get-filled m [] q sorted = refl
-  get-filled m (e ∷ es) q sorted =
-      let more = get-filled (table.insert m e.0 e.1) es q in
-      let same = tells_apart exact_bytes q e.0 in
-      grind (arith, more, table.gets, find_below q es, same)
-
-  pub entries-filled : (es : List (List ℕ × X)) → is_sorted order es ≡ true
-      → table.entries (filled table.empty es) ≡ es
-  entries-filled es sorted =
-      entries-found (filled table.empty es) es (rw sorted tt) (λ q.
-      grind (arith, get-filled table.empty es q, table.gets))
 
 -- ---- what holds of each entry, after a record is put or removed
 

@@ -6,12 +6,15 @@ use Rattle.std.specs.Cmp.Lexicographic.{nat_list_cmp_total}
 use Rattle.std.specs.FinMap as table
 use Rattle.std.specs.FinMap.Entries.{below_all, is_sorted}
 use Rattle.std.specs.declared.cmp.Ordering.TheVariants.{Less}
+use Rattle.std.specs.Option.{option_or}
 use Rattle.std.proofs.lemmas.Bool.{and_parts}
 use Rattle.std.proofs.lemmas.List.{nil_from_length}
 use Rattle.std.proofs.lemmas.List.Elements.{All-cons, All-head, All-nil, All-same, All-tail}
+use Rattle.std.proofs.lemmas.Map.Lookups.{exact_bytes}
+use Rattle.std.proofs.lemmas.Map.Views.{tells_apart}
 use Rattle.ring_store.specs.Text.{AreLines, IsEntry, lines_of, record_then}
 use Rattle.ring_store.specs.declared.credential.Record.{Record}
-use Rattle.ring_store.proofs.Entries.{entries-filled, filled, lower}
+use Rattle.ring_store.proofs.Entries.{entries-found, find_below, lower}
 use Rattle.ring_store.proofs.Names.{order}
 use Rattle.ring_store.proofs.Texts.{lines_of-cons, lines_of-injective, no_line, record_then-grows}
 use Rattle.ring_store.proofs.Texts.{record_then-injective}
@@ -90,7 +93,8 @@ pub record IsReadInto (records : table.FinMap order Record) (lines rest : List �
   pub last : List ℕ
   pub all : AreLines [] lines
   pub left : AreLines last rest
-  pub whole : filled records left.records ≡ filled table.empty all.records
+  pub found : (q : List ℕ) → option_or (table.find order q left.records) (table.get records q)
+      ≡ table.find order q all.records
 
 pub read_none : {records : table.FinMap order Record} {lines : List ℕ} → records ≡ table.empty
     → AreLines [] lines → IsReadInto records lines lines
@@ -98,7 +102,7 @@ read_none none are = record {
   last = [];
   all = are;
   left = are;
-  whole = ap (λ m. filled m are.records) none;
+  found = λ q. grind (arith, table.gets, ap (λ m. table.get m q) none);
 }
 
 pub read_more : {records after : table.FinMap order Record} {lines rest behind : List ℕ}
@@ -110,8 +114,16 @@ read_more {records} read e line is put =
       last = e.0;
       all = read.all;
       left = first.left;
-      whole = ap (λ m. filled m first.left.records) put ∙ ap (filled records) (sym first.is)
-          ∙ read.whole;
+      found = λ q. grind (
+        arith,
+        read.found q,
+        ap (table.find order q) first.is,
+        ap (λ m. table.get m q) put,
+        table.gets,
+        find_below q first.left.records,
+        tells_apart exact_bytes q e.0,
+        first.left.after,
+      );
     }
 
 -- the entries of a table with these lines
@@ -121,8 +133,9 @@ pub read_all : {records : table.FinMap order Record} {lines rest : List ℕ}
 read_all {records} {rest = rest} read none =
     let left = lines_of-injective read.left.records [] read.left.entries (All-nil IsEntry)
     (read.left.whole ∙ nil_from_length rest none) in
-    let same = ap table.entries (ap (filled records) (sym left) ∙ read.whole)
-    ∙ entries-filled read.all.records read.all.rise in
+    let same = entries-found records read.all.records (rw read.all.rise tt) (λ q.
+    ap (λ es. option_or (table.find order q es) (table.get records q)) (sym left)
+    ∙ read.found q) in
     (ap lines_of same ∙ read.all.whole, All-same IsEntry _ _ same read.all.entries)
 
 pub ruleset lines = (record_then-grows, no_bad_line, read_none)

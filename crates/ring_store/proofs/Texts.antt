@@ -82,3 +82,6 @@ hex_cut {end} cut none bytes rest h e =
 
 -- how many digits some bytes have
 pub ruleset hex_lengths = (length-encode_with)
+
+-- what is appended piece by piece
+pub ruleset appended = (append_assoc)

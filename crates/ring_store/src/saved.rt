@@ -44,6 +44,7 @@ impl<A: Allocator + Copy> PasswordStore<A> {
     /// Whoever has the text can guess at the passwords at the cost of a derivation for each guess.
     ///
     /// Refused only if there is no memory for the text.
+    #[tactic(auto, using(crate::proofs::Texts::appended), unfolding(crate::specs::Text::head_then))]
     pub fn to_text(&self, alloc: A) -> Result<Vec<u8, A>, AllocError>
         ensures { IfOk result (λ text. text.items ≡ text_of self.now) }
     {

@@ -91,9 +91,7 @@ fn hex_before<'a>(text: &'a [u8], end: u8, out: &mut [u8]) -> Option<&'a [u8]>
     ensures refused { IsNone result → (bytes rest : List ℕ) → IsBytes bytes
         → length bytes ≡ length out.old → text.now ≢ hex_then bytes end rest }
 {
-    let Some((digits, rest)) = cut_at(text, end) else {
-        return None;
-    };
+    let (digits, rest) = cut_at(text, end)?;
     if !fill_from_hex(digits, out) {
         return None;
     }
@@ -112,13 +110,8 @@ fn name_before<'a, 'b>(
     ensures refused { IsNone result → (name rest : List ℕ) → IsBytes name
         → is_name name ≡ true → text.now ≢ hex_then name end rest }
 {
-    let Some((digits, rest)) = cut_at(text, end) else {
-        return None;
-    };
-    match name_in(digits, room) {
-        Some(name) => Some((name, rest)),
-        None => None,
-    }
+    let (digits, rest) = cut_at(text, end)?;
+    Some((name_in(digits, room)?, rest))
 }
 
 /// Reads the first line of a text. Returns the salt, the iteration count and the text after it.
@@ -129,17 +122,10 @@ pub(crate) fn head_in(text: &[u8]) -> Option<([u8; DB_SALT_LEN], NonZeroU32, &[u
     ensures refused { IsNone result → (db_salt : List ℕ) (c : NonZeroU32) (rest : List ℕ)
         → IsHead db_salt c → text.now ≢ head_then db_salt c rest }
 {
-    let Some(rest) = after(text, MARK) else {
-        return None;
-    };
     let mut db_salt = [0; DB_SALT_LEN];
-    let Some(rest) = hex_before(rest, b' ', &mut db_salt) else {
-        return None;
-    };
-    match count_before(rest, b'\n') {
-        Some((iterations, rest)) => Some((db_salt, iterations, rest)),
-        None => None,
-    }
+    let rest = hex_before(after(text, MARK)?, b' ', &mut db_salt)?;
+    let (iterations, rest) = count_before(rest, b'\n')?;
+    Some((db_salt, iterations, rest))
 }
 
 /// Reads the line of a record, with its name in `room`. Returns the name, the record and the text
@@ -155,16 +141,10 @@ pub(crate) fn record_in<'a, 'b>(
     ensures refused { IsNone result → (e : List ℕ × Record) (rest : List ℕ)
         → IsEntry e → text.now ≢ record_then e rest }
 {
-    let Some((name, rest)) = name_before(text, b' ', room) else {
-        return None;
-    };
-    let Some((iterations, rest)) = count_before(rest, b' ') else {
-        return None;
-    };
+    let (name, rest) = name_before(text, b' ', room)?;
+    let (iterations, rest) = count_before(rest, b' ')?;
     let mut credential = [0; CREDENTIAL_LEN];
-    let Some(rest) = hex_before(rest, b'\n', &mut credential) else {
-        return None;
-    };
+    let rest = hex_before(rest, b'\n', &mut credential)?;
     let kept = Record {
         iterations,
         credential,

@@ -1,7 +1,5 @@
 -- SPDX-License-Identifier: ISC
-use Rattle.std.specs.Prelude.{Some}
-use Rattle.ring_password_hash.specs.Stored.{new_parts}
-use Rattle.ring_examples.proofs.NewValues.{can_keep-new, written-text}
+use Rattle.ring_examples.proofs.NewValues.{can_keep-new, reads-value, written-text}
 use Rattle.ring_examples.proofs.rows.new_text.Goals as goal
 
 pub returns-clause-right : goal.returns-clause-right
@@ -10,9 +8,6 @@ returns-clause-right g c = λ most within.
     let k = c.args.scheme in
     let p = c.args.password.now in
     let s = c.as_ref.result.now in
-    record {
-      found = Some (new_parts k p s c.args.iterations);
-      reads = written-text c.in_ok-stored.stored _ c.in_ok-len.ensures made.2 made.1;
-      holds = c.new_value_is_the_passwords.ensures k p s c.args.iterations most
-          (can_keep-new _ k p s c.args.iterations made.0) within;
-    }
+    let can = can_keep-new _ k p s c.args.iterations made.0 in
+    reads-value (written-text c.in_ok-stored.stored _ c.in_ok-len.ensures made.2 made.1)
+    (c.new_value_is_the_passwords.ensures k p s c.args.iterations most can within)

@@ -1,7 +1,8 @@
 -- SPDX-License-Identifier: ISC
 use Rattle.std.proofs.Common.{◌∙◌, ap, sym}
 use Rattle.std.specs.Prelude.{Some}
-use Rattle.ring_password_hash.specs.Stored.{Parts, answer_of, parts_of}
+use Rattle.ring_password_hash.specs.Stored.{Parts, answer_of}
+use Rattle.ring_examples.proofs.NewValues.{reads-value}
 use Rattle.ring_examples.proofs.verifiers.log_in.Goals as goal
 
 pub returns-then-ne-clause-right : goal.returns-then-ne-clause-right
@@ -18,8 +19,5 @@ returns-in_err-verify-clause-right c = λ h has is right ascii.
     ∙ right))
 
 pub returns-clause-ok : goal.returns-clause-ok
-returns-clause-ok c = λ told. record {
-  found = Some (parts_of c.in_ok-stored.stored);
-  reads = c.in_ok-stored.ensures.0;
-  holds = sym c.in_ok-verify.ensures;
-}
+returns-clause-ok c = λ told.
+    reads-value c.in_ok-stored.ensures.0 (sym c.in_ok-verify.ensures)

@@ -5,15 +5,15 @@ use Rattle.ring_store.specs.Text.{head_then, hex_then}
 use Rattle.ring_store.proofs.Texts.{hex_then-injective}
 use Rattle.ring_store.proofs.text.head_in.Goals as goal
 
-pub returns-in_default-clause-refused : goal.returns-in_default-clause-refused
+pub returns-in_err-after-clause-refused : goal.returns-in_err-after-clause-refused
 unfolding head_then
-returns-in_default-clause-refused c = λ _ salt d rest h e.
-    c.in_default.ensures.refused refl (hex_then salt 32 (count_then d 10 rest)) e
+returns-in_err-after-clause-refused c = λ _ salt d rest h e.
+    c.in_err-after.ensures.refused refl (hex_then salt 32 (count_then d 10 rest)) e
 
-pub returns-in-None-clause-refused : goal.returns-in-None-clause-refused
+pub returns-in_err-iterations-clause-refused : goal.returns-in_err-iterations-clause-refused
 unfolding head_then
-returns-in-None-clause-refused c = λ _ salt d rest h e.
-    let read = c.in-Some-hex_before.ensures.ok in
-    let behind = sym read.0 ∙ ap (drop 13) (sym c.in-Some.ensures.ok ∙ e) in
+returns-in_err-iterations-clause-refused c = λ _ salt d rest h e.
+    let read = c.in_ok-rest.ensures.ok in
+    let behind = sym read.0 ∙ ap (drop 13) (sym c.in_ok-after.ensures.ok ∙ e) in
     let same = hex_then-injective 32 refl read.1 h.salt_bytes behind in
-    c.in-None.ensures.refused refl d rest h.iterations same.1
+    c.in_err-iterations.ensures.refused refl d rest h.iterations same.1

@@ -72,7 +72,7 @@ pub fn sign_counted(key: &Key, message: &[u8], meter: &mut Meter) -> Result<Tag,
     // This needs no `Context`, as `digest_counted` needs none.
     let mut inner = key.inner.clone();
     let rest = inner.update(message, meter);
-    let digest = inner.try_finish(rest, meter)?;
+    let digest = inner.finish_within(rest, meter);
     Ok(Tag::of_inner(&digest, &key.outer, meter))
 }
 

@@ -25,6 +25,7 @@
 //! | `LaneWord` | a word, or a vector of words | what rounds run over: one block, or several |
 //! | `Vector` | a vector of words | what a vector has besides: one lane read or set, and shifts |
 //! | `FourWords` | a word | how four words of one block stand in a vector |
+//! | `BlockWords` | a kind of block | the words by which a window is filled |
 //! | `ExtendByFour` | words of SHA-2 | the next four words of the schedule |
 //! | `ExtendByTwo` | words of SHA-2, or such in lanes | the next two words of a window |
 //! | `Sha1ByTwo` | words of 32 bits, or such in lanes | the same of SHA-1 |

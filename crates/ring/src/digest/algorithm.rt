@@ -216,7 +216,7 @@ impl Algorithm {
 
 // Whether a message of `len` bytes has a digest. A call that knows the whole length tests it first,
 // so that it runs no block for a message that it refuses. A context knows the length only at its
-// end, so `BlockContext::try_finish` tests it again, for all.
+// end, where `BlockContext::try_finish` tests it.
 pub(crate) fn is_message_within(algorithm: &Algorithm, len: u128) -> bool
     ensures { IsTrue result ↔ IsMessageWithin algorithm.now len }
 {

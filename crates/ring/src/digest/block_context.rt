@@ -16,7 +16,7 @@ ghost use Rattle.ring.specs.State.{chaining_words, is_state_of, spare_words, wor
 ghost use Rattle.ring.specs.declared.digest.algorithm.Algorithm.{Algorithm};
 
 use crate::digest::algorithm::{Algorithm, MAX_BLOCK_LEN, is_message_within};
-use crate::digest::dynstate::{DynState, Output, long_output, short_output};
+use crate::digest::dynstate::{DynState, Output, long_output, short_output, two_long_words};
 use ring_core::bits::{BitLength, FromByteLen};
 use ring_core::cost::Meter;
 use ring_core::digest::sha1::sha1_block_data_order_counted;
@@ -143,6 +143,9 @@ pub(crate) fn write_tail(
     len
 }
 
+// A word of 64 bits is below this.
+const LONG_WORD: u128 = 1 << 64;
+
 // Writes the length field before the place `end`. Each size of the field has a branch of its own,
 // in which the length of the copy is a constant: the copy is then a few instructions.
 #[tactic(auto, using(crate::proofs::lemmas::digest::Tails::length_rules))]
@@ -163,13 +166,17 @@ fn put_length(algorithm: Algorithm, bytes: &mut [u8; MAX_TAIL_LEN], end: usize, 
     }
 }
 
-// The length of the message in bits, high byte first. A field of eight bytes is the last half.
+// The length of the message in bits, high byte first. A field of eight bytes is the last half. The
+// compiler takes `to_be_bytes` of such a product apart into 25 instructions.
 fn bit_len_field(message_len: u128) -> [u8; LONG_LENGTH_LEN]
     requires { message_len < 2 ^ 125 }
     ensures { result ≡ bytes_high_first 16 (8 * message_len) }
 {
     match BitLength::<u128>::from_byte_len(message_len) {
-        Ok(bit_len) => bit_len.to_be_bytes(),
+        Ok(bit_len) => {
+            let bits = bit_len.as_bits();
+            two_long_words((bits / LONG_WORD) as u64, (bits % LONG_WORD) as u64)
+        }
         // Eight times a number below 2^125 fits 128 bits.
         Err(_) => unreachable!(),
     }
@@ -310,6 +317,34 @@ impl BlockContext {
         }
     }
 
+    // The length of the blocks and of the pending bytes, at most `u128::MAX`.
+    fn len_with(&self, pending: &[u8]) -> u128
+        ensures { result ≡ cut_off (counted_bytes self.now + length pending.now) }
+    {
+        self.completed_bytes.saturating_add(pending.len() as u128)
+    }
+
+    // The digest of the blocks and of the pending bytes, whose message is within the limit.
+    pub(crate) fn finish_within(&self, pending: &[u8], meter: &mut Meter) -> Digest
+        requires partial { length pending.now < block_len (block_algorithm self.now) }
+        requires within { cut_off (counted_bytes self.now + length pending.now)
+            ≤ max_input_len (block_algorithm self.now) }
+        ensures ok { (p : List ℕ) → HasTaken self.now p
+            → IsDigest result (block_algorithm self.now) (p ++ pending.now) }
+        ensures any { bytes_of result
+            ≡ digest_after (block_algorithm self.now) (block_words self.now) pending.now
+            (cut_off (counted_bytes self.now + length pending.now)) }
+        ensures cost { meter.new
+            ≡ raised meter.old (padded_blocks (block_algorithm self.now) (length pending.now)) 0 }
+        ensures algorithm { digest_algorithm result ≡ block_algorithm self.now }
+    {
+        let message_len = self.len_with(pending);
+        let mut tail = [0; MAX_TAIL_LEN];
+        let len = write_tail(self.algorithm, pending, message_len, &mut tail);
+        let output = self.output_after(&tail[..len], meter);
+        Digest::new(output, self.algorithm)
+    }
+
     // The digest of the blocks and of the pending bytes.
     pub(crate) fn try_finish(
         &self,
@@ -331,14 +366,11 @@ impl BlockContext {
         ensures algorithm { IfOk result (λ digest.
             digest_algorithm digest ≡ block_algorithm self.now) }
     {
-        let message_len = self.completed_bytes.saturating_add(pending.len() as u128);
+        let message_len = self.len_with(pending);
         if !is_message_within(&self.algorithm, message_len) {
             return Err(Unspecified);
         }
-        let mut tail = [0; MAX_TAIL_LEN];
-        let len = write_tail(self.algorithm, pending, message_len, &mut tail);
-        let output = self.output_after(&tail[..len], meter);
-        Ok(Digest::new(output, self.algorithm))
+        Ok(self.finish_within(pending, meter))
     }
 }
 

@@ -180,7 +180,7 @@ pub fn digest_counted(
     // This needs no `Context`: the bytes past the whole blocks are padded straight from `message`.
     let mut blocks = BlockContext::new(algorithm);
     let rest = blocks.update(message, meter);
-    blocks.try_finish(rest, meter)
+    Ok(blocks.finish_within(rest, meter))
 }
 
 /// Returns the digest of `message` under `algorithm` (FIPS 180-4, section 6).

@@ -41,11 +41,7 @@ impl Tag {
         ensures cost { meter.new ≡ raised meter.old 1 0 }
         ensures algorithm { tag_algorithm result ≡ block_algorithm outer.now }
     {
-        match outer.try_finish(digest.as_ref(), meter) {
-            Ok(value) => Tag(value),
-            // A block and a digest are within each limit.
-            Err(_) => unreachable!(),
-        }
+        Tag(outer.finish_within(digest.as_ref(), meter))
     }
 
     /// The bytes of the tag, as many as a digest of its algorithm has.

@@ -5,7 +5,7 @@ use Rattle.std.proofs.Common.{◌≡◌, ℕ, zero, suc, ◌+◌, ◌-◌, ◌*�
 use Rattle.std.proofs.Common.{◌∷◌, ◌++◌, length, take, drop, replicate, slice_index, get_or, refl}
 use Rattle.std.proofs.Common.{sym, ap, ◌∙◌, arith, length-append, map, take-add}
 use Rattle.std.proofs.lemmas.List.{take_at, drop_at, get_or-map, drop-drop, drop-replicate}
-use Rattle.std.proofs.lemmas.List.{append_assoc, length-take-le}
+use Rattle.std.proofs.lemmas.List.{append_assoc, length-map, length-take-le, take_all}
 use Rattle.std.proofs.lemmas.List.Concat.{flat_map-append}
 use Rattle.std.proofs.lemmas.Simd.{get_or_narrower}
 use Rattle.std.specs.Int.{byte_at, bytes_high_first}
@@ -82,6 +82,19 @@ four_words w ws i d h =
     (λ t. two_words w ws i d (omega arith) t ++ last t)
     ∙ sym (take-add 2 2 (drop i xs) ∙ ap (λ z. take 2 (drop i xs) ++ take 2 z) (drop-drop 2 i xs))
 
+-- the numbers of eight words
+pub eight_words : (w : ℕ) (ws : List (Wrapping ℕ)) (d : Wrapping ℕ) → length ws ≡ 8
+    → (get_or ws 0 d).0 % 2 ^ w ∷ (get_or ws 1 d).0 % 2 ^ w ∷ (get_or ws 2 d).0 % 2 ^ w
+    ∷ (get_or ws 3 d).0 % 2 ^ w ∷ (get_or ws 4 d).0 % 2 ^ w ∷ (get_or ws 5 d).0 % 2 ^ w
+    ∷ (get_or ws 6 d).0 % 2 ^ w ∷ (get_or ws 7 d).0 % 2 ^ w ∷ []
+    ≡ map (λ (x : Wrapping ℕ). x.0 % 2 ^ w) ws
+eight_words w ws d h =
+    let xs = map (λ (x : Wrapping ℕ). x.0 % 2 ^ w) ws in
+    let first = four_words w ws 0 d (omega arith) in
+    let last = four_words w ws 4 d (omega arith) in
+    let long : length xs ≤ 8 = rw length-map (omega arith) in
+    (λ t. first t ++ last t) ∙ sym (take-add 4 4 xs) ∙ take_all 8 xs long
+
 -- byte i of a number
 pub byte_is : (i x : ℕ) → x / 256 ^ i % 256 ≡ byte_at i x
 byte_is zero x = omega arith
@@ -109,3 +122,17 @@ lane_bytes k n xs j (suc i) fits below within =
     let one = lane_byte k n xs j i fits (omega arith) (omega arith) in
     let rest = lane_bytes k n xs j i fits (omega arith) within in
     (λ t. one t ∷ rest t)
+
+-- the sixteen bytes of a number are those of its halves
+pub bytes-halves : (x : ℕ) → x < 2 ^ 128
+    → bytes_high_first 16 x ≡ bytes_high_first 8 (x / 2 ^ 64) ++ bytes_high_first 8 (x % 2 ^ 64)
+bytes-halves x fits =
+    let xs : List ℕ = x % 2 ^ 64 ∷ x / 2 ^ 64 ∷ [] in
+    let same : number_l (256 ^ 8) xs ≡ number_l (256 ^ 16) (x ∷ []) = omega arith in
+    let whole = lane_bytes 16 16 (x ∷ []) 0 16 (omega arith, tt) (omega arith) (omega arith) in
+    let half = λ (j : ℕ) (within : 8 * j + 8 ≤ 16).
+    lane_bytes 8 16 xs j 8 (omega arith, (omega arith, tt)) (omega arith) within in
+    let high = half 1 (omega arith) in
+    let low = half 0 (omega arith) in
+    sym whole ∙ sym (ap (λ (z : ℕ). map (λ m. get_or (digits_l 256 16 z) m 0) (down 16)) same)
+    ∙ (λ t. high t ++ low t)

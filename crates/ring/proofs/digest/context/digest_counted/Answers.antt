@@ -1,7 +1,6 @@
 -- SPDX-License-Identifier: ISC
 use Rattle.std.proofs.Common.{length, ◌∙◌}
 use Rattle.ring.proofs.Lengths.{HasCounted, counted_end}
-use Rattle.std.proofs.lemmas.Result.{on_ok_weaker}
 use Rattle.ring.proofs.lemmas.digest.Updating.{moved_count}
 use Rattle.ring.proofs.digest.context.digest_counted.Goals as goal
 
@@ -16,5 +15,4 @@ returns-clause-cost c =
     let left = rw new.algorithm at count.1 in
     let taken : HasCounted a (length c.update-rest.result.now) n c.args.meter.now _ =
     record { pending = left; cost = blocks } in
-    on_ok_weaker c.try_finish.result (counted_end (update.moved.algorithm ∙ new.algorithm) taken)
-    c.try_finish.ensures.cost
+    counted_end (update.moved.algorithm ∙ new.algorithm) taken c.finish_within.ensures.cost

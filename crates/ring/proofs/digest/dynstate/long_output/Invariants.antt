@@ -4,7 +4,7 @@ use Rattle.ring_core.specs.Prelude.{words_64}
 use Rattle.ring.specs.Prelude.{word_bytes}
 use Rattle.ring.proofs.digest.dynstate.long_output.Given as goal
 
-abbrev pub invariant-pairs : goal.invariant-pairs
-invariant-pairs l =
+abbrev pub invariant-halves : goal.invariant-halves
+invariant-halves l =
     l.out
-    ≡ word_bytes 8 (take (2 * l.i) (words_64 l.words)) ++ replicate (64 - 8 * (2 * l.i)) 0
+    ≡ word_bytes 8 (take (4 * l.i) (words_64 l.words)) ++ replicate (64 - 8 * (4 * l.i)) 0

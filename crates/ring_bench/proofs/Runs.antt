@@ -272,3 +272,12 @@ module _ {known left : Option (List ℕ)} {line : List ℕ} {s : Status} {a b : 
         Consumes-whole known later r.read _ taken end all.0,
         Consumes-whole known later r.read _ taken end all.1,
       )
+
+-- it stopped at one of the lines of a piece
+pub Reached-stopped : {known left : Option (List ℕ)} {line : List ℕ} {s : Status}
+    {a b c : Option (List ℕ)} (r : Reached known left line s a b)
+    (later : Option (List ℕ)) (piece : List ℕ) → Consumes left later piece
+    → Stopped (line ++ piece) s b c → IfSome known (λ text.
+    (k : ℕ) × (k < length (lines text)) × Appends a c (replies (take k (lines text))))
+Reached-stopped r later piece read stopped =
+    Reached-left (Reached-more r later piece read stopped.answered) stopped.more

@@ -16,7 +16,7 @@ ghost use Rattle.ring.specs.State.{chaining_words, is_state_of, spare_words, wor
 ghost use Rattle.ring.specs.declared.digest.algorithm.Algorithm.{Algorithm};
 
 use crate::digest::algorithm::{Algorithm, MAX_BLOCK_LEN, is_message_within};
-use crate::digest::dynstate::{DynState, Output, long_output, short_output, two_long_words};
+use crate::digest::dynstate::{DynState, Output, long_output, short_output};
 use ring_core::bits::{BitLength, FromByteLen};
 use ring_core::cost::Meter;
 use ring_core::digest::sha1::sha1_block_data_order_counted;
@@ -26,6 +26,7 @@ use ring_core::digest::sha2::{
 use ring_core::error::Unspecified;
 use ring_core::polyfill::slice::as_chunks;
 use std::fmt;
+use std::simd::Simd;
 
 // Advances `words`, of an algorithm of 64-bit words, over the whole blocks of `input`, and returns
 // the bytes past them.
@@ -175,7 +176,11 @@ fn bit_len_field(message_len: u128) -> [u8; LONG_LENGTH_LEN]
     match BitLength::<u128>::from_byte_len(message_len) {
         Ok(bit_len) => {
             let bits = bit_len.as_bits();
-            two_long_words((bits / LONG_WORD) as u64, (bits % LONG_WORD) as u64)
+            let words = Simd::from_array([(bits / LONG_WORD) as u64, (bits % LONG_WORD) as u64]);
+            words
+                .to_le_bytes()
+                .swizzle([7, 6, 5, 4, 3, 2, 1, 0, 15, 14, 13, 12, 11, 10, 9, 8])
+                .to_array()
         }
         // Eight times a number below 2^125 fits 128 bits.
         Err(_) => unreachable!(),

@@ -18,7 +18,8 @@ returns-clause-cost c =
     let count = moved_count update.moved update.short in
     let taken : HasCounted a (length c.update-rest.result.now) n c.args.meter.now _ =
     record { pending = rw same at count.1; cost = rw (count.0, same) at update.moved.cost } in
-    let inner = counted_end (update.moved.algorithm ∙ same) taken c.finish_within-digest.ensures.cost in
+    let ended = c.finish_within-digest.ensures.cost in
+    let inner = counted_end (update.moved.algorithm ∙ same) taken ended in
     grind (arith, raised-raised)
 
 pub returns-clause-plain : goal.returns-clause-plain

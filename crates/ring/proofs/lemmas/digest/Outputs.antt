@@ -1,18 +1,16 @@
 -- SPDX-License-Identifier: ISC
 -- How the bytes of words are written one word after another.
-use Rattle.std.proofs.lemmas.Grind.{common_steps}
-use Rattle.std.proofs.Common.{◌≡◌, ℕ, zero, suc, ◌+◌, ◌-◌, ◌*◌, ◌/◌, ◌%◌, ◌^◌, ◌<◌, ◌≤◌, List, []}
-use Rattle.std.proofs.Common.{◌∷◌, ◌++◌, length, take, drop, replicate, slice_index, get_or, refl}
-use Rattle.std.proofs.Common.{sym, ap, ◌∙◌, arith, length-append, map, take-add}
-use Rattle.std.proofs.lemmas.List.{take_at, drop_at, get_or-map, drop-drop, drop-replicate}
-use Rattle.std.proofs.lemmas.List.{append_assoc, length-map, length-take-le, take_all}
-use Rattle.std.proofs.lemmas.List.Concat.{flat_map-append}
+use Rattle.std.proofs.Common.{◌≡◌, ℕ, zero, suc, ◌+◌, ◌*◌, ◌/◌, ◌%◌, ◌^◌, ◌<◌, ◌≤◌, List, []}
+use Rattle.std.proofs.Common.{◌∷◌, ◌++◌, length, drop, get_or, refl}
+use Rattle.std.proofs.Common.{sym, ap, ◌∙◌, arith, length-append, map}
+use Rattle.std.proofs.Math.Nat.{mod-eq_of_lt}
+use Rattle.std.proofs.Math.Seq.{drop-cons}
+use Rattle.std.proofs.lemmas.List.{drop_all, drop_more}
 use Rattle.std.proofs.lemmas.Simd.{get_or_narrower}
 use Rattle.std.specs.Int.{byte_at, bytes_high_first}
 use Rattle.std.specs.Simd.Lanes.{Each1, digits_l, number_l}
 use Rattle.std.specs.declared.num.Wrapping.{Wrapping}
 use Rattle.ring.specs.Prelude.{word_bytes}
-use borrow.Rule.Slice.PartMut.{put_mid}
 
 pub length-bytes_high_first : (n x : ℕ) → length (bytes_high_first n x) ≡ n
 length-bytes_high_first zero x = refl
@@ -29,71 +27,21 @@ length-word_bytes n (w ∷ ws) =
       length-word_bytes n ws,
     )
 
--- the bytes of some words more
-word_bytes-more : (n : ℕ) (ws : List ℕ) (i m : ℕ)
-    → word_bytes n (take (i + m) ws) ≡ word_bytes n (take i ws) ++ word_bytes n (take m (drop i ws))
-word_bytes-more n ws i m = rw (take-add i m ws, flat_map-append) refl
+-- the numbers of c words of a list, from word i on
+abbrev pub numbers : (ws : List (Wrapping ℕ)) (i c : ℕ) → List ℕ
+numbers ws i zero = []
+numbers ws i (suc c) = (get_or ws i (record { 0 = 0 })).0 ∷ numbers ws (i + 1) c
 
--- m words from word i on, of n bytes each: k bytes at the place `at`, within the 64 of an output
-pub record IsPart (n i m j at k : ℕ) : Type 0 where
-  pub words : j ≡ i + m
-  pub place : at ≡ n * i
-  pub bytes : k ≡ n * m
-  pub fits : n * i + n * m ≤ 64
-
--- some words more written over the zeros
-pub output_more : {out ys : List ℕ} {j at k : ℕ} (n : ℕ) (ws : List ℕ) (i m : ℕ)
-    → out ≡ word_bytes n (take i ws) ++ replicate (64 - n * i) 0
-    → i ≤ length ws → IsPart n i m j at k → ys ≡ word_bytes n (take m (drop i ws))
-    → put_mid at k out ys ≡ word_bytes n (take j ws) ++ replicate (64 - n * j) 0
-output_more {out} n ws i m e h part ey =
-    grind (
-      arith,
-      append_assoc,
-      drop-replicate,
-      drop_at,
-      length-take-le,
-      length-word_bytes,
-      take_at,
-      word_bytes-more,
-    )
-
--- the number of a word of w bits in a list
-word_at : (w : ℕ) (ws : List (Wrapping ℕ)) (i : ℕ) (d : Wrapping ℕ) → i < length ws
-    → (get_or ws i d).0 % 2 ^ w ≡ slice_index (map (λ (x : Wrapping ℕ). x.0 % 2 ^ w) ws) i
-word_at w ws i d below = sym (get_or-map (λ (x : Wrapping ℕ). x.0 % 2 ^ w) ws i d 0 below)
-
--- the numbers of two words in a list
-pub two_words : (w : ℕ) (ws : List (Wrapping ℕ)) (i : ℕ) (d : Wrapping ℕ) → i + 2 ≤ length ws
-    → (get_or ws i d).0 % 2 ^ w ∷ (get_or ws (i + 1) d).0 % 2 ^ w ∷ []
-    ≡ take 2 (drop i (map (λ (x : Wrapping ℕ). x.0 % 2 ^ w) ws))
-two_words w ws i d h =
-    grind (arith, common_steps, word_at)
-
--- the numbers of four words in a list
-pub four_words : (w : ℕ) (ws : List (Wrapping ℕ)) (i : ℕ) (d : Wrapping ℕ) → i + 4 ≤ length ws
-    → (get_or ws i d).0 % 2 ^ w ∷ (get_or ws (i + 1) d).0 % 2 ^ w
-    ∷ (get_or ws (i + 2) d).0 % 2 ^ w ∷ (get_or ws (i + 3) d).0 % 2 ^ w ∷ []
-    ≡ take 4 (drop i (map (λ (x : Wrapping ℕ). x.0 % 2 ^ w) ws))
-four_words w ws i d h =
-    let xs = map (λ (x : Wrapping ℕ). x.0 % 2 ^ w) ws in
-    let next : i + 2 + 1 ≡ i + 3 = omega arith in
-    let last = rw next at (two_words w ws (i + 2) d (omega arith)) in
-    (λ t. two_words w ws i d (omega arith) t ++ last t)
-    ∙ sym (take-add 2 2 (drop i xs) ∙ ap (λ z. take 2 (drop i xs) ++ take 2 z) (drop-drop 2 i xs))
-
--- the numbers of eight words
-pub eight_words : (w : ℕ) (ws : List (Wrapping ℕ)) (d : Wrapping ℕ) → length ws ≡ 8
-    → (get_or ws 0 d).0 % 2 ^ w ∷ (get_or ws 1 d).0 % 2 ^ w ∷ (get_or ws 2 d).0 % 2 ^ w
-    ∷ (get_or ws 3 d).0 % 2 ^ w ∷ (get_or ws 4 d).0 % 2 ^ w ∷ (get_or ws 5 d).0 % 2 ^ w
-    ∷ (get_or ws 6 d).0 % 2 ^ w ∷ (get_or ws 7 d).0 % 2 ^ w ∷ []
-    ≡ map (λ (x : Wrapping ℕ). x.0 % 2 ^ w) ws
-eight_words w ws d h =
-    let xs = map (λ (x : Wrapping ℕ). x.0 % 2 ^ w) ws in
-    let first = four_words w ws 0 d (omega arith) in
-    let last = four_words w ws 4 d (omega arith) in
-    let long : length xs ≤ 8 = rw length-map (omega arith) in
-    (λ t. first t ++ last t) ∙ sym (take-add 4 4 xs) ∙ take_all 8 xs long
+-- those of all words, of w bits each
+pub numbers_from : (w : ℕ) (ws : List (Wrapping ℕ)) (i c : ℕ) → i + c ≡ length ws
+    → map (λ x. x % 2 ^ w) (numbers ws i c) ≡ map (λ (x : Wrapping ℕ). x.0 % 2 ^ w) (drop i ws)
+numbers_from w ws i zero all =
+    sym (ap (map (λ (x : Wrapping ℕ). x.0 % 2 ^ w)) (drop_all i ws (omega arith)))
+numbers_from w ws i (suc c) all =
+    let d : Wrapping ℕ = record { 0 = 0 } in
+    let rest = numbers_from w ws (i + 1) c (omega arith) in
+    (λ t. (get_or ws i d).0 % 2 ^ w ∷ rest t)
+    ∙ sym (ap (map (λ (x : Wrapping ℕ). x.0 % 2 ^ w)) (drop_more ws i d (omega arith)))
 
 -- byte i of a number
 pub byte_is : (i x : ℕ) → x / 256 ^ i % 256 ≡ byte_at i x
@@ -122,6 +70,34 @@ lane_bytes k n xs j (suc i) fits below within =
     let one = lane_byte k n xs j i fits (omega arith) (omega arith) in
     let rest = lane_bytes k n xs j i fits (omega arith) within in
     (λ t. one t ∷ rest t)
+
+-- the bytes of lane j and of those after it, c lanes of k bytes, where each is swapped
+abbrev pub swapped : (k n : ℕ) (xs : List ℕ) (j c : ℕ) → List ℕ
+swapped k n xs j zero = []
+swapped k n xs j (suc c) =
+    map (λ m. get_or (digits_l 256 n (number_l (256 ^ k) xs)) (k * j + m) 0) (down k)
+    ++ swapped k n xs (suc j) c
+
+swapped_from : (k n : ℕ) (xs : List ℕ) (j c : ℕ) → Each1 (λ x. x < 256 ^ k) xs
+    → j + c ≡ length xs → n ≡ k * length xs → swapped k n xs j c ≡ word_bytes k (drop j xs)
+swapped_from k n xs j zero fits all e = sym (ap (word_bytes k) (drop_all j xs (omega arith)))
+swapped_from k n xs j (suc c) fits all e =
+    let parts : k * (j + suc c) ≡ k * j + k * c + k = grind arith in
+    let within : k * j + k ≤ n = omega (arith, parts, ap (λ l. k * l) all, e) in
+    let one = lane_bytes k n xs j k fits (omega arith) within in
+    let rest = swapped_from k n xs (suc j) c fits (omega arith) e in
+    (λ t. one t ++ rest t) ∙ sym (ap (word_bytes k) (drop-cons xs j 0 (omega arith)))
+
+remainders : (m : ℕ) (xs : List ℕ) → Each1 (λ x. x < m) xs → map (λ x. x % m) xs ≡ xs
+remainders m [] fits = refl
+remainders m (x ∷ xs) (below, fits) = λ t. mod-eq_of_lt below t ∷ remainders m xs fits t
+
+-- the bytes of words of k bytes, swapped in a vector
+pub swapped_words : (k : ℕ) (xs : List ℕ) → Each1 (λ x. x < 256 ^ k) xs
+    → swapped k (k * length xs) xs 0 (length xs) ≡ word_bytes k (map (λ x. x % 256 ^ k) xs)
+swapped_words k xs fits =
+    swapped_from k (k * length xs) xs 0 (length xs) fits (omega arith) refl
+    ∙ sym (ap (word_bytes k) (remainders (256 ^ k) xs fits))
 
 -- the sixteen bytes of a number are those of its halves
 pub bytes-halves : (x : ℕ) → x < 2 ^ 128

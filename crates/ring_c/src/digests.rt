@@ -36,11 +36,14 @@ pub extern "C" fn yz_digest(algorithm: u32, message: &[u8], out: &mut [u8]) -> i
     if out.len() != algorithm.output_len() {
         return WRONG_LENGTH;
     }
-    let Ok(made) = digest::digest(&algorithm, message) else {
-        return UNSPECIFIED;
-    };
-    out.copy_from_slice(made.as_ref());
-    OK
+    // It is read where it stands, since a binding of it would be a copy.
+    match &digest::digest(&algorithm, message) {
+        Ok(made) => {
+            out.copy_from_slice(made.as_ref());
+            OK
+        }
+        Err(_) => UNSPECIFIED,
+    }
 }
 
 /// Starts in `context` the digest of a message that arrives in pieces, by the digest algorithm of
@@ -110,9 +113,11 @@ pub extern "C" fn yz_digest_final(context: &RawContext, out: &mut [u8]) -> i32
     if out.len() != named.output_len() {
         return WRONG_LENGTH;
     }
-    let Some(Ok(made)) = context.finish() else {
-        return UNSPECIFIED;
-    };
-    out.copy_from_slice(made.as_ref());
-    OK
+    match &context.finish() {
+        Some(Ok(made)) => {
+            out.copy_from_slice(made.as_ref());
+            OK
+        }
+        _ => UNSPECIFIED,
+    }
 }

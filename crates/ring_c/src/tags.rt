@@ -33,11 +33,13 @@ pub(crate) fn write_tag(key: &Key, message: &[u8], out: &mut [u8]) -> i32
     } }
     ensures unchanged { result ≢ YZ_OK → out.new ≡ out.old }
 {
-    let Ok(tag) = hmac::sign(key, message) else {
-        return UNSPECIFIED;
-    };
-    out.copy_from_slice(tag.as_ref());
-    OK
+    match &hmac::sign(key, message) {
+        Ok(tag) => {
+            out.copy_from_slice(tag.as_ref());
+            OK
+        }
+        Err(_) => UNSPECIFIED,
+    }
 }
 
 // Verifies the tag of a message.
@@ -242,9 +244,11 @@ pub extern "C" fn yz_hmac_final(context: &RawTagContext, out: &mut [u8]) -> i32
     if out.len() != named.output_len() {
         return WRONG_LENGTH;
     }
-    let Some(Ok(tag)) = context.finish() else {
-        return UNSPECIFIED;
-    };
-    out.copy_from_slice(tag.as_ref());
-    OK
+    match &context.finish() {
+        Some(Ok(tag)) => {
+            out.copy_from_slice(tag.as_ref());
+            OK
+        }
+        _ => UNSPECIFIED,
+    }
 }

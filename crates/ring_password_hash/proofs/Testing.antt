@@ -1,6 +1,6 @@
 -- SPDX-License-Identifier: ISC
 -- A test of a password against what is kept.
-use Rattle.std.proofs.Common.{◌≡◌, ◌≢◌, ◌+◌, ◌∙◌, ℕ, Bool, false, List, arith, length}
+use Rattle.std.proofs.Common.{◌≡◌, ◌≢◌, ◌+◌, ◌∙◌, ℕ, false, List, arith, length}
 use Rattle.std.proofs.Common.{refl, subst, sym}
 use Rattle.std.specs.Prelude.{Err, Ok, Some, nat_lt}
 use Rattle.std.proofs.lemmas.Bool.{eq-eqb, false_from_ne_true}

@@ -466,33 +466,23 @@ L(CPI66_4):
 L(CPI66_5):
 	.long 0x5a827999, 0x5a827999, 0x5a827999, 0x5a827999
 L(CPI66_6):
-	.byte 0x03, 0x02, 0x01, 0x00, 0x07, 0x06, 0x05, 0x04, 0x00, 0x00, 0x00, 0x00, 0x00, 0x00, 0x00, 0x00
-L(CPI66_7):
-	.byte 0x0b, 0x0a, 0x09, 0x08, 0x00, 0x00, 0x00, 0x00, 0x00, 0x00, 0x00, 0x00, 0x00, 0x00, 0x00, 0x00
-L(CPI66_8):
 	.long 0x04050607, 0x00010203, 0x0c0d0e0f, 0x08090a0b
-L(CPI66_9):
+L(CPI66_7):
 	.long 0xec4d3b2f, 0xb5c0fbcf, 0x8189dbbc, 0xe9b5dba5
-L(CPI66_10):
+L(CPI66_8):
 	.long 0xd728ae22, 0x428a2f98, 0x23ef65cd, 0x71374491
-L(CPI66_11):
+L(CPI66_9):
 	.long 0xaf194f9b, 0x923f82a4, 0xda6d8118, 0xab1c5ed5
-L(CPI66_12):
+L(CPI66_10):
 	.long 0xf348b538, 0x3956c25b, 0xb605d019, 0x59f111f1
-L(CPI66_13):
+L(CPI66_11):
 	.long 0x4ee4b28c, 0x243185be, 0xd5ffb4e2, 0x550c7dc3
-L(CPI66_14):
+L(CPI66_12):
 	.long 0xa3030242, 0xd807aa98, 0x45706fbe, 0x12835b01
-L(CPI66_15):
+L(CPI66_13):
 	.long 0xf27b896f, 0x72be5d74, 0x3b1696b1, 0x80deb1fe
-L(CPI66_16):
+L(CPI66_14):
 	.long 0x25c71235, 0x9bdc06a7, 0xcf692694, 0xc19bf174
-	.long 0x04050607, 0x00010203, 0x00000000, 0x00000000
-	.long 0x0c0d0e0f, 0x00000000, 0x00000000, 0x00000000
-L(CPI66_19):
-	.quad 0x0001020304050607, 0x0000000000000000
-L(CPI66_20):
-	.long 0x0c0d0e0f, 0x00000000, 0x00000000, 0x00000000
 L(CPI74_0):
 	.long 0x29292929, 0x29292929, 0x29292929, 0x29292929
 L(CPI79_0):
@@ -40526,17 +40516,17 @@ L(140_0):
 	pshufb %xmm4,%xmm3
 	movdqa L(CPI66_1)(%rip),%xmm4
 	paddd %xmm0,%xmm4
-	movdqa %xmm4,0x60(%rsp)
+	movdqa %xmm4,0x20(%rsp)
 	movdqa L(CPI66_2)(%rip),%xmm4
 	paddd %xmm1,%xmm4
-	movdqa %xmm4,0x70(%rsp)
+	movdqa %xmm4,0x30(%rsp)
 	movdqa L(CPI66_3)(%rip),%xmm4
 	paddd %xmm2,%xmm4
-	movdqa %xmm4,0x80(%rsp)
+	movdqa %xmm4,0x40(%rsp)
 	movdqa L(CPI66_4)(%rip),%xmm4
 	paddd %xmm3,%xmm4
-	movdqa %xmm4,0x90(%rsp)
-	lea 0x60(%rsp),%rdi
+	movdqa %xmm4,0x50(%rsp)
+	lea 0x20(%rsp),%rdi
 	mov %rsp,%rsi
 	call ring_core.digest.sha2.blocks.run_ahead.ea37ceaea72c2e87
 	mov (%r14),%rax
@@ -40557,16 +40547,16 @@ L(140_1):
 	movdqu 0x28(%rsi),%xmm1
 	movdqu 0x38(%rsi),%xmm2
 	movdqu 0x48(%rsi),%xmm3
-	movdqa %xmm3,0x50(%rsp)
-	movdqa %xmm2,0x40(%rsp)
-	movdqa %xmm1,0x30(%rsp)
-	movdqa %xmm0,0x20(%rsp)
+	movdqa %xmm3,0xd0(%rsp)
+	movdqa %xmm2,0xc0(%rsp)
+	movdqa %xmm1,0xb0(%rsp)
+	movdqa %xmm0,0xa0(%rsp)
 	shr $0x7,%r15
 	je L(140_3)
 	add $0x60,%r12
-	.byte 0x66, 0x66, 0x66, 0x66, 0x2e, 0x0f, 0x1f, 0x84, 0x00, 0x00, 0x00, 0x00, 0x00 /* data16 data16 data16 cs nopw 0x0(%rax,%rax,1) */
+	{disp32} nopl 0x0(%rax)
 L(140_2):
-	movdqa L(CPI66_8)(%rip),%xmm8
+	movdqa L(CPI66_6)(%rip),%xmm8
 	movdqu -0x60(%r12),%xmm0
 	movdqu -0x50(%r12),%xmm1
 	movdqu -0x40(%r12),%xmm2
@@ -40583,32 +40573,32 @@ L(140_2):
 	pshufb %xmm8,%xmm7
 	movdqu (%r12),%xmm6
 	pshufb %xmm8,%xmm6
-	movdqa L(CPI66_9)(%rip),%xmm8
+	movdqa L(CPI66_7)(%rip),%xmm8
 	paddq %xmm1,%xmm8
-	movdqa L(CPI66_10)(%rip),%xmm9
+	movdqa L(CPI66_8)(%rip),%xmm9
 	paddq %xmm0,%xmm9
+	movdqu %xmm9,0x20(%rsp)
+	movdqu %xmm8,0x30(%rsp)
+	movdqa L(CPI66_9)(%rip),%xmm8
+	paddq %xmm3,%xmm8
+	movdqa L(CPI66_10)(%rip),%xmm9
+	paddq %xmm2,%xmm9
+	movdqu %xmm9,0x40(%rsp)
+	movdqu %xmm8,0x50(%rsp)
+	movdqa L(CPI66_11)(%rip),%xmm8
+	paddq %xmm5,%xmm8
+	movdqa L(CPI66_12)(%rip),%xmm9
+	paddq %xmm4,%xmm9
 	movdqu %xmm9,0x60(%rsp)
 	movdqu %xmm8,0x70(%rsp)
-	movdqa L(CPI66_11)(%rip),%xmm8
-	paddq %xmm3,%xmm8
-	movdqa L(CPI66_12)(%rip),%xmm9
-	paddq %xmm2,%xmm9
-	movdqu %xmm9,0x80(%rsp)
-	movdqu %xmm8,0x90(%rsp)
 	movdqa L(CPI66_13)(%rip),%xmm8
-	paddq %xmm5,%xmm8
-	movdqa L(CPI66_14)(%rip),%xmm9
-	paddq %xmm4,%xmm9
-	movdqu %xmm9,0xa0(%rsp)
-	movdqu %xmm8,0xb0(%rsp)
-	movdqa L(CPI66_15)(%rip),%xmm8
 	paddq %xmm6,%xmm8
-	movdqa L(CPI66_16)(%rip),%xmm9
+	movdqa L(CPI66_14)(%rip),%xmm9
 	paddq %xmm7,%xmm9
-	movdqu %xmm9,0xd0(%rsp)
-	movdqu %xmm8,0xc0(%rsp)
-	lea 0x60(%rsp),%rdi
-	lea 0x20(%rsp),%rsi
+	movdqu %xmm9,0x90(%rsp)
+	movdqu %xmm8,0x80(%rsp)
+	lea 0x20(%rsp),%rdi
+	lea 0xa0(%rsp),%rsi
 	call ring_core.digest.sha2.blocks.run_ahead.00e266d2aa29b734
 	mov (%r14),%rax
 	mov 0x8(%r14),%rcx
@@ -40623,29 +40613,15 @@ L(140_2):
 	dec %r15
 	jne L(140_2)
 L(140_3):
-	movzbl 0x38(%rsp),%esi
-	movdqa 0x20(%rsp),%xmm1
-	movdqa 0x30(%rsp),%xmm0
-	pextrb $0xb,%xmm0,%eax
-	pextrb $0xa,%xmm0,%ecx
-	pextrb $0x9,%xmm0,%edx
-	movdqa L(CPI66_8)(%rip),%xmm5
-	pshufb %xmm5,%xmm1
-	movq L(CPI66_19)(%rip),%xmm6
-	movdqa %xmm0,%xmm2
-	pshufb %xmm6,%xmm2
-	movd L(CPI66_20)(%rip),%xmm7
-	pshufb %xmm7,%xmm0
-	movzbl 0x58(%rsp),%r8d
-	movdqa 0x40(%rsp),%xmm4
-	movdqa 0x50(%rsp),%xmm3
-	pextrb $0xb,%xmm3,%edi
-	pextrb $0xa,%xmm3,%r9d
-	pextrb $0x9,%xmm3,%r10d
-	pshufb %xmm5,%xmm4
-	movdqa %xmm3,%xmm5
-	pshufb %xmm6,%xmm5
-	pshufb %xmm7,%xmm3
+	movdqa 0xa0(%rsp),%xmm0
+	movdqa 0xb0(%rsp),%xmm1
+	movdqa 0xc0(%rsp),%xmm2
+	movdqa 0xd0(%rsp),%xmm3
+	movdqa L(CPI66_6)(%rip),%xmm4
+	pshufb %xmm4,%xmm1
+	pshufb %xmm4,%xmm0
+	pshufb %xmm4,%xmm3
+	pshufb %xmm4,%xmm2
 	jmp L(140_7)
 L(140_4):
 	test %r15,%r15
@@ -40667,16 +40643,16 @@ L(140_5):
 	movdqa L(CPI66_5)(%rip),%xmm4
 	movdqa %xmm0,%xmm5
 	paddd %xmm4,%xmm5
-	movdqa %xmm5,0x60(%rsp)
+	movdqa %xmm5,0x20(%rsp)
 	movdqa %xmm1,%xmm5
 	paddd %xmm4,%xmm5
-	movdqa %xmm5,0x70(%rsp)
+	movdqa %xmm5,0x30(%rsp)
 	movdqa %xmm2,%xmm5
 	paddd %xmm4,%xmm5
-	movdqa %xmm5,0x80(%rsp)
+	movdqa %xmm5,0x40(%rsp)
 	paddd %xmm3,%xmm4
-	movdqa %xmm4,0x90(%rsp)
-	lea 0x60(%rsp),%rdi
+	movdqa %xmm4,0x50(%rsp)
+	lea 0x20(%rsp),%rdi
 	mov %rsp,%rsi
 	call ring_core.digest.sha1.blocks.run_ahead
 	add $0x1,%r13
@@ -40690,38 +40666,18 @@ L(140_5):
 	dec %r15
 	jne L(140_5)
 L(140_6):
-	movdqa 0x10(%rsp),%xmm0
-	pextrb $0xf,%xmm0,%eax
-	pextrb $0xe,%xmm0,%ecx
-	pextrb $0xd,%xmm0,%edx
-	movdqa (%rsp),%xmm1
-	pshufb L(CPI66_0)(%rip),%xmm1
-	movdqa %xmm0,%xmm2
-	pshufb L(CPI66_6)(%rip),%xmm2
-	pshufb L(CPI66_7)(%rip),%xmm0
-	movzbl 0x1c(%rsp),%esi
+	movdqa (%rsp),%xmm0
+	movdqa 0x10(%rsp),%xmm1
+	movdqa L(CPI66_0)(%rip),%xmm2
+	pshufb %xmm2,%xmm1
+	pshufb %xmm2,%xmm0
+	pxor %xmm2,%xmm2
 	pxor %xmm3,%xmm3
-	xor %edi,%edi
-	xor %r9d,%r9d
-	xor %r10d,%r10d
-	xor %r8d,%r8d
-	pxor %xmm5,%xmm5
-	pxor %xmm4,%xmm4
 L(140_7):
-	movdqu %xmm1,(%rbx)
-	movq %xmm2,0x10(%rbx)
-	movd %xmm0,0x18(%rbx)
-	mov %al,0x1c(%rbx)
-	mov %cl,0x1d(%rbx)
-	mov %dl,0x1e(%rbx)
-	mov %sil,0x1f(%rbx)
-	movdqu %xmm4,0x20(%rbx)
-	movq %xmm5,0x30(%rbx)
-	movd %xmm3,0x38(%rbx)
-	mov %dil,0x3c(%rbx)
-	mov %r9b,0x3d(%rbx)
-	mov %r10b,0x3e(%rbx)
-	mov %r8b,0x3f(%rbx)
+	movdqu %xmm0,(%rbx)
+	movdqu %xmm1,0x10(%rbx)
+	movdqu %xmm2,0x20(%rbx)
+	movdqu %xmm3,0x30(%rbx)
 	add $0xe8,%rsp
 	pop %rbx
 	pop %r12
@@ -40730,7 +40686,7 @@ L(140_7):
 	pop %r15
 	pop %rbp
 	ret
-	SIZE(ring.digest.block_context.BlockContext.output_after, 1237)
+	SIZE(ring.digest.block_context.BlockContext.output_after, 1061)
 
 	CODE(ring.digest.updates.complete_each)
 	.p2align 4

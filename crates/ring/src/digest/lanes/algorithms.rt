@@ -14,6 +14,7 @@ use crate::digest::algorithm::{Algorithm, AlgorithmId, words};
 use crate::digest::dynstate::{DynState, StateWord};
 use crate::width::{AVX2, SSE};
 use ring_core::cost::Meter;
+use ring_core::digest::instructions::{arm, x86};
 use ring_core::digest::sha1::{
     sha1_block_data_order_lanes_counted, sha1_block_of_words_counted,
     sha1_block_of_words_lanes_counted,
@@ -467,21 +468,20 @@ impl<V: Vector<One = Wrapping<u64>>, A> RunBlocks<128> for InVector<V, A> {
 }
 
 // How many of those that are left run side by side next: as many as a vector has words. Two words
-// of 64 bits are no faster than one after the other.
+// of 64 bits are no faster than one after the other, and neither is SHA-256 on a processor with
+// instructions for it. SHA-1 is faster side by side there too.
 pub(crate) fn lanes_for<const VECTOR_BITS: usize>(algorithm: Algorithm, left: usize) -> usize
     requires { 0 < left }
     ensures some { 0 < result }
     ensures within { result ≤ left }
     ensures together { CanRunTogether VECTOR_BITS algorithm result }
 {
-    let has_short_words = match algorithm.id {
-        AlgorithmId::Sha1 | AlgorithmId::Sha256 => true,
-        AlgorithmId::Sha384 | AlgorithmId::Sha512 | AlgorithmId::Sha512_256 => false,
-    };
-    match has_short_words {
-        true if VECTOR_BITS >= AVX2 && left >= 8 => 8,
-        true if VECTOR_BITS >= SSE && left >= 4 => 4,
-        false if VECTOR_BITS >= AVX2 && left >= 4 => 4,
+    match algorithm.id {
+        AlgorithmId::Sha256 if x86::are_there() || arm::are_there() => 1,
+        AlgorithmId::Sha1 | AlgorithmId::Sha256 if VECTOR_BITS >= AVX2 && left >= 8 => 8,
+        AlgorithmId::Sha1 | AlgorithmId::Sha256 if VECTOR_BITS >= SSE && left >= 4 => 4,
+        AlgorithmId::Sha1 | AlgorithmId::Sha256 => 1,
+        _ if VECTOR_BITS >= AVX2 && left >= 4 => 4,
         _ => 1,
     }
 }

@@ -11,9 +11,9 @@
  * which call goes where, and `make builds` compares both. */
 #include "processor.h"
 
-/* Whether a call runs blocks one by one, or several side by side. That the lanes of AVX2 are then
- * no slower than the SHA instructions is llvm-mca's estimate: no processor with these instructions
- * was measured. */
+/* Whether a call runs blocks one by one, or several side by side. The lanes of AVX2 are faster then
+ * than the instructions for SHA-1. Those for SHA-256 are faster one by one than four lanes, and as
+ * fast as eight, so the build for x86-64-v2 has no lanes of SHA-256 beside them. */
 enum work { ALONE, TOGETHER };
 
 /* The fewest messages or rounds of SHA-1 and SHA-256 that run side by side. */
@@ -27,7 +27,8 @@ static bool takes_v3(enum work work, uint32_t algorithm) {
     return FORCED == 3;
 #else
     const uint8_t features = known_features();
-    if ((features & YZ_FEATURE_SHA) != 0 && work == ALONE && algorithm <= YZ_SHA256) return false;
+    const bool has_instruction = algorithm == YZ_SHA256 || (algorithm == YZ_SHA1 && work == ALONE);
+    if ((features & YZ_FEATURE_SHA) != 0 && has_instruction) return false;
     return (features & YZ_FEATURE_V3) != 0;
 #endif
 }

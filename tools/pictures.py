@@ -274,7 +274,7 @@ def table(heads, rows):
 
 def library_columns(speed, rows):
     """The columns of a measurement: a place of a hash function and a key of its rows."""
-    keys = ["ns", *speed["libraries"]]
+    keys = ["ns", "without", *speed["libraries"]]
     columns = [(place, key) for place in range(len(speed["hashes"])) for key in keys]
     return [(place, key) for place, key in columns
             if any(key in row and row[key][place] is not None for row in rows)]
@@ -284,7 +284,8 @@ def beside_table(speed, rows):
     """Our times, and their ratios to those of other libraries."""
     columns = library_columns(speed, rows)
     heads = ["Work"] + [
-        speed["hashes"][place] if key == "ns" else f"/ {speed['libraries'][key]['column']}"
+        speed["hashes"][place] if key == "ns"
+        else f"/ {speed['libraries'].get(key, {'column': key})['column']}"
         for place, key in columns
     ]
     cells = ([row["work"]] + [
@@ -307,6 +308,15 @@ def measured_table(figures):
 def integer_table(figures):
     """The second: OpenSSL without vectors."""
     return beside_table(figures["speed"], figures["speed"]["beside_integer_code"]["rows"])
+
+
+def instructions_table(figures):
+    """That of SHA instructions, below what was measured and when."""
+    speed = figures["speed"]
+    measured = speed["instructions"]
+    version = speed["libraries"]["openssl_3_0"]["version"]
+    told = f"{measured['processor']}, on {measured['date']}; OpenSSL {version}."
+    return f"{told}\n\n{beside_table(speed, measured['rows'])}"
 
 
 def together_table(figures):
@@ -338,8 +348,8 @@ def packages_table(figures):
 
 TABLES = {
     "README.md": {"speed": speed_table, "packages": packages_table},
-    "capi/README.md": {"beside": measured_table, "integer": integer_table,
-                       "together": together_table},
+    "capi/README.md": {"instructions": instructions_table, "beside": measured_table,
+                       "integer": integer_table, "together": together_table},
 }
 
 

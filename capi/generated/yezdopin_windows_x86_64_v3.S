@@ -3,7 +3,7 @@
  *
  * Written by `make -C capi generated` from the proved crate ring_c: do not edit.
  * Kit: rattle-kit-13f logic dac8208d650f15bf
- * Git trees: ring_core dcb5188b7b17 ring d8ef94c9eef1 ring_text df91c039fca3 ring_password_hash 467ea6fadcff ring_merkle ef894b2f2614 ring_tokens a2fcc8648fa2 ring_c b7539f883232
+ * Git trees: ring_core dcb5188b7b17 ring 8f3ec4c0b6b4 ring_text df91c039fca3 ring_password_hash 467ea6fadcff ring_merkle ef894b2f2614 ring_tokens a2fcc8648fa2 ring_c b7539f883232
  */
 
 #if defined(__x86_64__) && defined(_WIN32)
@@ -23012,10 +23012,10 @@ ring.pbkdf2.derive_counted:
 	.seh_stackalloc 904
 	.seh_endprologue
 	movq %r9, %r10
-	movl %ecx, %ebp
+	movl %ecx, %r15d
 	movq 1016(%rsp), %r9
 	movabsq $2305843009213693884, %rcx
-	cmpb $2, %bpl
+	cmpb $2, %r15b
 	setb %r11b
 	leaq 67(%rcx), %rax
 	cmpq %rax, %r9
@@ -23024,7 +23024,7 @@ ring.pbkdf2.derive_counted:
 	testb %bl, %r11b
 	jne .LBB37_34
 	movq 1032(%rsp), %r12
-	cmpb $2, %bpl
+	cmpb $2, %r15b
 	setb %r11b
 	testq %r12, %r12
 	setne %bl
@@ -23033,18 +23033,19 @@ ring.pbkdf2.derive_counted:
 	andb %r11b, %cl
 	testb %bl, %cl
 	jne .LBB37_34
-	movzbl %bpl, %r15d
+	movzbl %r15b, %r11d
 	leaq .Lswitch.table.ring.pbkdf2.derive_counted(%rip), %rcx
-	cmpq (%rcx,%r15,8), %r12
+	cmpq (%rcx,%r11,8), %r12
 	ja .LBB37_34
+	movq %r11, 80(%rsp)
 	movq %r8, %rbx
 	movq %r10, %rdi
 	movl %edx, %esi
 	movq 1040(%rsp), %rax
 	movq 1008(%rsp), %r8
 	vxorps %xmm0, %xmm0, %xmm0
-	vmovups %ymm0, 80(%rsp)
 	vmovups %ymm0, 96(%rsp)
+	vmovups %ymm0, 112(%rsp)
 	vmovups %ymm0, 368(%rsp)
 	vmovups %ymm0, 352(%rsp)
 	vmovups %ymm0, 320(%rsp)
@@ -23054,7 +23055,7 @@ ring.pbkdf2.derive_counted:
 	vmovups %ymm0, 192(%rsp)
 	movq %rax, 32(%rsp)
 	leaq 192(%rsp), %rcx
-	movl %ebp, %edx
+	movl %r15d, %edx
 	vzeroupper
 	callq ring.hmac.key.Key.new_counted
 	cmpb $0, 192(%rsp)
@@ -23073,69 +23074,76 @@ ring.pbkdf2.derive_counted:
 	vmovups %ymm0, 704(%rsp)
 	movq %rbx, 176(%rsp)
 	movq %rdi, 184(%rsp)
-	movb %bpl, 80(%rsp)
+	movb %r15b, 96(%rsp)
 	leaq 704(%rsp), %rax
-	movq %rax, 88(%rsp)
-	movq $1, 96(%rsp)
-	leaq 176(%rsp), %rax
 	movq %rax, 104(%rsp)
 	movq $1, 112(%rsp)
-	movl %esi, 120(%rsp)
-	movq %r12, 128(%rsp)
+	leaq 176(%rsp), %rax
+	movq %rax, 120(%rsp)
+	movq $1, 128(%rsp)
+	movl %esi, 136(%rsp)
+	movq %r12, 144(%rsp)
 	movq $1, 56(%rsp)
 	testq %r12, %r12
+	movq 80(%rsp), %rdi
 	je .LBB37_33
-	movq 1024(%rsp), %rdi
 	movq $0, 48(%rsp)
 	movq $0, 64(%rsp)
-	movl $1, %ebx
-	xorl %ecx, %ecx
-	movb %bpl, 47(%rsp)
-	movq %r15, 136(%rsp)
+	movl $1, %esi
+	xorl %ebp, %ebp
+	movb %r15b, 47(%rsp)
 	jmp .LBB37_6
 	.p2align 4
 .LBB37_27:
 	xorl %r10d, %r10d
 	xorl %r13d, %r13d
+	movq 1024(%rsp), %r9
+	movl 72(%rsp), %esi
 .LBB37_31:
 	movq %r12, %r8
-	subq %rcx, %r8
-	movq (%rdx,%r15,8), %rax
-	leaq (%rax,%rcx), %rdx
+	subq %rbp, %r8
+	movq (%rax,%rdi,8), %rax
+	leaq (%rax,%rbp), %rdx
 	cmpq %r8, %rax
 	sbbq $-1, %r13
-	xorl %r14d, %r14d
+	xorl %ebx, %ebx
 	cmpq %r8, %rax
-	cmovbq %rdx, %r14
-	incl %ebx
+	cmovbq %rdx, %rbx
+	incl %esi
 	cmpq %r8, %rax
 	movl $1, %eax
-	cmovael %eax, %ebx
+	cmovael %eax, %esi
 	shlq $6, %r10
 	leaq (%rsp,%r10), %rdx
 	addq $192, %rdx
-	cmpq %r9, %r8
-	cmovaeq %r9, %r8
-	addq %rdi, %rcx
+	movq 88(%rsp), %rax
+	cmpq %rax, %r8
+	cmovaeq %rax, %r8
+	addq %r9, %rbp
+	movq %rbp, %rcx
 	callq memcpy
-	movq %r14, %rcx
+	movq %rbx, %rbp
 .LBB37_32:
 	movq %r13, 48(%rsp)
-	movl %ebx, 56(%rsp)
+	movl %esi, 56(%rsp)
 	movl $0, 60(%rsp)
-	movq %rcx, 64(%rsp)
+	movq %rbp, 64(%rsp)
 	testq %r13, %r13
 	jne .LBB37_33
 .LBB37_6:
-	movq %rcx, %r13
-	cmpb $2, %bpl
-	setb %sil
-	leaq 80(%rsp), %rcx
+	movl %esi, 72(%rsp)
+	leaq 96(%rsp), %rcx
 	leaq 48(%rsp), %rdx
 	vzeroupper
 	callq ring.pbkdf2.rounds.rounds_from
-	cmpl $4, %eax
-	setae %r14b
+	movq %rax, %r14
+	xorl %eax, %eax
+	cmpq $4, %r14
+	setae %al
+	cmpb $2, %r15b
+	leaq 1(%rax,%rax,2), %r9
+	movl $1, %esi
+	cmovbq %r9, %rsi
 	vxorps %xmm0, %xmm0, %xmm0
 	vmovups %ymm0, 192(%rsp)
 	vmovups %ymm0, 224(%rsp)
@@ -23153,57 +23161,56 @@ ring.pbkdf2.derive_counted:
 	vmovups %ymm0, 608(%rsp)
 	vmovups %ymm0, 640(%rsp)
 	vmovups %ymm0, 672(%rsp)
-	andb %sil, %r14b
 	leaq .LJTI37_0(%rip), %rax
-	movslq (%rax,%r15,4), %rcx
+	movslq (%rax,%rdi,4), %rcx
 	addq %rax, %rcx
 	jmpq *%rcx
 .LBB37_7:
-	testb %r14b, %r14b
-	je .LBB37_9
-	leaq 80(%rsp), %rcx
+	cmpl $4, %esi
+	jne .LBB37_9
+	leaq 96(%rsp), %rcx
 	leaq 48(%rsp), %rdx
 	leaq 192(%rsp), %r8
 	movq 1040(%rsp), %r9
 	vzeroupper
 	callq ring.pbkdf2.rounds.write_rounds_in_lanes.b59cdc7c1c50200a
-	movl $20, %r9d
+	movl $20, %eax
 	jmp .LBB37_26
 	.p2align 4
 .LBB37_21:
 	movq 1040(%rsp), %rax
-	testb %r14b, %r14b
-	je .LBB37_22
+	cmpl $4, %esi
+	jne .LBB37_22
 	movq %rax, 32(%rsp)
-	leaq 80(%rsp), %rcx
+	leaq 96(%rsp), %rcx
 	leaq 48(%rsp), %rdx
 	leaq 192(%rsp), %r8
 	movl $4, %r9d
 	jmp .LBB37_24
 .LBB37_13:
 	movq 1040(%rsp), %rax
-	testb %r14b, %r14b
-	je .LBB37_14
+	cmpl $4, %esi
+	jne .LBB37_14
 	movq %rax, 32(%rsp)
-	leaq 80(%rsp), %rcx
+	leaq 96(%rsp), %rcx
 	leaq 48(%rsp), %rdx
 	leaq 192(%rsp), %r8
 	movl $4, %r9d
 	jmp .LBB37_15
 .LBB37_17:
 	movq 1040(%rsp), %rax
-	testb %r14b, %r14b
-	je .LBB37_18
+	cmpl $4, %esi
+	jne .LBB37_18
 	movq %rax, 32(%rsp)
-	leaq 80(%rsp), %rcx
+	leaq 96(%rsp), %rcx
 	leaq 48(%rsp), %rdx
 	leaq 192(%rsp), %r8
 	movl $4, %r9d
 	jmp .LBB37_19
 .LBB37_10:
-	testb %r14b, %r14b
-	je .LBB37_12
-	leaq 80(%rsp), %rcx
+	cmpl $4, %esi
+	jne .LBB37_12
+	leaq 96(%rsp), %rcx
 	leaq 48(%rsp), %rdx
 	leaq 192(%rsp), %r8
 	movq 1040(%rsp), %r9
@@ -23212,7 +23219,7 @@ ring.pbkdf2.derive_counted:
 	jmp .LBB37_25
 .LBB37_22:
 	movq %rax, 32(%rsp)
-	leaq 80(%rsp), %rcx
+	leaq 96(%rsp), %rcx
 	leaq 48(%rsp), %rdx
 	leaq 192(%rsp), %r8
 	movl $1, %r9d
@@ -23222,118 +23229,114 @@ ring.pbkdf2.derive_counted:
 	jmp .LBB37_25
 .LBB37_14:
 	movq %rax, 32(%rsp)
-	leaq 80(%rsp), %rcx
+	leaq 96(%rsp), %rcx
 	leaq 48(%rsp), %rdx
 	leaq 192(%rsp), %r8
 	movl $1, %r9d
 .LBB37_15:
 	vzeroupper
 	callq ring.pbkdf2.rounds.write_rounds_in_lanes.a1ff80f91a8232aa
-	movl $48, %r9d
+	movl $48, %eax
 	jmp .LBB37_26
 .LBB37_18:
 	movq %rax, 32(%rsp)
-	leaq 80(%rsp), %rcx
+	leaq 96(%rsp), %rcx
 	leaq 48(%rsp), %rdx
 	leaq 192(%rsp), %r8
 	movl $1, %r9d
 .LBB37_19:
 	vzeroupper
 	callq ring.pbkdf2.rounds.write_rounds_in_lanes.60c85567ec82c37c
-	movl $64, %r9d
+	movl $64, %eax
 	jmp .LBB37_26
 .LBB37_9:
 	movq 1040(%rsp), %rax
 	movq %rax, 32(%rsp)
-	leaq 80(%rsp), %rcx
+	leaq 96(%rsp), %rcx
 	leaq 48(%rsp), %rdx
 	leaq 192(%rsp), %r8
-	movl $1, %r9d
 	vzeroupper
 	callq ring.pbkdf2.rounds.write_rounds_in_lanes.86c1508a230ee85e
-	movl $20, %r9d
+	movl $20, %eax
 	jmp .LBB37_26
 .LBB37_12:
 	movq 1040(%rsp), %rax
 	movq %rax, 32(%rsp)
-	leaq 80(%rsp), %rcx
+	leaq 96(%rsp), %rcx
 	leaq 48(%rsp), %rdx
 	leaq 192(%rsp), %r8
-	movl $1, %r9d
 	vzeroupper
 	callq ring.pbkdf2.rounds.write_rounds_in_lanes.96f4d166b0829d78
 .LBB37_25:
-	movl $32, %r9d
+	movl $32, %eax
 .LBB37_26:
-	leaq .Lswitch.table.v3_yz_jws_sign.192(%rip), %rdx
-	testb %r14b, %r14b
-	movq %r13, %rcx
-	je .LBB37_27
-	movzbl %r14b, %eax
-	leaq (%rax,%rax,2), %r8
-	incq %r8
-	movq %r8, 144(%rsp)
-	andl $-4, %r8d
-	movq %r8, 160(%rsp)
-	movq (%rdx,%r15,8), %rax
-	movq %rax, 152(%rsp)
+	movq %rax, 88(%rsp)
+	cmpq $4, %r14
+	setae %al
+	cmpb $2, %r15b
+	setb %cl
+	andb %al, %cl
+	leaq .Lswitch.table.v3_yz_jws_sign.192(%rip), %rax
+	cmpb $1, %cl
+	jne .LBB37_27
+	movq %rsi, 160(%rsp)
+	andl $-4, %esi
+	movq %rsi, 168(%rsp)
+	movq (%rax,%rdi,8), %rbx
 	xorl %r10d, %r10d
 	leaq 256(%rsp), %r14
 	xorl %r13d, %r13d
-	movq %r9, 72(%rsp)
+	movl 72(%rsp), %esi
 	.p2align 4
 .LBB37_29:
-	movq %r10, 168(%rsp)
+	movq %r10, 72(%rsp)
+	movq %rbp, %rcx
 	movq %r12, %r8
-	subq %rcx, %r8
-	movq 152(%rsp), %r9
-	cmpq %r8, %r9
+	subq %rbp, %r8
+	cmpq %r8, %rbx
 	sbbq $-1, %r13
-	addl $2, %ebx
-	cmpq %r8, %r9
+	addl $2, %esi
+	cmpq %r8, %rbx
 	movl $2, %eax
-	cmovbl %ebx, %eax
-	leaq (%r9,%rcx), %r15
+	cmovbl %esi, %eax
+	leaq (%rbx,%rbp), %r15
 	xorl %edx, %edx
-	cmpq %r8, %r9
+	cmpq %r8, %rbx
 	cmovaeq %rdx, %r15
 	movq 1032(%rsp), %r12
 	subq %r15, %r12
-	cmpq %r12, %r9
+	cmpq %r12, %rbx
 	sbbq $-1, %r13
-	cmpq %r12, %r9
+	cmpq %r12, %rbx
 	movl $1, %esi
 	cmovbl %eax, %esi
-	leaq (%r9,%r15), %rbx
-	cmovaeq %rdx, %rbx
+	leaq (%rbx,%r15), %rbp
+	cmovaeq %rdx, %rbp
 	leaq -64(%r14), %rdx
-	movq 72(%rsp), %rbp
-	cmpq %rbp, %r8
-	cmovaeq %rbp, %r8
-	movq 1024(%rsp), %rdi
-	addq %rdi, %rcx
+	movq 88(%rsp), %rdi
+	cmpq %rdi, %r8
+	cmovaeq %rdi, %r8
+	movq 1024(%rsp), %rax
+	addq %rax, %rcx
 	callq memcpy
-	cmpq %rbp, %r12
-	cmovaeq %rbp, %r12
-	addq %rdi, %r15
+	cmpq %rdi, %r12
+	cmovaeq %rdi, %r12
+	addq 1024(%rsp), %r15
 	movq %r15, %rcx
 	movq %r14, %rdx
 	movq %r12, %r8
 	movq 1032(%rsp), %r12
 	callq memcpy
-	movq 168(%rsp), %r10
-	movq %rbx, %rcx
-	movl %esi, %ebx
+	movq 72(%rsp), %r10
 	addq $2, %r10
 	subq $-128, %r14
-	cmpq %r10, 160(%rsp)
+	cmpq %r10, 168(%rsp)
 	jne .LBB37_29
-	testb $1, 144(%rsp)
-	movzbl 47(%rsp), %ebp
-	movq 136(%rsp), %r15
-	movq 1024(%rsp), %rdi
-	movq 72(%rsp), %r9
-	leaq .Lswitch.table.v3_yz_jws_sign.192(%rip), %rdx
+	testb $1, 160(%rsp)
+	movzbl 47(%rsp), %r15d
+	movq 80(%rsp), %rdi
+	movq 1024(%rsp), %r9
+	leaq .Lswitch.table.v3_yz_jws_sign.192(%rip), %rax
 	jne .LBB37_31
 	jmp .LBB37_32
 .LBB37_33:
@@ -48342,14 +48345,14 @@ v3_yz_pbkdf2_verify_wide:
 	decl %ecx
 	movl $1, %eax
 	cmpl $3, %ecx
-	ja .LBB108_24
+	ja .LBB108_23
 	testl %edx, %edx
 	je .LBB108_2
 	vxorps %xmm0, %xmm0, %xmm0
 	vmovups %ymm0, 128(%rsp)
 	movl $8, %eax
 	cmpq $0, 1080(%rsp)
-	je .LBB108_24
+	je .LBB108_23
 	cmpl $2, %ecx
 	setb %r12b
 	movabsq $2305843009213693883, %r13
@@ -48360,13 +48363,13 @@ v3_yz_pbkdf2_verify_wide:
 	seta %r13b
 	orb %r10b, %r13b
 	testb %r12b, %r13b
-	jne .LBB108_24
+	jne .LBB108_23
 	movl %ecx, %r13d
 	leaq .Lswitch.table.v3_yz_pbkdf2_verify_wide(%rip), %r10
 	movq 1080(%rsp), %r12
 	movq %r13, 96(%rsp)
 	cmpq (%r10,%r13,8), %r12
-	ja .LBB108_24
+	ja .LBB108_23
 	movq %r11, %r12
 	movl %ecx, %r13d
 	movq %r9, 56(%rsp)
@@ -48391,7 +48394,7 @@ v3_yz_pbkdf2_verify_wide:
 	vzeroupper
 	callq ring.hmac.key.Key.new_counted
 	cmpb $0, 240(%rsp)
-	jne .LBB108_25
+	jne .LBB108_24
 	movb %r15b, %r14b
 	shll $12, %r14d
 	addq %r14, %r12
@@ -48437,7 +48440,7 @@ v3_yz_pbkdf2_verify_wide:
 	xorl %r14d, %r14d
 	jmp .LBB108_8
 	.p2align 4
-.LBB108_22:
+.LBB108_21:
 	movq %rax, 144(%rsp)
 	movq %rcx, 152(%rsp)
 	movq %r10, 72(%rsp)
@@ -48445,23 +48448,24 @@ v3_yz_pbkdf2_verify_wide:
 	movl $0, 84(%rsp)
 	movq %r14, 88(%rsp)
 	testq %r10, %r10
-	jne .LBB108_23
+	jne .LBB108_22
 .LBB108_8:
 	leaq 160(%rsp), %rcx
 	leaq 72(%rsp), %rdx
 	vzeroupper
 	callq ring.pbkdf2.rounds.rounds_from
-	cmpl $1, 68(%rsp)
-	ja .LBB108_10
+	cmpl $2, 68(%rsp)
+	jae .LBB108_10
 	movl $8, %r15d
 	cmpl $7, %eax
-	ja .LBB108_12
+	ja .LBB108_11
 .LBB108_10:
-	movl $4, %r15d
-	cmpl $3, %eax
-	ja .LBB108_12
-	movl $1, %r15d
-.LBB108_12:
+	xorl %ecx, %ecx
+	cmpl $4, %eax
+	setae %cl
+	leaq (%rcx,%rcx,2), %r15
+	incq %r15
+.LBB108_11:
 	vxorps %xmm0, %xmm0, %xmm0
 	vmovups %ymm0, 720(%rsp)
 	vmovups %ymm0, 688(%rsp)
@@ -48498,12 +48502,12 @@ v3_yz_pbkdf2_verify_wide:
 	xorl %r10d, %r10d
 	movq %r15, 56(%rsp)
 	movq %r12, 120(%rsp)
-	jmp .LBB108_13
+	jmp .LBB108_12
 	.p2align 4
-.LBB108_15:
+.LBB108_14:
 	xorl %r15d, %r15d
 	xorl %r12d, %r12d
-.LBB108_19:
+.LBB108_18:
 	movl %r15d, %edx
 	movq %r9, %rsi
 	shlq $6, %rsi
@@ -48519,7 +48523,7 @@ v3_yz_pbkdf2_verify_wide:
 	movq $-1, %rdx
 	cmovbq %rdx, %rcx
 	cmovbq %rdx, %rax
-.LBB108_20:
+.LBB108_19:
 	testb %r15b, %r15b
 	sete %dl
 	movzbl 52(%rsp), %edi
@@ -48527,7 +48531,7 @@ v3_yz_pbkdf2_verify_wide:
 	movq 1080(%rsp), %rsi
 	movq 56(%rsp), %r15
 	movq 120(%rsp), %r12
-.LBB108_21:
+.LBB108_20:
 	movq %r14, %rdx
 	addq %r8, %rdx
 	cmpq %rbx, %r8
@@ -48543,18 +48547,18 @@ v3_yz_pbkdf2_verify_wide:
 	incq %r9
 	addq $64, %r11
 	cmpq %r15, %r9
-	je .LBB108_22
-.LBB108_13:
+	je .LBB108_21
+.LBB108_12:
 	movq %rsi, %rbp
 	subq %r14, %rbp
 	cmpq %r12, %rbp
 	cmovaeq %r12, %rbp
 	movq %rsi, %rbx
 	subq %r14, %rbx
-	je .LBB108_21
+	je .LBB108_20
 	movb %dil, 52(%rsp)
 	cmpq $1, %rbp
-	je .LBB108_15
+	je .LBB108_14
 	movq %rbp, %rsi
 	andq $-2, %rsi
 	movq 104(%rsp), %rdx
@@ -48562,7 +48566,7 @@ v3_yz_pbkdf2_verify_wide:
 	xorl %r15d, %r15d
 	xorl %r12d, %r12d
 	.p2align 4
-.LBB108_17:
+.LBB108_16:
 	movzbl -1(%rdi,%r12), %edx
 	xorb -1(%r11,%r12), %dl
 	orb %r15b, %dl
@@ -48576,19 +48580,19 @@ v3_yz_pbkdf2_verify_wide:
 	cmovbq %rdx, %rax
 	addq $2, %r12
 	cmpq %r12, %rsi
-	jne .LBB108_17
+	jne .LBB108_16
 	testb $1, %bpl
-	jne .LBB108_19
-	jmp .LBB108_20
+	jne .LBB108_18
+	jmp .LBB108_19
 .LBB108_2:
 	movl $3, %eax
-	jmp .LBB108_24
-.LBB108_23:
+	jmp .LBB108_23
+.LBB108_22:
 	notb %dil
 	movzbl %dil, %eax
 	andl $1, %eax
 	shll $3, %eax
-.LBB108_24:
+.LBB108_23:
 	vzeroupper
 	addq $952, %rsp
 	popq %rbx
@@ -48600,7 +48604,7 @@ v3_yz_pbkdf2_verify_wide:
 	popq %r14
 	popq %r15
 	retq
-.LBB108_25:
+.LBB108_24:
 	ud2
 	.seh_endproc
 	.globl v3_yz_totp

@@ -3,7 +3,7 @@
  *
  * Written by `make -C capi generated` from the proved crate ring_c: do not edit.
  * Kit: rattle-kit-13f logic dac8208d650f15bf
- * Git trees: ring_core dcb5188b7b17 ring d8ef94c9eef1 ring_text df91c039fca3 ring_password_hash 467ea6fadcff ring_merkle ef894b2f2614 ring_tokens a2fcc8648fa2 ring_c b7539f883232
+ * Git trees: ring_core dcb5188b7b17 ring 8f3ec4c0b6b4 ring_text df91c039fca3 ring_password_hash 467ea6fadcff ring_merkle ef894b2f2614 ring_tokens a2fcc8648fa2 ring_c b7539f883232
  */
 
 #if defined(__x86_64__) && defined(__LP64__) && (defined(__ELF__) || defined(__APPLE__))
@@ -22019,11 +22019,11 @@ ring.pbkdf2.derive_in.128:
 	mov %ebx,0x68(%rsp)
 	mov 0x398(%rsp),%rax
 	mov %rax,0x70(%rsp)
-	movq $0x1,0x10(%rsp)
+	movq $0x1,0x18(%rsp)
 	test %rax,%rax
 	je L(74_12)
-	movq $0x0,0x8(%rsp)
-	movq $0x0,0x18(%rsp)
+	movq $0x0,0x10(%rsp)
+	movq $0x0,0x20(%rsp)
 	cmp $0x2,%bpl
 	jae L(74_5)
 	test %bpl,%bpl
@@ -22038,6 +22038,7 @@ L(74_0):
 	xor %ecx,%ecx
 	xor %esi,%esi
 	mov %r15,%rdi
+	mov 0x8(%rsp),%ebx
 L(74_1):
 	mov 0x398(%rsp),%rdx
 	sub %rdi,%rdx
@@ -22062,16 +22063,17 @@ L(74_1):
 	mov %r15,%rsi
 	mov %r12,%rdi
 L(74_2):
-	mov %rsi,0x8(%rsp)
-	mov %ebx,0x10(%rsp)
-	movl $0x0,0x14(%rsp)
-	mov %rdi,0x18(%rsp)
+	mov %rsi,0x10(%rsp)
+	mov %ebx,0x18(%rsp)
+	movl $0x0,0x1c(%rsp)
+	mov %rdi,0x20(%rsp)
 	test %rsi,%rsi
 	jne L(74_12)
 L(74_3):
+	mov %ebx,0x8(%rsp)
 	mov %rdi,%r15
 	lea 0x40(%rsp),%r13
-	lea 0x8(%rsp),%rbp
+	lea 0x10(%rsp),%rbp
 	mov %r13,%rdi
 	mov %rbp,%rsi
 	vzeroupper
@@ -22080,7 +22082,7 @@ L(74_3):
 	xor %eax,%eax
 	cmp $0x4,%r12
 	setae %al
-	lea 0x1(%rax,%rax,2),%rax
+	lea 0x1(%rax,%rax,2),%rbx
 	vxorps %xmm0,%xmm0,%xmm0
 	vmovups %ymm0,0x90(%rsp)
 	vmovups %ymm0,0xb0(%rsp)
@@ -22100,23 +22102,23 @@ L(74_3):
 	vmovups %ymm0,0x270(%rsp)
 	lea 0x90(%rsp),%rdx
 	mov %r13,%rdi
-	mov %rax,%r13
 	mov %rbp,%rsi
-	mov %rax,%rcx
+	mov %rbx,%rcx
 	mov 0x3a0(%rsp),%r8
 	vzeroupper
 	call ring.pbkdf2.rounds.write_rounds.128
 	cmp $0x4,%r12
 	jb L(74_0)
-	mov %r13,0x20(%rsp)
-	and $0xfffffffc,%r13d
-	mov %r13,0x28(%rsp)
+	mov %rbx,0x28(%rsp)
+	and $0xfffffffc,%ebx
+	mov %rbx,0x30(%rsp)
 	xor %ecx,%ecx
 	lea 0xd0(%rsp),%r12
 	xor %esi,%esi
-	{disp32} nopw 0x0(%rax,%rax,1)
+	mov 0x8(%rsp),%ebx
+	nop
 L(74_4):
-	mov %rcx,0x30(%rsp)
+	mov %rcx,0x38(%rsp)
 	mov %r15,%rdi
 	mov 0x398(%rsp),%rbp
 	mov %rbp,%rdx
@@ -22134,7 +22136,7 @@ L(74_4):
 	sub %r13,%rbp
 	cmp %rbp,%r14
 	sbb $0xffffffffffffffff,%rsi
-	mov %rsi,0x38(%rsp)
+	mov %rsi,0x8(%rsp)
 	cmp %rbp,%r14
 	mov $0x1,%ebx
 	cmovb %eax,%ebx
@@ -22153,13 +22155,13 @@ L(74_4):
 	mov %r12,%rsi
 	mov %rbp,%rdx
 	call memcpy
-	mov 0x30(%rsp),%rcx
-	mov 0x38(%rsp),%rsi
+	mov 0x38(%rsp),%rcx
+	mov 0x8(%rsp),%rsi
 	add $0x2,%rcx
 	sub $0xffffffffffffff80,%r12
-	cmp %rcx,0x28(%rsp)
+	cmp %rcx,0x30(%rsp)
 	jne L(74_4)
-	testb $0x1,0x20(%rsp)
+	testb $0x1,0x28(%rsp)
 	mov %r15,%rdi
 	jne L(74_1)
 	jmp L(74_2)
@@ -22187,10 +22189,10 @@ L(74_8):
 	lea 0x1(%r12),%esi
 	setae %cl
 	cmovb %r15,%rax
-	mov %rcx,0x8(%rsp)
-	mov %edx,0x10(%rsp)
-	movl $0x0,0x14(%rsp)
-	mov %rax,0x18(%rsp)
+	mov %rcx,0x10(%rsp)
+	mov %edx,0x18(%rsp)
+	movl $0x0,0x1c(%rsp)
+	mov %rax,0x20(%rsp)
 	mov %esi,%r12d
 	jae L(74_12)
 L(74_9):
@@ -22212,7 +22214,7 @@ L(74_9):
 	vmovups %ymm0,0xb0(%rsp)
 	vmovups %ymm0,0x90(%rsp)
 	lea 0x40(%rsp),%rdi
-	lea 0x8(%rsp),%rsi
+	lea 0x10(%rsp),%rsi
 	lea 0x90(%rsp),%rdx
 	mov $0x1,%ecx
 	mov 0x3a0(%rsp),%r8
@@ -43934,16 +43936,17 @@ L(212_1):
 	lea 0x18(%rsp),%rsi
 	vzeroupper
 	call ring.pbkdf2.rounds.rounds_from
-	cmpl $0x1,0x14(%rsp)
-	ja L(212_2)
+	cmpl $0x2,0x14(%rsp)
+	jae L(212_2)
 	mov $0x8,%r13d
 	cmp $0x7,%eax
 	ja L(212_3)
 L(212_2):
-	mov $0x4,%r13d
-	cmp $0x3,%eax
-	ja L(212_3)
-	mov $0x1,%r13d
+	xor %ecx,%ecx
+	cmp $0x4,%eax
+	setae %cl
+	lea (%rcx,%rcx,2),%r13
+	inc %r13
 L(212_3):
 	vxorps %xmm0,%xmm0,%xmm0
 	vmovups %ymm0,0x2a0(%rsp)
@@ -43981,7 +43984,7 @@ L(212_3):
 	mov %r13,0x8(%rsp)
 	mov %r11,0x48(%rsp)
 	jmp L(212_8)
-	xchg %ax,%ax
+	{disp8} nopl 0x0(%rax)
 L(212_4):
 	xor %r11d,%r11d
 	xor %r13d,%r13d

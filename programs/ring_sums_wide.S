@@ -30019,9 +30019,15 @@ L(109_167):
 	je L(109_175)
 	lea 0x148(%r13),%rbp
 	xor %edx,%edx
-	jmp L(109_169)
+	jmp L(109_170)
 	{disp8} nopl 0x0(%rax)
 L(109_168):
+	xor %ecx,%ecx
+	cmp $0x4,%rax
+	setae %cl
+	lea (%rcx,%rcx,2),%rsi
+	inc %rsi
+L(109_169):
 	add %r13,%rdi
 	lea (%rsi,%rdx,1),%r15
 	shl $0x4,%rdx
@@ -30032,7 +30038,7 @@ L(109_168):
 	mov %r15,%rdx
 	cmp %r12,%r15
 	jae L(109_175)
-L(109_169):
+L(109_170):
 	imul $0xf0,%rdx,%rdi
 	mov %r12,%rsi
 	sub %rdx,%rsi
@@ -30041,36 +30047,31 @@ L(109_169):
 	cmovb %rsi,%rax
 	movzbl 0x58(%r13,%rdi,1),%ecx
 	cmp $0x2,%rsi
-	jb L(109_171)
+	jb L(109_172)
 	lea (%rdi,%rbp,1),%r8
 	mov $0x1,%esi
-	{disp32} nopl 0x0(%rax)
-L(109_170):
+	.byte 0x66, 0x66, 0x2e, 0x0f, 0x1f, 0x84, 0x00, 0x00, 0x00, 0x00, 0x00 /* data16 cs nopw 0x0(%rax,%rax,1) */
+L(109_171):
 	cmp %cl,(%r8)
-	jne L(109_172)
+	jne L(109_173)
 	inc %rsi
 	add $0xf0,%r8
 	cmp %rsi,%rax
-	jne L(109_170)
-L(109_171):
-	cmp $0x1,%cl
-	jbe L(109_173)
-	jmp L(109_174)
-	{disp8} nopl 0x0(%rax,%rax,1)
+	jne L(109_171)
 L(109_172):
-	mov %rsi,%rax
-	cmp $0x1,%cl
-	ja L(109_174)
+	cmp $0x2,%cl
+	jae L(109_168)
+	jmp L(109_174)
+	nop
 L(109_173):
+	mov %rsi,%rax
+	cmp $0x2,%cl
+	jae L(109_168)
+L(109_174):
 	mov $0x8,%esi
 	cmp $0x7,%rax
-	ja L(109_168)
-L(109_174):
-	mov $0x4,%esi
-	cmp $0x3,%rax
-	ja L(109_168)
-	mov $0x1,%esi
-	jmp L(109_168)
+	jbe L(109_168)
+	jmp L(109_169)
 L(109_175):
 	cmpq $0x0,0xd0(%rsp)
 	je L(109_177)

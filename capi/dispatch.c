@@ -2,8 +2,8 @@
  * Copyright 2026 the Yezdopin authors.
  *
  * The library has two builds of one proved crate, for x86-64-v2 and for x86-64-v3, which has AVX2.
- * Where the processor has the latter, the calls below go to it: `make bench` finds it no slower in
- * any of them. All other calls are those of the build for x86-64-v2: they run no block. Contexts
+ * Where the processor has the latter, the calls below go to it: `make bench` finds most of them
+ * faster. All other calls are those of the build for x86-64-v2: they run no block. Contexts
  * and keys have the same bytes in both, so that one build goes on where the other stopped.
  *
  * The build for x86-64-v2 takes the SHA instructions where processor.c finds them. They have SSE's
@@ -11,9 +11,9 @@
  * which call goes where, and `make builds` compares both. */
 #include "processor.h"
 
-/* Whether a call runs blocks one by one, or several side by side. The lanes of AVX2 are faster then
- * than the instructions for SHA-1. Those for SHA-256 are faster one by one than four lanes, and as
- * fast as eight, so the build for x86-64-v2 has no lanes of SHA-256 beside them. */
+/* Whether a call runs blocks one by one, or several side by side. Under SHA-1 eight lanes of AVX2
+ * are then faster than the instructions. Under SHA-256 the instructions are faster than four lanes
+ * and as fast as eight, and where they are the build for x86-64-v2 runs one block by itself. */
 enum work { ALONE, TOGETHER };
 
 /* The fewest messages or rounds of SHA-1 and SHA-256 that run side by side. */

@@ -338,14 +338,14 @@ static void each_loss(void) {
 static int wanted_of(int which, uint32_t n, size_t out_len, bool has_v3, bool has_sha) {
     size_t most_alone = 3 * (which == EACH ? 1 : yz_output_len(n));
     bool is_alone = (which != EACH && which < PBKDF2) || out_len <= most_alone;
-    bool takes_sha = which >= PASSWORDS || (n <= YZ_SHA256 && is_alone);
+    bool takes_sha = which >= PASSWORDS || n == YZ_SHA256 || (n == YZ_SHA1 && is_alone);
     return has_v3 && !(has_sha && takes_sha) ? 3 : 2;
 }
 
 /* Each call under each algorithm, and under numbers of none, at lengths around some rounds: of what
  * is known, nobody asks again, and a processor without x86-64-v3 gets no call of it. With SHA
- * instructions the build for x86-64-v2 gets all calls of SHA-1 and SHA-256 that run nothing side by
- * side. */
+ * instructions the build for x86-64-v2 gets all calls of SHA-256, and those of SHA-1 that run nothing
+ * side by side. */
 static void each_call(void) {
     asked = 0;
     for (int features = 0; features < 4; features++) {
@@ -368,7 +368,7 @@ static void first_call(int build_wanted, bool sha_wanted) {
     gets_sha = true;
     asked = 0;
     for (int turn = 0; turn < 2; turn++)
-        is("yz_digest_each", build_of(EACH, YZ_SHA256, 4), build_wanted);
+        is("yz_digest_each", build_of(EACH, YZ_SHA512, 4), build_wanted);
     is("how often the processor is asked", asked, 2); /* for each of both features */
     int features = build_wanted == 3 ? YZ_FEATURE_V3 : 0;
     is("yz_features", (long)yz_features(), features | (sha_wanted ? YZ_FEATURE_SHA : 0));

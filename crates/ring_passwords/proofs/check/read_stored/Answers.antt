@@ -1,5 +1,5 @@
 -- SPDX-License-Identifier: ISC
-use Rattle.std.proofs.Common.{List, ℕ, subst, ◌∙◌}
+use Rattle.std.proofs.Common.{subst, ◌∙◌}
 use Rattle.std.proofs.lemmas.Option.{IfSome_then}
 use Rattle.ring_password_hash.specs.Stored.{IsTextOf, parts_of}
 use Rattle.ring_passwords.proofs.check.read_stored.Goals as goal

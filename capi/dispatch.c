@@ -2,9 +2,10 @@
  * Copyright 2026 the Yezdopin authors.
  *
  * The library has two builds of one proved crate, for x86-64-v2 and for x86-64-v3, which has AVX2.
- * Where the processor has the latter, the calls below go to it: `make bench` finds most of them
- * faster. All other calls are those of the build for x86-64-v2: they run no block. Contexts
- * and keys have the same bytes in both, so that one build goes on where the other stopped.
+ * Where the processor has the latter, the calls below go to it; docs/DECISIONS.md says what that
+ * gains and where it loses. All other calls are those of the build for x86-64-v2: they run no
+ * block. Contexts and keys have the same bytes in both, so that one build goes on where the other
+ * stopped.
  *
  * The build for x86-64-v2 takes the SHA instructions where processor.c finds them. They have SSE's
  * encodings alone, beside which code with AVX is slow on some processors. README.md has a table of

@@ -186,8 +186,9 @@ typedef struct {
  * yz_output_len of the algorithm, or the call is refused. It runs several messages side by side.
  * From four on that is faster than calls of yz_digest under YZ_SHA1 and YZ_SHA256, and on a
  * processor with AVX2 under all algorithms, most of all where the lengths are alike. With SHA
- * instructions YZ_SHA256 runs one after another, which is faster still. One short message is faster
- * by yz_digest, since each call clears room for sixteen digests first. */
+ * instructions YZ_SHA256 runs one after another, which is faster still, and long messages under
+ * YZ_SHA1 gain from eight on. One short message is faster by yz_digest, since each call clears room
+ * for sixteen digests first. */
 yz_status yz_digest_each(uint32_t algorithm, const yz_message *messages, size_t count,
                          uint8_t *out, size_t out_len) YZ_MUST_CHECK;
 

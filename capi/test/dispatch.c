@@ -344,8 +344,8 @@ static int wanted_of(int which, uint32_t n, size_t out_len, bool has_v3, bool ha
 
 /* Each call under each algorithm, and under numbers of none, at lengths around some rounds: of what
  * is known, nobody asks again, and a processor without x86-64-v3 gets no call of it. With SHA
- * instructions the build for x86-64-v2 gets all calls of SHA-256, and those of SHA-1 that run nothing
- * side by side. */
+ * instructions the build for x86-64-v2 gets all calls of SHA-256, and those of SHA-1 that run
+ * nothing side by side. */
 static void each_call(void) {
     asked = 0;
     for (int features = 0; features < 4; features++) {

@@ -4,12 +4,13 @@ use Rattle.std.proofs.lemmas.Grind.{common_steps}
 use Rattle.std.proofs.Common.{◌≡◌, ℕ, ◌*◌, ◌/◌, ◌≤◌, List, ◌++◌, length, take, drop, ap, ◌∙◌, arith}
 use Rattle.std.proofs.Common.{length-take-le, take_all, zero-mul, [], append-nil}
 use Rattle.std.proofs.Math.Nat.{div_self, mod_self}
-use Rattle.ring.specs.Prelude.{Algorithm, DynState, IsKeyInLane, IsWhole, Key, KeyStandsFor}
+use Rattle.ring.specs.Prelude.{Algorithm, IsKeyInLane, IsWhole}
 use Rattle.ring.specs.Prelude.{block_function, block_len, blocks_from, digest_bytes, digest_of}
-use Rattle.ring.specs.Prelude.{hmac_of, key_algorithm, output_len, padded, prepared_padding}
-use Rattle.ring.specs.Prelude.{word_bytes, word_count, word_len, words, words_after}
+use Rattle.ring.specs.Prelude.{hmac_of, inner_block, output_len, padded, prepared_padding}
+use Rattle.ring.specs.Prelude.{initial_words, tail_of, word_bytes, word_count, word_len}
+use Rattle.ring.specs.Prelude.{words_after}
 use Rattle.ring_core.proofs.ChunkFolds.{fold_chunks-next, fold_chunks-none}
-use Rattle.ring.proofs.lemmas.digest.Blocks.{words_after-append}
+use Rattle.ring.proofs.lemmas.digest.Blocks.{blocks_from-then, words_after-append}
 use Rattle.ring.proofs.lemmas.hmac.Keys.{length-inner_block, length-outer_block, one_block}
 use Rattle.ring.proofs.Lengths.{length-words_after}
 use Rattle.ring.proofs.lemmas.digest.Outputs.{length-bytes_high_first, length-word_bytes}
@@ -39,12 +40,28 @@ one_chained a h x lx =
     let front : take b (drop (0 * b) x) ≡ x = rw (zero-mul b) (take_all b x (omega (arith, lx))) in
     cc (one, front, fold_chunks-next step b h x 0, fold_chunks-none step b h x)
 
--- the words after that block write the digest
+-- the words after all blocks of a padded message write its digest
+pub ended-digest : (a : Algorithm) (m ws : List ℕ)
+    → take (word_count a) ws ≡ words_after a (padded a m) → digest_bytes a ws ≡ digest_of a m
+unfolding digest_of
+ended-digest a m ws ends =
+    let count = ap length ends ∙ length-words_after a (padded a m) in
+    cc (ends, front-word_bytes a ws [] count, append-nil (word_bytes (word_len a) ws))
+
+-- the blocks of the padding and of the bytes x before it are the last of the padded message
+pub words_after-end : (a : Algorithm) (p x : List ℕ) (n : ℕ) → IsWhole a p
+    → length (p ++ x) ≡ n
+    → blocks_from a (words_after a p) (tail_of a x n) ≡ words_after a (padded a (p ++ x))
+unfolding words_after
+words_after-end a p x n whole long =
+    let tail : List ℕ = tail_of a x (length (p ++ x)) in
+    cc (long, padded-append a p x whole, blocks_from-then a (initial_words a) p tail whole)
+
+-- the words after a digest's block write the digest
 block-digest : (a : Algorithm) (p m ws : List ℕ) → length p ≡ block_len a
     → length m ≡ output_len a
     → take (word_count a) ws ≡ block_function a (words_after a p) (m ++ prepared_padding a)
     → digest_bytes a ws ≡ digest_of a (p ++ m)
-unfolding digest_of
 block-digest a p m ws lp lm ew =
     let x : List ℕ = m ++ prepared_padding a in
     let lx : length x ≡ block_len a = length-padded a m lm in
@@ -56,8 +73,7 @@ block-digest a p m ws lp lm ew =
       words_after-append a p x whole,
       padded-message a p m lp lm,
     ) in
-    let count = ap length ends ∙ length-words_after a (padded a (p ++ m)) in
-    cc (ends, front-word_bytes a ws [] count, append-nil (word_bytes (word_len a) ws))
+    ended-digest a (p ++ m) ws ends
 
 -- a digest has its length
 length-digest_bytes : (a : Algorithm) (ws : List ℕ) → output_len a ≤ word_len a * length ws
@@ -65,21 +81,13 @@ length-digest_bytes : (a : Algorithm) (ws : List ℕ) → output_len a ≤ word_
 length-digest_bytes a ws room =
     grind (arith, common_steps, length-take-le, length-word_bytes)
 
--- the words in a lane: of the key, of the message, between the two digests and after them
-pub record AreSigned (a : Algorithm) (inner outer old middle new : List ℕ) : Type 0 where
-  pub inside : take (word_count a) middle
-      ≡ block_function a (take (word_count a) inner) (digest_bytes a old ++ prepared_padding a)
-  pub outside : take (word_count a) new
-      ≡ block_function a (take (word_count a) outer) (digest_bytes a middle ++ prepared_padding a)
-  pub eight : length old ≡ 8
-  pub eight_middle : length middle ≡ 8
-
--- the last words write the tag
-pub signed-tag : {a : Algorithm} {inner outer old middle new : List ℕ} (k : List ℕ)
-    → AreSigned a inner outer old middle new → IsKeyInLane a inner outer k
-    → digest_bytes a new ≡ hmac_of a k (digest_bytes a old)
-unfolding hmac_of
-signed-tag {a} {inner} {outer} {old} {middle} {new} k t stands =
+-- the words in a lane after a run over a digest and its padding write the digest inside
+pub signed-inside : {a : Algorithm} {inner outer : List ℕ} (old new k : List ℕ)
+    → take (word_count a) new
+    ≡ block_function a (take (word_count a) inner) (digest_bytes a old ++ prepared_padding a)
+    → length old ≡ 8 → IsKeyInLane a inner outer k
+    → digest_bytes a new ≡ digest_of a (inner_block a k ++ digest_bytes a old)
+signed-inside {a} {inner} {outer} old new k run eight stands =
     grind (
       arith,
       common_steps,
@@ -87,25 +95,22 @@ signed-tag {a} {inner} {outer} {old} {middle} {new} k t stands =
       eight_words,
       length-digest_bytes,
       length-inner_block,
-      length-outer_block,
     )
 
--- what a key stands for is so in the words of its states
-pub key_in_lane : (key : Key) {s t : DynState} (p : List ℕ) → key.inner.state ≡ s
-    → key.outer.state ≡ t → KeyStandsFor key p
-    → IsKeyInLane (key_algorithm key) (words s) (words t) p
-key_in_lane key p es et stands =
-    grind (arith, common_steps)
-
--- the words that were read of a digest's bytes write it
-pub digest_read : (a : Algorithm) {b : Algorithm} {n : ℕ} (ws bytes : List ℕ) {digest : List ℕ}
-    → n ≡ word_len a → word_bytes n ws ≡ take (8 * n) bytes → b ≡ a
-    → take (output_len b) bytes ≡ digest → digest_bytes a ws ≡ digest
-digest_read a {n = n} ws bytes size ew same ed =
-    grind (arith, common_steps, eight_words)
-
--- a state's bytes begin with the digest
-pub digest_written : (a : Algorithm) {n : ℕ} (ws zeros : List ℕ) {out : List ℕ} → n ≡ word_len a
-    → length ws ≡ 8 → out ≡ word_bytes n ws ++ zeros → take (output_len a) out ≡ digest_bytes a ws
-digest_written a {n = n} ws zeros size eight e =
-    grind (arith, common_steps, length-word_bytes, eight_words)
+-- and after a run over the digest inside of a message, its tag
+pub signed-outside : {a : Algorithm} {inner outer : List ℕ} (old new k m : List ℕ)
+    → take (word_count a) new
+    ≡ block_function a (take (word_count a) outer) (digest_bytes a old ++ prepared_padding a)
+    → length old ≡ 8 → IsKeyInLane a inner outer k
+    → digest_bytes a old ≡ digest_of a (inner_block a k ++ m)
+    → digest_bytes a new ≡ hmac_of a k m
+unfolding hmac_of
+signed-outside {a} {inner} {outer} old new k m run eight stands inside =
+    grind (
+      arith,
+      common_steps,
+      block-digest,
+      eight_words,
+      length-digest_bytes,
+      length-outer_block,
+    )

@@ -29,6 +29,12 @@ unfolding sum_below
 sum_below-more f b zero = grind arith
 sum_below-more f b (suc m) = grind (arith, sum_below-more f b m)
 
+-- and with one and b more
+pub sum_below-one_more : (f : ℕ → ℕ) (b m : ℕ)
+    → sum_below f m + m * (1 + b) ≡ sum_below (λ i. f i + 1 + b) m
+sum_below-one_more f b m =
+    grind (arith, sum_below-more f 1 m, sum_below-more (λ i. f i + 1) b m)
+
 -- the sum of two sums, the other as often as R
 pub sum_below-times : (f h : ℕ → ℕ) (R m : ℕ)
     → sum_below f m + R * sum_below h m ≡ sum_below (λ i. f i + R * h i) m

@@ -17,6 +17,7 @@ pub mod KeyBlocks
 pub mod Prepared
 pub mod Lanes
 pub mod Hmac
+pub mod Starts
 pub mod Hkdf
 pub mod Okm
 pub mod Pbkdf2

@@ -42,6 +42,7 @@ pub use Rattle.ring.specs.Hmac.{signing_pending, tag_algorithm, tag_bytes, KeySt
 pub use Rattle.ring.specs.Hmac.{TagStandsFor, IsTag, tag_of_inner, tag_from, inner_words}
 pub use Rattle.ring.specs.Hmac.{outer_words, tag_under, tag_with}
 unfoldable pub use Rattle.ring.specs.Hmac.{hmac_of}
+pub use Rattle.ring.specs.Starts.{HasStart, HasStates}
 pub use Rattle.ring.specs.Hkdf.{hkdf_digest, salt_algorithm, SaltStandsFor, prk_algorithm}
 pub use Rattle.ring.specs.Hkdf.{PrkStandsFor}
 unfoldable pub use Rattle.ring.specs.Hkdf.{hkdf_t, okm}
@@ -53,9 +54,9 @@ pub use Rattle.ring.specs.DeriveEach.{bytes_at, dk_at, derive_blocks_at, derive_
 pub use Rattle.ring.specs.DeriveEach.{AreDerived, CanDeriveEach, IsKeyOf, AreKeysOf, AreVerified}
 pub use Rattle.ring.specs.DeriveEach.{CanVerifyEach, answer_at}
 unfoldable pub use Rattle.ring.specs.DeriveEach.{sum_below}
-pub use Rattle.ring.specs.Rounds.{IsRound, AreOfKeys, AreRounds, CanDeriveUnder, IsStart}
+pub use Rattle.ring.specs.Rounds.{IsRound, AreOfKeys, AreRounds, CanDeriveUnder}
 pub use Rattle.ring.specs.Rounds.{AreOutputs, AreStarts, IsOutput, blocks_at, bytes_before}
-pub use Rattle.ring.specs.Rounds.{first_blocks, front, len_before, nth_round, round_at}
+pub use Rattle.ring.specs.Rounds.{first_blocks, first_message, front, len_before, nth_round, round_at}
 unfoldable pub use Rattle.ring.specs.Rounds.{next_round, round_on, rounds_before}
 pub use Rattle.ring.specs.Raw.{digest_named, joined_halves, completed_len, raw_message_len}
 pub use Rattle.ring.specs.Raw.{IsNoContext, IsNoKey, IsNoTagContext, raw_words, IsRawState}
@@ -92,3 +93,4 @@ pub use Rattle.ring.specs.declared.pbkdf2.rounds.Round.{Round}
 pub use Rattle.ring.specs.declared.raw.context.RawContext.{RawContext}
 pub use Rattle.ring.specs.declared.raw.key.RawKey.{RawKey}
 pub use Rattle.ring.specs.declared.raw.tag_context.RawTagContext.{RawTagContext}
+pub use Rattle.ring.specs.declared.hmac.prepared.Starts.{Starts}

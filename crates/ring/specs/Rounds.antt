@@ -1,23 +1,22 @@
 -- SPDX-License-Identifier: ISC
 -- The rounds of keys of one length: all of one key before those of the next.
-use Rattle.std.specs.Prelude.{◌≡◌, ℕ, zero, suc, ◌+◌, ◌-◌, ◌*◌, ◌<◌, ◌≤◌, All, List, IsTrue}
+use Rattle.std.specs.Prelude.{◌≡◌, ℕ, zero, suc, ◌+◌, ◌-◌, ◌*◌, ◌<◌, ◌≤◌, All, List, ◌++◌}
 use Rattle.std.specs.Prelude.{if◌then◌else◌, length, min, nat_lt, take}
+use Rattle.std.specs.Int.{bytes_high_first}
 use Rattle.std.specs.Int.NonZero.{non_zero_u32_get}
 use Rattle.std.specs.List.{HoldsAt}
 use Rattle.ring.specs.Algorithm.{output_len}
 use Rattle.ring.specs.Cost.{iterate_blocks, padded_blocks}
 use Rattle.ring.specs.DeriveEach.{bytes_at}
-use Rattle.ring.specs.Hmac.{KeyStandsFor, key_algorithm}
+use Rattle.ring.specs.Hmac.{key_algorithm}
 use Rattle.ring.specs.Items.{EachItem}
-use Rattle.ring.specs.Lanes.{IsKeyInLane, digest_bytes}
 use Rattle.ring.specs.Limits.{IsTagWithin, derive_rounds, max_dk_len}
-use Rattle.ring.specs.Pbkdf2.{pbkdf2_t, pbkdf2_u}
+use Rattle.ring.specs.Pbkdf2.{pbkdf2_t}
 use Rattle.ring.specs.Pieces.{joined_blocks}
-use Rattle.ring.specs.State.{is_state_of, words}
+use Rattle.ring.specs.Starts.{HasStart}
 use Rattle.ring.specs.declared.digest.algorithm.Algorithm.{Algorithm}
-use Rattle.ring.specs.declared.digest.dynstate.DynState.{DynState}
 use Rattle.ring.specs.declared.digest.dynstate.Output.{Output}
-use Rattle.ring.specs.declared.hmac.key.Key.{Key}
+use Rattle.ring.specs.declared.hmac.prepared.Starts.{Starts}
 use Rattle.ring.specs.declared.pbkdf2.rounds.Derivation.{Derivation}
 use Rattle.ring.specs.declared.pbkdf2.rounds.Round.{Round}
 
@@ -75,26 +74,18 @@ pub record AreRounds (d : Derivation) (r : Round) (m : ℕ) : Type 0 where
   pub under : CanDeriveUnder d
   pub places : AreOfKeys d.algorithm d.len r m (length d.keys.now)
 
--- the states s, t and u are what the round starts from: its key's two, and the words of U_1
-pub record IsStart (a : Algorithm) (k : Key) (salt : List ℕ) (index : ℕ) (s t u : DynState)
-    : Type 0 where
-  pub inner_sized : IsTrue (is_state_of a s)
-  pub outer_sized : IsTrue (is_state_of a t)
-  pub first_sized : IsTrue (is_state_of a u)
-  pub key : (p : List ℕ) → KeyStandsFor k p → IsKeyInLane a (words s) (words t) p
-  pub first : (p : List ℕ) → KeyStandsFor k p
-      → digest_bytes a (words u) ≡ pbkdf2_u a p salt index 1
-
 -- the k-th round after r, of a derivation's keys
 abbrev pub nth_round : Derivation → Round → ℕ → Round
 nth_round d r k = round_on d.algorithm d.len r k
 
--- the three lists have the states that each of the first m rounds from r on starts from
-pub record AreStarts (d : Derivation) (r : Round) (inner outer first : List DynState) (m : ℕ)
-    : Type 0 where
-  pub each : (i : ℕ) → i < m → HoldsAt (λ key. HoldsAt (λ s. HoldsAt (λ t. HoldsAt (λ u.
-      IsStart d.algorithm key (bytes_at d.salts.now (nth_round d r i).place)
-      (nth_round d r i).index s t u) first i) outer i) inner i) d.keys.now (nth_round d r i).place
+-- the message whose tag is U_1 of a round: the salt and the round's index
+abbrev pub first_message : Derivation → Round → List ℕ
+first_message d r = bytes_at d.salts.now r.place ++ bytes_high_first 4 r.index
+
+-- in the lanes start the first m rounds from r on
+pub record AreStarts (d : Derivation) (r : Round) (starts : Starts) (m : ℕ) : Type 0 where
+  pub each : (i : ℕ) → i < m → HoldsAt (λ key. HasStart d.algorithm starts i key
+      (first_message d (nth_round d r i))) d.keys.now (nth_round d r i).place
 
 -- T_j of the key at the place i, of the password p i
 abbrev pub round_at : Derivation → (ℕ → List ℕ) → (i j : ℕ) → List ℕ
@@ -113,10 +104,10 @@ pub record AreOutputs (a : Algorithm) (n : ℕ) (f : ℕ → ℕ → List ℕ) (
   pub places : AreOfKeys a n r (length outputs) m
   pub each : EachItem outputs (IsOutput a n f r)
 
--- the blocks of the first iterate of the k-th round after r
+-- the blocks inside of the first iterate of the k-th round after r
 abbrev pub first_blocks : Derivation → Round → ℕ → ℕ
 first_blocks d r k =
-    padded_blocks d.algorithm (length (bytes_at d.salts.now (nth_round d r k).place) + 4) + 1
+    padded_blocks d.algorithm (length (bytes_at d.salts.now (nth_round d r k).place) + 4)
 
 -- the blocks of all iterates of a round of the key at the place i
 abbrev pub blocks_at : Derivation → ℕ → ℕ

@@ -44,6 +44,7 @@ use ring_core::error::Unspecified;
 
 pub(crate) mod context;
 pub(crate) mod key;
+pub(crate) mod prepared;
 
 pub use crate::hmac::context::{Context, Tag};
 pub use crate::hmac::key::{

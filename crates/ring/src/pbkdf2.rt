@@ -66,16 +66,14 @@
 //! The imports of these examples stand in `pbkdf2.rt` and `several.rt` of
 //! `crates/ring_examples/src`.
 
-ghost use Rattle.std.specs.Prelude.{◌≡◌, ◌↔◌, ◌*◌, length, IsOk, OnOk, OnErr};
+ghost use Rattle.std.specs.Prelude.{◌≡◌, ◌↔◌, length, IsOk, OnOk, OnErr};
 ghost use Rattle.std.specs.Int.NonZero.{non_zero_u32_get};
-ghost use Rattle.ring.specs.Prelude.{CanDerive, CanVerify, DerivesKey, HasPlaces, IsDerived};
-ghost use Rattle.ring.specs.Prelude.{VerifiesKey, derive_blocks, dk, hmac_digest, pbkdf2_digest};
-ghost use Rattle.ring.specs.Prelude.{raised};
+ghost use Rattle.ring.specs.Prelude.{CanDerive, CanVerify, DerivesKey, IsDerived, VerifiesKey};
+ghost use Rattle.ring.specs.Prelude.{dk, pbkdf2_digest};
 
-use crate::hmac;
 use crate::limits::{can_derive_by, can_verify};
 use crate::pbkdf2::each::key_within;
-use crate::pbkdf2::receiver::{Compared, Receiver, Written};
+use crate::pbkdf2::receiver::{Compared, Written};
 use crate::pbkdf2::rounds::{Derivation, derive_under};
 use crate::width::SSE;
 use ring_core::cost::Meter;
@@ -84,7 +82,6 @@ use std::num::NonZeroU32;
 
 pub(crate) mod algorithm;
 pub(crate) mod each;
-pub(crate) mod iterates;
 pub(crate) mod receiver;
 pub(crate) mod rounds;
 
@@ -96,35 +93,6 @@ pub use crate::pbkdf2::each::{
     derive_each, derive_each_counted, derive_each_in, verify_each, verify_each_counted,
     verify_each_in,
 };
-
-// Derives `len` bytes from one secret and its salt.
-fn derive_one<const VECTOR_BITS: usize, R: Receiver>(
-    algorithm: hmac::Algorithm,
-    iterations: NonZeroU32,
-    salt: &[u8],
-    secret: &[u8],
-    len: usize,
-    receiver: &mut R,
-    meter: &mut Meter,
-)
-    requires within { CanDerive (hmac_digest algorithm)
-        (length secret.now) (length salt.now) len }
-    requires room { HasPlaces R.places R.room 1 len receiver.old }
-    ensures ok { R.HasReceived receiver.old receiver.new 0 (dk (hmac_digest algorithm)
-        secret.now salt.now (non_zero_u32_get iterations) len) }
-    ensures cost { meter.new ≡ raised meter.old (derive_blocks (hmac_digest algorithm)
-        (length secret.now) (length salt.now) (non_zero_u32_get iterations) len) (R.pairs * len) }
-{
-    let keys = [key_within(algorithm, secret, meter)];
-    let derivation = Derivation {
-        algorithm: algorithm.digest_algorithm(),
-        keys: &keys,
-        salts: &[salt],
-        iterations,
-        len,
-    };
-    derive_under::<VECTOR_BITS, R>(&derivation, 0, receiver, meter);
-}
 
 /// As [`derive`], but over vectors of `VECTOR_BITS` bits. `meter` counts the blocks. A refusal
 /// leaves it as it was.
@@ -140,25 +108,25 @@ pub fn derive_in<const VECTOR_BITS: usize>(
         (non_zero_u32_get iterations) out.old out.new meter.old meter.new result }
 {
     let hmac_algorithm = algorithm.hmac_algorithm();
+    let digest = hmac_algorithm.digest_algorithm();
     if !can_derive_by(
-        &hmac_algorithm.digest_algorithm(),
+        &digest,
         secret.len() as u128,
         salt.len() as u128,
         out.len() as u128,
     ) {
         return Err(Unspecified);
     }
-    let len = out.len();
-    let mut written = Written { out };
-    derive_one::<VECTOR_BITS, Written>(
-        hmac_algorithm,
+    let keys = [key_within(hmac_algorithm, secret, meter)];
+    let derivation = Derivation {
+        algorithm: digest,
+        keys: &keys,
+        salts: &[salt],
         iterations,
-        salt,
-        secret,
-        len,
-        &mut written,
-        meter,
-    );
+        len: out.len(),
+    };
+    let mut written = Written { out };
+    derive_under::<VECTOR_BITS, Written>(&derivation, 0, &mut written, meter);
     Ok(())
 }
 
@@ -223,27 +191,28 @@ pub fn verify_in<const VECTOR_BITS: usize>(
         (non_zero_u32_get iterations) previously_derived.now meter.old meter.new result }
 {
     let hmac_algorithm = algorithm.hmac_algorithm();
+    let digest = hmac_algorithm.digest_algorithm();
     if !can_verify(
-        &hmac_algorithm.digest_algorithm(),
+        &digest,
         secret.len() as u128,
         salt.len() as u128,
         previously_derived.len() as u128,
     ) {
         return Err(Unspecified);
     }
+    let keys = [key_within(hmac_algorithm, secret, meter)];
+    let derivation = Derivation {
+        algorithm: digest,
+        keys: &keys,
+        salts: &[salt],
+        iterations,
+        len: previously_derived.len(),
+    };
     let mut compared = Compared {
         value: previously_derived,
         matches: true,
     };
-    derive_one::<VECTOR_BITS, Compared>(
-        hmac_algorithm,
-        iterations,
-        salt,
-        secret,
-        previously_derived.len(),
-        &mut compared,
-        meter,
-    );
+    derive_under::<VECTOR_BITS, Compared>(&derivation, 0, &mut compared, meter);
     compared.matches.then_some(()).ok_or(Unspecified)
 }
 

@@ -10,6 +10,5 @@ pub mod LaneBlocks
 pub mod Runs
 pub mod Words
 pub mod Written
-pub mod Paddings
 pub mod GoingOn
 pub mod Updates

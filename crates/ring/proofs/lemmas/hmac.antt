@@ -1,3 +1,5 @@
 -- SPDX-License-Identifier: ISC
 -- Lemmas of `hmac`.
 pub mod Keys
+pub mod Paddings
+pub mod Starts

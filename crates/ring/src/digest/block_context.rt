@@ -10,9 +10,10 @@ ghost use Rattle.ring_core.specs.Cost.{raised};
 ghost use Rattle.ring.specs.Algorithm.{block_len, length_len, max_input_len, output_len, word_len};
 ghost use Rattle.ring.specs.Cost.{padded_blocks, whole_blocks};
 ghost use Rattle.ring.specs.Digest.{IsDigest, blocks_from, bytes_of, digest_after};
-ghost use Rattle.ring.specs.Digest.{digest_algorithm};
+ghost use Rattle.ring.specs.Digest.{digest_algorithm, digest_of};
+ghost use Rattle.ring.specs.Lanes.{digest_bytes};
 ghost use Rattle.ring.specs.Padding.{IsPadded, padded, tail_of};
-ghost use Rattle.ring.specs.State.{chaining_words, is_state_of, spare_words, word_bytes};
+ghost use Rattle.ring.specs.State.{chaining_words, is_state_of, spare_words, word_bytes, words};
 ghost use Rattle.ring.specs.declared.digest.algorithm.Algorithm.{Algorithm};
 
 use crate::digest::algorithm::{Algorithm, MAX_BLOCK_LEN, is_message_within};
@@ -348,6 +349,27 @@ impl BlockContext {
         let len = write_tail(self.algorithm, pending, message_len, &mut tail);
         let output = self.output_after(&tail[..len], meter);
         Digest::new(output, self.algorithm)
+    }
+
+    // The state after the blocks, the pending bytes and the padding, whose message is within the
+    // limit: its words write the digest.
+    pub(crate) fn end_within(&self, pending: &[u8], meter: &mut Meter) -> DynState
+        requires partial { length pending.now < block_len (block_algorithm self.now) }
+        requires within { cut_off (counted_bytes self.now + length pending.now)
+            ≤ max_input_len (block_algorithm self.now) }
+        ensures ok { (p : List ℕ) → HasTaken self.now p
+            → digest_bytes (block_algorithm self.now) (words result)
+            ≡ digest_of (block_algorithm self.now) (p ++ pending.now) }
+        ensures cost { meter.new
+            ≡ raised meter.old (padded_blocks (block_algorithm self.now) (length pending.now)) 0 }
+        ensures sized { IsTrue (is_state_of (block_algorithm self.now) result) }
+    {
+        let message_len = self.len_with(pending);
+        let mut tail = [0; MAX_TAIL_LEN];
+        let len = write_tail(self.algorithm, pending, message_len, &mut tail);
+        let mut state = self.state;
+        let _ = run_blocks(self.algorithm, &mut state, &tail[..len], meter);
+        state
     }
 
     // The digest of the blocks and of the pending bytes.

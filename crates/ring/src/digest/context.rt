@@ -2,14 +2,17 @@
 //! The digest of a message that arrives in pieces, and that of one which is there at once.
 
 ghost use Rattle.std.specs.Prelude.{◌≡◌, ◌↔◌, ℕ, ◌+◌, ◌-◌, ◌%◌, ◌<◌, ◌≤◌, List, [], ◌++◌, length};
-ghost use Rattle.std.specs.Prelude.{IfOk, IsErr, OnOk, OnErr};
+ghost use Rattle.std.specs.Prelude.{IfOk, IsErr, IsTrue, OnOk, OnErr};
 ghost use Rattle.ring_core.specs.Cost.{raised};
 ghost use Rattle.ring.specs.Algorithm.{block_len, max_input_len};
 ghost use Rattle.ring.specs.Cost.{last_blocks, padded_blocks, whole_blocks};
-ghost use Rattle.ring.specs.Digest.{IsDigest, bytes_of, digest_after, digest_algorithm};
+ghost use Rattle.ring.specs.Digest.{IsDigest, bytes_of, digest_after, digest_algorithm, digest_of};
+ghost use Rattle.ring.specs.Lanes.{digest_bytes};
+ghost use Rattle.ring.specs.State.{is_state_of, words};
 
 use crate::digest::algorithm::{Algorithm, MAX_BLOCK_LEN, is_message_within};
 use crate::digest::block_context::{BlockContext, Digest};
+use crate::digest::dynstate::DynState;
 use ring_core::cost::Meter;
 use ring_core::error::Unspecified;
 
@@ -149,6 +152,22 @@ impl Context {
     {
         self.block
             .try_finish(&self.pending[..self.num_pending], meter)
+    }
+
+    // The state after the message, which is within the limit, and its padding: its words write the
+    // digest.
+    #[tactic(auto, unfolding(crate::specs::Context::StandsFor))]
+    pub(crate) fn end_within(&self, meter: &mut Meter) -> DynState
+        requires { message_len self.now ≤ max_input_len (context_algorithm self.now) }
+        ensures ok { (m : List ℕ) → StandsFor self.now m
+            → digest_bytes (context_algorithm self.now) (words result)
+            ≡ digest_of (context_algorithm self.now) m }
+        ensures cost { meter.new ≡ raised meter.old
+            (padded_blocks (context_algorithm self.now) (pending_len self.now)) 0 }
+        ensures sized { IsTrue (is_state_of (context_algorithm self.now) result) }
+    {
+        self.block
+            .end_within(&self.pending[..self.num_pending], meter)
     }
 
     /// Returns the digest of the message (FIPS 180-4, section 6).

@@ -12,13 +12,12 @@ ghost use Rattle.ring.specs.Prelude.{derive_rounds, dk, first_blocks, len_before
 ghost use Rattle.ring.specs.Prelude.{next_round, nth_round, raised, round_at, sum_below};
 
 use crate::digest::algorithm::{Algorithm, AlgorithmId};
-use crate::digest::dynstate::{DynState, OUTPUT_ROOM, Output};
+use crate::digest::dynstate::{OUTPUT_ROOM, Output};
 use crate::digest::lanes::algorithms::{
-    DigestBlock, InVector, LaneStates, MAX_LANES, OneLane, Sha1, Sha256, Sha384, Sha512,
-    Sha512_256, lanes_for,
+    InVector, MAX_LANES, OneLane, Sha1, Sha256, Sha384, Sha512, Sha512_256, lanes_for,
 };
 use crate::hmac::Key;
-use crate::pbkdf2::iterates::{bytes_of, first_iterate, xor_iterates};
+use crate::hmac::prepared::{DigestBlock, PreparedKeys, Starts};
 use crate::pbkdf2::receiver::Receiver;
 use crate::width::AVX2;
 use ring_core::cost::Meter;
@@ -90,18 +89,7 @@ fn rounds_from(derivation: &Derivation<'_>, first: Round) -> usize
     count
 }
 
-// What rounds start from, each at its lane: the key's two states, and the words of U_1. There is
-// room for the greatest number of lanes.
-#[derive(Drop)]
-struct Starts {
-    inner: [DynState; MAX_LANES],
-    outer: [DynState; MAX_LANES],
-    first: [DynState; MAX_LANES],
-}
-
-const NO_STATES: [DynState; MAX_LANES] = [DynState::As32([Wrapping(0); 8]); MAX_LANES];
-
-// Sets what the rounds from `first` on start from, of so many lanes.
+// Starts the rounds from `first` on, of so many lanes: each by the message whose tag is U_1.
 fn set_starts(
     derivation: &Derivation<'_>,
     first: Round,
@@ -111,30 +99,26 @@ fn set_starts(
 )
     requires most { lanes ≤ 8 }
     requires rounds { AreRounds derivation.now first lanes }
-    ensures starts { AreStarts derivation.now first
-        starts.new.inner starts.new.outer starts.new.first lanes }
+    ensures starts { AreStarts derivation.now first starts.new lanes }
     ensures cost { meter.new
         ≡ raised meter.old (sum_below (first_blocks derivation.now first) lanes) 0 }
-    ensures lengths { (length starts.new.inner ≡ 8) × (length starts.new.outer ≡ 8)
-        × (length starts.new.first ≡ 8) }
 {
     let mut round = first;
     'starts: for i in 0..lanes {
         let key = &derivation.keys[round.place];
-        let tag = first_iterate(key, derivation.salts[round.place], round.index, meter);
-        starts.inner[i] = key.inner.state;
-        starts.outer[i] = key.outer.state;
-        starts.first[i] = key.inner.state.with_bytes(&bytes_of(&tag));
+        let salt = derivation.salts[round.place];
+        starts.set(i, key, salt, &round.index.to_be_bytes(), meter);
         round = round_after(derivation, round);
     }
 }
 
-// Writes the rounds from `first` on, as many as there are lanes. It is not inlined, since its
-// caller would then hold on the stack what the rounds start from once for each number of lanes.
+// Writes the rounds from `first` on, as many as there are lanes: of each the exclusive or of its
+// iterates. It isn't inlined, so that its caller keeps no room for it while rounds start.
 #[inline(never)]
-fn write_rounds_in_lanes<H: DigestBlock>(
+fn xor_iterates<H: DigestBlock>(
     derivation: &Derivation<'_>,
     first: Round,
+    starts: &Starts,
     outputs: &mut [Output],
     meter: &mut Meter,
 )
@@ -143,26 +127,23 @@ fn write_rounds_in_lanes<H: DigestBlock>(
     requires same { H.algorithm ≡ derivation.now.algorithm }
     requires lanes { length outputs.old ≡ H.LANES }
     requires rounds { AreRounds derivation.now first H.LANES }
+    requires starts { AreStarts derivation.now first starts.now H.LANES }
     ensures ok { (p : ℕ → List ℕ) → AreKeysOf derivation.now.algorithm derivation.now.keys.now p
         → AreOutputs derivation.now.algorithm derivation.now.len (round_at derivation.now p)
         (length derivation.now.keys.now) first outputs.new }
     ensures cost { meter.new ≡ raised meter.old
-        (sum_below (λ i. blocks_at derivation.now (nth_round derivation.now first i).place)
-        H.LANES) 0 }
+        (H.LANES * (1 + 2 * (non_zero_u32_get derivation.now.iterations - 1))) 0 }
 {
-    let lanes = outputs.len();
-    let mut starts = Starts {
-        inner: NO_STATES,
-        outer: NO_STATES,
-        first: NO_STATES,
-    };
-    set_starts(derivation, first, lanes, &mut starts, meter);
-    let inner = H::new(&starts.inner[..lanes]);
-    let outer = H::new(&starts.outer[..lanes]);
-    let first = H::new(&starts.first[..lanes]);
-    let sums = xor_iterates::<H>(&inner, &outer, &first, derivation.iterations, meter);
-    'outputs: for i in 0..lanes {
-        outputs[i] = H::state(&sums, i).format_output();
+    let keys = PreparedKeys::<H>::new(starts);
+    let mut room = PreparedKeys::<H>::room();
+    let mut iterate = keys.first_tags(starts, &mut room, meter);
+    let mut sum = iterate.clone();
+    'iterates: for _made in 1..derivation.iterations.get() {
+        keys.sign_digests(&mut room, &mut iterate, meter);
+        sum.xor_assign(&iterate);
+    }
+    'outputs: for i in 0..outputs.len() {
+        outputs[i] = sum.output(i);
     }
 }
 
@@ -170,21 +151,22 @@ fn write_rounds_in_lanes<H: DigestBlock>(
 fn write_rounds<const VECTOR_BITS: usize>(
     derivation: &Derivation<'_>,
     first: Round,
+    starts: &Starts,
     outputs: &mut [Output],
     meter: &mut Meter,
 )
     requires together { CanRunTogether VECTOR_BITS derivation.now.algorithm (length outputs.old) }
     requires rounds { AreRounds derivation.now first (length outputs.old) }
+    requires starts { AreStarts derivation.now first starts.now (length outputs.old) }
     ensures ok { (p : ℕ → List ℕ) → AreKeysOf derivation.now.algorithm derivation.now.keys.now p
         → AreOutputs derivation.now.algorithm derivation.now.len (round_at derivation.now p)
         (length derivation.now.keys.now) first outputs.new }
-    ensures cost { meter.new ≡ raised meter.old
-        (sum_below (λ i. blocks_at derivation.now (nth_round derivation.now first i).place)
-        (length outputs.old)) 0 }
+    ensures cost { meter.new ≡ raised meter.old (length outputs.old
+        * (1 + 2 * (non_zero_u32_get derivation.now.iterations - 1))) 0 }
 {
     macro_rules! in_lanes {
         ($lanes:ty) => {
-            write_rounds_in_lanes::<$lanes>(derivation, first, outputs, meter)
+            xor_iterates::<$lanes>(derivation, first, starts, outputs, meter)
         };
     }
     match (derivation.algorithm.id, outputs.len()) {
@@ -274,7 +256,9 @@ pub(crate) fn derive_under<const VECTOR_BITS: usize, R: Receiver>(
         let lanes = lanes_for::<VECTOR_BITS>(derivation.algorithm, left);
         let mut outputs = NO_OUTPUTS;
         let outputs = &mut outputs[..lanes];
-        write_rounds::<VECTOR_BITS>(derivation, round, outputs, meter);
+        let mut starts = Starts::new();
+        set_starts(derivation, round, lanes, &mut starts, meter);
+        write_rounds::<VECTOR_BITS>(derivation, round, &starts, outputs, meter);
         round = hand_over(derivation, round, outputs, first, receiver, meter);
     }
 }

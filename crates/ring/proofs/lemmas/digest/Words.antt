@@ -9,7 +9,7 @@ use Rattle.std.proofs.lemmas.List.{length-map, length-take, take-append-drop, ta
 use Rattle.std.specs.declared.num.Wrapping.{Wrapping}
 use Rattle.std.proofs.lemmas.Bool.{cases_lt}
 use Rattle.std.proofs.lemmas.List.Concat.{flat_map-append}
-use Rattle.std.proofs.lemmas.Nat.{be_bytes_4, be_bytes_8, mod-pow-add, pow-add, xor_mod, xor_shr}
+use Rattle.std.proofs.lemmas.Nat.{mod-pow-add, pow-add, xor_mod, xor_shr}
 use Rattle.std.proofs.Math.Nat.{mod-eq_of_lt, pow-suc}
 use Rattle.std.proofs.Math.Seq.{drop-append-add}
 use Rattle.std.specs.Int.{byte_at, bytes_high_first}
@@ -190,47 +190,3 @@ padded-words {a = a} {w = w} {k = k} {padding = padding} {f} xs t eight each =
       word = λ j below. block-words w n all j size (omega (arith, long)) fits
           ∙ ap (λ z. word_at w z j) block;
     }
-
-part-below : (n k : ℕ) (xs : List ℕ) → AllBelow 256 xs → AllBelow 256 (take n (drop k xs))
-part-below n k xs small t =
-    grind (arith, common_steps, cases_lt, length-take)
-
-short_back : (n : ℕ) (bs : List ℕ) → length bs ≡ 4 → AllBelow 256 bs → n ≡ big_endian bs
-    → bytes_high_first 4 (n % 2 ^ 32) ≡ bs
-short_back n (a ∷ b ∷ c ∷ d ∷ []) four small e =
-    be_bytes_4 (a ∷ b ∷ c ∷ d ∷ []) (n % 2 ^ 32) refl small
-    (omega (arith, e, small 0, small 1, small 2, small 3))
-short_back n _ four small e = absurd (omega arith)
-
-long_back : (n : ℕ) (bs : List ℕ) → length bs ≡ 8 → AllBelow 256 bs → n ≡ big_endian bs
-    → bytes_high_first 8 (n % 2 ^ 64) ≡ bs
-long_back n (a ∷ b ∷ c ∷ d ∷ f ∷ g ∷ h ∷ i ∷ []) eight small e =
-    be_bytes_8 (a ∷ b ∷ c ∷ d ∷ f ∷ g ∷ h ∷ i ∷ []) (n % 2 ^ 64) refl small
-    (omega (
-      arith,
-      e,
-      small 0,
-      small 1,
-      small 2,
-      small 3,
-      small 4,
-      small 5,
-      small 6,
-      small 7,
-    ))
-long_back n _ eight small e = absurd (omega arith)
-
--- the bytes of a word that was read
-pub short_bytes : {n : ℕ} (k : ℕ) (xs : List ℕ) → length xs ≡ 64 → k + 4 ≤ 64 → AllBelow 256 xs
-    → n ≡ big_endian (take 4 (drop k xs)) → bytes_high_first 4 (n % 2 ^ 32) ≡ take 4 (drop k xs)
-short_bytes {n} k xs long room small e =
-    let len : length (take 4 (drop k xs)) ≡ 4 =
-    length-take-le 4 (drop k xs) (omega (arith, length-drop k xs)) in
-    short_back n (take 4 (drop k xs)) len (part-below 4 k xs small) e
-
-pub long_bytes : {n : ℕ} (k : ℕ) (xs : List ℕ) → length xs ≡ 64 → k + 8 ≤ 64 → AllBelow 256 xs
-    → n ≡ big_endian (take 8 (drop k xs)) → bytes_high_first 8 (n % 2 ^ 64) ≡ take 8 (drop k xs)
-long_bytes {n} k xs long room small e =
-    let len : length (take 8 (drop k xs)) ≡ 8 =
-    length-take-le 8 (drop k xs) (omega (arith, length-drop k xs)) in
-    long_back n (take 8 (drop k xs)) len (part-below 8 k xs small) e

@@ -5,7 +5,7 @@ use Rattle.std.proofs.Common.{length, refl, take, true, Bor}
 use Rattle.std.proofs.lemmas.Grind.{common_steps}
 use Rattle.ring.specs.Prelude.{Algorithm, CanDerive, CanDeriveEach, CanDeriveUnder, CanVerify}
 use Rattle.ring.specs.Prelude.{AreKeysOf, Derivation, IsDerived, Key, KeyStandsFor, Output}
-use Rattle.ring.specs.Prelude.{derive_blocks_at, dk, key_algorithm, sum_below}
+use Rattle.ring.specs.Prelude.{Receives, derive_blocks_at, dk, key_algorithm, sum_below}
 use Rattle.ring.proofs.Each.{message_at-part}
 use Rattle.ring.proofs.lemmas.pbkdf2.Places.{items_from}
 use Rattle.ring.proofs.lemmas.pbkdf2.Rounds.{length-dk}
@@ -29,6 +29,12 @@ key-alone same stands =
     record {
       each = λ i d below. grind (arith, common_steps, same, stands);
     }
+
+-- and its bytes are received
+pub received-alone : {R : Type 0} {H : R → R → ℕ → List ℕ → Type 0} {m : ℕ}
+    {bytes : ℕ → List ℕ} {old new : R} → Receives H 0 m bytes old new → 0 < m
+    → ((start : R) → H start start 0 []) → H old new 0 (bytes 0)
+received-alone {old = old} made some none = made.each old 0 some (none old)
 
 module _ (a : Algorithm) (salts secrets : List (Bor (List ℕ))) (c n : ℕ) where
   -- the blocks at the first m places, and at k more

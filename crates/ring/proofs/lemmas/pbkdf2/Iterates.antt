@@ -6,9 +6,8 @@ use Rattle.std.proofs.Common.{arith, length, refl, replicate, suc, sym, zero}
 use Rattle.std.proofs.lemmas.List.{length-replicate}
 use Rattle.std.specs.Int.{bytes_high_first}
 use Rattle.ring_core.specs.Prelude.{xor_lists}
-use Rattle.ring.specs.Prelude.{Algorithm, digest_bytes, hmac_of, output_len, pbkdf2_t, pbkdf2_u}
+use Rattle.ring.specs.Prelude.{Algorithm, hmac_of, output_len, pbkdf2_t, pbkdf2_u}
 use Rattle.ring.proofs.lemmas.hmac.Keys.{length-hmac_of}
-use Rattle.ring.proofs.lemmas.digest.Words.{digest_bytes-xor}
 
 length-xor_lists : (xs ys : List ℕ) → length (xor_lists xs ys) ≡ length xs
 length-xor_lists [] ys = refl
@@ -51,23 +50,25 @@ module _ (a : Algorithm) (p s : List ℕ) (i : ℕ) where
       ap length (pbkdf2_u-next 0) ∙ length-hmac_of a p _ in
       rw (pbkdf2_t-next 0, pbkdf2_t-none, ← len) (xor_lists-zeros (pbkdf2_u a p s i 1))
 
--- j iterates of the round i are made: the words of the last, and those of their exclusive or
-pub record IsMade (a : Algorithm) (p s : List ℕ) (i j : ℕ) (ws all : List ℕ) : Type 0 where
-  pub last : digest_bytes a ws ≡ pbkdf2_u a p s i j
-  pub sum : digest_bytes a all ≡ pbkdf2_t a p s i j
+-- j iterates of the round i are made: the last, and their exclusive or
+pub record IsMade (a : Algorithm) (p s : List ℕ) (i j : ℕ) (u t : List ℕ) : Type 0 where
+  pub last : u ≡ pbkdf2_u a p s i j
+  pub sum : t ≡ pbkdf2_t a p s i j
 
 module _ {a : Algorithm} {p s : List ℕ} {i : ℕ} where
-  pub made-first : {first : List ℕ} → digest_bytes a first ≡ pbkdf2_u a p s i 1
+  pub made-first : {first : List ℕ} → first ≡ hmac_of a p (s ++ bytes_high_first 4 i)
       → IsMade a p s i 1 first first
-  made-first h = record { last = h; sum = h ∙ sym (pbkdf2_t-first a p s i) }
+  made-first h =
+      let first = h ∙ sym (pbkdf2_u-first a p s i) in
+      record { last = first; sum = first ∙ sym (pbkdf2_t-first a p s i) }
 
   pub made-next : {j : ℕ} {last sum last' sum' : List ℕ} → IsMade a p s i j last sum
-      → digest_bytes a last' ≡ hmac_of a p (digest_bytes a last) → sum' ≡ xor_lists sum last'
+      → last' ≡ hmac_of a p last → sum' ≡ xor_lists sum last'
       → IsMade a p s i (j + 1) last' sum'
-  made-next {j = j} {sum = sum} {last' = last'} t h e =
+  made-next {j = j} t h e =
       let u = pbkdf2_u-next a p s i j in
-      grind (arith, common_steps, pbkdf2_t-next a p s i j, digest_bytes-xor a sum last')
+      grind (arith, common_steps, pbkdf2_t-next a p s i j)
 
--- the blocks of one more in n lanes, after those of the j - 1 past the first
-pub blocks-next : (n j : ℕ) → 1 ≤ j → n * (2 * (j - 1)) + 2 * n ≡ n * (2 * (j + 1 - 1))
+-- the blocks of one more in n lanes, after the first block and those of the j - 1 past it
+pub blocks-next : (n j : ℕ) → 1 ≤ j → n * (1 + 2 * (j - 1)) + 2 * n ≡ n * (1 + 2 * (j + 1 - 1))
 blocks-next n j some = let up : j + 1 - 1 ≡ j - 1 + 1 = omega arith in rw up (grind arith)

@@ -1,12 +1,14 @@
 -- SPDX-License-Identifier: ISC
-use Rattle.std.proofs.Common.{◌≡◌, ◌∙◌, ◌+◌, ◌-◌, ℕ, arith, length, length-take, sym}
+use Rattle.std.proofs.Common.{◌≡◌, ◌∙◌, ◌+◌, ◌*◌, ◌-◌, ℕ, arith, length, length-take, refl, sym}
 use Rattle.std.specs.Int.NonZero.{non_zero_u32_get}
-use Rattle.ring.specs.Prelude.{Output, blocks_at, bytes_at, len_before, nth_round}
-use Rattle.ring.proofs.Sums.{raised-sum, raised_zero}
+use Rattle.ring.specs.Prelude.{Output, blocks_at, bytes_at, first_blocks, len_before}
+use Rattle.ring.specs.Prelude.{nth_round}
+use Rattle.ring.proofs.Sums.{raised-sum, raised_zero, sum_below-one_more}
 use Rattle.ring.proofs.lemmas.pbkdf2.Rounds.{blocks-first, blocks_before, derived-none}
 use Rattle.ring.proofs.lemmas.pbkdf2.Rounds.{fewer_rounds, is_round-first, is_round-on, len-most}
 use Rattle.ring.proofs.lemmas.pbkdf2.Rounds.{len-on, mul-sum, no_rounds, raised-on, round_on-none}
 use Rattle.ring.proofs.lemmas.pbkdf2.Rounds.{taken-derived, taken-first, up_to-first, up_to-on}
+use Rattle.ring.proofs.lemmas.pbkdf2.Starts.{fewer_starts}
 use Rattle.ring.proofs.lemmas.pbkdf2.Taking.{keeps-more, places-kept}
 use Rattle.ring.proofs.pbkdf2.rounds.derive_under.Goals as goal
 
@@ -30,6 +32,18 @@ rounds-init g c =
       taken = λ p are. taken-first _ _ _;
       cost = sym (raised_zero _ _ _ (blocks-first _ _ _) (grind arith));
     }
+
+pub set_starts-requires-clause-rounds : goal.set_starts-requires-clause-rounds
+set_starts-requires-clause-rounds g c =
+    record {
+      first = c.rounds.invariant.round;
+      under = c.requires.under;
+      places = fewer_rounds _ c.rounds_from-left.ensures.places (omega arith);
+    }
+
+pub write_rounds-requires-clause-starts : goal.write_rounds-requires-clause-starts
+write_rounds-requires-clause-starts g c =
+    fewer_starts _ c.set_starts.ensures.starts (omega (arith, length-take {A = Output}))
 
 pub write_rounds-requires-clause-rounds : goal.write_rounds-requires-clause-rounds
 write_rounds-requires-clause-rounds g c =
@@ -61,6 +75,11 @@ rounds-preserved g c =
     let blocks = blocks_at d in
     let had = len_before d.len c.rounds.round in
     let has = len_before d.len c.hand_over-round.result in
+    let later = 1 + 2 * (non_zero_u32_get d.iterations - 1) in
+    let written = raised-sum c.rounds.meter _ 0 (t * later) 0 c.set_starts.ensures.cost
+    (rw (sym c.write_rounds.auto.outputs ∙ size) at c.write_rounds.ensures.cost)
+    (sum_below-one_more (first_blocks d c.rounds.round)
+    (2 * (non_zero_u32_get d.iterations - 1)) t) refl in
     let reached : ℕ = blocks_before d.algorithm blocks d.len (nth_round d c.rounds.round t) in
     record {
       round = rw next (is_round-on h.round t);
@@ -68,8 +87,8 @@ rounds-preserved g c =
       same = keeps-more h.same handed.same;
       taken = λ p are. handed.ok c.args.receiver.now _ keys (c.write_rounds.ensures.ok p are)
           (h.taken p are);
-      cost = raised-sum _ reached _ 0 _ (raised-on h.round blocks t _ _ h.cost
-          (rw (sym c.write_rounds.auto.outputs ∙ size) at c.write_rounds.ensures.cost)) handed.cost
+      cost = raised-sum _ reached _ 0 _ (raised-on h.round blocks t _ _ h.cost written)
+          handed.cost
           (rw next (omega arith)) (mul-sum g.R.Receiver.pairs had (has - had) has
           (rw next (omega (arith, len-on h.round t))));
     }

@@ -1,0 +1,31 @@
+-- SPDX-License-Identifier: ISC
+use Rattle.std.proofs.Common.{◌≡◌, ◌++◌, ◌+◌, ◌-◌, ◌*◌, ℕ, List, length}
+use Rattle.std.specs.Int.{bytes_high_first}
+use Rattle.ring.specs.Prelude.{AreKeysOf, IsKeyInLane, IsOutput, digest_bytes, hmac_of, raised}
+use Rattle.ring.specs.Prelude.{round_at}
+use Rattle.ring.proofs.lemmas.pbkdf2.Iterates.{IsMade}
+use Rattle.ring.proofs.lemmas.pbkdf2.Places.{HoldsBelow}
+use Rattle.ring.proofs.pbkdf2.rounds.xor_iterates.Given as goal
+
+abbrev pub invariant-iterates : goal.invariant-iterates
+invariant-iterates g l =
+    let a = g.H.DigestBlock.algorithm in
+    let lane = g.H.LaneStates.lane in
+    record {
+      made : (k : ℕ) (p s : List ℕ) (i : ℕ)
+          → IsKeyInLane a (lane k l.keys.inner) (lane k l.keys.outer) p
+          → digest_bytes a (lane k l.initial.iterate.words) ≡ hmac_of a p (s ++ bytes_high_first 4 i)
+          → IsMade a p s i l._made (digest_bytes a (lane k l.iterate.words))
+          (digest_bytes a (lane k l.sum.words));
+      cost : l.meter ≡ raised l.fn.meter (g.H.LaneStates.LANES * (1 + 2 * (l._made - 1))) 0;
+    }
+
+-- the first i rounds are written
+abbrev pub invariant-outputs : goal.invariant-outputs
+invariant-outputs g l =
+    let d = l.derivation in
+    record {
+      written : (p : ℕ → List ℕ) → AreKeysOf d.algorithm d.keys.now p
+          → HoldsBelow (IsOutput d.algorithm d.len (round_at d p) l.fn.first) l.i l.outputs;
+      count : length l.outputs ≡ g.H.LaneStates.LANES;
+    }

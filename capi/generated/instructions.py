@@ -70,7 +70,7 @@ TABLE = {
         "sha256su0": Instruction(f"{ARM}.sha256su0", TWO, VECTOR),
         "sha256su1": Instruction(f"{ARM}.sha256su1", THREE, VECTOR),
     }),
-    "wasm64": ("ring_core::digest::states::", {"is_window_chosen": IS_CHOSEN}),
+    "wasm64": ("ring_core::digest::kernel::", {"is_window_chosen": IS_CHOSEN}),
 }
 # What the kit marks a function with that is never inlined.
 NEVER_INLINED = "noinline nounwind"

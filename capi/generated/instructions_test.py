@@ -19,7 +19,7 @@ from pathlib import Path
 PROGRAM = Path(__file__).parent / "instructions.py"
 PREFIX = {"x86_64": "ring_core::digest::instructions::x86::",
           "aarch64": "ring_core::digest::instructions::arm::",
-          "wasm64": "ring_core::digest::states::"}
+          "wasm64": "ring_core::digest::kernel::"}
 QUESTION = {"x86_64": "are_there", "aarch64": "are_there", "wasm64": "is_window_chosen"}
 BYTE = "yz_instructions"
 # The functions of a processor, by how many arguments they have. A word is the second of three, or

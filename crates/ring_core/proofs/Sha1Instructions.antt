@@ -1,6 +1,6 @@
 -- SPDX-License-Identifier: ISC
 -- The steps of the processors' instructions for SHA-1 are the standard's.
-use Rattle.std.proofs.Common.{◌≡◌, ℕ, ◌+◌, ◌*◌, ◌%◌, ◌^◌, ◌<◌, ◌≤◌, List, [], ◌∷◌}
+use Rattle.std.proofs.Common.{◌≡◌, ℕ, ◌+◌, ◌-◌, ◌*◌, ◌%◌, ◌^◌, ◌<◌, ◌≤◌, List, [], ◌∷◌}
 use Rattle.std.proofs.Common.{ap, arith, bit_xor, refl, slice_index, ◌∙◌}
 use Rattle.std.proofs.Math.Nat.{add-mod-mod, mod-add-mod}
 use Rattle.std.proofs.lemmas.Nat.{xor_lt}
@@ -63,6 +63,17 @@ rnds4-next i t v w of =
     rw (← function-of i t (x 1) (x 2) (x 3) of, ← constant-of i t of, order) refl
 
 -- a step of SHA1C, SHA1P or SHA1M, with the constant added to the word
+pub sha1hash-step : (t : ℕ) (v : List ℕ) (w : ℕ)
+    → sha1hash_step (round_function t) v (add_words 32 (round_constant t) w) ≡ round v t w
+unfolding sha1hash_step round
+sha1hash-step t v w = rw step-order refl
+
+-- a word is the sum of a constant and of what it takes beside that
+pub with-constant : (t x : ℕ) → x < 2 ^ 32
+    → add_words 32 (round_constant t) (x + 2 ^ 32 - round_constant t) ≡ x
+with-constant t x fits = grind arith
+
+-- the same by the number of its twenty rounds
 pub sha1hash-round : (i t : ℕ) (v : List ℕ) (w : ℕ) → IsOf i t
     → sha1hash_step (sha1_function i) v (add_words 32 (sha1_constant i) w) ≡ round v t w
 unfolding sha1hash_step round

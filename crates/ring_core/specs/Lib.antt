@@ -4,6 +4,7 @@ pub mod Bits
 pub mod Bytes
 pub mod Word
 pub mod Lane
+pub mod Sizes
 pub mod Schedule
 pub mod Chunks
 pub mod Views

@@ -1,20 +1,24 @@
 // SPDX-License-Identifier: ISC
 //! The block functions of SHA-1 and SHA-2 (FIPS 180-4, 6.1.2, 6.2.2 and 6.4.2), and their words.
 //!
-//! SHA-1 and SHA-256 have four kernels, SHA-512 the first three. They count the same blocks, and
-//! those three run the same `round`:
+//! There are four kernels, which count the same blocks. The first three run the same `round`, and
+//! all four stand once for each family:
 //!
 //! | Kernel | Its schedule | Runs | Why there |
 //! |---|---|---|---|
-//! | `blocks` | by fours, ahead of the rounds | one message | the fastest: rounds add ready sums |
-//! | `lanes` | a window of words in lanes | several messages | one operation serves all |
-//! | `window` | a window of one block, by twos | one message, without vectors | the fastest there |
+//! | `window` | a window of sixteen words, by twos | one message | the plain form |
+//! | `by_fours` | by fours, ahead of the rounds | one message | rounds add ready sums |
+//! | `lanes` | such a window of words in lanes | several messages | one operation serves all |
 //! | `by_instruction` | by fours, between the rounds | one message | two or four rounds at once |
 //!
-//! A window holds the last sixteen words. That of one block computes two words at a time, in the
-//! two lanes of a vector. `ring` runs the first two kernels, and tests run the third beside them.
-//! Two builds run another kernel for the first: the module for JavaScript, which has no vectors,
-//! the third, and one that puts a processor's `instructions` in their functions' place the last.
+//! SHA-512 has no kernel `by_instruction`. A window holds the last sixteen words of a schedule, word
+//! `t` in slot `t` modulo 16. That of one block gets two words at a time, in the two lanes of a
+//! vector.
+//!
+//! The functions with the plain names, such as `sha2::block_data_order_64`, run the kernel `window`.
+//! Those whose names have `fastest` run what `kernel` chooses, which `ring` calls: `by_fours`, but
+//! in the module for JavaScript, which has no vectors, `window`, and in a build that puts a
+//! processor's `instructions` in their functions' place `by_instruction`.
 //!
 //! They are written over traits:
 //!
@@ -23,6 +27,7 @@
 //! | `Word` | `Wrapping<u32>`, `Wrapping<u64>` | the operations on one word (3.2) |
 //! | `Sha2` | the same | the numbers of SHA-2: rotations, constants, rounds |
 //! | `LaneWord` | a word, or a vector of words | what rounds run over: one block, or several |
+//! | `FitsWindow` | the same | that sixteen fit in memory |
 //! | `Vector` | a vector of words | what a vector has besides: one lane read or set, and shifts |
 //! | `FourWords` | a word | how four words of one block stand in a vector |
 //! | `BlockWords` | a kind of block | the words by which a window is filled |
@@ -33,6 +38,7 @@
 //! | `Sha1Instructions` | a processor | the same of SHA-1 |
 
 pub mod instructions;
+pub(crate) mod kernel;
 pub mod sha1;
 pub mod sha2;
 pub mod states;

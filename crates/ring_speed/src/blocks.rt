@@ -11,8 +11,11 @@ ghost use Rattle.ring_speed.specs.Work.{block_words};
 
 use crate::hash::Hash;
 use ring::polyfill::slice::AsChunks;
-use ring_core::digest::sha1::sha1_block_data_order;
-use ring_core::digest::sha2::{State32, State64, block_data_order_32, block_data_order_64};
+use ring_core::cost::Meter;
+use ring_core::digest::sha1::sha1_block_data_order_fastest_counted;
+use ring_core::digest::sha2::{
+    State32, State64, block_data_order_32_fastest_counted, block_data_order_64_fastest_counted,
+};
 use std::num::Wrapping;
 
 // The bytes of a block of SHA-1 and SHA-256.
@@ -45,10 +48,11 @@ fn run_sha1(state: &mut State32, steps: u32)
     ensures { take 5 (map word_32 state.new)
         ≡ words_after_steps sha1.block_step BLOCK_LEN_32 (take 5 (map word_32 state.old)) steps }
 {
+    let mut meter = Meter::new();
     'steps: for step in 0..steps {
         let block = numbered::<BLOCK_LEN_32>(step);
-        sha1_block_data_order(state, AsChunks::from_ref(&block));
-        sha1_block_data_order(state, AsChunks::from_ref(&block));
+        sha1_block_data_order_fastest_counted(state, AsChunks::from_ref(&block), &mut meter);
+        sha1_block_data_order_fastest_counted(state, AsChunks::from_ref(&block), &mut meter);
     }
 }
 
@@ -58,10 +62,11 @@ fn run_sha256(state: &mut State32, steps: u32)
     ensures { words_32 state.new
         ≡ words_after_steps (block_step family_256) BLOCK_LEN_32 (words_32 state.old) steps }
 {
+    let mut meter = Meter::new();
     'steps: for step in 0..steps {
         let block = numbered::<BLOCK_LEN_32>(step);
-        block_data_order_32(state, AsChunks::from_ref(&block));
-        block_data_order_32(state, AsChunks::from_ref(&block));
+        block_data_order_32_fastest_counted(state, AsChunks::from_ref(&block), &mut meter);
+        block_data_order_32_fastest_counted(state, AsChunks::from_ref(&block), &mut meter);
     }
 }
 
@@ -71,10 +76,11 @@ fn run_sha512(state: &mut State64, steps: u32)
     ensures { words_64 state.new
         ≡ words_after_steps (block_step family_512) BLOCK_LEN_64 (words_64 state.old) steps }
 {
+    let mut meter = Meter::new();
     'steps: for step in 0..steps {
         let block = numbered::<BLOCK_LEN_64>(step);
-        block_data_order_64(state, AsChunks::from_ref(&block));
-        block_data_order_64(state, AsChunks::from_ref(&block));
+        block_data_order_64_fastest_counted(state, AsChunks::from_ref(&block), &mut meter);
+        block_data_order_64_fastest_counted(state, AsChunks::from_ref(&block), &mut meter);
     }
 }
 

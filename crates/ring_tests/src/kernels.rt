@@ -1,6 +1,7 @@
 // SPDX-License-Identifier: ISC
-//! The kernel over a window of sixteen words, and the kernel that `ring` runs one message by: both
-//! against other implementations, over messages of 0 to 257 bytes and over a block of words.
+//! The kernel over a window of sixteen words, which the plain block functions run, and the fastest,
+//! which `ring` runs over one message: both against other implementations, over messages of 0 to 257
+//! bytes and over a block of words.
 
 ghost use Rattle.std.specs.Prelude.{◌≤◌, length};
 
@@ -11,14 +12,14 @@ use crate::texts::is_hex_of;
 use ring::cost::Meter;
 use ring::digest::dynstate::DynState;
 use ring::digest::sha1::{
-    sha1_block_data_order_by_window_counted, sha1_block_data_order_counted,
-    sha1_block_of_words_by_window_counted, sha1_block_of_words_counted,
+    sha1_block_data_order_counted, sha1_block_data_order_fastest_counted,
+    sha1_block_of_words_counted, sha1_block_of_words_fastest_counted,
 };
 use ring::digest::sha2::{
-    block_data_order_32_by_window_counted, block_data_order_32_counted,
-    block_data_order_64_by_window_counted, block_data_order_64_counted,
-    block_of_words_32_by_window_counted, block_of_words_32_counted,
-    block_of_words_64_by_window_counted, block_of_words_64_counted,
+    block_data_order_32_counted, block_data_order_32_fastest_counted,
+    block_data_order_64_counted, block_data_order_64_fastest_counted,
+    block_of_words_32_counted, block_of_words_32_fastest_counted,
+    block_of_words_64_counted, block_of_words_64_fastest_counted,
 };
 use ring::digest::{SHA1_FOR_LEGACY_USE_ONLY, SHA256, SHA512};
 use ring::polyfill::slice::as_chunks;
@@ -46,7 +47,7 @@ fn padded(message: &[u8], block_len: usize) -> ([u8; 384], usize)
 // Runs both kernels from the first words over the blocks of each message.
 macro_rules! over_messages {
     ($rt:ident, $algorithm:ident, $output_len:literal, $words:ident as $state:ident
-        by $block_len:literal; $by_window:ident, $by_schedule:ident) => {
+        by $block_len:literal; $plain:ident, $fastest:ident) => {
         let bytes = counting_bytes::<257>();
         for len in 0..258 {
             let message = &bytes[..len];
@@ -54,12 +55,12 @@ macro_rules! over_messages {
             let (blocks, _) = as_chunks::<u8, $block_len>(&room[..end]);
             let mut state = $words;
             let mut meter = Meter::new();
-            $by_window(&mut state, blocks, &mut meter);
+            $plain(&mut state, blocks, &mut meter);
             let made = DynState::$state(state).format_output();
             assert!($rt; is_of_others($algorithm, message, &made.0[..$output_len]));
             let mut other = $words;
             let mut other_meter = Meter::new();
-            $by_schedule(&mut other, blocks, &mut other_meter);
+            $fastest(&mut other, blocks, &mut other_meter);
             assert!($rt; state == other && meter.blocks() == other_meter.blocks());
         }
     };
@@ -68,19 +69,19 @@ macro_rules! over_messages {
 #[test]
 fn sha1_by_both_kernels(rt: HostRuntime) {
     over_messages!(rt, SHA1_FOR_LEGACY_USE_ONLY, 20, SHA1_WORDS as new32 by 64;
-        sha1_block_data_order_by_window_counted, sha1_block_data_order_counted);
+        sha1_block_data_order_counted, sha1_block_data_order_fastest_counted);
 }
 
 #[test]
 fn sha256_by_both_kernels(rt: HostRuntime) {
     over_messages!(rt, SHA256, 32, SHA256_WORDS as new32 by 64;
-        block_data_order_32_by_window_counted, block_data_order_32_counted);
+        block_data_order_32_counted, block_data_order_32_fastest_counted);
 }
 
 #[test]
 fn sha512_by_both_kernels(rt: HostRuntime) {
     over_messages!(rt, SHA512, 64, SHA512_WORDS as new64 by 128;
-        block_data_order_64_by_window_counted, block_data_order_64_counted);
+        block_data_order_64_counted, block_data_order_64_fastest_counted);
 }
 
 // From Python's `hashlib`: the digest of the digest of `abc`, which is a block of words.
@@ -96,7 +97,7 @@ const TWICE_BY_SHA512: &str = "373a9f3a902cf561003b513c94c5164ba4af135cbc4eb4d85
 macro_rules! over_words {
     ($rt:ident, $twice:ident, $output_len:literal, $words:ident as $state:ident
         by $block_len:literal; $word_count:literal, $bit:literal, $bits:literal;
-        $kernel:ident; $by_window:path, $by_schedule:path) => {
+        $kernel:ident; $plain:path, $fastest:path) => {
         let (room, end) = padded(b"abc", $block_len);
         let (blocks, _) = as_chunks::<u8, $block_len>(&room[..end]);
         let mut front = $words;
@@ -106,11 +107,11 @@ macro_rules! over_words {
         padding[$word_count] = Wrapping($bit);
         padding[15] = Wrapping($bits);
         let mut state = $words;
-        $by_window(&mut state, &front, &padding, &mut meter);
+        $plain(&mut state, &front, &padding, &mut meter);
         let made = DynState::$state(state).format_output();
         assert!($rt; is_hex_of($twice, &made.0[..$output_len]) && meter.blocks() == 2);
         let mut other = $words;
-        $by_schedule(&mut other, &front, &padding, &mut meter);
+        $fastest(&mut other, &front, &padding, &mut meter);
         assert!($rt; state == other && meter.blocks() == 3);
     };
 }
@@ -118,20 +119,20 @@ macro_rules! over_words {
 #[test]
 fn sha1_of_words_by_both_kernels(rt: HostRuntime) {
     over_words!(rt, TWICE_BY_SHA1, 20, SHA1_WORDS as new32 by 64; 5, 0x80000000, 160;
-        sha1_block_data_order_by_window_counted;
-        sha1_block_of_words_by_window_counted, sha1_block_of_words_counted);
+        sha1_block_data_order_counted;
+        sha1_block_of_words_counted, sha1_block_of_words_fastest_counted);
 }
 
 #[test]
 fn sha256_of_words_by_both_kernels(rt: HostRuntime) {
     over_words!(rt, TWICE_BY_SHA256, 32, SHA256_WORDS as new32 by 64; 8, 0x80000000, 256;
-        block_data_order_32_by_window_counted;
-        block_of_words_32_by_window_counted, block_of_words_32_counted);
+        block_data_order_32_counted;
+        block_of_words_32_counted, block_of_words_32_fastest_counted);
 }
 
 #[test]
 fn sha512_of_words_by_both_kernels(rt: HostRuntime) {
     over_words!(rt, TWICE_BY_SHA512, 64, SHA512_WORDS as new64 by 128; 8, 0x8000000000000000, 512;
-        block_data_order_64_by_window_counted;
-        block_of_words_64_by_window_counted::<8>, block_of_words_64_counted::<8>);
+        block_data_order_64_counted;
+        block_of_words_64_counted::<8>, block_of_words_64_fastest_counted::<8>);
 }

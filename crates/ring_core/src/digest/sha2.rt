@@ -1,31 +1,30 @@
 // SPDX-License-Identifier: ISC
 //! The block functions of SHA-2 (FIPS 180-4, 6.2.2 and 6.4.2), written once for both word sizes: of
-//! one message in `blocks` and in `window`, of several side by side in `lanes`. SHA-256 has
-//! `by_instruction` besides, for one message.
+//! one message in `window` and `by_fours`, of several side by side in `lanes`. SHA-256 has
+//! `by_instruction` besides, for one message. `fastest` runs the one that is the fastest.
 ghost use Rattle.std.specs.Prelude.{ℕ, ◌<◌, slice_index};
 ghost use Rattle.ring_core.specs.Prelude.{IsRootFraction, constants_256, constants_512};
 ghost use Rattle.ring_core.specs.Prelude.{first_primes};
 
 mod arm;
-mod blocks;
+mod by_fours;
 mod by_instruction;
+mod fastest;
 mod lanes;
 pub(crate) mod round;
-mod sha256;
-mod sha512;
 mod window;
 mod x86;
 
-pub use crate::digest::sha2::blocks::{
-    block_data_order_32, block_data_order_32_counted, block_data_order_64,
-    block_data_order_64_counted, block_of_words_32_counted, block_of_words_64_counted,
+pub use crate::digest::sha2::fastest::{
+    block_data_order_32_fastest_counted, block_data_order_64_fastest_counted,
+    block_of_words_32_fastest_counted, block_of_words_64_fastest_counted,
 };
 pub use crate::digest::sha2::lanes::{
     block_data_order_lanes_counted, block_of_words_lanes_counted,
 };
 pub use crate::digest::sha2::window::{
-    block_data_order_32_by_window_counted, block_data_order_64_by_window_counted,
-    block_of_words_32_by_window_counted, block_of_words_64_by_window_counted,
+    block_data_order_32, block_data_order_32_counted, block_data_order_64,
+    block_data_order_64_counted, block_of_words_32_counted, block_of_words_64_counted,
 };
 pub use crate::digest::states::{State32, State64};
 

@@ -1,6 +1,6 @@
 // SPDX-License-Identifier: ISC
 //! The instructions of 64-bit ARM processors for SHA-1 and SHA-256.
-ghost use Rattle.std.specs.Prelude.{◌≡◌, ◌%◌, ◌^◌, ℕ, map};
+ghost use Rattle.std.specs.Prelude.{◌≡◌, map};
 ghost use Rattle.ring_core.specs.Instructions.{sha1c, sha1h, sha1hash, sha1hash_step, sha1m, sha1p};
 ghost use Rattle.ring_core.specs.Instructions.{sha1su0, sha1su1};
 ghost use Rattle.ring_core.specs.Instructions.{sha256h, sha256h2, sha256hash, sha256su0, sha256su1};
@@ -9,7 +9,7 @@ ghost use Rattle.ring_core.specs.Sha1.{round_function};
 
 use crate::digest::instructions::sha256::{round_of_sum, with_sigma_1};
 use crate::digest::instructions::vector::{to_words, vector};
-use crate::digest::sha1::round::round_function;
+use crate::digest::sha1::round::round;
 use crate::digest::sha2::round::small_sigma;
 use crate::digest::word::{Sha2, Word};
 use std::num::Wrapping;
@@ -82,9 +82,7 @@ pub fn sha256su1(older: u32x4, third: u32x4, fourth: u32x4) -> u32x4
 fn step<const T: usize>(v: [Word32; 5], wk: Word32) -> [Word32; 5]
     ensures { map word_32 result ≡ sha1hash_step (round_function T) (map word_32 v) (word_32 wk) }
 {
-    let [a, b, c, d, e] = v;
-    let sum = Word::plus(Word::plus(e, Word::rotr(a, 27)), round_function(T, b, c, d));
-    [Word::plus(sum, wk), a, Word::rotr(b, 2), c, d]
+    round(v, T, wk)
 }
 
 // The variables a to d after four rounds with the function of round `T`, from a to d and e. The

@@ -7,8 +7,8 @@ ghost use Rattle.ring_core.specs.Sha1.{block_step};
 
 use crate::cost::Meter;
 use crate::digest::sha1::window::{Before, Sha1ByTwo, next_word, run_block, run_words};
-use crate::digest::states::{BlockInEach, States, Window};
-use crate::digest::word::lanes::{InLanes, LaneWord, Vector};
+use crate::digest::states::States;
+use crate::digest::word::lanes::{BlockInEach, InLanes, LaneWord, Vector};
 use std::num::Wrapping;
 
 impl<V: Vector<One = Wrapping<u32>>> Sha1ByTwo for InLanes<V> {
@@ -27,12 +27,11 @@ impl<V: Vector<One = Wrapping<u32>>> Sha1ByTwo for InLanes<V> {
 }
 
 /// Runs SHA-1's block function in each lane (6.1.2): over the state in lane i of `states` and block
-/// i of `blocks`, of 64 bytes. `window` is room for a schedule.
+/// i of `blocks`, of 64 bytes.
 ///
 /// In each lane the first five words are replaced, and the last three stay. The blocks are counted
 /// on `meter`, as many as there are lanes.
 pub fn sha1_block_data_order_lanes_counted<V: Vector<One = Wrapping<u32>>, const N: usize>(
-    window: &mut Window<V>,
     states: &mut States<V>,
     blocks: &[[u8; N]],
     meter: &mut Meter,
@@ -46,18 +45,17 @@ pub fn sha1_block_data_order_lanes_counted<V: Vector<One = Wrapping<u32>>, const
         ≡ drop 5 (words_of_lane (V.lane i) states.old) }
     ensures cost { meter.new ≡ raised meter.old V.LANES 0 }
 {
-    run_block(window, &mut states.words, &BlockInEach(blocks));
+    run_block(&mut states.words, &BlockInEach(blocks));
     meter.add_blocks(V::LANES);
 }
 
 /// Runs SHA-1's block function in each lane, over one block that is given as words (6.1.2): the
 /// first five words of the lane in `fronts`, and then those of `padding` from the sixth on, the
-/// same in all lanes. `window` is room for a schedule.
+/// same in all lanes.
 ///
 /// In each lane of `states` the first five words are replaced, and the last three stay. The blocks
 /// are counted on `meter`, as many as there are lanes.
 pub fn sha1_block_of_words_lanes_counted<V: Vector<One = Wrapping<u32>>>(
-    window: &mut Window<V>,
     states: &mut States<V>,
     fronts: &States<V>,
     padding: &[Wrapping<u32>; 16],
@@ -73,5 +71,5 @@ pub fn sha1_block_of_words_lanes_counted<V: Vector<One = Wrapping<u32>>>(
     ensures cost { meter.new ≡ raised meter.old V.LANES 0 }
     ensures eight { (i : ℕ) → length (words_of_lane (V.lane i) fronts.now) ≡ 8 }
 {
-    run_words(window, &mut states.words, &fronts.words, padding, meter)
+    run_words(&mut states.words, &fronts.words, padding, meter)
 }

@@ -7,14 +7,15 @@ ghost use Rattle.std.specs.Prelude.{◌≡◌, ℕ, ◌+◌, ◌*◌, ◌<◌, �
 ghost use Rattle.ring_core.specs.Prelude.{IsBefore, IsBlockOf, IsWindow, chunk_items, chunk_total};
 ghost use Rattle.ring_core.specs.Prelude.{raised, word_32, word_at};
 ghost use Rattle.ring_core.specs.Kernel.{RunsSha1, RunsSha1Words};
-ghost use Rattle.ring_core.specs.Sha1.{W, block_step, rounds_from, scheduled};
+ghost use Rattle.ring_core.specs.Sha1.{W, block_step, blocks_from, rounds_from, scheduled};
 
 use crate::cost::Meter;
 use crate::digest::sha1::round::{CHAINING_WORDS, add_state, round, round_constant};
-use crate::digest::states::{
-    BlockWords, FrontAndPadding, SameBlock, in_two_lanes, load, pair, set_pair,
+use crate::digest::word::Word;
+use crate::digest::word::lanes::{
+    BlockWords, FitsWindow, FrontAndPadding, LaneWord, SameBlock, Vector, in_two_lanes, load, pair,
+    set_pair,
 };
-use crate::digest::word::lanes::{LaneWord, Vector};
 use crate::polyfill::slice::AsChunks;
 use std::num::Wrapping;
 use std::simd::u32x2;
@@ -29,7 +30,7 @@ pub(crate) struct Before<T: Copy> {
 }
 
 // Words of 32 bits, one in each lane, and the step of SHA-1's schedule to the next two.
-pub(crate) trait Sha1ByTwo: LaneWord {
+pub(crate) trait Sha1ByTwo: LaneWord + FitsWindow {
     // The pair of words after those in `before`.
     fn next_two(before: &Before<Self>) -> (Self, Self)
         ensures first { (i : ℕ) → Self.lane i result.0 ≡ scheduled
@@ -165,10 +166,8 @@ fn next_four_rounds<S: Sha1ByTwo<One = Wrapping<u32>>>(
 }
 
 // Runs the block function in each lane, over the block there. Each call of rounds stands here, so
-// that it is inlined for each kind of block. The words are a copy of the room, by which the check
-// knows that sixteen of them fit in memory; the compiler keeps in registers what it can.
+// that it is inlined for each kind of block; the compiler keeps in registers what words it can.
 pub(crate) fn run_block<S: Sha1ByTwo<One = Wrapping<u32>>, B: BlockWords<S>>(
-    window: &mut [S; 16],
     state: &mut [S; 8],
     block: &B,
 )
@@ -178,7 +177,7 @@ pub(crate) fn run_block<S: Sha1ByTwo<One = Wrapping<u32>>, B: BlockWords<S>>(
         → take 5 (map (S.lane i) state.new) ≡ block_step (take 5 (map (S.lane i) state.old)) b }
     ensures rest { drop 5 state.new ≡ drop 5 state.old }
 {
-    let mut words = *window;
+    let mut words = [S::splat(S::One::ZERO); 16];
     load(&mut words, block); // step 1, to W(15)
     let v = [state[0], state[1], state[2], state[3], state[4]]; // step 2
     let v = two_rounds(&words, v, 0); // step 3
@@ -210,17 +209,12 @@ pub(crate) fn run_block<S: Sha1ByTwo<One = Wrapping<u32>>, B: BlockWords<S>>(
 
 // Runs the block function over each block in order.
 #[tactic(auto, using(crate::proofs::Costs::rises, crate::proofs::ChunkFolds::folds))]
-fn run_blocks(
-    window: &mut [Wrapping<u32>; 16],
-    state: &mut [Wrapping<u32>; 8],
-    blocks: AsChunks<'_, u8, 64>,
-    meter: &mut Meter,
-)
+fn run_blocks(state: &mut [Wrapping<u32>; 8], blocks: AsChunks<'_, u8, 64>, meter: &mut Meter)
     ensures { RunsSha1 state.old state.new
         (chunk_items blocks.entry) (chunk_total blocks.entry) meter.old meter.new }
 {
     'each: for i in 0..blocks.len() {
-        run_block(window, state, &SameBlock(&blocks[i]));
+        run_block(state, &SameBlock(&blocks[i]));
         meter.add_block();
     }
 }
@@ -228,7 +222,6 @@ fn run_blocks(
 // Runs the block function in each lane, over a block whose first five words are those of the lane
 // in `front`, and whose other words are those of `padding`, and counts these blocks.
 pub(crate) fn run_words<S: Sha1ByTwo<One = Wrapping<u32>>>(
-    window: &mut [S; 16],
     state: &mut [S; 8],
     front: &[S; 8],
     padding: &[Wrapping<u32>; 16],
@@ -243,17 +236,12 @@ pub(crate) fn run_words<S: Sha1ByTwo<One = Wrapping<u32>>>(
     ensures eight { length front.now ≡ 8 }
 {
     let block = FrontAndPadding::<S, Wrapping<u32>, CHAINING_WORDS> { front, padding };
-    run_block(window, state, &block);
+    run_block(state, &block);
     meter.add_blocks(S::LANES);
 }
 
-/// Runs SHA-1's block function over each of `blocks`, of 64 bytes, in order (6.1.2), over a window
-/// of sixteen words. The result is that of
-/// [`sha1_block_data_order_counted`](crate::digest::sha1::sha1_block_data_order_counted).
-///
-/// The first five words of `state` are the chaining words, which are replaced. The last three stay.
-/// Each block is counted on `meter`.
-pub fn sha1_block_data_order_by_window_counted(
+/// Runs the block function as [`sha1_block_data_order`] does, and counts each block on `meter`.
+pub fn sha1_block_data_order_counted(
     state: &mut [Wrapping<u32>; 8],
     blocks: AsChunks<'_, u8, 64>,
     meter: &mut Meter,
@@ -261,17 +249,28 @@ pub fn sha1_block_data_order_by_window_counted(
     ensures { RunsSha1 state.old state.new
         (chunk_items blocks.entry) (chunk_total blocks.entry) meter.old meter.new }
 {
-    run_blocks(&mut [Wrapping(0u32); 16], state, blocks, meter)
+    run_blocks(state, blocks, meter)
 }
 
-/// Runs SHA-1's block function over one block that is given as words (6.1.2), over a window of
-/// sixteen words: the first five words of `front`, and then those of `padding` from the sixth on.
-/// The result is that of
-/// [`sha1_block_of_words_counted`](crate::digest::sha1::sha1_block_of_words_counted).
+/// Runs SHA-1's block function over each of `blocks`, of 64 bytes, in order (6.1.2).
+///
+/// The first five words of `state` are the chaining words, which are replaced. The last three stay.
+pub fn sha1_block_data_order(state: &mut [Wrapping<u32>; 8], blocks: AsChunks<'_, u8, 64>)
+    ensures words { take 5 (map word_32 state.new)
+        ≡ blocks_from (take 5 (map word_32 state.old))
+        (chunk_items blocks.entry) (chunk_total blocks.entry) }
+    ensures rest { drop 5 state.new ≡ drop 5 state.old }
+{
+    sha1_block_data_order_counted(state, blocks, &mut Meter::new())
+}
+
+/// Runs SHA-1's block function over one block that is given as words (6.1.2): the first five words
+/// of `front`, and then those of `padding` from the sixth on. So a digest is hashed again without
+/// its bytes.
 ///
 /// The first five words of `state` are replaced, and the last three stay. One block is counted on
 /// `meter`.
-pub fn sha1_block_of_words_by_window_counted(
+pub fn sha1_block_of_words_counted(
     state: &mut [Wrapping<u32>; 8],
     front: &[Wrapping<u32>; 8],
     padding: &[Wrapping<u32>; 16],
@@ -279,5 +278,5 @@ pub fn sha1_block_of_words_by_window_counted(
 )
     ensures { RunsSha1Words state.old state.new front.now padding.now meter.old meter.new }
 {
-    run_words::<Wrapping<u32>>(&mut [Wrapping(0u32); 16], state, front, padding, meter)
+    run_words::<Wrapping<u32>>(state, front, padding, meter)
 }

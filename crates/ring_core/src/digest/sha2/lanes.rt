@@ -7,8 +7,8 @@ ghost use Rattle.ring_core.specs.Prelude.{words_of_lane};
 
 use crate::cost::Meter;
 use crate::digest::sha2::window::{Before, ExtendByTwo, next_word, run_block, run_words};
-use crate::digest::states::{BlockInEach, States, Window};
-use crate::digest::word::lanes::{InLanes, LaneWord, Vector};
+use crate::digest::states::States;
+use crate::digest::word::lanes::{BlockInEach, InLanes, LaneWord, Vector};
 
 impl<V: Vector> ExtendByTwo for InLanes<V> {
     #[inline(always)]
@@ -27,10 +27,8 @@ impl<V: Vector> ExtendByTwo for InLanes<V> {
 
 /// Runs SHA-256's or SHA-512's block function in each lane (6.2.2, 6.4.2): over the state in lane i
 /// of `states`, which is replaced, and block i of `blocks`, of 64 bytes where words have 32 bits
-/// and of 128 where they have 64. `window` is room for a schedule. The blocks are counted on
-/// `meter`, as many as there are lanes.
+/// and of 128 where they have 64. The blocks are counted on `meter`, as many as there are lanes.
 pub fn block_data_order_lanes_counted<V: Vector, const N: usize>(
-    window: &mut Window<V>,
     states: &mut States<V>,
     blocks: &[[u8; N]],
     meter: &mut Meter,
@@ -42,16 +40,15 @@ pub fn block_data_order_lanes_counted<V: Vector, const N: usize>(
         ≡ block_step V.One.family (words_of_lane (V.lane i) states.old) (array_at blocks.now i) }
     ensures cost { meter.new ≡ raised meter.old V.LANES 0 }
 {
-    run_block(window, &mut states.words, &BlockInEach(blocks));
+    run_block(&mut states.words, &BlockInEach(blocks));
     meter.add_blocks(V::LANES);
 }
 
 /// Runs SHA-256's or SHA-512's block function in each lane, over one block that is given as words
 /// (6.2.2, 6.4.2): the first `N` words of the lane in `fronts`, at most eight, and then those of
 /// `padding` past them, the same in all lanes. The states in the lanes of `states` are replaced.
-/// `window` is room for a schedule. The blocks are counted on `meter`, as many as there are lanes.
+/// The blocks are counted on `meter`, as many as there are lanes.
 pub fn block_of_words_lanes_counted<V: Vector, const N: usize>(
-    window: &mut Window<V>,
     states: &mut States<V>,
     fronts: &States<V>,
     padding: &[V::One; 16],
@@ -68,5 +65,5 @@ pub fn block_of_words_lanes_counted<V: Vector, const N: usize>(
     ensures eight { (i : ℕ) → (length (words_of_lane (V.lane i) states.old) ≡ 8)
         × (length (words_of_lane (V.lane i) fronts.now) ≡ 8) }
 {
-    run_words::<InLanes<V>, N>(window, &mut states.words, &fronts.words, padding, meter)
+    run_words::<InLanes<V>, N>(&mut states.words, &fronts.words, padding, meter)
 }

@@ -6,16 +6,18 @@
 ghost use Rattle.std.specs.Prelude.{◌≡◌, ℕ, ◌+◌, ◌*◌, ◌%◌, ◌<◌, ◌≤◌, List, length, map};
 ghost use Rattle.ring_core.specs.Kernel.{RunsSha2, RunsSha2Words};
 ghost use Rattle.ring_core.specs.Prelude.{IsBefore, IsBlockOf, IsWindow, W, block_len, block_step};
-ghost use Rattle.ring_core.specs.Prelude.{chunk_items, chunk_total, family_256, family_512, raised};
+ghost use Rattle.ring_core.specs.Prelude.{blocks_from, chunk_items, chunk_total, family_256};
+ghost use Rattle.ring_core.specs.Prelude.{family_512, raised};
 ghost use Rattle.ring_core.specs.Prelude.{rounds_from, scheduled, word_at, words_32, words_64};
 
 use crate::cost::Meter;
 use crate::digest::sha2::round::{add_state, round, small_sigma};
-use crate::digest::states::{
-    BlockWords, FrontAndPadding, SameBlock, State32, State64, in_two_lanes, load, pair, set_pair,
+use crate::digest::states::{State32, State64};
+use crate::digest::word::lanes::{
+    BlockWords, FitsWindow, FrontAndPadding, LaneWord, SameBlock, Vector, in_two_lanes, load, pair,
+    set_pair,
 };
-use crate::digest::word::Sha2;
-use crate::digest::word::lanes::{LaneWord, Vector};
+use crate::digest::word::{Sha2, Word};
 use crate::polyfill::slice::AsChunks;
 use std::num::Wrapping;
 use std::simd::{u32x2, u64x2};
@@ -30,7 +32,7 @@ pub(crate) struct Before<T: Copy> {
 }
 
 // Words of SHA-2, one in each lane, and the step of their schedule to the next two.
-pub(crate) trait ExtendByTwo: LaneWord {
+pub(crate) trait ExtendByTwo: LaneWord + FitsWindow {
     // The pair of words after those in `before`.
     fn next_two(before: &Before<Self>) -> (Self, Self)
         ensures first { (i : ℕ) → Self.lane i result.0 ≡ scheduled Self.One.family
@@ -151,19 +153,14 @@ fn next_two_rounds<S: ExtendByTwo>(
 }
 
 // Runs the block function in each lane, over the block there. Each call of rounds stands here, so
-// that it is inlined for each kind of block. The words are a copy of the room, by which the check
-// knows that sixteen of them fit in memory; the compiler keeps in registers what it can.
-pub(crate) fn run_block<S: ExtendByTwo, B: BlockWords<S>>(
-    window: &mut [S; 16],
-    state: &mut [S; 8],
-    block: &B,
-)
+// that it is inlined for each kind of block; the compiler keeps in registers what words it can.
+pub(crate) fn run_block<S: ExtendByTwo, B: BlockWords<S>>(state: &mut [S; 8], block: &B)
     requires some { 0 < S.LANES }
     requires whole { B.is_whole block.now }
     ensures { (i : ℕ) (b : List ℕ) → B.is_block i block.now b
         → map (S.lane i) state.new ≡ block_step S.One.family (map (S.lane i) state.old) b }
 {
-    let mut words = *window;
+    let mut words = [S::splat(S::One::ZERO); 16];
     load(&mut words, block); // step 1, to W(15)
     let v = *state; // step 2
     let v = two_rounds(&words, v, 0, 0); // step 3
@@ -192,7 +189,6 @@ pub(crate) fn run_block<S: ExtendByTwo, B: BlockWords<S>>(
 // all in the contract.
 #[tactic(auto, using(crate::proofs::Costs::rises, crate::proofs::ChunkFolds::folds))]
 fn run_blocks<S: ExtendByTwo, const N: usize>(
-    window: &mut [S; 16],
     state: &mut [S; 8],
     blocks: AsChunks<'_, u8, N>,
     meter: &mut Meter,
@@ -203,7 +199,7 @@ fn run_blocks<S: ExtendByTwo, const N: usize>(
         (chunk_items blocks.entry) (chunk_total blocks.entry) meter.old meter.new }
 {
     'each: for i in 0..blocks.len() {
-        run_block(window, state, &SameBlock(&blocks[i]));
+        run_block(state, &SameBlock(&blocks[i]));
         meter.add_block();
     }
 }
@@ -211,7 +207,6 @@ fn run_blocks<S: ExtendByTwo, const N: usize>(
 // Runs the block function in each lane, over a block whose first `N` words are those of the lane in
 // `front`, and whose other words are those of `padding`, and counts these blocks.
 pub(crate) fn run_words<S: ExtendByTwo, const N: usize>(
-    window: &mut [S; 16],
     state: &mut [S; 8],
     front: &[S; 8],
     padding: &[S::One; 16],
@@ -226,15 +221,12 @@ pub(crate) fn run_words<S: ExtendByTwo, const N: usize>(
     ensures eight { (length state.old ≡ 8) × (length front.now ≡ 8) }
 {
     let block = FrontAndPadding::<S, S::One, N> { front, padding };
-    run_block(window, state, &block);
+    run_block(state, &block);
     meter.add_blocks(S::LANES);
 }
 
-/// Runs SHA-256's block function over each of `blocks`, of 64 bytes, in order, and replaces the
-/// chaining words `state` (6.2.2), over a window of sixteen words. The result is that of
-/// [`block_data_order_32_counted`](crate::digest::sha2::block_data_order_32_counted). Each block is
-/// counted on `meter`.
-pub fn block_data_order_32_by_window_counted(
+/// Runs the block function as [`block_data_order_32`] does, and counts each block on `meter`.
+pub fn block_data_order_32_counted(
     state: &mut State32,
     blocks: AsChunks<'_, u8, 64>,
     meter: &mut Meter,
@@ -242,15 +234,21 @@ pub fn block_data_order_32_by_window_counted(
     ensures { RunsSha2 family_256 (words_32 state.old) (words_32 state.new)
         (chunk_items blocks.entry) (chunk_total blocks.entry) meter.old meter.new }
 {
-    run_blocks(&mut [Wrapping(0u32); 16], state, blocks, meter)
+    run_blocks::<Wrapping<u32>, 64>(state, blocks, meter)
 }
 
-/// Runs the block function that SHA-384, SHA-512 and SHA-512/256 share over each of `blocks`, of
-/// 128 bytes, in order, and replaces the chaining words `state` (6.4.2), over a window of sixteen
-/// words. The result is that of
-/// [`block_data_order_64_counted`](crate::digest::sha2::block_data_order_64_counted). Each block is
-/// counted on `meter`.
-pub fn block_data_order_64_by_window_counted(
+/// Runs SHA-256's block function over each of `blocks`, of 64 bytes, in order, and replaces the
+/// chaining words `state` (6.2.2).
+pub fn block_data_order_32(state: &mut State32, blocks: AsChunks<'_, u8, 64>)
+    ensures words { words_32 state.new
+        ≡ blocks_from family_256 (words_32 state.old)
+        (chunk_items blocks.entry) (chunk_total blocks.entry) }
+{
+    block_data_order_32_counted(state, blocks, &mut Meter::new())
+}
+
+/// Runs the block function as [`block_data_order_64`] does, and counts each block on `meter`.
+pub fn block_data_order_64_counted(
     state: &mut State64,
     blocks: AsChunks<'_, u8, 128>,
     meter: &mut Meter,
@@ -258,15 +256,23 @@ pub fn block_data_order_64_by_window_counted(
     ensures { RunsSha2 family_512 (words_64 state.old) (words_64 state.new)
         (chunk_items blocks.entry) (chunk_total blocks.entry) meter.old meter.new }
 {
-    run_blocks(&mut [Wrapping(0u64); 16], state, blocks, meter)
+    run_blocks::<Wrapping<u64>, 128>(state, blocks, meter)
+}
+
+/// Runs SHA-512's block function, which SHA-384 and SHA-512/256 share, over each of `blocks`, of
+/// 128 bytes, in order, and replaces the chaining words `state` (6.4.2).
+pub fn block_data_order_64(state: &mut State64, blocks: AsChunks<'_, u8, 128>)
+    ensures words { words_64 state.new
+        ≡ blocks_from family_512 (words_64 state.old)
+        (chunk_items blocks.entry) (chunk_total blocks.entry) }
+{
+    block_data_order_64_counted(state, blocks, &mut Meter::new())
 }
 
 /// Runs SHA-256's block function over one block that is given as words, and replaces the chaining
-/// words `state` (6.2.2), over a window of sixteen words. The block is the eight words of `front`
-/// and then the last eight of `padding`. The result is that of
-/// [`block_of_words_32_counted`](crate::digest::sha2::block_of_words_32_counted). One block is
-/// counted on `meter`.
-pub fn block_of_words_32_by_window_counted(
+/// words `state` (6.2.2). The block is the eight words of `front` and then the last eight of
+/// `padding`, so that a digest is hashed again without its bytes. One block is counted on `meter`.
+pub fn block_of_words_32_counted(
     state: &mut State32,
     front: &State32,
     padding: &[Wrapping<u32>; 16],
@@ -275,16 +281,13 @@ pub fn block_of_words_32_by_window_counted(
     ensures { RunsSha2Words family_256 8 (words_32 state.old) (words_32 state.new)
         (words_32 front.now) (words_32 padding.now) meter.old meter.new }
 {
-    run_words::<Wrapping<u32>, 8>(&mut [Wrapping(0u32); 16], state, front, padding, meter)
+    run_words::<Wrapping<u32>, 8>(state, front, padding, meter)
 }
 
-/// Runs the block function that SHA-384, SHA-512 and SHA-512/256 share over one block that is given
-/// as words, and replaces the chaining words `state` (6.4.2), over a window of sixteen words. The
-/// block is the first `N` words of `front`, at most eight, and then those of `padding` past them.
-/// The result is that of
-/// [`block_of_words_64_counted`](crate::digest::sha2::block_of_words_64_counted). One block is
-/// counted on `meter`.
-pub fn block_of_words_64_by_window_counted<const N: usize>(
+/// Runs SHA-512's block function, which SHA-384 and SHA-512/256 share, over one block that is given
+/// as words, and replaces the chaining words `state` (6.4.2). The block is the first `N` words of
+/// `front`, at most eight, and then those of `padding` past them. One block is counted on `meter`.
+pub fn block_of_words_64_counted<const N: usize>(
     state: &mut State64,
     front: &State64,
     padding: &[Wrapping<u64>; 16],
@@ -294,5 +297,5 @@ pub fn block_of_words_64_by_window_counted<const N: usize>(
     ensures { RunsSha2Words family_512 N (words_64 state.old) (words_64 state.new)
         (words_64 front.now) (words_64 padding.now) meter.old meter.new }
 {
-    run_words::<Wrapping<u64>, N>(&mut [Wrapping(0u64); 16], state, front, padding, meter)
+    run_words::<Wrapping<u64>, N>(state, front, padding, meter)
 }

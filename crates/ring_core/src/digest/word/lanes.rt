@@ -1,15 +1,17 @@
 // SPDX-License-Identifier: ISC
 //! Words of one size side by side, one in each lane: a word alone, or a vector of them (FIPS 180-4,
-//! 3.2); Ch and Maj of them (4.1); and four words in a row of one block.
-ghost use Rattle.std.specs.Prelude.{◌≡◌, ◌≢◌, ℕ, ◌*◌, ◌/◌, ◌%◌, ◌^◌, ◌<◌, ◌≤◌, List, [], ◌∷◌};
+//! 3.2); Ch and Maj of them (4.1); four words in a row of one block; and the window of a schedule,
+//! its last sixteen words, of which word `t` is in slot `t` modulo 16.
+ghost use Rattle.std.specs.Mem.{type_size};
+ghost use Rattle.std.specs.Prelude.{◌≡◌, ◌≢◌, ℕ, ◌+◌, ◌*◌, ◌/◌, ◌%◌, ◌^◌, ◌<◌, ◌≤◌, List, [], ◌∷◌};
 ghost use Rattle.std.specs.Prelude.{◌++◌, bit_and, drop, length, map, slice_index, take};
 ghost use Rattle.std.proofs.Common.{rules};
-ghost use Rattle.ring_core.specs.Prelude.{◌⊕◌, IsBlockOf, add_words, choose, four, majority, rotr};
-ghost use Rattle.ring_core.specs.Prelude.{shr, word_at};
+ghost use Rattle.ring_core.specs.Sizes.{sixteen-of_one};
+ghost use Rattle.ring_core.specs.Prelude.{◌⊕◌, IsBlockOf, IsWindow, add_words, array_at, choose};
+ghost use Rattle.ring_core.specs.Prelude.{four, majority, rotr, shr, word_at};
 
 use crate::digest::word::traits::{Sha2, Word};
 use std::num::Wrapping;
-use std::simd::Simd;
 
 /// Words in lanes, with the operations of FIPS 180-4, 3.2, on the word of each lane. A clause names
 /// a lane by its number. A single word is in every lane, whatever the number.
@@ -94,8 +96,19 @@ where
     ghost fits = { Prim.search rules };
 }
 
+/// Words of which sixteen, a window of a schedule, fit in memory: the check doesn't know it of a
+/// vector of any number of lanes.
+pub trait FitsWindow: Copy {
+    // sixteen take less than half of all memory
+    ghost small: { 16 * type_size Self.row < 2 ^ 63 };
+}
+
+impl<V: FitsWindow> FitsWindow for InLanes<V> {
+    ghost small = { sixteen-of_one _ V.small };
+}
+
 /// A vector of words, of which each can be read and replaced.
-pub trait Vector: LaneWord {
+pub trait Vector: LaneWord + FitsWindow {
     /// The word in lane `i`.
     fn word(self, i: usize) -> Self::One
         requires { i < Self.LANES }
@@ -111,138 +124,6 @@ pub trait Vector: LaneWord {
     fn shift_right(self, count: u32) -> Self
         requires { count < Self.One.bits }
         ensures { (i : ℕ) → Self.lane i result ≡ shr count (Self.lane i self) };
-}
-
-/// The operations of FIPS 180-4, 3.2, on `L` words of 32 bits.
-#[tactic(auto, using(crate::proofs::Vectors::lanes))]
-impl<const L: usize> LaneWord for Simd<u32, L> {
-    ghost use Rattle.ring_core.specs.Prelude.{lane, lane-lt};
-
-    type One = Wrapping<u32>;
-
-    const LANES: usize = L;
-
-    ghost LANES = { L };
-
-    ghost lane = { λ i x. lane 32 (i % L) x };
-
-    #[inline(always)]
-    #[tactic(auto, unfolding(crate::specs::Lane::lane))]
-    fn splat(word: Wrapping<u32>) -> Simd<u32, L> {
-        Simd::splat(word.0)
-    }
-
-    #[inline(always)]
-    #[tactic(auto, unfolding(crate::specs::Lane::lane))]
-    fn plus(self, o: Simd<u32, L>) -> Simd<u32, L> {
-        self + o
-    }
-
-    #[inline(always)]
-    fn bit_and(self, o: Simd<u32, L>) -> Simd<u32, L> {
-        self & o
-    }
-
-    #[inline(always)]
-    fn bit_xor(self, o: Simd<u32, L>) -> Simd<u32, L> {
-        self ^ o
-    }
-
-    #[inline(always)]
-    fn rotr(self, count: u32) -> Simd<u32, L> {
-        (self >> Simd::splat(count)) | (self << Simd::splat(32 - count))
-    }
-
-    ghost fits = { λ i x. lane-lt 32 (i % L) x };
-}
-
-/// Its numbers are the words of 32 bits.
-#[tactic(auto, using(crate::proofs::Vectors::lanes))]
-impl<const L: usize> Vector for Simd<u32, L> {
-    ghost use Rattle.ring_core.specs.Prelude.{lane, lane-lt};
-
-    #[inline(always)]
-    fn word(self, i: usize) -> Wrapping<u32> {
-        Wrapping(self.to_array()[i])
-    }
-
-    #[inline(always)]
-    fn with(self, i: usize, word: Wrapping<u32>) -> Simd<u32, L> {
-        let mut words = self.to_array();
-        words[i] = word.0;
-        Simd::from_array(words)
-    }
-
-    #[inline(always)]
-    fn shift_right(self, count: u32) -> Simd<u32, L> {
-        self >> Simd::splat(count)
-    }
-}
-
-/// The operations of FIPS 180-4, 3.2, on `L` words of 64 bits.
-#[tactic(auto, using(crate::proofs::Vectors::lanes))]
-impl<const L: usize> LaneWord for Simd<u64, L> {
-    ghost use Rattle.ring_core.specs.Prelude.{lane, lane-lt};
-
-    type One = Wrapping<u64>;
-
-    const LANES: usize = L;
-
-    ghost LANES = { L };
-
-    ghost lane = { λ i x. lane 64 (i % L) x };
-
-    #[inline(always)]
-    #[tactic(auto, unfolding(crate::specs::Lane::lane))]
-    fn splat(word: Wrapping<u64>) -> Simd<u64, L> {
-        Simd::splat(word.0)
-    }
-
-    #[inline(always)]
-    #[tactic(auto, unfolding(crate::specs::Lane::lane))]
-    fn plus(self, o: Simd<u64, L>) -> Simd<u64, L> {
-        self + o
-    }
-
-    #[inline(always)]
-    fn bit_and(self, o: Simd<u64, L>) -> Simd<u64, L> {
-        self & o
-    }
-
-    #[inline(always)]
-    fn bit_xor(self, o: Simd<u64, L>) -> Simd<u64, L> {
-        self ^ o
-    }
-
-    #[inline(always)]
-    fn rotr(self, count: u32) -> Simd<u64, L> {
-        (self >> Simd::splat(count as u64)) | (self << Simd::splat((64 - count) as u64))
-    }
-
-    ghost fits = { λ i x. lane-lt 64 (i % L) x };
-}
-
-/// Its numbers are the words of 64 bits.
-#[tactic(auto, using(crate::proofs::Vectors::lanes))]
-impl<const L: usize> Vector for Simd<u64, L> {
-    ghost use Rattle.ring_core.specs.Prelude.{lane, lane-lt};
-
-    #[inline(always)]
-    fn word(self, i: usize) -> Wrapping<u64> {
-        Wrapping(self.to_array()[i])
-    }
-
-    #[inline(always)]
-    fn with(self, i: usize, word: Wrapping<u64>) -> Simd<u64, L> {
-        let mut words = self.to_array();
-        words[i] = word.0;
-        Simd::from_array(words)
-    }
-
-    #[inline(always)]
-    fn shift_right(self, count: u32) -> Simd<u64, L> {
-        self >> Simd::splat(count as u64)
-    }
 }
 
 /// A vector of words. The checker supports arrays of a struct, but not of a vector with a generic
@@ -381,4 +262,142 @@ pub(crate) fn majority_word<W: LaneWord>(x: W, y: W, z: W) -> W
         ≡ majority (W.lane i x) (W.lane i y) (W.lane i z) }
 {
     y.bit_xor(x.bit_xor(y).bit_and(y.bit_xor(z)))
+}
+
+// Each function below is a few instructions of a block function and is always inlined: a slot is
+// then a literal, and words stay in lanes from step to step.
+
+// A block in each lane, as the sixteen words that its schedule begins with.
+pub(crate) trait BlockWords<S: LaneWord> {
+    // what reading it asks for
+    ghost is_whole: { Self → Type 0 };
+
+    // the bytes are those of the block in a lane
+    ghost is_block: { ℕ → Self → List ℕ → Type 0 };
+
+    // Word `t` of the block in each lane.
+    fn word(&self, t: usize) -> S
+        requires some { 0 < S.LANES }
+        requires whole { is_whole self.now }
+        requires place { t < 16 }
+        ensures { (i : ℕ) (b : List ℕ) → is_block i self.now b
+            → S.lane i result ≡ word_at S.One.bits b t };
+}
+
+// Fills the window with the words of the block in each lane.
+#[inline(always)]
+pub(crate) fn load<S: LaneWord, B: BlockWords<S>>(window: &mut [S; 16], block: &B)
+    requires some { 0 < S.LANES }
+    requires whole { B.is_whole block.now }
+    ensures { (i : ℕ) (b : List ℕ) → B.is_block i block.now b
+        → IsWindow (word_at S.One.bits b) (map (S.lane i) window.new) 16 }
+{
+    'words: for t in 0..16 {
+        window[t] = block.word(t);
+    }
+}
+
+// A block of bytes, the same in each lane.
+#[derive(Drop)]
+pub(crate) struct SameBlock<'a>(pub(crate) &'a [u8]);
+
+impl<'a, S: LaneWord> BlockWords<S> for SameBlock<'a> {
+    ghost is_whole = { λ block. length block.0.now ≡ 16 * (S.One.bits / 8) };
+
+    ghost is_block = { λ _ block b. b ≡ block.0.now };
+
+    #[inline(always)]
+    fn word(&self, t: usize) -> S {
+        S::splat(S::One::read_word(self.0, t))
+    }
+}
+
+// Word `j` of each block, each in its block's lane.
+#[inline(always)]
+fn read_words<V: Vector, const N: usize>(blocks: &[[u8; N]], j: usize) -> V
+    requires some { 0 < V.LANES }
+    requires lanes { length blocks.now ≡ V.LANES }
+    requires whole { N ≡ 16 * (V.One.bits / 8) }
+    requires place { j < 16 }
+    ensures { (i : ℕ) → i < V.LANES
+        → V.lane i result ≡ word_at V.One.bits (array_at blocks.now i) j }
+{
+    let mut words = V::splat(V::One::ZERO);
+    'each: for i in 0..V::LANES {
+        words = words.with(i, V::One::read_word(&blocks[i], j));
+    }
+    words
+}
+
+// Blocks of bytes, each in its own lane.
+#[derive(Drop)]
+pub(crate) struct BlockInEach<'a, const N: usize>(pub(crate) &'a [[u8; N]]);
+
+impl<'a, V: Vector, const N: usize> BlockWords<InLanes<V>> for BlockInEach<'a, N> {
+    ghost is_whole = { λ blocks. (length blocks.0.now ≡ V.LANES) × (N ≡ 16 * (V.One.bits / 8)) };
+
+    ghost is_block = { λ i blocks b. (i < V.LANES) × (b ≡ array_at blocks.0.now i) };
+
+    #[inline(always)]
+    fn word(&self, t: usize) -> InLanes<V> {
+        InLanes(read_words::<V, N>(self.0, t))
+    }
+}
+
+// A block whose first `N` words are those of `front`, and whose other words are those of `padding`,
+// the same in each lane.
+#[derive(Drop)]
+pub(crate) struct FrontAndPadding<'a, S, W, const N: usize> {
+    pub(crate) front: &'a [S],
+    pub(crate) padding: &'a [W],
+}
+
+impl<'a, S: LaneWord, const N: usize> BlockWords<S> for FrontAndPadding<'a, S, S::One, N> {
+    ghost is_whole = { λ block. (N ≤ 8) × (length block.front.now ≡ 8)
+        × (length block.padding.now ≡ 16) };
+
+    ghost is_block = { λ i block b. IsBlockOf S.One.bits N
+        (map (S.lane i) block.front.now) (map S.One.value block.padding.now) b };
+
+    #[inline(always)]
+    fn word(&self, t: usize) -> S {
+        if t < N {
+            self.front[t]
+        } else {
+            S::splat(self.padding[t])
+        }
+    }
+}
+
+// The words in `slot` and in the slot after it.
+#[inline(always)]
+pub(crate) fn pair<T: Copy>(window: &[T; 16], slot: usize) -> (T, T)
+    requires { slot < 16 }
+    ensures { (value : T → ℕ) (w : ℕ → ℕ) (n t : ℕ) → IsWindow w (map value window.now) n
+        → slot ≡ t % 16 → t + 2 ≤ n → n ≤ t + 16
+        → (value result.0 ≡ w t) × (value result.1 ≡ w (t + 1)) }
+{
+    (window[slot], window[(slot + 1) % 16])
+}
+
+// Replaces the oldest two words, in `slot` and the slot after it, by the next two.
+#[inline(always)]
+pub(crate) fn set_pair<T: Copy>(window: &mut [T; 16], slot: usize, words: (T, T))
+    requires { slot < 16 }
+    ensures { (value : T → ℕ) (w : ℕ → ℕ) (t : ℕ) → IsWindow w (map value window.old) t
+        → slot ≡ t % 16 → value words.0 ≡ w t → value words.1 ≡ w (t + 1)
+        → IsWindow w (map value window.new) (t + 2) }
+{
+    window[slot] = words.0;
+    window[(slot + 1) % 16] = words.1;
+}
+
+// Two words of one block as the lanes of a vector.
+#[inline(always)]
+pub(crate) fn in_two_lanes<V: Vector>(words: (V::One, V::One)) -> V
+    requires { V.LANES ≡ 2 }
+    ensures first { V.lane 0 result ≡ V.One.value words.0 }
+    ensures second { V.lane 1 result ≡ V.One.value words.1 }
+{
+    V::splat(words.0).with(1, words.1)
 }

@@ -7,6 +7,8 @@ pub steps-preserved : goal.steps-preserved
 steps-preserved c =
     let some : 0 < 128 = omega arith in
     let is_len : length c.numbered-block.result ≡ 128 = search rules in
+    let first = c.block_data_order_64_fastest_counted-in-steps.ensures.words in
+    let second = c.block_data_order_64_fastest_counted.ensures.words in
     rw (words_next, ← c.steps.invariant, ← c.numbered-block.ensures)
-    (rw (c.block_data_order_64-in-steps.ensures.words, c.from_ref-in-steps.ensures, fold_chunks-one)
-    (rw (c.block_data_order_64.ensures.words, c.from_ref.ensures, fold_chunks-one) refl))
+    (rw (first, c.from_ref-in-steps.ensures, fold_chunks-one)
+    (rw (second, c.from_ref.ensures, fold_chunks-one) refl))

@@ -1,6 +1,0 @@
--- SPDX-License-Identifier: ISC
-use Rattle.ring_core.specs.Kernel.{RunsSha1}
-use Rattle.ring_core.proofs.digest.sha1.blocks.run_blocks.Given as goal
-
-abbrev pub invariant-each : goal.invariant-each
-invariant-each l = RunsSha1 l.fn.state l.state l.blocks.items.now l.i l.fn.meter l.meter

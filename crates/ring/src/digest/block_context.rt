@@ -20,9 +20,9 @@ use crate::digest::algorithm::{Algorithm, MAX_BLOCK_LEN, is_message_within};
 use crate::digest::dynstate::{DynState, Output, long_output, short_output};
 use ring_core::bits::{BitLength, FromByteLen};
 use ring_core::cost::Meter;
-use ring_core::digest::sha1::sha1_block_data_order_counted;
+use ring_core::digest::sha1::sha1_block_data_order_fastest_counted;
 use ring_core::digest::sha2::{
-    State32, State64, block_data_order_32_counted, block_data_order_64_counted,
+    State32, State64, block_data_order_32_fastest_counted, block_data_order_64_fastest_counted,
 };
 use ring_core::error::Unspecified;
 use ring_core::polyfill::slice::as_chunks;
@@ -41,7 +41,7 @@ fn run_blocks_64<'i>(words: &mut State64, input: &'i [u8], meter: &mut Meter) ->
     ensures cost { meter.new ≡ raised meter.old (length input.now / 128) 0 }
 {
     let (blocks, rest) = as_chunks::<u8, 128>(input);
-    block_data_order_64_counted(words, blocks, meter);
+    block_data_order_64_fastest_counted(words, blocks, meter);
     rest
 }
 
@@ -66,9 +66,9 @@ fn run_blocks_32<'i>(
 {
     let (blocks, rest) = as_chunks::<u8, 64>(input);
     if algorithm.is_sha1() {
-        sha1_block_data_order_counted(words, blocks, meter);
+        sha1_block_data_order_fastest_counted(words, blocks, meter);
     } else {
-        block_data_order_32_counted(words, blocks, meter);
+        block_data_order_32_fastest_counted(words, blocks, meter);
     }
     rest
 }

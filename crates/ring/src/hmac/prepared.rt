@@ -21,12 +21,12 @@ use crate::digest::lanes::algorithms::{
 };
 use crate::hmac::key::Key;
 use ring_core::cost::Meter;
-use ring_core::digest::sha1::{sha1_block_of_words_counted, sha1_block_of_words_lanes_counted};
+use ring_core::digest::sha1::{sha1_block_of_words_fastest_counted, sha1_block_of_words_lanes_counted};
 use ring_core::digest::sha2::{
-    State32, State64, block_of_words_32_counted, block_of_words_64_counted,
+    State32, State64, block_of_words_32_fastest_counted, block_of_words_64_fastest_counted,
     block_of_words_lanes_counted,
 };
-use ring_core::digest::states::{States, Window};
+use ring_core::digest::states::States;
 use ring_core::digest::word::lanes::Vector;
 use std::num::Wrapping;
 
@@ -37,7 +37,6 @@ pub(crate) trait DigestBlock: LaneStates {
     // Advances `states` over one block in each lane, which ends a message of one block and a
     // digest: the digest that the words of `digests` write, and the padding.
     fn hash_digests(
-        window: &mut Self::Window,
         states: &mut Self::States,
         digests: &Self::States,
         meter: &mut Meter,
@@ -88,8 +87,8 @@ impl DigestBlock for OneLane<Wrapping<u32>, Sha1> {
     ghost algorithm = { SHA1_FOR_LEGACY_USE_ONLY };
 
     #[inline(always)]
-    fn hash_digests(_ring: &mut (), states: &mut State32, digests: &State32, meter: &mut Meter) {
-        sha1_block_of_words_counted(states, digests, &SHA1_PADDING, meter)
+    fn hash_digests(states: &mut State32, digests: &State32, meter: &mut Meter) {
+        sha1_block_of_words_fastest_counted(states, digests, &SHA1_PADDING, meter)
     }
 
     ghost sized = { refl };
@@ -99,8 +98,8 @@ impl DigestBlock for OneLane<Wrapping<u32>, Sha256> {
     ghost algorithm = { SHA256 };
 
     #[inline(always)]
-    fn hash_digests(_ring: &mut (), states: &mut State32, digests: &State32, meter: &mut Meter) {
-        block_of_words_32_counted(states, digests, &SHA256_PADDING, meter)
+    fn hash_digests(states: &mut State32, digests: &State32, meter: &mut Meter) {
+        block_of_words_32_fastest_counted(states, digests, &SHA256_PADDING, meter)
     }
 
     ghost sized = { refl };
@@ -110,8 +109,8 @@ impl DigestBlock for OneLane<Wrapping<u64>, Sha384> {
     ghost algorithm = { SHA384 };
 
     #[inline(always)]
-    fn hash_digests(_ring: &mut (), states: &mut State64, digests: &State64, meter: &mut Meter) {
-        block_of_words_64_counted::<6>(states, digests, &SHA384_PADDING, meter)
+    fn hash_digests(states: &mut State64, digests: &State64, meter: &mut Meter) {
+        block_of_words_64_fastest_counted::<6>(states, digests, &SHA384_PADDING, meter)
     }
 
     ghost sized = { refl };
@@ -121,8 +120,8 @@ impl DigestBlock for OneLane<Wrapping<u64>, Sha512> {
     ghost algorithm = { SHA512 };
 
     #[inline(always)]
-    fn hash_digests(_ring: &mut (), states: &mut State64, digests: &State64, meter: &mut Meter) {
-        block_of_words_64_counted::<8>(states, digests, &SHA512_PADDING, meter)
+    fn hash_digests(states: &mut State64, digests: &State64, meter: &mut Meter) {
+        block_of_words_64_fastest_counted::<8>(states, digests, &SHA512_PADDING, meter)
     }
 
     ghost sized = { refl };
@@ -132,8 +131,8 @@ impl DigestBlock for OneLane<Wrapping<u64>, Sha512_256> {
     ghost algorithm = { SHA512_256 };
 
     #[inline(always)]
-    fn hash_digests(_ring: &mut (), states: &mut State64, digests: &State64, meter: &mut Meter) {
-        block_of_words_64_counted::<4>(states, digests, &SHA512_256_PADDING, meter)
+    fn hash_digests(states: &mut State64, digests: &State64, meter: &mut Meter) {
+        block_of_words_64_fastest_counted::<4>(states, digests, &SHA512_256_PADDING, meter)
     }
 
     ghost sized = { refl };
@@ -144,12 +143,11 @@ impl<V: Vector<One = Wrapping<u32>>> DigestBlock for InVector<V, Sha1> {
 
     #[inline(always)]
     fn hash_digests(
-        window: &mut Window<V>,
         states: &mut States<V>,
         digests: &States<V>,
         meter: &mut Meter,
     ) {
-        sha1_block_of_words_lanes_counted(window, states, digests, &SHA1_PADDING, meter)
+        sha1_block_of_words_lanes_counted(states, digests, &SHA1_PADDING, meter)
     }
 
     ghost sized = { refl };
@@ -160,12 +158,11 @@ impl<V: Vector<One = Wrapping<u32>>> DigestBlock for InVector<V, Sha256> {
 
     #[inline(always)]
     fn hash_digests(
-        window: &mut Window<V>,
         states: &mut States<V>,
         digests: &States<V>,
         meter: &mut Meter,
     ) {
-        block_of_words_lanes_counted::<V, 8>(window, states, digests, &SHA256_PADDING, meter)
+        block_of_words_lanes_counted::<V, 8>(states, digests, &SHA256_PADDING, meter)
     }
 
     ghost sized = { refl };
@@ -176,12 +173,11 @@ impl<V: Vector<One = Wrapping<u64>>> DigestBlock for InVector<V, Sha384> {
 
     #[inline(always)]
     fn hash_digests(
-        window: &mut Window<V>,
         states: &mut States<V>,
         digests: &States<V>,
         meter: &mut Meter,
     ) {
-        block_of_words_lanes_counted::<V, 6>(window, states, digests, &SHA384_PADDING, meter)
+        block_of_words_lanes_counted::<V, 6>(states, digests, &SHA384_PADDING, meter)
     }
 
     ghost sized = { refl };
@@ -192,12 +188,11 @@ impl<V: Vector<One = Wrapping<u64>>> DigestBlock for InVector<V, Sha512> {
 
     #[inline(always)]
     fn hash_digests(
-        window: &mut Window<V>,
         states: &mut States<V>,
         digests: &States<V>,
         meter: &mut Meter,
     ) {
-        block_of_words_lanes_counted::<V, 8>(window, states, digests, &SHA512_PADDING, meter)
+        block_of_words_lanes_counted::<V, 8>(states, digests, &SHA512_PADDING, meter)
     }
 
     ghost sized = { refl };
@@ -208,12 +203,11 @@ impl<V: Vector<One = Wrapping<u64>>> DigestBlock for InVector<V, Sha512_256> {
 
     #[inline(always)]
     fn hash_digests(
-        window: &mut Window<V>,
         states: &mut States<V>,
         digests: &States<V>,
         meter: &mut Meter,
     ) {
-        block_of_words_lanes_counted::<V, 4>(window, states, digests, &SHA512_256_PADDING, meter)
+        block_of_words_lanes_counted::<V, 4>(states, digests, &SHA512_256_PADDING, meter)
     }
 
     ghost sized = { refl };
@@ -345,7 +339,6 @@ impl<H: DigestBlock> PreparedKeys<H> {
     pub(crate) fn first_tags(
         &self,
         starts: &Starts,
-        room: &mut H::Window,
         meter: &mut Meter,
     ) -> Digests<H>
         requires some { 0 < H.LANES }
@@ -360,20 +353,13 @@ impl<H: DigestBlock> PreparedKeys<H> {
         let mut digests = Digests {
             words: H::new(&starts.digests[..H::LANES]),
         };
-        self.end_tags(room, &mut digests, meter);
+        self.end_tags(&mut digests, meter);
         digests
-    }
-
-    // Room that a call takes, for any lanes.
-    pub(crate) fn room() -> H::Window
-        requires { 0 < H.LANES }
-    {
-        H::window()
     }
 
     // Replaces inner digests by their tags, in each lane under its key.
     #[inline(always)]
-    fn end_tags(&self, room: &mut H::Window, digests: &mut Digests<H>, meter: &mut Meter)
+    fn end_tags(&self, digests: &mut Digests<H>, meter: &mut Meter)
         requires { 0 < H.LANES }
         ensures ok { (i : ℕ) (k m : List ℕ)
             → IsKeyInLane H.algorithm (H.lane i self.now.inner) (H.lane i self.now.outer) k
@@ -383,7 +369,7 @@ impl<H: DigestBlock> PreparedKeys<H> {
         ensures cost { meter.new ≡ raised meter.old H.LANES 0 }
     {
         let mut outside = self.outer;
-        H::hash_digests(room, &mut outside, &digests.words, meter);
+        H::hash_digests(&mut outside, &digests.words, meter);
         digests.words = outside;
     }
 
@@ -391,7 +377,6 @@ impl<H: DigestBlock> PreparedKeys<H> {
     #[inline(always)]
     pub(crate) fn sign_digests(
         &self,
-        room: &mut H::Window,
         digests: &mut Digests<H>,
         meter: &mut Meter,
     )
@@ -403,8 +388,8 @@ impl<H: DigestBlock> PreparedKeys<H> {
         ensures cost { meter.new ≡ raised meter.old (2 * H.LANES) 0 }
     {
         let mut inside = self.inner;
-        H::hash_digests(room, &mut inside, &digests.words, meter);
+        H::hash_digests(&mut inside, &digests.words, meter);
         digests.words = inside;
-        self.end_tags(room, digests, meter);
+        self.end_tags(digests, meter);
     }
 }

@@ -135,11 +135,10 @@ fn xor_iterates<H: DigestBlock>(
         (H.LANES * (1 + 2 * (non_zero_u32_get derivation.now.iterations - 1))) 0 }
 {
     let keys = PreparedKeys::<H>::new(starts);
-    let mut room = PreparedKeys::<H>::room();
-    let mut iterate = keys.first_tags(starts, &mut room, meter);
+    let mut iterate = keys.first_tags(starts, meter);
     let mut sum = iterate.clone();
     'iterates: for _made in 1..derivation.iterations.get() {
-        keys.sign_digests(&mut room, &mut iterate, meter);
+        keys.sign_digests(&mut iterate, meter);
         sum.xor_assign(&iterate);
     }
     'outputs: for i in 0..outputs.len() {

@@ -16,9 +16,9 @@ use ring_core::cost::Meter;
 use ring_core::digest::instructions::{arm, x86};
 use ring_core::digest::sha1::sha1_block_data_order_lanes_counted;
 use ring_core::digest::sha2::block_data_order_lanes_counted;
-use ring_core::digest::states::{States, Window};
+use ring_core::digest::states::States;
 use ring_core::digest::word::Word;
-use ring_core::digest::word::lanes::{InLanes, LaneWord, Vector};
+use ring_core::digest::word::lanes::{LaneWord, Vector};
 use std::num::Wrapping;
 
 // The greatest number of lanes.
@@ -28,9 +28,6 @@ pub(crate) const MAX_LANES: usize = 8;
 pub(crate) trait LaneStates {
     // the states, of eight words each
     type States: Copy;
-
-    // room for a schedule in each lane
-    type Window: Copy;
 
     // the number of lanes
     const LANES: usize;
@@ -42,10 +39,6 @@ pub(crate) trait LaneStates {
 
     // the words of the state in a lane
     ghost lane: { ℕ → Self.States → List ℕ };
-
-    // Room that holds zeros.
-    fn window() -> Self::Window
-        requires { 0 < LANES };
 
     // The states, the first in lane 0.
     fn new(states: &[DynState]) -> Self::States
@@ -98,8 +91,6 @@ pub(crate) struct OneLane<W, A>(W, A);
 impl<W: StateWord, A> LaneStates for OneLane<W, A> {
     type States = [W; 8];
 
-    type Window = ();
-
     const LANES: usize = 1;
 
     ghost LANES = { 1 };
@@ -107,8 +98,6 @@ impl<W: StateWord, A> LaneStates for OneLane<W, A> {
     ghost word_len = { W.len };
 
     ghost lane = { λ i state. map W.value state };
-
-    fn window() -> () {}
 
     fn new(states: &[DynState]) -> [W; 8] {
         *W::words_in(&states[0])
@@ -148,8 +137,6 @@ pub(crate) struct InVector<V, A>(V, A);
 impl<V: Vector<One = W>, W: StateWord, A> LaneStates for InVector<V, A> {
     type States = States<V>;
 
-    type Window = Window<V>;
-
     const LANES: usize = V::LANES;
 
     ghost LANES = { V.LANES };
@@ -157,10 +144,6 @@ impl<V: Vector<One = W>, W: StateWord, A> LaneStates for InVector<V, A> {
     ghost word_len = { W.len };
 
     ghost lane = { λ i states. words_of_lane (V.lane i) states };
-
-    fn window() -> Window<V> {
-        [InLanes::splat(W::ZERO); 16]
-    }
 
     // Not inlined, so that its room is free again when the rounds run.
     #[inline(never)]
@@ -202,7 +185,6 @@ pub(crate) trait RunBlocks<const N: usize>: LaneStates {
 
     // Advances the state in each lane over the block at its place.
     fn run_blocks(
-        window: &mut Self::Window,
         states: &mut Self::States,
         blocks: &[[u8; N]],
         meter: &mut Meter,
@@ -227,12 +209,11 @@ impl<V: Vector<One = Wrapping<u32>>> RunBlocks<64> for InVector<V, Sha1> {
 
     #[inline(always)]
     fn run_blocks(
-        window: &mut Window<V>,
         states: &mut States<V>,
         blocks: &[[u8; 64]],
         meter: &mut Meter,
     ) {
-        sha1_block_data_order_lanes_counted(window, states, blocks, meter)
+        sha1_block_data_order_lanes_counted(states, blocks, meter)
     }
 
     ghost sized = { λ a is. ap word_len is };
@@ -243,12 +224,11 @@ impl<V: Vector<One = Wrapping<u32>>> RunBlocks<64> for InVector<V, Sha256> {
 
     #[inline(always)]
     fn run_blocks(
-        window: &mut Window<V>,
         states: &mut States<V>,
         blocks: &[[u8; 64]],
         meter: &mut Meter,
     ) {
-        block_data_order_lanes_counted(window, states, blocks, meter)
+        block_data_order_lanes_counted(states, blocks, meter)
     }
 
     ghost sized = { λ a is. ap word_len is };
@@ -260,12 +240,11 @@ impl<V: Vector<One = Wrapping<u64>>, A> RunBlocks<128> for InVector<V, A> {
 
     #[inline(always)]
     fn run_blocks(
-        window: &mut Window<V>,
         states: &mut States<V>,
         blocks: &[[u8; 128]],
         meter: &mut Meter,
     ) {
-        block_data_order_lanes_counted(window, states, blocks, meter)
+        block_data_order_lanes_counted(states, blocks, meter)
     }
 
     ghost sized = { λ a is. is };

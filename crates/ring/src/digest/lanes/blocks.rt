@@ -174,10 +174,9 @@ pub(crate) fn run_lanes<H: RunBlocks<N>, B: Blocks<N>, const N: usize>(
         ≡ drop (word_count algorithm) (H.lane i states.old) }
     ensures cost { meter.new ≡ raised meter.old (H.LANES * count) 0 }
 {
-    let mut window = H::window();
     let mut blocks = [[0; N]; MAX_LANES];
     'blocks: for index in 0..count {
         put_blocks::<B, N>(algorithm, messages, index, &mut blocks[..H::LANES]);
-        H::run_blocks(&mut window, states, &blocks[..H::LANES], meter);
+        H::run_blocks(states, &blocks[..H::LANES], meter);
     }
 }

@@ -9,7 +9,7 @@ use Rattle.ring.proofs.digest.block_context.run_blocks_32.Goals as goal
 pub returns-then-is_sha1-clause-words : goal.returns-then-is_sha1-clause-words
 returns-then-is_sha1-clause-words c =
     let a = c.args.algorithm in
-    let run = c.sha1_block_data_order_counted in
+    let run = c.sha1_block_data_order_fastest_counted in
     let is : a ≡ SHA1_FOR_LEGACY_USE_ONLY =
     search (rules, c.if-is_sha1.ensures, c.if-is_sha1.true) in
     let row = sha1_row a.id (ap (λ (z : Algorithm). z.id) is) in
@@ -19,7 +19,7 @@ returns-then-is_sha1-clause-words c =
 pub returns-else-is_sha1-clause-words : goal.returns-else-is_sha1-clause-words
 returns-else-is_sha1-clause-words c =
     let a = c.args.algorithm in
-    let run = c.block_data_order_32_counted in
+    let run = c.block_data_order_32_fastest_counted in
     let size : 4 ≡ word_len a = search (rules, c.requires) in
     let other : a.id ≡ Sha1 → ⊥ = λ e. (
     let is : a ≡ SHA1_FOR_LEGACY_USE_ONLY = ap (λ (i : AlgorithmId). record { id = i }) e in

@@ -9,5 +9,5 @@ use lanes.OneLaneWrappingU32Sha1DigestBlock.hash_digests.Goals as goal
 pub returns-clause-ok : goal.returns-clause-ok
 returns-clause-ok c = λ i.
     let digests = c.args.digests.now in
-    c.sha1_block_of_words_counted.ensures.words _ (padded-words digests sha1_padding
+    c.sha1_block_of_words_fastest_counted.ensures.words _ (padded-words digests sha1_padding
     (length-map digests _ ∙ c.told-digests) (λ x. mod-lt _ (pow_pos 32)))

@@ -6,6 +6,6 @@ use lanes.OneLaneWrappingU32Sha256DigestBlock.hash_digests.Goals as goal
 
 pub returns-clause-ok : goal.returns-clause-ok
 returns-clause-ok c = λ i.
-    let run = c.block_of_words_32_counted in
+    let run = c.block_of_words_32_fastest_counted in
     words_run family_256 c.args.states.now run.new.state c.args.digests.now sha256_padding
     (c.told-states, c.told-digests) run.ensures.words

@@ -6,6 +6,6 @@ use lanes.OneLaneWrappingU64Sha512DigestBlock.hash_digests.Goals as goal
 
 pub returns-clause-ok : goal.returns-clause-ok
 returns-clause-ok c = λ i.
-    let run = c.block_of_words_64_counted in
+    let run = c.block_of_words_64_fastest_counted in
     words_run family_512 c.args.states.now run.new.state c.args.digests.now sha512_padding
     (c.told-states, c.told-digests) run.ensures.words

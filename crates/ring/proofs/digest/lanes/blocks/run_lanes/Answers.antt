@@ -3,7 +3,7 @@ use Rattle.std.proofs.Common.{◌≡◌, ◌<◌, ℕ, ◌*◌, ◌++◌, ◌∙
 use Rattle.std.proofs.Common.{refl, take}
 use Rattle.std.proofs.lemmas.List.{get_or-take, get_or_append_left}
 use Rattle.ring_core.specs.Prelude.{array_at, chunk_at, fold_chunks}
-use Rattle.ring.specs.Prelude.{block_function, message_at}
+use Rattle.ring.specs.Prelude.{block_function, message_at, word_count}
 use Rattle.ring_core.proofs.ChunkFolds.{fold_chunks-none}
 use Rattle.ring.proofs.lemmas.digest.LaneBlocks.{chunks-next}
 use Rattle.ring.proofs.Costs.{raised-none}
@@ -14,8 +14,12 @@ pub blocks-2-init : goal.blocks-2-init
 blocks-2-init g c =
     let none : g.H.LaneStates.LANES * 0 ≡ 0 = omega arith in
     record {
-      words = λ i h below has. rw fold_chunks-none has;
-      spare = λ i h below has. refl;
+      words = λ i h below has.
+          let step = block_function c.args.algorithm in
+          let bytes = g.B.Blocks.bytes c.args.algorithm (message_at c.args.messages.now i) in
+          rw (fold_chunks-none step g.row.N h bytes) has;
+      spare = λ i h below has.
+          refl {a = drop (word_count c.args.algorithm) (g.H.LaneStates.lane i c.args.states.now)};
       cost = rw none (raised-none c.args.meter.now);
     }
 

@@ -51,6 +51,7 @@ METERS = {
     "ring_tokens": 11,
     "ring_sums": 1,
     "ring_examples": 11,
+    "ring_speed": 3,
     "ring_c": 5,
 }
 # The crate of the tests.

@@ -40,7 +40,7 @@ C_INFO = "    match Stored::parse(text) {\n"
 C_DERIVATIONS = "crates/ring_c/src/derivations.rt"
 C_VERIFY_IN = "    match pbkdf2::verify_in::<VECTOR_BITS>(\n"
 FINISHED = "crates/ring_schedules/src/tls13/traffic.rt"
-SHA1_BLOCKS = "crates/ring_core/src/digest/sha1/blocks.rt"
+SHA1_BLOCKS = "crates/ring_core/src/digest/sha1/by_fours.rt"
 RUN_WORD_BLOCK = (
     "    run_block(sums, state, first, second, third, fourth);\n    meter.add_block();\n"
 )

@@ -3,7 +3,7 @@
 // `#= `. It runs in Node and in browsers.
 
 export const FILES = ["digest", "digest_lengths", "hkdf", "hkdf_lengths", "hmac", "hmac_lengths",
-  "lines", "pbkdf2", "pbkdf2_lengths", "pbkdf2_rounds", "pbkdf2_verified"];
+  "lines", "pbkdf2", "pbkdf2_lengths", "pbkdf2_rounds", "pbkdf2_verified", "ring"];
 const NAMES = new Map(Object.entries({
   SHA1: "SHA-1", SHA256: "SHA-256", SHA384: "SHA-384", SHA512: "SHA-512", SHA512_256: "SHA-512/256",
 }));

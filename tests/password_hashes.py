@@ -28,7 +28,9 @@ import sys
 import tempfile
 
 sys.dont_write_bytecode = True
+sys.path.append(str(pathlib.Path(__file__).resolve().parent.parent / "tools"))
 import counted
+import debian_crates
 from run import COMPILER, ROOT, answers, differing, file_case, rows_of, short_of_memory
 
 VECTORS = ROOT / "vectors/password_hashes"
@@ -506,7 +508,6 @@ def with_long_salts():
     return differing(wanted) + [("", "all on one side")] * (not both)
 
 
-REGISTRY = pathlib.Path("/usr/share/cargo/registry")
 PEER = """
 [package]
 name = "peer"
@@ -518,31 +519,15 @@ pbkdf2 = { version = ">=0.11, <0.13", features = ["simple"] }
 name = "peer"
 path = "main.rs"
 """
-CARGO_CONFIG = f"""
-[source.crates-io]
-replace-with = "debian"
-[source.debian]
-directory = "{REGISTRY}"
-"""
-
-
-def has_rustcrypto():
-    """Whether cargo and Debian's librust-pbkdf2-dev and librust-password-hash-dev are here."""
-    crates = ("pbkdf2-*", "password-hash-*")
-    return shutil.which("cargo") and all(any(REGISTRY.glob(crate)) for crate in crates)
 
 
 def asked_rustcrypto(folder, lines):
-    """What RustCrypto answers to lines, by a program of Debian's crates that is built without a
-    network."""
-    for name, text in (("config.toml", CARGO_CONFIG), ("Cargo.toml", PEER)):
-        (folder / name).write_text(text)
+    """What RustCrypto answers to lines, by a program over Debian's crates."""
+    (folder / "Cargo.toml").write_text(PEER)
     shutil.copy(ROOT / "tests/password_hashes.rs", folder / "main.rs")
-    command = ["cargo", "run", "--offline", "--quiet", "--release"]
-    folders = {"CARGO_HOME": str(folder), "CARGO_TARGET_DIR": str(folder / "target")}
-    settings = {"cwd": folder, "env": {**os.environ, **folders}, "check": True}
+    peer = debian_crates.build(folder) / "peer"
     text = "".join(f"{line}\n" for line in lines).encode()
-    run = subprocess.run(command, input=text, stdout=subprocess.PIPE, **settings)
+    run = subprocess.run([peer], input=text, stdout=subprocess.PIPE, check=True)
     return run.stdout.decode().split("\n")[:-1]
 
 
@@ -689,7 +674,7 @@ def cases():
         if module in UNREAD:
             yield unread_of(module), missing
     yield with_long_salts, "" if python_with("passlib") else "passlib"
-    yield with_rustcrypto, "" if has_rustcrypto() else "RustCrypto's crates"
+    yield with_rustcrypto, debian_crates.lacking("pbkdf2", "password-hash")
     yield with_mosquitto, "" if shutil.which("mosquitto_passwd") else "mosquitto_passwd"
     yield with_postgres, "" if postgres_bin() else "PostgreSQL"
 

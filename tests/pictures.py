@@ -100,7 +100,7 @@ def faults_of_picture(text):
 
 def faults_of_speed(speed):
     """The measurements that lack something."""
-    for name in ("beside", "beside_integer_code", "instructions", "together"):
+    for name in ("beside", "beside_integer_code", "beside_crates", "instructions", "together"):
         lacking = [it for it in ("command", "date", "processor") if not speed[name].get(it)]
         yield from (f"{name}: no {it}" for it in lacking)
         places = len(speed["together"]["messages"] if name == "together" else speed["hashes"])

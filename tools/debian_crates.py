@@ -31,6 +31,7 @@ def build(folder, *sources):
     for it in sources:
         shutil.copy(it, folder)
     (folder / "config.toml").write_text(CARGO_CONFIG)
+    (folder / "Cargo.lock").unlink(missing_ok=True)  # of another registry
     folders = {"CARGO_HOME": str(folder), "CARGO_TARGET_DIR": str(folder / "target")}
     command = ["cargo", "build", "--offline", "--quiet", "--release"]
     subprocess.run(command, cwd=folder, env={**os.environ, **folders}, check=True)

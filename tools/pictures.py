@@ -274,7 +274,7 @@ def table(heads, rows):
 
 def library_columns(speed, rows):
     """The columns of a measurement: a place of a hash function and a key of its rows."""
-    keys = ["ns", "without", *speed["libraries"]]
+    keys = ["ns", "without", *speed["libraries"], *speed["crates"]]
     columns = [(place, key) for place in range(len(speed["hashes"])) for key in keys]
     return [(place, key) for place, key in columns
             if any(key in row and row[key][place] is not None for row in rows)]
@@ -283,9 +283,9 @@ def library_columns(speed, rows):
 def beside_table(speed, rows):
     """Our times, and their ratios to those of other libraries."""
     columns = library_columns(speed, rows)
+    others = {"without": {"column": "without"}, **speed["libraries"], **speed["crates"]}
     heads = ["Work"] + [
-        speed["hashes"][place] if key == "ns"
-        else f"/ {speed['libraries'].get(key, {'column': key})['column']}"
+        speed["hashes"][place] if key == "ns" else f"/ {others[key]['column']}"
         for place, key in columns
     ]
     cells = ([row["work"]] + [
@@ -295,14 +295,24 @@ def beside_table(speed, rows):
     return table(heads, cells)
 
 
-def measured_table(figures):
-    """The first table of capi/README.md, below what was measured and when."""
-    speed = figures["speed"]
-    measured = speed["beside"]
+def table_with_versions(speed, measured, libraries):
+    """A table beside some libraries, below what was measured and when."""
     versions = ", ".join(f"{it['name'].split()[0]} {it['version']} of {it['system']}"
-                         for it in speed["libraries"].values())
+                         for it in libraries.values())
     told = f"{measured['processor']}, on {measured['date']}; {versions}."
     return f"{told}\n\n{beside_table(speed, measured['rows'])}"
+
+
+def measured_table(figures):
+    """The first table of capi/README.md."""
+    speed = figures["speed"]
+    return table_with_versions(speed, speed["beside"], speed["libraries"])
+
+
+def crates_table(figures):
+    """That beside Rust's crates."""
+    speed = figures["speed"]
+    return table_with_versions(speed, speed["beside_crates"], speed["crates"])
 
 
 def integer_table(figures):
@@ -349,7 +359,8 @@ def packages_table(figures):
 TABLES = {
     "README.md": {"speed": speed_table, "packages": packages_table},
     "capi/README.md": {"instructions": instructions_table, "beside": measured_table,
-                       "integer": integer_table, "together": together_table},
+                       "integer": integer_table, "together": together_table,
+                       "crates": crates_table},
 }
 
 

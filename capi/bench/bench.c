@@ -1,7 +1,8 @@
 /* SPDX-License-Identifier: ISC */
 /* Times the rows of rows.c by each party that was found, and prints times and ratios.
  *
- *     bench [--check] [--earlier LIBRARY [--earlier V2]] [--lines PROGRAM] LIBRARY [V2 V3]
+ *     bench [--check] [--earlier LIBRARY [--earlier V2]] [--ring CRATE] [--rustcrypto CRATE]
+ *           [--lines PROGRAM] LIBRARY [V2 V3]
  *
  * LIBRARY is a shared library; V2 and V3 are the same with one build for all processors. The
  * parties take turns at all rows, on one processor, with the stack in changing places of its page,
@@ -35,7 +36,8 @@ double least[MAX_WORKS][HASHES][PARTIES];
 
 static const party *const PARTY[RING_SPEED] = {
     [OURS] = &yezdopin, [V2] = &yezdopin, [V3] = &yezdopin, [EARLIER] = &yezdopin,
-    [EARLIER_V2] = &yezdopin, [OPENSSL] = &openssl, [SODIUM] = &libsodium,
+    [EARLIER_V2] = &yezdopin, [OPENSSL] = &openssl, [SODIUM] = &libsodium, [RING] = &crates,
+    [RUSTCRYPTO] = &crates,
 };
 static uint8_t out[MAX_OUT_LEN];
 static bool is_there[PARTIES];
@@ -62,6 +64,12 @@ static uint64_t front(const uint8_t *bytes) {
     return number;
 }
 
+/* Selects what the calls of a party's kind are of. */
+static void select_party(int p) {
+    if (p < LIBRARIES) select_library(p);
+    if (p >= RING && p < RING + CRATES) select_crate(p - RING);
+}
+
 static uint64_t run_ring_speed(const work *row, int h, uint32_t steps) {
     if (row->kind != STORE) return ring_speed_run(row->number, (uint32_t)h, steps);
     if (ring_speed_verify(row->number, ITERATIONS) != (row->number != UNKNOWN_NAME))
@@ -75,7 +83,7 @@ static uint64_t run(const work *row, int h, int p, uint32_t steps) {
     call *step = PARTY[p]->calls[row->kind];
     size_t results = row->kind == UPDATE ? 0 : row->kind == EACH ? row->count : 1;
     size_t len = HASH[h].out_len;
-    if (p < LIBRARIES) select_library(p);
+    select_party(p);
     for (uint32_t i = 0; i < steps; i++) {
         if (!step(row, out)) fail(row->name, "a call failed");
         for (size_t k = 0; k < results; k++) memcpy(message_at(row, k), out + k * len, len);
@@ -127,7 +135,7 @@ static void take_turn(int w, int h, int turn) {
 /* Makes the contexts and keys of all parties for a hash function. */
 static void begin(int h) {
     for (int p = 0; p < RING_SPEED; p++) {
-        if (is_there[p] && p < LIBRARIES) select_library(p);
+        if (is_there[p]) select_party(p);
         is_ready[p] = is_there[p] && PARTY[p]->begin(&HASH[h]);
     }
     is_ready[RING_SPEED] = is_there[RING_SPEED];
@@ -211,17 +219,25 @@ static void add_library(int library, const char *path) {
     is_there[library] = true;
 }
 
+static void add_crate(int p, const char *path) {
+    load_crate(p - RING, path);
+    is_there[p] = !capabilities;
+}
+
 static void read_arguments(int count, char **arguments) {
     static const struct option OPTIONS[] = {
         {"check", no_argument, NULL, 'c'},
         {"earlier", required_argument, NULL, 'e'},
         {"lines", required_argument, NULL, 'l'},
+        {"ring", required_argument, NULL, RING},
+        {"rustcrypto", required_argument, NULL, RUSTCRYPTO},
         {NULL, 0, NULL, 0},
     };
     for (int option; (option = getopt_long(count, arguments, "", OPTIONS, NULL)) != -1;) {
         if (option == 'c') is_checked = true;
         else if (option == 'e') add_library(is_there[EARLIER] ? EARLIER_V2 : EARLIER, optarg);
         else if (option == 'l') program = optarg;
+        else if (option == RING || option == RUSTCRYPTO) add_crate(option, optarg);
         else exit(2);
     }
     int libraries = count - optind;

@@ -27,14 +27,16 @@ typedef struct {
 extern const hash HASH[HASHES];
 
 /* The parties: the library, which chooses its build at run time; each build alone; an earlier
- * library, and its build for x86-64-v2 alone; OpenSSL and libsodium; crates/ring_speed; and the
- * program behind ./bench. */
+ * library, and its build for x86-64-v2 alone; OpenSSL and libsodium; the Rust crates `ring` and
+ * RustCrypto's; crates/ring_speed; and the program behind ./bench. */
 enum {
     OURS, V2, V3, EARLIER, EARLIER_V2, LIBRARIES,
-    OPENSSL = LIBRARIES, SODIUM, RING_SPEED, PROGRAM, PARTIES,
+    OPENSSL = LIBRARIES, SODIUM, RING, RUSTCRYPTO, RING_SPEED, PROGRAM, PARTIES,
+    CRATES = RUSTCRYPTO - RING + 1,
 };
 
-/* What one step does. A library has calls for the kinds before KINDS. */
+/* What one step does. A library has calls for the kinds before KINDS, which speed/peers/peer.rs
+ * has by their numbers. */
 typedef enum {
     DIGEST,         /* in one call */
     PIECES,         /* by a context that is begun and ended */
@@ -115,13 +117,17 @@ typedef struct {
     bool (*begin)(const hash *); /* makes contexts and keys; false where it lacks the hash */
     call *calls[KINDS];          /* NULL where it lacks the call */
 } party;
-extern const party yezdopin, openssl, libsodium;
+extern const party yezdopin, openssl, libsodium, crates;
 
 /* Loads a library of this project from a file, and selects it for the calls of `yezdopin`. */
 void load_library(int library, const char *path);
 /* What its yz_features tells; 0 of an earlier one that has none. */
 unsigned library_features(int library);
 void select_library(int library);
+
+/* Loads a Rust crate from a file, and selects it for the calls of `crates`. */
+void load_crate(int number, const char *path);
+void select_crate(int number);
 
 /* The processor time of the program for one line, in nanoseconds. */
 double time_of_line(const char *program, const work *row, const hash *algorithm);

@@ -7,7 +7,8 @@
 #define EARLIER_LIMIT 1.04
 
 static const char *const COLUMN[PARTIES] = {
-    [EARLIER] = "earlier", [OPENSSL] = "OpenSSL", [SODIUM] = "libsodium",
+    [EARLIER] = "earlier", [OPENSSL] = "OpenSSL", [SODIUM] = "libsodium", [RING] = "ring",
+    [RUSTCRYPTO] = "RustCrypto",
 };
 
 /* The ratio of two times, or 0 where one wasn't measured. */

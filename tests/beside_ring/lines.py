@@ -17,7 +17,8 @@ ALGORITHMS = {
 }
 KEYED = [name for name, row in ALGORITHMS.items() if row[0]]
 MAX_ROUNDS = 255  # of HKDF
-MAX_LEN = 65536
+MAX_LEN = 65536  # of an output
+LONG_LEN = 70000  # of some inputs
 # Fields that are no name, and no number.
 NO_NAMES = ("sha256", "SHA-256", "SHA224", "SHA512_256", "SHA2560", "")
 NO_NUMBERS = ("00", "01", "+1", "-1", "1.0", "0x1", "", "65537", "4294967296", "9" * 20)
@@ -47,7 +48,9 @@ class Maker:
         _, block_len, padding_len, digest_len = ALGORITHMS[name]
         lengths = (self.near(block_len, padding_len), self.near(digest_len),
                    self.rng.randrange(4 * block_len))
-        return self.rng.randbytes(self.rng.choice(lengths))
+        is_long = self.one_in(300)
+        return self.rng.randbytes(
+            self.rng.randrange(LONG_LEN) if is_long else self.rng.choice(lengths))
 
     def digits(self, data):
         """Hex digits of lower, upper or mixed case."""

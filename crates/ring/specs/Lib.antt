@@ -14,10 +14,9 @@ pub mod Receiver
 pub mod Each
 pub mod Source
 pub mod KeyBlocks
-pub mod Prepared
 pub mod Lanes
 pub mod Hmac
-pub mod Starts
+pub mod Prepared
 pub mod Hkdf
 pub mod Okm
 pub mod Pbkdf2

@@ -13,7 +13,7 @@ use Rattle.ring.specs.Items.{EachItem}
 use Rattle.ring.specs.Limits.{IsTagWithin, derive_rounds, max_dk_len}
 use Rattle.ring.specs.Pbkdf2.{pbkdf2_t}
 use Rattle.ring.specs.Pieces.{joined_blocks}
-use Rattle.ring.specs.Starts.{HasStart}
+use Rattle.ring.specs.Prepared.{HasStart}
 use Rattle.ring.specs.declared.digest.algorithm.Algorithm.{Algorithm}
 use Rattle.ring.specs.declared.digest.dynstate.Output.{Output}
 use Rattle.ring.specs.declared.hmac.prepared.Starts.{Starts}
@@ -82,7 +82,7 @@ nth_round d r k = round_on d.algorithm d.len r k
 abbrev pub first_message : Derivation → Round → List ℕ
 first_message d r = bytes_at d.salts.now r.place ++ bytes_high_first 4 r.index
 
--- in the lanes start the first m rounds from r on
+-- the first m rounds from r on start, each in its lane
 pub record AreStarts (d : Derivation) (r : Round) (starts : Starts) (m : ℕ) : Type 0 where
   pub each : (i : ℕ) → i < m → HoldsAt (λ key. HasStart d.algorithm starts i key
       (first_message d (nth_round d r i))) d.keys.now (nth_round d r i).place
@@ -104,7 +104,7 @@ pub record AreOutputs (a : Algorithm) (n : ℕ) (f : ℕ → ℕ → List ℕ) (
   pub places : AreOfKeys a n r (length outputs) m
   pub each : EachItem outputs (IsOutput a n f r)
 
--- the blocks inside of the first iterate of the k-th round after r
+-- the blocks of the inner digest of U_1, in the k-th round after r
 abbrev pub first_blocks : Derivation → Round → ℕ → ℕ
 first_blocks d r k =
     padded_blocks d.algorithm (length (bytes_at d.salts.now (nth_round d r k).place) + 4)

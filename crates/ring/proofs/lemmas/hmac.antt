@@ -2,4 +2,3 @@
 -- Lemmas of `hmac`.
 pub mod Keys
 pub mod Paddings
-pub mod Starts

@@ -351,9 +351,9 @@ impl BlockContext {
         Digest::new(output, self.algorithm)
     }
 
-    // The state after the blocks, the pending bytes and the padding, whose message is within the
-    // limit: its words write the digest.
-    pub(crate) fn end_within(&self, pending: &[u8], meter: &mut Meter) -> DynState
+    // The state after the blocks, the pending bytes and the padding, whose words write the digest.
+    // The message is within the limit.
+    pub(crate) fn final_state(&self, pending: &[u8], meter: &mut Meter) -> DynState
         requires partial { length pending.now < block_len (block_algorithm self.now) }
         requires within { cut_off (counted_bytes self.now + length pending.now)
             ≤ max_input_len (block_algorithm self.now) }

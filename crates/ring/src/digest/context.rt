@@ -154,10 +154,10 @@ impl Context {
             .try_finish(&self.pending[..self.num_pending], meter)
     }
 
-    // The state after the message, which is within the limit, and its padding: its words write the
-    // digest.
+    // The state after the message and its padding, whose words write the digest. The message is
+    // within the limit.
     #[tactic(auto, unfolding(crate::specs::Context::StandsFor))]
-    pub(crate) fn end_within(&self, meter: &mut Meter) -> DynState
+    pub(crate) fn final_state(&self, meter: &mut Meter) -> DynState
         requires { message_len self.now ≤ max_input_len (context_algorithm self.now) }
         ensures ok { (m : List ℕ) → StandsFor self.now m
             → digest_bytes (context_algorithm self.now) (words result)
@@ -167,7 +167,7 @@ impl Context {
         ensures sized { IsTrue (is_state_of (context_algorithm self.now) result) }
     {
         self.block
-            .end_within(&self.pending[..self.num_pending], meter)
+            .final_state(&self.pending[..self.num_pending], meter)
     }
 
     /// Returns the digest of the message (FIPS 180-4, section 6).

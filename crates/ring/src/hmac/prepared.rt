@@ -1,16 +1,16 @@
 // SPDX-License-Identifier: ISC
-//! Keys in lanes, prepared for messages that are as long as a digest: after the key's block each of
-//! them is one block with its padding (RFC 2104, section 2), which is the same for all.
+//! Keys in lanes, prepared for messages that are as long as a digest: after the key's block such a
+//! message is one block with its padding (RFC 2104, section 2), which is the same for all of them.
 
 ghost use Rattle.std.proofs.Common.{refl};
 ghost use Rattle.std.specs.Prelude.{◌≡◌, ◌≢◌, ℕ, ◌+◌, ◌*◌, ◌<◌, ◌≤◌, ◌++◌, IsTrue, List, length};
-ghost use Rattle.std.specs.Prelude.{take};
+ghost use Rattle.std.specs.Prelude.{get_or, take};
 ghost use Rattle.ring_core.specs.Prelude.{xor_lists};
-ghost use Rattle.ring.specs.Prelude.{Algorithm, HasStart, HasStates, IsKeyInLane, IsTagWithin};
+ghost use Rattle.ring.specs.Prelude.{Algorithm, HasKey, HasStart, IsSet, IsTagWithin};
 ghost use Rattle.ring.specs.Prelude.{SHA1_FOR_LEGACY_USE_ONLY, SHA256, SHA384, SHA512, SHA512_256};
-ghost use Rattle.ring.specs.Prelude.{block_function, digest_bytes, digest_of, hmac_of, inner_block};
-ghost use Rattle.ring.specs.Prelude.{is_state_of, key_algorithm, output_len, padded_blocks};
-ghost use Rattle.ring.specs.Prelude.{KeyStandsFor, prepared_padding};
+ghost use Rattle.ring.specs.Prelude.{block_function, digest_bytes, digest_at, digest_of, hmac_of};
+ghost use Rattle.ring.specs.Prelude.{inner_block, is_state_of, key_algorithm, output_len};
+ghost use Rattle.ring.specs.Prelude.{KeyStandsFor, padded_blocks, prepared_padding};
 ghost use Rattle.ring.specs.Prelude.{raised, state_word_len, word_count, word_len, words};
 
 use crate::digest;
@@ -21,7 +21,9 @@ use crate::digest::lanes::algorithms::{
 };
 use crate::hmac::key::Key;
 use ring_core::cost::Meter;
-use ring_core::digest::sha1::{sha1_block_of_words_fastest_counted, sha1_block_of_words_lanes_counted};
+use ring_core::digest::sha1::{
+    sha1_block_of_words_fastest_counted, sha1_block_of_words_lanes_counted,
+};
 use ring_core::digest::sha2::{
     State32, State64, block_of_words_32_fastest_counted, block_of_words_64_fastest_counted,
     block_of_words_lanes_counted,
@@ -30,17 +32,14 @@ use ring_core::digest::states::States;
 use ring_core::digest::word::lanes::Vector;
 use std::num::Wrapping;
 
-// A digest algorithm over states in lanes.
+// A digest algorithm over states in lanes, and its prepared block: the last block of a message of
+// one block and a digest, of which only the digest's words change.
 pub(crate) trait DigestBlock: LaneStates {
     ghost algorithm: { Algorithm };
 
-    // Advances `states` over one block in each lane, which ends a message of one block and a
-    // digest: the digest that the words of `digests` write, and the padding.
-    fn hash_digests(
-        states: &mut Self::States,
-        digests: &Self::States,
-        meter: &mut Meter,
-    )
+    // Advances `states` over the prepared block in each lane: the digest that the words of
+    // `digests` write, and the padding.
+    fn hash_digests(states: &mut Self::States, digests: &Self::States, meter: &mut Meter)
         requires some { 0 < Self.LANES }
         ensures ok { (i : ℕ) → take (word_count algorithm) (Self.lane i states.new)
             ≡ block_function algorithm (take (word_count algorithm) (Self.lane i states.old))
@@ -52,16 +51,13 @@ pub(crate) trait DigestBlock: LaneStates {
     ghost sized: { word_len algorithm ≡ Self.word_len };
 }
 
-// The padding of a message that is one block and a digest (FIPS 180-4, sections 5.1.1 and 5.1.2),
-// as the words of the block in which the digest stands: room for it, and the padding.
-
-// The bit 1 that follows a message, as the highest of a word.
+// The bit 1 that follows a message (FIPS 180-4, sections 5.1.1 and 5.1.2), at the top of a word.
 const END_32: u32 = 1 << 31;
 
 const END_64: u64 = 1 << 63;
 
-// The paddings leave room for the words of a digest, and end with the number of bits in the key's
-// block and the digest.
+// The prepared blocks: zeros in place of the digest's words, and the padding, which ends with the
+// number of bits in the key's block and the digest.
 
 const SHA1_PADDING: [Wrapping<u32>; 16] = words![
     0, 0, 0, 0, 0, END_32, 0, 0, 0, 0, 0, 0, 0, 0, 0, 672
@@ -142,11 +138,7 @@ impl<V: Vector<One = Wrapping<u32>>> DigestBlock for InVector<V, Sha1> {
     ghost algorithm = { SHA1_FOR_LEGACY_USE_ONLY };
 
     #[inline(always)]
-    fn hash_digests(
-        states: &mut States<V>,
-        digests: &States<V>,
-        meter: &mut Meter,
-    ) {
+    fn hash_digests(states: &mut States<V>, digests: &States<V>, meter: &mut Meter) {
         sha1_block_of_words_lanes_counted(states, digests, &SHA1_PADDING, meter)
     }
 
@@ -157,11 +149,7 @@ impl<V: Vector<One = Wrapping<u32>>> DigestBlock for InVector<V, Sha256> {
     ghost algorithm = { SHA256 };
 
     #[inline(always)]
-    fn hash_digests(
-        states: &mut States<V>,
-        digests: &States<V>,
-        meter: &mut Meter,
-    ) {
+    fn hash_digests(states: &mut States<V>, digests: &States<V>, meter: &mut Meter) {
         block_of_words_lanes_counted::<V, 8>(states, digests, &SHA256_PADDING, meter)
     }
 
@@ -172,11 +160,7 @@ impl<V: Vector<One = Wrapping<u64>>> DigestBlock for InVector<V, Sha384> {
     ghost algorithm = { SHA384 };
 
     #[inline(always)]
-    fn hash_digests(
-        states: &mut States<V>,
-        digests: &States<V>,
-        meter: &mut Meter,
-    ) {
+    fn hash_digests(states: &mut States<V>, digests: &States<V>, meter: &mut Meter) {
         block_of_words_lanes_counted::<V, 6>(states, digests, &SHA384_PADDING, meter)
     }
 
@@ -187,11 +171,7 @@ impl<V: Vector<One = Wrapping<u64>>> DigestBlock for InVector<V, Sha512> {
     ghost algorithm = { SHA512 };
 
     #[inline(always)]
-    fn hash_digests(
-        states: &mut States<V>,
-        digests: &States<V>,
-        meter: &mut Meter,
-    ) {
+    fn hash_digests(states: &mut States<V>, digests: &States<V>, meter: &mut Meter) {
         block_of_words_lanes_counted::<V, 8>(states, digests, &SHA512_PADDING, meter)
     }
 
@@ -202,11 +182,7 @@ impl<V: Vector<One = Wrapping<u64>>> DigestBlock for InVector<V, Sha512_256> {
     ghost algorithm = { SHA512_256 };
 
     #[inline(always)]
-    fn hash_digests(
-        states: &mut States<V>,
-        digests: &States<V>,
-        meter: &mut Meter,
-    ) {
+    fn hash_digests(states: &mut States<V>, digests: &States<V>, meter: &mut Meter) {
         block_of_words_lanes_counted::<V, 4>(states, digests, &SHA512_256_PADDING, meter)
     }
 
@@ -214,29 +190,29 @@ impl<V: Vector<One = Wrapping<u64>>> DigestBlock for InVector<V, Sha512_256> {
 }
 
 impl Key {
-    // The state of the inner digest of the message `first` and then `last`.
-    fn digest_inside(&self, first: &[u8], last: &[u8], meter: &mut Meter) -> DynState
+    // The state that writes the inner digest of the message `front` and then `rest`.
+    fn inner_digest(&self, front: &[u8], rest: &[u8], meter: &mut Meter) -> DynState
         requires within { IsTagWithin (key_algorithm self.now)
-            (length first.now + length last.now) }
+            (length front.now + length rest.now) }
         ensures ok { (k : List ℕ) → KeyStandsFor self.now k
             → digest_bytes (key_algorithm self.now) (words result)
             ≡ digest_of (key_algorithm self.now)
-            (inner_block (key_algorithm self.now) k ++ (first.now ++ last.now)) }
+            (inner_block (key_algorithm self.now) k ++ (front.now ++ rest.now)) }
         ensures sized { IsTrue (is_state_of (key_algorithm self.now) result) }
         ensures cost { meter.new ≡ raised meter.old
-            (padded_blocks (key_algorithm self.now) (length first.now + length last.now)) 0 }
+            (padded_blocks (key_algorithm self.now) (length front.now + length rest.now)) 0 }
     {
         let mut context = digest::Context::resume(self.inner.clone());
-        context.update_counted(first, meter);
-        context.update_counted(last, meter);
-        context.end_within(meter)
+        context.update_counted(front, meter);
+        context.update_counted(rest, meter);
+        context.final_state(meter)
     }
 }
 
 const NO_STATES: [DynState; MAX_LANES] = [DynState::As32([Wrapping(0); 8]); MAX_LANES];
 
-// What messages start from, each at its lane: the states of its key, and that of the inner digest
-// of a first message. There is room for the greatest number of lanes.
+// What the messages in lanes start from: of each lane the two states of its key, and the state that
+// writes the inner digest of its first message. There is room for the greatest number of lanes.
 #[derive(Drop)]
 pub(crate) struct Starts {
     inner: [DynState; MAX_LANES],
@@ -253,32 +229,44 @@ impl Starts {
         }
     }
 
-    // Starts, at a lane, the message `first` and then `last` under a key.
+    // Sets the key of a lane, and its first message: `front` and then `rest`.
     pub(crate) fn set(
         &mut self,
         lane: usize,
         key: &Key,
-        first: &[u8],
-        last: &[u8],
+        front: &[u8],
+        rest: &[u8],
         meter: &mut Meter,
     )
         requires room { lane < 8 }
         requires within { IsTagWithin (key_algorithm key.now)
-            (length first.now + length last.now) }
+            (length front.now + length rest.now) }
         ensures here { HasStart (key_algorithm key.now) self.new lane key.now
-            (first.now ++ last.now) }
+            (front.now ++ rest.now) }
         ensures others { (a : Algorithm) (j : ℕ) (k : Key) (m : List ℕ) → j ≢ lane
             → HasStart a self.old j k m → HasStart a self.new j k m }
         ensures cost { meter.new ≡ raised meter.old
-            (padded_blocks (key_algorithm key.now) (length first.now + length last.now)) 0 }
+            (padded_blocks (key_algorithm key.now) (length front.now + length rest.now)) 0 }
     {
         self.inner[lane] = key.inner.state;
         self.outer[lane] = key.outer.state;
-        self.digests[lane] = key.digest_inside(first, last, meter);
+        self.digests[lane] = key.inner_digest(front, rest, meter);
     }
 }
 
-// Digests in lanes.
+// The states of as many lanes as there are.
+fn states_in_lanes<H: DigestBlock>(states: &[DynState; MAX_LANES]) -> H::States
+    requires some { 0 < H.LANES }
+    requires most { H.LANES ≤ 8 }
+    requires sized { (i : ℕ) (s : DynState) → i < H.LANES
+        → IsTrue (is_state_of H.algorithm (get_or states.now i s)) }
+    ensures { (i : ℕ) (s : DynState) → i < H.LANES
+        → H.lane i result ≡ words (get_or states.now i s) }
+{
+    H::new(&states[..H::LANES])
+}
+
+// A digest in each lane.
 #[derive(Drop)]
 pub(crate) struct Digests<H: DigestBlock> {
     words: H::States,
@@ -292,27 +280,27 @@ impl<H: DigestBlock> Digests<H> {
         Digests { words: self.words }
     }
 
-    // Replaces the digest of each lane by its exclusive or with that of `others` there.
+    // Replaces the digest in each lane by its exclusive or with that of `others` there.
     #[inline(always)]
     pub(crate) fn xor_assign(&mut self, others: &Self)
-        ensures { (i : ℕ) → digest_bytes H.algorithm (H.lane i self.new.words)
-            ≡ xor_lists (digest_bytes H.algorithm (H.lane i self.old.words))
-            (digest_bytes H.algorithm (H.lane i others.now.words)) }
+        ensures { (i : ℕ) → digest_at H.algorithm (H.lane i) self.new
+            ≡ xor_lists (digest_at H.algorithm (H.lane i) self.old)
+            (digest_at H.algorithm (H.lane i) others.now) }
     {
         H::xor(&mut self.words, &others.words);
     }
 
-    // The digest in lane `i`, as the front of the output.
+    // The digest in lane `i`, at the front of the output.
     pub(crate) fn output(&self, i: usize) -> Output
         requires { i < H.LANES }
         ensures { take (output_len H.algorithm) result.0
-            ≡ digest_bytes H.algorithm (H.lane i self.now.words) }
+            ≡ digest_at H.algorithm (H.lane i) self.now }
     {
         H::state(&self.words, i).format_output()
     }
 }
 
-// The keys of lanes.
+// A key in each lane, as its two states.
 #[derive(Drop)]
 pub(crate) struct PreparedKeys<H: DigestBlock> {
     inner: H::States,
@@ -320,52 +308,48 @@ pub(crate) struct PreparedKeys<H: DigestBlock> {
 }
 
 impl<H: DigestBlock> PreparedKeys<H> {
-    // The keys with which the messages in lanes start.
+    // The key in each lane of `starts`.
     pub(crate) fn new(starts: &Starts) -> Self
         requires some { 0 < H.LANES }
         requires most { H.LANES ≤ 8 }
-        requires states { (i : ℕ) → i < H.LANES → HasStates H.algorithm starts.now i }
+        requires set { (i : ℕ) → i < H.LANES → IsSet H.algorithm starts.now i }
         ensures { (i : ℕ) (key : Key) (k m : List ℕ) → i < H.LANES
             → HasStart H.algorithm starts.now i key m → KeyStandsFor key k
-            → IsKeyInLane H.algorithm (H.lane i result.inner) (H.lane i result.outer) k }
+            → HasKey H.algorithm (H.lane i) result k }
     {
         PreparedKeys {
-            inner: H::new(&starts.inner[..H::LANES]),
-            outer: H::new(&starts.outer[..H::LANES]),
+            inner: states_in_lanes::<H>(&starts.inner),
+            outer: states_in_lanes::<H>(&starts.outer),
         }
     }
 
-    // The tags of the messages that start, under these keys.
-    pub(crate) fn first_tags(
-        &self,
-        starts: &Starts,
-        meter: &mut Meter,
-    ) -> Digests<H>
+    // The tag of the first message of each lane: one block, since the inner digest is there.
+    pub(crate) fn first_tags(&self, starts: &Starts, meter: &mut Meter) -> Digests<H>
         requires some { 0 < H.LANES }
         requires most { H.LANES ≤ 8 }
-        requires states { (i : ℕ) → i < H.LANES → HasStates H.algorithm starts.now i }
+        requires set { (i : ℕ) → i < H.LANES → IsSet H.algorithm starts.now i }
         ensures ok { (i : ℕ) (key : Key) (k m : List ℕ) → i < H.LANES
             → HasStart H.algorithm starts.now i key m → KeyStandsFor key k
-            → IsKeyInLane H.algorithm (H.lane i self.now.inner) (H.lane i self.now.outer) k
-            → digest_bytes H.algorithm (H.lane i result.words) ≡ hmac_of H.algorithm k m }
+            → HasKey H.algorithm (H.lane i) self.now k
+            → digest_at H.algorithm (H.lane i) result ≡ hmac_of H.algorithm k m }
         ensures cost { meter.new ≡ raised meter.old H.LANES 0 }
     {
         let mut digests = Digests {
-            words: H::new(&starts.digests[..H::LANES]),
+            words: states_in_lanes::<H>(&starts.digests),
         };
-        self.end_tags(&mut digests, meter);
+        self.finish_tags(&mut digests, meter);
         digests
     }
 
-    // Replaces inner digests by their tags, in each lane under its key.
+    // Replaces each inner digest by the tag of its message, under the key in its lane.
     #[inline(always)]
-    fn end_tags(&self, digests: &mut Digests<H>, meter: &mut Meter)
+    fn finish_tags(&self, digests: &mut Digests<H>, meter: &mut Meter)
         requires { 0 < H.LANES }
         ensures ok { (i : ℕ) (k m : List ℕ)
-            → IsKeyInLane H.algorithm (H.lane i self.now.inner) (H.lane i self.now.outer) k
-            → digest_bytes H.algorithm (H.lane i digests.old.words)
+            → HasKey H.algorithm (H.lane i) self.now k
+            → digest_at H.algorithm (H.lane i) digests.old
             ≡ digest_of H.algorithm (inner_block H.algorithm k ++ m)
-            → digest_bytes H.algorithm (H.lane i digests.new.words) ≡ hmac_of H.algorithm k m }
+            → digest_at H.algorithm (H.lane i) digests.new ≡ hmac_of H.algorithm k m }
         ensures cost { meter.new ≡ raised meter.old H.LANES 0 }
     {
         let mut outside = self.outer;
@@ -373,23 +357,20 @@ impl<H: DigestBlock> PreparedKeys<H> {
         digests.words = outside;
     }
 
-    // Replaces digests by their tags, in each lane under its key.
+    // Replaces each digest by its tag, under the key in its lane: two blocks, from copies of the
+    // key's states.
     #[inline(always)]
-    pub(crate) fn sign_digests(
-        &self,
-        digests: &mut Digests<H>,
-        meter: &mut Meter,
-    )
+    pub(crate) fn sign_digests(&self, digests: &mut Digests<H>, meter: &mut Meter)
         requires { 0 < H.LANES }
         ensures ok { (i : ℕ) (k : List ℕ)
-            → IsKeyInLane H.algorithm (H.lane i self.now.inner) (H.lane i self.now.outer) k
-            → digest_bytes H.algorithm (H.lane i digests.new.words)
-            ≡ hmac_of H.algorithm k (digest_bytes H.algorithm (H.lane i digests.old.words)) }
+            → HasKey H.algorithm (H.lane i) self.now k
+            → digest_at H.algorithm (H.lane i) digests.new
+            ≡ hmac_of H.algorithm k (digest_at H.algorithm (H.lane i) digests.old) }
         ensures cost { meter.new ≡ raised meter.old (2 * H.LANES) 0 }
     {
         let mut inside = self.inner;
         H::hash_digests(&mut inside, &digests.words, meter);
         digests.words = inside;
-        self.end_tags(digests, meter);
+        self.finish_tags(digests, meter);
     }
 }

@@ -89,7 +89,7 @@ fn rounds_from(derivation: &Derivation<'_>, first: Round) -> usize
     count
 }
 
-// Starts the rounds from `first` on, of so many lanes: each by the message whose tag is U_1.
+// Starts as many rounds from `first` on as there are lanes, each by the message whose tag is U_1.
 fn set_starts(
     derivation: &Derivation<'_>,
     first: Round,
@@ -113,7 +113,7 @@ fn set_starts(
 }
 
 // Writes the rounds from `first` on, as many as there are lanes: of each the exclusive or of its
-// iterates. It isn't inlined, so that its caller keeps no room for it while rounds start.
+// iterates. It isn't inlined, so that its locals take no room on the stack while rounds start.
 #[inline(never)]
 fn xor_iterates<H: DigestBlock>(
     derivation: &Derivation<'_>,

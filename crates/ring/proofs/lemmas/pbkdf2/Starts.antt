@@ -1,9 +1,9 @@
 -- SPDX-License-Identifier: ISC
 -- What rounds start from, and what they give, in lanes.
-use Rattle.std.proofs.Common.{◌≡◌, ℕ, ◌+◌, ◌<◌, ◌≤◌, ◌∙◌, [], ◌∷◌, List, ap, arith, get_or, inl, inr}
-use Rattle.std.proofs.Common.{length}
+use Rattle.std.proofs.Common.{◌≡◌, ℕ, ◌+◌, ◌<◌, ◌≤◌, ◌∙◌, [], ◌∷◌, List, ap, arith, get_or, inl}
+use Rattle.std.proofs.Common.{inr, length}
 use Rattle.std.proofs.lemmas.Bool.{cases_eq}
-use Rattle.ring.specs.Prelude.{AreKeysOf, AreRounds, AreStarts, Derivation, HasStart, HasStates}
+use Rattle.ring.specs.Prelude.{AreKeysOf, AreRounds, AreStarts, Derivation, HasStart, IsSet}
 use Rattle.ring.specs.Prelude.{IsTagWithin, Key, KeyStandsFor, Round, Starts}
 use Rattle.ring.specs.Prelude.{first_message, key_algorithm, nth_round}
 use Rattle.ring.proofs.Each.{message-read}
@@ -57,12 +57,12 @@ module _ {d : Derivation} {r : Round} where
   fewer_starts k starts most =
       record { each = λ i below. starts.each i (omega (arith, below, most)) }
 
-  -- each lane has states of the algorithm
-  pub states-at : {m : ℕ} {starts : Starts} → AreStarts d r starts m → AreRounds d r m → (i : ℕ)
-      → i < m → HasStates d.algorithm starts i
-  states-at starts rounds i below =
+  -- each lane is set
+  pub set-at : {m : ℕ} {starts : Starts} → AreStarts d r starts m → AreRounds d r m → (i : ℕ)
+      → i < m → IsSet d.algorithm starts i
+  set-at starts rounds i below =
       let key = some-item d.keys.now (omega (arith, rounds.places.each i below)) in
-      (starts.each i below key).states
+      (starts.each i below key).set
 
   -- what its key stands for
   pub start-at : {m : ℕ} {starts : Starts} {p : ℕ → List ℕ} → AreStarts d r starts m

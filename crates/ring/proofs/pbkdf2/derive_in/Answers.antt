@@ -21,7 +21,8 @@ returns g c =
     let digest = c.digest_algorithm-digest.ensures in
     let same = digest ∙ c.hmac_algorithm-hmac_algorithm.ensures in
     let made = c.derive_under.ensures.ok _ (key-alone (key.algorithm ∙ sym digest) key.ok) in
-    let has = rw same at (received-alone made (omega arith) (λ start. (refl, refl, λ zero. refl))) in
+    let has = rw same at (received-alone made (omega arith)
+    (λ start. (refl, refl, λ zero. refl))) in
     let size = length-dk (pbkdf2_digest c.args.algorithm) c.args.secret.now c.args.salt.now
     (non_zero_u32_get c.args.iterations) (length c.args.out.now) in
     let all : c.derive_under.new.receiver.out.now ≡ _ =

@@ -184,11 +184,7 @@ pub(crate) trait RunBlocks<const N: usize>: LaneStates {
     ghost is_of: { Algorithm → Type 0 };
 
     // Advances the state in each lane over the block at its place.
-    fn run_blocks(
-        states: &mut Self::States,
-        blocks: &[[u8; N]],
-        meter: &mut Meter,
-    )
+    fn run_blocks(states: &mut Self::States, blocks: &[[u8; N]], meter: &mut Meter)
         requires some { 0 < Self.LANES }
         requires lanes { length blocks.now ≡ Self.LANES }
         ensures words { (a : Algorithm) (i : ℕ) (h : List ℕ) → is_of a → i < Self.LANES
@@ -208,11 +204,7 @@ impl<V: Vector<One = Wrapping<u32>>> RunBlocks<64> for InVector<V, Sha1> {
     ghost is_of = { λ a. a ≡ SHA1_FOR_LEGACY_USE_ONLY };
 
     #[inline(always)]
-    fn run_blocks(
-        states: &mut States<V>,
-        blocks: &[[u8; 64]],
-        meter: &mut Meter,
-    ) {
+    fn run_blocks(states: &mut States<V>, blocks: &[[u8; 64]], meter: &mut Meter) {
         sha1_block_data_order_lanes_counted(states, blocks, meter)
     }
 
@@ -223,11 +215,7 @@ impl<V: Vector<One = Wrapping<u32>>> RunBlocks<64> for InVector<V, Sha256> {
     ghost is_of = { λ a. a ≡ SHA256 };
 
     #[inline(always)]
-    fn run_blocks(
-        states: &mut States<V>,
-        blocks: &[[u8; 64]],
-        meter: &mut Meter,
-    ) {
+    fn run_blocks(states: &mut States<V>, blocks: &[[u8; 64]], meter: &mut Meter) {
         block_data_order_lanes_counted(states, blocks, meter)
     }
 
@@ -239,11 +227,7 @@ impl<V: Vector<One = Wrapping<u64>>, A> RunBlocks<128> for InVector<V, A> {
     ghost is_of = { λ a. word_len a ≡ 8 };
 
     #[inline(always)]
-    fn run_blocks(
-        states: &mut States<V>,
-        blocks: &[[u8; 128]],
-        meter: &mut Meter,
-    ) {
+    fn run_blocks(states: &mut States<V>, blocks: &[[u8; 128]], meter: &mut Meter) {
         block_data_order_lanes_counted(states, blocks, meter)
     }
 

@@ -43,14 +43,15 @@ starts-preserved c =
     λ other. get_or_default keys q.place _ other read.0 in
     let same = rw found.is at read.1.0 in
     let set = c.set.ensures in
-    let four = ap length c.to_be_bytes.ensures ∙ length-bytes_high_first 4 c.starts.round.index in
+    let four = ap length c.to_be_bytes.ensures ∙ length-bytes_high_first 4 q.index in
     let here = rw (c.to_be_bytes.ensures, same) at set.here in
     record {
       here = grind (arith, common_steps, h.here, round_on-next a d.len c.args.first i);
       round = rw c.round_after-round.ensures (is_round-next h.round);
       starts = starts-next i h.starts (λ k key m below. set.others a k key m (omega (arith, below)))
           (λ other. rw (← h.here, ← is other, message-read salts q.place) here);
-      cost = risen-next h.cost (rw (← h.here, message-read salts q.place) (rw (four, same) at set.cost));
+      cost = risen-next h.cost
+          (rw (← h.here, message-read salts q.place) (rw (four, same) at set.cost));
     }
 
 pub returns-clause-starts : goal.returns-clause-starts

@@ -6,16 +6,16 @@ use Rattle.ring.specs.Prelude.{pbkdf2_t}
 use Rattle.ring.proofs.Sums.{raised-sum, raised_zero}
 use Rattle.ring.proofs.lemmas.pbkdf2.Iterates.{blocks-next, length-pbkdf2_t, made-first, made-next}
 use Rattle.ring.proofs.lemmas.pbkdf2.Places.{places-next}
-use Rattle.ring.proofs.lemmas.pbkdf2.Starts.{start-at, states-at}
+use Rattle.ring.proofs.lemmas.pbkdf2.Starts.{start-at, set-at}
 use Rattle.ring.proofs.pbkdf2.rounds.xor_iterates.Goals as goal
 
-pub new-keys-requires-clause-states : goal.new-keys-requires-clause-states
-new-keys-requires-clause-states g c = λ i below.
-    rw c.requires.same (states-at c.requires.starts c.requires.rounds i below)
+pub new-keys-requires-clause-set : goal.new-keys-requires-clause-set
+new-keys-requires-clause-set g c = λ i below.
+    rw c.requires.same (set-at c.requires.starts c.requires.rounds i below)
 
-pub first_tags-iterate-requires-clause-states : goal.first_tags-iterate-requires-clause-states
-first_tags-iterate-requires-clause-states g c = λ i below.
-    rw c.requires.same (states-at c.requires.starts c.requires.rounds i below)
+pub first_tags-iterate-requires-clause-set : goal.first_tags-iterate-requires-clause-set
+first_tags-iterate-requires-clause-set g c = λ i below.
+    rw c.requires.same (set-at c.requires.starts c.requires.rounds i below)
 
 pub iterates-init : goal.iterates-init
 iterates-init g c =

@@ -2,7 +2,7 @@
 use Rattle.std.proofs.Common.{◌≡◌, ◌∙◌, ap, length}
 use Rattle.ring.specs.Prelude.{BlockContext, context_algorithm, key_algorithm}
 use Rattle.ring.proofs.Lengths.{counted_end, counted_first, counted_more}
-use Rattle.ring.proofs.hmac.key.Key.digest_inside.Goals as goal
+use Rattle.ring.proofs.hmac.key.Key.inner_digest.Goals as goal
 
 pub returns-clause-cost : goal.returns-clause-cost
 returns-clause-cost c =
@@ -12,8 +12,8 @@ returns-clause-cost c =
     let salted = c.update_counted.ensures in
     let numbered = c.update_counted-2.ensures in
     let same = salted.plain.algorithm ∙ begun in
-    let n = length c.args.first.now in
+    let n = length c.args.front.now in
     let first = counted_first n begun context.pending salted.plain.pending salted.cost in
-    let next = counted_more (length c.args.last.now) same first numbered.plain.pending
+    let next = counted_more (length c.args.rest.now) same first numbered.plain.pending
     numbered.cost in
-    counted_end (numbered.plain.algorithm ∙ same) next c.end_within.ensures.cost
+    counted_end (numbered.plain.algorithm ∙ same) next c.final_state.ensures.cost

@@ -1,6 +1,6 @@
 -- SPDX-License-Identifier: ISC
 use Rattle.ring.proofs.Lanes.{signed-outside}
-use Rattle.ring.proofs.hmac.prepared.PreparedKeys.end_tags.Goals as goal
+use Rattle.ring.proofs.hmac.prepared.PreparedKeys.finish_tags.Goals as goal
 
 pub returns-clause-ok : goal.returns-clause-ok
 returns-clause-ok g c = λ i k m stands inside.

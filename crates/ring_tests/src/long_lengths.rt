@@ -64,6 +64,7 @@ fn refused_by_count_and_pending(rt: HostRuntime) {
         (SHA256, u64::MAX as u128, 1, false, 0),
         (SHA256, u128::MAX, 0, false, 0),
         (SHA256, u128::MAX, 1, false, 0),
+        (SHA512, 1 << 61, 0, true, 1),
         (SHA512, TOO_LONG - 128, 127, true, 2),
         (SHA512, TOO_LONG, 0, false, 0),
         (SHA512, u128::MAX, 0, false, 0),
@@ -74,16 +75,19 @@ fn refused_by_count_and_pending(rt: HostRuntime) {
     }
 }
 
-// Whether SHA-512 gives for such a context what it gives for these blocks alone.
-fn is_that_of_blocks(
+// Whether SHA-512 gives for such a context what it gives for these blocks alone, and the blocks
+// that this runs.
+fn ends_in_blocks(
     completed: u128,
     pending: [u8; 128],
     num_pending: u32,
     blocks: &[u8],
-) -> Option<bool> {
+) -> Option<(bool, u128)> {
     let context = counted(&SHA512, completed, pending, num_pending)?;
-    let digest = context.finish().ok()?;
-    Some(digest.as_ref() == sha512_of_blocks(blocks).as_slice())
+    let mut meter = Meter::new();
+    let digest = context.finish_counted(&mut meter).ok()?;
+    let is_same = digest.as_ref() == sha512_of_blocks(blocks).as_slice();
+    Some((is_same, meter.blocks()))
 }
 
 // 2^61 bytes are 2^64 bits: the lowest bit of the upper eight length bytes.
@@ -92,7 +96,7 @@ fn length_of_two_to_the_64_bits(rt: HostRuntime) {
     let mut tail = [0; 128];
     tail[0] = 0x80;
     tail[119] = 1;
-    assert!(rt; is_that_of_blocks(1 << 61, [0; 128], 0, &tail) == Some(true));
+    assert!(rt; ends_in_blocks(1 << 61, [0; 128], 0, &tail) == Some((true, 1)));
 }
 
 // 2^125 - 1 bytes are 2^128 - 8 bits: fifteen bytes 0xff and the byte 0xf8.
@@ -103,7 +107,7 @@ fn length_of_the_longest_message(rt: HostRuntime) {
     tail[128..240].fill(0);
     tail[240..255].fill(0xff);
     tail[255] = 0xf8;
-    assert!(rt; is_that_of_blocks(TOO_LONG - 128, [0x61; 128], 127, &tail) == Some(true));
+    assert!(rt; ends_in_blocks(TOO_LONG - 128, [0x61; 128], 127, &tail) == Some((true, 2)));
 }
 
 // The words after whole blocks, from SHA-512's initial words, high byte first.

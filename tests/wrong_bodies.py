@@ -11,9 +11,9 @@ With --together the edits of wrong/ are tried, and with --all those of must-fail
 too, of all crates, of some, or single ones by their paths. A round is one check of a crate with one
 edit in each of its functions. A proof knows of other functions what their contracts say, so an edit
 passes where the check refuses a goal of a function that it changes, and none of a function without
-an edit. One that changes more than functions, as a constant, has a check of its own. An edit that
-is not refused so is tried alone, as `rt must-fail` tries it. A body of right/ means the same as the
-code: it stands in the rounds too, and passes where it is told as not refused.
+an edit. One that changes more than functions, as a constant, or several files has a check of its
+own. An edit that is not refused so is tried alone, as `rt must-fail` tries it. A body of right/
+means the same as the code: it stands in the rounds too, and passes where it is told as not refused.
 
 The crates are proved first, in place, over what stands in out/, or in a copy in a new folder, which
 stays. What passed is kept for the user of this machine by the sum of all that it was made from, and
@@ -143,9 +143,10 @@ def refused_of_round(crate, edits):
 
 def refused_by_itself(crate, path):
     """The path of an edit in a list, if a check refuses a goal of a function where it is made."""
-    file, pairs = rattle_edits.read(path)
-    text = rattle_edits.replaced((ROOT / "crates" / crate.name / file).read_text(), pairs)
-    said = check_of(crate, {file: text})
+    folder = ROOT / "crates" / crate.name
+    texts = {file: rattle_edits.replaced((folder / file).read_text(), pairs)
+             for file, pairs in rattle_edits.read(path).items()}
+    said = check_of(crate, texts)
     is_refused = JUDGED.search(said) and (refused_in(said) or GOAL.search(said))
     return [path] if is_refused else []
 

@@ -1,9 +1,10 @@
 # SPDX-License-Identifier: ISC
 """Edits of code: a file in must-fail/, wrong/, wrong/further/ or right/ of a crate, with a line
-`file:` and then pairs of lines `old:` and `new:`."""
+`file:` and then pairs of lines `old:` and `new:`, and again so for each further file."""
 
 import dataclasses
 import pathlib
+import re
 
 import rattle_names
 import rattle_text
@@ -40,9 +41,16 @@ def edits_of(name, folders):
 
 
 def read(path):
-    """The file of an edit, from its crate's folder, and its pairs of an `old` and a `new` text."""
-    texts = [line.partition(": ")[2] for line in path.read_text().splitlines()]
-    return texts[0], list(zip(texts[1::2], texts[2::2]))
+    """The files of an edit, from its crate's folder, each with its pairs of an `old` and a `new`
+    text."""
+    files = []
+    for line in path.read_text().splitlines():
+        key, _, text = line.partition(": ")
+        if key == "file":
+            files.append((text, []))
+        else:
+            files[-1][1].append(text)
+    return {name: list(zip(texts[::2], texts[1::2])) for name, texts in files}
 
 
 def replaced(text, pairs):
@@ -55,24 +63,32 @@ def replaced(text, pairs):
 def fault_of(path):
     """Why an edit can't be applied, or None."""
     keys = [line.partition(": ")[0] for line in path.read_text().splitlines()]
-    if len(keys) < 3 or keys != ["file"] + ["old", "new"] * (len(keys) // 2):
-        return "its lines are not 'file:', and then 'old:' and 'new:' in turn"
-    name, pairs = read(path)
-    file = crate_of(path) / name
+    if not re.fullmatch(r"(file (old new )+)+", "".join(f"{it} " for it in keys)):
+        return "its lines are not 'file:', and then 'old:' and 'new:' in turn, for each file"
+    if len(files := read(path)) != keys.count("file"):
+        return "it names a file twice"
+    faults = (fault_in(crate_of(path) / name, pairs) for name, pairs in files.items())
+    return next((it for it in faults if it), None)
+
+
+def fault_in(file, pairs):
+    """Why the pairs of an edit can't be applied to a file, or None."""
     if not file.is_file():
-        return f"there is no {name}"
+        return f"there is no {file.name}"
     text = file.read_text()
     for old, new in pairs:
         if text.count(old) != 1:
-            return f"an 'old' text does not stand once in {name}"
+            return f"an 'old' text does not stand once in {file.name}"
         text = text.replace(old, new)
     return None
 
 
 def edit_of(path, names):
     """The edit of a file, whose functions have these names in a check; None where it changes more
-    than functions with a body, or one whose name can't be told."""
-    file, pairs = read(path)
+    than functions with a body, one whose name can't be told, or several files."""
+    (file, pairs), *others = read(path).items()
+    if others:
+        return None
     text = (crate_of(path) / file).read_text()
     module = rattle_names.module_of(crate_of(path).name, file)
     changes, whole, at = {}, "", 0

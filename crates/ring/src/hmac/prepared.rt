@@ -6,7 +6,7 @@ ghost use Rattle.std.proofs.Common.{refl};
 ghost use Rattle.std.specs.Prelude.{◌≡◌, ◌≢◌, ℕ, ◌+◌, ◌*◌, ◌<◌, ◌≤◌, ◌++◌, IsTrue, List, length};
 ghost use Rattle.std.specs.Prelude.{get_or, take};
 ghost use Rattle.ring_core.specs.Prelude.{xor_lists};
-ghost use Rattle.ring.specs.Prelude.{Algorithm, HasKey, HasStart, IsSet, IsTagWithin};
+ghost use Rattle.ring.specs.Prelude.{Algorithm, EachItem, HasKey, HasStart, IsSet, IsTagWithin};
 ghost use Rattle.ring.specs.Prelude.{SHA1_FOR_LEGACY_USE_ONLY, SHA256, SHA384, SHA512, SHA512_256};
 ghost use Rattle.ring.specs.Prelude.{block_function, digest_bytes, digest_at, digest_of, hmac_of};
 ghost use Rattle.ring.specs.Prelude.{inner_block, is_state_of, key_algorithm, output_len};
@@ -290,13 +290,15 @@ impl<H: DigestBlock> Digests<H> {
         H::xor(&mut self.words, &others.words);
     }
 
-    // The digest in lane `i`, at the front of the output.
-    pub(crate) fn output(&self, i: usize) -> Output
-        requires { i < H.LANES }
-        ensures { take (output_len H.algorithm) result.0
-            ≡ digest_at H.algorithm (H.lane i) self.now }
+    // Writes the digest in each lane to the front of the output at its place.
+    pub(crate) fn write(&self, outputs: &mut [Output])
+        requires { length outputs.old ≡ H.LANES }
+        ensures { EachItem outputs.new (λ i output. take (output_len H.algorithm) output.0
+            ≡ digest_at H.algorithm (H.lane i) self.now) }
     {
-        H::state(&self.words, i).format_output()
+        'lanes: for i in 0..outputs.len() {
+            outputs[i] = H::state(&self.words, i).format_output();
+        }
     }
 }
 

@@ -141,9 +141,7 @@ fn xor_iterates<H: DigestBlock>(
         keys.sign_digests(&mut iterate, meter);
         sum.xor_assign(&iterate);
     }
-    'outputs: for i in 0..outputs.len() {
-        outputs[i] = sum.output(i);
-    }
+    sum.write(outputs);
 }
 
 // Writes the rounds from `first` on, of which so many can run together.

@@ -1,11 +1,10 @@
 -- SPDX-License-Identifier: ISC
-use Rattle.std.proofs.Common.{◌<◌, ◌≡◌, ◌∙◌, arith, refl, length-set, subst, sym, take}
+use Rattle.std.proofs.Common.{◌<◌, ◌≡◌, ◌∙◌, arith, get_or, refl, subst, sym, take}
 use Rattle.std.specs.Int.NonZero.{non_zero_u32_get}
 use Rattle.ring.specs.Prelude.{HasStart, bytes_at, first_message, nth_round, output_len}
 use Rattle.ring.specs.Prelude.{pbkdf2_t}
 use Rattle.ring.proofs.Sums.{raised-sum, raised_zero}
 use Rattle.ring.proofs.lemmas.pbkdf2.Iterates.{blocks-next, length-pbkdf2_t, made-first, made-next}
-use Rattle.ring.proofs.lemmas.pbkdf2.Places.{places-next}
 use Rattle.ring.proofs.lemmas.pbkdf2.Starts.{start-at, set-at}
 use Rattle.ring.proofs.pbkdf2.rounds.xor_iterates.Goals as goal
 
@@ -35,35 +34,26 @@ iterates-preserved g c =
           (blocks-next g.H.LaneStates.LANES c.iterates._made c.iterates.auto._made) refl;
     }
 
-pub outputs-preserved : goal.outputs-preserved
-outputs-preserved g c =
+pub returns-clause-ok : goal.returns-clause-ok
+returns-clause-ok g c = λ p are.
     let d = c.args.derivation.now in
-    let i = c.outputs.i in
-    let lane : i < g.H.LaneStates.LANES = omega arith in
     let last : c.iterates._made ≡ non_zero_u32_get d.iterations = omega arith in
-    let q = nth_round d c.args.first i in
     record {
-      written = λ p are.
+      size = λ i j. length-pbkdf2_t _ _ _ _ _;
+      places = rw (← c.requires.lanes, ← c.write.auto.outputs) at c.requires.rounds.places;
+      each = λ i output below.
+          let lane : i < g.H.LaneStates.LANES = omega (arith, below) in
+          let q = nth_round d c.args.first i in
           let one = start-at c.requires.starts c.requires.rounds are i lane in
           let start = subst (λ a. HasStart a c.args.starts.now i one.key (first_message d q))
           (sym c.requires.same) one.start in
           let stands = c.new-keys.ensures i one.key _ _ lane start one.stands in
           let tag = c.first_tags-iterate.ensures.ok i one.key _ _ lane start one.stands stands in
           let sum = (c.iterates.invariant.made i _ _ q.index stands tag).sum in
-          places-next _ i (c.outputs.invariant.written p are) (omega arith)
-          (subst (λ a. take (output_len a) c.output.result.0
+          subst (λ a. take (output_len a) (get_or c.write.new.outputs i output).0
           ≡ pbkdf2_t a (p q.place) (bytes_at d.salts.now q.place) q.index
-          (non_zero_u32_get d.iterations)) c.requires.same (c.output.ensures ∙ rw last at sum));
-      count = simp length-set c.outputs.invariant.count;
-    }
-
-pub returns-clause-ok : goal.returns-clause-ok
-returns-clause-ok g c = λ p are.
-    record {
-      size = λ i j. length-pbkdf2_t _ _ _ _ _;
-      places = rw (← c.outputs.invariant.count) at c.requires.rounds.places;
-      each = λ i output below.
-          (c.outputs.invariant.written p are).each i output (omega (arith, below));
+          (non_zero_u32_get d.iterations)) c.requires.same
+          (c.write.ensures i output below ∙ rw last at sum);
     }
 
 pub returns-clause-cost : goal.returns-clause-cost

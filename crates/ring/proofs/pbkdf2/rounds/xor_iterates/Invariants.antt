@@ -1,9 +1,8 @@
 -- SPDX-License-Identifier: ISC
-use Rattle.std.proofs.Common.{◌≡◌, ◌++◌, ◌+◌, ◌-◌, ◌*◌, ℕ, List, length}
+use Rattle.std.proofs.Common.{◌≡◌, ◌++◌, ◌+◌, ◌-◌, ◌*◌, ℕ, List}
 use Rattle.std.specs.Int.{bytes_high_first}
-use Rattle.ring.specs.Prelude.{AreKeysOf, HasKey, IsOutput, digest_at, hmac_of, raised, round_at}
+use Rattle.ring.specs.Prelude.{HasKey, digest_at, hmac_of, raised}
 use Rattle.ring.proofs.lemmas.pbkdf2.Iterates.{IsMade}
-use Rattle.ring.proofs.lemmas.pbkdf2.Places.{HoldsBelow}
 use Rattle.ring.proofs.pbkdf2.rounds.xor_iterates.Given as goal
 
 -- in each lane that began with U_1 so many iterates are made
@@ -16,14 +15,4 @@ invariant-iterates g l =
           → digest_at a (lane k) l.initial.iterate ≡ hmac_of a p (s ++ bytes_high_first 4 i)
           → IsMade a p s i l._made (digest_at a (lane k) l.iterate) (digest_at a (lane k) l.sum);
       cost : l.meter ≡ raised l.fn.meter (g.H.LaneStates.LANES * (1 + 2 * (l._made - 1))) 0;
-    }
-
--- the first i rounds are written
-abbrev pub invariant-outputs : goal.invariant-outputs
-invariant-outputs g l =
-    let d = l.derivation in
-    record {
-      written : (p : ℕ → List ℕ) → AreKeysOf d.algorithm d.keys.now p
-          → HoldsBelow (IsOutput d.algorithm d.len (round_at d p) l.fn.first) l.i l.outputs;
-      count : length l.outputs ≡ g.H.LaneStates.LANES;
     }

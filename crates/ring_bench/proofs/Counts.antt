@@ -32,6 +32,13 @@ pub digest_count : {m0 m1 : Counts} (a : Algorithm) (n : ℕ) → IsNew m0 → n
 digest_count {m0} {m1} a n new short e =
     counted_new m0 m1 _ 0 new e (omega (arith, padded_blocks-most a n))
 
+-- a key of k bytes leaves room for further blocks
+pub key_room : {m0 m1 : Counts} (a : Algorithm) (k : ℕ) → IsNew m0 → k < 2 ^ 64
+    → m1 ≡ raised m0 (key_blocks a k) 0 → m1.blocks < 2 ^ 128 - 1
+key_room {m0} {m1} a k new short e =
+    let most = key_blocks-most a k in
+    omega (arith, most, counted_new m0 m1 (key_blocks a k) 0 new e (omega (arith, most)))
+
 -- the blocks of a key of k bytes, and of the tag of n bytes
 pub tag_count : {m0 m1 m2 : Counts} (a : Algorithm) (k n pairs : ℕ) → IsNew m0 → k < 2 ^ 64
     → n < 2 ^ 64 → m1 ≡ raised m0 (key_blocks a k) 0

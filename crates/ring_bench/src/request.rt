@@ -12,7 +12,6 @@ use crate::field::Pieces;
 use crate::line::Request;
 use ring::cost::Meter;
 use ring::laws::{digest_pieces, sign_pieces};
-use ring::limits::can_derive;
 use ring::{digest, hkdf, hmac, pbkdf2};
 use std::alloc::{AllocError, Allocator};
 use std::num::NonZeroU32;
@@ -88,7 +87,7 @@ fn respond_hmac<A: Allocator + Copy>(
     }
 }
 
-/// Whether `tag` is the tag of the message.
+/// Whether `tag` is the tag of the message. A verification that adds no block was refused.
 #[tactic(auto, unfolding(crate::specs::Request::verdict_answer))]
 fn respond_hmac_verify<A: Allocator>(
     algorithm: hmac::Algorithm,
@@ -103,11 +102,11 @@ fn respond_hmac_verify<A: Allocator>(
     let Ok(key) = hmac::Key::new_counted(algorithm, key, &mut meter) else {
         return Answer::Refused;
     };
-    let digest = algorithm.digest_algorithm();
-    if digest.block_len() as u128 + message.len() as u128 > digest.max_input_len() {
+    let blocks_before = meter.blocks();
+    let is_tag = hmac::verify_counted(&key, message, tag, &mut meter).is_ok();
+    if meter.blocks() == blocks_before {
         return Answer::Refused;
     }
-    let is_tag = hmac::verify_counted(&key, message, tag, &mut meter).is_ok();
     Answer::Verified(is_tag, meter.blocks())
 }
 
@@ -175,7 +174,8 @@ fn respond_pbkdf2<A: Allocator>(
     }
 }
 
-/// Whether `value` is derived from the secret and the salt.
+/// Whether `value` is derived from the secret and the salt. A verification that adds no block was
+/// refused.
 #[tactic(auto, unfolding(crate::specs::Request::key_verdict))]
 fn respond_pbkdf2_verify<A: Allocator>(
     algorithm: pbkdf2::Algorithm,
@@ -187,13 +187,12 @@ fn respond_pbkdf2_verify<A: Allocator>(
     ensures { response result ≡ key_verdict (pbkdf2_digest algorithm)
         (non_zero_u32_get iterations) secret.now salt.now value.now }
 {
-    let (secret_len, salt_len) = (secret.len() as u128, salt.len() as u128);
-    if value.is_empty() || !can_derive(&algorithm, secret_len, salt_len, value.len() as u128) {
-        return Answer::Refused;
-    }
     let mut meter = Meter::new();
     let is_derived = pbkdf2::verify_counted(
         algorithm, iterations, salt, secret, value, &mut meter,
     ).is_ok();
+    if meter.blocks() == 0 {
+        return Answer::Refused;
+    }
     Answer::Verified(is_derived, meter.blocks())
 }

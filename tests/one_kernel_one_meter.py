@@ -88,7 +88,7 @@ RUNS = "run_block"
 FAMILIES = 2
 # The imports that may have another name: of modules, since a call is found without its module.
 RENAMED = re.compile(
-    r"self as (?:digest|hmac)|algorithm as (?:hkdf|pbkdf2)|bb as constant_time"
+    r"self as (?:digest|hmac)|key as hmac|algorithm as (?:hkdf|pbkdf2)|bb as constant_time"
 )
 # And of laws, by their numbers, under which no code here calls them.
 NUMBERED = re.compile(r"\w+ as law_\d+")

@@ -85,3 +85,4 @@ pub use crate::hkdf::algorithm::{
 pub use crate::hkdf::key_type::KeyType;
 pub use crate::hkdf::prk::{Okm, Prk};
 pub use crate::hkdf::salt::Salt;
+pub use crate::limits::{is_output_within, max_okm_len};

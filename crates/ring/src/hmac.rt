@@ -37,7 +37,6 @@ ghost use Rattle.ring.specs.Prelude.{SHA1_FOR_LEGACY_USE_ONLY, SHA256, SHA384, S
 ghost use Rattle.ring.specs.Prelude.{compared_pairs, key_algorithm, max_input_len, output_len};
 ghost use Rattle.ring.specs.Prelude.{padded_blocks, raised};
 
-use crate::limits::is_tag_within;
 use ring_core::bb::verify_slices_are_equal_counted;
 use ring_core::cost::Meter;
 use ring_core::error::Unspecified;
@@ -50,6 +49,7 @@ pub use crate::hmac::context::{Context, Tag};
 pub use crate::hmac::key::{
     Algorithm, HMAC_SHA1_FOR_LEGACY_USE_ONLY, HMAC_SHA256, HMAC_SHA384, HMAC_SHA512, Key,
 };
+pub use crate::limits::is_tag_within;
 
 /// States that each constant is HMAC over the digest algorithm of its name. The call does nothing.
 pub fn constants_are_based_on_their_digests()
@@ -67,7 +67,7 @@ pub fn sign_counted(key: &Key, message: &[u8], meter: &mut Meter) -> Result<Tag,
     ensures cost { OnOk result (meter.new
         ≡ raised meter.old (padded_blocks (key_algorithm key.now) (length message.now) + 1) 0) }
 {
-    if !is_tag_within(&key.algorithm().digest_algorithm(), message.len() as u128) {
+    if !is_tag_within(&key.algorithm(), message.len() as u128) {
         return Err(Unspecified);
     }
     // This needs no `Context`, as `digest_counted` needs none.

@@ -21,9 +21,9 @@ ghost use Rattle.ring.specs.Prelude.{tag_under, tag_with};
 ghost use Rattle.ring.specs.declared.hmac.context.Context.{Context as TagContext};
 ghost use Rattle.std.specs.Borrow.{Bor};
 
-use crate::digest::algorithm::is_message_within;
 use crate::digest::{Algorithm, Context, Digest};
 use crate::hmac::{self, Key, Tag};
+use crate::limits::message::is_message_within;
 use crate::limits::{is_tag_within, joined_len};
 use ring_core::cost::Meter;
 use ring_core::error::Unspecified;
@@ -80,7 +80,7 @@ pub fn sign_pieces(key: &Key, pieces: &[&[u8]], meter: &mut Meter) -> Result<Tag
         (padded_blocks (key_algorithm key.now) (length (joined pieces.now)) + 1) 0) }
     ensures algorithm { IfOk result (λ tag. tag_algorithm tag ≡ key_algorithm key.now) }
 {
-    if !is_tag_within(&key.algorithm().digest_algorithm(), joined_len(pieces)) {
+    if !is_tag_within(&key.algorithm(), joined_len(pieces)) {
         return Err(Unspecified);
     }
     let mut context = hmac::Context::with_key(key);

@@ -9,7 +9,6 @@
 //! - [`hmac`]: keys, tags and their verification (RFC 2104).
 //! - [`hkdf`]: keys derived from secrets (RFC 5869).
 //! - [`pbkdf2`]: keys derived from passwords (RFC 2898).
-//! - [`limits`]: the greatest lengths of outputs and of derived keys, and what can be derived.
 //! - [`rand`]: byte sources that the caller implements, and values made of their bytes.
 //! - [`raw`]: contexts and keys as plain numbers.
 //! - [`width`]: how wide the vectors are over which several messages or rounds run at once.
@@ -27,7 +26,7 @@ pub mod digest;
 pub mod hkdf;
 pub mod hmac;
 pub mod laws;
-pub mod limits;
+mod limits;
 pub mod pbkdf2;
 pub mod rand;
 pub mod raw;

@@ -1,27 +1,21 @@
 // SPDX-License-Identifier: ISC
-//! The limits of lengths, but for a digest's own
-//! ([`max_input_len`](crate::digest::Algorithm::max_input_len)).
+//! The limits of lengths, and the tests of them. `hmac`, `hkdf` and `pbkdf2` export those that
+//! their callers need.
 //!
 //! The lengths are `u128`, so that no sum wraps before its test.
-//!
-//! ```
-//! pub fn can_ask(len: usize) -> bool
-//!     ensures { IsTrue result ↔ IsOutputWithin SHA256 len }
-//! {
-//!     len as u128 <= max_okm_len(&HKDF_SHA256)
-//! }
-//! ```
-//!
-//! The imports of this example stand in `crates/ring_examples/src/hkdf.rt`.
 
 ghost use Rattle.std.specs.Prelude.{◌≡◌, ◌↔◌, IsTrue, length};
 ghost use Rattle.ring.specs.Prelude.{CanDerive, CanVerify, IsInfoWithin, IsOutputWithin};
-ghost use Rattle.ring.specs.Prelude.{IsTagWithin, hkdf_digest, joined, max_dk_len, max_okm_len};
-ghost use Rattle.ring.specs.Prelude.{pbkdf2_digest};
+ghost use Rattle.ring.specs.Prelude.{IsTagWithin, hkdf_digest, hmac_digest, joined, max_dk_len};
+ghost use Rattle.ring.specs.Prelude.{max_okm_len, pbkdf2_digest};
 
-use crate::digest::algorithm::{Algorithm, is_message_within};
+use crate::digest::algorithm::Algorithm;
 use crate::hkdf::algorithm as hkdf;
+use crate::hmac::key as hmac;
+use crate::limits::message::is_message_within;
 use crate::pbkdf2::algorithm as pbkdf2;
+
+pub(crate) mod message;
 
 // The largest number of rounds of an output: a round's number is one byte (RFC 5869, section 2.3).
 const MAX_ROUNDS: u128 = 255;
@@ -37,7 +31,8 @@ const INT_LEN: u128 = 4;
 pub fn max_okm_len(algorithm: &hkdf::Algorithm) -> u128
     ensures { result ≡ max_okm_len (hkdf_digest algorithm.now) }
 {
-    longest_output(&algorithm.hmac_algorithm().digest_algorithm())
+    let digest = algorithm.hmac_algorithm().digest_algorithm();
+    MAX_ROUNDS * digest.output_len() as u128
 }
 
 /// The length in bytes of the longest key that PBKDF2 derives by `algorithm`: `2^32 - 1` digests
@@ -46,13 +41,6 @@ pub fn max_dk_len(algorithm: &pbkdf2::Algorithm) -> u128
     ensures { result ≡ max_dk_len (pbkdf2_digest algorithm.now) }
 {
     longest_derivation(&algorithm.hmac_algorithm().digest_algorithm())
-}
-
-// The length of the longest output over a digest algorithm.
-fn longest_output(algorithm: &Algorithm) -> u128
-    ensures { result ≡ max_okm_len algorithm.now }
-{
-    MAX_ROUNDS * algorithm.output_len() as u128
 }
 
 // The length of the longest derivation over a digest algorithm: more rounds have no number.
@@ -73,19 +61,23 @@ pub(crate) fn joined_len(pieces: &[&[u8]]) -> u128
     len
 }
 
-// Whether a message of `len` bytes has a tag: one block comes before it.
-pub(crate) fn is_tag_within(algorithm: &Algorithm, len: u128) -> bool
-    ensures { IsTrue result ↔ IsTagWithin algorithm.now len }
+/// Whether HMAC by `algorithm` signs a message of `len` bytes, before which it hashes one block:
+/// exactly then [`sign`](crate::hmac::sign) is not refused (RFC 2104, section 2; FIPS 180-4,
+/// section 1).
+pub fn is_tag_within(algorithm: &hmac::Algorithm, len: u128) -> bool
+    ensures { IsTrue result ↔ IsTagWithin (hmac_digest algorithm.now) len }
 {
-    let room = algorithm.max_input_len() - algorithm.block_len() as u128;
+    let digest = algorithm.digest_algorithm();
+    let room = digest.max_input_len() - digest.block_len() as u128;
     len <= room
 }
 
-// Whether an output of `len` bytes may be asked for.
-pub(crate) fn is_output_within(algorithm: &Algorithm, len: u128) -> bool
-    ensures { IsTrue result ↔ IsOutputWithin algorithm.now len }
+/// Whether HKDF by `algorithm` expands a key to `len` bytes of output: exactly then
+/// [`Prk::expand`](crate::hkdf::Prk::expand) is not refused (RFC 5869, section 2.3).
+pub fn is_output_within(algorithm: &hkdf::Algorithm, len: u128) -> bool
+    ensures { IsTrue result ↔ IsOutputWithin (hkdf_digest algorithm.now) len }
 {
-    len <= longest_output(algorithm)
+    len <= max_okm_len(algorithm)
 }
 
 // Whether no round of an output of `len` bytes signs too long a message: the tag of the round

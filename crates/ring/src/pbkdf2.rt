@@ -85,6 +85,7 @@ pub(crate) mod each;
 pub(crate) mod receiver;
 pub(crate) mod rounds;
 
+pub use crate::limits::{can_derive, max_dk_len};
 pub use crate::pbkdf2::algorithm::{
     Algorithm, PBKDF2_HMAC_SHA1, PBKDF2_HMAC_SHA256, PBKDF2_HMAC_SHA384, PBKDF2_HMAC_SHA512,
     constants_are_based_on_their_digests,

@@ -7,8 +7,7 @@ ghost use Rattle.ring_c.specs.Gives.{WritesKey, verify_status};
 use crate::number::pbkdf2_of_number;
 use crate::status::{NO_ITERATIONS, OK, UNKNOWN_ALGORITHM, UNSPECIFIED, WRONG_LENGTH};
 use ring::cost::Meter;
-use ring::limits::max_dk_len;
-use ring::pbkdf2;
+use ring::pbkdf2::{self, max_dk_len};
 use ring::width::{AVX2, SSE};
 use std::num::NonZeroU32;
 

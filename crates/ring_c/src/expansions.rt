@@ -1,7 +1,7 @@
 // SPDX-License-Identifier: ISC
 //! Keys derived from secrets: HKDF (RFC 5869).
 
-ghost use Rattle.std.specs.Prelude.{◌≡◌, ◌≢◌, ◌↔◌, ◌==◌, ◌&&◌, ℕ, List, Some, length, IsTrue};
+ghost use Rattle.std.specs.Prelude.{◌≡◌, ◌≢◌, ◌==◌, ◌&&◌, ℕ, List, Some, length};
 ghost use Rattle.std.specs.Prelude.{nat_lt, not};
 ghost use Rattle.ring.specs.Algorithm.{output_len};
 ghost use Rattle.ring.specs.Hkdf.{PrkStandsFor, hkdf_digest, okm, prk_algorithm};
@@ -16,9 +16,8 @@ ghost use Rattle.ring_c.specs.Status.{YZ_OK, YZ_UNKNOWN_ALGORITHM, first_of, no_
 use crate::number::hkdf_of_number;
 use crate::status::{OK, UNKNOWN_ALGORITHM, UNSPECIFIED, WRONG_LENGTH};
 use crate::tags::write_tag;
-use ring::hkdf::{self, KeyType, Prk, Salt};
+use ring::hkdf::{KeyType, Prk, Salt, is_output_within};
 use ring::hmac::Key;
-use ring::limits::max_okm_len;
 
 // A number of bytes.
 #[derive(Drop)]
@@ -30,13 +29,6 @@ impl KeyType for Length {
     fn len(&self) -> usize {
         self.0
     }
-}
-
-// Whether so many bytes may be asked for.
-pub(crate) fn is_output_within(algorithm: &hkdf::Algorithm, len: usize) -> bool
-    ensures { IsTrue result ↔ IsOutputWithin (hkdf_digest algorithm.now) len }
-{
-    len as u128 <= max_okm_len(algorithm)
 }
 
 /// Writes the PRK that is extracted from `secret` with `salt` to `out`, by the HKDF algorithm of
@@ -88,7 +80,7 @@ pub extern "C" fn yz_hkdf_expand(algorithm: u32, prk: &[u8], info: &[u8], out: &
     let Some(algorithm) = hkdf_of_number(algorithm) else {
         return UNKNOWN_ALGORITHM;
     };
-    if !is_output_within(&algorithm, out.len()) {
+    if !is_output_within(&algorithm, out.len() as u128) {
         return WRONG_LENGTH;
     }
     let Ok(prk) = Prk::new_less_safe(algorithm, prk) else {
@@ -124,7 +116,7 @@ pub extern "C" fn yz_hkdf(
     let Some(algorithm) = hkdf_of_number(algorithm) else {
         return UNKNOWN_ALGORITHM;
     };
-    if !is_output_within(&algorithm, out.len()) {
+    if !is_output_within(&algorithm, out.len() as u128) {
         return WRONG_LENGTH;
     }
     let Ok(salt) = Salt::new(algorithm, salt) else {

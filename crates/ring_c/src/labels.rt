@@ -9,10 +9,10 @@ ghost use Rattle.ring_c.specs.Label.{expand_label, is_label_within};
 ghost use Rattle.ring_c.specs.Number.{hkdf_named};
 ghost use Rattle.ring_c.specs.Status.{YZ_OK, YZ_UNKNOWN_ALGORITHM, no_cause};
 
-use crate::expansions::{fill, is_output_within};
+use crate::expansions::fill;
 use crate::number::hkdf_of_number;
 use crate::status::{OK, UNKNOWN_ALGORITHM, UNSPECIFIED, WRONG_LENGTH};
-use ring::hkdf::Prk;
+use ring::hkdf::{Prk, is_output_within};
 
 // The prefix of each label.
 const PREFIX: &[u8; 6] = b"tls13 ";
@@ -76,7 +76,7 @@ pub extern "C" fn yz_hkdf_expand_label(
     let Some(algorithm) = hkdf_of_number(algorithm) else {
         return UNKNOWN_ALGORITHM;
     };
-    if !is_output_within(&algorithm, out.len()) {
+    if !is_output_within(&algorithm, out.len() as u128) {
         return WRONG_LENGTH;
     }
     if !is_label_within(label.len(), context.len()) {

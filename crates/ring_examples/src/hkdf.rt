@@ -10,9 +10,8 @@ ghost use Rattle.ring.specs.Prelude.{salt_algorithm};
 
 use ring::digest::SHA256;
 use ring::error::Unspecified;
-use ring::hkdf::{HKDF_SHA256, KeyType, Prk, Salt};
+use ring::hkdf::{HKDF_SHA256, KeyType, Prk, Salt, is_output_within, max_okm_len};
 use ring::hmac::{HMAC_SHA256, Key, Tag, sign};
-use ring::limits::max_okm_len;
 
 /// A number of bytes.
 #[derive(Drop)]
@@ -136,5 +135,12 @@ pub fn asked_len(prk: &Prk, info: &[&[u8]], len: usize) -> Result<usize, Unspeci
 pub fn can_ask(len: usize) -> bool
     ensures { IsTrue result ↔ IsOutputWithin SHA256 len }
 {
-    len as u128 <= max_okm_len(&HKDF_SHA256)
+    is_output_within(&HKDF_SHA256, len as u128)
+}
+
+/// The number of bytes of the longest output.
+pub fn most_to_ask() -> u128
+    ensures { result ≡ 8160 }
+{
+    max_okm_len(&HKDF_SHA256)
 }

@@ -2,7 +2,7 @@
 //! Tags and their verification.
 
 ghost use Rattle.std.specs.Prelude.{◌≡◌, ◌↔◌, ◌⊎◌, ◌+◌, ◌<◌, ◌≤◌, ◌++◌};
-ghost use Rattle.std.specs.Prelude.{ℕ, List, length, IfOk, IsErr, IsOk, OnErr, OnOk};
+ghost use Rattle.std.specs.Prelude.{ℕ, List, length, IfOk, IsErr, IsOk, IsTrue, OnErr, OnOk};
 ghost use Rattle.ring.specs.Prelude.{IsTag, IsTagWithin, KeyStandsFor, block_len, hmac_of};
 ghost use Rattle.ring.specs.Prelude.{key_algorithm, max_input_len, output_len, padded_blocks};
 ghost use Rattle.ring.specs.Prelude.{raised};
@@ -10,7 +10,7 @@ ghost use Rattle.ring.specs.Prelude.{raised};
 use ring::cost::Meter;
 use ring::digest::SHA256;
 use ring::error::Unspecified;
-use ring::hmac::{Context, HMAC_SHA256, Key, Tag, verify};
+use ring::hmac::{Context, HMAC_SHA256, Key, Tag, is_tag_within, verify};
 use ring::laws::sign_pieces;
 
 /// The tag of two pieces taken as one message.
@@ -87,4 +87,11 @@ pub fn tag_len(key: &Key) -> usize
     ensures { result ≡ output_len (key_algorithm key.now) }
 {
     key.algorithm().digest_algorithm().output_len()
+}
+
+/// Whether a message of `len` bytes can be signed.
+pub fn can_sign(len: usize) -> bool
+    ensures { IsTrue result ↔ IsTagWithin SHA256 len }
+{
+    is_tag_within(&HMAC_SHA256, len as u128)
 }

@@ -7,8 +7,7 @@ ghost use Rattle.ring.specs.Prelude.{CanDerive, IsDerived, dk, max_dk_len};
 
 use ring::digest::{SHA256, SHA256_OUTPUT_LEN};
 use ring::error::Unspecified;
-use ring::limits::{can_derive, max_dk_len};
-use ring::pbkdf2::{PBKDF2_HMAC_SHA256, derive, verify};
+use ring::pbkdf2::{PBKDF2_HMAC_SHA256, can_derive, derive, max_dk_len, verify};
 use std::num::NonZeroU32;
 
 /// What a login stores in place of a password.

@@ -5,7 +5,7 @@ ghost use Rattle.std.specs.Prelude.{◌≡◌, ◌↔◌, IsTrue};
 ghost use Rattle.ring.specs.Prelude.{IsTagWithin, hmac_digest};
 ghost use Rattle.ring_tokens.specs.Alg.{algorithm_of, hash_len, name_of, text_len};
 
-use ring::hmac::{self, HMAC_SHA256, HMAC_SHA384, HMAC_SHA512};
+use ring::hmac::{self, HMAC_SHA256, HMAC_SHA384, HMAC_SHA512, is_tag_within};
 
 /// An algorithm of signatures, as a header's `alg` names it (RFC 7518, section 3.2).
 #[derive(Clone, Copy, Debug, PartialEq, Eq)]
@@ -67,7 +67,6 @@ impl Alg {
     pub(crate) fn admits(self, len: usize) -> bool
         ensures { IsTrue result ↔ IsTagWithin (algorithm_of self) len }
     {
-        let digest = self.hmac_algorithm().digest_algorithm();
-        len as u128 <= digest.max_input_len() - digest.block_len() as u128
+        is_tag_within(&self.hmac_algorithm(), len as u128)
     }
 }

@@ -4,7 +4,7 @@
 ghost use Rattle.std.specs.Prelude.{◌≡◌, ◌↔◌, ◌≤◌, ◌-◌, IsTrue, Some, length, replicate};
 ghost use Rattle.ring_core.specs.Sha1 as sha1;
 ghost use Rattle.ring_core.specs.Prelude.{block_step, family_256, family_512};
-ghost use Rattle.ring.specs.Prelude.{AreSquareRoots, IsMessageWithin, block_function, block_len};
+ghost use Rattle.ring.specs.Prelude.{AreSquareRoots, block_function, block_len};
 ghost use Rattle.ring.specs.Prelude.{chaining_len, chaining_words, digest_named, initial_words};
 ghost use Rattle.ring.specs.Prelude.{is_state_of};
 ghost use Rattle.ring.specs.Prelude.{length_len, max_input_len, name_of, output_len, row, sha1_row};
@@ -212,15 +212,6 @@ impl Algorithm {
             AlgorithmId::Sha512_256 => DynState::As64(SHA512_256_INITIAL_WORDS),
         }
     }
-}
-
-// Whether a message of `len` bytes has a digest. A call that knows the whole length tests it first,
-// so that it runs no block for a message that it refuses. A context knows the length only at its
-// end, where `BlockContext::try_finish` tests it.
-pub(crate) fn is_message_within(algorithm: &Algorithm, len: u128) -> bool
-    ensures { IsTrue result ↔ IsMessageWithin algorithm.now len }
-{
-    len <= algorithm.max_input_len()
 }
 
 /// States that each constant is its row of the standard's table (FIPS 180-4, section 1, figure 1),

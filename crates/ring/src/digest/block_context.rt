@@ -16,8 +16,9 @@ ghost use Rattle.ring.specs.Padding.{IsPadded, padded, tail_of};
 ghost use Rattle.ring.specs.State.{chaining_words, is_state_of, spare_words, word_bytes, words};
 ghost use Rattle.ring.specs.declared.digest.algorithm.Algorithm.{Algorithm};
 
-use crate::digest::algorithm::{Algorithm, MAX_BLOCK_LEN, is_message_within};
+use crate::digest::algorithm::{Algorithm, MAX_BLOCK_LEN};
 use crate::digest::dynstate::{DynState, Output, long_output, short_output};
+use crate::limits::message::is_message_within;
 use ring_core::bits::{BitLength, FromByteLen};
 use ring_core::cost::Meter;
 use ring_core::digest::sha1::sha1_block_data_order_fastest_counted;

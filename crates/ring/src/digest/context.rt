@@ -10,9 +10,10 @@ ghost use Rattle.ring.specs.Digest.{IsDigest, bytes_of, digest_after, digest_alg
 ghost use Rattle.ring.specs.Lanes.{digest_bytes};
 ghost use Rattle.ring.specs.State.{is_state_of, words};
 
-use crate::digest::algorithm::{Algorithm, MAX_BLOCK_LEN, is_message_within};
+use crate::digest::algorithm::{Algorithm, MAX_BLOCK_LEN};
 use crate::digest::block_context::{BlockContext, Digest};
 use crate::digest::dynstate::DynState;
+use crate::limits::message::is_message_within;
 use ring_core::cost::Meter;
 use ring_core::error::Unspecified;
 

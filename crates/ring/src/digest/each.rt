@@ -11,7 +11,7 @@ ghost use Rattle.ring.specs.Prelude.{each_blocks, output_len};
 ghost use Rattle.ring.specs.Prelude.{is_state_of, message_at, padded, padded_blocks, raised};
 ghost use Rattle.ring.specs.Prelude.{state_word_len, word_bytes, words, words_at};
 
-use crate::digest::algorithm::{Algorithm, AlgorithmId, is_message_within};
+use crate::digest::algorithm::{Algorithm, AlgorithmId};
 use crate::digest::block_context::{Digest, run_blocks};
 use crate::digest::context::digest_counted;
 use crate::digest::dynstate::{
@@ -21,6 +21,7 @@ use crate::digest::lanes::algorithms::{
     InVector, LaneStates, RunBlocks, Sha1, Sha256, Sha512, by_lanes, lanes_for,
 };
 use crate::digest::lanes::blocks::{Blocks, Padded, fewest_blocks, run_lanes};
+use crate::limits::message::is_message_within;
 use crate::width::{AVX2, SSE};
 use ring_core::cost::Meter;
 use ring_core::error::Unspecified;

@@ -83,7 +83,7 @@ impl Prk {
         ensures carries { IfOk result (λ output. asked_for output ≡ len) }
     {
         let asked_len = len.len();
-        if !is_output_within(&self.0.algorithm().digest_algorithm(), asked_len as u128) {
+        if !is_output_within(&Algorithm::over(self.0.algorithm()), asked_len as u128) {
             return Err(Unspecified);
         }
         Ok(Okm {

@@ -1,0 +1,17 @@
+// SPDX-License-Identifier: ISC
+//! The limit of a message. It is a module of its own, since digests import it, and the algorithms
+//! that the other limits import are made of digests.
+
+ghost use Rattle.std.specs.Prelude.{◌↔◌, IsTrue};
+ghost use Rattle.ring.specs.Prelude.{IsMessageWithin};
+
+use crate::digest::algorithm::Algorithm;
+
+// Whether a message of `len` bytes has a digest. A call that knows the whole length tests it first,
+// so that it runs no block for a message that it refuses. A context knows the length only at its
+// end, where `BlockContext::try_finish` tests it.
+pub(crate) fn is_message_within(algorithm: &Algorithm, len: u128) -> bool
+    ensures { IsTrue result ↔ IsMessageWithin algorithm.now len }
+{
+    len <= algorithm.max_input_len()
+}

@@ -60,6 +60,8 @@ NOT_SEARCHED = {"ring_tests"}
 # call a plain form there beside these: each makes a key, for which no meter is handed in.
 METERED = ("ring_core", "ring", "ring_store", "ring_password_hash")
 MAY_CALL_PLAIN = {("Key", "generate"), ("Okm", "into_key")}
+# What makes its key by a conversion, which is handed no meter: no call of its counted form.
+CONVERTS = {("TokenMaker", "new")}
 # The crates whose bodies call what runs blocks once; what the calls for C derive by; which of them,
 # and which functions below them, may; and the one of `ring_passwords` that may by a plain form.
 CALLED_ONCE = ("ring_passwords", "ring_c")
@@ -391,7 +393,8 @@ def rules_of_meters(places, plain, own):
     """The rules of who makes and who is handed a meter: each with whether it holds, and what breaks
     it."""
     takes = [it for it in places if meters_of(it.function)[0]]
-    longer = [str(it) for it in plain if not is_one_call(it.function)]
+    calls_counted = [it for it in plain if it.name not in CONVERTS]
+    longer = [str(it) for it in calls_counted if not is_one_call(it.function)]
     yield ONE_CALL, not longer, longer
     makes = [it for it in places for _ in MAKES.findall(it.function.body)]
     for crate, most in METERS.items():

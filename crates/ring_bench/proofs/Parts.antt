@@ -6,7 +6,7 @@ use Rattle.std.specs.List.{slice_split, sum}
 use Rattle.std.proofs.lemmas.List.Sums.{sum_by_push}
 use Rattle.std.proofs.lemmas.List.Splits.{slice_split_none}
 use Rattle.hex.specs.Hex.{decode_of}
-use Rattle.ring_text.specs.Cut.{IsFirstCut, IsWithout}
+use Rattle.ring_bench.specs.Cut.{IsFirstCut, IsWithout}
 use Rattle.ring_bench.specs.Field.{◌>>=◌, is_comma, parts_bytes, value_of}
 use Rattle.ring_bench.proofs.Texts.{IsFirstCut-split}
 

@@ -12,7 +12,7 @@ use Rattle.std.proofs.lemmas.List.Elements.{All-append}
 use Rattle.std.proofs.lemmas.List.Folds.{list_any-append}
 use Rattle.std.proofs.lemmas.List.Concat.{flat_map-append}
 use Rattle.std.proofs.Math.Seq.{take-append_seam}
-use Rattle.ring_text.specs.Cut.{IsFirstCut}
+use Rattle.ring_bench.specs.Cut.{IsFirstCut}
 use Rattle.ring_bench.specs.declared.answers.Status.{Status}
 use Rattle.ring_bench.specs.declared.answers.Status.TheVariants.{Clean, SomeBad}
 use Rattle.ring_bench.specs.declared.answers.BenchError.{BenchError}

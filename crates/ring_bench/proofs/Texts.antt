@@ -5,7 +5,7 @@ use Rattle.std.proofs.Common.{◌∷◌, ◌++◌, length, take, refl, sym, ap, 
 use Rattle.std.specs.List.{slice_split, onto_first}
 use Rattle.std.proofs.lemmas.List.Splits.{slice_split_at, slice_split_none, length-slice_split}
 use Rattle.std.proofs.lemmas.Bool.{eq-eqb}
-use Rattle.ring_text.specs.Cut.{IsFirstCut, IsWithout}
+use Rattle.ring_bench.specs.Cut.{IsFirstCut, IsWithout}
 use Rattle.ring_bench.specs.Text.{is_line_feed, without_return, lines, lines_of_cuts, ended_lines}
 use Rattle.ring_bench.specs.Session.{HasNoLineFeed}
 

@@ -1,4 +1,5 @@
 -- SPDX-License-Identifier: ISC
+pub mod Cut
 pub mod Fault
 pub mod Digits
 pub mod Field

@@ -11,9 +11,9 @@ ghost use Rattle.ring_bench.specs.Field.{len_of, iterations_of};
 ghost use Rattle.ring_bench.specs.declared.field.Fault.TheVariants.{Memory};
 ghost use Rattle.ring.specs.Pieces.{joined};
 
+use crate::cut::cut_at;
 use crate::digits::decode_digits;
 use hex::FromHexError;
-use ring_text::cut_at;
 use std::alloc::{AllocError, Allocator};
 use std::num::NonZeroU32;
 

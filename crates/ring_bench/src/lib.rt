@@ -23,6 +23,7 @@ use std::io::{ErrorKind, Read, Write};
 
 mod algorithm;
 mod answers;
+mod cut;
 mod digits;
 mod field;
 mod line;

@@ -12,9 +12,9 @@ ghost use Rattle.ring_bench.specs.Request.{answer_of};
 use crate::algorithm::{
     digest_algorithm_in, hkdf_algorithm_in, hmac_algorithm_in, pbkdf2_algorithm_in,
 };
+use crate::cut::cut_at;
 use crate::field::{Fault, Pieces, bytes_in, is_word, iterations_in, len_in, pieces_in};
 use ring::{digest, hkdf, hmac, pbkdf2};
-use ring_text::cut_at;
 use std::alloc::{AllocError, Allocator};
 use std::num::NonZeroU32;
 

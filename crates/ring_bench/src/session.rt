@@ -8,7 +8,7 @@ ghost use Rattle.ring_bench.specs.Reply.{reply};
 ghost use Rattle.ring_bench.specs.Session.{HasNoLineFeed, Fed, Stopped};
 
 use crate::answers::{BenchError, LineKind, Status, answer_in};
-use ring_text::cut_at;
+use crate::cut::cut_at;
 use std::alloc::Allocator;
 use std::io::Write;
 

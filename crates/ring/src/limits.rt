@@ -16,6 +16,8 @@ use crate::limits::message::is_message_within;
 use crate::pbkdf2::algorithm as pbkdf2;
 
 pub(crate) mod message;
+#[cfg(test)]
+mod tests;
 
 // The largest number of rounds of an output: a round's number is one byte (RFC 5869, section 2.3).
 const MAX_ROUNDS: u128 = 255;

@@ -3,16 +3,17 @@
 """What no contract sees: that no block is run outside the meter that a call was handed.
 
 Searches the code of every crate but `ring_tests`, outside tests, examples, comments and contracts,
-and tries these rules: a plain form is the one call of its counted form; few places make a meter,
-none of them in a function that takes one; a function that takes a meter calls nothing that runs
-blocks under another; the calls for C and `ring_passwords`, which are handed no meter, call what
-runs blocks once, and derive by no plain form; the calls for C derive in one place each, and only
-PBKDF2 and the test and the making of a password hash do; a block is run once for each block
-counted, and four side by side for each four; and the rounds of SHA-2 and of SHA-1 stand once. Since
-it finds a call by the function's name, and a method's by the type's too, it refuses what hides
-these: imports under another name, functions as values, aliases of types, and macros that call. It
-then searches as many times again, each time with one body planted that keeps its contract, and that
-a rule has to find. The last line is 'N passed, M failed'.
+and tries these rules: a plain form is the one call of its counted form; `ring_core` and `ring` make
+a meter in 22 places, the crates above them in few, and no function that takes one makes another; a
+function that takes a meter calls nothing that runs blocks under another; the calls for C and
+`ring_passwords`, which are handed no meter, call what runs blocks once, and derive by no plain
+form; the calls for C derive in one place each, and only PBKDF2 and the test and the making of a
+password hash do; a block is run once for each block counted, and four side by side for each four;
+and the rounds of SHA-2 and of SHA-1 stand once. Since it finds a call by the function's name, and a
+method's by the type's too, it refuses what hides these: imports under another name, functions as
+values, aliases of types, and macros that call. It then searches as many times again, each time with
+one body planted that keeps its contract, and that a rule has to find. The last line is 'N passed, M
+failed'.
 """
 
 import collections
@@ -27,21 +28,34 @@ sys.path.append(str(pathlib.Path(__file__).resolve().parent.parent / "tools"))
 import rattle_text
 from planted_bodies import (
     AHEAD_ONCE, COUNTED_ONCE, FEW_DERIVE, NONE_BELOW, NO_ALIAS, NO_MACRO, NO_OTHER_METER,
-    NO_OTHER_NAME, NO_PLAIN_DERIVATION, NO_SECOND, NO_VALUE, ONCE, ONE_CALL, ONE_DERIVATION,
-    PLANTED,
+    NO_OTHER_NAME, NO_OTHER_PLACE, NO_PLAIN_DERIVATION, NO_SECOND, NO_VALUE, ONCE, ONE_CALL,
+    ONE_DERIVATION, PLANTED,
 )
 
 # As many files are read again as bodies are planted.
 functions = functools.cache(lambda code: tuple(rattle_text.functions(code)))
 
 ROOT = pathlib.Path(__file__).resolve().parent.parent
-# How many places of a crate make a meter at most, where there are any: one a plain form; of the
-# bench one for each request that runs blocks; of the program `set`, `verify` and `check`; of
-# `ring_sums` and the calls for C those that name a width, which have no plain form, and two plain
+# The 22 places of `ring_core` and `ring` that make a meter: the plain forms, then `Key::generate`
+# and the three conversions of an `Okm`. `Context` is that of `digest` and that of `hmac`.
+PLACES = {
+    "ring_core": [
+        "sha1_block_data_order", "block_data_order_32", "block_data_order_64",
+        "verify_slices_are_equal",
+    ],
+    "ring": [
+        "Context::update", "Context::finish", "digest",
+        "Key::new", "Context::update", "Context::sign", "sign", "verify",
+        "Salt::new", "Salt::extract", "Prk::new_less_safe", "Okm::fill",
+        "derive", "verify",
+        "Key::generate", "Key::try_from", "Salt::try_from", "Prk::try_from",
+    ],
+}
+# How many places of a crate above these make a meter at most, where there are any: one a plain
+# form; of the bench one for each request that runs blocks; of the program `set`, `verify` and
+# `check`; of `ring_sums` and the calls for C those that call what has no plain form, and two plain
 # forms; and callers.
 METERS = {
-    "ring_core": 4,
-    "ring": 22,
     "ring_bench": 6,
     "ring_store": 7,
     "ring_password_hash": 3,
@@ -50,16 +64,14 @@ METERS = {
     "ring_schedules": 2,
     "ring_tokens": 11,
     "ring_sums": 1,
-    "ring_examples": 11,
-    "ring_speed": 3,
-    "ring_c": 5,
+    "ring_examples": 18,
+    "ring_speed": 4,
+    "ring_c": 9,
 }
 # The crate of the tests.
 NOT_SEARCHED = {"ring_tests"}
-# The libraries whose functions take a meter or are plain forms, where they run blocks, and what may
-# call a plain form there beside these: each makes a key, for which no meter is handed in.
+# The libraries whose functions take a meter or make one, where they run blocks.
 METERED = ("ring_core", "ring", "ring_store", "ring_password_hash")
-MAY_CALL_PLAIN = {("Key", "generate"), ("Okm", "into_key")}
 # What makes its key by a conversion, which is handed no meter: no call of its counted form.
 CONVERTS = {("TokenMaker", "new")}
 # The crates whose bodies call what runs blocks once; what the calls for C derive by; which of them,
@@ -397,10 +409,17 @@ def rules_of_meters(places, plain, own):
     longer = [str(it) for it in calls_counted if not is_one_call(it.function)]
     yield ONE_CALL, not longer, longer
     makes = [it for it in places for _ in MAKES.findall(it.function.body)]
+    for crate, wanted in PLACES.items():
+        made = collections.Counter("::".join(filter(None, it.name)) for it in makes
+                                   if it.crate == crate)
+        listed = collections.Counter(wanted)
+        amiss = [f"beside these: {it}" for it in (made - listed).elements()]
+        amiss += [f"not: {it}" for it in (listed - made).elements()]
+        yield NO_OTHER_PLACE.format(len(wanted), crate), not amiss, amiss
     for crate, most in METERS.items():
         own_places = [str(it) for it in makes if it.crate == crate]
         yield f"at most {most} places of {crate} make a meter", len(own_places) <= most, own_places
-    elsewhere = [str(it) for it in makes if it.crate not in METERS]
+    elsewhere = [str(it) for it in makes if it.crate not in {*PLACES, *METERS}]
     yield "no other crate makes a meter", not elsewhere, elsewhere
     second = naming(takes, MAKES)
     yield NO_SECOND, not second, second
@@ -439,8 +458,7 @@ def reached_by(crate):
 
 def rules_of_plain_forms(places, plain):
     """The rules of who calls a plain form: each with whether it holds, and what breaks it."""
-    others = [it for it in places if it not in plain and it.name not in MAY_CALL_PLAIN]
-    lower = [it for it in others if it.crate in METERED]
+    lower = [it for it in places if it not in plain and it.crate in METERED]
     names = {crate: frozenset(it.name for it in plain if it.crate in reached_by(crate))
              for crate in METERED}
     below = [f"{it} calls {call}" for it in lower for call in calls(it.function, names[it.crate])]

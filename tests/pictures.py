@@ -138,7 +138,7 @@ def planted_in_packages(rows, names):
         changed = offers.names_of(package, {**texts, path: texts[path].replace(old, new, 1)})
         found = offers.faults(rows, {**names, package: changed})
         yield f"planted in {path}: {old.strip()}", [] if found else ["it is not found"]
-    fewer = {**names, "Rattle": names["Rattle"] - {"ring::digest::digest_each"}}
+    fewer = {**names, "Rattle": names["Rattle"] - {"ring::digest::digest_each_counted"}}
     yield "planted in Rattle", [] if offers.faults(rows, fewer) else ["it is not found"]
 
 

@@ -14,10 +14,8 @@ NO_VALUE = "what runs blocks under a meter of its own is called where it is name
 NO_ALIAS = "no alias names a type with such functions"
 NO_MACRO = "no macro names such a function"
 NO_SECOND = "no function that takes a `&mut Meter` makes another"
-NONE_BELOW = (
-    "plain forms are called in libraries with meters by none but themselves, `Key::generate` and "
-    "conversions"
-)
+NO_OTHER_PLACE = "the {} places of {} that are listed make a meter, and no other one"
+NONE_BELOW = "no function of a library with meters calls a plain form"
 ONCE = "a body of `ring_passwords` and of `ring_c` calls what runs blocks once"
 ONE_DERIVATION = (
     "each call that derives stands in one place of `ring_c`, beside no other one and in no loop"
@@ -46,6 +44,9 @@ RUN_WORD_BLOCK = (
 )
 PUT_SUMS = "    put_first_sums(sums, [first, second, third, fourth]);\n"
 RUN_AHEAD = "    run_ahead(sums, state, first, second, third, fourth);\n"
+EACH = "crates/ring/src/digest/each.rt"
+KEYS = "crates/ring/src/hmac/key.rt"
+GENERATED = "        Key::new_counted(algorithm, value, &mut Meter::new())\n"
 
 
 def before(rule, path, line, body):
@@ -96,11 +97,31 @@ PLANTED = {
         "        }\n"
         "        self.check_counted(user, expiry, now, token, &mut Meter::new())\n",
     ),
-    "plain `update` of a context's numbers keeps a short input by itself": (
+    "plain `finish` of a context runs the last blocks twice": before(
         ONE_CALL,
-        "crates/ring/src/raw/context.rt",
-        "        self.update_counted(input, &mut Meter::new())\n",
-        "        self.keep(input) || self.update_counted(input, &mut Meter::new())\n",
+        "crates/ring/src/digest/context.rt",
+        "        self.finish_counted(&mut Meter::new())\n",
+        "let _ = self.clone().finish_counted(&mut Meter::new());",
+    ),
+    "`digest_each` has a plain form": (
+        NO_OTHER_PLACE.format(18, "ring"),
+        EACH,
+        "/// As [`digest_each_counted`], but",
+        "pub fn digest_each(a: &Algorithm, m: &[&[u8]], o: &mut [Digest]) -> "
+        "Result<(), Unspecified> {\n    digest_each_counted(a, m, o, &mut Meter::new())\n}\n\n"
+        "/// As [`digest_each_counted`], but",
+    ),
+    "`Key::generate` makes its key once more": before(
+        NO_OTHER_PLACE.format(18, "ring"), KEYS, GENERATED, f"let _ = {GENERATED.strip()};"
+    ),
+    "`Key::generate` makes its key by a plain form": (
+        NONE_BELOW, KEYS, GENERATED, "        Key::new(algorithm, value)\n"
+    ),
+    "a conversion of an `Okm` is filled by a plain form": (
+        NO_OTHER_METER,
+        "crates/ring/src/hkdf/prk.rt",
+        "        self.fill_counted(value, meter)?;\n",
+        "        self.fill(value)?;\n",
     ),
     "`set` of the program derives once more than it counts": (
         NO_OTHER_METER,

@@ -48,8 +48,9 @@ def told(item):
 def marks(item, found):
     """The marks of a call that can be refused, and of the further forms that it has among some
     items."""
-    forms = {it.name: it.signature for it in found if it.name.startswith(f"{item.name}_")}
-    is_wide = "VECTOR_BITS" in forms.get(f"{item.name}_in", "")
+    stem = item.name.removesuffix("_counted")
+    forms = {it.name: it.signature for it in found if it.name.startswith(f"{stem}_")}
+    is_wide = "VECTOR_BITS" in forms.get(f"{stem}_in", "")
     can_fail = item.result.startswith("Result<")
     return " !" * can_fail + " +" * (f"{item.name}_counted" in forms) + " *" * is_wide
 
@@ -58,7 +59,8 @@ def is_row(item, names):
     """Whether an item is a call with a row of its own: one that takes or refuses something, and is
     no further form of another."""
     plain = re.sub("_(?:counted|in)$", "", item.name)
-    is_other = plain != item.name and plain in names and item.name != "new_in"
+    shorter = {plain, f"{plain}_counted"} if item.name.endswith("_in") else {plain}
+    is_other = bool(shorter & (names - {item.name})) and item.name != "new_in"
     takes = item.kind == "fn" and (item.parameters or item.result.startswith("Result<"))
     return bool(takes) and not is_other
 

@@ -46,7 +46,7 @@
 //! }
 //! ```
 //!
-//! [`digest_each`] computes the digests of several messages, of any lengths. It is faster than one
+//! [`digest_each_counted`] computes the digests of several messages, of any lengths. It is faster than one
 //! call for each where there are four or more under SHA-1 or SHA-256:
 //!
 //! ```
@@ -58,12 +58,12 @@
 //!     ensures refused { IsOk result ↔ CanDigestEach algorithm.now messages.now 4 }
 //! {
 //!     let mut digests = [digest(algorithm, &[])?; 4];
-//!     digest_each(algorithm, messages, &mut digests)?;
+//!     digest_each_counted(algorithm, messages, &mut digests, &mut Meter::new())?;
 //!     Ok(digests)
 //! }
 //! ```
 //!
-//! [`update_each`] adds a piece to each of several contexts, of one algorithm or of several. It is
+//! [`update_each_counted`] adds a piece to each of several contexts, of one algorithm or of several. It is
 //! faster than one call for each where four or more of SHA-1 or of SHA-256 follow each other:
 //!
 //! ```
@@ -79,8 +79,9 @@
 //!         (message_at fronts.now 1 ++ message_at rests.now 1)) }
 //! {
 //!     let mut contexts = [Context::new(algorithm), Context::new(other_algorithm)];
-//!     update_each(&mut contexts, fronts)?;
-//!     update_each(&mut contexts, rests)?;
+//!     let mut meter = Meter::new();
+//!     update_each_counted(&mut contexts, fronts, &mut meter)?;
+//!     update_each_counted(&mut contexts, rests, &mut meter)?;
 //!     let [first, second] = contexts;
 //!     Ok((first.finish()?, second.finish()?))
 //! }
@@ -107,7 +108,7 @@ pub use crate::digest::block_context::{Digest, padding_is_shortest};
 pub use crate::digest::context::{Context, digest, digest_counted};
 pub use crate::digest::dynstate::Output;
 pub use crate::digest::each::{
-    digest_each, digest_each_bytes_in, digest_each_counted, digest_each_in, is_len_of_digests,
+    digest_each_bytes_in, digest_each_counted, digest_each_in, is_len_of_digests,
 };
-pub use crate::digest::updates::{update_each, update_each_counted, update_each_in};
+pub use crate::digest::updates::{update_each_counted, update_each_in};
 pub use ring_core::digest::{sha1, sha2, states, word};

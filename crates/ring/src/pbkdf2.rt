@@ -37,7 +37,7 @@
 //! Each iteration past the first costs the caller, and anyone who guesses secrets, two blocks for
 //! each round of output. Each secret should have a salt of its own.
 //!
-//! [`derive_each`] derives keys of one length from several secrets, each with its salt. It is
+//! [`derive_each_counted`] derives keys of one length from several secrets, each with its salt. It is
 //! faster than one call for each where they have four rounds of output or more under SHA-1 or
 //! SHA-256:
 //!
@@ -52,12 +52,13 @@
 //!     ensures refused { IsOk result ↔ CanDeriveEach SHA256 salts.now passwords.now 4 32 }
 //! {
 //!     let mut stored = [[0; SHA256_OUTPUT_LEN]; 4];
-//!     derive_each(
+//!     derive_each_counted(
 //!         PBKDF2_HMAC_SHA256,
 //!         iterations,
 //!         salts,
 //!         passwords,
 //!         &mut stored,
+//!         &mut Meter::new(),
 //!     )?;
 //!     Ok(stored)
 //! }
@@ -91,8 +92,7 @@ pub use crate::pbkdf2::algorithm::{
     constants_are_based_on_their_digests,
 };
 pub use crate::pbkdf2::each::{
-    derive_each, derive_each_counted, derive_each_in, verify_each, verify_each_counted,
-    verify_each_in,
+    derive_each_counted, derive_each_in, verify_each_counted, verify_each_in,
 };
 
 /// As [`derive`], but over vectors of `VECTOR_BITS` bits. `meter` counts the blocks. A refusal

@@ -3,8 +3,8 @@
 //! in C do.
 //!
 //! A [`RawContext`], a [`RawKey`] and a [`RawTagContext`] are made from a value of
-//! [`digest`](crate::digest) or [`hmac`](crate::hmac), and give that value back. `update` and
-//! `finish` work on the numbers themselves.
+//! [`digest`](crate::digest) or [`hmac`](crate::hmac), and give that value back. `update_counted`
+//! and `finish_counted` work on the numbers themselves.
 //!
 //! A caller may write other numbers in their place, so each call takes any. It returns `None`
 //! exactly where no value has their algorithm and counts (`IsNoContext`, `IsNoKey` and

@@ -1,14 +1,15 @@
 // SPDX-License-Identifier: ISC
 //! The width of the vectors over which several messages or rounds run side by side, in bits.
 //!
-//! [`digest::digest_each`](crate::digest::digest_each),
-//! [`digest::update_each`](crate::digest::update_each) and the calls of [`pbkdf2`](crate::pbkdf2)
-//! run over vectors of 128 bits ([`SSE`]), four words of 32 bits. Their forms whose names end in
-//! `_in` take the width as a const argument. Over 256 bits ([`AVX2`]) they run eight words of 32
-//! bits, or four of 64: in a build for processors with AVX2 (`rt lib --cpu=x86-64-v3`) that takes
-//! about half the time, in one for older processors more. Any other value selects the next smaller
-//! width; below both, one message or round runs after the other. What a call gives, refuses and
-//! costs is the same at each. A library can't ask what it is built for, so the caller chooses:
+//! [`digest::digest_each_counted`](crate::digest::digest_each_counted),
+//! [`digest::update_each_counted`](crate::digest::update_each_counted) and the calls of
+//! [`pbkdf2`](crate::pbkdf2) run over vectors of 128 bits ([`SSE`]), four words of 32 bits. Their
+//! forms whose names end in `_in` take the width as a const argument. Over 256 bits ([`AVX2`]) they
+//! run eight words of 32 bits, or four of 64: in a build for processors with AVX2
+//! (`rt lib --cpu=x86-64-v3`) that takes about half the time, in one for older processors more. Any
+//! other value selects the next smaller width; below both, one message or round runs after the
+//! other. What a call gives, refuses and costs is the same at each. A library can't ask what it is
+//! built for, so the caller chooses:
 //!
 //! ```
 //! pub fn digests_of_eight(

@@ -14,6 +14,7 @@ ghost use Rattle.ring_c.specs.Status.{YZ_OK, YZ_UNKNOWN_ALGORITHM, YZ_UNKNOWN_CO
 ghost use Rattle.ring_c.specs.Status.{status_of};
 
 use crate::status::{OK, UNKNOWN_ALGORITHM, UNKNOWN_CONTEXT, UNSPECIFIED, WRONG_LENGTH};
+use ring::cost::Meter;
 use ring::digest::{self, Context};
 use ring::raw::{RawContext, digest_of_number};
 
@@ -82,7 +83,7 @@ pub extern "C" fn yz_digest_update(context: &mut RawContext, input: &[u8]) -> i3
         record no_cause { unknown_context = is_no_context context.old }) }
     ensures unchanged { result ≢ YZ_OK → context.new ≡ context.old }
 {
-    if !context.update(input) {
+    if !context.update_counted(input, &mut Meter::new()) {
         return UNKNOWN_CONTEXT;
     }
     OK
@@ -113,7 +114,7 @@ pub extern "C" fn yz_digest_final(context: &RawContext, out: &mut [u8]) -> i32
     if out.len() != named.output_len() {
         return WRONG_LENGTH;
     }
-    match &context.finish() {
+    match &context.finish_counted(&mut Meter::new()) {
         Some(Ok(made)) => {
             out.copy_from_slice(made.as_ref());
             OK

@@ -19,6 +19,7 @@ ghost use Rattle.ring_c.specs.Verified.{is_raw_tag, is_tag};
 
 use crate::number::hmac_of_number;
 use crate::status::{OK, UNKNOWN_ALGORITHM, UNKNOWN_CONTEXT, UNSPECIFIED, WRONG_LENGTH};
+use ring::cost::Meter;
 use ring::hmac::{self, Context, Key};
 use ring::raw::{RawKey, RawTagContext};
 
@@ -212,7 +213,7 @@ pub extern "C" fn yz_hmac_update(context: &mut RawTagContext, input: &[u8]) -> i
         record no_cause { unknown_context = is_no_tag_context context.old }) }
     ensures unchanged { result ≢ YZ_OK → context.new ≡ context.old }
 {
-    if !context.update(input) {
+    if !context.update_counted(input, &mut Meter::new()) {
         return UNKNOWN_CONTEXT;
     }
     OK
@@ -244,7 +245,7 @@ pub extern "C" fn yz_hmac_final(context: &RawTagContext, out: &mut [u8]) -> i32
     if out.len() != named.output_len() {
         return WRONG_LENGTH;
     }
-    match &context.finish() {
+    match &context.finish_counted(&mut Meter::new()) {
         Some(Ok(tag)) => {
             out.copy_from_slice(tag.as_ref());
             OK

@@ -7,11 +7,13 @@ ghost use Rattle.ring.specs.Prelude.{AreDerived, AreDigests, AreUpdated, AreVeri
 ghost use Rattle.ring.specs.Prelude.{CanDeriveEach, CanDigestEach, CanVerifyEach, IsDigest, dk};
 ghost use Rattle.ring.specs.Prelude.{message_at};
 
+use ring::cost::Meter;
 use ring::digest::{
-    Algorithm, Context, Digest, SHA256, SHA256_OUTPUT_LEN, digest, digest_each, update_each,
+    Algorithm, Context, Digest, SHA256, SHA256_OUTPUT_LEN, digest, digest_each_counted,
+    update_each_counted,
 };
 use ring::error::Unspecified;
-use ring::pbkdf2::{PBKDF2_HMAC_SHA256, derive_each, verify_each};
+use ring::pbkdf2::{PBKDF2_HMAC_SHA256, derive_each_counted, verify_each_counted};
 use std::num::NonZeroU32;
 
 /// The digests of four messages, made side by side.
@@ -23,7 +25,7 @@ pub fn digests_of_four(
     ensures refused { IsOk result ↔ CanDigestEach algorithm.now messages.now 4 }
 {
     let mut digests = [digest(algorithm, &[])?; 4];
-    digest_each(algorithm, messages, &mut digests)?;
+    digest_each_counted(algorithm, messages, &mut digests, &mut Meter::new())?;
     Ok(digests)
 }
 
@@ -33,7 +35,7 @@ pub fn digests_of_both(first: &[u8], second: &[u8]) -> Result<(Digest, Digest), 
     ensures second { IfOk result (λ digests. IsDigest digests.1 SHA256 second.now) }
 {
     let mut digests = [digest(&SHA256, &[])?; 2];
-    digest_each(&SHA256, &[first, second], &mut digests)?;
+    digest_each_counted(&SHA256, &[first, second], &mut digests, &mut Meter::new())?;
     Ok((digests[0], digests[1]))
 }
 
@@ -41,7 +43,7 @@ pub fn digests_of_both(first: &[u8], second: &[u8]) -> Result<(Digest, Digest), 
 pub fn update_four(contexts: &mut [Context; 4], pieces: &[&[u8]; 4])
     ensures { AreUpdated contexts.old contexts.new pieces.now }
 {
-    match update_each(contexts, pieces) {
+    match update_each_counted(contexts, pieces, &mut Meter::new()) {
         Ok(()) => {}
         // There are as many pieces as contexts.
         Err(_) => unreachable!(),
@@ -61,8 +63,9 @@ pub fn digests_in_pieces(
         (message_at fronts.now 1 ++ message_at rests.now 1)) }
 {
     let mut contexts = [Context::new(algorithm), Context::new(other_algorithm)];
-    update_each(&mut contexts, fronts)?;
-    update_each(&mut contexts, rests)?;
+    let mut meter = Meter::new();
+    update_each_counted(&mut contexts, fronts, &mut meter)?;
+    update_each_counted(&mut contexts, rests, &mut meter)?;
     let [first, second] = contexts;
     Ok((first.finish()?, second.finish()?))
 }
@@ -78,12 +81,13 @@ pub fn stored_of_four(
     ensures refused { IsOk result ↔ CanDeriveEach SHA256 salts.now passwords.now 4 32 }
 {
     let mut stored = [[0; SHA256_OUTPUT_LEN]; 4];
-    derive_each(
+    derive_each_counted(
         PBKDF2_HMAC_SHA256,
         iterations,
         salts,
         passwords,
         &mut stored,
+        &mut Meter::new(),
     )?;
     Ok(stored)
 }
@@ -106,12 +110,13 @@ pub fn stored_of_both(
     let mut stored = [[0; SHA256_OUTPUT_LEN]; 2];
     let salts = [salt, other_salt];
     let passwords = [password, other_password];
-    derive_each(
+    derive_each_counted(
         PBKDF2_HMAC_SHA256,
         iterations,
         &salts,
         &passwords,
         &mut stored,
+        &mut Meter::new(),
     )?;
     Ok((stored[0], stored[1]))
 }
@@ -129,13 +134,14 @@ pub fn verify_four(
         ↔ CanVerifyEach SHA256 salts.now passwords.now stored.now 4 32 }
 {
     let mut matches = [false; 4];
-    verify_each(
+    verify_each_counted(
         PBKDF2_HMAC_SHA256,
         iterations,
         salts,
         passwords,
         stored,
         &mut matches,
+        &mut Meter::new(),
     )?;
     Ok(matches)
 }

@@ -11,7 +11,8 @@ ghost use Rattle.ring_speed.specs.Work.{algorithm_of};
 
 use crate::hash::Hash;
 use crate::message::{self, LONG_LEN, replace_front};
-use ring::digest::{Algorithm, Context, MAX_OUTPUT_LEN, update_each};
+use ring::cost::Meter;
+use ring::digest::{Algorithm, Context, MAX_OUTPUT_LEN, update_each_counted};
 
 // Writes the digest of the message, which the context has taken in, over its front.
 fn replace_front_by(context: Context, message: &mut [u8])
@@ -50,7 +51,7 @@ fn replace_fronts<const N: usize>(
         Context::new(algorithm),
     ];
     let pieces: [&[u8]; 4] = [first, second, third, fourth];
-    match update_each(&mut contexts, &pieces) {
+    match update_each_counted(&mut contexts, &pieces, &mut Meter::new()) {
         Ok(()) => {}
         // There is a piece a context.
         Err(_) => unreachable!(),

@@ -10,7 +10,7 @@ use ring::digest::{Context, Digest, SHA256};
 use ring::error::Unspecified;
 use ring::pbkdf2::{
     Algorithm, PBKDF2_HMAC_SHA1, PBKDF2_HMAC_SHA256, PBKDF2_HMAC_SHA384, PBKDF2_HMAC_SHA512,
-    derive_each, derive_each_in, verify_each_counted, verify_each_in,
+    derive_each_counted, derive_each_in, verify_each_counted, verify_each_in,
 };
 use ring::width::AVX2;
 use std::num::NonZeroU32;
@@ -79,9 +79,16 @@ fn keys_of<const N: usize>(
     let count = count.min(MOST);
     let (salts, secrets) = (&salts[..count], &secrets[..count]);
     let mut keys = [[0; N]; MOST];
-    derive_each(algorithm, three, salts, secrets, &mut keys[..count])?;
-    let mut wide = [[0; N]; MOST];
     let mut meter = Meter::new();
+    derive_each_counted(
+        algorithm,
+        three,
+        salts,
+        secrets,
+        &mut keys[..count],
+        &mut meter,
+    )?;
+    let mut wide = [[0; N]; MOST];
     derive_each_in::<AVX2, N>(
         algorithm,
         three,
@@ -177,12 +184,13 @@ const RFC_6070_KEYS: [&str; 4] = [
 fn rfc_6070_side_by_side(rt: HostRuntime) -> Result<(), Unspecified> {
     let iterations = NonZeroU32::new(4096).ok_or(Unspecified)?;
     let mut keys = [[0; 25]; 4];
-    derive_each(
+    derive_each_counted(
         PBKDF2_HMAC_SHA1,
         iterations,
         &RFC_6070_SALTS,
         &RFC_6070_SECRETS,
         &mut keys,
+        &mut Meter::new(),
     )?;
     for ((key, expected), len) in keys.iter().zip(&RFC_6070_KEYS).zip(&[20, 25, 16, 20]) {
         assert!(rt;

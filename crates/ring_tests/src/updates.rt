@@ -7,8 +7,8 @@ use crate::messages::{counting_bytes, whole_blocks};
 use crate::several::{MOST, mixed};
 use ring::cost::Meter;
 use ring::digest::{
-    Algorithm, Context, SHA1_FOR_LEGACY_USE_ONLY, SHA256, SHA384, SHA512, update_each,
-    update_each_counted, update_each_in,
+    Algorithm, Context, SHA1_FOR_LEGACY_USE_ONLY, SHA256, SHA384, SHA512, update_each_counted,
+    update_each_in,
 };
 use ring::width::AVX2;
 use std::array::from_fn;
@@ -118,7 +118,8 @@ fn contexts_of_several_algorithms(rt: HostRuntime) {
 fn more_or_fewer_pieces_than_contexts(rt: HostRuntime) {
     let piece: &[u8] = b"a piece";
     let mut contexts = [Context::new(&SHA256), Context::new(&SHA256)];
-    assert!(rt; update_each(&mut contexts, &[piece]).is_err());
-    assert!(rt; update_each(&mut contexts, &[piece, piece, piece]).is_err());
+    let mut meter = Meter::new();
+    assert!(rt; update_each_counted(&mut contexts, &[piece], &mut meter).is_err());
+    assert!(rt; update_each_counted(&mut contexts, &[piece, piece, piece], &mut meter).is_err());
     assert!(rt; are_of_others(&contexts, &[SHA256; 2], &[&[], &[]]));
 }

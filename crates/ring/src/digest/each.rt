@@ -287,10 +287,7 @@ pub fn digest_each_bytes_in<const VECTOR_BITS: usize>(
     Ok(())
 }
 
-/// Writes the digests of `messages` under `algorithm` to `out` as [`digest_each`] does (FIPS 180-4,
-/// section 6), over vectors of `VECTOR_BITS` bits, and counts their blocks on `meter`.
-///
-/// Refused as [`digest_each`] is. `out` and `meter` are then as they were.
+/// As [`digest_each_counted`], but over vectors of `VECTOR_BITS` bits.
 pub fn digest_each_in<const VECTOR_BITS: usize>(
     algorithm: &Algorithm,
     messages: &[&[u8]],
@@ -306,9 +303,15 @@ pub fn digest_each_in<const VECTOR_BITS: usize>(
     Ok(())
 }
 
-/// Writes the digests of several messages as [`digest_each`] does, and counts their blocks on
-/// `meter`: the sum of what [`digest_counted`](crate::digest::digest_counted) counts for each. A
-/// refusal leaves `meter` as it was.
+/// Writes the digests of `messages` under `algorithm` to `out`, each at its message's place (FIPS
+/// 180-4, section 6), and counts their blocks on `meter`.
+///
+/// The digests and their costs are those of [`digest_counted`](crate::digest::digest_counted).
+/// Under SHA-1 and SHA-256 four messages at a time run side by side, which is faster than one after
+/// another, most of all where their lengths are alike.
+///
+/// Refused where `out` has more or fewer places than there are messages, or where a message is
+/// longer than the algorithm's `max_input_len` bytes. `out` and `meter` are then unchanged.
 pub fn digest_each_counted(
     algorithm: &Algorithm,
     messages: &[&[u8]],
@@ -318,25 +321,4 @@ pub fn digest_each_counted(
     ensures { DigestsEach algorithm.now messages.now out.old out.new meter.old meter.new result }
 {
     digest_each_in::<SSE>(algorithm, messages, out, meter)
-}
-
-/// Writes the digests of `messages` under `algorithm` to `out`, each at its message's place (FIPS
-/// 180-4, section 6).
-///
-/// The digests are those that [`digest`](crate::digest::digest) returns. Under SHA-1 and SHA-256
-/// four messages at a time run side by side, which is faster than one after another, most of all
-/// where their lengths are alike.
-///
-/// Refused where `out` has more or fewer places than there are messages, or where a message is
-/// longer than the algorithm's `max_input_len` bytes. `out` is then unchanged.
-pub fn digest_each(
-    algorithm: &Algorithm,
-    messages: &[&[u8]],
-    out: &mut [Digest],
-) -> Result<(), Unspecified>
-    ensures ok { OnOk result (AreDigests out.new algorithm.now messages.now) }
-    ensures refused { IsOk result ↔ CanDigestEach algorithm.now messages.now (length out.old) }
-    ensures unchanged { OnErr result (out.new ≡ out.old) }
-{
-    digest_each_counted(algorithm, messages, out, &mut Meter::new())
 }

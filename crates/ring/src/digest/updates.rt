@@ -1,8 +1,8 @@
 // SPDX-License-Identifier: ISC
 //! Several contexts, each updated with a piece, as many side by side as a vector has lanes.
 
-ghost use Rattle.std.specs.Prelude.{◌≡◌, ◌↔◌, ℕ, ◌-◌, ◌*◌, ◌/◌, ◌<◌, ◌≤◌, All, IsOk, OnErr};
-ghost use Rattle.std.specs.Prelude.{OnOk, Some, drop, length, slice_get};
+ghost use Rattle.std.specs.Prelude.{◌≡◌, ℕ, ◌-◌, ◌*◌, ◌/◌, ◌<◌, ◌≤◌, All, Some, drop};
+ghost use Rattle.std.specs.Prelude.{length, slice_get};
 ghost use Rattle.std.specs.List.{HoldsAt};
 ghost use Rattle.ring_core.specs.Prelude.{array_at, chunk_at, fold_chunks};
 ghost use Rattle.ring.specs.Prelude.{Algorithm, AreAlike, AreUpdated, CanRunTogether};
@@ -179,8 +179,7 @@ fn update_all<const VECTOR_BITS: usize>(
     }
 }
 
-/// As [`update_each`], but over vectors of `VECTOR_BITS` bits. `meter` counts the blocks that the
-/// pieces complete. A refusal leaves it as it was.
+/// As [`update_each_counted`], but over vectors of `VECTOR_BITS` bits.
 pub fn update_each_in<const VECTOR_BITS: usize>(
     contexts: &mut [Context],
     pieces: &[&[u8]],
@@ -195,8 +194,16 @@ pub fn update_each_in<const VECTOR_BITS: usize>(
     Ok(())
 }
 
-/// As [`update_each`]. `meter` counts the blocks that the pieces complete: the sum of what
-/// [`Context::update_counted`] counts for each. A refusal leaves it as it was.
+/// Adds each of `pieces` to the context at its index in `contexts`, runs the blocks that this
+/// completes (FIPS 180-4, section 6), and counts them on `meter`.
+///
+/// Each context is then as after [`Context::update_counted`], and costs as much. The contexts may
+/// be of different algorithms, and may have taken in any pieces before. Four neighbours of SHA-1 or
+/// of SHA-256 run side by side, which is faster than one after another, most of all where their
+/// pieces have about the same length.
+///
+/// Refused where `pieces` and `contexts` differ in number. `contexts` and `meter` are then
+/// unchanged.
 pub fn update_each_counted(
     contexts: &mut [Context],
     pieces: &[&[u8]],
@@ -205,21 +212,4 @@ pub fn update_each_counted(
     ensures { UpdatesEach contexts.old contexts.new pieces.now meter.old meter.new result }
 {
     update_each_in::<SSE>(contexts, pieces, meter)
-}
-
-/// Adds each of `pieces` to the context at its index in `contexts`, and runs the blocks that this
-/// completes (FIPS 180-4, section 6).
-///
-/// Each context is then as after [`Context::update`]. The contexts may be of different algorithms,
-/// and may have taken in any pieces before. Four neighbours of SHA-1 or of SHA-256 run side by
-/// side, which is faster than one after another, most of all where their pieces have about the same
-/// length.
-///
-/// Refused where `pieces` and `contexts` differ in number. `contexts` are then unchanged.
-pub fn update_each(contexts: &mut [Context], pieces: &[&[u8]]) -> Result<(), Unspecified>
-    ensures ok { OnOk result (AreUpdated contexts.old contexts.new pieces.now) }
-    ensures refused { IsOk result ↔ (length pieces.now ≡ length contexts.old) }
-    ensures unchanged { OnErr result (contexts.new ≡ contexts.old) }
-{
-    update_each_counted(contexts, pieces, &mut Meter::new())
 }

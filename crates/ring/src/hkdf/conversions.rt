@@ -9,6 +9,7 @@ use crate::hkdf::algorithm::Algorithm;
 use crate::hkdf::prk::{Okm, Prk};
 use crate::hkdf::salt::Salt;
 use crate::hmac::{self, Key};
+use ring_core::cost::Meter;
 use ring_core::error::Unspecified;
 
 /// The key whose value is the whole output, for the HMAC algorithm that was passed to
@@ -23,7 +24,7 @@ impl TryFrom<Okm<'_, hmac::Algorithm>> for Key {
 
     fn try_from(output: Okm<'_, hmac::Algorithm>) -> Result<Key, Unspecified> {
         let algorithm = *output.len();
-        output.into_key(algorithm)
+        output.into_key(algorithm, &mut Meter::new())
     }
 }
 
@@ -39,7 +40,7 @@ impl TryFrom<Okm<'_, Algorithm>> for Salt {
 
     fn try_from(output: Okm<'_, Algorithm>) -> Result<Salt, Unspecified> {
         let algorithm = output.len().hmac_algorithm();
-        Ok(Salt(output.into_key(algorithm)?))
+        Ok(Salt(output.into_key(algorithm, &mut Meter::new())?))
     }
 }
 
@@ -55,6 +56,6 @@ impl TryFrom<Okm<'_, Algorithm>> for Prk {
 
     fn try_from(output: Okm<'_, Algorithm>) -> Result<Prk, Unspecified> {
         let algorithm = output.len().hmac_algorithm();
-        Ok(Prk(output.into_key(algorithm)?))
+        Ok(Prk(output.into_key(algorithm, &mut Meter::new())?))
     }
 }

@@ -165,13 +165,17 @@ impl<L: KeyType> Okm<'_, L> {
     }
 
     // The key of `algorithm` whose value is the whole output.
-    pub(crate) fn into_key(self, algorithm: hmac::Algorithm) -> Result<Key, Unspecified>
+    pub(crate) fn into_key(
+        self,
+        algorithm: hmac::Algorithm,
+        meter: &mut Meter,
+    ) -> Result<Key, Unspecified>
         requires { okm_asked_len self ≡ output_len (hmac_digest algorithm) }
         ensures { IsMadeOf self.entry (hmac_digest algorithm) key_algorithm KeyStandsFor result }
     {
         let mut value = [0; MAX_OUTPUT_LEN];
         let value = &mut value[..algorithm.digest_algorithm().output_len()];
-        self.fill(value)?;
-        Key::new(algorithm, value)
+        self.fill_counted(value, meter)?;
+        Key::new_counted(algorithm, value, meter)
     }
 }

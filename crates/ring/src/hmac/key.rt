@@ -195,7 +195,7 @@ impl Key {
         let mut bytes = [0; MAX_OUTPUT_LEN];
         let value = &mut bytes[..algorithm.digest_algorithm().output_len()];
         rng.fill(value)?;
-        Key::new(algorithm, value)
+        Key::new_counted(algorithm, value, &mut Meter::new())
     }
 
     /// The algorithm that the key is for.

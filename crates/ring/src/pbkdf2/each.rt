@@ -2,12 +2,10 @@
 //! Several derivations at once, whose rounds run side by side, one a lane, and the verification of
 //! several values by them.
 
-ghost use Rattle.std.specs.Prelude.{◌≡◌, ◌↔◌, ℕ, ◌*◌, ◌<◌, ◌≤◌, All, IsOk, IsTrue, OnErr, OnOk};
-ghost use Rattle.std.specs.Prelude.{length, take};
+ghost use Rattle.std.specs.Prelude.{◌≡◌, ◌↔◌, ℕ, ◌*◌, ◌<◌, ◌≤◌, All, IsTrue, length, take};
 ghost use Rattle.std.specs.Int.NonZero.{non_zero_u32_get};
-ghost use Rattle.ring.specs.Prelude.{AreDerived, AreKeysOf, AreVerified, CanDerive, CanDeriveEach};
-ghost use Rattle.ring.specs.Prelude.{CanVerifyEach, DerivesEach, HasPlaces, KeyStandsFor, Receives};
-ghost use Rattle.ring.specs.Prelude.{VerifiesEach, bytes_at};
+ghost use Rattle.ring.specs.Prelude.{AreKeysOf, CanDerive, CanDeriveEach, DerivesEach, HasPlaces};
+ghost use Rattle.ring.specs.Prelude.{KeyStandsFor, Receives, VerifiesEach, bytes_at};
 ghost use Rattle.ring.specs.Prelude.{derive_each_blocks, dk_at, hmac_digest, key_algorithm};
 ghost use Rattle.ring.specs.Prelude.{key_blocks, max_input_len, pbkdf2_digest, raised, sum_below};
 
@@ -135,8 +133,7 @@ fn clear<const N: usize>(out: &mut [[u8; N]])
     }
 }
 
-/// As [`derive_each`], but over vectors of `VECTOR_BITS` bits. `meter` counts the blocks. A refusal
-/// leaves it as it was.
+/// As [`derive_each_counted`], but over vectors of `VECTOR_BITS` bits.
 pub fn derive_each_in<const VECTOR_BITS: usize, const N: usize>(
     algorithm: Algorithm,
     iterations: NonZeroU32,
@@ -169,8 +166,17 @@ pub fn derive_each_in<const VECTOR_BITS: usize, const N: usize>(
     Ok(())
 }
 
-/// As [`derive_each`]. `meter` counts the blocks: for each key as many as
-/// [`derive_counted`](crate::pbkdf2::derive_counted) counts. A refusal leaves it as it was.
+/// Derives a key of `N` bytes for each index of `out`, from the salt and the secret at that index
+/// of `salts` and `secrets`, under `algorithm` with `iterations` iterations (RFC 2898, section
+/// 5.2), and counts the blocks on `meter`.
+///
+/// The keys and their costs are those of [`derive_counted`](crate::pbkdf2::derive_counted). Under
+/// SHA-1 and SHA-256 four rounds of output at a time run side by side, whichever keys they are of,
+/// which is faster than one after another.
+///
+/// Refused where `salts`, `secrets` and `out` differ in number, and where
+/// [`derive`](crate::pbkdf2::derive) refuses a secret and its salt for `N` bytes. `out` and `meter`
+/// are then unchanged.
 pub fn derive_each_counted<const N: usize>(
     algorithm: Algorithm,
     iterations: NonZeroU32,
@@ -185,42 +191,7 @@ pub fn derive_each_counted<const N: usize>(
     derive_each_in::<SSE, N>(algorithm, iterations, salts, secrets, out, meter)
 }
 
-/// Derives a key of `N` bytes for each index of `out`, from the salt and the secret at that index
-/// of `salts` and `secrets`, under `algorithm` with `iterations` iterations (RFC 2898, section
-/// 5.2).
-///
-/// The keys are those that [`derive`](crate::pbkdf2::derive) writes. Under SHA-1 and SHA-256 four
-/// rounds of output at a time run side by side, whichever keys they are of, which is faster than
-/// one after another.
-///
-/// Refused where `salts`, `secrets` and `out` differ in number, and where
-/// [`derive`](crate::pbkdf2::derive) refuses a secret and its salt for `N` bytes. `out` is then
-/// unchanged.
-pub fn derive_each<const N: usize>(
-    algorithm: Algorithm,
-    iterations: NonZeroU32,
-    salts: &[&[u8]],
-    secrets: &[&[u8]],
-    out: &mut [[u8; N]],
-) -> Result<(), Unspecified>
-    ensures ok { OnOk result (AreDerived out.new (pbkdf2_digest algorithm)
-        salts.now secrets.now (non_zero_u32_get iterations) N) }
-    ensures refused { IsOk result ↔ CanDeriveEach (pbkdf2_digest algorithm)
-        salts.now secrets.now (length out.old) N }
-    ensures unchanged { OnErr result (out.new ≡ out.old) }
-{
-    derive_each_counted(
-        algorithm,
-        iterations,
-        salts,
-        secrets,
-        out,
-        &mut Meter::new(),
-    )
-}
-
-/// As [`verify_each`], but over vectors of `VECTOR_BITS` bits. `meter` counts the blocks and the
-/// compared pairs of bytes. A refusal leaves it as it was.
+/// As [`verify_each_counted`], but over vectors of `VECTOR_BITS` bits.
 pub fn verify_each_in<const VECTOR_BITS: usize, const N: usize>(
     algorithm: Algorithm,
     iterations: NonZeroU32,
@@ -261,8 +232,19 @@ pub fn verify_each_in<const VECTOR_BITS: usize, const N: usize>(
     Ok(())
 }
 
-/// As [`verify_each`]. `meter` counts the blocks and the compared pairs of bytes: for each value as
-/// many as [`verify_counted`](crate::pbkdf2::verify_counted) counts. A refusal leaves it as it was.
+/// Verifies values of `N` bytes (RFC 2898, section 5.2): sets each of `matches` to whether
+/// [`verify`](crate::pbkdf2::verify) is Ok for the salt, the secret and the value at its index in
+/// `salts`, `secrets` and `previously_derived`, under `algorithm` with `iterations` iterations.
+/// Counts the blocks and the compared pairs of bytes on `meter`.
+///
+/// Each value costs as much as by [`verify_counted`](crate::pbkdf2::verify_counted). Under SHA-1
+/// and SHA-256 four rounds of output at a time run side by side, whichever values they are of,
+/// which is faster than one after another.
+///
+/// Refused where the four lists differ in number, and, unless they are empty, where `N` is 0 or
+/// [`derive`](crate::pbkdf2::derive) refuses one of the secrets and its salt for `N` bytes.
+/// `matches` and `meter` are then unchanged. A value that differs is no refusal: its place in
+/// `matches` is false.
 pub fn verify_each_counted<const N: usize>(
     algorithm: Algorithm,
     iterations: NonZeroU32,
@@ -284,41 +266,5 @@ pub fn verify_each_counted<const N: usize>(
         previously_derived,
         matches,
         meter,
-    )
-}
-
-/// Verifies values of `N` bytes (RFC 2898, section 5.2): sets each of `matches` to whether
-/// [`verify`](crate::pbkdf2::verify) is Ok for the salt, the secret and the value at its index in
-/// `salts`, `secrets` and `previously_derived`, under `algorithm` with `iterations` iterations.
-///
-/// Under SHA-1 and SHA-256 four rounds of output at a time run side by side, whichever values they
-/// are of, which is faster than one after another.
-///
-/// Refused where the four lists differ in number, and, unless they are empty, where `N` is 0 or
-/// [`derive`](crate::pbkdf2::derive) refuses one of the secrets and its salt for `N` bytes.
-/// `matches` is then unchanged. A value that differs is no refusal: its place in `matches` is
-/// false.
-pub fn verify_each<const N: usize>(
-    algorithm: Algorithm,
-    iterations: NonZeroU32,
-    salts: &[&[u8]],
-    secrets: &[&[u8]],
-    previously_derived: &[[u8; N]],
-    matches: &mut [bool],
-) -> Result<(), Unspecified>
-    ensures ok { OnOk result (AreVerified matches.new (pbkdf2_digest algorithm)
-        salts.now secrets.now (non_zero_u32_get iterations) previously_derived.now) }
-    ensures refused { IsOk result ↔ CanVerifyEach (pbkdf2_digest algorithm)
-        salts.now secrets.now previously_derived.now (length matches.old) N }
-    ensures unchanged { OnErr result (matches.new ≡ matches.old) }
-{
-    verify_each_counted(
-        algorithm,
-        iterations,
-        salts,
-        secrets,
-        previously_derived,
-        matches,
-        &mut Meter::new(),
     )
 }

@@ -122,8 +122,8 @@ impl RawContext {
         Some(block_of(&algorithm, &self.words, completed_bytes))
     }
 
-    /// Adds `input` to the message as [`RawContext::update`] does, and counts on `meter` the blocks
-    /// that it completes. Where the numbers are no context's, `meter` is as it was.
+    /// Adds `input` to the message, runs each block that is complete, and counts these blocks on
+    /// `meter`. Returns whether the numbers are a context's. Otherwise nothing is changed.
     #[inline(always)]
     pub fn update_counted(&mut self, input: &[u8], meter: &mut Meter) -> bool
         ensures plain { RawUpdates self.old self.new input.now result }
@@ -192,16 +192,11 @@ impl RawContext {
         self.words = numbers_of_block(&block);
     }
 
-    /// Adds `input` to the message, and runs each block that is complete. Returns whether the
-    /// numbers are a context's. Otherwise nothing is changed.
-    pub fn update(&mut self, input: &[u8]) -> bool
-        ensures { RawUpdates self.old self.new input.now result }
-    {
-        self.update_counted(input, &mut Meter::new())
-    }
-
-    /// Returns the digest as [`RawContext::finish`] does, and counts the last blocks on `meter`. A
-    /// refusal leaves `meter` as it was, and so do numbers of no context.
+    /// Returns the digest of the message so far, and counts the last blocks on `meter`, or returns
+    /// `None` if the numbers are no context's. The message can go on.
+    ///
+    /// Refused where the message is longer than the algorithm's `max_input_len` bytes. A refusal
+    /// leaves `meter` as it was, and so do numbers of no context.
     #[inline(always)]
     pub fn finish_counted(&self, meter: &mut Meter) -> Option<Result<Digest, Unspecified>>
         ensures plain { RawFinishes self.now result }
@@ -217,16 +212,6 @@ impl RawContext {
             return None;
         };
         Some(block.try_finish(&self.pending[..self.num_pending as usize], meter))
-    }
-
-    /// Returns the digest of the message so far, or `None` if the numbers are no context's. The
-    /// message can go on.
-    ///
-    /// Refused where the message is longer than the algorithm's `max_input_len` bytes.
-    pub fn finish(&self) -> Option<Result<Digest, Unspecified>>
-        ensures { RawFinishes self.now result }
-    {
-        self.finish_counted(&mut Meter::new())
     }
 
     /// The context of these numbers, or `None` where [`RawContext::algorithm`] is.

@@ -88,8 +88,8 @@ impl RawTagContext {
         self.inner.algorithm()
     }
 
-    /// Adds `input` to the message as [`RawTagContext::update`] does, and counts on `meter` the
-    /// blocks that it completes. Where the numbers are no context's, `meter` is as it was.
+    /// Adds `input` to the message, runs each block that is complete, and counts these blocks on
+    /// `meter`. Returns whether the numbers are a context's. Otherwise nothing is changed.
     pub fn update_counted(&mut self, input: &[u8], meter: &mut Meter) -> bool
         ensures plain { RawTagUpdates self.old self.new input.now result }
         ensures unchanged { IsFalse result → meter.new ≡ meter.old }
@@ -103,16 +103,11 @@ impl RawTagContext {
         self.counts_key_block() && self.inner.update_counted(input, meter)
     }
 
-    /// Adds `input` to the message, and runs each block that is complete. Returns whether the
-    /// numbers are a context's. Otherwise nothing is changed.
-    pub fn update(&mut self, input: &[u8]) -> bool
-        ensures { RawTagUpdates self.old self.new input.now result }
-    {
-        self.update_counted(input, &mut Meter::new())
-    }
-
-    /// Returns the tag as [`RawTagContext::finish`] does, and counts the last blocks on `meter`. A
-    /// refusal leaves `meter` as it was, and so do numbers of no context.
+    /// Returns the tag of the message so far, and counts the last blocks on `meter`, or returns
+    /// `None` if the numbers are no context's. The message can go on.
+    ///
+    /// Refused where one block and the message together are longer than the digest algorithm's
+    /// `max_input_len` bytes. A refusal leaves `meter` as it was, and so do numbers of no context.
     pub fn finish_counted(&self, meter: &mut Meter) -> Option<Result<Tag, Unspecified>>
         ensures plain { RawTagFinishes self.now result }
         ensures unchanged { IfSome result (λ made. IsErr made) → meter.new ≡ meter.old }
@@ -134,17 +129,6 @@ impl RawTagContext {
         };
         let outer = block_of(&algorithm, &self.outer, algorithm.block_len() as u128);
         Some(Ok(Tag::of_inner(&digest, &outer, meter)))
-    }
-
-    /// Returns the tag of the message so far, or `None` if the numbers are no context's. The
-    /// message can go on.
-    ///
-    /// Refused where one block and the message together are longer than the digest algorithm's
-    /// `max_input_len` bytes.
-    pub fn finish(&self) -> Option<Result<Tag, Unspecified>>
-        ensures { RawTagFinishes self.now result }
-    {
-        self.finish_counted(&mut Meter::new())
     }
 
     /// The context of these numbers, or `None` where [`RawTagContext::algorithm`] is.

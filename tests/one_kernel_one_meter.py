@@ -9,11 +9,12 @@ function that takes a meter calls nothing that runs blocks under another; the ca
 `ring_passwords`, which are handed no meter, call what runs blocks once, and derive by no plain
 form; the calls for C derive in one place each, and only PBKDF2 and the test and the making of a
 password hash do; a block is run once for each block counted, and four side by side for each four;
-and the rounds of SHA-2 and of SHA-1 stand once. Since it finds a call by the function's name, and a
-method's by the type's too, it refuses what hides these: imports under another name, functions as
-values, aliases of types, and macros that call. It then searches as many times again, each time with
-one body planted that keeps its contract, and that a rule has to find. The last line is 'N passed, M
-failed'.
+and the rounds of SHA-2 and of SHA-1 stand once: what a round alone calls and reads, and the
+rotations that it alone has, stand in one function. Since it finds a call by the function's name,
+and a method's by the type's too, it refuses what hides these: imports under another name, functions
+as values, aliases of types, and macros that call. It then searches as many times again, each time
+with one body planted that keeps its contract, and that a rule has to find. The last line is 'N
+passed, M failed'.
 """
 
 import collections
@@ -28,8 +29,8 @@ sys.path.append(str(pathlib.Path(__file__).resolve().parent.parent / "tools"))
 import rattle_text
 from planted_bodies import (
     AHEAD_ONCE, COUNTED_ONCE, FEW_DERIVE, NONE_BELOW, NO_ALIAS, NO_MACRO, NO_OTHER_METER,
-    NO_OTHER_NAME, NO_OTHER_PLACE, NO_PLAIN_DERIVATION, NO_SECOND, NO_VALUE, ONCE, ONE_CALL,
-    ONE_DERIVATION, PLANTED,
+    NO_OTHER_NAME, NO_OTHER_PLACE, NO_PLAIN_DERIVATION, NO_SECOND, NO_SIGMA_1, NO_VALUE,
+    OF_EACH_FAMILY, OF_ONE_FUNCTION, ONCE, ONE_CALL, ONE_DERIVATION, ONE_ROTATION, PLANTED,
 )
 
 # As many files are read again as bodies are planted.
@@ -100,6 +101,24 @@ COUNTS = {
 }
 RUNS = "run_block"
 FAMILIES = 2
+# What a round alone calls or reads: the one of both families, of SHA-1, and of SHA-2.
+OF_BOTH_ROUNDS = ("choose_word", "majority_word")
+OF_SHA_1 = "round_function"
+OF_SHA_2 = ("BIG_SIGMA_0", "BIG_SIGMA_1")
+# The rotations to the right that a round alone has: SHA-1's of a, to the left by 5; and of Σ1 of
+# each word size the one that it also has with its rotations nested. SHA-2's round takes these from
+# its constants.
+ROTATION_OF_SHA_1 = 27
+ROTATIONS_OF_SIGMA_1 = {6, 14}
+# The constants that a round has, each with what finds it in small letters.
+CONSTANTS = {
+    "0x5a827999": r"0x5a827999|\b1518500249\b",
+    "0x6ed9eba1": r"0x6ed9eba1|\b1859775393\b",
+    "0x8f1bbcdc": r"0x8f1bbcdc|\b2400959708\b",
+    "0xca62c1d6": r"0xca62c1d6|\b3395469782\b",
+    "Σ1 of SHA-256": r"\b6, 11, 25\b",
+    "Σ1 of SHA-512": r"\b14, 18, 41\b",
+}
 # The imports that may have another name: of modules, since a call is found without its module.
 RENAMED = re.compile(
     r"self as (?:digest|hmac)|key as hmac|algorithm as (?:hkdf|pbkdf2)|bb as constant_time"
@@ -516,8 +535,53 @@ def rules_of_blocks(places):
         is_in_loop(it.function.body, call.end()) for it, call in ahead
     )
     yield AHEAD_ONCE, is_once, [str(it) for it, _ in ahead]
-    rounds = naming(places, r"::BIG_SIGMA_1\b")
-    yield "BIG_SIGMA_1 is read in one function", len(rounds) == 1, rounds
+
+
+def count_in(text):
+    """The number that an argument is, as `27` or `32 - 5`, or None."""
+    found = re.fullmatch(r"(\d+)(?:u32)?(?: - (\d+))?", text)
+    return int(found[1]) - int(found[2] or 0) if found else None
+
+
+def shifts(body, operator):
+    """The numbers by which a body shifts words or vectors."""
+    return {int(it) for it in re.findall(rf"{operator}=? ?(?:[\w:]+::splat\()?(\d+)\b", body)}
+
+
+@functools.cache
+def rotations(function):
+    """The numbers by which a body rotates words of 32 or 64 bits to the right: by a call, or by two
+    shifts that make up a word."""
+    body, found = function.body, set()
+    for call in re.finditer(rf"\brot\w*{GENERIC}\(", body):
+        arguments = split(body[call.end() : rattle_text.end_of(body, call.end() - 1) - 1])
+        count = count_in(arguments[-1]) if arguments else None
+        if count is not None:
+            is_left = re.match(r"rotl|rot\w*left", call[0])
+            found |= {32 - count, 64 - count} if is_left else {count}
+    lefts = shifts(body, "<<")
+    return found | {it for it in shifts(body, ">>") if {32 - it, 64 - it} & lefts}
+
+
+def rules_of_rounds(places, codes):
+    """The rules that the round of each family stands once: each with whether it holds, and what
+    breaks it."""
+    for name in OF_BOTH_ROUNDS:
+        found = naming(places, rf"\b{name}{GENERIC}\(")
+        yield OF_EACH_FAMILY.format(name), len(found) == FAMILIES, found
+    found = naming(places, rf"\b{OF_SHA_1}{GENERIC}\(")
+    yield OF_ONE_FUNCTION.format(OF_SHA_1), len(found) == 1, found
+    for name in OF_SHA_2:
+        found = naming(places, rf"::{name}\b")
+        yield OF_ONE_FUNCTION.format(name), len(found) == 1, found
+    found = [str(it) for it in places if ROTATION_OF_SHA_1 in rotations(it.function)]
+    yield ONE_ROTATION, len(found) == 1, found
+    found = [str(it) for it in places if ROTATIONS_OF_SIGMA_1 & rotations(it.function)]
+    yield NO_SIGMA_1, not found, found
+    for constant, pattern in CONSTANTS.items():
+        found = [path for path, (_, code) in codes.items()
+                 for _ in re.findall(pattern, code.lower().replace("_", ""))]
+        yield f"{constant} stands in one place", len(found) == 1, found
 
 
 def rules(files):
@@ -528,9 +592,6 @@ def rules(files):
         for path, (crate, code) in codes.items()
         for it in functions(code)
     ]
-    constants = [
-        path for path, (_, code) in codes.items() for _ in re.findall(r"0x5a82_?7999", code)
-    ]
     plain = plain_forms(places)
     own = unmetered(places, plain)
     yield from rules_of_meters(places, plain, own)
@@ -538,7 +599,7 @@ def rules(files):
     yield from rules_without_meters(places, own)
     yield from rules_of_names(codes, own)
     yield from rules_of_blocks([it for it in places if it.crate != "ring_passwords"])
-    yield "0x5a827999 stands in one place", len(constants) == 1, constants
+    yield from rules_of_rounds(places, codes)
 
 
 def is_found(files, rule, path, *texts):

@@ -26,6 +26,10 @@ NO_PLAIN_DERIVATION = (
 )
 COUNTED_ONCE = "blocks are loaded and run once beside their count, and nothing else counts one"
 AHEAD_ONCE = "each family runs the rounds of one message in one place, and in no loop"
+OF_EACH_FAMILY = "each family calls `{}` in one function"
+OF_ONE_FUNCTION = "`{}` stands in one function"
+ONE_ROTATION = "one function rotates left by 5"
+NO_SIGMA_1 = "no function rotates by the numbers of Σ1"
 ARGUMENTS = "PBKDF2_HMAC_SHA256, iterations, salt, password, credential"
 SALT = "use std::num::NonZeroU32;\n"
 CONTEXT = SALT, f"use ring::digest::Context;\n{SALT}"
@@ -52,6 +56,15 @@ GENERATED = "        Key::new_counted(algorithm, value, &mut Meter::new())\n"
 def before(rule, path, line, body):
     """A body planted before a line of a file."""
     return rule, path, line, f"{re.match(' *', line).group()}{body}\n{line}"
+
+
+def second_round(rule, family, words, result):
+    """A function beside the round of a family that is a copy of it."""
+    path = f"crates/ring_core/src/digest/{family}/round.rt"
+    count = words.count(",") + 1
+    front = "pub(crate) fn add_state<"
+    head = f"fn again<W>(v: [W; {count}], sum: W) -> [W; {count}]"
+    return rule, path, front, f"{head} {{ let [{words}] = v; [{result}] }}\n{front}"
 
 
 def in_matches(rule, body, *texts):
@@ -388,5 +401,53 @@ PLANTED = {
         RUN_AHEAD,
         f"    run_ahead(sums, &mut {{ *state }}, first, second, third, fourth);\n{PUT_SUMS}"
         f"{RUN_AHEAD}",
+    ),
+    "SHA-1's round stands twice, over its function": second_round(
+        OF_ONE_FUNCTION.format("round_function"),
+        "sha1",
+        "a, b, c, d, e",
+        "a.rotr(n).plus(round_function(0, b, c, d)).plus(e).plus(sum), a, b.rotr(2), c, d",
+    ),
+    "SHA-1's round stands twice, by Ch": second_round(
+        OF_EACH_FAMILY.format("choose_word"),
+        "sha1",
+        "a, b, c, d, e",
+        "a.rotr(n).plus(choose_word(b, c, d)).plus(e).plus(sum), a, b.rotr(2), c, d",
+    ),
+    "SHA-1's round stands twice, by its rotation": second_round(
+        ONE_ROTATION,
+        "sha1",
+        "a, b, c, d, e",
+        "a.rotr(32 - 5).plus(b.bit_xor(c).bit_xor(d)).plus(e).plus(sum), a, b.rotr(2), c, d",
+    ),
+    "SHA-1's round stands twice, by shifts": second_round(
+        ONE_ROTATION,
+        "sha1",
+        "a, b, c, d, e",
+        "(a << 5 | a >> 27) + (b ^ c ^ d) + e + sum, a, b << 30 | b >> 2, c, d",
+    ),
+    "SHA-2's round stands twice, over its constants": second_round(
+        OF_ONE_FUNCTION.format("BIG_SIGMA_1"),
+        "sha2",
+        "a, b, c, d, e, f, g, h",
+        "h.plus(big_sigma(e, S::One::BIG_SIGMA_1)).plus(sum), a, b, c, d, e, f, g",
+    ),
+    "SHA-2's round stands twice, by Ch": second_round(
+        OF_EACH_FAMILY.format("choose_word"),
+        "sha2",
+        "a, b, c, d, e, f, g, h",
+        "h.plus(big_sigma(e, n)).plus(choose_word(e, f, g)).plus(sum), a, b, c, d, e, f, g",
+    ),
+    "SHA-2's round stands twice, by its rotations": second_round(
+        NO_SIGMA_1,
+        "sha2",
+        "a, b, c, d, e, f, g, h",
+        "h + (e.rotr(6) ^ e.rotr(11) ^ e.rotr(25)) + (g ^ e & (f ^ g)) + sum, a, b, c, d, e, f, g",
+    ),
+    "SHA-2's round stands twice, by its numbers": second_round(
+        "Σ1 of SHA-512 stands in one place",
+        "sha2",
+        "a, b, c, d, e, f, g, h",
+        "h.plus(big_sigma(e, (14, 18, 41))).plus(sum), a, b, c, d, e, f, g",
     ),
 }

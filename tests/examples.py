@@ -26,7 +26,7 @@ import rattle_items
 ROOT = rattle_items.ROOT
 CALLERS = sorted(ROOT.glob("crates/ring_examples/src/*.rt"))
 CALLERS.append(ROOT / "crates/ring_schedules/src/example.rt")
-LIBRARIES = ("ring_core", "ring", "ring_store", "ring_password_hash")
+LIBRARIES = ("ring_core", "ring", "ring_store", "ring_store_text", "ring_password_hash")
 CALLED = ("ring_core", "ring", "ring_password_hash")
 PAGES = [path for name in LIBRARIES for path in sorted(ROOT.glob(f"crates/{name}/src/**/*.rt"))]
 # Modules that need no caller: the block functions and their words, and what errors and views of

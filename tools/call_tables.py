@@ -13,12 +13,14 @@ import rattle_items
 
 PAGE = rattle_items.ROOT / "docs/API.md"
 HEAD = "## Calls\n"
-LIBRARIES = ("ring", "ring_store", "ring_password_hash", "ring_merkle", "ring_tokens")
+LIBRARIES = (
+    "ring", "ring_store", "ring_store_text", "ring_password_hash", "ring_merkle", "ring_tokens",
+)
 # Facts for proofs, and what the page names above its tables.
 LEFT_OUT = (
     "ring::laws", "ring::raw", "ring::digest::dynstate", "ring_core::bits", "ring_core::digest",
-    "ring_core::error", "ring_core::polyfill", "ring_store::laws", "ring_password_hash::laws",
-    "ring_merkle::laws", "ring_tokens::laws",
+    "ring_core::error", "ring_core::polyfill", "ring_store::laws", "ring_store_text::laws",
+    "ring_password_hash::laws", "ring_merkle::laws", "ring_tokens::laws",
 )
 COLUMNS = "|Call|What it gives|\n|-|-|"
 # What a table leaves out of a sentence: a section of a standard and a law, and where a link leads.

@@ -11,8 +11,8 @@ import rattle_text
 ROOT = pathlib.Path(__file__).resolve().parent.parent
 # Lowest first.
 LIBRARIES = (
-    "ring_core", "ring", "ring_text", "ring_store", "ring_password_hash", "ring_merkle",
-    "ring_schedules", "ring_tokens", "ring_sums", "ring_bench",
+    "ring_core", "ring", "ring_text", "ring_store", "ring_store_text", "ring_password_hash",
+    "ring_merkle", "ring_schedules", "ring_tokens", "ring_sums", "ring_bench",
 )
 
 HEAD = re.compile(

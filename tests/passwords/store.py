@@ -214,7 +214,7 @@ def held_lock(folder):
         holding.wait()
 
 
-# A text as the program writes it; crates/ring_store/src/text.rt has the format.
+# A text as the program writes it; crates/ring_store_text/src/text.rt has the format.
 
 
 def head_line(mark=b"ring_store 1", salt=b"5a" * 16, iterations=b"7", space=b" ", end=b"\n"):

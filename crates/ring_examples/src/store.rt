@@ -1,18 +1,19 @@
 // SPDX-License-Identifier: ISC
 //! A password store: a first use, a login, a restart, and the cost of a check.
-#![tactic(auto, using(ring_store::proofs::Stores::same_store))]
+#![tactic(auto, using(ring_store_text::proofs::Stores::same_store))]
 
 ghost use Rattle.std.specs.Prelude.{◌≡◌, ◌↔◌, ℕ, List, Ok, Err};
 ghost use Rattle.std.specs.Prelude.{IfOk, IsErrOf, IsOkUnless, IsTrue, OnErr, OnOk};
 ghost use Rattle.ring.specs.Prelude.{raised};
 ghost use Rattle.ring_store.specs.Store.{admission, verdict, verify_blocks, with_raise};
-ghost use Rattle.ring_store.specs.Text.{IsStore};
 ghost use Rattle.ring_store.specs.Token.{MakerStandsFor, token_of};
+ghost use Rattle.ring_store_text.specs.Text.{IsStore};
 
 use ring::cost::Meter;
 use ring_store::{
-    CREDENTIAL_LEN, DB_SALT_LEN, LoadError, PasswordStore, StoreError, TOKEN_LEN, TokenMaker,
+    CREDENTIAL_LEN, DB_SALT_LEN, PasswordStore, StoreError, TOKEN_LEN, TokenMaker,
 };
+use ring_store_text::{LoadError, from_text, to_text};
 use std::alloc::Global;
 use std::num::NonZeroU32;
 
@@ -52,8 +53,8 @@ pub fn over_a_restart(alloc: Global, store: &PasswordStore) -> Result<PasswordSt
     ensures ok { IsStore store.now → IfOk result (λ read. read ≡ store.now) }
     ensures refused { IsStore store.now → IsOkUnless result LoadError.Memory }
 {
-    let text = store.to_text(alloc)?;
-    PasswordStore::from_text(alloc, &text)
+    let text = to_text(alloc, store)?;
+    from_text(alloc, &text)
 }
 
 /// Whether `password` is the password of `name`, with the work added to the meter of a request.

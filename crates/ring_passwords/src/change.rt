@@ -8,13 +8,14 @@ ghost use Rattle.std.specs.Int.NonZero.{non_zero_u32_get};
 ghost use Rattle.ring.specs.Cost.{raised};
 ghost use Rattle.ring_store.specs.Store.{admission, is_name, knows, record_blocks, verdict};
 ghost use Rattle.ring_store.specs.Store.{verify_blocks, with_password, without};
-ghost use Rattle.ring_store.specs.Text.{IsStore, IsText, text_of};
 ghost use Rattle.ring_store.specs.declared.store.PasswordStore.{PasswordStore};
+ghost use Rattle.ring_store_text.specs.Text.{IsStore, IsText, text_of};
 ghost use Rattle.ring_passwords.specs.Change.{told, with_given};
 
 use crate::failure::Failure;
 use ring::cost::Meter;
-use ring_store::{CREDENTIAL_LEN, LoadError, MAX_NAME_LEN, PasswordStore};
+use ring_store::{CREDENTIAL_LEN, MAX_NAME_LEN, PasswordStore};
+use ring_store_text::{LoadError, from_text};
 use std::alloc::Global;
 use std::num::NonZeroU32;
 
@@ -123,7 +124,7 @@ pub fn store_in(alloc: Global, text: &[u8]) -> Result<PasswordStore, Failure>
     ensures failure { IfErr result (λ failure.
         (failure ≡ Failure.NotAStore) ⊎ (failure ≡ Failure.Memory)) }
 {
-    match PasswordStore::from_text(alloc, text) {
+    match from_text(alloc, text) {
         Ok(store) => Ok(store),
         Err(LoadError::BadText) => Err(Failure::NotAStore),
         Err(LoadError::Memory) => Err(Failure::Memory),

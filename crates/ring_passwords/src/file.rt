@@ -2,13 +2,14 @@
 //! The file of a store: read whole, and replaced whole under a lock.
 
 ghost use Rattle.std.specs.Prelude.{◌≡◌, IfErr, IfOk};
-ghost use Rattle.ring_store.specs.Text.{IsStore};
+ghost use Rattle.ring_store_text.specs.Text.{IsStore};
 ghost use Rattle.ring_passwords.specs.Failure.{status_of};
 ghost use Rattle.ring_passwords.specs.File.{folder_in};
 
 use crate::change::store_in;
 use crate::failure::{Failure, Step};
 use ring_store::PasswordStore;
+use ring_store_text::to_text;
 use std::fs::{File, OpenOptions, Permissions, TryLockError};
 use std::io::{ErrorKind, Write};
 use std::os::unix::fs::{MetadataExt, OpenOptionsExt, PermissionsExt, fchown};
@@ -108,7 +109,7 @@ impl<'a> LockedFile<'a> {
         ensures status { IfErr result (λ failure. status_of failure ≡ 2) }
     {
         let path = self.path;
-        let text = store.to_text(rt.alloc())?;
+        let text = to_text(rt.alloc(), store)?;
         let new_path = format!(in rt.alloc(); "{path}.new")?;
         let folder = File::open(rt, folder_of(path)).map_err(|error| Failure::System(
             Step::Replace,

@@ -1,8 +1,6 @@
 -- SPDX-License-Identifier: ISC
 -- The line that `{}` prints of an error.
 use Rattle.std.specs.Prelude.{ℕ, List, codes}
-use Rattle.ring_store.specs.declared.error.LoadError.{LoadError}
-use Rattle.ring_store.specs.declared.error.LoadError.TheVariants as load
 use Rattle.ring_store.specs.declared.error.StoreError.{StoreError}
 use Rattle.ring_store.specs.declared.error.StoreError.TheVariants as store
 use Rattle.ring_store.specs.declared.error.TokenError.{TokenError}
@@ -18,7 +16,3 @@ abbrev pub token_error_text : TokenError → List ℕ
 token_error_text token.TooLong = codes "the user or the salt is too long"
 token_error_text token.BadToken = codes "wrong token"
 token_error_text token.Expired = codes "the token has expired"
-
-abbrev pub load_error_text : LoadError → List ℕ
-load_error_text load.BadText = codes "not the text of a password store"
-load_error_text load.Memory = codes "out of memory"

@@ -3,13 +3,16 @@
 
 ghost use Rattle.std.specs.Prelude.{◌≡◌, ◌↔◌, ◌⊎◌, [], IsErrOf, IsTrue, OnOk, OnErr, false};
 ghost use Rattle.std.specs.Option.{option_copied};
-ghost use Rattle.ring_store.specs.Store.{admission, kept_of, knows, names_count, nth_name};
+ghost use Rattle.ring_store.specs.Records.{named};
+ghost use Rattle.ring_store.specs.Store.{admission, entries_of, kept_of, knows, names_count};
+ghost use Rattle.ring_store.specs.Store.{nth_name};
 ghost use Rattle.ring_store.specs.Store.{with_record, without};
 
 use crate::credential::{CREDENTIAL_LEN, Record};
 use crate::error::StoreError;
 use crate::store::{PasswordStore, admit};
 use std::alloc::Allocator;
+use std::collections::btree_map::Iter;
 use std::num::NonZeroU32;
 
 impl<A: Allocator + Copy> PasswordStore<A> {
@@ -74,6 +77,16 @@ impl<A: Allocator + Copy> PasswordStore<A> {
         ensures { IsTrue result ↔ (names_count self.now ≡ 0) }
     {
         self.len() == 0
+    }
+
+    /// The names with their records, in the order of names.
+    ///
+    /// Whoever has a record, and the store's salt, can guess at its password at the cost of a
+    /// derivation for each guess.
+    pub fn iter(&self) -> Iter<'_, Vec<u8, A>, Record>
+        ensures { named result ≡ entries_of self.now }
+    {
+        self.records.iter()
     }
 
     /// The name at position `index` in the order of names, from 0, or `None` from `len` on. It

@@ -2,7 +2,8 @@
 //! Names of each length, which get memory wherever there is enough.
 
 use crate::store::names::{iterations, name_of, new_store};
-use ring_store::{LoadError, PasswordStore, StoreError};
+use ring_store::{PasswordStore, StoreError};
+use ring_store_text::{LoadError, from_text, to_text};
 use std::alloc::Global;
 
 // A store in which the password of each name is set to the name.
@@ -37,8 +38,8 @@ fn has_all(store: &PasswordStore) -> bool {
 
 // Whether the text of a store is read with each name.
 fn reads_all(alloc: Global, store: &PasswordStore) -> Result<bool, LoadError> {
-    let text = store.to_text(alloc)?;
-    Ok(has_all(&PasswordStore::from_text(alloc, &text)?))
+    let text = to_text(alloc, store)?;
+    Ok(has_all(&from_text(alloc, &text)?))
 }
 
 #[test]

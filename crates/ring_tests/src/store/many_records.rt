@@ -2,7 +2,8 @@
 //! A store of many records, its text, and the time that it takes.
 
 use crate::store::names::{iterations, new_store};
-use ring_store::{LoadError, PasswordStore, StoreError};
+use ring_store::{PasswordStore, StoreError};
+use ring_store_text::{LoadError, from_text, to_text};
 use std::alloc::Global;
 use std::io;
 use std::time::{Duration, Instant};
@@ -45,14 +46,14 @@ fn has_many(store: &PasswordStore) -> bool {
 // The text of a store, and how long it took.
 fn written(rt: &HostRuntime, store: &PasswordStore) -> io::Result<(Vec<u8>, Duration)> {
     let start = Instant::now(rt)?;
-    let text = store.to_text(rt.alloc())?;
+    let text = to_text(rt.alloc(), store)?;
     Ok((text, start.elapsed(rt)?))
 }
 
 // What a text is read as, and how long it took.
 fn read(rt: &HostRuntime, text: &[u8]) -> io::Result<(Result<PasswordStore, LoadError>, Duration)> {
     let start = Instant::now(rt)?;
-    let store = PasswordStore::from_text(rt.alloc(), text);
+    let store = from_text(rt.alloc(), text);
     Ok((store, start.elapsed(rt)?))
 }
 
@@ -65,7 +66,7 @@ fn keeps_many(rt: &HostRuntime, store: &PasswordStore) -> io::Result<bool> {
     let Ok(again) = again else {
         return Ok(false);
     };
-    Ok(has_many(&again) && again.to_text(rt.alloc())? == text)
+    Ok(has_many(&again) && to_text(rt.alloc(), &again)? == text)
 }
 
 // Whether a store takes the password of one more name.

@@ -4,7 +4,8 @@
 use crate::store::names::{LONGEST_NAME, PASSWORD, WRONG, iterations, new_store, told};
 use linked_list_allocator::LocalHeap;
 use ring::cost::Meter;
-use ring_store::{LoadError, PasswordStore, StoreError};
+use ring_store::{PasswordStore, StoreError};
+use ring_store_text::{LoadError, from_text, to_text};
 use std::alloc::{AllocError, Global};
 use std::num::NonZeroU32;
 
@@ -92,8 +93,8 @@ fn has_rows(store: &PasswordStore) -> bool {
 
 // Whether the text of another implementation is read, and written again byte for byte.
 fn reads_text(alloc: Global) -> Result<bool, LoadError> {
-    let store = PasswordStore::from_text(alloc, TEXT.as_bytes())?;
-    Ok(has_rows(&store) && store.to_text(alloc)?.as_slice() == TEXT.as_bytes())
+    let store = from_text(alloc, TEXT.as_bytes())?;
+    Ok(has_rows(&store) && to_text(alloc, &store)?.as_slice() == TEXT.as_bytes())
 }
 
 #[test]
@@ -104,7 +105,7 @@ fn text_of_another_implementation(rt: HostRuntime) {
 // How the text is read on a heap of this size.
 fn read_on(alloc: Global, size: usize) -> Result<Result<(), LoadError>, AllocError> {
     let heap = LocalHeap::new(alloc, size)?;
-    let read = PasswordStore::from_text(&heap, TEXT.as_bytes());
+    let read = from_text(&heap, TEXT.as_bytes());
     Ok(read.map(|_store| ()))
 }
 

@@ -1,0 +1,3 @@
+-- SPDX-License-Identifier: ISC
+pub mod Error
+pub mod Text

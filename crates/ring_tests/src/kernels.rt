@@ -16,10 +16,10 @@ use ring::digest::sha1::{
     sha1_block_of_words_counted, sha1_block_of_words_fastest_counted,
 };
 use ring::digest::sha2::{
-    block_data_order_32_counted, block_data_order_32_fastest_counted,
-    block_data_order_64_counted, block_data_order_64_fastest_counted,
-    block_of_words_32_counted, block_of_words_32_fastest_counted,
-    block_of_words_64_counted, block_of_words_64_fastest_counted,
+    block_data_order_32_counted, block_data_order_32_fastest_counted, block_data_order_64_counted,
+    block_data_order_64_fastest_counted, block_of_words_32_counted,
+    block_of_words_32_fastest_counted, block_of_words_64_counted,
+    block_of_words_64_fastest_counted,
 };
 use ring::digest::{SHA1_FOR_LEGACY_USE_ONLY, SHA256, SHA512};
 use ring::polyfill::slice::as_chunks;

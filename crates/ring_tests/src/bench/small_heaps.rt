@@ -9,7 +9,11 @@ use std::alloc::{AllocError, Global};
 use std::test::Fail;
 
 // Lines of all kinds of answers, with those: RFC 4231, 4.2, RFC 5869, A.1, and RFC 6070, section 2.
-const ROWS: [(&[u8], &[u8]); 5] = [
+const ROWS: [(&[u8], &[u8]); 6] = [
+    (
+        b"digest SHA256 -",
+        b"e3b0c44298fc1c149afbf4c8996fb92427ae41e4649b934ca495991b7852b855 1\n",
+    ),
     (HELLO, OF_HELLO),
     (
         b"hmac SHA256 0b0b0b0b0b0b0b0b0b0b0b0b0b0b0b0b0b0b0b0b 4869,20,5468657265",

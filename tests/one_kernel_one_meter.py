@@ -180,8 +180,9 @@ def sources():
     found = {}
     for crate in crates():
         for path in sorted((ROOT / "crates" / crate / "src").rglob("*.rt")):
-            if not {"tests", "tests.rt", "examples.rt"} & set(path.parts):
-                found[str(path.relative_to(ROOT))] = crate, path.read_text()
+            relative = path.relative_to(ROOT)
+            if not {"tests", "tests.rt", "examples.rt"} & set(relative.parts):
+                found[str(relative)] = crate, path.read_text()
     return found
 
 

@@ -30176,7 +30176,7 @@ L(108_149):
 	call ring.digest.updates.states_of
 	lea 0x2f0(%rsp),%rdi
 	mov %r13,%rsi
-	call ring.digest.lanes.algorithms.InVectorLaneStates.new.70852ce4d05a0001
+	call ring.digest.lanes.algorithms.InVectorLaneStates.new.1dec229e782056ab
 	movaps 0x2f0(%rsp),%xmm0
 	movaps %xmm0,0x2e0(%rsp)
 	movaps 0x300(%rsp),%xmm0
@@ -32655,7 +32655,7 @@ L(108_155):
 	call ring.digest.updates.states_of
 	lea 0x2f0(%rsp),%rdi
 	mov %r13,%rsi
-	call ring.digest.lanes.algorithms.InVectorLaneStates.new.70852ce4d05a0001
+	call ring.digest.lanes.algorithms.InVectorLaneStates.new.1dec229e782056ab
 	movaps 0x2f0(%rsp),%xmm0
 	movaps %xmm0,0x150(%rsp)
 	movaps 0x300(%rsp),%xmm0
@@ -36897,7 +36897,7 @@ L(130_0):
 	movdqa %xmm4,0x50(%rsp)
 	lea 0x20(%rsp),%rdi
 	mov %r12,%rsi
-	call ring_core.digest.sha2.blocks.run_ahead.ea37ceaea72c2e87
+	call ring_core.digest.sha2.by_fours.run_ahead.99accd9fe8f0e06d
 	mov (%r15),%rax
 	mov 0x8(%r15),%rcx
 	add $0x1,%rax
@@ -36936,7 +36936,7 @@ L(130_1):
 	movdqa %xmm4,0x50(%rsp)
 	lea 0x20(%rsp),%rdi
 	mov %r12,%rsi
-	call ring_core.digest.sha1.blocks.run_ahead
+	call ring_core.digest.sha1.by_fours.run_ahead
 	mov (%r15),%rax
 	mov 0x8(%r15),%rcx
 	add $0x1,%rax
@@ -37006,7 +37006,7 @@ L(130_4):
 	movdqu %xmm8,0x80(%rsp)
 	lea 0x20(%rsp),%rdi
 	mov %r12,%rsi
-	call ring_core.digest.sha2.blocks.run_ahead.00e266d2aa29b734
+	call ring_core.digest.sha2.by_fours.run_ahead.34389943500e16fa
 	mov (%r15),%rax
 	mov 0x8(%r15),%rcx
 	add $0x1,%rax
@@ -37049,11 +37049,11 @@ L(130_7):
 	ret
 	SIZE(ring.digest.block_context.BlockContext.update, 944)
 
-	CODE(ring_core.digest.sha2.blocks.run_ahead.00e266d2aa29b734)
+	CODE(ring_core.digest.sha2.by_fours.run_ahead.34389943500e16fa)
 	.p2align 4
-/* ring_core::digest::sha2::blocks::run_ahead::<#00e266d2aa29b734> */
-	TYPE(ring_core.digest.sha2.blocks.run_ahead.00e266d2aa29b734, %function)
-ring_core.digest.sha2.blocks.run_ahead.00e266d2aa29b734:
+/* ring_core::digest::sha2::by_fours::run_ahead::<#34389943500e16fa> */
+	TYPE(ring_core.digest.sha2.by_fours.run_ahead.34389943500e16fa, %function)
+ring_core.digest.sha2.by_fours.run_ahead.34389943500e16fa:
 	push %rbp
 	push %r15
 	push %r14
@@ -38212,13 +38212,13 @@ L(132_0):
 	pop %r15
 	pop %rbp
 	ret
-	SIZE(ring_core.digest.sha2.blocks.run_ahead.00e266d2aa29b734, 4541)
+	SIZE(ring_core.digest.sha2.by_fours.run_ahead.34389943500e16fa, 4541)
 
-	CODE(ring_core.digest.sha1.blocks.run_ahead)
+	CODE(ring_core.digest.sha1.by_fours.run_ahead)
 	.p2align 4
-/* ring_core::digest::sha1::blocks::run_ahead */
-	TYPE(ring_core.digest.sha1.blocks.run_ahead, %function)
-ring_core.digest.sha1.blocks.run_ahead:
+/* ring_core::digest::sha1::by_fours::run_ahead */
+	TYPE(ring_core.digest.sha1.by_fours.run_ahead, %function)
+ring_core.digest.sha1.by_fours.run_ahead:
 	push %rbx
 	mov (%rsi),%edx
 	mov 0x4(%rsi),%ecx
@@ -39260,13 +39260,13 @@ ring_core.digest.sha1.blocks.run_ahead:
 	movdqu %xmm0,0x4(%rsi)
 	pop %rbx
 	ret
-	SIZE(ring_core.digest.sha1.blocks.run_ahead, 3821)
+	SIZE(ring_core.digest.sha1.by_fours.run_ahead, 3821)
 
-	CODE(ring_core.digest.sha2.blocks.run_ahead.ea37ceaea72c2e87)
+	CODE(ring_core.digest.sha2.by_fours.run_ahead.99accd9fe8f0e06d)
 	.p2align 4
-/* ring_core::digest::sha2::blocks::run_ahead::<#ea37ceaea72c2e87> */
-	TYPE(ring_core.digest.sha2.blocks.run_ahead.ea37ceaea72c2e87, %function)
-ring_core.digest.sha2.blocks.run_ahead.ea37ceaea72c2e87:
+/* ring_core::digest::sha2::by_fours::run_ahead::<#99accd9fe8f0e06d> */
+	TYPE(ring_core.digest.sha2.by_fours.run_ahead.99accd9fe8f0e06d, %function)
+ring_core.digest.sha2.by_fours.run_ahead.99accd9fe8f0e06d:
 	push %rbp
 	push %r15
 	push %r14
@@ -40313,7 +40313,7 @@ L(136_0):
 	pop %r15
 	pop %rbp
 	ret
-	SIZE(ring_core.digest.sha2.blocks.run_ahead.ea37ceaea72c2e87, 3661)
+	SIZE(ring_core.digest.sha2.by_fours.run_ahead.99accd9fe8f0e06d, 3661)
 
 	CODE(ring.digest.block_context.write_tail)
 	.p2align 4
@@ -40528,7 +40528,7 @@ L(140_0):
 	movdqa %xmm4,0x50(%rsp)
 	lea 0x20(%rsp),%rdi
 	mov %rsp,%rsi
-	call ring_core.digest.sha2.blocks.run_ahead.ea37ceaea72c2e87
+	call ring_core.digest.sha2.by_fours.run_ahead.99accd9fe8f0e06d
 	mov (%r14),%rax
 	mov 0x8(%r14),%rcx
 	add $0x1,%rax
@@ -40599,7 +40599,7 @@ L(140_2):
 	movdqu %xmm8,0x80(%rsp)
 	lea 0x20(%rsp),%rdi
 	lea 0xa0(%rsp),%rsi
-	call ring_core.digest.sha2.blocks.run_ahead.00e266d2aa29b734
+	call ring_core.digest.sha2.by_fours.run_ahead.34389943500e16fa
 	mov (%r14),%rax
 	mov 0x8(%r14),%rcx
 	add $0x1,%rax
@@ -40654,7 +40654,7 @@ L(140_5):
 	movdqa %xmm4,0x50(%rsp)
 	lea 0x20(%rsp),%rdi
 	mov %rsp,%rsi
-	call ring_core.digest.sha1.blocks.run_ahead
+	call ring_core.digest.sha1.by_fours.run_ahead
 	add $0x1,%r13
 	adc $0x0,%rbp
 	mov $0xffffffffffffffff,%rax
@@ -42123,11 +42123,11 @@ L(146_70):
 	jmp L(146_59)
 	SIZE(ring.digest.context.Context.go_on, 2062)
 
-	CODE(ring.digest.lanes.algorithms.InVectorLaneStates.new.70852ce4d05a0001)
+	CODE(ring.digest.lanes.algorithms.InVectorLaneStates.new.1dec229e782056ab)
 	.p2align 4
-/* ring::digest::lanes::algorithms::InVectorLaneStates::new::<#70852ce4d05a0001> */
-	TYPE(ring.digest.lanes.algorithms.InVectorLaneStates.new.70852ce4d05a0001, %function)
-ring.digest.lanes.algorithms.InVectorLaneStates.new.70852ce4d05a0001:
+/* ring::digest::lanes::algorithms::InVectorLaneStates::new::<#1dec229e782056ab> */
+	TYPE(ring.digest.lanes.algorithms.InVectorLaneStates.new.1dec229e782056ab, %function)
+ring.digest.lanes.algorithms.InVectorLaneStates.new.1dec229e782056ab:
 	cmpb $0x1,(%rsi)
 	jne L(148_0)
 	cmpb $0x1,0x48(%rsi)
@@ -42179,7 +42179,7 @@ ring.digest.lanes.algorithms.InVectorLaneStates.new.70852ce4d05a0001:
 	ret
 L(148_0):
 	ud2
-	SIZE(ring.digest.lanes.algorithms.InVectorLaneStates.new.70852ce4d05a0001, 343)
+	SIZE(ring.digest.lanes.algorithms.InVectorLaneStates.new.1dec229e782056ab, 343)
 
 	CODE(ring_sums.names.append_escaped)
 	.p2align 4

@@ -32077,7 +32077,7 @@ L(131_0):
 	vmovdqa %xmm4,0x50(%rsp)
 	lea 0x20(%rsp),%rdi
 	mov %r12,%rsi
-	call ring_core.digest.sha2.blocks.run_ahead.ea37ceaea72c2e87
+	call ring_core.digest.sha2.by_fours.run_ahead.99accd9fe8f0e06d
 	mov (%r15),%rax
 	mov 0x8(%r15),%rcx
 	add $0x1,%rax
@@ -32113,7 +32113,7 @@ L(131_1):
 	vmovdqa %xmm4,0x50(%rsp)
 	lea 0x20(%rsp),%rdi
 	mov %r12,%rsi
-	call ring_core.digest.sha1.blocks.run_ahead
+	call ring_core.digest.sha1.by_fours.run_ahead
 	mov (%r15),%rax
 	mov 0x8(%r15),%rcx
 	add $0x1,%rax
@@ -32159,7 +32159,7 @@ L(131_4):
 	vmovdqu %ymm4,0x80(%rsp)
 	lea 0x20(%rsp),%rdi
 	mov %r12,%rsi
-	call ring_core.digest.sha2.blocks.run_ahead.00e266d2aa29b734
+	call ring_core.digest.sha2.by_fours.run_ahead.34389943500e16fa
 	mov (%r15),%rax
 	mov 0x8(%r15),%rcx
 	add $0x1,%rax
@@ -32203,11 +32203,11 @@ L(131_7):
 	ret
 	SIZE(ring.digest.block_context.BlockContext.update, 751)
 
-	CODE(ring_core.digest.sha2.blocks.run_ahead.00e266d2aa29b734)
+	CODE(ring_core.digest.sha2.by_fours.run_ahead.34389943500e16fa)
 	.p2align 4
-/* ring_core::digest::sha2::blocks::run_ahead::<#00e266d2aa29b734> */
-	TYPE(ring_core.digest.sha2.blocks.run_ahead.00e266d2aa29b734, %function)
-ring_core.digest.sha2.blocks.run_ahead.00e266d2aa29b734:
+/* ring_core::digest::sha2::by_fours::run_ahead::<#34389943500e16fa> */
+	TYPE(ring_core.digest.sha2.by_fours.run_ahead.34389943500e16fa, %function)
+ring_core.digest.sha2.by_fours.run_ahead.34389943500e16fa:
 	push %rbp
 	push %r15
 	push %r14
@@ -33178,13 +33178,13 @@ L(133_0):
 	pop %rbp
 	vzeroupper
 	ret
-	SIZE(ring_core.digest.sha2.blocks.run_ahead.00e266d2aa29b734, 3913)
+	SIZE(ring_core.digest.sha2.by_fours.run_ahead.34389943500e16fa, 3913)
 
-	CODE(ring_core.digest.sha1.blocks.run_ahead)
+	CODE(ring_core.digest.sha1.by_fours.run_ahead)
 	.p2align 4
-/* ring_core::digest::sha1::blocks::run_ahead */
-	TYPE(ring_core.digest.sha1.blocks.run_ahead, %function)
-ring_core.digest.sha1.blocks.run_ahead:
+/* ring_core::digest::sha1::by_fours::run_ahead */
+	TYPE(ring_core.digest.sha1.by_fours.run_ahead, %function)
+ring_core.digest.sha1.by_fours.run_ahead:
 	push %rbp
 	push %rbx
 	mov (%rsi),%eax
@@ -34073,13 +34073,13 @@ ring_core.digest.sha1.blocks.run_ahead:
 	pop %rbx
 	pop %rbp
 	ret
-	SIZE(ring_core.digest.sha1.blocks.run_ahead, 3490)
+	SIZE(ring_core.digest.sha1.by_fours.run_ahead, 3490)
 
-	CODE(ring_core.digest.sha2.blocks.run_ahead.ea37ceaea72c2e87)
+	CODE(ring_core.digest.sha2.by_fours.run_ahead.99accd9fe8f0e06d)
 	.p2align 4
-/* ring_core::digest::sha2::blocks::run_ahead::<#ea37ceaea72c2e87> */
-	TYPE(ring_core.digest.sha2.blocks.run_ahead.ea37ceaea72c2e87, %function)
-ring_core.digest.sha2.blocks.run_ahead.ea37ceaea72c2e87:
+/* ring_core::digest::sha2::by_fours::run_ahead::<#99accd9fe8f0e06d> */
+	TYPE(ring_core.digest.sha2.by_fours.run_ahead.99accd9fe8f0e06d, %function)
+ring_core.digest.sha2.by_fours.run_ahead.99accd9fe8f0e06d:
 	push %rbp
 	push %r15
 	push %r14
@@ -35023,7 +35023,7 @@ L(137_0):
 	pop %r15
 	pop %rbp
 	ret
-	SIZE(ring_core.digest.sha2.blocks.run_ahead.ea37ceaea72c2e87, 3638)
+	SIZE(ring_core.digest.sha2.by_fours.run_ahead.99accd9fe8f0e06d, 3638)
 
 	CODE(ring.digest.block_context.write_tail)
 	.p2align 4
@@ -35245,7 +35245,7 @@ L(141_0):
 	lea 0x20(%rsp),%rdi
 	mov %rsp,%rsi
 	vzeroupper
-	call ring_core.digest.sha2.blocks.run_ahead.ea37ceaea72c2e87
+	call ring_core.digest.sha2.by_fours.run_ahead.99accd9fe8f0e06d
 	mov (%r14),%rax
 	mov 0x8(%r14),%rcx
 	add $0x1,%rax
@@ -35287,7 +35287,7 @@ L(141_2):
 	vmovdqu %ymm4,0x80(%rsp)
 	lea 0x20(%rsp),%rdi
 	lea 0xa0(%rsp),%rsi
-	call ring_core.digest.sha2.blocks.run_ahead.00e266d2aa29b734
+	call ring_core.digest.sha2.by_fours.run_ahead.34389943500e16fa
 	mov (%r14),%rax
 	mov 0x8(%r14),%rcx
 	add $0x1,%rax
@@ -35336,7 +35336,7 @@ L(141_5):
 	lea 0x20(%rsp),%rdi
 	mov %rsp,%rsi
 	vzeroupper
-	call ring_core.digest.sha1.blocks.run_ahead
+	call ring_core.digest.sha1.by_fours.run_ahead
 	add $0x1,%r13
 	adc $0x0,%rbp
 	mov $0xffffffffffffffff,%rax
@@ -35496,10 +35496,10 @@ L(143_0):
 	call ring.digest.updates.states_of
 	lea 0x690(%rsp),%rdi
 	mov %r15,%rsi
-	call ring.digest.lanes.algorithms.InVectorLaneStates.new.9d726c372ff9d5dd
+	call ring.digest.lanes.algorithms.InVectorLaneStates.new.26c9d3bed12d49a6
 	test %r12,%r12
 	je L(143_4)
-	lea 0x7e0(%rsp),%rax
+	lea 0x960(%rsp),%rax
 	vmovdqu 0x690(%rsp),%ymm14
 	vmovdqu 0x6b0(%rsp),%ymm12
 	vmovdqu 0x6d0(%rsp),%ymm7
@@ -35527,32 +35527,32 @@ L(143_1):
 	mov 0x650(%rsp),%r8
 	vmovups (%r8,%rdi,1),%ymm0
 	vmovups 0x20(%r8,%rdi,1),%ymm1
-	vmovups %ymm1,0x20(%rax)
-	vmovups %ymm0,(%rax)
+	vmovups %ymm1,-0x160(%rax)
+	vmovups %ymm0,-0x180(%rax)
 	vmovups (%r11,%rdi,1),%ymm0
 	vmovups 0x20(%r11,%rdi,1),%ymm1
-	vmovups %ymm1,0x60(%rax)
-	vmovups %ymm0,0x40(%rax)
+	vmovups %ymm1,-0x120(%rax)
+	vmovups %ymm0,-0x140(%rax)
 	vmovups (%r9,%rdi,1),%ymm0
 	vmovups 0x20(%r9,%rdi,1),%ymm1
-	vmovups %ymm1,0xa0(%rax)
-	vmovups %ymm0,0x80(%rax)
+	vmovups %ymm1,-0xe0(%rax)
+	vmovups %ymm0,-0x100(%rax)
 	vmovups (%r15,%rdi,1),%ymm0
 	vmovups 0x20(%r15,%rdi,1),%ymm1
-	vmovups %ymm1,0xe0(%rax)
-	vmovups %ymm0,0xc0(%rax)
+	vmovups %ymm1,-0xa0(%rax)
+	vmovups %ymm0,-0xc0(%rax)
 	vmovups (%r10,%rdi,1),%ymm0
 	vmovups 0x20(%r10,%rdi,1),%ymm1
-	vmovups %ymm1,0x120(%rax)
-	vmovups %ymm0,0x100(%rax)
+	vmovups %ymm1,-0x60(%rax)
+	vmovups %ymm0,-0x80(%rax)
 	vmovups 0x0(%rbp,%rdi,1),%ymm0
 	vmovups 0x20(%rbp,%rdi,1),%ymm1
-	vmovups %ymm1,0x160(%rax)
-	vmovups %ymm0,0x140(%rax)
+	vmovups %ymm1,-0x20(%rax)
+	vmovups %ymm0,-0x40(%rax)
 	vmovups 0x0(%r13,%rdi,1),%ymm0
 	vmovups 0x20(%r13,%rdi,1),%ymm1
-	vmovups %ymm1,0x1a0(%rax)
-	vmovups %ymm0,0x180(%rax)
+	vmovups %ymm1,0x20(%rax)
+	vmovups %ymm0,(%rax)
 	vxorps %xmm0,%xmm0,%xmm0
 	vmovups %ymm0,0x550(%rsp)
 	vmovups %ymm0,0x530(%rsp)
@@ -35571,7 +35571,7 @@ L(143_1):
 	vmovups %ymm0,0x390(%rsp)
 	vmovups %ymm0,0x370(%rsp)
 	xor %edi,%edi
-	{disp8} nopw 0x0(%rax,%rax,1)
+	.byte 0x66, 0x66, 0x66, 0x2e, 0x0f, 0x1f, 0x84, 0x00, 0x00, 0x00, 0x00, 0x00 /* data16 data16 cs nopw 0x0(%rax,%rax,1) */
 L(143_2):
 	vmovd 0x8a0(%rsp,%rdi,1),%xmm0
 	vpinsrd $0x1,0x8e0(%rsp,%rdi,1),%xmm0,%xmm0
@@ -37200,7 +37200,7 @@ L(143_4):
 	mov %r15,%rsi
 	xor %edx,%edx
 	vzeroupper
-	call ring_core.digest.states.States.state.cb034a754ad9101c
+	call ring_core.digest.states.States.state.b0ee768f1ccd0f09
 	movl $0x1,0x370(%rsp)
 	vpxor %xmm0,%xmm0,%xmm0
 	vmovdqu %ymm0,0x394(%rsp)
@@ -37220,7 +37220,7 @@ L(143_4):
 	mov $0x1,%edx
 	mov %rbp,%rdi
 	mov %r15,%rsi
-	call ring_core.digest.states.States.state.cb034a754ad9101c
+	call ring_core.digest.states.States.state.b0ee768f1ccd0f09
 	vmovups 0x580(%rsp),%ymm0
 	movl $0x1,0x370(%rsp)
 	vpxor %xmm1,%xmm1,%xmm1
@@ -37238,7 +37238,7 @@ L(143_4):
 	mov $0x2,%edx
 	mov %rbp,%rdi
 	mov %r15,%rsi
-	call ring_core.digest.states.States.state.cb034a754ad9101c
+	call ring_core.digest.states.States.state.b0ee768f1ccd0f09
 	vmovups 0x580(%rsp),%ymm0
 	movl $0x1,0x370(%rsp)
 	vpxor %xmm1,%xmm1,%xmm1
@@ -37256,7 +37256,7 @@ L(143_4):
 	mov $0x3,%edx
 	mov %rbp,%rdi
 	mov %r15,%rsi
-	call ring_core.digest.states.States.state.cb034a754ad9101c
+	call ring_core.digest.states.States.state.b0ee768f1ccd0f09
 	vmovups 0x580(%rsp),%ymm0
 	movl $0x1,0x370(%rsp)
 	vpxor %xmm1,%xmm1,%xmm1
@@ -37274,7 +37274,7 @@ L(143_4):
 	mov $0x4,%edx
 	mov %rbp,%rdi
 	mov %r15,%rsi
-	call ring_core.digest.states.States.state.cb034a754ad9101c
+	call ring_core.digest.states.States.state.b0ee768f1ccd0f09
 	vmovups 0x580(%rsp),%ymm0
 	movl $0x1,0x370(%rsp)
 	vpxor %xmm1,%xmm1,%xmm1
@@ -37292,7 +37292,7 @@ L(143_4):
 	mov $0x5,%edx
 	mov %rbp,%rdi
 	mov %r15,%rsi
-	call ring_core.digest.states.States.state.cb034a754ad9101c
+	call ring_core.digest.states.States.state.b0ee768f1ccd0f09
 	vmovups 0x580(%rsp),%ymm0
 	movl $0x1,0x370(%rsp)
 	vpxor %xmm1,%xmm1,%xmm1
@@ -37310,7 +37310,7 @@ L(143_4):
 	mov $0x6,%edx
 	mov %rbp,%rdi
 	mov %r15,%rsi
-	call ring_core.digest.states.States.state.cb034a754ad9101c
+	call ring_core.digest.states.States.state.b0ee768f1ccd0f09
 	vmovups 0x580(%rsp),%ymm0
 	movl $0x1,0x370(%rsp)
 	vpxor %xmm1,%xmm1,%xmm1
@@ -37328,7 +37328,7 @@ L(143_4):
 	mov $0x7,%edx
 	mov %rbp,%rdi
 	mov %r15,%rsi
-	call ring_core.digest.states.States.state.cb034a754ad9101c
+	call ring_core.digest.states.States.state.b0ee768f1ccd0f09
 	vmovdqu 0x580(%rsp),%ymm0
 	movl $0x1,0x370(%rsp)
 	vpxor %xmm1,%xmm1,%xmm1
@@ -37398,7 +37398,7 @@ L(143_6):
 	call ring.digest.updates.states_of
 	lea 0x370(%rsp),%rdi
 	mov %rbp,%rsi
-	call ring.digest.lanes.algorithms.InVectorLaneStates.new.14a379536773f0b1
+	call ring.digest.lanes.algorithms.InVectorLaneStates.new.e6d14612b367b3d3
 	vmovdqu 0x370(%rsp),%ymm6
 	vmovdqu 0x390(%rsp),%ymm4
 	vmovdqu 0x3b0(%rsp),%ymm2
@@ -39251,7 +39251,7 @@ L(143_11):
 	call ring.digest.updates.states_of
 	lea 0x690(%rsp),%rdi
 	mov %r13,%rsi
-	call ring.digest.lanes.algorithms.InVectorLaneStates.new.70852ce4d05a0001
+	call ring.digest.lanes.algorithms.InVectorLaneStates.new.1dec229e782056ab
 	vmovdqa 0x690(%rsp),%xmm10
 	vmovdqa 0x6a0(%rsp),%xmm6
 	vmovdqa 0x6b0(%rsp),%xmm8
@@ -41269,11 +41269,11 @@ L(143_18):
 	call ring.digest.updates.states_of
 	lea 0x690(%rsp),%rdi
 	mov %rbp,%rsi
-	call ring.digest.lanes.algorithms.InVectorLaneStates.new.9d726c372ff9d5dd
+	call ring.digest.lanes.algorithms.InVectorLaneStates.new.26c9d3bed12d49a6
 	test %r15,%r15
 	je L(143_21)
 	mov %r12,0x798(%rsp)
-	lea 0x7e0(%rsp),%rax
+	lea 0x960(%rsp),%rax
 	vmovdqu 0x690(%rsp),%ymm6
 	vmovdqu 0x6b0(%rsp),%ymm5
 	vmovdqu 0x6d0(%rsp),%ymm4
@@ -41298,33 +41298,33 @@ L(143_19):
 	mov 0x630(%rsp),%r12
 	vmovups (%r12,%rdi,1),%ymm0
 	vmovups 0x20(%r12,%rdi,1),%ymm1
-	vmovups %ymm1,0x20(%rax)
-	vmovups %ymm0,(%rax)
+	vmovups %ymm1,-0x160(%rax)
+	vmovups %ymm0,-0x180(%rax)
 	vmovups 0x0(%rbp,%rdi,1),%ymm0
 	vmovups 0x20(%rbp,%rdi,1),%ymm1
-	vmovups %ymm1,0x60(%rax)
-	vmovups %ymm0,0x40(%rax)
+	vmovups %ymm1,-0x120(%rax)
+	vmovups %ymm0,-0x140(%rax)
 	vmovups (%r10,%rdi,1),%ymm0
 	vmovups 0x20(%r10,%rdi,1),%ymm1
-	vmovups %ymm1,0xa0(%rax)
-	vmovups %ymm0,0x80(%rax)
+	vmovups %ymm1,-0xe0(%rax)
+	vmovups %ymm0,-0x100(%rax)
 	mov 0x650(%rsp),%r12
 	vmovups (%r12,%rdi,1),%ymm0
 	vmovups 0x20(%r12,%rdi,1),%ymm1
-	vmovups %ymm1,0xe0(%rax)
-	vmovups %ymm0,0xc0(%rax)
+	vmovups %ymm1,-0xa0(%rax)
+	vmovups %ymm0,-0xc0(%rax)
 	vmovups (%r11,%rdi,1),%ymm0
 	vmovups 0x20(%r11,%rdi,1),%ymm1
-	vmovups %ymm1,0x120(%rax)
-	vmovups %ymm0,0x100(%rax)
+	vmovups %ymm1,-0x60(%rax)
+	vmovups %ymm0,-0x80(%rax)
 	vmovups (%r9,%rdi,1),%ymm0
 	vmovups 0x20(%r9,%rdi,1),%ymm1
-	vmovups %ymm1,0x160(%rax)
-	vmovups %ymm0,0x140(%rax)
+	vmovups %ymm1,-0x20(%rax)
+	vmovups %ymm0,-0x40(%rax)
 	vmovups (%r8,%rdi,1),%ymm0
 	vmovups 0x20(%r8,%rdi,1),%ymm1
-	vmovups %ymm1,0x1a0(%rax)
-	vmovups %ymm0,0x180(%rax)
+	vmovups %ymm1,0x20(%rax)
+	vmovups %ymm0,(%rax)
 	vxorps %xmm0,%xmm0,%xmm0
 	vmovups %ymm0,0x550(%rsp)
 	vmovups %ymm0,0x530(%rsp)
@@ -41343,7 +41343,7 @@ L(143_19):
 	vmovups %ymm0,0x390(%rsp)
 	vmovups %ymm0,0x370(%rsp)
 	xor %edi,%edi
-	{disp8} nopw 0x0(%rax,%rax,1)
+	.byte 0x66, 0x66, 0x66, 0x2e, 0x0f, 0x1f, 0x84, 0x00, 0x00, 0x00, 0x00, 0x00 /* data16 data16 cs nopw 0x0(%rax,%rax,1) */
 L(143_20):
 	vmovd 0x8a0(%rsp,%rdi,1),%xmm0
 	vpinsrd $0x1,0x8e0(%rsp,%rdi,1),%xmm0,%xmm0
@@ -42971,7 +42971,7 @@ L(143_21):
 	mov %r13,%rbp
 	xor %edx,%edx
 	vzeroupper
-	call ring_core.digest.states.States.state.cb034a754ad9101c
+	call ring_core.digest.states.States.state.b0ee768f1ccd0f09
 	movl $0x1,0x370(%rsp)
 	vpxor %xmm0,%xmm0,%xmm0
 	vmovdqu %ymm0,0x394(%rsp)
@@ -42991,7 +42991,7 @@ L(143_21):
 	lea 0x580(%rsp),%rdi
 	lea 0x690(%rsp),%rbp
 	mov %rbp,%rsi
-	call ring_core.digest.states.States.state.cb034a754ad9101c
+	call ring_core.digest.states.States.state.b0ee768f1ccd0f09
 	vmovups 0x580(%rsp),%ymm0
 	movl $0x1,0x370(%rsp)
 	vpxor %xmm1,%xmm1,%xmm1
@@ -43010,7 +43010,7 @@ L(143_21):
 	lea 0x580(%rsp),%rdi
 	mov %rdi,%r12
 	mov %rbp,%rsi
-	call ring_core.digest.states.States.state.cb034a754ad9101c
+	call ring_core.digest.states.States.state.b0ee768f1ccd0f09
 	vmovups 0x580(%rsp),%ymm0
 	movl $0x1,0x370(%rsp)
 	vpxor %xmm1,%xmm1,%xmm1
@@ -43028,7 +43028,7 @@ L(143_21):
 	mov $0x3,%edx
 	mov %r12,%rdi
 	mov %rbp,%rsi
-	call ring_core.digest.states.States.state.cb034a754ad9101c
+	call ring_core.digest.states.States.state.b0ee768f1ccd0f09
 	vmovups 0x580(%rsp),%ymm0
 	movl $0x1,0x370(%rsp)
 	vpxor %xmm1,%xmm1,%xmm1
@@ -43046,7 +43046,7 @@ L(143_21):
 	mov $0x4,%edx
 	mov %r12,%rdi
 	mov %rbp,%rsi
-	call ring_core.digest.states.States.state.cb034a754ad9101c
+	call ring_core.digest.states.States.state.b0ee768f1ccd0f09
 	vmovups 0x580(%rsp),%ymm0
 	movl $0x1,0x370(%rsp)
 	vpxor %xmm1,%xmm1,%xmm1
@@ -43064,7 +43064,7 @@ L(143_21):
 	mov $0x5,%edx
 	mov %r12,%rdi
 	mov %rbp,%rsi
-	call ring_core.digest.states.States.state.cb034a754ad9101c
+	call ring_core.digest.states.States.state.b0ee768f1ccd0f09
 	vmovups 0x580(%rsp),%ymm0
 	movl $0x1,0x370(%rsp)
 	vpxor %xmm1,%xmm1,%xmm1
@@ -43082,7 +43082,7 @@ L(143_21):
 	mov $0x6,%edx
 	mov %r12,%rdi
 	mov %rbp,%rsi
-	call ring_core.digest.states.States.state.cb034a754ad9101c
+	call ring_core.digest.states.States.state.b0ee768f1ccd0f09
 	vmovups 0x580(%rsp),%ymm0
 	movl $0x1,0x370(%rsp)
 	vpxor %xmm1,%xmm1,%xmm1
@@ -43100,7 +43100,7 @@ L(143_21):
 	mov $0x7,%edx
 	mov %r12,%rdi
 	mov %rbp,%rsi
-	call ring_core.digest.states.States.state.cb034a754ad9101c
+	call ring_core.digest.states.States.state.b0ee768f1ccd0f09
 	vmovdqu 0x580(%rsp),%ymm0
 	movl $0x1,0x370(%rsp)
 	vpxor %xmm1,%xmm1,%xmm1
@@ -43165,7 +43165,7 @@ L(143_23):
 	call ring.digest.updates.states_of
 	lea 0x690(%rsp),%rdi
 	mov %r13,%rsi
-	call ring.digest.lanes.algorithms.InVectorLaneStates.new.70852ce4d05a0001
+	call ring.digest.lanes.algorithms.InVectorLaneStates.new.1dec229e782056ab
 	vmovdqa 0x690(%rsp),%xmm10
 	vmovdqa 0x6a0(%rsp),%xmm13
 	vmovdqa 0x6b0(%rsp),%xmm6
@@ -46275,11 +46275,11 @@ L(147_27):
 	jmp L(147_14)
 	SIZE(ring.digest.updates.states_of, 4255)
 
-	CODE(ring_core.digest.states.States.new.cb034a754ad9101c)
+	CODE(ring_core.digest.states.States.new.b0ee768f1ccd0f09)
 	.p2align 4
-/* ring_core::digest::states::States::new::<#cb034a754ad9101c> */
-	TYPE(ring_core.digest.states.States.new.cb034a754ad9101c, %function)
-ring_core.digest.states.States.new.cb034a754ad9101c:
+/* ring_core::digest::states::States::new::<#b0ee768f1ccd0f09> */
+	TYPE(ring_core.digest.states.States.new.b0ee768f1ccd0f09, %function)
+ring_core.digest.states.States.new.b0ee768f1ccd0f09:
 	vmovd 0x18(%rsi),%xmm0
 	vpinsrd $0x1,0x38(%rsi),%xmm0,%xmm0
 	vpinsrd $0x2,0x58(%rsi),%xmm0,%xmm0
@@ -46361,13 +46361,13 @@ ring_core.digest.states.States.new.cb034a754ad9101c:
 	vmovdqu %xmm15,0xf0(%rdi)
 	vmovdqu %xmm14,0xe0(%rdi)
 	ret
-	SIZE(ring_core.digest.states.States.new.cb034a754ad9101c, 615)
+	SIZE(ring_core.digest.states.States.new.b0ee768f1ccd0f09, 615)
 
-	CODE(ring_core.digest.states.States.state.cb034a754ad9101c)
+	CODE(ring_core.digest.states.States.state.b0ee768f1ccd0f09)
 	.p2align 4
-/* ring_core::digest::states::States::state::<#cb034a754ad9101c> */
-	TYPE(ring_core.digest.states.States.state.cb034a754ad9101c, %function)
-ring_core.digest.states.States.state.cb034a754ad9101c:
+/* ring_core::digest::states::States::state::<#b0ee768f1ccd0f09> */
+	TYPE(ring_core.digest.states.States.state.b0ee768f1ccd0f09, %function)
+ring_core.digest.states.States.state.b0ee768f1ccd0f09:
 	push %rbx
 	vmovups (%rsi),%ymm0
 	vmovups %ymm0,-0x20(%rsp)
@@ -46404,7 +46404,7 @@ ring_core.digest.states.States.state.cb034a754ad9101c:
 	pop %rbx
 	vzeroupper
 	ret
-	SIZE(ring_core.digest.states.States.state.cb034a754ad9101c, 168)
+	SIZE(ring_core.digest.states.States.state.b0ee768f1ccd0f09, 168)
 
 	CODE(ring.digest.context.Context.go_on)
 	.p2align 4
@@ -47065,11 +47065,11 @@ L(151_70):
 	jmp L(151_59)
 	SIZE(ring.digest.context.Context.go_on, 2367)
 
-	CODE(ring.digest.lanes.algorithms.InVectorLaneStates.new.9d726c372ff9d5dd)
+	CODE(ring.digest.lanes.algorithms.InVectorLaneStates.new.26c9d3bed12d49a6)
 	.p2align 4
-/* ring::digest::lanes::algorithms::InVectorLaneStates::new::<#9d726c372ff9d5dd> */
-	TYPE(ring.digest.lanes.algorithms.InVectorLaneStates.new.9d726c372ff9d5dd, %function)
-ring.digest.lanes.algorithms.InVectorLaneStates.new.9d726c372ff9d5dd:
+/* ring::digest::lanes::algorithms::InVectorLaneStates::new::<#26c9d3bed12d49a6> */
+	TYPE(ring.digest.lanes.algorithms.InVectorLaneStates.new.26c9d3bed12d49a6, %function)
+ring.digest.lanes.algorithms.InVectorLaneStates.new.26c9d3bed12d49a6:
 	push %rbx
 	sub $0x300,%rsp
 	vxorps %xmm0,%xmm0,%xmm0
@@ -47131,7 +47131,7 @@ ring.digest.lanes.algorithms.InVectorLaneStates.new.9d726c372ff9d5dd:
 	mov %rsp,%rdi
 	lea 0x200(%rsp),%rsi
 	vzeroupper
-	call ring_core.digest.states.States.new.cb034a754ad9101c
+	call ring_core.digest.states.States.new.b0ee768f1ccd0f09
 	vmovups 0xe0(%rsp),%ymm0
 	vmovups %ymm0,0xe0(%rbx)
 	vmovups 0xc0(%rsp),%ymm0
@@ -47154,13 +47154,13 @@ ring.digest.lanes.algorithms.InVectorLaneStates.new.9d726c372ff9d5dd:
 	ret
 L(153_0):
 	ud2
-	SIZE(ring.digest.lanes.algorithms.InVectorLaneStates.new.9d726c372ff9d5dd, 570)
+	SIZE(ring.digest.lanes.algorithms.InVectorLaneStates.new.26c9d3bed12d49a6, 570)
 
-	CODE(ring.digest.lanes.algorithms.InVectorLaneStates.new.14a379536773f0b1)
+	CODE(ring.digest.lanes.algorithms.InVectorLaneStates.new.e6d14612b367b3d3)
 	.p2align 4
-/* ring::digest::lanes::algorithms::InVectorLaneStates::new::<#14a379536773f0b1> */
-	TYPE(ring.digest.lanes.algorithms.InVectorLaneStates.new.14a379536773f0b1, %function)
-ring.digest.lanes.algorithms.InVectorLaneStates.new.14a379536773f0b1:
+/* ring::digest::lanes::algorithms::InVectorLaneStates::new::<#e6d14612b367b3d3> */
+	TYPE(ring.digest.lanes.algorithms.InVectorLaneStates.new.e6d14612b367b3d3, %function)
+ring.digest.lanes.algorithms.InVectorLaneStates.new.e6d14612b367b3d3:
 	cmpb $0x0,(%rsi)
 	jne L(155_0)
 	cmpb $0x0,0x48(%rsi)
@@ -47238,13 +47238,13 @@ ring.digest.lanes.algorithms.InVectorLaneStates.new.14a379536773f0b1:
 	ret
 L(155_0):
 	ud2
-	SIZE(ring.digest.lanes.algorithms.InVectorLaneStates.new.14a379536773f0b1, 449)
+	SIZE(ring.digest.lanes.algorithms.InVectorLaneStates.new.e6d14612b367b3d3, 449)
 
-	CODE(ring.digest.lanes.algorithms.InVectorLaneStates.new.70852ce4d05a0001)
+	CODE(ring.digest.lanes.algorithms.InVectorLaneStates.new.1dec229e782056ab)
 	.p2align 4
-/* ring::digest::lanes::algorithms::InVectorLaneStates::new::<#70852ce4d05a0001> */
-	TYPE(ring.digest.lanes.algorithms.InVectorLaneStates.new.70852ce4d05a0001, %function)
-ring.digest.lanes.algorithms.InVectorLaneStates.new.70852ce4d05a0001:
+/* ring::digest::lanes::algorithms::InVectorLaneStates::new::<#1dec229e782056ab> */
+	TYPE(ring.digest.lanes.algorithms.InVectorLaneStates.new.1dec229e782056ab, %function)
+ring.digest.lanes.algorithms.InVectorLaneStates.new.1dec229e782056ab:
 	cmpb $0x1,(%rsi)
 	jne L(156_0)
 	cmpb $0x1,0x48(%rsi)
@@ -47296,7 +47296,7 @@ ring.digest.lanes.algorithms.InVectorLaneStates.new.70852ce4d05a0001:
 	ret
 L(156_0):
 	ud2
-	SIZE(ring.digest.lanes.algorithms.InVectorLaneStates.new.70852ce4d05a0001, 343)
+	SIZE(ring.digest.lanes.algorithms.InVectorLaneStates.new.1dec229e782056ab, 343)
 
 	CODE(ring_sums.names.append_escaped)
 	.p2align 4

@@ -336,27 +336,28 @@ impl<H: DigestBlock> PreparedKeys<H> {
             → digest_at H.algorithm (H.lane i) result ≡ hmac_of H.algorithm k m }
         ensures cost { meter.new ≡ raised meter.old H.LANES 0 }
     {
-        let mut digests = Digests {
+        let inside = Digests {
             words: states_in_lanes::<H>(&starts.digests),
         };
-        self.finish_tags(&mut digests, meter);
-        digests
+        let mut tags = inside.clone();
+        self.finish_tags(&inside, &mut tags, meter);
+        tags
     }
 
-    // Replaces each inner digest by the tag of its message, under the key in its lane.
+    // Replaces `tags` by those of the messages whose inner digests are `inside`, under the key in
+    // each lane. The tags are made in place: of a copy the next block would be loaded again.
     #[inline(always)]
-    fn finish_tags(&self, digests: &mut Digests<H>, meter: &mut Meter)
+    fn finish_tags(&self, inside: &Digests<H>, tags: &mut Digests<H>, meter: &mut Meter)
         requires { 0 < H.LANES }
         ensures ok { (i : ℕ) (k m : List ℕ)
             → HasKey H.algorithm (H.lane i) self.now k
-            → digest_at H.algorithm (H.lane i) digests.old
+            → digest_at H.algorithm (H.lane i) inside.now
             ≡ digest_of H.algorithm (inner_block H.algorithm k ++ m)
-            → digest_at H.algorithm (H.lane i) digests.new ≡ hmac_of H.algorithm k m }
+            → digest_at H.algorithm (H.lane i) tags.new ≡ hmac_of H.algorithm k m }
         ensures cost { meter.new ≡ raised meter.old H.LANES 0 }
     {
-        let mut outside = self.outer;
-        H::hash_digests(&mut outside, &digests.words, meter);
-        digests.words = outside;
+        tags.words = self.outer;
+        H::hash_digests(&mut tags.words, &inside.words, meter);
     }
 
     // Replaces each digest by its tag, under the key in its lane: two blocks, from copies of the
@@ -370,9 +371,8 @@ impl<H: DigestBlock> PreparedKeys<H> {
             ≡ hmac_of H.algorithm k (digest_at H.algorithm (H.lane i) digests.old) }
         ensures cost { meter.new ≡ raised meter.old (2 * H.LANES) 0 }
     {
-        let mut inside = self.inner;
-        H::hash_digests(&mut inside, &digests.words, meter);
-        digests.words = inside;
-        self.finish_tags(digests, meter);
+        let mut inside = Digests { words: self.inner };
+        H::hash_digests(&mut inside.words, &digests.words, meter);
+        self.finish_tags(&inside, digests, meter);
     }
 }

@@ -1,7 +1,7 @@
 // SPDX-License-Identifier: ISC
-//! The kernel over a window of sixteen words, which the plain block functions run, and the fastest,
-//! which `ring` runs over one message: both against other implementations, over messages of 0 to 257
-//! bytes and over a block of words.
+//! The kernel over a window of sixteen words, which the plain block functions run, and the fastest
+//! kernel, by which `ring` runs one message: both against other implementations, over messages of 0
+//! to 257 bytes and over a block of words.
 
 ghost use Rattle.std.specs.Prelude.{◌≤◌, length};
 

@@ -30,7 +30,8 @@ import rattle_text
 from planted_bodies import (
     AHEAD_ONCE, COUNTED_ONCE, FEW_DERIVE, NONE_BELOW, NO_ALIAS, NO_MACRO, NO_OTHER_METER,
     NO_OTHER_NAME, NO_OTHER_PLACE, NO_PLAIN_DERIVATION, NO_SECOND, NO_SIGMA_1, NO_VALUE,
-    OF_EACH_FAMILY, OF_ONE_FUNCTION, ONCE, ONE_CALL, ONE_DERIVATION, ONE_ROTATION, PLANTED,
+    NO_NAMED_COUNT, OF_EACH_FAMILY, OF_ONE_FUNCTION, ONCE, ONE_CALL, ONE_DERIVATION, ONE_MAKER,
+    ONE_ROTATION, PLANTED,
 )
 
 # As many files are read again as bodies are planted.
@@ -110,6 +111,11 @@ OF_SHA_2 = ("BIG_SIGMA_0", "BIG_SIGMA_1")
 # its constants.
 ROTATION_OF_SHA_1 = 27
 ROTATIONS_OF_SIGMA_1 = {6, 14}
+# The functions that rotate or shift by a count that has a name, beside which no rule sees one.
+NAMED_COUNTS = {
+    "rotate_left", "small_sigma", "big_sigma", "small_sigma_of_halves",
+    "rotate", "rotate_four", "rotr", "shift", "shift_right",
+}
 # The constants that a round has, each with what finds it in small letters.
 CONSTANTS = {
     "0x5a827999": r"0x5a827999|\b1518500249\b",
@@ -125,8 +131,12 @@ RENAMED = re.compile(
 )
 # And of laws, by their numbers, under which no code here calls them.
 NUMBERED = re.compile(r"\w+ as law_\d+")
-# What makes a meter, by whatever path to its type, and as a value too.
+# What makes a meter, by whatever path to its type, and as a value too. The file of its type has one
+# function that does, and no derive that would.
 MAKES = re.compile(r"\bMeter>?::new\b")
+COST = "crates/ring_core/src/cost.rt"
+MAKES_THERE = re.compile(r"\b(?:Self|Meter) ?(?:\{|::new\()")
+DERIVES_OF_METER = re.compile(r"#\[derive\(([^)]*)\)\]\s*pub struct Meter\b")
 # What may stand between a function's name and its arguments.
 GENERIC = r"(?:::<[^()]*>)?"
 # The standard library calls a conversion of a type under another name.
@@ -447,6 +457,14 @@ def rules_of_meters(places, plain, own):
     yield NO_OTHER_METER, not hidden, hidden
 
 
+def rules_of_the_meter(places, codes):
+    """The rules of the meter's type: each with whether it holds, and what breaks it."""
+    makers = [str(it) for it in places
+              if it.path == COST and MAKES_THERE.search(it.function.body)]
+    derived = DERIVES_OF_METER.findall(codes[COST][1])
+    yield ONE_MAKER, len(makers) == 1 and derived == ["Drop"], makers + derived
+
+
 def is_of_hmac(function, call):
     """Whether it is HMAC's verification, which derives nothing."""
     return function.body[: call.start()].endswith("hmac::")
@@ -564,6 +582,17 @@ def rotations(function):
     return found | {it for it in shifts(body, ">>") if {32 - it, 64 - it} & lefts}
 
 
+def is_by_a_name(function):
+    """Whether a body rotates or shifts by a count that is no number."""
+    body = function.body
+    for call in re.finditer(rf"\b(?:rot\w*|shift_\w+){GENERIC}\(", body):
+        arguments = split(body[call.end() : rattle_text.end_of(body, call.end() - 1) - 1])
+        if arguments and count_in(arguments[-1]) is None:
+            return True
+    counts = re.findall(r" (?:<<|>>)=? (\S+)", body)
+    return not all(re.match(r"(?:[\w:]+::splat\()?\d", it) for it in counts)
+
+
 def rules_of_rounds(places, codes):
     """The rules that the round of each family stands once: each with whether it holds, and what
     breaks it."""
@@ -579,6 +608,9 @@ def rules_of_rounds(places, codes):
     yield ONE_ROTATION, len(found) == 1, found
     found = [str(it) for it in places if ROTATIONS_OF_SIGMA_1 & rotations(it.function)]
     yield NO_SIGMA_1, not found, found
+    found = [str(it) for it in places
+             if is_by_a_name(it.function) and it.function.name not in NAMED_COUNTS]
+    yield NO_NAMED_COUNT, not found, found
     for constant, pattern in CONSTANTS.items():
         found = [path for path, (_, code) in codes.items()
                  for _ in re.findall(pattern, code.lower().replace("_", ""))]
@@ -596,6 +628,7 @@ def rules(files):
     plain = plain_forms(places)
     own = unmetered(places, plain)
     yield from rules_of_meters(places, plain, own)
+    yield from rules_of_the_meter(places, codes)
     yield from rules_of_plain_forms(places, plain)
     yield from rules_without_meters(places, own)
     yield from rules_of_names(codes, own)

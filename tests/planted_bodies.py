@@ -30,6 +30,8 @@ OF_EACH_FAMILY = "each family calls `{}` in one function"
 OF_ONE_FUNCTION = "`{}` stands in one function"
 ONE_ROTATION = "one function rotates left by 5"
 NO_SIGMA_1 = "no function rotates by the numbers of Σ1"
+NO_NAMED_COUNT = "only those of the rotations and of the sigmas take a count that has a name"
+ONE_MAKER = "one function of `cost` makes a meter, and no derive does"
 ARGUMENTS = "PBKDF2_HMAC_SHA256, iterations, salt, password, credential"
 SALT = "use std::num::NonZeroU32;\n"
 CONTEXT = SALT, f"use ring::digest::Context;\n{SALT}"
@@ -42,10 +44,12 @@ C_INFO = "    match Stored::parse(text) {\n"
 C_DERIVATIONS = "crates/ring_c/src/derivations.rt"
 C_VERIFY_IN = "    match pbkdf2::verify_in::<VECTOR_BITS>(\n"
 FINISHED = "crates/ring_schedules/src/tls13/traffic.rt"
-SHA1_BLOCKS = "crates/ring_core/src/digest/sha1/by_fours.rt"
+SHA1_BY_FOURS = "crates/ring_core/src/digest/sha1/by_fours.rt"
 RUN_WORD_BLOCK = (
     "    run_block(sums, state, first, second, third, fourth);\n    meter.add_block();\n"
 )
+COST = "crates/ring_core/src/cost.rt"
+NEW_METER = "    pub fn new() -> Self"
 PUT_SUMS = "    put_first_sums(sums, [first, second, third, fourth]);\n"
 RUN_AHEAD = "    run_ahead(sums, state, first, second, third, fourth);\n"
 EACH = "crates/ring/src/digest/each.rt"
@@ -391,13 +395,13 @@ PLANTED = {
     ),
     "a block of words is run twice": (
         COUNTED_ONCE,
-        SHA1_BLOCKS,
+        SHA1_BY_FOURS,
         RUN_WORD_BLOCK,
         f"    run_block(sums, &mut {{ *state }}, first, second, third, fourth);\n{RUN_WORD_BLOCK}",
     ),
     "the rounds of a block are run twice": (
         AHEAD_ONCE,
-        SHA1_BLOCKS,
+        SHA1_BY_FOURS,
         RUN_AHEAD,
         f"    run_ahead(sums, &mut {{ *state }}, first, second, third, fourth);\n{PUT_SUMS}"
         f"{RUN_AHEAD}",
@@ -449,5 +453,23 @@ PLANTED = {
         "sha2",
         "a, b, c, d, e, f, g, h",
         "h.plus(big_sigma(e, (14, 18, 41))).plus(sum), a, b, c, d, e, f, g",
+    ),
+    "SHA-1's round stands twice, by a rotation whose count has a name": second_round(
+        NO_NAMED_COUNT,
+        "sha1",
+        "a, b, c, d, e",
+        "a.rotr(left).plus(b.bit_xor(c).bit_xor(d)).plus(e).plus(sum), a, b.rotr(2), c, d",
+    ),
+    "a second function makes a meter": (
+        ONE_MAKER,
+        COST,
+        NEW_METER,
+        f"    pub fn fresh() -> Self {{\n        Self::new()\n    }}\n\n{NEW_METER}",
+    ),
+    "a meter is made by a derive": (
+        ONE_MAKER,
+        COST,
+        "#[derive(Drop)]\npub struct Meter",
+        "#[derive(Default, Drop)]\npub struct Meter",
     ),
 }

@@ -51,7 +51,7 @@ def answers(program, lines):
 
 def differing(lines, ours, theirs):
     """The lines that two answer otherwise, with our answers."""
-    if not len(lines) == len(ours) == len(theirs):
+    if not lines or not len(lines) == len(ours) == len(theirs):
         return [("", f"{len(ours)} and {len(theirs)} answers to {len(lines)} lines")]
     return [(line, our) for line, our, their in zip(lines, ours, theirs) if our != their]
 

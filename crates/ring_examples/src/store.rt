@@ -10,9 +10,7 @@ ghost use Rattle.ring_store.specs.Token.{MakerStandsFor, token_of};
 ghost use Rattle.ring_store_text.specs.Text.{IsStore};
 
 use ring::cost::Meter;
-use ring_store::{
-    CREDENTIAL_LEN, DB_SALT_LEN, PasswordStore, StoreError, TOKEN_LEN, TokenMaker,
-};
+use ring_store::{CREDENTIAL_LEN, DB_SALT_LEN, PasswordStore, StoreError, TOKEN_LEN, TokenMaker};
 use ring_store_text::{LoadError, from_text, to_text};
 use std::alloc::Global;
 use std::num::NonZeroU32;

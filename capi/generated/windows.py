@@ -7,8 +7,8 @@
 KIT is a folder of kit.sh that built the crate for x86-64. Its clang compiles the same module once
 more, for Windows. The calls in the file RENAMED get the PREFIX, those in NAMES keep their names,
 and what neither reaches is left out. Changed in the module are the system, the names, and that it
-has tables for unwinding; what changes in the compiler's text is said at `unwindable`, `line_of` and
-`lines`.
+has tables for unwinding and no tail calls; what changes in the compiler's text is said at
+`unwindable`, `line_of` and `lines`.
 """
 
 import pathlib
@@ -22,6 +22,9 @@ MANGLING = "e-m:e-", "e-m:w-"
 # Windows has a function in the place of these probes of the stack; probe.S has it by another name.
 PROBE = "___chkstk_ms", "yz_probe_stack"
 PROBES = '"probe-stack"="inline-asm" "stack-probe-size"="3072"'
+# Behind a frame that is taken down, wine takes a jump to another function for no epilogue, and
+# unwinds a thread that stops there wrongly.
+IN_THEIR_PLACE = 'uwtable "disable-tail-calls"="true"'
 # Arguments of the kit for the other system, and those with a value behind them.
 LEFT_OUT = r"--target=.*|--sysroot=.*|-ffunction-sections|-fdata-sections|-c|-fPIC|module\.bc"
 WITH_VALUE = {"-x", "-o"}
@@ -66,7 +69,7 @@ def for_windows(module, prefix, renamed, names):
         elif line.startswith("attributes #") and "target-cpu" in line:
             if PROBES not in line:
                 refuse(line)
-            line = line.replace(PROBES, "uwtable")
+            line = line.replace(PROBES, IN_THEIR_PLACE)
         elif (it := re.match(r"define (?!internal|private)[^@]*@(\w+)\(", line)):
             if it[1] not in renamed | names:
                 line = line.replace("define ", "define internal ", 1)

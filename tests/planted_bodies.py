@@ -319,9 +319,9 @@ PLANTED = {
         "        match update_each_in::<BITS>(&mut self.contexts, &pieces, &mut Meter::new()) {\n",
         "let _ = ring::digest::digest_counted(&ring::digest::SHA256, &[], &mut Meter::new());",
     ),
-    "the program of lines runs a block under a meter of its own": before(
+    "the program of test lines runs a block under a meter of its own": before(
         "no other crate makes a meter",
-        "crates/ring_lines_main/src/main.rt",
+        "crates/ring_test_lines/src/main.rt",
         "        let answered = answer(rt.alloc(), line.as_str());\n",
         "let _ = ring::digest::digest_counted(&ring::digest::SHA256, &[], &mut "
         "ring::cost::Meter::new());",

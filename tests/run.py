@@ -43,18 +43,18 @@ def ended(program, *words, given=b"", **settings):
     return run.returncode, run.stdout, run.stderr
 
 
-# --- the program of lines ---
+# --- the program of test lines ---
 
 
 def over_lines(lines, **settings):
-    """How a run of the program of lines ends: its status, and its answers."""
+    """How a run of the program of test lines ends: its status, and its answers."""
     text = "".join(f"{line}\n" for line in lines).encode()
-    status, output, _ = ended(built("ring_lines_main"), given=text, **settings)
+    status, output, _ = ended(built("ring_test_lines"), given=text, **settings)
     return status, output.decode().split("\n")[:-1]
 
 
 def answers(lines, **settings):
-    """The answers of the program of lines."""
+    """The answers of the program of test lines."""
     return over_lines(lines, **settings)[1]
 
 
@@ -115,7 +115,7 @@ NO_MEMORY = "out of memory"
 
 
 def fault_of(status, found, wanted):
-    """What is wrong with a run of the program of lines that is short of memory once, or None."""
+    """What is wrong with a run of that program that is short of memory once, or None."""
     others = [it for it in zip(found, wanted) if it[0] not in (it[1], NO_MEMORY)]
     # The program's own requests end it, behind right answers; those of a call are of its line
     # alone.

@@ -1,0 +1,121 @@
+# SPDX-License-Identifier: ISC
+"""A finished ELF library of 64 bits, little endian: its bytes, its names, its instructions."""
+
+import re
+import struct
+import subprocess
+from collections import namedtuple
+
+Segment = namedtuple("Segment", "start end flags offset size")
+Symbol = namedtuple("Symbol", "name start size")
+Line = namedtuple("Line", "at raw text")
+EXECUTE, WRITE, READ = 1, 2, 4
+OBJDUMP = {62: "objdump", 183: "aarch64-linux-gnu-objdump"}
+
+
+class Library:
+    def __init__(self, path):
+        self.path = path
+        with open(path, "rb") as file:
+            self.data = data = file.read()
+        assert data[:6] == b"\x7fELF\x02\x01", "not an ELF file of 64 bits, little endian"
+        self.machine, = struct.unpack_from("<H", data, 18)
+        programs, sections = struct.unpack_from("<QQ", data, 32)
+        _, count, _, section_count, _ = struct.unpack_from("<HHHHH", data, 54)
+        self.segments = []
+        for i in range(count):
+            kind, flags, offset, start, _, size, in_memory, _ = struct.unpack_from(
+                "<IIQQQQQQ", data, programs + 56 * i)
+            if kind == 1:
+                self.segments.append(Segment(start, start + in_memory, flags, offset, size))
+        headers = [struct.unpack_from("<IIQQQQIIQQ", data, sections + 64 * i)
+                   for i in range(section_count)]
+        self.symbols, self.objects = [], []  # functions and variables
+        self.relocated = {}  # by the address of a place: the address that a loader puts there
+        self._read_relocations(headers)
+        for it in headers:
+            if it[1] == 2:
+                names = headers[it[6]][4]
+                for at in range(it[4], it[4] + it[5], 24):
+                    name, info, _, section, value, size = struct.unpack_from("<IBBHQQ", data, at)
+                    end = data.index(0, names + name)
+                    symbol = Symbol(data[names + name:end].decode(), value, size)
+                    if section and info & 15 == 2:
+                        self.symbols.append(symbol)
+                    elif section and info & 15 in (0, 1):
+                        self.objects.append(symbol)
+        self.lines = {}  # by address
+        self._parsed = {}
+
+    def _read_relocations(self, headers):
+        """What a loader writes: addresses of the library's own, and other libraries' functions."""
+        data, slots = self.data, {}
+        for it in headers:
+            if it[1] != 4:
+                continue
+            symbols = headers[it[6]]
+            for at in range(it[4], it[4] + it[5], 24):
+                place, info, addend = struct.unpack_from("<QQq", data, at)
+                kind = info & 0xffffffff
+                if kind in (8, 1027):
+                    self.relocated[place] = addend
+                elif kind in (7, 1026):
+                    name, _, _, section, value, _ = struct.unpack_from(
+                        "<IBBHQQ", data, symbols[4] + 24 * (info >> 32))
+                    start = headers[symbols[6]][4] + name
+                    slots[place] = (data[start:data.index(0, start)].decode(), section and value)
+        self.imports, self.own = {}, {}  # by the address of a stub: a name; an own function
+        if self.machine == 62:
+            code = next(it for it in self.segments if it.flags & EXECUTE)
+            for offset in range(code.offset, code.offset + code.size - 6):
+                if data[offset:offset + 2] == b"\xff\x25":
+                    stub = code.start + offset - code.offset
+                    place = stub + 6 + struct.unpack_from("<i", data, offset + 2)[0]
+                    if place in slots:
+                        name, own = slots[place]
+                        if own:
+                            self.own[stub] = own
+                        else:
+                            self.imports[stub] = name
+
+    def constant(self, address):
+        """A byte that no one can change: of a segment that isn't writable."""
+        for it in self.segments:
+            if it.start <= address < it.start + it.size and not it.flags & WRITE:
+                return self.data[it.offset + address - it.start]
+        raise KeyError(address)
+
+    def functions(self, pattern):
+        """The functions with a name, in the order in which they stand: of each build one."""
+        return sorted((it for it in self.symbols if re.fullmatch(pattern, it.name)),
+                      key=lambda it: it.start)
+
+    def instructions(self, are_used):
+        """The variable by which the library chooses SHA instructions, by its address: its value."""
+        return {it.start: int(are_used) for it in self.objects if it.name == "yz_instructions"}
+
+    def read_lines(self, function):
+        """Reads the instructions of a function, by objdump."""
+        listing = subprocess.run(
+            [OBJDUMP[self.machine], "-dwz", f"--start-address={function.start}",
+             f"--stop-address={function.start + function.size}", self.path],
+            check=True, capture_output=True, text=True).stdout
+        for line in listing.splitlines():
+            if (it := re.match(r" *([0-9a-f]+):\t([0-9a-f ]+?)\s*\t(.*)", line)):
+                raw = bytes.fromhex(it[2])
+                if self.machine == 183:
+                    raw = raw[::-1]
+                text = re.sub(r"\s*(<|#(?= [0-9a-f]+ <)|//).*", "", it[3])
+                self.lines[int(it[1], 16)] = Line(int(it[1], 16), raw, " ".join(text.split()))
+
+    def line(self, address):
+        """The instruction at an address, or None."""
+        if address not in self.lines and (function := self.function_at(address)):
+            self.read_lines(function)
+        return self.lines.get(address)
+
+    def function_at(self, address):
+        for it in self.symbols:
+            if it.start <= address < it.start + it.size:
+                return it
+        return None

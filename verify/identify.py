@@ -1,0 +1,140 @@
+# SPDX-License-Identifier: ISC
+"""Which kernel each function of the library is.
+
+The kit's names end in a number for the types that a function has been made for, and that number
+changes with the sources. So the functions of a name are told apart by what they compute from one
+example, in numbers. This decides only which contract a function has to meet: kernels.py then shows
+it for all inputs. A function that computes none of its kind, as a faulty one, is taken for one of
+those that are left.
+"""
+
+import hashlib
+import re
+from collections import namedtuple
+
+import fips180_4
+import terms
+from machine import Refused, Region, at, run
+
+# A kind of function: the names, what its kernels are, and an example that tells them apart, which
+# gives those kernels that a function may be.
+Kind = namedtuple("Kind", "names kernels example")
+ROOM = 512  # bytes, of each region of an example
+
+
+def bytes_of(name, count=ROOM):
+    return hashlib.shake_128(name.encode()).digest(count)
+
+
+def words_in(data, size, count, lanes=1, lane=0):
+    """Words of a lane, the lowest byte of each first."""
+    places = range(size * lane, size * lane + size * lanes * count, size * lanes)
+    return [int.from_bytes(data[i:i + size], "little") for i in places]
+
+
+def add_regions(state, cpu, names):
+    """A region of numbers for each name, all as arguments."""
+    for register, name in zip(cpu.ARGUMENTS, names):
+        region = Region(name, 0, ROOM, name in ("state", "states", "result", "sums", "meter"), 16)
+        region.cells = {i: terms.constant(it, 8) for i, it in enumerate(bytes_of(name))}
+        state.add_region(region)
+        state.registers[register] = at(name)
+
+
+def content_after(start, name):
+    """The bytes of a region when a function has run, or None where it doesn't come to its end."""
+    try:
+        ends, _ = run(start, limit=100_000)
+    except Refused:
+        return None
+    if len(ends) != 1:
+        return None
+    numbers = [terms.number_of(ends[0].regions[name].cell(i)) for i in range(ROOM)]
+    return None if None in numbers else bytes(numbers)
+
+
+def padding_numbers(function, front):
+    """The rest of a block after the first `front` words, if a block was before it (5.1)."""
+    size = function.width // 8
+    return [1 << (function.width - 1)] + [0] * (14 - front) + [8 * size * (16 + front)]
+
+
+def ahead(cpu, library, symbol, kernels):
+    for kernel in kernels:
+        function = kernel.function
+        size, numbers = function.width // 8, fips180_4.Numbers(function.width)
+        message = words_in(bytes_of("message"), size, 16)
+        start = cpu.start_state(library, symbol)
+        add_regions(start, cpu, ["sums", "state"])
+        sums = [numbers.add(*it) for it in zip(message, fips180_4.first_constants(function))]
+        for i, it in enumerate(b"".join(it.to_bytes(size, "little") for it in sums)):
+            start.regions["sums"].cells[i] = terms.constant(it, 8)
+        cpu.put_vector_arguments(start, symbol,
+                                 [terms.constant(it, function.width) for it in message])
+        chaining = words_in(bytes_of("state"), size, function.words)
+        expected = fips180_4.next_state(function, numbers, chaining, message)
+        after = content_after(start, "state")
+        if after and words_in(after, size, function.words) == expected:
+            yield kernel
+
+
+def block_of_words(cpu, library, symbol, kernels):
+    start = cpu.start_state(library, symbol)
+    add_regions(start, cpu, ["states", "fronts", "meter"])
+    after = content_after(start, "states")
+    for kernel in kernels:
+        function, lanes, front = kernel
+        size, numbers = function.width // 8, fips180_4.Numbers(function.width)
+        found = [fips180_4.next_state(
+            function, numbers, words_in(bytes_of("states"), size, function.words, lanes, i),
+            words_in(bytes_of("fronts"), size, front, lanes, i) + padding_numbers(function, front))
+            for i in range(lanes)]
+        if after and found == [words_in(after, size, function.words, lanes, i)
+                               for i in range(lanes)]:
+            yield kernel
+
+
+def xor_iterates(cpu, library, symbol, kernels):
+    start = cpu.start_state(library, symbol, library.instructions(False))
+    add_regions(start, cpu, ["result", "inner", "outer", "first", "iterations", "meter"])
+    start.registers[cpu.ARGUMENTS[4]] = terms.constant(2, 64)
+    after = content_after(start, "result")
+    for kernel in kernels:
+        function, lanes, front = kernel
+        size, numbers = function.width // 8, fips180_4.Numbers(function.width)
+        padding, found = padding_numbers(function, front), []
+        for i in range(lanes):
+            first = words_in(bytes_of("first"), size, front, lanes, i)
+            inner, outer = (words_in(bytes_of(name), size, function.words, lanes, i)
+                            for name in ("inner", "outer"))
+            inside = fips180_4.next_state(function, numbers, inner, first + padding)[:front]
+            following = fips180_4.next_state(function, numbers, outer, inside + padding)
+            found.append([x ^ y for x, y in zip(first, following)])
+        if after and found == [words_in(after, size, front, lanes, i) for i in range(lanes)]:
+            yield kernel
+
+
+def assigned(cpu, library, kind):
+    """Pairs of a kernel of a kind, and the functions of one name that are it."""
+    symbols = {}
+    for it in library.functions(kind.names):
+        symbols.setdefault(it.name, []).append(it)
+    found = {}
+    if len(kind.kernels) > 1:
+        for name, builds in symbols.items():
+            for symbol in builds:
+                if name not in found and (
+                        kernel := next(kind.example(cpu, library, symbol, kind.kernels), None)):
+                    found[name] = kernel
+    left = [it for it in kind.kernels if it not in found.values()]
+    for name in symbols:
+        if name not in found:
+            if not left:
+                raise Refused(f"{name}: it computes nothing that a function of this name has to")
+            found[name] = left.pop(0)
+    return [(found[name], builds) for name, builds in symbols.items()]
+
+
+def short_name(name):
+    """A name without the kit's number and the modules."""
+    return re.sub(r"\.[0-9a-f]{16}$", "", name).rpartition(".")[2]

@@ -1,0 +1,392 @@
+# SPDX-License-Identifier: ISC
+"""What each kernel of the library has to do, and the check that it does."""
+
+from collections import namedtuple
+from functools import cache, partial
+
+import arm
+import fips180_4
+import identify
+import terms
+import x86
+from identify import Kind
+from loops import Loop, big_endian_words, find_heads, literals, put_word, word_at
+from machine import Pointer, Refused, Region, at, offset_of, run
+
+ARCHITECTURES = {62: x86, 183: arm}
+
+
+def fresh_words(name, function, count):
+    return [terms.fresh(f"{name}{i}", function.width) for i in range(count)]
+
+
+def same_but(region, before, allowed):
+    """Nothing of a region has changed but the offsets that are allowed."""
+    for offset in range(region.low, region.high):
+        if offset not in allowed and region.cell(offset) != before.cell(offset):
+            raise Refused(f"byte {offset} of {region.name} is changed")
+
+
+def check_words(region, offset, size, expected, what="chaining word"):
+    for j, word in enumerate(expected):
+        if word_at(region, offset + j * size, size) != word:
+            raise Refused(f"{what} {j} in {region.name} is not the standard's")
+
+
+def run_ahead(cpu, library, symbol, function):
+    """run_ahead(sums, state, words in vectors): where sums are those of the first sixteen words and
+    constants, the block function, over the block of these words."""
+    size = function.width // 8
+    start = cpu.start_state(library, symbol)
+    chaining, message = fresh_words("h", function, function.words), fresh_words("m", function, 16)
+    sums, state = Region("sums", 0, 16 * size, True, 16), Region("state", 0, 8 * size, True, size)
+    symbols = fips180_4.Symbols(function.width)
+    constants = fips180_4.first_constants(function)
+    for i, word in enumerate(message):
+        put_word(sums, size * i, terms.add(word, symbols.constant(constants[i])))
+    for i, word in enumerate(chaining):
+        put_word(state, size * i, word)
+    start.add_region(sums)
+    start.add_region(state)
+    first, second = cpu.ARGUMENTS[:2]
+    start.registers[first], start.registers[second] = at("sums"), at("state")
+    cpu.put_vector_arguments(start, symbol, message)
+    before = start.copy()
+    ends, steps = run(start)
+    if len(ends) != 1:
+        raise Refused(f"{symbol.name}: returns in {len(ends)} ways")
+    end, = ends
+    cpu.check_return(end, before)
+    after = fips180_4.next_state(function, symbols, chaining, message)
+    check_words(end.regions["state"], 0, size, after)
+    same_but(end.regions["state"], before.regions["state"], range(function.words * size))
+    return steps, end.program.used
+
+
+def loops_of(symbol, others, start, prove):
+    """Runs a function that has one loop, or returns without it. `prove(entry)` gives the state in
+    which it returns after the loop that is entered so. Returns both states."""
+    heads = find_heads(readable(start), [symbol, *others])
+    ends, steps = run(start.copy(), heads)
+    without = [end for end in ends if end.pc == "return"]
+    entries = [end for end in ends if end.pc != "return"]
+    if len(entries) != 1 or len(without) != 1:
+        raise Refused(f"{symbol.name}: {len(entries)} loops, {len(without)} returns without")
+    after, more = prove(entries[0])
+    return without[0], after, steps + more
+
+
+def readable(start):
+    """A state whose message has its first block, to see where the loop is."""
+    start = start.copy()
+    if "message" in start.regions:
+        start.regions["message"].high = 128
+    return start
+
+
+def over_message(symbol, function, start, chaining, length):
+    """Runs a function from a state that has a message of a length as a region: the block function
+    over each whole block. Returns the states at its return, each with the chaining words that it
+    has to have then, and the number of steps."""
+    start.add_region(Region("message", 0, 0))
+    size = function.width // 8
+    symbols = fips180_4.Symbols(function.width)
+    blocks = terms.shifted_right(length, (16 * size).bit_length() - 1)
+    some = terms.xor(1, terms.is_zero(blocks))
+
+    def step(at_head, words):
+        block = at_head.regions.get("block") or at_head.regions["message"]
+        return fips180_4.next_state(function, symbols, words, big_endian_words(block, size))
+
+    def prove(entry):
+        loop = Loop(entry, function.width, chaining, step, blocks, 16 * size)
+        return loop.prove(range(function.words), some), loop.steps
+
+    others = [it for it in start.program.library.symbols
+              if "by_instruction.run_blocks" in it.name]
+    without, after, steps = loops_of(symbol, others, start, prove)
+    if literals(without.path) != {terms.xor(1, some)}:
+        raise Refused("a return without the loop, where there are blocks")
+    without.words = chaining
+    return [without, after], steps
+
+
+def run_blocks(cpu, library, symbol, function, instructions):
+    """ring::digest::block_context::run_blocks(is_sha256, state, message, length, meter): the block
+    function over each whole block; returns what is left of the message. `state` has a tag: 0 where
+    words have 64 bits."""
+    size = function.width // 8
+    start = cpu.start_state(library, symbol, library.instructions(instructions))
+    length = terms.fresh("length", 64, secret=False)
+    is_sha256 = (terms.fresh("is_sha256", 8, secret=False) if function.width == 64 else
+                 terms.constant(int(function.name == "SHA-256"), 8)) + terms.fresh("upper", 56)
+    state = Region("state", 0, 9 * size, True, size)
+    state.cells[0] = terms.constant(int(function.width == 32), 8)
+    chaining = fresh_words("H", function, function.words)
+    for i, word in enumerate(chaining):
+        put_word(state, size * (i + 1), word)
+    start.add_region(state)
+    start.add_region(Region("meter", 0, 16, True, 8))
+    arguments = [is_sha256, at("state"), at("message"), length, at("meter")]
+    start.registers.update(zip(cpu.ARGUMENTS, arguments))
+    ends, steps = over_message(symbol, function, start, chaining, length)
+    whole = terms.constant(-16 * size, 64)
+    for end in ends:
+        cpu.check_return(end, start)
+        check_words(end.regions["state"], size, size, end.words)
+        same_but(end.regions["state"], start.regions["state"],
+                 range(size, size * (function.words + 1)))
+        rest, left = (end.registers[it] for it in cpu.RESULTS)
+        if left != terms.and_words(length, terms.inverted(whole)):
+            raise Refused("the length that is returned is not that of the rest")
+        if rest != Pointer("message", terms.and_words(length, whole)):
+            raise Refused("the pointer that is returned is not that of the rest")
+    return steps, start.program.used
+
+
+# Where a context of a digest has the tag of its state, the state's words, and its algorithm.
+TAG, STATE, ALGORITHM, CONTEXT_SIZE = 0x10, 0x10, 0x58, 0x60
+
+
+def output_after(cpu, library, symbol, function, instructions):
+    """BlockContext::output_after(output, context, tail, length, meter): the bytes of the chaining
+    words, after the block function over each whole block of the tail."""
+    size = function.width // 8
+    start = cpu.start_state(library, symbol, library.instructions(instructions))
+    length = terms.fresh("length", 64, secret=False)
+    context = Region("context", 0, CONTEXT_SIZE, modulus=16)
+    context.cells[TAG] = terms.constant(int(function.width == 32), 8)
+    context.cells[ALGORITHM] = terms.constant(int(function.name != "SHA-1"), 8)
+    chaining = fresh_words("H", function, function.words)
+    for i, word in enumerate(chaining):
+        put_word(context, STATE + size * (i + 1), word)
+    for region in (context, Region("output", 0, 64, True), Region("meter", 0, 16, True, 8)):
+        start.add_region(region)
+    arguments = [at("output"), at("context"), at("message"), length, at("meter")]
+    start.registers.update(zip(cpu.ARGUMENTS, arguments))
+    ends, steps = over_message(symbol, function, start, chaining, length)
+    for end in ends:
+        cpu.check_return(end, start)
+        for j, word in enumerate(end.words):
+            there = terms.joined([end.regions["output"].cell(size * j + i)
+                                  for i in reversed(range(size))])
+            if there != word:
+                raise Refused(f"word {j} of the output is not the standard's")
+    return steps, start.program.used
+
+
+def block_of_words(cpu, library, symbol, function, lanes, front):
+    """block_of_words(states, fronts, meter): the block function in each lane, over the first
+    `front` words of the lane in `fronts` and then the padding of a message of a block and these
+    words. (The source takes the padding as an argument; this is the only one, and the compiler has
+    put it into the function.)"""
+    size = function.width // 8
+    start = cpu.start_state(library, symbol)
+    whole = 8 * size * lanes
+    regions = [Region("states", 0, whole, True, size), Region("fronts", 0, whole, modulus=size),
+               Region("meter", 0, 16, True, 8)]
+    for register, region in zip(cpu.ARGUMENTS, regions):
+        start.add_region(region)
+        start.registers[register] = at(region.name)
+    states = [fresh_words(f"h{i}.", function, function.words) for i in range(lanes)]
+    fronts = [fresh_words(f"m{i}.", function, front) for i in range(lanes)]
+    padding = padding_of(function, front)
+    symbols = fips180_4.Symbols(function.width)
+    for i in range(lanes):
+        for name, words in (("states", states[i]), ("fronts", fronts[i])):
+            for j, word in enumerate(words):
+                put_word(start.regions[name], size * (lanes * j + i), word)
+    before = start.copy()
+    ends, steps = run(start)
+    if len(ends) != 1:
+        raise Refused(f"{symbol.name}: returns in {len(ends)} ways")
+    end, = ends
+    cpu.check_return(end, before)
+    for i in range(lanes):
+        after = fips180_4.next_state(function, symbols, states[i], fronts[i] + padding)
+        for j, word in enumerate(after):
+            if word_at(end.regions["states"], size * (lanes * j + i), size) != word:
+                raise Refused(f"chaining word {j} of lane {i} is not the standard's")
+    same_but(end.regions["states"], before.regions["states"],
+             range(function.words * size * lanes))
+    return steps, end.program.used
+
+
+def padding_of(function, front):
+    """The rest of a block after the first `front` words, if a block was before it (5.1)."""
+    size = function.width // 8
+    words = [1 << (function.width - 1)] + [0] * (14 - front) + [8 * size * (16 + front)]
+    return [terms.constant(it, function.width) for it in words]
+
+
+def xor_iterates(cpu, library, symbol, function, lanes, front, instructions=False):
+    """xor_iterates(result, inner, outer, first, iterations, meter), PBKDF2's loop, in each lane:
+    U is replaced by the HMAC of U, where `inner` and `outer` are the chaining words after the key's
+    blocks, and T by the exclusive or of T and U. Both are `first` at first; the last T is the
+    result. Iterations aren't 0."""
+    size = function.width // 8
+    start = cpu.start_state(library, symbol, library.instructions(instructions))
+    words = {}
+    for i, name in enumerate(("result", "inner", "outer", "first")):
+        region = Region(name, 0, 8 * size * lanes, name == "result", size)
+        start.add_region(region)
+        start.registers[cpu.ARGUMENTS[i]] = at(name)
+        words[name] = [fresh_words(f"{name}{lane}.", function, 8) for lane in range(lanes)]
+        if name != "result":
+            for lane in range(lanes):
+                for j, word in enumerate(words[name][lane]):
+                    put_word(region, size * (lanes * j + lane), word)
+    iterations = terms.fresh("iterations", 32, secret=False)
+    start.registers[cpu.ARGUMENTS[4]] = iterations + terms.fresh("upper", 32)
+    start.registers[cpu.ARGUMENTS[5]] = at("meter")
+    start.add_region(Region("meter", 0, 16, True, 8))
+    symbols = fips180_4.Symbols(function.width)
+    padding = padding_of(function, front)
+
+    def step(_, old):
+        U, T = [], []
+        for lane in range(lanes):
+            inner, outer = (words[name][lane][:function.words] for name in ("inner", "outer"))
+            message = old[front * lane:front * (lane + 1)]
+            inside = fips180_4.next_state(function, symbols, inner, message + padding)
+            U += fips180_4.next_state(function, symbols, outer, inside[:front] + padding)[:front]
+        for x, y in zip(old[front * lanes:], U):
+            T.append(terms.xor_words(x, y))
+        return U + T
+
+    first = [word for lane in words["first"] for word in lane[:front]]
+    turns = terms.subtract(iterations, terms.constant(1, 32)) + (0,) * 32
+    some = terms.xor(1, terms.borrow(iterations, terms.constant(2, 32)))
+
+    def prove(entry):
+        loop = Loop(entry, function.width, first + first, step, turns)
+        return loop.prove(range(2 * len(first)), some), loop.steps
+
+    without, after, steps = loops_of(symbol, [], start, prove)
+    if literals(without.path) != {terms.xor(1, some)}:
+        raise Refused("a return without the loop, where there are further iterations")
+    without.words = first + first
+    for end in (without, after):
+        cpu.check_return(end, start)
+        for lane in range(lanes):
+            for j in range(front):
+                expected = end.words[front * (lanes + lane) + j]
+                if word_at(end.regions["result"], size * (lanes * j + lane), size) != expected:
+                    raise Refused(f"word {j} of lane {lane} of the result is not PBKDF2's")
+    return steps, start.program.used
+
+
+# Which kernels a library has.
+
+Kernel = namedtuple("Kernel", "name library check")
+Ahead = namedtuple("Ahead", "function")
+InLanes = namedtuple("InLanes", "function lanes front")  # `front` words of a block are no padding
+SHA1, SHA256, SHA512 = fips180_4.FUNCTIONS.values()
+NUMBER = r"(\.[0-9a-f]{16})?"  # the kit's, of the types
+SHA1_MODULES, SHA2_MODULES = (rf"ring_core\.digest\.{it}\.(\w+\.)*" for it in ("sha1", "sha2"))
+ITERATED = [InLanes(SHA1, 1, 5), InLanes(SHA256, 1, 8), InLanes(SHA512, 1, 8),
+            InLanes(SHA512, 1, 6), InLanes(SHA512, 1, 4)]
+WIDE = [InLanes(SHA1, 4, 5), InLanes(SHA1, 8, 5), InLanes(SHA256, 4, 8), InLanes(SHA256, 8, 8),
+        InLanes(SHA512, 4, 8), InLanes(SHA512, 4, 6), InLanes(SHA512, 4, 4)]
+KINDS = [  # each with the check of its contract
+    (Kind(SHA1_MODULES + "run_ahead" + NUMBER, [Ahead(SHA1)], identify.ahead), run_ahead),
+    (Kind(SHA2_MODULES + "run_ahead" + NUMBER, [Ahead(SHA256), Ahead(SHA512)], identify.ahead),
+     run_ahead),
+    (Kind(r"ring\.digest\.(\w+\.)*block_context\.run_blocks" + NUMBER, [()], None), run_blocks),
+    (Kind(r"ring\.digest\.(\w+\.)*BlockContext\.output_after" + NUMBER, [()], None),
+     output_after),
+    (Kind(SHA1_MODULES + "run_words" + NUMBER, [InLanes(SHA1, 1, 5)], None), block_of_words),
+    (Kind(SHA2_MODULES + "run_words" + NUMBER, [InLanes(SHA256, 1, 8)], None), block_of_words),
+    *((Kind(modules + r"\w*block_of_words_lanes_counted" + NUMBER,
+            [it for it in WIDE if (it.function is SHA1) == (modules is SHA1_MODULES)],
+            identify.block_of_words), block_of_words)
+      for modules in (SHA1_MODULES, SHA2_MODULES)),
+    (Kind(r"ring\.pbkdf2\.(\w+\.)*xor_iterates" + NUMBER, ITERATED + WIDE,
+          identify.xor_iterates), xor_iterates)]
+
+
+def builds_of(library, symbols):
+    """Functions of one name, each with its build's name."""
+    if library.machine != 62:
+        return [("", it) for it in symbols]
+    if len(symbols) == 2:  # v2's stands before v3's
+        return list(zip(("v2", "v3"), symbols))
+    return [("v3" if x86.Program(library).has_avx(it) else "v2", it) for it in symbols]
+
+
+def builds_with(library, check, kernel):
+    """The builds that have a kernel of a kind."""
+    is_x86 = library.machine == 62
+    if check is block_of_words and kernel.lanes == 1:  # by instructions
+        return ["v2"] if is_x86 else [""]
+    if not kernel or len(kernel) == 1 or kernel.lanes * kernel.function.width <= 128:
+        return ["v2", "v3"] if is_x86 else [""]
+    if kernel.lanes == 1:
+        return ["v2", "v3"] if is_x86 else [""]
+    return ["v3"] if is_x86 else []
+
+
+# A function that is a kernel: its build, its symbol or None where it lacks, the check of its
+# contract, and the further arguments of that.
+Row = namedtuple("Row", "build symbol check arguments")
+
+
+@cache
+def rows(library):
+    """All functions that are kernels, each once."""
+    return tuple(found_rows(library))
+
+
+def found_rows(library):
+    cpu = ARCHITECTURES[library.machine]
+    for kind, check in KINDS:
+        found = set()
+        for kernel, symbols in identify.assigned(cpu, library, kind):
+            for build, symbol in builds_of(library, symbols):
+                found.add((kernel, build))
+                yield Row(build, symbol, check, kernel)
+        for kernel in kind.kernels:
+            for build in builds_with(library, check, kernel):
+                if (kernel, build) not in found:
+                    yield Row(build, None, check, kernel)
+
+
+def cases(row, has_instructions):
+    """What is shown of a function: pairs of a text and the arguments of its check."""
+    can_choose = has_instructions and row.build != "v3"
+    if row.check in (run_blocks, output_after):
+        what = {run_blocks: "over a message", output_after: "over the padded tail"}[row.check]
+        for function in fips180_4.FUNCTIONS.values():
+            yield f"{function.name} {what}", (function, False)
+            if can_choose and function.width == 32:
+                yield f"{function.name} by instructions {what}", (function, True)
+        return
+    if row.check is run_ahead:
+        yield row.arguments.function.name, row.arguments
+        return
+    function, lanes, front = row.arguments
+    how = f" in {lanes} lanes" if lanes > 1 else ""
+    if row.check is block_of_words:
+        yield f"{function.name}{how or ' by instructions'} of {front} words", row.arguments
+        return
+    yield f"PBKDF2 by {function.name}{how} of {front} words", row.arguments
+    if can_choose and lanes == 1 and function.width == 32:
+        yield f"PBKDF2 by {function.name} by instructions of {front} words", (*row.arguments, True)
+
+
+def of(library):
+    """All kernels of a library. One that has no function is refused."""
+    cpu = ARCHITECTURES[library.machine]
+    has_instructions = any("by_instruction" in it.name for it in library.symbols)
+
+    def check_of(row, what, arguments):
+        if row.symbol is None:
+            raise Refused(f"there is no function for {what}")
+        return row.check(cpu, library, row.symbol, *arguments)
+
+    for row in rows(library):
+        for what, arguments in cases(row, has_instructions):
+            where = row.symbol and (f"({identify.short_name(row.symbol.name)} at "
+                                    f"{row.symbol.start:x})")
+            name = " ".join(it for it in (what, row.build, where) if it)
+            yield Kernel(name, library, partial(check_of, row, what, arguments))

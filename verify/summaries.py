@@ -1,0 +1,278 @@
+# SPDX-License-Identifier: ISC
+"""What runs in the place of functions that kernels.py shows, and of the four that the C library has:
+their contracts, with what they ask for checked at each call."""
+
+import fips180_4
+import identify
+import kernels
+import terms
+from machine import Pointer, Refused, offset_of
+from loops import put_word, word_at
+
+
+def number(state, word, what):
+    found = None if isinstance(word, Pointer) else terms.number_of(word)
+    if found is None:
+        state.refuse(f"{what} is no number")
+    return found
+
+
+def place(state, pointer, size, what, writable=False, modulus=1):
+    """The region and the offset of so many bytes that are there."""
+    if not isinstance(pointer, Pointer) or offset_of(pointer) is None:
+        state.refuse(f"{what} is at no known place")
+    region, offset = state.regions.get(pointer.region), offset_of(pointer)
+    if region is None or not region.low <= offset <= offset + size <= region.high:
+        state.refuse(f"{what}, {size} bytes at {offset} of {pointer.region}, is not inside")
+    if writable and not region.writable:
+        state.refuse(f"{what} is in {region.name}, which is not written to")
+    if not region.is_aligned(offset, modulus):
+        state.refuse(f"{what} at {offset} of {region.name} is not aligned")
+    if region.name == "stack" and offset < offset_of(state.registers[state.stack_pointer]):
+        state.refuse(f"{what} is below the stack pointer")
+    return region, offset
+
+
+def apart(state, *places):
+    """Arguments don't overlap: of each a region, an offset, a size."""
+    for i, (region, offset, size) in enumerate(places):
+        for other, at, length in places[:i]:
+            if region is other and offset < at + length and at < offset + size:
+                state.refuse(f"arguments overlap in {region.name}")
+
+
+def forget(region, start, end):
+    """Bytes of which nothing is known after a call."""
+    for i in range(start, end):
+        if region.name == "stack":  # unknown, once it is read
+            region.cells.pop(i, None)
+            region.initial.pop(i, None)
+        else:
+            region.cells[i] = terms.fresh("after a call", 8)
+    region.written.update(range(start, end))
+
+
+def put_words(region, offset, words):
+    for i, it in enumerate(words):
+        put_word(region, offset + i * len(it) // 8, it)
+        region.written.update(range(offset + i * len(it) // 8, offset + (i + 1) * len(it) // 8))
+
+
+def words_at(state, region, offset, size, count):
+    found = [word_at(region, offset + i * size, size) for i in range(count)]
+    if None in found:
+        state.refuse(f"pointers in {region.name}, where words are wanted")
+    region.read.update(range(offset, offset + size * count))
+    return found
+
+
+def no_results(cpu):
+    return [terms.fresh("after a call", 64) for _ in cpu.RESULTS]
+
+
+class Summaries:
+    """The summaries of a library. `block` is what stands for the block function, as standards.py
+    has it; `calls` counts what was taken."""
+
+    def __init__(self, cpu, library, block, features):
+        self.cpu, self.library, self.block, self.features = cpu, library, block, features
+        self.calls = {}
+
+    def arguments(self, state, count):
+        return [state.registers[it] for it in self.cpu.ARGUMENTS[:count]]
+
+    def noted(self, name, run):
+        of_v3, of_sha = name.endswith(" v3"), name.startswith("run_words")
+
+        def summary(state):
+            if of_v3 and not self.features & 1 or of_sha and not self.features & 2:
+                state.refuse("the processor hasn't the instructions of this function")
+            results = run(state)
+            self.calls[name] = self.calls.get(name, 0) + (results is not None)
+            return results
+        return summary
+
+    def by_address(self, real=False):
+        """What stands for which function; with `real`, only for those of the C library."""
+        found = {}
+        for address, name in self.library.imports.items():
+            run = {"memcpy": self.copy(True), "memmove": self.copy(False),
+                   "memset": self.fill}.get(name)
+            if run:
+                found[address] = self.noted(name, run)
+        if real:
+            return found
+
+        runs = {kernels.run_ahead: self.run_ahead, kernels.run_blocks: self.run_blocks,
+                kernels.output_after: self.output_after,
+                kernels.block_of_words: self.block_of_words,
+                kernels.xor_iterates: self.xor_iterates}
+        for row in kernels.rows(self.library):
+            if row.symbol:
+                found[row.symbol.start] = self.noted(
+                    f"{identify.short_name(row.symbol.name)} {row.build}".strip(),
+                    lambda state, row=row: runs[row.check](state, row.symbol, *row.arguments))
+        return found
+
+    # The C library's.
+
+    def copy(self, apart_only):
+        def run(state):
+            target, source, count = self.arguments(state, 3)
+            count = number(state, count, "how much is copied")
+            if count:
+                to, i = place(state, target, count, "a copy's target", True)
+                of, j = place(state, source, count, "a copy's source")
+                if apart_only:
+                    apart(state, (to, i, count), (of, j, count))
+                cells = [of.cell(j + k) for k in range(count)]
+                of.read.update(range(j, j + count))
+                to.written.update(range(i, i + count))
+                to.cells.update(zip(range(i, i + count), cells))
+            return [target]
+        return run
+
+    def fill(self, state):
+        target, value, count = self.arguments(state, 3)
+        count = number(state, count, "how much is filled")
+        if count:
+            to, i = place(state, target, count, "what is filled", True)
+            to.written.update(range(i, i + count))
+            to.cells.update((k, value[:8]) for k in range(i, i + count))
+        return [target]
+
+    # The kernels, as kernels.py has their contracts.
+
+    def meter(self, state, pointer):
+        region, offset = place(state, pointer, 16, "the meter", True, 8)
+        return region, offset, 16
+
+    def run_ahead(self, state, symbol, function):
+        size = function.width // 8
+        sums, words = self.arguments(state, 2)
+        sums, at = place(state, sums, 16 * size, "sums", True, 16)
+        region, offset = place(state, words, 8 * size, "the state", True, size)
+        apart(state, (sums, at, 16 * size), (region, offset, 8 * size))
+        message = self.cpu.vector_arguments(state, symbol, size)
+        symbols = fips180_4.Symbols(function.width)
+        expected = [terms.add(it, symbols.constant(k))
+                    for it, k in zip(message, fips180_4.first_constants(function))]
+        if words_at(state, sums, at, size, 16) != expected:
+            state.refuse("sums are not those of the words and the constants")
+        chaining = words_at(state, region, offset, size, function.words)
+        put_words(region, offset, self.block(function, chaining, message))
+        forget(sums, at, at + 16 * size)
+        return no_results(self.cpu)
+
+    def run_blocks(self, state, _):
+        is_sha256, words, message, length, meter = self.arguments(state, 5)
+        length = number(state, length, "the length")
+        region, offset = place(state, words, 72, "the state", True, 4)
+        tag = number(state, region.cell(offset), "the state's tag")
+        names = {0: "SHA-512"}
+        if tag:
+            names = {1: ("SHA-1", "SHA-256", None)[min(2, number(state, is_sha256[:8], "a number"))]}
+        if names.get(tag) is None:
+            state.refuse("a tag that was not shown")
+        function = fips180_4.FUNCTIONS[names[tag]]
+        size = function.width // 8
+        place(state, words, 9 * size, "the state", True, size)
+        meter = self.meter(state, meter)
+        whole = length & -16 * size
+        used = [(region, offset, 9 * size), meter]
+        if length:
+            of, at = place(state, message, length, "the message")
+            used.append((of, at, length))
+        apart(state, *used)
+        chaining = words_at(state, region, offset + size, size, function.words)
+        for i in range(0, whole, 16 * size):
+            block = [terms.joined([of.cell(at + i + j + k) for k in reversed(range(size))])
+                     for j in range(0, 16 * size, size)]
+            of.read.update(range(at + i, at + i + 16 * size))
+            chaining = self.block(function, chaining, block)
+        put_words(region, offset + size, chaining)
+        forget(meter[0], meter[1], meter[1] + 16)
+        return [state.add(message, terms.constant(whole, 64)),
+                terms.constant(length - whole, 64)]
+
+    def output_after(self, state, _):
+        """For words of 32 bits; of 64 bits the function itself runs."""
+        output, context, tail, length, meter = self.arguments(state, 5)
+        length = number(state, length, "the length")
+        of, at = place(state, context, kernels.CONTEXT_SIZE, "the context", False, 16)
+        if number(state, of.cell(at + kernels.TAG), "the state's tag") != 1:
+            return None
+        algorithm = number(state, of.cell(at + kernels.ALGORITHM), "the algorithm")
+        if algorithm > 1:
+            state.refuse("an algorithm that was not shown")
+        function = fips180_4.FUNCTIONS["SHA-256" if algorithm else "SHA-1"]
+        to, start = place(state, output, 64, "the output", True)
+        meter = self.meter(state, meter)
+        message, offset = place(state, tail, length, "the tail")
+        apart(state, (of, at, kernels.CONTEXT_SIZE), (to, start, 64), meter,
+              (message, offset, length))
+        chaining = words_at(state, of, at + kernels.STATE + 4, 4, function.words)
+        for i in range(offset, offset + (length & -64), 64):
+            block = [terms.joined([message.cell(i + j + k) for k in reversed(range(4))])
+                     for j in range(0, 64, 4)]
+            chaining = self.block(function, chaining, block)
+        message.read.update(range(offset, offset + (length & -64)))
+        forget(to, start, start + 64)
+        put_words(to, start, [terms.joined(terms.cut(it, 8)[::-1]) for it in chaining])
+        forget(meter[0], meter[1], meter[1] + 16)
+        return no_results(self.cpu)
+
+    def in_lanes(self, state, region, offset, size, lanes, lane, count):
+        return [words_at(state, region, offset + size * (lanes * j + lane), size, 1)[0]
+                for j in range(count)]
+
+    def block_of_words(self, state, _, function, lanes, front):
+        size = function.width // 8
+        states, fronts, meter = self.arguments(state, 3)
+        whole = 8 * size * lanes
+        region, offset = place(state, states, whole, "states", True, size)
+        of, at = place(state, fronts, whole, "fronts", False, size)
+        meter = self.meter(state, meter)
+        apart(state, (region, offset, whole), (of, at, whole), meter)
+        padding = kernels.padding_of(function, front)
+        for i in range(lanes):
+            chaining = self.in_lanes(state, region, offset, size, lanes, i, function.words)
+            message = self.in_lanes(state, of, at, size, lanes, i, front) + padding
+            for j, word in enumerate(self.block(function, chaining, message)):
+                put_words(region, offset + size * (lanes * j + i), [word])
+        forget(meter[0], meter[1], meter[1] + 16)
+        return no_results(self.cpu)
+
+    def xor_iterates(self, state, _, function, lanes, front):
+        size = function.width // 8
+        result, inner, outer, first, iterations, meter = self.arguments(state, 6)
+        iterations = number(state, iterations[:32], "the number of iterations")
+        if not iterations:
+            state.refuse("no iterations")
+        whole = 8 * size * lanes
+        target = place(state, result, whole, "the result", True, size)
+        inner = place(state, inner, whole, "inner", False, size)
+        outer = place(state, outer, whole, "outer", False, size)
+        first = place(state, first, whole, "first", False, size)
+        meter = self.meter(state, meter)
+        for it in (inner, outer, first, meter[:2]):
+            apart(state, (*target, whole), (*it, 16 if it == meter[:2] else whole))
+            if it != meter[:2]:
+                apart(state, meter, (*it, whole))
+        padding = kernels.padding_of(function, front)
+        results = []
+        for i in range(lanes):
+            key = [self.in_lanes(state, *it, size, lanes, i, function.words)
+                   for it in (inner, outer)]
+            last = total = self.in_lanes(state, *first, size, lanes, i, front)
+            for _ in range(iterations - 1):
+                inside = self.block(function, key[0], last + padding)
+                last = self.block(function, key[1], inside[:front] + padding)[:front]
+                total = [terms.xor_words(x, y) for x, y in zip(total, last)]
+            results.append(total)
+        forget(target[0], target[1], target[1] + whole)
+        for i, total in enumerate(results):
+            for j, word in enumerate(total):
+                put_words(target[0], target[1] + size * (lanes * j + i), [word])
+        forget(meter[0], meter[1], meter[1] + 16)
+        return no_results(self.cpu)

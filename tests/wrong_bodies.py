@@ -7,13 +7,14 @@
 
 Without arguments each edit is read: its `old` texts must stand once in their file.
 
-With --together the edits of wrong/ are tried, and with --all those of must-fail/ and wrong/further/
-too, of all crates, of some, or single ones by their paths. A round is one check of a crate with one
-edit in each of its functions. A proof knows of other functions what their contracts say, so an edit
-passes where the check refuses a goal of a function that it changes, and none of a function without
-an edit. One that changes more than functions, as a constant, or several files has a check of its
-own. An edit that is not refused so is tried alone, as `rt must-fail` tries it. A body of right/
-means the same as the code: it stands in the rounds too, and passes where it is told as not refused.
+With --together the edits of wrong/ are tried, and with --all those of must-fail/ and those marked
+`further` too, of all crates, of some, or single ones by their labels, as ring/wrong/salt_cut. A
+round is one check of a crate with one edit in each of its functions. A proof knows of other
+functions what their contracts say, so an edit passes where the check refuses a goal of a function
+that it changes, and none of a function without an edit. One that changes more than functions, as a
+constant, or several files has a check of its own. An edit that is not refused so is tried alone, as
+`rt must-fail` tries it. A body marked `right` means the same as the code: it stands in the rounds
+too, and passes where it is told as not refused.
 
 The crates are proved first, in place, over what stands in out/, or in a copy in a new folder, which
 stays. What passed is kept for the user of this machine by the sum of all that it was made from, and
@@ -26,6 +27,7 @@ import concurrent.futures
 import contextlib
 import dataclasses
 import hashlib
+import itertools
 import os
 import pathlib
 import re
@@ -37,7 +39,8 @@ import tempfile
 sys.dont_write_bytecode = True
 sys.path.append(str(pathlib.Path(__file__).resolve().parent.parent / "tools"))
 import rattle_edits
-from rattle_edits import FURTHER, GATE, NAMED, RIGHT, ROOT, label_of
+import rattle_tables
+from rattle_tables import GATE, KINDS, NAMED, RIGHT, ROOT, Malformed
 
 KEPT = pathlib.Path(os.environ.get("XDG_CACHE_HOME") or "~/.cache").expanduser() / "yezdopin"
 # What a check may take of the memory, in bytes, with as much for the gate's other checks beside it.
@@ -97,7 +100,7 @@ def room_of(crate):
         names = [*crate.below, crate.name]
         for name in names:
             one, other = crate.tree / "crates" / name, room / "crates" / name
-            shutil.copytree(one, other, ignore=shutil.ignore_patterns("out", "must-fail"))
+            shutil.copytree(one, other, ignore=shutil.ignore_patterns("out", "must-fail", "wrong"))
             kept = "incremental" if name == crate.name else "rlib"
             shutil.copytree(one / "out" / kept, other / "out" / kept, copy_function=link)
         shutil.copy(ROOT / "HANDLES", room)
@@ -127,54 +130,51 @@ def refused_in(said, places=()):
     return answers | at_goals | {it.partition("::")[2] for it in OPEN.findall(said)}
 
 
-def refused_of_round(crate, edits):
-    """The paths of those edits of a round that are refused. The round is halved where the check
-    judges none, since one does not compile, and where it refuses what none of them changes."""
-    texts, places = rattle_edits.texts_with(edits)
-    names = sorted({name for it in edits for name in it.changes})
+def refused_of_round(crate, changes):
+    """Those edits of a round that are refused. The round is halved where the check judges none,
+    since one does not compile, and where it refuses what none of them changes."""
+    texts, places = rattle_edits.texts_with(changes)
+    names = sorted({name for it in changes for name in it.functions})
     said = check_of(crate, texts, names)
     refused = refused_in(said, places)
     if JUDGED.search(said) and refused <= set(names):
-        return [it.path for it in edits if refused & it.changes.keys()]
-    half = len(edits) // 2
-    parts = (edits[:half], edits[half:]) if half else ()
+        return [it.edit for it in changes if refused & it.functions.keys()]
+    half = len(changes) // 2
+    parts = (changes[:half], changes[half:]) if half else ()
     return [it for part in parts for it in refused_of_round(crate, part)]
 
 
-def refused_by_itself(crate, path):
-    """The path of an edit in a list, if a check refuses a goal of a function where it is made."""
-    folder = ROOT / "crates" / crate.name
-    texts = {file: rattle_edits.replaced((folder / file).read_text(), pairs)
-             for file, pairs in rattle_edits.read(path).items()}
-    said = check_of(crate, texts)
+def refused_by_itself(crate, edit):
+    """An edit in a list, if a check refuses a goal of a function where it is made."""
+    said = check_of(crate, rattle_tables.apply(edit))
     is_refused = JUDGED.search(said) and (refused_in(said) or GOAL.search(said))
-    return [path] if is_refused else []
+    return [edit] if is_refused else []
 
 
-def said_alone(crate, paths):
-    """What `rt must-fail` says of each of these edits, by their paths."""
+def said_alone(crate, edits):
+    """What `rt must-fail` says of each of these edits."""
     with room_of(crate) as folder:
         (folder / NAMED).mkdir()
-        for path in paths:
-            shutil.copy(path, folder / NAMED)
+        for it in edits:
+            (folder / NAMED / f"{it.name}.edit").write_text(it.text)
         said, _ = output_of(["rt", "must-fail", crate.name], folder.parent.parent)
     tried = dict(TRIED.findall(said))
-    return {it: tried.get(f"{crate.name}/{it.stem}", f"not tried: {said[-200:]}") for it in paths}
+    return {it: tried.get(f"{crate.name}/{it.name}", f"not tried: {said[-200:]}") for it in edits}
 
 
-def rows_of(crate, paths, pool):
+def rows_of(crate, edits, pool):
     """A row for each edit of a crate: its label, and what is wrong with it."""
-    edits = {path: rattle_edits.edit_of(path, crate.functions) for path in paths}
-    rounds = rattle_edits.rounds_of([it for it in edits.values() if it])
+    changes = {it: rattle_edits.change_of(it, crate.functions) for it in edits}
+    rounds = rattle_edits.rounds_of([it for it in changes.values() if it])
     tries = [pool.submit(refused_of_round, crate, it) for it in rounds]
-    tries += [pool.submit(refused_by_itself, crate, path) for path, it in edits.items() if not it]
-    refused = {path for it in tries for path in it.result()}
-    left = [it for it in paths if it not in refused]
+    tries += [pool.submit(refused_by_itself, crate, edit) for edit, it in changes.items() if not it]
+    refused = {edit for it in tries for edit in it.result()}
+    left = [it for it in edits if it not in refused]
     alone = pool.submit(said_alone, crate, left).result() if left else {}
-    for path in paths:
-        said = alone.get(path, "refused, as it must be")
-        passes = NOT_REFUSED if path.parent.name == RIGHT else REFUSED
-        yield label_of(path), [] if passes.match(said) else [said]
+    for it in edits:
+        said = alone.get(it, "refused, as it must be")
+        passes = NOT_REFUSED if it.kind == RIGHT else REFUSED
+        yield it.label, [] if passes.match(said) else [said]
 
 
 def below():
@@ -195,7 +195,7 @@ def files_under(path):
     return [it for it in found if it.is_file()]
 
 
-def place_of(name, crates_below, paths):
+def place_of(name, crates_below, edits):
     """Where it is kept that a crate's edits passed: its name is the sum of all that their tries
     stand on, which are the kit, this script, the edits, and the crate with those below."""
     made = hashlib.sha256(output_of(["rt", "version"], ROOT)[0].encode())
@@ -203,15 +203,16 @@ def place_of(name, crates_below, paths):
     parts += sorted((ROOT / "tools").glob("rattle_*.py"))
     for it in [*crates_below, name]:
         parts += (ROOT / "crates" / it / part for part in ("src", "specs", "proofs"))
-    for file in (it for part in [*parts, *paths] for it in files_under(part)):
-        text = file.read_bytes()
-        made.update(f"{file.relative_to(ROOT)} {len(text)}\n".encode() + text)
+    texts = [(it.relative_to(ROOT), it.read_bytes()) for part in parts for it in files_under(part)]
+    texts += [(f"{it.kind} {it.label}", it.text.encode()) for it in edits]
+    for what, text in texts:
+        made.update(f"{what} {len(text)}\n".encode() + text)
     return KEPT / f"wrong_bodies-{name}-{made.hexdigest()}"
 
 
-def kept_rows(crate, paths, pool, kept):
+def kept_rows(crate, edits, pool, kept):
     """The rows of a crate, which are kept where all edits passed."""
-    rows = list(rows_of(crate, paths, pool))
+    rows = list(rows_of(crate, edits, pool))
     if not any(faults for _, faults in rows):
         with contextlib.suppress(OSError):
             KEPT.mkdir(mode=0o700, parents=True, exist_ok=True)
@@ -232,8 +233,8 @@ def try_crates(asked, flags, tree, pool):
     the others, whose checks are the work of the pool."""
     most, tries = workers(), []
     with concurrent.futures.ThreadPoolExecutor(len(asked)) as crates:
-        for name, paths in asked.items():
-            kept = place_of(name, below()[name], paths)
+        for name, edits in asked.items():
+            kept = place_of(name, below()[name], edits)
             if kept.is_file() and "--anew" not in flags:
                 labels = kept.read_text().splitlines()
                 yield from ((f"{it} (tried by an earlier run)", []) for it in labels)
@@ -245,44 +246,66 @@ def try_crates(asked, flags, tree, pool):
                 yield f"{name}: the crate itself", [f"not proved: {said[-200:]}"]
                 continue
             crate = Crate(tree, name, below()[name], OF_FUNCTION.findall(said))
-            tries.append(crates.submit(kept_rows, crate, paths, pool, kept))
+            tries.append(crates.submit(kept_rows, crate, edits, pool, kept))
         for it in concurrent.futures.as_completed(tries):
             yield from it.result()
 
 
 def read_all():
-    """A row for each folder of edits: its name, and what is wrong with its edits."""
-    for part in (NAMED, GATE, FURTHER, RIGHT):
-        for folder in sorted(ROOT.glob(f"crates/*/{part}")):
-            paths = sorted(it for it in folder.iterdir() if it.name != pathlib.Path(FURTHER).name)
-            faults = [f"{it.name}: {why}" for it in paths if (why := rattle_edits.fault_of(it))]
-            if paths:
-                yield f"{folder.relative_to(ROOT)}: {len(paths)} edits", faults
+    """A row for each kind of edits of a crate: how many there are. What is wrong with them stands
+    in the row of the crate."""
+    for folder in sorted((ROOT / "crates").iterdir()):
+        try:
+            edits = rattle_tables.edits_of(folder.name)
+        except Malformed as error:
+            yield folder.name, [str(error)]
+            continue
+        for kind, of_kind in itertools.groupby(edits, lambda it: it.kind):
+            of_kind = list(of_kind)
+            yield f"{folder.name}: {len(of_kind)} edits, {kind}", list(faults_of(of_kind))
+
+
+def faults_of(edits):
+    """Why some edits can't be applied."""
+    for it in edits:
+        try:
+            rattle_tables.apply(it)
+        except Malformed as error:
+            yield str(error)
 
 
 def asked_of(words, flags):
-    """The paths of the edits that are asked for, by their crates, lowest first."""
-    folders = (GATE, NAMED, FURTHER, RIGHT) if "--all" in flags else (GATE, RIGHT)
-    single = [pathlib.Path(it).resolve() for it in words if it.endswith(".edit")]
-    names = [it for it in words if not it.endswith(".edit")]
+    """The edits that are asked for, by their crates, lowest first."""
+    kinds = KINDS if "--all" in flags else (GATE, RIGHT)
+    crates = {it.partition("/")[0] for it in words}
     asked = {}
     for name in below():
-        paths = [it for it in single if rattle_edits.crate_of(it).name == name]
-        if name in names or not words:
-            paths += rattle_edits.edits_of(name, folders)
-        if paths:
-            asked[name] = paths
+        edits = rattle_tables.edits_of(name) if name in crates or not words else []
+        is_whole = name in words or not words
+        chosen = [it for it in edits if it.label in words or is_whole and it.kind in kinds]
+        if chosen:
+            asked[name] = chosen
     return asked
 
 
 def rows_asked_for(words, flags, pool):
     """The rows that a run prints."""
     if "--together" not in flags:
-        return read_all()
+        yield from read_all()
+        return
+    try:
+        asked = asked_of(words, flags)
+    except Malformed as error:
+        yield "the edits are not read", [str(error)]
+        return
+    known = {*below(), *(it.label for edits in asked.values() for it in edits)}
+    if unknown := [it for it in words if it not in known]:
+        yield "no crate and no edit has this name", unknown
+        return
     copies = (it.partition("=")[2] for it in flags if it.startswith("--tree="))
     folder = next(copies, None)
     tree = copied_to(pathlib.Path(folder).resolve()) if folder else ROOT
-    return try_crates(asked_of(words, flags), flags, tree, pool)
+    yield from try_crates(asked, flags, tree, pool) if asked else ()
 
 
 def main():

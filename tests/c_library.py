@@ -19,6 +19,9 @@ import sys
 import sysconfig
 import tempfile
 
+sys.dont_write_bytecode = True
+import password_hashes
+
 FOLDER = pathlib.Path(__file__).resolve().parent.parent / "capi"
 OUT = "../crates/ring_c/out"
 BUILT = {
@@ -53,6 +56,8 @@ PARTS = [
     ("python", ["cc", "python3", "Python.h"], "the Python package beside hashlib, hmac, vectors/"),
     ("python-types", ["cc", "python3", "Python.h", "mypy", "stubtest"],
      "the types of the Python package, beside the extension and over a caller"),
+    ("python-postgresql", ["cc", "python3", "Python.h", "PostgreSQL"],
+     "the passwords that the Python package prepares, beside PostgreSQL"),
     ("wheel", ["cc", "python3", "Python.h", "pip"], "the Python package as pip installs it"),
     ("rust", ["cc", "cargo"], "the Rust crate over vectors/, and vendored beside a Makefile"),
     ("constant-time", ["rt", "valgrind", "valgrind/memcheck.h"], "no jump or address by a secret"),
@@ -122,6 +127,8 @@ def is_there(tool):
         return re.search(r"version [1-8]\.", said) is not None and "-plugin" in said
     if tool == "wine64":  # Debian has it outside of the folders of commands
         return any(map(shutil.which, ("/usr/lib/wine/wine64", "wine")))
+    if tool == "PostgreSQL":
+        return password_hashes.postgres_bin() is not None
     name = os.environ.get({"cc": "CC", "c++": "CXX", "rt": "RT"}.get(tool, ""), tool)
     return shutil.which(name) is not None
 

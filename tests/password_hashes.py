@@ -595,7 +595,7 @@ class Server:
         secret.chmod(0o644)
         data = ("-D", f"{folder}/data")
         login = ("-A", "scram-sha-256", "-U", "super", "--pwfile", str(secret))
-        self.run("initdb", *data, *login, "-N")
+        self.run("initdb", *data, *login, "-N", "-E", "UTF8", "--locale=C")
         options = f"-c listen_addresses='' -c unix_socket_directories={folder} -c fsync=off"
         self.run("pg_ctl", *data, "-l", f"{folder}/log", "-w", "-o", options, "start")
 

@@ -8,6 +8,7 @@ import hmac
 import os
 import pathlib
 import re
+import unicodedata
 import unittest
 
 import yezdopin
@@ -270,6 +271,14 @@ class Prepared(unittest.TestCase):
         ):
             self.is_prepared(password, password)
 
+    def test_before_normalization(self):
+        """Kept where NFKC would change what is prohibited, and prepared where it would make what
+        is: as PostgreSQL 15 answers, which postgresql.py asks."""
+        for password in ("\u32ff\u4ee4\u548c", "\U0001f130", "\u1d62", "\u0340", "\u0627\u1d62"):
+            self.is_prepared(password.encode(), password.encode())
+        for password, as_one in (("\ufb39", "\u05d9\u05bc"), ("\ufe34", "_"), ("\uff9e", "\u3099")):
+            self.is_prepared(password.encode(), as_one.encode())
+
     def test_other_schemes(self):
         for scheme in password_hash.SCHEMES:
             if scheme != "postgresql":
@@ -277,7 +286,8 @@ class Prepared(unittest.TestCase):
                 self.assertIs(password_hash.verify(text, b"IX", max_iterations=1), False)
 
     def test_beside_passlib(self):
-        """Characters alone, between Latin letters and between Hebrew ones."""
+        """Characters alone, between Latin letters and between Hebrew ones, that NFKC keeps: passlib
+        tests what NFKC has made of the others for what is prohibited, and PostgreSQL does not."""
         try:
             from passlib.utils import saslprep
         except ImportError:
@@ -289,6 +299,8 @@ class Prepared(unittest.TestCase):
             for text in (chr(code), f"a{chr(code)}b", f"\u05d0{chr(code)}\u05d1"):
                 if code == 0x200B:
                     continue  # a space to PostgreSQL, and nothing to passlib: both in RFC 4013
+                if not unicodedata.is_normalized("NFKC", chr(code)):
+                    continue
                 try:
                     want = saslprep(text)
                 except ValueError:

@@ -1,8 +1,10 @@
 # SPDX-License-Identifier: ISC
-"""SASLprep (RFC 4013), by which PostgreSQL prepares a password before it is derived.
+"""SASLprep as PostgreSQL applies it to a password before it derives keys from it.
 
     >>> saslprep("Ⅸ\\u00ad")
     'IX'
+
+RFC 4013 tests the normalized text for what it prohibits, PostgreSQL the text before that.
 """
 
 from __future__ import annotations
@@ -12,7 +14,7 @@ import unicodedata
 
 __all__ = ["prepared", "saslprep"]
 
-# What no output has (RFC 4013, 2.3 and 2.5), by the tables of RFC 3454.
+# What is prohibited (RFC 4013, 2.3 and 2.5), by the tables of RFC 3454.
 _PROHIBITED = (
     stringprep.in_table_a1,  # unassigned
     stringprep.in_table_c12,  # spaces beside the ASCII one
@@ -43,13 +45,15 @@ def _mixes_directions(text: str) -> bool:
 
 
 def saslprep(text: str) -> str:
-    """The text as SASLprep prepares it. `ValueError` is raised for what it prohibits."""
-    made = unicodedata.normalize("NFKC", _mapped(text))
-    if any(test(it) for it in made for test in _PROHIBITED):
+    """The text as PostgreSQL prepares it. `ValueError` is raised for what it prohibits."""
+    mapped = _mapped(text)
+    if not mapped:
+        raise ValueError("SASLprep leaves nothing of the text")
+    if any(test(it) for it in mapped for test in _PROHIBITED):
         raise ValueError("the text has a character that SASLprep prohibits")
-    if _mixes_directions(made):
+    if _mixes_directions(mapped):
         raise ValueError("the text has characters from right to left where SASLprep prohibits them")
-    return made
+    return unicodedata.normalize("NFKC", mapped)
 
 
 def prepared(password: bytes) -> bytes:
@@ -61,6 +65,6 @@ def prepared(password: bytes) -> bytes:
     if password.isascii():
         return password
     try:
-        return saslprep(password.decode()).encode() or password
+        return saslprep(password.decode()).encode()
     except ValueError:
         return password

@@ -40,7 +40,7 @@ static bool end(derivation *it, yz_status status)
 static bool hkdf_len(PyObject *object, uint32_t algorithm, size_t *len)
 {
     size_t most = YZ_HKDF_MAX_OUT_LEN(yz_output_len(algorithm));
-    Py_ssize_t wanted = PyLong_AsSsize_t(object);
+    Py_ssize_t wanted = PyNumber_AsSsize_t(object, PyExc_OverflowError);
     if (wanted == -1 && PyErr_Occurred()) return false;
     if (wanted < 0) {
         PyErr_SetString(PyExc_ValueError, "the length must be at least 0");
@@ -180,7 +180,7 @@ static bool derived_len(PyObject *object, uint32_t algorithm, size_t *len)
 {
     *len = yz_output_len(algorithm);
     if (object == NULL || object == Py_None) return true;
-    Py_ssize_t wanted = PyLong_AsSsize_t(object);
+    Py_ssize_t wanted = PyNumber_AsSsize_t(object, PyExc_OverflowError);
     if (wanted == -1 && PyErr_Occurred()) return false;
     if (wanted < 1) {
         PyErr_SetString(PyExc_ValueError, "the length of a derived key must be at least 1");

@@ -224,17 +224,23 @@ static PyObject *are_equal(const uint8_t *a, size_t a_len, const uint8_t *b, siz
     return PyBool_FromLong(answer);
 }
 
-/* Compares two texts, each of which must be ASCII. */
+/* The bytes of a text, which must be ASCII. One with a lone surrogate has no UTF-8. */
+static const char *ascii_of(PyObject *text, Py_ssize_t *len)
+{
+    const char *bytes = PyUnicode_AsUTF8AndSize(text, len);
+    if (bytes != NULL && *len == PyUnicode_GetLength(text)) return bytes;
+    if (bytes != NULL || PyErr_ExceptionMatches(PyExc_UnicodeEncodeError)) {
+        PyErr_SetString(PyExc_TypeError, "text that is not ASCII can't be compared");
+    }
+    return NULL;
+}
+
 static PyObject *compare_text(PyObject *a, PyObject *b)
 {
     Py_ssize_t a_len, b_len;
-    const char *a_text = PyUnicode_AsUTF8AndSize(a, &a_len);
-    const char *b_text = PyUnicode_AsUTF8AndSize(b, &b_len);
-    if (a_text == NULL || b_text == NULL) return NULL;
-    if (a_len != PyUnicode_GetLength(a) || b_len != PyUnicode_GetLength(b)) {
-        PyErr_SetString(PyExc_TypeError, "text that is not ASCII can't be compared");
-        return NULL;
-    }
+    const char *a_text = ascii_of(a, &a_len);
+    const char *b_text = a_text == NULL ? NULL : ascii_of(b, &b_len);
+    if (b_text == NULL) return NULL;
     return are_equal((const uint8_t *)a_text, (size_t)a_len, (const uint8_t *)b_text,
                      (size_t)b_len);
 }

@@ -216,7 +216,29 @@ class Arguments(unittest.TestCase):
                 yezdopin.pbkdf2_hmac(*given, 1, length)
         with self.assertRaises(ValueError):
             yezdopin.hkdf("sha256", b"", b"", b"", -1)
+        for length in (1.5, "1"):
+            for call in (hashlib.pbkdf2_hmac, yezdopin.pbkdf2_hmac):
+                self.assertRaises(TypeError, call, *given, 1, length)
+            self.assertRaises(TypeError, yezdopin.hkdf, "sha256", b"", b"", b"", length)
         self.assertEqual(yezdopin.hkdf("sha256", b"", b"", b"", 0), b"")
+
+    def test_index(self):
+        """What has `__index__` is a number, as for hashlib."""
+
+        class Three:
+            def __index__(self):
+                return 3
+
+        given = "sha256", b"password", b"salt"
+        want = hashlib.pbkdf2_hmac(*given, Three(), Three())
+        self.assertEqual(yezdopin.pbkdf2_hmac(*given, Three(), Three()), want)
+        for call in (
+            lambda length: yezdopin.hkdf("sha256", b"key", b"salt", b"info", length),
+            lambda length: yezdopin.hkdf_expand("sha256", bytes(32), b"info", length),
+            lambda length: yezdopin.hkdf_expand_label("sha256", bytes(32), b"key", b"", length),
+        ):
+            self.assertEqual(call(Three()), call(3))
+            self.assertEqual(len(call(3)), 3)
 
 
 class Hashes(unittest.TestCase):
@@ -270,9 +292,14 @@ class Comparison(unittest.TestCase):
         self.assertFalse(yezdopin.compare_digest("text", "texx"))
         self.assertFalse(yezdopin.compare_digest("text", "tex"))
         self.assertTrue(yezdopin.compare_digest("", ""))
-        for a, b in (("é", "é"), ("a", "é"), ("a", b"a"), (b"a", "a"), (1, b"a"), ("\ud800", "a")):
-            with self.assertRaises((TypeError, UnicodeEncodeError)):
-                yezdopin.compare_digest(a, b)
+        surrogate = "\ud800"
+        for a, b in (
+            ("é", "é"), ("a", "é"), ("a", b"a"), (b"a", "a"), (1, b"a"), (surrogate, "a"),
+            ("a", surrogate), (surrogate, surrogate), (surrogate, "é"), ("é", surrogate),
+        ):
+            for compare in (hmac.compare_digest, yezdopin.compare_digest):
+                with self.assertRaises(TypeError):
+                    compare(a, b)
 
 
 class Files(unittest.TestCase):

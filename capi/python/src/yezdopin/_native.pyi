@@ -1,7 +1,7 @@
 # SPDX-License-Identifier: ISC
 """The types of the extension, which native/ has in C."""
 
-from typing import Any, Callable, Iterable, Self, final
+from typing import Any, Callable, Iterable, Self, SupportsIndex, final
 
 from _typeshed import ReadableBuffer
 
@@ -100,27 +100,27 @@ def hkdf(
     secret: ReadableBuffer,
     salt: ReadableBuffer,
     info: ReadableBuffer,
-    length: int,
+    length: SupportsIndex,
 ) -> bytes: ...
 def hkdf_extract(
     hash_name: str, secret: ReadableBuffer, salt: ReadableBuffer = b""
 ) -> bytes: ...
 def hkdf_expand(
-    hash_name: str, prk: ReadableBuffer, info: ReadableBuffer, length: int
+    hash_name: str, prk: ReadableBuffer, info: ReadableBuffer, length: SupportsIndex
 ) -> bytes: ...
 def hkdf_expand_label(
     hash_name: str,
     secret: ReadableBuffer,
     label: ReadableBuffer,
     context: ReadableBuffer,
-    length: int,
+    length: SupportsIndex,
 ) -> bytes: ...
 def pbkdf2_hmac(
     hash_name: str,
     password: ReadableBuffer,
     salt: ReadableBuffer,
     iterations: int,
-    dklen: int | None = None,
+    dklen: SupportsIndex | None = None,
 ) -> bytes: ...
 def pbkdf2_hmac_verify(
     hash_name: str,

@@ -19,7 +19,7 @@ from machine import Refused, Region, at, run
 # A kind of function: the names, what its kernels are, and an example that tells them apart, which
 # gives those kernels that a function may be.
 Kind = namedtuple("Kind", "names kernels example")
-ROOM = 512  # bytes, of each region of an example
+ROOM = 2048  # bytes, of each region of an example
 
 
 def bytes_of(name, count=ROOM):
@@ -35,7 +35,7 @@ def words_in(data, size, count, lanes=1, lane=0):
 def add_regions(state, cpu, names):
     """A region of numbers for each name, all as arguments."""
     for register, name in zip(cpu.ARGUMENTS, names):
-        region = Region(name, 0, ROOM, name in ("state", "states", "result", "sums", "meter"), 16)
+        region = Region(name, 0, ROOM, name in ("state", "states", "outputs", "sums", "meter"), 16)
         region.cells = {i: terms.constant(it, 8) for i, it in enumerate(bytes_of(name))}
         state.add_region(region)
         state.registers[register] = at(name)
@@ -95,23 +95,46 @@ def block_of_words(cpu, library, symbol, kernels):
 
 
 def xor_iterates(cpu, library, symbol, kernels):
-    start = cpu.start_state(library, symbol, library.instructions(False))
-    add_regions(start, cpu, ["result", "inner", "outer", "first", "iterations", "meter"])
-    start.registers[cpu.ARGUMENTS[4]] = terms.constant(2, 64)
-    after = content_after(start, "result")
-    for kernel in kernels:
+    forms = {(it.function.width, it.lanes == 1) for it in kernels}
+    after = {it: after_iterates(cpu, library, symbol, *it) for it in sorted(forms)}
+    # Eight lanes have what four have, and more.
+    for kernel in sorted(kernels, key=lambda it: -it.lanes):
         function, lanes, front = kernel
-        size, numbers = function.width // 8, fips180_4.Numbers(function.width)
-        padding, found = padding_numbers(function, front), []
-        for i in range(lanes):
-            first = words_in(bytes_of("first"), size, front, lanes, i)
-            inner, outer = (words_in(bytes_of(name), size, function.words, lanes, i)
-                            for name in ("inner", "outer"))
-            inside = fips180_4.next_state(function, numbers, inner, first + padding)[:front]
-            following = fips180_4.next_state(function, numbers, outer, inside + padding)
-            found.append([x ^ y for x, y in zip(first, following)])
-        if after and found == [words_in(after, size, front, lanes, i) for i in range(lanes)]:
+        size, data = function.width // 8, after[function.width, lanes == 1]
+        if data and all(
+                [int.from_bytes(data[64 * lane + size * i:64 * lane + size * (i + 1)], "big")
+                 for i in range(front)] == two_iterates(function, front, lane)
+                for lane in range(lanes)):
             yield kernel
+
+
+def after_iterates(cpu, library, symbol, width, is_counted):
+    """The outputs of eight lanes after two iterations, from states of such words. One lane has the
+    number of outputs as an argument."""
+    start = cpu.start_state(library, symbol, library.instructions(False))
+    add_regions(start, cpu, ["derivation", "starts", "outputs",
+                             *(["count"] if is_counted else []), "meter"])
+    if is_counted:
+        start.registers[cpu.ARGUMENTS[3]] = terms.constant(8, 64)
+    for i, it in enumerate((2).to_bytes(4, "little")):
+        start.regions["derivation"].cells[0x28 + i] = terms.constant(it, 8)
+    for i in range(24):
+        start.regions["starts"].cells[72 * i] = terms.constant(int(width == 32), 8)
+    return content_after(start, "outputs")
+
+
+def two_iterates(function, front, lane):
+    size, numbers = function.width // 8, fips180_4.Numbers(function.width)
+    starts, padding = bytes_of("starts"), padding_numbers(function, front)
+    inner, outer, digest = (
+        words_in(starts[72 * (8 * i + lane) + size:], size, function.words) for i in range(3))
+
+    def tag(message):
+        return fips180_4.next_state(function, numbers, outer, message[:front] + padding)[:front]
+
+    first = tag(digest)
+    following = tag(fips180_4.next_state(function, numbers, inner, first + padding))
+    return [x ^ y for x, y in zip(first, following)]
 
 
 def assigned(cpu, library, kind):

@@ -11,7 +11,7 @@ import terms
 import x86
 from identify import Kind
 from loops import Loop, big_endian_words, find_heads, literals, put_word, word_at
-from machine import Pointer, Refused, Region, at, offset_of, run
+from machine import Part, Pointer, Refused, Region, at, offset_of, run
 
 ARCHITECTURES = {62: x86, 183: arm}
 
@@ -31,6 +31,15 @@ def check_words(region, offset, size, expected, what="chaining word"):
     for j, word in enumerate(expected):
         if word_at(region, offset + j * size, size) != word:
             raise Refused(f"{what} {j} in {region.name} is not the standard's")
+
+
+def check_output(region, offset, function, words):
+    """Words as bytes, the highest first."""
+    size = function.width // 8
+    for j, word in enumerate(words):
+        cells = [region.cell(offset + size * j + i) for i in reversed(range(size))]
+        if any(isinstance(it, Part) for it in cells) or terms.joined(cells) != word:
+            raise Refused(f"word {j} at {offset} of {region.name} is not the standard's")
 
 
 def run_ahead(cpu, library, symbol, function):
@@ -167,11 +176,7 @@ def output_after(cpu, library, symbol, function, instructions):
     ends, steps = over_message(symbol, function, start, chaining, length)
     for end in ends:
         cpu.check_return(end, start)
-        for j, word in enumerate(end.words):
-            there = terms.joined([end.regions["output"].cell(size * j + i)
-                                  for i in reversed(range(size))])
-            if there != word:
-                raise Refused(f"word {j} of the output is not the standard's")
+        check_output(end.regions["output"], 0, function, end.words)
     return steps, start.program.used
 
 
@@ -219,44 +224,72 @@ def padding_of(function, front):
     return [terms.constant(it, function.width) for it in words]
 
 
-def xor_iterates(cpu, library, symbol, function, lanes, front, instructions=False):
-    """xor_iterates(result, inner, outer, first, iterations, meter), PBKDF2's loop, in each lane:
-    U is replaced by the HMAC of U, where `inner` and `outer` are the chaining words after the key's
-    blocks, and T by the exclusive or of T and U. Both are `first` at first; the last T is the
-    result. Iterations aren't 0."""
+# Where a derivation has its iterations; the inner states of all lanes stand before the outer ones,
+# and those before the inner digests of the first messages. A state has a tag and eight words.
+ITERATIONS, DERIVATION_SIZE, MAX_LANES, OUTPUT_ROOM = 0x28, 0x38, 8, 64
+STATE_SIZE = 9 * 8
+STARTS = ("inner", "outer", "digest")
+
+
+def put_starts(region, function, states):
+    """The states that the lanes start from, by their names in STARTS: lists of words."""
     size = function.width // 8
+    for i, name in enumerate(STARTS):
+        for lane, words in enumerate(states[name]):
+            offset = STATE_SIZE * (MAX_LANES * i + lane)
+            region.cells[offset] = terms.constant(int(function.width == 32), 8)
+            for j, word in enumerate(words):
+                put_word(region, offset + size * (j + 1), word)
+
+
+def tag_words(function, padding, states, lane, digest):
+    """HMAC's, of the message with an inner digest."""
+    symbols, front = fips180_4.Symbols(function.width), len(digest)
+    outer = states["outer"][lane][:function.words]
+    return fips180_4.next_state(function, symbols, outer, digest + padding)[:front]
+
+
+def next_iterates(function, lanes, front, padding, states, old):
+    """U and T of all lanes after an iteration, from those before it."""
+    symbols, U, T = fips180_4.Symbols(function.width), [], []
+    for lane in range(lanes):
+        message = old[front * lane:front * (lane + 1)]
+        inner = states["inner"][lane][:function.words]
+        inside = fips180_4.next_state(function, symbols, inner, message + padding)[:front]
+        U += tag_words(function, padding, states, lane, inside)
+    for x, y in zip(old[front * lanes:], U):
+        T.append(terms.xor_words(x, y))
+    return U + T
+
+
+def xor_iterates(cpu, library, symbol, function, lanes, front, instructions=False):
+    """xor_iterates(derivation, starts, outputs, meter), PBKDF2's loop, in each lane: U is first the
+    tag of the message whose inner digest is there, and is then replaced by the HMAC of U, where the
+    starts have the chaining words after the key's blocks. T is the exclusive or of all U. Its bytes
+    are the output. Iterations aren't 0. One lane has how many outputs there are as an argument
+    before the meter, which the compiler has dropped of more."""
     start = cpu.start_state(library, symbol, library.instructions(instructions))
-    words = {}
-    for i, name in enumerate(("result", "inner", "outer", "first")):
-        region = Region(name, 0, 8 * size * lanes, name == "result", size)
-        start.add_region(region)
-        start.registers[cpu.ARGUMENTS[i]] = at(name)
-        words[name] = [fresh_words(f"{name}{lane}.", function, 8) for lane in range(lanes)]
-        if name != "result":
-            for lane in range(lanes):
-                for j, word in enumerate(words[name][lane]):
-                    put_word(region, size * (lanes * j + lane), word)
+    states = {name: [fresh_words(f"{name}{lane}.", function, 8) for lane in range(lanes)]
+              for name in STARTS}
     iterations = terms.fresh("iterations", 32, secret=False)
-    start.registers[cpu.ARGUMENTS[4]] = iterations + terms.fresh("upper", 32)
-    start.registers[cpu.ARGUMENTS[5]] = at("meter")
-    start.add_region(Region("meter", 0, 16, True, 8))
-    symbols = fips180_4.Symbols(function.width)
+    derivation = Region("derivation", 0, DERIVATION_SIZE, modulus=8)
+    put_word(derivation, ITERATIONS, iterations)
+    starts = Region("starts", 0, len(STARTS) * MAX_LANES * STATE_SIZE, modulus=8)
+    put_starts(starts, function, states)
+    outputs = Region("outputs", 0, lanes * OUTPUT_ROOM, True)
+    for region in (derivation, starts, outputs, Region("meter", 0, 16, True, 8)):
+        start.add_region(region)
+    counted = [terms.constant(1, 64)] if lanes == 1 else []
+    arguments = [at("derivation"), at("starts"), at("outputs"), *counted, at("meter")]
+    start.registers.update(zip(cpu.ARGUMENTS, arguments))
     padding = padding_of(function, front)
-
-    def step(_, old):
-        U, T = [], []
-        for lane in range(lanes):
-            inner, outer = (words[name][lane][:function.words] for name in ("inner", "outer"))
-            message = old[front * lane:front * (lane + 1)]
-            inside = fips180_4.next_state(function, symbols, inner, message + padding)
-            U += fips180_4.next_state(function, symbols, outer, inside[:front] + padding)[:front]
-        for x, y in zip(old[front * lanes:], U):
-            T.append(terms.xor_words(x, y))
-        return U + T
-
-    first = [word for lane in words["first"] for word in lane[:front]]
+    first = [word for lane in range(lanes)
+             for word in tag_words(function, padding, states, lane, states["digest"][lane][:front])]
     turns = terms.subtract(iterations, terms.constant(1, 32)) + (0,) * 32
     some = terms.xor(1, terms.borrow(iterations, terms.constant(2, 32)))
+
+    def step(_, old):
+        return next_iterates(function, lanes, front, padding, states, old)
 
     def prove(entry):
         loop = Loop(entry, function.width, first + first, step, turns)
@@ -269,10 +302,8 @@ def xor_iterates(cpu, library, symbol, function, lanes, front, instructions=Fals
     for end in (without, after):
         cpu.check_return(end, start)
         for lane in range(lanes):
-            for j in range(front):
-                expected = end.words[front * (lanes + lane) + j]
-                if word_at(end.regions["result"], size * (lanes * j + lane), size) != expected:
-                    raise Refused(f"word {j} of lane {lane} of the result is not PBKDF2's")
+            expected = end.words[front * (lanes + lane):front * (lanes + lane + 1)]
+            check_output(end.regions["outputs"], OUTPUT_ROOM * lane, function, expected)
     return steps, start.program.used
 
 

@@ -1,8 +1,10 @@
 /* SPDX-License-Identifier: ISC
  * Copyright 2026 the Yezdopin authors.
  *
- * What the library runs on this processor. It is C beside the proved crate, and no proof covers it:
- * a wrong answer can end the program by SIGILL, and no call gives other bytes by it. */
+ * What the library runs on this processor. It is C beside the proved crate, and no proof covers it.
+ * After a wrong answer most instructions end the program by SIGILL. But a processor without LZCNT
+ * or BMI runs `lzcnt` and `tzcnt` as `bsr` and `bsf`, which give other numbers: a call may then read
+ * or write outside of its buffers. So each set is asked for by its own bit (test/dispatch.c). */
 #include "processor.h"
 #if defined(__x86_64__)
 #ifndef bit_AVX2 /* test/dispatch.c has included it, which gcc before 11 can't do twice */

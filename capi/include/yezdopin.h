@@ -19,6 +19,9 @@
  *   it is no pointer to const; where the length is 0 it may be NULL, but for that in a yz_message;
  * - the same of a pointer to messages or to hashes with their number behind it;
  * - what a call writes overlaps nothing else that it is given;
+ * - until a call returns, no other thread writes what it reads or writes. A call may read a byte more
+ *   than once: yz_jws_verify reads a token for its tag and again for its payload, and may accept one
+ *   text and return another. No call copies its inputs, which would need memory;
  * - a pointer to a context, a key, a single hash or a single number is aligned as its type, and not
  *   NULL;
  * - the thread has 8 KiB of stack left (Windows: 12), and for a call of password hashes 20 KiB.
@@ -50,7 +53,10 @@
 #endif
 
 #ifdef __cplusplus
+#define YZ_AS_SIZE(n) static_cast<size_t>(n)
 extern "C" {
+#else
+#define YZ_AS_SIZE(n) ((size_t)(n))
 #endif
 
 /* The algorithms, for `uint32_t algorithm`. */
@@ -401,7 +407,7 @@ yz_status yz_merkle_consistency_path(const yz_merkle_hash *leaves, size_t count,
  * caller to test, and for whom it was made. A token has YZ_JWS_TOKEN_LEN(n, m) bytes, where a
  * digest has n and the payload m. */
 #define YZ_JWS_TOKEN_LEN(n, m) (38 + YZ_BASE64_LEN(n) + YZ_BASE64_LEN(m))
-#define YZ_BASE64_LEN(n) ((size_t)(n) + ((size_t)(n) + 2) / 3)
+#define YZ_BASE64_LEN(n) (YZ_AS_SIZE(n) + (YZ_AS_SIZE(n) + 2) / 3)
 
 /* Writes the token of a payload to the start of `token`, which has `token_room` bytes, and to
  * `token_len` how many bytes it has, which are YZ_JWS_TOKEN_LEN. No zero follows it, and the rest

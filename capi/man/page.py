@@ -118,7 +118,7 @@ def types(found):
 def plain_number(value):
     """A value as a reader who is no compiler writes it."""
     value = re.sub(r"^\((.*)\)$", r"\1", value.replace("UINT64_C(0xffffffff)", r"(2^32 \- 1)"))
-    return re.sub(r"(?<=\d)u\b|\(size_t\)", "", value)
+    return re.sub(r"(?<=\d)u\b|\bYZ_AS_SIZE(?=\(n\))", "", value)
 
 
 def constants(found):

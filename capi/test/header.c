@@ -15,3 +15,8 @@
 bool is_supported(void);
 
 bool is_supported(void) { return yz_supported(); }
+
+/* The macros, without a cast that C++ warns of. */
+static inline size_t lengths(size_t len) {
+    return YZ_JWS_TOKEN_LEN(len, 32) + YZ_HKDF_MAX_OUT_LEN(len) + YZ_PBKDF2_MAX_OUT_LEN(len);
+}

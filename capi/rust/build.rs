@@ -29,16 +29,22 @@ fn target() -> (&'static str, &'static str) {
         Some(("x86_64", "pc-windows-gnu")) => ("windows", "x86_64"),
         Some(("x86_64", "apple-darwin")) => ("macos", "x86_64"),
         Some(("aarch64", "apple-darwin")) => ("macos", "aarch64"),
-        Some(("x86_64", it)) if it.contains("linux-") => ("linux", "x86_64"),
-        Some(("aarch64", it)) if it.contains("linux-") => ("linux", "aarch64"),
+        Some(("x86_64", it)) if is_linux(it) => ("linux", "x86_64"),
+        Some(("aarch64", it)) if is_linux(it) => ("linux", "aarch64"),
         _ => {
             eprintln!(
-                "libyezdopin is machine code for Linux and macOS on x86-64-v2 or aarch64, and for \
-                 Windows on x86-64-v2 (windows-gnu), and not for {target}"
+                "libyezdopin is machine code for Linux (gnu or musl) and macOS on x86-64-v2 or \
+                 aarch64, and for Windows on x86-64-v2 (windows-gnu), and not for {target}"
             );
             exit(1)
         }
     }
+}
+
+// Whether a target is Linux with a C library that the crate runs on: Android's has another
+// `errno`, and x32 other pointers.
+fn is_linux(target: &str) -> bool {
+    target.ends_with("linux-gnu") || target.ends_with("linux-musl")
 }
 
 // The folder above, if it is the repository's: it has the assembly text and what chooses a build.

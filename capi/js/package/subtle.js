@@ -30,9 +30,11 @@ function hashOf(algorithm) {
 
 class Key {
   #bytes;
+  #hash;
 
   constructor(bytes, algorithm, usages) {
     this.#bytes = bytes;
+    if (algorithm.hash) this.#hash = numberOf(Object.freeze(algorithm.hash).name);
     this.type = "secret";
     this.extractable = false;
     this.algorithm = Object.freeze(algorithm);
@@ -48,6 +50,11 @@ class Key {
     }
     return key.#bytes;
   }
+
+  /** The number of the hash of a key for HMAC. */
+  static hashOf(key) {
+    return key.#hash;
+  }
 }
 
 const isLong = (message) => message.length > LONG;
@@ -56,7 +63,7 @@ const bufferOf = ({ buffer }) => buffer;
 function tagWords(algorithm, key, use) {
   const { name } = algorithmOf(algorithm), value = Key.bytesOf(key, name, use);
   if (name !== "HMAC") throw failed("NotSupportedError", "Unrecognized algorithm name");
-  return [numberOf(key.algorithm.hash.name), value];
+  return [Key.hashOf(key), value];
 }
 
 export const subtle = {

@@ -82,6 +82,29 @@ test("the module itself leaves secrets on its stack, and that test would see the
   for (const it of [verify, made]) assert.ok(it > 0 && it <= 20 * 1024);
 });
 
+test("a worker wipes the words of a call, also of one that is refused", async (t) => {
+  const worker = new Worker(new URL("worker_node.js", main));
+  t.after(() => worker.terminate());
+  const answerTo = async (message) => {
+    worker.postMessage(message);
+    return (await once(worker, "message"))[0];
+  };
+  await answerTo({ module: new WebAssembly.Module(readFileSync(`${PACKAGE}/yezdopin.wasm`)) });
+  // Of memory that both threads have.
+  const shared = (len) => new Uint8Array(new SharedArrayBuffer(len)).fill(0xaa);
+  for (const algorithm of [2, 99]) {
+    const key = shared(40), message = shared(300);
+    const { answer, error } = await answerTo({ call: "hmac", words: [algorithm, key, message] });
+    if (algorithm === 2) {
+      const wanted = crypto.createHmac("sha256", Buffer.alloc(40, 0xaa));
+      assert.equal(hex(answer), wanted.update(Buffer.alloc(300, 0xaa)).digest("hex"));
+    } else assert.ok(error);
+    // The worker wipes behind its answer, and before it takes another call.
+    await answerTo({ call: "digest", words: [algorithm, shared(0)] });
+    for (const it of [key, message]) assert.ok(it.every((byte) => byte === 0));
+  }
+});
+
 // Calls a function with a method of all typed arrays in another form, which is passed the usual one
 // and the array.
 function withMethod(name, method, call) {

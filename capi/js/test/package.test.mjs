@@ -430,6 +430,47 @@ test("WebCrypto's shape beside WebCrypto", async () => {
   }
 });
 
+// Tags that are not the whole tag: none, shorter and longer ones, and with a byte changed.
+function wrongTags(tag) {
+  const changed = Array.from(tag, (byte, at) => {
+    const other = Buffer.from(tag);
+    other[at] ^= 1;
+    return other;
+  });
+  return [Buffer.alloc(0), tag.subarray(0, 1), tag.subarray(0, -1), tag.subarray(1),
+    Buffer.concat([tag, Buffer.alloc(1)]), Buffer.concat([tag, tag]), ...changed];
+}
+
+test("only the whole tag is right, around each length at which a call changes its way", async () => {
+  const key = crypto.randomBytes(32), hashes = { sha1: "SHA-1", sha256: "SHA-256",
+    sha384: "SHA-384", sha512: "SHA-512" };
+  for (const [name, hash] of Object.entries(hashes)) {
+    const algorithm = { name: "HMAC", hash };
+    const made = await yz.subtle.importKey("raw", key, algorithm, false, ["verify"]);
+    for (const len of [0, 100, 65536, 65537, 262144, 262145]) {
+      const message = crypto.randomBytes(len);
+      const tag = crypto.createHmac(name, key).update(message).digest();
+      const verifies = (it) => yz.subtle.verify("HMAC", made, it, message);
+      assert.equal(yz.hmacVerify(name, key, message, tag), true);
+      assert.equal(await verifies(tag), true);
+      for (const it of wrongTags(tag)) assert.equal(yz.hmacVerify(name, key, message, it), false);
+      for (const it of wrongTags(tag).slice(0, 8)) assert.equal(await verifies(it), false);
+    }
+  }
+});
+
+test("a key of WebCrypto's shape keeps its hash", async () => {
+  const raw = crypto.randomBytes(32), algorithm = { name: "HMAC", hash: { name: "SHA-256" } };
+  const key = await yz.subtle.importKey("raw", raw, algorithm, false, ["sign"]);
+  const wanted = crypto.createHmac("sha256", raw).update("abc").digest("hex");
+  algorithm.hash.name = "SHA-1";
+  for (const it of [key, key.algorithm, key.algorithm.hash, key.usages]) {
+    assert.ok(Object.isFrozen(it));
+  }
+  assert.throws(() => { key.algorithm.hash.name = "SHA-1"; }, TypeError);
+  assert.equal(hex(new Uint8Array(await yz.subtle.sign("HMAC", key, Buffer.from("abc")))), wanted);
+});
+
 test("sources: blobs, streams and iterables, with progress", async () => {
   const message = crypto.randomBytes((9 << 20) + 5), wanted = theirs("sha256", message);
   const file = new URL(import.meta.url);

@@ -46,8 +46,8 @@
 //! }
 //! ```
 //!
-//! [`digest_each_counted`] computes the digests of several messages, of any lengths. It is faster than one
-//! call for each where there are four or more under SHA-1 or SHA-256:
+//! [`digest_each_counted`] computes the digests of several messages, of any lengths. It is faster
+//! than one call for each where there are four or more under SHA-1 or SHA-256:
 //!
 //! ```
 //! pub fn digests_of_four(
@@ -63,8 +63,9 @@
 //! }
 //! ```
 //!
-//! [`update_each_counted`] adds a piece to each of several contexts, of one algorithm or of several. It is
-//! faster than one call for each where four or more of SHA-1 or of SHA-256 follow each other:
+//! [`update_each_counted`] adds a piece to each of several contexts, of one algorithm or of
+//! several. It is faster than one call for each where four or more of SHA-1 or of SHA-256 follow
+//! each other:
 //!
 //! ```
 //! pub fn digests_in_pieces(

@@ -37,8 +37,8 @@
 //! Each iteration past the first costs the caller, and anyone who guesses secrets, two blocks for
 //! each round of output. Each secret should have a salt of its own.
 //!
-//! [`derive_each_counted`] derives keys of one length from several secrets, each with its salt. It is
-//! faster than one call for each where they have four rounds of output or more under SHA-1 or
+//! [`derive_each_counted`] derives keys of one length from several secrets, each with its salt. It
+//! is faster than one call for each where they have four rounds of output or more under SHA-1 or
 //! SHA-256:
 //!
 //! ```

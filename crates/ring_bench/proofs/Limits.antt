@@ -1,8 +1,8 @@
 -- SPDX-License-Identifier: ISC
 -- Lemmas on the tests of limits, each of which passes exactly where its limit holds, and on the
 -- blocks that tell whether a verification was refused.
-use Rattle.std.proofs.Common.{◌≡◌, ℕ, ◌+◌, ◌-◌, ◌^◌, ◌<◌, ◌≤◌, nat_le, Bool, true, false, true≢false}
-use Rattle.std.proofs.Common.{List, refl, sym, ap, arith, rules, ◌∙◌}
+use Rattle.std.proofs.Common.{◌≡◌, ℕ, ◌+◌, ◌-◌, ◌^◌, ◌<◌, ◌≤◌, ◌∙◌, nat_le, Bool, true, false}
+use Rattle.std.proofs.Common.{List, refl, sym, ap, arith, rules, true≢false}
 use Rattle.std.proofs.lemmas.Bool.Decides.{nat_tests, same_from_decides}
 use Rattle.std.specs.Str.{bytes_eq}
 use Rattle.std.proofs.lemmas.Slice.Eq.{bytes_eq-Decides}

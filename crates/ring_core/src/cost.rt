@@ -2,8 +2,8 @@
 //! The meter, which counts the work of the block functions and of the comparison.
 //!
 //! A call whose name ends in `_counted` takes a `&mut Meter`, and its clause `cost` says by how
-//! much both counts rise. The plain form, of the same name without `_counted`, makes that one call
-//! with a new meter.
+//! much both counts rise. Where a call has a plain form too, that has the same name without
+//! `_counted`, and makes the counted call with a new meter.
 //!
 //! ```
 //! pub fn blocks_of_digest(message: &[u8]) -> Result<u128, Unspecified>

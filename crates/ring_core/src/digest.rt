@@ -8,17 +8,20 @@
 //! |---|---|---|---|
 //! | `window` | a window of sixteen words, by twos | one message | the plain form |
 //! | `by_fours` | by fours, ahead of the rounds | one message | rounds add ready sums |
-//! | `lanes` | such a window of words in lanes | several messages | one operation serves all |
-//! | `by_instruction` | by fours, between the rounds | one message | two or four rounds at once |
+//! | `lanes` | such a window of words in lanes | several | one operation serves all |
+//! | `by_instruction` | by fours, between the rounds | one message | 2 or 4 rounds at once |
 //!
 //! SHA-512 has no kernel `by_instruction`. A window holds the last sixteen words of a schedule, word
 //! `t` in slot `t` modulo 16. That of one block gets two words at a time, in the two lanes of a
 //! vector.
 //!
 //! The functions with the plain names, such as `sha2::block_data_order_64`, run the kernel `window`.
-//! Those whose names have `fastest` run what `kernel` chooses, which `ring` calls: `by_fours`, but
-//! in the module for JavaScript, which has no vectors, `window`, and in a build that puts a
-//! processor's `instructions` in their functions' place `by_instruction`.
+//! Those whose names have `fastest` are what `ring` calls. They run the kernel that `kernel::fastest`
+//! chooses:
+//!
+//! - `by_instruction`, in a build that has a processor's `instructions`, on such a processor;
+//! - else `window`, in the module for JavaScript, which has no vectors;
+//! - else `by_fours`.
 //!
 //! They are written over traits:
 //!

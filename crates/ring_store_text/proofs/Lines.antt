@@ -17,8 +17,8 @@ use Rattle.ring_store.specs.declared.credential.Record.{Record}
 use Rattle.ring_store.proofs.Entries.{entries-found}
 use Rattle.ring_store.proofs.Names.{order}
 use Rattle.ring_store_text.proofs.Entries.{find_below, lower}
-use Rattle.ring_store_text.proofs.Texts.{lines_of-cons, lines_of-injective, no_line, record_then-grows}
-use Rattle.ring_store_text.proofs.Texts.{record_then-injective}
+use Rattle.ring_store_text.proofs.Texts.{lines_of-cons, lines_of-injective, no_line}
+use Rattle.ring_store_text.proofs.Texts.{record_then-grows, record_then-injective}
 
 -- lines that begin with that of an entry
 pub record Line (last : List ℕ) (e : List ℕ × Record) (rest : List ℕ)

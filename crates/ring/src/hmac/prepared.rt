@@ -11,7 +11,7 @@ ghost use Rattle.ring.specs.Prelude.{SHA1_FOR_LEGACY_USE_ONLY, SHA256, SHA384, S
 ghost use Rattle.ring.specs.Prelude.{block_function, digest_bytes, digest_at, digest_of, hmac_of};
 ghost use Rattle.ring.specs.Prelude.{inner_block, is_state_of, key_algorithm, output_len};
 ghost use Rattle.ring.specs.Prelude.{KeyStandsFor, padded_blocks, prepared_padding};
-ghost use Rattle.ring.specs.Prelude.{raised, state_word_len, word_count, word_len, words};
+ghost use Rattle.ring.specs.Prelude.{raised, word_count, word_len, words};
 
 use crate::digest;
 use crate::digest::algorithm::words;
@@ -345,7 +345,8 @@ impl<H: DigestBlock> PreparedKeys<H> {
     }
 
     // Replaces `tags` by those of the messages whose inner digests are `inside`, under the key in
-    // each lane. The tags are made in place: of a copy the next block would be loaded again.
+    // each lane. The tags are made in place: were they returned, they would be stored and loaded
+    // once more between two blocks.
     #[inline(always)]
     fn finish_tags(&self, inside: &Digests<H>, tags: &mut Digests<H>, meter: &mut Meter)
         requires { 0 < H.LANES }

@@ -1,6 +1,7 @@
 // SPDX-License-Identifier: ISC
-//! The limit of a message. It is a module of its own, since digests import it, and the algorithms
-//! that the other limits import are made of digests.
+//! The limit of a message. It has a module of its own, since the imports would go in a circle
+//! otherwise: the other limits import the algorithms of HMAC, whose module imports digests, and
+//! digests import this limit.
 
 ghost use Rattle.std.specs.Prelude.{◌↔◌, IsTrue};
 ghost use Rattle.ring.specs.Prelude.{IsMessageWithin};

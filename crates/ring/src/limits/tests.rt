@@ -15,7 +15,12 @@ const LONGEST_OF_LONG_BLOCKS: u128 = 42_535_295_865_117_307_932_921_825_928_971_
 
 #[test]
 fn messages(rt: HostRuntime) {
-    let rows = [(SHA256, LONGEST, true), (SHA256, LONGEST + 1, false)];
+    let rows = [
+        (SHA256, LONGEST, true),
+        (SHA256, LONGEST + 1, false),
+        (SHA512, LONGEST_OF_LONG_BLOCKS, true),
+        (SHA512, LONGEST_OF_LONG_BLOCKS + 1, false),
+    ];
     for (algorithm, len, is_within) in rows {
         assert!(rt; is_message_within(&algorithm, len) == is_within, "{len}");
     }

@@ -1,6 +1,7 @@
 // SPDX-License-Identifier: ISC
 //! The block function of SHA-1 (FIPS 180-4, 6.1.2): of one message in `window`, `by_fours` and
-//! `by_instruction`, of several side by side in `lanes`. `fastest` runs the one that is the fastest.
+//! `by_instruction`, of several side by side in `lanes`. `fastest` runs the fastest of the first
+//! three.
 
 mod arm;
 mod by_fours;

@@ -1,7 +1,8 @@
 // SPDX-License-Identifier: ISC
 //! The block functions of SHA-2 (FIPS 180-4, 6.2.2 and 6.4.2), written once for both word sizes: of
 //! one message in `window` and `by_fours`, of several side by side in `lanes`. SHA-256 has
-//! `by_instruction` besides, for one message. `fastest` runs the one that is the fastest.
+//! `by_instruction` besides, for one message. `fastest` runs the fastest of those of
+//! one message.
 ghost use Rattle.std.specs.Prelude.{ℕ, ◌<◌, slice_index};
 ghost use Rattle.ring_core.specs.Prelude.{IsRootFraction, constants_256, constants_512};
 ghost use Rattle.ring_core.specs.Prelude.{first_primes};

@@ -2,7 +2,7 @@
 //! Digest algorithms over chaining states in lanes: one state alone, or as many as a vector has
 //! words.
 
-ghost use Rattle.std.proofs.Common.{ap, refl};
+ghost use Rattle.std.proofs.Common.{ap};
 ghost use Rattle.std.specs.Prelude.{◌≡◌, ℕ, ◌<◌, ◌≤◌, All, List, drop, length, map};
 ghost use Rattle.ring_core.specs.Prelude.{array_at, words_of_lane, xor_lists};
 ghost use Rattle.ring.specs.Prelude.{Algorithm, CanRunTogether, EachItem, HasWords};

@@ -7,7 +7,7 @@ ghost use Rattle.ring_core.specs.FourWords.{later_four, next_four};
 ghost use Rattle.ring_core.specs.Prelude.{HoldsSums, IsAhead, IsReady, IsSummed, chunk_items};
 ghost use Rattle.ring_core.specs.Prelude.{chunk_total, four, low_32, sixteen, word_32, word_at};
 ghost use Rattle.ring_core.specs.Kernel.{RunsSha1, RunsSha1Words};
-ghost use Rattle.ring_core.specs.Sha1.{HasWords, W, block_step, blocks_from, ready_sum};
+ghost use Rattle.ring_core.specs.Sha1.{HasWords, W, block_step, ready_sum};
 ghost use Rattle.ring_core.specs.Sha1.{rounds_from};
 
 use crate::cost::Meter;

@@ -14,8 +14,11 @@ use crate::polyfill::slice::AsChunks;
 use std::num::Wrapping;
 use std::simd::Simd;
 
-/// Gives what [`sha1_block_data_order_counted`](crate::digest::sha1::sha1_block_data_order_counted)
-/// gives, by the fastest kernel. Each block is counted on `meter`.
+/// Runs SHA-1's block function over each of `blocks`, of 64 bytes, in order (6.1.2), by the fastest
+/// kernel of this build on this processor.
+///
+/// The first five words of `state` are the chaining words, which are replaced. The last three stay.
+/// Each block is counted on `meter`.
 pub fn sha1_block_data_order_fastest_counted(
     state: &mut [Wrapping<u32>; 8],
     blocks: AsChunks<'_, u8, 64>,
@@ -32,8 +35,12 @@ pub fn sha1_block_data_order_fastest_counted(
     }
 }
 
-/// Gives what [`sha1_block_of_words_counted`](crate::digest::sha1::sha1_block_of_words_counted)
-/// gives, by the fastest kernel. One block is counted on `meter`.
+/// Runs SHA-1's block function over one block that is given as words (6.1.2), by the fastest kernel
+/// of this build on this processor: the first five words of `front`, and then those of `padding`
+/// from the sixth on.
+///
+/// The first five words of `state` are replaced, and the last three stay. One block is counted on
+/// `meter`.
 pub fn sha1_block_of_words_fastest_counted(
     state: &mut [Wrapping<u32>; 8],
     front: &[Wrapping<u32>; 8],

@@ -166,7 +166,8 @@ fn next_four_rounds<S: Sha1ByTwo<One = Wrapping<u32>>>(
 }
 
 // Runs the block function in each lane, over the block there. Each call of rounds stands here, so
-// that it is inlined for each kind of block; the compiler keeps in registers what words it can.
+// that it is inlined for each kind of block. The compiler keeps as many words in registers as it
+// can.
 pub(crate) fn run_block<S: Sha1ByTwo<One = Wrapping<u32>>, B: BlockWords<S>>(
     state: &mut [S; 8],
     block: &B,

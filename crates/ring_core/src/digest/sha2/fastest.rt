@@ -20,8 +20,9 @@ use crate::polyfill::slice::AsChunks;
 use std::num::Wrapping;
 use std::simd::Simd;
 
-/// Gives what [`block_data_order_32_counted`](crate::digest::sha2::block_data_order_32_counted)
-/// gives, by the fastest kernel. Each block is counted on `meter`.
+/// Runs SHA-256's block function over each of `blocks`, of 64 bytes, in order, by the fastest
+/// kernel of this build on this processor, and replaces the chaining words `state` (6.2.2). Each
+/// block is counted on `meter`.
 pub fn block_data_order_32_fastest_counted(
     state: &mut State32,
     blocks: AsChunks<'_, u8, 64>,
@@ -38,8 +39,9 @@ pub fn block_data_order_32_fastest_counted(
     }
 }
 
-/// Gives what [`block_data_order_64_counted`](crate::digest::sha2::block_data_order_64_counted)
-/// gives, by the fastest kernel. Each block is counted on `meter`.
+/// Runs SHA-512's block function, which SHA-384 and SHA-512/256 share, over each of `blocks`, of
+/// 128 bytes, in order, by the fastest kernel of this build on this processor, and replaces the
+/// chaining words `state` (6.4.2). Each block is counted on `meter`.
 pub fn block_data_order_64_fastest_counted(
     state: &mut State64,
     blocks: AsChunks<'_, u8, 128>,
@@ -54,8 +56,9 @@ pub fn block_data_order_64_fastest_counted(
     }
 }
 
-/// Gives what [`block_of_words_32_counted`](crate::digest::sha2::block_of_words_32_counted) gives,
-/// by the fastest kernel. One block is counted on `meter`.
+/// Runs SHA-256's block function over one block that is given as words, by the fastest kernel of
+/// this build on this processor, and replaces the chaining words `state` (6.2.2). The block is the
+/// eight words of `front` and then the last eight of `padding`. One block is counted on `meter`.
 pub fn block_of_words_32_fastest_counted(
     state: &mut State32,
     front: &State32,
@@ -76,8 +79,10 @@ pub fn block_of_words_32_fastest_counted(
     }
 }
 
-/// Gives what [`block_of_words_64_counted`](crate::digest::sha2::block_of_words_64_counted) gives,
-/// by the fastest kernel. One block is counted on `meter`.
+/// Runs SHA-512's block function, which SHA-384 and SHA-512/256 share, over one block that is given
+/// as words, by the fastest kernel of this build on this processor, and replaces the chaining words
+/// `state` (6.4.2). The block is the first `N` words of `front`, at most eight, and then those of
+/// `padding` past them. One block is counted on `meter`.
 pub fn block_of_words_64_fastest_counted<const N: usize>(
     state: &mut State64,
     front: &State64,

@@ -153,7 +153,8 @@ fn next_two_rounds<S: ExtendByTwo>(
 }
 
 // Runs the block function in each lane, over the block there. Each call of rounds stands here, so
-// that it is inlined for each kind of block; the compiler keeps in registers what words it can.
+// that it is inlined for each kind of block. The compiler keeps as many words in registers as it
+// can.
 pub(crate) fn run_block<S: ExtendByTwo, B: BlockWords<S>>(state: &mut [S; 8], block: &B)
     requires some { 0 < S.LANES }
     requires whole { B.is_whole block.now }

@@ -96,8 +96,8 @@ where
     ghost fits = { Prim.search rules };
 }
 
-/// Words of which sixteen, a window of a schedule, fit in memory: the check doesn't know it of a
-/// vector of any number of lanes.
+/// A type of which sixteen values, a schedule's window, fit in memory. The checker can't show this
+/// for a generic lane count, so each width of `std::simd` has an impl.
 pub trait FitsWindow: Copy {
     // sixteen take less than half of all memory
     ghost small: { 16 * type_size Self.row < 2 ^ 63 };

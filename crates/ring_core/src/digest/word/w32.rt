@@ -1,8 +1,8 @@
 // SPDX-License-Identifier: ISC
 //! The word of 32 bits, that of SHA-1 and SHA-256 (FIPS 180-4, 3.2), alone and in vectors, and the
 //! numbers of SHA-256 (4.1.2 and 4.2.2).
-ghost use Rattle.std.specs.Prelude.{◌≡◌, ℕ, ◌-◌, ◌+◌, ◌*◌, ◌%◌, ◌^◌, ◌<◌, ◌≤◌, [], ◌∷◌, length, map};
-ghost use Rattle.std.specs.Prelude.{bit_and, bit_or, bit_xor, slice_index};
+ghost use Rattle.std.specs.Prelude.{◌≡◌, ℕ, ◌-◌, ◌+◌, ◌*◌, ◌%◌, ◌^◌, ◌<◌, ◌≤◌, [], ◌∷◌};
+ghost use Rattle.std.specs.Prelude.{bit_and, bit_or, bit_xor, length, map, slice_index};
 ghost use Rattle.std.proofs.Common.{lit<, refl, mod-lt, pow_pos, rules};
 ghost use Rattle.ring_core.specs.Prelude.{constants_256, family_256, low_32, rotr, shr, word_at};
 
@@ -10,7 +10,7 @@ use crate::digest::word::constants::K_256;
 use crate::digest::word::lanes::{FitsWindow, FourWords, LaneWord, Vector};
 use crate::digest::word::traits::{Sha2, Word};
 use std::num::Wrapping;
-use std::simd::{Simd, u32x2, u32x4, u32x8, u64x2};
+use std::simd::{Simd, u32x1, u32x2, u32x4, u32x8, u32x16, u32x32, u32x64, u64x2};
 
 // These functions take plain numbers, since a proof knows of these that they fit their type, and
 // not of numbers inside a struct.
@@ -169,6 +169,10 @@ impl FitsWindow for Wrapping<u32> {
     ghost small = { lit< tt };
 }
 
+impl FitsWindow for u32x1 {
+    ghost small = { lit< tt };
+}
+
 impl FitsWindow for u32x2 {
     ghost small = { lit< tt };
 }
@@ -178,6 +182,18 @@ impl FitsWindow for u32x4 {
 }
 
 impl FitsWindow for u32x8 {
+    ghost small = { lit< tt };
+}
+
+impl FitsWindow for u32x16 {
+    ghost small = { lit< tt };
+}
+
+impl FitsWindow for u32x32 {
+    ghost small = { lit< tt };
+}
+
+impl FitsWindow for u32x64 {
     ghost small = { lit< tt };
 }
 

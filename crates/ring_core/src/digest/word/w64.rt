@@ -10,7 +10,7 @@ use crate::digest::word::constants::K_512;
 use crate::digest::word::lanes::{FitsWindow, FourWords, LaneWord, Vector};
 use crate::digest::word::traits::{Sha2, Word};
 use std::num::Wrapping;
-use std::simd::{Simd, u64x2, u64x4};
+use std::simd::{Simd, u64x1, u64x2, u64x4, u64x8, u64x16, u64x32, u64x64};
 
 // These functions take plain numbers, since a proof knows of these that they fit their type, and
 // not of numbers inside a struct.
@@ -142,11 +142,31 @@ impl FitsWindow for Wrapping<u64> {
     ghost small = { lit< tt };
 }
 
+impl FitsWindow for u64x1 {
+    ghost small = { lit< tt };
+}
+
 impl FitsWindow for u64x2 {
     ghost small = { lit< tt };
 }
 
 impl FitsWindow for u64x4 {
+    ghost small = { lit< tt };
+}
+
+impl FitsWindow for u64x8 {
+    ghost small = { lit< tt };
+}
+
+impl FitsWindow for u64x16 {
+    ghost small = { lit< tt };
+}
+
+impl FitsWindow for u64x32 {
+    ghost small = { lit< tt };
+}
+
+impl FitsWindow for u64x64 {
     ghost small = { lit< tt };
 }
 

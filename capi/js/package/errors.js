@@ -45,6 +45,9 @@ export const wrongDigest = (name) => coded(TypeError, "ERR_CRYPTO_INVALID_DIGEST
 export const wrongKeyLength = () => coded(RangeError, "ERR_CRYPTO_INVALID_KEYLEN",
   "Invalid key length");
 
+export const shortKey = (least) => coded(RangeError, "ERR_CRYPTO_INVALID_KEYLEN",
+  `Invalid key length: at least ${least} bytes, where "allowShortKey" is not set`);
+
 export const finalized = () => coded(Error, "ERR_CRYPTO_HASH_FINALIZED", "Digest already called");
 
 export const lengthsDiffer = () => coded(RangeError, "ERR_CRYPTO_TIMING_SAFE_EQUAL_LENGTH",

@@ -151,8 +151,9 @@ export interface Jws<B, K> {
    * it is null too. No claim is read: whether the token has expired is for the caller to test. */
   verify(algorithm: JwsAlgorithm, key: K, token: Input): B | null;
 }
-/** The digits of a one-time password: 6, 7 or 8, and 6 where it is left out. */
-export interface OtpDigits { digits?: number }
+/** The digits of a one-time password: 6, 7 or 8, and 6 where it is left out; and whether the key may
+ * have less than 16 bytes, for which RFC 4226 asks. */
+export interface OtpDigits { digits?: number; allowShortKey?: boolean }
 /** The seconds of a step of time: 30 where it is left out. */
 export interface OtpStep extends OtpDigits { step?: number }
 /** The counters that are tried: `count` ones from `first` on, none past 2^64 - 1. */

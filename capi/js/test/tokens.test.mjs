@@ -206,22 +206,23 @@ test("one-time passwords beside RFC 4226 over node:crypto", () => {
     const hash = oneOf(TAGS), key = random(below(200)), digits = 6 + below(3);
     const counter = oneOf([below(2 ** 31), 2n ** BigInt(below(64)), MOST, 0, 2 ** 53 - 1]);
     const text = passwordOf(hash, key, counter, digits), whole = BigInt(counter);
-    assert.equal(otp.hotp(hash, key, counter, { digits }), text);
+    const form = { digits, allowShortKey: true };
+    assert.equal(otp.hotp(hash, key, counter, form), text);
     const step = oneOf([1, 30, 60, 2 ** 32 - 1]), time = whole * BigInt(step);
     if (time + BigInt(step) <= MOST) {
       for (const it of [time, time + BigInt(step - 1)]) {
-        assert.equal(otp.totp(hash, key, it, { step, digits }), text);
+        assert.equal(otp.totp(hash, key, it, { step, ...form }), text);
       }
     }
     // The first counter of a window that ends behind it, or at the end of 64 bits.
     const before = BigInt(below(4)), first = whole < before ? 0n : whole - before;
-    const found = otp.findHotp(hash, key, text, { first, count: before + 3n, digits });
+    const found = otp.findHotp(hash, key, text, { first, count: before + 3n, ...form });
     let wanted = first;
     while (passwordOf(hash, key, wanted, digits) !== text) wanted++;
     assert.equal(found, wanted);
     if (first < whole && wanted === whole) {
       const count = whole - first;
-      assert.equal(otp.findHotp(hash, key, text, { first, count, digits }), null);
+      assert.equal(otp.findHotp(hash, key, text, { first, count, ...form }), null);
     }
   }
   for (let turn = 0; turn < 300; turn++) {
@@ -291,45 +292,66 @@ test("each refusal of tokens", () => {
     Buffer.from("a payload"));
 });
 
+const KEY = "a key of 20 letters.";
 test("each refusal of one-time passwords", () => {
   const { hotp, totp, findHotp, findTotp } = otp, window = { first: 0, count: 1 };
   for (const digits of [0, 5, 9, 11, -6, 6.5, NaN, 2 ** 32 + 6]) {
-    for (const call of [() => hotp("sha1", "key", 0, { digits }),
-      () => totp("sha1", "key", 0, { digits }),
-      () => findHotp("sha1", "key", "123456", { ...window, digits }),
-      () => findTotp("sha1", "key", "123456", { time: 0, digits })]) {
+    for (const call of [() => hotp("sha1", KEY, 0, { digits }),
+      () => totp("sha1", KEY, 0, { digits }),
+      () => findHotp("sha1", KEY, "123456", { ...window, digits }),
+      () => findTotp("sha1", KEY, "123456", { time: 0, digits })]) {
       assert.throws(call, { name: "RangeError", code: "ERR_OUT_OF_RANGE" });
     }
   }
   for (const it of [-1, -1n, 2n ** 64n, 2 ** 53, 2 ** 64, 1.5, NaN, Infinity]) {
-    for (const call of [() => hotp("sha1", "key", it), () => totp("sha1", "key", it),
-      () => findHotp("sha1", "key", "123456", { first: it, count: 1 }),
-      () => findHotp("sha1", "key", "123456", { first: 0, count: it }),
-      () => findTotp("sha1", "key", "123456", { time: it })]) {
+    for (const call of [() => hotp("sha1", KEY, it), () => totp("sha1", KEY, it),
+      () => findHotp("sha1", KEY, "123456", { first: it, count: 1 }),
+      () => findHotp("sha1", KEY, "123456", { first: 0, count: it }),
+      () => findTotp("sha1", KEY, "123456", { time: it })]) {
       assert.throws(call, { name: "RangeError", code: "ERR_OUT_OF_RANGE" });
     }
   }
   for (const step of [0, -30, 0.5, 2 ** 32, 2 ** 32 + 30]) {
-    assert.throws(() => totp("sha1", "key", 0, { step }), RangeError);
-    assert.throws(() => findTotp("sha1", "key", "123456", { time: 0, step }), RangeError);
+    assert.throws(() => totp("sha1", KEY, 0, { step }), RangeError);
+    assert.throws(() => findTotp("sha1", KEY, "123456", { time: 0, step }), RangeError);
   }
   for (const it of [-1, 1.5, 2 ** 32]) {
     for (const sides of [{ back: it }, { ahead: it }]) {
-      assert.throws(() => findTotp("sha1", "key", "123456", { time: 0, ...sides }), RangeError);
+      assert.throws(() => findTotp("sha1", KEY, "123456", { time: 0, ...sides }), RangeError);
     }
   }
   for (const it of ["0", null, undefined, {}, true, new Date()]) {
-    for (const call of [() => hotp("sha1", "key", it), () => totp("sha1", "key", it),
-      () => findHotp("sha1", "key", "123456", { first: it, count: 1 }),
-      () => findTotp("sha1", "key", "123456", { time: it }),
-      () => findTotp("sha1", "key", "123456", { time: 0, back: it ?? "1" })]) {
+    for (const call of [() => hotp("sha1", KEY, it), () => totp("sha1", KEY, it),
+      () => findHotp("sha1", KEY, "123456", { first: it, count: 1 }),
+      () => findTotp("sha1", KEY, "123456", { time: it }),
+      () => findTotp("sha1", KEY, "123456", { time: 0, back: it ?? "1" })]) {
       assert.throws(call, { name: "TypeError", code: "ERR_INVALID_ARG_TYPE" });
     }
   }
-  for (const call of [() => hotp("sha512-256", "key", 0), () => totp("md5", "key", 0),
-    () => hotp("sha1", 7, 0), () => findHotp("sha1", "key", 123456, window),
-    () => findHotp("sha1", "key", "123456"), () => findTotp("sha1", "key", "123456", {})]) {
+  for (const call of [() => hotp("sha512-256", KEY, 0), () => totp("md5", KEY, 0),
+    () => hotp("sha1", 7, 0), () => findHotp("sha1", KEY, 123456, window),
+    () => findHotp("sha1", KEY, "123456"), () => findTotp("sha1", KEY, "123456", {})]) {
     assert.throws(call, TypeError);
+  }
+});
+
+test("a short key of one-time passwords has to be allowed", () => {
+  for (const length of [0, 1, 15, 16]) {
+    const key = random(length), text = passwordOf("sha1", key, 7, 6);
+    const calls = [[(more) => otp.hotp("sha1", key, 7, more), text],
+      [(more) => otp.totp("sha1", key, 7 * 30, more), text],
+      [(more) => otp.findHotp("sha1", key, text, { first: 7, count: 1, ...more }), 7n],
+      [(more) => otp.findTotp("sha1", key, text, { time: 7 * 30, back: 0, ...more }), 7n]];
+    for (const [call, wanted] of calls) {
+      assert.equal(call({ allowShortKey: true }), wanted);
+      if (length === 16) assert.equal(call({}), wanted);
+      else {
+        for (const more of [{}, { allowShortKey: false }, { allowShortKey: "yes" }]) {
+          assert.throws(() => call(more),
+            { name: "RangeError", code: "ERR_CRYPTO_INVALID_KEYLEN", message: /at least 16 bytes/ });
+        }
+      }
+    }
   }
 });
 

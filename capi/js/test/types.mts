@@ -27,7 +27,7 @@ export const path: Uint8Array[] = all.merkle.inclusionPath(new Set([leaf]), 0);
 export const isLogged: boolean = merkle.verifyInclusion(leaf, 0, 2n ** 63n, path, leaf.buffer);
 const token: string = jws.sign("HS256", "a key", JSON.stringify({ sub: "a user" }));
 export const payload: Uint8Array | null = all.jws.verify("HS512", bytes, token);
-export const password: string = otp.totp("sha1", "a key", 59, { digits: 8 });
+export const password: string = otp.totp("sha1", "a key", 59, { digits: 8, allowShortKey: true });
 export const step: bigint | null = otp.findTotp("SHA-256", bytes, password, { time: 59n });
 export const made: Promise<ArrayBuffer> = subtle.digest("SHA-1", bytes);
 

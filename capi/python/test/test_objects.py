@@ -213,8 +213,8 @@ class Buffers(unittest.TestCase):
         yezdopin.pbkdf2_hmac_verify("sha256", lent, lent, 1, lent)
         yezdopin.hkdf("sha256", lent, lent, lent, 4)
         yezdopin.compare_digest(lent, lent)
-        tokens.totp(lent, 0)
-        tokens.find_totp(lent, lent, 0)
+        tokens.totp(lent, 0, allow_short_key=True)
+        tokens.find_totp(lent, lent, 0, allow_short_key=True)
         tokens.verify(tokens.sign(lent, LONG).encode(), LONG)
         for call in (
             lambda: yezdopin.digest_each("sha256", [lent, "text"]),
@@ -226,9 +226,10 @@ class Buffers(unittest.TestCase):
             lambda: tokens.sign(lent, lent),
             lambda: tokens.verify(lent, LONG),
             lambda: tokens.verify(lent, "text"),
-            lambda: tokens.hotp(lent, 0, digits=9),
-            lambda: tokens.find_hotp(lent, 1, 0, 1),
-            lambda: tokens.find_hotp(lent, lent, 0, 1, digits=9),
+            lambda: tokens.hotp(lent, 0),
+            lambda: tokens.hotp(lent, 0, digits=9, allow_short_key=True),
+            lambda: tokens.find_hotp(lent, 1, 0, 1, allow_short_key=True),
+            lambda: tokens.find_hotp(lent, lent, 0, 1, digits=9, allow_short_key=True),
         ):
             self.assertRaises((TypeError, ValueError), call)
         lent.append(1)  # a BufferError where a view is still held
@@ -265,9 +266,10 @@ class Buffers(unittest.TestCase):
             yezdopin.pbkdf2_hmac_verify("sha1", b"", b"", 1, derived)
             yezdopin.compare_digest("a", "a")
             tokens.verify(tokens.sign(b"payload", LONG), LONG)
-            tokens.find_hotp(b"key", tokens.hotp(b"key", 1000), 1000, 1)
+            tokens.find_hotp(LONG, tokens.hotp(LONG, 1000), 1000, 1)
             self.assertRaises(yezdopin.Error, tokens.verify, "..", LONG)
-            self.assertRaises(yezdopin.Error, tokens.hotp, b"key", 0, digits=9)
+            self.assertRaises(yezdopin.Error, tokens.hotp, b"key", 0)
+            self.assertRaises(yezdopin.Error, tokens.hotp, LONG, 0, digits=9)
             self.assertRaises(yezdopin.Error, yezdopin.new, "md5")
             self.assertRaises(yezdopin.Error, yezdopin.hkdf, "sha1", b"", b"", b"", 9999)
             self.assertRaises(TypeError, yezdopin.digest_each, "sha256", [b"one", "text"])

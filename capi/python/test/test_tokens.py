@@ -407,6 +407,26 @@ class Passwords(Case):
         ):
             self.assertRaises(TypeError, call)
 
+    def test_short_keys(self):
+        """RFC 4226, section 4, asks for 128 bits, and an argument has to allow less."""
+        reason = "a key of one-time passwords has at least 16 bytes"
+        for length in (0, 1, 15, 16):
+            for kind in (bytes, bytearray, memoryview):
+                key = kind(SECRET[:length])
+                for call in (
+                    lambda key, **named: tokens.hotp(key, 7, **named),
+                    lambda key, **named: tokens.totp(key, 7 * 30, **named),
+                    lambda key, **named: tokens.find_hotp(key, want, 7, 1, **named),
+                    lambda key, **named: tokens.find_totp(key, want, 7 * 30, back=0, **named),
+                ):
+                    want = hotp(SECRET[:length], 7, 6, "sha1")
+                    self.assertIn(call(key, allow_short_key=True), (want, 7))
+                    if length == 16:
+                        self.assertIn(call(key), (want, 7))
+                        continue
+                    self.is_refused(8, reason, call, key)
+                    self.is_refused(8, reason, lambda key: call(key, allow_short_key=False), key)
+
     def test_beside_pyotp(self):
         program = """
 import base64, hashlib, json, pyotp, sys

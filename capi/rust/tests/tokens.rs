@@ -217,7 +217,7 @@ fn texts() {
     let value = [7; 64];
     prints(&key(Alg::Hs384, &value), "Key { alg: Hs384 }");
     prints(
-        &otp::Key::new(hmac::HMAC_SHA256, &value),
+        &otp::Key::new(hmac::HMAC_SHA256, &value).unwrap(),
         "Key { algorithm: SHA256 }",
     );
     let password = otp::hotp(&sha1_key(), 1, Digits::Seven);
@@ -235,7 +235,38 @@ fn texts() {
 }
 
 fn sha1_key() -> otp::Key<'static> {
-    otp::Key::new(hmac::HMAC_SHA1_FOR_LEGACY_USE_ONLY, b"12345678901234567890")
+    otp::Key::new(hmac::HMAC_SHA1_FOR_LEGACY_USE_ONLY, b"12345678901234567890").unwrap()
+}
+
+// RFC 4226, section 4, asks for 128 bits.
+#[test]
+fn short_keys_of_passwords() {
+    let value = *b"12345678901234567890";
+    for len in 0..=20 {
+        let (algorithm, value) = (hmac::HMAC_SHA256, &value[..len]);
+        match otp::Key::new(algorithm, value) {
+            Ok(key) => {
+                assert!(len >= 16);
+                assert_eq!(key.algorithm(), algorithm);
+            }
+            Err(refused) => {
+                assert!(len < 16);
+                prints(&refused, "ShortKey");
+                let said = "a key of one-time passwords has at least 16 bytes";
+                assert_eq!(refused.to_string(), said);
+                let boxed: Box<dyn std::error::Error + Send + Sync> = refused.into();
+                assert_eq!(boxed.to_string(), said);
+            }
+        }
+        let key = otp::Key::of_any_length(algorithm, value);
+        let password = otp::hotp(&key, 7, Digits::Six);
+        let message = 7u64.to_be_bytes();
+        let tag = hmac::sign(&hmac::Key::new(algorithm, value), &message);
+        let tag = tag.as_ref();
+        let at = usize::from(tag[tag.len() - 1] & 15);
+        let number = u32::from_be_bytes(tag[at..at + 4].try_into().unwrap()) & 0x7fff_ffff;
+        assert_eq!(password.as_ref(), format!("{:06}", number % 1_000_000));
+    }
 }
 
 fn seconds(step: u32) -> NonZeroU32 {
@@ -272,7 +303,7 @@ fn rfc_6238() {
         (hmac::HMAC_SHA256, 32),
         (hmac::HMAC_SHA512, 64),
     ]
-    .map(|(algorithm, len)| otp::Key::new(algorithm, &seed.as_bytes()[..len]));
+    .map(|(algorithm, len)| otp::Key::new(algorithm, &seed.as_bytes()[..len]).unwrap());
     let wanted = [
         (59, ["94287082", "46119246", "90693936"]),
         (1_111_111_109, ["07081804", "68084774", "25091201"]),

@@ -31,6 +31,7 @@ import time as _time
 from typing import TYPE_CHECKING
 
 from yezdopin import _native
+from yezdopin._errors import Error as _Error
 from yezdopin._hashes import native_hash as _native_hash
 from yezdopin._texts import bytes_of as _bytes_of
 
@@ -41,6 +42,9 @@ if TYPE_CHECKING:
     from _typeshed import ReadableBuffer as _Buffer
 
     _Hash = str | _Callable[..., _Any]
+
+_UNSPECIFIED = 8  # YZ_UNSPECIFIED
+_MIN_KEY_LEN = 16  # RFC 4226, section 4, R6
 
 __all__ = ["find_hotp", "find_totp", "hotp", "sign", "totp", "verify"]
 
@@ -53,6 +57,14 @@ def _token_of(text: str | _Buffer) -> _Buffer:
 
 def _known(digest: _Hash) -> _Any:
     return _native_hash(digest) or digest
+
+
+def _otp_key(key: _Buffer, allow_short_key: bool) -> _Buffer:
+    """A key of one-time passwords, which is refused where it is short and nobody allows that."""
+    if not allow_short_key and memoryview(key).nbytes < _MIN_KEY_LEN:
+        reason = f"a key of one-time passwords has at least {_MIN_KEY_LEN} bytes"
+        raise _Error(_UNSPECIFIED, f"{reason}, where allow_short_key is not set")
+    return key
 
 
 def _seconds(time: int | None) -> int:
@@ -80,14 +92,23 @@ def verify(token: str | _Buffer, key: _Buffer, algorithm: str = "HS256") -> byte
     return _native.tokens_verify(_token_of(token), key, algorithm)
 
 
-def hotp(key: _Buffer, counter: int, *, digits: int = 6, digest: _Hash = "sha1") -> str:
+def hotp(
+    key: _Buffer,
+    counter: int,
+    *,
+    digits: int = 6,
+    digest: _Hash = "sha1",
+    allow_short_key: bool = False,
+) -> str:
     """The one-time password of a counter (RFC 4226, section 5.3).
 
     The hash is a name, or a constructor of `yezdopin` or `hashlib`. `Error` is raised for another
-    one (status 1, `YZ_UNKNOWN_ALGORITHM`) and for other than 6 to 8 digits (status 4,
-    `YZ_WRONG_LENGTH`), and `OverflowError` for a counter that has not 64 bits.
+    one (status 1, `YZ_UNKNOWN_ALGORITHM`), for other than 6 to 8 digits (status 4,
+    `YZ_WRONG_LENGTH`), and for a key of less than 16 bytes (RFC 4226, section 4; status 8,
+    `YZ_UNSPECIFIED`) unless `allow_short_key` is true; `OverflowError` for a counter that has not
+    64 bits.
     """
-    return _native.tokens_hotp(key, counter, digits, _known(digest))
+    return _native.tokens_hotp(_otp_key(key, allow_short_key), counter, digits, _known(digest))
 
 
 def totp(
@@ -97,6 +118,7 @@ def totp(
     digits: int = 6,
     digest: _Hash = "sha1",
     interval: int = 30,
+    allow_short_key: bool = False,
 ) -> str:
     """The one-time password of a time in seconds since 1970, which is now where it is None (RFC
     6238, section 4.2).
@@ -104,7 +126,10 @@ def totp(
     As `hotp`, and `Error` is raised for an interval of 0 seconds too (status 8, `YZ_UNSPECIFIED`),
     and `OverflowError` for one of more than 32 bits.
     """
-    return _native.tokens_totp(key, _seconds(time), digits, _known(digest), interval)
+    known = _known(digest)
+    return _native.tokens_totp(
+        _otp_key(key, allow_short_key), _seconds(time), digits, known, interval
+    )
 
 
 def find_hotp(
@@ -115,6 +140,7 @@ def find_hotp(
     *,
     digits: int = 6,
     digest: _Hash = "sha1",
+    allow_short_key: bool = False,
 ) -> int | None:
     """The first of `count` counters from `first` on whose one-time password this is, with each of
     its digits, or None (RFC 4226, section 7.4). None is above 2**64 - 1.
@@ -123,7 +149,10 @@ def find_hotp(
     counter too: test that it `is not None`. `count` bounds the time of a search, and `hotp` says
     what is raised.
     """
-    return _native.tokens_find_hotp(key, _bytes_of(otp), first, count, digits, _known(digest))
+    known = _known(digest)
+    return _native.tokens_find_hotp(
+        _otp_key(key, allow_short_key), _bytes_of(otp), first, count, digits, known
+    )
 
 
 def find_totp(
@@ -136,6 +165,7 @@ def find_totp(
     digits: int = 6,
     digest: _Hash = "sha1",
     interval: int = 30,
+    allow_short_key: bool = False,
 ) -> int | None:
     """The first step whose one-time password this is, or None: of a time in seconds since 1970,
     which is now where it is None, `back` steps before it and `ahead` after it (RFC 6238, section
@@ -145,5 +175,6 @@ def find_totp(
     """
     seconds, known = _seconds(time), _known(digest)
     return _native.tokens_find_totp(
-        key, _bytes_of(otp), seconds, back, ahead, digits, known, interval
+        _otp_key(key, allow_short_key), _bytes_of(otp), seconds, back, ahead, digits, known,
+        interval,
     )

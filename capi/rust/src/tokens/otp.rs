@@ -9,11 +9,12 @@
 //! use yezdopin::hmac::HMAC_SHA1_FOR_LEGACY_USE_ONLY;
 //! use yezdopin::tokens::otp::{find_totp, totp, Digits, Key};
 //!
-//! let key = Key::new(HMAC_SHA1_FOR_LEGACY_USE_ONLY, b"12345678901234567890");
+//! let key = Key::new(HMAC_SHA1_FOR_LEGACY_USE_ONLY, b"12345678901234567890")?;
 //! let step = NonZeroU32::new(30).unwrap();
 //! let typed = totp(&key, 59, step, Digits::Six);
 //! assert_eq!(typed.as_ref(), "287082");
 //! assert_eq!(find_totp(&key, 89, step, 1, 1, Digits::Six, typed.as_ref()), Some(1));
+//! # Ok::<(), yezdopin::tokens::otp::ShortKey>(())
 //! ```
 //!
 //! A password is for one use: keep the counter or the step, and refuse one that is not above the
@@ -37,8 +38,24 @@ pub enum Digits {
 
 const MAX_DIGITS: usize = Digits::Eight as usize;
 
-/// The bytes that a server and a device share, and the algorithm of their passwords. RFC 4226
-/// (section 4) asks for 16 bytes and more. Debug shows the algorithm alone.
+/// The fewest bytes of a key (RFC 4226, section 4, R6).
+pub const MIN_KEY_LEN: usize = 16;
+
+/// A key of less than [`MIN_KEY_LEN`] bytes, which [`Key::new`] refuses.
+#[derive(Clone, Copy, Debug, PartialEq, Eq)]
+pub struct ShortKey;
+
+impl fmt::Display for ShortKey {
+    fn fmt(&self, f: &mut fmt::Formatter<'_>) -> fmt::Result {
+        write!(f, "a key of one-time passwords has at least {MIN_KEY_LEN} bytes")
+    }
+}
+
+#[cfg(feature = "std")]
+impl std::error::Error for ShortKey {}
+
+/// The bytes that a server and a device share, and the algorithm of their passwords. Debug shows
+/// the algorithm alone.
 #[derive(Clone, Copy)]
 pub struct Key<'a> {
     algorithm: hmac::Algorithm,
@@ -46,8 +63,16 @@ pub struct Key<'a> {
 }
 
 impl<'a> Key<'a> {
-    /// The key of the bytes `value`.
-    pub fn new(algorithm: hmac::Algorithm, value: &'a [u8]) -> Self {
+    /// The key of the bytes `value`, of which there must be [`MIN_KEY_LEN`] or more.
+    pub fn new(algorithm: hmac::Algorithm, value: &'a [u8]) -> Result<Self, ShortKey> {
+        match value.len() {
+            MIN_KEY_LEN.. => Ok(Key::of_any_length(algorithm, value)),
+            _ => Err(ShortKey),
+        }
+    }
+
+    /// The key of the bytes `value`, also where it is short or empty, as devices may have it.
+    pub fn of_any_length(algorithm: hmac::Algorithm, value: &'a [u8]) -> Self {
         Key { algorithm, value }
     }
 

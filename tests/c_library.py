@@ -56,6 +56,7 @@ PARTS = [
     ("python", ["cc", "python3", "Python.h"], "the Python package beside hashlib, hmac, vectors/"),
     ("python-types", ["cc", "python3", "Python.h", "mypy", "stubtest"],
      "the types of the Python package, beside the extension and over a caller"),
+    ("python-versions", ["cc", "python3", "Python.h"], "the same under later versions of Python"),
     ("python-postgresql", ["cc", "python3", "Python.h", "PostgreSQL"],
      "the passwords that the Python package prepares, beside PostgreSQL"),
     ("wheel", ["cc", "python3", "Python.h", "pip"], "the Python package as pip installs it"),

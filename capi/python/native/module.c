@@ -74,22 +74,39 @@ static int clear(PyObject *module)
     return 0;
 }
 
+/* Each interpreter has a module and a state of its own, and interpreters with a GIL of their own
+ * share nothing but what dispatch.c knows of the processor. Python 3.12 asks for a slot that says
+ * so, Py_mod_multiple_interpreters with Py_MOD_PER_INTERPRETER_GIL_SUPPORTED, and 3.11 refuses one
+ * that it doesn't know. */
+#define HAS_OWN_GIL {3, (void *)2}
+#define FIRST_WITH_OWN_GIL 0x030C0000
+
 static PyModuleDef_Slot slots[] = {
+    SLOT(Py_mod_exec, fill),
+    HAS_OWN_GIL,
+    {0, NULL},
+};
+
+static PyModuleDef_Slot older_slots[] = {
     SLOT(Py_mod_exec, fill),
     {0, NULL},
 };
 
-static PyModuleDef definition = {
-    PyModuleDef_HEAD_INIT,
-    .m_name = "yezdopin._native",
-    .m_doc = PyDoc_STR("The proved calls of libyezdopin for Python."),
-    .m_size = sizeof(module_state),
-    .m_slots = slots,
-    .m_traverse = traverse,
-    .m_clear = clear,
-};
+#define DEFINITION(of_slots)                                                                       \
+    {                                                                                              \
+        PyModuleDef_HEAD_INIT,                                                                     \
+        .m_name = "yezdopin._native",                                                              \
+        .m_doc = PyDoc_STR("The proved calls of libyezdopin for Python."),                         \
+        .m_size = sizeof(module_state),                                                            \
+        .m_slots = of_slots,                                                                       \
+        .m_traverse = traverse,                                                                    \
+        .m_clear = clear,                                                                          \
+    }
+
+static PyModuleDef definition = DEFINITION(slots);
+static PyModuleDef older_definition = DEFINITION(older_slots);
 
 PyMODINIT_FUNC PyInit__native(void)
 {
-    return PyModuleDef_Init(&definition);
+    return PyModuleDef_Init(Py_Version < FIRST_WITH_OWN_GIL ? &older_definition : &definition);
 }

@@ -6,6 +6,7 @@ import copy
 import gc
 import hashlib
 import hmac
+import importlib
 import inspect
 import io
 import mmap
@@ -168,6 +169,48 @@ class Threads(unittest.TestCase):
             sys.setswitchinterval(usual)
             is_over.set()
             thread.join()
+
+
+IN_EACH = """
+import hashlib, hmac, yezdopin
+for count in range(200):
+    message = bytes(range(256)) * count
+    assert yezdopin.sha256(message).digest() == hashlib.sha256(message).digest()
+    tag = yezdopin.hmac.Key(b"key", "sha256").sign(message)
+    assert tag == hmac.digest(b"key", message, "sha256")
+try:
+    yezdopin.new("md5")
+except yezdopin.Error as error:
+    assert error.status == 1
+else:
+    raise AssertionError("md5 was not refused")
+"""
+
+
+class Interpreters(unittest.TestCase):
+    """Interpreters of one process, which have a GIL of their own each from Python 3.12 on."""
+
+    def test_at_once(self):
+        module = "_interpreters" if sys.version_info >= (3, 13) else "_xxsubinterpreters"
+        interpreters, wrong = importlib.import_module(module), []
+
+        def work():
+            interpreter = interpreters.create()
+            try:
+                fault = interpreters.run_string(interpreter, IN_EACH)
+                wrong.extend([] if fault is None else [fault])
+            except Exception as fault:
+                wrong.append(fault)
+            finally:
+                interpreters.destroy(interpreter)
+
+        threads = [threading.Thread(target=work) for _ in range(4)]
+        for thread in threads:
+            thread.start()
+        for thread in threads:
+            thread.join()
+        self.assertEqual(wrong, [])
+        self.assertEqual(yezdopin.sha256(b"").digest(), hashlib.sha256(b"").digest())
 
 
 class Buffers(unittest.TestCase):

@@ -5,7 +5,7 @@ use Rattle.std.specs.Prelude.{Err}
 use Rattle.ring_password_hash.specs.declared.error.HashError.{HashError}
 use Rattle.ring_password_hash.specs.declared.error.HashError.TheVariants as hash
 
--- the statuses, named and numbered as in capi/include/yezdopin.h
+-- the statuses, named and numbered as in c/include/yezdopin.h
 abbrev pub YZ_OK : ℤ
 YZ_OK = pos 0
 

@@ -2,7 +2,7 @@
 -- What the processors' instructions for SHA-1 and SHA-256 give: those of x86-64 by Intel's Software
 -- Developer's Manual (volume 2, "Operation" of each), those of 64-bit ARM by the Arm Architecture
 -- Reference Manual, in these manuals' names. No manual was at hand: that each gives what the
--- instruction gives is tested, by `make -C capi instructions-check`. A vector of 128 bits is the
+-- instruction gives is tested, by `make instructions-check`. A vector of 128 bits is the
 -- list of its four words of 32 bits, the lowest first: word 0 is bits 31 to 0.
 use Rattle.std.specs.Prelude.{ℕ, ◌+◌, ◌==◌, List, [], ◌∷◌, slice_index, if◌then◌else◌}
 use Rattle.ring_core.specs.Sha2.{family_256, Σ0, Σ1, σ0, σ1}

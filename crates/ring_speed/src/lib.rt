@@ -1,5 +1,5 @@
 // SPDX-License-Identifier: ISC
-//! Work that `capi/bench` times and C can't call: block functions, contexts that are updated at
+//! Work that `c/speed` times and C can't call: block functions, contexts that are updated at
 //! once, the digests of the kit's crates, and the store.
 //!
 //! - `ring_speed_run` does one piece of work so many times, each time on what the time before gave,

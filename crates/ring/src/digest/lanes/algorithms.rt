@@ -200,10 +200,11 @@ pub(crate) trait RunBlocks<const N: usize>: LaneStates {
     ghost sized: { (a : Algorithm) → is_of a → word_len a ≡ Self.word_len };
 }
 
+// None of these block functions is inlined, so that a check of the machine code finds each once.
 impl<V: Vector<One = Wrapping<u32>>> RunBlocks<64> for InVector<V, Sha1> {
     ghost is_of = { λ a. a ≡ SHA1_FOR_LEGACY_USE_ONLY };
 
-    #[inline(always)]
+    #[inline(never)]
     fn run_blocks(states: &mut States<V>, blocks: &[[u8; 64]], meter: &mut Meter) {
         sha1_block_data_order_lanes_counted(states, blocks, meter)
     }
@@ -214,7 +215,7 @@ impl<V: Vector<One = Wrapping<u32>>> RunBlocks<64> for InVector<V, Sha1> {
 impl<V: Vector<One = Wrapping<u32>>> RunBlocks<64> for InVector<V, Sha256> {
     ghost is_of = { λ a. a ≡ SHA256 };
 
-    #[inline(always)]
+    #[inline(never)]
     fn run_blocks(states: &mut States<V>, blocks: &[[u8; 64]], meter: &mut Meter) {
         block_data_order_lanes_counted(states, blocks, meter)
     }
@@ -226,7 +227,7 @@ impl<V: Vector<One = Wrapping<u32>>> RunBlocks<64> for InVector<V, Sha256> {
 impl<V: Vector<One = Wrapping<u64>>, A> RunBlocks<128> for InVector<V, A> {
     ghost is_of = { λ a. word_len a ≡ 8 };
 
-    #[inline(always)]
+    #[inline(never)]
     fn run_blocks(states: &mut States<V>, blocks: &[[u8; 128]], meter: &mut Meter) {
         block_data_order_lanes_counted(states, blocks, meter)
     }

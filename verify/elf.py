@@ -6,20 +6,33 @@ import struct
 import subprocess
 from collections import namedtuple
 
+import decode_x86
+
 Segment = namedtuple("Segment", "start end flags offset size")
 Symbol = namedtuple("Symbol", "name start size")
 Line = namedtuple("Line", "at raw text")
 EXECUTE, WRITE, READ = 1, 2, 4
-OBJDUMP = {62: "objdump", 183: "aarch64-linux-gnu-objdump"}
+X86, ARM = 62, 183
+OBJDUMP = {X86: "objdump", ARM: "aarch64-linux-gnu-objdump"}
+
+
+class WrongFile(Exception):
+    """A file that is no library that can be checked."""
 
 
 class Library:
-    def __init__(self, path):
-        self.path = path
+    def __init__(self, path, by_objdump=False):
+        """`by_objdump` has objdump read the instructions of x86-64 too, for a comparison."""
+        self.path, self.by_objdump = path, by_objdump
         with open(path, "rb") as file:
             self.data = data = file.read()
-        assert data[:6] == b"\x7fELF\x02\x01", "not an ELF file of 64 bits, little endian"
-        self.machine, = struct.unpack_from("<H", data, 18)
+        if data[:6] != b"\x7fELF\x02\x01" or len(data) < 64:
+            raise WrongFile("it is no ELF file of 64 bits, little endian")
+        kind, self.machine = struct.unpack_from("<HH", data, 16)
+        if self.machine not in OBJDUMP:
+            raise WrongFile("it is for another processor than x86-64 and 64-bit ARM")
+        if kind != 3:
+            raise WrongFile("it is no shared library, but an object or a program")
         programs, sections = struct.unpack_from("<QQ", data, 32)
         _, count, _, section_count, _ = struct.unpack_from("<HHHHH", data, 54)
         self.segments = []
@@ -44,6 +57,8 @@ class Library:
                         self.symbols.append(symbol)
                     elif section and info & 15 in (0, 1):
                         self.objects.append(symbol)
+        if not self.symbols:
+            raise WrongFile("it has no names of its functions: it is stripped")
         self.lines = {}  # by address
         self._parsed = {}
 
@@ -65,7 +80,7 @@ class Library:
                     start = headers[symbols[6]][4] + name
                     slots[place] = (data[start:data.index(0, start)].decode(), section and value)
         self.imports, self.own = {}, {}  # by the address of a stub: a name; an own function
-        if self.machine == 62:
+        if self.machine == X86:
             code = next(it for it in self.segments if it.flags & EXECUTE)
             for offset in range(code.offset, code.offset + code.size - 6):
                 if data[offset:offset + 2] == b"\xff\x25":
@@ -94,8 +109,34 @@ class Library:
         """The variable by which the library chooses SHA instructions, by its address: its value."""
         return {it.start: int(are_used) for it in self.objects if it.name == "yz_instructions"}
 
+    def bytes_at(self, start, end):
+        """The file's bytes of these addresses."""
+        for it in self.segments:
+            if it.start <= start and end <= it.start + it.size:
+                return self.data[it.offset + start - it.start:it.offset + end - it.start]
+        raise KeyError(start)
+
     def read_lines(self, function):
-        """Reads the instructions of a function, by objdump."""
+        """Reads the instructions of a function, in order, as far as they can be read."""
+        end = function.start + function.size
+        if self.machine == X86 and not self.by_objdump:
+            at = function.start
+            while at < end and (line := self._read_line(at, end)).text[0] != "(":
+                at += len(line.raw)
+            return
+        self._read_by_objdump(function)
+
+    def _read_line(self, at, end):
+        if at not in self.lines:
+            data = self.bytes_at(at, min(end, at + 15))
+            try:
+                size, text = decode_x86.read(data, at)
+            except decode_x86.Unreadable as why:
+                size, text = 1, f"({data.hex()}) {why}"
+            self.lines[at] = Line(at, data[:size], text)
+        return self.lines[at]
+
+    def _read_by_objdump(self, function):
         listing = subprocess.run(
             [OBJDUMP[self.machine], "-dwz", f"--start-address={function.start}",
              f"--stop-address={function.start + function.size}", self.path],
@@ -103,7 +144,7 @@ class Library:
         for line in listing.splitlines():
             if (it := re.match(r" *([0-9a-f]+):\t([0-9a-f ]+?)\s*\t(.*)", line)):
                 raw = bytes.fromhex(it[2])
-                if self.machine == 183:
+                if self.machine == ARM:
                     raw = raw[::-1]
                 text = re.sub(r"\s*(<|#(?= [0-9a-f]+ <)|//).*", "", it[3])
                 self.lines[int(it[1], 16)] = Line(int(it[1], 16), raw, " ".join(text.split()))
@@ -111,6 +152,8 @@ class Library:
     def line(self, address):
         """The instruction at an address, or None."""
         if address not in self.lines and (function := self.function_at(address)):
+            if self.machine == X86 and not self.by_objdump:
+                return self._read_line(address, function.start + function.size)
             self.read_lines(function)
         return self.lines.get(address)
 

@@ -138,7 +138,8 @@ def two_iterates(function, front, lane):
 
 
 def assigned(cpu, library, kind):
-    """Pairs of a kernel of a kind, and the functions of one name that are it."""
+    """Pairs of a kernel of a kind, by its number there, and the functions of one name that are
+    it."""
     symbols = {}
     for it in library.functions(kind.names):
         symbols.setdefault(it.name, []).append(it)
@@ -155,7 +156,7 @@ def assigned(cpu, library, kind):
             if not left:
                 raise Refused(f"{name}: it computes nothing that a function of this name has to")
             found[name] = left.pop(0)
-    return [(found[name], builds) for name, builds in symbols.items()]
+    return [(kind.kernels.index(found[name]), builds) for name, builds in symbols.items()]
 
 
 def short_name(name):

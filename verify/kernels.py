@@ -1,6 +1,8 @@
 # SPDX-License-Identifier: ISC
 """What each kernel of the library has to do, and the check that it does."""
 
+import multiprocessing
+import os
 from collections import namedtuple
 from functools import cache, partial
 
@@ -27,19 +29,27 @@ def same_but(region, before, allowed):
             raise Refused(f"byte {offset} of {region.name} is changed")
 
 
-def check_words(region, offset, size, expected, what="chaining word"):
+def refuse_word(state, region, offset, what):
+    """Refuses what is at an offset, by the instruction that wrote it last."""
+    writer = state.regions[region].writers.get(offset)
+    by = "nothing has written it" if writer is None else \
+        f"last written at {writer:x}: {state.program.text(writer)}"
+    raise Refused(f"{what} is not the standard's, at {offset} of {region}; {by}")
+
+
+def check_words(state, region, offset, size, expected, what="chaining word"):
     for j, word in enumerate(expected):
-        if word_at(region, offset + j * size, size) != word:
-            raise Refused(f"{what} {j} in {region.name} is not the standard's")
+        if word_at(state.regions[region], offset + j * size, size) != word:
+            refuse_word(state, region, offset + j * size, f"{what} {j}")
 
 
-def check_output(region, offset, function, words):
+def check_output(state, region, offset, function, words):
     """Words as bytes, the highest first."""
-    size = function.width // 8
+    size, cell = function.width // 8, state.regions[region].cell
     for j, word in enumerate(words):
-        cells = [region.cell(offset + size * j + i) for i in reversed(range(size))]
+        cells = [cell(offset + size * j + i) for i in reversed(range(size))]
         if any(isinstance(it, Part) for it in cells) or terms.joined(cells) != word:
-            raise Refused(f"word {j} at {offset} of {region.name} is not the standard's")
+            refuse_word(state, region, offset + size * j, f"word {j} of the output")
 
 
 def run_ahead(cpu, library, symbol, function):
@@ -67,7 +77,7 @@ def run_ahead(cpu, library, symbol, function):
     end, = ends
     cpu.check_return(end, before)
     after = fips180_4.next_state(function, symbols, chaining, message)
-    check_words(end.regions["state"], 0, size, after)
+    check_words(end, "state", 0, size, after)
     same_but(end.regions["state"], before.regions["state"], range(function.words * size))
     return steps, end.program.used
 
@@ -142,7 +152,7 @@ def run_blocks(cpu, library, symbol, function, instructions):
     whole = terms.constant(-16 * size, 64)
     for end in ends:
         cpu.check_return(end, start)
-        check_words(end.regions["state"], size, size, end.words)
+        check_words(end, "state", size, size, end.words)
         same_but(end.regions["state"], start.regions["state"],
                  range(size, size * (function.words + 1)))
         rest, left = (end.registers[it] for it in cpu.RESULTS)
@@ -176,7 +186,7 @@ def output_after(cpu, library, symbol, function, instructions):
     ends, steps = over_message(symbol, function, start, chaining, length)
     for end in ends:
         cpu.check_return(end, start)
-        check_output(end.regions["output"], 0, function, end.words)
+        check_output(end, "output", 0, function, end.words)
     return steps, start.program.used
 
 
@@ -210,8 +220,9 @@ def block_of_words(cpu, library, symbol, function, lanes, front):
     for i in range(lanes):
         after = fips180_4.next_state(function, symbols, states[i], fronts[i] + padding)
         for j, word in enumerate(after):
-            if word_at(end.regions["states"], size * (lanes * j + i), size) != word:
-                raise Refused(f"chaining word {j} of lane {i} is not the standard's")
+            offset = size * (lanes * j + i)
+            if word_at(end.regions["states"], offset, size) != word:
+                refuse_word(end, "states", offset, f"chaining word {j} of lane {i}")
     same_but(end.regions["states"], before.regions["states"],
              range(function.words * size * lanes))
     return steps, end.program.used
@@ -303,13 +314,15 @@ def xor_iterates(cpu, library, symbol, function, lanes, front, instructions=Fals
         cpu.check_return(end, start)
         for lane in range(lanes):
             expected = end.words[front * (lanes + lane):front * (lanes + lane + 1)]
-            check_output(end.regions["outputs"], OUTPUT_ROOM * lane, function, expected)
+            check_output(end, "outputs", OUTPUT_ROOM * lane, function, expected)
     return steps, start.program.used
 
 
 # Which kernels a library has.
 
-Kernel = namedtuple("Kernel", "name library check")
+# What is shown of a function: a text, the function's symbol or None, its check, and whether that is
+# among the quick ones.
+Kernel = namedtuple("Kernel", "name symbol check is_quick")
 Ahead = namedtuple("Ahead", "function")
 InLanes = namedtuple("InLanes", "function lanes front")  # `front` words of a block are no padding
 SHA1, SHA256, SHA512 = fips180_4.FUNCTIONS.values()
@@ -368,11 +381,25 @@ def rows(library):
     return tuple(found_rows(library))
 
 
+def assigned(library, number):
+    """Of a kind, which kernels its functions are."""
+    return identify.assigned(ARCHITECTURES[library.machine], library, KINDS[number][0])
+
+
+def all_assigned(library):
+    """The same of all kinds; by other processes, since each example leaves terms behind."""
+    work = partial(assigned, library)
+    if multiprocessing.current_process().daemon:  # which may have none
+        return [work(i) for i in range(len(KINDS))]
+    with multiprocessing.get_context("fork").Pool(min(4, len(os.sched_getaffinity(0)))) as pool:
+        return pool.map(work, range(len(KINDS)), 1)
+
+
 def found_rows(library):
-    cpu = ARCHITECTURES[library.machine]
-    for kind, check in KINDS:
+    for (kind, check), pairs in zip(KINDS, all_assigned(library)):
         found = set()
-        for kernel, symbols in identify.assigned(cpu, library, kind):
+        for index, symbols in pairs:
+            kernel = kind.kernels[index]
             for build, symbol in builds_of(library, symbols):
                 found.add((kernel, build))
                 yield Row(build, symbol, check, kernel)
@@ -420,4 +447,5 @@ def of(library):
             where = row.symbol and (f"({identify.short_name(row.symbol.name)} at "
                                     f"{row.symbol.start:x})")
             name = " ".join(it for it in (what, row.build, where) if it)
-            yield Kernel(name, library, partial(check_of, row, what, arguments))
+            yield Kernel(name, row.symbol, partial(check_of, row, what, arguments),
+                         row.check is not xor_iterates)

@@ -5,6 +5,7 @@ their contracts, with what they ask for checked at each call."""
 import fips180_4
 import identify
 import kernels
+import lengths
 import terms
 from machine import Pointer, Refused, offset_of
 from loops import put_word, word_at
@@ -19,11 +20,13 @@ def number(state, word, what):
 
 def place(state, pointer, size, what, writable=False, modulus=1):
     """The region and the offset of so many bytes that are there."""
-    if not isinstance(pointer, Pointer) or offset_of(pointer) is None:
+    if not isinstance(pointer, Pointer):
         state.refuse(f"{what} is at no known place")
-    region, offset = state.regions.get(pointer.region), offset_of(pointer)
-    if region is None or not region.low <= offset <= offset + size <= region.high:
-        state.refuse(f"{what}, {size} bytes at {offset} of {pointer.region}, is not inside")
+    region = state.regions.get(pointer.region)
+    offset = region and region.offset(pointer.offset, size)
+    if offset is None:
+        state.refuse(f"{what}, {size} bytes at {offset_of(pointer)} of {pointer.region}, is not "
+                     "inside")
     if writable and not region.writable:
         state.refuse(f"{what} is in {region.name}, which is not written to")
     if not region.is_aligned(offset, modulus):
@@ -166,7 +169,6 @@ class Summaries:
 
     def run_blocks(self, state, _):
         is_sha256, words, message, length, meter = self.arguments(state, 5)
-        length = number(state, length, "the length")
         region, offset = place(state, words, 72, "the state", True, 4)
         tag = number(state, region.cell(offset), "the state's tag")
         names = {0: "SHA-512"}
@@ -178,6 +180,9 @@ class Summaries:
         size = function.width // 8
         place(state, words, 9 * size, "the state", True, size)
         meter = self.meter(state, meter)
+        if terms.number_of(length) is None:
+            return self.run_open_blocks(state, function, (region, offset), message, length, meter)
+        length = number(state, length, "the length")
         whole = length & -16 * size
         used = [(region, offset, 9 * size), meter]
         if length:
@@ -194,6 +199,24 @@ class Summaries:
         forget(meter[0], meter[1], meter[1] + 16)
         return [state.add(message, terms.constant(whole, 64)),
                 terms.constant(length - whole, 64)]
+
+    def run_open_blocks(self, state, function, words, message, length, meter):
+        """All whole blocks of an open length, at once."""
+        size = function.width // 8
+        region, offset = words
+        of = state.regions.get(message.region) if isinstance(message, Pointer) else None
+        if not isinstance(of, lengths.OpenRegion):
+            state.refuse("blocks of an open length, of what has none")
+        whole = terms.and_words(length, terms.constant(-16 * size, 64))
+        start, count = of.offset(message.offset, 0), lengths.value_of(whole)
+        if start is None or count is None or not of.has_at(message.offset, length):
+            state.refuse("blocks of an open length that are not inside")
+        apart(state, (region, offset, 9 * size), meter)
+        chaining = words_at(state, region, offset + size, size, function.words)
+        chaining = self.block.over(function, chaining, (of.name, message.offset, whole))
+        put_words(region, offset + size, chaining)
+        forget(meter[0], meter[1], meter[1] + 16)
+        return [state.add(message, whole), terms.subtract(length, whole)]
 
     def output_after(self, state, _):
         """For words of 32 bits; of 64 bits the function itself runs."""

@@ -266,36 +266,55 @@ class Summaries:
         forget(meter[0], meter[1], meter[1] + 16)
         return no_results(self.cpu)
 
-    def xor_iterates(self, state, _, function, lanes, front):
-        size = function.width // 8
-        result, inner, outer, first, iterations, meter = self.arguments(state, 6)
-        iterations = number(state, iterations[:32], "the number of iterations")
-        if not iterations:
-            state.refuse("no iterations")
-        whole = 8 * size * lanes
-        target = place(state, result, whole, "the result", True, size)
-        inner = place(state, inner, whole, "inner", False, size)
-        outer = place(state, outer, whole, "outer", False, size)
-        first = place(state, first, whole, "first", False, size)
-        meter = self.meter(state, meter)
-        for it in (inner, outer, first, meter[:2]):
-            apart(state, (*target, whole), (*it, 16 if it == meter[:2] else whole))
-            if it != meter[:2]:
-                apart(state, meter, (*it, whole))
+    def starts(self, state, pointer, function, lanes):
+        """The words of each lane's states: after the key's blocks, and the inner digest of what
+        is to be signed. And where they are."""
+        size, states = function.width // 8, []
+        whole = len(kernels.STARTS) * kernels.MAX_LANES * kernels.STATE_SIZE
+        region, start = place(state, pointer, whole, "starts", False, 8)
+        for lane in range(lanes):
+            offsets = [start + kernels.STATE_SIZE * (kernels.MAX_LANES * i + lane)
+                       for i in range(len(kernels.STARTS))]
+            if any(number(state, region.cell(it), "a tag") != (function.width == 32)
+                   for it in offsets):
+                state.refuse("a tag that was not shown")
+            states.append([words_at(state, region, it + size, size, function.words)
+                           for it in offsets])
+        return states, (region, start, whole)
+
+    def iterates(self, function, front, states, iterations):
+        """T of a lane, from its states."""
+        inner, outer, digest = states
         padding = kernels.padding_of(function, front)
-        results = []
-        for i in range(lanes):
-            key = [self.in_lanes(state, *it, size, lanes, i, function.words)
-                   for it in (inner, outer)]
-            last = total = self.in_lanes(state, *first, size, lanes, i, front)
-            for _ in range(iterations - 1):
-                inside = self.block(function, key[0], last + padding)
-                last = self.block(function, key[1], inside[:front] + padding)[:front]
-                total = [terms.xor_words(x, y) for x, y in zip(total, last)]
-            results.append(total)
-        forget(target[0], target[1], target[1] + whole)
-        for i, total in enumerate(results):
-            for j, word in enumerate(total):
-                put_words(target[0], target[1] + size * (lanes * j + i), [word])
+        last = total = self.block(function, outer, digest[:front] + padding)[:front]
+        count = terms.number_of(iterations)
+        if count is None:
+            return self.block.iterated(function, front, inner, outer, last, iterations)
+        for _ in range(count - 1):
+            inside = self.block(function, inner, last + padding)
+            last = self.block(function, outer, inside[:front] + padding)[:front]
+            total = [terms.xor_words(x, y) for x, y in zip(total, last)]
+        return total
+
+    def xor_iterates(self, state, _, function, lanes, front):
+        derivation, starts, outputs, *count, meter = self.arguments(state, 4 + (lanes == 1))
+        if count and number(state, count[0], "how many outputs there are") != 1:
+            state.refuse("more outputs than one, in one lane")
+        of, at = place(state, derivation, kernels.DERIVATION_SIZE, "the derivation", False, 8)
+        iterations, = words_at(state, of, at + kernels.ITERATIONS, 4, 1)
+        if terms.is_zero(iterations):
+            state.refuse("a number of iterations that may be zero")
+        states, room = self.starts(state, starts, function, lanes)
+        whole = lanes * kernels.OUTPUT_ROOM
+        to, start = place(state, outputs, whole, "the outputs", True)
+        meter = self.meter(state, meter)
+        for it in ((of, at, kernels.DERIVATION_SIZE), room, meter):
+            apart(state, (to, start, whole), it)
+        apart(state, meter, (of, at, kernels.DERIVATION_SIZE), room)
+        forget(to, start, start + whole)
+        for lane in range(lanes):
+            total = self.iterates(function, front, states[lane], iterations)
+            put_words(to, start + kernels.OUTPUT_ROOM * lane,
+                      [terms.joined(terms.cut(it, 8)[::-1]) for it in total])
         forget(meter[0], meter[1], meter[1] + 16)
         return no_results(self.cpu)

@@ -10,7 +10,7 @@
 #include <stdlib.h>
 
 #if !defined(__x86_64__) || !defined(__LP64__) || !defined(__GLIBC__)
-#error "the text in programs/ is for Linux on x86-64 with glibc alone"
+#error "the programs' text is for Linux on x86-64 with glibc alone"
 #endif
 
 struct tried {

@@ -1,12 +1,12 @@
 #!/usr/bin/env python3
 # SPDX-License-Identifier: ISC
-"""The C library and its callers in C, Python and Rust: `make -C capi check exports constant-time`,
+"""The C library and its callers in C, Python and Rust: `make check exports constant-time`,
 `traces` and `instructions-check`; for 64-bit ARM the library and its callers in C and Rust, under
 qemu-user; and the library for Windows under wine, and the code of that for macOS.
 
-The library is built first, from the assembly text of capi/generated. The first part proves and
-builds `ring_c` by the kit, and compares both libraries byte by byte; each other part is then tried
-by itself. A part whose tools are missing is left out, and counted as skipped. The last line is
+The library is built first, from the assembly text in generated/. The first part proves and builds
+`ring_c` by the kit, and compares both libraries byte by byte; each other part is then tried by
+itself. A part whose tools are missing is left out, and counted as skipped. The last line is
 'N passed, M failed', or 'N passed, M failed, K skipped'.
 """
 
@@ -22,8 +22,8 @@ import tempfile
 sys.dont_write_bytecode = True
 import password_hashes
 
-FOLDER = pathlib.Path(__file__).resolve().parent.parent / "capi"
-OUT = "../crates/ring_c/out"
+ROOT = pathlib.Path(__file__).resolve().parent.parent
+OUT = "crates/ring_c/out"
 BUILT = {
     "x86_64": [f"{OUT}/libring_c.v2.a", f"{OUT}/libring_c.v3.a"],
     "aarch64": [f"{OUT}/libring_c.aarch64.a"],
@@ -35,7 +35,10 @@ TEXTS = {
                "yezdopin_windows_x86_64_v2.S", "yezdopin_windows_x86_64_v3.S"],
     "aarch64": ["yezdopin_aarch64.S"],
 }
-KIT_OUT = {"x86_64": FOLDER / "out/kit", "aarch64": FOLDER / "out/aarch64/kit"}
+# What the library is made and tested from.
+MADE_FROM = ["LICENSE", "Makefile", "c", "generated", "javascript", "openssl", "packaging", "python",
+             "rust"]
+KIT_OUT = {"x86_64": ROOT / "out/kit", "aarch64": ROOT / "out/aarch64/kit"}
 
 # What make's targets are called by, and what each needs beside `rt`.
 # The part that asks `rt`, even where make finds nothing newer, and the one behind it, by `altered`.
@@ -141,11 +144,24 @@ def make(arch, *arguments):
     if arch != "x86_64":
         environment = {name: it for name, it in environment.items() if name not in ("CC", "CXX")}
     run = subprocess.run(
-        ["make", "-s", "-C", FOLDER, f"ARCH={arch}", *arguments],
+        ["make", "-s", "-C", ROOT, f"ARCH={arch}", *arguments],
         capture_output=True, text=True, check=False, env=environment,
     )
     said = run.stdout + run.stderr
     return said if run.returncode else None, re.findall(r"^left out: .*, without .*", said, re.M)
+
+
+def new_copy(folder):
+    """A copy of what the library is made from, in a folder."""
+    copy = pathlib.Path(folder, "copy")
+    without = shutil.ignore_patterns("out", "target", "node_modules")
+    for name in MADE_FROM:
+        if (ROOT / name).is_dir():
+            shutil.copytree(ROOT / name, copy / name, ignore=without)
+        else:
+            copy.mkdir(exist_ok=True)
+            shutil.copy2(ROOT / name, copy)
+    return copy
 
 
 def altered(arch):
@@ -153,11 +169,10 @@ def altered(arch):
     made = ["libyezdopin.a", *(it for it in TEXTS[arch] if "windows" in it)]
     kept = [*BUILT[arch], *(KIT_OUT[arch] / it for it in made)]
     options = [word for it in kept for word in ("-o", str(it))]
-    without = shutil.ignore_patterns("out", "target", "node_modules")
     for name in TEXTS[arch]:
         with tempfile.TemporaryDirectory() as room:
-            copy = shutil.copytree(FOLDER, f"{room}/capi", ignore=without)
-            text = pathlib.Path(copy, "generated", name)
+            copy = new_copy(room)
+            text = copy / "generated" / name
             code = text.read_text()
             text.write_text(re.sub(r"\t(v?)(xor|eor)", r"\t\1and", code, count=1))
             fault, _ = make(arch, "-C", copy, f"KIT_OUT={KIT_OUT[arch]}", *options, GENERATED)

@@ -32,7 +32,8 @@ import sys
 import tempfile
 
 sys.dont_write_bytecode = True
-sys.path.append(str(pathlib.Path(__file__).resolve().parent.parent / "tools"))
+HERE = pathlib.Path(__file__).resolve().parent
+sys.path += [str(HERE / "lib"), str(HERE.parent / "tools")]
 import call_tables
 import rattle_items
 

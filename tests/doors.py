@@ -1,7 +1,7 @@
 #!/usr/bin/env python3
 # SPDX-License-Identifier: ISC
-"""Runs the shell lines of README.md and of the pages below capi/ as a reader does: all of a page
-from the top, in one shell, in a fresh copy of the repository's files.
+"""Runs the shell lines of README.md and of the packages' pages as a reader does: all of a page from
+the top, in one shell, in a fresh copy of the repository's files.
 
 In Markdown they are the blocks marked `sh`, and every other block has a mark too, so that none is
 missed. A comment right after a command is a line that the command writes. Each command ends with 0,
@@ -29,19 +29,21 @@ ROOT = pathlib.Path(__file__).resolve().parent.parent
 YOURS = "yours"
 PAGES = {
     "README.md": ".",
-    "capi/README.md": "capi",
-    "capi/python/README.md": "capi/python",
-    "capi/rust/README.md": YOURS,
-    "capi/js/README.md": YOURS,
-    "capi/openssl/README.md": "capi",
-    "capi/dist/INSTALL": YOURS,
+    "c/README.md": ".",
+    "python/README.md": ".",
+    "rust/README.md": YOURS,
+    "javascript/README.md": YOURS,
+    "openssl/README.md": ".",
+    "packaging/INSTALL": YOURS,
 }
-PACKED = "make -s -C YEZDOPIN/capi dist PACKAGES={} && cp YEZDOPIN/capi/out/dist/{} . &&"
+# Where other pages would be.
+FOLDERS = ("c", "javascript", "openssl", "packaging", "python", "rust")
+PACKED = "make -s -C YEZDOPIN dist PACKAGES={} && cp YEZDOPIN/out/dist/{} . &&"
 # What a block takes for granted, by its first words: a package, a crate or a package of one's own.
 GIVEN = {
     "tar -xzf yezdopin": PACKED.format("crate", "*.crate") + " cargo init --quiet --name yours .",
     "cargo add --path YEZDOPIN": "test -e Cargo.toml || cargo init --quiet --name yours .",
-    "npm install YEZDOPIN": "echo '{}' >package.json",
+    "npm install ./YEZDOPIN": "echo '{}' >package.json",
     "export PKG_CONFIG_PATH": PACKED.format("tarball", "*.gz") + " tar -xzf *.gz && cd yezdopin-*/",
 }
 # What a block needs, by a word of it or of what it takes for granted.
@@ -58,7 +60,7 @@ NEEDED = {
     "PACKAGES=crate": ["aarch64-linux-gnu-gcc"],
     "./bench": ["cc"],
 }
-# What is not run, and why. Packages are tried by `make -C capi dist-check`, in systems of its own,
+# What is not run, and why. Packages are tried by `make dist-check`, in systems of its own,
 # and what `make` installs by its targets `installed`, `moved` and `openssl-policy`.
 NOT_RUN = {
     "sudo ": "which changes the system",
@@ -86,9 +88,9 @@ def unmarked(page):
 
 
 def pages():
-    """Each page of the pages' list and below capi/ that has shell lines."""
-    found = [str(it.relative_to(ROOT)) for it in sorted((ROOT / "capi").rglob("*.md"))
-             if not {"out", "node_modules", "target"} & set(it.parts)]
+    """Each page of the pages' list, and each other one of the packages that has shell lines."""
+    found = subprocess.run(["git", "ls-files", *(f"{it}/**.md" for it in FOLDERS)], cwd=ROOT,
+                           capture_output=True, text=True, check=True).stdout.splitlines()
     return [*PAGES, *(it for it in found if it not in PAGES and blocks(it))]
 
 

@@ -16,6 +16,7 @@ import tempfile
 import unittest
 
 sys.dont_write_bytecode = True
+sys.path.append(str(pathlib.Path(__file__).resolve().parent / "lib"))
 import counted
 
 ROOT = pathlib.Path(__file__).resolve().parent.parent
@@ -52,7 +53,7 @@ class Tables(unittest.TestCase):
         folder = tempfile.TemporaryDirectory(prefix="edit_tables.")
         self.addCleanup(folder.cleanup)
         self.root = pathlib.Path(folder.name)
-        for path in ("tests/wrong_bodies.py", *sorted((ROOT / "tools").glob("rattle_*.py"))):
+        for path in ("tests/wrong_bodies.py", *sorted((ROOT / "tests/lib").glob("rattle_*.py"))):
             path = (ROOT / path).relative_to(ROOT)
             (self.root / path).parent.mkdir(exist_ok=True)
             shutil.copy(ROOT / path, self.root / path)

@@ -20,7 +20,7 @@ import sys
 import textwrap
 
 sys.dont_write_bytecode = True
-sys.path.append(str(pathlib.Path(__file__).resolve().parent.parent / "tools"))
+sys.path.append(str(pathlib.Path(__file__).resolve().parent / "lib"))
 import rattle_items
 
 ROOT = rattle_items.ROOT

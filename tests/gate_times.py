@@ -20,6 +20,7 @@ import tempfile
 import unittest
 
 sys.dont_write_bytecode = True
+sys.path.append(str(pathlib.Path(__file__).resolve().parent / "lib"))
 import counted
 
 ROOT = pathlib.Path(__file__).resolve().parent.parent

@@ -1,11 +1,11 @@
 #!/usr/bin/env python3
 # SPDX-License-Identifier: ISC
-"""The package for JavaScript: a shorter form of `make -C capi js-check`, under Node.
+"""The package for JavaScript: a shorter form of `make js-check`, under Node.
 
-The module is made of its text first. Each part is a target of capi/js/rules.mk, of which two prove
-`ring_c`. A part whose tools are missing is left out, and counted as skipped.
-`make -C capi js-browsers` runs the package in browsers, by hand. The last line is
-'N passed, M failed', or 'N passed, M failed, K skipped'.
+The module is made of its text first. Each part is a target of javascript/javascript.mk, of which
+two prove `ring_c`. A part whose tools are missing is left out, and counted as skipped.
+`make js-browsers` runs the package in browsers, by hand. The last line is 'N passed, M failed', or
+'N passed, M failed, K skipped'.
 """
 
 import os
@@ -15,8 +15,8 @@ import shutil
 import subprocess
 import sys
 
-FOLDER = pathlib.Path(__file__).resolve().parent.parent / "capi"
-BUILT = "../crates/ring_c/out/libring_c.wasm64.a"
+ROOT = pathlib.Path(__file__).resolve().parent.parent
+BUILT = "crates/ring_c/out/libring_c.wasm64.a"
 # The first whose own tests are `node --test`, and which has modules of 64-bit addresses.
 NODE_MAJOR = 20
 NODE = f"node {NODE_MAJOR}"
@@ -56,7 +56,7 @@ def is_there(tool):
 def make(*arguments):
     """What make says, where it failed."""
     run = subprocess.run(
-        ["make", "-s", "-C", FOLDER, *arguments], capture_output=True, text=True, check=False
+        ["make", "-s", "-C", ROOT, *arguments], capture_output=True, text=True, check=False
     )
     return run.stdout + run.stderr if run.returncode else None
 

@@ -1,10 +1,10 @@
 #!/usr/bin/env python3
 # SPDX-License-Identifier: ISC
-"""How ./bench, ./sums and ./passwords build their programs, by tools/built, and what they tell of
-themselves and of the build.
+"""How ./bench, ./sums and ./passwords build their programs, by programs/built, and what they tell
+of themselves and of the build.
 
 Each test has a copy of the launchers with crates that hold a word, and an `rt` of its own, which
-says what the kit's says, and "builds" a program that prints the word. Where programs/ has a text,
+says what the kit's says, and "builds" a program that prints the word. Where generated/ has a text,
 it holds a word too, and a compiler of the test's own "builds" the program that prints it. The last
 line is 'N passed, M failed'.
 
@@ -26,16 +26,17 @@ import time
 import unittest
 
 sys.dont_write_bytecode = True
+sys.path.append(str(pathlib.Path(__file__).resolve().parent / "lib"))
 import counted
 
 ROOT = pathlib.Path(__file__).resolve().parent.parent
 COPIED = [
-    "bench", "sums", "passwords", "programs/build", "tools/about", "tools/built",
-    "tools/progress.py",
+    "bench", "sums", "passwords", "programs/build", "programs/about", "programs/built",
+    "generated/make/progress.py",
     "crates/ring_sums/src/about.rt", "crates/ring_passwords/src/about.rt",
 ]
 # The library's.
-HEADER = (ROOT / "capi/include/yezdopin.h").read_text()
+HEADER = (ROOT / "c/include/yezdopin.h").read_text()
 VERSION = r"\.".join(re.findall(r"#define YZ_VERSION_(?:MAJOR|MINOR|PATCH) (\d+)", HEADER))
 # The crates of a launcher's programs.
 CRATES = {
@@ -122,10 +123,10 @@ class Launchers(unittest.TestCase):
     def write_texts(self, folder, word):
         """Gives the programs texts with a word, made of the sources as they stand."""
         for crate in [crate for of in CRATES.values() for crate in of]:
-            (folder / f"programs/{crate}.S").write_text(word + "\n")
+            (folder / f"generated/{crate}.S").write_text(word + "\n")
         (folder / "programs/runtime.c").touch()
         sources = (it for it in (folder / "crates").glob("*/src/*") if it.is_file())
-        (folder / "programs/SOURCES").write_text("".join(
+        (folder / "generated/SOURCES").write_text("".join(
             f"{hashlib.sha256(it.read_bytes()).hexdigest()}  {it.relative_to(folder)}\n"
             for it in sources))
 
@@ -242,7 +243,7 @@ class Texts(Launchers):
                     self.write_texts(folder, "text")
                     status, output, error = self.run_of(launcher, folder, path=path)
                     self.assertEqual((status, output), (0, "text\n"))
-                    told = r"\A(ring_\w+): building the program from programs/\1\.S first\n\Z"
+                    told = r"\A(ring_\w+): building the program from generated/\1\.S first\n\Z"
                     self.assertRegex(error, told)
                     found = self.run_of(launcher, folder, path=path)
                     self.assertEqual(found, (0, "text\n", ""))
@@ -259,7 +260,7 @@ class Texts(Launchers):
                 self.edit(folder, "two")
                 status, output, error = self.run_of(launcher, folder, path=self.NO_KIT)
                 self.assertEqual((status, output), (3, ""))
-                self.assertRegex(error, r"\Aring_\w+: a source differs from programs/SOURCES, so"
+                self.assertRegex(error, r"\Aring_\w+: a source differs from generated/SOURCES, so"
                                  r" the program must .* whose rt is not on PATH\n\Z")
                 self.assertEqual(self.run_of(launcher, folder)[:2], (0, "two\n"))
                 self.assertEqual(self.run_of(launcher, folder), (0, "two\n", ""))
@@ -281,7 +282,7 @@ class Texts(Launchers):
                 folder = self.clone(launcher, "one")
                 for word in ("text", "another"):
                     self.write_texts(folder, word)
-                    for file in (folder / "programs").glob("*.S"):
+                    for file in (folder / "generated").glob("*.S"):
                         os.utime(file, (0, 0))
                     self.assertEqual(self.run_of(launcher, folder)[:2], (0, f"{word}\n"))
 
@@ -316,7 +317,7 @@ class Texts(Launchers):
         self.write_texts(folder, "text")
         for it in [self.begin("passwords", folder) for _ in range(8)]:
             self.assertEqual(it.communicate(timeout=TIMEOUT)[0], "text\n")
-        self.assertEqual(os.listdir(folder / "programs/out"), ["ring_passwords"])
+        self.assertEqual(os.listdir(folder / "out/built"), ["ring_passwords"])
 
 
 class About(Launchers):
@@ -374,10 +375,10 @@ class About(Launchers):
             (("C",), 3, "", "an unknown escape in C"), (("D",), 3, "", "no constant D"),
         ]
         for names, status, output, error in rows:
-            command = [ROOT / "tools/about", "told", source, *names]
+            command = [ROOT / "programs/about", "told", source, *names]
             ended = subprocess.run(command, capture_output=True, text=True, timeout=TIMEOUT)
             self.assertEqual((ended.returncode, ended.stdout), (status, output), names)
-            wanted = f"tools/about: {error} in {source}\n" if error else ""
+            wanted = f"programs/about: {error} in {source}\n" if error else ""
             self.assertEqual(ended.stderr, wanted, names)
 
 

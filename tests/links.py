@@ -12,7 +12,7 @@ the crates and constants.
 - each path in backquotes whose first step is a crate, a module or a type of crates/, as
   `laws::sign_pieces` or `digest::{Context::new, update}`: each step is declared in the one before
   it. A path that begins otherwise, as `std::simd`, is another project's; and so is each in
-  capi/rust and in the first column of docs/DIFFERENCES.md, which are about crates of Rust;
+  rust and in the first column of docs/DIFFERENCES.md, which are about crates of Rust;
 - each name in capitals in backquotes, as `MAX_TEXT_LEN`: a word of a file that is no page, or a
   page.
 
@@ -85,7 +85,7 @@ def pages():
 @functools.lru_cache(None)
 def names_in_capitals():
     """The names in capitals in all files but pages, and the pages' own names."""
-    others = files(":!*.md", ":!capi/generated/*", ":!tests/links.py")
+    others = files(":!*.md", ":!generated/*", ":!tests/links.py")
     texts = ((ROOT / name).read_text(errors="replace") for name in others)
     found = {name for text in texts for name in re.findall(r"\b[A-Z][A-Z0-9_]+\b", text)}
     return found.union(pathlib.PurePath(name).stem for name in files("*.md"))
@@ -202,7 +202,7 @@ def item_fault(steps):
 
 def items_of(page, line):
     """The paths of modules and items in a line, each as its steps."""
-    if page.startswith("capi/rust/"):
+    if page.startswith("rust/"):
         return
     if page == "docs/DIFFERENCES.md":
         line = re.sub(r"^\|[^|]*", "", line)

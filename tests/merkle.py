@@ -7,7 +7,7 @@ The program over the crate answers the vectors of Certificate Transparency, and 
 each size up to 300 and of sizes up to 2^64 - 1, as this reading over Python's `hashlib` does: the
 roots, the paths of both kinds, and whether a path proves what it says, also where its length, its
 order, an index, a size or a bit of a hash is another one. The C library, made of the text in
-capi/generated and called by `ctypes`, answers the same lines. Of docs/MERKLE.md the example in C
+generated and called by `ctypes`, answers the same lines. Of docs/MERKLE.md the example in C
 accepts the entries of Certificate Transparency, and that in Python asks a log of the form of RFC
 6962, section 4, by the package. The last line is 'N passed, M failed'.
 """
@@ -30,6 +30,7 @@ import threading
 import urllib.parse
 
 sys.dont_write_bytecode = True
+sys.path.append(str(pathlib.Path(__file__).resolve().parent / "lib"))
 import counted
 from run import ROOT, differing
 
@@ -395,7 +396,7 @@ def words_of(hashes):
 def build(room):
     """Builds the shared library in a folder, whose path is given."""
     environment = {name: it for name, it in os.environ.items() if not name.startswith("MAKE")}
-    command = ["make", "-s", "-C", ROOT / "capi", f"OUT={room}", "all"]
+    command = ["make", "-s", "-C", ROOT, f"OUT={room}", "all"]
     subprocess.run(command, check=True, stdout=subprocess.DEVNULL, env=environment)
     return next(pathlib.Path(room).glob("libyezdopin.so.*.*"))
 
@@ -403,7 +404,7 @@ def build(room):
 def build_package(room):
     """Builds the Python package over the library of a folder, and gives the folder it is in."""
     made = pathlib.Path(room) / "python"
-    command = [sys.executable, "-B", ROOT / "capi/python/build_backend.py", made]
+    command = [sys.executable, "-B", ROOT / "python/build_backend.py", made]
     subprocess.run(command, check=True, env={**os.environ, "YEZDOPIN_LIB_DIR": room})
     return made
 
@@ -448,7 +449,7 @@ def example(mark):
 def knows_entries(room):
     """The entries of Certificate Transparency whose paths the page's example in C refuses, and the
     other ones for which it accepts them."""
-    made, flags = f"{room}/is_logged.so", ["-shared", "-fPIC", f"-I{ROOT}/capi/include"]
+    made, flags = f"{room}/is_logged.so", ["-shared", "-fPIC", f"-I{ROOT}/c/include"]
     command = ["cc", *flags, "-x", "c", "-", "-x", "none", f"{room}/libyezdopin.a", "-o", made]
     subprocess.run(command, input=example("c"), text=True, check=True)
     is_logged = ctypes.CDLL(made).is_logged

@@ -1,9 +1,9 @@
 #!/usr/bin/env python3
 # SPDX-License-Identifier: ISC
-"""The OpenSSL provider: a shorter form of `make -C capi openssl-check`, and for 64-bit ARM under
-qemu-user of `make -C capi ARCH=aarch64 openssl-check`.
+"""The OpenSSL provider: a shorter form of `make openssl-check`, and for 64-bit ARM under
+qemu-user of `make ARCH=aarch64 openssl-check`.
 
-Each part is a target of capi/openssl/rules.mk, some with fewer calls. A part whose tools are
+Each part is a target of openssl/openssl.mk, some with fewer calls. A part whose tools are
 missing is left out, and counted as skipped: all of them where OpenSSL's headers are. The last line
 is 'N passed, M failed', or 'N passed, M failed, K skipped'.
 """
@@ -15,7 +15,7 @@ import subprocess
 import sys
 import tempfile
 
-FOLDER = pathlib.Path(__file__).resolve().parent.parent / "capi"
+ROOT = pathlib.Path(__file__).resolve().parent.parent
 NEEDED = {
     "x86_64": ["make", "cc", "OpenSSL 3's headers"],
     "aarch64": ["make", "aarch64-linux-gnu-gcc", "OpenSSL 3's headers for aarch64", "qemu-aarch64"],
@@ -86,7 +86,7 @@ def make(arch, *arguments):
     if arch != "x86_64":
         environment = {name: it for name, it in environment.items() if name not in ("CC", "CXX")}
     run = subprocess.run(
-        ["make", "-s", "-C", FOLDER, f"ARCH={arch}", *arguments],
+        ["make", "-s", "-C", ROOT, f"ARCH={arch}", *arguments],
         capture_output=True, text=True, check=False, env=environment,
     )
     return run.stdout + run.stderr if run.returncode else None

@@ -28,7 +28,7 @@ import sys
 import tempfile
 
 sys.dont_write_bytecode = True
-sys.path.append(str(pathlib.Path(__file__).resolve().parent.parent / "tools"))
+sys.path.append(str(pathlib.Path(__file__).resolve().parent / "lib"))
 import counted
 import debian_crates
 from run import COMPILER, ROOT, answers, differing, file_case, rows_of, short_of_memory

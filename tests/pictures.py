@@ -26,9 +26,9 @@ import pictures
 import svg
 
 SVG = "{http://www.w3.org/2000/svg}"
-HEADER = "capi/include/yezdopin.h"
-EXPORTS = "capi/js/package/browser.d.ts"
-TYPES = "capi/js/package/types.d.ts"
+HEADER = "c/include/yezdopin.h"
+EXPORTS = "javascript/package/browser.d.ts"
+TYPES = "javascript/package/types.d.ts"
 # What is behind a picture in light and in dark, on GitHub's pages and on others' in the extreme.
 GROUNDS = {"light": ("#ffffff", "#f6f8fa"), "dark": ("#0d1117", "#000000")}
 LEAST_OF_BARS, LEAST_OF_WORDS = 3, 4.5
@@ -37,16 +37,16 @@ LEAST_OF_BARS, LEAST_OF_WORDS = 3, 4.5
 PLANTED = (
     ("C", HEADER, "yz_status yz_digest_each(", "// yz_status yz_digest_each("),
     ("C", HEADER, "bool yz_equal(", "yz_status yz_password_store_new(void);\nbool yz_equal("),
-    ("Python", "capi/python/src/yezdopin/__init__.py", '    "digest_each",\n', ""),
-    ("Python", "capi/python/src/yezdopin/hmac.py", '    "Key",\n', ""),
-    ("Rust", "capi/rust/src/hkdf.rs", "    pub fn expand_label(", "    fn expand_label("),
-    ("Rust", "capi/rust/src/lib.rs", "pub mod password_hash;", "mod password_hash;"),
-    ("Rust", "capi/rust/src/tokens.rs", "pub mod otp;", "mod otp;"),
+    ("Python", "python/src/yezdopin/__init__.py", '    "digest_each",\n', ""),
+    ("Python", "python/src/yezdopin/hmac.py", '    "Key",\n', ""),
+    ("Rust", "rust/src/hkdf.rs", "    pub fn expand_label(", "    fn expand_label("),
+    ("Rust", "rust/src/lib.rs", "pub mod password_hash;", "mod password_hash;"),
+    ("Rust", "rust/src/tokens.rs", "pub mod otp;", "mod otp;"),
     ("JavaScript", EXPORTS, "export const hkdfExpand:", "declare const hkdfExpand:"),
     ("JavaScript", TYPES, "  verify(text: Input,", "  verifyHash(text: Input,"),
     ("JavaScript", EXPORTS, "export const digest:", "export const restoreContext: () => void;\n"
                                                     "export const digest:"),
-    ("OpenSSL", "capi/openssl/provider.c", '{"HKDF", ', '{"TLS13-KDF", '),
+    ("OpenSSL", "openssl/provider.c", '{"HKDF", ', '{"TLS13-KDF", '),
 )
 
 

@@ -1,11 +1,11 @@
 #!/usr/bin/env python3
 # SPDX-License-Identifier: ISC
-"""That the programs' text in programs/ is what the kit makes of the proved crates, to the byte, and
-that the launchers run programs that are built from it.
+"""That the programs' text in generated/ is what the kit makes of the proved crates, to the byte,
+and that the launchers run programs that are built from it.
 
-With the kit, `programs/texts check` links each text and the kit's object of the same program, and
-compares what comes of them; that it would see another instruction, constant or address is tried by
-planted ones. The launchers are run in a copy of the repository, without the kit. The last line is
+With the kit, `generated/make/programs check` links each text and the kit's object of the same
+program, and compares what comes of them; that it would see another instruction, constant or address
+is tried by planted ones. The launchers are run in a copy of the repository, without the kit. The last line is
 'N passed, M failed', or 'N passed, M failed, K skipped' without the kit or a C compiler.
 
     tests/program_texts.py [WORD..]     all, or those with one of these words in their names
@@ -22,11 +22,12 @@ import time
 import unittest
 
 sys.dont_write_bytecode = True
+sys.path.append(str(pathlib.Path(__file__).resolve().parent / "lib"))
 import counted
 from run import COMPILER, ROOT
 
 PROGRAMS = ["ring_bench_main", "ring_passwords", "ring_sums_main", "ring_sums_wide"]
-COPIED = ["bench", "passwords", "sums", "crates.txt", "programs", "tools"]
+COPIED = ["bench", "passwords", "sums", "crates.txt", "generated", "programs"]
 # FIPS 180-2, appendix B.1: the digest of "abc".
 DIGEST = "ba7816bf8f01cfea414140de5dae2223b00361a396177a9cb410ff61f20015ad"
 # What is changed in the middle one of the lines of a text that have it.
@@ -76,10 +77,10 @@ class Texts(unittest.TestCase):
 
     def first_run_of(self, launcher, crate, *words, **settings):
         """How a launcher ends that builds the program of a crate first: its status, its output."""
-        shutil.rmtree(self.copy / "programs/out", ignore_errors=True)
+        shutil.rmtree(self.copy / "out/built", ignore_errors=True)
         status, output, error = self.run_of(launcher, *words, **settings)
         self.assertRegex(
-            error, rf"\A({crate}): building the program from programs/\1\.S first\n")
+            error, rf"\A({crate}): building the program from generated/\1\.S first\n")
         return status, output
 
 
@@ -115,7 +116,7 @@ class Launchers(Texts):
         for launcher in ("bench", "passwords", "sums"):
             status, output, error = self.run_of(launcher, "x")
             self.assertEqual((status, output, error.count("\n")), (3, "", 1))
-            self.assertIn(": a source differs from programs/SOURCES, so the program must", error)
+            self.assertIn(": a source differs from generated/SOURCES, so the program must", error)
 
 
 class Planted(Texts):
@@ -124,7 +125,7 @@ class Planted(Texts):
     def test_it_sees_what_is_changed(self):
         """With another instruction, constant or entry of a table it is another program."""
         for name in PROGRAMS:
-            text = self.copy / f"programs/{name}.S"
+            text = self.copy / f"generated/{name}.S"
             whole = text.read_text()
             lines = whole.split("\n")
             wanted = linked(name, self.copy)
@@ -144,7 +145,7 @@ def compared_with_kit():
     if not COMPILER or not shutil.which(os.environ.get("RT", "rt")):
         print("left out: whether the text is what the kit makes, without the Rattle kit")
         return 0, 0, 1
-    command = [ROOT / "programs/texts", "check"]
+    command = [ROOT / "generated/make/programs", "check"]
     ended = subprocess.run(command, stdout=subprocess.PIPE, text=True, check=False)
     print(ended.stdout, end="", flush=True)
     counts = re.search(r"^(\d+) passed, (\d+) failed\n\Z", ended.stdout, re.M)

@@ -26,7 +26,8 @@ import tempfile
 import time
 
 sys.dont_write_bytecode = True
-sys.path.append(str(pathlib.Path(__file__).resolve().parent.parent / "tools"))
+HERE = pathlib.Path(__file__).resolve().parent
+sys.path += [str(HERE / "lib"), str(HERE.parent / "tools")]
 import counted
 import rfc8448
 from run import ROOT, differing, file_case

@@ -5,11 +5,11 @@ has them.
 
 The definitions in `crates/ring_c/specs/Status.antt`, of which the contracts speak, number the
 statuses from 0 on, and name the causes in that order. Compared with them: the header, the manual
-page and the table of capi/README.md, which list all statuses in their order; the constants of the
+page and the table of c/README.md, which list all statuses in their order; the constants of the
 Rust crate, which has no other numbers beside them; Python's reasons and what its docstrings say of
 statuses; the constants of the package for JavaScript and of its tests. The longest text of the
 header, the Rust crate and the manual page is that of the specs. The header's comments are the
-statuses' texts, which `capi/status.c` gives to callers and the table of capi/README.md has. Then
+statuses' texts, which `c/status.c` gives to callers and the table of c/README.md has. Then
 each place is read again with a planted fault, which must be found. The last line is
 'N passed, M failed'.
 """
@@ -21,16 +21,16 @@ import sys
 ROOT = pathlib.Path(__file__).resolve().parent.parent
 STATUS = "crates/ring_c/specs/Status.antt"
 HASHES = "crates/ring_c/specs/PasswordHashes.antt"
-HEADER = "capi/include/yezdopin.h"
-PAGE = "capi/man/yezdopin.3"
-README = "capi/README.md"
-TEXTS = "capi/status.c"
-REASONS = "capi/python/src/yezdopin/_errors.py"
-RUST = "capi/rust/src/calls.rs"
-RUST_TEXTS = "capi/rust/src/password_hash.rs"
+HEADER = "c/include/yezdopin.h"
+PAGE = "c/man/yezdopin.3"
+README = "c/README.md"
+TEXTS = "c/status.c"
+REASONS = "python/src/yezdopin/_errors.py"
+RUST = "rust/src/calls.rs"
+RUST_TEXTS = "rust/src/password_hash.rs"
 FOLDERS = {
-    "capi/rust/src": "**/*.rs", "capi/python/src/yezdopin": "*.py",
-    "capi/js/package": "*.js", "capi/js/test": "*.mjs",
+    "rust/src": "**/*.rs", "python/src/yezdopin": "*.py",
+    "javascript/package": "*.js", "javascript/test": "*.mjs",
 }
 
 # A place, a text of it and what stands there instead: a fault that must be found.
@@ -52,9 +52,9 @@ PLANTED = (
     (RUST_TEXTS, "calls::YZ_BAD_SALT =>", "8 =>"),
     (RUST_TEXTS, "MAX_TEXT_LEN: usize = 1024", "MAX_TEXT_LEN: usize = 1025"),
     (REASONS, '    6: "the text', '    7: "the text'),
-    ("capi/python/src/yezdopin/password_hash.py", "status 3", "status 4"),
-    ("capi/js/package/calls.js", "WRONG_LENGTH = 4", "WRONG_LENGTH = 3"),
-    ("capi/js/test/traces.mjs", "UNSPECIFIED = 8", "UNSPECIFIED = 5"),
+    ("python/src/yezdopin/password_hash.py", "status 3", "status 4"),
+    ("javascript/package/calls.js", "WRONG_LENGTH = 4", "WRONG_LENGTH = 3"),
+    ("javascript/test/traces.mjs", "UNSPECIFIED = 8", "UNSPECIFIED = 5"),
 )
 
 

@@ -26,6 +26,7 @@ import sys
 import tempfile
 
 sys.dont_write_bytecode = True
+sys.path.append(str(pathlib.Path(__file__).resolve().parent / "lib"))
 import counted
 from run import COMPILER, ROOT, answers, differing, file_case, short_of_memory
 
@@ -547,10 +548,10 @@ def library():
     """The example in C of docs/TOKENS.md, over the C library."""
     with tempfile.TemporaryDirectory() as room:
         environment = {name: it for name, it in os.environ.items() if not name.startswith("MAKE")}
-        command = ["make", "-s", "-C", ROOT / "capi", f"OUT={room}", "all"]
+        command = ["make", "-s", "-C", ROOT, f"OUT={room}", "all"]
         subprocess.run(command, check=True, stdout=subprocess.DEVNULL, env=environment)
         code = re.search(r"^```c\n(.*?)^```$", PAGE.read_text(), re.M | re.S)[1]
-        flags = ["-shared", "-fPIC", f"-I{ROOT}/capi/include", "-x", "c", "-", "-x", "none"]
+        flags = ["-shared", "-fPIC", f"-I{ROOT}/c/include", "-x", "c", "-", "-x", "none"]
         command = ["cc", *flags, f"{room}/libyezdopin.a", "-o", f"{room}/example.so"]
         subprocess.run(command, input=code, text=True, check=True)
         found = ctypes.CDLL(f"{room}/example.so")

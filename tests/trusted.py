@@ -23,9 +23,9 @@ BEGIN, END = "<!-- uncovered: made by tests/trusted.py --write -->", "<!-- /unco
 SUFFIXES = {".c", ".h", ".S", ".py", ".rs", ".js", ".mjs", ".cjs", ".sh"}
 # What is proved, and what no user's program is made of or runs.
 OTHER_TREES = {"crates", "docs", "speed", "tests", "tools", "vectors", "verify"}
-OTHER_FOLDERS = {"bench", "demo", "examples", "man", "test", "tests"}
+OTHER_FOLDERS = {"demo", "examples", "man", "peers", "speed", "test", "tests"}
 # Machine code of the proved crates as text.
-MADE = re.compile(r"(^|/)(generated/yezdopin_\w+\.S|programs/[^/]+\.S)$")
+MADE = re.compile(r"^generated/\w+\.S$")
 
 
 def is_code(path):

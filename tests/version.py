@@ -1,6 +1,6 @@
 #!/usr/bin/env python3
 # SPDX-License-Identifier: ISC
-"""The version, which stands in capi/include/yezdopin.h, and in every other place must be the same.
+"""The version, which stands in c/include/yezdopin.h, and in every other place must be the same.
 
 PLACES are the files that have to state it. Beside them a package or a program with a version behind
 its name, as in `NAME-1.2.3.crate`, and the shared library with its major number are looked for in
@@ -15,22 +15,22 @@ import subprocess
 import sys
 
 ROOT = pathlib.Path(__file__).resolve().parent.parent
-HEADER = "capi/include/yezdopin.h"
+HEADER = "c/include/yezdopin.h"
 HISTORY = ("CHANGELOG.md", "docs/VERSIONS.md")
 # What states no version: other projects' outputs, machine code as text, and this test.
-NOT_READ = (":!vectors", ":!capi/generated", ":!tests/version.py")
+NOT_READ = (":!vectors", ":!generated", ":!tests/version.py")
 
 # The files that must state the version, and how: the first that the pattern finds is read.
 PLACES = (
-    (r'^version = "(.+)"$', "capi/python/pyproject.toml", "capi/rust/Cargo.toml",
-     "capi/rust/Cargo.lock", "capi/rust/rustcrypto/Cargo.toml"),
-    (r'^  "version": "(.+)",$', "capi/js/package.json", "capi/js/package/package.json"),
-    (r"^    version: (.+)$", "capi/openssl/README.md"),
+    (r'^version = "(.+)"$', "python/pyproject.toml", "rust/Cargo.toml",
+     "rust/Cargo.lock", "rust/rustcrypto/Cargo.toml"),
+    (r'^  "version": "(.+)",$', "javascript/package.json", "javascript/package/package.json"),
+    (r"^    version: (.+)$", "openssl/README.md"),
     (r"^## (.+) - \d{4}-\d\d-\d\d$", "CHANGELOG.md"),
     (r"^YZ_VERSION = (\d+) \* 2 \^ 16 \+ (\d+) \* 2 \^ 8 \+ (\d+)$",
      "crates/ring_c/specs/Version.antt"),
     (r"^pub\(crate\) const VERSION: u32 = 0x(\w+);$", "crates/ring_c/src/version.rt"),
-    (r"library_version\(\), 0x(\w+)\)", "capi/test/packages"),
+    (r"library_version\(\), 0x(\w+)\)", "packaging/test/packages"),
 )
 ANYWHERE = (
     r"(?:yezdopin|passwords|sums|bench)[\w()-]*?[-_ ]\(?(?:>= )?(\d+\.\d+(?:\.\d+)?)",
@@ -41,10 +41,10 @@ RAISED = (
     (HEADER, r"#define YZ_VERSION_MINOR (\d+)"),
     ("crates/ring_c/specs/Version.antt", r"\+ (\d+) \* 2 \^ 8 \+"),
     ("crates/ring_c/src/version.rt", r"VERSION: u32 = 0x(\w+)"),
-    ("capi/test/packages", r"library_version\(\), 0x(\d+)"),
-    ("capi/test/packages", r"find_package\(yezdopin \d+\.(\d+)"),
-    ("capi/exports.map", r"YEZDOPIN_(\d+)"),
-    ("capi/README.md", r"libyezdopin\.so\.(\d+)"),
+    ("packaging/test/packages", r"library_version\(\), 0x(\d+)"),
+    ("packaging/test/packages", r"find_package\(yezdopin \d+\.(\d+)"),
+    ("c/exports.map", r"YEZDOPIN_(\d+)"),
+    ("c/README.md", r"libyezdopin\.so\.(\d+)"),
 )
 
 

@@ -37,7 +37,7 @@ import sys
 import tempfile
 
 sys.dont_write_bytecode = True
-sys.path.append(str(pathlib.Path(__file__).resolve().parent.parent / "tools"))
+sys.path.append(str(pathlib.Path(__file__).resolve().parent / "lib"))
 import rattle_edits
 import rattle_tables
 from rattle_tables import GATE, KINDS, NAMED, RIGHT, ROOT, Malformed
@@ -200,7 +200,7 @@ def place_of(name, crates_below, edits):
     stand on, which are the kit, this script, the edits, and the crate with those below."""
     made = hashlib.sha256(output_of(["rt", "version"], ROOT)[0].encode())
     parts = [pathlib.Path(__file__), ROOT / "crates.txt", ROOT / "HANDLES"]
-    parts += sorted((ROOT / "tools").glob("rattle_*.py"))
+    parts += sorted((ROOT / "tests/lib").glob("rattle_*.py"))
     for it in [*crates_below, name]:
         parts += (ROOT / "crates" / it / part for part in ("src", "specs", "proofs"))
     texts = [(it.relative_to(ROOT), it.read_bytes()) for part in parts for it in files_under(part)]

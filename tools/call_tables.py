@@ -5,10 +5,12 @@ refused.
 `python3 tools/call_tables.py` writes them anew; tests/comments.py compares them.
 """
 
+import pathlib
 import re
 import sys
 
 sys.dont_write_bytecode = True
+sys.path.append(str(pathlib.Path(__file__).resolve().parent.parent / "tests/lib"))
 import rattle_items
 
 PAGE = rattle_items.ROOT / "docs/API.md"

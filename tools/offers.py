@@ -10,8 +10,11 @@ stand the names of algorithms and modes.
 """
 
 import ast
+import pathlib
 import re
+import sys
 
+sys.path.append(str(pathlib.Path(__file__).resolve().parent.parent / "tests/lib"))
 import rattle_items
 
 ROOT = rattle_items.ROOT
@@ -26,7 +29,7 @@ RUST = re.compile(
 
 def of_c(texts):
     """The functions and types that the header declares."""
-    header = SLASHES.sub("", texts["capi/include/yezdopin.h"])
+    header = SLASHES.sub("", texts["c/include/yezdopin.h"])
     return set(re.findall(r"^(?:(?:\w+ )+\*?|\} )(yz_\w+)(?=[(;])", header, re.M))
 
 
@@ -42,7 +45,7 @@ def of_python(texts):
 
 def modules_of_rust(texts, above=""):
     """The paths of the crate's public modules, or of those in one of them."""
-    text = texts[f"capi/rust/src/{above.rstrip('/') or 'lib'}.rs"]
+    text = texts[f"rust/src/{above.rstrip('/') or 'lib'}.rs"]
     for name in re.findall(r"^pub mod (\w+);", text, re.M):
         yield above + name
         yield from modules_of_rust(texts, f"{above}{name}/")
@@ -52,7 +55,7 @@ def of_rust(texts):
     """What is public in the crate's public modules: functions, types, and methods behind types."""
     for path in modules_of_rust(texts):
         module, subject = path.replace("/", "::"), ""
-        for it in RUST.finditer(SLASHES.sub("", texts[f"capi/rust/src/{path}.rs"])):
+        for it in RUST.finditer(SLASHES.sub("", texts[f"rust/src/{path}.rs"])):
             subject = it["type"] or subject
             if it["name"]:
                 yield "::".join([module, *([subject] if it["inside"] else []), it["name"]])
@@ -81,11 +84,12 @@ def of_rattle(_texts):
 
 # Where each package's names stand, and what reads them there.
 PACKAGES = {
-    "C": (of_c, ["capi/include/yezdopin.h"]),
-    "Python": (of_python, [f"capi/python/src/yezdopin/{it}.py" for it in ("__init__", "[a-z]*")]),
-    "Rust": (of_rust, ["capi/rust/src/**/*.rs"]),
-    "JavaScript": (of_javascript, ["capi/js/package/browser.d.ts", "capi/js/package/types.d.ts"]),
-    "OpenSSL": (of_openssl, ["capi/openssl/*.c", "capi/openssl/*.h"]),
+    "C": (of_c, ["c/include/yezdopin.h"]),
+    "Python": (of_python, [f"python/src/yezdopin/{it}.py" for it in ("__init__", "[a-z]*")]),
+    "Rust": (of_rust, ["rust/src/**/*.rs"]),
+    "JavaScript": (
+        of_javascript, ["javascript/package/browser.d.ts", "javascript/package/types.d.ts"]),
+    "OpenSSL": (of_openssl, ["openssl/*.c", "openssl/*.h"]),
     "Rattle": (of_rattle, []),
 }
 

@@ -1,6 +1,6 @@
 #!/usr/bin/env python3
 # SPDX-License-Identifier: ISC
-"""Writes docs/pictures/*.svg, and the tables of README and capi/README.md that show the same.
+"""Writes docs/pictures/*.svg, and the tables of README and c/README.md that show the same.
 
 docs/figures.json has the figures, each measurement with its command, date and processor, and what
 README's table of packages has. A table stands between `<!-- NAME: .. -->` and `<!-- /NAME -->`.
@@ -200,7 +200,7 @@ def layers_picture(_figures, width):
         width, "Layers of Yezdopin: what is proved, tested and trusted",
         "From the top down, as a call goes. Programs in C, Python, Rust, JavaScript and over "
         "OpenSSL 3 call the packages, plain code that is tested. The packages call machine code "
-        "that is kept as text in capi/generated; a test compares it with what the Rattle kit makes"
+        "that is kept as text in generated/; a test compares it with what the Rattle kit makes"
         " of the calls for C, crates/ring_c. These call crates/ring, the digests, HMAC, HKDF and "
         "PBKDF2, and that calls crates/ring_core, the block functions. The three crates are proved"
         " to do what the definitions say, which are short and made to be read. Programs in Rattle "
@@ -215,10 +215,10 @@ def layers_picture(_figures, width):
     picture.text(rattle, 80, "too", "small", "middle")
     picture.arrow(body / 2, y, y + 20)
     y = box(picture, y + 20, "tested", "Packages and provider",
-            "capi/: plain code that hands your bytes to the calls below", 0, body)
+            "plain code that hands your bytes to the calls below", 0, body)
     picture.arrow(body / 2, y, y + 20)
     y = box(picture, y + 20, "tested", "Machine code, kept as text",
-            "capi/generated, assembly and WebAssembly: without the Rattle kit you build from here. "
+            "generated/, assembly and WebAssembly: without the Rattle kit you build from here. "
             "A test compares it, byte for byte, with what the kit makes.", 0, body)
     picture.line(0, y + 17, body, y + 17, "grid")
     y = picture.paragraph(0, y + 36, "The Rattle kit proves what follows, and "
@@ -263,7 +263,7 @@ def ratio_cell(value):
 
 
 def time_cell(nanoseconds):
-    """A time as `make bench` prints it."""
+    """A time as `make speed` prints it."""
     return f"{nanoseconds} ns" if nanoseconds < 10000 else f"{nanoseconds / 1000:.0f} us"
 
 
@@ -304,7 +304,7 @@ def table_with_versions(speed, measured, libraries):
 
 
 def measured_table(figures):
-    """The first table of capi/README.md."""
+    """The first table of c/README.md."""
     speed = figures["speed"]
     return table_with_versions(speed, speed["beside"], speed["libraries"])
 
@@ -358,7 +358,7 @@ def packages_table(figures):
 
 TABLES = {
     "README.md": {"speed": speed_table, "packages": packages_table},
-    "capi/README.md": {"instructions": instructions_table, "beside": measured_table,
+    "c/README.md": {"instructions": instructions_table, "beside": measured_table,
                        "integer": integer_table, "together": together_table,
                        "crates": crates_table},
 }

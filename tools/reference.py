@@ -17,6 +17,7 @@ import re
 import sys
 
 sys.dont_write_bytecode = True
+sys.path.append(str(pathlib.Path(__file__).resolve().parent.parent / "tests/lib"))
 import call_tables
 import rattle_items
 

@@ -1,10 +1,10 @@
 // SPDX-License-Identifier: ISC
-//! The two functions by which capi/bench/crates.c calls a peer, which is a `Box<dyn Peer>` of the
+//! The two functions by which c/speed/crates.c calls a peer, which is a `Box<dyn Peer>` of the
 //! crate's own `begin`.
 
 use std::slice::{from_raw_parts, from_raw_parts_mut};
 
-// Kinds of steps, as capi/bench/bench.h has them.
+// Kinds of steps, as c/speed/speed.h has them.
 const DIGEST: u32 = 0;
 const PIECES: u32 = 1;
 const UPDATE: u32 = 2;
@@ -56,7 +56,7 @@ pub unsafe extern "C" fn peer_begin(
     })))
 }
 
-/// Does a step of a kind of capi/bench/bench.h, and says whether the peer has that kind.
+/// Does a step of a kind of c/speed/speed.h, and says whether the peer has that kind.
 ///
 /// # Safety
 ///

@@ -17,8 +17,7 @@ import sys
 import tempfile
 
 sys.dont_write_bytecode = True
-sys.path[:0] = map(str, (pathlib.Path(__file__).resolve().parents[1],
-                         pathlib.Path(__file__).resolve().parents[2] / "tools"))
+sys.path.append(str(pathlib.Path(__file__).resolve().parents[1] / "lib"))
 import counted
 import debian_crates
 import run

@@ -47,7 +47,7 @@ class Launcher(Case):
         for name in ("tools", "crates/ring_passwords", "kit"):
             (room / name).mkdir(parents=True)
         (room / "crates.txt").write_text("ring_passwords:\n")
-        for name in ("passwords", "tools/built", "tools/progress.py"):
+        for name in ("passwords", "programs/built", "generated/make/progress.py"):
             shutil.copy(ROOT / name, room / name)
         (room / "kit/rt").write_text("#!/bin/sh\necho the reason\nexit 1\n")
         (room / "kit/rt").chmod(0o755)

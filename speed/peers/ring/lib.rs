@@ -1,5 +1,5 @@
 // SPDX-License-Identifier: ISC
-//! The work of capi/bench by `ring`.
+//! The work of c/speed by `ring`.
 
 mod peer;
 

@@ -1,5 +1,5 @@
 // SPDX-License-Identifier: ISC
-//! The work of capi/bench by RustCrypto's `sha1`, `sha2`, `hmac`, `hkdf` and `pbkdf2`.
+//! The work of c/speed by RustCrypto's `sha1`, `sha2`, `hmac`, `hkdf` and `pbkdf2`.
 
 mod peer;
 

@@ -1,0 +1,45 @@
+# SPDX-License-Identifier: ISC
+# The Debian package of the programs `sums` and `passwords`, for x86-64 alone: one word of PACKAGES
+# in packaging/dist.mk. They are built from the assembly text in generated/, as the library is.
+
+TOOLS_DEB = yezdopin-tools
+TOOLS = ring_sums_main ring_sums_wide ring_passwords
+TOOLS_TEXTS = $(wildcard $(TOOLS:%=generated/%.S))
+PROGRAMS = $(WHOLE_OUT)/programs
+
+$(TOOLS:%=$(OUT)/programs/%): $(OUT)/programs/%: generated/%.S programs/build \
+    programs/runtime.c
+	mkdir -p $(@D)
+	CC='$(CC)' CFLAGS=-O2 LDFLAGS= programs/build $* $@
+
+# $(call launcher,NAME): a launcher of the repository that runs the installed program, and builds
+# none.
+define launcher
+	{ printf '%s\n' '#!/bin/bash' '# SPDX-License-Identifier: ISC' '# $(1)(1) describes the program.' \
+	    'set -euo pipefail' && \
+	sed -e '1,/^set -euo pipefail$$/d; /^root=/d; /^# about /,/^esac$$/d' \
+	        -e '/^# With --version/d; /^ *processor=/d' $(1) \
+	    | sed 's|^program=.*/programs/built" "\{0,1\}\([a-z_$$]*\).*|program=/usr/lib/yezdopin/\1|'; } \
+	    >"$(WORK)/$(TOOLS_DEB)/usr/bin/$(1)"
+	chmod 755 "$(WORK)/$(TOOLS_DEB)/usr/bin/$(1)"
+	! grep -E 'programs/|\broot\b' "$(WORK)/$(TOOLS_DEB)/usr/bin/$(1)"
+	sed 's|@version@|$(VERSION)|' c/man/$(1).1 | gzip -9n \
+	    >"$(WORK)/$(TOOLS_DEB)/usr/share/man/man1/$(1).1.gz"
+endef
+
+dist-deb-$(TOOLS_DEB): $(TOOLS:%=$(OUT)/programs/%)
+	rm -rf "$(WORK)/$(TOOLS_DEB)" && cd "$(WORK)" && mkdir -p $(TOOLS_DEB)/usr/bin \
+	    $(TOOLS_DEB)/usr/lib/yezdopin $(TOOLS_DEB)/usr/share/man/man1
+	for it in $(TOOLS); do \
+	    $(STRIP) --strip-unneeded --remove-section=.comment "$(PROGRAMS)/$$it" \
+	        -o "$(WORK)/$(TOOLS_DEB)/usr/lib/yezdopin/$$it" || exit 1; \
+	    test "$$($(READELF) -d "$(PROGRAMS)/$$it" | sed -n 's/.*(NEEDED).*\[\(.*\)\]/\1/p' | xargs)" \
+	        = libc.so.6 || exit 1; \
+	    test "$$({ echo GLIBC_2.34; $(OBJDUMP) -T "$(PROGRAMS)/$$it" | grep -o 'GLIBC_[0-9.]*'; } \
+	        | sort -V | tail -n 1)" = GLIBC_2.34 || exit 1; \
+	done
+	$(call launcher,sums)
+	$(call launcher,passwords)
+	$(call deb,$(TOOLS_DEB))
+
+.PHONY: dist-deb-$(TOOLS_DEB)

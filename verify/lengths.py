@@ -155,6 +155,13 @@ class _Decisions:
         return 0
 
     @staticmethod
+    def parts(word_):
+        """A word as a number plus a factor times a word: that of n itself where it is a value."""
+        value = value_of(word_)
+        base = value and value.factor and word(Value(0, 1, value.open), len(word_))
+        return (value.number, value.factor, base) if base else (0, 1, word_)
+
+    @staticmethod
     def sum_of(parts, number, width):
         """A number plus parts, pairs of a word and a factor, as a word; or None."""
         factor, of = 0, None

@@ -3,6 +3,7 @@
 
 import array
 import copy
+import ctypes
 import gc
 import hashlib
 import hmac
@@ -21,7 +22,7 @@ import tracemalloc
 import unittest
 
 import yezdopin
-from shared import LONG, every_object
+from shared import LONG, NAMES, SIGNING, every_object
 from yezdopin import _native, tokens
 from yezdopin import hmac as tags
 
@@ -114,6 +115,59 @@ class Threads(unittest.TestCase):
             alone.update(data * len(sizes))
             self.assertEqual(together.hexdigest(), alone.hexdigest())
 
+    def during_update(self, make, data, look):
+        """Updates an object with long data in a thread, and looks at it while the update runs: a
+        thread runs only where another lets it, and an update lets others once it has the object's
+        lock. Where the other thread was done first, it tries again."""
+        usual = sys.getswitchinterval()
+        sys.setswitchinterval(1000)
+        try:
+            for _ in range(20):
+                it, begins, done = make(), threading.Event(), []
+
+                def work():
+                    begins.set()
+                    it.update(data)
+                    done.append(True)
+
+                thread = threading.Thread(target=work)
+                thread.start()
+                begins.wait()
+                was_done = bool(done)
+                found = None if was_done else look(it)
+                thread.join()
+                if not was_done:
+                    return found
+        finally:
+            sys.setswitchinterval(usual)
+        self.fail("no update was seen while it ran")
+
+    def test_reads_wait(self):
+        """What reads an object waits for the update that another thread is in."""
+        data = bytes(100_000_000)
+        for make in (yezdopin.sha512, lambda: tags.Key(b"key", "sha512")._begin()):
+            whole = make()
+            whole.update(data)
+            for look in (
+                lambda it: it.digest(), lambda it: bytes.fromhex(it.hexdigest()),
+                lambda it: it.copy().digest(),
+            ):
+                self.assertEqual(self.during_update(make, data, look), whole.digest())
+
+    def test_buffer_is_held(self):
+        """The buffer of an update can't be resized while it runs."""
+        data = bytearray(100_000_000)
+
+        def resized(it):
+            try:
+                data.append(1)
+            except BufferError:
+                return False
+            return True
+
+        for make in (yezdopin.sha512, lambda: tags.Key(b"key", "sha512")._begin()):
+            self.assertIs(self.during_update(make, data, resized), False)
+
     def test_others_run(self):
         """A long call lets other threads run."""
         data, text, key = bytes(30_000_000), "x" * 30_000_000, tags.Key(b"key", "sha256")
@@ -169,6 +223,74 @@ class Threads(unittest.TestCase):
             sys.setswitchinterval(usual)
             is_over.set()
             thread.join()
+
+
+def memory_at(address, length):
+    """What stands at an address, also where an object was freed."""
+    return ctypes.string_at(address, length)
+
+
+# Of an object: a context, of a digest and of a tag, begins behind a lock and an algorithm; a key
+# behind an algorithm. Their lengths are the header's.
+CONTEXT, KEY, LENGTHS = 32, 24, {"digest": 216, "tag": 280, "key": 136}
+
+
+class Wiping(unittest.TestCase):
+    """What is freed holds no context and no key."""
+
+    def is_wiped(self, make, start, length):
+        gc.collect()
+        it = make()
+        address, whole = id(it), type(it).__basicsize__
+        self.assertLessEqual(start + length, whole)
+        before = memory_at(address, whole)[start : start + length]
+        self.assertGreater(len(before) - before.count(0), 15)
+        del it
+        after = memory_at(address, whole)[start : start + length]
+        self.assertEqual(after, bytes(length))
+
+    def test_contexts(self):
+        message, key = os.urandom(100), tags.Key(os.urandom(20), "sha512")
+        for name in NAMES:
+            for make in (lambda: yezdopin.new(name, message), lambda: yezdopin.new(name).copy()):
+                self.is_wiped(make, CONTEXT, LENGTHS["digest"])
+        for make in (lambda: key._begin(message), lambda: key._begin(message).copy()):
+            self.is_wiped(make, CONTEXT, LENGTHS["tag"])
+
+    def test_keys(self):
+        for name in SIGNING:
+            self.is_wiped(lambda: tags.Key(os.urandom(20), name), KEY, LENGTHS["key"])
+
+    def test_stack(self):
+        """The calls that make a key, or a tag of a key's value, leave no key on the stack."""
+        value, mask = os.urandom(20), bytes(it ^ 0x5A for it in range(256))
+        key = tags.Key(value, "sha256")
+        # The first of its words, masked, so that no copy of this test's own is found.
+        masked = memory_at(id(key) + KEY + 8, 64).translate(mask)
+        del key
+        for call in (
+            lambda: _native.hmac_new(value, b"", "sha256"), lambda: tags.Key(value, "sha256"),
+            lambda: _native.hmac_new(value, b"", digestmod="sha256"),
+        ):
+            deep(30, lambda: call() and None)
+            self.assertEqual(main_stack().count(masked.translate(mask)), 0)
+
+
+def deep(depth, call):
+    """Calls from further down the stack, where what comes later writes nothing."""
+    return call() if depth == 0 else list(map(lambda it: deep(it, call), [depth - 1]))[0]
+
+
+def main_stack():
+    """The bytes of the stack of the process's first thread, also of its free part."""
+    maps = pathlib.Path("/proc/self/maps").read_text().splitlines()
+    line = next(it for it in maps if it.endswith("[stack]"))
+    first, last = (int(it, 16) for it in line.split()[0].split("-"))
+    found = bytearray(last - first)
+    with open("/proc/self/mem", "rb", 0) as memory:
+        memory.seek(first)
+        memory.readinto(found)
+    return found
 
 
 IN_EACH = """

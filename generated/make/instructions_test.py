@@ -33,6 +33,14 @@ FUNCTIONS = {
     "wasm64": {},
 }
 WITH_WORD = {"sha1c", "sha1m", "sha1p"}
+# What LLVM calls the instructions: each function has the name of its own.
+INSTRUCTIONS = {"x86_64": "llvm.x86", "aarch64": "llvm.aarch64.crypto"}
+# How the questions are answered.
+ANSWERS = {
+    "are_there": ["  %byte = load atomic i8, ptr @yz_instructions monotonic, align 1",
+                  "  %new = icmp ne i8 %byte, 0", "  ret i1 %new"],
+    "is_window_chosen": ["  ret i1 true"],
+}
 ATTRIBUTES = 'noinline nounwind "no-builtin-bcmp" "target-cpu"="x86-64-v2"'
 # What is changed in a module, by a pattern in which {p} is the prefix and {q} the question, and
 # what is then told of it: in each module, and in one for x86-64 alone, where a whole function is
@@ -110,6 +118,39 @@ def function(path, count, has_word):
     return [f'define internal {result} @"{path}"({taken}) #1 {{', "start:", end, "}"], call
 
 
+def wanted_body(processor, name):
+    """The lines by which a function gives what its instruction does: the vectors that it is handed,
+    in their order, a word as it is, and the number in the function's name."""
+    if name in ANSWERS:
+        return ANSWERS[name]
+    count, vector = FUNCTIONS[processor][name], "<4 x i32>"
+    instruction, _, number = name.partition("::<=")
+    called = f"@{INSTRUCTIONS[processor]}.{instruction}"
+    if count == 1:
+        return [f"  %new = call i32 {called}(i32 %a0)", "  ret i32 %new"]
+    words = {2} if name in WITH_WORD else set()
+    vectors = [i for i in range(1, count + 1) if i not in words]
+    lines = [f"  %v{i} = load {vector}, ptr %a{i}, align 4" for i in vectors]
+    given = [f"i32 %a{i}" if i in words else f"{vector} %v{i}" for i in range(1, count + 1)]
+    given += [f"i8 {number[:-1]}"] if number else []
+    lines.append(f"  %new = call {vector} {called}({', '.join(given)})")
+    return [*lines, f"  store {vector} %new, ptr %a0, align 4", "  ret void"]
+
+
+def wanted_declarations(processor, names):
+    """The lines by which LLVM is told of the instructions of some functions."""
+    made = set()
+    for name in names:
+        instruction, _, number = name.partition("::<=")
+        count, vector = FUNCTIONS[processor][name], "<4 x i32>"
+        types = [vector, "i32" if name in WITH_WORD else vector, vector][:count]
+        types += ["i8 immarg"] if number else []
+        of = "i32" if count == 1 else vector
+        types = ["i32"] if count == 1 else types
+        made.add(f"declare {of} @{INSTRUCTIONS[processor]}.{instruction}({', '.join(types)})")
+    return sorted(made)
+
+
 def module(processor):
     """A small module for a processor, in which another function calls all of the table."""
     lines, calls = [f'target triple = "{processor}-unknown-linux-gnu"'], []
@@ -151,7 +192,13 @@ def faults_of_taken(processor, text, *options):
         before, after = re.search(body, rest), re.search(body, wrote)
         if before is None or after is None or before[0] == after[0] or after[0].count("\n") > 8:
             return f"the body of {name} is not exchanged"
+        lines = [it for it in after[0].split("\n")[1:-2] if it != "start:"]
+        if lines != wanted_body(processor, name):
+            return f"the body of {name} is another one: {' '.join(lines)}"
         rest = rest.replace(before[0], after[0])
+    declared = sorted(it for it in wrote.split("\n") if it.startswith("declare ") and it not in text)
+    if declared != wanted_declarations(processor, names[1:]):
+        return f"other declarations: {' '.join(declared)}"
     if (BYTE in wrote) != (processor != "wasm64"):
         return f"{BYTE} is for the processors' instructions, and for these alone"
     return None if wrote.startswith(rest) else "another line is changed"

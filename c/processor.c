@@ -35,12 +35,19 @@ HIDDEN uint8_t yz_ask(void) { return yz_known; }
 HIDDEN _Atomic uint8_t yz_known;
 
 #if defined(__x86_64__)
-/* Whether the system saves the registers of 256 bits. Only a processor with OSXSAVE can tell. */
-static bool saves_vectors(void) {
-    const unsigned wanted = 1 << 1 | 1 << 2; /* the lower halves and the upper ones */
+#ifndef saved_registers /* test/dispatch.c has its own */
+/* The registers that the system saves, as XCR0 has them. Only a processor with OSXSAVE can tell. */
+static unsigned saved_registers(void) {
     unsigned low, high;
     __asm__ volatile("xgetbv" : "=a"(low), "=d"(high) : "c"(0));
-    return (low & wanted) == wanted;
+    return low;
+}
+#endif
+
+/* Whether the system saves the registers of 256 bits. */
+static bool saves_vectors(void) {
+    const unsigned wanted = 1 << 1 | 1 << 2; /* the lower halves and the upper ones */
+    return (saved_registers() & wanted) == wanted;
 }
 
 /* Whether the processor and the system have x86-64-v3, as the System V ABI lists it. */

@@ -46,6 +46,15 @@ static int get_count(unsigned leaf, unsigned part, unsigned *a, unsigned *b, uns
     return is_known;
 }
 
+/* What the system saves, but for bits that it is told to lose. */
+static unsigned lost_registers;
+static unsigned saved(void) {
+    unsigned low, high;
+    __asm__ volatile("xgetbv" : "=a"(low), "=d"(high) : "c"(0));
+    return low & ~lost_registers;
+}
+
+#define saved_registers saved
 #define __get_cpuid get
 #define __get_cpuid_count get_count
 #include "../dispatch.c"
@@ -323,6 +332,13 @@ static void each_loss(void) {
         lost.leaf = BITS[i][0], lost.bits = BITS[i][1];
         is("has_v3 of less", has_v3(), false);
     }
+    lost.bits = 0;
+    /* Without the lower halves of the vectors, the upper ones, or both. */
+    for (unsigned i = 0; i < 8; i++) { /* bit 0: those of x87 */
+        lost_registers = i;
+        is("has_v3 of saved registers", has_v3(), wanted() == 3 && (i & 6) == 0);
+    }
+    lost_registers = 0;
     gets_sha = true;
     is("has_sha", has_sha(), true);
     static const unsigned OF_SHA[][2] = {{1, bit_SSSE3}, {1, bit_SSE4_1}, {7, bit_SHA}};

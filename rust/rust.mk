@@ -2,6 +2,7 @@
 # The Rust crate:
 #
 #     make rust                 # tests it
+#     make rustcrypto           # the crate with RustCrypto's traits, over Debian's crates
 
 # The crate without the standard library too, and its build in a folder of others.
 rust: $(ARCHIVE)
@@ -11,4 +12,14 @@ rust: $(ARCHIVE)
 	$(CARGO) build $(CARGO_TARGET) --offline --locked --quiet --no-default-features
 	CARGO='$(CARGO)' rust/tests/vendored $(ARCHIVE) $(ARCH)-unknown-linux-gnu
 
-.PHONY: rust
+# The crate with RustCrypto's traits, over the crates of Debian's packages.
+DEBIAN_CRATES ?= /usr/share/cargo/registry
+rustcrypto: $(ARCHIVE)
+	rm -rf $(OUT)/rustcrypto && mkdir -p $(OUT)/rustcrypto
+	cp -R rust $(OUT)/rustcrypto/rust
+	cd $(OUT)/rustcrypto/rust/rustcrypto && YEZDOPIN_LIB_DIR="$(WHOLE_OUT)" \
+	    CARGO_TARGET_DIR="$(WHOLE_OUT)/cargo_rustcrypto" $(CARGO) test --offline --quiet \
+	    --config 'source.crates-io.replace-with="debian"' \
+	    --config 'source.debian.directory="$(DEBIAN_CRATES)"'
+
+.PHONY: rust rustcrypto

@@ -20,6 +20,8 @@ import sysconfig
 import tempfile
 
 sys.dont_write_bytecode = True
+sys.path.append(str(pathlib.Path(__file__).resolve().parent.parent / "tools"))
+import debian_crates
 import password_hashes
 
 ROOT = pathlib.Path(__file__).resolve().parent.parent
@@ -64,6 +66,8 @@ PARTS = [
      "the passwords that the Python package prepares, beside PostgreSQL"),
     ("wheel", ["cc", "python3", "Python.h", "pip"], "the Python package as pip installs it"),
     ("rust", ["cc", "cargo"], "the Rust crate over vectors/, and vendored beside a Makefile"),
+    ("rustcrypto", ["cc", "cargo", "librust-digest-dev", "librust-password-hash-dev"],
+     "RustCrypto's traits over the Rust crate"),
     ("constant-time", ["rt", "valgrind", "valgrind/memcheck.h"], "no jump or address by a secret"),
     ("traces", ["cc", "nm", "qemu-x86_64 with plugins"], "the same from traces under qemu-user"),
     (INSTRUCTIONS, ["cc", "python3"],
@@ -131,6 +135,8 @@ def is_there(tool):
         return re.search(r"version [1-8]\.", said) is not None and "-plugin" in said
     if tool == "wine64":  # Debian has it outside of the folders of commands
         return any(map(shutil.which, ("/usr/lib/wine/wine64", "wine")))
+    if tool.startswith("librust-"):
+        return not debian_crates.lacking(tool[len("librust-") : -len("-dev")])
     if tool == "PostgreSQL":
         return password_hashes.postgres_bin() is not None
     name = os.environ.get({"cc": "CC", "c++": "CXX", "rt": "RT"}.get(tool, ""), tool)

@@ -20,7 +20,7 @@ import sysconfig
 import tempfile
 
 sys.dont_write_bytecode = True
-sys.path.append(str(pathlib.Path(__file__).resolve().parent.parent / "tools"))
+sys.path.append(str(pathlib.Path(__file__).resolve().parent / "lib"))
 import debian_crates
 import password_hashes
 

@@ -2,11 +2,11 @@
 # SPDX-License-Identifier: ISC
 """What no contract sees: that no block is run outside the meter that a call was handed.
 
-Searches the code of every crate but `ring_tests`, outside tests, examples, comments and contracts,
-and tries these rules: a plain form is the one call of its counted form; `ring_core` and `ring` make
-a meter in 22 places, the crates above them in few, and no function that takes one makes another; a
-function that takes a meter calls nothing that runs blocks under another; the calls for C and
-`ring_passwords`, which are handed no meter, call what runs blocks once, and derive by no plain
+Searches the code of every crate but those of tests, outside tests, examples, comments and
+contracts, and tries these rules: a plain form is the one call of its counted form; `ring_core` and
+`ring` make a meter in 22 places, the crates above them in few, and no function that takes one makes
+another; a function that takes a meter calls nothing that runs blocks under another; the calls for C
+and `ring_passwords`, which are handed no meter, call what runs blocks once, and derive by no plain
 form; the calls for C derive in one place each, and only PBKDF2 and the test and the making of a
 password hash do; a block is run once for each block counted, and four side by side for each four;
 and the rounds of SHA-2 and of SHA-1 stand once: what a round alone calls and reads, and the
@@ -70,8 +70,8 @@ METERS = {
     "ring_speed": 4,
     "ring_c": 9,
 }
-# The crate of the tests.
-NOT_SEARCHED = {"ring_tests"}
+# How the names of the crates of tests end.
+OF_TESTS = "_tests"
 # The libraries whose functions take a meter or make one, where they run blocks.
 METERED = ("ring_core", "ring", "ring_store", "ring_password_hash")
 # What makes its key by a conversion, which is handed no meter: no call of its counted form.
@@ -182,7 +182,7 @@ def crates():
     """The crates, lowest first, each with the crates that it stands on."""
     lines = (it.partition(":") for it in (ROOT / "crates.txt").read_text().splitlines())
     found = {front.split()[0]: rest.split() for front, mark, rest in lines if front[0] != "#"}
-    return {it: found[it] for it in found if it not in NOT_SEARCHED}
+    return {it: found[it] for it in found if not it.endswith(OF_TESTS)}
 
 
 def sources():

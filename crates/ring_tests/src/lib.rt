@@ -1,23 +1,13 @@
 // SPDX-License-Identifier: ISC
-//! Tests of what no contract says, over the public calls alone: messages cut in many ways, other
-//! implementations of the same functions, texts that Debug prints, readers, writers and heaps that
-//! fail, and each call once.
+//! Tests of what no contract of `ring` and `ring_core` says, over the public calls alone: messages
+//! cut in many ways, other implementations of the same functions, texts that Debug prints, and each
+//! call once.
 #![tactic(auto)]
 
-#[cfg(test)]
-mod bench;
 #[cfg(test)]
 mod digest;
 #[cfg(test)]
 mod equality;
-#[cfg(test)]
-mod examples;
-#[cfg(test)]
-mod examples_in_wide_vectors;
-#[cfg(test)]
-mod examples_of_hashes;
-#[cfg(test)]
-mod examples_of_numbers;
 #[cfg(test)]
 mod hkdf;
 #[cfg(test)]
@@ -39,11 +29,7 @@ mod rand;
 #[cfg(test)]
 mod ring_core_calls;
 #[cfg(test)]
-mod schedules;
-#[cfg(test)]
 mod several;
-#[cfg(test)]
-mod store;
 #[cfg(test)]
 mod texts;
 #[cfg(test)]

@@ -104,8 +104,8 @@ fn keys_of<const N: usize>(
     }
 }
 
-/// The digest of the keys one after another.
-pub fn digest_of<const N: usize>(keys: &[[u8; N]]) -> Result<Digest, Unspecified> {
+// The digest of the keys one after another.
+fn digest_of<const N: usize>(keys: &[[u8; N]]) -> Result<Digest, Unspecified> {
     let mut context = Context::new(&SHA256);
     for key in keys {
         context.update(key);

@@ -15,7 +15,7 @@ use ring::rand::{SecureRandom, generate};
 
 // A source over a list, which is ready for at most `most` bytes at once.
 #[derive(Drop)]
-pub struct Listed<'a> {
+struct Listed<'a> {
     bytes: &'a [u8],
     most: usize,
 }
@@ -44,7 +44,7 @@ impl SecureRandom for Listed<'_> {
 }
 
 // A source that is ready for all of its bytes.
-pub fn ready_for_all(bytes: &[u8]) -> Listed<'_> {
+fn ready_for_all(bytes: &[u8]) -> Listed<'_> {
     Listed {
         bytes,
         most: usize::MAX,

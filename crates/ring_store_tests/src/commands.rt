@@ -1,9 +1,7 @@
 // SPDX-License-Identifier: ISC
 //! Commands one by one and as one list.
 
-use crate::store::names::{
-    LONG_NAME, LONGEST_NAME, PASSWORD, WRONG, found, iterations, new_store, told,
-};
+use crate::names::{LONG_NAME, LONGEST_NAME, PASSWORD, WRONG, found, iterations, new_store, told};
 use ring::cost::Meter;
 use ring_store::Command::{IterationsOf, SetIterations, SetPassword, VerifyPassword};
 use ring_store::{Command, PasswordStore, Reply, StoreError};

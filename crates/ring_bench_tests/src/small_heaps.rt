@@ -1,8 +1,8 @@
 // SPDX-License-Identifier: ISC
 //! Runs and answers over heaps of fixed sizes.
 
-use crate::bench::lines::{ANSWERS, HELLO, OF_HELLO, OF_NOTHING, TAG, TEXT, repeated};
-use crate::bench::parts::Choppy;
+use crate::lines::{ANSWERS, HELLO, OF_HELLO, OF_NOTHING, TAG, TEXT, repeated};
+use crate::parts::Choppy;
 use linked_list_allocator::LocalHeap;
 use ring_bench::{BenchError, Status, answer_in, run_in};
 use std::alloc::{AllocError, Global};

@@ -2,9 +2,9 @@
 //! The callers of `ring_examples` over plain numbers, chaining words, laws and accounts, each
 //! against a value from outside.
 
-use crate::examples::{LONG_REST, OF_LONG, OF_SHORT, SHORT, TAG};
-use crate::ring_core_calls::SHA256_WORDS;
+use crate::calls::{LONG_REST, OF_LONG, OF_SHORT, SHORT, TAG};
 use crate::texts::is_hex_of;
+use ring::digest::sha2::State32;
 use ring::digest::{SHA1_FOR_LEGACY_USE_ONLY, SHA256, digest};
 use ring::error::Unspecified;
 use ring::hkdf::{HKDF_SHA256, Prk};
@@ -22,6 +22,18 @@ use ring_examples::states::{bytes_of_long, bytes_of_short, words_after_block};
 use ring_store::{PasswordStore, Reply, StoreError, TokenError, TokenMaker};
 use std::num::{NonZeroU32, Wrapping};
 use std::test::Fail;
+
+// FIPS 180-4, 5.3.3.
+const SHA256_WORDS: State32 = [
+    Wrapping(0x6a09e667),
+    Wrapping(0xbb67ae85),
+    Wrapping(0x3c6ef372),
+    Wrapping(0xa54ff53a),
+    Wrapping(0x510e527f),
+    Wrapping(0x9b05688c),
+    Wrapping(0x1f83d9ab),
+    Wrapping(0x5be0cd19),
+];
 
 // FIPS 180-4, 5.3.3 and 5.3.5: the bytes of the first two initial words of SHA-256, and of the
 // first one of SHA-512.

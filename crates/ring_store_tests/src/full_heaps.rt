@@ -1,7 +1,7 @@
 // SPDX-License-Identifier: ISC
 //! Heaps of every size: a store is filled until memory is wanting, and then asked for every name.
 
-use crate::store::names::{DB_SALT, WRONG, iterations, name_of, told};
+use crate::names::{DB_SALT, WRONG, iterations, name_of, told};
 use linked_list_allocator::LocalHeap;
 use ring_store::{PasswordStore, Reply, StoreError};
 use std::alloc::{AllocError, Global};

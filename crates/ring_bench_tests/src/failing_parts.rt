@@ -1,8 +1,8 @@
 // SPDX-License-Identifier: ISC
 //! Runs over readers and writers that fail.
 
-use crate::bench::lines::{ANSWERS, TEXT};
-use crate::bench::parts::{Choppy, Sink};
+use crate::lines::{ANSWERS, TEXT};
+use crate::parts::{Choppy, Sink};
 use ring_bench::{BenchError, Status, run};
 use std::alloc::Global;
 use std::io;

@@ -1,7 +1,7 @@
 // SPDX-License-Identifier: ISC
 //! A store of many records, its text, and the time that it takes.
 
-use crate::store::names::{iterations, new_store};
+use crate::names::{iterations, new_store};
 use ring_store::{PasswordStore, StoreError};
 use ring_store_text::{LoadError, from_text, to_text};
 use std::alloc::Global;

@@ -2,7 +2,6 @@
 //! Rows of names and passwords, and many names beside a plain list.
 
 use ring::cost::Meter;
-use ring_examples::store::first_use;
 use ring_store::{PasswordStore, Reply, StoreError};
 use std::alloc::Global;
 use std::num::NonZeroU32;
@@ -140,11 +139,4 @@ fn agrees_with_list(mut store: PasswordStore) -> bool {
 #[test]
 fn a_thousand_names_and_a_list_of_them(rt: HostRuntime) {
     assert!(rt; agrees_with_list(new_store(rt.alloc(), 1)));
-}
-
-#[test]
-fn first_use_ends_well(rt: HostRuntime) {
-    let (few, more) = (iterations(1000), iterations(2000));
-    let answer = first_use(rt.alloc(), DB_SALT, few, more, &[7; 32], 1_700_000_000);
-    assert!(rt; answer.is_ok());
 }

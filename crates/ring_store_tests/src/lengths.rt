@@ -1,7 +1,7 @@
 // SPDX-License-Identifier: ISC
 //! Names of each length, which get memory wherever there is enough.
 
-use crate::store::names::{iterations, name_of, new_store};
+use crate::names::{iterations, name_of, new_store};
 use ring_store::{PasswordStore, StoreError};
 use ring_store_text::{LoadError, from_text, to_text};
 use std::alloc::Global;

@@ -1,7 +1,7 @@
 // SPDX-License-Identifier: ISC
 //! How runs end: what they write, their status, and what a program says of it.
 
-use crate::bench::lines::OF_NOTHING;
+use crate::lines::OF_NOTHING;
 use ring_bench::{BenchError, Status, outcome, run};
 use std::alloc::Global;
 

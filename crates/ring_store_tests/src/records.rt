@@ -1,7 +1,7 @@
 // SPDX-License-Identifier: ISC
 //! Records one by one and as text, beside what Python's `hashlib` derives.
 
-use crate::store::names::{LONGEST_NAME, PASSWORD, WRONG, iterations, new_store, told};
+use crate::names::{LONGEST_NAME, PASSWORD, WRONG, iterations, new_store, told};
 use linked_list_allocator::LocalHeap;
 use ring::cost::Meter;
 use ring_store::{PasswordStore, StoreError};

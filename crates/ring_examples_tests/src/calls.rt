@@ -1,7 +1,7 @@
 // SPDX-License-Identifier: ISC
 //! Each caller of `ring_examples` once, against a value from outside.
 
-use crate::rand::ready_for_all;
+use crate::source::Listed;
 use crate::texts::is_hex_of;
 use ring::cost::Meter;
 use ring::digest::{Context, MAX_OUTPUT_LEN, SHA256, SHA512};
@@ -30,7 +30,7 @@ use ring_examples::rand::{nonce, tag_under_generated};
 use ring_examples::several::{
     digests_of_both, digests_of_four, stored_of_both, stored_of_four, verify_four,
 };
-use ring_examples::store::log_in;
+use ring_examples::store::{first_use, log_in};
 use ring_examples::sums::{list_of_image, plain_line, tagged_line};
 use ring_store::{PasswordStore, TokenMaker};
 use std::num::NonZeroU32;
@@ -293,7 +293,7 @@ fn generated(rt: HostRuntime) -> Result<(), Unspecified> {
     // RFC 4231, section 4.2, whose key has 20 bytes: 12 zeros more change no tag.
     let mut bytes = [0; 48];
     bytes[..20].copy_from_slice(&[0x0b; 20]);
-    let mut source = ready_for_all(&bytes);
+    let mut source = Listed::new(&bytes);
     let tag = tag_under_generated(&mut source, b"Hi There")?;
     assert!(rt; is_hex_of(TAG_UNDER_GENERATED, tag.as_ref()));
     assert!(rt; nonce(&mut source)? == [0; 16] && nonce(&mut source).is_err());
@@ -309,6 +309,16 @@ fn logins(rt: HostRuntime) -> Result<(), Fail> {
     maker.check(b"alice", 100, 100, &token)?;
     assert!(rt; log_in(&mut store, &maker, b"alice", b"battery staple", 100).is_err());
     Ok(())
+}
+
+#[test]
+fn first_use_ends_well(rt: HostRuntime) {
+    let (few, more) = (
+        NonZeroU32::new(1_000).unwrap(),
+        NonZeroU32::new(2_000).unwrap(),
+    );
+    let answer = first_use(rt.alloc(), [7; 16], few, more, &[7; 32], 1_700_000_000);
+    assert!(rt; answer.is_ok());
 }
 
 // What `sha256sum` of coreutils 9.1 writes of a file with the short message, with `--tag` and

@@ -1,8 +1,8 @@
 // SPDX-License-Identifier: ISC
 //! Runs over readers that give much or little, and answers with ample memory.
 
-use crate::bench::lines::{ANSWERS, HELLO, OF_HELLO, TEXT, repeated};
-use crate::bench::parts::{Choppy, Counting, Sink, Watchful};
+use crate::lines::{ANSWERS, HELLO, OF_HELLO, TEXT, repeated};
+use crate::parts::{Choppy, Counting, Sink, Watchful};
 use ring_bench::{LineKind, Status, answer, run};
 use sha2::{Digest, Sha256};
 use std::alloc::{AllocError, Global};

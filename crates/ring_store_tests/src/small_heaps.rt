@@ -1,7 +1,7 @@
 // SPDX-License-Identifier: ISC
 //! Heaps that refuse each request for memory in turn.
 
-use crate::store::names::{DB_SALT, WRONG, found, iterations, told};
+use crate::names::{DB_SALT, WRONG, found, iterations, told};
 use linked_list_allocator::LocalHeap;
 use ring_store::{Command, PasswordStore, Reply, StoreError};
 use std::alloc::{AllocError, Global};

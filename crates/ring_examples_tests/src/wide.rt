@@ -1,8 +1,7 @@
 // SPDX-License-Identifier: ISC
 //! The callers of `ring_examples` over vectors of 256 bits, each against a value from outside.
 
-use crate::examples::{OF_SHORT, SHORT};
-use crate::pbkdf2_each::digest_of;
+use crate::calls::{OF_SHORT, SHORT};
 use crate::texts::is_hex_of;
 use ring::digest::{SHA256, digest};
 use ring::error::Unspecified;
@@ -62,7 +61,7 @@ fn eight_passwords(rt: HostRuntime) -> Result<(), Unspecified> {
     let one = NonZeroU32::MIN;
     let stored = stored_of_eight(one, &SALTS, &PASSWORDS)?;
     assert!(rt;
-        is_hex_of(OF_STORED, digest_of(&stored)?.as_ref())
+        is_hex_of(OF_STORED, digest(&SHA256, stored.as_flattened())?.as_ref())
             && verify_eight(one, &SALTS, &PASSWORDS, &stored)? == [true; 8]
             && verify_eight(one, &SALTS, &SALTS, &stored)? == [false; 8]
     );

@@ -1,7 +1,7 @@
 // SPDX-License-Identifier: ISC
 //! Each caller of `ring_password_hash` once, against a text from outside.
 
-use crate::rand::ready_for_all;
+use crate::source::Listed;
 use crate::texts::is_hex_of;
 use ring::cost::Meter;
 use ring_examples::migration::{MoveError, move_at_login, rehash_at_login};
@@ -66,7 +66,7 @@ fn fills_a_row_under_a_new_salt(rt: HostRuntime) {
     let under = fill_row_under(django, PASSWORD, random, iterations, &mut row);
     assert!(rt; under == Ok(expected.len()) && row.starts_with(expected));
     let mut text = [0; MAX_TEXT_LEN];
-    let mut source = ready_for_all(&random);
+    let mut source = Listed::new(&random);
     let made = new_text(django, PASSWORD, iterations, &mut source, &mut text);
     assert!(rt; made == Ok(expected.len()) && text.starts_with(expected));
     let unready = new_text(django, PASSWORD, iterations, &mut source, &mut text);

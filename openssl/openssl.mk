@@ -50,7 +50,7 @@ $(SANITIZED): $(PROVIDER_NEEDS)
 	    $(filter-out -Wl$(comma)--no-undefined,$(PROVIDER_LINKS)) -o $@
 
 # The tests, each of which takes the folder of the module.
-PROVIDER_TESTS = agree orders refused_calls words properties refused_memory wiped
+PROVIDER_TESTS = agree orders refused_calls reuse words properties refused_memory wiped
 PROVIDER_TEST_HEADERS = openssl/test/agree.h openssl/test/single.h
 SANITIZERS = -fsanitize=address,undefined -fno-sanitize-recover=all
 # That libcrypto keeps its tables until the program has ended is no leak.
@@ -76,13 +76,13 @@ $(PROVIDER_TESTS:%=$(OUT)/openssl/sanitized/%): $(OUT)/openssl/sanitized/%: open
 	    $(ARCHIVE) -lcrypto -lpthread -o $@
 
 ifeq ($(ARCH),$(HOST))
-openssl-check: openssl-agree openssl-orders openssl-refused openssl-words openssl-properties \
-    openssl-memory openssl-wiped openssl-sanitized openssl-valgrind openssl-programs \
+openssl-check: openssl-agree openssl-orders openssl-refused openssl-reuse openssl-words \
+    openssl-properties openssl-memory openssl-wiped openssl-sanitized openssl-valgrind openssl-programs \
     openssl-policy openssl-exports openssl-installed
 else
 # The others want the other processor's own programs and sanitizers.
-openssl-check: openssl-agree openssl-orders openssl-refused openssl-words openssl-properties \
-    openssl-memory openssl-wiped openssl-exports openssl-installed
+openssl-check: openssl-agree openssl-orders openssl-refused openssl-reuse openssl-words \
+    openssl-properties openssl-memory openssl-wiped openssl-exports openssl-installed
 endif
 
 # Random calls beside the default provider's.
@@ -96,6 +96,10 @@ openssl-orders: $(PROVIDER) $(OUT)/openssl/orders
 # What a context answers after a refused call.
 openssl-refused: $(PROVIDER) $(OUT)/openssl/refused_calls
 	$(RUN) $(OUT)/openssl/refused_calls $(<D)
+
+# One context for message after message.
+openssl-reuse: $(PROVIDER) $(OUT)/openssl/reuse
+	$(RUN) $(OUT)/openssl/reuse $(<D)
 
 # Where words end.
 openssl-words: $(PROVIDER) $(OUT)/openssl/words
@@ -215,7 +219,7 @@ dist-deb-$(PROVIDER_DEB): $(PROVIDER)
 	rm "$(WORK)/$(PROVIDER_DEB)/usr/share/doc/$(PROVIDER_DEB)/LICENSE"
 	$(call deb,$(PROVIDER_DEB))
 
-.PHONY: openssl openssl-check openssl-agree openssl-orders openssl-refused openssl-words \
-    openssl-properties openssl-memory openssl-wiped openssl-sanitized openssl-valgrind \
-    openssl-programs openssl-policy openssl-exports openssl-installed openssl-speed \
-    openssl-install openssl-uninstall
+.PHONY: openssl openssl-check openssl-agree openssl-orders openssl-refused openssl-reuse \
+    openssl-words openssl-properties openssl-memory openssl-wiped openssl-sanitized \
+    openssl-valgrind openssl-programs openssl-policy openssl-exports openssl-installed \
+    openssl-speed openssl-install openssl-uninstall

@@ -3,8 +3,8 @@
  *
  * What the library runs on this processor. It is C beside the proved crate, and no proof covers it.
  * After a wrong answer most instructions end the program by SIGILL. But a processor without LZCNT
- * or BMI runs `lzcnt` and `tzcnt` as `bsr` and `bsf`, which give other numbers: a call may then read
- * or write outside of its buffers. So each set is asked for by its own bit (test/dispatch.c). */
+ * or BMI runs `lzcnt` and `tzcnt` as `bsr` and `bsf`, which give other numbers: a call may then
+ * read or write outside its buffers. So each set is asked for by its own bit (test/dispatch.c). */
 #include "processor.h"
 #if defined(__x86_64__)
 #ifndef bit_AVX2 /* test/dispatch.c has included it, which gcc before 11 can't do twice */

@@ -196,7 +196,8 @@ def faults_of_taken(processor, text, *options):
         if lines != wanted_body(processor, name):
             return f"the body of {name} is another one: {' '.join(lines)}"
         rest = rest.replace(before[0], after[0])
-    declared = sorted(it for it in wrote.split("\n") if it.startswith("declare ") and it not in text)
+    declares = {it for it in wrote.split("\n") if it.startswith("declare ")}
+    declared = sorted(declares.difference(text.split("\n")))
     if declared != wanted_declarations(processor, names[1:]):
         return f"other declarations: {' '.join(declared)}"
     if (BYTE in wrote) != (processor != "wasm64"):

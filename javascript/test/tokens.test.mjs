@@ -347,8 +347,8 @@ test("a short key of one-time passwords has to be allowed", () => {
       if (length === 16) assert.equal(call({}), wanted);
       else {
         for (const more of [{}, { allowShortKey: false }, { allowShortKey: "yes" }]) {
-          assert.throws(() => call(more),
-            { name: "RangeError", code: "ERR_CRYPTO_INVALID_KEYLEN", message: /at least 16 bytes/ });
+          const message = /at least 16 bytes/, code = "ERR_CRYPTO_INVALID_KEYLEN";
+          assert.throws(() => call(more), { name: "RangeError", code, message });
         }
       }
     }

@@ -104,6 +104,18 @@ class NoProof(unittest.TestCase):
             self.assertFalse(merkle.verify_consistency(1, ROOTS[1], 8, ROOTS[8], others))
         self.assertFalse(merkle.verify_inclusion(LEAVES[0], 0, 8, [ROOTS[0]] * 100_000, ROOTS[8]))
 
+    def test_longer_hashes(self):
+        """The right hashes with a byte behind them."""
+        path, leaf, root = nodes("b cd efgh"), LEAVES[0], ROOTS[8]
+        self.assertTrue(merkle.verify_inclusion(leaf, 0, 8, path, root))
+        longer = [path[0], path[1] + b"\0", path[2]]
+        self.assertFalse(merkle.verify_inclusion(leaf + b"\0", 0, 8, path, root))
+        self.assertFalse(merkle.verify_inclusion(leaf, 0, 8, path, root + b"\0"))
+        self.assertFalse(merkle.verify_inclusion(leaf, 0, 8, longer, root))
+        self.assertTrue(merkle.verify_consistency(1, ROOTS[1], 8, root, path))
+        self.assertFalse(merkle.verify_consistency(1, ROOTS[1] + b"\0", 8, root, path))
+        self.assertFalse(merkle.verify_consistency(1, ROOTS[1], 8, root, longer))
+
 
 class Raised(unittest.TestCase):
     def test_no_path(self):

@@ -322,6 +322,11 @@ fn keys_of_outputs() {
         .unwrap()
         .fill(&mut [0; 8])
         .is_err());
+    assert!(prk
+        .expand(&[], Length(9))
+        .unwrap()
+        .fill(&mut [0; 10])
+        .is_err());
     assert!(prk.expand(&[], Length(255 * 48 + 1)).is_err());
 }
 

@@ -1,6 +1,6 @@
 // SPDX-License-Identifier: ISC
-//! What a key, a context, a salt and a PRK leave in the memory that they free: an allocator looks at
-//! each block before it takes it back.
+//! What a key, a context, a salt and a PRK leave in the memory that they free: an allocator looks
+//! at each block before it takes it back.
 
 use std::alloc::{GlobalAlloc, Layout, System};
 use std::mem::size_of;

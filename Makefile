@@ -4,9 +4,9 @@
 #
 #     make                      # builds out/libyezdopin.a and out/libyezdopin.so.0
 #     make check                # tests the library and the packages for C, Python and Rust
-#     make check-all            # all tests of the repository that need no kit
+#     make check-all            # runs all tests of the repository that need no kit
 #     make clean                # removes out/
-#     make help                 # prints these lines and those of all parts
+#     make help                 # prints these lines, and those of all parts
 #
 # These may be added to each:
 #

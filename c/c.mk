@@ -1,15 +1,20 @@
 # SPDX-License-Identifier: ISC
 # The C library, its tests and what installs it:
 #
-#     make test builds sanitized   # its tests in C, over each build and under sanitizers
-#     make header installed moved  # the header, and what `make install` installs
-#     make exports traces       # its names and instructions; no jump or address by a secret
-#     make constant-time        # the same by valgrind, which needs the kit
-#     make instructions-check   # the processor's SHA instructions, beside their definitions
-#     make speed                # its speed, that of both builds, and of EARLIER=libyezdopin.so
-#     make ARCH=aarch64 instructions   # what a digest runs on 64-bit ARM
-#     make install              # below PREFIX=/usr/local, in DESTDIR=
-#     make uninstall
+#     make test                 # tests the library in C: each status, each vector, the stack
+#     make builds               # tests which build is chosen, and that both agree
+#     make sanitized            # tests the library under ASan and UBSan
+#     make header               # compiles the header as C99 and C++11, and compares its manual page
+#     make installed            # tests what `make install` installs
+#     make moved                # tests a copy in a path with spaces, and a moved installation
+#     make exports              # tests the library's names, instructions and memory
+#     make traces               # tests under qemu-user that no jump or address depends on a secret
+#     make constant-time        # tests the same by valgrind, which needs the kit
+#     make instructions-check   # tests the processor's SHA instructions beside their definitions
+#     make speed                # times the library, each build, and EARLIER=libyezdopin.so
+#     make instructions         # counts a digest's instructions, with ARCH=aarch64
+#     make install              # installs the library below PREFIX=/usr/local, in DESTDIR=
+#     make uninstall            # removes what `make install` installed
 #
 # The archive is for x86-64-v2 (SSSE3, SSE4.2): a package for older processors can't have it. It has
 # two builds of the crate, of which dispatch.c takes that for x86-64-v3 where it is faster and can

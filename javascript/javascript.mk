@@ -1,12 +1,12 @@
 # SPDX-License-Identifier: ISC
 # The package for JavaScript:
 #
-#     make js                   # builds it, in out/js/package
+#     make js                   # builds the package for JavaScript in out/js/package
 #     make js-check             # tests it under Node 20 or later
-#     make js-browsers          # in Chromium, Firefox and JavaScriptCore, where they are
+#     make js-browsers          # tests it in Chromium, Firefox and JavaScriptCore, where they are
 #     make js-demo              # serves the demonstration to this machine's browser
-#     make js-speed
-#     make dist-npm             # the package for npm alone; `make dist` makes it too
+#     make js-speed             # times it beside node:crypto and WebCrypto
+#     make dist-npm             # packs it for npm; `make dist` does so too
 #
 # The module is made of its text, generated/yezdopin_wasm.hex, which `make generated-wasm` renews by
 # the kit. The kit builds the crate for WebAssembly with 64-bit addresses, its only kind, and

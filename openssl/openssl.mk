@@ -1,11 +1,11 @@
 # SPDX-License-Identifier: ISC
 # The OpenSSL provider:
 #
-#     make openssl              # builds the provider, out/openssl/yezdopin.so
-#     make openssl-check        # tests it beside OpenSSL's own
-#     make openssl-speed
-#     make openssl-install      # into MODULESDIR=, OpenSSL's folder of modules, in DESTDIR=
-#     make openssl-uninstall
+#     make openssl              # builds the OpenSSL provider, out/openssl/yezdopin.so
+#     make openssl-check        # tests the provider beside OpenSSL's own
+#     make openssl-speed        # times the provider beside OpenSSL's own
+#     make openssl-install      # installs it into MODULESDIR=, OpenSSL's folder, in DESTDIR=
+#     make openssl-uninstall    # removes what `make openssl-install` installed
 #
 # It needs OpenSSL 3's headers (Debian: libssl-dev, and for ARCH=aarch64 libssl-dev:arm64 with its
 # library, which qemu-user then runs).

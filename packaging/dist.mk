@@ -2,9 +2,9 @@
 # Packages of the built library, for users without the Rattle kit, into out/dist with SHA256SUMS,
 # PROVENANCE, which says what they come from, and a software bill of materials in SPDX's format:
 #
-#     make dist                 # those that this machine has the tools for
-#     make dist PACKAGES=       # some: the words of WORDS below
-#     make dist-check           # each in a Debian system of its own, as root and with a network
+#     make dist                 # makes the packages that this machine has the tools for
+#     make dist PACKAGES=       # makes some packages: the words of WORDS below
+#     make dist-check           # tries each in a Debian system, as root and with a network
 #
 # With ARCH=aarch64 they are those for 64-bit ARM.
 #

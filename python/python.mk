@@ -1,12 +1,12 @@
 # SPDX-License-Identifier: ISC
 # The Python package:
 #
-#     make python               # builds it, in out/python, and tests it
-#     make python-versions      # its tests under later versions of Python
-#     make python-postgresql    # its passwords for PostgreSQL, beside a server
-#     make python-types         # the types that it tells
-#     make wheel                # as pip installs it
-#     make python-speed         # beside hashlib and hmac
+#     make python               # builds the Python package in out/python, and tests it
+#     make python-versions      # runs its tests under later versions of Python
+#     make python-postgresql    # tests its passwords for PostgreSQL beside a server
+#     make python-types         # tests the types of the Python package
+#     make wheel                # tests the Python package as pip installs it
+#     make python-speed         # times the Python package beside hashlib and hmac
 
 # The package with its extension, which has the archive in it.
 python: $(ARCHIVE)

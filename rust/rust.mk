@@ -1,8 +1,8 @@
 # SPDX-License-Identifier: ISC
 # The Rust crate:
 #
-#     make rust                 # tests it
-#     make rustcrypto           # the crate with RustCrypto's traits, over Debian's crates
+#     make rust                 # tests the Rust crate, and its build in a folder of others
+#     make rustcrypto           # tests the crate with RustCrypto's traits, over Debian's crates
 
 # The crate without the standard library too, and its build in a folder of others.
 rust: $(ARCHIVE)

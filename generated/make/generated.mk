@@ -1,10 +1,11 @@
 # SPDX-License-Identifier: ISC
 # The crate crates/ring_c proved and built by the kit:
 #
-#     make generated            # renews the text of all builds in generated/
-#     make generated-check      # whether the text for ARCH is what the kit makes
+#     make generated            # renews the library's text in generated/, and the module's
+#     make generated-check      # whether the library's text for ARCH is what the kit makes
+#     make generated-programs   # renews the programs' text in generated/, and SOURCES
 #     make builds-agree         # whether both builds for x86-64 are one library
-#     make instructions-diff    # what instructions.py changes in the module, once built
+#     make instructions-diff    # prints what instructions.py changes in the module, once built
 #
 # The kit runs on x86-64 alone. The text for aarch64 also wants gcc-aarch64-linux-gnu, and that of
 # the module Node.
@@ -262,5 +263,8 @@ instructions-compare: $(COMPARED)/compare $(COMPARED)/same.a $(MODULE)
 	else echo 'left out: each SHA instruction beside its definition, without such a processor' \
 	    'or qemu 8.2'; fi
 
-.PHONY: generated generated-$(ARCH) generated-check builds-agree instructions-diff \
-    instructions-compare
+generated-programs:
+	RT='$(RT)' generated/make/programs renew
+
+.PHONY: generated generated-programs generated-$(ARCH) generated-check builds-agree \
+    instructions-diff instructions-compare

@@ -19,7 +19,7 @@ define launcher
 	    'set -euo pipefail' && \
 	sed -e '1,/^set -euo pipefail$$/d; /^root=/d; /^# about /,/^esac$$/d' \
 	        -e '/^# With --version/d; /^ *processor=/d' $(1) \
-	    | sed 's|^program=.*/programs/built" "\{0,1\}\([a-z_$$]*\).*|program=/usr/lib/yezdopin/\1|'; } \
+	    | sed 's|^program=.*/built" "\{0,1\}\([a-z_$$]*\).*|program=/usr/lib/yezdopin/\1|'; } \
 	    >"$(WORK)/$(TOOLS_DEB)/usr/bin/$(1)"
 	chmod 755 "$(WORK)/$(TOOLS_DEB)/usr/bin/$(1)"
 	! grep -E 'programs/|\broot\b' "$(WORK)/$(TOOLS_DEB)/usr/bin/$(1)"

@@ -1,9 +1,9 @@
 # SPDX-License-Identifier: ISC
 # The library for macOS, in out/macos, built and tested on Linux, and its package:
 #
-#     make macos                # the dylib and the archive for both kinds of processor
-#     make macos-check          # the dylib's own code, run by a loader for Linux
-#     make macos-tarball        # a tarball of it, in out/dist
+#     make macos                # builds the library for macOS in out/macos, for both processors
+#     make macos-check          # tests the dylib's own code, run by a loader for Linux
+#     make macos-tarball        # packs it as a tarball in out/dist
 #
 # Where a tool is missing they say what they leave out, and make the rest. The tools are Debian's
 # clang-19, lld-19 and llvm-19. On a Mac plain `make` is `make macos`, by its own compiler. The text

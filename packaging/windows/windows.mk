@@ -1,12 +1,12 @@
 # SPDX-License-Identifier: ISC
 # The library for Windows, in out/windows, built and tested on Linux, and its packages:
 #
-#     make windows              # the DLL, the archive, and what compilers link with for either
-#     make windows-check        # its tests under wine, calls by single steps, its code on Linux
-#     make windows-traces       # no jump or address by a secret in its code
-#     make windows-rust         # the tests of the Rust crate under wine
-#     make windows-zip          # a zip of it, in out/dist
-#     make windows-wheel        # the Python package, in out/dist
+#     make windows              # builds the library for Windows in out/windows
+#     make windows-check        # tests it under wine, by single steps, and its code on Linux
+#     make windows-traces       # tests that no jump or address in its code depends on a secret
+#     make windows-rust         # tests the Rust crate under wine
+#     make windows-zip          # packs it as a zip in out/dist
+#     make windows-wheel        # packs the Python package for Windows in out/dist
 #
 # Where a tool is missing they say what they leave out, and make the rest. The tools are Debian's
 # gcc-mingw-w64-x86-64, wine64, clang-19, lld-19 and llvm-19.

@@ -9,6 +9,7 @@ Over many short lines it counts the writes, and fails some calls in mid-stream. 
 """
 
 import functools
+import pathlib
 import sys
 import tempfile
 

@@ -18,6 +18,7 @@ import hashlib
 import hmac
 import json
 import os
+import pathlib
 import random
 import re
 import shutil

@@ -19,23 +19,22 @@ EDGES = {0, 1, 20, 32, 48, 49, 55, 56, 63, 64, 65, 111, 112, 119, 120, 127, 128,
 GROUPS = ("digest", "pieces", "dispatch", "hmac", "hmac_key", "made", "hkdf", "pbkdf2", "each",
           "refused", "whole")
 FEW = 64  # where one of so many is run
-_OPEN = {}
 
 
 def given_for(arguments):
-    """A case's arguments, in which open lengths and numbers are words."""
+    """A case's arguments, in which open lengths and numbers are words, each of a number of its
+    own."""
     step = ALGORITHMS[arguments[0]].block_len if arguments[0] in ALGORITHMS else 64
-    return [lengths.length(_opened(step), step, it.rest) if isinstance(it, Above) else
-            lengths.word(lengths.Value(0, 1, _opened(1)), 32) if it == ANY else it
-            for it in arguments]
+    return [lengths.length(_opened(i, 2, (1 << 55) - 8), step, it.rest)
+            if isinstance(it, Above) else
+            lengths.word(lengths.Value(0, 1, _opened(i, 1, (1 << 32) - 1)), 32)
+            if it == ANY else it for i, it in enumerate(arguments)]
 
 
-def _opened(step):
-    """How many blocks of so many bytes, or iterations: below what a length in bits has room for."""
-    if step not in _OPEN:
-        least, greatest = (1, (1 << 32) - 1) if step == 1 else (2, (1 << 61) // 64 - 8)
-        _OPEN[step] = lengths.opened(f"n{step}", least, greatest)
-    return _OPEN[step]
+def _opened(i, least, greatest):
+    """The open number of an argument. Of blocks there are so many that a length in bits has room
+    for it."""
+    return lengths.opened(f"n{i}", least, greatest)
 
 
 def processors(number, some=False):
@@ -71,7 +70,7 @@ def digests(step):
                 yield "digest", features, "digest", number, length
             for at in range(0, 201, step + 5 * (step == FEW)):
                 yield "pieces", features, "pieces", number, 200, at
-            for length in every(number, 2 * step):
+            for length in every(number, step):
                 if isinstance(length, Above):
                     yield "pieces", features, "two_pieces", number, 17, length
                     yield "pieces", features, "two_pieces", number, length, 70
@@ -108,7 +107,7 @@ def keys(step):
                 yield "hkdf", features, "hkdf", number, salt, secret, info, length
                 yield "hkdf", features, "hkdf_extract", number, salt, secret
                 yield "hkdf", features, "hkdf_expand", number, secret, info, length
-            for length in every(number, 2 * step):
+            for length in every(number, step):
                 yield "hkdf", features, "hkdf_extract", number, length, 20
                 yield "hkdf", features, "hkdf_extract", number, 20, length
                 yield "hkdf", features, "hkdf_expand", number, length, 10, 20

@@ -1,5 +1,5 @@
 # SPDX-License-Identifier: ISC
-"""What runs in the place of functions that kernels.py shows, and of the four that the C library has:
+"""What runs in the place of functions that kernels.py shows, and of those that the C library has:
 their contracts, with what they ask for checked at each call."""
 
 import fips180_4
@@ -95,8 +95,9 @@ class Summaries:
             return results
         return summary
 
-    def by_address(self, real=False):
-        """What stands for which function; with `real`, only for those of the C library."""
+    def by_address(self, real=False, rows=None):
+        """What stands for which function; with `real`, only for those of the C library. `rows` are
+        the kernels, where they are known."""
         found = {}
         for address, name in self.library.imports.items():
             run = {"memcpy": self.copy(True), "memmove": self.copy(False),
@@ -110,7 +111,7 @@ class Summaries:
                 kernels.output_after: self.output_after,
                 kernels.block_of_words: self.block_of_words,
                 kernels.xor_iterates: self.xor_iterates}
-        for row in kernels.rows(self.library):
+        for row in rows or kernels.rows(self.library):
             if row.symbol:
                 found[row.symbol.start] = self.noted(
                     f"{identify.short_name(row.symbol.name)} {row.build}".strip(),
@@ -173,7 +174,8 @@ class Summaries:
         tag = number(state, region.cell(offset), "the state's tag")
         names = {0: "SHA-512"}
         if tag:
-            names = {1: ("SHA-1", "SHA-256", None)[min(2, number(state, is_sha256[:8], "a number"))]}
+            which = min(2, number(state, is_sha256[:8], "a number"))
+            names = {1: ("SHA-1", "SHA-256", None)[which]}
         if names.get(tag) is None:
             state.refuse("a tag that was not shown")
         function = fips180_4.FUNCTIONS[names[tag]]

@@ -1,0 +1,208 @@
+#!/usr/bin/env python3
+# SPDX-License-Identifier: ISC
+"""Tries the checker of the library's whole calls, and the library by it (docs/VERIFY.md).
+
+    tests/verify_calls.py [--anew] [WORD..]     all tests, or those with one of these words
+
+The definition stands beside hashlib and hmac, and open lengths beside Python's numbers. Then the
+library's calls are checked at some lengths, and so are copies with a fault, each of which has to be
+refused. The library is built by make first. Nothing is tried again where neither the library nor
+the checker has changed since all passed, for the user of this machine: --anew tries all. The last
+line is 'N passed, M failed'.
+"""
+
+import hashlib
+import multiprocessing
+import os
+import pathlib
+import random
+import subprocess
+import sys
+import tempfile
+import unittest
+
+sys.dont_write_bytecode = True
+ROOT = pathlib.Path(__file__).resolve().parent.parent
+sys.path += [str(ROOT / "tests/lib"), str(ROOT / "verify")]
+import counted
+import kernels
+import lengths
+import mutate_calls
+import standards
+import terms
+from elf import Library
+
+LIBRARY = ROOT / "out/libyezdopin.so"
+KEPT = pathlib.Path(os.environ.get("XDG_CACHE_HOME") or "~/.cache").expanduser() / "yezdopin"
+
+
+class Lengths(unittest.TestCase):
+    """Words of lengths that are open, beside numbers."""
+
+    STEPS = (1, 64, 128)
+
+    def setUp(self):
+        self.source = random.Random(1)
+
+    def value(self, word, n):
+        """The number that a word is, where n is this one."""
+        places = [lengths._PLACE_OF.get(bit) for bit in word]
+        bits = [bit if bit < 2 else place[1] + n >> place[2] & 1
+                for bit, place in zip(word, places)]
+        return sum(bit << i for i, bit in enumerate(bits))
+
+    def random_words(self):
+        """Pairs of words, and numbers n at which they are looked at."""
+        for step in self.STEPS:
+            of = lengths.opened(f"test {step}", 2, 2**50)
+            for _ in range(150):
+                numbers = [self.source.choice([0, 1, step - 1, step, 2 * step,
+                                               self.source.randrange(2**20)]) for _ in "ab"]
+                a = lengths.length(of, step, numbers[0])
+                b = self.source.choice([terms.constant(numbers[1], 64),
+                                        lengths.length(of, step, numbers[1])])
+                yield a, b, [2, 3, 2**50 - 1, 2**50, self.source.randrange(2, 2**50)]
+
+    def test_sums(self):
+        """Sums, differences, masks and shifts of open lengths are those of numbers."""
+        count = 0
+        for a, b, numbers in self.random_words():
+            mask = terms.constant(-64, 64)
+            found = [(terms.add(a, b), lambda x, y: x + y),
+                     (terms.subtract(a, b), lambda x, y: x - y),
+                     (terms.subtract(b, a), lambda x, y: y - x),
+                     (terms.and_words(a, mask), lambda x, y: x & -64),
+                     (terms.shifted_right(a, 7), lambda x, y: x >> 7)]
+            for word, expected in found:
+                if lengths.value_of(word) is None and any(
+                        bit > 1 and bit not in lengths._PLACE_OF for bit in word):
+                    continue  # a sum that isn't looked into
+                for n in numbers:
+                    count += 1
+                    self.assertEqual(self.value(word, n), expected(
+                        self.value(a, n), self.value(b, n)) % 2**64)
+        self.assertGreater(count, 5000)
+
+    def test_decisions(self):
+        """What is decided of open lengths is so of each number."""
+        decided = 0
+        for a, b, numbers in self.random_words():
+            pairs = [(self.value(a, n), self.value(b, n)) for n in numbers]
+            for answer, of_numbers in [
+                    (terms.borrow(a, b), lambda x, y: x < y),
+                    (terms.borrow(b, a), lambda x, y: y < x),
+                    (terms.is_zero(a), lambda x, y: x == 0),
+                    (terms.is_zero(terms.subtract(a, b)), lambda x, y: x == y),
+                    (terms.carry(a, b), lambda x, y: x + y >= 2**64)]:
+                if answer < 2:
+                    decided += 1
+                    self.assertEqual({answer}, {int(of_numbers(x, y)) for x, y in pairs})
+        self.assertGreater(decided, 1000)
+
+    def test_open(self):
+        """A comparison that holds of some numbers alone isn't decided."""
+        of = lengths.opened("test", 2, 2**50)
+        length = lengths.length(of, 64, 10)
+        for number in (64 * 2 + 11, 2**32, 64 * 2**50 + 10):
+            self.assertGreater(terms.borrow(length, terms.constant(number, 64)), 1)
+        self.assertGreater(terms.is_zero(terms.subtract(length, terms.constant(64 * 9 + 10, 64))),
+                           1)
+        self.assertGreater(terms.is_zero(terms.shifted_right(length, 32)), 1)
+
+    def test_bytes(self):
+        """Only bytes that are surely inside are read from an input of an open length."""
+        of = lengths.opened("test", 2, 2**50)
+        region = lengths.OpenRegion("input", lengths.length(of, 64, 10), None)
+        inside = [(lengths.length(of, 64, 0), 10), (lengths.length(of, 64, -128), 138),
+                  (terms.constant(0, 64), 138)]
+        outside = [(lengths.length(of, 64, 0), 11), (lengths.length(of, 64, 64), 1),
+                   (terms.constant(0, 64), 139), (terms.constant(-1, 64), 1)]
+        for offset, size in inside:
+            self.assertIsNotNone(region.offset(offset, size))
+        for offset, size in outside:
+            self.assertIsNone(region.offset(offset, size))
+
+
+class Calls(unittest.TestCase):
+    """The definition, and the library's calls."""
+
+    def test_definition(self):
+        """Digests, HMAC, HKDF and PBKDF2 of the definition are those of hashlib and hmac."""
+        self.assertEqual(standards.compare(), 180)
+
+    def test_calls(self):
+        """The library's calls give the definition's bytes at some lengths, for all contents."""
+        done = subprocess.run([ROOT / "verify/check_calls", "--quick", LIBRARY], check=False,
+                              stdout=subprocess.PIPE, text=True)
+        self.assertRegex(done.stdout, r"\n\d{3,} calls shown, 0 refused\n$")
+        self.assertEqual(done.returncode, 0)
+
+
+class Faults(unittest.TestCase):
+    """Copies of the library with a fault, which have to be refused."""
+
+
+def tried(number):
+    """Whether a fault is found, and what is said of it."""
+    fault, library = mutate_calls.FAULTS[number], LOADED[0]
+    with tempfile.TemporaryDirectory() as folder:
+        return mutate_calls.found(library, fault, folder, kernels.rows(library))
+
+
+LOADED = []
+
+
+def add_faults():
+    """A test for each fault; all are tried side by side at the first."""
+    answers = []
+
+    def answer(number):
+        if not answers:
+            LOADED.append(Library(str(LIBRARY)))
+            kernels.rows(LOADED[0])
+            with multiprocessing.get_context("fork").Pool(
+                    min(4, len(os.sched_getaffinity(0))), maxtasksperchild=4) as pool:
+                answers.extend(pool.map(tried, range(len(mutate_calls.FAULTS)), 1))
+        return answers[number]
+
+    for i, fault in enumerate(mutate_calls.FAULTS):
+        def test(self, number=i):
+            is_found, text = answer(number)
+            self.assertTrue(is_found, text)
+        test.__doc__ = f"Refused: {fault.what}."
+        setattr(Faults, f"test_{i:02}_{fault.what.replace(' ', '_')}", test)
+
+
+def digest():
+    """The sum of all that a verdict depends on."""
+    found = hashlib.sha256(LIBRARY.read_bytes())
+    for path in (*sorted((ROOT / "verify").iterdir()), pathlib.Path(__file__)):
+        if path.is_file():
+            found.update(path.name.encode() + b"\0" + path.read_bytes())
+    return found.hexdigest()
+
+
+def main():
+    names = [it for it in sys.argv[1:] if it != "--anew"]
+    made = subprocess.run(["make", "-C", ROOT], stdin=subprocess.DEVNULL,
+                          stdout=subprocess.DEVNULL, check=False)
+    if made.returncode:
+        print("the library could not be built\n0 passed, 1 failed")
+        return 1
+    kept = KEPT / f"verify-calls-{digest()}"
+    if kept.exists() and not names and "--anew" not in sys.argv:
+        print(kept.read_text(), end="")
+        return 0
+    add_faults()
+    terms.OPAQUE_OR = True
+    counts = counted.run(counted.suite((Lengths, Faults, Calls), names), sys.stdout).counts()
+    status = counted.report(*counts)
+    if not status and not names and not counts[2]:
+        KEPT.mkdir(parents=True, exist_ok=True)
+        kept.write_text("neither the library nor the checker has changed since all tests passed\n"
+                        f"{counts[0]} passed, 0 failed\n")
+    return status
+
+
+if __name__ == "__main__":
+    sys.exit(main())

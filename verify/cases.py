@@ -107,7 +107,7 @@ def keys(step):
                 yield "hkdf", features, "hkdf", number, salt, secret, info, length
                 yield "hkdf", features, "hkdf_extract", number, salt, secret
                 yield "hkdf", features, "hkdf_expand", number, secret, info, length
-            for length in every(number, step):
+            for length in every(number, step if step < FEW else 2 * step):
                 yield "hkdf", features, "hkdf_extract", number, length, 20
                 yield "hkdf", features, "hkdf_extract", number, 20, length
                 yield "hkdf", features, "hkdf_expand", number, length, 10, 20

@@ -4,6 +4,7 @@
 #
 #     make                      # builds out/libyezdopin.a and out/libyezdopin.so.0
 #     make check                # tests the library and the packages for C, Python and Rust
+#     make verify               # shows the library's machine code for all inputs: docs/VERIFY.md
 #     make check-all            # runs all tests of the repository that need no kit
 #     make clean                # removes out/
 #     make help                 # prints these lines, and those of all parts
@@ -136,6 +137,11 @@ endif
 check-all:
 	tests/without_kit
 
+# In the place of these, --quick takes a minute.
+VERIFY_FLAGS =
+verify: $(SHARED)
+	$(PYTHON) verify/check $(VERIFY_FLAGS) $(SHARED)
+
 clean:
 	rm -rf $(OUT)
 
@@ -143,4 +149,4 @@ clean:
 help:
 	@sed -n 's/^#     //p' Makefile $(PARTS)
 
-.PHONY: all check check-all clean help
+.PHONY: all check check-all clean help verify

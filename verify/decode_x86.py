@@ -128,7 +128,7 @@ for _it in re.finditer(r"(--|66|F2|F3) (\w+) +(\w\w)(/\d)? +(any|SSE|VEX|W0|W1) 
 
 # With VEX these are of 128 bits alone, and those of 256 alone.
 SHORT = {"movd", "pextr", "pextrb", "pextrw", "pinsr", "pinsrb", "pinsrw", "insertps", "extractps",
-         "movq", "movlps", "movhps", "movlhps"}
+         "movq", "movlps", "movhps", "movlhps", "zeroupper"}
 WIDE = {"permps", "permd", "permq", "permpd", "broadcastsd", "broadcasti128", "insertf128",
         "inserti128", "extracti128", "perm2i128"}
 
@@ -178,11 +178,13 @@ class Reader:
             sib = self.byte()
             scale, index, base = 1 << (sib >> 6), sib >> 3 & 7 | self.X << 3, sib & 7
         at_rip, no_base = low == 5 and mod == 0, low == 4 and base == 5 and mod == 0
+        if no_base and index == 4:
+            raise Unreadable("an address that is a number")
         size = 4 if mod == 2 or at_rip or no_base else mod
         displacement = self.number(size) if size else 0
         text = f"{'-' if displacement < 0 else ''}{abs(displacement):#x}" if size else ""
         name = "%rip" if at_rip else "" if no_base else register(base | self.B << 3, 64)
-        if index is None or index == 4 and (base == 4 and not no_base):
+        if index is None or index == 4 and scale == 1 and base == 4:
             self.memory = f"{text}({name})"
         elif index == 4:
             self.memory = f"{text}({name},%riz,{scale})"
@@ -299,7 +301,8 @@ def text_of(reader, name, letters, width, opcode):
 def general(reader, row, opcode):
     width = 64 if reader.W else 16 if "66" in reader.prefixes else 32
     name, letters = row.name, row.operands.split()
-    if "cs" in reader.prefixes and name != "nop" or name == "bswap" and width == 16:
+    if ("cs" in reader.prefixes and name != "nop" or name == "bswap" and width == 16
+            or name == "movslq" and width != 64):
         raise Unreadable("a prefix that makes no sense")
     if name.startswith("/"):
         reader.read_modrm()

@@ -21,11 +21,22 @@ class WrongFile(Exception):
 
 
 class Library:
-    def __init__(self, path, by_objdump=False):
-        """`by_objdump` has objdump read the instructions of x86-64 too, for a comparison."""
+    def __init__(self, path, by_objdump=False, stripped=False):
+        """`by_objdump` has objdump read the instructions of x86-64 too, for a comparison. One that
+        may be `stripped` needs no names."""
         self.path, self.by_objdump = path, by_objdump
         with open(path, "rb") as file:
-            self.data = data = file.read()
+            self.data = file.read()
+        try:
+            self._read_file()
+        except (struct.error, ValueError, IndexError):
+            raise WrongFile("it is cut off or damaged") from None
+        if not self.symbols and not stripped:
+            raise WrongFile("it has no names of its functions: it is stripped")
+        self.lines = {}  # by address
+
+    def _read_file(self):
+        data = self.data
         if data[:6] != b"\x7fELF\x02\x01" or len(data) < 64:
             raise WrongFile("it is no ELF file of 64 bits, little endian")
         kind, self.machine = struct.unpack_from("<HH", data, 16)
@@ -57,10 +68,6 @@ class Library:
                         self.symbols.append(symbol)
                     elif section and info & 15 in (0, 1):
                         self.objects.append(symbol)
-        if not self.symbols:
-            raise WrongFile("it has no names of its functions: it is stripped")
-        self.lines = {}  # by address
-        self._parsed = {}
 
     def _read_relocations(self, headers):
         """What a loader writes: addresses of the library's own, and other libraries' functions."""
@@ -108,6 +115,13 @@ class Library:
     def instructions(self, are_used):
         """The variable by which the library chooses SHA instructions, by its address: its value."""
         return {it.start: int(are_used) for it in self.objects if it.name == "yz_instructions"}
+
+    def file_offset(self, address):
+        """Where the file has an address."""
+        for it in self.segments:
+            if it.start <= address < it.start + it.size:
+                return it.offset + address - it.start
+        raise KeyError(address)
 
     def bytes_at(self, start, end):
         """The file's bytes of these addresses."""

@@ -129,6 +129,9 @@ def sha2_block(o, family, H, M):
     return [o.add(x, y) for x, y in zip((a, b, c, d, e, f, g, h), H)]
 
 
+SHA1_K = (0x5a827999, 0x6ed9eba1, 0x8f1bbcdc, 0xca62c1d6)  # 4.2.1: of twenty rounds each
+
+
 def sha1_block(o, _, H, M):
     """6.1.2."""
     def rotl(x, n):
@@ -139,8 +142,7 @@ def sha1_block(o, _, H, M):
     a, b, c, d, e = H
     for t in range(80):
         f = (ch, parity, maj, parity)[t // 20]
-        K = (0x5a827999, 0x6ed9eba1, 0x8f1bbcdc, 0xca62c1d6)[t // 20]
-        T = o.add(rotl(a, 5), f(o, b, c, d), e, o.constant(K), W[t])
+        T = o.add(rotl(a, 5), f(o, b, c, d), e, o.constant(SHA1_K[t // 20]), W[t])
         e, d, c, b, a = d, c, rotl(b, 30), a, T
     return [o.add(x, y) for x, y in zip((a, b, c, d, e), H)]
 
@@ -154,7 +156,7 @@ FUNCTIONS = {it.name: it for it in [
 
 def first_constants(function):
     """K of the first sixteen rounds (4.2)."""
-    return function.family.K[:16] if function.family else (0x5a827999,) * 16
+    return function.family.K[:16] if function.family else SHA1_K[:1] * 16
 
 
 def next_state(function, o, H, M):

@@ -320,9 +320,9 @@ def xor_iterates(cpu, library, symbol, function, lanes, front, instructions=Fals
 
 # Which kernels a library has.
 
-# What is shown of a function: a text, the function's symbol or None, its check, and whether that is
-# among the quick ones.
-Kernel = namedtuple("Kernel", "name symbol check is_quick")
+# What is shown of a function: a text with the function's place, the function's symbol or None, its
+# check, whether that is among the quick ones, the text alone, the build.
+Kernel = namedtuple("Kernel", "name symbol check is_quick what build")
 Ahead = namedtuple("Ahead", "function")
 InLanes = namedtuple("InLanes", "function lanes front")  # `front` words of a block are no padding
 SHA1, SHA256, SHA512 = fips180_4.FUNCTIONS.values()
@@ -448,4 +448,4 @@ def of(library):
                                     f"{row.symbol.start:x})")
             name = " ".join(it for it in (what, row.build, where) if it)
             yield Kernel(name, row.symbol, partial(check_of, row, what, arguments),
-                         row.check is not xor_iterates)
+                         row.check is not xor_iterates, what, row.build)

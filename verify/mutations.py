@@ -1,236 +1,271 @@
 #!/usr/bin/env python3
 # SPDX-License-Identifier: ISC
-"""Plants faults in the machine code of a library, and tries whether check's kernels refuse each:
+"""Changes the machine code of a library, and tries whether the check refuses it:
 
-    mutations.py LIBRARY FOLDER
-    mutations.py --random COUNT KERNEL LIBRARY FOLDER
+    verify/mutations.py [--jobs N] [--flips COUNT] LIBRARY
 
-The second flips COUNT random bits of a kernel's code, and prints those that are not refused.
+Plants faults that a compiler or an assembler could make, and flips COUNT random bits in the code of
+kernels. What isn't refused has to compute the same: the changed functions are then run by the
+processor, over many inputs, beside the unchanged ones. The last line is 'N passed, M failed'.
+LIBRARY is of x86-64, as this processor. It needs gcc's assembler.
 """
 
+import argparse
+import multiprocessing
 import os
 import random
 import re
+import resource
+import signal
 import subprocess
 import sys
-from collections import Counter, namedtuple
+import tempfile
+from collections import namedtuple
 
+sys.dont_write_bytecode = True
 import kernels
+import native
 from elf import Library
 from machine import Refused
 
-# In a kernel's function, the instruction number `which` of those that match is replaced by others,
-# which may be shorter; an empty `new` takes it away. TABLE is a constant that it reads: a bit of
-# that is flipped.
-Fault = namedtuple("Fault", "what kernel function build old which new")
-TABLE = "flip a bit of the table"
-AHEAD_256 = "ring_core.digest.sha2.blocks.run_ahead.ea37ceaea72c2e87"
-AHEAD_512 = "ring_core.digest.sha2.blocks.run_ahead.00e266d2aa29b734"
-RUN = "ring.digest.block_context.run_blocks"
-INSTRUCTIONS_1 = "ring_core.digest.sha1.by_instruction.run_blocks.2f3a0559ae3dd27e"
-INSTRUCTIONS_256 = "ring_core.digest.sha2.by_instruction.run_blocks.0a683a1c7ad27461"
-LANES = "ring_core.digest.sha2.lanes.block_of_words_lanes_counted.201ccc397da7ad51"
-X86 = [
-    Fault("a rotation by another count", "SHA-512 v3 (run_ahead", AHEAD_512, 1,
-          r"rorx \$0x17,%rdx,%rsi", 0, "rorx $0x18,%rdx,%rsi"),
-    Fault("a rotation by another count", "SHA-256 v2 (run_ahead", AHEAD_256, 0,
-          r"shld \$0x12,%r14d,%r14d", 0, "shld $0x13,%r14d,%r14d"),
-    Fault("another register", "SHA-256 v2 (run_ahead", AHEAD_256, 0,
-          "and %ecx,%r10d", 0, "and %edx,%r10d"),
-    Fault("swapped operands of andn", "SHA-512 v3 (run_ahead", AHEAD_512, 1,
-          "andn %rax,%rdx,%r9", 0, "andn %rdx,%rax,%r9"),
-    Fault("a missing add", "SHA-256 v2 (run_ahead", AHEAD_256, 0, "paddd %xmm7,%xmm0", 0, ""),
-    Fault("a missing xor in a late round", "SHA-1 v2 (run_ahead",
-          "ring_core.digest.sha1.blocks.run_ahead", 0, "xor .*", 150, ""),
-    Fault("one turn fewer", "SHA-512 v3 (run_ahead", AHEAD_512, 1,
-          r"cmp \$0x200,%r11", 0, "cmp $0x180,%r11"),
-    Fault("constants of another round", "SHA-512 v3 (run_ahead", AHEAD_512, 1,
-          r"vpaddq 0x80\(%r11,%rbp,1\),%ymm0,%ymm7", 0, "vpaddq 0xa0(%r11,%rbp,1),%ymm0,%ymm7"),
-    Fault("a wrong constant in the table", "SHA-256 over a message v2", RUN, 0,
-          r"movdqa .*\(%rip\),%xmm4", 1, TABLE),
-    Fault("another order of bytes", "SHA-256 over a message v2", RUN, 0,
-          r"movdqa .*\(%rip\),%xmm4", 0, TABLE),
-    Fault("a read past the block", "SHA-256 over a message v2", RUN, 0,
-          r"movdqu -0x10\(%rbx\),%xmm2", 0, "movdqu 1(%rbx),%xmm2"),
-    Fault("a read before the block", "SHA-256 over a message v3", RUN, 1,
-          r"vmovdqu -0x30\(%rbx\),%xmm0", 0, "vmovdqu -0x31(%rbx),%xmm0"),
-    Fault("a read that has to be aligned", "SHA-256 over a message v2", RUN, 0,
-          r"movdqu -0x30\(%rbx\),%xmm0", 0, "movdqa -0x30(%rbx),%xmm0"),
-    Fault("a write past the state", "SHA-256 v2 (run_ahead", AHEAD_256, 0,
-          r"mov %\w+,0x1c\(%\w+\)|add %\w+,0x1c\(%\w+\)", -1, "mov %r14d,0x20(%r12)"),
-    Fault("a write far below the stack pointer", "SHA-256 v2 (run_ahead", AHEAD_256, 0,
-          r"mov %rsi,-0x8\(%rsp\)", 0, "mov %rsi,-0x88(%rsp)"),
-    Fault("half a block further", "SHA-256 over a message v2", RUN, 0,
-          r"add \$0x40,%rbx", 0, "add $0x20,%rbx"),
-    Fault("a count that goes up", "SHA-256 over a message v2", RUN, 0, "dec %r15", 0, "inc %r15"),
-    Fault("a loop that ends early", "SHA-512 over a message v3", RUN, 1,
-          r"shr \$0x7,%r13", 0, "shr $0x8,%r13"),
-    Fault("another rest of the message", "SHA-256 over a message v2", RUN, 0,
-          r"and \$0xffffffffffffffc0,%r13", 0, "and $0xffffffffffffff80,%r13"),
-    Fault("registers not restored", "SHA-256 v2 (run_ahead", AHEAD_256, 0,
-          "pop %r12", 0, "pop %r13"),
-    Fault("a branch on a secret, without effect", "SHA-256 v2 (run_ahead", AHEAD_256, 0,
-          "nopl .*", 0, "test %r11d,%r11d; je . + 2"),
-    Fault("an address by a secret, without effect", "SHA-256 v2 (run_ahead", AHEAD_256, 0,
-          "nopl .*", 0, "mov (%rdi,%r11,1),%r8b"),
-    Fault("another round function", "SHA-1 by instructions over a message v2", INSTRUCTIONS_1, 0,
-          r"sha1rnds4 \$0x1,.*", 0, "sha1rnds4 $0x3,OPERANDS"),
-    Fault("msg2 in the place of msg1", "SHA-256 by instructions over a message v2",
-          INSTRUCTIONS_256, 0, "sha256msg1 .*", 3, "sha256msg2 OPERANDS"),
-    Fault("the same words for the next two rounds", "SHA-256 by instructions over a message v2",
-          INSTRUCTIONS_256, 0, r"pshufd \$0xee,%xmm0,%xmm0", 5, "pshufd $0xe4,%xmm0,%xmm0"),
-    Fault("a shift by another count in lanes", "SHA-256 in 4 lanes of 8 words v2", LANES, 0,
-          r"pslld \$0x12,.*", 1, "pslld $0x11,OPERANDS"),
-    Fault("pand in the place of pandn in lanes", "SHA-256 in 4 lanes of 8 words v3", LANES, 1,
-          "vpandn .*", 1, "vpand OPERANDS"),
+# What is planted: in the kernels whose line begins so, one of the instructions that match is
+# replaced by others, which may be shorter. TABLE flips a bit of a constant that it reads. `inside`
+# is a function that the kernel calls, where the fault isn't in the kernel's own.
+Fault = namedtuple("Fault", "what kernels old new inside", defaults=[None])
+TABLE = "a bit of the table"
+AHEAD = ["SHA-1 v2 (run_ahead", "SHA-1 v3 (run_ahead", "SHA-256 v2 (run_ahead",
+         "SHA-256 v3 (run_ahead", "SHA-512 v2 (run_ahead", "SHA-512 v3 (run_ahead"]
+MESSAGE = ["SHA-1 over a message v2", "SHA-256 over a message v3", "SHA-512 over a message v3"]
+BY_INSTRUCTION = ["SHA-1 by instructions of 5", "SHA-256 by instructions of 8"]
+LANES = ["SHA-1 in 4 lanes of 5 words v3 (sha1", "SHA-256 in 4 lanes of 8 words v2 (block",
+         "SHA-256 in 8 lanes of 8 words v3 (block"]
+ITERATES = ["PBKDF2 by SHA-1 of 5 words v2", "PBKDF2 by SHA-256 by instructions of 8 words v2"]
+R, D = r"%\w+", r"-?0x[0-9a-f]+"
+FAULTS = [
+    Fault("a rotation by another count", AHEAD,
+          rf"(shld|shrd|rorx|rol|ror) \$(0x\w+),({R}.*)", lambda it: f"{it[1]} "
+          f"${int(it[2], 16) % 31 + 1},{it[3]}"),
+    Fault("another register", AHEAD, rf"(xor|and|add) (%r\w+|%e\w+),(%r\w+|%e\w+)",
+          lambda it: f"{it[1]} {it[3]},{it[3]}"),
+    Fault("a missing add", AHEAD + LANES, rf"(add {R},{R}|v?paddd .*|v?paddq .*)", lambda it: ""),
+    Fault("a missing xor", AHEAD + LANES, rf"(xor {R},{R}|v?pxor {R},.*)", lambda it: ""),
+    Fault("an add in the place of an and", AHEAD, rf"and ({R},{R})", lambda it: f"add {it[1]}"),
+    Fault("constants of another round", AHEAD + BY_INSTRUCTION, r".*\(%rip\).*", TABLE),
+    Fault("another table", LANES, r"v?(paddd|movdqa|movaps|pbroadcast[dq]) .*\(%rip\).*", TABLE),
+    Fault("a register that isn't restored", AHEAD[:4] + LANES[:1],
+          r"pop %(r12|rbx|r13|r14|r15|rbp)", lambda it: "pop %rax"),
+    Fault("a write past the state", AHEAD, rf"(mov|add) ({R}),(0x1c|0x38|0x10)\((%rsi|%r\w+)\)",
+          lambda it: f"mov {it[2]},0x48({it[4]})"),
+    Fault("a read of another word", BY_INSTRUCTION + LANES,
+          rf"(v?mov[du]q[au]|v?movups|v?movdqu) (0x[0-9a-f]*0)\((%rsi)\),(.*)",
+          lambda it: f"{it[1]} {int(it[2], 16) - 4}({it[3]}),{it[4]}"),
+    Fault("other words of a shuffle", BY_INSTRUCTION, r"pshufd \$(\w+),(.*)",
+          lambda it: f"pshufd ${int(it[1], 16) ^ 1},{it[2]}"),
+    Fault("rounds by another number", BY_INSTRUCTION[:1], r"sha1rnds4 \$0x(\d),(.*)",
+          lambda it: f"sha1rnds4 ${(int(it[1]) + 1) % 4},{it[2]}"),
+    Fault("msg2 in the place of msg1", BY_INSTRUCTION, r"(sha\d+msg)1 (.*)",
+          lambda it: f"{it[1]}2 {it[2]}"),
+    Fault("a shift by another count in lanes", LANES, r"(v?ps[rl]l[dq]) \$0x(\w+),(.*)",
+          lambda it: f"{it[1]} ${int(it[2], 16) % 29 + 1},{it[3]}"),
+    Fault("an and in the place of andn", LANES, r"(v?pand)n (.*)", lambda it: f"{it[1]} {it[2]}"),
+    Fault("a loop that ends early", MESSAGE, r"shr \$0x([67]),(.*)",
+          lambda it: f"shr ${int(it[1]) + 1},{it[2]}"),
+    Fault("a wrong rest", MESSAGE, rf"and \$(0xf*[c8]0),({R})",
+          lambda it: f"and ${int(it[1], 16) - (1 << 64) - 64},{it[2]}"),
+    Fault("half a block further", MESSAGE, rf"(add|sub) \$(0x40|0xffffffffffffff80),({R})",
+          lambda it: f"{it[1]} $32,{it[3]}"),
+    Fault("a count that goes up", MESSAGE + ITERATES, rf"dec ({R})", lambda it: f"inc {it[1]}"),
+    Fault("a read that has to be aligned", MESSAGE,
+          rf"(v?)mov(dqu|ups) ({D}\(%r.*\)),(%[xy]mm\d+)",
+          lambda it: f"{it[1]}movdqa {it[3]},{it[4]}"),
+    Fault("a read past the block", MESSAGE[:2], rf"(v?movdqu|v?movups) -0x10\((%r.*)\),(%xmm\d+)",
+          lambda it: f"{it[1]} 1({it[2]}),{it[3]}"),
+    Fault("a branch on a secret", AHEAD, r"nop.*|cs nop.*", lambda it: "test %r10,%r10; je . + 2"),
+    Fault("an address by a secret", AHEAD[2:], rf"mov ({D})\(%rsp\),(%r\w+)",
+          lambda it: f"mov (%rsp,{it[2]}),%al"),
+    Fault("a write below the red zone", AHEAD[:4], rf"mov ({R}),({D})\(%rsp\)",
+          lambda it: f"mov {it[1]},-0x100(%rsp)"),
+    Fault("an iterate that isn't added", ITERATES, rf"(xor {D}\(%rsp\),{R}|pxor .*\(%rsp\),.*)",
+          lambda it: ""),
+    Fault("the inner key for the outer", ITERATES, rf"(mov[du]\w+) (0x24\w)\(%rsi\),(%xmm\d+)",
+          lambda it: f"{it[1]} {int(it[2], 16) - 0x240}(%rsi),{it[3]}"),
+    Fault("one iteration fewer", ITERATES, r"cmp \$0x2,(%\w+)", lambda it: f"cmp $3,{it[1]}"),
 ]
-ITERATES = "ring.pbkdf2.iterates.xor_iterates.96f4d166b0829d78"
-PBKDF2 = "PBKDF2 by SHA-256 of 8 words v2"
-X86 += [
-    Fault("an iterate that isn't added", PBKDF2, ITERATES, 0, r"pxor \(%rsp\),%xmm0", 0, ""),
-    Fault("the inner key for the outer", PBKDF2, ITERATES, 0, r"movdqu \(%r15\),%xmm0", 0,
-          "movdqu (%r12),%xmm0"),
-    Fault("one iteration fewer", PBKDF2, ITERATES, 0, "dec %ebp", 0, "add $-2,%ebp"),
-    Fault("another padding", PBKDF2, ITERATES, 0, r"movaps .*\(%rip\),%xmm3", 0, TABLE),
-]
-ARM_INSTRUCTIONS = "ring_core.digest.sha2.by_instruction.run_blocks.4b880bd721513749"
-ARM_LANES = LANES
-ARM = [
-    Fault("a rotation by another count", "SHA-256 (run_ahead", AHEAD_256, 0,
-          r"eor w2, w12, w12, ror #14", 0, "eor w2, w12, w12, ror #15"),
-    Fault("another register", "SHA-512 (run_ahead", AHEAD_512, 0, "bic x3, x16, x13", 0,
-          "bic x3, x17, x13"),
-    Fault("a missing add", "SHA-512 (run_ahead", AHEAD_512, 0, r"add v0\.2d, .*", 0, ""),
-    Fault("words in another order", "SHA-256 (run_ahead", AHEAD_256, 0, "zip1 .*", 0,
-          "zip2 OPERANDS"),
-    Fault("a read past the block", "SHA-512 over a message", RUN, 0, r"ldp q19, q18, \[x23, #32\]",
-          0, "ldp q19, q18, [x23, #48]"),
-    Fault("a write past the state", "SHA-512 (run_ahead", AHEAD_512, 0,
-          r"stp \w+, \w+, \[x1, #48\]", 0, "stp x1, x2, [x1, #56]"),
-    Fault("a count by two", "SHA-256 by instructions over a message", ARM_INSTRUCTIONS, 0,
-          r"subs x(\w+), x\1, #0x1", 0, "subs x8, x8, #0x2"),
-    Fault("h2 in the place of h", "SHA-256 by instructions over a message", ARM_INSTRUCTIONS, 0,
-          "sha256h q.*", 2, "sha256h2 OPERANDS"),
-    Fault("eor in the place of bsl in lanes", "SHA-256 in 4 lanes of", ARM_LANES, 0, "bsl .*", 9,
-          "eor OPERANDS"),
-    Fault("a register not restored", "SHA-512 (run_ahead", AHEAD_512, 0, r"ldp x20, x19, .*", 0,
-          "ldp x19, x20, [sp], #16"),
-]
+# What is changed: of a kernel, by its number, the bytes from an address on.
+Change = namedtuple("Change", "what kernel address old new")
+KERNELS, LIBRARY = [], []  # which the processes below have from this one
+MEMORY, SECONDS = 3 << 29, 200
 
 
-def assembled(text, library, folder):
-    """The bytes of instructions."""
-    cross = "aarch64-linux-gnu-" if library.machine == 183 else ""
-    source = (".arch_extension sha2\n" if cross else "") + text.replace("; ", "\n") + "\n"
-    done = subprocess.run([f"{cross}as", "-", "-o", f"{folder}/fault.o"], input=source, text=True,
-                          check=False, capture_output=True)
-    if done.returncode:
-        sys.exit(done.stderr)
-    subprocess.run([f"{cross}objcopy", "-O", "binary", "-j", ".text", f"{folder}/fault.o",
-                    f"{folder}/fault"], check=True)
-    with open(f"{folder}/fault", "rb") as file:
-        return file.read()
+def assembled(text):
+    """The bytes of instructions, or None where there are no such ones."""
+    with tempfile.TemporaryDirectory() as room:
+        done = subprocess.run(["as", "-", "-o", f"{room}/fault.o"], check=False, text=True,
+                              input=text.replace("; ", "\n") + "\n", capture_output=True)
+        if done.returncode:
+            return None
+        subprocess.run(["objcopy", "-O", "binary", "-j", ".text", f"{room}/fault.o",
+                        f"{room}/fault"], check=True)
+        with open(f"{room}/fault", "rb") as file:
+            return file.read()
+
+
+def change_of(library, line, new):
+    """The address and the bytes that replace an instruction's, or None."""
+    if new is TABLE:
+        displacement = int(re.search(r"(-?0x[0-9a-f]+)\(%rip\)", line.text)[1], 16)
+        there = line.at + len(line.raw) + displacement
+        return there, bytes([library.bytes_at(there, there + 1)[0] ^ 1])
+    code = assembled(new)
+    if code is None:
+        return None
+    room, at = len(line.raw), line.at
+    while room < len(code):  # the next instructions go too
+        following = library.lines.get(at + room)
+        if following is None:
+            return None
+        room += len(following.raw)
+    return at, code + b"\x90" * (room - len(code))
 
 
 def file_offset(library, address):
-    return next(it.offset + address - it.start for it in library.segments
-                if it.start <= address < it.start + it.size)
+    return library.file_offset(address)
 
 
-def planted(library, fault, folder):
-    """The library's bytes with a fault, and what was replaced."""
+def planted(library, fault, _):
+    """The library's bytes with a fault of mutate_calls.py, and the line that was replaced."""
     symbol = library.functions(re.escape(fault.function))[fault.build]
     library.read_lines(symbol)
     lines = [it for address, it in sorted(library.lines.items())
              if symbol.start <= address < symbol.start + symbol.size
              and re.fullmatch(fault.old, it.text)]
     line = lines[fault.which]
-    data = bytearray(library.data)
-    if fault.new is TABLE:
-        there = line.at + len(line.raw) + int(re.search(r"0x([0-9a-f]+)\(%rip", line.text)[1], 16)
-        data[file_offset(library, there)] ^= 1
-    else:
-        new = fault.new.replace("OPERANDS", re.sub(r"^\S+ (\$\w+,)?", "", line.text)
-                                if "$" in fault.new else line.text.partition(" ")[2])
-        at = file_offset(library, line.at)
-        code, room = assembled(new, library, folder), len(line.raw)
-        while len(code) > room:  # the next instruction goes too
-            room += len(library.lines[line.at + room].raw)
-        nop = b"\x1f\x20\x03\xd5" if library.machine == 183 else b"\x90"
-        data[at:at + room] = code + nop * ((room - len(code)) // len(nop))
-    return bytes(data), line
+    new = fault.new if fault.new is TABLE else fault.new.replace(
+        "OPERANDS", re.sub(r"^\S+ (\$\w+,)?", "", line.text) if "$" in fault.new else
+        line.text.partition(" ")[2])
+    address, code = change_of(library, line, new)
+    return changed_data(library, Change(fault.what, None, address, line.text, code)), line
 
 
-def refusal(path, kernel):
-    """Why the kernels of a name are refused in a library, or None: by a process of its own."""
-    read, write = os.pipe()
-    if (child := os.fork()) == 0:
-        os.close(read)
-        found = [it for it in kernels.of(Library(path)) if it.name.startswith(kernel)]
-        answer = "" if found else f"!no kernel {kernel}"
-        for it in found:
-            try:
-                it.check()
-            except Refused as why:
-                answer = str(why) or "?"
-            except Exception as why:  # a fault in the checker, which is no refusal
-                answer = f"!{type(why).__name__}: {why}"
-        os.write(write, answer.encode()[:4000])
-        os._exit(0)
-    os.close(write)
-    with os.fdopen(read) as file:
-        answer = file.read()
-    os.waitpid(child, 0)
-    return answer
+def chosen_changes(library, used, source):
+    """A change for each fault and kernel that has such an instruction among those that it runs."""
+    for fault in FAULTS:
+        for name in fault.kernels:
+            number = next((i for i, it in enumerate(KERNELS) if it.name.startswith(name)), None)
+            if number is None:
+                yield Change(f"{fault.what}: no kernel {name}", None, 0, "", b"")
+                continue
+            lines = [it for it in used[number] if re.fullmatch(fault.old, it.text)]
+            source.shuffle(lines)
+            for line in lines:
+                new = fault.new if fault.new is TABLE else \
+                    fault.new(re.fullmatch(fault.old, line.text))
+                found = change_of(library, line, new)
+                if found and found[1] != library.bytes_at(found[0], found[0] + len(found[1])):
+                    was = f"{line.at:x}: {line.text}"
+                    yield Change(fault.what, number, found[0], was, found[1])
+                    break
 
 
-def try_faults(library, folder):
-    missed = 0
-    for fault in ARM if library.machine == 183 else X86:
-        data, line = planted(library, fault, folder)
-        path = f"{folder}/faulty.so"
-        with open(path, "wb") as file:
-            file.write(data)
-        why = refusal(path, fault.kernel)
-        missed += not why or why[0] == "!"
-        print(f"{'found' if why and why[0] != '!' else 'MISSED'}: {fault.what} ({fault.kernel}; "
-              f"{line.at:x}: {line.text}): {why}", flush=True)
-    return missed
-
-
-def try_random(count, kernel, library, folder):
-    """Flips bits of the code of a kernel's own function."""
-    name = next(it.name for it in kernels.of(library) if it.name.startswith(kernel))
-    symbol = library.function_at(int(name.rstrip(")").rpartition(" ")[2], 16))
-    source, answers = random.Random(1), Counter()
-    path = f"{folder}/faulty.so"
-    library.read_lines(symbol)
-    for _ in range(count):
+def flipped(library, count, source):
+    """Random bits of the code of kernels that are checked in a second."""
+    own = [i for i, it in enumerate(KERNELS) if it.symbol and any(
+        it.name.startswith(name) for name in AHEAD + BY_INSTRUCTION)]
+    for i in range(count):
+        symbol = KERNELS[own[i % len(own)]].symbol
         address = symbol.start + source.randrange(symbol.size)
-        data = bytearray(library.data)
-        data[file_offset(library, address)] ^= 1 << source.randrange(8)
-        with open(path, "wb") as file:
-            file.write(data)
-        why = refusal(path, kernel)
-        answers["refused" if why and why[0] != "!" else "fault in the checker" if why else
-                "not refused"] += 1
-        if not why or why[0] == "!":
-            changed = Library(path)
-            changed.read_lines(symbol)
-            at = max(it for it in library.lines if it <= address)
-            new = changed.lines.get(at)
-            print(f"{at:x}: {library.lines[at].text} -> {new and new.text} {why}", flush=True)
-    print(f"{name}: {dict(answers)}")
+        bit = 1 << source.randrange(8)
+        new = bytes([library.bytes_at(address, address + 1)[0] ^ bit])
+        line = max((at for at in library.lines if at <= address), default=address)
+        yield Change(f"bit {bit:#x} at {address:x}", own[i % len(own)], address,
+                     f"{line:x}: {library.lines[line].text}", new)
+
+
+def changed_data(library, change):
+    data = bytearray(library.data)
+    offset = library.file_offset(change.address)
+    data[offset:offset + len(change.new)] = change.new
+    return bytes(data)
+
+
+def refusal(change):
+    """Why a kernel is refused with a change, or an empty text."""
+    resource.setrlimit(resource.RLIMIT_AS, (MEMORY, MEMORY))
+    signal.signal(signal.SIGALRM, lambda *_: (_ for _ in ()).throw(Refused("it takes too long")))
+    signal.alarm(SECONDS)
+    library = LIBRARY[0]
+    library.data, library.lines = changed_data(library, change), {}
+    try:
+        KERNELS[change.kernel].check()
+    except Refused as why:
+        return str(why) or "?"
+    except MemoryError:
+        return "too much memory"
+    except Exception as fault:  # what the checker doesn't foresee is a fault of it
+        return f"!{type(fault).__name__}: {fault}"
+    return ""
+
+
+def used_lines(number):
+    """The instructions that a kernel runs."""
+    _, used = KERNELS[number].check()
+    return [LIBRARY[0].lines[at] for at in sorted(used)]
+
+
+def try_changes(changes, jobs):
+    """Prints what became of each change; gives how many passed and failed."""
+    passed = failed = 0
+    with multiprocessing.get_context("fork").Pool(jobs, maxtasksperchild=1) as pool:
+        for change, why in zip(changes, pool.imap(refusal, changes, 1)):
+            name = KERNELS[change.kernel].name
+            if why and why[0] != "!":
+                passed += 1
+                print(f"refused: {change.what}, {change.old}, in {name}: {why}", flush=True)
+            elif not why and KERNELS[change.kernel].is_quick and native.computes_the_same(
+                    LIBRARY[0], changed_data(LIBRARY[0], change)):
+                passed += 1
+                print(f"equal: {change.what}, {change.old}, in {name}", flush=True)
+            else:
+                failed += 1
+                print(f"FAIL {change.what}, {change.old}, in {name}: {why or 'not refused'}",
+                      flush=True)
+    return passed, failed
+
+
+def try_all(library, flips, jobs):
+    """Plants all faults, and flips bits. Gives how many passed and failed."""
+    LIBRARY.append(library)
+    KERNELS.extend(kernels.of(library))
+    source = random.Random(1)
+    names = {name for fault in FAULTS for name in fault.kernels}
+    wanted = [i for i, it in enumerate(KERNELS) if any(it.name.startswith(of) for of in names)]
+    with multiprocessing.get_context("fork").Pool(jobs, maxtasksperchild=1) as pool:
+        used = dict(zip(wanted, pool.map(used_lines, wanted, 1)))
+    for lines in used.values():
+        library.lines.update((it.at, it) for it in lines)
+    changes = list(chosen_changes(library, used, source))
+    missing = [it for it in changes if it.kernel is None]
+    for it in missing:
+        print(f"FAIL {it.what}")
+    changes = [it for it in changes if it.kernel is not None]
+    print(f"{len(changes)} faults, {flips} bits")
+    passed, failed = try_changes(changes + list(flipped(library, flips, source)), jobs)
+    if len(changes) < 60:
+        print(f"FAIL only {len(changes)} faults could be planted")
+        failed += 1
+    return passed, failed + len(missing)
 
 
 def main():
-    if sys.argv[1] == "--random":
-        try_random(int(sys.argv[2]), sys.argv[3], Library(sys.argv[4]), sys.argv[5])
-        return
-    missed = try_faults(Library(sys.argv[1]), sys.argv[2])
-    print(f"{missed} faults were missed")
-    sys.exit(missed > 0)
+    parser = argparse.ArgumentParser(usage=__doc__.split("\n\n")[1].strip())
+    parser.add_argument("--jobs", type=int, default=min(4, len(os.sched_getaffinity(0))))
+    parser.add_argument("--flips", type=int, default=300)
+    parser.add_argument("library")
+    given = parser.parse_args()
+    passed, failed = try_all(Library(given.library), given.flips, given.jobs)
+    print(f"{passed} passed, {failed} failed")
+    return failed > 0
 
 
 if __name__ == "__main__":
-    main()
+    sys.exit(main())

@@ -18,7 +18,7 @@ import re
 import struct
 import subprocess
 import sys
-from collections import Counter
+from collections import Counter, namedtuple
 
 import terms
 import x86
@@ -113,13 +113,11 @@ def with_base(text):
     return None if re.search(r"%[er]?spl?\b", text) else text
 
 
-def chosen(path, has_sha):
+def chosen(lines, has_sha):
     """Triples: an instruction, what the assembler takes for it, and how many cases it is run from.
-    And what was left out."""
+    And how many kinds there are, and what was left out."""
     found, kinds, left = [], set(), Counter()
-    with open(path, encoding="ascii") as file:
-        lines = sorted(set(file.read().splitlines()), key=lambda it: it.split("\t")[::-1])
-    for raw, text in (it.split("\t") for it in lines):
+    for raw, text in sorted(lines, key=lambda it: it[::-1]):
         name = text.split()[0]
         changed = with_base(text)
         if name[0] == "j" or name in ("call", "ret", "push", "pop") or "nop" in text:
@@ -163,8 +161,8 @@ def number(width, source):
 
 
 def case(it, source):
-    """A random state: (base register's number or 16, its offset, registers, CF, ZF, vectors,
-    memory)."""
+    """A random state: (base register's number or 16, its offset, registers, two numbers whose
+    comparison gives the flags, vectors, memory)."""
     general = [number(64, source) for _ in range(16)]
     base, offset = 16, 0
     memory = next((of for of in it.operands if isinstance(of, x86.Memory)), None)
@@ -181,8 +179,22 @@ def case(it, source):
             vectors[i] = int.from_bytes(struct.pack("<8I", *(number(32, source)
                                                              for _ in range(8))), "little")
     # A shuffle by bytes and a comparison need numbers that aren't all different.
-    return (base, offset, general, source.getrandbits(1), source.getrandbits(1), vectors,
-            source.randbytes(SCRATCH))
+    a = number(64, source)
+    b = a if source.random() < 0.3 else number(64, source)
+    return base, offset, general, a, b, vectors, source.randbytes(SCRATCH)
+
+
+def flags_after(a, b):
+    """CF, ZF, SF and OF after a comparison: a - b."""
+    result = (a - b) % (1 << 64)
+    overflow = ((a ^ b) & (a ^ result)) >> 63
+    return int(a < b), int(a == b), result >> 63, overflow
+
+
+def flags_word(a, b):
+    """The register of flags after a comparison."""
+    cf, zf, sf, overflow = flags_after(a, b)
+    return 0x202 | cf | zf << 6 | sf << 7 | overflow << 11
 
 
 class OneInstruction:
@@ -199,7 +211,7 @@ class OneInstruction:
 
 
 def expected(it, of):
-    base, offset, general, cf, zf, vectors, memory = of
+    base, offset, general, a, b, vectors, memory = of
     state = State(OneInstruction(it), "rsp", 128)
     scratch = Region("scratch", 0, SCRATCH, True, 64)
     for i, byte in enumerate(memory):
@@ -211,7 +223,9 @@ def expected(it, of):
         state.registers[x86.LONG[base]] = at("scratch", offset)
     for i, value in enumerate(vectors):
         state.vectors[i] = terms.constant(value, 256)
-    state.flags = x86.Flags(terms.constant(1 - zf, 8), cf)
+    cf, _, _, overflow = flags_after(a, b)
+    pair = terms.constant(a, 64), terms.constant(b, 64)
+    state.flags = x86.Flags(terms.subtract(*pair), cf, pair, overflow)
     state.pc = 0
     x86.execute(state, it)
     return state
@@ -246,16 +260,19 @@ def differences(it, state, start, after):
             yield f"memory {i}"
 
 
-def main():
-    path, folder, *run = sys.argv[1:]
+Compared = namedtuple("Compared", "names kinds instructions cases failed refused left")
+
+
+def compare(lines, folder, run=()):
+    """Runs instructions, pairs of their bytes and texts, by both."""
     with open("/proc/cpuinfo", encoding="ascii") as file:
-        instructions, kinds, left = chosen(path, run or "sha_ni" in file.read())
+        instructions, kinds, left = chosen(lines, run or "sha_ni" in file.read())
     build(instructions, folder)
     source = random.Random(1)
     cases = [(i, case(it[0], source)) for i, it in enumerate(instructions) for _ in range(it[2])]
     data = b"".join(
         struct.pack("<IIq", i, of[0], of[1]) + struct.pack("<16Q", *of[2])
-        + struct.pack("<QQQQ", 0x202 | of[3] | of[4] << 6, 0, 0, 0)
+        + struct.pack("<QQQQ", flags_word(of[3], of[4]), 0, 0, 0)
         + b"".join(it.to_bytes(32, "little") for it in of[5]) + of[6] for i, of in cases)
     done = subprocess.run([*run, f"{folder}/instructions"], input=data,
                           capture_output=True, check=True).stdout
@@ -268,19 +285,35 @@ def main():
         try:
             state = expected(it, of)
         except Refused as why:
-            refused[str(why)] += 1
+            refused[it.name, str(why)] += 1
             continue
         for what in differences(it, state, start, after[8:]):
             failed[it.text, what] += 1
-    for (text, what), count in failed.items():
+    ran = Counter(instructions[i][0].name for i, _ in cases)
+    ran.subtract(dict_of(refused))
+    return Compared({name for name, count in ran.items() if count > 0}, kinds, len(instructions),
+                    len(cases) - sum(refused.values()), failed, refused, left)
+
+
+def dict_of(refused):
+    """How many cases were refused, by the instruction's name."""
+    found = Counter()
+    for (name, _), count in refused.items():
+        found[name] += count
+    return found
+
+
+def main():
+    path, folder, *run = sys.argv[1:]
+    with open(path, encoding="ascii") as file:
+        found = compare({tuple(it.split("\t")) for it in file.read().splitlines()}, folder, run)
+    for (text, what), count in found.failed.items():
         print(f"{text}: {what} differs in {count} cases")
-    for why, count in refused.items():
+    for (_, why), count in found.refused.items():
         print(f"not run: {why} ({count})")
-    names = {it[0].name for it in instructions}
-    print(f"{len(names)} names, {kinds} kinds, {len(instructions)} instructions, "
-          f"{len(cases) - sum(refused.values())} cases, {len(failed)} failures; "
-          f"left out: {dict(left)}")
-    sys.exit(bool(failed))
+    print(f"{len(found.names)} names, {found.kinds} kinds, {found.instructions} instructions, "
+          f"{found.cases} cases, {len(found.failed)} failures; left out: {dict(found.left)}")
+    sys.exit(bool(found.failed))
 
 
 if __name__ == "__main__":

@@ -19,6 +19,14 @@ static WITH_SECRET: AtomicUsize = AtomicUsize::new(0);
 // One test at a time.
 static TURN: Mutex<()> = Mutex::new(());
 
+// The secret is found by any of its parts of so many bytes.
+const PART: usize = 8;
+
+fn has_part(bytes: &[u8]) -> bool {
+    let mut parts = bytes.windows(PART);
+    parts.any(|it| SECRET.windows(PART).any(|part| part == it))
+}
+
 struct Watching;
 
 // SAFETY: each call is the system's.
@@ -32,7 +40,7 @@ unsafe impl GlobalAlloc for Watching {
         if block as usize == WATCHED.load(SeqCst) {
             SEEN.lock().unwrap()[..bytes.len()].copy_from_slice(bytes);
         }
-        if IS_ARMED.load(SeqCst) && bytes.windows(SECRET.len()).any(|it| it == SECRET) {
+        if IS_ARMED.load(SeqCst) && has_part(bytes) {
             WITH_SECRET.fetch_add(1, SeqCst);
         }
         System.dealloc(block, layout)

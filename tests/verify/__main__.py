@@ -1,0 +1,70 @@
+#!/usr/bin/env python3
+# SPDX-License-Identifier: ISC
+"""Tries the checker of the library's machine code (docs/VERIFY.md), and the library by it.
+
+    python3 tests/verify [--anew] [WORD..]     all tests, or those with one of these words
+
+The definition stands beside hashlib, the vectors and the tables of crates/; the reader of
+instructions beside objdump; their meanings beside the processor; the terms beside Python's numbers.
+Then the library is checked, and so are copies with faults, which the check must refuse. The library
+is built by make first. What takes minutes isn't tried again where neither the library nor the
+checker has changed since it passed, for the user of this machine: --anew tries all. The last line
+is 'N passed, M failed', or 'N passed, M failed, K skipped'.
+"""
+
+import hashlib
+import os
+import pathlib
+import subprocess
+import sys
+import unittest
+
+sys.dont_write_bytecode = True
+ROOT = pathlib.Path(__file__).resolve().parent.parent.parent
+sys.path += [str(ROOT / "tests/lib"), str(ROOT / "verify")]
+import counted
+import definition
+import machine_code
+import refused
+import shipped
+
+KEPT = pathlib.Path(os.environ.get("XDG_CACHE_HOME") or "~/.cache").expanduser() / "yezdopin"
+
+
+def digest():
+    """The sum of all that a verdict depends on: the library, the checker, its tests, the
+    processor."""
+    found = hashlib.sha256(machine_code.LIBRARY.read_bytes())
+    for folder in (ROOT / "verify", ROOT / "tests/verify"):
+        for path in sorted(folder.iterdir()):
+            if path.is_file():
+                found.update(path.name.encode() + b"\0" + path.read_bytes())
+    found.update(pathlib.Path("/proc/cpuinfo").read_bytes().partition(b"\n\n")[0][-600:])
+    return found.hexdigest()
+
+
+def main():
+    words = sys.argv[1:]
+    is_anew = "--anew" in words
+    names = [it for it in words if it != "--anew"]
+    made = subprocess.run(["make", "-C", ROOT], stdin=subprocess.DEVNULL,
+                          stdout=subprocess.DEVNULL, check=False)
+    if made.returncode:
+        print("the library could not be built\n0 passed, 1 failed")
+        return 1
+    kept = KEPT / f"verify-{digest()}"
+    if kept.exists() and not is_anew and not names:
+        print(kept.read_text(), end="")
+        return 0
+    cases = (*definition.CASES, *machine_code.CASES, *refused.CASES, *shipped.CASES)
+    counts = counted.run(counted.suite(cases, names), sys.stdout).counts()
+    status = counted.report(*counts)
+    if not status and not names and not counts[2]:
+        KEPT.mkdir(parents=True, exist_ok=True)
+        kept.write_text("neither the library nor the checker has changed since all tests passed\n"
+                        f"{counts[0]} passed, 0 failed\n")
+    return status
+
+
+if __name__ == "__main__":
+    sys.exit(main())

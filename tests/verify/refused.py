@@ -1,0 +1,85 @@
+# SPDX-License-Identifier: ISC
+"""What the check has to refuse: wrong arguments and files, and faults in the machine code."""
+
+import pathlib
+import re
+import shutil
+import subprocess
+import sys
+import tempfile
+import unittest
+
+from machine_code import LIBRARY, ROOT
+
+
+def check(*words):
+    """How a check ends: its status, its output, its messages."""
+    done = subprocess.run([ROOT / "verify/check", *words], capture_output=True, text=True,
+                          check=False)
+    return done.returncode, done.stdout, done.stderr
+
+
+class Arguments(unittest.TestCase):
+    def test_words(self):
+        """Wrong arguments are refused with status 2 and how to call it."""
+        for words in ((), ("--jobs", "0", LIBRARY), ("--other", LIBRARY), (LIBRARY, LIBRARY)):
+            status, output, messages = check(*words)
+            self.assertEqual((status, output), (2, ""))
+            self.assertIn("usage: verify/check", messages)
+
+    def test_files(self):
+        """A file that is no such library is refused with status 2 and the reason."""
+        with tempfile.TemporaryDirectory() as room:
+            cut, text = pathlib.Path(room, "cut"), pathlib.Path(room, "text")
+            cut.write_bytes(LIBRARY.read_bytes()[:5000])
+            text.write_text("no library\n")
+            for path in (cut, text, pathlib.Path(room), pathlib.Path(room, "none"), "/bin/sh",
+                         sys.executable):
+                status, output, messages = check(path)
+                self.assertEqual((status, output), (2, ""), path)
+                self.assertRegex(messages, r"^verify/check: \S+: \w.*\n$")
+
+    @unittest.skipUnless(shutil.which("strip"), "strip")
+    def test_stripped(self):
+        """A stripped library is refused, and the message says so."""
+        with tempfile.TemporaryDirectory() as room:
+            subprocess.run(["strip", "-o", f"{room}/stripped.so", LIBRARY], check=True)
+            status, _, messages = check(f"{room}/stripped.so")
+            self.assertEqual(status, 2)
+            self.assertIn("stripped", messages)
+
+    def test_other_line(self):
+        """--only with a text that no line has is refused, rather than nothing shown."""
+        status, output, messages = check("--only", "SHA-3", LIBRARY)
+        self.assertEqual((status, output), (2, ""))
+        self.assertIn("no line has 'SHA-3'", messages)
+
+
+class Faults(unittest.TestCase):
+    def test_one(self):
+        """A flipped bit of a block function's constants is refused with status 1 and the word."""
+        data = LIBRARY.read_bytes()
+        # Of the seventeenth round: run_ahead's callers add the first sixteen.
+        K = (0xe49b69c19ef14ad2).to_bytes(8, "little")
+        self.assertIn(K, data)
+        with tempfile.TemporaryDirectory() as room:
+            path = pathlib.Path(room, "faulty.so")
+            path.write_bytes(data.replace(K, bytes([K[0] ^ 1]) + K[1:]))
+            status, output, _ = check("--only", "SHA-512 v3 (run_ahead", path)
+            self.assertEqual(status, 1)
+            self.assertRegex(output, r"REFUSED SHA-512 v3 .*: chaining word \d is not the "
+                                     r"standard's, .*; last written at [0-9a-f]+: \S+ \S+")
+            self.assertEqual(output.splitlines()[-1], "0 functions shown, 1 refused")
+
+    @unittest.skipUnless(shutil.which("gcc"), "gcc")
+    def test_planted(self):
+        """Each of 60 planted faults and 300 flipped bits is refused, or computes the same."""
+        done = subprocess.run([sys.executable, ROOT / "verify/mutations.py", LIBRARY],
+                              capture_output=True, text=True, check=False)
+        failed = [it for it in done.stdout.splitlines() if it.startswith("FAIL")]
+        self.assertEqual((done.returncode, failed), (0, []), done.stderr)
+        passed = int(re.match(r"(\d+) passed, 0 failed$", done.stdout.splitlines()[-1])[1])
+        self.assertGreaterEqual(passed, 360)
+
+
+CASES = (Arguments, Faults)

@@ -1,0 +1,89 @@
+# SPDX-License-Identifier: ISC
+"""What is shipped has the code that was checked."""
+
+import pathlib
+import re
+import shutil
+import subprocess
+import sys
+import sysconfig
+import tempfile
+import unittest
+import zipfile
+
+from machine_code import LIBRARY, ROOT
+
+SAME_CODE = ROOT / "verify/same_code.py"
+HEADER = pathlib.Path(sysconfig.get_paths()["include"], "Python.h")
+
+
+def same(*paths):
+    """How a comparison with the library ends: its status and its output."""
+    done = subprocess.run([sys.executable, SAME_CODE, LIBRARY, *paths], capture_output=True,
+                          text=True, check=False)
+    return done.returncode, done.stdout + done.stderr
+
+
+class Shipped(unittest.TestCase):
+    @unittest.skipUnless(shutil.which("gcc"), "gcc")
+    def test_archive(self):
+        """The archive has it, once linked."""
+        with tempfile.TemporaryDirectory() as room:
+            path = f"{room}/archive.so"
+            subprocess.run(["gcc", "-shared", "-Wl,--whole-archive", ROOT / "out/libyezdopin.a",
+                            "-Wl,--no-whole-archive", "-o", path], check=True)
+            self.assertEqual(*self.ended(path))
+
+    @unittest.skipUnless(shutil.which("dpkg-deb"), "dpkg-deb")
+    @unittest.skipUnless(HEADER.exists(), "Python.h")
+    def test_packages(self):
+        """The library of Debian's package, the wheel's and the archive of Rust's crate have it."""
+        with tempfile.TemporaryDirectory() as room:
+            # The crate has an archive for ARM too: here any file stands in its place.
+            made = subprocess.run(
+                ["make", "-C", ROOT, f"OUT={room}/out", "dist",
+                 f"ARM_ARCHIVE={ROOT}/out/libyezdopin.a",
+                 "PACKAGES=deb-libyezdopin0 wheel" + " crate" * bool(shutil.which("cargo"))],
+                stdin=subprocess.DEVNULL, capture_output=True, text=True, check=False)
+            self.assertEqual(made.returncode, 0, made.stderr[-2000:])
+            folder = pathlib.Path(room, "out/dist")
+            deb, = folder.glob("libyezdopin0_*.deb")
+            wheel, = folder.glob("*.whl")
+            subprocess.run(["dpkg-deb", "-x", deb, f"{room}/deb"], check=True)
+            zipfile.ZipFile(wheel).extractall(f"{room}/wheel")
+            found = [it for at in ("deb", "wheel") for it in pathlib.Path(room, at).rglob("*.so*")
+                     if it.is_file() and not it.is_symlink()]
+            self.assertEqual(len(found), 2)
+            self.assertEqual(*self.ended(*found))
+            if shutil.which("cargo"):
+                self.compare_crate(folder, room)
+
+    def compare_crate(self, folder, room):
+        crate, = folder.glob("yezdopin-[0-9]*.crate")
+        shutil.unpack_archive(crate, f"{room}/crate", "gztar")
+        archives = [it for it in pathlib.Path(room, "crate").rglob("libyezdopin*.a")
+                    if "x86_64" in str(it) and "linux" in str(it)]
+        self.assertEqual([it.read_bytes() for it in archives],
+                         [(ROOT / "out/libyezdopin.a").read_bytes()])
+
+    def ended(self, *paths):
+        status, output = same(*paths)
+        return (status, len(paths)), (0, output.count("has the code of"))
+
+    def test_other(self):
+        """Copies with another bit of code, and of a constant, are refused."""
+        data = LIBRARY.read_bytes()
+        shuffle = bytes([3, 2, 1, 0, 7, 6, 5, 4, 11, 10, 9, 8, 15, 14, 13, 12])
+        rounds = re.search(rb"\x0f\x38\xcb[\xc0-\xff]", data).start() + 3  # sha256rnds2
+        self.assertIn(shuffle, data)
+        with tempfile.TemporaryDirectory() as room:
+            code, constant = pathlib.Path(room, "code.so"), pathlib.Path(room, "constant.so")
+            code.write_bytes(data[:rounds] + bytes([data[rounds] ^ 1]) + data[rounds + 1:])
+            constant.write_bytes(data.replace(shuffle, shuffle[::-1]))
+            status, output = same(code, constant)
+            self.assertEqual(status, 1)
+            self.assertIn("its code isn't there", output)
+            self.assertIn("another constant", output)
+
+
+CASES = (Shipped,)

@@ -1,6 +1,6 @@
 #!/usr/bin/env python3
 # SPDX-License-Identifier: ISC
-"""Tries the checker of the library's whole calls, and the library by it (docs/VERIFY.md).
+"""Tries the checker of the library's whole calls, and the library by it (docs/VERIFY_CALLS.md).
 
     tests/verify_calls.py [--anew] [WORD..]     all tests, or those with one of these words
 

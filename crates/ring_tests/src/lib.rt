@@ -15,6 +15,8 @@ mod hmac;
 #[cfg(test)]
 mod kernels;
 #[cfg(test)]
+mod lanes;
+#[cfg(test)]
 mod laws;
 #[cfg(test)]
 mod long_lengths;

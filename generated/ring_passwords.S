@@ -1,7 +1,7 @@
 /*
  * SPDX-License-Identifier: ISC AND MIT
  *
- * Written by `programs/texts renew` from the proved program ring_passwords: do not edit.
+ * Written by `generated/make/programs renew` from the proved program ring_passwords: do not edit.
  * Kit: rattle-kit-13f logic dac8208d650f15bf
  */
 

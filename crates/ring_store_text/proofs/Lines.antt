@@ -106,10 +106,10 @@ read_none none are = record {
   found = λ q. grind (arith, table.gets, ap (λ m. table.get m q) none);
 }
 
-pub read_more : {records after : table.FinMap order Record} {lines rest behind : List ℕ}
+pub read_more : {records : table.FinMap order Record} {lines rest behind : List ℕ}
     → IsReadInto records lines rest → (e : List ℕ × Record) → rest ≡ record_then e behind
-    → IsEntry e → after ≡ table.insert records e.0 e.1 → IsReadInto after lines behind
-read_more {records} read e line is put =
+    → IsEntry e → IsReadInto (table.insert records e.0 e.1) lines behind
+read_more {records} read e line is =
     let first = first_line read.left e line is in
     record {
       last = e.0;
@@ -119,7 +119,6 @@ read_more {records} read e line is put =
         arith,
         read.found q,
         ap (table.find order q) first.is,
-        ap (λ m. table.get m q) put,
         table.gets,
         find_below q first.left.records,
         tells_apart exact_bytes q e.0,

@@ -26,10 +26,10 @@ loop-rest-preserved g c =
     let put = c.in-Ok.ensures.ok in
     let before = c.loop-rest.invariant in
     record {
-      salt = ap (λ s. s.db_salt) put ∙ before.salt;
-      iterations = ap (λ s. s.iterations) put ∙ before.iterations;
-      read = read_more before.read (c.in-Some.name.now, c.in-Some.kept) line.0 line.1
-          (ap (λ s. s.records) put);
+      salt = rw put before.salt;
+      iterations = rw put before.iterations;
+      read = rw put
+          (read_more before.read (c.in-Some.name.now, c.in-Some.kept) line.0 line.1);
     }
 
 pub returns-clause-records : goal.returns-clause-records

@@ -18,9 +18,12 @@ from elf import Library
 ROOT = pathlib.Path(__file__).resolve().parent.parent
 PAGE = ROOT / "docs/VERIFY.md"
 BEGIN, END = "<!-- {}: made by verify/page.py -->\n", "<!-- /{} -->"
-# What a verdict on a kernel rests on, and what finds the kernels.
+# What a verdict on a kernel rests on, and what finds the kernels. A verdict on a whole call rests on
+# these and on further ones.
 TRUSTED = ["fips180_4.py", "kernels.py", "loops.py", "machine.py", "terms.py", "x86.py",
            "decode_x86.py", "elf.py", "identify.py", "check"]
+OF_CALLS = ["standards.py", "lengths.py", "summaries.py", "calls.py", "functions.py", "cases.py",
+            "check_calls"]
 COLUMNS = ["x86-64-v2", "with SHA instructions", "x86-64-v3"]
 
 
@@ -44,10 +47,15 @@ def functions(library):
 
 
 def lines(_):
-    """The files of the checker, with their lines."""
-    counts = {it: (ROOT / "verify" / it).read_text().count("\n") for it in TRUSTED}
-    rows = [f"|`{name}`|{count}|" for name, count in counts.items()]
-    return "\n".join(["|File|Lines|", "|-|-|", *rows, f"|all|{sum(counts.values())}|"]) + "\n"
+    """The files of the checker, with their lines: those of kernels, and the further ones of whole
+    calls."""
+    rows, total = ["|File|Lines|", "|-|-|"], 0
+    for of, files in (("kernels", TRUSTED), ("whole calls", OF_CALLS)):
+        counts = {it: (ROOT / "verify" / it).read_text().count("\n") for it in files}
+        total += sum(counts.values())
+        rows += [f"|`{name}`|{count}|" for name, count in counts.items()]
+        rows.append(f"|all for {of}|{total}|")
+    return "\n".join(rows) + "\n"
 
 
 def with_tables(text, library):

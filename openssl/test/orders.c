@@ -163,6 +163,26 @@ static void derivations(OSSL_LIB_CTX *context)
     CHECK(new_kdf(context, "SCRYPT") == NULL);
 }
 
+/* A copy keeps the lower bounds that `pkcs5` at 0 asks for, and derives the same key. */
+static void copied_bounds(OSSL_LIB_CTX *context)
+{
+    int no = 0;
+    uint64_t thousand = 1000;
+    unsigned char out[14], again[14];
+    const OSSL_PARAM bounded[] = {OSSL_PARAM_construct_int("pkcs5", &no),
+                                  OSSL_PARAM_construct_uint64("iter", &thousand),
+                                  octets("pass", "p", 1), octets("salt", "sixteen bytes ..", 16),
+                                  OSSL_PARAM_construct_end()};
+    EVP_KDF_CTX *it = new_kdf(context, "PBKDF2"), *copy;
+    CHECK(EVP_KDF_CTX_set_params(it, bounded) == 1);
+    copy = EVP_KDF_CTX_dup(it);
+    REFUSES(EVP_KDF_derive(copy, out, 13, none), "key size too small");
+    CHECK(EVP_KDF_derive(copy, out, 14, none) == 1 && EVP_KDF_derive(it, again, 14, none) == 1);
+    CHECK(memcmp(out, again, 14) == 0);
+    EVP_KDF_CTX_free(copy);
+    EVP_KDF_CTX_free(it);
+}
+
 /* Whether one of a list of parameters has the name and the type of another. */
 static int is_listed(const OSSL_PARAM *it, const OSSL_PARAM *list)
 {
@@ -298,6 +318,7 @@ static void run(const char *modules, int has_default, int is_default_first, int 
     tag_under_other_digests(it, has_default);
     EVP_MAC_CTX_free(it);
     derivations(context);
+    copied_bounds(context);
     if (!has_default) handed_on(context);
     if (has_default) {
         info_in_pieces(context);

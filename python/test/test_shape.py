@@ -169,6 +169,7 @@ class Arguments(unittest.TestCase):
         self.is_refused(1, yezdopin.hkdf, "sha512_256", b"", b"", b"", 4)
         self.is_refused(1, yezdopin.hkdf_expand_label, "sha512_256", b"", b"x", b"", 4)
         self.is_refused(1, yezdopin.pbkdf2_hmac, "sha512_256", b"", b"", 1)
+        self.is_refused(1, yezdopin.pbkdf2_hmac_verify, "sha512_256", b"", b"", 1, b"1234")
         self.is_refused(3, yezdopin.pbkdf2_hmac, "sha256", b"", b"", 0, 4)
         self.is_refused(3, yezdopin.pbkdf2_hmac_verify, "sha256", b"", b"", 0, b"1234")
         for name in SIGNING:

@@ -11,11 +11,13 @@ the checker has changed since all passed, for the user of this machine: --anew t
 line is 'N passed, M failed'.
 """
 
+import collections
 import hashlib
 import multiprocessing
 import os
 import pathlib
 import random
+import re
 import subprocess
 import sys
 import tempfile
@@ -136,6 +138,16 @@ class Calls(unittest.TestCase):
                               stdout=subprocess.PIPE, text=True)
         self.assertRegex(done.stdout, r"\n\d{3,} calls shown, 0 refused\n$")
         self.assertEqual(done.returncode, 0)
+        counts = collections.Counter()
+        for group, count in re.findall(r"^(\w+) \w+: (\d+) calls, ", done.stdout, re.M):
+            counts[group] += int(count)
+        self.assertEqual(counts, on_page(), "the table of docs/VERIFY_CALLS.md is another")
+
+
+def on_page():
+    """How many calls of each group the page says that the quick lengths have."""
+    text = (ROOT / "docs/VERIFY_CALLS.md").read_text()
+    return {group: int(count) for group, count in re.findall(r"^\|`(\w+)`\|(\d+)\|", text, re.M)}
 
 
 class Faults(unittest.TestCase):

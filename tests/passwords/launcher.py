@@ -44,7 +44,7 @@ class Launcher(Case):
     def test_it_tells_that_it_cannot_build(self):
         """A launcher that can't build the program ends with status 3, and says why."""
         room = self.new_path()
-        for name in ("tools", "crates/ring_passwords", "kit"):
+        for name in ("programs", "generated/make", "crates/ring_passwords", "kit"):
             (room / name).mkdir(parents=True)
         (room / "crates.txt").write_text("ring_passwords:\n")
         for name in ("passwords", "programs/built", "generated/make/progress.py"):

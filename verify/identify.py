@@ -78,20 +78,37 @@ def ahead(cpu, library, symbol, kernels):
             yield kernel
 
 
-def block_of_words(cpu, library, symbol, kernels):
+def in_lanes(cpu, library, symbol, kernels, argument, message_of):
+    """Of functions of states in lanes and an argument: `message_of(kernel, lane)` gives the words
+    of the block that a lane runs over."""
     start = cpu.start_state(library, symbol)
-    add_regions(start, cpu, ["states", "fronts", "meter"])
+    add_regions(start, cpu, ["states", argument, "meter"])
     after = content_after(start, "states")
     for kernel in kernels:
-        function, lanes, front = kernel
+        function, lanes = kernel[:2]
         size, numbers = function.width // 8, fips180_4.Numbers(function.width)
         found = [fips180_4.next_state(
             function, numbers, words_in(bytes_of("states"), size, function.words, lanes, i),
-            words_in(bytes_of("fronts"), size, front, lanes, i) + padding_numbers(function, front))
-            for i in range(lanes)]
+            message_of(kernel, i)) for i in range(lanes)]
         if after and found == [words_in(after, size, function.words, lanes, i)
                                for i in range(lanes)]:
             yield kernel
+
+
+def block_of_words(cpu, library, symbol, kernels):
+    def message_of(kernel, lane):
+        function, lanes, front = kernel
+        words = words_in(bytes_of("fronts"), function.width // 8, front, lanes, lane)
+        return words + padding_numbers(function, front)
+    return in_lanes(cpu, library, symbol, kernels, "fronts", message_of)
+
+
+def blocks_in_lanes(cpu, library, symbol, kernels):
+    def message_of(kernel, lane):
+        size = kernel.function.width // 8
+        block = bytes_of("blocks")[16 * size * lane:16 * size * (lane + 1)]
+        return [int.from_bytes(block[i:i + size], "big") for i in range(0, 16 * size, size)]
+    return in_lanes(cpu, library, symbol, kernels, "blocks", message_of)
 
 
 def xor_iterates(cpu, library, symbol, kernels):

@@ -190,42 +190,64 @@ def output_after(cpu, library, symbol, function, instructions):
     return steps, start.program.used
 
 
-def block_of_words(cpu, library, symbol, function, lanes, front):
-    """block_of_words(states, fronts, meter): the block function in each lane, over the first
-    `front` words of the lane in `fronts` and then the padding of a message of a block and these
-    words. (The source takes the padding as an argument; this is the only one, and the compiler has
-    put it into the function.)"""
+def put_lane(region, size, lanes, lane, words):
+    for j, word in enumerate(words):
+        put_word(region, size * (lanes * j + lane), word)
+
+
+def in_each_lane(cpu, library, symbol, function, lanes, argument, message_of):
+    """What block_of_words and blocks_in_lanes show of a function of states in lanes, an argument,
+    which is a region, and a meter: the block function in each lane, over the sixteen words that
+    `message_of(lane)` gives."""
     size = function.width // 8
     start = cpu.start_state(library, symbol)
-    whole = 8 * size * lanes
-    regions = [Region("states", 0, whole, True, size), Region("fronts", 0, whole, modulus=size),
-               Region("meter", 0, 16, True, 8)]
-    for register, region in zip(cpu.ARGUMENTS, regions):
+    states = Region("states", 0, 8 * size * lanes, True, size)
+    chaining = [fresh_words(f"h{i}.", function, function.words) for i in range(lanes)]
+    for i, words in enumerate(chaining):
+        put_lane(states, size, lanes, i, words)
+    for register, region in zip(cpu.ARGUMENTS, (states, argument, Region("meter", 0, 16, True, 8))):
         start.add_region(region)
         start.registers[register] = at(region.name)
-    states = [fresh_words(f"h{i}.", function, function.words) for i in range(lanes)]
-    fronts = [fresh_words(f"m{i}.", function, front) for i in range(lanes)]
-    padding = padding_of(function, front)
-    symbols = fips180_4.Symbols(function.width)
-    for i in range(lanes):
-        for name, words in (("states", states[i]), ("fronts", fronts[i])):
-            for j, word in enumerate(words):
-                put_word(start.regions[name], size * (lanes * j + i), word)
     before = start.copy()
     ends, steps = run(start)
     if len(ends) != 1:
         raise Refused(f"{symbol.name}: returns in {len(ends)} ways")
     end, = ends
     cpu.check_return(end, before)
-    for i in range(lanes):
-        after = fips180_4.next_state(function, symbols, states[i], fronts[i] + padding)
-        for j, word in enumerate(after):
+    symbols = fips180_4.Symbols(function.width)
+    for i, words in enumerate(chaining):
+        for j, word in enumerate(fips180_4.next_state(function, symbols, words, message_of(i))):
             offset = size * (lanes * j + i)
             if word_at(end.regions["states"], offset, size) != word:
                 refuse_word(end, "states", offset, f"chaining word {j} of lane {i}")
     same_but(end.regions["states"], before.regions["states"],
              range(function.words * size * lanes))
     return steps, end.program.used
+
+
+def block_of_words(cpu, library, symbol, function, lanes, front):
+    """block_of_words(states, fronts, meter): the block function in each lane, over the first
+    `front` words of the lane in `fronts` and then the padding of a message of a block and these
+    words. (The source takes the padding as an argument; this is the only one, and the compiler has
+    put it into the function.)"""
+    size = function.width // 8
+    fronts = Region("fronts", 0, 8 * size * lanes, modulus=size)
+    words = [fresh_words(f"m{i}.", function, front) for i in range(lanes)]
+    for i in range(lanes):
+        put_lane(fronts, size, lanes, i, words[i])
+    padding = padding_of(function, front)
+    return in_each_lane(cpu, library, symbol, function, lanes, fronts,
+                        lambda lane: words[lane] + padding)
+
+
+def blocks_in_lanes(cpu, library, symbol, function, lanes):
+    """RunBlocks::run_blocks(states, blocks, meter): the block function in each lane, over the block
+    of bytes at the lane's place. (The source takes how many blocks there are, which are as many as
+    lanes; the compiler has dropped it.)"""
+    size = function.width // 8
+    blocks = Region("blocks", 0, 16 * size * lanes)
+    return in_each_lane(cpu, library, symbol, function, lanes, blocks,
+                        lambda lane: big_endian_words(blocks, size, 16 * size * lane))
 
 
 def padding_of(function, front):
@@ -325,6 +347,7 @@ def xor_iterates(cpu, library, symbol, function, lanes, front, instructions=Fals
 Kernel = namedtuple("Kernel", "name symbol check is_quick what build")
 Ahead = namedtuple("Ahead", "function")
 InLanes = namedtuple("InLanes", "function lanes front")  # `front` words of a block are no padding
+Blocks = namedtuple("Blocks", "function lanes")  # a block of bytes in each lane
 SHA1, SHA256, SHA512 = fips180_4.FUNCTIONS.values()
 NUMBER = r"(\.[0-9a-f]{16})?"  # the kit's, of the types
 SHA1_MODULES, SHA2_MODULES = (rf"ring_core\.digest\.{it}\.(\w+\.)*" for it in ("sha1", "sha2"))
@@ -332,6 +355,10 @@ ITERATED = [InLanes(SHA1, 1, 5), InLanes(SHA256, 1, 8), InLanes(SHA512, 1, 8),
             InLanes(SHA512, 1, 6), InLanes(SHA512, 1, 4)]
 WIDE = [InLanes(SHA1, 4, 5), InLanes(SHA1, 8, 5), InLanes(SHA256, 4, 8), InLanes(SHA256, 8, 8),
         InLanes(SHA512, 4, 8), InLanes(SHA512, 4, 6), InLanes(SHA512, 4, 4)]
+# By the names of the types that have the functions.
+OVER_BLOCKS = {"Sha1RunBlocks64": [Blocks(SHA1, 4), Blocks(SHA1, 8)],
+               "Sha256RunBlocks64": [Blocks(SHA256, 4), Blocks(SHA256, 8)],
+               "RunBlocks128": [Blocks(SHA512, 4)]}
 KINDS = [  # each with the check of its contract
     (Kind(SHA1_MODULES + "run_ahead" + NUMBER, [Ahead(SHA1)], identify.ahead), run_ahead),
     (Kind(SHA2_MODULES + "run_ahead" + NUMBER, [Ahead(SHA256), Ahead(SHA512)], identify.ahead),
@@ -345,6 +372,8 @@ KINDS = [  # each with the check of its contract
             [it for it in WIDE if (it.function is SHA1) == (modules is SHA1_MODULES)],
             identify.block_of_words), block_of_words)
       for modules in (SHA1_MODULES, SHA2_MODULES)),
+    *((Kind(rf"ring\.digest\.lanes\.(\w+\.)*InVector{name}\.run_blocks" + NUMBER, of,
+            identify.blocks_in_lanes), blocks_in_lanes) for name, of in OVER_BLOCKS.items()),
     (Kind(r"ring\.pbkdf2\.(\w+\.)*xor_iterates" + NUMBER, ITERATED + WIDE,
           identify.xor_iterates), xor_iterates)]
 
@@ -421,6 +450,10 @@ def cases(row, has_instructions):
         return
     if row.check is run_ahead:
         yield row.arguments.function.name, row.arguments
+        return
+    if row.check is blocks_in_lanes:
+        function, lanes = row.arguments
+        yield f"{function.name} in {lanes} lanes over blocks", row.arguments
         return
     function, lanes, front = row.arguments
     how = f" in {lanes} lanes" if lanes > 1 else ""

@@ -39,8 +39,11 @@ MESSAGE = ["SHA-1 over a message v2", "SHA-256 over a message v3", "SHA-512 over
 BY_INSTRUCTION = ["SHA-1 by instructions of 5", "SHA-256 by instructions of 8"]
 LANES = ["SHA-1 in 4 lanes of 5 words v3 (sha1", "SHA-256 in 4 lanes of 8 words v2 (block",
          "SHA-256 in 8 lanes of 8 words v3 (block"]
+BLOCKS = ["SHA-1 in 8 lanes over blocks v3", "SHA-256 in 4 lanes over blocks v2",
+          "SHA-512 in 4 lanes over blocks v3"]
 ITERATES = ["PBKDF2 by SHA-1 of 5 words v2", "PBKDF2 by SHA-256 by instructions of 8 words v2"]
 R, D = r"%\w+", r"-?0x[0-9a-f]+"
+OF_BLOCKS = rf"(v?pinsrd \$\w+,|vmovq |vmovsd )({D})(\(%rsi.*)"
 FAULTS = [
     Fault("a rotation by another count", AHEAD,
           rf"(shld|shrd|rorx|rol|ror) \$(0x\w+),({R}.*)", lambda it: f"{it[1]} "
@@ -68,6 +71,11 @@ FAULTS = [
     Fault("a shift by another count in lanes", LANES, r"(v?ps[rl]l[dq]) \$0x(\w+),(.*)",
           lambda it: f"{it[1]} ${int(it[2], 16) % 29 + 1},{it[3]}"),
     Fault("an and in the place of andn", LANES, r"(v?pand)n (.*)", lambda it: f"{it[1]} {it[2]}"),
+    Fault("a block of another lane", BLOCKS, OF_BLOCKS,
+          lambda it: f"{it[1]}{int(it[2], 16) ^ 0x80}{it[3]}"),
+    Fault("a read past the blocks", BLOCKS, OF_BLOCKS,
+          lambda it: f"{it[1]}{int(it[2], 16) + 0x200}{it[3]}"),
+    Fault("bytes that aren't reversed", BLOCKS, r"v?pshufb .*", lambda it: ""),
     Fault("a loop that ends early", MESSAGE, r"shr \$0x([67]),(.*)",
           lambda it: f"shr ${int(it[1]) + 1},{it[2]}"),
     Fault("a wrong rest", MESSAGE, rf"and \$(0xf*[c8]0),({R})",

@@ -21,7 +21,7 @@ def base_of(path):
 
 
 def answers(library, path):
-    """What the functions over messages and over words write, of random arguments, as bytes."""
+    """What the functions over messages and in lanes write, of random arguments, as bytes."""
     loaded = ctypes.CDLL(path)  # is kept, and so stays where it is
     base, source, found = base_of(path), random.Random(1), []
     variables = [base + it for it in library.instructions(False)]
@@ -31,7 +31,7 @@ def answers(library, path):
         call = ctypes.CFUNCTYPE(ctypes.c_void_p, *[ctypes.c_void_p] * 5)(base + row.symbol.start)
         if row.check is kernels.run_blocks:
             found += over_messages(call, source, variables, row.build)
-        elif row.check is kernels.block_of_words:
+        elif row.check in (kernels.block_of_words, kernels.blocks_in_lanes):
             found += over_words(call, source)
     assert loaded
     return b"".join(found)

@@ -112,7 +112,7 @@ class Summaries:
                 kernels.block_of_words: self.block_of_words,
                 kernels.xor_iterates: self.xor_iterates}
         for row in rows or kernels.rows(self.library):
-            if row.symbol:
+            if row.symbol and row.check in runs:
                 found[row.symbol.start] = self.noted(
                     f"{identify.short_name(row.symbol.name)} {row.build}".strip(),
                     lambda state, row=row: runs[row.check](state, row.symbol, *row.arguments))

@@ -85,6 +85,18 @@ class Lengths(unittest.TestCase):
                         self.value(a, n), self.value(b, n)) % 2**64)
         self.assertGreater(count, 5000)
 
+    def test_known_bits(self):
+        """The lowest bits of a sum are numbers where those of its words are, and no others."""
+        for _ in range(300):
+            count, bits = self.source.randrange(1, 31), 32
+            numbers = [self.source.randrange(2**count) for _ in "ab"]
+            a, b = (terms.constant(it, count) + terms.fresh("high", bits - count)
+                    for it in numbers)
+            for word, expected in [(terms.add(a, b), sum(numbers)),
+                                   (terms.subtract(a, b), numbers[0] - numbers[1])]:
+                self.assertEqual(terms.number_of(word[:count]), expected % 2**count)
+                self.assertEqual([bit for bit in word[count:] if bit < 2], [])
+
     def test_decisions(self):
         """What is decided of open lengths is so of each number."""
         decided = 0

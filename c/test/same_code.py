@@ -11,7 +11,7 @@ import pathlib
 import struct
 import sys
 
-sys.path.insert(0, str(pathlib.Path(__file__).resolve().parent.parent / "generated"))
+sys.path.insert(0, str(pathlib.Path(__file__).resolve().parents[2] / "generated/make"))
 from assembly import ARM, FUNC, Elf, plain
 
 # What a linker fills in of an instruction of ARM: a branch, a page, or a place in a page.

@@ -52,6 +52,10 @@ class Library:
                 "<IIQQQQQQ", data, programs + 56 * i)
             if kind == 1:
                 self.segments.append(Segment(start, start + in_memory, flags, offset, size))
+        if any(it.offset + it.size > len(data) for it in self.segments):
+            raise ValueError
+        if not any(it.size and it.flags & EXECUTE for it in self.segments):
+            raise WrongFile("it has no code, but data or names alone")
         headers = [struct.unpack_from("<IIQQQQIIQQ", data, sections + 64 * i)
                    for i in range(section_count)]
         self.symbols, self.objects = [], []  # functions and variables

@@ -4,9 +4,11 @@
 
     verify/same_code.py LIBRARY FILE..
 
-FILE is a shared library or a program of x86-64, which may be stripped: the bytes of each function
-are looked for. Where an instruction has an address, the bytes of the address may differ, but not
-the constants that stand there.
+LIBRARY is one that verify/check has shown, with the names of its functions. FILE is a shared
+library or a program of x86-64, which may be stripped: the bytes of each function are looked for.
+Where an instruction has an address, the bytes of the address may differ, but not the constants that
+stand there. The status is 1 where a file doesn't have the code, and 2 where nothing could be
+compared.
 """
 
 import re
@@ -16,7 +18,7 @@ import sys
 sys.dont_write_bytecode = True
 import fips180_4
 import kernels
-from elf import EXECUTE, WRITE, Library, WrongFile
+from elf import EXECUTE, WRITE, X86, Library, WrongFile
 
 TABLES = [b"".join(it.to_bytes(family.width // 8, "little") for it in family.K[16:])
           for family in (fips180_4.SHA256, fips180_4.SHA512)]
@@ -127,16 +129,37 @@ def fault(library, functions, path):
     return None
 
 
+def reason(why):
+    """Why a file can't be read."""
+    return why.strerror if isinstance(why, OSError) else str(why)
+
+
+def read_library(path):
+    """The library whose code was shown, and its functions that are."""
+    library = Library(path)
+    if library.machine != X86:
+        raise WrongFile("it is for another processor than x86-64")
+    functions = shown(library)
+    if not functions:
+        raise WrongFile("it has none of the functions of libyezdopin")
+    return library, functions
+
+
 def main():
     if len(sys.argv) < 3:
-        sys.exit(__doc__)
-    library, status = Library(sys.argv[1]), 0
-    functions = shown(library)
+        print("usage: verify/same_code.py LIBRARY FILE..", file=sys.stderr)
+        return 2
+    try:
+        library, functions = read_library(sys.argv[1])
+    except (OSError, WrongFile) as why:
+        print(f"verify/same_code.py: {sys.argv[1]}: {reason(why)}", file=sys.stderr)
+        return 2
+    status = 0
     for path in sys.argv[2:]:
         try:
             why = fault(library, functions, path)
         except (OSError, WrongFile) as failed:
-            why = str(failed)
+            why = reason(failed)
         print(f"{path}: {why or f'has the code of {len(functions)} functions'}")
         status |= why is not None
     return status

@@ -4,6 +4,7 @@
 import pathlib
 import re
 import shutil
+import struct
 import subprocess
 import sys
 import tempfile
@@ -19,6 +20,16 @@ def check(*words):
     return done.returncode, done.stdout, done.stderr
 
 
+def with_long_segments(data):
+    """A library whose segments are longer than the file."""
+    found = bytearray(data)
+    start, = struct.unpack_from("<Q", data, 32)
+    count, = struct.unpack_from("<H", data, 56)
+    for at in range(start, start + 56 * count, 56):
+        struct.pack_into("<Q", found, at + 32, 1 << 40)
+    return found
+
+
 class Arguments(unittest.TestCase):
     def test_words(self):
         """Wrong arguments are refused with status 2 and how to call it."""
@@ -31,9 +42,11 @@ class Arguments(unittest.TestCase):
         """A file that is no such library is refused with status 2 and the reason."""
         with tempfile.TemporaryDirectory() as room:
             cut, text = pathlib.Path(room, "cut"), pathlib.Path(room, "text")
+            long = pathlib.Path(room, "long")
             cut.write_bytes(LIBRARY.read_bytes()[:5000])
             text.write_text("no library\n")
-            for path in (cut, text, pathlib.Path(room), pathlib.Path(room, "none"), "/bin/sh",
+            long.write_bytes(with_long_segments(LIBRARY.read_bytes()))
+            for path in (cut, text, long, pathlib.Path(room), pathlib.Path(room, "none"), "/bin/sh",
                          sys.executable):
                 status, output, messages = check(path)
                 self.assertEqual((status, output), (2, ""), path)
@@ -41,12 +54,15 @@ class Arguments(unittest.TestCase):
 
     @unittest.skipUnless(shutil.which("strip"), "strip")
     def test_stripped(self):
-        """A stripped library is refused, and the message says so."""
+        """A stripped library is refused, and one of names alone, and the message says so."""
         with tempfile.TemporaryDirectory() as room:
-            subprocess.run(["strip", "-o", f"{room}/stripped.so", LIBRARY], check=True)
-            status, _, messages = check(f"{room}/stripped.so")
-            self.assertEqual(status, 2)
-            self.assertIn("stripped", messages)
+            for words, message in ((["-s"], "it is stripped"),
+                                   (["--only-keep-debug"], "it has no code")):
+                subprocess.run(["strip", *words, "-o", f"{room}/other.so", LIBRARY], check=True)
+                status, output, messages = check(f"{room}/other.so")
+                self.assertEqual((status, output), (2, ""))
+                self.assertIn(message, messages)
+                self.assertEqual(messages.count("\n"), 1)
 
     def test_other_line(self):
         """--only with a text that no line has is refused, rather than nothing shown."""

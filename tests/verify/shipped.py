@@ -85,5 +85,23 @@ class Shipped(unittest.TestCase):
             self.assertIn("its code isn't there", output)
             self.assertIn("another constant", output)
 
+    @unittest.skipUnless(shutil.which("strip"), "strip")
+    def test_nothing_to_compare(self):
+        """Nothing is compared with a library that is stripped, has none of the functions or isn't
+        there: status 2 and the reason."""
+        with tempfile.TemporaryDirectory() as room:
+            stripped, other = f"{room}/stripped.so", f"{room}/other.so"
+            subprocess.run(["strip", "-o", stripped, LIBRARY], check=True)
+            # Names of other functions, as those of a library that isn't this one.
+            pathlib.Path(other).write_bytes(LIBRARY.read_bytes().replace(b"ring", b"wing"))
+            for words, message in (((), "usage: "), ((LIBRARY,), "usage: "),
+                                   ((stripped, LIBRARY), "it is stripped"),
+                                   ((other, LIBRARY), "it has none of the functions"),
+                                   ((f"{room}/none", LIBRARY), "No such file")):
+                done = subprocess.run([sys.executable, SAME_CODE, *words], capture_output=True,
+                                      text=True, check=False)
+                self.assertEqual((done.returncode, done.stdout), (2, ""), words)
+                self.assertRegex(done.stderr, rf"^.*{message}.*\n$")
+
 
 CASES = (Shipped,)

@@ -312,13 +312,15 @@ def general(reader, row, opcode):
         name, _, more = found.partition(" ")
         letters += [more] if more in ("I", "i") else []
         if more == "*" or name == "push":
+            if "66" in reader.prefixes:
+                raise Unreadable("a prefix that makes no sense")
             text = text_of(reader, "", ["E64"], 64, opcode)
             return f"{name} {'*' if more == '*' else ''}{text}"
     has_register = any(it[0] in "GgOBa" for it in letters)
     if name == "nop":
         text_of(reader, name, letters, width, opcode)
         return "nop"
-    if name in ("push", "pop") or name[0] == "j" or name == "call":
+    if name in ("push", "pop", "call", "ret") or name[0] == "j":
         if "66" in reader.prefixes:
             raise Unreadable("a prefix that makes no sense")
     if name == "mov" and letters[-1] == "I64":

@@ -57,6 +57,7 @@ FURTHER = """
     vpsllvq %ymm1,%ymm2,%ymm3; vpermpd $27,%ymm1,%ymm2; insertps $0x5d,%xmm1,%xmm2
     movsbw %al,%cx; movswl %ax,%ecx; movswq %ax,%rcx; movsbq %al,%rcx; movzwl %ax,%ecx
     bswap %rcx; xchg %rax,%rcx; bt $5,%rcx; adc %rax,%rcx; sbb %rax,%rcx; not %rcx; neg %rcx
+    sha1rnds4 $0x41,%xmm1,%xmm2; sha1rnds4 $0x22,%xmm1,%xmm2
 """ + "".join(f"{name}{condition} {operands}\n" for condition in x86.CONDITIONS
               for name, operands in (("cmov", "%rax,%rcx"), ("cmov", "%eax,%ecx"), ("set", "%cl")))
 

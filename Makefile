@@ -101,6 +101,11 @@ ARCHIVE_V2 = $(OUT)/v2/libyezdopin.a
 ARCHIVE_V3 = $(OUT)/v3/libyezdopin.a
 SONAME = libyezdopin.so.$(MAJOR)
 SHARED = $(OUT)/libyezdopin.so.$(VERSION)
+# OpenSSL 3.5 and Python 3.13, unpacked and not installed.
+DEBIAN_13 = $(OUT)/debian13
+DEBIAN_13_PATH = $(WHOLE_OUT)/debian13/usr/start
+DEBIAN_13_PACKAGES = libc6 libexpat1 libffi8 libpython3.13-minimal libpython3.13-stdlib libssl3t64 \
+    libzstd1 openssl openssl-provider-legacy python3.13-minimal zlib1g
 calls_of_header = sed '/^static/d' $(HEADER) | grep -o '\byz_[a-z0-9_]*(' | tr -d '(' | sort -u
 # The calls that have a manual page, those of the header's own text too.
 pages_of_header = grep -o '\byz_[a-z0-9_]*(' $(HEADER) | tr -d '(' | sort -u
@@ -132,6 +137,9 @@ else
 # The others want the other processor's own Python, Rust and sanitizers.
 check: test header installed
 endif
+
+$(DEBIAN_13):
+	tests/lib/debian_13 $@ $(DEBIAN_13_PACKAGES)
 
 # The gate but for what needs the kit: it names what it leaves out.
 check-all:

@@ -3,6 +3,7 @@
 #
 #     make openssl              # builds the OpenSSL provider, out/openssl/yezdopin.so
 #     make openssl-check        # tests the provider beside OpenSSL's own
+#     make openssl-later        # tests the provider beside OpenSSL 3.5, Debian 13's
 #     make openssl-speed        # times the provider beside OpenSSL's own
 #     make openssl-install      # installs it into MODULESDIR=, OpenSSL's folder, in DESTDIR=
 #     make openssl-uninstall    # removes what `make openssl-install` installed
@@ -156,6 +157,15 @@ openssl-exports: $(PROVIDER)
 	    '$(filter get%,$(CALLED)) memcpy memmove memset strcspn strlen strnlen'
 	test "$$($(OBJDUMP) -T $< | grep -o 'OPENSSL_[0-9.]*' | sort -u | xargs)" = OPENSSL_3.0.0
 
+# The same module and tests beside OpenSSL 3.5: the tests' programs over its library, its own
+# commands, and Python's hashlib, hmac and ssl over it.
+openssl-later: $(DEBIAN_13)
+	PATH="$(DEBIAN_13_PATH):$$PATH" openssl version | grep -q '^OpenSSL 3\.5\.'
+	$(MAKE) --no-print-directory openssl-agree openssl-orders openssl-refused openssl-reuse \
+	    openssl-words openssl-properties openssl-memory openssl-wiped RUN='$(DEBIAN_13)/run'
+	PATH="$(DEBIAN_13_PATH):$$PATH" \
+	    $(MAKE) --no-print-directory openssl-programs PYTHON=python3.13
+
 # The time of each kind of work beside the default provider's, with the instructions that OpenSSL
 # finds, and then without SSSE3, AVX, AVX2 and SHA instructions.
 openssl-speed: $(PROVIDER) openssl/speed/speed.c
@@ -222,4 +232,4 @@ dist-deb-$(PROVIDER_DEB): $(PROVIDER)
 .PHONY: openssl openssl-check openssl-agree openssl-orders openssl-refused openssl-reuse \
     openssl-words openssl-properties openssl-memory openssl-wiped openssl-sanitized \
     openssl-valgrind openssl-programs openssl-policy openssl-exports openssl-installed \
-    openssl-speed openssl-install openssl-uninstall
+    openssl-later openssl-speed openssl-install openssl-uninstall

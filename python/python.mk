@@ -14,10 +14,11 @@ python: $(ARCHIVE)
 	    $(PYTHON) -B python/build_backend.py $(OUT)/python
 	cd python/test && PYTHONPATH="$(WHOLE_OUT)/python" $(PYTHON) -B -m unittest discover -q
 
-# The same extension under later versions of Python.
+# The same extension under later versions of Python: the system's, or else Debian 13's.
 PYTHONS ?= python3.12 python3.13
 python-versions: python
-	for it in $(PYTHONS); do \
+	$(MAKE) --no-print-directory $(DEBIAN_13) || true
+	export PATH="$$PATH:$(DEBIAN_13_PATH)"; for it in $(PYTHONS); do \
 	    $$it -c '' 2>/dev/null || \
 	        { echo "left out: the Python package under $$it, without $$it"; continue; }; \
 	    (cd python/test && PYTHONPATH="$(WHOLE_OUT)/python" $$it -B -m unittest discover -q) \

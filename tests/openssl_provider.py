@@ -37,6 +37,8 @@ PARTS = [
      "no leak and no bad read under valgrind"),
     ("openssl-programs", ["openssl", "python3"], [],
      "OpenSSL's commands, Python, TLS, with counts"),
+    ("openssl-later", ["Debian 13's packages", "python3"], ["AGREE_CASES=500"],
+     "the same beside OpenSSL 3.5, and Python's hashlib, hmac and ssl over it"),
     ("openssl-policy", ["openssl", "pkg-config", "python3"], [],
      "the system's TLS policy and providers stay"),
     ("openssl-exports", ["nm", "objdump", "readelf"], [], "the module's names and what it needs"),
@@ -79,6 +81,8 @@ def is_there(tool):
         return compiles(f"{source}int main(void) {{ return 0; }}", "-lcrypto", compiler=compiler)
     if tool == "sanitizers":
         return compiles("int main(void) { return 0; }", "-fsanitize=address,undefined")
+    if tool == "Debian 13's packages":
+        return make("x86_64", "out/debian13") is None
     return shutil.which(named(tool)) is not None
 
 

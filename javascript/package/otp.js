@@ -8,7 +8,7 @@ import { bytesOrText, keyOf, macOf, uint64Of, wholeOf } from "./inputs.js";
 const DIGITS = 6;
 const STEP = 30;
 const MAX_UINT32 = 2 ** 32 - 1;
-// RFC 4226, section 4, R6.
+// RFC 4226, section 4.
 const MIN_KEY_LEN = 16;
 
 // The first words of a call. A short key is refused where nobody allows it.

@@ -44,7 +44,7 @@ if TYPE_CHECKING:
     _Hash = str | _Callable[..., _Any]
 
 _UNSPECIFIED = 8  # YZ_UNSPECIFIED
-_MIN_KEY_LEN = 16  # RFC 4226, section 4, R6
+_MIN_KEY_LEN = 16  # RFC 4226, section 4
 
 __all__ = ["find_hotp", "find_totp", "hotp", "sign", "totp", "verify"]
 

@@ -38,7 +38,7 @@ pub enum Digits {
 
 const MAX_DIGITS: usize = Digits::Eight as usize;
 
-/// The fewest bytes of a key (RFC 4226, section 4, R6).
+/// The fewest bytes of a key (RFC 4226, section 4).
 pub const MIN_KEY_LEN: usize = 16;
 
 /// A key of less than [`MIN_KEY_LEN`] bytes, which [`Key::new`] refuses.

@@ -1,23 +1,9 @@
 // SPDX-License-Identifier: ISC
-//! How runs end: what they write, their status, and what a program says of it.
+//! How runs end: what they write, and their status.
 
 use crate::lines::OF_NOTHING;
-use ring_bench::{BenchError, Status, outcome, run};
+use ring_bench::{Status, outcome, run};
 use std::alloc::Global;
-
-#[test]
-fn outcome_of_each_result(rt: HostRuntime) {
-    let rows = [
-        (Ok(Status::Clean), 0, ""),
-        (Ok(Status::SomeBad), 1, ""),
-        (Err(BenchError::Memory), 2, "ring_bench: out of memory"),
-        (Err(BenchError::Read), 2, "ring_bench: read failed"),
-        (Err(BenchError::Write), 2, "ring_bench: write failed"),
-    ];
-    for (result, status, text) in rows {
-        assert!(rt; outcome(&result) == (status, text), "{result:?}");
-    }
-}
 
 const BAD: &[u8] = b"bad line\n";
 

@@ -34,34 +34,27 @@ macro_rules! in_lanes {
     };
 }
 
+// The widths of 32-bit words.
+macro_rules! in_lanes_of_32 {
+    ($rt:ident; $words:ident, $lanes:ident, $one:ident) => {
+        in_lanes!($rt, u32x1, 1; $words, 64; $lanes, $one);
+        in_lanes!($rt, u32x2, 2; $words, 64; $lanes, $one);
+        in_lanes!($rt, u32x4, 4; $words, 64; $lanes, $one);
+        in_lanes!($rt, u32x8, 8; $words, 64; $lanes, $one);
+        in_lanes!($rt, u32x16, 16; $words, 64; $lanes, $one);
+    };
+}
+
 #[test]
 fn sha1_in_lanes(rt: HostRuntime) {
-    macro_rules! width {
-        ($vector:ty, $count:literal) => {
-            in_lanes!(rt, $vector, $count; SHA1_WORDS, 64;
-                sha1_block_data_order_lanes_counted, sha1_block_data_order_counted);
-        };
-    }
-    width!(u32x1, 1);
-    width!(u32x2, 2);
-    width!(u32x4, 4);
-    width!(u32x8, 8);
-    width!(u32x16, 16);
+    in_lanes_of_32!(rt; SHA1_WORDS, sha1_block_data_order_lanes_counted,
+        sha1_block_data_order_counted);
 }
 
 #[test]
 fn sha256_in_lanes(rt: HostRuntime) {
-    macro_rules! width {
-        ($vector:ty, $count:literal) => {
-            in_lanes!(rt, $vector, $count; SHA256_WORDS, 64;
-                block_data_order_lanes_counted, block_data_order_32_counted);
-        };
-    }
-    width!(u32x1, 1);
-    width!(u32x2, 2);
-    width!(u32x4, 4);
-    width!(u32x8, 8);
-    width!(u32x16, 16);
+    in_lanes_of_32!(rt; SHA256_WORDS, block_data_order_lanes_counted,
+        block_data_order_32_counted);
 }
 
 #[test]

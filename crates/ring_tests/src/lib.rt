@@ -1,7 +1,7 @@
 // SPDX-License-Identifier: ISC
 //! Tests of what no contract of `ring` and `ring_core` says, over the public calls alone: messages
-//! cut in many ways, other implementations of the same functions, texts that Debug prints, and each
-//! call once.
+//! cut in many ways, other implementations of the same functions, texts that Debug prints, each
+//! call once, and what a program says of each result of `ring_bench`.
 #![tactic(auto)]
 
 #[cfg(test)]
@@ -22,6 +22,8 @@ mod laws;
 mod long_lengths;
 #[cfg(test)]
 mod messages;
+#[cfg(test)]
+mod outcome;
 #[cfg(test)]
 mod pbkdf2;
 #[cfg(test)]

@@ -6,8 +6,10 @@ qemu-user; and the library for Windows under wine, and the code of that for macO
 
 The library is built first, from the assembly text in generated/. The first part proves and builds
 `ring_c` by the kit, and compares both libraries byte by byte; each other part is then tried by
-itself. A part whose tools are missing is left out, and counted as skipped. The last line is
-'N passed, M failed', or 'N passed, M failed, K skipped'.
+itself. A part whose tools are missing is left out, and counted as skipped. A part that passed isn't
+tried again while neither the files that it is made from nor the tools have changed, for the user of
+this machine: --anew tries all. The last line is 'N passed, M failed', or 'N passed, M failed, K
+skipped'.
 """
 
 import os
@@ -22,6 +24,7 @@ import tempfile
 sys.dont_write_bytecode = True
 sys.path.append(str(pathlib.Path(__file__).resolve().parent / "lib"))
 import debian_crates
+import kept
 import password_hashes
 
 ROOT = pathlib.Path(__file__).resolve().parent.parent
@@ -38,8 +41,10 @@ TEXTS = {
     "aarch64": ["yezdopin_aarch64.S"],
 }
 # What the library is made and tested from.
-MADE_FROM = ["LICENSE", "Makefile", "c", "generated", "javascript", "openssl", "packaging", "python",
-             "rust"]
+MADE_FROM = ["LICENSE", "Makefile", "c", "generated", "javascript", "openssl", "packaging",
+             "python", "rust"]
+# What each part may read beside it.
+TRIED_BY = ["tests", "tools", "vectors", "verify"]
 KIT_OUT = {"x86_64": ROOT / "out/kit", "aarch64": ROOT / "out/aarch64/kit"}
 
 # What make's targets are called by, and what each needs beside `rt`.
@@ -173,8 +178,8 @@ def new_copy(folder):
 def altered(arch):
     """What is wrong where a text with one other instruction is taken for the kit's, or None."""
     made = ["libyezdopin.a", *(it for it in TEXTS[arch] if "windows" in it)]
-    kept = [*BUILT[arch], *(KIT_OUT[arch] / it for it in made)]
-    options = [word for it in kept for word in ("-o", str(it))]
+    current = [*BUILT[arch], *(KIT_OUT[arch] / it for it in made)]
+    options = [word for it in current for word in ("-o", str(it))]
     for name in TEXTS[arch]:
         with tempfile.TemporaryDirectory() as room:
             copy = new_copy(room)
@@ -192,7 +197,6 @@ def try_parts(arch, always, parts):
     were left out."""
     tools = {tool: is_there(tool) for _, needed, _ in parts for tool in [*always, *needed]}
     unbuilt = make(arch, "-B", "all")[0] if all(tools[tool] for tool in always) else None
-    kept = [word for it in BUILT[arch] for word in ("-o", it)]
     passed, failed, skipped = 0, 0, 0
     for name, needed, what in parts:
         missing = [tool for tool in [*always, *needed] if not tools[tool]]
@@ -200,11 +204,7 @@ def try_parts(arch, always, parts):
             print(f"left out: {arch}: {name} ({what}), without {', '.join(missing)}")
             skipped += 1
             continue
-        how = ["-B"] if name == GENERATED else kept
-        if name == ALTERED:
-            fault, left_out = altered(arch), []
-        else:
-            fault, left_out = (unbuilt, []) if unbuilt else make(arch, *how, *name.split())
+        fault, left_out = (unbuilt, []) if unbuilt else try_part(arch, name)
         for line in left_out:
             print(line)
         skipped += len(left_out)
@@ -212,6 +212,24 @@ def try_parts(arch, always, parts):
         failed += fault is not None
         passed += fault is None
     return passed, failed, skipped
+
+
+def try_part(arch, name):
+    """What is wrong with a part, or None, and the lines by which it leaves something out."""
+    is_compared = name in (GENERATED, ALTERED)
+    folders = (*MADE_FROM, *TRIED_BY, *(["crates", "crates.txt"] if is_compared else []))
+    # The second of these two needs what the first builds.
+    as_name = f"{arch} {ALTERED if is_compared else name}"
+    if "--anew" not in sys.argv and kept.has_passed(as_name, folders):
+        return None, []
+    if name == ALTERED:
+        fault, left_out = altered(arch), []
+    else:
+        current = [word for it in BUILT[arch] for word in ("-o", it)]
+        fault, left_out = make(arch, *(["-B"] if name == GENERATED else current), *name.split())
+    if fault is None and not left_out and name != GENERATED:
+        kept.keep(as_name, folders)
+    return fault, left_out
 
 
 def main():

@@ -2,7 +2,7 @@
 # The Python package:
 #
 #     make python               # builds the Python package in out/python, and tests it
-#     make python-versions      # runs its tests under later versions of Python
+#     make python-versions      # runs its tests under other versions of Python
 #     make python-postgresql    # tests its passwords for PostgreSQL beside a server
 #     make python-types         # tests the types of the Python package
 #     make wheel                # tests the Python package as pip installs it
@@ -14,8 +14,9 @@ python: $(ARCHIVE)
 	    $(PYTHON) -B python/build_backend.py $(OUT)/python
 	cd python/test && PYTHONPATH="$(WHOLE_OUT)/python" $(PYTHON) -B -m unittest discover -q
 
-# The same extension under later versions of Python: the system's, or else Debian 13's.
-PYTHONS ?= python3.12 python3.13
+# The same extension under Debian's Python, with the packages that Debian has for it, and under later
+# versions: the system's, or else Debian 13's.
+PYTHONS ?= /usr/bin/python3 python3.12 python3.13
 python-versions: python
 	$(MAKE) --no-print-directory $(DEBIAN_13) || true
 	export PATH="$$PATH:$(DEBIAN_13_PATH)"; for it in $(PYTHONS); do \

@@ -6,11 +6,11 @@ has them.
 The definitions in `crates/ring_c/specs/Status.antt`, of which the contracts speak, number the
 statuses from 0 on, and name the causes in that order. Compared with them: the header, the manual
 page and the table of c/README.md, which list all statuses in their order; the constants of the
-Rust crate, which has no other numbers beside them; Python's reasons and what its docstrings say of
-statuses; the constants of the package for JavaScript and of its tests. The longest text of the
-header, the Rust crate and the manual page is that of the specs. The header's comments are the
-statuses' texts, which `c/status.c` gives to callers and the table of c/README.md has. Then
-each place is read again with a planted fault, which must be found. The last line is
+Rust crate, which has no other numbers beside them; Python's names and reasons and what its
+docstrings say of statuses; the constants of the package for JavaScript and of its tests. The
+longest text of the header, the Rust crate and the manual page is that of the specs. The header's
+comments are the statuses' texts, which `c/status.c` gives to callers and the table of c/README.md
+has. Then each place is read again with a planted fault, which must be found. The last line is
 'N passed, M failed'.
 """
 
@@ -52,6 +52,7 @@ PLANTED = (
     (RUST_TEXTS, "calls::YZ_BAD_SALT =>", "8 =>"),
     (RUST_TEXTS, "MAX_TEXT_LEN: usize = 1024", "MAX_TEXT_LEN: usize = 1025"),
     (REASONS, '    6: "the text', '    7: "the text'),
+    (REASONS, "    BAD_SALT = 7", "    BAD_SALT = 6"),
     ("python/src/yezdopin/password_hash.py", "status 3", "status 4"),
     ("javascript/package/calls.js", "WRONG_LENGTH = 4", "WRONG_LENGTH = 3"),
     ("javascript/test/traces.mjs", "UNSPECIFIED = 8", "UNSPECIFIED = 5"),
@@ -99,6 +100,8 @@ def list_faults(texts, defined):
         (README, texts[README], r"^\| (?P<number>\d+) \| `(?P<name>YZ_\w+)` \|", defined[1:]),
         (REASONS, texts[REASONS], r'^    (?P<number>\d+): ".*",  # (?P<name>YZ_\w+)$',
          defined[1:]),
+        (REASONS, texts[REASONS], r"^    (?P<name>[A-Z_]+) = (?P<number>\d+)$",
+         [(name.removeprefix("YZ_"), number) for name, number in defined[1:]]),
     ):
         found = pairs(pattern, text)
         yield None if found == wanted else f"{place}: the statuses are {found}"

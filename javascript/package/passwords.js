@@ -57,6 +57,17 @@ export const passwordHash = Object.freeze({
     return { scheme: SCHEMES[scheme - 1], iterations };
   },
 
+  isSupported(text) {
+    const bytes = bytesOrText(text, "text");
+    try {
+      calls.passwordInfo(bytes);
+      return true;
+    } catch (error) {
+      if (error.code === undefined) throw error;
+      return false;
+    }
+  },
+
   /** In a worker. */
   async new(...words) {
     return textOf(await later("passwordNew", ...wordsOfNew(...words)));

@@ -104,6 +104,9 @@ export interface PasswordHash {
   /** The text of a new hash, by a worker. */
   "new"(scheme: PasswordHashScheme, password: Input, options: NewPasswordHash): Promise<string>;
   newSync(scheme: PasswordHashScheme, password: Input, options: NewPasswordHash): string;
+  /** Whether a text is of one of `SCHEMES`, so that `info` does not throw, nor `verify` where its
+   * iterations are within the limit. */
+  isSupported(text: Input): boolean;
   /** Of which scheme a text is, and how many iterations it names. */
   info(text: Input): { scheme: PasswordHashScheme; iterations: number };
 }

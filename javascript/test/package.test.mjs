@@ -343,6 +343,7 @@ test("password hashes, by the vectors of other systems", async () => {
   assert.ok(count.ok > 9 && count["wrong password"] > 9 && count["too many iterations"] > 9);
   for (const { words: [text], wanted } of linesOf("password_hashes", "read")) {
     const [scheme, iterations] = wanted.split(" ");
+    assert.equal(yz.passwordHash.isSupported(text), scheme !== "not", text);
     if (scheme === "not") assert.throws(() => yz.passwordHash.info(text), /no password hash/);
     else assert.deepEqual(yz.passwordHash.info(text), { scheme, iterations: +iterations });
   }
@@ -355,6 +356,28 @@ test("password hashes, by the vectors of other systems", async () => {
   assert.ok(makes.length > 9);
 });
 
+test("the page's login, over a table of several schemes", async () => {
+  const page = readFileSync(new URL("../README.md", import.meta.url), "utf8");
+  const [, block] = /^```js\n(const LIMIT[^]*?)^```/m.exec(page);
+  const logIn = new Function("passwordHash", `${block.replaceAll("600000", "10")}; return logIn;`)(
+    yz.passwordHash);
+  const others = async (row, password) => row === "$2b$other" && password === "pw";
+  const made = (scheme, iterations) => yz.passwordHash.newSync(scheme, "pw", { iterations });
+  for (const [row, isOld] of [[made("phc-sha256", 10), false], [made("phc-sha256", 9), true],
+    [made("werkzeug-sha512", 20), true], ["$2b$other", true]]) {
+    const kept = [];
+    assert.equal(await logIn(row, "px", others, (it) => kept.push(it)), false);
+    assert.deepEqual(kept, []);
+    assert.equal(await logIn(row, "pw", others, (it) => kept.push(it)), true);
+    assert.equal(kept.length, isOld ? 1 : 0, row);
+    for (const it of kept) assert.equal(await logIn(it, "pw", others), true);
+  }
+  const costly = made("phc-sha256", 10).replace("i=10,", "i=4294967295,");
+  for (const row of ["", "!", "x".repeat(5000), costly]) {
+    assert.equal(await logIn(row, "pw", others), false);
+  }
+});
+
 test("new password hashes have salts of their own, and refusals", async () => {
   for (const scheme of yz.passwordHash.SCHEMES) {
     const [one, other] = await Promise.all([1, 2].map(() =>
@@ -365,7 +388,11 @@ test("new password hashes have salts of their own, and refusals", async () => {
       assert.equal(await yz.passwordHash.verify(one, word, { maxIterations: 10 }), isRight);
     }
   }
-  const { verify, newSync } = yz.passwordHash, { name: noLimit } = TypeError;
+  const { isSupported, verify, newSync } = yz.passwordHash, { name: noLimit } = TypeError;
+  for (const text of ["", "!", "$2b$12$R9h/cIPz0gi.URNNX3kh2O", "x".repeat(1025), new Uint8Array(9)]) {
+    assert.equal(isSupported(text), false);
+  }
+  assert.throws(() => isSupported(null), TypeError);
   const most = { maxIterations: 9 };
   await assert.rejects(verify("nothing", "pw", most), /no password hash/);
   await assert.rejects(verify("x".repeat(1025), "pw", most), RangeError);

@@ -43,20 +43,20 @@ bool gather(const signature *takes, PyObject *const *args, Py_ssize_t args_len, 
     return true;
 }
 
-/* Raises `yezdopin.Error` with a status. It takes the reference to the reason; where that is NULL,
- * the reason is the status's own. */
+/* Raises the exception of a status, a `yezdopin.Error`. It takes the reference to the reason; where
+ * that is NULL, the reason is the status's own. */
 static PyObject *raise(yz_status status, PyObject *reason)
 {
     PyObject *errors = PyImport_ImportModule("yezdopin._errors");
-    PyObject *class = errors == NULL ? NULL : PyObject_GetAttrString(errors, "Error");
     PyObject *error = NULL;
-    if (class != NULL && reason == NULL) error = PyObject_CallFunction(class, "i", (int)status);
-    if (class != NULL && reason != NULL) {
-        error = PyObject_CallFunction(class, "iO", (int)status, reason);
+    if (errors != NULL && reason == NULL) {
+        error = PyObject_CallMethod(errors, "refusal", "i", (int)status);
     }
-    if (error != NULL) PyErr_SetObject(class, error);
+    if (errors != NULL && reason != NULL) {
+        error = PyObject_CallMethod(errors, "refusal", "iO", (int)status, reason);
+    }
+    if (error != NULL) PyErr_SetObject((PyObject *)Py_TYPE(error), error);
     Py_XDECREF(error);
-    Py_XDECREF(class);
     Py_XDECREF(errors);
     Py_XDECREF(reason);
     return NULL;

@@ -149,17 +149,62 @@ class New(unittest.TestCase):
             self.assertFalse(other.verify(b"another", text), scheme)
 
     def test_beside_django(self):
+        hashers = self.django()
+        for scheme in PLAIN[:2]:
+            text = password_hash.new(scheme, PASSWORD, iterations=1000)
+            with self.subTest(scheme):
+                self.assertTrue(hashers.check_password(PASSWORD.decode(), text))
+                self.assertFalse(hashers.check_password("another", text))
+
+    def django(self):
+        """Django's hashers, with all of them switched on, and ours in the place of its own."""
         try:
             from django.conf import settings
             from django.contrib.auth import hashers
         except ImportError:
             self.skipTest("Django is not here")
-        names = ("PBKDF2PasswordHasher", "PBKDF2SHA1PasswordHasher")
-        settings.configure(PASSWORD_HASHERS=[f"{hashers.__name__}.{name}" for name in names])
-        for scheme in PLAIN[:2]:
-            text = password_hash.new(scheme, PASSWORD, iterations=1000)
-            self.assertTrue(hashers.check_password(PASSWORD.decode(), text), scheme)
-            self.assertFalse(hashers.check_password("another", text), scheme)
+        if not settings.configured:
+            settings.configure(PASSWORD_HASHERS=[
+                "django.contrib.auth.hashers.PBKDF2PasswordHasher",
+                "django.contrib.auth.hashers.PBKDF2SHA1PasswordHasher",
+            ])
+        return hashers
+
+    def test_hashers_of_django(self):
+        """Ours and Django's take each other's texts, and refuse the same."""
+        hashers = self.django()
+        from django.test.utils import override_settings
+        from yezdopin import django
+
+        for name in django.__all__:
+            ours, theirs = getattr(django, name)(), getattr(hashers, name)()
+            self.assertEqual((ours.algorithm, ours.iterations),
+                             (theirs.algorithm, theirs.iterations))
+            for one, other in ((ours, theirs), (theirs, ours)):
+                text = one.encode("pässword", "NaCl", 100)
+                self.assertEqual(text, other.encode("pässword", "NaCl", 100))
+                self.assertTrue(other.verify("pässword", text))
+                for password in ("", "passwor", "pässwor", "pässword "):
+                    self.assertFalse(other.verify(password, text), password)
+                self.assertTrue(other.must_update(text))
+                for given, salt in ((None, "NaCl"), ("pässword", ""), ("pässword", "Na$Cl")):
+                    with self.assertRaises((TypeError, ValueError, AssertionError)):
+                        one.encode(given, salt, 100)
+            self.assertFalse(ours.verify("pässword", text[:-1]))
+            ours.max_iterations = 99
+            self.assertFalse(ours.verify("pässword", text))
+        names = [f"yezdopin.django.{name}" for name in django.__all__]
+        with override_settings(PASSWORD_HASHERS=names):
+            hashers.get_hashers.cache_clear()
+            kept = hashers.PBKDF2SHA1PasswordHasher().encode("a password", "NaCl", 100)
+            renewed = []
+            self.assertTrue(hashers.check_password("a password", kept, renewed.append))
+            self.assertEqual(renewed, ["a password"])
+            self.assertFalse(hashers.check_password("another", kept, renewed.append))
+            self.assertIn("pbkdf2_sha256$", hashers.make_password("a password"))
+            for text in (hashers.make_password(None), "", "bcrypt_sha256$$2b$12$a"):
+                self.assertFalse(hashers.check_password("a password", text), text)
+        hashers.get_hashers.cache_clear()
 
     def test_beside_werkzeug(self):
         try:
@@ -304,16 +349,49 @@ class Prepared(unittest.TestCase):
                 try:
                     want = saslprep(text)
                 except ValueError:
-                    self.assertRaises(ValueError, _saslprep.saslprep, text)
-                else:
+                    want = ""
+                if want:
                     self.assertEqual(_saslprep.saslprep(text), want)
+                else:  # PostgreSQL also refuses a text of which nothing is left
+                    self.assertRaises(ValueError, _saslprep.saslprep, text)
 
 
 class Arguments(unittest.TestCase):
+    CLASSES = {5: password_hash.UnknownScheme, 6: password_hash.TooManyIterations}
+
     def is_refused(self, status, text, most=1000):
         with self.assertRaises(yezdopin.Error) as caught:
             password_hash.verify(text, PASSWORD, max_iterations=most)
         self.assertEqual(caught.exception.status, status)
+        self.assertIs(type(caught.exception), self.CLASSES.get(status, yezdopin.Error))
+
+    def test_what_is_supported(self):
+        """The texts of all vectors, and none that other hashers keep."""
+        for path in sorted(VECTORS.glob("*.txt")):
+            for line in path.read_text().splitlines():
+                if line.startswith("verify "):
+                    text = line.split(" ")[1]
+                    with self.subTest(text):
+                        self.assertIs(password_hash.is_supported(text), True)
+        for text in (
+            "", "!", "!7sLdCnEEbUgmLTnb9dWEYdaCZJq0ESfKRyEIkdpf", "a" * 2000, KEPT + "é",
+            "bcrypt_sha256$$2b$12$R9h/cIPz0gi.URNNX3kh2OPST9/PgBkqquzi.Ss7KIUgO2t0jWMUW",
+            "$argon2id$v=19$m=65536,t=3,p=4$c29tZXNhbHQ$RdescudvJCsgt3ub+b7XaA",
+            "scrypt:32768:8:1$salt$00", "md5$salt$5f4dcc3b5aa765d61d8327deb882cf99",
+        ):
+            with self.subTest(text):
+                self.assertIs(password_hash.is_supported(text), False)
+                with self.assertRaises(yezdopin.Error):
+                    password_hash.info(text)
+        self.assertRaises(TypeError, password_hash.is_supported, None)
+
+    def test_statuses(self):
+        """Each has its name, and is the number that it was."""
+        for status in yezdopin.Status:
+            self.assertEqual(yezdopin.Error(int(status)).status, status)
+        with self.assertRaises(yezdopin.Error) as caught:
+            password_hash.info("")
+        self.assertIs(caught.exception.status, yezdopin.Status.BAD_FORMAT)
 
     def test_buffers(self):
         for text in (KEPT, KEPT.encode(), bytearray(KEPT.encode()), memoryview(KEPT.encode())):

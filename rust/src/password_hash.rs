@@ -11,28 +11,56 @@
 //! # Ok::<(), HashError>(())
 //! ```
 //!
-//! At a login a password is hashed anew where its text is of another scheme than new ones, or names
-//! fewer iterations:
+//! A table may hold texts of other hashes too, bcrypt's or Argon2's. At a login a password is hashed
+//! anew where its text is of one of these, of another scheme than new ones, or names fewer
+//! iterations:
 //!
 //! ```
 //! use core::num::NonZeroU32;
-//! use yezdopin::password_hash::{info, new, new_salt, Info, Scheme, MAX_TEXT_LEN};
+//! use yezdopin::password_hash::{
+//!     info, is_supported, new, new_salt, verify, HashError, Info, Scheme, MAX_TEXT_LEN,
+//! };
 //! use yezdopin::rand::SystemRandom;
 //!
-//! # let kept = "pbkdf2_sha1$1000$kXq0Wz3vT9bYh2LrE8mNpA$2U/l/68EaoUIrkh0GedCmjQYvmg=";
-//! # let password = b"correct horse battery staple";
-//! # fn keep(_text: &str) {}
-//! let wanted = Info {
-//!     scheme: Scheme::DjangoSha256,
-//!     iterations: NonZeroU32::new(1000).unwrap(),
-//! };
-//! let found = info(kept)?;
-//! if found.scheme != wanted.scheme || found.iterations < wanted.iterations {
-//!     let salt = new_salt(wanted.scheme, &SystemRandom::new()).expect("random bytes");
-//!     let mut text = [0; MAX_TEXT_LEN];
-//!     keep(new(wanted.scheme, password, salt.as_ref(), wanted.iterations, &mut text)?);
+//! const LIMIT: u32 = 10_000_000;
+//!
+//! /// Whether the password is that of the row. `others` tests rows of other hashes, and `keep` gets
+//! /// a new row where this one is old.
+//! fn log_in(
+//!     row: &str,
+//!     password: &[u8],
+//!     wanted: Info,
+//!     others: impl Fn(&str, &[u8]) -> bool,
+//!     keep: impl FnOnce(&str),
+//! ) -> Result<bool, HashError> {
+//!     let is_right = if is_supported(row) {
+//!         verify(row, password, LIMIT).is_ok()
+//!     } else {
+//!         others(row, password)
+//!     };
+//!     let is_new = info(row).map_or(false, |found| {
+//!         found.scheme == wanted.scheme && found.iterations >= wanted.iterations
+//!     });
+//!     if is_right && !is_new {
+//!         let salt = new_salt(wanted.scheme, &SystemRandom::new()).expect("random bytes");
+//!         let mut text = [0; MAX_TEXT_LEN];
+//!         keep(new(wanted.scheme, password, salt.as_ref(), wanted.iterations, &mut text)?);
+//!     }
+//!     Ok(is_right)
 //! }
-//! # Ok::<(), yezdopin::password_hash::HashError>(())
+//!
+//! # let wanted = Info { scheme: Scheme::DjangoSha256, iterations: NonZeroU32::new(9).unwrap() };
+//! # let others = |row: &str, password: &[u8]| row == "other" && password == b"pw";
+//! # let mut kept = String::new();
+//! # for row in ["", "!", "$2b$12$R9h/cIPz0gi.URNNX3kh2O", "x".repeat(2000).as_str()] {
+//! #     assert_eq!(log_in(row, b"pw", wanted, others, |_| unreachable!()), Ok(false));
+//! # }
+//! # assert_eq!(log_in("other", b"pw", wanted, others, |row| kept = row.to_owned()), Ok(true));
+//! # assert_eq!(info(&kept), Ok(wanted));
+//! # assert_eq!(log_in(&kept, b"pw", wanted, others, |_| unreachable!()), Ok(true));
+//! # assert_eq!(log_in(&kept, b"px", wanted, others, |_| unreachable!()), Ok(false));
+//! # let costly = kept.replace("$9$", "$4294967295$");
+//! # assert_eq!(log_in(&costly, b"pw", wanted, others, |_| unreachable!()), Ok(false));
 //! ```
 //!
 //! PostgreSQL prepares a password that is not ASCII by SASLprep (RFC 4013). No call does so here:
@@ -253,6 +281,19 @@ pub fn info(text: &str) -> Result<Info, HashError> {
         calls::YZ_WRONG_LENGTH => Err(HashError::TextTooLong),
         _ => Err(HashError::BadFormat),
     }
+}
+
+/// Whether a text is of one of [`SCHEMES`], so that [`info`] is Ok, and [`verify`] tests a password
+/// against it where its iterations are within the limit.
+///
+/// ```
+/// use yezdopin::password_hash::is_supported;
+///
+/// assert!(is_supported("pbkdf2_sha1$1000$kXq0Wz3vT9bYh2LrE8mNpA$2U/l/68EaoUIrkh0GedCmjQYvmg="));
+/// assert!(!is_supported("$2b$12$R9h/cIPz0gi.URNNX3kh2OPST9/PgBkqquzi.Ss7KIUgO2t0jWMUW"));
+/// ```
+pub fn is_supported(text: &str) -> bool {
+    info(text).is_ok()
 }
 
 impl Info {

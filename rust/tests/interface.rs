@@ -157,16 +157,20 @@ fn names_of_schemes() {
 #[test]
 fn told_of_password_hashes() {
     use std::num::NonZeroU32;
-    use yezdopin::password_hash::{info, new, HashError, Info, MAX_TEXT_LEN, SCHEMES};
+    use yezdopin::password_hash::{
+        info, is_supported, new, HashError, Info, MAX_TEXT_LEN, SCHEMES,
+    };
 
     for scheme in SCHEMES {
         for iterations in [1, 10, 1000].map(|it| NonZeroU32::new(it).unwrap()) {
             let mut text = [0; MAX_TEXT_LEN];
             let kept = new(scheme, b"", b"a salt", iterations, &mut text).unwrap();
             assert_eq!(info(kept), Ok(Info { scheme, iterations }));
+            assert!(is_supported(kept));
         }
     }
     assert_eq!(info(""), Err(HashError::BadFormat));
+    assert!(!is_supported("") && !is_supported("!") && !is_supported("md5$salt$00"));
     let longest = "a".repeat(MAX_TEXT_LEN);
     assert_eq!(info(&longest), Err(HashError::BadFormat));
     assert_eq!(info(&(longest + "a")), Err(HashError::TextTooLong));

@@ -46,10 +46,11 @@ class Door:
 
 
 def python_commands(test):
+    python = "/usr/bin/python3" if "django" in test else "python3"  # which has Debian's Django
     return [
         ["python3", "-B", "python/build_backend.py", "out/python"],
         ["sh", "-c", "cd python/test && "
-         f"PYTHONPATH=$OLDPWD/out/python exec python3 -B -m unittest -v {test}"],
+         f"PYTHONPATH=$OLDPWD/out/python exec {python} -B -m unittest -v {test}"],
     ]
 
 

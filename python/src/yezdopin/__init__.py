@@ -22,7 +22,7 @@ refuses raises `Error`, a `ValueError`.
 
 from __future__ import annotations
 
-from yezdopin._errors import Error
+from yezdopin._errors import Error, Status
 from yezdopin._files import file_digest
 from yezdopin._native import (
     Digest,
@@ -52,6 +52,7 @@ from yezdopin import tokens as tokens
 __all__ = [
     "Digest",
     "Error",
+    "Status",
     "__version__",
     "algorithms_available",
     "algorithms_guaranteed",

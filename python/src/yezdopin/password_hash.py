@@ -9,6 +9,8 @@
     False
     >>> password_hash.info(kept)
     Info(scheme='django-sha1', iterations=1000)
+    >>> password_hash.is_supported("$2b$12$R9h/cIPz0gi.URNNX3kh2OPST9/PgBkqquzi.Ss7KIUgO2t0jWMUW")
+    False
     >>> password_hash.new(
     ...     "django-sha1", b"correct horse battery staple",
     ...     iterations=1000, salt=b"kXq0Wz3vT9bYh2LrE8mNpA") == kept
@@ -26,14 +28,15 @@ import typing
 from typing import TYPE_CHECKING
 
 from yezdopin import _native
-from yezdopin._errors import Error
+from yezdopin._errors import Error, TooManyIterations, UnknownScheme
 from yezdopin._saslprep import prepared as _prepared
 from yezdopin._texts import bytes_of as _bytes_of
 
 if TYPE_CHECKING:
     from _typeshed import ReadableBuffer as _Buffer
 
-__all__ = ["SCHEMES", "Info", "info", "new", "verify"]
+__all__ = ["SCHEMES", "Info", "TooManyIterations", "UnknownScheme", "info", "is_supported", "new",
+           "verify"]
 
 SCHEMES = (
     "django-sha256",
@@ -64,7 +67,7 @@ def _password_for(scheme: str, password: _Buffer) -> _Buffer:
     return _prepared(memoryview(password).tobytes()) if scheme == "postgresql" else password
 
 
-def _scheme_of(text: _Buffer) -> str:
+def _scheme_of(text: str | _Buffer) -> str:
     """The scheme of a text, or none where the text is refused."""
     try:
         return info(text).scheme
@@ -76,9 +79,15 @@ def info(text: str | _Buffer) -> Info:
     """Of which scheme this text is, one of `SCHEMES`, and how many iterations it names.
 
     It derives nothing. `Error` is raised where the text has more than 1024 bytes (status 4,
-    `YZ_WRONG_LENGTH`), and where no hash has it (status 5, `YZ_BAD_FORMAT`).
+    `YZ_WRONG_LENGTH`), and `UnknownScheme` where no hash has it (status 5, `YZ_BAD_FORMAT`).
     """
     return Info(*_native.password_hash_info(_bytes_of(text)))
+
+
+def is_supported(text: str | _Buffer) -> bool:
+    """Whether the text is a hash of one of `SCHEMES`, so that `info` tells its scheme, and `verify`
+    takes it where its iterations are within the limit."""
+    return _scheme_of(text) != ""
 
 
 def new(scheme: str, password: _Buffer, *, iterations: int, salt: _Buffer | None = None) -> str:
@@ -101,10 +110,10 @@ def new(scheme: str, password: _Buffer, *, iterations: int, salt: _Buffer | None
 def verify(text: str | _Buffer, password: _Buffer, *, max_iterations: int) -> bool:
     """Whether the hash of this text is the password's.
 
-    `Error` is raised for a limit below 1 (status 3, `YZ_NO_ITERATIONS`), where the text has more
-    than 1024 bytes (status 4, `YZ_WRONG_LENGTH`), where no hash has it (status 5,
-    `YZ_BAD_FORMAT`), and where it names more than `max_iterations`, before anything is derived
-    (status 6, `YZ_TOO_MANY_ITERATIONS`). Whoever wrote the text chose its iterations, and so the
+    `Error` is raised for a limit below 1 (status 3, `YZ_NO_ITERATIONS`) and where the text has more
+    than 1024 bytes (status 4, `YZ_WRONG_LENGTH`), `UnknownScheme` where no hash has it (status 5,
+    `YZ_BAD_FORMAT`), and `TooManyIterations` where it names more than `max_iterations`, before
+    anything is derived (status 6, `YZ_TOO_MANY_ITERATIONS`). Whoever wrote the text chose its iterations, and so the
     time of a test: the limit is the caller's. A text names at most 2**32 - 1 iterations, so that
     this limit and any above it, such as 10**10, refuse none.
     """

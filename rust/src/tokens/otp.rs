@@ -47,7 +47,10 @@ pub struct ShortKey;
 
 impl fmt::Display for ShortKey {
     fn fmt(&self, f: &mut fmt::Formatter<'_>) -> fmt::Result {
-        write!(f, "a key of one-time passwords has at least {MIN_KEY_LEN} bytes")
+        write!(
+            f,
+            "a key of one-time passwords has at least {MIN_KEY_LEN} bytes"
+        )
     }
 }
 

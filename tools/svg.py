@@ -1,7 +1,8 @@
 # SPDX-License-Identifier: ISC
 """SVG pictures of words, boxes, bars and lines, in the colours of the reader's own light or dark.
 
-Colours follow `prefers-color-scheme` inside of the picture, since a page of Markdown has no style.
+Colours follow `prefers-color-scheme` inside of the picture, since a page of Markdown has no style. A
+page may follow another setting than the system's, so a picture has a ground of its own.
 The kinds of boxes and bars are blues, an orange and a green near those of Okabe and Ito, which the
 colour-blind tell apart. tests/pictures.py has how far bars and words stand out.
 """
@@ -12,6 +13,7 @@ import textwrap
 STYLE = """
 text { font-family: system-ui, -apple-system, 'Segoe UI', 'DejaVu Sans', Helvetica, sans-serif;
 font-size: 14px; fill: #1f2328 }
+.ground { fill: #ffffff }
 .small { font-size: 12px } .bold { font-weight: 600 } .soft { fill: #59636e }
 .line { stroke: #1f2328; stroke-width: 1.5 } .grid { stroke: #d1d9e0; stroke-width: 1 }
 .bar0 { fill: #00507d } .bar1 { fill: #3a90ca } .bar2 { fill: #bb7d00 }
@@ -22,7 +24,7 @@ font-size: 14px; fill: #1f2328 }
 .read { fill: #dff5ea; stroke: #00805c; stroke-width: 3 }
 .head { fill: #1f2328 }
 @media (prefers-color-scheme: dark) {
-text { fill: #f0f6fc } .soft { fill: #9198a1 }
+.ground { fill: #0d1117 } text { fill: #f0f6fc } .soft { fill: #9198a1 }
 .line { stroke: #f0f6fc } .grid { stroke: #3d444d }
 .bar0 { fill: #2f8fd0 } .bar1 { fill: #9bd3f5 } .bar2 { fill: #e69f00 }
 .caller { stroke: #656c76 }
@@ -31,6 +33,8 @@ text { fill: #f0f6fc } .soft { fill: #9198a1 }
 .head { fill: #f0f6fc }
 }
 """
+# The ground around the shapes, in pixels.
+MARGIN = 12
 # How wide a letter is, in pixels. No font of STYLE has wider ones than DejaVu Sans.
 LETTER = {"small": 6.8, "bold": 8.6, "": 8}
 
@@ -81,9 +85,12 @@ class Picture:
     def written(self, height):
         """The picture as a file."""
         title, description = html.escape(self.title), html.escape(self.description)
+        size = self.width + 2 * MARGIN, height + 2 * MARGIN
+        self.rectangle(-MARGIN, -MARGIN, *size, "ground", 6, 0)
         return "\n".join([
-            f'<svg xmlns="http://www.w3.org/2000/svg" viewBox="0 0 {self.width} {height:g}"'
-            f' width="{self.width}" height="{height:g}" role="img" aria-labelledby="title desc">',
+            f'<svg xmlns="http://www.w3.org/2000/svg"'
+            f' viewBox="{-MARGIN} {-MARGIN} {size[0]:g} {size[1]:g}" width="{size[0]:g}"'
+            f' height="{size[1]:g}" role="img" aria-labelledby="title desc">',
             f'<title id="title">{title}</title>',
             f'<desc id="desc">{description}</desc>',
             f"<style>{STYLE}</style>",

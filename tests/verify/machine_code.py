@@ -178,6 +178,8 @@ class Checked(unittest.TestCase):
                               check=False)
         self.assertEqual(done.returncode, 0, done.stdout + done.stderr)
         self.assertRegex(done.stdout.splitlines()[-1], r"^[1-9]\d* functions shown, 0 refused$")
+        most = max(int(it) for it in re.findall(r" s, (\d+) MB$", done.stdout, re.M))
+        self.assertLess(most, 1200, "MB, of which a process may take 1536")
 
 
 CASES = (Reader, Meanings, Checked)

@@ -33,7 +33,8 @@ def with_long_segments(data):
 class Arguments(unittest.TestCase):
     def test_words(self):
         """Wrong arguments are refused with status 2 and how to call it."""
-        for words in ((), ("--jobs", "0", LIBRARY), ("--other", LIBRARY), (LIBRARY, LIBRARY)):
+        for words in ((), ("--jobs", "0", LIBRARY), ("--memory", "0", LIBRARY),
+                      ("--other", LIBRARY), (LIBRARY, LIBRARY)):
             status, output, messages = check(*words)
             self.assertEqual((status, output), (2, ""))
             self.assertIn("usage: verify/check", messages)
@@ -71,6 +72,15 @@ class Arguments(unittest.TestCase):
         self.assertIn("no line has 'SHA-3'", messages)
 
 
+class Memory(unittest.TestCase):
+    def test_limit(self):
+        """A check that takes more memory than it may is refused, and the line says so."""
+        status, output, _ = check("--memory", "60", "--only", "SHA-512 over a message v3", LIBRARY)
+        self.assertEqual(status, 1)
+        self.assertIn(": the check takes more than 60 MB of memory\n", output)
+        self.assertEqual(output.splitlines()[-1], "0 functions shown, 1 refused")
+
+
 class Faults(unittest.TestCase):
     def test_one(self):
         """A flipped bit of a block function's constants is refused with status 1 and the word."""
@@ -98,4 +108,4 @@ class Faults(unittest.TestCase):
         self.assertGreaterEqual(passed, 360)
 
 
-CASES = (Arguments, Faults)
+CASES = (Arguments, Memory, Faults)

@@ -24,6 +24,7 @@ import terms
 import x86
 from elf import Line
 from machine import Pointer, Refused, Region, State, at, offset_of
+from operands_x86 import LONG, REGISTERS, Flags, Immediate, Memory, decode
 
 CASES = 12
 SCRATCH, MIDDLE = 512, 256
@@ -94,9 +95,9 @@ def kind(it):
     """What instructions have in common that are tested as one."""
     seen, parts = {}, [it.name]
     for of in it.operands:
-        if isinstance(of, x86.Immediate):
+        if isinstance(of, Immediate):
             parts.append(f"${of.number}")
-        elif isinstance(of, x86.Memory):
+        elif isinstance(of, Memory):
             parts.append(f"m{bool(of.index)}{of.scale}{of.displacement < 0}")
         else:
             key = getattr(of, "name", None) or of.number
@@ -106,8 +107,8 @@ def kind(it):
 
 def with_base(text):
     """The text with memory at a register in the place of rip and rsp, or None if it names rsp."""
-    used = {x86.REGISTERS[it][0] for it in re.findall(r"%(\w+)", text) if it in x86.REGISTERS}
-    free = next(it for it in x86.LONG if it not in used and it != "rsp")
+    used = {REGISTERS[it][0] for it in re.findall(r"%(\w+)", text) if it in REGISTERS}
+    free = next(it for it in LONG if it not in used and it != "rsp")
     text = re.sub(r"-?0x[0-9a-f]+\(%rip\)", f"(%{free})", text)
     text = re.sub(r"\(%rsp", f"(%{free}", text)
     return None if re.search(r"%[er]?spl?\b", text) else text
@@ -125,7 +126,7 @@ def chosen(lines, has_sha):
         elif changed is None or name.startswith("sha") and not has_sha:
             left["rsp" if changed is None else name] += 1
         else:
-            it = x86.decode(Line(0, b"", changed))
+            it = decode(Line(0, b"", changed))
             cases = 1 if kind(it) in kinds else CASES
             if cases > 1 or changed == text:
                 kinds.add(kind(it))
@@ -136,7 +137,7 @@ def chosen(lines, has_sha):
 
 
 def build(instructions, folder):
-    general = [(8 * i, it) for i, it in enumerate(x86.LONG) if it not in ("rsp", "rax")]
+    general = [(8 * i, it) for i, it in enumerate(LONG) if it not in ("rsp", "rax")]
     text = HARNESS
     for name, lines in (
             ("LOADS", [f"vmovdqu {160 + 32 * i}(%rax), %ymm{i}" for i in range(16)]),
@@ -165,13 +166,13 @@ def case(it, source):
     comparison gives the flags, vectors, memory)."""
     general = [number(64, source) for _ in range(16)]
     base, offset = 16, 0
-    memory = next((of for of in it.operands if isinstance(of, x86.Memory)), None)
+    memory = next((of for of in it.operands if isinstance(of, Memory)), None)
     if memory and it.name != "lea":
         index = 0
         if memory.index:
             index = source.choice([0, 32, 64])
-            general[x86.LONG.index(memory.index)] = index
-        base = x86.LONG.index(memory.base)
+            general[LONG.index(memory.index)] = index
+        base = LONG.index(memory.base)
         offset = MIDDLE - memory.displacement - index * memory.scale
     vectors = [number(256, source) for _ in range(16)]
     for i in range(16):
@@ -217,15 +218,15 @@ def expected(it, of):
     for i, byte in enumerate(memory):
         scratch.cells[i] = terms.constant(byte, 8)
     state.add_region(scratch)
-    for i, name in enumerate(x86.LONG):
+    for i, name in enumerate(LONG):
         state.registers[name] = terms.constant(general[i], 64)
     if base < 16:
-        state.registers[x86.LONG[base]] = at("scratch", offset)
+        state.registers[LONG[base]] = at("scratch", offset)
     for i, value in enumerate(vectors):
         state.vectors[i] = terms.constant(value, 256)
     cf, _, _, overflow = flags_after(a, b)
     pair = terms.constant(a, 64), terms.constant(b, 64)
-    state.flags = x86.Flags(terms.subtract(*pair), cf, pair, overflow)
+    state.flags = Flags(terms.subtract(*pair), cf, pair, overflow)
     state.pc = 0
     x86.execute(state, it)
     return state
@@ -234,7 +235,7 @@ def expected(it, of):
 def differences(it, state, start, after):
     """What the processor has otherwise than the state."""
     general = struct.unpack_from("<17Q", after)
-    for i, name in enumerate(x86.LONG):
+    for i, name in enumerate(LONG):
         value = state.registers[name]
         if isinstance(value, Pointer):
             value = (start + offset_of(value)) % (1 << 64)

@@ -14,6 +14,8 @@ import decode_x86
 import test_x86
 import x86
 from elf import Library
+from operands_x86 import SUFFIXES, Unknown, decode
+from vectors_x86 import PACKED, PACKED_SHIFTS, SPECIAL, WITH_NUMBER
 
 ROOT = pathlib.Path(__file__).resolve().parent.parent.parent
 LIBRARY = ROOT / "out/libyezdopin.so.0"
@@ -36,11 +38,11 @@ def meaningful(library):
         library.read_lines(symbol)
     for line in library.lines.values():
         try:
-            it = x86.decode(line)
+            it = decode(line)
             if not CONTROL.fullmatch(it.name):
                 x86.meaning(it)
                 found.add((line.raw.hex(), line.text))
-        except x86.Unknown:
+        except Unknown:
             pass
     return found
 
@@ -77,7 +79,7 @@ def further(room):
 
 def names_with_meanings():
     """The names of all tables, without the sizes that some have at their ends."""
-    vectors = {*x86.PACKED, *x86.PACKED_SHIFTS, *x86.WITH_NUMBER, *x86.SPECIAL}
+    vectors = {*PACKED, *PACKED_SHIFTS, *WITH_NUMBER, *SPECIAL}
     return {*x86.GENERAL, *vectors}
 
 
@@ -87,7 +89,7 @@ def names_tested(names):
         yield name
         if name[0] == "v":
             yield name[1:]
-        if name[-1] in x86.SUFFIXES:
+        if name[-1] in SUFFIXES:
             yield name[:-1]
 
 
@@ -104,8 +106,8 @@ class Reader(unittest.TestCase):
             try:
                 size, text = decode_x86.read(line.raw, at)
             except decode_x86.Unreadable:
-                with self.assertRaises(x86.Unknown, msg=line.text):
-                    x86.meaning(x86.decode(line))
+                with self.assertRaises(Unknown, msg=line.text):
+                    x86.meaning(decode(line))
                 continue
             self.assertEqual((size, plain(text)), (len(line.raw), plain(line.text)), f"{at:x}")
             compared += 1

@@ -110,6 +110,8 @@ calls_of_header = sed '/^static/d' $(HEADER) | grep -o '\byz_[a-z0-9_]*(' | tr -
 # The calls that have a manual page, those of the header's own text too.
 pages_of_header = grep -o '\byz_[a-z0-9_]*(' $(HEADER) | tr -d '(' | sort -u
 VECTORS = $(sort $(wildcard vectors/*.txt vectors/schedules/*.txt))
+# The calls of all verifications, with the answers that must come.
+VERIFICATIONS = $(OUT)/verifications.txt
 
 # $(call missing,TOOLS): those that aren't here.
 missing = $(foreach it,$(1),$(if $(shell command -v $(it) 2>/dev/null),,$(it)))
@@ -132,7 +134,7 @@ PARTS = generated/make/generated.mk c/c.mk python/python.mk rust/rust.mk openssl
 include $(PARTS)
 
 ifeq ($(ARCH),$(HOST))
-check: test builds sanitized header installed moved python wheel rust
+check: test verifications builds sanitized header installed moved python wheel rust
 else
 # The others want the other processor's own Python, Rust and sanitizers.
 check: test header installed

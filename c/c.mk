@@ -116,6 +116,16 @@ test: $(TESTED)
 	$(call on_each,$(TESTED),$(CC) $(CFLAGS) $(STRICT) c/test/stack.c $$archive -o $$room/stack \
 	    && $(RUN) $$room/stack)
 
+# The right value of each verification and each near it, over each archive and in each package.
+$(VERIFICATIONS): $(wildcard tests/verifications/*.py) \
+    $(addprefix tests/,merkle.py password_hashes.py tokens.py)
+	mkdir -p $(@D)
+	$(PYTHON) -B tests/verifications --write $@
+
+verifications: $(TESTED) $(VERIFICATIONS)
+	$(call on_each,$(TESTED),$(CC) $(CFLAGS) $(STRICT) c/test/verifications.c $$archive \
+	    -o $$room/verifications && $(RUN) $$room/verifications $(VERIFICATIONS))
+
 ifneq ($(BUILDS),$(ARCHIVE))
 # What the dispatcher chooses, as README.md's table has it; that the calls of the build for
 # x86-64-v2 have no newer instructions; and where the kit's builds are, which have all calls, that
@@ -366,5 +376,5 @@ uninstall:
 	done
 	@echo 'libyezdopin is removed from $(DESTDIR)$(PREFIX)'
 
-.PHONY: test builds sanitized header installed moved exports constant-time traces \
+.PHONY: test verifications builds sanitized header installed moved exports constant-time traces \
     instructions-check speed speed-program instructions install uninstall

@@ -104,10 +104,10 @@ js-lowered: $(WASM) $(WASM64)
 	NODE='$(NODE)' $(PYTHON) -B javascript/test/wrong_forms.py $(WASM64) $(JS) "$(MEMORY64)" \
 	    $(JS_EXPORTS)
 
-JS_TESTS = package memory merkle tokens
-js-test: $(JS)/package/package.json
+JS_TESTS = package memory merkle tokens verifications
+js-test: $(JS)/package/package.json $(VERIFICATIONS)
 	PACKAGE="$(WHOLE_OUT)/js/package" VECTORS=vectors VERSION=$(VERSION) \
-	    NODE_PATH="$${NODE_PATH:-/usr/share/nodejs}" \
+	    VERIFICATIONS=$(VERIFICATIONS) NODE_PATH="$${NODE_PATH:-/usr/share/nodejs}" \
 	    $(NODE) --test $(JS_TESTS:%=javascript/test/%.test.mjs)
 
 # What the module tells of its addresses and conditions on other secrets.

@@ -51,8 +51,9 @@ $(SANITIZED): $(PROVIDER_NEEDS)
 	    $(filter-out -Wl$(comma)--no-undefined,$(PROVIDER_LINKS)) -o $@
 
 # The tests, each of which takes the folder of the module.
-PROVIDER_TESTS = agree orders refused_calls reuse words properties refused_memory wiped
-PROVIDER_TEST_HEADERS = openssl/test/agree.h openssl/test/single.h
+PROVIDER_TESTS = agree orders refused_calls reuse words verifications properties refused_memory \
+    wiped
+PROVIDER_TEST_HEADERS = openssl/test/agree.h openssl/test/single.h c/test/table.h
 SANITIZERS = -fsanitize=address,undefined -fno-sanitize-recover=all
 # That libcrypto keeps its tables until the program has ended is no leak.
 LEAKS = --leak-check=full --show-leak-kinds=all --errors-for-leak-kinds=all --error-exitcode=9
@@ -78,8 +79,8 @@ $(PROVIDER_TESTS:%=$(OUT)/openssl/sanitized/%): $(OUT)/openssl/sanitized/%: open
 
 ifeq ($(ARCH),$(HOST))
 openssl-check: openssl-agree openssl-orders openssl-refused openssl-reuse openssl-words \
-    openssl-properties openssl-memory openssl-wiped openssl-sanitized openssl-valgrind openssl-programs \
-    openssl-policy openssl-exports openssl-installed
+    openssl-verifications openssl-properties openssl-memory openssl-wiped openssl-sanitized \
+    openssl-valgrind openssl-programs openssl-policy openssl-exports openssl-installed
 else
 # The others want the other processor's own programs and sanitizers.
 openssl-check: openssl-agree openssl-orders openssl-refused openssl-reuse openssl-words \
@@ -105,6 +106,10 @@ openssl-reuse: $(PROVIDER) $(OUT)/openssl/reuse
 # Where words end.
 openssl-words: $(PROVIDER) $(OUT)/openssl/words
 	$(RUN) $(OUT)/openssl/words $(<D)
+
+# The tags and derived keys of the table of verifications, which are compared outside.
+openssl-verifications: $(PROVIDER) $(OUT)/openssl/verifications $(VERIFICATIONS)
+	$(RUN) $(OUT)/openssl/verifications $(<D) $(VERIFICATIONS)
 
 # Which digest properties name.
 openssl-properties: $(PROVIDER) $(OUT)/openssl/properties
@@ -162,7 +167,7 @@ openssl-exports: $(PROVIDER)
 openssl-later: $(DEBIAN_13)
 	PATH="$(DEBIAN_13_PATH):$$PATH" openssl version | grep -q '^OpenSSL 3\.5\.'
 	$(MAKE) --no-print-directory openssl-agree openssl-orders openssl-refused openssl-reuse \
-	    openssl-words openssl-properties openssl-memory openssl-wiped RUN='$(DEBIAN_13)/run'
+	    openssl-words openssl-verifications openssl-properties openssl-memory openssl-wiped RUN='$(DEBIAN_13)/run'
 	PATH="$(DEBIAN_13_PATH):$$PATH" \
 	    $(MAKE) --no-print-directory openssl-programs PYTHON=python3.13
 

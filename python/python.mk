@@ -9,10 +9,11 @@
 #     make python-speed         # times the Python package beside hashlib and hmac
 
 # The package with its extension, which has the archive in it.
-python: $(ARCHIVE)
+python: $(ARCHIVE) $(VERIFICATIONS)
 	CC='$(CC)' CFLAGS='$(CFLAGS) $(WARNINGS)' YEZDOPIN_LIB_DIR="$(WHOLE_OUT)" \
 	    $(PYTHON) -B python/build_backend.py $(OUT)/python
-	cd python/test && PYTHONPATH="$(WHOLE_OUT)/python" $(PYTHON) -B -m unittest discover -q
+	cd python/test && PYTHONPATH="$(WHOLE_OUT)/python" \
+	    VERIFICATIONS="$(WHOLE_OUT)/verifications.txt" $(PYTHON) -B -m unittest discover -q
 
 # The same extension under Debian's Python, with the packages that Debian has for it, and under later
 # versions: the system's, or else Debian 13's.

@@ -57,6 +57,7 @@ PARTS = [
     (ALTERED, ["rt", "cc"], "that it refuses each text with another instruction"),
     ("test", ["cc"],
      "each status, each vector, pieces, copies, garbage, the stack, of both builds"),
+    ("verifications", ["cc", "python3"], "the right value of each verification and each near it"),
     ("builds", ["cc", "objdump"], "the choice of a build, and that both give the same"),
     ("sanitized", ["cc", "sanitizers"], "the same under ASan and UBSan"),
     ("header", ["cc", "c++", "python3"], "the header as C99 and C++11, and its manual page"),

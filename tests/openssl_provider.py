@@ -29,6 +29,7 @@ PARTS = [
     ("openssl-refused", [], [], "a refused call changes nothing"),
     ("openssl-reuse", [], [], "one context for message after message"),
     ("openssl-words", [], [], "where words end"),
+    ("openssl-verifications", ["python3"], [], "tags and derived keys, and what is near them"),
     ("openssl-properties", [], [], "the digest that properties name"),
     ("openssl-memory", [], [], "each allocation refused in turn"),
     ("openssl-wiped", [], [], "no key and no message left in memory"),

@@ -80,7 +80,7 @@ def bodies_of(table):
 def sum_of(folders):
     """The sum of all files of some folders that git has."""
     command = ["git", "-C", ROOT, "ls-files", "-z", "--cached", "--others", "--exclude-standard",
-               "--", *folders, "tests/planted/trials.py", "Makefile"]
+               "--", *folders, "tests/planted/trials.py", "tests/verifications", "Makefile"]
     listed = subprocess.run(command, check=True, capture_output=True).stdout.decode().split("\0")
     found = hashlib.sha256()
     for name in sorted(it for it in listed if it and (ROOT / it).is_file()):
@@ -142,7 +142,8 @@ def lacking(door):
 
 def try_all(bodies):
     """Tries bodies in shares side by side, and gives how many were found, and how many not."""
-    subprocess.run(["make", "-s", "-C", ROOT, "all"], check=True, stdout=subprocess.DEVNULL)
+    subprocess.run(["make", "-s", "-C", ROOT, "all", "out/verifications.txt"], check=True,
+                   stdout=subprocess.DEVNULL)
     passed = failed = 0
     workers = min(4, len(os.sched_getaffinity(0)))
     with concurrent.futures.ThreadPoolExecutor(workers) as pool:

@@ -137,7 +137,8 @@ def copied_to(room):
     for name in ("vectors", "crates", "docs", "tests"):
         (room / name).symlink_to(ROOT / name)
     (room / "out").mkdir()
-    for built in [*ROOT.glob("out/*.o"), *ROOT.glob("out/libyezdopin*"), ROOT / "out/names"]:
+    for built in [*ROOT.glob("out/*.o"), *ROOT.glob("out/libyezdopin*"), ROOT / "out/names",
+                  ROOT / "out/verifications.txt"]:
         if built.exists():
             shutil.copy2(built, room / "out" / built.name, follow_symlinks=False)
     return room
@@ -162,6 +163,7 @@ def run_in(room, door, test):
     environment = {
         **os.environ, "PYTHONFAULTHANDLER": "1", "YEZDOPIN_LIB_DIR": str(room / "out"),
         "PACKAGE": str(room / "out/js/package"), "VECTORS": str(room / "vectors"),
+        "VERIFICATIONS": str(room / "out/verifications.txt"),
         "CARGO_TARGET_DIR": str(room / "out/cargo"), "RT": "no-kit",
         "NODE_PATH": os.environ.get("NODE_PATH", "/usr/share/nodejs"),
     }

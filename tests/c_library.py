@@ -12,7 +12,6 @@ this machine: --anew tries all. The last line is 'N passed, M failed', or 'N pas
 skipped'.
 """
 
-import os
 import pathlib
 import re
 import shutil
@@ -25,6 +24,7 @@ sys.dont_write_bytecode = True
 sys.path.append(str(pathlib.Path(__file__).resolve().parent / "lib"))
 import debian_crates
 import kept
+import parts
 import password_hashes
 
 ROOT = pathlib.Path(__file__).resolve().parent.parent
@@ -99,20 +99,10 @@ ARM_PARTS = [
 ]
 
 
-def compiles(source, *flags):
-    """Whether there is a C compiler, and it makes a program of a text."""
-    if not is_there("cc"):
-        return False
-    with tempfile.TemporaryDirectory() as folder:
-        command = [os.environ.get("CC", "cc"), *flags, "-x", "c", "-", "-o", f"{folder}/program"]
-        run = subprocess.run(command, input=source, text=True, capture_output=True, check=False)
-    return run.returncode == 0
-
-
 def is_there(tool):
     """Whether a tool, or what a compiler needs for a part, is on this machine."""
     if tool == "sanitizers":
-        return compiles("int main(void) { return 0; }", "-fsanitize=address,undefined")
+        return parts.compiles("int main(void) { return 0; }", "-fsanitize=address,undefined")
     if tool == "pip":
         command = [sys.executable, "-m", "pip", "--version"]
         return subprocess.run(command, capture_output=True, check=False).returncode == 0
@@ -120,15 +110,15 @@ def is_there(tool):
         # Of 3.11 or later, whose limited API the extension is compiled for.
         source = "#include <Python.h>\nint a[PY_VERSION_HEX < 0x030B0000 ? -1 : 1];\n"
         folder = sysconfig.get_paths()["include"]
-        return compiles(f"{source}int main(void) {{ return 0; }}", f"-I{folder}")
+        return parts.compiles(f"{source}int main(void) {{ return 0; }}", f"-I{folder}")
     if tool == "Rust's std for aarch64":
         command = ["rustc", "--print=target-libdir", "--target=aarch64-unknown-linux-gnu"]
-        if not is_there("rustc"):
+        if not parts.is_command("rustc"):
             return False
         run = subprocess.run(command, capture_output=True, text=True, check=False)
         return any(pathlib.Path(run.stdout.strip()).glob("libstd-*"))
     if tool == "valgrind/memcheck.h":
-        return compiles("#include <valgrind/memcheck.h>\nint main(void) { return 0; }")
+        return parts.compiles("#include <valgrind/memcheck.h>\nint main(void) { return 0; }")
     if tool.endswith(" with plugins"):
         # Of the version that test/traces/traces.c is for.
         name = tool.split()[0]
@@ -145,22 +135,7 @@ def is_there(tool):
         return not debian_crates.lacking(tool[len("librust-") : -len("-dev")])
     if tool == "PostgreSQL":
         return password_hashes.postgres_bin() is not None
-    name = os.environ.get({"cc": "CC", "c++": "CXX", "rt": "RT"}.get(tool, ""), tool)
-    return shutil.which(name) is not None
-
-
-def make(arch, *arguments):
-    """What make says, where it failed, and the lines by which it leaves out a part of a target. The
-    compilers that are named are for x86-64."""
-    environment = {**os.environ}
-    if arch != "x86_64":
-        environment = {name: it for name, it in environment.items() if name not in ("CC", "CXX")}
-    run = subprocess.run(
-        ["make", "-s", "-C", ROOT, f"ARCH={arch}", *arguments],
-        capture_output=True, text=True, check=False, env=environment,
-    )
-    said = run.stdout + run.stderr
-    return said if run.returncode else None, re.findall(r"^left out: .*, without .*", said, re.M)
+    return parts.is_command(tool)
 
 
 def new_copy(folder):
@@ -187,32 +162,11 @@ def altered(arch):
             text = copy / "generated" / name
             code = text.read_text()
             text.write_text(re.sub(r"\t(v?)(xor|eor)", r"\t\1and", code, count=1))
-            fault, _ = make(arch, "-C", copy, f"KIT_OUT={KIT_OUT[arch]}", *options, GENERATED)
+            fault, _ = parts.make("-C", copy, f"KIT_OUT={KIT_OUT[arch]}", *options, GENERATED,
+                                  arch=arch)
         if fault is None or "is not what the kit makes" not in fault:
             return f"{name}: {fault or 'taken'}"
     return None
-
-
-def try_parts(arch, always, parts):
-    """Builds the library for a kind of processor, and tries its parts; how many passed, failed and
-    were left out."""
-    tools = {tool: is_there(tool) for _, needed, _ in parts for tool in [*always, *needed]}
-    unbuilt = make(arch, "-B", "all")[0] if all(tools[tool] for tool in always) else None
-    passed, failed, skipped = 0, 0, 0
-    for name, needed, what in parts:
-        missing = [tool for tool in [*always, *needed] if not tools[tool]]
-        if missing:
-            print(f"left out: {arch}: {name} ({what}), without {', '.join(missing)}")
-            skipped += 1
-            continue
-        fault, left_out = (unbuilt, []) if unbuilt else try_part(arch, name)
-        for line in left_out:
-            print(line)
-        skipped += len(left_out)
-        print(f"FAILED: {arch}: {name}:\n{fault}" if fault else f"ok: {arch}: {name}: {what}")
-        failed += fault is not None
-        passed += fault is None
-    return passed, failed, skipped
 
 
 def try_part(arch, name):
@@ -227,21 +181,24 @@ def try_part(arch, name):
         fault, left_out = altered(arch), []
     else:
         current = [word for it in BUILT[arch] for word in ("-o", it)]
-        fault, left_out = make(arch, *(["-B"] if name == GENERATED else current), *name.split())
+        how = ["-B"] if name == GENERATED else current
+        fault, left_out = parts.make(*how, *name.split(), arch=arch)
     if fault is None and not left_out and name != GENERATED:
         kept.keep(as_name, folders)
     return fault, left_out
 
 
+def tried(arch, compiler, of_arch):
+    """Builds the library for a kind of processor, and tries its parts."""
+    return parts.tried(
+        of_arch, ["make", compiler], is_there, lambda: parts.make("-B", "all", arch=arch)[0],
+        lambda name: try_part(arch, name), f"{arch}: ",
+    )
+
+
 def main():
-    counted = [
-        try_parts("x86_64", ["make", "cc"], PARTS),
-        try_parts("aarch64", ["make", "aarch64-linux-gnu-gcc"], ARM_PARTS),
-    ]
-    passed, failed, skipped = map(sum, zip(*counted))
-    counts = f"{passed} passed, {failed} failed"
-    print(f"{counts}, {skipped} skipped" if skipped else counts)
-    return failed != 0
+    return parts.told(tried("x86_64", "cc", PARTS),
+                      tried("aarch64", "aarch64-linux-gnu-gcc", ARM_PARTS))
 
 
 if __name__ == "__main__":

@@ -16,9 +16,9 @@ These are the rules:
   calls of the modules of STANDARDS that take parameters or return a `Result`, but for those of
   HOLD_VALUES, which store values or hand them back.
 
-A comment may leave to another call what that call's comment says: 'As [`update_each_counted`], but over
-vectors of another width' needs no more, where it takes no other parameters. The first line of a
-module's page may name the one section of all its calls. A call without parameters, such as
+A comment may leave to another call what that call's comment says: 'As [`update_each_counted`], but
+over vectors of another width' needs no more, where it takes no other parameters. The first line of
+a module's page may name the one section of all its calls. A call without parameters, such as
 `output_len`, needs a comment and nothing more.
 
 Then it reads comments with a planted fault each, and fails where one isn't found. Of the comments

@@ -15,7 +15,10 @@ import shutil
 import subprocess
 import sys
 
-ROOT = pathlib.Path(__file__).resolve().parent.parent
+sys.dont_write_bytecode = True
+sys.path.append(str(pathlib.Path(__file__).resolve().parent / "lib"))
+import parts
+
 BUILT = "crates/ring_c/out/libring_c.wasm64.a"
 # The first whose own tests are `node --test`, and which has modules of 64-bit addresses.
 NODE_MAJOR = 20
@@ -53,33 +56,16 @@ def is_there(tool):
     return version is not None and int(version[1]) >= NODE_MAJOR
 
 
-def make(*arguments):
-    """What make says, where it failed."""
-    run = subprocess.run(
-        ["make", "-s", "-C", ROOT, *arguments], capture_output=True, text=True, check=False
-    )
-    return run.stdout + run.stderr if run.returncode else None
+def attempt(name):
+    """What is wrong with a part, or None, and what it leaves out. `rt` is asked once, even where
+    make finds nothing newer."""
+    return parts.make("-B", name) if name == PARTS[0][0] else parts.make("-o", BUILT, name)
 
 
 def main():
     """Tries each part, and counts."""
-    tools = {tool: is_there(tool) for _, needed, _ in PARTS for tool in [*NEEDED, *needed]}
-    unbuilt = make("-B", "js") if all(tools[it] for it in NEEDED) else None
-    passed, failed, skipped = 0, 0, 0
-    for name, needed, what in PARTS:
-        missing = [tool for tool in [*NEEDED, *needed] if not tools[tool]]
-        if missing:
-            print(f"left out: {name} ({what}), without {', '.join(missing)}")
-            skipped += 1
-            continue
-        # `rt` is asked once, even where make finds nothing newer.
-        fault = unbuilt or (make("-B", name) if name == PARTS[0][0] else make("-o", BUILT, name))
-        print(f"FAILED: {name}:\n{fault}" if fault else f"ok: {name}: {what}")
-        failed += fault is not None
-        passed += fault is None
-    counts = f"{passed} passed, {failed} failed"
-    print(f"{counts}, {skipped} skipped" if skipped else counts)
-    return failed != 0
+    return parts.told(
+        parts.tried(PARTS, NEEDED, is_there, lambda: parts.make("-B", "js")[0], attempt))
 
 
 if __name__ == "__main__":

@@ -12,10 +12,8 @@ The last line is 'N passed, M failed', and ', K skipped' where a system is missi
 
 import base64
 import contextlib
-import functools
 import hashlib
 import hmac
-import json
 import os
 import pathlib
 import pwd
@@ -31,6 +29,7 @@ sys.dont_write_bytecode = True
 sys.path.append(str(pathlib.Path(__file__).resolve().parent / "lib"))
 import counted
 import debian_crates
+import peers
 from run import COMPILER, ROOT, answers, differing, file_case, rows_of, short_of_memory
 
 VECTORS = ROOT / "vectors/password_hashes"
@@ -438,22 +437,9 @@ print(json.dumps([globals()[q[0]](*q[1:]) for q in json.load(sys.stdin)]))
 """
 
 
-@functools.lru_cache(None)
-def python_with(module):
-    """A Python that has the module."""
-    for python in (sys.executable, "/usr/bin/python3"):
-        run = subprocess.run([python, "-c", f"import {module}"], stderr=subprocess.DEVNULL)
-        if run.returncode == 0:
-            return python
-    return None
-
-
 def asked(module, questions):
     """What the module answers."""
-    command = [python_with(module), "-c", PEERS[module] + ANSWER_ALL]
-    text = json.dumps(questions).encode()
-    run = subprocess.run(command, input=text, stdout=subprocess.PIPE)
-    return json.loads(run.stdout)
+    return peers.asked(module, PEERS[module] + ANSWER_ALL, questions)
 
 
 def with_module(module):
@@ -669,11 +655,11 @@ def cases():
     yield from ((broken_case(scheme), "") for scheme in SCHEMES)
     yield each_request_is_refused, "" if COMPILER else "a C compiler"
     for module in PEERS:
-        missing = "" if python_with(module) else module
+        missing = "" if peers.python_with(module) else module
         yield with_module(module), missing
         if module in UNREAD:
             yield unread_of(module), missing
-    yield with_long_salts, "" if python_with("passlib") else "passlib"
+    yield with_long_salts, "" if peers.python_with("passlib") else "passlib"
     yield with_rustcrypto, debian_crates.lacking("pbkdf2", "password-hash")
     yield with_mosquitto, "" if shutil.which("mosquitto_passwd") else "mosquitto_passwd"
     yield with_postgres, "" if postgres_bin() else "PostgreSQL"

@@ -5,8 +5,9 @@ and that the launchers run programs that are built from it.
 
 With the kit, `generated/make/programs check` links each text and the kit's object of the same
 program, and compares what comes of them; that it would see another instruction, constant or address
-is tried by planted ones. The launchers are run in a copy of the repository, without the kit. The last line is
-'N passed, M failed', or 'N passed, M failed, K skipped' without the kit or a C compiler.
+is tried by planted ones. The launchers are run in a copy of the repository, without the kit. The
+last line is 'N passed, M failed', or 'N passed, M failed, K skipped' without the kit or a C
+compiler.
 
     tests/program_texts.py [WORD..]     all, or those with one of these words in their names
 """

@@ -13,7 +13,6 @@ and ', K skipped' where a peer is missing.
 
 import base64
 import ctypes
-import functools
 import hashlib
 import hmac
 import json
@@ -29,6 +28,7 @@ import tempfile
 sys.dont_write_bytecode = True
 sys.path.append(str(pathlib.Path(__file__).resolve().parent / "lib"))
 import counted
+import peers
 from run import COMPILER, ROOT, answers, differing, file_case, short_of_memory
 
 VECTORS = ROOT / "vectors/tokens"
@@ -412,23 +412,6 @@ json.dump([answer(*it) for it in json.load(sys.stdin)], sys.stdout)
 """
 
 
-@functools.lru_cache(None)
-def python_with(module):
-    """A Python that has the module."""
-    for python in (sys.executable, "/usr/bin/python3"):
-        run = subprocess.run([python, "-c", f"import {module}"], stderr=subprocess.DEVNULL)
-        if run.returncode == 0:
-            return python
-    return None
-
-
-def asked(module, program, questions):
-    """What a program over a module answers."""
-    text = json.dumps(questions).encode()
-    run = subprocess.run([python_with(module), "-c", program], input=text, stdout=subprocess.PIPE)
-    return json.loads(run.stdout)
-
-
 def texts_for_pyjwt(rng, alg, key):
     """Texts, each with the name of what PyJWT may take and this crate refuses."""
     payload = rng.randbytes(rng.randrange(60))
@@ -455,13 +438,13 @@ def with_pyjwt():
                 questions.append(("verify", alg, key.hex(), token.hex()))
                 lines.append(f"jws verify {alg} {digits(key)} {shown(token)}")
                 kinds.append(kind)
-    wrong, theirs, ours = [], asked("jwt", PYJWT, questions), answers(lines)
+    wrong, theirs, ours = [], peers.asked("jwt", PYJWT, questions), answers(lines)
     for line, kind, their, our in zip(lines, kinds, theirs, ours):
         if (their or INVALID) != our and not (our == INVALID and kind in LENIENT):
             wrong.append((line, f"{our}, and by PyJWT {their} ({kind})"))
     key, payloads = bytes(range(64)), [rng.randbytes(it) for it in range(50)]
     pairs = [(alg, it) for alg in HASHES for it in payloads]
-    tokens = asked("jwt", PYJWT, [("sign", alg, key.hex(), it.hex()) for alg, it in pairs])
+    tokens = peers.asked("jwt", PYJWT, [("sign", alg, key.hex(), it.hex()) for alg, it in pairs])
     wanted = []
     for (alg, payload), token in zip(pairs, tokens):
         for call in ("verify", "verify-in-place"):
@@ -480,7 +463,7 @@ def with_pyotp():
     asks = list(passwords_at_random(random.Random("pyotp"), list(OTP_HASHES)))
     questions = [(OTP_HASHES[name], key.hex(), *more) for name, key, *more in asks]
     wanted = []
-    for (name, key, counter, places), text in zip(asks, asked("pyotp", PYOTP, questions)):
+    for (name, key, counter, places), text in zip(asks, peers.asked("pyotp", PYOTP, questions)):
         head = f"{name} {digits(key)}"
         wanted.append((f"hotp {head} {counter} {places}", str(int(text))))
         wanted.append((f"hotp find {head} {counter} 1 {places} {text}", str(counter)))
@@ -526,7 +509,7 @@ def are_large():
 
 
 def requests_are_refused():
-    """each request for memory refused in turn: its line is answered so, and the next ones as ever"""
+    """each request for memory refused in turn: its line is answered so, the next ones as ever"""
     key, payload = bytes(range(48)), b'{"exp":2,"nbf":1,"a":["\\n",{"b":1.5}]}'
     rows = [(f"jws current {digits(payload)} 1 0", "true")]
     for text in (USUAL[0], ACCEPTED[3], ACCEPTED[5], '{"alg":"none"}', "{"):
@@ -603,8 +586,8 @@ def cases():
     yield from ((file_case(file), "") for file in sorted(VECTORS.glob("*.txt")))
     yield from ((case, "") for case in ALONE)
     yield requests_are_refused, "" if COMPILER else "a C compiler"
-    yield with_pyjwt, "" if python_with("jwt") else "PyJWT"
-    yield with_pyotp, "" if python_with("pyotp") else "pyotp"
+    yield with_pyjwt, "" if peers.python_with("jwt") else "PyJWT"
+    yield with_pyotp, "" if peers.python_with("pyotp") else "pyotp"
     yield with_oathtool, "" if shutil.which("oathtool") else "oathtool"
     yield example_in_c, " ".join(it for it in ("make", "cc") if not shutil.which(it))
 

@@ -6,6 +6,7 @@ import struct
 import subprocess
 from collections import namedtuple
 
+import decode_arm
 import decode_x86
 
 Segment = namedtuple("Segment", "start end flags offset size")
@@ -22,8 +23,8 @@ class WrongFile(Exception):
 
 class Library:
     def __init__(self, path, by_objdump=False, stripped=False):
-        """`by_objdump` has objdump read the instructions of x86-64 too, for a comparison. One that
-        may be `stripped` needs no names."""
+        """`by_objdump` has objdump read the instructions, for a comparison. One that may be
+        `stripped` needs no names."""
         self.path, self.by_objdump = path, by_objdump
         with open(path, "rb") as file:
             self.data = file.read()
@@ -136,21 +137,26 @@ class Library:
 
     def read_lines(self, function):
         """Reads the instructions of a function, in order, as far as they can be read."""
-        end = function.start + function.size
-        if self.machine == X86 and not self.by_objdump:
-            at = function.start
-            while at < end and (line := self._read_line(at, end)).text[0] != "(":
-                at += len(line.raw)
+        if self.by_objdump:
+            self._read_by_objdump(function)
             return
-        self._read_by_objdump(function)
+        at, end = function.start, function.start + function.size
+        while at < end:
+            line = self._read_line(at, end)
+            if line.text[0] == "(" and self.machine == X86:  # where the next one is isn't known
+                return
+            at += len(line.raw)
 
     def _read_line(self, at, end):
         if at not in self.lines:
-            data = self.bytes_at(at, min(end, at + 15))
+            data = self.bytes_at(at, min(end, at + (15 if self.machine == X86 else 4)))
             try:
-                size, text = decode_x86.read(data, at)
+                size, text = decode_x86.read(data, at) if self.machine == X86 else \
+                    (4, decode_arm.read(data, at))
             except decode_x86.Unreadable as why:
                 size, text = 1, f"({data.hex()}) {why}"
+            except decode_arm.Unreadable as why:
+                size, text = 4, f"({data.hex()}) {why}"
             self.lines[at] = Line(at, data[:size], text)
         return self.lines[at]
 
@@ -170,7 +176,7 @@ class Library:
     def line(self, address):
         """The instruction at an address, or None."""
         if address not in self.lines and (function := self.function_at(address)):
-            if self.machine == X86 and not self.by_objdump:
+            if not self.by_objdump:
                 return self._read_line(address, function.start + function.size)
             self.read_lines(function)
         return self.lines.get(address)

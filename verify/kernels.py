@@ -359,6 +359,8 @@ WIDE = [InLanes(SHA1, 4, 5), InLanes(SHA1, 8, 5), InLanes(SHA256, 4, 8), InLanes
 OVER_BLOCKS = {"Sha1RunBlocks64": [Blocks(SHA1, 4), Blocks(SHA1, 8)],
                "Sha256RunBlocks64": [Blocks(SHA256, 4), Blocks(SHA256, 8)],
                "RunBlocks128": [Blocks(SHA512, 4)]}
+# What a compiler may put into its callers, and is shown where it has a function of its own.
+IF_NOT_INLINED = [Blocks(SHA512, 4)]
 KINDS = [  # each with the check of its contract
     (Kind(SHA1_MODULES + "run_ahead" + NUMBER, [Ahead(SHA1)], identify.ahead), run_ahead),
     (Kind(SHA2_MODULES + "run_ahead" + NUMBER, [Ahead(SHA256), Ahead(SHA512)], identify.ahead),
@@ -434,7 +436,7 @@ def found_rows(library):
                 yield Row(build, symbol, check, kernel)
         for kernel in kind.kernels:
             for build in builds_with(library, check, kernel):
-                if (kernel, build) not in found:
+                if (kernel, build) not in found and kernel not in IF_NOT_INLINED:
                     yield Row(build, None, check, kernel)
 
 

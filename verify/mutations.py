@@ -7,7 +7,8 @@
 Plants faults that a compiler or an assembler could make, and flips COUNT random bits in the code of
 kernels. What isn't refused has to compute the same: the changed functions are then run by the
 processor, over many inputs, beside the unchanged ones. The last line is 'N passed, M failed'.
-LIBRARY is of x86-64, as this processor. It needs gcc's assembler.
+It needs gcc's assembler of the library's processor; what isn't refused in a library for 64-bit ARM
+runs under qemu-aarch64.
 """
 
 import argparse
@@ -23,9 +24,10 @@ import tempfile
 from collections import namedtuple
 
 sys.dont_write_bytecode = True
+import emulated
 import kernels
 import native
-from elf import Library
+from elf import ARM, X86, Library
 from machine import Refused
 
 # What is planted: in the kernels whose line begins so, one of the instructions that match is
@@ -44,7 +46,7 @@ BLOCKS = ["SHA-1 in 8 lanes over blocks v3", "SHA-256 in 4 lanes over blocks v2"
 ITERATES = ["PBKDF2 by SHA-1 of 5 words v2", "PBKDF2 by SHA-256 by instructions of 8 words v2"]
 R, D = r"%\w+", r"-?0x[0-9a-f]+"
 OF_BLOCKS = rf"(v?pinsrd \$\w+,|vmovq |vmovsd )({D})(\(%rsi.*)"
-FAULTS = [
+OF_X86 = [
     Fault("a rotation by another count", AHEAD,
           rf"(shld|shrd|rorx|rol|ror) \$(0x\w+),({R}.*)", lambda it: f"{it[1]} "
           f"${int(it[2], 16) % 31 + 1},{it[3]}"),
@@ -99,32 +101,104 @@ FAULTS = [
           lambda it: f"{it[1]} {int(it[2], 16) - 0x240}(%rsi),{it[3]}"),
     Fault("one iteration fewer", ITERATES, r"cmp \$0x2,(%\w+)", lambda it: f"cmp $3,{it[1]}"),
 ]
+# The same of 64-bit ARM.
+ARM_AHEAD = ["SHA-1 (run_ahead", "SHA-256 (run_ahead", "SHA-512 (run_ahead"]
+ARM_MESSAGE = ["SHA-1 over a message", "SHA-256 over a message", "SHA-512 over a message"]
+ARM_BY_INSTRUCTION = ["SHA-1 by instructions of 5", "SHA-256 by instructions of 8"]
+ARM_BLOCKS = ["SHA-1 in 4 lanes over blocks", "SHA-256 in 4 lanes over blocks"]
+ARM_LANES = ["SHA-1 in 4 lanes of 5 words (sha1", "SHA-256 in 4 lanes of 8 words (block"]
+ARM_ITERATES = ["PBKDF2 by SHA-1 of 5 words", "PBKDF2 by SHA-256 by instructions of 8 words"]
+W = r"[wx]\d+"
+OF_ARM = [
+    Fault("a rotation by another count", ARM_AHEAD, r"(eor|ror) (.*)#(\d+)",
+          lambda it: f"{it[1]} {it[2]}#{int(it[3]) % 31 + 1}"),
+    Fault("another register", ARM_AHEAD, rf"(bic|and|add) ({W}), ({W}), ({W})",
+          lambda it: f"{it[1]} {it[2]}, {it[3]}, {it[3]}"),
+    Fault("a missing add", ARM_AHEAD + ARM_LANES, rf"add (v.*|{W}, {W}, {W})", lambda it: "nop"),
+    Fault("a missing eor", ARM_AHEAD + ARM_LANES, rf"eor (v.*|{W}, {W}, {W})", lambda it: "nop"),
+    Fault("an add in the place of an and", ARM_AHEAD, rf"and ({W}, {W}, {W})",
+          lambda it: f"add {it[1]}"),
+    Fault("words in another order", ARM_AHEAD + ARM_BLOCKS, r"(zip|uzp|trn)([12]) (.*)",
+          lambda it: f"{it[1]}{3 - int(it[2])} {it[3]}"),
+    Fault("other words of a vector", ARM_AHEAD + ARM_BY_INSTRUCTION, r"ext (.*)#(\d+)",
+          lambda it: f"ext {it[1]}#{int(it[2]) ^ 8 or 4}"),
+    Fault("a shift by another count", ARM_AHEAD + ARM_LANES, r"(u?s[hr][lra]+) (v.*)#(\d+)",
+          lambda it: f"{it[1]} {it[2]}#{int(it[3]) % 29 + 1}"),
+    Fault("a read past the block", ARM_MESSAGE, r"ldp (q\d+), (q\d+), \[(x\d+), #(-?\d+)\]",
+          lambda it: f"ldp {it[1]}, {it[2]}, [{it[3]}, #{int(it[4]) + 112}]"),
+    Fault("a write past the state", ARM_AHEAD, r"(stp|str) (\w+, )+\[x1.*\]",
+          lambda it: "stp x1, x2, [x1, #56]"),
+    Fault("a count by two", ["SHA-1 by instructions over a message",
+                             "SHA-256 by instructions over a message"],
+          r"subs (x\d+), \1, #0x1", lambda it: f"subs {it[1]}, {it[1]}, #0x2"),
+    Fault("a count that goes up", ARM_MESSAGE + ARM_ITERATES, r"subs (\w+), \1, #0x1",
+          lambda it: f"adds {it[1]}, {it[1]}, #0x1"),
+    Fault("a loop that ends early", ARM_MESSAGE, r"lsr (x\d+), (x\d+), #([67])",
+          lambda it: f"lsr {it[1]}, {it[2]}, #{int(it[3]) + 1}"),
+    Fault("h2 in the place of h", ARM_BY_INSTRUCTION[1:], r"sha256h (.*)",
+          lambda it: f"sha256h2 {it[1]}"),
+    Fault("sha1p in the place of sha1m", ARM_BY_INSTRUCTION[:1], r"sha1m (.*)",
+          lambda it: f"sha1p {it[1]}"),
+    Fault("eor in the place of bsl in lanes", ARM_LANES, r"bsl (.*)", lambda it: f"eor {it[1]}"),
+    Fault("bytes that aren't reversed", ARM_BLOCKS, r"rev32 (.*)", lambda it: f"mov {it[1]}"),
+    Fault("a register that isn't restored", ARM_AHEAD[2:] + ARM_MESSAGE,
+          r"ldp x20, x19, \[sp(.*)", lambda it: f"ldp x19, x20, [sp{it[1]}"),
+    Fault("constants of another round", ARM_AHEAD[1:] + ARM_BY_INSTRUCTION,
+          r"adrp .*", TABLE),
+    Fault("a branch on a secret", ARM_AHEAD, rf"eor ({W}), .*", lambda it: f"cbz {it[1]}, . + 4"),
+    Fault("an address by a secret", ARM_AHEAD, r"eor w(\d+), .*|eor x(\d+), .*",
+          lambda it: f"ldrb w{it[1] or it[2]}, [x{it[1] or it[2]}]"),
+    Fault("a write below the stack pointer", ARM_AHEAD, rf"eor ({W}), .*",
+          lambda it: f"str {it[1]}, [sp, #-256]"),
+    Fault("an iterate that isn't added", ARM_ITERATES[1:], r"eor v\d+\.16b, .*", lambda it: "nop"),
+    Fault("one iteration fewer", ARM_ITERATES, r"(cmp|subs) (w\d+, .*#|w\d+, #)0x([12])",
+          lambda it: f"{it[1]} {it[2]}0x{int(it[3]) + 1}"),
+]
+INLINED = BLOCKS[2:]  # kernels.IF_NOT_INLINED
+FAULTS = {X86: OF_X86, ARM: OF_ARM}
+FLIPPED = {X86: AHEAD + BY_INSTRUCTION, ARM: ARM_AHEAD + ARM_BY_INSTRUCTION}
+NOP = {X86: b"\x90", ARM: bytes.fromhex("1f2003d5")}
 # What is changed: of a kernel, by its number, the bytes from an address on.
 Change = namedtuple("Change", "what kernel address old new")
 KERNELS, LIBRARY = [], []  # which the processes below have from this one
 MEMORY, SECONDS = 3 << 29, 200
 
 
-def assembled(text):
+def assembled(text, machine):
     """The bytes of instructions, or None where there are no such ones."""
+    cross, first = ("aarch64-linux-gnu-", ".arch_extension sha2\n") if machine == ARM else ("", "")
     with tempfile.TemporaryDirectory() as room:
-        done = subprocess.run(["as", "-", "-o", f"{room}/fault.o"], check=False, text=True,
-                              input=text.replace("; ", "\n") + "\n", capture_output=True)
+        done = subprocess.run([f"{cross}as", "-", "-o", f"{room}/fault.o"], check=False, text=True,
+                              input=first + text.replace("; ", "\n") + "\n", capture_output=True)
         if done.returncode:
             return None
-        subprocess.run(["objcopy", "-O", "binary", "-j", ".text", f"{room}/fault.o",
+        subprocess.run([f"{cross}objcopy", "-O", "binary", "-j", ".text", f"{room}/fault.o",
                         f"{room}/fault"], check=True)
         with open(f"{room}/fault", "rb") as file:
             return file.read()
 
 
+def read_by(library, line):
+    """The address of the constant that an instruction reads, or that of 64-bit ARM which follows
+    it; or None."""
+    if library.machine == X86:
+        displacement = int(re.search(r"(-?0x[0-9a-f]+)\(%rip\)", line.text)[1], 16)
+        return line.at + len(line.raw) + displacement
+    base, page = re.fullmatch(r"adrp (x\d+), ([0-9a-f]+)", line.text).groups()
+    for at in range(line.at + 4, line.at + 40, 4):
+        text = library.lines[at].text if at in library.lines else ""
+        if (it := re.fullmatch(rf"(?:ldr q\d+, \[{base}(?:, #(\d+))?\]|"
+                               rf"add x\d+, {base}, #(0x[0-9a-f]+))", text)):
+            return int(page, 16) + int(it[1] or it[2] or "0", 0)
+    return None
+
+
 def change_of(library, line, new):
     """The address and the bytes that replace an instruction's, or None."""
     if new is TABLE:
-        displacement = int(re.search(r"(-?0x[0-9a-f]+)\(%rip\)", line.text)[1], 16)
-        there = line.at + len(line.raw) + displacement
-        return there, bytes([library.bytes_at(there, there + 1)[0] ^ 1])
-    code = assembled(new)
+        there = read_by(library, line)
+        return there and (there, bytes([library.bytes_at(there, there + 1)[0] ^ 1]))
+    code = assembled(new, library.machine)
     if code is None:
         return None
     room, at = len(line.raw), line.at
@@ -133,7 +207,8 @@ def change_of(library, line, new):
         if following is None:
             return None
         room += len(following.raw)
-    return at, code + b"\x90" * (room - len(code))
+    nop = NOP[library.machine]
+    return at, code + nop * ((room - len(code)) // len(nop))
 
 
 def file_offset(library, address):
@@ -157,9 +232,11 @@ def planted(library, fault, _):
 
 def chosen_changes(library, used, source):
     """A change for each fault and kernel that has such an instruction among those that it runs."""
-    for fault in FAULTS:
+    for fault in FAULTS[library.machine]:
         for name in fault.kernels:
             number = next((i for i, it in enumerate(KERNELS) if it.name.startswith(name)), None)
+            if number is None and name in INLINED:
+                continue
             if number is None:
                 yield Change(f"{fault.what}: no kernel {name}", None, 0, "", b"")
                 continue
@@ -178,7 +255,7 @@ def chosen_changes(library, used, source):
 def flipped(library, count, source):
     """Random bits of the code of kernels that are checked in a second."""
     own = [i for i, it in enumerate(KERNELS) if it.symbol and any(
-        it.name.startswith(name) for name in AHEAD + BY_INSTRUCTION)]
+        it.name.startswith(name) for name in FLIPPED[library.machine])]
     for i in range(count):
         symbol = KERNELS[own[i % len(own)]].symbol
         address = symbol.start + source.randrange(symbol.size)
@@ -223,13 +300,14 @@ def used_lines(number):
 def try_changes(changes, jobs):
     """Prints what became of each change; gives how many passed and failed."""
     passed = failed = 0
+    runs = native if LIBRARY[0].machine == X86 else emulated
     with multiprocessing.get_context("fork").Pool(jobs, maxtasksperchild=1) as pool:
         for change, why in zip(changes, pool.imap(refusal, changes, 1)):
             name = KERNELS[change.kernel].name
             if why and why[0] != "!":
                 passed += 1
                 print(f"refused: {change.what}, {change.old}, in {name}: {why}", flush=True)
-            elif not why and KERNELS[change.kernel].is_quick and native.computes_the_same(
+            elif not why and KERNELS[change.kernel].is_quick and runs.computes_the_same(
                     LIBRARY[0], changed_data(LIBRARY[0], change)):
                 passed += 1
                 print(f"equal: {change.what}, {change.old}, in {name}", flush=True)
@@ -245,7 +323,8 @@ def try_all(library, flips, jobs):
     LIBRARY.append(library)
     KERNELS.extend(kernels.of(library))
     source = random.Random(1)
-    names = {name for fault in FAULTS for name in fault.kernels}
+    names = {name for fault in FAULTS[library.machine]
+             for name in fault.kernels}
     wanted = [i for i, it in enumerate(KERNELS) if any(it.name.startswith(of) for of in names)]
     with multiprocessing.get_context("fork").Pool(jobs, maxtasksperchild=1) as pool:
         used = dict(zip(wanted, pool.map(used_lines, wanted, 1)))

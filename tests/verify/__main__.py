@@ -6,10 +6,11 @@
 
 The definition stands beside hashlib, the vectors and the tables of crates/; the reader of
 instructions beside objdump; their meanings beside the processor; the terms beside Python's numbers.
-Then the library is checked, and so are copies with faults, which the check must refuse. The library
-is built by make first. What takes minutes isn't tried again where neither the library nor the
-checker has changed since it passed, for the user of this machine: --anew tries all. The last line
-is 'N passed, M failed', or 'N passed, M failed, K skipped'.
+Then the library is checked, and so are copies with faults, which the check must refuse; all that
+for x86-64, and for 64-bit ARM under qemu. The libraries are built by make first. What takes minutes
+isn't tried again where neither a library nor the checker has changed since it passed, for the user
+of this machine: --anew tries all. The last line is 'N passed, M failed', or 'N passed, M failed, K
+skipped'.
 """
 
 import hashlib
@@ -24,6 +25,7 @@ ROOT = pathlib.Path(__file__).resolve().parent.parent.parent
 sys.path += [str(ROOT / "tests/lib"), str(ROOT / "verify")]
 import counted
 import definition
+import for_arm
 import machine_code
 import refused
 import shipped
@@ -32,9 +34,11 @@ KEPT = pathlib.Path(os.environ.get("XDG_CACHE_HOME") or "~/.cache").expanduser()
 
 
 def digest():
-    """The sum of all that a verdict depends on: the library, the checker, its tests, the
+    """The sum of all that a verdict depends on: the libraries, the checker, its tests, the
     processor."""
     found = hashlib.sha256(machine_code.LIBRARY.read_bytes())
+    if for_arm.HAS_COMPILER:
+        found.update(for_arm.LIBRARY.read_bytes())
     for folder in (ROOT / "verify", ROOT / "tests/verify"):
         for path in sorted(folder.iterdir()):
             if path.is_file():
@@ -47,16 +51,18 @@ def main():
     words = sys.argv[1:]
     is_anew = "--anew" in words
     names = [it for it in words if it != "--anew"]
-    made = subprocess.run(["make", "-C", ROOT], stdin=subprocess.DEVNULL,
-                          stdout=subprocess.DEVNULL, check=False)
-    if made.returncode:
-        print("the library could not be built\n0 passed, 1 failed")
-        return 1
+    for words in ([], ["ARCH=aarch64"] if for_arm.HAS_COMPILER else []):
+        made = subprocess.run(["make", "-C", ROOT, *words], stdin=subprocess.DEVNULL,
+                              stdout=subprocess.DEVNULL, check=False)
+        if made.returncode:
+            print("the library could not be built\n0 passed, 1 failed")
+            return 1
     kept = KEPT / f"verify-{digest()}"
     if kept.exists() and not is_anew and not names:
         print(kept.read_text(), end="")
         return 0
-    cases = (*definition.CASES, *machine_code.CASES, *refused.CASES, *shipped.CASES)
+    cases = (*definition.CASES, *machine_code.CASES, *refused.CASES, *shipped.CASES,
+             *for_arm.CASES)
     counts = counted.run(counted.suite(cases, names), sys.stdout).counts()
     status = counted.report(*counts)
     if not status and not names and not counts[2]:

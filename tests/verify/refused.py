@@ -81,6 +81,28 @@ class Memory(unittest.TestCase):
         self.assertEqual(output.splitlines()[-1], "0 functions shown, 1 refused")
 
 
+class Lacking(unittest.TestCase):
+    def check_without(self, name, line):
+        """How a check of some lines ends, in a library that has no function of a name."""
+        data = LIBRARY.read_bytes()
+        with tempfile.TemporaryDirectory() as room:
+            path = pathlib.Path(room, "library.so")
+            path.write_bytes(data.replace(name, b"X" + name[1:]))
+            return check("--only", line, path)
+
+    def test_function(self):
+        """A library without one of the functions is refused, and the line says which."""
+        status, output, _ = self.check_without(b"Sha1RunBlocks64", "SHA-1 in 4 lanes over blocks")
+        self.assertEqual(status, 1)
+        self.assertIn("REFUSED SHA-1 in 4 lanes over blocks v2: there is no function for", output)
+
+    def test_inlined(self):
+        """A function that may be inlined isn't asked for, and is no line then."""
+        status, output, messages = self.check_without(b"RunBlocks128", "SHA-512 in 4 lanes over")
+        self.assertEqual((status, output), (2, ""))
+        self.assertIn("no line has 'SHA-512 in 4 lanes over'", messages)
+
+
 class Faults(unittest.TestCase):
     def test_one(self):
         """A flipped bit of a block function's constants is refused with status 1 and the word."""
@@ -108,4 +130,4 @@ class Faults(unittest.TestCase):
         self.assertGreaterEqual(passed, 360)
 
 
-CASES = (Arguments, Memory, Faults)
+CASES = (Arguments, Memory, Lacking, Faults)

@@ -1,0 +1,152 @@
+# SPDX-License-Identifier: ISC
+"""The same of the library for 64-bit ARM: its reader, its meanings under qemu, the library itself
+and copies with faults. It is built by a cross compiler, and left out without one."""
+
+import pathlib
+import random
+import re
+import shutil
+import subprocess
+import sys
+import tempfile
+import unittest
+
+import arm
+import decode_arm
+import test_arm
+from elf import Library
+
+ROOT = pathlib.Path(__file__).resolve().parent.parent.parent
+LIBRARY = ROOT / "out/aarch64/libyezdopin.so.0"
+EMULATOR = ["qemu-aarch64", "-cpu", "max"]
+HAS_COMPILER = shutil.which("aarch64-linux-gnu-gcc")
+HAS_BOTH = HAS_COMPILER and shutil.which(EMULATOR[0])
+# What moves between instructions, or names an address of the library.
+CONTROL = re.compile(r"b|b\..*|bl|ret|cbn?z|adrp")
+# Instructions that have a meaning, and of whose names the kernels may have none.
+FURTHER = """
+    tst x1, x2; tst w1, #0xff; bic w1, w2, w3; fmov d1, x2; fmov w1, s2; fmov s1, s2; nop
+    adds w1, w2, w3; adds x1, x2, #0x10; subs w1, w2, w3; cmp x1, x2, lsl #3; movi v1.16b, #0x81
+    uzp1 v1.4s, v2.4s, v3.4s; uzp2 v1.2d, v2.2d, v3.2d; trn1 v1.4s, v2.4s, v3.4s
+    trn2 v1.2d, v2.2d, v3.2d; lsr w1, w2, #3; rev64 v1.16b, v2.16b; mov v1.s[1], v2.s[3]
+    orr x1, x2, x3, lsr #7; and x1, x2, x3, ror #9; eor w1, w2, #0xff00ff; ldrb w1, [x2, #5]
+    ldr x1, [x2], #8; str q1, [x2, #-16]!; ldur x1, [x2, #-3]; ld1 {v1.d}[1], [x2]
+    ld1r {v1.2d}, [x2]; sha1h s1, s2; movi v1.2d, #0xff00ff00ff00ff00; movi v1.4s, #0x1, lsl #8
+"""
+
+
+def further(room):
+    """The bytes and the texts of FURTHER."""
+    subprocess.run(["aarch64-linux-gnu-as", "-march=armv8-a+crypto", "-", "-o",
+                    f"{room}/further.o"], input=FURTHER, text=True, check=True)
+    subprocess.run(["aarch64-linux-gnu-objcopy", "-O", "binary", "-j", ".text",
+                    f"{room}/further.o", f"{room}/further"], check=True)
+    data = pathlib.Path(room, "further").read_bytes()
+    return {(data[at:at + 4].hex(), decode_arm.read(data[at:at + 4], at))
+            for at in range(0, len(data), 4)}
+
+
+def meaningful(library):
+    """The instructions of all functions that are read, as pairs of bytes and text."""
+    for symbol in library.symbols:
+        library.read_lines(symbol)
+    return {(it.raw.hex(), it.text) for it in library.lines.values() if it.text[0] != "("}
+
+
+def read_by_objdump(data):
+    """The text of each four bytes."""
+    with tempfile.NamedTemporaryFile() as file:
+        file.write(data)
+        file.flush()
+        listing = subprocess.run(
+            ["aarch64-linux-gnu-objdump", "-D", "-z", "-b", "binary", "-m", "aarch64", file.name],
+            check=True, capture_output=True, text=True).stdout
+    found = {}
+    for line in listing.splitlines():
+        if (it := re.match(r" *([0-9a-f]+):\t[0-9a-f]+ *\t(.*)", line)):
+            text = " ".join(re.sub(r"\s*(<|//).*", "", it[2]).split())
+            # Addresses of a file without names are written otherwise.
+            found[int(it[1], 16)] = re.sub(r"(^|[ ,])0x", r"\1", text)
+    return found
+
+
+class ArmReader(unittest.TestCase):
+    maxDiff = None
+
+    @unittest.skipUnless(HAS_COMPILER, "aarch64-linux-gnu-gcc")
+    def test_objdump(self):
+        """Each instruction for ARM that is read is read as objdump reads it, in each function."""
+        library, compared = Library(str(LIBRARY), by_objdump=True), 0
+        for symbol in library.symbols:
+            library.read_lines(symbol)
+        for at, line in library.lines.items():
+            try:
+                text = decode_arm.read(line.raw, at)
+            except decode_arm.Unreadable:
+                continue
+            self.assertEqual(text, line.text, f"{at:x}")
+            compared += 1
+        self.assertGreater(compared, 20_000)
+
+    @unittest.skipUnless(HAS_COMPILER, "aarch64-linux-gnu-gcc")
+    def test_random_bytes(self):
+        """Instructions for ARM with a bit flipped are read as objdump reads them, or not at all."""
+        source, library = random.Random(4), Library(str(LIBRARY))
+        codes = sorted(int(raw, 16) for raw, _ in meaningful(library))
+        data = b"".join((source.choice(codes) ^ 1 << source.randrange(32)).to_bytes(4, "big")
+                        for _ in range(20_000))
+        expected, compared = read_by_objdump(data), 0
+        for at in range(0, len(data), 4):
+            try:
+                text = decode_arm.read(data[at:at + 4], at)
+            except decode_arm.Unreadable:
+                continue
+            self.assertEqual(text, expected[at], data[at:at + 4].hex())
+            compared += 1
+        self.assertGreater(compared, 10_000)
+
+
+class ArmMeanings(unittest.TestCase):
+    @unittest.skipUnless(HAS_BOTH, "aarch64-linux-gnu-gcc and qemu-aarch64")
+    def test_emulator(self):
+        """Each meaning for ARM gives what qemu gives, from random states, flags too."""
+        with tempfile.TemporaryDirectory() as room:
+            lines = meaningful(Library(str(LIBRARY))) | further(room)
+            found = test_arm.compare(lines, room, EMULATOR)
+        self.assertEqual(dict(found.failed), {})
+        self.assertGreater(found.cases, 9_000)
+        self.assertEqual({it for it in set(arm.TABLE) - found.names if not CONTROL.fullmatch(it)},
+                         set(), "meanings that no case ran")
+
+
+class ArmChecked(unittest.TestCase):
+    @unittest.skipUnless(HAS_COMPILER, "aarch64-linux-gnu-gcc")
+    def test_library(self):
+        """Each function of the library for ARM is shown."""
+        done = subprocess.run([ROOT / "verify/check", LIBRARY], capture_output=True, text=True,
+                              check=False)
+        self.assertEqual(done.returncode, 0, done.stdout + done.stderr)
+        self.assertRegex(done.stdout.splitlines()[-1], r"^[1-9]\d* functions shown, 0 refused$")
+
+    @unittest.skipUnless(HAS_COMPILER, "aarch64-linux-gnu-gcc")
+    def test_page(self):
+        """The table of docs/VERIFY.md is that of the library for ARM."""
+        done = subprocess.run([sys.executable, ROOT / "verify/page.py", LIBRARY],
+                              capture_output=True, text=True, check=False)
+        self.assertEqual(done.returncode, 0, done.stderr)
+
+
+class ArmFaults(unittest.TestCase):
+    @unittest.skipUnless(HAS_BOTH, "aarch64-linux-gnu-gcc and qemu-aarch64")
+    def test_planted(self):
+        """Each of 50 planted faults and 100 flipped bits for ARM is refused, or computes the
+        same."""
+        done = subprocess.run([sys.executable, ROOT / "verify/mutations.py", "--flips", "100",
+                               LIBRARY], capture_output=True, text=True, check=False)
+        failed = [it for it in done.stdout.splitlines() if it.startswith("FAIL")]
+        self.assertEqual((done.returncode, failed), (0, []), done.stderr)
+        passed = int(re.match(r"(\d+) passed, 0 failed$", done.stdout.splitlines()[-1])[1])
+        self.assertGreaterEqual(passed, 150)
+
+
+CASES = (ArmReader, ArmMeanings, ArmChecked, ArmFaults)

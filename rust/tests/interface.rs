@@ -6,7 +6,7 @@ use std::convert::TryFrom;
 use std::fmt::Debug;
 use yezdopin::error::Unspecified;
 use yezdopin::rand::{self, SecureRandom, SystemRandom};
-use yezdopin::{digest, hkdf, hmac, pbkdf2};
+use yezdopin::{digest, hkdf, hmac, password_hash, pbkdf2, tokens};
 
 // The most bytes that one getrandom(2) writes, by its page; newer kernels write more.
 const MOST_AT_ONCE: usize = (1 << 25) - 1;
@@ -99,10 +99,46 @@ fn values_cross_threads() {
     may_cross_threads::<digest::Digest>();
     may_cross_threads::<hmac::Key>();
     may_cross_threads::<hmac::Context>();
+    may_cross_threads::<hkdf::Salt>();
     may_cross_threads::<hkdf::Prk>();
+    may_cross_threads::<hkdf::Okm<'_, hmac::Algorithm>>();
+    may_cross_threads::<tokens::jws::Key<'_>>();
+    may_cross_threads::<tokens::otp::Key<'_>>();
+    may_cross_threads::<tokens::otp::Password>();
+    may_cross_threads::<password_hash::Salt>();
     may_cross_threads::<pbkdf2::Algorithm>();
     may_cross_threads::<SystemRandom>();
     may_cross_threads::<Unspecified>();
+}
+
+// Each thread has a message of its own. They share a key, as one reference and as clones.
+#[test]
+fn keys_of_several_threads() {
+    let key = hmac::Key::new(hmac::HMAC_SHA256, b"a key");
+    let verify_all = |seed: u8| {
+        let (message, own) = ([seed; 300], key.clone());
+        let other = hmac::Key::new(hmac::HMAC_SHA256, &[seed]);
+        let (tag, of_other) = (hmac::sign(&key, &message), hmac::sign(&other, &message));
+        for count in 0..3000 {
+            let piece = &message[..count % 300];
+            assert_eq!(
+                hmac::sign(&key, piece).as_ref(),
+                hmac::sign(&own, piece).as_ref()
+            );
+            assert!(hmac::verify(&key, &message, tag.as_ref()).is_ok());
+            assert!(hmac::verify(&other, &message, of_other.as_ref()).is_ok());
+            assert!(hmac::verify(&key, &message, of_other.as_ref()).is_err());
+        }
+    };
+    std::thread::scope(|scope| {
+        let verify_all = &verify_all;
+        let threads: Vec<_> = (0..4)
+            .map(|seed| scope.spawn(move || verify_all(seed)))
+            .collect();
+        for thread in threads {
+            thread.join().unwrap();
+        }
+    });
 }
 
 // A hash of Django 3.2.25.

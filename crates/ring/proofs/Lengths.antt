@@ -1,34 +1,22 @@
 -- SPDX-License-Identifier: ISC
 -- The length of a digest, and costs of whole messages.
 use Rattle.std.proofs.lemmas.Grind.{common_steps}
-use Rattle.std.proofs.Common.{◌≡◌, ℕ, ◌+◌, ◌/◌, ◌%◌, List, length, refl, arith}
-use Rattle.ring_core.specs.Sha1 as sha1
-use Rattle.ring_core.specs.Sha2 as sha2
-use Rattle.ring.specs.Prelude.{Algorithm, AlgorithmId, Counts, Sha1, Sha256, Sha384, Sha512}
-use Rattle.ring.specs.Prelude.{Sha512_256, block_function_of_id, block_len, digest_of}
-use Rattle.ring.specs.Prelude.{initial_words_of_id, last_blocks, output_len, padded_blocks, raised}
+use Rattle.std.proofs.Common.{◌≡◌, ℕ, ◌+◌, ◌/◌, ◌%◌, List, length, arith}
+use Rattle.ring.specs.Prelude.{Algorithm, AlgorithmId, Counts, block_len, digest_of}
+use Rattle.ring.specs.Prelude.{last_blocks, output_len, padded_blocks, raised}
 use Rattle.ring.specs.Prelude.{row_of, whole_blocks, word_count, words_after}
 use Rattle.ring_core.proofs.Costs.{raised-none, raised-raised}
 use Rattle.ring_core.proofs.ChunkFolds.{length-fold_chunks}
 use Rattle.ring.proofs.lemmas.digest.Outputs.{length-word_bytes}
-use Rattle.ring.proofs.Rows.{output_len-most, sizes_of}
+use Rattle.ring.proofs.Rows.{facts_of_id, output_len-most, sizes_of}
 
 keeps_count : (i : AlgorithmId) (x y : List ℕ)
-    → length (block_function_of_id i x y) ≡ (row_of i).chaining_len / (row_of i).word_len
-unfolding sha1.block_step sha2.block_step
-keeps_count Sha1 x y = refl
-keeps_count Sha256 x y = refl
-keeps_count Sha384 x y = refl
-keeps_count Sha512 x y = refl
-keeps_count Sha512_256 x y = refl
+    → length ((row_of i).block_function x y) ≡ (row_of i).chaining_len / (row_of i).word_len
+keeps_count i = (facts_of_id i).keeps
 
 initial_count : (i : AlgorithmId)
-    → length (initial_words_of_id i) ≡ (row_of i).chaining_len / (row_of i).word_len
-initial_count Sha1 = refl
-initial_count Sha256 = refl
-initial_count Sha384 = refl
-initial_count Sha512 = refl
-initial_count Sha512_256 = refl
+    → length (row_of i).first_words ≡ (row_of i).chaining_len / (row_of i).word_len
+initial_count i = (facts_of_id i).first
 
 -- the words after blocks are as many as the algorithm has
 pub length-words_after : (a : Algorithm) (p : List ℕ) → length (words_after a p) ≡ word_count a

@@ -1,12 +1,7 @@
 -- SPDX-License-Identifier: ISC
--- The algorithms of the code, each with its row of the standard's table, its first words and its
--- block function.
-use Rattle.std.specs.Prelude.{ℕ, ◌/◌, List, codes}
-use Rattle.ring_core.specs.Sha1 as sha1
-use Rattle.ring_core.specs.Sha2 as sha2
-use Rattle.ring.specs.Table.{sha1_row, sha1_words, sha256_row, sha256_words, sha384_row}
-use Rattle.ring.specs.Table.{sha384_words, sha512_row, sha512_words, sha512_256_row}
-use Rattle.ring.specs.Table.{sha512_256_words}
+-- The algorithms of the code, each with its row of the standard's table.
+use Rattle.std.specs.Prelude.{ℕ, ◌/◌, List}
+use Rattle.ring.specs.Table.{sha1_row, sha256_row, sha384_row, sha512_row, sha512_256_row}
 pub use Rattle.ring.specs.Table.{Row}
 use Rattle.ring.specs.declared.digest.algorithm.Algorithm.{Algorithm}
 use Rattle.ring.specs.declared.digest.algorithm.AlgorithmId.{AlgorithmId}
@@ -54,35 +49,14 @@ word_count a = chaining_len a / word_len a
 abbrev pub max_input_len : Algorithm → ℕ
 max_input_len a = (row_of a.id).max_input_len
 
-abbrev pub name_of_id : AlgorithmId → List ℕ
-name_of_id Sha1 = codes "SHA1"
-name_of_id Sha256 = codes "SHA256"
-name_of_id Sha384 = codes "SHA384"
-name_of_id Sha512 = codes "SHA512"
-name_of_id Sha512_256 = codes "SHA512_256"
-
 -- the name that Debug prints
 abbrev pub name_of : Algorithm → List ℕ
-name_of a = name_of_id a.id
+name_of a = (row_of a.id).name
 
 -- the words before its first block
-abbrev pub initial_words_of_id : AlgorithmId → List ℕ
-initial_words_of_id Sha1 = sha1_words
-initial_words_of_id Sha256 = sha256_words
-initial_words_of_id Sha384 = sha384_words
-initial_words_of_id Sha512 = sha512_words
-initial_words_of_id Sha512_256 = sha512_256_words
-
 abbrev pub initial_words : Algorithm → List ℕ
-initial_words a = initial_words_of_id a.id
+initial_words a = (row_of a.id).first_words
 
 -- the words after a block, from the words before it and the block's bytes (6.1.2, 6.2.2, 6.4.2)
-abbrev pub block_function_of_id : AlgorithmId → List ℕ → List ℕ → List ℕ
-block_function_of_id Sha1 = sha1.block_step
-block_function_of_id Sha256 = sha2.block_step sha2.family_256
-block_function_of_id Sha384 = sha2.block_step sha2.family_512
-block_function_of_id Sha512 = sha2.block_step sha2.family_512
-block_function_of_id Sha512_256 = sha2.block_step sha2.family_512
-
 abbrev pub block_function : Algorithm → List ℕ → List ℕ → List ℕ
-block_function a = block_function_of_id a.id
+block_function a = (row_of a.id).block_function

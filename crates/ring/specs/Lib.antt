@@ -7,6 +7,7 @@ pub mod Limits
 pub mod Padding
 pub mod Cost
 pub mod Digest
+pub mod CodeRow
 pub mod Context
 pub mod Items
 pub mod Pieces

@@ -5,9 +5,9 @@ pub use Rattle.ring.specs.Table.{sha1_row, sha256_row, sha384_row, sha512_row, s
 pub use Rattle.ring.specs.Table.{sha1_words, sha256_words, sha384_words, sha512_words}
 pub use Rattle.ring.specs.Table.{sha512_256_words, Row}
 pub use Rattle.ring.specs.Algorithm.{row_of, row, word_len, block_len, length_len, output_len}
-pub use Rattle.ring.specs.Algorithm.{chaining_len, word_count, max_input_len, name_of_id, name_of}
-pub use Rattle.ring.specs.Algorithm.{initial_words_of_id, initial_words, block_function_of_id}
-pub use Rattle.ring.specs.Algorithm.{block_function}
+pub use Rattle.ring.specs.Algorithm.{chaining_len, word_count, max_input_len, name_of}
+pub use Rattle.ring.specs.Algorithm.{initial_words, block_function}
+pub use Rattle.ring.specs.CodeRow.{IsRowOf}
 pub use Rattle.ring.specs.Initial.{AreSquareRoots}
 pub use Rattle.ring.specs.State.{words, state_word_len, word_bytes, is_state_of, chaining_words}
 pub use Rattle.ring.specs.State.{spare_words}

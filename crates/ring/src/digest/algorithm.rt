@@ -6,14 +6,13 @@ ghost use Rattle.ring_core.specs.Sha1 as sha1;
 ghost use Rattle.ring_core.specs.Prelude.{block_step, family_256, family_512};
 ghost use Rattle.ring.specs.Prelude.{AreSquareRoots, block_function, block_len};
 ghost use Rattle.ring.specs.Prelude.{chaining_len, chaining_words, digest_named, initial_words};
-ghost use Rattle.ring.specs.Prelude.{is_state_of};
+ghost use Rattle.ring.specs.Prelude.{IsRowOf, is_state_of};
 ghost use Rattle.ring.specs.Prelude.{length_len, max_input_len, name_of, output_len, row, sha1_row};
 ghost use Rattle.ring.specs.Prelude.{sha256_row, sha384_row, sha512_256_row, sha512_row};
 ghost use Rattle.ring.specs.Prelude.{spare_words, word_count, words};
 
 use crate::digest::dynstate::DynState;
 use ring_core::digest::sha1::CHAINING_LEN;
-use ring_core::digest::sha2::{State32, State64};
 use std::fmt;
 use std::num::Wrapping;
 
@@ -90,82 +89,114 @@ macro_rules! words {
 
 pub(crate) use words;
 
-// The words before the first block (FIPS 180-4, sections 5.3.1, 5.3.3, 5.3.4, 5.3.5 and 5.3.6.2).
-// SHA-1 has five words. The other three are 0.
-const SHA1_INITIAL_WORDS: State32 = words![
-    0x67452301, 0xefcdab89, 0x98badcfe, 0x10325476, 0xc3d2e1f0, 0, 0, 0
-];
+// An algorithm's name and number, its lengths in bytes, and the state before the first block.
+#[derive(Clone, Copy)]
+pub(crate) struct Row {
+    name: &'static str,
+    number: u32,
+    word_len: usize,
+    output_len: usize,
+    chaining_len: usize,
+    state: DynState,
+}
 
-const SHA256_INITIAL_WORDS: State32 = words![
-    0x6a09e667, 0xbb67ae85, 0x3c6ef372, 0xa54ff53a, 0x510e527f, 0x9b05688c, 0x1f83d9ab, 0x5be0cd19
-];
+// The rows, with the words before the first block (FIPS 180-4, sections 5.3.1, 5.3.3, 5.3.4, 5.3.5
+// and 5.3.6.2). SHA-1 has five words, and the other three are 0.
 
-const SHA384_INITIAL_WORDS: State64 = words![
-    0xcbbb9d5dc1059ed8,
-    0x629a292a367cd507,
-    0x9159015a3070dd17,
-    0x152fecd8f70e5939,
-    0x67332667ffc00b31,
-    0x8eb44a8768581511,
-    0xdb0c2e0d64f98fa7,
-    0x47b5481dbefa4fa4
-];
+const SHA1_ROW: Row = Row {
+    name: "SHA1",
+    number: 1,
+    word_len: 4,
+    output_len: SHA1_OUTPUT_LEN,
+    chaining_len: CHAINING_LEN,
+    state: DynState::As32(words! {
+        0x67452301, 0xefcdab89, 0x98badcfe, 0x10325476,
+        0xc3d2e1f0, 0, 0, 0
+    }),
+};
 
-const SHA512_INITIAL_WORDS: State64 = words![
-    0x6a09e667f3bcc908,
-    0xbb67ae8584caa73b,
-    0x3c6ef372fe94f82b,
-    0xa54ff53a5f1d36f1,
-    0x510e527fade682d1,
-    0x9b05688c2b3e6c1f,
-    0x1f83d9abfb41bd6b,
-    0x5be0cd19137e2179
-];
+const SHA256_ROW: Row = Row {
+    name: "SHA256",
+    number: 2,
+    word_len: 4,
+    output_len: SHA256_OUTPUT_LEN,
+    chaining_len: 32,
+    state: DynState::As32(words! {
+        0x6a09e667, 0xbb67ae85, 0x3c6ef372, 0xa54ff53a,
+        0x510e527f, 0x9b05688c, 0x1f83d9ab, 0x5be0cd19
+    }),
+};
 
-const SHA512_256_INITIAL_WORDS: State64 = words![
-    0x22312194fc2bf72c,
-    0x9f555fa3c84c64c2,
-    0x2393b86b6f53b151,
-    0x963877195940eabd,
-    0x96283ee2a88effe3,
-    0xbe5e1e2553863992,
-    0x2b0199fc2c85b8aa,
-    0x0eb72ddc81c52ca2
-];
+const SHA384_ROW: Row = Row {
+    name: "SHA384",
+    number: 3,
+    word_len: 8,
+    output_len: SHA384_OUTPUT_LEN,
+    chaining_len: 64,
+    state: DynState::As64(words! {
+        0xcbbb9d5dc1059ed8, 0x629a292a367cd507, 0x9159015a3070dd17, 0x152fecd8f70e5939,
+        0x67332667ffc00b31, 0x8eb44a8768581511, 0xdb0c2e0d64f98fa7, 0x47b5481dbefa4fa4
+    }),
+};
+
+const SHA512_ROW: Row = Row {
+    name: "SHA512",
+    number: 4,
+    word_len: 8,
+    output_len: SHA512_OUTPUT_LEN,
+    chaining_len: 64,
+    state: DynState::As64(words! {
+        0x6a09e667f3bcc908, 0xbb67ae8584caa73b, 0x3c6ef372fe94f82b, 0xa54ff53a5f1d36f1,
+        0x510e527fade682d1, 0x9b05688c2b3e6c1f, 0x1f83d9abfb41bd6b, 0x5be0cd19137e2179
+    }),
+};
+
+const SHA512_256_ROW: Row = Row {
+    name: "SHA512_256",
+    number: 5,
+    word_len: 8,
+    output_len: SHA512_256_OUTPUT_LEN,
+    chaining_len: 64,
+    state: DynState::As64(words! {
+        0x22312194fc2bf72c, 0x9f555fa3c84c64c2, 0x2393b86b6f53b151, 0x963877195940eabd,
+        0x96283ee2a88effe3, 0xbe5e1e2553863992, 0x2b0199fc2c85b8aa, 0x0eb72ddc81c52ca2
+    }),
+};
 
 impl Algorithm {
+    // Its row. Inlined, so that a call that asks for a length copies no state.
+    #[inline(always)]
+    fn row(&self) -> Row
+        ensures { IsRowOf result self.now }
+    {
+        match self.id {
+            AlgorithmId::Sha1 => SHA1_ROW,
+            AlgorithmId::Sha256 => SHA256_ROW,
+            AlgorithmId::Sha384 => SHA384_ROW,
+            AlgorithmId::Sha512 => SHA512_ROW,
+            AlgorithmId::Sha512_256 => SHA512_256_ROW,
+        }
+    }
+
     /// The length of a block in bytes: 64 for SHA-1 and SHA-256, 128 for the others.
     pub fn block_len(&self) -> usize
         ensures { result ≡ block_len self.now }
     {
-        match self.id {
-            AlgorithmId::Sha1 | AlgorithmId::Sha256 => 64,
-            AlgorithmId::Sha384 | AlgorithmId::Sha512 | AlgorithmId::Sha512_256 => 128,
-        }
+        16 * self.row().word_len
     }
 
     /// The length in bytes of the chaining words: 20 for SHA-1, 32 for SHA-256, 64 for the others.
     pub fn chaining_len(&self) -> usize
         ensures { result ≡ chaining_len self.now }
     {
-        match self.id {
-            AlgorithmId::Sha1 => CHAINING_LEN,
-            AlgorithmId::Sha256 => 32,
-            AlgorithmId::Sha384 | AlgorithmId::Sha512 | AlgorithmId::Sha512_256 => 64,
-        }
+        self.row().chaining_len
     }
 
     /// The length of a digest in bytes.
     pub fn output_len(&self) -> usize
         ensures { result ≡ output_len self.now }
     {
-        match self.id {
-            AlgorithmId::Sha1 => SHA1_OUTPUT_LEN,
-            AlgorithmId::Sha256 => SHA256_OUTPUT_LEN,
-            AlgorithmId::Sha384 => SHA384_OUTPUT_LEN,
-            AlgorithmId::Sha512 => SHA512_OUTPUT_LEN,
-            AlgorithmId::Sha512_256 => SHA512_256_OUTPUT_LEN,
-        }
+        self.row().output_len
     }
 
     /// The length of the longest message in bytes: `2^61 - 1` for SHA-1 and SHA-256, `2^125 - 1`
@@ -174,9 +205,10 @@ impl Algorithm {
     pub fn max_input_len(&self) -> u128
         ensures { result ≡ max_input_len self.now }
     {
-        match self.id {
-            AlgorithmId::Sha1 | AlgorithmId::Sha256 => (1 << 61) - 1,
-            AlgorithmId::Sha384 | AlgorithmId::Sha512 | AlgorithmId::Sha512_256 => (1 << 125) - 1,
+        if self.row().word_len == 4 {
+            (1 << 61) - 1
+        } else {
+            (1 << 125) - 1
         }
     }
 
@@ -184,10 +216,7 @@ impl Algorithm {
     pub(crate) fn length_len(&self) -> usize
         ensures { result ≡ length_len self.now }
     {
-        match self.id {
-            AlgorithmId::Sha1 | AlgorithmId::Sha256 => 8,
-            AlgorithmId::Sha384 | AlgorithmId::Sha512 | AlgorithmId::Sha512_256 => 16,
-        }
+        2 * self.row().word_len
     }
 
     // Whether the block function is that of SHA-1.
@@ -204,13 +233,7 @@ impl Algorithm {
         ensures sized { IsTrue (is_state_of self.now result) }
         ensures count { length (words result) ≡ 8 }
     {
-        match self.id {
-            AlgorithmId::Sha1 => DynState::As32(SHA1_INITIAL_WORDS),
-            AlgorithmId::Sha256 => DynState::As32(SHA256_INITIAL_WORDS),
-            AlgorithmId::Sha384 => DynState::As64(SHA384_INITIAL_WORDS),
-            AlgorithmId::Sha512 => DynState::As64(SHA512_INITIAL_WORDS),
-            AlgorithmId::Sha512_256 => DynState::As64(SHA512_256_INITIAL_WORDS),
-        }
+        self.row().state
     }
 }
 
@@ -261,13 +284,7 @@ pub fn digest_of_number(number: u32) -> Option<Algorithm>
 pub fn number_of_digest(algorithm: &Algorithm) -> u32
     ensures { digest_named result ≡ Some algorithm.now }
 {
-    match algorithm.id {
-        AlgorithmId::Sha1 => 1,
-        AlgorithmId::Sha256 => 2,
-        AlgorithmId::Sha384 => 3,
-        AlgorithmId::Sha512 => 4,
-        AlgorithmId::Sha512_256 => 5,
-    }
+    algorithm.row().number
 }
 
 /// Writes the name: `SHA1`, `SHA256`, `SHA384`, `SHA512` or `SHA512_256`.
@@ -275,13 +292,6 @@ impl fmt::Debug for Algorithm {
     ghost debug_output = { λ a. Some (name_of a) };
 
     fn fmt<W: fmt::Write>(&self, f: &mut fmt::Formatter<W>) -> fmt::Result {
-        let name = match self.id {
-            AlgorithmId::Sha1 => "SHA1",
-            AlgorithmId::Sha256 => "SHA256",
-            AlgorithmId::Sha384 => "SHA384",
-            AlgorithmId::Sha512 => "SHA512",
-            AlgorithmId::Sha512_256 => "SHA512_256",
-        };
-        f.write_str(name)
+        f.write_str(self.row().name)
     }
 }

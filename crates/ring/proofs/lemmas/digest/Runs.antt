@@ -7,7 +7,7 @@ use Rattle.std.proofs.lemmas.List.{length-take-le, take-append-drop, take_all}
 use Rattle.std.proofs.Math.Nat.{mul-div_cancel, div-mul-le_self}
 use Rattle.ring_core.specs.Prelude.{fold_chunks}
 use Rattle.ring.specs.Prelude.{Algorithm, AlgorithmId, DynState, Sha1, Sha256, Sha384, Sha512}
-use Rattle.ring.specs.Prelude.{Sha512_256, block_function_of_id, blocks_from, chaining_words}
+use Rattle.ring.specs.Prelude.{Sha512_256, blocks_from, chaining_words}
 use Rattle.ring.specs.Prelude.{row_of, word_count, words}
 use Rattle.ring_core.specs.Sha1 as sha1
 use Rattle.ring_core.specs.Sha2 as sha2
@@ -17,7 +17,7 @@ use Rattle.ring.proofs.Rows.{block_len-positive}
 -- what the choice of a block function needs of a row
 pub record IsRow (i : AlgorithmId) (step : List ℕ → List ℕ → List ℕ) (block count : ℕ)
     : Type 0 where
-  pub step_is : block_function_of_id i ≡ step
+  pub step_is : (row_of i).block_function ≡ step
   pub block_is : (row_of i).block_len ≡ block
   pub count_is : (row_of i).chaining_len / (row_of i).word_len ≡ count
 

@@ -9,8 +9,8 @@ use Rattle.std.proofs.lemmas.List.{drop-set-lt, get_or-drop, get_or_append_left,
 use Rattle.std.proofs.lemmas.List.{length-set, length-take-le, take_all, take_more, take_more_set}
 use Rattle.std.proofs.lemmas.List.{get_or-take}
 use Rattle.std.proofs.lemmas.List.Sums.{sum_by-append}
-use Rattle.ring.specs.Prelude.{AreUpdated, Context, IsPartway, IsUpdated, message_at, pending_len}
-use Rattle.ring.specs.Prelude.{update_blocks, update_each_blocks}
+use Rattle.ring.specs.Prelude.{AreUpdated, Context, EachChange, IsPartway, IsUpdated, message_at}
+use Rattle.ring.specs.Prelude.{pending_len, update_blocks, update_each_blocks}
 use Rattle.ring.proofs.Each.{message-read, message_at-append, set-more}
 use Rattle.ring.proofs.lemmas.digest.GoingOn.{sized_of}
 use Rattle.std.proofs.lemmas.Option.{slice_get-get_or}
@@ -130,16 +130,39 @@ message_at-both : (ps qs : List (Bor (List ℕ))) (k : ℕ)
 message_at-both ps qs k =
     grind (arith, common_steps, message_at-append)
 
+-- the context at a place is updated with the piece there
+abbrev pub IsUpdatedAt : List (Bor (List ℕ)) → ℕ → Context → Context → Type 0
+IsUpdatedAt pieces k old new = IsUpdated old new (message_at pieces k)
+
+-- what holds at the places of two lists, at those of one after the other
+changes-append : (old new olds news : List Context) (P Q R : ℕ → Context → Context → Type 0)
+    → length new ≡ length old → EachChange old new P → EachChange olds news Q
+    → ((k : ℕ) (x y : Context) → k < length old → P k x y → R k x y)
+    → ((k : ℕ) (x y : Context) → Q k x y → R (length old + k) x y)
+    → EachChange (old ++ olds) (new ++ news) R
+changes-append old new olds news P Q R same first second front back =
+    grind (arith, get_or-append_right, get_or_append_left, length-append)
+
 -- the contexts of two lists, one after the other
 pub updated-append : {old new olds news : List Context} (ps qs : List (Bor (List ℕ)))
     → length ps ≡ length old → AreUpdated old new ps → AreUpdated olds news qs
     → AreUpdated (old ++ olds) (new ++ news) (ps ++ qs)
 updated-append {old} {new} {olds} {news} ps qs as_many first second =
-    grind (arith, get_or-append_right, get_or_append_left, length-append, message_at-both)
-
--- the context at a place is updated with the piece there
-abbrev pub IsUpdatedAt : List (Bor (List ℕ)) → ℕ → Context → Context → Type 0
-IsUpdatedAt pieces k old new = IsUpdated old new (message_at pieces k)
+    record {
+      count = omega (
+        arith,
+        first.count,
+        second.count,
+        length-append old olds,
+        length-append new news,
+      );
+      each = changes-append old new olds news (IsUpdatedAt ps) (IsUpdatedAt qs)
+          (IsUpdatedAt (ps ++ qs)) first.count first.each second.each
+          (λ k x y below is. rw ((message_at-both ps qs k).0 (omega (arith, as_many, below))) is)
+          (λ k x y is.
+          let back : length old + k - length ps ≡ k = omega (arith, as_many) in
+          rw ((message_at-both ps qs (length old + k)).1 (omega (arith, as_many)), back) is);
+    }
 
 -- the context at a place has no begun block, or nothing is left of the piece there
 pub record IsBegun (pieces rests : List (Bor (List ℕ))) (k : ℕ) (old mid : Context) : Type 0 where

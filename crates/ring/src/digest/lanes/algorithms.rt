@@ -200,7 +200,8 @@ pub(crate) trait RunBlocks<const N: usize>: LaneStates {
     ghost sized: { (a : Algorithm) → is_of a → word_len a ≡ Self.word_len };
 }
 
-// None of these block functions is inlined, so that a check of the machine code finds each once.
+// The block functions of 32-bit words are not inlined, so that a check of the machine code finds each
+// once. That of 64-bit words is inlined, since a call of it costs 2 per cent.
 impl<V: Vector<One = Wrapping<u32>>> RunBlocks<64> for InVector<V, Sha1> {
     ghost is_of = { λ a. a ≡ SHA1_FOR_LEGACY_USE_ONLY };
 
@@ -227,7 +228,7 @@ impl<V: Vector<One = Wrapping<u32>>> RunBlocks<64> for InVector<V, Sha256> {
 impl<V: Vector<One = Wrapping<u64>>, A> RunBlocks<128> for InVector<V, A> {
     ghost is_of = { λ a. word_len a ≡ 8 };
 
-    #[inline(never)]
+    #[inline(always)]
     fn run_blocks(states: &mut States<V>, blocks: &[[u8; 128]], meter: &mut Meter) {
         block_data_order_lanes_counted(states, blocks, meter)
     }

@@ -65,5 +65,7 @@ returns-clause-cost c =
     let before = c.loop-out.invariant in
     let len : c.output_len-output_len.result ≡ output_len a = cc in
     let number = c.loop-out.rounds in
-    let at_end = rounds_at a number c.loop-out.written (length c.args.out.now) before.place in
-    grind (arith, common_steps, at_end, before.needed, before.cost)
+    let left : length c.args.out.now - c.loop-out.written ≤ output_len a = omega arith in
+    let at_end = rounds_at a number c.loop-out.written (length c.args.out.now) before.place
+    (omega (arith, before.in_out)) left (λ some. omega (arith, before.needed some)) in
+    rw at_end before.cost

@@ -35,13 +35,14 @@ unfoldable pub use Rattle.ring.specs.Each.{words_at}
 pub use Rattle.ring.specs.Source.{random_value}
 pub use Rattle.ring.specs.KeyBlocks.{masked, inner_block, outer_block}
 unfoldable pub use Rattle.ring.specs.KeyBlocks.{short_key, key_block}
-pub use Rattle.ring.specs.Lanes.{digest_bytes, CanRunTogether, IsKeyInLane}
+pub use Rattle.ring.specs.Lanes.{digest_bytes, CanRunTogether, IsKeyInLane, IsSha2}
 pub use Rattle.ring.specs.Hmac.{hmac_digest, key_algorithm, signing_algorithm, signing_len}
 pub use Rattle.ring.specs.Hmac.{signing_pending, tag_algorithm, tag_bytes, KeyStandsFor}
 pub use Rattle.ring.specs.Hmac.{TagStandsFor, IsTag, tag_of_inner, tag_from, inner_words}
 pub use Rattle.ring.specs.Hmac.{outer_words, tag_under, tag_with}
 unfoldable pub use Rattle.ring.specs.Hmac.{hmac_of}
-pub use Rattle.ring.specs.Prepared.{HasKey, HasStart, IsSet, digest_at, prepared_padding}
+pub use Rattle.ring.specs.Prepared.{HasKey, HasStart, IsPaddingOf, IsSet, digest_at}
+pub use Rattle.ring.specs.Prepared.{prepared_padding}
 pub use Rattle.ring.specs.Hkdf.{hkdf_digest, salt_algorithm, SaltStandsFor, prk_algorithm}
 pub use Rattle.ring.specs.Hkdf.{PrkStandsFor}
 unfoldable pub use Rattle.ring.specs.Hkdf.{hkdf_t, okm}

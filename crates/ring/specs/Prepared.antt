@@ -1,15 +1,16 @@
 -- SPDX-License-Identifier: ISC
 -- Messages of one digest's length: after the key's block each of them is one block with its padding
 -- (RFC 2104, section 2). The keys, the digests and what messages start from, in lanes.
-use Rattle.std.specs.Prelude.{◌≡◌, ℕ, ◌+◌, ◌*◌, List, ◌∷◌, ◌++◌, IsTrue, get_or, replicate}
+use Rattle.std.specs.Prelude.{◌≡◌, ℕ, ◌+◌, ◌*◌, ◌≤◌, List, ◌∷◌, ◌++◌, IsTrue, drop, get_or}
+use Rattle.std.specs.Prelude.{length, replicate}
 use Rattle.std.specs.Int.{bytes_high_first}
-use Rattle.ring.specs.Algorithm.{block_len, length_len, output_len}
+use Rattle.ring.specs.Algorithm.{block_len, length_len, output_len, word_len}
 use Rattle.ring.specs.Digest.{digest_of}
 use Rattle.ring.specs.Hmac.{KeyStandsFor}
 use Rattle.ring.specs.KeyBlocks.{inner_block}
 use Rattle.ring.specs.Lanes.{IsKeyInLane, digest_bytes}
 use Rattle.ring.specs.Padding.{zeros_of}
-use Rattle.ring.specs.State.{is_state_of, words}
+use Rattle.ring.specs.State.{is_state_of, word_bytes, words}
 use Rattle.ring.specs.declared.digest.algorithm.Algorithm.{Algorithm}
 use Rattle.ring.specs.declared.digest.dynstate.DynState.{DynState}
 use Rattle.ring.specs.declared.hmac.key.Key.{Key}
@@ -23,6 +24,14 @@ abbrev pub prepared_padding : Algorithm → List ℕ
 prepared_padding a =
     0x80 ∷ replicate (zeros_of a (output_len a)) 0
     ++ bytes_high_first (length_len a) (8 * (block_len a + output_len a))
+
+-- sixteen words of w bits have room for a digest of k words, and past it they are its padding
+pub record IsPaddingOf (a : Algorithm) (w k : ℕ) (padding : List ℕ) : Type 0 where
+  pub bits : w ≡ 8 * word_len a
+  pub digest : output_len a ≡ k * word_len a
+  pub room : k ≤ 8
+  pub sixteen : length padding ≡ 16
+  pub bytes : word_bytes (word_len a) (drop k padding) ≡ prepared_padding a
 
 module _ {H States : Type 0} where
   -- the digest in a lane, whose words the function reads

@@ -18,7 +18,7 @@ use crate::digest::dynstate::{
     DynState, OUTPUT_ROOM, Output, StateWord, long_output, short_output,
 };
 use crate::digest::lanes::algorithms::{
-    InVector, LaneStates, RunBlocks, Sha1, Sha256, Sha512, by_lanes, lanes_for,
+    InVector, LaneStates, Long, RunBlocks, Sha1, Sha256, by_lanes, lanes_for,
 };
 use crate::digest::lanes::blocks::{Blocks, Padded, fewest_blocks, run_lanes};
 use crate::limits::message::is_message_within;
@@ -157,18 +157,19 @@ fn digest_together<const VECTOR_BITS: usize>(
     ensures ok { AreDigests out.new algorithm messages.now }
     ensures cost { meter.new ≡ raised meter.old (each_blocks algorithm messages.now) 0 }
 {
+    if messages.len() == 1 {
+        return digest_alone(algorithm, messages, out, meter);
+    }
     macro_rules! digest_in {
-        ($lanes:ty, $block_len:literal) => {
+        ($digests:ty) => {
+            // There are several messages.
+            unreachable!()
+        };
+        ($lanes:ty, $block_len:literal, $digests:ty) => {
             digest_in_lanes::<$lanes, $block_len>(algorithm, messages, out, meter)
         };
     }
-    by_lanes!(
-        VECTOR_BITS,
-        algorithm,
-        messages.len(),
-        digest_alone(algorithm, messages, out, meter),
-        digest_in
-    )
+    by_lanes!(VECTOR_BITS, algorithm, messages.len(), digest_in)
 }
 
 // Whether each message is within the limit.

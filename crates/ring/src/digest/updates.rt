@@ -15,7 +15,7 @@ use crate::digest::algorithm::{Algorithm, AlgorithmId};
 use crate::digest::context::Context;
 use crate::digest::dynstate::DynState;
 use crate::digest::lanes::algorithms::{
-    InVector, LaneStates, MAX_LANES, RunBlocks, Sha1, Sha256, Sha512, by_lanes, lanes_for,
+    InVector, LaneStates, Long, MAX_LANES, RunBlocks, Sha1, Sha256, by_lanes, lanes_for,
 };
 use crate::digest::lanes::blocks::{Whole, fewest_blocks, run_lanes};
 use crate::width::{AVX2, SSE};
@@ -115,18 +115,19 @@ fn update_together<const VECTOR_BITS: usize>(
         ≡ raised meter.old (update_each_blocks contexts.old pieces.now) 0 }
 {
     let algorithm = contexts[0].algorithm();
+    if contexts.len() == 1 {
+        return contexts[0].update_counted(pieces[0], meter);
+    }
     macro_rules! update_in {
-        ($lanes:ty, $block_len:literal) => {
+        ($digests:ty) => {
+            // There are several contexts.
+            unreachable!()
+        };
+        ($lanes:ty, $block_len:literal, $digests:ty) => {
             update_in_lanes::<$lanes, $block_len>(algorithm, contexts, pieces, meter)
         };
     }
-    by_lanes!(
-        VECTOR_BITS,
-        algorithm,
-        contexts.len(),
-        contexts[0].update_counted(pieces[0], meter),
-        update_in
-    )
+    by_lanes!(VECTOR_BITS, algorithm, contexts.len(), update_in)
 }
 
 // How many of the contexts, from the first on, are of the first one's algorithm.

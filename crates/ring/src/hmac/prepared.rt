@@ -4,9 +4,10 @@
 
 ghost use Rattle.std.proofs.Common.{refl};
 ghost use Rattle.std.specs.Prelude.{◌≡◌, ◌≢◌, ℕ, ◌+◌, ◌*◌, ◌<◌, ◌≤◌, ◌++◌, IsTrue, List, length};
-ghost use Rattle.std.specs.Prelude.{get_or, take};
+ghost use Rattle.std.specs.Prelude.{get_or, map, take};
 ghost use Rattle.ring_core.specs.Prelude.{xor_lists};
-ghost use Rattle.ring.specs.Prelude.{Algorithm, EachItem, HasKey, HasStart, IsSet, IsTagWithin};
+ghost use Rattle.ring.specs.Prelude.{Algorithm, EachItem, HasKey, HasStart, IsPaddingOf, IsSet};
+ghost use Rattle.ring.specs.Prelude.{IsSha2, IsTagWithin};
 ghost use Rattle.ring.specs.Prelude.{SHA1_FOR_LEGACY_USE_ONLY, SHA256, SHA384, SHA512, SHA512_256};
 ghost use Rattle.ring.specs.Prelude.{block_function, digest_bytes, digest_at, digest_of, hmac_of};
 ghost use Rattle.ring.specs.Prelude.{inner_block, is_state_of, key_algorithm, output_len};
@@ -15,9 +16,9 @@ ghost use Rattle.ring.specs.Prelude.{raised, word_count, word_len, words};
 
 use crate::digest;
 use crate::digest::algorithm::words;
-use crate::digest::dynstate::{DynState, Output};
+use crate::digest::dynstate::{DynState, Output, StateWord};
 use crate::digest::lanes::algorithms::{
-    InVector, LaneStates, MAX_LANES, OneLane, Sha1, Sha256, Sha384, Sha512, Sha512_256,
+    DigestsOf, InVector, LaneStates, MAX_LANES, OneLane, Sha1, Sha256, Sha384, Sha512, Sha512_256,
 };
 use crate::hmac::key::Key;
 use ring_core::cost::Meter;
@@ -79,6 +80,66 @@ const SHA512_256_PADDING: [Wrapping<u64>; 16] = words![
     0, 0, 0, 0, END_64, 0, 0, 0, 0, 0, 0, 0, 0, 0, 0, 1280
 ];
 
+// An algorithm of SHA-2 over the words `W`, of which a digest has `N`.
+pub(crate) trait Suite<W: StateWord + 'static, const N: usize> {
+    ghost algorithm: { Algorithm };
+
+    // The prepared block.
+    fn padding() -> &'static [W; 16]
+        ensures { IsPaddingOf algorithm W.bits N (map W.value result.now) };
+
+    // its block function, and its words
+    ghost sha2: { IsSha2 algorithm W.family W.len };
+}
+
+impl Suite<Wrapping<u32>, 8> for Sha256 {
+    ghost algorithm = { SHA256 };
+
+    #[inline(always)]
+    #[tactic(auto, using(crate::proofs::lemmas::hmac::Paddings::sha256_padding))]
+    fn padding() -> &'static [Wrapping<u32>; 16] {
+        &SHA256_PADDING
+    }
+
+    ghost sha2 = { record { function = refl; eight = refl; sized = refl } };
+}
+
+impl Suite<Wrapping<u64>, 6> for Sha384 {
+    ghost algorithm = { SHA384 };
+
+    #[inline(always)]
+    #[tactic(auto, using(crate::proofs::lemmas::hmac::Paddings::sha384_padding))]
+    fn padding() -> &'static [Wrapping<u64>; 16] {
+        &SHA384_PADDING
+    }
+
+    ghost sha2 = { record { function = refl; eight = refl; sized = refl } };
+}
+
+impl Suite<Wrapping<u64>, 8> for Sha512 {
+    ghost algorithm = { SHA512 };
+
+    #[inline(always)]
+    #[tactic(auto, using(crate::proofs::lemmas::hmac::Paddings::sha512_padding))]
+    fn padding() -> &'static [Wrapping<u64>; 16] {
+        &SHA512_PADDING
+    }
+
+    ghost sha2 = { record { function = refl; eight = refl; sized = refl } };
+}
+
+impl Suite<Wrapping<u64>, 4> for Sha512_256 {
+    ghost algorithm = { SHA512_256 };
+
+    #[inline(always)]
+    #[tactic(auto, using(crate::proofs::lemmas::hmac::Paddings::sha512_256_padding))]
+    fn padding() -> &'static [Wrapping<u64>; 16] {
+        &SHA512_256_PADDING
+    }
+
+    ghost sha2 = { record { function = refl; eight = refl; sized = refl } };
+}
+
 impl DigestBlock for OneLane<Wrapping<u32>, Sha1> {
     ghost algorithm = { SHA1_FOR_LEGACY_USE_ONLY };
 
@@ -90,48 +151,27 @@ impl DigestBlock for OneLane<Wrapping<u32>, Sha1> {
     ghost sized = { refl };
 }
 
-impl DigestBlock for OneLane<Wrapping<u32>, Sha256> {
-    ghost algorithm = { SHA256 };
+impl<A: Suite<Wrapping<u32>, 8>> DigestBlock for OneLane<Wrapping<u32>, DigestsOf<A, 8>> {
+    ghost algorithm = { A.algorithm };
 
     #[inline(always)]
     fn hash_digests(states: &mut State32, digests: &State32, meter: &mut Meter) {
-        block_of_words_32_fastest_counted(states, digests, &SHA256_PADDING, meter)
+        block_of_words_32_fastest_counted(states, digests, A::padding(), meter)
     }
 
-    ghost sized = { refl };
+    ghost sized = { A.sha2.sized };
 }
 
-impl DigestBlock for OneLane<Wrapping<u64>, Sha384> {
-    ghost algorithm = { SHA384 };
+impl<A: Suite<Wrapping<u64>, N>, const N: usize> DigestBlock
+    for OneLane<Wrapping<u64>, DigestsOf<A, N>> {
+    ghost algorithm = { A.algorithm };
 
     #[inline(always)]
     fn hash_digests(states: &mut State64, digests: &State64, meter: &mut Meter) {
-        block_of_words_64_fastest_counted::<6>(states, digests, &SHA384_PADDING, meter)
+        block_of_words_64_fastest_counted::<N>(states, digests, A::padding(), meter)
     }
 
-    ghost sized = { refl };
-}
-
-impl DigestBlock for OneLane<Wrapping<u64>, Sha512> {
-    ghost algorithm = { SHA512 };
-
-    #[inline(always)]
-    fn hash_digests(states: &mut State64, digests: &State64, meter: &mut Meter) {
-        block_of_words_64_fastest_counted::<8>(states, digests, &SHA512_PADDING, meter)
-    }
-
-    ghost sized = { refl };
-}
-
-impl DigestBlock for OneLane<Wrapping<u64>, Sha512_256> {
-    ghost algorithm = { SHA512_256 };
-
-    #[inline(always)]
-    fn hash_digests(states: &mut State64, digests: &State64, meter: &mut Meter) {
-        block_of_words_64_fastest_counted::<4>(states, digests, &SHA512_256_PADDING, meter)
-    }
-
-    ghost sized = { refl };
+    ghost sized = { A.sha2.sized };
 }
 
 impl<V: Vector<One = Wrapping<u32>>> DigestBlock for InVector<V, Sha1> {
@@ -145,48 +185,16 @@ impl<V: Vector<One = Wrapping<u32>>> DigestBlock for InVector<V, Sha1> {
     ghost sized = { refl };
 }
 
-impl<V: Vector<One = Wrapping<u32>>> DigestBlock for InVector<V, Sha256> {
-    ghost algorithm = { SHA256 };
+impl<V: Vector<One = W>, W: StateWord + 'static, A: Suite<W, N>, const N: usize> DigestBlock
+    for InVector<V, DigestsOf<A, N>> {
+    ghost algorithm = { A.algorithm };
 
     #[inline(always)]
     fn hash_digests(states: &mut States<V>, digests: &States<V>, meter: &mut Meter) {
-        block_of_words_lanes_counted::<V, 8>(states, digests, &SHA256_PADDING, meter)
+        block_of_words_lanes_counted::<V, N>(states, digests, A::padding(), meter)
     }
 
-    ghost sized = { refl };
-}
-
-impl<V: Vector<One = Wrapping<u64>>> DigestBlock for InVector<V, Sha384> {
-    ghost algorithm = { SHA384 };
-
-    #[inline(always)]
-    fn hash_digests(states: &mut States<V>, digests: &States<V>, meter: &mut Meter) {
-        block_of_words_lanes_counted::<V, 6>(states, digests, &SHA384_PADDING, meter)
-    }
-
-    ghost sized = { refl };
-}
-
-impl<V: Vector<One = Wrapping<u64>>> DigestBlock for InVector<V, Sha512> {
-    ghost algorithm = { SHA512 };
-
-    #[inline(always)]
-    fn hash_digests(states: &mut States<V>, digests: &States<V>, meter: &mut Meter) {
-        block_of_words_lanes_counted::<V, 8>(states, digests, &SHA512_PADDING, meter)
-    }
-
-    ghost sized = { refl };
-}
-
-impl<V: Vector<One = Wrapping<u64>>> DigestBlock for InVector<V, Sha512_256> {
-    ghost algorithm = { SHA512_256 };
-
-    #[inline(always)]
-    fn hash_digests(states: &mut States<V>, digests: &States<V>, meter: &mut Meter) {
-        block_of_words_lanes_counted::<V, 4>(states, digests, &SHA512_256_PADDING, meter)
-    }
-
-    ghost sized = { refl };
+    ghost sized = { A.sha2.sized };
 }
 
 impl Key {

@@ -14,7 +14,8 @@ ghost use Rattle.ring.specs.Prelude.{next_round, nth_round, raised, round_at, su
 use crate::digest::algorithm::{Algorithm, AlgorithmId};
 use crate::digest::dynstate::{OUTPUT_ROOM, Output};
 use crate::digest::lanes::algorithms::{
-    InVector, MAX_LANES, OneLane, Sha1, Sha256, Sha384, Sha512, Sha512_256, lanes_for,
+    DigestsOf, InVector, MAX_LANES, OneLane, Sha1, Sha256, Sha384, Sha512, Sha512_256, by_lanes,
+    lanes_for,
 };
 use crate::hmac::Key;
 use crate::hmac::prepared::{DigestBlock, PreparedKeys, Starts};
@@ -161,26 +162,15 @@ fn write_rounds<const VECTOR_BITS: usize>(
     ensures cost { meter.new ≡ raised meter.old (length outputs.old
         * (1 + 2 * (non_zero_u32_get derivation.now.iterations - 1))) 0 }
 {
-    macro_rules! in_lanes {
-        ($lanes:ty) => {
-            xor_iterates::<$lanes>(derivation, first, starts, outputs, meter)
+    macro_rules! write_in {
+        ($digests:ty) => {
+            xor_iterates::<$digests>(derivation, first, starts, outputs, meter)
+        };
+        ($lanes:ty, $block_len:literal, $digests:ty) => {
+            write_in!($digests)
         };
     }
-    match (derivation.algorithm.id, outputs.len()) {
-        (AlgorithmId::Sha1, 8) if VECTOR_BITS >= AVX2 => in_lanes!(InVector<u32x8, Sha1>),
-        (AlgorithmId::Sha1, 4) => in_lanes!(InVector<u32x4, Sha1>),
-        (AlgorithmId::Sha1, _) => in_lanes!(OneLane<Wrapping<u32>, Sha1>),
-        (AlgorithmId::Sha256, 8) if VECTOR_BITS >= AVX2 => in_lanes!(InVector<u32x8, Sha256>),
-        (AlgorithmId::Sha256, 4) => in_lanes!(InVector<u32x4, Sha256>),
-        (AlgorithmId::Sha256, _) => in_lanes!(OneLane<Wrapping<u32>, Sha256>),
-        (AlgorithmId::Sha384, 4) if VECTOR_BITS >= AVX2 => in_lanes!(InVector<u64x4, Sha384>),
-        (AlgorithmId::Sha384, _) => in_lanes!(OneLane<Wrapping<u64>, Sha384>),
-        (AlgorithmId::Sha512, 4) if VECTOR_BITS >= AVX2 => in_lanes!(InVector<u64x4, Sha512>),
-        (AlgorithmId::Sha512, _) => in_lanes!(OneLane<Wrapping<u64>, Sha512>),
-        (AlgorithmId::Sha512_256, 4) if VECTOR_BITS >= AVX2 =>
-            in_lanes!(InVector<u64x4, Sha512_256>),
-        (AlgorithmId::Sha512_256, _) => in_lanes!(OneLane<Wrapping<u64>, Sha512_256>),
-    }
+    by_lanes!(VECTOR_BITS, derivation.algorithm, outputs.len(), write_in)
 }
 
 // Hands the rounds from `first` on to the receiver, whose places are those of the keys from `place`

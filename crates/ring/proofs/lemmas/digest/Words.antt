@@ -3,9 +3,9 @@
 use Rattle.std.proofs.lemmas.Grind.{common_steps}
 use Rattle.std.proofs.Common.{◌≡◌, ℕ, zero, suc, ◌+◌, ◌*◌, ◌/◌, ◌%◌, ◌^◌, ◌<◌, ◌≤◌, List, [], ◌∷◌}
 use Rattle.std.proofs.Common.{◌++◌, length, map, take, drop, slice_index, refl, sym, ap, ◌∙◌, arith}
-use Rattle.std.proofs.Common.{length-append, length-drop, length-take-le, mod-lt, pow_pos, suc-mul}
+use Rattle.std.proofs.Common.{length-append, length-drop, length-take-le, pow_pos, suc-mul}
 use Rattle.std.proofs.Common.{zero-mul}
-use Rattle.std.proofs.lemmas.List.{length-map, length-take, take-append-drop, take_at}
+use Rattle.std.proofs.lemmas.List.{length-take, take-append-drop, take_at}
 use Rattle.std.specs.declared.num.Wrapping.{Wrapping}
 use Rattle.std.proofs.lemmas.Bool.{cases_lt}
 use Rattle.std.proofs.lemmas.List.Concat.{flat_map-append}
@@ -15,8 +15,8 @@ use Rattle.std.proofs.Math.Seq.{drop-append-add}
 use Rattle.std.specs.Int.{byte_at, bytes_high_first}
 use Rattle.std.specs.Int.Digits.{number_from_digits_after}
 use Rattle.ring_core.specs.Prelude.{◌⊕◌, IsBlockOf, big_endian, word_at, xor_lists}
-use Rattle.ring.specs.Prelude.{Algorithm, digest_bytes, output_len, prepared_padding, word_bytes}
-use Rattle.ring.specs.Prelude.{word_len}
+use Rattle.ring.specs.Prelude.{Algorithm, IsPaddingOf, digest_bytes, prepared_padding}
+use Rattle.ring.specs.Prelude.{word_bytes, word_len}
 use Rattle.ring_core.proofs.Bytes.{xor_lists-none, xor_lists-take}
 use Rattle.ring_core.proofs.Mapped.{past_front}
 use Rattle.ring.proofs.lemmas.digest.Outputs.{byte_is, length-bytes_high_first, length-word_bytes}
@@ -149,34 +149,21 @@ take-word_bytes n k ws room =
 abbrev pub values : (w : ℕ) → List (Wrapping ℕ) → List ℕ
 values w words = map (λ x. x.0 % 2 ^ w) words
 
--- what is known of the words of w bits that pad a digest of k words
-pub record ArePadding (a : Algorithm) (w k : ℕ) (padding : List (Wrapping ℕ)) : Type 0 where
-  pub bits : w ≡ 8 * word_len a
-  pub digest : output_len a ≡ k * word_len a
-  pub room : k ≤ 8
-  pub sixteen : length padding ≡ 16
-  pub bytes : word_bytes (word_len a) (drop k (values w padding)) ≡ prepared_padding a
-
--- with them, the words of a lane make a block
-pub padded-words : {X : Type 0} {a : Algorithm} {w k : ℕ} {padding : List (Wrapping ℕ)}
-    {f : X → ℕ} (xs : List X) → ArePadding a w k padding → length (map f xs) ≡ 8
+-- behind a digest in the words of a lane, its padding makes a block
+pub padded-words : {X : Type 0} {a : Algorithm} {w k : ℕ} {padding : List ℕ} {f : X → ℕ}
+    (xs : List X) → IsPaddingOf a w k padding → AllBelow (2 ^ w) padding → length (map f xs) ≡ 8
     → ((x : X) → f x < 2 ^ w)
-    → IsBlockOf w k (map f xs) (values w padding)
-    (digest_bytes a (map f xs) ++ prepared_padding a)
-padded-words {a = a} {w = w} {k = k} {padding = padding} {f} xs t eight each =
+    → IsBlockOf w k (map f xs) padding (digest_bytes a (map f xs) ++ prepared_padding a)
+padded-words {a = a} {w = w} {k = k} {padding = vs} {f} xs t small eight each =
     let n : ℕ = word_len a in
     let ws : List ℕ = map f xs in
-    let vs : List ℕ = values w padding in
     let all : List ℕ = take k ws ++ drop k vs in
-    let sixteen : length vs ≡ 16 = length-map padding _ ∙ t.sixteen in
     let room : k ≤ length ws = omega (arith, t.room, eight) in
     let long : length all ≡ 16 =
     length-append (take k ws) (drop k vs)
-    ∙ omega (arith, length-take-le k ws room, length-drop k vs, sixteen, t.room) in
+    ∙ omega (arith, length-take-le k ws room, length-drop k vs, t.sixteen, t.room) in
     let below : AllBelow (2 ^ w) all =
-    front-below (2 ^ w) k ws vs room (map-below f (2 ^ w) xs (pow_pos w) each)
-    (map-below (λ (x : Wrapping ℕ). x.0 % 2 ^ w) (2 ^ w) padding (pow_pos w)
-    (λ x. mod-lt _ (pow_pos w))) in
+    front-below (2 ^ w) k ws vs room (map-below f (2 ^ w) xs (pow_pos w) each) small in
     let fits : AllBelow (2 ^ (8 * n)) all = λ (j : ℕ). rw (← t.bits) (below j) in
     let block : word_bytes n all ≡ digest_bytes a ws ++ prepared_padding a =
     cc (

@@ -1,67 +1,75 @@
 -- SPDX-License-Identifier: ISC
 -- The paddings as words are the standard's, each behind a digest of its algorithm; and what a run
 -- over such a block makes of a state.
-use Rattle.std.proofs.lemmas.Grind.{common_steps}
-use Rattle.std.proofs.Common.{◌≡◌, ℕ, ◌^◌, ◌<◌, List, ◌++◌, length, map, take, refl, sym, ap, ◌∙◌}
-use Rattle.std.proofs.Common.{arith, lit≤, mod-lt, pow_pos, take_all}
+use Rattle.std.proofs.Common.{◌≡◌, ℕ, ◌^◌, ◌%◌, ◌<◌, List, ◌++◌, length, map, take, refl, sym, ap}
+use Rattle.std.proofs.Common.{◌∙◌, arith, lit≤, mod-lt, pow_pos, take_all}
+use Rattle.std.proofs.lemmas.List.{length-map}
 use Rattle.std.specs.declared.num.Wrapping.{Wrapping}
 use Rattle.ring_core.specs.Prelude.{Family, IsBlockOf, block_step}
 use Rattle.ring.specs.Prelude.{Algorithm, SHA1_FOR_LEGACY_USE_ONLY, SHA256, SHA384, SHA512}
-use Rattle.ring.specs.Prelude.{SHA512_256, digest_bytes, prepared_padding}
+use Rattle.ring.specs.Prelude.{IsPaddingOf, SHA512_256, digest_bytes, prepared_padding}
 use Rattle.ring_core.proofs.Sha2Steps.{length-block_step}
 use Rattle.ring.specs.declared.hmac.prepared.TheConstants.{SHA1_PADDING}
 use Rattle.ring.specs.declared.hmac.prepared.TheConstants.{SHA256_PADDING}
 use Rattle.ring.specs.declared.hmac.prepared.TheConstants.{SHA384_PADDING}
 use Rattle.ring.specs.declared.hmac.prepared.TheConstants.{SHA512_PADDING}
 use Rattle.ring.specs.declared.hmac.prepared.TheConstants.{SHA512_256_PADDING}
-use Rattle.ring.proofs.lemmas.digest.Words.{ArePadding, padded-words, values}
+use Rattle.ring.proofs.lemmas.digest.Words.{AllBelow, map-below, padded-words, values}
 
-pub sha1_padding : ArePadding SHA1_FOR_LEGACY_USE_ONLY 32 5 SHA1_PADDING
+pub sha1_padding : IsPaddingOf SHA1_FOR_LEGACY_USE_ONLY 32 5 (values 32 SHA1_PADDING)
 sha1_padding =
     record { bits = refl; digest = refl; room = lit≤ tt; sixteen = refl; bytes = refl }
 
-pub sha256_padding : ArePadding SHA256 32 8 SHA256_PADDING
+pub sha256_padding : IsPaddingOf SHA256 32 8 (values 32 SHA256_PADDING)
 sha256_padding =
     record { bits = refl; digest = refl; room = lit≤ tt; sixteen = refl; bytes = refl }
 
-pub sha384_padding : ArePadding SHA384 64 6 SHA384_PADDING
+pub sha384_padding : IsPaddingOf SHA384 64 6 (values 64 SHA384_PADDING)
 sha384_padding =
     record { bits = refl; digest = refl; room = lit≤ tt; sixteen = refl; bytes = refl }
 
-pub sha512_padding : ArePadding SHA512 64 8 SHA512_PADDING
+pub sha512_padding : IsPaddingOf SHA512 64 8 (values 64 SHA512_PADDING)
 sha512_padding =
     record { bits = refl; digest = refl; room = lit≤ tt; sixteen = refl; bytes = refl }
 
-pub sha512_256_padding : ArePadding SHA512_256 64 4 SHA512_256_PADDING
+pub sha512_256_padding : IsPaddingOf SHA512_256 64 4 (values 64 SHA512_256_PADDING)
 sha512_256_padding =
     record { bits = refl; digest = refl; room = lit≤ tt; sixteen = refl; bytes = refl }
 
 -- the words of a lane after a run over a digest's words and their padding, where all eight chain
-pub lane_run : {X : Type 0} {a : Algorithm} {w k : ℕ} {padding : List (Wrapping ℕ)}
-    {f : X → ℕ} (family : Family) (old new digest : List X) → ArePadding a w k padding
-    → (length (map f old) ≡ 8) × (length (map f digest) ≡ 8) → ((x : X) → f x < 2 ^ w)
-    → ((block : List ℕ) → IsBlockOf w k (map f digest) (values w padding) block
+pub lane_run : {X : Type 0} {a : Algorithm} {w k : ℕ} {padding : List ℕ} {f : X → ℕ}
+    (family : Family) (old new digest : List X) → IsPaddingOf a w k padding
+    → AllBelow (2 ^ w) padding → (length (map f old) ≡ 8) × (length (map f digest) ≡ 8)
+    → ((x : X) → f x < 2 ^ w)
+    → ((block : List ℕ) → IsBlockOf w k (map f digest) padding block
     → map f new ≡ block_step family (map f old) block)
     → take 8 (map f new)
     ≡ block_step family (take 8 (map f old)) (digest_bytes a (map f digest) ++ prepared_padding a)
-lane_run {a = a} {f = f} family old new digest t eights fits run =
+lane_run {a = a} {f = f} family old new digest t small eights fits run =
     let block : List ℕ = digest_bytes a (map f digest) ++ prepared_padding a in
     let step : List ℕ → List ℕ → List ℕ = block_step family in
     let ran : map f new ≡ step (map f old) block =
-    run block (padded-words digest t eights.1 fits) in
+    run block (padded-words digest t small eights.1 fits) in
     let eight : length (map f new) ≡ 8 =
     ap length ran ∙ length-block_step family (map f old) block in
     take_all 8 (map f new) (omega (arith, eight)) ∙ ran
     ∙ ap (λ h. step h block) (sym (take_all 8 (map f old) (omega (arith, eights.0))))
 
+-- the words of a padding are words of w bits
+pub values-below : (w : ℕ) (padding : List (Wrapping ℕ)) → AllBelow (2 ^ w) (values w padding)
+values-below w padding =
+    map-below (λ (x : Wrapping ℕ). x.0 % 2 ^ w) (2 ^ w) padding (pow_pos w)
+    (λ x. mod-lt _ (pow_pos w))
+
 -- the same of words as they are
-pub words_run : {a : Algorithm} {w k : ℕ} {padding : List (Wrapping ℕ)} (family : Family)
-    (old new digest : List (Wrapping ℕ)) → ArePadding a w k padding
+pub words_run : {a : Algorithm} {w k : ℕ} (family : Family)
+    (old new digest padding : List (Wrapping ℕ)) → IsPaddingOf a w k (values w padding)
     → (length old ≡ 8) × (length digest ≡ 8)
     → ((block : List ℕ) → IsBlockOf w k (values w digest) (values w padding) block
     → values w new ≡ block_step family (values w old) block)
     → take 8 (values w new)
     ≡ block_step family (take 8 (values w old))
     (digest_bytes a (values w digest) ++ prepared_padding a)
-words_run {w = w} family old new digest t eights =
-    grind (arith, common_steps, lane_run, mod-lt, pow_pos)
+words_run {w = w} family old new digest padding t eights =
+    lane_run family old new digest t (values-below w padding)
+    (length-map old _ ∙ eights.0, length-map digest _ ∙ eights.1) (λ x. mod-lt _ (pow_pos w))

@@ -178,6 +178,12 @@ pub(crate) struct Sha512;
 
 pub(crate) struct Sha512_256;
 
+// The three algorithms of 64-bit words, which have one block function.
+pub(crate) struct Long;
+
+// The algorithm `A` of SHA-2, whose digests have `N` words.
+pub(crate) struct DigestsOf<A, const N: usize>(A);
+
 // A block function that runs over a block in each lane.
 pub(crate) trait RunBlocks<const N: usize>: LaneStates {
     // it is that of the algorithm
@@ -200,8 +206,8 @@ pub(crate) trait RunBlocks<const N: usize>: LaneStates {
     ghost sized: { (a : Algorithm) → is_of a → word_len a ≡ Self.word_len };
 }
 
-// The block functions of 32-bit words are not inlined, so that a check of the machine code finds each
-// once. That of 64-bit words is inlined, since a call of it costs 2 per cent.
+// The block functions of 32-bit words are not inlined, so that a check of the machine code finds
+// each once. That of 64-bit words is inlined, since a call of it costs 2 per cent.
 impl<V: Vector<One = Wrapping<u32>>> RunBlocks<64> for InVector<V, Sha1> {
     ghost is_of = { λ a. a ≡ SHA1_FOR_LEGACY_USE_ONLY };
 
@@ -224,8 +230,7 @@ impl<V: Vector<One = Wrapping<u32>>> RunBlocks<64> for InVector<V, Sha256> {
     ghost sized = { λ a is. ap word_len is };
 }
 
-// One block function serves the three algorithms of 64-bit words.
-impl<V: Vector<One = Wrapping<u64>>, A> RunBlocks<128> for InVector<V, A> {
+impl<V: Vector<One = Wrapping<u64>>> RunBlocks<128> for InVector<V, Long> {
     ghost is_of = { λ a. word_len a ≡ 8 };
 
     #[inline(always)]
@@ -255,21 +260,41 @@ pub(crate) fn lanes_for<const VECTOR_BITS: usize>(algorithm: Algorithm, left: us
     }
 }
 
-// Chooses what runs by the algorithm and by how many messages or contexts there are: so many that
-// they can run together in vectors of `$bits` bits (`CanRunTogether`). That is `$one` where it is
-// one, and else the macro `$several`, of the states in lanes and the length of a block.
+// Chooses the types for an algorithm and for a number of messages, contexts or rounds that can run
+// together in vectors of `$bits` bits (`CanRunTogether`), and calls the macro `$run`: for one, with
+// its `DigestBlock`; for several, with their `RunBlocks`, the length of a block in bytes, and their
+// `DigestBlock`.
 macro_rules! by_lanes {
-    ($bits:ident, $algorithm:ident, $count:expr, $one:expr, $several:ident) => {
+    ($bits:ident, $algorithm:expr, $count:expr, $run:ident) => {
+        by_lanes!(
+            $bits, $algorithm, $count, $run,
+            [(Sha1, Sha1) (Sha256, DigestsOf<Sha256, 8>)]
+            [
+                (Sha384, DigestsOf<Sha384, 6>)
+                (Sha512, DigestsOf<Sha512, 8>)
+                (Sha512_256, DigestsOf<Sha512_256, 4>)
+            ]
+        )
+    };
+    (
+        $bits:ident, $algorithm:expr, $count:expr, $run:ident,
+        [$(($short:ident, $short_digests:ty))*]
+        [$(($long:ident, $long_digests:ty))*]
+    ) => {
         match ($algorithm.id, $count) {
-            (_, 1) => $one,
-            (AlgorithmId::Sha1, 8) if $bits >= AVX2 => $several!(InVector<u32x8, Sha1>, 64),
-            (AlgorithmId::Sha1, _) => $several!(InVector<u32x4, Sha1>, 64),
-            (AlgorithmId::Sha256, 8) if $bits >= AVX2 => $several!(InVector<u32x8, Sha256>, 64),
-            (AlgorithmId::Sha256, _) => $several!(InVector<u32x4, Sha256>, 64),
-            // The three algorithms of 64-bit words have one block function.
-            _ if $bits >= AVX2 => $several!(InVector<u64x4, Sha512>, 128),
+            $(
+                (AlgorithmId::$short, 8) if $bits >= AVX2 =>
+                    $run!(InVector<u32x8, $short>, 64, InVector<u32x8, $short_digests>),
+                (AlgorithmId::$short, 4) =>
+                    $run!(InVector<u32x4, $short>, 64, InVector<u32x4, $short_digests>),
+                (AlgorithmId::$short, _) => $run!(OneLane<Wrapping<u32>, $short_digests>),
+            )*
             // Words of 64 bits run alone in narrower vectors.
-            _ => unreachable!(),
+            $(
+                (AlgorithmId::$long, 4) if $bits >= AVX2 =>
+                    $run!(InVector<u64x4, Long>, 128, InVector<u64x4, $long_digests>),
+                (AlgorithmId::$long, _) => $run!(OneLane<Wrapping<u64>, $long_digests>),
+            )*
         }
     };
 }

@@ -1,6 +1,6 @@
 -- SPDX-License-Identifier: ISC
 use Rattle.ring.proofs.lemmas.digest.LaneBlocks.{lane-long, spare-long}
-use Rattle.ring.proofs.digest.lanes.algorithms.InVectorRunBlocks128.run_blocks.Goals as goal
+use Rattle.ring.proofs.digest.lanes.algorithms.InVectorLongRunBlocks128.run_blocks.Goals as goal
 
 pub returns-clause-words : goal.returns-clause-words
 returns-clause-words g c = λ a i h is below has.

@@ -1,7 +1,8 @@
 -- SPDX-License-Identifier: ISC
 -- The limits of lengths, in bytes. What is limited and by what number stands here once: as lengths,
 -- as limits of these, and as tests of the limits.
-use Rattle.std.specs.Prelude.{ℕ, ◌+◌, ◌-◌, ◌*◌, ◌^◌, ◌<◌, ◌≤◌, Bool, nat_le, ◌==◌, ◌&&◌, ◌||◌}
+use Rattle.std.specs.Prelude.{◌↔◌, ℕ, ◌+◌, ◌-◌, ◌*◌, ◌^◌, ◌<◌, ◌≤◌, Bool, nat_le, ◌==◌, ◌&&◌}
+use Rattle.std.specs.Prelude.{◌||◌}
 use Rattle.std.specs.Int.{div_ceil}
 use Rattle.ring.specs.Algorithm.{block_len, max_input_len, output_len}
 use Rattle.ring.specs.declared.digest.algorithm.Algorithm.{Algorithm}
@@ -64,6 +65,16 @@ pub record CanDerive (a : Algorithm) (secret_len salt_len n : ℕ) : Type 0 wher
 pub record CanVerify (a : Algorithm) (secret_len salt_len n : ℕ) : Type 0 where
   pub nonempty : 0 < n
   pub within : CanDerive a secret_len salt_len n
+
+-- the limits as numbers, by those of the longest message, of a block and of a digest
+pub record HasLimits (a : Algorithm) (most block digest : ℕ) : Type 0 where
+  pub message : (n : ℕ) → IsMessageWithin a n ↔ (n ≤ most)
+  pub tag : (n : ℕ) → IsTagWithin a n ↔ (n ≤ most - block)
+  pub output : (n : ℕ) → IsOutputWithin a n ↔ (n ≤ 255 * digest)
+  pub info : (i n : ℕ) → IsInfoWithin a i n
+      ↔ ((i ≤ most - (block + 1)) × (digest < n → i ≤ most - (block + digest + 1)))
+  pub derivation : (p s n : ℕ) → CanDerive a p s n
+      ↔ ((p ≤ most) × (0 < n → s ≤ most - (block + 4)) × (n ≤ (2 ^ 32 - 1) * digest))
 
 -- whether a message is within the limit of digests
 abbrev pub fits : Algorithm → ℕ → Bool

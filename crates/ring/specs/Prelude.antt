@@ -14,7 +14,7 @@ pub use Rattle.ring.specs.State.{spare_words}
 pub use Rattle.ring.specs.Limits.{tag_input_len, first_round_len, next_round_len, max_okm_len}
 pub use Rattle.ring.specs.Limits.{first_iterate_len, derive_rounds, max_dk_len, IsMessageWithin}
 pub use Rattle.ring.specs.Limits.{IsTagWithin, IsOutputWithin, fits, can_expand, can_derive}
-pub use Rattle.ring.specs.Limits.{can_verify, IsInfoWithin, CanDerive, CanVerify}
+pub use Rattle.ring.specs.Limits.{can_verify, IsInfoWithin, CanDerive, CanVerify, HasLimits}
 pub use Rattle.ring.specs.Padding.{IsWhole, padded_with, padded_blocks, zeros_of, tail_of, IsPadded}
 unfoldable pub use Rattle.ring.specs.Padding.{padded}
 pub use Rattle.ring.specs.Cost.{whole_blocks, last_blocks, key_digest_blocks, key_blocks}

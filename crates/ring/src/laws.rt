@@ -6,13 +6,13 @@
 
 ghost use Rattle.std.specs.Prelude.{◌≡◌, ◌↔◌, ℕ, ◌+◌, ◌-◌, ◌^◌, ◌<◌, ◌≤◌, List, [], ◌++◌, length};
 ghost use Rattle.std.specs.Prelude.{replicate, take, IfOk, IsErr, None, OnErr, OnOk, Some};
-ghost use Rattle.ring.specs.Prelude.{Algorithm, CanDerive, Context, IsDigest, IsInfoWithin};
-ghost use Rattle.ring.specs.Prelude.{IsMessageWithin, IsNoContext, IsNoKey, IsNoTagContext};
-ghost use Rattle.ring.specs.Prelude.{IsOutputWithin, IsTag, IsTagWithin, Key, KeyStandsFor};
+ghost use Rattle.ring.specs.Prelude.{Algorithm, Context, HasLimits, IsDigest};
+ghost use Rattle.ring.specs.Prelude.{IsNoContext, IsNoKey, IsNoTagContext};
+ghost use Rattle.ring.specs.Prelude.{IsTag, Key, KeyStandsFor};
 ghost use Rattle.ring.specs.Prelude.{RawContext, RawKey, RawKeyStandsFor, RawStandsFor};
 ghost use Rattle.ring.specs.Prelude.{RawTagContext, RawTagStandsFor, SHA1_FOR_LEGACY_USE_ONLY};
-ghost use Rattle.ring.specs.Prelude.{SHA256, SHA384, SHA512, StandsFor, TagStandsFor, block_len};
-ghost use Rattle.ring.specs.Prelude.{compared_pairs, context_algorithm, derive_blocks};
+ghost use Rattle.ring.specs.Prelude.{SHA256, SHA384, SHA512, SHA512_256, StandsFor, TagStandsFor};
+ghost use Rattle.ring.specs.Prelude.{block_len, compared_pairs, context_algorithm, derive_blocks};
 ghost use Rattle.ring.specs.Prelude.{digest_named, digest_of, digest_with, dk, hmac_of, joined};
 ghost use Rattle.ring.specs.Prelude.{key_algorithm, max_input_len, named_block_len, okm};
 ghost use Rattle.ring.specs.Prelude.{output_len, padded_blocks, raised, raw_digest_with};
@@ -153,48 +153,14 @@ pub fn derivation_cost_is_of_lengths()
         ≡ derive_blocks a (length q) (length t) c (length value) }
 {}
 
-/// The limits of digests, tags, outputs, infos and derivations under SHA-1, in bytes.
-pub fn limits_of_sha1()
-    ensures message { (n : ℕ) → IsMessageWithin SHA1_FOR_LEGACY_USE_ONLY n ↔ (n ≤ 2 ^ 61 - 1) }
-    ensures tag { (n : ℕ) → IsTagWithin SHA1_FOR_LEGACY_USE_ONLY n ↔ (n ≤ 2 ^ 61 - 65) }
-    ensures output { (n : ℕ) → IsOutputWithin SHA1_FOR_LEGACY_USE_ONLY n ↔ (n ≤ 5100) }
-    ensures info { (i n : ℕ) → IsInfoWithin SHA1_FOR_LEGACY_USE_ONLY i n
-        ↔ ((i ≤ 2 ^ 61 - 66) × (20 < n → i ≤ 2 ^ 61 - 86)) }
-    ensures derivation { (p s n : ℕ) → CanDerive SHA1_FOR_LEGACY_USE_ONLY p s n
-        ↔ ((p ≤ 2 ^ 61 - 1) × (0 < n → s ≤ 2 ^ 61 - 69) × (n ≤ 85899345900)) }
-{}
-
-/// The limits of digests, tags, outputs, infos and derivations under SHA-256, in bytes.
-pub fn limits_of_sha256()
-    ensures message { (n : ℕ) → IsMessageWithin SHA256 n ↔ (n ≤ 2 ^ 61 - 1) }
-    ensures tag { (n : ℕ) → IsTagWithin SHA256 n ↔ (n ≤ 2 ^ 61 - 65) }
-    ensures output { (n : ℕ) → IsOutputWithin SHA256 n ↔ (n ≤ 8160) }
-    ensures info { (i n : ℕ) → IsInfoWithin SHA256 i n
-        ↔ ((i ≤ 2 ^ 61 - 66) × (32 < n → i ≤ 2 ^ 61 - 98)) }
-    ensures derivation { (p s n : ℕ) → CanDerive SHA256 p s n
-        ↔ ((p ≤ 2 ^ 61 - 1) × (0 < n → s ≤ 2 ^ 61 - 69) × (n ≤ 137438953440)) }
-{}
-
-/// The limits of digests, tags, outputs, infos and derivations under SHA-384, in bytes.
-pub fn limits_of_sha384()
-    ensures message { (n : ℕ) → IsMessageWithin SHA384 n ↔ (n ≤ 2 ^ 125 - 1) }
-    ensures tag { (n : ℕ) → IsTagWithin SHA384 n ↔ (n ≤ 2 ^ 125 - 129) }
-    ensures output { (n : ℕ) → IsOutputWithin SHA384 n ↔ (n ≤ 12240) }
-    ensures info { (i n : ℕ) → IsInfoWithin SHA384 i n
-        ↔ ((i ≤ 2 ^ 125 - 130) × (48 < n → i ≤ 2 ^ 125 - 178)) }
-    ensures derivation { (p s n : ℕ) → CanDerive SHA384 p s n
-        ↔ ((p ≤ 2 ^ 125 - 1) × (0 < n → s ≤ 2 ^ 125 - 133) × (n ≤ 206158430160)) }
-{}
-
-/// The limits of digests, tags, outputs, infos and derivations under SHA-512, in bytes.
-pub fn limits_of_sha512()
-    ensures message { (n : ℕ) → IsMessageWithin SHA512 n ↔ (n ≤ 2 ^ 125 - 1) }
-    ensures tag { (n : ℕ) → IsTagWithin SHA512 n ↔ (n ≤ 2 ^ 125 - 129) }
-    ensures output { (n : ℕ) → IsOutputWithin SHA512 n ↔ (n ≤ 16320) }
-    ensures info { (i n : ℕ) → IsInfoWithin SHA512 i n
-        ↔ ((i ≤ 2 ^ 125 - 130) × (64 < n → i ≤ 2 ^ 125 - 194)) }
-    ensures derivation { (p s n : ℕ) → CanDerive SHA512 p s n
-        ↔ ((p ≤ 2 ^ 125 - 1) × (0 < n → s ≤ 2 ^ 125 - 133) × (n ≤ 274877906880)) }
+/// The limits of digests, tags, outputs, infos and derivations under each algorithm, in bytes: by the
+/// longest message, a block and a digest (FIPS 180-4, section 1, figure 1).
+pub fn limits_in_bytes()
+    ensures sha1 { HasLimits SHA1_FOR_LEGACY_USE_ONLY (2 ^ 61 - 1) 64 20 }
+    ensures sha256 { HasLimits SHA256 (2 ^ 61 - 1) 64 32 }
+    ensures sha384 { HasLimits SHA384 (2 ^ 125 - 1) 128 48 }
+    ensures sha512 { HasLimits SHA512 (2 ^ 125 - 1) 128 64 }
+    ensures sha512_256 { HasLimits SHA512_256 (2 ^ 125 - 1) 128 32 }
 {}
 
 /// Numbers whose algorithm is 0, as where the caller wrote zeros over them, are no context's and no

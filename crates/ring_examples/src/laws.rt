@@ -10,9 +10,8 @@ use ring::digest::{SHA1_FOR_LEGACY_USE_ONLY, SHA256, SHA256_OUTPUT_LEN, SHA384, 
 use ring::error::Unspecified;
 use ring::hkdf::{HKDF_SHA256, Prk, Salt};
 use ring::laws::{
-    comparison_is_symmetric, digest_has_output_len, empty_salt_extracts_as_zeros, limits_of_sha1,
-    limits_of_sha256, limits_of_sha384, limits_of_sha512, shorter_derivation_is_a_front,
-    shorter_output_is_a_front,
+    comparison_is_symmetric, digest_has_output_len, empty_salt_extracts_as_zeros, limits_in_bytes,
+    shorter_derivation_is_a_front, shorter_output_is_a_front,
 };
 use ring::pbkdf2::{PBKDF2_HMAC_SHA256, derive};
 use std::num::NonZeroU32;
@@ -23,10 +22,7 @@ pub fn can_ask_all(len: usize) -> bool
     ensures { IsTrue result ↔ (IsOutputWithin SHA1_FOR_LEGACY_USE_ONLY len
         × IsOutputWithin SHA256 len × IsOutputWithin SHA384 len × IsOutputWithin SHA512 len) }
 {
-    limits_of_sha1();
-    limits_of_sha256();
-    limits_of_sha384();
-    limits_of_sha512();
+    limits_in_bytes();
     len <= 5_100
 }
 

@@ -32,6 +32,7 @@ import counted
 ROOT = pathlib.Path(__file__).resolve().parent.parent
 COPIED = [
     "bench", "sums", "passwords", "programs/build", "programs/about", "programs/built",
+    "c/processor.c", "c/processor.h", "c/include/yezdopin.h",
     "generated/make/progress.py",
     "crates/ring_sums/src/about.rt", "crates/ring_passwords/src/about.rt",
 ]
@@ -41,7 +42,7 @@ VERSION = r"\.".join(re.findall(r"#define YZ_VERSION_(?:MAJOR|MINOR|PATCH) (\d+)
 # The crates of a launcher's programs.
 CRATES = {
     "bench": ["ring_bench_main"],
-    "sums": ["ring_sums_main", "ring_sums_wide"],
+    "sums": ["ring_sums_main"],
     "passwords": ["ring_passwords"],
 }
 TIMEOUT = 60

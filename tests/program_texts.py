@@ -5,9 +5,9 @@ and that the launchers run programs that are built from it.
 
 With the kit, `generated/make/programs check` links each text and the kit's object of the same
 program, and compares what comes of them; that it would see another instruction, constant or address
-is tried by planted ones. The launchers are run in a copy of the repository, without the kit. The
-last line is 'N passed, M failed', or 'N passed, M failed, K skipped' without the kit or a C
-compiler.
+is tried by planted ones. generated/make/wide_test.py tries what makes the object of ./sums. The
+launchers are run in a copy of the repository, without the kit. The last line is 'N passed, M
+failed', or 'N passed, M failed, K skipped' without the kit or a C compiler.
 
     tests/program_texts.py [WORD..]     all, or those with one of these words in their names
 """
@@ -27,8 +27,8 @@ sys.path.append(str(pathlib.Path(__file__).resolve().parent / "lib"))
 import counted
 from run import COMPILER, ROOT
 
-PROGRAMS = ["ring_bench_main", "ring_passwords", "ring_sums_main", "ring_sums_wide"]
-COPIED = ["bench", "passwords", "sums", "crates.txt", "generated", "programs"]
+PROGRAMS = ["ring_bench_main", "ring_passwords", "ring_sums_main"]
+COPIED = ["bench", "passwords", "sums", "crates.txt", "c", "generated", "programs"]
 # FIPS 180-2, appendix B.1: the digest of "abc".
 DIGEST = "ba7816bf8f01cfea414140de5dae2223b00361a396177a9cb410ff61f20015ad"
 # What is changed in the middle one of the lines of a text that have it.
@@ -96,7 +96,7 @@ class Launchers(Texts):
     def test_sums(self):
         """`./sums` writes a list and checks it."""
         (self.copy / "it").write_text("abc")
-        found = self.first_run_of("sums", "ring_sums_(?:main|wide)", "it")
+        found = self.first_run_of("sums", "ring_sums_main", "it")
         self.assertEqual(found, (0, f"{DIGEST}  it\n"))
         self.assertEqual(self.run_of("sums", "-c", given=f"{DIGEST}  it\n"), (0, "it: OK\n", ""))
 
@@ -146,7 +146,11 @@ def compared_with_kit():
     if not COMPILER or not shutil.which(os.environ.get("RT", "rt")):
         print("left out: whether the text is what the kit makes, without the Rattle kit")
         return 0, 0, 1
-    command = [ROOT / "generated/make/programs", "check"]
+    return counts_of(ROOT / "generated/make/programs", "check")
+
+
+def counts_of(*command):
+    """The counts in a command's last line."""
     ended = subprocess.run(command, stdout=subprocess.PIPE, text=True, check=False)
     print(ended.stdout, end="", flush=True)
     counts = re.search(r"^(\d+) passed, (\d+) failed\n\Z", ended.stdout, re.M)
@@ -155,9 +159,10 @@ def compared_with_kit():
 
 def main():
     words = sys.argv[1:]
-    compared = (0, 0, 0) if words else compared_with_kit()
+    others = [] if words else [counts_of(sys.executable, ROOT / "generated/make/wide_test.py"),
+                               compared_with_kit()]
     tried = counted.run(counted.suite([Launchers, Planted], words), sys.stdout).counts()
-    return counted.report(*map(sum, zip(compared, tried)))
+    return counted.report(*map(sum, zip(*others, tried)))
 
 
 if __name__ == "__main__":

@@ -130,8 +130,8 @@ class Run:
 
 
 def launcher(crate):
-    """What runs the program of a crate, as ./sums those of ring_sums_main and ring_sums_wide."""
-    name = re.sub("^ring_|_main$|_wide$", "", crate)
+    """What runs the program of a crate, as ./sums that of ring_sums_main."""
+    name = re.sub("^ring_|_main$", "", crate)
     return f"./{name}" if (ROOT / name).is_file() else f"build of {crate}"
 
 

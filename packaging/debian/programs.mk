@@ -3,12 +3,12 @@
 # in packaging/dist.mk. They are built from the assembly text in generated/, as the library is.
 
 TOOLS_DEB = yezdopin-tools
-TOOLS = ring_sums_main ring_sums_wide ring_passwords
+TOOLS = ring_sums_main ring_passwords
 TOOLS_TEXTS = $(wildcard $(TOOLS:%=generated/%.S))
 PROGRAMS = $(WHOLE_OUT)/programs
 
 $(TOOLS:%=$(OUT)/programs/%): $(OUT)/programs/%: generated/%.S programs/build \
-    programs/runtime.c
+    programs/runtime.c c/processor.c c/processor.h $(HEADER)
 	mkdir -p $(@D)
 	CC='$(CC)' CFLAGS=-O2 LDFLAGS= programs/build $* $@
 
@@ -18,8 +18,8 @@ define launcher
 	{ printf '%s\n' '#!/bin/bash' '# SPDX-License-Identifier: ISC' '# $(1)(1) describes the program.' \
 	    'set -euo pipefail' && \
 	sed -e '1,/^set -euo pipefail$$/d; /^root=/d; /^# about /,/^esac$$/d' \
-	        -e '/^# With --version/d; /^ *processor=/d' $(1) \
-	    | sed 's|^program=.*/built" "\{0,1\}\([a-z_$$]*\).*|program=/usr/lib/yezdopin/\1|'; } \
+	        -e '/^# With --version/d' $(1) \
+	    | sed 's|^program=.*/built" \([a-z_]*\) .*|program=/usr/lib/yezdopin/\1|'; } \
 	    >"$(WORK)/$(TOOLS_DEB)/usr/bin/$(1)"
 	chmod 755 "$(WORK)/$(TOOLS_DEB)/usr/bin/$(1)"
 	! grep -E 'programs/|\broot\b' "$(WORK)/$(TOOLS_DEB)/usr/bin/$(1)"

@@ -316,7 +316,7 @@ PLANTED = {
     "`take_in` of checksums runs blocks under a further meter": before(
         "at most 1 places of ring_sums make a meter",
         "crates/ring_sums/src/lanes.rt",
-        "        match update_each_in::<BITS>(&mut self.contexts, &pieces, &mut Meter::new()) {\n",
+        "        match update_each(&mut self.contexts, &pieces, &mut Meter::new()) {\n",
         "let _ = ring::digest::digest_counted(&ring::digest::SHA256, &[], &mut Meter::new());",
     ),
     "the program of test lines runs a block under a meter of its own": before(

@@ -16,7 +16,6 @@ ROOT = pathlib.Path(__file__).resolve().parents[2]
 WORDS = {
     "ring_passwords": ("--", "data/passwords.txt", "list"),
     "ring_sums_main": ("--", "--version"),
-    "ring_sums_wide": ("--cpu=x86-64-v3", "--", "--version"),
 }
 COMPILER = next(filter(None, map(shutil.which, ("cc", "gcc", "clang"))), None)
 

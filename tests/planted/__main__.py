@@ -47,7 +47,7 @@ NEEDED = {
         c_library, ["cc", "cargo", "librust-digest-dev", "librust-password-hash-dev"],
     ),
     "openssl": (openssl_provider, openssl_provider.NEEDED["x86_64"]),
-    "programs": (c_library, ["cc"]),
+    "programs": (c_library, ["cc", "qemu-x86_64"]),
     "instructions": (c_library, ["python3"]),
 }
 KEPT = pathlib.Path(os.environ.get("XDG_CACHE_HOME") or "~/.cache").expanduser() / "yezdopin"

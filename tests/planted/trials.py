@@ -83,8 +83,13 @@ def script_commands(test):
     return [["python3", "-B", *test.split()]]
 
 
-def runtime_commands(test):
-    return [["python3", "-B", test, "programs"]]
+def programs_commands(test):
+    script, _, word = test.partition(" ")
+    return [["python3", "-B", script, word or "programs"]]
+
+
+def programs_fails(said, test):
+    return unittest_fails(said, test) if " " in test else says_failed(said, test)
 
 
 MADE = ("c", "generated", "crates.txt", "Makefile", "LICENSE")
@@ -96,7 +101,9 @@ DOORS = {
     "rust": Door(("rust",), cargo_commands, cargo_fails),
     "rustcrypto": Door(("rust",), rustcrypto_commands, rustcrypto_fails),
     "openssl": Door(("openssl",), make_commands, says_failed),
-    "programs": Door(("programs", "tests/program_runtime.py"), runtime_commands, says_failed),
+    "programs": Door(
+        ("programs", "c/processor.c", "generated/ring_sums_main.S", "tests/program_runtime.py",
+         "tests/sums"), programs_commands, programs_fails),
     "instructions": Door(("generated/make",), script_commands, says_failed),
 }
 
@@ -164,6 +171,7 @@ def run_in(room, door, test):
         **os.environ, "PYTHONFAULTHANDLER": "1", "YEZDOPIN_LIB_DIR": str(room / "out"),
         "PACKAGE": str(room / "out/js/package"), "VECTORS": str(room / "vectors"),
         "VERIFICATIONS": str(room / "out/verifications.txt"),
+        "PROGRAMS": str(room / "programs"),
         "CARGO_TARGET_DIR": str(room / "out/cargo"), "RT": "no-kit",
         "NODE_PATH": os.environ.get("NODE_PATH", "/usr/share/nodejs"),
     }

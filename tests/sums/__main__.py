@@ -2,9 +2,10 @@
 # SPDX-License-Identifier: ISC
 """What ./sums writes, beside coreutils 9.1 and `hashlib`.
 
-Generated cases run each build and coreutils' `sha1sum`, `sha256sum`, `sha384sum` or `sha512sum` in
-one folder, under one name and with the same words: files with all kinds of names, lists that are
-whole and lists that are broken, and options in all orders. Standard output, standard error and
+Generated cases run the program, with vectors of each width, and coreutils' `sha1sum`, `sha256sum`,
+`sha384sum` or `sha512sum` in one folder, under one name and with the same words: files with all
+kinds of names, lists that are whole and lists that are broken, and options in all orders. Standard
+output, standard error and
 status are to be the same byte for byte, but that a check escapes names as coreutils 9.7 do. Further
 tests have no second source but `hashlib`. preload.c is loaded into the program so that each system
 call fails in turn, so that a file changes while it is read, and so that the clock goes on by equal
@@ -14,7 +15,7 @@ steps.
     python3 tests/sums --speed      the table of docs/SUMS.md: seconds of processor
 
 The last line is 'N passed, M failed', with ', K skipped' behind it where something is missing: a
-tool, or AVX2 for the wide build. Each generated case counts as one.
+tool, or AVX2 for the wider vectors. Each generated case counts as one.
 """
 
 import pathlib
@@ -28,11 +29,12 @@ import failing
 import generated
 import launcher
 import lists
+import processors
 import progress
 import speed
 
 CASES = [generated.BesideCoreutils, alone.Alone, failing.Failing, launcher.Launcher,
-         progress.Progress]
+         processors.Processors, progress.Progress]
 
 
 def main():
@@ -43,7 +45,8 @@ def main():
     result = counted.run(counted.suite(CASES, asked), sys.stdout)
     passed, failed, skipped = result.counts()
     if not lists.WIDE:
-        print("left out: the wide build, without AVX2")
+        lacks = "its text" if lists.has_avx2() else "AVX2"
+        print(f"left out: vectors of 256 bits, without {lacks}")
         skipped += 1
     return counted.report(passed + generated.BesideCoreutils.count, failed, skipped)
 

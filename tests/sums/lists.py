@@ -1,15 +1,18 @@
 # SPDX-License-Identifier: ISC
-"""How the builds of ./sums run, the lines that they write, and the files that they read."""
+"""How the program of ./sums runs, with vectors of each width, the lines that it writes, and the
+files that it reads."""
 
 import hashlib
 import os
 import pathlib
 import random
+import subprocess
+import tempfile
 
 from run import ROOT, built, ended
 
 LAUNCHER = ROOT / "sums"
-# Without which the wide build does not run.
+# Without which it runs over vectors of 128 bits.
 FEATURES = {"avx", "avx2", "bmi1", "bmi2", "f16c", "fma", "abm", "movbe", "xsave"}
 VERSION = "9.1"
 ENVIRONMENT = {"LC_ALL": "C.UTF-8", "PATH": "/usr/bin:/bin"}
@@ -39,14 +42,29 @@ LENGTHS = [
 
 
 def has_avx2():
-    """Whether the processor runs the wide build."""
+    """Whether the program runs over vectors of 256 bits here."""
     lines = pathlib.Path("/proc/cpuinfo").read_text().splitlines()
     flags = next((line for line in lines if line.startswith("flags")), "")
     return FEATURES <= set(flags.split())
 
 
-NARROW = built("ring_sums_main")
-WIDE = built("ring_sums_wide") if has_avx2() else None
+# Where the program is built, and what is built for a run of the tests.
+PROGRAMS = pathlib.Path(os.environ.get("PROGRAMS", ROOT / "programs"))
+ROOM = tempfile.TemporaryDirectory(prefix="sums.")
+
+
+def made(flags, name):
+    """The program of the text, whose C is compiled with flags."""
+    program = pathlib.Path(ROOM.name) / name
+    environment = {**os.environ, "CFLAGS": f"-O2 {flags}"}
+    subprocess.run([PROGRAMS / "build", "ring_sums_main", program], env=environment, check=True)
+    return program
+
+
+# What the kit builds of other sources than the text's asks no processor.
+PROGRAM = built("ring_sums_main")
+WIDE = PROGRAM if PROGRAM.parent.name == "built" and has_avx2() else None
+NARROW = made("-DFORCED=2", "narrow") if WIDE else PROGRAM
 BUILDS = list(filter(None, [NARROW, WIDE]))
 
 

@@ -10,7 +10,6 @@ ghost use Rattle.ring_sums.specs.declared.entry.Gap.{Gap};
 ghost use Rattle.ring_sums.specs.declared.entry.Gap.TheVariants.{Two, Unknown};
 
 use ring::digest::{Digest, SHA256};
-use ring::width::SSE;
 use ring_sums::laws::{
     bytes_in_memory_do_not_fail, lists_read_back, plain_lines_read_back, tagged_lines_read_back,
 };
@@ -24,7 +23,7 @@ pub fn outcome_of_bytes(alloc: Global, bytes: &'static [u8]) -> io::Result<Optio
 {
     bytes_in_memory_do_not_fail();
     let mut sums = Sums::new(alloc, &SHA256, vec![in alloc; bytes]?);
-    sums.next_outcome::<SSE>(alloc)
+    sums.next_outcome(alloc)
 }
 
 /// The line of an image as `sha256sum` writes it, without its line feed: a check reads its digest

@@ -203,7 +203,7 @@ fn warn_of_line<R: Eprint, W: Write>(
 
 /// Says of each line of a list what is found of its file, in their order. `known` is the algorithm
 /// of the last file that was listed before.
-fn check_lines<const BITS: usize, S, R, W>(
+fn check_lines<S, R, W>(
     alloc: Global,
     options: &Options,
     list: &[u8],
@@ -230,7 +230,7 @@ where
                 warn_of_line(alloc, options.amount, list, *number, *known, console)?;
             }
             Line::Entry(entry) => {
-                let Ok(next) = outcomes.next_outcome::<BITS>() else {
+                let Ok(next) = outcomes.next_outcome() else {
                     return Err(AllocError);
                 };
                 let Some(outcome) = next else {
@@ -340,7 +340,7 @@ pub(crate) struct Seen {
 
 /// Reads a list, says of each of its files whether it has the listed digest, and returns whether
 /// the list passes.
-pub(crate) fn check_list<const BITS: usize, R, W>(
+pub(crate) fn check_list<R, W>(
     rt: &R,
     options: &Options,
     name: &[u8],
@@ -368,8 +368,6 @@ where
     let lines = lines_of(alloc, options, &text, is_standard_input, &mut seen.gap)?;
     let wanted = files_of(rt, console.progress(), &lines)?;
     let known = &mut seen.known;
-    let counts = check_lines::<BITS, _, R, W>(
-        alloc, options, shown, &lines, wanted, known, console,
-    )?;
+    let counts = check_lines(alloc, options, shown, &lines, wanted, known, console)?;
     conclude(alloc, options, shown, &failure, &counts, console)
 }

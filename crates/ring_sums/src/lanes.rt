@@ -12,8 +12,9 @@ use crate::lane::{Lane, new_room};
 use crate::outcome::Outcome;
 use crate::piece::MAX_BLOCK_LEN;
 use crate::source::Source;
+use crate::wide::update_each;
 use ring::cost::Meter;
-use ring::digest::{Algorithm, Context, update_each_in};
+use ring::digest::{Algorithm, Context};
 use std::alloc::{AllocError, Global};
 use std::collections::VecDeque;
 
@@ -94,25 +95,25 @@ impl<R: Source + Drop> Lanes<R> {
     }
 
     /// Updates the contexts with the whole blocks that all lanes have left.
-    pub(crate) fn update<const BITS: usize>(&mut self, alloc: Global) -> Result<(), AllocError>
+    pub(crate) fn update(&mut self, alloc: Global) -> Result<(), AllocError>
         ensures places { OnOk result (KeepPlaces self.old.lanes.items self.new.lanes.items) }
         ensures going { OnOk result
             (GoOn R.remaining R.fails_with left_of left_of self.old self.new) }
     {
         let count = common_len(&self.lanes);
-        self.take_in::<BITS>(alloc, count)?;
+        self.take_in(alloc, count)?;
         self.skip(count);
         Ok(())
     }
 
     /// Updates each context with the first `count` bytes that its lane has left.
-    fn take_in<const BITS: usize>(&mut self, alloc: Global, count: usize) -> Result<(), AllocError>
+    fn take_in(&mut self, alloc: Global, count: usize) -> Result<(), AllocError>
         ensures lanes { self.new.lanes ≡ self.old.lanes }
         ensures taken { OnOk result
             (GoOn R.remaining R.fails_with left_of (behind_of count) self.old self.new) }
     {
         let pieces = fronts_of(alloc, &self.lanes, count)?;
-        match update_each_in::<BITS>(&mut self.contexts, &pieces, &mut Meter::new()) {
+        match update_each(&mut self.contexts, &pieces, &mut Meter::new()) {
             Ok(()) => Ok(()),
             // There is a piece a context.
             Err(_) => unreachable!(),

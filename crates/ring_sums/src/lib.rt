@@ -26,6 +26,7 @@ mod quote;
 mod source;
 mod sums;
 mod tree;
+mod wide;
 
 pub use crate::outcome::Outcome;
 pub use crate::outcomes::{Outcomes, Wanted};

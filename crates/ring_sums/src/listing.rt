@@ -45,11 +45,10 @@ fn answer<R: Eprint, W: Write>(
 }
 
 /// Writes the line of each file that can be read to its end, in their order, tells why the others
-/// have none, and returns whether there are no others. Files are named by `names`, and read over
-/// vectors of `BITS` bits.
+/// have none, and returns whether there are no others. Files are named by `names`.
 ///
 /// Refused where `alloc` has no memory.
-pub(crate) fn list<const BITS: usize, S, R, W>(
+pub(crate) fn list<S, R, W>(
     alloc: Global,
     options: &Options,
     names: &[&[u8]],
@@ -67,7 +66,7 @@ where
     let mut outcomes = Outcomes::new(alloc, wanted);
     let mut is_fine = true;
     for name in names {
-        let Ok(next) = outcomes.next_outcome::<BITS>() else {
+        let Ok(next) = outcomes.next_outcome() else {
             return Err(AllocError);
         };
         let Some(outcome) = next else {

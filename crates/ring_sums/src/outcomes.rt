@@ -88,22 +88,21 @@ impl<R: Source + Drop> Outcomes<R> {
         Ok(())
     }
 
-    /// The outcome of the next file, or `None` behind the last one. Contexts are updated over
-    /// vectors of `BITS` bits (FIPS 180-4, section 6).
+    /// The outcome of the next file, or `None` behind the last one.
     ///
     /// Refused where there is no memory.
-    pub fn next_outcome<const BITS: usize>(&mut self) -> io::Result<Option<Outcome>>
+    pub fn next_outcome(&mut self) -> io::Result<Option<Outcome>>
         ensures { IfOk result (λ outcome. (files : List (Wanted R))
             → FilesToCome R.remaining R.fails_with files self.old
             → FileIsGiven R.remaining R.fails_with files outcome self.new) }
     {
-        if let Some(outcome) = self.run.next_outcome::<BITS>(self.alloc)? {
+        if let Some(outcome) = self.run.next_outcome(self.alloc)? {
             return Ok(Some(outcome));
         }
         let Some(first) = self.waiting.pop_front() else {
             return Ok(None);
         };
         self.begin(first)?;
-        self.run.next_outcome::<BITS>(self.alloc)
+        self.run.next_outcome(self.alloc)
     }
 }

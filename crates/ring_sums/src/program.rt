@@ -93,7 +93,7 @@ fn files_named<'a, R: Files + AllocGlobal + Input>(
 }
 
 /// Writes the line of each file, and returns whether all could be read.
-fn list_names<const BITS: usize, R, W>(
+fn list_names<R, W>(
     rt: &R,
     options: &Options,
     names: &[&[u8]],
@@ -105,7 +105,7 @@ where
 {
     let algorithm = options.algorithm.unwrap_or(SHA256);
     let wanted = files_named(rt, console.progress(), names, algorithm)?;
-    list::<BITS, _, R, W>(rt.alloc(), options, names, wanted, console)
+    list(rt.alloc(), options, names, wanted, console)
 }
 
 /// Tells why the arguments ask for nothing.
@@ -178,7 +178,7 @@ fn help<R: Eprint, W: Write>(
 }
 
 /// Does what is asked of files.
-fn run_files<const BITS: usize, R, W>(
+fn run_files<R, W>(
     rt: &R,
     options: &Options,
     operands: Vec<&[u8]>,
@@ -198,10 +198,10 @@ where
         for file in &files {
             names.push(file)?;
         }
-        return Ok(list_names::<BITS, R, W>(rt, options, &names, console)? && is_whole);
+        return Ok(list_names(rt, options, &names, console)? && is_whole);
     }
     if !options.does_check {
-        return list_names::<BITS, R, W>(rt, options, &operands, console);
+        return list_names(rt, options, &operands, console);
     }
     let mut is_fine = true;
     let mut seen = Seen {
@@ -209,7 +209,7 @@ where
         known: options.algorithm,
     };
     for name in &operands {
-        is_fine = check_list::<BITS, R, W>(rt, options, *name, &mut seen, console)? && is_fine;
+        is_fine = check_list(rt, options, *name, &mut seen, console)? && is_fine;
     }
     Ok(is_fine)
 }
@@ -227,7 +227,7 @@ fn end<R: Eprint, W: Write>(
 }
 
 /// Does what the arguments ask for, and returns whether it went well.
-fn run_words<const BITS: usize, R>(rt: &R, terminals: Terminals) -> Result<bool, AllocError>
+fn run_words<R>(rt: &R, terminals: Terminals) -> Result<bool, AllocError>
 where
     R: Files + AllocGlobal + Clock + Env + Print + Eprint + Input,
 {
@@ -258,7 +258,7 @@ where
             if terminals.error && options.shows_progress {
                 progress.start();
             }
-            run_files::<BITS, R, _>(rt, &options, operands, &mut console)?
+            run_files(rt, &options, operands, &mut console)?
         }
     };
     end(&mut console, is_fine)
@@ -286,14 +286,14 @@ fn tell_of_memory<R: Env + Eprint>(rt: &R) {
     let _ = rt.eprintln(format_args!("{name}: memory exhausted"));
 }
 
-/// Does what the arguments of `rt` ask for over vectors of `BITS` bits, and returns the status: 0
-/// where all went well, else 1. `terminals` says which of the standard streams are terminals.
-pub fn run<const BITS: usize, R>(rt: &R, terminals: Terminals) -> u8
+/// Does what the arguments of `rt` ask for, and returns the status: 0 where all went well, else 1.
+/// `terminals` says which of the standard streams are terminals.
+pub fn run<R>(rt: &R, terminals: Terminals) -> u8
 where
     R: Files + AllocGlobal + Clock + Env + Print + Eprint + Input,
     ensures status { result ≢ 0 → result ≡ 1 }
 {
-    let went_well = run_words::<BITS, R>(rt, terminals);
+    let went_well = run_words(rt, terminals);
     if went_well.is_err() {
         tell_of_memory(rt);
     }

@@ -87,14 +87,14 @@ impl<R: Source + Drop> Sums<R> {
 
     /// Reads a piece of each reader that is begun, and updates the contexts once no lane is free
     /// for another.
-    fn run_round<const BITS: usize>(&mut self, alloc: Global) -> Result<(), AllocError>
+    fn run_round(&mut self, alloc: Global) -> Result<(), AllocError>
         ensures { OnOk result (KeepReaders R.remaining R.fails_with self.old self.new) }
     {
         self.begin(alloc)?;
         self.lanes.read();
         self.end()?;
         if !self.can_begin() {
-            self.lanes.update::<BITS>(alloc)?;
+            self.lanes.update(alloc)?;
         }
         Ok(())
     }
@@ -110,12 +110,11 @@ impl<R: Source + Drop> Sums<R> {
         }
     }
 
-    /// The outcome of the next reader, or `None` behind the last one. Contexts are updated over
-    /// vectors of `BITS` bits (FIPS 180-4, section 6).
+    /// The outcome of the next reader, or `None` behind the last one.
     ///
     /// Refused where `alloc` has no memory. A reader that has no lane by then has failed, and the
     /// others go on with the next call.
-    pub fn next_outcome<const BITS: usize>(&mut self, alloc: Global) -> io::Result<Option<Outcome>>
+    pub fn next_outcome(&mut self, alloc: Global) -> io::Result<Option<Outcome>>
         ensures { IfOk result (λ outcome. (a : Algorithm) (readers : List R)
             → ReadersToCome R.remaining R.fails_with a readers self.old
             → ReaderIsGiven R.remaining R.fails_with a readers outcome self.new) }
@@ -124,7 +123,7 @@ impl<R: Source + Drop> Sums<R> {
             if self.is_ready() {
                 return Ok(take_first(&mut self.found));
             }
-            self.run_round::<BITS>(alloc)?;
+            self.run_round(alloc)?;
         }
         Err(io::Error::from(ErrorKind::Other))
     }

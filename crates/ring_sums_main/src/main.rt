@@ -1,8 +1,7 @@
 // SPDX-License-Identifier: ISC
-//! Checksums of files over vectors of 128 bits; `docs/SUMS.md` has the options and the messages.
+//! Checksums of files; `docs/SUMS.md` has the options and the messages.
 #![tactic(auto)]
 
-use ring::width::SSE;
 use ring_sums::{Terminals, run};
 use std::io::IsTerminal;
 use std::process::ExitCode;
@@ -12,5 +11,5 @@ fn main(rt: HostRuntime) -> ExitCode {
         output: rt.stdout().is_terminal(),
         error: rt.stderr().is_terminal(),
     };
-    ExitCode::from(run::<SSE, _>(&rt, terminals))
+    ExitCode::from(run(&rt, terminals))
 }

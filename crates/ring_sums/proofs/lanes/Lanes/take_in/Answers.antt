@@ -7,7 +7,7 @@ use Rattle.ring_sums.proofs.lanes.Lanes.take_in.Goals as goal
 pub returns-clause-taken : goal.returns-clause-taken
 returns-clause-taken g c = λ a readers all.
     let contexts = c.args.self.now.contexts in
-    let new = c.update_each_in.new.contexts in
+    let new = c.update_each.new.contexts in
     let took = rw (c.deref_mut.ensures.value, c.deref-2.ensures.value) at c.in-Ok.ensures.ok in
     let long : length new ≡ contexts.len = omega (arith, took.count, contexts.ok.0) in
     rw (take_at new (drop (length new) contexts.items) contexts.len long)

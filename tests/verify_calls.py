@@ -33,9 +33,23 @@ import mutate_calls
 import standards
 import terms
 from elf import Library
+from test_terms import Evaluated
 
 LIBRARY = ROOT / "out/libyezdopin.so"
 KEPT = pathlib.Path(os.environ.get("XDG_CACHE_HOME") or "~/.cache").expanduser() / "yezdopin"
+
+
+class ValuesOf(dict):
+    """The bits of open numbers, where these are given."""
+
+    def __init__(self, numbers):
+        super().__init__()
+        self.numbers = numbers
+
+    def __missing__(self, key):
+        name, i = key
+        which, q = re.fullmatch(r"two (\d) \+ (-?\d+)", name).groups()
+        return self.numbers[int(which)] + int(q) >> i & 1
 
 
 class Lengths(unittest.TestCase):
@@ -112,6 +126,31 @@ class Lengths(unittest.TestCase):
                     decided += 1
                     self.assertEqual({answer}, {int(of_numbers(x, y)) for x, y in pairs})
         self.assertGreater(decided, 1000)
+
+    def test_two_open(self):
+        """Sums of two open numbers have one form, and their values and what is decided of them are
+        those of numbers."""
+        opens = [lengths.opened(f"two {i}", 2, 2**50) for i in range(2)]
+        decided = 0
+        for _ in range(150):
+            step, by = self.source.choice([1, 8, 64, 128]), self.source.randrange(4)
+            r, s = self.source.randrange(300), self.source.choice([0, 1, 2**49, 2**63 - 1])
+            a, b = (lengths.length(it, step, self.source.randrange(-step, 200)) for it in opens)
+            word = terms.add(terms.shifted_left(terms.add(a, b, terms.constant(r, 64)), by),
+                             terms.constant(s, 64))
+            self.assertEqual(word, terms.combination([(b, 1 << by), (a, 1 << by)], (r << by) + s,
+                                                     64))
+            number = terms.constant(self.source.choice([5 * step << by, s, 2**60]), 64)
+            answers = [terms.borrow(word, number), terms.is_zero(word), terms.carry(word, number)]
+            for _ in range(4):
+                values = ValuesOf([self.source.choice([2, 3, 2**32, 2**50]) for _ in opens])
+                x, y, z, it = map(Evaluated(values).word, (a, b, number, word))
+                self.assertEqual(it, ((x + y + r << by) + s) % 2**64)
+                for answer, true in zip(answers, (it < z, it == 0, it + z >= 2**64)):
+                    if answer < 2:
+                        decided += 1
+                        self.assertEqual(answer, int(true))
+        self.assertGreater(decided, 300)
 
     def test_open(self):
         """A comparison that holds of some numbers alone isn't decided."""

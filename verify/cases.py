@@ -3,7 +3,8 @@
 
 "Every length" is each number below two blocks, and each remainder above any number of blocks from
 two on. So the cases of one input are 3 * 64 or 3 * 128. Other inputs have a length of their own
-meanwhile: not all combinations are run."""
+meanwhile. Of two inputs with open lengths, each remainder of one is run beside some of the other:
+not all pairs, and not all combinations."""
 
 from collections import namedtuple
 
@@ -21,11 +22,14 @@ GROUPS = ("digest", "pieces", "dispatch", "hmac", "hmac_key", "made", "hkdf", "p
 FEW = 64  # where one of so many is run
 
 
-def given_for(arguments):
-    """A case's arguments, in which open lengths and numbers are words, each of a number of its
-    own."""
+def given_for(function, arguments):
+    """The arguments of a function's case, in which open lengths and numbers are words, each of a
+    number of its own."""
     step = ALGORITHMS[arguments[0]].block_len if arguments[0] in ALGORITHMS else 64
-    return [lengths.length(_opened(i, 2, (1 << 55) - 8), step, it.rest)
+    most = (1 << 55) - 8
+    if function == "two_pieces":  # of one message
+        most //= max(1, sum(isinstance(it, Above) for it in arguments))
+    return [lengths.length(_opened(i, 2, most), step, it.rest)
             if isinstance(it, Above) else
             lengths.word(lengths.Value(0, 1, _opened(i, 1, (1 << 32) - 1)), 32)
             if it == ANY else it for i, it in enumerate(arguments)]
@@ -56,6 +60,18 @@ def every(number, step):
     return [*sorted(below), *(Above(it) for it in sorted(below) if it < block_len)]
 
 
+def pairs(number, step):
+    """Two open lengths: each remainder of one, or one of `step`, beside some of the other."""
+    block_len = ALGORITHMS[number].block_len
+    last = block_len - block_len // 8 - 1
+    some = [0, last, last + 1, block_len - 1]
+    if step >= FEW:
+        return [(Above(last + 1), Above(block_len - 1))]
+    rests = sorted({*some, *range(0, block_len, step)})
+    found = {(a, b) for a in rests for b in some}
+    return [(Above(a), Above(b)) for a, b in sorted(found | {(b, a) for a, b in found})]
+
+
 def cases(step):
     """All cases, of each algorithm and input one length of `step`."""
     for of in (digests, tags, keys, derived, made, refused, whole):
@@ -74,6 +90,8 @@ def digests(step):
                 if isinstance(length, Above):
                     yield "pieces", features, "two_pieces", number, 17, length
                     yield "pieces", features, "two_pieces", number, length, 70
+            for pair in pairs(number, step):
+                yield "pieces", features, "two_pieces", number, *pair
             for list_ in [(), (10,), (0, 70, 130)]:
                 yield "each", features, "each", number, *list_
         for features in processors(number, True):
@@ -89,7 +107,10 @@ def tags(step):
             for length in every(number, step):
                 yield "hmac", features, "hmac_sign", number, length, 30
                 yield "hmac", features, "hmac_sign", number, 20, length
-            yield "hmac", features, "hmac_sign", number, Above(20), Above(5)
+            for pair in pairs(number, step):
+                yield "hmac", features, "hmac_sign", number, *pair
+            for pair in pairs(number, 16 * step):
+                yield "hmac_key", features, "hmac_key", number, *pair
             for length in every(number, 16 * step):
                 yield "hmac_key", features, "hmac_key", number, length, 30
                 yield "hmac_key", features, "hmac_verify", number, 50, length
@@ -112,6 +133,9 @@ def keys(step):
                 yield "hkdf", features, "hkdf_extract", number, 20, length
                 yield "hkdf", features, "hkdf_expand", number, length, 10, 20
                 yield "hkdf", features, "hkdf_expand", number, 32, length, 100
+            for pair in pairs(number, 4 * step):
+                yield "hkdf", features, "hkdf_extract", number, *pair
+                yield "hkdf", features, "hkdf_expand", number, *pair, 42
 
 
 def derived(step):
@@ -127,6 +151,8 @@ def derived(step):
             for length in every(number, 4 * step):
                 yield "pbkdf2", features, "pbkdf2", number, ANY, length, 10, 20
                 yield "pbkdf2", features, "pbkdf2", number, ANY, 16, length, 20
+            for pair in pairs(number, 16 * step):
+                yield "pbkdf2", features, "pbkdf2", number, ANY, *pair, 20
 
 
 def made(step):

@@ -80,6 +80,23 @@ def bounds(value):
     return min(ends), max(ends)
 
 
+def range_of(word_):
+    """The least and the greatest number that a word is, where it is a value or a sum of some; or
+    None."""
+    if value := value_of(word_):
+        return bounds(value)
+    if (found := terms.sum_of(word_)) is None:
+        return None
+    least = greatest = terms.signed(found[0], len(word_))
+    for of, times in found[1]:
+        value = value_of(of)
+        if value is None:
+            return None
+        ends = [terms.signed(times, len(word_)) * it for it in bounds(value)]
+        least, greatest = least + min(ends), greatest + max(ends)
+    return (least, greatest) if least >= 0 and greatest < 1 << len(word_) else None
+
+
 def difference(a, b):
     """A value less another, or None where they have different open numbers."""
     if a is None or b is None or None is not a.open != b.open is not None:
@@ -135,31 +152,34 @@ class _Decisions:
 
     @staticmethod
     def is_zero(word_):
-        value = value_of(word_)
-        return 0 if value and value.factor and bounds(value)[0] > 0 else None
+        found = range_of(word_)
+        return 0 if found and found[0] > 0 else None
 
     @staticmethod
     def is_below(a, b):
-        found = difference(value_of(a), value_of(b))
-        if found is None:
+        if found := difference(value_of(a), value_of(b)):
+            least, greatest = bounds(found)
+            return 0 if least >= 0 else 1 if greatest < 0 else None
+        ranges = range_of(a), range_of(b)
+        if None in ranges:
             return None
-        least, greatest = bounds(found)
-        return 0 if least >= 0 else 1 if greatest < 0 else None
+        (a_least, a_greatest), (b_least, b_greatest) = ranges
+        return 0 if a_least >= b_greatest else 1 if a_greatest < b_least else None
 
     @staticmethod
     def carry(a, b, with_one):
-        """0 where two values and a bit are surely less than their words have room for."""
-        values = value_of(a), value_of(b)
-        if None in values or sum(bounds(it)[1] for it in values) + 1 >> len(a):
-            return None
-        return 0
+        """0 where two numbers and a bit are surely less than their words have room for."""
+        ranges = range_of(a), range_of(b)
+        return None if None in ranges or sum(it[1] for it in ranges) + 1 >> len(a) else 0
 
     @staticmethod
     def parts(word_):
-        """A word as a number plus a factor times a word: that of n itself where it is a value."""
+        """A word as a number plus a factor times a word: that of n itself where it is a value, or
+        that of a sum of some."""
         value = value_of(word_)
         base = value and value.factor and word(Value(0, 1, value.open), len(word_))
-        return (value.number, value.factor, base) if base else (0, 1, word_)
+        return (value.number, value.factor, base) if base else \
+            terms.multiple_of_sum(word_) or (0, 1, word_)
 
     @staticmethod
     def sum_of(parts, number, width):

@@ -5,26 +5,30 @@
     verify/same_code.py LIBRARY FILE..
 
 LIBRARY is one that verify/check has shown, with the names of its functions. FILE is a shared
-library or a program of x86-64, which may be stripped: the bytes of each function are looked for.
-Where an instruction has an address, the bytes of the address may differ, but not the constants that
-stand there. The status is 1 where a file doesn't have the code, and 2 where nothing could be
-compared.
+library or a program of Linux for the same processor, which may be stripped, or a dylib of macOS:
+the bytes of each function are looked for. Where an instruction has an address, its bits may differ,
+but not the constants that stand there. The status is 1 where a file doesn't have the code, and 2
+where nothing could be compared.
 """
 
 import re
-import struct
 import sys
+from functools import cache
 
 sys.dont_write_bytecode = True
 import fips180_4
 import kernels
-from elf import EXECUTE, WRITE, X86, Library, WrongFile
+from addresses import filled
+from elf import EXECUTE, WRITE, Library, WrongFile
+from macho import Dylib, is_macho
 
-TABLES = [b"".join(it.to_bytes(family.width // 8, "little") for it in family.K[16:])
-          for family in (fips180_4.SHA256, fips180_4.SHA512)]
+# The constants of all rounds, and those from the seventeenth on, which some functions have alone.
+TABLES = [b"".join(it.to_bytes(family.width // 8, "little") for it in family.K[first:])
+          for first in (0, 16) for family in (fips180_4.SHA256, fips180_4.SHA512)]
 SIZES = {"movd": 4, "movss": 4, "movq": 8, "movsd": 8, "pbroadcastd": 4, "broadcastss": 4,
          "pbroadcastq": 8, "broadcastsd": 8, "pinsrd": 4, "pinsrq": 8, "broadcasti128": 16,
          "pmovzxdq": 8, "movzbl": 1, "cmpb": 1}
+ARM_SIZES = {"q": 16, "d": 8, "x": 8, "s": 4, "w": 4}  # by the first letter of a register
 
 
 def lines_of(library, symbol):
@@ -45,41 +49,42 @@ def shown(library):
             continue
         found[symbol] = list(lines_of(library, symbol))
         for line in found[symbol]:
-            if (it := re.fullmatch(r"(?:call|j\w+) ([0-9a-f]+)", line.text)):
+            if (it := re.fullmatch(r"(?:call|j\w+|bl?) ([0-9a-f]+)", line.text)):
                 called = library.function_at(int(it[1], 16))
                 if called and "ring" in called.name:
                     waiting.append(called)
     return found
 
 
-def address_place(line, symbol):
-    """Where an instruction's bytes have an address that a linker fills in, or None."""
-    if (it := re.search(r"(-?)(0x[0-9a-f]+)\(%rip\)", line.text)):
-        number = int(it[2], 16) * (-1 if it[1] else 1)
-        return line.raw.rindex(struct.pack("<i", number))
-    if (it := re.fullmatch(r"(?:call|j\w+) ([0-9a-f]+)", line.text)):
-        if not symbol.start <= int(it[1], 16) < symbol.start + symbol.size:
-            return len(line.raw) - 4
-    return None
+def pattern_of(parts):
+    """What the bytes of a function have to match, but for bits of a byte that is filled in partly."""
+    found = []
+    for line, mask, _ in parts:
+        masks = mask.to_bytes(len(line.raw), "little")
+        found += [b"(?s:.)" if of else re.escape(bytes([it])) for it, of in zip(line.raw, masks)]
+    return re.compile(b"".join(found))
 
 
-def pattern_of(lines, symbol):
-    """What the bytes of a function have to match."""
-    parts = []
-    for line in lines:
-        at = address_place(line, symbol)
-        parts.append(re.escape(line.raw) if at is None else
-                     re.escape(line.raw[:at]) + b"(?s:.{4})" + re.escape(line.raw[at + 4:]))
-    return re.compile(b"".join(parts))
-
-
-def constant_size(text, data):
-    """How many bytes of a constant an instruction reads; of a table all."""
+def extent(library, address, text):
+    """Where the constant begins that an instruction reads at an address, and how many bytes it has:
+    of a table all."""
     name = text.split()[0]
-    if name == "lea":
-        return next((len(it) for it in TABLES if data.startswith(it[:64])), 16)
+    if name in ("lea", "add"):
+        return next(((start, size) for start, size in tables(library)
+                     if start <= address < start + size), (address, 16))
+    if name in ("ldr", "ldrb"):
+        return address, 1 if name == "ldrb" else ARM_SIZES[text[4]]
     name = name[1:] if name[0] == "v" else name
-    return SIZES.get(name, 32 if "%ymm" in text else 16 if "%xmm" in text else 4)
+    return address, SIZES.get(name, 32 if "%ymm" in text else 16 if "%xmm" in text else 4)
+
+
+@cache
+def tables(library):
+    """Where the library has tables of constants, and how many bytes each has."""
+    return [(segment.start + it.start() - segment.offset, len(table))
+            for table in TABLES for it in re.finditer(re.escape(table), library.data)
+            for segment in library.segments
+            if segment.offset <= it.start() < segment.offset + segment.size]
 
 
 def data_at(library, address, count):
@@ -91,37 +96,47 @@ def data_at(library, address, count):
     return None
 
 
-def differing_constant(library, lines, other, start):
-    """The text of an instruction whose constant another library doesn't have, or None."""
-    moved = start - lines[0].at
-    for line in lines:
-        if "(%rip)" in line.text:
-            at = address_place(line, library.function_at(line.at))
-            following = line.at + len(line.raw)
-            here = following + struct.unpack_from("<i", line.raw, at)[0]
-            raw = other.bytes_at(line.at + moved, following + moved)
-            there = following + moved + struct.unpack_from("<i", raw, at)[0]
-            expected = data_at(library, here, 1024)
-            count = constant_size(line.text, expected or b"")
-            if expected and data_at(other, there, count) != expected[:count]:
-                return line.text
+def difference(library, parts, other, start):
+    """What of a function is another in a library that has it at an address, or None."""
+    moved = start - parts[0].line.at
+    for line, mask, constant in parts:
+        raw = other.bytes_at(line.at + moved, line.at + moved + len(line.raw))
+        if (int.from_bytes(raw, "little") ^ int.from_bytes(line.raw, "little")) & ~mask:
+            return f"another instruction at {line.text}"
+        if constant:
+            address = constant(library.bytes_at, 0)
+            start, count = extent(library, address, line.text)
+            expected = data_at(library, start, count)
+            there = constant(other.bytes_at, moved) + start - address
+            if expected and expected != data_at(other, there, count):
+                return f"another constant at {line.text}"
     return None
+
+
+def read_other(path, machine):
+    with open(path, "rb") as file:
+        data = file.read()
+    if is_macho(data):
+        return Dylib(data, machine)
+    found = Library(path, stripped=True)
+    if found.machine != machine:
+        raise WrongFile("it is for another processor than the library")
+    return found
 
 
 def fault(library, functions, path):
     """What of the shown functions another file doesn't have, or None."""
-    other = Library(path, stripped=True)
+    other = read_other(path, library.machine)
     code = [it for it in other.segments if it.flags & EXECUTE]
     for symbol, lines in functions.items():
-        pattern, why = pattern_of(lines, symbol), "its code isn't there"
+        parts, why = filled(library, lines, symbol), "its code isn't there"
+        pattern = pattern_of(parts)
         for segment in code:
             data = other.data[segment.offset:segment.offset + segment.size]
             for it in pattern.finditer(data):
-                text = differing_constant(library, lines, other, segment.start + it.start())
-                if text is None:
-                    why = None
+                why = difference(library, parts, other, segment.start + it.start())
+                if why is None:
                     break
-                why = f"another constant at {text}"
             if why is None:
                 break
         if why:
@@ -137,8 +152,6 @@ def reason(why):
 def read_library(path):
     """The library whose code was shown, and its functions that are."""
     library = Library(path)
-    if library.machine != X86:
-        raise WrongFile("it is for another processor than x86-64")
     functions = shown(library)
     if not functions:
         raise WrongFile("it has none of the functions of libyezdopin")

@@ -11,17 +11,23 @@ import tempfile
 import unittest
 import zipfile
 
+import for_arm
 from machine_code import LIBRARY, ROOT
 
 SAME_CODE = ROOT / "verify/same_code.py"
 HEADER = pathlib.Path(sysconfig.get_paths()["include"], "Python.h")
 
 
-def same(*paths):
-    """How a comparison with the library ends: its status and its output."""
-    done = subprocess.run([sys.executable, SAME_CODE, LIBRARY, *paths], capture_output=True,
+def same(*paths, library=LIBRARY):
+    """How a comparison with a library ends: its status and its output."""
+    done = subprocess.run([sys.executable, SAME_CODE, library, *paths], capture_output=True,
                           text=True, check=False)
     return done.returncode, done.stdout + done.stderr
+
+
+# What makes the dylib, for both processors.
+HAS_APPLE_TOOLS = all(map(shutil.which, ("clang-19", "ld64.lld-19", "llvm-ar-19", "llvm-lipo-19")))
+K = (0xe49b69c19ef14ad2).to_bytes(8, "little")  # SHA-512's of the seventeenth round
 
 
 class Shipped(unittest.TestCase):
@@ -58,6 +64,36 @@ class Shipped(unittest.TestCase):
             if shutil.which("cargo"):
                 self.compare_crate(folder, room)
 
+    @unittest.skipUnless(for_arm.HAS_COMPILER, "aarch64-linux-gnu-gcc")
+    def test_archive_for_arm(self):
+        """The archive for 64-bit ARM has it, once linked, and not with another constant."""
+        with tempfile.TemporaryDirectory() as room:
+            path, other = f"{room}/archive.so", f"{room}/other.so"
+            subprocess.run(["aarch64-linux-gnu-gcc", "-shared", "-Wl,--whole-archive",
+                            ROOT / "out/aarch64/libyezdopin.a", "-Wl,--no-whole-archive", "-o",
+                            path], check=True)
+            self.assertEqual(*self.ended(path, library=for_arm.LIBRARY))
+            self.compare_changed(pathlib.Path(path).read_bytes(), other, for_arm.LIBRARY)
+
+    @unittest.skipUnless(HAS_APPLE_TOOLS, "clang-19, lld-19 and llvm-19")
+    def test_dylib(self):
+        """The dylib for macOS has it, for both processors, and not with another constant."""
+        with tempfile.TemporaryDirectory() as room:
+            subprocess.run(["make", "-C", ROOT, f"OUT={room}/out", "macos"], check=True,
+                           stdin=subprocess.DEVNULL, capture_output=True)
+            path, = pathlib.Path(room, "out/macos").glob("*.dylib")
+            for library in [LIBRARY, for_arm.LIBRARY][:1 + bool(for_arm.HAS_COMPILER)]:
+                self.assertEqual(*self.ended(path, library=library))
+                self.compare_changed(path.read_bytes(), f"{room}/other.dylib", library)
+
+    def compare_changed(self, data, path, library):
+        """A file with another bit of the constants, in its part for each processor, is refused."""
+        self.assertIn(K, data)
+        pathlib.Path(path).write_bytes(data.replace(K, bytes([K[0] ^ 1]) + K[1:]))
+        status, output = same(path, library=library)
+        self.assertEqual(status, 1)
+        self.assertIn("another constant", output)
+
     def compare_crate(self, folder, room):
         crate, = folder.glob("yezdopin-[0-9]*.crate")
         shutil.unpack_archive(crate, f"{room}/crate", "gztar")
@@ -66,12 +102,12 @@ class Shipped(unittest.TestCase):
         self.assertEqual([it.read_bytes() for it in archives],
                          [(ROOT / "out/libyezdopin.a").read_bytes()])
 
-    def ended(self, *paths):
-        status, output = same(*paths)
+    def ended(self, *paths, library=LIBRARY):
+        status, output = same(*paths, library=library)
         return (status, len(paths)), (0, output.count("has the code of"))
 
     def test_other(self):
-        """Copies with another bit of code, and of a constant, are refused."""
+        """Copies with another bit of code, of a constant, and of a table, are refused."""
         data = LIBRARY.read_bytes()
         shuffle = bytes([3, 2, 1, 0, 7, 6, 5, 4, 11, 10, 9, 8, 15, 14, 13, 12])
         rounds = re.search(rb"\x0f\x38\xcb[\xc0-\xff]", data).start() + 3  # sha256rnds2
@@ -84,6 +120,7 @@ class Shipped(unittest.TestCase):
             self.assertEqual(status, 1)
             self.assertIn("its code isn't there", output)
             self.assertIn("another constant", output)
+            self.compare_changed(data, f"{room}/table.so", LIBRARY)
 
     @unittest.skipUnless(shutil.which("strip"), "strip")
     def test_nothing_to_compare(self):

@@ -105,7 +105,7 @@ has_avx2 = { grep -qw avx2 /proc/cpuinfo || { echo 'left out: x86-64-v3, without
 # The tests of statuses and values.
 STATUS_TESTS = test merkle password_hashes tokens
 
-# Each status and each vector, and how much stack the calls take.
+# Each status and each vector, threads that share a key, and how much stack the calls take.
 test: $(TESTED)
 	for it in $(STATUS_TESTS); do \
 	    $(call on_each,$(TESTED),$(CC) $(CFLAGS) $(STRICT) c/test/$$it.c $$archive -o $$room/$$it \
@@ -113,6 +113,8 @@ test: $(TESTED)
 	done
 	$(call on_each,$(TESTED),$(CC) $(CFLAGS) $(STRICT) c/test/vectors.c $$archive -o $$room/vectors \
 	    && $(RUN) $$room/vectors $(VECTORS))
+	$(call on_each,$(TESTED),$(CC) $(CFLAGS) $(STRICT) c/test/threads.c $$archive -lpthread \
+	    -o $$room/threads && $(RUN) $$room/threads)
 	$(call on_each,$(TESTED),$(CC) $(CFLAGS) $(STRICT) c/test/stack.c $$archive -o $$room/stack \
 	    && $(RUN) $$room/stack)
 

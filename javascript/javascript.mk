@@ -104,7 +104,7 @@ js-lowered: $(WASM) $(WASM64)
 	NODE='$(NODE)' $(PYTHON) -B javascript/test/wrong_forms.py $(WASM64) $(JS) "$(MEMORY64)" \
 	    $(JS_EXPORTS)
 
-JS_TESTS = package memory merkle tokens verifications
+JS_TESTS = package memory during merkle tokens verifications
 js-test: $(JS)/package/package.json $(VERIFICATIONS)
 	PACKAGE="$(WHOLE_OUT)/js/package" VECTORS=vectors VERSION=$(VERSION) \
 	    VERIFICATIONS=$(VERIFICATIONS) NODE_PATH="$${NODE_PATH:-/usr/share/nodejs}" \

@@ -1,6 +1,6 @@
 # SPDX-License-Identifier: ISC
-"""What other threads do while a call runs: they resize and release its buffers, write into them, and
-call on the same key. And what a call leaves of a key in the process's memory."""
+"""What other threads do while a call runs: they resize and release its buffers, write into them,
+and call on the same key. And what a call leaves of a key in the process's memory."""
 
 import hashlib
 import hmac
@@ -54,8 +54,8 @@ class Buffers(unittest.TestCase):
     def test_are_held(self):
         """None of a call's buffers can be resized or released while it runs."""
         long, few = bytearray(LONG_LEN), bytearray(KEY)
-        key, text = tags.Key(KEY, "sha1"), password_hash.new("django-sha1", b"p", iterations=300_000)
-        text = bytearray(text.encode())
+        key = tags.Key(KEY, "sha1")
+        text = bytearray(password_hash.new("django-sha1", b"p", iterations=300_000).encode())
         for data, call in (
             (long, lambda it: yezdopin.sha1(it)),
             (long, lambda it: yezdopin.digest_each("sha256", [b"", it])),
@@ -219,7 +219,8 @@ class Memory(unittest.TestCase):
         """No call leaves the words of a key in memory that is freed, and this search finds those of
         one that is held."""
         value, long = os.urandom(40), bytes(100_000)
-        token, text = tokens.sign(b"{}", value), password_hash.new("phc-sha256", value, iterations=2)
+        token = tokens.sign(b"{}", value)
+        text = password_hash.new("phc-sha256", value, iterations=2)
         tag = hmac.digest(value, long, "sha256")
         command = [sys.executable, "-c", MASKED, value.hex(), "sha256"]
         said = subprocess.run(command, check=True, capture_output=True, text=True).stdout

@@ -4,6 +4,7 @@
 
 use std::convert::TryFrom;
 use std::fmt::Debug;
+use std::time::{Duration, Instant};
 use yezdopin::error::Unspecified;
 use yezdopin::rand::{self, SecureRandom, SystemRandom};
 use yezdopin::{digest, hkdf, hmac, password_hash, pbkdf2, tokens};
@@ -116,11 +117,15 @@ fn values_cross_threads() {
 fn keys_of_several_threads() {
     let key = hmac::Key::new(hmac::HMAC_SHA256, b"a key");
     let verify_all = |seed: u8| {
-        let (message, own) = ([seed; 300], key.clone());
+        let (message, own) = ([seed; 20_000], key.clone());
         let other = hmac::Key::new(hmac::HMAC_SHA256, &[seed]);
         let (tag, of_other) = (hmac::sign(&key, &message), hmac::sign(&other, &message));
-        for count in 0..3000 {
-            let piece = &message[..count % 300];
+        let begin = Instant::now();
+        for count in (0..300).cycle() {
+            if begin.elapsed() > Duration::from_millis(500) {
+                break;
+            }
+            let piece = &message[..count];
             assert_eq!(
                 hmac::sign(&key, piece).as_ref(),
                 hmac::sign(&own, piece).as_ref()

@@ -4,6 +4,7 @@
 // answer below it.
 
 import assert from "node:assert/strict";
+import crypto from "node:crypto";
 import { readFileSync } from "node:fs";
 import { test } from "node:test";
 import { isWiped, yz } from "./package.mjs";
@@ -144,4 +145,38 @@ test("each call of the table of verifications is answered as it must be", { skip
   }
   assert.equal(wrong.length, 0, wrong.slice(0, 5).join("\n"));
   assert.deepEqual([...counted.keys()].sort(), Object.keys(CALLS).sort());
+});
+
+test("calls that make an instance large verify each byte, and so do those behind them", () => {
+  const LEN = (17 << 20) + 1, value = crypto.randomBytes(LEN), key = Buffer.alloc(64, 7);
+  const changed = Buffer.from(value);
+  changed[LEN - 1] ^= 1;
+  const tag = crypto.createHmac("sha256", value).update("a").digest();
+  const head = Buffer.from('{"alg":"HS256"}').toString("base64url");
+  const signed = `${head}.${value.toString("base64url")}`;
+  const signature = crypto.createHmac("sha256", key).update(signed).digest("base64url");
+  const other = `${head}.${changed.toString("base64url")}.${signature}`;
+  const derived = crypto.pbkdf2Sync("p", "s", 1, LEN, "sha512");
+  const text = yz.passwordHash.newSync("phc-sha256", crypto.createHash("sha256").update(value)
+    .digest(), { iterations: 2, salt: "salt" });
+  // A password that is longer than a block stands for its digest.
+  const most = { maxIterations: 2 };
+  for (const [right, wrong] of [
+    [() => yz.timingSafeEqual(value, value), () => yz.timingSafeEqual(value, changed)],
+    [() => yz.hmacVerify("sha256", value, "a", tag),
+      () => yz.hmacVerify("sha256", changed, "a", tag)],
+    [() => yz.jws.verify("HS256", key, `${signed}.${signature}`).equals(value),
+      () => yz.jws.verify("HS256", key, other) !== null],
+    [() => yz.pbkdf2Verify("p", "s", 1, derived, "sha512"), () => {
+      derived[LEN - 1] ^= 1;
+      return yz.pbkdf2Verify("p", "s", 1, derived, "sha512");
+    }],
+    [() => yz.passwordHash.verifySync(text, value, most),
+      () => yz.passwordHash.verifySync(text, changed, most)],
+  ]) {
+    assert.equal(right(), true, String(right));
+    assert.equal(wrong(), false, String(wrong));
+    assert.equal(yz.hmacVerify("sha256", "", "a", tag), false);
+    assert.ok(isWiped());
+  }
 });

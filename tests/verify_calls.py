@@ -6,9 +6,9 @@
 
 The definition stands beside hashlib and hmac, and open lengths beside Python's numbers. Then the
 library's calls are checked at some lengths, and so are copies with a fault, each of which has to be
-refused. The library is built by make first. Nothing is tried again where neither the library nor
-the checker has changed since all passed, for the user of this machine: --anew tries all. The last
-line is 'N passed, M failed'.
+refused, for x86-64 and for 64-bit ARM. The libraries are built by make first. Nothing is tried
+again where neither a library nor the checker has changed since all passed, for the user of this
+machine: --anew tries all. The last line is 'N passed, M failed'.
 """
 
 import collections
@@ -18,6 +18,7 @@ import os
 import pathlib
 import random
 import re
+import shutil
 import subprocess
 import sys
 import tempfile
@@ -35,7 +36,8 @@ import terms
 from elf import Library
 from test_terms import Evaluated
 
-LIBRARY = ROOT / "out/libyezdopin.so"
+LIBRARY, ARM_LIBRARY = ROOT / "out/libyezdopin.so", ROOT / "out/aarch64/libyezdopin.so"
+HAS_COMPILER = shutil.which("aarch64-linux-gnu-gcc")
 KEPT = pathlib.Path(os.environ.get("XDG_CACHE_HOME") or "~/.cache").expanduser() / "yezdopin"
 
 
@@ -185,19 +187,38 @@ class Calls(unittest.TestCase):
 
     def test_calls(self):
         """The library's calls give the definition's bytes at some lengths, for all contents."""
-        done = subprocess.run([ROOT / "verify/check_calls", "--quick", LIBRARY], check=False,
+        self.check_calls(LIBRARY, "calls")
+
+    def check_calls(self, library, table):
+        done = subprocess.run([ROOT / "verify/check_calls", "--quick", library], check=False,
                               stdout=subprocess.PIPE, text=True)
         self.assertRegex(done.stdout, r"\n\d{3,} calls shown, 0 refused\n$")
         self.assertEqual(done.returncode, 0)
         counts = collections.Counter()
         for group, count in re.findall(r"^(\w+) \w+: (\d+) calls, ", done.stdout, re.M):
             counts[group] += int(count)
-        self.assertEqual(counts, on_page(), "the table of docs/VERIFY_CALLS.md is another")
+        self.assertEqual(counts, on_page(table), "the table of docs/VERIFY_CALLS.md is another")
 
 
-def on_page():
+    @unittest.skipUnless(HAS_COMPILER, "aarch64-linux-gnu-gcc")
+    def test_calls_for_arm(self):
+        """So do those of the library for 64-bit ARM."""
+        self.check_calls(ARM_LIBRARY, "calls for ARM")
+
+    @unittest.skipUnless(HAS_COMPILER, "aarch64-linux-gnu-gcc")
+    def test_faults_for_arm(self):
+        """Faults in the library for 64-bit ARM are refused."""
+        with tempfile.TemporaryDirectory() as room:
+            done = subprocess.run([sys.executable, ROOT / "verify/mutate_calls.py", ARM_LIBRARY,
+                                   room], check=False, stdout=subprocess.PIPE, text=True)
+        self.assertEqual(done.stdout.count("found: "), len(mutate_calls.OF_ARM), done.stdout)
+        self.assertEqual(done.returncode, 0)
+
+
+def on_page(table):
     """How many calls of each group the page says that the quick lengths have."""
     text = (ROOT / "docs/VERIFY_CALLS.md").read_text()
+    text = text.partition(f"<!-- {table}: ")[2].partition(f"<!-- /{table} -->")[0]
     return {group: int(count) for group, count in re.findall(r"^\|`(\w+)`\|(\d+)\|", text, re.M)}
 
 
@@ -239,6 +260,8 @@ def add_faults():
 def digest():
     """The sum of all that a verdict depends on."""
     found = hashlib.sha256(LIBRARY.read_bytes())
+    if HAS_COMPILER:
+        found.update(ARM_LIBRARY.read_bytes())
     for path in (*sorted((ROOT / "verify").iterdir()), pathlib.Path(__file__)):
         if path.is_file():
             found.update(path.name.encode() + b"\0" + path.read_bytes())
@@ -247,11 +270,12 @@ def digest():
 
 def main():
     names = [it for it in sys.argv[1:] if it != "--anew"]
-    made = subprocess.run(["make", "-C", ROOT], stdin=subprocess.DEVNULL,
-                          stdout=subprocess.DEVNULL, check=False)
-    if made.returncode:
-        print("the library could not be built\n0 passed, 1 failed")
-        return 1
+    for words in ([], ["ARCH=aarch64"]) if HAS_COMPILER else ([],):
+        made = subprocess.run(["make", "-C", ROOT, *words], stdin=subprocess.DEVNULL,
+                              stdout=subprocess.DEVNULL, check=False)
+        if made.returncode:
+            print("the library could not be built\n0 passed, 1 failed")
+            return 1
     kept = KEPT / f"verify-calls-{digest()}"
     if kept.exists() and not names and "--anew" not in sys.argv:
         print(kept.read_text(), end="")

@@ -50,9 +50,9 @@ def general(number, is_long, at_31="zero"):
     return f"{'x' if is_long else 'w'}{number}"
 
 
-def vector(number, width):
+def vector(number, width, whole=128):
     """A vector in parts of a width in bits."""
-    return f"v{number}.{128 // width}{'bhsd'[width.bit_length() - 4]}"
+    return f"v{number}.{whole // width}{'bhsd'[width.bit_length() - 4]}"
 
 
 # General registers.
@@ -166,23 +166,70 @@ def shift_by_number(_, f, N, r, s, n, d):
 
 @reads("f00100111N0mmmmmssssssnnnnnddddd")
 def rotate(_, f, N, m, s, n, d):
-    if N != f or s > 31 and not f or m != n:
+    if N != f or s > 31 and not f:
         return None
-    return f"ror {general(d, f)}, {general(n, f)}, #{s}"
+    if m == n:
+        return f"ror {general(d, f)}, {general(n, f)}, #{s}"
+    return f"extr {general(d, f)}, {general(n, f)}, {general(m, f)}, #{s}"
+
+
+@reads("f0011010110mmmmm00100onnnnnddddd")
+def shift_by_register(_, f, m, o, n, d):
+    return f"{('lsl', 'lsr')[o]} {general(d, f)}, {general(n, f)}, {general(m, f)}"
+
+
+@reads("1001001101000000000111nnnnnddddd")
+def extended_byte(_, n, d):
+    return f"sxtb {general(d, 1)}, {general(n, 0)}"
 
 
 @reads("fos11010000mmmmm000000nnnnnddddd")
 def sum_with_carry(_, f, o, s, m, n, d):
-    if o or not s:
+    if o and n == 31:
         return None
-    return f"adcs {general(d, f)}, {general(n, f)}, {general(m, f)}"
+    name = ("adc", "adcs", "sbc", "sbcs")[2 * o + s]
+    return f"{name} {general(d, f)}, {general(n, f)}, {general(m, f)}"
 
 
-@reads("f1011010100mmmmmcccc00nnnnnddddd")
-def select_inverted(_, f, m, c, n, d):
-    if m == n and c < 14:
+@reads("fo011010100mmmmmcccc0pnnnnnddddd")
+def select(_, f, o, m, c, p, n, d):
+    name = ("csel", "csinc", "csinv", "csneg")[2 * o + p]
+    target, first, second = (general(it, f) for it in (d, n, m))
+    if name == "csneg" or name == "csinv" and m == n and c < 14:
         return None
-    return f"csinv {general(d, f)}, {general(n, f)}, {general(m, f)}, {CONDITIONS[c]}"
+    if name == "csinc" and m == n and c < 14:
+        opposite = CONDITIONS[c ^ 1]
+        return f"cset {target}, {opposite}" if n == 31 else f"cinc {target}, {first}, {opposite}"
+    return f"{name} {target}, {first}, {second}, {CONDITIONS[c]}"
+
+
+@reads("0101101011000000000010nnnnnddddd")
+def reversed_word(_, n, d):
+    return f"rev {general(d, 0)}, {general(n, 0)}"
+
+
+@reads("1101101011000000000011nnnnnddddd")
+def reversed_long(_, n, d):
+    return f"rev {general(d, 1)}, {general(n, 1)}"
+
+
+@reads("10011011110mmmmm011111nnnnnddddd")
+def upper_product(_, m, n, d):
+    return f"umulh {general(d, 1)}, {general(n, 1)}, {general(m, 1)}"
+
+
+@reads("f0011011000mmmmmoaaaaannnnnddddd")
+def product(_, f, m, o, a, n, d):
+    target, first, second = (general(it, f) for it in (d, n, m))
+    if a == 31:
+        return f"{('mul', 'mneg')[o]} {target}, {first}, {second}" if not o else None
+    return f"{('madd', 'msub')[o]} {target}, {first}, {second}, {general(a, f)}"
+
+
+@reads("f1111010010mmmmmccccx0nnnnn0vvvv")
+def compare_if(_, f, m, c, x, n, v):
+    other = f"#0x{m:x}" if x else general(m, f)
+    return f"ccmp {general(n, f)}, {other}, #0x{v:x}, {CONDITIONS[c]}"
 
 
 # Jumps.
@@ -202,6 +249,17 @@ def jump_if_zero(at, f, o, i, t):
     return f"{('cbz', 'cbnz')[o]} {general(t, f)}, {at + 4 * signed(i, 19) & (1 << 64) - 1:x}"
 
 
+@reads("h011011obbbbbiiiiiiiiiiiiiittttt")
+def jump_by_bit(at, h, o, b, i, t):
+    target = at + 4 * signed(i, 14) & (1 << 64) - 1
+    return f"{('tbz', 'tbnz')[o]} {general(t, h)}, #{h << 5 | b}, {target:x}"
+
+
+@reads("1101011000011111000000nnnnn00000")
+def jump_to_register(_, n):
+    return f"br {general(n, 1)}"
+
+
 @reads("11010110010111110000001111000000")
 def ret(_):
     return "ret"
@@ -210,6 +268,11 @@ def ret(_):
 @reads("11010101000000110010000000011111")
 def nop(_):
     return "nop"
+
+
+@reads("0ll10000iiiiiiiiiiiiiiiiiiiddddd")
+def place(at, l, i, d):
+    return f"adr {general(d, 1)}, {at + signed(i << 2 | l, 21) & (1 << 64) - 1:x}"
 
 
 @reads("1ll10000iiiiiiiiiiiiiiiiiiiddddd")
@@ -221,16 +284,21 @@ def page(at, l, i, d):
 # Loads and stores.
 
 # By the size and whether a vector is moved: the register's letter, how many bytes.
-SINGLE = {(0, 0): ("w", 1), (2, 0): ("w", 4), (3, 0): ("x", 8), (2, 1): ("s", 4), (3, 1): ("d", 8)}
+SINGLE = {(0, 0): ("w", 1), (1, 0): ("w", 2), (2, 0): ("w", 4), (3, 0): ("x", 8),
+          (2, 1): ("s", 4), (3, 1): ("d", 8)}
 PAIRS = {(0, 0): ("w", 4), (2, 0): ("x", 8), (0, 1): ("s", 4), (1, 1): ("d", 8), (2, 1): ("q", 16)}
 
 
-def single(z, V, o):
-    """The letter of a register that is moved, how many bytes, and whether they are loaded."""
+def single(z, V, o, unscaled=False):
+    """The letter of a register that is moved, how many bytes, and the instruction's name."""
     if V and not z and o > 1:
-        return "q", 16, o & 1
-    letter, size = SINGLE.get((z, V), (None, 0))
-    return (letter, size, o) if letter and o < 2 and (size > 1 or o) else None
+        letter, size = "q", 16
+    else:
+        letter, size = SINGLE.get((z, V), (None, 0))
+        if not letter or o > 1:
+            return None
+    name = (("str", "ldr"), ("stur", "ldur"))[unscaled][o & 1]
+    return letter, size, name + {1: "b", 2: "h"}.get(size, "")
 
 
 def register(letter, number):
@@ -245,26 +313,33 @@ def based(n, offset):
 def single_scaled(_, z, V, o, i, n, t):
     if not (of := single(z, V, o)):
         return None
-    letter, size, is_load = of
-    name = ("str", "ldr")[is_load] + "b" * (size == 1)
+    letter, size, name = of
     return f"{name} {register(letter, t)}, {based(n, size * i)}"
 
 
 @reads("zz111V00oo0iiiiiiiii00nnnnnttttt")
 def single_unscaled(_, z, V, o, i, n, t):
-    of = single(z, V, o)
-    if not of or of[1] == 1:
+    if not (of := single(z, V, o, True)):
         return None
-    return f"{('stur', 'ldur')[of[2]]} {register(of[0], t)}, {based(n, signed(i, 9))}"
+    return f"{of[2]} {register(of[0], t)}, {based(n, signed(i, 9))}"
 
 
 @reads("zz111V00oo0iiiiiiiiip1nnnnnttttt")
 def single_moving(_, z, V, o, i, p, n, t):
     if not (of := single(z, V, o)):
         return None
-    letter, size, is_load = of
-    name = ("str", "ldr")[is_load] + "b" * (size == 1)
-    return f"{name} {register(letter, t)}, {moving(p, n, signed(i, 9))}"
+    return f"{of[2]} {register(of[0], t)}, {moving(p, n, signed(i, 9))}"
+
+
+@reads("zz111V00oo1mmmmmp1xS10nnnnnttttt")
+def single_indexed(_, z, V, o, m, p, x, S, n, t):
+    if p or not (of := single(z, V, o)):
+        return None
+    letter, size, name = of
+    by = size.bit_length() - 1
+    how = f", {('uxtw', 'lsl')[x]} #{by}" if S else "" if x else ", uxtw"
+    where = f"[{general(n, 1, 'sp')}, {general(m, x)}{how}]"
+    return f"{name} {register(letter, t)}, {where}"
 
 
 def moving(is_before, n, offset):
@@ -298,8 +373,12 @@ def load_part(_, Q, S, z, n, t):
 
 # Vectors.
 
-@reads("01u01110zz1mmmmmoooooonnnnnddddd")
-def three_vectors(_, u, z, m, o, n, d):
+@reads("0Qu01110zz1mmmmmoooooonnnnnddddd")
+def three_vectors(_, Q, u, z, m, o, n, d):
+    if not Q and o != 0b000111:
+        return None
+    if o == 0b010001:
+        return f"ushl {', '.join(vector(it, 64) for it in (d, n, m))}" if u and z == 3 else None
     if o == 0b100001:
         name, width = ("add", "sub")[u], 8 << z
         if u or z == 1:
@@ -310,9 +389,15 @@ def three_vectors(_, u, z, m, o, n, d):
             return None
     else:
         return None
+    whole = 128 if Q else 64
     if name == "orr" and m == n:
-        return f"mov {vector(d, 8)}, {vector(n, 8)}"
-    return f"{name} {', '.join(vector(it, width) for it in (d, n, m))}"
+        return f"mov {vector(d, 8, whole)}, {vector(n, 8, whole)}"
+    return f"{name} {', '.join(vector(it, width, whole) for it in (d, n, m))}"
+
+
+@reads("0010111100100000101001nnnnnddddd")
+def widened(_, n, d):
+    return f"uxtl {vector(d, 64)}, {vector(n, 32, 64)}"
 
 
 @reads("01u011110hhhhbbbooooo1nnnnnddddd")
@@ -338,9 +423,10 @@ def extracted(_, m, i, n, d):
     return f"ext {', '.join(vector(it, 8) for it in (d, n, m))}, #{i}"
 
 
-@reads("01u0111000100000000010nnnnnddddd")
-def reversed_bytes(_, u, n, d):
-    return f"{('rev64', 'rev32')[u]} {vector(d, 8)}, {vector(n, 8)}"
+@reads("0Qu0111000100000000010nnnnnddddd")
+def reversed_bytes(_, Q, u, n, d):
+    whole = 128 if Q else 64
+    return f"{('rev64', 'rev32')[u]} {vector(d, 8, whole)}, {vector(n, 8, whole)}"
 
 
 def part_of(i):
@@ -360,8 +446,6 @@ def moved_part(_, o, i, j, n, d):
         return f"dup {vector(d, width)}, {from_general}"
     if not o and j == 0:
         return f"dup {vector(d, width)}, v{n}.{letter}[{index}]" if width > 8 else None
-    if width == 8:
-        return None
     if not o and j == 3:
         return f"mov v{d}.{letter}[{index}], {from_general}"
     if not o and j == 7 and width == 64:
@@ -374,7 +458,15 @@ def moved_part(_, o, i, j, n, d):
 @reads("00001110000iiiii001111nnnnnddddd")
 def moved_from_part(_, i, n, d):
     width, index = part_of(i)
+    if width == 8:
+        return f"umov {general(d, 0)}, v{n}.b[{index}]"
     return f"mov {general(d, 0)}, v{n}.s[{index}]" if width == 32 else None
+
+
+@reads("01011110000iiiii000001nnnnnddddd")
+def part_alone(_, i, n, d):
+    width, index = part_of(i)
+    return f"mov b{d}, v{n}.b[{index}]" if width == 8 else None
 
 
 @reads("01o0111100000aaacccc01bbbbbddddd")

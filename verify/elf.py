@@ -92,18 +92,30 @@ class Library:
                     start = headers[symbols[6]][4] + name
                     slots[place] = (data[start:data.index(0, start)].decode(), section and value)
         self.imports, self.own = {}, {}  # by the address of a stub: a name; an own function
+        for stub, place in self._stubs():
+            if place in slots:
+                name, own = slots[place]
+                if own:
+                    self.own[stub] = own
+                else:
+                    self.imports[stub] = name
+
+    def _stubs(self):
+        """What jumps to the function that a loader has written down, and where it has."""
+        data, code = self.data, next(it for it in self.segments if it.flags & EXECUTE)
         if self.machine == X86:
-            code = next(it for it in self.segments if it.flags & EXECUTE)
             for offset in range(code.offset, code.offset + code.size - 6):
                 if data[offset:offset + 2] == b"\xff\x25":
                     stub = code.start + offset - code.offset
-                    place = stub + 6 + struct.unpack_from("<i", data, offset + 2)[0]
-                    if place in slots:
-                        name, own = slots[place]
-                        if own:
-                            self.own[stub] = own
-                        else:
-                            self.imports[stub] = name
+                    yield stub, stub + 6 + struct.unpack_from("<i", data, offset + 2)[0]
+            return
+        for offset in range(code.offset, code.offset + code.size - 16, 4):
+            page, load, _, jump = struct.unpack_from("<IIII", data, offset)
+            # adrp x16; ldr x17, [x16, #..]; add; br x17
+            if (page & 0x9f00001f, load & 0xffc003ff, jump) == (0x90000010, 0xf9400211, 0xd61f0220):
+                stub = code.start + offset - code.offset
+                pages = (page >> 5 & 0x7ffff) << 2 | page >> 29 & 3
+                yield stub, (stub & -4096) + (pages << 12) + (load >> 10 & 0xfff) * 8
 
     def constant(self, address):
         """A byte that no one can change: of a segment that isn't writable."""

@@ -57,7 +57,7 @@ def shown(library):
 
 
 def pattern_of(parts):
-    """What the bytes of a function have to match, but for bits of a byte that is filled in partly."""
+    """What the bytes of a function have to match. Of one that is filled in partly it is any."""
     found = []
     for line, mask, _ in parts:
         masks = mask.to_bytes(len(line.raw), "little")

@@ -2,7 +2,7 @@
 /* Loaded into a program before the C library: calls of the system and requests for memory are
  * counted from 1, and some of them fail, as run.py asks in the environment. A process can be killed
  * at a call, reads and writes can be short, a path can be shut, a file can be cut short or grow
- * behind the first read, and the clock can go on by equal steps. */
+ * behind the first read, the clock can go on by equal steps, and random bytes can be known. */
 #define _GNU_SOURCE
 #include <errno.h>
 #include <fcntl.h>
@@ -36,6 +36,8 @@ static const char *changed_file;
 static long changed_length = -1;
 /* By how many milliseconds the clock goes on each time that it is read; 0 is the system's clock. */
 static long clock_step;
+/* Where the random bytes begin among those of random_byte; -1 is the system's random bytes. */
+static long random_from = -1;
 /* Where the name of each counted call goes, and at the end the count of requests; -1 is nowhere. */
 static long report_to = -1;
 
@@ -48,7 +50,7 @@ static const struct {
     {"TORN_WRITE", &torn_write}, {"INTERRUPTED_EVERY", &interrupted_every},
     {"REFUSED_REQUEST", &refused_request}, {"STEP", &step},
     {"CHANGED_LENGTH", &changed_length}, {"CLOCK_STEP", &clock_step},
-    {"REPORT_TO", &report_to},
+    {"RANDOM_FROM", &random_from}, {"REPORT_TO", &report_to},
 };
 
 static long calls, requests, looks;
@@ -189,7 +191,13 @@ ssize_t write(int file, const void *bytes, size_t len) {
 
 ssize_t __write(int file, const void *bytes, size_t len) __attribute__((alias("write")));
 
-int fsync(int file) { return fails_by_name("fsync", ENOSPC) ? -1 : syscall(SYS_fsync, file); }
+/* A folder is told from a file. */
+int fsync(int file) {
+    struct stat found;
+    int is_folder = fstat(file, &found) == 0 && S_ISDIR(found.st_mode);
+    if (fails_by_name(is_folder ? "syncdir" : "fsync", ENOSPC)) return -1;
+    return syscall(SYS_fsync, file);
+}
 
 int flock(int file, int how) {
     return fails_by_name("flock", ENOSPC) ? -1 : syscall(SYS_flock, file, how);
@@ -208,8 +216,14 @@ int rename(const char *from, const char *to) {
     return (int)syscall(SYS_renameat2, AT_FDCWD, from, AT_FDCWD, to, 0);
 }
 
+static unsigned char random_byte(long at) { return (unsigned char)(at * 167 + 13); }
+
 int getentropy(void *bytes, size_t len) {
     if (fails_by_name("getentropy", ENOSPC)) return -1;
+    if (random_from >= 0) {
+        for (size_t i = 0; i < len; i++) ((unsigned char *)bytes)[i] = random_byte(random_from++);
+        return 0;
+    }
     return syscall(SYS_getrandom, bytes, len, 0) == (long)len ? 0 : -1;
 }
 

@@ -32,7 +32,7 @@ import texts
 
 CASES = [
     statuses.Iterations, statuses.Salts, statuses.Words, statuses.Passwords, statuses.Names,
-    files.Refused, files.Kept, failures.Room, failures.Calls, locks.Together,
+    files.Refused, files.Kept, failures.Room, failures.Calls, locks.Together, locks.Beside,
     terminal.Asked, terminal.Stopped, launcher.Launcher,
     texts.Written, texts.Checked, texts.Failing, texts.OnTerminal, other_systems.OtherSystems,
 ]

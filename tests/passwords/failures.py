@@ -3,14 +3,15 @@
 
 import contextlib
 import functools
+import itertools
 import os
 import resource
 import signal
 import subprocess
 
 from store import (
-    DENIED, DONE, FEW, IS_FOLDER, NO_MEMORY, NO_SPACE, Case, Folder, bare, limit, memory_limit,
-    of_file, text_of,
+    DENIED, DONE, FEW, IS_FOLDER, NO_MEMORY, NO_SPACE, WARNED, Case, Folder, bare, limit,
+    memory_limit, of_file, text_of,
 )
 
 
@@ -74,14 +75,23 @@ class Room(Case):
         self.assertEqual(ended[:2], (2, f"cannot read the password: {IS_FOLDER}"))
         it.is_empty()
 
-    def test_little_memory_for_a_password(self):
-        """Where memory is wanting for a password the file stays as it is."""
-        it = self.new_folder()
+    def test_no_memory_for_a_password(self):
+        """Where one request for memory is refused, in turn, the file stays as it is."""
+        preload, it, messages = self.new_preload(), self.new_folder(), set()
         it.set("a", b"x")
-        text = it.file.read_bytes()
-        settings = {"password": b"x" * (128 << 20), "preexec_fn": memory_limit(64 << 20)}
-        it.ends((2, f"cannot read the password: {NO_MEMORY}"), "set", "a", **settings)
-        it.holds(text)
+        text, run = it.file.read_bytes(), functools.partial(it.run, "verify", "a", password=b"x")
+        for request in itertools.count(1):
+            (ended, _), _, made = preload.watched(run, REFUSED_REQUEST=request)
+            it.holds(text)
+            if made < request:
+                break
+            messages.add(ended)
+        steps = (f"cannot read the {what}: {NO_MEMORY}" for what in ("arguments", "password"))
+        read = of_file(it.file, f"cannot read the file: {NO_MEMORY}")
+        wanted = {(2, message) for message in (*steps, read, NO_MEMORY)}
+        # Where the program is started, a refused request may change nothing.
+        self.assertEqual(messages - {DONE}, wanted)
+        self.assertEqual(ended, DONE)
 
     def test_little_memory_for_a_store(self):
         """Where memory is wanting for the names of a store the file stays as it is."""
@@ -100,38 +110,35 @@ class Room(Case):
         self.assertEqual(ended, DONE)
 
 
-# The calls that change files, and what they take.
-COUNTED = "open flock getentropy unlink write fchmod fsync rename"
+# The calls that change files.
+COUNTED = "open flock getentropy unlink write fchmod fsync rename syncdir"
+# What a run cannot do where a call fails; None is a call without which it goes on.
+READ, LOCK = "cannot read the file", "cannot lock the file"
+REPLACE = "cannot replace the file"
+SYNC = "replaced the file, but cannot sync its folder"
+# The calls of each run. The folder is opened to sync it, and again to look for what killed runs
+# left in it.
+REPLACING = [
+    ("open", REPLACE), ("open", None), ("getentropy", REPLACE), ("open", REPLACE),
+    ("flock", REPLACE), ("fchmod", REPLACE), ("write", REPLACE),
+]
+REPLACED = [("fsync", REPLACE), ("rename", REPLACE), ("syncdir", SYNC)]
 NEW_FILE = [
-    "open", "flock", "getentropy", "open", "unlink", "open", "write", "fsync", "rename", "fsync",
+    ("open", LOCK), ("fchmod", LOCK), ("flock", LOCK), ("getentropy", "cannot get random bytes"),
+    *REPLACING, *REPLACED,
 ]
 REMOVAL = [
-    "open", "flock", "open", "open", "unlink", "open", "write", "fchmod", "fsync", "rename",
-    "fsync",
+    ("open", LOCK), ("open", LOCK), ("flock", LOCK), ("open", READ), *REPLACING,
+    ("fchmod", REPLACE), *REPLACED,
 ]
 # The file is read before the password is, and again once it is locked.
-CHANGE = ["open", *REMOVAL]
+CHANGE = [("open", READ), *REMOVAL]
 # The names that are known before a run, its words, the calls that it makes, and the names after it.
 ROWS = [
     ([], ("set", "b", *FEW), NEW_FILE, [b"b"]),
     (["a"], ("set", "b", *FEW), CHANGE, [b"a", b"b"]),
     (["a", "b"], ("remove", "b"), REMOVAL, [b"a"]),
 ]
-
-
-def refused_step(file, names, number):
-    """What cannot be done where this call fails, counted from 1."""
-    name, lock = names[number - 1], names.index("flock") + 1
-    if name == "getentropy":
-        return "cannot get random bytes"
-    step = "cannot replace the file"
-    if number == len(names):
-        step = "replaced the file, but cannot sync its folder"
-    elif name == "open" and (number < lock - 1 or number == lock + 1):
-        step = "cannot read the file"
-    elif number in (lock - 1, lock):
-        step = "cannot lock the file"
-    return of_file(file, step)
 
 
 class Calls(Case):
@@ -142,15 +149,15 @@ class Calls(Case):
 
     def in_turn(self, holds, only=None):
         """Tries what a test says for each call of each run, or for those of one name."""
-        for known, words, names, after in ROWS:
-            for number, name in enumerate(names, 1):
+        for known, words, calls, after in ROWS:
+            for number, (name, _) in enumerate(calls, 1):
                 if only not in (None, name):
                     continue
                 with self.subTest(words=words, number=number, name=name):
                     it = self.new_folder()
                     for one in known:
                         it.set(one, b"x")
-                    holds(it, words, names, number, after)
+                    holds(it, words, calls, number, after)
 
     def run_with(self, folder, *words, **asked):
         """How a run with the library ends, and the calls that it made."""
@@ -174,14 +181,19 @@ class Calls(Case):
     def test_each_call_fails(self):
         """Each call fails in turn: the file is the old one, unless it was replaced."""
 
-        def holds(it, words, names, number, after):
-            text = text_in(it)
+        def holds(it, words, calls, number, after):
+            text, (name, step) = text_in(it), calls[number - 1]
             ended, made = self.run_with(it, *words, FAILED_CALL=number)
-            reason = DENIED if names[number - 1] == "open" else NO_SPACE
-            self.assertEqual(ended, (2, f"{refused_step(it.file, names, number)}: {reason}"))
-            self.assertEqual(made[:number], names[:number])
+            reason = DENIED if name == "open" else NO_SPACE
+            message = f"{step}: {reason}"
+            wanted = (2, message if name == "getentropy" and step != REPLACE
+                      else of_file(it.file, message))
+            if step is None:
+                wanted = WARNED if words[0] == "set" else DONE
+            self.assertEqual(ended, wanted)
+            self.assertEqual(made[:number], [name for name, _ in calls[:number]])
             self.assertEqual(it.beside(), set())
-            self.assert_old_or_new(it, text, after, number == len(names))
+            self.assert_old_or_new(it, text, after, step in (None, SYNC))
             self.assert_goes_on(it)
 
         self.in_turn(holds)
@@ -189,12 +201,12 @@ class Calls(Case):
     def test_each_call_is_the_last(self):
         """A process is killed before each call in turn: the old file or the new one."""
 
-        def holds(it, words, names, number, after):
+        def holds(it, words, calls, number, after):
             text = text_in(it)
             ended, made = self.run_with(it, *words, KILLED_CALL=number)
             self.assertEqual(ended[0], -signal.SIGKILL)
-            self.assertEqual(made, names[:number])
-            self.assert_old_or_new(it, text, after, number == len(names))
+            self.assertEqual(made, [name for name, _ in calls[:number]])
+            self.assert_old_or_new(it, text, after, number == len(calls))
             self.assertTrue(text is None or it.names() is not None)
             self.assert_goes_on(it)
 
@@ -203,11 +215,13 @@ class Calls(Case):
     def test_a_torn_write_is_the_last(self):
         """A process is killed when half of the new file is written: the old file stays."""
 
-        def holds(it, words, names, number, after):
+        def holds(it, words, _, number, after):
             text = text_in(it)
             ended, _ = self.run_with(it, *words, TORN_WRITE=number)
             self.assertEqual(ended[0], -signal.SIGKILL)
-            self.assertGreater((it.path / "store.new").stat().st_size, 0)
+            [left] = it.beside()
+            self.assertRegex(left, "^store[.]new-[0-9a-f]{16}$")
+            self.assertGreater((it.path / left).stat().st_size, 0)
             self.assert_old_or_new(it, text, after, False)
             self.assert_goes_on(it)
 

@@ -6,8 +6,8 @@ import os
 import stat
 
 from store import (
-    BROKEN, DENIED, DONE, FEW, NOBODY, NO_FOLDER, Case, Folder, as_nobody, head_line, of_file,
-    program_for_nobody, record_line, text_of,
+    BROKEN, DENIED, DONE, FEW, LINKED, NOBODY, NO_FOLDER, TEMPORARY, Case, Folder, as_nobody,
+    head_line, memory_limit, of_file, program_for_nobody, record_line, text_of,
 )
 
 COMMANDS = (("set", "a"), ("verify", "a"), ("remove", "a"), ("list",))
@@ -59,6 +59,21 @@ class Refused(Case):
         self.assertEqual((it.path / "store").read_bytes(), text)
         self.assertFalse((it.path / "target").exists())
 
+    def test_names_of_temporary_files(self):
+        """A file with a temporary file's name is no store's, whatever it holds."""
+        it = self.new_folder()
+        it.set("a", b"x")
+        text = it.file.read_bytes()
+        for it.file in (it.left("a"), it.path / "b.new-0123456789abcdef"):
+            it.file.write_bytes(text)
+            for words in COMMANDS:
+                it.fails(TEMPORARY, *words, password=b"x")
+            self.assertEqual(it.file.read_bytes(), text)
+        for name in ("store.new", "store.new-", "store.new-0123456789abcdeF"):
+            it.file = it.path / name
+            it.set("a", b"x")
+            it.lists(b"a")
+
     def test_broken_texts(self):
         """A text that no store has is refused by every command, and the file stays as it is."""
         it = self.new_folder()
@@ -87,6 +102,16 @@ class Refused(Case):
                 it.fails(BROKEN, "list")
                 it.fails(BROKEN, *words, password=b"x")
                 it.holds(bad)
+
+
+    def test_a_large_file_is_refused_at_once(self):
+        """A file of 3 GB that is no store's is refused by its first bytes, with little memory."""
+        it = self.new_folder()
+        it.file.touch()
+        os.truncate(it.file, 3 << 30)
+        for words in COMMANDS:
+            settings = {"preexec_fn": memory_limit(64 << 20), "timeout": 20}
+            it.fails(BROKEN, *words, password=b"x", **settings)
 
 
 def broken_texts(text):
@@ -152,16 +177,46 @@ class Kept(Case):
     """What stays of a file that is replaced, and whose it is."""
 
     def test_modes_of_new_and_old_files(self):
-        """New files and locks are their owner's alone under any mask; an old file's mode stays."""
-        for mask in (0o000, 0o022, 0o077):
-            it = self.new_folder()
+        """New files and locks are their owner's alone under any mask; nine bits of an old file's mode
+        stay."""
+        for mask in (0o000, 0o022, 0o077, 0o277, 0o477, 0o777):
+            it = self.new_folder_of_nobody()
             settings = {"password": b"x", "preexec_fn": lambda: os.umask(mask)}
-            for mode in (None, 0o644, 0o640, 0o660, 0o400, 0o666):
+            for mode in (None, None, 0o644, 0o640, 0o660, 0o400, 0o666, 0o4755, 0o2770, 0o1640):
                 if mode:
                     it.file.chmod(mode)
                 it.ends(DONE, "set", "a", *FEW, **settings)
                 found = (mode_of(it.file), mode_of(it.path / "store.lock"))
-                self.assertEqual(found, (mode or 0o600, 0o600), mask)
+                self.assertEqual(found, ((mode or 0o600) & 0o777, 0o600), mask)
+
+    def new_folder_of_nobody(self):
+        """A new folder, in which the program runs without root's right to open every file."""
+        nobody, room = as_nobody(self), self.new_path()
+        program = program_for_nobody(room)
+        it = Folder(self, room / "folder", [*nobody, program])
+        it.path.mkdir()
+        if nobody:
+            os.chown(it.path, NOBODY, NOBODY)
+        return it
+
+    def test_another_name_of_the_file(self):
+        """A file with a hard link is read, but not replaced, since the link would keep the old
+        text."""
+        it = self.new_folder()
+        it.set("a", b"x")
+        text, link = it.file.read_bytes(), it.path / "link"
+        os.link(it.file, link)
+        for words in (("set", "b"), ("remove", "a")):
+            it.fails(LINKED, *words)  # before a password is read
+        it.verifies("a", b"x")
+        it.lists(b"a")
+        link.unlink()
+        slow = it.waiting("set", "b", *FEW)
+        os.link(it.file, link)
+        self.assertEqual(it.goes_on(slow, b"y\n"), (2, of_file(it.file, LINKED)))
+        link.unlink()
+        it.holds(text)
+        it.set("b", b"y")
 
     def test_owner_and_group_stay(self):
         """A file that is replaced keeps its owner and its group where the system lets it."""

@@ -2,12 +2,16 @@
 """Several processes of ./passwords on one file, and such as are killed."""
 
 import concurrent.futures
+import os
 import pathlib
 import random
+import signal
 import subprocess
 import time
 
-from store import DONE, FEW, Case, held_lock
+from store import (
+    BAD_LOCK, DONE, FEW, NOBODY, WARNED, WRONG, Case, held_lock, of_file,
+)
 
 
 class Together(Case):
@@ -97,6 +101,125 @@ class Together(Case):
         status = running.wait()
         running.stdin.close()
         return status
+
+
+class Beside(Case):
+    """What stands beside the file: its lock, and what killed runs left."""
+
+    def test_a_store_with_another_ending_stays(self):
+        """A change of `users` leaves the stores `users.new` and `users.tmp` as they are."""
+        it = self.new_folder()
+        for name in ("users.new", "users.tmp", "users"):
+            it.file = it.path / name
+            it.set("keep", b"x")
+        for name in ("users.new", "users.tmp"):
+            it.file = it.path / name
+            it.verifies("keep", b"x")
+
+    def test_only_what_a_run_left_is_removed(self):
+        """Of the files beside the store's one, a change removes but those with the name of a
+        temporary file of this store that no process has locked."""
+        flock, it = self.tool("flock"), self.new_folder()
+        it.set("a", b"x")
+        names = ("store.new", "store.new-1", "store.new-00000000000000GG", "x.new-0000000000000001")
+        others = {it.path / name for name in names}
+        for other in others:
+            other.write_bytes(b"x")
+        special = {it.path / f"store.new-{number:016}" for number in range(3)}
+        folder, pipe, link = sorted(special)
+        folder.mkdir()
+        os.mkfifo(pipe)
+        link.symlink_to("store")
+        held, left = it.left("a"), [it.left("b"), it.left("c")]
+        holding = subprocess.Popen([flock, held, "sleep", "100"], start_new_session=True)
+        self.addCleanup(holding.wait)
+        self.addCleanup(os.killpg, holding.pid, signal.SIGKILL)
+        time.sleep(0.5)
+        for words in (("set", "b", *FEW), ("remove", "b")):
+            it.ends(DONE, *words, password=b"x", timeout=20)
+            found = {it.path / name for name in it.beside()}
+            self.assertEqual(found, others | special | {held})
+            left[-1].write_bytes(b"")
+        self.assertTrue(link.is_symlink() and pipe.is_fifo() and folder.is_dir())
+
+    def test_a_file_that_vanishes(self):
+        """`set` in a file that is gone once the password is read makes no new one; in a file that
+        is new then, the password is set."""
+        it = self.new_folder()
+        it.set("a", b"x")
+        slow = it.waiting("set", "b", *FEW)
+        it.file.unlink()
+        self.assertEqual(it.goes_on(slow, b"y\n"), (2, of_file(it.file, "no such file")))
+        self.assertFalse(it.file.exists())
+        slow = it.waiting("set", "b", *FEW)
+        it.set("a", b"x")
+        self.assertEqual(it.goes_on(slow, b"y\n"), WARNED)
+        it.lists(b"a", b"b")
+
+    def test_a_password_is_tested_by_the_newest_text(self):
+        """`verify` takes the text that stands in the file when its password is read."""
+        it = self.new_folder()
+        it.set("a", b"x")
+        for password, wanted in ((b"x\n", WRONG), (b"y\n", DONE)):
+            it.set("a", b"x")
+            slow = it.waiting("verify", "a")
+            it.set("a", b"y")
+            self.assertEqual(it.goes_on(slow, password), wanted)
+
+    def test_other_kinds_of_locks(self):
+        """A pipe, a link, a folder or a file with text in place of the lock is refused at once, and
+        stays; what a link names is not made."""
+        it = self.new_folder()
+        it.set("a", b"x")
+        text, lock = it.file.read_bytes(), it.path / "store.lock"
+        kinds = {
+            "a pipe": lambda: os.mkfifo(lock), "a folder": lock.mkdir,
+            "a link": lambda: lock.symlink_to("victim"),
+            "a link to a file": lambda: lock.symlink_to("store"),
+            "a text": lambda: lock.write_bytes(b"x"),
+        }
+        for kind, make in kinds.items():
+            lock.unlink()
+            make()
+            before = lock.lstat()
+            for words in (("set", "b", *FEW), ("remove", "a")):
+                with self.subTest(kind=kind, words=words):
+                    it.fails(BAD_LOCK, *words, password=b"x", timeout=20)
+                    self.assertEqual(lock.lstat()[:6], before[:6])
+                    it.holds(text)
+            it.verifies("a", b"x")
+            if kind == "a folder":
+                lock.rmdir()
+                lock.touch()
+
+    def test_locks_of_other_users(self):
+        """A lock that belongs to neither this user nor the folder's owner is refused."""
+        if os.geteuid() != 0:
+            self.skipTest("root")
+        it = self.new_folder()
+        it.set("a", b"x")
+        text, lock = it.file.read_bytes(), it.path / "store.lock"
+        os.chown(lock, NOBODY, NOBODY)
+        it.fails(BAD_LOCK, "set", "b", *FEW, password=b"x")
+        it.holds(text)
+        os.chown(it.path, NOBODY, NOBODY)
+        it.set("b", b"x")
+
+    def test_a_lock_that_is_replaced(self):
+        """Who has waited for a lock that is no longer the one beside the file changes nothing."""
+        it = self.new_folder()
+        it.set("a", b"x")
+        text, lock = it.file.read_bytes(), it.path / "store.lock"
+        with held_lock(it):
+            slow = it.start("set", "b", *FEW, stderr=subprocess.PIPE)
+            slow.stdin.write(b"x\n")
+            slow.stdin.close()
+            slow.stdin = None
+            time.sleep(0.5)
+            lock.unlink()
+            lock.touch()
+        self.assertEqual(it.goes_on(slow, None), (2, of_file(it.file, BAD_LOCK)))
+        it.holds(text)
 
 
 class GivenUp(Case):

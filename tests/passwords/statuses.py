@@ -4,13 +4,15 @@
 import itertools
 import os
 import resource
+import shlex
 import signal
 import subprocess
 
+import password_hashes
 from store import (
-    BAD_NAME, COMMANDS, DONE, FEW, GREATEST_COUNT, NO_NAME, NO_PASSWORD, NO_SPACE, PROGRAM, USAGE,
-    WARNED, Case, bad_count, bare, exit_status, head_line, limit, no_count, of_file, one_too_many,
-    text_of,
+    BAD_NAME, COMMANDS, DONE, FEW, GREATEST_COUNT, LONGEST, NO_NAME, NO_PASSWORD, NO_SPACE, PROGRAM,
+    TOO_LONG, USAGE, WARNED, Case, bad_count, bare, exit_status, head_line, limit, memory_limit,
+    no_count, of_file, one_too_many, text_of,
 )
 
 
@@ -61,14 +63,16 @@ class Iterations(Case):
         it.is_empty()
 
     def test_few_iterations_are_warned_of(self):
-        """A `set` by fewer than 100,000 iterations warns when it succeeds; no other run does."""
+        """A `set` in a store of fewer than 100,000 iterations warns when it succeeds, be they given
+        or not; no other run does."""
         it = self.new_folder()
         rows = [(1, WARNED), (99_999, WARNED), (100_000, DONE), (100_001, DONE), (1, WARNED)]
         for count, wanted in rows:
             found = it.run("set", "a", "--iterations", str(count), password=b"x")
             self.assertEqual(found, (wanted, b""), count)
-        for action in ("set", "verify"):
-            it.ends(DONE, action, "a", password=b"x")
+        self.assertEqual(it.run("set", "a", password=b"x"), (WARNED, b""))
+        for words in (("verify", "a"), ("remove", "a")):
+            self.assertEqual(it.run(*words, password=b"x"), (DONE, b""), words)
         it.ends(BAD_NAME, "set", "", *FEW, password=b"x")
         command = [PROGRAM, it.file, "set", "a", *FEW]
         untold = subprocess.run(command, input=b"y", stderr=self.full_device(), timeout=60)
@@ -104,6 +108,23 @@ class Salts(Case):
         self.assertEqual((len(set(salts)), len(credentials)), (24, 24))
         self.assertEqual([at for at in range(16) if len({salt[at] for salt in salts}) == 1], [])
         self.assertEqual(list(copied_bytes(salts)), [])
+
+    def test_a_salt_is_the_random_bytes(self):
+        """The salt of a new file is the 16 random bytes that the system gives, and the name of the
+        temporary file the next 8; the salt of a new text is such 16 bytes too."""
+        preload, it = self.new_preload(), self.new_folder()
+        for start in (0, 40, 200):
+            given = bytes((at * 167 + 13) % 256 for at in range(start, start + 24))
+            settings = {"env": preload.environment(RANDOM_FROM=start)}
+            killed = preload.environment(RANDOM_FROM=start, COUNTED="rename", KILLED_CALL=1)
+            self.assertEqual(it.run("set", "a", *FEW, password=b"x", **settings)[0], WARNED)
+            self.assertEqual(it.lines()[0].split()[2].decode(), given[:16].hex())
+            it.file.unlink()
+            it.run("set", "a", *FEW, password=b"x", env=killed)
+            self.assertEqual(it.beside(), {f"store.new-{given[16:].hex()}"})
+            for scheme in ("phc-sha256", "postgresql"):
+                text = bare("encode", scheme, *FEW, line=b"x", **settings)[2].strip()
+                self.assertEqual(password_hashes.parsed(text)[2], given[:16])
 
     def test_unknown_names_take_the_time_of_known_ones(self):
         """`verify` and `set` of an unknown name take the time of a known one: one derivation."""
@@ -145,12 +166,12 @@ class Words(Case):
 
     def unknown(self, word):
         """What is said of a word that is no command."""
-        return f"no such command: {word}"
+        return f"no such command: {shlex.quote(word)}"
 
     def test_words_that_ask_for_nothing_of_a_file(self):
         """Words behind a file that ask for nothing: the message names them, and nothing is made."""
         it = self.new_folder()
-        unknown = ("", "lists", "SET", "--help", "mosquitto", "a\tb", "é", "--iterations")
+        unknown = ("", "lists", "SET", "--help", "mosquitto", "a b", "é", "--iterations")
         rows = [((word,), of_file(it.file, self.unknown(word))) for word in unknown]
         rows += [((word, "a"), of_file(it.file, self.unknown(word))) for word in unknown]
         rows += [((word,), f"{word} needs a name") for word in ("set", "verify", "remove")]
@@ -183,6 +204,29 @@ class Words(Case):
         message = of_file("--help", self.unknown("x"))
         self.assertEqual(bare("--help", "x"), (2, message, b""))
 
+    def test_words_are_shown_in_quotes(self):
+        """A message is one line without a control character, of which Bash reads each word back as
+        it was typed."""
+        bash = self.tool("bash")
+        words = [
+            "a\nb", "\x1b[31m", "a\tb", "it's", "'", "'\n", "\n'", "\x7f", "\x85", "a\x9bb", "é\x01é",
+            "\x01\x02", "\x01a\x02", "\\", "$x", "`x`", "a b", "~", "#a", "*", "!", "\"", "",
+        ]
+        it = self.new_folder()
+        for word in words:
+            runs = [
+                (("one word too many: ", ""), it.run("list", word)[0]),
+                (("", f": no command{COMMANDS}"), bare(word)[:2]),
+                (("", ": no such file"), bare(word + "x", "list", cwd=it.path)[:2]),
+            ]
+            for (before, behind), (status, message) in runs:
+                shown = message.removeprefix(before).removesuffix(behind)
+                read = subprocess.run([bash, "-c", f"printf %s {shown}"], capture_output=True)
+                typed = word + "x" if behind == ": no such file" else word
+                self.assertEqual((status, read.stdout), (2, typed.encode()), message)
+                self.assertEqual(message, before + shown + behind)
+                self.assertTrue(message.isprintable(), message)
+
     def test_help_and_version(self):
         """`--help` and `--version`, alone, write on standard output and end with status 0."""
         *ended, text = bare("--help")
@@ -211,6 +255,26 @@ class Passwords(Case):
         (b"a\n", b"a\r\n"), (b"a", b"a "), (b"a\nb", b"a b"), (b"a", b"A"), (b"\n", b" "),
         (b"a", b"a" + bytes(64)), (b"a", b"\x00a"),
     ]
+
+    def test_a_long_password_is_taken_or_refused(self):
+        """A password has at most 131,072 bytes; of a longer one, or of one without an end, no more
+        is read."""
+        it = self.new_folder()
+        it.set("a", b"x" * LONGEST + b"\n")
+        it.verifies("a", b"x" * LONGEST)
+        text = it.file.read_bytes()
+        long = it.path / "long"
+        long.write_bytes(b"x" * (LONGEST + 1) + b"rest")
+        for words in (("set", "a", *FEW), ("verify", "a")):
+            it.ends(TOO_LONG, *words, password=b"x" * (LONGEST + 1) + b"\n")
+            for source, place in (("/dev/zero", None), (long, LONGEST + 1)):
+                with open(source, "rb", buffering=0) as given:
+                    settings = {"stdin": given, "preexec_fn": memory_limit(64 << 20)}
+                    found = it.run(*words, timeout=20, **settings)
+                    self.assertEqual(found, (TOO_LONG, b""), words)
+                    self.assertIn(place, (None, given.tell()))
+        long.unlink()
+        it.holds(text)
 
     def test_a_password_is_set_and_verified(self):
         """A password that was set is verified; another one is not, nor is an unknown name."""

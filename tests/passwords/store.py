@@ -3,7 +3,9 @@
 
 import contextlib
 import os
+import pathlib
 import resource
+import shlex
 import shutil
 import signal
 import subprocess
@@ -25,6 +27,10 @@ USAGE = """usage: passwords FILE set NAME [--iterations N]
        passwords --version"""
 COMMANDS = "; the commands are set, verify, remove and list"
 NUMBER = "needs a number of 1 to 4294967295"
+TOO_LONG = (2, "the password is too long")
+LINKED = "the file has another name, a hard link"
+BAD_LOCK = "its lock is not an empty regular file of this user"
+TEMPORARY = "the name is one of a temporary file"
 WARNING = "warning: with fewer than 100000 iterations, whoever reads the file can guess at " \
     "passwords cheaply; 600000 are advised"
 # How runs end: a status, and a message on standard error without the program's name.
@@ -44,6 +50,8 @@ NO_MEMORY = "out of memory"
 FEW = ("--iterations", "1")
 NOBODY = 65534
 GREATEST_COUNT = 4_294_967_295
+# The most bytes of a password.
+LONGEST = 131_072
 
 
 def no_count(option="--iterations"):
@@ -53,17 +61,17 @@ def no_count(option="--iterations"):
 
 def bad_count(word, option="--iterations"):
     """What is said of an option with this word in place of a number."""
-    return f"{option} {NUMBER}, not '{word}'"
+    return f"{option} {NUMBER}, not {shlex.quote(word)}"
 
 
 def one_too_many(word):
     """What is said of a word that is one too many."""
-    return f"one word too many: {word}"
+    return f"one word too many: {shlex.quote(word)}"
 
 
 def of_file(path, message):
     """What is said of a file."""
-    return f"{path}: {message}"
+    return f"{shlex.quote(str(path))}: {message}"
 
 
 class Case(programs.Case):
@@ -102,20 +110,34 @@ class Folder:
         status, output, error = programs.ended(*command, given=password, **settings)
         return (status, told(error)), output
 
-    def start(self, *words):
+    def start(self, *words, stderr=subprocess.DEVNULL):
         """A run that waits for its password."""
         command = [*self.program, self.file, *words]
-        return subprocess.Popen(command, stdin=subprocess.PIPE, stderr=subprocess.DEVNULL)
+        return subprocess.Popen(command, stdin=subprocess.PIPE, stderr=stderr)
+
+    def waiting(self, *words):
+        """A run that has looked at the file and waits for its password."""
+        running = self.start(*words, stderr=subprocess.PIPE)
+        call, start = pathlib.Path(f"/proc/{running.pid}/syscall"), time.monotonic()
+        while not call.read_text().startswith("0 0x0 ") and time.monotonic() - start < 10:
+            time.sleep(0.01)  # until it reads standard input
+        return running
+
+    def goes_on(self, running, password):
+        """How a run ends that is given its password: its status and its message."""
+        _, error = running.communicate(password, timeout=60)
+        return running.returncode, told(error)
 
     def fails(self, message, *words, **settings):
         """A run ends with status 2 and this message of its file."""
         self.ends((2, of_file(self.file, message)), *words, **settings)
 
     def ends(self, wanted, *words, password=b"", **settings):
-        """A run ends so, warns of few iterations, and writes nothing on standard output."""
-        if wanted == DONE and "--iterations" in words[2:] and int(words[3]) < 100_000:
-            wanted = WARNED
+        """A run ends so, warns of few iterations of a store that it sets a password in, and writes
+        nothing on standard output."""
         found = self.run(*words, password=password, **settings)
+        if wanted == DONE and words[0] == "set" and int(self.lines()[0].split()[3]) < 100_000:
+            wanted = WARNED
         self.case.assertEqual(found, (wanted, b""), words)
 
     def set(self, name, password, *options):
@@ -143,6 +165,12 @@ class Folder:
     def lines(self):
         """The lines of the file."""
         return self.file.read_bytes().splitlines()
+
+    def left(self, digits):
+        """What a killed run leaves of its temporary file, by the last digits of its name."""
+        path = self.path / f"store.new-{digits:0>16}"
+        path.write_bytes(b"ring_store 1")
+        return path
 
     def beside(self):
         """The names of what stands in the folder beside the file and its lock."""

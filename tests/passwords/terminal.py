@@ -253,6 +253,23 @@ class Asked(Case):
         self.assertEqual((terminal.wait(), shown), (2, wanted))
         it.holds(text)
 
+    def test_a_file_that_vanishes_is_not_made_anew(self):
+        """A file that is gone when the password is typed is not made anew; a missing one is."""
+        it = self.new_folder()
+        for known in (True, False):
+            if known:
+                it.set("a", b"x")
+            terminal = Terminal(self, [LAUNCHER, it.file, "set", "a", *FEW], it)
+            terminal.until(FIRST)
+            terminal.type(b"x\n", AGAIN)
+            if known:
+                it.file.unlink()
+            shown = terminal.type(b"x\n", None)
+            self.assertEqual(terminal.wait(), 2 if known else 0)
+            self.assertEqual(it.file.exists(), not known)
+            message = f"passwords: {of_file(it.file, 'no such file')}\r\n".encode()
+            self.assertEqual(shown.endswith(message), known, shown)
+
     def test_a_typed_password_stays_inside(self):
         """A typed password stands in no argument and no environment, whatever variables exist."""
         names = ("password", "repeated", "prompt", "shown", "name", "REPLY")

@@ -3,6 +3,7 @@
 
 import itertools
 import os
+import shlex
 import time
 
 import password_hashes as hashes
@@ -80,7 +81,10 @@ class Written(Case):
         """Other words of `encode` and `check`: the message names them. Nothing is read or made."""
         schemes = "; the schemes are " + ", ".join(SCHEMES)
         encode = ("encode", "mosquitto")
-        rows = [(("encode", word), f"no such scheme: {word}{schemes}") for word in self.NO_SCHEMES]
+        rows = [
+            (("encode", word), f"no such scheme: {shlex.quote(word)}{schemes}")
+            for word in self.NO_SCHEMES
+        ]
         rows += [
             (("encode",), f"encode needs a scheme{schemes}"),
             (("encode", "md5", *FEW), f"no such scheme: md5{schemes}"),

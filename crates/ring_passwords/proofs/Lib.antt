@@ -1,2 +1,4 @@
 -- SPDX-License-Identifier: ISC
 mod Fits
+mod Marks
+mod Temporaries

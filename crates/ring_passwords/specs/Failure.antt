@@ -4,6 +4,7 @@ use Rattle.std.specs.Prelude.{◌≡◌, ◌⊎◌, ℕ, Bool, true, false, List
 use Rattle.std.specs.Prelude.{if◌then◌else◌}
 use Rattle.std.specs.Option.{option_map}
 use Rattle.std.specs.declared.io.Error.{Error}
+use Rattle.ring_passwords.specs.Quoted.{quoted}
 use Rattle.ring_passwords.specs.declared.failure.Ended.{Ended}
 use Rattle.ring_passwords.specs.declared.failure.Failure.{Failure}
 use Rattle.ring_passwords.specs.declared.failure.Failure.TheVariants as failure
@@ -26,7 +27,10 @@ abbrev pub is_of_file : Failure → Bool
 is_of_file failure.NoFile = true
 is_of_file failure.NoFolder = true
 is_of_file failure.NotAFile = true
+is_of_file failure.Temporary = true
+is_of_file failure.Linked = true
 is_of_file failure.NotAStore = true
+is_of_file failure.BadLock = true
 is_of_file failure.InUse = true
 is_of_file (failure.System ReadFile error) = true
 is_of_file (failure.System Lock error) = true
@@ -50,7 +54,10 @@ failure_text failure.NoSuchName = Some (codes "no such name")
 failure_text failure.NoFile = Some (codes "no such file")
 failure_text failure.NoFolder = Some (codes "no such folder")
 failure_text failure.NotAFile = Some (codes "not a regular file")
+failure_text failure.Temporary = Some (codes "the name is one of a temporary file")
+failure_text failure.Linked = Some (codes "the file has another name, a hard link")
 failure_text failure.NotAStore = Some (codes "not a password store")
+failure_text failure.BadLock = Some (codes "its lock is not an empty regular file of this user")
 failure_text failure.InUse = Some (codes "another process has locked the file")
 failure_text failure.Memory = Some (codes "out of memory")
 failure_text (failure.System step error) = None
@@ -65,7 +72,7 @@ ended_on bytes_of (Some path) failed =
     else failure_text failed
 
 abbrev pub ended_text : Ended → Option (List ℕ)
-ended_text e = ended_on (λ path. path.now) e.path e.failure.now
+ended_text e = ended_on (λ path. quoted path.now) e.path e.failure.now
 
 -- a store's refusal
 abbrev pub failure_of : StoreError → Failure
@@ -84,7 +91,8 @@ IsNoText failed = (failed ≡ failure.NoText) ⊎ IsOfSystem ReadText failed
 
 -- why no password is read
 abbrev pub IsNoPassword : Failure → Type 0
-IsNoPassword failed = (failed ≡ failure.NoPassword) ⊎ IsOfSystem ReadPassword failed
+IsNoPassword failed =
+    (failed ≡ failure.NoPassword) ⊎ (failed ≡ failure.TooLong) ⊎ IsOfSystem ReadPassword failed
 
 -- why a text that is read is not tested
 abbrev pub IsNoStored : Failure → Type 0

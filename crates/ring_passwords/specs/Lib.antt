@@ -9,5 +9,7 @@ pub mod Failure
 pub mod File
 pub mod Listing
 pub mod Misuse
+pub mod Quoted
 pub mod Schemes
+pub mod Temporary
 pub mod Word

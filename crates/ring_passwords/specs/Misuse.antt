@@ -3,6 +3,7 @@
 use Rattle.std.specs.Prelude.{◌≡◌, ◌≢◌, ◌⊎◌, ℕ, List, [], ◌∷◌, ◌++◌, codes}
 use Rattle.ring_password_hash.specs.Scheme.{name_of}
 use Rattle.ring_password_hash.specs.declared.scheme.Scheme.{Scheme}
+use Rattle.ring_passwords.specs.Quoted.{quoted}
 use Rattle.ring_passwords.specs.Schemes.{schemes_text}
 use Rattle.ring_passwords.specs.Word.{IsNoCount, command_word, option_word}
 use Rattle.ring_passwords.specs.declared.about.TheConstants.{USAGE}
@@ -24,17 +25,21 @@ commands_text = codes "; the commands are set, verify, remove and list"
 abbrev pub number_text : CountOption → List ℕ
 number_text option = option_word option ++ codes " needs a number of 1 to 4294967295"
 
+abbrev pub unknown_scheme_text : (word : List ℕ) → List ℕ
+unknown_scheme_text word =
+    codes "no such scheme: " ++ quoted word ++ codes "; the schemes are " ++ schemes_text
+
 abbrev pub misuse_text : Misuse → List ℕ
 misuse_text NoWords = USAGE.now
-misuse_text (NoCommand file) = file.now ++ codes ": no command" ++ commands_text
-misuse_text (UnknownCommand file word) = file.now ++ codes ": no such command: " ++ word.now
+misuse_text (NoCommand file) = quoted file.now ++ codes ": no command" ++ commands_text
+misuse_text (UnknownCommand file word) =
+    quoted file.now ++ codes ": no such command: " ++ quoted word.now
 misuse_text (NoName command) = command_word command ++ codes " needs a name"
 misuse_text NoScheme = codes "encode needs a scheme; the schemes are " ++ schemes_text
-misuse_text (UnknownScheme word) =
-    codes "no such scheme: " ++ word.now ++ codes "; the schemes are " ++ schemes_text
+misuse_text (UnknownScheme word) = unknown_scheme_text word.now
 misuse_text (NoCount option) = number_text option
-misuse_text (BadCount option word) = number_text option ++ codes ", not '" ++ word.now ++ codes "'"
-misuse_text (Unexpected word) = codes "one word too many: " ++ word.now
+misuse_text (BadCount option word) = number_text option ++ codes ", not " ++ quoted word.now
+misuse_text (Unexpected word) = codes "one word too many: " ++ quoted word.now
 
 -- ---- what is wrong with the last words of a call
 

@@ -1,8 +1,8 @@
 // SPDX-License-Identifier: ISC
 //! What is done with a store, once it is read.
 
-ghost use Rattle.std.specs.Prelude.{◌≡◌, ◌≢◌, ◌⊎◌, ◌↔◌, ◌<◌, Ok, false, true};
-ghost use Rattle.std.specs.Prelude.{IfErr, IfOk, IfSome, IsErrOf, IsNone, IsSome, IsTrue, OnErr};
+ghost use Rattle.std.specs.Prelude.{◌≡◌, ◌≢◌, ◌⊎◌, ◌↔◌, ◌<◌, Ok, codes, false, true, take};
+ghost use Rattle.std.specs.Prelude.{IfErr, IfOk, IfSome, IsErrOf, IsFalse, IsNone, IsTrue, OnErr};
 ghost use Rattle.std.specs.Prelude.{OnOk};
 ghost use Rattle.std.specs.Int.NonZero.{non_zero_u32_get};
 ghost use Rattle.ring.specs.Cost.{raised};
@@ -23,7 +23,10 @@ use std::num::NonZeroU32;
 /// HMAC-SHA-256 (Password Storage Cheat Sheet, 2023).
 pub const ADVISED_ITERATIONS: u32 = 600_000;
 
-/// The fewest iterations that can be given without a warning.
+/// What the text of each store begins with.
+pub const MARK: &[u8] = b"ring_store 1 ";
+
+/// The fewest iterations of a store without a warning.
 pub const FEWEST_ITERATIONS: u32 = 100_000;
 
 /// The iterations of a new store.
@@ -34,12 +37,19 @@ pub fn iterations_of_new(given: Option<NonZeroU32>) -> NonZeroU32
     given.unwrap_or(NonZeroU32::new(ADVISED_ITERATIONS).unwrap())
 }
 
-/// Whether iterations are given, and so few that a guess at a password costs too little.
-pub fn is_few(given: Option<NonZeroU32>) -> bool
-    ensures few { IsTrue result → IsSome given }
-    ensures given { IfSome given (λ c. IsTrue result ↔ (non_zero_u32_get c < 100_000)) }
+/// Whether iterations are so few that a guess at a password costs too little.
+pub fn is_few(iterations: NonZeroU32) -> bool
+    ensures { IsTrue result ↔ (non_zero_u32_get iterations < 100_000) }
 {
-    given.is_some_and(|iterations| iterations.get() < FEWEST_ITERATIONS)
+    iterations.get() < FEWEST_ITERATIONS
+}
+
+/// Whether a store is made, since its file is missing and was missing at the first look too. A file
+/// that has vanished since then is a failure.
+pub fn is_made(was_missing: bool, failure: &Failure) -> bool
+    ensures { IsTrue result ↔ (IsTrue was_missing × (failure.now ≡ Failure.NoFile)) }
+{
+    was_missing && matches!(failure, Failure::NoFile)
 }
 
 /// Refuses a name that has no byte, or more than 64.
@@ -113,6 +123,15 @@ pub fn remove(store: &mut PasswordStore, name: &[u8]) -> Result<(), Failure>
         return Err(Failure::NoSuchName);
     }
     Ok(())
+}
+
+/// Whether a text with these first bytes, at most 13, can be a store's.
+pub fn begins_store(start: &[u8]) -> bool
+    ensures ok { IsTrue result → start.now ≡ codes "ring_store 1 " }
+    ensures refused { IsFalse result → (store : PasswordStore Global)
+        → take 13 (text_of store) ≢ start.now }
+{
+    start == MARK
 }
 
 /// The store that a text is of.

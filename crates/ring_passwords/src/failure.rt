@@ -1,13 +1,15 @@
 // SPDX-License-Identifier: ISC
 //! Why a run ends without success.
 
-ghost use Rattle.std.specs.Prelude.{◌≡◌, Some};
+ghost use Rattle.std.specs.Prelude.{◌≡◌, [], IfOk, OnOk};
+ghost use Rattle.std.specs.Fmt.{AppendsText};
 ghost use Rattle.ring_passwords.specs.Failure.{ended_text, failure_of, failure_text, is_of_file};
 ghost use Rattle.ring_passwords.specs.Failure.{status_of};
 ghost use Rattle.ring_passwords.specs.declared.failure.Failure.TheVariants.{Memory};
 
+use crate::quoted::append_quoted;
 use ring_store::StoreError;
-use std::alloc::AllocError;
+use std::alloc::{AllocError, Global};
 use std::{fmt, io};
 
 /// What the system is asked for.
@@ -66,8 +68,14 @@ pub enum Failure {
     NoFolder,
     /// The path is not that of a regular file.
     NotAFile,
+    /// The path is that of a temporary file of this program.
+    Temporary,
+    /// The file has another name too, which would keep the old text.
+    Linked,
     /// The file does not have the text of a store.
     NotAStore,
+    /// What has the lock's name is no lock that this user can rely on.
+    BadLock,
     /// Another process holds the lock for too long.
     InUse,
     /// There is no memory.
@@ -90,7 +98,8 @@ impl Failure {
     {
         match self {
             Failure::NoFile | Failure::NoFolder | Failure::NotAFile => true,
-            Failure::NotAStore | Failure::InUse => true,
+            Failure::Temporary | Failure::Linked | Failure::NotAStore => true,
+            Failure::BadLock | Failure::InUse => true,
             Failure::System(Step::ReadFile | Step::Lock, _) => true,
             Failure::System(Step::Replace | Step::SyncFolder, _) => true,
             _ => false,
@@ -151,7 +160,10 @@ impl fmt::Display for Failure {
             Failure::NoFile => write!(f, "no such file"),
             Failure::NoFolder => write!(f, "no such folder"),
             Failure::NotAFile => write!(f, "not a regular file"),
+            Failure::Temporary => write!(f, "the name is one of a temporary file"),
+            Failure::Linked => write!(f, "the file has another name, a hard link"),
             Failure::NotAStore => write!(f, "not a password store"),
+            Failure::BadLock => { write!(f, "its lock is not an empty regular file of this user") }
             Failure::InUse => write!(f, "another process has locked the file"),
             Failure::Memory => write!(f, "out of memory"),
             Failure::System(step, error) => write!(f, "{step}: {error}"),
@@ -168,17 +180,32 @@ pub struct Ended<'a> {
     pub path: Option<&'a str>,
 }
 
-/// One line. A failure of the file begins with the file.
-impl fmt::Display for Ended<'_> {
-    ghost output = { ended_text };
-
-    fn fmt<W: fmt::Write>(&self, f: &mut fmt::Formatter<W>) -> fmt::Result {
-        let failure = self.failure;
+impl Ended<'_> {
+    /// One line. A failure of the file begins with the file.
+    pub fn line(self, alloc: Global) -> Result<Vec<u8>, AllocError>
+        ensures ok { IfOk result (λ line. AppendsText [] line.items (ended_text self.entry)) }
+    {
+        let mut line = Vec::new(alloc);
         match self.path {
-            Some(path) if failure.is_of_file() => write!(f, "{path}: {failure}"),
-            _ => write!(f, "{failure}"),
+            Some(path) if self.failure.is_of_file() => {
+                append_quoted(&mut line, path)?;
+                line.extend_from_slice(b": ")?;
+                append_failure(alloc, &mut line, self.failure)?;
+            }
+            _ => append_failure(alloc, &mut line, self.failure)?,
         }
+        Ok(line)
     }
+}
+
+/// Appends why a run ends.
+fn append_failure(alloc: Global, line: &mut Vec<u8>, failure: &Failure) -> Result<(), AllocError>
+    ensures ok { OnOk result
+        (AppendsText line.old.items line.new.items (failure_text failure.now)) }
+{
+    let text = format!(in alloc; "{failure}")?;
+    line.extend_from_slice(text.as_bytes())?;
+    Ok(())
 }
 
 /// An allocation failure.

@@ -6,49 +6,95 @@ ghost use Rattle.ring_store_text.specs.Text.{IsStore};
 ghost use Rattle.ring_passwords.specs.Failure.{status_of};
 ghost use Rattle.ring_passwords.specs.File.{folder_in};
 
-use crate::change::store_in;
+use crate::change::{MARK, begins_store, store_in};
 use crate::failure::{Failure, Step};
+use crate::lock::locked;
+use crate::temporary::{is_temporary, remove_left_over, temporary_path};
+use crate::{regular, temporary};
 use ring_store::PasswordStore;
 use ring_store_text::to_text;
-use std::fs::{File, OpenOptions, Permissions, TryLockError};
-use std::io::{ErrorKind, Write};
-use std::os::unix::fs::{MetadataExt, OpenOptionsExt, PermissionsExt, fchown};
+use std::fs::{File, Metadata, Permissions};
+use std::io::{ErrorKind, Read, Write};
+use std::os::unix::fs::{MetadataExt, PermissionsExt, fchown};
 use std::path::Path;
+use std::random::RandomSource;
 use std::rt::{Clock, Files};
-use std::time::Duration;
-use std::{fs, io, thread};
-
-/// The mode of a new file: its owner alone reads and writes it.
-const OWNER_ONLY: u32 = 0o600;
+use std::{fs, io};
 
 /// The bits of a mode that say who reads, writes and runs a file.
 const PERMISSION_BITS: u32 = 0o777;
 
-/// How often a lock that another process holds is tried, and the pause after each try: a minute.
-const TRIES: u32 = 3_000;
-
-const PAUSE_MILLIS: u64 = 20;
-
 /// The store that stands in a file.
-pub fn load<R: Files + AllocGlobal>(rt: &R, path: &str) -> Result<PasswordStore, Failure>
+pub fn load<R: Files<File = File> + AllocGlobal>(
+    rt: &R,
+    path: &str,
+) -> Result<PasswordStore, Failure>
     ensures ok { IfOk result (λ store. IsStore store) }
     ensures status { IfErr result (λ failure. status_of failure ≡ 2) }
 {
-    require_regular(rt, path)?;
-    let text = fs::read(rt, path).map_err(|error| Failure::System(Step::ReadFile, error))?;
+    let found = regular_at(rt, path)?;
+    let text = read(rt, path, &found)?;
     store_in(rt.alloc(), &text)
 }
 
-/// Refuses a path that is not of a regular file. A symbolic link is none.
-pub fn require_regular<R: Files>(rt: &R, path: &str) -> Result<(), Failure>
+/// Refuses a path that is not of a regular file, or whose file has another name that would keep the
+/// old text.
+pub fn require_replaceable<R: Files>(rt: &R, path: &str) -> Result<(), Failure>
     ensures status { IfErr result (λ failure. status_of failure ≡ 2) }
 {
+    let found = regular_at(rt, path)?;
+    if found.nlink() > 1 {
+        return Err(Failure::Linked);
+    }
+    Ok(())
+}
+
+/// What the system tells of a regular file that can be a store's. A symbolic link is none.
+fn regular_at<R: Files>(rt: &R, path: &str) -> Result<Metadata, Failure>
+    ensures status { IfErr result (λ failure. status_of failure ≡ 2) }
+{
+    if is_temporary(path) {
+        return Err(Failure::Temporary);
+    }
     match fs::symlink_metadata(rt, path) {
-        Ok(metadata) if metadata.is_file() => Ok(()),
+        Ok(metadata) if metadata.is_file() => Ok(metadata),
         Ok(_) => Err(Failure::NotAFile),
         Err(error) if error.kind() == ErrorKind::NotFound => Err(missing(rt, path)),
-        Err(error) => Err(Failure::System(Step::ReadFile, error)),
+        Err(error) => Err(unread(error)),
     }
+}
+
+/// The system refuses to read the file.
+fn unread(error: io::Error) -> Failure
+    ensures { status_of result ≡ 2 }
+{
+    Failure::System(Step::ReadFile, error)
+}
+
+/// The bytes of a file, which is still the one that was found.
+fn read<R: Files<File = File> + AllocGlobal>(
+    rt: &R,
+    path: &str,
+    found: &Metadata,
+) -> Result<Vec<u8>, Failure>
+    ensures status { IfErr result (λ failure. status_of failure ≡ 2) }
+{
+    let mut file = File::open(rt, path).map_err(unread)?;
+    let opened = file.metadata().map_err(unread)?;
+    if !regular::is_same(found, &opened) {
+        return Err(Failure::NotAFile);
+    }
+    let mut text = Vec::new(rt.alloc());
+    (&file)
+        .take(MARK.len() as u64)
+        .read_to_end(&mut text)
+        .map_err(unread)?;
+    // What is no store is not read whole.
+    if !begins_store(&text) {
+        return Err(Failure::NotAStore);
+    }
+    file.read_to_end(&mut text).map_err(unread)?;
+    Ok(text)
 }
 
 /// Why a file is not there: it, or its folder. A path that ends in a slash is that of a folder.
@@ -73,8 +119,7 @@ pub struct LockedFile<'a> {
 }
 
 impl<'a> LockedFile<'a> {
-    /// Locks a file, which need not be there. What is locked is the file `.lock` beside it, so that
-    /// the lock outlives each file that is replaced.
+    /// Locks a file, which need not be there, by the file `.lock` beside it.
     pub fn new<R: Files<File = File> + AllocGlobal + Clock>(
         rt: &R,
         path: &'a str,
@@ -82,43 +127,40 @@ impl<'a> LockedFile<'a> {
         ensures status { IfErr result (λ failure. status_of failure ≡ 2) }
     {
         let lock_path = format!(in rt.alloc(); "{path}.lock")?;
-        let mut options = OpenOptions::new();
-        options.write(true).create(true);
-        options.mode(OWNER_ONLY);
-        let lock = options
-            .open(rt, lock_path.as_str())
-            .map_err(|error| Failure::System(Step::Lock, error))?;
-        acquire(rt, &lock)?;
+        let lock = locked(rt, folder_of(path), lock_path.as_str())?;
         Ok(LockedFile { path, _lock: lock })
     }
 
-    /// The store that stands in the file.
-    pub fn load<R: Files + AllocGlobal>(&self, rt: &R) -> Result<PasswordStore, Failure>
+    /// The store that stands in the file, which has no other name.
+    pub fn load<R: Files<File = File> + AllocGlobal>(
+        &self,
+        rt: &R,
+    ) -> Result<PasswordStore, Failure>
         ensures ok { IfOk result (λ store. IsStore store) }
         ensures status { IfErr result (λ failure. status_of failure ≡ 2) }
     {
+        require_replaceable(rt, self.path)?;
         load(rt, self.path)
     }
 
     /// Puts a new file with the store's text in the place of the file.
-    pub fn replace<R: Files<File = File> + AllocGlobal>(
-        &self,
-        rt: &R,
-        store: &PasswordStore,
-    ) -> Result<(), Failure>
+    pub fn replace<R>(&self, rt: &R, store: &PasswordStore) -> Result<(), Failure>
+    where
+        R: Files<File = File> + AllocGlobal + Clone + Drop + RandomSource,
         ensures status { IfErr result (λ failure. status_of failure ≡ 2) }
     {
-        let path = self.path;
         let text = to_text(rt.alloc(), store)?;
-        let new_path = format!(in rt.alloc(); "{path}.new")?;
-        let folder = File::open(rt, folder_of(path)).map_err(|error| Failure::System(
-            Step::Replace,
-            error,
-        ))?;
-        if let Err(error) = put(rt, new_path.as_str(), path, &text) {
+        let folder_path = folder_of(self.path);
+        let folder = File::open(rt, folder_path).map_err(not_replaced)?;
+        remove_left_over(rt, folder_path, self.path);
+        let mut random = [0; temporary::RANDOM_LEN];
+        rt.fill_bytes(&mut random).map_err(not_replaced)?;
+        let new_path = temporary_path(rt.alloc(), self.path, &random)?;
+        let new = regular::create(rt, new_path.as_str()).map_err(not_replaced)?;
+        if let Err(error) = put(rt, &new, new_path.as_str(), self.path, &text) {
             // The old file still stands, and nobody needs the new one.
             let _ = fs::remove_file(rt, new_path.as_str());
-            return Err(Failure::System(Step::Replace, error));
+            return Err(not_replaced(error));
         }
         folder
             .sync_all()
@@ -126,18 +168,11 @@ impl<'a> LockedFile<'a> {
     }
 }
 
-/// Locks an open file, once the process that holds it lets go.
-fn acquire(rt: &impl Clock, lock: &File) -> Result<(), Failure>
-    ensures status { IfErr result (λ failure. status_of failure ≡ 2) }
+/// The system refuses to put a new file in the place of the old one.
+fn not_replaced(error: io::Error) -> Failure
+    ensures { status_of result ≡ 2 }
 {
-    for _ in 0..TRIES {
-        match lock.try_lock() {
-            Ok(()) => return Ok(()),
-            Err(TryLockError::WouldBlock) => thread::sleep(rt, Duration::from_millis(PAUSE_MILLIS)),
-            Err(TryLockError::Error(error)) => return Err(Failure::System(Step::Lock, error)),
-        }
-    }
-    Err(Failure::InUse)
+    Failure::System(Step::Replace, error)
 }
 
 /// The folder that a path is in.
@@ -151,15 +186,19 @@ fn folder_of(path: &str) -> &str
 }
 
 /// Writes a new file to disk, and gives it the name of the old one.
-fn put<R: Files<File = File>>(rt: &R, new_path: &str, path: &str, text: &[u8]) -> io::Result<()> {
-    remove_left_over(rt, new_path)?;
-    let mut options = OpenOptions::new();
-    options.write(true).create_new(true);
-    options.mode(OWNER_ONLY);
-    let mut file = options.open(rt, new_path)?;
-    file.write_all(text)?;
-    keep_access(rt, path, &file)?;
-    file.sync_all()?;
+fn put<R: Files>(
+    rt: &R,
+    mut new: &File,
+    new_path: &str,
+    path: &str,
+    text: &[u8],
+) -> io::Result<()> {
+    // Until its end, or this process's, nobody takes it for one that an interrupted run left.
+    new.try_lock()?;
+    regular::make_private(new)?;
+    new.write_all(text)?;
+    keep_access(rt, path, new)?;
+    new.sync_all()?;
     fs::rename(rt, new_path, path)
 }
 
@@ -179,12 +218,4 @@ fn keep_access<R: Files>(rt: &R, path: &str, file: &File) -> io::Result<()> {
         return Ok(());
     }
     file.set_permissions(Permissions::from_mode(old.mode() & PERMISSION_BITS))
-}
-
-/// Removes the temporary file of an interrupted run.
-fn remove_left_over<R: Files>(rt: &R, new_path: &str) -> io::Result<()> {
-    match fs::remove_file(rt, new_path) {
-        Err(error) if error.kind() != ErrorKind::NotFound => Err(error),
-        _ => Ok(()),
-    }
 }

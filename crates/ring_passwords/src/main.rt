@@ -20,12 +20,14 @@ use crate::encode::{encode, iterations_of_text};
 use crate::failure::{Ended, FAILED, Failure, Step};
 use crate::file::LockedFile;
 use crate::listing::write_listing;
-use crate::password::read_password;
+use crate::password::{MAX_PASSWORD_LEN, read_password};
 use ring::cost::Meter;
-use ring_password_hash::Scheme;
 use ring_password_hash::salt::RANDOM_LEN;
+use ring_password_hash::{MAX_TEXT_LEN, Scheme};
 use ring_store::{DB_SALT_LEN, PasswordStore};
+use std::alloc::AllocError;
 use std::fs::File;
+use std::io::Read;
 use std::num::NonZeroU32;
 use std::process::ExitCode;
 use std::random::RandomSource;
@@ -43,9 +45,16 @@ mod failure;
 mod file;
 mod given;
 mod listing;
+mod lock;
 mod misuse;
 mod password;
+mod quoted;
+mod regular;
+mod temporary;
 mod word;
+
+/// The most bytes that `check` reads: a text, a password and their line feeds.
+const MAX_CHECKED_LEN: u64 = (MAX_TEXT_LEN + MAX_PASSWORD_LEN) as u64 + 2;
 
 /// The program's arguments, without its own name.
 fn arguments<R: Env + AllocGlobal>(rt: &R) -> Result<Vec<String>, Failure>
@@ -71,7 +80,7 @@ fn new_store<R: RandomSource + AllocGlobal>(
 }
 
 /// Refuses a name and a file for which no password can be right, before one is read.
-fn look<R: Files + AllocGlobal>(rt: &R, path: &str, name: &[u8]) -> Result<(), Failure>
+fn look<R: Files<File = File> + AllocGlobal>(rt: &R, path: &str, name: &[u8]) -> Result<(), Failure>
     ensures status { IfErr result (λ failure. status_of failure ≡ 2) }
 {
     change::require_name(name)?;
@@ -79,50 +88,79 @@ fn look<R: Files + AllocGlobal>(rt: &R, path: &str, name: &[u8]) -> Result<(), F
     Ok(())
 }
 
-/// Sets a name's password in a file, which need not be there.
-fn set<R: Files<File = File> + AllocGlobal + Clock + Input + RandomSource>(
+/// The password that standard input has.
+fn password_of<R: AllocGlobal + Input>(rt: &R) -> Result<Vec<u8>, Failure>
+    ensures status { IfErr result (λ failure. status_of failure ≡ 2) }
+{
+    // A byte more shows that a line is too long.
+    let mut reader = rt.reader().take(MAX_PASSWORD_LEN as u64 + 1);
+    read_password(rt.alloc(), &mut reader)
+}
+
+/// Sets a name's password in a file, which need not be there, and gives the store's iterations.
+fn set<R>(
     rt: &R,
     path: &str,
     name: &[u8],
     iterations: Option<NonZeroU32>,
-) -> Result<(), Failure>
+) -> Result<NonZeroU32, Failure>
+where
+    R: Files<File = File> + AllocGlobal + Clock + Clone + Drop + Input + RandomSource,
     ensures status { IfErr result (λ failure. status_of failure ≡ 2) }
 {
-    match look(rt, path, name) {
-        Err(Failure::NoFile) => {}
-        looked => looked?,
-    }
-    let password = read_password(rt.alloc(), &mut rt.reader())?;
+    let was_missing = is_missing(rt, path, name)?;
+    let password = password_of(rt)?;
     let file = LockedFile::new(rt, path)?;
     let mut store = match file.load(rt) {
-        Err(Failure::NoFile) => new_store(rt, iterations)?,
+        Err(failure) if change::is_made(was_missing, &failure) => new_store(rt, iterations)?,
         loaded => loaded?,
     };
     change::set(&mut store, name, &password, iterations, &mut Meter::new())?;
-    file.replace(rt, &store)
+    file.replace(rt, &store)?;
+    Ok(store.iterations())
+}
+
+/// Whether there is no file yet in which the name's password can be set.
+fn is_missing<R: Files<File = File> + AllocGlobal>(
+    rt: &R,
+    path: &str,
+    name: &[u8],
+) -> Result<bool, Failure>
+    ensures status { IfErr result (λ failure. status_of failure ≡ 2) }
+{
+    match look(rt, path, name) {
+        Ok(()) => {
+            file::require_replaceable(rt, path)?;
+            Ok(false)
+        }
+        Err(Failure::NoFile) => Ok(true),
+        Err(failure) => Err(failure),
+    }
 }
 
 /// Tests a name's password against a file.
-fn verify<R: Files + AllocGlobal + Input>(rt: &R, path: &str, name: &[u8]) -> Result<(), Failure>
+fn verify<R: Files<File = File> + AllocGlobal + Input>(
+    rt: &R,
+    path: &str,
+    name: &[u8],
+) -> Result<(), Failure>
     ensures status { IfErr result (λ failure. (status_of failure ≡ 2)
         ⊎ (failure ≡ Failure.WrongNameOrPassword)) }
 {
     look(rt, path, name)?;
-    let password = read_password(rt.alloc(), &mut rt.reader())?;
+    let password = password_of(rt)?;
     let store = file::load(rt, path)?;
     change::verify(&store, name, &password, &mut Meter::new())
 }
 
 /// Removes a name from a file.
-fn remove<R: Files<File = File> + AllocGlobal + Clock>(
-    rt: &R,
-    path: &str,
-    name: &[u8],
-) -> Result<(), Failure>
+fn remove<R>(rt: &R, path: &str, name: &[u8]) -> Result<(), Failure>
+where
+    R: Files<File = File> + AllocGlobal + Clock + Clone + Drop + RandomSource,
     ensures status { IfErr result (λ failure. (status_of failure ≡ 2)
         ⊎ (failure ≡ Failure.NoSuchName)) }
 {
-    file::require_regular(rt, path)?;
+    file::require_replaceable(rt, path)?;
     let file = LockedFile::new(rt, path)?;
     let mut store = file.load(rt)?;
     change::remove(&mut store, name)?;
@@ -130,7 +168,7 @@ fn remove<R: Files<File = File> + AllocGlobal + Clock>(
 }
 
 /// Writes the names of a file, a line each.
-fn list<R: Files + AllocGlobal + Print>(rt: &R, path: &str) -> Result<(), Failure>
+fn list<R: Files<File = File> + AllocGlobal + Print>(rt: &R, path: &str) -> Result<(), Failure>
     ensures status { IfErr result (λ failure. status_of failure ≡ 2) }
 {
     let store = file::load(rt, path)?;
@@ -145,7 +183,7 @@ fn write_encoded<R: AllocGlobal + Input + Print + RandomSource>(
 ) -> Result<(), Failure>
     ensures status { IfErr result (λ failure. status_of failure ≡ 2) }
 {
-    let password = read_password(rt.alloc(), &mut rt.reader())?;
+    let password = password_of(rt)?;
     let mut random = [0; RANDOM_LEN];
     rt.fill_bytes(&mut random)
         .map_err(|error| Failure::System(Step::Salt, error))?;
@@ -166,7 +204,8 @@ fn convert<R: AllocGlobal + Input + Print + RandomSource>(
         }
         Conversion::Check(given) => {
             let most = max_iterations(given);
-            check(rt.alloc(), &mut rt.reader(), most, &mut Meter::new())
+            let mut reader = rt.reader().take(MAX_CHECKED_LEN);
+            check(rt.alloc(), &mut reader, most, &mut Meter::new())
         }
     }
 }
@@ -181,7 +220,7 @@ fn tell<R: Print>(rt: &R, about: About) -> Result<(), Failure>
     ))
 }
 
-/// Warns of few iterations. Where standard error fails, the password is set all the same.
+/// Warns of a store's few iterations. Where standard error fails, the password is set all the same.
 fn warn_of_few<R: Eprint>(rt: &R) {
     let _ = eprintln!(rt;
         "passwords: warning: with fewer than {FEWEST_ITERATIONS} iterations, whoever reads the \
@@ -192,11 +231,12 @@ fn warn_of_few<R: Eprint>(rt: &R) {
 /// Does what is asked of a file.
 fn act<R>(rt: &R, path: &str, action: Action<'_>) -> Result<(), Failure>
 where
-    R: Files<File = File> + AllocGlobal + Clock + Eprint + Input + Print + RandomSource,
+    R: Files<File = File> + AllocGlobal + Clock + Clone + Drop + RandomSource,
+    R: Eprint + Input + Print,
 {
     match action {
         Action::Set(name, iterations) => {
-            set(rt, path, name.as_bytes(), iterations)?;
+            let iterations = set(rt, path, name.as_bytes(), iterations)?;
             if change::is_few(iterations) {
                 warn_of_few(rt);
             }
@@ -208,23 +248,36 @@ where
     }
 }
 
-/// Writes why a run ends without success, and gives its status. Where standard error fails too, the
-/// status still tells.
-fn fail<R: Eprint>(rt: &R, failure: &Failure, path: Option<&str>) -> ExitCode {
+/// Writes a message, behind the program's name. Where standard error fails too, the status still
+/// tells.
+fn show<R: AllocGlobal + Eprint>(rt: &R, line: Result<Vec<u8>, AllocError>) {
+    let line = match &line {
+        Ok(line) => String::from_utf8_lossy(rt.alloc(), line),
+        Err(error) => Err(*error),
+    };
+    let _ = match line {
+        Ok(line) => eprintln!(rt; "passwords: {line}"),
+        Err(error) => eprintln!(rt; "passwords: {}", Failure::from(error)),
+    };
+}
+
+/// Writes why a run ends without success, and gives its status.
+fn fail<R: AllocGlobal + Eprint>(rt: &R, failure: &Failure, path: Option<&str>) -> ExitCode {
     let ended = Ended { failure, path };
-    let _ = eprintln!(rt; "passwords: {ended}");
+    show(rt, ended.line(rt.alloc()));
     ExitCode::from(failure.status())
 }
 
 /// Does what the words ask for, or writes what is wrong with them.
 fn run<R>(rt: &R, words: &[String]) -> ExitCode
 where
-    R: Files<File = File> + AllocGlobal + Clock + Eprint + Input + Print + RandomSource,
+    R: Files<File = File> + AllocGlobal + Clock + Clone + Drop + RandomSource,
+    R: Eprint + Input + Print,
 {
     let asked = match asked_of(words) {
         Ok(asked) => asked,
         Err(misuse) => {
-            let _ = eprintln!(rt; "passwords: {misuse}");
+            show(rt, misuse.line(rt.alloc()));
             return ExitCode::from(FAILED);
         }
     };

@@ -1,7 +1,8 @@
 // SPDX-License-Identifier: ISC
 //! The lines of standard input: the password, and the text that it is tested against.
 
-ghost use Rattle.std.specs.Prelude.{◌≡◌, ◌≢◌, [], IfErr, IfOk, IfSome, IsErrOf, IsNone, OnOk};
+ghost use Rattle.std.specs.Prelude.{◌≡◌, ◌≢◌, ◌<◌, ◌≤◌, [], length};
+ghost use Rattle.std.specs.Prelude.{IfErr, IfOk, IfSome, IsErrOf, IsNone, OnOk};
 ghost use Rattle.std.specs.Io.BufRead.{DropsThrough, first_piece};
 ghost use Rattle.ring_passwords.specs.Failure.{IsNoPassword, IsNoText};
 
@@ -35,7 +36,10 @@ fn read_line<R: BufRead>(alloc: Global, reader: &mut R) -> io::Result<Option<Vec
     Ok(Some(line))
 }
 
-/// Reads the password, which is a line.
+/// The most bytes of a password.
+pub const MAX_PASSWORD_LEN: usize = 131_072;
+
+/// Reads the password, which is a line of at most 131,072 bytes.
 ///
 /// An empty line is a password of no byte. Where there is not even a line feed, there is no
 /// password.
@@ -43,11 +47,15 @@ pub fn read_password<R: BufRead>(alloc: Global, reader: &mut R) -> Result<Vec<u8
     ensures ok { IfOk result (λ password. IfSome (R.remaining reader.old)
         (λ bytes. password.items ≡ first_piece 10 bytes)) }
     ensures some { OnOk result (IfSome (R.remaining reader.old) (λ bytes. bytes ≢ [])) }
+    ensures within { IfOk result (λ password. length password.items ≤ 131_072) }
     ensures none { IsErrOf result Failure.NoPassword
         → IfSome (R.remaining reader.old) (λ bytes. bytes ≡ []) }
+    ensures too_long { IsErrOf result Failure.TooLong → IfSome (R.remaining reader.old)
+        (λ bytes. 131_072 < length (first_piece 10 bytes)) }
     ensures failure { IfErr result IsNoPassword }
 {
     match read_line(alloc, reader) {
+        Ok(Some(password)) if password.len() > MAX_PASSWORD_LEN => Err(Failure::TooLong),
         Ok(Some(password)) => Ok(password),
         Ok(None) => Err(Failure::NoPassword),
         Err(error) => Err(Failure::System(Step::ReadPassword, error)),

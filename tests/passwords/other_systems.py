@@ -2,6 +2,7 @@
 """Texts of `encode` and `check` beside Django, Werkzeug, passlib and PostgreSQL."""
 
 import password_hashes as hashes
+import peers
 from store import Case, bare
 from texts import OTHER_PASSWORD, SCHEMES, VERIFIED, check
 
@@ -23,7 +24,7 @@ class OtherSystems(Case):
 
     def assert_schemes_of(self, module):
         """A module and this program take each other's texts, of each of the module's schemes."""
-        if not hashes.python_with(module):
+        if not peers.python_with(module):
             self.skipTest(module)
         schemes = [scheme for scheme in SCHEMES if scheme.startswith(f"{module}-")]
         self.assertTrue(schemes)

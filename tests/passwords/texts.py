@@ -1,6 +1,7 @@
 # SPDX-License-Identifier: ISC
 """What `encode` writes and `check` takes: texts of passwords, as other systems keep them."""
 
+import functools
 import itertools
 import os
 import shlex
@@ -9,8 +10,8 @@ import time
 import password_hashes as hashes
 from run import rows_of
 from store import (
-    COMMANDS, DONE, FEW, GREATEST_COUNT, IS_FOLDER, LAUNCHER, NO_MEMORY, NO_PASSWORD, NO_SPACE,
-    ROOT, WARNED, Case, bad_count, bare, memory_limit, no_count, one_too_many,
+    COMMANDS, DONE, FEW, GREATEST_COUNT, IS_FOLDER, LAUNCHER, LONGEST, NO_MEMORY, NO_PASSWORD,
+    NO_SPACE, ROOT, TOO_LONG, WARNED, Case, bad_count, bare, memory_limit, no_count, one_too_many,
 )
 from terminal import AGAIN, NONE, READY, TESTED, Shell, Terminal
 
@@ -205,27 +206,40 @@ class Failing(Case):
         environment = self.new_preload().environment(COUNTED="getentropy", FAILED_CALL=1)
         found = bare(*self.ENCODE, line=b"x", env=environment)
         self.assertEqual(found, (2, f"cannot get random bytes: {NO_SPACE}", b""))
+
+    def test_lines_without_an_end(self):
+        """A line that is too long is refused with little memory, however much follows."""
         text, long = hashes.made("mosquitto", 1, b"salt", b"x"), b"x" * (72 << 20)
         rows = [
-            (self.ENCODE, long, "password"), (("check",), long, "text"),
-            (("check",), text + b"\n" + long, "password"),
+            (self.ENCODE, long, (*TOO_LONG, b"")), (("check",), long, NO_TEXT),
+            (("check",), text + b"\n" + long, (*TOO_LONG, b"")),
+            (("check",), text + b"\n" + b"y" * LONGEST, OTHER_PASSWORD),
+            (("check",), b"x" * 1_025 + b"\nx", NO_TEXT),
         ]
-        for words, line, what in rows:
+        for words, line, wanted in rows:
             found = bare(*words, line=line, preexec_fn=memory_limit(64 << 20))
-            self.assertEqual(found, (2, f"cannot read the {what}: {NO_MEMORY}", b""), words)
+            self.assertEqual(found, wanted, words)
+        for words, wanted in ((self.ENCODE, (*TOO_LONG, b"")), (("check",), NO_TEXT)):
+            with open("/dev/zero", "rb") as endless:
+                settings = {"preexec_fn": memory_limit(64 << 20), "timeout": 20}
+                self.assertEqual(bare(*words, stdin=endless, **settings), wanted, words)
 
-    def test_little_memory(self):
-        """Wherever memory ends for a line of megabytes, the status says so."""
-        ends, last = set(), None
-        for kilobytes in range(4_000, 60_000, 500):
-            limit = memory_limit(kilobytes << 10)
-            last = bare("check", line=b"x" * 3_000_000 + b"\nx", preexec_fn=limit)
-            if last == NO_TEXT:
+    def test_no_memory(self):
+        """Where one request for memory is refused, in turn, the status says so, and no text is
+        taken for right."""
+        preload, ends = self.new_preload(), set()
+        line = hashes.made("mosquitto", 1, b"salt", b"x") + b"\nx"
+        for request in itertools.count(1):
+            run = functools.partial(bare, "check", line=line)
+            last, _, made = preload.watched(run, REFUSED_REQUEST=request)
+            if made < request:
                 break
             ends.add(last)
-        wanting = {(2, f"cannot read the text: {NO_MEMORY}", b"")}
-        self.assertEqual({end for end in ends if "memory" in end[1]}, wanting)
-        self.assertEqual(last, NO_TEXT)
+        steps = ("arguments", "text", "password")
+        wanted = {(2, f"cannot read the {what}: {NO_MEMORY}", b"") for what in steps}
+        # Where the program is started, a refused request may change nothing.
+        self.assertEqual(ends - {VERIFIED, (2, NO_MEMORY, b"")}, wanted)
+        self.assertEqual(last, VERIFIED)
 
 
 def on_bare_terminal(folder, typed, *words):

@@ -268,6 +268,37 @@ class Texts(Launchers):
                 self.edit(folder, "one")
                 self.assertEqual(self.run_of(launcher, folder), (0, "text\n", ""))
 
+    def test_source_of_another_program(self):
+        """Sources of crates that a program does not stand on are none of its own."""
+        for launcher in CRATES:
+            with self.subTest(launcher=launcher):
+                folder = self.clone(launcher, "one")
+                self.write_texts(folder, "text")
+                for other in set(CRATES) - {launcher}:
+                    for crate in set(CRATES[other]) - set(CRATES[launcher]):
+                        (folder / "crates" / crate / "src/main.rt").write_text("two\n")
+                self.assertEqual(self.run_of(launcher, folder)[:2], (0, "text\n"))
+                self.assertEqual(self.builds(folder), [])
+
+    def test_compared_once(self):
+        """The sources are compared where something has changed since the last comparison."""
+        real = shutil.which("sha256sum")
+        self.new_command(
+            "sha256sum", f'#!/bin/sh\necho one >>{self.room}/compared\nexec {real} "$@"\n')
+        path = f"{self.room}/sha256sum.bin:{self.NO_KIT}"
+        for launcher in CRATES:
+            with self.subTest(launcher=launcher):
+                folder = self.clone(launcher, "one")
+                self.write_texts(folder, "text")
+                for edits in range(3):
+                    for _ in range(2):
+                        found = self.run_of(launcher, folder, path=path)
+                        self.assertEqual(found[:2], (0, "text\n"))
+                        self.assertEqual(len(self.builds(self.room, "compared")), edits + 1)
+                    self.edit(folder, "one")
+                self.assertEqual(self.builds(folder, "compiled"), ["text"])
+                (self.room / "compared").unlink()
+
     def test_source_that_is_gone(self):
         """A source that is missing is one that differs."""
         folder = self.clone("clone", "one")

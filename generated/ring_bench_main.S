@@ -10479,6 +10479,7 @@ ring.hmac.key.Key.new_counted:
 	push %r12
 	push %rbx
 	sub $0x4b8,%rsp
+	mov %r8,0x18(%rsp)
 	mov %rdi,%rbx
 	xorps %xmm0,%xmm0
 	movaps %xmm0,0x170(%rsp)
@@ -10495,15 +10496,15 @@ ring.hmac.key.Key.new_counted:
 	movl $0x0,0x1f0(%rsp)
 	movaps %xmm0,0xd0(%rsp)
 	movq $0x0,0xdf(%rsp)
-	movl $0x0,0x1c(%rsp)
-	movl $0x0,0x1f(%rsp)
-	xor %r9d,%r9d
+	movl $0x0,0x10(%rsp)
+	movl $0x0,0x13(%rsp)
+	xor %r8d,%r8d
 	cmp $0x2,%sil
-	setae %r9b
-	shl $0x6,%r9d
-	add $0x40,%r9
+	setae %r8b
+	shl $0x6,%r8d
+	add $0x40,%r8
 	movzbl %sil,%ebp
-	cmp %r9,%rcx
+	cmp %r8,%rcx
 	jbe L(51_0)
 	cmp $0x2,%sil
 	setb %al
@@ -10526,11 +10527,10 @@ ring.hmac.key.Key.new_counted:
 	movups %xmm0,0xa0(%rbx)
 	movups %xmm0,0xb0(%rbx)
 	movups %xmm0,0xc0(%rbx)
-	jmp L(51_10)
+	jmp L(51_8)
 L(51_0):
-	mov %r9,0xb8(%rsp)
+	mov %r8,0xb8(%rsp)
 	mov %esi,0xc(%rsp)
-	mov %r8,0x10(%rsp)
 	movaps %xmm0,0x460(%rsp)
 	movaps %xmm0,0x450(%rsp)
 	movaps %xmm0,0x440(%rsp)
@@ -10558,90 +10558,72 @@ L(51_0):
 	movaps 0x450(%rsp),%xmm0
 	movaps %xmm0,0x150(%rsp)
 	movaps 0x460(%rsp),%xmm0
-	jmp L(51_9)
+	jmp L(51_7)
 L(51_1):
-	mov %r9,0xb8(%rsp)
-	mov %r8,0x10(%rsp)
-	cmp $0x2,%sil
-	setae 0xb(%rsp)
+	mov %r8,0xb8(%rsp)
 	lea 0x0(,%rbp,4),%eax
 	lea L(switch.table.ring.hmac.key.Key.new_counted.212)(%rip),%rdi
-	mov (%rax,%rdi,1),%edi
+	mov (%rax,%rdi,1),%r15d
 	lea L(switch.table.ring.hmac.key.Key.new_counted.213)(%rip),%r8
-	mov (%rax,%r8,1),%eax
-	lea 0x0(,%rbp,8),%r8d
-	lea L(switch.table.ring.hmac.key.Key.new_counted.214)(%rip),%r9
-	mov (%r8,%r9,1),%r9
-	lea L(switch.table.ring.hmac.key.Key.new_counted.215)(%rip),%r10
-	mov (%r8,%r10,1),%r10
-	lea L(switch.table.ring.hmac.key.Key.new_counted.216)(%rip),%r11
-	mov (%r8,%r11,1),%r11
-	lea L(switch.table.ring.hmac.key.Key.new_counted.217)(%rip),%r14
-	mov (%r8,%r14,1),%r14
-	lea L(switch.table.ring.hmac.key.Key.new_counted.218)(%rip),%r12
-	mov (%r8,%r12,1),%r12
-	lea L(switch.table.ring.hmac.key.Key.new_counted.219)(%rip),%r13
-	mov (%r8,%r13,1),%r13
+	mov (%rax,%r8,1),%edi
+	lea 0x0(,%rbp,8),%eax
+	lea L(switch.table.ring.hmac.key.Key.new_counted.214)(%rip),%r8
+	mov (%rax,%r8,1),%r8
+	lea L(switch.table.ring.hmac.key.Key.new_counted.215)(%rip),%r9
+	mov (%rax,%r9,1),%r9
+	lea L(switch.table.ring.hmac.key.Key.new_counted.216)(%rip),%r10
+	mov (%rax,%r10,1),%r10
+	lea L(switch.table.ring.hmac.key.Key.new_counted.217)(%rip),%r11
+	mov (%rax,%r11,1),%r11
+	lea L(switch.table.ring.hmac.key.Key.new_counted.218)(%rip),%r14
+	mov (%rax,%r14,1),%r14
+	lea L(switch.table.ring.hmac.key.Key.new_counted.219)(%rip),%r12
+	mov (%rax,%r12,1),%r12
+	lea L(switch.table.ring.hmac.key.Key.new_counted.220)(%rip),%r13
+	mov (%rax,%r13,1),%r13
 	mov %esi,0xc(%rsp)
-	mov %rbp,%r15
-	lea L(switch.table.ring.hmac.key.Key.new_counted.220)(%rip),%rbp
-	mov (%r8,%rbp,1),%rbp
-	lea L(switch.table.ring.hmac.key.Key.new_counted.221)(%rip),%rsi
-	mov (%r8,%rsi,1),%rsi
+	mov %rbp,%rsi
+	lea L(switch.table.ring.hmac.key.Key.new_counted.221)(%rip),%rbp
+	mov (%rax,%rbp,1),%rbp
 	movaps %xmm0,0x250(%rsp)
-	mov %edi,0x260(%rsp)
-	mov %eax,0x264(%rsp)
-	mov %r9,0x268(%rsp)
-	mov %r10,0x270(%rsp)
-	mov %r11,0x278(%rsp)
-	mov %r14,0x280(%rsp)
-	mov %r12,0x288(%rsp)
-	mov %r13,0x290(%rsp)
-	mov %rbp,0x298(%rsp)
-	mov 0xc(%rsp),%edi
-	mov %rsi,0x2a0(%rsp)
-	mov %dil,0x2a8(%rsp)
-	cmp $0x80,%rcx
-	setb %sil
-	xor %eax,%eax
-	test %sil,0xb(%rsp)
-	jne L(51_2)
+	mov %r15d,0x260(%rsp)
+	mov %edi,0x264(%rsp)
+	mov %r8,0x268(%rsp)
+	mov %r9,0x270(%rsp)
+	mov %r10,0x278(%rsp)
+	mov %r11,0x280(%rsp)
+	mov %r14,0x288(%rsp)
+	mov %r12,0x290(%rsp)
+	mov %r13,0x298(%rsp)
+	mov %rbp,0x2a0(%rsp)
+	mov %rsi,%rbp
+	mov 0xc(%rsp),%eax
+	mov %al,0x2a8(%rsp)
+	mov %ebp,%edi
 	lea 0x260(%rsp),%rsi
-	mov %r15d,%edi
-	mov %rcx,%r13
-	mov 0x10(%rsp),%r12
+	mov %rcx,%r14
+	mov 0x18(%rsp),%r12
 	mov %r12,%r8
 	call ring.digest.block_context.run_blocks
-	xorps %xmm0,%xmm0
-	mov %rdx,%rcx
-	sub %rdx,%r13
+	sub %rdx,%r14
 	mov 0x258(%rsp),%r8
-	add 0x250(%rsp),%r13
+	add 0x250(%rsp),%r14
 	adc $0x0,%r8
-	mov $0xffffffffffffffff,%rsi
-	cmovb %rsi,%r8
-	mov %rax,%rdx
-	mov %r13,%rax
-	cmovb %rsi,%rax
-	mov %rax,0x250(%rsp)
+	mov $0xffffffffffffffff,%rcx
+	cmovb %rcx,%r8
+	cmovb %rcx,%r14
+	mov %r14,0x250(%rsp)
 	mov %r8,0x258(%rsp)
-	movzbl 0x2a8(%rsp),%esi
-	jmp L(51_3)
-L(51_2):
-	mov %edi,%esi
-	xor %r8d,%r8d
-	mov 0x10(%rsp),%r12
-L(51_3):
-	mov %r15,%rbp
+	movzbl 0x2a8(%rsp),%r13d
+	xorps %xmm0,%xmm0
 	movaps %xmm0,0x3b0(%rsp)
 	movaps %xmm0,0x3c0(%rsp)
 	movaps %xmm0,0x3d0(%rsp)
 	movaps %xmm0,0x3e0(%rsp)
-	add %rcx,%rax
+	add %rdx,%r14
 	adc $0x0,%r8
-	mov $0xffffffffffffffff,%rdi
-	cmovb %rdi,%rax
-	cmovb %rdi,%r8
+	cmovb %rcx,%r8
+	cmovb %rcx,%r14
 	movaps %xmm0,0x2b0(%rsp)
 	movaps %xmm0,0x2c0(%rsp)
 	movaps %xmm0,0x2d0(%rsp)
@@ -10658,17 +10640,15 @@ L(51_3):
 	movaps %xmm0,0x380(%rsp)
 	movaps %xmm0,0x390(%rsp)
 	movaps %xmm0,0x3a0(%rsp)
-	movzbl %sil,%r13d
-	lea 0x2b0(%rsp),%r14
+	lea 0x2b0(%rsp),%r15
 	mov %r13d,%edi
-	mov %rdx,%rsi
-	mov %rcx,%rdx
-	mov %rax,%rcx
-	mov %r14,%r9
+	mov %rax,%rsi
+	mov %r14,%rcx
+	mov %r15,%r9
 	call ring.digest.block_context.write_tail
 	lea 0x3b0(%rsp),%rdi
 	lea 0x250(%rsp),%rsi
-	mov %r14,%rdx
+	mov %r15,%rdx
 	mov %rax,%rcx
 	mov %r12,%r8
 	call ring.digest.block_context.BlockContext.output_after
@@ -10685,29 +10665,29 @@ L(51_3):
 	movslq (%rax,%r13,4),%rcx
 	add %rax,%rcx
 	jmp *%rcx
-L(51_4):
+L(51_2):
 	lea 0x2d0(%rsp),%rdi
-	mov $0x20,%r13d
-	jmp L(51_8)
-L(51_5):
+	mov $0x20,%r14d
+	jmp L(51_6)
+L(51_3):
 	lea 0x2f0(%rsp),%rdi
-	mov $0x40,%r13d
-	jmp L(51_8)
-L(51_6):
+	mov $0x40,%r14d
+	jmp L(51_6)
+L(51_4):
 	lea 0x2c4(%rsp),%rdi
-	mov $0x14,%r13d
-	jmp L(51_8)
-L(51_7):
+	mov $0x14,%r14d
+	jmp L(51_6)
+L(51_5):
 	lea 0x2e0(%rsp),%rdi
-	mov $0x30,%r13d
-L(51_8):
+	mov $0x30,%r14d
+L(51_6):
 	mov $0x80,%edx
-	sub %r13,%rdx
+	sub %r14,%rdx
 	xor %esi,%esi
 	call memset
 	lea 0x2b0(%rsp),%rdi
 	lea 0x470(%rsp),%rsi
-	mov %r13,%rdx
+	mov %r14,%rdx
 	call memcpy
 	movups 0x320(%rsp),%xmm0
 	movaps %xmm0,0xa0(%rsp)
@@ -10732,7 +10712,7 @@ L(51_8):
 	movaps %xmm3,0x130(%rsp)
 	movaps %xmm2,0x140(%rsp)
 	movaps %xmm1,0x150(%rsp)
-L(51_9):
+L(51_7):
 	movaps %xmm0,0x160(%rsp)
 	xorps %xmm0,%xmm0
 	movaps %xmm0,0x80(%rsp)
@@ -10788,9 +10768,9 @@ L(51_9):
 	lea L(switch.table.ring.hmac.key.Key.new_counted.219)(%rip),%rcx
 	mov (%rax,%rcx,1),%r14
 	lea L(switch.table.ring.hmac.key.Key.new_counted.220)(%rip),%rcx
-	mov (%rax,%rcx,1),%r12
-	lea L(switch.table.ring.hmac.key.Key.new_counted.221)(%rip),%rcx
 	mov (%rax,%rcx,1),%r13
+	lea L(switch.table.ring.hmac.key.Key.new_counted.221)(%rip),%rcx
+	mov (%rax,%rcx,1),%r12
 	movaps %xmm3,0x30(%rsp)
 	lea 0x40(%rsp),%rsi
 	mov %edx,0x40(%rsp)
@@ -10801,14 +10781,14 @@ L(51_9):
 	mov %r15,0x60(%rsp)
 	mov %rbp,0x68(%rsp)
 	mov %r14,0x70(%rsp)
-	mov %r12,0x78(%rsp)
-	mov %r13,0x80(%rsp)
+	mov %r13,0x78(%rsp)
+	mov %r12,0x80(%rsp)
 	mov 0xc(%rsp),%eax
 	mov %al,0x88(%rsp)
 	lea 0x2b0(%rsp),%rdx
 	mov 0xb8(%rsp),%r15
 	mov %r15,%rcx
-	mov 0x10(%rsp),%r8
+	mov 0x18(%rsp),%r8
 	call ring.digest.block_context.run_blocks
 	mov %r15,%rax
 	sub %rdx,%rax
@@ -10851,8 +10831,8 @@ L(51_9):
 	mov %rax,0x60(%rsp)
 	mov %rbp,0x68(%rsp)
 	mov %r14,0x70(%rsp)
-	mov %r12,0x78(%rsp)
-	mov %r13,0x80(%rsp)
+	mov %r13,0x78(%rsp)
+	mov %r12,0x80(%rsp)
 	movaps %xmm0,0x200(%rsp)
 	movaps %xmm1,0x210(%rsp)
 	movaps %xmm2,0x220(%rsp)
@@ -10887,7 +10867,7 @@ L(51_9):
 	lea 0x2b0(%rsp),%rdx
 	mov 0x1a8(%rsp),%rdi
 	mov %r15,%rcx
-	mov 0x10(%rsp),%r8
+	mov 0x18(%rsp),%r8
 	call ring.digest.block_context.run_blocks
 	sub %rdx,%r15
 	mov 0x38(%rsp),%rax
@@ -10951,11 +10931,11 @@ L(51_9):
 	mov 0x1f0(%rsp),%ecx
 	mov %ecx,0xc4(%rbx)
 	mov %al,0xc8(%rbx)
-	mov 0x1c(%rsp),%eax
-	mov 0x1f(%rsp),%ecx
+	mov 0x10(%rsp),%eax
+	mov 0x13(%rsp),%ecx
 	mov %ecx,0xcc(%rbx)
 	mov %eax,0xc9(%rbx)
-L(51_10):
+L(51_8):
 	add $0x4b8,%rsp
 	pop %rbx
 	pop %r12
@@ -10964,17 +10944,17 @@ L(51_10):
 	pop %r15
 	pop %rbp
 	ret
-	SIZE(ring.hmac.key.Key.new_counted, 2844)
+	SIZE(ring.hmac.key.Key.new_counted, 2775)
 
 	CONSTANTS(ring.hmac.key.Key.new_counted,"a",%progbits)
 NAMED(ring.hmac.key.Key.new_counted.tables)
 	.p2align 2
 L(53_0):
-	.long L(51_6)-L(53_0)
 	.long L(51_4)-L(53_0)
-	.long L(51_7)-L(53_0)
+	.long L(51_2)-L(53_0)
 	.long L(51_5)-L(53_0)
-	.long L(51_4)-L(53_0)
+	.long L(51_3)-L(53_0)
+	.long L(51_2)-L(53_0)
 
 	CODE(ring.hmac.context.Context.sign_counted)
 	.p2align 4
@@ -12054,28 +12034,28 @@ L(69_0):
 	jmp ring.pbkdf2.rounds.xor_iterates.16ac977ec51d9eb8
 L(69_1):
 	cmp $0x4,%rcx
-	jne ring.pbkdf2.rounds.xor_iterates.75a9e949607ec26b
+	jne ring.pbkdf2.rounds.xor_iterates.11b93063d9b91bfd
 	mov $0x4,%ecx
-	jmp ring.pbkdf2.rounds.xor_iterates.75a9e949607ec26b
+	jmp ring.pbkdf2.rounds.xor_iterates.11b93063d9b91bfd
 L(69_2):
 	cmp $0x4,%rcx
-	jne ring.pbkdf2.rounds.xor_iterates.b5482f39ec2d693e
+	jne ring.pbkdf2.rounds.xor_iterates.65439c7a7c9165bd
 	mov $0x4,%ecx
-	jmp ring.pbkdf2.rounds.xor_iterates.b5482f39ec2d693e
+	jmp ring.pbkdf2.rounds.xor_iterates.65439c7a7c9165bd
 L(69_3):
 	cmp $0x4,%rcx
-	jne ring.pbkdf2.rounds.xor_iterates.b61cb17ac8735031
+	jne ring.pbkdf2.rounds.xor_iterates.7c45597eb254ba31
 	mov $0x4,%ecx
-	jmp ring.pbkdf2.rounds.xor_iterates.b61cb17ac8735031
+	jmp ring.pbkdf2.rounds.xor_iterates.7c45597eb254ba31
 L(69_4):
 	cmp $0x4,%rcx
 	jne L(69_6)
 	mov %r8,%rcx
-	jmp ring.pbkdf2.rounds.xor_iterates.1e448475c956e05b
+	jmp ring.pbkdf2.rounds.xor_iterates.48b436b273225754
 L(69_5):
 	jmp ring.pbkdf2.rounds.xor_iterates.524f7a1c66a8a9c8
 L(69_6):
-	jmp ring.pbkdf2.rounds.xor_iterates.2726f9b3b9a98322
+	jmp ring.pbkdf2.rounds.xor_iterates.f13793412d1cad6f
 	SIZE(ring.pbkdf2.rounds.write_rounds.128, 117)
 
 	CONSTANTS(ring.pbkdf2.rounds.write_rounds.128,"a",%progbits)
@@ -14673,11 +14653,11 @@ L(78_4):
 	ud2
 	SIZE(ring.pbkdf2.rounds.xor_iterates.524f7a1c66a8a9c8, 1088)
 
-	CODE(ring.pbkdf2.rounds.xor_iterates.1e448475c956e05b)
+	CODE(ring.pbkdf2.rounds.xor_iterates.48b436b273225754)
 	.p2align 4
-/* ring::pbkdf2::rounds::xor_iterates::<#1e448475c956e05b> */
-	TYPE(ring.pbkdf2.rounds.xor_iterates.1e448475c956e05b, %function)
-ring.pbkdf2.rounds.xor_iterates.1e448475c956e05b:
+/* ring::pbkdf2::rounds::xor_iterates::<#48b436b273225754> */
+	TYPE(ring.pbkdf2.rounds.xor_iterates.48b436b273225754, %function)
+ring.pbkdf2.rounds.xor_iterates.48b436b273225754:
 	push %rbp
 	push %r15
 	push %r14
@@ -14950,7 +14930,7 @@ L(80_1):
 	pop %r15
 	pop %rbp
 	ret
-	SIZE(ring.pbkdf2.rounds.xor_iterates.1e448475c956e05b, 1711)
+	SIZE(ring.pbkdf2.rounds.xor_iterates.48b436b273225754, 1711)
 
 	CODE(ring_core.digest.sha2.lanes.block_of_words_lanes_counted.302711f8c02ab38b)
 	.p2align 4
@@ -17129,11 +17109,11 @@ L(static.30):
 	SIZE(L(static.12), 4)
 	SIZE(L(static.30), 4)
 
-	CODE(ring.pbkdf2.rounds.xor_iterates.2726f9b3b9a98322)
+	CODE(ring.pbkdf2.rounds.xor_iterates.f13793412d1cad6f)
 	.p2align 4
-/* ring::pbkdf2::rounds::xor_iterates::<#2726f9b3b9a98322> */
-	TYPE(ring.pbkdf2.rounds.xor_iterates.2726f9b3b9a98322, %function)
-ring.pbkdf2.rounds.xor_iterates.2726f9b3b9a98322:
+/* ring::pbkdf2::rounds::xor_iterates::<#f13793412d1cad6f> */
+	TYPE(ring.pbkdf2.rounds.xor_iterates.f13793412d1cad6f, %function)
+ring.pbkdf2.rounds.xor_iterates.f13793412d1cad6f:
 	push %rbp
 	push %r15
 	push %r14
@@ -17352,7 +17332,7 @@ L(85_3):
 	ret
 L(85_4):
 	ud2
-	SIZE(ring.pbkdf2.rounds.xor_iterates.2726f9b3b9a98322, 1066)
+	SIZE(ring.pbkdf2.rounds.xor_iterates.f13793412d1cad6f, 1066)
 
 	CONSTANTS(cst8,"aM",%progbits,8)
 	.p2align 3
@@ -17367,11 +17347,11 @@ L(static.27):
 	.quad 0x686374616d73696d
 	SIZE(L(static.27), 8)
 
-	CODE(ring.pbkdf2.rounds.xor_iterates.b5482f39ec2d693e)
+	CODE(ring.pbkdf2.rounds.xor_iterates.65439c7a7c9165bd)
 	.p2align 4
-/* ring::pbkdf2::rounds::xor_iterates::<#b5482f39ec2d693e> */
-	TYPE(ring.pbkdf2.rounds.xor_iterates.b5482f39ec2d693e, %function)
-ring.pbkdf2.rounds.xor_iterates.b5482f39ec2d693e:
+/* ring::pbkdf2::rounds::xor_iterates::<#65439c7a7c9165bd> */
+	TYPE(ring.pbkdf2.rounds.xor_iterates.65439c7a7c9165bd, %function)
+ring.pbkdf2.rounds.xor_iterates.65439c7a7c9165bd:
 	push %rbp
 	push %r15
 	push %r14
@@ -17612,13 +17592,13 @@ L(88_2):
 	ret
 L(88_3):
 	ud2
-	SIZE(ring.pbkdf2.rounds.xor_iterates.b5482f39ec2d693e, 1377)
+	SIZE(ring.pbkdf2.rounds.xor_iterates.65439c7a7c9165bd, 1377)
 
-	CODE(ring.pbkdf2.rounds.xor_iterates.b61cb17ac8735031)
+	CODE(ring.pbkdf2.rounds.xor_iterates.7c45597eb254ba31)
 	.p2align 4
-/* ring::pbkdf2::rounds::xor_iterates::<#b61cb17ac8735031> */
-	TYPE(ring.pbkdf2.rounds.xor_iterates.b61cb17ac8735031, %function)
-ring.pbkdf2.rounds.xor_iterates.b61cb17ac8735031:
+/* ring::pbkdf2::rounds::xor_iterates::<#7c45597eb254ba31> */
+	TYPE(ring.pbkdf2.rounds.xor_iterates.7c45597eb254ba31, %function)
+ring.pbkdf2.rounds.xor_iterates.7c45597eb254ba31:
 	push %rbp
 	push %r15
 	push %r14
@@ -17861,13 +17841,13 @@ L(90_2):
 	ret
 L(90_3):
 	ud2
-	SIZE(ring.pbkdf2.rounds.xor_iterates.b61cb17ac8735031, 1411)
+	SIZE(ring.pbkdf2.rounds.xor_iterates.7c45597eb254ba31, 1411)
 
-	CODE(ring.pbkdf2.rounds.xor_iterates.75a9e949607ec26b)
+	CODE(ring.pbkdf2.rounds.xor_iterates.11b93063d9b91bfd)
 	.p2align 4
-/* ring::pbkdf2::rounds::xor_iterates::<#75a9e949607ec26b> */
-	TYPE(ring.pbkdf2.rounds.xor_iterates.75a9e949607ec26b, %function)
-ring.pbkdf2.rounds.xor_iterates.75a9e949607ec26b:
+/* ring::pbkdf2::rounds::xor_iterates::<#11b93063d9b91bfd> */
+	TYPE(ring.pbkdf2.rounds.xor_iterates.11b93063d9b91bfd, %function)
+ring.pbkdf2.rounds.xor_iterates.11b93063d9b91bfd:
 	push %rbp
 	push %r15
 	push %r14
@@ -18103,7 +18083,7 @@ L(92_2):
 	ret
 L(92_3):
 	ud2
-	SIZE(ring.pbkdf2.rounds.xor_iterates.75a9e949607ec26b, 1342)
+	SIZE(ring.pbkdf2.rounds.xor_iterates.11b93063d9b91bfd, 1342)
 
 	CODE(ring_bench.answers.with_count.40a73cb1e87492e9)
 	.p2align 4

@@ -20,7 +20,7 @@ okm_info_len o = length (joined o.info.now)
 
 -- the number of bytes that was asked for
 abbrev pub okm_asked_len : {L : Type 0} {g : Ghosts L} → Okm L g → ℕ
-okm_asked_len o = o.asked_len
+okm_asked_len o = o.len_cached
 
 -- the value that said so
 abbrev pub asked_for : {L : Type 0} {g : Ghosts L} → Okm L g → L
@@ -31,7 +31,7 @@ pub record OkmStandsFor {L : Type 0} {g : Ghosts L} (o : Okm L g) (k info : List
     (n : ℕ) : Type 0 where
   pub prk : PrkStandsFor o.prk.now k
   pub pieces : info ≡ joined o.info.now
-  pub asked_len : n ≡ o.asked_len
+  pub asked_len : n ≡ o.len_cached
 
 -- n bytes are filled: exactly the number that was asked for, and every round is within the limit
 pub record CanFill (a : Algorithm) (info_len asked_len n : ℕ) : Type 0 where

@@ -5,8 +5,9 @@
 //! does nothing: a caller's proof cites it.
 
 ghost use Rattle.std.specs.Prelude.{◌≡◌, ◌↔◌, ℕ, ◌+◌, ◌-◌, ◌^◌, ◌<◌, ◌≤◌, List, [], ◌++◌, length};
-ghost use Rattle.std.specs.Prelude.{replicate, take, IfOk, IsErr, None, OnErr, OnOk, Some};
-ghost use Rattle.ring.specs.Prelude.{Algorithm, Context, HasLimits, IsDigest};
+ghost use Rattle.std.specs.Prelude.{replicate, take, IfOk, IsErr, IsOk, None, OnErr, OnOk, Result};
+ghost use Rattle.std.specs.Prelude.{Some};
+ghost use Rattle.ring.specs.Prelude.{Algorithm, Context, Counts, HasLimits, IsDigest};
 ghost use Rattle.ring.specs.Prelude.{IsNoContext, IsNoKey, IsNoTagContext};
 ghost use Rattle.ring.specs.Prelude.{IsTag, Key, KeyStandsFor};
 ghost use Rattle.ring.specs.Prelude.{RawContext, RawKey, RawKeyStandsFor, RawStandsFor};
@@ -19,6 +20,7 @@ ghost use Rattle.ring.specs.Prelude.{output_len, padded_blocks, raised, raw_dige
 ghost use Rattle.ring.specs.Prelude.{raw_tag_under, raw_tag_with, signing_algorithm, tag_algorithm};
 ghost use Rattle.ring.specs.Prelude.{tag_under, tag_with};
 ghost use Rattle.ring.specs.declared.hmac.context.Context.{Context as TagContext};
+ghost use Rattle.ring_core.specs.declared.error.Unspecified.{Unspecified as Refusal};
 ghost use Rattle.std.specs.Borrow.{Bor};
 
 use crate::digest::{Algorithm, Context, Digest};
@@ -117,10 +119,12 @@ pub fn shorter_output_is_a_front()
         → okm a k info m ≡ take m (okm a k info n) }
 {}
 
-/// Info pieces that join to the same bytes give the same output of HKDF (RFC 5869, section 2.3).
+/// Info pieces that join to the same bytes give the same output of HKDF, `out` and `value` (RFC
+/// 5869, section 2.3).
 pub fn info_is_its_joined_bytes()
-    ensures { (a : Algorithm) (k : List ℕ) (pieces others : List (Bor (List ℕ))) (n : ℕ)
-        → joined pieces ≡ joined others → okm a k (joined pieces) n ≡ okm a k (joined others) n }
+    ensures { (a : Algorithm) (k out value : List ℕ) (pieces others : List (Bor (List ℕ))) (n : ℕ)
+        → joined pieces ≡ joined others → out ≡ okm a k (joined pieces) n
+        → value ≡ okm a k (joined others) n → out ≡ value }
 {}
 
 /// An empty salt extracts as one of as many zeros as a digest has bytes (RFC 5869, section 2.2).
@@ -136,25 +140,28 @@ pub fn shorter_derivation_is_a_front()
         → dk a p s c m ≡ take m (dk a p s c n) }
 {}
 
-/// The comparison of two byte slices is symmetric, in its answer and in the number of pairs that it
-/// compares.
+/// The comparison of two byte slices is symmetric, in its answers `one` and `other`, and in the
+/// number of pairs that it compares.
 pub fn comparison_is_symmetric()
-    ensures answer { (a b : List ℕ) → (a ≡ b) ↔ (b ≡ a) }
+    ensures answer { (a b : List ℕ) (one other : Result (Unit {0}) Refusal) → (IsOk one ↔ (a ≡ b))
+        → (IsOk other ↔ (b ≡ a)) → (IsOk one ↔ IsOk other) }
     ensures cost { (a b : List ℕ)
         → compared_pairs (length a) (length b) ≡ compared_pairs (length b) (length a) }
 {}
 
 /// The number of blocks of PBKDF2 follows from the algorithm, the lengths and the iteration count
-/// alone (RFC 2898, section 5.2): it tells nothing about the bytes.
+/// alone (RFC 2898, section 5.2): the meter, which then is at `one` or at `other`, tells nothing
+/// about the bytes.
 pub fn derivation_cost_is_of_lengths()
-    ensures { (a : Algorithm) (p q s t out value : List ℕ) (c : ℕ) → length p ≡ length q
-        → length s ≡ length t → length out ≡ length value
-        → derive_blocks a (length p) (length s) c (length out)
-        ≡ derive_blocks a (length q) (length t) c (length value) }
+    ensures { (a : Algorithm) (p q s t out value : List ℕ) (c : ℕ) (old one other : Counts)
+        → length p ≡ length q → length s ≡ length t → length out ≡ length value
+        → one ≡ raised old (derive_blocks a (length p) (length s) c (length out)) 0
+        → other ≡ raised old (derive_blocks a (length q) (length t) c (length value)) 0
+        → one ≡ other }
 {}
 
-/// The limits of digests, tags, outputs, infos and derivations under each algorithm, in bytes: by the
-/// longest message, a block and a digest (FIPS 180-4, section 1, figure 1).
+/// The limits of digests, tags, outputs, infos and derivations under each algorithm, in bytes: by
+/// the longest message, a block and a digest (FIPS 180-4, section 1, figure 1).
 pub fn limits_in_bytes()
     ensures sha1 { HasLimits SHA1_FOR_LEGACY_USE_ONLY (2 ^ 61 - 1) 64 20 }
     ensures sha256 { HasLimits SHA256 (2 ^ 61 - 1) 64 32 }

@@ -11,13 +11,13 @@
 //! | `lanes` | such a window of words in lanes | several | one operation serves all |
 //! | `by_instruction` | by fours, between the rounds | one message | 2 or 4 rounds at once |
 //!
-//! SHA-512 has no kernel `by_instruction`. A window holds the last sixteen words of a schedule, word
-//! `t` in slot `t` modulo 16. That of one block gets two words at a time, in the two lanes of a
-//! vector.
+//! SHA-512 has no kernel `by_instruction`. A window holds the last sixteen words of a schedule,
+//! word `t` in slot `t` modulo 16. That of one block gets two words at a time, in the two lanes of
+//! a vector.
 //!
-//! The functions with the plain names, such as `sha2::block_data_order_64`, run the kernel `window`.
-//! Those whose names have `fastest` are what `ring` calls. They run the kernel that `kernel::fastest`
-//! chooses:
+//! The functions with the plain names, such as `sha2::block_data_order_64`, run the kernel
+//! `window`. Those whose names have `fastest` are what `ring` calls. They run the kernel that
+//! `kernel::fastest` chooses:
 //!
 //! - `by_instruction`, in a build that has a processor's `instructions`, on such a processor;
 //! - else `window`, in the module for JavaScript, which has no vectors;

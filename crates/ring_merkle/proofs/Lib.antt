@@ -12,4 +12,5 @@ pub mod Hashes
 pub mod Begun
 pub mod Collisions
 pub mod Rises
+pub mod Made
 pub mod Joins

@@ -3,63 +3,94 @@
 
 ghost use Rattle.std.specs.Prelude.{◌≡◌, ◌+◌, ◌^◌, ◌<◌, ◌≤◌, [], ◌∷◌, ◌++◌, ◌-◌, ℕ, List, length};
 ghost use Rattle.std.specs.Prelude.{◌↔◌, drop, take, map, Bool, cond, false, true, IfOk, IsOk};
-ghost use Rattle.std.specs.Prelude.{IsTrue};
-ghost use Rattle.ring_merkle.specs.Consistency.{proof_of, subproof_of};
-ghost use Rattle.ring_merkle.specs.Inclusion.{path_of};
-ghost use Rattle.ring_merkle.specs.Tree.{leaf_hash, mth, node_hash, sha256};
+ghost use Rattle.std.specs.Prelude.{IsTrue, OnErr, OnOk, get_or};
+ghost use Rattle.ring.specs.Prelude.{raised};
+ghost use Rattle.ring_merkle.specs.Consistency.{IsConsistent, proof_of, subproof_of};
+ghost use Rattle.ring_merkle.specs.Cost.{consistency_blocks, consistency_path_blocks};
+ghost use Rattle.ring_merkle.specs.Cost.{inclusion_blocks, inclusion_path_blocks, tree_blocks};
+ghost use Rattle.ring_merkle.specs.Inclusion.{IsIncluded, path_of};
+ghost use Rattle.ring_merkle.specs.Tree.{leaf_hash, mth, node_hash, root_of, sha256};
 
-use crate::consistency::verify_consistency;
+use crate::consistency::verify_consistency_counted;
 use crate::hash::HASH_LEN;
-use crate::inclusion::verify_inclusion;
-use crate::paths::{consistency_path, inclusion_path, tree_root};
+use crate::inclusion::verify_inclusion_counted;
+use crate::paths::{consistency_path_counted, inclusion_path_counted, tree_root_counted};
+use ring::cost::Meter;
 use ring::error::Unspecified;
 
 /// Makes in `out` the path of the leaf at `index` of `leaves`, and returns whether the verification
-/// accepts it: it does.
+/// accepts it: it does. `meter` counts the blocks of the path, of the tree's root and of the
+/// verification.
 ///
-/// Refused as [`inclusion_path`] is.
+/// Refused as [`inclusion_path`](crate::inclusion_path) is. `out` and `meter` are then as they
+/// were.
 pub fn made_inclusion_path_is_accepted(
     leaves: &[[u8; HASH_LEN]],
     index: usize,
     out: &mut [[u8; HASH_LEN]],
+    meter: &mut Meter,
 ) -> Result<bool, Unspecified>
     ensures ok { IfOk result (λ yes. IsTrue yes) }
+    ensures path { OnOk result (out.new
+        ≡ path_of index leaves.now ++ drop (length (path_of index leaves.now)) out.old) }
+    ensures accepted { OnOk result (IsIncluded (get_or leaves.now index []) index
+        (length leaves.now) (path_of index leaves.now) (root_of leaves.now)) }
     ensures refused { IsOk result ↔ ((index < length leaves.now)
         × (length (path_of index leaves.now) ≤ length out.old)) }
+    ensures unchanged { OnErr result ((out.new ≡ out.old) × (meter.new ≡ meter.old)) }
+    ensures cost { let path = path_of index leaves.now in let n = length leaves.now in
+        OnOk result (meter.new ≡ raised meter.old (inclusion_path_blocks n (length path)
+        + tree_blocks n + inclusion_blocks index n path) 0) }
 {
-    let len = inclusion_path(leaves, index, out)?;
-    let root = tree_root(leaves);
-    Ok(verify_inclusion(
+    let len = inclusion_path_counted(leaves, index, out, meter)?;
+    let root = tree_root_counted(leaves, meter);
+    Ok(verify_inclusion_counted(
         &leaves[index],
         index as u64,
         leaves.len() as u64,
         &out[..len],
         &root,
+        meter,
     ))
 }
 
 /// Makes in `out` the proof that the first `first_size` of `leaves` are the beginning, and returns
-/// whether the verification accepts it: it does.
+/// whether the verification accepts it: it does. `meter` counts the blocks of the proof, of both
+/// trees' roots and of the verification.
 ///
-/// Refused as [`consistency_path`] is.
+/// Refused as [`consistency_path`](crate::consistency_path) is. `out` and `meter` are then as they
+/// were.
 pub fn made_consistency_path_is_accepted(
     leaves: &[[u8; HASH_LEN]],
     first_size: usize,
     out: &mut [[u8; HASH_LEN]],
+    meter: &mut Meter,
 ) -> Result<bool, Unspecified>
     ensures ok { IfOk result (λ yes. IsTrue yes) }
+    ensures path { OnOk result (out.new ≡ proof_of first_size leaves.now
+        ++ drop (length (proof_of first_size leaves.now)) out.old) }
+    ensures accepted { OnOk result (IsConsistent first_size (length leaves.now)
+        (proof_of first_size leaves.now) (root_of (take first_size leaves.now))
+        (root_of leaves.now)) }
     ensures refused { IsOk result ↔ ((0 < first_size) × (first_size < length leaves.now)
         × (length (proof_of first_size leaves.now) ≤ length out.old)) }
+    ensures unchanged { OnErr result ((out.new ≡ out.old) × (meter.new ≡ meter.old)) }
+    ensures cost { let path = proof_of first_size leaves.now in let n = length leaves.now in
+        let first = root_of (take first_size leaves.now) in
+        OnOk result (meter.new ≡ raised meter.old
+        (consistency_path_blocks first_size n (length path) + tree_blocks first_size
+        + tree_blocks n + consistency_blocks first_size n first path) 0) }
 {
-    let len = consistency_path(leaves, first_size, out)?;
-    let first = tree_root(&leaves[..first_size]);
-    let second = tree_root(leaves);
-    Ok(verify_consistency(
+    let len = consistency_path_counted(leaves, first_size, out, meter)?;
+    let first = tree_root_counted(&leaves[..first_size], meter);
+    let second = tree_root_counted(leaves, meter);
+    Ok(verify_consistency_counted(
         first_size as u64,
         &first,
         leaves.len() as u64,
         &second,
         &out[..len],
+        meter,
     ))
 }
 

@@ -18,5 +18,8 @@ pub use crate::hash::{
     node_hash_counted,
 };
 pub use crate::inclusion::{verify_inclusion, verify_inclusion_counted};
-pub use crate::paths::{consistency_path, inclusion_path, tree_root, tree_root_counted};
+pub use crate::paths::{
+    consistency_path, consistency_path_counted, inclusion_path, inclusion_path_counted, tree_root,
+    tree_root_counted,
+};
 pub use crate::tree::Tree;

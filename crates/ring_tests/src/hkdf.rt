@@ -173,7 +173,7 @@ fn debug_texts(rt: HostRuntime) -> Result<(), Fail> {
     let prk = salt.extract(&[2])?;
     let output = prk.expand(&[], Length(7))?;
     let text =
-        "Okm { prk: Prk(Key { algorithm: SHA256 }), info: [], len: Length(7), asked_len: 7 }";
+        "Okm { prk: Prk(Key { algorithm: SHA256 }), info: [], len: Length(7), len_cached: 7 }";
     assert!(rt;
         prints(rt.alloc(), &salt, "Salt(Key { algorithm: SHA256 })")?
             && prints(rt.alloc(), &output, text)?

@@ -82,15 +82,15 @@ impl Prk {
         ensures asked_len { IfOk result (λ output. okm_asked_len output ≡ L.key_len len) }
         ensures carries { IfOk result (λ output. asked_for output ≡ len) }
     {
-        let asked_len = len.len();
-        if !is_output_within(&Algorithm::over(self.0.algorithm()), asked_len as u128) {
+        let len_cached = len.len();
+        if !is_output_within(&Algorithm::over(self.0.algorithm()), len_cached as u128) {
             return Err(Unspecified);
         }
         Ok(Okm {
             prk: self,
             info,
             len,
-            asked_len,
+            len_cached,
         })
     }
 
@@ -109,9 +109,9 @@ pub struct Okm<'a, L: KeyType> {
     prk: &'a Prk,
     info: &'a [&'a [u8]],
     len: L,
-    asked_len: usize,
-    ghost asked: { asked_len ≡ L.key_len len },
-    ghost within: { IsOutputWithin (prk_algorithm prk.now) asked_len },
+    len_cached: usize,
+    ghost asked: { len_cached ≡ L.key_len len },
+    ghost within: { IsOutputWithin (prk_algorithm prk.now) len_cached },
 }
 
 impl<L: KeyType> Okm<'_, L> {
@@ -138,7 +138,7 @@ impl<L: KeyType> Okm<'_, L> {
             (okm_algorithm self.entry) (okm_info_len self.entry) (okm_asked_len self.entry)) 0) }
     {
         let algorithm = self.prk.0.algorithm().digest_algorithm();
-        if out.len() != self.asked_len {
+        if out.len() != self.len_cached {
             return Err(Unspecified);
         }
         if !is_info_within(&algorithm, joined_len(self.info), out.len() as u128) {

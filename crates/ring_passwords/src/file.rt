@@ -21,6 +21,9 @@ use std::random::RandomSource;
 use std::rt::{Clock, Files};
 use std::{fs, io};
 
+/// How often a file is looked at that other processes replace meanwhile.
+const LOOKS: usize = 1_000;
+
 /// The bits of a mode that say who reads, writes and runs a file.
 const PERMISSION_BITS: u32 = 0o777;
 
@@ -32,8 +35,8 @@ pub fn load<R: Files<File = File> + AllocGlobal>(
     ensures ok { IfOk result (λ store. IsStore store) }
     ensures status { IfErr result (λ failure. status_of failure ≡ 2) }
 {
-    let found = regular_at(rt, path)?;
-    let text = read(rt, path, &found)?;
+    let file = opened(rt, path)?;
+    let text = read(rt, file)?;
     store_in(rt.alloc(), &text)
 }
 
@@ -71,19 +74,27 @@ fn unread(error: io::Error) -> Failure
     Failure::System(Step::ReadFile, error)
 }
 
-/// The bytes of a file, which is still the one that was found.
-fn read<R: Files<File = File> + AllocGlobal>(
-    rt: &R,
-    path: &str,
-    found: &Metadata,
-) -> Result<Vec<u8>, Failure>
+/// A regular file, open. Another process may replace it between the look and the open: it is then
+/// looked at again.
+fn opened<R: Files<File = File>>(rt: &R, path: &str) -> Result<File, Failure>
     ensures status { IfErr result (λ failure. status_of failure ≡ 2) }
 {
-    let mut file = File::open(rt, path).map_err(unread)?;
-    let opened = file.metadata().map_err(unread)?;
-    if !regular::is_same(found, &opened) {
-        return Err(Failure::NotAFile);
+    'looks: for _ in 0..LOOKS {
+        let found = regular_at(rt, path)?;
+        let file = File::open(rt, path).map_err(unread)?;
+        let metadata = file.metadata().map_err(unread)?;
+        if regular::is_same(&found, &metadata) {
+            return Ok(file);
+        }
     }
+    Err(Failure::NotAFile)
+}
+
+/// The bytes of a file.
+fn read<R: AllocGlobal>(rt: &R, file: File) -> Result<Vec<u8>, Failure>
+    ensures status { IfErr result (λ failure. status_of failure ≡ 2) }
+{
+    let mut file = file;
     let mut text = Vec::new(rt.alloc());
     (&file)
         .take(MARK.len() as u64)

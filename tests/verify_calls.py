@@ -11,6 +11,7 @@ again where neither a library nor the checker has changed since all passed, for 
 machine: --anew tries all. The last line is 'N passed, M failed'.
 """
 
+import base64
 import collections
 import hashlib
 import multiprocessing
@@ -33,6 +34,8 @@ import lengths
 import mutate_calls
 import standards
 import terms
+import texts
+import merkle_trees as trees
 from elf import Library
 from test_terms import Evaluated
 
@@ -178,6 +181,91 @@ class Lengths(unittest.TestCase):
             self.assertIsNone(region.offset(offset, size))
 
 
+# Entries and the root of the tree over them: of Certificate Transparency's own tests.
+ENTRIES = ["", "00", "10", "2021", "3031", "40414243", "5051525354555657",
+           "606162636465666768696a6b6c6d6e6f"]
+ROOT_OF_ENTRIES = "5dc9da79a70659a9ad559cb701ded9a2ab9d823aad2f4960cfe370eff4604328"
+
+
+class Definitions(unittest.TestCase):
+    """Tables of few bits, texts and trees."""
+
+    def setUp(self):
+        self.source = random.Random(1)
+
+    def test_tables(self):
+        """What is looked at by tables has the values of numbers, in all cases of the bits."""
+        terms.FEW_ATOMS, width, count = 6, 10, 0
+        self.addCleanup(setattr, terms, "FEW_ATOMS", 0)
+        for _ in range(60):
+            atoms = terms.fresh("few", 6, secret=False)
+
+            def word():
+                found = [0] * width
+                for i in range(width):
+                    for _ in range(self.source.randrange(3)):
+                        pair = self.source.choice(atoms), self.source.choice((1, *atoms))
+                        found[i] = terms.xor(found[i], terms.both(*pair))
+                return tuple(found)
+
+            a, b = word(), word()
+            results = [(terms.add(a, b), lambda x, y: (x + y) % 1024),
+                       (terms.subtract(a, b), lambda x, y: (x - y) % 1024),
+                       ((terms.borrow(a, b),), lambda x, y: int(x < y)),
+                       ((terms.carry(a, b),), lambda x, y: x + y >> width),
+                       ((terms.is_zero(a),), lambda x, y: int(x == 0))]
+            for case in range(64):
+                values = {bit: case >> i & 1 for i, bit in enumerate(atoms)}
+                x, y = (value_of(it, values) for it in (a, b))
+                for found, expected in results:
+                    self.assertEqual(value_of(found, values), expected(x, y))
+                    count += 1
+        self.assertGreater(count, 15_000)
+
+    def test_texts(self):
+        """Base64 and hex are Python's."""
+        terms.FEW_ATOMS = texts.FEW_ATOMS
+        self.addCleanup(setattr, terms, "FEW_ATOMS", 0)
+        for length in range(40):
+            data = self.source.randbytes(length)
+            plain = standards.plain(data)
+            for found, expected in [
+                    (texts.base64(plain), base64.b64encode(data)),
+                    (texts.base64(plain, texts.URL_SAFE, False),
+                     base64.urlsafe_b64encode(data).rstrip(b"=")),
+                    (texts.adapted(plain), base64.b64encode(data, b"./").rstrip(b"=")),
+                    (texts.in_hex(plain), data.hex().encode())]:
+                self.assertEqual(bytes(map(terms.number_of, found)), expected)
+
+    def test_trees(self):
+        """A root is Certificate Transparency's, and each path leads to the roots."""
+        block = standards.Real()
+        leaves = [trees.hashed(block, standards.plain(b"\0" + bytes.fromhex(it)))
+                  for it in ENTRIES]
+        self.assertEqual(bytes(map(terms.number_of, trees.tree(block, leaves))).hex(),
+                         ROOT_OF_ENTRIES)
+        block = standards.Opaque()
+        for n in range(1, 14):
+            leaves = [[terms.fresh(f"leaf {i}.{j}", 8) for j in range(32)] for i in range(n)]
+            root = trees.tree(block, leaves)
+            for m in range(n):
+                path = trees.inclusion(block, m, leaves)
+                self.assertEqual(len(path), trees.inclusion_len(m, n))
+                self.assertEqual(trees.included(block, leaves[m], m, n, path), root)
+                if m:
+                    first = trees.tree(block, leaves[:m])
+                    path = trees.consistency(block, m, leaves)
+                    self.assertEqual(len(path), trees.consistency_len(m, n))
+                    self.assertEqual(trees.consistent(block, m, n, first, path), (first, root))
+
+
+def value_of(word, values):
+    """The number that a word is, where its atoms have these values."""
+    return sum(sum(all(values[atom] for atom in terms.atoms_of(monomial))
+                   for monomial in terms.monomials_of(bit)) % 2 << i
+               for i, bit in enumerate(word) if bit)
+
+
 class Calls(unittest.TestCase):
     """The definition, and the library's calls."""
 
@@ -282,7 +370,7 @@ def main():
         return 0
     add_faults()
     terms.OPAQUE_OR = True
-    counts = counted.run(counted.suite((Lengths, Faults, Calls), names), sys.stdout).counts()
+    counts = counted.run(counted.suite((Lengths, Definitions, Faults, Calls), names), sys.stdout).counts()
     status = counted.report(*counts)
     if not status and not names and not counts[2]:
         KEPT.mkdir(parents=True, exist_ok=True)

@@ -53,28 +53,31 @@ GROUPS = {
     "/arithmetic": dict(enumerate(ARITHMETIC)),
     "/shift": {0: "rol", 1: "ror", 4: "shl", 5: "shr", 7: "sar"},
     "/move": {0: "mov"},
-    "/unary": {0: "test I", 2: "not", 3: "neg", 4: "mul", 5: "imul"},
+    "/unary": {0: "test I", 2: "not", 3: "neg", 4: "mul", 5: "imul", 6: "div"},
     "/unary8": {0: "test i", 2: "not", 3: "neg"},
     "/count": {0: "inc", 1: "dec"},
     "/count or jump": {0: "inc", 1: "dec", 2: "call *", 4: "jmp *", 6: "push"},
-    "/bit": {4: "bt"},
+    "/bit": {4: "bt"}, "/lowest": {1: "blsr"},
 }
 TWO_BYTES = {
-    0x0b: Row("ud2", ""), 0x1f: Row("nop", "E"), 0xa3: Row("bt", "E G"),
+    0x0b: Row("ud2", ""), 0x1f: Row("nop", "E"), 0xa2: Row("cpuid", ""), 0xa3: Row("bt", "E G"),
     0xa4: Row("shld", "E G i"), 0xac: Row("shrd", "E G i"), 0xaf: Row("imul", "G E"),
     0xb6: Row("movzb", "G e"), 0xb7: Row("movzw", "G E16"), 0xba: Row("/bit", "E i"),
+    0xbc: Row("bsf", "G E"), 0xbd: Row("bsr", "G E"),
     0xbe: Row("movsb", "G e"), 0xbf: Row("movsw", "G E16"),
     **{0x40 + i: Row("cmov" + it, "G E") for i, it in enumerate(CONDITIONS)},
     **{0x80 + i: Row("j" + it, "J") for i, it in enumerate(CONDITIONS)},
     **{0x90 + i: Row("set" + it, "e") for i, it in enumerate(CONDITIONS)},
     **{0xc8 + i: Row("bswap", "O") for i in range(8)},
 }
+AFTER_F3 = {0xbc: Row("tzcnt", "G E"), 0xbd: Row("lzcnt", "G E")}
 THREE_BYTES = {0xf0: Row("movbe", "G M"), 0xf1: Row("movbe", "M G")}
 # Instructions with VEX over general registers, by (prefix, map, opcode).
 GENERAL_VEX = {
     ("", "0F38", 0xf2): Row("andn", "G B E"), ("66", "0F38", 0xf7): Row("shlx", "G E B"),
     ("F3", "0F38", 0xf7): Row("sarx", "G E B"), ("F2", "0F38", 0xf7): Row("shrx", "G E B"),
-    ("F2", "0F3A", 0xf0): Row("rorx", "G E i"),
+    ("F2", "0F3A", 0xf0): Row("rorx", "G E i"), ("F2", "0F38", 0xf6): Row("mulx", "G B E"),
+    ("", "0F38", 0xf3): Row("/lowest", "B E"),
 }
 
 # Instructions over vectors: prefix, map, opcode (with the field of ModRM after a slash), what VEX
@@ -87,6 +90,8 @@ F3 0F   11   any movss   w32 S  F2 0F   10   any movsd   S w64  F2 0F   11   any
 -- 0F   17   any movhps  M V    -- 0F   28   any movaps  V W    -- 0F   29   any movaps  W V
 -- 0F   54   any andps   V H W  -- 0F   56   any orps    V H W  -- 0F   57   any xorps   V H W
 -- 0F   77   VEX zeroupper -    -- 0F   c6   any shufps  V H W i
+66 0F   60   any punpcklbw   V H W  66 0F   68   any punpckhbw   V H W
+66 0F   74   any pcmpeqb V H W  66 0F   d7   any pmovmskb G32 U
 66 0F   62   any punpckldq   V H W  66 0F   6a   any punpckhdq   V H W
 66 0F   6c   any punpcklqdq  V H W  66 0F   6d   any punpckhqdq  V H W
 66 0F   6e   any movd    v D    66 0F   7e   any movd    D v    F3 0F   7e   any movq    v w
@@ -105,7 +110,7 @@ F3 0F   6f   any movdqu  V W    F3 0F   7f   any movdqu  W V    66 0F   70   any
 66 0F38 36   W0  permd   V H W  66 0F38 45   W0  psrlvd  V H W  66 0F38 45   W1  psrlvq  V H W
 66 0F38 47   W0  psllvd  V H W  66 0F38 47   W1  psllvq  V H W
 66 0F38 58   W0  pbroadcastd V w  66 0F38 59   W0  pbroadcastq V w
-66 0F38 5a   W0  broadcasti128 V M
+66 0F38 5a   W0  broadcasti128 V M               66 0F38 78   W0  pbroadcastb V w
 -- 0F38 c8   SSE sha1nexte   V W  -- 0F38 c9   SSE sha1msg1    V W
 -- 0F38 ca   SSE sha1msg2    V W  -- 0F38 cb   SSE sha256rnds2 V W X
 -- 0F38 cc   SSE sha256msg1  V W  -- 0F38 cd   SSE sha256msg2  V W
@@ -376,6 +381,8 @@ def vector_text(reader, opcode, row):
         letters = [it for it in letters if it not in ("H", "h")]
     elif not any(it in ("H", "h") for it in letters) and reader.vvvv:
         raise Unreadable("a register that the instruction doesn't have")
+    if name == "pmovmskb" and reader.W:
+        raise Unreadable("a width that the instruction doesn't have")
     if name in ("movd", "pextr", "pinsr"):
         if name == "movd":
             name = "movq" if reader.W else "movd"
@@ -396,6 +403,11 @@ def read(data, address):
         key = (reader.prefix(), of_map, opcode)
         if key in GENERAL_VEX:
             row = GENERAL_VEX[key]
+            if row.name in GROUPS:
+                reader.read_modrm()
+                row = Row(GROUPS[row.name].get(reader.modrm >> 3 & 7), row.operands)
+            if row.name is None:
+                raise Unreadable("no operation of its group")
             if reader.L or "B" not in row.operands and reader.vvvv:
                 raise Unreadable("a length or a register that the instruction doesn't have")
             text = text_of(reader, row.name, row.operands.split(), 64 if reader.W else 32, opcode)
@@ -421,6 +433,10 @@ def without_vex(reader, opcode):
         opcode = reader.byte()
     if of_map == "0F" and reader.prefixes == {"F3"} and opcode == 0x1e and reader.byte() == 0xfa:
         return "endbr64"
+    if of_map == "0F" and reader.prefixes == {"F3"} and opcode in AFTER_F3:
+        return general(reader, AFTER_F3[opcode], opcode)
+    if of_map == "0F" and not reader.prefixes and opcode == 0x01:
+        return "xgetbv" if reader.byte() == 0xd0 else None
     if (text := over_vectors(reader, (reader.prefix(), of_map, opcode))) is not None:
         return text
     table = {"0F": TWO_BYTES, "0F38": THREE_BYTES}.get(of_map, {})

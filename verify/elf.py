@@ -22,6 +22,8 @@ class WrongFile(Exception):
 
 
 class Library:
+    system = "Linux"
+
     def __init__(self, path, by_objdump=False, stripped=False):
         """`by_objdump` has objdump read the instructions, for a comparison. One that may be
         `stripped` needs no names."""

@@ -6,8 +6,7 @@ import tempfile
 from functools import cache
 from pathlib import Path
 
-import kernels
-from native import MESSAGES
+from native import MESSAGES, run_alone
 
 RUN = ["qemu-aarch64", "-cpu", "max", "-L", "/usr/aarch64-linux-gnu"]
 # Arguments: the library, the address of yz_instructions, and for each function a letter, `m` over a
@@ -75,15 +74,6 @@ def program():
     return path, folder
 
 
-def functions(library):
-    """The functions that are run, as the program's arguments."""
-    for row in kernels.rows(library):
-        if row.symbol and row.check is kernels.run_blocks:
-            yield f"m{row.symbol.start:x}"
-        elif row.symbol and row.check in (kernels.block_of_words, kernels.blocks_in_lanes):
-            yield f"w{row.symbol.start:x}"
-
-
 def answers(library, data):
     """The answers of a library with these bytes; or None where it ends by a signal or takes longer
     than a minute."""
@@ -92,9 +82,9 @@ def answers(library, data):
         file.write(data)
         file.flush()
         try:
-            done = subprocess.run([*RUN, program()[0], file.name, f"{variable:x}",
-                                   *functions(library)], capture_output=True, timeout=60,
-                                  check=False)
+            functions = [f"{letter}{start:x}" for letter, start, _ in run_alone(library)]
+            done = subprocess.run([*RUN, program()[0], file.name, f"{variable:x}", *functions],
+                                  capture_output=True, timeout=60, check=False)
         except subprocess.TimeoutExpired:
             return None
     return None if done.returncode else done.stdout

@@ -34,11 +34,11 @@ def words_in(data, size, count, lanes=1, lane=0):
 
 def add_regions(state, cpu, names):
     """A region of numbers for each name, all as arguments."""
-    for register, name in zip(cpu.ARGUMENTS, names):
+    for name in names:
         region = Region(name, 0, ROOM, name in ("state", "states", "outputs", "sums", "meter"), 16)
         region.cells = {i: terms.constant(it, 8) for i, it in enumerate(bytes_of(name))}
         state.add_region(region)
-        state.registers[register] = at(name)
+    cpu.put_arguments(state, [at(it) for it in names])
 
 
 def content_after(start, name):

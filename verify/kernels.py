@@ -11,11 +11,17 @@ import fips180_4
 import identify
 import terms
 import x86
+import x86_windows
 from identify import Kind
 from loops import Loop, big_endian_words, find_heads, literals, put_word, word_at
 from machine import Part, Pointer, Refused, Region, at, offset_of, run
 
 ARCHITECTURES = {62: x86, 183: arm}
+
+
+def architecture(library):
+    """How the library's code runs."""
+    return x86_windows if library.system == "Windows" else ARCHITECTURES[library.machine]
 
 
 def fresh_words(name, function, count):
@@ -147,7 +153,7 @@ def run_blocks(cpu, library, symbol, function, instructions):
     start.add_region(state)
     start.add_region(Region("meter", 0, 16, True, 8))
     arguments = [is_sha256, at("state"), at("message"), length, at("meter")]
-    start.registers.update(zip(cpu.ARGUMENTS, arguments))
+    cpu.put_arguments(start, arguments)
     ends, steps = over_message(symbol, function, start, chaining, length)
     whole = terms.constant(-16 * size, 64)
     for end in ends:
@@ -182,7 +188,7 @@ def output_after(cpu, library, symbol, function, instructions):
     for region in (context, Region("output", 0, 64, True), Region("meter", 0, 16, True, 8)):
         start.add_region(region)
     arguments = [at("output"), at("context"), at("message"), length, at("meter")]
-    start.registers.update(zip(cpu.ARGUMENTS, arguments))
+    cpu.put_arguments(start, arguments)
     ends, steps = over_message(symbol, function, start, chaining, length)
     for end in ends:
         cpu.check_return(end, start)
@@ -314,7 +320,7 @@ def xor_iterates(cpu, library, symbol, function, lanes, front, instructions=Fals
         start.add_region(region)
     counted = [terms.constant(1, 64)] if lanes == 1 else []
     arguments = [at("derivation"), at("starts"), at("outputs"), *counted, at("meter")]
-    start.registers.update(zip(cpu.ARGUMENTS, arguments))
+    cpu.put_arguments(start, arguments)
     padding = padding_of(function, front)
     first = [word for lane in range(lanes)
              for word in tag_words(function, padding, states, lane, states["digest"][lane][:front])]
@@ -414,7 +420,7 @@ def rows(library):
 
 def assigned(library, number):
     """Of a kind, which kernels its functions are."""
-    return identify.assigned(ARCHITECTURES[library.machine], library, KINDS[number][0])
+    return identify.assigned(architecture(library), library, KINDS[number][0])
 
 
 def all_assigned(library):
@@ -467,17 +473,28 @@ def cases(row, has_instructions):
         yield f"PBKDF2 by {function.name} by instructions of {front} words", (*row.arguments, True)
 
 
+# What is shown of the library for Windows.
+ON_WINDOWS = (run_ahead, run_blocks, output_after, blocks_in_lanes)
+
+
 def of(library):
     """All kernels of a library. One that has no function is refused."""
-    cpu = ARCHITECTURES[library.machine]
+    cpu = architecture(library)
     has_instructions = any("by_instruction" in it.name for it in library.symbols)
 
     def check_of(row, what, arguments):
         if row.symbol is None:
             raise Refused(f"there is no function for {what}")
-        return row.check(cpu, library, row.symbol, *arguments)
+        total = 0
+        for residue in getattr(cpu, "RESIDUES", [None]):
+            cpu.residue = residue
+            steps, used = row.check(cpu, library, row.symbol, *arguments)
+            total += steps
+        return total, used
 
     for row in rows(library):
+        if library.system == "Windows" and row.check not in ON_WINDOWS:
+            continue
         for what, arguments in cases(row, has_instructions):
             where = row.symbol and (f"({identify.short_name(row.symbol.name)} at "
                                     f"{row.symbol.start:x})")

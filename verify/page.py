@@ -15,6 +15,7 @@ sys.dont_write_bytecode = True
 import identify
 import kernels
 from elf import ARM, X86, Library
+from pe import Dll, is_dll
 
 ROOT = pathlib.Path(__file__).resolve().parent.parent
 PAGE = ROOT / "docs/VERIFY.md"
@@ -25,11 +26,13 @@ TRUSTED = ["fips180_4.py", "kernels.py", "loops.py", "machine.py", "terms.py", "
            "identify.py", "check"]
 OF_X86 = ["x86.py", "operands_x86.py", "vectors_x86.py", "sha_x86.py", "decode_x86.py"]
 OF_ARM = ["arm.py", "decode_arm.py"]
-OF_CALLS = ["standards.py", "lengths.py", "summaries.py", "calls.py", "functions.py", "cases.py",
-            "check_calls"]
+OF_CALLS = ["standards.py", "lengths.py", "summaries.py", "calls.py", "functions.py",
+            "merkle_trees.py", "texts.py", "sundry.py", "asking.py", "cases.py", "check_calls"]
+OF_WINDOWS = ["x86_windows.py", "pe.py"]
 COLUMNS = {X86: ["x86-64-v2", "with SHA instructions", "x86-64-v3"],
            ARM: ["64-bit ARM", "with SHA instructions"]}
-TABLES = {X86: "functions", ARM: "functions for ARM"}
+TABLES = {(X86, "Linux"): "functions", (X86, "Windows"): "functions for Windows",
+          (ARM, "Linux"): "functions for ARM"}
 
 
 def column(kernel, columns):
@@ -60,6 +63,7 @@ def lines():
     rows = ["|File|Lines|", "|-|-|"]
     for of, files, all_files in (
             ("kernels of x86-64", TRUSTED + OF_X86, TRUSTED + OF_X86),
+            ("kernels of Windows", OF_WINDOWS, TRUSTED + OF_X86 + OF_WINDOWS),
             ("kernels of 64-bit ARM", OF_ARM, TRUSTED + OF_ARM),
             ("whole calls", OF_CALLS, TRUSTED + OF_X86 + OF_CALLS)):
         rows += [f"|`{it}`|{count([it])}|" for it in files]
@@ -69,7 +73,8 @@ def lines():
 
 def with_tables(text, libraries):
     """The page with its tables as they have to be."""
-    tables = [(TABLES[it.machine], functions(it)) for it in libraries] + [("lines", lines())]
+    tables = [(TABLES[it.machine, it.system], functions(it)) for it in libraries]
+    tables.append(("lines", lines()))
     for name, made in tables:
         before, begin, rest = text.partition(BEGIN.format(name))
         _, end, after = rest.partition(END.format(name))
@@ -84,7 +89,7 @@ def main():
     if not words:
         sys.exit(__doc__)
     text = PAGE.read_text()
-    made = with_tables(text, map(Library, words))
+    made = with_tables(text, [(Dll if is_dll(it) else Library)(it) for it in words])
     if "--write" in sys.argv:
         PAGE.write_text(made)
     elif made != text:

@@ -24,7 +24,7 @@ import terms
 import x86
 from elf import Line
 from machine import Pointer, Refused, Region, State, at, offset_of
-from operands_x86 import LONG, REGISTERS, Flags, Immediate, Memory, decode
+from operands_x86 import LONG, REGISTERS, Flags, Immediate, Memory, Register, decode
 
 CASES = 12
 SCRATCH, MIDDLE = 512, 256
@@ -174,6 +174,10 @@ def case(it, source):
             general[LONG.index(memory.index)] = index
         base = LONG.index(memory.base)
         offset = MIDDLE - memory.displacement - index * memory.scale
+    if it.name.startswith("div"):  # of a larger quotient the processor ends the program
+        general[LONG.index("rdx")] = 0
+        if isinstance(it.operands[0], Register):
+            general[LONG.index(it.operands[0].name)] |= 1
     vectors = [number(256, source) for _ in range(16)]
     for i in range(16):
         if source.random() < 0.3:

@@ -3,6 +3,7 @@
 instruction, the name without the prefix `v`, whether it has that)."""
 
 import terms
+from machine import Pointer, whole
 from operands_x86 import Flags, Immediate, Memory, Unknown, Vector, read, word, write
 from sha_x86 import sha1msg1, sha1msg2, sha1nexte, sha1rnds4, sha256msg1, sha256msg2, sha256rnds2
 from terms import (add, and_words, constant, cut, inverted, joined, number_of, or_words,
@@ -19,6 +20,8 @@ def equal_words(a, b):
     if a == b:
         return constant(-1, len(a))
     x, y = number_of(a), number_of(b)
+    if terms.OPAQUE_OR:
+        return (terms.is_zero(xor_words(a, b)),) * len(a)
     if x is None or y is None:
         raise Unknown("a comparison of words that are not known")
     return constant(0, len(a))
@@ -53,6 +56,14 @@ def align(number, a, b):
     return ((b + a) + (0,) * 256)[8 * number:8 * number + 128] if number < 32 else constant(0, 128)
 
 
+def unpacked(start):
+    """Bytes of two halves in turn."""
+    def run(a, b):
+        halves = zip(cut(a[start:start + 64], 8), cut(b[start:start + 64], 8))
+        return joined(x + y for x, y in halves)
+    return run
+
+
 def by_counts(function):
     """A shift of each word by a number of its own."""
     def run(a, b):
@@ -67,7 +78,8 @@ PACKED = {
     "paddd": each(32, add), "paddq": each(64, add), "pxor": xor_words, "por": or_words,
     "pand": and_words, "pandn": lambda a, b: and_words(inverted(a), b), "xorps": xor_words,
     "andps": and_words, "orps": or_words, "pcmpeqd": each(32, equal_words),
-    "pshufb": shuffle_bytes,
+    "pcmpeqb": each(8, equal_words), "pshufb": shuffle_bytes,
+    "punpcklbw": unpacked(0), "punpckhbw": unpacked(64),
     "punpcklqdq": lambda a, b: a[:64] + b[:64], "punpckhqdq": lambda a, b: a[64:] + b[64:],
     "punpckldq": lambda a, b: a[:32] + b[:32] + a[32:64] + b[32:64],
     "punpckhdq": lambda a, b: a[64:96] + b[64:96] + a[96:] + b[96:],
@@ -204,8 +216,8 @@ def inserted(width):
 def extracted(width):
     def run(state, it, _, __):
         number, source, target = it.operands
-        part = cut(read(state, source, 128), width)[number.number % (128 // width)]
-        write(state, target, part if isinstance(target, Memory) else
+        part = whole(cut(read(state, source, 128), width)[number.number % (128 // width)])
+        write(state, target, part if isinstance(target, Memory) or isinstance(part, Pointer) else
               part + (0,) * (target.width - width), width)
     return run
 
@@ -240,9 +252,9 @@ def moved_low(width):
             value = word(state, source, width)
             finish(state, target, value + (0,) * (128 - width), has_v)
         else:
-            value = read(state, source, width)
-            write(state, target, value if isinstance(target, Memory) else
-                  value + (0,) * (target.width - width), width)
+            value = whole(read(state, source, width))
+            write(state, target, value if isinstance(target, Memory) or isinstance(value, Pointer)
+                  else value + (0,) * (target.width - width), width)
     return run
 
 
@@ -292,6 +304,13 @@ def tested(state, it, _, has_v):
     state.flags = Flags(result + (0,), None)
 
 
+def highest_bits(state, it, _, __):
+    """pmovmskb: the highest bit of each byte."""
+    source, target = it.operands
+    bits = read(state, source, source.width)[7::8]
+    write(state, target, bits + (0,) * (target.width - len(bits)), target.width)
+
+
 def inserted_words(state, it, _, has_v):
     """insertps: a word of a vector into another, of which some are cleared."""
     number, source, target = it.operands[0].number, it.operands[1], it.operands[-1]
@@ -310,6 +329,7 @@ SPECIAL = {
     "broadcastsd": broadcast(64), "permps": permuted_words, "permpd": permuted,
     "pmovzxdq": extended(32, 64), "pmovzxbq": extended(8, 64), "pmovzxbd": extended(8, 32),
     "pmovzxwd": extended(16, 32), "pmovzxbw": extended(8, 16),
+    "pmovmskb": highest_bits, "pbroadcastb": broadcast(8),
     "ptest": tested, "insertps": inserted_words, "pinsrw": inserted(16), "pinsrb": inserted(8),
     "pextrb": extracted(8), "pextrw": extracted(16),
     "pshufd": shuffled, "pblendd": blended, "permq": permuted, "permd": permuted_words,

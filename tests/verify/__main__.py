@@ -26,6 +26,7 @@ sys.path += [str(ROOT / "tests/lib"), str(ROOT / "verify")]
 import counted
 import definition
 import for_arm
+import for_windows
 import machine_code
 import refused
 import shipped
@@ -62,7 +63,7 @@ def main():
         print(kept.read_text(), end="")
         return 0
     cases = (*definition.CASES, *machine_code.CASES, *refused.CASES, *shipped.CASES,
-             *for_arm.CASES)
+             *for_arm.CASES, *for_windows.CASES)
     counts = counted.run(counted.suite(cases, names), sys.stdout).counts()
     status = counted.report(*counts)
     if not status and not names and not counts[2]:

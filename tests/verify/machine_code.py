@@ -11,6 +11,7 @@ import tempfile
 import unittest
 
 import decode_x86
+import native
 import test_x86
 import x86
 from elf import Library
@@ -19,8 +20,8 @@ from vectors_x86 import PACKED, PACKED_SHIFTS, SPECIAL, WITH_NUMBER
 
 ROOT = pathlib.Path(__file__).resolve().parent.parent.parent
 LIBRARY = ROOT / "out/libyezdopin.so.0"
-# What moves between instructions, and not between values: what the kernels' checks run.
-CONTROL = re.compile(r"j\w+|call|ret|push|pop|nop|endbr64")
+# What moves between instructions, and not between values, and what asks the processor.
+CONTROL = re.compile(r"j\w+|call|ret|push|pop|nop|endbr64|cpuid|xgetbv")
 # How objdump writes what this reader writes otherwise: nothing is run by it.
 NOP = re.compile(r"\bnop|^xchg %ax,%ax$")
 
@@ -59,6 +60,11 @@ FURTHER = """
     vpsllvq %ymm1,%ymm2,%ymm3; vpermpd $27,%ymm1,%ymm2; insertps $0x5d,%xmm1,%xmm2
     movsbw %al,%cx; movswl %ax,%ecx; movswq %ax,%rcx; movsbq %al,%rcx; movzwl %ax,%ecx
     bswap %rcx; xchg %rax,%rcx; bt $5,%rcx; adc %rax,%rcx; sbb %rax,%rcx; not %rcx; neg %rcx
+    pcmpeqb %xmm1,%xmm2; vpcmpeqb %ymm1,%ymm2,%ymm3; pmovmskb %xmm1,%ecx; vpmovmskb %ymm1,%ecx
+    punpcklbw %xmm1,%xmm2; punpckhbw %xmm1,%xmm2; vpunpcklbw %ymm1,%ymm2,%ymm3
+    vpunpckhbw %ymm1,%ymm2,%ymm3; vpbroadcastb %xmm1,%ymm2; mulx %rax,%rcx,%rbx
+    mulx %eax,%ecx,%ebx; div %rcx; div %ecx; tzcnt %rax,%rcx; tzcnt %eax,%ecx; lzcnt %rax,%rcx
+    lzcnt %eax,%ecx; bsf %rax,%rcx; bsr %rax,%rcx; bsr %eax,%ecx; blsr %rax,%rcx; blsr %eax,%ecx
     sha1rnds4 $0x41,%xmm1,%xmm2; sha1rnds4 $0x22,%xmm1,%xmm2
 """ + "".join(f"{name}{condition} {operands}\n" for condition in x86.CONDITIONS
               for name, operands in (("cmov", "%rax,%rcx"), ("cmov", "%eax,%ecx"), ("set", "%cl")))
@@ -156,13 +162,20 @@ class Reader(unittest.TestCase):
 class Meanings(unittest.TestCase):
     @unittest.skipUnless(shutil.which("gcc"), "gcc")
     def test_processor(self):
-        """Each meaning gives what the processor gives, from random states, flags too."""
+        """Each meaning gives what the processor gives, from random states, flags too. The SHA
+        instructions are emulated where the processor has none."""
         with tempfile.TemporaryDirectory() as room:
             lines = meaningful(Library(str(LIBRARY))) | further(room)
             found = test_x86.compare(lines, room)
+        names = found.names
+        if run := native.processor():
+            with tempfile.TemporaryDirectory() as room:
+                of_sha = test_x86.compare({it for it in lines if it[1].startswith("sha")}, room, run)
+            self.assertEqual(dict(of_sha.failed), {})
+            names = names | of_sha.names
         self.assertEqual(dict(found.failed), {})
         self.assertGreater(found.cases, 10_000)
-        untested = names_with_meanings() - set(names_tested(found.names))
+        untested = names_with_meanings() - set(names_tested(names))
         self.assertEqual({it for it in untested if not CONTROL.fullmatch(it)}, set(),
                          "meanings that no case ran")
 

@@ -3,7 +3,7 @@
  *
  * Written by `make generated` from the proved crate ring_c: do not edit.
  * Kit: rattle-kit-13f logic dac8208d650f15bf
- * Git trees: ring_core b0c015b30c09 ring 91144f432fe1 ring_text 0361677f0770 ring_password_hash 26d5cc0d172a ring_merkle 6e360b6b61c3 ring_tokens 99dce6796cbf ring_c a46400b52533
+ * Git trees: ring_core 7a6ce8b95ca5 ring 5cf04eb94b58 ring_text 0361677f0770 ring_password_hash 26d5cc0d172a ring_merkle d709947fc126 ring_tokens 99dce6796cbf ring_c 5e258e52a893
  * Instructions: put in the place of proved functions by instructions.py, git blob 09be9d4b006d
  */
 
@@ -33695,7 +33695,7 @@ v2_yz_totp_find:
 	.globl yz_version
 	.p2align 4
 yz_version:
-	movl $256, %eax
+	movl $512, %eax
 	retq
 	.section .rdata,"dr"
 	.p2align 3, 0x0

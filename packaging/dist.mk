@@ -16,16 +16,15 @@
 WORDS = tarball deb-libyezdopin$(MAJOR) deb-libyezdopin-dev wheel deb-$(PROVIDER_DEB) \
     $(if $(filter x86_64,$(ARCH)),deb-$(TOOLS_DEB) crate rustcrypto npm windows-zip windows-wheel \
     macos-tarball)
+PACKAGES = $(WORDS)
 # Those that lack nothing here, in LACKS_WORD.
-PACKAGES = $(foreach it,$(WORDS),$(if $(strip $(LACKS_$(it))),,$(it)))
+CAN_MAKE = $(foreach it,$(PACKAGES),$(if $(strip $(LACKS_$(it))),,$(it)))
 LACKS_deb-libyezdopin$(MAJOR) = $(call missing,dpkg-deb)
 LACKS_deb-libyezdopin-dev = $(call missing,dpkg-deb)
-LACKS_wheel = $(if $(wildcard $(shell $(PYTHON) -c \
-    'import sysconfig; print(sysconfig.get_paths()["include"])' 2>/dev/null)/Python.h),,Python.h)
+LACKS_wheel = $(or $(call missing,$(PYTHON)),$(PYTHON_H))
 LACKS_deb-$(PROVIDER_DEB) = $(if $(PROVIDER_PACKAGE),,libssl-dev) $(call missing,dpkg-deb)
 LACKS_deb-$(TOOLS_DEB) = $(if $(TOOLS_TEXTS),,generated/) $(call missing,dpkg-deb)
-LACKS_crate = $(call missing,$(CARGO) $(if $(filter file,$(origin ARM_ARCHIVE)), \
-    $(or $(CROSS),aarch64-linux-gnu-)gcc))
+LACKS_crate = $(call missing,$(CARGO))
 LACKS_npm = $(call missing,$(NPM) $(NODE))
 
 DIST = $(WHOLE_OUT)/dist
@@ -37,6 +36,8 @@ TREE = yezdopin-$(VERSION)-linux-$(ARCH)
 # The crate has the archives for both processors. This one is built here, or is named.
 ARM_ARCHIVE = $(OUT)/aarch64/libyezdopin.a
 SOURCE_DATE_EPOCH ?= $(or $(shell git log -1 --format=%ct 2>/dev/null),1767225600)
+# What PROVENANCE names, with `-dirty` behind it where a file differs.
+COMMIT ?= $(or $(shell git describe --always --dirty --abbrev=40 --exclude='*' 2>/dev/null),unknown)
 # A placeholder: the project has no mail address (SECURITY.md says how faults are reported).
 MAINTAINER ?= The Yezdopin authors <yezdopin@example.org>
 
@@ -62,12 +63,14 @@ endef
 
 dist: all
 	rm -rf "$(DIST)" "$(WORK)" && mkdir -p "$(DIST)" "$(WORK)"
-	@:$(if $(filter file,$(origin PACKAGES)),$(foreach it,$(filter-out $(PACKAGES),$(WORDS)),; \
-	    echo 'left out: $(it), without $(strip $(LACKS_$(it)))'))
-	$(MAKE) --no-print-directory $(PACKAGES:%=dist-%)
-	$(PYTHON) -B packaging/origin "$(DIST)" $(VERSION) $(ARCH) $(SOURCE_DATE_EPOCH) \
-	    "$$($(CC) --version | head -n 1)" $(wildcard generated/yezdopin_*) $(TOOLS_TEXTS)
-	cd "$(DIST)" && sha256sum * >../SHA256SUMS && mv ../SHA256SUMS . && cat SHA256SUMS
+	@:$(foreach it,$(filter-out $(CAN_MAKE),$(PACKAGES)),; \
+	    echo 'left out: $(it), without $(strip $(LACKS_$(it)))')
+	$(if $(CAN_MAKE),$(MAKE) --no-print-directory $(CAN_MAKE:%=dist-%))
+	$(call without,$(PYTHON),PROVENANCE and the bill of materials)
+	$(call with,$(PYTHON),$(PYTHON) -B packaging/origin "$(DIST)" $(VERSION) $(ARCH) \
+	    $(COMMIT) $(SOURCE_DATE_EPOCH) "$$($(CC) --version | head -n 1)" \
+	    $(wildcard generated/yezdopin_*) $(TOOLS_TEXTS))
+	cd "$(DIST)" && ls | xargs -r sha256sum >../SHA256SUMS && mv ../SHA256SUMS . && cat SHA256SUMS
 
 # The reference of the proved crates as HTML pages, where Debian's python3-markdown and
 # python3-pygments are. `make dist REFERENCE=FOLDER` takes finished pages instead.
@@ -100,12 +103,8 @@ dist-deb-libyezdopin$(MAJOR): all
 	chmod 644 "$(WORK)/libyezdopin$(MAJOR)$(DPKG_LIBDIR)/$(notdir $(SHARED))"
 	ln -s $(notdir $(SHARED)) "$(WORK)/libyezdopin$(MAJOR)$(DPKG_LIBDIR)/$(SONAME)"
 	cd "$(WORK)/libyezdopin$(MAJOR)/DEBIAN" && echo 'activate-noawait ldconfig' >triggers && \
-	echo 'libyezdopin $(MAJOR) libyezdopin$(MAJOR) (>= $(VERSION))' >shlibs && \
-	printf '%s\n' '$(SONAME) libyezdopin$(MAJOR) #MINVER#' \
-	    '* Build-Depends-Package: libyezdopin-dev' >symbols
-	$(NM) -D --defined-only $(SHARED) | awk '$$2 == "A" { $$3 = $$3 "@" $$3 } \
-	    { sub(/@@/, "@", $$3); print " " $$3, "$(VERSION)" }' | LC_ALL=C sort \
-	    >>"$(WORK)/libyezdopin$(MAJOR)/DEBIAN/symbols"
+	echo 'libyezdopin $(MAJOR) libyezdopin$(MAJOR) (>= $(VERSION))' >shlibs
+	cp packaging/debian/libyezdopin$(MAJOR).symbols "$(WORK)/libyezdopin$(MAJOR)/DEBIAN/symbols"
 	$(call deb,libyezdopin$(MAJOR))
 
 dist-deb-libyezdopin-dev: all
@@ -125,6 +124,8 @@ dist-wheel: all
 	READELF='$(READELF)' OBJDUMP='$(OBJDUMP)' \
 	    packaging/wheel/manylinux "$(WORK)/wheel/yezdopin/_native.abi3.so"
 
+# Without a cross compiler the crate has the archive for x86-64 alone.
+ARM_TOOLS = $(if $(filter file,$(origin ARM_ARCHIVE)),$(or $(CROSS),aarch64-linux-gnu-)gcc)
 ifeq ($(ARCH) $(origin ARM_ARCHIVE) $(origin BUILT),x86_64 file file)
 $(ARM_ARCHIVE): FORCE
 	$(MAKE) --no-print-directory ARCH=aarch64 OUT=$(@D) $@
@@ -144,12 +145,13 @@ define crate_systems
 endef
 
 # The Rust crate with the archives in prebuilt/. `cargo package` also builds what it packed.
-dist-crate: all $(ARM_ARCHIVE)
+dist-crate: all $(call with,$(ARM_TOOLS),$(ARM_ARCHIVE))
 	rm -rf "$(WORK)/rust" && mkdir -p "$(WORK)/rust"
 	cp -R rust/src rust/build.rs rust/Cargo.toml rust/Cargo.lock rust/README.md LICENSE \
 	    "$(WORK)/rust"
 	$(call prebuilt,linux-x86_64,$(ARCHIVE))
-	$(call prebuilt,linux-aarch64,$(ARM_ARCHIVE))
+	$(call without,$(ARM_TOOLS),the crate's archive for 64-bit ARM)
+	$(call with,$(ARM_TOOLS),$(call prebuilt,linux-aarch64,$(ARM_ARCHIVE)))
 	$(crate_systems)
 	cd "$(WORK)/rust" && unset YEZDOPIN_LIB_DIR && CARGO_TARGET_DIR="$(WORK)/cargo" \
 	    $(CARGO) package --offline --quiet --allow-dirty
@@ -174,7 +176,10 @@ define system_tree
 	    "$(WORK)/$(1)/share/doc/yezdopin/examples"
 	cp $(HEADER) "$(WORK)/$(1)/include"
 	cp LICENSE "$(WORK)/$(1)/share/doc/yezdopin"
-	sed 's/\[\([^][]*\)\](\([^):]*\))/\1/g' c/README.md >"$(WORK)/$(1)/share/doc/yezdopin/README.md"
+	for it in README CALLS; do \
+	    sed 's/\[\([^][]*\)\](\([^):]*\))/\1/g' c/$$it.md \
+	        >"$(WORK)/$(1)/share/doc/yezdopin/$$it.md" || exit 1; \
+	done
 	cp c/examples/sign.c "$(WORK)/$(1)/share/doc/yezdopin/examples"
 	sed -e 's|@prefix@|$${pcfiledir}/../..|; s|@libdir@|$${prefix}/lib|; s|@processor@|$(2)|' \
 	    -e 's|@includedir@|$${prefix}/include|; s|@version@|$(VERSION)|' \
@@ -192,7 +197,7 @@ windows-zip windows-wheel macos-tarball: %:
 	    mkdir -p "$(DIST)" "$(WORK)" && $(MAKE) --no-print-directory dist-$@)
 
 packages-named:
-	@echo $(PACKAGES)
+	@echo $(CAN_MAKE)
 
 # Each package in a Debian system of its own, which has neither the kit nor this repository.
 dist-check: dist

@@ -17,8 +17,10 @@ import sys
 ROOT = pathlib.Path(__file__).resolve().parent.parent
 HEADER = "c/include/yezdopin.h"
 HISTORY = ("CHANGELOG.md", "docs/VERSIONS.md")
-# What states no version: other projects' outputs, machine code as text, and this test.
-NOT_READ = (":!vectors", ":!generated", ":!tests/version.py")
+# What states no version: other projects' outputs, machine code as text, and this test; and what has
+# the version of each symbol, with its test.
+NOT_READ = (":!vectors", ":!generated", ":!tests/version.py", ":!tests/symbols.py",
+            ":!packaging/debian/*.symbols")
 
 # The files that must state the version, and how: the first that the pattern finds is read.
 PLACES = (

@@ -4,6 +4,7 @@
 #     make windows              # builds the library for Windows in out/windows
 #     make windows-check        # tests it under wine, by single steps, and its code on Linux
 #     make windows-traces       # tests that no jump or address in its code depends on a secret
+#     make windows-verify       # shows its machine code for all inputs: docs/VERIFY.md
 #     make windows-rust         # tests the Rust crate under wine
 #     make windows-zip          # packs it as a zip in out/dist
 #     make windows-wheel        # packs the Python package for Windows in out/dist
@@ -55,10 +56,17 @@ $(WINDOWS)/yezdopin.def: $(OUT)/names
 	{ echo 'LIBRARY $(notdir $(DLL))' && echo EXPORTS && cat $<; } >$@
 # Without the time, and where it is to be loaded said, since ld makes that of the file's path.
 REPEATABLE = -Wl,--no-insert-timestamp -Wl,--image-base=0x180000000
+LINKED = $(MINGW)gcc -shared -nostdlib -Wl,-e,0 $(REPEATABLE) -o $@ \
+    -Wl,--whole-archive $< -Wl,--no-whole-archive $(WINDOWS)/yezdopin.def -lmsvcrt
 $(DLL): $(WINDOWS)/libyezdopin.a $(WINDOWS)/yezdopin.def
-	$(MINGW)gcc -shared -nostdlib -Wl,-e,0 $(REPEATABLE) -s -o $@ \
-	    -Wl,--whole-archive $< -Wl,--no-whole-archive $(WINDOWS)/yezdopin.def \
-	    -Wl,--out-implib,$(WINDOWS)/libyezdopin.dll.a -lmsvcrt
+	$(LINKED) -s -Wl,--out-implib,$(WINDOWS)/libyezdopin.dll.a
+# The same with the names of its functions, for verify/check.
+NAMED_DLL = $(WINDOWS)/named/$(notdir $(DLL))
+$(NAMED_DLL): $(WINDOWS)/libyezdopin.a $(WINDOWS)/yezdopin.def
+	mkdir -p $(@D)
+	$(LINKED)
+windows-verify: $(NAMED_DLL)
+	$(PYTHON) verify/check $(VERIFY_FLAGS) $<
 $(WINDOWS)/yezdopin.lib: $(DLL)
 	llvm-dlltool-$(LLVM) -m i386:x86-64 -d $(WINDOWS)/yezdopin.def -l $@
 
@@ -179,4 +187,4 @@ dist-windows-wheel: $(WINDOWS)/libyezdopin.a
 # What the Rust crate has of it.
 dist-crate: $(call with,$(MINGW_TOOLS),$(WINDOWS)/libyezdopin.a)
 
-.PHONY: windows windows-code windows-traces windows-tests windows-linked windows-check windows-rust
+.PHONY: windows windows-verify windows-code windows-traces windows-tests windows-linked windows-check windows-rust

@@ -5,4 +5,4 @@ use Rattle.std.specs.Prelude.{ℕ, ◌+◌, ◌*◌, ◌^◌}
 -- the major number from bit 16 on, the minor one in bits 8 to 15, the patch in the lowest 8, as in
 -- c/include/yezdopin.h
 abbrev pub YZ_VERSION : ℕ
-YZ_VERSION = 0 * 2 ^ 16 + 1 * 2 ^ 8 + 0
+YZ_VERSION = 0 * 2 ^ 16 + 2 * 2 ^ 8 + 0

@@ -44,7 +44,7 @@ status: 0  the password is set or right, the name is removed, the names or the t
         2  any other failure; standard error has the reason
 ";
 
-const VERSION: &str = "passwords 0.1.0\n";
+const VERSION: &str = "passwords 0.2.0\n";
 
 /// Writes what is asked of the program.
 pub fn write_about<W: Write>(about: About, writer: &mut W) -> io::Result<()>

@@ -33,4 +33,4 @@ The lines are those of sha256sum and its kin, and may be checked by either.
 ";
 
 /// The program's name and version.
-pub(crate) const VERSION: &str = "sums (yezdopin) 0.1.0\n";
+pub(crate) const VERSION: &str = "sums (yezdopin) 0.2.0\n";
